@@ -1,0 +1,14 @@
+//! Fields of bytes, bounded texts, names, and numbers as text.
+#![tactic(auto)]
+
+mod bytes;
+mod faults;
+mod numbers;
+mod text;
+mod width;
+
+pub use bytes::{get_u16, get_u32, put_u16, put_u32};
+pub use faults::{Full, NoMemory};
+pub use numbers::{hex, read_decimal};
+pub use text::{FileName, Name, Text};
+pub use width::Width;
