@@ -1,3 +1,5 @@
 pub mod Bytes
 pub mod Digits
+pub mod Names
+pub mod Shown
 pub mod Width

@@ -1,6 +1,6 @@
 -- The widths of integer operands, and what a number of a width stands for
 -- (VAX Architecture Reference Manual, data types: byte, word, longword, quadword).
-use Rattle.std.specs.Prelude.{ℕ, ◌-◌, ◌*◌, ◌%◌, ◌^◌, Bool, nat_lt, nat_le, ℤ, pos, ◌-ℤ◌, if◌then◌else◌}
+use Rattle.std.specs.Prelude.{ℕ, ◌-◌, ◌%◌, ◌^◌, nat_lt, ℤ, pos, ◌-ℤ◌, if◌then◌else◌}
 use Rattle.vv_base.specs.declared.width.Width.{Width}
 use Rattle.vv_base.specs.declared.width.Width.TheVariants.{Byte, Word, Long, Quad}
 

@@ -1,3 +1,6 @@
+ghost use Rattle.std.specs.Prelude.{◌≡◌, ◌≢◌};
+ghost use Rattle.vv_base.specs.Width.{signed_of};
+
 /// The width of an integer operand: 1, 2, 4 or 8 bytes.
 #[derive(Clone, Copy, Debug, Default, PartialEq, Eq)]
 pub enum Width {
@@ -6,4 +9,16 @@ pub enum Width {
     Word,
     Long,
     Quad,
+}
+
+/// The two's complement value of the low bits of a number: its low 8, 16 or 32 bits.
+pub fn signed(v: u32, w: Width) -> i32
+    requires { w ≢ Width.Quad }
+    ensures { result ≡ signed_of w v }
+{
+    match w {
+        Width::Byte => i32::from(((v % 0x100) as u8).cast_signed()),
+        Width::Word => i32::from(((v % 0x1_0000) as u16).cast_signed()),
+        Width::Long | Width::Quad => v.cast_signed(),
+    }
 }
