@@ -1,0 +1,62 @@
+-- What a drive keeps, and what one get or set does to it.
+use Rattle.std.specs.Prelude.{ℕ, ◌≡◌, List, [], length, slice_set, slice_index_or}
+use Rattle.std.specs.declared.option.Option.{Option}
+use Rattle.std.specs.declared.option.Option.TheVariants.{None, Some}
+use Rattle.std.specs.declared.result.Result.{Result}
+use Rattle.std.specs.declared.result.Result.TheVariants.{Ok, Err}
+use Rattle.vv_io.specs.Causes.{HasCause}
+
+-- A drive as the outside knows it: its number of blocks, the blocks, where it tells them, and its count of faults.
+pub record Kept : Type 0 where
+  pub size : ℕ
+  pub blocks : Option (List (List ℕ))
+  pub faults : ℕ
+
+-- a drive that isn't there
+abbrev pub unkept : Kept
+unkept = record { size = 0; blocks = None; faults = 0 }
+
+-- the blocks that are told are so many
+abbrev pub AreSoMany : ℕ → Option (List (List ℕ)) → Type 0
+AreSoMany size None = Unit {0}
+AreSoMany size (Some blocks) = length blocks ≡ size
+
+-- the blocks that are told are as many as the drive has
+abbrev pub IsSized : Kept → Type 0
+IsSized drive = AreSoMany drive.size drive.blocks
+
+-- the bytes that a get puts into its buffer: the block's, where the blocks are told, and none where it failed
+abbrev pub Reads : {U E : Type 0} → Option (List (List ℕ)) → ℕ → List ℕ → List ℕ → Result U E → Type 0
+Reads None block before after (Ok _) = Unit {0}
+Reads (Some blocks) block before after (Ok _) = after ≡ slice_index_or blocks block []
+Reads told block before after (Err _) = after ≡ before
+
+-- one get; all blocks stay
+pub record Gets {U E : Type 0} (before after : Kept) (block : ℕ) (into into' : List ℕ) (result : Result U E) : Type 0 where
+  pub stays : after ≡ record before { faults = after.faults }
+  pub reads : Reads before.blocks block into into' result
+  pub cause : HasCause before.faults after.faults result
+
+-- these bytes in the place of one block
+abbrev pub with_block : Option (List (List ℕ)) → ℕ → List ℕ → Option (List (List ℕ))
+with_block None block bytes = None
+with_block (Some blocks) block bytes = Some (slice_set blocks block bytes)
+
+-- the block has the bytes; where the call failed it may hold anything
+abbrev pub Writes : {U E : Type 0} → Option (List (List ℕ)) → Option (List (List ℕ)) → ℕ → List ℕ → Result U E → Type 0
+Writes before after block bytes (Ok _) = after ≡ with_block before block bytes
+Writes before after block bytes (Err _) = (any : List ℕ) × (after ≡ with_block before block any)
+
+-- one set; all other blocks stay
+pub record Sets {U E : Type 0} (before after : Kept) (block : ℕ) (bytes : List ℕ) (result : Result U E) : Type 0 where
+  pub size : after.size ≡ before.size
+  pub writes : Writes before.blocks after.blocks block bytes result
+  pub cause : HasCause before.faults after.faults result
+
+-- one set on drive k of several; every other drive is as before
+abbrev pub SetsOn : {U E : Type 0} → ℕ → List Kept → List Kept → ℕ → List ℕ → Result U E → Type 0
+SetsOn k before after block bytes result = (drive : Kept) × (after ≡ slice_set before k drive) × Sets (slice_index_or before k unkept) drive block bytes result
+
+-- one get from drive k of several; every other drive is as before
+abbrev pub GetsFrom : {U E : Type 0} → ℕ → List Kept → List Kept → ℕ → List ℕ → List ℕ → Result U E → Type 0
+GetsFrom k before after block into into' result = (drive : Kept) × (after ≡ slice_set before k drive) × Gets (slice_index_or before k unkept) drive block into into' result

@@ -1,0 +1,35 @@
+-- What a line or a sink has shown and how often it has failed, and what one put does to it.
+use Rattle.std.specs.Prelude.{ℕ, ◌≡◌, List, ◌++◌, take, slice_set, slice_index_or}
+use Rattle.std.specs.declared.option.Option.{Option}
+use Rattle.std.specs.declared.option.Option.TheVariants.{None, Some}
+use Rattle.std.specs.declared.result.Result.{Result}
+use Rattle.std.specs.declared.result.Result.TheVariants.{Ok, Err}
+use Rattle.vv_io.specs.Causes.{HasCause}
+
+-- A line as the outside knows it: the bytes shown, where it tells them, and its count of faults.
+pub record Seen : Type 0 where
+  pub shown : Option (List ℕ)
+  pub faults : ℕ
+
+-- a line that isn't there
+abbrev pub unseen : Seen
+unseen = record { shown = None; faults = 0 }
+
+-- these bytes behind what was shown; where nothing is told, nothing is told afterwards
+abbrev pub shown_after : Option (List ℕ) → List ℕ → Option (List ℕ)
+shown_after None bytes = None
+shown_after (Some shown) bytes = Some (shown ++ bytes)
+
+-- all of the bytes were shown, or a front of them where the call failed
+abbrev pub Shows : {U E : Type 0} → Option (List ℕ) → Option (List ℕ) → List ℕ → Result U E → Type 0
+Shows before after bytes (Ok _) = after ≡ shown_after before bytes
+Shows before after bytes (Err _) = (n : ℕ) × (after ≡ shown_after before (take n bytes))
+
+-- one put
+pub record Puts {U E : Type 0} (before after : Seen) (bytes : List ℕ) (result : Result U E) : Type 0 where
+  pub shows : Shows before.shown after.shown bytes result
+  pub cause : HasCause before.faults after.faults result
+
+-- one put on line k of several; every other line is as before
+abbrev pub PutsOn : {U E : Type 0} → ℕ → List Seen → List Seen → List ℕ → Result U E → Type 0
+PutsOn k before after bytes result = (line : Seen) × (after ≡ slice_set before k line) × Puts (slice_index_or before k unseen) line bytes result
