@@ -1,8 +1,9 @@
-ghost use Rattle.std.specs.Prelude.{None, Some, []};
+ghost use Rattle.std.specs.Prelude.{◌≡◌, None, Some, [], IsErr};
 
 use crate::{Drive, DriveFault};
 
-/// A drive of no blocks.
+/// A drive of no blocks. No block can be asked for; where one is asked for all the same, nothing happens and the
+/// answer is a fault.
 #[derive(Clone, Copy, Debug, PartialEq, Eq)]
 pub struct EmptyDrive;
 
@@ -13,11 +14,17 @@ impl Drive for EmptyDrive {
         0
     }
 
-    fn get(&mut self, _block: u32, _into: &mut [u8; 512]) -> Result<(), DriveFault> {
-        unreachable!()
+    fn get(&mut self, _block: u32, into: &mut [u8; 512]) -> Result<(), DriveFault>
+        ensures fault { IsErr result }
+        ensures same { into.new ≡ into.old }
+    {
+        let _ = into;
+        Err(DriveFault)
     }
 
-    fn set(&mut self, _block: u32, _from: &[u8; 512]) -> Result<(), DriveFault> {
-        unreachable!()
+    fn set(&mut self, _block: u32, _from: &[u8; 512]) -> Result<(), DriveFault>
+        ensures { IsErr result }
+    {
+        Err(DriveFault)
     }
 }

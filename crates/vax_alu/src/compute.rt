@@ -1,0 +1,188 @@
+ghost use Rattle.std.specs.Prelude.{◌≡◌, ◌≢◌, ◌^◌, ◌<◌, ◌*ℤ◌, false};
+ghost use Rattle.vv_base.specs.Width.{bits_of, signed_of};
+ghost use Rattle.vax_table.specs.Arithmetic.{alu_of, answered, carry_of, comparison_of, difference_of, exactly, negation_of, plainly, psw_with, quotient_of, rotated, shifted, sum_of, traps_overflow, valued};
+
+use crate::exact::{
+    borrows, carries, complement, fits, halved, low_bits, minus, negative, plus, power_of_two,
+    quotient, reduce, span, times,
+};
+use vax_table::{Alu, AluOp};
+use vv_base::{Width, signed};
+
+fn carry_of(psw: u8) -> bool
+    ensures { result ≡ carry_of psw }
+{
+    psw % 2 == 1
+}
+
+fn traps_overflow(psw: u8) -> bool
+    ensures { result ≡ traps_overflow psw }
+{
+    psw / 32 % 2 == 1
+}
+
+/// The PSW with these condition codes.
+fn with_codes(psw: u8, n: bool, z: bool, v: bool, c: bool) -> u8
+    ensures { result ≡ psw_with psw (record { n = n; z = z; v = v; c = c }) }
+{
+    psw / 16 * 16 + 8 * u8::from(n) + 4 * u8::from(z) + 2 * u8::from(v) + u8::from(c)
+}
+
+/// A value of the width, with N and Z of it.
+fn valued(value: u32, w: Width, v: bool, c: bool, psw: u8) -> Alu
+    requires { w ≢ Width.Quad }
+    ensures { result ≡ answered (valued w value v c) psw }
+{
+    let n = span(w) / 2 <= i64::from(value);
+    Alu {
+        value,
+        psw: with_codes(psw, n, value == 0, v, c),
+        trap: if v && traps_overflow(psw) {
+            Some(1)
+        } else {
+            None
+        },
+    }
+}
+
+/// An exact result, where V says that it doesn't fit.
+fn exact(x: i64, w: Width, c: bool, psw: u8) -> Alu
+    requires { w ≢ Width.Quad }
+    ensures { result ≡ answered (exactly w x c) psw }
+{
+    valued(reduce(x, w), w, !fits(x, w), c, psw)
+}
+
+/// A result of bits, where C is as before.
+fn plain(value: u32, w: Width, psw: u8) -> Alu
+    requires { w ≢ Width.Quad }
+    ensures { result ≡ answered (plainly w value (carry_of psw)) psw }
+{
+    valued(value, w, false, carry_of(psw), psw)
+}
+
+#[tactic(auto, using(crate::proofs::Casts::casts))]
+fn sum(a: u32, b: u32, c: bool, w: Width, psw: u8) -> Alu
+    requires { w ≢ Width.Quad }
+    ensures { result ≡ answered (sum_of w a b c) psw }
+{
+    let x = plus(signed(b, w), signed(a, w), c);
+    exact(x, w, carries(low_bits(b, w), low_bits(a, w), c, w), psw)
+}
+
+#[tactic(auto, using(crate::proofs::Casts::casts))]
+fn difference(a: u32, b: u32, c: bool, w: Width, psw: u8) -> Alu
+    requires { w ≢ Width.Quad }
+    ensures { result ≡ answered (difference_of w a b c) psw }
+{
+    let x = minus(signed(b, w), signed(a, w), c);
+    exact(x, w, borrows(low_bits(b, w), low_bits(a, w), c), psw)
+}
+
+#[tactic(auto, using(crate::proofs::Casts::casts))]
+fn product(a: u32, b: u32, w: Width, psw: u8) -> Alu
+    requires { w ≢ Width.Quad }
+    ensures { result ≡ answered (exactly w (signed_of w b *ℤ signed_of w a) false) psw }
+{
+    exact(times(signed(b, w), i64::from(signed(a, w))), w, false, psw)
+}
+
+/// The quotient; a zero divisor gives the dividend.
+#[tactic(auto, using(crate::proofs::Casts::casts))]
+fn divide(a: u32, b: u32, w: Width, psw: u8) -> Alu
+    requires { w ≢ Width.Quad }
+    ensures { result ≡ answered (quotient_of w a b) psw }
+{
+    if low_bits(a, w) == 0 {
+        Alu {
+            trap: Some(2),
+            ..valued(low_bits(b, w), w, true, false, psw)
+        }
+    } else {
+        exact(quotient(signed(b, w), signed(a, w)), w, false, psw)
+    }
+}
+
+#[tactic(auto, using(crate::proofs::Casts::casts))]
+fn negate(a: u32, w: Width, psw: u8) -> Alu
+    requires { w ≢ Width.Quad }
+    ensures { result ≡ answered (negation_of w a) psw }
+{
+    let x = negative(signed(a, w));
+    exact(x, w, reduce(x, w) != 0, psw)
+}
+
+#[tactic(auto, using(crate::proofs::Casts::casts))]
+fn compare(a: u32, b: u32, w: Width, psw: u8) -> Alu
+    requires { w ≢ Width.Quad }
+    ensures { result ≡ answered (comparison_of w a b) psw }
+{
+    let n = signed(a, w) < signed(b, w);
+    let (first, second) = (low_bits(a, w), low_bits(b, w));
+    Alu {
+        value: 0,
+        psw: with_codes(psw, n, first == second, false, first < second),
+        trap: None,
+    }
+}
+
+/// A number times 2 to a count, rounded down where the count is below 0.
+#[tactic(auto, using(crate::proofs::Casts::casts))]
+fn shift(b: u32, count: i32, w: Width, psw: u8) -> Alu
+    requires { w ≢ Width.Quad }
+    ensures { result ≡ answered (exactly w (shifted (signed_of w b) count) false) psw }
+{
+    let x = signed(b, w);
+    let by = count.unsigned_abs();
+    if count < 0 {
+        exact(halved(x, by.min(31)), w, false, psw)
+    } else if by < 32 {
+        exact(times(x, power_of_two(by)), w, false, psw)
+    } else {
+        valued(0, w, x != 0, false, psw)
+    }
+}
+
+/// The bits of the width rotated left.
+fn rotate(n: u32, count: u32, w: Width) -> u32
+    requires width { w ≢ Width.Quad }
+    requires bits { n < 2 ^ bits_of w }
+    ensures { result ≡ rotated w n count }
+{
+    match w {
+        Width::Byte => u32::from((n as u8).rotate_left(count)),
+        Width::Word => u32::from((n as u16).rotate_left(count)),
+        Width::Long => n.rotate_left(count),
+        Width::Quad => unreachable!(),
+    }
+}
+
+/// The value, the condition codes and the trap of an operation on the low bits of two operands.
+#[tactic(auto, using(crate::proofs::Casts::casts))]
+pub fn alu(op: AluOp, a: u32, b: u32, w: Width, psw: u8) -> Alu
+    requires { w ≢ Width.Quad }
+    ensures { result ≡ alu_of op a b w psw }
+{
+    let first = low_bits(a, w);
+    let second = low_bits(b, w);
+    match op {
+        AluOp::Add => sum(a, b, false, w, psw),
+        AluOp::Sub => difference(a, b, false, w, psw),
+        AluOp::AddCarry => sum(a, b, carry_of(psw), w, psw),
+        AluOp::SubBorrow => difference(a, b, carry_of(psw), w, psw),
+        AluOp::Mul => product(a, b, w, psw),
+        AluOp::Div => divide(a, b, w, psw),
+        AluOp::Bis => plain(second | first, w, psw),
+        AluOp::Bic => plain(second & complement(a, w), w, psw),
+        AluOp::Xor => plain(second ^ first, w, psw),
+        AluOp::Mneg => negate(a, w, psw),
+        AluOp::Mcom => plain(complement(a, w), w, psw),
+        AluOp::Move => plain(first, w, psw),
+        AluOp::Cmp => compare(a, b, w, psw),
+        AluOp::Bit => plain(second & first, w, psw),
+        AluOp::Tst => valued(first, w, false, false, psw),
+        AluOp::Ash => shift(b, signed(a, Width::Byte), w, psw),
+        AluOp::Rot => plain(rotate(second, a % 256, w), w, psw),
+        AluOp::Narrow => exact(i64::from(signed(a, Width::Long)), w, false, psw),
+    }
+}

@@ -1,0 +1,5 @@
+pub mod Fields
+pub mod Protection
+pub mod Rei
+pub mod Ring
+pub mod Shown

@@ -1,0 +1,48 @@
+-- The real machine: its memory, what is loaded into it, and its three counts
+-- (Hall and Robinson, Virtualizing the VAX Architecture, ISCA 1991).
+use Rattle.std.specs.Prelude.{ℕ, ◌+◌, ◌*◌, ◌/◌, ◌%◌, ◌^◌, List, replicate, slice_index, nat_lt, if◌then◌else◌, Result, Ok, Err}
+use Rattle.vax_arch.specs.declared.psl.Psl.{Psl}
+use Rattle.vax_hw.specs.declared.world.World.{World}
+use Rattle.vax_table.specs.Script.{Space, Refusing}
+use Rattle.vax_table.specs.Trail.{term}
+use Rattle.vax_table.specs.declared.act.Regs.{Regs}
+
+pub record Machine : Type 0 where
+  pub memory : List ℕ
+  pub world : World
+  pub retired : ℕ
+  pub trail : ℕ
+  pub misses : ℕ
+
+-- The linear walk (profile, until the machine has page tables): an address below 512 times P0LR is the machine's byte
+-- at P0BR plus the address, and any other is refused. Beyond the machine a byte is 0.
+abbrev pub linear : List ℕ → ℕ → ℕ → Space
+linear memory p0br p0lr intent va = if nat_lt va (512 * p0lr) then Ok (slice_index memory (p0br + va)) else Err Refusing
+
+-- the space of a machine
+abbrev pub space_of : Machine → Space
+space_of m = linear m.memory m.world.p0br m.world.p0lr
+
+-- the registers and the status word: the low byte of the PSL
+abbrev pub regs_of : World → Regs
+regs_of w = record { r = w.r; psw = w.psl.0 % 256 }
+
+-- a PSL with another status word
+abbrev pub with_psw : Psl → ℕ → Psl
+with_psw psl psw = record { 0 = psl.0 / 256 * 256 + psw % 256 }
+
+-- with other registers and another status word
+abbrev pub with_regs : World → Regs → World
+with_regs w after = record w { r = after.r; psl = with_psw w.psl after.psw }
+
+-- the machine after an instruction that retired
+unfoldable pub retire : ℕ → Regs → Machine → Machine
+retire opcode after m = record m {
+  world = with_regs m.world after;
+  retired = (m.retired + 1) % 2 ^ 64;
+  trail = (m.trail + term (slice_index m.world.r 15) opcode after.r) % 2 ^ 64;
+}
+
+-- so much memory that was never written
+unfoldable pub zeros : ℕ → List ℕ
+zeros n = replicate n 0

@@ -1,0 +1,51 @@
+ghost use Rattle.std.specs.Prelude.{◌≡◌, ◌+◌, ◌*◌, ◌≤◌, length};
+ghost use Rattle.vv_base.specs.Bytes.{long_at, long_bytes, overwritten};
+ghost use Rattle.vax_hw.specs.Machine.{Machine};
+ghost use Rattle.vax_hw.specs.Real.{real};
+
+use crate::{Exit, World};
+
+/// A machine with the virtual-machine extension. It has no faults of its own.
+pub trait Hardware {
+    /// Its memory, what is loaded into it, and its three counts, which only `run` raises.
+    ghost machine: { Self → Machine };
+
+    /// The pages of 512 bytes that it has, which never change.
+    fn pages(&self) -> u32
+        ensures { 512 * result ≡ length (machine self.now).memory };
+
+    /// How many instructions have retired, modulo 2^64.
+    fn retired(&self) -> u64
+        ensures { result ≡ (machine self.now).retired };
+
+    /// The trail of the instructions that have retired, modulo 2^64.
+    fn trail(&self) -> u64
+        ensures { result ≡ (machine self.now).trail };
+
+    /// How many runs ended with an entry that wasn't valid, modulo 2^64.
+    fn misses(&self) -> u64
+        ensures { result ≡ (machine self.now).misses };
+
+    /// The longword at a physical address in bytes.
+    fn read_long(&self, pa: u32) -> u32
+        requires { pa + 4 ≤ length (machine self.now).memory }
+        ensures { result ≡ long_at (machine self.now).memory pa };
+
+    /// Writes the longword at a physical address in bytes.
+    fn write_long(&mut self, pa: u32, v: u32)
+        requires { pa + 4 ≤ length (machine self.old).memory }
+        ensures { machine self.new ≡ record (machine self.old) { memory = overwritten (machine self.old).memory pa (long_bytes v) } };
+
+    /// Loads registers and tables.
+    fn load_world(&mut self, w: &World)
+        ensures { machine self.new ≡ record (machine self.old) { world = w.now } };
+
+    /// The registers and tables as they are now.
+    fn save_world(&self) -> World
+        ensures { result ≡ (machine self.now).world };
+
+    /// Runs at most so many instructions, up to the first that doesn't retire.
+    fn run(&mut self, budget: u32) -> Exit
+        requires { 1 ≤ budget }
+        ensures { (machine self.new, result) ≡ real budget (machine self.old) };
+}

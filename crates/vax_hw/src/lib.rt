@@ -1,0 +1,10 @@
+//! The machine's interface, and what the real machine does.
+#![tactic(auto)]
+
+mod hardware;
+mod world;
+
+pub use hardware::Hardware;
+pub use vax_arch::{Mode, Psl};
+pub use vax_table::{Dest, Refusal, Sens, Trapped};
+pub use world::{Exit, World};

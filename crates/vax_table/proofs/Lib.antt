@@ -1,0 +1,9 @@
+pub mod TableLines
+pub mod Tests
+pub mod Bytes
+pub mod Specifiers
+pub mod Operands
+pub mod Lengths
+pub mod Instructions
+pub mod OneSpelling
+pub mod Scripts

@@ -1,0 +1,25 @@
+-- The code's lines say what the table says, opcode by opcode.
+use Rattle.std.specs.Prelude.{map}
+use Rattle.std.specs.List.{range_with_len}
+use Rattle.std.proofs.Common.{◌≡◌, ℕ, ◌<◌, List, Option, None, get_or, length, refl, sym, ap, ◌∙◌, arith}
+use Rattle.std.proofs.lemmas.List.{get_or-map}
+use Rattle.std.proofs.lemmas.List.FromFn.{get_or-map-range_with_len}
+use Rattle.vax_table.specs.declared.lines.TheConstants.{LINES}
+use Rattle.vax_table.specs.declared.lines.Line.TheVariants.{Unknown}
+use Rattle.vax_table.specs.Rows.{Entry, row_of}
+use Rattle.vax_table.specs.RowViews.{line_view}
+
+-- all 256 at once, by computation
+lines_are : map line_view LINES ≡ map row_of (range_with_len 0 256)
+unfolding row_of
+lines_are = refl
+
+lines_length : length LINES ≡ 256
+lines_length = refl
+
+pub line_is : (n : ℕ) → n < 256 → line_view (get_or LINES n Unknown) ≡ row_of n
+line_is n below =
+    let within : n < length LINES = omega (arith, lines_length) in
+    sym (get_or-map line_view LINES n Unknown None within)
+    ∙ ap (λ (xs : List (Option Entry)). get_or xs n None) lines_are
+    ∙ get_or-map-range_with_len row_of 0 256 n n None below (omega arith)

@@ -1,0 +1,13 @@
+pub mod Rows
+pub mod RowViews
+pub mod Spelling
+pub mod Reading
+pub mod Spelled
+pub mod ShownRows
+pub mod ShownSpelling
+pub mod Arithmetic
+pub mod ShownArithmetic
+pub mod Script
+pub mod Fetch
+pub mod Plan
+pub mod Trail

@@ -1,0 +1,142 @@
+-- Reading an instruction from the front of a list of bytes: what stands there, that more is needed,
+-- or that nothing can stand there. It is how a processor that fetches byte by byte decides.
+use Rattle.std.specs.Prelude.{◌≡◌, ℕ, ◌-◌, ◌+◌, ◌*◌, ◌/◌, ◌%◌, ◌<◌, nat_lt, ◌==◌, ◌&&◌, ◌||◌, List, [], ◌∷◌, ◌++◌, length, take, drop, Option, Some, None, Bool, true, false, if◌then◌else◌}
+use Rattle.vv_base.specs.declared.width.Width.{Width}
+use Rattle.vv_base.specs.declared.width.Width.TheVariants.{Quad}
+use Rattle.vv_base.specs.Width.{size_of}
+use Rattle.vax_table.specs.declared.forms.Access.{Access}
+use Rattle.vax_table.specs.declared.forms.Access.TheVariants.{Read, Address, Branch}
+use Rattle.vax_table.specs.declared.forms.Form.{Form}
+use Rattle.vax_table.specs.declared.decoded.Spec.{Spec}
+use Rattle.vax_table.specs.Rows.{Entry, row_of}
+use Rattle.vax_table.specs.Spelling.{unindexed, Instruction, Spells, SpellsNone, HasOpcode, AreBytes}
+
+-- the number that bytes are, the lowest first
+abbrev pub number_of : List ℕ → ℕ
+number_of [] = 0
+number_of (b ∷ bs) = b + 256 * number_of bs
+
+abbrev pub is_read : Access → Bool
+is_read Read = true
+is_read _ = false
+
+abbrev pub is_address : Access → Bool
+is_address Address = true
+is_address _ = false
+
+abbrev pub is_branch : Access → Bool
+is_branch Branch = true
+is_branch _ = false
+
+abbrev pub is_quad : Width → Bool
+is_quad Quad = true
+is_quad _ = false
+
+-- an operand and the bytes behind it, more bytes wanted, or a reserved form
+pub data Seen : Type 0 where
+  Got : Spec → List ℕ → Seen
+  More : Seen
+  Bad : Seen
+
+-- a value of k bytes
+abbrev pub valued_at : ℕ → ℕ → ℕ → List ℕ → Seen
+valued_at mode reg k bytes = if nat_lt (length bytes) k then More else Got (unindexed mode reg (number_of (take k bytes))) (drop k bytes)
+
+-- a register other than PC
+abbrev pub named_at : ℕ → ℕ → List ℕ → Seen
+named_at mode reg bytes = if reg == 15 then Bad else Got (unindexed mode reg 0) bytes
+
+-- the bytes of a displacement in the modes A to F
+abbrev pub displacement_size : ℕ → ℕ
+displacement_size mode = if nat_lt mode 12 then 1 else (if nat_lt mode 14 then 2 else 4)
+
+-- a specifier of the modes 5 to F: form, mode, register, and the bytes behind the first
+unfoldable pub specifier_by : Form → ℕ → ℕ → List ℕ → Seen
+specifier_by form mode reg bytes =
+    if mode == 5 then (if is_address form.access || (is_quad form.width && reg == 14) then Bad else named_at 5 reg bytes) else
+    if mode == 6 then named_at 6 reg bytes else
+    if mode == 7 then named_at 7 reg bytes else
+    if mode == 8 then (if reg == 15 then valued_at 8 15 (size_of form.width) bytes else Got (unindexed 8 reg 0) bytes) else
+    if mode == 9 then (if reg == 15 then valued_at 9 15 4 bytes else Got (unindexed 9 reg 0) bytes) else
+    valued_at mode reg (displacement_size mode) bytes
+
+-- a specifier without index, by its first byte
+unfoldable pub specifier_at : Form → ℕ → List ℕ → Seen
+specifier_at form b bytes =
+    if nat_lt (b / 16) 4 then (if is_read form.access then Got (unindexed 0 0 b) bytes else Bad) else
+    if b / 16 == 4 then Bad else specifier_by form (b / 16) (b % 16) bytes
+
+abbrev pub with_index : ℕ → Seen → Seen
+with_index x (Got s rest) = Got (record s { index = Some x }) rest
+with_index x More = More
+with_index x Bad = Bad
+
+-- a specifier behind an index of register x
+unfoldable pub indexed_at : Form → ℕ → List ℕ → Seen
+indexed_at form x [] = More
+indexed_at form x (b ∷ bytes) = if nat_lt (b / 16) 6 then Bad else if b == 0x8f then Bad else with_index x (specifier_at form b bytes)
+
+unfoldable pub operand_at : Form → List ℕ → Seen
+operand_at form [] = More
+operand_at form (b ∷ bytes) =
+    if is_branch form.access then valued_at 16 0 (size_of form.width) (b ∷ bytes) else
+    if b / 16 == 4 then (if b % 16 == 15 then Bad else indexed_at form (b % 16) bytes) else
+    specifier_at form b bytes
+
+-- operands and the bytes behind them, more bytes wanted, or a reserved form
+pub data SeenAll : Type 0 where
+  GotAll : List Spec → List ℕ → SeenAll
+  MoreAll : SeenAll
+  BadAll : SeenAll
+
+-- these, and then those
+abbrev pub behind : List Spec → SeenAll → SeenAll
+behind front (GotAll ss rest) = GotAll (front ++ ss) rest
+behind front MoreAll = MoreAll
+behind front BadAll = BadAll
+
+abbrev pub operands_at : List Form → List ℕ → SeenAll
+operands_at [] bytes = GotAll [] bytes
+operands_at (f ∷ fs) bytes = elim (operand_at f bytes) [
+  | Got s rest ↦ behind (s ∷ []) (operands_at fs rest)
+  | More ↦ MoreAll
+  | Bad ↦ BadAll
+]
+
+-- a whole instruction and the bytes behind it, bytes that begin one, an opcode that no instruction
+-- has, or a reserved form
+pub data Answer : Type 0 where
+  Whole : Instruction → List ℕ → Answer
+  Short : Answer
+  Unknown : Answer
+  Reserved : Answer
+
+abbrev pub answer_of : ℕ → List ℕ → SeenAll → Answer
+answer_of opcode bytes (GotAll ss rest) = Whole (record { opcode = opcode; wait = false; length = 1 + (length bytes - length rest); specs = ss }) rest
+answer_of opcode bytes MoreAll = Short
+answer_of opcode bytes BadAll = Reserved
+
+abbrev pub by_row : ℕ → List ℕ → Option Entry → Answer
+by_row opcode bytes None = Unknown
+by_row opcode bytes (Some e) = answer_of opcode bytes (operands_at e.operands bytes)
+
+-- behind FD
+abbrev pub wait_at : List ℕ → Answer
+wait_at [] = Short
+wait_at (c ∷ cs) = if c == 1 then Whole (record { opcode = 0xfd; wait = true; length = 2; specs = [] }) cs else Unknown
+
+unfoldable pub decoded_at : List ℕ → Answer
+decoded_at [] = Short
+decoded_at (b ∷ bs) = if b == 0xfd then wait_at bs else by_row b bs (row_of b)
+
+-- what an answer says of the bytes, in terms of spelling alone
+abbrev pub Tells : List ℕ → Answer → Type 0
+Tells b (Whole d rest) = (front : List ℕ) × (b ≡ front ++ rest) × Spells front d
+Tells b Short = (tail : List ℕ) × (d : Instruction) × (0 < length tail) × Spells (b ++ tail) d
+Tells b Unknown = SpellsNone b × (HasOpcode b → ⊥)
+Tells b Reserved = SpellsNone b × HasOpcode b
+
+-- reading is exact: each answer is so, and what is spelled is read, whatever follows
+pub record IsExact : Type 0 where
+  pub tells : (b : List ℕ) → AreBytes b → Tells b (decoded_at b)
+  pub reads : (front rest : List ℕ) (d : Instruction) → Spells front d → decoded_at (front ++ rest) ≡ Whole d rest

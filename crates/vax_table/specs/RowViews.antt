@@ -1,0 +1,23 @@
+-- What the code's rows and lines say, in the table's words.
+use Rattle.std.specs.Prelude.{[], ◌∷◌, Option, Some, None}
+use Rattle.vax_table.specs.declared.forms.Row.{Row}
+use Rattle.vax_table.specs.declared.lines.Line.{Line}
+use Rattle.vax_table.specs.declared.lines.Line.TheVariants.{Unknown, One, Two, Three, Four}
+use Rattle.vax_table.specs.declared.lines.Line.TheVariants as lines
+use Rattle.vax_table.specs.Rows.{Entry}
+
+-- a row without where its operands lie in memory
+abbrev pub row_view : Row → Entry
+row_view row = record { operands = row.operands.items; sensitive = row.sensitive }
+
+abbrev pub row_views : Option Row → Option Entry
+row_views None = None
+row_views (Some row) = Some (row_view row)
+
+abbrev pub line_view : Line → Option Entry
+line_view Unknown = None
+line_view (lines.None s) = Some (record { operands = []; sensitive = s })
+line_view (One s a) = Some (record { operands = a ∷ []; sensitive = s })
+line_view (Two s a b) = Some (record { operands = a ∷ b ∷ []; sensitive = s })
+line_view (Three s a b c) = Some (record { operands = a ∷ b ∷ c ∷ []; sensitive = s })
+line_view (Four s a b c d) = Some (record { operands = a ∷ b ∷ c ∷ d ∷ []; sensitive = s })

@@ -1,0 +1,17 @@
+//! The table of the instructions, and what bytes spell an instruction.
+#![tactic(auto)]
+
+mod act;
+mod answer;
+mod decoded;
+mod forms;
+mod laws;
+mod lines;
+mod lookup;
+
+pub use act::{Act, Dest, Refusal, Regs, Sens, Trapped};
+pub use answer::{Alu, AluOp};
+pub use decoded::{Decoded, Spec};
+pub use forms::{Access, Form, Row};
+pub use laws::{no_spelling_begins_another, one_spelling, reading_is_exact, spellings_are_short};
+pub use lookup::row;
