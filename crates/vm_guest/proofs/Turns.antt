@@ -1,0 +1,154 @@
+-- Turns one after another are one.
+use Rattle.std.proofs.Common.{ℕ, zero, suc, ◌≡◌, ◌≢◌, inl, inr, ◌<◌, ◌≤◌, ◌+◌, ◌-◌, ◌*◌, ◌/◌, ◌%◌, ◌^◌, ◌⊎◌, List, [], ◌++◌, length, refl, sym, ◌∙◌, ap, subst, arith, append_assoc, append-nil, Bool}
+use Rattle.vv_io.specs.Lines.{Seen}
+use Rattle.vax_arch.specs.Fields.{current_of, mode_of}
+use Rattle.vax_arch.specs.declared.mode.Mode.{Mode}
+use Rattle.vax_arch.specs.declared.mode.Mode.TheVariants.{Kernel}
+use Rattle.vax_hw.specs.Machine.{Machine}
+use Rattle.std.specs.declared.option.Option.{Option}
+use Rattle.std.specs.declared.option.Option.TheVariants.{None, Some}
+use Rattle.std.specs.declared.result.Result.TheVariants.{Err}
+use Rattle.vax_hw.specs.Real.{one}
+use Rattle.vax_hw.specs.declared.world.Exit.{Exit}
+use Rattle.vm_state.specs.Guest.{Guest}
+use Rattle.vm_guest.specs.Kept.{run_of, steps_in, guest_of, CanRun, Ended, PlainRun, TakesStep}
+use Rattle.vm_guest.specs.Showing.{IsShowing}
+use Rattle.vm_state.specs.Run.{Run, after_step, after_steps}
+use Rattle.vm_state.specs.Step.{Stepped, step, step_by, rested}
+use Rattle.vm_guest.specs.Exits.{met}
+use Rattle.vm_guest.proofs.Simulation.{met_step}
+use Rattle.vm_guest.specs.Turn.{Turn}
+use Rattle.vm_state.specs.declared.guest_state.GuestState.{GuestState}
+use Rattle.vm_guest.specs.declared.counts.Counts.{Counts}
+
+-- nothing has happened yet
+pub no_turn : (k : ℕ) (lines : List Seen) (m : Machine) (g : GuestState) (c : Counts) (failed : Bool) (left : ℕ) → Turn k lines lines m m g g c c failed failed left left
+no_turn k lines m g c failed left = record {
+  text = [];
+  steps = λ shown. ap (λ x. after_steps left (run_of m.memory g c x)) (sym (append-nil shown));
+  shows = λ start sofar h. subst (λ x. IsShowing k failed start lines x) (sym (append-nil sofar)) h;
+  fewer = omega arith;
+  counts = refl;
+  memory = refl;
+  pages = refl;
+  high = refl;
+  retired = refl;
+  trail = refl;
+}
+
+agree : (a b c d e f : ℕ) → (b + d) % 2 ^ 64 ≡ (a + e) % 2 ^ 64 → (c + e) % 2 ^ 64 ≡ (b + f) % 2 ^ 64 → (c + d) % 2 ^ 64 ≡ (a + f) % 2 ^ 64
+agree a b c d e f p q = omega arith
+
+-- a turn and then another
+pub turns : (k : ℕ) (s t u : List Seen) (m n o : Machine) (g h i : GuestState) (c d e : Counts) (x y z : Bool) (a b l : ℕ) → Turn k s t m n g h c d x y a b → Turn k t u n o h i d e y z b l → Turn k s u m o g i c e x z a l
+turns k s t u m n o g h i c d e x y z a b l p q = record {
+  text = p.text ++ q.text;
+  steps = λ shown. p.steps shown ∙ q.steps (shown ++ p.text) ∙ ap (λ w. after_steps l (run_of o.memory i e w)) (append_assoc shown p.text q.text);
+  shows = λ start sofar w. subst (λ r. IsShowing k z start u r) (append_assoc sofar p.text q.text) (q.shows start (sofar ++ p.text) (p.shows start sofar w));
+  fewer = omega (arith, p.fewer, q.fewer);
+  counts = omega (arith, p.counts, q.counts);
+  memory = q.memory ∙ p.memory;
+  pages = q.pages ∙ p.pages;
+  high = q.high ∙ p.high;
+  retired = agree m.retired n.retired o.retired c.plain d.plain e.plain p.retired q.retired;
+  trail = agree m.trail n.trail o.trail c.trail d.trail e.trail p.trail q.trail;
+}
+
+-- plain steps to the end
+pub plain_turn : (k : ℕ) (lines : List Seen) (m m' : Machine) (g g' : GuestState) (c c' : Counts) (failed : Bool) (a left : ℕ) (e : Exit) → left ≡ 0 → PlainRun m m' g g' c c' a left e → Turn k lines lines m m' g g' c c' failed failed a 0
+plain_turn k lines m m' g g' c c' failed a left e end p = record {
+  text = [];
+  steps = λ shown. p.same shown ∙ ap (λ n. after_steps n (run_of m'.memory g' c' shown)) end ∙ ap (λ x. after_steps 0 (run_of m'.memory g' c' x)) (sym (append-nil shown));
+  shows = λ start sofar h. subst (λ x. IsShowing k failed start lines x) (sym (append-nil sofar)) h;
+  fewer = omega arith;
+  counts = omega (arith, p.counts);
+  memory = p.memory;
+  pages = p.pages;
+  high = p.high;
+  retired = p.retired;
+  trail = p.trail;
+}
+
+-- the machine stopped before an instruction
+err_of : (left : ℕ) (m : Machine) (e : Exit) → Ended left m e → 0 < left → one m ≡ Err e
+err_of left m e (inl (budget, none)) some = absurd (omega arith)
+err_of left m e (inr (err, more)) some = err
+
+-- with a step left, it is taken
+one_step : (left : ℕ) (run : Run) (s : Stepped) → 0 < left → step run.guest ≡ s → after_steps left run ≡ after_steps (left - 1) (after_step run s)
+one_step zero run s some is = absurd (omega arith)
+one_step (suc n) run s some is = let n_is : n ≡ suc n - 1 = omega arith in ap (λ x. after_steps n (after_step run x)) is ∙ ap (λ x. after_steps x (after_step run s)) n_is
+
+-- plain steps and then the one that the exit stands for
+pub full_turn : (k : ℕ) (lines lines' : List Seen) (m m' : Machine) (g g' g'' : GuestState) (c c' c'' : Counts) (failed failed' : Bool) (a left : ℕ) (e : Exit) (text bytes : List ℕ) → bytes ≡ text → left ≢ 0 → PlainRun m m' g g' c c' a left e
+    → ((memory : List ℕ) → TakesStep memory g' g'' c' c'' text (met (guest_of memory g') e))
+    → g''.pages ≡ g'.pages → g''.psl.0 / 256 ≡ g'.psl.0 / 256 → steps_in c'' ≡ steps_in c' + 1 → c''.plain ≡ c'.plain → c''.trail ≡ c'.trail
+    → ((start : List Seen) (sofar : List ℕ) → IsShowing k failed start lines sofar → IsShowing k failed' start lines' (sofar ++ bytes))
+    → Turn k lines lines' m m' g g'' c c'' failed failed' a (left - 1)
+full_turn k lines lines' m m' g g' g'' c c' c'' failed failed' a left e text bytes told more p takes pages high counts plain trail shows =
+    let err : one m' ≡ Err e = err_of left m' e p.ended (omega arith) in
+    record {
+      text = text;
+      steps = λ shown. p.same shown ∙ one_step left (run_of m'.memory g' c' shown) (met (guest_of m'.memory g') e) (omega arith) (met_step m' (guest_of m'.memory g') e p.stands err) ∙ ap (after_steps (left - 1)) (takes m'.memory shown);
+      shows = λ start sofar h. subst (λ b. IsShowing k failed' start lines' (sofar ++ b)) told (shows start sofar h);
+      fewer = omega (arith, p.fewer);
+      counts = omega (arith, p.counts);
+      memory = p.memory;
+      pages = pages ∙ p.pages;
+      high = high ∙ p.high;
+      retired = p.retired ∙ ap (λ x. (m.retired + x) % 2 ^ 64) (sym plain);
+      trail = p.trail ∙ ap (λ x. (m.trail + x) % 2 ^ 64) (sym trail);
+    }
+
+-- a guest that stands rests
+rests : (n : ℕ) (run : Run) → step run.guest ≡ rested run.guest → after_steps n run ≡ record run { tally = record run.tally { stopped = run.tally.stopped + n } }
+rests zero run is = ap (λ x. record run { tally = record run.tally { stopped = x } }) (omega arith)
+rests (suc n) run is =
+    let next : Run = record run { tally = record run.tally { stopped = run.tally.stopped + 1 } } in
+    let here : after_step run (step run.guest) ≡ next = ap (after_step run) is ∙ ap (λ x. record next { shown = x }) (append-nil run.shown) in
+    ap (after_steps n) here ∙ rests n next is ∙ ap (λ x. record run { tally = record run.tally { stopped = x } }) (omega arith)
+
+stands_still : (g : Guest) → ((g.halt ≡ None) × (g.mark ≡ None) → ⊥) → step g ≡ rested g
+unfolding step
+stands_still g not = by_both g g.halt g.mark not
+  where
+    by_both : (g : Guest) (h k : Option ℕ) → ((h ≡ None) × (k ≡ None) → ⊥) → step_by g h k ≡ rested g
+    by_both g None None not = absurd (not (refl, refl))
+    by_both g (Some code) k not = refl
+    by_both g None (Some opcode) not = refl
+
+-- the steps that are left to a guest that stands, if any
+pub last_turn : (k : ℕ) (lines : List Seen) (m : Machine) (g : GuestState) (c : Counts) (failed : Bool) (left : ℕ) → (0 < left → (g.halt ≡ None) × (g.mark ≡ None) → ⊥) → Turn k lines lines m m g g c (record c { stopped = c.stopped + left }) failed failed left 0
+last_turn k lines m g c failed left not = record {
+  text = [];
+  steps = λ shown. by_left left (run_of m.memory g c shown) (λ some. stands_still (guest_of m.memory g) (not some)) ∙ ap (λ x. run_of m.memory g (record c { stopped = c.stopped + left }) x) (sym (append-nil shown));
+  shows = λ start sofar h. subst (λ x. IsShowing k failed start lines x) (sym (append-nil sofar)) h;
+  fewer = omega arith;
+  counts = omega arith;
+  memory = refl;
+  pages = refl;
+  high = refl;
+  retired = refl;
+  trail = refl;
+}
+  where
+    by_left : (n : ℕ) (run : Run) → (0 < n → step run.guest ≡ rested run.guest) → after_steps n run ≡ record run { tally = record run.tally { stopped = run.tally.stopped + n } }
+    by_left zero run is = ap (λ x. record run { tally = record run.tally { stopped = x } }) (omega arith)
+    by_left (suc n) run is = rests (suc n) run (is (omega arith))
+
+pub can_again : (k : ℕ) (s t : List Seen) (m m' : Machine) (g g' : GuestState) (c c' : Counts) (x y : Bool) (a b : ℕ) → Turn k s t m m' g g' c c' x y a b → 512 * g.pages ≤ length m.memory → current_of g.psl.0 ≡ Kernel → g'.halt ≡ None → g'.mark ≡ None → CanRun m'.memory g'
+can_again k s t m m' g g' c c' x y a b turn inside mode halt mark = record {
+  inside = omega (arith, ap length turn.memory, turn.pages);
+  mode = same_mode g.psl.0 g'.psl.0 turn.high mode;
+  running = halt;
+  unmarked = mark;
+}
+  where
+    higher : (p q : ℕ) → q / 256 ≡ p / 256 → q / 2 ^ 24 ≡ p / 2 ^ 24
+    higher p q e = grind arith
+
+    same_mode : (p q : ℕ) → q / 256 ≡ p / 256 → current_of p ≡ Kernel → current_of q ≡ Kernel
+    same_mode p q e h = ap mode_of (higher p q e) ∙ h
+
+pub ends_turn : (k : ℕ) (lines : List Seen) (m : Machine) (g : GuestState) (c : Counts) (failed : Bool) (left n : ℕ) → n ≡ left → (0 < left → (g.halt ≡ None) × (g.mark ≡ None) → ⊥) → Turn k lines lines m m g g c (record c { stopped = c.stopped + n }) failed failed left 0
+ends_turn k lines m g c failed left n same not = subst (λ x. Turn k lines lines m m g g c (record c { stopped = c.stopped + x }) failed failed left 0) (sym same) (last_turn k lines m g c failed left not)

@@ -1,0 +1,5 @@
+pub mod Exits
+pub mod Kept
+pub mod Showing
+pub mod StandsFor
+pub mod Turn

@@ -1,0 +1,4 @@
+pub mod Guest
+pub mod Start
+pub mod Step
+pub mod Run
