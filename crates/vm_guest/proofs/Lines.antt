@@ -81,3 +81,9 @@ put_whole k start now after sofar bytes u f is shows put = goes_on k start now a
 
 pub put_failed : {U E : Type 0} (k : ℕ) (start now after : List Seen) (sofar bytes : List ℕ) (e : E) (f : Bool) → f ≡ false → IsShowing k f start now sofar → (let r : Result U E = Err e in PutsOn k now after bytes r) → IsShowing k true start after (sofar ++ bytes)
 put_failed k start now after sofar bytes e f is shows put = fails_now k start now after sofar bytes e (subst (λ b. IsShowing k b start now sofar) is shows) put
+
+-- a single put that fails shows a front of its bytes
+pub cut_short : {U E : Type 0} (before after : Seen) (bytes : List ℕ) (e : E) → (let r : Result U E = Err e in Puts before after bytes r) → Showing true before after bytes
+cut_short before after bytes e puts =
+    let (n, le, same) = front_within bytes puts.shows.0 in
+    (puts.cause.failed, (n, le, puts.shows.1 ∙ ap (shown_after before.shown) same))

@@ -20,7 +20,10 @@ pub fn parse(words: &[String]) -> Option<Order>
         return None;
     };
     let is_solo = command.as_bytes() == b"solo".as_slice();
-    match (file_name(image.as_bytes()), read_decimal(steps.as_bytes(), 100_000)) {
+    match (
+        file_name(image.as_bytes()),
+        read_decimal(steps.as_bytes(), 100_000),
+    ) {
         (Some(image), Some(steps)) if is_solo && 1 <= steps => Some(Order {
             image,
             steps: steps as u32,

@@ -1,0 +1,36 @@
+-- How a run that was made is answered.
+use Rattle.std.proofs.Common.{ℕ, ◌≡◌, ◌<◌, ◌≤◌, ◌+◌, List, length, Bool, Option, Some, None, Vec, Result, Ok, subst, sym, ap, ◌∙◌}
+use Rattle.std.specs.declared.alloc.Global.{Global}
+use Rattle.vv_io.specs.Shelf.{File, Answers, holding, file_limit}
+use Rattle.vm_state.specs.Run.{Run, Tally}
+use Rattle.vvmm.specs.Answer.{Outside, IsHeld, Made, Closes, Ends, Follows}
+use Rattle.vvmm.specs.Solo.{Asked, solo_run, summary}
+use Rattle.vvmm.specs.declared.status.Status.{Status}
+use Rattle.vvmm.specs.declared.status.Status.TheVariants.{Done, Words, Missing, TooLong, ShelfFault, Image, Device, OutFault, NoMemory, NotBuilt}
+
+-- what a fetch gave is what the shelf holds
+pub held_of : (files : Option (List File)) (name : List ℕ) (before now : ℕ) (bytes : Vec ℕ Global) (image : List ℕ) → image ≡ bytes.items → Answers (holding files name) before now (Ok bytes) → IsHeld files name image
+held_of None name before now bytes image is h = tt
+held_of (Some files) name before now bytes image is h = let some : List ℕ → Option (List ℕ) = λ x. Some x in h.0 ∙ ap some (sym is)
+
+pub within_of : (files : Option (List File)) (name : List ℕ) (before now : ℕ) (bytes : Vec ℕ Global) (image : List ℕ) → image ≡ bytes.items → Answers (holding files name) before now (Ok bytes) → length image ≤ file_limit
+within_of None name before now bytes image is h = subst (λ x. length x ≤ file_limit) (sym is) h
+within_of (Some files) name before now bytes image is h = subst (λ x. length x ≤ file_limit) (sym is) h.1
+
+by_status : (a : Asked) (image : List ℕ) (failed : Bool) (status : Status) (o : Outside) → Ends a image failed status o → Follows a status o
+by_status a image failed Done o h = (image, failed, h)
+by_status a image failed (Device d) o h = (image, failed, h)
+by_status a image failed OutFault o h = (image, failed, h)
+by_status a image failed (NotBuilt opcode) o h = (image, failed, h)
+by_status a image failed Words o h = absurd h.1
+by_status a image failed (Missing name) o h = absurd h.1
+by_status a image failed (TooLong name) o h = absurd h.1
+by_status a image failed ShelfFault o h = absurd h.1
+by_status a image failed (Image guest) o h = absurd h.1
+by_status a image failed NoMemory o h = absurd h.1
+
+pub closes_follows : (a : Asked) (image : List ℕ) (failed : Bool) (status : Status) (o : Outside) (mark : Option ℕ) (tally : Tally) → Made o a image failed → mark ≡ (solo_run image a.steps).guest.mark → tally ≡ (solo_run image a.steps).tally → Closes status mark failed o.out o.out' (summary a.steps tally) → Follows a status o
+closes_follows a image failed status o mark tally made marks tallies closes =
+    let P : Option ℕ → Type 0 = λ m. Closes status m failed o.out o.out' (summary a.steps tally) in
+    let Q : Tally → Type 0 = λ t. Closes status (solo_run image a.steps).guest.mark failed o.out o.out' (summary a.steps t) in
+    by_status a image failed status o (made, subst Q tallies (subst P marks closes))
