@@ -1,5 +1,5 @@
 -- What shifts by far counts give.
-use Rattle.std.proofs.Common.{◌≡◌, ◌≢◌, ℕ, zero, suc, ◌+◌, ◌-◌, ◌*◌, ◌/◌, ◌%◌, ◌^◌, ◌<◌, ◌≤◌, min, Bool, true, false, not, ltb, eqb, ltb-true, ltb-false, ℤ, pos, negsuc, neg_ℤ, ◌*ℤ◌, ◌<ℤ◌, ◌≤ℤ◌, FitsSigned, of_z, w32, arith, refl, sym, ap, ◌∙◌, mul_assoc}
+use Rattle.std.proofs.Common.{◌≡◌, ◌≢◌, ℕ, zero, suc, ◌+◌, ◌-◌, ◌*◌, ◌/◌, ◌^◌, ◌<◌, ◌≤◌, true, false, not, eqb, ℤ, pos, negsuc, neg_ℤ, ◌<ℤ◌, ◌≤ℤ◌, FitsSigned, of_z, w32, arith, refl, sym, ap, ◌∙◌, mul_assoc}
 use Rattle.std.specs.Prelude.{unsigned_abs}
 use Rattle.std.specs.Int.{int_div_euclid}
 use Rattle.std.proofs.lemmas.Bool.Decides.{nat_tests}
@@ -11,22 +11,23 @@ use Rattle.vv_base.specs.declared.width.Width.{Width}
 use Rattle.vv_base.specs.declared.width.Width.TheVariants.{Byte, Word, Long, Quad}
 use Rattle.vax_table.specs.Arithmetic.{reduced, does_fit, valued, exactly, shifted}
 
--- a number below 2 ^ 31 by 2 ^ 31 or more is 0
-far_div : (a k : ℕ) → a < 2 ^ 31 → 31 ≤ k → a / 2 ^ k ≡ 0
-far_div a k h m = let p : 2 ^ 31 ≤ 2 ^ k = pow_mono m in let l : a / 2 ^ k < 1 = div_below a (2 ^ k) 1 (pow_pos k) (omega arith) in omega arith
+-- a number below 2 ^ 31 by 2 ^ 32 or more is 0
+far_div : (a k : ℕ) → a < 2 ^ 31 → 32 ≤ k → a / 2 ^ k ≡ 0
+far_div a k h m = let p : 2 ^ 32 ≤ 2 ^ k = pow_mono m in let l : a / 2 ^ k < 1 = div_below a (2 ^ k) 1 (pow_pos k) (omega arith) in omega arith
 
-far_down : (x : ℤ) (k : ℕ) → FitsSigned w32 x → 31 ≤ k → int_div_euclid x (pos (2 ^ k)) ≡ int_div_euclid x (pos (2 ^ 31))
-far_down (pos a) k f m = let h : a < 2 ^ 31 = omega (arith, ints) in ap pos (far_div a k h m ∙ sym (far_div a 31 h (omega arith)))
-far_down (negsuc a) k f m = let h : a < 2 ^ 31 = omega (arith, ints) in ap negsuc (far_div a k h m ∙ sym (far_div a 31 h (omega arith)))
+-- a signed longword by 2 ^ 32 or more, rounded down, is its sign
+pub far_minus : (x : ℤ) (k : ℕ) → FitsSigned w32 x → x <ℤ pos 0 → 32 ≤ k → negsuc 0 ≡ int_div_euclid x (pos (2 ^ k))
+far_minus (pos a) k f h m = absurd (omega (arith, ints))
+far_minus (negsuc a) k f h m = let l : a < 2 ^ 31 = omega (arith, ints) in ap negsuc (sym (far_div a k l m))
 
-down_by : (x : ℤ) (k : ℕ) (near : Bool) → ltb k 31 ≡ near → FitsSigned w32 x → int_div_euclid x (pos (2 ^ min (k + 1) 31)) ≡ int_div_euclid x (pos (2 ^ (k + 1)))
-down_by x k true t f = let h : k < 31 = ltb-true k 31 t in let e : min (k + 1) 31 ≡ k + 1 = omega arith in rw e refl
-down_by x k false t f = let h : 31 ≤ k = ltb-false k 31 t in let e : min (k + 1) 31 ≡ 31 = omega arith in rw e (sym (far_down x (k + 1) f (omega arith)))
+pub far_plus : (x : ℤ) (k : ℕ) → FitsSigned w32 x → pos 0 ≤ℤ x → 32 ≤ k → pos 0 ≡ int_div_euclid x (pos (2 ^ k))
+far_plus (pos a) k f h m = let l : a < 2 ^ 31 = omega (arith, ints) in ap pos (sym (far_div a k l m))
+far_plus (negsuc a) k f h m = absurd (omega (arith, ints))
 
--- a count below 0 by which the code divides
-pub shifted_down : (x count : ℤ) (by : ℕ) → FitsSigned w32 x → count <ℤ pos 0 → by ≡ unsigned_abs count → int_div_euclid x (pos (2 ^ min by 31)) ≡ shifted x count
-shifted_down x (pos k) by f h e = absurd (omega (arith, ints))
-shifted_down x (negsuc k) by f h e = let q : by ≡ k + 1 = omega arith in rw q (down_by x k (ltb k 31) refl f)
+-- a count below 0, by which the code divides
+pub shifted_down : (x count : ℤ) (by : ℕ) → count <ℤ pos 0 → by ≡ unsigned_abs count → int_div_euclid x (pos (2 ^ by)) ≡ shifted x count
+shifted_down x (pos k) by h e = absurd (omega (arith, ints))
+shifted_down x (negsuc k) by h e = let q : by ≡ k + 1 = omega arith in rw q refl
 
 -- multiples of 2 ^ 32
 pos_reduced : (w : Width) → w ≢ Quad → (n : ℕ) → reduced w (pos (n * 2 ^ 32)) ≡ 0
@@ -79,7 +80,7 @@ neg_some (suc q) h = ap negsuc (omega arith)
 
 -- a count of 32 or more, by which the code gives 0
 pub shifted_up : (w : Width) (x count : ℤ) (by : ℕ) → w ≢ Quad → FitsSigned w32 x → pos 0 ≤ℤ count → by ≡ unsigned_abs count → 32 ≤ by →
-  exactly w (shifted x count) false ≡ valued w 0 (not (eqb (of_z w32 x) 0)) false
+    exactly w (shifted x count) false ≡ valued w 0 (not (eqb (of_z w32 x) 0)) false
 shifted_up w x (negsuc k) by h f g e l = absurd (omega (arith, ints))
 shifted_up w (pos zero) (pos k) by h f g e l = let z : 0 * 2 ^ k ≡ 0 = omega arith in rw z (exactly_zero w h)
 shifted_up w (pos (suc a)) (pos k) by h f g e l =

@@ -3,18 +3,20 @@ ghost use Rattle.vv_base.specs.Width.{bits_of, signed_of};
 ghost use Rattle.vax_table.specs.Arithmetic.{alu_of, answered, carry_of, comparison_of, difference_of, exactly, negation_of, plainly, psw_with, quotient_of, rotated, shifted, sum_of, traps_overflow, valued};
 
 use crate::exact::{
-    borrows, carries, complement, fits, halved, low_bits, minus, negative, plus, power_of_two,
-    quotient, reduce, span, times,
+    borrows, carries, complement, fits, low_bits, minus, negative, plus, power_of_two, quotient,
+    reduce, shifted_right, span, times,
 };
 use vax_table::{Alu, AluOp};
 use vv_base::{Width, signed};
 
+/// C, bit 0.
 fn carry_of(psw: u8) -> bool
     ensures { result ≡ carry_of psw }
 {
     psw % 2 == 1
 }
 
+/// IV, bit 5.
 fn traps_overflow(psw: u8) -> bool
     ensures { result ≡ traps_overflow psw }
 {
@@ -61,6 +63,7 @@ fn plain(value: u32, w: Width, psw: u8) -> Alu
     valued(value, w, false, carry_of(psw), psw)
 }
 
+/// Second plus first plus a carry.
 #[tactic(auto, using(crate::proofs::Casts::casts))]
 fn sum(a: u32, b: u32, c: bool, w: Width, psw: u8) -> Alu
     requires { w ≢ Width.Quad }
@@ -70,6 +73,7 @@ fn sum(a: u32, b: u32, c: bool, w: Width, psw: u8) -> Alu
     exact(x, w, carries(low_bits(b, w), low_bits(a, w), c, w), psw)
 }
 
+/// Second minus first minus a borrow.
 #[tactic(auto, using(crate::proofs::Casts::casts))]
 fn difference(a: u32, b: u32, c: bool, w: Width, psw: u8) -> Alu
     requires { w ≢ Width.Quad }
@@ -79,6 +83,7 @@ fn difference(a: u32, b: u32, c: bool, w: Width, psw: u8) -> Alu
     exact(x, w, borrows(low_bits(b, w), low_bits(a, w), c), psw)
 }
 
+/// Second times first.
 #[tactic(auto, using(crate::proofs::Casts::casts))]
 fn product(a: u32, b: u32, w: Width, psw: u8) -> Alu
     requires { w ≢ Width.Quad }
@@ -87,7 +92,7 @@ fn product(a: u32, b: u32, w: Width, psw: u8) -> Alu
     exact(times(signed(b, w), i64::from(signed(a, w))), w, false, psw)
 }
 
-/// The quotient; a zero divisor gives the dividend.
+/// Second by first, toward zero; a zero divisor gives the dividend, with V and trap 2.
 #[tactic(auto, using(crate::proofs::Casts::casts))]
 fn divide(a: u32, b: u32, w: Width, psw: u8) -> Alu
     requires { w ≢ Width.Quad }
@@ -103,6 +108,7 @@ fn divide(a: u32, b: u32, w: Width, psw: u8) -> Alu
     }
 }
 
+/// Minus a number, where C says that the result isn't 0.
 #[tactic(auto, using(crate::proofs::Casts::casts))]
 fn negate(a: u32, w: Width, psw: u8) -> Alu
     requires { w ≢ Width.Quad }
@@ -112,6 +118,7 @@ fn negate(a: u32, w: Width, psw: u8) -> Alu
     exact(x, w, reduce(x, w) != 0, psw)
 }
 
+/// First against second: N below, signed; Z equal; C below, unsigned.
 #[tactic(auto, using(crate::proofs::Casts::casts))]
 fn compare(a: u32, b: u32, w: Width, psw: u8) -> Alu
     requires { w ≢ Width.Quad }
@@ -135,7 +142,7 @@ fn shift(b: u32, count: i32, w: Width, psw: u8) -> Alu
     let x = signed(b, w);
     let by = count.unsigned_abs();
     if count < 0 {
-        exact(halved(x, by.min(31)), w, false, psw)
+        exact(shifted_right(x, by), w, false, psw)
     } else if by < 32 {
         exact(times(x, power_of_two(by)), w, false, psw)
     } else {
@@ -157,8 +164,10 @@ fn rotate(n: u32, count: u32, w: Width) -> u32
     }
 }
 
-/// The value, the condition codes and the trap of an operation on the low bits of two operands.
-#[tactic(auto, using(crate::proofs::Casts::casts))]
+/// The value, the condition codes and the trap of an operation on the low bits of two operands,
+/// by the VAX Architecture Reference Manual. A count of Ash or Rot is the signed low byte of `a`,
+/// and Narrow takes all of `a`.
+#[tactic(auto, using(crate::proofs::Casts::casts), unfolding(vax_table::specs::Arithmetic::alu_of))]
 pub fn alu(op: AluOp, a: u32, b: u32, w: Width, psw: u8) -> Alu
     requires { w ≢ Width.Quad }
     ensures { result ≡ alu_of op a b w psw }

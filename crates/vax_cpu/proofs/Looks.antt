@@ -1,9 +1,8 @@
 -- What the bytes fetched so far decide.
-use Rattle.std.proofs.Common.{ℕ, zero, suc, ◌≡◌, ◌<◌, ◌+◌, ◌-◌, ◌*◌, ◌%◌, ◌^◌, arith, List, [], ◌∷◌, ◌++◌, length, slice_index, Result, Ok, Err, refl, ap, ◌∙◌, sym}
+use Rattle.std.proofs.Common.{ℕ, zero, suc, ◌≡◌, ◌<◌, ◌+◌, ◌-◌, ◌%◌, ◌^◌, arith, List, [], ◌∷◌, ◌++◌, length, slice_index, Result, Ok, Err, ap, ◌∙◌, sym}
 use Rattle.vax_arch.specs.declared.mode.Intent.TheVariants.{Read}
 use Rattle.vax_decode.specs.Decoding.{IsWhole, IsAnswer}
-use Rattle.vax_decode.specs.declared.outcome.Decode.{Decode}
-use Rattle.vax_decode.specs.declared.outcome.Decode.TheVariants.{Done as DoneBy, NeedMore, Fault}
+use Rattle.vax_decode.specs.declared.outcome.Decode.TheVariants.{Fault}
 use Rattle.vax_decode.specs.declared.outcome.DecodeFault.{DecodeFault}
 use Rattle.vax_decode.specs.declared.outcome.DecodeFault.TheVariants.{Opcode, Addressing}
 use Rattle.vax_hw.specs.Real.{exits, exit_of}
@@ -11,7 +10,7 @@ use Rattle.vax_hw.specs.declared.world.Exit.{Exit}
 use Rattle.vax_hw.specs.declared.world.Exit.TheVariants.{NotBuilt}
 use Rattle.vax_table.specs.Fetch.{by_answer, decided}
 use Rattle.vax_table.specs.Reading.{Answer, Whole, Short, Unknown, Reserved, decoded_at}
-use Rattle.vax_table.specs.Script.{Script, Space, Done, Refuse, Touch, Unbuilt, Trouble, outcome, bind_result, number_at, with_byte}
+use Rattle.vax_table.specs.Script.{Script, Space, Done, Refuse, Unbuilt, Trouble, outcome, bind_result, number_at, with_byte}
 use Rattle.vax_table.specs.Spelling.{Instruction, view}
 use Rattle.vax_table.specs.declared.decoded.Decoded.{Decoded}
 

@@ -1,2 +1,4 @@
 pub mod Powers
 pub mod Decodings
+pub mod Encodings
+pub mod RoundTrip

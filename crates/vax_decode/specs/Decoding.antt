@@ -27,3 +27,17 @@ IsAnswer (Done d) a = IsWhole d a
 IsAnswer NeedMore a = a ≡ Short
 IsAnswer (Fault Opcode) a = a ≡ Unknown
 IsAnswer (Fault Addressing) a = a ≡ Reserved
+
+-- a decoder's answer is the whole instruction
+abbrev pub IsDone : Decode → Instruction → Type 0
+IsDone (Done d) e = view d ≡ e
+IsDone NeedMore e = ⊥
+IsDone (Fault f) e = ⊥
+
+-- what spells an instruction decodes to it, whatever follows
+abbrev pub IsRoundTrip : Type 0
+IsRoundTrip = (bytes rest : List ℕ) (d : Instruction) (r : Decode) → Spells bytes d → Decodes (bytes ++ rest) r → IsDone r d
+
+-- what begins a spelling wants more bytes
+abbrev pub WantsMore : Type 0
+WantsMore = (b tail : List ℕ) (d : Instruction) (r : Decode) → 0 < length tail → Spells (b ++ tail) d → Decodes b r → r ≡ NeedMore

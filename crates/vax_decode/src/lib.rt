@@ -1,10 +1,16 @@
 //! From bytes to an instruction, and back.
 #![tactic(auto)]
 
+mod laws;
 mod outcome;
 mod read;
 mod scan;
+#[cfg(test)]
+mod tests;
+mod write;
 
+pub use laws::{beginnings_need_more, decoding_undoes_encoding};
 pub use outcome::{Decode, DecodeFault};
 pub use scan::decode;
 pub use vax_table::{Decoded, Spec};
+pub use write::encode;

@@ -1,6 +1,6 @@
 -- The real machine: its memory, what is loaded into it, and its three counts
 -- (Hall and Robinson, Virtualizing the VAX Architecture, ISCA 1991).
-use Rattle.std.specs.Prelude.{ℕ, ◌+◌, ◌*◌, ◌/◌, ◌%◌, ◌^◌, List, replicate, slice_index, nat_lt, if◌then◌else◌, Result, Ok, Err}
+use Rattle.std.specs.Prelude.{ℕ, ◌+◌, ◌*◌, ◌/◌, ◌%◌, ◌^◌, List, replicate, slice_index, nat_lt, if◌then◌else◌, Ok, Err}
 use Rattle.vax_arch.specs.declared.psl.Psl.{Psl}
 use Rattle.vax_hw.specs.declared.world.World.{World}
 use Rattle.vax_table.specs.Script.{Space, Refusing}

@@ -81,7 +81,7 @@ abbrev pub shifted : ℤ → ℤ → ℤ
 shifted x (pos k) = x *ℤ pos (2 ^ k)
 shifted x (negsuc k) = int_div_euclid x (pos (2 ^ (k + 1)))
 
--- the bits of the width rotated left by a count
+-- the bits of the width rotated left by a count, modulo 32 and so modulo the bits of each width
 abbrev pub rotated : Width → ℕ → ℕ → ℕ
 rotated Byte n count = rotate_left w8 n count
 rotated Word n count = rotate_left w16 n count
@@ -126,9 +126,10 @@ trap_of psw o =
     else if o.codes.v && traps_overflow psw then Some 1
     else None
 
--- an outcome, over the PSW of before
+-- an outcome as an answer, over the PSW of before
 abbrev pub answered : Outcome → ℕ → Alu
 answered o psw = record { value = o.value; psw = psw_with psw o.codes; trap = trap_of psw o }
 
-abbrev pub alu_of : AluOp → ℕ → ℕ → Width → ℕ → Alu
+-- an operation's value of the width, the PSW behind it, and the type of its arithmetic trap
+unfoldable pub alu_of : AluOp → ℕ → ℕ → Width → ℕ → Alu
 alu_of op a b w psw = answered (outcome_of op w a b (carry_of psw)) psw

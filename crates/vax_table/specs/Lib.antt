@@ -11,3 +11,5 @@ pub mod Script
 pub mod Fetch
 pub mod Plan
 pub mod Trail
+pub mod Locality
+pub mod ShownPlan

@@ -1,7 +1,7 @@
 -- What an instruction comes to, by its opcode and its operands
 -- (VAX Architecture Reference Manual: integer arithmetic instructions; control instructions; move to processor register).
 -- Built so far: HALT, NOP, BRB, BNEQ, MOVL, ADDL2, DECL and MTPR, with literals, immediates and registers as operands.
-use Rattle.std.specs.Prelude.{ℕ, ◌+◌, ◌-◌, ◌*◌, ◌/◌, ◌%◌, ◌^◌, Bool, true, ◌==◌, ◌&&◌, nat_lt, if◌then◌else◌, List, [], ◌∷◌, take, slice_index, slice_set, Result, Ok, Err}
+use Rattle.std.specs.Prelude.{ℕ, ◌+◌, ◌-◌, ◌/◌, ◌%◌, ◌^◌, Bool, true, ◌==◌, ◌&&◌, nat_lt, if◌then◌else◌, List, [], ◌∷◌, take, slice_index, slice_set, Result, Ok, Err}
 use Rattle.vv_base.specs.declared.width.Width.TheVariants.{Long}
 use Rattle.vax_table.specs.Arithmetic.{alu_of}
 use Rattle.vax_table.specs.Fetch.{fetched}
@@ -13,7 +13,6 @@ use Rattle.vax_table.specs.declared.act.Dest.TheVariants.{Nowhere}
 use Rattle.vax_table.specs.declared.act.Regs.{Regs}
 use Rattle.vax_table.specs.declared.act.Sens.{Sens}
 use Rattle.vax_table.specs.declared.act.Sens.TheVariants.{Halt, Mtpr}
-use Rattle.vax_table.specs.declared.act.Trapped.{Trapped}
 use Rattle.vax_table.specs.declared.answer.Alu.{Alu}
 use Rattle.vax_table.specs.declared.answer.AluOp.{AluOp}
 use Rattle.vax_table.specs.declared.answer.AluOp.TheVariants.{Add, Sub, Move}

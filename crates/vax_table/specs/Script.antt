@@ -3,7 +3,6 @@
 -- (VAX Architecture Reference Manual: instruction execution, and the order of operand accesses).
 use Rattle.std.specs.Prelude.{◌≡◌, ℕ, zero, suc, ◌+◌, ◌*◌, ◌%◌, ◌^◌, List, [], ◌∷◌, ◌++◌, ◌⊎◌, Result, Ok, Err}
 use Rattle.vax_arch.specs.declared.mode.Intent.{Intent}
-use Rattle.vax_arch.specs.declared.mode.Intent.TheVariants.{Read, Write}
 use Rattle.vax_table.specs.declared.act.Refusal.{Refusal}
 
 -- why a space has no byte: not valid; refused by its code or by a length; beyond memory

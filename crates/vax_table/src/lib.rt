@@ -8,6 +8,7 @@ mod forms;
 mod laws;
 mod lines;
 mod lookup;
+mod plan_laws;
 
 pub use act::{Act, Dest, Refusal, Regs, Sens, Trapped};
 pub use answer::{Alu, AluOp};
@@ -15,3 +16,4 @@ pub use decoded::{Decoded, Spec};
 pub use forms::{Access, Form, Row};
 pub use laws::{no_spelling_begins_another, one_spelling, reading_is_exact, spellings_are_short};
 pub use lookup::row;
+pub use plan_laws::{instructions_are_local, troubles_are_reached};

@@ -1,17 +1,16 @@
 -- A run of the machine is as many plain steps of the guest that it has.
-use Rattle.std.proofs.Common.{ℕ, zero, suc, ◌≡◌, ◌≢◌, ◌<◌, ◌≤◌, ◌+◌, ◌-◌, ◌*◌, ◌/◌, ◌%◌, ◌^◌, ◌⊎◌, inl, inr, List, [], ◌∷◌, ◌++◌, length, take, get_or, nat_lt, refl, sym, ◌∙◌, ap, subst, arith, rules, if◌then◌else◌, Bool, true, false, Result, append-nil, zero-add}
-use Rattle.std.proofs.lemmas.Grind.{common_steps}
+use Rattle.std.proofs.Common.{ℕ, zero, suc, ◌≡◌, ◌<◌, ◌+◌, ◌/◌, ◌%◌, ◌^◌, ◌⊎◌, inl, inr, [], refl, sym, ◌∙◌, ap, subst, arith, Result, append-nil}
 use Rattle.std.specs.declared.result.Result.TheVariants.{Ok, Err}
 use Rattle.vax_hw.specs.Machine.{Machine}
-use Rattle.vax_hw.specs.Real.{one, done, meets, exits, real, going_on, misses_after}
+use Rattle.vax_hw.specs.Real.{one, done, meets, real, going_on, misses_after}
 use Rattle.vax_table.specs.Plan.{Meant}
 use Rattle.vax_table.specs.declared.act.Act.{Act}
 use Rattle.vax_table.specs.declared.act.Act.TheVariants as acts
 use Rattle.vax_hw.specs.declared.world.Exit.{Exit}
 use Rattle.vax_hw.specs.declared.world.Exit.TheVariants.{Budget}
 use Rattle.vm_state.specs.Guest.{Guest}
-use Rattle.vm_state.specs.Run.{Run, Tally, after_step, after_steps}
-use Rattle.vm_state.specs.Step.{Kind, Stepped, step, Plain}
+use Rattle.vm_state.specs.Run.{Run, after_step, after_steps}
+use Rattle.vm_state.specs.Step.{step, Plain}
 use Rattle.vm_guest.specs.Kept.{Counted}
 use Rattle.vm_guest.specs.StandsFor.{StandsFor}
 use Rattle.vm_guest.proofs.Simulation.{PlainStep, plain_step}

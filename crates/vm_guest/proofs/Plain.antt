@@ -1,16 +1,14 @@
 -- A run of the machine with a guest's registers loaded, as the kernel sees it.
-use Rattle.std.proofs.Common.{ℕ, ◌≡◌, ◌<◌, ◌≤◌, ◌+◌, ◌-◌, ◌*◌, ◌/◌, ◌%◌, ◌^◌, ◌⊎◌, inl, inr, List, [], length, take, refl, sym, ◌∙◌, ap, subst, arith, length-take, min}
+use Rattle.std.proofs.Common.{ℕ, ◌≡◌, ◌<◌, ◌≤◌, ◌+◌, ◌-◌, ◌*◌, ◌/◌, ◌%◌, ◌^◌, List, [], length, take, refl, sym, ◌∙◌, ap, subst, arith}
 use Rattle.std.proofs.lemmas.Grind.{common_steps}
-use Rattle.std.specs.declared.option.Option.{Option}
-use Rattle.std.specs.declared.result.Result.TheVariants.{Err}
 use Rattle.vax_hw.specs.Machine.{Machine}
-use Rattle.vax_hw.specs.Real.{real, one}
+use Rattle.vax_hw.specs.Real.{real}
 use Rattle.vax_hw.specs.declared.world.Exit.{Exit}
 use Rattle.vax_hw.specs.declared.world.World.{World}
 use Rattle.vm_state.specs.Guest.{Guest}
-use Rattle.vm_guest.specs.Kept.{CanRun, world_of, guest_of, run_of, tally_of, steps_in, Ended, PlainRun, rise, loaded, Counted}
+use Rattle.vm_guest.specs.Kept.{CanRun, guest_of, run_of, Ended, PlainRun, rise, loaded, Counted}
 use Rattle.vm_guest.specs.StandsFor.{StandsFor}
-use Rattle.vm_state.specs.Run.{Run, after_steps}
+use Rattle.vm_state.specs.Run.{after_steps}
 use Rattle.vm_state.specs.declared.guest_state.GuestState.{GuestState}
 use Rattle.vm_guest.specs.declared.counts.Counts.{Counts}
 use Rattle.vm_guest.proofs.Bursts.{Burst, burst, plainly, same_plainly}

@@ -1,27 +1,25 @@
 -- A plain instruction of the machine is a plain step of the guest that it has.
-use Rattle.std.proofs.Common.{ℕ, zero, suc, ◌==◌, ◌≡◌, ◌<◌, ◌≤◌, ◌+◌, ◌-◌, ◌*◌, ◌/◌, ◌%◌, ◌^◌, ◌⊎◌, inl, inr, List, [], ◌∷◌, ◌++◌, length, take, get_or, nat_lt, refl, sym, ◌∙◌, ap, subst, arith, if◌then◌else◌, Bool, true, false, ◌||◌, Result, Ok, Err, None, Some}
+use Rattle.std.proofs.Common.{ℕ, ◌≡◌, ◌+◌, ◌*◌, ◌/◌, ◌%◌, ◌^◌, List, [], length, take, get_or, refl, sym, ◌∙◌, ap, subst, arith, if◌then◌else◌, Bool, true, false, ◌||◌, Result, Ok, Err, None}
 use Rattle.std.proofs.lemmas.Grind.{common_steps}
 use Rattle.vax_arch.specs.Fields.{current_of}
-use Rattle.vax_arch.specs.declared.mode.Mode.{Mode}
 use Rattle.vax_arch.specs.declared.mode.Mode.TheVariants.{Kernel}
 use Rattle.vax_arch.specs.declared.mode.Intent.{Intent}
 use Rattle.vax_hw.specs.Machine.{Machine, linear, space_of, retire, regs_of as regs_in}
-use Rattle.vax_hw.specs.Real.{one, done, meets, exits, exit_of, is_write, traps, always_traps, is_kernel}
+use Rattle.vax_hw.specs.Real.{one, done, meets, exits, exit_of, traps, always_traps, is_kernel}
 use Rattle.vax_hw.specs.declared.world.World.{World}
 use Rattle.vax_hw.specs.declared.world.Exit.{Exit}
-use Rattle.vax_hw.specs.declared.world.Exit.TheVariants.{NotValid, Denied, Emulate, Refused, NotBuilt}
+use Rattle.vax_hw.specs.declared.world.Exit.TheVariants.{Emulate, Refused, NotBuilt}
 use Rattle.vax_table.specs.Plan.{Meant, instruction}
-use Rattle.vax_table.specs.Script.{Cause, Absent, Refusing, Past, Reason, Because, Unbuilt, Trouble, At, Test, Space, outcome, Below, AsFar}
+use Rattle.vax_table.specs.Script.{Cause, Refusing, Because, Unbuilt, Trouble, At, Test, outcome, Below, AsFar}
 use Rattle.vax_table.specs.Trail.{term}
 use Rattle.vax_table.specs.declared.act.Act.{Act}
 use Rattle.vax_table.specs.declared.act.Act.TheVariants as acts
 use Rattle.vax_table.specs.declared.act.Refusal.TheVariants.{Instruction}
 use Rattle.vax_table.specs.declared.act.Regs.{Regs}
-use Rattle.vax_table.specs.declared.act.Sens.{Sens}
 use Rattle.vax_table.specs.declared.act.Trapped.{Trapped}
 use Rattle.vax_table.proofs.Scripts.{outcome_far}
 use Rattle.vm_state.specs.Guest.{Guest, unmapped}
-use Rattle.vm_state.specs.Step.{Kind, Plain, Fault, Stepped, step, step_by, running, did, sensitive, stopped, with_regs, regs_of}
+use Rattle.vm_state.specs.Step.{Plain, Stepped, step, step_by, running, did, with_regs, regs_of}
 use Rattle.vm_guest.specs.Exits.{met}
 use Rattle.vm_guest.specs.StandsFor.{StandsFor}
 

@@ -1,8 +1,7 @@
 -- Turns one after another are one.
-use Rattle.std.proofs.Common.{ℕ, zero, suc, ◌≡◌, ◌≢◌, inl, inr, ◌<◌, ◌≤◌, ◌+◌, ◌-◌, ◌*◌, ◌/◌, ◌%◌, ◌^◌, ◌⊎◌, List, [], ◌++◌, length, refl, sym, ◌∙◌, ap, subst, arith, append_assoc, append-nil, Bool}
+use Rattle.std.proofs.Common.{ℕ, zero, suc, ◌≡◌, ◌≢◌, inl, inr, ◌<◌, ◌≤◌, ◌+◌, ◌-◌, ◌*◌, ◌/◌, ◌%◌, ◌^◌, List, [], ◌++◌, length, refl, sym, ◌∙◌, ap, subst, arith, append_assoc, append-nil, Bool}
 use Rattle.vv_io.specs.Lines.{Seen}
 use Rattle.vax_arch.specs.Fields.{current_of, mode_of}
-use Rattle.vax_arch.specs.declared.mode.Mode.{Mode}
 use Rattle.vax_arch.specs.declared.mode.Mode.TheVariants.{Kernel}
 use Rattle.vax_hw.specs.Machine.{Machine}
 use Rattle.std.specs.declared.option.Option.{Option}

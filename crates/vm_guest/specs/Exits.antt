@@ -1,5 +1,5 @@
 -- The step of a guest that an exit of the machine stands for.
-use Rattle.std.specs.Prelude.{ℕ, slice_index}
+use Rattle.std.specs.Prelude.{slice_index}
 use Rattle.vax_hw.specs.declared.world.Exit.{Exit}
 use Rattle.vax_hw.specs.declared.world.Exit.TheVariants.{Budget, NotValid, Denied, Modify, Emulate, Arithmetic, Refused, NotBuilt}
 use Rattle.vm_state.specs.Guest.{Guest}

@@ -1,5 +1,5 @@
 -- What a machine has of a guest.
-use Rattle.std.specs.Prelude.{ℕ, ◌≡◌, ◌*◌, ◌%◌, length, take, None}
+use Rattle.std.specs.Prelude.{◌≡◌, ◌*◌, ◌%◌, length, take, None}
 use Rattle.vax_arch.specs.Fields.{current_of}
 use Rattle.vax_arch.specs.declared.mode.Mode.TheVariants.{Kernel}
 use Rattle.vax_hw.specs.Machine.{Machine}

@@ -1,5 +1,5 @@
 -- How a guest goes on: what its line is shown, and how its steps, its counts and the machine's agree.
-use Rattle.std.specs.Prelude.{ℕ, ◌≡◌, ◌≤◌, ◌+◌, ◌/◌, ◌%◌, ◌^◌, List, ◌++◌, length, Bool}
+use Rattle.std.specs.Prelude.{ℕ, ◌≡◌, ◌≤◌, ◌+◌, ◌/◌, ◌%◌, ◌^◌, List, ◌++◌, Bool}
 use Rattle.vv_io.specs.Lines.{Seen}
 use Rattle.vax_hw.specs.Machine.{Machine}
 use Rattle.vm_guest.specs.Kept.{run_of, steps_in}

@@ -1,5 +1,5 @@
 -- A guest on its private virtual VAX: its memory, its registers, and whether it stands.
-use Rattle.std.specs.Prelude.{ℕ, List, length, nat_lt, if◌then◌else◌, slice_index, Option, Result, Ok, Err}
+use Rattle.std.specs.Prelude.{ℕ, List, length, nat_lt, if◌then◌else◌, slice_index, Option, Ok, Err}
 use Rattle.vax_table.specs.Script.{Space, Past}
 
 pub record Guest : Type 0 where

@@ -1,6 +1,6 @@
 -- One step of a guest that is alone on its private virtual VAX
 -- (Hall and Robinson, Virtualizing the VAX Architecture, ISCA 1991; Karger and others, IEEE TSE 17(11), 1991).
-use Rattle.std.specs.Prelude.{ℕ, ◌+◌, ◌*◌, ◌/◌, ◌%◌, ◌^◌, List, [], ◌∷◌, ◌++◌, ◌==◌, if◌then◌else◌, slice_index, slice_set, Option, Some, None, Result, Ok, Err}
+use Rattle.std.specs.Prelude.{ℕ, ◌+◌, ◌*◌, ◌/◌, ◌%◌, List, [], ◌∷◌, ◌++◌, ◌==◌, if◌then◌else◌, slice_index, slice_set, Option, Some, None, Result, Ok, Err}
 use Rattle.vv_base.specs.Digits.{hex_text}
 use Rattle.vv_base.specs.declared.width.Width.TheVariants.{Long}
 use Rattle.vax_table.specs.Arithmetic.{alu_of}

@@ -1,0 +1,6 @@
+use Rattle.vax_table.specs.Plan.{instruction}
+use Rattle.vax_table.proofs.Scripts.{outcome_far}
+use Rattle.vax_table.proofs.plan_laws.instructions_are_local.Goals as goal
+
+pub returns : goal.returns
+returns c w s t below = outcome_far s t below (instruction w)

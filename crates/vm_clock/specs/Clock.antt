@@ -1,0 +1,93 @@
+-- The interval clock: its registers, a tick, and what writing a register does
+-- (VAX Architecture Reference Manual, interval clock registers ICCS, NICR and ICR).
+use Rattle.std.specs.Prelude.{ℕ, ◌+◌, ◌*◌, ◌^◌, ◌==◌, Bool, true, false, not, ◌&&◌, ◌||◌, nat_le, if◌then◌else◌}
+use Rattle.std.specs.Int.{bit_at, from_bool}
+
+-- four bits of ICCS, the two counts, and the request for an interrupt
+pub record ClockState : Type 0 where
+  -- bit 0 of ICCS: the clock counts
+  pub run : Bool
+  -- bit 6: a wrap requests an interrupt
+  pub enable : Bool
+  -- bit 7: the counter wrapped
+  pub interrupt : Bool
+  -- bit 31: it wrapped while bit 7 was still set
+  pub error : Bool
+  -- the count that a wrap loads
+  pub nicr : ℕ
+  -- the count
+  pub icr : ℕ
+  pub request : Bool
+
+-- stopped, with all registers 0
+abbrev pub initial_state : ClockState
+initial_state = record { run = false; enable = false; interrupt = false; error = false; nicr = 0; icr = 0; request = false }
+
+-- adding 1 to the counter wraps it
+abbrev pub is_at_end : ClockState → Bool
+is_at_end clock = nat_le (2 ^ 32) (clock.icr + 1)
+
+-- the counter counts once
+abbrev pub after_count : ClockState → ClockState
+after_count clock =
+    if is_at_end clock
+    then record clock { icr = clock.nicr; error = clock.error || clock.interrupt; interrupt = true; request = clock.request || clock.enable }
+    else record clock { icr = clock.icr + 1 }
+
+-- a tick counts where the clock runs
+unfoldable pub after_tick : ClockState → ClockState
+after_tick clock = if clock.run then after_count clock else clock
+
+-- the next tick wraps
+abbrev pub wraps_next : ClockState → Bool
+wraps_next clock = clock.run && is_at_end clock
+
+-- what reading ICCS gives
+abbrev pub iccs_of : ClockState → ℕ
+iccs_of clock = from_bool clock.run + 2 ^ 6 * from_bool clock.enable + 2 ^ 7 * from_bool clock.interrupt + 2 ^ 31 * from_bool clock.error
+
+-- bit k of a value
+abbrev pub is_set : ℕ → ℕ → Bool
+is_set value k = bit_at value k == 1
+
+-- Writing a value to ICCS does five things, in this order (the order is profile).
+-- 1. Bit 31 clears error.
+abbrev pub after_error_write : ClockState → ℕ → ClockState
+after_error_write clock value = if is_set value 31 then record clock { error = false } else clock
+
+-- 2. Bit 7 clears interrupt.
+abbrev pub after_interrupt_write : ClockState → ℕ → ClockState
+after_interrupt_write clock value = if is_set value 7 then record clock { interrupt = false } else clock
+
+-- 3. Bit 4 loads the counter. Without it, bit 5 without bit 0 counts once, also in a clock that runs.
+abbrev pub after_step_write : ClockState → ℕ → ClockState
+after_step_write clock value =
+    if is_set value 4 then record clock { icr = clock.nicr }
+    else if is_set value 5 && not (is_set value 0) then after_count clock
+    else clock
+
+-- 4. Run becomes bit 0.
+abbrev pub after_run_write : ClockState → ℕ → ClockState
+after_run_write clock value = record clock { run = is_set value 0 }
+
+-- 5. Enable becomes bit 6. Clearing it ends the request; setting it anew while interrupt is set makes one.
+abbrev pub after_enable_write : ClockState → ℕ → ClockState
+after_enable_write clock value =
+    if not (is_set value 6) then record clock { enable = false; request = false }
+    else if not clock.enable && clock.interrupt then record clock { enable = true; request = true }
+    else record clock { enable = true }
+
+-- all five
+unfoldable pub after_iccs_write : ClockState → ℕ → ClockState
+after_iccs_write clock value =
+    let cleared = after_interrupt_write (after_error_write clock value) value in
+    let stepped = after_step_write cleared value in
+    after_enable_write (after_run_write stepped value) value
+
+-- writing NICR
+abbrev pub after_nicr_write : ClockState → ℕ → ClockState
+after_nicr_write clock value = record clock { nicr = value }
+
+-- the interrupt was taken
+abbrev pub after_taken : ClockState → ClockState
+after_taken clock = record clock { request = false }

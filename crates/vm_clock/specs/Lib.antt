@@ -1,0 +1,4 @@
+pub mod Clock
+pub mod Parts
+pub mod Ticks
+pub mod Shown

@@ -1,0 +1,4 @@
+pub mod Appends
+pub mod Console
+pub mod Parts
+pub mod Shown

@@ -1,0 +1,183 @@
+ghost use Rattle.std.specs.Prelude.{◌≡◌, ◌≢◌, ◌+◌, ◌<◌, ◌≤◌, ◌++◌, length, IfOk, IfErr, OnErr, Ok, decimal, List, ℕ};
+ghost use Rattle.vv_class.specs.Class.{IsClass, has_category};
+ghost use Rattle.vv_class.specs.Text.{class_text, half_text, listed, categories_below, IsLongestStart};
+ghost use Rattle.vv_class.specs.Scan.{class_of};
+ghost use Rattle.vv_class.specs.declared.class.AccessClass.{AccessClass};
+
+use crate::AccessClass;
+use crate::scan::{Next, start};
+use itoa::Buffer;
+use vv_base::Text;
+
+/// The bytes are the text of no class, and the longest start of them that begins a class text has this many bytes.
+#[derive(Clone, Copy, Debug, PartialEq, Eq)]
+pub struct ClassFault {
+    pub place: u32,
+}
+
+/// The class of a text like `2{1,5};0{}`: secrecy and then integrity, levels 0 to 255, categories 0 to 63 rising, and
+/// no leading zeros. `ClassFault` exactly where the bytes are the text of no class.
+pub fn read_class(b: &[u8]) -> Result<AccessClass, ClassFault>
+    ensures ok { IfOk result (λ c. IsClass c × (b.now ≡ class_text c)) }
+    ensures each { (c : AccessClass) → IsClass c → b.now ≡ class_text c → result ≡ Ok c }
+    ensures refused { OnErr result ((c : AccessClass) → IsClass c → b.now ≢ class_text c) }
+    ensures fault { IfErr result (λ fault. IsLongestStart b.now fault.place) }
+
+    // The same as a function that computes.
+    ensures value { result ≡ class_of b.now }
+{
+    scan_text(b)
+}
+
+#[tactic(auto, unfolding(crate::specs::Scan::class_of))]
+fn scan_text(b: &[u8]) -> Result<AccessClass, ClassFault>
+    ensures { result ≡ class_of b.now }
+{
+    let mut scan = start();
+    let mut place = 0;
+    for byte in b {
+        match scan.step(*byte) {
+            Some(next) => scan = next,
+            None => return Err(ClassFault { place }),
+        }
+        place += 1;
+    }
+    match scan.next {
+        Next::End => Ok(scan.class()),
+        _ => Err(ClassFault { place }),
+    }
+}
+
+/// The one text of a class. The longest, with all categories on both sides, has 373 bytes.
+#[tactic(auto, unfolding(crate::specs::Text::class_text))]
+pub fn write_class(c: &AccessClass) -> Text<400>
+    ensures { result ≡ class_text c.now }
+{
+    let mut text = Text::new();
+    write_half(&mut text, c.secrecy, c.secrecy_cats);
+    add(&mut text, b";");
+    write_half(&mut text, c.integrity, c.integrity_cats);
+    text
+}
+
+/// A level with its set takes at most 197 bytes: three digits, two braces, and three bytes for each category.
+#[tactic(auto, using(crate::proofs::Sets::lengths))]
+fn write_half(text: &mut Text<400>, level: u8, cats: u64)
+    requires { length text.old + 197 ≤ 400 }
+    ensures written { text.new ≡ text.old ++ half_text level cats }
+    ensures short { length text.new ≤ length text.old + 197 }
+{
+    add_number(text, level);
+    add(text, b"{");
+    write_set(text, cats);
+    add(text, b"}");
+}
+
+#[tactic(auto, using(crate::proofs::Sets::lengths))]
+fn write_set(text: &mut Text<400>, cats: u64)
+    requires { length text.old + 192 ≤ 400 }
+    ensures written { text.new ≡ text.old ++ listed (categories_below 64 cats) }
+    ensures short { length text.new ≤ length text.old + 192 }
+{
+    let mut comma: &[u8] = b"";
+    for category in 0..64 {
+        if !has_category(cats, category) {
+            continue;
+        }
+        add(text, comma);
+        add_number(text, category);
+        comma = b",";
+    }
+}
+
+fn has_category(cats: u64, category: u8) -> bool
+    requires { category < 64 }
+    ensures { result ≡ has_category cats category }
+{
+    (cats >> u32::from(category)) % 2 == 1
+}
+
+fn add_number(text: &mut Text<400>, n: u8)
+    requires { length text.old + length (decimal n) ≤ 400 }
+    ensures written { text.new ≡ text.old ++ decimal n }
+    ensures len { length text.new ≡ length text.old + length (decimal n) }
+{
+    let mut buffer = Buffer::new();
+    add(text, buffer.format(n).as_bytes());
+}
+
+/// Appends bytes that fit.
+fn add(text: &mut Text<400>, bytes: &[u8])
+    requires { length text.old + length bytes.now ≤ 400 }
+    ensures written { text.new ≡ text.old ++ bytes.now }
+    ensures len { length text.new ≡ length text.old + length bytes.now }
+{
+    let _ = text.push_all(bytes);
+}
+
+/// Each class has one text, each text is of one class, `class_of` reads exactly these, and none has over 395 bytes.
+pub fn text_laws()
+    ensures one_class { (c d : AccessClass) → IsClass c → IsClass d → class_text c ≡ class_text d → c ≡ d }
+    ensures read { (c : AccessClass) → IsClass c → class_of (class_text c) ≡ Ok c }
+    ensures written { (b : List ℕ) → IfOk (class_of b) (λ c. IsClass c × (b ≡ class_text c)) }
+    ensures place { (b : List ℕ) → IfErr (class_of b) (λ fault. IsLongestStart b fault.place) }
+    ensures short { (c : AccessClass) → IsClass c → length (class_text c) ≤ 395 }
+{}
+
+#[cfg(test)]
+mod tests {
+    use super::*;
+
+    fn class(secrecy: u8, secrecy_cats: u64, integrity: u8, integrity_cats: u64) -> AccessClass {
+        AccessClass {
+            secrecy,
+            secrecy_cats,
+            integrity,
+            integrity_cats,
+        }
+    }
+
+    #[test]
+    fn class_texts_are_read_and_written_back(rt: HostRuntime) {
+        let texts: [(&str, AccessClass); 5] = [
+            ("2{1,5};0{}", class(2, 34, 0, 0)),
+            ("16{};0{}", class(16, 0, 0, 0)),
+            ("0{0};255{63}", class(0, 1, 255, 1 << 63)),
+            ("9{9,10,62,63};100{0}", class(9, 3 << 62 | 1536, 100, 1)),
+            ("0{};0{}", class(0, 0, 0, 0)),
+        ];
+        for (text, wanted) in texts {
+            assert_eq!(rt; read_class(text.as_bytes()), Ok(wanted), "of {text}");
+            let written = write_class(&wanted);
+            assert_eq!(rt; written.bytes(), text.as_bytes(), "of {text}");
+        }
+    }
+
+    #[test]
+    fn other_texts_have_the_place_of_their_fault(rt: HostRuntime) {
+        let texts: [(&str, u32); 15] = [
+            ("256{};0{}", 2),
+            ("0{5,5};0{}", 5),
+            ("0{};0", 5),
+            ("", 0),
+            ("-1{};0{}", 0),
+            ("01{};0{}", 1),
+            ("300{};0{}", 2),
+            ("2{5,1};0{}", 5),
+            ("1{05};0{}", 3),
+            ("1{64};0{}", 3),
+            ("1{63,64};0{}", 4),
+            ("1{2,};0{}", 4),
+            ("1{ 2};0{}", 2),
+            ("15{6", 4),
+            ("0{};0{};", 7),
+        ];
+        for (text, place) in texts {
+            assert_eq!(rt;
+                read_class(text.as_bytes()),
+                Err(ClassFault { place }),
+                "of {text}"
+            );
+        }
+    }
+}

@@ -1,0 +1,66 @@
+ghost use Rattle.std.specs.Prelude.{◌≤◌, IfOk, None, length};
+
+use std::alloc::Global;
+use std::fs;
+use std::io::{ErrorKind, Read};
+use std::rt::Files;
+use vv_base::FileName;
+use vv_io::{Shelf, ShelfFault};
+
+/// The most bytes of a file.
+const FILE_LIMIT: usize = 16_777_216;
+
+/// Files under the names that are asked for.
+#[derive(Drop)]
+pub struct FileShelf<'a, R> {
+    files: &'a R,
+    faults: u64,
+}
+
+impl<'a, R: Files> FileShelf<'a, R> {
+    /// A shelf that has not failed.
+    pub fn new(files: &'a R) -> Self {
+        FileShelf { files, faults: 0 }
+    }
+
+    /// The bytes of a file, of which one more than the limit is read at most.
+    fn read(&self, alloc: Global, name: &FileName) -> Result<Vec<u8>, ShelfFault>
+        ensures { IfOk result (λ bytes. length bytes.items ≤ 16777216) }
+    {
+        let Ok(path) = str::from_utf8(name.bytes()) else {
+            return Err(ShelfFault::Missing);
+        };
+        let file = match fs::open(self.files, path) {
+            Ok(file) => file,
+            Err(error) if error.kind() == ErrorKind::NotFound => {
+                return Err(ShelfFault::Missing);
+            }
+            Err(_) => {
+                return Err(ShelfFault::Failed);
+            }
+        };
+        let mut bytes = Vec::new(alloc);
+        match file.take(FILE_LIMIT as u64 + 1).read_to_end(&mut bytes) {
+            Ok(_) if bytes.len() > FILE_LIMIT => Err(ShelfFault::TooLong),
+            Ok(_) => Ok(bytes),
+            Err(error) if error.kind() == ErrorKind::OutOfMemory => Err(ShelfFault::NoMemory),
+            Err(_) => Err(ShelfFault::Failed),
+        }
+    }
+}
+
+impl<R: Files> Shelf for FileShelf<'_, R> {
+    ghost files = { λ _. None };
+
+    ghost faults = { λ s. s.faults };
+
+    fn fetch(&mut self, alloc: Global, name: &FileName) -> Result<Vec<u8>, ShelfFault> {
+        match self.read(alloc, name) {
+            Ok(bytes) => Ok(bytes),
+            Err(fault) => {
+                self.faults = self.faults.saturating_add(1);
+                Err(fault)
+            }
+        }
+    }
+}

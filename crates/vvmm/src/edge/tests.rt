@@ -1,0 +1,78 @@
+use super::*;
+use std::test::Fail;
+use std::{env, fs, process};
+use vv_base::{FileName, file_name};
+use vv_io::{Drive, DriveFault, Line, LineFault, Shelf, ShelfFault, Sink};
+
+/// A path of this process in the system's folder for files that don't last.
+fn scratch(rt: &HostRuntime, name: &str) -> Result<String, Fail> {
+    let folder = env::temp_dir(rt)?;
+    let id = process::id(rt.process());
+    Ok(format!(in rt.alloc(); "{}/vvmm-{id}-{name}", folder.as_str())?)
+}
+
+fn named(text: &str) -> FileName {
+    file_name(text.as_bytes()).unwrap_or(FileName::new())
+}
+
+#[test]
+fn a_shelf_reads_files(rt: HostRuntime) -> Result<(), Fail> {
+    let alloc = rt.alloc();
+    let path = scratch(&rt, "image")?;
+    fs::write(&rt, path.as_str(), b"bytes")?;
+    let mut shelf = FileShelf::new(&rt);
+    let bytes = shelf.fetch(alloc, &named(path.as_str())).ok();
+    assert_eq!(rt; bytes.map(|bytes| bytes.len()), Some(5));
+    fs::write(&rt, path.as_str(), vec![in alloc; 0; 16_777_217]?)?;
+    let long = shelf.fetch(alloc, &named(path.as_str()));
+    assert_eq!(rt; long.err(), Some(ShelfFault::TooLong));
+    fs::remove_file(&rt, path.as_str())?;
+    let gone = shelf.fetch(alloc, &named(path.as_str()));
+    assert_eq!(rt; gone.err(), Some(ShelfFault::Missing));
+    Ok(())
+}
+
+#[test]
+fn a_line_writes_a_file(rt: HostRuntime) -> Result<(), Fail> {
+    let path = scratch(&rt, "line")?;
+    let mut line = FileLine::new(rt.clone()?, path.clone()?);
+    assert!(rt; fs::read(&rt, path.as_str()).is_err());
+    assert_eq!(rt; line.put(b"one "), Ok(()));
+    assert_eq!(rt; line.put(b"two"), Ok(()));
+    assert_eq!(rt; line.told(), None);
+    assert_eq!(rt;
+        fs::read(&rt, path.as_str())?.as_slice(),
+        b"one two".as_slice()
+    );
+    fs::remove_file(&rt, path.as_str())?;
+    let folder = env::temp_dir(&rt)?;
+    let mut broken = FileLine::new(rt.clone()?, String::from_str(rt.alloc(), folder.as_str())?);
+    assert_eq!(rt; broken.put(b"x"), Err(LineFault));
+    Ok(())
+}
+
+#[test]
+fn a_drive_reads_and_writes_blocks(rt: HostRuntime) -> Result<(), Fail> {
+    let path = scratch(&rt, "drive")?;
+    fs::write(&rt, path.as_str(), vec![in rt.alloc(); 7; 1_300]?)?;
+    let mut drive = FileDrive::open(&rt, path.as_str())?;
+    assert_eq!(rt; drive.blocks(), 2);
+    let mut into = [0; 512];
+    assert_eq!(rt; drive.set(1, &[9; 512]), Ok(()));
+    assert_eq!(rt; drive.get(0, &mut into), Ok(()));
+    assert_eq!(rt; into[511], 7);
+    assert_eq!(rt; drive.get(1, &mut into), Ok(()));
+    assert_eq!(rt; into[0], 9);
+    fs::write(&rt, path.as_str(), b"short")?;
+    assert_eq!(rt; drive.get(1, &mut into), Err(DriveFault));
+    assert_eq!(rt; into[0], 9);
+    fs::remove_file(&rt, path.as_str())?;
+    assert!(rt; FileDrive::open(&rt, path.as_str()).is_err());
+    Ok(())
+}
+
+#[test]
+fn standard_output_takes_bytes(rt: HostRuntime) {
+    let mut out = OutSink::new(&rt);
+    assert_eq!(rt; out.put(b"shown\n"), Ok(()));
+}

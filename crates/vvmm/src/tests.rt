@@ -1,0 +1,233 @@
+use super::*;
+use std::alloc::Global;
+use std::process::Abort;
+use std::test::Fail;
+use vax_hw::Hardware;
+use vv_base::{FileName, file_name};
+use vv_io::{Cut, MemLine, MemShelf};
+
+/// Row by row: an image, a number of steps, the console's bytes, and the summary.
+const RUNS: [(&[u8], &str, &str, &str); 5] = [
+    (
+        &[0xDA, 0x8F, 0x41, 0, 0, 0, 0x23, 0],
+        "10",
+        "A?06 00000208\r\n",
+        "rounds 1 steps 10 plain 0 sensitive 2 faults 0 interrupts 0 modify 0 idle 0 stopped 8 trail 0000000000000000\n",
+    ),
+    (
+        &[],
+        "1",
+        "?06 00000201\r\n",
+        "rounds 1 steps 1 plain 0 sensitive 1 faults 0 interrupts 0 modify 0 idle 0 stopped 0 trail 0000000000000000\n",
+    ),
+    (
+        &[0xD0, 0x01, 0x50, 0],
+        "2",
+        "?06 00000204\r\n",
+        "rounds 1 steps 2 plain 1 sensitive 1 faults 0 interrupts 0 modify 0 idle 0 stopped 0 trail 0000000000000471\n",
+    ),
+    (
+        &[0xD0, 0x03, 0x50, 0xD7, 0x50, 0x12, 0xFC, 0],
+        "8",
+        "?06 00000208\r\n",
+        "rounds 1 steps 8 plain 7 sensitive 1 faults 0 interrupts 0 modify 0 idle 0 stopped 0 trail 00000000000018C2\n",
+    ),
+    (
+        &[0x11, 0xFE],
+        "3",
+        "",
+        "rounds 1 steps 3 plain 3 sensitive 0 faults 0 interrupts 0 modify 0 idle 0 stopped 0 trail 0000000000000699\n",
+    ),
+];
+
+/// The name of the file that the tests ask for.
+fn named(text: &str) -> FileName {
+    file_name(text.as_bytes()).unwrap_or(FileName::new())
+}
+
+/// The words of a command line.
+fn words_of(alloc: Global, text: &str) -> Result<Vec<String>, NoMemory> {
+    let mut words = Vec::new(alloc);
+    for word in text.split(' ') {
+        words.push(word.to_string(alloc)?)?;
+    }
+    Ok(words)
+}
+
+/// One run of the top call over objects in memory: what it answered, line 0's bytes, and the summary.
+#[derive(Drop)]
+struct Told {
+    code: u8,
+    text: Vec<u8>,
+    line: Vec<u8>,
+    out: Vec<u8>,
+}
+
+fn cut_at(alloc: Global, cut: Option<Cut>) -> Result<Vec<Cut>, NoMemory> {
+    let mut cuts = Vec::new(alloc);
+    if let Some(cut) = cut {
+        cuts.push(cut)?;
+    }
+    Ok(cuts)
+}
+
+/// What line 0 tells.
+fn console(alloc: Global, lines: &[Box<dyn Line>]) -> Result<Vec<u8>, NoMemory> {
+    let [line, ..] = lines else {
+        return Ok(Vec::new(alloc));
+    };
+    Ok(line.told().unwrap_or(b"").to_vec(alloc)?)
+}
+
+/// Runs the words over a shelf, with line 0 and `out` cut as said.
+fn run_words(
+    rt: &impl Abort,
+    machine: &mut Cpu,
+    alloc: Global,
+    words: &str,
+    mut shelf: MemShelf,
+    line: Option<Cut>,
+    out: Option<Cut>,
+) -> Result<Told, NoMemory> {
+    assert_eq!(rt; machine.pages(), PAGES);
+    let mut lines: Vec<Box<dyn Line>> = Vec::new(alloc);
+    lines.push(Box::new(alloc, MemLine::new(alloc, 100, cut_at(alloc, line)?)?)?)?;
+    for _number in 1..32u8 {
+        lines.push(Box::new(alloc, MemLine::new(alloc, 0, Vec::new(alloc))?)?)?;
+    }
+    let mut drives: Vec<Box<dyn Drive>> = Vec::new(alloc);
+    for _number in 0..16u8 {
+        drives.push(Box::new(alloc, EmptyDrive)?)?;
+    }
+    let mut out = MemLine::new(alloc, 200, cut_at(alloc, out)?)?;
+    let status = vvmm_run(
+        alloc,
+        &words_of(alloc, words)?,
+        &mut shelf,
+        machine,
+        &mut lines,
+        &mut drives,
+        &mut out,
+    );
+    Ok(Told {
+        code: status_code(&status),
+        text: status_text(&status).bytes().to_vec(alloc)?,
+        line: console(alloc, &lines)?,
+        out: out.shown().to_vec(alloc)?,
+    })
+}
+
+/// A shelf that holds one file `x`, whose calls fail as said.
+fn shelf_of(alloc: Global, image: &[u8], failing: Option<u32>) -> Result<MemShelf, NoMemory> {
+    let mut files = Vec::new(alloc);
+    files.push((named("x"), image.to_vec(alloc)?))?;
+    let mut calls = Vec::new(alloc);
+    if let Some(call) = failing {
+        calls.push(call)?;
+    }
+    Ok(MemShelf::new(files, calls))
+}
+
+#[test]
+fn images_run_as_worked_out(rt: HostRuntime) -> Result<(), Fail> {
+    let alloc = rt.alloc();
+    let mut machine = Cpu::new(alloc, PAGES)?;
+    for (image, steps, line, out) in RUNS {
+        let words = format!(in alloc; "solo x {steps}")?;
+        let seen = run_words(
+            &rt,
+            &mut machine,
+            alloc,
+            words.as_str(),
+            shelf_of(alloc, image, None)?,
+            None,
+            None,
+        )?;
+        assert_eq!(rt; seen.code, 0);
+        assert_eq!(rt; seen.line.as_slice(), line.as_bytes());
+        assert_eq!(rt; seen.out.as_slice(), out.as_bytes());
+    }
+    Ok(())
+}
+
+#[test]
+fn each_answer_has_its_cause(rt: HostRuntime) -> Result<(), Fail> {
+    let alloc = rt.alloc();
+    let mut machine = Cpu::new(alloc, PAGES)?;
+    let first = RUNS[0];
+    let whole = vec![in alloc; 1; 65_024]?;
+    let wide = vec![in alloc; 1; 65_025]?;
+    let long = vec![in alloc; 1; 16_777_217]?;
+    for (words, image, failing, code, text) in [
+        ("solo x 0", first.0, None, 2, "bad words"),
+        ("solo x 01", first.0, None, 2, "bad words"),
+        ("solo x 100001", first.0, None, 2, "bad words"),
+        ("solo", first.0, None, 2, "bad words"),
+        ("solo y 1", first.0, None, 3, "missing y"),
+        ("solo x 1", long.as_slice(), None, 13, "too long x"),
+        ("solo x 1", first.0, Some(1), 4, "shelf fault"),
+        ("solo x 1", wide.as_slice(), None, 7, "image 0"),
+        ("solo x 1", whole.as_slice(), None, 0, ""),
+        (
+            "solo x 1",
+            [0xD6, 0x50].as_slice(),
+            None,
+            14,
+            "not built D6",
+        ),
+    ] {
+        let seen = run_words(
+            &rt,
+            &mut machine,
+            alloc,
+            words,
+            shelf_of(alloc, image, failing)?,
+            None,
+            None,
+        )?;
+        assert_eq!(rt; seen.code, code, "{words}");
+        assert_eq!(rt; seen.text.as_slice(), text.as_bytes());
+        assert_eq!(rt; seen.line.len(), 0);
+        assert_eq!(rt; seen.out.is_empty(), code != 0);
+    }
+    Ok(())
+}
+
+#[test]
+fn a_failing_device_harms_itself_alone(rt: HostRuntime) -> Result<(), Fail> {
+    let alloc = rt.alloc();
+    let mut machine = Cpu::new(alloc, PAGES)?;
+    let (image, _, line, out) = RUNS[0];
+    let first = |after| Some(Cut { call: 1, after });
+    let second = |after| Some(Cut { call: 2, after });
+    for (cut, out_cut, code, text, shows, says) in [
+        (first(0), None, 10, "device line 0", 0, out.len()),
+        (first(1), None, 10, "device line 0", 1, out.len()),
+        (second(0), None, 10, "device line 0", 1, out.len()),
+        (second(1), None, 10, "device line 0", 2, out.len()),
+        (second(99), None, 10, "device line 0", line.len(), out.len()),
+        (None, first(7), 11, "output fault", line.len(), 7),
+        (second(5), first(0), 10, "device line 0", 6, 0),
+    ] {
+        let seen = run_words(
+            &rt,
+            &mut machine,
+            alloc,
+            "solo x 10",
+            shelf_of(alloc, image, None)?,
+            cut,
+            out_cut,
+        )?;
+        assert_eq!(rt; seen.code, code);
+        assert_eq!(rt; seen.text.as_slice(), text.as_bytes());
+        assert_eq!(rt;
+            seen.line.as_slice(),
+            line.as_bytes().get(..shows).unwrap_or(b"")
+        );
+        assert_eq!(rt;
+            seen.out.as_slice(),
+            out.as_bytes().get(..says).unwrap_or(b"")
+        );
+    }
+    Ok(())
+}
