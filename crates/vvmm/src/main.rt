@@ -2,6 +2,7 @@
 #![tactic(auto)]
 
 mod edge;
+mod laws;
 mod report;
 mod status;
 #[cfg(test)]
@@ -10,6 +11,7 @@ mod top;
 mod words;
 
 use edge::{FileDrive, FileLine, FileShelf, OutSink};
+pub use laws::{a_failed_line_is_told, answers_are_complete, missing_is_told, too_long_is_told};
 pub use status::{Device, Status, status_code, status_text};
 use std::io::{ErrorKind, Write};
 use std::process::ExitCode;

@@ -1,0 +1,22 @@
+ghost use Rattle.vvmm.specs.Laws.{Completes, TellsDevice, TellsMissing, TellsTooLong};
+
+/// Good words, a held file within the limit, an image that fits and no risen count give `Done`, or `NoMemory` before
+/// the run, or `NotBuilt`.
+pub fn answers_are_complete()
+    ensures { Completes }
+{}
+
+/// Over a shelf that tells its files and did not fail, a file that it lacks gives `Missing`, or `NoMemory`.
+pub fn missing_is_told()
+    ensures { TellsMissing }
+{}
+
+/// Over a shelf that tells its files and did not fail, a file that is too long gives `TooLong`, or `NoMemory`.
+pub fn too_long_is_told()
+    ensures { TellsTooLong }
+{}
+
+/// Where line 0's count is greater behind the call, the answer names it, or is `NotBuilt`.
+pub fn a_failed_line_is_told()
+    ensures { TellsDevice }
+{}
