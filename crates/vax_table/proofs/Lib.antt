@@ -7,3 +7,8 @@ pub mod Lengths
 pub mod Instructions
 pub mod OneSpelling
 pub mod Scripts
+pub mod Standings
+pub mod Claims
+pub mod OperandClaims
+pub mod NextPc
+pub mod Numbers

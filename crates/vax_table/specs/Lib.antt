@@ -13,3 +13,8 @@ pub mod Plan
 pub mod Trail
 pub mod Locality
 pub mod ShownPlan
+pub mod Operand
+pub mod Troubles
+pub mod ShownOperand
+pub mod Standing
+pub mod Claims

@@ -4,6 +4,7 @@
 mod act;
 mod answer;
 mod decoded;
+pub mod evaluation;
 mod forms;
 mod laws;
 mod lines;

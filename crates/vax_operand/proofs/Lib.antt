@@ -1,0 +1,2 @@
+pub mod ByteByByte
+pub mod Steps
