@@ -1,7 +1,7 @@
 ghost use Rattle.std.specs.Prelude.{◌≡◌, ◌+◌, ◌*◌, ◌≤◌, ◌<◌, ◌/◌, ◌%◌, ◌^◌, length, IfOk, MatchResult, Ok, Err};
 ghost use Rattle.vax_hw.specs.Machine.{Machine, regs_of, retire, space_of, with_regs, zeros};
 ghost use Rattle.vax_hw.specs.Real.{exits, one, traps, real};
-ghost use Rattle.vax_table.specs.Plan.{instruction, Meant};
+ghost use Rattle.vax_table.specs.Built.{instruction, Meant};
 ghost use Rattle.vax_table.specs.Script.{outcome};
 ghost use Rattle.vax_table.specs.Trail.{term};
 ghost use Rattle.vax_cpu.specs.Meaning.{meant};
@@ -121,7 +121,7 @@ impl Cpu {
     }
 
     /// The instruction at PC, and what it comes to.
-    #[tactic(auto, unfolding(vax_table::specs::Plan::instruction), using(vax_table::proofs::Scripts::binds))]
+    #[tactic(auto, unfolding(vax_table::specs::Built::instruction), using(vax_table::proofs::Scripts::binds))]
     fn find(&self) -> Result<Found, Exit>
         ensures { meant result ≡ exits (outcome (space_of self.now) (instruction (regs_of self.now.world))) }
     {

@@ -1,5 +1,5 @@
 ghost use Rattle.std.specs.Prelude.{◌≡◌, ◌<◌, IfOk};
-ghost use Rattle.vax_table.specs.Plan.{act_of, branched, branched_by, computed, computed_by, decremented_by, is_not_equal, moved_to_register, source_of, target_of, trapped, went};
+ghost use Rattle.vax_table.specs.Built.{act_of, branched, branched_by, computed, computed_by, decremented_by, is_not_equal, moved_to_register, source_of, target_of, trapped, went};
 ghost use Rattle.vax_table.specs.Spelling.{view};
 ghost use Rattle.vax_cpu.specs.Fetched.{unbuilt};
 
@@ -53,7 +53,7 @@ fn branched(next: u32, s: &Spec) -> u32
 }
 
 /// An operation on a longword and a register, whose result goes to the register.
-#[tactic(auto, unfolding(vax_table::specs::Plan::computed))]
+#[tactic(auto, unfolding(vax_table::specs::Built::computed))]
 fn computed(op: AluOp, w: &Regs, a: u32, target: u8, next: u32) -> Regs
     requires { target < 15 }
     ensures { result ≡ computed op w.now a target next }
@@ -83,7 +83,7 @@ fn trapped(op: Sens, w: &Regs, a: u32, b: u32, next_pc: u32) -> Act
     })
 }
 
-#[tactic(auto, unfolding(vax_table::specs::Plan::computed_by))]
+#[tactic(auto, unfolding(vax_table::specs::Built::computed_by))]
 fn computed_by(op: AluOp, opcode: u8, w: &Regs, next: u32, specs: &[Spec]) -> Result<Act, Exit>
     ensures { result ≡ unbuilt (computed_by op opcode w.now next specs.now) }
 {
@@ -97,7 +97,7 @@ fn computed_by(op: AluOp, opcode: u8, w: &Regs, next: u32, specs: &[Spec]) -> Re
     }
 }
 
-#[tactic(auto, unfolding(vax_table::specs::Plan::decremented_by))]
+#[tactic(auto, unfolding(vax_table::specs::Built::decremented_by))]
 fn decremented_by(opcode: u8, w: &Regs, next: u32, specs: &[Spec]) -> Result<Act, Exit>
     ensures { result ≡ unbuilt (decremented_by opcode w.now next specs.now) }
 {
@@ -110,7 +110,7 @@ fn decremented_by(opcode: u8, w: &Regs, next: u32, specs: &[Spec]) -> Result<Act
     }
 }
 
-#[tactic(auto, unfolding(vax_table::specs::Plan::moved_to_register))]
+#[tactic(auto, unfolding(vax_table::specs::Built::moved_to_register))]
 fn moved_to_register(opcode: u8, w: &Regs, next: u32, specs: &[Spec]) -> Result<Act, Exit>
     ensures { result ≡ unbuilt (moved_to_register opcode w.now next specs.now) }
 {
@@ -125,7 +125,7 @@ fn moved_to_register(opcode: u8, w: &Regs, next: u32, specs: &[Spec]) -> Result<
 }
 
 /// A branch, where it is taken.
-#[tactic(auto, unfolding(vax_table::specs::Plan::branched_by))]
+#[tactic(auto, unfolding(vax_table::specs::Built::branched_by))]
 fn branched_by(taken: bool, opcode: u8, w: &Regs, next: u32, specs: &[Spec]) -> Result<Act, Exit>
     ensures { result ≡ unbuilt (branched_by taken opcode w.now next specs.now) }
 {
@@ -139,7 +139,7 @@ fn branched_by(taken: bool, opcode: u8, w: &Regs, next: u32, specs: &[Spec]) -> 
 }
 
 /// What an instruction comes to, by its opcode; `next` is the address behind it.
-#[tactic(auto, unfolding(vax_table::specs::Plan::act_of))]
+#[tactic(auto, unfolding(vax_table::specs::Built::act_of))]
 pub fn act_of(w: &Regs, d: &Decoded, next: u32) -> Result<Act, Exit>
     ensures { result ≡ unbuilt (act_of w.now (view d.now) next) }
 {

@@ -10,7 +10,7 @@ use Rattle.vax_hw.specs.Machine.{Machine, regs_of, retire, space_of}
 use Rattle.vax_hw.specs.declared.world.Exit.{Exit}
 use Rattle.vax_hw.specs.declared.world.Exit.TheVariants.{Budget, NotValid, Denied, Emulate, Refused, NotBuilt}
 use Rattle.vax_hw.specs.declared.world.World.{World}
-use Rattle.vax_table.specs.Plan.{Meant, instruction}
+use Rattle.vax_table.specs.Built.{Meant, instruction}
 use Rattle.vax_table.specs.Script.{Absent, Refusing, Past, Because, Unbuilt, Trouble, At, Test, outcome}
 use Rattle.vax_table.specs.declared.act.Act.{Act}
 use Rattle.vax_table.specs.declared.act.Act.TheVariants.{Plain, Sensitive}

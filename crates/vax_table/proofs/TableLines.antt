@@ -6,6 +6,10 @@ use Rattle.std.proofs.lemmas.List.{get_or-map}
 use Rattle.std.proofs.lemmas.List.FromFn.{get_or-map-range_with_len}
 use Rattle.vax_table.specs.declared.lines.TheConstants.{LINES}
 use Rattle.vax_table.specs.declared.lines.Line.TheVariants.{Unknown}
+use Rattle.vax_table.specs.declared.meanings.TheConstants.{OPERATIONS}
+use Rattle.vax_table.specs.declared.meaning.Operation.{Operation}
+use Rattle.vax_table.specs.declared.meaning.Operation.TheVariants.{Other}
+use Rattle.vax_table.specs.Operations.{operation_of}
 use Rattle.vax_table.specs.Rows.{Entry, row_of}
 use Rattle.vax_table.specs.RowViews.{line_view}
 
@@ -23,3 +27,11 @@ line_is n below =
     sym (get_or-map line_view LINES n Unknown None within)
     ∙ ap (λ (xs : List (Option Entry)). get_or xs n None) lines_are
     ∙ get_or-map-range_with_len row_of 0 256 n n None below (omega arith)
+
+-- and what each instruction does
+operations_are : OPERATIONS ≡ map operation_of (range_with_len 0 256)
+unfolding operation_of
+operations_are = refl
+
+pub operation_is : (n : ℕ) → n < 256 → get_or OPERATIONS n Other ≡ operation_of n
+operation_is n below = ap (λ (xs : List Operation). get_or xs n Other) operations_are ∙ get_or-map-range_with_len operation_of 0 256 n n Other below (omega arith)

@@ -1,7 +1,7 @@
 -- What holds of every instruction over two spaces, of which one answers wherever the other does.
 use Rattle.std.specs.Prelude.{◌≡◌, ℕ, Err}
 use Rattle.vax_arch.specs.declared.mode.Intent.{Intent}
-use Rattle.vax_table.specs.Plan.{instruction}
+use Rattle.vax_table.specs.Built.{instruction}
 use Rattle.vax_table.specs.Script.{AsFar, At, Below, Cause, IsIn, Space, outcome, reached}
 use Rattle.vax_table.specs.declared.act.Regs.{Regs}
 

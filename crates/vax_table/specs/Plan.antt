@@ -1,107 +1,102 @@
--- What an instruction comes to, by its opcode and its operands
--- (VAX Architecture Reference Manual: integer arithmetic instructions; control instructions; move to processor register).
--- Built so far: HALT, NOP, BRB, BNEQ, MOVL, ADDL2, DECL and MTPR, with literals, immediates and registers as operands.
-use Rattle.std.specs.Prelude.{ℕ, ◌+◌, ◌-◌, ◌/◌, ◌%◌, ◌^◌, Bool, true, ◌==◌, ◌&&◌, nat_lt, if◌then◌else◌, List, [], ◌∷◌, take, slice_index, slice_set, Result, Ok, Err}
+-- What a plain instruction does over a space: its operands in order, and then its operation
+-- (VAX Architecture Reference Manual: instruction execution). The script sees the registers and the status word alone.
+-- From it follow the outcome, the first trouble, the bytes that are reached, and the places that are claimed, in
+-- access order. All accesses come before the first store, since stores are in the outcome.
+use Rattle.std.specs.Prelude.{ℕ, ◌+◌, ◌*◌, ◌/◌, ◌%◌, Bool, true, false, not, List}
 use Rattle.vv_base.specs.declared.width.Width.TheVariants.{Long}
-use Rattle.vax_table.specs.Arithmetic.{alu_of}
-use Rattle.vax_table.specs.Fetch.{fetched}
-use Rattle.vax_table.specs.Script.{Script, Done, Refuse, ◌>>=◌, Reason, Unbuilt}
+use Rattle.vax_arch.specs.declared.mode.Intent.{Intent}
+use Rattle.vax_table.specs.Arithmetic.{bit_of}
+use Rattle.vax_table.specs.Branches.{added_and_compared, added_one, branched, branched_on_bit, branched_on_low_bit, called_subroutine, cased, left_subroutine, subtracted_one}
+use Rattle.vax_table.specs.Calls.{called_general, called_on_stack, registers_popped, registers_pushed, returned}
+use Rattle.vax_table.specs.Computing.{computed, moved_quad, pushed, status_cleared, status_set}
+use Rattle.vax_table.specs.Effects.{Effect, begun, dest_of, long_of, put, quad_of}
+use Rattle.vax_table.specs.Operand.{operands_of}
+use Rattle.vax_table.specs.Operations.{operation_of}
+use Rattle.vax_table.specs.Script.{Script, Done, Refuse, ◌>>=◌, Because}
 use Rattle.vax_table.specs.Spelling.{Instruction}
-use Rattle.vax_table.specs.declared.act.Act.{Act}
-use Rattle.vax_table.specs.declared.act.Act.TheVariants.{Plain, Sensitive}
-use Rattle.vax_table.specs.declared.act.Dest.TheVariants.{Nowhere}
-use Rattle.vax_table.specs.declared.act.Regs.{Regs}
-use Rattle.vax_table.specs.declared.act.Sens.{Sens}
-use Rattle.vax_table.specs.declared.act.Sens.TheVariants.{Halt, Mtpr}
-use Rattle.vax_table.specs.declared.answer.Alu.{Alu}
-use Rattle.vax_table.specs.declared.answer.AluOp.{AluOp}
-use Rattle.vax_table.specs.declared.answer.AluOp.TheVariants.{Add, Sub, Move}
-use Rattle.vax_table.specs.declared.decoded.Spec.{Spec}
+use Rattle.vax_table.specs.declared.act.Refusal.TheVariants as refusals
+use Rattle.vax_table.specs.declared.evaluation.Operands.{Operands}
+use Rattle.vax_table.specs.declared.meaning.Operation.{Operation}
+use Rattle.vax_table.specs.declared.meaning.Operation.TheVariants.{Other, Nothing, Compute, ClearQuad, MoveQuad, Push, SetStatus, ClearStatus, Branch, CallSubroutine, LeaveSubroutine, AddAndCompare, AddOne, SubtractOne, BranchOnLowBit, BranchOnBit, Case, PushRegisters, PopRegisters, CallGeneral, CallOnStack, Return, MoveStatus, Probe, Breakpoint, Customer}
 
--- a longword that is read: a literal, a register, or an immediate
-abbrev pub source_of : ℕ → List ℕ → Spec → Result ℕ Reason
-source_of opcode r s =
-    if s.mode == 0 then Ok (s.value % 2 ^ 32)
-    else if s.mode == 5 then Ok (slice_index r s.reg)
-    else if s.mode == 8 && s.reg == 15 then Ok (s.value % 2 ^ 32)
-    else Err (Unbuilt opcode)
+-- The operations that depend on registers, status word and space alone. Of the others the first refuses as an
+-- instruction that there is not.
+unfoldable pub performed : Operation → Operands → ℕ → Script Effect
+performed Nothing o psw = Done (begun o psw)
+performed (Compute op w inputs target) o psw = Done (computed op w inputs target o psw)
+performed ClearQuad o psw = Done (moved_quad 0 (dest_of o 0) o psw)
+performed MoveQuad o psw = Done (moved_quad (quad_of o 0) (dest_of o 1) o psw)
+performed Push o psw = pushed o psw
+performed SetStatus o psw = status_set o psw
+performed ClearStatus o psw = status_cleared o psw
+performed (Branch condition) o psw = Done (branched condition o psw)
+performed CallSubroutine o psw = called_subroutine o psw
+performed LeaveSubroutine o psw = left_subroutine o psw
+performed (AddAndCompare w) o psw = Done (added_and_compared w o psw)
+performed (AddOne at_limit) o psw = Done (added_one at_limit o psw)
+performed (SubtractOne at_zero) o psw = Done (subtracted_one at_zero o psw)
+performed (BranchOnLowBit on) o psw = Done (branched_on_low_bit on o psw)
+performed (BranchOnBit on becomes) o psw = branched_on_bit on becomes o psw
+performed (Case w) o psw = cased w o psw
+performed PushRegisters o psw = registers_pushed o psw
+performed PopRegisters o psw = registers_popped o psw
+performed CallGeneral o psw = called_general o psw
+performed CallOnStack o psw = called_on_stack o psw
+performed Return o psw = returned o psw
+performed Breakpoint o psw = Refuse (Because refusals.Breakpoint)
+performed Customer o psw = Refuse (Because refusals.Customer)
+performed MoveStatus o psw = Refuse (Because refusals.Instruction)
+performed (Probe intent) o psw = Refuse (Because refusals.Instruction)
+performed Other o psw = Refuse (Because refusals.Instruction)
 
--- a register that is written
-abbrev pub target_of : ℕ → Spec → Result ℕ Reason
-target_of opcode s = if s.mode == 5 && nat_lt s.reg 15 then Ok s.reg else Err (Unbuilt opcode)
+-- the plain instructions but MOVPSL, PROBE, BPT and XFC
+abbrev pub is_planned : Operation → Bool
+is_planned Other = false
+is_planned MoveStatus = false
+is_planned (Probe intent) = false
+is_planned Breakpoint = false
+is_planned Customer = false
+is_planned Nothing = true
+is_planned (Compute op w inputs target) = true
+is_planned ClearQuad = true
+is_planned MoveQuad = true
+is_planned Push = true
+is_planned SetStatus = true
+is_planned ClearStatus = true
+is_planned (Branch condition) = true
+is_planned CallSubroutine = true
+is_planned LeaveSubroutine = true
+is_planned (AddAndCompare w) = true
+is_planned (AddOne at_limit) = true
+is_planned (SubtractOne at_zero) = true
+is_planned (BranchOnLowBit on) = true
+is_planned (BranchOnBit on becomes) = true
+is_planned (Case w) = true
+is_planned PushRegisters = true
+is_planned PopRegisters = true
+is_planned CallGeneral = true
+is_planned CallOnStack = true
+is_planned Return = true
 
--- the next PC of an instruction that goes on at an address
-abbrev pub went : Regs → ℕ → Regs
-went w pc = record w { r = slice_set w.r 15 pc }
+-- one of these: operands and operation, from the registers and the status word
+unfoldable pub planned : Instruction → List ℕ → ℕ → Script Effect
+planned d r psw = operands_of d r >>= λ o. performed (operation_of d.opcode) o psw
 
--- a branch displacement of a byte, two's complement, from the next PC
-abbrev pub branched : ℕ → Spec → ℕ
-branched next s = let d = s.value % 256 in if nat_lt d 128 then (next + d) % 2 ^ 32 else (next + (2 ^ 32 - 256) + d) % 2 ^ 32
+-- What the machine and a guest give differently: the longword that MOVPSL stores, and whether both bytes that a PROBE
+-- tests are accessible, by its intent, mode, length and base.
+pub record Given : Type 0 where
+  pub psl : ℕ
+  pub is_accessible : Intent → (mode length base : ℕ) → Bool
 
--- Z is clear
-abbrev pub is_not_equal : ℕ → Bool
-is_not_equal psw = psw / 4 % 2 == 0
+-- PROBE where both entries are found, valid and name frames: N 0, Z where not both bytes are accessible, V 0
+abbrev pub probed : Bool → Operands → ℕ → Effect
+probed accessible o psw = record (begun o psw) { psw = psw / 16 * 16 + 4 * bit_of (not accessible) + psw % 2 }
 
--- a result in a register, with its codes
-abbrev pub stored : Regs → ℕ → ℕ → Alu → Regs
-stored w target next alu = record { r = slice_set (slice_set w.r target alu.value) 15 next; psw = alu.psw }
+abbrev pub performed_with : Given → Operation → Operands → ℕ → Script Effect
+performed_with given MoveStatus o psw = Done (put (dest_of o 0) Long given.psl (begun o psw))
+performed_with given (Probe intent) o psw = Done (probed (given.is_accessible intent (long_of o 0 % 4) (long_of o 1) (long_of o 2)) o psw)
+performed_with given operation o psw = performed operation o psw
 
--- an operation on a longword and a register, whose result goes to the register
-unfoldable pub computed : AluOp → Regs → ℕ → ℕ → ℕ → Regs
-computed op w a target next = stored w target next (alu_of op a (slice_index w.r target) Long w.psw)
-
--- a sensitive instruction of these operands
-abbrev pub trapped : Sens → Regs → ℕ → ℕ → ℕ → Act
-trapped op w a b next = Sensitive (record { op = op; a = a; b = b; c = 0; dest = Nowhere; next_pc = next; regs = take 15 w.r })
-
--- operands that are tried in order
-abbrev pub with_ok : {X : Type 0} → Result X Reason → (X → Result Act Reason) → Result Act Reason
-with_ok (Ok x) f = f x
-with_ok (Err e) f = Err e
-
-unfoldable pub computed_by : AluOp → ℕ → Regs → ℕ → List Spec → Result Act Reason
-computed_by op opcode w next (a ∷ b ∷ []) = with_ok (source_of opcode w.r a) (λ x. with_ok (target_of opcode b) (λ k. Ok (Plain (computed op w x k next))))
-computed_by op opcode w next specs = Err (Unbuilt opcode)
-
-unfoldable pub decremented_by : ℕ → Regs → ℕ → List Spec → Result Act Reason
-decremented_by opcode w next (b ∷ []) = with_ok (target_of opcode b) (λ k. Ok (Plain (computed Sub w 1 k next)))
-decremented_by opcode w next specs = Err (Unbuilt opcode)
-
-unfoldable pub moved_to_register : ℕ → Regs → ℕ → List Spec → Result Act Reason
-moved_to_register opcode w next (a ∷ b ∷ []) = with_ok (source_of opcode w.r a) (λ x. with_ok (source_of opcode w.r b) (λ y. Ok (trapped Mtpr w x y next)))
-moved_to_register opcode w next specs = Err (Unbuilt opcode)
-
--- a branch, where it is taken
-unfoldable pub branched_by : Bool → ℕ → Regs → ℕ → List Spec → Result Act Reason
-branched_by taken opcode w next (d ∷ []) = Ok (Plain (went w (if taken then branched next d else next)))
-branched_by taken opcode w next specs = Err (Unbuilt opcode)
-
--- by the opcode
-unfoldable pub act_of : Regs → Instruction → ℕ → Result Act Reason
-act_of w d next =
-    if d.opcode == 0x00 then Ok (trapped Halt w 0 0 next)
-    else if d.opcode == 0x01 then Ok (Plain (went w next))
-    else if d.opcode == 0x11 then branched_by true 0x11 w next d.specs
-    else if d.opcode == 0x12 then branched_by (is_not_equal w.psw) 0x12 w next d.specs
-    else if d.opcode == 0xc0 then computed_by Add 0xc0 w next d.specs
-    else if d.opcode == 0xd0 then computed_by Move 0xd0 w next d.specs
-    else if d.opcode == 0xd7 then decremented_by 0xd7 w next d.specs
-    else if d.opcode == 0xda then moved_to_register 0xda w next d.specs
-    else Err (Unbuilt d.opcode)
-
--- what an instruction was found to be, and what it comes to
-pub record Meant : Type 0 where
-  pub opcode : ℕ
-  pub act : Act
-
-abbrev pub said : ℕ → Result Act Reason → Script Meant
-said opcode (Ok act) = Done (record { opcode = opcode; act = act })
-said opcode (Err e) = Refuse e
-
--- the address behind an instruction
-abbrev pub behind : ℕ → Instruction → ℕ
-behind pc d = (pc + d.length) % 2 ^ 32
-
--- the instruction at PC
-unfoldable pub instruction : Regs → Script Meant
-instruction w = let pc = slice_index w.r 15 in fetched pc >>= λ d. said d.opcode (act_of w d (behind pc d))
+-- any plain instruction
+unfoldable pub plan_of : Given → Instruction → List ℕ → ℕ → Script Effect
+plan_of given d r psw = operands_of d r >>= λ o. performed_with given (operation_of d.opcode) o psw

@@ -1,9 +1,12 @@
 ghost use Rattle.std.specs.Prelude.{◌≡◌};
+ghost use Rattle.vax_table.specs.Operations.{operation_of};
 ghost use Rattle.vax_table.specs.RowViews.{line_view, row_views};
 ghost use Rattle.vax_table.specs.Rows.{row_of};
 
 use crate::forms::{Form, Row};
 use crate::lines::{LINES, Line};
+use crate::meaning::Operation;
+use crate::meanings::OPERATIONS;
 use arrayvec::ArrayVec;
 
 fn line_at(opcode: u8) -> Line
@@ -50,4 +53,12 @@ pub fn row(opcode: u8) -> Option<Row>
         operands,
         sensitive,
     })
+}
+
+/// What the instruction of an opcode does behind its operands; `Other` exactly where no instruction has the opcode, or
+/// it is a sensitive one.
+pub fn operation(opcode: u8) -> Operation
+    ensures { result ≡ operation_of opcode }
+{
+    OPERATIONS[usize::from(opcode)]
 }

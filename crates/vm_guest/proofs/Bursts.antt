@@ -3,7 +3,7 @@ use Rattle.std.proofs.Common.{ℕ, zero, suc, ◌≡◌, ◌<◌, ◌+◌, ◌/�
 use Rattle.std.specs.declared.result.Result.TheVariants.{Ok, Err}
 use Rattle.vax_hw.specs.Machine.{Machine}
 use Rattle.vax_hw.specs.Real.{one, done, meets, real, going_on, misses_after}
-use Rattle.vax_table.specs.Plan.{Meant}
+use Rattle.vax_table.specs.Built.{Meant}
 use Rattle.vax_table.specs.declared.act.Act.{Act}
 use Rattle.vax_table.specs.declared.act.Act.TheVariants as acts
 use Rattle.vax_hw.specs.declared.world.Exit.{Exit}

@@ -9,7 +9,7 @@ use Rattle.vax_hw.specs.Real.{one, done, meets, exits, exit_of, traps, always_tr
 use Rattle.vax_hw.specs.declared.world.World.{World}
 use Rattle.vax_hw.specs.declared.world.Exit.{Exit}
 use Rattle.vax_hw.specs.declared.world.Exit.TheVariants.{Emulate, Refused, NotBuilt}
-use Rattle.vax_table.specs.Plan.{Meant, instruction}
+use Rattle.vax_table.specs.Built.{Meant, instruction}
 use Rattle.vax_table.specs.Script.{Cause, Refusing, Because, Unbuilt, Trouble, At, Test, outcome, Below, AsFar}
 use Rattle.vax_table.specs.Trail.{term}
 use Rattle.vax_table.specs.declared.act.Act.{Act}

@@ -4,7 +4,7 @@ use Rattle.std.specs.Prelude.{ℕ, ◌+◌, ◌*◌, ◌/◌, ◌%◌, List, [],
 use Rattle.vv_base.specs.Digits.{hex_text}
 use Rattle.vv_base.specs.declared.width.Width.TheVariants.{Long}
 use Rattle.vax_table.specs.Arithmetic.{alu_of}
-use Rattle.vax_table.specs.Plan.{Meant, instruction}
+use Rattle.vax_table.specs.Built.{Meant, instruction}
 use Rattle.vax_table.specs.Script.{Because, Unbuilt, Trouble, At, Test, outcome}
 use Rattle.vax_table.specs.Trail.{term}
 use Rattle.vax_table.specs.declared.act.Act.{Act}

@@ -1,4 +1,4 @@
-use Rattle.vax_table.specs.Plan.{instruction}
+use Rattle.vax_table.specs.Built.{instruction}
 use Rattle.vax_table.proofs.Scripts.{outcome_far}
 use Rattle.vax_table.proofs.plan_laws.instructions_are_local.Goals as goal
 

@@ -1,4 +1,4 @@
-use Rattle.vax_table.specs.Plan.{instruction}
+use Rattle.vax_table.specs.Built.{instruction}
 use Rattle.vax_table.proofs.Scripts.{trouble_reached}
 use Rattle.vax_table.proofs.plan_laws.troubles_are_reached.Goals as goal
 

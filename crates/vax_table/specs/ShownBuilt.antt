@@ -3,7 +3,7 @@ use Rattle.std.specs.Prelude.{◌≡◌, refl, ℕ, List, [], ◌∷◌, ◌++�
 use Rattle.vax_arch.specs.declared.mode.Intent.TheVariants.{Read}
 use Rattle.vax_table.specs.Arithmetic.{alu_of}
 use Rattle.vax_table.specs.Fetch.{decided, fetched}
-use Rattle.vax_table.specs.Plan.{Meant, act_of, branched_by, computed, computed_by, decremented_by, instruction, moved_to_register}
+use Rattle.vax_table.specs.Built.{Meant, act_of, branched_by, computed, computed_by, decremented_by, instruction, moved_to_register}
 use Rattle.vax_table.specs.Reading.{decoded_at, indexed_at, operand_at, specifier_at, specifier_by}
 use Rattle.vax_table.specs.Rows.{row_of}
 use Rattle.vax_table.specs.Script.{At, Past, Space, Test, Trouble, Unbuilt, outcome, reached}

@@ -1,0 +1,77 @@
+-- PUSHR and POPR; procedures and their frames (VAX Architecture Reference Manual: PUSHR, POPR; procedure call
+-- instructions). A frame is from FP on: the handler's longword, one with the stack's alignment, the S flag, the entry
+-- mask and the status word, then AP, FP, PC, and the registers of the mask.
+use Rattle.std.specs.Prelude.{ℕ, ◌+◌, ◌*◌, ◌/◌, ◌%◌, ◌^◌, ◌==◌, Bool, true, false, List, [], ◌∷◌, ◌++◌, if◌then◌else◌, map, slice_index, slice_set}
+use Rattle.vax_arch.specs.declared.mode.Intent.TheVariants.{Read}
+use Rattle.vax_table.specs.Arithmetic.{bit_of}
+use Rattle.vax_table.specs.Branches.{bit}
+use Rattle.vax_table.specs.Effects.{Effect, begun, long_of}
+use Rattle.vax_table.specs.Operand.{place, plus}
+use Rattle.vax_table.specs.Script.{Script, Done, Refuse, Touch, ◌>>=◌, Because}
+use Rattle.vax_table.specs.Stack.{does_name, named_down, named_up, pop_all, push, push_all}
+use Rattle.vax_table.specs.declared.act.Refusal.TheVariants.{Operand}
+use Rattle.vax_table.specs.declared.evaluation.Operands.{Operands}
+
+-- what registers hold
+abbrev pub values_of : List ℕ → List ℕ → List ℕ
+values_of r ns = map (λ n. slice_index r n) ns
+
+-- PUSHR: the registers of mask bits 14 down to 0, SP as it is before the first push
+unfoldable pub registers_pushed : Operands → ℕ → Script Effect
+registers_pushed o psw = push_all (values_of o.r (named_down 15 (long_of o 0))) (begun o psw)
+
+-- POPR: the registers of mask bits 0 up to 14; a popped SP is the value popped
+unfoldable pub registers_popped : Operands → ℕ → Script Effect
+registers_popped o psw =
+    pop_all (named_up 15 0 (long_of o 0)) (place (slice_index o.r 14) o.r) >>= λ p.
+    Done (record (begun o psw) { r = if does_name (long_of o 0) 14 then p.r else slice_set p.r 14 p.at })
+
+-- the entry mask is the word at the procedure; its bits 13:12 are a reserved operand
+abbrev pub with_mask : ℕ → (ℕ → Script Effect) → Script Effect
+with_mask at go_on = Touch Read at 2 (λ mask. if mask / 2 ^ 12 % 4 == 0 then go_on mask else Refuse (Because Operand))
+
+-- the frame's second longword: alignment 31:30, S flag 29, mask 27:16, PSW 15:5
+abbrev pub frame_word : Bool → ℕ → ℕ → ℕ → ℕ
+frame_word is_on_stack mask sp psw = 2 ^ 30 * (sp % 4) + 2 ^ 29 * bit_of is_on_stack + 2 ^ 16 * (mask % 2 ^ 12) + psw / 2 ^ 5 * 2 ^ 5
+
+-- the status word of a procedure: codes and FU 0, T kept, IV and DV from mask bits 14 and 15
+abbrev pub procedure_status : ℕ → ℕ → ℕ
+procedure_status mask psw = 2 ^ 4 * (psw / 2 ^ 4 % 2) + 2 ^ 5 * (mask / 2 ^ 14 % 2) + 2 ^ 7 * (mask / 2 ^ 15 % 2)
+
+-- the longwords of a frame in the order in which they are pushed
+abbrev pub frame : Bool → ℕ → Effect → List ℕ
+frame is_on_stack mask e =
+    values_of e.r (named_down 12 mask)
+    ++ slice_index e.r 15 ∷ slice_index e.r 13 ∷ slice_index e.r 12 ∷ frame_word is_on_stack mask (slice_index e.r 14) e.psw ∷ 0 ∷ []
+
+-- a procedure is entered with an argument list: SP is aligned, the frame is pushed, FP is SP, and PC is behind the mask
+unfoldable pub entered : Bool → ℕ → ℕ → ℕ → Effect → Script Effect
+entered is_on_stack procedure mask list e =
+    push_all (frame is_on_stack mask e) (record e { r = slice_set e.r 14 (slice_index e.r 14 / 4 * 4) }) >>= λ f.
+    Done (record f { r = slice_set (slice_set (slice_set f.r 12 list) 13 (slice_index f.r 14)) 15 (plus procedure 2); psw = procedure_status mask f.psw })
+
+-- CALLG: argument list, procedure
+unfoldable pub called_general : Operands → ℕ → Script Effect
+called_general o psw = with_mask (long_of o 1) (λ mask. entered false (long_of o 1) mask (long_of o 0) (begun o psw))
+
+-- CALLS: count, procedure; the count is pushed first, and the argument list is at it
+unfoldable pub called_on_stack : Operands → ℕ → Script Effect
+called_on_stack o psw =
+    with_mask (long_of o 1) (λ mask. push (long_of o 0) (begun o psw) >>= λ e. entered true (long_of o 1) mask (slice_index e.r 14) e)
+
+-- the argument list goes off the stack, where it was on it: the count's longword, and 4 times its low byte
+abbrev pub list_dropped : Bool → ℕ → (ℕ → Effect) → Script Effect
+list_dropped is_on_stack sp made = if is_on_stack then Touch Read sp 4 (λ count. Done (made (plus sp (4 + 4 * (count % 2 ^ 8))))) else Done (made sp)
+
+-- behind the frame's first two longwords; `word` is the second
+abbrev pub frame_left : ℕ → ℕ → Operands → ℕ → Script Effect
+frame_left fp word o psw =
+    pop_all (12 ∷ 13 ∷ 15 ∷ named_up 12 0 (word / 2 ^ 16)) (place (plus fp 8) o.r) >>= λ p.
+    list_dropped (bit 29 word) (plus p.at (word / 2 ^ 30)) (λ sp. record (begun o psw) { r = slice_set p.r 14 sp; psw = word % 2 ^ 8 })
+
+-- RET: the second longword's bits 15:8 are a reserved operand
+unfoldable pub returned : Operands → ℕ → Script Effect
+returned o psw =
+    let fp = slice_index o.r 13 in
+    Touch Read fp 4 (λ handler. Touch Read (plus fp 4) 4 (λ word.
+    if word / 2 ^ 8 % 2 ^ 8 == 0 then frame_left fp word o psw else Refuse (Because Operand)))
