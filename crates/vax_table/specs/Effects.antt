@@ -50,11 +50,11 @@ went_if taken pc e = if taken then went_to pc e else e
 abbrev pub store : ℕ → Width → ℕ → Store
 store va w v = record { va = va; width = w; value = v }
 
--- a result in a register: a byte or a word keeps the upper bits; a quadword goes to Rn and Rn+1
+-- a result's low bits in a register: a byte or a word keeps the upper bits; a quadword goes to Rn and Rn+1
 abbrev pub put_in_register : Width → ℕ → ℕ → List ℕ → List ℕ
 put_in_register Byte n v r = slice_set r n (slice_index r n / 2 ^ 8 * 2 ^ 8 + v % 2 ^ 8)
 put_in_register Word n v r = slice_set r n (slice_index r n / 2 ^ 16 * 2 ^ 16 + v % 2 ^ 16)
-put_in_register Long n v r = slice_set r n v
+put_in_register Long n v r = slice_set r n (v % 2 ^ 32)
 put_in_register Quad n v r = slice_set (slice_set r n (v % 2 ^ 32)) (n + 1) (v / 2 ^ 32)
 
 -- a result at its destination

@@ -1,3 +1,6 @@
+ghost use Rattle.std.specs.Prelude.{◌≡◌, ◌<◌};
+ghost use Rattle.vax_table.specs.Effects.{long_of};
+
 use crate::act::Dest;
 
 /// Why an instruction can't go on: a byte that it refers to isn't valid or may not be used, with its address and
@@ -33,4 +36,14 @@ pub struct Operands {
     pub dests: [Dest; 4],
     /// R0 to R15 with the side effects, and PC behind the instruction.
     pub r: [u32; 16],
+}
+
+impl Operands {
+    /// The operand of a number, from 0 on, as a longword.
+    pub fn long(&self, i: usize) -> u32
+        requires { i < 4 }
+        ensures { result ≡ long_of self.now i }
+    {
+        (self.values[i] % 0x1_0000_0000) as u32
+    }
 }
