@@ -1,7 +1,7 @@
 -- The code's lines say what the table says, opcode by opcode.
 use Rattle.std.specs.Prelude.{map}
 use Rattle.std.specs.List.{range_with_len}
-use Rattle.std.proofs.Common.{◌≡◌, ℕ, ◌<◌, List, Option, None, get_or, length, refl, sym, ap, ◌∙◌, arith}
+use Rattle.std.proofs.Common.{◌≡◌, ℕ, ◌<◌, Bool, true, List, Option, None, get_or, length, refl, sym, ap, ◌∙◌, arith}
 use Rattle.std.proofs.lemmas.List.{get_or-map}
 use Rattle.std.proofs.lemmas.List.FromFn.{get_or-map-range_with_len}
 use Rattle.vax_table.specs.declared.lines.TheConstants.{LINES}
@@ -9,7 +9,7 @@ use Rattle.vax_table.specs.declared.lines.Line.TheVariants.{Unknown}
 use Rattle.vax_table.specs.declared.meanings.TheConstants.{OPERATIONS}
 use Rattle.vax_table.specs.declared.meaning.Operation.{Operation}
 use Rattle.vax_table.specs.declared.meaning.Operation.TheVariants.{Other}
-use Rattle.vax_table.specs.Operations.{operation_of}
+use Rattle.vax_table.specs.Operations.{is_narrow, operation_of}
 use Rattle.vax_table.specs.Rows.{Entry, row_of}
 use Rattle.vax_table.specs.RowViews.{line_view}
 
@@ -35,3 +35,14 @@ operations_are = refl
 
 pub operation_is : (n : ℕ) → n < 256 → get_or OPERATIONS n Other ≡ operation_of n
 operation_is n below = ap (λ (xs : List Operation). get_or xs n Other) operations_are ∙ get_or-map-range_with_len operation_of 0 256 n n Other below (omega arith)
+
+-- and it is in a byte, a word or a longword
+narrow_all : map (λ n. is_narrow (operation_of n)) (range_with_len 0 256) ≡ map (λ n. true) (range_with_len 0 256)
+unfolding operation_of
+narrow_all = refl
+
+pub operation_narrow : (n : ℕ) → n < 256 → is_narrow (operation_of n) ≡ true
+operation_narrow n below =
+    sym (get_or-map-range_with_len (λ k. is_narrow (operation_of k)) 0 256 n n true below (omega arith))
+    ∙ ap (λ (xs : List Bool). get_or xs n true) narrow_all
+    ∙ get_or-map-range_with_len (λ k. true) 0 256 n n true below (omega arith)

@@ -1,5 +1,5 @@
 -- Branches, loops, CASE, and subroutines (VAX Architecture Reference Manual: control instructions).
-use Rattle.std.specs.Prelude.{ℕ, ◌+◌, ◌-◌, ◌*◌, ◌/◌, ◌%◌, ◌^◌, ◌==◌, Bool, true, false, not, ◌||◌, nat_le, nat_lt, pos, int_lt, int_le, Option, Some, None, if◌then◌else◌, slice_index, slice_set}
+use Rattle.std.specs.Prelude.{ℕ, ◌+◌, ◌-◌, ◌*◌, ◌/◌, ◌%◌, ◌^◌, ◌==◌, Bool, true, false, not, ◌||◌, nat_le, nat_lt, bit_and, bit_or, pos, int_lt, int_le, Option, Some, None, if◌then◌else◌, slice_index, slice_set}
 use Rattle.std.specs.Int.{int_div_euclid}
 use Rattle.vv_base.specs.declared.width.Width.{Width}
 use Rattle.vv_base.specs.declared.width.Width.TheVariants.{Byte, Long}
@@ -120,10 +120,10 @@ comes_out wanted is = if wanted then is else not is
 unfoldable pub branched_on_low_bit : Bool → Operands → ℕ → Effect
 branched_on_low_bit on o psw = went_if (comes_out on (bit 0 (long_of o 0))) (long_of o 1) (begun o psw)
 
--- a number with bit k as given
+-- a longword with bit k as given
 abbrev pub with_bit : Bool → ℕ → ℕ → ℕ
-with_bit true k n = if bit k n then n else n + 2 ^ k
-with_bit false k n = if bit k n then n - 2 ^ k else n
+with_bit true k n = bit_or n (2 ^ k)
+with_bit false k n = bit_and n (2 ^ 32 - 1 - 2 ^ k)
 
 -- the bit is made what is wanted, if anything is
 abbrev pub bit_made : Option Bool → Dest → Width → ℕ → ℕ → Effect → Effect

@@ -1,9 +1,9 @@
 -- What each instruction does behind its operands, in the order of the instruction table
 -- (VAX Architecture Reference Manual: integer arithmetic and logical instructions; control instructions; procedure
 -- call instructions; miscellaneous instructions).
-use Rattle.std.specs.Prelude.{ℕ, ◌-◌, true, false, nat_le, ◌==◌, List, [], ◌∷◌, Option, Some, None, if◌then◌else◌, slice_get}
+use Rattle.std.specs.Prelude.{ℕ, ◌-◌, Bool, true, false, nat_le, ◌==◌, List, [], ◌∷◌, Option, Some, None, if◌then◌else◌, slice_get}
 use Rattle.vv_base.specs.declared.width.Width.{Width}
-use Rattle.vv_base.specs.declared.width.Width.TheVariants.{Byte, Word, Long}
+use Rattle.vv_base.specs.declared.width.Width.TheVariants.{Byte, Word, Long, Quad}
 use Rattle.vax_arch.specs.declared.mode.Intent.TheVariants.{Read, Write}
 use Rattle.vax_table.specs.declared.answer.AluOp.TheVariants.{Add, Sub, AddCarry, SubBorrow, Mul, Div, Bis, Bic, Xor, Mneg, Mcom, Move, Cmp, Bit, Tst, Ash, Rot, Narrow}
 use Rattle.vax_table.specs.declared.meaning.Condition.TheVariants as conditions
@@ -150,3 +150,16 @@ operation_of n =
     in_operations n 0x80 (arithmetic_operations Byte) (in_operations n 0xa0 (arithmetic_operations Word) (in_operations n 0xc0 (arithmetic_operations Long)
     (in_operations n 0x90 (move_operations Byte) (in_operations n 0xb0 (move_operations Word) (in_operations n 0xd0 (move_operations Long)
     (in_operation_lines n other_operations))))))
+
+-- operations of the arithmetic work in a byte, a word or a longword
+abbrev pub is_narrow_width : Width → Bool
+is_narrow_width Byte = true
+is_narrow_width Word = true
+is_narrow_width Long = true
+is_narrow_width Quad = false
+
+abbrev pub is_narrow : Operation → Bool
+is_narrow (Compute op w inputs target) = is_narrow_width w
+is_narrow (AddAndCompare w) = is_narrow_width w
+is_narrow (Case w) = is_narrow_width w
+is_narrow operation = true

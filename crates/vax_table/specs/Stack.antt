@@ -19,10 +19,14 @@ abbrev pub push_all : List ℕ → Effect → Script Effect
 push_all [] e = Done e
 push_all (v ∷ vs) e = push v e >>= λ next. push_all vs next
 
--- longwords are popped into these registers, one after another, from an address that goes up by 4
+-- a longword is popped into a register, from an address that goes up by 4
+unfoldable pub pop : ℕ → Place → Script Place
+pop n p = Touch Read p.at 4 (λ v. Done (place (plus p.at 4) (slice_set p.r n v)))
+
+-- longwords are popped into these registers, one after another
 abbrev pub pop_all : List ℕ → Place → Script Place
 pop_all [] p = Done p
-pop_all (n ∷ ns) p = Touch Read p.at 4 (λ v. pop_all ns (place (plus p.at 4) (slice_set p.r n v)))
+pop_all (n ∷ ns) p = pop n p >>= λ next. pop_all ns next
 
 -- whether a mask names a register
 abbrev pub does_name : ℕ → ℕ → Bool

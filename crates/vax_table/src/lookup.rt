@@ -1,5 +1,5 @@
-ghost use Rattle.std.specs.Prelude.{◌≡◌};
-ghost use Rattle.vax_table.specs.Operations.{operation_of};
+ghost use Rattle.std.specs.Prelude.{◌≡◌, true};
+ghost use Rattle.vax_table.specs.Operations.{is_narrow, operation_of};
 ghost use Rattle.vax_table.specs.RowViews.{line_view, row_views};
 ghost use Rattle.vax_table.specs.Rows.{row_of};
 
@@ -58,7 +58,8 @@ pub fn row(opcode: u8) -> Option<Row>
 /// What the instruction of an opcode does behind its operands; `Other` exactly where no instruction has the opcode, or
 /// it is a sensitive one.
 pub fn operation(opcode: u8) -> Operation
-    ensures { result ≡ operation_of opcode }
+    ensures value { result ≡ operation_of opcode }
+    ensures narrow { is_narrow result ≡ true }
 {
     OPERATIONS[usize::from(opcode)]
 }

@@ -1,0 +1,127 @@
+ghost use Rattle.std.specs.Prelude.{◌≡◌, ◌≢◌, ◌<◌, ◌^◌};
+ghost use Rattle.vax_table.specs.Branches.{bit, bit_in, bit_intent, bit_made, bit_tested, branched, branched_on_bit, branched_on_low_bit, byte_of_bit, called_subroutine, cased, comes_out, holds, left_subroutine, with_bit};
+ghost use Rattle.vax_table.specs.Effects.{effect, effects};
+ghost use Rattle.vax_table.specs.Operand.{extended};
+ghost use Rattle.vax_table.specs.Script.{number_at, outcome};
+ghost use Rattle.vax_table.specs.Troubles.{told};
+
+use crate::stack::push;
+use vax_alu::{AluOp, alu};
+use vax_operand::{Dest, Operands, Space, Trouble};
+use vax_table::Condition;
+use vax_table::effect::Plan;
+use vv_base::Width;
+
+/// Whether bit k of a status word is set.
+fn has(psw: u8, k: u32) -> bool
+    requires { k < 8 }
+    ensures { result ≡ bit k psw }
+{
+    (psw >> k) % 2 == 1
+}
+
+/// Whether the condition codes meet a condition.
+pub fn holds(condition: Condition, psw: u8) -> bool
+    ensures { result ≡ holds condition psw }
+{
+    let (c, v, z, n) = (has(psw, 0), has(psw, 1), has(psw, 2), has(psw, 3));
+    match condition {
+        Condition::Always => true,
+        Condition::NotEqual => !z,
+        Condition::Equal => z,
+        Condition::Greater => !(n || z),
+        Condition::LessOrEqual => n || z,
+        Condition::GreaterOrEqual => !n,
+        Condition::Less => n,
+        Condition::GreaterUnsigned => !(c || z),
+        Condition::LessOrEqualUnsigned => c || z,
+        Condition::OverflowClear => !v,
+        Condition::OverflowSet => v,
+        Condition::CarryClear => !c,
+        Condition::CarrySet => c,
+    }
+}
+
+/// A branch, and JMP.
+#[tactic(auto, unfolding(vax_table::specs::Branches::branched))]
+pub fn branch(condition: Condition, o: &Operands, psw: u8) -> Plan
+    ensures { effect result ≡ branched condition o.now psw }
+{
+    let mut plan = Plan::begun(o, psw);
+    plan.go_if(holds(condition, psw), o.long(0));
+    plan
+}
+
+/// BSB and JSB.
+#[tactic(auto, unfolding(vax_table::specs::Branches::called_subroutine), using(vax_table::proofs::Scripts::binds))]
+pub fn call_subroutine<S: Space>(space: &S, o: &Operands, psw: u8) -> Result<Plan, Trouble>
+    ensures { effects result ≡ outcome (S.space space.now) (called_subroutine o.now psw) }
+{
+    let mut plan = Plan::begun(o, psw);
+    push(space, &mut plan, o.r[15])?;
+    plan.go_to(o.long(0));
+    Ok(plan)
+}
+
+/// RSB.
+#[tactic(auto, unfolding(vax_table::specs::Branches::left_subroutine))]
+pub fn leave_subroutine<S: Space>(space: &S, o: &Operands, psw: u8) -> Result<Plan, Trouble>
+    ensures { effects result ≡ outcome (S.space space.now) (left_subroutine o.now psw) }
+{
+    let sp = o.r[14];
+    let pc = space.read(sp, Width::Long)? as u32;
+    let mut plan = Plan::begun(o, psw);
+    plan.r[14] = sp.wrapping_add(4);
+    plan.go_to(pc);
+    Ok(plan)
+}
+
+/// A displacement of a word, sign-extended to 32 bits.
+fn extended(word: u64) -> u32
+    requires { word < 2 ^ 16 }
+    ensures { result ≡ extended 2 word }
+{
+    if word < 0x8000 {
+        word as u32
+    } else {
+        (word + 0xFFFF_0000) as u32
+    }
+}
+
+/// CASE in a width.
+#[tactic(auto, unfolding(vax_table::specs::Branches::cased))]
+pub fn case<S: Space>(space: &S, w: Width, o: &Operands, psw: u8) -> Result<Plan, Trouble>
+    requires { w ≢ Width.Quad }
+    ensures { effects result ≡ outcome (S.space space.now) (cased w o.now psw) }
+{
+    let t = alu(AluOp::Sub, o.long(1), o.long(0), w, psw).value;
+    let limit = o.long(2);
+    let table = o.r[15];
+    let mut plan = Plan::begun(o, alu(AluOp::Cmp, t, limit, w, psw).psw);
+    if t <= limit {
+        let entry = table.wrapping_add(t.wrapping_mul(2));
+        let displacement = space.read(entry, Width::Word)?;
+        plan.go_to(table.wrapping_add(extended(displacement)));
+    } else {
+        let size = limit.wrapping_add(1).wrapping_mul(2);
+        plan.go_to(table.wrapping_add(size));
+    }
+    Ok(plan)
+}
+
+/// Whether a test comes out as it is to.
+pub fn comes_out(wanted: bool, is: bool) -> bool
+    ensures { result ≡ comes_out wanted is }
+{
+    wanted == is
+}
+
+/// BLBS and BLBC.
+#[tactic(auto, unfolding(vax_table::specs::Branches::branched_on_low_bit))]
+pub fn branch_on_low_bit(on: bool, o: &Operands, psw: u8) -> Plan
+    ensures { effect result ≡ branched_on_low_bit on o.now psw }
+{
+    let mut plan = Plan::begun(o, psw);
+    plan.go_if(comes_out(on, o.long(0) % 2 == 1), o.long(1));
+    plan
+}

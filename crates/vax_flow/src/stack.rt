@@ -1,0 +1,128 @@
+ghost use Rattle.std.specs.Prelude.{◌≡◌, ◌<◌, ◌≤◌, ◌+◌, slice_index, slice_set};
+ghost use Rattle.arrayvec.specs.ArrayVec.{array_vec_len};
+ghost use Rattle.vax_table.specs.Calls.{registers_popped, registers_pushed, values_of};
+ghost use Rattle.vax_table.specs.Computing.{pushed};
+ghost use Rattle.vax_table.specs.Effects.{effect, effects};
+ghost use Rattle.vax_table.specs.Script.{outcome};
+ghost use Rattle.vax_table.specs.Stack.{does_name, named_down, named_up, pop, pop_all, push, push_all};
+ghost use Rattle.vax_flow.specs.Stepped.{left};
+
+use vax_alu::{AluOp, alu};
+use vax_operand::{Operands, Space, Trouble};
+use vax_table::effect::Plan;
+use vax_table::evaluation::Place;
+use vv_base::Width;
+
+/// Pushes a longword.
+#[tactic(auto, unfolding(vax_table::specs::Stack::push))]
+pub fn push<S: Space>(space: &S, plan: &mut Plan, v: u32) -> Result<(), Trouble>
+    requires room { array_vec_len plan.old.writes < 20 }
+    ensures pushed { left result (effect plan.new) ≡ outcome (S.space space.now) (push v (effect plan.old)) }
+    ensures stores { array_vec_len plan.new.writes ≤ array_vec_len plan.old.writes + 1 }
+{
+    let sp = plan.r[14].wrapping_sub(4);
+    space.check_write(sp, Width::Long)?;
+    plan.r[14] = sp;
+    plan.store(sp, Width::Long, u64::from(v));
+    Ok(())
+}
+
+/// Pops a longword into a register.
+#[tactic(auto, unfolding(vax_table::specs::Stack::pop))]
+pub fn pop<S: Space>(space: &S, place: &mut Place, n: usize) -> Result<(), Trouble>
+    requires { n < 16 }
+    ensures { left result place.new ≡ outcome (S.space space.now) (pop n place.old) }
+{
+    let v = space.read(place.at, Width::Long)? as u32;
+    place.r[n] = v;
+    place.at = place.at.wrapping_add(4);
+    Ok(())
+}
+
+/// Whether a mask names a register.
+fn does_name(mask: u32, n: u32) -> bool
+    requires { n < 32 }
+    ensures { result ≡ does_name mask n }
+{
+    (mask >> n) % 2 == 1
+}
+
+/// Pushes those of the registers below `count` that a mask names, from the highest down.
+#[tactic(auto, unfolding(vax_table::specs::Stack::named_down), using(vax_table::proofs::Scripts::binds))]
+pub fn push_named<S: Space>(
+    space: &S,
+    plan: &mut Plan,
+    r: &[u32; 16],
+    count: u32,
+    mask: u32,
+) -> Result<(), Trouble>
+    requires count { count ≤ 15 }
+    requires room { array_vec_len plan.old.writes + count ≤ 20 }
+    ensures pushed { left result (effect plan.new) ≡ outcome (S.space space.now) (push_all (values_of r.now (named_down count mask)) (effect plan.old)) }
+    ensures stores { array_vec_len plan.new.writes ≤ array_vec_len plan.old.writes + count }
+{
+    for n in (0..count).rev() {
+        if does_name(mask, n) {
+            push(space, plan, r[n as usize])?;
+        }
+    }
+    Ok(())
+}
+
+/// Pops those of the registers below `count` that a mask names, from the lowest up.
+#[tactic(auto, using(crate::proofs::Pops::pops))]
+pub fn pop_named<S: Space>(
+    space: &S,
+    place: &mut Place,
+    count: u32,
+    mask: u32,
+) -> Result<(), Trouble>
+    requires { count ≤ 15 }
+    ensures { left result place.new ≡ outcome (S.space space.now) (pop_all (named_up count 0 mask) place.old) }
+{
+    for n in 0..count {
+        if does_name(mask, n) {
+            pop(space, place, n as usize)?;
+        }
+    }
+    Ok(())
+}
+
+/// PUSHL and PUSHA.
+#[tactic(auto, unfolding(vax_table::specs::Computing::pushed))]
+pub fn push_operand<S: Space>(space: &S, o: &Operands, psw: u8) -> Result<Plan, Trouble>
+    ensures { effects result ≡ outcome (S.space space.now) (pushed o.now psw) }
+{
+    let v = o.long(0);
+    let mut plan = Plan::begun(o, alu(AluOp::Move, v, 0, Width::Long, psw).psw);
+    push(space, &mut plan, v)?;
+    Ok(plan)
+}
+
+/// PUSHR.
+#[tactic(auto, unfolding(vax_table::specs::Calls::registers_pushed))]
+pub fn push_registers<S: Space>(space: &S, o: &Operands, psw: u8) -> Result<Plan, Trouble>
+    ensures { effects result ≡ outcome (S.space space.now) (registers_pushed o.now psw) }
+{
+    let mut plan = Plan::begun(o, psw);
+    push_named(space, &mut plan, &o.r, 15, o.long(0))?;
+    Ok(plan)
+}
+
+/// POPR. A popped SP is the value that was popped.
+#[tactic(auto, unfolding(vax_table::specs::Calls::registers_popped), using(vax_table::proofs::Scripts::binds))]
+pub fn pop_registers<S: Space>(space: &S, o: &Operands, psw: u8) -> Result<Plan, Trouble>
+    ensures { effects result ≡ outcome (S.space space.now) (registers_popped o.now psw) }
+{
+    let mask = o.long(0);
+    let r = o.r;
+    let mut place = Place { at: o.r[14], r };
+    pop_named(space, &mut place, 15, mask)?;
+    if !does_name(mask, 14) {
+        place.r[14] = place.at;
+    }
+    let mut plan = Plan::begun(o, psw);
+    let r = place.r;
+    plan.r = r;
+    Ok(plan)
+}
