@@ -12,3 +12,6 @@ pub mod Claims
 pub mod OperandClaims
 pub mod NextPc
 pub mod Numbers
+pub mod Targets
+pub mod Widths
+pub mod Plans

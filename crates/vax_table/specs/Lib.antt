@@ -25,3 +25,5 @@ pub mod Computing
 pub mod Branches
 pub mod Calls
 pub mod Plan
+pub mod PlanLaws
+pub mod ShownPlan
