@@ -8,7 +8,7 @@ use Rattle.vv_base.specs.declared.width.Width.TheVariants.{Byte, Word, Long, Qua
 use Rattle.vv_base.specs.Width.{size_of}
 use Rattle.vax_table.specs.Arithmetic.{alu_of}
 use Rattle.vax_table.specs.Branches.{added_and_compared, added_one, bit, bit_in, bit_intent, bit_made, branched, branched_on_bit, branched_on_low_bit, byte_of_bit, called_subroutine, cased, comes_out, holds, left_subroutine, looped, subtracted_one}
-use Rattle.vax_table.specs.Calls.{called_general, called_on_stack, entered, frame, frame_left, list_dropped, registers_popped, registers_pushed, returned, values_of, with_mask}
+use Rattle.vax_table.specs.Calls.{aligned, called_general, called_on_stack, entered, entry_mask, frame_end, frame_left, frame_popped, list_dropped, registers_popped, registers_pushed, returned, values_of}
 use Rattle.vax_table.specs.Claims.{addresses, AreAmong, AreClaimed, Holds, IsClaimed, claims, if_write}
 use Rattle.vax_table.specs.Computing.{computed, moved_quad, pushed, status_cleared, status_set}
 use Rattle.vax_table.specs.Effects.{Effect, begun, dest_of, long_of, put, put_in_register, quad_of, store, went_if}
@@ -19,7 +19,7 @@ use Rattle.vax_table.specs.PlanLaws.{StoresAreClaimed}
 use Rattle.vax_table.specs.Rows.{row_of}
 use Rattle.vax_table.specs.Script.{Script, Done, Refuse, Touch, ◌>>=◌, Space, outcome}
 use Rattle.vax_table.specs.Spelling.{Instruction}
-use Rattle.vax_table.specs.Stack.{does_name, named_down, named_up, pop_all, push, push_all}
+use Rattle.vax_table.specs.Stack.{does_name, named_down, named_up, pop, pop_all, push, push_all}
 use Rattle.vax_table.specs.declared.act.Dest.{Dest}
 use Rattle.vax_table.specs.declared.act.Dest.TheVariants.{Nowhere, Register, Memory}
 use Rattle.vax_table.specs.declared.effect.Store.{Store}
@@ -110,9 +110,13 @@ push_all_sound : (n k m : ℕ) (cs vs : List ℕ) (e : Effect) → length vs + n
 push_all_sound n k m cs [] e h s = fewer n k m cs e.writes e.r (omega arith) s
 push_all_sound n k m cs (v ∷ vs) e h s = holds-bind (Sound (suc n) m) (Sound k m) cs (push v e) _ (push_sound n m cs v e s) (λ ds f g. push_all_sound (suc n) k m ds vs f (omega arith) g)
 
+pop_wide : (m : ℕ) (cs : List ℕ) (n : ℕ) (p : Place) → length p.r ≡ m → Holds (PlaceIsWide m) cs (pop n p)
+unfolding pop
+pop_wide m cs n p h = λ v. set_wide m p.r n v h
+
 pop_all_wide : (m : ℕ) (cs ns : List ℕ) (p : Place) → length p.r ≡ m → Holds (PlaceIsWide m) cs (pop_all ns p)
 pop_all_wide m cs [] p h = h
-pop_all_wide m cs (n ∷ ns) p h = λ v. pop_all_wide m (cs ++ []) ns (place (plus p.at 4) (slice_set p.r n v)) (set_wide m p.r n v h)
+pop_all_wide m cs (n ∷ ns) p h = holds-bind (PlaceIsWide m) (PlaceIsWide m) cs (pop n p) _ (pop_wide m cs n p h) (λ ds next g. pop_all_wide m ds ns next g)
 
 named_length : (n mask : ℕ) → length (named_down n mask) ≤ n
 unfolding named_down
@@ -223,41 +227,49 @@ registers_popped_sound m cs o psw h =
     (pop_all_wide m cs (named_up 15 0 (long_of o 0)) (place (slice_index o.r 14) o.r) h)
     (λ ds p e. none_stored 0 m ds _ (if_both (λ (r : List ℕ). length r ≡ m) (does_name (long_of o 0) 14) _ _ (λ t. e) (λ t. set_wide m p.r 14 p.at e)))
 
-frame_length : (is_on_stack : Bool) (mask : ℕ) (e : Effect) → length (frame is_on_stack mask e) ≤ 17
-frame_length is_on_stack mask e =
-    let few : length (values_of e.r (named_down 12 mask)) ≤ 12 = values_length e.r 12 mask in
-    omega (arith, length-append {A = ℕ})
-
 entered_sound : (n k m : ℕ) (cs : List ℕ) (is_on_stack : Bool) (procedure mask list : ℕ) (e : Effect) → 17 + n ≤ k → Sound n m cs e → Holds (Sound k m) cs (entered is_on_stack procedure mask list e)
 unfolding entered
 entered_sound n k m cs is_on_stack procedure mask list e h s =
-    let few : length (frame is_on_stack mask e) ≤ 17 = frame_length is_on_stack mask e in
-    holds-bind (Sound k m) (Sound k m) cs (push_all (frame is_on_stack mask e) _) _
-    (push_all_sound n k m cs (frame is_on_stack mask e) _ (omega arith) (set n m cs e.writes e.r 14 _ s))
-    (λ ds f g. set k m ds f.writes _ 15 _ (set k m ds f.writes _ 13 _ (set k m ds f.writes f.r 12 list g)))
+    let few : length (values_of e.r (named_down 12 mask)) ≤ 12 = values_length e.r 12 mask in
+    holds-bind (Sound (12 + n) m) (Sound k m) cs (push_all (values_of e.r (named_down 12 mask)) (aligned e)) _
+    (push_all_sound n (12 + n) m cs (values_of e.r (named_down 12 mask)) (aligned e) (omega arith) (set n m cs e.writes e.r 14 _ s))
+    (λ ds f g. holds-bind (Sound k m) (Sound k m) ds (push_all (frame_end is_on_stack mask e) f) _
+    (push_all_sound (12 + n) k m ds (frame_end is_on_stack mask e) f (omega arith) g)
+    (λ xs l t. set k m xs l.writes _ 15 _ (set k m xs l.writes _ 13 _ (set k m xs l.writes l.r 12 list t))))
 
-mask_sound : (k m : ℕ) (cs : List ℕ) (at : ℕ) (go_on : ℕ → Script Effect) → ((mask : ℕ) (ds : List ℕ) → Holds (Sound k m) ds (go_on mask)) → Holds (Sound k m) cs (with_mask at go_on)
-mask_sound k m cs at go_on h = λ mask. if_both (Holds (Sound k m) (cs ++ [])) (eqb (mask / 2 ^ 12 % 4) 0) _ _ (λ t. h mask (cs ++ [])) (λ t. tt)
+abbrev anything : List ℕ → ℕ → Type 0
+anything cs v = Unit {0}
+
+mask_holds : (cs : List ℕ) (at : ℕ) → Holds anything cs (entry_mask at)
+mask_holds cs at = λ mask. if_both (Holds anything (cs ++ [])) (eqb (mask / 2 ^ 12 % 4) 0) _ _ (λ t. tt) (λ t. tt)
 
 general_sound : (m : ℕ) (cs : List ℕ) (o : Operands) (psw : ℕ) → length o.r ≡ m → Holds (Sound 18 m) cs (called_general o psw)
 unfolding called_general
-general_sound m cs o psw h = mask_sound 18 m cs (long_of o 1) _ (λ mask ds. entered_sound 0 18 m ds false (long_of o 1) mask (long_of o 0) (begun o psw) (omega arith) (none_stored 0 m ds o.r h))
+general_sound m cs o psw h =
+    holds-bind anything (Sound 18 m) cs (entry_mask (long_of o 1)) _ (mask_holds cs (long_of o 1))
+    (λ ds mask t. entered_sound 0 18 m ds false (long_of o 1) mask (long_of o 0) (begun o psw) (omega arith) (none_stored 0 m ds o.r h))
 
 on_stack_sound : (m : ℕ) (cs : List ℕ) (o : Operands) (psw : ℕ) → length o.r ≡ m → Holds (Sound 18 m) cs (called_on_stack o psw)
 unfolding called_on_stack
-on_stack_sound m cs o psw h = mask_sound 18 m cs (long_of o 1) _ (λ mask ds.
+on_stack_sound m cs o psw h =
+    holds-bind anything (Sound 18 m) cs (entry_mask (long_of o 1)) _ (mask_holds cs (long_of o 1)) (λ ds mask t.
     holds-bind (Sound 1 m) (Sound 18 m) ds (push (long_of o 0) (begun o psw)) _ (push_sound 0 m ds (long_of o 0) (begun o psw) (none_stored 0 m ds o.r h))
     (λ xs e s. entered_sound 1 18 m xs true (long_of o 1) mask (slice_index e.r 14) e (omega arith) s))
 
-list_sound : (m : ℕ) (cs : List ℕ) (is_on_stack : Bool) (sp : ℕ) (made : ℕ → Effect) → ((ds : List ℕ) (v : ℕ) → Sound 0 m ds (made v)) → Holds (Sound 0 m) cs (list_dropped is_on_stack sp made)
-list_sound m cs true sp made h = λ count. h (cs ++ []) _
-list_sound m cs false sp made h = h cs sp
+list_holds : (cs : List ℕ) (is_on_stack : Bool) (sp : ℕ) → Holds anything cs (list_dropped is_on_stack sp)
+list_holds cs true sp = λ count. tt
+list_holds cs false sp = tt
+
+frame_wide : (m : ℕ) (cs : List ℕ) (mask : ℕ) (p : Place) → length p.r ≡ m → Holds (PlaceIsWide m) cs (frame_popped mask p)
+unfolding frame_popped
+frame_wide m cs mask p h = pop_all_wide m cs (12 ∷ 13 ∷ 15 ∷ named_up 12 0 mask) p h
 
 frame_left_sound : (m : ℕ) (cs : List ℕ) (fp word : ℕ) (o : Operands) (psw : ℕ) → length o.r ≡ m → Holds (Sound 0 m) cs (frame_left fp word o psw)
 frame_left_sound m cs fp word o psw h =
-    holds-bind (PlaceIsWide m) (Sound 0 m) cs (pop_all (12 ∷ 13 ∷ 15 ∷ named_up 12 0 (word / 2 ^ 16)) (place (plus fp 8) o.r)) _
-    (pop_all_wide m cs (12 ∷ 13 ∷ 15 ∷ named_up 12 0 (word / 2 ^ 16)) (place (plus fp 8) o.r) h)
-    (λ ds p e. list_sound m ds (bit 29 word) (plus p.at (word / 2 ^ 30)) (λ sp. record (begun o psw) { r = slice_set p.r 14 sp; psw = word % 2 ^ 8 }) (λ xs sp. none_stored 0 m xs _ (set_wide m p.r 14 sp e)))
+    holds-bind (PlaceIsWide m) (Sound 0 m) cs (frame_popped (word / 2 ^ 16) (place (plus fp 8) o.r)) _
+    (frame_wide m cs (word / 2 ^ 16) (place (plus fp 8) o.r) h) (λ ds p e.
+    holds-bind anything (Sound 0 m) ds (list_dropped (bit 29 word) (plus p.at (word / 2 ^ 30))) _ (list_holds ds (bit 29 word) (plus p.at (word / 2 ^ 30)))
+    (λ xs sp t. none_stored 0 m xs _ (set_wide m p.r 14 sp e)))
 
 returned_sound : (m : ℕ) (cs : List ℕ) (o : Operands) (psw : ℕ) → length o.r ≡ m → Holds (Sound 0 m) cs (returned o psw)
 unfolding returned

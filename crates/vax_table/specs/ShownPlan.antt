@@ -5,7 +5,7 @@ use Rattle.vax_arch.specs.declared.mode.Intent.{Intent}
 use Rattle.vax_arch.specs.declared.mode.Intent.TheVariants.{Read, Write}
 use Rattle.vax_table.specs.Arithmetic.{alu_of}
 use Rattle.vax_table.specs.Branches.{branched_on_bit, cased}
-use Rattle.vax_table.specs.Calls.{called_on_stack, entered, registers_popped, registers_pushed, returned}
+use Rattle.vax_table.specs.Calls.{called_on_stack, entered, frame_popped, registers_popped, registers_pushed, returned}
 use Rattle.vax_table.specs.Claims.{claims}
 use Rattle.vax_table.specs.Computing.{computed}
 use Rattle.vax_table.specs.Effects.{Effect, store}
@@ -17,7 +17,7 @@ use Rattle.vax_table.specs.Script.{Absent, At, Because, Refusing, Script, Space,
 use Rattle.vax_table.specs.ShownOperand.{instruction}
 use Rattle.vax_table.specs.Spelled.{value_size}
 use Rattle.vax_table.specs.Spelling.{Instruction, unindexed}
-use Rattle.vax_table.specs.Stack.{named_down, named_up, push}
+use Rattle.vax_table.specs.Stack.{named_down, named_up, pop, push}
 use Rattle.vax_table.specs.declared.act.Refusal.TheVariants as refusals
 
 -- the PSL 041F0000, and reading accessible below 2000
@@ -69,7 +69,7 @@ pub returns_from_it : outcome framed (doing (instruction 0x04 []) (registers 0 0
   writes = [];
   trap = None;
 })
-unfolding plan_of performed operation_of row_of operands_of returned named_up
+unfolding plan_of performed operation_of row_of operands_of returned frame_popped pop named_up
 returns_from_it = refl
 
 -- DIVL2 #0,R1 of 7 keeps it and sets V, with trap 2, though IV is clear
@@ -175,7 +175,7 @@ pushes_sp = refl
 
 -- POPR #^M<R0,SP> from FF8: R0 is the longword there, and SP the next one
 pub pops_sp : outcome framed (doing (instruction 0xba (unindexed 8 15 0x4001 ∷ [])) (registers 5 0 0 0 0xff8 0x200) 0) ≡ Ok (record { r = registers 0x20b 0 0 0 0 0x204; psw = 0; writes = []; trap = None })
-unfolding plan_of performed operation_of row_of operands_of operand_of read_operand value_size registers_popped named_up
+unfolding plan_of performed operation_of row_of operands_of operand_of read_operand value_size registers_popped pop named_up
 pops_sp = refl
 
 -- BBSS R0,(R1), with R0 -9 and R1 1000: bit 7 of the byte at FFE is clear, and is set
