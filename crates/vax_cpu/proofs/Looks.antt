@@ -1,5 +1,5 @@
 -- What the bytes fetched so far decide.
-use Rattle.std.proofs.Common.{ℕ, zero, suc, ◌≡◌, ◌<◌, ◌+◌, ◌-◌, ◌%◌, ◌^◌, arith, List, [], ◌∷◌, ◌++◌, length, slice_index, Result, Ok, Err, ap, ◌∙◌, sym}
+use Rattle.std.proofs.Common.{ℕ, zero, suc, ◌≡◌, ◌<◌, ◌+◌, ◌-◌, ◌%◌, ◌^◌, arith, List, [], ◌∷◌, ◌++◌, length, Result, Ok, Err, ap, ◌∙◌, sym}
 use Rattle.vax_arch.specs.declared.mode.Intent.TheVariants.{Read}
 use Rattle.vax_decode.specs.Decoding.{IsWhole, IsAnswer}
 use Rattle.vax_decode.specs.declared.outcome.Decode.TheVariants.{Fault}
@@ -7,10 +7,13 @@ use Rattle.vax_decode.specs.declared.outcome.DecodeFault.{DecodeFault}
 use Rattle.vax_decode.specs.declared.outcome.DecodeFault.TheVariants.{Opcode, Addressing}
 use Rattle.vax_hw.specs.Real.{exits, exit_of}
 use Rattle.vax_hw.specs.declared.world.Exit.{Exit}
-use Rattle.vax_hw.specs.declared.world.Exit.TheVariants.{NotBuilt}
+use Rattle.vax_hw.specs.declared.world.Exit.TheVariants.{Refused}
+use Rattle.vax_cpu.specs.Fetched.{refusal_of}
+use Rattle.vax_table.specs.declared.act.Refusal.{Refusal}
+use Rattle.vax_table.specs.declared.act.Refusal.TheVariants as refusals
 use Rattle.vax_table.specs.Fetch.{by_answer, decided}
 use Rattle.vax_table.specs.Reading.{Answer, Whole, Short, Unknown, Reserved, decoded_at}
-use Rattle.vax_table.specs.Script.{Script, Space, Done, Refuse, Unbuilt, Trouble, outcome, bind_result, number_at, with_byte}
+use Rattle.vax_table.specs.Script.{Script, Space, Done, Refuse, Trouble, outcome, bind_result, number_at, with_byte}
 use Rattle.vax_table.specs.Spelling.{Instruction, view}
 use Rattle.vax_table.specs.declared.decoded.Decoded.{Decoded}
 
@@ -28,24 +31,26 @@ whole s (suc n) at bytes told r d some same h e =
     let here : by_answer (decided n at) at bytes (decoded_at bytes) ≡ Done (view d) = ap (λ x. by_answer (decided n at) at bytes (decoded_at x)) (sym same) ∙ whole_by (decided n at) at bytes d (decoded_at told) h in
     ap (λ x. exits (outcome s x)) (sym here) ∙ ap exits e
 
-fault_by : (more : List ℕ → Script Instruction) (at : ℕ) (bytes : List ℕ) (f : DecodeFault) (a : Answer) → IsAnswer (Fault f) a → by_answer more at bytes a ≡ Refuse (Unbuilt (slice_index bytes 0))
+fault_by : (more : List ℕ → Script Instruction) (at : ℕ) (bytes : List ℕ) (f : DecodeFault) (a : Answer) → IsAnswer (Fault f) a → by_answer more at bytes a ≡ Refuse (refusal_of f)
 fault_by more at bytes Opcode a h = ap (by_answer more at bytes) h
 fault_by more at bytes Addressing a h = ap (by_answer more at bytes) h
 
+refused : Refusal → Result Instruction Exit
+refused k = Err (Refused k)
+
 -- a fault ends it too
-pub fault : (s : Space) (n at opcode : ℕ) (bytes told : List ℕ) (r : Result Instruction Trouble) (f : DecodeFault) → 0 < n → told ≡ bytes → IsAnswer (Fault f) (decoded_at told) → opcode ≡ slice_index bytes 0 → outcome s (decided n at bytes) ≡ r → Err (NotBuilt opcode) ≡ exits r
-unfolding decided
-fault s zero at opcode bytes told r f some same h first e = absurd (omega arith)
-fault s (suc n) at opcode bytes told r f some same h first e =
-    let here : by_answer (decided n at) at bytes (decoded_at bytes) ≡ Refuse (Unbuilt (slice_index bytes 0)) = ap (λ x. by_answer (decided n at) at bytes (decoded_at x)) (sym same) ∙ fault_by (decided n at) at bytes f (decoded_at told) h in
-    let stop : ℕ → Result Instruction Exit = λ k. Err (NotBuilt k) in
-    ap stop first ∙ ap (λ x. exits (outcome s x)) (sym here) ∙ ap exits e
+pub fault : (s : Space) (n at : ℕ) (refusal : Refusal) (bytes told : List ℕ) (r : Result Instruction Trouble) (f : DecodeFault) → 0 < n → told ≡ bytes → IsAnswer (Fault f) (decoded_at told) → refusal ≡ refusal_of f → outcome s (decided n at bytes) ≡ r → Err (Refused refusal) ≡ exits r
+unfolding decided refused
+fault s zero at refusal bytes told r f some same h first e = absurd (omega arith)
+fault s (suc n) at refusal bytes told r f some same h first e =
+    let here : by_answer (decided n at) at bytes (decoded_at bytes) ≡ Refuse (refusal_of f) = ap (λ x. by_answer (decided n at) at bytes (decoded_at x)) (sym same) ∙ fault_by (decided n at) at bytes f (decoded_at told) h in
+    ap refused first ∙ ap (λ x. exits (outcome s x)) (sym here) ∙ ap exits e
 
 -- and so do looks that are used up
-pub no_more : (s : Space) (n at opcode : ℕ) (bytes : List ℕ) (r : Result Instruction Trouble) → n ≡ 0 → opcode ≡ slice_index bytes 0 → outcome s (decided n at bytes) ≡ r → Err (NotBuilt opcode) ≡ exits r
+pub no_more : (s : Space) (n at : ℕ) (bytes : List ℕ) (r : Result Instruction Trouble) → n ≡ 0 → outcome s (decided n at bytes) ≡ r → Err (Refused refusals.Instruction) ≡ exits r
 unfolding decided
-no_more s zero at opcode bytes r none first e = let stop : ℕ → Result Instruction Exit = λ k. Err (NotBuilt k) in ap stop first ∙ ap exits e
-no_more s (suc n) at opcode bytes r none first e = absurd (omega arith)
+no_more s zero at bytes r none e = ap exits e
+no_more s (suc n) at bytes r none e = absurd (omega arith)
 
 wraps : (a : ℕ) → (a % 2 ^ 32) % 2 ^ 32 ≡ a % 2 ^ 32
 wraps a = grind arith

@@ -1,17 +1,20 @@
-ghost use Rattle.std.specs.Prelude.{◌≡◌, ◌+◌, ◌*◌, ◌≤◌, ◌<◌, ◌/◌, ◌%◌, ◌^◌, length, IfOk, MatchResult, Ok, Err};
-ghost use Rattle.vax_hw.specs.Machine.{Machine, regs_of, retire, space_of, with_regs, zeros};
-ghost use Rattle.vax_hw.specs.Real.{exits, one, traps, real};
-ghost use Rattle.vax_table.specs.Built.{instruction, Meant};
+ghost use Rattle.std.specs.Prelude.{◌≡◌, ◌+◌, ◌*◌, ◌≤◌, ◌<◌, ◌/◌, ◌%◌, ◌^◌, length, slice_set, IfOk, MatchResult, Ok, Err};
+ghost use Rattle.vv_base.specs.Width.{size_of};
+ghost use Rattle.vax_hw.specs.Machine.{Machine, psw_of, retire, space_of, with_effect, zeros};
+ghost use Rattle.vax_hw.specs.Real.{exits, in_kernel, one, real};
+ghost use Rattle.vax_table.specs.Effects.{effect};
 ghost use Rattle.vax_table.specs.Script.{outcome};
+ghost use Rattle.vax_table.specs.Stores.{all_stored, bytes_stored};
 ghost use Rattle.vax_table.specs.Trail.{term};
-ghost use Rattle.vax_cpu.specs.Meaning.{meant};
+ghost use Rattle.vax_table.specs.Whole.{instruction};
+ghost use Rattle.vax_cpu.specs.Fetched.{found};
 
-use crate::perform::act_of;
-use crate::space::Linear;
+use crate::perform::{Act, carry_out};
+use crate::space::{Linear, size};
 use std::alloc::Global;
 use std::marker::Model;
-use vax_hw::{Exit, Hardware, Mode, Psl, Refusal, Sens, Trapped, World};
-use vax_table::{Act, Regs};
+use vax_exec::{Plan, Store};
+use vax_hw::{Exit, Hardware, Mode, Psl, World};
 use vv_base::{NoMemory, get_u32, put_u32};
 
 /// The machine of the program: so many pages of memory of 512 bytes.
@@ -47,35 +50,45 @@ fn term(pc: u32, opcode: u8, r: &[u32; 16]) -> u64
     sum
 }
 
-fn regs_of(w: &World) -> Regs
-    ensures { result ≡ regs_of w.now }
-{
-    Regs {
-        r: w.r,
-        psw: (w.psl.0 % 256) as u8,
-    }
-}
-
-fn with_regs(w: &World, after: &Regs) -> World
-    ensures { result ≡ with_regs w.now after.now }
+fn with_effect(w: &World, plan: &Plan) -> World
+    ensures { result ≡ with_effect w.now (effect plan.now) }
 {
     let mut world = *w;
-    let r = after.r;
+    let r = plan.r;
+    let psw = plan.psw;
     world.r = r;
-    let psw = after.psw;
     world.psl = Psl(w.psl.0 / 256 * 256 + u32::from(psw));
     world
 }
 
-/// A sensitive instruction traps in virtual kernel mode, and CHM and REI in every mode.
-fn traps(w: &World, t: &Trapped) -> Exit
-    ensures { result ≡ traps w.now t.now }
+/// Stores a byte in a memory, if it has a place for it.
+fn store_byte(memory: &mut [u8], at: usize, byte: u8)
+    ensures { memory.new ≡ slice_set memory.old at byte }
 {
-    let always = matches!(t.op, Sens::Chm(_) | Sens::Rei);
-    if always || w.vmpsl.current() == Mode::Kernel {
-        Exit::Emulate(*t)
-    } else {
-        Exit::Refused(Refusal::Instruction)
+    if at < memory.len() {
+        memory[at] = byte;
+    }
+}
+
+/// Makes one store, byte by byte; what has no place is lost.
+fn store(memory: &mut [u8], base: u32, store: &Store)
+    ensures { memory.new ≡ bytes_stored (λ va. base + va) (size_of store.now.width) store.now.va store.now.value memory.old }
+{
+    let mut va = store.va;
+    let mut rest = store.value;
+    for _left in (0..size(store.width)).rev() {
+        store_byte(memory, base as usize + va as usize, (rest % 256) as u8);
+        va = va.wrapping_add(1);
+        rest /= 256;
+    }
+}
+
+/// Makes stores in order.
+fn store_all(memory: &mut [u8], base: u32, stores: &[Store])
+    ensures { memory.new ≡ all_stored (λ va. base + va) stores.now memory.old }
+{
+    for one in stores {
+        store(memory, base, one);
     }
 }
 
@@ -121,9 +134,9 @@ impl Cpu {
     }
 
     /// The instruction at PC, and what it comes to.
-    #[tactic(auto, unfolding(vax_table::specs::Built::instruction), using(vax_table::proofs::Scripts::binds))]
+    #[tactic(auto, unfolding(vax_table::specs::Whole::instruction), using(vax_table::proofs::Scripts::binds))]
     fn find(&self) -> Result<Found, Exit>
-        ensures { meant result ≡ exits (outcome (space_of self.now) (instruction (regs_of self.now.world))) }
+        ensures { found result ≡ exits (outcome (space_of self.now) (instruction (in_kernel self.now.world) self.now.world.r (psw_of self.now.world))) }
     {
         let pc = self.world.r[15];
         let space = Linear {
@@ -132,29 +145,38 @@ impl Cpu {
             p0lr: self.world.p0lr,
         };
         let decoded = space.fetch(pc)?;
-        let next = pc.wrapping_add(u32::from(decoded.length));
-        let act = act_of(&regs_of(&self.world), &decoded, next)?;
+        let is_kernel = self.world.vmpsl.current() == Mode::Kernel;
+        let act = carry_out(&space, is_kernel, &decoded, &self.world.r, self.world.psl)?;
         Ok(Found {
             opcode: decoded.opcode,
             act,
         })
     }
 
-    /// One instruction; where it doesn't retire, nothing changes.
-    #[tactic(auto, unfolding(vax_hw::specs::Real::one, vax_hw::specs::Machine::retire))]
-    fn step(&mut self) -> Result<(), Exit>
-        ensures { MatchResult result (λ _. one self.old ≡ Ok self.new) (λ e. (one self.old ≡ Err e) × (self.new ≡ self.old)) }
+    /// The machine after an instruction that retired.
+    #[tactic(auto, unfolding(vax_hw::specs::Machine::retire))]
+    fn retire(&mut self, opcode: u8, plan: &Plan)
+        ensures { self.new ≡ retire opcode (effect plan.now) self.old }
+    {
+        let pc = self.world.r[15];
+        self.trail = self.trail.wrapping_add(term(pc, opcode, &plan.r));
+        self.retired = self.retired.wrapping_add(1);
+        store_all(&mut self.memory, self.world.p0br, plan.writes.as_slice());
+        self.world = with_effect(&self.world, plan);
+    }
+
+    /// One instruction, and its arithmetic trap; where it doesn't retire, nothing changes.
+    #[tactic(auto, unfolding(vax_hw::specs::Real::one))]
+    fn step(&mut self) -> Result<Option<u8>, Exit>
+        ensures { MatchResult result (λ trap. one self.old ≡ Ok (record { machine = self.new; trap = trap })) (λ e. (one self.old ≡ Err e) × (self.new ≡ self.old)) }
     {
         let Found { opcode, act } = self.find()?;
         match act {
-            Act::Plain(after) => {
-                let pc = self.world.r[15];
-                self.trail = self.trail.wrapping_add(term(pc, opcode, &after.r));
-                self.retired = self.retired.wrapping_add(1);
-                self.world = with_regs(&self.world, &after);
-                Ok(())
+            Act::Plain(plan) => {
+                self.retire(opcode, &plan);
+                Ok(plan.trap)
             }
-            Act::Sensitive(trapped) => Err(traps(&self.world, &trapped)),
+            Act::Traps(trapped) => Err(Exit::Emulate(trapped)),
         }
     }
 }
@@ -196,11 +218,17 @@ impl Hardware for Cpu {
 
     fn run(&mut self, budget: u32) -> Exit {
         for _left in (0..budget).rev() {
-            if let Err(exit) = self.step() {
-                if let Exit::NotValid { .. } = exit {
-                    self.misses = self.misses.wrapping_add(1);
+            match self.step() {
+                Ok(None) => {}
+                Ok(Some(kind)) => {
+                    return Exit::Arithmetic { kind };
                 }
-                return exit;
+                Err(exit) => {
+                    if let Exit::NotValid { .. } = exit {
+                        self.misses = self.misses.wrapping_add(1);
+                    }
+                    return exit;
+                }
             }
         }
         Exit::Budget

@@ -1,7 +1,7 @@
 -- The operations that go on elsewhere, or work on the stack.
 use Rattle.std.specs.Prelude.{Bool, true, false}
 use Rattle.vax_table.specs.declared.meaning.Operation.{Operation}
-use Rattle.vax_table.specs.declared.meaning.Operation.TheVariants.{Other, Nothing, Compute, ClearQuad, MoveQuad, Push, SetStatus, ClearStatus, Branch, CallSubroutine, LeaveSubroutine, AddAndCompare, AddOne, SubtractOne, BranchOnLowBit, BranchOnBit, Case, PushRegisters, PopRegisters, CallGeneral, CallOnStack, Return, MoveStatus, Probe, Breakpoint, Customer}
+use Rattle.vax_table.specs.declared.meaning.Operation.TheVariants.{Other, Sensitive, Nothing, Compute, ClearQuad, MoveQuad, Push, SetStatus, ClearStatus, Branch, CallSubroutine, LeaveSubroutine, AddAndCompare, AddOne, SubtractOne, BranchOnLowBit, BranchOnBit, Case, PushRegisters, PopRegisters, CallGeneral, CallOnStack, Return, MoveStatus, Probe, Breakpoint, Customer}
 
 abbrev pub is_flow : Operation → Bool
 is_flow Push = true
@@ -20,6 +20,7 @@ is_flow CallGeneral = true
 is_flow CallOnStack = true
 is_flow Return = true
 is_flow Other = false
+is_flow (Sensitive op) = false
 is_flow Nothing = false
 is_flow (Compute op w inputs target) = false
 is_flow ClearQuad = false

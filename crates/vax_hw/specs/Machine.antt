@@ -5,7 +5,8 @@ use Rattle.vax_arch.specs.declared.psl.Psl.{Psl}
 use Rattle.vax_hw.specs.declared.world.World.{World}
 use Rattle.vax_table.specs.Script.{Space, Refusing}
 use Rattle.vax_table.specs.Trail.{term}
-use Rattle.vax_table.specs.declared.act.Regs.{Regs}
+use Rattle.vax_table.specs.Effects.{Effect}
+use Rattle.vax_table.specs.Stores.{all_stored}
 
 pub record Machine : Type 0 where
   pub memory : List ℕ
@@ -23,24 +24,29 @@ linear memory p0br p0lr intent va = if nat_lt va (512 * p0lr) then Ok (slice_ind
 abbrev pub space_of : Machine → Space
 space_of m = linear m.memory m.world.p0br m.world.p0lr
 
--- the registers and the status word: the low byte of the PSL
-abbrev pub regs_of : World → Regs
-regs_of w = record { r = w.r; psw = w.psl.0 % 256 }
+-- the status word is the low byte of the PSL
+abbrev pub psw_of : World → ℕ
+psw_of w = w.psl.0 % 256
 
 -- a PSL with another status word
 abbrev pub with_psw : Psl → ℕ → Psl
 with_psw psl psw = record { 0 = psl.0 / 256 * 256 + psw % 256 }
 
--- with other registers and another status word
-abbrev pub with_regs : World → Regs → World
-with_regs w after = record w { r = after.r; psl = with_psw w.psl after.psw }
+-- with the registers and the status word behind an instruction
+abbrev pub with_effect : World → Effect → World
+with_effect w e = record w { r = e.r; psl = with_psw w.psl e.psw }
 
--- the machine after an instruction that retired
-unfoldable pub retire : ℕ → Regs → Machine → Machine
-retire opcode after m = record m {
-  world = with_regs m.world after;
+-- where the machine has a byte that may be written
+abbrev pub place_in : Machine → ℕ → ℕ
+place_in m va = m.world.p0br + va
+
+-- the machine after an instruction that retired: its stores are made in order
+unfoldable pub retire : ℕ → Effect → Machine → Machine
+retire opcode e m = record m {
+  memory = all_stored (place_in m) e.writes m.memory;
+  world = with_effect m.world e;
   retired = (m.retired + 1) % 2 ^ 64;
-  trail = (m.trail + term (slice_index m.world.r 15) opcode after.r) % 2 ^ 64;
+  trail = (m.trail + term (slice_index m.world.r 15) opcode e.r) % 2 ^ 64;
 }
 
 -- so much memory that was never written

@@ -1,23 +1,17 @@
 -- What the real machine does: the instructions of the one plan, over its own space. Sensitive instructions trap
 -- (Hall and Robinson, Virtualizing the VAX Architecture, ISCA 1991: the virtual-machine extension).
-use Rattle.std.specs.Prelude.{ℕ, zero, suc, ◌+◌, ◌%◌, ◌^◌, Bool, true, false, ◌||◌, if◌then◌else◌, Result, Ok, Err}
+use Rattle.std.specs.Prelude.{ℕ, zero, suc, ◌+◌, ◌%◌, ◌^◌, Bool, true, false, Option, Some, None, Result, Ok, Err}
 use Rattle.vax_arch.specs.Fields.{current_of}
 use Rattle.vax_arch.specs.declared.mode.Intent.{Intent}
 use Rattle.vax_arch.specs.declared.mode.Intent.TheVariants.{Read, Write}
 use Rattle.vax_arch.specs.declared.mode.Mode.{Mode}
 use Rattle.vax_arch.specs.declared.mode.Mode.TheVariants.{Kernel}
-use Rattle.vax_hw.specs.Machine.{Machine, regs_of, retire, space_of}
+use Rattle.vax_hw.specs.Machine.{Machine, psw_of, retire, space_of}
 use Rattle.vax_hw.specs.declared.world.Exit.{Exit}
-use Rattle.vax_hw.specs.declared.world.Exit.TheVariants.{Budget, NotValid, Denied, Emulate, Refused, NotBuilt}
+use Rattle.vax_hw.specs.declared.world.Exit.TheVariants.{Arithmetic, Budget, NotValid, Denied, Emulate, Refused}
 use Rattle.vax_hw.specs.declared.world.World.{World}
-use Rattle.vax_table.specs.Built.{Meant, instruction}
-use Rattle.vax_table.specs.Script.{Absent, Refusing, Past, Because, Unbuilt, Trouble, At, Test, outcome}
-use Rattle.vax_table.specs.declared.act.Act.{Act}
-use Rattle.vax_table.specs.declared.act.Act.TheVariants.{Plain, Sensitive}
-use Rattle.vax_table.specs.declared.act.Refusal.TheVariants.{Instruction}
-use Rattle.vax_table.specs.declared.act.Sens.{Sens}
-use Rattle.vax_table.specs.declared.act.Sens.TheVariants.{Chm, Rei}
-use Rattle.vax_table.specs.declared.act.Trapped.{Trapped}
+use Rattle.vax_table.specs.Script.{Absent, Refusing, Past, Trouble, At, Test, outcome}
+use Rattle.vax_table.specs.Whole.{Act, Meant, Plain, Traps, instruction}
 
 abbrev pub is_write : Intent → Bool
 is_write Read = false
@@ -28,48 +22,51 @@ abbrev pub exit_of : Trouble → Exit
 exit_of (At Absent i va) = NotValid va (is_write i)
 exit_of (At Refusing i va) = Denied va (is_write i)
 exit_of (At Past i va) = Denied va (is_write i)
-exit_of (Test (Because r)) = Refused r
-exit_of (Test (Unbuilt opcode)) = NotBuilt opcode
+exit_of (Test r) = Refused r
 
 abbrev pub exits : {A : Type 0} → Result A Trouble → Result A Exit
 exits (Ok x) = Ok x
 exits (Err t) = Err (exit_of t)
 
--- CHM and REI trap in every mode
-abbrev pub always_traps : Sens → Bool
-always_traps (Chm to) = true
-always_traps Rei = true
-always_traps op = false
-
 abbrev pub is_kernel : Mode → Bool
 is_kernel Kernel = true
 is_kernel mode = false
 
--- a sensitive instruction traps where the virtual machine's mode is kernel; elsewhere it is refused, as privileged
-abbrev pub traps : World → Trapped → Exit
-traps w t = if always_traps t.op || is_kernel (current_of w.vmpsl.0) then Emulate t else Refused Instruction
+-- whether the virtual machine's mode is kernel
+abbrev pub in_kernel : World → Bool
+in_kernel w = is_kernel (current_of w.vmpsl.0)
+
+-- a machine that retired an instruction, and its arithmetic trap
+pub record Retired : Type 0 where
+  pub machine : Machine
+  pub trap : Option ℕ
 
 -- an instruction that was found to be this retires, or traps
-abbrev pub meets : Machine → ℕ → Act → Result Machine Exit
-meets m opcode (Plain after) = Ok (retire opcode after m)
-meets m opcode (Sensitive t) = Err (traps m.world t)
+abbrev pub meets : Machine → ℕ → Act → Result Retired Exit
+meets m opcode (Plain e) = Ok (record { machine = retire opcode e m; trap = e.trap })
+meets m opcode (Traps t) = Err (Emulate t)
 
-abbrev pub done : Machine → Result Meant Exit → Result Machine Exit
+abbrev pub done : Machine → Result Meant Exit → Result Retired Exit
 done m (Err e) = Err e
 done m (Ok meant) = meets m meant.opcode meant.act
 
 -- one instruction: the machine after it, or why it didn't retire
-unfoldable pub one : Machine → Result Machine Exit
-one m = done m (exits (outcome (space_of m) (instruction (regs_of m.world))))
+unfoldable pub one : Machine → Result Retired Exit
+one m = done m (exits (outcome (space_of m) (instruction (in_kernel m.world) m.world.r (psw_of m.world))))
 
 -- an entry that wasn't valid is a miss
 abbrev pub misses_after : ℕ → Exit → ℕ
 misses_after n (NotValid va write) = (n + 1) % 2 ^ 64
 misses_after n e = n
 
+-- going on behind an instruction that retired, unless it had a trap
+abbrev pub behind_trap : (Machine → Machine × Exit) → Machine → Option ℕ → Machine × Exit
+behind_trap rest m None = rest m
+behind_trap rest m (Some kind) = (m, Arithmetic kind)
+
 -- going on behind one instruction
-abbrev pub going_on : (Machine → Machine × Exit) → Machine → Result Machine Exit → Machine × Exit
-going_on rest m (Ok after) = rest after
+abbrev pub going_on : (Machine → Machine × Exit) → Machine → Result Retired Exit → Machine × Exit
+going_on rest m (Ok after) = behind_trap rest after.machine after.trap
 going_on rest m (Err e) = (record m { misses = misses_after m.misses e }, e)
 
 -- a run of at most so many instructions

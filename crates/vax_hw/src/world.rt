@@ -16,8 +16,8 @@ pub struct World {
     pub slr: u32,
 }
 
-/// Why a run of the machine came to its end. All but `Budget` and `Arithmetic` are the first trouble of an
-/// instruction that did not retire; `NotBuilt` carries the opcode of one that this machine doesn't have.
+/// Why a run of the machine came to its end: the budget is used; an instruction retired with an arithmetic trap of this
+/// kind; or else the first trouble of an instruction that did not retire.
 #[derive(Clone, Copy, Debug, PartialEq, Eq)]
 pub enum Exit {
     Budget,
@@ -27,5 +27,4 @@ pub enum Exit {
     Emulate(Trapped),
     Arithmetic { kind: u8 },
     Refused(Refusal),
-    NotBuilt(u8),
 }

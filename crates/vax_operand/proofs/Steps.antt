@@ -1,5 +1,5 @@
 -- One operand more, in the words of the definition.
-use Rattle.std.proofs.Common.{◌≡◌, ◌≢◌, ℕ, zero, suc, ◌+◌, ◌<◌, List, [], ◌∷◌, length, get_or, drop, Some, Result, Ok, Err, refl, ap, ◌∙◌, sym, subst, arith, add-one, below_more, get_or-set_other, IfOk, slice_get, slice_index, slice_index_or, slice_set}
+use Rattle.std.proofs.Common.{◌≡◌, ◌≢◌, ℕ, zero, suc, ◌+◌, ◌<◌, List, [], ◌∷◌, length, get_or, drop, Some, Option, Result, Ok, Err, refl, ap, ◌∙◌, sym, subst, arith, add-one, below_more, get_or-set_other, IfOk, slice_get, slice_index, slice_index_or, slice_set}
 use Rattle.std.specs.Prelude.{if◌then◌else◌}
 use Rattle.std.proofs.lemmas.Option.{get_or_from_slice_get}
 use Rattle.vax_table.specs.declared.act.Dest.{Dest}
@@ -9,11 +9,11 @@ use Rattle.vax_table.specs.declared.evaluation.Evaluated.{Evaluated}
 use Rattle.vax_table.specs.declared.evaluation.Operands.{Operands}
 use Rattle.vax_table.specs.declared.evaluation.Trouble.{Trouble as Told}
 use Rattle.vax_table.specs.declared.forms.Form.{Form}
-use Rattle.vax_table.specs.Operand.{plus, behind_bytes, forms_in, no_operands, operand_of, operands_from, operands_of, with_operand}
+use Rattle.vax_table.specs.Operand.{plus, behind_bytes, forms_in, no_operands, operand_of, operands_from, operands_of, trap_forms, with_operand}
 use Rattle.vax_table.specs.Rows.{Entry, row_of}
 use Rattle.vax_table.specs.Script.{Space, Trouble, outcome}
 use Rattle.vax_table.specs.Spelling.{Instruction, IsWellFormed}
-use Rattle.vax_table.specs.Standing.{Fits, IsRegister}
+use Rattle.vax_table.specs.Standing.{AllStand, Fits, IsRegister}
 use Rattle.vax_table.specs.Troubles.{told}
 use Rattle.vax_table.proofs.Claims.{holds_made}
 use Rattle.vax_table.proofs.NextPc.{operands_go}
@@ -80,3 +80,22 @@ pub of_row : (s : Space) (d : Instruction) (r : List ℕ) (e : Entry) (forms : L
     start ≡ no_operands (behind_bytes (if d.wait then 2 else 1) r) → told x ≡ outcome s (operands_from 0 forms specs start) → told x ≡ outcome s (operands_of d r)
 unfolding operands_of
 of_row s d r e forms specs start x is f g h t = let all : forms ≡ forms_in (row_of d.opcode) = f ∙ ap forms_in is in t ∙ rw (all, g, h) refl
+
+-- the operands of the row that was found
+pub in_row : (o : Option Entry) (e : Entry) (forms : List Form) (all specs : List Spec) → Some e ≡ o → forms ≡ e.operands → specs ≡ all → AllStand (forms_in o) all → AllStand forms specs
+in_row o e forms all specs is f s h =
+    let row : AllStand e.operands all = subst (λ (x : Option Entry). AllStand (forms_in x) all) (sym is) h in
+    rw (f, s) row
+
+-- MFPR's destination stands where bits are counted too
+mfpr_on : (specs : List Spec) → AllStand (forms_in (row_of 0xdb)) specs → AllStand (trap_forms 0xdb) specs
+unfolding row_of
+mfpr_on [] h = absurd h
+mfpr_on (a ∷ []) h = absurd h.1
+mfpr_on (a ∷ (b ∷ [])) h = h
+mfpr_on (a ∷ (b ∷ (c ∷ ss))) h = absurd h.1.1
+
+pub mfpr_stands : (opcode : ℕ) (all specs : List Spec) → opcode ≡ 0xdb → specs ≡ all → AllStand (forms_in (row_of opcode)) all → AllStand (trap_forms 0xdb) specs
+mfpr_stands opcode all specs is s h =
+    let there : AllStand (forms_in (row_of 0xdb)) all = subst (λ (n : ℕ). AllStand (forms_in (row_of n)) all) is h in
+    rw s (mfpr_on all there)

@@ -1,5 +1,5 @@
 ghost use Rattle.std.specs.Prelude.{◌≡◌, ◌≤◌, ◌<◌, if◌then◌else◌, length, slice_index, IfOk};
-ghost use Rattle.vax_table.specs.Operand.{behind_bytes, forms_in, no_operands, operand_length, operand_of, operands_from, operands_of, plus, with_operand};
+ghost use Rattle.vax_table.specs.Operand.{behind_bytes, forms_in, no_operands, operand_length, operand_of, operands_from, operands_of, plus, trap_operands, with_operand};
 ghost use Rattle.vax_table.specs.Rows.{row_of};
 ghost use Rattle.vax_table.specs.Script.{outcome};
 ghost use Rattle.vax_table.specs.Spelled.{value_size};
@@ -15,6 +15,7 @@ use crate::space::Space;
 use vax_decode::Decoded;
 use vax_table::evaluation::{Evaluated, Operands, Trouble};
 use vax_table::{Access, Dest, Form, Spec, row};
+use vv_base::Width;
 
 /// The bytes of an operand behind its specifier's first.
 #[tactic(auto, unfolding(vax_table::specs::Spelled::value_size))]
@@ -63,7 +64,7 @@ fn operand_of<S: Space>(
         Access::Modify => modified_operand(space, form.width, spec, &r),
         Access::Write => written_operand(space, form.width, spec, &r),
         Access::Address => address_operand(space, form.width, spec, &r),
-        Access::Bits => bits_operand(space, spec, &r),
+        Access::Bits => bits_operand(space, form.width, spec, &r),
         Access::Branch => Ok(branch_operand(form.width, spec, &r)),
     }
 }
@@ -126,6 +127,35 @@ pub fn evaluate<S: Space>(s: &S, d: &Decoded, r: &[u32; 16]) -> Result<Operands,
     ensures next_pc { IfOk result (λ o. slice_index o.r 15 ≡ plus (slice_index r.now 15) d.now.length) }
 {
     let start = behind_opcode(d, r);
+    match row(d.opcode) {
+        None => Ok(start),
+        Some(row) => evaluate_all(s, row.operands.as_slice(), d.specs.as_slice(), &start),
+    }
+}
+
+/// MFPR's operands where it traps: a register's number, and a destination that is not translated.
+const MFPR_FORMS: [Form; 2] = [
+    Form {
+        access: Access::Read,
+        width: Width::Long,
+    },
+    Form {
+        access: Access::Bits,
+        width: Width::Long,
+    },
+];
+
+/// The operands of a well-formed instruction that traps, as `evaluate` gives them, but that MFPR's destination is not
+/// translated: it is a register or an address.
+#[tactic(auto, unfolding(vax_table::specs::Operand::trap_operands), using(vax_table::proofs::Standings::well_formed))]
+pub fn evaluate_trap<S: Space>(s: &S, d: &Decoded, r: &[u32; 16]) -> Result<Operands, Trouble>
+    requires { IsWellFormed (view d.now) }
+    ensures { told result ≡ outcome (S.space s.now) (trap_operands (view d.now) r.now) }
+{
+    let start = behind_opcode(d, r);
+    if d.opcode == 0xDB {
+        return evaluate_all(s, &MFPR_FORMS, d.specs.as_slice(), &start);
+    }
     match row(d.opcode) {
         None => Ok(start),
         Some(row) => evaluate_all(s, row.operands.as_slice(), d.specs.as_slice(), &start),

@@ -8,7 +8,7 @@ mod space;
 #[cfg(test)]
 mod tests;
 
-pub use instruction::evaluate;
+pub use instruction::{evaluate, evaluate_trap};
 pub use space::Space;
 pub use vax_table::Dest;
 pub use vax_table::evaluation::{Operands, Trouble};

@@ -128,16 +128,21 @@ pub fn address_operand<S: Space>(
 
 /// The register or the address from which bits are counted.
 #[tactic(auto, unfolding(vax_table::specs::Operand::bits_operand), using(vax_table::proofs::Scripts::binds))]
-pub fn bits_operand<S: Space>(space: &S, spec: &Spec, r: &[u32; 16]) -> Result<Evaluated, Trouble>
+pub fn bits_operand<S: Space>(
+    space: &S,
+    w: Width,
+    spec: &Spec,
+    r: &[u32; 16],
+) -> Result<Evaluated, Trouble>
     requires formed { IsFormed spec.now }
     requires mode { 4 < spec.now.mode }
-    ensures outcome { told result ≡ outcome (S.space space.now) (bits_operand spec.now r.now) }
-    ensures fits { IfOk result (λ e. Fits (record { access = Access.Bits; width = Width.Byte }) e.value e.dest) }
+    ensures outcome { told result ≡ outcome (S.space space.now) (bits_operand w spec.now r.now) }
+    ensures fits { IfOk result (λ e. Fits (record { access = Access.Bits; width = w }) e.value e.dest) }
 {
     if spec.mode == 5 {
         return Ok(evaluated(0, Dest::Register(spec.reg), r));
     }
-    let place = address_of(space, 1, spec, r)?;
+    let place = address_of(space, size(w), spec, r)?;
     Ok(evaluated(0, Dest::Memory(place.at), &place.r))
 }
 

@@ -15,3 +15,5 @@ pub mod Numbers
 pub mod Targets
 pub mod Widths
 pub mod Plans
+pub mod Wholes
+pub mod StoreLaws

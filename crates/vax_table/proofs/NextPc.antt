@@ -79,7 +79,7 @@ access_kept Write w s r cs h =
 access_kept Address w s r cs h = holds-bind (KeepsPlace r) (KeepsOperand r) cs (address_of (size_of w) s r) _ (address_kept (size_of w) s r cs h.0) (λ ds p k. k)
 access_kept Bits w s r cs h =
     if_both (Holds (KeepsOperand r) cs) (eqb s.mode 5) _ _ (λ t. (refl, refl)) (λ t.
-    holds-bind (KeepsPlace r) (KeepsOperand r) cs (address_of 1 s r) _ (address_kept 1 s r cs h.0) (λ ds p k. k))
+    holds-bind (KeepsPlace r) (KeepsOperand r) cs (address_of (size_of w) s r) _ (address_kept (size_of w) s r cs h.0) (λ ds p k. k))
 access_kept Branch w s r cs h = (refl, refl)
 
 -- registers whose PC went on by so many bytes

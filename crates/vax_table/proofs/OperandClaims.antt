@@ -76,12 +76,12 @@ taken_holds : (w : Width) (s : Spec) (r cs : List ℕ) → Holds (Adds cs Addres
 unfolding address_operand Adds Same
 taken_holds w s r cs = holds-bind (Same cs) (Adds cs Address w) cs (address_of (size_of w) s r) _ (address_holds (size_of w) s r cs) (λ ds p e. (λ x h. subst (IsIn x) (sym e) h, tt))
 
-bits_holds : (w : Width) (s : Spec) (r cs : List ℕ) → Holds (Adds cs Bits w) cs (bits_operand s r)
+bits_holds : (w : Width) (s : Spec) (r cs : List ℕ) → Holds (Adds cs Bits w) cs (bits_operand w s r)
 unfolding bits_operand Adds Same
 bits_holds w s r cs =
     let P = Holds (Adds cs Bits w) cs in
     if_both P (eqb s.mode 5) _ _ (λ t. (λ x h. h, tt)) (λ t.
-    holds-bind (Same cs) (Adds cs Bits w) cs (address_of 1 s r) _ (address_holds 1 s r cs) (λ ds p e. (λ x h. subst (IsIn x) (sym e) h, tt)))
+    holds-bind (Same cs) (Adds cs Bits w) cs (address_of (size_of w) s r) _ (address_holds (size_of w) s r cs) (λ ds p e. (λ x h. subst (IsIn x) (sym e) h, tt)))
 
 branch_holds : (w : Width) (s : Spec) (r cs : List ℕ) → Holds (Adds cs Branch w) cs (branch_operand w s r)
 unfolding branch_operand Adds
@@ -159,9 +159,9 @@ none_claimed all r cs (suc (suc (suc zero))) f is = nowhere cs f.access f.width
 none_claimed all r cs (suc (suc (suc (suc k)))) f is = nowhere cs f.access f.width
 
 -- each byte of each modified or written operand in memory is claimed
-pub operands_claimed : (d : Instruction) (r : List ℕ) → Holds (AreClaimed (forms_in (row_of d.opcode))) [] (operands_of d r)
+pub operands_claimed : (d : Instruction) (r cs : List ℕ) → Holds (AreClaimed (forms_in (row_of d.opcode))) cs (operands_of d r)
 unfolding operands_of
-operands_claimed d r =
+operands_claimed d r cs =
     let all = forms_in (row_of d.opcode) in
     let start = behind_bytes (if d.wait then 2 else 1) r in
-    from_holds all 0 all d.specs (no_operands start) [] (λ k. let n : k ≡ 0 + k = omega arith in ap (slice_get all) n) (none_claimed all start [])
+    from_holds all 0 all d.specs (no_operands start) cs (λ k. let n : k ≡ 0 + k = omega arith in ap (slice_get all) n) (none_claimed all start cs)

@@ -282,6 +282,7 @@ at_most n m cs script h s = holds_then (Sound n m) (Sound 20 m) cs script s (λ 
 performed_sound : (given : Given) (fs : List Form) (m : ℕ) (cs : List ℕ) (operation : Operation) (o : Operands) (psw : ℕ) → is_fit operation fs ≡ true → AreClaimed fs cs o → length o.r ≡ m → Holds (Sound 20 m) cs (performed_with given operation o psw)
 unfolding performed is_fit
 performed_sound given fs m cs does.Other o psw f c h = tt
+performed_sound given fs m cs (does.Sensitive op) o psw f c h = tt
 performed_sound given fs m cs does.Breakpoint o psw f c h = tt
 performed_sound given fs m cs does.Customer o psw f c h = tt
 performed_sound given fs m cs does.Nothing o psw f c h = none_stored 20 m cs o.r h
@@ -314,18 +315,37 @@ holds_both P Q cs (Refuse t) h g = tt
 holds_both P Q cs (Touch i a k f) h g = λ v. holds_both P Q (cs ++ if_write i (addresses k a)) (f v) (h v) (g v)
 
 -- at each end of a plan, whatever the space answered
-pub plans_sound : (given : Given) (d : Instruction) (r : List ℕ) (psw : ℕ) → Holds (Sound 20 (length r)) [] (plan_of given d r psw)
+pub plans_sound : (given : Given) (d : Instruction) (r cs : List ℕ) (psw : ℕ) → Holds (Sound 20 (length r)) cs (plan_of given d r psw)
 unfolding plan_of
-plans_sound given d r psw =
+plans_sound given d r cs psw =
     let fs = forms_in (row_of d.opcode) in
     let P = AreClaimed fs in
     let Q = OperandsAreWide (length r) in
-    holds-bind (λ cs o. P cs o × Q cs o) (Sound 20 (length r)) [] (operands_of d r) _ (holds_both P Q [] (operands_of d r) (operands_claimed d r) (operands_wide d r))
-    (λ cs o h. performed_sound given fs (length r) cs (operation_of d.opcode) o psw (operations_fit d.opcode) h.0 h.1)
+    holds-bind (λ ds o. P ds o × Q ds o) (Sound 20 (length r)) cs (operands_of d r) _ (holds_both P Q cs (operands_of d r) (operands_claimed d r cs) (operands_wide d r cs))
+    (λ ds o h. performed_sound given fs (length r) ds (operation_of d.opcode) o psw (operations_fit d.opcode) h.0 h.1)
+
+-- an operation that refuses comes to no end
+alone_sound : (given : Given) (fs : List Form) (m : ℕ) (cs : List ℕ) (operation : Operation) (o : Operands) (psw : ℕ) → is_fit operation fs ≡ true → AreClaimed fs cs o → length o.r ≡ m → Holds (Sound 20 m) cs (performed operation o psw)
+unfolding performed
+alone_sound given fs m cs does.MoveStatus o psw f c h = tt
+alone_sound given fs m cs (does.Probe intent) o psw f c h = tt
+alone_sound given fs m cs operation o psw f c h = performed_sound given fs m cs operation o psw f c h
+
+nothing_given : Given
+nothing_given = record { psl = 0; is_accessible = λ intent mode length base. false }
+
+pub planned_sound : (d : Instruction) (r cs : List ℕ) (psw : ℕ) → Holds (Sound 20 (length r)) cs (planned d r psw)
+unfolding planned
+planned_sound d r cs psw =
+    let fs = forms_in (row_of d.opcode) in
+    let P = AreClaimed fs in
+    let Q = OperandsAreWide (length r) in
+    holds-bind (λ ds o. P ds o × Q ds o) (Sound 20 (length r)) cs (operands_of d r) _ (holds_both P Q cs (operands_of d r) (operands_claimed d r cs) (operands_wide d r cs))
+    (λ ds o h. alone_sound nothing_given fs (length r) ds (operation_of d.opcode) o psw (operations_fit d.opcode) h.0 h.1)
 
 -- and so of each outcome
 pub outcome_sound : (given : Given) (d : Instruction) (r : List ℕ) (psw : ℕ) (s : Space) (e : Effect) → outcome s (plan_of given d r psw) ≡ Ok e → Sound 20 (length r) (claims s (plan_of given d r psw)) e
-outcome_sound given d r psw s e h = holds_made (Sound 20 (length r)) s [] (plan_of given d r psw) e (plans_sound given d r psw) h
+outcome_sound given d r psw s e h = holds_made (Sound 20 (length r)) s [] (plan_of given d r psw) e (plans_sound given d r [] psw) h
 
 -- an operation of those that depend on nothing else is performed alone
 pub performed_alone : (given : Given) (operation : Operation) (o : Operands) (psw : ℕ) → is_planned operation ≡ true → performed_with given operation o psw ≡ performed operation o psw

@@ -74,11 +74,11 @@ taken_wide : (m : ℕ) (w : Width) (s : Spec) (r cs : List ℕ) → length r ≡
 unfolding address_operand
 taken_wide m w s r cs h = holds-bind (PlaceIsWide m) (EvaluatedIsWide m) cs (address_of (size_of w) s r) _ (address_wide m (size_of w) s r cs h) (λ ds p e. e)
 
-bits_wide : (m : ℕ) (s : Spec) (r cs : List ℕ) → length r ≡ m → Holds (EvaluatedIsWide m) cs (bits_operand s r)
+bits_wide : (m : ℕ) (w : Width) (s : Spec) (r cs : List ℕ) → length r ≡ m → Holds (EvaluatedIsWide m) cs (bits_operand w s r)
 unfolding bits_operand
-bits_wide m s r cs h =
+bits_wide m w s r cs h =
     if_both (Holds (EvaluatedIsWide m) cs) (eqb s.mode 5) _ _ (λ t. h) (λ t.
-    holds-bind (PlaceIsWide m) (EvaluatedIsWide m) cs (address_of 1 s r) _ (address_wide m 1 s r cs h) (λ ds p e. e))
+    holds-bind (PlaceIsWide m) (EvaluatedIsWide m) cs (address_of (size_of w) s r) _ (address_wide m (size_of w) s r cs h) (λ ds p e. e))
 
 branch_wide : (m : ℕ) (w : Width) (s : Spec) (r cs : List ℕ) → length r ≡ m → Holds (EvaluatedIsWide m) cs (branch_operand w s r)
 unfolding branch_operand
@@ -89,7 +89,7 @@ access_wide m Read w s r cs h = read_wide m w s r cs h
 access_wide m Modify w s r cs h = modified_wide m w s r cs h
 access_wide m Write w s r cs h = written_wide m w s r cs h
 access_wide m Address w s r cs h = taken_wide m w s r cs h
-access_wide m Bits w s r cs h = bits_wide m s r cs h
+access_wide m Bits w s r cs h = bits_wide m w s r cs h
 access_wide m Branch w s r cs h = branch_wide m w s r cs h
 
 operand_wide : (m : ℕ) (f : Form) (s : Spec) (r cs : List ℕ) → length r ≡ m → Holds (EvaluatedIsWide m) cs (operand_of f s r)
@@ -101,6 +101,6 @@ from_wide m i [] ss o cs h = h
 from_wide m i (f ∷ fs) [] o cs h = h
 from_wide m i (f ∷ fs) (s ∷ ss) o cs h = holds-bind (EvaluatedIsWide m) (OperandsAreWide m) cs (operand_of f s o.r) _ (operand_wide m f s o.r cs h) (λ ds e g. from_wide m (i + 1) fs ss (with_operand i o e) ds g)
 
-pub operands_wide : (d : Instruction) (r : List ℕ) → Holds (OperandsAreWide (length r)) [] (operands_of d r)
+pub operands_wide : (d : Instruction) (r cs : List ℕ) → Holds (OperandsAreWide (length r)) cs (operands_of d r)
 unfolding operands_of
-operands_wide d r = from_wide (length r) 0 (forms_in (row_of d.opcode)) d.specs (no_operands (behind_bytes (if d.wait then 2 else 1) r)) [] (set_wide (length r) r _ _ refl)
+operands_wide d r cs = from_wide (length r) 0 (forms_in (row_of d.opcode)) d.specs (no_operands (behind_bytes (if d.wait then 2 else 1) r)) cs (set_wide (length r) r _ _ refl)

@@ -9,7 +9,7 @@ use Rattle.vax_arch.specs.declared.mode.Intent.TheVariants.{Read, Write}
 use Rattle.vax_table.specs.Arithmetic.{alu_of, reduced}
 use Rattle.vax_table.specs.Effects.{Effect, begun, dest_of, long_of, put, went_if, went_to}
 use Rattle.vax_table.specs.Operand.{extended, plus}
-use Rattle.vax_table.specs.Script.{Script, Done, Refuse, Touch, ◌>>=◌, Because}
+use Rattle.vax_table.specs.Script.{Script, Done, Refuse, Touch, ◌>>=◌}
 use Rattle.vax_table.specs.Stack.{push}
 use Rattle.vax_table.specs.declared.act.Dest.{Dest}
 use Rattle.vax_table.specs.declared.act.Dest.TheVariants.{Nowhere, Register, Memory}
@@ -146,7 +146,7 @@ byte_of_bit base position = plus base (reduced Long (int_div_euclid (signed_of L
 abbrev pub bit_in : Bool → Option Bool → Dest → ℕ → ℕ → Effect → Script Effect
 bit_in on becomes Nowhere position to e = Done e
 bit_in on becomes (Register n) position to e =
-    if nat_lt position 32 then Done (bit_tested on becomes (Register n) Long position (slice_index e.r n) to e) else Refuse (Because Operand)
+    if nat_lt position 32 then Done (bit_tested on becomes (Register n) Long position (slice_index e.r n) to e) else Refuse Operand
 bit_in on becomes (Memory base) position to e =
     let at = byte_of_bit base position in
     Touch (bit_intent becomes) at 1 (λ n. Done (bit_tested on becomes (Memory at) Byte (position % 8) n to e))

@@ -7,7 +7,7 @@ use Rattle.vv_base.specs.Width.{low, size_of}
 use Rattle.vax_table.specs.Arithmetic.{alu_of}
 use Rattle.vax_table.specs.Effects.{Effect, begun, dest_of, long_of, put}
 use Rattle.vax_table.specs.Operand.{extended}
-use Rattle.vax_table.specs.Script.{Script, Done, Refuse, Because}
+use Rattle.vax_table.specs.Script.{Script, Done, Refuse}
 use Rattle.vax_table.specs.Stack.{push}
 use Rattle.vax_table.specs.declared.act.Dest.{Dest}
 use Rattle.vax_table.specs.declared.act.Dest.TheVariants.{Nowhere}
@@ -60,8 +60,8 @@ pushed o psw = push (long_of o 0) (record (begun o psw) { psw = (alu_of Move (lo
 -- BISPSW and BICPSW: a mask with any of bits 15:8 is a reserved operand
 unfoldable pub status_set : Operands → ℕ → Script Effect
 status_set o psw =
-    if long_of o 0 / 2 ^ 8 == 0 then Done (record (begun o psw) { psw = bit_or psw (long_of o 0) }) else Refuse (Because Operand)
+    if long_of o 0 / 2 ^ 8 == 0 then Done (record (begun o psw) { psw = bit_or psw (long_of o 0) }) else Refuse Operand
 
 unfoldable pub status_cleared : Operands → ℕ → Script Effect
 status_cleared o psw =
-    if long_of o 0 / 2 ^ 8 == 0 then Done (record (begun o psw) { psw = bit_and psw (255 - long_of o 0) }) else Refuse (Because Operand)
+    if long_of o 0 / 2 ^ 8 == 0 then Done (record (begun o psw) { psw = bit_and psw (255 - long_of o 0) }) else Refuse Operand

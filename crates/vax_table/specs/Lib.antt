@@ -9,10 +9,9 @@ pub mod Arithmetic
 pub mod ShownArithmetic
 pub mod Script
 pub mod Fetch
-pub mod Built
 pub mod Trail
-pub mod Locality
-pub mod ShownBuilt
+pub mod Stores
+pub mod Whole
 pub mod Operand
 pub mod Troubles
 pub mod ShownOperand
@@ -26,4 +25,5 @@ pub mod Branches
 pub mod Calls
 pub mod Plan
 pub mod PlanLaws
+pub mod Locality
 pub mod ShownPlan

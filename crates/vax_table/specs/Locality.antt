@@ -1,14 +1,22 @@
--- What holds of every instruction over two spaces, of which one answers wherever the other does.
-use Rattle.std.specs.Prelude.{◌≡◌, ℕ, Err}
+-- What holds of every instruction, whole, over every space; of two spaces the second answers wherever the first does.
+use Rattle.std.specs.Prelude.{◌≡◌, ℕ, Bool, List, Ok, Err}
 use Rattle.vax_arch.specs.declared.mode.Intent.{Intent}
-use Rattle.vax_table.specs.Built.{instruction}
+use Rattle.vax_table.specs.Claims.{claims}
+use Rattle.vax_table.specs.Effects.{Effect}
+use Rattle.vax_table.specs.PlanLaws.{StoresAreClaimed}
 use Rattle.vax_table.specs.Script.{AsFar, At, Below, Cause, IsIn, Space, outcome, reached}
-use Rattle.vax_table.specs.declared.act.Regs.{Regs}
+use Rattle.vax_table.specs.Whole.{Plain, instruction, meant}
 
 -- an instruction depends on its space only at the bytes that it asks for, in order
 abbrev pub IsLocal : Type 0
-IsLocal = (w : Regs) (s t : Space) → Below s t → AsFar s t (outcome s (instruction w)) (outcome t (instruction w))
+IsLocal = (is_kernel : Bool) (r : List ℕ) (psw : ℕ) (s t : Space) → Below s t → AsFar s t (outcome s (instruction is_kernel r psw)) (outcome t (instruction is_kernel r psw))
 
 -- the byte of a trouble over the first space is among those that are asked for over the second
 abbrev pub ReachesTrouble : Type 0
-ReachesTrouble = (w : Regs) (s t : Space) → Below s t → (intent : Intent) (va : ℕ) (cause : Cause) → outcome s (instruction w) ≡ Err (At cause intent va) → IsIn va (reached t (instruction w))
+ReachesTrouble = (is_kernel : Bool) (r : List ℕ) (psw : ℕ) (s t : Space) → Below s t → (intent : Intent) (va : ℕ) (cause : Cause) →
+    outcome s (instruction is_kernel r psw) ≡ Err (At cause intent va) → IsIn va (reached t (instruction is_kernel r psw))
+
+-- what an instruction stores it claimed for writing before
+abbrev pub ClaimsWhatItStores : Type 0
+ClaimsWhatItStores = (is_kernel : Bool) (r : List ℕ) (psw : ℕ) (s : Space) (opcode : ℕ) (e : Effect) →
+    outcome s (instruction is_kernel r psw) ≡ Ok (meant opcode (Plain e)) → StoresAreClaimed (claims s (instruction is_kernel r psw)) e.writes

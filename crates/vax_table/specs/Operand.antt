@@ -94,11 +94,11 @@ written_operand w s r =
 unfoldable pub address_operand : Width → Spec → List ℕ → Script Evaluated
 address_operand w s r = address_of (size_of w) s r >>= λ p. Done (evaluated p.at Nowhere p.r)
 
--- bits: the register or the address from which they are counted; the size is 1
-unfoldable pub bits_operand : Spec → List ℕ → Script Evaluated
-bits_operand s r =
+-- bits: the register or the address from which they are counted; their width is a byte
+unfoldable pub bits_operand : Width → Spec → List ℕ → Script Evaluated
+bits_operand w s r =
     if s.mode == 5 then Done (evaluated 0 (Register s.reg) r) else
-    (address_of 1 s r >>= λ p. Done (evaluated 0 (Memory p.at) p.r))
+    (address_of (size_of w) s r >>= λ p. Done (evaluated 0 (Memory p.at) p.r))
 
 -- branch: the value is the target, the displacement from the next PC
 unfoldable pub branch_operand : Width → Spec → List ℕ → Script Evaluated
@@ -110,7 +110,7 @@ by_access Read w s r = read_operand w s r
 by_access Modify w s r = modified_operand w s r
 by_access Write w s r = written_operand w s r
 by_access Address w s r = address_operand w s r
-by_access Bits w s r = bits_operand s r
+by_access Bits w s r = bits_operand w s r
 by_access Branch w s r = branch_operand w s r
 
 -- the bytes of an operand in the instruction: an index, the specifier's first and those behind it; or a displacement
@@ -144,6 +144,18 @@ abbrev pub forms_in : Option Entry → List Form
 forms_in None = []
 forms_in (Some e) = e.operands
 
--- the operands of an instruction, behind its opcode of one byte, or of two for WAIT
+-- operands of these forms, behind an opcode of one byte, or of two for WAIT
+abbrev pub operands_by : List Form → Instruction → List ℕ → Script Operands
+operands_by forms d r = operands_from 0 forms d.specs (no_operands (behind_bytes (if d.wait then 2 else 1) r))
+
+-- the operands of an instruction
 unfoldable pub operands_of : Instruction → List ℕ → Script Operands
-operands_of d r = operands_from 0 (forms_in (row_of d.opcode)) d.specs (no_operands (behind_bytes (if d.wait then 2 else 1) r))
+operands_of d r = operands_by (forms_in (row_of d.opcode)) d r
+
+-- The forms of an instruction that traps. MFPR's destination is not translated then, so it is located as bits are.
+abbrev pub trap_forms : ℕ → List Form
+trap_forms opcode = if opcode == 0xdb then record { access = Read; width = Long } ∷ record { access = Bits; width = Long } ∷ [] else forms_in (row_of opcode)
+
+-- the operands of an instruction that traps
+unfoldable pub trap_operands : Instruction → List ℕ → Script Operands
+trap_operands d r = operands_by (trap_forms d.opcode) d r

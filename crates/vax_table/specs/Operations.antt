@@ -5,11 +5,13 @@ use Rattle.std.specs.Prelude.{ℕ, ◌-◌, Bool, true, false, nat_le, ◌==◌,
 use Rattle.vv_base.specs.declared.width.Width.{Width}
 use Rattle.vv_base.specs.declared.width.Width.TheVariants.{Byte, Word, Long, Quad}
 use Rattle.vax_arch.specs.declared.mode.Intent.TheVariants.{Read, Write}
+use Rattle.vax_arch.specs.declared.mode.Mode.TheVariants.{Kernel, Executive, Supervisor, User}
+use Rattle.vax_table.specs.declared.act.Sens.TheVariants.{Halt, Wait, Rei, Ldpctx, Svpctx, Chm, Mtpr, Mfpr}
 use Rattle.vax_table.specs.declared.answer.AluOp.TheVariants.{Add, Sub, AddCarry, SubBorrow, Mul, Div, Bis, Bic, Xor, Mneg, Mcom, Move, Cmp, Bit, Tst, Ash, Rot, Narrow}
 use Rattle.vax_table.specs.declared.meaning.Condition.TheVariants as conditions
 use Rattle.vax_table.specs.declared.meaning.Inputs.TheVariants as inputs
 use Rattle.vax_table.specs.declared.meaning.Operation.{Operation}
-use Rattle.vax_table.specs.declared.meaning.Operation.TheVariants.{Other, Nothing, Compute, ClearQuad, MoveQuad, Push, SetStatus, ClearStatus, Branch, CallSubroutine, LeaveSubroutine, AddAndCompare, AddOne, SubtractOne, BranchOnLowBit, BranchOnBit, Case, PushRegisters, PopRegisters, CallGeneral, CallOnStack, Return, MoveStatus, Probe, Breakpoint, Customer}
+use Rattle.vax_table.specs.declared.meaning.Operation.TheVariants.{Other, Sensitive, Nothing, Compute, ClearQuad, MoveQuad, Push, SetStatus, ClearStatus, Branch, CallSubroutine, LeaveSubroutine, AddAndCompare, AddOne, SubtractOne, BranchOnLowBit, BranchOnBit, Case, PushRegisters, PopRegisters, CallGeneral, CallOnStack, Return, MoveStatus, Probe, Breakpoint, Customer}
 use Rattle.vax_table.specs.declared.meaning.Target.TheVariants as targets
 
 -- byte at 80, word at A0, long at C0: the sixteen of each
@@ -56,10 +58,14 @@ does n o = record { opcode = n; operation = o }
 -- the other opcodes
 abbrev pub other_operations : List OperationLine
 other_operations =
-    does 0x01 Nothing  -- NOP
+    does 0x00 (Sensitive Halt)  -- HALT
+    ∷ does 0x01 Nothing  -- NOP
+    ∷ does 0x02 (Sensitive Rei)  -- REI
     ∷ does 0x03 Breakpoint  -- BPT
     ∷ does 0x04 Return  -- RET
     ∷ does 0x05 LeaveSubroutine  -- RSB
+    ∷ does 0x06 (Sensitive Ldpctx)  -- LDPCTX
+    ∷ does 0x07 (Sensitive Svpctx)  -- SVPCTX
     ∷ does 0x0c (Probe Read)  -- PROBER
     ∷ does 0x0d (Probe Write)  -- PROBEW
     ∷ does 0x10 CallSubroutine  -- BSBB
@@ -112,8 +118,14 @@ other_operations =
     ∷ does 0xb9 ClearStatus  -- BICPSW
     ∷ does 0xba PopRegisters  -- POPR
     ∷ does 0xbb PushRegisters  -- PUSHR
+    ∷ does 0xbc (Sensitive (Chm Kernel))  -- CHMK
+    ∷ does 0xbd (Sensitive (Chm Executive))  -- CHME
+    ∷ does 0xbe (Sensitive (Chm Supervisor))  -- CHMS
+    ∷ does 0xbf (Sensitive (Chm User))  -- CHMU
     ∷ does 0xd8 (Compute AddCarry Long inputs.Both targets.Second)  -- ADWC
     ∷ does 0xd9 (Compute SubBorrow Long inputs.Both targets.Second)  -- SBWC
+    ∷ does 0xda (Sensitive Mtpr)  -- MTPR
+    ∷ does 0xdb (Sensitive Mfpr)  -- MFPR
     ∷ does 0xdc MoveStatus  -- MOVPSL
     ∷ does 0xdd Push  -- PUSHL
     ∷ does 0xe0 (BranchOnBit true None)  -- BBS
@@ -129,6 +141,7 @@ other_operations =
     ∷ does 0xfa CallGeneral  -- CALLG
     ∷ does 0xfb CallOnStack  -- CALLS
     ∷ does 0xfc Customer  -- XFC
+    ∷ does 0xfd (Sensitive Wait)  -- WAIT, which is FD 01
     ∷ []
 
 -- what a block of opcodes that begins at first says of one, and else what comes behind it

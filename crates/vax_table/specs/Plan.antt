@@ -12,15 +12,15 @@ use Rattle.vax_table.specs.Computing.{computed, moved_quad, pushed, status_clear
 use Rattle.vax_table.specs.Effects.{Effect, begun, dest_of, long_of, put, quad_of}
 use Rattle.vax_table.specs.Operand.{operands_of}
 use Rattle.vax_table.specs.Operations.{operation_of}
-use Rattle.vax_table.specs.Script.{Script, Done, Refuse, ◌>>=◌, Because}
+use Rattle.vax_table.specs.Script.{Script, Done, Refuse, ◌>>=◌}
 use Rattle.vax_table.specs.Spelling.{Instruction}
 use Rattle.vax_table.specs.declared.act.Refusal.TheVariants as refusals
 use Rattle.vax_table.specs.declared.evaluation.Operands.{Operands}
 use Rattle.vax_table.specs.declared.meaning.Operation.{Operation}
-use Rattle.vax_table.specs.declared.meaning.Operation.TheVariants.{Other, Nothing, Compute, ClearQuad, MoveQuad, Push, SetStatus, ClearStatus, Branch, CallSubroutine, LeaveSubroutine, AddAndCompare, AddOne, SubtractOne, BranchOnLowBit, BranchOnBit, Case, PushRegisters, PopRegisters, CallGeneral, CallOnStack, Return, MoveStatus, Probe, Breakpoint, Customer}
+use Rattle.vax_table.specs.declared.meaning.Operation.TheVariants.{Other, Sensitive, Nothing, Compute, ClearQuad, MoveQuad, Push, SetStatus, ClearStatus, Branch, CallSubroutine, LeaveSubroutine, AddAndCompare, AddOne, SubtractOne, BranchOnLowBit, BranchOnBit, Case, PushRegisters, PopRegisters, CallGeneral, CallOnStack, Return, MoveStatus, Probe, Breakpoint, Customer}
 
--- The operations that depend on registers, status word and space alone. Of the others the first refuses as an
--- instruction that there is not.
+-- The operations that depend on registers, status word and space alone. The others refuse, as
+-- instructions that there are not.
 unfoldable pub performed : Operation → Operands → ℕ → Script Effect
 performed Nothing o psw = Done (begun o psw)
 performed (Compute op w inputs target) o psw = Done (computed op w inputs target o psw)
@@ -43,15 +43,17 @@ performed PopRegisters o psw = registers_popped o psw
 performed CallGeneral o psw = called_general o psw
 performed CallOnStack o psw = called_on_stack o psw
 performed Return o psw = returned o psw
-performed Breakpoint o psw = Refuse (Because refusals.Breakpoint)
-performed Customer o psw = Refuse (Because refusals.Customer)
-performed MoveStatus o psw = Refuse (Because refusals.Instruction)
-performed (Probe intent) o psw = Refuse (Because refusals.Instruction)
-performed Other o psw = Refuse (Because refusals.Instruction)
+performed Breakpoint o psw = Refuse refusals.Breakpoint
+performed Customer o psw = Refuse refusals.Customer
+performed MoveStatus o psw = Refuse refusals.Instruction
+performed (Probe intent) o psw = Refuse refusals.Instruction
+performed (Sensitive op) o psw = Refuse refusals.Instruction
+performed Other o psw = Refuse refusals.Instruction
 
 -- the plain instructions but MOVPSL, PROBE, BPT and XFC
 abbrev pub is_planned : Operation → Bool
 is_planned Other = false
+is_planned (Sensitive op) = false
 is_planned MoveStatus = false
 is_planned (Probe intent) = false
 is_planned Breakpoint = false

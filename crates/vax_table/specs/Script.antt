@@ -9,15 +9,10 @@ use Rattle.vax_table.specs.declared.act.Refusal.{Refusal}
 pub data Cause : Type 0 where
   Absent Refusing Past : Cause
 
--- why an instruction refuses itself: a refusal of the architecture, or one that isn't built, with its opcode
-pub data Reason : Type 0 where
-  Because : Refusal → Reason
-  Unbuilt : ℕ → Reason
-
--- what a script stops at: the first byte of a reference that has trouble, or a test
+-- what a script stops at: the first byte of a reference that has trouble, or a test that refuses the instruction
 pub data Trouble : Type 0 where
   At : Cause → Intent → ℕ → Trouble
-  Test : Reason → Trouble
+  Test : Refusal → Trouble
 
 -- a space: the byte at an address, for reading or for writing, or why there is none
 abbrev pub Space : Type 0
@@ -37,7 +32,7 @@ number_at s i (suc k) a = with_byte i (a % 2 ^ 32) (s i (a % 2 ^ 32)) (number_at
 -- A script: it is done, it refuses, or it touches so many bytes from an address and goes on with their number.
 pub data Script (A : Type 0) : Type 0 where
   Done : A → Script A
-  Refuse : Reason → Script A
+  Refuse : Refusal → Script A
   Touch : Intent → (at size : ℕ) → (ℕ → Script A) → Script A
 
 -- one script and then another

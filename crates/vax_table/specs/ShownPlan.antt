@@ -13,7 +13,7 @@ use Rattle.vax_table.specs.Operand.{address_of, address_operand, base_address, b
 use Rattle.vax_table.specs.Operations.{operation_of}
 use Rattle.vax_table.specs.Plan.{Given, performed, plan_of}
 use Rattle.vax_table.specs.Rows.{row_of}
-use Rattle.vax_table.specs.Script.{Absent, At, Because, Refusing, Script, Space, Test, outcome, reached}
+use Rattle.vax_table.specs.Script.{Absent, At, Refusing, Script, Space, Test, outcome, reached}
 use Rattle.vax_table.specs.ShownOperand.{instruction}
 use Rattle.vax_table.specs.Spelled.{value_size}
 use Rattle.vax_table.specs.Spelling.{Instruction, unindexed}
@@ -155,11 +155,11 @@ pub stores_the_psl : outcome nothing (doing (instruction 0xdc (unindexed 5 0 0 �
 unfolding plan_of operation_of row_of operands_of operand_of written_operand value_size
 stores_the_psl = refl
 
-pub bpt : outcome zeros (doing (instruction 0x03 []) (registers 0 0 0 0 0 0x200) 0) ≡ Err (Test (Because refusals.Breakpoint))
+pub bpt : outcome zeros (doing (instruction 0x03 []) (registers 0 0 0 0 0 0x200) 0) ≡ Err (Test refusals.Breakpoint)
 unfolding plan_of performed operation_of row_of operands_of
 bpt = refl
 
-pub xfc : outcome zeros (doing (instruction 0xfc []) (registers 0 0 0 0 0 0x200) 0) ≡ Err (Test (Because refusals.Customer))
+pub xfc : outcome zeros (doing (instruction 0xfc []) (registers 0 0 0 0 0 0x200) 0) ≡ Err (Test refusals.Customer)
 unfolding plan_of performed operation_of row_of operands_of
 xfc = refl
 

@@ -6,14 +6,8 @@ use Rattle.vax_table.specs.Rows.{Entry, row_of}
 use Rattle.vax_table.specs.Spelling.{view}
 use Rattle.vax_table.specs.Standing.{AllStand}
 use Rattle.vax_table.proofs.Standings.{well_formed}
-use Rattle.vax_operand.proofs.Steps.{next_pc, of_row}
+use Rattle.vax_operand.proofs.Steps.{in_row, next_pc, of_row}
 use Rattle.vax_operand.proofs.instruction.evaluate.Goals as goal
-
--- the operands of the row that was found
-in_row : (o : Option Entry) (e : Entry) (forms : List Form) (all specs : List Spec) → Some e ≡ o → forms ≡ e.operands → specs ≡ all → AllStand (forms_in o) all → AllStand forms specs
-in_row o e forms all specs is f s h =
-    let row : AllStand e.operands all = subst (λ (x : Option Entry). AllStand (forms_in x) all) (sym is) h in
-    rw (f, s) row
 
 pub evaluate_all-requires-clause-stand : goal.evaluate_all-requires-clause-stand
 evaluate_all-requires-clause-stand g c =

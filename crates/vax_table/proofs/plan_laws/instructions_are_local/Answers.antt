@@ -1,6 +1,6 @@
-use Rattle.vax_table.specs.Built.{instruction}
+use Rattle.vax_table.specs.Whole.{instruction}
 use Rattle.vax_table.proofs.Scripts.{outcome_far}
 use Rattle.vax_table.proofs.plan_laws.instructions_are_local.Goals as goal
 
 pub returns : goal.returns
-returns c w s t below = outcome_far s t below (instruction w)
+returns c is_kernel r psw s t below = outcome_far s t below (instruction is_kernel r psw)

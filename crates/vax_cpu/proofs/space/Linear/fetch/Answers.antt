@@ -1,4 +1,4 @@
-use Rattle.std.proofs.Common.{length, slice_index, arith, ap, ◌∙◌, List, ℕ, ◌+◌, ◌%◌, ◌^◌}
+use Rattle.std.proofs.Common.{length, arith, ap, ◌∙◌, List, ℕ, ◌+◌, ◌%◌, ◌^◌}
 use Rattle.vax_hw.specs.Machine.{linear}
 use Rattle.vax_table.specs.Fetch.{decided, fetched}
 use Rattle.vax_table.specs.Script.{outcome}
@@ -12,8 +12,8 @@ loop-looks-init c = record {
   room = ap (λ (b : List ℕ). length b + 22) c.new-bytes.ensures;
 }
 
-pub returns-in-Done : goal.returns-in-Done
-returns-in-Done c = whole (linear c.args.self.now.memory.now c.args.self.now.p0br c.args.self.now.p0lr) c.loop-looks._looks c.args.pc c.loop-looks.bytes.items _ _ c.in-Done.decoded (omega arith) c.as_slice.ensures.value c.in-Done.ensures.reads c.loop-looks.invariant.same
+pub returns-in-Done-clause-fetched : goal.returns-in-Done-clause-fetched
+returns-in-Done-clause-fetched c = whole (linear c.args.self.now.memory.now c.args.self.now.p0br c.args.self.now.p0lr) c.loop-looks._looks c.args.pc c.loop-looks.bytes.items _ _ c.in-Done.decoded (omega arith) c.as_slice.ensures.value c.in-Done.ensures.reads c.loop-looks.invariant.same
 
 pub loop-looks-preserved : goal.loop-looks-preserved
 loop-looks-preserved c = record {
@@ -21,11 +21,14 @@ loop-looks-preserved c = record {
   room = omega (arith, c.push.ensures.len);
 }
 
-pub returns-in-Err : goal.returns-in-Err
-returns-in-Err c = stopped (linear c.args.self.now.memory.now c.args.self.now.p0br c.args.self.now.p0lr) c.loop-looks._looks c.args.pc ((c.args.pc + c.len.result) % 2 ^ 32) c.loop-looks.bytes.items _ c.in-Err.exit _ (omega arith) c.as_slice.ensures.value c.in-NeedMore.ensures.reads (ap (λ (x : ℕ). (c.args.pc + x) % 2 ^ 32) c.len.ensures.value) c.in-Err.ensures c.loop-looks.invariant.same
+pub returns-in-Err-clause-fetched : goal.returns-in-Err-clause-fetched
+returns-in-Err-clause-fetched c = stopped (linear c.args.self.now.memory.now c.args.self.now.p0br c.args.self.now.p0lr) c.loop-looks._looks c.args.pc ((c.args.pc + c.len.result) % 2 ^ 32) c.loop-looks.bytes.items _ c.in-Err.exit _ (omega arith) c.as_slice.ensures.value c.in-NeedMore.ensures.reads (ap (λ (x : ℕ). (c.args.pc + x) % 2 ^ 32) c.len.ensures.value) c.in-Err.ensures c.loop-looks.invariant.same
 
-pub returns-in-Fault : goal.returns-in-Fault
-returns-in-Fault c = fault (linear c.args.self.now.memory.now c.args.self.now.p0br c.args.self.now.p0lr) c.loop-looks._looks c.args.pc c.first.result c.loop-looks.bytes.items _ _ c.in-Fault.field-0 (omega arith) c.as_slice.ensures.value c.in-Fault.ensures.reads (c.first.ensures ∙ ap (λ (b : List ℕ). slice_index b 0) c.as_slice-in-Fault.ensures.value) c.loop-looks.invariant.same
+pub returns-in-Fault-clause-fetched : goal.returns-in-Fault-clause-fetched
+returns-in-Fault-clause-fetched c = fault (linear c.args.self.now.memory.now c.args.self.now.p0br c.args.self.now.p0lr) c.loop-looks._looks c.args.pc c.refusal_of.result c.loop-looks.bytes.items _ _ c.in-Fault.fault (omega arith) c.as_slice.ensures.value c.in-Fault.ensures.reads c.refusal_of.ensures c.loop-looks.invariant.same
 
-pub returns : goal.returns
-returns c = no_more (linear c.args.self.now.memory.now c.args.self.now.p0br c.args.self.now.p0lr) c.loop-looks._looks c.args.pc c.first-2.result c.loop-looks.bytes.items _ (omega arith) (c.first-2.ensures ∙ ap (λ (b : List ℕ). slice_index b 0) c.as_slice-2.ensures.value) c.loop-looks.invariant.same
+pub returns-clause-fetched : goal.returns-clause-fetched
+returns-clause-fetched c = no_more (linear c.args.self.now.memory.now c.args.self.now.p0br c.args.self.now.p0lr) c.loop-looks._looks c.args.pc c.loop-looks.bytes.items _ (omega arith) c.loop-looks.invariant.same
+
+pub returns-in-Done-clause-formed : goal.returns-in-Done-clause-formed
+returns-in-Done-clause-formed c = let h = c.in-Done.ensures.spells in (h.0, h.3)
