@@ -1,10 +1,10 @@
 -- The first line of a text.
-use Rattle.std.proofs.Common.{◌≡◌, ◌<◌, ◌≤◌, ◌+◌, ◌-◌, ◌==◌, ℕ, List, [], ◌∷◌, length, Bool, true, false, Option, Some, None, refl, sym, ◌∙◌, ap, subst, arith, take, drop, nat_lt, get_or, cond}
+use Rattle.std.proofs.Common.{◌≡◌, ◌<◌, ◌≤◌, ◌+◌, ◌==◌, ℕ, List, [], ◌∷◌, length, Bool, true, false, Some, None, refl, ◌∙◌, ap, arith, take, drop, nat_lt, cond}
 use Rattle.std.proofs.lemmas.Bool.{ltb-true, ltb-false}
 use Rattle.std.proofs.lemmas.List.Elements.{All-from_get_or}
 use Rattle.std.proofs.lemmas.List.Splits.{slice_split_first, slice_split_none, length-slice_split}
 use Rattle.std.proofs.lemmas.List.Sums.{fails_before_first}
-use Rattle.std.specs.List.{slice_split, before_first, after_first, position, position_or_len, count_by}
+use Rattle.std.specs.List.{slice_split, before_first, after_first, position, position_or_len}
 use Rattle.std.specs.Str.Lines.{lines, lines_of_parts, strip_carriage_return}
 
 -- a part before others is a line that has its end
@@ -38,5 +38,5 @@ line_without_feed text is some =
     let beyond : nat_lt (position_or_len (λ b. b == 10) text) (length text) ≡ false = missed _ _ is in
     let all : length text ≤ position_or_len (λ b. b == 10) text = ltb-false _ _ beyond in
     let cut : slice_split (λ b. b == 10) text ≡ text ∷ [] =
-        slice_split_none (λ b. b == 10) text (All-from_get_or (λ b. (b == 10) ≡ false) text 0 (λ i below. fails_before_first (λ b. b == 10) text i 0 (omega (arith, below, all)))) in
+    slice_split_none (λ b. b == 10) text (All-from_get_or (λ b. (b == 10) ≡ false) text 0 (λ i below. fails_before_first (λ b. b == 10) text i 0 (omega (arith, below, all)))) in
     rw (cut, some)

@@ -105,10 +105,10 @@ all_follow number last [] events is =
     subst (Follow last) none (tt, tt)
 all_follow number last (line ∷ more) events is =
     line_follows (is_passed_over line) last (at_line number (event_in last line)) (events_from (number + 1) last more) (λ event. events_from (number + 1) event.round more) events
-        (λ rest. all_follow (number + 1) last more events rest)
-        (λ event read. event_of_line last line event (of_line number (event_in last line) event read))
-        (λ event rest read. all_follow (number + 1) event.round more rest read)
-        is
+    (λ rest. all_follow (number + 1) last more events rest)
+    (λ event read. event_of_line last line event (of_line number (event_in last line) event read))
+    (λ event rest read. all_follow (number + 1) event.round more rest read)
+    is
 
 pub are_events : (bytes : List ℕ) (events : List Event) → script_of bytes ≡ Ok events → AreEvents events
 unfolding script_of

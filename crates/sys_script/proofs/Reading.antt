@@ -1,8 +1,8 @@
 -- The events of the lines that were read, and of those that are left.
-use Rattle.std.proofs.Common.{◌≡◌, ℕ, ◌+◌, ◌<◌, ◌^◌, List, [], ◌∷◌, ◌++◌, Bool, true, false, Result, Ok, Err, refl, sym, ◌∙◌, ap, append-nil}
+use Rattle.std.proofs.Common.{◌≡◌, ℕ, List, [], ◌++◌, Result, Ok, Err, refl, sym, ◌∙◌, ap, append-nil}
 use Rattle.std.specs.Str.Lines.{lines}
-use Rattle.sys_script.specs.Line.{event_in, ◌>>=◌}
-use Rattle.sys_script.specs.Script.{at_line, events_from, in_front, is_passed_over, script_of, told}
+use Rattle.sys_script.specs.Line.{◌>>=◌}
+use Rattle.sys_script.specs.Script.{events_from, script_of}
 use Rattle.sys_script.specs.declared.event.Event.{Event}
 use Rattle.sys_script.specs.declared.event.ScriptFault.{ScriptFault}
 

@@ -1,7 +1,7 @@
 -- What one line of a script says (profile): `ROUND NAME > TEXT`, `ROUND NAME >` for an empty text, or
 -- `ROUND NAME break`, with single blanks.
 use Rattle.std.specs.List.{after_first, before_first}
-use Rattle.std.specs.Prelude.{ℕ, List, [], ◌∷◌, codes, take, drop, Bool, true, false, ◌==◌, nat_le, if◌then◌else◌, Option, Some, None, Result, Ok, Err, bytes_eq}
+use Rattle.std.specs.Prelude.{ℕ, List, [], codes, take, drop, Bool, true, false, ◌==◌, nat_le, if◌then◌else◌, Option, Some, None, Result, Ok, Err, bytes_eq}
 use Rattle.vv_base.specs.Digits.{decimal_of}
 use Rattle.vv_base.specs.Names.{is_object_name, tested}
 use Rattle.sys_script.specs.Texts.{is_text}
@@ -29,9 +29,9 @@ round_in text = at_least_one (decimal_of text 1000000)
 -- what happens at the terminal: a break, or a line typed behind the sign
 abbrev pub what_in : List ℕ → Option Typed
 what_in text =
-  if bytes_eq text (codes "break") then Some Break else
-  if bytes_eq text (codes ">") then Some (Line []) else
-  if bytes_eq (take 2 text) (codes "> ") then Some (Line (drop 2 text)) else None
+    if bytes_eq text (codes "break") then Some Break else
+    if bytes_eq text (codes ">") then Some (Line []) else
+    if bytes_eq (take 2 text) (codes "> ") then Some (Line (drop 2 text)) else None
 
 abbrev pub is_allowed : Typed → Bool
 is_allowed Break = true
@@ -55,9 +55,9 @@ when kind false = Err kind
 -- fails tells the kind
 unfoldable pub event_in : ℕ → List ℕ → Result Event ScriptKind
 event_in last line =
-  or_kind BadRound (round_in (front line)) >>= λ round.
-  or_kind BadName (tested is_object_name (front (behind line))) >>= λ name.
-  or_kind BadEvent (what_in (behind (behind line))) >>= λ what.
-  when BadText (is_allowed what) >>= λ _.
-  when RoundFalls (nat_le last round) >>= λ _.
-  Ok (record { round = round; terminal = name; what = what })
+    or_kind BadRound (round_in (front line)) >>= λ round.
+    or_kind BadName (tested is_object_name (front (behind line))) >>= λ name.
+    or_kind BadEvent (what_in (behind (behind line))) >>= λ what.
+    when BadText (is_allowed what) >>= λ _.
+    when RoundFalls (nat_le last round) >>= λ _.
+    Ok (record { round = round; terminal = name; what = what })

@@ -1,6 +1,6 @@
 -- A script (profile). Its lines are those of std's `lines`: each ends with a line feed, or with a carriage
 -- return and a line feed; the last may lack its end, and a carriage return there is part of it.
-use Rattle.std.specs.Prelude.{◌≡◌, ℕ, ◌+◌, ◌-◌, ◌^◌, min, List, [], ◌∷◌, Bool, true, false, ◌==◌, if◌then◌else◌, Result, Ok, Err}
+use Rattle.std.specs.Prelude.{ℕ, ◌+◌, ◌-◌, ◌^◌, min, List, [], ◌∷◌, Bool, true, ◌==◌, if◌then◌else◌, Result, Ok, Err}
 use Rattle.std.specs.Str.Lines.{lines}
 use Rattle.sys_script.specs.Line.{event_in, ◌>>=◌}
 use Rattle.sys_script.specs.declared.event.Event.{Event}
@@ -25,8 +25,8 @@ in_front event events = events >>= λ more. Ok (event ∷ more)
 abbrev pub events_from : ℕ → ℕ → List (List ℕ) → Result (List Event) ScriptFault
 events_from number last [] = Ok []
 events_from number last (line ∷ more) =
-  if is_passed_over line then events_from (number + 1) last more else
-  (at_line number (event_in last line) >>= λ event. in_front event (events_from (number + 1) event.round more))
+    if is_passed_over line then events_from (number + 1) last more else
+    (at_line number (event_in last line) >>= λ event. in_front event (events_from (number + 1) event.round more))
 
 -- the events of a script, in its order
 unfoldable pub script_of : List ℕ → Result (List Event) ScriptFault

@@ -2,7 +2,7 @@
 use Rattle.std.specs.Prelude.{◌≡◌, [], ◌∷◌, ◌++◌, codes, Ok, Err, refl}
 use Rattle.std.specs.Str.Lines.{lines}
 use Rattle.sys_script.specs.Line.{event_in}
-use Rattle.sys_script.specs.Script.{script_of, told}
+use Rattle.sys_script.specs.Script.{script_of}
 use Rattle.sys_script.specs.declared.event.ScriptKind.TheVariants.{BadRound, BadName, BadEvent, BadText, RoundFalls}
 use Rattle.sys_script.specs.declared.event.Typed.TheVariants.{Break, Line}
 

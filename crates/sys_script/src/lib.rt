@@ -9,3 +9,6 @@ mod text;
 pub use event::{Event, ScriptError, ScriptFault, ScriptKind, Typed};
 pub use script::read_script;
 pub use text::LineText;
+
+#[cfg(test)]
+mod tests;
