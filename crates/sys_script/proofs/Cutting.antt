@@ -8,7 +8,7 @@ use Rattle.std.specs.List.{slice_split, before_first, after_first, position, pos
 use Rattle.std.specs.Str.Lines.{lines, lines_of_parts, strip_carriage_return}
 
 -- a part before others is a line that has its end
-first_part : (part : List ℕ) (parts : List (List ℕ)) (more : ℕ) → length parts ≡ more + 1 → lines_of_parts (part ∷ parts) ≡ strip_carriage_return part ∷ lines_of_parts parts
+pub first_part : (part : List ℕ) (parts : List (List ℕ)) (more : ℕ) → length parts ≡ more + 1 → lines_of_parts (part ∷ parts) ≡ strip_carriage_return part ∷ lines_of_parts parts
 first_part part [] more some = grind arith
 first_part part (x ∷ parts) more some = refl
 

@@ -7,7 +7,7 @@ mod script;
 mod text;
 
 pub use event::{Event, ScriptError, ScriptFault, ScriptKind, Typed};
-pub use script::read_script;
+pub use script::{read_script, script_law};
 pub use text::LineText;
 
 #[cfg(test)]

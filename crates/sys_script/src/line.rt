@@ -1,8 +1,9 @@
 ghost use Rattle.std.specs.List.{list_all, position};
 ghost use Rattle.std.specs.Prelude.{◌≡◌, ◌<◌, ◌==◌, ◌-◌, ◌^◌, IfErr, IfOk, IfSome, IsTrue, length, min, option_map};
+ghost use Rattle.sys_script.specs.Answers.{Reads};
+ghost use Rattle.sys_script.specs.Asked.{seen_of};
 ghost use Rattle.sys_script.specs.Line.{behind, event_in, front, is_allowed, round_in, what_in};
 ghost use Rattle.sys_script.specs.Script.{at_line, told};
-ghost use Rattle.sys_script.specs.Seen.{Reads, seen_of};
 ghost use Rattle.sys_script.specs.Texts.{is_shown, is_text};
 
 use crate::{Event, LineText, ScriptError, ScriptFault, ScriptKind, Typed};
@@ -101,7 +102,7 @@ fn fault(number: usize, kind: ScriptKind) -> ScriptError
 
 /// The event that a line says, where the event before it is of the round `last`.
 #[tactic(auto, unfolding(crate::specs::Line::event_in))]
-pub fn read_event(
+pub(crate) fn read_event(
     alloc: Global,
     number: usize,
     last: u32,

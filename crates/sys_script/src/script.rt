@@ -1,10 +1,11 @@
 ghost use Rattle.std.specs.List.{position};
-ghost use Rattle.std.specs.Prelude.{◌≡◌, ◌<◌, ◌==◌, ◌^◌, [], ◌∷◌, IfOk, IfSome, length};
+ghost use Rattle.std.specs.Prelude.{◌≡◌, ◌<◌, ◌==◌, ◌^◌, [], ◌∷◌, IfOk, IfSome, List, length};
 ghost use Rattle.std.specs.Option.{option_map_or};
 ghost use Rattle.std.specs.Str.Lines.{lines, strip_carriage_return};
+ghost use Rattle.sys_script.specs.Answers.{Reads};
 ghost use Rattle.sys_script.specs.Events.{AreEvents};
 ghost use Rattle.sys_script.specs.Script.{is_passed_over, script_of, told};
-ghost use Rattle.sys_script.specs.Seen.{Reads};
+ghost use Rattle.sys_script.specs.Written.{script_text};
 
 use crate::line::read_event;
 use crate::{Event, ScriptError};
@@ -44,13 +45,13 @@ fn is_passed_over(line: &[u8]) -> bool
     matches!(line, [] | [b'#', ..])
 }
 
+/// The events of a script in its order, or the first line that is refused, and why. A line's number is
+/// told as 2^32 - 1 where it is greater; a script of fewer than 2^32 bytes has no such line.
 #[tactic(auto, using(crate::proofs::Reading::begins))]
-/// The events of a script in its order, or the first line that is refused, and why. The number of a line
-/// beyond 2^32 - 1 is told as that; a script of fewer than 2^32 bytes has no such line.
 pub fn read_script(alloc: Global, b: &[u8]) -> Result<Vec<Event>, ScriptError>
     ensures exact { length b.now < 2 ^ 32 → Reads (λ events. events.items) (script_of b.now) result }
-    ensures events { IfOk result (λ events. AreEvents events.items) }
     ensures any_length { Reads (λ events. events.items) (told (script_of b.now)) result }
+    ensures events { IfOk result (λ events. AreEvents events.items) }
 {
     let mut events = Vec::new(alloc);
     let mut rest = b;
@@ -70,3 +71,9 @@ pub fn read_script(alloc: Global, b: &[u8]) -> Result<Vec<Event>, ScriptError>
     }
     Ok(events)
 }
+
+/// Each list of events whose rounds never fall is the meaning of its text.
+#[tactic(auto, using(crate::proofs::WrittenAgain::written_is_read))]
+pub fn script_law()
+    ensures { (events : List Event) → AreEvents events → script_of (script_text events) ≡ Ok events }
+{}
