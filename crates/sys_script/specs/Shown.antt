@@ -1,8 +1,10 @@
 -- Worked examples of lines and scripts, checked by computation.
-use Rattle.std.specs.Prelude.{◌≡◌, [], ◌∷◌, ◌++◌, codes, Ok, Err, refl}
+use Rattle.std.specs.Prelude.{◌≡◌, ℕ, ◌+◌, ◌^◌, [], ◌∷◌, ◌++◌, codes, Ok, Err, refl}
+use Rattle.std.specs.Fmt.{digits}
 use Rattle.std.specs.Str.Lines.{lines}
 use Rattle.sys_script.specs.Line.{event_in}
-use Rattle.sys_script.specs.Script.{script_of}
+use Rattle.sys_script.specs.Script.{script_of, told}
+use Rattle.sys_script.specs.Written.{script_text}
 use Rattle.sys_script.specs.declared.event.ScriptKind.TheVariants.{BadRound, BadName, BadEvent, BadText, RoundFalls}
 use Rattle.sys_script.specs.declared.event.Typed.TheVariants.{Break, Line}
 
@@ -58,3 +60,14 @@ nothing_behind_a_break = refl
 pub a_return_is_no_text : script_of (codes "1 T1 > A" ++ 13 ∷ []) ≡ Err (record { line = 1; kind = BadText })
 unfolding script_of event_in
 a_return_is_no_text = refl
+
+-- a line's number as far as 32 bits hold it
+a_number_is_told : told {A = ℕ} (Err (record { line = 70000; kind = BadName })) ≡ Err (record { line = 70000; kind = BadName })
+a_number_is_told = refl
+
+the_greatest_number : told {A = ℕ} (Err (record { line = 2 ^ 32 + 5; kind = BadName })) ≡ Err (record { line = 4294967295; kind = BadName })
+the_greatest_number = refl
+
+pub written : script_text (record { round = 12; terminal = codes "T1"; what = Line (codes "SHOW") } ∷ record { round = 1000000; terminal = codes "T1"; what = Break } ∷ []) ≡ codes "12 T1 > SHOW\n1000000 T1 break\n"
+unfolding digits
+written = refl
