@@ -1,0 +1,4 @@
+pub mod Cutting
+pub mod Ordered
+pub mod Reading
+pub mod WrittenAgain

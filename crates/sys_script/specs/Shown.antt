@@ -1,0 +1,73 @@
+-- Worked examples of lines and scripts, checked by computation.
+use Rattle.std.specs.Prelude.{◌≡◌, ℕ, ◌+◌, ◌^◌, [], ◌∷◌, ◌++◌, codes, Ok, Err, refl}
+use Rattle.std.specs.Fmt.{digits}
+use Rattle.std.specs.Str.Lines.{lines}
+use Rattle.sys_script.specs.Line.{event_in}
+use Rattle.sys_script.specs.Script.{script_of, told}
+use Rattle.sys_script.specs.Written.{script_text}
+use Rattle.sys_script.specs.declared.event.ScriptKind.TheVariants.{BadRound, BadName, BadEvent, BadText, RoundFalls}
+use Rattle.sys_script.specs.declared.event.Typed.TheVariants.{Break, Line}
+
+-- 13 and 10 are a carriage return and a line feed
+both_ends : lines (codes "a" ++ 13 ∷ 10 ∷ [] ++ codes "b" ++ 10 ∷ []) ≡ codes "a" ∷ codes "b" ∷ []
+both_ends = refl
+
+the_last_keeps_its_return : lines (codes "a" ++ 13 ∷ 10 ∷ [] ++ codes "b" ++ 13 ∷ []) ≡ codes "a" ∷ (codes "b" ++ 13 ∷ []) ∷ []
+the_last_keeps_its_return = refl
+
+one_return_is_lost : lines (codes "a" ++ 13 ∷ 13 ∷ 10 ∷ []) ≡ (codes "a" ++ 13 ∷ []) ∷ []
+one_return_is_lost = refl
+
+pub no_events : script_of [] ≡ Ok []
+unfolding script_of
+no_events = refl
+
+pub events_in_order : script_of (codes "# comment\n\n3 T1 > SHOW\n3 T2 break\n") ≡ Ok (record { round = 3; terminal = codes "T1"; what = Line (codes "SHOW") } ∷ record { round = 3; terminal = codes "T2"; what = Break } ∷ [])
+unfolding script_of event_in
+events_in_order = refl
+
+-- with and without a blank behind the sign
+pub empty_texts : script_of (codes "1 T1 >\n1 T1 > \n") ≡ Ok (record { round = 1; terminal = codes "T1"; what = Line [] } ∷ record { round = 1; terminal = codes "T1"; what = Line [] } ∷ [])
+unfolding script_of event_in
+empty_texts = refl
+
+-- the blanks behind the first are part of the text
+pub blanks_are_typed : script_of (codes "1 T1 >  A ") ≡ Ok (record { round = 1; terminal = codes "T1"; what = Line (codes " A ") } ∷ [])
+unfolding script_of event_in
+blanks_are_typed = refl
+
+pub a_round_falls : script_of (codes "3 T1 > A\n2 T1 > B\n") ≡ Err (record { line = 2; kind = RoundFalls })
+unfolding script_of event_in
+a_round_falls = refl
+
+-- passed-over lines count
+pub the_fourth_line : script_of (codes "#\n\n1 T1 break\n0 T1 break\n") ≡ Err (record { line = 4; kind = BadRound })
+unfolding script_of event_in
+the_fourth_line = refl
+
+pub no_comment : script_of (codes " #\n") ≡ Err (record { line = 1; kind = BadRound })
+unfolding script_of event_in
+no_comment = refl
+
+pub two_blanks : script_of (codes "1  T1 break") ≡ Err (record { line = 1; kind = BadName })
+unfolding script_of event_in
+two_blanks = refl
+
+pub nothing_behind_a_break : script_of (codes "1 T1 break now") ≡ Err (record { line = 1; kind = BadEvent })
+unfolding script_of event_in
+nothing_behind_a_break = refl
+
+pub a_return_is_no_text : script_of (codes "1 T1 > A" ++ 13 ∷ []) ≡ Err (record { line = 1; kind = BadText })
+unfolding script_of event_in
+a_return_is_no_text = refl
+
+-- a line's number as far as 32 bits hold it
+a_number_is_told : told {A = ℕ} (Err (record { line = 70000; kind = BadName })) ≡ Err (record { line = 70000; kind = BadName })
+a_number_is_told = refl
+
+the_greatest_number : told {A = ℕ} (Err (record { line = 2 ^ 32 + 5; kind = BadName })) ≡ Err (record { line = 4294967295; kind = BadName })
+the_greatest_number = refl
+
+pub written : script_text (record { round = 12; terminal = codes "T1"; what = Line (codes "SHOW") } ∷ record { round = 1000000; terminal = codes "T1"; what = Break } ∷ []) ≡ codes "12 T1 > SHOW\n1000000 T1 break\n"
+unfolding digits
+written = refl
