@@ -1,5 +1,5 @@
 -- What an instruction stores, whole, it claimed.
-use Rattle.std.proofs.Common.{◌≡◌, ℕ, ◌||◌, Bool, List, [], ◌∷◌, ◌++◌, length, Ok}
+use Rattle.std.proofs.Common.{◌≡◌, ℕ, ◌||◌, Bool, List, [], ◌++◌, length, Ok}
 use Rattle.std.specs.Prelude.{slice_index}
 use Rattle.vax_table.specs.Claims.{Holds, addresses, claims, if_write}
 use Rattle.vax_table.specs.Effects.{Effect}

@@ -1,10 +1,6 @@
-use Rattle.std.proofs.Common.{◌≡◌, List, Some, Option, sym, subst, arith}
-use Rattle.vax_table.specs.declared.forms.Form.{Form}
-use Rattle.vax_table.specs.declared.decoded.Spec.{Spec}
-use Rattle.vax_table.specs.Operand.{forms_in}
-use Rattle.vax_table.specs.Rows.{Entry, row_of}
+use Rattle.std.proofs.Common.{arith}
+use Rattle.vax_table.specs.Rows.{row_of}
 use Rattle.vax_table.specs.Spelling.{view}
-use Rattle.vax_table.specs.Standing.{AllStand}
 use Rattle.vax_table.proofs.Standings.{well_formed}
 use Rattle.vax_operand.proofs.Steps.{in_row, next_pc, of_row}
 use Rattle.vax_operand.proofs.instruction.evaluate.Goals as goal

@@ -1,4 +1,4 @@
-use Rattle.std.proofs.Common.{length, arith, ap, ◌∙◌, List, ℕ, ◌+◌, ◌%◌, ◌^◌}
+use Rattle.std.proofs.Common.{length, arith, ap, List, ℕ, ◌+◌, ◌%◌, ◌^◌}
 use Rattle.vax_hw.specs.Machine.{linear}
 use Rattle.vax_table.specs.Fetch.{decided, fetched}
 use Rattle.vax_table.specs.Script.{outcome}
