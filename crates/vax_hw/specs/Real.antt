@@ -4,14 +4,12 @@ use Rattle.std.specs.Prelude.{ℕ, zero, suc, ◌+◌, ◌%◌, ◌^◌, Bool, t
 use Rattle.vax_arch.specs.Fields.{current_of}
 use Rattle.vax_arch.specs.declared.mode.Intent.{Intent}
 use Rattle.vax_arch.specs.declared.mode.Intent.TheVariants.{Read, Write}
-use Rattle.vax_arch.specs.declared.mode.Mode.{Mode}
-use Rattle.vax_arch.specs.declared.mode.Mode.TheVariants.{Kernel}
 use Rattle.vax_hw.specs.Machine.{Machine, psw_of, retire, space_of}
 use Rattle.vax_hw.specs.declared.world.Exit.{Exit}
 use Rattle.vax_hw.specs.declared.world.Exit.TheVariants.{Arithmetic, Budget, NotValid, Denied, Emulate, Refused}
 use Rattle.vax_hw.specs.declared.world.World.{World}
 use Rattle.vax_table.specs.Script.{Absent, Refusing, Past, Trouble, At, Test, outcome}
-use Rattle.vax_table.specs.Whole.{Act, Meant, Plain, Traps, instruction}
+use Rattle.vax_table.specs.Whole.{Act, Meant, Plain, Traps, instruction, is_kernel}
 
 abbrev pub is_write : Intent → Bool
 is_write Read = false
@@ -27,10 +25,6 @@ exit_of (Test r) = Refused r
 abbrev pub exits : {A : Type 0} → Result A Trouble → Result A Exit
 exits (Ok x) = Ok x
 exits (Err t) = Err (exit_of t)
-
-abbrev pub is_kernel : Mode → Bool
-is_kernel Kernel = true
-is_kernel mode = false
 
 -- whether the virtual machine's mode is kernel
 abbrev pub in_kernel : World → Bool

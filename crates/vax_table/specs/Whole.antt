@@ -6,6 +6,8 @@ use Rattle.vv_base.specs.declared.width.Width.TheVariants.{Word}
 use Rattle.vv_base.specs.Width.{low}
 use Rattle.vax_arch.specs.declared.mode.Intent.{Intent}
 use Rattle.vax_arch.specs.declared.mode.Intent.TheVariants as intents
+use Rattle.vax_arch.specs.declared.mode.Mode.{Mode}
+use Rattle.vax_arch.specs.declared.mode.Mode.TheVariants.{Kernel}
 use Rattle.vax_table.specs.Effects.{Effect, dest_of, long_of}
 use Rattle.vax_table.specs.Fetch.{fetched}
 use Rattle.vax_table.specs.Operand.{extended, trap_operands}
@@ -33,6 +35,10 @@ pub record Meant : Type 0 where
 
 abbrev pub meant : ℕ → Act → Meant
 meant opcode act = record { opcode = opcode; act = act }
+
+abbrev pub is_kernel : Mode → Bool
+is_kernel Kernel = true
+is_kernel mode = false
 
 -- CHM and REI are done in every mode, the other sensitive instructions in kernel mode alone
 abbrev pub is_always_done : Sens → Bool
@@ -70,14 +76,14 @@ plainly d r psw = planned d r psw >>= λ e. Done (meant d.opcode (Plain e))
 
 -- by what an instruction does; PROBE traps until the machine has page tables
 abbrev pub acted_by : Bool → Operation → Instruction → List ℕ → ℕ → Script Meant
-acted_by is_kernel (Sensitive op) d r psw = if is_always_done op || is_kernel then trapped op d r else Refuse refusals.Instruction
-acted_by is_kernel (Probe intent) d r psw = trapped (probe_of intent) d r
-acted_by is_kernel operation d r psw = plainly d r psw
+acted_by kernel (Sensitive op) d r psw = if is_always_done op || kernel then trapped op d r else Refuse refusals.Instruction
+acted_by kernel (Probe intent) d r psw = trapped (probe_of intent) d r
+acted_by kernel operation d r psw = plainly d r psw
 
 -- an instruction whose bytes are fetched, in kernel mode or not
 unfoldable pub acted : Bool → Instruction → List ℕ → ℕ → Script Meant
-acted is_kernel d r psw = acted_by is_kernel (operation_of d.opcode) d r psw
+acted kernel d r psw = acted_by kernel (operation_of d.opcode) d r psw
 
 -- the instruction at PC
 unfoldable pub instruction : Bool → List ℕ → ℕ → Script Meant
-instruction is_kernel r psw = fetched (slice_index r 15) >>= λ d. acted is_kernel d r psw
+instruction kernel r psw = fetched (slice_index r 15) >>= λ d. acted kernel d r psw

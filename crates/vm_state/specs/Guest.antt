@@ -8,8 +8,6 @@ pub record Guest : Type 0 where
   pub psl : ℕ
   -- the code with which it stopped
   pub halt : Option ℕ
-  -- the opcode at which it was marked, which isn't built
-  pub mark : Option ℕ
 
 -- with mapping off an address is the place of its byte; beyond memory there is none
 abbrev pub unmapped : List ℕ → Space

@@ -17,8 +17,8 @@ start_psl = 0x041f0000
 
 -- a guest that runs, from an address
 abbrev pub started : List ℕ → ℕ → Guest
-started memory start = record { memory = memory; r = start_registers start; psl = start_psl; halt = None; mark = None }
+started memory start = record { memory = memory; r = start_registers start; psl = start_psl; halt = None }
 
 -- what is kept of it beside its memory
 abbrev pub start_state : ℕ → ℕ → GuestState
-start_state pages start = record { r = start_registers start; psl = record { 0 = start_psl }; halt = None; mark = None; pages = pages }
+start_state pages start = record { r = start_registers start; psl = record { 0 = start_psl }; halt = None; pages = pages }

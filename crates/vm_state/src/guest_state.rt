@@ -6,13 +6,12 @@ use vax_arch::Psl;
 const START_PSL: u32 = 0x041F_0000;
 
 /// What the kernel keeps of a guest beside its memory: the registers R0 to R15, the PSL, the code with which it
-/// stopped, the opcode at which it was marked as not built, and its pages of 512 bytes.
+/// stopped, and its pages of 512 bytes.
 #[derive(Clone, Copy, Debug, PartialEq, Eq)]
 pub struct GuestState {
     pub r: [u32; 16],
     pub psl: Psl,
     pub halt: Option<u8>,
-    pub mark: Option<u8>,
     pub pages: u32,
 }
 
@@ -29,7 +28,6 @@ impl GuestState {
             r,
             psl: Psl(START_PSL),
             halt: None,
-            mark: None,
             pages,
         }
     }
