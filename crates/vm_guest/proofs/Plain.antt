@@ -7,12 +7,12 @@ use Rattle.vax_hw.specs.declared.world.Exit.{Exit}
 use Rattle.vax_hw.specs.declared.world.World.{World}
 use Rattle.vm_state.specs.Guest.{Guest}
 use Rattle.vm_guest.specs.Kept.{CanRun, guest_of, run_of, Ended, PlainRun, rise, loaded, Counted}
+use Rattle.vm_guest.specs.Exits.{ended}
 use Rattle.vm_guest.specs.StandsFor.{StandsFor}
 use Rattle.vm_state.specs.Run.{after_steps}
 use Rattle.vm_state.specs.declared.guest_state.GuestState.{GuestState}
 use Rattle.vm_guest.specs.declared.counts.Counts.{Counts}
 use Rattle.vm_guest.proofs.Bursts.{Burst, burst, plainly, same_plainly}
-use Rattle.vm_guest.proofs.Simulation.{high_part}
 
 -- the kernel's record with the registers and the PSW of a world
 abbrev pub back : GuestState → World → GuestState
@@ -34,9 +34,8 @@ stands_loaded m g can = record {
   base = refl;
   registers = refl;
   psw = psw_kept g.psl.0;
-  mode = can.mode;
+  mode = refl;
   running = can.running;
-  unmarked = can.unmarked;
 }
 
 rise_is : (before now n : ℕ) → before < 2 ^ 64 → n < 2 ^ 64 → now ≡ (before + n) % 2 ^ 64 → rise before now ≡ n
@@ -45,15 +44,20 @@ rise_is before now n h k e = grind arith
 rise_onto : (c before now n : ℕ) → before < 2 ^ 64 → now ≡ (before + n) % 2 ^ 64 → (c + n) % 2 ^ 64 ≡ (c + rise before now) % 2 ^ 64
 rise_onto c before now n h e = grind arith
 
-same_guest : (a b : Guest) → a.memory ≡ b.memory → a.r ≡ b.r → a.psl ≡ b.psl → a.halt ≡ b.halt → a.mark ≡ b.mark → a ≡ b
-same_guest a b e1 e2 e3 e4 e5 = λ i. record { memory = e1 i; r = e2 i; psl = e3 i; halt = e4 i; mark = e5 i }
+same_guest : (a b : Guest) → a.memory ≡ b.memory → a.r ≡ b.r → a.psl ≡ b.psl → a.halt ≡ b.halt → a ≡ b
+same_guest a b e1 e2 e3 e4 = λ i. record { memory = e1 i; r = e2 i; psl = e3 i; halt = e4 i }
+
+turned : (n : ℕ) → n * 512 ≡ 512 * n
+turned n = omega arith
 
 by_parts : (a b c : ℕ) → a / 256 ≡ b / 256 → c % 256 ≡ a % 256 → a ≡ b / 256 * 256 + c % 256
 by_parts a b c e f = grind arith
 
 -- the guest that the kernel has afterwards
 after_is : (m m' : Machine) (e : Exit) (g : GuestState) (c : Counts) (steps : ℕ) (shown : List ℕ) → CanRun m.memory g → (b : Burst steps (loaded m g) m' e (run_of m.memory g c shown)) → b.after ≡ guest_of m'.memory (back g m'.world)
-after_is m m' e g c steps shown can b = same_guest b.after (guest_of m'.memory (back g m'.world)) (b.own ∙ ap (take (512 * g.pages)) (sym b.memory)) (sym b.stands.registers) (by_parts b.after.psl g.psl.0 m'.world.psl.0 b.high b.stands.psw) (b.stands.running ∙ sym can.running) (b.stands.unmarked ∙ sym can.unmarked)
+after_is m m' e g c steps shown can b =
+    let size : length b.after.memory ≡ 512 * g.pages = b.own ∙ sym (front_length g.pages m.memory can.inside) ∙ turned g.pages in
+    same_guest b.after (guest_of m'.memory (back g m'.world)) (sym b.stands.memory ∙ ap (λ (n : ℕ). take n m'.memory) size) (sym b.stands.registers) (by_parts b.after.psl g.psl.0 m'.world.psl.0 b.high b.stands.psw) (b.stands.running ∙ sym can.running)
 
 abbrev pub counted_on : Counts → ℕ → ℕ → Counts
 counted_on c done terms = record c { plain = c.plain + done; trail = (c.trail + terms) % 2 ^ 64 }
@@ -64,14 +68,14 @@ the_burst m m' e g c steps shown can fits small is = burst steps (loaded m g) m'
 pub done_is : (m m' : Machine) (e : Exit) (g : GuestState) (c : Counts) (steps : ℕ) (shown : List ℕ) → Counted m → steps < 2 ^ 32 → (b : Burst steps (loaded m g) m' e (run_of m.memory g c shown)) → rise m.retired m'.retired ≡ b.done
 done_is m m' e g c steps shown fits few b = rise_is m.retired m'.retired b.done fits.retired (omega (arith, b.split)) b.retired
 
-same_run : (m m' : Machine) (e : Exit) (g : GuestState) (c : Counts) (steps : ℕ) (shown : List ℕ) → CanRun m.memory g → Counted m → steps < 2 ^ 32 → (b : Burst steps (loaded m g) m' e (run_of m.memory g c shown)) → after_steps steps (run_of m.memory g c shown) ≡ after_steps (steps - rise m.retired m'.retired) (run_of m'.memory (back g m'.world) (counted_on c (rise m.retired m'.retired) (rise m.trail m'.trail)) shown)
+same_run : (m m' : Machine) (e : Exit) (g : GuestState) (c : Counts) (steps : ℕ) (shown : List ℕ) → CanRun m.memory g → Counted m → steps < 2 ^ 32 → (b : Burst steps (loaded m g) m' e (run_of m.memory g c shown)) → after_steps steps (run_of m.memory g c shown) ≡ after_steps (steps - rise m.retired m'.retired) (ended e (run_of m'.memory (back g m'.world) (counted_on c (rise m.retired m'.retired) (rise m.trail m'.trail)) shown))
 same_run m m' e g c steps shown can fits few b =
     let done : rise m.retired m'.retired ≡ b.done = done_is m m' e g c steps shown fits few b in
     let left : b.left ≡ steps - rise m.retired m'.retired = omega (arith, b.split) in
     let plain : c.plain + b.done ≡ c.plain + rise m.retired m'.retired = ap (λ x. c.plain + x) (sym done) in
     let run = run_of m.memory g c shown in
-    b.rest ∙ ap (λ x. after_steps x (plainly run b.after (c.plain + b.done) ((c.trail + b.terms) % 2 ^ 64))) left
-    ∙ ap (after_steps (steps - rise m.retired m'.retired)) (same_plainly run b.after _ _ _ _ plain (rise_onto c.trail m.trail m'.trail b.terms fits.trail b.trail)
+    b.rest ∙ ap (λ x. after_steps x (ended e (plainly run b.after (c.plain + b.done) ((c.trail + b.terms) % 2 ^ 64)))) left
+    ∙ ap (λ x. after_steps (steps - rise m.retired m'.retired) (ended e x)) (same_plainly run b.after _ _ _ _ plain (rise_onto c.trail m.trail m'.trail b.terms fits.trail b.trail)
     ∙ ap (λ x. plainly run x (c.plain + rise m.retired m'.retired) ((c.trail + rise m.trail m'.trail) % 2 ^ 64)) (after_is m m' e g c steps shown can b))
 
 counts_add : (a b c d e f h k steps : ℕ) → k ≤ steps → (a + k + b + c + d + e + f + h) + (steps - k) ≡ a + b + c + d + e + f + h + steps
@@ -91,14 +95,13 @@ plain_run m m' e g c steps can fits small few is =
     record {
       same = λ shown. same_run m m' e g c steps shown can fits few (the_burst m m' e g c steps shown can fits small is);
       stands = subst (StandsFor m') (after_is m m' e g c steps [] can b) b.stands;
-      memory = b.memory;
+      size = b.size;
       pages = refl;
-      high = high_part g.psl.0 m'.world.psl.0;
       counts = counts_add c.plain c.sensitive c.faults c.interrupts c.modify c.idle c.stopped (rise m.retired m'.retired) steps (omega (arith, b.split));
       retired = counts_agree m'.retired m.retired c.plain b.done fits.retired b.retired (omega (arith, b.split));
       fewer = omega arith;
       trail = trails_agree m'.trail m.trail c.trail b.terms fits.trail b.trail;
-      ended = subst (λ x. Ended x m' e) left b.ends;
+      ended = subst (λ x. Ended steps x m' e) left b.ends;
     }
 
 -- no more instructions retired than steps were to do

@@ -1,20 +1,20 @@
 -- Turns one after another are one.
-use Rattle.std.proofs.Common.{ℕ, zero, suc, ◌≡◌, ◌≢◌, inl, inr, ◌<◌, ◌≤◌, ◌+◌, ◌-◌, ◌*◌, ◌/◌, ◌%◌, ◌^◌, List, [], ◌++◌, length, refl, sym, ◌∙◌, ap, subst, arith, append_assoc, append-nil, Bool}
+use Rattle.std.proofs.Common.{ℕ, zero, suc, ◌≡◌, ◌≢◌, inl, inr, ◌<◌, ◌≤◌, ◌+◌, ◌-◌, ◌*◌, ◌/◌, ◌%◌, ◌^◌, List, [], ◌++◌, length, slice_index, refl, sym, ◌∙◌, ap, subst, arith, append_assoc, append-nil, Bool}
 use Rattle.vv_io.specs.Lines.{Seen}
-use Rattle.vax_arch.specs.Fields.{current_of, mode_of}
-use Rattle.vax_arch.specs.declared.mode.Mode.TheVariants.{Kernel}
 use Rattle.vax_hw.specs.Machine.{Machine}
 use Rattle.std.specs.declared.option.Option.{Option}
 use Rattle.std.specs.declared.option.Option.TheVariants.{None, Some}
 use Rattle.std.specs.declared.result.Result.TheVariants.{Err}
 use Rattle.vax_hw.specs.Real.{one}
+use Rattle.vax_hw.specs.declared.world.Exit.TheVariants.{Arithmetic}
 use Rattle.vax_hw.specs.declared.world.Exit.{Exit}
 use Rattle.vm_state.specs.Guest.{Guest}
-use Rattle.vm_guest.specs.Kept.{run_of, steps_in, guest_of, CanRun, Ended, PlainRun, TakesStep}
+use Rattle.vm_guest.specs.Kept.{run_of, steps_in, guest_of, tally_of, CanRun, Ended, PlainRun, TakesStep}
 use Rattle.vm_guest.specs.Showing.{IsShowing}
 use Rattle.vm_state.specs.Run.{Run, after_step, after_steps}
-use Rattle.vm_state.specs.Step.{Stepped, step, step_by, rested}
-use Rattle.vm_guest.specs.Exits.{met}
+use Rattle.vm_state.specs.Step.{Stepped, step, step_by, rested, stop_text}
+use Rattle.vm_guest.specs.Exits.{behind_trap, ended, met}
+use Rattle.vm_guest.proofs.Bursts.{as_it_is, no_trap}
 use Rattle.vm_guest.proofs.Simulation.{met_step}
 use Rattle.vm_guest.specs.Turn.{Turn}
 use Rattle.vm_state.specs.declared.guest_state.GuestState.{GuestState}
@@ -28,9 +28,8 @@ no_turn k lines m g c failed left = record {
   shows = λ start sofar h. subst (λ x. IsShowing k failed start lines x) (sym (append-nil sofar)) h;
   fewer = omega arith;
   counts = refl;
-  memory = refl;
+  size = refl;
   pages = refl;
-  high = refl;
   retired = refl;
   trail = refl;
 }
@@ -46,32 +45,61 @@ turns k s t u m n o g h i c d e x y z a b l p q = record {
   shows = λ start sofar w. subst (λ r. IsShowing k z start u r) (append_assoc sofar p.text q.text) (q.shows start (sofar ++ p.text) (p.shows start sofar w));
   fewer = omega (arith, p.fewer, q.fewer);
   counts = omega (arith, p.counts, q.counts);
-  memory = q.memory ∙ p.memory;
+  size = q.size ∙ p.size;
   pages = q.pages ∙ p.pages;
-  high = q.high ∙ p.high;
   retired = agree m.retired n.retired o.retired c.plain d.plain e.plain p.retired q.retired;
   trail = agree m.trail n.trail o.trail c.trail d.trail e.trail p.trail q.trail;
 }
 
 -- plain steps to the end
-pub plain_turn : (k : ℕ) (lines : List Seen) (m m' : Machine) (g g' : GuestState) (c c' : Counts) (failed : Bool) (a left : ℕ) (e : Exit) → left ≡ 0 → PlainRun m m' g g' c c' a left e → Turn k lines lines m m' g g' c c' failed failed a 0
-plain_turn k lines m m' g g' c c' failed a left e end p = record {
+pub plain_turn : (k : ℕ) (lines : List Seen) (m m' : Machine) (g g' : GuestState) (c c' : Counts) (failed : Bool) (a left : ℕ) (e : Exit) → left ≡ 0 → PlainRun m m' g g' c c' a left e → ((kind : ℕ) → e ≡ Arithmetic kind → ⊥) → Turn k lines lines m m' g g' c c' failed failed a 0
+plain_turn k lines m m' g g' c c' failed a left e end p untrapped = record {
   text = [];
-  steps = λ shown. p.same shown ∙ ap (λ n. after_steps n (run_of m'.memory g' c' shown)) end ∙ ap (λ x. after_steps 0 (run_of m'.memory g' c' x)) (sym (append-nil shown));
+  steps = λ shown. p.same shown ∙ ap (λ n. after_steps n (ended e (run_of m'.memory g' c' shown))) end ∙ ap (after_steps 0) (at_end left m' e (run_of m'.memory g' c' shown) p.ended end untrapped ∙ ap (λ x. run_of m'.memory g' c' x) (sym (append-nil shown)));
   shows = λ start sofar h. subst (λ x. IsShowing k failed start lines x) (sym (append-nil sofar)) h;
   fewer = omega arith;
   counts = omega (arith, p.counts);
-  memory = p.memory;
+  size = p.size;
   pages = p.pages;
-  high = p.high;
+  retired = p.retired;
+  trail = p.trail;
+}
+  where
+    at_end : {steps : ℕ} (left : ℕ) (m : Machine) (e : Exit) (run : Run) → Ended steps left m e → left ≡ 0 → ((kind : ℕ) → e ≡ Arithmetic kind → ⊥) → ended e run ≡ run
+    at_end left m e run (inl (budget, none)) end untrapped = subst (λ (x : Exit). ended x run ≡ run) (sym budget) refl
+    at_end left m e run (inr (inl ((kind, is), less))) end untrapped = absurd (untrapped kind is)
+    at_end left m e run (inr (inr (err, more))) end untrapped = absurd (omega arith)
+
+-- plain steps, of which the last had a trap
+pub trap_turn : (k : ℕ) (lines lines' : List Seen) (m m' : Machine) (g g' g'' : GuestState) (c c' : Counts) (failed failed' : Bool) (a left kind : ℕ) (e : Exit) (bytes : List ℕ) → e ≡ Arithmetic kind → PlainRun m m' g g' c c' a left e
+    → ((memory : List ℕ) → guest_of memory g'' ≡ (behind_trap (guest_of memory g')).guest) → g''.pages ≡ g'.pages → bytes ≡ stop_text 0x0f (slice_index g'.r 15)
+    → ((start : List Seen) (sofar : List ℕ) → IsShowing k failed start lines sofar → IsShowing k failed' start lines' (sofar ++ bytes))
+    → Turn k lines lines' m m' g g'' c c' failed failed' a left
+trap_turn k lines lines' m m' g g' g'' c c' failed failed' a left kind e bytes is p guest pages text shows = record {
+  text = bytes;
+  steps = λ shown. p.same shown ∙ ap (λ x. after_steps left (ended x (run_of m'.memory g' c' shown))) is
+    ∙ ap (λ x. after_steps left (record { guest = x; shown = shown ++ stop_text 0x0f (slice_index g'.r 15); tally = tally_of c' })) (sym (guest m'.memory))
+    ∙ ap (λ x. after_steps left (run_of m'.memory g'' c' (shown ++ x))) (sym text);
+  shows = shows;
+  fewer = p.fewer;
+  counts = p.counts;
+  size = p.size;
+  pages = pages ∙ p.pages;
   retired = p.retired;
   trail = p.trail;
 }
 
+-- a trap leaves fewer steps than there were
+pub trap_less : (steps left kind : ℕ) (m : Machine) (e : Exit) → e ≡ Arithmetic kind → Ended steps left m e → 0 < steps → left < steps
+trap_less steps left kind m e is (inl (budget, none)) some = omega arith
+trap_less steps left kind m e is (inr (inl (k, less))) some = less
+trap_less steps left kind m e is (inr (inr (err, more))) some = absurd (no_trap m e kind err is)
+
 -- the machine stopped before an instruction
-err_of : (left : ℕ) (m : Machine) (e : Exit) → Ended left m e → 0 < left → one m ≡ Err e
-err_of left m e (inl (budget, none)) some = absurd (omega arith)
-err_of left m e (inr (err, more)) some = err
+err_of : (steps left : ℕ) (m : Machine) (e : Exit) → Ended steps left m e → 0 < left → ((kind : ℕ) → e ≡ Arithmetic kind → ⊥) → one m ≡ Err e
+err_of steps left m e (inl (budget, none)) some untrapped = absurd (omega arith)
+err_of steps left m e (inr (inl ((kind, is), less))) some untrapped = absurd (untrapped kind is)
+err_of steps left m e (inr (inr (err, more))) some untrapped = err
 
 -- with a step left, it is taken
 one_step : (left : ℕ) (run : Run) (s : Stepped) → 0 < left → step run.guest ≡ s → after_steps left run ≡ after_steps (left - 1) (after_step run s)
@@ -81,20 +109,19 @@ one_step (suc n) run s some is = let n_is : n ≡ suc n - 1 = omega arith in ap 
 -- plain steps and then the one that the exit stands for
 pub full_turn : (k : ℕ) (lines lines' : List Seen) (m m' : Machine) (g g' g'' : GuestState) (c c' c'' : Counts) (failed failed' : Bool) (a left : ℕ) (e : Exit) (text bytes : List ℕ) → bytes ≡ text → left ≢ 0 → PlainRun m m' g g' c c' a left e
     → ((memory : List ℕ) → TakesStep memory g' g'' c' c'' text (met (guest_of memory g') e))
-    → g''.pages ≡ g'.pages → g''.psl.0 / 256 ≡ g'.psl.0 / 256 → steps_in c'' ≡ steps_in c' + 1 → c''.plain ≡ c'.plain → c''.trail ≡ c'.trail
+    → ((kind : ℕ) → e ≡ Arithmetic kind → ⊥) → g''.pages ≡ g'.pages → steps_in c'' ≡ steps_in c' + 1 → c''.plain ≡ c'.plain → c''.trail ≡ c'.trail
     → ((start : List Seen) (sofar : List ℕ) → IsShowing k failed start lines sofar → IsShowing k failed' start lines' (sofar ++ bytes))
     → Turn k lines lines' m m' g g'' c c'' failed failed' a (left - 1)
-full_turn k lines lines' m m' g g' g'' c c' c'' failed failed' a left e text bytes told more p takes pages high counts plain trail shows =
-    let err : one m' ≡ Err e = err_of left m' e p.ended (omega arith) in
+full_turn k lines lines' m m' g g' g'' c c' c'' failed failed' a left e text bytes told more p takes untrapped pages counts plain trail shows =
+    let err : one m' ≡ Err e = err_of a left m' e p.ended (omega arith) untrapped in
     record {
       text = text;
-      steps = λ shown. p.same shown ∙ one_step left (run_of m'.memory g' c' shown) (met (guest_of m'.memory g') e) (omega arith) (met_step m' (guest_of m'.memory g') e p.stands err) ∙ ap (after_steps (left - 1)) (takes m'.memory shown);
+      steps = λ shown. p.same shown ∙ ap (after_steps left) (as_it_is m' e (run_of m'.memory g' c' shown) err) ∙ one_step left (run_of m'.memory g' c' shown) (met (guest_of m'.memory g') e) (omega arith) (met_step m' (guest_of m'.memory g') e p.stands err) ∙ ap (after_steps (left - 1)) (takes m'.memory shown);
       shows = λ start sofar h. subst (λ b. IsShowing k failed' start lines' (sofar ++ b)) told (shows start sofar h);
       fewer = omega (arith, p.fewer);
       counts = omega (arith, p.counts);
-      memory = p.memory;
+      size = p.size;
       pages = pages ∙ p.pages;
-      high = high ∙ p.high;
       retired = p.retired ∙ ap (λ x. (m.retired + x) % 2 ^ 64) (sym plain);
       trail = p.trail ∙ ap (λ x. (m.trail + x) % 2 ^ 64) (sym trail);
     }
@@ -107,26 +134,24 @@ rests (suc n) run is =
     let here : after_step run (step run.guest) ≡ next = ap (after_step run) is ∙ ap (λ x. record next { shown = x }) (append-nil run.shown) in
     ap (after_steps n) here ∙ rests n next is ∙ ap (λ x. record run { tally = record run.tally { stopped = x } }) (omega arith)
 
-stands_still : (g : Guest) → ((g.halt ≡ None) × (g.mark ≡ None) → ⊥) → step g ≡ rested g
+stands_still : (g : Guest) → (g.halt ≡ None → ⊥) → step g ≡ rested g
 unfolding step
-stands_still g not = by_both g g.halt g.mark not
+stands_still g not = by_halt g g.halt not
   where
-    by_both : (g : Guest) (h k : Option ℕ) → ((h ≡ None) × (k ≡ None) → ⊥) → step_by g h k ≡ rested g
-    by_both g None None not = absurd (not (refl, refl))
-    by_both g (Some code) k not = refl
-    by_both g None (Some opcode) not = refl
+    by_halt : (g : Guest) (h : Option ℕ) → (h ≡ None → ⊥) → step_by g h ≡ rested g
+    by_halt g None not = absurd (not refl)
+    by_halt g (Some code) not = refl
 
 -- the steps that are left to a guest that stands, if any
-pub last_turn : (k : ℕ) (lines : List Seen) (m : Machine) (g : GuestState) (c : Counts) (failed : Bool) (left : ℕ) → (0 < left → (g.halt ≡ None) × (g.mark ≡ None) → ⊥) → Turn k lines lines m m g g c (record c { stopped = c.stopped + left }) failed failed left 0
+pub last_turn : (k : ℕ) (lines : List Seen) (m : Machine) (g : GuestState) (c : Counts) (failed : Bool) (left : ℕ) → (0 < left → g.halt ≡ None → ⊥) → Turn k lines lines m m g g c (record c { stopped = c.stopped + left }) failed failed left 0
 last_turn k lines m g c failed left not = record {
   text = [];
   steps = λ shown. by_left left (run_of m.memory g c shown) (λ some. stands_still (guest_of m.memory g) (not some)) ∙ ap (λ x. run_of m.memory g (record c { stopped = c.stopped + left }) x) (sym (append-nil shown));
   shows = λ start sofar h. subst (λ x. IsShowing k failed start lines x) (sym (append-nil sofar)) h;
   fewer = omega arith;
   counts = omega arith;
-  memory = refl;
+  size = refl;
   pages = refl;
-  high = refl;
   retired = refl;
   trail = refl;
 }
@@ -135,19 +160,11 @@ last_turn k lines m g c failed left not = record {
     by_left zero run is = ap (λ x. record run { tally = record run.tally { stopped = x } }) (omega arith)
     by_left (suc n) run is = rests (suc n) run (is (omega arith))
 
-pub can_again : (k : ℕ) (s t : List Seen) (m m' : Machine) (g g' : GuestState) (c c' : Counts) (x y : Bool) (a b : ℕ) → Turn k s t m m' g g' c c' x y a b → 512 * g.pages ≤ length m.memory → current_of g.psl.0 ≡ Kernel → g'.halt ≡ None → g'.mark ≡ None → CanRun m'.memory g'
-can_again k s t m m' g g' c c' x y a b turn inside mode halt mark = record {
-  inside = omega (arith, ap length turn.memory, turn.pages);
-  mode = same_mode g.psl.0 g'.psl.0 turn.high mode;
+pub can_again : (k : ℕ) (s t : List Seen) (m m' : Machine) (g g' : GuestState) (c c' : Counts) (x y : Bool) (a b : ℕ) → Turn k s t m m' g g' c c' x y a b → 512 * g.pages ≤ length m.memory → g'.halt ≡ None → CanRun m'.memory g'
+can_again k s t m m' g g' c c' x y a b turn inside halt = record {
+  inside = omega (arith, turn.size, turn.pages);
   running = halt;
-  unmarked = mark;
 }
-  where
-    higher : (p q : ℕ) → q / 256 ≡ p / 256 → q / 2 ^ 24 ≡ p / 2 ^ 24
-    higher p q e = grind arith
 
-    same_mode : (p q : ℕ) → q / 256 ≡ p / 256 → current_of p ≡ Kernel → current_of q ≡ Kernel
-    same_mode p q e h = ap mode_of (higher p q e) ∙ h
-
-pub ends_turn : (k : ℕ) (lines : List Seen) (m : Machine) (g : GuestState) (c : Counts) (failed : Bool) (left n : ℕ) → n ≡ left → (0 < left → (g.halt ≡ None) × (g.mark ≡ None) → ⊥) → Turn k lines lines m m g g c (record c { stopped = c.stopped + n }) failed failed left 0
+pub ends_turn : (k : ℕ) (lines : List Seen) (m : Machine) (g : GuestState) (c : Counts) (failed : Bool) (left n : ℕ) → n ≡ left → (0 < left → g.halt ≡ None → ⊥) → Turn k lines lines m m g g c (record c { stopped = c.stopped + n }) failed failed left 0
 ends_turn k lines m g c failed left n same not = subst (λ x. Turn k lines lines m m g g c (record c { stopped = c.stopped + x }) failed failed left 0) (sym same) (last_turn k lines m g c failed left not)

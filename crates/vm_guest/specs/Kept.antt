@@ -1,13 +1,12 @@
 -- The guest that the kernel's record and the machine's memory stand for.
 use Rattle.std.specs.Prelude.{ℕ, ◌≡◌, ◌≤◌, ◌<◌, ◌⊎◌, ◌+◌, ◌-◌, ◌*◌, ◌/◌, ◌%◌, ◌^◌, List, ◌++◌, length, take, None, Err}
-use Rattle.vax_arch.specs.Fields.{current_of}
-use Rattle.vax_arch.specs.declared.mode.Mode.TheVariants.{Kernel}
 use Rattle.vax_hw.specs.Machine.{Machine}
 use Rattle.vax_hw.specs.Real.{one}
 use Rattle.vax_hw.specs.declared.world.Exit.{Exit}
-use Rattle.vax_hw.specs.declared.world.Exit.TheVariants.{Budget}
+use Rattle.vax_hw.specs.declared.world.Exit.TheVariants.{Arithmetic, Budget}
 use Rattle.vax_hw.specs.declared.world.World.{World}
 use Rattle.vm_state.specs.Guest.{Guest}
+use Rattle.vm_guest.specs.Exits.{ended}
 use Rattle.vm_guest.specs.StandsFor.{StandsFor}
 use Rattle.vm_state.specs.Run.{Run, Tally, after_step, after_steps}
 use Rattle.vm_state.specs.Step.{Stepped}
@@ -20,7 +19,7 @@ world_of g = record { r = g.r; psl = record { 0 = 2 ^ 29 + 5 * 2 ^ 22 + g.psl.0 
 
 -- the guest whose memory begins the machine's
 abbrev pub guest_of : List ℕ → GuestState → Guest
-guest_of memory g = record { memory = take (512 * g.pages) memory; r = g.r; psl = g.psl.0; halt = g.halt; mark = g.mark }
+guest_of memory g = record { memory = take (512 * g.pages) memory; r = g.r; psl = g.psl.0; halt = g.halt }
 
 abbrev pub tally_of : Counts → Tally
 tally_of c = record { plain = c.plain; sensitive = c.sensitive; faults = c.faults; interrupts = c.interrupts; modify = c.modify; idle = c.idle; stopped = c.stopped; trail = c.trail }
@@ -33,29 +32,27 @@ run_of memory g c shown = record { guest = guest_of memory g; shown = shown; tal
 abbrev pub steps_in : Counts → ℕ
 steps_in c = c.plain + c.sensitive + c.faults + c.interrupts + c.modify + c.idle + c.stopped
 
--- a guest in virtual kernel mode that runs, and whose memory is in the machine
+-- a guest that runs, and whose memory is in the machine
 pub record CanRun (memory : List ℕ) (g : GuestState) : Type 0 where
   pub inside : 512 * g.pages ≤ length memory
-  pub mode : current_of g.psl.0 ≡ Kernel
   pub running : g.halt ≡ None
-  pub unmarked : g.mark ≡ None
 
--- why the machine stopped, with so many steps left
-abbrev pub Ended : ℕ → Machine → Exit → Type 0
-Ended left m e = ((e ≡ Budget) × (left ≡ 0)) ⊎ ((one m ≡ Err e) × (0 < left))
+-- Why the machine stopped, with so many of so many steps left: they were used; an instruction had an arithmetic trap; or
+-- one did not retire.
+abbrev pub Ended : (steps left : ℕ) → Machine → Exit → Type 0
+Ended steps left m e = ((e ≡ Budget) × (left ≡ 0)) ⊎ ((((kind : ℕ) × (e ≡ Arithmetic kind)) × (left < steps)) ⊎ ((one m ≡ Err e) × (0 < left)))
 
 -- The machine made plain steps of the guest until `left` of `steps` were left, whatever was shown before.
 pub record PlainRun (m m' : Machine) (g g' : GuestState) (c c' : Counts) (steps left : ℕ) (e : Exit) : Type 0 where
-  pub same : (shown : List ℕ) → after_steps steps (run_of m.memory g c shown) ≡ after_steps left (run_of m'.memory g' c' shown)
+  pub same : (shown : List ℕ) → after_steps steps (run_of m.memory g c shown) ≡ after_steps left (ended e (run_of m'.memory g' c' shown))
   pub stands : StandsFor m' (guest_of m'.memory g')
-  pub memory : m'.memory ≡ m.memory
+  pub size : length m'.memory ≡ length m.memory
   pub pages : g'.pages ≡ g.pages
-  pub high : g'.psl.0 / 256 ≡ g.psl.0 / 256
   pub counts : steps_in c' + left ≡ steps_in c + steps
   pub retired : (m'.retired + c.plain) % 2 ^ 64 ≡ (m.retired + c'.plain) % 2 ^ 64
   pub fewer : left ≤ steps
   pub trail : (m'.trail + c.trail) % 2 ^ 64 ≡ (m.trail + c'.trail) % 2 ^ 64
-  pub ended : Ended left m' e
+  pub ended : Ended steps left m' e
 
 -- how much a count of 64 bits rose
 abbrev pub rise : ℕ → ℕ → ℕ

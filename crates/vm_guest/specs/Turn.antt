@@ -1,5 +1,5 @@
 -- How a guest goes on: what its line is shown, and how its steps, its counts and the machine's agree.
-use Rattle.std.specs.Prelude.{ℕ, ◌≡◌, ◌≤◌, ◌+◌, ◌/◌, ◌%◌, ◌^◌, List, ◌++◌, Bool}
+use Rattle.std.specs.Prelude.{ℕ, ◌≡◌, ◌≤◌, ◌+◌, ◌%◌, ◌^◌, List, ◌++◌, length, Bool}
 use Rattle.vv_io.specs.Lines.{Seen}
 use Rattle.vax_hw.specs.Machine.{Machine}
 use Rattle.vm_guest.specs.Kept.{run_of, steps_in}
@@ -15,8 +15,7 @@ pub record Turn (k : ℕ) (lines lines' : List Seen) (m m' : Machine) (g g' : Gu
   pub shows : (start : List Seen) (sofar : List ℕ) → IsShowing k failed start lines sofar → IsShowing k failed' start lines' (sofar ++ text)
   pub fewer : left' ≤ left
   pub counts : steps_in c' + left' ≡ steps_in c + left
-  pub memory : m'.memory ≡ m.memory
+  pub size : length m'.memory ≡ length m.memory
   pub pages : g'.pages ≡ g.pages
-  pub high : g'.psl.0 / 256 ≡ g.psl.0 / 256
   pub retired : (m'.retired + c.plain) % 2 ^ 64 ≡ (m.retired + c'.plain) % 2 ^ 64
   pub trail : (m'.trail + c.trail) % 2 ^ 64 ≡ (m.trail + c'.trail) % 2 ^ 64

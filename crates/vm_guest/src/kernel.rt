@@ -1,14 +1,12 @@
 ghost use Rattle.std.specs.Prelude.{◌≡◌, ◌<◌, ◌≤◌, ◌+◌, ◌*◌, ◌/◌, ◌%◌, ◌^◌, ◌⊎◌, List, [], ℕ, length, None, Some, Err};
 ghost use Rattle.std.specs.Prelude.{◌++◌, map, vec_len, false, MatchBool};
-ghost use Rattle.vax_arch.specs.Fields.{current_of};
-ghost use Rattle.vax_arch.specs.declared.mode.Mode.TheVariants.{Kernel};
 ghost use Rattle.vax_hw.specs.Real.{real};
 ghost use Rattle.vm_guest.specs.Kept.{CanRun, world_of, steps_in, PlainRun, rise, loaded, Counted};
 ghost use Rattle.vm_guest.specs.Showing.{IsShowing};
 ghost use Rattle.vm_guest.specs.Turn.{Turn};
 ghost use Rattle.vv_io.specs.Lines.{Seen};
 
-use crate::meet::meet;
+use crate::meet::{meet, stop_behind_trap};
 use crate::{Counts, GuestState};
 use vax_hw::{Exit, Hardware, Psl, World};
 use vv_io::{Line, put_on};
@@ -119,6 +117,13 @@ struct Progress {
     failed: bool,
 }
 
+/// Whether the machine stopped behind an instruction that had an arithmetic trap.
+fn is_trap(exit: &Exit) -> bool
+    ensures { MatchBool result ((kind : ℕ) × (exit.now ≡ Exit.Arithmetic kind)) ((kind : ℕ) → exit.now ≡ Exit.Arithmetic kind → ⊥) }
+{
+    matches!(exit, Exit::Arithmetic { .. })
+}
+
 /// Plain steps of a running guest, and the step at which they end.
 fn turn<H: Hardware>(
     machine: &mut H,
@@ -136,6 +141,11 @@ fn turn<H: Hardware>(
     ensures len { vec_len lines.new ≡ vec_len lines.old }
 {
     let (left, exit) = run_plain(machine, guest, counts, at.left);
+    if is_trap(&exit) {
+        let text = stop_behind_trap(guest);
+        let failed = put_unless_failed(lines, 0, at.failed, text.bytes());
+        return Progress { left, failed };
+    }
     if left == 0 {
         return Progress {
             left: 0,
@@ -150,14 +160,14 @@ fn turn<H: Hardware>(
     }
 }
 
-/// A guest that neither stopped nor was marked.
+/// Whether a guest runs.
 fn is_running(guest: &GuestState) -> bool
-    ensures { MatchBool result ((guest.now.halt ≡ None) × (guest.now.mark ≡ None)) ((guest.now.halt ≡ None) × (guest.now.mark ≡ None) → ⊥) }
+    ensures { MatchBool result (guest.now.halt ≡ None) (guest.now.halt ≡ None → ⊥) }
 {
-    guest.halt.is_none() && guest.mark.is_none()
+    guest.halt.is_none()
 }
 
-/// So many steps of a guest in kernel mode whose memory begins the machine's. Its bytes are shown on line 0; the
+/// So many steps of a guest whose memory begins the machine's. Its bytes are shown on line 0; the
 /// answer is whether that line has failed.
 pub fn advance<H: Hardware>(
     machine: &mut H,
@@ -167,7 +177,6 @@ pub fn advance<H: Hardware>(
     steps: u32,
 ) -> bool
     requires inside { 512 * guest.old.pages ≤ length (H.machine machine.old).memory }
-    requires mode { current_of guest.old.psl.0 ≡ Kernel }
     requires room { steps_in counts.old + steps < 2 ^ 32 }
     requires line { 0 < vec_len lines.old }
     ensures turn { Turn 0 (map (λ b. seen b) lines.old.items) (map (λ b. seen b) lines.new.items) (H.machine machine.old) (H.machine machine.new) guest.old guest.new counts.old counts.new false result steps 0 }

@@ -1,5 +1,5 @@
-ghost use Rattle.std.specs.Prelude.{◌≡◌, ◌<◌, ◌+◌, ◌/◌, ◌%◌, ◌^◌, List, [], ◌∷◌, ℕ, slice_index, slice_set, Some};
-ghost use Rattle.vm_guest.specs.Exits.{met};
+ghost use Rattle.std.specs.Prelude.{◌≡◌, ◌<◌, ◌+◌, ◌%◌, ◌^◌, ◌++◌, List, [], ◌∷◌, ℕ, slice_index, slice_set, Some};
+ghost use Rattle.vm_guest.specs.Exits.{behind_trap, met};
 ghost use Rattle.vm_guest.specs.Kept.{guest_of, steps_in, TakesStep};
 ghost use Rattle.vm_state.specs.Step.{sensitive, showed, stop_text};
 
@@ -42,13 +42,23 @@ fn stop_message(code: u8, pc: u32) -> Text<16>
     text
 }
 
-/// Shows the low byte of a value: sets the codes of a move, and goes on.
-fn show(guest: &mut GuestState, value: u32, next: u32) -> Text<16>
-    ensures guest { (memory : List ℕ) → guest_of memory guest.new ≡ (showed (guest_of memory guest.old) value next).guest }
-    ensures pages { guest.new.pages ≡ guest.old.pages }
-    ensures high { guest.new.psl.0 / 256 ≡ guest.old.psl.0 / 256 }
-    ensures text { result ≡ value % 256 ∷ [] }
+/// R0 to R14 of a trap, and the next PC.
+fn registers_behind(trapped: &Trapped) -> [u32; 16]
+    ensures { result ≡ trapped.now.regs ++ trapped.now.next_pc ∷ [] }
 {
+    let mut r = [0; 16];
+    r[..15].copy_from_slice(&trapped.regs);
+    r[15] = trapped.next_pc;
+    r
+}
+
+/// MTPR to the console's transmit register: shows the low byte of the value, sets the codes of a move, and goes on.
+fn show(guest: &mut GuestState, trapped: &Trapped) -> Text<16>
+    ensures guest { (memory : List ℕ) → guest_of memory guest.new ≡ (showed (guest_of memory guest.old) trapped.now).guest }
+    ensures pages { guest.new.pages ≡ guest.old.pages }
+    ensures text { result ≡ trapped.now.a % 256 ∷ [] }
+{
+    let value = trapped.a;
     let codes = alu(
         AluOp::Move,
         value,
@@ -58,7 +68,8 @@ fn show(guest: &mut GuestState, value: u32, next: u32) -> Text<16>
     );
     let psw = codes.psw;
     let psl = Psl(guest.psl.0 / 256 * 256 + u32::from(psw));
-    guest.r[15] = next;
+    let r = registers_behind(trapped);
+    guest.r = r;
     guest.psl = psl;
     let mut text = Text::new();
     let _ = text.push((value % 256) as u8);
@@ -77,23 +88,27 @@ fn fault(guest: &mut GuestState, counts: &mut Counts, code: u8) -> Text<16>
     stop(guest, code, pc)
 }
 
-/// The step that an exit of the machine stands for, and the bytes that it shows.
+/// The guest stops behind an instruction that had an arithmetic trap, and the message says so.
+pub fn stop_behind_trap(guest: &mut GuestState) -> Text<16>
+    ensures guest { (memory : List ℕ) → guest_of memory guest.new ≡ (behind_trap (guest_of memory guest.old)).guest }
+    ensures pages { guest.new.pages ≡ guest.old.pages }
+    ensures text { result ≡ stop_text 0x0f (slice_index guest.old.r 15) }
+{
+    let pc = guest.r[15];
+    stop(guest, NO_EXCEPTION, pc)
+}
+
+/// The step that an exit of the machine in front of an instruction stands for, and the bytes that it shows.
 pub fn meet(guest: &mut GuestState, counts: &mut Counts, exit: &Exit) -> Text<16>
     requires { steps_in counts.old + 1 < 2 ^ 32 }
     ensures step { (memory : List ℕ) → TakesStep memory guest.old guest.new counts.old counts.new result (met (guest_of memory guest.old) exit.now) }
     ensures pages { guest.new.pages ≡ guest.old.pages }
-    ensures high { guest.new.psl.0 / 256 ≡ guest.old.psl.0 / 256 }
     ensures counts { steps_in counts.new ≡ steps_in counts.old + 1 }
     ensures plain { counts.new.plain ≡ counts.old.plain }
     ensures trail { counts.new.trail ≡ counts.old.trail }
 {
     match exit {
         Exit::Denied { .. } => fault(guest, counts, BEYOND),
-        Exit::NotBuilt(opcode) => {
-            counts.stopped += 1;
-            guest.mark = Some(*opcode);
-            Text::new()
-        }
         Exit::Emulate(trapped) => meet_trap(guest, counts, trapped),
         Exit::Refused(_) | Exit::NotValid { .. } => fault(guest, counts, NO_EXCEPTION),
         Exit::Budget | Exit::Modify { .. } | Exit::Arithmetic { .. } => {
@@ -103,12 +118,11 @@ pub fn meet(guest: &mut GuestState, counts: &mut Counts, exit: &Exit) -> Text<16
     }
 }
 
-/// A sensitive instruction of a guest in kernel mode, and the bytes that it shows.
+/// A sensitive instruction, or PROBE, and the bytes that it shows.
 fn meet_trap(guest: &mut GuestState, counts: &mut Counts, trapped: &Trapped) -> Text<16>
     requires { steps_in counts.old + 1 < 2 ^ 32 }
     ensures step { (memory : List ℕ) → TakesStep memory guest.old guest.new counts.old counts.new result (sensitive (guest_of memory guest.old) trapped.now trapped.now.op) }
     ensures pages { guest.new.pages ≡ guest.old.pages }
-    ensures high { guest.new.psl.0 / 256 ≡ guest.old.psl.0 / 256 }
     ensures counts { steps_in counts.new ≡ steps_in counts.old + 1 }
     ensures plain { counts.new.plain ≡ counts.old.plain }
     ensures trail { counts.new.trail ≡ counts.old.trail }
@@ -120,14 +134,10 @@ fn meet_trap(guest: &mut GuestState, counts: &mut Counts, trapped: &Trapped) -> 
         }
         Sens::Mtpr if trapped.b == TRANSMIT => {
             counts.sensitive += 1;
-            show(guest, trapped.a, trapped.next_pc)
+            show(guest, trapped)
         }
-        Sens::Mtpr => {
-            counts.stopped += 1;
-            guest.mark = Some(0xDA);
-            Text::new()
-        }
-        Sens::Wait
+        Sens::Mtpr
+        | Sens::Wait
         | Sens::Rei
         | Sens::Ldpctx
         | Sens::Svpctx

@@ -9,7 +9,7 @@ use Rattle.vvmm.specs.Answer.{Outside, Follows, IsFetched, IsHeld, Lacks, HasToo
 use Rattle.vvmm.specs.Laws.{line_0, NoneRose, IsServed, IsMissing, IsTooLong, NamesLine, Completes, TellsMissing, TellsTooLong, TellsDevice}
 use Rattle.vvmm.specs.Solo.{Asked, load_address, memory_size, solo_run}
 use Rattle.vvmm.specs.declared.status.Status.{Status}
-use Rattle.vvmm.specs.declared.status.Status.TheVariants.{Done, Words, Missing, TooLong, ShelfFault, Image, Device, OutFault, NoMemory, NotBuilt}
+use Rattle.vvmm.specs.declared.status.Status.TheVariants.{Done, Words, Missing, TooLong, ShelfFault, Image, Device, OutFault, NoMemory}
 
 -- a told shelf
 told_lacks : (told : Option (List File)) (files : List File) (name : List ℕ) (before now : ℕ) → told ≡ Some files → Lacks told name before now → held files name ≡ None
@@ -45,7 +45,6 @@ kept_line failed start now bytes is shows = (subst (λ f. Showing f (line_0 star
 pub completes : Completes
 completes a Done o files image h is has within fits none = tt
 completes a NoMemory o files image h is has within fits none = tt
-completes a (NotBuilt opcode) o files image h is has within fits none = tt
 completes a Words o files image h is has within fits none = h
 completes a (Missing name) o files image (same, lacks, rest) is has within fits none = not_both (held files a.image) image (ap (held files) (sym same) ∙ told_lacks o.files files name o.shelf o.shelf' is lacks) has
 completes a (TooLong name) o files image (same, long, rest) is has within fits none =
@@ -57,7 +56,7 @@ completes a (Image guest) o files image (other, zero, fetched, more, rest) is ha
     let equal : other ≡ image = one_image (held files a.image) other image (told_held o.files files a.image other is fetched.held) has in
     absurd (omega (arith, ap length equal))
 completes a (Device device) o files image (other, failed, ends) is has within fits none = none.line (rose_line failed o.lines o.lines' (solo_run other a.steps).shown ends.1.1 ends.0.line)
-completes a OutFault o files image (other, failed, ends) is has within fits none = none.out ends.1.2.0
+completes a OutFault o files image (other, failed, ends) is has within fits none = none.out ends.1.1.0
 
 pub tells_missing : TellsMissing
 tells_missing a (Missing name) o files (same, gone, rest) is lacks none = same
@@ -71,7 +70,6 @@ tells_missing a (Image guest) o files (other, zero, fetched, more, rest) is lack
 tells_missing a Done o files (other, failed, ends) is lacks none = not_both (held files a.image) other lacks (told_held o.files files a.image other is ends.0.fetched.held)
 tells_missing a (Device device) o files (other, failed, ends) is lacks none = not_both (held files a.image) other lacks (told_held o.files files a.image other is ends.0.fetched.held)
 tells_missing a OutFault o files (other, failed, ends) is lacks none = not_both (held files a.image) other lacks (told_held o.files files a.image other is ends.0.fetched.held)
-tells_missing a (NotBuilt opcode) o files (other, failed, ends) is lacks none = not_both (held files a.image) other lacks (told_held o.files files a.image other is ends.0.fetched.held)
 
 -- an image that was fetched is within the limit
 too_short : (o : Outside) (files : List File) (name image other : List ℕ) → o.files ≡ Some files → held files name ≡ Some image → file_limit < length image → IsFetched o name other → ⊥
@@ -89,7 +87,6 @@ tells_too_long a (Image guest) o files image (other, zero, fetched, more, rest) 
 tells_too_long a Done o files image (other, failed, ends) is has long none = too_short o files a.image image other is has long ends.0.fetched
 tells_too_long a (Device device) o files image (other, failed, ends) is has long none = too_short o files a.image image other is has long ends.0.fetched
 tells_too_long a OutFault o files image (other, failed, ends) is has long none = too_short o files a.image image other is has long ends.0.fetched
-tells_too_long a (NotBuilt opcode) o files image (other, failed, ends) is has long none = too_short o files a.image image other is has long ends.0.fetched
 
 -- nothing was put
 same_line : (o : Outside) → Untouched o → (line_0 o.lines).faults < (line_0 o.lines').faults → ⊥
@@ -97,7 +94,6 @@ same_line o u h = absurd (omega (arith, ap (λ l. (line_0 l).faults) u.lines))
 
 pub tells_device : TellsDevice
 tells_device a (Device device) o (other, failed, ends) h = ends.1.0
-tells_device a (NotBuilt opcode) o follows h = tt
 tells_device a Words o follows h = follows
 tells_device a NoMemory o u h = same_line o u h
 tells_device a (Missing name) o (same, lacks, u) h = same_line o u h

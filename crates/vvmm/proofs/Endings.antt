@@ -6,7 +6,7 @@ use Rattle.vm_state.specs.Run.{Run, Tally}
 use Rattle.vvmm.specs.Answer.{Outside, IsHeld, Made, Closes, Ends, Follows}
 use Rattle.vvmm.specs.Solo.{Asked, solo_run, summary}
 use Rattle.vvmm.specs.declared.status.Status.{Status}
-use Rattle.vvmm.specs.declared.status.Status.TheVariants.{Done, Words, Missing, TooLong, ShelfFault, Image, Device, OutFault, NoMemory, NotBuilt}
+use Rattle.vvmm.specs.declared.status.Status.TheVariants.{Done, Words, Missing, TooLong, ShelfFault, Image, Device, OutFault, NoMemory}
 
 -- what a fetch gave is what the shelf holds
 pub held_of : (files : Option (List File)) (name : List ℕ) (before now : ℕ) (bytes : Vec ℕ Global) (image : List ℕ) → image ≡ bytes.items → Answers (holding files name) before now (Ok bytes) → IsHeld files name image
@@ -21,7 +21,6 @@ by_status : (a : Asked) (image : List ℕ) (failed : Bool) (status : Status) (o 
 by_status a image failed Done o h = (image, failed, h)
 by_status a image failed (Device d) o h = (image, failed, h)
 by_status a image failed OutFault o h = (image, failed, h)
-by_status a image failed (NotBuilt opcode) o h = (image, failed, h)
 by_status a image failed Words o h = absurd h.1
 by_status a image failed (Missing name) o h = absurd h.1
 by_status a image failed (TooLong name) o h = absurd h.1
@@ -29,8 +28,7 @@ by_status a image failed ShelfFault o h = absurd h.1
 by_status a image failed (Image guest) o h = absurd h.1
 by_status a image failed NoMemory o h = absurd h.1
 
-pub closes_follows : (a : Asked) (image : List ℕ) (failed : Bool) (status : Status) (o : Outside) (mark : Option ℕ) (tally : Tally) → Made o a image failed → mark ≡ (solo_run image a.steps).guest.mark → tally ≡ (solo_run image a.steps).tally → Closes status mark failed o.out o.out' (summary a.steps tally) → Follows a status o
-closes_follows a image failed status o mark tally made marks tallies closes =
-    let P : Option ℕ → Type 0 = λ m. Closes status m failed o.out o.out' (summary a.steps tally) in
-    let Q : Tally → Type 0 = λ t. Closes status (solo_run image a.steps).guest.mark failed o.out o.out' (summary a.steps t) in
-    by_status a image failed status o (made, subst Q tallies (subst P marks closes))
+pub closes_follows : (a : Asked) (image : List ℕ) (failed : Bool) (status : Status) (o : Outside) (tally : Tally) → Made o a image failed → tally ≡ (solo_run image a.steps).tally → Closes status failed o.out o.out' (summary a.steps tally) → Follows a status o
+closes_follows a image failed status o tally made tallies closes =
+    let Q : Tally → Type 0 = λ t. Closes status failed o.out o.out' (summary a.steps t) in
+    by_status a image failed status o (made, subst Q tallies closes)

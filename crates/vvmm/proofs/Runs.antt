@@ -30,7 +30,7 @@ front_whole xs rest n h = grind (arith, common_steps)
 
 begins : (m : Machine) (g : GuestState) (c : Counts) (image rest : List ℕ) → 512 + length image ≤ 65536 → m.memory ≡ opening 65536 512 image ++ rest → g ≡ start_state 128 512 → tally_of c ≡ no_steps → run_of m.memory g c [] ≡ record { guest = first_guest image; shown = []; tally = no_steps }
 begins m g c image rest fits memory start none = λ i. record {
-  guest = record { memory = (ap (λ x. take (512 * x.pages) m.memory) start ∙ ap (take 65536) memory ∙ front_whole (opening 65536 512 image) rest 65536 (opening_length 65536 512 image fits)) i; r = (start i).r; psl = (start i).psl.0; halt = (start i).halt; mark = (start i).mark };
+  guest = record { memory = (ap (λ x. take (512 * x.pages) m.memory) start ∙ ap (take 65536) memory ∙ front_whole (opening 65536 512 image) rest 65536 (opening_length 65536 512 image fits)) i; r = (start i).r; psl = (start i).psl.0; halt = (start i).halt };
   shown = [];
   tally = none i;
 }

@@ -6,12 +6,11 @@ use Rattle.vv_io.specs.Lines.{Seen}
 use Rattle.vv_io.specs.Shelf.{File, held, file_limit}
 use Rattle.vax_hw.specs.Machine.{Machine}
 use Rattle.vm_guest.specs.Showing.{Showing, IsShowing}
-use Rattle.vm_state.specs.Run.{Run}
 use Rattle.vvmm.specs.Solo.{Asked, load_address, memory_size, solo_run, summary}
 use Rattle.vvmm.specs.declared.status.Device.{Device}
 use Rattle.vvmm.specs.declared.status.Device.TheVariants as devices
 use Rattle.vvmm.specs.declared.status.Status.{Status}
-use Rattle.vvmm.specs.declared.status.Status.TheVariants.{Done, Words, Missing, TooLong, ShelfFault, Image, Device as DeviceFault, OutFault, NoMemory, NotBuilt}
+use Rattle.vvmm.specs.declared.status.Status.TheVariants.{Done, Words, Missing, TooLong, ShelfFault, Image, Device as DeviceFault, OutFault, NoMemory}
 
 -- The outside before and after the call: what the shelf holds, where it tells, and its count of faults; the machine;
 -- the lines, the drives, and where the summary is put.
@@ -68,20 +67,17 @@ pub record Made (o : Outside) (a : Asked) (image : List ℕ) (failed : Bool) : T
   pub retired : o.machine'.retired % 2 ^ 64 ≡ (o.machine.retired + (solo_run image a.steps).tally.plain) % 2 ^ 64
   pub trail : o.machine'.trail % 2 ^ 64 ≡ (o.machine.trail + (solo_run image a.steps).tally.trail) % 2 ^ 64
 
--- How a run that was made is answered: by the first that applies of a guest marked as not built, a failed line, and
--- where the summary is put. A marked guest has no summary.
-abbrev pub Closes : Status → Option ℕ → Bool → Seen → Seen → List ℕ → Type 0
-Closes (NotBuilt opcode) mark failed out out' bytes = (mark ≡ Some opcode) × (out' ≡ out)
-Closes (DeviceFault device) mark failed out out' bytes = (device ≡ devices.Line 0) × (failed ≡ true) × (mark ≡ None) × ((cut : Bool) × Showing cut out out' bytes)
-Closes OutFault mark failed out out' bytes = (failed ≡ false) × (mark ≡ None) × Showing true out out' bytes
-Closes Done mark failed out out' bytes = (failed ≡ false) × (mark ≡ None) × Showing false out out' bytes
-Closes _ mark failed out out' bytes = ⊥
+-- how a run that was made is answered: by the first that applies of a failed line, and where the summary is put
+abbrev pub Closes : Status → Bool → Seen → Seen → List ℕ → Type 0
+Closes (DeviceFault device) failed out out' bytes = (device ≡ devices.Line 0) × (failed ≡ true) × ((cut : Bool) × Showing cut out out' bytes)
+Closes OutFault failed out out' bytes = (failed ≡ false) × Showing true out out' bytes
+Closes Done failed out out' bytes = (failed ≡ false) × Showing false out out' bytes
+Closes _ failed out out' bytes = ⊥
 
 -- a run that was made of this image, and how it is answered
 abbrev pub Ends : Asked → List ℕ → Bool → Status → Outside → Type 0
 Ends a image failed status o =
-    let run = solo_run image a.steps in
-    Made o a image failed × Closes status run.guest.mark failed o.out o.out' (summary a.steps run.tally)
+    Made o a image failed × Closes status failed o.out o.out' (summary a.steps (solo_run image a.steps).tally)
 
 -- what an answer to well-formed words says
 abbrev pub Follows : Asked → Status → Outside → Type 0

@@ -8,7 +8,7 @@ use Rattle.vvmm.specs.Solo.{Asked, load_address, memory_size}
 use Rattle.vvmm.specs.declared.status.Device.{Device}
 use Rattle.vvmm.specs.declared.status.Device.TheVariants as devices
 use Rattle.vvmm.specs.declared.status.Status.{Status}
-use Rattle.vvmm.specs.declared.status.Status.TheVariants.{Done, Words, Missing, TooLong, ShelfFault, Image, Device as DeviceFault, OutFault, NoMemory, NotBuilt}
+use Rattle.vvmm.specs.declared.status.Status.TheVariants.{Done, Words, Missing, TooLong, ShelfFault, Image, Device as DeviceFault, OutFault, NoMemory}
 
 -- the console's line
 abbrev pub line_0 : List Seen → Seen
@@ -20,11 +20,10 @@ pub record NoneRose (o : Outside) : Type 0 where
   pub line : Rose (line_0 o.lines).faults (line_0 o.lines').faults → ⊥
   pub out : Rose o.out.faults o.out'.faults → ⊥
 
--- all was done; or memory ran out before the run; or the guest met what isn't built
+-- all was done, or memory ran out before the run
 abbrev pub IsServed : Status → Type 0
 IsServed Done = Unit {0}
 IsServed NoMemory = Unit {0}
-IsServed (NotBuilt opcode) = Unit {0}
 IsServed status = ⊥
 
 abbrev pub IsMissing : Asked → Status → Type 0
@@ -39,7 +38,6 @@ IsTooLong a status = ⊥
 
 abbrev pub NamesLine : Status → Type 0
 NamesLine (DeviceFault device) = device ≡ devices.Line 0
-NamesLine (NotBuilt opcode) = Unit {0}
 NamesLine status = ⊥
 
 -- good words, a held file within the limit, an image that fits and no risen count are served

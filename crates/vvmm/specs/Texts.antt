@@ -1,10 +1,9 @@
 -- The text and the exit code of each answer.
 use Rattle.std.specs.Prelude.{ℕ, List, [], ◌++◌, codes, decimal}
-use Rattle.vv_base.specs.Digits.{hex_text}
 use Rattle.vvmm.specs.declared.status.Device.{Device}
 use Rattle.vvmm.specs.declared.status.Device.TheVariants as devices
 use Rattle.vvmm.specs.declared.status.Status.{Status}
-use Rattle.vvmm.specs.declared.status.Status.TheVariants.{Done, Words, Missing, TooLong, ShelfFault, Image, Device as DeviceFault, OutFault, NoMemory, NotBuilt}
+use Rattle.vvmm.specs.declared.status.Status.TheVariants.{Done, Words, Missing, TooLong, ShelfFault, Image, Device as DeviceFault, OutFault, NoMemory}
 
 abbrev pub device_text : Device → List ℕ
 device_text (devices.Line n) = codes "device line " ++ decimal n
@@ -20,7 +19,6 @@ text_of (DeviceFault device) = device_text device
 text_of OutFault = codes "output fault"
 text_of NoMemory = codes "no memory"
 text_of (TooLong name) = codes "too long " ++ name
-text_of (NotBuilt opcode) = codes "not built " ++ hex_text 2 opcode
 
 abbrev pub code_of : Status → ℕ
 code_of Done = 0
@@ -32,4 +30,3 @@ code_of (DeviceFault device) = 10
 code_of OutFault = 11
 code_of NoMemory = 12
 code_of (TooLong name) = 13
-code_of (NotBuilt opcode) = 14

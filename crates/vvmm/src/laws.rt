@@ -1,7 +1,7 @@
 ghost use Rattle.vvmm.specs.Laws.{Completes, TellsDevice, TellsMissing, TellsTooLong};
 
 /// Good words, a held file within the limit, an image that fits and no risen count give `Done`, or `NoMemory` before
-/// the run, or `NotBuilt`.
+/// the run.
 pub fn answers_are_complete()
     ensures { Completes }
 {}
@@ -16,7 +16,7 @@ pub fn too_long_is_told()
     ensures { TellsTooLong }
 {}
 
-/// Where line 0's count is greater behind the call, the answer names it, or is `NotBuilt`.
+/// Where line 0's count is greater behind the call, the answer names it.
 pub fn a_failed_line_is_told()
     ensures { TellsDevice }
 {}

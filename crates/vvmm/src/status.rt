@@ -1,7 +1,7 @@
 ghost use Rattle.std.specs.Prelude.{◌≡◌, ◌++◌, ◌+◌, ◌≤◌, length, decimal};
 ghost use Rattle.vvmm.specs.Texts.{code_of, device_text, text_of};
 
-use vv_base::{FileName, Text, decimal, hex};
+use vv_base::{FileName, Text, decimal};
 
 /// A device, by its number.
 #[derive(Clone, Copy, Debug, PartialEq, Eq)]
@@ -31,8 +31,6 @@ pub enum Status {
     OutFault,
     /// Memory ran out.
     NoMemory,
-    /// A guest met an instruction that isn't built, by its opcode.
-    NotBuilt(u8),
 }
 
 /// The parts of a text one behind the other, where they fit.
@@ -69,7 +67,6 @@ pub fn status_text(s: &Status) -> Text<96>
         Status::Device(device) => device_text(*device),
         Status::OutFault => joined(b"output fault", b""),
         Status::NoMemory => joined(b"no memory", b""),
-        Status::NotBuilt(opcode) => joined(b"not built ", hex(u64::from(*opcode), 2).bytes()),
     }
 }
 
@@ -87,6 +84,5 @@ pub fn status_code(s: &Status) -> u8
         Status::OutFault => 11,
         Status::NoMemory => 12,
         Status::TooLong(_) => 13,
-        Status::NotBuilt(_) => 14,
     }
 }

@@ -20,11 +20,10 @@ const LOAD: u32 = 0x200;
 /// The greatest image that fits the guest's memory, in bytes.
 const MOST: usize = 65_024;
 
-/// What a run came to: its counts, the opcode that isn't built, and whether line 0 has failed.
+/// What a run came to: its counts, and whether line 0 has failed.
 #[derive(Clone, Copy, Debug, PartialEq, Eq)]
 struct Outcome {
     counts: Counts,
-    mark: Option<u8>,
     failed: bool,
 }
 
@@ -41,7 +40,6 @@ fn make_run<H: Hardware>(
     requires few { steps ≤ 100000 }
     ensures line { IsShowing 0 result.failed (map (λ b. seen b) lines.old.items) (map (λ b. seen b) lines.new.items) (solo_run image.now steps).shown }
     ensures counts { tally_of result.counts ≡ (solo_run image.now steps).tally }
-    ensures mark { result.mark ≡ (solo_run image.now steps).guest.mark }
     ensures retired { (H.machine machine.new).retired % 2 ^ 64 ≡ ((H.machine machine.old).retired + result.counts.plain) % 2 ^ 64 }
     ensures trail { (H.machine machine.new).trail % 2 ^ 64 ≡ ((H.machine machine.old).trail + result.counts.trail) % 2 ^ 64 }
 {
@@ -60,7 +58,6 @@ fn make_run<H: Hardware>(
     let failed = advance(machine, lines, &mut guest, &mut counts, steps);
     Outcome {
         counts,
-        mark: guest.mark,
         failed,
     }
 }
@@ -75,13 +72,10 @@ fn has_failed<O: Sink>(out: &mut O, bytes: &[u8]) -> bool
     }
 }
 
-/// Puts the summary of a run that wasn't marked, and answers.
+/// Puts the summary of a run, and answers.
 fn close<O: Sink>(outcome: &Outcome, steps: u32, out: &mut O) -> Status
-    ensures { Closes result outcome.now.mark outcome.now.failed (O.printed out.old) (O.printed out.new) (summary steps (tally_of outcome.now.counts)) }
+    ensures { Closes result outcome.now.failed (O.printed out.old) (O.printed out.new) (summary steps (tally_of outcome.now.counts)) }
 {
-    if let Some(opcode) = outcome.mark {
-        return Status::NotBuilt(opcode);
-    }
     let text = summary(steps, &outcome.counts);
     let is_cut = has_failed(out, text.bytes());
     if outcome.failed {

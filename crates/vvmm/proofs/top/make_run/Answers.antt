@@ -11,6 +11,3 @@ returns-clause-line g c = solo_line _ _ _ _ _ _ _ _ _ c.args.steps c.args.image.
 
 pub returns-clause-counts : goal.returns-clause-counts
 returns-clause-counts g c = sym (ap (λ r. r.tally) (is_solo _ _ _ _ _ _ _ _ _ c.args.steps c.args.image.now _ c.requires.fits (ap (λ x. x.memory) c.load_image.ensures) c.started-guest.ensures refl c.advance-failed.ensures.turn))
-
-pub returns-clause-mark : goal.returns-clause-mark
-returns-clause-mark g c = sym (ap (λ r. r.guest.mark) (is_solo _ _ _ _ _ _ _ _ _ c.args.steps c.args.image.now _ c.requires.fits (ap (λ x. x.memory) c.load_image.ensures) c.started-guest.ensures refl c.advance-failed.ensures.turn))
