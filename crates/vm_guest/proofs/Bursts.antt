@@ -1,5 +1,5 @@
 -- A run of the machine is as many plain steps of the guest that it has.
-use Rattle.std.proofs.Common.{ℕ, zero, suc, ◌≡◌, ◌<◌, ◌+◌, ◌/◌, ◌%◌, ◌^◌, ◌⊎◌, inl, inr, [], length, refl, sym, ◌∙◌, ap, subst, arith, Result, Option, None, Some, append-nil}
+use Rattle.std.proofs.Common.{ℕ, zero, suc, ◌≡◌, ◌<◌, ◌+◌, ◌/◌, ◌%◌, ◌^◌, inl, inr, [], length, refl, sym, ◌∙◌, ap, subst, arith, Result, Option, None, Some, append-nil}
 use Rattle.std.specs.declared.result.Result.TheVariants.{Ok, Err}
 use Rattle.vax_hw.specs.Machine.{Machine}
 use Rattle.vax_hw.specs.Real.{Retired, behind_trap, done, exit_of, exits, going_on, meets, misses_after, one, real}
@@ -130,7 +130,7 @@ one_more n m m' after e run p none b = record {
   after = b.after;
   split = omega (arith, b.split);
   rest = ap (λ s. after_steps n (after_step run s)) (p.is ∙ ap (trapped p.guest (Plain p.term)) none) ∙ ap (after_steps n) (after_plain run p.guest p.term) ∙ b.rest
-    ∙ ap (λ x. after_steps b.left (ended e x)) (same_plainly run b.after _ _ _ _ (omega arith) (sum_mod run.tally.trail p.term b.terms));
+      ∙ ap (λ x. after_steps b.left (ended e x)) (same_plainly run b.after _ _ _ _ (omega arith) (sum_mod run.tally.trail p.term b.terms));
   stands = b.stands;
   size = b.size ∙ p.size;
   own = b.own ∙ p.own;

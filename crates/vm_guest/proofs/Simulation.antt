@@ -1,5 +1,5 @@
 -- A plain instruction of the machine is a plain step of the guest that it has.
-use Rattle.std.proofs.Common.{ℕ, ◌≡◌, ◌+◌, ◌*◌, ◌/◌, ◌%◌, ◌^◌, Bool, List, [], length, take, get_or, refl, sym, ◌∙◌, ap, subst, arith, Result, Ok, Err, Option, None}
+use Rattle.std.proofs.Common.{ℕ, ◌≡◌, ◌+◌, ◌*◌, ◌/◌, ◌%◌, ◌^◌, List, length, take, get_or, refl, sym, ◌∙◌, ap, subst, arith, Result, Ok, Err, None}
 use Rattle.std.proofs.lemmas.Grind.{common_steps}
 use Rattle.vax_arch.specs.Fields.{current_of, mode_of}
 use Rattle.vax_arch.specs.declared.mode.Intent.{Intent}

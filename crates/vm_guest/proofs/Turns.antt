@@ -1,5 +1,5 @@
 -- Turns one after another are one.
-use Rattle.std.proofs.Common.{ℕ, zero, suc, ◌≡◌, ◌≢◌, inl, inr, ◌<◌, ◌≤◌, ◌+◌, ◌-◌, ◌*◌, ◌/◌, ◌%◌, ◌^◌, List, [], ◌++◌, length, slice_index, refl, sym, ◌∙◌, ap, subst, arith, append_assoc, append-nil, Bool}
+use Rattle.std.proofs.Common.{ℕ, zero, suc, ◌≡◌, ◌≢◌, inl, inr, ◌<◌, ◌≤◌, ◌+◌, ◌-◌, ◌*◌, ◌%◌, ◌^◌, List, [], ◌++◌, length, slice_index, refl, sym, ◌∙◌, ap, subst, arith, append_assoc, append-nil, Bool}
 use Rattle.vv_io.specs.Lines.{Seen}
 use Rattle.vax_hw.specs.Machine.{Machine}
 use Rattle.std.specs.declared.option.Option.{Option}
@@ -78,8 +78,8 @@ pub trap_turn : (k : ℕ) (lines lines' : List Seen) (m m' : Machine) (g g' g'' 
 trap_turn k lines lines' m m' g g' g'' c c' failed failed' a left kind e bytes is p guest pages text shows = record {
   text = bytes;
   steps = λ shown. p.same shown ∙ ap (λ x. after_steps left (ended x (run_of m'.memory g' c' shown))) is
-    ∙ ap (λ x. after_steps left (record { guest = x; shown = shown ++ stop_text 0x0f (slice_index g'.r 15); tally = tally_of c' })) (sym (guest m'.memory))
-    ∙ ap (λ x. after_steps left (run_of m'.memory g'' c' (shown ++ x))) (sym text);
+      ∙ ap (λ x. after_steps left (record { guest = x; shown = shown ++ stop_text 0x0f (slice_index g'.r 15); tally = tally_of c' })) (sym (guest m'.memory))
+      ∙ ap (λ x. after_steps left (run_of m'.memory g'' c' (shown ++ x))) (sym text);
   shows = shows;
   fewer = p.fewer;
   counts = p.counts;

@@ -1,14 +1,13 @@
 -- Which answer must come.
-use Rattle.std.proofs.Common.{ℕ, ◌≡◌, ◌<◌, ◌≤◌, ◌+◌, List, length, Bool, true, false, Option, Some, None, slice_set, slice_index_or, subst, sym, ap, ◌∙◌, arith}
+use Rattle.std.proofs.Common.{ℕ, ◌≡◌, ◌<◌, List, length, Bool, true, false, Option, Some, None, slice_set, subst, sym, ap, ◌∙◌, arith}
 use Rattle.std.proofs.lemmas.Grind.{common_steps}
 use Rattle.vv_io.specs.Causes.{Rose}
-use Rattle.vv_io.specs.Lines.{Seen, unseen}
+use Rattle.vv_io.specs.Lines.{Seen}
 use Rattle.vv_io.specs.Shelf.{File, held, file_limit}
 use Rattle.vm_guest.specs.Showing.{Showing, IsShowing}
-use Rattle.vvmm.specs.Answer.{Outside, Follows, IsFetched, IsHeld, Lacks, HasTooLong, Made, Untouched}
-use Rattle.vvmm.specs.Laws.{line_0, NoneRose, IsServed, IsMissing, IsTooLong, NamesLine, Completes, TellsMissing, TellsTooLong, TellsDevice}
-use Rattle.vvmm.specs.Solo.{Asked, load_address, memory_size, solo_run}
-use Rattle.vvmm.specs.declared.status.Status.{Status}
+use Rattle.vvmm.specs.Answer.{Outside, IsFetched, IsHeld, Lacks, HasTooLong, Untouched}
+use Rattle.vvmm.specs.Laws.{line_0, Completes, TellsMissing, TellsTooLong, TellsDevice}
+use Rattle.vvmm.specs.Solo.{solo_run}
 use Rattle.vvmm.specs.declared.status.Status.TheVariants.{Done, Words, Missing, TooLong, ShelfFault, Image, Device, OutFault, NoMemory}
 
 -- a told shelf

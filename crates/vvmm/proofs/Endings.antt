@@ -1,8 +1,8 @@
 -- How a run that was made is answered.
-use Rattle.std.proofs.Common.{ℕ, ◌≡◌, ◌<◌, ◌≤◌, ◌+◌, List, length, Bool, Option, Some, None, Vec, Result, Ok, subst, sym, ap, ◌∙◌}
+use Rattle.std.proofs.Common.{ℕ, ◌≡◌, ◌≤◌, List, length, Bool, Option, Some, None, Vec, Ok, subst, sym, ap, ◌∙◌}
 use Rattle.std.specs.declared.alloc.Global.{Global}
 use Rattle.vv_io.specs.Shelf.{File, Answers, holding, file_limit}
-use Rattle.vm_state.specs.Run.{Run, Tally}
+use Rattle.vm_state.specs.Run.{Tally}
 use Rattle.vvmm.specs.Answer.{Outside, IsHeld, Made, Closes, Ends, Follows}
 use Rattle.vvmm.specs.Solo.{Asked, solo_run, summary}
 use Rattle.vvmm.specs.declared.status.Status.{Status}

@@ -1,16 +1,15 @@
 -- The run of the guest A.
-use Rattle.std.proofs.Common.{ℕ, zero, suc, ◌≡◌, ◌<◌, ◌≤◌, ◌+◌, ◌*◌, ◌^◌, ◌%◌, List, [], ◌∷◌, ◌++◌, length, take, drop, get_or, slice_set, slice_index_or, refl, sym, ◌∙◌, ap, subst, arith, append-nil, length-append, Bool, false, replicate}
+use Rattle.std.proofs.Common.{ℕ, ◌≡◌, ◌<◌, ◌≤◌, ◌+◌, ◌*◌, List, [], ◌++◌, length, take, drop, slice_index_or, refl, sym, ◌∙◌, ap, subst, arith, append-nil, length-append, Bool, false}
 use Rattle.std.proofs.lemmas.Grind.{common_steps}
 use Rattle.std.proofs.lemmas.List.{set-get_or}
 use Rattle.std.specs.declared.option.Option.{Option}
 use Rattle.std.specs.declared.option.Option.TheVariants.{None, Some}
 use Rattle.vv_io.specs.Lines.{Seen, shown_after, unseen}
 use Rattle.vax_hw.specs.Machine.{Machine}
-use Rattle.vm_state.specs.Guest.{Guest}
-use Rattle.vm_guest.specs.Kept.{guest_of, run_of, tally_of}
+use Rattle.vm_guest.specs.Kept.{run_of, tally_of}
 use Rattle.vm_state.specs.Start.{opening, start_state}
 use Rattle.vm_guest.specs.Showing.{IsShowing}
-use Rattle.vm_state.specs.Run.{Run, no_steps, after_steps}
+use Rattle.vm_state.specs.Run.{no_steps, after_steps}
 use Rattle.vm_guest.specs.Turn.{Turn}
 use Rattle.vm_state.specs.declared.guest_state.GuestState.{GuestState}
 use Rattle.vm_guest.specs.declared.counts.Counts.{Counts}

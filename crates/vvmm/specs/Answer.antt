@@ -7,7 +7,6 @@ use Rattle.vv_io.specs.Shelf.{File, held, file_limit}
 use Rattle.vax_hw.specs.Machine.{Machine}
 use Rattle.vm_guest.specs.Showing.{Showing, IsShowing}
 use Rattle.vvmm.specs.Solo.{Asked, load_address, memory_size, solo_run, summary}
-use Rattle.vvmm.specs.declared.status.Device.{Device}
 use Rattle.vvmm.specs.declared.status.Device.TheVariants as devices
 use Rattle.vvmm.specs.declared.status.Status.{Status}
 use Rattle.vvmm.specs.declared.status.Status.TheVariants.{Done, Words, Missing, TooLong, ShelfFault, Image, Device as DeviceFault, OutFault, NoMemory}

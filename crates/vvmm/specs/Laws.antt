@@ -5,10 +5,9 @@ use Rattle.vv_io.specs.Lines.{Seen, unseen}
 use Rattle.vv_io.specs.Shelf.{File, held, file_limit}
 use Rattle.vvmm.specs.Answer.{Outside, Follows}
 use Rattle.vvmm.specs.Solo.{Asked, load_address, memory_size}
-use Rattle.vvmm.specs.declared.status.Device.{Device}
 use Rattle.vvmm.specs.declared.status.Device.TheVariants as devices
 use Rattle.vvmm.specs.declared.status.Status.{Status}
-use Rattle.vvmm.specs.declared.status.Status.TheVariants.{Done, Words, Missing, TooLong, ShelfFault, Image, Device as DeviceFault, OutFault, NoMemory}
+use Rattle.vvmm.specs.declared.status.Status.TheVariants.{Done, Missing, TooLong, Device as DeviceFault, NoMemory}
 
 -- the console's line
 abbrev pub line_0 : List Seen → Seen

@@ -1,5 +1,5 @@
 -- The command `solo IMAGE STEPS`: its words, its run and its summary.
-use Rattle.std.specs.Prelude.{ℕ, ◌+◌, ◌*◌, List, [], ◌∷◌, ◌++◌, length, Bool, nat_eq, nat_le, ◌&&◌, if◌then◌else◌, codes, decimal, Option, Some, None}
+use Rattle.std.specs.Prelude.{ℕ, List, [], ◌∷◌, ◌++◌, Bool, nat_eq, nat_le, ◌&&◌, if◌then◌else◌, codes, decimal, Option, Some, None}
 use Rattle.std.specs.Cmp.Lexicographic.{pointwise}
 use Rattle.vv_base.specs.Digits.{decimal_of, hex_text}
 use Rattle.vv_base.specs.Names.{is_file_name}

@@ -7,7 +7,7 @@ use vv_base::{FileName, file_name};
 use vv_io::{Cut, MemLine, MemShelf};
 
 /// Row by row: an image, a number of steps, the console's bytes, and the summary.
-const RUNS: [(&[u8], &str, &str, &str); 5] = [
+const RUNS: [(&[u8], &str, &str, &str); 12] = [
     (
         &[0xDA, 0x8F, 0x41, 0, 0, 0, 0x23, 0],
         "10",
@@ -38,6 +38,80 @@ const RUNS: [(&[u8], &str, &str, &str); 5] = [
         "",
         "rounds 1 steps 3 plain 3 sensitive 0 faults 0 interrupts 0 modify 0 idle 0 stopped 0 trail 0000000000000699\n",
     ),
+    // a call and its return
+    (
+        &[
+            0xD0, 0x8F, 0, 0x10, 0, 0, 0x5E, 0xFB, 0, 0xAF, 1, 0, 0, 0, 4,
+        ],
+        "4",
+        "?06 0000020C\r\n",
+        "rounds 1 steps 4 plain 3 sensitive 1 faults 0 interrupts 0 modify 0 idle 0 stopped 0 trail 0000000000005B4E\n",
+    ),
+    (
+        WORKED,
+        "39",
+        "H?06 00000230\r\n",
+        "rounds 1 steps 39 plain 37 sensitive 2 faults 0 interrupts 0 modify 0 idle 0 stopped 0 trail 0000000000075630\n",
+    ),
+    // INCL R0 and BRB 4 back
+    (
+        &[0xD6, 0x50, 0x11, 0xFC],
+        "1000",
+        "",
+        "rounds 1 steps 1000 plain 1000 sensitive 0 faults 0 interrupts 0 modify 0 idle 0 stopped 0 trail 000000000010EFF0\n",
+    ),
+    // DIVL2 #0,R1 retires, and its trap stops the guest behind it
+    (
+        &[0xC6, 0, 0x51],
+        "2",
+        "?0F 00000203\r\n",
+        "rounds 1 steps 2 plain 1 sensitive 0 faults 0 interrupts 0 modify 0 idle 0 stopped 1 trail 0000000000000452\n",
+    ),
+    // no instruction has the opcode 08; MOVL @#10000,R0 is beyond memory; CHMK #5 would be an exception
+    (
+        &[8],
+        "1",
+        "?0F 00000200\r\n",
+        "rounds 1 steps 1 plain 0 sensitive 0 faults 1 interrupts 0 modify 0 idle 0 stopped 0 trail 0000000000000000\n",
+    ),
+    (
+        &[0xD0, 0x9F, 0, 0, 1, 0, 0x50],
+        "2",
+        "?10 00000200\r\n",
+        "rounds 1 steps 2 plain 0 sensitive 0 faults 1 interrupts 0 modify 0 idle 0 stopped 1 trail 0000000000000000\n",
+    ),
+    (
+        &[0xBC, 5],
+        "1",
+        "?0F 00000200\r\n",
+        "rounds 1 steps 1 plain 0 sensitive 0 faults 1 interrupts 0 modify 0 idle 0 stopped 0 trail 0000000000000000\n",
+    ),
+];
+
+/// Copies a text byte by byte, finds the factorial of 4 by calls of a procedure by itself, goes by CASE on it, and shows
+/// the copy's first byte.
+const WORKED: &[u8] = &[
+    0xD0, 0x8F, 0, 0x10, 0, 0, 0x5E, // 200 MOVL #1000,SP
+    0x9E, 0xAF, 0x26, 0x51, // 207 MOVAB 230,R1
+    0x9E, 0x9F, 0, 8, 0, 0, 0x52, // 20B MOVAB @#800,R2
+    0x90, 0x81, 0x82, // 212 MOVB (R1)+,(R2)+
+    0x12, 0xFB, // 215 BNEQ 212
+    0xDD, 4, // 217 PUSHL #4
+    0xFB, 1, 0xAF, 0x16, // 219 CALLS #1,233
+    0x8F, 0x50, 0x17, 2, // 21D CASEB R0,#17,#2
+    6, 0, 7, 0, 6, 0, // 221 to 227, 228 or 227
+    0, // 227 HALT
+    0xDA, 0x9F, 0, 8, 0, 0, 0x23, // 228 MTPR @#800,#23
+    0, // 22F HALT
+    0x48, 0x69, 0, // 230 the text
+    0, 0, // 233 the procedure, which saves no register
+    0xD0, 0xAC, 4, 0x50, // 235 MOVL 4(AP),R0
+    0xD1, 0x50, 1, // 239 CMPL R0,#1
+    0x15, 0x0C, // 23C BLEQ 24A
+    0xC3, 1, 0x50, 0x7E, // 23E SUBL3 #1,R0,-(SP)
+    0xFB, 1, 0xAF, 0xED, // 242 CALLS #1,233
+    0xC4, 0xAC, 4, 0x50, // 246 MULL2 4(AP),R0
+    4, // 24A RET
 ];
 
 /// The name of the file that the tests ask for.
@@ -168,13 +242,6 @@ fn each_answer_has_its_cause(rt: HostRuntime) -> Result<(), Fail> {
         ("solo x 1", first.0, Some(1), 4, "shelf fault"),
         ("solo x 1", wide.as_slice(), None, 7, "image 0"),
         ("solo x 1", whole.as_slice(), None, 0, ""),
-        (
-            "solo x 1",
-            [0xD6, 0x50].as_slice(),
-            None,
-            14,
-            "not built D6",
-        ),
     ] {
         let seen = run_words(
             &rt,

@@ -56,10 +56,7 @@ fn make_run<H: Hardware>(
         trail: 0,
     };
     let failed = advance(machine, lines, &mut guest, &mut counts, steps);
-    Outcome {
-        counts,
-        failed,
-    }
+    Outcome { counts, failed }
 }
 
 /// Puts bytes once, and answers whether that failed.

@@ -1,4 +1,4 @@
-use Rattle.std.proofs.Common.{arith, ap, refl, sym, ◌∙◌, length, map, vec_len}
+use Rattle.std.proofs.Common.{arith, ap, refl, sym}
 use Rattle.std.proofs.lemmas.List.{length-map}
 use Rattle.vvmm.proofs.Runs.{inside, is_solo, solo_line}
 use Rattle.vvmm.proofs.top.make_run.Goals as goal
