@@ -1,0 +1,7 @@
+pub mod Answers
+pub mod Reads
+pub mod Entries
+pub mod Guests
+pub mod Top
+pub mod Rules
+pub mod Config
