@@ -27,20 +27,20 @@ one_audit (Some a) = omega arith
 
 pub few_objects : (c : Config) → IsFew c → length (objects_of c) ≤ 96
 few_objects c few =
-  simp (length-append, length-mapped) (omega (arith, few.terminals, few.volumes, few.printers, few.guests))
+    simp (length-append, length-mapped) (omega (arith, few.terminals, few.volumes, few.printers, few.guests))
 
 pub few_lines : (c : Config) → IsFew c → length (lines_of c) ≤ 81
 few_lines c few =
-  simp (length-append, length-mapped) (omega (arith, few.terminals, few.printers, few.guests, few_dumps c.guests, one_audit c.audit))
+    simp (length-append, length-mapped) (omega (arith, few.terminals, few.printers, few.guests, few_dumps c.guests, one_audit c.audit))
 
 -- a dump more, or none
 pub dumps-none : (gs : List GuestRow) (i : ℕ) (d : GuestRow) → i < length gs → (get_or gs i d).dump ≡ None → filter_map (λ (g : GuestRow). g.dump) (take (i + 1) gs) ≡ filter_map (λ (g : GuestRow). g.dump) (take i gs)
 dumps-none gs i d within none =
-  rw (take_more gs i d within, filter_map-append (λ (g : GuestRow). g.dump) (take i gs) (get_or gs i d ∷ []), none, append-nil (filter_map (λ (g : GuestRow). g.dump) (take i gs)))
+    rw (take_more gs i d within, filter_map-append (λ (g : GuestRow). g.dump) (take i gs) (get_or gs i d ∷ []), none, append-nil (filter_map (λ (g : GuestRow). g.dump) (take i gs)))
 
 pub dumps-some : (gs : List GuestRow) (i : ℕ) (d : GuestRow) (line : ℕ) → i < length gs → (get_or gs i d).dump ≡ Some line → filter_map (λ (g : GuestRow). g.dump) (take (i + 1) gs) ≡ filter_map (λ (g : GuestRow). g.dump) (take i gs) ++ line ∷ []
 dumps-some gs i d line within some =
-  rw (take_more gs i d within, filter_map-append (λ (g : GuestRow). g.dump) (take i gs) (get_or gs i d ∷ []), some)
+    rw (take_more gs i d within, filter_map-append (λ (g : GuestRow). g.dump) (take i gs) (get_or gs i d ∷ []), some)
 
 pub ruleset dumps = (dumps-none, dumps-some)
 
@@ -48,5 +48,5 @@ pub one_more : (before now old : List ℕ) (gs : List GuestRow) (i : ℕ) (g : G
     → now ≡ before ++ line ∷ [] → before ≡ old ++ filter_map (λ (g : GuestRow). g.dump) (take i gs) → i < length gs → g ≡ get_or gs i g → g.dump ≡ Some line
     → now ≡ old ++ filter_map (λ (g : GuestRow). g.dump) (take (i + 1) gs)
 one_more before now old gs i g line pushed so_far within is_g some =
-  let same : (get_or gs i g).dump ≡ Some line = rw (← is_g) some in
-  rw (pushed, so_far, dumps-some gs i g line within same, append_assoc old (filter_map (λ (g : GuestRow). g.dump) (take i gs)) (line ∷ []))
+    let same : (get_or gs i g).dump ≡ Some line = rw (← is_g) some in
+    rw (pushed, so_far, dumps-some gs i g line within same, append_assoc old (filter_map (λ (g : GuestRow). g.dump) (take i gs)) (line ∷ []))

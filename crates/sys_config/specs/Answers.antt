@@ -1,7 +1,6 @@
 -- Rules that are tested in their order, and what a reader may answer: what the rules say, unless memory is lacking.
 use Rattle.std.specs.Prelude.{◌≡◌, ℕ, List, [], ◌∷◌, ◌++◌, length, Option, Some, None, Result, Ok, Err, option_and_then}
 use Rattle.toml.specs.Data.{Data, Items, no_items, item, Members, as_table}
-
 use Rattle.sys_config.specs.declared.fault.ConfigFault.{ConfigFault}
 use Rattle.sys_config.specs.declared.fault.ConfigError.{ConfigError}
 use Rattle.sys_config.specs.declared.fault.ConfigError.TheVariants.{Fault, NoMemory}

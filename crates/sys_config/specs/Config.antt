@@ -40,11 +40,11 @@ document_of bytes = if is_utf8 bytes then parse_document bytes else None
 
 unfoldable pub numbers_of : Members → Result Limits ConfigFault
 numbers_of t =
-  by_rule 1 0 (top_of t) >>= λ top.
-  by_rule 2 0 (is_two top.version) >>= λ two.
-  by_rule 3 0 (quantum_of two top.quantum) >>= λ quantum.
-  by_rule 4 0 (in_range 1 (most_slice quantum) top.slice) >>= λ slice.
-  Ok (record { quantum = quantum; slice = slice })
+    by_rule 1 0 (top_of t) >>= λ top.
+    by_rule 2 0 (is_two top.version) >>= λ two.
+    by_rule 3 0 (quantum_of two top.quantum) >>= λ quantum.
+    by_rule 4 0 (in_range 1 (most_slice quantum) top.slice) >>= λ slice.
+    Ok (record { quantum = quantum; slice = slice })
 
 abbrev pub audit_if_any : ℕ → Option Members → Option (Option Audit)
 audit_if_any top None = Some None
@@ -52,35 +52,35 @@ audit_if_any top (Some t) = option_map Some (audit_of top t)
 
 unfoldable pub rows_of : Limits → Option Members → Members → Result Config ConfigFault
 rows_of n audit t =
-  by_rule 5 0 (tables_at (codes "terminal") 32 t) >>= λ terminal.
-  by_rule 5 1 (tables_at (codes "volume") 16 t) >>= λ volume.
-  by_rule 5 2 (tables_at (codes "printer") 32 t) >>= λ printer.
-  by_rule 5 3 (tables_at (codes "guest") (most_guests n.quantum) t) >>= λ guest.
-  entries_from 6 (terminal_of (top_level n.quantum)) [] terminal >>= λ terminals.
-  entries_from 7 (volume_of (top_level n.quantum)) [] volume >>= λ volumes.
-  entries_from 8 (printer_of (top_level n.quantum)) [] printer >>= λ printers.
-  entries_from 9 (guest_of (top_level n.quantum) n.quantum terminals volumes printers) [] guest >>= λ guests.
-  by_rule 10 0 (audit_if_any (top_level n.quantum) audit) >>= λ read.
-  Ok (record { slice = n.slice; audit = read; terminals = terminals; volumes = volumes; printers = printers; guests = guests })
+    by_rule 5 0 (tables_at (codes "terminal") 32 t) >>= λ terminal.
+    by_rule 5 1 (tables_at (codes "volume") 16 t) >>= λ volume.
+    by_rule 5 2 (tables_at (codes "printer") 32 t) >>= λ printer.
+    by_rule 5 3 (tables_at (codes "guest") (most_guests n.quantum) t) >>= λ guest.
+    entries_from 6 (terminal_of (top_level n.quantum)) [] terminal >>= λ terminals.
+    entries_from 7 (volume_of (top_level n.quantum)) [] volume >>= λ volumes.
+    entries_from 8 (printer_of (top_level n.quantum)) [] printer >>= λ printers.
+    entries_from 9 (guest_of (top_level n.quantum) n.quantum terminals volumes printers) [] guest >>= λ guests.
+    by_rule 10 0 (audit_if_any (top_level n.quantum) audit) >>= λ read.
+    Ok (record { slice = n.slice; audit = read; terminals = terminals; volumes = volumes; printers = printers; guests = guests })
 
 unfoldable pub judged : Config → Result (Unit {0}) ConfigFault
 judged c =
-  unless_at 11 (bad_name c) >>= λ _.
-  unless_at 12 (bad_line c) >>= λ _.
-  unless_at 13 (bad_drive c) >>= λ _.
-  unless_at 14 (bad_printer c) >>= λ _.
-  unless_at 15 (bad_console c) >>= λ _.
-  unless_at 16 (bad_mount c) >>= λ _.
-  unless_at 17 (bad_audit c) >>= λ _.
-  unless_at 18 (bad_pages c)
+    unless_at 11 (bad_name c) >>= λ _.
+    unless_at 12 (bad_line c) >>= λ _.
+    unless_at 13 (bad_drive c) >>= λ _.
+    unless_at 14 (bad_printer c) >>= λ _.
+    unless_at 15 (bad_console c) >>= λ _.
+    unless_at 16 (bad_mount c) >>= λ _.
+    unless_at 17 (bad_audit c) >>= λ _.
+    unless_at 18 (bad_pages c)
 
 unfoldable pub config_in : Members → Result Config ConfigFault
 config_in t =
-  by_rule 1 0 (audit_table t) >>= λ audit.
-  numbers_of t >>= λ numbers.
-  rows_of numbers audit t >>= λ c.
-  judged c >>= λ _.
-  Ok c
+    by_rule 1 0 (audit_table t) >>= λ audit.
+    numbers_of t >>= λ numbers.
+    rows_of numbers audit t >>= λ c.
+    judged c >>= λ _.
+    Ok c
 
 -- `Config`
 unfoldable pub config_of : List ℕ → Result Config ConfigFault

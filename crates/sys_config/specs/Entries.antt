@@ -36,28 +36,28 @@ line_at key t = number_at key 0 31 t
 
 unfoldable pub terminal_of : ℕ → Members → Option Terminal
 terminal_of top t =
-  if are_known (codes "name" ∷ codes "line" ∷ codes "class" ∷ []) t then
+    if are_known (codes "name" ∷ codes "line" ∷ codes "class" ∷ []) t then
     (name_at (codes "name") t >>= λ name. line_at (codes "line") t >>= λ line. class_at top t >>= λ class.
-      Some (record { name = name; line = line; class = class }))
-  else None
+    Some (record { name = name; line = line; class = class }))
+    else None
 
 -- a drive is 0 to 15, and a volume has 1 to 2,048 blocks
 unfoldable pub volume_of : ℕ → Members → Option VolumeRow
 volume_of top t =
-  if are_known (codes "name" ∷ codes "drive" ∷ codes "blocks" ∷ codes "class" ∷ []) t then
+    if are_known (codes "name" ∷ codes "drive" ∷ codes "blocks" ∷ codes "class" ∷ []) t then
     (name_at (codes "name") t >>= λ name. number_at (codes "drive") 0 15 t >>= λ drive. number_at (codes "blocks") 1 2048 t >>= λ blocks.
-      class_at top t >>= λ class. Some (record { name = name; drive = drive; blocks = blocks; class = class }))
-  else None
+    class_at top t >>= λ class. Some (record { name = name; drive = drive; blocks = blocks; class = class }))
+    else None
 
 unfoldable pub printer_of : ℕ → Members → Option PrinterRow
 printer_of top t =
-  if are_known (codes "name" ∷ codes "line" ∷ codes "class" ∷ []) t then
+    if are_known (codes "name" ∷ codes "line" ∷ codes "class" ∷ []) t then
     (name_at (codes "name") t >>= λ name. line_at (codes "line") t >>= λ line. class_at top t >>= λ class.
-      Some (record { name = name; line = line; class = class }))
-  else None
+    Some (record { name = name; line = line; class = class }))
+    else None
 
 unfoldable pub audit_of : ℕ → Members → Option Audit
 audit_of top t =
-  if are_known (codes "line" ∷ codes "class" ∷ []) t then
+    if are_known (codes "line" ∷ codes "class" ∷ []) t then
     (line_at (codes "line") t >>= λ line. class_at top t >>= λ class. Some (record { line = line; class = class }))
-  else None
+    else None

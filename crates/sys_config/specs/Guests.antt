@@ -27,10 +27,10 @@ printer_place printers name = unwrap_or (position (λ p. bytes_eq name p.name) p
 -- a mount and its unit, 0 to 3
 unfoldable pub mount_of : List VolumeRow → Members → Option UnitMount
 mount_of volumes t =
-  if are_known (codes "unit" ∷ codes "volume" ∷ codes "write" ∷ []) t then
+    if are_known (codes "unit" ∷ codes "volume" ∷ codes "write" ∷ []) t then
     (number_at (codes "unit") 0 3 t >>= λ unit. name_at (codes "volume") t >>= λ name. flag_at (codes "write") t >>= λ write.
-      Some (record { unit = unit; mount = record { volume = volume_place volumes name; write = write } }))
-  else None
+    Some (record { unit = unit; mount = record { volume = volume_place volumes name; write = write } }))
+    else None
 
 abbrev pub Units : Type 0
 Units = List (Option Mount)
@@ -70,8 +70,8 @@ own_quantum None t = number_at (codes "quantum") 1 100000 t
 
 abbrev pub guest_keys : List (List ℕ)
 guest_keys =
-  codes "name" ∷ codes "class" ∷ codes "pages" ∷ codes "image" ∷ codes "load" ∷ codes "start" ∷ codes "autostart"
-  ∷ codes "console" ∷ codes "printer" ∷ codes "dump" ∷ codes "modify" ∷ codes "mount" ∷ []
+    codes "name" ∷ codes "class" ∷ codes "pages" ∷ codes "image" ∷ codes "load" ∷ codes "start" ∷ codes "autostart"
+    ∷ codes "console" ∷ codes "printer" ∷ codes "dump" ∷ codes "modify" ∷ codes "mount" ∷ []
 
 abbrev pub keys_of_guest : Option ℕ → List (List ℕ)
 keys_of_guest (Some q) = guest_keys
@@ -83,19 +83,32 @@ image_at t = text_at (codes "image") t >>= tested is_file_name
 -- the keys that every guest has
 unfoldable pub bare_guest_of : ℕ → Option ℕ → Members → Option GuestRow
 bare_guest_of top quantum t =
-  name_at (codes "name") t >>= λ name. class_at top t >>= λ class. number_at (codes "pages") 64 2048 t >>= λ pages.
-  image_at t >>= λ image. number_at (codes "load") 0 4294967295 t >>= λ load. number_at (codes "start") 0 4294967295 t >>= λ start.
-  flag_at (codes "autostart") t >>= λ autostart. own_quantum quantum t >>= λ own.
-  Some (record { name = name; class = class; pages = pages; image = image; load = load; start = start; autostart = autostart;
-    console = None; printer = None; dump = None; mounts = no_mounts; modify_faults = false; quantum = own })
+    name_at (codes "name") t >>= λ name. class_at top t >>= λ class. number_at (codes "pages") 64 2048 t >>= λ pages.
+    image_at t >>= λ image. number_at (codes "load") 0 4294967295 t >>= λ load. number_at (codes "start") 0 4294967295 t >>= λ start.
+    flag_at (codes "autostart") t >>= λ autostart. own_quantum quantum t >>= λ own.
+    Some (record {
+      name = name;
+      class = class;
+      pages = pages;
+      image = image;
+      load = load;
+      start = start;
+      autostart = autostart;
+      console = None;
+      printer = None;
+      dump = None;
+      mounts = no_mounts;
+      modify_faults = false;
+      quantum = own;
+    })
 
 -- the keys that it may have besides
 unfoldable pub guest_of : ℕ → Option ℕ → List Terminal → List VolumeRow → List PrinterRow → Members → Option GuestRow
 guest_of top quantum terminals volumes printers t =
-  if are_known (keys_of_guest quantum) t then
+    if are_known (keys_of_guest quantum) t then
     (bare_guest_of top quantum t >>= λ guest.
-      if_any (console_in terminals) (codes "console") t >>= λ console. if_any (printer_in printers) (codes "printer") t >>= λ printer.
-      if_any (number_in 0 31) (codes "dump") t >>= λ dump. if_any modify_of (codes "modify") t >>= λ modify.
-      if_any (mounts_in volumes) (codes "mount") t >>= λ mounts.
-      Some (record guest { console = console; printer = printer; dump = dump; mounts = unwrap_or mounts no_mounts; modify_faults = unwrap_or modify false }))
-  else None
+    if_any (console_in terminals) (codes "console") t >>= λ console. if_any (printer_in printers) (codes "printer") t >>= λ printer.
+    if_any (number_in 0 31) (codes "dump") t >>= λ dump. if_any modify_of (codes "modify") t >>= λ modify.
+    if_any (mounts_in volumes) (codes "mount") t >>= λ mounts.
+    Some (record guest { console = console; printer = printer; dump = dump; mounts = unwrap_or mounts no_mounts; modify_faults = unwrap_or modify false }))
+    else None

@@ -5,3 +5,4 @@ pub mod Guests
 pub mod Top
 pub mod Rules
 pub mod Config
+pub mod Condition

@@ -14,15 +14,15 @@ all_keys = codes "version" ∷ codes "slice" ∷ codes "audit" ∷ codes "termin
 -- with version 2 there is no `quantum`
 unfoldable pub top_of_two : ℤ → Members → Option Top
 top_of_two version t =
-  if are_known all_keys t then (integer_at (codes "slice") t >>= λ slice. Some (record { version = version; quantum = None; slice = slice })) else None
+    if are_known all_keys t then (integer_at (codes "slice") t >>= λ slice. Some (record { version = version; quantum = None; slice = slice })) else None
 
 -- with any other version there is one
 unfoldable pub top_of_one : ℤ → Members → Option Top
 top_of_one version t =
-  if are_known (codes "quantum" ∷ all_keys) t then
+    if are_known (codes "quantum" ∷ all_keys) t then
     (integer_at (codes "quantum") t >>= λ quantum. integer_at (codes "slice") t >>= λ slice.
-      Some (record { version = version; quantum = Some quantum; slice = slice }))
-  else None
+    Some (record { version = version; quantum = Some quantum; slice = slice }))
+    else None
 
 unfoldable pub top_of : Members → Option Top
 top_of t = integer_at (codes "version") t >>= λ version. if is_integer 2 version then top_of_two version t else top_of_one version t

@@ -1,6 +1,7 @@
-ghost use Rattle.std.specs.Prelude.{◌≡◌, ◌<◌, ◌^◌, option_map, IfOk, IfSome};
+ghost use Rattle.std.specs.Prelude.{◌≡◌, ℕ, ◌<◌, ◌^◌, List, Ok, option_map, IfOk, IfSome};
 ghost use Rattle.toml.specs.View.{table_view};
 ghost use Rattle.sys_config.specs.Answers.{Reads, by_rule, unless_at};
+ghost use Rattle.sys_config.specs.Condition.{IsConfig};
 ghost use Rattle.sys_config.specs.Rules.{IsFew};
 ghost use Rattle.sys_config.specs.Config.{document_of, audit_if_any, rows_of, judged, config_in, config_of};
 
@@ -136,11 +137,19 @@ fn document(alloc: Global, b: &[u8]) -> Result<Table, ConfigError>
     }
 }
 
-/// Reads a configuration. It answers what `config_of` says of the bytes, or `NoMemory`.
+/// Reads a configuration: what `config_of` says of the bytes, or want of memory.
+///
+/// A `Fault` names the least rule that the bytes break, and the first place at which they break it.
 #[tactic(auto, unfolding(crate::specs::Config::config_of))]
 pub fn read_config(alloc: Global, b: &[u8]) -> Result<Config, ConfigError>
-    ensures { Reads (λ c. c) result (config_of b.now) }
+    ensures read { Reads (λ c. c) result (config_of b.now) }
+    ensures accepted { IfOk result (λ c. IsConfig c) }
 {
     let table = document(alloc, b)?;
     of_table(alloc, &table)
 }
+
+/// A configuration that a text stands for meets the condition on configurations.
+pub fn config_laws()
+    ensures { (b : List ℕ) (c : Config) → config_of b ≡ Ok c → IsConfig c }
+{}

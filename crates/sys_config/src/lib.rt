@@ -13,6 +13,9 @@ mod records;
 mod rules;
 mod top;
 
-pub use config::read_config;
+pub use config::{config_laws, read_config};
 pub use fault::{ConfigError, ConfigFault};
 pub use records::{Audit, Config, GuestRow, Mount, PrinterRow, Rows, Terminal, VolumeRow};
+
+#[cfg(test)]
+mod tests;
