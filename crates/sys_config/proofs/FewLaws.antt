@@ -10,7 +10,7 @@ use Rattle.sys_config.specs.declared.records.GuestRow.{GuestRow}
 use Rattle.sys_config.specs.declared.records.Terminal.{Terminal}
 use Rattle.sys_config.specs.declared.records.PrinterRow.{PrinterRow}
 
-length-mapped : {A B : Type 0} (f : A → B) (xs : List A) → length (map f xs) ≡ length xs
+pub length-mapped : {A B : Type 0} (f : A → B) (xs : List A) → length (map f xs) ≡ length xs
 length-mapped f [] = refl
 length-mapped f (x ∷ xs) = ap suc (length-mapped f xs)
 

@@ -30,16 +30,16 @@ pub record IsUnbroken (c : Config) : Type 0 where
   pub audit : bad_audit c ≡ None
   pub pages : bad_pages c ≡ None
 
-abbrev same_name : Object → Object → Bool
+abbrev pub same_name : Object → Object → Bool
 same_name x y = bytes_eq x.name y.name
 
-abbrev same_line : ℕ → ℕ → Bool
+abbrev pub same_line : ℕ → ℕ → Bool
 same_line x y = x == y
 
-abbrev same_drive : VolumeRow → VolumeRow → Bool
+abbrev pub same_drive : VolumeRow → VolumeRow → Bool
 same_drive x y = x.drive == y.drive
 
-abbrev same_console : GuestRow → GuestRow → Bool
+abbrev pub same_console : GuestRow → GuestRow → Bool
 same_console x y = same_place x.console y.console
 
 texts_apart : (a b : List ℕ) → bytes_eq b a ≡ false → a ≢ b

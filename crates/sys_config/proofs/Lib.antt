@@ -6,3 +6,10 @@ pub mod Each
 pub mod RowFacts
 pub mod Judged
 pub mod Accepted
+pub mod Inserts
+pub mod Ascii
+pub mod ItemsPrinted
+pub mod ReadAgain
+pub mod JudgedAgain
+pub mod PrintedAgain
+pub mod Shallow

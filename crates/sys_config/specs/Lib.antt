@@ -6,3 +6,4 @@ pub mod Top
 pub mod Rules
 pub mod Config
 pub mod Condition
+pub mod Written
