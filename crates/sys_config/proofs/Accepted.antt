@@ -3,27 +3,29 @@ use Rattle.std.proofs.Common.{◌≡◌, ◌≤◌, ◌<◌, ℕ, ℤ, Bool, tru
 use Rattle.std.proofs.lemmas.Bool.{leb-true}
 use Rattle.toml.specs.Data.{Data, Items, no_items, Members, get_member, as_array}
 use Rattle.toml.specs.Text.{are_tables}
-use Rattle.sys_config.specs.Answers.{Reads, ◌>>=◌, by_rule, unless_at, entries_from}
+use Rattle.sys_objects.specs.Faults.{Reads, ◌>>=◌, by_rule, unless_at}
+use Rattle.sys_config.specs.Answers.{entries_from}
 use Rattle.sys_config.specs.Reads.{in_range, if_any, if_some}
 use Rattle.sys_config.specs.Entries.{terminal_of, volume_of, printer_of, audit_of}
 use Rattle.sys_config.specs.Guests.{guest_of}
 use Rattle.sys_config.specs.Top.{top_of, audit_table, is_two, quantum_of, most_slice, top_level, most_guests, tables_at, tables_in, count_of, items_if_any}
-use Rattle.sys_config.specs.Rules.{bad_name, bad_line, bad_drive, bad_printer, bad_console, bad_mount, bad_audit, bad_pages}
-use Rattle.sys_config.specs.Config.{document_of, numbers_of, audit_if_any, rows_of, judged, config_in, config_of}
-use Rattle.sys_config.specs.Condition.{IsConfig, IsTerminal, IsVolume, IsPrinter, IsGuest, IsAudit}
-use Rattle.sys_config.specs.declared.fault.ConfigFault.{ConfigFault}
-use Rattle.sys_config.specs.declared.fault.ConfigError.{ConfigError}
+use Rattle.sys_objects.specs.Rules.{bad_name, bad_line, bad_drive, bad_printer, bad_console, bad_mount, bad_audit, bad_pages}
+use Rattle.sys_objects.specs.Judged.{judged}
+use Rattle.sys_config.specs.Config.{document_of, numbers_of, audit_if_any, rows_of, config_in, config_of}
+use Rattle.sys_objects.specs.Condition.{IsConfig, IsTerminal, IsVolume, IsPrinter, IsGuest, IsAudit}
+use Rattle.sys_objects.specs.declared.errors.ConfigFault.{ConfigFault}
+use Rattle.sys_objects.specs.declared.errors.ConfigError.{ConfigError}
 use Rattle.sys_config.specs.declared.top.Top.{Top}
 use Rattle.sys_config.specs.declared.numbers.Limits.{Limits}
-use Rattle.sys_config.specs.declared.records.Config.{Config}
-use Rattle.sys_config.specs.declared.records.Audit.{Audit}
-use Rattle.sys_config.specs.declared.records.GuestRow.{GuestRow}
-use Rattle.sys_config.specs.declared.records.Terminal.{Terminal}
-use Rattle.sys_config.specs.declared.records.VolumeRow.{VolumeRow}
-use Rattle.sys_config.specs.declared.records.PrinterRow.{PrinterRow}
+use Rattle.sys_objects.specs.declared.records.Config.{Config}
+use Rattle.sys_objects.specs.declared.records.Audit.{Audit}
+use Rattle.sys_objects.specs.declared.records.GuestRow.{GuestRow}
+use Rattle.sys_objects.specs.declared.records.Terminal.{Terminal}
+use Rattle.sys_objects.specs.declared.records.VolumeRow.{VolumeRow}
+use Rattle.sys_objects.specs.declared.records.PrinterRow.{PrinterRow}
 use Rattle.sys_config.proofs.Each.{each, guarded, anything, maybe, each_ok, by, unless, AreRead, entries}
 use Rattle.sys_config.proofs.RowFacts.{Within, in_range_is, terminal_is, volume_is, printer_is, audit_is, guest_is, IsQuantum}
-use Rattle.sys_config.proofs.Judged.{IsUnbroken, names_apart, lines_apart, drives_apart, consoles_apart, all_held, all_audited, pages_fit, names_objects}
+use Rattle.sys_objects.proofs.Judged.{IsUnbroken, names_apart, lines_apart, drives_apart, consoles_apart, all_held, all_audited, pages_fit, names_objects}
 
 record AreLimits (n : Limits) : Type 0 where
   quantum : IsQuantum n.quantum

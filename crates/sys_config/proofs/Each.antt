@@ -3,10 +3,11 @@ use Rattle.std.proofs.Common.{◌≡◌, ℕ, Bool, true, false, List, [], ◌�
 use Rattle.std.proofs.lemmas.List.Elements.{All-push}
 use Rattle.std.proofs.Common.{length-append}
 use Rattle.toml.specs.Data.{Data, Items, no_items, item, Members, get_member, as_table}
-use Rattle.sys_config.specs.declared.fault.ConfigFault.{ConfigFault}
+use Rattle.sys_objects.specs.declared.errors.ConfigFault.{ConfigFault}
 use Rattle.sys_config.specs.Reads as reads
 use Rattle.sys_config.specs.Reads.{if_some, if_any}
-use Rattle.sys_config.specs.Answers.{◌>>=◌, by_rule, unless_at, fault, entry_of, entries_from}
+use Rattle.sys_objects.specs.Faults.{◌>>=◌, by_rule, unless_at, fault}
+use Rattle.sys_config.specs.Answers.{entry_of, entries_from}
 use Rattle.sys_config.specs.Top.{count_of}
 
 pub each : {A B : Type 0} (P : A → Type 0) (Q : B → Type 0) (o : Option A) (f : A → Option B) → IfSome o P → ((x : A) → P x → IfSome (f x) Q) → IfSome (reads.◌>>=◌ o f) Q

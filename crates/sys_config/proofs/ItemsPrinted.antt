@@ -7,8 +7,8 @@ use Rattle.toml.specs.Data.{Items, no_items, item, Members, table, push_item}
 use Rattle.toml.specs.View.{view, items_view}
 use Rattle.toml.proofs.Views.{items_view-push}
 use Rattle.sys_config.specs.Written.{items_by, mount_items, written_mount}
-use Rattle.sys_config.specs.declared.records.Mount.{Mount}
-use Rattle.sys_config.specs.declared.records.VolumeRow.{VolumeRow}
+use Rattle.sys_objects.specs.declared.records.Mount.{Mount}
+use Rattle.sys_objects.specs.declared.records.VolumeRow.{VolumeRow}
 
 items_by-last : {A : Type 0} (f : A → Members) (xs : List A) (x : A) → items_by f (xs ++ x ∷ []) ≡ push_item (items_by f xs) (table (f x))
 items_by-last f [] x = refl

@@ -1,15 +1,11 @@
 pub mod Keys
 pub mod ItemLaws
-pub mod FewLaws
-pub mod Firsts
 pub mod Each
 pub mod RowFacts
-pub mod Judged
 pub mod Accepted
 pub mod Inserts
 pub mod Ascii
 pub mod ItemsPrinted
 pub mod ReadAgain
-pub mod JudgedAgain
 pub mod PrintedAgain
 pub mod Shallow

@@ -12,20 +12,22 @@ use Rattle.vv_class.specs.Class.{IsClass}
 use Rattle.vv_class.specs.Text.{class_text}
 use Rattle.vv_class.specs.Scan.{class_of}
 use Rattle.vv_class.proofs.Runs.{written_is_read}
-use Rattle.sys_config.specs.declared.fault.ConfigFault.{ConfigFault}
+use Rattle.sys_objects.specs.declared.errors.ConfigFault.{ConfigFault}
 use Rattle.sys_config.specs.declared.mounts.UnitMount.{UnitMount}
-use Rattle.sys_config.specs.declared.records.Config.{Config}
-use Rattle.sys_config.specs.declared.records.Audit.{Audit}
-use Rattle.sys_config.specs.declared.records.GuestRow.{GuestRow}
-use Rattle.sys_config.specs.declared.records.Mount.{Mount}
-use Rattle.sys_config.specs.declared.records.Terminal.{Terminal}
-use Rattle.sys_config.specs.declared.records.VolumeRow.{VolumeRow}
-use Rattle.sys_config.specs.declared.records.PrinterRow.{PrinterRow}
+use Rattle.sys_objects.specs.declared.records.Config.{Config}
+use Rattle.sys_objects.specs.declared.records.Audit.{Audit}
+use Rattle.sys_objects.specs.declared.records.GuestRow.{GuestRow}
+use Rattle.sys_objects.specs.declared.records.Mount.{Mount}
+use Rattle.sys_objects.specs.declared.records.Terminal.{Terminal}
+use Rattle.sys_objects.specs.declared.records.VolumeRow.{VolumeRow}
+use Rattle.sys_objects.specs.declared.records.PrinterRow.{PrinterRow}
 use Rattle.sys_config.specs.Reads.{number_in, number_at, text_at, flag_at, if_any, if_some, are_known}
-use Rattle.sys_config.specs.Answers.{by_rule, entry_of, entries_from}
+use Rattle.sys_objects.specs.Faults.{by_rule}
+use Rattle.sys_config.specs.Answers.{entry_of, entries_from}
 use Rattle.sys_config.specs.Entries.{name_in, name_at, class_in, class_at, line_at, terminal_of, volume_of, printer_of, audit_of}
 use Rattle.sys_config.specs.Guests.{terminal_place, volume_place, printer_place, mount_of, placed, mounts_from, no_mounts, console_in, printer_in, mounts_in, modify_in, modify_of, own_quantum, guest_keys, keys_of_guest, image_at, bare_guest_of, guest_of, Units}
-use Rattle.sys_config.specs.Condition.{IsTerminal, IsVolume, IsPrinter, IsAudit, IsGuest, NamesObjects, IsConfig}
+use Rattle.sys_objects.specs.Condition.{IsTerminal, IsVolume, IsPrinter, IsAudit, IsGuest, NamesObjects, IsConfig}
+use Rattle.sys_objects.proofs.JudgedAgain.{AreApart, texts_differ}
 use Rattle.sys_config.specs.Written.{with_member, with_any, number, written_terminal, written_volume, written_printer, written_audit, terminal_name, volume_name, printer_name, written_mount, mount_items, modify_text, fixed_keys, console_value, printer_value, dump_value, written_guest, items_by}
 
 number_back : (low high n : ℕ) → low ≤ n → n ≤ high → number_in low high (number n) ≡ Some n
@@ -91,13 +93,6 @@ first_place p (x ∷ xs) (suc k) d within here before =
     let first : p x ≡ false = before 0 (omega arith) in
     let rest : position_or_len p xs ≡ k = first_place p xs k d (omega arith) here (λ i below. before (suc i) (omega arith)) in
     rw (first, rest) (omega arith)
-
-pub texts_differ : (a b : List ℕ) → a ≢ b → bytes_eq b a ≡ false
-texts_differ a b apart = by_test (bytes_eq b a) refl
-  where
-    by_test : (x : Bool) → bytes_eq b a ≡ x → bytes_eq b a ≡ false
-    by_test false e = e
-    by_test true e = absurd (apart (sym ((bytes_eq-Decides b a).0 e)))
 
 pub place_back : {A : Type 0} (name : A → List ℕ) (xs : List A) (k : ℕ) (x : A) → AllPairs (λ a b. name a ≢ name b) xs → slice_get xs k ≡ Some x
     → unwrap_or (position (λ y. bytes_eq (name x) (name y)) xs) (length xs) ≡ k
@@ -273,12 +268,6 @@ dump_back (Some line) low = rw (le-leb 0 line (omega arith), le-leb line 31 low)
 modify_back : (b : Bool) → if_some modify_of (Some (string (modify_text b))) ≡ Some (Some b)
 modify_back true = refl
 modify_back false = refl
-
--- no two objects of a kind have one name
-pub record AreApart (c : Config) : Type 0 where
-  pub terminals : AllPairs (λ (x y : Terminal). x.name ≢ y.name) c.terminals
-  pub volumes : AllPairs (λ (x y : VolumeRow). x.name ≢ y.name) c.volumes
-  pub printers : AllPairs (λ (x y : PrinterRow). x.name ≢ y.name) c.printers
 
 guest_from : (c : Config) → IsConfig c → AreApart c → (g : GuestRow) → IsGuest g → NamesObjects c g → (t : Members) → looked t ≡ found_in c g
     → guest_of 255 None c.terminals c.volumes c.printers t ≡ Some g

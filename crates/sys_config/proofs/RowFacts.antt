@@ -15,12 +15,12 @@ use Rattle.sys_config.specs.Reads.{◌>>=◌, in_range, number_in, number_at, te
 use Rattle.sys_config.specs.Answers.{entry_of}
 use Rattle.sys_config.specs.Entries.{name_in, name_at, low_enough, class_in, class_at, line_at, terminal_of, volume_of, printer_of, audit_of}
 use Rattle.sys_config.specs.Guests.{mount_of, placed, mounts_from, no_mounts, mounts_in, console_in, printer_in, modify_of, own_quantum, keys_of_guest, image_at, bare_guest_of, guest_of, Units}
-use Rattle.sys_config.specs.Condition.{IsTerminal, IsVolume, IsPrinter, IsAudit, IsGuest}
+use Rattle.sys_objects.specs.Condition.{IsTerminal, IsVolume, IsPrinter, IsAudit, IsGuest}
 use Rattle.sys_config.specs.declared.mounts.UnitMount.{UnitMount}
-use Rattle.sys_config.specs.declared.records.GuestRow.{GuestRow}
-use Rattle.sys_config.specs.declared.records.Terminal.{Terminal}
-use Rattle.sys_config.specs.declared.records.VolumeRow.{VolumeRow}
-use Rattle.sys_config.specs.declared.records.PrinterRow.{PrinterRow}
+use Rattle.sys_objects.specs.declared.records.GuestRow.{GuestRow}
+use Rattle.sys_objects.specs.declared.records.Terminal.{Terminal}
+use Rattle.sys_objects.specs.declared.records.VolumeRow.{VolumeRow}
+use Rattle.sys_objects.specs.declared.records.PrinterRow.{PrinterRow}
 use Rattle.sys_config.proofs.Each.{each, guarded, anything, maybe}
 
 abbrev pub Within : ℕ → ℕ → ℕ → Type 0

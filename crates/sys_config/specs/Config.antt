@@ -22,17 +22,18 @@ use Rattle.std.specs.Prelude.{ℕ, List, [], ◌∷◌, codes, Bool, if◌then�
 use Rattle.std.specs.Str.{is_utf8}
 use Rattle.toml.specs.Data.{Data, Items, Members}
 use Rattle.toml.specs.Parse.{parse_document}
-use Rattle.sys_config.specs.Answers.{◌>>=◌, by_rule, unless_at, entries_from}
+use Rattle.sys_objects.specs.Faults.{◌>>=◌, by_rule}
+use Rattle.sys_config.specs.Answers.{entries_from}
 use Rattle.sys_config.specs.Reads.{in_range}
 use Rattle.sys_config.specs.Entries.{terminal_of, volume_of, printer_of, audit_of}
 use Rattle.sys_config.specs.Guests.{guest_of}
 use Rattle.sys_config.specs.Top.{top_of, audit_table, is_two, quantum_of, most_slice, top_level, most_guests, tables_at}
-use Rattle.sys_config.specs.Rules.{bad_name, bad_line, bad_drive, bad_printer, bad_console, bad_mount, bad_audit, bad_pages}
-use Rattle.sys_config.specs.declared.fault.ConfigFault.{ConfigFault}
+use Rattle.sys_objects.specs.Judged.{judged}
+use Rattle.sys_objects.specs.declared.errors.ConfigFault.{ConfigFault}
 use Rattle.sys_config.specs.declared.top.Top.{Top}
 use Rattle.sys_config.specs.declared.numbers.Limits.{Limits}
-use Rattle.sys_config.specs.declared.records.Config.{Config}
-use Rattle.sys_config.specs.declared.records.Audit.{Audit}
+use Rattle.sys_objects.specs.declared.records.Config.{Config}
+use Rattle.sys_objects.specs.declared.records.Audit.{Audit}
 
 -- the table that the bytes are, by TOML 1.1
 abbrev pub document_of : List ℕ → Option Members
@@ -62,17 +63,6 @@ rows_of n audit t =
     entries_from 9 (guest_of (top_level n.quantum) n.quantum terminals volumes printers) [] guest >>= λ guests.
     by_rule 10 0 (audit_if_any (top_level n.quantum) audit) >>= λ read.
     Ok (record { slice = n.slice; audit = read; terminals = terminals; volumes = volumes; printers = printers; guests = guests })
-
-unfoldable pub judged : Config → Result (Unit {0}) ConfigFault
-judged c =
-    unless_at 11 (bad_name c) >>= λ _.
-    unless_at 12 (bad_line c) >>= λ _.
-    unless_at 13 (bad_drive c) >>= λ _.
-    unless_at 14 (bad_printer c) >>= λ _.
-    unless_at 15 (bad_console c) >>= λ _.
-    unless_at 16 (bad_mount c) >>= λ _.
-    unless_at 17 (bad_audit c) >>= λ _.
-    unless_at 18 (bad_pages c)
 
 unfoldable pub config_in : Members → Result Config ConfigFault
 config_in t =

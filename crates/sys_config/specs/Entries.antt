@@ -7,10 +7,10 @@ use Rattle.vv_class.specs.declared.class.AccessClass.{AccessClass}
 use Rattle.vv_class.specs.declared.text.ClassFault.{ClassFault}
 use Rattle.vv_class.specs.Scan.{class_of}
 use Rattle.sys_config.specs.Reads.{◌>>=◌, number_at, text_at, are_known}
-use Rattle.sys_config.specs.declared.records.Terminal.{Terminal}
-use Rattle.sys_config.specs.declared.records.VolumeRow.{VolumeRow}
-use Rattle.sys_config.specs.declared.records.PrinterRow.{PrinterRow}
-use Rattle.sys_config.specs.declared.records.Audit.{Audit}
+use Rattle.sys_objects.specs.declared.records.Terminal.{Terminal}
+use Rattle.sys_objects.specs.declared.records.VolumeRow.{VolumeRow}
+use Rattle.sys_objects.specs.declared.records.PrinterRow.{PrinterRow}
+use Rattle.sys_objects.specs.declared.records.Audit.{Audit}
 
 -- a name of an object
 abbrev pub name_in : List ℕ → Option (List ℕ)

@@ -7,11 +7,11 @@ use Rattle.vv_base.specs.Names.{is_file_name, tested}
 use Rattle.sys_config.specs.Reads.{◌>>=◌, number_in, number_at, text_at, flag_at, if_any, are_known}
 use Rattle.sys_config.specs.Answers.{entry_of}
 use Rattle.sys_config.specs.Entries.{name_in, name_at, class_at}
-use Rattle.sys_config.specs.declared.records.Terminal.{Terminal}
-use Rattle.sys_config.specs.declared.records.VolumeRow.{VolumeRow}
-use Rattle.sys_config.specs.declared.records.PrinterRow.{PrinterRow}
-use Rattle.sys_config.specs.declared.records.GuestRow.{GuestRow}
-use Rattle.sys_config.specs.declared.records.Mount.{Mount}
+use Rattle.sys_objects.specs.declared.records.Terminal.{Terminal}
+use Rattle.sys_objects.specs.declared.records.VolumeRow.{VolumeRow}
+use Rattle.sys_objects.specs.declared.records.PrinterRow.{PrinterRow}
+use Rattle.sys_objects.specs.declared.records.GuestRow.{GuestRow}
+use Rattle.sys_objects.specs.declared.records.Mount.{Mount}
 use Rattle.sys_config.specs.declared.mounts.UnitMount.{UnitMount}
 
 -- the place of the object that has a name, or the number of the objects

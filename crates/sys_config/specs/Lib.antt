@@ -3,7 +3,5 @@ pub mod Reads
 pub mod Entries
 pub mod Guests
 pub mod Top
-pub mod Rules
 pub mod Config
-pub mod Condition
 pub mod Written

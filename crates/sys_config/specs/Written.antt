@@ -6,13 +6,13 @@ use Rattle.toml.specs.Data.{Data, string, integer, boolean, array, table, Items,
 use Rattle.vv_class.specs.Text.{class_text}
 use Rattle.sys_config.specs.Reads.{◌>>=◌, integer_at}
 use Rattle.sys_config.specs.Config.{document_of}
-use Rattle.sys_config.specs.declared.records.Config.{Config}
-use Rattle.sys_config.specs.declared.records.Audit.{Audit}
-use Rattle.sys_config.specs.declared.records.GuestRow.{GuestRow}
-use Rattle.sys_config.specs.declared.records.Mount.{Mount}
-use Rattle.sys_config.specs.declared.records.Terminal.{Terminal}
-use Rattle.sys_config.specs.declared.records.VolumeRow.{VolumeRow}
-use Rattle.sys_config.specs.declared.records.PrinterRow.{PrinterRow}
+use Rattle.sys_objects.specs.declared.records.Config.{Config}
+use Rattle.sys_objects.specs.declared.records.Audit.{Audit}
+use Rattle.sys_objects.specs.declared.records.GuestRow.{GuestRow}
+use Rattle.sys_objects.specs.declared.records.Mount.{Mount}
+use Rattle.sys_objects.specs.declared.records.Terminal.{Terminal}
+use Rattle.sys_objects.specs.declared.records.VolumeRow.{VolumeRow}
+use Rattle.sys_objects.specs.declared.records.PrinterRow.{PrinterRow}
 
 -- the version that a text names
 abbrev pub version_of : List ℕ → Option ℤ

@@ -1,20 +1,16 @@
 ghost use Rattle.std.specs.Prelude.{◌≡◌, ℕ, ◌<◌, ◌^◌, List, Ok, option_map, IfOk, IfSome};
 ghost use Rattle.toml.specs.View.{table_view};
-ghost use Rattle.sys_config.specs.Answers.{Reads, by_rule, unless_at};
-ghost use Rattle.sys_config.specs.Condition.{IsConfig};
-ghost use Rattle.sys_config.specs.Rules.{IsFew};
-ghost use Rattle.sys_config.specs.Config.{document_of, audit_if_any, rows_of, judged, config_in, config_of};
+ghost use Rattle.sys_objects.specs.Faults.{Reads, by_rule};
+ghost use Rattle.sys_objects.specs.Condition.{IsConfig};
+ghost use Rattle.sys_objects.specs.Rules.{IsFew};
+ghost use Rattle.sys_config.specs.Config.{document_of, audit_if_any, rows_of, config_in, config_of};
 
 use crate::entries::audit;
-use crate::fault::fault;
 use crate::lists::{guest_rows, rows};
 use crate::numbers::{Limits, most_guests, read_numbers, top_level};
-use crate::rules::{
-    bad_audit, bad_console, bad_drive, bad_line, bad_mount, bad_name, bad_pages, bad_printer,
-    objects,
-};
 use crate::top::{audit_table, tables_at};
 use crate::{Audit, Config, ConfigError, Rows};
+use sys_objects::{fault, judge};
 use std::alloc::Global;
 use toml::Table;
 
@@ -76,35 +72,6 @@ fn read_rows(
         printers: Rows::new(printers),
         guests: Rows::new(guests),
     })
-}
-
-/// A rule that looks for a first place at which it fails.
-fn unless_at(rule: u8, place: Option<usize>) -> Result<(), ConfigError>
-    requires { IfSome place (λ p. p < 2 ^ 32) }
-    ensures { Reads (λ u. u) result (unless_at rule place) }
-{
-    match place {
-        Some(place) => Err(fault(rule, place as u32)),
-        None => Ok(()),
-    }
-}
-
-/// Rules 11 to 18.
-#[tactic(auto, unfolding(crate::specs::Config::judged))]
-fn judge(alloc: Global, c: &Config) -> Result<(), ConfigError>
-    requires { IsFew c.now }
-    ensures { Reads (λ u. u) result (judged c.now) }
-{
-    let objects = objects(alloc, c)?;
-    unless_at(11, bad_name(objects.as_slice()))?;
-    unless_at(12, bad_line(alloc, c)?)?;
-    unless_at(13, bad_drive(c.volumes.as_slice()))?;
-    let guests = c.guests.as_slice();
-    unless_at(14, bad_printer(c.printers.as_slice(), guests))?;
-    unless_at(15, bad_console(c.terminals.as_slice(), guests))?;
-    unless_at(16, bad_mount(c.volumes.as_slice(), guests))?;
-    unless_at(17, bad_audit(c.audit, objects.as_slice()))?;
-    unless_at(18, bad_pages(guests))
 }
 
 /// The configuration that a table stands for.

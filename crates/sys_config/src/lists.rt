@@ -1,16 +1,17 @@
 ghost use Rattle.std.specs.Prelude.{◌≡◌, ◌≤◌, [], length, IfOk};
 ghost use Rattle.toml.specs.View.{view, table_view, items_view};
-ghost use Rattle.sys_config.specs.Answers.{Reads, entry_of, entries_from};
+ghost use Rattle.sys_objects.specs.Faults.{Reads};
+ghost use Rattle.sys_config.specs.Answers.{entry_of, entries_from};
 ghost use Rattle.sys_config.specs.Entries.{terminal_of, volume_of, printer_of};
 ghost use Rattle.sys_config.specs.Guests.{guest_of};
 ghost use Rattle.sys_config.specs.Top.{top_level};
 
 use crate::entries::{printer, terminal, volume};
-use crate::fault::fault;
 use crate::guests::guest;
 use crate::numbers::top_level;
 use crate::{ConfigError, GuestRow, PrinterRow, Terminal, VolumeRow};
 use std::alloc::Global;
+use sys_objects::fault;
 use toml::{Table, Value};
 
 /// What an entry of a list is read as, with levels up to a highest one.

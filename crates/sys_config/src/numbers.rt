@@ -1,13 +1,13 @@
 ghost use Rattle.std.specs.Prelude.{◌≡◌, ◌≤◌};
 ghost use Rattle.toml.specs.View.{table_view};
-ghost use Rattle.sys_config.specs.Answers.{Reads};
+ghost use Rattle.sys_objects.specs.Faults.{Reads};
 ghost use Rattle.sys_config.specs.Top.{is_two, quantum_of, most_slice, top_level, most_guests};
 ghost use Rattle.sys_config.specs.Config.{numbers_of};
 
 use crate::ConfigError;
-use crate::fault::fault;
 use crate::reads::in_range;
 use crate::top::top_of;
+use sys_objects::fault;
 use toml::Table;
 
 /// The slice, and the quantum of a version 1 text.

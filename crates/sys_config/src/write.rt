@@ -4,7 +4,7 @@ ghost use Rattle.toml.specs.View.{view, table_view, array_view};
 ghost use Rattle.vv_base.specs.Names.{is_object_name, is_file_name};
 ghost use Rattle.vv_class.specs.Class.{IsClass};
 ghost use Rattle.vv_class.specs.Text.{class_text};
-ghost use Rattle.sys_config.specs.Condition.{IsConfig, IsTerminal, IsVolume, IsPrinter, IsAudit, IsGuest, NamesObjects};
+ghost use Rattle.sys_objects.specs.Condition.{IsConfig, IsTerminal, IsVolume, IsPrinter, IsAudit, IsGuest, NamesObjects};
 ghost use Rattle.sys_config.specs.Config.{config_of};
 ghost use Rattle.sys_config.specs.Written.{version_of, with_member, with_any, written_terminal, written_volume, written_printer, written_audit, volume_name, written_mount, mount_items, modify_text, fixed_keys, console_value, printer_value, dump_value, audit_value, written_guest, items_by, lists, written};
 

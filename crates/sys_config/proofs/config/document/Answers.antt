@@ -3,7 +3,7 @@ use Rattle.std.specs.Str.{is_utf8}
 use Rattle.std.proofs.lemmas.Bool.{cases_Bool, false≢true}
 use Rattle.std.proofs.lemmas.Str.{is_utf8-from_IsUtf8, IsUtf8-from_is_utf8}
 use Rattle.toml.specs.Parse.{parse_document}
-use Rattle.sys_config.specs.Answers.{by_rule, fault}
+use Rattle.sys_objects.specs.Faults.{by_rule, fault}
 use Rattle.sys_config.specs.Config.{document_of}
 use Rattle.sys_config.proofs.config.document.Goals as goal
 
