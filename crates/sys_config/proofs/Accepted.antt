@@ -1,11 +1,11 @@
 -- A configuration that is accepted meets the condition.
-use Rattle.std.proofs.Common.{◌≡◌, ◌≤◌, ◌<◌, ℕ, ℤ, Bool, true, false, ◌&&◌, nat_le, List, [], ◌∷◌, length, codes, if◌then◌else◌, Option, Some, None, Result, Ok, Err, option_map, IfSome, IfOk, All, get_or, refl, sym, ◌∙◌, arith, ◌+◌}
+use Rattle.std.proofs.Common.{◌≡◌, ◌≤◌, ℕ, ℤ, Bool, true, false, ◌&&◌, nat_le, List, [], length, codes, if◌then◌else◌, Option, Some, None, Result, Ok, Err, option_map, IfSome, IfOk, All, get_or, refl, arith, ◌+◌}
 use Rattle.std.proofs.lemmas.Bool.{leb-true}
-use Rattle.toml.specs.Data.{Data, Items, no_items, Members, get_member, as_array}
+use Rattle.toml.specs.Data.{Data, Items, Members, get_member, as_array}
 use Rattle.toml.specs.Text.{are_tables}
-use Rattle.sys_objects.specs.Faults.{Reads, ◌>>=◌, by_rule, unless_at}
+use Rattle.sys_objects.specs.Faults.{Reads, by_rule, unless_at}
 use Rattle.sys_config.specs.Answers.{entries_from}
-use Rattle.sys_config.specs.Reads.{in_range, if_any, if_some}
+use Rattle.sys_config.specs.Reads.{in_range, if_any}
 use Rattle.sys_config.specs.Entries.{terminal_of, volume_of, printer_of, audit_of}
 use Rattle.sys_config.specs.Guests.{guest_of}
 use Rattle.sys_config.specs.Top.{top_of, audit_table, is_two, quantum_of, most_slice, top_level, most_guests, tables_at, tables_in, count_of, items_if_any}
@@ -13,17 +13,12 @@ use Rattle.sys_objects.specs.Rules.{bad_name, bad_line, bad_drive, bad_printer, 
 use Rattle.sys_objects.specs.Judged.{judged}
 use Rattle.sys_config.specs.Config.{document_of, numbers_of, audit_if_any, rows_of, config_in, config_of}
 use Rattle.sys_objects.specs.Condition.{IsConfig, IsTerminal, IsVolume, IsPrinter, IsGuest, IsAudit}
-use Rattle.sys_objects.specs.declared.errors.ConfigFault.{ConfigFault}
 use Rattle.sys_objects.specs.declared.errors.ConfigError.{ConfigError}
 use Rattle.sys_config.specs.declared.top.Top.{Top}
 use Rattle.sys_config.specs.declared.numbers.Limits.{Limits}
 use Rattle.sys_objects.specs.declared.records.Config.{Config}
 use Rattle.sys_objects.specs.declared.records.Audit.{Audit}
-use Rattle.sys_objects.specs.declared.records.GuestRow.{GuestRow}
-use Rattle.sys_objects.specs.declared.records.Terminal.{Terminal}
-use Rattle.sys_objects.specs.declared.records.VolumeRow.{VolumeRow}
-use Rattle.sys_objects.specs.declared.records.PrinterRow.{PrinterRow}
-use Rattle.sys_config.proofs.Each.{each, guarded, anything, maybe, each_ok, by, unless, AreRead, entries}
+use Rattle.sys_config.proofs.Each.{each, anything, maybe, each_ok, by, unless, AreRead, entries}
 use Rattle.sys_config.proofs.RowFacts.{Within, in_range_is, terminal_is, volume_is, printer_is, audit_is, guest_is, IsQuantum}
 use Rattle.sys_objects.proofs.Judged.{IsUnbroken, names_apart, lines_apart, drives_apart, consoles_apart, all_held, all_audited, pages_fit, names_objects}
 

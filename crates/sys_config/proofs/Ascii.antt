@@ -1,7 +1,7 @@
 -- Names and the texts of classes are ASCII, and so are texts.
-use Rattle.std.proofs.Common.{◌≡◌, ◌≤◌, ◌<◌, ◌+◌, ◌^◌, ℕ, zero, suc, Bool, true, false, ◌&&◌, ◌||◌, nat_le, List, [], ◌∷◌, ◌++◌, length, codes, filter, map, decimal, IsUtf8, if◌then◌else◌, refl, arith}
+use Rattle.std.proofs.Common.{◌≡◌, ◌≤◌, ◌<◌, ◌+◌, ℕ, zero, suc, Bool, true, false, ◌&&◌, ◌||◌, nat_le, List, [], ◌∷◌, length, codes, filter, decimal, IsUtf8, if◌then◌else◌, refl, arith}
 use Rattle.std.specs.Str.{IsAscii}
-use Rattle.std.specs.List.{list_all, join_with_byte, range_with_len}
+use Rattle.std.specs.List.{list_all, range_with_len}
 use Rattle.std.proofs.lemmas.Str.{IsUtf8-from_ascii, IsAscii-append}
 use Rattle.std.proofs.lemmas.Str.Ascii.{IsAscii-nil}
 use Rattle.std.proofs.lemmas.Fmt.{IsAscii-decimal}

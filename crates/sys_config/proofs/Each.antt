@@ -1,12 +1,12 @@
 -- Facts that hold of whatever a chain of steps gives.
-use Rattle.std.proofs.Common.{◌≡◌, ℕ, Bool, true, false, List, [], ◌∷◌, ◌++◌, length, ◌+◌, suc, if◌then◌else◌, Option, Some, None, Result, Ok, Err, option_map, unwrap_or, IfSome, IfOk, All, refl, ap, arith, ◌∙◌, sym, subst}
+use Rattle.std.proofs.Common.{◌≡◌, ℕ, Bool, true, false, List, [], ◌∷◌, ◌++◌, length, ◌+◌, suc, if◌then◌else◌, Option, Some, None, Result, Ok, Err, option_map, IfSome, IfOk, All, refl, arith, subst}
 use Rattle.std.proofs.lemmas.List.Elements.{All-push}
 use Rattle.std.proofs.Common.{length-append}
-use Rattle.toml.specs.Data.{Data, Items, no_items, item, Members, get_member, as_table}
+use Rattle.toml.specs.Data.{Data, Items, no_items, item, Members, as_table}
 use Rattle.sys_objects.specs.declared.errors.ConfigFault.{ConfigFault}
 use Rattle.sys_config.specs.Reads as reads
 use Rattle.sys_config.specs.Reads.{if_some, if_any}
-use Rattle.sys_objects.specs.Faults.{◌>>=◌, by_rule, unless_at, fault}
+use Rattle.sys_objects.specs.Faults.{◌>>=◌, by_rule, unless_at}
 use Rattle.sys_config.specs.Answers.{entry_of, entries_from}
 use Rattle.sys_config.specs.Top.{count_of}
 

@@ -1,32 +1,22 @@
 -- A printed configuration is read as what it was.
-use Rattle.std.proofs.Common.{◌≡◌, ◌≢◌, ◌≤◌, ◌<◌, ◌+◌, ℕ, suc, ℤ, pos, max, Bool, true, false, ◌&&◌, nat_le, List, [], ◌∷◌, ◌++◌, length, codes, Option, Some, None, Result, Ok, Err, option_map, IfSome, All, Ordering, Less, Equal, Greater, IsUtf8, refl, sym, ap, ◌∙◌, arith}
-use Rattle.std.specs.Ordering.{nat_cmp, match_ordering}
-use Rattle.std.specs.Cmp.Lexicographic.{slice_cmp}
+use Rattle.std.proofs.Common.{◌≡◌, ◌≤◌, ℕ, suc, pos, Bool, true, List, [], ◌∷◌, length, codes, Option, Some, None, Ok, option_map, IfSome, IsUtf8, refl, ap}
 use Rattle.std.proofs.lemmas.Bool.{le-leb}
 use Rattle.std.proofs.lemmas.Str.{is_utf8-from_IsUtf8}
-use Rattle.toml.specs.Data.{Data, string, integer, boolean, array, table, Items, no_items, item, Members, no_members, member, get_member, as_table, depth, items_depth, members_depth, has_valid_dates, items_have_valid_dates, members_have_valid_dates}
+use Rattle.toml.specs.Data.{Data, array, Members, no_members, member, get_member, as_table, members_depth}
 use Rattle.toml.specs.Text.{are_tables}
 use Rattle.toml.specs.Parse.{parse_document}
-use Rattle.vv_class.specs.Text.{class_text}
-use Rattle.sys_objects.specs.declared.errors.ConfigFault.{ConfigFault}
 use Rattle.sys_config.specs.declared.numbers.Limits.{Limits}
 use Rattle.sys_objects.specs.declared.records.Config.{Config}
 use Rattle.sys_objects.specs.declared.records.Audit.{Audit}
 use Rattle.sys_objects.specs.declared.records.GuestRow.{GuestRow}
-use Rattle.sys_objects.specs.declared.records.Mount.{Mount}
-use Rattle.sys_objects.specs.declared.records.Terminal.{Terminal}
-use Rattle.sys_objects.specs.declared.records.VolumeRow.{VolumeRow}
-use Rattle.sys_objects.specs.declared.records.PrinterRow.{PrinterRow}
-use Rattle.sys_config.specs.Reads.{if_some, if_any, are_known}
-use Rattle.sys_objects.specs.Faults.{by_rule}
+use Rattle.sys_config.specs.Reads.{if_some, are_known}
 use Rattle.sys_config.specs.Answers.{entries_from}
 use Rattle.sys_config.specs.Top.{all_keys, top_of, top_of_two, audit_table, tables_at, count_of}
 use Rattle.sys_config.specs.Entries.{terminal_of, volume_of, printer_of}
 use Rattle.sys_config.specs.Guests.{guest_of}
-use Rattle.sys_objects.specs.Judged.{judged}
 use Rattle.sys_config.specs.Config.{document_of, numbers_of, audit_if_any, rows_of, config_in, config_of}
 use Rattle.sys_objects.specs.Condition.{IsConfig, IsTerminal, IsVolume, IsPrinter, IsAudit, IsGuest, NamesObjects}
-use Rattle.sys_config.specs.Written.{version_of, with_member, with_any, number, written_terminal, written_volume, written_printer, written_audit, written_mount, mount_items, fixed_keys, console_value, printer_value, dump_value, audit_value, written_guest, items_by, lists, written}
+use Rattle.sys_config.specs.Written.{version_of, with_any, number, written_terminal, written_volume, written_printer, written_audit, audit_value, written_guest, items_by, lists, written}
 use Rattle.sys_config.proofs.ReadAgain.{terminal_back, volume_back, printer_back, audit_back, entries_back, guest_back}
 use Rattle.sys_objects.proofs.JudgedAgain.{judged_back, are_apart}
 

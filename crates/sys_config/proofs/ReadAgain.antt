@@ -1,19 +1,16 @@
 -- A printed row is read as what it was.
-use Rattle.std.proofs.Common.{◌≡◌, ◌≢◌, ◌≤◌, ◌<◌, ◌^◌, ◌+◌, ℕ, zero, suc, ℤ, pos, Bool, true, false, ◌&&◌, not, nat_le, List, [], ◌∷◌, ◌++◌, length, get_or, codes, Option, Some, None, Result, Ok, Err, option_map, unwrap_or, is_some, slice_get, slice_index_or, slice_set, bytes_eq, if◌then◌else◌, IfSome, All, refl, sym, ap, ◌∙◌, arith, append-nil, append_assoc, length-append}
+use Rattle.std.proofs.Common.{◌≡◌, ◌≢◌, ◌≤◌, ◌<◌, ◌+◌, ℕ, zero, suc, Bool, true, false, List, [], ◌∷◌, ◌++◌, length, get_or, codes, Option, Some, None, Ok, unwrap_or, slice_get, bytes_eq, IfSome, All, refl, ap, arith, append-nil, append_assoc, length-append}
 use Rattle.std.specs.List.{AllPairs, position, position_or_len}
 use Rattle.std.proofs.lemmas.Bool.{le-leb, lt-ltb}
-use Rattle.std.proofs.lemmas.Option.{slice_get_within, get_or_from_slice_get, slice_get-get_or}
+use Rattle.std.proofs.lemmas.Option.{slice_get_within, get_or_from_slice_get}
 use Rattle.std.proofs.lemmas.Slice.Eq.{bytes_eq-Decides}
 use Rattle.std.proofs.Math.Seq.{get_or-append_seam, set-append_seam}
-use Rattle.toml.specs.Data.{Data, string, integer, boolean, array, table, Items, no_items, item, Members, no_members, member, get_member, as_table}
-use Rattle.vv_base.specs.Names.{is_object_name, is_file_name, tested}
+use Rattle.toml.specs.Data.{Data, string, boolean, array, Members, no_members, member, get_member}
+use Rattle.vv_base.specs.Names.{is_object_name, is_file_name}
 use Rattle.vv_class.specs.declared.class.AccessClass.{AccessClass}
 use Rattle.vv_class.specs.Class.{IsClass}
 use Rattle.vv_class.specs.Text.{class_text}
-use Rattle.vv_class.specs.Scan.{class_of}
 use Rattle.vv_class.proofs.Runs.{written_is_read}
-use Rattle.sys_objects.specs.declared.errors.ConfigFault.{ConfigFault}
-use Rattle.sys_config.specs.declared.mounts.UnitMount.{UnitMount}
 use Rattle.sys_objects.specs.declared.records.Config.{Config}
 use Rattle.sys_objects.specs.declared.records.Audit.{Audit}
 use Rattle.sys_objects.specs.declared.records.GuestRow.{GuestRow}
@@ -21,14 +18,13 @@ use Rattle.sys_objects.specs.declared.records.Mount.{Mount}
 use Rattle.sys_objects.specs.declared.records.Terminal.{Terminal}
 use Rattle.sys_objects.specs.declared.records.VolumeRow.{VolumeRow}
 use Rattle.sys_objects.specs.declared.records.PrinterRow.{PrinterRow}
-use Rattle.sys_config.specs.Reads.{number_in, number_at, text_at, flag_at, if_any, if_some, are_known}
-use Rattle.sys_objects.specs.Faults.{by_rule}
-use Rattle.sys_config.specs.Answers.{entry_of, entries_from}
-use Rattle.sys_config.specs.Entries.{name_in, name_at, class_in, class_at, line_at, terminal_of, volume_of, printer_of, audit_of}
-use Rattle.sys_config.specs.Guests.{terminal_place, volume_place, printer_place, mount_of, placed, mounts_from, no_mounts, console_in, printer_in, mounts_in, modify_in, modify_of, own_quantum, guest_keys, keys_of_guest, image_at, bare_guest_of, guest_of, Units}
+use Rattle.sys_config.specs.Reads.{number_in, number_at, flag_at, if_any, if_some, are_known}
+use Rattle.sys_config.specs.Answers.{entries_from}
+use Rattle.sys_config.specs.Entries.{name_in, name_at, class_in, class_at, terminal_of, volume_of, printer_of, audit_of}
+use Rattle.sys_config.specs.Guests.{mount_of, mounts_from, no_mounts, console_in, printer_in, mounts_in, modify_of, keys_of_guest, image_at, bare_guest_of, guest_of, Units}
 use Rattle.sys_objects.specs.Condition.{IsTerminal, IsVolume, IsPrinter, IsAudit, IsGuest, NamesObjects, IsConfig}
 use Rattle.sys_objects.proofs.JudgedAgain.{AreApart, texts_differ}
-use Rattle.sys_config.specs.Written.{with_member, with_any, number, written_terminal, written_volume, written_printer, written_audit, terminal_name, volume_name, printer_name, written_mount, mount_items, modify_text, fixed_keys, console_value, printer_value, dump_value, written_guest, items_by}
+use Rattle.sys_config.specs.Written.{with_any, number, written_terminal, written_volume, written_printer, written_audit, written_mount, mount_items, modify_text, console_value, printer_value, dump_value, written_guest, items_by}
 
 number_back : (low high n : ℕ) → low ≤ n → n ≤ high → number_in low high (number n) ≡ Some n
 number_back low high n least most = rw (le-leb low n least, le-leb n high most)

@@ -1,12 +1,10 @@
 -- What stands of each row that is read.
-use Rattle.std.proofs.Common.{◌≡◌, ◌≤◌, ◌<◌, ◌^◌, ℕ, ℤ, pos, negsuc, Bool, true, false, ◌&&◌, nat_le, List, [], ◌∷◌, length, codes, if◌then◌else◌, Option, Some, None, Result, Ok, Err, option_map, unwrap_or, is_some, slice_index_or, slice_set, IfSome, IfOk, refl, arith, ◌∙◌}
+use Rattle.std.proofs.Common.{◌≡◌, ◌≤◌, ℕ, ℤ, pos, negsuc, Bool, true, false, ◌&&◌, nat_le, List, [], ◌∷◌, length, codes, if◌then◌else◌, Option, Some, None, Result, Ok, Err, unwrap_or, is_some, slice_index_or, slice_set, IfSome, refl, arith, ◌∙◌}
 use Rattle.std.proofs.Math.ListN.{length-set}
 use Rattle.std.proofs.lemmas.Bool.{leb-true}
-use Rattle.std.proofs.Common.{int_le, unsigned_abs}
-use Rattle.toml.specs.Data.{Data, Items, no_items, item, Members, get_member, as_table, as_str, as_array, as_integer, as_bool}
+use Rattle.toml.specs.Data.{Data, Items, no_items, item, Members, get_member, as_array, as_integer}
 use Rattle.vv_base.specs.Names.{is_object_name, is_file_name, tested}
 use Rattle.vv_class.specs.Class.{IsClass}
-use Rattle.vv_class.specs.Text.{class_text}
 use Rattle.vv_class.specs.Scan.{class_of}
 use Rattle.vv_class.specs.declared.class.AccessClass.{AccessClass}
 use Rattle.vv_class.specs.declared.text.ClassFault.{ClassFault}
@@ -17,7 +15,6 @@ use Rattle.sys_config.specs.Entries.{name_in, name_at, low_enough, class_in, cla
 use Rattle.sys_config.specs.Guests.{mount_of, placed, mounts_from, no_mounts, mounts_in, console_in, printer_in, modify_of, own_quantum, keys_of_guest, image_at, bare_guest_of, guest_of, Units}
 use Rattle.sys_objects.specs.Condition.{IsTerminal, IsVolume, IsPrinter, IsAudit, IsGuest}
 use Rattle.sys_config.specs.declared.mounts.UnitMount.{UnitMount}
-use Rattle.sys_objects.specs.declared.records.GuestRow.{GuestRow}
 use Rattle.sys_objects.specs.declared.records.Terminal.{Terminal}
 use Rattle.sys_objects.specs.declared.records.VolumeRow.{VolumeRow}
 use Rattle.sys_objects.specs.declared.records.PrinterRow.{PrinterRow}

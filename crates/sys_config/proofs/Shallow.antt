@@ -1,8 +1,8 @@
 -- A printed configuration is not deep, and has no dates.
-use Rattle.std.proofs.Common.{◌≡◌, ◌≤◌, ◌+◌, ℕ, suc, max, Bool, true, false, ◌&&◌, List, [], ◌∷◌, codes, Option, Some, None, option_map, Ordering, Less, Equal, Greater, IfSome, refl, arith}
+use Rattle.std.proofs.Common.{◌≡◌, ◌≤◌, ◌+◌, ℕ, suc, Bool, true, false, ◌&&◌, List, [], ◌∷◌, codes, Option, Some, None, option_map, Ordering, Less, Equal, Greater, IfSome, refl, arith}
 use Rattle.std.specs.Ordering.{nat_cmp, match_ordering}
 use Rattle.std.specs.Cmp.Lexicographic.{slice_cmp}
-use Rattle.toml.specs.Data.{Data, string, integer, boolean, array, table, Items, no_items, item, Members, no_members, member, depth, items_depth, members_depth, has_valid_dates, items_have_valid_dates, members_have_valid_dates}
+use Rattle.toml.specs.Data.{Data, array, table, Members, no_members, member, depth, members_depth, has_valid_dates, members_have_valid_dates}
 use Rattle.sys_objects.specs.declared.records.Config.{Config}
 use Rattle.sys_objects.specs.declared.records.Audit.{Audit}
 use Rattle.sys_objects.specs.declared.records.GuestRow.{GuestRow}
@@ -10,7 +10,7 @@ use Rattle.sys_objects.specs.declared.records.Mount.{Mount}
 use Rattle.sys_objects.specs.declared.records.Terminal.{Terminal}
 use Rattle.sys_objects.specs.declared.records.VolumeRow.{VolumeRow}
 use Rattle.sys_objects.specs.declared.records.PrinterRow.{PrinterRow}
-use Rattle.sys_config.specs.Written.{with_member, with_any, number, written_terminal, written_volume, written_printer, written_audit, written_mount, mount_items, fixed_keys, console_value, printer_value, dump_value, audit_value, written_guest, items_by, lists, written}
+use Rattle.sys_config.specs.Written.{with_member, with_any, number, written_terminal, written_volume, written_printer, written_audit, written_mount, mount_items, console_value, printer_value, dump_value, audit_value, written_guest, items_by, lists, written}
 
 -- no deeper than so much, and without dates
 record IsPlain (n : ℕ) (ms : Members) : Type 0 where

@@ -18,9 +18,9 @@
 --   16     a mount's volume isn't one that flows into the guest, or is written with another class
 --   17     with an audit, an object's class does not flow into the audit's, in the order of 11
 --   18     the pages of the guests up to this one are more than 16,384
-use Rattle.std.specs.Prelude.{ℕ, List, [], ◌∷◌, codes, Bool, if◌then◌else◌, Option, Some, None, option_map, Result, Ok, Err}
+use Rattle.std.specs.Prelude.{ℕ, List, [], codes, if◌then◌else◌, Option, Some, None, option_map, Result, Ok}
 use Rattle.std.specs.Str.{is_utf8}
-use Rattle.toml.specs.Data.{Data, Items, Members}
+use Rattle.toml.specs.Data.{Members}
 use Rattle.toml.specs.Parse.{parse_document}
 use Rattle.sys_objects.specs.Faults.{◌>>=◌, by_rule}
 use Rattle.sys_config.specs.Answers.{entries_from}
@@ -30,7 +30,6 @@ use Rattle.sys_config.specs.Guests.{guest_of}
 use Rattle.sys_config.specs.Top.{top_of, audit_table, is_two, quantum_of, most_slice, top_level, most_guests, tables_at}
 use Rattle.sys_objects.specs.Judged.{judged}
 use Rattle.sys_objects.specs.declared.errors.ConfigFault.{ConfigFault}
-use Rattle.sys_config.specs.declared.top.Top.{Top}
 use Rattle.sys_config.specs.declared.numbers.Limits.{Limits}
 use Rattle.sys_objects.specs.declared.records.Config.{Config}
 use Rattle.sys_objects.specs.declared.records.Audit.{Audit}

@@ -5,3 +5,4 @@ pub mod Guests
 pub mod Top
 pub mod Config
 pub mod Written
+pub mod Shown

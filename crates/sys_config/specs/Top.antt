@@ -1,8 +1,8 @@
 -- The keys at the top, and the lists below them.
 use Rattle.std.specs.Prelude.{ℕ, suc, ℤ, pos, List, [], ◌∷◌, codes, Bool, true, false, ◌&&◌, nat_le, if◌then◌else◌, Option, Some, None, int_le, option_map}
-use Rattle.toml.specs.Data.{Data, Items, no_items, item, Members, get_member, as_integer, as_array, as_table}
+use Rattle.toml.specs.Data.{Data, Items, no_items, item, Members, as_array, as_table}
 use Rattle.toml.specs.Text.{are_tables}
-use Rattle.sys_config.specs.Reads.{◌>>=◌, in_range, integer_at, if_some, if_any, are_known}
+use Rattle.sys_config.specs.Reads.{◌>>=◌, in_range, integer_at, if_any, are_known}
 use Rattle.sys_config.specs.declared.top.Top.{Top}
 
 abbrev pub is_integer : ℕ → ℤ → Bool

@@ -10,8 +10,8 @@ use crate::lists::{guest_rows, rows};
 use crate::numbers::{Limits, most_guests, read_numbers, top_level};
 use crate::top::{audit_table, tables_at};
 use crate::{Audit, Config, ConfigError, Rows};
-use sys_objects::{fault, judge};
 use std::alloc::Global;
+use sys_objects::{fault, judge};
 use toml::Table;
 
 fn audit_if_any(table: Option<&Table>, top: u8) -> Option<Option<Audit>>

@@ -1,7 +1,9 @@
 //! Texts of configurations and what they stand for, worked out by hand.
 use crate::*;
 use std::alloc::{AllocError, Global};
+use std::process::Abort;
 use std::test::Fail;
+use vv_class::AccessClass;
 
 const V1: &str = "version = 1\nquantum = 10\nslice = 3\n";
 
@@ -29,6 +31,13 @@ const BIG: &str =
 const MOUNT: &str = "[[guest.mount]]\n";
 
 const AUDIT: &str = "[audit]\nline = 31\nclass = \"0{};0{}\"\n";
+
+/// A text with objects of each kind, and another spelling of it.
+const WHOLE: &str =
+    "version = 1\nquantum = 10\nslice = 3\naudit = {line = 31, class = \"2{};0{}\"}\n[[terminal]]\nname = \"T1\"\nline = 0\nclass = \"0{};0{}\"\n[[terminal]]\nname = \"T2\"\nline = 1\nclass = \"2{};0{}\"\n[[volume]]\nname = \"D1\"\ndrive = 0\nblocks = 1\nclass = \"0{};0{}\"\n[[volume]]\nname = \"D2\"\ndrive = 15\nblocks = 2048\nclass = \"2{};0{}\"\n[[printer]]\nname = \"P1\"\nline = 2\nclass = \"2{};0{}\"\n[[guest]]\nname = \"A\"\nclass = \"2{};0{}\"\npages = 2048\nimage = \"a.exe\"\nload = 512\nstart = 4294967295\nautostart = true\nconsole = \"T2\"\nprinter = \"P1\"\ndump = 3\nmodify = \"fault\"\n[[guest.mount]]\nunit = 3\nvolume = \"D2\"\nwrite = true\n[[guest.mount]]\nunit = 0\nvolume = \"D1\"\nwrite = false\n[[guest]]\nname = \"B\"\nclass = \"0{};0{}\"\npages = 64\nimage = \"b\"\nload = 0\nstart = 0\nautostart = false\nmodify = \"set\"\n";
+
+const SPELLED: &str =
+    "# Two guests\r\n\"version\" = 0x1\r\n'quantum' = 1_0\r\nslice = 0b11\r\naudit.class = '2{};0{}'\r\naudit.line = 0x1F\r\nterminal = [{class = \"0{};0{}\", name = 'T1', line = 0}, {line = 1, name = \"T2\", class = \"2{};0{}\"}] # two\r\nvolume = [\r\n  {name = \"D1\", drive = 0, blocks = 1, class = \"0{};0{}\"},\r\n  {name = \"D2\", drive = 0o17, blocks = 2048, class = \"2{};0{}\"},\r\n]\r\nprinter = [{name = \"P1\", line = 2, class = \"2{};0{}\"}]\r\n[[guest]]\r\nname = \"\\u0041\"\r\nclass = \"2{};0{}\"\r\npages = 0x800\r\nimage = \"a.exe\"\r\nload = 512\r\nstart = 0xFFFFFFFF\r\nautostart = true\r\nconsole = \"T2\"\r\nprinter = \"P1\"\r\ndump = 3\r\nmodify = \"fault\"\r\nmount = [{unit = 3, volume = \"D2\", write = true}, {unit = 0, volume = \"D1\", write = false}]\r\n[[guest]]\r\nname = \"B\"\r\nclass = \"0{};0{}\"\r\npages = 64\r\nimage = \"b\"\r\nload = 0\r\nstart = 0\r\nautostart = false\r\n";
 
 /// The parts of a text, the rule that the text breaks, and the place.
 type Case = (&'static [&'static str], u8, u32);
@@ -415,7 +424,7 @@ fn joined(alloc: Global, parts: &[&str]) -> Result<String, AllocError> {
     Ok(text)
 }
 
-fn breaks(rt: &impl std::process::Abort, alloc: Global, case: &Case) -> Result<(), AllocError> {
+fn breaks(rt: &impl Abort, alloc: Global, case: &Case) -> Result<(), AllocError> {
     let text = joined(alloc, case.0)?;
     match read_config(alloc, text.as_str().as_bytes()) {
         Err(ConfigError::Fault(fault)) => {
@@ -444,5 +453,118 @@ fn a_text_that_breaks_rules_names_the_least_and_its_first_place(
     for case in &SEVERAL {
         breaks(&rt, rt.alloc(), case)?;
     }
+    Ok(())
+}
+
+fn is_whole(rt: &impl Abort, c: &Config) {
+    assert_eq!(rt; c.slice, 3);
+    let audit = Audit {
+        line: 31,
+        class: level(2),
+    };
+    assert_eq!(rt; c.audit, Some(audit));
+    let terminals = c.terminals.as_slice();
+    assert_eq!(rt; terminals.len(), 2);
+    assert_eq!(rt; terminals[0].name.bytes(), b"T1".as_slice());
+    assert_eq!(rt; (terminals[0].line, terminals[0].class), (0, level(0)));
+    assert_eq!(rt; terminals[1].name.bytes(), b"T2".as_slice());
+    assert_eq!(rt; (terminals[1].line, terminals[1].class), (1, level(2)));
+    let volumes = c.volumes.as_slice();
+    assert_eq!(rt; volumes.len(), 2);
+    assert_eq!(rt; volumes[1].name.bytes(), b"D2".as_slice());
+    assert_eq!(rt; (volumes[1].drive, volumes[1].blocks), (15, 2048));
+    assert_eq!(rt; volumes[1].class, level(2));
+    let printers = c.printers.as_slice();
+    assert_eq!(rt; printers.len(), 1);
+    assert_eq!(rt; printers[0].name.bytes(), b"P1".as_slice());
+    assert_eq!(rt; (printers[0].line, printers[0].class), (2, level(2)));
+    are_guests(rt, c.guests.as_slice());
+}
+
+fn are_guests(rt: &impl Abort, guests: &[GuestRow]) {
+    assert_eq!(rt; guests.len(), 2);
+    let a = &guests[0];
+    assert_eq!(rt; a.name.bytes(), b"A".as_slice());
+    assert_eq!(rt; a.image.bytes(), b"a.exe".as_slice());
+    assert_eq!(rt; (a.class, a.pages), (level(2), 2048));
+    assert_eq!(rt; (a.load, a.start), (512, 4_294_967_295));
+    assert_eq!(rt; (a.autostart, a.modify_faults), (true, true));
+    assert_eq!(rt; (a.console, a.printer), (Some(1), Some(0)));
+    assert_eq!(rt; (a.dump, a.quantum), (Some(3), 10));
+    let first = Some(Mount {
+        volume: 0,
+        write: false,
+    });
+    let last = Some(Mount {
+        volume: 1,
+        write: true,
+    });
+    assert_eq!(rt; (a.mounts[0], a.mounts[1]), (first, None));
+    assert_eq!(rt; (a.mounts[2], a.mounts[3]), (None, last));
+    let b = &guests[1];
+    assert_eq!(rt; b.name.bytes(), b"B".as_slice());
+    assert_eq!(rt; (b.autostart, b.modify_faults), (false, false));
+    assert_eq!(rt; (b.console, b.printer), (None, None));
+    assert_eq!(rt; (b.dump, b.quantum), (None, 10));
+    assert_eq!(rt; (b.mounts[0], b.mounts[3]), (None, None));
+}
+
+fn level(secrecy: u8) -> AccessClass {
+    AccessClass {
+        secrecy,
+        secrecy_cats: 0,
+        integrity: 0,
+        integrity_cats: 0,
+    }
+}
+
+#[test]
+fn two_spellings_stand_for_one_configuration_and_so_does_its_version_2(
+    rt: HostRuntime,
+) -> Result<(), Fail> {
+    for text in [WHOLE, SPELLED] {
+        let config = read_config(rt.alloc(), text.as_bytes())?;
+        is_whole(&rt, &config);
+        let migrated = migrate_text(rt.alloc(), &config)?;
+        let again = read_config(rt.alloc(), migrated.as_slice())?;
+        is_whole(&rt, &again);
+    }
+    let config = read_config(rt.alloc(), V1.as_bytes())?;
+    let migrated = migrate_text(rt.alloc(), &config)?;
+    assert_eq!(rt;
+        migrated.as_slice(),
+        b"guest = []\nprinter = []\nslice = 3\nterminal = []\nversion = 2\nvolume = []\n".as_slice()
+    );
+    Ok(())
+}
+
+#[test]
+fn bytes_of_every_kind_are_answered(rt: HostRuntime) -> Result<(), Fail> {
+    for bytes in [b"version = \xFF".as_slice(), b"\xC3".as_slice()] {
+        match read_config(rt.alloc(), bytes) {
+            Err(ConfigError::Fault(fault)) => {
+                assert_eq!(rt; (fault.rule, fault.place), (0, 0));
+            }
+            _ => assert!(rt; false, "bytes that aren't UTF-8"),
+        }
+    }
+    let whole = WHOLE.as_bytes();
+    for end in 0..whole.len() {
+        match read_config(rt.alloc(), &whole[..end]) {
+            Err(ConfigError::NoMemory) => assert!(rt; false, "memory for {end} bytes"),
+            _ => {}
+        }
+    }
+    Ok(())
+}
+
+#[test]
+fn rows_give_their_vector_back(rt: HostRuntime) -> Result<(), Fail> {
+    let mut lines: Vec<u8> = Vec::new(rt.alloc());
+    lines.push(7)?;
+    let rows = Rows::new(lines);
+    assert_eq!(rt; rows.len(), 1);
+    let lines = rows.into_vec();
+    assert_eq!(rt; lines.as_slice(), [7].as_slice());
     Ok(())
 }

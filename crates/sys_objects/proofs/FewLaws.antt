@@ -3,12 +3,10 @@ use Rattle.std.proofs.Common.{◌≡◌, ◌≤◌, ◌+◌, ℕ, suc, List, [],
 use Rattle.std.proofs.lemmas.List.{take_more}
 use Rattle.std.proofs.lemmas.List.Elements.{filter_map-append}
 use Rattle.std.specs.List.{filter_map}
-use Rattle.sys_objects.specs.Rules.{IsFew, objects_of, lines_of, terminal_object, volume_object, printer_object, guest_object, audit_line}
+use Rattle.sys_objects.specs.Rules.{IsFew, objects_of, lines_of, audit_line}
 use Rattle.sys_objects.specs.declared.records.Config.{Config}
 use Rattle.sys_objects.specs.declared.records.Audit.{Audit}
 use Rattle.sys_objects.specs.declared.records.GuestRow.{GuestRow}
-use Rattle.sys_objects.specs.declared.records.Terminal.{Terminal}
-use Rattle.sys_objects.specs.declared.records.PrinterRow.{PrinterRow}
 
 pub length-mapped : {A B : Type 0} (f : A → B) (xs : List A) → length (map f xs) ≡ length xs
 length-mapped f [] = refl

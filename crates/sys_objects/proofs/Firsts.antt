@@ -1,9 +1,9 @@
 -- The first element for which a test fails, given those before it.
-use Rattle.std.proofs.Common.{◌≡◌, ◌≢◌, ◌≤◌, ◌<◌, ◌+◌, ℕ, zero, suc, Bool, true, false, not, List, [], ◌∷◌, ◌++◌, length, take, get_or, nat_le, Option, Some, None, if◌then◌else◌, All, sum_by, refl, sym, ap, ◌∙◌, arith, append-nil, append_assoc, inl, inr}
+use Rattle.std.proofs.Common.{◌≡◌, ◌≤◌, ◌<◌, ◌+◌, ℕ, zero, suc, Bool, true, false, not, List, [], ◌∷◌, ◌++◌, length, take, get_or, nat_le, Option, Some, None, if◌then◌else◌, sum_by, refl, sym, ◌∙◌, arith, append-nil, append_assoc, inl, inr}
 use Rattle.std.specs.List.{list_any, AllPairs}
 use Rattle.std.proofs.lemmas.Bool.{cases_Bool, leb-true, le-leb, false≢true}
 use Rattle.std.proofs.lemmas.List.{get_or-take, length-take}
-use Rattle.std.proofs.lemmas.List.Folds.{list_any_none, list_any-from_Any, Any-from_list_any}
+use Rattle.std.proofs.lemmas.List.Folds.{list_any_none, list_any-from_Any}
 use Rattle.std.proofs.lemmas.List.Sums.{sum_by-append}
 use Rattle.sys_objects.specs.Rules.{first_broken, pages_hold}
 use Rattle.sys_objects.specs.declared.records.GuestRow.{GuestRow}

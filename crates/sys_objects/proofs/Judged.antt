@@ -1,6 +1,6 @@
 -- What stands of a configuration that no rule on several entries refuses.
-use Rattle.std.proofs.Common.{◌≡◌, ◌≢◌, ◌≤◌, ◌<◌, ℕ, Bool, true, false, ◌&&◌, not, ◌==◌, List, [], ◌∷◌, ◌++◌, length, take, get_or, bytes_eq, Option, Some, None, Result, Ok, Err, IfSome, IfOk, All, sum_by, slice_get, refl, sym, ◌∙◌, arith, subst}
-use Rattle.std.specs.List.{AllPairs, list_any, list_all}
+use Rattle.std.proofs.Common.{◌≡◌, ◌≢◌, ◌≤◌, ◌<◌, ℕ, Bool, true, false, ◌&&◌, ◌==◌, List, [], length, take, get_or, bytes_eq, Option, Some, None, IfSome, All, sum_by, slice_get, refl, sym, ◌∙◌, arith}
+use Rattle.std.specs.List.{AllPairs, list_all}
 use Rattle.std.proofs.lemmas.Bool.{false≢true, eq-eqb}
 use Rattle.std.proofs.lemmas.List.Sums.{AllPass-from_list_all}
 use Rattle.std.proofs.lemmas.Option.{slice_get_within}
@@ -15,7 +15,7 @@ use Rattle.sys_objects.specs.declared.records.Terminal.{Terminal}
 use Rattle.sys_objects.specs.declared.records.VolumeRow.{VolumeRow}
 use Rattle.sys_objects.specs.declared.records.PrinterRow.{PrinterRow}
 use Rattle.sys_objects.specs.declared.rules.Object.{Object}
-use Rattle.sys_objects.specs.Rules.{objects_of, lines_of, first_broken, has_new_name, is_new_line, has_new_drive, flows_into, may_print, printer_holds, is_of_class, may_connect, same_place, console_holds, is_mountable, may_mount, mounts_hold, audit_holds, pages_hold, bad_name, bad_line, bad_drive, bad_printer, bad_console, bad_mount, bad_audit, bad_pages}
+use Rattle.sys_objects.specs.Rules.{objects_of, lines_of, first_broken, flows_into, may_print, printer_holds, is_of_class, may_connect, same_place, console_holds, is_mountable, may_mount, mounts_hold, audit_holds, bad_name, bad_line, bad_drive, bad_printer, bad_console, bad_mount, bad_audit, bad_pages}
 use Rattle.sys_objects.specs.Condition.{MayHave, NamesObjects}
 use Rattle.sys_objects.proofs.Firsts.{holds_at, none_broken, is_new, pairs_apart, few_pages}
 

@@ -1,21 +1,19 @@
 -- No rule on several entries refuses a configuration that meets the condition.
-use Rattle.std.proofs.Common.{◌≡◌, ◌≢◌, ◌≤◌, ◌<◌, ◌+◌, ℕ, Bool, true, false, ◌&&◌, ◌==◌, not, List, [], ◌∷◌, ◌++◌, length, take, get_or, map, bytes_eq, Option, Some, None, Result, Ok, Err, IfSome, All, refl, sym, ap, ◌∙◌, arith, length-append}
-use Rattle.std.specs.List.{AllPairs, list_all}
+use Rattle.std.proofs.Common.{◌≡◌, ◌≢◌, ◌+◌, ℕ, Bool, true, false, ◌&&◌, ◌==◌, List, [], ◌++◌, length, get_or, map, bytes_eq, Option, Some, None, Ok, IfSome, All, refl, sym, arith, length-append}
+use Rattle.std.specs.List.{AllPairs}
 use Rattle.std.proofs.lemmas.Bool.{eqb-true}
 use Rattle.std.proofs.lemmas.List.{get_or-map, get_or-append-add, get_or_append_left}
 use Rattle.std.proofs.lemmas.List.Sums.{list_all-from_AllPass}
 use Rattle.std.proofs.lemmas.Slice.Eq.{bytes_eq-Decides}
 use Rattle.vv_class.specs.Class.{does_flow}
-use Rattle.sys_objects.specs.declared.errors.ConfigFault.{ConfigFault}
 use Rattle.sys_objects.specs.declared.records.Config.{Config}
 use Rattle.sys_objects.specs.declared.records.Audit.{Audit}
-use Rattle.sys_objects.specs.declared.records.GuestRow.{GuestRow}
 use Rattle.sys_objects.specs.declared.records.Terminal.{Terminal}
 use Rattle.sys_objects.specs.declared.records.VolumeRow.{VolumeRow}
 use Rattle.sys_objects.specs.declared.records.PrinterRow.{PrinterRow}
 use Rattle.sys_objects.specs.declared.rules.Object.{Object}
-use Rattle.sys_objects.specs.Rules.{objects_of, lines_of, terminal_object, volume_object, printer_object, guest_object, first_broken, printer_holds, may_connect, same_place, console_holds, may_mount, mounts_hold, audit_holds, pages_hold, bad_name, bad_line, bad_drive, bad_printer, bad_console, bad_mount, bad_audit, bad_pages}
-use Rattle.sys_objects.specs.Condition.{IsConfig, MayHave}
+use Rattle.sys_objects.specs.Rules.{objects_of, lines_of, terminal_object, volume_object, printer_object, guest_object, first_broken, printer_holds, console_holds, may_mount, mounts_hold, audit_holds, bad_name, bad_line, bad_drive, bad_printer, bad_console, bad_mount, bad_pages}
+use Rattle.sys_objects.specs.Condition.{IsConfig}
 use Rattle.sys_objects.specs.Judged.{judged}
 use Rattle.sys_objects.proofs.FewLaws.{length-mapped}
 use Rattle.sys_objects.proofs.Firsts.{holds_at, none_broken, is_new, none_twice, pages_pass}

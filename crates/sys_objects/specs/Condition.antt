@@ -1,17 +1,15 @@
 -- A configuration as it is accepted: its rows by themselves, and what the rules say of several. The rules are those of
 -- version 2.
-use Rattle.std.specs.Prelude.{◌≡◌, ◌≢◌, ℕ, ◌<◌, ◌≤◌, ◌^◌, List, length, true, false, IfSome, All, Option}
+use Rattle.std.specs.Prelude.{◌≡◌, ◌≢◌, ◌<◌, ◌≤◌, ◌^◌, length, true, false, IfSome, All}
 use Rattle.std.specs.List.{AllPairs, sum_by}
 use Rattle.vv_base.specs.Names.{is_object_name, is_file_name}
 use Rattle.vv_class.specs.Class.{IsClass, does_flow}
 use Rattle.sys_objects.specs.declared.records.Config.{Config}
 use Rattle.sys_objects.specs.declared.records.Audit.{Audit}
 use Rattle.sys_objects.specs.declared.records.GuestRow.{GuestRow}
-use Rattle.sys_objects.specs.declared.records.Mount.{Mount}
 use Rattle.sys_objects.specs.declared.records.Terminal.{Terminal}
 use Rattle.sys_objects.specs.declared.records.VolumeRow.{VolumeRow}
 use Rattle.sys_objects.specs.declared.records.PrinterRow.{PrinterRow}
-use Rattle.sys_objects.specs.declared.rules.Object.{Object}
 use Rattle.sys_objects.specs.Rules.{objects_of, lines_of, may_print, may_connect, same_place, may_mount}
 
 pub record IsTerminal (t : Terminal) : Type 0 where

@@ -1,7 +1,6 @@
 -- The rules that speak of several entries. Each is a test of an element, given those before it.
-use Rattle.std.specs.Prelude.{ℕ, List, [], ◌∷◌, ◌++◌, length, map, Bool, true, false, not, ◌&&◌, ◌==◌, ◌+◌, ◌≤◌, nat_le, nat_eq, bytes_eq, if◌then◌else◌, Option, Some, None, slice_get}
+use Rattle.std.specs.Prelude.{ℕ, List, [], ◌∷◌, ◌++◌, length, map, Bool, true, false, not, ◌&&◌, ◌==◌, ◌+◌, ◌≤◌, nat_le, bytes_eq, if◌then◌else◌, Option, Some, None, slice_get}
 use Rattle.std.specs.List.{list_any, list_all, sum_by, filter_map}
-use Rattle.std.specs.Option.{option_to_list}
 use Rattle.vv_class.specs.declared.class.AccessClass.{AccessClass}
 use Rattle.vv_class.specs.Class.{does_flow}
 use Rattle.sys_objects.specs.declared.rules.Object.{Object}

@@ -1,7 +1,6 @@
 -- Worked examples of the rules that speak of several entries, checked by computation.
-use Rattle.std.specs.Prelude.{◌≡◌, ℕ, [], ◌∷◌, codes, true, false, Some, None, Ok, Err, refl}
+use Rattle.std.specs.Prelude.{◌≡◌, ℕ, [], ◌∷◌, codes, true, false, Some, None, Err, refl}
 use Rattle.vv_class.specs.declared.class.AccessClass.{AccessClass}
-use Rattle.vv_class.specs.Class.{does_flow, is_subset}
 use Rattle.sys_objects.specs.declared.records.Config.{Config}
 use Rattle.sys_objects.specs.declared.records.GuestRow.{GuestRow}
 use Rattle.sys_objects.specs.declared.records.Terminal.{Terminal}
@@ -17,8 +16,20 @@ terminal = record { name = codes "T1"; line = 4; class = level 1 }
 
 abbrev guest : GuestRow
 guest = record {
-  name = codes "A"; class = level 1; pages = 2048; image = codes "a"; load = 512; start = 512; autostart = true; console = Some 0; printer = None; dump = None;
-  mounts = None ∷ None ∷ None ∷ None ∷ []; modify_faults = false; quantum = 10 }
+  name = codes "A";
+  class = level 1;
+  pages = 2048;
+  image = codes "a";
+  load = 512;
+  start = 512;
+  autostart = true;
+  console = Some 0;
+  printer = None;
+  dump = None;
+  mounts = None ∷ None ∷ None ∷ None ∷ [];
+  modify_faults = false;
+  quantum = 10;
+}
 
 -- two guests that differ in nothing but what is said
 abbrev both : GuestRow → GuestRow → Config
