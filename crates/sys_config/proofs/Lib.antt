@@ -1,0 +1,11 @@
+pub mod Keys
+pub mod ItemLaws
+pub mod Each
+pub mod RowFacts
+pub mod Accepted
+pub mod Inserts
+pub mod Ascii
+pub mod ItemsPrinted
+pub mod ReadAgain
+pub mod PrintedAgain
+pub mod Shallow

@@ -1,0 +1,63 @@
+-- An entry of the terminals, volumes and printers, and the audit: where a table has exactly the keys that it is to
+-- have, of their forms and in their ranges.
+use Rattle.std.specs.Prelude.{ℕ, List, [], ◌∷◌, codes, ◌&&◌, nat_le, if◌then◌else◌, Option, Some, None, Result, Ok, Err}
+use Rattle.toml.specs.Data.{Members}
+use Rattle.vv_base.specs.Names.{is_object_name, tested}
+use Rattle.vv_class.specs.declared.class.AccessClass.{AccessClass}
+use Rattle.vv_class.specs.declared.text.ClassFault.{ClassFault}
+use Rattle.vv_class.specs.Scan.{class_of}
+use Rattle.sys_config.specs.Reads.{◌>>=◌, number_at, text_at, are_known}
+use Rattle.sys_objects.specs.declared.records.Terminal.{Terminal}
+use Rattle.sys_objects.specs.declared.records.VolumeRow.{VolumeRow}
+use Rattle.sys_objects.specs.declared.records.PrinterRow.{PrinterRow}
+use Rattle.sys_objects.specs.declared.records.Audit.{Audit}
+
+-- a name of an object
+abbrev pub name_in : List ℕ → Option (List ℕ)
+name_in text = tested is_object_name text
+
+abbrev pub name_at : List ℕ → Members → Option (List ℕ)
+name_at key t = text_at key t >>= name_in
+
+-- a class with levels up to `top`
+abbrev pub low_enough : ℕ → Result AccessClass ClassFault → Option AccessClass
+low_enough top (Ok c) = if nat_le c.secrecy top && nat_le c.integrity top then Some c else None
+low_enough top (Err f) = None
+
+abbrev pub class_in : ℕ → List ℕ → Option AccessClass
+class_in top text = low_enough top (class_of text)
+
+abbrev pub class_at : ℕ → Members → Option AccessClass
+class_at top t = text_at (codes "class") t >>= class_in top
+
+-- a line, 0 to 31
+abbrev pub line_at : List ℕ → Members → Option ℕ
+line_at key t = number_at key 0 31 t
+
+unfoldable pub terminal_of : ℕ → Members → Option Terminal
+terminal_of top t =
+    if are_known (codes "name" ∷ codes "line" ∷ codes "class" ∷ []) t then
+    (name_at (codes "name") t >>= λ name. line_at (codes "line") t >>= λ line. class_at top t >>= λ class.
+    Some (record { name = name; line = line; class = class }))
+    else None
+
+-- a drive is 0 to 15, and a volume has 1 to 2,048 blocks
+unfoldable pub volume_of : ℕ → Members → Option VolumeRow
+volume_of top t =
+    if are_known (codes "name" ∷ codes "drive" ∷ codes "blocks" ∷ codes "class" ∷ []) t then
+    (name_at (codes "name") t >>= λ name. number_at (codes "drive") 0 15 t >>= λ drive. number_at (codes "blocks") 1 2048 t >>= λ blocks.
+    class_at top t >>= λ class. Some (record { name = name; drive = drive; blocks = blocks; class = class }))
+    else None
+
+unfoldable pub printer_of : ℕ → Members → Option PrinterRow
+printer_of top t =
+    if are_known (codes "name" ∷ codes "line" ∷ codes "class" ∷ []) t then
+    (name_at (codes "name") t >>= λ name. line_at (codes "line") t >>= λ line. class_at top t >>= λ class.
+    Some (record { name = name; line = line; class = class }))
+    else None
+
+unfoldable pub audit_of : ℕ → Members → Option Audit
+audit_of top t =
+    if are_known (codes "line" ∷ codes "class" ∷ []) t then
+    (line_at (codes "line") t >>= λ line. class_at top t >>= λ class. Some (record { line = line; class = class }))
+    else None

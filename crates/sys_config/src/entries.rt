@@ -1,0 +1,114 @@
+ghost use Rattle.std.specs.Prelude.{◌≡◌, ◌≤◌, IfSome};
+ghost use Rattle.toml.specs.View.{table_view};
+ghost use Rattle.sys_config.specs.Entries.{class_in, name_at, class_at, line_at, terminal_of, volume_of, printer_of, audit_of};
+
+use crate::reads::{are_known, number_at, text_at};
+use crate::{Audit, PrinterRow, Terminal, VolumeRow};
+use toml::Table;
+use vv_base::{Name, object_name};
+use vv_class::{AccessClass, read_class};
+
+fn class_in(top: u8, text: &[u8]) -> Option<AccessClass>
+    ensures { result ≡ class_in top text.now }
+{
+    match read_class(text) {
+        Ok(class) => {
+            if class.secrecy <= top && class.integrity <= top {
+                Some(class)
+            } else {
+                None
+            }
+        }
+        Err(_) => None,
+    }
+}
+
+/// The name at a key.
+pub fn name_at(table: &Table, key: &str) -> Option<Name>
+    ensures { result ≡ name_at key.now (table_view table.now) }
+{
+    match text_at(table, key) {
+        Some(text) => object_name(text.as_bytes()),
+        None => None,
+    }
+}
+
+/// The class of an entry, with levels up to `top`.
+pub fn class_at(table: &Table, top: u8) -> Option<AccessClass>
+    ensures { result ≡ class_at top (table_view table.now) }
+{
+    match text_at(table, "class") {
+        Some(text) => class_in(top, text.as_bytes()),
+        None => None,
+    }
+}
+
+fn line_at(table: &Table, key: &str) -> Option<u8>
+    ensures { result ≡ line_at key.now (table_view table.now) }
+{
+    match number_at(table, key, 0, 31) {
+        Some(line) => Some(line as u8),
+        None => None,
+    }
+}
+
+/// An entry of the terminals.
+#[tactic(auto, unfolding(crate::specs::Entries::terminal_of))]
+pub fn terminal(table: &Table, top: u8) -> Option<Terminal>
+    ensures { result ≡ terminal_of top (table_view table.now) }
+{
+    if !are_known(table, &["name", "line", "class"]) {
+        return None;
+    }
+    let name = name_at(table, "name")?;
+    let line = line_at(table, "line")?;
+    let class = class_at(table, top)?;
+    Some(Terminal { name, line, class })
+}
+
+/// An entry of the volumes.
+#[tactic(auto, unfolding(crate::specs::Entries::volume_of))]
+pub fn volume(table: &Table, top: u8) -> Option<VolumeRow>
+    ensures { result ≡ volume_of top (table_view table.now) }
+{
+    if !are_known(table, &["name", "drive", "blocks", "class"]) {
+        return None;
+    }
+    let name = name_at(table, "name")?;
+    let drive = number_at(table, "drive", 0, 15)? as u8;
+    let blocks = number_at(table, "blocks", 1, 2048)?;
+    let class = class_at(table, top)?;
+    Some(VolumeRow {
+        name,
+        drive,
+        blocks,
+        class,
+    })
+}
+
+/// An entry of the printers.
+#[tactic(auto, unfolding(crate::specs::Entries::printer_of))]
+pub fn printer(table: &Table, top: u8) -> Option<PrinterRow>
+    ensures { result ≡ printer_of top (table_view table.now) }
+{
+    if !are_known(table, &["name", "line", "class"]) {
+        return None;
+    }
+    let name = name_at(table, "name")?;
+    let line = line_at(table, "line")?;
+    let class = class_at(table, top)?;
+    Some(PrinterRow { name, line, class })
+}
+
+/// The audit.
+#[tactic(auto, unfolding(crate::specs::Entries::audit_of))]
+pub fn audit(table: &Table, top: u8) -> Option<Audit>
+    ensures { result ≡ audit_of top (table_view table.now) }
+{
+    if !are_known(table, &["line", "class"]) {
+        return None;
+    }
+    let line = line_at(table, "line")?;
+    let class = class_at(table, top)?;
+    Some(Audit { line, class })
+}

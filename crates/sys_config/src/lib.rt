@@ -1,0 +1,21 @@
+//! The configuration: its text, and what the text stands for.
+#![tactic(auto)]
+
+mod config;
+mod entries;
+mod guests;
+mod lists;
+mod mounts;
+mod numbers;
+mod reads;
+mod top;
+mod write;
+
+pub use config::{config_laws, read_config};
+pub use sys_objects::{
+    Audit, Config, ConfigError, ConfigFault, GuestRow, Mount, PrinterRow, Rows, Terminal, VolumeRow,
+};
+pub use write::migrate_text;
+
+#[cfg(test)]
+mod tests;

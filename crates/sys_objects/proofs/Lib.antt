@@ -1,0 +1,4 @@
+pub mod FewLaws
+pub mod Firsts
+pub mod Judged
+pub mod JudgedAgain

@@ -1,0 +1,5 @@
+pub mod Faults
+pub mod Rules
+pub mod Judged
+pub mod Condition
+pub mod Shown
