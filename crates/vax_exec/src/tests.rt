@@ -83,6 +83,7 @@ fn is_planned(what: Operation) -> bool
     !matches!(
         what,
         Operation::Other
+            | Operation::Sensitive(_)
             | Operation::MoveStatus
             | Operation::Probe(_)
             | Operation::Breakpoint
