@@ -1,4 +1,5 @@
-ghost use Rattle.std.specs.Prelude.{◌≡◌, ◌+◌, ◌*◌, ◌≤◌, ◌<◌, ◌/◌, ◌%◌, ◌^◌, length, slice_set, IfOk, MatchResult, Ok, Err};
+ghost use Rattle.std.specs.Prelude.{◌≡◌, ◌+◌, ◌*◌, ◌≤◌, ◌<◌, ◌/◌, ◌%◌, ◌^◌, ℕ, length, slice_index, slice_set, IfOk, MatchResult, Ok, Err};
+ghost use Rattle.vv_base.specs.Bytes.{long_at};
 ghost use Rattle.vv_base.specs.Width.{size_of};
 ghost use Rattle.vax_hw.specs.Machine.{Machine, psw_of, retire, space_of, with_effect, zeros};
 ghost use Rattle.vax_hw.specs.Real.{exits, in_kernel, one, real};
@@ -90,6 +91,15 @@ fn store_all(memory: &mut [u8], base: u32, stores: &[Store])
     for one in stores {
         store(memory, base, one);
     }
+}
+
+/// The longword at a place of a memory, which is a list of bytes.
+fn long_in(memory: &[u8], at: usize) -> u32
+    requires { at + 4 ≤ length memory.now }
+    ensures value { result ≡ long_at memory.now at }
+    ensures bytes { (i : ℕ) → slice_index memory.now i < 256 }
+{
+    get_u32(memory, at)
 }
 
 /// An instruction that was found, with its opcode.
@@ -201,7 +211,7 @@ impl Hardware for Cpu {
     }
 
     fn read_long(&self, pa: u32) -> u32 {
-        get_u32(&self.memory, pa as usize)
+        long_in(&self.memory, pa as usize)
     }
 
     fn write_long(&mut self, pa: u32, v: u32) {

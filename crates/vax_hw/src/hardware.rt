@@ -1,4 +1,4 @@
-ghost use Rattle.std.specs.Prelude.{◌≡◌, ◌+◌, ◌*◌, ◌≤◌, length};
+ghost use Rattle.std.specs.Prelude.{◌≡◌, ◌+◌, ◌*◌, ◌≤◌, ◌<◌, ℕ, length, slice_index};
 ghost use Rattle.vv_base.specs.Bytes.{long_at, long_bytes, overwritten};
 ghost use Rattle.vax_hw.specs.Machine.{Machine};
 ghost use Rattle.vax_hw.specs.Real.{real};
@@ -26,10 +26,11 @@ pub trait Hardware {
     fn misses(&self) -> u64
         ensures { result ≡ (machine self.now).misses };
 
-    /// The longword at a physical address in bytes.
+    /// The longword at a physical address in bytes. Memory is a list of bytes.
     fn read_long(&self, pa: u32) -> u32
         requires { pa + 4 ≤ length (machine self.now).memory }
-        ensures { result ≡ long_at (machine self.now).memory pa };
+        ensures value { result ≡ long_at (machine self.now).memory pa }
+        ensures bytes { (at : ℕ) → slice_index (machine self.now).memory at < 256 };
 
     /// Writes the longword at a physical address in bytes.
     fn write_long(&mut self, pa: u32, v: u32)

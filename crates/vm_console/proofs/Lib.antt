@@ -1,1 +1,2 @@
 pub mod Composes
+pub mod Kept

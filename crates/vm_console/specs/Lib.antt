@@ -1,4 +1,5 @@
 pub mod Appends
 pub mod Console
+pub mod Kept
 pub mod Parts
 pub mod Shown

@@ -1,6 +1,7 @@
 -- Worked examples, by computation.
-use Rattle.std.specs.Prelude.{◌≡◌, refl, true, [], ◌∷◌}
+use Rattle.std.specs.Prelude.{◌≡◌, refl, false, true, [], ◌∷◌}
 use Rattle.vm_console.specs.Console.{ConsoleState, initial_state, after_typed, rxcs_of, rxdb_of, after_rxdb_read, after_rxcs_write, txcs_of, after_txcs_write, after_sent, after_rx_taken}
+use Rattle.vm_console.specs.Kept.{MayKeep, after_shown, empty}
 
 -- enabled, two bytes typed, and the first one's interrupt taken
 abbrev two_typed : ConsoleState
@@ -39,3 +40,14 @@ enable_requests = refl
 
 pub silent_send : after_sent initial_state ≡ initial_state
 silent_send = refl
+
+-- a port with room for two bytes, shown three
+kept_in_room : after_shown 2 (after_shown 2 empty 86) 77 ≡ record { bytes = 86 ∷ 77 ∷ []; is_cut = false }
+kept_in_room = refl
+
+cut_beyond : after_shown 2 (record { bytes = 86 ∷ 77 ∷ []; is_cut = false }) 33 ≡ record { bytes = 86 ∷ 77 ∷ []; is_cut = true }
+cut_beyond = refl
+
+may_be_three : MayKeep 2 (record { bytes = 86 ∷ 77 ∷ []; is_cut = true }) (86 ∷ 77 ∷ 33 ∷ [])
+unfolding MayKeep
+may_be_three = (refl, refl)

@@ -5,9 +5,11 @@ ghost use Rattle.std.specs.Prelude.{◌≡◌, ◌≤◌, ◌/◌, ◌%◌, ◌=
 ghost use Rattle.vm_console.specs.Console.{initial_state, IsConsole, has_room, after_typed, rxcs_of, rxdb_of, after_rxdb_read, after_rxcs_write, txcs_of, after_txcs_write, after_sent, after_rx_taken, after_tx_taken};
 ghost use Rattle.vm_console.specs.Parts.{parts_of, state_of};
 
+mod kept_port;
 mod port;
 
 use arrayvec::ArrayVec;
+pub use kept_port::KeptPort;
 pub use port::{NullPort, Port, show_all};
 use std::marker::Model;
 use vv_base::Text;

@@ -1,6 +1,9 @@
-ghost use Rattle.std.specs.Prelude.{◌≡◌, [], ◌++◌, List, ℕ, IsFalse};
+ghost use Rattle.std.specs.Prelude.{◌≡◌, ◌+◌, ◌≤◌, [], ◌++◌, List, ℕ, IsFalse, IfOk, length, false};
 
 use super::*;
+use std::alloc::Global;
+use std::test::Fail;
+use vv_base::NoMemory;
 
 /// What a terminal and a program do to a console.
 #[derive(Clone, Copy)]
@@ -185,4 +188,47 @@ fn shows_in_order(rt: HostRuntime) {
     show_all(&mut kept, b" UP");
     assert_eq!(rt; kept.bytes.as_slice(), b"VM UP".as_slice());
     show_all(&mut NullPort, b"VM");
+}
+
+/// What two shows give to a cleared port, where both fit.
+fn kept_after<const N: usize>(port: &mut KeptPort<N>, front: &[u8], back: &[u8])
+    requires { length front.now + length back.now ≤ N }
+    ensures { port.new ≡ record { bytes = front.now ++ back.now; is_cut = false } }
+{
+    port.clear();
+    show_all(port, front);
+    show_all(port, back);
+}
+
+/// The same of one show to a new port of a large room.
+fn new_after(alloc: Global, text: &[u8]) -> Result<KeptPort<131_072>, NoMemory>
+    requires { length text.now ≤ 131072 }
+    ensures { IfOk result (λ port. port.bytes ≡ text.now) }
+{
+    let mut port = KeptPort::new(alloc)?;
+    show_all(&mut port, text);
+    Ok(port)
+}
+
+#[test]
+fn keeps_what_fits(rt: HostRuntime) -> Result<(), Fail> {
+    let mut port = KeptPort::<5>::new(rt.alloc())?;
+    for (text, kept, is_cut) in [
+        ("VM", "VM", false),
+        (" UP", "VM UP", false),
+        ("", "VM UP", false),
+        ("!", "VM UP", true),
+        ("?", "VM UP", true),
+    ] {
+        show_all(&mut port, text.as_bytes());
+        assert_eq!(rt; port.bytes(), kept.as_bytes(), "{text}");
+        assert_eq!(rt; port.is_cut(), is_cut, "{text}");
+    }
+    port.clear();
+    assert_eq!(rt; port.bytes().len(), 0);
+    assert!(rt; !port.is_cut());
+    kept_after(&mut port, b"VM", b" UP");
+    assert_eq!(rt; port.bytes(), b"VM UP".as_slice());
+    assert_eq!(rt; new_after(rt.alloc(), b"VM")?.bytes(), b"VM".as_slice());
+    Ok(())
 }

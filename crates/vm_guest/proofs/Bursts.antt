@@ -14,7 +14,9 @@ use Rattle.vm_state.specs.Step.{Plain, step, trapped}
 use Rattle.vm_guest.specs.Exits.{ended}
 use Rattle.vm_guest.specs.Kept.{Counted, Ended}
 use Rattle.vm_guest.specs.StandsFor.{StandsFor}
+use Rattle.vm_state.specs.Partition.{IsApart}
 use Rattle.vm_guest.proofs.Simulation.{PlainStep, plain_step}
+use Rattle.vm_guest.proofs.Stored.{apart_then, nothing_apart}
 
 -- the run with its guest gone on by plain steps alone, and these two numbers
 abbrev pub plainly : Run → Guest → ℕ → ℕ → Run
@@ -29,7 +31,8 @@ pub record Burst (n : ℕ) (m m' : Machine) (e : Exit) (run : Run) : Type 0 wher
   pub split : done + left ≡ n
   pub rest : after_steps n run ≡ after_steps left (ended e (plainly run after (run.tally.plain + done) ((run.tally.trail + terms) % 2 ^ 64)))
   pub stands : StandsFor m' after
-  pub size : length m'.memory ≡ length m.memory
+  pub outside : IsApart m.world.p0br (length run.guest.memory) m.memory m'.memory
+  pub based : m'.world.p0br ≡ m.world.p0br
   pub own : length after.memory ≡ length run.guest.memory
   pub high : after.psl / 256 ≡ run.guest.psl / 256
   pub retired : m'.retired ≡ (m.retired + done) % 2 ^ 64
@@ -104,8 +107,9 @@ no_step n m k e run s fits small same ends = record {
   after = run.guest;
   split = omega arith;
   rest = ap (after_steps n) (same_plainly run run.guest _ _ _ _ (omega arith) (same_mod _ small) ∙ sym (same (plainly run run.guest (run.tally.plain + 0) ((run.tally.trail + 0) % 2 ^ 64))));
-  stands = record { memory = s.memory; bound = s.bound; base = s.base; registers = s.registers; psw = s.psw; mode = s.mode; running = s.running };
-  size = refl;
+  stands = record { memory = s.memory; bound = s.bound; registers = s.registers; psw = s.psw; mode = s.mode; running = s.running };
+  outside = nothing_apart m.world.p0br (length run.guest.memory) m.memory;
+  based = refl;
   own = refl;
   high = refl;
   retired = same_mod _ fits.retired;
@@ -132,7 +136,8 @@ one_more n m m' after e run p none b = record {
   rest = ap (λ s. after_steps n (after_step run s)) (p.is ∙ ap (trapped p.guest (Plain p.term)) none) ∙ ap (after_steps n) (after_plain run p.guest p.term) ∙ b.rest
       ∙ ap (λ x. after_steps b.left (ended e x)) (same_plainly run b.after _ _ _ _ (omega arith) (sum_mod run.tally.trail p.term b.terms));
   stands = b.stands;
-  size = b.size ∙ p.size;
+  outside = apart_then m.world.p0br (length run.guest.memory) m.memory after.machine.memory m'.memory p.outside (subst (λ (n : ℕ). IsApart m.world.p0br n after.machine.memory m'.memory) p.own (subst (λ (n : ℕ). IsApart n (length p.guest.memory) after.machine.memory m'.memory) p.based b.outside));
+  based = b.based ∙ p.based;
   own = b.own ∙ p.own;
   high = b.high ∙ p.high;
   retired = b.retired ∙ ap (λ x. (x + b.done) % 2 ^ 64) p.retired ∙ sum_mod m.retired 1 b.done ∙ ap (λ x. (m.retired + x) % 2 ^ 64) (omega arith);
@@ -150,7 +155,8 @@ trap_ends n kind m after run p some = record {
   split = omega arith;
   rest = ap (λ s. after_steps n (after_step run s)) (p.is ∙ ap (trapped p.guest (Plain p.term)) some);
   stands = p.stands;
-  size = p.size;
+  outside = p.outside;
+  based = p.based;
   own = p.own;
   high = p.high;
   retired = p.retired;

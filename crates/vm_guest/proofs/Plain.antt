@@ -1,12 +1,13 @@
 -- A run of the machine with a guest's registers loaded, as the kernel sees it.
-use Rattle.std.proofs.Common.{ℕ, ◌≡◌, ◌<◌, ◌≤◌, ◌+◌, ◌-◌, ◌*◌, ◌/◌, ◌%◌, ◌^◌, List, [], length, take, refl, sym, ◌∙◌, ap, subst, arith}
-use Rattle.std.proofs.lemmas.Grind.{common_steps}
+use Rattle.std.proofs.Common.{ℕ, ◌≡◌, ◌<◌, ◌≤◌, ◌+◌, ◌-◌, ◌*◌, ◌/◌, ◌%◌, ◌^◌, List, [], length, drop, refl, sym, ◌∙◌, ap, subst, arith}
+use Rattle.std.proofs.lemmas.List.{length-drop, length-take-le}
 use Rattle.vax_hw.specs.Machine.{Machine}
 use Rattle.vax_hw.specs.Real.{real}
 use Rattle.vax_hw.specs.declared.world.Exit.{Exit}
 use Rattle.vax_hw.specs.declared.world.World.{World}
 use Rattle.vm_state.specs.Guest.{Guest}
-use Rattle.vm_guest.specs.Kept.{CanRun, guest_of, run_of, Ended, PlainRun, rise, loaded, Counted}
+use Rattle.vm_guest.specs.Kept.{CanRun, run_of, Ended, PlainRun, rise, loaded, Counted}
+use Rattle.vm_state.specs.Partition.{IsApart, guest_of, part}
 use Rattle.vm_guest.specs.Exits.{ended}
 use Rattle.vm_guest.specs.StandsFor.{StandsFor}
 use Rattle.vm_state.specs.Run.{after_steps}
@@ -18,20 +19,24 @@ use Rattle.vm_guest.proofs.Bursts.{Burst, burst, plainly, same_plainly}
 abbrev pub back : GuestState → World → GuestState
 back g w = record g { r = w.r; psl = record { 0 = g.psl.0 / 256 * 256 + w.psl.0 % 256 } }
 
-whole_front : (n : ℕ) (memory : List ℕ) → take (length (take n memory)) memory ≡ take n memory
-whole_front n memory = grind (arith, common_steps)
+part_length : (base n : ℕ) (memory : List ℕ) → 512 * base + 512 * n ≤ length memory → length (part memory (512 * base) (512 * n)) ≡ 512 * n
+part_length base n memory h =
+    let rest : length (drop (512 * base) memory) ≡ length memory - 512 * base = length-drop (512 * base) memory in
+    length-take-le (512 * n) (drop (512 * base) memory) (omega (arith, rest))
 
-front_length : (n : ℕ) (memory : List ℕ) → 512 * n ≤ length memory → n * 512 ≡ length (take (512 * n) memory)
-front_length n memory h = grind (arith, common_steps)
+whole_part : (base n : ℕ) (memory : List ℕ) → 512 * base + 512 * n ≤ length memory → part memory (512 * base) (length (part memory (512 * base) (512 * n))) ≡ part memory (512 * base) (512 * n)
+whole_part base n memory h = ap (part memory (512 * base)) (part_length base n memory h)
 
 psw_kept : (n : ℕ) → (2 ^ 29 + 5 * 2 ^ 22 + n % 256) % 256 ≡ n % 256
 psw_kept n = grind arith
 
+turned : (n : ℕ) → n * 512 ≡ 512 * n
+turned n = omega arith
+
 pub stands_loaded : (m : Machine) (g : GuestState) → CanRun m.memory g → StandsFor (loaded m g) (guest_of m.memory g)
 stands_loaded m g can = record {
-  memory = whole_front (512 * g.pages) m.memory;
-  bound = front_length g.pages m.memory can.inside;
-  base = refl;
+  memory = whole_part g.base g.pages m.memory can.inside;
+  bound = turned g.pages ∙ sym (part_length g.base g.pages m.memory can.inside);
   registers = refl;
   psw = psw_kept g.psl.0;
   mode = refl;
@@ -47,17 +52,14 @@ rise_onto c before now n h e = grind arith
 same_guest : (a b : Guest) → a.memory ≡ b.memory → a.r ≡ b.r → a.psl ≡ b.psl → a.halt ≡ b.halt → a ≡ b
 same_guest a b e1 e2 e3 e4 = λ i. record { memory = e1 i; r = e2 i; psl = e3 i; halt = e4 i }
 
-turned : (n : ℕ) → n * 512 ≡ 512 * n
-turned n = omega arith
-
 by_parts : (a b c : ℕ) → a / 256 ≡ b / 256 → c % 256 ≡ a % 256 → a ≡ b / 256 * 256 + c % 256
 by_parts a b c e f = grind arith
 
 -- the guest that the kernel has afterwards
 after_is : (m m' : Machine) (e : Exit) (g : GuestState) (c : Counts) (steps : ℕ) (shown : List ℕ) → CanRun m.memory g → (b : Burst steps (loaded m g) m' e (run_of m.memory g c shown)) → b.after ≡ guest_of m'.memory (back g m'.world)
 after_is m m' e g c steps shown can b =
-    let size : length b.after.memory ≡ 512 * g.pages = b.own ∙ sym (front_length g.pages m.memory can.inside) ∙ turned g.pages in
-    same_guest b.after (guest_of m'.memory (back g m'.world)) (sym b.stands.memory ∙ ap (λ (n : ℕ). take n m'.memory) size) (sym b.stands.registers) (by_parts b.after.psl g.psl.0 m'.world.psl.0 b.high b.stands.psw) (b.stands.running ∙ sym can.running)
+    let size : length b.after.memory ≡ 512 * g.pages = b.own ∙ part_length g.base g.pages m.memory can.inside in
+    same_guest b.after (guest_of m'.memory (back g m'.world)) (sym b.stands.memory ∙ ap (part m'.memory m'.world.p0br) size ∙ ap (λ (n : ℕ). part m'.memory n (512 * g.pages)) b.based) (sym b.stands.registers) (by_parts b.after.psl g.psl.0 m'.world.psl.0 b.high b.stands.psw) (b.stands.running ∙ sym can.running)
 
 abbrev pub counted_on : Counts → ℕ → ℕ → Counts
 counted_on c done terms = record c { plain = c.plain + done; trail = (c.trail + terms) % 2 ^ 64 }
@@ -95,8 +97,8 @@ plain_run m m' e g c steps can fits small few is =
     record {
       same = λ shown. same_run m m' e g c steps shown can fits few (the_burst m m' e g c steps shown can fits small is);
       stands = subst (StandsFor m') (after_is m m' e g c steps [] can b) b.stands;
-      size = b.size;
-      pages = refl;
+      outside = subst (λ (n : ℕ). IsApart (512 * g.base) n m.memory m'.memory) (part_length g.base g.pages m.memory can.inside) b.outside;
+      place = record { pages = refl; base = refl; start = refl; modify_faults = refl };
       counts = counts_add c.plain c.sensitive c.faults c.interrupts c.modify c.idle c.stopped (rise m.retired m'.retired) steps (omega (arith, b.split));
       retired = counts_agree m'.retired m.retired c.plain b.done fits.retired b.retired (omega (arith, b.split));
       fewer = omega arith;

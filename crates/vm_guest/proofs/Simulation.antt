@@ -1,6 +1,8 @@
 -- A plain instruction of the machine is a plain step of the guest that it has.
-use Rattle.std.proofs.Common.{ℕ, ◌≡◌, ◌+◌, ◌*◌, ◌/◌, ◌%◌, ◌^◌, List, length, take, get_or, refl, sym, ◌∙◌, ap, subst, arith, Result, Ok, Err, None}
-use Rattle.std.proofs.lemmas.Grind.{common_steps}
+use Rattle.std.proofs.Common.{ℕ, ◌≡◌, ◌<◌, ◌+◌, ◌*◌, ◌/◌, ◌%◌, ◌^◌, Bool, true, false, List, length, drop, get_or, refl, sym, ◌∙◌, ap, subst, arith, Result, Ok, Err, None}
+use Rattle.std.proofs.lemmas.Bool.Decides.{nat_tests}
+use Rattle.std.proofs.lemmas.List.{get_or-drop, get_or-take}
+use Rattle.std.specs.Prelude.{if◌then◌else◌, nat_lt, slice_index}
 use Rattle.vax_arch.specs.Fields.{current_of, mode_of}
 use Rattle.vax_arch.specs.declared.mode.Intent.{Intent}
 use Rattle.vax_hw.specs.Machine.{Machine, linear, place_in, psw_of, retire, space_of}
@@ -8,28 +10,47 @@ use Rattle.vax_hw.specs.Real.{Retired, done, exit_of, exits, in_kernel, meets, o
 use Rattle.vax_hw.specs.declared.world.Exit.{Exit}
 use Rattle.vax_hw.specs.declared.world.Exit.TheVariants.{Emulate, Refused}
 use Rattle.vax_table.specs.Effects.{Effect}
-use Rattle.vax_table.specs.Script.{Cause, Refusing, Script, Trouble, At, Test, outcome, Below, AsFar}
+use Rattle.vax_table.specs.Script.{Cause, Past, Refusing, Script, Trouble, At, Test, outcome, Below, AsFar, IsIn}
 use Rattle.vax_table.specs.Stores.{all_stored}
 use Rattle.vax_table.specs.Trail.{term}
-use Rattle.vax_table.specs.Whole.{Act, Meant, Traps, instruction, is_kernel}
+use Rattle.vax_table.specs.Whole.{Act, Meant, Traps, instruction, is_kernel, meant}
 use Rattle.vax_table.specs.Whole as whole
+use Rattle.vax_table.specs.Claims.{claims}
 use Rattle.vax_table.proofs.Scripts.{outcome_far}
+use Rattle.vax_table.proofs.Wholes.{stores_claimed}
 use Rattle.vm_state.specs.Guest.{Guest, unmapped}
 use Rattle.vm_state.specs.Step.{Plain, Stepped, did, running, step, step_by, trapped, with_effect, with_psw}
 use Rattle.vm_guest.specs.Exits.{met}
 use Rattle.vm_guest.specs.StandsFor.{StandsFor}
-use Rattle.vm_guest.proofs.Stored.{front_stored, stored_length}
+use Rattle.vm_state.specs.Partition.{IsApart, part}
+use Rattle.vm_guest.proofs.Answered.{claims_answered}
+use Rattle.vm_guest.proofs.Stored.{apart_stored, part_stored, stored_length}
 
 -- the machine refuses where the guest has no byte
 abbrev as_real : Result ℕ Cause → Result ℕ Cause
 as_real (Ok b) = Ok b
 as_real (Err c) = Err Refusing
 
-same_byte : (memory own : List ℕ) (p0br p0lr : ℕ) → take (length own) memory ≡ own → p0lr * 512 ≡ length own → p0br ≡ 0 → (i : Intent) (va : ℕ) → linear memory p0br p0lr i va ≡ as_real (unmapped own i va)
-same_byte memory own p0br p0lr front bound base i va = grind (arith, common_steps)
+lt_of : (a b : ℕ) → nat_lt a b ≡ true → a < b
+lt_of a b e = grind (arith, nat_tests)
+
+part_byte : (memory : List ℕ) (base n va : ℕ) → va < n → slice_index (part memory base n) va ≡ slice_index memory (base + va)
+part_byte memory base n va h = get_or-take n (drop base memory) va 0 h ∙ get_or-drop base memory va 0
+
+same_byte_in : (memory own : List ℕ) (p0br n va : ℕ) → part memory p0br n ≡ own → (t : Bool) → nat_lt va n ≡ t → (if t then Ok (slice_index memory (p0br + va)) else Err Refusing) ≡ as_real (if t then Ok (slice_index own va) else Err Past)
+same_byte_in memory own p0br n va is true h =
+    let below : va < n = lt_of va n h in
+    let some : ℕ → Result ℕ Cause = λ b. Ok b in
+    ap some (sym (part_byte memory p0br n va below) ∙ ap (λ (xs : List ℕ). slice_index xs va) is)
+same_byte_in memory own p0br n va is false h = refl
+
+same_byte : (memory own : List ℕ) (p0br p0lr : ℕ) → part memory p0br (length own) ≡ own → p0lr * 512 ≡ length own → (i : Intent) (va : ℕ) → linear memory p0br p0lr i va ≡ as_real (unmapped own i va)
+same_byte memory own p0br p0lr is bound i va =
+    let size : 512 * p0lr ≡ length own = omega (arith, bound) in
+    ap (λ (n : ℕ). if nat_lt va n then Ok (slice_index memory (p0br + va)) else Err Refusing) size ∙ same_byte_in memory own p0br (length own) va is (nat_lt va (length own)) refl
 
 same_place : (m : Machine) (g : Guest) → StandsFor m g → (i : Intent) (va : ℕ) → space_of m i va ≡ as_real (unmapped g.memory i va)
-same_place m g s i va = same_byte m.memory g.memory m.world.p0br m.world.p0lr s.memory s.bound s.base i va
+same_place m g s i va = same_byte m.memory g.memory m.world.p0br m.world.p0lr s.memory s.bound i va
 
 is_ok : (r : Result ℕ Cause) (b : ℕ) → as_real r ≡ Ok b → r ≡ Ok b
 is_ok (Ok c) b e = e
@@ -76,7 +97,8 @@ pub record PlainStep (m : Machine) (after : Retired) (old : Guest) (s : Stepped)
   pub term : ℕ
   pub is : s ≡ trapped guest (Plain term) after.trap
   pub stands : StandsFor after.machine guest
-  pub size : length after.machine.memory ≡ length m.memory
+  pub outside : IsApart m.world.p0br (length old.memory) m.memory after.machine.memory
+  pub based : after.machine.world.p0br ≡ m.world.p0br
   pub own : length guest.memory ≡ length old.memory
   pub high : guest.psl / 256 ≡ old.psl / 256
   pub retired : after.machine.retired ≡ (m.retired + 1) % 2 ^ 64
@@ -95,31 +117,44 @@ higher p q e = grind arith
 pub same_mode : (p q : ℕ) → q / 256 ≡ p / 256 → current_of q ≡ current_of p
 same_mode p q e = ap mode_of (higher p q e)
 
-at_its_address : (base : ℕ) → base ≡ 0 → (va : ℕ) → base + va ≡ va
-at_its_address base e va = omega arith
-
 -- the stores made in the machine's memory are those made in the guest's
-same_stores : (m : Machine) (g : Guest) (e : Effect) → StandsFor m g → take (length (with_effect g e).memory) (all_stored (place_in m) e.writes m.memory) ≡ (with_effect g e).memory
+same_stores : (m : Machine) (g : Guest) (e : Effect) → StandsFor m g → part (all_stored (place_in m) e.writes m.memory) m.world.p0br (length (with_effect g e).memory) ≡ (with_effect g e).memory
 same_stores m g e s =
-    ap (λ (n : ℕ). take n (all_stored (place_in m) e.writes m.memory)) (stored_length (λ va. va) e.writes g.memory)
-    ∙ front_stored (place_in m) (at_its_address m.world.p0br s.base) (length g.memory) e.writes m.memory
+    ap (λ (n : ℕ). part (all_stored (place_in m) e.writes m.memory) m.world.p0br n) (stored_length (λ va. va) e.writes g.memory)
+    ∙ part_stored m.world.p0br (place_in m) (λ va. refl) (length g.memory) e.writes m.memory
     ∙ ap (λ (xs : List ℕ). all_stored (λ va. va) e.writes xs) s.memory
+
+-- a byte that a guest may write lies in its memory
+within_memory : (memory : List ℕ) (x b : ℕ) (t : Bool) → nat_lt x (length memory) ≡ t → (if t then Ok (slice_index memory x) else Err Past) ≡ Ok b → x < length memory
+within_memory memory x b true h e = lt_of x (length memory) h
+within_memory memory x b false h e = cc
+
+claims_within : (g : Guest) (meant : Meant) → outcome (unmapped g.memory) (own_instruction g) ≡ Ok meant → (x : ℕ) → IsIn x (claims (unmapped g.memory) (own_instruction g)) → x < length g.memory
+claims_within g meant e x h =
+    let (b, has) = claims_answered (unmapped g.memory) (own_instruction g) meant e x h in
+    within_memory g.memory x b (nat_lt x (length g.memory)) refl has
+
+-- and they change nothing else of the machine's
+stores_apart : (m : Machine) (g : Guest) (opcode : ℕ) (e : Effect) → outcome (unmapped g.memory) (own_instruction g) ≡ Ok (meant opcode (whole.Plain e)) → IsApart m.world.p0br (length g.memory) m.memory (all_stored (place_in m) e.writes m.memory)
+unfolding own_instruction
+stores_apart m g opcode e h =
+    apart_stored m.world.p0br (length g.memory) (place_in m) (λ va. refl) (claims (unmapped g.memory) (own_instruction g)) (claims_within g (meant opcode (whole.Plain e)) h) e.writes m.memory
+    (stores_claimed (is_kernel (current_of g.psl)) g.r (g.psl % 256) (unmapped g.memory) opcode e h)
 
 retired_stands : (m : Machine) (g : Guest) (opcode : ℕ) (e : Effect) → StandsFor m g → StandsFor (retire opcode e m) (with_effect g e)
 unfolding retire
 retired_stands m g opcode e s = record {
   memory = same_stores m g e s;
   bound = s.bound ∙ sym (stored_length (λ va. va) e.writes g.memory);
-  base = s.base;
   registers = refl;
   psw = low_byte m.world.psl.0 g.psl e.psw;
   mode = s.mode ∙ sym (same_mode g.psl (with_psw g.psl e.psw) (high_part g.psl e.psw));
   running = s.running;
 }
 
-by_act : (m : Machine) (after : Retired) (g : Guest) (opcode : ℕ) (act : Act) → StandsFor m g → meets m opcode act ≡ Ok after → PlainStep m after g (did g opcode act)
+by_act : (m : Machine) (after : Retired) (g : Guest) (opcode : ℕ) (act : Act) → StandsFor m g → outcome (unmapped g.memory) (own_instruction g) ≡ Ok (meant opcode act) → meets m opcode act ≡ Ok after → PlainStep m after g (did g opcode act)
 unfolding retire
-by_act m after g opcode (whole.Plain e) s h =
+by_act m after g opcode (whole.Plain e) s own h =
     let made : Retired = record { machine = retire opcode e m; trap = e.trap } in
     let same : made ≡ after = cc in
     let P : Retired → Type 0 = λ x. PlainStep m x g (did g opcode (whole.Plain e)) in
@@ -128,19 +163,20 @@ by_act m after g opcode (whole.Plain e) s h =
       term = term (get_or g.r 15 0) opcode e.r;
       is = refl;
       stands = retired_stands m g opcode e s;
-      size = stored_length (place_in m) e.writes m.memory;
+      outside = stores_apart m g opcode e own;
+      based = refl;
       own = stored_length (λ va. va) e.writes g.memory;
       high = high_part g.psl e.psw;
       retired = refl;
       trail = ap (λ r. (m.trail + term (get_or r 15 0) opcode e.r) % 2 ^ 64) s.registers;
     })
-by_act m after g opcode (Traps t) s h = cc
+by_act m after g opcode (Traps t) s own h = cc
 
-by_outcome : (m : Machine) (after : Retired) (g : Guest) (x r : Result Meant Trouble) → StandsFor m g → AsFar (space_of m) (unmapped g.memory) x r → done m (exits x) ≡ Ok after → PlainStep m after g (running g r)
-by_outcome m after g (Ok meant) r s far e =
+by_outcome : (m : Machine) (after : Retired) (g : Guest) (x r : Result Meant Trouble) → StandsFor m g → outcome (unmapped g.memory) (own_instruction g) ≡ r → AsFar (space_of m) (unmapped g.memory) x r → done m (exits x) ≡ Ok after → PlainStep m after g (running g r)
+by_outcome m after g (Ok found) r s own far e =
     let P : Result Meant Trouble → Type 0 = λ z. PlainStep m after g (running g z) in
-    subst P (sym far) (by_act m after g meant.opcode meant.act s e)
-by_outcome m after g (Err t) r s far e = cc
+    subst P (sym far) (by_act m after g found.opcode found.act s (own ∙ far) e)
+by_outcome m after g (Err t) r s own far e = cc
 
 step_of_running : (g : Guest) → g.halt ≡ None → step g ≡ running g (outcome (unmapped g.memory) (own_instruction g))
 unfolding step own_instruction
@@ -151,7 +187,7 @@ pub plain_step : (m : Machine) (after : Retired) (g : Guest) → StandsFor m g �
 unfolding one real_instruction
 plain_step m after g s e =
     let P : Stepped → Type 0 = λ x. PlainStep m after g x in
-    subst P (sym (step_of_running g s.running)) (by_outcome m after g _ _ s (far m g s) e)
+    subst P (sym (step_of_running g s.running)) (by_outcome m after g _ _ s refl (far m g s) e)
 
 met_act : (m : Machine) (g : Guest) (opcode : ℕ) (act : Act) (e : Exit) → meets m opcode act ≡ Err e → did g opcode act ≡ met g e
 met_act m g opcode (whole.Plain effect) e is = cc

@@ -1,5 +1,4 @@
 pub mod Exits
 pub mod Kept
-pub mod Showing
 pub mod StandsFor
 pub mod Turn

@@ -1,28 +1,27 @@
-ghost use Rattle.std.specs.Prelude.{◌≡◌, ◌<◌, ◌≤◌, ◌+◌, ◌*◌, ◌/◌, ◌%◌, ◌^◌, ◌⊎◌, List, [], ℕ, length, None, Some, Err};
-ghost use Rattle.std.specs.Prelude.{◌++◌, map, vec_len, false, MatchBool};
+ghost use Rattle.std.specs.Prelude.{◌≡◌, ◌<◌, ◌≤◌, ◌+◌, ◌*◌, ◌/◌, ◌%◌, ◌^◌, ℕ, length, None, MatchBool};
 ghost use Rattle.vax_hw.specs.Real.{real};
 ghost use Rattle.vm_guest.specs.Kept.{CanRun, world_of, steps_in, PlainRun, rise, loaded, Counted};
-ghost use Rattle.vm_guest.specs.Showing.{IsShowing};
-ghost use Rattle.vm_guest.specs.Turn.{Turn};
-ghost use Rattle.vv_io.specs.Lines.{Seen};
+ghost use Rattle.vm_guest.specs.Turn.{Advances, Turn};
 
+use crate::Counts;
 use crate::meet::{meet, stop_behind_trap};
-use crate::{Counts, GuestState};
 use vax_hw::{Exit, Hardware, Psl, World};
-use vv_io::{Line, put_on};
+use vm_console::{Port, show_all};
+use vm_state::GuestState;
 
 /// VM set, current and previous mode executive.
 const VM_IN_EXECUTIVE: u32 = 0x2140_0000;
 
 /// What is loaded into the machine for a guest.
 fn world_of(guest: &GuestState) -> World
+    requires { 512 * guest.now.base < 2 ^ 32 }
     ensures { result ≡ world_of guest.now }
 {
     World {
         r: guest.r,
         psl: Psl(VM_IN_EXECUTIVE + guest.psl.0 % 256),
         vmpsl: guest.psl,
-        p0br: 0,
+        p0br: 512 * guest.base,
         p0lr: guest.pages,
         p1br: 0,
         p1lr: 0,
@@ -51,7 +50,8 @@ struct Ran {
 
 /// One run of the machine for a guest.
 fn burst<H: Hardware>(machine: &mut H, guest: &GuestState, left: u32) -> Ran
-    requires { 1 ≤ left }
+    requires some { 1 ≤ left }
+    requires place { 512 * guest.now.base < 2 ^ 32 }
     ensures ran { (H.machine machine.new, result.exit) ≡ real left (loaded (H.machine machine.old) guest.now) }
     ensures done { result.done ≡ rise (H.machine machine.old).retired (H.machine machine.new).retired }
     ensures terms { result.terms ≡ rise (H.machine machine.old).trail (H.machine machine.new).trail }
@@ -79,6 +79,7 @@ fn run_plain<H: Hardware>(
 ) -> (u32, Exit)
     requires some { 1 ≤ left }
     requires can { CanRun (H.machine machine.old).memory guest.old }
+    requires place { 512 * guest.old.base < 2 ^ 32 }
     requires room { steps_in counts.old + left < 2 ^ 32 }
     ensures { PlainRun (H.machine machine.old) (H.machine machine.new) guest.old guest.new counts.old counts.new left result.0 result.1 }
 {
@@ -95,28 +96,6 @@ fn run_plain<H: Hardware>(
     (left - done as u32, exit)
 }
 
-/// Puts bytes on a line that hasn't failed, and answers whether it has failed now.
-fn put_unless_failed(lines: &mut Vec<Box<dyn Line>>, k: usize, failed: bool, bytes: &[u8]) -> bool
-    requires { k < vec_len lines.old }
-    ensures shows { (start : List Seen) (sofar : List ℕ) → IsShowing k failed start (map (λ b. seen b) lines.old.items) sofar → IsShowing k result start (map (λ b. seen b) lines.new.items) (sofar ++ bytes.now) }
-    ensures len { vec_len lines.new ≡ vec_len lines.old }
-{
-    if failed {
-        return true;
-    }
-    match put_on(lines, k, bytes) {
-        Ok(()) => false,
-        Err(_) => true,
-    }
-}
-
-/// How far a guest has come: the steps left, and whether its line has failed.
-#[derive(Clone, Copy, Debug, PartialEq, Eq)]
-struct Progress {
-    left: u32,
-    failed: bool,
-}
-
 /// Whether the machine stopped behind an instruction that had an arithmetic trap.
 fn is_trap(exit: &Exit) -> bool
     ensures { MatchBool result ((kind : ℕ) × (exit.now ≡ Exit.Arithmetic kind)) ((kind : ℕ) → exit.now ≡ Exit.Arithmetic kind → ⊥) }
@@ -124,40 +103,33 @@ fn is_trap(exit: &Exit) -> bool
     matches!(exit, Exit::Arithmetic { .. })
 }
 
-/// Plain steps of a running guest, and the step at which they end.
-fn turn<H: Hardware>(
+/// Plain steps of a running guest, and the step at which they end; answers how many steps are left.
+fn turn<H: Hardware, T: Port>(
     machine: &mut H,
-    lines: &mut Vec<Box<dyn Line>>,
+    port: &mut T,
     guest: &mut GuestState,
     counts: &mut Counts,
-    at: Progress,
-) -> Progress
-    requires some { 1 ≤ at.left }
+    left: u32,
+) -> u32
+    requires some { 1 ≤ left }
     requires can { CanRun (H.machine machine.old).memory guest.old }
-    requires room { steps_in counts.old + at.left < 2 ^ 32 }
-    requires line { 0 < vec_len lines.old }
-    ensures turn { Turn 0 (map (λ b. seen b) lines.old.items) (map (λ b. seen b) lines.new.items) (H.machine machine.old) (H.machine machine.new) guest.old guest.new counts.old counts.new at.failed result.failed at.left result.left }
-    ensures less { result.left < at.left }
-    ensures len { vec_len lines.new ≡ vec_len lines.old }
+    requires place { 512 * guest.old.base < 2 ^ 32 }
+    requires room { steps_in counts.old + left < 2 ^ 32 }
+    ensures turn { Turn T.may port.old port.new (H.machine machine.old) (H.machine machine.new) guest.old guest.new counts.old counts.new left result }
+    ensures less { result < left }
 {
-    let (left, exit) = run_plain(machine, guest, counts, at.left);
+    let (left, exit) = run_plain(machine, guest, counts, left);
     if is_trap(&exit) {
         let text = stop_behind_trap(guest);
-        let failed = put_unless_failed(lines, 0, at.failed, text.bytes());
-        return Progress { left, failed };
+        show_all(port, text.bytes());
+        return left;
     }
     if left == 0 {
-        return Progress {
-            left: 0,
-            failed: at.failed,
-        };
+        return 0;
     }
     let text = meet(guest, counts, &exit);
-    let failed = put_unless_failed(lines, 0, at.failed, text.bytes());
-    Progress {
-        left: left - 1,
-        failed,
-    }
+    show_all(port, text.bytes());
+    left - 1
 }
 
 /// Whether a guest runs.
@@ -167,29 +139,22 @@ fn is_running(guest: &GuestState) -> bool
     guest.halt.is_none()
 }
 
-/// So many steps of a guest whose memory begins the machine's. Its bytes are shown on line 0; the
-/// answer is whether that line has failed.
-pub fn advance<H: Hardware>(
+/// So many steps of a guest, with their counts.
+pub fn advance_state<H: Hardware, T: Port>(
     machine: &mut H,
-    lines: &mut Vec<Box<dyn Line>>,
+    port: &mut T,
     guest: &mut GuestState,
-    counts: &mut Counts,
     steps: u32,
-) -> bool
-    requires inside { 512 * guest.old.pages ≤ length (H.machine machine.old).memory }
-    requires room { steps_in counts.old + steps < 2 ^ 32 }
-    requires line { 0 < vec_len lines.old }
-    ensures turn { Turn 0 (map (λ b. seen b) lines.old.items) (map (λ b. seen b) lines.new.items) (H.machine machine.old) (H.machine machine.new) guest.old guest.new counts.old counts.new false result steps 0 }
-    ensures len { vec_len lines.new ≡ vec_len lines.old }
+) -> Counts
+    requires inside { 512 * guest.old.base + 512 * guest.old.pages ≤ length (H.machine machine.old).memory }
+    requires place { 512 * guest.old.base < 2 ^ 32 }
+    ensures { Advances T.may port.old port.new (H.machine machine.old) (H.machine machine.new) guest.old guest.new result steps }
 {
-    let mut at = Progress {
-        left: steps,
-        failed: false,
-    };
-    while at.left > 0 && is_running(guest) {
-        at = turn(machine, lines, guest, counts, at);
+    let mut counts = Counts::none();
+    let mut left = steps;
+    while left > 0 && is_running(guest) {
+        left = turn(machine, port, guest, &mut counts, left);
     }
-    let left = at.left;
     counts.stopped += u64::from(left);
-    at.failed
+    counts
 }

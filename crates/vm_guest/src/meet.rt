@@ -1,11 +1,13 @@
 ghost use Rattle.std.specs.Prelude.{◌≡◌, ◌<◌, ◌+◌, ◌%◌, ◌^◌, ◌++◌, List, [], ◌∷◌, ℕ, slice_index, slice_set, Some};
 ghost use Rattle.vm_guest.specs.Exits.{behind_trap, met};
-ghost use Rattle.vm_guest.specs.Kept.{guest_of, steps_in, TakesStep};
+ghost use Rattle.vm_guest.specs.Kept.{AreSame, steps_in, TakesStep};
+ghost use Rattle.vm_state.specs.Partition.{guest_of};
 ghost use Rattle.vm_state.specs.Step.{sensitive, showed, stop_text};
 
-use crate::{Counts, GuestState};
+use crate::Counts;
 use vax_alu::{AluOp, alu};
 use vax_hw::{Exit, Psl, Sens, Trapped};
+use vm_state::GuestState;
 use vv_base::{Text, Width, hex};
 
 /// Stop codes: HALT; an exception that isn't built; a reference beyond memory.
@@ -55,7 +57,7 @@ fn registers_behind(trapped: &Trapped) -> [u32; 16]
 /// MTPR to the console's transmit register: shows the low byte of the value, sets the codes of a move, and goes on.
 fn show(guest: &mut GuestState, trapped: &Trapped) -> Text<16>
     ensures guest { (memory : List ℕ) → guest_of memory guest.new ≡ (showed (guest_of memory guest.old) trapped.now).guest }
-    ensures pages { guest.new.pages ≡ guest.old.pages }
+    ensures place { AreSame guest.old guest.new }
     ensures text { result ≡ trapped.now.a % 256 ∷ [] }
 {
     let value = trapped.a;
@@ -91,7 +93,7 @@ fn fault(guest: &mut GuestState, counts: &mut Counts, code: u8) -> Text<16>
 /// The guest stops behind an instruction that had an arithmetic trap, and the message says so.
 pub fn stop_behind_trap(guest: &mut GuestState) -> Text<16>
     ensures guest { (memory : List ℕ) → guest_of memory guest.new ≡ (behind_trap (guest_of memory guest.old)).guest }
-    ensures pages { guest.new.pages ≡ guest.old.pages }
+    ensures place { AreSame guest.old guest.new }
     ensures text { result ≡ stop_text 0x0f (slice_index guest.old.r 15) }
 {
     let pc = guest.r[15];
@@ -102,7 +104,7 @@ pub fn stop_behind_trap(guest: &mut GuestState) -> Text<16>
 pub fn meet(guest: &mut GuestState, counts: &mut Counts, exit: &Exit) -> Text<16>
     requires { steps_in counts.old + 1 < 2 ^ 32 }
     ensures step { (memory : List ℕ) → TakesStep memory guest.old guest.new counts.old counts.new result (met (guest_of memory guest.old) exit.now) }
-    ensures pages { guest.new.pages ≡ guest.old.pages }
+    ensures place { AreSame guest.old guest.new }
     ensures counts { steps_in counts.new ≡ steps_in counts.old + 1 }
     ensures plain { counts.new.plain ≡ counts.old.plain }
     ensures trail { counts.new.trail ≡ counts.old.trail }
@@ -122,7 +124,7 @@ pub fn meet(guest: &mut GuestState, counts: &mut Counts, exit: &Exit) -> Text<16
 fn meet_trap(guest: &mut GuestState, counts: &mut Counts, trapped: &Trapped) -> Text<16>
     requires { steps_in counts.old + 1 < 2 ^ 32 }
     ensures step { (memory : List ℕ) → TakesStep memory guest.old guest.new counts.old counts.new result (sensitive (guest_of memory guest.old) trapped.now trapped.now.op) }
-    ensures pages { guest.new.pages ≡ guest.old.pages }
+    ensures place { AreSame guest.old guest.new }
     ensures counts { steps_in counts.new ≡ steps_in counts.old + 1 }
     ensures plain { counts.new.plain ≡ counts.old.plain }
     ensures trail { counts.new.trail ≡ counts.old.trail }

@@ -1,5 +1,5 @@
 -- How a guest begins (VAX Architecture Reference Manual: processor initialization; the addresses are the profile's).
-use Rattle.std.specs.Prelude.{ℕ, ◌+◌, ◌-◌, List, [], ◌∷◌, ◌++◌, length, replicate, None}
+use Rattle.std.specs.Prelude.{ℕ, ◌+◌, ◌-◌, List, [], ◌∷◌, ◌++◌, length, replicate, Bool, None}
 use Rattle.vm_state.specs.Guest.{Guest}
 use Rattle.vm_state.specs.declared.guest_state.GuestState.{GuestState}
 
@@ -20,5 +20,17 @@ abbrev pub started : List ℕ → ℕ → Guest
 started memory start = record { memory = memory; r = start_registers start; psl = start_psl; halt = None }
 
 -- what is kept of it beside its memory
-abbrev pub start_state : ℕ → ℕ → GuestState
-start_state pages start = record { r = start_registers start; psl = record { 0 = start_psl }; halt = None; pages = pages }
+abbrev pub start_state : (pages base start : ℕ) → Bool → GuestState
+start_state pages base start modify_faults = record {
+  r = start_registers start;
+  psl = record { 0 = start_psl };
+  halt = None;
+  pages = pages;
+  base = base;
+  start = start;
+  modify_faults = modify_faults;
+}
+
+-- it starts again
+abbrev pub restarted : GuestState → GuestState
+restarted g = start_state g.pages g.base g.start g.modify_faults

@@ -2,5 +2,7 @@
 #![tactic(auto)]
 
 mod guest_state;
+mod laws;
 
 pub use guest_state::GuestState;
+pub use laws::steps_show_few;

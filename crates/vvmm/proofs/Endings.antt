@@ -3,7 +3,7 @@ use Rattle.std.proofs.Common.{ℕ, ◌≡◌, ◌≤◌, List, length, Bool, Opt
 use Rattle.std.specs.declared.alloc.Global.{Global}
 use Rattle.vv_io.specs.Shelf.{File, Answers, holding, file_limit}
 use Rattle.vm_state.specs.Run.{Tally}
-use Rattle.vvmm.specs.Answer.{Outside, IsHeld, Made, Closes, Ends, Follows}
+use Rattle.vvmm.specs.Answer.{Outside, IsHeld, Made, Closes, Ends, Follows, failed_line}
 use Rattle.vvmm.specs.Solo.{Asked, solo_run, summary}
 use Rattle.vvmm.specs.declared.status.Status.{Status}
 use Rattle.vvmm.specs.declared.status.Status.TheVariants.{Done, Words, Missing, TooLong, ShelfFault, Image, Device, OutFault, NoMemory}
@@ -17,18 +17,18 @@ pub within_of : (files : Option (List File)) (name : List ℕ) (before now : ℕ
 within_of None name before now bytes image is h = subst (λ x. length x ≤ file_limit) (sym is) h
 within_of (Some files) name before now bytes image is h = subst (λ x. length x ≤ file_limit) (sym is) h.1
 
-by_status : (a : Asked) (image : List ℕ) (failed : Bool) (status : Status) (o : Outside) → Ends a image failed status o → Follows a status o
-by_status a image failed Done o h = (image, failed, h)
-by_status a image failed (Device d) o h = (image, failed, h)
-by_status a image failed OutFault o h = (image, failed, h)
-by_status a image failed Words o h = absurd h.1
-by_status a image failed (Missing name) o h = absurd h.1
-by_status a image failed (TooLong name) o h = absurd h.1
-by_status a image failed ShelfFault o h = absurd h.1
-by_status a image failed (Image guest) o h = absurd h.1
-by_status a image failed NoMemory o h = absurd h.1
+by_status : (a : Asked) (image : List ℕ) (console dump : Bool) (status : Status) (o : Outside) → Ends a image console dump status o → Follows a status o
+by_status a image console dump Done o h = (image, console, dump, h)
+by_status a image console dump (Device d) o h = (image, console, dump, h)
+by_status a image console dump OutFault o h = (image, console, dump, h)
+by_status a image console dump Words o h = absurd h.1
+by_status a image console dump (Missing name) o h = absurd h.1
+by_status a image console dump (TooLong name) o h = absurd h.1
+by_status a image console dump ShelfFault o h = absurd h.1
+by_status a image console dump (Image guest) o h = absurd h.1
+by_status a image console dump NoMemory o h = absurd h.1
 
-pub closes_follows : (a : Asked) (image : List ℕ) (failed : Bool) (status : Status) (o : Outside) (tally : Tally) → Made o a image failed → tally ≡ (solo_run image a.steps).tally → Closes status failed o.out o.out' (summary a.steps tally) → Follows a status o
-closes_follows a image failed status o tally made tallies closes =
-    let Q : Tally → Type 0 = λ t. Closes status failed o.out o.out' (summary a.steps t) in
-    by_status a image failed status o (made, subst Q tallies closes)
+pub closes_follows : (a : Asked) (image : List ℕ) (console dump : Bool) (status : Status) (o : Outside) (tally : Tally) → Made o a image console dump → tally ≡ (solo_run image a.steps).tally → Closes status (failed_line console dump) o.out o.out' (summary a.steps tally) → Follows a status o
+closes_follows a image console dump status o tally made tallies closes =
+    let Q : Tally → Type 0 = λ t. Closes status (failed_line console dump) o.out o.out' (summary a.steps t) in
+    by_status a image console dump status o (made, subst Q tallies closes)

@@ -9,14 +9,13 @@ use Rattle.vvmm.specs.declared.status.Device.TheVariants as devices
 use Rattle.vvmm.specs.declared.status.Status.{Status}
 use Rattle.vvmm.specs.declared.status.Status.TheVariants.{Done, Missing, TooLong, Device as DeviceFault, NoMemory}
 
--- the console's line
-abbrev pub line_0 : List Seen → Seen
-line_0 lines = slice_index_or lines 0 unseen
+abbrev pub line_at : List Seen → ℕ → Seen
+line_at lines k = slice_index_or lines k unseen
 
 -- no count of faults rose
 pub record NoneRose (o : Outside) : Type 0 where
   pub shelf : Rose o.shelf o.shelf' → ⊥
-  pub line : Rose (line_0 o.lines).faults (line_0 o.lines').faults → ⊥
+  pub lines : (k : ℕ) → Rose (line_at o.lines k).faults (line_at o.lines' k).faults → ⊥
   pub out : Rose o.out.faults o.out'.faults → ⊥
 
 -- all was done, or memory ran out before the run
@@ -35,9 +34,10 @@ IsTooLong a (TooLong name) = name ≡ a.image
 IsTooLong a NoMemory = Unit {0}
 IsTooLong a status = ⊥
 
-abbrev pub NamesLine : Status → Type 0
-NamesLine (DeviceFault device) = device ≡ devices.Line 0
-NamesLine status = ⊥
+-- a line is named, of a number up to k
+abbrev pub NamesLine : ℕ → Status → Type 0
+NamesLine k (DeviceFault device) = (line : ℕ) × (device ≡ devices.Line line) × (line ≤ k)
+NamesLine k status = ⊥
 
 -- good words, a held file within the limit, an image that fits and no risen count are served
 abbrev pub Completes : Type 0
@@ -53,6 +53,6 @@ abbrev pub TellsTooLong : Type 0
 TellsTooLong = (a : Asked) (status : Status) (o : Outside) (files : List File) (image : List ℕ) → Follows a status o → o.files ≡ Some files → held files a.image ≡ Some image → file_limit < length image
     → (Rose o.shelf o.shelf' → ⊥) → IsTooLong a status
 
--- a line whose count is greater is named
+-- where a line's count is greater, it is named or one of a lower number
 abbrev pub TellsDevice : Type 0
-TellsDevice = (a : Asked) (status : Status) (o : Outside) → Follows a status o → (line_0 o.lines).faults < (line_0 o.lines').faults → NamesLine status
+TellsDevice = (a : Asked) (status : Status) (o : Outside) (k : ℕ) → Follows a status o → (line_at o.lines k).faults < (line_at o.lines' k).faults → NamesLine k status

@@ -16,7 +16,7 @@ pub fn too_long_is_told()
     ensures { TellsTooLong }
 {}
 
-/// Where line 0's count is greater behind the call, the answer names it.
+/// Where a line's count is greater behind the call, the answer names it or one of a lower number.
 pub fn a_failed_line_is_told()
     ensures { TellsDevice }
 {}

@@ -3,6 +3,7 @@
 
 mod edge;
 mod laws;
+mod lines;
 mod report;
 mod status;
 #[cfg(test)]
@@ -23,7 +24,7 @@ use vv_io::{Drive, EmptyDrive, Line};
 
 const HELP: &str =
     "vvmm solo IMAGE STEPS   runs the file IMAGE as one guest for STEPS steps, 1 to 100000;
-                        the guest's console is the file line00.out
+                        the guest's console is the file line00.out, its dump line01.out
 vvmm --help             prints this
 vvmm --version          prints the version
 ";

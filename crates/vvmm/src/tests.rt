@@ -88,6 +88,45 @@ const RUNS: [(&[u8], &str, &str, &str); 12] = [
     ),
 ];
 
+/// Row by row: an image, a number of steps, and the dump.
+const DUMPS: [(&[u8], &str, &str); 3] = [
+    // HALT alone leaves no row to show
+    (
+        &[],
+        "1",
+        "VM A\r\nR0 00000000\r\nR1 00000000\r\nR2 00000000\r\nR3 00000000\r\n\
+         R4 00000000\r\nR5 00000000\r\nR6 00000000\r\nR7 00000000\r\n\
+         R8 00000000\r\nR9 00000000\r\nR10 00000000\r\nR11 00000000\r\n\
+         R12 00000000\r\nR13 00000000\r\nR14 00000000\r\nR15 00000201\r\n\
+         PSL 041F0000\r\n",
+    ),
+    (
+        &[0xD0, 0x01, 0x50, 0],
+        "2",
+        "VM A\r\nR0 00000001\r\nR1 00000000\r\nR2 00000000\r\nR3 00000000\r\n\
+         R4 00000000\r\nR5 00000000\r\nR6 00000000\r\nR7 00000000\r\n\
+         R8 00000000\r\nR9 00000000\r\nR10 00000000\r\nR11 00000000\r\n\
+         R12 00000000\r\nR13 00000000\r\nR14 00000000\r\nR15 00000204\r\n\
+         PSL 041F0000\r\n\
+         00000200 D0 01 50 00 00 00 00 00 00 00 00 00 00 00 00 00\r\n",
+    ),
+    // a call and its return: the frame stays below 1000
+    (
+        &[
+            0xD0, 0x8F, 0, 0x10, 0, 0, 0x5E, 0xFB, 0, 0xAF, 1, 0, 0, 0, 4,
+        ],
+        "4",
+        "VM A\r\nR0 00000000\r\nR1 00000000\r\nR2 00000000\r\nR3 00000000\r\n\
+         R4 00000000\r\nR5 00000000\r\nR6 00000000\r\nR7 00000000\r\n\
+         R8 00000000\r\nR9 00000000\r\nR10 00000000\r\nR11 00000000\r\n\
+         R12 00000000\r\nR13 00000000\r\nR14 00001000\r\nR15 0000020C\r\n\
+         PSL 041F0000\r\n\
+         00000200 D0 8F 00 10 00 00 5E FB 00 AF 01 00 00 00 04 00\r\n\
+         00000FE0 00 00 00 00 00 00 00 00 00 00 00 00 00 00 00 20\r\n\
+         00000FF0 00 00 00 00 00 00 00 00 0B 02 00 00 00 00 00 00\r\n",
+    ),
+];
+
 /// Copies a text byte by byte, finds the factorial of 4 by calls of a procedure by itself, goes by CASE on it, and shows
 /// the copy's first byte.
 const WORKED: &[u8] = &[
@@ -128,14 +167,30 @@ fn words_of(alloc: Global, text: &str) -> Result<Vec<String>, NoMemory> {
     Ok(words)
 }
 
-/// One run of the top call over objects in memory: what it answered, line 0's bytes, and the summary.
+/// One run of the top call over objects in memory: what it answered, the bytes of lines 0 and 1, and the summary.
 #[derive(Drop)]
 struct Told {
     code: u8,
     text: Vec<u8>,
     line: Vec<u8>,
+    dump: Vec<u8>,
     out: Vec<u8>,
 }
+
+/// Where lines 0 and 1 and the summary's sink are cut.
+#[derive(Clone, Copy)]
+struct Cuts {
+    line: Option<Cut>,
+    dump: Option<Cut>,
+    out: Option<Cut>,
+}
+
+/// No cut.
+const WHOLE: Cuts = Cuts {
+    line: None,
+    dump: None,
+    out: None,
+};
 
 fn cut_at(alloc: Global, cut: Option<Cut>) -> Result<Vec<Cut>, NoMemory> {
     let mut cuts = Vec::new(alloc);
@@ -145,35 +200,38 @@ fn cut_at(alloc: Global, cut: Option<Cut>) -> Result<Vec<Cut>, NoMemory> {
     Ok(cuts)
 }
 
-/// What line 0 tells.
-fn console(alloc: Global, lines: &[Box<dyn Line>]) -> Result<Vec<u8>, NoMemory> {
-    let [line, ..] = lines else {
-        return Ok(Vec::new(alloc));
-    };
-    Ok(line.told().unwrap_or(b"").to_vec(alloc)?)
+/// What a line tells.
+fn shown_on(alloc: Global, lines: &[Box<dyn Line>], k: usize) -> Result<Vec<u8>, NoMemory> {
+    match lines.get(k) {
+        Some(line) => Ok(line.told().unwrap_or(b"").to_vec(alloc)?),
+        None => Ok(Vec::new(alloc)),
+    }
 }
 
-/// Runs the words over a shelf, with line 0 and `out` cut as said.
+/// Runs the words over a shelf, with lines and `out` cut as said.
 fn run_words(
     rt: &impl Abort,
     machine: &mut Cpu,
     alloc: Global,
     words: &str,
     mut shelf: MemShelf,
-    line: Option<Cut>,
-    out: Option<Cut>,
+    cuts: Cuts,
 ) -> Result<Told, NoMemory> {
     assert_eq!(rt; machine.pages(), PAGES);
     let mut lines: Vec<Box<dyn Line>> = Vec::new(alloc);
-    lines.push(Box::new(alloc, MemLine::new(alloc, 100, cut_at(alloc, line)?)?)?)?;
-    for _number in 1..32u8 {
+    lines.push(Box::new(alloc, MemLine::new(alloc, 100, cut_at(alloc, cuts.line)?)?)?)?;
+    lines.push(Box::new(
+        alloc,
+        MemLine::new(alloc, 300_000, cut_at(alloc, cuts.dump)?)?,
+    )?)?;
+    for _number in 2..32u8 {
         lines.push(Box::new(alloc, MemLine::new(alloc, 0, Vec::new(alloc))?)?)?;
     }
     let mut drives: Vec<Box<dyn Drive>> = Vec::new(alloc);
     for _number in 0..16u8 {
         drives.push(Box::new(alloc, EmptyDrive)?)?;
     }
-    let mut out = MemLine::new(alloc, 200, cut_at(alloc, out)?)?;
+    let mut out = MemLine::new(alloc, 200, cut_at(alloc, cuts.out)?)?;
     let status = vvmm_run(
         alloc,
         &words_of(alloc, words)?,
@@ -186,7 +244,8 @@ fn run_words(
     Ok(Told {
         code: status_code(&status),
         text: status_text(&status).bytes().to_vec(alloc)?,
-        line: console(alloc, &lines)?,
+        line: shown_on(alloc, &lines, 0)?,
+        dump: shown_on(alloc, &lines, 1)?,
         out: out.shown().to_vec(alloc)?,
     })
 }
@@ -214,12 +273,31 @@ fn images_run_as_worked_out(rt: HostRuntime) -> Result<(), Fail> {
             alloc,
             words.as_str(),
             shelf_of(alloc, image, None)?,
-            None,
-            None,
+            WHOLE,
         )?;
         assert_eq!(rt; seen.code, 0);
         assert_eq!(rt; seen.line.as_slice(), line.as_bytes());
         assert_eq!(rt; seen.out.as_slice(), out.as_bytes());
+    }
+    Ok(())
+}
+
+#[test]
+fn dumps_show_registers_and_rows(rt: HostRuntime) -> Result<(), Fail> {
+    let alloc = rt.alloc();
+    let mut machine = Cpu::new(alloc, PAGES)?;
+    for (image, steps, dump) in DUMPS {
+        let words = format!(in alloc; "solo x {steps}")?;
+        let seen = run_words(
+            &rt,
+            &mut machine,
+            alloc,
+            words.as_str(),
+            shelf_of(alloc, image, None)?,
+            WHOLE,
+        )?;
+        assert_eq!(rt; seen.code, 0);
+        assert_eq!(rt; seen.dump.as_slice(), dump.as_bytes());
     }
     Ok(())
 }
@@ -249,12 +327,12 @@ fn each_answer_has_its_cause(rt: HostRuntime) -> Result<(), Fail> {
             alloc,
             words,
             shelf_of(alloc, image, failing)?,
-            None,
-            None,
+            WHOLE,
         )?;
         assert_eq!(rt; seen.code, code, "{words}");
         assert_eq!(rt; seen.text.as_slice(), text.as_bytes());
         assert_eq!(rt; seen.line.len(), 0);
+        assert_eq!(rt; seen.dump.is_empty(), code != 0);
         assert_eq!(rt; seen.out.is_empty(), code != 0);
     }
     Ok(())
@@ -265,16 +343,84 @@ fn a_failing_device_harms_itself_alone(rt: HostRuntime) -> Result<(), Fail> {
     let alloc = rt.alloc();
     let mut machine = Cpu::new(alloc, PAGES)?;
     let (image, _, line, out) = RUNS[0];
-    let first = |after| Some(Cut { call: 1, after });
-    let second = |after| Some(Cut { call: 2, after });
-    for (cut, out_cut, code, text, shows, says) in [
-        (first(0), None, 10, "device line 0", 0, out.len()),
-        (first(1), None, 10, "device line 0", 1, out.len()),
-        (second(0), None, 10, "device line 0", 1, out.len()),
-        (second(1), None, 10, "device line 0", 2, out.len()),
-        (second(99), None, 10, "device line 0", line.len(), out.len()),
-        (None, first(7), 11, "output fault", line.len(), 7),
-        (second(5), first(0), 10, "device line 0", 6, 0),
+    let cut = |call, after| Some(Cut { call, after });
+    // the console has 15 bytes, the first line of the dump 6, and its last begins behind byte 234 and has 58
+    for (line_cut, dump_cut, out_cut, code, text, shows, dumps, says) in [
+        (
+            cut(1, 0),
+            None,
+            None,
+            10,
+            "device line 0",
+            0,
+            292,
+            out.len(),
+        ),
+        (
+            cut(1, 1),
+            None,
+            None,
+            10,
+            "device line 0",
+            1,
+            292,
+            out.len(),
+        ),
+        (
+            cut(2, 0),
+            None,
+            None,
+            10,
+            "device line 0",
+            1,
+            292,
+            out.len(),
+        ),
+        (
+            cut(2, 9),
+            None,
+            None,
+            10,
+            "device line 0",
+            2,
+            292,
+            out.len(),
+        ),
+        (
+            cut(15, 0),
+            None,
+            None,
+            10,
+            "device line 0",
+            14,
+            292,
+            out.len(),
+        ),
+        (None, cut(1, 0), None, 10, "device line 1", 15, 0, out.len()),
+        (None, cut(2, 3), None, 10, "device line 1", 15, 9, out.len()),
+        (
+            None,
+            cut(19, 8),
+            None,
+            10,
+            "device line 1",
+            15,
+            242,
+            out.len(),
+        ),
+        (
+            cut(3, 0),
+            cut(1, 4),
+            None,
+            10,
+            "device line 0",
+            2,
+            4,
+            out.len(),
+        ),
+        (None, None, cut(1, 7), 11, "output fault", 15, 292, 7),
+        (cut(2, 5), None, cut(1, 0), 10, "device line 0", 2, 292, 0),
+        (None, cut(1, 0), cut(1, 0), 10, "device line 1", 15, 0, 0),
     ] {
         let seen = run_words(
             &rt,
@@ -282,8 +428,11 @@ fn a_failing_device_harms_itself_alone(rt: HostRuntime) -> Result<(), Fail> {
             alloc,
             "solo x 10",
             shelf_of(alloc, image, None)?,
-            cut,
-            out_cut,
+            Cuts {
+                line: line_cut,
+                dump: dump_cut,
+                out: out_cut,
+            },
         )?;
         assert_eq!(rt; seen.code, code);
         assert_eq!(rt; seen.text.as_slice(), text.as_bytes());
@@ -291,6 +440,7 @@ fn a_failing_device_harms_itself_alone(rt: HostRuntime) -> Result<(), Fail> {
             seen.line.as_slice(),
             line.as_bytes().get(..shows).unwrap_or(b"")
         );
+        assert_eq!(rt; seen.dump.len(), dumps);
         assert_eq!(rt;
             seen.out.as_slice(),
             out.as_bytes().get(..says).unwrap_or(b"")

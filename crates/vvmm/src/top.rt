@@ -1,15 +1,21 @@
-ghost use Rattle.std.specs.Prelude.{◌≡◌, ◌<◌, ◌≤◌, ◌*◌, ◌+◌, ◌%◌, ◌^◌, List, ℕ, map, string_bytes, length, vec_len};
+ghost use Rattle.std.specs.Prelude.{◌≡◌, ◌<◌, ◌≤◌, ◌*◌, ◌+◌, ◌%◌, ◌^◌, List, ℕ, [], codes, false, map, string_bytes, length, vec_len};
+ghost use Rattle.vm_console.specs.Kept.{empty};
 ghost use Rattle.vm_guest.specs.Kept.{tally_of};
-ghost use Rattle.vm_guest.specs.Showing.{IsShowing, Showing};
-ghost use Rattle.vvmm.specs.Answer.{Closes, Follows, Outside, Says};
+ghost use Rattle.vm_state.specs.Start.{start_state};
+ghost use Rattle.vvmm.specs.Answer.{Closes, Follows, Outside, Says, Shown, failed_line};
 ghost use Rattle.vvmm.specs.Solo.{asked, solo_run, summary};
 
+use crate::lines::{dump_on, put_each, put_once};
 use crate::report::summary;
 use crate::status::{Device, Status};
 use crate::words::{Order, parse};
 use std::alloc::Global;
+use sys_boot::load_image;
 use vax_hw::Hardware;
-use vm_guest::{Counts, GuestState, advance, load_image};
+use vm_console::KeptPort;
+use vm_guest::{Counts, advance_state};
+use vm_state::GuestState;
+use vv_base::Name;
 use vv_io::{Drive, Line, Shelf, ShelfFault, Sink};
 
 /// The guest's pages, and the address at which it is loaded and started.
@@ -20,63 +26,91 @@ const LOAD: u32 = 0x200;
 /// The greatest image that fits the guest's memory, in bytes.
 const MOST: usize = 65_024;
 
-/// What a run came to: its counts, and whether line 0 has failed.
+/// The console's line, and the dump's.
+const CONSOLE: u8 = 0;
+
+const DUMP: u8 = 1;
+
+/// What a console shows in 100,000 steps at most, in bytes: 14 a step.
+const MOST_SHOWN: usize = 1_400_000;
+
+/// What a run came to: its counts, and which of its lines failed.
 #[derive(Clone, Copy, Debug, PartialEq, Eq)]
 struct Outcome {
     counts: Counts,
-    failed: bool,
+    console_failed: bool,
+    dump_failed: bool,
 }
 
-/// Loads an image and makes its run.
+/// The guest's name.
+fn guest_name() -> Name
+    ensures { result ≡ codes "A" }
+{
+    let mut name = Name::new();
+    let _ = name.push(b'A');
+    name
+}
+
+/// The guest A, that begins at the machine's first page.
+fn first_guest() -> GuestState
+    ensures { result ≡ start_state PAGES 0 LOAD false }
+{
+    let mut guest = GuestState::new(PAGES, 0, LOAD, false);
+    guest.reset();
+    guest
+}
+
+/// Loads an image, makes its run, and shows it.
 fn make_run<H: Hardware>(
     machine: &mut H,
+    port: &mut KeptPort<MOST_SHOWN>,
     lines: &mut Vec<Box<dyn Line>>,
     image: &[u8],
     steps: u32,
 ) -> Outcome
     requires pages { length (H.machine machine.old).memory ≡ 512 * 32768 }
-    requires line { 0 < vec_len lines.old }
+    requires empty { port.old ≡ empty }
+    requires lines { vec_len lines.old ≡ 32 }
     requires fits { 512 + length image.now ≤ 65536 }
     requires few { steps ≤ 100000 }
-    ensures line { IsShowing 0 result.failed (map (λ b. seen b) lines.old.items) (map (λ b. seen b) lines.new.items) (solo_run image.now steps).shown }
+    ensures lines { Shown result.console_failed result.dump_failed (map (λ b. seen b) lines.old.items) (map (λ b. seen b) lines.new.items) (solo_run image.now steps) }
     ensures counts { tally_of result.counts ≡ (solo_run image.now steps).tally }
     ensures retired { (H.machine machine.new).retired % 2 ^ 64 ≡ ((H.machine machine.old).retired + result.counts.plain) % 2 ^ 64 }
     ensures trail { (H.machine machine.new).trail % 2 ^ 64 ≡ ((H.machine machine.old).trail + result.counts.trail) % 2 ^ 64 }
 {
-    load_image(machine, PAGES, LOAD, image);
-    let mut guest = GuestState::started(PAGES, LOAD);
-    let mut counts = Counts {
-        plain: 0,
-        sensitive: 0,
-        faults: 0,
-        interrupts: 0,
-        modify: 0,
-        idle: 0,
-        stopped: 0,
-        trail: 0,
-    };
-    let failed = advance(machine, lines, &mut guest, &mut counts, steps);
-    Outcome { counts, failed }
+    let mut guest = first_guest();
+    load_image(machine, &guest, LOAD, image);
+    let counts = advance_state(machine, port, &mut guest, steps);
+    let console_failed = put_each(lines, CONSOLE as usize, port.bytes()).is_err();
+    let dump_failed = dump_on(machine, &guest_name(), &guest, lines, DUMP as usize).is_err();
+    Outcome {
+        counts,
+        console_failed,
+        dump_failed,
+    }
 }
 
-/// Puts bytes once, and answers whether that failed.
-fn has_failed<O: Sink>(out: &mut O, bytes: &[u8]) -> bool
-    ensures { Showing result (O.printed out.old) (O.printed out.new) bytes.now }
+/// The first line that failed.
+fn failed_line(outcome: &Outcome) -> Option<u8>
+    ensures { result ≡ failed_line outcome.now.console_failed outcome.now.dump_failed }
 {
-    match out.put(bytes) {
-        Ok(()) => false,
-        Err(_) => true,
+    if outcome.console_failed {
+        return Some(CONSOLE);
     }
+    if outcome.dump_failed {
+        return Some(DUMP);
+    }
+    None
 }
 
 /// Puts the summary of a run, and answers.
 fn close<O: Sink>(outcome: &Outcome, steps: u32, out: &mut O) -> Status
-    ensures { Closes result outcome.now.failed (O.printed out.old) (O.printed out.new) (summary steps (tally_of outcome.now.counts)) }
+    ensures { Closes result (failed_line outcome.now.console_failed outcome.now.dump_failed) (O.printed out.old) (O.printed out.new) (summary steps (tally_of outcome.now.counts)) }
 {
     let text = summary(steps, &outcome.counts);
-    let is_cut = has_failed(out, text.bytes());
-    if outcome.failed {
-        return Status::Device(Device::Line(0));
+    let is_cut = put_once(out, text.bytes()).is_err();
+    if let Some(line) = failed_line(outcome) {
+        return Status::Device(Device::Line(line));
     }
     if is_cut {
         return Status::OutFault;
@@ -109,7 +143,10 @@ fn solo<H: Hardware, S: Shelf, O: Sink>(
     if image.len() > MOST {
         return Status::Image(0);
     }
-    let outcome = make_run(machine, lines, &image, order.steps);
+    let Ok(mut port) = KeptPort::new(alloc) else {
+        return Status::NoMemory;
+    };
+    let outcome = make_run(machine, &mut port, lines, &image, order.steps);
     close(&outcome, order.steps, out)
 }
 

@@ -1,0 +1,4 @@
+pub mod Images
+pub mod Lines
+pub mod Parts
+pub mod Puts

@@ -1,0 +1,6 @@
+ghost use Rattle.vm_state.specs.Laws.{ShowsFew};
+
+/// A guest shows at most 14 bytes a step.
+pub fn steps_show_few()
+    ensures { ShowsFew }
+{}
