@@ -1,0 +1,4 @@
+pub mod Accepted
+pub mod Dumps
+pub mod Kept
+pub mod Steps

@@ -1,0 +1,17 @@
+-- Non-interference, as far as dumps go: what may not flow to an observer might never have been there
+-- (Goguen and Meseguer, Security policies and security models, 1982).
+use Rattle.std.specs.Prelude.{ℕ, ◌≡◌, true, All}
+use Rattle.vv_class.specs.declared.class.AccessClass.{AccessClass}
+use Rattle.sys_objects.specs.declared.records.Config.{Config}
+use Rattle.sys_purge.specs.Input.{Input, dump_of_run, is_kept, purged}
+use Rattle.sys_rounds.specs.Places.{is_at}
+
+-- a guest that is dumped on the line flows into the class
+abbrev pub FlowsInto : Config → ℕ → AccessClass → Type 0
+FlowsInto c line to = All (λ g. is_at line g.dump ≡ true → is_kept to g ≡ true) c.guests
+
+abbrev pub KeepsDumps : Type 0
+KeepsDumps = (x : Input) (to : AccessClass) (n line : ℕ) → FlowsInto x.config line to → dump_of_run (purged x to) n line ≡ dump_of_run x n line
+
+abbrev pub DependOnPurges : Type 0
+DependOnPurges = (x y : Input) (to : AccessClass) (n line : ℕ) → purged x to ≡ purged y to → FlowsInto x.config line to → FlowsInto y.config line to → dump_of_run x n line ≡ dump_of_run y n line

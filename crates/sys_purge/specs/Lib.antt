@@ -1,0 +1,4 @@
+pub mod Input
+pub mod Laws
+pub mod Purge
+pub mod ShownPurge

@@ -1,0 +1,11 @@
+//! The purge of a configuration: what of it may flow to an observer.
+#![tactic(auto)]
+
+mod laws;
+mod purge;
+
+pub use laws::{a_purge_keeps_dumps, dumps_depend_on_what_flows, purged_is_accepted};
+pub use purge::purge_config;
+
+#[cfg(test)]
+mod tests;
