@@ -1,7 +1,7 @@
 -- The purge of an accepted configuration is accepted.
-use Rattle.std.proofs.Common.{◌≡◌, ◌≢◌, ◌<◌, ℕ, List, [], ◌∷◌, ◌++◌, length, map, filter, Bool, true, false, ◌==◌, refl, sym, ap, ◌∙◌, get_or, All, Option, Some, None, IfSome, slice_get, inl, inr, arith}
+use Rattle.std.proofs.Common.{◌≡◌, ◌≢◌, ◌<◌, ℕ, List, [], ◌∷◌, ◌++◌, length, map, filter, Bool, true, false, ◌==◌, refl, ap, ◌∙◌, get_or, All, Option, Some, None, IfSome, slice_get, inl, inr, arith}
 use Rattle.std.specs.List.{AllPairs, filter_map}
-use Rattle.std.proofs.lemmas.Bool.{eqb-true, eq-eqb, and_parts, false≢true}
+use Rattle.std.proofs.lemmas.Bool.{eqb-true, and_parts, false≢true}
 use Rattle.std.proofs.lemmas.List.{length-map}
 use Rattle.std.proofs.lemmas.List.Elements.{All-filter, All-map, filter_passes}
 use Rattle.std.proofs.lemmas.List.Kept.{AllPairs-filter}
@@ -20,12 +20,13 @@ use Rattle.sys_objects.specs.Rules.{objects_of, lines_of, audit_line, terminal_o
 use Rattle.sys_objects.specs.Condition.{IsConfig, IsTerminal, IsVolume, IsPrinter, IsGuest, IsAudit, MayHave}
 use Rattle.sys_objects.proofs.Judged.{names_objects}
 use Rattle.sys_purge.specs.Purge.{rank, console_place, place_if, printer_place, mount_place, renumbered, kept_audit, purge_config}
-use Rattle.sys_purge.proofs.Kept.{both, Part, part_all, part_pairs, part_append, part_filter, part_changed, pairs_map, sum_kept, few_kept, get_kept, rank_apart}
+use Rattle.sys_purge.proofs.Kept.{both, Part, part_all, part_pairs, part_append, part_filter, part_changed, pairs_map, sum_kept, few_kept, get_kept}
+use Rattle.sys_purge.proofs.Places.{rank_same}
 
 flows_on : (a b c : AccessClass) → does_flow a b ≡ true → does_flow b c ≡ true → does_flow a c ≡ true
 flows_on a b c f g = (flow_is a c).1 (flow_transitive a b c ((flow_is a b).0 f) ((flow_is b c).0 g))
 
-same_is : (a b : AccessClass) → same_class a b ≡ true → a ≡ b
+pub same_is : (a b : AccessClass) → same_class a b ≡ true → a ≡ b
 same_is a b h =
     let p = and_parts _ _ h in let q = and_parts _ _ p.0 in let r = and_parts _ _ q.0 in
     let secrecy = eqb-true a.secrecy b.secrecy r.0 in
@@ -48,7 +49,7 @@ part_dumps change test same (g ∷ gs) =
         (λ e. rw (e, some) (inl ih))
 
 module _ (c : Config) (to : AccessClass) where
-  abbrev terminal_kept : Terminal → Bool
+  abbrev pub terminal_kept : Terminal → Bool
   terminal_kept t = does_flow t.class to
 
   abbrev volume_kept : VolumeRow → Bool
@@ -127,9 +128,7 @@ module _ (c : Config) (to : AccessClass) where
     kept : does_flow g.class to ≡ true
 
   ranks_differ : (a b : AccessClass) (j k : ℕ) → TerminalAt a j → TerminalAt b k → (j == k) ≡ false → (rank terminal_kept c.terminals j == rank terminal_kept c.terminals k) ≡ false
-  ranks_differ a b j k x y apart = both (rank terminal_kept c.terminals j == rank terminal_kept c.terminals k)
-      (λ e. absurd (false≢true (sym apart ∙ eq-eqb j k (rank_apart terminal_kept x.terminal y.terminal x.kept y.kept c.terminals j k x.at y.at (eqb-true (rank terminal_kept c.terminals j) (rank terminal_kept c.terminals k) e)))))
-      (λ e. e)
+  ranks_differ a b j k x y apart = rank_same terminal_kept x.terminal y.terminal x.kept y.kept c.terminals j k x.at y.at ∙ apart
 
   places_differ : (a b : AccessClass) → does_flow a to ≡ true → does_flow b to ≡ true → (o p : Option ℕ) → may_connect c.terminals a o ≡ true → may_connect c.terminals b p ≡ true → same_place o p ≡ false → same_place (console_place to c.terminals o) (console_place to c.terminals p) ≡ false
   places_differ a b e f None None h k apart = refl

@@ -11,11 +11,11 @@ use Rattle.sys_rounds.specs.Round.{State, dump_on, first_state, powered, round, 
 use Rattle.vm_state.specs.Guest.{Guest}
 use Rattle.vv_class.specs.declared.class.AccessClass.{AccessClass}
 
-abbrev seen_rows : Config → AccessClass → List GuestRow → List GuestRow
+abbrev pub seen_rows : Config → AccessClass → List GuestRow → List GuestRow
 seen_rows c to rows = map (renumbered to c) (filter (is_kept to) rows)
 
 -- what is made beside the rows, where it doesn't depend on the places in them
-made_beside : {Y Z : Type 0} (c : Config) (to : AccessClass) (f : GuestRow → Y → Z) → ((row : GuestRow) (y : Y) → f (renumbered to c row) y ≡ f row y) → (rows : List GuestRow) (ys : List Y)
+pub made_beside : {Y Z : Type 0} (c : Config) (to : AccessClass) (f : GuestRow → Y → Z) → ((row : GuestRow) (y : Y) → f (renumbered to c row) y ≡ f row y) → (rows : List GuestRow) (ys : List Y)
     → beside_with f (seen_rows c to rows) (beside (is_kept to) rows ys) ≡ beside (is_kept to) rows (beside_with f rows ys)
 made_beside c to f same [] ys = refl
 made_beside c to f same (row ∷ rows) [] = both (is_kept to row) (λ e. rw e refl) (λ e. rw e (nothing rows))

@@ -1,4 +1,5 @@
 pub mod Input
 pub mod Laws
+pub mod Lines
 pub mod Purge
 pub mod ShownPurge

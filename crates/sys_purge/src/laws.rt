@@ -1,6 +1,6 @@
 ghost use Rattle.sys_objects.specs.Condition.{IsConfig};
 ghost use Rattle.sys_objects.specs.declared.records.Config.{Config};
-ghost use Rattle.sys_purge.specs.Laws.{DependOnPurges, KeepsDumps};
+ghost use Rattle.sys_purge.specs.Laws.{DependOnPurges, KeepsDevices, KeepsDumps, KeepsLines, LinesDependOnPurges};
 ghost use Rattle.sys_purge.specs.Purge.{purge_config};
 ghost use Rattle.vv_class.specs.declared.class.AccessClass.{AccessClass};
 
@@ -17,4 +17,20 @@ pub fn a_purge_keeps_dumps()
 /// Two inputs with one purge to a class have the same dumps on each line whose dump flows into the class.
 pub fn dumps_depend_on_what_flows()
     ensures { DependOnPurges }
+{}
+
+/// A line that flows into a class gets the same bytes, its terminal's and its dump, when all that doesn't flow into the
+/// class was never there.
+pub fn a_purge_keeps_lines()
+    ensures { KeepsLines }
+{}
+
+/// Two inputs with one purge to a class have the same bytes on each line that flows into the class.
+pub fn lines_depend_on_what_flows()
+    ensures { LinesDependOnPurges }
+{}
+
+/// Each device gets the bytes that it gets when all that doesn't flow into its own class was never there.
+pub fn a_device_keeps_its_bytes()
+    ensures { KeepsDevices }
 {}

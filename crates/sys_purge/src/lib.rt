@@ -4,7 +4,10 @@
 mod laws;
 mod purge;
 
-pub use laws::{a_purge_keeps_dumps, dumps_depend_on_what_flows, purged_is_accepted};
+pub use laws::{
+    a_device_keeps_its_bytes, a_purge_keeps_dumps, a_purge_keeps_lines, dumps_depend_on_what_flows,
+    lines_depend_on_what_flows, purged_is_accepted,
+};
 pub use purge::purge_config;
 
 #[cfg(test)]

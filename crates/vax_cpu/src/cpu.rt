@@ -88,8 +88,9 @@ fn store(memory: &mut [u8], base: u32, store: &Store)
 fn store_all(memory: &mut [u8], base: u32, stores: &[Store])
     ensures { memory.new ≡ all_stored (λ va. base + va) stores.now memory.old }
 {
-    for one in stores {
-        store(memory, base, one);
+    if let [first, rest @ ..] = stores {
+        store(memory, base, first);
+        store_all(memory, base, rest);
     }
 }
 

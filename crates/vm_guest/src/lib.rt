@@ -2,8 +2,9 @@
 #![tactic(auto)]
 
 mod counts;
+mod guest;
 mod kernel;
 mod meet;
 
 pub use counts::Counts;
-pub use kernel::advance_state;
+pub use guest::Guest;

@@ -1,14 +1,14 @@
 -- Which answer must come.
-use Rattle.std.proofs.Common.{ℕ, zero, suc, refl, ◌≡◌, ◌<◌, ◌≤◌, List, [], ◌∷◌, length, Bool, true, false, Option, Some, None, slice_set, subst, sym, ap, ◌∙◌, arith}
-use Rattle.std.proofs.lemmas.Grind.{common_steps}
+use Rattle.std.proofs.Common.{ℕ, zero, suc, refl, ◌≡◌, ◌<◌, ◌≤◌, List, [], ◌∷◌, length, Bool, true, false, Option, Some, None, option_map, slice_index_or, subst, sym, ap, ◌∙◌, arith}
 use Rattle.vv_io.specs.Causes.{Rose}
 use Rattle.vv_io.specs.Lines.{Seen}
 use Rattle.vv_io.specs.Shelf.{File, held, file_limit}
-use Rattle.sys_boot.specs.Showing.{Showing, IsShowing}
-use Rattle.vm_state.specs.Run.{Run}
-use Rattle.vvmm.specs.Answer.{Outside, IsFetched, IsHeld, Lacks, HasTooLong, Shown, Untouched, failed_line}
+use Rattle.sys_boot.specs.Showing.{Showing}
+use Rattle.sys_rounds.proofs.Places.{both}
+use Rattle.sys_rounds.specs.Places.{place_of}
+use Rattle.sys_system.specs.Shows.{Shows}
+use Rattle.vvmm.specs.Answer.{Outside, IsFetched, IsHeld, Lacks, HasTooLong, Untouched}
 use Rattle.vvmm.specs.Laws.{line_at, Completes, TellsMissing, TellsTooLong, TellsDevice}
-use Rattle.vvmm.specs.Solo.{solo_run}
 use Rattle.vvmm.specs.declared.status.Status.TheVariants.{Done, Words, Missing, TooLong, ShelfFault, Image, Device, OutFault, NoMemory}
 
 -- a told shelf
@@ -27,65 +27,60 @@ one_image r x y e f = cc
 not_both : (r : Option (List ℕ)) (x : List ℕ) → r ≡ None → r ≡ Some x → ⊥
 not_both r x e f = cc
 
-read_back : (lines : List Seen) (k : ℕ) (line : Seen) → k < length lines → line_at (slice_set lines k line) k ≡ line
-read_back lines k line h = grind (arith, common_steps)
+-- the first that is marked
+marked_at : (marks : List Bool) (k : ℕ) → place_of (λ b. b) marks ≡ Some k → slice_index_or marks k false ≡ true
+marked_at [] k e = cc
+marked_at (true ∷ marks) zero e = refl
+marked_at (true ∷ marks) (suc k) e = absurd (zero_is_not k (same_number e))
+  where
+    same_number : (let o : Option ℕ = Some 0 in o ≡ Some (suc k)) → 0 ≡ suc k
+    same_number q = cc
 
-read_other : (lines : List Seen) (k j : ℕ) (line : Seen) → (j ≡ k → ⊥) → line_at (slice_set lines k line) j ≡ line_at lines j
-read_other [] k j line h = refl
-read_other (x ∷ lines) zero zero line h = absurd (h refl)
-read_other (x ∷ lines) zero (suc j) line h = refl
-read_other (x ∷ lines) (suc k) zero line h = refl
-read_other (x ∷ lines) (suc k) (suc j) line h = read_other lines k j line (λ e. h (ap suc e))
+    zero_is_not : (n : ℕ) → 0 ≡ suc n → ⊥
+    zero_is_not n q = omega (arith, q)
+marked_at (false ∷ marks) k e = by (place_of (λ b. b) marks) k (λ n. marked_at marks n) e
+  where
+    by : (o : Option ℕ) (k : ℕ) → ((n : ℕ) → o ≡ Some n → slice_index_or marks n false ≡ true) → option_map suc o ≡ Some k → slice_index_or (false ∷ marks) k false ≡ true
+    by None k rest e = cc
+    by (Some n) zero rest e = cc
+    by (Some n) (suc k) rest e = rest k (cc (e))
 
--- a line that was put on, and the others
-line_is : (k : ℕ) (failed : Bool) (start now : List Seen) (bytes : List ℕ) → IsShowing k failed start now bytes → Showing failed (line_at start k) (line_at now k) bytes
-line_is k failed start now bytes (line, is, within, shows) =
-    let here : line_at now k ≡ line = ap (λ ls. line_at ls k) is ∙ read_back start k line within in
-    subst (λ l. Showing failed (line_at start k) l bytes) (sym here) shows
+none_marked : (marks : List Bool) (k : ℕ) → place_of (λ b. b) marks ≡ None → slice_index_or marks k false ≡ false
+none_marked [] k e = refl
+none_marked (true ∷ marks) k e = cc
+none_marked (false ∷ marks) zero e = refl
+none_marked (false ∷ marks) (suc k) e = none_marked marks k (by (place_of (λ b. b) marks) e)
+  where
+    by : (o : Option ℕ) → option_map suc o ≡ None → o ≡ None
+    by None e = refl
+    by (Some n) e = cc
 
-others_are : (k j : ℕ) (failed : Bool) (start now : List Seen) (bytes : List ℕ) → (j ≡ k → ⊥) → IsShowing k failed start now bytes → line_at now j ≡ line_at start j
-others_are k j failed start now bytes h (line, is, within, shows) = ap (λ ls. line_at ls j) is ∙ read_other start k j line h
+none_before : (marks : List Bool) (line k : ℕ) → place_of (λ b. b) marks ≡ Some line → slice_index_or marks k false ≡ true → line ≤ k
+none_before [] line k e h = cc
+none_before (true ∷ marks) line k e h = let first : 0 ≡ line = cc (e) in omega (arith, first)
+none_before (false ∷ marks) line zero e h = cc
+none_before (false ∷ marks) line (suc k) e h = by (place_of (λ b. b) marks) line (λ n is. none_before marks n k is h) e
+  where
+    by : (o : Option ℕ) (line : ℕ) → ((n : ℕ) → o ≡ Some n → n ≤ k) → option_map suc o ≡ Some line → line ≤ suc k
+    by None line rest e = cc
+    by (Some n) line rest e = let one : suc n ≡ line = cc (e) in omega (arith, one, rest n refl)
 
--- a line's count where the two lines show a run
-rose_at : (console dump : Bool) (lines lines' : List Seen) (run : Run) (k : ℕ) → failed_line console dump ≡ Some k → Shown console dump lines lines' run → Rose (line_at lines k).faults (line_at lines' k).faults
-rose_at true dump lines lines' run zero e (between, first, second) =
-    subst (λ (l : Seen). Rose (line_at lines 0).faults l.faults) (sym (others_are 1 0 dump between lines' _ (λ x. omega (arith, x)) second)) (line_is 0 true lines between _ first).0
-rose_at true dump lines lines' run (suc k) e shown = absurd (cc (e))
-rose_at false true lines lines' run k e (between, first, second) =
-    let one : k ≡ 1 = cc (e) in
-    let rose : Rose (line_at between 1).faults (line_at lines' 1).faults = (line_is 1 true between lines' _ second).0 in
-    let same : Rose (line_at lines 1).faults (line_at lines' 1).faults = subst (λ (l : Seen). Rose l.faults (line_at lines' 1).faults) (others_are 0 1 false lines between _ (λ x. omega (arith, x)) first) rose in
-    subst (λ n. Rose (line_at lines n).faults (line_at lines' n).faults) (sym one) same
-rose_at false false lines lines' run k e shown = absurd (cc (e))
+-- a line's count rose where it is marked, and is as before where it isn't
+rose_at : (marks : List Bool) (lines lines' : List Seen) (f : ℕ → List ℕ) (k : ℕ) → place_of (λ b. b) marks ≡ Some k → Shows [] marks lines lines' f → Rose (line_at lines k).faults (line_at lines' k).faults
+rose_at marks lines lines' f k e shows = (subst (λ b. Showing b (line_at lines k) (line_at lines' k) (f k)) (marked_at marks k e) (shows.line k)).0
 
--- line 0 where it didn't fail
-console_kept : (dump : Bool) (lines lines' : List Seen) (run : Run) → Shown false dump lines lines' run → (line_at lines' 0).faults ≡ (line_at lines 0).faults
-console_kept dump lines lines' run (between, first, second) =
-    let same : line_at lines' 0 ≡ line_at between 0 = others_are 1 0 dump between lines' _ (λ x. omega (arith, x)) second in
-    ap (λ (l : Seen). l.faults) same ∙ (line_is 0 false lines between _ first).0
-
-all_kept : (lines lines' : List Seen) (run : Run) (k : ℕ) → Shown false false lines lines' run → (line_at lines' k).faults ≡ (line_at lines k).faults
-all_kept lines lines' run zero shown = console_kept false lines lines' run shown
-all_kept lines lines' run (suc zero) (between, first, second) =
-    let same : line_at between 1 ≡ line_at lines 1 = others_are 0 1 false lines between _ (λ x. omega (arith, x)) first in
-    (line_is 1 false between lines' _ second).0 ∙ ap (λ (l : Seen). l.faults) same
-all_kept lines lines' run (suc (suc k)) (between, first, second) =
-    let same : line_at lines' (suc (suc k)) ≡ line_at between (suc (suc k)) = others_are 1 (suc (suc k)) false between lines' _ (λ x. omega (arith, x)) second in
-    let equal : line_at between (suc (suc k)) ≡ line_at lines (suc (suc k)) = others_are 0 (suc (suc k)) false lines between _ (λ x. omega (arith, x)) first in
-    ap (λ (l : Seen). l.faults) (same ∙ equal)
+kept_at : (marks : List Bool) (lines lines' : List Seen) (f : ℕ → List ℕ) (k : ℕ) → slice_index_or marks k false ≡ false → Shows [] marks lines lines' f → (line_at lines' k).faults ≡ (line_at lines k).faults
+kept_at marks lines lines' f k e shows = (subst (λ b. Showing b (line_at lines k) (line_at lines' k) (f k)) e (shows.line k)).0
 
 -- where no line failed, no count is greater
-none_greater : (console dump : Bool) (lines lines' : List Seen) (run : Run) (k : ℕ) → failed_line console dump ≡ None → Shown console dump lines lines' run → (line_at lines k).faults < (line_at lines' k).faults → ⊥
-none_greater true dump lines lines' run k e shown h = absurd (cc (e))
-none_greater false true lines lines' run k e shown h = absurd (cc (e))
-none_greater false false lines lines' run k e shown h = absurd (omega (arith, all_kept lines lines' run k shown))
+none_greater : (marks : List Bool) (lines lines' : List Seen) (f : ℕ → List ℕ) (k : ℕ) → place_of (λ b. b) marks ≡ None → Shows [] marks lines lines' f → (line_at lines k).faults < (line_at lines' k).faults → ⊥
+none_greater marks lines lines' f k e shows h = omega (arith, h, kept_at marks lines lines' f k (none_marked marks k e) shows)
 
 -- no lower line than the one that is named has a greater count
-none_lower : (console dump : Bool) (lines lines' : List Seen) (run : Run) (line k : ℕ) → failed_line console dump ≡ Some line → Shown console dump lines lines' run → (line_at lines k).faults < (line_at lines' k).faults → line ≤ k
-none_lower true dump lines lines' run line k e shown h = let zero_is : line ≡ 0 = cc (e) in omega (arith, zero_is)
-none_lower false true lines lines' run line zero e shown h = absurd (omega (arith, console_kept true lines lines' run shown))
-none_lower false true lines lines' run line (suc k) e shown h = let one : line ≡ 1 = cc (e) in omega (arith, one)
-none_lower false false lines lines' run line k e shown h = absurd (cc (e))
+none_lower : (marks : List Bool) (lines lines' : List Seen) (f : ℕ → List ℕ) (line k : ℕ) → place_of (λ b. b) marks ≡ Some line → Shows [] marks lines lines' f → (line_at lines k).faults < (line_at lines' k).faults → line ≤ k
+none_lower marks lines lines' f line k e shows h = both (slice_index_or marks k false)
+    (λ marked. none_before marks line k e marked)
+    (λ fine. absurd (omega (arith, h, kept_at marks lines lines' f k fine shows)))
 
 pub completes : Completes
 completes a Done o files image h is has within fits none = tt
@@ -100,8 +95,8 @@ completes a ShelfFault o files image (rose, rest) is has within fits none = none
 completes a (Image guest) o files image (other, first, fetched, more, rest) is has within fits none =
     let equal : other ≡ image = one_image (held files a.image) other image (told_held o.files files a.image other is fetched.held) has in
     absurd (omega (arith, ap length equal))
-completes a (Device device) o files image (other, console, dump, ends) is has within fits none = none.lines ends.1.0 (rose_at console dump o.lines o.lines' (solo_run other a.steps) ends.1.0 ends.1.2 ends.0.lines)
-completes a OutFault o files image (other, console, dump, ends) is has within fits none = none.out ends.1.1.0
+completes a (Device device) o files image (other, marks, ends) is has within fits none = none.lines ends.1.0 (rose_at marks o.lines o.lines' _ ends.1.0 ends.1.2 ends.0.lines)
+completes a OutFault o files image (other, marks, ends) is has within fits none = none.out ends.1.1.0
 
 pub tells_missing : TellsMissing
 tells_missing a (Missing name) o files (same, gone, rest) is lacks none = same
@@ -112,9 +107,9 @@ tells_missing a (TooLong name) o files (same, long, rest) is lacks none =
     not_both (held files a.image) bytes lacks (ap (held files) (sym same) ∙ is_held)
 tells_missing a ShelfFault o files (rose, rest) is lacks none = none rose
 tells_missing a (Image guest) o files (other, first, fetched, more, rest) is lacks none = not_both (held files a.image) other lacks (told_held o.files files a.image other is fetched.held)
-tells_missing a Done o files (other, console, dump, ends) is lacks none = not_both (held files a.image) other lacks (told_held o.files files a.image other is ends.0.fetched.held)
-tells_missing a (Device device) o files (other, console, dump, ends) is lacks none = not_both (held files a.image) other lacks (told_held o.files files a.image other is ends.0.fetched.held)
-tells_missing a OutFault o files (other, console, dump, ends) is lacks none = not_both (held files a.image) other lacks (told_held o.files files a.image other is ends.0.fetched.held)
+tells_missing a Done o files (other, marks, ends) is lacks none = not_both (held files a.image) other lacks (told_held o.files files a.image other is ends.0.fetched.held)
+tells_missing a (Device device) o files (other, marks, ends) is lacks none = not_both (held files a.image) other lacks (told_held o.files files a.image other is ends.0.fetched.held)
+tells_missing a OutFault o files (other, marks, ends) is lacks none = not_both (held files a.image) other lacks (told_held o.files files a.image other is ends.0.fetched.held)
 
 -- an image that was fetched is within the limit
 too_short : (o : Outside) (files : List File) (name image other : List ℕ) → o.files ≡ Some files → held files name ≡ Some image → file_limit < length image → IsFetched o name other → ⊥
@@ -129,21 +124,21 @@ tells_too_long a Words o files image h is has long none = h
 tells_too_long a (Missing name) o files image (same, lacks, rest) is has long none = not_both (held files a.image) image (ap (held files) (sym same) ∙ told_lacks o.files files name o.shelf o.shelf' is lacks) has
 tells_too_long a ShelfFault o files image (rose, rest) is has long none = none rose
 tells_too_long a (Image guest) o files image (other, first, fetched, more, rest) is has long none = too_short o files a.image image other is has long fetched
-tells_too_long a Done o files image (other, console, dump, ends) is has long none = too_short o files a.image image other is has long ends.0.fetched
-tells_too_long a (Device device) o files image (other, console, dump, ends) is has long none = too_short o files a.image image other is has long ends.0.fetched
-tells_too_long a OutFault o files image (other, console, dump, ends) is has long none = too_short o files a.image image other is has long ends.0.fetched
+tells_too_long a Done o files image (other, marks, ends) is has long none = too_short o files a.image image other is has long ends.0.fetched
+tells_too_long a (Device device) o files image (other, marks, ends) is has long none = too_short o files a.image image other is has long ends.0.fetched
+tells_too_long a OutFault o files image (other, marks, ends) is has long none = too_short o files a.image image other is has long ends.0.fetched
 
 -- nothing was put
 same_line : (o : Outside) (k : ℕ) → Untouched o → (line_at o.lines k).faults < (line_at o.lines' k).faults → ⊥
 same_line o k u h = absurd (omega (arith, ap (λ l. (line_at l k).faults) u.lines))
 
 pub tells_device : TellsDevice
-tells_device a (Device device) o k (other, console, dump, ends) h = (ends.1.0, ends.1.1, none_lower console dump o.lines o.lines' (solo_run other a.steps) ends.1.0 k ends.1.2 ends.0.lines h)
+tells_device a (Device device) o k (other, marks, ends) h = (ends.1.0, ends.1.1, none_lower marks o.lines o.lines' _ ends.1.0 k ends.1.2 ends.0.lines h)
 tells_device a Words o k follows h = follows
 tells_device a NoMemory o k u h = same_line o k u h
 tells_device a (Missing name) o k (same, lacks, u) h = same_line o k u h
 tells_device a (TooLong name) o k (same, long, u) h = same_line o k u h
 tells_device a ShelfFault o k (rose, u) h = same_line o k u h
 tells_device a (Image guest) o k (other, first, fetched, more, u) h = same_line o k u h
-tells_device a Done o k (other, console, dump, ends) h = none_greater console dump o.lines o.lines' (solo_run other a.steps) k ends.1.0 ends.0.lines h
-tells_device a OutFault o k (other, console, dump, ends) h = none_greater console dump o.lines o.lines' (solo_run other a.steps) k ends.1.0 ends.0.lines h
+tells_device a Done o k (other, marks, ends) h = none_greater marks o.lines o.lines' _ k ends.1.0 ends.0.lines h
+tells_device a OutFault o k (other, marks, ends) h = none_greater marks o.lines o.lines' _ k ends.1.0 ends.0.lines h

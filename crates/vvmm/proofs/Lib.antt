@@ -1,4 +1,3 @@
 pub mod Causes
 pub mod Endings
-pub mod Puts
 pub mod Runs

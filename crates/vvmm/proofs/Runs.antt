@@ -1,52 +1,96 @@
 -- The run of the guest A.
-use Rattle.std.proofs.Common.{ℕ, ◌≡◌, ◌≤◌, ◌+◌, ◌*◌, List, [], codes, length, take, drop, sym, ◌∙◌, ap, subst, arith, Bool, false}
-use Rattle.std.proofs.lemmas.Grind.{common_steps}
-use Rattle.vv_base.specs.Bytes.{overwritten}
-use Rattle.vv_io.specs.Lines.{Seen}
+use Rattle.std.proofs.Common.{ℕ, zero, suc, ◌≡◌, ◌<◌, ◌+◌, ◌%◌, ◌^◌, List, [], ◌∷◌, ◌++◌, codes, replicate, slice_index_or, refl, sym, ◌∙◌, ap, subst, arith, append-nil, Bool, false, if◌then◌else◌, ◌==◌, Some}
+use Rattle.std.proofs.lemmas.Bool.{ne_eqb}
 use Rattle.vax_hw.specs.Machine.{Machine}
-use Rattle.sys_boot.proofs.Images.{opening_length}
+use Rattle.vv_io.specs.Lines.{Seen, unseen}
 use Rattle.sys_boot.specs.Dump.{dump_of}
-use Rattle.sys_boot.specs.Showing.{IsShowing}
-use Rattle.vm_guest.specs.Kept.{run_of}
-use Rattle.vm_guest.specs.Turn.{Advances, no_counts}
-use Rattle.vm_guest.specs.declared.counts.Counts.{Counts}
-use Rattle.vm_state.specs.Start.{opening, start_state}
-use Rattle.vm_state.specs.Run.{Run, no_steps, after_steps}
-use Rattle.vm_state.specs.declared.guest_state.GuestState.{GuestState}
-use Rattle.vm_state.proofs.Few.{shows_few}
-use Rattle.vvmm.specs.Answer.{Shown}
-use Rattle.vvmm.specs.Solo.{first_guest, solo_run}
+use Rattle.sys_objects.specs.declared.records.Config.{Config}
+use Rattle.sys_objects.specs.declared.records.GuestRow.{GuestRow}
+use Rattle.sys_rounds.proofs.Consoles.{bytes_of_console}
+use Rattle.sys_rounds.proofs.Steps.{as_sum, trail_fits}
+use Rattle.sys_rounds.specs.Counts.{added, round_tally}
+use Rattle.sys_rounds.specs.Round.{Put, State, Went, alone, bytes_on, connections, dump_on, first_state, line_bytes, on_console, round, run}
+use Rattle.sys_system.proofs.Plays.{added_either}
+use Rattle.sys_system.proofs.Showings.{shows_then}
+use Rattle.sys_system.proofs.Taken.{shows_same}
+use Rattle.sys_system.specs.Calls.{IsPowered, MakesRound, ShowsDumps}
+use Rattle.sys_system.specs.Kernel.{Kernel, state_of}
+use Rattle.sys_system.specs.Layout.{guests_in}
+use Rattle.sys_system.specs.Shows.{Gets, Shows}
+use Rattle.vm_guest.specs.Kept.{tally_of}
+use Rattle.vm_state.specs.Guest.{Guest}
+use Rattle.vm_state.specs.Run.{Tally, no_steps}
+use Rattle.vm_state.specs.Start.{opening, started}
+use Rattle.vvmm.specs.Laws.{RunsAlone}
+use Rattle.vvmm.specs.Solo.{load_address, memory_size}
 
-front_whole : (xs before : List ℕ) (n : ℕ) → length xs ≡ n → take n (overwritten before 0 xs) ≡ xs
-front_whole xs before n h = grind (arith, common_steps)
+-- no line is marked at first
+unmarked : (n k : ℕ) → slice_index_or (replicate n false) k false ≡ false
+unmarked zero k = refl
+unmarked (suc n) zero = refl
+unmarked (suc n) (suc k) = unmarked n k
 
--- the machine's memory with the guest's where the guest is
-abbrev loaded_memory : List ℕ → GuestState → List ℕ → List ℕ
-loaded_memory before g image = overwritten before (512 * g.base) (opening (512 * g.pages) 512 image)
-
-abbrev begun : List ℕ → Run
-begun image = record { guest = first_guest image; shown = []; tally = no_steps }
-
-begins : (before : List ℕ) (m : Machine) (g : GuestState) (image : List ℕ) → 512 + length image ≤ 65536 → m.memory ≡ loaded_memory before g image → g ≡ start_state 128 0 512 false → run_of m.memory g no_counts [] ≡ begun image
-begins before m g image fits memory start = λ i. record {
-  guest = record { memory = (ap (λ x. take (512 * x.pages) (drop (512 * x.base) m.memory)) start ∙ ap (take 65536) (memory ∙ ap (λ x. loaded_memory before x image) start) ∙ front_whole (opening 65536 512 image) before 65536 (opening_length 65536 512 image fits)) i; r = (start i).r; psl = (start i).psl.0; halt = (start i).halt };
-  shown = [];
-  tally = no_steps;
+shows_fresh : (n : ℕ) (marks : List Bool) (lines lines' : List Seen) (f : ℕ → List ℕ) → Shows (replicate n false) marks lines lines' f → Shows [] marks lines lines' f
+shows_fresh n marks lines lines' f shows = record {
+  line = λ k. subst (λ b. Gets b (slice_index_or marks k false) (slice_index_or lines k unseen) (slice_index_or lines' k unseen) (f k)) (unmarked n k) (shows.line k);
+  others = λ k none. ((shows.others k none).0 ∙ unmarked n k, (shows.others k none).1);
 }
 
--- the kernel's run is the guest's
-pub is_solo : {Port : Type 0} (may : Port → List ℕ → Type 0) (port port' : Port) (before : List ℕ) (m m' : Machine) (g g' : GuestState) (c : Counts) (steps : ℕ) (image : List ℕ) → 512 + length image ≤ 65536
-    → m.memory ≡ loaded_memory before g image → g ≡ start_state 128 0 512 false
-    → (t : Advances may port port' m m' g g' c steps) → solo_run image steps ≡ run_of m'.memory g' c t.text
-is_solo may port port' before m m' g g' c steps image fits memory start t =
-    sym (ap (after_steps steps) (begins before m g image fits memory start)) ∙ t.steps []
+-- power comes up, a round is made, and the dumps are shown: each line gets its bytes of the run of one round
+pub run_shown : (c : Config) (images : List (List ℕ)) (s0 s1 s2 : Kernel) (m0 m1 m2 : Machine) (lines lines1 lines2 : List Seen) → IsPowered c images s0 m0 m1 → MakesRound s0 s1 m1 m2 lines lines1 → ShowsDumps s1 s2 m2 lines1 lines2 → Shows [] s2.marks lines lines2 (λ k. line_bytes c k (run c images 1))
+run_shown c images s0 s1 s2 m0 m1 m2 lines lines1 lines2 p r d =
+    let first : State = first_state c images in
+    let config0 : s0.config ≡ c = ap (λ (k : Kernel). k.config) p.kernel in
+    let connected0 : s0.connected ≡ connections c.guests 0 c.terminals = ap (λ (k : Kernel). k.connected) p.kernel in
+    let marks0 : s0.marks ≡ replicate 32 false = ap (λ (k : Kernel). k.marks) p.kernel in
+    let state : state_of m1.memory s0 ≡ first = λ i. record { connected = connected0 i; guests = p.guests i } in
+    let went : round s0.config (state_of m1.memory s0) ≡ round c first = λ i. round (config0 i) (state i) in
+    let config1 : s1.config ≡ c = ap (λ (k : Kernel). k.config) r.kernel ∙ config0 in
+    let guests1 : guests_in m2.memory s1.guests ≡ (round c first).now.guests = r.guests ∙ ap (λ (w : Went State). w.now.guests) went in
+    let bytes : (k : ℕ) → bytes_on k (round s0.config (state_of m1.memory s0)).puts ++ dump_on k s1.config.guests (guests_in m2.memory s1.guests) ≡ line_bytes c k (run c images 1) =
+    λ k. (λ i. bytes_on k (went i).puts ++ dump_on k (config1 i).guests (guests1 i)) ∙ ap (λ (ps : List Put). bytes_on k ps ++ dump_on k c.guests (round c first).now.guests) (sym (append-nil (round c first).puts)) in
+    let shown : Shows s0.marks s2.marks lines lines2 (λ k. line_bytes c k (run c images 1)) = shows_same s0.marks s2.marks lines lines2 _ _ bytes (shows_then r.shows d.shows) in
+    shows_fresh 32 s2.marks lines lines2 _ (subst (λ marks. Shows marks s2.marks lines lines2 (λ k. line_bytes c k (run c images 1))) marks0 shown)
 
--- the console's bytes fit what is kept
-pub few_shown : (image : List ℕ) (steps : ℕ) (text : List ℕ) → (solo_run image steps).shown ≡ text → steps ≤ 100000 → length text ≤ 1400000
-few_shown image steps text same few = omega (arith, ap length same, shows_few steps (begun image))
+trail_of_round : (rows : List GuestRow) (gs : List Guest) → (round_tally rows gs).trail < 2 ^ 64
+trail_of_round [] gs = omega arith
+trail_of_round (row ∷ rows) [] = omega arith
+trail_of_round (row ∷ rows) (g ∷ gs) = omega arith
 
-pub shown_lines : (console console' dump dump' : Bool) (lines between lines' : List Seen) (run : Run) (bytes dumped : List ℕ) → console ≡ console' → dump ≡ dump' → bytes ≡ run.shown → dumped ≡ dump_of (codes "A") run.guest → IsShowing 0 console' lines between bytes → IsShowing 1 dump' between lines' dumped → Shown console dump lines lines' run
-shown_lines console console' dump dump' lines between lines' run bytes dumped c d b e first second =
-    let a : IsShowing 0 console' lines between run.shown = subst (λ x. IsShowing 0 console' lines between x) b first in
-    let z : IsShowing 1 dump' between lines' (dump_of (codes "A") run.guest) = subst (λ x. IsShowing 1 dump' between lines' x) e second in
-    (between, subst (λ f. IsShowing 0 f lines between run.shown) (sym c) a, subst (λ f. IsShowing 1 f between lines' (dump_of (codes "A") run.guest)) (sym d) z)
+-- its counts
+pub run_counted : (c : Config) (images : List (List ℕ)) (s0 s1 s2 : Kernel) (m0 m1 m2 : Machine) (lines lines1 lines2 : List Seen) → IsPowered c images s0 m0 m1 → MakesRound s0 s1 m1 m2 lines lines1 → ShowsDumps s1 s2 m2 lines1 lines2 → tally_of s2.counts ≡ round_tally c.guests (first_state c images).guests
+run_counted c images s0 s1 s2 m0 m1 m2 lines lines1 lines2 p r d =
+    let gs = (first_state c images).guests in
+    let t = round_tally c.guests gs in
+    let config0 : s0.config ≡ c = ap (λ (k : Kernel). k.config) p.kernel in
+    let none : tally_of s0.counts ≡ no_steps = ap (λ (k : Kernel). tally_of k.counts) p.kernel in
+    ap (λ (k : Kernel). tally_of k.counts) d.kernel ∙ r.counts ∙ (λ i. added (none i) (round_tally (config0 i).guests (p.guests i))) ∙ sym (added_either t) ∙ sym (as_sum t (trail_of_round c.guests gs))
+
+-- what the machine retired
+pub run_retired : (c : Config) (images : List (List ℕ)) (s0 s1 : Kernel) (m0 m1 m2 : Machine) (lines lines1 : List Seen) → IsPowered c images s0 m0 m1 → MakesRound s0 s1 m1 m2 lines lines1
+    → (m2.retired % 2 ^ 64 ≡ (m0.retired + (round_tally c.guests (first_state c images).guests).plain) % 2 ^ 64) × (m2.trail % 2 ^ 64 ≡ (m0.trail + (round_tally c.guests (first_state c images).guests).trail) % 2 ^ 64)
+run_retired c images s0 s1 m0 m1 m2 lines lines1 p r =
+    let config0 : s0.config ≡ c = ap (λ (k : Kernel). k.config) p.kernel in
+    let tally : round_tally s0.config.guests (guests_in m1.memory s0.guests) ≡ round_tally c.guests (first_state c images).guests = λ i. round_tally (config0 i).guests (p.guests i) in
+    (omega (arith, r.retires.retired, p.counts.retired, ap (λ (t : Tally). t.plain) tally), omega (arith, r.retires.trail, p.counts.trail, ap (λ (t : Tally). t.trail) tally))
+
+-- the guest runs alone
+abbrev first_guest : List ℕ → Guest
+first_guest image = started (opening memory_size load_address image) load_address
+
+console_bytes : (k : ℕ) (shown : List ℕ) → bytes_on k ((on_console (Some 0) shown ++ []) ++ []) ≡ (if 0 == k then shown else [])
+console_bytes k shown = ap (bytes_on k) (append-nil (on_console (Some 0) shown ++ []) ∙ append-nil (on_console (Some 0) shown)) ∙ bytes_of_console k (Some 0) shown
+
+pub runs_alone : RunsAlone
+runs_alone a image =
+    let g = first_guest image in
+    let own = alone a.steps g in
+    record {
+      console = ap (λ xs. xs ++ []) (console_bytes 0 own.shown) ∙ append-nil own.shown;
+      dump = ap (λ xs. xs ++ dump_of (codes "A") own.guest) (console_bytes 1 own.shown);
+      others = λ k h.
+          let zero_apart : (0 == k) ≡ false = ne_eqb 0 k (λ e. omega (arith, e, h)) in
+          let one_apart' : (1 == k) ≡ false = ne_eqb 1 k (λ e. omega (arith, e, h)) in
+          (λ i. (console_bytes k own.shown ∙ ap (λ b. if b then own.shown else []) zero_apart) i ++ (if one_apart' i then dump_of (codes "A") own.guest else []));
+      counts = sym (as_sum own.tally (trail_fits a.steps g));
+    }

@@ -1,15 +1,16 @@
 -- Each answer of the top call, and what it says of the outside.
-use Rattle.std.specs.Prelude.{ℕ, ◌≡◌, ◌<◌, ◌≤◌, ◌+◌, ◌%◌, ◌^◌, List, codes, length, Bool, true, false, Option, Some, None}
+use Rattle.std.specs.Prelude.{ℕ, ◌≡◌, ◌<◌, ◌≤◌, ◌+◌, ◌%◌, ◌^◌, List, [], length, Bool, true, false, Option, Some, None}
 use Rattle.vv_io.specs.Blocks.{Kept}
 use Rattle.vv_io.specs.Causes.{Rose}
 use Rattle.vv_io.specs.Lines.{Seen}
 use Rattle.vv_io.specs.Shelf.{File, held, file_limit}
 use Rattle.vax_hw.specs.Machine.{Machine}
-use Rattle.sys_boot.specs.Dump.{dump_of}
-use Rattle.sys_boot.specs.Showing.{Showing, IsShowing}
-use Rattle.vm_state.specs.Run.{Run}
-use Rattle.vvmm.specs.Solo.{Asked, load_address, memory_size, solo_run, summary}
-use Rattle.vvmm.specs.declared.status.Device.TheVariants as devices
+use Rattle.sys_boot.specs.Showing.{Showing}
+use Rattle.sys_rounds.specs.Places.{place_of}
+use Rattle.sys_rounds.specs.Round.{line_bytes}
+use Rattle.sys_system.specs.Shows.{Shows}
+use Rattle.sys_system.specs.declared.lines.Device.TheVariants as devices
+use Rattle.vvmm.specs.Solo.{Asked, load_address, memory_size, solo_config, solo_run, solo_tally, summary}
 use Rattle.vvmm.specs.declared.status.Status.{Status}
 use Rattle.vvmm.specs.declared.status.Status.TheVariants.{Done, Words, Missing, TooLong, ShelfFault, Image, Device as DeviceFault, OutFault, NoMemory}
 
@@ -58,27 +59,20 @@ pub record IsFetched (o : Outside) (name image : List ℕ) : Type 0 where
   pub within : length image ≤ file_limit
   pub shelf : o.shelf' ≡ o.shelf
 
--- Line 0 shows what the guest shows, byte by byte, and then line 1 its dump; each shows a front of it where it failed.
--- Every other line is as before.
-abbrev pub Shown : (console_failed dump_failed : Bool) → List Seen → List Seen → Run → Type 0
-Shown console_failed dump_failed lines lines' run =
-    (between : List Seen) × IsShowing 0 console_failed lines between run.shown × IsShowing 1 dump_failed between lines' (dump_of (codes "A") run.guest)
-
--- The run was made. The lines show it as the guest makes it on its private virtual VAX; every drive is as before; and
--- the machine retired exactly the guest's plain steps.
-pub record Made (o : Outside) (a : Asked) (image : List ℕ) (console_failed dump_failed : Bool) : Type 0 where
+-- The run was made. Each line has its bytes of it behind what it had; one that failed, and is marked, has a front of
+-- them. A line that gets none is as before, as is every drive, and the machine retired exactly the guest's plain steps.
+pub record Made (o : Outside) (a : Asked) (image : List ℕ) (marks : List Bool) : Type 0 where
   pub fetched : IsFetched o a.image image
   pub fits : load_address + length image ≤ memory_size
-  pub lines : Shown console_failed dump_failed o.lines o.lines' (solo_run image a.steps)
+  pub lines : Shows [] marks o.lines o.lines' (λ k. line_bytes (solo_config a) k (solo_run a image))
+  pub size : length o.lines' ≡ length o.lines
   pub drives : o.drives' ≡ o.drives
-  pub retired : o.machine'.retired % 2 ^ 64 ≡ (o.machine.retired + (solo_run image a.steps).tally.plain) % 2 ^ 64
-  pub trail : o.machine'.trail % 2 ^ 64 ≡ (o.machine.trail + (solo_run image a.steps).tally.trail) % 2 ^ 64
+  pub retired : o.machine'.retired % 2 ^ 64 ≡ (o.machine.retired + (solo_tally a image).plain) % 2 ^ 64
+  pub trail : o.machine'.trail % 2 ^ 64 ≡ (o.machine.trail + (solo_tally a image).trail) % 2 ^ 64
 
 -- the first line that failed
-abbrev pub failed_line : (console_failed dump_failed : Bool) → Option ℕ
-failed_line true _ = Some 0
-failed_line false true = Some 1
-failed_line false false = None
+abbrev pub failed_line : List Bool → Option ℕ
+failed_line marks = place_of (λ marked. marked) marks
 
 -- how a run that was made is answered: by the first that applies of a failed line, and where the summary is put
 abbrev pub Closes : Status → Option ℕ → Seen → Seen → List ℕ → Type 0
@@ -88,9 +82,8 @@ Closes Done failed out out' bytes = (failed ≡ None) × Showing false out out' 
 Closes _ failed out out' bytes = ⊥
 
 -- a run that was made of this image, and how it is answered
-abbrev pub Ends : Asked → List ℕ → (console_failed dump_failed : Bool) → Status → Outside → Type 0
-Ends a image console_failed dump_failed status o =
-    Made o a image console_failed dump_failed × Closes status (failed_line console_failed dump_failed) o.out o.out' (summary a.steps (solo_run image a.steps).tally)
+abbrev pub Ends : Asked → List ℕ → List Bool → Status → Outside → Type 0
+Ends a image marks status o = Made o a image marks × Closes status (failed_line marks) o.out o.out' (summary a.steps (solo_tally a image))
 
 -- what an answer to well-formed words says
 abbrev pub Follows : Asked → Status → Outside → Type 0
@@ -100,7 +93,7 @@ Follows a (TooLong name) o = (name ≡ a.image) × HasTooLong o.files name o.she
 Follows a ShelfFault o = Rose o.shelf o.shelf' × Untouched o
 Follows a NoMemory o = Untouched o
 Follows a (Image guest) o = (image : List ℕ) × (guest ≡ 0) × IsFetched o a.image image × (memory_size < load_address + length image) × Untouched o
-Follows a status o = (image : List ℕ) × (console_failed : Bool) × (dump_failed : Bool) × Ends a image console_failed dump_failed status o
+Follows a status o = (image : List ℕ) × (marks : List Bool) × Ends a image marks status o
 
 -- what an answer says, given what the words ask for
 abbrev pub Says : Option Asked → Status → Outside → Type 0

@@ -1,11 +1,15 @@
 -- What follows from the answers' causes: which answer must come.
-use Rattle.std.specs.Prelude.{◌≡◌, ◌<◌, ◌≤◌, ◌+◌, ℕ, List, length, slice_index_or, Some, None}
+use Rattle.std.specs.Prelude.{◌≡◌, ◌<◌, ◌≤◌, ◌+◌, ℕ, List, [], codes, length, slice_index_or, Some, None}
 use Rattle.vv_io.specs.Causes.{Rose}
 use Rattle.vv_io.specs.Lines.{Seen, unseen}
 use Rattle.vv_io.specs.Shelf.{File, held, file_limit}
 use Rattle.vvmm.specs.Answer.{Outside, Follows}
-use Rattle.vvmm.specs.Solo.{Asked, load_address, memory_size}
-use Rattle.vvmm.specs.declared.status.Device.TheVariants as devices
+use Rattle.sys_boot.specs.Dump.{dump_of}
+use Rattle.sys_rounds.specs.Round.{alone, line_bytes}
+use Rattle.vm_state.specs.Guest.{Guest}
+use Rattle.vm_state.specs.Start.{opening, started}
+use Rattle.vvmm.specs.Solo.{Asked, load_address, memory_size, solo_config, solo_run, solo_tally}
+use Rattle.sys_system.specs.declared.lines.Device.TheVariants as devices
 use Rattle.vvmm.specs.declared.status.Status.{Status}
 use Rattle.vvmm.specs.declared.status.Status.TheVariants.{Done, Missing, TooLong, Device as DeviceFault, NoMemory}
 
@@ -56,3 +60,14 @@ TellsTooLong = (a : Asked) (status : Status) (o : Outside) (files : List File) (
 -- where a line's count is greater, it is named or one of a lower number
 abbrev pub TellsDevice : Type 0
 TellsDevice = (a : Asked) (status : Status) (o : Outside) (k : ℕ) → Follows a status o → (line_at o.lines k).faults < (line_at o.lines' k).faults → NamesLine k status
+
+-- a line's bytes are the guest's own, as it steps alone on its private virtual VAX: on line 0 what it shows, on line 1 its dump
+pub record ShowsAlone (a : Asked) (image : List ℕ) (g : Guest) : Type 0 where
+  pub console : line_bytes (solo_config a) 0 (solo_run a image) ≡ (alone a.steps g).shown
+  pub dump : line_bytes (solo_config a) 1 (solo_run a image) ≡ dump_of (codes "A") (alone a.steps g).guest
+  pub others : (k : ℕ) → 2 ≤ k → line_bytes (solo_config a) k (solo_run a image) ≡ []
+  pub counts : solo_tally a image ≡ (alone a.steps g).tally
+
+-- the guest that is loaded with the image, and runs
+abbrev pub RunsAlone : Type 0
+RunsAlone = (a : Asked) (image : List ℕ) → ShowsAlone a image (started (opening memory_size load_address image) load_address)

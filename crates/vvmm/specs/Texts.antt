@@ -1,7 +1,7 @@
 -- The text and the exit code of each answer.
 use Rattle.std.specs.Prelude.{ℕ, List, [], ◌++◌, codes, decimal}
-use Rattle.vvmm.specs.declared.status.Device.{Device}
-use Rattle.vvmm.specs.declared.status.Device.TheVariants as devices
+use Rattle.sys_system.specs.declared.lines.Device.{Device}
+use Rattle.sys_system.specs.declared.lines.Device.TheVariants as devices
 use Rattle.vvmm.specs.declared.status.Status.{Status}
 use Rattle.vvmm.specs.declared.status.Status.TheVariants.{Done, Words, Missing, TooLong, ShelfFault, Image, Device as DeviceFault, OutFault, NoMemory}
 

@@ -1,4 +1,4 @@
-ghost use Rattle.vvmm.specs.Laws.{Completes, TellsDevice, TellsMissing, TellsTooLong};
+ghost use Rattle.vvmm.specs.Laws.{Completes, RunsAlone, TellsDevice, TellsMissing, TellsTooLong};
 
 /// Good words, a held file within the limit, an image that fits and no risen count give `Done`, or `NoMemory` before
 /// the run.
@@ -19,4 +19,9 @@ pub fn too_long_is_told()
 /// Where a line's count is greater behind the call, the answer names it or one of a lower number.
 pub fn a_failed_line_is_told()
     ensures { TellsDevice }
+{}
+
+/// The lines' bytes are those of the guest that steps alone on its private virtual VAX.
+pub fn a_guest_runs_alone()
+    ensures { RunsAlone }
 {}

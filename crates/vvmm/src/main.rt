@@ -3,20 +3,28 @@
 
 mod edge;
 mod laws;
-mod lines;
 mod report;
+mod solo;
 mod status;
+#[cfg(test)]
+mod system_tests;
 #[cfg(test)]
 mod tests;
 mod top;
+#[cfg(test)]
+mod watched_tests;
 mod words;
 
 use edge::{FileDrive, FileLine, FileShelf, OutSink};
-pub use laws::{a_failed_line_is_told, answers_are_complete, missing_is_told, too_long_is_told};
-pub use status::{Device, Status, status_code, status_text};
+pub use laws::{
+    a_failed_line_is_told, a_guest_runs_alone, answers_are_complete, missing_is_told,
+    too_long_is_told,
+};
+pub use status::{Status, status_code, status_text};
 use std::io::{ErrorKind, Write};
 use std::process::ExitCode;
 use std::{env, io};
+pub use sys_system::Device;
 pub use top::vvmm_run;
 use vax_cpu::Cpu;
 use vv_base::NoMemory;

@@ -1,14 +1,8 @@
 ghost use Rattle.std.specs.Prelude.{◌≡◌, ◌++◌, ◌+◌, ◌≤◌, length, decimal};
 ghost use Rattle.vvmm.specs.Texts.{code_of, device_text, text_of};
 
+use sys_system::Device;
 use vv_base::{FileName, Text, decimal};
-
-/// A device, by its number.
-#[derive(Clone, Copy, Debug, PartialEq, Eq)]
-pub enum Device {
-    Line(u8),
-    Drive(u8),
-}
 
 /// The answer of the program.
 #[derive(Drop)]

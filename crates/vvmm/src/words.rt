@@ -1,5 +1,6 @@
-ghost use Rattle.std.specs.Prelude.{◌≡◌, ◌≤◌, map, string_bytes, IfSome};
+ghost use Rattle.std.specs.Prelude.{◌≡◌, ◌≤◌, map, string_bytes, true, IfSome};
 ghost use Rattle.std.specs.Option.{option_map};
+ghost use Rattle.vv_base.specs.Names.{is_file_name};
 ghost use Rattle.vvmm.specs.Solo.{asked};
 
 use vv_base::{FileName, file_name, read_decimal};
@@ -13,6 +14,8 @@ pub struct Order {
 
 /// What the words ask for, if they are of the form.
 pub fn parse(words: &[String]) -> Option<Order>
+    ensures named { IfSome result (λ o. is_file_name o.image ≡ true) }
+    ensures some { IfSome result (λ o. 1 ≤ o.steps) }
     ensures few { IfSome result (λ o. o.steps ≤ 100000) }
     ensures asked { option_map (λ o. record { image = o.image; steps = o.steps }) result ≡ asked (map (λ w. string_bytes w) words.now) }
 {

@@ -1,0 +1,12 @@
+pub mod Advances
+pub mod AllDumps
+pub mod Apart
+pub mod Begins
+pub mod LaidOut
+pub mod Lists
+pub mod Places
+pub mod Plays
+pub mod Powering
+pub mod Puts
+pub mod Showings
+pub mod Taken
