@@ -14,7 +14,7 @@ use Rattle.vax_table.specs.Computing.{computed, moved_quad, pushed, status_clear
 use Rattle.vax_table.specs.Effects.{Effect, begun, dest_of, long_of, put, put_in_register, quad_of, store, went_if}
 use Rattle.vax_table.specs.Operand.{forms_in, minus, operands_of, place, plus}
 use Rattle.vax_table.specs.Operations.{operation_of}
-use Rattle.vax_table.specs.Plan.{Given, is_planned, performed, performed_with, plan_of, planned}
+use Rattle.vax_table.specs.Plan.{is_planned, performed, performed_with, plan_of, planned}
 use Rattle.vax_table.specs.PlanLaws.{StoresAreClaimed}
 use Rattle.vax_table.specs.Rows.{row_of}
 use Rattle.vax_table.specs.Script.{Script, Done, Refuse, Touch, ◌>>=◌, Space, outcome}
@@ -279,35 +279,35 @@ returned_sound m cs o psw h = λ handler word.
 at_most : (n m : ℕ) (cs : List ℕ) (script : Script Effect) → n ≤ 20 → Holds (Sound n m) cs script → Holds (Sound 20 m) cs script
 at_most n m cs script h s = holds_then (Sound n m) (Sound 20 m) cs script s (λ ds e t. fewer n 20 m ds e.writes e.r h t)
 
-performed_sound : (given : Given) (fs : List Form) (m : ℕ) (cs : List ℕ) (operation : Operation) (o : Operands) (psw : ℕ) → is_fit operation fs ≡ true → AreClaimed fs cs o → length o.r ≡ m → Holds (Sound 20 m) cs (performed_with given operation o psw)
+performed_sound : (psl : ℕ) (fs : List Form) (m : ℕ) (cs : List ℕ) (operation : Operation) (o : Operands) → is_fit operation fs ≡ true → AreClaimed fs cs o → length o.r ≡ m → Holds (Sound 20 m) cs (performed_with psl operation o)
 unfolding performed is_fit
-performed_sound given fs m cs does.Other o psw f c h = tt
-performed_sound given fs m cs (does.Sensitive op) o psw f c h = tt
-performed_sound given fs m cs does.Breakpoint o psw f c h = tt
-performed_sound given fs m cs does.Customer o psw f c h = tt
-performed_sound given fs m cs does.Nothing o psw f c h = none_stored 20 m cs o.r h
-performed_sound given fs m cs (does.Compute op w inputs target) o psw f c h = at_most 1 m cs (Done (computed op w inputs target o psw)) (omega arith) (computed_sound fs m cs op w inputs target o psw f c h)
-performed_sound given fs m cs does.ClearQuad o psw f c h = at_most 1 m cs (Done (moved_quad 0 (dest_of o 0) o psw)) (omega arith) (quad_sound m cs 0 (dest_of o 0) o psw (target_claimed fs cs o 0 Quad c f) h)
-performed_sound given fs m cs does.MoveQuad o psw f c h = at_most 1 m cs (Done (moved_quad (quad_of o 0) (dest_of o 1) o psw)) (omega arith) (quad_sound m cs (quad_of o 0) (dest_of o 1) o psw (target_claimed fs cs o 1 Quad c f) h)
-performed_sound given fs m cs does.Push o psw f c h = at_most 1 m cs (pushed o psw) (omega arith) (pushed_sound m cs o psw h)
-performed_sound given fs m cs does.SetStatus o psw f c h = at_most 0 m cs (status_set o psw) (omega arith) (status_set_sound m cs o psw h)
-performed_sound given fs m cs does.ClearStatus o psw f c h = at_most 0 m cs (status_cleared o psw) (omega arith) (status_cleared_sound m cs o psw h)
-performed_sound given fs m cs (does.Branch condition) o psw f c h = at_most 0 m cs (Done (branched condition o psw)) (omega arith) (branched_sound m cs condition o psw h)
-performed_sound given fs m cs does.CallSubroutine o psw f c h = at_most 1 m cs (called_subroutine o psw) (omega arith) (called_sound m cs o psw h)
-performed_sound given fs m cs does.LeaveSubroutine o psw f c h = at_most 0 m cs (left_subroutine o psw) (omega arith) (left_sound m cs o psw h)
-performed_sound given fs m cs (does.AddAndCompare w) o psw f c h = at_most 1 m cs (Done (added_and_compared w o psw)) (omega arith) (acb_sound m cs w o psw (target_claimed fs cs o 2 w c f) h)
-performed_sound given fs m cs (does.AddOne b) o psw f c h = at_most 1 m cs (Done (added_one b o psw)) (omega arith) (aob_sound m cs b o psw (target_claimed fs cs o 1 Long c f) h)
-performed_sound given fs m cs (does.SubtractOne b) o psw f c h = at_most 1 m cs (Done (subtracted_one b o psw)) (omega arith) (sob_sound m cs b o psw (target_claimed fs cs o 0 Long c f) h)
-performed_sound given fs m cs (does.BranchOnLowBit on) o psw f c h = at_most 0 m cs (Done (branched_on_low_bit on o psw)) (omega arith) (low_bit_sound m cs on o psw h)
-performed_sound given fs m cs (does.BranchOnBit on becomes) o psw f c h = at_most 1 m cs (branched_on_bit on becomes o psw) (omega arith) (bit_sound m cs on becomes o psw h)
-performed_sound given fs m cs (does.Case w) o psw f c h = at_most 0 m cs (cased w o psw) (omega arith) (cased_sound m cs w o psw h)
-performed_sound given fs m cs does.PushRegisters o psw f c h = at_most 15 m cs (registers_pushed o psw) (omega arith) (registers_pushed_sound m cs o psw h)
-performed_sound given fs m cs does.PopRegisters o psw f c h = at_most 0 m cs (registers_popped o psw) (omega arith) (registers_popped_sound m cs o psw h)
-performed_sound given fs m cs does.CallGeneral o psw f c h = at_most 18 m cs (called_general o psw) (omega arith) (general_sound m cs o psw h)
-performed_sound given fs m cs does.CallOnStack o psw f c h = at_most 18 m cs (called_on_stack o psw) (omega arith) (on_stack_sound m cs o psw h)
-performed_sound given fs m cs does.Return o psw f c h = at_most 0 m cs (returned o psw) (omega arith) (returned_sound m cs o psw h)
-performed_sound given fs m cs does.MoveStatus o psw f c h = at_most 1 m cs (Done (put (dest_of o 0) Long given.psl (begun o psw))) (omega arith) (put_sound 0 m cs (dest_of o 0) Long given.psl (begun o psw) (target_claimed fs cs o 0 Long c f) (none_stored 0 m cs o.r h))
-performed_sound given fs m cs (does.Probe intent) o psw f c h = none_stored 20 m cs o.r h
+performed_sound psl fs m cs does.Other o f c h = tt
+performed_sound psl fs m cs (does.Sensitive op) o f c h = tt
+performed_sound psl fs m cs does.Breakpoint o f c h = tt
+performed_sound psl fs m cs does.Customer o f c h = tt
+performed_sound psl fs m cs does.Nothing o f c h = none_stored 20 m cs o.r h
+performed_sound psl fs m cs (does.Compute op w inputs target) o f c h = at_most 1 m cs (Done (computed op w inputs target o (psl % 2 ^ 8))) (omega arith) (computed_sound fs m cs op w inputs target o (psl % 2 ^ 8) f c h)
+performed_sound psl fs m cs does.ClearQuad o f c h = at_most 1 m cs (Done (moved_quad 0 (dest_of o 0) o (psl % 2 ^ 8))) (omega arith) (quad_sound m cs 0 (dest_of o 0) o (psl % 2 ^ 8) (target_claimed fs cs o 0 Quad c f) h)
+performed_sound psl fs m cs does.MoveQuad o f c h = at_most 1 m cs (Done (moved_quad (quad_of o 0) (dest_of o 1) o (psl % 2 ^ 8))) (omega arith) (quad_sound m cs (quad_of o 0) (dest_of o 1) o (psl % 2 ^ 8) (target_claimed fs cs o 1 Quad c f) h)
+performed_sound psl fs m cs does.Push o f c h = at_most 1 m cs (pushed o (psl % 2 ^ 8)) (omega arith) (pushed_sound m cs o (psl % 2 ^ 8) h)
+performed_sound psl fs m cs does.SetStatus o f c h = at_most 0 m cs (status_set o (psl % 2 ^ 8)) (omega arith) (status_set_sound m cs o (psl % 2 ^ 8) h)
+performed_sound psl fs m cs does.ClearStatus o f c h = at_most 0 m cs (status_cleared o (psl % 2 ^ 8)) (omega arith) (status_cleared_sound m cs o (psl % 2 ^ 8) h)
+performed_sound psl fs m cs (does.Branch condition) o f c h = at_most 0 m cs (Done (branched condition o (psl % 2 ^ 8))) (omega arith) (branched_sound m cs condition o (psl % 2 ^ 8) h)
+performed_sound psl fs m cs does.CallSubroutine o f c h = at_most 1 m cs (called_subroutine o (psl % 2 ^ 8)) (omega arith) (called_sound m cs o (psl % 2 ^ 8) h)
+performed_sound psl fs m cs does.LeaveSubroutine o f c h = at_most 0 m cs (left_subroutine o (psl % 2 ^ 8)) (omega arith) (left_sound m cs o (psl % 2 ^ 8) h)
+performed_sound psl fs m cs (does.AddAndCompare w) o f c h = at_most 1 m cs (Done (added_and_compared w o (psl % 2 ^ 8))) (omega arith) (acb_sound m cs w o (psl % 2 ^ 8) (target_claimed fs cs o 2 w c f) h)
+performed_sound psl fs m cs (does.AddOne b) o f c h = at_most 1 m cs (Done (added_one b o (psl % 2 ^ 8))) (omega arith) (aob_sound m cs b o (psl % 2 ^ 8) (target_claimed fs cs o 1 Long c f) h)
+performed_sound psl fs m cs (does.SubtractOne b) o f c h = at_most 1 m cs (Done (subtracted_one b o (psl % 2 ^ 8))) (omega arith) (sob_sound m cs b o (psl % 2 ^ 8) (target_claimed fs cs o 0 Long c f) h)
+performed_sound psl fs m cs (does.BranchOnLowBit on) o f c h = at_most 0 m cs (Done (branched_on_low_bit on o (psl % 2 ^ 8))) (omega arith) (low_bit_sound m cs on o (psl % 2 ^ 8) h)
+performed_sound psl fs m cs (does.BranchOnBit on becomes) o f c h = at_most 1 m cs (branched_on_bit on becomes o (psl % 2 ^ 8)) (omega arith) (bit_sound m cs on becomes o (psl % 2 ^ 8) h)
+performed_sound psl fs m cs (does.Case w) o f c h = at_most 0 m cs (cased w o (psl % 2 ^ 8)) (omega arith) (cased_sound m cs w o (psl % 2 ^ 8) h)
+performed_sound psl fs m cs does.PushRegisters o f c h = at_most 15 m cs (registers_pushed o (psl % 2 ^ 8)) (omega arith) (registers_pushed_sound m cs o (psl % 2 ^ 8) h)
+performed_sound psl fs m cs does.PopRegisters o f c h = at_most 0 m cs (registers_popped o (psl % 2 ^ 8)) (omega arith) (registers_popped_sound m cs o (psl % 2 ^ 8) h)
+performed_sound psl fs m cs does.CallGeneral o f c h = at_most 18 m cs (called_general o (psl % 2 ^ 8)) (omega arith) (general_sound m cs o (psl % 2 ^ 8) h)
+performed_sound psl fs m cs does.CallOnStack o f c h = at_most 18 m cs (called_on_stack o (psl % 2 ^ 8)) (omega arith) (on_stack_sound m cs o (psl % 2 ^ 8) h)
+performed_sound psl fs m cs does.Return o f c h = at_most 0 m cs (returned o (psl % 2 ^ 8)) (omega arith) (returned_sound m cs o (psl % 2 ^ 8) h)
+performed_sound psl fs m cs does.MoveStatus o f c h = at_most 1 m cs (Done (put (dest_of o 0) Long psl (begun o (psl % 2 ^ 8)))) (omega arith) (put_sound 0 m cs (dest_of o 0) Long psl (begun o (psl % 2 ^ 8)) (target_claimed fs cs o 0 Long c f) (none_stored 0 m cs o.r h))
+performed_sound psl fs m cs (does.Probe intent) o f c h = tt
 
 holds_both : {A : Type 0} (P Q : List ℕ → A → Type 0) (cs : List ℕ) (script : Script A) → Holds P cs script → Holds Q cs script → Holds (λ ds a. P ds a × Q ds a) cs script
 holds_both P Q cs (Done a) h g = (h, g)
@@ -315,47 +315,27 @@ holds_both P Q cs (Refuse t) h g = tt
 holds_both P Q cs (Touch i a k f) h g = λ v. holds_both P Q (cs ++ if_write i (addresses k a)) (f v) (h v) (g v)
 
 -- at each end of a plan, whatever the space answered
-pub plans_sound : (given : Given) (d : Instruction) (r cs : List ℕ) (psw : ℕ) → Holds (Sound 20 (length r)) cs (plan_of given d r psw)
+pub plans_sound : (psl : ℕ) (d : Instruction) (r cs : List ℕ) → Holds (Sound 20 (length r)) cs (plan_of psl d r)
 unfolding plan_of
-plans_sound given d r cs psw =
+plans_sound psl d r cs =
     let fs = forms_in (row_of d.opcode) in
     let P = AreClaimed fs in
     let Q = OperandsAreWide (length r) in
     holds-bind (λ ds o. P ds o × Q ds o) (Sound 20 (length r)) cs (operands_of d r) _ (holds_both P Q cs (operands_of d r) (operands_claimed d r cs) (operands_wide d r cs))
-    (λ ds o h. performed_sound given fs (length r) ds (operation_of d.opcode) o psw (operations_fit d.opcode) h.0 h.1)
-
--- an operation that refuses comes to no end
-alone_sound : (given : Given) (fs : List Form) (m : ℕ) (cs : List ℕ) (operation : Operation) (o : Operands) (psw : ℕ) → is_fit operation fs ≡ true → AreClaimed fs cs o → length o.r ≡ m → Holds (Sound 20 m) cs (performed operation o psw)
-unfolding performed
-alone_sound given fs m cs does.MoveStatus o psw f c h = tt
-alone_sound given fs m cs (does.Probe intent) o psw f c h = tt
-alone_sound given fs m cs operation o psw f c h = performed_sound given fs m cs operation o psw f c h
-
-nothing_given : Given
-nothing_given = record { psl = 0; is_accessible = λ intent mode length base. false }
-
-pub planned_sound : (d : Instruction) (r cs : List ℕ) (psw : ℕ) → Holds (Sound 20 (length r)) cs (planned d r psw)
-unfolding planned
-planned_sound d r cs psw =
-    let fs = forms_in (row_of d.opcode) in
-    let P = AreClaimed fs in
-    let Q = OperandsAreWide (length r) in
-    holds-bind (λ ds o. P ds o × Q ds o) (Sound 20 (length r)) cs (operands_of d r) _ (holds_both P Q cs (operands_of d r) (operands_claimed d r cs) (operands_wide d r cs))
-    (λ ds o h. alone_sound nothing_given fs (length r) ds (operation_of d.opcode) o psw (operations_fit d.opcode) h.0 h.1)
+    (λ ds o h. performed_sound psl fs (length r) ds (operation_of d.opcode) o (operations_fit d.opcode) h.0 h.1)
 
 -- and so of each outcome
-pub outcome_sound : (given : Given) (d : Instruction) (r : List ℕ) (psw : ℕ) (s : Space) (e : Effect) → outcome s (plan_of given d r psw) ≡ Ok e → Sound 20 (length r) (claims s (plan_of given d r psw)) e
-outcome_sound given d r psw s e h = holds_made (Sound 20 (length r)) s [] (plan_of given d r psw) e (plans_sound given d r [] psw) h
+pub outcome_sound : (psl : ℕ) (d : Instruction) (r : List ℕ) (s : Space) (e : Effect) → outcome s (plan_of psl d r) ≡ Ok e → Sound 20 (length r) (claims s (plan_of psl d r)) e
+outcome_sound psl d r s e h = holds_made (Sound 20 (length r)) s [] (plan_of psl d r) e (plans_sound psl d r []) h
 
 -- an operation of those that depend on nothing else is performed alone
-pub performed_alone : (given : Given) (operation : Operation) (o : Operands) (psw : ℕ) → is_planned operation ≡ true → performed_with given operation o psw ≡ performed operation o psw
-performed_alone given does.MoveStatus o psw e = absurd (no_yes e)
-performed_alone given (does.Probe intent) o psw e = absurd (no_yes e)
-performed_alone given operation o psw e = refl
+pub performed_alone : (psl : ℕ) (operation : Operation) (o : Operands) → is_planned operation ≡ true → performed_with psl operation o ≡ performed operation o (psl % 2 ^ 8)
+performed_alone psl does.MoveStatus o e = absurd (no_yes e)
+performed_alone psl operation o e = refl
 
 same_behind : {A B : Type 0} (m : Script A) (f g : A → Script B) → ((a : A) → f a ≡ g a) → m >>= f ≡ m >>= g
 same_behind {A = A} {B = B} m f g h = ap (λ (k : A → Script B). m >>= k) (fun_ext h)
 
-pub plans_planned : (given : Given) (d : Instruction) (r : List ℕ) (psw : ℕ) → is_planned (operation_of d.opcode) ≡ true → plan_of given d r psw ≡ planned d r psw
+pub plans_planned : (psl : ℕ) (d : Instruction) (r : List ℕ) → is_planned (operation_of d.opcode) ≡ true → plan_of psl d r ≡ planned d r (psl % 2 ^ 8)
 unfolding plan_of planned
-plans_planned given d r psw e = same_behind (operands_of d r) _ _ (λ o. performed_alone given (operation_of d.opcode) o psw e)
+plans_planned psl d r e = same_behind (operands_of d r) _ _ (λ o. performed_alone psl (operation_of d.opcode) o e)

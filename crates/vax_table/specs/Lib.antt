@@ -13,6 +13,7 @@ pub mod Trail
 pub mod Stores
 pub mod Whole
 pub mod Operand
+pub mod Tries
 pub mod Troubles
 pub mod ShownOperand
 pub mod Standing

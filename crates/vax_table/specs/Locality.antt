@@ -9,14 +9,14 @@ use Rattle.vax_table.specs.Whole.{Plain, instruction, meant}
 
 -- an instruction depends on its space only at the bytes that it asks for, in order
 abbrev pub IsLocal : Type 0
-IsLocal = (is_kernel : Bool) (r : List ℕ) (psw : ℕ) (s t : Space) → Below s t → AsFar s t (outcome s (instruction is_kernel r psw)) (outcome t (instruction is_kernel r psw))
+IsLocal = (is_kernel : Bool) (psl : ℕ) (r : List ℕ) (s t : Space) → Below s t → AsFar s t (outcome s (instruction is_kernel psl r)) (outcome t (instruction is_kernel psl r))
 
 -- the byte of a trouble over the first space is among those that are asked for over the second
 abbrev pub ReachesTrouble : Type 0
-ReachesTrouble = (is_kernel : Bool) (r : List ℕ) (psw : ℕ) (s t : Space) → Below s t → (intent : Intent) (va : ℕ) (cause : Cause) →
-    outcome s (instruction is_kernel r psw) ≡ Err (At cause intent va) → IsIn va (reached t (instruction is_kernel r psw))
+ReachesTrouble = (is_kernel : Bool) (psl : ℕ) (r : List ℕ) (s t : Space) → Below s t → (intent : Intent) (va : ℕ) (cause : Cause) →
+    outcome s (instruction is_kernel psl r) ≡ Err (At cause intent va) → IsIn va (reached t (instruction is_kernel psl r))
 
 -- what an instruction stores it claimed for writing before
 abbrev pub ClaimsWhatItStores : Type 0
-ClaimsWhatItStores = (is_kernel : Bool) (r : List ℕ) (psw : ℕ) (s : Space) (opcode : ℕ) (e : Effect) →
-    outcome s (instruction is_kernel r psw) ≡ Ok (meant opcode (Plain e)) → StoresAreClaimed (claims s (instruction is_kernel r psw)) e.writes
+ClaimsWhatItStores = (is_kernel : Bool) (psl : ℕ) (r : List ℕ) (s : Space) (opcode : ℕ) (e : Effect) →
+    outcome s (instruction is_kernel psl r) ≡ Ok (meant opcode (Plain e)) → StoresAreClaimed (claims s (instruction is_kernel psl r)) e.writes

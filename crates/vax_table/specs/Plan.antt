@@ -2,9 +2,8 @@
 -- (VAX Architecture Reference Manual: instruction execution). The script sees the registers and the status word alone.
 -- From it follow the outcome, the first trouble, the bytes that are reached, and the places that are claimed, in
 -- access order. All accesses come before the first store, since stores are in the outcome.
-use Rattle.std.specs.Prelude.{ℕ, ◌+◌, ◌*◌, ◌/◌, ◌%◌, Bool, true, false, not, List}
+use Rattle.std.specs.Prelude.{ℕ, ◌+◌, ◌*◌, ◌/◌, ◌%◌, ◌^◌, Bool, true, false, not, List}
 use Rattle.vv_base.specs.declared.width.Width.TheVariants.{Long}
-use Rattle.vax_arch.specs.declared.mode.Intent.{Intent}
 use Rattle.vax_table.specs.Arithmetic.{bit_of}
 use Rattle.vax_table.specs.Branches.{added_and_compared, added_one, branched, branched_on_bit, branched_on_low_bit, called_subroutine, cased, left_subroutine, subtracted_one}
 use Rattle.vax_table.specs.Calls.{called_general, called_on_stack, registers_popped, registers_pushed, returned}
@@ -84,21 +83,16 @@ is_planned Return = true
 unfoldable pub planned : Instruction → List ℕ → ℕ → Script Effect
 planned d r psw = operands_of d r >>= λ o. performed (operation_of d.opcode) o psw
 
--- What the machine and a guest give differently: the longword that MOVPSL stores, and whether both bytes that a PROBE
--- tests are accessible, by its intent, mode, length and base.
-pub record Given : Type 0 where
-  pub psl : ℕ
-  pub is_accessible : Intent → (mode length base : ℕ) → Bool
-
--- PROBE where both entries are found, valid and name frames: N 0, Z where not both bytes are accessible, V 0
+-- PROBE behind its operands: N 0, Z where not both bytes are accessible, V 0, C as before
 abbrev pub probed : Bool → Operands → ℕ → Effect
-probed accessible o psw = record (begun o psw) { psw = psw / 16 * 16 + 4 * bit_of (not accessible) + psw % 2 }
+probed is_accessible o psw = record (begun o psw) { psw = psw / 16 * 16 + 4 * bit_of (not is_accessible) + psw % 2 }
 
-abbrev pub performed_with : Given → Operation → Operands → ℕ → Script Effect
-performed_with given MoveStatus o psw = Done (put (dest_of o 0) Long given.psl (begun o psw))
-performed_with given (Probe intent) o psw = Done (probed (given.is_accessible intent (long_of o 0 % 4) (long_of o 1) (long_of o 2)) o psw)
-performed_with given operation o psw = performed operation o psw
+-- MOVPSL stores the PSL; the other operations depend on its status word alone. PROBE is no plan: whether bytes are
+-- accessible is judged behind it.
+abbrev pub performed_with : ℕ → Operation → Operands → Script Effect
+performed_with psl MoveStatus o = Done (put (dest_of o 0) Long psl (begun o (psl % 2 ^ 8)))
+performed_with psl operation o = performed operation o (psl % 2 ^ 8)
 
--- any plain instruction
-unfoldable pub plan_of : Given → Instruction → List ℕ → ℕ → Script Effect
-plan_of given d r psw = operands_of d r >>= λ o. performed_with given (operation_of d.opcode) o psw
+-- any plain instruction but PROBE, from the registers and the PSL
+unfoldable pub plan_of : ℕ → Instruction → List ℕ → Script Effect
+plan_of psl d r = operands_of d r >>= λ o. performed_with psl (operation_of d.opcode) o

@@ -1,7 +1,6 @@
 -- Worked examples of plain instructions, by computation. In a PSW the codes N, Z, V and C are 8, 4, 2 and 1, T is 10 hex.
-use Rattle.std.specs.Prelude.{◌≡◌, refl, ℕ, ◌+◌, ◌&&◌, ◌==◌, nat_le, nat_lt, Bool, false, List, [], ◌∷◌, Some, None, Ok, Err, if◌then◌else◌}
+use Rattle.std.specs.Prelude.{◌≡◌, refl, ℕ, ◌+◌, ◌&&◌, ◌==◌, nat_le, nat_lt, true, false, List, [], ◌∷◌, Some, None, Ok, Err, if◌then◌else◌}
 use Rattle.vv_base.specs.declared.width.Width.TheVariants.{Byte, Long}
-use Rattle.vax_arch.specs.declared.mode.Intent.{Intent}
 use Rattle.vax_arch.specs.declared.mode.Intent.TheVariants.{Read, Write}
 use Rattle.vax_table.specs.Arithmetic.{alu_of}
 use Rattle.vax_table.specs.Branches.{branched_on_bit, cased}
@@ -11,25 +10,21 @@ use Rattle.vax_table.specs.Computing.{computed}
 use Rattle.vax_table.specs.Effects.{Effect, store}
 use Rattle.vax_table.specs.Operand.{address_of, address_operand, base_address, bits_operand, branch_operand, modified_operand, operand_of, operands_of, read_operand, written_operand}
 use Rattle.vax_table.specs.Operations.{operation_of}
-use Rattle.vax_table.specs.Plan.{Given, performed, plan_of}
+use Rattle.vax_table.specs.Plan.{performed, plan_of, probed}
 use Rattle.vax_table.specs.Rows.{row_of}
 use Rattle.vax_table.specs.Script.{Absent, At, Refusing, Script, Space, Test, outcome, reached}
 use Rattle.vax_table.specs.ShownOperand.{instruction}
 use Rattle.vax_table.specs.Spelled.{value_size}
 use Rattle.vax_table.specs.Spelling.{Instruction, unindexed}
 use Rattle.vax_table.specs.Stack.{named_down, named_up, pop, push}
+use Rattle.vax_table.specs.Whole.{Meant, Probes, acted, meant}
+use Rattle.vax_table.specs.declared.act.Dest.TheVariants.{Nowhere}
 use Rattle.vax_table.specs.declared.act.Refusal.TheVariants as refusals
+use Rattle.vax_table.specs.declared.evaluation.Operands.{Operands}
 
--- the PSL 041F0000, and reading accessible below 2000
-abbrev pub is_readable : Intent → ℕ → ℕ → ℕ → Bool
-is_readable Read mode length base = nat_lt (base + length) 0x2000
-is_readable Write mode length base = false
-
-abbrev pub given : Given
-given = record { psl = 0x041f0000; is_accessible = is_readable }
-
+-- with the PSL 041F0000 and a status word
 abbrev pub doing : Instruction → List ℕ → ℕ → Script Effect
-doing d r psw = plan_of given d r psw
+doing d r psw = plan_of (0x041f0000 + psw) d r
 
 -- no memory; and all of it zero
 abbrev pub nothing : Space
@@ -138,20 +133,30 @@ pub before_p1_reached : reached short (moves_from 0x7fffee00) ≡ 0x7fffee00 ∷
 unfolding plan_of performed operation_of row_of operands_of operand_of read_operand written_operand address_of base_address value_size computed alu_of
 before_p1_reached = refl
 
--- PROBER #0,#4,(R1) and PROBEW #0,#4,(R1): Z says that not both bytes are accessible, and C stays
-abbrev pub probe : ℕ → Script Effect
-probe opcode = doing (instruction opcode (unindexed 0 0 0 ∷ unindexed 0 0 4 ∷ unindexed 6 1 0 ∷ [])) (registers 0 0x1000 0 0 0 0x200) 0x2f
+-- PROBER #0,#4,(R1) and PROBEW #0,#4,(R1): the operands are the mode, the length and the base
+abbrev pub probe : ℕ → Script Meant
+probe opcode = acted false 0x2f (instruction opcode (unindexed 0 0 0 ∷ unindexed 0 0 4 ∷ unindexed 6 1 0 ∷ [])) (registers 0 0x1000 0 0 0 0x200)
 
-pub probes_for_reading : outcome nothing (probe 0x0c) ≡ Ok (record { r = registers 0 0x1000 0 0 0 0x204; psw = 0x21; writes = []; trap = None })
-unfolding plan_of operation_of row_of operands_of operand_of read_operand address_operand address_of base_address value_size
+abbrev pub probed_operands : Operands
+probed_operands = record { values = 0 ∷ 4 ∷ 0x1000 ∷ 0 ∷ []; dests = Nowhere ∷ Nowhere ∷ Nowhere ∷ Nowhere ∷ []; r = registers 0 0x1000 0 0 0 0x204 }
+
+pub probes_for_reading : outcome nothing (probe 0x0c) ≡ Ok (meant 0x0c (Probes Read probed_operands))
+unfolding acted operation_of row_of operands_of operand_of read_operand address_operand address_of base_address value_size
 probes_for_reading = refl
 
-pub probes_for_writing : outcome nothing (probe 0x0d) ≡ Ok (record { r = registers 0 0x1000 0 0 0 0x204; psw = 0x25; writes = []; trap = None })
-unfolding plan_of operation_of row_of operands_of operand_of read_operand address_operand address_of base_address value_size
+pub probes_for_writing : outcome nothing (probe 0x0d) ≡ Ok (meant 0x0d (Probes Write probed_operands))
+unfolding acted operation_of row_of operands_of operand_of read_operand address_operand address_of base_address value_size
 probes_for_writing = refl
 
+-- Z says that not both bytes are accessible; N and V are cleared, C and what is above the codes stay
+pub both_accessible : (probed true probed_operands 0x2f).psw ≡ 0x21
+both_accessible = refl
+
+pub not_both_accessible : (probed false probed_operands 0x2f).psw ≡ 0x25
+not_both_accessible = refl
+
 -- MOVPSL R0
-pub stores_the_psl : outcome nothing (doing (instruction 0xdc (unindexed 5 0 0 ∷ [])) (registers 0 0 0 0 0 0x200) 3) ≡ Ok (record { r = registers 0x041f0000 0 0 0 0 0x202; psw = 3; writes = []; trap = None })
+pub stores_the_psl : outcome nothing (doing (instruction 0xdc (unindexed 5 0 0 ∷ [])) (registers 0 0 0 0 0 0x200) 3) ≡ Ok (record { r = registers 0x041f0003 0 0 0 0 0x202; psw = 3; writes = []; trap = None })
 unfolding plan_of operation_of row_of operands_of operand_of written_operand value_size
 stores_the_psl = refl
 

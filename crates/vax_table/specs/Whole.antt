@@ -10,9 +10,9 @@ use Rattle.vax_arch.specs.declared.mode.Mode.{Mode}
 use Rattle.vax_arch.specs.declared.mode.Mode.TheVariants.{Kernel}
 use Rattle.vax_table.specs.Effects.{Effect, dest_of, long_of}
 use Rattle.vax_table.specs.Fetch.{fetched}
-use Rattle.vax_table.specs.Operand.{extended, trap_operands}
+use Rattle.vax_table.specs.Operand.{extended, operands_of, trap_operands}
 use Rattle.vax_table.specs.Operations.{operation_of}
-use Rattle.vax_table.specs.Plan.{planned}
+use Rattle.vax_table.specs.Plan.{plan_of}
 use Rattle.vax_table.specs.Script.{Script, Done, Refuse, ◌>>=◌}
 use Rattle.vax_table.specs.Spelling.{Instruction}
 use Rattle.vax_table.specs.declared.act.Refusal.TheVariants as refusals
@@ -23,10 +23,12 @@ use Rattle.vax_table.specs.declared.evaluation.Operands.{Operands}
 use Rattle.vax_table.specs.declared.meaning.Operation.{Operation}
 use Rattle.vax_table.specs.declared.meaning.Operation.TheVariants.{Sensitive, Probe}
 
--- a plain instruction's effect, or a sensitive one's operands
+-- a plain instruction's effect, a sensitive one's operands, or PROBE's: whether its bytes are accessible is judged
+-- behind the script, over the page tables
 pub data Act : Type 0 where
   Plain : Effect → Act
   Traps : Trapped → Act
+  Probes : Intent → Operands → Act
 
 -- what an instruction was found to be, and what it comes to
 pub record Meant : Type 0 where
@@ -71,19 +73,22 @@ probe_of intents.Read = Prober
 probe_of intents.Write = Probew
 
 -- a plain instruction
-abbrev pub plainly : Instruction → List ℕ → ℕ → Script Meant
-plainly d r psw = planned d r psw >>= λ e. Done (meant d.opcode (Plain e))
+abbrev pub plainly : ℕ → Instruction → List ℕ → Script Meant
+plainly psl d r = plan_of psl d r >>= λ e. Done (meant d.opcode (Plain e))
 
--- by what an instruction does; PROBE traps until the machine has page tables
-abbrev pub acted_by : Bool → Operation → Instruction → List ℕ → ℕ → Script Meant
-acted_by kernel (Sensitive op) d r psw = if is_always_done op || kernel then trapped op d r else Refuse refusals.Instruction
-acted_by kernel (Probe intent) d r psw = trapped (probe_of intent) d r
-acted_by kernel operation d r psw = plainly d r psw
+abbrev pub probing : Intent → Instruction → List ℕ → Script Meant
+probing intent d r = operands_of d r >>= λ o. Done (meant d.opcode (Probes intent o))
 
--- an instruction whose bytes are fetched, in kernel mode or not
-unfoldable pub acted : Bool → Instruction → List ℕ → ℕ → Script Meant
-acted kernel d r psw = acted_by kernel (operation_of d.opcode) d r psw
+-- by what an instruction does
+abbrev pub acted_by : Bool → ℕ → Operation → Instruction → List ℕ → Script Meant
+acted_by kernel psl (Sensitive op) d r = if is_always_done op || kernel then trapped op d r else Refuse refusals.Instruction
+acted_by kernel psl (Probe intent) d r = probing intent d r
+acted_by kernel psl operation d r = plainly psl d r
+
+-- an instruction whose bytes are fetched, in kernel mode or not, with the PSL that MOVPSL gives
+unfoldable pub acted : Bool → ℕ → Instruction → List ℕ → Script Meant
+acted kernel psl d r = acted_by kernel psl (operation_of d.opcode) d r
 
 -- the instruction at PC
-unfoldable pub instruction : Bool → List ℕ → ℕ → Script Meant
-instruction kernel r psw = fetched (slice_index r 15) >>= λ d. acted kernel d r psw
+unfoldable pub instruction : Bool → ℕ → List ℕ → Script Meant
+instruction kernel psl r = fetched (slice_index r 15) >>= λ d. acted kernel psl d r

@@ -2,4 +2,4 @@ use Rattle.vax_table.proofs.Plans.{outcome_sound}
 use Rattle.vax_table.proofs.plan_laws.stores_are_few.Goals as goal
 
 pub returns : goal.returns
-returns c given d r psw s e h = (outcome_sound given d r psw s e h).few
+returns c psl d r s e h = (outcome_sound psl d r s e h).few
