@@ -6,7 +6,7 @@ use Rattle.std.proofs.lemmas.Grind.{common_steps}
 use Rattle.std.proofs.lemmas.Slice.{drop-append-drop}
 use Rattle.vax_hw.specs.Machine.{Machine}
 use Rattle.vv_base.specs.Bytes.{long_at, long_bytes, overwritten}
-use Rattle.vm_state.specs.Start.{opening}
+use Rattle.vm_plain.specs.Start.{opening}
 
 -- the bytes of a longword are those it was read from
 bytes_of_long : (a b c d : ℕ) → a < 256 → b < 256 → c < 256 → d < 256 → long_bytes (a + 256 * b + 65536 * c + 16777216 * d) ≡ a ∷ b ∷ c ∷ d ∷ []

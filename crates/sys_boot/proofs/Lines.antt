@@ -5,7 +5,7 @@ use Rattle.std.proofs.Math.ListN.{drop_of_length-le}
 use Rattle.std.proofs.lemmas.List.{drop-drop, drop-take, get_or-drop, get_or-take, length-drop, length-take-le, take-take}
 use Rattle.std.proofs.lemmas.Grind.{common_steps}
 use Rattle.vv_base.specs.Bytes.{long_at, long_bytes, overwritten}
-use Rattle.vm_state.specs.Partition.{part}
+use Rattle.vm_plain.specs.Partition.{part}
 use Rattle.sys_boot.proofs.Images.{one_long}
 use Rattle.sys_boot.specs.Dump.{if_shown, is_shown, register_line, register_lines, row_line, row_lines, text_of}
 

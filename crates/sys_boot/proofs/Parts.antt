@@ -2,8 +2,8 @@
 use Rattle.std.proofs.Common.{ℕ, ◌≡◌, ◌≤◌, ◌+◌, ◌*◌, ◌/◌, List, [], ◌∷◌, ◌++◌, length, refl, sym, ◌∙◌, ap, codes, Bool, true, false}
 use Rattle.vv_base.specs.Digits.{hex_text}
 use Rattle.vv_io.specs.Lines.{Seen}
-use Rattle.vm_state.specs.Partition.{guest_of, part}
-use Rattle.vm_state.specs.declared.guest_state.GuestState.{GuestState}
+use Rattle.vm_plain.specs.Partition.{guest_of, part}
+use Rattle.vm_plain.specs.declared.guest_state.GuestState.{GuestState}
 use Rattle.sys_boot.specs.Dump.{dump_of, register_lines, row_lines, text_of}
 use Rattle.sys_boot.specs.Showing.{Showing}
 use Rattle.sys_boot.proofs.Lines.{rows_in, text_first, text_joined}

@@ -2,7 +2,7 @@
 use Rattle.std.specs.Prelude.{ℕ, zero, suc, ◌+◌, ◌/◌, Bool, not, ◌==◌, List, [], ◌∷◌, ◌++◌, codes, decimal, drop, length, take, if◌then◌else◌}
 use Rattle.std.specs.List.{list_any}
 use Rattle.vv_base.specs.Digits.{hex_text}
-use Rattle.vm_state.specs.Guest.{Guest}
+use Rattle.vm_plain.specs.Guest.{Guest}
 
 -- `R0 XXXXXXXX`, and the registers behind it
 unfoldable pub register_line : ℕ → ℕ → List ℕ

@@ -1,7 +1,7 @@
 -- Worked examples of a dump, by computation.
 use Rattle.std.specs.Prelude.{◌≡◌, refl, ◌∷◌, ◌++◌, [], codes, replicate, None}
 use Rattle.std.specs.Fmt.{digits}
-use Rattle.vm_state.specs.Guest.{Guest}
+use Rattle.vm_plain.specs.Guest.{Guest}
 use Rattle.sys_boot.specs.Dump.{dump_lines, dump_of, register_line, row_line}
 
 -- 32 bytes, of which the first row is zero

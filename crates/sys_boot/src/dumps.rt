@@ -1,12 +1,12 @@
 ghost use Rattle.std.specs.Prelude.{◌≡◌, ◌<◌, ◌≤◌, ◌+◌, ◌*◌, ◌++◌, ◌∷◌, ◌^◌, [], codes, drop, is_err, length, take};
 ghost use Rattle.vv_io.specs.Lines.{Puts};
-ghost use Rattle.vm_state.specs.Partition.{guest_of, part};
+ghost use Rattle.vm_plain.specs.Partition.{guest_of, part};
 ghost use Rattle.sys_boot.specs.Dump.{dump_of, if_shown, register_lines, row_lines, text_of};
 ghost use Rattle.sys_boot.specs.Showing.{Showing};
 
 use crate::texts::{append, is_shown, name_text, psl_text, register_text, row_text};
 use vax_hw::Hardware;
-use vm_state::GuestState;
+use vm_plain::GuestState;
 use vv_base::{Name, Text, put_u32};
 use vv_io::{Line, LineFault};
 

@@ -1,9 +1,9 @@
 ghost use Rattle.std.specs.Prelude.{◌≡◌, ◌<◌, ◌^◌, ◌≤◌, ◌+◌, ◌*◌, ◌++◌, length, replicate, slice_index};
 ghost use Rattle.vv_base.specs.Bytes.{long_at, overwritten};
-ghost use Rattle.vm_state.specs.Start.{opening};
+ghost use Rattle.vm_plain.specs.Start.{opening};
 
 use vax_hw::Hardware;
-use vm_state::GuestState;
+use vm_plain::GuestState;
 
 /// The byte at a place of an image in zeros.
 fn image_byte(image: &[u8], load: u32, at: u32) -> u8

@@ -1,7 +1,7 @@
 ghost use Rattle.std.specs.Prelude.{◌≡◌, ◌+◌, ◌*◌, ◌≤◌, [], length, OnErr, OnOk};
 ghost use Rattle.std.specs.declared.option.Option.TheVariants.{Some};
 ghost use Rattle.vv_io.specs.Causes.{Rose};
-ghost use Rattle.vm_state.specs.Partition.{guest_of};
+ghost use Rattle.vm_plain.specs.Partition.{guest_of};
 ghost use Rattle.sys_boot.specs.Dump.{dump_of};
 
 use crate::dump;
@@ -9,7 +9,7 @@ use crate::dumps::{put_registers, put_row};
 use crate::texts::{name_text, psl_text, register_text, row_text};
 use std::test::Fail;
 use vax_hw::Hardware;
-use vm_state::GuestState;
+use vm_plain::GuestState;
 use vv_base::{Name, object_name};
 use vv_io::{Cut, Line, LineFault, MemLine};
 

@@ -16,7 +16,7 @@ use Rattle.sys_purge.specs.Purge.{purge_config, rank}
 use Rattle.sys_rounds.proofs.Consoles.{bytes_append, bytes_of_console}
 use Rattle.sys_rounds.specs.Places.{is_at}
 use Rattle.sys_rounds.specs.Round.{Put, State, alone, bytes_on, console_of, on_console, round, rounds, turn, turn_puts}
-use Rattle.vm_state.specs.Guest.{Guest}
+use Rattle.vm_plain.specs.Guest.{Guest}
 
 -- each terminal's guest has the terminal's class
 abbrev pub AreOfClass : List GuestRow → List Terminal → List (Option ℕ) → Type 0

@@ -8,7 +8,7 @@ use Rattle.sys_purge.specs.Purge.{purge_config, renumbered}
 use Rattle.sys_rounds.proofs.Places.{both}
 use Rattle.sys_rounds.specs.Places.{beside_with, is_at}
 use Rattle.sys_rounds.specs.Round.{State, dump_on, first_state, powered, round, rounds, run, turn}
-use Rattle.vm_state.specs.Guest.{Guest}
+use Rattle.vm_plain.specs.Guest.{Guest}
 use Rattle.vv_class.specs.declared.class.AccessClass.{AccessClass}
 
 abbrev pub seen_rows : Config → AccessClass → List GuestRow → List GuestRow

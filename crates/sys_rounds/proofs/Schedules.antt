@@ -13,7 +13,7 @@ use Rattle.sys_rounds.proofs.Consoles.{bytes_append, bytes_of_console, one_guest
 use Rattle.sys_rounds.proofs.OwnLines.{own_lines}
 use Rattle.sys_rounds.proofs.Places.{all_at, all_of_each, both, each_at, each_twice, joined, only, same_all, same_each}
 use Rattle.sys_rounds.proofs.Steps.{shown_add, steps_add}
-use Rattle.vm_state.specs.Guest.{Guest}
+use Rattle.vm_plain.specs.Guest.{Guest}
 
 -- a slice by places
 abbrev pub one_at : Slice → ℕ → Guest → Guest

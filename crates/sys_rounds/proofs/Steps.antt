@@ -1,8 +1,8 @@
 -- Steps that are taken in two bursts.
 use Rattle.std.proofs.Common.{ℕ, ◌≡◌, ◌<◌, ◌+◌, ◌%◌, ◌^◌, List, [], ◌++◌, refl, sym, ◌∙◌, ap, zero, suc, append_assoc, append-nil, arith}
-use Rattle.vm_state.specs.Guest.{Guest}
-use Rattle.vm_state.specs.Run.{Run, Tally, after_step, after_steps, no_steps, tallied}
-use Rattle.vm_state.specs.Step.{Kind, Stopped, Interrupt, Idle, SetModify, Plain, Sensitive, Fault, step}
+use Rattle.vm_plain.specs.Guest.{Guest}
+use Rattle.vm_plain.specs.Run.{Run, Tally, after_step, after_steps, no_steps, tallied}
+use Rattle.vm_plain.specs.Step.{Kind, Stopped, Interrupt, Idle, SetModify, Plain, Sensitive, Fault, step}
 use Rattle.sys_rounds.specs.Counts.{added}
 use Rattle.sys_rounds.specs.Round.{alone}
 

@@ -11,8 +11,8 @@ use Rattle.sys_rounds.specs.Slices.{AreQuanta, Slice, total}
 use Rattle.sys_rounds.proofs.Places.{both, each_at}
 use Rattle.sys_rounds.proofs.Schedules.{changed_each, moves, one_at, passes, stays, takes}
 use Rattle.sys_rounds.proofs.Steps.{as_sum, tally_add, trail_fits}
-use Rattle.vm_state.specs.Guest.{Guest}
-use Rattle.vm_state.specs.Run.{Tally, no_steps}
+use Rattle.vm_plain.specs.Guest.{Guest}
+use Rattle.vm_plain.specs.Run.{Tally, no_steps}
 
 -- the sum of what stands at each place, from the i-th on
 abbrev sum_at : {X : Type 0} → (ℕ → X → Tally) → ℕ → List X → Tally

@@ -5,8 +5,8 @@ use Rattle.sys_objects.specs.declared.records.GuestRow.{GuestRow}
 use Rattle.sys_rounds.specs.Places.{changed}
 use Rattle.sys_rounds.specs.Round.{alone}
 use Rattle.sys_rounds.specs.Slices.{Slice}
-use Rattle.vm_state.specs.Guest.{Guest}
-use Rattle.vm_state.specs.Run.{Tally, no_steps}
+use Rattle.vm_plain.specs.Guest.{Guest}
+use Rattle.vm_plain.specs.Run.{Tally, no_steps}
 
 -- the sum of two, the trail modulo 2^64
 abbrev pub added : Tally → Tally → Tally

@@ -4,7 +4,7 @@ use Rattle.sys_objects.specs.Condition.{IsConfig}
 use Rattle.sys_objects.specs.declared.records.Config.{Config}
 use Rattle.sys_objects.specs.declared.records.GuestRow.{GuestRow}
 use Rattle.sys_rounds.specs.Counts.{round_tally, slices_tally}
-use Rattle.vm_state.specs.Guest.{Guest}
+use Rattle.vm_plain.specs.Guest.{Guest}
 use Rattle.sys_rounds.specs.Round.{State, bytes_on, round}
 use Rattle.sys_rounds.specs.Slices.{AreQuanta, Slice, slices}
 

@@ -6,9 +6,9 @@ use Rattle.sys_objects.specs.declared.records.Config.{Config}
 use Rattle.sys_objects.specs.declared.records.GuestRow.{GuestRow}
 use Rattle.sys_objects.specs.declared.records.Terminal.{Terminal}
 use Rattle.sys_rounds.specs.Places.{beside_with, is_at, place_of}
-use Rattle.vm_state.specs.Guest.{Guest}
-use Rattle.vm_state.specs.Run.{Run, after_steps, no_steps}
-use Rattle.vm_state.specs.Start.{opening, started}
+use Rattle.vm_plain.specs.Guest.{Guest}
+use Rattle.vm_plain.specs.Run.{Run, after_steps, no_steps}
+use Rattle.vm_plain.specs.Start.{opening, started}
 
 -- bytes that a line is shown
 pub record Put : Type 0 where

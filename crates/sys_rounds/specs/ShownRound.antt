@@ -13,9 +13,9 @@ use Rattle.vax_table.specs.Plan.{performed, planned}
 use Rattle.vax_table.specs.Reading.{decoded_at}
 use Rattle.vax_table.specs.Rows.{row_of}
 use Rattle.vax_table.specs.Whole.{acted, instruction}
-use Rattle.vm_state.specs.Guest.{Guest}
-use Rattle.vm_state.specs.Start.{started}
-use Rattle.vm_state.specs.Step.{step}
+use Rattle.vm_plain.specs.Guest.{Guest}
+use Rattle.vm_plain.specs.Start.{started}
+use Rattle.vm_plain.specs.Step.{step}
 
 pub first_place : place_of (is_at 4) (Some 3 ∷ None ∷ Some 4 ∷ Some 4 ∷ []) ≡ Some 2
 first_place = refl

@@ -5,7 +5,7 @@ use Rattle.sys_objects.specs.declared.records.GuestRow.{GuestRow}
 use Rattle.sys_objects.specs.declared.records.Terminal.{Terminal}
 use Rattle.sys_rounds.specs.Places.{changed}
 use Rattle.sys_rounds.specs.Round.{Put, Went, alone, console_of, on_console}
-use Rattle.vm_state.specs.Guest.{Guest}
+use Rattle.vm_plain.specs.Guest.{Guest}
 
 -- the guest at a place takes so many steps
 pub record Slice : Type 0 where

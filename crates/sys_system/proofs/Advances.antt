@@ -13,10 +13,10 @@ use Rattle.vm_guest.specs.Kept.{run_of}
 use Rattle.vm_guest.specs.Placed.{Placed}
 use Rattle.vm_guest.specs.Turn.{Advances}
 use Rattle.vm_guest.specs.declared.counts.Counts.{Counts}
-use Rattle.vm_state.proofs.Few.{shows_few}
-use Rattle.vm_state.specs.Guest.{Guest}
-use Rattle.vm_state.specs.Partition.{guest_of}
-use Rattle.vm_state.specs.Run.{Run, no_steps}
+use Rattle.vm_plain.proofs.Few.{shows_few}
+use Rattle.vm_plain.specs.Guest.{Guest}
+use Rattle.vm_plain.specs.Partition.{guest_of}
+use Rattle.vm_plain.specs.Run.{Run, no_steps}
 
 -- what so many steps show
 few_shown : (n : ℕ) (g : Guest) → n ≤ 100000 → length (alone n g).shown ≤ 1400000

@@ -22,9 +22,9 @@ use Rattle.sys_system.proofs.Taken.{shows_same}
 use Rattle.sys_system.specs.Layout.{guests_in}
 use Rattle.sys_system.specs.Shows.{Shows, only_on}
 use Rattle.vm_guest.specs.Placed.{Placed}
-use Rattle.vm_state.specs.Guest.{Guest}
-use Rattle.vm_state.specs.Partition.{guest_of}
-use Rattle.vm_state.specs.declared.guest_state.GuestState.{GuestState}
+use Rattle.vm_plain.specs.Guest.{Guest}
+use Rattle.vm_plain.specs.Partition.{guest_of}
+use Rattle.vm_plain.specs.declared.guest_state.GuestState.{GuestState}
 
 -- the lines on which rows dump
 abbrev pub dumps : List GuestRow → List ℕ

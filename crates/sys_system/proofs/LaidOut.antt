@@ -9,9 +9,9 @@ use Rattle.sys_rounds.specs.Places.{beside_with, changed}
 use Rattle.sys_system.specs.Layout.{ArePlaced, IsPlaced, guests_in}
 use Rattle.vm_guest.specs.Kept.{AreSame}
 use Rattle.vm_guest.specs.Placed.{Placed}
-use Rattle.vm_state.specs.Guest.{Guest}
-use Rattle.vm_state.specs.Partition.{IsApart, guest_of, part}
-use Rattle.vm_state.specs.declared.guest_state.GuestState.{GuestState}
+use Rattle.vm_plain.specs.Guest.{Guest}
+use Rattle.vm_plain.specs.Partition.{IsApart, guest_of, part}
+use Rattle.vm_plain.specs.declared.guest_state.GuestState.{GuestState}
 use Rattle.vv_base.specs.Bytes.{overwritten}
 
 pub placed_long : (base tables : ℕ) (rows : List GuestRow) (gs : List Placed) → ArePlaced base tables rows gs → length gs ≡ length rows

@@ -30,8 +30,8 @@ use Rattle.sys_system.specs.Layout.{guests_in}
 use Rattle.sys_system.specs.declared.turns.Turn.{Turn}
 use Rattle.vm_guest.specs.Kept.{tally_of}
 use Rattle.vm_guest.specs.Placed.{Placed}
-use Rattle.vm_state.specs.Guest.{Guest}
-use Rattle.vm_state.specs.Run.{Tally, no_steps}
+use Rattle.vm_plain.specs.Guest.{Guest}
+use Rattle.vm_plain.specs.Run.{Tally, no_steps}
 
 -- sums of counts
 added_twice : (a b c : Tally) → added (added a b) c ≡ added a (added b c)

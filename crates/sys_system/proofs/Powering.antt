@@ -15,9 +15,9 @@ use Rattle.sys_system.proofs.LaidOut.{all_stay, beside_more, guests_more, overwr
 use Rattle.sys_system.specs.Calls.{first_misfit, is_misfit}
 use Rattle.sys_system.specs.Layout.{ArePlaced, IsPlaced, guests_in}
 use Rattle.vm_guest.specs.Placed.{Placed}
-use Rattle.vm_state.specs.Partition.{IsApart, guest_of, part}
-use Rattle.vm_state.specs.Start.{opening, started}
-use Rattle.vm_state.specs.declared.guest_state.GuestState.{GuestState}
+use Rattle.vm_plain.specs.Partition.{IsApart, guest_of, part}
+use Rattle.vm_plain.specs.Start.{opening, started}
+use Rattle.vm_plain.specs.declared.guest_state.GuestState.{GuestState}
 
 -- what stands beside at a place
 pub beside_at : {X Y Z : Type 0} (f : X → Y → Z) (xs : List X) (ys : List Y) (k : ℕ) (x : X) (y : Y) → k < length xs → k < length ys → x ≡ slice_index_or xs k x → y ≡ slice_index_or ys k y → f x y ≡ slice_index_or (beside_with f xs ys) k (f x y)

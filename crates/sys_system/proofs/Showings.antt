@@ -5,7 +5,7 @@ use Rattle.sys_rounds.proofs.Places.{both}
 use Rattle.std.proofs.lemmas.Bool.{eq-eqb, eqb-true}
 use Rattle.std.proofs.lemmas.List.{get_or-set_same, get_or-set_other}
 use Rattle.sys_boot.specs.Dump.{dump_of}
-use Rattle.vm_state.specs.Guest.{Guest}
+use Rattle.vm_plain.specs.Guest.{Guest}
 use Rattle.vv_io.specs.Lines.{Seen, unseen}
 use Rattle.sys_boot.proofs.Puts.{joined, shows_nothing, still}
 use Rattle.sys_boot.specs.Showing.{Showing}

@@ -22,9 +22,9 @@ use Rattle.sys_system.specs.declared.turns.Turn.{Turn}
 use Rattle.vm_guest.specs.Kept.{steps_in, tally_of}
 use Rattle.vm_guest.specs.Placed.{Placed}
 use Rattle.vm_guest.specs.declared.counts.Counts.{Counts}
-use Rattle.vm_state.specs.Guest.{Guest}
-use Rattle.vm_state.specs.Partition.{IsApart, guest_of}
-use Rattle.vm_state.specs.Run.{Tally}
+use Rattle.vm_plain.specs.Guest.{Guest}
+use Rattle.vm_plain.specs.Partition.{IsApart, guest_of}
+use Rattle.vm_plain.specs.Run.{Tally}
 
 pub get_at : {X : Type 0} (xs : List X) (k : ℕ) (x : X) → k < length xs → x ≡ slice_index_or xs k x → slice_get xs k ≡ Some x
 get_at [] k x h read = absurd (omega (arith, h))

@@ -19,8 +19,8 @@ use Rattle.sys_system.specs.declared.power.PowerFault.TheVariants.{Image, NoMemo
 use Rattle.vm_guest.specs.Kept.{tally_of}
 use Rattle.vm_guest.specs.Placed.{Placed}
 use Rattle.vm_guest.specs.Turn.{no_counts}
-use Rattle.vm_state.specs.Partition.{IsApart}
-use Rattle.vm_state.specs.Run.{Tally}
+use Rattle.vm_plain.specs.Partition.{IsApart}
+use Rattle.vm_plain.specs.Run.{Tally}
 
 -- the machine retired the plain steps of these
 pub record Retires (m m' : Machine) (t : Tally) : Type 0 where

@@ -14,7 +14,7 @@ use Rattle.sys_system.specs.declared.turns.Turns.{Turns}
 use Rattle.vm_guest.specs.Kept.{steps_in, tally_of}
 use Rattle.vm_guest.specs.Placed.{Placed}
 use Rattle.vm_guest.specs.declared.counts.Counts.{Counts}
-use Rattle.vm_state.specs.Partition.{IsApart, guest_of}
+use Rattle.vm_plain.specs.Partition.{IsApart, guest_of}
 
 abbrev pub slice_of : Turn → Slice
 slice_of t = record { guest = t.guest; steps = t.steps }

@@ -6,8 +6,8 @@ use Rattle.sys_objects.specs.Condition.{IsConfig}
 use Rattle.sys_objects.specs.declared.records.Config.{Config}
 use Rattle.sys_objects.specs.declared.records.GuestRow.{GuestRow}
 use Rattle.vm_guest.specs.Placed.{Placed}
-use Rattle.vm_state.specs.Guest.{Guest}
-use Rattle.vm_state.specs.Partition.{guest_of}
+use Rattle.vm_plain.specs.Guest.{Guest}
+use Rattle.vm_plain.specs.Partition.{guest_of}
 
 -- the guest of a row, with its memory and its tables from these pages on
 pub record IsPlaced (row : GuestRow) (first table : ℕ) (g : Placed) : Type 0 where

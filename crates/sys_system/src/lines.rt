@@ -3,11 +3,11 @@ ghost use Rattle.sys_boot.specs.Dump.{dump_of};
 ghost use Rattle.sys_boot.specs.Showing.{IsShowing};
 ghost use Rattle.sys_rounds.specs.Places.{place_of};
 ghost use Rattle.sys_system.specs.Shows.{Shows, only_on};
-ghost use Rattle.vm_state.specs.Partition.{guest_of};
+ghost use Rattle.vm_plain.specs.Partition.{guest_of};
 
 use sys_boot::dump;
 use vax_hw::Hardware;
-use vm_state::GuestState;
+use vm_plain::GuestState;
 use vv_base::Name;
 use vv_io::{Line, LineFault, put_on};
 

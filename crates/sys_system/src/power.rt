@@ -5,8 +5,8 @@ ghost use Rattle.sys_rounds.specs.Places.{beside_with};
 ghost use Rattle.sys_rounds.specs.Round.{powered};
 ghost use Rattle.sys_system.specs.Calls.{CountsStay, first_misfit, is_misfit};
 ghost use Rattle.sys_system.specs.Layout.{AreLaidOut, IsPlaced, guests_in};
-ghost use Rattle.vm_state.specs.Partition.{IsApart, guest_of};
-ghost use Rattle.vm_state.specs.Start.{start_state};
+ghost use Rattle.vm_plain.specs.Partition.{IsApart, guest_of};
+ghost use Rattle.vm_plain.specs.Start.{start_state};
 
 use std::alloc::Global;
 use sys_boot::load_image;

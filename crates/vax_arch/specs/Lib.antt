@@ -3,3 +3,4 @@ pub mod Protection
 pub mod Rei
 pub mod Ring
 pub mod Shown
+pub mod Walk

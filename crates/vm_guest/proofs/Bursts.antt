@@ -8,13 +8,13 @@ use Rattle.vax_table.specs.Whole.{Act, Meant, Traps}
 use Rattle.vax_table.specs.Whole as whole
 use Rattle.vax_hw.specs.declared.world.Exit.{Exit}
 use Rattle.vax_hw.specs.declared.world.Exit.TheVariants.{Arithmetic, Budget, Emulate}
-use Rattle.vm_state.specs.Guest.{Guest}
-use Rattle.vm_state.specs.Run.{Run, after_step, after_steps}
-use Rattle.vm_state.specs.Step.{Plain, step, trapped}
+use Rattle.vm_plain.specs.Guest.{Guest}
+use Rattle.vm_plain.specs.Run.{Run, after_step, after_steps}
+use Rattle.vm_plain.specs.Step.{Plain, step, trapped}
 use Rattle.vm_guest.specs.Exits.{ended}
 use Rattle.vm_guest.specs.Kept.{Counted, Ended}
 use Rattle.vm_guest.specs.StandsFor.{StandsFor}
-use Rattle.vm_state.specs.Partition.{IsApart}
+use Rattle.vm_plain.specs.Partition.{IsApart}
 use Rattle.vm_guest.proofs.Simulation.{PlainStep, plain_step}
 use Rattle.vm_guest.proofs.Stored.{apart_then, nothing_apart}
 

@@ -5,13 +5,13 @@ use Rattle.vax_hw.specs.Machine.{Machine}
 use Rattle.vax_hw.specs.Real.{real}
 use Rattle.vax_hw.specs.declared.world.Exit.{Exit}
 use Rattle.vax_hw.specs.declared.world.World.{World}
-use Rattle.vm_state.specs.Guest.{Guest}
+use Rattle.vm_plain.specs.Guest.{Guest}
 use Rattle.vm_guest.specs.Kept.{CanRun, run_of, Ended, PlainRun, rise, loaded, Counted}
-use Rattle.vm_state.specs.Partition.{IsApart, guest_of, part}
+use Rattle.vm_plain.specs.Partition.{IsApart, guest_of, part}
 use Rattle.vm_guest.specs.Exits.{ended}
 use Rattle.vm_guest.specs.StandsFor.{StandsFor}
-use Rattle.vm_state.specs.Run.{after_steps}
-use Rattle.vm_state.specs.declared.guest_state.GuestState.{GuestState}
+use Rattle.vm_plain.specs.Run.{after_steps}
+use Rattle.vm_plain.specs.declared.guest_state.GuestState.{GuestState}
 use Rattle.vm_guest.specs.declared.counts.Counts.{Counts}
 use Rattle.vm_guest.proofs.Bursts.{Burst, burst, plainly, same_plainly}
 

@@ -18,11 +18,11 @@ use Rattle.vax_table.specs.Whole as whole
 use Rattle.vax_table.specs.Claims.{claims}
 use Rattle.vax_table.proofs.Scripts.{outcome_far}
 use Rattle.vax_table.proofs.Wholes.{stores_claimed}
-use Rattle.vm_state.specs.Guest.{Guest, unmapped}
-use Rattle.vm_state.specs.Step.{Plain, Stepped, did, running, step, step_by, trapped, with_effect, with_psw}
+use Rattle.vm_plain.specs.Guest.{Guest, unmapped}
+use Rattle.vm_plain.specs.Step.{Plain, Stepped, did, running, step, step_by, trapped, with_effect, with_psw}
 use Rattle.vm_guest.specs.Exits.{met}
 use Rattle.vm_guest.specs.StandsFor.{StandsFor}
-use Rattle.vm_state.specs.Partition.{IsApart, part}
+use Rattle.vm_plain.specs.Partition.{IsApart, part}
 use Rattle.vm_guest.proofs.Answered.{claims_answered}
 use Rattle.vm_guest.proofs.Stored.{apart_stored, part_stored, stored_length}
 

@@ -7,7 +7,7 @@ use Rattle.vax_table.specs.PlanLaws.{StoresAreClaimed}
 use Rattle.vax_table.specs.Script.{IsIn}
 use Rattle.vax_table.specs.Stores.{all_stored, bytes_stored}
 use Rattle.vax_table.specs.declared.effect.Store.{Store}
-use Rattle.vm_state.specs.Partition.{IsApart, part}
+use Rattle.vm_plain.specs.Partition.{IsApart, part}
 
 -- places that are the addresses behind a base
 abbrev pub Based : ℕ → (ℕ → ℕ) → Type 0

@@ -7,18 +7,18 @@ use Rattle.std.specs.declared.result.Result.TheVariants.{Err}
 use Rattle.vax_hw.specs.Real.{one}
 use Rattle.vax_hw.specs.declared.world.Exit.TheVariants.{Arithmetic}
 use Rattle.vax_hw.specs.declared.world.Exit.{Exit}
-use Rattle.vm_state.specs.Guest.{Guest}
+use Rattle.vm_plain.specs.Guest.{Guest}
 use Rattle.vm_guest.specs.Kept.{run_of, steps_in, tally_of, AreSame, CanRun, Ended, PlainRun, TakesStep}
-use Rattle.vm_state.specs.Partition.{IsApart, guest_of}
+use Rattle.vm_plain.specs.Partition.{IsApart, guest_of}
 use Rattle.vm_console.specs.Appends.{Appends}
 use Rattle.vm_guest.proofs.Stored.{apart_then, nothing_apart}
-use Rattle.vm_state.specs.Run.{Run, after_step, after_steps}
-use Rattle.vm_state.specs.Step.{Stepped, step, step_by, rested, stop_text}
+use Rattle.vm_plain.specs.Run.{Run, after_step, after_steps}
+use Rattle.vm_plain.specs.Step.{Stepped, step, step_by, rested, stop_text}
 use Rattle.vm_guest.specs.Exits.{behind_trap, ended, met}
 use Rattle.vm_guest.proofs.Bursts.{as_it_is, no_trap}
 use Rattle.vm_guest.proofs.Simulation.{met_step}
 use Rattle.vm_guest.specs.Turn.{Turn}
-use Rattle.vm_state.specs.declared.guest_state.GuestState.{GuestState}
+use Rattle.vm_plain.specs.declared.guest_state.GuestState.{GuestState}
 use Rattle.vm_guest.specs.declared.counts.Counts.{Counts}
 
 pub no_change : (g : GuestState) → AreSame g g

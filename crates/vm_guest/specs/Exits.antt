@@ -2,9 +2,9 @@
 use Rattle.std.specs.Prelude.{◌++◌, slice_index}
 use Rattle.vax_hw.specs.declared.world.Exit.{Exit}
 use Rattle.vax_hw.specs.declared.world.Exit.TheVariants.{Budget, NotValid, Denied, Modify, Emulate, Arithmetic, Refused}
-use Rattle.vm_state.specs.Guest.{Guest}
-use Rattle.vm_state.specs.Run.{Run}
-use Rattle.vm_state.specs.Step.{Stepped, Stopped, Fault, stopped, sensitive, faulted, rested}
+use Rattle.vm_plain.specs.Guest.{Guest}
+use Rattle.vm_plain.specs.Run.{Run}
+use Rattle.vm_plain.specs.Step.{Stepped, Stopped, Fault, stopped, sensitive, faulted, rested}
 
 -- Before an instruction that did not retire. With mapping off a reference that the machine refuses is one beyond the
 -- guest's memory; the other exits are none of these.

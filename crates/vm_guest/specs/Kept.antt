@@ -7,10 +7,10 @@ use Rattle.vax_hw.specs.declared.world.Exit.TheVariants.{Arithmetic, Budget}
 use Rattle.vax_hw.specs.declared.world.World.{World}
 use Rattle.vm_guest.specs.Exits.{ended}
 use Rattle.vm_guest.specs.StandsFor.{StandsFor}
-use Rattle.vm_state.specs.Partition.{IsApart, guest_of}
-use Rattle.vm_state.specs.Run.{Run, Tally, after_step, after_steps}
-use Rattle.vm_state.specs.Step.{Stepped}
-use Rattle.vm_state.specs.declared.guest_state.GuestState.{GuestState}
+use Rattle.vm_plain.specs.Partition.{IsApart, guest_of}
+use Rattle.vm_plain.specs.Run.{Run, Tally, after_step, after_steps}
+use Rattle.vm_plain.specs.Step.{Stepped}
+use Rattle.vm_plain.specs.declared.guest_state.GuestState.{GuestState}
 use Rattle.vm_guest.specs.declared.counts.Counts.{Counts}
 
 -- what is loaded into the machine: VM and executive mode, and the guest's PSW

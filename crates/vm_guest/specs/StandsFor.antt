@@ -2,8 +2,8 @@
 use Rattle.std.specs.Prelude.{◌≡◌, ◌*◌, ◌%◌, length, None}
 use Rattle.vax_arch.specs.Fields.{current_of}
 use Rattle.vax_hw.specs.Machine.{Machine}
-use Rattle.vm_state.specs.Guest.{Guest}
-use Rattle.vm_state.specs.Partition.{part}
+use Rattle.vm_plain.specs.Guest.{Guest}
+use Rattle.vm_plain.specs.Partition.{part}
 
 -- The machine has the guest's memory from P0BR on, and the guest's registers, status word and mode; the guest runs.
 pub record StandsFor (m : Machine) (g : Guest) : Type 0 where

@@ -3,10 +3,10 @@ use Rattle.std.specs.Prelude.{ℕ, ◌≡◌, ◌≤◌, ◌+◌, ◌*◌, ◌%�
 use Rattle.vax_hw.specs.Machine.{Machine}
 use Rattle.vm_console.specs.Appends.{Appends}
 use Rattle.vm_guest.specs.Kept.{AreSame, run_of, steps_in}
-use Rattle.vm_state.specs.Partition.{IsApart}
+use Rattle.vm_plain.specs.Partition.{IsApart}
 use Rattle.vm_guest.specs.declared.counts.Counts.{Counts}
-use Rattle.vm_state.specs.Run.{after_steps}
-use Rattle.vm_state.specs.declared.guest_state.GuestState.{GuestState}
+use Rattle.vm_plain.specs.Run.{after_steps}
+use Rattle.vm_plain.specs.declared.guest_state.GuestState.{GuestState}
 
 -- With so many steps left before and after, the guest went on by steps of its own.
 pub record Turn {Port : Type 0} (may : Port → List ℕ → Type 0) (port port' : Port) (m m' : Machine) (g g' : GuestState) (c c' : Counts) (left left' : ℕ) : Type 0 where

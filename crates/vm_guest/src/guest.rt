@@ -1,14 +1,14 @@
 ghost use Rattle.std.specs.Prelude.{◌≡◌, ◌≤◌, ◌<◌, ◌+◌, ◌*◌, ◌^◌, ◌⊎◌, Some, length};
 ghost use Rattle.vm_guest.specs.Kept.{AreSame};
 ghost use Rattle.vm_guest.specs.Turn.{Advances};
-ghost use Rattle.vm_state.specs.Start.{restarted, start_state};
+ghost use Rattle.vm_plain.specs.Start.{restarted, start_state};
 
 use crate::Counts;
 use crate::kernel::advance_state;
 use std::marker::Model;
 use vax_hw::Hardware;
 use vm_console::Port;
-use vm_state::GuestState;
+use vm_plain::GuestState;
 
 /// A guest in the machine: its state, and the first of the 580 machine pages for its real tables.
 #[derive(Drop)]

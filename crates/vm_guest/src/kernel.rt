@@ -7,7 +7,7 @@ use crate::Counts;
 use crate::meet::{meet, stop_behind_trap};
 use vax_hw::{Exit, Hardware, Psl, World};
 use vm_console::{Port, show_all};
-use vm_state::GuestState;
+use vm_plain::GuestState;
 
 /// VM set, current and previous mode executive.
 const VM_IN_EXECUTIVE: u32 = 0x2140_0000;

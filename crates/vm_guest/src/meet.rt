@@ -1,13 +1,13 @@
 ghost use Rattle.std.specs.Prelude.{◌≡◌, ◌<◌, ◌+◌, ◌%◌, ◌^◌, ◌++◌, List, [], ◌∷◌, ℕ, slice_index, slice_set, Some};
 ghost use Rattle.vm_guest.specs.Exits.{behind_trap, met};
 ghost use Rattle.vm_guest.specs.Kept.{AreSame, steps_in, TakesStep};
-ghost use Rattle.vm_state.specs.Partition.{guest_of};
-ghost use Rattle.vm_state.specs.Step.{sensitive, showed, stop_text};
+ghost use Rattle.vm_plain.specs.Partition.{guest_of};
+ghost use Rattle.vm_plain.specs.Step.{sensitive, showed, stop_text};
 
 use crate::Counts;
 use vax_alu::{AluOp, alu};
 use vax_hw::{Exit, Psl, Sens, Trapped};
-use vm_state::GuestState;
+use vm_plain::GuestState;
 use vv_base::{Text, Width, hex};
 
 /// Stop codes: HALT; an exception that isn't built; a reference beyond memory.

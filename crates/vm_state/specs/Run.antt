@@ -1,6 +1,6 @@
 -- A guest's run: what it has come to, what it has shown, and its steps by their kinds.
 use Rattle.std.specs.Prelude.{ℕ, zero, suc, ◌+◌, ◌%◌, ◌^◌, List, ◌++◌}
-use Rattle.vm_state.specs.Guest.{Guest}
+use Rattle.vm_state.specs.State.{Guest}
 use Rattle.vm_state.specs.Step.{Kind, Stopped, Interrupt, Idle, SetModify, Plain, Sensitive, Fault, Stepped, step}
 
 -- how many steps of each kind there were, and the trail modulo 2^64

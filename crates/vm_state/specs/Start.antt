@@ -1,7 +1,10 @@
--- How a guest begins (VAX Architecture Reference Manual: processor initialization; the addresses are the profile's).
-use Rattle.std.specs.Prelude.{ℕ, ◌+◌, ◌-◌, List, [], ◌∷◌, ◌++◌, length, replicate, Bool, None}
-use Rattle.vm_state.specs.Guest.{Guest}
-use Rattle.vm_state.specs.declared.guest_state.GuestState.{GuestState}
+-- How a guest begins, and begins again (VAX Architecture Reference Manual: processor initialization; what is in the
+-- registers then is profile).
+use Rattle.std.specs.Prelude.{ℕ, List, [], ◌∷◌, ◌++◌, ◌-◌, ◌+◌, length, replicate, Bool, false, Some, None}
+use Rattle.vax_arch.specs.Walk.{Tables}
+use Rattle.vm_clock.specs.Clock as clock
+use Rattle.vm_console.specs.Console as console
+use Rattle.vm_state.specs.State.{State}
 
 -- memory of a size, zero but for an image
 unfoldable pub opening : ℕ → ℕ → List ℕ → List ℕ
@@ -11,26 +14,31 @@ opening size load image = replicate load 0 ++ image ++ replicate (size - (load +
 abbrev pub start_registers : ℕ → List ℕ
 start_registers start = replicate 15 0 ++ start ∷ []
 
--- kernel mode, on the interrupt stack, at IPL 31
-abbrev pub start_psl : ℕ
-start_psl = 0x041f0000
+-- mapping is off, and the tables are empty: P1's length is then 2 ^ 21
+abbrev pub start_tables : Tables
+start_tables = record { mapped = false; p0br = 0; p0lr = 0; p1br = 0; p1lr = 0x200000; sbr = 0; slr = 0 }
 
--- a guest that runs, from an address
-abbrev pub started : List ℕ → ℕ → Guest
-started memory start = record { memory = memory; r = start_registers start; psl = start_psl; halt = None }
-
--- what is kept of it beside its memory
-abbrev pub start_state : (pages base start : ℕ) → Bool → GuestState
-start_state pages base start modify_faults = record {
+-- A guest that runs from an address: in kernel mode, on the interrupt stack, at IPL 31; nothing is pending.
+abbrev pub started : ℕ → Bool → State
+started start modify_faults = record {
   r = start_registers start;
-  psl = record { 0 = start_psl };
+  psl = 0x041f0000;
+  stacks = replicate 5 0;
+  tables = start_tables;
+  pcbb = 0;
+  scbb = 0;
+  astlvl = 4;
+  sisr = 0;
+  clock = clock.initial_state;
+  console = console.initial_state;
+  kcall_due = false;
+  queue = [];
+  waiting = false;
   halt = None;
-  pages = pages;
-  base = base;
-  start = start;
+  steps = 0;
   modify_faults = modify_faults;
 }
 
--- it starts again
-abbrev pub restarted : GuestState → GuestState
-restarted g = start_state g.pages g.base g.start g.modify_faults
+-- one that was never started
+abbrev pub stopped_at_first : ℕ → Bool → State
+stopped_at_first start modify_faults = record (started start modify_faults) { halt = Some 0 }

@@ -1,96 +1,181 @@
 -- One step of a guest that is alone on its private virtual VAX
--- (Hall and Robinson, Virtualizing the VAX Architecture, ISCA 1991; Karger and others, IEEE TSE 17(11), 1991).
-use Rattle.std.specs.Prelude.{ℕ, ◌+◌, ◌*◌, ◌/◌, ◌%◌, List, [], ◌∷◌, ◌++◌, ◌==◌, if◌then◌else◌, slice_index, slice_set, Option, Some, None, Result, Ok, Err}
-use Rattle.vv_base.specs.Digits.{hex_text}
-use Rattle.vv_base.specs.declared.width.Width.TheVariants.{Long}
-use Rattle.vax_arch.specs.Fields.{current_of}
-use Rattle.vax_table.specs.Arithmetic.{alu_of}
-use Rattle.vax_table.specs.Effects.{Effect}
-use Rattle.vax_table.specs.Script.{Trouble, At, Test, outcome}
+-- (Hall and Robinson, Virtualizing the VAX Architecture, ISCA 1991; Karger and others, IEEE TSE 17(11), 1991; VAX
+-- Architecture Reference Manual: instruction execution, exceptions and interrupts).
+use Rattle.std.specs.Prelude.{ℕ, ◌+◌, ◌-◌, ◌/◌, ◌%◌, ◌*◌, ◌^◌, Bool, true, false, if◌then◌else◌, List, [], ◌∷◌, ◌++◌, length, map, take, drop, Option, Some, None, Result, Ok, Err}
+use Rattle.vv_base.specs.Width.{size_of}
+use Rattle.vax_arch.specs.Walk.{page_of}
+use Rattle.vax_arch.specs.declared.mode.Intent.{Intent}
+use Rattle.vax_table.specs.Claims.{addresses}
+use Rattle.vax_table.specs.Effects.{Effect, long_of}
+use Rattle.vax_table.specs.Plan.{probed}
+use Rattle.vax_table.specs.Script.{At, Script, Test, Trouble, outcome, reached}
 use Rattle.vax_table.specs.Stores.{all_stored}
 use Rattle.vax_table.specs.Trail.{term}
-use Rattle.vax_table.specs.Whole.{Act, Meant, Traps, instruction, is_kernel}
+use Rattle.vax_table.specs.Tries.{Clear, Completes, Tried, tried}
+use Rattle.vax_table.specs.Tries as tries
+use Rattle.vax_table.specs.Whole.{Act, Meant, Probes, Traps, instruction, is_kernel}
 use Rattle.vax_table.specs.Whole as whole
-use Rattle.vax_table.specs.declared.act.Sens.{Sens}
-use Rattle.vax_table.specs.declared.act.Sens.TheVariants.{Halt, Mtpr}
-use Rattle.vax_table.specs.declared.act.Trapped.{Trapped}
-use Rattle.vax_table.specs.declared.answer.AluOp.TheVariants.{Move}
-use Rattle.vm_state.specs.Guest.{Guest, unmapped}
+use Rattle.vax_table.specs.declared.effect.Store.{Store}
+use Rattle.vax_table.specs.declared.evaluation.Operands.{Operands}
+use Rattle.vm_clock.specs.Clock.{after_tick}
+use Rattle.vm_state.specs.Initiate.{Initiation, KernelStackBad, Stops, Taken, initiate}
+use Rattle.vm_state.specs.Interrupts.{Source, due, interrupt_of, taken}
+use Rattle.vm_state.specs.Probe.{Answers, NotValid, Probed, probe}
+use Rattle.vm_state.specs.Probe as probes
+use Rattle.vm_state.specs.Sensitive.{ClearAt, Does, Faults, LacksMemory, Sensed, StopsThere, frames_of_bytes, sensed, troubled}
+use Rattle.vm_state.specs.State.{Guest, State, mode_of_state, pc_of}
+use Rattle.vm_state.specs.Stops.{PastMemory, Stop, stop_code, stop_text}
+use Rattle.vm_state.specs.Translation.{is_clear, look, marked_by, marks_by, place_of, space_of}
+use Rattle.vm_state.specs.declared.exception.Exc.{Exc}
+use Rattle.vm_state.specs.declared.exception.Exc.TheVariants as excs
 
 -- The kinds of step: the guest stands; an interrupt is taken; it waits; a modify bit is set; a plain instruction
--- completes, with its term of the trail; a sensitive one completes; a fault is initiated, or the guest stops.
+-- completes, with its term of the trail; a sensitive one completes; a fault is initiated.
 pub data Kind : Type 0 where
   Stopped Interrupt Idle SetModify : Kind
   Plain : ℕ → Kind
   Sensitive Fault : Kind
 
--- the guest after a step, the bytes that it shows on its console, and the kind
+-- the pages that an instruction's accesses touch, up to and with the first trouble: those that gave bytes, and the one
+-- that gave none
+pub record Touched : Type 0 where
+  pub found : List ℕ
+  pub lacking : List ℕ
+
+abbrev pub nothing_touched : Touched
+nothing_touched = record { found = []; lacking = [] }
+
+-- the guest after a step, the bytes that it shows on its console, the kind, the pages touched, the frames written
 pub record Stepped : Type 0 where
   pub guest : Guest
   pub shown : List ℕ
   pub kind : Kind
+  pub touched : Touched
+  pub written : List ℕ
+
+abbrev pub stepped : Guest → List ℕ → Kind → List ℕ → Stepped
+stepped g shown kind written = record { guest = g; shown = shown; kind = kind; touched = nothing_touched; written = written }
+
+-- It stops with a code, and says so with its PC; all else of it stays.
+abbrev pub stopped : Guest → Stop → Kind → Stepped
+stopped g stop kind = stepped (record g { state = record g.state { halt = Some (stop_code stop) } }) (stop_text (stop_code stop) (pc_of g.state)) kind []
+
+-- an initiation, in a step of this kind; where it stops the guest, that stops as it is here
+abbrev pub initiated_in : Kind → Guest → Initiation → Stepped
+initiated_in kind g (Taken h written) = stepped h [] kind written
+initiated_in kind g (KernelStackBad h written) = stepped h [] kind written
+initiated_in kind g (Stops stop) = stopped g stop kind
+
+-- a fault of the instruction at PC, of which nothing happened
+abbrev pub faulted : Guest → Exc → Stepped
+faulted g e = initiated_in Fault g (initiate g e)
+
+-- The page of a byte that would be written has a clear modify bit: it is set, and the instruction begins again at the
+-- next step; or a guest with modify faults gets one.
+abbrev pub clear_met : Guest → ℕ → Stepped
+clear_met g va =
+    if g.state.modify_faults then faulted g (excs.ModifyFault va) else
+    stepped (record g { memory = marked_by (look g (page_of va)) g.memory }) [] SetModify (marks_by (look g (page_of va)))
+
+-- a sensitive instruction
+abbrev pub sensed_as : Guest → Sensed → Stepped
+sensed_as g (Does h shown written) = stepped h shown Sensitive written
+sensed_as g (Faults e) = faulted g e
+sensed_as g (ClearAt va) = clear_met g va
+sensed_as g (StopsThere stop) = stopped g stop Sensitive
+sensed_as g LacksMemory = stopped g PastMemory Fault
 
 -- another status word
 abbrev pub with_psw : ℕ → ℕ → ℕ
-with_psw psl psw = psl / 256 * 256 + psw % 256
+with_psw psl psw = psl / 2 ^ 8 * 2 ^ 8 + psw % 2 ^ 8
 
--- the guest behind a plain instruction: its stores are made in order, each at its address
+-- the frames of stores
+abbrev pub frames_stored : Guest → List Store → List ℕ
+frames_stored g [] = []
+frames_stored g (x ∷ xs) = frames_of_bytes g (addresses (size_of x.width) x.va) ++ frames_stored g xs
+
+-- the guest behind a plain instruction: its stores are made in order, at the places of before the first
 abbrev pub with_effect : Guest → Effect → Guest
-with_effect g e = record g { memory = all_stored (λ va. va) e.writes g.memory; r = e.r; psl = with_psw g.psl e.psw }
+with_effect g e = record { memory = all_stored (place_of g) e.writes g.memory; state = record g.state { r = e.r; psl = with_psw g.state.psl e.psw } }
 
--- `?CC PPPPPPPP`, CR and LF: the code and the PC
-abbrev pub stop_text : ℕ → ℕ → List ℕ
-stop_text code pc = 63 ∷ hex_text 2 code ++ 32 ∷ hex_text 8 pc ++ 13 ∷ 10 ∷ []
+-- its arithmetic trap is initiated behind it, in the same step
+abbrev pub trapped_in : Kind → List ℕ → Guest → Option ℕ → Stepped
+trapped_in kind written h None = stepped h [] kind written
+trapped_in kind written h (Some type) =
+    let s = initiated_in kind h (initiate h (excs.Arithmetic type)) in
+    record s { written = written ++ s.written }
 
--- it stops with a code, at a PC, and says so
-abbrev pub stopped : Guest → ℕ → ℕ → Kind → Stepped
-stopped g code pc kind = record {
-  guest = record g { r = slice_set g.r 15 pc; halt = Some code };
-  shown = stop_text code pc;
-  kind = kind;
-}
+abbrev pub plainly_done : Guest → ℕ → Effect → Stepped
+plainly_done g opcode e = trapped_in (Plain (term (pc_of g.state) opcode e.r)) (frames_stored g e.writes) (with_effect g e) e.trap
 
--- a fault would be initiated: until exceptions are built the guest stops with code 0F
-abbrev pub faulted : Guest → Stepped
-faulted g = stopped g 0x0f (slice_index g.r 15) Fault
+-- PROBE is plain where both entries are found, valid and name frames in memory, and else sensitive
+abbrev pub probe_kind : Guest → ℕ → Bool → List ℕ → Kind
+probe_kind g opcode true r = Plain (term (pc_of g.state) opcode r)
+probe_kind g opcode false r = Sensitive
 
--- an arithmetic trap would be initiated behind a plain instruction: until exceptions are built the guest stops there
-abbrev pub trapped : Guest → Kind → Option ℕ → Stepped
-trapped g kind None = record { guest = g; shown = []; kind = kind }
-trapped g kind (Some type) = stopped g 0x0f (slice_index g.r 15) kind
+abbrev pub probed_as : Guest → ℕ → Operands → Probed → Stepped
+probed_as g opcode o (Answers is_accessible is_plain) =
+    stepped (with_effect g (probed is_accessible o (g.state.psl % 2 ^ 8))) [] (probe_kind g opcode is_plain o.r) []
+probed_as g opcode o (NotValid f) = faulted g (excs.Memory f)
+probed_as g opcode o probes.PastMemory = stopped g PastMemory Fault
 
--- MTPR to the console's transmit register: the byte is shown, and the codes are those of a move
-abbrev pub showed : Guest → Trapped → Stepped
-showed g t = record {
-  guest = record g { r = t.regs ++ t.next_pc ∷ []; psl = with_psw g.psl (alu_of Move t.a 0 Long (g.psl % 256)).psw };
-  shown = t.a % 256 ∷ [];
-  kind = Sensitive;
-}
-
--- a sensitive instruction, or PROBE: HALT stops the guest behind itself with code 06; until they are built all others
--- but MTPR to the console stop it with code 0F
-abbrev pub sensitive : Guest → Trapped → Sens → Stepped
-sensitive g t Halt = stopped g 0x06 t.next_pc Sensitive
-sensitive g t Mtpr = if t.b == 35 then showed g t else faulted g
-sensitive g t op = faulted g
-
+-- an instruction that came to this
 abbrev pub did : Guest → ℕ → Act → Stepped
-did g opcode (whole.Plain e) = trapped (with_effect g e) (Plain (term (slice_index g.r 15) opcode e.r)) e.trap
-did g opcode (Traps t) = sensitive g t t.op
+did g opcode (whole.Plain e) = plainly_done g opcode e
+did g opcode (Traps t) = sensed_as g (sensed g t t.op)
+did g opcode (Probes i o) = probed_as g opcode o (probe g i (long_of o 0) (long_of o 1) (long_of o 2))
 
--- the instruction at PC completes, or its first trouble counts; a reference beyond memory stops the guest with code 10
-abbrev pub running : Guest → Result Meant Trouble → Stepped
-running g (Ok meant) = did g meant.opcode meant.act
-running g (Err (At cause intent va)) = stopped g 0x10 (slice_index g.r 15) Fault
-running g (Err (Test refusal)) = faulted g
+-- by the try of the instruction at PC
+abbrev pub by_try : Guest → Tried Meant → Stepped
+by_try g (Completes meant) = did g meant.opcode meant.act
+by_try g (Clear va) = clear_met g va
+by_try g (tries.Stopped trouble) = sensed_as g (troubled g trouble)
+
+-- the instruction at PC, in the guest's mode and with its PSL
+abbrev pub instruction_of : State → Script Meant
+instruction_of s = instruction (is_kernel (mode_of_state s)) s.psl s.r
+
+-- the pages of the bytes that were asked for, of which the last has trouble where an access does
+abbrev pub pages_touched : {A : Type 0} → List ℕ → Result A Trouble → Touched
+pages_touched vas (Err (At cause i va)) = record { found = map page_of (take (length vas - 1) vas); lacking = map page_of (drop (length vas - 1) vas) }
+pages_touched vas (Err (Test refusal)) = record { found = map page_of vas; lacking = [] }
+pages_touched vas (Ok a) = record { found = map page_of vas; lacking = [] }
+
+abbrev pub touched_by : Guest → Script Meant → Touched
+touched_by g m = pages_touched (reached (space_of g) m) (outcome (space_of g) m)
+
+-- the instruction at PC completes, or its first trouble counts
+unfoldable pub executed : Guest → Stepped
+executed g =
+    let m = instruction_of g.state in
+    record (by_try g (tried (space_of g) (is_clear g) m)) { touched = touched_by g m }
+
+-- an interrupt is taken, and its request ends; where it isn't taken itself, the request stays
+abbrev pub interrupted : Guest → Source → Initiation → Stepped
+interrupted g source (Taken h written) = stepped (record h { state = taken source h.state }) [] Interrupt written
+interrupted g source (KernelStackBad h written) = stepped h [] Interrupt written
+interrupted g source (Stops stop) = stopped g stop Interrupt
+
+-- a waiting guest stays
+abbrev pub unless_waiting : Guest → Bool → Stepped
+unless_waiting g true = stepped g [] Idle []
+unless_waiting g false = executed g
+
+abbrev pub by_interrupt : Guest → Option Source → Stepped
+by_interrupt g (Some source) = interrupted g source (initiate g (interrupt_of source))
+by_interrupt g None = unless_waiting g g.state.waiting
+
+-- the clock counts once, and so do the guest's steps
+abbrev pub counted : State → State
+counted s = record s { clock = after_tick s.clock; steps = (s.steps + 1) % 2 ^ 32 }
+
+abbrev pub active : Guest → Stepped
+active g = by_interrupt g (due g.state)
 
 -- a guest that stands stays as it is
-abbrev pub rested : Guest → Stepped
-rested g = record { guest = g; shown = []; kind = Stopped }
-
 abbrev pub step_by : Guest → Option ℕ → Stepped
-step_by g None = running g (outcome (unmapped g.memory) (instruction (is_kernel (current_of g.psl)) g.r (g.psl % 256)))
-step_by g (Some code) = rested g
+step_by g (Some code) = stepped g [] Stopped []
+step_by g None = active (record g { state = counted g.state })
 
 unfoldable pub step : Guest → Stepped
-step g = step_by g g.halt
+step g = step_by g g.state.halt

@@ -5,7 +5,7 @@ use Rattle.vv_io.specs.Shelf.{File, Answers, holding, file_limit}
 use Rattle.std.proofs.lemmas.Bool.{ltb-false, ltb-true}
 use Rattle.sys_rounds.specs.Places.{place_of}
 use Rattle.sys_system.specs.Calls.{first_misfit, is_misfit}
-use Rattle.vm_state.specs.Run.{Tally}
+use Rattle.vm_plain.specs.Run.{Tally}
 use Rattle.vvmm.specs.Answer.{Outside, IsHeld, Made, Closes, Ends, Follows, failed_line}
 use Rattle.vvmm.specs.Solo.{Asked, load_address, memory_size, solo_config, solo_guest, solo_tally, summary}
 use Rattle.vvmm.specs.declared.status.Status.{Status}

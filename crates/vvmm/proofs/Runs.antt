@@ -18,9 +18,9 @@ use Rattle.sys_system.specs.Kernel.{Kernel, state_of}
 use Rattle.sys_system.specs.Layout.{guests_in}
 use Rattle.sys_system.specs.Shows.{Gets, Shows}
 use Rattle.vm_guest.specs.Kept.{tally_of}
-use Rattle.vm_state.specs.Guest.{Guest}
-use Rattle.vm_state.specs.Run.{Tally, no_steps}
-use Rattle.vm_state.specs.Start.{opening, started}
+use Rattle.vm_plain.specs.Guest.{Guest}
+use Rattle.vm_plain.specs.Run.{Tally, no_steps}
+use Rattle.vm_plain.specs.Start.{opening, started}
 use Rattle.vvmm.specs.Laws.{RunsAlone}
 use Rattle.vvmm.specs.Solo.{load_address, memory_size}
 

@@ -6,8 +6,8 @@ use Rattle.vv_io.specs.Shelf.{File, held, file_limit}
 use Rattle.vvmm.specs.Answer.{Outside, Follows}
 use Rattle.sys_boot.specs.Dump.{dump_of}
 use Rattle.sys_rounds.specs.Round.{alone, line_bytes}
-use Rattle.vm_state.specs.Guest.{Guest}
-use Rattle.vm_state.specs.Start.{opening, started}
+use Rattle.vm_plain.specs.Guest.{Guest}
+use Rattle.vm_plain.specs.Start.{opening, started}
 use Rattle.vvmm.specs.Solo.{Asked, load_address, memory_size, solo_config, solo_run, solo_tally}
 use Rattle.sys_system.specs.declared.lines.Device.TheVariants as devices
 use Rattle.vvmm.specs.declared.status.Status.{Status}

@@ -8,7 +8,7 @@ use Rattle.sys_objects.specs.declared.records.Config.{Config}
 use Rattle.sys_objects.specs.declared.records.GuestRow.{GuestRow}
 use Rattle.sys_rounds.specs.Counts.{round_tally}
 use Rattle.sys_rounds.specs.Round.{State, Went, first_state, run}
-use Rattle.vm_state.specs.Run.{Tally}
+use Rattle.vm_plain.specs.Run.{Tally}
 
 -- what the words ask for
 pub record Asked : Type 0 where

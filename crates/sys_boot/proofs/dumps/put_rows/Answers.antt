@@ -1,5 +1,5 @@
 use Rattle.std.proofs.Common.{arith, ◌∙◌, ◌*◌}
-use Rattle.vm_state.specs.Partition.{part}
+use Rattle.vm_plain.specs.Partition.{part}
 use Rattle.sys_boot.proofs.Lines.{next_row_of, row_in}
 use Rattle.sys_boot.proofs.Puts.{goes_on, hands_on, stops}
 use Rattle.sys_boot.proofs.dumps.put_rows.Goals as goal

@@ -1,5 +1,5 @@
 use Rattle.std.proofs.Common.{◌*◌, ◌-◌}
-use Rattle.vm_state.specs.Partition.{part}
+use Rattle.vm_plain.specs.Partition.{part}
 use Rattle.sys_boot.specs.Dump.{row_lines, text_of}
 use Rattle.sys_boot.proofs.Puts.{IsBut}
 use Rattle.sys_boot.proofs.dumps.put_rows.Given as goal

@@ -1,6 +1,6 @@
 use Rattle.std.proofs.Common.{◌≡◌, ◌*◌, take}
 use Rattle.vv_base.specs.Bytes.{overwritten}
-use Rattle.vm_state.specs.Start.{opening}
+use Rattle.vm_plain.specs.Start.{opening}
 use Rattle.sys_boot.proofs.image.load_image.Given as goal
 
 -- so much of the image is copied

@@ -1,6 +1,6 @@
 use Rattle.std.proofs.Common.{◌∙◌, ◌*◌, ◌≡◌, ap, arith}
 use Rattle.vv_base.specs.Bytes.{overwritten}
-use Rattle.vm_state.specs.Start.{opening}
+use Rattle.vm_plain.specs.Start.{opening}
 use Rattle.sys_system.proofs.Powering.{is_powered, loads_apart}
 use Rattle.sys_system.proofs.power.load_guest.Goals as goal
 

@@ -10,10 +10,10 @@ use Rattle.vax_table.specs.Whole as whole
 use Rattle.vax_table.specs.declared.act.Sens.{Sens}
 use Rattle.vax_table.specs.declared.act.Sens.TheVariants.{Halt, Mtpr}
 use Rattle.vax_table.specs.declared.act.Trapped.{Trapped}
-use Rattle.vm_state.specs.Guest.{Guest, unmapped}
-use Rattle.vm_state.specs.Laws.{ShowsFew}
-use Rattle.vm_state.specs.Run.{Run, after_step, after_steps}
-use Rattle.vm_state.specs.Step.{Kind, Plain, Stepped, with_effect, stop_text, faulted, trapped, showed, sensitive, did, running, step_by, step}
+use Rattle.vm_plain.specs.Guest.{Guest, unmapped}
+use Rattle.vm_plain.specs.Laws.{ShowsFew}
+use Rattle.vm_plain.specs.Run.{Run, after_step, after_steps}
+use Rattle.vm_plain.specs.Step.{Kind, Plain, Stepped, with_effect, stop_text, faulted, trapped, showed, sensitive, did, running, step_by, step}
 
 stop_few : (code pc : ℕ) → length (stop_text code pc) ≤ 14
 stop_few code pc = let is : length (stop_text code pc) ≡ 14 = refl in omega (arith, is)

@@ -1,4 +1,4 @@
-ghost use Rattle.vm_state.specs.Laws.{ShowsFew};
+ghost use Rattle.vm_plain.specs.Laws.{ShowsFew};
 
 /// A guest shows at most 14 bytes a step.
 pub fn steps_show_few()

@@ -1,7 +1,7 @@
 -- A guest's memory as a part of a machine's (profile).
 use Rattle.std.specs.Prelude.{◌≡◌, ℕ, ◌+◌, ◌*◌, List, drop, length, take}
-use Rattle.vm_state.specs.Guest.{Guest}
-use Rattle.vm_state.specs.declared.guest_state.GuestState.{GuestState}
+use Rattle.vm_plain.specs.Guest.{Guest}
+use Rattle.vm_plain.specs.declared.guest_state.GuestState.{GuestState}
 
 -- so many bytes from a place on
 abbrev pub part : List ℕ → (at size : ℕ) → List ℕ

@@ -1,0 +1,204 @@
+-- What the sensitive instructions do to a guest, given their operands (VAX Architecture Reference Manual: change mode,
+-- REI, processor registers, process structure, HALT; Hall and Robinson, Virtualizing the VAX Architecture, ISCA 1991,
+-- for WAIT; the corner cases are profile).
+use Rattle.std.specs.Prelude.{ℕ, ◌+◌, ◌*◌, ◌/◌, ◌%◌, ◌^◌, ◌==◌, ◌&&◌, Bool, true, false, not, nat_le, if◌then◌else◌, List, [], ◌∷◌, ◌++◌, length, slice_index, slice_set, Option, Some, None, Result, Ok, Err}
+use Rattle.vv_base.specs.declared.width.Width.TheVariants.{Long}
+use Rattle.vax_arch.specs.Fields.{current_of, is_on_interrupt_stack, mode_number}
+use Rattle.vax_arch.specs.Rei.{rei_refuses}
+use Rattle.vax_arch.specs.declared.mode.Intent.{Intent}
+use Rattle.vax_arch.specs.declared.mode.Intent.TheVariants.{Write}
+use Rattle.vax_arch.specs.declared.mode.Mode.{Mode}
+use Rattle.vax_arch.specs.declared.mode.Mode.TheVariants.{Kernel}
+use Rattle.vax_table.specs.Arithmetic.{alu_of}
+use Rattle.vax_table.specs.Claims.{addresses}
+use Rattle.vax_table.specs.Operand.{plus}
+use Rattle.vax_table.specs.Script.{At, Done, Script, Test, Touch, Trouble, outcome}
+use Rattle.vax_table.specs.Stores.{bytes_stored}
+use Rattle.vax_table.specs.Tries.{Clear, Completes, Stopped, Tried, tried}
+use Rattle.vax_table.specs.declared.act.Dest.{Dest}
+use Rattle.vax_table.specs.declared.act.Dest.TheVariants.{Memory, Nowhere, Register}
+use Rattle.vax_table.specs.declared.act.Refusal.{Refusal}
+use Rattle.vax_table.specs.declared.act.Refusal.TheVariants as refusals
+use Rattle.vax_table.specs.declared.act.Sens.{Sens}
+use Rattle.vax_table.specs.declared.act.Sens.TheVariants.{Chm, Halt, Ldpctx, Mfpr, Mtpr, Prober, Probew, Rei, Svpctx, Wait}
+use Rattle.vax_table.specs.declared.act.Trapped.{Trapped}
+use Rattle.vax_table.specs.declared.answer.AluOp.TheVariants.{Move}
+use Rattle.vm_state.specs.Contexts.{BlockPast, PopTrouble, Popped, Reserved, StackTrouble, Switched, Switches, loads_context, saves_context, two_popped}
+use Rattle.vm_state.specs.Initiate.{Initiation, KernelStackBad, Stops, Taken, initiate, more_privileged, new_mode}
+use Rattle.vm_state.specs.Packets.{accepted, after_accept, busy_status, status_place}
+use Rattle.vm_state.specs.Pushes.{Faulty, Homes, PastMemory, Walked, push_walked}
+use Rattle.vm_state.specs.Registers.{Value, Written, read, written}
+use Rattle.vm_state.specs.State.{Guest, State, mode_of_state, pc_of, pointer_of, with_pointer_kept}
+use Rattle.vm_state.specs.Stops.{ChangedMode, Halted, Stop, stop_code, stop_text}
+use Rattle.vm_state.specs.Stops as stops
+use Rattle.vm_state.specs.Translation.{frame_at, is_clear, long_stored, place_of, space_of, walk_of}
+use Rattle.vm_state.specs.declared.exception.Exc.{Exc}
+use Rattle.vm_state.specs.declared.exception.Exc.TheVariants as excs
+use Rattle.vm_state.specs.declared.register.Effect.{Effect}
+use Rattle.vm_state.specs.declared.register.Effect.TheVariants as effects
+use Rattle.vm_state.specs.declared.register.ReservedOperand.{ReservedOperand}
+use Rattle.vm_state.specs.declared.transfer.Accept.{Accept}
+use Rattle.vm_state.specs.declared.transfer.Accept.TheVariants.{BadPacket, Busy, Queued}
+use Rattle.vm_state.specs.declared.walk.Walk.{Walk}
+use Rattle.vm_state.specs.declared.walk.Walk.TheVariants as walks
+
+-- What becomes of a sensitive instruction. It completes, shows bytes, and writes frames; it has a fault, with which
+-- nothing of it happened; the page of a byte that it would write has a clear modify bit; its initiation stops the guest,
+-- and it counts as completed; or a place that it reads or writes is beyond memory, which stops the guest.
+pub data Sensed : Type 0 where
+  Does : Guest → (shown written : List ℕ) → Sensed
+  Faults : Exc → Sensed
+  ClearAt : ℕ → Sensed
+  StopsThere : Stop → Sensed
+  LacksMemory : Sensed
+
+-- the registers with the operands' side effects, and PC behind the instruction
+abbrev pub behind : State → Trapped → State
+behind s t = record s { r = t.regs ++ t.next_pc ∷ [] }
+
+abbrev pub guest_behind : Guest → Trapped → Guest
+guest_behind g t = record g { state = behind g.state t }
+
+-- the fault that a trouble is: of a byte, what the guest's walk says there
+abbrev pub fault_of : Walk → Sensed
+fault_of (walks.Fault f) = Faults (excs.Memory f)
+fault_of (walks.Frame pa entry table) = LacksMemory
+fault_of walks.Beyond = LacksMemory
+
+abbrev pub refused_as : Refusal → Exc
+refused_as refusals.Instruction = excs.ReservedInstruction
+refused_as refusals.Operand = excs.ReservedOperand
+refused_as refusals.Addressing = excs.ReservedAddressing
+refused_as refusals.Customer = excs.Customer
+refused_as refusals.Breakpoint = excs.Breakpoint
+
+abbrev pub troubled : Guest → Trouble → Sensed
+troubled g (At cause i va) = fault_of (walk_of g va (mode_of_state g.state) i)
+troubled g (Test refusal) = Faults (refused_as refusal)
+
+-- the codes of a longword that is moved
+abbrev pub moved_psl : ℕ → ℕ → ℕ
+moved_psl psl v = psl / 2 ^ 8 * 2 ^ 8 + (alu_of Move v 0 Long (psl % 2 ^ 8)).psw % 2 ^ 8
+
+-- HALT stops the guest behind itself
+abbrev pub halted : Guest → Trapped → Sensed
+halted g t =
+    let h = guest_behind g t in
+    Does (record h { state = record h.state { halt = Some (stop_code Halted) } }) (stop_text (stop_code Halted) t.next_pc) []
+
+-- WAIT: the guest waits for an interrupt
+abbrev pub waited : Guest → Trapped → Sensed
+waited g t = let h = guest_behind g t in Does (record h { state = record h.state { waiting = true } }) [] []
+
+-- CHM: on the interrupt stack it stops the guest. Its push is walked first where it goes to another stack than the
+-- kernel's, and trouble there is its own fault. What its initiation comes to is its own completion.
+abbrev pub changed : Initiation → Sensed
+changed (Taken h written) = Does h [] written
+changed (KernelStackBad h written) = Does h [] written
+changed (Stops stop) = StopsThere stop
+
+abbrev pub chm_walked : Initiation → Walked → Sensed
+chm_walked i (Homes hs) = changed i
+chm_walked i (Faulty f) = Faults (excs.Memory f)
+chm_walked i PastMemory = LacksMemory
+
+abbrev pub change_mode : Guest → Trapped → Mode → Sensed
+change_mode g t to =
+    let h = guest_behind g t in
+    let e = excs.Chm to t.a in
+    let m = new_mode g.state e in
+    if is_on_interrupt_stack g.state.psl then StopsThere ChangedMode else
+    if mode_number m == 0 then changed (initiate h e) else
+    chm_walked (initiate h e) (push_walked h m (pointer_of h.state (mode_number m)) (g.state.psl ∷ t.next_pc ∷ t.a ∷ []))
+
+-- REI: PC and PSL are popped; the pointer behind them is kept, and R14 is the new stack's. A mode that is at least ASTLVL
+-- requests software level 2.
+abbrev pub returned_to : State → Popped → State
+returned_to s p =
+    let kept = with_pointer_kept (record s { r = slice_set s.r 14 (plus (slice_index s.r 14) 8) }) in
+    let next = record kept { psl = p.psl } in
+    let asks = nat_le s.astlvl (mode_number (current_of p.psl)) && not (is_on_interrupt_stack p.psl) && not (s.sisr / 4 % 2 == 1) in
+    record next {
+      r = slice_set (slice_set kept.r 14 (slice_index kept.stacks (if is_on_interrupt_stack p.psl then 4 else mode_number (current_of p.psl)))) 15 p.pc;
+      sisr = if asks then s.sisr + 4 else s.sisr;
+    }
+
+abbrev pub rei_by : Guest → Trapped → Result Popped Trouble → Sensed
+rei_by g t (Err trouble) = troubled g trouble
+rei_by g t (Ok p) = if rei_refuses g.state.psl p.psl then Faults excs.ReservedOperand else Does (record g { state = returned_to (behind g.state t) p }) [] []
+
+abbrev pub return_from : Guest → Trapped → Sensed
+return_from g t = rei_by g t (outcome (space_of g) (two_popped (slice_index t.regs 14)))
+
+-- MTPR: the value, and the register's number. Its codes are those of the value.
+abbrev pub with_codes : ℕ → State → State
+with_codes v s = record s { psl = moved_psl s.psl v }
+
+abbrev pub packet_taken : Guest → State → (packet : ℕ) → Accept → Sensed
+packet_taken g s packet BadPacket = Faults excs.ReservedOperand
+packet_taken g s packet Busy =
+    Does (record { memory = long_stored (status_place packet) busy_status g.memory; state = s }) [] (frame_at (status_place packet) ∷ [])
+packet_taken g s packet Queued = Does (record g { state = after_accept Queued packet s }) [] []
+
+abbrev pub with_effect : Guest → State → Effect → Sensed
+with_effect g s effects.Done = Does (record g { state = s }) [] []
+with_effect g s effects.Remap = Does (record g { state = s }) [] []
+with_effect g s (effects.Show byte) = Does (record g { state = s }) (byte ∷ []) []
+with_effect g s (effects.Kcall packet) = packet_taken g s packet (accepted (length g.memory) s packet)
+
+abbrev pub mtpr_by : Guest → (v : ℕ) → Result Written ReservedOperand → Sensed
+mtpr_by g v (Err refused) = Faults excs.ReservedOperand
+mtpr_by g v (Ok w) = with_effect g (with_codes v w.state) w.effect
+
+abbrev pub move_to_register : Guest → Trapped → Sensed
+move_to_register g t = mtpr_by g t.a (written (behind g.state t) t.b t.a)
+
+-- MFPR: the register's number, and a destination, which is walked for writing before the number is tested
+abbrev pub destination_walked : Dest → Script ℕ
+destination_walked Nowhere = Done 0
+destination_walked (Register n) = Done 0
+destination_walked (Memory at) = Touch Write at 4 (λ old. Done old)
+
+abbrev pub frames_of_bytes : Guest → List ℕ → List ℕ
+frames_of_bytes g [] = []
+frames_of_bytes g (va ∷ vas) = frame_at (place_of g va) ∷ frames_of_bytes g vas
+
+abbrev pub put_at : Guest → Dest → Value → Sensed
+put_at g Nowhere v = Does (record g { state = with_codes v.value v.state }) [] []
+put_at g (Register n) v = Does (record g { state = with_codes v.value (record v.state { r = slice_set v.state.r n v.value }) }) [] []
+put_at g (Memory at) v =
+    Does (record { memory = bytes_stored (place_of g) 4 at v.value g.memory; state = with_codes v.value v.state }) [] (frames_of_bytes g (addresses 4 at))
+
+abbrev pub behind_read : Guest → Dest → Option ℕ → Result Value ReservedOperand → Sensed
+behind_read g dest clear (Err refused) = Faults excs.ReservedOperand
+behind_read g dest (Some va) (Ok v) = ClearAt va
+behind_read g dest None (Ok v) = put_at g dest v
+
+abbrev pub mfpr_by : Guest → Trapped → Tried ℕ → Sensed
+mfpr_by g t (Stopped trouble) = troubled g trouble
+mfpr_by g t (Clear va) = behind_read g t.dest (Some va) (read (length g.memory) (behind g.state t) t.a)
+mfpr_by g t (Completes old) = behind_read g t.dest None (read (length g.memory) (behind g.state t) t.a)
+
+abbrev pub move_from_register : Guest → Trapped → Sensed
+move_from_register g t = mfpr_by g t (tried (space_of g) (is_clear g) (destination_walked t.dest))
+
+-- LDPCTX and SVPCTX
+abbrev pub switched : Guest → Switched → Sensed
+switched g (Switches h written) = Does h [] written
+switched g Reserved = Faults excs.ReservedOperand
+switched g (PopTrouble trouble) = troubled g trouble
+switched g StackTrouble = Faults excs.KernelStack
+switched g BlockPast = LacksMemory
+
+-- each of them; PROBE is none
+unfoldable pub sensed : Guest → Trapped → Sens → Sensed
+sensed g t Halt = halted g t
+sensed g t Wait = waited g t
+sensed g t (Chm to) = change_mode g t to
+sensed g t Rei = return_from g t
+sensed g t Mtpr = move_to_register g t
+sensed g t Mfpr = move_from_register g t
+sensed g t Ldpctx = switched g (loads_context g t.next_pc)
+sensed g t Svpctx = switched g (saves_context g t.next_pc)
+sensed g t Prober = Faults excs.ReservedInstruction
+sensed g t Probew = Faults excs.ReservedInstruction

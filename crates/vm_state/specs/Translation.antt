@@ -1,0 +1,106 @@
+-- Translation over a guest's own page tables (VAX Architecture Reference Manual, memory management). Executive mode may
+-- use what kernel mode may (Hall and Robinson, Virtualizing the VAX Architecture, ISCA 1991: ring compression).
+use Rattle.std.specs.Prelude.{ℕ, ◌+◌, ◌*◌, ◌/◌, ◌%◌, ◌^◌, Bool, true, false, not, List, [], ◌∷◌, ◌++◌, length, slice_index, if◌then◌else◌, Option, Some, None, Result, Ok, Err}
+use Rattle.vv_base.specs.Bytes.{long_at}
+use Rattle.vax_arch.specs.Fields.{is_modified}
+use Rattle.vax_arch.specs.Ring.{open_of}
+use Rattle.vax_arch.specs.Walk.{Absent, Beyond, Direct, Fails, Found, Grant, Granted, Lookup, Past, Refused, granted, lookup, page_of, with_modify, write_bit}
+use Rattle.vax_arch.specs.declared.mode.Intent.{Intent}
+use Rattle.vax_arch.specs.declared.mode.Intent.TheVariants as intents
+use Rattle.vax_arch.specs.declared.mode.Mode.{Mode}
+use Rattle.vax_table.specs.Script.{Cause, Space}
+use Rattle.vax_table.specs.Script as script
+use Rattle.vax_table.specs.Stores.{bytes_stored}
+use Rattle.vm_state.specs.State.{Guest, mode_of_state}
+use Rattle.vm_state.specs.declared.walk.MemFault.{MemFault}
+use Rattle.vm_state.specs.declared.walk.Walk.{Walk}
+use Rattle.vm_state.specs.declared.walk.Walk.TheVariants as walks
+
+-- the look-up of a page
+abbrev pub look : Guest → ℕ → Lookup
+look g page = lookup (length g.memory) g.memory g.state.tables page
+
+abbrev pub fault : Bool → ℕ → ℕ → Intent → MemFault
+fault not_valid va parameter i = record { not_valid = not_valid; va = va; param = parameter + write_bit i }
+
+-- what the entry at a place gives for an address
+abbrev pub at_entry : (va : ℕ) → Intent → (place : ℕ) → (table : Option ℕ) → Grant → Walk
+at_entry va i place table (Granted frame) = walks.Frame (512 * frame + va % 512) (Some place) table
+at_entry va i place table Refused = walks.Fault (fault false va 0 i)
+at_entry va i place table Absent = walks.Fault (fault true va 0 i)
+at_entry va i place table Past = walks.Beyond
+
+-- what a look-up gives for an address
+abbrev pub walk_by : Guest → (va : ℕ) → Mode → Intent → Lookup → Walk
+walk_by g va m i (Found place table) = at_entry va i place table (granted open_of (length g.memory) (long_at g.memory place) m i)
+walk_by g va m i (Direct frame) = walks.Frame va None None
+walk_by g va m i (Fails not_valid parameter) = walks.Fault (fault not_valid va parameter i)
+walk_by g va m i Beyond = walks.Beyond
+
+-- an address translated, in a mode, for reading or for writing
+unfoldable pub walk_of : Guest → (va : ℕ) → Mode → Intent → Walk
+walk_of g va m i = walk_by g va m i (look g (page_of va))
+
+-- The guest as a space for its instructions, in a mode: the byte at an address, or why there is none.
+abbrev pub cause_of : Bool → Cause
+cause_of true = script.Absent
+cause_of false = script.Refusing
+
+abbrev pub byte_by : List ℕ → Walk → Result ℕ Cause
+byte_by memory (walks.Frame pa entry table) = Ok (slice_index memory pa)
+byte_by memory (walks.Fault f) = Err (cause_of f.not_valid)
+byte_by memory walks.Beyond = Err script.Past
+
+abbrev pub space_in : Guest → Mode → Space
+space_in g m i va = byte_by g.memory (walk_of g va m i)
+
+-- in its own mode
+abbrev pub space_of : Guest → Space
+space_of g = space_in g (mode_of_state g.state)
+
+-- where a byte that may be written lies; another one lies nowhere in memory
+abbrev pub place_by : List ℕ → Walk → ℕ
+place_by memory (walks.Frame pa entry table) = pa
+place_by memory (walks.Fault f) = length memory
+place_by memory walks.Beyond = length memory
+
+abbrev pub place_of : Guest → ℕ → ℕ
+place_of g va = place_by g.memory (walk_of g va (mode_of_state g.state) intents.Write)
+
+-- Modify bits.
+
+-- whether the modify bit of the entry that a look-up found is clear; with mapping off none is
+abbrev pub is_clear_at : List ℕ → Lookup → Bool
+is_clear_at memory (Found place table) = not (is_modified (long_at memory place))
+is_clear_at memory (Direct frame) = false
+is_clear_at memory (Fails not_valid parameter) = false
+is_clear_at memory Beyond = false
+
+-- of the page of an address
+abbrev pub is_clear : Guest → ℕ → Bool
+is_clear g va = is_clear_at g.memory (look g (page_of va))
+
+-- a longword stored at a place of memory
+abbrev pub long_stored : (at v : ℕ) → List ℕ → List ℕ
+long_stored at v memory = bytes_stored (λ p. p) 4 at v memory
+
+-- the modify bit of the entry at a place is set
+abbrev pub marked : ℕ → List ℕ → List ℕ
+marked place memory = long_stored place (with_modify (long_at memory place)) memory
+
+abbrev pub marked_by : Lookup → List ℕ → List ℕ
+marked_by (Found place table) memory = marked place memory
+marked_by (Direct frame) memory = memory
+marked_by (Fails not_valid parameter) memory = memory
+marked_by Beyond memory = memory
+
+-- the frame of a place
+abbrev pub frame_at : ℕ → ℕ
+frame_at place = place / 2 ^ 9
+
+-- the frames that setting a modify bit writes
+abbrev pub marks_by : Lookup → List ℕ
+marks_by (Found place table) = frame_at place ∷ []
+marks_by (Direct frame) = []
+marks_by (Fails not_valid parameter) = []
+marks_by Beyond = []
