@@ -7,6 +7,10 @@ use Rattle.vax_arch.specs.Fields.{frame_of, is_modified, is_valid, protection_of
 use Rattle.vax_arch.specs.declared.mode.Intent.{Intent}
 use Rattle.vax_arch.specs.declared.mode.Intent.TheVariants.{Read, Write}
 use Rattle.vax_arch.specs.declared.mode.Mode.{Mode}
+use Rattle.vax_arch.specs.declared.walk.Grant.{Grant}
+use Rattle.vax_arch.specs.declared.walk.Grant.TheVariants.{Absent, Granted, Past, Refused}
+use Rattle.vax_arch.specs.declared.walk.Lookup.{Lookup}
+use Rattle.vax_arch.specs.declared.walk.Lookup.TheVariants.{Beyond, Direct, Fails, Found}
 
 -- what an address is translated under: whether mapping is on, and bases and lengths of the three page tables
 pub record Tables : Type 0 where
@@ -27,17 +31,6 @@ region_of page = page / 2 ^ 21 % 4
 
 abbrev pub in_region : ℕ → ℕ
 in_region page = page % 2 ^ 21
-
--- What the look-up of a page comes to.
-pub data Lookup : Type 0 where
-  -- the place of its entry, and of the system entry that maps that place
-  Found : (place : ℕ) (table : Option ℕ) → Lookup
-  -- with mapping off: the page is its own frame
-  Direct : (frame : ℕ) → Lookup
-  -- not valid or a length violation, with the parameter's bits 0 and 1
-  Fails : (not_valid : Bool) (parameter : ℕ) → Lookup
-  -- an entry's place, or with mapping off the page, is beyond memory
-  Beyond : Lookup
 
 -- so many bytes from a place aren't all in memory of a size
 abbrev pub is_past : ℕ → ℕ → ℕ → Bool
@@ -92,11 +85,7 @@ entry_at memory (Direct frame) = Some (2 ^ 31 + 4 * 2 ^ 27 + 2 ^ 26 + frame)
 entry_at memory (Fails not_valid parameter) = None
 entry_at memory Beyond = None
 
--- what an entry gives: its frame; or its code refuses, it isn't valid, or its frame is beyond memory, in this order
-pub data Grant : Type 0 where
-  Granted : (frame : ℕ) → Grant
-  Refused Absent Past : Grant
-
+-- what an entry gives: its code is asked first, then whether it is valid, then its frame
 unfoldable pub granted : (ℕ → Mode → Intent → Bool) → ℕ → ℕ → Mode → Intent → Grant
 granted may size entry m i =
     if not (may (protection_of entry) m i) then Refused else

@@ -6,8 +6,10 @@ mod mode;
 mod protection;
 mod psl;
 mod pte;
+mod walk;
 
 pub use mode::{Intent, Mode};
 pub use protection::{Prot, compress, compression_law, may, ring_may};
 pub use psl::{Psl, rei_allowed};
 pub use pte::Pte;
+pub use walk::{Grant, Lookup};

@@ -1,5 +1,6 @@
 pub mod State
 pub mod Start
+pub mod Partition
 pub mod Translation
 pub mod Pushes
 pub mod Stops
@@ -13,3 +14,8 @@ pub mod Sensitive
 pub mod Step
 pub mod Run
 pub mod Touches
+pub mod ShownSetup
+pub mod ShownStep
+pub mod ShownMapped
+pub mod ShownUnmapped
+pub mod ShownSensitive

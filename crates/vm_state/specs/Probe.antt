@@ -4,9 +4,11 @@ use Rattle.std.specs.Prelude.{ℕ, ◌+◌, ◌*◌, ◌/◌, ◌%◌, ◌^◌, 
 use Rattle.vv_base.specs.Bytes.{long_at}
 use Rattle.vax_arch.specs.Fields.{frame_of, is_valid, mode_number, mode_of, previous_of, protection_of}
 use Rattle.vax_arch.specs.Ring.{open_of}
-use Rattle.vax_arch.specs.Walk.{Beyond, Direct, Fails, Found, Lookup, is_past, page_of}
+use Rattle.vax_arch.specs.Walk.{is_past, page_of}
 use Rattle.vax_arch.specs.declared.mode.Intent.{Intent}
 use Rattle.vax_arch.specs.declared.mode.Mode.{Mode}
+use Rattle.vax_arch.specs.declared.walk.Lookup.{Lookup}
+use Rattle.vax_arch.specs.declared.walk.Lookup.TheVariants.{Beyond, Direct, Fails, Found}
 use Rattle.vax_table.specs.Operand.{minus, plus}
 use Rattle.vm_state.specs.State.{Guest}
 use Rattle.vm_state.specs.Translation.{fault, look}

@@ -3,7 +3,9 @@
 -- last, the most recent first, a set of its present other pages (profile).
 use Rattle.std.specs.Prelude.{ℕ, zero, suc, ◌+◌, ◌/◌, ◌^◌, ◌==◌, ◌||◌, Bool, true, false, not, if◌then◌else◌, List, [], ◌∷◌, length, map, filter, find, take, Option, Some, None, is_some}
 use Rattle.std.specs.Bool.{beq}
-use Rattle.vax_arch.specs.Walk.{Beyond, Direct, Fails, Found, Lookup, Tables, lookup, region_of}
+use Rattle.vax_arch.specs.Walk.{Tables, lookup, region_of}
+use Rattle.vax_arch.specs.declared.walk.Lookup.{Lookup}
+use Rattle.vax_arch.specs.declared.walk.Lookup.TheVariants.{Beyond, Direct, Fails, Found}
 use Rattle.vm_slots.specs.Held.{is_same}
 use Rattle.vm_slots.specs.declared.context.Context.{Context}
 use Rattle.vm_state.specs.State.{Guest, context_of}

@@ -4,10 +4,14 @@ use Rattle.std.specs.Prelude.{ℕ, ◌+◌, ◌*◌, ◌/◌, ◌%◌, ◌^◌, 
 use Rattle.vv_base.specs.Bytes.{long_at}
 use Rattle.vax_arch.specs.Fields.{is_modified}
 use Rattle.vax_arch.specs.Ring.{open_of}
-use Rattle.vax_arch.specs.Walk.{Absent, Beyond, Direct, Fails, Found, Grant, Granted, Lookup, Past, Refused, granted, lookup, page_of, with_modify, write_bit}
+use Rattle.vax_arch.specs.Walk.{granted, lookup, page_of, with_modify, write_bit}
 use Rattle.vax_arch.specs.declared.mode.Intent.{Intent}
 use Rattle.vax_arch.specs.declared.mode.Intent.TheVariants as intents
 use Rattle.vax_arch.specs.declared.mode.Mode.{Mode}
+use Rattle.vax_arch.specs.declared.walk.Grant.{Grant}
+use Rattle.vax_arch.specs.declared.walk.Grant.TheVariants.{Absent, Granted, Past, Refused}
+use Rattle.vax_arch.specs.declared.walk.Lookup.{Lookup}
+use Rattle.vax_arch.specs.declared.walk.Lookup.TheVariants.{Beyond, Direct, Fails, Found}
 use Rattle.vax_table.specs.Script.{Cause, Space}
 use Rattle.vax_table.specs.Script as script
 use Rattle.vax_table.specs.Stores.{bytes_stored}

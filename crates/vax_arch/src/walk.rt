@@ -1,0 +1,19 @@
+/// What the look-up of a page comes to: the physical place of its entry, with that of the system entry that maps it for a
+/// process page; with mapping off the page as its own frame; a fault that is not valid or a length violation, with bits
+/// 1:0 of its parameter; or a place beyond memory.
+#[derive(Clone, Copy, Debug, PartialEq, Eq)]
+pub enum Lookup {
+    Found { place: u32, table: Option<u32> },
+    Direct { frame: u32 },
+    Fails { not_valid: bool, parameter: u8 },
+    Beyond,
+}
+
+/// What a page table entry gives a mode: its frame; or its code refuses, it isn't valid, or its frame is beyond memory.
+#[derive(Clone, Copy, Debug, PartialEq, Eq)]
+pub enum Grant {
+    Granted { frame: u32 },
+    Refused,
+    Absent,
+    Past,
+}

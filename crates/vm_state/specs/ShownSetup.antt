@@ -1,0 +1,114 @@
+-- Guests for the worked examples. Their code is at 200. With mapping off, of 64 pages: KSP is 3000, and every vector in the
+-- system control block at 4400 is 1000. With mapping on, of 8 pages: system and P0 tables of 16 entries, at 0 and 80, map
+-- each page to the frame of its number, open to all and modified; KSP is 80000800, and every vector in the system control
+-- block at 400 is 80000a00.
+use Rattle.std.specs.Prelude.{ℕ, zero, suc, ◌+◌, ◌-◌, Bool, false, true, List, [], ◌∷◌, ◌++◌, length, map, replicate, slice_index, Option}
+use Rattle.vv_base.specs.Bytes.{long_at, long_bytes, overwritten}
+use Rattle.vax_arch.specs.Walk.{Tables}
+use Rattle.vm_clock.specs.Clock as clock
+use Rattle.vm_state.specs.Start.{started}
+use Rattle.vm_state.specs.State.{Guest, State}
+use Rattle.vm_state.specs.Step.{Kind, Stepped, step}
+
+-- the bytes of longwords
+abbrev pub bytes_of : List ℕ → List ℕ
+bytes_of [] = []
+bytes_of (v ∷ vs) = long_bytes v ++ bytes_of vs
+
+-- so many numbers, rising by 1
+abbrev pub rising : ℕ → ℕ → List ℕ
+rising zero first = []
+rising (suc n) first = first ∷ rising n (first + 1)
+
+-- R0, R1, R2, SP and PC
+abbrev pub registers : ℕ → ℕ → ℕ → ℕ → ℕ → List ℕ
+registers r0 r1 r2 sp pc = r0 ∷ r1 ∷ r2 ∷ replicate 11 0 ++ sp ∷ pc ∷ []
+
+-- longwords put at places
+abbrev pub with_longs : List (ℕ × ℕ) → List ℕ → List ℕ
+with_longs [] memory = memory
+with_longs (x ∷ xs) memory = with_longs xs (overwritten memory x.0 (long_bytes x.1))
+
+-- with mapping off, and every vector 1000
+abbrev pub memory_u : List ℕ → List ℕ
+memory_u code = replicate 0x200 0 ++ code ++ replicate (0x4200 - length code) 0 ++ bytes_of (replicate 80 0x1000) ++ replicate (0x8000 - 0x4540) 0
+
+abbrev pub state_u : State
+state_u = record (started 0x200 false) { psl = 0; scbb = 0x4400; r = registers 0 0 0 0x3000 0x200; stacks = 0x3000 ∷ 0 ∷ 0 ∷ 0 ∷ 0 ∷ [] }
+
+abbrev pub guest_u : List ℕ → Guest
+guest_u code = record { memory = memory_u code; state = state_u }
+
+-- with mapping on, 8 pages, and every vector 80000a00
+abbrev pub memory_m : List ℕ → List ℕ
+memory_m code =
+    bytes_of (rising 16 0xa4000000) ++ replicate 0x40 0 ++ bytes_of (rising 16 0xa4000000) ++ replicate 0x140 0 ++ code ++ replicate (0x200 - length code) 0
+    ++ bytes_of (replicate 80 0x80000a00) ++ replicate (0x1000 - 0x540) 0
+
+abbrev pub tables_m : Tables
+tables_m = record { mapped = true; p0br = 0x80000080; p0lr = 16; p1br = 0; p1lr = 0x200000; sbr = 0; slr = 16 }
+
+abbrev pub state_m : State
+state_m = record state_u { tables = tables_m; scbb = 0x400; r = registers 0 0 0 0x80000800 0x200; stacks = 0x80000800 ∷ 0 ∷ 0 ∷ 0 ∷ 0 ∷ [] }
+
+-- with these longwords at these places
+abbrev pub guest_m : List ℕ → List (ℕ × ℕ) → Guest
+guest_m code longs = record { memory = with_longs longs (memory_m code); state = state_m }
+
+-- the place of P0's entry 4, which maps 800
+abbrev pub entry_4 : ℕ
+entry_4 = 0x90
+
+abbrev pub with_r0 : ℕ → Guest → Guest
+with_r0 v g = record g { state = record g.state { r = v ∷ slice_index g.state.r 1 ∷ slice_index g.state.r 2 ∷ replicate 11 0 ++ slice_index g.state.r 14 ∷ slice_index g.state.r 15 ∷ [] } }
+
+abbrev pub with_registers : List ℕ → Guest → Guest
+with_registers r g = record g { state = record g.state { r = r } }
+
+abbrev pub with_psl : ℕ → Guest → Guest
+with_psl psl g = record g { state = record g.state { psl = psl } }
+
+-- what an example shows of a step: its kind, R0, R1, SP and PC, the PSL, and longwords of memory
+pub record Seen : Type 0 where
+  pub kind : Kind
+  pub r0 : ℕ
+  pub r1 : ℕ
+  pub sp : ℕ
+  pub pc : ℕ
+  pub psl : ℕ
+  pub longs : List ℕ
+
+abbrev pub seen : Kind → (r0 r1 sp pc psl : ℕ) → List ℕ → Seen
+seen kind r0 r1 sp pc psl longs = record { kind = kind; r0 = r0; r1 = r1; sp = sp; pc = pc; psl = psl; longs = longs }
+
+-- the longwords at places
+abbrev pub longs_at : Guest → List ℕ → List ℕ
+longs_at g places = map (λ at. long_at g.memory at) places
+
+abbrev pub after : Stepped → List ℕ → Seen
+after s places =
+    let r = s.guest.state.r in
+    seen s.kind (slice_index r 0) (slice_index r 1) (slice_index r 14) (slice_index r 15) s.guest.state.psl (longs_at s.guest places)
+
+-- the guest behind so many steps, and their kinds
+abbrev pub behind_steps : ℕ → Guest → Guest
+behind_steps zero g = g
+behind_steps (suc n) g = behind_steps n (step g).guest
+
+abbrev pub kinds : ℕ → Guest → List Kind
+kinds zero g = []
+kinds (suc n) g = let s = step g in s.kind ∷ kinds n s.guest
+
+abbrev pub with_tables : Tables → Guest → Guest
+with_tables t g = record g { state = record g.state { tables = t } }
+
+abbrev pub with_clock : clock.ClockState → Guest → Guest
+with_clock c g = record g { state = record g.state { clock = c } }
+
+-- other longwords at places
+abbrev pub with_memory : List (ℕ × ℕ) → Guest → Guest
+with_memory longs g = record g { memory = with_longs longs g.memory }
+
+-- ESP, SSP, USP and ISP are 0 but for the last
+abbrev pub with_isp : ℕ → Guest → Guest
+with_isp v g = record g { state = record g.state { stacks = slice_index g.state.stacks 0 ∷ 0 ∷ 0 ∷ 0 ∷ v ∷ [] } }
