@@ -31,7 +31,11 @@ fn movpsl_bpt_and_xfc(rt: HostRuntime) -> Result<(), Fail> {
         (0x03, 0, Exit::Refused(Refusal::Breakpoint)),
         (0xFC, 0, Exit::Refused(Refusal::Customer)),
     ] {
-        assert_eq!(rt; one_instruction(rt.alloc(), code), Ok((r0, exit)), "{code:x}");
+        assert_eq!(rt;
+            one_instruction(rt.alloc(), code),
+            Ok((r0, exit)),
+            "{code:x}"
+        );
     }
     Ok(())
 }
