@@ -3,7 +3,7 @@ use Rattle.std.specs.Prelude.{◌≡◌, ℕ, Bool, List, Ok, Err}
 use Rattle.vax_arch.specs.declared.mode.Intent.{Intent}
 use Rattle.vax_table.specs.Claims.{claims}
 use Rattle.vax_table.specs.Effects.{Effect}
-use Rattle.vax_table.specs.PlanLaws.{StoresAreClaimed}
+use Rattle.vax_table.specs.PlanLaws.{StoresAreClaimed, bytes_of_stores}
 use Rattle.vax_table.specs.Script.{AsFar, At, Below, Cause, IsIn, Space, outcome, reached}
 use Rattle.vax_table.specs.Whole.{Plain, instruction, meant}
 
@@ -15,6 +15,11 @@ IsLocal = (is_kernel : Bool) (psl : ℕ) (r : List ℕ) (s t : Space) → Below 
 abbrev pub ReachesTrouble : Type 0
 ReachesTrouble = (is_kernel : Bool) (psl : ℕ) (r : List ℕ) (s t : Space) → Below s t → (intent : Intent) (va : ℕ) (cause : Cause) →
     outcome s (instruction is_kernel psl r) ≡ Err (At cause intent va) → IsIn va (reached t (instruction is_kernel psl r))
+
+-- what a plain instruction claims for writing is what it stores, byte for byte in order
+abbrev pub ClaimsExactlyWhatItStores : Type 0
+ClaimsExactlyWhatItStores = (is_kernel : Bool) (psl : ℕ) (r : List ℕ) (s : Space) (opcode : ℕ) (e : Effect) →
+    outcome s (instruction is_kernel psl r) ≡ Ok (meant opcode (Plain e)) → claims s (instruction is_kernel psl r) ≡ bytes_of_stores e.writes
 
 -- what an instruction stores it claimed for writing before
 abbrev pub ClaimsWhatItStores : Type 0
