@@ -1,9 +1,9 @@
 -- What an instruction, whole, claims is what it stores.
-use Rattle.std.proofs.Common.{◌≡◌, ℕ, suc, zero, ◌+◌, ◌||◌, Bool, List, [], ◌∷◌, ◌++◌, length, Ok, refl, ap, sym, subst}
+use Rattle.std.proofs.Common.{◌≡◌, ℕ, suc, zero, ◌||◌, Bool, List, [], ◌∷◌, ◌++◌, length, Ok, refl, sym, subst}
 use Rattle.std.specs.Prelude.{slice_index}
 use Rattle.vv_base.specs.Width.{size_of}
 use Rattle.vax_arch.specs.declared.mode.Intent.{Intent}
-use Rattle.vax_table.specs.Claims.{AreAmong, Holds, addresses, claims, if_write}
+use Rattle.vax_table.specs.Claims.{AreAmong, Holds, addresses, claims}
 use Rattle.vax_table.specs.Effects.{Effect}
 use Rattle.vax_table.specs.Fetch.{by_answer, decided, fetched}
 use Rattle.vax_table.specs.Operand.{operands_of, trap_operands}
@@ -11,7 +11,7 @@ use Rattle.vax_table.specs.Operations.{operation_of}
 use Rattle.vax_table.specs.Plan.{plan_of}
 use Rattle.vax_table.specs.PlanLaws.{StoresAreClaimed, bytes_of_stores}
 use Rattle.vax_table.specs.Reading.{Answer, Whole, Short, Unknown, Reserved, decoded_at}
-use Rattle.vax_table.specs.Script.{Script, Done, Refuse, Touch, ◌>>=◌, Space, outcome}
+use Rattle.vax_table.specs.Script.{Script, Space, outcome}
 use Rattle.vax_table.specs.Spelling.{Instruction}
 use Rattle.vax_table.specs.Whole.{Act, Meant, Plain, Probes, Traps, acted, acted_by, instruction, is_always_done, meant, plainly, probing, trapped}
 use Rattle.vax_table.specs.declared.act.Sens.{Sens}
