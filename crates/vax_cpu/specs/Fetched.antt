@@ -5,7 +5,7 @@ use Rattle.vax_decode.specs.declared.outcome.DecodeFault.TheVariants as faults
 use Rattle.vax_hw.specs.declared.world.Exit.{Exit}
 use Rattle.vax_table.specs.Effects.{effect}
 use Rattle.vax_table.specs.Spelling.{Instruction, view}
-use Rattle.vax_table.specs.Whole.{Act as Meaning, Meant, Plain, Traps, meant}
+use Rattle.vax_table.specs.Whole.{Act as Meaning, Meant, Plain, Probes, Traps, meant}
 use Rattle.vax_table.specs.declared.act.Refusal.{Refusal}
 use Rattle.vax_table.specs.declared.act.Refusal.TheVariants as refusals
 use Rattle.vax_table.specs.declared.decoded.Decoded.{Decoded}
@@ -25,6 +25,7 @@ refusal_of faults.Addressing = refusals.Addressing
 abbrev pub meaning_of : Act → Meaning
 meaning_of (acts.Plain p) = Plain (effect p)
 meaning_of (acts.Traps t) = Traps t
+meaning_of (acts.Probes intent o) = Probes intent o
 
 -- what an instruction of an opcode came to
 abbrev pub acts_of : ℕ → Result Act Exit → Result Meant Exit

@@ -1,7 +1,7 @@
 ghost use Rattle.std.specs.Prelude.{◌≡◌, ◌+◌, ◌*◌, ◌≤◌, ◌<◌, ◌/◌, ◌%◌, ◌^◌, ℕ, length, slice_index, slice_set, IfOk, MatchResult, Ok, Err};
 ghost use Rattle.vv_base.specs.Bytes.{long_at};
 ghost use Rattle.vv_base.specs.Width.{size_of};
-ghost use Rattle.vax_hw.specs.Machine.{Machine, psw_of, retire, space_of, with_effect, zeros};
+ghost use Rattle.vax_hw.specs.Machine.{Machine, retire, seen_psl, space_of, with_effect, zeros};
 ghost use Rattle.vax_hw.specs.Real.{exits, in_kernel, one, real};
 ghost use Rattle.vax_table.specs.Effects.{effect};
 ghost use Rattle.vax_table.specs.Script.{outcome};
@@ -10,7 +10,7 @@ ghost use Rattle.vax_table.specs.Trail.{term};
 ghost use Rattle.vax_table.specs.Whole.{instruction};
 ghost use Rattle.vax_cpu.specs.Fetched.{found};
 
-use crate::perform::{Act, carry_out};
+use crate::perform::{Act, carry_out, probe_of, trap_of};
 use crate::space::{Linear, size};
 use std::alloc::Global;
 use std::marker::Model;
@@ -60,6 +60,13 @@ fn with_effect(w: &World, plan: &Plan) -> World
     world.r = r;
     world.psl = Psl(w.psl.0 / 256 * 256 + u32::from(psw));
     world
+}
+
+/// The PSL that MOVPSL stores: VMPSL's upper bytes over the real status word.
+fn seen_psl(w: &World) -> Psl
+    ensures { result.0 ≡ seen_psl w.now }
+{
+    Psl(w.vmpsl.0 / 0x100 * 0x100 + w.psl.0 % 0x100)
 }
 
 /// Stores a byte in a memory, if it has a place for it.
@@ -147,7 +154,7 @@ impl Cpu {
     /// The instruction at PC, and what it comes to.
     #[tactic(auto, unfolding(vax_table::specs::Whole::instruction), using(vax_table::proofs::Scripts::binds))]
     fn find(&self) -> Result<Found, Exit>
-        ensures { found result ≡ exits (outcome (space_of self.now) (instruction (in_kernel self.now.world) self.now.world.r (psw_of self.now.world))) }
+        ensures { found result ≡ exits (outcome (space_of self.now) (instruction (in_kernel self.now.world) (seen_psl self.now.world) self.now.world.r)) }
     {
         let pc = self.world.r[15];
         let space = Linear {
@@ -157,7 +164,8 @@ impl Cpu {
         };
         let decoded = space.fetch(pc)?;
         let is_kernel = self.world.vmpsl.current() == Mode::Kernel;
-        let act = carry_out(&space, is_kernel, &decoded, &self.world.r, self.world.psl)?;
+        let psl = seen_psl(&self.world);
+        let act = carry_out(&space, is_kernel, &decoded, &self.world.r, psl)?;
         Ok(Found {
             opcode: decoded.opcode,
             act,
@@ -188,6 +196,7 @@ impl Cpu {
                 Ok(plan.trap)
             }
             Act::Traps(trapped) => Err(Exit::Emulate(trapped)),
+            Act::Probes(intent, o) => Err(Exit::Emulate(trap_of(probe_of(intent), &o))),
         }
     }
 }

@@ -1,4 +1,4 @@
-ghost use Rattle.std.specs.Prelude.{◌≡◌, ◌%◌, ◌^◌, true};
+ghost use Rattle.std.specs.Prelude.{◌≡◌, true};
 ghost use Rattle.vax_hw.specs.Real.{exits};
 ghost use Rattle.vax_table.specs.Operand.{trap_operands};
 ghost use Rattle.vax_table.specs.Operations.{operation_of};
@@ -6,6 +6,7 @@ ghost use Rattle.vax_table.specs.Plan.{is_planned};
 ghost use Rattle.vax_table.specs.Script.{outcome};
 ghost use Rattle.vax_table.specs.Spelling.{IsWellFormed, view};
 ghost use Rattle.vax_table.specs.Whole.{acted, first_operand, is_always_done, plainly, probe_of, trap_of, trapped};
+ghost use Rattle.vax_table.specs.declared.meaning.Operation.TheVariants.{MoveStatus};
 ghost use Rattle.vax_cpu.specs.Fetched.{acts_of};
 
 use crate::space::exit_of;
@@ -15,12 +16,14 @@ use vax_exec::{Plan, plan};
 use vax_hw::{Exit, Psl, Refusal, Sens, Trapped};
 use vax_operand::{Operands, Space, evaluate, evaluate_trap};
 use vax_table::{Operation, operation};
+use vv_base::Width;
 
-/// What an instruction comes to: a plain one's plan, or a sensitive one's operands.
+/// What an instruction comes to: a plain one's plan, a sensitive one's operands, or PROBE's.
 #[derive(Drop)]
 pub enum Act {
     Plain(Plan),
     Traps(Trapped),
+    Probes(Intent, Operands),
 }
 
 /// CHM and REI are done in every mode.
@@ -43,7 +46,7 @@ fn first_operand(op: Sens, o: &Operands) -> u32
 }
 
 /// A trap with these operands.
-fn trap_of(op: Sens, o: &Operands) -> Trapped
+pub fn trap_of(op: Sens, o: &Operands) -> Trapped
     ensures { result ≡ trap_of op o.now }
 {
     let mut regs = [0; 15];
@@ -69,7 +72,8 @@ fn trap<S: Space>(s: &S, op: Sens, d: &Decoded, r: &[u32; 16]) -> Result<Act, Ex
     Ok(Act::Traps(trap_of(op, &o)))
 }
 
-fn probe_of(intent: Intent) -> Sens
+/// The sensitive instruction that PROBE traps as.
+pub fn probe_of(intent: Intent) -> Sens
     ensures { result ≡ probe_of intent }
 {
     match intent {
@@ -78,19 +82,32 @@ fn probe_of(intent: Intent) -> Sens
     }
 }
 
-/// A plain instruction that the machine has.
-#[tactic(auto, using(vax_table::proofs::Scripts::binds))]
+/// A plain instruction but MOVPSL, PROBE, BPT and XFC.
+#[tactic(auto, using(vax_table::proofs::Scripts::binds, vax_table::proofs::Plans::plans_planned))]
 fn plain<S: Space>(s: &S, d: &Decoded, r: &[u32; 16], psl: Psl) -> Result<Act, Exit>
     requires formed { IsWellFormed (view d.now) }
     requires planned { is_planned (operation_of d.now.opcode) ≡ true }
-    ensures { acts_of d.now.opcode result ≡ exits (outcome (S.space s.now) (plainly (view d.now) r.now (psl.0 % 2 ^ 8))) }
+    ensures { acts_of d.now.opcode result ≡ exits (outcome (S.space s.now) (plainly psl.0 (view d.now) r.now)) }
 {
     let plan = plan(s, d, r, psl).map_err(exit_of)?;
     Ok(Act::Plain(plan))
 }
 
-/// What an instruction comes to, in kernel mode or not.
-#[tactic(auto, unfolding(vax_table::specs::Whole::acted, vax_table::specs::Plan::planned, vax_table::specs::Plan::performed), using(vax_table::proofs::Scripts::binds))]
+/// MOVPSL.
+#[tactic(auto, unfolding(vax_table::specs::Plan::plan_of), using(vax_table::proofs::Scripts::binds))]
+fn move_status<S: Space>(s: &S, d: &Decoded, r: &[u32; 16], psl: Psl) -> Result<Act, Exit>
+    requires formed { IsWellFormed (view d.now) }
+    requires moves { operation_of d.now.opcode ≡ MoveStatus }
+    ensures { acts_of d.now.opcode result ≡ exits (outcome (S.space s.now) (plainly psl.0 (view d.now) r.now)) }
+{
+    let o = evaluate(s, d, r).map_err(exit_of)?;
+    let mut plan = Plan::begun(&o, (psl.0 % 0x100) as u8);
+    plan.put(o.dests[0], Width::Long, u64::from(psl.0));
+    Ok(Act::Plain(plan))
+}
+
+/// What an instruction comes to, in kernel mode or not, with the PSL that MOVPSL stores.
+#[tactic(auto, unfolding(vax_table::specs::Whole::acted, vax_table::specs::Plan::plan_of, vax_table::specs::Plan::performed), using(vax_table::proofs::Scripts::binds))]
 pub fn carry_out<S: Space>(
     s: &S,
     is_kernel: bool,
@@ -99,7 +116,7 @@ pub fn carry_out<S: Space>(
     psl: Psl,
 ) -> Result<Act, Exit>
     requires { IsWellFormed (view d.now) }
-    ensures { acts_of d.now.opcode result ≡ exits (outcome (S.space s.now) (acted is_kernel (view d.now) r.now (psl.0 % 2 ^ 8))) }
+    ensures { acts_of d.now.opcode result ≡ exits (outcome (S.space s.now) (acted is_kernel psl.0 (view d.now) r.now)) }
 {
     let refusal = match operation(d.opcode) {
         Operation::Sensitive(op) => {
@@ -109,11 +126,15 @@ pub fn carry_out<S: Space>(
             return Err(Exit::Refused(Refusal::Instruction));
         }
         Operation::Probe(intent) => {
-            return trap(s, probe_of(intent), d, r);
+            let o = evaluate(s, d, r).map_err(exit_of)?;
+            return Ok(Act::Probes(intent, o));
+        }
+        Operation::MoveStatus => {
+            return move_status(s, d, r, psl);
         }
         Operation::Breakpoint => Refusal::Breakpoint,
         Operation::Customer => Refusal::Customer,
-        Operation::MoveStatus | Operation::Other => Refusal::Instruction,
+        Operation::Other => Refusal::Instruction,
         _ => {
             return plain(s, d, r, psl);
         }

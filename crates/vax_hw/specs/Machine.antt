@@ -1,6 +1,6 @@
 -- The real machine: its memory, what is loaded into it, and its three counts
 -- (Hall and Robinson, Virtualizing the VAX Architecture, ISCA 1991).
-use Rattle.std.specs.Prelude.{ℕ, ◌+◌, ◌*◌, ◌/◌, ◌%◌, ◌^◌, List, replicate, slice_index, nat_lt, if◌then◌else◌, Ok, Err}
+use Rattle.std.specs.Prelude.{◌≡◌, ℕ, ◌+◌, ◌*◌, ◌/◌, ◌%◌, ◌^◌, List, replicate, slice_index, nat_lt, if◌then◌else◌, Ok, Err}
 use Rattle.vax_arch.specs.declared.psl.Psl.{Psl}
 use Rattle.vax_hw.specs.declared.world.World.{World}
 use Rattle.vax_table.specs.Script.{Space, Refusing}
@@ -27,6 +27,13 @@ space_of m = linear m.memory m.world.p0br m.world.p0lr
 -- the status word is the low byte of the PSL
 abbrev pub psw_of : World → ℕ
 psw_of w = w.psl.0 % 256
+
+-- The PSL that MOVPSL stores: VMPSL's bits 31:8, and the status word of the real PSL in bits 7:0.
+abbrev pub seen_psl : World → ℕ
+seen_psl w = w.vmpsl.0 / 256 * 256 + psw_of w
+
+abbrev pub ShowsTheRealStatusWord : Type 0
+ShowsTheRealStatusWord = (w : World) → seen_psl w % 2 ^ 8 ≡ psw_of w
 
 -- a PSL with another status word
 abbrev pub with_psw : Psl → ℕ → Psl

@@ -4,12 +4,12 @@ use Rattle.std.specs.Prelude.{ℕ, zero, suc, ◌+◌, ◌%◌, ◌^◌, Bool, t
 use Rattle.vax_arch.specs.Fields.{current_of}
 use Rattle.vax_arch.specs.declared.mode.Intent.{Intent}
 use Rattle.vax_arch.specs.declared.mode.Intent.TheVariants.{Read, Write}
-use Rattle.vax_hw.specs.Machine.{Machine, psw_of, retire, space_of}
+use Rattle.vax_hw.specs.Machine.{Machine, retire, seen_psl, space_of}
 use Rattle.vax_hw.specs.declared.world.Exit.{Exit}
 use Rattle.vax_hw.specs.declared.world.Exit.TheVariants.{Arithmetic, Budget, NotValid, Denied, Emulate, Refused}
 use Rattle.vax_hw.specs.declared.world.World.{World}
 use Rattle.vax_table.specs.Script.{Absent, Refusing, Past, Trouble, At, Test, outcome}
-use Rattle.vax_table.specs.Whole.{Act, Meant, Plain, Traps, instruction, is_kernel}
+use Rattle.vax_table.specs.Whole.{Act, Meant, Plain, Probes, Traps, instruction, is_kernel, probe_of, trap_of}
 
 abbrev pub is_write : Intent → Bool
 is_write Read = false
@@ -35,10 +35,12 @@ pub record Retired : Type 0 where
   pub machine : Machine
   pub trap : Option ℕ
 
--- an instruction that was found to be this retires, or traps
+-- an instruction that was found to be this retires, or traps; PROBE traps, as a sensitive one, until the machine has
+-- page tables
 abbrev pub meets : Machine → ℕ → Act → Result Retired Exit
 meets m opcode (Plain e) = Ok (record { machine = retire opcode e m; trap = e.trap })
 meets m opcode (Traps t) = Err (Emulate t)
+meets m opcode (Probes intent o) = Err (Emulate (trap_of (probe_of intent) o))
 
 abbrev pub done : Machine → Result Meant Exit → Result Retired Exit
 done m (Err e) = Err e
@@ -46,7 +48,7 @@ done m (Ok meant) = meets m meant.opcode meant.act
 
 -- one instruction: the machine after it, or why it didn't retire
 unfoldable pub one : Machine → Result Retired Exit
-one m = done m (exits (outcome (space_of m) (instruction (in_kernel m.world) m.world.r (psw_of m.world))))
+one m = done m (exits (outcome (space_of m) (instruction (in_kernel m.world) (seen_psl m.world) m.world.r)))
 
 -- an entry that wasn't valid is a miss
 abbrev pub misses_after : ℕ → Exit → ℕ

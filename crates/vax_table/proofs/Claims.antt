@@ -47,6 +47,12 @@ holds_then Q P cs (Done a) h k = k cs a h
 holds_then Q P cs (Refuse t) h k = tt
 holds_then Q P cs (Touch i a n f) h k = λ v. holds_then Q P (cs ++ if_write i (addresses n a)) (f v) (h v) k
 
+-- what holds of everything
+pub holds_always : {A : Type 0} (P : List ℕ → A → Type 0) (cs : List ℕ) (m : Script A) → ((ds : List ℕ) (a : A) → P ds a) → Holds P cs m
+holds_always P cs (Done a) h = h cs a
+holds_always P cs (Refuse t) h = tt
+holds_always P cs (Touch i a n f) h = λ v. holds_always P (cs ++ if_write i (addresses n a)) (f v) h
+
 pub among_front : (xs ys : List ℕ) → AreAmong xs (xs ++ ys)
 among_front [] ys x h = absurd h
 among_front (z ∷ xs) ys x (inl e) = inl e

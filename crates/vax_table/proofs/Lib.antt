@@ -17,3 +17,4 @@ pub mod Widths
 pub mod Plans
 pub mod Wholes
 pub mod StoreLaws
+pub mod Tries

@@ -1,10 +1,11 @@
--- Each byte of a modified or written operand in memory is claimed.
-use Rattle.std.proofs.Common.{◌≡◌, ◌≢◌, ℕ, zero, suc, ◌+◌, ◌%◌, ◌&&◌, Bool, true, false, eqb, List, [], ◌∷◌, ◌++◌, Some, refl, ap, ◌∙◌, sym, subst, add-zero, append-nil, arith, get_or-set_other, slice_get, slice_index_or, slice_set}
+-- What operands claim: in their order the bytes of those that are modified or written in memory.
+use Rattle.std.proofs.Common.{◌≡◌, ◌≢◌, ℕ, zero, suc, ◌+◌, ◌%◌, ◌<◌, ◌≤◌, ◌&&◌, Bool, true, false, eqb, List, [], ◌∷◌, ◌++◌, length, Some, refl, ap, ◌∙◌, sym, add-zero, append_assoc, append-nil, arith, get_or-set_other, length-set, leb, slice_get, slice_index_or, slice_set}
+use Rattle.std.proofs.lemmas.Bool.{leb-true}
 use Rattle.std.specs.Prelude.{if◌then◌else◌}
 use Rattle.vv_base.specs.declared.width.Width.{Width}
 use Rattle.vv_base.specs.Width.{size_of}
 use Rattle.vax_table.specs.declared.act.Dest.{Dest}
-use Rattle.vax_table.specs.declared.act.Dest.TheVariants.{Nowhere, Register, Memory}
+use Rattle.vax_table.specs.declared.act.Dest.TheVariants.{Nowhere}
 use Rattle.vax_table.specs.declared.decoded.Spec.{Spec}
 use Rattle.vax_table.specs.declared.evaluation.Evaluated.{Evaluated}
 use Rattle.vax_table.specs.declared.evaluation.Operands.{Operands}
@@ -12,13 +13,12 @@ use Rattle.vax_table.specs.declared.evaluation.Place.{Place}
 use Rattle.vax_table.specs.declared.forms.Access.{Access}
 use Rattle.vax_table.specs.declared.forms.Access.TheVariants.{Read, Modify, Write, Address, Bits, Branch}
 use Rattle.vax_table.specs.declared.forms.Form.{Form}
-use Rattle.vax_table.specs.Claims.{addresses, Holds, AreAmong, IsClaimed, AreClaimed}
+use Rattle.vax_table.specs.Claims.{addresses, claims_by, operand_claims, Holds}
 use Rattle.vax_table.specs.Operand.{base_address, address_of, read_operand, modified_operand, written_operand, address_operand, bits_operand, branch_operand, by_access, behind_bytes, operand_length, operand_of, with_operand, operands_from, no_operands, forms_in, operands_of}
 use Rattle.vax_table.specs.Rows.{row_of}
-use Rattle.vax_table.specs.Script.{IsIn}
 use Rattle.vax_table.specs.Spelling.{Instruction}
-use Rattle.vax_table.proofs.Claims.{holds-bind, among_front, among_back}
-use Rattle.vax_table.proofs.Tests.{if_both, eq_of, ne_of}
+use Rattle.vax_table.proofs.Claims.{holds-bind, holds_always, holds_then}
+use Rattle.vax_table.proofs.Tests.{if_both}
 
 -- an address claims nothing
 Same : List ℕ → List ℕ → Place → Type 0
@@ -42,50 +42,47 @@ address_holds size s r cs = holds-bind (Same cs) (Same cs) cs (base_address size
 
 -- what an operand adds to what was claimed before
 Adds : List ℕ → Access → Width → List ℕ → Evaluated → Type 0
-Adds cs a w ds e = AreAmong cs ds × IsClaimed ds a w e.dest
+Adds cs a w ds e = ds ≡ cs ++ claims_by a w e.dest
 
-grows : (cs ds xs : List ℕ) → ds ≡ cs → AreAmong cs (ds ++ xs)
-grows cs ds xs e = subst (λ (zs : List ℕ). AreAmong zs (ds ++ xs)) e (among_front ds xs)
+no_more : (cs : List ℕ) → cs ≡ cs ++ []
+no_more cs = sym (append-nil cs)
 
 read_holds : (w : Width) (s : Spec) (r cs : List ℕ) → Holds (Adds cs Read w) cs (read_operand w s r)
 unfolding read_operand Adds Same
 read_holds w s r cs =
     let P = Holds (Adds cs Read w) cs in
-    if_both P (eqb s.mode 0) _ _ (λ t. (λ x h. h, tt)) (λ t.
-    if_both P (eqb s.mode 5) _ _ (λ t. (λ x h. h, tt)) (λ t.
-    if_both P (eqb s.mode 8 && eqb s.reg 15) _ _ (λ t. (λ x h. h, tt)) (λ t.
-    holds-bind (Same cs) (Adds cs Read w) cs (address_of (size_of w) s r) _ (address_holds (size_of w) s r cs) (λ ds p e v. (grows cs ds [] e, tt)))))
+    if_both P (eqb s.mode 0) _ _ (λ t. no_more cs) (λ t.
+    if_both P (eqb s.mode 5) _ _ (λ t. no_more cs) (λ t.
+    if_both P (eqb s.mode 8 && eqb s.reg 15) _ _ (λ t. no_more cs) (λ t.
+    holds-bind (Same cs) (Adds cs Read w) cs (address_of (size_of w) s r) _ (address_holds (size_of w) s r cs) (λ ds p e v. ap (λ (zs : List ℕ). zs ++ []) e))))
 
 modified_holds : (w : Width) (s : Spec) (r cs : List ℕ) → Holds (Adds cs Modify w) cs (modified_operand w s r)
 unfolding modified_operand Adds Same
 modified_holds w s r cs =
-    let P = Holds (Adds cs Modify w) cs in
-    if_both P (eqb s.mode 5) _ _ (λ t. (λ x h. h, tt)) (λ t.
+    if_both (Holds (Adds cs Modify w) cs) (eqb s.mode 5) _ _ (λ t. no_more cs) (λ t.
     holds-bind (Same cs) (Adds cs Modify w) cs (address_of (size_of w) s r) _ (address_holds (size_of w) s r cs)
-    (λ ds p e v. (grows cs ds (addresses (size_of w) p.at) e, among_back ds (addresses (size_of w) p.at))))
+    (λ ds p e v. ap (λ (zs : List ℕ). zs ++ addresses (size_of w) p.at) e))
 
 written_holds : (w : Width) (s : Spec) (r cs : List ℕ) → Holds (Adds cs Write w) cs (written_operand w s r)
 unfolding written_operand Adds Same
 written_holds w s r cs =
-    let P = Holds (Adds cs Write w) cs in
-    if_both P (eqb s.mode 5) _ _ (λ t. (λ x h. h, tt)) (λ t.
+    if_both (Holds (Adds cs Write w) cs) (eqb s.mode 5) _ _ (λ t. no_more cs) (λ t.
     holds-bind (Same cs) (Adds cs Write w) cs (address_of (size_of w) s r) _ (address_holds (size_of w) s r cs)
-    (λ ds p e v. (grows cs ds (addresses (size_of w) p.at) e, among_back ds (addresses (size_of w) p.at))))
+    (λ ds p e v. ap (λ (zs : List ℕ). zs ++ addresses (size_of w) p.at) e))
 
 taken_holds : (w : Width) (s : Spec) (r cs : List ℕ) → Holds (Adds cs Address w) cs (address_operand w s r)
 unfolding address_operand Adds Same
-taken_holds w s r cs = holds-bind (Same cs) (Adds cs Address w) cs (address_of (size_of w) s r) _ (address_holds (size_of w) s r cs) (λ ds p e. (λ x h. subst (IsIn x) (sym e) h, tt))
+taken_holds w s r cs = holds-bind (Same cs) (Adds cs Address w) cs (address_of (size_of w) s r) _ (address_holds (size_of w) s r cs) (λ ds p e. e ∙ no_more cs)
 
 bits_holds : (w : Width) (s : Spec) (r cs : List ℕ) → Holds (Adds cs Bits w) cs (bits_operand w s r)
 unfolding bits_operand Adds Same
 bits_holds w s r cs =
-    let P = Holds (Adds cs Bits w) cs in
-    if_both P (eqb s.mode 5) _ _ (λ t. (λ x h. h, tt)) (λ t.
-    holds-bind (Same cs) (Adds cs Bits w) cs (address_of (size_of w) s r) _ (address_holds (size_of w) s r cs) (λ ds p e. (λ x h. subst (IsIn x) (sym e) h, tt)))
+    if_both (Holds (Adds cs Bits w) cs) (eqb s.mode 5) _ _ (λ t. no_more cs) (λ t.
+    holds-bind (Same cs) (Adds cs Bits w) cs (address_of (size_of w) s r) _ (address_holds (size_of w) s r cs) (λ ds p e. e ∙ no_more cs))
 
 branch_holds : (w : Width) (s : Spec) (r cs : List ℕ) → Holds (Adds cs Branch w) cs (branch_operand w s r)
 unfolding branch_operand Adds
-branch_holds w s r cs = (λ x h. h, tt)
+branch_holds w s r cs = no_more cs
 
 access_holds : (a : Access) (w : Width) (s : Spec) (r cs : List ℕ) → Holds (Adds cs a w) cs (by_access a w s r)
 access_holds Read w s r cs = read_holds w s r cs
@@ -99,69 +96,85 @@ operand_holds : (f : Form) (s : Spec) (r cs : List ℕ) → Holds (Adds cs f.acc
 unfolding operand_of
 operand_holds f s r cs = access_holds f.access f.width s (behind_bytes (operand_length f s) r) cs
 
-claimed_more : (cs ds : List ℕ) (a : Access) (w : Width) (dest : Dest) → AreAmong cs ds → IsClaimed cs a w dest → IsClaimed ds a w dest
-claimed_more cs ds Read w dest g h = tt
-claimed_more cs ds Modify w Nowhere g h = tt
-claimed_more cs ds Modify w (Register n) g h = tt
-claimed_more cs ds Modify w (Memory at) g h = λ x i. g x (h x i)
-claimed_more cs ds Write w Nowhere g h = tt
-claimed_more cs ds Write w (Register n) g h = tt
-claimed_more cs ds Write w (Memory at) g h = λ x i. g x (h x i)
-claimed_more cs ds Address w dest g h = tt
-claimed_more cs ds Bits w dest g h = tt
-claimed_more cs ds Branch w dest g h = tt
+nowhere : (a : Access) (w : Width) → claims_by a w Nowhere ≡ []
+nowhere Read w = refl
+nowhere Modify w = refl
+nowhere Write w = refl
+nowhere Address w = refl
+nowhere Bits w = refl
+nowhere Branch w = refl
 
-nowhere : (cs : List ℕ) (a : Access) (w : Width) → IsClaimed cs a w Nowhere
-nowhere cs Read w = tt
-nowhere cs Modify w = tt
-nowhere cs Write w = tt
-nowhere cs Address w = tt
-nowhere cs Bits w = tt
-nowhere cs Branch w = tt
+-- the destinations from number i on are nowhere yet
+abbrev AreOpen : ℕ → List Dest → Type 0
+AreOpen i dests = (k : ℕ) → i ≤ k → slice_index_or dests k Nowhere ≡ Nowhere
 
--- what is put into a list, or left out beyond its end
-put_here : (xs : List Dest) (i : ℕ) (cs : List ℕ) (a : Access) (w : Width) (d : Dest) → IsClaimed cs a w d → IsClaimed cs a w (slice_index_or (slice_set xs i d) i Nowhere)
-put_here [] i cs a w d h = nowhere cs a w
-put_here (x ∷ xs) zero cs a w d h = h
-put_here (x ∷ xs) (suc i) cs a w d h = put_here xs i cs a w d h
+open_claims : (fs : List Form) (dests : List Dest) → AreOpen 0 dests → operand_claims fs dests ≡ []
+open_claims [] dests h = refl
+open_claims (f ∷ fs) [] h = refl
+open_claims (f ∷ fs) (d ∷ ds) h =
+    let here : d ≡ Nowhere = h 0 (omega arith) in
+    let rest : operand_claims fs ds ≡ [] = open_claims fs ds (λ k g. h (suc k) (omega arith)) in
+    rw (here, rest, nowhere f.access f.width) refl
 
-put_one : (b : Bool) (all : List Form) (i : ℕ) (f : Form) (o : Operands) (e : Evaluated) (cs ds : List ℕ) → slice_get all i ≡ Some f → AreAmong cs ds → IsClaimed ds f.access f.width e.dest → AreClaimed all cs o →
-    (k : ℕ) (g : Form) → eqb k i ≡ b → slice_get all k ≡ Some g → IsClaimed ds g.access g.width (slice_index_or (slice_set o.dests i e.dest) k Nowhere)
-put_one true all i f o e cs ds at among now before k g t is =
-    let same : k ≡ i = eq_of k i t in
-    let there : slice_get all i ≡ Some g = subst (λ (n : ℕ). slice_get all n ≡ Some g) same is in
-    let form : f ≡ g = cc in
-    let here : IsClaimed ds g.access g.width e.dest = subst (λ (x : Form). IsClaimed ds x.access x.width e.dest) form now in
-    subst (λ (n : ℕ). IsClaimed ds g.access g.width (slice_index_or (slice_set o.dests i e.dest) n Nowhere)) (sym same) (put_here o.dests i ds g.access g.width e.dest here)
-put_one false all i f o e cs ds at among now before k g t is =
-    let ne : k ≢ i = ne_of k i t in
-    rw get_or-set_other (claimed_more cs ds g.access g.width (slice_index_or o.dests k Nowhere) among (before k g is))
+-- the next operand adds its own claims
+put_claims : (fs : List Form) (i : ℕ) (dests : List Dest) (f : Form) (d : Dest) → i < length dests → slice_get fs i ≡ Some f → AreOpen i dests → operand_claims fs (slice_set dests i d) ≡ operand_claims fs dests ++ claims_by f.access f.width d
+put_claims [] i dests f d within is h = cc
+put_claims (g ∷ fs) i [] f d within is h = absurd (omega arith)
+put_claims (g ∷ fs) zero (x ∷ xs) f d within is h =
+    let same : g ≡ f = cc in
+    let here : x ≡ Nowhere = h 0 (omega arith) in
+    let rest : operand_claims fs xs ≡ [] = open_claims fs xs (λ k q. h (suc k) (omega arith)) in
+    rw (here, rest, nowhere g.access g.width, append-nil) (ap (λ (z : Form). claims_by z.access z.width d) same)
+put_claims (g ∷ fs) (suc i) (x ∷ xs) f d within is h =
+    ap (λ (zs : List ℕ). claims_by g.access g.width x ++ zs) (put_claims fs i xs f d (omega arith) is (λ k q. h (suc k) (omega arith)))
+    ∙ sym (append_assoc (claims_by g.access g.width x) (operand_claims fs xs) (claims_by f.access f.width d))
 
-put : (all : List Form) (i : ℕ) (f : Form) (o : Operands) (e : Evaluated) (cs ds : List ℕ) → slice_get all i ≡ Some f → Adds cs f.access f.width ds e → AreClaimed all cs o → AreClaimed all ds (with_operand i o e)
+put_open : (i : ℕ) (dests : List Dest) (d : Dest) → AreOpen i dests → AreOpen (i + 1) (slice_set dests i d)
+put_open i dests d h = λ k g. let ne : k ≢ i = omega arith in rw get_or-set_other (h k (omega arith))
+
+-- what was claimed so far is what these operands claim
+abbrev pub AreClaimed : List Form → List ℕ → Operands → Type 0
+AreClaimed forms cs o = cs ≡ operand_claims forms o.dests
+
+added : (all : List Form) (i : ℕ) (f : Form) (o : Operands) (e : Evaluated) (cs ds : List ℕ) → slice_get all i ≡ Some f → i < length o.dests → AreOpen i o.dests → Adds cs f.access f.width ds e → AreClaimed all cs o → AreClaimed all ds (with_operand i o e)
 unfolding Adds
-put all i f o e cs ds at adds before = λ k g is. put_one (eqb k i) all i f o e cs ds at adds.0 adds.1 before k g refl is
+added all i f o e cs ds at within clear g h =
+    g ∙ ap (λ (zs : List ℕ). zs ++ claims_by f.access f.width e.dest) h ∙ sym (put_claims all i o.dests f e.dest within at clear)
 
-from_holds : (all : List Form) (i : ℕ) (fs : List Form) (ss : List Spec) (o : Operands) (cs : List ℕ) → ((k : ℕ) → slice_get fs k ≡ slice_get all (i + k)) → AreClaimed all cs o → Holds (AreClaimed all) cs (operands_from i fs ss o)
-from_holds all i [] ss o cs at h = h
-from_holds all i (f ∷ fs) [] o cs at h = h
-from_holds all i (f ∷ fs) (s ∷ ss) o cs at h =
+from_holds : (all : List Form) (i : ℕ) (fs : List Form) (ss : List Spec) (o : Operands) (cs : List ℕ) → ((k : ℕ) → slice_get fs k ≡ slice_get all (i + k)) → i + length fs ≤ length o.dests → AreOpen i o.dests → AreClaimed all cs o → Holds (AreClaimed all) cs (operands_from i fs ss o)
+from_holds all i [] ss o cs at room clear h = h
+from_holds all i (f ∷ fs) [] o cs at room clear h = h
+from_holds all i (f ∷ fs) (s ∷ ss) o cs at room clear h =
     let head : slice_get all i ≡ Some f = sym (at 0 ∙ ap (slice_get all) (add-zero i)) in
     holds-bind (Adds cs f.access f.width) (AreClaimed all) cs (operand_of f s o.r) _ (operand_holds f s o.r cs)
     (λ ds e g. from_holds all (i + 1) fs ss (with_operand i o e) ds
     (λ k. let n : i + suc k ≡ (i + 1) + k = omega arith in at (suc k) ∙ ap (slice_get all) n)
-    (put all i f o e cs ds head g h))
+    (omega (arith, length-set o.dests i e.dest))
+    (put_open i o.dests e.dest clear)
+    (added all i f o e cs ds head (omega arith) clear g h))
 
-none_claimed : (all : List Form) (r cs : List ℕ) → AreClaimed all cs (no_operands r)
-none_claimed all r cs zero f is = nowhere cs f.access f.width
-none_claimed all r cs (suc zero) f is = nowhere cs f.access f.width
-none_claimed all r cs (suc (suc zero)) f is = nowhere cs f.access f.width
-none_claimed all r cs (suc (suc (suc zero))) f is = nowhere cs f.access f.width
-none_claimed all r cs (suc (suc (suc (suc k)))) f is = nowhere cs f.access f.width
+-- no more operands than there are places
+unfoldable pub are_few : List Form → Bool
+are_few fs = leb (length fs) 4
 
--- each byte of each modified or written operand in memory is claimed
-pub operands_claimed : (d : Instruction) (r cs : List ℕ) → Holds (AreClaimed (forms_in (row_of d.opcode))) cs (operands_of d r)
+all_open : AreOpen 0 (Nowhere ∷ Nowhere ∷ Nowhere ∷ Nowhere ∷ [])
+all_open zero h = refl
+all_open (suc zero) h = refl
+all_open (suc (suc zero)) h = refl
+all_open (suc (suc (suc zero))) h = refl
+all_open (suc (suc (suc (suc k)))) h = refl
+
+few_claimed : (b : Bool) (fs : List Form) → are_few fs ≡ b → (ss : List Spec) (r : List ℕ) → Holds (λ cs o. are_few fs ≡ true → AreClaimed fs cs o) [] (operands_from 0 fs ss (no_operands r))
+unfolding are_few
+few_claimed true fs e ss r =
+    let few : length fs ≤ 4 = leb-true _ _ e in
+    let room : 0 + length fs ≤ 4 = omega arith in
+    holds_then (AreClaimed fs) (λ cs o. are_few fs ≡ true → AreClaimed fs cs o) [] (operands_from 0 fs ss (no_operands r))
+    (from_holds fs 0 fs ss (no_operands r) [] (λ k. let n : k ≡ 0 + k = omega arith in ap (slice_get fs) n) room all_open (sym (open_claims fs (no_operands r).dests all_open)))
+    (λ cs o h t. h)
+few_claimed false fs e ss r = holds_always (λ cs o. are_few fs ≡ true → AreClaimed fs cs o) [] (operands_from 0 fs ss (no_operands r)) (λ cs o t. cc)
+
+-- what operands claim
+pub operands_claimed : (d : Instruction) (r : List ℕ) → Holds (λ cs o. are_few (forms_in (row_of d.opcode)) ≡ true → AreClaimed (forms_in (row_of d.opcode)) cs o) [] (operands_of d r)
 unfolding operands_of
-operands_claimed d r cs =
-    let all = forms_in (row_of d.opcode) in
-    let start = behind_bytes (if d.wait then 2 else 1) r in
-    from_holds all 0 all d.specs (no_operands start) cs (λ k. let n : k ≡ 0 + k = omega arith in ap (slice_get all) n) (none_claimed all start cs)
+operands_claimed d r = few_claimed (are_few (forms_in (row_of d.opcode))) (forms_in (row_of d.opcode)) refl d.specs (behind_bytes (if d.wait then 2 else 1) r)

@@ -1,7 +1,7 @@
--- What an operation stores through is an operand that its row has as modified or written, in the same width.
-use Rattle.std.specs.Prelude.{map, replicate, leb}
+-- What an operation stores through is the one operand that its row has as modified or written, in the same width.
+use Rattle.std.specs.Prelude.{map, replicate, leb, not}
 use Rattle.std.specs.List.{range_with_len}
-use Rattle.std.proofs.Common.{◌≡◌, ℕ, zero, suc, ◌+◌, ◌-◌, ◌<◌, ◌≤◌, ◌&&◌, Bool, true, false, eqb, ltb, List, [], ◌∷◌, length, Option, Some, None, get_or, refl, ap, ◌∙◌, sym, subst, arith, slice_get}
+use Rattle.std.proofs.Common.{◌≡◌, ℕ, zero, suc, ◌+◌, ◌-◌, ◌<◌, ◌≤◌, ◌&&◌, Bool, true, false, eqb, ltb, List, [], ◌∷◌, ◌++◌, length, None, append-nil, get_or, refl, ap, ◌∙◌, sym, arith, slice_get, slice_index_or}
 use Rattle.std.proofs.lemmas.Bool.Decides.{nat_tests}
 use Rattle.std.proofs.lemmas.List.{get_or-replicate}
 use Rattle.std.proofs.lemmas.List.FromFn.{get_or-map-range_with_len}
@@ -17,11 +17,12 @@ use Rattle.vax_table.specs.declared.forms.Form.{Form}
 use Rattle.vax_table.specs.declared.meaning.Operation.{Operation}
 use Rattle.vax_table.specs.declared.meaning.Operation.TheVariants as does
 use Rattle.vax_table.specs.declared.meaning.Target.TheVariants as targets
-use Rattle.vax_table.specs.Claims.{addresses, AreAmong, IsClaimed, AreClaimed}
+use Rattle.vax_table.specs.Claims.{addresses, bytes_at, claims_by, operand_claims}
 use Rattle.vax_table.specs.Effects.{dest_of}
 use Rattle.vax_table.specs.Operand.{forms_in}
 use Rattle.vax_table.specs.Operations.{OperationLine, arithmetic_operations, move_operations, in_operation_lines, in_operations, operation_of, other_operations}
 use Rattle.vax_table.specs.Rows.{row_of}
+use Rattle.vax_table.proofs.OperandClaims.{AreClaimed, are_few}
 use Rattle.vax_table.proofs.Tests.{eq_of, if_both, le_of}
 
 and_both : (a b : Bool) → (a && b) ≡ true → (a ≡ true) × (b ≡ true)
@@ -37,27 +38,46 @@ is_kept Address = false
 is_kept Bits = false
 is_kept Branch = false
 
-pub gets : Option Form → Width → Bool
-gets None w = false
-gets (Some f) w = is_kept f.access && eqb (size_of f.width) (size_of w)
+-- none of these operands is kept
+pub keeps_none : List Form → Bool
+keeps_none [] = true
+keeps_none (f ∷ fs) = not (is_kept f.access) && keeps_none fs
 
--- the operand that an operation stores through, where it stores through one, is kept in the operation's width
+-- operand k alone is kept, in a width
+pub keeps_only : List Form → ℕ → Width → Bool
+keeps_only [] k w = false
+keeps_only (f ∷ fs) zero w = (is_kept f.access && eqb (size_of f.width) (size_of w)) && keeps_none fs
+keeps_only (f ∷ fs) (suc k) w = not (is_kept f.access) && keeps_only fs k w
+
+pub gets : List Form → ℕ → Width → Bool
+gets fs k w = are_few fs && keeps_only fs k w
+
+pub gets_none : List Form → Bool
+gets_none fs = are_few fs && keeps_none fs
+
+-- Where an operation stores through an operand, that one alone is kept, in the operation's width; where it stores
+-- through none, none is.
 unfoldable pub is_fit : Operation → List Form → Bool
-is_fit (does.Compute op w i targets.Codes) fs = true
-is_fit (does.Compute op w i targets.First) fs = gets (slice_get fs 0) w
-is_fit (does.Compute op w i targets.Second) fs = gets (slice_get fs 1) w
-is_fit (does.Compute op w i targets.Third) fs = gets (slice_get fs 2) w
-is_fit does.ClearQuad fs = gets (slice_get fs 0) Quad
-is_fit does.MoveQuad fs = gets (slice_get fs 1) Quad
-is_fit (does.AddAndCompare w) fs = gets (slice_get fs 2) w
-is_fit (does.AddOne b) fs = gets (slice_get fs 1) Long
-is_fit (does.SubtractOne b) fs = gets (slice_get fs 0) Long
-is_fit does.MoveStatus fs = gets (slice_get fs 0) Long
-is_fit operation fs = true
+is_fit (does.Compute op w i targets.Codes) fs = gets_none fs
+is_fit (does.Compute op w i targets.First) fs = gets fs 0 w
+is_fit (does.Compute op w i targets.Second) fs = gets fs 1 w
+is_fit (does.Compute op w i targets.Third) fs = gets fs 2 w
+is_fit does.ClearQuad fs = gets fs 0 Quad
+is_fit does.MoveQuad fs = gets fs 1 Quad
+is_fit (does.AddAndCompare w) fs = gets fs 2 w
+is_fit (does.AddOne b) fs = gets fs 1 Long
+is_fit (does.SubtractOne b) fs = gets fs 0 Long
+is_fit does.MoveStatus fs = gets fs 0 Long
+is_fit does.Other fs = true
+is_fit (does.Sensitive op) fs = true
+is_fit (does.Probe intent) fs = true
+is_fit does.Breakpoint fs = true
+is_fit does.Customer fs = true
+is_fit operation fs = gets_none fs
 
 -- all 256 at once, by computation
 all_fit : map (λ n. is_fit (operation_of n) (forms_in (row_of n))) (range_with_len 0 256) ≡ replicate 256 true
-unfolding operation_of row_of is_fit gets is_kept
+unfolding operation_of row_of is_fit gets gets_none keeps_only keeps_none is_kept are_few
 all_fit = refl
 
 fit_below : (n : ℕ) → n < 256 → is_fit (operation_of n) (forms_in (row_of n)) ≡ true
@@ -110,27 +130,61 @@ operations_fit n = fit_by n (ltb n 256) refl
 no_yes : false ≡ true → ⊥
 no_yes e = cc
 
--- what is kept is claimed, as what is written is
-kept_claimed : (cs : List ℕ) (a : Access) (v w : Width) (dest : Dest) → is_kept a ≡ true → size_of v ≡ size_of w → IsClaimed cs a v dest → IsClaimed cs Write w dest
+unkept : (a : Access) (w : Width) (dest : Dest) → not (is_kept a) ≡ true → claims_by a w dest ≡ []
 unfolding is_kept
-kept_claimed cs Read v w dest k e h = absurd (no_yes k)
-kept_claimed cs Modify v w Nowhere k e h = tt
-kept_claimed cs Modify v w (Register n) k e h = tt
-kept_claimed cs Modify v w (Memory at) k e h = subst (λ (z : ℕ). AreAmong (addresses z at) cs) e h
-kept_claimed cs Write v w Nowhere k e h = tt
-kept_claimed cs Write v w (Register n) k e h = tt
-kept_claimed cs Write v w (Memory at) k e h = subst (λ (z : ℕ). AreAmong (addresses z at) cs) e h
-kept_claimed cs Address v w dest k e h = absurd (no_yes k)
-kept_claimed cs Bits v w dest k e h = absurd (no_yes k)
-kept_claimed cs Branch v w dest k e h = absurd (no_yes k)
+unkept Read w dest e = refl
+unkept Modify w dest e = absurd (no_yes e)
+unkept Write w dest e = absurd (no_yes e)
+unkept Address w dest e = refl
+unkept Bits w dest e = refl
+unkept Branch w dest e = refl
 
-found_claimed : (cs : List ℕ) (form : Option Form) (w : Width) (dest : Dest) → gets form w ≡ true → ((f : Form) → form ≡ Some f → IsClaimed cs f.access f.width dest) → IsClaimed cs Write w dest
+bytes_same : (v w : Width) (dest : Dest) → size_of v ≡ size_of w → bytes_at v dest ≡ bytes_at w dest
+bytes_same v w Nowhere e = refl
+bytes_same v w (Register n) e = refl
+bytes_same v w (Memory at) e = ap (λ (z : ℕ). addresses z at) e
+
+kept : (a : Access) (v w : Width) (dest : Dest) → is_kept a ≡ true → size_of v ≡ size_of w → claims_by a v dest ≡ bytes_at w dest
+unfolding is_kept
+kept Read v w dest k e = absurd (no_yes k)
+kept Modify v w dest k e = bytes_same v w dest e
+kept Write v w dest k e = bytes_same v w dest e
+kept Address v w dest k e = absurd (no_yes k)
+kept Bits v w dest k e = absurd (no_yes k)
+kept Branch v w dest k e = absurd (no_yes k)
+
+none_kept : (fs : List Form) (dests : List Dest) → keeps_none fs ≡ true → operand_claims fs dests ≡ []
+unfolding keeps_none
+none_kept [] dests e = refl
+none_kept (f ∷ fs) [] e = refl
+none_kept (f ∷ fs) (d ∷ ds) e =
+    let both = and_both (not (is_kept f.access)) (keeps_none fs) e in
+    ap (λ (zs : List ℕ). zs ++ operand_claims fs ds) (unkept f.access f.width d both.0) ∙ none_kept fs ds both.1
+
+only_kept : (fs : List Form) (k : ℕ) (w : Width) (dests : List Dest) → keeps_only fs k w ≡ true → operand_claims fs dests ≡ bytes_at w (slice_index_or dests k Nowhere)
+unfolding keeps_only
+only_kept [] k w dests e = absurd (no_yes e)
+only_kept (f ∷ fs) k w [] e = refl
+only_kept (f ∷ fs) zero w (d ∷ ds) e =
+    let both = and_both (is_kept f.access && eqb (size_of f.width) (size_of w)) (keeps_none fs) e in
+    let here = and_both (is_kept f.access) (eqb (size_of f.width) (size_of w)) both.0 in
+    ap (λ (zs : List ℕ). claims_by f.access f.width d ++ zs) (none_kept fs ds both.1)
+    ∙ append-nil (claims_by f.access f.width d)
+    ∙ kept f.access f.width w d here.0 (eq_of (size_of f.width) (size_of w) here.1)
+only_kept (f ∷ fs) (suc k) w (d ∷ ds) e =
+    let both = and_both (not (is_kept f.access)) (keeps_only fs k w) e in
+    ap (λ (zs : List ℕ). zs ++ operand_claims fs ds) (unkept f.access f.width d both.0) ∙ only_kept fs k w ds both.1
+
+-- what was claimed are the bytes of the operand that gets a result
+pub target_claimed : (fs : List Form) (cs : List ℕ) (o : Operands) (k : ℕ) (w : Width) → (are_few fs ≡ true → AreClaimed fs cs o) → gets fs k w ≡ true → cs ≡ bytes_at w (dest_of o k)
 unfolding gets
-found_claimed cs None w dest e h = absurd (no_yes e)
-found_claimed cs (Some f) w dest e h =
-    let both = and_both (is_kept f.access) (eqb (size_of f.width) (size_of w)) e in
-    kept_claimed cs f.access f.width w dest both.0 (eq_of (size_of f.width) (size_of w) both.1) (h f refl)
+target_claimed fs cs o k w h e =
+    let both = and_both (are_few fs) (keeps_only fs k w) e in
+    h both.0 ∙ only_kept fs k w o.dests both.1
 
--- the operand that gets a result is claimed
-pub target_claimed : (fs : List Form) (cs : List ℕ) (o : Operands) (k : ℕ) (w : Width) → AreClaimed fs cs o → gets (slice_get fs k) w ≡ true → IsClaimed cs Write w (dest_of o k)
-target_claimed fs cs o k w h e = found_claimed cs (slice_get fs k) w (dest_of o k) e (λ f g. h k f g)
+-- or nothing
+pub none_claimed : (fs : List Form) (cs : List ℕ) (o : Operands) → (are_few fs ≡ true → AreClaimed fs cs o) → gets_none fs ≡ true → cs ≡ []
+unfolding gets_none
+none_claimed fs cs o h e =
+    let both = and_both (are_few fs) (keeps_none fs) e in
+    h both.0 ∙ none_kept fs o.dests both.1

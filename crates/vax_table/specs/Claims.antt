@@ -1,12 +1,11 @@
 -- The bytes that a script claims for writing, and what holds of them and the result wherever it ends.
-use Rattle.std.specs.Prelude.{ℕ, zero, suc, ◌+◌, ◌%◌, ◌^◌, List, [], ◌∷◌, ◌++◌, Some, slice_get, slice_index_or, ◌≡◌}
+use Rattle.std.specs.Prelude.{ℕ, zero, suc, ◌+◌, ◌%◌, ◌^◌, List, [], ◌∷◌, ◌++◌}
 use Rattle.vv_base.specs.declared.width.Width.{Width}
 use Rattle.vv_base.specs.Width.{size_of}
 use Rattle.vax_arch.specs.declared.mode.Intent.{Intent}
 use Rattle.vax_arch.specs.declared.mode.Intent.TheVariants as intents
 use Rattle.vax_table.specs.declared.act.Dest.{Dest}
 use Rattle.vax_table.specs.declared.act.Dest.TheVariants.{Nowhere, Register, Memory}
-use Rattle.vax_table.specs.declared.evaluation.Operands.{Operands}
 use Rattle.vax_table.specs.declared.forms.Access.{Access}
 use Rattle.vax_table.specs.declared.forms.Access.TheVariants.{Read, Modify, Write, Address, Bits, Branch}
 use Rattle.vax_table.specs.declared.forms.Form.{Form}
@@ -37,18 +36,23 @@ Holds P cs (Touch i a k f) = (v : ℕ) → Holds P (cs ++ if_write i (addresses 
 abbrev pub AreAmong : List ℕ → List ℕ → Type 0
 AreAmong xs ys = (x : ℕ) → IsIn x xs → IsIn x ys
 
--- each byte of a modified or written operand in memory is claimed
-abbrev pub IsClaimed : List ℕ → Access → Width → Dest → Type 0
-IsClaimed cs Modify w (Memory at) = AreAmong (addresses (size_of w) at) cs
-IsClaimed cs Write w (Memory at) = AreAmong (addresses (size_of w) at) cs
-IsClaimed cs Modify w Nowhere = Unit {0}
-IsClaimed cs Modify w (Register n) = Unit {0}
-IsClaimed cs Write w Nowhere = Unit {0}
-IsClaimed cs Write w (Register n) = Unit {0}
-IsClaimed cs Read w dest = Unit {0}
-IsClaimed cs Address w dest = Unit {0}
-IsClaimed cs Bits w dest = Unit {0}
-IsClaimed cs Branch w dest = Unit {0}
+-- the bytes of a destination in memory, of a width
+abbrev pub bytes_at : Width → Dest → List ℕ
+bytes_at w Nowhere = []
+bytes_at w (Register n) = []
+bytes_at w (Memory at) = addresses (size_of w) at
 
-abbrev pub AreClaimed : List Form → List ℕ → Operands → Type 0
-AreClaimed forms cs o = (k : ℕ) (f : Form) → slice_get forms k ≡ Some f → IsClaimed cs f.access f.width (slice_index_or o.dests k Nowhere)
+-- what an operand claims: its bytes, where it is modified or written in memory
+abbrev pub claims_by : Access → Width → Dest → List ℕ
+claims_by Read w dest = []
+claims_by Modify w dest = bytes_at w dest
+claims_by Write w dest = bytes_at w dest
+claims_by Address w dest = []
+claims_by Bits w dest = []
+claims_by Branch w dest = []
+
+-- what operands claim, in their order
+abbrev pub operand_claims : List Form → List Dest → List ℕ
+operand_claims [] dests = []
+operand_claims (f ∷ fs) [] = []
+operand_claims (f ∷ fs) (d ∷ ds) = claims_by f.access f.width d ++ operand_claims fs ds

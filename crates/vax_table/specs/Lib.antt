@@ -14,6 +14,7 @@ pub mod Stores
 pub mod Whole
 pub mod Operand
 pub mod Tries
+pub mod ShownTries
 pub mod Troubles
 pub mod ShownOperand
 pub mod Standing

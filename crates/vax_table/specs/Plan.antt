@@ -1,5 +1,5 @@
 -- What a plain instruction does over a space: its operands in order, and then its operation
--- (VAX Architecture Reference Manual: instruction execution). The script sees the registers and the status word alone.
+-- (VAX Architecture Reference Manual: instruction execution). The script sees the registers and the PSL alone.
 -- From it follow the outcome, the first trouble, the bytes that are reached, and the places that are claimed, in
 -- access order. All accesses come before the first store, since stores are in the outcome.
 use Rattle.std.specs.Prelude.{ℕ, ◌+◌, ◌*◌, ◌/◌, ◌%◌, ◌^◌, Bool, true, false, not, List}
@@ -8,7 +8,7 @@ use Rattle.vax_table.specs.Arithmetic.{bit_of}
 use Rattle.vax_table.specs.Branches.{added_and_compared, added_one, branched, branched_on_bit, branched_on_low_bit, called_subroutine, cased, left_subroutine, subtracted_one}
 use Rattle.vax_table.specs.Calls.{called_general, called_on_stack, registers_popped, registers_pushed, returned}
 use Rattle.vax_table.specs.Computing.{computed, moved_quad, pushed, status_cleared, status_set}
-use Rattle.vax_table.specs.Effects.{Effect, begun, dest_of, long_of, put, quad_of}
+use Rattle.vax_table.specs.Effects.{Effect, begun, dest_of, put, quad_of}
 use Rattle.vax_table.specs.Operand.{operands_of}
 use Rattle.vax_table.specs.Operations.{operation_of}
 use Rattle.vax_table.specs.Script.{Script, Done, Refuse, ◌>>=◌}

@@ -1,5 +1,5 @@
 -- Laws of what plain instructions do, over every space.
-use Rattle.std.specs.Prelude.{◌≡◌, ℕ, ◌%◌, ◌^◌, ◌≤◌, true, List, [], ◌∷◌, length, Ok, Err}
+use Rattle.std.specs.Prelude.{◌≡◌, ℕ, ◌%◌, ◌^◌, ◌≤◌, true, List, [], ◌∷◌, ◌++◌, length, Ok, Err}
 use Rattle.vv_base.specs.Width.{size_of}
 use Rattle.vax_arch.specs.declared.mode.Intent.{Intent}
 use Rattle.vax_table.specs.Claims.{addresses, claims, AreAmong}
@@ -9,6 +9,15 @@ use Rattle.vax_table.specs.Plan.{is_planned, plan_of, planned}
 use Rattle.vax_table.specs.Script.{AsFar, At, Below, Cause, IsIn, Space, outcome, reached}
 use Rattle.vax_table.specs.Spelling.{Instruction}
 use Rattle.vax_table.specs.declared.effect.Store.{Store}
+
+-- the bytes of stores, in their order
+abbrev pub bytes_of_stores : List Store → List ℕ
+bytes_of_stores [] = []
+bytes_of_stores (x ∷ xs) = addresses (size_of x.width) x.va ++ bytes_of_stores xs
+
+-- what a plan claims for writing is what it stores, byte for byte in order
+abbrev pub ClaimsExactlyItsStores : Type 0
+ClaimsExactlyItsStores = (psl : ℕ) (d : Instruction) (r : List ℕ) (s : Space) (e : Effect) → outcome s (plan_of psl d r) ≡ Ok e → claims s (plan_of psl d r) ≡ bytes_of_stores e.writes
 
 -- each byte of each store is among these
 abbrev pub StoresAreClaimed : List ℕ → List Store → Type 0

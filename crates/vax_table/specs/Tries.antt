@@ -1,9 +1,9 @@
 -- A try of an instruction over a space that tells which written bytes have a clear modify bit
 -- (VAX Architecture Reference Manual: page table entry, modify bit; Hall and Robinson, Virtualizing the VAX
 -- Architecture, ISCA 1991: modify fault).
-use Rattle.std.specs.Prelude.{ℕ, Bool, if◌then◌else◌, List, [], ◌∷◌, Option, Some, None, Result, Ok, Err}
+use Rattle.std.specs.Prelude.{◌≡◌, ℕ, Bool, true, false, if◌then◌else◌, List, [], ◌∷◌, Option, Some, None, Result, Ok, Err}
 use Rattle.vax_table.specs.Claims.{claims}
-use Rattle.vax_table.specs.Script.{Script, Space, Trouble, outcome}
+use Rattle.vax_table.specs.Script.{Script, Space, Trouble, At, Test, Cause, outcome}
 
 pub data Tried (A : Type 0) : Type 0 where
   Completes : A → Tried A
@@ -27,3 +27,15 @@ tried_by is_clear claimed (Err t) = Stopped t
 
 abbrev pub tried : {A : Type 0} → Space → (ℕ → Bool) → Script A → Tried A
 tried s is_clear m = tried_by is_clear (claims s m) (outcome s m)
+
+-- Of two spaces the second answers wherever the first does, and its modify bits are set wherever those of the first are.
+abbrev pub IsMarked : (ℕ → Bool) → (ℕ → Bool) → Type 0
+IsMarked below above = (va : ℕ) → below va ≡ false → above va ≡ false
+
+-- A try over the second, given one over the first: the same, but where the first stopped at an access at which it is
+-- silent, or at a clear bit that is set above; there the second stops at its own trouble or clear bit, or goes on.
+abbrev pub TriedFar : {A : Type 0} → Space → Space → (ℕ → Bool) → (ℕ → Bool) → Tried A → Tried A → Type 0
+TriedFar s t below above (Completes a) r = r ≡ Completes a
+TriedFar s t below above (Clear va) r = (below va ≡ true) × (above va ≡ true → r ≡ Clear va)
+TriedFar s t below above (Stopped (Test k)) r = r ≡ Stopped (Test k)
+TriedFar s t below above (Stopped (At c i a)) r = (s i a ≡ Err c) × ((d : Cause) → t i a ≡ Err d → r ≡ Stopped (At d i a))

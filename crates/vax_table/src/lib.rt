@@ -22,7 +22,8 @@ pub use laws::{no_spelling_begins_another, one_spelling, reading_is_exact, spell
 pub use lookup::{operation, row};
 pub use meaning::{Condition, Inputs, Operation, Target};
 pub use plan_laws::{
-    claims_are_kept, instructions_are_local, instructions_claim_their_stores,
-    only_movpsl_depends_on_more, plan_troubles_are_reached, plans_are_local, registers_are_kept,
-    stores_are_claimed, stores_are_few, troubles_are_reached,
+    claims_are_kept, claims_are_stores, instructions_are_local, instructions_claim_their_stores,
+    only_movpsl_depends_on_more, plan_troubles_are_reached, plans_are_local, plans_claim_exactly,
+    registers_are_kept, stores_are_claimed, stores_are_few, tries_are_local, tries_look_at_stores,
+    troubles_are_reached,
 };
