@@ -4,3 +4,4 @@ pub mod Rei
 pub mod Ring
 pub mod Shown
 pub mod Walk
+pub mod WalkLaws

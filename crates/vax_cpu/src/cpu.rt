@@ -30,14 +30,14 @@ pub struct Cpu {
 }
 
 impl Model for Cpu {
-    ghost use Rattle.std.specs.Prelude.{◌≡◌, ◌*◌, length};
+    ghost use Rattle.std.specs.Prelude.{◌≡◌, ◌≤◌, ◌*◌, length};
     ghost use Rattle.vax_hw.specs.Machine.{Machine};
 
     ghost Value = { Machine };
 
     ghost view = { λ m. record { memory = m.memory.items; world = m.world; retired = m.retired; trail = m.trail; misses = m.misses } };
 
-    ghost invariant = { λ m. length m.memory.items ≡ 512 * m.pages };
+    ghost invariant = { λ m. (length m.memory.items ≡ 512 * m.pages) × (1 ≤ m.pages) × (m.pages ≤ 65536) };
 }
 
 /// What an instruction adds to the trail.

@@ -10,9 +10,11 @@ pub trait Hardware {
     /// Its memory, what is loaded into it, and its three counts, which only `run` raises.
     ghost machine: { Self → Machine };
 
-    /// The pages of 512 bytes that it has, which never change.
+    /// The pages of 512 bytes that it has, 1 to 65,536, which never change.
     fn pages(&self) -> u32
-        ensures { 512 * result ≡ length (machine self.now).memory };
+        ensures all { 512 * result ≡ length (machine self.now).memory }
+        ensures some { 1 ≤ result }
+        ensures few { result ≤ 65536 };
 
     /// How many instructions have retired, modulo 2^64.
     fn retired(&self) -> u64

@@ -1,7 +1,11 @@
 -- A part of a memory read as a memory.
-use Rattle.std.proofs.Common.{◌≡◌, ℕ, ◌+◌, ◌*◌, ◌-◌, ◌<◌, ◌≤◌, List, length, take, drop, refl, ap, ◌∙◌, arith, slice_index, get_or, length-drop}
+use Rattle.std.proofs.Common.{◌≡◌, ℕ, ◌+◌, ◌*◌, ◌-◌, ◌<◌, ◌≤◌, List, length, take, drop, refl, ap, ◌∙◌, arith, slice_index, get_or, length-drop, sym, subst}
 use Rattle.std.proofs.lemmas.List.{get_or-drop, get_or-take, length-take-le}
 use Rattle.vv_base.specs.Bytes.{long_at}
+use Rattle.vax_arch.specs.Walk.{Tables, lookup}
+use Rattle.vax_arch.specs.WalkLaws.{IsInside}
+use Rattle.vax_arch.specs.declared.walk.Lookup.{Lookup}
+use Rattle.vax_arch.proofs.Walks.{looks_inside}
 use Rattle.vm_state.specs.Partition.{part}
 
 pub part_byte : (memory : List ℕ) (at size i : ℕ) → i < size → slice_index (part memory at size) i ≡ slice_index memory (at + i)
@@ -17,3 +21,7 @@ part_long memory at size place h =
 
 pub part_length : (memory : List ℕ) (at size : ℕ) → at + size ≤ length memory → length (part memory at size) ≡ size
 part_length memory at size h = let l : length (drop at memory) ≡ length memory - at = length-drop at memory in let t : size ≤ length (drop at memory) = omega arith in length-take-le size (drop at memory) t
+
+-- what is a look-up lies inside
+pub inside_by : (size : ℕ) (memory : List ℕ) (t : Tables) (page : ℕ) (x : Lookup) → x ≡ lookup size memory t page → IsInside size x
+inside_by size memory t page x e = subst (IsInside size) (sym e) (looks_inside size memory t page)

@@ -7,9 +7,12 @@ use Rattle.vm_state.specs.declared.guest_state.GuestState.{GuestState}
 abbrev pub part : List ℕ → (at size : ℕ) → List ℕ
 part memory at size = take size (drop at memory)
 
--- the guest whose memory is its partition of the machine's
+-- a guest's partition of the machine's memory, and the guest whose memory it is
+abbrev pub partition_of : List ℕ → GuestState → List ℕ
+partition_of memory g = part memory (512 * g.base) (512 * g.pages)
+
 abbrev pub guest_of : List ℕ → GuestState → Guest
-guest_of memory g = record { memory = part memory (512 * g.base) (512 * g.pages); state = state_of g }
+guest_of memory g = record { memory = partition_of memory g; state = state_of g }
 
 -- two memories that are one but for so many bytes from a place on
 pub record IsApart (at n : ℕ) (before after : List ℕ) : Type 0 where

@@ -26,8 +26,6 @@ use Rattle.vm_state.specs.State.{Guest, State}
 use Rattle.vm_state.specs.Step.{Fault, Idle, Interrupt, Kind, Plain, Sensitive, SetModify, Stepped, Stopped, executed, step}
 use Rattle.vm_state.specs.Translation.{walk_of}
 
-
-
 -- the edges of the tables
 pub lengths :
     -- MOVL R0,(R1) to the first page behind P0LR: a length violation for a write; and to the last page in front of it

@@ -26,8 +26,6 @@ use Rattle.vm_state.specs.State.{Guest, State}
 use Rattle.vm_state.specs.Step.{Fault, Idle, Interrupt, Kind, Plain, Sensitive, SetModify, Stepped, Stopped, executed, step}
 use Rattle.vm_state.specs.Translation.{walk_of}
 
-
-
 -- REI
 pub returns :
     -- from user mode to user mode: USP is behind the two longwords

@@ -26,8 +26,6 @@ use Rattle.vm_state.specs.State.{Guest, State}
 use Rattle.vm_state.specs.Step.{Fault, Idle, Interrupt, Kind, Plain, Sensitive, SetModify, Stepped, Stopped, executed, step}
 use Rattle.vm_state.specs.Translation.{walk_of}
 
-
-
 -- an instruction and its first trouble
 pub faults :
     -- DIVL2 #0,R1 with R1 7: plain, and its trap of type 2 is taken behind it, though IV is clear

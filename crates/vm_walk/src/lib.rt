@@ -1,9 +1,11 @@
 //! Translation over a guest's own page tables, which lie in its part of a machine's memory.
 #![tactic(auto)]
 
-mod look_up;
-// mod translate;
+mod lookup;
+mod partition;
+mod translate;
 
-// pub use look_up::look_up;
-// pub use translate::walk;
+pub use lookup::look_up;
+pub use translate::walk;
+pub use vax_arch::Lookup;
 pub use vm_state::{MemFault, Walk};

@@ -1,0 +1,9 @@
+//! A guest's processor registers: what MTPR writes and MFPR reads.
+#![tactic(auto)]
+
+mod read;
+mod write;
+
+pub use read::mfpr;
+pub use vm_state::{Effect, ReservedOperand};
+pub use write::mtpr;
