@@ -1,7 +1,7 @@
 use crate::Cpu;
 use std::alloc::Global;
 use std::test::Fail;
-use vax_hw::{Exit, Hardware, Psl, Refusal, World};
+use vax_hw::{Dest, Exit, Hardware, Psl, Refusal, Sens, Trapped, World};
 use vv_base::NoMemory;
 
 /// R0 and why the run ended behind one instruction, which lies in the first longword: VMPSL is in user mode, and the
@@ -24,12 +24,24 @@ fn one_instruction(alloc: Global, code: u32) -> Result<(u32, Exit), NoMemory> {
     Ok((cpu.save_world().r[0], exit))
 }
 
+/// What PROBER #0,#4,(R1) at 0 traps with.
+const PROBER: Trapped = Trapped {
+    op: Sens::Prober,
+    a: 0,
+    b: 4,
+    c: 0,
+    dest: Dest::Nowhere,
+    next_pc: 4,
+    regs: [0; 15],
+};
+
 #[test]
-fn movpsl_bpt_and_xfc(rt: HostRuntime) -> Result<(), Fail> {
+fn movpsl_bpt_xfc_and_prober(rt: HostRuntime) -> Result<(), Fail> {
     for (code, r0, exit) in [
         (0x50DC, 0x03C0_000F, Exit::Budget),
         (0x03, 0, Exit::Refused(Refusal::Breakpoint)),
         (0xFC, 0, Exit::Refused(Refusal::Customer)),
+        (0x6104_000C, 0, Exit::Emulate(PROBER)),
     ] {
         assert_eq!(rt;
             one_instruction(rt.alloc(), code),
