@@ -1,9 +1,13 @@
 //! A guest's processor registers: what MTPR writes and MFPR reads.
 #![tactic(auto)]
 
+mod pointers;
 mod read;
 mod write;
 
 pub use read::mfpr;
 pub use vm_state::{Effect, ReservedOperand};
 pub use write::mtpr;
+
+#[cfg(test)]
+mod tests;

@@ -16,7 +16,8 @@ const PACKET: u64 = 24;
 fn is_packet(g: &GuestState, packet: u32) -> bool
     ensures { result ≡ not (not (packet % 4 == 0) || is_past (512 * g.now.pages) packet 24) }
 {
-    packet % 4 == 0 && u64::from(packet) + PACKET <= 512 * u64::from(g.pages)
+    let size = 512 * u64::from(g.pages);
+    packet % 4 == 0 && u64::from(packet) + PACKET <= size
 }
 
 /// Queues the packet at a physical address of the guest. `BadPacket` comes exactly where the address isn't a multiple of 4 or
@@ -35,4 +36,32 @@ pub fn accept(g: &mut GuestState, packet: u32) -> Accept
     }
     g.queue.push(packet);
     Accept::Queued
+}
+
+#[cfg(test)]
+mod tests {
+    use super::*;
+    use std::test::Fail;
+
+    /// Of 64 pages the last packet is at 7FE8; eight packets can wait.
+    #[test]
+    fn packets(rt: HostRuntime) -> Result<(), Fail> {
+        let mut g = GuestState::new(64, 0, 0x200, false);
+        for (packet, answer) in [
+            (0x1002, Accept::BadPacket),
+            (0x7FEC, Accept::BadPacket),
+            (0x7FFE, Accept::BadPacket),
+            (0xFFFF_FFFC, Accept::BadPacket),
+            (0x7FE8, Accept::Queued),
+        ] {
+            assert_eq!(rt; accept(&mut g, packet), answer, "{packet:x}");
+        }
+        for n in 1..8 {
+            assert_eq!(rt; accept(&mut g, 4 * n), Accept::Queued, "{n}");
+        }
+        assert_eq!(rt; accept(&mut g, 0), Accept::Busy);
+        assert_eq!(rt; accept(&mut g, 2), Accept::BadPacket);
+        assert_eq!(rt; g.queue.len(), 8);
+        Ok(())
+    }
 }
