@@ -13,6 +13,8 @@ pub mod Probe
 pub mod Sensitive
 pub mod Step
 pub mod Run
+pub mod Allowed
+pub mod Laws
 pub mod Touches
 pub mod ShownSetup
 pub mod ShownStep
