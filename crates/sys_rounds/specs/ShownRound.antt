@@ -9,7 +9,7 @@ use Rattle.vv_class.specs.declared.class.AccessClass.{AccessClass}
 use Rattle.vax_table.specs.Fetch.{decided, fetched}
 use Rattle.vax_table.specs.Operand.{operands_of, trap_operands}
 use Rattle.vax_table.specs.Operations.{operation_of}
-use Rattle.vax_table.specs.Plan.{performed, planned}
+use Rattle.vax_table.specs.Plan.{performed, plan_of}
 use Rattle.vax_table.specs.Reading.{decoded_at}
 use Rattle.vax_table.specs.Rows.{row_of}
 use Rattle.vax_table.specs.Whole.{acted, instruction}
@@ -53,18 +53,18 @@ connected = refl
 
 -- the first stops with its message, the second has done its NOP
 pub one_round : map (λ (g : Guest). g.halt) (round two begun).now.guests ≡ Some 6 ∷ None ∷ []
-unfolding step instruction fetched decided decoded_at row_of acted operation_of planned operands_of trap_operands performed
+unfolding step instruction fetched decided decoded_at row_of acted operation_of plan_of operands_of trap_operands performed
 one_round = refl
 
 pub its_message : bytes_on 9 (round two begun).puts ≡ codes "?06 00000002\r\n"
-unfolding step instruction fetched decided decoded_at row_of acted operation_of planned operands_of trap_operands performed
+unfolding step instruction fetched decided decoded_at row_of acted operation_of plan_of operands_of trap_operands performed
 its_message = refl
 
 pub nothing_shown : bytes_on 5 (round two begun).puts ≡ []
-unfolding step instruction fetched decided decoded_at row_of acted operation_of planned operands_of trap_operands performed
+unfolding step instruction fetched decided decoded_at row_of acted operation_of plan_of operands_of trap_operands performed
 nothing_shown = refl
 
 -- in three slices of a step, the second guest's turn in between
 pub three_slices : bytes_on 9 (slices two.terminals begun.connected (record { guest = 0; steps = 1 } ∷ record { guest = 1; steps = 1 } ∷ record { guest = 0; steps = 1 } ∷ []) begun.guests).puts ≡ codes "?06 00000002\r\n"
-unfolding step instruction fetched decided decoded_at row_of acted operation_of planned operands_of trap_operands performed
+unfolding step instruction fetched decided decoded_at row_of acted operation_of plan_of operands_of trap_operands performed
 three_slices = refl

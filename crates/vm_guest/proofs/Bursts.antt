@@ -4,7 +4,7 @@ use Rattle.std.specs.declared.result.Result.TheVariants.{Ok, Err}
 use Rattle.vax_hw.specs.Machine.{Machine}
 use Rattle.vax_hw.specs.Real.{Retired, behind_trap, done, exit_of, exits, going_on, meets, misses_after, one, real}
 use Rattle.vax_table.specs.Script.{Absent, Refusing, Past, At, Test, Trouble}
-use Rattle.vax_table.specs.Whole.{Act, Meant, Traps}
+use Rattle.vax_table.specs.Whole.{Act, Meant, Probes, Traps, probe_of, trap_of}
 use Rattle.vax_table.specs.Whole as whole
 use Rattle.vax_hw.specs.declared.world.Exit.{Exit}
 use Rattle.vax_hw.specs.declared.world.Exit.TheVariants.{Arithmetic, Budget, Emulate}
@@ -52,6 +52,7 @@ same_plainly run after p q t u e f = ap (λ x. plainly run after x t) e ∙ ap (
 missed_act : (m : Machine) (k opcode : ℕ) (act : Act) (e : Exit) → meets m opcode act ≡ Err e → meets (record m { misses = k }) opcode act ≡ Err e
 missed_act m k opcode (whole.Plain effect) e h = cc
 missed_act m k opcode (Traps t) e h = h
+missed_act m k opcode (Probes intent o) e h = h
 
 missed_done : (m : Machine) (k : ℕ) (found : Result Meant Exit) (e : Exit) → done m found ≡ Err e → done (record m { misses = k }) found ≡ Err e
 missed_done m k (Ok meant) e h = missed_act m k meant.opcode meant.act e h
@@ -71,6 +72,7 @@ plain_exit (Test k) run = refl
 ends_act : (m : Machine) (opcode : ℕ) (act : Act) (e : Exit) (run : Run) → meets m opcode act ≡ Err e → ended e run ≡ run
 ends_act m opcode (whole.Plain effect) e run h = cc
 ends_act m opcode (Traps t) e run h = let same : Emulate t ≡ e = cc in subst (λ (x : Exit). ended x run ≡ run) same refl
+ends_act m opcode (Probes intent o) e run h = let same : Emulate (trap_of (probe_of intent) o) ≡ e = cc in subst (λ (x : Exit). ended x run ≡ run) same refl
 
 ends_done : (m : Machine) (found : Result Meant Trouble) (e : Exit) (run : Run) → done m (exits found) ≡ Err e → ended e run ≡ run
 ends_done m (Ok meant) e run h = ends_act m meant.opcode meant.act e run h
@@ -84,6 +86,7 @@ as_it_is m e run h = ends_done m _ e run h
 no_trap_act : (m : Machine) (opcode kind : ℕ) (act : Act) → meets m opcode act ≡ Err (Arithmetic kind) → ⊥
 no_trap_act m opcode kind (whole.Plain effect) h = cc
 no_trap_act m opcode kind (Traps t) h = cc
+no_trap_act m opcode kind (Probes intent o) h = cc
 
 no_trap_exit : (t : Trouble) (kind : ℕ) → exit_of t ≡ Arithmetic kind → ⊥
 no_trap_exit (At Absent i va) kind h = cc
@@ -107,7 +110,7 @@ no_step n m k e run s fits small same ends = record {
   after = run.guest;
   split = omega arith;
   rest = ap (after_steps n) (same_plainly run run.guest _ _ _ _ (omega arith) (same_mod _ small) ∙ sym (same (plainly run run.guest (run.tally.plain + 0) ((run.tally.trail + 0) % 2 ^ 64))));
-  stands = record { memory = s.memory; bound = s.bound; registers = s.registers; psw = s.psw; mode = s.mode; running = s.running };
+  stands = record { memory = s.memory; bound = s.bound; registers = s.registers; psl = s.psl; running = s.running };
   outside = nothing_apart m.world.p0br (length run.guest.memory) m.memory;
   based = refl;
   own = refl;

@@ -27,8 +27,9 @@ part_length base n memory h =
 whole_part : (base n : ℕ) (memory : List ℕ) → 512 * base + 512 * n ≤ length memory → part memory (512 * base) (length (part memory (512 * base) (512 * n))) ≡ part memory (512 * base) (512 * n)
 whole_part base n memory h = ap (part memory (512 * base)) (part_length base n memory h)
 
-psw_kept : (n : ℕ) → (2 ^ 29 + 5 * 2 ^ 22 + n % 256) % 256 ≡ n % 256
-psw_kept n = grind arith
+-- the guest's PSL over the status word that is loaded
+psl_kept : (n : ℕ) → n / 256 * 256 + (2 ^ 29 + 5 * 2 ^ 22 + n % 256) % 256 ≡ n
+psl_kept n = grind arith
 
 turned : (n : ℕ) → n * 512 ≡ 512 * n
 turned n = omega arith
@@ -38,8 +39,7 @@ stands_loaded m g can = record {
   memory = whole_part g.base g.pages m.memory can.inside;
   bound = turned g.pages ∙ sym (part_length g.base g.pages m.memory can.inside);
   registers = refl;
-  psw = psw_kept g.psl.0;
-  mode = refl;
+  psl = psl_kept g.psl.0;
   running = can.running;
 }
 
@@ -52,14 +52,14 @@ rise_onto c before now n h e = grind arith
 same_guest : (a b : Guest) → a.memory ≡ b.memory → a.r ≡ b.r → a.psl ≡ b.psl → a.halt ≡ b.halt → a ≡ b
 same_guest a b e1 e2 e3 e4 = λ i. record { memory = e1 i; r = e2 i; psl = e3 i; halt = e4 i }
 
-by_parts : (a b c : ℕ) → a / 256 ≡ b / 256 → c % 256 ≡ a % 256 → a ≡ b / 256 * 256 + c % 256
-by_parts a b c e f = grind arith
+by_parts : (v a b c : ℕ) → a / 256 ≡ b / 256 → v / 256 * 256 + c % 256 ≡ a → a ≡ b / 256 * 256 + c % 256
+by_parts v a b c e f = grind arith
 
 -- the guest that the kernel has afterwards
 after_is : (m m' : Machine) (e : Exit) (g : GuestState) (c : Counts) (steps : ℕ) (shown : List ℕ) → CanRun m.memory g → (b : Burst steps (loaded m g) m' e (run_of m.memory g c shown)) → b.after ≡ guest_of m'.memory (back g m'.world)
 after_is m m' e g c steps shown can b =
     let size : length b.after.memory ≡ 512 * g.pages = b.own ∙ part_length g.base g.pages m.memory can.inside in
-    same_guest b.after (guest_of m'.memory (back g m'.world)) (sym b.stands.memory ∙ ap (part m'.memory m'.world.p0br) size ∙ ap (λ (n : ℕ). part m'.memory n (512 * g.pages)) b.based) (sym b.stands.registers) (by_parts b.after.psl g.psl.0 m'.world.psl.0 b.high b.stands.psw) (b.stands.running ∙ sym can.running)
+    same_guest b.after (guest_of m'.memory (back g m'.world)) (sym b.stands.memory ∙ ap (part m'.memory m'.world.p0br) size ∙ ap (λ (n : ℕ). part m'.memory n (512 * g.pages)) b.based) (sym b.stands.registers) (by_parts m'.world.vmpsl.0 b.after.psl g.psl.0 m'.world.psl.0 b.high b.stands.psl) (b.stands.running ∙ sym can.running)
 
 abbrev pub counted_on : Counts → ℕ → ℕ → Counts
 counted_on c done terms = record c { plain = c.plain + done; trail = (c.trail + terms) % 2 ^ 64 }

@@ -5,7 +5,8 @@ use Rattle.std.proofs.lemmas.List.{get_or-drop, get_or-take}
 use Rattle.std.specs.Prelude.{if◌then◌else◌, nat_lt, slice_index}
 use Rattle.vax_arch.specs.Fields.{current_of, mode_of}
 use Rattle.vax_arch.specs.declared.mode.Intent.{Intent}
-use Rattle.vax_hw.specs.Machine.{Machine, linear, place_in, psw_of, retire, space_of}
+use Rattle.vax_arch.specs.declared.mode.Intent.TheVariants as intents
+use Rattle.vax_hw.specs.Machine.{Machine, linear, place_in, retire, seen_psl, space_of}
 use Rattle.vax_hw.specs.Real.{Retired, done, exit_of, exits, in_kernel, meets, one}
 use Rattle.vax_hw.specs.declared.world.Exit.{Exit}
 use Rattle.vax_hw.specs.declared.world.Exit.TheVariants.{Emulate, Refused}
@@ -13,13 +14,14 @@ use Rattle.vax_table.specs.Effects.{Effect}
 use Rattle.vax_table.specs.Script.{Cause, Past, Refusing, Script, Trouble, At, Test, outcome, Below, AsFar, IsIn}
 use Rattle.vax_table.specs.Stores.{all_stored}
 use Rattle.vax_table.specs.Trail.{term}
-use Rattle.vax_table.specs.Whole.{Act, Meant, Traps, instruction, is_kernel, meant}
+use Rattle.vax_table.specs.Whole.{Act, Meant, Probes, Traps, instruction, is_kernel, meant, probe_of, trap_of}
 use Rattle.vax_table.specs.Whole as whole
 use Rattle.vax_table.specs.Claims.{claims}
+use Rattle.vax_table.specs.declared.evaluation.Operands.{Operands}
 use Rattle.vax_table.proofs.Scripts.{outcome_far}
 use Rattle.vax_table.proofs.Wholes.{stores_claimed}
 use Rattle.vm_plain.specs.Guest.{Guest, unmapped}
-use Rattle.vm_plain.specs.Step.{Plain, Stepped, did, running, step, step_by, trapped, with_effect, with_psw}
+use Rattle.vm_plain.specs.Step.{Plain, Stepped, did, faulted, running, step, step_by, trapped, with_effect}
 use Rattle.vm_guest.specs.Exits.{met}
 use Rattle.vm_guest.specs.StandsFor.{StandsFor}
 use Rattle.vm_plain.specs.Partition.{IsApart, part}
@@ -75,14 +77,27 @@ silent m g s i va c e = is_silent (unmapped g.memory i va) c (sym (same_place m 
 
 -- the instruction at PC of the machine, and of the guest
 real_instruction : Machine → Script Meant
-real_instruction m = instruction (in_kernel m.world) m.world.r (psw_of m.world)
+real_instruction m = instruction (in_kernel m.world) (seen_psl m.world) m.world.r
 
 own_instruction : Guest → Script Meant
-own_instruction g = instruction (is_kernel (current_of g.psl)) g.r (g.psl % 256)
+own_instruction g = instruction (is_kernel (current_of g.psl)) g.psl g.r
+
+pub high_part : (a p : ℕ) → (a / 256 * 256 + p % 256) / 256 ≡ a / 256
+high_part a p = grind arith
+
+higher : (p q : ℕ) → q / 256 ≡ p / 256 → q / 2 ^ 24 ≡ p / 2 ^ 24
+higher p q e = grind arith
+
+-- the mode is in the bits above the status word
+pub same_mode : (p q : ℕ) → q / 256 ≡ p / 256 → current_of q ≡ current_of p
+same_mode p q e = ap mode_of (higher p q e)
+
+mode_is : (m : Machine) (g : Guest) → StandsFor m g → current_of m.world.vmpsl.0 ≡ current_of g.psl
+mode_is m g s = same_mode g.psl m.world.vmpsl.0 (sym (high_part m.world.vmpsl.0 m.world.psl.0) ∙ ap (λ (x : ℕ). x / 256) s.psl)
 
 same_instruction : (m : Machine) (g : Guest) → StandsFor m g → real_instruction m ≡ own_instruction g
 unfolding real_instruction own_instruction
-same_instruction m g s = λ i. instruction (is_kernel (s.mode i)) (s.registers i) (s.psw i)
+same_instruction m g s = λ i. instruction (is_kernel (mode_is m g s i)) (s.psl i) (s.registers i)
 
 -- the guest's outcome, as far as the machine's tells it
 far : (m : Machine) (g : Guest) → StandsFor m g → AsFar (space_of m) (unmapped g.memory) (outcome (space_of m) (real_instruction m)) (outcome (unmapped g.memory) (own_instruction g))
@@ -104,18 +119,9 @@ pub record PlainStep (m : Machine) (after : Retired) (old : Guest) (s : Stepped)
   pub retired : after.machine.retired ≡ (m.retired + 1) % 2 ^ 64
   pub trail : after.machine.trail ≡ (m.trail + term) % 2 ^ 64
 
-low_byte : (a b p : ℕ) → (a / 256 * 256 + p % 256) % 256 ≡ (b / 256 * 256 + p % 256) % 256
-low_byte a b p = grind arith
-
-pub high_part : (a p : ℕ) → (a / 256 * 256 + p % 256) / 256 ≡ a / 256
-high_part a p = grind arith
-
-higher : (p q : ℕ) → q / 256 ≡ p / 256 → q / 2 ^ 24 ≡ p / 2 ^ 24
-higher p q e = grind arith
-
--- the mode is in the bits above the status word
-pub same_mode : (p q : ℕ) → q / 256 ≡ p / 256 → current_of q ≡ current_of p
-same_mode p q e = ap mode_of (higher p q e)
+-- another status word is another on both sides
+both_set : (v a g p : ℕ) → v / 256 * 256 + a % 256 ≡ g → v / 256 * 256 + (a / 256 * 256 + p % 256) % 256 ≡ g / 256 * 256 + p % 256
+both_set v a g p e = grind arith
 
 -- the stores made in the machine's memory are those made in the guest's
 same_stores : (m : Machine) (g : Guest) (e : Effect) → StandsFor m g → part (all_stored (place_in m) e.writes m.memory) m.world.p0br (length (with_effect g e).memory) ≡ (with_effect g e).memory
@@ -139,7 +145,7 @@ stores_apart : (m : Machine) (g : Guest) (opcode : ℕ) (e : Effect) → outcome
 unfolding own_instruction
 stores_apart m g opcode e h =
     apart_stored m.world.p0br (length g.memory) (place_in m) (λ va. refl) (claims (unmapped g.memory) (own_instruction g)) (claims_within g (meant opcode (whole.Plain e)) h) e.writes m.memory
-    (stores_claimed (is_kernel (current_of g.psl)) g.r (g.psl % 256) (unmapped g.memory) opcode e h)
+    (stores_claimed (is_kernel (current_of g.psl)) g.psl g.r (unmapped g.memory) opcode e h)
 
 retired_stands : (m : Machine) (g : Guest) (opcode : ℕ) (e : Effect) → StandsFor m g → StandsFor (retire opcode e m) (with_effect g e)
 unfolding retire
@@ -147,8 +153,7 @@ retired_stands m g opcode e s = record {
   memory = same_stores m g e s;
   bound = s.bound ∙ sym (stored_length (λ va. va) e.writes g.memory);
   registers = refl;
-  psw = low_byte m.world.psl.0 g.psl e.psw;
-  mode = s.mode ∙ sym (same_mode g.psl (with_psw g.psl e.psw) (high_part g.psl e.psw));
+  psl = both_set m.world.vmpsl.0 m.world.psl.0 g.psl e.psw s.psl;
   running = s.running;
 }
 
@@ -171,6 +176,7 @@ by_act m after g opcode (whole.Plain e) s own h =
       trail = ap (λ r. (m.trail + term (get_or r 15 0) opcode e.r) % 2 ^ 64) s.registers;
     })
 by_act m after g opcode (Traps t) s own h = cc
+by_act m after g opcode (Probes intent o) s own h = cc
 
 by_outcome : (m : Machine) (after : Retired) (g : Guest) (x r : Result Meant Trouble) → StandsFor m g → outcome (unmapped g.memory) (own_instruction g) ≡ r → AsFar (space_of m) (unmapped g.memory) x r → done m (exits x) ≡ Ok after → PlainStep m after g (running g r)
 by_outcome m after g (Ok found) r s own far e =
@@ -189,9 +195,15 @@ plain_step m after g s e =
     let P : Stepped → Type 0 = λ x. PlainStep m after g x in
     subst P (sym (step_of_running g s.running)) (by_outcome m after g _ _ s refl (far m g s) e)
 
+-- PROBE stops the guest, as the exit with its operands does
+met_probe : (g : Guest) (intent : Intent) (o : Operands) → faulted g ≡ met g (Emulate (trap_of (probe_of intent) o))
+met_probe g intents.Read o = refl
+met_probe g intents.Write o = refl
+
 met_act : (m : Machine) (g : Guest) (opcode : ℕ) (act : Act) (e : Exit) → meets m opcode act ≡ Err e → did g opcode act ≡ met g e
 met_act m g opcode (whole.Plain effect) e is = cc
 met_act m g opcode (Traps t) e is = let same : Emulate t ≡ e = cc in ap (met g) same
+met_act m g opcode (Probes intent o) e is = let same : Emulate (trap_of (probe_of intent) o) ≡ e = cc in met_probe g intent o ∙ ap (met g) same
 
 met_outcome : (m : Machine) (g : Guest) (x r : Result Meant Trouble) (e : Exit) → StandsFor m g → AsFar (space_of m) (unmapped g.memory) x r → done m (exits x) ≡ Err e → running g r ≡ met g e
 met_outcome m g (Ok meant) r e s far is = ap (running g) far ∙ met_act m g meant.opcode meant.act e is

@@ -5,7 +5,7 @@ use Rattle.std.specs.Prelude.{Option, Some, None, Result, Ok, Err, slice_index}
 use Rattle.vax_arch.specs.Fields.{current_of}
 use Rattle.vax_table.specs.Script.{Trouble, At, Test, outcome}
 use Rattle.vax_table.specs.Trail.{term}
-use Rattle.vax_table.specs.Whole.{Act, Meant, Traps, instruction, is_kernel}
+use Rattle.vax_table.specs.Whole.{Act, Meant, Probes, Traps, instruction, is_kernel}
 use Rattle.vax_table.specs.Whole as whole
 use Rattle.vax_table.specs.declared.act.Sens.{Sens}
 use Rattle.vax_table.specs.declared.act.Sens.TheVariants.{Halt, Mtpr}
@@ -30,6 +30,7 @@ sensitive_few g t op = stop_few 0x0f (slice_index g.r 15)
 did_few : (g : Guest) (opcode : ℕ) (act : Act) → length (did g opcode act).shown ≤ 14
 did_few g opcode (whole.Plain e) = trapped_few (with_effect g e) (Plain (term (slice_index g.r 15) opcode e.r)) e.trap
 did_few g opcode (Traps t) = sensitive_few g t t.op
+did_few g opcode (Probes intent o) = stop_few 0x0f (slice_index g.r 15)
 
 running_few : (g : Guest) (came : Result Meant Trouble) → length (running g came).shown ≤ 14
 running_few g (Ok meant) = did_few g meant.opcode meant.act
@@ -37,7 +38,7 @@ running_few g (Err (At cause intent va)) = stop_few 0x10 (slice_index g.r 15)
 running_few g (Err (Test refusal)) = stop_few 0x0f (slice_index g.r 15)
 
 by_few : (g : Guest) (halt : Option ℕ) → length (step_by g halt).shown ≤ 14
-by_few g None = running_few g (outcome (unmapped g.memory) (instruction (is_kernel (current_of g.psl)) g.r (g.psl % 256)))
+by_few g None = running_few g (outcome (unmapped g.memory) (instruction (is_kernel (current_of g.psl)) g.psl g.r))
 by_few g (Some code) = omega arith
 
 step_few : (g : Guest) → length (step g).shown ≤ 14

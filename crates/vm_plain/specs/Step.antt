@@ -9,7 +9,7 @@ use Rattle.vax_table.specs.Effects.{Effect}
 use Rattle.vax_table.specs.Script.{Trouble, At, Test, outcome}
 use Rattle.vax_table.specs.Stores.{all_stored}
 use Rattle.vax_table.specs.Trail.{term}
-use Rattle.vax_table.specs.Whole.{Act, Meant, Traps, instruction, is_kernel}
+use Rattle.vax_table.specs.Whole.{Act, Meant, Probes, Traps, instruction, is_kernel}
 use Rattle.vax_table.specs.Whole as whole
 use Rattle.vax_table.specs.declared.act.Sens.{Sens}
 use Rattle.vax_table.specs.declared.act.Sens.TheVariants.{Halt, Mtpr}
@@ -67,16 +67,18 @@ showed g t = record {
   kind = Sensitive;
 }
 
--- a sensitive instruction, or PROBE: HALT stops the guest behind itself with code 06; until they are built all others
--- but MTPR to the console stop it with code 0F
+-- a sensitive instruction: HALT stops the guest behind itself with code 06; until they are built all others but MTPR
+-- to the console stop it with code 0F
 abbrev pub sensitive : Guest → Trapped → Sens → Stepped
 sensitive g t Halt = stopped g 0x06 t.next_pc Sensitive
 sensitive g t Mtpr = if t.b == 35 then showed g t else faulted g
 sensitive g t op = faulted g
 
+-- until exceptions are built PROBE stops the guest with code 0F
 abbrev pub did : Guest → ℕ → Act → Stepped
 did g opcode (whole.Plain e) = trapped (with_effect g e) (Plain (term (slice_index g.r 15) opcode e.r)) e.trap
 did g opcode (Traps t) = sensitive g t t.op
+did g opcode (Probes intent o) = faulted g
 
 -- the instruction at PC completes, or its first trouble counts; a reference beyond memory stops the guest with code 10
 abbrev pub running : Guest → Result Meant Trouble → Stepped
@@ -89,7 +91,7 @@ abbrev pub rested : Guest → Stepped
 rested g = record { guest = g; shown = []; kind = Stopped }
 
 abbrev pub step_by : Guest → Option ℕ → Stepped
-step_by g None = running g (outcome (unmapped g.memory) (instruction (is_kernel (current_of g.psl)) g.r (g.psl % 256)))
+step_by g None = running g (outcome (unmapped g.memory) (instruction (is_kernel (current_of g.psl)) g.psl g.r))
 step_by g (Some code) = rested g
 
 unfoldable pub step : Guest → Stepped

@@ -7,7 +7,7 @@ use vv_base::{FileName, file_name};
 use vv_io::{Cut, MemLine, MemShelf};
 
 /// Row by row: an image, a number of steps, the console's bytes, and the summary.
-const RUNS: [(&[u8], &str, &str, &str); 12] = [
+const RUNS: [(&[u8], &str, &str, &str); 14] = [
     (
         &[0xDA, 0x8F, 0x41, 0, 0, 0, 0x23, 0],
         "10",
@@ -59,6 +59,20 @@ const RUNS: [(&[u8], &str, &str, &str); 12] = [
         "1000",
         "",
         "rounds 1 steps 1000 plain 1000 sensitive 0 faults 0 interrupts 0 modify 0 idle 0 stopped 0 trail 000000000010EFF0\n",
+    ),
+    // MOVL #0,R1 sets Z, and MOVPSL R0 stores the guest's PSL, 041F0004
+    (
+        &[0xD0, 0, 0x51, 0xDC, 0x50, 0],
+        "3",
+        "?06 00000206\r\n",
+        "rounds 1 steps 3 plain 2 sensitive 1 faults 0 interrupts 0 modify 0 idle 0 stopped 0 trail 00000000041F090B\n",
+    ),
+    // PROBER #0,#1,(R0) stops the guest
+    (
+        &[0x0C, 0, 1, 0x60],
+        "1",
+        "?0F 00000200\r\n",
+        "rounds 1 steps 1 plain 0 sensitive 0 faults 1 interrupts 0 modify 0 idle 0 stopped 0 trail 0000000000000000\n",
     ),
     // DIVL2 #0,R1 retires, and its trap stops the guest behind it
     (
