@@ -1,0 +1,5 @@
+pub mod Line
+pub mod Verdict
+pub mod Apply
+pub mod Replies
+pub mod ShownLines
