@@ -1,5 +1,5 @@
 -- A line that is read as a command has its words.
-use Rattle.std.proofs.Common.{◌≡◌, ◌<◌, ◌≤◌, ◌+◌, ◌-◌, ◌==◌, ℕ, List, [], ◌∷◌, Bool, true, false, ◌&&◌, nat_le, codes, Option, Some, None, refl, sym, ◌∙◌, ap, subst, arith, if◌then◌else◌}
+use Rattle.std.proofs.Common.{◌≡◌, ◌<◌, ◌≤◌, ◌+◌, ◌-◌, ℕ, List, [], ◌∷◌, Bool, true, false, ◌&&◌, nat_le, codes, Option, Some, None, refl, sym, ◌∙◌, ap, arith, if◌then◌else◌}
 use Rattle.std.specs.Option.{IfSome}
 use Rattle.std.specs.Str.{bytes_eq}
 use Rattle.std.proofs.lemmas.Bool.{leb-true}
@@ -7,11 +7,10 @@ use Rattle.std.proofs.lemmas.List.Splits.{join_with_byte-slice_split}
 use Rattle.std.proofs.lemmas.Option.{IfSome_then}
 use Rattle.std.proofs.lemmas.Slice.Eq.{bytes_eq-Decides}
 use Rattle.std.specs.List.{join_with_byte}
-use Rattle.vv_base.specs.Names.{is_object_name, tested}
+use Rattle.vv_base.specs.Names.{is_object_name}
 use Rattle.sys_server.proofs.Reading.{parts}
 use Rattle.sys_server.specs.Line.{Asks, IsAsked, IsName, access_in, access_text, asked_in, asked_of, asked_of_guest, asked_of_mount, behind_guest, behind_unit, unit_in, unit_text, words, words_of}
 use Rattle.sys_server.specs.declared.command.Asked.{Asked}
-use Rattle.sys_server.specs.declared.command.Asked.TheVariants.{Connect, Start, Halt, Mount, Dismount, Show}
 
 both : {A : Type 0} (b : Bool) → (b ≡ true → A) → (b ≡ false → A) → A
 both true f g = f refl

@@ -1,10 +1,12 @@
 -- What a granted command makes of the server's state (profile). Whether the guest itself is reset, stopped or shown is
 -- a matter of the guests.
-use Rattle.std.specs.Prelude.{ℕ, ◌<◌, List, [], Bool, true, false, ◌==◌, Option, None, Some, map, position, slice_set, slice_index_or, if◌then◌else◌}
+use Rattle.std.specs.Prelude.{ℕ, ◌<◌, [], Bool, true, false, ◌==◌, Option, None, Some, map, position, slice_set, slice_index_or, if◌then◌else◌}
 use Rattle.sys_objects.specs.declared.records.Mount.{Mount}
 use Rattle.sys_server.specs.declared.command.Command.{Command}
 use Rattle.sys_server.specs.declared.command.Command.TheVariants.{Connect, Start, Halt, MountAt, Dismount, Show}
 use Rattle.sys_server.specs.declared.command.ServerState.{ServerState}
+use Rattle.sys_server.specs.declared.command.Verdict.{Verdict}
+use Rattle.sys_server.specs.declared.command.Verdict.TheVariants.{Granted, BadCommand, NoSuchObject, Denied}
 
 -- whether it is this guest
 abbrev pub is_guest : ℕ → Option ℕ → Bool
@@ -43,3 +45,10 @@ HasPlaces (Halt g) = g < 16
 HasPlaces (MountAt g unit mount) = (g < 16) × (unit < 4)
 HasPlaces (Dismount g unit) = (g < 16) × (unit < 4)
 HasPlaces Show = Unit {0}
+
+-- what is granted can be applied
+abbrev pub MayApply : Verdict → Type 0
+MayApply (Granted command) = HasPlaces command
+MayApply BadCommand = Unit {0}
+MayApply NoSuchObject = Unit {0}
+MayApply (Denied rule) = Unit {0}

@@ -3,3 +3,4 @@ pub mod Verdict
 pub mod Apply
 pub mod Replies
 pub mod ShownLines
+pub mod ShownVerdicts

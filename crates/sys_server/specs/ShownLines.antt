@@ -1,5 +1,5 @@
 -- Worked examples of lines at the server, checked by computation.
-use Rattle.std.specs.Prelude.{◌≡◌, [], ◌∷◌, ◌++◌, codes, true, false, None, Some, refl}
+use Rattle.std.specs.Prelude.{◌≡◌, [], codes, true, false, None, Some, refl}
 use Rattle.std.specs.List.{join_with_byte}
 use Rattle.sys_server.specs.Line.{asked_in, words_of}
 use Rattle.sys_server.specs.declared.command.Asked.TheVariants.{Connect, Start, Halt, Mount, Dismount, Show}

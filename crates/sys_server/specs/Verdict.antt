@@ -1,6 +1,6 @@
 -- What the server answers to a line (profile): the first case that applies. A terminal sees the objects whose class
 -- flows into its own; to it others are as those that aren't there.
-use Rattle.std.specs.Prelude.{ℕ, List, [], Bool, true, false, not, ◌&&◌, Option, None, Some, position, slice_get, slice_index_or, bytes_eq, if◌then◌else◌}
+use Rattle.std.specs.Prelude.{ℕ, List, [], Bool, not, ◌&&◌, Option, None, Some, position, slice_get, slice_index_or, bytes_eq, if◌then◌else◌}
 use Rattle.vv_class.specs.declared.class.AccessClass.{AccessClass}
 use Rattle.vv_class.specs.Class.{does_flow}
 use Rattle.sys_objects.specs.declared.records.Config.{Config}

@@ -1,7 +1,7 @@
 ghost use Rattle.std.specs.Prelude.{◌≡◌, ◌<◌, ◌≤◌, ◌&&◌, IfSome, Some, bytes_eq, length, slice_get};
 ghost use Rattle.vv_class.specs.Class.{does_flow};
-ghost use Rattle.sys_objects.specs.Condition.{IsConfig};
 ghost use Rattle.sys_objects.specs.Rules.{same_class};
+ghost use Rattle.sys_server.specs.Apply.{HasPlaces, MayApply};
 ghost use Rattle.sys_server.specs.Line.{IsAsked};
 ghost use Rattle.sys_server.specs.Replies.{reply_of};
 ghost use Rattle.sys_server.specs.Verdict.{guest_place, judged, on_dismount, on_mount, on_row, on_rows, unless_empty, verdict_of, volume_place};
@@ -72,7 +72,9 @@ fn volume_place(volumes: &[VolumeRow], class: &AccessClass, name: &Name) -> Opti
 
 /// A command on the guest at a place.
 fn on_place(guests: &[GuestRow], class: &AccessClass, g: u8, command: Command) -> Verdict
-    ensures { result ≡ on_row class.now (slice_get guests.now g) command }
+    requires { HasPlaces command }
+    ensures value { result ≡ on_row class.now (slice_get guests.now g) command }
+    ensures places { MayApply result }
 {
     match guests.get(usize::from(g)) {
         None => Verdict::NoSuchObject,
@@ -89,7 +91,9 @@ fn on_rows(
     v: &VolumeRow,
     command: Command,
 ) -> Verdict
-    ensures { result ≡ on_rows class.now write (Some g.now) (Some v.now) command }
+    requires { HasPlaces command }
+    ensures value { result ≡ on_rows class.now write (Some g.now) (Some v.now) command }
+    ensures places { MayApply result }
 {
     if !same_class(&g.class, class) {
         Verdict::Denied(Rule::Equal)
@@ -108,7 +112,10 @@ fn on_mount(
     v: Option<u8>,
     write: bool,
 ) -> Verdict
-    ensures { result ≡ on_mount c.now class.now g unit v write }
+    requires guest { IfSome g (λ g. g < 16) }
+    requires unit { unit < 4 }
+    ensures value { result ≡ on_mount c.now class.now g unit v write }
+    ensures places { MayApply result }
 {
     let (Some(g), Some(volume)) = (g, v) else {
         return Verdict::NoSuchObject;
@@ -125,7 +132,9 @@ fn on_mount(
 }
 
 fn unless_empty(mount: Option<Mount>, verdict: Verdict) -> Verdict
-    ensures { result ≡ unless_empty mount verdict }
+    requires { MayApply verdict }
+    ensures value { result ≡ unless_empty mount verdict }
+    ensures places { MayApply result }
 {
     match (mount, verdict) {
         (None, Verdict::Granted(_)) => Verdict::NoSuchObject,
@@ -136,7 +145,8 @@ fn unless_empty(mount: Option<Mount>, verdict: Verdict) -> Verdict
 fn on_dismount(c: &Config, s: &ServerState, class: &AccessClass, g: Option<u8>, unit: u8) -> Verdict
     requires guest { IfSome g (λ g. g < 16) }
     requires unit { unit < 4 }
-    ensures { result ≡ on_dismount c.now s.now class.now g unit }
+    ensures value { result ≡ on_dismount c.now s.now class.now g unit }
+    ensures places { MayApply result }
 {
     let Some(g) = g else {
         return Verdict::NoSuchObject;
@@ -152,7 +162,8 @@ fn judged(c: &Config, s: &ServerState, class: &AccessClass, asked: &Asked) -> Ve
     requires few_guests { length c.now.guests ≤ 16 }
     requires few_volumes { length c.now.volumes ≤ 16 }
     requires asked { IsAsked asked.now }
-    ensures { result ≡ judged c.now s.now class.now asked.now }
+    ensures value { result ≡ judged c.now s.now class.now asked.now }
+    ensures places { MayApply result }
 {
     let guests = c.guests.as_slice();
     match asked {
@@ -180,11 +191,13 @@ fn judged(c: &Config, s: &ServerState, class: &AccessClass, asked: &Asked) -> Ve
     }
 }
 
-/// What is answered to a line at a terminal, by its place.
+/// What is answered to a line at a terminal, by its place. A configuration has at most 16 guests and 16 volumes.
 pub fn verdict(c: &Config, s: &ServerState, terminal: u8, text: &[u8]) -> Verdict
-    requires config { IsConfig c.now }
+    requires guests { length c.now.guests ≤ 16 }
+    requires volumes { length c.now.volumes ≤ 16 }
     requires terminal { terminal < length c.now.terminals }
-    ensures { result ≡ verdict_of c.now s.now terminal text.now }
+    ensures value { result ≡ verdict_of c.now s.now terminal text.now }
+    ensures places { MayApply result }
 {
     let class = c.terminals.as_slice()[usize::from(terminal)].class;
     match asked_in(text) {
