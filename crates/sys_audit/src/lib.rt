@@ -1,0 +1,9 @@
+//! The audit of commands.
+#![tactic(auto)]
+
+mod audit;
+
+pub use audit::audit_text;
+
+#[cfg(test)]
+mod tests;

@@ -1,0 +1,54 @@
+-- What a granted command makes of the server's state (profile). Whether the guest itself is reset, stopped or shown is
+-- a matter of the guests.
+use Rattle.std.specs.Prelude.{ℕ, ◌<◌, [], Bool, true, false, ◌==◌, Option, None, Some, map, position, slice_set, slice_index_or, if◌then◌else◌}
+use Rattle.sys_objects.specs.declared.records.Mount.{Mount}
+use Rattle.sys_server.specs.declared.command.Command.{Command}
+use Rattle.sys_server.specs.declared.command.Command.TheVariants.{Connect, Start, Halt, MountAt, Dismount, Show}
+use Rattle.sys_server.specs.declared.command.ServerState.{ServerState}
+use Rattle.sys_server.specs.declared.command.Verdict.{Verdict}
+use Rattle.sys_server.specs.declared.command.Verdict.TheVariants.{Granted, BadCommand, NoSuchObject, Denied}
+
+-- whether it is this guest
+abbrev pub is_guest : ℕ → Option ℕ → Bool
+is_guest g None = false
+is_guest g (Some h) = h == g
+
+-- a terminal that had the guest is back with the server
+abbrev pub freed : ℕ → Option ℕ → Option ℕ
+freed g place = if is_guest g place then None else place
+
+abbrev pub with_mount : ServerState → ℕ → ℕ → Option Mount → ServerState
+with_mount s g unit mount = record s { mounts = slice_set s.mounts g (slice_set (slice_index_or s.mounts g []) unit mount) }
+
+unfoldable pub applied : ServerState → ℕ → Command → ServerState
+applied s terminal (Connect g) = record s { at = slice_set (map (freed g) s.at) terminal (Some g) }
+applied s terminal (Start g) = record s { running = slice_set s.running g true }
+applied s terminal (Halt g) = record s { running = slice_set s.running g false }
+applied s terminal (MountAt g unit mount) = with_mount s g unit (Some mount)
+applied s terminal (Dismount g unit) = with_mount s g unit None
+applied s terminal Show = s
+
+-- the other terminal that had the guest's console
+unfoldable pub taken : ServerState → ℕ → Command → Option ℕ
+taken s terminal (Connect g) = position (is_guest g) (slice_set s.at terminal None)
+taken s terminal (Start g) = None
+taken s terminal (Halt g) = None
+taken s terminal (MountAt g unit mount) = None
+taken s terminal (Dismount g unit) = None
+taken s terminal Show = None
+
+-- the guest and the unit are those of a server's state
+abbrev pub HasPlaces : Command → Type 0
+HasPlaces (Connect g) = g < 16
+HasPlaces (Start g) = g < 16
+HasPlaces (Halt g) = g < 16
+HasPlaces (MountAt g unit mount) = (g < 16) × (unit < 4)
+HasPlaces (Dismount g unit) = (g < 16) × (unit < 4)
+HasPlaces Show = Unit {0}
+
+-- what is granted can be applied
+abbrev pub MayApply : Verdict → Type 0
+MayApply (Granted command) = HasPlaces command
+MayApply BadCommand = Unit {0}
+MayApply NoSuchObject = Unit {0}
+MayApply (Denied rule) = Unit {0}

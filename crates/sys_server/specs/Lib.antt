@@ -1,0 +1,6 @@
+pub mod Line
+pub mod Verdict
+pub mod Apply
+pub mod Replies
+pub mod ShownLines
+pub mod ShownVerdicts

@@ -1,0 +1,15 @@
+//! The secure server: what a terminal's line asks for, what is answered, and what a granted command does.
+#![tactic(auto)]
+
+mod command;
+mod granting;
+mod judging;
+mod line;
+
+pub use command::{Asked, Command, Rule, ServerState, Verdict};
+pub use granting::apply;
+pub use judging::{reply, verdict};
+pub use line::{asked_in, lines_law};
+
+#[cfg(test)]
+mod tests;

@@ -1,0 +1,11 @@
+//! The blocks of volumes, and the jobs of printers.
+#![tactic(auto)]
+
+mod job;
+mod volumes;
+
+pub use job::print_job;
+pub use volumes::{NoBlock, Volumes};
+
+#[cfg(test)]
+mod tests;
