@@ -1,5 +1,7 @@
-ghost use Rattle.std.specs.Prelude.{◌≡◌, ◌++◌, ◌≤◌, ◌<◌, length, OnOk};
+ghost use Rattle.std.specs.Prelude.{◌≡◌, [], ◌∷◌, ◌++◌, ◌≤◌, ◌<◌, length, drop, IfOk, OnOk};
 ghost use Rattle.vax_table.specs.Spelling.{view};
+ghost use Rattle.vasm_dis.specs.First.{IsFirst};
+ghost use Rattle.vasm_text.specs.Dis.{dis_of};
 ghost use Rattle.vasm_text.specs.Mnemonics.{mnemonic_of};
 ghost use Rattle.vasm_text.specs.Statements.{forms_of};
 ghost use Rattle.vasm_text.specs.Printing.{behind_mark, byte_text, instruction_text, name_text};
@@ -33,27 +35,65 @@ fn put_all(text: &mut Vec<u8>, opcode: u8, specs: &[Spec]) -> Result<(), NoMemor
     }
 }
 
-/// Appends an instruction.
+/// Appends the line of an instruction.
 #[tactic(auto, unfolding(vasm_text::specs::Printing::instruction_text))]
 fn put_instruction(text: &mut Vec<u8>, d: &Decoded) -> Result<(), NoMemory>
-    ensures { OnOk result (text.new.items ≡ text.old.items ++ instruction_text d.now.opcode d.now.specs.items) }
+    ensures { OnOk result (text.new.items ≡ text.old.items ++ instruction_text d.now.opcode d.now.specs.items ++ 10 ∷ []) }
 {
     put_name(text, d.opcode)?;
-    put_all(text, d.opcode, d.specs.as_slice())
+    put_all(text, d.opcode, d.specs.as_slice())?;
+    put(text, b"\n")
 }
 
-/// Appends a byte by itself.
+/// Appends the line of a byte by itself.
 #[tactic(auto, unfolding(vasm_text::specs::Printing::byte_text))]
 fn put_byte(text: &mut Vec<u8>, b: u8) -> Result<(), NoMemory>
-    ensures { OnOk result (text.new.items ≡ text.old.items ++ byte_text b) }
+    ensures { OnOk result (text.new.items ≡ text.old.items ++ byte_text b ++ 10 ∷ []) }
 {
     put(text, b".byte ")?;
-    put_field(text, 1, u64::from(b))
+    put_field(text, 1, u64::from(b))?;
+    put(text, b"\n")
 }
 
-/// The text.
+/// The instruction at the front of an image, if one stands there.
+fn first(image: &[u8]) -> Option<Decoded>
+    ensures { IsFirst result image.now }
+{
+    match decode(image) {
+        Decode::Done(d) => Some(d),
+        Decode::NeedMore => None,
+        Decode::Fault(_) => None,
+    }
+}
+
+/// Appends the first line of an image, and answers how many bytes it shows.
+fn put_line(text: &mut Vec<u8>, image: &[u8]) -> Result<usize, NoMemory>
+    requires { 0 < length image.now }
+    ensures some { IfOk result (λ n. (0 < n) × (n ≤ length image.now)) }
+    ensures text { IfOk result (λ n. text.new.items ++ dis_of (drop n image.now) ≡ text.old.items ++ dis_of image.now) }
+{
+    match first(image) {
+        Some(d) => {
+            put_instruction(text, &d)?;
+            Ok(usize::from(d.length))
+        }
+        None => {
+            put_byte(text, image[0])?;
+            Ok(1)
+        }
+    }
+}
+
+/// The text of an image: a line for each instruction, and one for each byte that begins none.
 pub fn disassemble(alloc: Global, image: &[u8]) -> Result<Vec<u8>, NoMemory>
+    requires { length image.now ≤ 16777216 }
+    ensures { IfOk result (λ text. text.items ≡ dis_of image.now) }
 {
     let mut text = Vec::new(alloc);
+    let mut rest = image;
+    while !rest.is_empty() {
+        let shown = put_line(&mut text, rest)?;
+        rest = &rest[shown..];
+    }
     Ok(text)
 }

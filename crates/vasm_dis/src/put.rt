@@ -31,15 +31,15 @@ pub(crate) fn put_register(text: &mut Vec<u8>, n: u8) -> Result<(), NoMemory>
 /// Appends a register between two texts.
 pub(crate) fn put_around(
     text: &mut Vec<u8>,
-    open: &[u8],
+    before: &[u8],
     n: u8,
-    close: &[u8],
+    behind: &[u8],
 ) -> Result<(), NoMemory>
-    ensures { OnOk result (text.new.items ≡ text.old.items ++ (open.now ++ (register_text n ++ close.now))) }
+    ensures { OnOk result (text.new.items ≡ text.old.items ++ (before.now ++ (register_text n ++ behind.now))) }
 {
-    put(text, open)?;
+    put(text, before)?;
     put_register(text, n)?;
-    put(text, close)
+    put(text, behind)
 }
 
 /// Appends the number in a field of so many bytes.
