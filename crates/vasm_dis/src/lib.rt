@@ -4,5 +4,7 @@
 mod image;
 mod operand;
 mod put;
+#[cfg(test)]
+mod tests;
 
 pub use image::disassemble;

@@ -49,7 +49,11 @@ fn letter(mode: u8) -> &'static [u8]
 fn put_deferred(text: &mut Vec<u8>, mode: u8) -> Result<(), NoMemory>
     ensures { OnOk result (text.new.items ≡ text.old.items ++ (if mode % 2 == 1 then codes "@" else [])) }
 {
-    if mode % 2 == 1 { put(text, b"@") } else { Ok(()) }
+    if mode % 2 == 1 {
+        put(text, b"@")
+    } else {
+        Ok(())
+    }
 }
 
 /// Appends an operand of the modes A to F.

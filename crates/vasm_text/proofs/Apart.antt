@@ -1,7 +1,7 @@
 -- By computation over all 256 opcodes.
 use Rattle.std.specs.List.{range_with_len}
 use Rattle.std.specs.Prelude.{map, is_some}
-use Rattle.std.proofs.Common.{◌≡◌, ℕ, ◌<◌, Bool, true, List, [], Option, Some, None, get_or, refl, sym, ap, ◌∙◌, arith}
+use Rattle.std.proofs.Common.{◌≡◌, ℕ, ◌<◌, List, Option, Some, None, get_or, refl, sym, ap, ◌∙◌, arith}
 use Rattle.std.proofs.lemmas.List.FromFn.{get_or-map-range_with_len}
 use Rattle.vax_table.specs.Rows.{row_of}
 use Rattle.vasm_text.specs.Apart.{AreApart}

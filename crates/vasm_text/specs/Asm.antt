@@ -3,7 +3,7 @@
 -- return and a line feed; the last may lack its end, and a carriage return there is part of it.
 use Rattle.std.specs.Int.{int_rem_euclid}
 use Rattle.std.specs.List.{list_any}
-use Rattle.std.specs.Prelude.{ℕ, ◌+◌, ◌-◌, ◌*◌, ◌/◌, ◌^◌, ◌==◌, ◌&&◌, ◌||◌, List, [], ◌∷◌, ◌++◌, length, bytes_eq, Bool, true, false, nat_lt, nat_le, if◌then◌else◌, Option, Some, None, Result, Ok, Err, pos, ◌-ℤ◌, unsigned_abs}
+use Rattle.std.specs.Prelude.{ℕ, ◌+◌, ◌/◌, ◌^◌, ◌==◌, ◌&&◌, ◌||◌, List, [], ◌∷◌, ◌++◌, length, bytes_eq, Bool, false, nat_lt, nat_le, if◌then◌else◌, Option, Some, None, Result, Ok, Err, pos, ◌-ℤ◌, unsigned_abs}
 use Rattle.std.specs.Option.{is_none, unwrap_or}
 use Rattle.std.specs.Str.Lines.{lines}
 use Rattle.vax_table.specs.declared.forms.Form.{Form}

@@ -1,7 +1,7 @@
 -- The instructions' names (VAX Architecture Reference Manual, instruction descriptions). WAIT, which is
 -- FD 01, is this project's own choice (profile).
 use Rattle.std.specs.List.{position, range_with_len}
-use Rattle.std.specs.Prelude.{ℕ, ◌+◌, ◌-◌, ◌==◌, List, [], ◌∷◌, ◌++◌, codes, map, Option, Some, None, nat_le, if◌then◌else◌, slice_get, bytes_eq, Bool, false}
+use Rattle.std.specs.Prelude.{ℕ, ◌-◌, ◌==◌, List, [], ◌∷◌, ◌++◌, codes, map, Option, Some, None, nat_le, if◌then◌else◌, slice_get, bytes_eq, Bool, false}
 
 -- byte at 80, word at A0, long at C0: the sixteen names of each, by the width's letter
 abbrev pub arithmetic : List ℕ → List (List ℕ)

@@ -42,5 +42,5 @@ register_in text =
     if bytes_eq (take 1 text) (codes "R") then decimal_of (drop 1 text) 15 else None
 
 -- a register other than PC
-abbrev pub not_pc : ℕ → Option ℕ
-not_pc n = if_below 15 n
+abbrev pub not_pc : Option ℕ → Option ℕ
+not_pc reg = reg >>= if_below 15

@@ -41,23 +41,27 @@ closed_in mark ending text = cut_at mark text >>= λ c. if bytes_eq c.behind end
 
 -- R), and R)+, behind a parenthesis (41 closes it)
 abbrev pub enclosed : ℕ → List ℕ → List ℕ → Option Operand
-enclosed mode ending text = closed_in 41 ending text >>= not_pc >>= in_mode mode
+enclosed mode ending text = not_pc (closed_in 41 ending text) >>= in_mode mode
 
 unfoldable pub literal_in : Form → List ℕ → Option Operand
 literal_in form text = if is_read form.access then (number_in text >>= if_below 64 >>= with_value 0 0) else None
 
+-- a number in a field of so many bytes, as the value of a mode and a register
+abbrev pub valued_in : ℕ → ℕ → ℕ → List ℕ → Option Operand
+valued_in size mode reg text = field_in size text >>= with_value mode reg
+
 abbrev pub immediate_in : Form → List ℕ → Option Operand
-immediate_in form text = field_in (size_of form.width) text >>= with_value 8 15
+immediate_in form text = valued_in (size_of form.width) 8 15 text
 
 abbrev pub absolute_in : List ℕ → Option Operand
-absolute_in text = field_in 4 text >>= with_value 9 15
+absolute_in text = valued_in 4 9 15 text
 
 -- the register of a register operand
 abbrev pub allowed : Form → ℕ → Option Operand
 allowed form n = if is_address form.access || (is_quad form.width && n == 14) then None else in_mode 5 n
 
 abbrev pub register_operand_in : Form → List ℕ → Option Operand
-register_operand_in form text = register_in text >>= not_pc >>= allowed form
+register_operand_in form text = not_pc (register_in text) >>= allowed form
 
 -- N(R), behind B^ or the like; any register
 abbrev pub based : ℕ → ℕ → Cut → Option Operand
@@ -106,11 +110,11 @@ indexed o x = if nat_lt o.spec.mode 6 || (o.spec.mode == 8 && o.spec.reg == 15) 
 
 -- with R] behind an opening bracket (93 closes it)
 abbrev pub indexed_in : Form → Cut → Option Operand
-indexed_in form c = specifier_in form c.before >>= λ o. closed_in 93 [] c.behind >>= not_pc >>= indexed o
+indexed_in form c = specifier_in form c.before >>= λ o. not_pc (closed_in 93 [] c.behind) >>= indexed o
 
 -- a number, or a name that stands for one; 16 is the mode of what branches
 unfoldable pub value_in : ℕ → List ℕ → Option Operand
-value_in size text = or_else (field_in size text >>= with_value 16 0) (named_in 16 0 text)
+value_in size text = or_else (valued_in size 16 0 text) (named_in 16 0 text)
 
 -- an operand of the form (91 opens the index)
 unfoldable pub operand_in : Form → List ℕ → Option Operand
@@ -120,8 +124,20 @@ operand_in form text =
       | Some c ↦ indexed_in form c
     ]
 
--- operands of the forms with commas (44) between
-abbrev pub operands_in : List Form → List ℕ → Option (List Operand)
-operands_in [] text = None
-operands_in (f ∷ []) text = operand_in f text >>= λ o. Some (o ∷ [])
-operands_in (f ∷ g ∷ fs) text = cut_at 44 text >>= λ c. operand_in f c.before >>= λ o. operands_in (g ∷ fs) c.behind >>= λ os. Some (o ∷ os)
+-- what stands before a comma (44), or all where there is none
+abbrev pub before_comma : List ℕ → List ℕ
+before_comma text = elim (cut_at 44 text) [ None ↦ text | Some c ↦ c.before ]
+
+-- what stands behind a comma, None where there is none
+abbrev pub behind_comma : List ℕ → Option (List ℕ)
+behind_comma text = elim (cut_at 44 text) [ None ↦ None | Some c ↦ Some (c.behind) ]
+
+abbrev pub following : Operand → Option (List Operand) → Option (List Operand)
+following o others = others >>= λ os. Some (o ∷ os)
+
+-- operands of the forms with commas between: all of the text, or no text for no operands
+abbrev pub operands_in : List Form → Option (List ℕ) → Option (List Operand)
+operands_in [] None = Some []
+operands_in [] (Some text) = None
+operands_in (f ∷ fs) None = None
+operands_in (f ∷ fs) (Some text) = operand_in f (before_comma text) >>= λ o. following o (operands_in fs (behind_comma text))

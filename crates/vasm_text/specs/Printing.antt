@@ -1,6 +1,6 @@
 -- The text of an instruction that bytes spell: a literal in decimal, every other number as `^X` and two
 -- digits for each byte of its field, a branch displacement as the field itself.
-use Rattle.std.specs.Prelude.{ℕ, ◌+◌, ◌*◌, ◌%◌, ◌==◌, nat_lt, List, [], ◌∷◌, ◌++◌, codes, decimal, if◌then◌else◌, Option, Some, None}
+use Rattle.std.specs.Prelude.{ℕ, ◌*◌, ◌%◌, ◌==◌, nat_lt, List, [], ◌∷◌, ◌++◌, codes, decimal, if◌then◌else◌, Option, Some, None}
 use Rattle.vv_base.specs.Digits.{hex_text}
 use Rattle.vv_base.specs.Width.{size_of}
 use Rattle.vax_table.specs.declared.forms.Form.{Form}

@@ -1,5 +1,5 @@
 -- Worked examples of assembling, by computation.
-use Rattle.std.specs.Prelude.{◌≡◌, refl, ℕ, zero, suc, List, ◌++◌, Some, None, Ok, Err, [], ◌∷◌, codes}
+use Rattle.std.specs.Prelude.{◌≡◌, refl, ℕ, zero, suc, List, ◌++◌, Ok, Err, [], ◌∷◌, codes}
 use Rattle.vax_table.specs.Rows.{row_of}
 use Rattle.vax_table.specs.Spelled.{value_size, spelled_specifier, spelled}
 use Rattle.vasm_text.specs.declared.fault.AsmKind.TheVariants.{BadLine, TwiceNamed, NoName, OutOfReach}

@@ -1,7 +1,6 @@
 -- Worked examples of disassembling, by computation.
 use Rattle.std.specs.Fmt.{digits}
-use Rattle.std.specs.Prelude.{◌≡◌, refl, Some, None, [], ◌∷◌, codes}
-use Rattle.vax_table.specs.Spelling.{unindexed}
+use Rattle.std.specs.Prelude.{◌≡◌, refl, [], ◌∷◌, codes}
 use Rattle.vax_table.specs.Rows.{row_of}
 use Rattle.vax_table.specs.Reading.{decoded_at, operand_at, indexed_at, specifier_at, specifier_by}
 use Rattle.vasm_text.specs.Mnemonics.{mnemonic_of}

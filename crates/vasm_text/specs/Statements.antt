@@ -5,7 +5,7 @@ use Rattle.std.specs.Prelude.{ℕ, List, [], ◌∷◌, codes, bytes_eq, if◌th
 use Rattle.vv_base.specs.Names.{is_object_name}
 use Rattle.vax_table.specs.declared.forms.Form.{Form}
 use Rattle.vax_table.specs.Rows.{Entry, row_of}
-use Rattle.vasm_text.specs.Cutting.{◌>>=◌, Cut, cut, cut_at, is_blank, trimmed}
+use Rattle.vasm_text.specs.Cutting.{◌>>=◌, cut, cut_at, is_blank, trimmed}
 use Rattle.vasm_text.specs.Mnemonics.{opcode_of}
 use Rattle.vasm_text.specs.Numbers.{field_in}
 use Rattle.vasm_text.specs.Operands.{Operand, plain, value_in, operands_in}
@@ -32,25 +32,24 @@ forms_of opcode = operands_of (row_of opcode)
 abbrev pub number_field_in : ℕ → List ℕ → Option Statement
 number_field_in size text = field_in size text >>= λ n. Some (Field size (plain 16 0 n))
 
--- a mnemonic alone is an instruction without operands
-abbrev pub alone : ℕ → List Form → Option Statement
-alone opcode [] = Some (Instruct opcode [])
-alone opcode (f ∷ fs) = None
+-- a number or a name in four bytes
+abbrev pub long_field_in : List ℕ → Option Statement
+long_field_in text = value_in 4 text >>= λ o. Some (Field 4 o)
 
-abbrev pub instruction_in : List ℕ → List ℕ → Option Statement
+abbrev pub instruction_in : List ℕ → Option (List ℕ) → Option Statement
 instruction_in word text = opcode_of word >>= λ opcode. operands_in (forms_of opcode) text >>= λ os. Some (Instruct opcode os)
 
--- a word and what stands behind the blank
-unfoldable pub words_in : List ℕ → List ℕ → Option Statement
+-- a word and what stands behind the blank, None where there is none
+unfoldable pub words_in : List ℕ → Option (List ℕ) → Option Statement
 words_in word text =
-    if bytes_eq word (codes ".byte") then number_field_in 1 text else
-    if bytes_eq word (codes ".word") then number_field_in 2 text else
-    if bytes_eq word (codes ".long") then (value_in 4 text >>= λ o. Some (Field 4 o)) else instruction_in word text
+    if bytes_eq word (codes ".byte") then (text >>= number_field_in 1) else
+    if bytes_eq word (codes ".word") then (text >>= number_field_in 2) else
+    if bytes_eq word (codes ".long") then (text >>= long_field_in) else instruction_in word text
 
 unfoldable pub statement_in : List ℕ → Option Statement
 statement_in text = elim (cut is_blank text) [
-  | None ↦ opcode_of text >>= λ opcode. alone opcode (forms_of opcode)
-  | Some c ↦ words_in c.before c.behind
+  | None ↦ words_in text None
+  | Some c ↦ words_in c.before (Some (c.behind))
 ]
 
 abbrev pub saying : Option (List ℕ) → List ℕ → Option Line

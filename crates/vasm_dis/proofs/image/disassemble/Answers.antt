@@ -1,4 +1,4 @@
-use Rattle.std.proofs.Common.{sym, ◌∙◌}
+use Rattle.std.proofs.Common.{sym}
 use Rattle.vasm_dis.proofs.Lines.{all_shown}
 use Rattle.vasm_dis.proofs.image.disassemble.Goals as goal
 

@@ -1,4 +1,4 @@
-use Rattle.std.proofs.Common.{ℕ, ◌<◌, arith, sym, ◌∙◌}
+use Rattle.std.proofs.Common.{arith, sym, ◌∙◌}
 use Rattle.vasm_text.proofs.Names.{opcode_found, opcode_missed}
 use Rattle.vasm_text.proofs.lookup.opcode.Goals as goal
 
