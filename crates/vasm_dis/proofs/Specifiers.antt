@@ -82,7 +82,7 @@ bare_back f text bare here =
     let b4 : s4 ≡ false = or_left s4 s5 r3 in let b5 : s5 ≡ false = or_right s4 s5 r3 in
     rw (b1, b2, b3, b4, b5, here)
 
-displacement_texts : (f : Form) (mode k n v : ℕ) → Displaces mode k → specifier_text f (unindexed mode n v) ≡ displacement_text (unindexed mode n v)
+pub displacement_texts : (f : Form) (mode k n v : ℕ) → Displaces mode k → specifier_text f (unindexed mode n v) ≡ displacement_text (unindexed mode n v)
 unfolding specifier_text
 displacement_texts f mode k n v byte = refl
 displacement_texts f mode k n v byte_deferred = refl
