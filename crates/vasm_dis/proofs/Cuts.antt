@@ -1,10 +1,9 @@
 -- Texts without certain characters, and where they are cut.
 use Rattle.std.specs.List.{list_all}
-use Rattle.std.proofs.Common.{◌≡◌, ◌==◌, ℕ, Bool, true, false, ◌&&◌, List, [], ◌∷◌, ◌++◌, Option, Some, None, refl, sym, ap, ◌∙◌, arith}
+use Rattle.std.proofs.Common.{◌≡◌, ◌==◌, ℕ, Bool, true, false, ◌&&◌, List, [], ◌∷◌, ◌++◌, Some, None, refl, ap, ◌∙◌}
 use Rattle.std.proofs.lemmas.List.Folds.{list_all-append}
 use Rattle.vax_table.proofs.Tests.{eq_of}
-use Rattle.vasm_text.specs.Cutting.{Cut, with_first, cut, cut_at, is_blank, without_front, unless_blank, without_back}
-use Rattle.vasm_dis.proofs.Finite.{is_plain, ArePlain}
+use Rattle.vasm_text.specs.Cutting.{cut, is_blank, without_front, unless_blank, without_back}
 
 -- no byte passes a test
 abbrev pub NonePass : (ℕ → Bool) → List ℕ → Type 0

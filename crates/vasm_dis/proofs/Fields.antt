@@ -1,12 +1,11 @@
 -- A number in a field is read as it is printed.
 use Rattle.std.specs.List.{list_all}
-use Rattle.std.specs.Prelude.{codes, ◌||◌}
-use Rattle.std.proofs.Common.{◌≡◌, ◌==◌, ℕ, zero, suc, ◌+◌, ◌-◌, ◌*◌, ◌/◌, ◌%◌, ◌^◌, ◌<◌, ◌≤◌, ◌&&◌, Bool, true, false, List, [], ◌∷◌, ◌++◌, Option, Some, None, length, nat_le, nat_lt, refl, sym, ap, subst, ◌∙◌, arith, lit<}
+use Rattle.std.proofs.Common.{◌≡◌, ℕ, zero, suc, ◌+◌, ◌*◌, ◌/◌, ◌%◌, ◌^◌, ◌<◌, true, Some, length, nat_le, refl, ap, ◌∙◌, arith, lit<}
 use Rattle.std.proofs.Math.Arith.{mod-mul}
 use Rattle.std.proofs.Math.Nat.{pow-suc}
 use Rattle.std.proofs.lemmas.Bool.{lt-ltb}
 use Rattle.vv_base.specs.Digits.{hex_digit, hex_text}
-use Rattle.vasm_text.specs.Numbers.{is_hex_digit, hex_value, hex_from, is_hex, hex_of, number_in, if_below, field_in}
+use Rattle.vasm_text.specs.Numbers.{is_hex_digit, hex_value, hex_from, hex_of, number_in, field_in}
 use Rattle.vasm_text.specs.Printing.{field_text}
 use Rattle.vasm_dis.proofs.Finite.{everywhere, is_plain, ArePlain}
 use Rattle.std.specs.List.{range_with_len}

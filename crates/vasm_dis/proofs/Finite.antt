@@ -1,12 +1,12 @@
 -- What holds of each register, of each literal and of each name, by computation over all of them.
 use Rattle.std.specs.Fmt.{digits}
 use Rattle.std.specs.List.{list_all, range_with_len}
-use Rattle.std.specs.Prelude.{map, bytes_eq, codes, is_some, is_none, ◌||◌}
-use Rattle.std.proofs.Common.{◌≡◌, ◌==◌, ℕ, ◌<◌, ◌≤◌, ◌&&◌, Bool, true, false, List, [], ◌∷◌, Option, Some, None, decimal, get_or, length, take, nat_le, nat_lt, refl, sym, ap, ◌∙◌, arith}
+use Rattle.std.specs.Prelude.{map, bytes_eq, codes, is_none, ◌||◌}
+use Rattle.std.proofs.Common.{◌≡◌, ◌==◌, ℕ, ◌<◌, ◌&&◌, Bool, true, false, List, Some, decimal, get_or, take, nat_le, refl, sym, ap, ◌∙◌, arith}
 use Rattle.std.proofs.lemmas.List.FromFn.{get_or-map-range_with_len}
 use Rattle.vasm_text.specs.Mnemonics.{mnemonic_of}
 use Rattle.vasm_text.specs.Numbers.{number_in, register_in}
-use Rattle.vasm_text.specs.Operands.{displacement_in, displaced_in}
+use Rattle.vasm_text.specs.Operands.{displacement_in}
 use Rattle.vasm_text.specs.Printing.{register_text, name_text}
 
 -- what holds of each number below a bound in one list

@@ -15,7 +15,7 @@ use Rattle.vasm_text.specs.Printing.{instruction_text, byte_text}
 use Rattle.vasm_text.specs.Dis.{and_others, shown_by, lines_of, dis_of}
 
 -- a spelling has at least a byte, and as many as it says
-spelled_some : (bytes : List ℕ) (d : Instruction) → Spells bytes d → (0 < length bytes) × (d.length ≡ length bytes)
+pub spelled_some : (bytes : List ℕ) (d : Instruction) → Spells bytes d → (0 < length bytes) × (d.length ≡ length bytes)
 spelled_some bytes d (wait e g) = (rw e (omega arith), ap (λ (i : Instruction). i.length) g ∙ sym (ap (length {A = ℕ}) e))
 spelled_some bytes d (of_row x o r s l n q m e g) = (rw e (omega arith), ap (λ (i : Instruction). i.length) g)
 

@@ -1,22 +1,22 @@
 -- Operands are read as they are printed.
 use Rattle.std.specs.List.{list_all}
 use Rattle.std.specs.Prelude.{codes, ◌||◌, map}
-use Rattle.std.proofs.Common.{◌≡◌, ◌≢◌, ◌==◌, ℕ, zero, suc, ◌+◌, ◌*◌, ◌^◌, ◌<◌, ◌≤◌, ◌&&◌, Bool, true, false, eqb, List, [], ◌∷◌, ◌++◌, Option, Some, None, decimal, nat_le, nat_lt, refl, sym, ap, subst, ◌∙◌, arith, append-nil}
+use Rattle.std.proofs.Common.{◌≡◌, ◌≢◌, ◌==◌, ℕ, ◌+◌, ◌^◌, ◌<◌, ◌≤◌, Bool, true, false, eqb, List, [], ◌∷◌, ◌++◌, Option, Some, None, decimal, refl, sym, ap, ◌∙◌, arith, append-nil}
 use Rattle.std.proofs.lemmas.Bool.{lt-ltb, ne_eqb}
 use Rattle.vv_base.specs.Width.{size_of}
 use Rattle.vax_table.specs.declared.forms.Form.{Form}
 use Rattle.vax_table.specs.declared.decoded.Spec.{Spec}
-use Rattle.vax_table.specs.Spelling.{bytes_of, unindexed, Displaces, byte, byte_deferred, word, word_deferred, long, long_deferred, Specifier, literal, register, register_deferred, autodecrement, autoincrement, immediate, autoincrement_deferred, absolute, displacement, Operand as Spelled, specifier, indexed, branch, Operands}
+use Rattle.vax_table.specs.Spelling.{unindexed, Displaces, byte, byte_deferred, word, word_deferred, long, long_deferred, Specifier, literal, register, register_deferred, autodecrement, autoincrement, immediate, autoincrement_deferred, absolute, displacement, Operand as Spelled, specifier, indexed, branch, Operands}
 use Rattle.vax_table.specs.Reading.{is_branch}
 use Rattle.vax_table.proofs.Tests.{no_branch}
 use Rattle.vasm_text.specs.Cutting.{Cut, cut_at}
-use Rattle.vasm_text.specs.Operands.{Operand, specifier_in, value_in, operand_in, indexed_in, indexed as with_index, before_comma, behind_comma, following, operands_in, closed_in}
-use Rattle.vasm_text.specs.Numbers.{not_pc}
-use Rattle.vasm_text.specs.Printing.{register_text, field_text, size_letter, displacement_text, increment_text, specifier_text, index_text, operand_text, behind_mark}
+use Rattle.vasm_text.specs.Operands.{specifier_in, value_in, operand_in, indexed_in, indexed as with_index, before_comma, behind_comma, operands_in}
+use Rattle.vasm_text.specs.Printing.{register_text, field_text, displacement_text, increment_text, specifier_text, index_text, operand_text, behind_mark}
+use Rattle.vasm_dis.specs.Laws.{exact}
 use Rattle.vasm_dis.proofs.Finite.{is_plain, ArePlain, register_plain, literal_plain}
-use Rattle.vasm_dis.proofs.Cuts.{NonePass, none_join, cut_none, cut_here, free_of, all_join, all_wider}
+use Rattle.vasm_dis.proofs.Cuts.{NonePass, cut_none, cut_here, free_of, all_join, all_wider}
 use Rattle.vasm_dis.proofs.Fields.{IsSize, field_back, field_plain}
-use Rattle.vasm_dis.proofs.Specifiers.{exact, width_size, closed_back, specifier_back, displacement_texts}
+use Rattle.vasm_dis.proofs.Specifiers.{width_size, closed_back, specifier_back, displacement_texts}
 
 -- the characters of a specifier without index: ( ) + - @ too
 abbrev pub is_base : ℕ → Bool

@@ -1,22 +1,21 @@
 -- A specifier is read as it is printed.
-use Rattle.std.specs.List.{list_all}
 use Rattle.std.specs.Prelude.{codes, ◌||◌, bytes_eq, is_none}
-use Rattle.std.proofs.Common.{◌≡◌, ◌≢◌, ◌==◌, ℕ, zero, suc, ◌+◌, ◌*◌, ◌^◌, ◌<◌, ◌≤◌, ◌&&◌, Bool, true, false, eqb, List, [], ◌∷◌, ◌++◌, Option, Some, None, decimal, take, nat_le, nat_lt, refl, sym, ap, subst, ◌∙◌, arith, cond, eq-eqb}
+use Rattle.std.proofs.Common.{◌≡◌, ◌==◌, ℕ, ◌^◌, ◌<◌, Bool, true, false, eqb, List, [], ◌∷◌, ◌++◌, Option, Some, None, take, refl, sym, ap, ◌∙◌, arith, cond, eq-eqb}
 use Rattle.std.proofs.lemmas.Bool.{lt-ltb, ne_eqb}
 use Rattle.vv_base.specs.declared.width.Width.{Width}
 use Rattle.vv_base.specs.declared.width.Width.TheVariants.{Byte, Word, Long, Quad}
 use Rattle.vv_base.specs.Width.{size_of}
 use Rattle.vax_table.specs.declared.forms.Form.{Form}
 use Rattle.vax_table.specs.declared.decoded.Spec.{Spec}
-use Rattle.vax_table.specs.Spelling.{bytes_of, unindexed, Displaces, byte, byte_deferred, word, word_deferred, long, long_deferred, Specifier, literal, register, register_deferred, autodecrement, autoincrement, immediate, autoincrement_deferred, absolute, displacement}
-use Rattle.vax_table.specs.Reading.{is_read, is_address, is_quad}
+use Rattle.vax_table.specs.Spelling.{unindexed, Displaces, byte, byte_deferred, word, word_deferred, long, long_deferred, Specifier, literal, register, register_deferred, autodecrement, autoincrement, immediate, autoincrement_deferred, absolute, displacement}
+use Rattle.vax_table.specs.Reading.{is_read}
 use Rattle.vax_table.proofs.Tests.{or_left, or_right, no_address, no_pair}
-use Rattle.vasm_text.specs.Cutting.{Cut, cut_at, or_else}
-use Rattle.vasm_text.specs.Numbers.{register_in, not_pc}
+use Rattle.vasm_text.specs.Cutting.{Cut, cut_at}
 use Rattle.vasm_text.specs.Operands.{Operand, plain, based, named_in, closed_in, literal_in, displaced_in, displacement_in, deferred_in, direct_in, specifier_in, register_operand_in}
 use Rattle.vasm_text.specs.Printing.{register_text, field_text, displacement_text, increment_text, specifier_text}
-use Rattle.vasm_dis.proofs.Finite.{is_plain, ArePlain, register_plain, register_back, has_sign, register_bare, register_here, literal_plain, literal_back}
-use Rattle.vasm_dis.proofs.Cuts.{NonePass, cut_none, cut_here, free_of}
+use Rattle.vasm_dis.specs.Laws.{exact}
+use Rattle.vasm_dis.proofs.Finite.{is_plain, register_plain, register_back, has_sign, register_bare, register_here, literal_back}
+use Rattle.vasm_dis.proofs.Cuts.{cut_here, free_of}
 use Rattle.vasm_dis.proofs.Fields.{IsSize, one, two, four, eight, field_back, field_plain}
 
 same : (c : ℕ) → (c == c) ≡ true
@@ -43,9 +42,6 @@ displaced_back : (mode size n v : ℕ) → IsSize size → v < 256 ^ size → n 
 displaced_back mode size n v is below reg =
     split_is mode size (field_text size v ++ (codes "(" ++ (register_text n ++ codes ")"))) _ (cut_here (λ b. b == 40) (field_text size v) 40 (register_text n ++ codes ")") (free_of is_plain 40 refl (field_text size v) (field_plain size v)) refl)
     ∙ based_back mode size n v is below reg
-
-abbrev pub exact : Spec → Operand
-exact s = record { spec = s; name = None }
 
 pub width_size : (w : Width) → IsSize (size_of w)
 width_size Byte = one

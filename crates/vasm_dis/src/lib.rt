@@ -2,9 +2,11 @@
 #![tactic(auto)]
 
 mod image;
+mod laws;
 mod operand;
 mod put;
 #[cfg(test)]
 mod tests;
 
 pub use image::disassemble;
+pub use laws::{assembling_undoes_disassembling, reading_undoes_printing};
