@@ -1,0 +1,131 @@
+-- The first line of an image's text, and the text of the rest.
+use Rattle.std.proofs.Common.{◌≡◌, ◌==◌, true, ℕ, zero, suc, ◌+◌, ◌<◌, ◌≤◌, List, [], ◌∷◌, ◌++◌, length, drop, get_or, refl, sym, ap, subst, ◌∙◌, arith, append_assoc, append-nil, length-append}
+use Rattle.std.proofs.lemmas.List.{drop_at}
+use Rattle.vax_table.specs.declared.decoded.Decoded.{Decoded}
+use Rattle.vax_table.specs.Spelling.{AreBytes, Instruction, view, Spells, wait, of_row}
+use Rattle.vax_table.specs.Reading.{Answer, Whole, Short, Unknown, Reserved, decoded_at, Tells}
+use Rattle.vax_table.proofs.Bytes.{AreBytes-back}
+use Rattle.vax_table.proofs.Instructions.{reading_exact}
+use Rattle.vax_decode.specs.declared.outcome.Decode.TheVariants.{NeedMore, Fault}
+use Rattle.vax_decode.specs.declared.outcome.DecodeFault.{DecodeFault}
+use Rattle.vax_decode.specs.declared.outcome.DecodeFault.TheVariants.{Opcode, Addressing}
+use Rattle.vax_decode.specs.Decoding.{IsWhole, IsAnswer}
+use Rattle.vasm_dis.specs.First.{IsNone}
+use Rattle.vasm_text.specs.Printing.{instruction_text, byte_text}
+use Rattle.vasm_text.specs.Dis.{and_others, shown_by, lines_of, dis_of}
+
+-- a spelling has at least a byte, and as many as it says
+pub spelled_some : (bytes : List ℕ) (d : Instruction) → Spells bytes d → (0 < length bytes) × (d.length ≡ length bytes)
+spelled_some bytes d (wait e g) = (rw e (omega arith), ap (λ (i : Instruction). i.length) g ∙ sym (ap (length {A = ℕ}) e))
+spelled_some bytes d (of_row x o r s l n q m e g) = (rw e (omega arith), ap (λ (i : Instruction). i.length) g)
+
+-- where an instruction stands at the front
+pub record Splits (b : List ℕ) (d : Instruction) (others : List ℕ) : Type 0 where
+  pub some : 0 < d.length
+  pub whole : d.length + length others ≡ length b
+  pub rest : others ≡ drop d.length b
+  pub bytes : AreBytes others
+
+splits_by : (b front others : List ℕ) (d : Instruction) → AreBytes b → b ≡ front ++ others → Spells front d → Splits b d others
+splits_by b front others d all e p =
+    let size : (0 < length front) × (d.length ≡ length front) = spelled_some front d p in
+    let long : length b ≡ length (front ++ others) = ap length e in
+    record {
+      some = omega (arith, size.0, size.1);
+      whole = omega (arith, size.1, length-append front others);
+      rest = sym (ap (drop d.length) e ∙ drop_at front others d.length (sym size.1));
+      bytes = AreBytes-back front others (subst AreBytes e all);
+    }
+
+pub splits : (b others : List ℕ) (d : Instruction) → AreBytes b → decoded_at b ≡ Whole d others → Splits b d others
+splits b others d all is =
+    let t : Tells b (Whole d others) = subst (Tells b) is (reading_exact.tells b all) in
+    splits_by b t.0 others d all t.1 t.2
+
+-- how many lines may come doesn't matter where there are enough
+enough_by : (n m : ℕ) (b : ℕ) (bs : List ℕ) (a : Answer) → AreBytes (b ∷ bs) → decoded_at (b ∷ bs) ≡ a → length bs ≤ n → length bs ≤ m
+    → ((image : List ℕ) → AreBytes image → length image ≤ n → length image ≤ m → lines_of n image ≡ lines_of m image)
+    → shown_by (lines_of n) b bs a ≡ shown_by (lines_of m) b bs a
+enough_by n m b bs (Whole d others) all is low high same =
+    let s : Splits (b ∷ bs) d others = splits (b ∷ bs) others d all is in
+    ap (and_others (instruction_text d.opcode d.specs)) (same others s.bytes (omega (arith, s.some, s.whole)) (omega (arith, s.some, s.whole)))
+enough_by n m b bs Short all is low high same = ap (and_others (byte_text b)) (same bs all.1 low high)
+enough_by n m b bs Unknown all is low high same = ap (and_others (byte_text b)) (same bs all.1 low high)
+enough_by n m b bs Reserved all is low high same = ap (and_others (byte_text b)) (same bs all.1 low high)
+
+enough : (n m : ℕ) (image : List ℕ) → AreBytes image → length image ≤ n → length image ≤ m → lines_of n image ≡ lines_of m image
+enough zero zero image all low high = refl
+enough zero (suc m) [] all low high = refl
+enough zero (suc m) (b ∷ bs) all low high = absurd (omega arith)
+enough (suc n) zero [] all low high = refl
+enough (suc n) zero (b ∷ bs) all low high = absurd (omega arith)
+enough (suc n) (suc m) [] all low high = refl
+enough (suc n) (suc m) (b ∷ bs) all low high = enough_by n m b bs (decoded_at (b ∷ bs)) all refl (omega arith) (omega arith) (λ image. enough n m image)
+
+-- the text of an image by its first line
+all_by : (b : ℕ) (bs : List ℕ) (a : Answer) → AreBytes (b ∷ bs) → decoded_at (b ∷ bs) ≡ a → shown_by (lines_of (length bs)) b bs a ≡ shown_by dis_of b bs a
+unfolding dis_of
+all_by b bs (Whole d others) all is =
+    let s : Splits (b ∷ bs) d others = splits (b ∷ bs) others d all is in
+    ap (and_others (instruction_text d.opcode d.specs)) (enough (length bs) (length others) others s.bytes (omega (arith, s.some, s.whole)) (omega arith))
+all_by b bs Short all is = refl
+all_by b bs Unknown all is = refl
+all_by b bs Reserved all is = refl
+
+pub first_line : (b : ℕ) (bs : List ℕ) (a : Answer) → AreBytes (b ∷ bs) → decoded_at (b ∷ bs) ≡ a → dis_of (b ∷ bs) ≡ shown_by dis_of b bs a
+unfolding dis_of
+first_line b bs a all is = ap (shown_by (lines_of (length bs)) b bs) is ∙ all_by b bs a all is
+
+-- the same where it is an instruction's line
+done_by : (b : ℕ) (bs : List ℕ) (d : Decoded) (a : Answer) → AreBytes (b ∷ bs) → decoded_at (b ∷ bs) ≡ a → IsWhole d a
+    → (0 < d.length) × (d.length ≤ length (b ∷ bs)) × (dis_of (b ∷ bs) ≡ and_others (instruction_text d.opcode d.specs.items) (dis_of (drop d.length (b ∷ bs))))
+done_by b bs d (Whole e others) all is w =
+    let same : Whole e others ≡ Whole (view d) others = ap (λ x. Whole x others) w in
+    let s : Splits (b ∷ bs) (view d) others = splits (b ∷ bs) others (view d) all (is ∙ same) in
+    (s.some, omega (arith, s.whole), first_line b bs (Whole (view d) others) all (is ∙ same) ∙ ap (λ xs. and_others (instruction_text d.opcode d.specs.items) (dis_of xs)) s.rest)
+done_by b bs d Short all is w = absurd w
+done_by b bs d Unknown all is w = absurd w
+done_by b bs d Reserved all is w = absurd w
+
+-- a line, its end, and the rest
+put_together : (old new line rest : List ℕ) → new ≡ old ++ line ++ 10 ∷ [] → new ++ rest ≡ old ++ and_others line rest
+put_together old new line rest end = rw (end, append_assoc (old ++ line) (10 ∷ []) rest, append_assoc old line (10 ∷ rest))
+
+pub done_size : (image : List ℕ) (d : Decoded) → AreBytes image → 0 < length image → IsWhole d (decoded_at image) → (0 < d.length) × (d.length ≤ length image)
+done_size [] d all some w = absurd (omega arith)
+done_size (b ∷ bs) d all some w = let r = done_by b bs d (decoded_at (b ∷ bs)) all refl w in (r.0, r.1)
+
+pub done_line : (image old new : List ℕ) (d : Decoded) (shown : ℕ) → AreBytes image → 0 < length image → IsWhole d (decoded_at image) → new ≡ old ++ instruction_text d.opcode d.specs.items ++ 10 ∷ [] → shown ≡ d.length
+    → new ++ dis_of (drop shown image) ≡ old ++ dis_of image
+done_line [] old new d shown all some w end size = absurd (omega arith)
+done_line (b ∷ bs) old new d shown all some w end size =
+    let r = done_by b bs d (decoded_at (b ∷ bs)) all refl w in
+    ap (λ n. new ++ dis_of (drop n (b ∷ bs))) size
+    ∙ put_together old new (instruction_text d.opcode d.specs.items) (dis_of (drop d.length (b ∷ bs))) end
+    ∙ ap (λ (xs : List ℕ). old ++ xs) (sym r.2)
+
+byte_by : (b : ℕ) (bs : List ℕ) (a : Answer) → AreBytes (b ∷ bs) → decoded_at (b ∷ bs) ≡ a → IsNone a → dis_of (b ∷ bs) ≡ and_others (byte_text b) (dis_of bs)
+byte_by b bs (Whole d others) all is none = absurd none
+byte_by b bs Short all is none = first_line b bs Short all is
+byte_by b bs Unknown all is none = first_line b bs Unknown all is
+byte_by b bs Reserved all is none = first_line b bs Reserved all is
+
+pub byte_line : (image old new : List ℕ) → AreBytes image → 0 < length image → IsNone (decoded_at image) → new ≡ old ++ byte_text (get_or image 0 0) ++ 10 ∷ []
+    → new ++ dis_of (drop 1 image) ≡ old ++ dis_of image
+byte_line [] old new all some none end = absurd (omega arith)
+byte_line (x ∷ bs) old new all some none end =
+    put_together old new (byte_text x) (dis_of bs) end ∙ ap (λ (xs : List ℕ). old ++ xs) (sym (byte_by x bs (decoded_at (x ∷ bs)) all refl none))
+
+-- where nothing is left
+pub all_shown : (text rest whole : List ℕ) → (length rest == 0) ≡ true → text ++ dis_of rest ≡ whole → text ≡ whole
+unfolding dis_of
+all_shown text [] whole none is = sym (append-nil text) ∙ is
+all_shown text (b ∷ bs) whole none is = grind arith
+
+-- who answers otherwise finds no instruction
+pub none_needed : (a : Answer) → IsAnswer NeedMore a → IsNone a
+none_needed a is = subst IsNone (sym is) tt
+
+pub none_faulted : (f : DecodeFault) (a : Answer) → IsAnswer (Fault f) a → IsNone a
+none_faulted Opcode a is = subst IsNone (sym is) tt
+none_faulted Addressing a is = subst IsNone (sym is) tt

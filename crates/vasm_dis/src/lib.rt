@@ -1,0 +1,12 @@
+//! The disassembler: the text of an image's bytes.
+#![tactic(auto)]
+
+mod image;
+mod laws;
+mod operand;
+mod put;
+#[cfg(test)]
+mod tests;
+
+pub use image::disassemble;
+pub use laws::{assembling_undoes_disassembling, reading_undoes_printing};

@@ -1,0 +1,12 @@
+pub mod Mnemonics
+pub mod Table
+pub mod Apart
+pub mod Cutting
+pub mod Numbers
+pub mod Operands
+pub mod Statements
+pub mod Asm
+pub mod Printing
+pub mod Dis
+pub mod ShownAsm
+pub mod ShownDis

@@ -1,0 +1,70 @@
+-- The text of an instruction that bytes spell: a literal in decimal, every other number as `^X` and two
+-- digits for each byte of its field, a branch displacement as the field itself.
+use Rattle.std.specs.Prelude.{ℕ, ◌*◌, ◌%◌, ◌==◌, nat_lt, List, [], ◌∷◌, ◌++◌, codes, decimal, if◌then◌else◌, Option, Some, None}
+use Rattle.vv_base.specs.Digits.{hex_text}
+use Rattle.vv_base.specs.Width.{size_of}
+use Rattle.vax_table.specs.declared.forms.Form.{Form}
+use Rattle.vax_table.specs.declared.decoded.Spec.{Spec}
+use Rattle.vax_table.specs.Reading.{is_branch, displacement_size}
+use Rattle.vasm_text.specs.Mnemonics.{mnemonic_of}
+use Rattle.vasm_text.specs.Statements.{forms_of}
+
+-- R0 to R11, AP, FP, SP, PC
+unfoldable pub register_text : ℕ → List ℕ
+register_text n =
+    if nat_lt n 12 then codes "R" ++ decimal n else
+    if n == 12 then codes "AP" else
+    if n == 13 then codes "FP" else
+    if n == 14 then codes "SP" else codes "PC"
+
+-- a number in a field of so many bytes
+unfoldable pub field_text : ℕ → ℕ → List ℕ
+field_text size n = codes "^X" ++ hex_text (2 * size) n
+
+abbrev pub size_letter : ℕ → List ℕ
+size_letter mode = if nat_lt mode 12 then codes "B^" else if nat_lt mode 14 then codes "W^" else codes "L^"
+
+-- behind @ where it is deferred, in the odd modes
+unfoldable pub displacement_text : Spec → List ℕ
+displacement_text s =
+    (if s.mode % 2 == 1 then codes "@" else []) ++ (size_letter s.mode ++ (field_text (displacement_size s.mode) s.value ++ (codes "(" ++ (register_text s.reg ++ codes ")"))))
+
+-- what stands in the modes 8 and 9
+unfoldable pub increment_text : Form → Spec → List ℕ
+increment_text form s =
+    if s.mode == 8 then (if s.reg == 15 then codes "I^#" ++ field_text (size_of form.width) s.value else codes "(" ++ (register_text s.reg ++ codes ")+")) else
+    (if s.reg == 15 then codes "@#" ++ field_text 4 s.value else codes "@(" ++ (register_text s.reg ++ codes ")+"))
+
+-- a specifier without its index
+unfoldable pub specifier_text : Form → Spec → List ℕ
+specifier_text form s =
+    if s.mode == 0 then codes "S^#" ++ decimal s.value else
+    if s.mode == 5 then register_text s.reg else
+    if s.mode == 6 then codes "(" ++ (register_text s.reg ++ codes ")") else
+    if s.mode == 7 then codes "-(" ++ (register_text s.reg ++ codes ")") else
+    if nat_lt s.mode 10 then increment_text form s else displacement_text s
+
+abbrev pub index_text : Option ℕ → List ℕ
+index_text None = []
+index_text (Some x) = codes "[" ++ (register_text x ++ codes "]")
+
+unfoldable pub operand_text : Form → Spec → List ℕ
+operand_text form s = if is_branch form.access then field_text (size_of form.width) s.value else specifier_text form s ++ index_text s.index
+
+-- operands, the first behind a mark and each other behind a comma (44)
+abbrev pub behind_mark : ℕ → List Form → List Spec → List ℕ
+behind_mark mark [] ss = []
+behind_mark mark (f ∷ fs) [] = []
+behind_mark mark (f ∷ fs) (s ∷ ss) = mark ∷ (operand_text f s ++ behind_mark 44 fs ss)
+
+abbrev pub name_text : Option (List ℕ) → List ℕ
+name_text None = []
+name_text (Some name) = name
+
+-- its name, and behind a blank (32) its operands
+unfoldable pub instruction_text : ℕ → List Spec → List ℕ
+instruction_text opcode ss = name_text (mnemonic_of opcode) ++ behind_mark 32 (forms_of opcode) ss
+
+-- a byte by itself
+unfoldable pub byte_text : ℕ → List ℕ
+byte_text b = codes ".byte " ++ field_text 1 b
