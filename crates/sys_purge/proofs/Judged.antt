@@ -20,7 +20,7 @@ use Rattle.sys_purge.specs.Judged.{KeepsVerdicts, guest_rank, is_kept_terminal, 
 use Rattle.sys_purge.specs.Purge.{mount_place, purge_config, rank, renumbered}
 use Rattle.sys_rounds.specs.Places.{place_of}
 use Rattle.sys_server.specs.Line.{asked_in}
-use Rattle.sys_server.specs.Verdict.{guest_place, judged, judged_at, mount_at, on_dismount, on_guest, on_mount, on_row, on_rows, unless_empty, volume_place}
+use Rattle.sys_server.specs.Verdict.{guest_place, judged, judged_at, judged_line, mount_at, on_dismount, on_guest, on_mount, on_row, on_rows, unless_empty, volume_place}
 use Rattle.sys_server.specs.declared.command.Asked.{Asked}
 use Rattle.sys_server.specs.declared.command.Asked.TheVariants.{Connect, Start, Halt, Mount, Dismount, Show}
 use Rattle.sys_server.specs.declared.command.Command.{Command}
@@ -155,7 +155,7 @@ module _ (c : Config) (to : AccessClass) where
   moved_mount_at : (s : ServerState) (g unit : ℕ) → Stands (Some g) → mount_at (purged_state c to s) (guest_rank c to g) unit ≡ mount_place to c.volumes (mount_at s g unit)
   moved_mount_at s g unit h =
       ap (λ ms. slice_index_or ms unit None) (index_map (map (mount_place to c.volumes)) (beside (is_kept to) c.guests s.mounts) (guest_rank c to g) [] [] refl
-          ∙ ap (map (mount_place to c.volumes)) (index_beside (is_kept to) h.0 h.2 c.guests s.mounts g [] h.1))
+      ∙ ap (map (mount_place to c.volumes)) (index_beside (is_kept to) h.0 h.2 c.guests s.mounts g [] h.1))
       ∙ index_map (mount_place to c.volumes) (slice_index_or s.mounts g []) unit None None refl
 
   moved_dismount : (s : ServerState) (class : AccessClass) (unit : ℕ) (o : Option ℕ) → Stands o
@@ -173,13 +173,12 @@ module _ (c : Config) (to : AccessClass) where
       ∙ moved_guest class command k (place_of (is_seen class name) c.guests) (stands class e name)
       ∙ ap (λ o. moved_verdict c to (on_guest c.guests class o command)) (sym (position_is (is_seen class name) c.guests))
 
-  moved_judged : (s : ServerState) (class : AccessClass) → does_flow class to ≡ true → (asked : Option Asked) → judged (purge_config c to) (purged_state c to s) class asked ≡ moved_verdict c to (judged c s class asked)
+  moved_judged : (s : ServerState) (class : AccessClass) → does_flow class to ≡ true → (asked : Asked) → judged (purge_config c to) (purged_state c to s) class asked ≡ moved_verdict c to (judged c s class asked)
   unfolding judged
-  moved_judged s class e None = refl
-  moved_judged s class e (Some (Connect vm)) = by_guest class e vm to_.Connect (λ g. refl)
-  moved_judged s class e (Some (Start vm)) = by_guest class e vm to_.Start (λ g. refl)
-  moved_judged s class e (Some (Halt vm)) = by_guest class e vm to_.Halt (λ g. refl)
-  moved_judged s class e (Some (Mount vm unit volume write)) =
+  moved_judged s class e (Connect vm) = by_guest class e vm to_.Connect (λ g. refl)
+  moved_judged s class e (Start vm) = by_guest class e vm to_.Start (λ g. refl)
+  moved_judged s class e (Halt vm) = by_guest class e vm to_.Halt (λ g. refl)
+  moved_judged s class e (Mount vm unit volume write) =
       let guest = same_guest class e vm in
       let drive = same_volume class e volume in
       let guest' = sym (position_is (is_seen class vm) c.guests) in
@@ -187,14 +186,18 @@ module _ (c : Config) (to : AccessClass) where
       (λ i. on_mount (purge_config c to) class (guest i) unit (drive i) write)
       ∙ moved_mount class unit write (place_of (is_seen class vm) c.guests) (stands class e vm) (place_of (is_seen_volume class volume) c.volumes) (volume_stands class e volume)
       ∙ (λ i. moved_verdict c to (on_mount c class (guest' i) unit (drive' i) write))
-  moved_judged s class e (Some (Dismount vm unit)) =
+  moved_judged s class e (Dismount vm unit) =
       ap (λ o. on_dismount (purge_config c to) (purged_state c to s) class o unit) (same_guest class e vm)
       ∙ moved_dismount s class unit (place_of (is_seen class vm) c.guests) (stands class e vm)
       ∙ ap (λ o. moved_verdict c to (on_dismount c s class o unit)) (sym (position_is (is_seen class vm) c.guests))
-  moved_judged s class e (Some Show) = refl
+  moved_judged s class e Show = refl
+
+  moved_line : (s : ServerState) (class : AccessClass) → does_flow class to ≡ true → (asked : Option Asked) → judged_line (purge_config c to) (purged_state c to s) class asked ≡ moved_verdict c to (judged_line c s class asked)
+  moved_line s class e None = refl
+  moved_line s class e (Some asked) = moved_judged s class e asked
 
 pub keeps_verdicts : KeepsVerdicts
 keeps_verdicts c to s n t text at e =
     ap (λ o. judged_at (purge_config c to) (purged_state c to s) o text) (get_kept (is_kept_terminal to) t e c.terminals n at)
-    ∙ moved_judged c to s t.class e (asked_in text)
+    ∙ moved_line c to s t.class e (asked_in text)
     ∙ ap (λ o. moved_verdict c to (judged_at c s o text)) (sym at)
