@@ -23,7 +23,7 @@ use Rattle.sys_purge.specs.Purge.{rank, console_place, place_if, printer_place, 
 use Rattle.sys_purge.proofs.Kept.{both, Part, part_all, part_pairs, part_append, part_filter, part_changed, pairs_map, sum_kept, few_kept, get_kept}
 use Rattle.sys_purge.proofs.Places.{rank_same}
 
-flows_on : (a b c : AccessClass) → does_flow a b ≡ true → does_flow b c ≡ true → does_flow a c ≡ true
+pub flows_on : (a b c : AccessClass) → does_flow a b ≡ true → does_flow b c ≡ true → does_flow a c ≡ true
 flows_on a b c f g = (flow_is a c).1 (flow_transitive a b c ((flow_is a b).0 f) ((flow_is b c).0 g))
 
 pub same_is : (a b : AccessClass) → same_class a b ≡ true → a ≡ b

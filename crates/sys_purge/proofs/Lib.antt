@@ -2,6 +2,7 @@ pub mod Accepted
 pub mod Connections
 pub mod Consoles
 pub mod Dumps
+pub mod Judged
 pub mod Kept
 pub mod Lines
 pub mod Places

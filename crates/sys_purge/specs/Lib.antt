@@ -1,5 +1,8 @@
+pub mod Events
 pub mod Input
+pub mod Judged
 pub mod Laws
 pub mod Lines
 pub mod Purge
+pub mod ShownEvents
 pub mod ShownPurge

@@ -1,5 +1,6 @@
 ghost use Rattle.sys_objects.specs.Condition.{IsConfig};
 ghost use Rattle.sys_objects.specs.declared.records.Config.{Config};
+ghost use Rattle.sys_purge.specs.Judged.{KeepsVerdicts};
 ghost use Rattle.sys_purge.specs.Laws.{DependOnPurges, KeepsDevices, KeepsDumps, KeepsLines, LinesDependOnPurges};
 ghost use Rattle.sys_purge.specs.Purge.{purge_config};
 ghost use Rattle.vv_class.specs.declared.class.AccessClass.{AccessClass};
@@ -33,4 +34,10 @@ pub fn lines_depend_on_what_flows()
 /// Each device gets the bytes that it gets when all that doesn't flow into its own class was never there.
 pub fn a_device_keeps_its_bytes()
     ensures { KeepsDevices }
+{}
+
+/// What the server answers at a terminal that flows into a class is the same, with places among what is kept, when all
+/// that doesn't flow into the class was never there.
+pub fn a_purge_keeps_verdicts()
+    ensures { KeepsVerdicts }
 {}

@@ -20,7 +20,7 @@ trait Row: Drop {
         ensures { result ≡ self.now };
 }
 
-fn copied<const N: usize>(text: &Text<N>) -> Text<N>
+pub(crate) fn copied<const N: usize>(text: &Text<N>) -> Text<N>
     ensures { result ≡ text.now }
 {
     let mut copy = Text::new();
