@@ -1,5 +1,5 @@
 -- Worked examples of audited commands, checked by computation.
-use Rattle.std.specs.Prelude.{◌≡◌, ℕ, List, [], ◌∷◌, ◌++◌, codes, refl}
+use Rattle.std.specs.Prelude.{◌≡◌, ℕ, List, [], codes, refl}
 use Rattle.std.specs.Fmt.{digits}
 use Rattle.vv_class.specs.Text.{class_text, categories_below}
 use Rattle.sys_objects.specs.declared.records.Terminal.{Terminal}

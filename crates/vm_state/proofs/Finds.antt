@@ -1,6 +1,5 @@
 -- Where two modes find a frame for an address, it is the same byte by the same entries.
-use Rattle.std.proofs.Common.{◌≡◌, ℕ, ◌+◌, ◌*◌, ◌%◌, ◌^◌, Bool, true, false, not, List, [], length, Option, Some, None, refl, sym, ap, ◌∙◌}
-use Rattle.std.specs.Prelude.{if◌then◌else◌}
+use Rattle.std.proofs.Common.{◌≡◌, ℕ, ◌+◌, ◌*◌, ◌%◌, Bool, true, false, not, length, Option, Some, None, refl, sym, ap, ◌∙◌}
 use Rattle.vv_base.specs.Bytes.{long_at}
 use Rattle.vax_arch.specs.Fields.{frame_of, is_valid, protection_of}
 use Rattle.vax_arch.specs.Ring.{open_of}
@@ -14,7 +13,6 @@ use Rattle.vax_arch.specs.declared.walk.Lookup.TheVariants.{Beyond, Direct, Fail
 use Rattle.vm_state.specs.Laws.{FindsOneEntry}
 use Rattle.vm_state.specs.State.{Guest}
 use Rattle.vm_state.specs.Translation.{at_entry, look, walk_by, walk_of}
-use Rattle.vm_state.specs.declared.walk.Walk.{Walk}
 use Rattle.vm_state.specs.declared.walk.Walk.TheVariants.{Frame}
 
 -- what a frame was granted by

@@ -1,15 +1,14 @@
 -- What an initiation keeps.
-use Rattle.std.proofs.Common.{◌≡◌, ℕ, ◌+◌, ◌*◌, ◌/◌, ◌%◌, ◌^◌, ◌<◌, Bool, true, false, eqb, List, [], ◌∷◌, length, refl, ◌∙◌, arith}
+use Rattle.std.proofs.Common.{◌≡◌, ℕ, ◌+◌, ◌%◌, ◌<◌, Bool, true, false, eqb, length, refl, arith}
 use Rattle.std.specs.Prelude.{if◌then◌else◌}
 use Rattle.std.specs.Int.{from_bool}
 use Rattle.std.proofs.lemmas.Bool.{cond_both}
 use Rattle.vv_base.specs.Bytes.{long_at}
 use Rattle.vax_arch.specs.Fields.{ipl_of, mode_number}
-use Rattle.vax_arch.specs.Rei.{has_must_be_zero_bit}
 use Rattle.vax_arch.specs.Walk.{is_past}
 use Rattle.vax_arch.specs.declared.mode.Mode.{Mode}
 use Rattle.vax_arch.specs.declared.mode.Mode.TheVariants.{Executive, Kernel, Supervisor, User}
-use Rattle.vm_state.specs.Initiate.{Arrives, Attempt, Halts, Initiation, KernelStackBad, StackFaulty, Stops, Taken, attempt, begun_at, behind_walk, by_vector, in_its_place, initiate, initiated, is_bad_vector, longwords, new_ipl, new_mode, new_previous, new_psl, new_stack, uses_interrupt_stack, vector_offset}
+use Rattle.vm_state.specs.Initiate.{Arrives, Attempt, Halts, Initiation, KernelStackBad, StackFaulty, Stops, Taken, attempt, begun_at, behind_walk, by_vector, in_its_place, initiate, initiated, is_bad_vector, longwords, new_ipl, new_mode, new_previous, new_stack, uses_interrupt_stack, vector_offset}
 use Rattle.vm_state.specs.Pushes.{Faulty, Homes, PastMemory, Walked, pointer_behind, push_walked}
 use Rattle.vm_state.specs.State.{Guest, State, pointer_of}
 use Rattle.vm_state.specs.Stops.{BadVector, Stop}

@@ -1,12 +1,10 @@
 -- What parts of a step keep: that registers have allowed values, the count of steps, and whether there are modify faults.
-use Rattle.std.proofs.Common.{◌≡◌, ℕ, ◌+◌, ◌-◌, ◌*◌, ◌/◌, ◌%◌, ◌^◌, ◌<◌, ◌≤◌, Bool, true, false, not, ◌||◌, ◌&&◌, eqb, ltb, leb, List, [], ◌∷◌, ◌++◌, length, refl, sym, ap, ◌∙◌, subst, arith}
-use Rattle.std.specs.Prelude.{if◌then◌else◌}
+use Rattle.std.proofs.Common.{◌≡◌, ℕ, ◌+◌, ◌-◌, ◌*◌, ◌/◌, ◌%◌, ◌^◌, ◌<◌, false, refl, ◌∙◌, arith}
 use Rattle.std.proofs.lemmas.Bool.{cond_both}
 use Rattle.std.proofs.lemmas.Bool.Decides.{nat_tests}
-use Rattle.vax_arch.specs.Fields.{ipl_of, is_on_interrupt_stack}
+use Rattle.vax_arch.specs.Fields.{is_on_interrupt_stack}
 use Rattle.vax_arch.specs.Rei.{has_must_be_zero_bit}
-use Rattle.vax_arch.specs.Walk.{Tables}
-use Rattle.vm_state.specs.Allowed.{AreAllowed, IsPacket}
+use Rattle.vm_state.specs.Allowed.{AreAllowed}
 use Rattle.vm_state.specs.Contexts.{off_interrupt_stack, on_interrupt_stack}
 use Rattle.vm_state.specs.Registers.{with_ipl}
 use Rattle.vm_state.specs.State.{State}

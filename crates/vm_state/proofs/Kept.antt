@@ -1,5 +1,5 @@
 -- What sensitive instructions keep.
-use Rattle.std.proofs.Common.{◌≡◌, ℕ, zero, suc, ◌+◌, ◌-◌, ◌*◌, ◌/◌, ◌%◌, ◌^◌, ◌<◌, ◌≤◌, ◌⊎◌, inl, inr, Bool, true, false, not, ◌||◌, ◌&&◌, eqb, ltb, leb, List, [], ◌∷◌, ◌++◌, length, length-append, slice_set, Option, Some, None, Result, Ok, Err, refl, sym, ap, ◌∙◌, subst, arith}
+use Rattle.std.proofs.Common.{◌≡◌, ℕ, zero, suc, ◌+◌, ◌/◌, ◌%◌, ◌^◌, ◌<◌, ◌≤◌, inr, Bool, true, false, not, ◌||◌, ◌&&◌, eqb, leb, [], ◌∷◌, ◌++◌, length, length-append, slice_set, Option, Some, None, Result, Ok, Err, refl, ◌∙◌, subst, arith}
 use Rattle.std.specs.Prelude.{if◌then◌else◌, All, slice_index}
 use Rattle.std.proofs.lemmas.Bool.{cond_both}
 use Rattle.std.proofs.lemmas.Bool.Decides.{nat_tests}
@@ -9,10 +9,7 @@ use Rattle.vax_arch.specs.Rei.{has_must_be_zero_bit, rei_refuses}
 use Rattle.vax_arch.specs.Walk.{is_past}
 use Rattle.vax_arch.specs.declared.mode.Mode.{Mode}
 use Rattle.vax_table.specs.Arithmetic.{alu_of}
-use Rattle.vax_table.specs.Claims.{addresses}
-use Rattle.vax_table.specs.Operand.{plus}
 use Rattle.vax_table.specs.Script.{At, Test, Trouble, outcome}
-use Rattle.vax_table.specs.Stores.{bytes_stored}
 use Rattle.vax_table.specs.Tries.{Clear, Completes, Stopped, Tried, tried}
 use Rattle.vax_table.specs.declared.act.Dest.{Dest}
 use Rattle.vax_table.specs.declared.act.Dest.TheVariants.{Memory, Nowhere, Register}
@@ -21,16 +18,15 @@ use Rattle.vax_table.specs.declared.act.Sens.TheVariants.{Chm, Halt, Ldpctx, Mfp
 use Rattle.vax_table.specs.declared.act.Trapped.{Trapped}
 use Rattle.vax_table.specs.declared.answer.AluOp.TheVariants.{Move}
 use Rattle.vm_state.specs.Allowed.{Allows, AreAllowed, IsPacket}
-use Rattle.vm_state.specs.Contexts.{BlockPast, PopTrouble, Popped, Reserved, StackTrouble, Switched, Switches, behind_pops, behind_push, behind_reads, in_block, is_block_past, is_block_reserved, loaded, loaded_astlvl, loaded_tables, loads_context, longs_stored, on_interrupt, on_interrupt_stack, saved, saved_longs, saves_context, two_popped}
+use Rattle.vm_state.specs.Contexts.{BlockPast, PopTrouble, Popped, Reserved, StackTrouble, Switched, Switches, behind_pops, behind_push, behind_reads, is_block_past, is_block_reserved, loaded, loaded_astlvl, loaded_tables, loads_context, on_interrupt, on_interrupt_stack, saved, saved_longs, saves_context, two_popped}
 use Rattle.vm_state.specs.Initiate.{Initiation, KernelStackBad, Stops, Taken, initiate, new_mode}
-use Rattle.vm_state.specs.Packets.{accepted, after_accept, busy_status, status_place}
+use Rattle.vm_state.specs.Packets.{accepted, busy_status, status_place}
 use Rattle.vm_state.specs.Pushes.{Faulty, Homes, PastMemory, Walked, push_walked}
-use Rattle.vm_state.specs.Registers.{Value, Written, allows, read, with_ipl, written}
-use Rattle.vm_state.specs.Sensitive.{ClearAt, Does, Faults, LacksMemory, Sensed, StopsThere, behind, behind_read, change_mode, changed, chm_walked, destination_walked, fault_of, guest_behind, halted, mfpr_by, moved_psl, move_from_register, move_to_register, mtpr_by, packet_taken, put_at, refused_as, rei_by, return_from, returned_to, sensed, switched, troubled, waited, with_codes, with_effect}
-use Rattle.vm_state.specs.State.{Guest, State, mode_of_state, pointer_of, with_pointer_kept}
+use Rattle.vm_state.specs.Registers.{Value, Written, written}
+use Rattle.vm_state.specs.Sensitive.{ClearAt, Does, Faults, LacksMemory, Sensed, StopsThere, behind, behind_read, change_mode, changed, chm_walked, destination_walked, fault_of, guest_behind, halted, mfpr_by, mtpr_by, packet_taken, put_at, refused_as, rei_by, returned_to, sensed, switched, troubled, waited, with_codes, with_effect}
+use Rattle.vm_state.specs.State.{Guest, State, mode_of_state, pointer_of}
 use Rattle.vm_state.specs.Stops.{ChangedMode}
-use Rattle.vm_state.specs.Translation.{is_clear, long_stored, place_of, space_of, walk_of}
-use Rattle.vm_state.specs.declared.exception.Exc.{Exc}
+use Rattle.vm_state.specs.Translation.{is_clear, place_of, space_of, walk_of}
 use Rattle.vm_state.specs.declared.exception.Exc.TheVariants as excs
 use Rattle.vm_state.specs.declared.register.Effect.{Effect}
 use Rattle.vm_state.specs.declared.register.Effect.TheVariants as effects
@@ -45,7 +41,7 @@ use Rattle.vax_table.specs.declared.act.Refusal.TheVariants as refusals
 use Rattle.vm_state.proofs.Initiations.{Holds, Initiates, LevelFits, initiate_keeps}
 use Rattle.vm_state.proofs.Keeps.{Keeps, chained, ipl_changed, low_changed, moved, off_stack, on_stack, same}
 use Rattle.std.proofs.lemmas.List.Elements.{All-append}
-use Rattle.vm_state.proofs.Registers.{ReadsKept, WritesKept, even_of, reads_keep, remapped, set_at, small_of, with_sisr, written_keeps}
+use Rattle.vm_state.proofs.Registers.{ReadsKept, WritesKept, even_of, reads_keep, set_at, small_of, with_sisr, written_keeps}
 use Rattle.vm_state.proofs.Sizes.{bytes_size, long_size, longs_size, pushed_size}
 
 -- one guest and then another
@@ -172,7 +168,17 @@ queue_keeps size s packet p few = record {
   faults = refl;
   steps = refl;
   allowed = λ h. record {
-    p0br = h.p0br; p0lr = h.p0lr; p1br = h.p1br; p1lr = h.p1lr; sbr = h.sbr; slr = h.slr; pcbb = h.pcbb; scbb = h.scbb; astlvl = h.astlvl; sisr = h.sisr; psl = h.psl;
+    p0br = h.p0br;
+    p0lr = h.p0lr;
+    p1br = h.p1br;
+    p1lr = h.p1lr;
+    sbr = h.sbr;
+    slr = h.slr;
+    pcbb = h.pcbb;
+    scbb = h.scbb;
+    astlvl = h.astlvl;
+    sisr = h.sisr;
+    psl = h.psl;
     packets = All-append (IsPacket size) s.queue (packet ∷ []) h.packets (one_packet size packet p);
     few = omega (arith, length-append s.queue (packet ∷ []));
   };
@@ -291,8 +297,19 @@ loaded_keeps g next_pc e =
       faults = refl;
       steps = refl;
       allowed = λ h. record {
-        p0br = inr l.p0br; p0lr = l.p0lr; p1br = l.p1br; p1lr = l.p1lr; sbr = h.sbr; slr = h.slr; pcbb = h.pcbb; scbb = h.scbb; astlvl = l.astlvl; sisr = h.sisr;
-        psl = off_stack g.state.psl h.psl; packets = h.packets; few = h.few;
+        p0br = inr l.p0br;
+        p0lr = l.p0lr;
+        p1br = l.p1br;
+        p1lr = l.p1lr;
+        sbr = h.sbr;
+        slr = h.slr;
+        pcbb = h.pcbb;
+        scbb = h.scbb;
+        astlvl = l.astlvl;
+        sisr = h.sisr;
+        psl = off_stack g.state.psl h.psl;
+        packets = h.packets;
+        few = h.few;
       };
     }
 

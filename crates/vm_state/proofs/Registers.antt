@@ -1,19 +1,15 @@
 -- What writes and reads of processor registers keep, and what packets do.
-use Rattle.std.proofs.Common.{◌≡◌, ◌≢◌, ℕ, ◌+◌, ◌-◌, ◌*◌, ◌/◌, ◌%◌, ◌^◌, ◌<◌, ◌≤◌, ◌⊎◌, zero, suc, inl, inr, Bool, true, false, not, ◌||◌, ◌&&◌, eqb, ltb, leb, List, [], ◌∷◌, ◌++◌, length, length-append, Option, Some, None, Result, Ok, Err, refl, sym, ap, ◌∙◌, subst, arith}
-use Rattle.std.specs.Prelude.{if◌then◌else◌, All}
+use Rattle.std.proofs.Common.{◌≡◌, ◌≢◌, ℕ, ◌+◌, ◌-◌, ◌/◌, ◌%◌, ◌^◌, ◌<◌, ◌≤◌, ◌⊎◌, zero, suc, inr, Bool, true, false, ◌&&◌, eqb, ltb, Option, Some, None, Result, Ok, Err, refl, ap, ◌∙◌, arith}
 use Rattle.std.proofs.lemmas.Bool.{cond_both}
 use Rattle.std.proofs.lemmas.Bool.Decides.{nat_tests}
 use Rattle.vax_arch.specs.Rei.{has_must_be_zero_bit}
-use Rattle.vax_arch.specs.Walk.{Tables, is_past}
-use Rattle.vm_state.specs.Allowed.{Allows, AreAllowed, IsPacket}
-use Rattle.vm_state.specs.Packets.{accepted}
-use Rattle.vm_state.specs.Registers.{Value, Written, after_read, after_write, allows, effect_of, read, read_by, read_to, register_of, value_of, with_ipl, with_pointer, with_request, write_by, written}
+use Rattle.vax_arch.specs.Walk.{Tables}
+use Rattle.vm_state.specs.Allowed.{Allows, AreAllowed}
+use Rattle.vm_state.specs.Registers.{Value, Written, after_read, after_write, allows, read, read_by, read_to, register_of, value_of, with_pointer, with_request, write_by, written}
 use Rattle.vm_state.specs.State.{State, stack_in}
 use Rattle.vm_state.specs.declared.register.Register.{Register}
 use Rattle.vm_state.specs.declared.register.Register.TheVariants.{Ksp, Esp, Ssp, Usp, Isp, P0br, P0lr, P1br, P1lr, Sbr, Slr, Pcbb, Scbb, Ipl, Astlvl, Sirr, Sisr, Iccs, Nicr, Icr, Rxcs, Rxdb, Txcs, Txdb, Mapen, Tbia, Tbis, Sid, Kcall, Memsize, Uptime}
 use Rattle.vm_state.specs.declared.register.ReservedOperand.{ReservedOperand}
-use Rattle.vm_state.specs.declared.transfer.Accept.{Accept}
-use Rattle.vm_state.specs.declared.transfer.Accept.TheVariants.{BadPacket, Busy, Queued}
 use Rattle.vm_state.proofs.Keeps.{Keeps, ipl_changed, moved, same}
 
 -- registers that may have any value

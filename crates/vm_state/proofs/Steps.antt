@@ -1,5 +1,5 @@
 -- What a step keeps, counts and shows.
-use Rattle.std.proofs.Common.{◌≡◌, ℕ, zero, suc, ◌+◌, ◌-◌, ◌*◌, ◌/◌, ◌%◌, ◌^◌, ◌<◌, ◌≤◌, Bool, true, false, not, ◌&&◌, eqb, ltb, List, [], ◌∷◌, ◌++◌, length, length-append, Option, Some, None, Result, Ok, Err, refl, sym, ap, ◌∙◌, subst, arith}
+use Rattle.std.proofs.Common.{◌≡◌, ℕ, zero, suc, ◌+◌, ◌-◌, ◌*◌, ◌/◌, ◌%◌, ◌^◌, ◌<◌, ◌≤◌, Bool, true, false, ◌&&◌, ltb, List, [], ◌∷◌, length, length-append, Option, Some, None, refl, ap, subst, arith}
 use Rattle.std.specs.Prelude.{if◌then◌else◌, find}
 use Rattle.std.proofs.lemmas.Bool.{cond_both}
 use Rattle.std.proofs.lemmas.Bool.Decides.{nat_tests}
@@ -7,7 +7,6 @@ use Rattle.vax_arch.specs.Fields.{ipl_of}
 use Rattle.vax_arch.specs.Walk.{page_of}
 use Rattle.vax_table.specs.Effects.{Effect, long_of}
 use Rattle.vax_table.specs.Plan.{probed}
-use Rattle.vax_table.specs.Script.{Trouble}
 use Rattle.vax_table.specs.Tries.{Clear, Completes, Tried, tried}
 use Rattle.vax_table.specs.Tries as tries
 use Rattle.vax_table.specs.Whole.{Act, Meant, Probes, Traps}
@@ -15,19 +14,19 @@ use Rattle.vax_table.specs.Whole as whole
 use Rattle.vax_table.specs.declared.evaluation.Operands.{Operands}
 use Rattle.vm_state.specs.Initiate.{Initiation, KernelStackBad, Stops, Taken, initiate}
 use Rattle.vm_state.specs.Interrupts.{IntervalClock, Kcall, Receiver, Software, Source, Transmitter, due, interrupt_of, level_of, requests, sources, taken}
-use Rattle.vm_state.specs.Laws.{FindsOneEntry, IsKept, ShowsFew, StaysStopped, StepsCount, StepsKeep}
+use Rattle.vm_state.specs.Laws.{IsKept, ShowsFew, StaysStopped, StepsCount, StepsKeep}
 use Rattle.vm_state.specs.Probe.{Answers, NotValid, Probed, probe}
 use Rattle.vm_state.specs.Probe as probes
 use Rattle.vm_state.specs.Run.{Run, after_step, after_steps}
 use Rattle.vm_state.specs.Sensitive.{ClearAt, Does, Faults, LacksMemory, Sensed, StopsThere, sensed, troubled}
 use Rattle.vm_state.specs.State.{Guest, State, pc_of}
-use Rattle.vm_state.specs.Step.{Fault, Interrupt, Kind, Sensitive, SetModify, Stepped, active, by_interrupt, by_try, clear_met, counted, did, executed, faulted, frames_stored, initiated_in, instruction_of, interrupted, plainly_done, probe_kind, probed_as, sensed_as, step, step_by, stepped, stopped, trapped_in, unless_waiting, with_effect, with_psw}
+use Rattle.vm_state.specs.Step.{Fault, Interrupt, Kind, Sensitive, SetModify, Stepped, active, by_interrupt, by_try, clear_met, counted, did, executed, faulted, frames_stored, initiated_in, instruction_of, interrupted, probe_kind, probed_as, sensed_as, step, step_by, stepped, stopped, trapped_in, unless_waiting, with_effect}
 use Rattle.vm_state.specs.Stops.{PastMemory, Stop, stop_code, stop_text}
-use Rattle.vm_state.specs.Translation.{is_clear, look, marked_by, place_of, space_of}
+use Rattle.vm_state.specs.Translation.{is_clear, look, place_of, space_of}
 use Rattle.vm_state.specs.declared.exception.Exc.{Exc}
 use Rattle.vm_state.specs.declared.exception.Exc.TheVariants as excs
 use Rattle.vm_state.proofs.Initiations.{Holds, Initiates, LevelFits, initiate_keeps}
-use Rattle.vm_state.proofs.Keeps.{Keeps, chained, low_changed, moved, same}
+use Rattle.vm_state.proofs.Keeps.{Keeps, low_changed, moved, same}
 use Rattle.vm_state.proofs.Kept.{Sensible, holds_then, sensed_sensible, trouble_sensible, with_state}
 use Rattle.vm_state.proofs.Registers.{clear_at, even_of, small_of, with_sisr}
 use Rattle.vm_state.proofs.Sizes.{marked_by_size, stores_size}

@@ -1,6 +1,6 @@
 -- Which values a guest's registers can have: those that MTPR and LDPCTX allow, and P0BR 0 as at the start
 -- (VAX Architecture Reference Manual: processor registers; the ranges are profile).
-use Rattle.std.specs.Prelude.{◌≡◌, ℕ, ◌+◌, ◌%◌, ◌≤◌, ◌⊎◌, true, false, List, [], ◌∷◌, length, All}
+use Rattle.std.specs.Prelude.{◌≡◌, ℕ, ◌+◌, ◌%◌, ◌≤◌, ◌⊎◌, true, false, length, All}
 use Rattle.vax_arch.specs.Rei.{has_must_be_zero_bit}
 use Rattle.vm_state.specs.Registers.{allows}
 use Rattle.vm_state.specs.State.{State}

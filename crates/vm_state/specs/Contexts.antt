@@ -1,6 +1,6 @@
 -- Process contexts: LDPCTX and SVPCTX over the process control block, 96 bytes at PCBB
 -- (VAX Architecture Reference Manual: process structure; the corner cases are profile).
-use Rattle.std.specs.Prelude.{ℕ, zero, suc, ◌+◌, ◌-◌, ◌*◌, ◌/◌, ◌%◌, ◌^◌, ◌==◌, ◌||◌, Bool, not, nat_le, if◌then◌else◌, List, [], ◌∷◌, ◌++◌, length, map, take, drop, slice_index, slice_set, Result, Ok, Err}
+use Rattle.std.specs.Prelude.{ℕ, zero, suc, ◌+◌, ◌-◌, ◌/◌, ◌%◌, ◌^◌, ◌==◌, ◌||◌, Bool, not, if◌then◌else◌, List, [], ◌∷◌, ◌++◌, length, take, slice_index, slice_set, Result, Ok, Err}
 use Rattle.vv_base.specs.Bytes.{long_at}
 use Rattle.vax_arch.specs.Fields.{ipl_of, is_on_interrupt_stack}
 use Rattle.vax_arch.specs.Walk.{Tables, is_past}
@@ -10,7 +10,7 @@ use Rattle.vax_table.specs.Operand.{plus}
 use Rattle.vax_table.specs.Script.{Done, Script, Touch, Trouble, outcome}
 use Rattle.vm_state.specs.Pushes.{Faulty, Homes, PastMemory, Walked, frames_pushed, pointer_behind, push_walked, pushed}
 use Rattle.vm_state.specs.Registers.{allows, with_ipl}
-use Rattle.vm_state.specs.State.{Guest, State, pc_of, pointer_of, with_pointer_kept}
+use Rattle.vm_state.specs.State.{Guest, State, pointer_of, with_pointer_kept}
 use Rattle.vm_state.specs.Translation.{frame_at, long_stored, space_of}
 use Rattle.vm_state.specs.declared.register.Register.TheVariants.{Astlvl, P0br, P0lr, P1br, P1lr}
 

@@ -1,14 +1,14 @@
 -- The initiation of an exception or an interrupt (VAX Architecture Reference Manual: exceptions and interrupts, system
 -- control block). Profile: the order of the tests, what vectors with bits 1:0 of 2 and 3 do, that vector 08 always uses
 -- the interrupt stack, and that a clear modify bit of a pushed byte's page is set without a fault.
-use Rattle.std.specs.Prelude.{ℕ, ◌+◌, ◌*◌, ◌/◌, ◌%◌, ◌==◌, ◌^◌, ◌||◌, Bool, true, false, not, nat_le, if◌then◌else◌, List, [], ◌∷◌, ◌++◌, length, slice_index, slice_set}
+use Rattle.std.specs.Prelude.{ℕ, ◌+◌, ◌*◌, ◌/◌, ◌%◌, ◌==◌, ◌^◌, ◌||◌, Bool, true, false, not, nat_le, if◌then◌else◌, List, [], ◌∷◌, length, slice_set}
 use Rattle.std.specs.Int.{from_bool}
 use Rattle.vv_base.specs.Bytes.{long_at}
-use Rattle.vax_arch.specs.Fields.{current_of, ipl_of, is_on_interrupt_stack, mode_number, mode_of, previous_of}
+use Rattle.vax_arch.specs.Fields.{ipl_of, is_on_interrupt_stack, mode_number}
 use Rattle.vax_arch.specs.Walk.{is_past}
 use Rattle.vax_arch.specs.declared.mode.Mode.{Mode}
 use Rattle.vax_arch.specs.declared.mode.Mode.TheVariants.{Kernel}
-use Rattle.vm_state.specs.Pushes.{Faulty, Home, Homes, PastMemory, Walked, frames_pushed, pointer_behind, push_walked, pushed}
+use Rattle.vm_state.specs.Pushes.{Faulty, Homes, PastMemory, Walked, frames_pushed, pointer_behind, push_walked, pushed}
 use Rattle.vm_state.specs.State.{Guest, State, mode_of_state, pc_of, pointer_of, with_pointer_kept}
 use Rattle.vm_state.specs.Stops.{BadVector, InterruptStackBad, Stop}
 use Rattle.vm_state.specs.Stops as stops

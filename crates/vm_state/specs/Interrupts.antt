@@ -1,6 +1,6 @@
 -- Pending interrupts (VAX Architecture Reference Manual: interrupts, software interrupts, interval clock, console
 -- terminal; the KCALL interrupt and the order at one level are profile).
-use Rattle.std.specs.Prelude.{ℕ, ◌+◌, ◌*◌, ◌/◌, ◌%◌, ◌^◌, ◌==◌, ◌&&◌, Bool, false, nat_lt, List, [], ◌∷◌, ◌++◌, map, find, Option, ◌-◌}
+use Rattle.std.specs.Prelude.{ℕ, ◌+◌, ◌*◌, ◌/◌, ◌%◌, ◌^◌, ◌==◌, ◌&&◌, Bool, false, nat_lt, List, [], ◌∷◌, map, find, Option, ◌-◌}
 use Rattle.vax_arch.specs.Fields.{ipl_of}
 use Rattle.vm_clock.specs.Clock.{after_taken}
 use Rattle.vm_console.specs.Console.{after_rx_taken, after_tx_taken}

@@ -1,5 +1,5 @@
 -- Laws of a guest's steps.
-use Rattle.std.specs.Prelude.{◌≡◌, ℕ, ◌+◌, ◌*◌, ◌%◌, ◌^◌, ◌≤◌, List, [], length, Option, Some, None}
+use Rattle.std.specs.Prelude.{◌≡◌, ℕ, ◌+◌, ◌*◌, ◌%◌, ◌^◌, ◌≤◌, [], length, Option, Some, None}
 use Rattle.vax_arch.specs.declared.mode.Intent.{Intent}
 use Rattle.vax_arch.specs.declared.mode.Mode.{Mode}
 use Rattle.vm_state.specs.Allowed.{AreAllowed}
@@ -7,7 +7,6 @@ use Rattle.vm_state.specs.Run.{Run, after_steps}
 use Rattle.vm_state.specs.State.{Guest}
 use Rattle.vm_state.specs.Step.{Stopped, step, stepped}
 use Rattle.vm_state.specs.Translation.{walk_of}
-use Rattle.vm_state.specs.declared.walk.Walk.{Walk}
 use Rattle.vm_state.specs.declared.walk.Walk.TheVariants.{Frame}
 
 -- a step shows at most 14 bytes, as many as the text of a guest that stops has

@@ -21,3 +21,4 @@ pub mod ShownStep
 pub mod ShownMapped
 pub mod ShownUnmapped
 pub mod ShownSensitive
+pub mod ShownTables

@@ -1,6 +1,6 @@
 -- PROBER and PROBEW: whether a less privileged mode may use both ends of a range
 -- (VAX Architecture Reference Manual: PROBEx; the corner cases are profile).
-use Rattle.std.specs.Prelude.{ℕ, ◌+◌, ◌*◌, ◌/◌, ◌%◌, ◌^◌, ◌==◌, ◌&&◌, Bool, true, false, not, nat_le, if◌then◌else◌, List, length}
+use Rattle.std.specs.Prelude.{ℕ, ◌*◌, ◌%◌, ◌^◌, ◌==◌, ◌&&◌, Bool, true, false, not, nat_le, if◌then◌else◌, length}
 use Rattle.vv_base.specs.Bytes.{long_at}
 use Rattle.vax_arch.specs.Fields.{frame_of, is_valid, mode_number, mode_of, previous_of, protection_of}
 use Rattle.vax_arch.specs.Ring.{open_of}

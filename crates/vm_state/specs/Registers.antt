@@ -1,6 +1,6 @@
 -- Processor registers, as MTPR writes and MFPR reads them (VAX Architecture Reference Manual: processor registers; the
 -- ranges, and the registers KCALL, MEMSIZE and UPTIME, are profile).
-use Rattle.std.specs.Prelude.{ℕ, ◌+◌, ◌*◌, ◌/◌, ◌%◌, ◌^◌, ◌==◌, ◌&&◌, Bool, true, false, nat_le, nat_lt, if◌then◌else◌, List, [], ◌∷◌, find, Option, Some, None, Result, Ok, Err, slice_index, slice_set}
+use Rattle.std.specs.Prelude.{ℕ, ◌+◌, ◌*◌, ◌/◌, ◌%◌, ◌^◌, ◌==◌, ◌&&◌, Bool, true, false, nat_le, nat_lt, if◌then◌else◌, List, [], ◌∷◌, find, Option, Some, None, Result, Ok, Err, slice_set}
 use Rattle.std.specs.Option.{option_map}
 use Rattle.vax_arch.specs.Fields.{ipl_of}
 use Rattle.vm_clock.specs.Clock.{after_iccs_write, after_nicr_write, iccs_of}

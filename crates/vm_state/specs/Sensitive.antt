@@ -1,14 +1,12 @@
 -- What the sensitive instructions do to a guest, given their operands (VAX Architecture Reference Manual: change mode,
 -- REI, processor registers, process structure, HALT; Hall and Robinson, Virtualizing the VAX Architecture, ISCA 1991,
 -- for WAIT; the corner cases are profile).
-use Rattle.std.specs.Prelude.{ℕ, ◌+◌, ◌*◌, ◌/◌, ◌%◌, ◌^◌, ◌==◌, ◌&&◌, Bool, true, false, not, nat_le, if◌then◌else◌, List, [], ◌∷◌, ◌++◌, length, slice_index, slice_set, Option, Some, None, Result, Ok, Err}
+use Rattle.std.specs.Prelude.{ℕ, ◌+◌, ◌*◌, ◌/◌, ◌%◌, ◌^◌, ◌==◌, ◌&&◌, true, not, nat_le, if◌then◌else◌, List, [], ◌∷◌, ◌++◌, length, slice_index, slice_set, Option, Some, None, Result, Ok, Err}
 use Rattle.vv_base.specs.declared.width.Width.TheVariants.{Long}
 use Rattle.vax_arch.specs.Fields.{current_of, is_on_interrupt_stack, mode_number}
 use Rattle.vax_arch.specs.Rei.{rei_refuses}
-use Rattle.vax_arch.specs.declared.mode.Intent.{Intent}
 use Rattle.vax_arch.specs.declared.mode.Intent.TheVariants.{Write}
 use Rattle.vax_arch.specs.declared.mode.Mode.{Mode}
-use Rattle.vax_arch.specs.declared.mode.Mode.TheVariants.{Kernel}
 use Rattle.vax_table.specs.Arithmetic.{alu_of}
 use Rattle.vax_table.specs.Claims.{addresses}
 use Rattle.vax_table.specs.Operand.{plus}
@@ -24,13 +22,12 @@ use Rattle.vax_table.specs.declared.act.Sens.TheVariants.{Chm, Halt, Ldpctx, Mfp
 use Rattle.vax_table.specs.declared.act.Trapped.{Trapped}
 use Rattle.vax_table.specs.declared.answer.AluOp.TheVariants.{Move}
 use Rattle.vm_state.specs.Contexts.{BlockPast, PopTrouble, Popped, Reserved, StackTrouble, Switched, Switches, loads_context, saves_context, two_popped}
-use Rattle.vm_state.specs.Initiate.{Initiation, KernelStackBad, Stops, Taken, initiate, more_privileged, new_mode}
+use Rattle.vm_state.specs.Initiate.{Initiation, KernelStackBad, Stops, Taken, initiate, new_mode}
 use Rattle.vm_state.specs.Packets.{accepted, after_accept, busy_status, status_place}
 use Rattle.vm_state.specs.Pushes.{Faulty, Homes, PastMemory, Walked, push_walked}
 use Rattle.vm_state.specs.Registers.{Value, Written, read, written}
-use Rattle.vm_state.specs.State.{Guest, State, mode_of_state, pc_of, pointer_of, with_pointer_kept}
+use Rattle.vm_state.specs.State.{Guest, State, mode_of_state, pointer_of, with_pointer_kept}
 use Rattle.vm_state.specs.Stops.{ChangedMode, Halted, Stop, stop_code, stop_text}
-use Rattle.vm_state.specs.Stops as stops
 use Rattle.vm_state.specs.Translation.{frame_at, is_clear, long_stored, place_of, space_of, walk_of}
 use Rattle.vm_state.specs.declared.exception.Exc.{Exc}
 use Rattle.vm_state.specs.declared.exception.Exc.TheVariants as excs

@@ -2,7 +2,7 @@
 -- system control block at 4400 is 1000. With mapping on, of 8 pages: system and P0 tables of 16 entries, at 0 and 80, map
 -- each page to the frame of its number, open to all and modified; KSP is 80000800, and every vector in the system control
 -- block at 400 is 80000a00.
-use Rattle.std.specs.Prelude.{ℕ, zero, suc, ◌+◌, ◌-◌, Bool, false, true, List, [], ◌∷◌, ◌++◌, length, map, replicate, slice_index, Option}
+use Rattle.std.specs.Prelude.{ℕ, zero, suc, ◌+◌, ◌-◌, false, true, List, [], ◌∷◌, ◌++◌, length, map, replicate, slice_index}
 use Rattle.vv_base.specs.Bytes.{long_at, long_bytes, overwritten}
 use Rattle.vax_arch.specs.Walk.{Tables}
 use Rattle.vm_clock.specs.Clock as clock

@@ -1,5 +1,5 @@
 -- Worked examples of a step, by computation: faults, traps and protection. Numbers are hexadecimal in the comments.
-use Rattle.std.specs.Prelude.{List, None, Some, [], false, refl, slice_index, true, ℕ, ◌*◌, ◌+◌, ◌∷◌, ◌≡◌}
+use Rattle.std.specs.Prelude.{[], refl, ◌∷◌, ◌≡◌}
 use Rattle.vax_arch.specs.Walk.{granted, lookup, mapped_entry, process_entry, system_entry}
 use Rattle.vax_table.specs.Arithmetic.{alu_of}
 use Rattle.vax_table.specs.Branches.{branched}
@@ -21,9 +21,8 @@ use Rattle.vm_state.specs.Probe.{probe, probed_byte}
 use Rattle.vm_state.specs.Pushes.{push_walked, pushed}
 use Rattle.vm_state.specs.Registers.{read, register_of, written}
 use Rattle.vm_state.specs.Sensitive.{sensed}
-use Rattle.vm_state.specs.ShownSetup.{Seen, after, entry_4, guest_m, guest_u, longs_at, registers, seen, with_psl, with_registers}
-use Rattle.vm_state.specs.State.{Guest, State}
-use Rattle.vm_state.specs.Step.{Fault, Idle, Interrupt, Kind, Plain, Sensitive, SetModify, Stepped, Stopped, executed, step}
+use Rattle.vm_state.specs.ShownSetup.{after, entry_4, guest_m, registers, seen, with_psl, with_registers}
+use Rattle.vm_state.specs.Step.{Fault, Plain, executed, step}
 use Rattle.vm_state.specs.Translation.{walk_of}
 
 -- an instruction and its first trouble

@@ -1,7 +1,7 @@
 -- How often a guest touches a page that it hasn't touched since its translation could have changed: the number that
 -- bounds the misses of the real machine. A set of present system pages is kept, and for each of the four contexts used
 -- last, the most recent first, a set of its present other pages (profile).
-use Rattle.std.specs.Prelude.{ℕ, zero, suc, ◌+◌, ◌/◌, ◌^◌, ◌==◌, ◌||◌, Bool, true, false, not, if◌then◌else◌, List, [], ◌∷◌, length, map, filter, find, take, Option, Some, None, is_some}
+use Rattle.std.specs.Prelude.{ℕ, zero, suc, ◌+◌, ◌==◌, ◌||◌, Bool, not, if◌then◌else◌, List, [], ◌∷◌, length, map, filter, find, take, Option, Some, None, is_some}
 use Rattle.std.specs.Bool.{beq}
 use Rattle.vax_arch.specs.Walk.{Tables, lookup, region_of}
 use Rattle.vax_arch.specs.declared.walk.Lookup.{Lookup}
@@ -9,7 +9,7 @@ use Rattle.vax_arch.specs.declared.walk.Lookup.TheVariants.{Beyond, Direct, Fail
 use Rattle.vm_slots.specs.Held.{is_same}
 use Rattle.vm_slots.specs.declared.context.Context.{Context}
 use Rattle.vm_state.specs.State.{Guest, context_of}
-use Rattle.vm_state.specs.Step.{Stepped, Touched, step}
+use Rattle.vm_state.specs.Step.{Stepped, step}
 use Rattle.vm_state.specs.Translation.{frame_at}
 
 -- the present pages of a context

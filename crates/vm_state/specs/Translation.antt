@@ -1,6 +1,6 @@
 -- Translation over a guest's own page tables (VAX Architecture Reference Manual, memory management). Executive mode may
 -- use what kernel mode may (Hall and Robinson, Virtualizing the VAX Architecture, ISCA 1991: ring compression).
-use Rattle.std.specs.Prelude.{ℕ, ◌+◌, ◌*◌, ◌/◌, ◌%◌, ◌^◌, Bool, true, false, not, List, [], ◌∷◌, ◌++◌, length, slice_index, if◌then◌else◌, Option, Some, None, Result, Ok, Err}
+use Rattle.std.specs.Prelude.{ℕ, ◌+◌, ◌*◌, ◌/◌, ◌%◌, ◌^◌, Bool, true, false, not, List, [], ◌∷◌, length, slice_index, Option, Some, None, Result, Ok, Err}
 use Rattle.vv_base.specs.Bytes.{long_at}
 use Rattle.vax_arch.specs.Fields.{is_modified}
 use Rattle.vax_arch.specs.Ring.{open_of}

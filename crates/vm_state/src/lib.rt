@@ -11,7 +11,10 @@ mod walk;
 
 pub use exception::Exc;
 pub use guest_state::GuestState;
-pub use laws::{steps_are_counted, steps_keep_allowed_registers, steps_show_few, stopped_guests_stay, walks_find_one_entry};
+pub use laws::{
+    steps_are_counted, steps_keep_allowed_registers, steps_show_few, stopped_guests_stay,
+    walks_find_one_entry,
+};
 pub use register::{Effect, Register, ReservedOperand};
 pub use transfer::Accept;
 pub use walk::{MemFault, Walk};
