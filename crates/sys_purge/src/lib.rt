@@ -13,4 +13,6 @@ pub use laws::{
 pub use purge::purge_config;
 
 #[cfg(test)]
+mod event_tests;
+#[cfg(test)]
 mod tests;
