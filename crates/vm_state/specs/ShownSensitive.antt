@@ -1,5 +1,5 @@
 -- Worked examples of sensitive instructions and PROBE, by computation. Numbers are hexadecimal in the comments.
-use Rattle.std.specs.Prelude.{List, None, Some, [], false, refl, slice_index, true, ℕ, ◌*◌, ◌+◌, ◌∷◌, ◌≡◌}
+use Rattle.std.specs.Prelude.{List, Some, [], refl, slice_index, ℕ, ◌∷◌, ◌≡◌}
 use Rattle.vax_arch.specs.Walk.{granted, lookup, mapped_entry, process_entry, system_entry}
 use Rattle.vax_table.specs.Arithmetic.{alu_of}
 use Rattle.vax_table.specs.Branches.{branched}
@@ -12,7 +12,7 @@ use Rattle.vax_table.specs.Reading.{decoded_at, indexed_at, operand_at, specifie
 use Rattle.vax_table.specs.Rows.{row_of}
 use Rattle.vax_table.specs.Spelled.{value_size}
 use Rattle.vax_table.specs.Whole.{acted, instruction}
-use Rattle.vm_clock.specs.Clock.{after_iccs_write, after_tick, initial_state}
+use Rattle.vm_clock.specs.Clock.{after_iccs_write, after_tick}
 use Rattle.vm_state.specs.Contexts.{is_block_reserved, loaded, loads_context, saves_context}
 use Rattle.vm_state.specs.Initiate.{attempt, initiate}
 use Rattle.vm_state.specs.Interrupts.{due}
@@ -21,9 +21,9 @@ use Rattle.vm_state.specs.Probe.{probe, probed_byte}
 use Rattle.vm_state.specs.Pushes.{push_walked, pushed}
 use Rattle.vm_state.specs.Registers.{read, register_of, written}
 use Rattle.vm_state.specs.Sensitive.{sensed}
-use Rattle.vm_state.specs.ShownSetup.{Seen, after, behind_steps, entry_4, guest_m, guest_u, kinds, longs_at, registers, seen, tables_m, with_clock, with_isp, with_memory, with_psl, with_registers, with_tables}
-use Rattle.vm_state.specs.State.{Guest, State}
-use Rattle.vm_state.specs.Step.{Fault, Idle, Interrupt, Kind, Plain, Sensitive, SetModify, Stepped, Stopped, executed, step}
+use Rattle.vm_state.specs.ShownSetup.{after, entry_4, guest_m, guest_u, registers, seen, tables_m, with_memory, with_psl, with_registers, with_tables}
+use Rattle.vm_state.specs.State.{Guest}
+use Rattle.vm_state.specs.Step.{Fault, Plain, Sensitive, executed, step}
 use Rattle.vm_state.specs.Translation.{walk_of}
 
 abbrev pub with_pcbb : ℕ → Guest → Guest
