@@ -66,6 +66,23 @@ impl GuestState {
         ensures state { state_of result ≡ stopped_at_first start modify_faults }
         ensures place { HasPlace pages base start result }
     {
+        let mut guest = GuestState::started(pages, base, start, modify_faults);
+        guest.halt = Some(NEVER_STARTED);
+        guest
+    }
+
+    /// The guest runs from its start address on, as one that starts.
+    pub fn reset(&mut self)
+        ensures state { state_of self.new ≡ started self.old.start self.old.modify_faults }
+        ensures place { HasPlace self.old.pages self.old.base self.old.start self.new }
+    {
+        *self = GuestState::started(self.pages, self.base, self.start, self.modify_faults);
+    }
+
+    fn started(pages: u32, base: u32, start: u32, modify_faults: bool) -> GuestState
+        ensures state { state_of result ≡ started start modify_faults }
+        ensures place { HasPlace pages base start result }
+    {
         GuestState {
             r: start_registers(start),
             psl: Psl(START_PSL),
@@ -86,25 +103,13 @@ impl GuestState {
             kcall_due: false,
             queue: ArrayVec::new(),
             waiting: false,
-            halt: Some(NEVER_STARTED),
+            halt: None,
             steps: 0,
             pages,
             base,
             start,
             modify_faults,
         }
-    }
-
-    /// The guest runs from its start address on, as one that starts.
-    pub fn reset(&mut self)
-        requires few { self.old.pages ≤ 2048 }
-        requires some { 64 ≤ self.old.pages }
-        requires inside { self.old.base + self.old.pages ≤ 32768 }
-        ensures state { state_of self.new ≡ started self.old.start self.old.modify_faults }
-        ensures place { HasPlace self.old.pages self.old.base self.old.start self.new }
-    {
-        *self = GuestState::new(self.pages, self.base, self.start, self.modify_faults);
-        self.halt = None;
     }
 }
 
