@@ -4,7 +4,7 @@ use Rattle.std.proofs.Math.Seq.{take-length}
 use Rattle.std.proofs.lemmas.List.{length-take-le}
 use Rattle.std.proofs.lemmas.Grind.{common_steps}
 use Rattle.std.proofs.lemmas.Slice.{drop-append-drop}
-use Rattle.vax_hw.specs.Machine.{Machine}
+use Rattle.vax_linear.specs.Machine.{Machine}
 use Rattle.vv_base.specs.Bytes.{long_at, long_bytes, overwritten}
 use Rattle.vm_plain.specs.Start.{opening}
 

@@ -5,7 +5,7 @@ ghost use Rattle.sys_boot.specs.Dump.{dump_of, if_shown, register_lines, row_lin
 ghost use Rattle.sys_boot.specs.Showing.{Showing};
 
 use crate::texts::{append, is_shown, name_text, psl_text, register_text, row_text};
-use vax_hw::Hardware;
+use vax_linear::Hardware;
 use vm_plain::GuestState;
 use vv_base::{Name, Text, put_u32};
 use vv_io::{Line, LineFault};

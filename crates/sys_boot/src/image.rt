@@ -2,7 +2,7 @@ ghost use Rattle.std.specs.Prelude.{◌≡◌, ◌<◌, ◌^◌, ◌≤◌, ◌+
 ghost use Rattle.vv_base.specs.Bytes.{long_at, overwritten};
 ghost use Rattle.vm_plain.specs.Start.{opening};
 
-use vax_hw::Hardware;
+use vax_linear::Hardware;
 use vm_plain::GuestState;
 
 /// The byte at a place of an image in zeros.

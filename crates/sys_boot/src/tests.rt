@@ -8,7 +8,7 @@ use crate::dump;
 use crate::dumps::{put_registers, put_row};
 use crate::texts::{name_text, psl_text, register_text, row_text};
 use std::test::Fail;
-use vax_hw::Hardware;
+use vax_linear::Hardware;
 use vm_plain::GuestState;
 use vv_base::{Name, object_name};
 use vv_io::{Cut, Line, LineFault, MemLine};

@@ -1,7 +1,7 @@
 -- A guest's turn in the machine is its own.
 use Rattle.std.proofs.Common.{ℕ, ◌≡◌, ◌<◌, ◌≤◌, ◌+◌, List, [], length, slice_index_or, slice_set, sym, ◌∙◌, ap, subst, arith}
 use Rattle.std.specs.List.{sum_by}
-use Rattle.vax_hw.specs.Machine.{Machine}
+use Rattle.vax_linear.specs.Machine.{Machine}
 use Rattle.vm_console.proofs.Kept.{kept_whole}
 use Rattle.vm_console.specs.Kept.{Keeps, MayKeep, empty}
 use Rattle.sys_objects.specs.declared.records.GuestRow.{GuestRow}

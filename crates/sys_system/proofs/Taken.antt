@@ -3,7 +3,7 @@ use Rattle.std.proofs.Common.{ℕ, zero, suc, ◌≡◌, ◌<◌, ◌≤◌, ◌
 use Rattle.std.proofs.lemmas.List.Sums.{sum_by-cons}
 use Rattle.std.specs.Prelude.{All, IfSome, sum}
 use Rattle.std.specs.List.{slice_get, sum_by}
-use Rattle.vax_hw.specs.Machine.{Machine}
+use Rattle.vax_linear.specs.Machine.{Machine}
 use Rattle.vv_io.specs.Lines.{Seen, unseen}
 use Rattle.sys_objects.specs.Condition.{IsTerminal}
 use Rattle.sys_objects.specs.declared.records.Terminal.{Terminal}

@@ -1,7 +1,7 @@
 -- What the code's records stand for.
 use Rattle.std.specs.Prelude.{ℕ, ◌≡◌, ◌≤◌, ◌*◌, List, slice_index_or}
 use Rattle.std.specs.List.{sum_by}
-use Rattle.vax_hw.specs.Machine.{Machine}
+use Rattle.vax_linear.specs.Machine.{Machine}
 use Rattle.sys_objects.specs.declared.records.GuestRow.{GuestRow}
 use Rattle.sys_rounds.specs.Places.{changed}
 use Rattle.sys_rounds.specs.Round.{alone}

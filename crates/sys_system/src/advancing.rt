@@ -2,7 +2,7 @@ ghost use Rattle.std.specs.Prelude.{◌≡◌, ◌≤◌, ◌<◌, ◌*◌, leng
 ghost use Rattle.sys_system.specs.Held.{Advanced, AreInMachine};
 
 use crate::turns::Turn;
-use vax_hw::Hardware;
+use vax_linear::Hardware;
 use vm_console::KeptPort;
 use vm_guest::{Counts, Guest};
 

@@ -8,7 +8,7 @@ ghost use Rattle.sys_system.specs.Shows.{Shows};
 
 use crate::lines::{Marks, dump_at};
 use sys_objects::GuestRow;
-use vax_hw::Hardware;
+use vax_linear::Hardware;
 use vm_guest::Guest;
 use vv_io::Line;
 

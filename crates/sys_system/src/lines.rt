@@ -6,7 +6,7 @@ ghost use Rattle.sys_system.specs.Shows.{Shows, only_on};
 ghost use Rattle.vm_plain.specs.Partition.{guest_of};
 
 use sys_boot::dump;
-use vax_hw::Hardware;
+use vax_linear::Hardware;
 use vm_plain::GuestState;
 use vv_base::Name;
 use vv_io::{Line, LineFault, put_on};

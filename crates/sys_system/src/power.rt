@@ -11,7 +11,7 @@ ghost use Rattle.vm_plain.specs.Start.{start_state};
 use std::alloc::Global;
 use sys_boot::load_image;
 use sys_objects::GuestRow;
-use vax_hw::Hardware;
+use vax_linear::Hardware;
 use vm_guest::Guest;
 use vv_base::NoMemory;
 

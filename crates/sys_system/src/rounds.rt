@@ -5,7 +5,7 @@ ghost use Rattle.sys_system.specs.Held.{slice_of};
 
 use crate::system::System;
 use crate::turns::Turn;
-use vax_hw::Hardware;
+use vax_linear::Hardware;
 use vv_io::Line;
 
 impl System {

@@ -15,7 +15,7 @@ use crate::turns::{Turn, Turns};
 use std::alloc::Global;
 use std::marker::Model;
 use sys_objects::Config;
-use vax_hw::Hardware;
+use vax_linear::Hardware;
 use vm_console::KeptPort;
 use vm_guest::{Counts, Guest};
 use vv_io::Line;

@@ -1,13 +1,13 @@
 -- A run of the machine is as many plain steps of the guest that it has.
 use Rattle.std.proofs.Common.{ℕ, zero, suc, ◌≡◌, ◌<◌, ◌+◌, ◌/◌, ◌%◌, ◌^◌, inl, inr, [], length, refl, sym, ◌∙◌, ap, subst, arith, Result, Option, None, Some, append-nil}
 use Rattle.std.specs.declared.result.Result.TheVariants.{Ok, Err}
-use Rattle.vax_hw.specs.Machine.{Machine}
-use Rattle.vax_hw.specs.Real.{Retired, behind_trap, done, exit_of, exits, going_on, meets, misses_after, one, real}
+use Rattle.vax_linear.specs.Machine.{Machine}
+use Rattle.vax_linear.specs.Real.{Retired, behind_trap, done, exit_of, exits, going_on, meets, misses_after, one, real}
 use Rattle.vax_table.specs.Script.{Absent, Refusing, Past, At, Test, Trouble}
 use Rattle.vax_table.specs.Whole.{Act, Meant, Probes, Traps, probe_of, trap_of}
 use Rattle.vax_table.specs.Whole as whole
-use Rattle.vax_hw.specs.declared.world.Exit.{Exit}
-use Rattle.vax_hw.specs.declared.world.Exit.TheVariants.{Arithmetic, Budget, Emulate}
+use Rattle.vax_linear.specs.declared.world.Exit.{Exit}
+use Rattle.vax_linear.specs.declared.world.Exit.TheVariants.{Arithmetic, Budget, Emulate}
 use Rattle.vm_plain.specs.Guest.{Guest}
 use Rattle.vm_plain.specs.Run.{Run, after_step, after_steps}
 use Rattle.vm_plain.specs.Step.{Plain, step, trapped}

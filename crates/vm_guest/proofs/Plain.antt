@@ -1,10 +1,10 @@
 -- A run of the machine with a guest's registers loaded, as the kernel sees it.
 use Rattle.std.proofs.Common.{ℕ, ◌≡◌, ◌<◌, ◌≤◌, ◌+◌, ◌-◌, ◌*◌, ◌/◌, ◌%◌, ◌^◌, List, [], length, drop, refl, sym, ◌∙◌, ap, subst, arith}
 use Rattle.std.proofs.lemmas.List.{length-drop, length-take-le}
-use Rattle.vax_hw.specs.Machine.{Machine}
-use Rattle.vax_hw.specs.Real.{real}
-use Rattle.vax_hw.specs.declared.world.Exit.{Exit}
-use Rattle.vax_hw.specs.declared.world.World.{World}
+use Rattle.vax_linear.specs.Machine.{Machine}
+use Rattle.vax_linear.specs.Real.{real}
+use Rattle.vax_linear.specs.declared.world.Exit.{Exit}
+use Rattle.vax_linear.specs.declared.world.World.{World}
 use Rattle.vm_plain.specs.Guest.{Guest}
 use Rattle.vm_guest.specs.Kept.{CanRun, run_of, Ended, PlainRun, rise, loaded, Counted}
 use Rattle.vm_plain.specs.Partition.{IsApart, guest_of, part}

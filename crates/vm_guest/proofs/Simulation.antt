@@ -6,10 +6,10 @@ use Rattle.std.specs.Prelude.{if◌then◌else◌, nat_lt, slice_index}
 use Rattle.vax_arch.specs.Fields.{current_of, mode_of}
 use Rattle.vax_arch.specs.declared.mode.Intent.{Intent}
 use Rattle.vax_arch.specs.declared.mode.Intent.TheVariants as intents
-use Rattle.vax_hw.specs.Machine.{Machine, linear, place_in, retire, seen_psl, space_of}
-use Rattle.vax_hw.specs.Real.{Retired, done, exit_of, exits, in_kernel, meets, one}
-use Rattle.vax_hw.specs.declared.world.Exit.{Exit}
-use Rattle.vax_hw.specs.declared.world.Exit.TheVariants.{Emulate, Refused}
+use Rattle.vax_linear.specs.Machine.{Machine, linear, place_in, retire, seen_psl, space_of}
+use Rattle.vax_linear.specs.Real.{Retired, done, exit_of, exits, in_kernel, meets, one}
+use Rattle.vax_linear.specs.declared.world.Exit.{Exit}
+use Rattle.vax_linear.specs.declared.world.Exit.TheVariants.{Emulate, Refused}
 use Rattle.vax_table.specs.Effects.{Effect}
 use Rattle.vax_table.specs.Script.{Cause, Past, Refusing, Script, Trouble, At, Test, outcome, Below, AsFar, IsIn}
 use Rattle.vax_table.specs.Stores.{all_stored}

@@ -1,12 +1,12 @@
 -- Turns one after another are one.
 use Rattle.std.proofs.Common.{ℕ, zero, suc, ◌≡◌, ◌≢◌, inl, inr, ◌<◌, ◌≤◌, ◌+◌, ◌-◌, ◌*◌, ◌%◌, ◌^◌, List, [], ◌++◌, length, slice_index, refl, sym, ◌∙◌, ap, subst, arith, append_assoc, append-nil}
-use Rattle.vax_hw.specs.Machine.{Machine}
+use Rattle.vax_linear.specs.Machine.{Machine}
 use Rattle.std.specs.declared.option.Option.{Option}
 use Rattle.std.specs.declared.option.Option.TheVariants.{None, Some}
 use Rattle.std.specs.declared.result.Result.TheVariants.{Err}
-use Rattle.vax_hw.specs.Real.{one}
-use Rattle.vax_hw.specs.declared.world.Exit.TheVariants.{Arithmetic}
-use Rattle.vax_hw.specs.declared.world.Exit.{Exit}
+use Rattle.vax_linear.specs.Real.{one}
+use Rattle.vax_linear.specs.declared.world.Exit.TheVariants.{Arithmetic}
+use Rattle.vax_linear.specs.declared.world.Exit.{Exit}
 use Rattle.vm_plain.specs.Guest.{Guest}
 use Rattle.vm_guest.specs.Kept.{run_of, steps_in, tally_of, AreSame, CanRun, Ended, PlainRun, TakesStep}
 use Rattle.vm_plain.specs.Partition.{IsApart, guest_of}

@@ -1,7 +1,7 @@
 -- The step of a guest that an exit of the machine stands for.
 use Rattle.std.specs.Prelude.{◌++◌, slice_index}
-use Rattle.vax_hw.specs.declared.world.Exit.{Exit}
-use Rattle.vax_hw.specs.declared.world.Exit.TheVariants.{Budget, NotValid, Denied, Modify, Emulate, Arithmetic, Refused}
+use Rattle.vax_linear.specs.declared.world.Exit.{Exit}
+use Rattle.vax_linear.specs.declared.world.Exit.TheVariants.{Budget, NotValid, Denied, Modify, Emulate, Arithmetic, Refused}
 use Rattle.vm_plain.specs.Guest.{Guest}
 use Rattle.vm_plain.specs.Run.{Run}
 use Rattle.vm_plain.specs.Step.{Stepped, Stopped, Fault, stopped, sensitive, faulted, rested}

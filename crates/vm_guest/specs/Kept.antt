@@ -1,10 +1,10 @@
 -- The guest that the kernel's record and the machine's memory stand for.
 use Rattle.std.specs.Prelude.{ℕ, ◌≡◌, ◌≤◌, ◌<◌, ◌⊎◌, ◌+◌, ◌-◌, ◌*◌, ◌%◌, ◌^◌, List, ◌++◌, length, None, Err}
-use Rattle.vax_hw.specs.Machine.{Machine}
-use Rattle.vax_hw.specs.Real.{one}
-use Rattle.vax_hw.specs.declared.world.Exit.{Exit}
-use Rattle.vax_hw.specs.declared.world.Exit.TheVariants.{Arithmetic, Budget}
-use Rattle.vax_hw.specs.declared.world.World.{World}
+use Rattle.vax_linear.specs.Machine.{Machine}
+use Rattle.vax_linear.specs.Real.{one}
+use Rattle.vax_linear.specs.declared.world.Exit.{Exit}
+use Rattle.vax_linear.specs.declared.world.Exit.TheVariants.{Arithmetic, Budget}
+use Rattle.vax_linear.specs.declared.world.World.{World}
 use Rattle.vm_guest.specs.Exits.{ended}
 use Rattle.vm_guest.specs.StandsFor.{StandsFor}
 use Rattle.vm_plain.specs.Partition.{IsApart, guest_of}

@@ -1,6 +1,6 @@
 -- What a machine has of a guest.
 use Rattle.std.specs.Prelude.{◌≡◌, ◌*◌, length, None}
-use Rattle.vax_hw.specs.Machine.{Machine, seen_psl}
+use Rattle.vax_linear.specs.Machine.{Machine, seen_psl}
 use Rattle.vm_plain.specs.Guest.{Guest}
 use Rattle.vm_plain.specs.Partition.{part}
 

@@ -1,6 +1,6 @@
 -- How a guest goes on: what its port is shown, and how its steps, its counts and the machine's agree.
 use Rattle.std.specs.Prelude.{ℕ, ◌≡◌, ◌≤◌, ◌+◌, ◌*◌, ◌%◌, ◌^◌, List, ◌++◌}
-use Rattle.vax_hw.specs.Machine.{Machine}
+use Rattle.vax_linear.specs.Machine.{Machine}
 use Rattle.vm_console.specs.Appends.{Appends}
 use Rattle.vm_guest.specs.Kept.{AreSame, run_of, steps_in}
 use Rattle.vm_plain.specs.Partition.{IsApart}

@@ -6,7 +6,7 @@ ghost use Rattle.vm_plain.specs.Start.{restarted, start_state};
 use crate::Counts;
 use crate::kernel::advance_state;
 use std::marker::Model;
-use vax_hw::Hardware;
+use vax_linear::Hardware;
 use vm_console::Port;
 use vm_plain::GuestState;
 

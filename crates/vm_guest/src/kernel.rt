@@ -1,11 +1,11 @@
 ghost use Rattle.std.specs.Prelude.{◌≡◌, ◌<◌, ◌≤◌, ◌+◌, ◌*◌, ◌/◌, ◌%◌, ◌^◌, ℕ, length, None, MatchBool};
-ghost use Rattle.vax_hw.specs.Real.{real};
+ghost use Rattle.vax_linear.specs.Real.{real};
 ghost use Rattle.vm_guest.specs.Kept.{CanRun, world_of, steps_in, PlainRun, rise, loaded, Counted};
 ghost use Rattle.vm_guest.specs.Turn.{Advances, Turn};
 
 use crate::Counts;
 use crate::meet::{meet, stop_behind_trap};
-use vax_hw::{Exit, Hardware, Psl, World};
+use vax_linear::{Exit, Hardware, Psl, World};
 use vm_console::{Port, show_all};
 use vm_plain::GuestState;
 

@@ -6,7 +6,7 @@ ghost use Rattle.vm_plain.specs.Step.{sensitive, showed, stop_text};
 
 use crate::Counts;
 use vax_alu::{AluOp, alu};
-use vax_hw::{Exit, Psl, Sens, Trapped};
+use vax_linear::{Exit, Psl, Sens, Trapped};
 use vm_plain::GuestState;
 use vv_base::{Text, Width, hex};
 

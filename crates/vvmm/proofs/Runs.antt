@@ -1,7 +1,7 @@
 -- The run of the guest A.
 use Rattle.std.proofs.Common.{ℕ, zero, suc, ◌≡◌, ◌<◌, ◌+◌, ◌%◌, ◌^◌, List, [], ◌∷◌, ◌++◌, codes, replicate, slice_index_or, refl, sym, ◌∙◌, ap, subst, arith, append-nil, Bool, false, if◌then◌else◌, ◌==◌, Some}
 use Rattle.std.proofs.lemmas.Bool.{ne_eqb}
-use Rattle.vax_hw.specs.Machine.{Machine}
+use Rattle.vax_linear.specs.Machine.{Machine}
 use Rattle.vv_io.specs.Lines.{Seen, unseen}
 use Rattle.sys_boot.specs.Dump.{dump_of}
 use Rattle.sys_objects.specs.declared.records.Config.{Config}

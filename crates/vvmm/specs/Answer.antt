@@ -4,7 +4,7 @@ use Rattle.vv_io.specs.Blocks.{Kept}
 use Rattle.vv_io.specs.Causes.{Rose}
 use Rattle.vv_io.specs.Lines.{Seen}
 use Rattle.vv_io.specs.Shelf.{File, held, file_limit}
-use Rattle.vax_hw.specs.Machine.{Machine}
+use Rattle.vax_linear.specs.Machine.{Machine}
 use Rattle.sys_boot.specs.Showing.{Showing}
 use Rattle.sys_rounds.specs.Places.{place_of}
 use Rattle.sys_rounds.specs.Round.{line_bytes}

@@ -26,7 +26,7 @@ use std::process::ExitCode;
 use std::{env, io};
 pub use sys_system::Device;
 pub use top::vvmm_run;
-use vax_cpu::Cpu;
+use vax_linear_cpu::Cpu;
 use vv_base::NoMemory;
 use vv_io::{Drive, EmptyDrive, Line};
 

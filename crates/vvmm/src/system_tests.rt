@@ -11,7 +11,7 @@ use std::test::Fail;
 use sys_config::read_config;
 use sys_objects::{Config, GuestRow};
 use sys_system::{PowerFault, System, Turn};
-use vax_hw::Hardware;
+use vax_linear::Hardware;
 use vm_guest::Counts;
 use vv_io::{Cut, MemLine};
 

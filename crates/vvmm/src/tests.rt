@@ -2,7 +2,7 @@ use super::*;
 use std::alloc::Global;
 use std::process::Abort;
 use std::test::Fail;
-use vax_hw::Hardware;
+use vax_linear::Hardware;
 use vv_base::{FileName, file_name};
 use vv_io::{Cut, MemLine, MemShelf};
 

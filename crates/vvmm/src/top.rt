@@ -12,7 +12,7 @@ use crate::status::Status;
 use crate::words::{Order, parse};
 use std::alloc::Global;
 use sys_system::{PowerFault, System};
-use vax_hw::Hardware;
+use vax_linear::Hardware;
 use vv_io::{Drive, Line, Shelf, ShelfFault, Sink, SinkFault};
 
 /// Puts bytes once.

@@ -2,7 +2,7 @@
 
 use super::*;
 use std::test::Fail;
-use vax_hw::{Exit, Hardware, World};
+use vax_linear::{Exit, Hardware, World};
 use vv_base::{FileName, file_name};
 use vv_io::{MemLine, MemShelf};
 

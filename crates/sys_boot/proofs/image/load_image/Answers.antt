@@ -1,5 +1,5 @@
 use Rattle.std.proofs.Common.{arith, ap, ◌*◌, ◌∙◌, List, ℕ}
-use Rattle.vax_hw.specs.Machine.{Machine}
+use Rattle.vax_linear.specs.Machine.{Machine}
 use Rattle.sys_boot.proofs.Images.{next_long, all_long}
 use Rattle.sys_boot.proofs.image.load_image.Goals as goal
 

@@ -1,0 +1,12 @@
+//! The machine's interface, and what the real machine does.
+#![tactic(auto)]
+
+mod hardware;
+mod laws;
+mod world;
+
+pub use hardware::Hardware;
+pub use laws::movpsl_shows_the_real_status_word;
+pub use vax_arch::{Mode, Psl};
+pub use vax_table::{Dest, Refusal, Sens, Trapped};
+pub use world::{Exit, World};

@@ -1,0 +1,256 @@
+ghost use Rattle.std.specs.Prelude.{◌≡◌, ◌+◌, ◌*◌, ◌≤◌, ◌<◌, ◌/◌, ◌%◌, ◌^◌, ℕ, length, slice_index, slice_set, IfOk, MatchResult, Ok, Err};
+ghost use Rattle.vv_base.specs.Bytes.{long_at};
+ghost use Rattle.vv_base.specs.Width.{size_of};
+ghost use Rattle.vax_linear.specs.Machine.{Machine, retire, seen_psl, space_of, with_effect, zeros};
+ghost use Rattle.vax_linear.specs.Real.{exits, in_kernel, one, real};
+ghost use Rattle.vax_table.specs.Effects.{effect};
+ghost use Rattle.vax_table.specs.Script.{outcome};
+ghost use Rattle.vax_table.specs.Stores.{all_stored, bytes_stored};
+ghost use Rattle.vax_table.specs.Trail.{term};
+ghost use Rattle.vax_table.specs.Whole.{instruction};
+ghost use Rattle.vax_linear_cpu.specs.Fetched.{found};
+
+use crate::perform::{Act, carry_out, probe_of, trap_of};
+use crate::space::{Linear, size};
+use std::alloc::Global;
+use std::marker::Model;
+use vax_exec::{Plan, Store};
+use vax_linear::{Exit, Hardware, Mode, Psl, World};
+use vv_base::{NoMemory, get_u32, put_u32};
+
+/// The machine of the program: so many pages of memory of 512 bytes.
+#[derive(Drop)]
+pub struct Cpu {
+    memory: Vec<u8>,
+    pages: u32,
+    world: World,
+    retired: u64,
+    trail: u64,
+    misses: u64,
+}
+
+impl Model for Cpu {
+    ghost use Rattle.std.specs.Prelude.{◌≡◌, ◌≤◌, ◌*◌, length};
+    ghost use Rattle.vax_linear.specs.Machine.{Machine};
+
+    ghost Value = { Machine };
+
+    ghost view = { λ m. record { memory = m.memory.items; world = m.world; retired = m.retired; trail = m.trail; misses = m.misses } };
+
+    ghost invariant = { λ m. (length m.memory.items ≡ 512 * m.pages) × (1 ≤ m.pages) × (m.pages ≤ 65536) };
+}
+
+/// What an instruction adds to the trail.
+fn term(pc: u32, opcode: u8, r: &[u32; 16]) -> u64
+    ensures { result ≡ term pc opcode r.now }
+{
+    let mut sum = u64::from(pc) + 3 * u64::from(opcode);
+    for register in &r[..15] {
+        sum += u64::from(*register);
+    }
+    sum
+}
+
+fn with_effect(w: &World, plan: &Plan) -> World
+    ensures { result ≡ with_effect w.now (effect plan.now) }
+{
+    let mut world = *w;
+    let r = plan.r;
+    let psw = plan.psw;
+    world.r = r;
+    world.psl = Psl(w.psl.0 / 256 * 256 + u32::from(psw));
+    world
+}
+
+/// The PSL that MOVPSL stores: VMPSL's upper bytes over the real status word.
+fn seen_psl(w: &World) -> Psl
+    ensures { result.0 ≡ seen_psl w.now }
+{
+    Psl(w.vmpsl.0 / 0x100 * 0x100 + w.psl.0 % 0x100)
+}
+
+/// Stores a byte in a memory, if it has a place for it.
+fn store_byte(memory: &mut [u8], at: usize, byte: u8)
+    ensures { memory.new ≡ slice_set memory.old at byte }
+{
+    if at < memory.len() {
+        memory[at] = byte;
+    }
+}
+
+/// Makes one store, byte by byte; what has no place is lost.
+fn store(memory: &mut [u8], base: u32, store: &Store)
+    ensures { memory.new ≡ bytes_stored (λ va. base + va) (size_of store.now.width) store.now.va store.now.value memory.old }
+{
+    let mut va = store.va;
+    let mut rest = store.value;
+    for _left in (0..size(store.width)).rev() {
+        store_byte(memory, base as usize + va as usize, (rest % 256) as u8);
+        va = va.wrapping_add(1);
+        rest /= 256;
+    }
+}
+
+/// Makes stores in order.
+fn store_all(memory: &mut [u8], base: u32, stores: &[Store])
+    ensures { memory.new ≡ all_stored (λ va. base + va) stores.now memory.old }
+{
+    if let [first, rest @ ..] = stores {
+        store(memory, base, first);
+        store_all(memory, base, rest);
+    }
+}
+
+/// The longword at a place of a memory, which is a list of bytes.
+fn long_in(memory: &[u8], at: usize) -> u32
+    requires { at + 4 ≤ length memory.now }
+    ensures value { result ≡ long_at memory.now at }
+    ensures bytes { (i : ℕ) → slice_index memory.now i < 256 }
+{
+    get_u32(memory, at)
+}
+
+/// An instruction that was found, with its opcode.
+struct Found {
+    opcode: u8,
+    act: Act,
+}
+
+/// A world of zeros.
+fn no_world() -> World {
+    World {
+        r: [0; 16],
+        psl: Psl(0),
+        vmpsl: Psl(0),
+        p0br: 0,
+        p0lr: 0,
+        p1br: 0,
+        p1lr: 0,
+        sbr: 0,
+        slr: 0,
+    }
+}
+
+impl Cpu {
+    /// A machine of 1 to 65,536 pages of zeros, whose counts are 0.
+    #[tactic(auto, unfolding(vax_linear::specs::Machine::zeros))]
+    pub fn new(alloc: Global, pages: u32) -> Result<Cpu, NoMemory>
+        requires some { 1 ≤ pages }
+        requires most { pages ≤ 65536 }
+        ensures size { IfOk result (λ m. length m.memory ≡ 512 * pages) }
+        ensures memory { IfOk result (λ m. m.memory ≡ zeros (512 * pages)) }
+        ensures counts { IfOk result (λ m. (m.retired ≡ 0) × (m.trail ≡ 0) × (m.misses ≡ 0)) }
+    {
+        Ok(Cpu {
+            memory: vec![in alloc; 0; 512 * pages as usize]?,
+            pages,
+            world: no_world(),
+            retired: 0,
+            trail: 0,
+            misses: 0,
+        })
+    }
+
+    /// The instruction at PC, and what it comes to.
+    #[tactic(auto, unfolding(vax_table::specs::Whole::instruction), using(vax_table::proofs::Scripts::binds))]
+    fn find(&self) -> Result<Found, Exit>
+        ensures { found result ≡ exits (outcome (space_of self.now) (instruction (in_kernel self.now.world) (seen_psl self.now.world) self.now.world.r)) }
+    {
+        let pc = self.world.r[15];
+        let space = Linear {
+            memory: &self.memory,
+            p0br: self.world.p0br,
+            p0lr: self.world.p0lr,
+        };
+        let decoded = space.fetch(pc)?;
+        let is_kernel = self.world.vmpsl.current() == Mode::Kernel;
+        let psl = seen_psl(&self.world);
+        let act = carry_out(&space, is_kernel, &decoded, &self.world.r, psl)?;
+        Ok(Found {
+            opcode: decoded.opcode,
+            act,
+        })
+    }
+
+    /// The machine after an instruction that retired.
+    #[tactic(auto, unfolding(vax_linear::specs::Machine::retire))]
+    fn retire(&mut self, opcode: u8, plan: &Plan)
+        ensures { self.new ≡ retire opcode (effect plan.now) self.old }
+    {
+        let pc = self.world.r[15];
+        self.trail = self.trail.wrapping_add(term(pc, opcode, &plan.r));
+        self.retired = self.retired.wrapping_add(1);
+        store_all(&mut self.memory, self.world.p0br, plan.writes.as_slice());
+        self.world = with_effect(&self.world, plan);
+    }
+
+    /// One instruction, and its arithmetic trap; where it doesn't retire, nothing changes.
+    #[tactic(auto, unfolding(vax_linear::specs::Real::one))]
+    fn step(&mut self) -> Result<Option<u8>, Exit>
+        ensures { MatchResult result (λ trap. one self.old ≡ Ok (record { machine = self.new; trap = trap })) (λ e. (one self.old ≡ Err e) × (self.new ≡ self.old)) }
+    {
+        let Found { opcode, act } = self.find()?;
+        match act {
+            Act::Plain(plan) => {
+                self.retire(opcode, &plan);
+                Ok(plan.trap)
+            }
+            Act::Traps(trapped) => Err(Exit::Emulate(trapped)),
+            Act::Probes(intent, o) => Err(Exit::Emulate(trap_of(probe_of(intent), &o))),
+        }
+    }
+}
+
+impl Hardware for Cpu {
+    ghost machine = { λ m. m };
+
+    fn pages(&self) -> u32 {
+        self.pages
+    }
+
+    fn retired(&self) -> u64 {
+        self.retired
+    }
+
+    fn trail(&self) -> u64 {
+        self.trail
+    }
+
+    fn misses(&self) -> u64 {
+        self.misses
+    }
+
+    fn read_long(&self, pa: u32) -> u32 {
+        long_in(&self.memory, pa as usize)
+    }
+
+    fn write_long(&mut self, pa: u32, v: u32) {
+        put_u32(&mut self.memory, pa as usize, v);
+    }
+
+    fn load_world(&mut self, w: &World) {
+        self.world = *w;
+    }
+
+    fn save_world(&self) -> World {
+        self.world
+    }
+
+    fn run(&mut self, budget: u32) -> Exit {
+        for _left in (0..budget).rev() {
+            match self.step() {
+                Ok(None) => {}
+                Ok(Some(kind)) => {
+                    return Exit::Arithmetic { kind };
+                }
+                Err(exit) => {
+                    if let Exit::NotValid { .. } = exit {
+                        self.misses = self.misses.wrapping_add(1);
+                    }
+                    return exit;
+                }
+            }
+        }
+        Exit::Budget
+    }
+}
