@@ -5,7 +5,7 @@ use Rattle.vax_linear.specs.Machine.{Machine}
 use Rattle.vm_console.proofs.Kept.{kept_whole}
 use Rattle.vm_console.specs.Kept.{Keeps, MayKeep, empty}
 use Rattle.sys_objects.specs.declared.records.GuestRow.{GuestRow}
-use Rattle.sys_rounds.specs.Round.{alone}
+use Rattle.sys_plain_rounds.specs.Round.{alone}
 use Rattle.sys_system.proofs.LaidOut.{others_stay, placed_set, placed_within}
 use Rattle.sys_system.specs.Held.{Advanced, AreInMachine}
 use Rattle.sys_system.specs.declared.turns.Turn.{Turn}

@@ -12,9 +12,9 @@ use Rattle.sys_objects.specs.declared.records.Config.{Config}
 use Rattle.sys_objects.specs.declared.records.GuestRow.{GuestRow}
 use Rattle.sys_objects.specs.declared.records.PrinterRow.{PrinterRow}
 use Rattle.sys_objects.specs.declared.records.Terminal.{Terminal}
-use Rattle.sys_rounds.proofs.Places.{both}
-use Rattle.sys_rounds.specs.Places.{is_at}
-use Rattle.sys_rounds.specs.Round.{dump_on}
+use Rattle.sys_plain_rounds.proofs.Places.{both}
+use Rattle.sys_plain_rounds.specs.Places.{is_at}
+use Rattle.sys_plain_rounds.specs.Round.{dump_on}
 use Rattle.sys_system.proofs.Places.{from_place}
 use Rattle.sys_system.proofs.LaidOut.{guests_more}
 use Rattle.sys_system.proofs.Showings.{shows_then}

@@ -7,7 +7,7 @@ use Rattle.sys_objects.specs.Condition.{IsConfig, IsGuest}
 use Rattle.sys_objects.specs.declared.records.Config.{Config}
 use Rattle.sys_objects.specs.declared.records.GuestRow.{GuestRow}
 use Rattle.sys_objects.specs.declared.records.Terminal.{Terminal}
-use Rattle.sys_rounds.specs.Round.{connections}
+use Rattle.sys_plain_rounds.specs.Round.{connections}
 use Rattle.sys_system.specs.Kernel.{IsKernel, Kernel, Turns, all_turns}
 use Rattle.sys_system.specs.Layout.{AreLaidOut}
 use Rattle.vm_guest.specs.Kept.{steps_in}

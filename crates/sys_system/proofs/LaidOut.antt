@@ -5,7 +5,7 @@ use Rattle.std.proofs.lemmas.List.{drop-take, length-take-le, map-append}
 use Rattle.std.proofs.lemmas.List.Sums.{sum_by-cons}
 use Rattle.std.specs.List.{sum_by}
 use Rattle.sys_objects.specs.declared.records.GuestRow.{GuestRow}
-use Rattle.sys_rounds.specs.Places.{beside_with, changed}
+use Rattle.sys_plain_rounds.specs.Places.{beside_with, changed}
 use Rattle.sys_system.specs.Layout.{ArePlaced, IsPlaced, guests_in}
 use Rattle.vm_guest.specs.Kept.{AreSame}
 use Rattle.vm_guest.specs.Placed.{Placed}

@@ -2,8 +2,8 @@
 use Rattle.std.proofs.Common.{ℕ, zero, suc, ◌≡◌, ◌<◌, ◌+◌, List, [], ◌∷◌, ◌++◌, length, drop, slice_index_or, refl, sym, ◌∙◌, ap, arith, Bool, true, false, if◌then◌else◌, Option, Some, None, option_map, add-one, drop-cons, append_assoc, Bool}
 use Rattle.sys_objects.specs.declared.records.GuestRow.{GuestRow}
 use Rattle.sys_objects.specs.declared.records.Terminal.{Terminal}
-use Rattle.sys_rounds.specs.Places.{is_at, place_of}
-use Rattle.sys_rounds.specs.Round.{connections, console_of}
+use Rattle.sys_plain_rounds.specs.Places.{is_at, place_of}
+use Rattle.sys_plain_rounds.specs.Round.{connections, console_of}
 
 -- what begins at a place
 pub from_place : {X : Type 0} (xs : List X) (k : ℕ) (x : X) → k < length xs → x ≡ slice_index_or xs k x → drop k xs ≡ x ∷ drop (k + 1) xs

@@ -11,15 +11,15 @@ use Rattle.vv_io.specs.Lines.{Seen}
 use Rattle.sys_objects.specs.Condition.{IsConfig}
 use Rattle.sys_objects.specs.declared.records.GuestRow.{GuestRow}
 use Rattle.sys_objects.specs.declared.records.Terminal.{Terminal}
-use Rattle.sys_rounds.proofs.Consoles.{bytes_append}
-use Rattle.sys_rounds.proofs.Places.{both}
-use Rattle.sys_rounds.proofs.Schedules.{any_schedule}
-use Rattle.sys_rounds.proofs.Steps.{as_sum}
-use Rattle.sys_rounds.proofs.Sums.{same_counts}
-use Rattle.sys_rounds.specs.Counts.{added, round_tally, slices_tally, tally_by}
-use Rattle.sys_rounds.specs.Places.{changed}
-use Rattle.sys_rounds.specs.Round.{Put, alone, bytes_on}
-use Rattle.sys_rounds.specs.Slices.{AreQuanta, Slice, sliced, slices, total}
+use Rattle.sys_plain_rounds.proofs.Consoles.{bytes_append}
+use Rattle.sys_plain_rounds.proofs.Places.{both}
+use Rattle.sys_plain_rounds.proofs.Schedules.{any_schedule}
+use Rattle.sys_plain_rounds.proofs.Steps.{as_sum}
+use Rattle.sys_plain_rounds.proofs.Sums.{same_counts}
+use Rattle.sys_plain_rounds.specs.Counts.{added, round_tally, slices_tally, tally_by}
+use Rattle.sys_plain_rounds.specs.Places.{changed}
+use Rattle.sys_plain_rounds.specs.Round.{Put, alone, bytes_on}
+use Rattle.sys_plain_rounds.specs.Slices.{AreQuanta, Slice, sliced, slices, total}
 use Rattle.sys_system.proofs.Showings.{shows_none, shows_then}
 use Rattle.sys_system.proofs.LaidOut.{placed_long}
 use Rattle.sys_system.proofs.Taken.{falls, same_some, shows_same}

@@ -8,8 +8,8 @@ use Rattle.vv_base.specs.Bytes.{overwritten}
 use Rattle.sys_boot.proofs.Images.{opening_length}
 use Rattle.sys_objects.specs.declared.records.GuestRow.{GuestRow}
 use Rattle.std.proofs.lemmas.Bool.Decides.{nat_tests}
-use Rattle.sys_rounds.specs.Places.{beside_with, place_of}
-use Rattle.sys_rounds.specs.Round.{powered}
+use Rattle.sys_plain_rounds.specs.Places.{beside_with, place_of}
+use Rattle.sys_plain_rounds.specs.Round.{powered}
 use Rattle.sys_system.proofs.Places.{found_here, found_later, from_on}
 use Rattle.sys_system.proofs.LaidOut.{all_stay, beside_more, guests_more, overwritten_apart, part_overwritten, placed_more}
 use Rattle.sys_system.specs.Calls.{first_misfit, is_misfit}

@@ -1,7 +1,7 @@
 -- What lines are shown, one showing after another.
 use Rattle.std.proofs.Common.{ℕ, ◌≡◌, ◌<◌, List, [], ◌∷◌, ◌++◌, length, slice_index_or, slice_set, refl, sym, ◌∙◌, ap, subst, Bool, true, false, true≢false, if◌then◌else◌, ◌==◌, Option, Some}
 use Rattle.sys_boot.specs.Showing.{IsShowing}
-use Rattle.sys_rounds.proofs.Places.{both}
+use Rattle.sys_plain_rounds.proofs.Places.{both}
 use Rattle.std.proofs.lemmas.Bool.{eq-eqb, eqb-true}
 use Rattle.std.proofs.lemmas.List.{get_or-set_same, get_or-set_other}
 use Rattle.sys_boot.specs.Dump.{dump_of}

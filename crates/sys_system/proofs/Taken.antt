@@ -7,11 +7,11 @@ use Rattle.vax_linear.specs.Machine.{Machine}
 use Rattle.vv_io.specs.Lines.{Seen, unseen}
 use Rattle.sys_objects.specs.Condition.{IsTerminal}
 use Rattle.sys_objects.specs.declared.records.Terminal.{Terminal}
-use Rattle.sys_rounds.proofs.Consoles.{bytes_of_console}
-use Rattle.sys_rounds.specs.Counts.{added, tally_by}
-use Rattle.sys_rounds.specs.Places.{changed, is_at}
-use Rattle.sys_rounds.specs.Round.{alone, bytes_on, console_of}
-use Rattle.sys_rounds.specs.Slices.{shown_by}
+use Rattle.sys_plain_rounds.proofs.Consoles.{bytes_of_console}
+use Rattle.sys_plain_rounds.specs.Counts.{added, tally_by}
+use Rattle.sys_plain_rounds.specs.Places.{changed, is_at}
+use Rattle.sys_plain_rounds.specs.Round.{alone, bytes_on, console_of}
+use Rattle.sys_plain_rounds.specs.Slices.{shown_by}
 use Rattle.sys_system.proofs.LaidOut.{placed_long}
 use Rattle.sys_system.specs.Calls.{CanTake, Retires, TakesSlice}
 use Rattle.sys_system.specs.Held.{Advanced, AreInMachine, slice_of}

@@ -7,10 +7,10 @@ use Rattle.vax_linear.specs.Machine.{Machine}
 use Rattle.vv_io.specs.Lines.{Seen}
 use Rattle.sys_objects.specs.declared.records.Config.{Config}
 use Rattle.sys_objects.specs.declared.records.GuestRow.{GuestRow}
-use Rattle.sys_rounds.specs.Counts.{added, round_tally, slices_tally, tally_by}
-use Rattle.sys_rounds.specs.Places.{beside_with, place_of}
-use Rattle.sys_rounds.specs.Round.{bytes_on, connections, dump_on, first_state, round}
-use Rattle.sys_rounds.specs.Slices.{Slice, sliced, slices, total}
+use Rattle.sys_plain_rounds.specs.Counts.{added, round_tally, slices_tally, tally_by}
+use Rattle.sys_plain_rounds.specs.Places.{beside_with, place_of}
+use Rattle.sys_plain_rounds.specs.Round.{bytes_on, connections, dump_on, first_state, round}
+use Rattle.sys_plain_rounds.specs.Slices.{Slice, sliced, slices, total}
 use Rattle.sys_system.specs.Kernel.{Kernel, after_slice, state_of}
 use Rattle.sys_system.specs.Layout.{AreLaidOut, guests_in}
 use Rattle.sys_system.specs.Shows.{Shows}

@@ -3,9 +3,9 @@ use Rattle.std.specs.Prelude.{ℕ, ◌≡◌, ◌≤◌, ◌*◌, List, slice_in
 use Rattle.std.specs.List.{sum_by}
 use Rattle.vax_linear.specs.Machine.{Machine}
 use Rattle.sys_objects.specs.declared.records.GuestRow.{GuestRow}
-use Rattle.sys_rounds.specs.Places.{changed}
-use Rattle.sys_rounds.specs.Round.{alone}
-use Rattle.sys_rounds.specs.Slices.{Slice}
+use Rattle.sys_plain_rounds.specs.Places.{changed}
+use Rattle.sys_plain_rounds.specs.Round.{alone}
+use Rattle.sys_plain_rounds.specs.Slices.{Slice}
 use Rattle.sys_system.specs.Calls.{Retires}
 use Rattle.sys_system.specs.Kernel as kernel
 use Rattle.sys_system.specs.Layout.{AreLaidOut, guests_in}

@@ -3,9 +3,9 @@ use Rattle.std.specs.Prelude.{ℕ, ◌≡◌, ◌≤◌, ◌+◌, ◌*◌, ◌-�
 use Rattle.sys_objects.specs.Condition.{IsConfig}
 use Rattle.sys_objects.specs.declared.records.Config.{Config}
 use Rattle.sys_objects.specs.declared.records.GuestRow.{GuestRow}
-use Rattle.sys_rounds.specs.Places.{changed}
-use Rattle.sys_rounds.specs.Round.{State}
-use Rattle.sys_rounds.specs.Slices.{Slice}
+use Rattle.sys_plain_rounds.specs.Places.{changed}
+use Rattle.sys_plain_rounds.specs.Round.{State}
+use Rattle.sys_plain_rounds.specs.Slices.{Slice}
 use Rattle.sys_system.specs.Layout.{AreLaidOut, guests_in}
 use Rattle.vm_guest.specs.Kept.{steps_in}
 use Rattle.vm_guest.specs.Placed.{Placed}

@@ -1,7 +1,7 @@
 ghost use Rattle.std.specs.Prelude.{◌≡◌, ◌≤◌, ◌<◌, IfOk, IfSome, length, All};
 ghost use Rattle.sys_objects.specs.Condition.{IsTerminal};
-ghost use Rattle.sys_rounds.specs.Places.{is_at, place_of};
-ghost use Rattle.sys_rounds.specs.Round.{connections, console_of};
+ghost use Rattle.sys_plain_rounds.specs.Places.{is_at, place_of};
+ghost use Rattle.sys_plain_rounds.specs.Round.{connections, console_of};
 
 use std::alloc::Global;
 use sys_objects::{GuestRow, Terminal};

@@ -1,7 +1,7 @@
 ghost use Rattle.std.specs.Prelude.{◌≡◌, ◌≢◌, ◌*◌, filter_map, length, map, vec_len, All};
 ghost use Rattle.std.specs.List.{AllPairs};
 ghost use Rattle.sys_objects.specs.Condition.{IsGuest};
-ghost use Rattle.sys_rounds.specs.Round.{dump_on};
+ghost use Rattle.sys_plain_rounds.specs.Round.{dump_on};
 ghost use Rattle.sys_system.specs.Held.{AreInMachine};
 ghost use Rattle.sys_system.specs.Layout.{guests_in};
 ghost use Rattle.sys_system.specs.Shows.{Shows};

@@ -1,7 +1,7 @@
 ghost use Rattle.std.specs.Prelude.{◌≡◌, ◌<◌, ◌≤◌, ◌+◌, ◌*◌, length, map, vec_len, is_err, IfSome};
 ghost use Rattle.sys_boot.specs.Dump.{dump_of};
 ghost use Rattle.sys_boot.specs.Showing.{IsShowing};
-ghost use Rattle.sys_rounds.specs.Places.{place_of};
+ghost use Rattle.sys_plain_rounds.specs.Places.{place_of};
 ghost use Rattle.sys_system.specs.Shows.{Shows, only_on};
 ghost use Rattle.vm_plain.specs.Partition.{guest_of};
 

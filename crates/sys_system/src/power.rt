@@ -1,8 +1,8 @@
 ghost use Rattle.std.specs.Prelude.{◌≡◌, ◌≤◌, ◌<◌, ◌+◌, ◌*◌, ◌^◌, All, IfOk, if◌then◌else◌, length, map};
 ghost use Rattle.std.specs.List.{sum_by};
 ghost use Rattle.sys_objects.specs.Condition.{IsGuest};
-ghost use Rattle.sys_rounds.specs.Places.{beside_with};
-ghost use Rattle.sys_rounds.specs.Round.{powered};
+ghost use Rattle.sys_plain_rounds.specs.Places.{beside_with};
+ghost use Rattle.sys_plain_rounds.specs.Round.{powered};
 ghost use Rattle.sys_system.specs.Calls.{CountsStay, first_misfit, is_misfit};
 ghost use Rattle.sys_system.specs.Layout.{AreLaidOut, IsPlaced, guests_in};
 ghost use Rattle.vm_plain.specs.Partition.{IsApart, guest_of};

@@ -1,5 +1,5 @@
 ghost use Rattle.std.specs.Prelude.{◌≡◌, ◌<◌, ◌*◌, All, false, length, map, vec_len};
-ghost use Rattle.sys_rounds.specs.Slices.{AreQuanta};
+ghost use Rattle.sys_plain_rounds.specs.Slices.{AreQuanta};
 ghost use Rattle.sys_system.specs.Calls.{MakesRound};
 ghost use Rattle.sys_system.specs.Held.{slice_of};
 

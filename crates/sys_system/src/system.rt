@@ -1,6 +1,6 @@
 ghost use Rattle.std.specs.Prelude.{◌≡◌, ◌<◌, ◌*◌, true, false, length, map, option_map, vec_len};
 ghost use Rattle.sys_objects.specs.Condition.{IsConfig};
-ghost use Rattle.sys_rounds.specs.Places.{place_of};
+ghost use Rattle.sys_plain_rounds.specs.Places.{place_of};
 ghost use Rattle.sys_system.specs.Calls.{CanTake, Powers, ShowsDumps, TakesSlice};
 ghost use Rattle.sys_system.specs.Held.{slice_of};
 ghost use Rattle.sys_system.specs.Kernel.{IsKernel, NoneLeft, begun, ended, next_turn};

@@ -4,8 +4,8 @@ use Rattle.vv_io.specs.Causes.{Rose}
 use Rattle.vv_io.specs.Lines.{Seen}
 use Rattle.vv_io.specs.Shelf.{File, held, file_limit}
 use Rattle.sys_boot.specs.Showing.{Showing}
-use Rattle.sys_rounds.proofs.Places.{both}
-use Rattle.sys_rounds.specs.Places.{place_of}
+use Rattle.sys_plain_rounds.proofs.Places.{both}
+use Rattle.sys_plain_rounds.specs.Places.{place_of}
 use Rattle.sys_system.specs.Shows.{Shows}
 use Rattle.vvmm.specs.Answer.{Outside, IsFetched, IsHeld, Lacks, HasTooLong, Untouched}
 use Rattle.vvmm.specs.Laws.{line_at, Completes, TellsMissing, TellsTooLong, TellsDevice}

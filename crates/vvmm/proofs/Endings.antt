@@ -3,7 +3,7 @@ use Rattle.std.proofs.Common.{ℕ, ◌≡◌, ◌≤◌, List, length, [], ◌�
 use Rattle.std.specs.declared.alloc.Global.{Global}
 use Rattle.vv_io.specs.Shelf.{File, Answers, holding, file_limit}
 use Rattle.std.proofs.lemmas.Bool.{ltb-false, ltb-true}
-use Rattle.sys_rounds.specs.Places.{place_of}
+use Rattle.sys_plain_rounds.specs.Places.{place_of}
 use Rattle.sys_system.specs.Calls.{first_misfit, is_misfit}
 use Rattle.vm_plain.specs.Run.{Tally}
 use Rattle.vvmm.specs.Answer.{Outside, IsHeld, Made, Closes, Ends, Follows, failed_line}

@@ -6,10 +6,10 @@ use Rattle.vv_io.specs.Lines.{Seen, unseen}
 use Rattle.sys_boot.specs.Dump.{dump_of}
 use Rattle.sys_objects.specs.declared.records.Config.{Config}
 use Rattle.sys_objects.specs.declared.records.GuestRow.{GuestRow}
-use Rattle.sys_rounds.proofs.Consoles.{bytes_of_console}
-use Rattle.sys_rounds.proofs.Steps.{as_sum, trail_fits}
-use Rattle.sys_rounds.specs.Counts.{added, round_tally}
-use Rattle.sys_rounds.specs.Round.{Put, State, Went, alone, bytes_on, connections, dump_on, first_state, line_bytes, on_console, round, run}
+use Rattle.sys_plain_rounds.proofs.Consoles.{bytes_of_console}
+use Rattle.sys_plain_rounds.proofs.Steps.{as_sum, trail_fits}
+use Rattle.sys_plain_rounds.specs.Counts.{added, round_tally}
+use Rattle.sys_plain_rounds.specs.Round.{Put, State, Went, alone, bytes_on, connections, dump_on, first_state, line_bytes, on_console, round, run}
 use Rattle.sys_system.proofs.Plays.{added_either}
 use Rattle.sys_system.proofs.Showings.{shows_then}
 use Rattle.sys_system.proofs.Taken.{shows_same}

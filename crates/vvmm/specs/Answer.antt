@@ -6,8 +6,8 @@ use Rattle.vv_io.specs.Lines.{Seen}
 use Rattle.vv_io.specs.Shelf.{File, held, file_limit}
 use Rattle.vax_linear.specs.Machine.{Machine}
 use Rattle.sys_boot.specs.Showing.{Showing}
-use Rattle.sys_rounds.specs.Places.{place_of}
-use Rattle.sys_rounds.specs.Round.{line_bytes}
+use Rattle.sys_plain_rounds.specs.Places.{place_of}
+use Rattle.sys_plain_rounds.specs.Round.{line_bytes}
 use Rattle.sys_system.specs.Shows.{Shows}
 use Rattle.sys_system.specs.declared.lines.Device.TheVariants as devices
 use Rattle.vvmm.specs.Solo.{Asked, load_address, memory_size, solo_config, solo_run, solo_tally, summary}

@@ -5,7 +5,7 @@ use Rattle.vv_io.specs.Lines.{Seen, unseen}
 use Rattle.vv_io.specs.Shelf.{File, held, file_limit}
 use Rattle.vvmm.specs.Answer.{Outside, Follows}
 use Rattle.sys_boot.specs.Dump.{dump_of}
-use Rattle.sys_rounds.specs.Round.{alone, line_bytes}
+use Rattle.sys_plain_rounds.specs.Round.{alone, line_bytes}
 use Rattle.vm_plain.specs.Guest.{Guest}
 use Rattle.vm_plain.specs.Start.{opening, started}
 use Rattle.vvmm.specs.Solo.{Asked, load_address, memory_size, solo_config, solo_run, solo_tally}

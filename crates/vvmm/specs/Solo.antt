@@ -6,8 +6,8 @@ use Rattle.vv_base.specs.Names.{is_file_name}
 use Rattle.vv_class.specs.declared.class.AccessClass.{AccessClass}
 use Rattle.sys_objects.specs.declared.records.Config.{Config}
 use Rattle.sys_objects.specs.declared.records.GuestRow.{GuestRow}
-use Rattle.sys_rounds.specs.Counts.{round_tally}
-use Rattle.sys_rounds.specs.Round.{State, Went, first_state, run}
+use Rattle.sys_plain_rounds.specs.Counts.{round_tally}
+use Rattle.sys_plain_rounds.specs.Round.{State, Went, first_state, run}
 use Rattle.vm_plain.specs.Run.{Tally}
 
 -- what the words ask for

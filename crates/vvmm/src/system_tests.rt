@@ -1,7 +1,7 @@
 //! Several guests on the one machine. Each number is worked out by hand.
 ghost use Rattle.std.specs.Prelude.{◌≡◌, ◌*◌, false, length, map, IfOk, IfSome, IsTrue};
 ghost use Rattle.sys_objects.specs.Condition.{IsConfig};
-ghost use Rattle.sys_rounds.specs.Slices.{AreQuanta, total};
+ghost use Rattle.sys_plain_rounds.specs.Slices.{AreQuanta, total};
 ghost use Rattle.sys_system.specs.Held.{slice_of};
 
 use super::*;

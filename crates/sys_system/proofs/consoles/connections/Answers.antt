@@ -1,5 +1,5 @@
 use Rattle.std.proofs.Common.{ap, ◌∙◌, ◌++◌, ◌+◌, ◌∷◌, [], drop, sym}
-use Rattle.sys_rounds.specs.Round.{connections}
+use Rattle.sys_plain_rounds.specs.Round.{connections}
 use Rattle.sys_system.proofs.Places.{connections_next}
 use Rattle.sys_system.proofs.consoles.connections.Goals as goal
 

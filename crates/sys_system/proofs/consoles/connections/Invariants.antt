@@ -1,5 +1,5 @@
 use Rattle.std.proofs.Common.{◌≡◌, ◌++◌, drop}
-use Rattle.sys_rounds.specs.Round.{connections}
+use Rattle.sys_plain_rounds.specs.Round.{connections}
 use Rattle.sys_system.proofs.consoles.connections.Given as goal
 
 abbrev pub invariant-loop-terminal : goal.invariant-loop-terminal

@@ -1,5 +1,5 @@
 use Rattle.std.proofs.Common.{◌≡◌}
-use Rattle.sys_rounds.specs.Places.{place_of}
+use Rattle.sys_plain_rounds.specs.Places.{place_of}
 use Rattle.sys_system.proofs.Places.{from_on}
 use Rattle.sys_system.proofs.lines.first_marked.Given as goal
 

@@ -1,6 +1,6 @@
 use Rattle.std.proofs.Common.{◌∙◌, sym, map, arith, ap}
 use Rattle.std.proofs.lemmas.List.{length-map}
-use Rattle.sys_rounds.specs.Places.{beside_with}
+use Rattle.sys_plain_rounds.specs.Places.{beside_with}
 use Rattle.sys_system.proofs.Places.{from_first}
 use Rattle.sys_system.proofs.Powering.{map_at, misfit_here, misfit_later, misfit_none}
 use Rattle.sys_system.specs.Calls.{is_misfit}

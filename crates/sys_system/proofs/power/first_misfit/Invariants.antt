@@ -1,5 +1,5 @@
 use Rattle.std.proofs.Common.{◌≡◌, map}
-use Rattle.sys_rounds.specs.Places.{beside_with}
+use Rattle.sys_plain_rounds.specs.Places.{beside_with}
 use Rattle.sys_system.proofs.Places.{from_on}
 use Rattle.sys_system.specs.Calls.{first_misfit, is_misfit}
 use Rattle.sys_system.proofs.power.first_misfit.Given as goal

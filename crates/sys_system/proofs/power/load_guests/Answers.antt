@@ -1,7 +1,7 @@
 use Rattle.std.proofs.Common.{◌∙◌, ◌+◌, ◌*◌, ◌≡◌, ◌≤◌, ℕ, List, length, map, sym, ap, subst, arith}
 use Rattle.std.proofs.lemmas.List.{length-map}
 use Rattle.std.specs.List.{sum_by}
-use Rattle.sys_rounds.specs.Round.{powered}
+use Rattle.sys_plain_rounds.specs.Round.{powered}
 use Rattle.vm_plain.specs.Partition.{guest_of}
 use Rattle.sys_system.proofs.Powering.{AreLoaded, each_fits, map_at, one_loaded}
 use Rattle.sys_system.proofs.power.load_guests.Goals as goal

@@ -1,5 +1,5 @@
 use Rattle.std.proofs.Common.{◌≡◌, List, map, vec_len, sum}
-use Rattle.sys_rounds.specs.Slices.{Slice}
+use Rattle.sys_plain_rounds.specs.Slices.{Slice}
 use Rattle.sys_system.specs.Calls.{Plays}
 use Rattle.sys_system.specs.Kernel.{IsKernel, begun}
 use Rattle.sys_system.proofs.system.System.make_round.Given as goal

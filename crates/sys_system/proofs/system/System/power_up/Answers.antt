@@ -1,7 +1,7 @@
 use Rattle.std.proofs.Common.{◌∙◌, ◌≡◌, length, replicate, ap, refl, subst, List, ℕ, false}
 use Rattle.sys_system.specs.Kernel.{Turns}
 use Rattle.sys_objects.specs.declared.records.GuestRow.{GuestRow}
-use Rattle.sys_rounds.specs.Round.{connections}
+use Rattle.sys_plain_rounds.specs.Round.{connections}
 use Rattle.sys_system.proofs.Begins.{powered_kernel}
 use Rattle.sys_system.specs.Layout.{AreLaidOut}
 use Rattle.sys_system.proofs.system.System.power_up.Goals as goal

@@ -1,7 +1,7 @@
 use Rattle.std.proofs.Common.{◌∙◌, ◌≡◌, ◌<◌, ℕ, List, Option, sym, ap, subst, arith}
 use Rattle.std.specs.Prelude.{IfSome}
-use Rattle.sys_rounds.specs.Round.{console_of}
-use Rattle.sys_rounds.specs.Slices.{Slice}
+use Rattle.sys_plain_rounds.specs.Round.{console_of}
+use Rattle.sys_plain_rounds.specs.Slices.{Slice}
 use Rattle.sys_system.proofs.LaidOut.{placed_long}
 use Rattle.sys_system.proofs.Taken.{shows_same, small_line, still_kernel, takes}
 use Rattle.sys_system.specs.Calls.{CanTake}
