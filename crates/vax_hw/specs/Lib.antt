@@ -1,3 +1,4 @@
+pub mod RealTables
 pub mod Machine
 pub mod Real
 pub mod ShownMachine

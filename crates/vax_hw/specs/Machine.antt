@@ -1,9 +1,14 @@
 -- The real machine: its memory, what is loaded into it, and its three counts
 -- (Hall and Robinson, Virtualizing the VAX Architecture, ISCA 1991).
-use Rattle.std.specs.Prelude.{◌≡◌, ℕ, ◌+◌, ◌*◌, ◌/◌, ◌%◌, ◌^◌, List, replicate, slice_index, nat_lt, if◌then◌else◌, Ok, Err}
+use Rattle.std.specs.Prelude.{◌≡◌, ℕ, ◌+◌, ◌*◌, ◌/◌, ◌%◌, ◌^◌, Bool, true, List, replicate, slice_index, Result}
+use Rattle.vax_arch.specs.Fields.{current_of}
+use Rattle.vax_arch.specs.Walk.{Tables}
+use Rattle.vax_arch.specs.declared.mode.Intent.{Intent}
+use Rattle.vax_arch.specs.declared.mode.Intent.TheVariants.{Write}
 use Rattle.vax_arch.specs.declared.psl.Psl.{Psl}
+use Rattle.vax_hw.specs.RealTables.{byte_by, is_clear_in, place_in, place_or_end}
 use Rattle.vax_hw.specs.declared.world.World.{World}
-use Rattle.vax_table.specs.Script.{Space, Refusing}
+use Rattle.vax_table.specs.Script.{Cause, Space}
 use Rattle.vax_table.specs.Trail.{term}
 use Rattle.vax_table.specs.Effects.{Effect}
 use Rattle.vax_table.specs.Stores.{all_stored}
@@ -15,14 +20,25 @@ pub record Machine : Type 0 where
   pub trail : ℕ
   pub misses : ℕ
 
--- The linear walk (profile, until the machine has page tables): an address below 512 times P0LR is the machine's byte
--- at P0BR plus the address, and any other is refused. Beyond the machine a byte is 0.
-abbrev pub linear : List ℕ → ℕ → ℕ → Space
-linear memory p0br p0lr intent va = if nat_lt va (512 * p0lr) then Ok (slice_index memory (p0br + va)) else Err Refusing
+-- the real page tables
+abbrev pub tables_of : World → Tables
+tables_of w = record { mapped = true; p0br = w.p0br; p0lr = w.p0lr; p1br = w.p1br; p1lr = w.p1lr; sbr = w.sbr; slr = w.slr }
 
--- the space of a machine
+-- the place of an address, in the real mode
+abbrev pub place_for : Machine → Intent → ℕ → Result ℕ Cause
+place_for m i va = place_in m.memory (tables_of m.world) (current_of m.world.psl.0) i va
+
+-- the machine as a space for its instructions
 abbrev pub space_of : Machine → Space
-space_of m = linear m.memory m.world.p0br m.world.p0lr
+space_of m i va = byte_by m.memory (place_for m i va)
+
+-- where a byte that may be written lies
+abbrev pub place_of : Machine → ℕ → ℕ
+place_of m va = place_or_end m.memory (place_for m Write va)
+
+-- whether the real modify bit of an address's page is clear
+abbrev pub is_clear : Machine → ℕ → Bool
+is_clear m va = is_clear_in m.memory (tables_of m.world) va
 
 -- the status word is the low byte of the PSL
 abbrev pub psw_of : World → ℕ
@@ -43,14 +59,10 @@ with_psw psl psw = record { 0 = psl.0 / 256 * 256 + psw % 256 }
 abbrev pub with_effect : World → Effect → World
 with_effect w e = record w { r = e.r; psl = with_psw w.psl e.psw }
 
--- where the machine has a byte that may be written
-abbrev pub place_in : Machine → ℕ → ℕ
-place_in m va = m.world.p0br + va
-
--- the machine after an instruction that retired: its stores are made in order
+-- the machine after an instruction that retired: its stores are made in order, at the places of before the first
 unfoldable pub retire : ℕ → Effect → Machine → Machine
 retire opcode e m = record m {
-  memory = all_stored (place_in m) e.writes m.memory;
+  memory = all_stored (place_of m) e.writes m.memory;
   world = with_effect m.world e;
   retired = (m.retired + 1) % 2 ^ 64;
   trail = (m.trail + term (slice_index m.world.r 15) opcode e.r) % 2 ^ 64;

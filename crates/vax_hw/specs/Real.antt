@@ -1,30 +1,31 @@
--- What the real machine does: the instructions of the one plan, over its own space. Sensitive instructions trap
+-- What the real machine does: the instructions of the one plan, over its own page tables. Sensitive instructions trap
 -- (Hall and Robinson, Virtualizing the VAX Architecture, ISCA 1991: the virtual-machine extension).
 use Rattle.std.specs.Prelude.{ℕ, zero, suc, ◌+◌, ◌%◌, ◌^◌, Bool, true, false, Option, Some, None, Result, Ok, Err}
 use Rattle.vax_arch.specs.Fields.{current_of}
 use Rattle.vax_arch.specs.declared.mode.Intent.{Intent}
 use Rattle.vax_arch.specs.declared.mode.Intent.TheVariants.{Read, Write}
-use Rattle.vax_hw.specs.Machine.{Machine, retire, seen_psl, space_of}
+use Rattle.vax_hw.specs.Machine.{Machine, is_clear, psw_of, retire, seen_psl, space_of, tables_of}
+use Rattle.vax_hw.specs.RealTables.{real_probe}
 use Rattle.vax_hw.specs.declared.world.Exit.{Exit}
-use Rattle.vax_hw.specs.declared.world.Exit.TheVariants.{Arithmetic, Budget, NotValid, Denied, Emulate, Refused}
+use Rattle.vax_hw.specs.declared.world.Exit.TheVariants.{Arithmetic, Budget, NotValid, Denied, Emulate, Modify, Refused}
 use Rattle.vax_hw.specs.declared.world.World.{World}
-use Rattle.vax_table.specs.Script.{Absent, Refusing, Past, Trouble, At, Test, outcome}
+use Rattle.vax_table.specs.Effects.{Effect, long_of}
+use Rattle.vax_table.specs.Plan.{probed}
+use Rattle.vax_table.specs.Script.{Absent, Refusing, Past, Trouble, At, Test}
+use Rattle.vax_table.specs.Tries.{Clear, Completes, Stopped, Tried, tried}
 use Rattle.vax_table.specs.Whole.{Act, Meant, Plain, Probes, Traps, instruction, is_kernel, probe_of, trap_of}
+use Rattle.vax_table.specs.declared.evaluation.Operands.{Operands}
 
 abbrev pub is_write : Intent → Bool
 is_write Read = false
 is_write Write = true
 
--- what a trouble stops the machine with: the real space has no byte beyond memory
+-- what a trouble stops the machine with; nothing lies beyond the real memory, so that a length or a code refuses there
 abbrev pub exit_of : Trouble → Exit
 exit_of (At Absent i va) = NotValid va (is_write i)
 exit_of (At Refusing i va) = Denied va (is_write i)
 exit_of (At Past i va) = Denied va (is_write i)
 exit_of (Test r) = Refused r
-
-abbrev pub exits : {A : Type 0} → Result A Trouble → Result A Exit
-exits (Ok x) = Ok x
-exits (Err t) = Err (exit_of t)
 
 -- whether the virtual machine's mode is kernel
 abbrev pub in_kernel : World → Bool
@@ -35,20 +36,30 @@ pub record Retired : Type 0 where
   pub machine : Machine
   pub trap : Option ℕ
 
--- an instruction that was found to be this retires, or traps; PROBE traps, as a sensitive one, until the machine has
--- page tables
-abbrev pub meets : Machine → ℕ → Act → Result Retired Exit
-meets m opcode (Plain e) = Ok (record { machine = retire opcode e m; trap = e.trap })
-meets m opcode (Traps t) = Err (Emulate t)
-meets m opcode (Probes intent o) = Err (Emulate (trap_of (probe_of intent) o))
+abbrev pub retired_with : Machine → ℕ → Effect → Result Retired Exit
+retired_with m opcode e = Ok (record { machine = retire opcode e m; trap = e.trap })
 
-abbrev pub done : Machine → Result Meant Exit → Result Retired Exit
-done m (Err e) = Err e
-done m (Ok meant) = meets m meant.opcode meant.act
+-- PROBE is executed where the real entries judge both bytes, and traps otherwise
+abbrev pub probed_as : Machine → ℕ → Intent → Operands → Option Bool → Result Retired Exit
+probed_as m opcode i o (Some is_accessible) = retired_with m opcode (probed is_accessible o (psw_of m.world))
+probed_as m opcode i o None = Err (Emulate (trap_of (probe_of i) o))
+
+-- an instruction that was found to be this retires, or traps
+abbrev pub meets : Machine → ℕ → Act → Result Retired Exit
+meets m opcode (Plain e) = retired_with m opcode e
+meets m opcode (Traps t) = Err (Emulate t)
+meets m opcode (Probes i o) =
+    probed_as m opcode i o (real_probe m.memory (tables_of m.world) m.world.psl.0 i (long_of o 0) (long_of o 1) (long_of o 2))
+
+-- by the try of the instruction at PC
+abbrev pub by_try : Machine → Tried Meant → Result Retired Exit
+by_try m (Completes meant) = meets m meant.opcode meant.act
+by_try m (Clear va) = Err (Modify va)
+by_try m (Stopped trouble) = Err (exit_of trouble)
 
 -- one instruction: the machine after it, or why it didn't retire
 unfoldable pub one : Machine → Result Retired Exit
-one m = done m (exits (outcome (space_of m) (instruction (in_kernel m.world) (seen_psl m.world) m.world.r)))
+one m = by_try m (tried (space_of m) (is_clear m) (instruction (in_kernel m.world) (seen_psl m.world) m.world.r))
 
 -- an entry that wasn't valid is a miss
 abbrev pub misses_after : ℕ → Exit → ℕ

@@ -26,6 +26,7 @@ pub mod Computing
 pub mod Branches
 pub mod Calls
 pub mod Plan
+pub mod Probing
 pub mod PlanLaws
 pub mod Locality
 pub mod ShownPlan

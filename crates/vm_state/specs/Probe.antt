@@ -1,15 +1,15 @@
 -- PROBER and PROBEW: whether a less privileged mode may use both ends of a range
 -- (VAX Architecture Reference Manual: PROBEx; the corner cases are profile).
-use Rattle.std.specs.Prelude.{ℕ, ◌*◌, ◌%◌, ◌^◌, ◌==◌, ◌&&◌, Bool, true, false, not, nat_le, if◌then◌else◌, length}
+use Rattle.std.specs.Prelude.{ℕ, ◌*◌, ◌%◌, ◌^◌, ◌&&◌, Bool, true, false, not, if◌then◌else◌, length}
 use Rattle.vv_base.specs.Bytes.{long_at}
-use Rattle.vax_arch.specs.Fields.{frame_of, is_valid, mode_number, mode_of, previous_of, protection_of}
+use Rattle.vax_arch.specs.Fields.{frame_of, is_valid, protection_of}
 use Rattle.vax_arch.specs.Ring.{open_of}
 use Rattle.vax_arch.specs.Walk.{is_past, page_of}
 use Rattle.vax_arch.specs.declared.mode.Intent.{Intent}
 use Rattle.vax_arch.specs.declared.mode.Mode.{Mode}
 use Rattle.vax_arch.specs.declared.walk.Lookup.{Lookup}
 use Rattle.vax_arch.specs.declared.walk.Lookup.TheVariants.{Beyond, Direct, Fails, Found}
-use Rattle.vax_table.specs.Operand.{minus, plus}
+use Rattle.vax_table.specs.Probing.{last_of, probe_mode}
 use Rattle.vm_state.specs.State.{Guest}
 use Rattle.vm_state.specs.Translation.{fault, look}
 use Rattle.vm_state.specs.declared.walk.MemFault.{MemFault}
@@ -20,10 +20,6 @@ pub data Probed : Type 0 where
   Answers : (is_accessible is_plain : Bool) → Probed
   NotValid : MemFault → Probed
   PastMemory : Probed
-
--- the less privileged of the mode that the operand names and the previous one
-abbrev pub probe_mode : ℕ → ℕ → Mode
-probe_mode psl named = if nat_le (mode_number (previous_of psl)) (mode_number (mode_of named)) then mode_of named else previous_of psl
 
 -- the code alone decides
 abbrev pub by_entry : (size entry : ℕ) → Mode → Intent → Probed
@@ -47,10 +43,6 @@ both (Answers a p) (NotValid f) = NotValid f
 both (Answers a p) PastMemory = PastMemory
 both (NotValid f) other = NotValid f
 both PastMemory other = PastMemory
-
--- the last byte of a range of so many bytes; the base, where there are none
-abbrev pub last_of : (base bytes : ℕ) → ℕ
-last_of base bytes = if bytes == 0 then base else minus (plus base bytes) 1
 
 -- for an intent, by the operands: the mode, the length, which is a word, and the base
 unfoldable pub probe : Guest → Intent → (mode bytes base : ℕ) → Probed
