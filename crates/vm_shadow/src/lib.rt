@@ -1,0 +1,6 @@
+//! Shadow page tables of a guest: filled on demand, kept across steps in four process slots, and never stale.
+#![tactic(auto)]
+
+mod source;
+
+pub use source::Source;
