@@ -6,3 +6,5 @@ pub mod Changes
 pub mod Lookups
 pub mod Contexts
 pub mod Stored
+pub mod Scanning
+pub mod Closing

@@ -1,0 +1,56 @@
+-- What each call on the shadow page tables makes and drops.
+use Rattle.std.specs.Prelude.{◌≡◌, ◌≢◌, ℕ, ◌+◌, ◌*◌, ◌-◌, ◌%◌, ◌^◌, ◌<◌, ◌≤◌, ◌==◌, ◌&&◌, ◌||◌, Bool, true, false, not, nat_le, nat_lt, if◌then◌else◌, List, [], ◌∷◌, length, filter, Option, Some, None, is_some, slice_index_or}
+use Rattle.vv_base.specs.Bytes.{long_at, long_bytes, overwritten}
+use Rattle.vax_arch.specs.Fields.{is_modified, is_valid}
+use Rattle.vax_hw.specs.Machine.{Machine}
+use Rattle.vm_shadow.specs.Layout.{all_entries}
+use Rattle.vm_shadow.specs.Stands.{Keeps, Shadowed, is_read_from, mapped_frame, read_at, real_at}
+use Rattle.vm_shadow.specs.declared.source.Source.{Source}
+use Rattle.vm_shadow.specs.declared.source.Source.TheVariants.{Direct, Process, System}
+use Rattle.vm_shadow.specs.declared.scans.Dropped.{Dropped}
+use Rattle.vm_shadow.specs.declared.scans.Dropped.TheVariants.{All, ReadFrom}
+use Rattle.vm_state.specs.Partition.{IsApart}
+
+-- of the machine the memory alone changes, and of that the guest's real tables alone
+pub record OnlyTables (at : ℕ) (before after : Machine) : Type 0 where
+  pub rest : after ≡ record before { memory = after.memory }
+  pub tables : IsApart (512 * at) (512 * 580) before.memory after.memory
+
+-- Scans over the real entries, each with what is remembered of it.
+
+abbrev pub remembered : List (Option Source) → ℕ → Option Source
+remembered reads n = slice_index_or reads n None
+
+abbrev pub is_dropped : Dropped → Option Source → Bool
+is_dropped (ReadFrom frame) source = is_read_from frame source
+is_dropped All source = is_some source
+
+-- what is remembered of an entry, where it may be dropped
+abbrev pub unless_dropped : Bool → Option Source → Option Source
+unless_dropped true source = None
+unless_dropped false source = source
+
+abbrev pub is_between : (first end n : ℕ) → Bool
+is_between first end n = nat_le first n && nat_lt n end
+
+-- the entries from a number up to another that are to be dropped are empty, and nothing else changed
+pub record Drops (at first end : ℕ) (which : Dropped) (before : Machine) (reads : List (Option Source)) (after : Machine) (reads' : List (Option Source)) : Type 0 where
+  pub only : OnlyTables at before after
+  pub whole : length reads' ≡ length reads
+  pub each : (n : ℕ) → remembered reads' n ≡ unless_dropped (is_between first end n && is_dropped which (remembered reads n)) (remembered reads n)
+  pub keeps : (pending opened : List ℕ) (s : Shadowed) → s.at ≡ at → s.reads ≡ reads → Keeps pending opened before.memory s → Keeps pending opened after.memory (record s { reads = reads' })
+
+-- whether a real entry maps a frame that a source has, with its modify bit set
+abbrev pub maps_open : (base : ℕ) → Source → (real : ℕ) → Bool
+maps_open base source real = is_modified real && is_read_from (real % 2097152 - base) (Some source)
+
+-- the entries below a number that map a frame that a source has have their modify bits clear, and nothing else changed
+pub record Closes (at base end : ℕ) (source : Source) (before : Machine) (reads : List (Option Source)) (after : Machine) : Type 0 where
+  pub only : OnlyTables at before after
+  pub keeps : (s : Shadowed) → s.at ≡ at → s.base ≡ base → s.reads ≡ reads → Keeps [] [] before.memory s → Keeps [] [] after.memory s
+  pub gone : (s : Shadowed) → s.at ≡ at → s.base ≡ base → s.reads ≡ reads → Keeps [] [] before.memory s → (n : ℕ) → n < end → is_valid (real_at after.memory s n) ≡ true → maps_open base source (real_at after.memory s n) ≡ false
+
+-- one entry is closed where it is to be
+abbrev pub closed_at : Bool → Machine → (place : ℕ) → Machine
+closed_at true m place = record m { memory = overwritten m.memory place (long_bytes (long_at m.memory place - 2 ^ 26)) }
+closed_at false m place = m
