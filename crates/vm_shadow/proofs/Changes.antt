@@ -23,6 +23,8 @@ dropped pending opened memory after s n k h w = set_entry pending opened opened 
     still = λ i d o. o;
     from = λ i c d o v x. refl;
     onto = λ o v. empty_invalid _ v;
+    consulted_size = refl;
+    writable_size = refl;
     consults = λ frame e. e;
     consults_here = λ frame e. refl;
     writes = λ frame e. e;
@@ -59,9 +61,9 @@ same_reads s n = set-get_or s.reads n None
 pub filled : (memory after : List ℕ) (s : Shadowed) (n entry : ℕ) (source : Source) (consulted : List Bool) → Keeps [] [] memory s → n < all_entries →
     entry_at (own memory s) (seen_at memory s n) ≡ Some entry → is_valid entry ≡ true → 512 * frame_of entry + 512 ≤ 512 * s.pages → IsSource (seen_at memory s n) source →
     ((k : ℕ) → k < all_entries → is_valid (real_at memory s k) ≡ true → is_modified (real_at memory s k) ≡ true → is_read_from (mapped_frame s (real_at memory s k)) (Some source) ≡ false) →
-    ((frame : ℕ) → is_flagged frame consulted ≡ false → (is_flagged frame s.consulted ≡ false) × (is_read_from frame (Some source) ≡ false)) →
+    ((frame : ℕ) → is_flagged frame consulted ≡ false → (is_flagged frame s.consulted ≡ false) × (is_read_from frame (Some source) ≡ false)) → length consulted ≡ length s.consulted →
     IsWritten memory after (entry_place s.at n) (real_entry s.base false entry) → IsSet [] [] memory after s n (real_entry s.base false entry) (Some source) consulted s.writable
-filled memory after s n entry source consulted k h has valid inside is free flags w =
+filled memory after s n entry source consulted k h has valid inside is free flags size w =
     let small = frame_fits memory s entry k.fits inside in
     let clear : is_modified (real_entry s.base false entry) ≡ false = modify_of s.base false entry small in
     set_entry [] [] [] memory after s n (real_entry s.base false entry) (Some source) consulted s.writable k h (record {
@@ -69,6 +71,8 @@ filled memory after s n entry source consulted k h has valid inside is free flag
       still = λ i d o. o;
       from = λ i c d o v x. free i c v x;
       onto = λ o v x. absurd (false≢true (sym clear ∙ x));
+      consulted_size = size;
+      writable_size = refl;
       consults = λ frame e. (flags frame e).0;
       consults_here = λ frame e. (flags frame e).1;
       writes = λ frame e. e;
@@ -108,8 +112,10 @@ closed opened opened' memory after s n k h r on still w =
       still = still;
       from = λ i c d o v x. k.guarded n i h c (still i d o) v x;
       onto = λ o v x. absurd (false≢true (sym clear ∙ x));
+      consulted_size = refl;
+      writable_size = refl;
       consults = λ frame e. e;
-      consults_here = λ frame e. k.consults n frame h e;
+      consults_here = λ frame e. k.fits.consults n frame h e;
       writes = λ frame e. e;
       writes_here = λ v x. absurd (false≢true (sym clear ∙ x));
     }) (subst (IsWritten memory after (entry_place s.at n)) lower w)))
@@ -132,9 +138,9 @@ flagged_of opened memory after s n entry writable is = (subst (λ x. Keeps [] op
 
 -- Opening an entry whose guest's bit is set.
 pub opens : (opened : List ℕ) (memory after : List ℕ) (s : Shadowed) (n : ℕ) (writable : List Bool) → Keeps [] opened memory s → n < all_entries → (r : IsFilled memory s n) → is_modified (real_at memory s n) ≡ false → is_modified (r.right.entry) ≡ true →
-    ((frame : ℕ) → is_flagged frame s.writable ≡ true → is_flagged frame writable ≡ true) → is_flagged (frame_of (r.right.entry)) writable ≡ true →
+    length writable ≡ length s.writable → ((frame : ℕ) → is_flagged frame s.writable ≡ true → is_flagged frame writable ≡ true) → is_flagged (frame_of (r.right.entry)) writable ≡ true →
     IsWritten memory after (entry_place s.at n) (real_at memory s n + 2 ^ 26) → LeavesFlagged (n ∷ opened) memory after s n (real_at memory s n + 2 ^ 26) writable
-opens opened memory after s n writable k h r off set_ more flag w =
+opens opened memory after s n writable k h r off set_ size more flag w =
     let f = k.fits in
     let entry = with_bit memory s n r true in
     let small = frame_fits memory s r.right.entry f r.right.inside in
@@ -147,8 +153,10 @@ opens opened memory after s n writable k h r off set_ more flag w =
       still = λ i d o. not_other n i opened o;
       from = λ i c d o v x. k.guarded n i h c (not_other n i opened o) v x;
       onto = λ o. not_here _ n opened o;
+      consulted_size = refl;
+      writable_size = size;
       consults = λ frame e. e;
-      consults_here = λ frame e. k.consults n frame h e;
+      consults_here = λ frame e. k.fits.consults n frame h e;
       writes = more;
       writes_here = λ v x. subst (λ y. is_flagged y writable ≡ true) (sym frame) flag;
     }) (subst (IsWritten memory after (entry_place s.at n)) higher w)))
@@ -156,9 +164,9 @@ opens opened memory after s n writable k h r off set_ more flag w =
 -- Writes to a page are granted for good, where no entry was read from its frame.
 pub grants : (opened : List ℕ) (memory after : List ℕ) (s : Shadowed) (n : ℕ) (writable : List Bool) → Keeps [] opened memory s → n < all_entries → (r : IsFilled memory s n) → is_modified (real_at memory s n) ≡ false → is_modified (r.right.entry) ≡ true →
     is_flagged (frame_of (r.right.entry)) s.consulted ≡ false →
-    ((frame : ℕ) → is_flagged frame s.writable ≡ true → is_flagged frame writable ≡ true) → is_flagged (frame_of (r.right.entry)) writable ≡ true →
+    length writable ≡ length s.writable → ((frame : ℕ) → is_flagged frame s.writable ≡ true → is_flagged frame writable ≡ true) → is_flagged (frame_of (r.right.entry)) writable ≡ true →
     IsWritten memory after (entry_place s.at n) (real_at memory s n + 2 ^ 26) → LeavesFlagged opened memory after s n (real_at memory s n + 2 ^ 26) writable
-grants opened memory after s n writable k h r off set_ unread more flag w =
+grants opened memory after s n writable k h r off set_ unread size more flag w =
     let f = k.fits in
     let entry = with_bit memory s n r true in
     let small = frame_fits memory s r.right.entry f r.right.inside in
@@ -170,9 +178,11 @@ grants opened memory after s n writable k h r off set_ unread more flag w =
       kept = kept_with memory s n true f r (λ e. set_);
       still = λ i d o. o;
       from = λ i c d o v x. k.guarded n i h c o v x;
-      onto = λ o v x j c. subst (λ y. is_read_from (mapped_frame s entry) (slice_index_or y j None) ≡ false) (sym (same_reads s n)) (subst (λ y. is_read_from y (read_at s j) ≡ false) (sym frame) (k.consults j (frame_of (r.right.entry)) c unread));
+      onto = λ o v x j c. subst (λ y. is_read_from (mapped_frame s entry) (slice_index_or y j None) ≡ false) (sym (same_reads s n)) (subst (λ y. is_read_from y (read_at s j) ≡ false) (sym frame) (k.fits.consults j (frame_of (r.right.entry)) c unread));
+      consulted_size = refl;
+      writable_size = size;
       consults = λ frame e. e;
-      consults_here = λ frame e. k.consults n frame h e;
+      consults_here = λ frame e. k.fits.consults n frame h e;
       writes = more;
       writes_here = λ v x. subst (λ y. is_flagged y writable ≡ true) (sym frame) flag;
     }) (subst (IsWritten memory after (entry_place s.at n)) higher w)))

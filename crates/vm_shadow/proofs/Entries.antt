@@ -36,6 +36,8 @@ pub record CanSet (pending opened opened' : List ℕ) (memory : List ℕ) (s : S
   pub still : (k : ℕ) → k ≢ n → is_opened k opened' ≡ false → is_opened k opened ≡ false
   pub from : (k : ℕ) → k < all_entries → k ≢ n → is_opened k opened' ≡ false → is_valid (real_at memory s k) ≡ true → is_modified (real_at memory s k) ≡ true → is_read_from (mapped_frame s (real_at memory s k)) source ≡ false
   pub onto : is_opened n opened' ≡ false → is_valid entry ≡ true → is_modified entry ≡ true → (k : ℕ) → k < all_entries → is_read_from (mapped_frame s entry) (slice_index_or (set s.reads n source) k None) ≡ false
+  pub consulted_size : length consulted ≡ length s.consulted
+  pub writable_size : length writable ≡ length s.writable
   pub consults : (frame : ℕ) → is_flagged frame consulted ≡ false → is_flagged frame s.consulted ≡ false
   pub consults_here : (frame : ℕ) → is_flagged frame consulted ≡ false → is_read_from frame source ≡ false
   pub writes : (frame : ℕ) → is_flagged frame s.writable ≡ true → is_flagged frame writable ≡ true
@@ -47,11 +49,14 @@ pub record IsSet (pending opened' : List ℕ) (memory after : List ℕ) (s : Sha
   pub here : real_at after s n ≡ entry
   pub other : (k : ℕ) → k < all_entries → k ≢ n → real_at after s k ≡ real_at memory s k
 
-fits_set : (memory after : List ℕ) (s : Shadowed) (n entry : ℕ) (source : Option Source) (consulted writable : List Bool) → Fits memory s → n < all_entries → IsWritten memory after (entry_place s.at n) entry → Fits after (remembers s (set s.reads n source) consulted writable)
-fits_set memory after s n entry source consulted writable f h w = record {
+fits_set : (memory after : List ℕ) (s : Shadowed) (n entry : ℕ) (source : Option Source) (consulted writable : List Bool) → Fits memory s → n < all_entries → length consulted ≡ length s.consulted → length writable ≡ length s.writable → ((m frame : ℕ) → m < all_entries → is_flagged frame consulted ≡ false → is_read_from frame (slice_index_or (set s.reads n source) m None) ≡ false) → IsWritten memory after (entry_place s.at n) entry → Fits after (remembers s (set s.reads n source) consulted writable)
+fits_set memory after s n entry source consulted writable f h a b consults w = record {
   few = omega (arith, f.few, w.size); small = f.small; partition = omega (arith, f.partition, w.size); room = omega (arith, f.room, w.size); apart = f.apart; told = f.told; contexts = f.contexts; slots = f.slots; first = f.first;
   system = λ j l. long_kept memory after (entry_place s.at n) entry (512 * s.at + 4 * (8192 + j)) w (system_apart s.at n j l) ∙ f.system j l;
   whole = length-set s.reads n source ∙ f.whole;
+  consulted = a ∙ f.consulted;
+  writable = b ∙ f.writable;
+  consults = consults;
 }
 
 pub set_entry : (pending opened opened' : List ℕ) (memory after : List ℕ) (s : Shadowed) (n entry : ℕ) (source : Option Source) (consulted writable : List Bool) →
@@ -68,11 +73,14 @@ set_entry pending opened opened' memory after s n entry source consulted writabl
     let M : ℕ → Type 0 = λ y. is_modified y ≡ true in
     let same : (k : ℕ) → k ≢ n → read_at s' k ≡ read_at s k = λ k differ. read_other s n k source differ in
     let here : read_at s' n ≡ source = read_here s n source f.whole h in
+    let consults : (m frame : ℕ) → m < all_entries → is_flagged frame consulted ≡ false → is_read_from frame (read_at s' m) ≡ false = λ m frame c u. split (cases_eq m n)
+      (λ e. subst (λ y. is_read_from frame y ≡ false) (sym (ap (read_at s') e ∙ here)) (can.consults_here frame u))
+      (λ differ. subst (λ y. is_read_from frame y ≡ false) (sym (same m differ)) (f.consults m frame c (can.consults frame u))) in
     record {
       here = w.is;
       other = other;
       keeps = record {
-        fits = fits_set memory after s n entry source consulted writable f h w;
+        fits = fits_set memory after s n entry source consulted writable f h can.consulted_size can.writable_size consults w;
         entries = λ k d. rw (seen k, own_is) (split (cases_eq k n)
           (λ e. rw e (rw (here, w.is) can.kept))
           (λ differ. rw (same k differ, other k d differ) (keeps.entries k d)));
@@ -89,9 +97,6 @@ set_entry pending opened opened' memory after s n entry source consulted writabl
             subst (λ y. is_read_from (mapped_frame s y) (read_at s' m) ≡ false) (sym r) (split (cases_eq m n)
               (λ e. subst (λ y. is_read_from (mapped_frame s (real_at memory s k)) y ≡ false) (sym (ap (read_at s') e ∙ here)) (can.from k d differ o v' x'))
               (λ no_. subst (λ y. is_read_from (mapped_frame s (real_at memory s k)) y ≡ false) (sym (same m no_)) (keeps.guarded m k c d (can.still k differ o) v' x'))));
-        consults = λ m frame c u. split (cases_eq m n)
-          (λ e. subst (λ y. is_read_from frame y ≡ false) (sym (ap (read_at s') e ∙ here)) (can.consults_here frame u))
-          (λ differ. subst (λ y. is_read_from frame y ≡ false) (sym (same m differ)) (keeps.consults m frame c (can.consults frame u)));
         writes = λ k d v x. split (cases_eq k n)
           (λ e.
             let r : real_at after s k ≡ entry = ap (real_at after s) e ∙ w.is in

@@ -8,3 +8,5 @@ pub mod Contexts
 pub mod Stored
 pub mod Scanning
 pub mod Closing
+pub mod Flagging
+pub mod Noting

@@ -49,7 +49,7 @@ fits_stored : (memory after : List ℕ) (s : Shadowed) (frame : ℕ) → Fits me
 fits_stored memory after s frame f small w = record {
   few = omega (arith, f.few, w.size); small = f.small; partition = omega (arith, f.partition, w.size); room = omega (arith, f.room, w.size); apart = f.apart; told = f.told; contexts = f.contexts; slots = f.slots; first = f.first;
   system = λ j l. table_long memory after s frame (512 * s.at + 4 * (8192 + j)) f small w (record { front = omega arith; back = omega arith }) ∙ f.system j l;
-  whole = f.whole;
+  whole = f.whole; consulted = f.consulted; writable = f.writable; consults = f.consults;
 }
 
 pub seen_same : (memory after : List ℕ) (s : Shadowed) (frame n : ℕ) (source : Source) → Fits memory s → IsFrameWritten (s.base + frame) memory after → is_read_from frame (Some source) ≡ false → IsRight (512 * s.pages) s.base (own memory s) (seen_at memory s n) source (real_at memory s n) → IsSame (own memory s) (own after s) (seen_at memory s n) (seen_at after s n)
@@ -76,7 +76,6 @@ stored pending opened memory after s frame k small w unread =
       entries = λ n h. rw (real n h) (kept_stored pending memory after s frame n (read_at s n) f w (unread n h) (k.entries n h));
       guarded = λ n i h c o v x.
         subst (λ y. is_read_from (mapped_frame s y) (read_at s n) ≡ false) (sym (real i c)) (k.guarded n i h c o (subst (λ y. is_valid y ≡ true) (real i c) v) (subst (λ y. is_modified y ≡ true) (real i c) x));
-      consults = k.consults;
       writes = λ i c v x. subst (λ y. is_flagged (mapped_frame s y) s.writable ≡ true) (sym (real i c)) (k.writes i c (subst (λ y. is_valid y ≡ true) (real i c) v) (subst (λ y. is_modified y ≡ true) (real i c) x));
     }
 
@@ -89,7 +88,7 @@ pub noted : (frame : ℕ) (pending opened : List ℕ) (memory : List ℕ) (s : S
 noted frame pending opened memory s k none = record {
   fits = k.fits;
   entries = λ n h. noted_entry (512 * s.pages) s.base frame (own memory s) pending (seen_at memory s n) (real_at memory s n) (read_at s n) (none n h) (k.entries n h);
-  guarded = k.guarded; consults = k.consults; writes = k.writes;
+  guarded = k.guarded; writes = k.writes;
 }
 
 -- more may be pending
@@ -105,5 +104,5 @@ pub more_pending : (frame : ℕ) (pending opened : List ℕ) (memory : List ℕ)
 more_pending frame pending opened memory s k = record {
   fits = k.fits;
   entries = λ n h. pending_entry (512 * s.pages) s.base frame (own memory s) pending (seen_at memory s n) (real_at memory s n) (read_at s n) (k.entries n h);
-  guarded = k.guarded; consults = k.consults; writes = k.writes;
+  guarded = k.guarded; writes = k.writes;
 }

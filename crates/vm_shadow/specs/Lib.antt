@@ -1,3 +1,5 @@
 pub mod Layout
 pub mod Stands
 pub mod Calls
+pub mod Flags
+pub mod StandsFor

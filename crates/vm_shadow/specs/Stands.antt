@@ -118,7 +118,11 @@ abbrev pub IsFirst : Context → ℕ → Held → Type 0
 IsFirst c slot [] = ⊥
 IsFirst c slot (h ∷ rest) = (h.0 ≡ c) × (h.1 ≡ slot)
 
--- sizes and places, the contexts, and the system entries that map the process tables
+-- whether a frame is flagged
+abbrev pub is_flagged : ℕ → List Bool → Bool
+is_flagged frame flags = slice_index_or flags frame false
+
+-- sizes and places, the contexts, flags, and the system entries that map the process tables
 pub record Fits (memory : List ℕ) (s : Shadowed) : Type 0 where
   pub few : length memory ≤ 33554432
   pub small : s.pages ≤ 2048
@@ -132,10 +136,10 @@ pub record Fits (memory : List ℕ) (s : Shadowed) : Type 0 where
   pub first : IsFirst (context_of s.told) s.slot s.held
   pub system : (j : ℕ) → j < 512 → long_at memory (512 * s.at + 4 * (8192 + j)) ≡ kernel_entry (s.at + 68 + j)
   pub whole : length s.reads ≡ all_entries
-
--- whether a frame is flagged
-abbrev pub is_flagged : ℕ → List Bool → Bool
-is_flagged frame flags = slice_index_or flags frame false
+  pub consulted : length s.consulted ≡ s.pages
+  pub writable : length s.writable ≡ s.pages
+  -- a frame from which an entry was read is flagged; a flag may be set too often, and never too seldom
+  pub consults : (n frame : ℕ) → n < all_entries → is_flagged frame s.consulted ≡ false → is_read_from frame (read_at s n) ≡ false
 
 -- The shadow page tables stand for the guest's own, but for the entries that were read from a pending frame, and for the
 -- guard of the entries that are opened.
@@ -144,6 +148,4 @@ pub record Keeps (pending opened : List ℕ) (memory : List ℕ) (s : Shadowed) 
   pub entries : (n : ℕ) → n < all_entries → IsKept (512 * s.pages) s.base (own memory s) pending (seen_at memory s n) (real_at memory s n) (read_at s n)
   -- no entry with a set modify bit maps a frame that another, or it itself, was read from
   pub guarded : (n k : ℕ) → n < all_entries → k < all_entries → is_opened k opened ≡ false → is_valid (real_at memory s k) ≡ true → is_modified (real_at memory s k) ≡ true → is_read_from (mapped_frame s (real_at memory s k)) (read_at s n) ≡ false
-  -- a flag may be set too often, and never too seldom
-  pub consults : (n frame : ℕ) → n < all_entries → is_flagged frame s.consulted ≡ false → is_read_from frame (read_at s n) ≡ false
   pub writes : (k : ℕ) → k < all_entries → is_valid (real_at memory s k) ≡ true → is_modified (real_at memory s k) ≡ true → is_flagged (mapped_frame s (real_at memory s k)) s.writable ≡ true

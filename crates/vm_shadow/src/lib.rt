@@ -1,7 +1,11 @@
 //! Shadow page tables of a guest: filled on demand, kept across steps in four process slots, and never stale.
 #![tactic(auto)]
 
+mod flags;
+mod notes;
 mod scans;
+mod shadow;
 mod source;
 
+pub use shadow::Shadow;
 pub use source::Source;

@@ -13,7 +13,10 @@ pub const EMPTY: u32 = 0x2000_0000;
 /// The modify bit of an entry.
 pub const MODIFY: u32 = 0x0400_0000;
 
-/// The system entries that are filled on demand.
+/// The real entries that are filled on demand.
+pub const ALL_ENTRIES: u32 = 73_728;
+
+/// Those of them that are system entries.
 const SYSTEM: u32 = 8192;
 
 /// The place in the machine of a real entry, by its number.
@@ -104,7 +107,7 @@ pub fn close_entries<H: Hardware>(reads: &[Option<Source>], machine: &mut H, at:
     ensures { Closes at base 73728 source (H.machine machine.old) reads.now (H.machine machine.new) }
 {
     let _all = machine.pages();
-    for n in 0..73_728u32 {
+    for n in 0..ALL_ENTRIES {
         if reads[n as usize].is_some() {
             close_entry(machine, entry_place(at, n), base, source);
         }

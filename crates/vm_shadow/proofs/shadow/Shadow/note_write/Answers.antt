@@ -1,0 +1,16 @@
+use Rattle.std.proofs.Common.{◌≡◌, ap, sym, ◌∙◌, subst, false, Bool, set, ℕ, length}
+use Rattle.vm_shadow.specs.Stands.{Fits, Shadowed, is_flagged}
+use Rattle.vm_shadow.specs.StandsFor.{Notes}
+use Rattle.vm_shadow.proofs.Noting.{note_all, note_none, notes_seen}
+use Rattle.vm_shadow.proofs.shadow.Shadow.note_write.Goals as goal
+
+pub returns-then-is_flagged : goal.returns-then-is_flagged
+returns-then-is_flagged g c =
+    let flags : c.set_flag.new.flags.items ≡ set c.self.inside.consulted.items c.args.frame false = c.set_flag.ensures in
+    rw flags (notes_seen c.args.frame (g.H.Hardware.machine c.args.machine.now) (g.H.Hardware.machine c.drop_entries.new.machine) _ c.args.self.now _ c.self.view_is
+      (note_all (g.H.Hardware.machine c.args.machine.now) (g.H.Hardware.machine c.drop_entries.new.machine) _ c.drop_entries.new.reads.items c.args.frame (subst (Fits (g.H.Hardware.machine c.args.machine.now).memory) (sym c.self.view_is) c.requires.fits) c.drop_entries.ensures))
+
+pub returns-else-is_flagged : goal.returns-else-is_flagged
+returns-else-is_flagged g c =
+    let told : is_flagged c.args.frame c.args.self.now.consulted ≡ false = ap (λ (s : Shadowed). is_flagged c.args.frame s.consulted) (sym c.self.view_is) ∙ ap (is_flagged c.args.frame) (sym c.deref.ensures.value) ∙ sym c.is_flagged.ensures ∙ c.if-is_flagged.false in
+    note_none (g.H.Hardware.machine c.args.machine.now) c.args.self.now c.args.frame c.requires.fits told

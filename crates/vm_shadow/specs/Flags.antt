@@ -1,0 +1,17 @@
+-- Flags by frame of the guest.
+use Rattle.std.specs.Prelude.{Bool, true, false, ◌||◌, ℕ, List, slice_set}
+use Rattle.vm_shadow.specs.Stands.{is_flagged}
+use Rattle.vm_shadow.specs.declared.source.Source.{Source}
+use Rattle.vm_shadow.specs.declared.source.Source.TheVariants.{Direct, Process, System}
+
+-- whether a frame that a source has is flagged
+abbrev pub any_flagged : List Bool → Source → Bool
+any_flagged flags Direct = false
+any_flagged flags (System entry) = is_flagged entry flags
+any_flagged flags (Process entry table) = is_flagged entry flags || is_flagged table flags
+
+-- with each frame that a source has flagged, or not
+abbrev pub with_flags : Bool → Source → List Bool → List Bool
+with_flags value Direct flags = flags
+with_flags value (System entry) flags = slice_set flags entry value
+with_flags value (Process entry table) flags = slice_set (slice_set flags entry value) table value

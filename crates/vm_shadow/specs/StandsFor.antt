@@ -1,0 +1,69 @@
+-- The shadow page tables of a guest stand for its own.
+use Rattle.std.specs.Prelude.{◌≡◌, ◌≢◌, ℕ, ◌+◌, ◌*◌, ◌/◌, ◌%◌, ◌^◌, ◌≤◌, ◌==◌, Bool, true, false, not, List, [], ◌∷◌, length, Option, Some, None, filter, slice_set, slice_index_or}
+use Rattle.vax_arch.specs.Fields.{current_of, frame_of, is_valid, mode_number, previous_of}
+use Rattle.vax_arch.specs.Ring.{ring_of}
+use Rattle.vax_arch.specs.Walk.{Tables, entry_at}
+use Rattle.vax_arch.specs.declared.walk.Lookup.{Lookup}
+use Rattle.vax_hw.specs.Machine.{Machine}
+use Rattle.vm_shadow.specs.Calls.{OnlyTables, unless_dropped}
+use Rattle.vm_shadow.specs.Layout.{entry_number, real_tables}
+use Rattle.vm_shadow.specs.Stands.{IsSource, Keeps, Shadowed, is_read_from, read_at}
+use Rattle.vm_shadow.specs.declared.source.Source.{Source}
+use Rattle.vm_state.specs.Allowed.{AreAllowed}
+use Rattle.vm_state.specs.State.{Guest, state_of, tables_of}
+use Rattle.vm_state.specs.Translation.{look}
+use Rattle.vm_state.specs.declared.guest_state.GuestState.{GuestState}
+
+-- the guest is the one that is served, under the registers that were told last
+pub record Serves (g : GuestState) (s : Shadowed) : Type 0 where
+  pub pages : s.pages ≡ g.pages
+  pub base : s.base ≡ g.base
+  pub told : s.told ≡ tables_of g
+
+pub record StandsFor (memory : List ℕ) (s : Shadowed) (g : GuestState) : Type 0 where
+  pub keeps : Keeps [] [] memory s
+  pub serves : Serves g s
+  pub allowed : AreAllowed (512 * g.pages) (state_of g)
+
+-- A page of the guest is present: its entry is found and valid, and names a frame in memory. What the entry lets isn't
+-- asked.
+pub record IsPresent (g : Guest) (page : ℕ) : Type 0 where
+  pub entry : ℕ
+  pub has : entry_at g.memory (look g page) ≡ Some entry
+  pub valid : is_valid entry ≡ true
+  pub inside : 512 * frame_of entry + 512 ≤ length g.memory
+
+-- the number of the real entry of a page, in the slot in use
+abbrev pub own_number : Shadowed → ℕ → ℕ
+own_number s page = entry_number s.slot page
+
+-- A page is filled: its real entry is remembered with the frames that it was read from, and nothing else is.
+pub record Fills (seen : Lookup) (n : ℕ) (s s' : Shadowed) : Type 0 where
+  pub source : Source
+  pub is : IsSource seen source
+  pub reads : s'.reads ≡ slice_set s.reads n (Some source)
+  pub rest : s' ≡ record s { reads = s'.reads; consulted = s'.consulted; writable = s'.writable }
+
+-- What was read from a frame is dropped, and nothing else is.
+pub record DropsFrom (frame : ℕ) (s s' : Shadowed) : Type 0 where
+  pub each : (n : ℕ) → read_at s' n ≡ unless_dropped (is_read_from frame (read_at s n)) (read_at s n)
+  pub rest : s' ≡ record s { reads = s'.reads; consulted = s'.consulted }
+
+-- A write of a frame is noted: what was read from it is dropped, so that it isn't pending any longer.
+pub record Notes (frame : ℕ) (m : Machine) (s : Shadowed) (m' : Machine) (s' : Shadowed) : Type 0 where
+  pub keeps : (pending opened : List ℕ) → Keeps (frame ∷ pending) opened m.memory s → Keeps pending opened m'.memory s'
+  pub drops : DropsFrom frame s s'
+  pub only : OnlyTables s.at m m'
+
+-- nothing that is remembered of entries changes
+abbrev pub IsAsBefore : Shadowed → Shadowed → Type 0
+IsAsBefore s s' = s' ≡ record s { writable = s'.writable }
+
+-- without an entry among those that are opened
+abbrev pub closed_for : ℕ → List ℕ → List ℕ
+closed_for n opened = filter (λ k. not (k == n)) opened
+
+-- The real PSL under which a guest runs: VM is set, the modes are the guest's in the ring, and the status word is its own
+-- (Hall and Robinson, Virtualizing the VAX Architecture, ISCA 1991).
+abbrev pub real_psl : ℕ → ℕ
+real_psl psl = 2 ^ 29 + mode_number (ring_of (current_of psl)) * 2 ^ 24 + mode_number (ring_of (previous_of psl)) * 2 ^ 22 + psl % 2 ^ 8

@@ -1,0 +1,22 @@
+ghost use Rattle.std.specs.Prelude.{◌≡◌};
+ghost use Rattle.vm_shadow.specs.Stands.{Fits};
+ghost use Rattle.vm_shadow.specs.StandsFor.{Notes};
+
+use crate::Shadow;
+use crate::flags::{is_flagged, set_flag};
+use crate::scans::{ALL_ENTRIES, Dropped, drop_entries};
+use vax_hw::Hardware;
+
+impl Shadow {
+    /// A frame of the guest was written, or will be: all that was read from it is dropped.
+    #[tactic(auto, using(crate::proofs::Noting::note_none, crate::proofs::Noting::note_all))]
+    pub fn note_write<H: Hardware>(&mut self, machine: &mut H, frame: u32)
+        requires fits { Fits (H.machine machine.old).memory self.old }
+        ensures { Notes frame (H.machine machine.old) self.old (H.machine machine.new) self.new }
+    {
+        if is_flagged(&self.consulted, frame) {
+            drop_entries(&mut self.reads, machine, self.at, 0, ALL_ENTRIES, Dropped::ReadFrom(frame));
+            set_flag(&mut self.consulted, frame, false);
+        }
+    }
+}

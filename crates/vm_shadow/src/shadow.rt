@@ -1,0 +1,31 @@
+use crate::Source;
+use std::marker::Model;
+use vm_slots::{Context, Slots};
+
+/// The shadow page tables of a guest: where they lie, and what is kept of them. Contracts see it as that.
+#[derive(Drop)]
+pub struct Shadow {
+    /// The guest's pages of 512 bytes, the first of them in the machine, and the first page of its real tables.
+    pub(crate) pages: u32,
+    pub(crate) base: u32,
+    pub(crate) at: u32,
+    /// The registers that were told last, and the slot of the context.
+    pub(crate) context: Context,
+    pub(crate) sbr: u32,
+    pub(crate) slr: u32,
+    pub(crate) slot: u8,
+    pub(crate) held: Slots,
+    /// By the number of a real entry, the frames that it was read from.
+    pub(crate) reads: Vec<Option<Source>>,
+    /// By frame of the guest: an entry may have been read from it; a real entry may map it with its modify bit set.
+    pub(crate) consulted: Vec<bool>,
+    pub(crate) writable: Vec<bool>,
+}
+
+impl Model for Shadow {
+    ghost use Rattle.vm_shadow.specs.Stands.{Shadowed};
+
+    ghost Value = { Shadowed };
+
+    ghost view = { λ s. record { pages = s.pages; base = s.base; at = s.at; told = record { mapped = s.context.mapped; p0br = s.context.p0br; p0lr = s.context.p0lr; p1br = s.context.p1br; p1lr = s.context.p1lr; sbr = s.sbr; slr = s.slr }; slot = s.slot; held = s.held; reads = s.reads.items; consulted = s.consulted.items; writable = s.writable.items } };
+}
