@@ -2,7 +2,7 @@
 use Rattle.std.proofs.Common.{◌≡◌, ◌≢◌, ℕ, ◌+◌, ◌*◌, ◌/◌, ◌<◌, ◌≤◌, Bool, true, false, ◌||◌, ◌==◌, eqb, List, length, set, slice_set, slice_index_or, Option, Some, None, refl, ap, ◌∙◌, sym, subst, arith, ◌⊎◌, inl, inr}
 use Rattle.std.proofs.lemmas.Bool.{cases_eq, eqb-false, false≢true, ne_eqb, or_from, or_parts, true≢false}
 use Rattle.std.proofs.lemmas.List.{get_or-set_other, get_or-set_same, length-set, set_past}
-use Rattle.vm_shadow.specs.Flags.{any_flagged, with_flags}
+use Rattle.vm_shadow.specs.Flags.{IsWithin, any_flagged, with_flags}
 use Rattle.vm_shadow.specs.Stands.{is_flagged, is_read_from}
 use Rattle.vm_shadow.specs.declared.source.Source.{Source}
 use Rattle.vm_shadow.specs.declared.source.Source.TheVariants.{Direct, Process, System}
@@ -10,12 +10,6 @@ use Rattle.vm_shadow.proofs.Places.{split}
 
 pub no_flag : (flags : List Bool) (frame : ℕ) (value : Bool) → length flags ≤ frame → flags ≡ slice_set flags frame value
 no_flag flags frame value h = sym (set_past flags frame value h)
-
--- the frames that a source has are frames of the guest
-abbrev pub IsWithin : ℕ → Source → Type 0
-IsWithin pages Direct = Unit {0}
-IsWithin pages (System entry) = entry < pages
-IsWithin pages (Process entry table) = (entry < pages) × (table < pages)
 
 pub flags_size : (value : Bool) (source : Source) (flags : List Bool) → length (with_flags value source flags) ≡ length flags
 flags_size value Direct flags = refl

@@ -10,3 +10,6 @@ pub mod Scanning
 pub mod Closing
 pub mod Flagging
 pub mod Noting
+pub mod Protecting
+pub mod Covering
+pub mod Filling

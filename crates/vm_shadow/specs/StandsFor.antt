@@ -1,15 +1,18 @@
 -- The shadow page tables of a guest stand for its own.
-use Rattle.std.specs.Prelude.{◌≡◌, ◌≢◌, ℕ, ◌+◌, ◌*◌, ◌/◌, ◌%◌, ◌^◌, ◌≤◌, ◌==◌, Bool, true, false, not, List, [], ◌∷◌, length, Option, Some, None, filter, slice_set, slice_index_or}
-use Rattle.vax_arch.specs.Fields.{current_of, frame_of, is_valid, mode_number, previous_of}
+use Rattle.std.specs.Prelude.{◌≡◌, ◌≢◌, ℕ, ◌+◌, ◌*◌, ◌/◌, ◌%◌, ◌^◌, ◌<◌, ◌≤◌, ◌==◌, Bool, true, false, not, List, [], ◌∷◌, length, Option, Some, None, filter, slice_set, slice_index_or}
+use Rattle.vax_arch.specs.Fields.{current_of, frame_of, is_modified, is_valid, mode_number, previous_of}
 use Rattle.vax_arch.specs.Ring.{ring_of}
 use Rattle.vax_arch.specs.Walk.{Tables, entry_at}
 use Rattle.vax_arch.specs.declared.walk.Lookup.{Lookup}
+use Rattle.vax_arch.specs.declared.pte.Pte.{Pte}
 use Rattle.vax_hw.specs.Machine.{Machine}
 use Rattle.vm_shadow.specs.Calls.{OnlyTables, unless_dropped}
-use Rattle.vm_shadow.specs.Layout.{entry_number, real_tables}
-use Rattle.vm_shadow.specs.Stands.{IsSource, Keeps, Shadowed, is_read_from, read_at}
+use Rattle.vm_shadow.specs.Flags.{IsWithin}
+use Rattle.vm_shadow.specs.Layout.{all_entries, entry_number}
+use Rattle.vm_shadow.specs.Stands.{IsSource, Keeps, Shadowed, is_read_from, mapped_frame, read_at, real_at}
 use Rattle.vm_shadow.specs.declared.source.Source.{Source}
 use Rattle.vm_state.specs.Allowed.{AreAllowed}
+use Rattle.vm_state.specs.Partition.{guest_of}
 use Rattle.vm_state.specs.State.{Guest, state_of, tables_of}
 use Rattle.vm_state.specs.Translation.{look}
 use Rattle.vm_state.specs.declared.guest_state.GuestState.{GuestState}
@@ -67,3 +70,21 @@ closed_for n opened = filter (λ k. not (k == n)) opened
 -- (Hall and Robinson, Virtualizing the VAX Architecture, ISCA 1991).
 abbrev pub real_psl : ℕ → ℕ
 real_psl psl = 2 ^ 29 + mode_number (ring_of (current_of psl)) * 2 ^ 24 + mode_number (ring_of (previous_of psl)) * 2 ^ 22 + psl % 2 ^ 8
+
+-- what a page's entry is, by its look-up, and where it was read from
+abbrev pub IsEntry : (pages : ℕ) → (memory : List ℕ) → Lookup → Option (Pte × Source) → Type 0
+IsEntry pages memory seen None = entry_at memory seen ≡ None
+IsEntry pages memory seen (Some (entry, source)) = (entry_at memory seen ≡ Some entry.0) × IsSource seen source × IsWithin pages source
+
+-- no page with a set modify bit maps a frame that a source has, and no more changed than modify bits
+pub record Protects (source : Source) (m : Machine) (s : Shadowed) (m' : Machine) (s' : Shadowed) : Type 0 where
+  pub keeps : Keeps [] [] m'.memory s'
+  pub free : (k : ℕ) → k < all_entries → is_valid (real_at m'.memory s k) ≡ true → is_modified (real_at m'.memory s k) ≡ true → is_read_from (mapped_frame s (real_at m'.memory s k)) (Some source) ≡ false
+  pub rest : s' ≡ record s { writable = s'.writable }
+  pub only : OnlyTables s.at m m'
+
+-- a page of the guest is filled
+pub record FillsPage (page : ℕ) (g : GuestState) (m : Machine) (s : Shadowed) (m' : Machine) (s' : Shadowed) : Type 0 where
+  pub stands : StandsFor m'.memory s' g
+  pub fills : Fills (look (guest_of m.memory g) page) (own_number s page) s s'
+  pub only : OnlyTables s.at m m'

@@ -1,6 +1,7 @@
 //! Shadow page tables of a guest: filled on demand, kept across steps in four process slots, and never stale.
 #![tactic(auto)]
 
+mod fills;
 mod flags;
 mod notes;
 mod scans;

@@ -1,0 +1,100 @@
+ghost use Rattle.std.specs.Prelude.{◌≡◌, ◌<◌, ◌≤◌, ◌+◌, ◌*◌, ◌^◌, [], length, false};
+ghost use Rattle.vax_arch.specs.Walk.{page_of};
+ghost use Rattle.vax_arch.specs.WalkLaws.{IsInside};
+ghost use Rattle.vm_shadow.specs.Calls.{OnlyTables};
+ghost use Rattle.vm_shadow.specs.Layout.{IsCovered, entry_number, real_entry};
+ghost use Rattle.vm_shadow.specs.Stands.{Keeps, own};
+ghost use Rattle.vm_shadow.specs.StandsFor.{FillsPage, IsEntry, IsPresent, Protects, StandsFor};
+ghost use Rattle.vm_state.specs.Partition.{guest_of, partition_of};
+ghost use Rattle.vm_state.specs.Translation.{look};
+
+use crate::flags::{any_flagged, set_flags};
+use crate::scans::{close_entries, entry_place};
+use crate::{Shadow, Source};
+use vax_arch::{Lookup, Pte, compress};
+use vax_hw::Hardware;
+use vm_state::GuestState;
+use vm_walk::look_up;
+
+/// The pages of a region; and the first page of P1 for which there are real entries.
+const REGION: u32 = 0x20_0000;
+const P1_FIRST: u32 = 2_088_960;
+
+/// The number of the real entry of a page, in a slot.
+pub fn entry_number(slot: u32, page: u32) -> u32
+    requires slot { slot < 4 }
+    requires covered { IsCovered page }
+    ensures is { result ≡ entry_number slot page }
+    ensures small { result < 73728 }
+{
+    let in_region = page % REGION;
+    match page / REGION % 4 {
+        2 => in_region,
+        0 => 8192 + 16_384 * slot + in_region,
+        _ => 16_384 + 16_384 * slot + (in_region - P1_FIRST),
+    }
+}
+
+/// The real entry that stands for an entry of the guest, with its modify bit clear.
+fn real_entry(base: u32, entry: Pte) -> u32
+    requires { base ≤ 65536 }
+    ensures { result ≡ real_entry base false entry.0 }
+{
+    0x8000_0000 + u32::from(compress(entry.prot()).0) * 0x0800_0000 + (base + entry.frame())
+}
+
+/// The entry of a page of the guest, by its look-up, with the frames that it is read from.
+#[tactic(auto, using(vm_state::proofs::Parts::part_long))]
+fn entry_of<H: Hardware>(machine: &H, g: &GuestState, seen: Lookup) -> Option<(Pte, Source)>
+    requires partition { 512 * (g.now.base + g.now.pages) ≤ length (H.machine machine.now).memory }
+    requires inside { IsInside (512 * g.now.pages) seen }
+    ensures { IsEntry g.now.pages (partition_of (H.machine machine.now).memory g.now) seen result }
+{
+    let _all = machine.pages();
+    match seen {
+        Lookup::Found { place, table } => {
+            let entry = Pte(machine.read_long(512 * g.base + place));
+            let source = match table {
+                None => Source::System { entry: place / 512 },
+                Some(above) => Source::Process {
+                    entry: place / 512,
+                    table: above / 512,
+                },
+            };
+            Some((entry, source))
+        }
+        Lookup::Direct { frame } => Some((Pte(0xA400_0000 + frame), Source::Direct)),
+        Lookup::Fails { .. } | Lookup::Beyond => None,
+    }
+}
+
+impl Shadow {
+    /// No page that maps a frame that a source has can be written without an exit any longer.
+    fn protect<H: Hardware>(&mut self, machine: &mut H, source: Source)
+        requires { Keeps [] [] (H.machine machine.old).memory self.old }
+        ensures { Protects source (H.machine machine.old) self.old (H.machine machine.new) self.new }
+    {
+        if any_flagged(&self.writable, source) {
+            close_entries(&self.reads, machine, self.at, self.base, source);
+            set_flags(&mut self.writable, source, false);
+        }
+    }
+
+    /// Fills the real entry of an address's page, with its modify bit clear. The page's entry must be found and valid, and
+    /// name a frame in memory; what its code lets isn't asked.
+    pub fn fill<H: Hardware>(&mut self, machine: &mut H, g: &GuestState, va: u32)
+        requires stands { StandsFor (H.machine machine.old).memory self.old g.now }
+        requires present { IsPresent (guest_of (H.machine machine.old).memory g.now) (page_of va) }
+        ensures { FillsPage (page_of va) g.now (H.machine machine.old) self.old (H.machine machine.new) self.new }
+    {
+        let page = va / 512;
+        let seen = look_up(machine, g, page);
+        if let Some((entry, source)) = entry_of(machine, g, seen) {
+            self.protect(machine, source);
+            let n = entry_number(u32::from(self.slot), page);
+            machine.write_long(entry_place(self.at, n), real_entry(self.base, entry));
+            self.reads[n as usize] = Some(source);
+            set_flags(&mut self.consulted, source, true);
+        }
+    }
+}
