@@ -13,7 +13,7 @@ use Rattle.vm_shadow.proofs.Writes.{IsWritten}
 use Rattle.vm_shadow.proofs.Entries.{CanSet, IsSet, remembers, set_entry}
 use Rattle.vm_shadow.proofs.Rights.{frame_fits, modify_of, one_less, one_more, right_frame, right_modify, right_valid, valid_of}
 
-empty_invalid : (A : Type 0) → is_valid empty_entry ≡ true → A
+pub empty_invalid : (A : Type 0) → is_valid empty_entry ≡ true → A
 empty_invalid A e = absurd (false≢true e)
 
 -- an entry is dropped

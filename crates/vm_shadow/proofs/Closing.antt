@@ -34,7 +34,7 @@ closes_past at base end source m m' reads h none c = record {
   gone = λ s e f d k. next_gone at base source m'.memory s end (c.gone s e f d k) (λ v. unfilled _ [] m'.memory s end (c.keeps s e f d k) h (subst (λ r. is_some (remembered r end) ≡ false) (sym d) none) v);
 }
 
-one_clear : (real : ℕ) → is_modified real ≡ true → is_modified (real - 2 ^ 26) ≡ false
+pub one_clear : (real : ℕ) → is_modified real ≡ true → is_modified (real - 2 ^ 26) ≡ false
 one_clear real e = let b : real / 2 ^ 26 % 2 ≡ 1 = eqb-true (real / 2 ^ 26 % 2) 1 e in let z : (real - 2 ^ 26) / 2 ^ 26 % 2 ≡ 0 = omega arith in ap (λ x. eqb x 1) z
 
 closes_shut : (at base end place : ℕ) (source : Source) (m m' : Machine) (reads : List (Option Source)) → place ≡ entry_place at end → maps_open base source (long_at m'.memory place) ≡ false → Closes at base end source m reads m' → Closes at base (end + 1) source m reads m'

@@ -13,3 +13,4 @@ pub mod Noting
 pub mod Protecting
 pub mod Covering
 pub mod Filling
+pub mod Guarding

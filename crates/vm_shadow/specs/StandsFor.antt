@@ -9,7 +9,7 @@ use Rattle.vax_hw.specs.Machine.{Machine}
 use Rattle.vm_shadow.specs.Calls.{OnlyTables, unless_dropped}
 use Rattle.vm_shadow.specs.Flags.{IsWithin}
 use Rattle.vm_shadow.specs.Layout.{all_entries, entry_number}
-use Rattle.vm_shadow.specs.Stands.{IsSource, Keeps, Shadowed, is_read_from, mapped_frame, read_at, real_at}
+use Rattle.vm_shadow.specs.Stands.{IsSource, Keeps, Shadowed, is_flagged, is_read_from, mapped_frame, own, read_at, real_at, seen_at}
 use Rattle.vm_shadow.specs.declared.source.Source.{Source}
 use Rattle.vm_state.specs.Allowed.{AreAllowed}
 use Rattle.vm_state.specs.Partition.{guest_of}
@@ -87,4 +87,40 @@ pub record Protects (source : Source) (m : Machine) (s : Shadowed) (m' : Machine
 pub record FillsPage (page : ℕ) (g : GuestState) (m : Machine) (s : Shadowed) (m' : Machine) (s' : Shadowed) : Type 0 where
   pub stands : StandsFor m'.memory s' g
   pub fills : Fills (look (guest_of m.memory g) page) (own_number s page) s s'
+  pub only : OnlyTables s.at m m'
+
+-- An entry of the guest whose page was modified, for which a real entry stands.
+pub record IsMarked (memory : List ℕ) (s : Shadowed) (n : ℕ) : Type 0 where
+  pub filled : is_valid (real_at memory s n) ≡ true
+  pub entry : ℕ
+  pub has : entry_at (own memory s) (seen_at memory s n) ≡ Some entry
+  pub modified : is_modified entry ≡ true
+
+-- a page is opened for a guarded step: it may be written now without an exit
+pub record OpensPage (n : ℕ) (m : Machine) (s : Shadowed) (m' : Machine) (s' : Shadowed) : Type 0 where
+  pub keeps : (opened : List ℕ) → Keeps [] opened m.memory s → Keeps [] (n ∷ opened) m'.memory s'
+  pub opens : is_modified (real_at m'.memory s n) ≡ true
+  pub rest : s' ≡ record s { writable = s'.writable }
+  pub only : OnlyTables s.at m m'
+
+-- writes to a page are granted for good
+pub record GrantsPage (n : ℕ) (m : Machine) (s : Shadowed) (m' : Machine) (s' : Shadowed) : Type 0 where
+  pub keeps : (opened : List ℕ) → Keeps [] opened m.memory s → Keeps [] opened m'.memory s'
+  pub opens : is_modified (real_at m'.memory s n) ≡ true
+  pub rest : s' ≡ record s { writable = s'.writable }
+  pub only : OnlyTables s.at m m'
+
+-- whether writes to an entry's page can be granted: no entry may have been read from its frame
+abbrev pub can_grant : List ℕ → Shadowed → ℕ → Bool
+can_grant memory s n = not (is_flagged (mapped_frame s (real_at memory s n)) s.consulted)
+
+-- granted, or left as it was
+abbrev pub IsGranted : Bool → (n : ℕ) → (m : Machine) → (s : Shadowed) → (m' : Machine) → (s' : Shadowed) → Type 0
+IsGranted true n m s m' s' = GrantsPage n m s m' s'
+IsGranted false n m s m' s' = (m' ≡ m) × (s' ≡ s)
+
+-- a page is closed behind a guarded step
+pub record ClosesPage (n : ℕ) (m : Machine) (s : Shadowed) (m' : Machine) : Type 0 where
+  pub keeps : (opened : List ℕ) → Keeps [] opened m.memory s → Keeps [] (closed_for n opened) m'.memory s
+  pub closes : is_modified (real_at m'.memory s n) ≡ false
   pub only : OnlyTables s.at m m'

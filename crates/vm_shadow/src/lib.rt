@@ -3,6 +3,7 @@
 
 mod fills;
 mod flags;
+mod guards;
 mod notes;
 mod scans;
 mod shadow;

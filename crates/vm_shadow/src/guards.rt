@@ -1,0 +1,77 @@
+ghost use Rattle.std.specs.Prelude.{◌≡◌, ◌≤◌, ◌+◌, length};
+ghost use Rattle.vax_arch.specs.Walk.{page_of};
+ghost use Rattle.vm_shadow.specs.Layout.{IsCovered, entry_place};
+ghost use Rattle.vm_shadow.specs.Stands.{Fits};
+ghost use Rattle.vm_shadow.specs.StandsFor.{ClosesPage, IsGranted, IsMarked, OpensPage, can_grant, own_number};
+
+use crate::Shadow;
+use crate::fills::entry_number;
+use crate::flags::{is_flagged, set_flag};
+use crate::scans::{MODIFY, entry_place};
+use vax_arch::Pte;
+use vax_hw::Hardware;
+
+impl Shadow {
+    /// The place of the real entry of a page, in the slot in use.
+    #[tactic(auto, using(crate::proofs::Covering::slot_small, crate::proofs::Guarding::place_inside))]
+    fn place<H: Hardware>(&self, machine: &H, page: u32) -> u32
+        requires fits { Fits (H.machine machine.now).memory self.now }
+        requires covered { IsCovered page }
+        ensures is { result ≡ entry_place self.now.at (own_number self.now page) }
+        ensures inside { result + 4 ≤ length (H.machine machine.now).memory }
+    {
+        let _all = machine.pages();
+        entry_place(self.at, entry_number(u32::from(self.slot), page))
+    }
+
+    /// Opens an address's page for one guarded step: its real modify bit is set. The page's real entry must be valid, and
+    /// the guest's own modify bit set.
+    pub fn open_write<H: Hardware>(&mut self, machine: &mut H, va: u32)
+        requires fits { Fits (H.machine machine.old).memory self.old }
+        requires covered { IsCovered (page_of va) }
+        requires marked { IsMarked (H.machine machine.old).memory self.old (own_number self.old (page_of va)) }
+        ensures { OpensPage (own_number self.old (page_of va)) (H.machine machine.old) self.old (H.machine machine.new) self.new }
+    {
+        let place = self.place(machine, va / 512);
+        let entry = Pte(machine.read_long(place));
+        if !entry.modified() {
+            machine.write_long(place, entry.0 + MODIFY);
+            set_flag(&mut self.writable, entry.frame().saturating_sub(self.base), true);
+        }
+    }
+
+    /// Grants writes to an address's page for good, where no entry may have been read from its frame; false where one may
+    /// have been, and then nothing changes. The page's real entry must be valid, and the guest's own modify bit set.
+    pub fn grant_write<H: Hardware>(&mut self, machine: &mut H, va: u32) -> bool
+        requires fits { Fits (H.machine machine.old).memory self.old }
+        requires covered { IsCovered (page_of va) }
+        requires marked { IsMarked (H.machine machine.old).memory self.old (own_number self.old (page_of va)) }
+        ensures when { result ≡ can_grant (H.machine machine.old).memory self.old (own_number self.old (page_of va)) }
+        ensures is { IsGranted result (own_number self.old (page_of va)) (H.machine machine.old) self.old (H.machine machine.new) self.new }
+    {
+        let place = self.place(machine, va / 512);
+        let entry = Pte(machine.read_long(place));
+        let frame = entry.frame().saturating_sub(self.base);
+        if is_flagged(&self.consulted, frame) {
+            return false;
+        }
+        if !entry.modified() {
+            machine.write_long(place, entry.0 + MODIFY);
+            set_flag(&mut self.writable, frame, true);
+        }
+        true
+    }
+
+    /// Closes an address's page behind a guarded step: its real modify bit is clear.
+    pub fn close_write<H: Hardware>(&self, machine: &mut H, va: u32)
+        requires fits { Fits (H.machine machine.old).memory self.now }
+        requires covered { IsCovered (page_of va) }
+        ensures { ClosesPage (own_number self.now (page_of va)) (H.machine machine.old) self.now (H.machine machine.new) }
+    {
+        let place = self.place(machine, va / 512);
+        let entry = Pte(machine.read_long(place));
+        if entry.modified() {
+            machine.write_long(place, entry.0 - MODIFY);
+        }
+    }
+}
