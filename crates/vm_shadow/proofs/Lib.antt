@@ -14,3 +14,6 @@ pub mod Protecting
 pub mod Covering
 pub mod Filling
 pub mod Guarding
+pub mod Holding
+pub mod Switching
+pub mod Taking

@@ -1,5 +1,5 @@
 -- The shadow page tables of a guest stand for its own.
-use Rattle.std.specs.Prelude.{◌≡◌, ◌≢◌, ℕ, ◌+◌, ◌*◌, ◌/◌, ◌%◌, ◌^◌, ◌<◌, ◌≤◌, ◌==◌, Bool, true, false, not, List, [], ◌∷◌, length, Option, Some, None, filter, slice_set, slice_index_or}
+use Rattle.std.specs.Prelude.{◌≡◌, ◌≢◌, ℕ, ◌+◌, ◌*◌, ◌/◌, ◌%◌, ◌^◌, ◌<◌, ◌≤◌, ◌==◌, Bool, true, false, not, ◌&&◌, nat_le, List, [], ◌∷◌, length, IfSome, Option, Some, None, filter, slice_set, slice_index_or}
 use Rattle.vax_arch.specs.Fields.{current_of, frame_of, is_modified, is_valid, mode_number, previous_of}
 use Rattle.vax_arch.specs.Ring.{ring_of}
 use Rattle.vax_arch.specs.Walk.{Tables, entry_at}
@@ -8,12 +8,15 @@ use Rattle.vax_arch.specs.declared.pte.Pte.{Pte}
 use Rattle.vax_hw.specs.Machine.{Machine}
 use Rattle.vm_shadow.specs.Calls.{OnlyTables, unless_dropped}
 use Rattle.vm_shadow.specs.Flags.{IsWithin}
-use Rattle.vm_shadow.specs.Layout.{all_entries, entry_number}
+use Rattle.vm_slots.specs.Held.{AreSlots, Held, LastGoes, beside, brought_forward, contexts_of, slot_of, without}
+use Rattle.vm_slots.specs.declared.context.Context.{Context}
+use Rattle.vm_shadow.specs.Layout.{all_entries, entry_number, entry_slot}
 use Rattle.vm_shadow.specs.Stands.{IsSource, Keeps, Shadowed, is_flagged, is_read_from, mapped_frame, own, read_at, real_at, seen_at}
 use Rattle.vm_shadow.specs.declared.source.Source.{Source}
 use Rattle.vm_state.specs.Allowed.{AreAllowed}
 use Rattle.vm_state.specs.Partition.{guest_of}
-use Rattle.vm_state.specs.State.{Guest, state_of, tables_of}
+use Rattle.vm_state.specs.State.{Guest, context_of, state_of, tables_of}
+use Rattle.vm_state.specs.Touches.{is_remapped}
 use Rattle.vm_state.specs.Translation.{look}
 use Rattle.vm_state.specs.declared.guest_state.GuestState.{GuestState}
 
@@ -123,4 +126,41 @@ IsGranted false n m s m' s' = (m' ≡ m) × (s' ≡ s)
 pub record ClosesPage (n : ℕ) (m : Machine) (s : Shadowed) (m' : Machine) : Type 0 where
   pub keeps : (opened : List ℕ) → Keeps [] opened m.memory s → Keeps [] (closed_for n opened) m'.memory s
   pub closes : is_modified (real_at m'.memory s n) ≡ false
+  pub only : OnlyTables s.at m m'
+
+-- Another context: SBR, SLR or mapping changed, so that no context stays; or the others stay, but for the last of four.
+abbrev pub staying : Bool → Held → Held
+staying true held = []
+staying false held = held
+
+-- whether an entry goes: all where SBR, SLR or mapping changed, else those in the slot of a context that goes
+abbrev pub goes : (remapped evicted : Bool) → (slot n : ℕ) → Bool
+goes true evicted slot n = true
+goes false true slot n = nat_le 8192 n && entry_slot n == slot
+goes false false slot n = false
+
+abbrev pub is_full_for : Context → Held → Bool
+is_full_for c held = length (without c held) == 4
+
+-- what the list of contexts becomes, when one comes to the front and has this slot
+pub record Takes (c : Context) (held held' : Held) (slot : ℕ) : Type 0 where
+  pub front : held' ≡ (c, slot) ∷ beside c held
+  pub kept : IfSome (slot_of c held) (λ own. slot ≡ own)
+  pub gone : length (without c held) ≡ 4 → LastGoes held (beside c held) slot
+  pub before : AreSlots held
+  pub after : AreSlots held'
+  pub contexts : contexts_of held' ≡ brought_forward c (contexts_of held)
+
+-- the entries that go lie in one range
+abbrev pub range_that_goes : (remapped evicted : Bool) → (slot : ℕ) → ℕ × ℕ
+range_that_goes true evicted slot = (0, all_entries)
+range_that_goes false true slot = (8192 + 16384 * slot, 8192 + 16384 * slot + 16384)
+range_that_goes false false slot = (0, 0)
+
+pub record Switches (g : GuestState) (m : Machine) (s : Shadowed) (m' : Machine) (s' : Shadowed) : Type 0 where
+  pub keeps : Keeps [] [] m'.memory s'
+  pub serves : Serves g s'
+  pub contexts : contexts_of s'.held ≡ brought_forward (context_of (tables_of g)) (contexts_of (staying (is_remapped s.told (tables_of g)) s.held))
+  pub each : (n : ℕ) → read_at s' n ≡ unless_dropped (goes (is_remapped s.told (tables_of g)) (is_full_for (context_of (tables_of g)) s.held) s'.slot n) (read_at s n)
+  pub rest : s' ≡ record s { told = s'.told; slot = s'.slot; held = s'.held; reads = s'.reads }
   pub only : OnlyTables s.at m m'

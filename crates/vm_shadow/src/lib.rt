@@ -8,6 +8,7 @@ mod notes;
 mod scans;
 mod shadow;
 mod source;
+mod switches;
 
 pub use shadow::Shadow;
 pub use source::Source;

@@ -24,7 +24,7 @@ same_bool false true e = absurd (false≢true e)
 same_bool false false e = refl
 
 -- contexts that pass the test are one
-is_same-true : (c d : Context) → is_same c d ≡ true → c ≡ d
+pub is_same-true : (c d : Context) → is_same c d ≡ true → c ≡ d
 is_same-true c d e =
     let four = and_parts _ _ e in
     let three = and_parts _ _ four.0 in
