@@ -17,3 +17,4 @@ pub mod Guarding
 pub mod Holding
 pub mod Switching
 pub mod Taking
+pub mod Making

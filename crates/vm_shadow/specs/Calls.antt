@@ -3,7 +3,7 @@ use Rattle.std.specs.Prelude.{◌≡◌, ◌≢◌, ℕ, ◌+◌, ◌*◌, ◌-�
 use Rattle.vv_base.specs.Bytes.{long_at, long_bytes, overwritten}
 use Rattle.vax_arch.specs.Fields.{is_modified, is_valid}
 use Rattle.vax_hw.specs.Machine.{Machine}
-use Rattle.vm_shadow.specs.Layout.{all_entries}
+use Rattle.vm_shadow.specs.Layout.{empty_entry, entry_place, kernel_entry}
 use Rattle.vm_shadow.specs.Stands.{Keeps, Shadowed, is_read_from, mapped_frame, read_at, real_at}
 use Rattle.vm_shadow.specs.declared.source.Source.{Source}
 use Rattle.vm_shadow.specs.declared.source.Source.TheVariants.{Direct, Process, System}
@@ -54,3 +54,16 @@ pub record Closes (at base end : ℕ) (source : Source) (before : Machine) (read
 abbrev pub closed_at : Bool → Machine → (place : ℕ) → Machine
 closed_at true m place = record m { memory = overwritten m.memory place (long_bytes (long_at m.memory place - 2 ^ 26)) }
 closed_at false m place = m
+
+-- New tables.
+
+-- the entries below a number are empty, and the system entries that map the process tables stay
+pub record Clears (at end : ℕ) (before after : Machine) : Type 0 where
+  pub only : OnlyTables at before after
+  pub cleared : (n : ℕ) → n < end → long_at after.memory (entry_place at n) ≡ empty_entry
+  pub stay : (j : ℕ) → j < 512 → long_at after.memory (512 * at + 4 * (8192 + j)) ≡ long_at before.memory (512 * at + 4 * (8192 + j))
+
+-- so many pages of the process tables are mapped
+pub record Maps (at end : ℕ) (before after : Machine) : Type 0 where
+  pub only : OnlyTables at before after
+  pub mapped : (j : ℕ) → j < end → long_at after.memory (512 * at + 4 * (8192 + j)) ≡ kernel_entry (at + 68 + j)

@@ -6,11 +6,12 @@ use Rattle.vax_arch.specs.Walk.{Tables, entry_at}
 use Rattle.vax_arch.specs.declared.walk.Lookup.{Lookup}
 use Rattle.vax_arch.specs.declared.pte.Pte.{Pte}
 use Rattle.vax_hw.specs.Machine.{Machine}
+use Rattle.vax_hw.specs.declared.world.World.{World}
 use Rattle.vm_shadow.specs.Calls.{OnlyTables, unless_dropped}
 use Rattle.vm_shadow.specs.Flags.{IsWithin}
 use Rattle.vm_slots.specs.Held.{AreSlots, Held, LastGoes, beside, brought_forward, contexts_of, slot_of, without}
 use Rattle.vm_slots.specs.declared.context.Context.{Context}
-use Rattle.vm_shadow.specs.Layout.{all_entries, entry_number, entry_slot}
+use Rattle.vm_shadow.specs.Layout.{all_entries, entry_number, entry_slot, p0_base, p1_base}
 use Rattle.vm_shadow.specs.Stands.{IsSource, Keeps, Shadowed, is_flagged, is_read_from, mapped_frame, own, read_at, real_at, seen_at}
 use Rattle.vm_shadow.specs.declared.source.Source.{Source}
 use Rattle.vm_state.specs.Allowed.{AreAllowed}
@@ -164,3 +165,25 @@ pub record Switches (g : GuestState) (m : Machine) (s : Shadowed) (m' : Machine)
   pub each : (n : ℕ) → read_at s' n ≡ unless_dropped (goes (is_remapped s.told (tables_of g)) (is_full_for (context_of (tables_of g)) s.held) s'.slot n) (read_at s n)
   pub rest : s' ≡ record s { told = s'.told; slot = s'.slot; held = s'.held; reads = s'.reads }
   pub only : OnlyTables s.at m m'
+
+-- new shadow page tables: no entry is filled, and the guest's context alone is held
+pub record Makes (g : GuestState) (at : ℕ) (m m' : Machine) (s : Shadowed) : Type 0 where
+  pub stands : StandsFor m'.memory s g
+  pub place : s.at ≡ at
+  pub empty : (n : ℕ) → read_at s n ≡ None
+  pub contexts : contexts_of s.held ≡ context_of (tables_of g) ∷ []
+  pub only : OnlyTables at m m'
+
+-- what is loaded into the machine for a guest: its registers, and the real tables with the slot in use
+abbrev pub world_of : Shadowed → GuestState → World
+world_of s g = record {
+  r = g.r;
+  psl = record { 0 = real_psl g.psl.0 };
+  vmpsl = g.psl;
+  p0br = p0_base s.slot;
+  p0lr = 8192;
+  p1br = p1_base s.slot;
+  p1lr = 2088960;
+  sbr = 512 * s.at;
+  slr = 8704;
+}

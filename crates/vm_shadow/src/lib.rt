@@ -4,6 +4,7 @@
 mod fills;
 mod flags;
 mod guards;
+mod made;
 mod notes;
 mod scans;
 mod shadow;
