@@ -18,3 +18,5 @@ pub mod Holding
 pub mod Switching
 pub mod Taking
 pub mod Making
+pub mod Storing
+pub mod Marking

@@ -1,9 +1,10 @@
 -- The shadow page tables of a guest stand for its own.
-use Rattle.std.specs.Prelude.{◌≡◌, ◌≢◌, ℕ, ◌+◌, ◌*◌, ◌/◌, ◌%◌, ◌^◌, ◌<◌, ◌≤◌, ◌==◌, Bool, true, false, not, ◌&&◌, nat_le, List, [], ◌∷◌, length, IfSome, Option, Some, None, filter, slice_set, slice_index_or}
+use Rattle.std.specs.Prelude.{◌≡◌, ◌≢◌, ℕ, ◌+◌, ◌*◌, ◌/◌, ◌%◌, ◌^◌, ◌<◌, ◌≤◌, ◌==◌, ◌⊎◌, Bool, true, false, not, ◌&&◌, nat_le, List, [], ◌∷◌, length, IfSome, Option, Some, None, filter, slice_index, slice_set, slice_index_or}
 use Rattle.vax_arch.specs.Fields.{current_of, frame_of, is_modified, is_valid, mode_number, previous_of}
 use Rattle.vax_arch.specs.Ring.{ring_of}
 use Rattle.vax_arch.specs.Walk.{Tables, entry_at}
 use Rattle.vax_arch.specs.declared.walk.Lookup.{Lookup}
+use Rattle.vax_arch.specs.declared.walk.Lookup.TheVariants as looks
 use Rattle.vax_arch.specs.declared.pte.Pte.{Pte}
 use Rattle.vax_hw.specs.Machine.{Machine}
 use Rattle.vax_hw.specs.declared.world.World.{World}
@@ -15,10 +16,10 @@ use Rattle.vm_shadow.specs.Layout.{all_entries, entry_number, entry_slot, p0_bas
 use Rattle.vm_shadow.specs.Stands.{IsSource, Keeps, Shadowed, is_flagged, is_read_from, mapped_frame, own, read_at, real_at, seen_at}
 use Rattle.vm_shadow.specs.declared.source.Source.{Source}
 use Rattle.vm_state.specs.Allowed.{AreAllowed}
-use Rattle.vm_state.specs.Partition.{guest_of}
+use Rattle.vm_state.specs.Partition.{guest_of, partition_of}
 use Rattle.vm_state.specs.State.{Guest, context_of, state_of, tables_of}
 use Rattle.vm_state.specs.Touches.{is_remapped}
-use Rattle.vm_state.specs.Translation.{look}
+use Rattle.vm_state.specs.Translation.{look, marked_by}
 use Rattle.vm_state.specs.declared.guest_state.GuestState.{GuestState}
 
 -- the guest is the one that is served, under the registers that were told last
@@ -187,3 +188,29 @@ world_of s g = record {
   sbr = 512 * s.at;
   slr = 8704;
 }
+
+-- of the machine the memory alone changes, and of that the guest's memory and its real tables alone
+pub record OnlyGuest (s : Shadowed) (m m' : Machine) : Type 0 where
+  pub rest : m' ≡ record m { memory = m'.memory }
+  pub size : length m'.memory ≡ length m.memory
+  pub other : (p : ℕ) → (p < 512 * s.base) ⊎ (512 * (s.base + s.pages) ≤ p) → (p < 512 * s.at) ⊎ (512 * (s.at + 580) ≤ p) → slice_index m'.memory p ≡ slice_index m.memory p
+
+-- The kernel writes the guest's memory at a place, so that it becomes this: what was read from its frame is dropped.
+pub record Stores (pa : ℕ) (memory : List ℕ) (m : Machine) (s : Shadowed) (m' : Machine) (s' : Shadowed) : Type 0 where
+  pub keeps : (pending opened : List ℕ) → Keeps pending opened m.memory s → Keeps pending opened m'.memory s'
+  pub own : own m'.memory s' ≡ memory
+  pub drops : DropsFrom (pa / 512) s s'
+  pub only : OnlyGuest s m m'
+
+-- The modify bit of a page's entry is set.
+abbrev pub DropsMarked : Lookup → Shadowed → Shadowed → Type 0
+DropsMarked (looks.Found place table) s s' = DropsFrom (place / 512) s s'
+DropsMarked (looks.Direct frame) s s' = s' ≡ s
+DropsMarked (looks.Fails not_valid parameter) s s' = s' ≡ s
+DropsMarked looks.Beyond s s' = s' ≡ s
+
+pub record Marks (page : ℕ) (g : GuestState) (m : Machine) (s : Shadowed) (m' : Machine) (s' : Shadowed) : Type 0 where
+  pub stands : StandsFor m'.memory s' g
+  pub memory : partition_of m'.memory g ≡ marked_by (look (guest_of m.memory g) page) (partition_of m.memory g)
+  pub drops : DropsMarked (look (guest_of m.memory g) page) s s'
+  pub only : OnlyGuest s m m'

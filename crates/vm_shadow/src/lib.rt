@@ -9,6 +9,7 @@ mod notes;
 mod scans;
 mod shadow;
 mod source;
+mod stores;
 mod switches;
 
 pub use shadow::Shadow;
