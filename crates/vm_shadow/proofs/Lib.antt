@@ -20,3 +20,5 @@ pub mod Taking
 pub mod Making
 pub mod Storing
 pub mod Marking
+pub mod RealWalks
+pub mod Hearing

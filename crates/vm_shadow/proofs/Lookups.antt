@@ -29,7 +29,7 @@ system_same size memory other t page r = rw r refl
 abbrev pub IsBy : ℕ → Tables → ℕ → Lookup → Type 0
 IsBy size t page (Found place None) = (memory other : List ℕ) → lookup size other t page ≡ lookup size memory t page
 IsBy size t page (Found place (Some table)) = table ≡ table_place t page
-IsBy size t page (Direct frame) = (memory other : List ℕ) → lookup size other t page ≡ lookup size memory t page
+IsBy size t page (Direct frame) = (frame ≡ page) × ((memory other : List ℕ) → lookup size other t page ≡ lookup size memory t page)
 IsBy size t page (Fails v p) = Unit {0}
 IsBy size t page Beyond = Unit {0}
 
@@ -68,7 +68,7 @@ looks_by size memory t page =
           (λ r1. cond_both (region_of page == 2) _ _ P
             (λ r. system_by size t page (eqb-true (region_of page) 2 r))
             (λ r2. tt))))
-      (λ off. cond_both (is_past size (512 * page) 512) _ _ P (λ h. tt) (λ h. λ m n. off_same size m n t page off))
+      (λ off. cond_both (is_past size (512 * page) 512) _ _ P (λ h. tt) (λ h. (refl, λ m n. off_same size m n t page off)))
 
 -- two memories that differ in one frame alone
 pub record DifferIn (frame : ℕ) (memory other : List ℕ) : Type 0 where
@@ -102,7 +102,7 @@ same_by size frame memory other t page (Found place (Some above)) (sources.Proce
     }
 same_by size frame memory other t page (Found place (Some above)) sources.Direct d e by aligned is u = absurd is
 same_by size frame memory other t page (Found place (Some above)) (sources.System entry) d e by aligned is u = absurd is
-same_by size frame memory other t page (Direct f) source d e by aligned is u = record { look = by memory other ∙ e; entry = refl }
+same_by size frame memory other t page (Direct f) source d e by aligned is u = record { look = by.1 memory other ∙ e; entry = refl }
 same_by size frame memory other t page (Fails v p) source d e by aligned is u = absurd is
 same_by size frame memory other t page Beyond source d e by aligned is u = absurd is
 

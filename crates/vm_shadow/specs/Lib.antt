@@ -3,3 +3,4 @@ pub mod Stands
 pub mod Calls
 pub mod Flags
 pub mod StandsFor
+pub mod Laws
