@@ -1,1 +1,6 @@
 pub mod Looks
+pub mod Mapped
+pub mod One
+pub mod Puts
+pub mod Quiet
+pub mod Writable

@@ -5,10 +5,10 @@ use Rattle.vax_decode.specs.Decoding.{IsWhole, IsAnswer}
 use Rattle.vax_decode.specs.declared.outcome.Decode.TheVariants.{Fault}
 use Rattle.vax_decode.specs.declared.outcome.DecodeFault.{DecodeFault}
 use Rattle.vax_decode.specs.declared.outcome.DecodeFault.TheVariants.{Opcode, Addressing}
-use Rattle.vax_hw.specs.Real.{exits, exit_of}
+use Rattle.vax_hw.specs.Real.{exit_of}
 use Rattle.vax_hw.specs.declared.world.Exit.{Exit}
 use Rattle.vax_hw.specs.declared.world.Exit.TheVariants.{Refused}
-use Rattle.vax_cpu.specs.Fetched.{refusal_of}
+use Rattle.vax_cpu.specs.Fetched.{exits, refusal_of}
 use Rattle.vax_table.specs.declared.act.Refusal.{Refusal}
 use Rattle.vax_table.specs.declared.act.Refusal.TheVariants as refusals
 use Rattle.vax_table.specs.Fetch.{by_answer, decided}

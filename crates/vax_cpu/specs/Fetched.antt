@@ -2,8 +2,10 @@
 use Rattle.std.specs.Prelude.{ℕ, Result, Ok, Err}
 use Rattle.vax_decode.specs.declared.outcome.DecodeFault.{DecodeFault}
 use Rattle.vax_decode.specs.declared.outcome.DecodeFault.TheVariants as faults
+use Rattle.vax_hw.specs.Real.{exit_of}
 use Rattle.vax_hw.specs.declared.world.Exit.{Exit}
 use Rattle.vax_table.specs.Effects.{effect}
+use Rattle.vax_table.specs.Script.{Trouble}
 use Rattle.vax_table.specs.Spelling.{Instruction, view}
 use Rattle.vax_table.specs.Whole.{Act as Meaning, Meant, Plain, Probes, Traps, meant}
 use Rattle.vax_table.specs.declared.act.Refusal.{Refusal}
@@ -11,7 +13,12 @@ use Rattle.vax_table.specs.declared.act.Refusal.TheVariants as refusals
 use Rattle.vax_table.specs.declared.decoded.Decoded.{Decoded}
 use Rattle.vax_cpu.specs.declared.perform.Act.{Act}
 use Rattle.vax_cpu.specs.declared.perform.Act.TheVariants as acts
-use Rattle.vax_cpu.specs.declared.cpu.Found.{Found}
+use Rattle.vax_cpu.specs.declared.perform.Found.{Found}
+
+-- a trouble stops the machine
+abbrev pub exits : {A : Type 0} → Result A Trouble → Result A Exit
+exits (Ok x) = Ok x
+exits (Err t) = Err (exit_of t)
 
 abbrev pub viewed : Result Decoded Exit → Result Instruction Exit
 viewed (Ok d) = Ok (view d)

@@ -1,1 +1,3 @@
+pub mod Completed
 pub mod Fetched
+pub mod Paged

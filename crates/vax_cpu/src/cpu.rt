@@ -1,20 +1,21 @@
 ghost use Rattle.std.specs.Prelude.{◌≡◌, ◌+◌, ◌*◌, ◌≤◌, ◌<◌, ◌/◌, ◌%◌, ◌^◌, ℕ, length, slice_index, slice_set, IfOk, MatchResult, Ok, Err};
 ghost use Rattle.vv_base.specs.Bytes.{long_at};
-ghost use Rattle.vv_base.specs.Width.{size_of};
-ghost use Rattle.vax_hw.specs.Machine.{Machine, retire, seen_psl, space_of, with_effect, zeros};
-ghost use Rattle.vax_hw.specs.Real.{exits, in_kernel, one, real};
+ghost use Rattle.vax_hw.specs.Machine.{Machine, retire, seen_psl, with_effect, zeros};
+ghost use Rattle.vax_hw.specs.Real.{in_kernel, one, real};
 ghost use Rattle.vax_table.specs.Effects.{effect};
 ghost use Rattle.vax_table.specs.Script.{outcome};
-ghost use Rattle.vax_table.specs.Stores.{all_stored, bytes_stored};
 ghost use Rattle.vax_table.specs.Trail.{term};
 ghost use Rattle.vax_table.specs.Whole.{instruction};
-ghost use Rattle.vax_cpu.specs.Fetched.{found};
+ghost use Rattle.vax_cpu.specs.Fetched.{exits, found};
+ghost use Rattle.vax_cpu.specs.Paged.{paged};
 
-use crate::perform::{Act, carry_out, probe_of, trap_of};
-use crate::space::{Linear, size};
+use crate::entries::Paged;
+use crate::perform::{Act, Found, carry_out, probe_of, trap_of};
+use crate::probe::probed;
+use crate::stores::store_all;
 use std::alloc::Global;
 use std::marker::Model;
-use vax_exec::{Plan, Store};
+use vax_exec::Plan;
 use vax_hw::{Exit, Hardware, Mode, Psl, World};
 use vv_base::{NoMemory, get_u32, put_u32};
 
@@ -69,38 +70,6 @@ fn seen_psl(w: &World) -> Psl
     Psl(w.vmpsl.0 / 0x100 * 0x100 + w.psl.0 % 0x100)
 }
 
-/// Stores a byte in a memory, if it has a place for it.
-fn store_byte(memory: &mut [u8], at: usize, byte: u8)
-    ensures { memory.new ≡ slice_set memory.old at byte }
-{
-    if at < memory.len() {
-        memory[at] = byte;
-    }
-}
-
-/// Makes one store, byte by byte; what has no place is lost.
-fn store(memory: &mut [u8], base: u32, store: &Store)
-    ensures { memory.new ≡ bytes_stored (λ va. base + va) (size_of store.now.width) store.now.va store.now.value memory.old }
-{
-    let mut va = store.va;
-    let mut rest = store.value;
-    for _left in (0..size(store.width)).rev() {
-        store_byte(memory, base as usize + va as usize, (rest % 256) as u8);
-        va = va.wrapping_add(1);
-        rest /= 256;
-    }
-}
-
-/// Makes stores in order.
-fn store_all(memory: &mut [u8], base: u32, stores: &[Store])
-    ensures { memory.new ≡ all_stored (λ va. base + va) stores.now memory.old }
-{
-    if let [first, rest @ ..] = stores {
-        store(memory, base, first);
-        store_all(memory, base, rest);
-    }
-}
-
 /// The longword at a place of a memory, which is a list of bytes.
 fn long_in(memory: &[u8], at: usize) -> u32
     requires { at + 4 ≤ length memory.now }
@@ -108,12 +77,6 @@ fn long_in(memory: &[u8], at: usize) -> u32
     ensures bytes { (i : ℕ) → slice_index memory.now i < 256 }
 {
     get_u32(memory, at)
-}
-
-/// An instruction that was found, with its opcode.
-struct Found {
-    opcode: u8,
-    act: Act,
 }
 
 /// A world of zeros.
@@ -151,17 +114,24 @@ impl Cpu {
         })
     }
 
+    /// The memory as the machine's page tables show it.
+    fn paged(&self) -> Paged<'_>
+        ensures memory { result.memory.now ≡ self.now.memory }
+        ensures world { result.world.now ≡ self.now.world }
+    {
+        Paged {
+            memory: &self.memory,
+            world: &self.world,
+        }
+    }
+
     /// The instruction at PC, and what it comes to.
     #[tactic(auto, unfolding(vax_table::specs::Whole::instruction), using(vax_table::proofs::Scripts::binds))]
     fn find(&self) -> Result<Found, Exit>
-        ensures { found result ≡ exits (outcome (space_of self.now) (instruction (in_kernel self.now.world) (seen_psl self.now.world) self.now.world.r)) }
+        ensures { found result ≡ exits (outcome (paged self.now.memory self.now.world) (instruction (in_kernel self.now.world) (seen_psl self.now.world) self.now.world.r)) }
     {
         let pc = self.world.r[15];
-        let space = Linear {
-            memory: &self.memory,
-            p0br: self.world.p0br,
-            p0lr: self.world.p0lr,
-        };
+        let space = self.paged();
         let decoded = space.fetch(pc)?;
         let is_kernel = self.world.vmpsl.current() == Mode::Kernel;
         let psl = seen_psl(&self.world);
@@ -180,24 +150,38 @@ impl Cpu {
         let pc = self.world.r[15];
         self.trail = self.trail.wrapping_add(term(pc, opcode, &plan.r));
         self.retired = self.retired.wrapping_add(1);
-        store_all(&mut self.memory, self.world.p0br, plan.writes.as_slice());
+        store_all(&mut self.memory, &self.world, plan.writes.as_slice());
         self.world = with_effect(&self.world, plan);
     }
 
     /// One instruction, and its arithmetic trap; where it doesn't retire, nothing changes.
-    #[tactic(auto, unfolding(vax_hw::specs::Real::one))]
+    #[tactic(auto, using(crate::proofs::One::ended_by))]
     fn step(&mut self) -> Result<Option<u8>, Exit>
         ensures { MatchResult result (λ trap. one self.old ≡ Ok (record { machine = self.new; trap = trap })) (λ e. (one self.old ≡ Err e) × (self.new ≡ self.old)) }
     {
         let Found { opcode, act } = self.find()?;
-        match act {
+        let space = self.paged();
+        let plan = match act {
             Act::Plain(plan) => {
-                self.retire(opcode, &plan);
-                Ok(plan.trap)
+                if let Some(va) = space.first_clear(plan.writes.as_slice()) {
+                    return Err(Exit::Modify { va });
+                }
+                plan
             }
-            Act::Traps(trapped) => Err(Exit::Emulate(trapped)),
-            Act::Probes(intent, o) => Err(Exit::Emulate(trap_of(probe_of(intent), &o))),
-        }
+            Act::Traps(trapped) => {
+                return Err(Exit::Emulate(trapped));
+            }
+            Act::Probes(intent, o) => match space.probe(intent, &o) {
+                Some(is_accessible) => {
+                    probed(is_accessible, &o, (self.world.psl.0 % 0x100) as u8)
+                }
+                None => {
+                    return Err(Exit::Emulate(trap_of(probe_of(intent), &o)));
+                }
+            },
+        };
+        self.retire(opcode, &plan);
+        Ok(plan.trap)
     }
 }
 

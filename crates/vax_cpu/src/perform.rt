@@ -1,5 +1,4 @@
 ghost use Rattle.std.specs.Prelude.{◌≡◌, true};
-ghost use Rattle.vax_hw.specs.Real.{exits};
 ghost use Rattle.vax_table.specs.Operand.{trap_operands};
 ghost use Rattle.vax_table.specs.Operations.{operation_of};
 ghost use Rattle.vax_table.specs.Plan.{is_planned};
@@ -7,7 +6,7 @@ ghost use Rattle.vax_table.specs.Script.{outcome};
 ghost use Rattle.vax_table.specs.Spelling.{IsWellFormed, view};
 ghost use Rattle.vax_table.specs.Whole.{acted, first_operand, is_always_done, plainly, probe_of, trap_of, trapped};
 ghost use Rattle.vax_table.specs.declared.meaning.Operation.TheVariants.{MoveStatus};
-ghost use Rattle.vax_cpu.specs.Fetched.{acts_of};
+ghost use Rattle.vax_cpu.specs.Fetched.{acts_of, exits};
 
 use crate::space::exit_of;
 use vax_arch::Intent;
@@ -24,6 +23,13 @@ pub enum Act {
     Plain(Plan),
     Traps(Trapped),
     Probes(Intent, Operands),
+}
+
+/// An instruction that was found, with its opcode.
+#[derive(Drop)]
+pub struct Found {
+    pub opcode: u8,
+    pub act: Act,
 }
 
 /// CHM and REI are done in every mode.

@@ -1,0 +1,96 @@
+ghost use Rattle.std.specs.Prelude.{◌≡◌, ◌%◌};
+ghost use Rattle.vax_hw.specs.Machine.{tables_of};
+ghost use Rattle.vax_hw.specs.RealTables.{both, is_kernels_alone, judged, judged_by, real_probe};
+ghost use Rattle.vax_table.specs.Effects.{effect, long_of};
+ghost use Rattle.vax_table.specs.Plan.{probed};
+ghost use Rattle.vax_table.specs.Probing.{last_of, probe_mode};
+
+use crate::entries::{Entry, Paged};
+use vax_arch::{Intent, Mode, Prot, Psl, Pte, may};
+use vax_exec::Plan;
+use vax_operand::Operands;
+
+/// The less privileged of the mode that the operand names and the previous one.
+fn probe_mode(psl: Psl, named: u32) -> Mode
+    ensures { result ≡ probe_mode psl.0 named }
+{
+    let named = Mode::from_number(named);
+    let previous = psl.previous();
+    if previous.number() <= named.number() {
+        named
+    } else {
+        previous
+    }
+}
+
+/// The last byte of a range of so many bytes; the base, where there are none.
+fn last_of(base: u32, bytes: u32) -> u32
+    ensures { result ≡ last_of base bytes }
+{
+    if bytes == 0 {
+        base
+    } else {
+        base.wrapping_add(bytes).wrapping_sub(1)
+    }
+}
+
+/// Whether a code opens to kernel mode alone.
+fn is_kernels_alone(p: Prot) -> bool
+    ensures { result ≡ is_kernels_alone p }
+{
+    may(p, Mode::Kernel, Intent::Read) && !may(p, Mode::Executive, Intent::Read)
+}
+
+/// Whether an entry lets a mode use a byte, where the machine judges by it.
+fn judged_by(entry: Pte, m: Mode, i: Intent) -> Option<bool>
+    ensures { result ≡ judged_by entry.0 m i }
+{
+    if entry.valid() && !is_kernels_alone(entry.prot()) {
+        Some(may(entry.prot(), m, i))
+    } else {
+        None
+    }
+}
+
+/// Both answers as one.
+fn both(a: Option<bool>, b: Option<bool>) -> Option<bool>
+    ensures { result ≡ both a b }
+{
+    match (a, b) {
+        (Some(a), Some(b)) => Some(a && b),
+        _ => None,
+    }
+}
+
+impl Paged<'_> {
+    /// Whether a mode may use the byte at an address, where the machine judges that.
+    #[tactic(auto, unfolding(vax_hw::specs::RealTables::judged), using(crate::proofs::Mapped::mapped))]
+    fn judged(&self, m: Mode, i: Intent, va: u32) -> Option<bool>
+        ensures { result ≡ judged self.now.memory.now (tables_of self.now.world.now) m i va }
+    {
+        match self.entry(va / 512) {
+            Entry::Found(entry) => judged_by(entry, m, i),
+            Entry::NotValid | Entry::TooFar => None,
+        }
+    }
+
+    /// Whether both bytes that PROBE asks of may be used, where the machine judges that.
+    pub fn probe(&self, i: Intent, o: &Operands) -> Option<bool>
+        ensures { result ≡ real_probe self.now.memory.now (tables_of self.now.world.now) self.now.world.now.psl.0 i (long_of o.now 0) (long_of o.now 1) (long_of o.now 2) }
+    {
+        let m = probe_mode(self.world.psl, o.long(0));
+        let base = o.long(2);
+        both(
+            self.judged(m, i, base),
+            self.judged(m, i, last_of(base, o.long(1) % 0x1_0000)),
+        )
+    }
+}
+
+/// PROBE behind its operands: Z where not both bytes may be used, and C as before.
+pub fn probed(is_accessible: bool, o: &Operands, psw: u8) -> Plan
+    ensures { effect result ≡ probed is_accessible o.now psw }
+{
+    let zero = if is_accessible { 0 } else { 4 };
+    Plan::begun(o, psw / 16 * 16 + zero + psw % 2)
+}

@@ -1,0 +1,139 @@
+ghost use Rattle.std.specs.Prelude.{◌≡◌, ◌+◌, ◌*◌, ◌≤◌, ◌<◌, ◌^◌, ◌++◌, length, slice_set};
+ghost use Rattle.vv_base.specs.Width.{size_of};
+ghost use Rattle.arrayvec.specs.ArrayVec.{array_vec_len};
+ghost use Rattle.vax_table.specs.Claims.{addresses};
+ghost use Rattle.vax_table.specs.PlanLaws.{bytes_of_stores};
+ghost use Rattle.vax_table.specs.Stores.{all_stored};
+ghost use Rattle.vax_table.specs.Tries.{first_clear};
+ghost use Rattle.vax_cpu.specs.Completed.{made, puts_from, puts_of};
+ghost use Rattle.vax_cpu.specs.Paged.{is_clear_for, written_place};
+
+use crate::entries::{Entry, Paged};
+use crate::space::size;
+use arrayvec::ArrayVec;
+use vax_exec::Store;
+use vax_hw::World;
+
+/// A byte that is stored, and its place in the machine.
+#[derive(Clone, Copy, Debug, Default, PartialEq, Eq)]
+pub struct Put {
+    pub place: u32,
+    pub byte: u8,
+}
+
+/// Stores a byte in a memory, if it has a place for it.
+fn store_byte(memory: &mut [u8], at: usize, byte: u8)
+    ensures { memory.new ≡ slice_set memory.old at byte }
+{
+    if at < memory.len() {
+        memory[at] = byte;
+    }
+}
+
+/// Stores bytes in order.
+pub fn make(memory: &mut [u8], puts: &[Put])
+    ensures { memory.new ≡ made puts.now memory.old }
+{
+    for put in puts {
+        store_byte(memory, put.place as usize, put.byte);
+    }
+}
+
+impl Paged<'_> {
+    /// Whether the modify bit of an address's page is clear.
+    #[tactic(auto, unfolding(vax_hw::specs::RealTables::is_clear_in), using(crate::proofs::Mapped::mapped))]
+    fn is_clear(&self, va: u32) -> bool
+        ensures { result ≡ is_clear_for self.now.memory.now self.now.world.now va }
+    {
+        match self.entry(va / 512) {
+            Entry::Found(entry) => !entry.modified(),
+            Entry::NotValid | Entry::TooFar => false,
+        }
+    }
+
+    /// The first of so many bytes whose page's modify bit is clear.
+    #[tactic(auto, using(crate::proofs::Puts::byte_by_byte))]
+    fn first_clear_from(&self, va: u32, bytes: u32) -> Option<u32>
+        ensures { result ≡ first_clear (is_clear_for self.now.memory.now self.now.world.now) (addresses bytes va) }
+    {
+        if bytes == 0 {
+            None
+        } else if self.is_clear(va) {
+            Some(va)
+        } else {
+            self.first_clear_from(va.wrapping_add(1), bytes - 1)
+        }
+    }
+
+    /// The first byte of these stores, in order, whose page's modify bit is clear.
+    #[tactic(auto, using(crate::proofs::Puts::store_by_store))]
+    pub fn first_clear(&self, stores: &[Store]) -> Option<u32>
+        ensures { result ≡ first_clear (is_clear_for self.now.memory.now self.now.world.now) (bytes_of_stores stores.now) }
+    {
+        let [first, rest @ ..] = stores else {
+            return None;
+        };
+        match self.first_clear_from(first.va, size(first.width)) {
+            Some(va) => Some(va),
+            None => self.first_clear(rest),
+        }
+    }
+
+    /// The place of a byte that is written; where there is none, it lies nowhere in the machine.
+    fn place_or_end(&self, va: u32) -> u32
+        requires { length self.now.memory.now < 2 ^ 32 }
+        ensures { result ≡ written_place self.now.memory.now self.now.world.now va }
+    {
+        match self.place(va, true) {
+            Ok(place) => place,
+            Err(_) => self.memory.len() as u32,
+        }
+    }
+
+    /// The bytes of a store, behind others.
+    fn add_store(&self, puts: &mut ArrayVec<Put, 160>, store: &Store)
+        requires memory { length self.now.memory.now < 2 ^ 32 }
+        requires room { array_vec_len puts.old + 8 ≤ 160 }
+        ensures room { array_vec_len puts.new ≤ array_vec_len puts.old + 8 }
+        ensures items { puts.new.items ≡ puts.old.items ++ puts_from (written_place self.now.memory.now self.now.world.now) (size_of store.now.width) store.now.va store.now.value }
+    {
+        let mut va = store.va;
+        let mut rest = store.value;
+        for _left in (0..size(store.width)).rev() {
+            puts.push(Put {
+                place: self.place_or_end(va),
+                byte: (rest % 256) as u8,
+            });
+            va = va.wrapping_add(1);
+            rest /= 256;
+        }
+    }
+
+    /// The bytes of stores, in order.
+    pub fn puts(&self, stores: &[Store]) -> ArrayVec<Put, 160>
+        requires memory { length self.now.memory.now < 2 ^ 32 }
+        requires few { length stores.now ≤ 20 }
+        ensures { result.items ≡ puts_of (written_place self.now.memory.now self.now.world.now) stores.now }
+    {
+        let mut puts = ArrayVec::new();
+        for store in stores {
+            self.add_store(&mut puts, store);
+        }
+        puts
+    }
+}
+
+/// Makes stores in order, at the places of before the first.
+#[tactic(auto, using(crate::proofs::Puts::as_stored))]
+pub fn store_all(memory: &mut [u8], world: &World, stores: &[Store])
+    requires memory { length memory.old < 2 ^ 32 }
+    requires few { length stores.now ≤ 20 }
+    ensures { memory.new ≡ all_stored (written_place memory.old world.now) stores.now memory.old }
+{
+    let space = Paged {
+        memory: &*memory,
+        world,
+    };
+    let puts = space.puts(stores);
+    make(memory, puts.as_slice());
+}
