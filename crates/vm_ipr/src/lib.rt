@@ -1,7 +1,6 @@
 //! A guest's processor registers: what MTPR writes and MFPR reads.
 #![tactic(auto)]
 
-mod pointers;
 mod read;
 mod write;
 

@@ -3,8 +3,7 @@ ghost use Rattle.vm_state.specs.Registers.{after_read, value_of};
 ghost use Rattle.vm_state.specs.State.{HasPlace, state_of};
 ghost use Rattle.vm_ipr.specs.Outcomes.{Reads};
 
-use crate::pointers::pointer;
-use vm_state::{GuestState, Register, ReservedOperand};
+use vm_state::{GuestState, Register, ReservedOperand, pointer};
 
 /// What the system's identification register gives (profile).
 const SID: u32 = 0x5600_0001;

@@ -3,9 +3,8 @@ ghost use Rattle.vm_state.specs.Registers.{after_write, allows, effect_of, with_
 ghost use Rattle.vm_state.specs.State.{HasPlace, state_of};
 ghost use Rattle.vm_ipr.specs.Outcomes.{Writes};
 
-use crate::pointers::set_pointer;
 use vax_arch::Psl;
-use vm_state::{Effect, GuestState, Register, ReservedOperand};
+use vm_state::{Effect, GuestState, Register, ReservedOperand, set_pointer};
 
 /// Whether a register may be written, and allows the value.
 fn allows(register: Register, v: u32) -> bool

@@ -6,6 +6,7 @@ mod exception;
 mod guest_state;
 mod laws;
 mod register;
+mod stacks;
 mod transfer;
 mod walk;
 
@@ -16,5 +17,6 @@ pub use laws::{
     walks_find_one_entry,
 };
 pub use register::{Effect, Register, ReservedOperand};
+pub use stacks::{pointer, set_pointer, stack_in};
 pub use transfer::Accept;
 pub use walk::{MemFault, Walk};

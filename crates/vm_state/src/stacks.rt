@@ -3,10 +3,10 @@ ghost use Rattle.vm_state.specs.Registers.{with_pointer};
 ghost use Rattle.vm_state.specs.State.{HasPlace, pointer_of, stack_in, state_of};
 
 use vax_arch::Psl;
-use vm_state::GuestState;
+use crate::GuestState;
 
 /// The number of the stack in use: its mode's, or 4 for the interrupt stack.
-fn stack_in(psl: Psl) -> usize
+pub fn stack_in(psl: Psl) -> usize
     ensures { result ≡ stack_in psl.0 }
 {
     if psl.on_interrupt_stack() {

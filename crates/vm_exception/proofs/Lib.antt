@@ -1,0 +1,3 @@
+pub mod Pushing
+pub mod Writing
+pub mod Marking

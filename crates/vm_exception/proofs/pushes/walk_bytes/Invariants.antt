@@ -1,0 +1,6 @@
+use Rattle.vm_exception.proofs.Pushing.{Walking}
+use Rattle.vm_exception.proofs.pushes.walk_bytes.Given as goal
+use Rattle.vm_state.specs.Partition.{guest_of}
+
+abbrev pub invariant-loop-byte : goal.invariant-loop-byte
+invariant-loop-byte g l = Walking (guest_of (g.H.Hardware.machine l.machine).memory l.g) l.m l.bytes l.byte-index l.homes.items

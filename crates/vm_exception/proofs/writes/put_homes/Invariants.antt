@@ -1,0 +1,5 @@
+use Rattle.vm_exception.proofs.Marking.{Putting}
+use Rattle.vm_exception.proofs.writes.put_homes.Given as goal
+
+abbrev pub invariant-loop-home : goal.invariant-loop-home
+invariant-loop-home g l = Putting l.homes l.home-index (g.H.Hardware.machine l.fn.machine) l.fn.s (g.H.Hardware.machine l.machine) l.s

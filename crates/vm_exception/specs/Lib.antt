@@ -1,0 +1,3 @@
+pub mod Wrote
+pub mod Pushed
+pub mod Initiated

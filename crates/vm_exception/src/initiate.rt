@@ -1,0 +1,32 @@
+ghost use Rattle.std.specs.Prelude.{◌≡◌, ◌≤◌, ◌<◌, ◌+◌, ◌*◌, length};
+ghost use Rattle.vm_exception.specs.Attempted.{Attempts};
+ghost use Rattle.vm_exception.specs.Initiated.{Initiates, IsProper};
+ghost use Rattle.vm_shadow.specs.StandsFor.{StandsFor};
+
+use crate::Initiated;
+use crate::attempt::{Attempt, attempt, stop};
+use vax_hw::Hardware;
+use vm_shadow::Shadow;
+use vm_state::{Exc, GuestState};
+
+/// The stop code of an interrupt stack that isn't valid.
+const INTERRUPT_STACK_BAD: u8 = 0x04;
+
+/// Initiates an exception or an interrupt of a guest: PSL, PC and parameters are pushed on the new stack, and it goes on at
+/// its vector. The PC that is pushed is the guest's. `Stopped` sets the stop code and changes nothing else.
+pub fn initiate<H: Hardware>(machine: &mut H, s: &mut Shadow, g: &mut GuestState, e: Exc) -> Initiated
+    requires stands { StandsFor (H.machine machine.old).memory s.old g.old }
+    requires proper { IsProper e }
+    ensures { Initiates e (H.machine machine.old) s.old g.old result (H.machine machine.new) s.new g.new }
+{
+    match attempt(machine, s, g, e) {
+        Attempt::Arrives => Initiated::Taken,
+        Attempt::StackFaulty { is_interrupt_stack: true } => stop(g, INTERRUPT_STACK_BAD),
+        Attempt::StackFaulty { is_interrupt_stack: false } => match attempt(machine, s, g, Exc::KernelStack) {
+            Attempt::Arrives => Initiated::KernelStackBad,
+            Attempt::StackFaulty { .. } => stop(g, INTERRUPT_STACK_BAD),
+            Attempt::Halts(code) => stop(g, code),
+        },
+        Attempt::Halts(code) => stop(g, code),
+    }
+}

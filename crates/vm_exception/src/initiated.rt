@@ -1,0 +1,8 @@
+/// What an initiation comes to: it is taken; vector 08 is taken in its place, since the kernel stack isn't valid; or the
+/// guest stops with a code.
+#[derive(Clone, Copy, Debug, PartialEq, Eq)]
+pub enum Initiated {
+    Taken,
+    KernelStackBad,
+    Stopped(u8),
+}

@@ -1,0 +1,88 @@
+ghost use Rattle.std.specs.Prelude.{◌≡◌, ◌≤◌, ◌<◌, ◌+◌, ◌*◌, ◌++◌, length, map};
+ghost use Rattle.vm_exception.specs.Pushed.{byte_of, walked_of};
+ghost use Rattle.vm_state.specs.Partition.{guest_of};
+ghost use Rattle.vm_state.specs.Pushes.{bytes_from, pushed_bytes, push_walked, walked};
+
+use arrayvec::ArrayVec;
+use vax_arch::{Intent, Mode};
+use vax_hw::Hardware;
+use vm_state::{GuestState, MemFault, Walk};
+use vm_walk::walk;
+
+/// A byte that is pushed, for an address.
+#[derive(Clone, Copy, Debug, Default, PartialEq, Eq)]
+pub struct Byte {
+    pub at: u32,
+    pub value: u8,
+}
+
+/// Where a byte goes: its physical place, and that of its page's entry, of which there is none with mapping off.
+#[derive(Clone, Copy, Debug, Default, PartialEq, Eq)]
+pub struct Home {
+    pub place: u32,
+    pub entry: Option<u32>,
+    pub value: u8,
+}
+
+/// What the walk of bytes that are pushed comes to: all have homes, or the first that has none has a fault, or is beyond
+/// memory.
+#[derive(Drop)]
+pub enum Walked {
+    Homes(ArrayVec<Home, 16>),
+    Faulty(MemFault),
+    PastMemory,
+}
+
+/// The four bytes of a longword at an address, behind others.
+fn push_long(bytes: &mut ArrayVec<Byte, 16>, at: u32, long: u32)
+    requires { length bytes.old.items ≤ 12 }
+    ensures bytes { map byte_of bytes.new.items ≡ map byte_of bytes.old.items ++ bytes_from 4 at long }
+    ensures size { length bytes.new.items ≡ length bytes.old.items + 4 }
+{
+    let [first, second, third, fourth] = long.to_le_bytes();
+    bytes.push(Byte { at, value: first });
+    bytes.push(Byte { at: at.wrapping_add(1), value: second });
+    bytes.push(Byte { at: at.wrapping_add(2), value: third });
+    bytes.push(Byte { at: at.wrapping_add(3), value: fourth });
+}
+
+/// The bytes of longwords that are pushed from a stack pointer on, in the order in which they are walked.
+fn pushed_bytes(sp: u32, longs: &[u32]) -> ArrayVec<Byte, 16>
+    requires { length longs.now ≤ 4 }
+    ensures { map byte_of result.items ≡ pushed_bytes sp longs.now }
+{
+    let mut bytes = ArrayVec::new();
+    let mut at = sp;
+    for long in longs {
+        at = at.wrapping_sub(4);
+        push_long(&mut bytes, at, *long);
+    }
+    bytes
+}
+
+/// The walk of bytes for writing, in a mode.
+fn walk_bytes<H: Hardware>(machine: &H, g: &GuestState, m: Mode, bytes: &[Byte]) -> Walked
+    requires partition { 512 * (g.now.base + g.now.pages) ≤ length (H.machine machine.now).memory }
+    requires few { length bytes.now ≤ 16 }
+    ensures { walked_of result ≡ walked (guest_of (H.machine machine.now).memory g.now) m (map byte_of bytes.now) }
+{
+    let mut homes = ArrayVec::new();
+    for byte in bytes {
+        match walk(machine, g, byte.at, m, Intent::Write) {
+            Walk::Frame { pa, entry, .. } => homes.push(Home { place: pa, entry, value: byte.value }),
+            Walk::Fault(fault) => return Walked::Faulty(fault),
+            Walk::Beyond => return Walked::PastMemory,
+        }
+    }
+    Walked::Homes(homes)
+}
+
+/// The walk of longwords that are pushed in a mode from a stack pointer on.
+#[tactic(auto, unfolding(vm_state::specs::Pushes::push_walked))]
+pub fn walk_pushes<H: Hardware>(machine: &H, g: &GuestState, m: Mode, sp: u32, longs: &[u32]) -> Walked
+    requires partition { 512 * (g.now.base + g.now.pages) ≤ length (H.machine machine.now).memory }
+    requires few { length longs.now ≤ 4 }
+    ensures { walked_of result ≡ push_walked (guest_of (H.machine machine.now).memory g.now) m sp longs.now }
+{
+    walk_bytes(machine, g, m, &pushed_bytes(sp, longs))
+}
