@@ -1,3 +1,5 @@
 pub mod Pushing
 pub mod Writing
 pub mod Marking
+pub mod Homes
+pub mod Arriving

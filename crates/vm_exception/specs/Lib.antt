@@ -1,3 +1,4 @@
 pub mod Wrote
 pub mod Pushed
 pub mod Initiated
+pub mod Attempted

@@ -1,8 +1,15 @@
 //! Initiation of exceptions and interrupts of a guest, over its shadow page tables.
 #![tactic(auto)]
 
+mod attempts;
+mod entry;
+mod initiating;
 mod initiated;
 mod pushes;
 mod writes;
 
+pub use initiating::initiate;
 pub use initiated::Initiated;
+pub use pushes::{Home, Walked, walk_pushes};
+pub use vm_state::Exc;
+pub use writes::push;

@@ -71,7 +71,7 @@ level_small s (Arithmetic type) at h = kept_ipl s at
 level_small s (Chm to code) at h = kept_ipl s at
 level_small s (ModifyFault va) at h = kept_ipl s at
 
-begun_keeps : (size : ℕ) (s : State) (e : Exc) (vector sp : ℕ) → LevelFits e → Keeps size s (begun_at s e vector sp)
+pub begun_keeps : (size : ℕ) (s : State) (e : Exc) (vector sp : ℕ) → LevelFits e → Keeps size s (begun_at s e vector sp)
 begun_keeps size s e vector sp h =
     moved size s (begun_at s e vector sp) refl refl refl refl refl refl refl refl
     (λ k. built (from_bool (uses_interrupt_stack s e vector)) (mode_number (new_mode s e)) (mode_number (new_previous s e)) (new_ipl s e vector)

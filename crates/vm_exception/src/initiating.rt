@@ -1,16 +1,27 @@
-ghost use Rattle.std.specs.Prelude.{◌≡◌, ◌≤◌, ◌<◌, ◌+◌, ◌*◌, length};
-ghost use Rattle.vm_exception.specs.Attempted.{Attempts};
+ghost use Rattle.std.specs.Prelude.{◌≡◌, Some};
 ghost use Rattle.vm_exception.specs.Initiated.{Initiates, IsProper};
+ghost use Rattle.vm_exception.specs.declared.initiated.Initiated.TheVariants.{Stopped};
 ghost use Rattle.vm_shadow.specs.StandsFor.{StandsFor};
+ghost use Rattle.vm_state.specs.State.{HasPlace, state_of};
 
 use crate::Initiated;
-use crate::attempt::{Attempt, attempt, stop};
+use crate::attempts::{Attempt, take};
 use vax_hw::Hardware;
 use vm_shadow::Shadow;
 use vm_state::{Exc, GuestState};
 
 /// The stop code of an interrupt stack that isn't valid.
 const INTERRUPT_STACK_BAD: u8 = 0x04;
+
+/// The guest stops with a code.
+fn stop(g: &mut GuestState, code: u8) -> Initiated
+    ensures result { result ≡ Stopped code }
+    ensures state { state_of g.new ≡ record (state_of g.old) { halt = Some code } }
+    ensures place { HasPlace g.old.pages g.old.base g.old.start g.new }
+{
+    g.halt = Some(code);
+    Initiated::Stopped(code)
+}
 
 /// Initiates an exception or an interrupt of a guest: PSL, PC and parameters are pushed on the new stack, and it goes on at
 /// its vector. The PC that is pushed is the guest's. `Stopped` sets the stop code and changes nothing else.
@@ -19,10 +30,10 @@ pub fn initiate<H: Hardware>(machine: &mut H, s: &mut Shadow, g: &mut GuestState
     requires proper { IsProper e }
     ensures { Initiates e (H.machine machine.old) s.old g.old result (H.machine machine.new) s.new g.new }
 {
-    match attempt(machine, s, g, e) {
+    match take(machine, s, g, e) {
         Attempt::Arrives => Initiated::Taken,
         Attempt::StackFaulty { is_interrupt_stack: true } => stop(g, INTERRUPT_STACK_BAD),
-        Attempt::StackFaulty { is_interrupt_stack: false } => match attempt(machine, s, g, Exc::KernelStack) {
+        Attempt::StackFaulty { is_interrupt_stack: false } => match take(machine, s, g, Exc::KernelStack) {
             Attempt::Arrives => Initiated::KernelStackBad,
             Attempt::StackFaulty { .. } => stop(g, INTERRUPT_STACK_BAD),
             Attempt::Halts(code) => stop(g, code),
