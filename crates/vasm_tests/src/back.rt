@@ -23,15 +23,21 @@ fn comes_back(alloc: Global, image: &[u8]) -> Result<bool, AsmError> {
 fn with_operands(opcode: u8, specifier: u8) -> [u8; 21] {
     let s = specifier;
     [
-        opcode, s, 0x61, 0xFE, 0x7F, 0x80, s, 0x61, 0xFE, 0x7F, 0x80, s, 0x61, 0xFE, 0x7F, 0x80,
-        s, 0x61, 0xFE, 0x7F, 0x80,
+        opcode, s, 0x61, 0xFE, 0x7F, 0x80, s, 0x61, 0xFE, 0x7F, 0x80, s, 0x61, 0xFE, 0x7F, 0x80, s,
+        0x61, 0xFE, 0x7F, 0x80,
     ]
 }
 
-/// Whether an opcode comes back with every byte at the front of its operands.
+/// Bytes at the front of an operand: each mode, with PC and with other registers.
+const SPECIFIERS: [u8; 26] = [
+    0x00, 0x3F, 0x41, 0x4F, 0x50, 0x5E, 0x5F, 0x6C, 0x6F, 0x71, 0x7F, 0x82, 0x8F, 0x9D, 0x9F, 0xA3,
+    0xAF, 0xB0, 0xBF, 0xCE, 0xCF, 0xDB, 0xDF, 0xE4, 0xEF, 0xFA,
+];
+
+/// Whether an opcode comes back with each of these bytes at the front of its operands.
 fn opcode_comes_back(alloc: Global, opcode: u8) -> Result<bool, AsmError> {
-    for n in 0..256u16 {
-        let image = with_operands(opcode, n as u8);
+    for specifier in SPECIFIERS {
+        let image = with_operands(opcode, specifier);
         if !comes_back(alloc, &image)? {
             return Ok(false);
         }
@@ -50,7 +56,8 @@ fn every_opcode_with_every_operand(rt: HostRuntime) -> Result<(), Fail> {
 
 #[test]
 fn every_front_of_an_image(rt: HostRuntime) -> Result<(), Fail> {
-    let image = b"\xD0\x8F\x00\x00\x00\x80\x4C\xB2\xFE\xC1\xE5\x01\x02\x03\x04\x7E\x9F\x00\x10\x00\x80\xFD\x01\x3D\x01\x52\x53\xF0\xFF\xE8\x50\xFC\x00";
+    let image =
+        b"\xD0\x8F\x00\x00\x00\x80\x4C\xB2\xFE\xC1\xE5\x01\x02\x03\x04\x7E\x9F\x00\x10\x00\x80\xFD\x01\x3D\x01\x52\x53\xF0\xFF\xE8\x50\xFC\x00";
     for n in 0..image.len() {
         let back = comes_back(rt.alloc(), &image[..n]).map_err(|_| "refused")?;
         assert_eq!(rt; back, true, "{n}");

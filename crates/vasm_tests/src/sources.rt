@@ -6,11 +6,14 @@ use vasm_text::{AsmError, AsmFault, AsmKind};
 /// A branch over lines of NOP.
 fn over(alloc: Global, count: u8) -> Result<Vec<u8>, AsmError> {
     let mut text = Vec::new(alloc);
-    text.extend_from_slice(b"BRB M\n").map_err(|_| AsmError::NoMemory)?;
+    text.extend_from_slice(b"BRB M\n")
+        .map_err(|_| AsmError::NoMemory)?;
     for _ in 0..count {
-        text.extend_from_slice(b"NOP\n").map_err(|_| AsmError::NoMemory)?;
+        text.extend_from_slice(b"NOP\n")
+            .map_err(|_| AsmError::NoMemory)?;
     }
-    text.extend_from_slice(b"M:\n").map_err(|_| AsmError::NoMemory)?;
+    text.extend_from_slice(b"M:\n")
+        .map_err(|_| AsmError::NoMemory)?;
     if text.len() > 2_000 {
         return Ok(Vec::new(alloc));
     }
@@ -33,7 +36,13 @@ fn branches_reach_127_bytes(rt: HostRuntime) -> Result<(), Fail> {
             return Err("assembled".into());
         }
         Err(e) => {
-            assert_eq!(rt; e, AsmError::Fault(AsmFault { line: 1, kind: AsmKind::OutOfReach }));
+            assert_eq!(rt;
+                e,
+                AsmError::Fault(AsmFault {
+                    line: 1,
+                    kind: AsmKind::OutOfReach
+                })
+            );
         }
     }
     Ok(())
@@ -43,9 +52,18 @@ fn branches_reach_127_bytes(rt: HostRuntime) -> Result<(), Fail> {
 fn sources_of_the_examples(rt: HostRuntime) -> Result<(), Fail> {
     let sources: [(&[u8], &[u8]); 4] = [
         (HELLO, b"\xDA\x8F\x41\x00\x00\x00\x23\x00"),
-        (TEXT, b"\x9E\xAF\x0E\x51\xD0\x06\x52\x9A\x81\x50\xDA\x50\x23\xF5\x52\xF7\x00\x48\x45\x4C\x4C\x4F\x0A"),
-        (TABLE, b"\xD4\x50\xD4\x51\xC0\x41\xEF\x06\x00\x00\x00\x50\xF2\x03\x51\xF4\x00\x01\x00\x00\x00\x00\x00\x00\x80\x11\x02\x00\x00"),
-        (CALL, b"\xDD\x15\xFB\x01\xCF\x01\x00\x00\x00\x00\xC1\xAC\x04\xAC\x04\x50\x04"),
+        (
+            TEXT,
+            b"\x9E\xAF\x0E\x51\xD0\x06\x52\x9A\x81\x50\xDA\x50\x23\xF5\x52\xF7\x00\x48\x45\x4C\x4C\x4F\x0A",
+        ),
+        (
+            TABLE,
+            b"\xD4\x50\xD4\x51\xC0\x41\xEF\x06\x00\x00\x00\x50\xF2\x03\x51\xF4\x00\x01\x00\x00\x00\x00\x00\x00\x80\x11\x02\x00\x00",
+        ),
+        (
+            CALL,
+            b"\xDD\x15\xFB\x01\xCF\x01\x00\x00\x00\x00\xC1\xAC\x04\xAC\x04\x50\x04",
+        ),
     ];
     for (text, image) in sources {
         let bytes = assemble(rt.alloc(), text).map_err(|_| "refused")?;
