@@ -1,5 +1,5 @@
 -- Operands behind others.
-use Rattle.std.proofs.Common.{◌≡◌, ℕ, ◌<◌, List, [], ◌∷◌, ◌++◌, length, Option, Some, None, refl, sym, ap, ◌∙◌, arith}
+use Rattle.std.proofs.Common.{◌≡◌, ◌<◌, List, [], ◌∷◌, ◌++◌, length, Option, Some, None, refl, sym, ◌∙◌, arith}
 use Rattle.vax_table.specs.declared.forms.Form.{Form}
 use Rattle.vasm_text.specs.Operands.{Operand, operands_in}
 

@@ -1,7 +1,4 @@
-use Rattle.std.specs.Option.{option_copied}
-use Rattle.std.proofs.Common.{◌≡◌, ◌<◌, drop, length, length-drop, arith}
-use Rattle.vasm_text.specs.Operands.{operands_in}
-use Rattle.vasm_read.specs.Views.{operands_view}
+use Rattle.std.proofs.Common.{drop, length-drop, arith}
 use Rattle.vasm_read.proofs.Behind.{none_left}
 use Rattle.vasm_read.proofs.statement.operands_in.Goals as goal
 
