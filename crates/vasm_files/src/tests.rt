@@ -19,6 +19,7 @@ fn shelf_of(alloc: Global, bytes: &[u8], failing: u32) -> Result<MemShelf, Fail>
 }
 
 /// A file, the call of the shelf that fails, the room of the sink, the answer and what is shown.
+#[derive(Clone, Copy)]
 struct Case {
     name: &'static str,
     file: &'static [u8],
@@ -28,7 +29,7 @@ struct Case {
     shown: &'static [u8],
 }
 
-const fn case(
+const fn told(
     name: &'static str,
     file: &'static [u8],
     failing: u32,
@@ -53,12 +54,12 @@ fn shows_assembled_sources(rt: HostRuntime) -> Result<(), Fail> {
         kind: AsmKind::BadLine,
     };
     for c in [
-        case("f", b".long 1\nHALT", 0, 9, Answer::Done, b"\x01\0\0\0\0"),
-        case("f", b"", 0, 0, Answer::Done, b""),
-        case("g", b"HALT", 0, 9, Answer::Missing, b""),
-        case("f", b"HALT", 1, 9, Answer::ShelfFault, b""),
-        case("f", b"NOP\nNOPE", 0, 9, Answer::Asm(fault), b""),
-        case("f", b".long 1", 0, 3, Answer::OutFault, b"\x01\0\0"),
+        told("f", b".long 1\nHALT", 0, 9, Answer::Done, b"\x01\0\0\0\0"),
+        told("f", b"", 0, 0, Answer::Done, b""),
+        told("g", b"HALT", 0, 9, Answer::Missing, b""),
+        told("f", b"HALT", 1, 9, Answer::ShelfFault, b""),
+        told("f", b"NOP\nNOPE", 0, 9, Answer::Asm(fault), b""),
+        told("f", b".long 1", 0, 3, Answer::OutFault, b"\x01\0\0"),
     ] {
         let mut shelf = shelf_of(rt.alloc(), c.file, c.failing)?;
         let mut out = MemLine::new(rt.alloc(), c.room, Vec::new(rt.alloc())).map_err(
@@ -80,7 +81,7 @@ fn shows_assembled_sources(rt: HostRuntime) -> Result<(), Fail> {
 #[test]
 fn shows_texts_of_images(rt: HostRuntime) -> Result<(), Fail> {
     for c in [
-        case(
+        told(
             "f",
             b"\xFF\xD0",
             0,
@@ -88,9 +89,9 @@ fn shows_texts_of_images(rt: HostRuntime) -> Result<(), Fail> {
             Answer::Done,
             b".byte ^XFF\n.byte ^XD0\n",
         ),
-        case("f", b"\x01", 0, 2, Answer::OutFault, b"NO"),
-        case("g", b"\x01", 0, 9, Answer::Missing, b""),
-        case("f", b"\x01", 1, 9, Answer::ShelfFault, b""),
+        told("f", b"\x01", 0, 2, Answer::OutFault, b"NO"),
+        told("g", b"\x01", 0, 9, Answer::Missing, b""),
+        told("f", b"\x01", 1, 9, Answer::ShelfFault, b""),
     ] {
         let mut shelf = shelf_of(rt.alloc(), c.file, c.failing)?;
         let mut out = MemLine::new(rt.alloc(), c.room, Vec::new(rt.alloc())).map_err(
