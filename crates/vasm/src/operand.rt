@@ -1,9 +1,8 @@
-ghost use Rattle.std.specs.Prelude.{◌≡◌, ◌+◌, ◌*◌, ◌≤◌, length, map, IfOk};
+ghost use Rattle.std.specs.Prelude.{◌≡◌, ◌+◌, ◌*◌, ◌≤◌, length, map};
 ghost use Rattle.std.specs.List.{list_any};
-ghost use Rattle.vax_decode.specs.Encoding.{IsInRange};
 ghost use Rattle.vasm_text.specs.Asm.{field_value, lacks, operands_bytes, resolved, target_of};
 ghost use Rattle.vasm_read.specs.Views.{operand_view};
-ghost use Rattle.vasm.specs.Fits.{AreFit, IsFit};
+ghost use Rattle.vasm.specs.Fits.{AreFit};
 ghost use Rattle.vasm.specs.Labels.{address_of};
 ghost use Rattle.vasm.specs.Puts.{Puts};
 

@@ -1,12 +1,12 @@
-ghost use Rattle.std.specs.Prelude.{◌≡◌, ◌+◌, ◌≤◌, map};
-ghost use Rattle.vasm_text.specs.Asm.{bytes_at, lacks_any, line_bytes, statement_bytes};
-ghost use Rattle.vasm_text.specs.Statements.{Field, Instruct};
+ghost use Rattle.std.specs.Prelude.{◌≡◌, ◌≤◌, ◌++◌, map, OnOk};
+ghost use Rattle.vax_table.specs.Spelling.{bytes_of};
+ghost use Rattle.vasm_text.specs.Asm.{bytes_at, field_value, lacks_any, line_bytes, statement_bytes};
 ghost use Rattle.vv_base.specs.Width.{size_of};
 ghost use Rattle.vasm_read.specs.Views.{line_view, operand_view, statement_view};
 ghost use Rattle.vasm.specs.Fits.{AreFit, IsLineFit, IsStatementFit};
 ghost use Rattle.vasm.specs.Labels.{address_of};
 ghost use Rattle.vasm.specs.Puts.{Puts};
-ghost use Rattle.vasm_text.specs.Statements.{forms_of};
+ghost use Rattle.vasm_text.specs.Statements.{Instruct, forms_of};
 
 use crate::labels::{Labels, fault};
 use crate::operand::{field_value, lacks, lacks_any, put_operands};
@@ -14,7 +14,7 @@ use crate::put::{put_number, put_opcode};
 use crate::size::{opcode_size, size};
 use vasm_read::{Line, Operand, Statement, forms_of};
 use vasm_text::{AsmError, AsmKind};
-use vv_base::Width;
+use vv_base::{NoMemory, Width};
 
 /// Whether a name in a statement labels no line.
 fn lacks_name(labels: &Labels, statement: &Statement) -> bool
@@ -30,15 +30,12 @@ fn lacks_name(labels: &Labels, statement: &Statement) -> bool
 fn put_field(
     bytes: &mut Vec<u8>,
     labels: &Labels,
-    line: u32,
-    at: u32,
     width: Width,
     operand: &Operand,
-) -> Result<(), AsmError>
-    ensures { Puts line bytes.old.items bytes.new.items (bytes_at (address_of labels.now) at (Field (size_of width) (operand_view operand.now))) result }
+) -> Result<(), NoMemory>
+    ensures { OnOk result (bytes.new.items ≡ bytes.old.items ++ bytes_of (size_of width) (field_value (address_of labels.now) (operand_view operand.now))) }
 {
-    put_number(bytes, size(width), field_value(labels, operand))?;
-    Ok(())
+    put_number(bytes, size(width), field_value(labels, operand))
 }
 
 /// Appends an instruction.
@@ -82,7 +79,10 @@ fn put_statement(
         return Err(fault(line, AsmKind::NoName));
     }
     match statement {
-        Statement::Field(width, operand) => put_field(bytes, labels, line, at, *width, operand),
+        Statement::Field(width, operand) => {
+            put_field(bytes, labels, *width, operand)?;
+            Ok(())
+        }
         Statement::Instruct(opcode, operands) => put_instruction(
             bytes,
             labels,

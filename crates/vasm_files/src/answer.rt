@@ -1,4 +1,4 @@
-ghost use Rattle.std.specs.Prelude.{◌≡◌, codes};
+ghost use Rattle.std.specs.Prelude.{◌≡◌};
 ghost use Rattle.vasm_files.specs.Texts.{fault_text, kind_text};
 
 use vasm_text::{AsmFault, AsmKind};

@@ -1,4 +1,4 @@
-ghost use Rattle.std.specs.Prelude.{List, ℕ, Ok};
+ghost use Rattle.std.specs.Prelude.{Ok};
 ghost use Rattle.vasm_text.specs.Asm.{asm_of};
 ghost use Rattle.vasm_text.specs.Dis.{dis_of};
 ghost use Rattle.vasm_files.specs.Commands.{Closes, Follows};

@@ -1,6 +1,6 @@
 ghost use Rattle.std.specs.Prelude.{◌≡◌, ◌==◌, ◌+◌, ◌<◌, length, take, drop, option_map, IfSome};
 ghost use Rattle.std.specs.List.{position};
-ghost use Rattle.vasm_text.specs.Cutting.{Cut, is_blank, cut, cut_at, trimmed, without_back, without_front};
+ghost use Rattle.vasm_text.specs.Cutting.{is_blank, cut, cut_at, trimmed, without_back, without_front};
 ghost use Rattle.vasm_read.specs.Pieces.{cut_view};
 
 /// A text in two: what stands before a mark, and behind it.

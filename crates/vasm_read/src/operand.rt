@@ -1,4 +1,4 @@
-ghost use Rattle.std.specs.Prelude.{◌≡◌, Some};
+ghost use Rattle.std.specs.Prelude.{◌≡◌};
 ghost use Rattle.vasm_text.specs.Operands.{plain, with_name};
 ghost use Rattle.vasm_read.specs.Views.{operand_view};
 
