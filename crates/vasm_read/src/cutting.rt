@@ -1,13 +1,15 @@
 ghost use Rattle.std.specs.Prelude.{◌≡◌, ◌==◌, ◌+◌, ◌<◌, length, take, drop, option_map, IfSome};
 ghost use Rattle.std.specs.List.{position};
-ghost use Rattle.vasm_text.specs.Cutting.{Cut, is_blank, cut, cut_at};
+ghost use Rattle.vasm_text.specs.Cutting.{is_blank, cut, cut_at, trimmed, without_back, without_front};
 ghost use Rattle.vasm_read.specs.Pieces.{cut_view};
 
 /// A text in two: what stands before a mark, and behind it.
 #[derive(Clone, Copy)]
-pub(crate) struct Pieces<'a> {
-    pub(crate) before: &'a [u8],
-    pub(crate) behind: &'a [u8],
+pub struct Pieces<'a> {
+    /// What stands before the mark.
+    pub before: &'a [u8],
+    /// What stands behind it.
+    pub behind: &'a [u8],
 }
 
 pub(crate) fn is_blank(b: u8) -> bool
@@ -59,4 +61,37 @@ pub(crate) fn cut_blank(text: &[u8]) -> Option<Pieces<'_>>
         Some(at) => Some(split(text, at)),
         None => None,
     }
+}
+
+/// A text without the blanks at its front.
+fn without_front(text: &[u8]) -> &[u8]
+    ensures { result.now ≡ without_front text.now }
+{
+    let mut rest = text;
+    while let [b, behind @ ..] = rest
+        && is_blank(*b)
+    {
+        rest = behind;
+    }
+    rest
+}
+
+/// A text without the blanks at its back.
+fn without_back(text: &[u8]) -> &[u8]
+    ensures { result.now ≡ without_back text.now }
+{
+    let mut rest = text;
+    while let [before @ .., b] = rest
+        && is_blank(*b)
+    {
+        rest = before;
+    }
+    rest
+}
+
+/// A text without the blanks at both ends.
+pub(crate) fn trimmed(text: &[u8]) -> &[u8]
+    ensures { result.now ≡ trimmed text.now }
+{
+    without_back(without_front(text))
 }

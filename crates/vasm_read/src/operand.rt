@@ -1,11 +1,11 @@
-ghost use Rattle.std.specs.Prelude.{◌≡◌, Some};
+ghost use Rattle.std.specs.Prelude.{◌≡◌};
 ghost use Rattle.vasm_text.specs.Operands.{plain, with_name};
 ghost use Rattle.vasm_read.specs.Views.{operand_view};
 
 use vax_table::Spec;
 
 /// An operand of a statement: a specifier, and the name that stands for its value where one does.
-#[derive(Clone, Copy)]
+#[derive(Clone, Copy, Default)]
 pub struct Operand<'a> {
     /// The specifier; its value is 0 where a name stands for it.
     pub spec: Spec,

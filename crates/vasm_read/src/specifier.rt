@@ -1,8 +1,8 @@
-ghost use Rattle.std.specs.Prelude.{◌≡◌, ◌+◌, ◌<◌, ◌≤◌, ◌==◌, ◌&&◌, ◌||◌, not, [], codes, option_map};
+ghost use Rattle.std.specs.Prelude.{◌≡◌, ◌+◌, ◌<◌, ◌≤◌, ◌==◌, ◌&&◌, ◌||◌, not, option_map};
 ghost use Rattle.vv_base.specs.Width.{size_of};
 ghost use Rattle.vax_table.specs.Reading.{is_address, is_quad};
 ghost use Rattle.vasm_text.specs.Cutting.{or_else};
-ghost use Rattle.vasm_text.specs.Operands.{absolute_in, allowed, based, closed_in, deferred_in, direct_in, displaced_in, displacement_in, enclosed, immediate_in, indexed, indexed_in, literal_in, named_in, opened_in, operand_in, register_operand_in, specifier_in, value_in, valued_in};
+ghost use Rattle.vasm_text.specs.Operands.{based, closed_in, deferred_in, direct_in, displaced_in, displacement_in, enclosed, indexed, indexed_in, literal_in, named_in, opened_in, operand_in, register_operand_in, specifier_in, value_in, valued_in};
 ghost use Rattle.vasm_read.specs.Pieces.{cut_view};
 ghost use Rattle.vasm_read.specs.Views.{operand_view};
 

@@ -55,3 +55,26 @@ fn refuses_texts(rt: HostRuntime) -> Result<(), Fail> {
     }
     Ok(())
 }
+
+#[test]
+fn reads_lines(rt: HostRuntime) -> Result<(), Fail> {
+    let text = b" L1: MOVL R0,B^X ; moved\r\nNOP".as_slice();
+    let pieces = first_line(text);
+    assert_eq!(rt; pieces.before, b" L1: MOVL R0,B^X ; moved".as_slice());
+    assert_eq!(rt; pieces.behind, b"NOP".as_slice());
+    let line = line_in(pieces.before).ok_or("no line")?;
+    assert_eq!(rt; line.label, Some(b"L1".as_slice()));
+    match line.statement {
+        Some(Statement::Instruct(opcode, operands)) => {
+            assert_eq!(rt; opcode, 0xD0);
+            assert_eq!(rt; operands.len(), forms_of(opcode).len());
+        }
+        _ => {
+            return Err("no instruction".into());
+        }
+    }
+    for text in ["L1:NOP", "L1:  NOP", "NOP L1:", ".byte 256", "MOVL R0"] {
+        assert_eq!(rt; line_in(text.as_bytes()).is_none(), true, "{text}");
+    }
+    Ok(())
+}

@@ -1,3 +1,6 @@
+use std::alloc::AllocFailed;
+use vv_base::NoMemory;
+
 /// Why a line is refused.
 #[derive(Clone, Copy, Debug, PartialEq, Eq)]
 pub enum AsmKind {
@@ -27,4 +30,26 @@ pub enum AsmError {
     Fault(AsmFault),
     /// Memory ran out.
     NoMemory,
+}
+
+impl From<NoMemory> for AsmError {
+    ghost use Rattle.std.specs.Prelude.{◌≡◌};
+    ghost use Rattle.vasm_text.specs.declared.fault.AsmError.TheVariants.{NoMemory as OutOfMemory};
+
+    ghost from_gives = { λ _ e. e ≡ OutOfMemory };
+
+    fn from(_: NoMemory) -> AsmError {
+        AsmError::NoMemory
+    }
+}
+
+impl<T: Drop> From<AllocFailed<T>> for AsmError {
+    ghost use Rattle.std.specs.Prelude.{◌≡◌};
+    ghost use Rattle.vasm_text.specs.declared.fault.AsmError.TheVariants.{NoMemory as OutOfMemory};
+
+    ghost from_gives = { λ _ e. e ≡ OutOfMemory };
+
+    fn from(_: AllocFailed<T>) -> AsmError {
+        AsmError::NoMemory
+    }
 }

@@ -1,0 +1,4 @@
+pub mod Labels
+pub mod Puts
+pub mod Fits
+pub mod Assembled

@@ -1,0 +1,14 @@
+//! The assembler: the bytes of a text.
+#![tactic(auto)]
+
+mod labels;
+mod operand;
+mod put;
+mod reach;
+mod size;
+mod statement;
+#[cfg(test)]
+mod tests;
+mod text;
+
+pub use text::assemble;

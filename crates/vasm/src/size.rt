@@ -1,0 +1,119 @@
+ghost use Rattle.std.specs.Prelude.{◌≡◌, ◌+◌, ◌*◌, ◌≤◌, length, is_some, map, if◌then◌else◌};
+ghost use Rattle.vv_base.specs.Width.{size_of};
+ghost use Rattle.vax_table.specs.Reading.{displacement_size};
+ghost use Rattle.vax_table.specs.Spelled.{spelled, value_size};
+ghost use Rattle.vasm_text.specs.Asm.{line_size, opcode_bytes, operands_size, statement_size};
+ghost use Rattle.vasm_read.specs.Views.{line_view, operand_view, statement_view};
+
+use vasm_read::{Line, Operand, Statement, forms_of};
+use vax_table::{Access, Form, Spec};
+use vv_base::Width;
+
+/// How many bytes a width has.
+pub(crate) fn size(width: Width) -> u8
+    ensures value { result ≡ size_of width }
+    ensures most { result ≤ 8 }
+{
+    match width {
+        Width::Byte => 1,
+        Width::Word => 2,
+        Width::Long => 4,
+        Width::Quad => 8,
+    }
+}
+
+/// The width of the displacement in a mode.
+pub(crate) fn displacement_width(mode: u8) -> Width
+    ensures { size_of result ≡ displacement_size mode }
+{
+    match mode {
+        0..12 => Width::Byte,
+        12..14 => Width::Word,
+        _ => Width::Long,
+    }
+}
+
+/// How many bytes stand behind a specifier's first.
+#[tactic(auto, unfolding(vax_table::specs::Spelled::value_size))]
+pub(crate) fn value_size(form: Form, spec: &Spec) -> u8
+    ensures value { result ≡ value_size form spec.now }
+    ensures most { result ≤ 8 }
+{
+    match (spec.mode, spec.reg) {
+        (0..8, _) => 0,
+        (8, 15) => size(form.width),
+        (9, 15) => 4,
+        (8 | 9, _) => 0,
+        (mode, _) => size(displacement_width(mode)),
+    }
+}
+
+/// How many bytes an index has.
+fn index_size(index: Option<u8>) -> u8
+    ensures value { result ≡ (if is_some index then 1 else 0) }
+    ensures most { result ≤ 1 }
+{
+    match index {
+        Some(_) => 1,
+        None => 0,
+    }
+}
+
+/// How many bytes an operand has.
+#[tactic(auto, using(crate::proofs::Sizes::length_spelled))]
+pub(crate) fn operand_size(form: Form, spec: &Spec) -> u32
+    ensures value { result ≡ length (spelled form spec.now) }
+    ensures most { result ≤ 10 }
+{
+    if form.access == Access::Branch {
+        return u32::from(size(form.width));
+    }
+    u32::from(index_size(spec.index)) + 1 + u32::from(value_size(form, spec))
+}
+
+/// How many bytes operands of the forms have.
+fn operands_size(forms: &[Form], operands: &[Operand]) -> u32
+    requires { length forms.now ≤ 4 }
+    ensures value { result ≡ operands_size forms.now (map operand_view operands.now) }
+    ensures most { result ≤ 10 * length forms.now }
+{
+    if let [form, other_forms @ ..] = forms
+        && let [operand, others @ ..] = operands
+    {
+        return operand_size(*form, &operand.spec) + operands_size(other_forms, others);
+    }
+    0
+}
+
+/// How many bytes an opcode has.
+pub(crate) fn opcode_size(opcode: u8) -> u32
+    ensures value { result ≡ length (opcode_bytes opcode) }
+    ensures most { result ≤ 2 }
+{
+    if opcode == 0xFD { 2 } else { 1 }
+}
+
+/// How many bytes a statement has.
+#[tactic(auto, unfolding(vasm_text::specs::Asm::statement_size))]
+fn statement_size(statement: &Statement) -> u32
+    ensures value { result ≡ statement_size (statement_view statement.now) }
+    ensures most { result ≤ 64 }
+{
+    match statement {
+        Statement::Field(width, _) => u32::from(size(*width)),
+        Statement::Instruct(opcode, operands) => {
+            opcode_size(*opcode) + operands_size(forms_of(*opcode).as_slice(), operands.as_slice())
+        }
+    }
+}
+
+/// How many bytes a line has.
+pub(crate) fn line_size(line: &Line) -> u32
+    ensures value { result ≡ line_size (line_view line.now) }
+    ensures most { result ≤ 64 }
+{
+    match &line.statement {
+        Some(statement) => statement_size(statement),
+        None => 0,
+    }
+}

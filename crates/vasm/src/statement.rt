@@ -1,0 +1,113 @@
+ghost use Rattle.std.specs.Prelude.{◌≡◌, ◌≤◌, ◌++◌, map, OnOk};
+ghost use Rattle.vax_table.specs.Spelling.{bytes_of};
+ghost use Rattle.vasm_text.specs.Asm.{bytes_at, field_value, lacks_any, line_bytes, statement_bytes};
+ghost use Rattle.vv_base.specs.Width.{size_of};
+ghost use Rattle.vasm_read.specs.Views.{line_view, operand_view, statement_view};
+ghost use Rattle.vasm.specs.Fits.{AreFit, IsLineFit, IsStatementFit};
+ghost use Rattle.vasm.specs.Labels.{address_of};
+ghost use Rattle.vasm.specs.Puts.{Puts};
+ghost use Rattle.vasm_text.specs.Statements.{Instruct, forms_of};
+
+use crate::labels::{Labels, fault};
+use crate::operand::{field_value, lacks, lacks_any, put_operands};
+use crate::put::{put_number, put_opcode};
+use crate::size::{opcode_size, size};
+use vasm_read::{Line, Operand, Statement, forms_of};
+use vasm_text::{AsmError, AsmKind};
+use vv_base::{NoMemory, Width};
+
+/// Whether a name in a statement labels no line.
+fn lacks_name(labels: &Labels, statement: &Statement) -> bool
+    ensures { result ≡ lacks_any (address_of labels.now) (statement_view statement.now) }
+{
+    match statement {
+        Statement::Field(_, operand) => lacks(labels, operand),
+        Statement::Instruct(_, operands) => lacks_any(labels, operands.as_slice()),
+    }
+}
+
+/// Appends a field.
+fn put_field(
+    bytes: &mut Vec<u8>,
+    labels: &Labels,
+    width: Width,
+    operand: &Operand,
+) -> Result<(), NoMemory>
+    ensures { OnOk result (bytes.new.items ≡ bytes.old.items ++ bytes_of (size_of width) (field_value (address_of labels.now) (operand_view operand.now))) }
+{
+    put_number(bytes, size(width), field_value(labels, operand))
+}
+
+/// Appends an instruction.
+fn put_instruction(
+    bytes: &mut Vec<u8>,
+    labels: &Labels,
+    line: u32,
+    at: u32,
+    opcode: u8,
+    operands: &[Operand],
+) -> Result<(), AsmError>
+    requires fit { AreFit (forms_of opcode) (map operand_view operands.now) }
+    requires low { at ≤ 3000000000 }
+    ensures { Puts line bytes.old.items bytes.new.items (bytes_at (address_of labels.now) at (Instruct opcode (map operand_view operands.now))) result }
+{
+    put_opcode(bytes, opcode)?;
+    put_operands(
+        bytes,
+        labels,
+        line,
+        at + opcode_size(opcode),
+        forms_of(opcode).as_slice(),
+        operands,
+    )
+}
+
+/// Appends a statement at an address.
+#[tactic(auto, unfolding(vasm_text::specs::Asm::statement_bytes))]
+fn put_statement(
+    bytes: &mut Vec<u8>,
+    labels: &Labels,
+    line: u32,
+    at: u32,
+    statement: &Statement,
+) -> Result<(), AsmError>
+    requires fit { IsStatementFit (statement_view statement.now) }
+    requires low { at ≤ 3000000000 }
+    ensures { Puts line bytes.old.items bytes.new.items (statement_bytes (address_of labels.now) at (statement_view statement.now)) result }
+{
+    if lacks_name(labels, statement) {
+        return Err(fault(line, AsmKind::NoName));
+    }
+    match statement {
+        Statement::Field(width, operand) => {
+            put_field(bytes, labels, *width, operand)?;
+            Ok(())
+        }
+        Statement::Instruct(opcode, operands) => put_instruction(
+            bytes,
+            labels,
+            line,
+            at,
+            *opcode,
+            operands.as_slice(),
+        ),
+    }
+}
+
+/// Appends what a line at an address says.
+pub(crate) fn put_line(
+    bytes: &mut Vec<u8>,
+    labels: &Labels,
+    number: u32,
+    at: u32,
+    line: &Line,
+) -> Result<(), AsmError>
+    requires fit { IsLineFit (line_view line.now) }
+    requires low { at ≤ 3000000000 }
+    ensures { Puts number bytes.old.items bytes.new.items (line_bytes (address_of labels.now) at (line_view line.now)) result }
+{
+    match &line.statement {
+        Some(statement) => put_statement(bytes, labels, number, at, statement),
+        None => Ok(()),
+    }
+}

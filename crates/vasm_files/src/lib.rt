@@ -1,0 +1,10 @@
+//! Files of a shelf, assembled and disassembled, and shown on a sink.
+#![tactic(auto)]
+
+mod answer;
+mod commands;
+#[cfg(test)]
+mod tests;
+
+pub use answer::{Answer, fault_text};
+pub use commands::{asm, dis};
