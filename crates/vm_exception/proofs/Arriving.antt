@@ -1,5 +1,5 @@
 -- An exception is taken, or its stack or vector has trouble.
-use Rattle.std.proofs.Common.{◌≡◌, ◌≢◌, ℕ, ◌+◌, ◌-◌, ◌*◌, ◌/◌, ◌%◌, ◌^◌, ◌<◌, ◌≤◌, Bool, true, false, List, [], ◌∷◌, length, Option, Some, None, refl, ap, ◌∙◌, sym, subst, arith, nat_lt, cond}
+use Rattle.std.proofs.Common.{◌≡◌, ℕ, ◌+◌, ◌*◌, ◌<◌, ◌≤◌, Bool, true, false, List, length, Some, refl, ap, ◌∙◌, sym, subst, arith, cond}
 use Rattle.std.proofs.lemmas.Bool.{le-ltb, lt-ltb}
 use Rattle.vv_base.specs.Bytes.{long_at}
 use Rattle.vax_arch.specs.Walk.{is_past}
@@ -7,13 +7,13 @@ use Rattle.vax_arch.specs.WalkLaws.{AreAligned}
 use Rattle.vax_arch.specs.declared.mode.Mode.{Mode}
 use Rattle.vax_hw.specs.Machine.{Machine}
 use Rattle.vm_exception.specs.Attempted.{Attempts, IsAttempted, Stays}
-use Rattle.vm_exception.specs.Initiated.{Becomes, Initiates, IsProper, StopsWith}
+use Rattle.vm_exception.specs.Initiated.{Becomes, Initiates, IsProper}
 use Rattle.vm_exception.specs.Wrote.{AreHomes, DropsAmong, Wrote}
 use Rattle.vm_exception.specs.declared.attempts.Attempt.{Attempt}
 use Rattle.vm_exception.specs.declared.attempts.Attempt.TheVariants as attempts
 use Rattle.vm_exception.specs.declared.initiated.Initiated.TheVariants as outcomes
 use Rattle.vm_exception.proofs.Homes.{homes_inside}
-use Rattle.vm_shadow.specs.Stands.{CanStand, Keeps, Shadowed, own}
+use Rattle.vm_shadow.specs.Stands.{CanStand, Shadowed, own}
 use Rattle.vm_shadow.specs.StandsFor.{OnlyGuest, Serves, StandsFor}
 use Rattle.vm_shadow.proofs.Contexts.{aligned_of}
 use Rattle.vm_shadow.proofs.Covering.{own_is, own_length}
@@ -30,8 +30,7 @@ use Rattle.vm_state.specs.declared.exception.Exc.TheVariants.{Arithmetic, Breakp
 use Rattle.vm_state.specs.declared.guest_state.GuestState.{GuestState}
 use Rattle.vm_state.specs.declared.walk.MemFault.{MemFault}
 use Rattle.vm_state.proofs.Initiations.{LevelFits, begun_keeps}
-use Rattle.vm_state.proofs.Keeps as keeping
-use Rattle.vm_state.proofs.Parts.{part_length, part_long}
+use Rattle.vm_state.proofs.Parts.{part_long}
 
 pub level_fits : (e : Exc) → IsProper e → LevelFits e
 level_fits (Interrupt level vector) p = p.0

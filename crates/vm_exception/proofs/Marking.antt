@@ -1,5 +1,5 @@
 -- Modify bits are set, and bytes are written to their homes.
-use Rattle.std.proofs.Common.{◌≡◌, ◌≢◌, ℕ, zero, suc, ◌+◌, ◌-◌, ◌*◌, ◌/◌, ◌%◌, ◌^◌, ◌<◌, ◌≤◌, ◌⊎◌, inl, inr, Bool, true, false, not, cond, eqb, List, [], ◌∷◌, ◌++◌, length, map, take, drop, set, get_or, slice_index, Option, Some, None, refl, ap, ◌∙◌, sym, subst, arith}
+use Rattle.std.proofs.Common.{◌≡◌, ◌≢◌, ℕ, zero, suc, ◌+◌, ◌*◌, ◌/◌, ◌%◌, ◌^◌, ◌<◌, ◌≤◌, ◌⊎◌, inl, inr, Bool, true, false, not, cond, eqb, List, [], ◌∷◌, ◌++◌, length, map, take, drop, set, get_or, slice_index, Option, Some, None, refl, ap, ◌∙◌, sym, subst, arith}
 use Rattle.std.proofs.lemmas.Bool.{cases_Bool, cases_eq, cases_lt, eqb-false, false≢true, or_left, or_right, true≢false}
 use Rattle.std.proofs.lemmas.List.{get_or-set_other, get_or-set_same, length-set, map-append, set-get_or, take_more, take_all}
 use Rattle.vv_base.specs.Bytes.{long_at}
@@ -7,7 +7,7 @@ use Rattle.vax_arch.specs.Fields.{is_modified}
 use Rattle.vax_arch.specs.Walk.{with_modify}
 use Rattle.vax_hw.specs.Machine.{Machine}
 use Rattle.vm_exception.specs.Pushed.{home_of}
-use Rattle.vm_exception.specs.Wrote.{AreHomes, DropsAmong, IsEntryPlace, IsHome, PutsHomes, Wrote, frames_of}
+use Rattle.vm_exception.specs.Wrote.{AreHomes, IsEntryPlace, IsHome, PutsHomes, Wrote, frames_of}
 use Rattle.vm_exception.specs.declared.pushes.Home.{Home}
 use Rattle.vm_exception.proofs.Writing.{Among, wrote_as, wrote_none, wrote_one, wrote_then}
 use Rattle.vm_shadow.specs.Stands.{Fits, Keeps, Shadowed, is_pending, is_read_from, own}
@@ -18,7 +18,7 @@ use Rattle.vm_state.specs.Pushes as pushes
 use Rattle.vm_state.specs.Pushes.{all_marked, all_put, frames_pushed, mark_written, marked_at, pushed}
 use Rattle.vm_state.specs.Translation.{frame_at, long_stored, marked}
 use Rattle.vm_state.proofs.Parts.{part_byte, part_long}
-use Rattle.vm_state.proofs.Sizes.{long_size, marked_size}
+use Rattle.vm_state.proofs.Sizes.{marked_size}
 
 split : {A B C : Type 0} → A ⊎ B → (A → C) → (B → C) → C
 split (inl a) f g = f a

@@ -1,5 +1,5 @@
 -- Bytes that are pushed, and their walk.
-use Rattle.std.proofs.Common.{◌≡◌, ◌≢◌, ℕ, zero, suc, ◌+◌, ◌-◌, ◌*◌, ◌/◌, ◌%◌, ◌^◌, ◌<◌, ◌≤◌, List, [], ◌∷◌, ◌++◌, length, map, take, drop, get_or, Option, Some, None, refl, ap, ◌∙◌, sym, subst, arith}
+use Rattle.std.proofs.Common.{◌≡◌, ℕ, ◌+◌, ◌*◌, ◌/◌, ◌%◌, ◌^◌, ◌<◌, ◌≤◌, List, [], ◌∷◌, ◌++◌, length, map, take, drop, get_or, Option, refl, ap, ◌∙◌, sym, arith}
 use Rattle.std.proofs.lemmas.List.{append_assoc, append-nil, drop_more, map-append, take_more}
 use Rattle.std.specs.Int.{to_le_bytes, w32}
 use Rattle.vax_arch.specs.declared.mode.Mode.{Mode}
@@ -9,7 +9,6 @@ use Rattle.vm_state.specs.Pushes as pushes
 use Rattle.vm_state.specs.Pushes.{Faulty, Homes, PastMemory, Walked, bytes_from, pointer_behind, pushed_bytes, walked, with_home}
 use Rattle.vm_state.specs.State.{Guest}
 use Rattle.vm_state.specs.Translation.{walk_of}
-use Rattle.vm_state.specs.declared.walk.Walk.{Walk}
 use Rattle.vm_state.specs.declared.walk.Walk.TheVariants as walks
 use Rattle.vm_state.specs.declared.walk.MemFault.{MemFault}
 use Rattle.vm_exception.specs.declared.pushes.Byte.{Byte}

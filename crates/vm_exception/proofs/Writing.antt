@@ -1,11 +1,11 @@
 -- Writes of the kernel, one behind another.
-use Rattle.std.proofs.Common.{◌≡◌, ◌≢◌, ℕ, ◌+◌, ◌-◌, ◌*◌, ◌/◌, ◌%◌, ◌^◌, ◌<◌, ◌≤◌, ◌⊎◌, inl, inr, Bool, true, false, List, [], ◌∷◌, length, Option, Some, None, refl, ap, ◌∙◌, sym, subst, arith}
-use Rattle.std.proofs.lemmas.Bool.{cases_Bool, or_left}
+use Rattle.std.proofs.Common.{◌≡◌, ℕ, ◌/◌, ◌⊎◌, inl, inr, Bool, true, false, List, [], ◌∷◌, Option, None, refl, ap, ◌∙◌, subst, arith}
+use Rattle.std.proofs.lemmas.Bool.{or_left}
 use Rattle.vax_hw.specs.Machine.{Machine}
 use Rattle.vm_exception.specs.Wrote.{DropsAmong, Wrote}
 use Rattle.vm_shadow.specs.Calls.{unless_dropped}
-use Rattle.vm_shadow.specs.Stands.{Keeps, Shadowed, is_pending, is_read_from, own, read_at}
-use Rattle.vm_shadow.specs.StandsFor.{DropsFrom, OnlyGuest, Stores}
+use Rattle.vm_shadow.specs.Stands.{Shadowed, is_pending, is_read_from, own, read_at}
+use Rattle.vm_shadow.specs.StandsFor.{OnlyGuest, Stores}
 use Rattle.vm_shadow.specs.declared.source.Source.{Source}
 
 split : {A B C : Type 0} → A ⊎ B → (A → C) → (B → C) → C

@@ -1,5 +1,5 @@
 -- An attempt to initiate an exception, over a machine and a guest's shadow page tables.
-use Rattle.std.specs.Prelude.{◌≡◌, ℕ, Bool, List}
+use Rattle.std.specs.Prelude.{◌≡◌}
 use Rattle.vax_hw.specs.Machine.{Machine}
 use Rattle.vm_exception.specs.Initiated.{Becomes}
 use Rattle.vm_exception.specs.declared.attempts.Attempt.{Attempt}

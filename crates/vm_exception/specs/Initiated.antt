@@ -9,7 +9,7 @@ use Rattle.vm_shadow.specs.StandsFor.{OnlyGuest, StandsFor}
 use Rattle.vm_state.specs.Initiate.{Initiation, KernelStackBad, Stops, Taken, initiate}
 use Rattle.vm_state.specs.Partition.{guest_of}
 use Rattle.vm_state.specs.State.{Guest, HasPlace, state_of}
-use Rattle.vm_state.specs.Stops.{Stop, stop_code}
+use Rattle.vm_state.specs.Stops.{stop_code}
 use Rattle.vm_state.specs.declared.exception.Exc.{Exc}
 use Rattle.vm_state.specs.declared.exception.Exc.TheVariants.{Interrupt}
 use Rattle.vm_state.specs.declared.guest_state.GuestState.{GuestState}

@@ -1,5 +1,5 @@
 -- Bytes that are pushed and their homes, as the code has them.
-use Rattle.std.specs.Prelude.{ℕ, List, map}
+use Rattle.std.specs.Prelude.{map}
 use Rattle.vm_exception.specs.declared.pushes.Byte.{Byte}
 use Rattle.vm_exception.specs.declared.pushes.Home.{Home}
 use Rattle.vm_exception.specs.declared.pushes.Walked.{Walked}

@@ -1,17 +1,16 @@
 -- What dropping, filling, closing and opening one real entry leaves.
-use Rattle.std.proofs.Common.{◌≡◌, ◌≢◌, ℕ, ◌+◌, ◌-◌, ◌*◌, ◌^◌, ◌<◌, ◌≤◌, ◌⊎◌, inl, inr, Bool, true, false, ◌||◌, List, [], ◌∷◌, length, set, Option, Some, None, is_some, refl, ap, ◌∙◌, sym, subst, arith, slice_index_or, ◌==◌}
-use Rattle.std.proofs.lemmas.Bool.{cases_eq, false≢true, ne_eqb, eq-eqb, or_parts}
+use Rattle.std.proofs.Common.{◌≡◌, ◌≢◌, ℕ, ◌+◌, ◌-◌, ◌*◌, ◌^◌, ◌<◌, ◌≤◌, Bool, true, false, List, [], ◌∷◌, length, set, Option, Some, None, is_some, refl, ap, ◌∙◌, sym, subst, slice_index_or, ◌==◌}
+use Rattle.std.proofs.lemmas.Bool.{false≢true, eq-eqb, or_parts}
 use Rattle.std.proofs.lemmas.List.{set-get_or}
 use Rattle.vax_arch.specs.Fields.{frame_of, is_modified, is_valid}
 use Rattle.vax_arch.specs.Walk.{entry_at}
 use Rattle.vax_arch.specs.declared.walk.Lookup.{Lookup}
 use Rattle.vm_shadow.specs.Layout.{all_entries, empty_entry, entry_place, real_entry}
-use Rattle.vm_shadow.specs.Stands.{Fits, IsKept, IsRight, IsSource, Keeps, Shadowed, is_flagged, is_opened, is_pending, is_read_from, mapped_frame, own, read_at, real_at, seen_at}
+use Rattle.vm_shadow.specs.Stands.{Fits, IsKept, IsRight, IsSource, Keeps, Shadowed, is_flagged, is_opened, is_read_from, mapped_frame, own, read_at, real_at, seen_at}
 use Rattle.vm_shadow.specs.declared.source.Source.{Source}
-use Rattle.vm_shadow.proofs.Places.{split}
 use Rattle.vm_shadow.proofs.Writes.{IsWritten}
-use Rattle.vm_shadow.proofs.Entries.{CanSet, IsSet, remembers, set_entry}
-use Rattle.vm_shadow.proofs.Rights.{frame_fits, modify_of, one_less, one_more, right_frame, right_modify, right_valid, valid_of}
+use Rattle.vm_shadow.proofs.Entries.{IsSet, remembers, set_entry}
+use Rattle.vm_shadow.proofs.Rights.{frame_fits, modify_of, one_less, one_more, right_frame, right_modify, valid_of}
 
 pub empty_invalid : (A : Type 0) → is_valid empty_entry ≡ true → A
 empty_invalid A e = absurd (false≢true e)

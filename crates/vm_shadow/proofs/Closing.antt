@@ -1,12 +1,11 @@
 -- A scan that clears the modify bit of each real entry that maps a frame of a source.
-use Rattle.std.proofs.Common.{◌≡◌, ◌≢◌, ℕ, ◌+◌, ◌-◌, ◌*◌, ◌/◌, ◌%◌, ◌^◌, ◌<◌, ◌≤◌, ◌⊎◌, inl, inr, Bool, true, false, ◌&&◌, ◌==◌, eqb, List, [], ◌∷◌, length, Option, Some, None, is_some, refl, ap, ◌∙◌, sym, subst, arith, slice_index_or}
-use Rattle.std.proofs.lemmas.Bool.{and_left, and_parts, and_right, cases_eq, eqb-true, false≢true}
-use Rattle.vv_base.specs.Bytes.{long_at, long_bytes, overwritten}
+use Rattle.std.proofs.Common.{◌≡◌, ◌≢◌, ℕ, ◌+◌, ◌-◌, ◌*◌, ◌/◌, ◌%◌, ◌^◌, ◌<◌, ◌≤◌, Bool, true, false, eqb, List, [], length, Option, is_some, ap, ◌∙◌, sym, subst, arith}
+use Rattle.std.proofs.lemmas.Bool.{and_left, and_parts, cases_eq, eqb-true, false≢true}
+use Rattle.vv_base.specs.Bytes.{long_at}
 use Rattle.vax_arch.specs.Fields.{is_modified, is_valid}
-use Rattle.vax_arch.specs.declared.walk.Lookup.{Lookup}
 use Rattle.vax_hw.specs.Machine.{Machine}
-use Rattle.vm_shadow.specs.Layout.{all_entries, empty_entry, entry_place}
-use Rattle.vm_shadow.specs.Stands.{IsKept, Keeps, Shadowed, is_read_from, own, read_at, real_at, seen_at}
+use Rattle.vm_shadow.specs.Layout.{all_entries, entry_place}
+use Rattle.vm_shadow.specs.Stands.{Keeps, Shadowed, own, read_at, real_at, seen_at}
 use Rattle.vm_shadow.specs.Calls.{Closes, OnlyTables, closed_at, maps_open, remembered}
 use Rattle.vm_shadow.specs.declared.source.Source.{Source}
 use Rattle.vm_shadow.proofs.Places.{place_within, split}

@@ -1,12 +1,11 @@
 -- Which pages there are real entries for.
-use Rattle.std.proofs.Common.{◌≡◌, ◌≢◌, ℕ, ◌+◌, ◌-◌, ◌*◌, ◌/◌, ◌%◌, ◌^◌, ◌<◌, ◌≤◌, ◌⊎◌, inl, inr, Bool, true, false, eqb, ◌==◌, List, [], ◌∷◌, All, length, Option, Some, None, refl, ap, ◌∙◌, sym, subst, arith, nat_le, nat_lt}
-use Rattle.std.proofs.lemmas.Bool.{cond_both, eqb-false, eqb-true, leb-false, ltb-false}
+use Rattle.std.proofs.Common.{◌≡◌, ℕ, ◌+◌, ◌*◌, ◌^◌, ◌<◌, ◌≤◌, inl, inr, ◌==◌, List, [], ◌∷◌, All, length, Some, ap, ◌∙◌, sym, subst, arith, nat_le, nat_lt}
+use Rattle.std.proofs.lemmas.Bool.{cond_both, eqb-true, leb-false, ltb-false}
 use Rattle.std.proofs.lemmas.List.Elements.{All-head}
 use Rattle.vax_arch.specs.Walk.{Tables, entry_at, in_region, is_past, lookup, mapped_entry, region_of, system_entry}
 use Rattle.vax_arch.specs.declared.walk.Lookup.{Lookup}
 use Rattle.vm_slots.specs.Held.{Held}
-use Rattle.vm_slots.specs.declared.context.Context.{Context}
-use Rattle.vm_shadow.specs.Layout.{IsCovered, entry_number, entry_page}
+use Rattle.vm_shadow.specs.Layout.{IsCovered, entry_number}
 use Rattle.vm_shadow.specs.Stands.{CanStand, Fits, IsFirst, Shadowed, look_under, own, seen_at, tables_for}
 use Rattle.vm_shadow.specs.StandsFor.{IsPresent, Serves}
 use Rattle.vm_shadow.proofs.Contexts.{tables_own}

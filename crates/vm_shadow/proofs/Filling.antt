@@ -1,17 +1,16 @@
 -- A page is filled.
-use Rattle.std.proofs.Common.{◌≡◌, ◌≢◌, ℕ, ◌+◌, ◌-◌, ◌*◌, ◌/◌, ◌%◌, ◌^◌, ◌<◌, ◌≤◌, ◌⊎◌, inl, inr, Bool, true, false, List, [], ◌∷◌, length, set, drop, take, Option, Some, None, refl, ap, ◌∙◌, sym, subst, arith, slice_index, get_or}
+use Rattle.std.proofs.Common.{◌≡◌, ℕ, ◌+◌, ◌-◌, ◌*◌, ◌^◌, ◌<◌, ◌≤◌, ◌⊎◌, inl, inr, Bool, true, false, List, length, set, Some, refl, ap, ◌∙◌, sym, subst, arith, slice_index, get_or}
 use Rattle.std.proofs.lemmas.List.{get_or-drop, get_or-take}
 use Rattle.std.proofs.lemmas.Option.{same_Some}
-use Rattle.vax_arch.specs.Fields.{frame_of, is_modified, is_valid}
+use Rattle.vax_arch.specs.Fields.{frame_of, is_valid}
 use Rattle.vax_arch.specs.Walk.{entry_at}
 use Rattle.vax_arch.specs.declared.pte.Pte.{Pte}
 use Rattle.vax_arch.specs.declared.walk.Lookup.{Lookup}
 use Rattle.vax_hw.specs.Machine.{Machine}
-use Rattle.vm_shadow.specs.Calls.{OnlyTables}
 use Rattle.vm_shadow.specs.Flags.{IsWithin, with_flags}
-use Rattle.vm_shadow.specs.Layout.{IsCovered, all_entries, entry_number, entry_place, real_entry}
-use Rattle.vm_shadow.specs.Stands.{Fits, IsSource, Keeps, Shadowed, is_flagged, is_read_from, own, seen_at}
-use Rattle.vm_shadow.specs.StandsFor.{FillsPage, IsEntry, IsPresent, Protects, Serves, StandsFor}
+use Rattle.vm_shadow.specs.Layout.{all_entries, entry_number, entry_place, real_entry}
+use Rattle.vm_shadow.specs.Stands.{Fits, IsSource, Shadowed, own, seen_at}
+use Rattle.vm_shadow.specs.StandsFor.{FillsPage, IsEntry, IsPresent, Protects, StandsFor}
 use Rattle.vm_shadow.specs.declared.source.Source.{Source}
 use Rattle.vm_shadow.proofs.Changes.{filled}
 use Rattle.vm_shadow.proofs.Covering.{own_is, own_length, present_covered, seen_own, slot_small}
@@ -19,7 +18,7 @@ use Rattle.vm_shadow.proofs.Entries.{seen_kept}
 use Rattle.vm_shadow.proofs.Flagging.{flagged_all, flags_size}
 use Rattle.vm_shadow.proofs.Places.{number_small, place_within, split}
 use Rattle.vm_shadow.proofs.Scanning.{only_more, with_long}
-use Rattle.vm_shadow.proofs.Writes.{IsWritten, part_same, written}
+use Rattle.vm_shadow.proofs.Writes.{part_same, written}
 use Rattle.vm_state.specs.Partition.{IsApart, guest_of, partition_of}
 use Rattle.vm_state.specs.Translation.{look}
 use Rattle.vm_state.specs.declared.guest_state.GuestState.{GuestState}

@@ -1,6 +1,6 @@
 -- Flags by frame.
-use Rattle.std.proofs.Common.{◌≡◌, ◌≢◌, ℕ, ◌+◌, ◌*◌, ◌/◌, ◌<◌, ◌≤◌, Bool, true, false, ◌||◌, ◌==◌, eqb, List, length, set, slice_set, slice_index_or, Option, Some, None, refl, ap, ◌∙◌, sym, subst, arith, ◌⊎◌, inl, inr}
-use Rattle.std.proofs.lemmas.Bool.{cases_eq, eqb-false, false≢true, ne_eqb, or_from, or_parts, true≢false}
+use Rattle.std.proofs.Common.{◌≡◌, ℕ, ◌<◌, ◌≤◌, Bool, true, false, ◌==◌, List, length, set, slice_set, slice_index_or, Some, refl, ap, ◌∙◌, sym, subst, ◌⊎◌, inl, inr}
+use Rattle.std.proofs.lemmas.Bool.{cases_eq, eqb-false, ne_eqb, or_from, or_parts, true≢false}
 use Rattle.std.proofs.lemmas.List.{get_or-set_other, get_or-set_same, length-set, set_past}
 use Rattle.vm_shadow.specs.Flags.{IsWithin, any_flagged, with_flags}
 use Rattle.vm_shadow.specs.Stands.{is_flagged, is_read_from}

@@ -1,19 +1,17 @@
 -- Pages are opened, granted and closed.
-use Rattle.std.proofs.Common.{◌≡◌, ◌≢◌, ℕ, ◌+◌, ◌-◌, ◌*◌, ◌/◌, ◌%◌, ◌^◌, ◌<◌, ◌≤◌, ◌⊎◌, inl, inr, Bool, true, false, not, ◌||◌, ◌==◌, eqb, cond, List, [], ◌∷◌, length, set, filter, Option, Some, None, refl, ap, ◌∙◌, sym, subst, arith, slice_index_or}
-use Rattle.std.proofs.lemmas.Bool.{cases_eq, cases_lt, eq-eqb, eqb-false, eqb-true, false≢true, ne_eqb, or_from, or_parts, true≢false}
+use Rattle.std.proofs.Common.{◌≡◌, ◌≢◌, ℕ, ◌+◌, ◌-◌, ◌*◌, ◌/◌, ◌%◌, ◌^◌, ◌<◌, ◌≤◌, Bool, true, false, not, ◌==◌, eqb, cond, List, [], ◌∷◌, length, set, Option, Some, None, refl, ap, ◌∙◌, sym, subst, arith}
+use Rattle.std.proofs.lemmas.Bool.{cases_eq, cases_lt, eqb-false, eqb-true, false≢true, ne_eqb, or_from, or_parts, true≢false}
 use Rattle.std.proofs.lemmas.List.{get_or-set_other, get_or-set_same, length-set, set_past}
 use Rattle.std.proofs.lemmas.Option.{same_Some}
 use Rattle.vv_base.specs.Bytes.{long_at}
 use Rattle.vax_arch.specs.Fields.{frame_of, is_modified, is_valid}
-use Rattle.vax_arch.specs.Walk.{entry_at}
 use Rattle.vax_arch.specs.declared.walk.Lookup.{Lookup}
 use Rattle.vax_hw.specs.Machine.{Machine}
 use Rattle.vm_shadow.specs.declared.source.Source.{Source}
-use Rattle.vm_shadow.specs.Calls.{OnlyTables}
 use Rattle.vm_shadow.specs.Layout.{IsCovered, all_entries, entry_place}
-use Rattle.vm_shadow.specs.Stands.{Fits, IsKept, Keeps, Shadowed, is_flagged, is_opened, is_read_from, mapped_frame, own, read_at, real_at, seen_at}
+use Rattle.vm_shadow.specs.Stands.{Fits, IsKept, Keeps, Shadowed, is_flagged, is_opened, mapped_frame, own, read_at, real_at, seen_at}
 use Rattle.vm_shadow.specs.StandsFor.{ClosesPage, GrantsPage, IsMarked, OpensPage, closed_for, own_number}
-use Rattle.vm_shadow.proofs.Changes.{IsFilled, closed, empty_invalid, filled_of, grants, kept_valid, opens}
+use Rattle.vm_shadow.proofs.Changes.{IsFilled, closed, filled_of, grants, opens}
 use Rattle.vm_shadow.proofs.Closing.{one_clear}
 use Rattle.vm_shadow.proofs.Covering.{slot_small}
 use Rattle.vm_shadow.proofs.Places.{number_small, place_within, split}

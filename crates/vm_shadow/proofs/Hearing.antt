@@ -1,12 +1,12 @@
 -- The machine's walk against the guest's.
-use Rattle.std.proofs.Common.{◌≡◌, ◌≢◌, ℕ, zero, suc, ◌+◌, ◌-◌, ◌*◌, ◌/◌, ◌%◌, ◌^◌, ◌<◌, ◌≤◌, ◌⊎◌, inl, inr, Bool, true, false, not, ◌&&◌, ◌==◌, eqb, cond, List, [], ◌∷◌, length, Option, Some, None, Result, Ok, Err, is_some, refl, ap, ◌∙◌, sym, subst, arith, nat_lt}
-use Rattle.std.proofs.lemmas.Bool.{cases_Bool, cond_both, false≢true, le-ltb, ltb-false, not-false, true≢false}
+use Rattle.std.proofs.Common.{◌≡◌, ℕ, ◌+◌, ◌*◌, ◌%◌, ◌^◌, ◌<◌, ◌≤◌, inl, inr, Bool, true, false, not, cond, List, [], length, Option, Some, None, Result, Ok, Err, is_some, refl, ap, ◌∙◌, sym, subst, arith}
+use Rattle.std.proofs.lemmas.Bool.{false≢true, le-ltb, not-false}
 use Rattle.std.proofs.lemmas.Option.{none-some, same_Some}
 use Rattle.vv_base.specs.Bytes.{long_at}
 use Rattle.vax_arch.specs.Fields.{frame_of, is_modified, is_valid, protection_of}
 use Rattle.vax_arch.specs.Protection.{may_of}
 use Rattle.vax_arch.specs.Ring.{compressed_of, open_of, ring_of}
-use Rattle.vax_arch.specs.Walk.{Tables, entry_at, granted, is_past, lookup, mapped_entry, page_of}
+use Rattle.vax_arch.specs.Walk.{entry_at, granted, page_of}
 use Rattle.vax_arch.specs.declared.mode.Intent.{Intent}
 use Rattle.vax_arch.specs.declared.mode.Intent.TheVariants.{Read, Write}
 use Rattle.vax_arch.specs.declared.mode.Mode.{Mode}
@@ -18,11 +18,11 @@ use Rattle.vax_arch.specs.declared.walk.Lookup.{Lookup}
 use Rattle.vax_arch.specs.declared.walk.Lookup.TheVariants.{Beyond, Direct, Fails, Found}
 use Rattle.vax_arch.proofs.Compression.{by_table, compresses}
 use Rattle.vax_arch.proofs.Walks.{looks_inside}
-use Rattle.vax_hw.specs.RealTables.{everywhere, is_clear_at, is_clear_in, is_kernels_alone, judged, judged_at, judged_by, place_by, place_in, placed_by, real_look}
-use Rattle.vax_table.specs.Script.{Absent, Cause, Past, Refusing}
+use Rattle.vax_hw.specs.RealTables.{everywhere, is_clear_at, is_clear_in, is_kernels_alone, judged, judged_at, judged_by, place_by, place_in, placed_by}
+use Rattle.vax_table.specs.Script.{Absent, Cause, Refusing}
 use Rattle.vm_shadow.specs.Laws.{FindsFilledEntries, HasNone, HearsTheGuest, IsHeard, MarksTheGuest, MissesEmptyEntries, ProbesFilledEntries, ProbesTheGuest, guest_place, moved, own_place, real_place}
-use Rattle.vm_shadow.specs.Layout.{IsCovered, all_entries, empty_entry, entry_number, entry_place, real_entry, real_tables}
-use Rattle.vm_shadow.specs.Stands.{CanStand, Fits, IsKept, IsRight, IsSource, Keeps, Shadowed, own, read_at, real_at, seen_at}
+use Rattle.vm_shadow.specs.Layout.{IsCovered, all_entries, empty_entry, real_entry, real_tables}
+use Rattle.vm_shadow.specs.Stands.{CanStand, IsKept, Keeps, Shadowed, own, read_at, real_at, seen_at}
 use Rattle.vm_shadow.specs.StandsFor.{Serves, own_number}
 use Rattle.vm_shadow.specs.declared.source.Source.{Source}
 use Rattle.vm_shadow.proofs.Changes.{IsFilled, filled_of, kept_valid}
@@ -36,8 +36,6 @@ use Rattle.vm_state.specs.Probe.{Answers, by_entry, probed_by, probed_byte}
 use Rattle.vm_state.specs.State.{Guest, tables_of}
 use Rattle.vm_state.specs.Translation.{at_entry, is_clear, is_clear_at as guest_clear, look, walk_by, walk_of}
 use Rattle.vm_state.specs.declared.guest_state.GuestState.{GuestState}
-use Rattle.vm_state.specs.declared.walk.Walk.{Walk}
-use Rattle.vm_state.specs.declared.walk.Walk.TheVariants as walks
 
 -- what an entry that isn't filled gives
 empty_gives : (m : Mode) (i : Intent) → granted may_of everywhere empty_entry (ring_of m) i ≡ grants.Absent

@@ -1,11 +1,11 @@
 -- The contexts that have slots, when one of them comes to the front.
-use Rattle.std.proofs.Common.{◌≡◌, ◌≢◌, ℕ, zero, suc, ◌+◌, ◌<◌, ◌≤◌, ◌⊎◌, inl, inr, Bool, true, false, cond, not, ◌==◌, eqb, List, [], ◌∷◌, ◌++◌, length, filter, find, take, get_or, All, AllPairs, Contains, IfSome, Option, Some, None, option_map, refl, ap, ◌∙◌, sym, subst, arith}
+use Rattle.std.proofs.Common.{◌≡◌, ◌≢◌, ℕ, zero, suc, ◌⊎◌, inl, inr, Bool, true, false, cond, not, ◌==◌, List, [], ◌∷◌, length, filter, find, get_or, AllPairs, Contains, IfSome, Option, Some, None, option_map, refl, ap, ◌∙◌, sym, subst, arith}
 use Rattle.std.proofs.lemmas.Bool.{cases_Bool, cases_lt, eq-eqb, eqb-true, false≢true, ne_eqb, true≢false}
 use Rattle.std.proofs.lemmas.List.{take_all}
 use Rattle.std.proofs.lemmas.List.Elements.{Contains-push_cases}
 use Rattle.std.proofs.lemmas.List.Filters.{length-filter_both}
 use Rattle.std.proofs.lemmas.Option.{none-some, same_Some}
-use Rattle.vm_slots.specs.Held.{AreSlots, Held, LastGoes, beside, is_same, slot_of, without}
+use Rattle.vm_slots.specs.Held.{Held, beside, is_same, slot_of, without}
 use Rattle.vm_slots.specs.declared.context.Context.{Context}
 use Rattle.vm_slots.proofs.HeldLaws.{is_same-true, its_slot}
 use Rattle.vm_shadow.specs.Stands.{context_in}

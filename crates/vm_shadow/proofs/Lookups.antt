@@ -1,18 +1,16 @@
 -- What a look-up depends on.
-use Rattle.std.proofs.Common.{◌≡◌, ◌≢◌, ℕ, ◌+◌, ◌-◌, ◌*◌, ◌/◌, ◌%◌, ◌^◌, ◌<◌, ◌≤◌, ◌⊎◌, inl, inr, Bool, true, false, not, ◌||◌, ◌==◌, eqb, List, length, Option, Some, None, refl, ap, ◌∙◌, sym, subst, arith, nat_le, nat_lt, if◌then◌else◌, slice_index}
-use Rattle.std.proofs.lemmas.Bool.{cases_Bool, cases_eq, cases_lt, cond_both, eqb-true}
+use Rattle.std.proofs.Common.{◌≡◌, ◌≢◌, ℕ, ◌+◌, ◌*◌, ◌/◌, ◌%◌, ◌^◌, false, not, ◌||◌, ◌==◌, List, Option, Some, None, refl, ap, ◌∙◌, subst, arith, nat_le, nat_lt, slice_index}
+use Rattle.std.proofs.lemmas.Bool.{cond_both, eqb-true}
 use Rattle.vv_base.specs.Bytes.{long_at}
 use Rattle.vax_arch.specs.Fields.{frame_of, is_valid}
-use Rattle.vax_arch.specs.Walk.{Tables, behind_table, entry_at, in_memory, in_region, is_past, lookup, mapped_entry, page_of, process_entry, process_page, region_of, system_entry}
-use Rattle.vax_arch.specs.WalkLaws.{AreAligned, IsAligned, IsInside, table_at, table_place}
+use Rattle.vax_arch.specs.Walk.{Tables, entry_at, in_region, is_past, lookup, mapped_entry, page_of, process_entry, region_of, system_entry}
+use Rattle.vax_arch.specs.WalkLaws.{AreAligned, IsAligned, table_at, table_place}
 use Rattle.vax_arch.specs.declared.walk.Lookup.{Lookup}
 use Rattle.vax_arch.specs.declared.walk.Lookup.TheVariants.{Beyond, Direct, Fails, Found}
-use Rattle.vax_arch.proofs.Walks.{looks_aligned, looks_at_one, looks_inside}
-use Rattle.vm_shadow.specs.Layout.{entry_page}
+use Rattle.vax_arch.proofs.Walks.{looks_aligned, looks_at_one}
 use Rattle.vm_shadow.specs.Stands.{IsSource, is_read_from, look_under}
 use Rattle.vm_shadow.specs.declared.source.Source.{Source}
 use Rattle.vm_shadow.specs.declared.source.Source.TheVariants as sources
-use Rattle.vm_shadow.proofs.Places.{split}
 use Rattle.vm_shadow.proofs.Writes.{long_by}
 use Rattle.std.proofs.lemmas.Bool.{eqb-false, or_parts}
 

@@ -1,9 +1,8 @@
 -- New real tables.
-use Rattle.std.proofs.Common.{◌≡◌, ◌≢◌, ℕ, zero, suc, slice_index_or, ◌==◌, ◌+◌, ◌-◌, ◌*◌, ◌/◌, ◌%◌, ◌^◌, ◌<◌, ◌≤◌, ◌⊎◌, inl, inr, Bool, true, false, ◌&&◌, List, [], ◌∷◌, length, replicate, All, Option, Some, None, refl, ap, ◌∙◌, sym, subst, arith}
+use Rattle.std.proofs.Common.{◌≡◌, ◌≢◌, ℕ, zero, suc, slice_index_or, ◌==◌, ◌+◌, ◌*◌, ◌/◌, ◌%◌, ◌^◌, ◌<◌, ◌≤◌, ◌⊎◌, inl, inr, Bool, true, false, ◌&&◌, List, [], ◌∷◌, length, replicate, All, Option, None, refl, ap, ◌∙◌, sym, subst, arith}
 use Rattle.std.proofs.lemmas.Bool.{and_parts, cases_eq, cases_lt, eqb-true, false≢true, leb-true}
 use Rattle.std.proofs.lemmas.List.Elements.{All-cons, All-nil}
 use Rattle.std.proofs.lemmas.List.{get_or-replicate, length-replicate}
-use Rattle.vv_base.specs.Bytes.{long_at}
 use Rattle.vax_hw.specs.Machine.{Machine}
 use Rattle.vm_slots.specs.Held.{AreSlots, Held, contexts_of}
 use Rattle.vm_slots.specs.declared.context.Context.{Context}
@@ -16,7 +15,7 @@ use Rattle.vm_state.specs.Allowed.{AreAllowed}
 use Rattle.vm_state.specs.State.{State, context_of, state_of, tables_of}
 use Rattle.vm_state.specs.declared.guest_state.GuestState.{GuestState}
 use Rattle.vax_arch.specs.Fields.{is_valid}
-use Rattle.vm_shadow.proofs.Places.{LiesWithin, place_within, places_apart, split, system_apart}
+use Rattle.vm_shadow.proofs.Places.{place_within, places_apart, split, system_apart}
 use Rattle.vm_shadow.proofs.Scanning.{apart_again, only_more, only_none, with_long}
 use Rattle.vm_shadow.proofs.Writes.{long_kept, written}
 

@@ -1,5 +1,5 @@
 -- The modify bit of an entry of the guest is set.
-use Rattle.std.proofs.Common.{◌≡◌, ◌≢◌, ℕ, ◌+◌, ◌-◌, ◌*◌, ◌/◌, ◌%◌, ◌^◌, ◌<◌, ◌≤◌, List, [], ◌∷◌, length, Option, Some, None, refl, ap, ◌∙◌, sym, subst, arith}
+use Rattle.std.proofs.Common.{◌≡◌, ℕ, ◌+◌, ◌*◌, ◌%◌, List, [], length, Option, refl, ap, ◌∙◌, sym, subst}
 use Rattle.vv_base.specs.Bytes.{long_at}
 use Rattle.vax_arch.specs.Walk.{with_modify}
 use Rattle.vax_arch.specs.WalkLaws.{IsAligned, IsInside}
@@ -8,7 +8,7 @@ use Rattle.vax_arch.specs.declared.walk.Lookup.TheVariants.{Beyond, Direct, Fail
 use Rattle.vax_arch.proofs.Walks.{looks_aligned}
 use Rattle.vax_hw.specs.Machine.{Machine}
 use Rattle.vm_shadow.specs.Stands.{CanStand, Shadowed, own}
-use Rattle.vm_shadow.specs.StandsFor.{DropsMarked, Marks, OnlyGuest, Serves, StandsFor, Stores}
+use Rattle.vm_shadow.specs.StandsFor.{DropsMarked, Marks, Serves, StandsFor, Stores}
 use Rattle.vm_shadow.proofs.Contexts.{aligned_of}
 use Rattle.vm_shadow.proofs.Covering.{own_is}
 use Rattle.vm_state.specs.Partition.{guest_of, partition_of}

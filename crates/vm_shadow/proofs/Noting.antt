@@ -1,12 +1,12 @@
 -- A write of a frame of the guest is noted.
-use Rattle.std.proofs.Common.{◌≡◌, ◌≢◌, ℕ, zero, suc, ◌+◌, ◌*◌, ◌<◌, ◌≤◌, Bool, true, false, ◌&&◌, ◌||◌, List, [], ◌∷◌, length, set, slice_set, slice_index_or, Option, Some, None, refl, ap, ◌∙◌, sym, subst, arith, ◌⊎◌, inl, inr, cond, nat_le, nat_lt}
-use Rattle.std.proofs.lemmas.Bool.{and_right, cases_Bool, cases_lt, false≢true, le-leb, le-ltb, lt-ltb}
-use Rattle.std.proofs.lemmas.List.{get_or_default, length-set}
+use Rattle.std.proofs.Common.{◌≡◌, ℕ, zero, suc, ◌*◌, ◌<◌, ◌≤◌, Bool, true, false, ◌&&◌, List, [], ◌∷◌, length, set, Option, refl, ap, ◌∙◌, sym, subst, arith}
+use Rattle.std.proofs.lemmas.Bool.{and_right, cases_lt, le-leb, lt-ltb}
+use Rattle.std.proofs.lemmas.List.{length-set}
 use Rattle.vax_hw.specs.Machine.{Machine}
-use Rattle.vm_shadow.specs.Calls.{Drops, OnlyTables, is_between, remembered, unless_dropped}
+use Rattle.vm_shadow.specs.Calls.{Drops, is_between, remembered, unless_dropped}
 use Rattle.vm_shadow.specs.Layout.{all_entries}
 use Rattle.vm_shadow.specs.Stands.{Fits, IsKept, Keeps, Shadowed, is_flagged, is_read_from, own, read_at, real_at, seen_at}
-use Rattle.vm_shadow.specs.StandsFor.{DropsFrom, Notes}
+use Rattle.vm_shadow.specs.StandsFor.{Notes}
 use Rattle.vm_shadow.specs.declared.source.Source.{Source}
 use Rattle.vm_shadow.specs.declared.scans.Dropped.TheVariants.{ReadFrom}
 use Rattle.vm_shadow.proofs.Entries.{seen_kept}
@@ -14,7 +14,6 @@ use Rattle.vm_shadow.proofs.Flagging.{untaken}
 use Rattle.vm_shadow.proofs.Places.{split}
 use Rattle.vm_shadow.proofs.Scanning.{only_none}
 use Rattle.vm_shadow.proofs.Stored.{noted}
-use Rattle.std.proofs.lemmas.List.{set_past}
 
 -- reads past the end are none
 pub unread_past : (frame : ℕ) (reads : List (Option Source)) (n : ℕ) → length reads ≤ n → is_read_from frame (remembered reads n) ≡ false

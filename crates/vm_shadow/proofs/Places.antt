@@ -1,8 +1,8 @@
 -- Places and numbers of real entries.
-use Rattle.std.proofs.Common.{◌≡◌, ◌≢◌, ℕ, ◌+◌, ◌-◌, ◌*◌, ◌/◌, ◌%◌, ◌^◌, ◌<◌, ◌≤◌, ◌⊎◌, inl, inr, nat_lt, refl, ap, ◌∙◌, sym, subst, arith, if◌then◌else◌}
-use Rattle.std.proofs.lemmas.Bool.{cases_eq, cases_lt, le-ltb, lt-ltb, ne_eqb}
+use Rattle.std.proofs.Common.{◌≡◌, ◌≢◌, ℕ, ◌+◌, ◌-◌, ◌*◌, ◌%◌, ◌^◌, ◌<◌, ◌≤◌, ◌⊎◌, inl, inr, ap, ◌∙◌, arith}
+use Rattle.std.proofs.lemmas.Bool.{cases_lt, le-ltb, lt-ltb}
 use Rattle.vax_arch.specs.Walk.{in_region, region_of}
-use Rattle.vm_shadow.specs.Layout.{IsCovered, all_entries, entry_number, entry_page, entry_place, entry_slot, process_entry_page}
+use Rattle.vm_shadow.specs.Layout.{IsCovered, all_entries, entry_number, entry_page, entry_place, entry_slot}
 
 pub split : {A B C : Type 0} → A ⊎ B → (A → C) → (B → C) → C
 split (inl a) f g = f a

@@ -1,12 +1,12 @@
 -- Before an entry is read from frames of the guest, pages that map them are closed.
-use Rattle.std.proofs.Common.{◌≡◌, ◌≢◌, ℕ, ◌+◌, ◌-◌, ◌*◌, ◌%◌, ◌<◌, ◌≤◌, Bool, true, false, ◌&&◌, List, [], ◌∷◌, length, Option, Some, None, refl, ap, ◌∙◌, sym, subst, arith}
-use Rattle.std.proofs.lemmas.Bool.{and_parts, false≢true}
+use Rattle.std.proofs.Common.{◌≡◌, ℕ, ◌-◌, ◌*◌, ◌%◌, ◌<◌, Bool, true, false, ◌&&◌, List, [], Some, refl, ◌∙◌, subst}
+use Rattle.std.proofs.lemmas.Bool.{false≢true}
 use Rattle.vax_arch.specs.Fields.{is_modified, is_valid}
 use Rattle.vax_hw.specs.Machine.{Machine}
-use Rattle.vm_shadow.specs.Calls.{Closes, OnlyTables, maps_open}
+use Rattle.vm_shadow.specs.Calls.{Closes, maps_open}
 use Rattle.vm_shadow.specs.Flags.{any_flagged, with_flags}
 use Rattle.vm_shadow.specs.Layout.{all_entries}
-use Rattle.vm_shadow.specs.Stands.{Fits, IsKept, Keeps, Shadowed, is_flagged, is_read_from, mapped_frame, own, read_at, real_at, seen_at}
+use Rattle.vm_shadow.specs.Stands.{IsKept, Keeps, Shadowed, is_read_from, mapped_frame, own, read_at, real_at, seen_at}
 use Rattle.vm_shadow.specs.StandsFor.{Protects}
 use Rattle.vm_shadow.specs.declared.source.Source.{Source}
 use Rattle.vm_shadow.proofs.Entries.{seen_kept}

@@ -1,19 +1,16 @@
 -- The machine's walk over the real tables of a guest.
-use Rattle.std.proofs.Common.{◌≡◌, ◌≢◌, ℕ, zero, suc, ◌+◌, ◌-◌, ◌*◌, ◌/◌, ◌%◌, ◌^◌, ◌<◌, ◌≤◌, ◌⊎◌, inl, inr, Bool, true, false, not, ◌&&◌, ◌||◌, ◌==◌, eqb, cond, nat_le, nat_lt, List, [], ◌∷◌, length, Option, Some, None, Result, Ok, Err, is_some, refl, ap, ◌∙◌, sym, subst, arith, if◌then◌else◌}
-use Rattle.std.proofs.lemmas.Bool.{cases_Bool, cases_eq, cases_lt, eq-eqb, eqb-true, false≢true, le-leb, le-ltb, lt-leb, lt-ltb, ne_eqb}
+use Rattle.std.proofs.Common.{◌≡◌, ◌≢◌, ℕ, zero, suc, ◌+◌, ◌-◌, ◌*◌, ◌/◌, ◌%◌, ◌^◌, ◌<◌, ◌≤◌, ◌⊎◌, inl, inr, false, List, Option, Some, None, Err, refl, ap, ◌∙◌, sym, subst, arith}
+use Rattle.std.proofs.lemmas.Bool.{cases_eq, cases_lt, le-leb, le-ltb, lt-leb, lt-ltb}
 use Rattle.vv_base.specs.Bytes.{long_at}
-use Rattle.vax_arch.specs.Fields.{frame_of, is_modified, is_valid, protection_of}
+use Rattle.vax_arch.specs.Fields.{protection_of}
 use Rattle.vax_arch.specs.Protection.{may_of}
-use Rattle.vax_arch.specs.Ring.{compressed_of, open_of, ring_of}
-use Rattle.vax_arch.specs.Walk.{Tables, behind_table, entry_at, granted, in_memory, in_region, is_past, lookup, mapped_entry, page_of, process_entry, process_page, region_of, system_entry}
+use Rattle.vax_arch.specs.Ring.{ring_of}
+use Rattle.vax_arch.specs.Walk.{behind_table, granted, in_memory, in_region, lookup, mapped_entry, page_of, process_entry, region_of, system_entry}
 use Rattle.vax_arch.specs.declared.mode.Intent.{Intent}
-use Rattle.vax_arch.specs.declared.mode.Intent.TheVariants.{Read, Write}
 use Rattle.vax_arch.specs.declared.mode.Mode.{Mode}
 use Rattle.vax_arch.specs.declared.mode.Mode.TheVariants.{Executive, Kernel, Supervisor, User}
-use Rattle.vax_arch.specs.declared.walk.Grant.{Grant}
-use Rattle.vax_arch.specs.declared.walk.Grant.TheVariants.{Absent, Granted, Past, Refused}
-use Rattle.vax_arch.specs.declared.walk.Lookup.{Lookup}
-use Rattle.vax_arch.specs.declared.walk.Lookup.TheVariants.{Beyond, Direct, Fails, Found}
+use Rattle.vax_arch.specs.declared.walk.Grant.TheVariants.{Refused}
+use Rattle.vax_arch.specs.declared.walk.Lookup.TheVariants.{Fails, Found}
 use Rattle.vax_hw.specs.RealTables.{everywhere, judged_at, judged_by, place_by, placed_by, real_look}
 use Rattle.vax_table.specs.Script.{Cause}
 use Rattle.vax_table.specs.Script as script

@@ -1,5 +1,5 @@
 -- Fields of a real entry that is right.
-use Rattle.std.proofs.Common.{◌≡◌, ℕ, ◌+◌, ◌-◌, ◌*◌, ◌/◌, ◌%◌, ◌^◌, ◌<◌, ◌≤◌, Bool, true, false, List, Option, Some, None, eqb, refl, ap, ◌∙◌, sym, subst, arith, ◌==◌}
+use Rattle.std.proofs.Common.{◌≡◌, ℕ, ◌+◌, ◌-◌, ◌*◌, ◌/◌, ◌%◌, ◌^◌, ◌<◌, ◌≤◌, Bool, true, false, List, eqb, refl, ap, ◌∙◌, sym, arith}
 use Rattle.std.proofs.lemmas.Bool.{false≢true}
 use Rattle.vax_arch.specs.Fields.{frame_of, is_modified, is_valid, protection_of}
 use Rattle.vax_arch.specs.Ring.{compressed_of}
@@ -8,7 +8,6 @@ use Rattle.vax_arch.proofs.Compression.{compressed_code}
 use Rattle.vm_shadow.specs.Layout.{bit, real_entry}
 use Rattle.vm_shadow.specs.Stands.{Fits, IsRight, Shadowed, mapped_frame}
 use Rattle.vm_shadow.specs.declared.source.Source.{Source}
-use Rattle.vm_shadow.proofs.Places.{split}
 
 bit_small : (b : Bool) → bit b < 2
 bit_small true = omega arith

@@ -1,11 +1,11 @@
 -- A write of the guest's memory, in one frame.
-use Rattle.std.proofs.Common.{◌≡◌, ◌≢◌, ℕ, zero, suc, ◌+◌, ◌-◌, ◌*◌, ◌/◌, ◌%◌, ◌^◌, ◌<◌, ◌≤◌, ◌⊎◌, inl, inr, Bool, true, false, ◌||◌, List, [], ◌∷◌, length, Option, Some, None, refl, ap, ◌∙◌, sym, subst, arith, slice_index}
+use Rattle.std.proofs.Common.{◌≡◌, ◌≢◌, ℕ, zero, suc, ◌+◌, ◌*◌, ◌/◌, ◌<◌, ◌≤◌, ◌⊎◌, inl, inr, Bool, true, false, ◌||◌, List, [], ◌∷◌, length, Option, Some, None, refl, ◌∙◌, sym, subst, arith, slice_index}
 use Rattle.std.proofs.lemmas.Bool.{cases_lt, or_from}
 use Rattle.vv_base.specs.Bytes.{long_at}
 use Rattle.vax_arch.specs.Fields.{is_modified, is_valid}
 use Rattle.vax_arch.specs.declared.walk.Lookup.{Lookup}
 use Rattle.vm_shadow.specs.Layout.{all_entries, entry_page, entry_place}
-use Rattle.vm_shadow.specs.Stands.{Fits, IsKept, IsRight, Keeps, Shadowed, is_flagged, is_pending, is_read_from, look_under, mapped_frame, own, read_at, real_at, seen_at, tables_for}
+use Rattle.vm_shadow.specs.Stands.{Fits, IsKept, IsRight, Keeps, Shadowed, is_flagged, is_pending, is_read_from, mapped_frame, own, read_at, real_at, seen_at, tables_for}
 use Rattle.vm_shadow.specs.declared.source.Source.{Source}
 use Rattle.vm_shadow.proofs.Contexts.{aligned_of, stand_for}
 use Rattle.vm_shadow.proofs.Lookups.{DifferIn, IsSame, same_under}
@@ -13,8 +13,6 @@ use Rattle.vm_shadow.proofs.Places.{LiesWithin, place_within, split}
 use Rattle.vm_shadow.proofs.Writes.{long_by}
 use Rattle.vm_state.specs.Partition.{part}
 use Rattle.vm_state.proofs.Parts.{part_byte, part_length}
-use Rattle.std.proofs.lemmas.List.{get_or-drop, get_or-take}
-use Rattle.std.specs.Prelude.{take, drop, get_or}
 
 -- bytes of one frame of the machine are written, and nothing else
 pub record IsFrameWritten (frame : ℕ) (memory after : List ℕ) : Type 0 where

@@ -1,22 +1,20 @@
 -- The kernel writes the guest's memory.
-use Rattle.std.proofs.Common.{◌≡◌, ◌≢◌, ℕ, zero, suc, ◌+◌, ◌-◌, ◌*◌, ◌/◌, ◌%◌, ◌^◌, ◌<◌, ◌≤◌, ◌⊎◌, inl, inr, Bool, true, false, List, [], ◌∷◌, ◌++◌, length, set, slice_set, take, drop, get_or, slice_index, Option, Some, None, refl, ap, ◌∙◌, sym, subst, arith}
-use Rattle.std.proofs.lemmas.Bool.{cases_eq, cases_lt, false≢true}
+use Rattle.std.proofs.Common.{◌≡◌, ℕ, zero, suc, ◌+◌, ◌-◌, ◌*◌, ◌/◌, ◌%◌, ◌^◌, ◌<◌, ◌≤◌, ◌⊎◌, inl, inr, Bool, true, false, List, [], ◌∷◌, ◌++◌, length, set, take, drop, get_or, Option, refl, ap, ◌∙◌, sym, subst, arith}
+use Rattle.std.proofs.lemmas.Bool.{cases_eq, cases_lt}
 use Rattle.std.proofs.lemmas.List.{set_past}
 use Rattle.std.proofs.lemmas.Nat.{le_bytes_4}
 use Rattle.std.specs.Int.{from_le_bytes, to_le_bytes, w32}
-use Rattle.std.proofs.lemmas.List.{append_assoc, ext_get_or, get_or-append_right, get_or-drop, get_or-set_other, get_or-set_same, get_or-take, get_or_append_left, length-append, length-drop, length-set, length-take-le}
+use Rattle.std.proofs.lemmas.List.{append_assoc, ext_get_or, get_or-append_right, get_or-set_other, get_or-set_same, get_or_append_left, length-set, length-take-le}
 use Rattle.vv_base.specs.Bytes.{long_at, long_bytes, overwritten}
 use Rattle.vax_hw.specs.Machine.{Machine}
-use Rattle.vm_shadow.specs.Calls.{OnlyTables}
-use Rattle.vm_shadow.specs.Layout.{all_entries}
-use Rattle.vm_shadow.specs.Stands.{Fits, Keeps, Shadowed, is_pending, is_read_from, own, read_at}
-use Rattle.vm_shadow.specs.StandsFor.{DropsFrom, Notes, OnlyGuest, Stores}
+use Rattle.vm_shadow.specs.Stands.{Fits, Shadowed, is_read_from, own, read_at}
+use Rattle.vm_shadow.specs.StandsFor.{Notes, Stores}
 use Rattle.vm_shadow.specs.Calls.{unless_dropped}
 use Rattle.vm_shadow.proofs.Places.{split}
 use Rattle.vm_shadow.proofs.Filling.{byte_apart, own_apart}
 use Rattle.vm_shadow.proofs.Scanning.{with_long}
 use Rattle.vm_shadow.proofs.Stored.{IsFrameWritten, more_pending, stored}
-use Rattle.vm_shadow.proofs.Writes.{IsWritten, written}
+use Rattle.vm_shadow.proofs.Writes.{written}
 use Rattle.vm_state.specs.Partition.{part}
 use Rattle.vm_state.specs.Translation.{long_stored}
 use Rattle.vm_state.proofs.Parts.{part_byte, part_length}

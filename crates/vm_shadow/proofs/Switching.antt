@@ -1,19 +1,18 @@
 -- Other registers, and another slot, are taken.
-use Rattle.std.proofs.Common.{◌≡◌, ◌≢◌, ℕ, zero, suc, ◌+◌, ◌-◌, ◌*◌, ◌/◌, ◌%◌, ◌^◌, ◌<◌, ◌≤◌, ◌⊎◌, inl, inr, Bool, true, false, not, ◌&&◌, ◌||◌, ◌==◌, eqb, cond, nat_le, nat_lt, List, [], ◌∷◌, length, All, Option, Some, None, is_some, option_map, refl, ap, ◌∙◌, sym, subst, arith}
-use Rattle.std.proofs.lemmas.Bool.{and_left, and_parts, and_right, cases_Bool, cases_eq, cases_lt, eq-eqb, eqb-true, false≢true, le-leb, le-ltb, lt-leb, lt-ltb, ne_eqb, not-false, or_parts, true≢false}
+use Rattle.std.proofs.Common.{◌≡◌, ℕ, zero, suc, ◌+◌, ◌*◌, ◌^◌, ◌<◌, ◌≤◌, Bool, true, false, not, ◌&&◌, ◌||◌, ◌==◌, nat_le, List, [], ◌∷◌, length, All, Option, Some, None, is_some, option_map, refl, ap, ◌∙◌, sym, subst, arith}
+use Rattle.std.proofs.lemmas.Bool.{and_left, and_right, cases_lt, eq-eqb, eqb-true, false≢true, le-leb, le-ltb, lt-leb, lt-ltb, ne_eqb, not-false, or_parts}
 use Rattle.std.proofs.lemmas.List.Elements.{All-cons, All-filter, All-nil, All-take, All-weaker}
-use Rattle.std.proofs.lemmas.Option.{none-some, same_Some}
+use Rattle.std.proofs.lemmas.Option.{same_Some}
 use Rattle.std.specs.Bool.{beq}
-use Rattle.vax_arch.specs.Fields.{is_modified, is_valid}
-use Rattle.vax_arch.specs.Walk.{Tables, in_region, lookup, mapped_entry, region_of, system_entry}
+use Rattle.vax_arch.specs.Walk.{Tables, lookup, mapped_entry, region_of, system_entry}
 use Rattle.vax_arch.specs.declared.walk.Lookup.{Lookup}
 use Rattle.vax_hw.specs.Machine.{Machine}
 use Rattle.vm_slots.specs.Held.{AreSlots, Held, LastGoes, beside, is_same, without}
 use Rattle.vm_slots.specs.declared.context.Context.{Context}
-use Rattle.vm_shadow.specs.Calls.{Drops, OnlyTables, is_between, is_dropped, remembered, unless_dropped}
-use Rattle.vm_shadow.specs.Layout.{all_entries, empty_entry, entry_page, entry_slot}
-use Rattle.vm_shadow.specs.Stands.{CanStand, Fits, IsFirst, IsKept, IsSource, Keeps, Shadowed, context_in, in_context, is_flagged, is_read_from, look_under, own, read_at, real_at, seen_at, tables_for}
-use Rattle.vm_shadow.specs.StandsFor.{Serves, Switches, Takes, goes, is_full_for, range_that_goes, staying}
+use Rattle.vm_shadow.specs.Calls.{Drops, is_between, remembered, unless_dropped}
+use Rattle.vm_shadow.specs.Layout.{all_entries, entry_page, entry_slot}
+use Rattle.vm_shadow.specs.Stands.{CanStand, IsFirst, IsKept, IsSource, Keeps, Shadowed, context_in, in_context, look_under, own, read_at, real_at, seen_at}
+use Rattle.vm_shadow.specs.StandsFor.{Switches, Takes, goes, is_full_for, range_that_goes, staying}
 use Rattle.vm_shadow.specs.declared.source.Source.{Source}
 use Rattle.vm_shadow.specs.declared.scans.Dropped.TheVariants as drops
 use Rattle.vm_shadow.proofs.Contexts.{tables_high, tables_low}

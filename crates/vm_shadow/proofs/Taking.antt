@@ -1,5 +1,5 @@
 -- A context comes to the front of those that stay.
-use Rattle.std.proofs.Common.{◌≡◌, ◌≢◌, ℕ, ◌<◌, ◌≤◌, Bool, true, false, List, [], ◌∷◌, length, All, AllPairs, IfSome, IsTrue, ◌↔◌, refl, ap, ◌∙◌, sym, subst, arith}
+use Rattle.std.proofs.Common.{◌≡◌, ℕ, ◌<◌, Bool, true, false, [], ◌∷◌, length, All, IfSome, IsTrue, ◌↔◌, sym, subst, arith}
 use Rattle.std.proofs.lemmas.List.Elements.{All-head}
 use Rattle.std.specs.Bool.{OnTrue}
 use Rattle.vm_slots.specs.Held.{AreSlots, Held, LastGoes, beside, brought_forward, contexts_of, slot_of, without}

@@ -1,12 +1,11 @@
 -- What each call on the shadow page tables makes and drops.
-use Rattle.std.specs.Prelude.{◌≡◌, ◌≢◌, ℕ, ◌+◌, ◌*◌, ◌-◌, ◌%◌, ◌^◌, ◌<◌, ◌≤◌, ◌==◌, ◌&&◌, ◌||◌, Bool, true, false, not, nat_le, nat_lt, if◌then◌else◌, List, [], ◌∷◌, length, filter, Option, Some, None, is_some, slice_index_or}
+use Rattle.std.specs.Prelude.{◌≡◌, ℕ, ◌+◌, ◌*◌, ◌-◌, ◌%◌, ◌^◌, ◌<◌, ◌&&◌, Bool, true, false, nat_le, nat_lt, List, [], length, Option, Some, None, is_some, slice_index_or}
 use Rattle.vv_base.specs.Bytes.{long_at, long_bytes, overwritten}
 use Rattle.vax_arch.specs.Fields.{is_modified, is_valid}
 use Rattle.vax_hw.specs.Machine.{Machine}
 use Rattle.vm_shadow.specs.Layout.{empty_entry, entry_place, kernel_entry}
-use Rattle.vm_shadow.specs.Stands.{Keeps, Shadowed, is_read_from, mapped_frame, read_at, real_at}
+use Rattle.vm_shadow.specs.Stands.{Keeps, Shadowed, is_read_from, real_at}
 use Rattle.vm_shadow.specs.declared.source.Source.{Source}
-use Rattle.vm_shadow.specs.declared.source.Source.TheVariants.{Direct, Process, System}
 use Rattle.vm_shadow.specs.declared.scans.Dropped.{Dropped}
 use Rattle.vm_shadow.specs.declared.scans.Dropped.TheVariants.{All, ReadFrom}
 use Rattle.vm_state.specs.Partition.{IsApart}

@@ -1,5 +1,5 @@
 -- Flags by frame of the guest.
-use Rattle.std.specs.Prelude.{Bool, true, false, ◌||◌, ◌<◌, ℕ, List, slice_set}
+use Rattle.std.specs.Prelude.{Bool, false, ◌||◌, ◌<◌, ℕ, List, slice_set}
 use Rattle.vm_shadow.specs.Stands.{is_flagged}
 use Rattle.vm_shadow.specs.declared.source.Source.{Source}
 use Rattle.vm_shadow.specs.declared.source.Source.TheVariants.{Direct, Process, System}

@@ -1,5 +1,5 @@
 -- What stands between a guest's translation and the machine's, by its shadow page tables.
-use Rattle.std.specs.Prelude.{◌≡◌, ℕ, ◌+◌, ◌*◌, ◌^◌, ◌<◌, ◌⊎◌, Bool, true, false, List, [], Option, Some, None, Result, Ok, Err, is_some}
+use Rattle.std.specs.Prelude.{◌≡◌, ℕ, ◌+◌, ◌*◌, ◌^◌, ◌<◌, ◌⊎◌, Bool, true, false, List, [], Some, None, Result, Ok, Err, is_some}
 use Rattle.vax_arch.specs.Ring.{ring_of}
 use Rattle.vax_arch.specs.Walk.{page_of}
 use Rattle.vax_arch.specs.declared.mode.Intent.{Intent}

@@ -1,7 +1,7 @@
 -- What the kernel keeps of a guest's shadow page tables, and when these stand for the guest's own
 -- (Hall and Robinson, Virtualizing the VAX Architecture, ISCA 1991: shadow page tables are filled on demand; Karger and
 -- others, IEEE TSE 17(11), 1991). Each real entry is empty or right for what the guest's look-up finds now.
-use Rattle.std.specs.Prelude.{◌≡◌, ℕ, ◌+◌, ◌-◌, ◌*◌, ◌/◌, ◌%◌, ◌^◌, ◌<◌, ◌≤◌, ◌==◌, ◌||◌, ◌⊎◌, Bool, true, false, nat_lt, if◌then◌else◌, List, [], ◌∷◌, length, find, All, Option, Some, None, option_map, slice_index_or}
+use Rattle.std.specs.Prelude.{◌≡◌, ℕ, ◌+◌, ◌-◌, ◌*◌, ◌/◌, ◌%◌, ◌<◌, ◌≤◌, ◌==◌, ◌||◌, ◌⊎◌, Bool, true, false, nat_lt, if◌then◌else◌, List, [], ◌∷◌, length, find, All, Option, Some, None, option_map, slice_index_or}
 use Rattle.vv_base.specs.Bytes.{long_at}
 use Rattle.vax_arch.specs.Fields.{frame_of, is_modified, is_valid}
 use Rattle.vax_arch.specs.Walk.{Tables, entry_at, lookup}

@@ -1,8 +1,8 @@
 -- The shadow page tables of a guest stand for its own.
-use Rattle.std.specs.Prelude.{◌≡◌, ◌≢◌, ℕ, ◌+◌, ◌*◌, ◌/◌, ◌%◌, ◌^◌, ◌<◌, ◌≤◌, ◌==◌, ◌⊎◌, Bool, true, false, not, ◌&&◌, nat_le, List, [], ◌∷◌, length, IfSome, Option, Some, None, filter, slice_index, slice_set, slice_index_or}
+use Rattle.std.specs.Prelude.{◌≡◌, ℕ, ◌+◌, ◌*◌, ◌/◌, ◌%◌, ◌^◌, ◌<◌, ◌≤◌, ◌==◌, ◌⊎◌, Bool, true, false, not, ◌&&◌, nat_le, List, [], ◌∷◌, length, IfSome, Option, Some, None, filter, slice_index, slice_set}
 use Rattle.vax_arch.specs.Fields.{current_of, frame_of, is_modified, is_valid, mode_number, previous_of}
 use Rattle.vax_arch.specs.Ring.{ring_of}
-use Rattle.vax_arch.specs.Walk.{Tables, entry_at}
+use Rattle.vax_arch.specs.Walk.{entry_at}
 use Rattle.vax_arch.specs.declared.walk.Lookup.{Lookup}
 use Rattle.vax_arch.specs.declared.walk.Lookup.TheVariants as looks
 use Rattle.vax_arch.specs.declared.pte.Pte.{Pte}

@@ -1,4 +1,4 @@
-use Rattle.std.proofs.Common.{arith, ◌≡◌, ◌∙◌, ◌≤◌, ap, length, sym, take}
+use Rattle.std.proofs.Common.{arith, ◌∙◌, ap, sym, take}
 use Rattle.std.proofs.lemmas.List.{take_all, take_more}
 use Rattle.vax_table.specs.Operand.{minus}
 use Rattle.vm_state.specs.Pushes.{pointer_behind}

@@ -1,10 +1,5 @@
-use Rattle.std.proofs.Common.{arith, ◌≡◌, ◌∙◌, ◌<◌, ◌≤◌, ◌+◌, ◌*◌, ap, length, map, refl, sym, List, ℕ}
+use Rattle.std.proofs.Common.{arith, ◌∙◌, ◌+◌, ap, map, sym}
 use Rattle.vm_exception.specs.Pushed.{home_of, walked_of}
-use Rattle.vm_exception.specs.declared.pushes.Home.{Home}
-use Rattle.vm_exception.specs.declared.pushes.Walked.{Walked}
-use Rattle.vm_exception.specs.Wrote.{Wrote}
-use Rattle.vm_shadow.specs.Stands.{own}
-use Rattle.vm_state.specs.Initiate.{longwords, new_mode, new_stack, vector_offset}
 use Rattle.vm_state.specs.Partition.{guest_of}
 use Rattle.vm_state.specs.Pushes as pushes
 use Rattle.vm_state.specs.Pushes.{frames_pushed, pointer_behind, pushed}

@@ -1,10 +1,8 @@
-use Rattle.std.proofs.Common.{◌≡◌, ◌∙◌, ap, sym, subst, true, false, Bool}
+use Rattle.std.proofs.Common.{◌∙◌, ap, sym, subst}
 use Rattle.vm_exception.specs.Attempted.{Attempts}
 use Rattle.vm_exception.specs.Initiated.{Initiates}
-use Rattle.vm_exception.specs.declared.attempts.Attempt.{Attempt}
-use Rattle.vm_exception.specs.declared.attempts.Attempt.TheVariants.{Arrives, Halts, StackFaulty}
+use Rattle.vm_exception.specs.declared.attempts.Attempt.TheVariants.{StackFaulty}
 use Rattle.vm_exception.specs.declared.initiated.Initiated.{Initiated}
-use Rattle.vm_exception.specs.declared.initiated.Initiated.TheVariants.{Stopped}
 use Rattle.vm_exception.proofs.Arriving.{bad_kernel_stack, both_stacks, halts, halts_then, interrupt_stack, taken}
 use Rattle.vm_state.specs.declared.exception.Exc.TheVariants.{KernelStack}
 use Rattle.vm_exception.proofs.initiating.initiate.Goals as goal

@@ -1,4 +1,4 @@
-use Rattle.std.proofs.Common.{◌≡◌, refl, rules}
+use Rattle.std.proofs.Common.{refl}
 use Rattle.vm_exception.proofs.Pushing.{pushed_four}
 use Rattle.vm_exception.proofs.pushes.push_long.Goals as goal
 

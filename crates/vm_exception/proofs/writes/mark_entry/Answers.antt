@@ -1,6 +1,4 @@
-use Rattle.std.proofs.Common.{arith, ◌≡◌, ◌∙◌, ◌<◌, ◌≤◌, ap, length, get_or, slice_index_or, sym, subst, List, None, Option, ℕ, refl, [], not, Bool, true, false, rules}
-use Rattle.std.proofs.lemmas.List.{get_or_default}
-use Rattle.vm_exception.specs.declared.pushes.Home.{Home}
+use Rattle.std.proofs.Common.{◌∙◌, sym}
 use Rattle.vm_exception.proofs.Marking.{mark_one}
 use Rattle.vm_exception.proofs.writes.mark_entry.Goals as goal
 

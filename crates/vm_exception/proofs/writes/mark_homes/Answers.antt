@@ -1,7 +1,7 @@
-use Rattle.std.proofs.Common.{arith, ◌≡◌, ◌∙◌, ◌<◌, ◌≤◌, ap, length, get_or, slice_index_or, sym, subst, List, None, Option, ℕ, refl, [], not, Bool, true, false, rules}
+use Rattle.std.proofs.Common.{arith, slice_index_or, None, rules}
 use Rattle.std.proofs.lemmas.List.{get_or_default}
 use Rattle.vm_exception.specs.declared.pushes.Home.{Home}
-use Rattle.vm_exception.proofs.Marking.{Marking, marking_all, marking_next, marking_none, marking_skip, still_based, still_entry, still_keeps}
+use Rattle.vm_exception.proofs.Marking.{marking_all, marking_next, marking_none, marking_skip, still_based, still_entry, still_keeps}
 use Rattle.vm_exception.proofs.writes.mark_homes.Goals as goal
 use Rattle.vm_exception.proofs.writes.mark_homes.Goals.{in-Some, in_default}
 

@@ -1,6 +1,3 @@
-use Rattle.std.proofs.Common.{arith, ◌≡◌, ◌∙◌, ◌<◌, ◌≤◌, ap, length, get_or, slice_index_or, sym, subst, List, None, Option, ℕ, refl, [], not, Bool, true, false, rules}
-use Rattle.std.proofs.lemmas.List.{get_or_default}
-use Rattle.vm_exception.specs.declared.pushes.Home.{Home}
 use Rattle.vm_exception.proofs.Marking.{push_both}
 use Rattle.vm_exception.specs.Pushed.{home_of}
 use Rattle.std.proofs.Common.{map}

@@ -1,7 +1,7 @@
-use Rattle.std.proofs.Common.{arith, ◌≡◌, ◌∙◌, ◌<◌, ◌≤◌, ap, length, get_or, slice_index_or, sym, subst, List, None, Option, ℕ, refl, [], not, Bool, true, false, rules}
+use Rattle.std.proofs.Common.{arith, slice_index_or, None}
 use Rattle.std.proofs.lemmas.List.{get_or_default}
 use Rattle.vm_exception.specs.declared.pushes.Home.{Home}
-use Rattle.vm_exception.proofs.Marking.{Putting, put_fits, put_inside, putting_all, putting_next, putting_none}
+use Rattle.vm_exception.proofs.Marking.{put_fits, put_inside, putting_all, putting_next, putting_none}
 use Rattle.vm_exception.proofs.writes.put_homes.Goals as goal
 
 pub loop-home-init : goal.loop-home-init

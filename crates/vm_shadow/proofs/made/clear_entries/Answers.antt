@@ -1,4 +1,4 @@
-use Rattle.std.proofs.Common.{arith, ◌≡◌, ◌∙◌, ◌<◌, ◌≤◌, ◌+◌, ◌*◌, length, subst, sym}
+use Rattle.std.proofs.Common.{arith, ◌+◌, subst, sym}
 use Rattle.vm_shadow.specs.Calls.{Clears}
 use Rattle.vm_shadow.proofs.Making.{clears_next}
 use Rattle.vm_shadow.proofs.made.clear_entries.Goals as goal

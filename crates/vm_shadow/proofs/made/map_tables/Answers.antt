@@ -1,4 +1,4 @@
-use Rattle.std.proofs.Common.{arith, ◌≡◌, ◌∙◌, ◌<◌, ◌≤◌, ◌+◌, ◌*◌, length, subst, sym}
+use Rattle.std.proofs.Common.{arith, ◌+◌, subst, sym}
 use Rattle.vm_shadow.specs.Calls.{Maps}
 use Rattle.vm_shadow.proofs.Making.{maps_next}
 use Rattle.vm_shadow.proofs.made.map_tables.Goals as goal

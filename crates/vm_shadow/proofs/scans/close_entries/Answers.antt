@@ -1,7 +1,5 @@
-use Rattle.std.proofs.Common.{arith, ◌≡◌, ◌<◌, ◌≤◌, ◌+◌, ◌*◌, length, subst, sym, ap, ◌∙◌, List, Option, ℕ, Bool, false, true, is_some, refl}
-use Rattle.std.proofs.lemmas.List.{get_or_default}
-use Rattle.vv_base.specs.Bytes.{long_at}
-use Rattle.vm_shadow.specs.Calls.{Closes, maps_open, remembered}
+use Rattle.std.proofs.Common.{arith, ◌≡◌, ◌<◌, ◌≤◌, ◌+◌, ◌*◌, length, sym, ◌∙◌, is_some, refl}
+use Rattle.vm_shadow.specs.Calls.{remembered}
 use Rattle.vm_shadow.proofs.Closing.{closes_next, closes_past}
 use Rattle.vm_shadow.proofs.scans.close_entries.Goals as goal
 use Rattle.vm_shadow.proofs.scans.close_entries.Goals.{then-is_some, else-is_some}

@@ -1,7 +1,6 @@
-use Rattle.std.proofs.Common.{arith, ◌≡◌, ◌<◌, ◌≤◌, ◌+◌, ◌*◌, length, subst, sym, ap, ◌∙◌, List, Option, ℕ, Bool, false, true}
+use Rattle.std.proofs.Common.{arith, ◌≡◌, ◌<◌, ◌≤◌, ◌+◌, ◌*◌, length, sym, ap, ◌∙◌}
 use Rattle.std.proofs.lemmas.List.{get_or_default}
-use Rattle.vax_hw.specs.Machine.{Machine}
-use Rattle.vm_shadow.specs.Calls.{Drops, is_dropped, remembered}
+use Rattle.vm_shadow.specs.Calls.{is_dropped, remembered}
 use Rattle.vm_shadow.proofs.Scanning.{drops_past, drops_taken}
 use Rattle.vm_shadow.proofs.scans.drop_entries.Goals as goal
 use Rattle.vm_shadow.proofs.scans.drop_entries.Goals.{then-takes, else-takes}

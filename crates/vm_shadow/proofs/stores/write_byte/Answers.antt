@@ -1,5 +1,4 @@
-use Rattle.std.proofs.Common.{◌≡◌, ◌∙◌, ◌%◌, ap, List, set, ℕ, rules}
-use Rattle.vax_hw.specs.Machine.{Machine}
+use Rattle.std.proofs.Common.{◌∙◌, ◌%◌, ap, List, set, ℕ, rules}
 use Rattle.vm_shadow.proofs.Storing.{byte_written}
 use Rattle.vm_shadow.proofs.stores.write_byte.Goals as goal
 

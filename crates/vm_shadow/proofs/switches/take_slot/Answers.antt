@@ -1,5 +1,3 @@
-use Rattle.std.proofs.Common.{◌≡◌, ◌<◌}
-use Rattle.vm_slots.specs.Held.{beside}
 use Rattle.vm_shadow.proofs.Taking.{slot_first}
 use Rattle.vm_shadow.proofs.switches.take_slot.Goals as goal
 

@@ -1,4 +1,4 @@
-use Rattle.std.proofs.Common.{◌≡◌, ◌∙◌, sym}
+use Rattle.std.proofs.Common.{◌∙◌, sym}
 use Rattle.vax_arch.specs.Walk.{page_of}
 use Rattle.vm_shadow.proofs.Guarding.{closes_else, closes_then}
 use Rattle.vm_shadow.proofs.shadow.Shadow.close_write.Goals as goal

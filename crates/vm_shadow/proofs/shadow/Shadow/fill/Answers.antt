@@ -1,4 +1,4 @@
-use Rattle.std.proofs.Common.{arith, ◌≡◌, ◌<◌, ◌^◌, ◌/◌, ap, sym, ◌∙◌, subst, ℕ}
+use Rattle.std.proofs.Common.{arith, ◌/◌, ap, ◌∙◌}
 use Rattle.vax_arch.specs.Walk.{page_of}
 use Rattle.vm_shadow.specs.Layout.{IsCovered}
 use Rattle.vm_shadow.proofs.Covering.{present_covered}

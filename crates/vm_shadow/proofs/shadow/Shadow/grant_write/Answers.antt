@@ -1,7 +1,7 @@
-use Rattle.std.proofs.Common.{◌≡◌, ◌∙◌, ◌-◌, ap, not, sym, Bool, true, false}
+use Rattle.std.proofs.Common.{◌∙◌, ◌-◌, ap, sym}
 use Rattle.vax_arch.specs.Walk.{page_of}
 use Rattle.vm_shadow.specs.Stands.{is_flagged}
-use Rattle.vm_shadow.proofs.Guarding.{grants_else, grants_then}
+use Rattle.vm_shadow.proofs.Guarding.{grants_then}
 use Rattle.vm_shadow.proofs.shadow.Shadow.grant_write.Goals as goal
 
 pub returns-then-not-modified-clause-is : goal.returns-then-not-modified-clause-is

@@ -1,4 +1,4 @@
-use Rattle.std.proofs.Common.{◌≡◌, ◌∙◌, ap}
+use Rattle.std.proofs.Common.{◌∙◌, ap}
 use Rattle.vax_arch.specs.Walk.{page_of, with_modify}
 use Rattle.vm_shadow.proofs.Marking.{found_aligned, marks_found}
 use Rattle.vm_shadow.proofs.shadow.Shadow.mark_modified.Goals as goal

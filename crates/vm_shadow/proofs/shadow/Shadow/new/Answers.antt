@@ -1,10 +1,8 @@
-use Rattle.std.proofs.Common.{arith, rules, ◌≡◌, ◌∙◌, ◌<◌, ◌≤◌, ◌+◌, ◌*◌, ap, length, replicate, subst, sym, List, Option, None, [], ◌∷◌, Bool, false, ℕ}
+use Rattle.std.proofs.Common.{arith, rules, ◌≡◌, ◌∙◌, ap, replicate, Option, None, [], ◌∷◌, false}
 use Rattle.vm_shadow.specs.declared.source.Source.{Source}
-use Rattle.vm_shadow.specs.StandsFor.{Makes}
 use Rattle.vm_shadow.proofs.Making.{makes, makes_told}
 use Rattle.vm_slots.specs.Held.{Held, beside}
 use Rattle.vm_slots.specs.declared.context.Context.{Context}
-use Rattle.vm_state.specs.State.{context_of, tables_of}
 use Rattle.vm_shadow.proofs.shadow.Shadow.new.Goals as goal
 
 pub returns-clause-ok : goal.returns-clause-ok

@@ -1,4 +1,4 @@
-use Rattle.std.proofs.Common.{◌≡◌, ◌∙◌, ◌-◌, [], ap, not, refl, sym, Bool, true, false}
+use Rattle.std.proofs.Common.{◌∙◌, ◌-◌, [], ap, refl, sym}
 use Rattle.vax_arch.specs.Walk.{page_of}
 use Rattle.vm_shadow.proofs.Guarding.{opens_else, opens_then}
 use Rattle.vm_shadow.proofs.shadow.Shadow.open_write.Goals as goal

@@ -1,5 +1,4 @@
-use Rattle.std.proofs.Common.{◌≡◌, ap, sym, ◌∙◌, subst, false, Bool, ℕ, length, [], List}
-use Rattle.vax_hw.specs.Machine.{Machine}
+use Rattle.std.proofs.Common.{◌≡◌, ap, sym, ◌∙◌, subst, false, []}
 use Rattle.vm_shadow.specs.Calls.{Closes}
 use Rattle.vm_shadow.specs.Flags.{any_flagged, with_flags}
 use Rattle.vm_shadow.specs.Layout.{all_entries}

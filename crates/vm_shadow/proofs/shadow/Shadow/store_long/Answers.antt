@@ -1,4 +1,3 @@
-use Rattle.std.proofs.Common.{◌≡◌}
 use Rattle.vm_shadow.proofs.Storing.{stores_long}
 use Rattle.vm_shadow.proofs.shadow.Shadow.store_long.Goals as goal
 

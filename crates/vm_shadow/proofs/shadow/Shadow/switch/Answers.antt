@@ -1,11 +1,9 @@
-use Rattle.std.proofs.Common.{◌≡◌, ◌∙◌, ap, sym, subst, List, [], ℕ, Bool}
-use Rattle.vm_slots.specs.Held.{Held}
+use Rattle.std.proofs.Common.{◌∙◌, ap, sym, subst, []}
 use Rattle.vm_shadow.specs.Stands.{Keeps, Shadowed}
 use Rattle.vm_shadow.specs.StandsFor.{Takes, is_full_for, staying}
 use Rattle.vm_shadow.proofs.Switching.{switch_all, switch_seen, switch_told}
-use Rattle.vm_state.specs.State.{context_of, tables_of}
+use Rattle.vm_state.specs.State.{tables_of}
 use Rattle.vm_state.specs.Touches.{is_remapped}
-use Rattle.vm_slots.specs.declared.context.Context.{Context}
 use Rattle.vm_shadow.proofs.shadow.Shadow.switch.Goals as goal
 
 pub returns : goal.returns
