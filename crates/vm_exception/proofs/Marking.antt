@@ -75,6 +75,7 @@ modify_set v = split (cases_Bool (is_modified v))
   where
     wrapped : (v : ℕ) → is_modified v ≡ true → is_modified (v % 2 ^ 32) ≡ true
     wrapped v e = let k : v % 2 ^ 32 / 2 ^ 26 % 2 ≡ v / 2 ^ 26 % 2 = omega arith in ap (λ x. eqb x 1) k ∙ e
+
     added : (v : ℕ) → is_modified v ≡ false → is_modified ((v + 2 ^ 26) % 2 ^ 32) ≡ true
     added v e = let n : v / 2 ^ 26 % 2 ≢ 1 = eqb-false (v / 2 ^ 26 % 2) 1 e in let k : (v + 2 ^ 26) % 2 ^ 32 / 2 ^ 26 % 2 ≡ 1 = bit v n in ap (λ x. eqb x 1) k
       where
@@ -110,8 +111,8 @@ mark_among : (memory now : List ℕ) (place : ℕ) (x : Option Source) → (is_m
 mark_among memory now place x stays e = split (cases_Bool (is_modified (long_at memory place)))
     (λ on. let none : is_pending (mark_written now (Some place)) x ≡ false = ap (λ b. is_pending (cond (not b) (frame_at place ∷ []) []) x) (stays on) in absurd (true≢false (sym e ∙ none)))
     (λ off. split (cases_Bool (is_modified (long_at now place)))
-      (λ on. let none : is_pending (mark_written now (Some place)) x ≡ false = ap (λ b. is_pending (cond (not b) (frame_at place ∷ []) []) x) on in absurd (true≢false (sym e ∙ none)))
-      (λ clear. ap (λ b. is_pending (cond (not b) (frame_at place ∷ []) []) x) off ∙ sym (ap (λ b. is_pending (cond (not b) (frame_at place ∷ []) []) x) clear) ∙ e))
+    (λ on. let none : is_pending (mark_written now (Some place)) x ≡ false = ap (λ b. is_pending (cond (not b) (frame_at place ∷ []) []) x) on in absurd (true≢false (sym e ∙ none)))
+    (λ clear. ap (λ b. is_pending (cond (not b) (frame_at place ∷ []) []) x) off ∙ sym (ap (λ b. is_pending (cond (not b) (frame_at place ∷ []) []) x) clear) ∙ e))
 
 pending_append : (fs gs : List ℕ) (x : Option Source) → (is_pending fs x ≡ true) ⊎ (is_pending gs x ≡ true) → is_pending (fs ++ gs) x ≡ true
 pending_append [] gs x (inl e) = absurd (false≢true e)
@@ -160,17 +161,20 @@ four_same memory at small =
     let v2 : long_at memory at / 256 / 256 % 256 ≡ b2 = parts2 b0 b1 b2 b3 h0 h1 h2 in
     let v3 : long_at memory at / 256 / 256 / 256 % 256 ≡ b3 = parts3 b0 b1 b2 b3 h0 h1 h2 h3 in
     (λ i. set (set (set (set memory at (v0 i)) (at + 1) (v1 i)) (at + 2) (v2 i)) (at + 3) (v3 i))
-      ∙ ap (λ x. set (set (set x (at + 1) b1) (at + 2) b2) (at + 3) b3) (set-get_or memory at 0)
-      ∙ ap (λ x. set (set x (at + 2) b2) (at + 3) b3) (set-get_or memory (at + 1) 0)
-      ∙ ap (λ x. set x (at + 3) b3) (set-get_or memory (at + 2) 0)
-      ∙ set-get_or memory (at + 3) 0
+    ∙ ap (λ x. set (set (set x (at + 1) b1) (at + 2) b2) (at + 3) b3) (set-get_or memory at 0)
+    ∙ ap (λ x. set (set x (at + 2) b2) (at + 3) b3) (set-get_or memory (at + 1) 0)
+    ∙ ap (λ x. set x (at + 3) b3) (set-get_or memory (at + 2) 0)
+    ∙ set-get_or memory (at + 3) 0
   where
     parts0 : (b0 b1 b2 b3 : ℕ) → b0 < 256 → (b0 + 256 * b1 + 65536 * b2 + 16777216 * b3) % 256 ≡ b0
     parts0 b0 b1 b2 b3 h0 = omega arith
+
     parts1 : (b0 b1 b2 b3 : ℕ) → b0 < 256 → b1 < 256 → (b0 + 256 * b1 + 65536 * b2 + 16777216 * b3) / 256 % 256 ≡ b1
     parts1 b0 b1 b2 b3 h0 h1 = omega arith
+
     parts2 : (b0 b1 b2 b3 : ℕ) → b0 < 256 → b1 < 256 → b2 < 256 → (b0 + 256 * b1 + 65536 * b2 + 16777216 * b3) / 256 / 256 % 256 ≡ b2
     parts2 b0 b1 b2 b3 h0 h1 h2 = omega arith
+
     parts3 : (b0 b1 b2 b3 : ℕ) → b0 < 256 → b1 < 256 → b2 < 256 → b3 < 256 → (b0 + 256 * b1 + 65536 * b2 + 16777216 * b3) / 256 / 256 / 256 % 256 ≡ b3
     parts3 b0 b1 b2 b3 h0 h1 h2 h3 = omega arith
 
@@ -257,22 +261,22 @@ module _ (homes : List Home) (n base : ℕ) (m m1 : Machine) (s s1 : Shadowed) (
 
   pub still_entry : (place : ℕ) → h.entry ≡ Some place → (place % 4 ≡ 0) × (place + 4 ≤ 512 * s1.pages)
   still_entry place is =
-    let p : IsEntryPlace (512 * s.pages) (Some place) = subst (IsEntryPlace (512 * s.pages)) is home_is.1 in
-    (p.0, omega (arith, p.1, pages_kept _ _ m m1 s s1 w))
+      let p : IsEntryPlace (512 * s.pages) (Some place) = subst (IsEntryPlace (512 * s.pages)) is home_is.1 in
+      (p.0, omega (arith, p.1, pages_kept _ _ m m1 s s1 w))
 
   pub marking_skip : h.entry ≡ None → Marking homes (n + 1) m s m1 s1
   marking_skip none = wrote_as _ _ _ m m1 s s1 (sym (ap (λ x. all_marked x (own m.memory s)) (homes_more homes n h l e) ∙ marked_more (map home_of (take n homes)) (home_of h) (own m.memory s) ∙ ap (λ x. marked_at x (all_marked (map home_of (take n homes)) (own m.memory s))) none)) w
 
   pub marking_next : (place : ℕ) (m2 : Machine) (s2 : Shadowed) → h.entry ≡ Some place → Wrote (mark_written (own m1.memory s1) (Some place)) (marked place (own m1.memory s1)) m1 s1 m2 s2 → Marking homes (n + 1) m s m2 s2
   marking_next place m2 s2 is one =
-    let size : length (own m.memory s) ≡ 512 * s.pages = own_length m.memory s k.fits in
-    let p = subst (IsEntryPlace (512 * s.pages)) is home_is.1 in
-    let before : AreHomes (length (own m.memory s)) (map home_of (take n homes)) = subst (λ x. AreHomes x (map home_of (take n homes))) (sym size) (some_homes (512 * s.pages) homes n are) in
-    let stays : is_modified (long_at (own m.memory s) place) ≡ true → is_modified (long_at (own m1.memory s1) place) ≡ true = λ on. subst (λ x. is_modified (long_at x place) ≡ true) (sym w.own) (all_stay (map home_of (take n homes)) (own m.memory s) place p.0 (own_few m.memory s k.fits) before on) in
-    let among : Among (mark_written (own m1.memory s1) (Some place)) (frames_pushed (own m.memory s) (map home_of homes)) = λ x q. mark_of (own m.memory s) (map home_of homes) n (home_of h) x within (home_at homes n h e) (subst (λ y. is_pending (mark_written (own m.memory s) y) x ≡ true) (sym is) (mark_among (own m.memory s) (own m1.memory s1) place x stays q)) in
-    let memory : marked place (own m1.memory s1) ≡ all_marked (map home_of (take (n + 1) homes)) (own m.memory s) =
-        ap (marked place) w.own ∙ sym (ap (λ x. all_marked x (own m.memory s)) (homes_more homes n h l e) ∙ marked_more (map home_of (take n homes)) (home_of h) (own m.memory s) ∙ ap (λ x. marked_at x (all_marked (map home_of (take n homes)) (own m.memory s))) is) in
-    wrote_as _ _ _ m m2 s s2 memory (wrote_then _ _ _ _ m m1 m2 s s1 s2 among w one)
+      let size : length (own m.memory s) ≡ 512 * s.pages = own_length m.memory s k.fits in
+      let p = subst (IsEntryPlace (512 * s.pages)) is home_is.1 in
+      let before : AreHomes (length (own m.memory s)) (map home_of (take n homes)) = subst (λ x. AreHomes x (map home_of (take n homes))) (sym size) (some_homes (512 * s.pages) homes n are) in
+      let stays : is_modified (long_at (own m.memory s) place) ≡ true → is_modified (long_at (own m1.memory s1) place) ≡ true = λ on. subst (λ x. is_modified (long_at x place) ≡ true) (sym w.own) (all_stay (map home_of (take n homes)) (own m.memory s) place p.0 (own_few m.memory s k.fits) before on) in
+      let among : Among (mark_written (own m1.memory s1) (Some place)) (frames_pushed (own m.memory s) (map home_of homes)) = λ x q. mark_of (own m.memory s) (map home_of homes) n (home_of h) x within (home_at homes n h e) (subst (λ y. is_pending (mark_written (own m.memory s) y) x ≡ true) (sym is) (mark_among (own m.memory s) (own m1.memory s1) place x stays q)) in
+      let memory : marked place (own m1.memory s1) ≡ all_marked (map home_of (take (n + 1) homes)) (own m.memory s) =
+      ap (marked place) w.own ∙ sym (ap (λ x. all_marked x (own m.memory s)) (homes_more homes n h l e) ∙ marked_more (map home_of (take n homes)) (home_of h) (own m.memory s) ∙ ap (λ x. marked_at x (all_marked (map home_of (take n homes)) (own m.memory s))) is) in
+      wrote_as _ _ _ m m2 s s2 memory (wrote_then _ _ _ _ m m1 m2 s s1 s2 among w one)
 
 pub marking_all : (homes : List Home) (n : ℕ) (m m' : Machine) (s s' : Shadowed) → length homes ≤ n → Marking homes n m s m' s' → Wrote (frames_pushed (own m.memory s) (map home_of homes)) (all_marked (map home_of homes) (own m.memory s)) m s m' s'
 marking_all homes n m m' s s' h w = wrote_as _ _ _ m m' s s' (ap (λ (x : List Home). all_marked (map home_of x) (own m.memory s)) (take_all n homes h)) w
@@ -296,10 +300,10 @@ module _ (homes : List Home) (n : ℕ) (m m1 : Machine) (s s1 : Shadowed) (h : H
 
   pub putting_next : (m2 : Machine) (s2 : Shadowed) → Stores h.place (set (own m1.memory s1) h.place h.value) m1 s1 m2 s2 → Putting homes (n + 1) m s m2 s2
   putting_next m2 s2 st =
-    let among : Among (h.place / 512 ∷ []) (frames_of (map home_of homes)) = λ x q. frame_of_home (map home_of homes) n (home_of h) x put_within (home_at homes n h e) (one _ q) in
-    let memory : set (own m1.memory s1) h.place h.value ≡ all_put (map home_of (take (n + 1) homes)) (own m.memory s) =
-        ap (λ x. set x h.place h.value) w.own ∙ sym (ap (λ x. all_put x (own m.memory s)) (homes_more homes n h l e) ∙ put_more (map home_of (take n homes)) (home_of h) (own m.memory s)) in
-    wrote_as _ _ _ m m2 s s2 memory (wrote_then _ _ _ _ m m1 m2 s s1 s2 among w (wrote_one h.place _ m1 m2 s1 s2 st))
+      let among : Among (h.place / 512 ∷ []) (frames_of (map home_of homes)) = λ x q. frame_of_home (map home_of homes) n (home_of h) x put_within (home_at homes n h e) (one _ q) in
+      let memory : set (own m1.memory s1) h.place h.value ≡ all_put (map home_of (take (n + 1) homes)) (own m.memory s) =
+      ap (λ x. set x h.place h.value) w.own ∙ sym (ap (λ x. all_put x (own m.memory s)) (homes_more homes n h l e) ∙ put_more (map home_of (take n homes)) (home_of h) (own m.memory s)) in
+      wrote_as _ _ _ m m2 s s2 memory (wrote_then _ _ _ _ m m1 m2 s s1 s2 among w (wrote_one h.place _ m1 m2 s1 s2 st))
     where
       one : (b : Bool) → Rattle.std.specs.Prelude.◌||◌ b false ≡ true → b ≡ true
       one true q = refl

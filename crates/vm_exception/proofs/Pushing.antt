@@ -82,7 +82,7 @@ walking_next g m bytes n pa entry table b homes h is found w =
     let home : Home = record { place = pa; entry = entry; value = b.value } in
     record {
       is = w.is ∙ ap (onto (map home_of homes)) (next_byte g m bytes n b h is ∙ ap (λ x. with_home b.value x (walked g m (map byte_of (drop (n + 1) bytes)))) (sym found) ∙ framed b.value pa entry table _)
-        ∙ sym (onto_more (map home_of homes) (home_of home) (walked g m (map byte_of (drop (n + 1) bytes)))) ∙ ap (λ x. onto x (walked g m (map byte_of (drop (n + 1) bytes)))) (sym (map-append home_of homes (home ∷ [])));
+          ∙ sym (onto_more (map home_of homes) (home_of home) (walked g m (map byte_of (drop (n + 1) bytes)))) ∙ ap (λ x. onto x (walked g m (map byte_of (drop (n + 1) bytes)))) (sym (map-append home_of homes (home ∷ [])));
       size = Rattle.std.proofs.lemmas.List.length-append homes (home ∷ []) ∙ ap (λ x. x + 1) w.size;
     }
 
@@ -101,7 +101,7 @@ pub pushed_four : (old p1 p2 p3 p4 : List Byte) (x0 x1 x2 x3 : Byte) (bs : List 
     map byte_of p4 ≡ map byte_of old ++ bytes_from 4 at long
 pushed_four old p1 p2 p3 p4 x0 x1 x2 x3 bs at long small is e1 e2 e3 e4 b0 b1 b2 b3 =
     let all : p4 ≡ old ++ (x0 ∷ x1 ∷ x2 ∷ x3 ∷ []) =
-        e4 ∙ ap (λ y. y ++ x3 ∷ []) (e3 ∙ ap (λ y. y ++ x2 ∷ []) (e2 ∙ ap (λ y. y ++ x1 ∷ []) e1 ∙ append_assoc old (x0 ∷ []) (x1 ∷ [])) ∙ append_assoc old (x0 ∷ x1 ∷ []) (x2 ∷ [])) ∙ append_assoc old (x0 ∷ x1 ∷ x2 ∷ []) (x3 ∷ []) in
+    e4 ∙ ap (λ y. y ++ x3 ∷ []) (e3 ∙ ap (λ y. y ++ x2 ∷ []) (e2 ∙ ap (λ y. y ++ x1 ∷ []) e1 ∙ append_assoc old (x0 ∷ []) (x1 ∷ [])) ∙ append_assoc old (x0 ∷ x1 ∷ []) (x2 ∷ [])) ∙ append_assoc old (x0 ∷ x1 ∷ x2 ∷ []) (x3 ∷ []) in
     let v0 : get_or bs 0 0 ≡ long % 256 = ap (λ x. get_or x 0 0) is ∙ omega arith in
     let v1 : get_or bs 1 0 ≡ long / 256 % 256 = ap (λ x. get_or x 1 0) is ∙ omega arith in
     let v2 : get_or bs 2 0 ≡ long / 256 / 256 % 256 = ap (λ x. get_or x 2 0) is ∙ omega arith in

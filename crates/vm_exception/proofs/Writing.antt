@@ -27,8 +27,8 @@ Among gs fs = (x : Option Source) → is_pending gs x ≡ true → is_pending fs
 among_then : (fs gs : List ℕ) (s s1 s2 : Shadowed) → Among gs fs → DropsAmong fs s s1 → DropsAmong gs s1 s2 → DropsAmong fs s s2
 among_then fs gs s s1 s2 among a b = record {
   each = λ n. split (b.each n)
-    (λ same. split (a.each n) (λ e. inl (same ∙ e)) (λ e. inr (same ∙ e.0, e.1)))
-    (λ gone. split (a.each n)
+      (λ same. split (a.each n) (λ e. inl (same ∙ e)) (λ e. inr (same ∙ e.0, e.1)))
+      (λ gone. split (a.each n)
       (λ e. inr (gone.0, among (read_at s n) (subst (λ x. is_pending gs x ≡ true) e gone.1)))
       (λ e. inr (gone.0, e.1)));
   rest = b.rest ∙ ap (λ (x : Shadowed). record x { reads = s2.reads; consulted = s2.consulted }) a.rest;
@@ -64,8 +64,8 @@ wrote_one pa memory m m' s s' st = record {
   own = st.own;
   drops = record {
     each = λ n. split (dropped_by (pa / 512) (read_at s n) (is_read_from (pa / 512) (read_at s n)) refl)
-      (λ same. inl (st.drops.each n ∙ same))
-      (λ gone. inr (st.drops.each n ∙ gone.0, gone.1));
+        (λ same. inl (st.drops.each n ∙ same))
+        (λ gone. inr (st.drops.each n ∙ gone.0, gone.1));
     rest = st.drops.rest;
   };
   only = st.only;

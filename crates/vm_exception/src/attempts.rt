@@ -4,7 +4,9 @@ ghost use Rattle.vm_exception.specs.Initiated.{IsProper, StopsWith};
 ghost use Rattle.vm_shadow.specs.StandsFor.{StandsFor};
 ghost use Rattle.vm_state.specs.Pushes.{pointer_behind};
 
-use crate::entry::{begin, is_bad_vector, longwords, new_mode, new_stack, uses_interrupt_stack, vector_offset};
+use crate::entry::{
+    begin, is_bad_vector, longwords, new_mode, new_stack, uses_interrupt_stack, vector_offset,
+};
 use crate::pushes::{Walked, walk_pushes};
 use crate::writes::push;
 use vax_hw::Hardware;
@@ -13,6 +15,7 @@ use vm_state::{Exc, GuestState, pointer};
 
 /// The stop codes of a vector whose low bits are reserved, and of a reference beyond memory.
 const BAD_VECTOR: u8 = 0x07;
+
 const PAST_MEMORY: u8 = 0x10;
 
 /// What an attempt to initiate comes to: the guest is at the handler; or its stack has trouble; or it is to stop with a

@@ -23,13 +23,7 @@ pub fn vector_offset(e: Exc) -> u32
         Exc::Customer => 0x14,
         Exc::ReservedOperand => 0x18,
         Exc::ReservedAddressing => 0x1C,
-        Exc::Memory(fault) => {
-            if fault.not_valid {
-                0x24
-            } else {
-                0x20
-            }
-        }
+        Exc::Memory(fault) => { if fault.not_valid { 0x24 } else { 0x20 } }
         Exc::Breakpoint => 0x2C,
         Exc::Arithmetic(_) => 0x34,
         Exc::ModifyFault { .. } => 0x3C,
@@ -65,11 +59,7 @@ pub fn longwords(g: &GuestState, e: Exc) -> ArrayVec<u32, 4>
 fn more_privileged(a: Mode, b: Mode) -> Mode
     ensures { result ≡ more_privileged a b }
 {
-    if a.number() <= b.number() {
-        a
-    } else {
-        b
-    }
+    if a.number() <= b.number() { a } else { b }
 }
 
 /// The mode in which an exception is handled.
@@ -143,7 +133,12 @@ fn new_psl(g: &GuestState, e: Exc, vector: u32) -> Psl
     let stack = u32::from(uses_interrupt_stack(g, e, vector));
     let mode = u32::from(new_mode(g, e).number());
     let previous = u32::from(new_previous(g, e).number());
-    Psl(0x400_0000 * stack + 0x100_0000 * mode + 0x40_0000 * previous + 0x1_0000 * u32::from(new_ipl(g, e, vector)))
+    Psl(
+        0x400_0000 * stack
+            + 0x100_0000 * mode
+            + 0x40_0000 * previous
+            + 0x1_0000 * u32::from(new_ipl(g, e, vector)),
+    )
 }
 
 /// Goes on at a vector with a stack pointer: the old pointer is kept, and waiting ends.

@@ -25,15 +25,24 @@ fn stop(g: &mut GuestState, code: u8) -> Initiated
 
 /// Initiates an exception or an interrupt of a guest: PSL, PC and parameters are pushed on the new stack, and it goes on at
 /// its vector. The PC that is pushed is the guest's. `Stopped` sets the stop code and changes nothing else.
-pub fn initiate<H: Hardware>(machine: &mut H, s: &mut Shadow, g: &mut GuestState, e: Exc) -> Initiated
+pub fn initiate<H: Hardware>(
+    machine: &mut H,
+    s: &mut Shadow,
+    g: &mut GuestState,
+    e: Exc,
+) -> Initiated
     requires stands { StandsFor (H.machine machine.old).memory s.old g.old }
     requires proper { IsProper e }
     ensures { Initiates e (H.machine machine.old) s.old g.old result (H.machine machine.new) s.new g.new }
 {
     match take(machine, s, g, e) {
         Attempt::Arrives => Initiated::Taken,
-        Attempt::StackFaulty { is_interrupt_stack: true } => stop(g, INTERRUPT_STACK_BAD),
-        Attempt::StackFaulty { is_interrupt_stack: false } => match take(machine, s, g, Exc::KernelStack) {
+        Attempt::StackFaulty {
+            is_interrupt_stack: true,
+        } => stop(g, INTERRUPT_STACK_BAD),
+        Attempt::StackFaulty {
+            is_interrupt_stack: false,
+        } => match take(machine, s, g, Exc::KernelStack) {
             Attempt::Arrives => Initiated::KernelStackBad,
             Attempt::StackFaulty { .. } => stop(g, INTERRUPT_STACK_BAD),
             Attempt::Halts(code) => stop(g, code),

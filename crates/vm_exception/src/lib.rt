@@ -3,13 +3,13 @@
 
 mod attempts;
 mod entry;
-mod initiating;
 mod initiated;
+mod initiating;
 mod pushes;
 mod writes;
 
-pub use initiating::initiate;
 pub use initiated::Initiated;
+pub use initiating::initiate;
 pub use pushes::{Home, Walked, walk_pushes};
 pub use vm_state::Exc;
 pub use writes::push;

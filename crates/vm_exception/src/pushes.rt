@@ -41,9 +41,18 @@ fn push_long(bytes: &mut ArrayVec<Byte, 16>, at: u32, long: u32)
 {
     let [first, second, third, fourth] = long.to_le_bytes();
     bytes.push(Byte { at, value: first });
-    bytes.push(Byte { at: at.wrapping_add(1), value: second });
-    bytes.push(Byte { at: at.wrapping_add(2), value: third });
-    bytes.push(Byte { at: at.wrapping_add(3), value: fourth });
+    bytes.push(Byte {
+        at: at.wrapping_add(1),
+        value: second,
+    });
+    bytes.push(Byte {
+        at: at.wrapping_add(2),
+        value: third,
+    });
+    bytes.push(Byte {
+        at: at.wrapping_add(3),
+        value: fourth,
+    });
 }
 
 /// The bytes of longwords that are pushed from a stack pointer on, in the order in which they are walked.
@@ -69,7 +78,11 @@ fn walk_bytes<H: Hardware>(machine: &H, g: &GuestState, m: Mode, bytes: &[Byte])
     let mut homes = ArrayVec::new();
     for byte in bytes {
         match walk(machine, g, byte.at, m, Intent::Write) {
-            Walk::Frame { pa, entry, .. } => homes.push(Home { place: pa, entry, value: byte.value }),
+            Walk::Frame { pa, entry, .. } => homes.push(Home {
+                place: pa,
+                entry,
+                value: byte.value,
+            }),
             Walk::Fault(fault) => return Walked::Faulty(fault),
             Walk::Beyond => return Walked::PastMemory,
         }
@@ -79,7 +92,13 @@ fn walk_bytes<H: Hardware>(machine: &H, g: &GuestState, m: Mode, bytes: &[Byte])
 
 /// The walk of longwords that are pushed in a mode from a stack pointer on.
 #[tactic(auto, unfolding(vm_state::specs::Pushes::push_walked))]
-pub fn walk_pushes<H: Hardware>(machine: &H, g: &GuestState, m: Mode, sp: u32, longs: &[u32]) -> Walked
+pub fn walk_pushes<H: Hardware>(
+    machine: &H,
+    g: &GuestState,
+    m: Mode,
+    sp: u32,
+    longs: &[u32],
+) -> Walked
     requires partition { 512 * (g.now.base + g.now.pages) ≤ length (H.machine machine.now).memory }
     requires few { length longs.now ≤ 4 }
     ensures { walked_of result ≡ push_walked (guest_of (H.machine machine.now).memory g.now) m sp longs.now }

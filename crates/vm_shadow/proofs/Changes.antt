@@ -18,17 +18,17 @@ empty_invalid A e = absurd (false≢true e)
 -- an entry is dropped
 pub dropped : (pending opened : List ℕ) (memory after : List ℕ) (s : Shadowed) (n : ℕ) → Keeps pending opened memory s → n < all_entries → IsWritten memory after (entry_place s.at n) empty_entry → IsSet pending opened memory after s n empty_entry None s.consulted s.writable
 dropped pending opened memory after s n k h w = set_entry pending opened opened memory after s n empty_entry None s.consulted s.writable k h (record {
-    kept = refl;
-    still = λ i d o. o;
-    from = λ i c d o v x. refl;
-    onto = λ o v. empty_invalid _ v;
-    consulted_size = refl;
-    writable_size = refl;
-    consults = λ frame e. e;
-    consults_here = λ frame e. refl;
-    writes = λ frame e. e;
-    writes_here = λ v. empty_invalid _ v;
-  }) w
+  kept = refl;
+  still = λ i d o. o;
+  from = λ i c d o v x. refl;
+  onto = λ o v. empty_invalid _ v;
+  consulted_size = refl;
+  writable_size = refl;
+  consults = λ frame e. e;
+  consults_here = λ frame e. refl;
+  writes = λ frame e. e;
+  writes_here = λ v. empty_invalid _ v;
+}) w
 
 -- what is kept of an entry, where it is filled
 pub some_kept : (size base : ℕ) (memory : List ℕ) (pending : List ℕ) (seen : Lookup) (real : ℕ) (source : Option Source) → IsKept size base memory pending seen real source → is_valid real ≡ true → is_some source ≡ true

@@ -50,21 +50,21 @@ closes_one at base end place source m m' reads h room is some opens c =
     let after = with_long m' place (long_at m'.memory place - 2 ^ 26) in
     let on : is_modified (long_at m'.memory place) ≡ true = (and_parts _ _ opens).0 in
     let done : (s : Shadowed) → s.at ≡ at → s.base ≡ base → s.reads ≡ reads → Keeps [] [] m.memory s → Keeps [] [] after.memory s × ((real_at after.memory s end ≡ long_at m'.memory place - 2 ^ 26) × ((k : ℕ) → k < all_entries → k ≢ end → real_at after.memory s k ≡ real_at m'.memory s k)) = λ s e f d k.
-        let old = c.keeps s e f d k in
-        let here : place ≡ entry_place s.at end = is ∙ ap (λ a. entry_place a end) (sym e) in
-        let v : is_valid (real_at m'.memory s end) ≡ true = kept_valid (512 * s.pages) s.base (own m'.memory s) [] (seen_at m'.memory s end) (real_at m'.memory s end) (read_at s end) (old.entries end h) (subst (λ r. is_some (remembered r end) ≡ true) (sym d) some) in
-        let x : is_modified (real_at m'.memory s end) ≡ true = subst (λ p. is_modified (long_at m'.memory p) ≡ true) here on in
-        let r = closed [] [] m'.memory after.memory s end old h (filled_of [] m'.memory s end old h v) x (λ k differ o. o) (subst (λ p. IsWritten m'.memory after.memory p (long_at m'.memory p - 2 ^ 26)) here w) in
-        (r.0, (r.1.0 ∙ ap (λ p. long_at m'.memory p - 2 ^ 26) (sym here), r.1.1)) in
+    let old = c.keeps s e f d k in
+    let here : place ≡ entry_place s.at end = is ∙ ap (λ a. entry_place a end) (sym e) in
+    let v : is_valid (real_at m'.memory s end) ≡ true = kept_valid (512 * s.pages) s.base (own m'.memory s) [] (seen_at m'.memory s end) (real_at m'.memory s end) (read_at s end) (old.entries end h) (subst (λ r. is_some (remembered r end) ≡ true) (sym d) some) in
+    let x : is_modified (real_at m'.memory s end) ≡ true = subst (λ p. is_modified (long_at m'.memory p) ≡ true) here on in
+    let r = closed [] [] m'.memory after.memory s end old h (filled_of [] m'.memory s end old h v) x (λ k differ o. o) (subst (λ p. IsWritten m'.memory after.memory p (long_at m'.memory p - 2 ^ 26)) here w) in
+    (r.0, (r.1.0 ∙ ap (λ p. long_at m'.memory p - 2 ^ 26) (sym here), r.1.1)) in
     record {
       only = subst (λ p. OnlyTables at m (with_long m' p (long_at m'.memory p - 2 ^ 26))) (sym is) (only_more at m m' (entry_place at end) _ room l c.only);
       keeps = λ s e f d k. (done s e f d k).0;
       gone = λ s e f d k.
-        let r = done s e f d k in
-        next_gone at base source after.memory s end
+          let r = done s e f d k in
+          next_gone at base source after.memory s end
           (λ n b v.
-            let same : real_at after.memory s n ≡ real_at m'.memory s n = r.1.1 n (omega arith) (λ q. omega arith) in
-            subst (λ y. maps_open base source y ≡ false) (sym same) (c.gone s e f d k n b (subst (λ y. is_valid y ≡ true) same v)))
+          let same : real_at after.memory s n ≡ real_at m'.memory s n = r.1.1 n (omega arith) (λ q. omega arith) in
+          subst (λ y. maps_open base source y ≡ false) (sym same) (c.gone s e f d k n b (subst (λ y. is_valid y ≡ true) same v)))
           (λ v. subst (λ y. maps_open base source y ≡ false) (sym r.1.0) (and_left _ _ (one_clear (long_at m'.memory place) on)));
     }
 

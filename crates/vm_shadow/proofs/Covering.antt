@@ -26,16 +26,16 @@ unfolding lookup mapped_entry
 covered size memory t page entry can small =
     let P : Lookup → Type 0 = λ x. entry_at memory x ≡ Some entry → IsCovered page in
     cond_both t.mapped _ _ P
-      (λ on. cond_both (region_of page == 0) _ _ P
-        (λ r. cond_both (nat_le t.p0lr (in_region page)) _ _ P (λ h e. cc) (λ h e. inr (inl (eqb-true (region_of page) 0 r, omega (arith, leb-false t.p0lr (in_region page) h, can.p0lr)))))
-        (λ r0. cond_both (region_of page == 1) _ _ P
-          (λ r. cond_both (nat_lt (in_region page) t.p1lr) _ _ P (λ h e. cc) (λ h e. inr (inr (eqb-true (region_of page) 1 r, omega (arith, ltb-false (in_region page) t.p1lr h, can.p1lr)))))
-          (λ r1. cond_both (region_of page == 2) _ _ P
-            (λ r. system_covered size memory t page entry can (eqb-true (region_of page) 2 r))
-            (λ r2 e. cc))))
-      (λ off. cond_both (is_past size (512 * page) 512) _ _ P (λ h e. cc) (λ h e.
-        let low : 512 * page + 512 ≤ size = ltb-false size (512 * page + 512) h in
-        inr (inl (omega arith, omega arith))))
+    (λ on. cond_both (region_of page == 0) _ _ P
+    (λ r. cond_both (nat_le t.p0lr (in_region page)) _ _ P (λ h e. cc) (λ h e. inr (inl (eqb-true (region_of page) 0 r, omega (arith, leb-false t.p0lr (in_region page) h, can.p0lr)))))
+    (λ r0. cond_both (region_of page == 1) _ _ P
+    (λ r. cond_both (nat_lt (in_region page) t.p1lr) _ _ P (λ h e. cc) (λ h e. inr (inr (eqb-true (region_of page) 1 r, omega (arith, ltb-false (in_region page) t.p1lr h, can.p1lr)))))
+    (λ r1. cond_both (region_of page == 2) _ _ P
+    (λ r. system_covered size memory t page entry can (eqb-true (region_of page) 2 r))
+    (λ r2 e. cc))))
+    (λ off. cond_both (is_past size (512 * page) 512) _ _ P (λ h e. cc) (λ h e.
+    let low : 512 * page + 512 ≤ size = ltb-false size (512 * page + 512) h in
+    inr (inl (omega arith, omega arith))))
 
 -- the slot in use is one of four
 pub slot_small : (memory : List ℕ) (s : Shadowed) → Fits memory s → s.slot < 4
@@ -59,8 +59,8 @@ seen_own memory s g page f v small c =
     let slot = slot_small memory s f in
     let size : 512 * s.pages ≡ length (partition_of memory g) = sym (own_length memory s f) ∙ ap length (own_is memory s g v) in
     ap (λ p. look_under (512 * s.pages) (own memory s) p (tables_for s (entry_number s.slot page))) (page_again s.slot page slot small c)
-      ∙ ap (look_under (512 * s.pages) (own memory s) page) (tables_own memory s page f slot c)
-      ∙ (λ i. lookup (size i) (own_is memory s g v i) (v.told i) page)
+    ∙ ap (look_under (512 * s.pages) (own memory s) page) (tables_own memory s page f slot c)
+    ∙ (λ i. lookup (size i) (own_is memory s g v i) (v.told i) page)
 
 -- a present page
 pub present_covered : (memory : List ℕ) (s : Shadowed) (g : GuestState) (page : ℕ) → Fits memory s → Serves g s → IsPresent (guest_of memory g) page → IsCovered page

@@ -50,7 +50,15 @@ pub record IsSet (pending opened' : List ℕ) (memory after : List ℕ) (s : Sha
 
 fits_set : (memory after : List ℕ) (s : Shadowed) (n entry : ℕ) (source : Option Source) (consulted writable : List Bool) → Fits memory s → n < all_entries → length consulted ≡ length s.consulted → length writable ≡ length s.writable → ((m frame : ℕ) → m < all_entries → is_flagged frame consulted ≡ false → is_read_from frame (slice_index_or (set s.reads n source) m None) ≡ false) → IsWritten memory after (entry_place s.at n) entry → Fits after (remembers s (set s.reads n source) consulted writable)
 fits_set memory after s n entry source consulted writable f h a b consults w = record {
-  few = omega (arith, f.few, w.size); small = f.small; partition = omega (arith, f.partition, w.size); room = omega (arith, f.room, w.size); apart = f.apart; told = f.told; contexts = f.contexts; slots = f.slots; first = f.first;
+  few = omega (arith, f.few, w.size);
+  small = f.small;
+  partition = omega (arith, f.partition, w.size);
+  room = omega (arith, f.room, w.size);
+  apart = f.apart;
+  told = f.told;
+  contexts = f.contexts;
+  slots = f.slots;
+  first = f.first;
   system = λ j l. long_kept memory after (entry_place s.at n) entry (512 * s.at + 4 * (8192 + j)) w (system_apart s.at n j l) ∙ f.system j l;
   whole = length-set s.reads n source ∙ f.whole;
   consulted = a ∙ f.consulted;
@@ -73,34 +81,34 @@ set_entry pending opened opened' memory after s n entry source consulted writabl
     let same : (k : ℕ) → k ≢ n → read_at s' k ≡ read_at s k = λ k differ. read_other s n k source differ in
     let here : read_at s' n ≡ source = read_here s n source f.whole h in
     let consults : (m frame : ℕ) → m < all_entries → is_flagged frame consulted ≡ false → is_read_from frame (read_at s' m) ≡ false = λ m frame c u. split (cases_eq m n)
-      (λ e. subst (λ y. is_read_from frame y ≡ false) (sym (ap (read_at s') e ∙ here)) (can.consults_here frame u))
-      (λ differ. subst (λ y. is_read_from frame y ≡ false) (sym (same m differ)) (f.consults m frame c (can.consults frame u))) in
+    (λ e. subst (λ y. is_read_from frame y ≡ false) (sym (ap (read_at s') e ∙ here)) (can.consults_here frame u))
+    (λ differ. subst (λ y. is_read_from frame y ≡ false) (sym (same m differ)) (f.consults m frame c (can.consults frame u))) in
     record {
       here = w.is;
       other = other;
       keeps = record {
         fits = fits_set memory after s n entry source consulted writable f h can.consulted_size can.writable_size consults w;
         entries = λ k d. rw (seen k, own_is) (split (cases_eq k n)
-          (λ e. rw e (rw (here, w.is) can.kept))
-          (λ differ. rw (same k differ, other k d differ) (keeps.entries k d)));
+            (λ e. rw e (rw (here, w.is) can.kept))
+            (λ differ. rw (same k differ, other k d differ) (keeps.entries k d)));
         guarded = λ m k c d o v x. split (cases_eq k n)
-          (λ e.
+            (λ e.
             let v' : V entry = subst V (ap (real_at after s) e ∙ w.is) v in
             let x' : M entry = subst M (ap (real_at after s) e ∙ w.is) x in
             let r : real_at after s k ≡ entry = ap (real_at after s) e ∙ w.is in
             subst (λ y. is_read_from (mapped_frame s y) (read_at s' m) ≡ false) (sym r) (can.onto (subst (λ j. is_opened j opened' ≡ false) e o) v' x' m c))
-          (λ differ.
+            (λ differ.
             let r : real_at after s k ≡ real_at memory s k = other k d differ in
             let v' : V (real_at memory s k) = subst V r v in
             let x' : M (real_at memory s k) = subst M r x in
             subst (λ y. is_read_from (mapped_frame s y) (read_at s' m) ≡ false) (sym r) (split (cases_eq m n)
-              (λ e. subst (λ y. is_read_from (mapped_frame s (real_at memory s k)) y ≡ false) (sym (ap (read_at s') e ∙ here)) (can.from k d differ o v' x'))
-              (λ no_. subst (λ y. is_read_from (mapped_frame s (real_at memory s k)) y ≡ false) (sym (same m no_)) (keeps.guarded m k c d (can.still k differ o) v' x'))));
+            (λ e. subst (λ y. is_read_from (mapped_frame s (real_at memory s k)) y ≡ false) (sym (ap (read_at s') e ∙ here)) (can.from k d differ o v' x'))
+            (λ no_. subst (λ y. is_read_from (mapped_frame s (real_at memory s k)) y ≡ false) (sym (same m no_)) (keeps.guarded m k c d (can.still k differ o) v' x'))));
         writes = λ k d v x. split (cases_eq k n)
-          (λ e.
+            (λ e.
             let r : real_at after s k ≡ entry = ap (real_at after s) e ∙ w.is in
             subst (λ y. is_flagged (mapped_frame s y) writable ≡ true) (sym r) (can.writes_here (subst V r v) (subst M r x)))
-          (λ differ.
+            (λ differ.
             let r : real_at after s k ≡ real_at memory s k = other k d differ in
             subst (λ y. is_flagged (mapped_frame s y) writable ≡ true) (sym r) (can.writes _ (keeps.writes k d (subst V r v) (subst M r x))));
       };

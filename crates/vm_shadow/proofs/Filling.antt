@@ -71,6 +71,6 @@ fill_page page g m m1 m2 s s1 inside entry source seen n place real consulted sm
     let r : real ≡ real_entry s.base false entry.0 = real_is ∙ ap (λ x. real_entry x false entry.0) base in
     let machine : m2 ≡ with_long m1 (entry_place s.at n) (real_entry s.base false entry.0) = write ∙ (λ i. with_long m1 (q i) (r i)) in
     let shadow : record inside { reads = set inside.reads n (Some source); consulted = consulted } ≡ record s { reads = set s.reads n (Some source); consulted = with_flags true source s.consulted; writable = s1.writable } =
-        ap (λ x. record inside { reads = set inside.reads n (Some source); consulted = x }) flags ∙ ap (λ (x : Shadowed). record x { reads = set x.reads n (Some source); consulted = with_flags true source x.consulted }) both in
+    ap (λ x. record inside { reads = set inside.reads n (Some source); consulted = x }) flags ∙ ap (λ (x : Shadowed). record x { reads = set x.reads n (Some source); consulted = with_flags true source x.consulted }) both in
     subst (λ x. FillsPage page g m s x (record inside { reads = set inside.reads n (Some source); consulted = consulted })) (sym machine) (subst (FillsPage page g m s (with_long m1 (entry_place s.at n) (real_entry s.base false entry.0))) (sym shadow)
-      (fill_by page g m m1 s s1.writable entry source seen n small stands p is e (subst (Protects source m s m1) protects.rest protects) (at ∙ ap (λ x. entry_number x page) slot)))
+    (fill_by page g m m1 s s1.writable entry source seen n small stands p is e (subst (Protects source m s m1) protects.rest protects) (at ∙ ap (λ x. entry_number x page) slot)))

@@ -26,8 +26,8 @@ flag_set flags at h = get_or-set_same flags at true false h
 flag_more : (flags : List Bool) (at frame : ℕ) → is_flagged frame flags ≡ true → is_flagged frame (set flags at true) ≡ true
 flag_more flags at frame e = split (cases_eq frame at)
     (λ same. split (cases_lt at (length flags))
-      (λ h. ap (λ x. is_flagged x (set flags at true)) same ∙ flag_set flags at h)
-      (λ h. ap (is_flagged frame) (set_past flags at true h) ∙ e))
+    (λ h. ap (λ x. is_flagged x (set flags at true)) same ∙ flag_set flags at h)
+    (λ h. ap (is_flagged frame) (set_past flags at true h) ∙ e))
     (λ differ. get_or-set_other flags at frame true false differ ∙ e)
 
 -- the guest's entry that a filled real one stands for has its bit set
@@ -65,31 +65,31 @@ module _ (m : Machine) (s : Shadowed) (n : ℕ) (f : Fits m.memory s) (h : n < a
 
   pub opens_now : is_modified (real_at m.memory s n) ≡ false → OpensPage n m s (with_long m (entry_place s.at n) (real_at m.memory s n + 2 ^ 26)) (record s { writable = set s.writable (mapped_frame s (real_at m.memory s n)) true })
   opens_now off =
-    let at = mapped_frame s (real_at m.memory s n) in
-    let w = write_of in
-    record {
-      keeps = λ opened k.
-        let r = filled_of opened m.memory s n k h mark.filled in
-        (opens opened m.memory _ s n (set s.writable at true) k h r off (marked_right m.memory s n mark r) (length-set s.writable at true) (λ frame e. flag_more s.writable at frame e)
-          (subst (λ x. is_flagged x (set s.writable at true) ≡ true) (frame_of_filled r) (flag_set s.writable at (within_flags r))) w).0;
-      opens = ap is_modified w.is ∙ set_bit (real_at m.memory s n) off;
-      rest = refl;
-      only = only_more s.at m m (entry_place s.at n) _ f.room (place_within s.at n h) (only_none s.at m);
-    }
+      let at = mapped_frame s (real_at m.memory s n) in
+      let w = write_of in
+      record {
+        keeps = λ opened k.
+            let r = filled_of opened m.memory s n k h mark.filled in
+            (opens opened m.memory _ s n (set s.writable at true) k h r off (marked_right m.memory s n mark r) (length-set s.writable at true) (λ frame e. flag_more s.writable at frame e)
+            (subst (λ x. is_flagged x (set s.writable at true) ≡ true) (frame_of_filled r) (flag_set s.writable at (within_flags r))) w).0;
+        opens = ap is_modified w.is ∙ set_bit (real_at m.memory s n) off;
+        rest = refl;
+        only = only_more s.at m m (entry_place s.at n) _ f.room (place_within s.at n h) (only_none s.at m);
+      }
 
   pub grants_now : is_modified (real_at m.memory s n) ≡ false → is_flagged (mapped_frame s (real_at m.memory s n)) s.consulted ≡ false → GrantsPage n m s (with_long m (entry_place s.at n) (real_at m.memory s n + 2 ^ 26)) (record s { writable = set s.writable (mapped_frame s (real_at m.memory s n)) true })
   grants_now off unread =
-    let at = mapped_frame s (real_at m.memory s n) in
-    let w = write_of in
-    record {
-      keeps = λ opened k.
-        let r = filled_of opened m.memory s n k h mark.filled in
-        (grants opened m.memory _ s n (set s.writable at true) k h r off (marked_right m.memory s n mark r) (subst (λ x. is_flagged x s.consulted ≡ false) (frame_of_filled r) unread) (length-set s.writable at true) (λ frame e. flag_more s.writable at frame e)
-          (subst (λ x. is_flagged x (set s.writable at true) ≡ true) (frame_of_filled r) (flag_set s.writable at (within_flags r))) w).0;
-      opens = ap is_modified w.is ∙ set_bit (real_at m.memory s n) off;
-      rest = refl;
-      only = only_more s.at m m (entry_place s.at n) _ f.room (place_within s.at n h) (only_none s.at m);
-    }
+      let at = mapped_frame s (real_at m.memory s n) in
+      let w = write_of in
+      record {
+        keeps = λ opened k.
+            let r = filled_of opened m.memory s n k h mark.filled in
+            (grants opened m.memory _ s n (set s.writable at true) k h r off (marked_right m.memory s n mark r) (subst (λ x. is_flagged x s.consulted ≡ false) (frame_of_filled r) unread) (length-set s.writable at true) (λ frame e. flag_more s.writable at frame e)
+            (subst (λ x. is_flagged x (set s.writable at true) ≡ true) (frame_of_filled r) (flag_set s.writable at (within_flags r))) w).0;
+        opens = ap is_modified w.is ∙ set_bit (real_at m.memory s n) off;
+        rest = refl;
+        only = only_more s.at m m (entry_place s.at n) _ f.room (place_within s.at n h) (only_none s.at m);
+      }
 
 -- closing
 
@@ -117,8 +117,8 @@ closes_now m s n f h on =
     let w = written m.memory (entry_place s.at n) (real_at m.memory s n - 2 ^ 26) (omega (arith, f.room, (place_within s.at n h).back)) in
     record {
       keeps = λ opened k.
-        let v : is_valid (real_at m.memory s n) ≡ true = modified_valid (512 * s.pages) s.base (own m.memory s) (seen_at m.memory s n) (real_at m.memory s n) (read_at s n) (k.entries n h) on in
-        (closed opened (closed_for n opened) m.memory _ s n k h (filled_of opened m.memory s n k h v) on (λ j differ o. still_opened n opened j differ o) w).0;
+          let v : is_valid (real_at m.memory s n) ≡ true = modified_valid (512 * s.pages) s.base (own m.memory s) (seen_at m.memory s n) (real_at m.memory s n) (read_at s n) (k.entries n h) on in
+          (closed opened (closed_for n opened) m.memory _ s n k h (filled_of opened m.memory s n k h v) on (λ j differ o. still_opened n opened j differ o) w).0;
       closes = ap is_modified w.is ∙ one_clear (real_at m.memory s n) on;
       only = only_more s.at m m (entry_place s.at n) _ f.room (place_within s.at n h) (only_none s.at m);
     }
@@ -155,14 +155,14 @@ module _ (m m2 : Machine) (s inside : Shadowed) (page place real frame : ℕ) (f
 
   shadow_is : frame ≡ frame_of real - inside.base → flags ≡ set inside.writable frame true → record inside { writable = flags } ≡ record s { writable = set s.writable (mapped_frame s (real_at m.memory s (own_number s page))) true }
   shadow_is at set_ =
-    let at_is : frame ≡ mapped_frame s (real_at m.memory s (own_number s page)) = at ∙ (λ i. frame_of (real_is i) - (view i).base) in
-    (λ i. record (view i) { writable = set_ i }) ∙ (λ i. record s { writable = set (view i).writable (at_is i) true })
+      let at_is : frame ≡ mapped_frame s (real_at m.memory s (own_number s page)) = at ∙ (λ i. frame_of (real_is i) - (view i).base) in
+      (λ i. record (view i) { writable = set_ i }) ∙ (λ i. record s { writable = set (view i).writable (at_is i) true })
 
   pub opens_then : is_modified real ≡ false → m2 ≡ with_long m place (real + 2 ^ 26) → frame ≡ frame_of real - inside.base → flags ≡ set inside.writable frame true → OpensPage (own_number s page) m s m2 (record inside { writable = flags })
   opens_then off write at set_ = subst (λ x. OpensPage (own_number s page) m s x (record inside { writable = flags })) (sym (machine_is write)) (subst (OpensPage (own_number s page) m s (with_long m (entry_place s.at (own_number s page)) (real_at m.memory s (own_number s page) + 2 ^ 26))) (sym (shadow_is at set_))
-    (opens_now m s (own_number s page) f (own_small m.memory s page f c) mark (subst (λ x. is_modified x ≡ false) real_is off)))
+      (opens_now m s (own_number s page) f (own_small m.memory s page f c) mark (subst (λ x. is_modified x ≡ false) real_is off)))
 
   pub grants_then : is_modified real ≡ false → is_flagged frame inside.consulted ≡ false → m2 ≡ with_long m place (real + 2 ^ 26) → frame ≡ frame_of real - inside.base → flags ≡ set inside.writable frame true → GrantsPage (own_number s page) m s m2 (record inside { writable = flags })
   grants_then off unread write at set_ = subst (λ x. GrantsPage (own_number s page) m s x (record inside { writable = flags })) (sym (machine_is write)) (subst (GrantsPage (own_number s page) m s (with_long m (entry_place s.at (own_number s page)) (real_at m.memory s (own_number s page) + 2 ^ 26))) (sym (shadow_is at set_))
-    (grants_now m s (own_number s page) f (own_small m.memory s page f c) mark (subst (λ x. is_modified x ≡ false) real_is off)
+      (grants_now m s (own_number s page) f (own_small m.memory s page f c) mark (subst (λ x. is_modified x ≡ false) real_is off)
       (subst (λ x. is_flagged x s.consulted ≡ false) (at ∙ (λ i. frame_of (real_is i) - (view i).base)) (ap (λ (x : Shadowed). is_flagged frame x.consulted) (sym view) ∙ unread))))

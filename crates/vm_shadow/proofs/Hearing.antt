@@ -170,8 +170,8 @@ module _ (opened : List ℕ) (memory : List ℕ) (s : Shadowed) (g : GuestState)
   pub place_covered : (m : Mode) (i : Intent) (va pa : ℕ) → own_place memory g m i va ≡ Ok pa → IsCovered (page_of va)
   unfolding walk_of
   place_covered m i va pa e =
-    let has = has_by (guest_of memory g) va pa m i (look (guest_of memory g) (page_of va)) e in
-    covered (length (partition_of memory g)) (partition_of memory g) (tables_of g) (page_of va) has.0 can_serve (omega (arith, size_is, k.fits.small)) has.1
+      let has = has_by (guest_of memory g) va pa m i (look (guest_of memory g) (page_of va)) e in
+      covered (length (partition_of memory g)) (partition_of memory g) (tables_of g) (page_of va) has.0 can_serve (omega (arith, size_is, k.fits.small)) has.1
 
   -- the machine's answer by the entry
   real_by : (m : Mode) (i : Intent) (va : ℕ) → IsCovered (page_of va) → real_place memory s m i va ≡ place_by va (granted may_of everywhere (real_at memory s (own_number s (page_of va))) (ring_of m) i)
@@ -182,16 +182,16 @@ module _ (opened : List ℕ) (memory : List ℕ) (s : Shadowed) (g : GuestState)
   pub filled_answers : (m : Mode) (i : Intent) (va : ℕ) → va < 2 ^ 32 → IsCovered (page_of va) → IsFilled memory s (own_number s (page_of va)) → real_place memory s m i va ≡ moved (512 * s.base) (own_place memory g m i va)
   unfolding walk_of
   filled_answers m i va small c r =
-    let page = page_of va in
-    let f = k.fits in
-    let entry = r.right.entry in
-    let fits = frame_fits memory s entry f r.right.inside in
-    let lets = open_of (protection_of entry) m i in
-    let seen = seen_own memory s g page f v (page_small va small) c in
-    let has : entry_at (partition_of memory g) (look (guest_of memory g) page) ≡ Some entry = entry_there (own memory s) (partition_of memory g) (seen_at memory s (own_number s page)) (look (guest_of memory g) page) entry (own_is memory s g v) seen r.right.has in
-    let real : real_place memory s m i va ≡ answer lets (s.base + frame_of entry) va = real_by m i va c ∙ ap (λ x. place_by va (granted may_of everywhere x (ring_of m) i)) r.right.is ∙ ap (place_by va) (real_gives s.base r.right.modify entry m i fits) ∙ given_real lets (s.base + frame_of entry) va in
-    let mine : own_place memory g m i va ≡ answer lets (frame_of entry) va = own_by (guest_of memory g) va entry m i (look (guest_of memory g) page) has r.right.valid (omega (arith, size_is, r.right.inside)) (omega (arith, size_is, f.small)) (looks_inside (length (partition_of memory g)) (partition_of memory g) (tables_of g) page) (looks_by (length (partition_of memory g)) (partition_of memory g) (tables_of g) page) in
-    real ∙ answer_moved s.base lets (frame_of entry) va ∙ ap (moved (512 * s.base)) (sym mine)
+      let page = page_of va in
+      let f = k.fits in
+      let entry = r.right.entry in
+      let fits = frame_fits memory s entry f r.right.inside in
+      let lets = open_of (protection_of entry) m i in
+      let seen = seen_own memory s g page f v (page_small va small) c in
+      let has : entry_at (partition_of memory g) (look (guest_of memory g) page) ≡ Some entry = entry_there (own memory s) (partition_of memory g) (seen_at memory s (own_number s page)) (look (guest_of memory g) page) entry (own_is memory s g v) seen r.right.has in
+      let real : real_place memory s m i va ≡ answer lets (s.base + frame_of entry) va = real_by m i va c ∙ ap (λ x. place_by va (granted may_of everywhere x (ring_of m) i)) r.right.is ∙ ap (place_by va) (real_gives s.base r.right.modify entry m i fits) ∙ given_real lets (s.base + frame_of entry) va in
+      let mine : own_place memory g m i va ≡ answer lets (frame_of entry) va = own_by (guest_of memory g) va entry m i (look (guest_of memory g) page) has r.right.valid (omega (arith, size_is, r.right.inside)) (omega (arith, size_is, f.small)) (looks_inside (length (partition_of memory g)) (partition_of memory g) (tables_of g) page) (looks_by (length (partition_of memory g)) (partition_of memory g) (tables_of g) page) in
+      real ∙ answer_moved s.base lets (frame_of entry) va ∙ ap (moved (512 * s.base)) (sym mine)
 
   number_is_small : (va : ℕ) → IsCovered (page_of va) → own_number s (page_of va) < all_entries
   number_is_small va c = number_small s.slot (page_of va) (slot_small memory s k.fits) c
@@ -199,13 +199,13 @@ module _ (opened : List ℕ) (memory : List ℕ) (s : Shadowed) (g : GuestState)
   -- an entry that isn't filled is missed
   pub empty_answers : (m : Mode) (i : Intent) (va : ℕ) → IsCovered (page_of va) → read_at s (own_number s (page_of va)) ≡ None → real_place memory s m i va ≡ Err Absent
   empty_answers m i va c e =
-    let empty : real_at memory s (own_number s (page_of va)) ≡ empty_entry = subst (IsKept (512 * s.pages) s.base (own memory s) [] (seen_at memory s (own_number s (page_of va))) (real_at memory s (own_number s (page_of va)))) e (k.entries (own_number s (page_of va)) (number_is_small va c)) in
-    real_by m i va c ∙ ap (λ x. place_by va (granted may_of everywhere x (ring_of m) i)) empty ∙ ap (place_by va) (empty_gives m i)
+      let empty : real_at memory s (own_number s (page_of va)) ≡ empty_entry = subst (IsKept (512 * s.pages) s.base (own memory s) [] (seen_at memory s (own_number s (page_of va))) (real_at memory s (own_number s (page_of va)))) e (k.entries (own_number s (page_of va)) (number_is_small va c)) in
+      real_by m i va c ∙ ap (λ x. place_by va (granted may_of everywhere x (ring_of m) i)) empty ∙ ap (place_by va) (empty_gives m i)
 
   filled_there : (va : ℕ) (source : Source) → IsCovered (page_of va) → read_at s (own_number s (page_of va)) ≡ Some source → IsFilled memory s (own_number s (page_of va))
   filled_there va source c e =
-    let n = own_number s (page_of va) in
-    filled_of opened memory s n k (number_is_small va c) (kept_valid (512 * s.pages) s.base (own memory s) [] (seen_at memory s n) (real_at memory s n) (read_at s n) (k.entries n (number_is_small va c)) (ap is_some e))
+      let n = own_number s (page_of va) in
+      filled_of opened memory s n k (number_is_small va c) (kept_valid (512 * s.pages) s.base (own memory s) [] (seen_at memory s n) (real_at memory s n) (read_at s n) (k.entries n (number_is_small va c)) (ap is_some e))
 
   no_place : (m : Mode) (i : Intent) (va : ℕ) → (IsCovered (page_of va) → ⊥) → HasNone (own_place memory g m i va)
   no_place m i va u = none_of (own_place memory g m i va) (λ pa e. u (place_covered m i va pa e))
@@ -224,15 +224,15 @@ module _ (opened : List ℕ) (memory : List ℕ) (s : Shadowed) (g : GuestState)
 
   pub heard : (m : Mode) (i : Intent) (va : ℕ) → va < 2 ^ 32 → IsHeard s.base (real_place memory s m i va) (own_place memory g m i va)
   heard m i va small = split (elsewhere memory s (page_of va) k.fits)
-    (λ c. heard_by m i va small c (read_at s (own_number s (page_of va))) refl)
-    (λ e. inr (inr (elsewhere_refuses m i va e, no_place m i va e.uncovered)))
+      (λ c. heard_by m i va small c (read_at s (own_number s (page_of va))) refl)
+      (λ e. inr (inr (elsewhere_refuses m i va e, no_place m i va e.uncovered)))
 
   empty_by : (m : Mode) (i : Intent) (va pa : ℕ) → va < 2 ^ 32 → real_place memory s m i va ≡ Err Absent → own_place memory g m i va ≡ Ok pa → (x : Option Source) → read_at s (own_number s (page_of va)) ≡ x → x ≡ None
   empty_by m i va pa small miss e None is = refl
   empty_by m i va pa small miss e (Some source) is =
-    let c = place_covered m i va pa e in
-    let has : real_place memory s m i va ≡ Ok (512 * s.base + pa) = filled_answers m i va small c (filled_there va source c is) ∙ ap (moved (512 * s.base)) e in
-    cc
+      let c = place_covered m i va pa e in
+      let has : real_place memory s m i va ≡ Ok (512 * s.base + pa) = filled_answers m i va small c (filled_there va source c is) ∙ ap (moved (512 * s.base)) e in
+      cc
 
   pub missing : (m : Mode) (i : Intent) (va pa : ℕ) → va < 2 ^ 32 → real_place memory s m i va ≡ Err Absent → own_place memory g m i va ≡ Ok pa → read_at s (own_number s (page_of va)) ≡ None
   missing m i va pa small miss e = empty_by m i va pa small miss e (read_at s (own_number s (page_of va))) refl
@@ -254,16 +254,16 @@ module _ (opened : List ℕ) (memory : List ℕ) (s : Shadowed) (g : GuestState)
   marked_by_source : (m : Mode) (i : Intent) (va pa : ℕ) → va < 2 ^ 32 → IsCovered (page_of va) → real_place memory s m i va ≡ Ok pa → is_modified (real_at memory s (own_number s (page_of va))) ≡ true → (x : Option Source) → read_at s (own_number s (page_of va)) ≡ x → is_clear (guest_of memory g) va ≡ false
   marked_by_source m i va pa small c e on None is = let miss : real_place memory s m i va ≡ Err Absent = empty_answers m i va c is in cc
   marked_by_source m i va pa small c e on (Some source) is =
-    let r = filled_there va source c is in
-    let seen = seen_own memory s g (page_of va) k.fits v (page_small va small) c in
-    let has : entry_at (partition_of memory g) (look (guest_of memory g) (page_of va)) ≡ Some (r.right.entry) = entry_there (own memory s) (partition_of memory g) (seen_at memory s (own_number s (page_of va))) (look (guest_of memory g) (page_of va)) (r.right.entry) (own_is memory s g v) seen r.right.has in
-    let bit : r.right.modify ≡ true = sym (right_modify memory (own memory s) s (seen_at memory s (own_number s (page_of va))) r.source (real_at memory s (own_number s (page_of va))) k.fits r.right) ∙ on in
-    own_clear (look (guest_of memory g) (page_of va)) (r.right.entry) has (r.right.marked bit)
+      let r = filled_there va source c is in
+      let seen = seen_own memory s g (page_of va) k.fits v (page_small va small) c in
+      let has : entry_at (partition_of memory g) (look (guest_of memory g) (page_of va)) ≡ Some (r.right.entry) = entry_there (own memory s) (partition_of memory g) (seen_at memory s (own_number s (page_of va))) (look (guest_of memory g) (page_of va)) (r.right.entry) (own_is memory s g v) seen r.right.has in
+      let bit : r.right.modify ≡ true = sym (right_modify memory (own memory s) s (seen_at memory s (own_number s (page_of va))) r.source (real_at memory s (own_number s (page_of va))) k.fits r.right) ∙ on in
+      own_clear (look (guest_of memory g) (page_of va)) (r.right.entry) has (r.right.marked bit)
 
   pub marks : (m : Mode) (i : Intent) (va pa : ℕ) → va < 2 ^ 32 → real_place memory s m i va ≡ Ok pa → is_clear_in memory (real_tables s.at s.slot) va ≡ false → is_clear (guest_of memory g) va ≡ false
   marks m i va pa small e clear = split (elsewhere memory s (page_of va) k.fits)
-    (λ c. marked_by_source m i va pa small c e (not-false _ (sym (clear_by va c) ∙ clear)) (read_at s (own_number s (page_of va))) refl)
-    (λ w. let no_ : real_place memory s m i va ≡ Err Refusing = elsewhere_refuses m i va w in cc)
+      (λ c. marked_by_source m i va pa small c e (not-false _ (sym (clear_by va c) ∙ clear)) (read_at s (own_number s (page_of va))) refl)
+      (λ w. let no_ : real_place memory s m i va ≡ Err Refusing = elsewhere_refuses m i va w in cc)
 
   -- PROBE
   pub judged_on : (m : Mode) (i : Intent) (va : ℕ) → IsCovered (page_of va) → judged memory (real_tables s.at s.slot) (ring_of m) i va ≡ judged_by (real_at memory s (own_number s (page_of va))) (ring_of m) i
@@ -281,22 +281,22 @@ module _ (opened : List ℕ) (memory : List ℕ) (s : Shadowed) (g : GuestState)
   probed_by_source : (m : Mode) (i : Intent) (va : ℕ) (b : Bool) → va < 2 ^ 32 → IsCovered (page_of va) → judged memory (real_tables s.at s.slot) (ring_of m) i va ≡ Some b → (x : Option Source) → read_at s (own_number s (page_of va)) ≡ x → probed_byte (guest_of memory g) va m i ≡ Answers b true
   unfolding probed_byte
   probed_by_source m i va b small c e None is =
-    let n = own_number s (page_of va) in
-    let empty : real_at memory s n ≡ empty_entry = subst (IsKept (512 * s.pages) s.base (own memory s) [] (seen_at memory s n) (real_at memory s n)) is (k.entries n (number_is_small va c)) in
-    let none : judged memory (real_tables s.at s.slot) (ring_of m) i va ≡ None = judged_on m i va c ∙ ap (λ x. judged_by x (ring_of m) i) empty ∙ empty_unjudged m i in
-    cc
+      let n = own_number s (page_of va) in
+      let empty : real_at memory s n ≡ empty_entry = subst (IsKept (512 * s.pages) s.base (own memory s) [] (seen_at memory s n) (real_at memory s n)) is (k.entries n (number_is_small va c)) in
+      let none : judged memory (real_tables s.at s.slot) (ring_of m) i va ≡ None = judged_on m i va c ∙ ap (λ x. judged_by x (ring_of m) i) empty ∙ empty_unjudged m i in
+      cc
   probed_by_source m i va b small c e (Some source) is =
-    let r = filled_there va source c is in
-    let page = page_of va in
-    let seen = seen_own memory s g page k.fits v (page_small va small) c in
-    let has : entry_at (partition_of memory g) (look (guest_of memory g) page) ≡ Some (r.right.entry) = entry_there (own memory s) (partition_of memory g) (seen_at memory s (own_number s page)) (look (guest_of memory g) page) (r.right.entry) (own_is memory s g v) seen r.right.has in
-    let same : open_of (protection_of (r.right.entry)) m i ≡ b = same_Some _ b (sym (filled_judged m i va c r) ∙ e) in
-    probed_entry (guest_of memory g) va (r.right.entry) m i (look (guest_of memory g) page) has r.right.valid (omega (arith, size_is, r.right.inside)) (omega (arith, size_is, k.fits.small)) (looks_inside (length (partition_of memory g)) (partition_of memory g) (tables_of g) page) ∙ ap (λ x. Answers x true) same
+      let r = filled_there va source c is in
+      let page = page_of va in
+      let seen = seen_own memory s g page k.fits v (page_small va small) c in
+      let has : entry_at (partition_of memory g) (look (guest_of memory g) page) ≡ Some (r.right.entry) = entry_there (own memory s) (partition_of memory g) (seen_at memory s (own_number s page)) (look (guest_of memory g) page) (r.right.entry) (own_is memory s g v) seen r.right.has in
+      let same : open_of (protection_of (r.right.entry)) m i ≡ b = same_Some _ b (sym (filled_judged m i va c r) ∙ e) in
+      probed_entry (guest_of memory g) va (r.right.entry) m i (look (guest_of memory g) page) has r.right.valid (omega (arith, size_is, r.right.inside)) (omega (arith, size_is, k.fits.small)) (looks_inside (length (partition_of memory g)) (partition_of memory g) (tables_of g) page) ∙ ap (λ x. Answers x true) same
 
   pub probes : (m : Mode) (i : Intent) (va : ℕ) (b : Bool) → va < 2 ^ 32 → judged memory (real_tables s.at s.slot) (ring_of m) i va ≡ Some b → probed_byte (guest_of memory g) va m i ≡ Answers b true
   probes m i va b small e = split (elsewhere memory s (page_of va) k.fits)
-    (λ c. probed_by_source m i va b small c e (read_at s (own_number s (page_of va))) refl)
-    (λ w. let none : judged memory (real_tables s.at s.slot) (ring_of m) i va ≡ None = elsewhere_unjudged m i va w in cc)
+      (λ c. probed_by_source m i va b small c e (read_at s (own_number s (page_of va))) refl)
+      (λ w. let none : judged memory (real_tables s.at s.slot) (ring_of m) i va ≡ None = elsewhere_unjudged m i va w in cc)
 
   judged_by_source : (m : Mode) (i : Intent) (va : ℕ) → IsCovered (page_of va) → (x : Option Source) → read_at s (own_number s (page_of va)) ≡ x → is_some x ≡ true → is_some (judged memory (real_tables s.at s.slot) (ring_of m) i va) ≡ true
   judged_by_source m i va c None is some = absurd (false≢true some)

@@ -66,20 +66,24 @@ still_has c d held held' slot own t apart e = its_context d own held' t.after.sl
   where
     in_old : Contains held (d, own)
     in_old = in_held d own held e
+
     push : Contains (beside c held) (d, own) → Contains ((c, slot) ∷ beside c held) (d, own)
     push x = (suc x.0, omega (arith, x.1), x.2)
+
     front : is_same c d ≡ true → Contains ((c, slot) ∷ beside c held) (d, own)
     front same =
         let one : c ≡ d = is_same-true c d same in
         let has : slot_of c held ≡ Some own = its_slot c held own t.before.contexts (subst (λ x. Contains held (x, own)) (sym one) in_old) in
         let is : slot ≡ own = if_some (λ n. slot ≡ n) (slot_of c held) own has t.kept in
         (0, omega arith, λ i. (one i, is i))
+
     last : length (without c held) ≡ 4 → Contains ((c, slot) ∷ beside c held) (d, own)
     last four =
         let g = t.gone four in
         split (Contains-push_cases (beside c held) (g.0, slot) (d, own) (subst (λ x. Contains x (d, own)) g.1 in_old))
-          (λ x. push x)
-          (λ same. absurd (apart four (sym (ap (λ j. j.1) same))))
+        (λ x. push x)
+        (λ same. absurd (apart four (sym (ap (λ j. j.1) same))))
+
     later : is_same c d ≡ false → Contains ((c, slot) ∷ beside c held) (d, own)
     later other = split (cases_lt (length (without c held)) 4)
         (λ few. push (subst (λ x. Contains x (d, own)) (sym (take_all 3 (without c held) (omega arith))) (stays (λ h. not (is_same c h.0)) held (d, own) in_old (ap not other))))

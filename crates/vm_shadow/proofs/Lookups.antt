@@ -59,14 +59,14 @@ unfolding lookup mapped_entry
 looks_by size memory t page =
     let P = IsBy size t page in
     cond_both t.mapped _ _ P
-      (λ on. cond_both (region_of page == 0) _ _ P
-        (λ r. cond_both (nat_le t.p0lr (in_region page)) _ _ P (λ h. tt) (λ h. process_by size memory t page ((t.p0br + 4 * in_region page) % 2 ^ 32) (place_p0 t page (eqb-true (region_of page) 0 r))))
-        (λ r0. cond_both (region_of page == 1) _ _ P
-          (λ r. cond_both (nat_lt (in_region page) t.p1lr) _ _ P (λ h. tt) (λ h. process_by size memory t page ((t.p1br + 4 * in_region page) % 2 ^ 32) (place_p1 t page (eqb-true (region_of page) 1 r))))
-          (λ r1. cond_both (region_of page == 2) _ _ P
-            (λ r. system_by size t page (eqb-true (region_of page) 2 r))
-            (λ r2. tt))))
-      (λ off. cond_both (is_past size (512 * page) 512) _ _ P (λ h. tt) (λ h. (refl, λ m n. off_same size m n t page off)))
+    (λ on. cond_both (region_of page == 0) _ _ P
+    (λ r. cond_both (nat_le t.p0lr (in_region page)) _ _ P (λ h. tt) (λ h. process_by size memory t page ((t.p0br + 4 * in_region page) % 2 ^ 32) (place_p0 t page (eqb-true (region_of page) 0 r))))
+    (λ r0. cond_both (region_of page == 1) _ _ P
+    (λ r. cond_both (nat_lt (in_region page) t.p1lr) _ _ P (λ h. tt) (λ h. process_by size memory t page ((t.p1br + 4 * in_region page) % 2 ^ 32) (place_p1 t page (eqb-true (region_of page) 1 r))))
+    (λ r1. cond_both (region_of page == 2) _ _ P
+    (λ r. system_by size t page (eqb-true (region_of page) 2 r))
+    (λ r2. tt))))
+    (λ off. cond_both (is_past size (512 * page) 512) _ _ P (λ h. tt) (λ h. (refl, λ m n. off_same size m n t page off)))
 
 -- two memories that differ in one frame alone
 pub record DifferIn (frame : ℕ) (memory other : List ℕ) : Type 0 where

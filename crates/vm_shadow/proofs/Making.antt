@@ -29,12 +29,13 @@ maps_next at j m m' h room d =
     record {
       only = only_more at m m' place (kernel_entry (at + 68 + j)) room (record { front = omega arith; back = omega arith }) d.only;
       mapped = λ i b. split (cases_eq i j)
-        (λ e. rw e w.is)
-        (λ differ. long_kept m'.memory _ place (kernel_entry (at + 68 + j)) (512 * at + 4 * (8192 + i)) w (inl (less i b differ)) ∙ d.mapped i (below i b differ));
+          (λ e. rw e w.is)
+          (λ differ. long_kept m'.memory _ place (kernel_entry (at + 68 + j)) (512 * at + 4 * (8192 + i)) w (inl (less i b differ)) ∙ d.mapped i (below i b differ));
     }
   where
     below : (i : ℕ) → i < j + 1 → i ≢ j → i < j
     below i b n = split (cases_lt i j) (λ h. h) (λ h. absurd (n (omega arith)))
+
     less : (i : ℕ) → i < j + 1 → i ≢ j → 512 * at + 4 * (8192 + i) + 4 ≤ 512 * at + 4 * (8192 + j)
     less i b n = let c = below i b n in omega arith
 
@@ -48,8 +49,8 @@ clears_next at n place m m' h room is d =
     rw is (record {
       only = only_more at m m' (entry_place at n) empty_entry room l d.only;
       cleared = λ i b. split (cases_eq i n)
-        (λ e. rw e w.is)
-        (λ differ. long_kept m'.memory _ (entry_place at n) empty_entry (entry_place at i) w (places_apart at n i (λ e. differ (sym e))) ∙ d.cleared i (below i b differ));
+          (λ e. rw e w.is)
+          (λ differ. long_kept m'.memory _ (entry_place at n) empty_entry (entry_place at i) w (places_apart at n i (λ e. differ (sym e))) ∙ d.cleared i (below i b differ));
       stay = λ j b. long_kept m'.memory _ (entry_place at n) empty_entry (512 * at + 4 * (8192 + j)) w (system_apart at n j b) ∙ d.stay j b;
     })
   where
@@ -93,7 +94,12 @@ makes g at slot held reads consulted writable m m1 m2 few partition room apart s
     let empty : (n : ℕ) → read_at s n ≡ None = λ n. ap (λ r. slice_index_or r n None) reads_is ∙ all_same all_entries n None in
     let clear : (n : ℕ) → n < all_entries → real_at m2.memory s n ≡ empty_entry = λ n h. clears.cleared n h in
     let fits : Fits m2.memory s = record {
-      few = omega (arith, size); small = small; partition = omega (arith, size); room = omega (arith, size); apart = apart; told = can;
+      few = omega (arith, size);
+      small = small;
+      partition = omega (arith, size);
+      room = omega (arith, size);
+      apart = apart;
+      told = can;
       contexts = subst (All (λ h. CanStand (in_context (tables_of g) h.0))) (sym held_is) (All-cons (λ h. CanStand (in_context (tables_of g) h.0)) (context_of (tables_of g), slot) [] can (All-nil (λ h. CanStand (in_context (tables_of g) h.0))));
       slots = slots;
       first = subst (IsFirst (context_of (tables_of g)) slot) (sym held_is) (refl, refl);
@@ -122,6 +128,7 @@ makes g at slot held reads consulted writable m m1 m2 few partition room apart s
   where
     invalid : (real : ℕ) → real ≡ empty_entry → is_valid real ≡ true → ⊥
     invalid real e v = false≢true (subst (λ x. is_valid x ≡ true) e v)
+
     both_only : (at : ℕ) (m m1 m2 : Machine) → OnlyTables at m m1 → OnlyTables at m1 m2 → OnlyTables at m m2
     both_only at m m1 m2 a b = record { rest = b.rest ∙ ap (λ (x : Machine). record x { memory = m2.memory }) a.rest; tables = apart_again (512 * at) (512 * 580) m.memory m1.memory m2.memory a.tables b.tables }
 

@@ -33,7 +33,7 @@ marks_found page g m m' s s' place long table stands e inside is st =
     let v' = serves_still g s s' v st.drops.rest in
     let entry : long ≡ with_modify (long_at (partition_of m.memory g) place) = is ∙ ap with_modify (sym (part_long m.memory (512 * g.base) (512 * g.pages) place inside.0)) in
     let memory : partition_of m'.memory g ≡ marked_by (Found place table) (partition_of m.memory g) =
-        sym (own_is m'.memory s' g v') ∙ st.own ∙ (λ i. long_stored place (entry i) (own_is m.memory s g v i)) in
+    sym (own_is m'.memory s' g v') ∙ st.own ∙ (λ i. long_stored place (entry i) (own_is m.memory s g v i)) in
     record {
       stands = record { keeps = st.keeps [] [] stands.keeps; serves = v'; allowed = stands.allowed };
       memory = memory ∙ ap (λ x. marked_by x (partition_of m.memory g)) e;
@@ -54,6 +54,7 @@ marks_none page g m s x stands e no_ = record {
     unmarked (Direct frame) n = refl
     unmarked (Fails v p) n = refl
     unmarked Beyond n = refl
+
     undropped : (x : Lookup) → ((place : ℕ) (table : Option ℕ) → x ≡ Found place table → ⊥) → DropsMarked x s s
     undropped (Found place table) n = absurd (n place table refl)
     undropped (Direct frame) n = refl

@@ -50,8 +50,8 @@ each_from : (frame at : ℕ) (m m' : Machine) (reads reads' : List (Option Sourc
 each_from frame at m m' reads reads' whole d n = split (cases_lt n all_entries)
     (λ h. d.each n ∙ ap (λ b. unless_dropped (b && is_read_from frame (remembered reads n)) (remembered reads n)) (all_between n h))
     (λ h.
-      let u : is_read_from frame (remembered reads n) ≡ false = unread_past frame reads n (omega arith) in
-      d.each n ∙ ap (λ b. unless_dropped b (remembered reads n)) (and_right (is_between 0 all_entries n) _ u) ∙ sym (ap (λ b. unless_dropped b (remembered reads n)) u))
+    let u : is_read_from frame (remembered reads n) ≡ false = unread_past frame reads n (omega arith) in
+    d.each n ∙ ap (λ b. unless_dropped b (remembered reads n)) (and_right (is_between 0 all_entries n) _ u) ∙ sym (ap (λ b. unless_dropped b (remembered reads n)) u))
 
 -- the shadow behind a scan, with the frame's flag taken away
 abbrev pub unflag : Shadowed → List (Option Source) → ℕ → Shadowed
@@ -63,8 +63,19 @@ unread_all frame m m' s reads' whole d n = subst (λ x. is_read_from frame x ≡
 unflag_keeps : (frame : ℕ) (pending opened : List ℕ) (memory : List ℕ) (s : Shadowed) → Keeps pending opened memory s → ((n : ℕ) → is_read_from frame (read_at s n) ≡ false) → Keeps pending opened memory (record s { consulted = set s.consulted frame false })
 unflag_keeps frame pending opened memory s k none = let f = k.fits in record {
   fits = record {
-    few = f.few; small = f.small; partition = f.partition; room = f.room; apart = f.apart; told = f.told; contexts = f.contexts; slots = f.slots; first = f.first; system = f.system; whole = f.whole;
-    consulted = length-set s.consulted frame false ∙ f.consulted; writable = f.writable;
+    few = f.few;
+    small = f.small;
+    partition = f.partition;
+    room = f.room;
+    apart = f.apart;
+    told = f.told;
+    contexts = f.contexts;
+    slots = f.slots;
+    first = f.first;
+    system = f.system;
+    whole = f.whole;
+    consulted = length-set s.consulted frame false ∙ f.consulted;
+    writable = f.writable;
     consults = λ n other h e. split (untaken s.consulted frame other e) (λ same. subst (λ x. is_read_from x (read_at s n) ≡ false) same (none n)) (λ u. f.consults n other h u);
   };
   entries = entries_kept k.entries;
@@ -78,9 +89,9 @@ unflag_keeps frame pending opened memory s k none = let f = k.fits in record {
 pub note_all : (m m' : Machine) (s : Shadowed) (reads' : List (Option Source)) (frame : ℕ) → Fits m.memory s → Drops s.at 0 all_entries (ReadFrom frame) m s.reads m' reads' → Notes frame m s m' (unflag s reads' frame)
 note_all m m' s reads' frame f d = record {
   keeps = λ pending opened k.
-    let after = d.keeps (frame ∷ pending) opened s refl refl k in
-    let none = unread_all frame m m' s reads' f.whole d in
-    unflag_keeps frame pending opened m'.memory (record s { reads = reads' }) (noted frame pending opened m'.memory (record s { reads = reads' }) after (λ n h. none n)) none;
+      let after = d.keeps (frame ∷ pending) opened s refl refl k in
+      let none = unread_all frame m m' s reads' f.whole d in
+      unflag_keeps frame pending opened m'.memory (record s { reads = reads' }) (noted frame pending opened m'.memory (record s { reads = reads' }) after (λ n h. none n)) none;
   drops = record { each = each_from frame s.at m m' s.reads reads' f.whole d; rest = refl };
   only = d.only;
 }

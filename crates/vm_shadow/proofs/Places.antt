@@ -28,14 +28,15 @@ place_within at n h = split (cases_lt n 8192)
 pub places_apart : (at n k : ℕ) → n ≢ k → (entry_place at k + 4 ≤ entry_place at n) ⊎ (entry_place at n + 4 ≤ entry_place at k)
 places_apart at n k differ = split (cases_lt n 8192)
     (λ a. split (cases_lt k 8192)
-      (λ b. rw (place_low at n a, place_low at k b) (split (cases_lt n k) (λ h. inr (omega arith)) (λ h. inl (low h))))
-      (λ b. rw (place_low at n a, place_high at k b) (inr (omega arith))))
+    (λ b. rw (place_low at n a, place_low at k b) (split (cases_lt n k) (λ h. inr (omega arith)) (λ h. inl (low h))))
+    (λ b. rw (place_low at n a, place_high at k b) (inr (omega arith))))
     (λ a. split (cases_lt k 8192)
-      (λ b. rw (place_high at n a, place_low at k b) (inl (omega arith)))
-      (λ b. rw (place_high at n a, place_high at k b) (split (cases_lt n k) (λ h. inr (omega arith)) (λ h. inl (high a b h)))))
+    (λ b. rw (place_high at n a, place_low at k b) (inl (omega arith)))
+    (λ b. rw (place_high at n a, place_high at k b) (split (cases_lt n k) (λ h. inr (omega arith)) (λ h. inl (high a b h)))))
   where
     low : k ≤ n → 512 * at + 4 * k + 4 ≤ 512 * at + 4 * n
     low h = split (cases_lt k n) (λ q. omega arith) (λ q. absurd (differ (omega arith)))
+
     high : 8192 ≤ n → 8192 ≤ k → k ≤ n → 512 * (at + 68) + 4 * (k - 8192) + 4 ≤ 512 * (at + 68) + 4 * (n - 8192)
     high a b h = split (cases_lt k n) (λ q. omega arith) (λ q. absurd (differ (omega arith)))
 

@@ -31,8 +31,20 @@ not_mapped base real source x e = right (is_modified real) _ x e
 writable_keeps : (source : Source) (memory : List ℕ) (s : Shadowed) → Keeps [] [] memory s → ((i : ℕ) → i < all_entries → is_valid (real_at memory s i) ≡ true → is_modified (real_at memory s i) ≡ true → is_read_from (mapped_frame s (real_at memory s i)) (Some source) ≡ false) → Keeps [] [] memory (record s { writable = with_flags false source s.writable })
 writable_keeps source memory s k free = let f = k.fits in record {
   fits = record {
-    few = f.few; small = f.small; partition = f.partition; room = f.room; apart = f.apart; told = f.told; contexts = f.contexts; slots = f.slots; first = f.first; system = f.system; whole = f.whole;
-    consulted = f.consulted; writable = flags_size false source s.writable ∙ f.writable; consults = f.consults;
+    few = f.few;
+    small = f.small;
+    partition = f.partition;
+    room = f.room;
+    apart = f.apart;
+    told = f.told;
+    contexts = f.contexts;
+    slots = f.slots;
+    first = f.first;
+    system = f.system;
+    whole = f.whole;
+    consulted = f.consulted;
+    writable = flags_size false source s.writable ∙ f.writable;
+    consults = f.consults;
   };
   entries = kept k.entries;
   guarded = k.guarded;

@@ -147,14 +147,14 @@ sharing memory s page f r low high =
 pub elsewhere : (memory : List ℕ) (s : Shadowed) (page : ℕ) → Fits memory s → IsCovered page ⊎ IsElsewhere memory s page
 elsewhere memory s page f =
     split (cases_eq (region_of page) 2)
-      (λ r. split (cases_lt (in_region page) 8192) (λ h. inl (inl (r, h))) (λ h. split (cases_lt (in_region page) 8704)
-        (λ k. inr (sharing memory s page f r h k))
-        (λ k. inr (failing memory s page (not_covered page (λ q. omega arith) (λ q. absurd (omega arith)) (λ q. absurd (omega arith))) (past_system memory s.at s.slot page r k)))))
-      (λ n2. split (cases_eq (region_of page) 0)
-        (λ r. split (cases_lt (in_region page) 8192) (λ h. inl (inr (inl (r, h)))) (λ h. inr (failing memory s page (not_covered page (λ q. absurd (omega arith)) (λ q. h) (λ q. absurd (omega arith))) (past_p0 memory s.at s.slot page r h))))
-        (λ n0. split (cases_eq (region_of page) 1)
-          (λ r. split (cases_lt (in_region page) 2088960) (λ h. inr (failing memory s page (not_covered page (λ q. absurd (omega arith)) (λ q. absurd (omega arith)) (λ q. h)) (before_p1 memory s.at s.slot page r h))) (λ h. inl (inr (inr (r, h)))))
-          (λ n1. inr (failing memory s page (not_covered page (λ q. absurd (n2 q)) (λ q. absurd (n0 q)) (λ q. absurd (n1 q))) (no_region memory s.at s.slot page (last n2 n0 n1))))))
+    (λ r. split (cases_lt (in_region page) 8192) (λ h. inl (inl (r, h))) (λ h. split (cases_lt (in_region page) 8704)
+    (λ k. inr (sharing memory s page f r h k))
+    (λ k. inr (failing memory s page (not_covered page (λ q. omega arith) (λ q. absurd (omega arith)) (λ q. absurd (omega arith))) (past_system memory s.at s.slot page r k)))))
+    (λ n2. split (cases_eq (region_of page) 0)
+    (λ r. split (cases_lt (in_region page) 8192) (λ h. inl (inr (inl (r, h)))) (λ h. inr (failing memory s page (not_covered page (λ q. absurd (omega arith)) (λ q. h) (λ q. absurd (omega arith))) (past_p0 memory s.at s.slot page r h))))
+    (λ n0. split (cases_eq (region_of page) 1)
+    (λ r. split (cases_lt (in_region page) 2088960) (λ h. inr (failing memory s page (not_covered page (λ q. absurd (omega arith)) (λ q. absurd (omega arith)) (λ q. h)) (before_p1 memory s.at s.slot page r h))) (λ h. inl (inr (inr (r, h)))))
+    (λ n1. inr (failing memory s page (not_covered page (λ q. absurd (n2 q)) (λ q. absurd (n0 q)) (λ q. absurd (n1 q))) (no_region memory s.at s.slot page (last n2 n0 n1))))))
   where
     last : region_of page ≢ 2 → region_of page ≢ 0 → region_of page ≢ 1 → region_of page ≡ 3
     last a b c = by (region_of page) (omega arith) a b c

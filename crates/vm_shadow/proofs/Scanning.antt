@@ -20,10 +20,10 @@ pub apart_by : (at n : ℕ) (before after : List ℕ) → length after ≡ lengt
 apart_by at n before after size room same = record {
   size = size;
   front = ext_get_or 0 (take at after) (take at before) (length-take-le at after (omega arith) ∙ sym (length-take-le at before (omega arith))) (λ i h.
-    let k : i < at = omega (arith, length-take-le at after (omega arith)) in
-    get_or-take at after i 0 k ∙ same i (inl k) ∙ sym (get_or-take at before i 0 k));
+      let k : i < at = omega (arith, length-take-le at after (omega arith)) in
+      get_or-take at after i 0 k ∙ same i (inl k) ∙ sym (get_or-take at before i 0 k));
   back = ext_get_or 0 (drop (at + n) after) (drop (at + n) before) (length-drop (at + n) after ∙ ap (λ m. m - (at + n)) size ∙ sym (length-drop (at + n) before)) (λ i h.
-    get_or-drop (at + n) after i 0 ∙ same (at + n + i) (inr (omega arith)) ∙ sym (get_or-drop (at + n) before i 0));
+      get_or-drop (at + n) after i 0 ∙ same (at + n + i) (inr (omega arith)) ∙ sym (get_or-drop (at + n) before i 0));
 }
 
 pub nothing_apart : (at n : ℕ) (memory : List ℕ) → IsApart at n memory memory
@@ -84,8 +84,8 @@ drops_past at first n which m m' reads reads' order no_ d = record {
   whole = d.whole;
   keeps = d.keeps;
   each = λ k. split (cases_eq k n)
-    (λ e. rw e (still at first n which m m' reads reads' d ∙ sym (ap (λ b. unless_dropped b (remembered reads n)) (ap (λ b. b && is_dropped which (remembered reads n)) (between_next first n order) ∙ subst (λ x. is_dropped which x ≡ false) (still at first n which m m' reads reads' d) no_))))
-    (λ differ. d.each k ∙ sym (ap (λ b. unless_dropped (b && is_dropped which (remembered reads k)) (remembered reads k)) (between_other first n k differ)));
+      (λ e. rw e (still at first n which m m' reads reads' d ∙ sym (ap (λ b. unless_dropped b (remembered reads n)) (ap (λ b. b && is_dropped which (remembered reads n)) (between_next first n order) ∙ subst (λ x. is_dropped which x ≡ false) (still at first n which m m' reads reads' d) no_))))
+      (λ differ. d.each k ∙ sym (ap (λ b. unless_dropped (b && is_dropped which (remembered reads k)) (remembered reads k)) (between_other first n k differ)));
 }
 
 pub drops_taken : (at first n place : ℕ) (which : Dropped) (m m' : Machine) (reads reads' : List (Option Source)) → first ≤ n → n < all_entries → length reads ≡ all_entries → 512 * (at + 580) ≤ length m'.memory → place ≡ entry_place at n → is_dropped which (remembered reads' n) ≡ true → Drops at first n which m reads m' reads' → Drops at first (n + 1) which m reads (with_long m' place empty_entry) (set reads' n None)
@@ -96,10 +96,10 @@ drops_taken at first n place which m m' reads reads' order h whole room is takes
       only = only_more at m m' (entry_place at n) empty_entry room l d.only;
       whole = length-set reads' n None ∙ d.whole;
       keeps = λ pending opened s e f k.
-        let s' : Shadowed = record s { reads = reads' } in
-        let done = dropped pending opened m'.memory _ s' n (d.keeps pending opened s e f k) h (subst (λ x. IsWritten m'.memory (with_long m' (entry_place at n) empty_entry).memory (entry_place x n) empty_entry) (sym e) w) in
-        done.keeps;
+          let s' : Shadowed = record s { reads = reads' } in
+          let done = dropped pending opened m'.memory _ s' n (d.keeps pending opened s e f k) h (subst (λ x. IsWritten m'.memory (with_long m' (entry_place at n) empty_entry).memory (entry_place x n) empty_entry) (sym e) w) in
+          done.keeps;
       each = λ k. split (cases_eq k n)
-        (λ e. rw e (get_or-set_same reads' n None None (omega (arith, d.whole)) ∙ sym (ap (λ b. unless_dropped b (remembered reads n)) (ap (λ b. b && is_dropped which (remembered reads n)) (between_next first n order) ∙ subst (λ x. is_dropped which x ≡ true) (still at first n which m m' reads reads' d) takes))))
-        (λ differ. get_or-set_other reads' n k None None differ ∙ d.each k ∙ sym (ap (λ b. unless_dropped (b && is_dropped which (remembered reads k)) (remembered reads k)) (between_other first n k differ)));
+          (λ e. rw e (get_or-set_same reads' n None None (omega (arith, d.whole)) ∙ sym (ap (λ b. unless_dropped b (remembered reads n)) (ap (λ b. b && is_dropped which (remembered reads n)) (between_next first n order) ∙ subst (λ x. is_dropped which x ≡ true) (still at first n which m m' reads reads' d) takes))))
+          (λ differ. get_or-set_other reads' n k None None differ ∙ d.each k ∙ sym (ap (λ b. unless_dropped (b && is_dropped which (remembered reads k)) (remembered reads k)) (between_other first n k differ)));
     })

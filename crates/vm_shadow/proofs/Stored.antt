@@ -30,9 +30,11 @@ part_past memory at size p room h = past (part memory at size) p (omega (arith, 
 
 -- the guest's memory differs in that frame alone
 own_differs : (memory after : List ℕ) (s : Shadowed) (frame : ℕ) → Fits memory s → IsFrameWritten (s.base + frame) memory after → DifferIn frame (own memory s) (own after s)
-own_differs memory after s frame f w = record { same = λ p differ. split (cases_lt p (512 * s.pages))
-    (λ h. part_byte after (512 * s.base) (512 * s.pages) p h ∙ w.other (512 * s.base + p) (beside p differ) ∙ sym (part_byte memory (512 * s.base) (512 * s.pages) p h))
-    (λ h. part_past after (512 * s.base) (512 * s.pages) p (omega (arith, f.partition, w.size)) h ∙ sym (part_past memory (512 * s.base) (512 * s.pages) p (omega (arith, f.partition)) h)) }
+own_differs memory after s frame f w = record {
+  same = λ p differ. split (cases_lt p (512 * s.pages))
+      (λ h. part_byte after (512 * s.base) (512 * s.pages) p h ∙ w.other (512 * s.base + p) (beside p differ) ∙ sym (part_byte memory (512 * s.base) (512 * s.pages) p h))
+      (λ h. part_past after (512 * s.base) (512 * s.pages) p (omega (arith, f.partition, w.size)) h ∙ sym (part_past memory (512 * s.base) (512 * s.pages) p (omega (arith, f.partition)) h));
+}
   where
     beside : (p : ℕ) → p / 512 ≢ frame → (512 * s.base + p < 512 * (s.base + frame)) ⊎ (512 * (s.base + frame) + 512 ≤ 512 * s.base + p)
     beside p n = split (cases_lt p (512 * frame)) (λ h. inl (omega arith)) (λ h. split (cases_lt p (512 * frame + 512)) (λ k. absurd (n (omega arith))) (λ k. inr (omega arith)))
@@ -45,9 +47,20 @@ table_long memory after s frame place f small w l = long_by memory after place (
 
 fits_stored : (memory after : List ℕ) (s : Shadowed) (frame : ℕ) → Fits memory s → frame < s.pages → IsFrameWritten (s.base + frame) memory after → Fits after s
 fits_stored memory after s frame f small w = record {
-  few = omega (arith, f.few, w.size); small = f.small; partition = omega (arith, f.partition, w.size); room = omega (arith, f.room, w.size); apart = f.apart; told = f.told; contexts = f.contexts; slots = f.slots; first = f.first;
+  few = omega (arith, f.few, w.size);
+  small = f.small;
+  partition = omega (arith, f.partition, w.size);
+  room = omega (arith, f.room, w.size);
+  apart = f.apart;
+  told = f.told;
+  contexts = f.contexts;
+  slots = f.slots;
+  first = f.first;
   system = λ j l. table_long memory after s frame (512 * s.at + 4 * (8192 + j)) f small w (record { front = omega arith; back = omega arith }) ∙ f.system j l;
-  whole = f.whole; consulted = f.consulted; writable = f.writable; consults = f.consults;
+  whole = f.whole;
+  consulted = f.consulted;
+  writable = f.writable;
+  consults = f.consults;
 }
 
 pub seen_same : (memory after : List ℕ) (s : Shadowed) (frame n : ℕ) (source : Source) → Fits memory s → IsFrameWritten (s.base + frame) memory after → is_read_from frame (Some source) ≡ false → IsRight (512 * s.pages) s.base (own memory s) (seen_at memory s n) source (real_at memory s n) → IsSame (own memory s) (own after s) (seen_at memory s n) (seen_at after s n)
@@ -73,7 +86,7 @@ stored pending opened memory after s frame k small w unread =
       fits = fits_stored memory after s frame f small w;
       entries = λ n h. rw (real n h) (kept_stored pending memory after s frame n (read_at s n) f w (unread n h) (k.entries n h));
       guarded = λ n i h c o v x.
-        subst (λ y. is_read_from (mapped_frame s y) (read_at s n) ≡ false) (sym (real i c)) (k.guarded n i h c o (subst (λ y. is_valid y ≡ true) (real i c) v) (subst (λ y. is_modified y ≡ true) (real i c) x));
+          subst (λ y. is_read_from (mapped_frame s y) (read_at s n) ≡ false) (sym (real i c)) (k.guarded n i h c o (subst (λ y. is_valid y ≡ true) (real i c) v) (subst (λ y. is_modified y ≡ true) (real i c) x));
       writes = λ i c v x. subst (λ y. is_flagged (mapped_frame s y) s.writable ≡ true) (sym (real i c)) (k.writes i c (subst (λ y. is_valid y ≡ true) (real i c) v) (subst (λ y. is_modified y ≡ true) (real i c) x));
     }
 
@@ -86,7 +99,8 @@ pub noted : (frame : ℕ) (pending opened : List ℕ) (memory : List ℕ) (s : S
 noted frame pending opened memory s k none = record {
   fits = k.fits;
   entries = λ n h. noted_entry (512 * s.pages) s.base frame (own memory s) pending (seen_at memory s n) (real_at memory s n) (read_at s n) (none n h) (k.entries n h);
-  guarded = k.guarded; writes = k.writes;
+  guarded = k.guarded;
+  writes = k.writes;
 }
 
 -- more may be pending
@@ -102,5 +116,6 @@ pub more_pending : (frame : ℕ) (pending opened : List ℕ) (memory : List ℕ)
 more_pending frame pending opened memory s k = record {
   fits = k.fits;
   entries = λ n h. pending_entry (512 * s.pages) s.base frame (own memory s) pending (seen_at memory s n) (real_at memory s n) (read_at s n) (k.entries n h);
-  guarded = k.guarded; writes = k.writes;
+  guarded = k.guarded;
+  writes = k.writes;
 }

@@ -26,19 +26,19 @@ part_set memory at size i v room h =
     let whole : length (part memory at size) ≡ size = part_length memory at size room in
     let now : length (part (set memory (at + i) v) at size) ≡ size = part_length (set memory (at + i) v) at size (omega (arith, length-set memory (at + i) v)) in
     ext_get_or 0 (part (set memory (at + i) v) at size) (set (part memory at size) i v) (now ∙ sym whole ∙ sym (length-set (part memory at size) i v)) (λ j b.
-      let k : j < size = omega arith in
-      part_byte (set memory (at + i) v) at size j k ∙ split (cases_eq j i)
-        (λ e. ap (λ x. get_or (set memory (at + i) v) (at + x) 0) e ∙ get_or-set_same memory (at + i) v 0 (omega arith) ∙ sym (get_or-set_same (part memory at size) i v 0 (omega arith)) ∙ ap (λ x. get_or (set (part memory at size) i v) x 0) (sym e))
-        (λ differ. get_or-set_other memory (at + i) (at + j) v 0 (λ e. differ (omega arith)) ∙ sym (part_byte memory at size j k) ∙ sym (get_or-set_other (part memory at size) i j v 0 differ)))
+    let k : j < size = omega arith in
+    part_byte (set memory (at + i) v) at size j k ∙ split (cases_eq j i)
+    (λ e. ap (λ x. get_or (set memory (at + i) v) (at + x) 0) e ∙ get_or-set_same memory (at + i) v 0 (omega arith) ∙ sym (get_or-set_same (part memory at size) i v 0 (omega arith)) ∙ ap (λ x. get_or (set (part memory at size) i v) x 0) (sym e))
+    (λ differ. get_or-set_other memory (at + i) (at + j) v 0 (λ e. differ (omega arith)) ∙ sym (part_byte memory at size j k) ∙ sym (get_or-set_other (part memory at size) i j v 0 differ)))
 
 -- a longword is four bytes
 over_byte : (memory : List ℕ) (at v k : ℕ) → at + 4 ≤ length memory → k < 4 → get_or (overwritten memory at (long_bytes v)) (at + k) 0 ≡ get_or (long_bytes v) k 0
 over_byte memory at v k room h =
     let front : length (take at memory) ≡ at = length-take-le at memory (omega arith) in
     ap (λ xs. get_or xs (at + k) 0) (append_assoc (take at memory) (long_bytes v) (drop (at + 4) memory))
-      ∙ get_or-append_right (take at memory) (long_bytes v ++ drop (at + 4) memory) at (at + k) 0 front (omega arith)
-      ∙ ap (λ n. get_or (long_bytes v ++ drop (at + 4) memory) n 0) (omega arith)
-      ∙ get_or_append_left (long_bytes v) (drop (at + 4) memory) 0 k h
+    ∙ get_or-append_right (take at memory) (long_bytes v ++ drop (at + 4) memory) at (at + k) 0 front (omega arith)
+    ∙ ap (λ n. get_or (long_bytes v ++ drop (at + 4) memory) n 0) (omega arith)
+    ∙ get_or_append_left (long_bytes v) (drop (at + 4) memory) 0 k h
 
 pub four_sets : List ℕ → (at v : ℕ) → List ℕ
 four_sets memory at v = set (set (set (set memory at (v % 256)) (at + 1) (v / 256 % 256)) (at + 2) (v / 65536 % 256)) (at + 3) (v / 16777216)
@@ -60,28 +60,30 @@ over_sets memory at v room =
     let e0 : get_or (set c (at + 3) (v / 16777216)) at 0 ≡ v % 256 = get_or-set_other c (at + 3) at _ 0 (λ e. omega arith) ∙ get_or-set_other b (at + 2) at _ 0 (λ e. omega arith) ∙ get_or-set_other a (at + 1) at _ 0 (λ e. omega arith) ∙ get_or-set_same memory at (v % 256) 0 (omega arith) in
     let other : (p : ℕ) → (p < at) ⊎ (at + 4 ≤ p) → get_or (set c (at + 3) (v / 16777216)) p 0 ≡ get_or memory p 0 = λ p h. get_or-set_other c (at + 3) p _ 0 (λ e. apart p 3 h (omega arith) e) ∙ get_or-set_other b (at + 2) p _ 0 (λ e. apart p 2 h (omega arith) e) ∙ get_or-set_other a (at + 1) p _ 0 (λ e. apart p 1 h (omega arith) e) ∙ get_or-set_other memory at p _ 0 (λ e. apart p 0 h (omega arith) (omega arith)) in
     ext_get_or 0 _ _ (w.size ∙ sym (ld ∙ lc ∙ lb ∙ la)) (λ i h. split (cases_lt i at)
-      (λ low. w.other i (inl low) ∙ sym (other i (inl low)))
-      (λ from. split (cases_lt i (at + 4))
-        (λ within. here i from within e0 e1 e2 e3)
-        (λ high. w.other i (inr high) ∙ sym (other i (inr high)))))
+    (λ low. w.other i (inl low) ∙ sym (other i (inl low)))
+    (λ from. split (cases_lt i (at + 4))
+    (λ within. here i from within e0 e1 e2 e3)
+    (λ high. w.other i (inr high) ∙ sym (other i (inr high)))))
   where
     apart : (p k : ℕ) → (p < at) ⊎ (at + 4 ≤ p) → k < 4 → p ≡ at + k → ⊥
     apart p k (inl h) l e = omega arith
     apart p k (inr h) l e = omega arith
+
     four : (k : ℕ) → k < 4 → (k ≡ 0) ⊎ ((k ≡ 1) ⊎ ((k ≡ 2) ⊎ (k ≡ 3)))
     four zero h = inl refl
     four (suc zero) h = inr (inl refl)
     four (suc (suc zero)) h = inr (inr (inl refl))
     four (suc (suc (suc zero))) h = inr (inr (inr refl))
     four (suc (suc (suc (suc k)))) h = absurd (omega arith)
+
     here : (i : ℕ) → at ≤ i → i < at + 4 → get_or (four_sets memory at v) at 0 ≡ v % 256 → get_or (four_sets memory at v) (at + 1) 0 ≡ v / 256 % 256 → get_or (four_sets memory at v) (at + 2) 0 ≡ v / 65536 % 256 → get_or (four_sets memory at v) (at + 3) 0 ≡ v / 16777216 → get_or (overwritten memory at (long_bytes v)) i 0 ≡ get_or (four_sets memory at v) i 0
     here i from within e0 e1 e2 e3 = split (four (i - at) (omega arith))
-      (λ k. let e : i ≡ at = omega arith in subst (λ x. get_or (overwritten memory at (long_bytes v)) x 0 ≡ get_or (four_sets memory at v) x 0) (sym e) (ap (λ x. get_or (overwritten memory at (long_bytes v)) x 0) (omega arith) ∙ over_byte memory at v 0 room (omega arith) ∙ sym e0))
-      (λ r. split r
+        (λ k. let e : i ≡ at = omega arith in subst (λ x. get_or (overwritten memory at (long_bytes v)) x 0 ≡ get_or (four_sets memory at v) x 0) (sym e) (ap (λ x. get_or (overwritten memory at (long_bytes v)) x 0) (omega arith) ∙ over_byte memory at v 0 room (omega arith) ∙ sym e0))
+        (λ r. split r
         (λ k. let e : i ≡ at + 1 = omega arith in subst (λ x. get_or (overwritten memory at (long_bytes v)) x 0 ≡ get_or (four_sets memory at v) x 0) (sym e) (over_byte memory at v 1 room (omega arith) ∙ sym e1))
         (λ r. split r
-          (λ k. let e : i ≡ at + 2 = omega arith in subst (λ x. get_or (overwritten memory at (long_bytes v)) x 0 ≡ get_or (four_sets memory at v) x 0) (sym e) (over_byte memory at v 2 room (omega arith) ∙ sym e2))
-          (λ k. let e : i ≡ at + 3 = omega arith in subst (λ x. get_or (overwritten memory at (long_bytes v)) x 0 ≡ get_or (four_sets memory at v) x 0) (sym e) (over_byte memory at v 3 room (omega arith) ∙ sym e3))))
+        (λ k. let e : i ≡ at + 2 = omega arith in subst (λ x. get_or (overwritten memory at (long_bytes v)) x 0 ≡ get_or (four_sets memory at v) x 0) (sym e) (over_byte memory at v 2 room (omega arith) ∙ sym e2))
+        (λ k. let e : i ≡ at + 3 = omega arith in subst (λ x. get_or (overwritten memory at (long_bytes v)) x 0 ≡ get_or (four_sets memory at v) x 0) (sym e) (over_byte memory at v 3 room (omega arith) ∙ sym e3))))
 
 -- four bytes of a part
 pub part_sets : (memory : List ℕ) (at size pa v : ℕ) → at + size ≤ length memory → pa + 4 ≤ size → part (four_sets memory (at + pa) v) at size ≡ four_sets (part memory at size) pa v
@@ -137,8 +139,8 @@ long_from b0 b1 b2 b3 = grind arith
 set_small : (bs : List ℕ) (k byte : ℕ) → byte < 256 → ((i : ℕ) → get_or bs i 0 < 256) → (i : ℕ) → get_or (set bs k byte) i 0 < 256
 set_small bs k byte h small i = split (cases_eq i k)
     (λ e. split (cases_lt k (length bs))
-      (λ l. subst (λ x. x < 256) (sym (ap (λ x. get_or (set bs k byte) x 0) e ∙ get_or-set_same bs k byte 0 l)) h)
-      (λ l. subst (λ x. get_or x i 0 < 256) (sym (set_past bs k byte l)) (small i)))
+    (λ l. subst (λ x. x < 256) (sym (ap (λ x. get_or (set bs k byte) x 0) e ∙ get_or-set_same bs k byte 0 l)) h)
+    (λ l. subst (λ x. get_or x i 0 < 256) (sym (set_past bs k byte l)) (small i)))
     (λ n. subst (λ x. x < 256) (sym (get_or-set_other bs k i byte 0 n)) (small i))
 
 low_first : (n : ℕ) → n < 2 ^ 32 → long_bytes n ≡ to_le_bytes w32 n
@@ -154,16 +156,16 @@ byte_written memory at byte long n bs room b small bytes is n_is bs_is =
     let new : long_bytes n ≡ set four k byte = low_first n small ∙ le_bytes_4 (set four k byte) n (length-set four k byte) (set_small four k byte b (four_small memory q bytes)) (n_is ∙ ap (from_le_bytes w32) bs_four) in
     let w = written memory q n room in
     ext_get_or 0 (overwritten memory q (long_bytes n)) (set memory at byte) (w.size ∙ sym (length-set memory at byte)) (λ i h. split (cases_lt i q)
-      (λ low. w.other i (inl low) ∙ sym (get_or-set_other memory at i byte 0 (λ e. omega arith)))
-      (λ from. split (cases_lt i (q + 4))
-        (λ within.
-          let j = i - q in
-          let e : q + j ≡ i = omega arith in
-          let there : get_or (overwritten memory q (long_bytes n)) i 0 ≡ get_or (set four k byte) j 0 = ap (λ x. get_or (overwritten memory q (long_bytes n)) x 0) (sym e) ∙ over_byte memory q n j room (omega arith) ∙ ap (λ x. get_or x j 0) new in
-          there ∙ split (cases_eq i at)
-            (λ same. let jk : j ≡ k = omega arith in ap (λ x. get_or (set four k byte) x 0) jk ∙ get_or-set_same four k byte 0 (omega arith) ∙ sym (ap (λ x. get_or (set memory at byte) x 0) same ∙ get_or-set_same memory at byte 0 (omega arith)))
-            (λ differ. get_or-set_other four k j byte 0 (λ same. differ (omega arith)) ∙ four_at memory q j (omega arith) ∙ ap (λ x. get_or memory x 0) e ∙ sym (get_or-set_other memory at i byte 0 differ)))
-        (λ high. w.other i (inr high) ∙ sym (get_or-set_other memory at i byte 0 (λ e. omega arith)))))
+    (λ low. w.other i (inl low) ∙ sym (get_or-set_other memory at i byte 0 (λ e. omega arith)))
+    (λ from. split (cases_lt i (q + 4))
+    (λ within.
+    let j = i - q in
+    let e : q + j ≡ i = omega arith in
+    let there : get_or (overwritten memory q (long_bytes n)) i 0 ≡ get_or (set four k byte) j 0 = ap (λ x. get_or (overwritten memory q (long_bytes n)) x 0) (sym e) ∙ over_byte memory q n j room (omega arith) ∙ ap (λ x. get_or x j 0) new in
+    there ∙ split (cases_eq i at)
+    (λ same. let jk : j ≡ k = omega arith in ap (λ x. get_or (set four k byte) x 0) jk ∙ get_or-set_same four k byte 0 (omega arith) ∙ sym (ap (λ x. get_or (set memory at byte) x 0) same ∙ get_or-set_same memory at byte 0 (omega arith)))
+    (λ differ. get_or-set_other four k j byte 0 (λ same. differ (omega arith)) ∙ four_at memory q j (omega arith) ∙ ap (λ x. get_or memory x 0) e ∙ sym (get_or-set_other memory at i byte 0 differ)))
+    (λ high. w.other i (inr high) ∙ sym (get_or-set_other memory at i byte 0 (λ e. omega arith)))))
 
 -- The kernel's write, behind the note of its frame.
 
@@ -187,7 +189,7 @@ stores pa change m m1 s s1 after f inside n w is =
     let size : length m1.memory ≡ length m.memory = n.only.tables.size in
     record {
       keeps = λ pending opened k.
-        stored pending opened m1.memory after s1 frame (n.keeps pending opened (more_pending frame pending opened m.memory s k)) (subst (λ x. frame < x) (sym pages) (omega arith)) (subst (λ b. IsFrameWritten (b + frame) m1.memory after) (sym base) w)
+          stored pending opened m1.memory after s1 frame (n.keeps pending opened (more_pending frame pending opened m.memory s k)) (subst (λ x. frame < x) (sym pages) (omega arith)) (subst (λ b. IsFrameWritten (b + frame) m1.memory after) (sym base) w)
           (λ i h p. subst (λ x. is_read_from frame x ≡ false) (sym (n.drops.each i)) (gone_from frame (read_at s i)));
       own = own_rest after s s1 rest ∙ is ∙ ap change kept_own;
       drops = n.drops;
@@ -227,11 +229,11 @@ stores_long pa long m m1 m2 s s1 inside f aligned within small n view write =
     let base : inside.base ≡ s.base = ap (λ (x : Shadowed). x.base) (view ∙ n.drops.rest) in
     let room : 512 * s.base + 512 * s.pages ≤ length m1.memory = omega (arith, f.partition, n.only.tables.size) in
     subst (λ x. Stores pa (long_stored pa long (own m.memory s)) m s x s1) (sym (write ∙ ap (λ b. with_long m1 (512 * b + pa) long) base))
-      (stores pa (long_stored pa long) m m1 s s1 (overwritten m1.memory (512 * s.base + pa) (long_bytes long)) f (omega arith) n (long_in_frame m1.memory s.base pa long aligned (omega arith)) (long_of_own m1.memory s pa long room f.small within small))
+    (stores pa (long_stored pa long) m m1 s s1 (overwritten m1.memory (512 * s.base + pa) (long_bytes long)) f (omega arith) n (long_in_frame m1.memory s.base pa long aligned (omega arith)) (long_of_own m1.memory s pa long room f.small within small))
 
 pub stores_byte : (pa byte : ℕ) (m m1 m2 : Machine) (s s1 inside : Shadowed) → Fits m.memory s → pa < 512 * s.pages → Notes (pa / 512) m s m1 s1 → inside ≡ s1 → m2 ≡ record m1 { memory = set m1.memory (512 * inside.base + pa) byte } → Stores pa (set (own m.memory s) pa byte) m s m2 s1
 stores_byte pa byte m m1 m2 s s1 inside f within n view write =
     let base : inside.base ≡ s.base = ap (λ (x : Shadowed). x.base) (view ∙ n.drops.rest) in
     let room : 512 * s.base + 512 * s.pages ≤ length m1.memory = omega (arith, f.partition, n.only.tables.size) in
     subst (λ x. Stores pa (set (own m.memory s) pa byte) m s x s1) (sym (write ∙ ap (λ b. record m1 { memory = set m1.memory (512 * b + pa) byte }) base))
-      (stores pa (λ x. set x pa byte) m m1 s s1 (set m1.memory (512 * s.base + pa) byte) f within n (byte_in_frame m1.memory s.base pa byte) (byte_of_own m1.memory s pa byte room within))
+    (stores pa (λ x. set x pa byte) m m1 s s1 (set m1.memory (512 * s.base + pa) byte) f within n (byte_in_frame m1.memory s.base pa byte) (byte_of_own m1.memory s pa byte room within))

@@ -51,8 +51,8 @@ pub seen_system : (memory : List ℕ) (s : Shadowed) (told : Tables) (slot : ℕ
 unfolding seen_at
 seen_system memory s told slot held n h a b c =
     ap (look_under (512 * s.pages) (own memory s) (entry_page n)) (tables_low (with_told s told slot held) n h)
-      ∙ sym (system_alike (512 * s.pages) (own memory s) s.told told (entry_page n) (page_system n h) a b c)
-      ∙ sym (ap (look_under (512 * s.pages) (own memory s) (entry_page n)) (tables_low s n h))
+    ∙ sym (system_alike (512 * s.pages) (own memory s) s.told told (entry_page n) (page_system n h) a b c)
+    ∙ sym (ap (look_under (512 * s.pages) (own memory s) (entry_page n)) (tables_low s n h))
 
 pub seen_process : (memory : List ℕ) (s : Shadowed) (told : Tables) (slot : ℕ) (held : Held) (n : ℕ) → 8192 ≤ n → s.told.sbr ≡ told.sbr → s.told.slr ≡ told.slr → context_in (entry_slot n) held ≡ context_in (entry_slot n) s.held → seen_at memory (with_told s told slot held) n ≡ seen_at memory s n
 unfolding seen_at
@@ -74,8 +74,20 @@ kept_as size base memory seen seen' real (Some source) e k = rw (e refl) k
 pub switched : (memory : List ℕ) (s : Shadowed) (told : Tables) (slot : ℕ) (held : Held) → Keeps [] [] memory s → CanSwitch memory s told slot held → Keeps [] [] memory (with_told s told slot held)
 switched memory s told slot held k c = let f = k.fits in record {
   fits = record {
-    few = f.few; small = f.small; partition = f.partition; room = f.room; apart = f.apart; told = c.told; contexts = c.contexts; slots = c.slots; first = c.first; system = f.system; whole = f.whole;
-    consulted = f.consulted; writable = f.writable; consults = f.consults;
+    few = f.few;
+    small = f.small;
+    partition = f.partition;
+    room = f.room;
+    apart = f.apart;
+    told = c.told;
+    contexts = c.contexts;
+    slots = c.slots;
+    first = c.first;
+    system = f.system;
+    whole = f.whole;
+    consulted = f.consulted;
+    writable = f.writable;
+    consults = f.consults;
   };
   entries = λ n h. kept_as (512 * s.pages) s.base (own memory s) (seen_at memory s n) (seen_at memory (with_told s told slot held) n) (real_at memory s n) (read_at s n) (c.same n h) (k.entries n h);
   guarded = k.guarded;
@@ -111,16 +123,18 @@ in_slot : (slot n : ℕ) → is_between (8192 + 16384 * slot) (8192 + 16384 * sl
 in_slot slot n = split (cases_lt n (8192 + 16384 * slot))
     (λ below. and_left _ _ (lt-leb (8192 + 16384 * slot) n below) ∙ sym (low below))
     (λ from. split (cases_lt n (8192 + 16384 * slot + 16384))
-      (λ within. rw (le-leb (8192 + 16384 * slot) n from, lt-ltb n (8192 + 16384 * slot + 16384) within) (sym (here from within)))
-      (λ behind. and_right _ _ (le-ltb n (8192 + 16384 * slot + 16384) behind) ∙ sym (high behind)))
+    (λ within. rw (le-leb (8192 + 16384 * slot) n from, lt-ltb n (8192 + 16384 * slot + 16384) within) (sym (here from within)))
+    (λ behind. and_right _ _ (le-ltb n (8192 + 16384 * slot + 16384) behind) ∙ sym (high behind)))
   where
     low : n < 8192 + 16384 * slot → (nat_le 8192 n && (entry_slot n == slot)) ≡ false
     low h = split (cases_lt n 8192) (λ k. and_left _ _ (lt-leb 8192 n k)) (λ k. and_right _ _ (ne_eqb (entry_slot n) slot (λ e. absurd (apart k e))))
       where
         apart : 8192 ≤ n → entry_slot n ≡ slot → ⊥
         apart k e = omega arith
+
     here : 8192 + 16384 * slot ≤ n → n < 8192 + 16384 * slot + 16384 → (nat_le 8192 n && (entry_slot n == slot)) ≡ true
     here h k = rw (le-leb 8192 n (omega arith), eq-eqb (entry_slot n) slot (omega arith)) refl
+
     high : 8192 + 16384 * slot + 16384 ≤ n → (nat_le 8192 n && (entry_slot n == slot)) ≡ false
     high h = and_right _ _ (ne_eqb (entry_slot n) slot (λ e. apart e))
       where
@@ -189,9 +203,9 @@ module _ (g : GuestState) (m m' : Machine) (s : Shadowed) (held' : Held) (slot :
 
   contexts_stay : All (λ h. CanStand (in_context (tables_of g) h.0)) held'
   contexts_stay = subst (All (λ h. CanStand (in_context (tables_of g) h.0))) (sym t.front)
-    (All-cons (λ h. CanStand (in_context (tables_of g) h.0)) (context_of (tables_of g), slot) (beside (context_of (tables_of g)) (staying remapped s.held)) tables
+      (All-cons (λ h. CanStand (in_context (tables_of g) h.0)) (context_of (tables_of g), slot) (beside (context_of (tables_of g)) (staying remapped s.held)) tables
       (All-take (λ h. CanStand (in_context (tables_of g) h.0)) 3 (without (context_of (tables_of g)) (staying remapped s.held))
-        (All-filter (λ h. not (is_same (context_of (tables_of g)) h.0)) (λ h. CanStand (in_context (tables_of g) h.0)) (staying remapped s.held) (all_staying remapped s.told (tables_of g) s.held tables k.fits.contexts))))
+      (All-filter (λ h. not (is_same (context_of (tables_of g)) h.0)) (λ h. CanStand (in_context (tables_of g) h.0)) (staying remapped s.held) (all_staying remapped s.told (tables_of g) s.held tables k.fits.contexts))))
 
   first_is : IsFirst (context_of (tables_of g)) slot held'
   first_is = subst (IsFirst (context_of (tables_of g)) slot) (sym t.front) (refl, refl)
@@ -207,23 +221,25 @@ same_seen false evicted g m m' s held' slot reads' k tables is t full d n h fill
     let left : Shadowed = record s { reads = reads' } in
     let p = unmapped_parts s.told (tables_of g) (sym is) in
     split (cases_lt n 8192)
-      (λ low. seen_system m'.memory left (tables_of g) slot held' n low p.2 p.0 p.1)
-      (λ high.
-        let kept = d.keeps [] [] s refl refl k in
-        let source = some_source (goes false evicted slot n) (read_at s n) (some_goes g m m' s held' slot evicted false reads' k tables t full d n filled) in
-        let there = context_there m'.memory left n source.0 high (right_from (512 * s.pages) s.base (own m'.memory s) (seen_at m'.memory left n) (real_at m'.memory s n) (remembered reads' n) source.0 (read_is n source.0 source.1 filled) (kept.entries n h)) in
-        seen_process m'.memory left (tables_of g) slot held' n high p.0 p.1
-          (still_has (context_of (tables_of g)) there.0 s.held held' slot (entry_slot n) t (λ four same. gone_some ⊥ (goes false evicted slot n) (read_at s n) (taken four same high) (some_goes g m m' s held' slot evicted false reads' k tables t full d n filled)) there.1 ∙ sym there.1))
+    (λ low. seen_system m'.memory left (tables_of g) slot held' n low p.2 p.0 p.1)
+    (λ high.
+    let kept = d.keeps [] [] s refl refl k in
+    let source = some_source (goes false evicted slot n) (read_at s n) (some_goes g m m' s held' slot evicted false reads' k tables t full d n filled) in
+    let there = context_there m'.memory left n source.0 high (right_from (512 * s.pages) s.base (own m'.memory s) (seen_at m'.memory left n) (real_at m'.memory s n) (remembered reads' n) source.0 (read_is n source.0 source.1 filled) (kept.entries n h)) in
+    seen_process m'.memory left (tables_of g) slot held' n high p.0 p.1
+    (still_has (context_of (tables_of g)) there.0 s.held held' slot (entry_slot n) t (λ four same. gone_some ⊥ (goes false evicted slot n) (read_at s n) (taken four same high) (some_goes g m m' s held' slot evicted false reads' k tables t full d n filled)) there.1 ∙ sym there.1))
   where
     right_from : (size base : ℕ) (memory : List ℕ) (seen : Lookup) (real : ℕ) (x : Option Source) (source : Source) → x ≡ Some source → IsKept size base memory [] seen real x → IsSource seen source
     right_from size base memory seen real None source e i = cc
     right_from size base memory seen real (Some other) source e i = subst (IsSource seen) (same_Some other source e) (i.1 refl).from
+
     read_is : (n : ℕ) (source : Source) → read_at s n ≡ Some source → is_some (remembered reads' n) ≡ true → remembered reads' n ≡ Some source
     read_is n source e f = by (goes false evicted slot n) (each_goes g m m' s held' slot evicted false reads' k tables t full d n) f
       where
         by : (b : Bool) → remembered reads' n ≡ unless_dropped b (read_at s n) → is_some (remembered reads' n) ≡ true → remembered reads' n ≡ Some source
         by true u f = absurd (false≢true (sym (ap is_some u) ∙ f))
         by false u f = u ∙ e
+
     taken : length (without (context_of (tables_of g)) s.held) ≡ 4 → entry_slot n ≡ slot → 8192 ≤ n → goes false evicted slot n ≡ true
     taken four same high = ap (λ b. goes false b slot n) (full ∙ eq-eqb (length (without (context_of (tables_of g)) s.held)) 4 four) ∙ rw (le-leb 8192 n high, eq-eqb (entry_slot n) slot same) refl
 

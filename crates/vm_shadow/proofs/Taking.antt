@@ -22,4 +22,10 @@ slot_first c slot rest held e a = All-head (λ h. h.1 < 4) (c, slot) rest (subst
 
 pub takes : (c : Context) (held mid held' : Held) (remapped evicted : Bool) (slot : ℕ) → AreSlots held → mid ≡ staying remapped held → held' ≡ (c, slot) ∷ beside c mid → IfSome (slot_of c mid) (λ own. slot ≡ own) → (IsTrue evicted ↔ (length (without c mid) ≡ 4)) → OnTrue evicted (LastGoes mid (beside c mid) slot) → AreSlots held' → contexts_of held' ≡ brought_forward c (contexts_of mid) → Takes c (staying remapped held) held' slot
 takes c held mid held' remapped evicted slot a is front kept when gone facts contexts = subst (λ x. Takes c x held' slot) is (record {
-  front = front; kept = kept; gone = λ four. on_true evicted _ gone (when.1 four); before = subst AreSlots (sym is) (are_staying remapped held a); after = facts; contexts = contexts })
+  front = front;
+  kept = kept;
+  gone = λ four. on_true evicted _ gone (when.1 four);
+  before = subst AreSlots (sym is) (are_staying remapped held a);
+  after = facts;
+  contexts = contexts;
+})

@@ -31,8 +31,8 @@ written_as memory at v room =
     record {
       size = size;
       other = λ p h. split h
-        (λ before. get_or_append_left (take at memory) rest 0 p (omega (arith, front)) ∙ get_or-take at memory p 0 before)
-        (λ behind. get_or-append_right (take at memory) rest at p 0 front (omega arith) ∙ get_or-append_right (long_bytes v) (drop (at + 4) memory) 4 (p - at) 0 refl (omega arith) ∙ get_or-drop (at + 4) memory (p - at - 4) 0 ∙ ap (λ n. get_or memory n 0) (omega arith));
+          (λ before. get_or_append_left (take at memory) rest 0 p (omega (arith, front)) ∙ get_or-take at memory p 0 before)
+          (λ behind. get_or-append_right (take at memory) rest at p 0 front (omega arith) ∙ get_or-append_right (long_bytes v) (drop (at + 4) memory) 4 (p - at) 0 refl (omega arith) ∙ get_or-drop (at + 4) memory (p - at - 4) 0 ∙ ap (λ n. get_or memory n 0) (omega arith));
       is = (λ i. e0 i + 256 * e1 i + 65536 * e2 i + 16777216 * e3 i) ∙ long_back v;
     }
 
@@ -57,5 +57,5 @@ part_same memory after at size whole room same =
     let before : length (part memory at size) ≡ size = part_length memory at size room in
     let now : length (part after at size) ≡ size = part_length after at size (omega arith) in
     ext_get_or 0 (part after at size) (part memory at size) (now ∙ sym before) (λ i h.
-      let k : i < size = omega arith in
-      part_byte after at size i k ∙ same (at + i) (omega arith) (omega arith) ∙ sym (part_byte memory at size i k))
+    let k : i < size = omega arith in
+    part_byte after at size i k ∙ same (at + i) (omega arith) (omega arith) ∙ sym (part_byte memory at size i k))

@@ -18,6 +18,7 @@ use vm_walk::look_up;
 
 /// The pages of a region; and the first page of P1 for which there are real entries.
 const REGION: u32 = 0x20_0000;
+
 const P1_FIRST: u32 = 2_088_960;
 
 /// The number of the real entry of a page, in a slot.

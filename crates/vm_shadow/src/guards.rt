@@ -36,7 +36,11 @@ impl Shadow {
         let entry = Pte(machine.read_long(place));
         if !entry.modified() {
             machine.write_long(place, entry.0 + MODIFY);
-            set_flag(&mut self.writable, entry.frame().saturating_sub(self.base), true);
+            set_flag(
+                &mut self.writable,
+                entry.frame().saturating_sub(self.base),
+                true,
+            );
         }
     }
 

@@ -14,8 +14,8 @@ mod stores;
 mod switches;
 
 pub use laws::{
-    filled_entries_are_found, misses_are_of_empty_entries, modify_bits_are_the_guests, probes_agree, probes_find_filled_entries,
-    the_machine_hears_the_guest,
+    filled_entries_are_found, misses_are_of_empty_entries, modify_bits_are_the_guests,
+    probes_agree, probes_find_filled_entries, the_machine_hears_the_guest,
 };
 pub use shadow::Shadow;
 pub use source::Source;

@@ -19,6 +19,7 @@ const KERNEL_ONLY: u32 = 0x9000_0000;
 
 /// The first base of a real P0 table, and the bytes from one slot's to the next.
 const PROCESS_TABLES: u32 = 0x8040_0000;
+
 const SLOT_BYTES: u32 = 0x1_0000;
 
 /// Maps the process tables, by the last system entries.
@@ -49,7 +50,12 @@ fn clear_entries<H: Hardware>(machine: &mut H, at: u32)
 fn real_psl(psl: Psl) -> Psl
     ensures { result.0 ≡ real_psl psl.0 }
 {
-    Psl(0x2000_0000 + u32::from(ring(psl.current())) * 0x100_0000 + u32::from(ring(psl.previous())) * 0x40_0000 + psl.0 % 256)
+    Psl(
+        0x2000_0000
+            + u32::from(ring(psl.current())) * 0x100_0000
+            + u32::from(ring(psl.previous())) * 0x40_0000
+            + psl.0 % 256,
+    )
 }
 
 ghost use Rattle.vax_arch.specs.Fields.{mode_number};
@@ -70,7 +76,12 @@ fn ring(m: Mode) -> u8
 impl Shadow {
     /// Shadow page tables for a guest, in 580 pages of the machine from `tables` on; no entry is filled. All memory is taken
     /// here, before the machine is written.
-    pub fn new<H: Hardware>(alloc: Global, machine: &mut H, g: &GuestState, tables: u32) -> Result<Shadow, NoMemory>
+    pub fn new<H: Hardware>(
+        alloc: Global,
+        machine: &mut H,
+        g: &GuestState,
+        tables: u32,
+    ) -> Result<Shadow, NoMemory>
         requires partition { 512 * (g.now.base + g.now.pages) ≤ length (H.machine machine.old).memory }
         requires room { 512 * (tables + 580) ≤ length (H.machine machine.old).memory }
         requires apart { (g.now.base + g.now.pages ≤ tables) ⊎ (tables + 580 ≤ g.now.base) }

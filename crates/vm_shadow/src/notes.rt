@@ -15,7 +15,14 @@ impl Shadow {
         ensures { Notes frame (H.machine machine.old) self.old (H.machine machine.new) self.new }
     {
         if is_flagged(&self.consulted, frame) {
-            drop_entries(&mut self.reads, machine, self.at, 0, ALL_ENTRIES, Dropped::ReadFrom(frame));
+            drop_entries(
+                &mut self.reads,
+                machine,
+                self.at,
+                0,
+                ALL_ENTRIES,
+                Dropped::ReadFrom(frame),
+            );
             set_flag(&mut self.consulted, frame, false);
         }
     }

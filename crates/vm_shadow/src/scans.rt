@@ -65,7 +65,14 @@ impl Dropped {
 
 /// Drops entries, from one number up to another.
 #[tactic(auto, using(crate::proofs::Scanning::drops_none))]
-pub fn drop_entries<H: Hardware>(reads: &mut Vec<Option<Source>>, machine: &mut H, at: u32, first: u32, end: u32, which: Dropped)
+pub fn drop_entries<H: Hardware>(
+    reads: &mut Vec<Option<Source>>,
+    machine: &mut H,
+    at: u32,
+    first: u32,
+    end: u32,
+    which: Dropped,
+)
     requires whole { length reads.old.items ≡ 73728 }
     requires order { first ≤ end }
     requires few { end ≤ 73728 }
@@ -85,7 +92,8 @@ pub fn drop_entries<H: Hardware>(reads: &mut Vec<Option<Source>>, machine: &mut 
 fn maps_open(entry: u32, base: u32, source: Source) -> bool
     ensures { result ≡ maps_open base source entry }
 {
-    entry / MODIFY % 2 == 1 && is_read_from(Some(source), (entry % 0x0020_0000).saturating_sub(base))
+    entry / MODIFY % 2 == 1
+        && is_read_from(Some(source), (entry % 0x0020_0000).saturating_sub(base))
 }
 
 /// Clears the modify bit of the real entry at a place, if it maps a frame that a source has.
@@ -101,7 +109,13 @@ fn close_entry<H: Hardware>(machine: &mut H, place: u32, base: u32, source: Sour
 
 /// Clears the modify bit of each real entry that maps a frame that a source has.
 #[tactic(auto, using(crate::proofs::Closing::closes_none))]
-pub fn close_entries<H: Hardware>(reads: &[Option<Source>], machine: &mut H, at: u32, base: u32, source: Source)
+pub fn close_entries<H: Hardware>(
+    reads: &[Option<Source>],
+    machine: &mut H,
+    at: u32,
+    base: u32,
+    source: Source,
+)
     requires whole { length reads.now ≡ 73728 }
     requires room { 512 * (at + 580) ≤ length (H.machine machine.old).memory }
     ensures { Closes at base 73728 source (H.machine machine.old) reads.now (H.machine machine.new) }

@@ -13,6 +13,7 @@ use vm_state::GuestState;
 
 /// The first process entry, and the process entries of a slot.
 const FIRST_PROCESS: u32 = 8192;
+
 const SLOT: u32 = 16_384;
 
 /// What a guest's process pages are translated under.

@@ -2,8 +2,8 @@ ghost use Rattle.std.specs.Prelude.{◌≡◌, ◌<◌};
 ghost use Rattle.vm_state.specs.Registers.{with_pointer};
 ghost use Rattle.vm_state.specs.State.{HasPlace, pointer_of, stack_in, state_of};
 
-use vax_arch::Psl;
 use crate::GuestState;
+use vax_arch::Psl;
 
 /// The number of the stack in use: its mode's, or 4 for the interrupt stack.
 pub fn stack_in(psl: Psl) -> usize

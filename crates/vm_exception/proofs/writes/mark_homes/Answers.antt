@@ -37,8 +37,8 @@ loop-home-preserved g c =
     let n = c.loop-home.home-index in
     let h : Home = slice_index_or c.args.homes.now n (record { place = 0; entry = None; value = 0 }) in
     elim c.match-home.branch [
-      in-Some w ↦ rw (w.machine-is, w.s-is) (marking_next c.args.homes.now n c.args.base (g.H.Hardware.machine c.args.machine.now) (g.H.Hardware.machine c.loop-home.machine) c.args.s.now c.loop-home.s h c.loop-home-test.true (get_or_default c.args.homes.now n _ h c.loop-home-test.true) c.requires.keeps c.requires.base c.requires.homes c.loop-home.invariant w.in-Some.place (g.H.Hardware.machine w.mark_entry.new.machine) w.mark_entry.new.s w.in-Some.is w.mark_entry.ensures)
-    | in_default w ↦ rw (w.machine-is, w.s-is) (marking_skip c.args.homes.now n c.args.base (g.H.Hardware.machine c.args.machine.now) (g.H.Hardware.machine c.loop-home.machine) c.args.s.now c.loop-home.s h c.loop-home-test.true (get_or_default c.args.homes.now n _ h c.loop-home-test.true) c.requires.keeps c.requires.base c.requires.homes c.loop-home.invariant (search rules))
+      | in-Some w ↦ rw (w.machine-is, w.s-is) (marking_next c.args.homes.now n c.args.base (g.H.Hardware.machine c.args.machine.now) (g.H.Hardware.machine c.loop-home.machine) c.args.s.now c.loop-home.s h c.loop-home-test.true (get_or_default c.args.homes.now n _ h c.loop-home-test.true) c.requires.keeps c.requires.base c.requires.homes c.loop-home.invariant w.in-Some.place (g.H.Hardware.machine w.mark_entry.new.machine) w.mark_entry.new.s w.in-Some.is w.mark_entry.ensures)
+      | in_default w ↦ rw (w.machine-is, w.s-is) (marking_skip c.args.homes.now n c.args.base (g.H.Hardware.machine c.args.machine.now) (g.H.Hardware.machine c.loop-home.machine) c.args.s.now c.loop-home.s h c.loop-home-test.true (get_or_default c.args.homes.now n _ h c.loop-home-test.true) c.requires.keeps c.requires.base c.requires.homes c.loop-home.invariant (search rules))
     ]
 
 pub returns : goal.returns

@@ -13,8 +13,8 @@ loop-n-preserved g c =
     let told : is_some (remembered reads n) ≡ c.is_some.result = sym c.is_some.ensures in
     let room : 512 * (c.args.at + 580) ≤ length (g.H.Hardware.machine c.loop-n.machine).memory = omega (arith, c.requires.room, s.only.tables.size) in
     elim c.if-is_some.branch [
-      then-is_some w ↦ rw (w.machine-is, w.close_entry.ensures)
-        (closes_next c.args.at c.args.base n w.entry_place.result c.args.source (g.H.Hardware.machine c.args.machine.now) (g.H.Hardware.machine c.loop-n.machine) reads _ (omega (arith, c.loop-n-test.true)) room w.entry_place.ensures (told ∙ w.if-is_some.true) refl s)
-    | else-is_some w ↦ rw w.machine-is
-        (closes_past c.args.at c.args.base n c.args.source (g.H.Hardware.machine c.args.machine.now) (g.H.Hardware.machine c.loop-n.machine) reads (omega (arith, c.loop-n-test.true)) (told ∙ w.if-is_some.false) s)
+      | then-is_some w ↦ rw (w.machine-is, w.close_entry.ensures)
+          (closes_next c.args.at c.args.base n w.entry_place.result c.args.source (g.H.Hardware.machine c.args.machine.now) (g.H.Hardware.machine c.loop-n.machine) reads _ (omega (arith, c.loop-n-test.true)) room w.entry_place.ensures (told ∙ w.if-is_some.true) refl s)
+      | else-is_some w ↦ rw w.machine-is
+          (closes_past c.args.at c.args.base n c.args.source (g.H.Hardware.machine c.args.machine.now) (g.H.Hardware.machine c.loop-n.machine) reads (omega (arith, c.loop-n-test.true)) (told ∙ w.if-is_some.false) s)
     ]

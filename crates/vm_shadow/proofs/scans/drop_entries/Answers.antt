@@ -13,8 +13,14 @@ loop-n-preserved g c =
     let read : remembered c.loop-n.reads.items n ≡ c.index.result.now = get_or_default c.loop-n.reads.items n _ _ within ∙ sym c.index.ensures in
     let room : 512 * (c.args.at + 580) ≤ length (g.H.Hardware.machine c.loop-n.machine).memory = omega (arith, c.requires.room, s.only.tables.size) in
     elim c.if-takes.branch [
-      then-takes w ↦ (omega (arith, c.loop-n-test.true), rw (w.reads-is, w.machine-is, w.write_long.ensures)
-        (drops_taken c.args.at c.args.first n w.entry_place.result c.args.which (g.H.Hardware.machine c.args.machine.now) (g.H.Hardware.machine c.loop-n.machine) c.args.reads.now.items c.loop-n.reads.items (omega (arith, c.loop-n.auto.n)) (omega (arith, c.requires.few, c.loop-n-test.true)) c.requires.whole room w.entry_place.ensures (ap (is_dropped c.args.which) read ∙ sym c.takes.ensures ∙ w.if-takes.true) s))
-    | else-takes w ↦ (omega (arith, c.loop-n-test.true), rw (w.reads-is, w.machine-is)
-        (drops_past c.args.at c.args.first n c.args.which (g.H.Hardware.machine c.args.machine.now) (g.H.Hardware.machine c.loop-n.machine) c.args.reads.now.items c.loop-n.reads.items (omega (arith, c.loop-n.auto.n)) (ap (is_dropped c.args.which) read ∙ sym c.takes.ensures ∙ w.if-takes.false) s))
+      | then-takes w ↦ (
+        omega (arith, c.loop-n-test.true),
+        rw (w.reads-is, w.machine-is, w.write_long.ensures)
+            (drops_taken c.args.at c.args.first n w.entry_place.result c.args.which (g.H.Hardware.machine c.args.machine.now) (g.H.Hardware.machine c.loop-n.machine) c.args.reads.now.items c.loop-n.reads.items (omega (arith, c.loop-n.auto.n)) (omega (arith, c.requires.few, c.loop-n-test.true)) c.requires.whole room w.entry_place.ensures (ap (is_dropped c.args.which) read ∙ sym c.takes.ensures ∙ w.if-takes.true) s),
+      )
+      | else-takes w ↦ (
+        omega (arith, c.loop-n-test.true),
+        rw (w.reads-is, w.machine-is)
+            (drops_past c.args.at c.args.first n c.args.which (g.H.Hardware.machine c.args.machine.now) (g.H.Hardware.machine c.loop-n.machine) c.args.reads.now.items c.loop-n.reads.items (omega (arith, c.loop-n.auto.n)) (ap (is_dropped c.args.which) read ∙ sym c.takes.ensures ∙ w.if-takes.false) s),
+      )
     ]

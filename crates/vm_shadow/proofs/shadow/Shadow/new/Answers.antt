@@ -14,6 +14,6 @@ returns-clause-ok g c =
     let writable : c.in_ok-writable.writable.items ≡ replicate c.args.g.now.pages false = c.in_ok-writable.ensures.items_if_clones_equal (λ y h. h) in
     let first : c.take-taken.new.self ≡ (c.context_of-context.result, c.take-taken.result.slot) ∷ beside c.context_of-context.result [] = c.take-taken.ensures.front ∙ ap (λ (h : Held). (c.context_of-context.result, c.take-taken.result.slot) ∷ beside c.context_of-context.result h) c.new-held.ensures in
     makes_told c.args.g.now c.args.tables c.take-taken.result.slot c.context_of-context.result c.take-taken.new.self _ _ _ before _ own_context
-      (makes c.args.g.now c.args.tables c.take-taken.result.slot c.take-taken.new.self c.in_ok-reads.reads.items c.in_ok-consulted.consulted.items c.in_ok-writable.writable.items before (g.H.Hardware.machine c.map_tables.new.machine) (g.H.Hardware.machine c.clear_entries.new.machine)
-        (omega (arith, c.pages-all.ensures.all, c.pages-all.ensures.few)) c.requires.partition c.requires.room c.requires.apart c.requires.few c.requires.allowed reads consulted writable
-        (first ∙ ap (λ (x : Context). (x, c.take-taken.result.slot) ∷ []) own_context) c.take-taken.ensures.facts c.map_tables.ensures c.clear_entries.ensures)
+    (makes c.args.g.now c.args.tables c.take-taken.result.slot c.take-taken.new.self c.in_ok-reads.reads.items c.in_ok-consulted.consulted.items c.in_ok-writable.writable.items before (g.H.Hardware.machine c.map_tables.new.machine) (g.H.Hardware.machine c.clear_entries.new.machine)
+    (omega (arith, c.pages-all.ensures.all, c.pages-all.ensures.few)) c.requires.partition c.requires.room c.requires.apart c.requires.few c.requires.allowed reads consulted writable
+    (first ∙ ap (λ (x : Context). (x, c.take-taken.result.slot) ∷ []) own_context) c.take-taken.ensures.facts c.map_tables.ensures c.clear_entries.ensures)

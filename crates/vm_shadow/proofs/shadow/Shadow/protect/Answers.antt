@@ -12,7 +12,7 @@ returns-then-any_flagged g c =
     let after = g.H.Hardware.machine c.close_entries.new.machine in
     let flags : c.set_flags.new.flags.items ≡ with_flags false c.args.source c.self.inside.writable.items = c.set_flags.ensures in
     rw flags (protects_seen c.args.source before after _ c.args.self.now _ c.self.view_is
-      (protects_all c.args.source before after _ (subst (Keeps [] [] before.memory) (sym c.self.view_is) c.requires) (subst (λ r. Closes c.self.inside.at c.self.inside.base all_entries c.args.source before r after) c.deref-then-any_flagged.ensures.value c.close_entries.ensures)))
+    (protects_all c.args.source before after _ (subst (Keeps [] [] before.memory) (sym c.self.view_is) c.requires) (subst (λ r. Closes c.self.inside.at c.self.inside.base all_entries c.args.source before r after) c.deref-then-any_flagged.ensures.value c.close_entries.ensures)))
 
 pub returns-else-any_flagged : goal.returns-else-any_flagged
 returns-else-any_flagged g c =
