@@ -1,0 +1,3 @@
+pub mod Followed
+pub mod Emulated
+pub mod Readings
