@@ -1,0 +1,6 @@
+pub mod Consoles
+pub mod OwnLines
+pub mod Places
+pub mod Schedules
+pub mod Steps
+pub mod Sums

@@ -1,0 +1,13 @@
+pub mod Bytes
+pub mod Consoles
+pub mod Counts
+pub mod Dump
+pub mod Events
+pub mod Guests
+pub mod Laws
+pub mod Places
+pub mod Run
+pub mod Slices
+pub mod State
+pub mod Transfers
+pub mod Turns
