@@ -1,0 +1,7 @@
+pub mod Accepted
+pub mod Beside
+pub mod Fits
+pub mod Judged
+pub mod Kept
+pub mod Places
+pub mod Steps
