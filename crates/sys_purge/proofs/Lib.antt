@@ -4,4 +4,5 @@ pub mod Fits
 pub mod Judged
 pub mod Kept
 pub mod Places
+pub mod Seen
 pub mod Steps
