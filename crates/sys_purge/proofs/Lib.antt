@@ -5,4 +5,5 @@ pub mod Judged
 pub mod Kept
 pub mod Places
 pub mod Seen
+pub mod SeenEvents
 pub mod Steps
