@@ -6,4 +6,5 @@ pub mod Kept
 pub mod Places
 pub mod Seen
 pub mod SeenEvents
+pub mod SeenTurns
 pub mod Steps
