@@ -6,5 +6,6 @@ pub mod Kept
 pub mod Places
 pub mod Seen
 pub mod SeenEvents
+pub mod SeenTransfers
 pub mod SeenTurns
 pub mod Steps
