@@ -1,5 +1,6 @@
 pub mod Accepted
 pub mod Beside
+pub mod EventBytes
 pub mod Fits
 pub mod Judged
 pub mod Kept
@@ -8,4 +9,5 @@ pub mod Seen
 pub mod SeenEvents
 pub mod SeenTransfers
 pub mod SeenTurns
+pub mod TransferBytes
 pub mod Steps

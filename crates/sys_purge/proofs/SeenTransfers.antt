@@ -27,17 +27,16 @@ use Rattle.sys_store.specs.Blocks.{blocks_of, with_block}
 use Rattle.sys_store.specs.Job.{job_text}
 use Rattle.vm_state.specs.State.{Guest}
 
-abbrev Volumes : Type 0
+abbrev pub Volumes : Type 0
 Volumes = List (List (List ℕ))
 
 module _ (c : Config) (to : AccessClass) where
-  abbrev keeps_volume : VolumeRow → Bool
-  keeps_volume v = volume_kept c to v
+
 
   abbrev pub seen_volumes : Volumes → Volumes
   seen_volumes vs = beside (volume_kept c to) c.volumes vs
 
-  abbrev volume_rank : ℕ → ℕ
+  abbrev pub volume_rank : ℕ → ℕ
   volume_rank k = rank (volume_kept c to) c.volumes k
 
   -- a volume that a guest may mount is seen where the guest is, and one that it writes is hidden where it is
@@ -92,7 +91,7 @@ module _ (c : Config) (to : AccessClass) where
       (λ d. rw (a, b, d) tt)))
 
   -- the move of the purge: the same, with the place of its volume among those that are kept
-  abbrev moved_move : Move → Move
+  abbrev pub moved_move : Move → Move
   moved_move (Refused status) = Refused status
   moved_move (Reads v) = Reads (volume_rank v)
   moved_move (Writes v) = Writes (volume_rank v)
@@ -119,7 +118,7 @@ module _ (c : Config) (to : AccessClass) where
   same_print : (space : ℕ) (p : Packet) → to_print space p ≡ moved_move (to_print space p)
   same_print space p = both (nat_lt 132 p.size) (λ a. rw a refl) (λ a. both (is_past space p.buffer p.size) (λ b. rw (a, b) refl) (λ b. rw (a, b) refl))
 
-  same_move : (class : AccessClass) → does_flow class to ≡ true → (space : ℕ) (vs : Volumes) (ms : List (Option Mount)) (p : Packet) → Each (MountFits c class) ms
+  pub same_move : (class : AccessClass) → does_flow class to ≡ true → (space : ℕ) (vs : Volumes) (ms : List (Option Mount)) (p : Packet) → Each (MountFits c class) ms
       → move_of space (seen_volumes vs) (map (mount_place to c.volumes) ms) p ≡ moved_move (move_of space vs ms p)
   same_move class e space vs ms p each =
       let m : Option Mount = slice_index_or ms p.unit None in
@@ -134,9 +133,9 @@ module _ (c : Config) (to : AccessClass) where
       (λ d. rw (a, b, d) refl)))
 
   -- what is left of a guest and of the volumes that are seen
-  record IsSame (a b : Served) : Type 0 where
-    guest : a.guest ≡ b.guest
-    volumes : a.volumes ≡ seen_volumes b.volumes
+  pub record IsSame (a b : Served) : Type 0 where
+    pub guest : a.guest ≡ b.guest
+    pub volumes : a.volumes ≡ seen_volumes b.volumes
 
   same_written : (v block : ℕ) (bytes : List ℕ) (vs : Volumes) → passes_at (volume_kept c to) c.volumes v ≡ true → with_block (seen_volumes vs) (volume_rank v) block bytes ≡ seen_volumes (with_block vs v block bytes)
   same_written v block bytes vs p =
@@ -160,7 +159,7 @@ module _ (c : Config) (to : AccessClass) where
       record { guest = refl; volumes = same_written v p.block (bytes_at g p.buffer 512) vs (mountable_seen row.class e true v (slice_get c.volumes v) refl h) }
   same_moved row e g at p vs Prints h = record { guest = refl; volumes = refl }
 
-  same_one : (row : GuestRow) → does_flow row.class to ≡ true → (ms : List (Option Mount)) → Each (MountFits c row.class) ms → (g : Guest) (at : ℕ) (vs : Volumes)
+  pub same_one : (row : GuestRow) → does_flow row.class to ≡ true → (ms : List (Option Mount)) → Each (MountFits c row.class) ms → (g : Guest) (at : ℕ) (vs : Volumes)
       → IsSame (served_one (purge_config c to) (renumbered to c row) (map (mount_place to c.volumes) ms) g at (seen_volumes vs)) (served_one c row ms g at vs)
   same_one row e ms each g at vs =
       let p : Packet = packet_at g.memory at in
@@ -168,7 +167,7 @@ module _ (c : Config) (to : AccessClass) where
       subst (λ v. IsSame (moved (purge_config c to) (renumbered to c row) g at p (seen_volumes vs) v) (moved c row g at p vs move)) (sym (same_move row.class e (length g.memory) vs ms p each))
       (same_moved row e g at p vs move (move_fits row.class (length g.memory) vs ms p each))
 
-  same_served : (row : GuestRow) → does_flow row.class to ≡ true → (ms : List (Option Mount)) → Each (MountFits c row.class) ms → (g : Guest) (queue : List ℕ) (vs : Volumes)
+  pub same_served : (row : GuestRow) → does_flow row.class to ≡ true → (ms : List (Option Mount)) → Each (MountFits c row.class) ms → (g : Guest) (queue : List ℕ) (vs : Volumes)
       → IsSame (served (purge_config c to) (renumbered to c row) (map (mount_place to c.volumes) ms) g queue (seen_volumes vs)) (served c row ms g queue vs)
   same_served row e ms each g [] vs = record { guest = refl; volumes = refl }
   same_served row e ms each g (at ∷ queue) vs =
@@ -187,7 +186,7 @@ module _ (c : Config) (to : AccessClass) where
   unseen_moved row e g at p vs (Writes v) h = unseen_written v p.block (bytes_at g p.buffer 512) vs (written_hidden row.class e v (slice_get c.volumes v) refl h)
   unseen_moved row e g at p vs Prints h = refl
 
-  unseen_served : (row : GuestRow) → does_flow row.class to ≡ false → (ms : List (Option Mount)) → Each (MountFits c row.class) ms → (g : Guest) (queue : List ℕ) (vs : Volumes) → seen_volumes (served c row ms g queue vs).volumes ≡ seen_volumes vs
+  pub unseen_served : (row : GuestRow) → does_flow row.class to ≡ false → (ms : List (Option Mount)) → Each (MountFits c row.class) ms → (g : Guest) (queue : List ℕ) (vs : Volumes) → seen_volumes (served c row ms g queue vs).volumes ≡ seen_volumes vs
   unseen_served row e ms each g [] vs = refl
   unseen_served row e ms each g (at ∷ queue) vs =
       let p : Packet = packet_at g.memory at in
@@ -197,8 +196,8 @@ module _ (c : Config) (to : AccessClass) where
 
   -- all guests
   record AreSame (a b : AllServed) (rows : List GuestRow) : Type 0 where
-    guests : a.guests ≡ beside (is_kept to) rows b.guests
-    volumes : a.volumes ≡ seen_volumes b.volumes
+    pub guests : a.guests ≡ beside (is_kept to) rows b.guests
+    pub volumes : a.volumes ≡ seen_volumes b.volumes
 
   abbrev pub seen_mss : List GuestRow → List (List (Option Mount)) → List (List (Option Mount))
   seen_mss rows mss = map (map (mount_place to c.volumes)) (beside (is_kept to) rows mss)
@@ -212,7 +211,7 @@ module _ (c : Config) (to : AccessClass) where
   no_guests (row ∷ rows) [] vs = refl
   no_guests (row ∷ rows) (ms ∷ mss) vs = refl
 
-  abbrev purged_all : List GuestRow → List (List (Option Mount)) → List Guest → Volumes → AllServed
+  abbrev pub purged_all : List GuestRow → List (List (Option Mount)) → List Guest → Volumes → AllServed
   purged_all rows mss gs vs = all_served (purge_config c to) (seen_rows c to rows) (seen_mss rows mss) (beside (is_kept to) rows gs) (seen_volumes vs)
 
   same_all : (rows : List GuestRow) (mss : List (List (Option Mount))) → Pairs (MountsFit c) rows mss → (gs : List Guest) (vs : Volumes) → AreSame (purged_all rows mss gs vs) (all_served c rows mss gs vs) rows
