@@ -1,10 +1,13 @@
 pub mod Accepted
 pub mod Beside
+pub mod Devices
 pub mod EventBytes
 pub mod Fits
 pub mod Judged
 pub mod Kept
+pub mod Opens
 pub mod Places
+pub mod Runs
 pub mod Seen
 pub mod SeenEvents
 pub mod SeenTransfers
