@@ -42,13 +42,13 @@ all_of_map P f [] all = All-nil (λ x. P (f x))
 all_of_map P f (x ∷ xs) all = All-cons (λ x. P (f x)) x xs (All-head P (f x) (map f xs) all) (all_of_map P f xs (All-tail P (f x) (map f xs) all))
 
 module _ (c : Config) where
-  abbrev ts : List Device
+  abbrev pub ts : List Device
   ts = map terminal_device c.terminals
 
-  abbrev ps : List Device
+  abbrev pub ps : List Device
   ps = map printer_device c.printers
 
-  abbrev ds : List Device
+  abbrev pub ds : List Device
   ds = filter_map dump_device c.guests
 
   module _ (line : ℕ) (to : AccessClass) where

@@ -1,10 +1,14 @@
 pub mod Accepted
+pub mod Adding
 pub mod Beside
+pub mod Depends
 pub mod Devices
 pub mod EventBytes
 pub mod Fits
 pub mod Judged
 pub mod Kept
+pub mod Lines
+pub mod Members
 pub mod Opens
 pub mod Places
 pub mod Runs
@@ -12,5 +16,5 @@ pub mod Seen
 pub mod SeenEvents
 pub mod SeenTransfers
 pub mod SeenTurns
-pub mod TransferBytes
 pub mod Steps
+pub mod TransferBytes

@@ -1,3 +1,4 @@
+pub mod Adding
 pub mod Events
 pub mod Input
 pub mod Judged
