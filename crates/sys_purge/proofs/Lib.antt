@@ -17,4 +17,5 @@ pub mod SeenEvents
 pub mod SeenTransfers
 pub mod SeenTurns
 pub mod Steps
+pub mod Taken
 pub mod TransferBytes

@@ -1,10 +1,12 @@
 //! The purge of a run's input: what of a configuration, events, images and volumes may flow to an observer.
 #![tactic(auto)]
 
+mod contents;
 mod events;
 mod laws;
 mod purge;
 
+pub use contents::{purge_images, purge_volumes};
 pub use events::purge_events;
 pub use laws::{
     a_device_keeps_its_bytes, a_guest_more_adds_no_blocks, a_guest_more_adds_nothing,
