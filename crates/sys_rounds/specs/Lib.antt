@@ -3,10 +3,12 @@ pub mod Consoles
 pub mod Counts
 pub mod Dump
 pub mod Events
+pub mod FirstTouches
 pub mod Guests
 pub mod Laws
 pub mod Places
 pub mod Run
+pub mod SlicedRound
 pub mod Slices
 pub mod State
 pub mod Transfers
