@@ -8,6 +8,9 @@ pub mod Guests
 pub mod Laws
 pub mod Places
 pub mod Run
+pub mod ShownServer
+pub mod ShownSetup
+pub mod ShownTransfers
 pub mod SlicedRound
 pub mod Slices
 pub mod State
