@@ -8,6 +8,8 @@ pub mod Guests
 pub mod Laws
 pub mod Places
 pub mod Run
+pub mod ShownMapped
+pub mod ShownRuns
 pub mod ShownServer
 pub mod ShownSetup
 pub mod ShownTransfers
