@@ -22,7 +22,7 @@ use Rattle.sys_purge.specs.Purge.{mount_place, place_if, printer_place, purge_co
 use Rattle.sys_rounds.proofs.Consoles.{bytes_append}
 use Rattle.sys_rounds.specs.Guests.{answered, bytes_at, with_no_queue}
 use Rattle.sys_rounds.specs.State.{Put, State, bytes_on}
-use Rattle.sys_rounds.specs.Transfers.{AllServed, Move, Packet, Prints, Reads, Refused, Served, Writes, all_served, is_done, move_of, moved, packet_at, printed, printer_of, refused_block, served, served_one, to_print, to_read, to_write, transfers, unless_refused}
+use Rattle.sys_rounds.specs.Transfers.{AllServed, Move, Packet, Prints, Reads, Refused, Served, Writes, all_served, done_status, move_of, moved, packet_at, printed, printer_of, refused_block, served, served_one, to_print, to_read, to_write, transfers, unless_refused}
 use Rattle.sys_store.specs.Blocks.{blocks_of, with_block}
 use Rattle.sys_store.specs.Job.{job_text}
 use Rattle.vm_state.specs.State.{Guest}

@@ -5,4 +5,5 @@ pub mod Judged
 pub mod Laws
 pub mod Purge
 pub mod ShownEvents
+pub mod ShownInputs
 pub mod ShownPurge

@@ -59,3 +59,13 @@ fn events_that_flow_are_kept(rt: HostRuntime) -> Result<(), Fail> {
     assert_eq!(rt; high.len(), 4);
     Ok(())
 }
+
+#[test]
+fn nothing_of_a_terminal_above_is_kept(rt: HostRuntime) -> Result<(), Fail> {
+    let script = b"1 T1 > MOUNT A 0 SEC READ\n1 T1 > MOUNT A 0 PUB READ\n2 T1 break\n";
+    let events = read_script(rt.alloc(), script).ok().ok_or("a script")?;
+    let config = config(rt.alloc())?;
+    let low = purge_events(rt.alloc(), &config, &events, &level(0))?;
+    assert_eq!(rt; low.len(), 0);
+    Ok(())
+}

@@ -16,6 +16,8 @@ pub use laws::{
 pub use purge::purge_config;
 
 #[cfg(test)]
+mod content_tests;
+#[cfg(test)]
 mod event_tests;
 #[cfg(test)]
 mod tests;

@@ -7,7 +7,7 @@ use sys_objects::{Audit, Config, GuestRow, Mount, PrinterRow, Rows, Terminal, Vo
 use vv_base::{NoMemory, Text};
 use vv_class::AccessClass;
 
-fn level(secrecy: u8) -> AccessClass {
+pub(crate) fn level(secrecy: u8) -> AccessClass {
     AccessClass {
         secrecy,
         secrecy_cats: 0,
@@ -90,7 +90,7 @@ fn printers(alloc: Global) -> Result<Rows<PrinterRow>, NoMemory> {
     Ok(Rows::new(rows))
 }
 
-fn whole(alloc: Global) -> Result<Config, NoMemory> {
+pub(crate) fn whole(alloc: Global) -> Result<Config, NoMemory> {
     let mut guests = Vec::new(alloc);
     guests.push(guest("A", 2, Some(1), Some(0), [mount(0), mount(2), None, None]))?;
     guests.push(guest("B", 0, Some(2), Some(0), [mount(2), None, mount(1), None]))?;

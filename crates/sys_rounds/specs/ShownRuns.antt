@@ -46,10 +46,10 @@ pub quantum_of_two : total (record { guest = 1; steps = 7 } ∷ record { guest =
 quantum_of_two = refl
 
 -- A low guest that shows `A` and halts, and a high one that branches to itself, with a terminal that stops it.
-abbrev hello : List ℕ
+abbrev pub hello : List ℕ
 hello = 0xda ∷ 0x8f ∷ 0x41 ∷ 0 ∷ 0 ∷ 0 ∷ 0x23 ∷ 0 ∷ []
 
-abbrev both_there : Input
+abbrev pub both_there : Input
 both_there = record {
   config = config None (terminal (codes "TH") 1 2 ∷ terminal (codes "TL") 0 0 ∷ []) [] [] (guest (codes "H") 2 2 4 true None ∷ guest (codes "L") 0 2 4 true (Some 1) ∷ []);
   images = (0x11 ∷ 0xfe ∷ []) ∷ hello ∷ [];
@@ -58,7 +58,7 @@ both_there = record {
   rounds = 1;
 }
 
-abbrev low_alone : Input
+abbrev pub low_alone : Input
 low_alone = record {
   config = config None (terminal (codes "TL") 0 0 ∷ []) [] [] (guest (codes "L") 0 2 4 true (Some 0) ∷ []);
   images = hello ∷ [];

@@ -1,5 +1,6 @@
 -- The transfers at the end of a round (profile): by guest in the configuration's order, by packet in the order of its
--- queue. A packet is read when its turn comes, so what moved before may have changed it.
+-- queue. A packet is read when its turn comes, so what moved before may have changed it. Statuses: 1 moved, 2 the queue
+-- was full, 3 nothing stands at the unit, 4 it is mounted for reading, 5 no such block, 6 not in memory, 7 no such function.
 use Rattle.std.specs.Prelude.{ℕ, ◌+◌, Bool, true, false, ◌&&◌, ◌==◌, not, nat_le, nat_lt, if◌then◌else◌, List, [], ◌∷◌, ◌++◌, length, Option, Some, None, slice_get, slice_index_or}
 use Rattle.vv_base.specs.Bytes.{long_at}
 use Rattle.sys_objects.specs.declared.records.Config.{Config}
@@ -37,8 +38,8 @@ pub data Move : Type 0 where
   Prints : Move
 
 -- the status of a move that is made
-abbrev pub is_done : ℕ
-is_done = 1
+abbrev pub done_status : ℕ
+done_status = 1
 
 -- Reading and writing: nothing stands at the unit; the mount is not for writing; the volume has no such block; the
 -- buffer isn't all in memory. The first that applies.
@@ -90,10 +91,10 @@ pub record Served : Type 0 where
 -- a move is made, and the packet is answered last
 abbrev pub moved : Config → GuestRow → Guest → ℕ → Packet → List (List (List ℕ)) → Move → Served
 moved c row g at p volumes (Refused status) = record { guest = answered at status g; volumes = volumes; puts = [] }
-moved c row g at p volumes (Reads v) = record { guest = answered at is_done (with_bytes p.buffer (slice_index_or (blocks_of volumes v) p.block []) g); volumes = volumes; puts = [] }
-moved c row g at p volumes (Writes v) = record { guest = answered at is_done g; volumes = with_block volumes v p.block (bytes_at g p.buffer 512); puts = [] }
+moved c row g at p volumes (Reads v) = record { guest = answered at done_status (with_bytes p.buffer (slice_index_or (blocks_of volumes v) p.block []) g); volumes = volumes; puts = [] }
+moved c row g at p volumes (Writes v) = record { guest = answered at done_status g; volumes = with_block volumes v p.block (bytes_at g p.buffer 512); puts = [] }
 moved c row g at p volumes Prints = record {
-  guest = answered at is_done g;
+  guest = answered at done_status g;
   volumes = volumes;
   puts = printed (printer_of c row.printer) (job_text row.class row.name (bytes_at g p.buffer p.size));
 }
