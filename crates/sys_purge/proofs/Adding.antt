@@ -1,17 +1,15 @@
 -- A guest that doesn't flow into a class changes nothing of the purge to it.
-use Rattle.std.proofs.Common.{◌≡◌, ◌<◌, ℕ, suc, List, [], ◌∷◌, ◌++◌, map, filter, length, refl, sym, ap, ◌∙◌, get_or, Bool, true, false, arith, append-nil}
+use Rattle.std.proofs.Common.{◌≡◌, ℕ, List, [], ◌∷◌, ◌++◌, map, filter, length, refl, sym, ap, get_or, Bool, false, arith}
 use Rattle.vv_class.specs.Class.{does_flow}
 use Rattle.vv_class.specs.declared.class.AccessClass.{AccessClass}
-use Rattle.sys_objects.specs.declared.records.Config.{Config}
 use Rattle.sys_objects.specs.declared.records.GuestRow.{GuestRow}
-use Rattle.sys_objects.specs.declared.records.VolumeRow.{VolumeRow}
 use Rattle.sys_purge.proofs.Depends.{devices_depend, volumes_depend}
 use Rattle.sys_purge.proofs.Devices.{flows_itself}
 use Rattle.sys_purge.proofs.Kept.{both}
 use Rattle.sys_purge.specs.Adding.{GuestsAddNoBlocks, GuestsAddNothing, with_guest}
 use Rattle.sys_purge.specs.Input.{beside, is_kept, purged}
 use Rattle.sys_purge.specs.Purge.{purge_config, renumbered}
-use Rattle.sys_rounds.specs.Bytes.{Device, devices_of}
+use Rattle.sys_rounds.specs.Bytes.{devices_of}
 use Rattle.sys_rounds.specs.Run.{Input}
 
 dropped_last : {X : Type 0} (test : X → Bool) (x : X) → test x ≡ false → (xs : List X) → filter test (xs ++ x ∷ []) ≡ filter test xs

@@ -1,6 +1,6 @@
 -- What a class sees depends on the purge to it alone.
-use Rattle.std.proofs.Common.{◌≡◌, ◌≢◌, ◌<◌, ℕ, zero, suc, List, [], ◌∷◌, ◌++◌, map, filter, length, refl, sym, ap, ◌∙◌, subst, get_or, All, Bool, Option, Some, None, true, false, ◌⊎◌, inl, inr, arith, length-append}
-use Rattle.std.specs.List.{AllPairs, filter_map}
+use Rattle.std.proofs.Common.{◌≡◌, ◌<◌, ℕ, List, [], ◌∷◌, ◌++◌, map, filter, length, refl, sym, ap, ◌∙◌, subst, get_or, Bool, Option, Some, None, true, ◌⊎◌, inl, inr}
+use Rattle.std.specs.List.{filter_map}
 use Rattle.std.proofs.lemmas.Bool.{cases_order}
 use Rattle.std.proofs.lemmas.List.Elements.{All-from_get_or, filter-append}
 use Rattle.vv_class.specs.Class.{does_flow}
@@ -16,9 +16,9 @@ use Rattle.sys_purge.proofs.Kept.{both}
 use Rattle.sys_purge.proofs.Lines.{keeps_drives, keeps_lines}
 use Rattle.sys_purge.proofs.Members.{IsIn, at_place, in_all, in_kept, place_in}
 use Rattle.sys_purge.proofs.SeenTurns.{seen_rows}
-use Rattle.sys_purge.specs.Input.{is_kept, purged}
+use Rattle.sys_purge.specs.Input.{is_kept}
 use Rattle.sys_purge.specs.Laws.{DevicesDependOnPurges, DriveFlowsInto, KeepsVolumes, LineFlowsInto, VolumesDependOnPurges}
-use Rattle.sys_purge.specs.Purge.{kept_audit, purge_config, renumbered}
+use Rattle.sys_purge.specs.Purge.{kept_audit, purge_config}
 use Rattle.sys_rounds.specs.Bytes.{Device, audit_device, devices_of, drive_blocks, dump_device, line_bytes, printer_device, terminal_device}
 use Rattle.sys_rounds.specs.Run.{Input}
 
@@ -78,7 +78,7 @@ devices_depend x y to is_x is_y same k d within flow =
     let device : Device = get_or (devices_of x.config) k d in
     let here : LineFlowsInto x.config device.line to = line_flows x.config is_x to k d within flow in
     let there : LineFlowsInto y.config device.line to = flows_there y.config is_y to device flow
-        (in_both x.config y.config to (ap (λ (z : Input). z.config) same) device flow (at_place (devices_of x.config) k d within)) in
+    (in_both x.config y.config to (ap (λ (z : Input). z.config) same) device flow (at_place (devices_of x.config) k d within)) in
     sym (keeps_lines x to device.line is_x here) ∙ ap (λ (z : Input). line_bytes z device.line) same ∙ keeps_lines y to device.line is_y there
 
 -- volumes

@@ -1,7 +1,7 @@
 -- The devices of a configuration on their lines: what flows into a class where the line does, and where one device does.
-use Rattle.std.proofs.Common.{◌≡◌, ◌≢◌, ◌<◌, ℕ, suc, List, [], ◌∷◌, ◌++◌, map, filter, length, refl, sym, ap, ◌∙◌, subst, get_or, All, Bool, Option, Some, None, option_map, ◌⊎◌, inl, inr, true, false, arith, IfSome, true≢false, ◌==◌}
+use Rattle.std.proofs.Common.{◌≡◌, ◌≢◌, ◌<◌, ℕ, List, [], ◌∷◌, ◌++◌, map, length, refl, sym, ap, ◌∙◌, subst, get_or, All, Option, Some, None, ◌⊎◌, inl, inr, true, arith, IfSome}
 use Rattle.std.specs.List.{AllPairs, filter_map}
-use Rattle.std.proofs.lemmas.Bool.{false≢true, eqb-true, eq-eqb, cases_order}
+use Rattle.std.proofs.lemmas.Bool.{false≢true, eqb-true, cases_order}
 use Rattle.std.proofs.lemmas.List.{get_or-map, length-map, map-append}
 use Rattle.std.proofs.lemmas.Simd.{map-map}
 use Rattle.std.proofs.lemmas.List.Elements.{All-nil, All-cons, All-head, All-tail, All-from_get_or}
@@ -13,13 +13,10 @@ use Rattle.sys_objects.specs.Rules.{audit_line, lines_of, objects_of, terminal_o
 use Rattle.sys_objects.specs.declared.records.Audit.{Audit}
 use Rattle.sys_objects.specs.declared.records.Config.{Config}
 use Rattle.sys_objects.specs.declared.records.GuestRow.{GuestRow}
-use Rattle.sys_objects.specs.declared.records.PrinterRow.{PrinterRow}
-use Rattle.sys_objects.specs.declared.records.Terminal.{Terminal}
 use Rattle.sys_objects.specs.declared.rules.Object.{Object}
 use Rattle.sys_objects.specs.Rules.{guest_object, printer_object, volume_object}
 use Rattle.sys_purge.proofs.EventBytes.{AuditFits}
-use Rattle.sys_purge.proofs.Fits.{Each, each_of_all}
-use Rattle.sys_purge.proofs.Kept.{both}
+use Rattle.sys_purge.proofs.Fits.{Each}
 use Rattle.sys_purge.proofs.Runs.{Heard}
 use Rattle.sys_purge.proofs.SeenTurns.{TerminalsFlow}
 use Rattle.sys_purge.proofs.TransferBytes.{PrintFits, PrintersFlow}
@@ -68,9 +65,10 @@ module _ (c : Config) where
         let vs : List Object = map volume_object c.volumes in
         let qs : List Object = map printer_object c.printers in
         let gs : List Object = map guest_object c.guests in
-        let os : List Object = map terminal_object c.terminals in
-        (All-head Flows (record { line = a.line; class = a.class }) [] all,
-        all_of_map P terminal_object c.terminals (all_before P os vs (all_before P (os ++ vs) qs (all_before P (os ++ vs ++ qs) gs objects))))
+        let os : List Object = map terminal_object c.terminals in (
+          All-head Flows (record { line = a.line; class = a.class }) [] all,
+          all_of_map P terminal_object c.terminals (all_before P os vs (all_before P (os ++ vs) qs (all_before P (os ++ vs ++ qs) gs objects))),
+        )
 
     abbrev pub DumpFlows : GuestRow → Type 0
     DumpFlows g = is_at line g.dump ≡ true → is_kept to g ≡ true
@@ -100,7 +98,8 @@ module _ (c : Config) where
           terminals = terminals_flow all;
           printers = printers;
           audit = audit_flows c.audit (all_behind Flows (ts ++ ps ++ ds) (audit_device c.audit) all) is.audited;
-          rows = print_fits printers c.guests is.held printers }
+          rows = print_fits printers c.guests is.held printers;
+        }
 
 -- the devices' lines
 lines_of_dumps : (rows : List GuestRow) → map (λ (d : Device). d.line) (filter_map dump_device rows) ≡ filter_map (λ (g : GuestRow). g.dump) rows

@@ -1,7 +1,7 @@
 -- What events show a line that flows into a class.
-use Rattle.std.proofs.Common.{◌≡◌, ℕ, zero, suc, List, [], ◌∷◌, ◌++◌, map, filter, Bool, true, false, refl, sym, ap, ◌∙◌, subst, All, Option, Some, None, option_map, slice_get, slice_set, slice_index_or, if◌then◌else◌, true≢false, ◌==◌, get_or}
+use Rattle.std.proofs.Common.{◌≡◌, ℕ, suc, List, [], ◌∷◌, ◌++◌, map, filter, Bool, true, false, refl, sym, ap, ◌∙◌, All, Option, Some, None, option_map, slice_get, slice_set, slice_index_or, if◌then◌else◌, true≢false, ◌==◌}
 use Rattle.std.specs.Prelude.{find, position}
-use Rattle.std.proofs.lemmas.Bool.{eqb-true, false≢true}
+use Rattle.std.proofs.lemmas.Bool.{false≢true}
 use Rattle.vv_class.specs.Class.{does_flow}
 use Rattle.vv_class.specs.declared.class.AccessClass.{AccessClass}
 use Rattle.sys_audit.specs.Audit.{audit_of}
@@ -13,31 +13,29 @@ use Rattle.sys_objects.specs.declared.records.Terminal.{Terminal}
 use Rattle.sys_objects.specs.declared.records.VolumeRow.{VolumeRow}
 use Rattle.sys_purge.proofs.Accepted.{flows_on, printer_kept, terminal_kept, volume_kept}
 use Rattle.sys_purge.proofs.Beside.{get_beside, passes_row}
-use Rattle.sys_purge.proofs.Fits.{CommandFits, ConnectFits, Fits, Holds, Pairs, VerdictFits, all_get, fits_happened, pairs_set, verdict_fits}
+use Rattle.sys_purge.proofs.Fits.{ConnectFits, Fits, Holds, Pairs, VerdictFits, all_get, fits_happened, pairs_set, verdict_fits}
 use Rattle.sys_purge.proofs.Judged.{position_is}
 use Rattle.sys_purge.proofs.Kept.{both, get_kept}
 use Rattle.sys_purge.proofs.Seen.{holds_passes, seen, seen_connected, server_seen, set_seen}
-use Rattle.sys_purge.proofs.SeenEvents.{Found, connection_fits, connection_seen, dropped_now, first_kept, found, is_kept_at, kept_now, seen_place, sees, verdict_seen}
+use Rattle.sys_purge.proofs.SeenEvents.{Found, connection_seen, dropped_now, first_kept, found, is_kept_at, kept_now, seen_place, sees, verdict_seen}
 use Rattle.sys_purge.proofs.SeenTurns.{TerminalsFlow, at_kept, console_kept, kept_alike, not_on_line, seen_rows}
 use Rattle.sys_purge.proofs.TransferBytes.{other_line}
 use Rattle.sys_purge.specs.Events.{is_kept_event, purge_events}
 use Rattle.sys_purge.specs.Input.{beside, is_kept}
-use Rattle.sys_purge.specs.Judged.{guest_rank, moved_command, moved_verdict, purged_state}
-use Rattle.sys_purge.specs.Purge.{kept_audit, purge_config, rank, renumbered}
+use Rattle.sys_purge.specs.Judged.{guest_rank, moved_verdict}
+use Rattle.sys_purge.specs.Purge.{kept_audit, purge_config, rank}
 use Rattle.sys_rounds.proofs.Consoles.{bytes_append, bytes_of_console}
 use Rattle.sys_rounds.specs.Consoles.{console_of, on_console}
 use Rattle.sys_rounds.specs.Events.{acted, at_place, audit_puts, commanded, events, happened, is_named, lined, message_of, puts_before, puts_behind, said_on, show_puts, stop_puts, taken_puts, told}
-use Rattle.sys_rounds.specs.Places.{is_at, place_of}
+use Rattle.sys_rounds.specs.Places.{place_of}
 use Rattle.sys_rounds.specs.State.{Put, State, bytes_on, is_running, server_of}
 use Rattle.sys_script.specs.declared.event.Event.{Event}
 use Rattle.sys_script.specs.declared.event.Typed.{Typed}
 use Rattle.sys_script.specs.declared.event.Typed.TheVariants.{Break, Line}
 use Rattle.sys_server.specs.Apply.{is_guest, taken}
-use Rattle.sys_server.specs.Replies.{ended, guest_lines, object_text, printer_line, reply_of, running_text, server_text, shown_lines, taken_text, volume_line}
+use Rattle.sys_server.specs.Replies.{ended, guest_lines, object_text, printer_line, reply_of, running_text, server_text, shown_lines, volume_line}
 use Rattle.sys_server.specs.Verdict.{verdict_of}
-use Rattle.sys_server.specs.declared.command.Command.{Command}
 use Rattle.sys_server.specs.declared.command.Command.TheVariants.{Connect, Start, Halt, MountAt, Dismount, Show}
-use Rattle.sys_server.specs.declared.command.Rule.TheVariants.{Equal, Write}
 use Rattle.sys_server.specs.declared.command.ServerState.{ServerState}
 use Rattle.sys_server.specs.declared.command.Verdict.{Verdict}
 use Rattle.sys_server.specs.declared.command.Verdict.TheVariants.{Granted, BadCommand, NoSuchObject, Denied}
@@ -143,6 +141,7 @@ module _ (c : Config) (to : AccessClass) where
       same_guest : (k : Terminal) → terminal_kept c to k ≡ true → (o : Option ℕ) → ConnectFits c k o → is_guest (guest_rank c to g) (option_map (guest_rank c to) o) ≡ is_guest g o
       same_guest k b None f = refl
       same_guest k b (Some j) f = at_kept c to g row at e k b (Some j) f
+
       alike : (k : Terminal) (o : Option ℕ) → ConnectFits c k o → is_guest g o ≡ true → is_kept to row ≡ terminal_kept c to k
       alike k None f d = absurd (false≢true d)
       alike k (Some j) f d = kept_alike c to g row at k (Some j) f d
@@ -155,7 +154,7 @@ module _ (c : Config) (to : AccessClass) where
       let fits : Pairs (ConnectFits c) c.terminals os = pairs_set (ConnectFits c) c.terminals s.connected n k None f.connected at tt in
       let set = sym (set_seen c to s.connected n None (passes_row (terminal_kept c to) c.terminals n k at ∙ e)) in
       let place : position (is_guest (guest_rank c to g)) (slice_set (seen_connected c to c.terminals s.connected) (seen_place c to n) None) ≡ place_of (is_guest (guest_rank c to g)) (seen_connected c to c.terminals os) =
-          ap (position (is_guest (guest_rank c to g))) set ∙ position_is (is_guest (guest_rank c to g)) (seen_connected c to c.terminals os) in
+      ap (position (is_guest (guest_rank c to g))) set ∙ position_is (is_guest (guest_rank c to g)) (seen_connected c to c.terminals os) in
       ap (taken_puts (purge_config c to)) place
       ∙ by_terminal (purge_config c to) (place_of (is_guest (guest_rank c to g)) (seen_connected c to c.terminals os))
       ∙ ap told (taken_seen g h.0 h.1 (ap (λ d. does_flow d to) h.2 ∙ e) c.terminals os fits)

@@ -1,12 +1,12 @@
 -- What every state of a run keeps of an accepted configuration's rules: a terminal's guest has the terminal's class, and
 -- a mounted volume is one that the guest may mount.
-use Rattle.std.proofs.Common.{◌≡◌, ℕ, zero, suc, List, [], ◌∷◌, map, Bool, true, false, not, ◌&&◌, refl, sym, ap, ◌∙◌, subst, All, Option, Some, None, slice_get, slice_set, slice_index_or, if◌then◌else◌, true≢false, get_or}
+use Rattle.std.proofs.Common.{◌≡◌, ℕ, zero, suc, List, [], ◌∷◌, map, Bool, true, false, not, ◌&&◌, refl, sym, subst, All, Option, Some, None, slice_get, slice_set, slice_index_or, true≢false, get_or}
 use Rattle.std.specs.Str.{bytes_eq}
-use Rattle.std.proofs.lemmas.Bool.{and_parts, not_from_true}
+use Rattle.std.proofs.lemmas.Bool.{and_parts}
 use Rattle.std.proofs.lemmas.List.Elements.{All-head, All-tail}
 use Rattle.vv_class.specs.declared.class.AccessClass.{AccessClass}
 use Rattle.vv_class.specs.Class.{does_flow}
-use Rattle.sys_objects.specs.Rules.{is_mountable, may_mount, same_class}
+use Rattle.sys_objects.specs.Rules.{may_mount, same_class}
 use Rattle.sys_objects.specs.declared.records.Config.{Config}
 use Rattle.sys_objects.specs.declared.records.GuestRow.{GuestRow}
 use Rattle.sys_objects.specs.declared.records.Mount.{Mount as Mounted}
@@ -17,7 +17,7 @@ use Rattle.sys_purge.proofs.Beside.{set_is_changed}
 use Rattle.sys_purge.proofs.Judged.{position_is}
 use Rattle.sys_purge.proofs.Kept.{both}
 use Rattle.sys_purge.proofs.Places.{StandsAt, first_stands}
-use Rattle.sys_rounds.specs.Events.{acted, after_verdict, at_place, at_row, events, happened, is_named, lined, obeyed}
+use Rattle.sys_rounds.specs.Events.{after_verdict, at_place, at_row, events, happened, is_named, lined, obeyed}
 use Rattle.sys_rounds.specs.Places.{changed, place_of}
 use Rattle.sys_rounds.specs.State.{State, server_of}
 use Rattle.sys_script.specs.declared.event.Event.{Event}
@@ -30,7 +30,6 @@ use Rattle.sys_server.specs.declared.command.Asked.{Asked}
 use Rattle.sys_server.specs.declared.command.Asked.TheVariants.{Connect, Start, Halt, Mount, Dismount, Show}
 use Rattle.sys_server.specs.declared.command.Command.{Command}
 use Rattle.sys_server.specs.declared.command.Command.TheVariants as to_
-use Rattle.sys_server.specs.declared.command.Rule.TheVariants.{Equal, Write}
 use Rattle.sys_server.specs.declared.command.Verdict.{Verdict}
 use Rattle.sys_server.specs.declared.command.Verdict.TheVariants.{Granted, BadCommand, NoSuchObject, Denied}
 
@@ -134,7 +133,7 @@ module _ (c : Config) where
   seen_volume : (class : AccessClass) (name : List ℕ) → SeenVolume class (volume_place c.volumes class name)
   seen_volume class name =
       let found = first_stands (λ (v : VolumeRow). bytes_eq v.name name && does_flow v.class class) (λ (v : VolumeRow). does_flow v.class class ≡ true) c.volumes
-          (λ k d within h. (and_parts (bytes_eq (get_or c.volumes k d).name name) (does_flow (get_or c.volumes k d).class class) h).1) in
+      (λ k d within h. (and_parts (bytes_eq (get_or c.volumes k d).name name) (does_flow (get_or c.volumes k d).class class) h).1) in
       subst (SeenVolume class) (sym (position_is (λ (v : VolumeRow). bytes_eq v.name name && does_flow v.class class) c.volumes)) found
 
   mount_holds : (class : AccessClass) (k : ℕ) (v : VolumeRow) → slice_get c.volumes k ≡ Some v → does_flow v.class class ≡ true → (write : Bool) → (write && not (same_class v.class class)) ≡ false → MountFits class (Some (record { volume = k; write = write }))
@@ -201,7 +200,8 @@ module _ (c : Config) where
   unfolding applied
   fits_obeyed s f n k at (to_.Connect g) h = record {
     connected = pairs_set ConnectFits c.terminals (map (freed g) s.connected) n k (Some g) (pairs_map ConnectFits (freed g) (freed_fits g) c.terminals s.connected f.connected) at h;
-    mounts = f.mounts }
+    mounts = f.mounts;
+  }
   fits_obeyed s f n k at (to_.Start g) h = record { connected = f.connected; mounts = f.mounts }
   fits_obeyed s f n k at (to_.Halt g) h = record { connected = f.connected; mounts = f.mounts }
   fits_obeyed s f n k at (to_.MountAt g unit m) h = record { connected = f.connected; mounts = mount_kept s f g unit h.0.0 (Some m) h.0.1 (subst (λ class. MountFits class (Some m)) (sym h.0.2) h.1) }

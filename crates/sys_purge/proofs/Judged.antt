@@ -1,5 +1,5 @@
 -- The server's answer over the purged configuration is the whole one's, with places among what is kept.
-use Rattle.std.proofs.Common.{◌≡◌, ◌+◌, ℕ, zero, suc, List, [], ◌∷◌, map, filter, Bool, true, false, not, ◌&&◌, refl, sym, ap, ◌∙◌, All, Option, Some, None, option_map, slice_get, slice_index_or, if◌then◌else◌, true≢false, arith, get_or, length, ◌<◌}
+use Rattle.std.proofs.Common.{◌≡◌, ◌+◌, ℕ, zero, suc, List, [], ◌∷◌, map, filter, Bool, true, false, not, ◌&&◌, refl, sym, ap, ◌∙◌, Option, Some, None, option_map, slice_get, slice_index_or, if◌then◌else◌, arith, get_or}
 use Rattle.std.specs.Str.{bytes_eq}
 use Rattle.std.specs.List.{position, position_from}
 use Rattle.std.proofs.lemmas.Bool.{and_parts}
@@ -10,7 +10,6 @@ use Rattle.sys_objects.specs.Rules.{same_class}
 use Rattle.sys_objects.specs.declared.records.Config.{Config}
 use Rattle.sys_objects.specs.declared.records.GuestRow.{GuestRow}
 use Rattle.sys_objects.specs.declared.records.Mount.{Mount as Mounted}
-use Rattle.sys_objects.specs.declared.records.Terminal.{Terminal}
 use Rattle.sys_objects.specs.declared.records.VolumeRow.{VolumeRow}
 use Rattle.sys_purge.proofs.Accepted.{flows_on}
 use Rattle.sys_purge.proofs.Kept.{both, get_kept}

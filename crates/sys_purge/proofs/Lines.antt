@@ -1,7 +1,6 @@
 -- The bytes of lines, and the blocks of drives, when all that doesn't flow into a class was never there.
-use Rattle.std.proofs.Common.{◌≡◌, ◌<◌, ℕ, zero, suc, List, [], ◌∷◌, ◌++◌, map, filter, length, refl, sym, ap, ◌∙◌, subst, get_or, All, Bool, Option, Some, None, option_map, slice_get, true, false, true≢false, ◌==◌}
+use Rattle.std.proofs.Common.{◌≡◌, ℕ, List, [], ◌∷◌, ◌++◌, filter, refl, sym, ap, ◌∙◌, get_or, All, Option, Some, None, option_map, true, true≢false}
 use Rattle.std.proofs.lemmas.Bool.{eqb-true}
-use Rattle.vv_class.specs.Class.{does_flow}
 use Rattle.vv_class.specs.declared.class.AccessClass.{AccessClass}
 use Rattle.sys_objects.specs.Condition.{IsConfig}
 use Rattle.sys_objects.specs.declared.records.Config.{Config}
@@ -22,7 +21,7 @@ use Rattle.sys_purge.proofs.SeenTurns.{seen_rows}
 use Rattle.sys_purge.specs.Events.{purge_events}
 use Rattle.sys_purge.specs.Input.{beside, is_kept, purged}
 use Rattle.sys_purge.specs.Laws.{DriveFlowsInto, KeepsDevices, KeepsDrives, KeepsLines, LineFlowsInto}
-use Rattle.sys_purge.specs.Purge.{purge_config, rank, renumbered}
+use Rattle.sys_purge.specs.Purge.{purge_config, rank}
 use Rattle.sys_rounds.specs.Bytes.{blocks_at, devices_of, dump_on, is_on_drive}
 use Rattle.sys_rounds.specs.Places.{is_at, place_of}
 use Rattle.sys_rounds.specs.Run.{Input, first_state, rounds, run}
@@ -62,7 +61,7 @@ pub keeps_lines : KeepsLines
 keeps_lines x to line is flow =
     let shown = run_bytes x to is line flow in
     let dump = ap (λ (s : State). dump_on line (seen_rows x.config to x.config.guests) s.guests) (run_now x to is)
-        ∙ seen_dump x.config to line x.config.guests (dumps_flow x.config line to flow) (run x).now.guests in
+    ∙ seen_dump x.config to line x.config.guests (dumps_flow x.config line to flow) (run x).now.guests in
     λ i. shown i ++ dump i
 
 pub keeps_devices : KeepsDevices

@@ -1,5 +1,5 @@
 -- Members of a list, and of what is kept of it.
-use Rattle.std.proofs.Common.{◌≡◌, ◌<◌, ℕ, zero, suc, List, [], ◌∷◌, filter, length, refl, sym, ap, ◌∙◌, subst, get_or, Bool, true, false, ◌⊎◌, inl, inr, arith}
+use Rattle.std.proofs.Common.{◌≡◌, ◌<◌, ℕ, zero, suc, List, [], ◌∷◌, filter, length, refl, ap, ◌∙◌, get_or, Bool, true, ◌⊎◌, inl, inr, arith}
 use Rattle.sys_purge.proofs.Kept.{both}
 
 abbrev pub IsIn : {X : Type 0} → X → List X → Type 0

@@ -1,5 +1,5 @@
 -- What is seen of the first state is the first state of the purge, and the first state keeps the rules.
-use Rattle.std.proofs.Common.{◌≡◌, ℕ, zero, suc, List, [], ◌∷◌, map, filter, true, refl, sym, ap, ◌∙◌, All, Option, Some, None, option_map, slice_get}
+use Rattle.std.proofs.Common.{◌≡◌, ℕ, suc, List, [], ◌∷◌, map, filter, true, refl, sym, ap, ◌∙◌, All, Option, Some, None, option_map, slice_get}
 use Rattle.std.proofs.lemmas.Bool.{false≢true, eqb-true}
 use Rattle.std.proofs.lemmas.List.Elements.{All-head, All-tail, All-weaker}
 use Rattle.vv_class.specs.Class.{does_flow}
@@ -8,7 +8,6 @@ use Rattle.sys_objects.specs.Condition.{MayHave}
 use Rattle.sys_objects.specs.Rules.{is_of_class, may_connect}
 use Rattle.sys_objects.specs.declared.records.Config.{Config}
 use Rattle.sys_objects.specs.declared.records.GuestRow.{GuestRow}
-use Rattle.sys_objects.specs.declared.records.Mount.{Mount}
 use Rattle.sys_objects.specs.declared.records.Terminal.{Terminal}
 use Rattle.sys_purge.proofs.Accepted.{same_is, terminal_kept}
 use Rattle.sys_purge.proofs.Fits.{ConnectFits, Fits, MountFits, MountsFit, Pairs, each_of_all}
@@ -16,7 +15,7 @@ use Rattle.sys_purge.proofs.Kept.{both}
 use Rattle.sys_purge.proofs.Places.{StandFrom, StandsAt, first_stands, place_kept, rank_first, rank_next, rank_same, stand_all}
 use Rattle.sys_purge.proofs.Seen.{seen, seen_connected, seen_mounts}
 use Rattle.sys_purge.proofs.SeenTurns.{made_beside, seen_rows}
-use Rattle.sys_purge.specs.Input.{beside, is_kept, purge_images, purge_volumes}
+use Rattle.sys_purge.specs.Input.{is_kept, purge_images, purge_volumes}
 use Rattle.sys_purge.specs.Purge.{console_place, mount_place, purge_config, rank, renumbered}
 use Rattle.sys_rounds.specs.Guests.{powered}
 use Rattle.sys_rounds.specs.Places.{is_at, place_of}

@@ -1,5 +1,5 @@
 -- Rounds and runs as a class sees them, and what they show a line that flows into it.
-use Rattle.std.proofs.Common.{◌≡◌, ℕ, zero, suc, List, [], ◌∷◌, ◌++◌, filter, Bool, true, false, refl, sym, ap, ◌∙◌, ◌==◌}
+use Rattle.std.proofs.Common.{◌≡◌, ℕ, zero, suc, List, [], ◌∷◌, ◌++◌, filter, Bool, refl, sym, ap, ◌∙◌, ◌==◌}
 use Rattle.vv_class.specs.declared.class.AccessClass.{AccessClass}
 use Rattle.sys_objects.specs.declared.records.Config.{Config}
 use Rattle.sys_purge.proofs.EventBytes.{AuditFits, events_bytes}
@@ -85,7 +85,7 @@ module _ (c : Config) (to : AccessClass) where
       let second : bytes_on line b' ≡ bytes_on line b = ap (λ (t : State). bytes_on line (turns d t).puts) (begun_now i es s f) ∙ turns_bytes c to line h.terminals begun fb in
       let third : bytes_on line e' ≡ bytes_on line e = ap (λ (t : State). bytes_on line (transfers d t).puts) (turned_now i es s f) ∙ transfers_bytes c to line h.printers turned (fits_turns begun fb) h.rows in
       let parts : (x y z : List Put) → bytes_on line (x ++ y ++ z) ≡ bytes_on line x ++ bytes_on line y ++ bytes_on line z =
-          λ x y z. bytes_append line (x ++ y) z ∙ ap (λ (bytes : List ℕ). bytes ++ bytes_on line z) (bytes_append line x y) in
+      λ x y z. bytes_append line (x ++ y) z ∙ ap (λ (bytes : List ℕ). bytes ++ bytes_on line z) (bytes_append line x y) in
       parts a' b' e' ∙ (λ j. first j ++ second j ++ third j) ∙ sym (parts a b e)
 
   pub rounds_bytes : (line : ℕ) → Heard line → (i n : ℕ) (es : List Event) (s : State) → Fits c s → bytes_on line (rounds (purge_config c to) i n (purge_events c es to) (seen c to s)).puts ≡ bytes_on line (rounds c i n es s).puts

@@ -1,5 +1,5 @@
 -- What a class sees of a state, and what a command makes of it.
-use Rattle.std.proofs.Common.{◌≡◌, ℕ, zero, suc, List, [], ◌∷◌, map, filter, Bool, true, false, refl, sym, ap, ◌∙◌, subst, Option, Some, None, option_map, slice_get, slice_set, slice_index_or, if◌then◌else◌, true≢false, ◌==◌}
+use Rattle.std.proofs.Common.{◌≡◌, ℕ, zero, suc, List, [], ◌∷◌, map, Bool, true, false, refl, sym, ap, ◌∙◌, Option, Some, None, option_map, slice_get, slice_set, slice_index_or, true≢false, ◌==◌}
 use Rattle.std.proofs.lemmas.Bool.{eqb-true}
 use Rattle.vv_class.specs.declared.class.AccessClass.{AccessClass}
 use Rattle.vv_class.specs.Class.{does_flow}
@@ -15,15 +15,14 @@ use Rattle.sys_purge.proofs.Kept.{both}
 use Rattle.sys_purge.proofs.Places.{rank_same}
 use Rattle.sys_purge.specs.Input.{beside, is_kept}
 use Rattle.sys_purge.specs.Judged.{guest_rank, moved_command, moved_verdict, purged_state}
-use Rattle.sys_purge.specs.Purge.{mount_place, purge_config, rank, renumbered}
+use Rattle.sys_purge.specs.Purge.{mount_place, purge_config, rank}
 use Rattle.sys_rounds.specs.Events.{after_verdict, obeyed, reset_by}
 use Rattle.sys_rounds.specs.Guests.{commanded_to_stop}
-use Rattle.sys_rounds.specs.Places.{changed, is_at}
+use Rattle.sys_rounds.specs.Places.{changed}
 use Rattle.sys_rounds.specs.State.{State, is_running, server_of}
-use Rattle.sys_server.specs.Apply.{applied, freed, is_guest}
+use Rattle.sys_server.specs.Apply.{applied, freed}
 use Rattle.sys_server.specs.declared.command.Command.{Command}
 use Rattle.sys_server.specs.declared.command.Command.TheVariants.{Connect, Start, Halt, MountAt, Dismount, Show}
-use Rattle.sys_server.specs.declared.command.ServerState.{ServerState}
 use Rattle.sys_server.specs.declared.command.Verdict.{Verdict}
 use Rattle.sys_server.specs.declared.command.Verdict.TheVariants.{Granted, BadCommand, NoSuchObject, Denied}
 use Rattle.vm_state.specs.State.{Guest}
@@ -43,7 +42,8 @@ module _ (c : Config) (to : AccessClass) where
     connected = seen_connected c.terminals s.connected;
     mounts = seen_mounts c.guests s.mounts;
     guests = beside (is_kept to) c.guests s.guests;
-    volumes = beside (volume_kept c to) c.volumes s.volumes }
+    volumes = beside (volume_kept c to) c.volumes s.volumes;
+  }
 
   -- the server's part is the server's part of what is seen
   pub server_seen : (s : State) → server_of (seen s) ≡ purged_state c to (server_of s)
@@ -150,7 +150,7 @@ module _ (c : Config) (to : AccessClass) where
       let by : Option GuestRow = slice_get c.guests g in
       let by' : Option GuestRow = slice_get (purge_config c to).guests (guest_rank c to g) in
       let guests = same_change (reset_by by') (reset_by by) (reset_seen g h.0 h.1 kept) (beside (is_kept to) c.guests s.guests) (guest_rank c to g)
-          ∙ sym (beside_changed (is_kept to) (reset_by by) c.guests s.guests g (holds_passes class g h ∙ e)) in
+      ∙ sym (beside_changed (is_kept to) (reset_by by) c.guests s.guests g (holds_passes class g h ∙ e)) in
       λ i. record (seen s) { guests = guests i }
   seen_obeyed s f n p class e (Halt g) h =
       let guests = sym (beside_changed (is_kept to) commanded_to_stop c.guests s.guests g (holds_passes class g h ∙ e)) in

@@ -1,5 +1,5 @@
 -- What events make of what a class sees: those that are kept the same, those that aren't nothing.
-use Rattle.std.proofs.Common.{◌≡◌, ℕ, zero, suc, List, [], ◌∷◌, map, filter, Bool, true, false, refl, sym, ap, ◌∙◌, subst, Option, Some, None, option_map, slice_get, slice_set, slice_index_or, if◌then◌else◌, true≢false}
+use Rattle.std.proofs.Common.{◌≡◌, ℕ, zero, suc, List, [], ◌∷◌, map, filter, Bool, true, false, refl, sym, ap, ◌∙◌, Option, Some, None, option_map, slice_get, slice_index_or, true≢false}
 use Rattle.std.specs.Prelude.{find}
 use Rattle.std.specs.Option.{option_map_or}
 use Rattle.vv_class.specs.declared.class.AccessClass.{AccessClass}
@@ -11,10 +11,10 @@ use Rattle.sys_purge.proofs.Beside.{beside_changed, beside_unchanged, beside_uns
 use Rattle.sys_purge.proofs.Fits.{ConnectFits, Fits, fits_happened, pairs_at, verdict_fits}
 use Rattle.sys_purge.proofs.Judged.{keeps_verdicts}
 use Rattle.sys_purge.proofs.Kept.{both, get_kept}
-use Rattle.sys_purge.proofs.Seen.{holds_passes, seen, seen_connected, seen_verdict, server_seen, set_seen, unseen_verdict}
+use Rattle.sys_purge.proofs.Seen.{holds_passes, seen, seen_verdict, server_seen, set_seen, unseen_verdict}
 use Rattle.sys_purge.specs.Events.{is_kept_event, purge_events}
 use Rattle.sys_purge.specs.Input.{beside, is_kept}
-use Rattle.sys_purge.specs.Judged.{guest_rank, moved_verdict, purged_state}
+use Rattle.sys_purge.specs.Judged.{guest_rank, moved_verdict}
 use Rattle.sys_purge.specs.Purge.{purge_config, rank}
 use Rattle.sys_rounds.specs.Events.{acted, after_verdict, at_place, events, happened, is_named, lined}
 use Rattle.sys_rounds.specs.Guests.{typed}

@@ -1,38 +1,33 @@
 -- What a class sees of transfers, and what they show a line that flows into it.
-use Rattle.std.proofs.Common.{◌≡◌, ℕ, zero, suc, List, [], ◌∷◌, ◌++◌, length, map, filter, Bool, true, false, not, ◌&&◌, refl, sym, ap, ◌∙◌, subst, All, Option, Some, None, option_map, slice_get, slice_index_or, slice_set, if◌then◌else◌, true≢false, ◌==◌}
+use Rattle.std.proofs.Common.{◌≡◌, ℕ, List, [], ◌∷◌, length, map, Bool, true, false, not, ◌&&◌, refl, sym, ap, ◌∙◌, subst, Option, Some, None, slice_get, slice_index_or, slice_set, if◌then◌else◌, ◌==◌}
 use Rattle.std.specs.Prelude.{nat_le, nat_lt}
-use Rattle.std.proofs.lemmas.Bool.{and_parts, eqb-true, ne_eqb, false≢true}
+use Rattle.std.proofs.lemmas.Bool.{and_parts, false≢true}
 use Rattle.vax_arch.specs.Walk.{is_past}
 use Rattle.vv_class.specs.Class.{does_flow}
 use Rattle.vv_class.specs.declared.class.AccessClass.{AccessClass}
-use Rattle.sys_objects.specs.Rules.{flows_into, is_mountable, may_mount, may_print, same_class}
+use Rattle.sys_objects.specs.Rules.{is_mountable}
 use Rattle.sys_objects.specs.declared.records.Config.{Config}
 use Rattle.sys_objects.specs.declared.records.GuestRow.{GuestRow}
 use Rattle.sys_objects.specs.declared.records.Mount.{Mount}
-use Rattle.sys_objects.specs.declared.records.PrinterRow.{PrinterRow}
 use Rattle.sys_objects.specs.declared.records.VolumeRow.{VolumeRow}
-use Rattle.sys_purge.proofs.Accepted.{flows_on, printer_kept, same_is, volume_kept}
+use Rattle.sys_purge.proofs.Accepted.{flows_on, same_is, volume_kept}
 use Rattle.sys_purge.proofs.Beside.{beside_changed, beside_unchanged, index_beside, index_map, passes_at, passes_row, set_is_changed}
-use Rattle.sys_purge.proofs.Fits.{Each, Fits, MountFits, MountsFit, Pairs, all_get, each_at}
-use Rattle.sys_purge.proofs.Kept.{both, get_kept}
+use Rattle.sys_purge.proofs.Fits.{Each, Fits, MountFits, MountsFit, Pairs, each_at}
+use Rattle.sys_purge.proofs.Kept.{both}
 use Rattle.sys_purge.proofs.Seen.{seen}
 use Rattle.sys_purge.proofs.SeenTurns.{seen_rows}
 use Rattle.sys_purge.specs.Input.{beside, is_kept}
-use Rattle.sys_purge.specs.Purge.{mount_place, place_if, printer_place, purge_config, rank, renumbered}
-use Rattle.sys_rounds.proofs.Consoles.{bytes_append}
-use Rattle.sys_rounds.specs.Guests.{answered, bytes_at, with_no_queue}
-use Rattle.sys_rounds.specs.State.{Put, State, bytes_on}
-use Rattle.sys_rounds.specs.Transfers.{AllServed, Move, Packet, Prints, Reads, Refused, Served, Writes, all_served, done_status, move_of, moved, packet_at, printed, printer_of, refused_block, served, served_one, to_print, to_read, to_write, transfers, unless_refused}
-use Rattle.sys_store.specs.Blocks.{blocks_of, with_block}
-use Rattle.sys_store.specs.Job.{job_text}
+use Rattle.sys_purge.specs.Purge.{mount_place, purge_config, rank, renumbered}
+use Rattle.sys_rounds.specs.Guests.{bytes_at, with_no_queue}
+use Rattle.sys_rounds.specs.State.{State}
+use Rattle.sys_rounds.specs.Transfers.{AllServed, Move, Packet, Prints, Reads, Refused, Served, Writes, all_served, move_of, moved, packet_at, refused_block, served, served_one, to_print, to_read, to_write, transfers, unless_refused}
+use Rattle.sys_store.specs.Blocks.{with_block}
 use Rattle.vm_state.specs.State.{Guest}
 
 abbrev pub Volumes : Type 0
 Volumes = List (List (List ℕ))
 
 module _ (c : Config) (to : AccessClass) where
-
-
   abbrev pub seen_volumes : Volumes → Volumes
   seen_volumes vs = beside (volume_kept c to) c.volumes vs
 
@@ -177,7 +172,8 @@ module _ (c : Config) (to : AccessClass) where
       let later : Guest → Volumes → Served = λ h us. served (purge_config c to) (renumbered to c row) (map (mount_place to c.volumes) ms) h queue us in
       record {
         guest = (λ i. (later (first.guest i) (first.volumes i)).guest) ∙ rest.guest;
-        volumes = (λ i. (later (first.guest i) (first.volumes i)).volumes) ∙ rest.volumes }
+        volumes = (λ i. (later (first.guest i) (first.volumes i)).volumes) ∙ rest.volumes;
+      }
 
   -- a guest that isn't seen changes no volume that is
   unseen_moved : (row : GuestRow) → does_flow row.class to ≡ false → (g : Guest) (at : ℕ) (p : Packet) (vs : Volumes) (move : Move) → MoveFits row.class move → seen_volumes (moved c row g at p vs move).volumes ≡ seen_volumes vs
@@ -233,12 +229,14 @@ module _ (c : Config) (to : AccessClass) where
       let guest = first.guest in
       record {
         guests = rw e (λ i. guest i ∷ behind i);
-        volumes = rw e (ap (λ us. (later us).volumes) first.volumes ∙ rest.volumes) })
+        volumes = rw e (ap (λ us. (later us).volumes) first.volumes ∙ rest.volumes);
+      })
       (λ e.
       let first = unseen_served row e ms f.0 (with_no_queue g) g.state.queue vs in
       record {
         guests = rw e (ap (λ us. (later us).guests) (sym first) ∙ rest.guests);
-        volumes = rw e (ap (λ us. (later us).volumes) (sym first) ∙ rest.volumes) })
+        volumes = rw e (ap (λ us. (later us).volumes) (sym first) ∙ rest.volumes);
+      })
 
   pub transfers_now : (s : State) → Fits c s → (transfers (purge_config c to) (seen c to s)).now ≡ seen c to (transfers c s).now
   transfers_now s f =

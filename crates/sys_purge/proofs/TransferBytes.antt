@@ -1,6 +1,6 @@
 -- What transfers show a line that flows into a class.
-use Rattle.std.proofs.Common.{◌≡◌, ℕ, List, [], ◌∷◌, ◌++◌, length, map, Bool, true, false, refl, sym, ap, ◌∙◌, All, Option, Some, None, slice_get, true≢false, ◌==◌}
-use Rattle.std.proofs.lemmas.Bool.{ne_eqb, false≢true}
+use Rattle.std.proofs.Common.{◌≡◌, ℕ, List, [], ◌∷◌, ◌++◌, length, map, true, false, refl, sym, ap, ◌∙◌, All, Option, Some, None, slice_get, true≢false, ◌==◌}
+use Rattle.std.proofs.lemmas.Bool.{ne_eqb}
 use Rattle.vv_class.specs.Class.{does_flow}
 use Rattle.vv_class.specs.declared.class.AccessClass.{AccessClass}
 use Rattle.sys_objects.specs.Rules.{flows_into, may_print}
@@ -12,7 +12,7 @@ use Rattle.sys_purge.proofs.Accepted.{flows_on, printer_kept}
 use Rattle.sys_purge.proofs.Fits.{Each, Fits, MountFits, MountsFit, Pairs, all_get}
 use Rattle.sys_purge.proofs.Kept.{both, get_kept}
 use Rattle.sys_purge.proofs.Seen.{seen}
-use Rattle.sys_purge.proofs.SeenTransfers.{IsSame, Volumes, moved_move, no_guests, no_mounts, purged_all, same_move, same_one, same_served, seen_mss, seen_volumes, unseen_served}
+use Rattle.sys_purge.proofs.SeenTransfers.{Volumes, moved_move, no_guests, no_mounts, purged_all, same_move, same_one, same_served, seen_mss, seen_volumes, unseen_served}
 use Rattle.sys_purge.proofs.SeenTurns.{seen_rows}
 use Rattle.sys_purge.specs.Input.{beside, is_kept}
 use Rattle.sys_purge.specs.Purge.{mount_place, place_if, printer_place, purge_config, rank, renumbered}
@@ -84,7 +84,7 @@ module _ (c : Config) (to : AccessClass) (line : ℕ) (flow : PrintersFlow line 
       let later : Guest → Volumes → List Put = λ x us. (served (purge_config c to) (renumbered to c row) (map (mount_place to c.volumes) ms) x queue us).puts in
       let first = one_bytes row h e ms each g at vs in
       let rest : bytes_on line (later one'.guest one'.volumes) ≡ bytes_on line (served c row ms one.guest queue one.volumes).puts =
-          (λ i. bytes_on line (later (same.guest i) (same.volumes i))) ∙ served_bytes row h e ms each one.guest queue one.volumes in
+      (λ i. bytes_on line (later (same.guest i) (same.volumes i))) ∙ served_bytes row h e ms each one.guest queue one.volumes in
       bytes_append line one'.puts (later one'.guest one'.volumes)
       ∙ (λ i. first i ++ rest i)
       ∙ sym (bytes_append line one.puts (served c row ms one.guest queue one.volumes).puts)

@@ -1,5 +1,5 @@
 -- The purge of events to a class: those at terminals that the configuration has and whose class flows into it.
-use Rattle.std.specs.Prelude.{ℕ, List, Bool, false, filter, find, bytes_eq}
+use Rattle.std.specs.Prelude.{List, Bool, false, filter, find, bytes_eq}
 use Rattle.std.specs.Option.{option_map_or}
 use Rattle.vv_class.specs.declared.class.AccessClass.{AccessClass}
 use Rattle.vv_class.specs.Class.{does_flow}

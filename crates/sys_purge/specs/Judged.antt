@@ -1,6 +1,6 @@
 -- The server's answers when all that doesn't flow into a class was never there: the same, with places among what is
 -- kept.
-use Rattle.std.specs.Prelude.{ℕ, ◌≡◌, List, Bool, true, Option, Some, map, option_map, slice_get}
+use Rattle.std.specs.Prelude.{ℕ, ◌≡◌, List, Bool, true, Some, map, option_map, slice_get}
 use Rattle.vv_class.specs.declared.class.AccessClass.{AccessClass}
 use Rattle.vv_class.specs.Class.{does_flow}
 use Rattle.sys_objects.specs.declared.records.Config.{Config}

@@ -1,15 +1,14 @@
 -- Worked examples of purged inputs and of their runs, by computation.
-use Rattle.std.specs.Prelude.{◌≡◌, ℕ, List, [], ◌∷◌, ◌++◌, codes, false, true, refl, replicate, None}
+use Rattle.std.specs.Prelude.{◌≡◌, ℕ, [], ◌∷◌, codes, false, true, refl, None}
 use Rattle.std.specs.Fmt.{digits}
 use Rattle.vv_class.specs.Class.{does_flow, is_subset}
 use Rattle.vv_class.specs.Text.{categories_below, class_text}
 use Rattle.sys_audit.specs.Audit.{audit_of}
 use Rattle.sys_purge.specs.Input.{beside, purged}
-use Rattle.sys_rounds.specs.Bytes.{devices_of, drive_blocks, line_bytes}
-use Rattle.sys_rounds.specs.Run.{Input}
+use Rattle.sys_rounds.specs.Bytes.{drive_blocks, line_bytes}
 use Rattle.sys_rounds.specs.ShownRuns.{both_there, low_alone}
 use Rattle.sys_rounds.specs.ShownServer.{mounts}
-use Rattle.sys_rounds.specs.ShownSetup.{config, guest, level, line_at, terminal, volume}
+use Rattle.sys_rounds.specs.ShownSetup.{config, level, volume}
 use Rattle.sys_server.specs.Apply.{applied, taken}
 use Rattle.sys_server.specs.Line.{asked_in}
 use Rattle.sys_server.specs.Verdict.{judged}

@@ -5,12 +5,12 @@ use Rattle.sys_objects.specs.declared.records.Terminal.{Terminal}
 use Rattle.sys_rounds.proofs.Consoles.{bytes_append}
 use Rattle.sys_rounds.proofs.Schedules.{any_schedule}
 use Rattle.sys_rounds.proofs.Sums.{same_counts}
-use Rattle.sys_rounds.specs.Events.{acted, after_verdict, at_place, at_row, events, guests_by, happened, is_named, lined, reset_by}
+use Rattle.sys_rounds.specs.Events.{after_verdict, at_place, at_row, events, guests_by, happened, is_named, lined, reset_by}
 use Rattle.sys_rounds.specs.Guests.{commanded_to_stop, typed}
 use Rattle.sys_rounds.specs.Places.{changed, place_of}
 use Rattle.sys_rounds.specs.Run.{events_of}
 use Rattle.sys_rounds.specs.SlicedRound.{AnyRound}
-use Rattle.sys_rounds.specs.Slices.{Slice, slices}
+use Rattle.sys_rounds.specs.Slices.{slices}
 use Rattle.sys_rounds.specs.State.{Put, State, bytes_on, server_of}
 use Rattle.sys_rounds.specs.Transfers.{transfers}
 use Rattle.sys_rounds.specs.Turns.{turns}
@@ -74,12 +74,13 @@ any_round c i es xs s is long quanta =
     let behind : List Guest → State = λ gs. record begun { guests = gs } in
     let later : List Guest → List Put = λ gs. (transfers c (behind gs)).puts in
     let parts : (line : ℕ) (x y z : List Put) → bytes_on line (x ++ y ++ z) ≡ bytes_on line x ++ bytes_on line y ++ bytes_on line z =
-        λ line x y z. bytes_append line (x ++ y) z ∙ ap (λ (bytes : List ℕ). bytes ++ bytes_on line z) (bytes_append line x y) in
+    λ line x y z. bytes_append line (x ++ y) z ∙ ap (λ (bytes : List ℕ). bytes ++ bytes_on line z) (bytes_append line x y) in
     record {
       now = ap (λ (gs : List Guest). (transfers c (behind gs)).now) same.0;
       bytes = λ line.
-        let middle : bytes_on line cut ≡ bytes_on line turned = same.1 line in
-        parts line shown cut (later (slices c.terminals begun.connected xs begun.guests).now)
-        ∙ (λ j. bytes_on line shown ++ middle j ++ bytes_on line (later (same.0 j)))
-        ∙ sym (parts line shown turned (later (turns c begun).now.guests));
-      counts = same_counts c.guests begun.guests xs many_begun quanta }
+          let middle : bytes_on line cut ≡ bytes_on line turned = same.1 line in
+          parts line shown cut (later (slices c.terminals begun.connected xs begun.guests).now)
+          ∙ (λ j. bytes_on line shown ++ middle j ++ bytes_on line (later (same.0 j)))
+          ∙ sym (parts line shown turned (later (turns c begun).now.guests));
+      counts = same_counts c.guests begun.guests xs many_begun quanta;
+    }

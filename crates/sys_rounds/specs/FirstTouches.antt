@@ -103,7 +103,7 @@ touches_of_round c i es s ts =
     let begun = (events c i s (events_of i es)).now in
     let turned = (turns c begun).now in
     touches_of_transfers c c.guests turned.mounts turned.guests turned.volumes
-        (touches_of_turns c.guests begun.guests (touches_of_events c i s (events_of i es) ts))
+    (touches_of_turns c.guests begun.guests (touches_of_events c i s (events_of i es) ts))
 
 abbrev pub touches_of_rounds : Config → ℕ → ℕ → List Event → State → List Touching → List Touching
 touches_of_rounds c i zero es s ts = ts

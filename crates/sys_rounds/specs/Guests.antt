@@ -1,5 +1,5 @@
 -- What happens to a guest from without: a line is typed, a command starts or stops it, a transfer is made.
-use Rattle.std.specs.Prelude.{ℕ, ◌*◌, true, List, [], ◌∷◌, ◌++◌, Option, Some, None, drop, take, if◌then◌else◌}
+use Rattle.std.specs.Prelude.{ℕ, ◌*◌, true, List, [], ◌∷◌, ◌++◌, Some, drop, take, if◌then◌else◌}
 use Rattle.vv_base.specs.Bytes.{long_bytes, overwritten}
 use Rattle.sys_objects.specs.declared.records.GuestRow.{GuestRow}
 use Rattle.sys_rounds.specs.State.{is_running}

@@ -1,7 +1,7 @@
 -- A worked example, by computation: a transfer puts a block over the frame that holds a guest's page tables, so that the
 -- next step finds another page, and touches all pages anew.
-use Rattle.std.specs.Prelude.{◌≡◌, ℕ, ◌+◌, ◌%◌, List, [], ◌∷◌, ◌++◌, codes, false, true, map, refl, replicate, slice_index, take, None}
-use Rattle.vv_base.specs.Bytes.{long_at, long_bytes}
+use Rattle.std.specs.Prelude.{◌≡◌, ℕ, ◌%◌, List, [], ◌∷◌, codes, false, true, map, refl, slice_index, take, None}
+use Rattle.vv_base.specs.Bytes.{long_at}
 use Rattle.vax_arch.specs.Walk.{granted, lookup, mapped_entry, process_entry, system_entry}
 use Rattle.vax_table.specs.Arithmetic.{alu_of}
 use Rattle.vax_table.specs.Computing.{computed}
@@ -17,7 +17,7 @@ use Rattle.vm_clock.specs.Clock.{after_tick}
 use Rattle.sys_objects.specs.declared.records.Config.{Config}
 use Rattle.sys_rounds.specs.FirstTouches.{none_touched, touches_of_rounds}
 use Rattle.sys_rounds.specs.Run.{rounds}
-use Rattle.sys_rounds.specs.ShownSetup.{config, guest, mounted, packet, volume}
+use Rattle.sys_rounds.specs.ShownSetup.{config, guest, mounted, volume}
 use Rattle.sys_rounds.specs.State.{State}
 use Rattle.vm_state.specs.Interrupts.{due}
 use Rattle.vm_state.specs.ShownSetup.{guest_m, registers, with_longs, with_psl, with_registers}

@@ -1,5 +1,5 @@
 -- Worked examples of runs, by computation: a low guest's line with and without a high guest, slices, dumps, counts.
-use Rattle.std.specs.Prelude.{◌≡◌, ℕ, ◌+◌, List, [], ◌∷◌, ◌++◌, codes, false, true, map, refl, replicate, Option, Some, None}
+use Rattle.std.specs.Prelude.{◌≡◌, ℕ, ◌+◌, List, [], ◌∷◌, ◌++◌, codes, false, true, refl, Some, None}
 use Rattle.std.specs.Fmt.{digits}
 use Rattle.vv_class.specs.Class.{does_flow, is_subset}
 use Rattle.vax_arch.specs.Walk.{lookup}
@@ -19,8 +19,8 @@ use Rattle.sys_rounds.specs.Counts.{outcome}
 use Rattle.sys_rounds.specs.Dump.{dump_of, register_line, row_line}
 use Rattle.sys_rounds.specs.Places.{changed, is_at, place_of}
 use Rattle.sys_rounds.specs.Consoles.{on_console}
-use Rattle.sys_rounds.specs.Run.{Input, first_state, run}
-use Rattle.sys_rounds.specs.ShownSetup.{config, guest, level, line_at, mounted, terminal, volume}
+use Rattle.sys_rounds.specs.Run.{Input, first_state}
+use Rattle.sys_rounds.specs.ShownSetup.{config, guest, line_at, terminal, volume}
 use Rattle.sys_rounds.specs.Slices.{slices, total}
 use Rattle.sys_rounds.specs.State.{bytes_on}
 use Rattle.sys_server.specs.Apply.{applied, taken}
@@ -85,7 +85,7 @@ counts = (refl, refl, refl)
 -- in three slices, the high guest's turn in between
 pub in_slices :
     bytes_on 0 (slices both_there.config.terminals (Some 0 ∷ Some 1 ∷ []) (record { guest = 1; steps = 1 } ∷ record { guest = 0; steps = 4 } ∷ record { guest = 1; steps = 3 } ∷ [])
-        (first_state both_there.config both_there.images []).guests).puts ≡ codes "A?06 00000208\r\n"
+    (first_state both_there.config both_there.images []).guests).puts ≡ codes "A?06 00000208\r\n"
 unfolding opening step executed instruction fetched decided decoded_at acted plan_of performed row_of operation_of operands_of operand_of read_operand address_of branch_operand branched value_size trap_operands operand_at specifier_at specifier_by after_tick due sensed register_of written walk_of lookup alu_of
 in_slices = refl
 
@@ -101,9 +101,9 @@ never_started = record {
 
 pub devices :
     (line_bytes never_started 7 ≡
-      codes "VM Z\r\nR0 00000000\r\nR1 00000000\r\nR2 00000000\r\nR3 00000000\r\nR4 00000000\r\nR5 00000000\r\nR6 00000000\r\nR7 00000000\r\n"
-      ++ codes "R8 00000000\r\nR9 00000000\r\nR10 00000000\r\nR11 00000000\r\nR12 00000000\r\nR13 00000000\r\nR14 00000000\r\nR15 00000200\r\nPSL 041F0000\r\n"
-      ++ codes "00000010 AB 00 00 00 00 00 00 00 00 00 00 00 00 00 00 00\r\n")
+    codes "VM Z\r\nR0 00000000\r\nR1 00000000\r\nR2 00000000\r\nR3 00000000\r\nR4 00000000\r\nR5 00000000\r\nR6 00000000\r\nR7 00000000\r\n"
+    ++ codes "R8 00000000\r\nR9 00000000\r\nR10 00000000\r\nR11 00000000\r\nR12 00000000\r\nR13 00000000\r\nR14 00000000\r\nR15 00000200\r\nPSL 041F0000\r\n"
+    ++ codes "00000010 AB 00 00 00 00 00 00 00 00 00 00 00 00 00 00 00\r\n")
     × (line_bytes never_started 8 ≡ [])
     × (drive_blocks never_started 3 ≡ (1 ∷ 2 ∷ []) ∷ [])
     × (drive_blocks never_started 2 ≡ [])

@@ -1,5 +1,5 @@
 -- Worked examples of events, by computation: replies, consoles that move, audits, HALT and START.
-use Rattle.std.specs.Prelude.{◌≡◌, ℕ, List, [], ◌∷◌, ◌++◌, codes, false, true, map, refl, Option, Some, None}
+use Rattle.std.specs.Prelude.{◌≡◌, [], ◌∷◌, ◌++◌, codes, false, true, map, refl, Some, None}
 use Rattle.std.specs.Fmt.{digits}
 use Rattle.vv_class.specs.Class.{does_flow, is_subset}
 use Rattle.vv_class.specs.Text.{categories_below, class_text}

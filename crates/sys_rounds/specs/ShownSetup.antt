@@ -1,5 +1,5 @@
 -- Configurations for the worked examples: guests of a few pages whose code lies at 200 hexadecimal.
-use Rattle.std.specs.Prelude.{ℕ, ◌+◌, ◌-◌, ◌*◌, List, [], ◌∷◌, ◌++◌, codes, Bool, false, length, replicate, Option, Some, None}
+use Rattle.std.specs.Prelude.{ℕ, ◌-◌, List, [], ◌∷◌, ◌++◌, codes, Bool, false, length, replicate, Option, Some, None}
 use Rattle.vv_base.specs.Bytes.{long_bytes}
 use Rattle.vv_class.specs.declared.class.AccessClass.{AccessClass}
 use Rattle.sys_objects.specs.declared.records.Audit.{Audit}

@@ -1,5 +1,5 @@
 -- Worked examples of transfers, by computation: a shared volume, a full queue, printing, each status.
-use Rattle.std.specs.Prelude.{◌≡◌, ℕ, ◌+◌, ◌*◌, List, [], ◌∷◌, ◌++◌, codes, false, true, map, refl, replicate, Option, Some, None}
+use Rattle.std.specs.Prelude.{◌≡◌, ℕ, ◌+◌, List, [], ◌∷◌, ◌++◌, codes, false, true, map, refl, replicate, Option, Some, None}
 use Rattle.std.specs.Fmt.{digits}
 use Rattle.vv_base.specs.Bytes.{long_at}
 use Rattle.vv_class.specs.Text.{categories_below, class_text}
@@ -15,7 +15,7 @@ use Rattle.vax_table.specs.Spelled.{value_size}
 use Rattle.vax_table.specs.Whole.{acted, instruction}
 use Rattle.vm_clock.specs.Clock.{after_tick}
 use Rattle.sys_rounds.specs.Run.{Input, run}
-use Rattle.sys_rounds.specs.ShownSetup.{config, filled, guest, kcall, mounted, nothing_mounted, packet, printer, volume}
+use Rattle.sys_rounds.specs.ShownSetup.{config, filled, guest, kcall, mounted, packet, printer, volume}
 use Rattle.sys_rounds.specs.State.{bytes_on}
 use Rattle.sys_rounds.specs.Transfers.{Packet, Prints, Reads, Refused, Writes, move_of}
 use Rattle.sys_store.specs.Job.{job_text}
@@ -101,7 +101,7 @@ asked function unit block buffer size = record { function = function; unit = uni
 
 pub statuses :
     (map (move_of 1024 (([] ∷ []) ∷ []) (None ∷ mounted 0 false ∷ mounted 0 true ∷ None ∷ [])) (
-        asked 0 0 0 0 0 ∷ asked 4 0 0 0 0 ∷ asked 1 3 0 0 0 ∷ asked 1 4 0 0 0 ∷ asked 2 0 9 2000 0 ∷ asked 2 1 9 2000 0 ∷ asked 1 1 1 2000 0 ∷ asked 2 2 1 2000 0 ∷
-        asked 1 1 0 513 0 ∷ asked 1 1 0 512 0 ∷ asked 2 2 0 512 0 ∷ asked 3 9 9 1024 0 ∷ asked 3 0 0 1024 1 ∷ asked 3 0 0 0 133 ∷ asked 3 0 0 892 132 ∷ [])
-      ≡ Refused 7 ∷ Refused 7 ∷ Refused 3 ∷ Refused 3 ∷ Refused 3 ∷ Refused 4 ∷ Refused 5 ∷ Refused 5 ∷ Refused 6 ∷ Reads 0 ∷ Writes 0 ∷ Prints ∷ Refused 6 ∷ Refused 6 ∷ Prints ∷ [])
+    asked 0 0 0 0 0 ∷ asked 4 0 0 0 0 ∷ asked 1 3 0 0 0 ∷ asked 1 4 0 0 0 ∷ asked 2 0 9 2000 0 ∷ asked 2 1 9 2000 0 ∷ asked 1 1 1 2000 0 ∷ asked 2 2 1 2000 0 ∷
+    asked 1 1 0 513 0 ∷ asked 1 1 0 512 0 ∷ asked 2 2 0 512 0 ∷ asked 3 9 9 1024 0 ∷ asked 3 0 0 1024 1 ∷ asked 3 0 0 0 133 ∷ asked 3 0 0 892 132 ∷ [])
+    ≡ Refused 7 ∷ Refused 7 ∷ Refused 3 ∷ Refused 3 ∷ Refused 3 ∷ Refused 4 ∷ Refused 5 ∷ Refused 5 ∷ Refused 6 ∷ Reads 0 ∷ Writes 0 ∷ Prints ∷ Refused 6 ∷ Refused 6 ∷ Prints ∷ [])
 statuses = refl
