@@ -49,7 +49,7 @@ unfolding asked_in judged does_flow is_subset applied taken audit_of class_text 
 mount_audit = refl
 
 -- Two terminals of the guest's class: the second takes its console from the first, which sees what there is.
-abbrev consoles : Input
+abbrev pub consoles : Input
 consoles = record {
   config = config (audit 9 0) (terminal (codes "T1") 0 0 ∷ terminal (codes "T2") 1 0 ∷ []) [] [] (guest (codes "A") 0 1 1 false None ∷ []);
   images = [] ∷ [];
@@ -67,7 +67,7 @@ console_moves = (refl, refl, refl)
 
 -- A guest that branches to itself, on the console of the first terminal. The second stops it, which the first is shown
 -- before the second's reply; stops it again, which changes nothing; and starts it. The first types a line to it.
-abbrev stopping : Input
+abbrev pub stopping : Input
 stopping = record {
   config = config None (terminal (codes "T1") 0 0 ∷ terminal (codes "T2") 1 0 ∷ []) [] [] (guest (codes "A") 0 2 2 true (Some 0) ∷ []);
   images = (0x11 ∷ 0xfe ∷ []) ∷ [];

@@ -33,7 +33,7 @@ use Rattle.vm_state.specs.Translation.{walk_of}
 abbrev writer : ℕ → List ℕ
 writer byte = filled 0x80 (kcall 0x280) ++ packet 2 0 0 0x400 0 ++ replicate 0x168 0 ++ replicate 512 byte
 
-abbrev shared : Input
+abbrev pub shared : Input
 shared = record {
   config = config None [] (volume (codes "V") 0 0 ∷ []) [] (
       record (guest (codes "A") 0 3 1 true None) { mounts = mounted 0 true ∷ None ∷ None ∷ None ∷ [] } ∷
@@ -61,7 +61,7 @@ long_zeros = replicate 8 0
 abbrev packets : List ℕ
 packets = packet 3 0 0 0 1 ++ long_zeros
 
-abbrev nine : Input
+abbrev pub nine : Input
 nine = record {
   config = config None [] [] [] (guest (codes "A") 0 3 9 true None ∷ []);
   images = (filled 0x80 (kcall 0x280 ++ kcall 0x2a0 ++ kcall 0x2c0 ++ kcall 0x2e0 ++ kcall 0x300 ++ kcall 0x320 ++ kcall 0x340 ++ kcall 0x360 ++ kcall 0x380)
@@ -77,7 +77,7 @@ unfolding opening step executed instruction fetched decided decoded_at acted pla
 ninth_is_busy = refl
 
 -- a text of five bytes, with a printer and without one; its status is 1 both times
-abbrev printing : Option ℕ → Input
+abbrev pub printing : Option ℕ → Input
 printing place = record {
   config = config None [] [] (printer (codes "P") 4 0 ∷ []) (record (guest (codes "A") 0 3 1 true None) { printer = place } ∷ []);
   images = (filled 0x80 (kcall 0x280) ++ packet 3 0 0 0x2a0 5 ++ long_zeros ++ codes "HELLO") ∷ [];
