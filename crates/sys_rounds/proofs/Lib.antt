@@ -1,0 +1,7 @@
+pub mod Consoles
+pub mod OwnLines
+pub mod Places
+pub mod Schedules
+pub mod SlicedRound
+pub mod Steps
+pub mod Sums

@@ -1,0 +1,60 @@
+-- What each device gets of a run: a line's bytes, a volume's blocks.
+use Rattle.std.specs.Prelude.{ℕ, Bool, ◌==◌, List, [], ◌∷◌, ◌++◌, map, Option, Some, None, option_map, if◌then◌else◌}
+use Rattle.std.specs.List.{filter_map}
+use Rattle.vv_class.specs.declared.class.AccessClass.{AccessClass}
+use Rattle.sys_objects.specs.declared.records.Audit.{Audit}
+use Rattle.sys_objects.specs.declared.records.Config.{Config}
+use Rattle.sys_objects.specs.declared.records.GuestRow.{GuestRow}
+use Rattle.sys_objects.specs.declared.records.PrinterRow.{PrinterRow}
+use Rattle.sys_objects.specs.declared.records.Terminal.{Terminal}
+use Rattle.sys_objects.specs.declared.records.VolumeRow.{VolumeRow}
+use Rattle.sys_rounds.specs.Dump.{dump_of}
+use Rattle.sys_rounds.specs.Places.{is_at, place_of}
+use Rattle.sys_rounds.specs.Run.{Input, run}
+use Rattle.sys_rounds.specs.State.{bytes_on}
+use Rattle.sys_store.specs.Blocks.{blocks_of}
+use Rattle.vm_state.specs.State.{Guest}
+
+-- the dump of the guest whose dump goes to a line
+abbrev pub dump_on : ℕ → List GuestRow → List Guest → List ℕ
+dump_on line [] gs = []
+dump_on line (row ∷ rows) [] = []
+dump_on line (row ∷ rows) (g ∷ gs) = if is_at line row.dump then dump_of row.name g else dump_on line rows gs
+
+-- a line gets what it is shown, and the dump in the last state
+abbrev pub line_bytes : Input → ℕ → List ℕ
+line_bytes x line = bytes_on line (run x).puts ++ dump_on line x.config.guests (run x).now.guests
+
+-- a drive gets the last blocks of its volume
+abbrev pub blocks_at : List (List (List ℕ)) → Option ℕ → List (List ℕ)
+blocks_at volumes None = []
+blocks_at volumes (Some v) = blocks_of volumes v
+
+abbrev pub is_on_drive : ℕ → VolumeRow → Bool
+is_on_drive drive v = v.drive == drive
+
+abbrev pub drive_blocks : Input → ℕ → List (List ℕ)
+drive_blocks x drive = blocks_at (run x).now.volumes (place_of (is_on_drive drive) x.config.volumes)
+
+-- a device on a line, with its class
+pub record Device : Type 0 where
+  pub line : ℕ
+  pub class : AccessClass
+
+abbrev pub terminal_device : Terminal → Device
+terminal_device t = record { line = t.line; class = t.class }
+
+abbrev pub printer_device : PrinterRow → Device
+printer_device p = record { line = p.line; class = p.class }
+
+-- a guest's dump has the guest's class
+abbrev pub dump_device : GuestRow → Option Device
+dump_device g = option_map (λ line. record { line = line; class = g.class }) g.dump
+
+abbrev pub audit_device : Option Audit → List Device
+audit_device None = []
+audit_device (Some a) = record { line = a.line; class = a.class } ∷ []
+
+-- the devices of a configuration that stand on lines, in the order in which lines are compared
+abbrev pub devices_of : Config → List Device
+devices_of c = map terminal_device c.terminals ++ map printer_device c.printers ++ filter_map dump_device c.guests ++ audit_device c.audit

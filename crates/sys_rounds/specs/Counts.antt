@@ -1,0 +1,56 @@
+-- How many steps of each kind all guests take.
+use Rattle.std.specs.Prelude.{zero, suc, ◌+◌, ◌%◌, ◌^◌, List, [], ◌∷◌, ℕ, Option, None, Some}
+use Rattle.std.specs.List.{slice_get}
+use Rattle.sys_objects.specs.declared.records.Config.{Config}
+use Rattle.sys_objects.specs.declared.records.GuestRow.{GuestRow}
+use Rattle.sys_rounds.specs.Places.{changed}
+use Rattle.sys_rounds.specs.Guests.{alone}
+use Rattle.sys_rounds.specs.Events.{events}
+use Rattle.sys_rounds.specs.Run.{Input, events_of, first_state, round, run}
+use Rattle.sys_rounds.specs.State.{State, Went}
+use Rattle.sys_script.specs.declared.event.Event.{Event}
+use Rattle.sys_rounds.specs.Slices.{Slice}
+use Rattle.vm_state.specs.State.{Guest}
+use Rattle.vm_state.specs.Run.{Tally, no_steps}
+
+-- the sum of two, the trail modulo 2^64
+abbrev pub added : Tally → Tally → Tally
+added t u = record {
+  plain = t.plain + u.plain;
+  sensitive = t.sensitive + u.sensitive;
+  faults = t.faults + u.faults;
+  interrupts = t.interrupts + u.interrupts;
+  modify = t.modify + u.modify;
+  idle = t.idle + u.idle;
+  stopped = t.stopped + u.stopped;
+  trail = (t.trail + u.trail) % 2 ^ 64;
+}
+
+-- in a round
+abbrev pub round_tally : List GuestRow → List Guest → Tally
+round_tally [] gs = no_steps
+round_tally (row ∷ rows) [] = no_steps
+round_tally (row ∷ rows) (g ∷ gs) = added (alone row.quantum g).tally (round_tally rows gs)
+
+-- in slices
+abbrev pub tally_by : ℕ → Option Guest → Tally
+tally_by n None = no_steps
+tally_by n (Some g) = (alone n g).tally
+
+abbrev pub slices_tally : List Slice → List Guest → Tally
+slices_tally [] gs = no_steps
+slices_tally (x ∷ xs) gs = added (tally_by x.steps (slice_get gs x.guest)) (slices_tally xs (changed (λ g. (alone x.steps g).guest) gs x.guest))
+
+-- in so many rounds from the i-th on: each round's guests are those behind its events
+abbrev pub rounds_tally : Config → ℕ → ℕ → List Event → State → Tally
+rounds_tally c i zero es s = no_steps
+rounds_tally c i (suc n) es s =
+    added (round_tally c.guests (events c i s (events_of i es)).now.guests) (rounds_tally c (suc i) n es (round c i es s).now)
+
+-- what a run has come to: where it led, what was shown, and the steps of all its rounds
+pub record Outcome : Type 0 where
+  pub went : Went State
+  pub tally : Tally
+
+abbrev pub outcome : Input → Outcome
+outcome x = record { went = run x; tally = rounds_tally x.config 1 x.rounds x.events (first_state x.config x.images x.volumes) }

@@ -1,0 +1,18 @@
+ghost use Rattle.sys_rounds.specs.Laws.{AnySchedule, SameCounts};
+ghost use Rattle.sys_rounds.specs.SlicedRound.{AnyRound};
+
+/// However the turns of a round are cut into slices and ordered, each guest and each line ends as the turns say.
+pub fn any_schedule()
+    ensures { AnySchedule }
+{}
+
+/// However the turns of a round are cut into slices and ordered, the counts of steps are the round's.
+pub fn same_counts()
+    ensures { SameCounts }
+{}
+
+/// However the turns of a round are cut into slices and ordered, the guests, the server's state, the volumes, each line's
+/// bytes and the counts of steps are the round's, with its events and transfers.
+pub fn any_round()
+    ensures { AnyRound }
+{}

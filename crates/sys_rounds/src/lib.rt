@@ -1,0 +1,7 @@
+//! Runs of several guests, each alone on its private virtual VAX, with events, transfers and devices, as definitions;
+//! their laws.
+#![tactic(auto)]
+
+mod laws;
+
+pub use laws::{any_round, any_schedule, same_counts};
