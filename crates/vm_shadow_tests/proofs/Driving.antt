@@ -1,7 +1,7 @@
 -- What the driver's calls keep.
-use Rattle.std.proofs.Common.{◌≡◌, ◌≢◌, ℕ, ◌+◌, ◌*◌, ◌/◌, ◌%◌, ◌^◌, ◌≤◌, ◌<◌, ◌==◌, ◌&&◌, ◌||◌, ◌⊎◌, inl, inr, Bool, true, false, not, List, [], ◌∷◌, length, filter, All, Option, Some, None, is_some, refl, ap, sym, ◌∙◌, subst, arith, slice_index_or, slice_set}
+use Rattle.std.proofs.Common.{◌≡◌, ℕ, ◌+◌, ◌*◌, ◌^◌, ◌≤◌, ◌<◌, ◌==◌, ◌&&◌, ◌||◌, ◌⊎◌, inl, inr, Bool, true, false, List, [], ◌∷◌, length, Option, Some, None, is_some, refl, ap, sym, ◌∙◌, subst, arith, slice_index_or, slice_set}
 use Rattle.std.specs.Bool.{OnTrue}
-use Rattle.std.proofs.lemmas.Bool.{eq-eqb, eqb-true, false≢true}
+use Rattle.std.proofs.lemmas.Bool.{eq-eqb, eqb-true}
 use Rattle.std.proofs.lemmas.List.{get_or-set_same}
 use Rattle.std.proofs.lemmas.List.Elements.{All-nil}
 use Rattle.vax_arch.specs.Fields.{is_modified, is_valid}
@@ -12,23 +12,21 @@ use Rattle.vax_arch.specs.declared.walk.Lookup.{Lookup}
 use Rattle.vax_hw.specs.Machine.{Machine}
 use Rattle.vm_shadow.specs.Layout.{IsCovered, entry_number}
 use Rattle.vm_shadow.specs.Stands.{CanStand, Fits, IsKept, Keeps, Shadowed, own, read_at, real_at, seen_at}
-use Rattle.vm_shadow.specs.StandsFor.{ClosesPage, FillsPage, Makes, IsMarked, IsPresent, IsGranted, OpensPage, Serves, StandsFor, Stores, Switches, closed_for, own_number}
+use Rattle.vm_shadow.specs.StandsFor.{ClosesPage, FillsPage, Makes, IsPresent, IsGranted, OpensPage, Serves, StandsFor, Stores, Switches, closed_for, own_number}
 use Rattle.vm_shadow.specs.declared.source.Source.{Source}
 use Rattle.vm_shadow.proofs.Making.{can_stand}
 use Rattle.vm_shadow.proofs.Covering.{covered, own_is, own_length, present_covered, seen_own, slot_small}
 use Rattle.vm_shadow.proofs.Places.{number_small}
-use Rattle.vm_state.specs.Allowed.{AreAllowed, Allows, IsPacket}
+use Rattle.vm_state.specs.Allowed.{AreAllowed, IsPacket}
 use Rattle.vm_state.specs.Partition.{guest_of, partition_of}
-use Rattle.vm_state.specs.Registers.{allows}
 use Rattle.vm_state.specs.Start.{stopped_at_first}
 use Rattle.vm_state.specs.State.{State, state_of, tables_of}
 use Rattle.vm_state.specs.Translation.{look, walk_of}
 use Rattle.vm_state.specs.declared.guest_state.GuestState.{GuestState}
-use Rattle.vm_state.specs.declared.register.Register.TheVariants.{P0br, P0lr, P1br, P1lr, Sbr, Slr}
 use Rattle.vm_state.specs.declared.walk.Walk.TheVariants.{Frame}
 use Rattle.vm_state.proofs.Registers.{remapped}
 use Rattle.vm_shadow_tests.specs.Registers.{IsClaimed, are_allowed, is_marked_entry}
-use Rattle.vm_shadow_tests.proofs.Present.{walk_present}
+use Rattle.vm_shadow.proofs.Present.{walk_present}
 
 -- the guest's memory is the machine's
 pub partition_fits : (memory : List ℕ) (s : Shadowed) (g : GuestState) → StandsFor memory s g → 512 * (g.base + g.pages) ≤ length memory

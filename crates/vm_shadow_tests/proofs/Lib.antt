@@ -1,2 +1,1 @@
-pub mod Present
 pub mod Driving

@@ -1,5 +1,5 @@
 -- What the driver of the tests asks: whether table registers may be loaded into a guest, and whether a page may be opened.
-use Rattle.std.specs.Prelude.{◌≡◌, ◌==◌, ◌&&◌, ◌||◌, ℕ, Bool, false, List, Option, Some, None}
+use Rattle.std.specs.Prelude.{◌==◌, ◌&&◌, ◌||◌, ℕ, Bool, false, List, Option, Some, None}
 use Rattle.vax_arch.specs.Walk.{Tables}
 use Rattle.vax_arch.specs.Fields.{is_modified}
 use Rattle.vm_shadow.specs.Layout.{IsCovered}

@@ -150,3 +150,34 @@ fn mapping_is_off(rt: HostRuntime) -> Result<(), Fail> {
     );
     Ok(())
 }
+
+/// A page of a table that no entry is kept from any longer may be granted, and is closed when one is read from it again.
+#[test]
+fn a_page_that_was_a_tables_may_be_granted(rt: HostRuntime) -> Result<(), Fail> {
+    let mut bench = Bench::with_tables(rt.alloc(), &MAPPED)?;
+    bench.put_rising(0x4400, 64, 0xA400_0000);
+    let _ = bench.touch_all();
+    let other = Registers {
+        p0br: 0x8000_4400,
+        ..MAPPED
+    };
+    let loaded = bench.load(&other);
+    assert!(rt; loaded);
+    // The entries of the first context are kept.
+    let early = bench.grant(0x4200);
+    let is_put = bench.put(0x4300, 1);
+    let later = bench.grant(0x4200);
+    assert_eq!(rt;
+        (early, is_put, later, bench.is_open(0x4200)),
+        (false, true, true, true)
+    );
+    let back = bench.load(&MAPPED);
+    let touched = bench.touch(0);
+    let again = bench.load(&other);
+    assert_eq!(rt;
+        (back, touched, again, bench.is_open(0x4200)),
+        (true, true, true, false)
+    );
+    assert_eq!(rt; bench.mismatch(false), None);
+    Ok(())
+}

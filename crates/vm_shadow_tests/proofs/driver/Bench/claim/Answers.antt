@@ -1,4 +1,4 @@
-use Rattle.std.proofs.Common.{arith, ◌≡◌, ◌∙◌, ◌<◌, ◌^◌, ◌/◌, sym}
+use Rattle.std.proofs.Common.{arith, ◌∙◌, sym}
 use Rattle.vax_arch.specs.Walk.{page_of}
 use Rattle.vm_shadow_tests.proofs.Driving.{is_claimed, on_true}
 use Rattle.vm_shadow_tests.proofs.driver.Bench.claim.Goals as goal

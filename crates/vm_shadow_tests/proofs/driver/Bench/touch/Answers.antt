@@ -1,5 +1,4 @@
-use Rattle.std.proofs.Common.{arith, ◌≡◌, ◌∙◌, ◌<◌, ◌^◌, ◌/◌, sym}
-use Rattle.vax_arch.specs.Walk.{page_of}
+use Rattle.std.proofs.Common.{◌∙◌, sym}
 use Rattle.vm_shadow_tests.proofs.Driving.{walked_filled}
 use Rattle.vm_shadow_tests.proofs.driver.Bench.touch.Goals as goal
 

@@ -1,5 +1,3 @@
-use Rattle.std.proofs.Common.{arith, ◌≡◌, ◌∙◌, ◌<◌, ◌^◌, ◌/◌, sym}
-use Rattle.vax_arch.specs.Walk.{page_of}
 use Rattle.vm_shadow_tests.proofs.Driving.{has_slot}
 use Rattle.vm_shadow_tests.proofs.driver.Bench.world.Goals as goal
 

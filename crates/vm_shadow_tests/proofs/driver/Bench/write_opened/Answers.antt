@@ -1,4 +1,3 @@
-use Rattle.std.proofs.Common.{arith, ◌≡◌, ◌∙◌, ◌<◌, ◌^◌, ◌/◌, sym}
 use Rattle.vax_arch.specs.Walk.{page_of}
 use Rattle.vm_shadow_tests.proofs.Driving.{closed_again, opened_fits, written_fits}
 use Rattle.vm_shadow_tests.proofs.driver.Bench.write_opened.Goals as goal
