@@ -22,3 +22,4 @@ pub mod Storing
 pub mod Marking
 pub mod RealWalks
 pub mod Hearing
+pub mod Present

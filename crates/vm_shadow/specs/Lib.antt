@@ -4,3 +4,4 @@ pub mod Calls
 pub mod Flags
 pub mod StandsFor
 pub mod Laws
+pub mod Shown

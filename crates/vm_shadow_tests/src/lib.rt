@@ -1,0 +1,24 @@
+//! Worked examples of the shadow page tables over the simulated machine: a driver whose calls keep that the tables stand for
+//! the guest's, and a slow walk of the machine's that is compared with the guest's.
+#![tactic(auto)]
+
+mod compare;
+mod driver;
+mod machine_walks;
+mod registers;
+
+pub use compare::Mismatch;
+pub use driver::{BASE, Bench, Event, PAGES};
+pub use machine_walks::{NoPlace, real_entry, real_walk};
+pub use registers::{MAPPED, Registers};
+
+#[cfg(test)]
+mod contexts;
+#[cfg(test)]
+mod machine_rows;
+#[cfg(test)]
+mod modified;
+#[cfg(test)]
+mod tables;
+#[cfg(test)]
+mod written;

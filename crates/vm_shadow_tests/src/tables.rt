@@ -1,0 +1,268 @@
+//! The machine's answers are the guest's, over tables of all kinds, before and after writes of their entries.
+
+use crate::{Bench, Event, MAPPED, Registers};
+use std::test::Fail;
+
+/// With a P0 table of another base and length.
+const fn p0(p0br: u32, p0lr: u32) -> Registers {
+    Registers {
+        mapen: true,
+        p0br,
+        p0lr,
+        p1br: 0,
+        p1lr: 0x20_0000,
+        sbr: 0x4000,
+        slr: 64,
+    }
+}
+
+/// With a P1 table.
+const fn p1(p1br: u32, p1lr: u32) -> Registers {
+    Registers {
+        mapen: true,
+        p0br: 0x8000_4200,
+        p0lr: 64,
+        p1br,
+        p1lr,
+        sbr: 0x4000,
+        slr: 64,
+    }
+}
+
+/// With another system table.
+const fn system(sbr: u32, slr: u32) -> Registers {
+    Registers {
+        mapen: true,
+        p0br: 0x8000_4200,
+        p0lr: 64,
+        p1br: 0,
+        p1lr: 0x20_0000,
+        sbr,
+        slr,
+    }
+}
+
+/// Each case: registers; how many pages among those that are compared have frames then; and two events.
+#[test]
+fn tables_of_all_kinds(rt: HostRuntime) -> Result<(), Fail> {
+    for (registers, pages, first, second) in [
+        // P0 and S as they are; the P0 table's page is written through itself, then the system table's.
+        (
+            MAPPED,
+            128,
+            Event::Put {
+                pa: 0x4284,
+                long: 0xA400_0020,
+            },
+            Event::Put {
+                pa: 0x4080,
+                long: 0xA400_0021,
+            },
+        ),
+        // Mapping off.
+        (
+            Registers {
+                mapen: false,
+                ..MAPPED
+            },
+            64,
+            Event::Put {
+                pa: 0x4220,
+                long: 0,
+            },
+            Event::Load(MAPPED),
+        ),
+        // No P0 page, and as many as there can be.
+        (
+            p0(0x8000_4200, 0),
+            64,
+            Event::Put {
+                pa: 0x4200,
+                long: 5,
+            },
+            Event::Load(MAPPED),
+        ),
+        (
+            p0(0x8000_4200, 8192),
+            128,
+            Event::Put {
+                pa: 0x4300,
+                long: 0xA400_0001,
+            },
+            Event::Put {
+                pa: 0x4000,
+                long: 0x2000_0000,
+            },
+        ),
+        // A P0 table that is the system table, one in the last page, and one beyond it.
+        (
+            p0(0x8000_4000, 64),
+            128,
+            Event::Put {
+                pa: 0x4080,
+                long: 0xA400_0021,
+            },
+            Event::Put {
+                pa: 0x4080,
+                long: 0,
+            },
+        ),
+        (
+            p0(0x8000_7E00, 64),
+            64,
+            Event::Put {
+                pa: 0x7E04,
+                long: 0xA400_003F,
+            },
+            Event::Put {
+                pa: 0x40FC,
+                long: 0xA400_0040,
+            },
+        ),
+        (
+            p0(0x8000_7FFC, 64),
+            64,
+            Event::Put {
+                pa: 0x7FFC,
+                long: 0xA400_003F,
+            },
+            Event::Put {
+                pa: 0x4100,
+                long: 0xA400_0021,
+            },
+        ),
+        // P1 empty, with its eight last pages, with the most that there can be, at its lower end and at its upper end.
+        (
+            p1(0x7F80_4320, 0x20_0000),
+            128,
+            Event::Put {
+                pa: 0x433C,
+                long: 0xA400_0003,
+            },
+            Event::Load(MAPPED),
+        ),
+        (
+            p1(0x7F80_4220, 0x1F_FFF8),
+            136,
+            Event::Put {
+                pa: 0x421C,
+                long: 0xA400_0003,
+            },
+            Event::Put {
+                pa: 0x4200,
+                long: 0xA400_0040,
+            },
+        ),
+        (
+            p1(0x7F80_C200, 0x1F_E000),
+            130,
+            Event::Put {
+                pa: 0x4204,
+                long: 0x8400_0003,
+            },
+            Event::Put {
+                pa: 0x4200,
+                long: 0x9400_0004,
+            },
+        ),
+        (
+            p1(0x7F80_4200, 0x1F_E000),
+            128,
+            Event::Put {
+                pa: 0x41FC,
+                long: 0xA400_0005,
+            },
+            Event::Put {
+                pa: 0x4084,
+                long: 0,
+            },
+        ),
+        // No system page, and as many as there can be; a system table in the P0 table's page, and one at memory's end.
+        (
+            system(0x4000, 0),
+            0,
+            Event::Put {
+                pa: 0x4000,
+                long: 0,
+            },
+            Event::Load(MAPPED),
+        ),
+        (
+            system(0x4000, 8192),
+            129,
+            Event::Put {
+                pa: 0x4100,
+                long: 0xA400_0040,
+            },
+            Event::Put {
+                pa: 0x4200,
+                long: 0xA41F_FFFF,
+            },
+        ),
+        (
+            system(0x4200, 64),
+            128,
+            Event::Put {
+                pa: 0x4284,
+                long: 0xA400_0020,
+            },
+            Event::Put {
+                pa: 0x4284,
+                long: 0xA400_0022,
+            },
+        ),
+        (
+            system(0x7FFC, 64),
+            0,
+            Event::Put {
+                pa: 0x7FFC,
+                long: 0xA400_0005,
+            },
+            Event::Put {
+                pa: 0x7FFC,
+                long: 0xA41F_FFFF,
+            },
+        ),
+    ] {
+        let mut bench = Bench::with_tables(rt.alloc(), &registers)?;
+        let before = bench.mismatch(false);
+        assert_eq!(rt; before, None, "{registers:?}");
+        let filled = bench.touch_all();
+        assert_eq!(rt; filled, pages, "{registers:?}");
+        let after = bench.mismatch(true);
+        assert_eq!(rt; after, None, "{registers:?}");
+        let followed = bench.follow(&[first, second]);
+        assert_eq!(rt; followed, Ok(2), "{registers:?}");
+    }
+    Ok(())
+}
+
+/// An entry of the P0 table, of the system table and of the page of the P0 table, under each code, valid and not, modified
+/// and not, with a frame in memory and beyond.
+#[test]
+fn entries_of_all_kinds(rt: HostRuntime) -> Result<(), Fail> {
+    let mut bench = Bench::with_tables(rt.alloc(), &MAPPED)?;
+    for code in 0..16u32 {
+        for upper in [
+            0x8000_0005,
+            0x8400_0003,
+            5,
+            0x0400_0003,
+            0x8000_0040,
+            0x85E0_0007,
+        ] {
+            let long = code.wrapping_mul(0x0800_0000).wrapping_add(upper);
+            let followed = bench.follow(&[
+                Event::Put { pa: 0x4220, long },
+                Event::Put { pa: 0x4020, long },
+                Event::Put { pa: 0x4084, long },
+                Event::Put {
+                    pa: 0x4084,
+                    long: 0xA400_0021,
+                },
+            ]);
+            assert_eq!(rt; followed, Ok(4), "{long:x}");
+        }
+    }
+    Ok(())
+}
