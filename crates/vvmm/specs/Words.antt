@@ -17,8 +17,8 @@ pub data Wanted : Type 0 where
 abbrev pub file_wanted : List ℕ → List ℕ → Option Wanted
 file_wanted command file =
     if is_file_name file then
-      (if pointwise nat_eq command (codes "asm") then Some (Assemble file)
-        else if pointwise nat_eq command (codes "dis") then Some (Disassemble file) else None)
+    (if pointwise nat_eq command (codes "asm") then Some (Assemble file)
+    else if pointwise nat_eq command (codes "dis") then Some (Disassemble file) else None)
     else None
 
 -- what the words ask for, if they are of a form
