@@ -7,24 +7,25 @@ use Rattle.sys_boot.specs.Showing.{Showing}
 use Rattle.sys_plain_rounds.proofs.Places.{both}
 use Rattle.sys_plain_rounds.specs.Places.{place_of}
 use Rattle.sys_system.specs.Shows.{Shows}
-use Rattle.vvmm.specs.Answer.{Outside, IsFetched, IsHeld, Lacks, HasTooLong, Untouched}
+use Rattle.vasm_files.specs.Commands.{IsHeld, Lacks, HasTooLong}
+use Rattle.vvmm.specs.Answer.{Outside, IsFetched, Untouched}
 use Rattle.vvmm.specs.Laws.{line_at, Completes, TellsMissing, TellsTooLong, TellsDevice}
-use Rattle.vvmm.specs.declared.status.Status.TheVariants.{Done, Words, Missing, TooLong, ShelfFault, Image, Device, OutFault, NoMemory}
+use Rattle.vvmm.specs.declared.status.Status.TheVariants.{Done, Words, Missing, TooLong, ShelfFault, Image, Device, Asm, OutFault, NoMemory}
 
 -- a told shelf
-told_lacks : (told : Option (List File)) (files : List File) (name : List ℕ) (before now : ℕ) → told ≡ Some files → Lacks told name before now → held files name ≡ None
+pub told_lacks : (told : Option (List File)) (files : List File) (name : List ℕ) (before now : ℕ) → told ≡ Some files → Lacks told name before now → held files name ≡ None
 told_lacks told files name before now is h = subst (λ f. Lacks f name before now) is h
 
-told_long : (told : Option (List File)) (files : List File) (name : List ℕ) (before now : ℕ) → told ≡ Some files → HasTooLong told name before now → (bytes : List ℕ) × (held files name ≡ Some bytes) × (file_limit < length bytes)
+pub told_long : (told : Option (List File)) (files : List File) (name : List ℕ) (before now : ℕ) → told ≡ Some files → HasTooLong told name before now → (bytes : List ℕ) × (held files name ≡ Some bytes) × (file_limit < length bytes)
 told_long told files name before now is h = subst (λ f. HasTooLong f name before now) is h
 
-told_held : (told : Option (List File)) (files : List File) (name image : List ℕ) → told ≡ Some files → IsHeld told name image → held files name ≡ Some image
+pub told_held : (told : Option (List File)) (files : List File) (name image : List ℕ) → told ≡ Some files → IsHeld told name image → held files name ≡ Some image
 told_held told files name image is h = subst (λ f. IsHeld f name image) is h
 
-one_image : (r : Option (List ℕ)) (x y : List ℕ) → r ≡ Some x → r ≡ Some y → x ≡ y
+pub one_image : (r : Option (List ℕ)) (x y : List ℕ) → r ≡ Some x → r ≡ Some y → x ≡ y
 one_image r x y e f = cc
 
-not_both : (r : Option (List ℕ)) (x : List ℕ) → r ≡ None → r ≡ Some x → ⊥
+pub not_both : (r : Option (List ℕ)) (x : List ℕ) → r ≡ None → r ≡ Some x → ⊥
 not_both r x e f = cc
 
 -- the first that is marked
@@ -86,6 +87,7 @@ pub completes : Completes
 completes a Done o files image h is has within fits none = tt
 completes a NoMemory o files image h is has within fits none = tt
 completes a Words o files image h is has within fits none = h
+completes a (Asm f) o files image h is has within fits none = h
 completes a (Missing name) o files image (same, lacks, rest) is has within fits none = not_both (held files a.image) image (ap (held files) (sym same) ∙ told_lacks o.files files name o.shelf o.shelf' is lacks) has
 completes a (TooLong name) o files image (same, long, rest) is has within fits none =
     let (bytes, is_held, more) = told_long o.files files name o.shelf o.shelf' is long in
@@ -102,6 +104,7 @@ pub tells_missing : TellsMissing
 tells_missing a (Missing name) o files (same, gone, rest) is lacks none = same
 tells_missing a NoMemory o files h is lacks none = tt
 tells_missing a Words o files h is lacks none = h
+tells_missing a (Asm f) o files h is lacks none = h
 tells_missing a (TooLong name) o files (same, long, rest) is lacks none =
     let (bytes, is_held, more) = told_long o.files files name o.shelf o.shelf' is long in
     not_both (held files a.image) bytes lacks (ap (held files) (sym same) ∙ is_held)
@@ -121,6 +124,7 @@ pub tells_too_long : TellsTooLong
 tells_too_long a (TooLong name) o files image (same, more, rest) is has long none = same
 tells_too_long a NoMemory o files image h is has long none = tt
 tells_too_long a Words o files image h is has long none = h
+tells_too_long a (Asm f) o files image h is has long none = h
 tells_too_long a (Missing name) o files image (same, lacks, rest) is has long none = not_both (held files a.image) image (ap (held files) (sym same) ∙ told_lacks o.files files name o.shelf o.shelf' is lacks) has
 tells_too_long a ShelfFault o files image (rose, rest) is has long none = none rose
 tells_too_long a (Image guest) o files image (other, first, fetched, more, rest) is has long none = too_short o files a.image image other is has long fetched
@@ -135,6 +139,7 @@ same_line o k u h = absurd (omega (arith, ap (λ l. (line_at l k).faults) u.line
 pub tells_device : TellsDevice
 tells_device a (Device device) o k (other, marks, ends) h = (ends.1.0, ends.1.1, none_lower marks o.lines o.lines' _ ends.1.0 k ends.1.2 ends.0.lines h)
 tells_device a Words o k follows h = follows
+tells_device a (Asm f) o k follows h = follows
 tells_device a NoMemory o k u h = same_line o k u h
 tells_device a (Missing name) o k (same, lacks, u) h = same_line o k u h
 tells_device a (TooLong name) o k (same, long, u) h = same_line o k u h

@@ -6,10 +6,11 @@ use Rattle.std.proofs.lemmas.Bool.{ltb-false, ltb-true}
 use Rattle.sys_plain_rounds.specs.Places.{place_of}
 use Rattle.sys_system.specs.Calls.{first_misfit, is_misfit}
 use Rattle.vm_plain.specs.Run.{Tally}
-use Rattle.vvmm.specs.Answer.{Outside, IsHeld, Made, Closes, Ends, Follows, failed_line}
+use Rattle.vasm_files.specs.Commands.{IsHeld}
+use Rattle.vvmm.specs.Answer.{Outside, Made, Closes, Ends, Follows, failed_line}
 use Rattle.vvmm.specs.Solo.{Asked, load_address, memory_size, solo_config, solo_guest, solo_tally, summary}
 use Rattle.vvmm.specs.declared.status.Status.{Status}
-use Rattle.vvmm.specs.declared.status.Status.TheVariants.{Done, Words, Missing, TooLong, ShelfFault, Image, Device, OutFault, NoMemory}
+use Rattle.vvmm.specs.declared.status.Status.TheVariants.{Done, Words, Missing, TooLong, ShelfFault, Image, Device, Asm, OutFault, NoMemory}
 
 -- what a fetch gave is what the shelf holds
 pub held_of : (files : Option (List File)) (name : List ℕ) (before now : ℕ) (bytes : Vec ℕ Global) (image : List ℕ) → image ≡ bytes.items → Answers (holding files name) before now (Ok bytes) → IsHeld files name image
@@ -25,6 +26,7 @@ by_status a image marks Done o h = (image, marks, h)
 by_status a image marks (Device d) o h = (image, marks, h)
 by_status a image marks OutFault o h = (image, marks, h)
 by_status a image marks Words o h = absurd h.1
+by_status a image marks (Asm f) o h = absurd h.1
 by_status a image marks (Missing name) o h = absurd h.1
 by_status a image marks (TooLong name) o h = absurd h.1
 by_status a image marks ShelfFault o h = absurd h.1

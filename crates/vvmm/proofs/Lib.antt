@@ -1,3 +1,4 @@
 pub mod Causes
 pub mod Endings
+pub mod Files
 pub mod Runs

@@ -2,3 +2,4 @@ pub mod Answer
 pub mod Laws
 pub mod Solo
 pub mod Texts
+pub mod Words

@@ -2,8 +2,9 @@
 use Rattle.std.specs.Prelude.{ℕ, List, [], ◌++◌, codes, decimal}
 use Rattle.sys_system.specs.declared.lines.Device.{Device}
 use Rattle.sys_system.specs.declared.lines.Device.TheVariants as devices
+use Rattle.vasm_files.specs.Texts.{fault_text}
 use Rattle.vvmm.specs.declared.status.Status.{Status}
-use Rattle.vvmm.specs.declared.status.Status.TheVariants.{Done, Words, Missing, TooLong, ShelfFault, Image, Device as DeviceFault, OutFault, NoMemory}
+use Rattle.vvmm.specs.declared.status.Status.TheVariants.{Done, Words, Missing, TooLong, ShelfFault, Image, Device as DeviceFault, Asm, OutFault, NoMemory}
 
 abbrev pub device_text : Device → List ℕ
 device_text (devices.Line n) = codes "device line " ++ decimal n
@@ -16,6 +17,7 @@ text_of (Missing name) = codes "missing " ++ name
 text_of ShelfFault = codes "shelf fault"
 text_of (Image guest) = codes "image " ++ decimal guest
 text_of (DeviceFault device) = device_text device
+text_of (Asm f) = fault_text f
 text_of OutFault = codes "output fault"
 text_of NoMemory = codes "no memory"
 text_of (TooLong name) = codes "too long " ++ name
@@ -30,3 +32,4 @@ code_of (DeviceFault device) = 10
 code_of OutFault = 11
 code_of NoMemory = 12
 code_of (TooLong name) = 13
+code_of (Asm f) = 15

@@ -17,7 +17,8 @@ mod words;
 
 use edge::{FileDrive, FileLine, FileShelf, OutSink};
 pub use laws::{
-    a_failed_line_is_told, a_guest_runs_alone, answers_are_complete, missing_is_told,
+    a_failed_line_is_told, a_file_is_shown, a_guest_runs_alone, a_missing_file_is_told,
+    a_refused_line_is_told, a_too_long_file_is_told, answers_are_complete, missing_is_told,
     too_long_is_told,
 };
 pub use status::{Status, status_code, status_text};
@@ -33,6 +34,8 @@ use vv_io::{Drive, EmptyDrive, Line};
 const HELP: &str =
     "vvmm solo IMAGE STEPS   runs the file IMAGE as one guest for STEPS steps, 1 to 100000;
                         the guest's console is the file line00.out, its dump line01.out
+vvmm asm SOURCE         assembles the file SOURCE, and shows the image's bytes
+vvmm dis IMAGE          disassembles the file IMAGE, and shows the text
 vvmm --help             prints this
 vvmm --version          prints the version
 ";

@@ -2,6 +2,8 @@ ghost use Rattle.std.specs.Prelude.{◌≡◌, ◌++◌, ◌+◌, ◌≤◌, len
 ghost use Rattle.vvmm.specs.Texts.{code_of, device_text, text_of};
 
 use sys_system::Device;
+use vasm_files::fault_text;
+use vasm_text::AsmFault;
 use vv_base::{FileName, Text, decimal};
 
 /// The answer of the program.
@@ -21,7 +23,9 @@ pub enum Status {
     Image(u8),
     /// A line or a drive failed.
     Device(Device),
-    /// The summary couldn't be put.
+    /// A line of the source is refused.
+    Asm(AsmFault),
+    /// The summary, bytes or text couldn't be put.
     OutFault,
     /// Memory ran out.
     NoMemory,
@@ -59,6 +63,7 @@ pub fn status_text(s: &Status) -> Text<96>
         Status::ShelfFault => joined(b"shelf fault", b""),
         Status::Image(guest) => joined(b"image ", decimal(u64::from(*guest)).bytes()),
         Status::Device(device) => device_text(*device),
+        Status::Asm(fault) => fault_text(fault),
         Status::OutFault => joined(b"output fault", b""),
         Status::NoMemory => joined(b"no memory", b""),
     }
@@ -78,5 +83,6 @@ pub fn status_code(s: &Status) -> u8
         Status::OutFault => 11,
         Status::NoMemory => 12,
         Status::TooLong(_) => 13,
+        Status::Asm(_) => 15,
     }
 }

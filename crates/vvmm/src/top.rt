@@ -3,16 +3,19 @@ ghost use Rattle.vv_base.specs.Names.{is_file_name};
 ghost use Rattle.sys_boot.specs.Showing.{Showing};
 ghost use Rattle.sys_system.specs.Kernel.{Kernel};
 ghost use Rattle.vm_guest.specs.Kept.{tally_of};
-ghost use Rattle.vvmm.specs.Answer.{Closes, Follows, Outside, Says, failed_line};
-ghost use Rattle.vvmm.specs.Solo.{asked, summary};
+ghost use Rattle.vvmm.specs.Answer.{Closes, Follows, Outside, Says, failed_line, status_of};
+ghost use Rattle.vvmm.specs.Solo.{summary};
+ghost use Rattle.vvmm.specs.Words.{wanted};
 
 use crate::report::summary;
 use crate::solo::solo_config;
 use crate::status::Status;
-use crate::words::{Order, parse};
+use crate::words::{Order, Request, parse};
 use std::alloc::Global;
 use sys_system::{PowerFault, System};
+use vasm_files::{Answer, asm, dis};
 use vax_linear::Hardware;
+use vv_base::FileName;
 use vv_io::{Drive, Line, Shelf, ShelfFault, Sink, SinkFault};
 
 /// Puts bytes once.
@@ -76,8 +79,23 @@ fn solo<H: Hardware, S: Shelf, O: Sink>(
     close(&system, steps, out)
 }
 
-/// Does what the words say, over a shelf of files, a machine of 32,768 pages, 32 lines and 16 drives; the summary is
-/// put on `out`. The machine's memory and counts may hold anything.
+/// The answer about a file of this name.
+fn status_of(name: FileName, answer: Answer) -> Status
+    ensures { result ≡ status_of name answer }
+{
+    match answer {
+        Answer::Done => Status::Done,
+        Answer::Missing => Status::Missing(name),
+        Answer::TooLong => Status::TooLong(name),
+        Answer::ShelfFault => Status::ShelfFault,
+        Answer::Asm(fault) => Status::Asm(fault),
+        Answer::OutFault => Status::OutFault,
+        Answer::NoMemory => Status::NoMemory,
+    }
+}
+
+/// Does what the words say, over a shelf of files, a machine of 32,768 pages, 32 lines and 16 drives; the summary, or
+/// what a file is assembled or disassembled to, is put on `out`. The machine's memory and counts may hold anything.
 pub fn vvmm_run<H: Hardware, S: Shelf, O: Sink>(
     alloc: Global,
     words: &[String],
@@ -90,10 +108,18 @@ pub fn vvmm_run<H: Hardware, S: Shelf, O: Sink>(
     requires pages { length (H.machine machine.old).memory ≡ 512 * 32768 }
     requires lines { vec_len lines.old ≡ 32 }
     requires drives { vec_len drives.old ≡ 16 }
-    ensures { Says (asked (map (λ w. string_bytes w) words.now)) result (record { files = S.files shelf.old; shelf = S.faults shelf.old; shelf' = S.faults shelf.new; machine = H.machine machine.old; machine' = H.machine machine.new; lines = map (λ b. seen b) lines.old.items; lines' = map (λ b. seen b) lines.new.items; drives = map (λ d. kept d) drives.old.items; drives' = map (λ d. kept d) drives.new.items; out = O.printed out.old; out' = O.printed out.new }) }
+    ensures { Says (wanted (map (λ w. string_bytes w) words.now)) result (record { files = S.files shelf.old; shelf = S.faults shelf.old; shelf' = S.faults shelf.new; machine = H.machine machine.old; machine' = H.machine machine.new; lines = map (λ b. seen b) lines.old.items; lines' = map (λ b. seen b) lines.new.items; drives = map (λ d. kept d) drives.old.items; drives' = map (λ d. kept d) drives.new.items; out = O.printed out.old; out' = O.printed out.new }) }
 {
     match parse(words) {
         None => Status::Words,
-        Some(order) => solo(alloc, order, shelf, machine, lines, drives, out),
+        Some(Request::Solo(order)) => solo(alloc, order, shelf, machine, lines, drives, out),
+        Some(Request::Asm(source)) => {
+            let answer = asm(alloc, &source, shelf, out);
+            status_of(source, answer)
+        }
+        Some(Request::Dis(image)) => {
+            let answer = dis(alloc, &image, shelf, out);
+            status_of(image, answer)
+        }
     }
 }
