@@ -15,6 +15,8 @@ use Rattle.vax_table.specs.Whole.{acted, instruction}
 use Rattle.vm_clock.specs.Clock.{after_tick}
 use Rattle.vm_state.specs.Interrupts.{due}
 use Rattle.sys_audit.specs.Audit.{audit_of}
+use Rattle.sys_objects.specs.declared.records.GuestRow.{GuestRow}
+use Rattle.sys_rounds.specs.Guests.{reset}
 use Rattle.sys_rounds.specs.Run.{Input, run}
 use Rattle.sys_rounds.specs.ShownSetup.{audit, break_at, config, guest, line_at, terminal, volume}
 use Rattle.sys_rounds.specs.State.{bytes_on}
@@ -84,3 +86,7 @@ pub guest_stops :
     × (map (λ (g : Guest). g.state.console.waiting) (run stopping).now.guests ≡ (72 ∷ 73 ∷ 13 ∷ []) ∷ [])
 unfolding asked_in judged does_flow is_subset applied taken class_text categories_below digits opening step executed instruction fetched decided decoded_at acted plan_of performed row_of operation_of operands_of operand_of branch_operand branched after_tick due walk_of lookup operand_at
 guest_stops = (refl, refl, refl, refl, refl)
+
+-- START forgets packets that wait, without a status: the guest's memory stays as it is.
+pub start_forgets_packets : (row : GuestRow) (g : Guest) → ((reset row g).state.queue ≡ []) × ((reset row g).memory ≡ g.memory)
+start_forgets_packets row g = (refl, refl)

@@ -12,4 +12,4 @@ pub use initiated::Initiated;
 pub use initiating::initiate;
 pub use pushes::{Home, Walked, walk_pushes};
 pub use vm_state::Exc;
-pub use writes::push;
+pub use writes::{push, put_homes};

@@ -44,7 +44,7 @@ fn mark_homes<H: Hardware>(machine: &mut H, s: &mut Shadow, base: u32, homes: &[
 }
 
 /// Writes bytes to their homes.
-fn put_homes<H: Hardware>(machine: &mut H, s: &mut Shadow, homes: &[Home])
+pub fn put_homes<H: Hardware>(machine: &mut H, s: &mut Shadow, homes: &[Home])
     requires keeps { Keeps [] [] (H.machine machine.old).memory s.old }
     requires homes { AreHomes (512 * s.old.pages) (map home_of homes.now) }
     ensures { PutsHomes (map home_of homes.now) (H.machine machine.old) s.old (H.machine machine.new) s.new }

@@ -1,7 +1,7 @@
 -- What MTPR and MFPR leave of a guest, by their answers.
 use Rattle.std.specs.Prelude.{◌≡◌, ℕ, ◌*◌, Result, Ok, Err}
-use Rattle.vm_state.specs.Registers.{Value, Written, read, written}
-use Rattle.vm_state.specs.State.{HasPlace, state_of}
+use Rattle.vm_state.specs.Registers.{read, written}
+use Rattle.vm_state.specs.State.{state_of}
 use Rattle.vm_state.specs.declared.guest_state.GuestState.{GuestState}
 use Rattle.vm_state.specs.declared.register.Effect.{Effect}
 use Rattle.vm_state.specs.declared.register.ReservedOperand.{ReservedOperand}

@@ -4,7 +4,7 @@
 mod read;
 mod write;
 
-pub use read::mfpr;
+pub use read::{is_readable, mfpr};
 pub use vm_state::{Effect, ReservedOperand};
 pub use write::mtpr;
 

@@ -1,6 +1,6 @@
-ghost use Rattle.std.specs.Prelude.{◌≡◌, ◌≤◌, ◌*◌, IsNone};
-ghost use Rattle.vm_state.specs.Registers.{after_read, value_of};
-ghost use Rattle.vm_state.specs.State.{HasPlace, state_of};
+ghost use Rattle.std.specs.Prelude.{◌≡◌, ◌≤◌, ◌*◌, ℕ, IsNone, is_ok, is_some};
+ghost use Rattle.vm_state.specs.Registers.{after_read, read, value_of};
+ghost use Rattle.vm_state.specs.State.{HasPlace, State, state_of};
 ghost use Rattle.vm_ipr.specs.Outcomes.{Reads};
 
 use vm_state::{GuestState, Register, ReservedOperand, pointer};
@@ -63,5 +63,31 @@ pub fn mfpr(g: &mut GuestState, number: u32) -> Result<u32, ReservedOperand>
     match read(g, register) {
         Some(v) => Ok(v),
         None => Err(ReservedOperand),
+    }
+}
+
+/// Whether reading a register gives a value, which no state of the guest decides.
+fn gives_value(register: Register) -> bool
+    ensures { (size : ℕ) (u : State) → result ≡ is_some (value_of size u register) }
+{
+    !matches!(
+        register,
+        Register::Sirr
+            | Register::Nicr
+            | Register::Txdb
+            | Register::Tbia
+            | Register::Tbis
+            | Register::Kcall
+    )
+}
+
+/// Whether MFPR reads a register of this number: that there is one, and that it isn't written alone. Nothing is read.
+#[tactic(auto, unfolding(vm_state::specs::Registers::read))]
+pub fn is_readable(number: u32) -> bool
+    ensures { (size : ℕ) (u : State) → result ≡ is_ok (read size u number) }
+{
+    match Register::from_number(number) {
+        Some(register) => gives_value(register),
+        None => false,
     }
 }

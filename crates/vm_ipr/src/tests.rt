@@ -1,4 +1,4 @@
-use crate::{Effect, ReservedOperand, mfpr, mtpr};
+use crate::{Effect, ReservedOperand, is_readable, mfpr, mtpr};
 use std::test::Fail;
 use vm_state::GuestState;
 
@@ -42,6 +42,7 @@ fn written_and_read(rt: HostRuntime) -> Result<(), Fail> {
     ] {
         let mut g = guest();
         assert_eq!(rt; mtpr(&mut g, number, v), Ok(effect), "{number}");
+        assert_eq!(rt; is_readable(number), read.is_some(), "{number}");
         assert_eq!(rt;
             read_back(&mut g, number),
             read.ok_or(ReservedOperand),
@@ -107,5 +108,6 @@ fn reads(rt: HostRuntime) -> Result<(), Fail> {
     assert_eq!(rt; read_back(&mut g, 33), Ok(0));
     assert_eq!(rt; read_back(&mut g, 201), Ok(0x8000));
     assert_eq!(rt; read_back(&mut g, 62), Ok(0x5600_0001));
+    assert_eq!(rt; is_readable(5), false);
     Ok(())
 }

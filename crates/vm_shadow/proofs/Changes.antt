@@ -1,6 +1,6 @@
 -- What dropping, filling, closing and opening one real entry leaves.
-use Rattle.std.proofs.Common.{◌≡◌, ◌≢◌, ℕ, ◌+◌, ◌-◌, ◌*◌, ◌^◌, ◌<◌, ◌≤◌, Bool, true, false, List, [], ◌∷◌, length, set, Option, Some, None, is_some, refl, ap, ◌∙◌, sym, subst, slice_index_or, ◌==◌}
-use Rattle.std.proofs.lemmas.Bool.{false≢true, eq-eqb, or_parts}
+use Rattle.std.proofs.Common.{◌≡◌, ◌≢◌, ℕ, ◌+◌, ◌-◌, ◌*◌, ◌/◌, ◌%◌, ◌^◌, ◌<◌, ◌≤◌, Bool, true, false, List, [], ◌∷◌, length, set, Option, Some, None, is_some, refl, ap, ◌∙◌, sym, subst, arith, slice_index_or, ◌==◌, eqb}
+use Rattle.std.proofs.lemmas.Bool.{false≢true, eq-eqb, eqb-true, or_parts}
 use Rattle.std.proofs.lemmas.List.{set-get_or}
 use Rattle.vax_arch.specs.Fields.{frame_of, is_modified, is_valid}
 use Rattle.vax_arch.specs.Walk.{entry_at}
@@ -90,24 +90,39 @@ guard_from : (opened : List ℕ) (memory : List ℕ) (s : Shadowed) (n k : ℕ) 
 guard_from opened memory s n k keeps h c o v x = keeps.guarded n k h c o v x
 
 -- what an entry that is set with its source as before leaves of all
-abbrev pub Leaves : (opened : List ℕ) → (memory after : List ℕ) → (s : Shadowed) → (n entry : ℕ) → Type 0
-Leaves opened memory after s n entry = Keeps [] opened after s × ((real_at after s n ≡ entry) × ((k : ℕ) → k < all_entries → k ≢ n → real_at after s k ≡ real_at memory s k))
+abbrev pub Leaves : (pending opened : List ℕ) → (memory after : List ℕ) → (s : Shadowed) → (n entry : ℕ) → Type 0
+Leaves pending opened memory after s n entry = Keeps pending opened after s × ((real_at after s n ≡ entry) × ((k : ℕ) → k < all_entries → k ≢ n → real_at after s k ≡ real_at memory s k))
 
-leaves_of : (opened : List ℕ) (memory after : List ℕ) (s : Shadowed) (n entry : ℕ) → IsSet [] opened memory after s n entry (read_at s n) s.consulted s.writable → Leaves opened memory after s n entry
-leaves_of opened memory after s n entry is = (subst (λ x. Keeps [] opened after (remembers s x s.consulted s.writable)) (same_reads s n) is.keeps, (is.here, is.other))
+leaves_of : (pending opened : List ℕ) (memory after : List ℕ) (s : Shadowed) (n entry : ℕ) → IsSet pending opened memory after s n entry (read_at s n) s.consulted s.writable → Leaves pending opened memory after s n entry
+leaves_of pending opened memory after s n entry is = (subst (λ x. Keeps pending opened after (remembers s x s.consulted s.writable)) (same_reads s n) is.keeps, (is.here, is.other))
+
+pub one_clear : (real : ℕ) → is_modified real ≡ true → is_modified (real - 2 ^ 26) ≡ false
+one_clear real e = let b : real / 2 ^ 26 % 2 ≡ 1 = eqb-true (real / 2 ^ 26 % 2) 1 e in let z : (real - 2 ^ 26) / 2 ^ 26 % 2 ≡ 0 = omega arith in ap (λ x. eqb x 1) z
+
+still_valid : (real : ℕ) → is_modified real ≡ true → is_valid real ≡ true → is_valid (real - 2 ^ 26) ≡ true
+still_valid real e v =
+    let b : real / 2 ^ 26 % 2 ≡ 1 = eqb-true (real / 2 ^ 26 % 2) 1 e in
+    let c : real / 2 ^ 31 % 2 ≡ 1 = eqb-true (real / 2 ^ 31 % 2) 1 v in
+    eq-eqb ((real - 2 ^ 26) / 2 ^ 31 % 2) 1 (omega arith)
+
+-- an entry without its modify bit is kept as it was
+right_clear : (memory : List ℕ) (s : Shadowed) (n : ℕ) (source : Source) → Fits memory s → is_modified (real_at memory s n) ≡ true → IsRight (512 * s.pages) s.base (own memory s) (seen_at memory s n) source (real_at memory s n) → IsRight (512 * s.pages) s.base (own memory s) (seen_at memory s n) source (real_at memory s n - 2 ^ 26)
+right_clear memory s n source f on r =
+    let bit_is : r.modify ≡ true = sym (right_modify memory (own memory s) s (seen_at memory s n) source (real_at memory s n) f r) ∙ on in
+    record { entry = r.entry; modify = false; has = r.has; valid = r.valid; inside = r.inside; is = ap (λ x. x - 2 ^ 26) r.is ∙ one_less s.base r.entry r.modify bit_is; marked = λ e. absurd (false≢true e); from = r.from }
+
+kept_clear : (pending : List ℕ) (memory : List ℕ) (s : Shadowed) (n : ℕ) (x : Option Source) → Fits memory s → is_modified (real_at memory s n) ≡ true → IsKept (512 * s.pages) s.base (own memory s) pending (seen_at memory s n) (real_at memory s n) x → IsKept (512 * s.pages) s.base (own memory s) pending (seen_at memory s n) (real_at memory s n - 2 ^ 26) x
+kept_clear pending memory s n None f on k = absurd (false≢true (sym (ap is_modified k) ∙ on))
+kept_clear pending memory s n (Some source) f on k = (still_valid (real_at memory s n) on k.0, λ e. right_clear memory s n source f on (k.1 e))
 
 -- Closing an entry; the entry is no longer among the opened.
-pub closed : (opened opened' : List ℕ) (memory after : List ℕ) (s : Shadowed) (n : ℕ) → Keeps [] opened memory s → n < all_entries → (r : IsFilled memory s n) → is_modified (real_at memory s n) ≡ true →
+pub closed : (pending opened opened' : List ℕ) (memory after : List ℕ) (s : Shadowed) (n : ℕ) → Keeps pending opened memory s → n < all_entries → is_modified (real_at memory s n) ≡ true →
     ((k : ℕ) → k ≢ n → is_opened k opened' ≡ false → is_opened k opened ≡ false) →
-    IsWritten memory after (entry_place s.at n) (real_at memory s n - 2 ^ 26) → Leaves opened' memory after s n (real_at memory s n - 2 ^ 26)
-closed opened opened' memory after s n k h r on still w =
-    let f = k.fits in
-    let entry = with_bit memory s n r false in
-    let bit_is : r.right.modify ≡ true = sym (right_modify memory (own memory s) s (seen_at memory s n) r.source (real_at memory s n) f r.right) ∙ on in
-    let lower : real_at memory s n - 2 ^ 26 ≡ entry = ap (λ x. x - 2 ^ 26) r.right.is ∙ one_less s.base r.right.entry r.right.modify bit_is in
-    let clear : is_modified entry ≡ false = modify_of s.base false r.right.entry (frame_fits memory s r.right.entry f r.right.inside) in
-    subst (λ x. Leaves opened' memory after s n x) (sym lower) (leaves_of opened' memory after s n entry (set_entry [] opened opened' memory after s n entry (read_at s n) s.consulted s.writable k h (record {
-      kept = kept_with memory s n false f r (λ e. absurd (false≢true e));
+    IsWritten memory after (entry_place s.at n) (real_at memory s n - 2 ^ 26) → Leaves pending opened' memory after s n (real_at memory s n - 2 ^ 26)
+closed pending opened opened' memory after s n k h on still w =
+    let clear : is_modified (real_at memory s n - 2 ^ 26) ≡ false = one_clear (real_at memory s n) on in
+    leaves_of pending opened' memory after s n (real_at memory s n - 2 ^ 26) (set_entry pending opened opened' memory after s n (real_at memory s n - 2 ^ 26) (read_at s n) s.consulted s.writable k h (record {
+      kept = kept_clear pending memory s n (read_at s n) k.fits on (k.entries n h);
       still = still;
       from = λ i c d o v x. k.guarded n i h c (still i d o) v x;
       onto = λ o v x. absurd (false≢true (sym clear ∙ x));
@@ -117,7 +132,7 @@ closed opened opened' memory after s n k h r on still w =
       consults_here = λ frame e. k.fits.consults n frame h e;
       writes = λ frame e. e;
       writes_here = λ v x. absurd (false≢true (sym clear ∙ x));
-    }) (subst (IsWritten memory after (entry_place s.at n)) lower w)))
+    }) w)
 
 not_other : (n k : ℕ) (opened : List ℕ) → is_opened k (n ∷ opened) ≡ false → is_opened k opened ≡ false
 not_other n k opened e = (or_parts (n == k) (is_opened k opened) e).1

@@ -1,6 +1,6 @@
 -- A scan that clears the modify bit of each real entry that maps a frame of a source.
-use Rattle.std.proofs.Common.{◌≡◌, ◌≢◌, ℕ, ◌+◌, ◌-◌, ◌*◌, ◌/◌, ◌%◌, ◌^◌, ◌<◌, ◌≤◌, Bool, true, false, eqb, List, [], length, Option, is_some, ap, ◌∙◌, sym, subst, arith}
-use Rattle.std.proofs.lemmas.Bool.{and_left, and_parts, cases_eq, eqb-true, false≢true}
+use Rattle.std.proofs.Common.{◌≡◌, ◌≢◌, ℕ, ◌+◌, ◌-◌, ◌*◌, ◌^◌, ◌<◌, ◌≤◌, Bool, true, false, List, [], length, Option, is_some, ap, ◌∙◌, sym, subst, arith}
+use Rattle.std.proofs.lemmas.Bool.{and_left, and_parts, cases_eq, false≢true}
 use Rattle.vv_base.specs.Bytes.{long_at}
 use Rattle.vax_arch.specs.Fields.{is_modified, is_valid}
 use Rattle.vax_hw.specs.Machine.{Machine}
@@ -10,7 +10,7 @@ use Rattle.vm_shadow.specs.Calls.{Closes, OnlyTables, closed_at, maps_open, reme
 use Rattle.vm_shadow.specs.declared.source.Source.{Source}
 use Rattle.vm_shadow.proofs.Places.{place_within, split}
 use Rattle.vm_shadow.proofs.Writes.{IsWritten, written}
-use Rattle.vm_shadow.proofs.Changes.{closed, filled_of, kept_valid, some_kept}
+use Rattle.vm_shadow.proofs.Changes.{closed, one_clear, some_kept}
 use Rattle.vm_shadow.proofs.Scanning.{only_more, only_none, with_long}
 
 pub closes_none : (at base : ℕ) (source : Source) (m : Machine) (reads : List (Option Source)) → Closes at base 0 source m reads m
@@ -33,9 +33,6 @@ closes_past at base end source m m' reads h none c = record {
   gone = λ s e f d k. next_gone at base source m'.memory s end (c.gone s e f d k) (λ v. unfilled _ [] m'.memory s end (c.keeps s e f d k) h (subst (λ r. is_some (remembered r end) ≡ false) (sym d) none) v);
 }
 
-pub one_clear : (real : ℕ) → is_modified real ≡ true → is_modified (real - 2 ^ 26) ≡ false
-one_clear real e = let b : real / 2 ^ 26 % 2 ≡ 1 = eqb-true (real / 2 ^ 26 % 2) 1 e in let z : (real - 2 ^ 26) / 2 ^ 26 % 2 ≡ 0 = omega arith in ap (λ x. eqb x 1) z
-
 closes_shut : (at base end place : ℕ) (source : Source) (m m' : Machine) (reads : List (Option Source)) → place ≡ entry_place at end → maps_open base source (long_at m'.memory place) ≡ false → Closes at base end source m reads m' → Closes at base (end + 1) source m reads m'
 closes_shut at base end place source m m' reads is shut c = record {
   only = c.only;
@@ -52,9 +49,8 @@ closes_one at base end place source m m' reads h room is some opens c =
     let done : (s : Shadowed) → s.at ≡ at → s.base ≡ base → s.reads ≡ reads → Keeps [] [] m.memory s → Keeps [] [] after.memory s × ((real_at after.memory s end ≡ long_at m'.memory place - 2 ^ 26) × ((k : ℕ) → k < all_entries → k ≢ end → real_at after.memory s k ≡ real_at m'.memory s k)) = λ s e f d k.
     let old = c.keeps s e f d k in
     let here : place ≡ entry_place s.at end = is ∙ ap (λ a. entry_place a end) (sym e) in
-    let v : is_valid (real_at m'.memory s end) ≡ true = kept_valid (512 * s.pages) s.base (own m'.memory s) [] (seen_at m'.memory s end) (real_at m'.memory s end) (read_at s end) (old.entries end h) (subst (λ r. is_some (remembered r end) ≡ true) (sym d) some) in
     let x : is_modified (real_at m'.memory s end) ≡ true = subst (λ p. is_modified (long_at m'.memory p) ≡ true) here on in
-    let r = closed [] [] m'.memory after.memory s end old h (filled_of [] m'.memory s end old h v) x (λ k differ o. o) (subst (λ p. IsWritten m'.memory after.memory p (long_at m'.memory p - 2 ^ 26)) here w) in
+    let r = closed [] [] [] m'.memory after.memory s end old h x (λ k differ o. o) (subst (λ p. IsWritten m'.memory after.memory p (long_at m'.memory p - 2 ^ 26)) here w) in
     (r.0, (r.1.0 ∙ ap (λ p. long_at m'.memory p - 2 ^ 26) (sym here), r.1.1)) in
     record {
       only = subst (λ p. OnlyTables at m (with_long m' p (long_at m'.memory p - 2 ^ 26))) (sym is) (only_more at m m' (entry_place at end) _ room l c.only);

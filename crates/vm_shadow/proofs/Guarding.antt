@@ -1,23 +1,22 @@
 -- Pages are opened, granted and closed.
-use Rattle.std.proofs.Common.{◌≡◌, ◌≢◌, ℕ, ◌+◌, ◌-◌, ◌*◌, ◌/◌, ◌%◌, ◌^◌, ◌<◌, ◌≤◌, Bool, true, false, not, ◌==◌, eqb, cond, List, [], ◌∷◌, length, set, Option, Some, None, refl, ap, ◌∙◌, sym, subst, arith}
-use Rattle.std.proofs.lemmas.Bool.{cases_eq, cases_lt, eqb-false, eqb-true, false≢true, ne_eqb, or_from, or_parts, true≢false}
+use Rattle.std.proofs.Common.{◌≡◌, ◌≢◌, ℕ, ◌+◌, ◌-◌, ◌/◌, ◌%◌, ◌^◌, ◌<◌, ◌≤◌, Bool, true, false, not, ◌==◌, eqb, cond, List, [], ◌∷◌, length, set, refl, ap, ◌∙◌, sym, subst, arith}
+use Rattle.std.proofs.lemmas.Bool.{cases_eq, cases_lt, eqb-false, eqb-true, ne_eqb, or_from, or_parts, true≢false}
 use Rattle.std.proofs.lemmas.List.{get_or-set_other, get_or-set_same, length-set, set_past}
 use Rattle.std.proofs.lemmas.Option.{same_Some}
 use Rattle.vv_base.specs.Bytes.{long_at}
-use Rattle.vax_arch.specs.Fields.{frame_of, is_modified, is_valid}
-use Rattle.vax_arch.specs.declared.walk.Lookup.{Lookup}
+use Rattle.vax_arch.specs.Fields.{frame_of, is_modified}
+use Rattle.std.specs.Prelude.{if◌then◌else◌}
+use Rattle.vax_arch.specs.Walk.{with_modify}
 use Rattle.vax_hw.specs.Machine.{Machine}
-use Rattle.vm_shadow.specs.declared.source.Source.{Source}
 use Rattle.vm_shadow.specs.Layout.{IsCovered, all_entries, entry_place}
-use Rattle.vm_shadow.specs.Stands.{Fits, IsKept, Keeps, Shadowed, is_flagged, is_opened, mapped_frame, own, read_at, real_at, seen_at}
+use Rattle.vm_shadow.specs.Stands.{Fits, Keeps, Shadowed, is_flagged, is_opened, mapped_frame, own, real_at, seen_at}
 use Rattle.vm_shadow.specs.StandsFor.{ClosesPage, GrantsPage, IsMarked, OpensPage, closed_for, own_number}
-use Rattle.vm_shadow.proofs.Changes.{IsFilled, closed, filled_of, grants, opens}
-use Rattle.vm_shadow.proofs.Closing.{one_clear}
+use Rattle.vm_shadow.proofs.Changes.{IsFilled, closed, filled_of, grants, one_clear, opens}
 use Rattle.vm_shadow.proofs.Covering.{slot_small}
-use Rattle.vm_shadow.proofs.Places.{number_small, place_within, split}
+use Rattle.vm_shadow.proofs.Places.{number_small, place_within, places_apart, split}
 use Rattle.vm_shadow.proofs.Rights.{right_frame}
 use Rattle.vm_shadow.proofs.Scanning.{only_more, only_none, with_long}
-use Rattle.vm_shadow.proofs.Writes.{IsWritten, written}
+use Rattle.vm_shadow.proofs.Writes.{IsWritten, long_kept, written}
 
 -- a flag that is set
 flag_set : (flags : List Bool) (at : ℕ) → at < length flags → is_flagged at (set flags at true) ≡ true
@@ -40,22 +39,31 @@ set_bit real e = let b : (real / 2 ^ 26 % 2 ≡ 1) → ⊥ = eqb-false (real / 2
     bit : (real / 2 ^ 26 % 2 ≢ 1) → (real + 2 ^ 26) / 2 ^ 26 % 2 ≡ 1
     bit n = grind arith
 
+modified_stays : (real : ℕ) → is_modified real ≡ true → with_modify real ≡ real
+modified_stays real e = ap (λ b. if b then real else real + 2 ^ 26) e
+
+clear_rises : (real : ℕ) → is_modified real ≡ false → with_modify real ≡ real + 2 ^ 26
+clear_rises real e = ap (λ b. if b then real else real + 2 ^ 26) e
+
 opened_more : (opened : List ℕ) (n : ℕ) (memory : List ℕ) (s : Shadowed) → Keeps [] opened memory s → Keeps [] (n ∷ opened) memory s
 opened_more opened n memory s k = record { fits = k.fits; entries = k.entries; writes = k.writes; guarded = λ i j h c o v x. k.guarded i j h c (or_parts (n == j) (is_opened j opened) o).1 v x }
 
 module _ (m : Machine) (s : Shadowed) (n : ℕ) (f : Fits m.memory s) (h : n < all_entries) (mark : IsMarked m.memory s n) where
   -- a page that is open is opened
   pub opens_same : is_modified (real_at m.memory s n) ≡ true → OpensPage n m s m s
-  opens_same on = record { keeps = λ opened k. opened_more opened n m.memory s k; opens = on; rest = refl; only = only_none s.at m }
+  opens_same on = record { keeps = λ opened k. opened_more opened n m.memory s k; opens = on; entry = sym (modified_stays (real_at m.memory s n) on); others = λ k differ. refl; rest = refl; only = only_none s.at m }
 
   pub grants_same : is_modified (real_at m.memory s n) ≡ true → GrantsPage n m s m s
-  grants_same on = record { keeps = λ opened k. k; opens = on; rest = refl; only = only_none s.at m }
+  grants_same on = record { keeps = λ opened k. k; opens = on; entry = sym (modified_stays (real_at m.memory s n) on); others = λ k differ. refl; rest = refl; only = only_none s.at m }
 
   place_room : entry_place s.at n + 4 ≤ length m.memory
   place_room = omega (arith, f.room, (place_within s.at n h).back)
 
   write_of : IsWritten m.memory (with_long m (entry_place s.at n) (real_at m.memory s n + 2 ^ 26)).memory (entry_place s.at n) (real_at m.memory s n + 2 ^ 26)
   write_of = written m.memory (entry_place s.at n) (real_at m.memory s n + 2 ^ 26) place_room
+
+  others_stay : {after : List ℕ} → IsWritten m.memory after (entry_place s.at n) (real_at m.memory s n + 2 ^ 26) → (k : ℕ) → k ≢ n → real_at after s k ≡ real_at m.memory s k
+  others_stay {after = after} w k differ = long_kept m.memory after (entry_place s.at n) (real_at m.memory s n + 2 ^ 26) (entry_place s.at k) w (places_apart s.at n k (λ e. differ (sym e)))
 
   frame_of_filled : (r : IsFilled m.memory s n) → mapped_frame s (real_at m.memory s n) ≡ frame_of (r.right.entry)
   frame_of_filled r = right_frame m.memory (own m.memory s) s (seen_at m.memory s n) r.source (real_at m.memory s n) f r.right
@@ -73,6 +81,8 @@ module _ (m : Machine) (s : Shadowed) (n : ℕ) (f : Fits m.memory s) (h : n < a
             (opens opened m.memory _ s n (set s.writable at true) k h r off (marked_right m.memory s n mark r) (length-set s.writable at true) (λ frame e. flag_more s.writable at frame e)
             (subst (λ x. is_flagged x (set s.writable at true) ≡ true) (frame_of_filled r) (flag_set s.writable at (within_flags r))) w).0;
         opens = ap is_modified w.is ∙ set_bit (real_at m.memory s n) off;
+        entry = w.is ∙ sym (clear_rises (real_at m.memory s n) off);
+        others = others_stay w;
         rest = refl;
         only = only_more s.at m m (entry_place s.at n) _ f.room (place_within s.at n h) (only_none s.at m);
       }
@@ -87,6 +97,8 @@ module _ (m : Machine) (s : Shadowed) (n : ℕ) (f : Fits m.memory s) (h : n < a
             (grants opened m.memory _ s n (set s.writable at true) k h r off (marked_right m.memory s n mark r) (subst (λ x. is_flagged x s.consulted ≡ false) (frame_of_filled r) unread) (length-set s.writable at true) (λ frame e. flag_more s.writable at frame e)
             (subst (λ x. is_flagged x (set s.writable at true) ≡ true) (frame_of_filled r) (flag_set s.writable at (within_flags r))) w).0;
         opens = ap is_modified w.is ∙ set_bit (real_at m.memory s n) off;
+        entry = w.is ∙ sym (clear_rises (real_at m.memory s n) off);
+        others = others_stay w;
         rest = refl;
         only = only_more s.at m m (entry_place s.at n) _ f.room (place_within s.at n h) (only_none s.at m);
       }
@@ -103,22 +115,16 @@ still_opened n (k ∷ ks) j differ o = let p = kept_by k n (k == n) (closed_for 
 
 pub closes_same : (m : Machine) (s : Shadowed) (n : ℕ) → is_modified (real_at m.memory s n) ≡ false → ClosesPage n m s m
 closes_same m s n off = record {
-  keeps = λ opened k. record { fits = k.fits; entries = k.entries; writes = k.writes; guarded = λ i j h c o v x. k.guarded i j h c (still_opened n opened j (λ same. true≢false (sym x ∙ subst (λ y. is_modified (real_at m.memory s y) ≡ false) (sym same) off)) o) v x };
+  keeps = λ pending opened k. record { fits = k.fits; entries = k.entries; writes = k.writes; guarded = λ i j h c o v x. k.guarded i j h c (still_opened n opened j (λ same. true≢false (sym x ∙ subst (λ y. is_modified (real_at m.memory s y) ≡ false) (sym same) off)) o) v x };
   closes = off;
   only = only_none s.at m;
 }
-
-modified_valid : (size base : ℕ) (memory : List ℕ) (seen : Lookup) (real : ℕ) (x : Option Source) → IsKept size base memory [] seen real x → is_modified real ≡ true → is_valid real ≡ true
-modified_valid size base memory seen real None k e = absurd (false≢true (sym (ap is_modified k) ∙ e))
-modified_valid size base memory seen real (Some source) k e = k.0
 
 pub closes_now : (m : Machine) (s : Shadowed) (n : ℕ) → Fits m.memory s → n < all_entries → is_modified (real_at m.memory s n) ≡ true → ClosesPage n m s (with_long m (entry_place s.at n) (real_at m.memory s n - 2 ^ 26))
 closes_now m s n f h on =
     let w = written m.memory (entry_place s.at n) (real_at m.memory s n - 2 ^ 26) (omega (arith, f.room, (place_within s.at n h).back)) in
     record {
-      keeps = λ opened k.
-          let v : is_valid (real_at m.memory s n) ≡ true = modified_valid (512 * s.pages) s.base (own m.memory s) (seen_at m.memory s n) (real_at m.memory s n) (read_at s n) (k.entries n h) on in
-          (closed opened (closed_for n opened) m.memory _ s n k h (filled_of opened m.memory s n k h v) on (λ j differ o. still_opened n opened j differ o) w).0;
+      keeps = λ pending opened k. (closed pending opened (closed_for n opened) m.memory _ s n k h on (λ j differ o. still_opened n opened j differ o) w).0;
       closes = ap is_modified w.is ∙ one_clear (real_at m.memory s n) on;
       only = only_more s.at m m (entry_place s.at n) _ f.room (place_within s.at n h) (only_none s.at m);
     }

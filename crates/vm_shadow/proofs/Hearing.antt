@@ -160,10 +160,10 @@ entry_there : (a b : List ℕ) (x y : Lookup) (entry : ℕ) → a ≡ b → x �
 entry_there a b x y entry e d h = subst (λ z. entry_at z y ≡ Some entry) e (subst (λ z. entry_at a z ≡ Some entry) d h)
 
 module _ (opened : List ℕ) (memory : List ℕ) (s : Shadowed) (g : GuestState) (k : Keeps [] opened memory s) (v : Serves g s) where
-  size_is : length (partition_of memory g) ≡ 512 * s.pages
+  pub size_is : length (partition_of memory g) ≡ 512 * s.pages
   size_is = ap length (sym (own_is memory s g v)) ∙ own_length memory s k.fits
 
-  can_serve : CanStand (tables_of g)
+  pub can_serve : CanStand (tables_of g)
   can_serve = subst CanStand v.told k.fits.told
 
   -- a page at which the guest has a place is covered
@@ -174,7 +174,7 @@ module _ (opened : List ℕ) (memory : List ℕ) (s : Shadowed) (g : GuestState)
       covered (length (partition_of memory g)) (partition_of memory g) (tables_of g) (page_of va) has.0 can_serve (omega (arith, size_is, k.fits.small)) has.1
 
   -- the machine's answer by the entry
-  real_by : (m : Mode) (i : Intent) (va : ℕ) → IsCovered (page_of va) → real_place memory s m i va ≡ place_by va (granted may_of everywhere (real_at memory s (own_number s (page_of va))) (ring_of m) i)
+  pub real_by : (m : Mode) (i : Intent) (va : ℕ) → IsCovered (page_of va) → real_place memory s m i va ≡ place_by va (granted may_of everywhere (real_at memory s (own_number s (page_of va))) (ring_of m) i)
   unfolding place_in
   real_by m i va c = let e = entry_found memory s (page_of va) k.fits (slot_small memory s k.fits) c in ap (placed_by memory va (ring_of m) i) e.1
 
@@ -193,7 +193,7 @@ module _ (opened : List ℕ) (memory : List ℕ) (s : Shadowed) (g : GuestState)
       let mine : own_place memory g m i va ≡ answer lets (frame_of entry) va = own_by (guest_of memory g) va entry m i (look (guest_of memory g) page) has r.right.valid (omega (arith, size_is, r.right.inside)) (omega (arith, size_is, f.small)) (looks_inside (length (partition_of memory g)) (partition_of memory g) (tables_of g) page) (looks_by (length (partition_of memory g)) (partition_of memory g) (tables_of g) page) in
       real ∙ answer_moved s.base lets (frame_of entry) va ∙ ap (moved (512 * s.base)) (sym mine)
 
-  number_is_small : (va : ℕ) → IsCovered (page_of va) → own_number s (page_of va) < all_entries
+  pub number_is_small : (va : ℕ) → IsCovered (page_of va) → own_number s (page_of va) < all_entries
   number_is_small va c = number_small s.slot (page_of va) (slot_small memory s k.fits) c
 
   -- an entry that isn't filled is missed
@@ -202,7 +202,7 @@ module _ (opened : List ℕ) (memory : List ℕ) (s : Shadowed) (g : GuestState)
       let empty : real_at memory s (own_number s (page_of va)) ≡ empty_entry = subst (IsKept (512 * s.pages) s.base (own memory s) [] (seen_at memory s (own_number s (page_of va))) (real_at memory s (own_number s (page_of va)))) e (k.entries (own_number s (page_of va)) (number_is_small va c)) in
       real_by m i va c ∙ ap (λ x. place_by va (granted may_of everywhere x (ring_of m) i)) empty ∙ ap (place_by va) (empty_gives m i)
 
-  filled_there : (va : ℕ) (source : Source) → IsCovered (page_of va) → read_at s (own_number s (page_of va)) ≡ Some source → IsFilled memory s (own_number s (page_of va))
+  pub filled_there : (va : ℕ) (source : Source) → IsCovered (page_of va) → read_at s (own_number s (page_of va)) ≡ Some source → IsFilled memory s (own_number s (page_of va))
   filled_there va source c e =
       let n = own_number s (page_of va) in
       filled_of opened memory s n k (number_is_small va c) (kept_valid (512 * s.pages) s.base (own memory s) [] (seen_at memory s n) (real_at memory s n) (read_at s n) (k.entries n (number_is_small va c)) (ap is_some e))
@@ -251,19 +251,32 @@ module _ (opened : List ℕ) (memory : List ℕ) (s : Shadowed) (g : GuestState)
   own_clear (Fails n p) entry has on = refl
   own_clear Beyond entry has on = refl
 
-  marked_by_source : (m : Mode) (i : Intent) (va pa : ℕ) → va < 2 ^ 32 → IsCovered (page_of va) → real_place memory s m i va ≡ Ok pa → is_modified (real_at memory s (own_number s (page_of va))) ≡ true → (x : Option Source) → read_at s (own_number s (page_of va)) ≡ x → is_clear (guest_of memory g) va ≡ false
-  marked_by_source m i va pa small c e on None is = let miss : real_place memory s m i va ≡ Err Absent = empty_answers m i va c is in cc
-  marked_by_source m i va pa small c e on (Some source) is =
+  marked_by_source : (va : ℕ) → va < 2 ^ 32 → IsCovered (page_of va) → is_modified (real_at memory s (own_number s (page_of va))) ≡ true → (x : Option Source) → read_at s (own_number s (page_of va)) ≡ x → is_clear (guest_of memory g) va ≡ false
+  marked_by_source va small c on None is =
+      let n = own_number s (page_of va) in
+      let empty : real_at memory s n ≡ empty_entry = subst (IsKept (512 * s.pages) s.base (own memory s) [] (seen_at memory s n) (real_at memory s n)) is (k.entries n (number_is_small va c)) in
+      absurd (false≢true (ap is_modified (sym empty) ∙ on))
+  marked_by_source va small c on (Some source) is =
       let r = filled_there va source c is in
       let seen = seen_own memory s g (page_of va) k.fits v (page_small va small) c in
       let has : entry_at (partition_of memory g) (look (guest_of memory g) (page_of va)) ≡ Some (r.right.entry) = entry_there (own memory s) (partition_of memory g) (seen_at memory s (own_number s (page_of va))) (look (guest_of memory g) (page_of va)) (r.right.entry) (own_is memory s g v) seen r.right.has in
       let bit : r.right.modify ≡ true = sym (right_modify memory (own memory s) s (seen_at memory s (own_number s (page_of va))) r.source (real_at memory s (own_number s (page_of va))) k.fits r.right) ∙ on in
       own_clear (look (guest_of memory g) (page_of va)) (r.right.entry) has (r.right.marked bit)
 
-  pub marks : (m : Mode) (i : Intent) (va pa : ℕ) → va < 2 ^ 32 → real_place memory s m i va ≡ Ok pa → is_clear_in memory (real_tables s.at s.slot) va ≡ false → is_clear (guest_of memory g) va ≡ false
-  marks m i va pa small e clear = split (elsewhere memory s (page_of va) k.fits)
-      (λ c. marked_by_source m i va pa small c e (not-false _ (sym (clear_by va c) ∙ clear)) (read_at s (own_number s (page_of va))) refl)
-      (λ w. let no_ : real_place memory s m i va ≡ Err Refusing = elsewhere_refuses m i va w in cc)
+  -- a page that has no entry has no clear modify bit
+  none_clear : (va : ℕ) → (IsCovered (page_of va) → ⊥) → is_clear (guest_of memory g) va ≡ false
+  none_clear va u = by (look (guest_of memory g) (page_of va)) refl
+    where
+      by : (x : Lookup) → look (guest_of memory g) (page_of va) ≡ x → guest_clear (partition_of memory g) x ≡ false
+      by (Found place table) e = absurd (u (covered (length (partition_of memory g)) (partition_of memory g) (tables_of g) (page_of va) (long_at (partition_of memory g) place) can_serve (omega (arith, size_is, k.fits.small)) (ap (entry_at (partition_of memory g)) e)))
+      by (Direct frame) e = refl
+      by (Fails n p) e = refl
+      by Beyond e = refl
+
+  pub marks : (va : ℕ) → va < 2 ^ 32 → is_clear_in memory (real_tables s.at s.slot) va ≡ false → is_clear (guest_of memory g) va ≡ false
+  marks va small clear = split (elsewhere memory s (page_of va) k.fits)
+      (λ c. marked_by_source va small c (not-false _ (sym (clear_by va c) ∙ clear)) (read_at s (own_number s (page_of va))) refl)
+      (λ w. none_clear va w.uncovered)
 
   -- PROBE
   pub judged_on : (m : Mode) (i : Intent) (va : ℕ) → IsCovered (page_of va) → judged memory (real_tables s.at s.slot) (ring_of m) i va ≡ judged_by (real_at memory s (own_number s (page_of va))) (ring_of m) i
@@ -312,7 +325,7 @@ pub finds_filled_entries : FindsFilledEntries
 finds_filled_entries opened memory s g m i va pa k v small some e = found_by opened memory s g k v m i va pa small e (read_at s (own_number s (page_of va))) refl some
 
 pub marks_the_guest : MarksTheGuest
-marks_the_guest opened memory s g m i va pa k v small e clear = marks opened memory s g k v m i va pa small e clear
+marks_the_guest opened memory s g va k v small clear = marks opened memory s g k v va small clear
 
 pub probes_the_guest : ProbesTheGuest
 probes_the_guest opened memory s g m i va b k v small e = probes opened memory s g k v m i va b small e

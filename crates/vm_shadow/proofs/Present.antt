@@ -1,6 +1,6 @@
 -- A page to which a walk leads is present.
-use Rattle.std.proofs.Common.{◌≡◌, ℕ, ◌+◌, ◌*◌, ◌/◌, ◌%◌, ◌^◌, ◌≤◌, ◌<◌, Bool, true, false, not, length, Option, Some, None, refl, ap, arith}
-use Rattle.std.proofs.lemmas.Bool.{eq-eqb, ltb-false, false≢true}
+use Rattle.std.proofs.Common.{◌≡◌, ℕ, ◌+◌, ◌*◌, ◌/◌, ◌%◌, ◌^◌, ◌≤◌, Bool, true, false, not, length, Option, refl, ap, arith}
+use Rattle.std.proofs.lemmas.Bool.{eq-eqb, ltb-false}
 use Rattle.vv_base.specs.Bytes.{long_at}
 use Rattle.vax_arch.specs.Fields.{frame_of, is_valid, protection_of}
 use Rattle.vax_arch.specs.Ring.{open_of}

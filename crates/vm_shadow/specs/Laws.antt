@@ -59,8 +59,8 @@ FindsFilledEntries = (opened : List ℕ) (memory : List ℕ) (s : Shadowed) (g :
 
 -- A modify bit that is set for the machine is set for the guest.
 abbrev pub MarksTheGuest : Type 0
-MarksTheGuest = (opened : List ℕ) (memory : List ℕ) (s : Shadowed) (g : GuestState) (m : Mode) (i : Intent) (va pa : ℕ) → Keeps [] opened memory s → Serves g s → va < 2 ^ 32 →
-    real_place memory s m i va ≡ Ok pa → is_clear_in memory (real_tables s.at s.slot) va ≡ false → is_clear (guest_of memory g) va ≡ false
+MarksTheGuest = (opened : List ℕ) (memory : List ℕ) (s : Shadowed) (g : GuestState) (va : ℕ) → Keeps [] opened memory s → Serves g s → va < 2 ^ 32 →
+    is_clear_in memory (real_tables s.at s.slot) va ≡ false → is_clear (guest_of memory g) va ≡ false
 
 -- What PROBE finds in the real tables is what it finds in the guest's, and is plain.
 abbrev pub ProbesTheGuest : Type 0

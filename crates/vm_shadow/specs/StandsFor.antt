@@ -1,8 +1,8 @@
 -- The shadow page tables of a guest stand for its own.
-use Rattle.std.specs.Prelude.{◌≡◌, ℕ, ◌+◌, ◌*◌, ◌/◌, ◌%◌, ◌^◌, ◌<◌, ◌≤◌, ◌==◌, ◌⊎◌, Bool, true, false, not, ◌&&◌, nat_le, List, [], ◌∷◌, length, IfSome, Option, Some, None, filter, slice_index, slice_set}
+use Rattle.std.specs.Prelude.{◌≡◌, ◌≢◌, ℕ, ◌+◌, ◌*◌, ◌/◌, ◌%◌, ◌^◌, ◌<◌, ◌≤◌, ◌==◌, ◌⊎◌, Bool, true, false, not, ◌&&◌, nat_le, List, [], ◌∷◌, length, IfSome, Option, Some, None, filter, slice_index, slice_set}
 use Rattle.vax_arch.specs.Fields.{current_of, frame_of, is_modified, is_valid, mode_number, previous_of}
 use Rattle.vax_arch.specs.Ring.{ring_of}
-use Rattle.vax_arch.specs.Walk.{entry_at}
+use Rattle.vax_arch.specs.Walk.{entry_at, with_modify}
 use Rattle.vax_arch.specs.declared.walk.Lookup.{Lookup}
 use Rattle.vax_arch.specs.declared.walk.Lookup.TheVariants as looks
 use Rattle.vax_arch.specs.declared.pte.Pte.{Pte}
@@ -105,6 +105,8 @@ pub record IsMarked (memory : List ℕ) (s : Shadowed) (n : ℕ) : Type 0 where
 pub record OpensPage (n : ℕ) (m : Machine) (s : Shadowed) (m' : Machine) (s' : Shadowed) : Type 0 where
   pub keeps : (opened : List ℕ) → Keeps [] opened m.memory s → Keeps [] (n ∷ opened) m'.memory s'
   pub opens : is_modified (real_at m'.memory s n) ≡ true
+  pub entry : real_at m'.memory s n ≡ with_modify (real_at m.memory s n)
+  pub others : (k : ℕ) → k ≢ n → real_at m'.memory s k ≡ real_at m.memory s k
   pub rest : s' ≡ record s { writable = s'.writable }
   pub only : OnlyTables s.at m m'
 
@@ -112,6 +114,8 @@ pub record OpensPage (n : ℕ) (m : Machine) (s : Shadowed) (m' : Machine) (s' :
 pub record GrantsPage (n : ℕ) (m : Machine) (s : Shadowed) (m' : Machine) (s' : Shadowed) : Type 0 where
   pub keeps : (opened : List ℕ) → Keeps [] opened m.memory s → Keeps [] opened m'.memory s'
   pub opens : is_modified (real_at m'.memory s n) ≡ true
+  pub entry : real_at m'.memory s n ≡ with_modify (real_at m.memory s n)
+  pub others : (k : ℕ) → k ≢ n → real_at m'.memory s k ≡ real_at m.memory s k
   pub rest : s' ≡ record s { writable = s'.writable }
   pub only : OnlyTables s.at m m'
 
@@ -126,7 +130,7 @@ IsGranted false n m s m' s' = (m' ≡ m) × (s' ≡ s)
 
 -- a page is closed behind a guarded step
 pub record ClosesPage (n : ℕ) (m : Machine) (s : Shadowed) (m' : Machine) : Type 0 where
-  pub keeps : (opened : List ℕ) → Keeps [] opened m.memory s → Keeps [] (closed_for n opened) m'.memory s
+  pub keeps : (pending opened : List ℕ) → Keeps pending opened m.memory s → Keeps pending (closed_for n opened) m'.memory s
   pub closes : is_modified (real_at m'.memory s n) ≡ false
   pub only : OnlyTables s.at m m'
 

@@ -162,7 +162,7 @@ closed_again page pa memory g m m1 m2 m3 s s1 s2 k o w c =
     let n = own_number s page in
     let same : own_number s2 page ≡ n = ap (λ x. entry_number x page) (same_slot n pa memory m m1 m2 s s1 s2 o w) in
     let before : Keeps [] (n ∷ []) m2.memory s2 = w.keeps [] (n ∷ []) (o.keeps [] k.keeps) in
-    let closes : Keeps [] (closed_for n (n ∷ [])) m3.memory s2 = subst (λ x. Keeps [] (closed_for x (n ∷ [])) m3.memory s2) same (c.keeps (n ∷ []) before) in
+    let closes : Keeps [] (closed_for n (n ∷ [])) m3.memory s2 = subst (λ x. Keeps [] (closed_for x (n ∷ [])) m3.memory s2) same (c.keeps [] (n ∷ []) before) in
     let one : Serves g s1 = still_serves g s s1 (ap (λ x. x.pages) o.rest) (ap (λ x. x.base) o.rest) (ap (λ x. x.told) o.rest) k.serves in
     record {
       keeps = subst (λ x. Keeps [] x m3.memory s2) (no_more n) closes;

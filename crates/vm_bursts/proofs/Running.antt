@@ -1,0 +1,154 @@
+-- A run of the machine for a guest.
+use Rattle.std.proofs.Common.{◌≡◌, ℕ, ◌+◌, ◌*◌, ◌/◌, ◌%◌, ◌^◌, ◌<◌, ◌≤◌, List, [], refl, ap, ◌∙◌, sym, subst, arith}
+use Rattle.std.specs.Prelude.{◌==◌, ◌||◌, not, if◌then◌else◌}
+use Rattle.vax_arch.specs.Rei.{has_must_be_zero_bit}
+use Rattle.vax_arch.specs.Fields.{current_of, mode_number, mode_of, previous_of}
+use Rattle.vax_arch.specs.Ring.{ring_of}
+use Rattle.vax_arch.specs.declared.mode.Mode.{Mode}
+use Rattle.vax_arch.specs.declared.mode.Mode.TheVariants.{Executive, Kernel, Supervisor, User}
+use Rattle.vax_hw.specs.Machine.{Machine}
+use Rattle.vax_hw.specs.Real.{real}
+use Rattle.vax_hw.specs.declared.world.Exit.{Exit}
+use Rattle.vax_hw.specs.declared.world.Exit.TheVariants.{Arithmetic, Budget, Denied, Emulate, Modify, NotValid, Refused}
+use Rattle.vax_hw.specs.declared.world.World.{World}
+use Rattle.vm_bursts.specs.Ran.{IsRun, RunsMachine, rise}
+use Rattle.vm_bursts.specs.declared.bursts.Ended.{Ended}
+use Rattle.vm_shadow.specs.Stands.{Shadowed}
+use Rattle.vm_shadow.specs.StandsFor.{StandsFor, real_psl, world_of}
+use Rattle.vm_clock.specs.Ticks.{after_ticks}
+use Rattle.vm_simulation.specs.Bursts.{Ends, IsBurst, IsQuiet, counted_by, goes_on, with_count}
+use Rattle.vm_simulation.specs.Loaded.{Loads, RunsGuest, as_run}
+use Rattle.vm_simulation.proofs.Bursting.{ends_more, runs_go}
+use Rattle.vm_state.specs.Allowed.{AreAllowed}
+use Rattle.vm_state.specs.Partition.{guest_of}
+use Rattle.vm_state.specs.State.{state_of}
+use Rattle.vm_state.specs.declared.guest_state.GuestState.{GuestState}
+
+-- Fields of the real PSL.
+mode_small : (m : Mode) → mode_number m < 4
+mode_small Kernel = omega arith
+mode_small Executive = omega arith
+mode_small Supervisor = omega arith
+mode_small User = omega arith
+
+mode_again : (m : Mode) → mode_of (mode_number m) ≡ m
+mode_again Kernel = refl
+mode_again Executive = refl
+mode_again Supervisor = refl
+mode_again User = refl
+
+current_field : (c p l : ℕ) → c < 4 → p < 4 → (2 ^ 29 + c * 2 ^ 24 + p * 2 ^ 22 + l % 2 ^ 8) / 2 ^ 24 ≡ 32 + c
+current_field c p l h i = omega arith
+
+previous_field : (c p l : ℕ) → c < 4 → p < 4 → (2 ^ 29 + c * 2 ^ 24 + p * 2 ^ 22 + l % 2 ^ 8) / 2 ^ 22 ≡ 128 + 4 * c + p
+previous_field c p l h i = omega arith
+
+mode_modulo : (n c : ℕ) → n % 4 ≡ c % 4 → mode_of n ≡ mode_of c
+mode_modulo n c e = λ i. if e i == 0 then Kernel else if e i == 1 then Executive else if e i == 2 then Supervisor else User
+
+low_field : (c p l : ℕ) → (2 ^ 29 + c * 2 ^ 24 + p * 2 ^ 22 + l % 2 ^ 8) % 256 ≡ l % 256
+low_field c p l = omega arith
+
+whole_psl : (v l : ℕ) → l % 256 ≡ v % 256 → v / 256 * 256 + l % 256 ≡ v
+whole_psl v l e = omega (arith, e)
+
+pub loads_world : (s : Shadowed) (g : GuestState) → Loads (world_of s g) s g
+loads_world s g =
+    let c = mode_number (ring_of (current_of g.psl.0)) in
+    let p = mode_number (ring_of (previous_of g.psl.0)) in
+    let small = mode_small (ring_of (current_of g.psl.0)) in
+    let low = mode_small (ring_of (previous_of g.psl.0)) in
+    record {
+      r = refl;
+      psl = whole_psl g.psl.0 (real_psl g.psl.0) (low_field c p g.psl.0);
+      current = ap mode_of (current_field c p g.psl.0 small low) ∙ mode_modulo (32 + c) c (omega (arith, small)) ∙ mode_again (ring_of (current_of g.psl.0));
+      previous = ap mode_of (previous_field c p g.psl.0 small low) ∙ mode_modulo (128 + 4 * c + p) p (omega (arith, low)) ∙ mode_again (ring_of (previous_of g.psl.0));
+      tables = refl;
+    }
+
+pub loaded : (m : Machine) (s : Shadowed) (g : GuestState) → StandsFor m.memory s g → RunsGuest [] (record m { world = world_of s g }) s g
+loaded m s g k = record { keeps = k.keeps; serves = k.serves; loads = loads_world s g }
+
+-- the rise of a count
+pub rise_is : (before now done : ℕ) → before < 2 ^ 64 → now % 2 ^ 64 ≡ (before + done) % 2 ^ 64 → rise before now ≡ done % 2 ^ 64
+rise_is before now done h e = grind (arith, h, e)
+
+small_rest : (n : ℕ) → n < 2 ^ 32 → n % 2 ^ 64 ≡ n
+small_rest n h = omega arith
+
+-- no bit of the PSL that must be zero is below bit 8
+pub zero_bits : (p q : ℕ) → p / 2 ^ 8 ≡ q / 2 ^ 8 → has_must_be_zero_bit p ≡ has_must_be_zero_bit q
+zero_bits p q e =
+    let a : p / 2 ^ 27 ≡ q / 2 ^ 27 = omega (arith, e) in
+    let b : p / 2 ^ 21 ≡ q / 2 ^ 21 = omega (arith, e) in
+    λ i. not (a i % 32 == 0) || not (b i % 2 == 0) || not (e i % 256 == 0)
+
+module _ (n : ℕ) (m : Machine) (s : Shadowed) (g : GuestState) (w : World) (x : Ended) (m' : Machine) (k : StandsFor m.memory s g) (is : w ≡ world_of s g) (some : 1 ≤ n) (small : g.steps < 2 ^ 32) (few : n < 2 ^ 32) (q : IsQuiet n (state_of g)) (r : RunsMachine n m w x m') where
+  abbrev first : Machine
+  first = record m { world = world_of s g }
+
+  pub the_burst : IsBurst n first s g m' x.exit
+  the_burst =
+      let same : real n first ≡ (m', x.exit) = ap (λ v. real n (record m { world = v })) (sym is) ∙ sym r.ran in
+      subst (λ y. IsBurst n first s g y.0 y.1) same (runs_go n first s g some small (loaded m s g k) q)
+
+  pub done_is : x.done ≡ the_burst.done
+  done_is = r.done ∙ rise_is m.retired m'.retired the_burst.done r.retired the_burst.retired ∙ small_rest the_burst.done (omega (arith, few, the_burst.budget))
+
+  pub few_done : x.done < 2 ^ 32
+  few_done = omega (arith, done_is, the_burst.budget, few)
+
+  terms_are : x.terms ≡ the_burst.terms % 2 ^ 64
+  terms_are = r.terms ∙ rise_is m.trail m'.trail the_burst.terms r.trail the_burst.trail
+
+  -- fewer steps are counted besides the first than there were
+  counted_few : (e : Exit) (done left : ℕ) (memory : List ℕ) (h : GuestState) → Ends e done left memory s h → done + left ≡ n → counted_by e done < n
+  counted_few Budget done left memory h ends b = omega (arith, ends.1)
+  counted_few (Arithmetic kind) done left memory h ends b = omega (arith, ends)
+  counted_few (NotValid va write) done left memory h ends b = omega (arith, ends.0)
+  counted_few (Denied va write) done left memory h ends b = omega (arith, ends.0)
+  counted_few (Modify va) done left memory h ends b = omega (arith, ends.0)
+  counted_few (Emulate t) done left memory h ends b = omega (arith, ends.0)
+  counted_few (Refused refusal) done left memory h ends b = omega (arith, ends.0)
+
+  pub few_counted : (done : ℕ) → done ≡ x.done → counted_by x.exit done < n
+  few_counted done e = subst (λ d. counted_by x.exit d < n) (sym (e ∙ done_is)) (counted_few x.exit the_burst.done the_burst.left m'.memory (as_run m'.world g) the_burst.ends the_burst.budget)
+
+  -- what the guest has become stands
+  allowed_still : AreAllowed (512 * g.pages) (state_of g) → (c : ℕ) → AreAllowed (512 * g.pages) (state_of (with_count c (as_run m'.world g)))
+  allowed_still a c = record { p0br = a.p0br; p0lr = a.p0lr; p1br = a.p1br; p1lr = a.p1lr; sbr = a.sbr; slr = a.slr; pcbb = a.pcbb; scbb = a.scbb; astlvl = a.astlvl; sisr = a.sisr; psl = zero_bits (as_run m'.world g).psl.0 g.psl.0 the_burst.high ∙ a.psl; packets = a.packets; few = a.few }
+
+  same_trail : (t a b : ℕ) → a ≡ b % 2 ^ 64 → (t + b) % 2 ^ 64 ≡ (t + a) % 2 ^ 64
+  same_trail t a b e = ap (λ z. z) (sum_low t b) ∙ ap (λ z. (t + z) % 2 ^ 64) (sym e)
+    where
+      sum_low : (t b : ℕ) → (t + b) % 2 ^ 64 ≡ (t + b % 2 ^ 64) % 2 ^ 64
+      sum_low t b = grind arith
+
+  pub is_run : (done : ℕ) (g1 g2 : GuestState) (v : World) → done ≡ x.done → v ≡ m'.world → g1 ≡ as_run v g → g2 ≡ with_count (counted_by x.exit done) g1 → IsRun n m s g (record { done = done; terms = x.terms; exit = x.exit }) m' g2
+  is_run done g1 g2 v d vm one two =
+      let b = the_burst in
+      let same : done ≡ b.done = d ∙ done_is in
+      let g1_is : g1 ≡ as_run m'.world g = one ∙ ap (λ y. as_run y g) vm in
+      let is : g2 ≡ with_count (counted_by x.exit done) (as_run m'.world g) = two ∙ ap (with_count (counted_by x.exit done)) g1_is in
+      let there : g2 ≡ with_count (counted_by x.exit b.done) (as_run m'.world g) = is ∙ ap (λ c. with_count (counted_by x.exit c) (as_run m'.world g)) same in
+      record {
+        left = b.left;
+        budget = omega (arith, same, b.budget);
+        steps = λ run own low. b.steps run own low ∙ ap (goes_on x.exit b.left) (λ i. record {
+          guest = guest_of m'.memory (sym there i);
+          shown = run.shown;
+          tally = record run.tally { plain = run.tally.plain + sym same i; trail = same_trail run.tally.trail x.terms b.terms terms_are i };
+        });
+        is = is;
+        stands = subst (StandsFor m'.memory s) (sym there) (record {
+          keeps = b.runs.keeps;
+          serves = record { pages = k.serves.pages; base = k.serves.base; told = k.serves.told };
+          allowed = allowed_still k.allowed (counted_by x.exit b.done);
+        });
+        high = ap (λ (h : GuestState). h.psl.0 / 2 ^ 8) there ∙ b.high;
+        only = b.only;
+        ends = subst (λ z. Ends x.exit z b.left m'.memory s g2) (sym same) (subst (Ends x.exit b.done b.left m'.memory s) (sym there) (ends_more x.exit b.done b.left m'.memory s (as_run m'.world g) (after_ticks (counted_by x.exit b.done) g.clock) ((g.steps + counted_by x.exit b.done) % 2 ^ 32) b.ends));
+        retired = b.retired ∙ ap (λ z. (m.retired + z) % 2 ^ 64) (sym same);
+        trail = b.trail ∙ same_trail m.trail x.terms b.terms terms_are;
+        misses = b.misses;
+      }

@@ -1,0 +1,188 @@
+-- One instruction of a guest, for which pages are granted or opened that it writes.
+use Rattle.std.specs.Prelude.{◌≡◌, ◌≢◌, ◌⊎◌, ◌∷◌, IfSome, ℕ, zero, suc, ◌+◌, ◌*◌, ◌/◌, ◌%◌, ◌^◌, ◌<◌, ◌≤◌, Bool, true, false, not, if◌then◌else◌, List, [], length, map, slice_index, Option, Some, None}
+use Rattle.vax_arch.specs.Fields.{is_modified}
+use Rattle.vax_arch.specs.Walk.{page_of, with_modify}
+use Rattle.vax_hw.specs.Machine.{Machine}
+use Rattle.vax_hw.specs.Real.{misses_after}
+use Rattle.vax_hw.specs.declared.world.World.{World}
+use Rattle.vax_hw.specs.declared.world.Exit.{Exit}
+use Rattle.vm_bursts.specs.Ran.{rise}
+use Rattle.vm_bursts.specs.declared.bursts.Ended.{Ended}
+use Rattle.vax_hw.specs.declared.world.Exit.TheVariants.{Arithmetic, Budget, Denied, Emulate, Modify, NotValid, Refused}
+use Rattle.vax_table.specs.Claims.{claims}
+use Rattle.vax_table.specs.Tries.{Clear}
+use Rattle.vm_shadow.specs.Layout.{all_entries}
+use Rattle.vm_shadow.specs.Calls.{OnlyTables}
+use Rattle.vm_shadow.specs.Stands.{Fits, Keeps, Shadowed, is_pending, mapped_frame, read_at, real_at}
+use Rattle.vm_shadow.specs.StandsFor.{DropsFrom, StandsFor, closed_for, own_number}
+use Rattle.vm_simulation.specs.Bursts.{after_counted, plainly, with_trap}
+use Rattle.vm_state.specs.Run.{Run}
+use Rattle.vm_simulation.specs.Laws.{IsUnwritten, Meets}
+use Rattle.vm_simulation.specs.Loaded.{Loads, RunsGuest, as_run, frames_opened, guest_try}
+use Rattle.vm_state.specs.Partition.{guest_of, partition_of}
+use Rattle.vm_state.specs.State.{Guest}
+use Rattle.vm_state.specs.Step as steps
+use Rattle.vm_state.specs.Step.{by_try, instruction_of, trapped_in}
+use Rattle.vm_state.specs.Translation.{frame_at, is_clear, place_of, space_of}
+use Rattle.vm_state.specs.declared.guest_state.GuestState.{GuestState}
+
+-- of the machine's memory the guest's own and its real tables alone change
+pub record OnlyBoth (s : Shadowed) (before after : List ℕ) : Type 0 where
+  pub size : length after ≡ length before
+  pub other : (p : ℕ) → (p < 512 * s.base) ⊎ (512 * (s.base + s.pages) ≤ p) → (p < 512 * s.at) ⊎ (512 * (s.at + 580) ≤ p) → slice_index after p ≡ slice_index before p
+
+-- the machine runs the guest, with some entries opened
+pub record RunsSome (m : Machine) (s : Shadowed) (g : GuestState) : Type 0 where
+  pub opened : List ℕ
+  pub runs : RunsGuest opened m s g
+
+-- the frames of the bytes that an instruction would write
+abbrev pub frames_claimed : Guest → List ℕ
+frames_claimed h = map (λ va. frame_at (place_of h va)) (claims (space_of h) (instruction_of h.state))
+
+-- what an exit says: of a clear modify bit, that the guest's instruction meets it
+abbrev pub Tells : Exit → List ℕ → Shadowed → GuestState → Type 0
+Tells (Modify va) memory s g = (va < 2 ^ 32) × (guest_try (guest_of memory g) ≡ Clear va)
+Tells Budget memory s g = ⊥
+Tells (Arithmetic kind) memory s g = ⊥
+Tells (NotValid va write) memory s g = Meets (NotValid va write) memory s g
+Tells (Denied va write) memory s g = Meets (Denied va write) memory s g
+Tells (Emulate t) memory s g = Meets (Emulate t) memory s g
+Tells (Refused r) memory s g = Meets (Refused r) memory s g
+
+-- The instruction retired, and is plain. What was read from a frame that it wrote may be dropped.
+pub record IsCompleted (opened : List ℕ) (m : Machine) (s : Shadowed) (g : GuestState) (trap : Option ℕ) (m' : Machine) (s' : Shadowed) : Type 0 where
+  pub term : ℕ
+  pub written : List ℕ
+  pub plain : by_try (guest_of m.memory g) (guest_try (guest_of m.memory g)) ≡ trapped_in (steps.Plain term) written (guest_of m'.memory (as_run m'.world g)) trap
+  pub keeps : Keeps (frames_opened m.memory s opened) opened m'.memory s'
+  pub loads : Loads m'.world s' (as_run m'.world g)
+  pub high : (as_run m'.world g).psl.0 / 2 ^ 8 ≡ g.psl.0 / 2 ^ 8
+  pub each : (n : ℕ) → (read_at s' n ≡ read_at s n) ⊎ ((read_at s' n ≡ None) × (is_pending (frames_claimed (guest_of m.memory g)) (read_at s n) ≡ true))
+  pub rest : s' ≡ record s { reads = s'.reads; consulted = s'.consulted; writable = s'.writable }
+  pub only : OnlyBoth s m.memory m'.memory
+  pub retired : m'.retired ≡ (m.retired + 1) % 2 ^ 64
+  pub trail : m'.trail ≡ (m.trail + term) % 2 ^ 64
+  pub misses : m'.misses ≡ m.misses
+
+-- The instruction didn't retire, and nothing of the guest changed.
+pub record IsUnfinished (opened : List ℕ) (m : Machine) (s : Shadowed) (g : GuestState) (e : Exit) (m' : Machine) (s' : Shadowed) : Type 0 where
+  pub keeps : Keeps [] opened m'.memory s'
+  pub own : partition_of m'.memory g ≡ partition_of m.memory g
+  pub machine : m' ≡ record m { memory = m'.memory; misses = misses_after m.misses e }
+  pub rest : s' ≡ record s { writable = s'.writable }
+  pub only : OnlyBoth s m.memory m'.memory
+  pub tells : Tells e m'.memory s' g
+
+abbrev pub IsTried : Exit → List ℕ → Machine → Shadowed → GuestState → Machine → Shadowed → Type 0
+IsTried Budget opened m s g m' s' = IsCompleted opened m s g None m' s'
+IsTried (Arithmetic kind) opened m s g m' s' = IsCompleted opened m s g (Some kind) m' s'
+IsTried (NotValid va write) opened m s g m' s' = IsUnfinished opened m s g (NotValid va write) m' s'
+IsTried (Denied va write) opened m s g m' s' = IsUnfinished opened m s g (Denied va write) m' s'
+IsTried (Modify va) opened m s g m' s' = IsUnfinished opened m s g (Modify va) m' s'
+IsTried (Emulate t) opened m s g m' s' = IsUnfinished opened m s g (Emulate t) m' s'
+IsTried (Refused r) opened m s g m' s' = IsUnfinished opened m s g (Refused r) m' s'
+
+abbrev pub is_retired : Exit → Bool
+is_retired Budget = true
+is_retired (Arithmetic kind) = true
+is_retired e = false
+
+-- A page may be let be written: the guest's modify bit is set.
+pub record CanAllow (va : ℕ) (m : Machine) (s : Shadowed) (g : GuestState) : Type 0 where
+  pub fits : Fits m.memory s
+  pub partition : 512 * (g.base + g.pages) ≤ length m.memory
+  pub unwritten : IsUnwritten va m.memory s g
+  pub set : is_clear (guest_of m.memory g) va ≡ false
+
+-- among the opened now
+abbrev pub opened_by : Option ℕ → ℕ → List ℕ → List ℕ
+opened_by None n opened = opened
+opened_by (Some frame) n opened = n ∷ opened
+
+-- It is granted, or opened, and then its frame is told; nothing else changes.
+pub record Allows (va : ℕ) (m : Machine) (s : Shadowed) (frame : Option ℕ) (m' : Machine) (s' : Shadowed) : Type 0 where
+  pub keeps : (opened : List ℕ) → Keeps [] opened m.memory s → Keeps [] (opened_by frame (own_number s (page_of va)) opened) m'.memory s'
+  pub told : IfSome frame (λ f. f ≡ mapped_frame s (real_at m.memory s (own_number s (page_of va))))
+  pub entry : real_at m'.memory s (own_number s (page_of va)) ≡ with_modify (real_at m.memory s (own_number s (page_of va)))
+  pub others : (k : ℕ) → k ≢ own_number s (page_of va) → real_at m'.memory s k ≡ real_at m.memory s k
+  pub rest : s' ≡ record s { writable = s'.writable }
+  pub only : OnlyTables s.at m m'
+
+-- A page that was opened is closed, behind a drop of what was read from its frame where the instruction retired.
+abbrev pub noted_by : Bool → ℕ → List ℕ → List ℕ
+noted_by true frame pending = frame ∷ pending
+noted_by false frame pending = pending
+
+abbrev pub drops_by : Bool → ℕ → Shadowed → Shadowed → Type 0
+drops_by true frame s s' = DropsFrom frame s s'
+drops_by false frame s s' = s' ≡ s
+
+abbrev pub noted_with : Bool → Option ℕ → List ℕ → List ℕ
+noted_with retired None pending = pending
+noted_with retired (Some frame) pending = noted_by retired frame pending
+
+pub record CanClose (frame : Option ℕ) (retired : Bool) (m : Machine) (s : Shadowed) : Type 0 where
+  pub pending : List ℕ
+  pub opened : List ℕ
+  pub keeps : Keeps (noted_with retired frame pending) opened m.memory s
+
+pub record ClosesOne (n frame : ℕ) (retired : Bool) (m : Machine) (s : Shadowed) (m' : Machine) (s' : Shadowed) : Type 0 where
+  pub keeps : (pending opened : List ℕ) → Keeps (noted_by retired frame pending) opened m.memory s → Keeps pending (closed_for n opened) m'.memory s'
+  pub drops : drops_by retired frame s s'
+  pub only : OnlyTables s.at m m'
+
+abbrev pub ClosesBehind : (n : ℕ) → Option ℕ → Bool → Machine → Shadowed → Machine → Shadowed → Type 0
+ClosesBehind n None retired m s m' s' = (m' ≡ m) × (s' ≡ s)
+ClosesBehind n (Some frame) retired m s m' s' = ClosesOne n frame retired m s m' s'
+
+-- how many real entries have a clear modify bit
+abbrev pub count_below : (ℕ → Bool) → ℕ → ℕ
+count_below p zero = 0
+count_below p (suc n) = count_below p n + (if p n then 1 else 0)
+
+unfoldable pub clear_bits : List ℕ → Shadowed → ℕ
+clear_bits memory s = count_below (λ n. not (is_modified (real_at memory s n))) all_entries
+
+-- The guest's step behind one guarded instruction: it is plain, and its trap is initiated in it.
+abbrev pub with_trap_of : Option ℕ → Run → Run
+with_trap_of None run = run
+with_trap_of (Some kind) run = with_trap kind run
+
+pub record StepsGuarded (m : Machine) (s : Shadowed) (g : GuestState) (terms : ℕ) (trap : Option ℕ) (m' : Machine) (s' : Shadowed) (g' : GuestState) : Type 0 where
+  pub steps : (run : Run) → run.guest ≡ guest_of m.memory g → run.tally.trail < 2 ^ 64 → after_counted 1 run ≡ with_trap_of trap (plainly run (guest_of m'.memory g') 1 terms)
+  pub is : g' ≡ as_run m'.world g
+  pub stands : StandsFor m'.memory s' g'
+  pub high : g'.psl.0 / 2 ^ 8 ≡ g.psl.0 / 2 ^ 8
+  pub each : (n : ℕ) → (read_at s' n ≡ read_at s n) ⊎ ((read_at s' n ≡ None) × (is_pending (frames_claimed (guest_of m.memory g)) (read_at s n) ≡ true))
+  pub rest : s' ≡ record s { reads = s'.reads; consulted = s'.consulted; writable = s'.writable }
+  pub only : OnlyBoth s m.memory m'.memory
+  pub retired : m'.retired % 2 ^ 64 ≡ (m.retired + 1) % 2 ^ 64
+  pub trail : m'.trail % 2 ^ 64 ≡ (m.trail + terms) % 2 ^ 64
+  pub misses : m'.misses ≡ m.misses
+
+-- The instruction didn't retire: the guest is as it was, and all of the machine but memory, what is loaded, and misses.
+pub record StaysGuarded (m : Machine) (s : Shadowed) (g : GuestState) (e : Exit) (m' : Machine) (s' : Shadowed) (g' : GuestState) : Type 0 where
+  pub guest : g' ≡ g
+  pub stands : StandsFor m'.memory s' g
+  pub own : partition_of m'.memory g ≡ partition_of m.memory g
+  pub machine : m' ≡ record m { memory = m'.memory; world = m'.world; misses = misses_after m.misses e }
+  pub rest : s' ≡ record s { writable = s'.writable }
+  pub only : OnlyBoth s m.memory m'.memory
+  pub tells : Tells e m'.memory s' g
+
+abbrev pub IsGuarded : Exit → Machine → Shadowed → GuestState → (terms : ℕ) → Machine → Shadowed → GuestState → Type 0
+IsGuarded Budget m s g terms m' s' g' = StepsGuarded m s g terms None m' s' g'
+IsGuarded (Arithmetic kind) m s g terms m' s' g' = StepsGuarded m s g terms (Some kind) m' s' g'
+IsGuarded (NotValid va write) m s g terms m' s' g' = StaysGuarded m s g (NotValid va write) m' s' g'
+IsGuarded (Denied va write) m s g terms m' s' g' = StaysGuarded m s g (Denied va write) m' s' g'
+IsGuarded (Modify va) m s g terms m' s' g' = StaysGuarded m s g (Modify va) m' s' g'
+IsGuarded (Emulate t) m s g terms m' s' g' = StaysGuarded m s g (Emulate t) m' s' g'
+IsGuarded (Refused r) m s g terms m' s' g' = StaysGuarded m s g (Refused r) m' s' g'
+
+-- one instruction, with the machine's registers and counts
+pub record RunsOne (m : Machine) (s : Shadowed) (g : GuestState) (w : World) (ended : Ended) (m' : Machine) (s' : Shadowed) : Type 0 where
+  pub tried : (opened : List ℕ) → RunsGuest opened (record m { world = w }) s g → IsTried ended.exit opened (record m { world = w }) s g m' s'
+  pub terms : ended.terms ≡ rise m.trail m'.trail
+  pub world : ended.world ≡ m'.world
+  pub trail : m.trail < 2 ^ 64

@@ -1,0 +1,42 @@
+-- A run of the machine for a guest, as the kernel makes it.
+use Rattle.std.specs.Prelude.{◌≡◌, ℕ, ◌+◌, ◌-◌, ◌/◌, ◌%◌, ◌^◌, ◌<◌}
+use Rattle.vax_hw.specs.Machine.{Machine}
+use Rattle.vax_hw.specs.Real.{real}
+use Rattle.vax_hw.specs.declared.world.World.{World}
+use Rattle.vm_bursts.specs.declared.bursts.Ended.{Ended}
+use Rattle.vm_bursts.specs.declared.bursts.Ran.{Ran}
+use Rattle.vm_shadow.specs.Stands.{Shadowed}
+use Rattle.vm_shadow.specs.StandsFor.{StandsFor}
+use Rattle.vm_simulation.specs.Bursts.{Ends, after_counted, counted_by, goes_on, missed_by, plainly, with_count}
+use Rattle.vm_simulation.specs.Loaded.{OnlyPartition, as_run}
+use Rattle.vm_state.specs.Partition.{guest_of}
+use Rattle.vm_state.specs.Run.{Run}
+use Rattle.vm_state.specs.declared.guest_state.GuestState.{GuestState}
+
+-- how much a count of 64 bits rose
+abbrev pub rise : ℕ → ℕ → ℕ
+rise before now = (now + (2 ^ 64 - before)) % 2 ^ 64
+
+-- the machine ran with a world loaded
+pub record RunsMachine (n : ℕ) (m : Machine) (w : World) (ended : Ended) (m' : Machine) : Type 0 where
+  pub ran : (m', ended.exit) ≡ real n (record m { world = w })
+  pub done : ended.done ≡ rise m.retired m'.retired
+  pub terms : ended.terms ≡ rise m.trail m'.trail
+  pub world : ended.world ≡ m'.world
+  pub retired : m.retired < 2 ^ 64
+  pub trail : m.trail < 2 ^ 64
+
+-- The machine ran: it retired so many instructions of at most n, which were plain steps of the guest, with the sum of their
+-- terms of the trail; why it ended says how the guest goes on.
+pub record IsRun (n : ℕ) (m : Machine) (s : Shadowed) (g : GuestState) (ran : Ran) (m' : Machine) (g' : GuestState) : Type 0 where
+  pub left : ℕ
+  pub budget : ran.done + left ≡ n
+  pub steps : (run : Run) → run.guest ≡ guest_of m.memory g → run.tally.trail < 2 ^ 64 → after_counted n run ≡ goes_on ran.exit left (plainly run (guest_of m'.memory g') ran.done ran.terms)
+  pub is : g' ≡ with_count (counted_by ran.exit ran.done) (as_run m'.world g)
+  pub stands : StandsFor m'.memory s g'
+  pub high : g'.psl.0 / 2 ^ 8 ≡ g.psl.0 / 2 ^ 8
+  pub only : OnlyPartition g m.memory m'.memory
+  pub ends : Ends ran.exit ran.done left m'.memory s g'
+  pub retired : m'.retired % 2 ^ 64 ≡ (m.retired + ran.done) % 2 ^ 64
+  pub trail : m'.trail % 2 ^ 64 ≡ (m.trail + ran.terms) % 2 ^ 64
+  pub misses : m'.misses % 2 ^ 64 ≡ (m.misses + missed_by ran.exit) % 2 ^ 64

@@ -1,0 +1,138 @@
+ghost use Rattle.std.specs.Prelude.{◌≡◌, ◌≤◌, ◌+◌, ◌*◌, ◌/◌, ℕ, List, length, Ok};
+ghost use Rattle.vax_arch.specs.declared.mode.Intent.TheVariants.{Write};
+ghost use Rattle.vax_arch.specs.WalkLaws.{AreAligned};
+ghost use Rattle.vax_arch.specs.Walk.{page_of};
+ghost use Rattle.vm_bursts.specs.Guarded.{Allows, CanAllow, CanClose, ClosesBehind, IsGuarded, IsTried, RunsOne, RunsSome, is_retired};
+ghost use Rattle.vm_shadow.specs.Layout.{IsCovered};
+ghost use Rattle.vm_shadow.specs.StandsFor.{StandsFor, own_number};
+ghost use Rattle.vm_simulation.specs.Laws.{place_here};
+ghost use Rattle.vm_simulation.specs.Loaded.{RunsGuest};
+ghost use Rattle.vm_state.specs.Partition.{guest_of};
+ghost use Rattle.vm_state.specs.Translation.{is_clear};
+
+use crate::bursts::{Ended, Ran, take_back};
+use vax_arch::{Intent, Lookup, Pte};
+use vax_hw::{Exit, Hardware, World};
+use vm_shadow::Shadow;
+use vm_state::{GuestState, Walk};
+use vm_walk::{look_up, walk};
+
+/// Whether the modify bit of an address's page is clear in the guest's own tables.
+#[tactic(auto, using(vm_state::proofs::Parts::part_length, vm_state::proofs::Parts::part_long))]
+pub fn is_clear<H: Hardware>(machine: &H, g: &GuestState, va: u32) -> bool
+    requires { 512 * (g.now.base + g.now.pages) ≤ length (H.machine machine.now).memory }
+    ensures { result ≡ is_clear (guest_of (H.machine machine.now).memory g.now) va }
+{
+    let _all = machine.pages();
+    match look_up(machine, g, va / 512) {
+        Lookup::Found { place, .. } => !Pte(machine.read_long(512 * g.base + place)).modified(),
+        _ => false,
+    }
+}
+
+/// The frame in which a byte lies that the guest may write; 0 for another.
+fn frame_of<H: Hardware>(machine: &H, g: &GuestState, va: u32) -> u32
+    requires { 512 * (g.now.base + g.now.pages) ≤ length (H.machine machine.now).memory }
+    ensures { (pa : ℕ) → place_here (H.machine machine.now).memory g.now Write va ≡ Ok pa → result ≡ pa / 512 }
+{
+    match walk(machine, g, va, g.psl.current(), Intent::Write) {
+        Walk::Frame { pa, .. } => pa / 512,
+        _ => 0,
+    }
+}
+
+/// Whether the instruction retired.
+fn is_retired(exit: &Exit) -> bool
+    ensures { result ≡ is_retired exit.now }
+{
+    matches!(exit, Exit::Budget | Exit::Arithmetic { .. })
+}
+
+/// Lets a page be written whose modify bit is set in the guest's own tables: it is granted for good, where no entry was read
+/// from its frame; else it is opened for one instruction, and the answer is its frame.
+fn allow<H: Hardware>(machine: &mut H, s: &mut Shadow, g: &GuestState, va: u32) -> Option<u32>
+    requires { CanAllow va (H.machine machine.old) s.old g.now }
+    ensures { Allows va (H.machine machine.old) s.old result (H.machine machine.new) s.new }
+{
+    if s.grant_write(machine, va) {
+        return None;
+    }
+    let frame = frame_of(machine, g, va);
+    s.open_write(machine, va);
+    Some(frame)
+}
+
+/// Closes a page that was opened. Behind an instruction that retired, what was read from its frame is dropped.
+fn close_behind<H: Hardware>(
+    machine: &mut H,
+    s: &mut Shadow,
+    va: u32,
+    frame: Option<u32>,
+    exit: &Exit,
+)
+    requires keeps { CanClose frame (is_retired exit.now) (H.machine machine.old) s.old }
+    requires covered { IsCovered (page_of va) }
+    ensures { ClosesBehind (own_number s.old (page_of va)) frame (is_retired exit.now) (H.machine machine.old) s.old (H.machine machine.new) s.new }
+{
+    let Some(frame) = frame else {
+        return;
+    };
+    if !is_retired(exit) {
+        s.close_write(machine, va);
+        return;
+    }
+    s.note_write(machine, frame);
+    s.close_write(machine, va);
+}
+
+/// Runs the guest's instruction, which the machine has. A page that it writes, and whose modify bit is set in the guest's own
+/// tables, is granted for good, where no entry was read from its frame, and else opened for this instruction alone: what was
+/// read from the frame is dropped behind it.
+fn complete<H: Hardware>(machine: &mut H, s: &mut Shadow, g: &GuestState) -> Exit
+    requires { RunsSome (H.machine machine.old) s.old g.now }
+    ensures { (opened : List ℕ) → RunsGuest opened (H.machine machine.old) s.old g.now → IsTried result opened (H.machine machine.old) s.old g.now (H.machine machine.new) s.new }
+{
+    let exit = machine.run(1);
+    let Exit::Modify { va } = exit else {
+        return exit;
+    };
+    if is_clear(machine, g, va) {
+        return exit;
+    }
+    let frame = allow(machine, s, g, va);
+    let exit = complete(machine, s, g);
+    close_behind(machine, s, va, frame, &exit);
+    exit
+}
+
+/// Runs the guest's instruction, with its registers loaded.
+fn run_one<H: Hardware>(machine: &mut H, s: &mut Shadow, g: &GuestState, w: &World) -> Ended
+    requires runs { RunsSome (record (H.machine machine.old) { world = w.now }) s.old g.now }
+    ensures { RunsOne (H.machine machine.old) s.old g.now w.now result (H.machine machine.new) s.new }
+{
+    let trail = machine.trail();
+    machine.load_world(w);
+    let exit = complete(machine, s, g);
+    Ended {
+        exit,
+        done: u64::from(is_retired(&exit)),
+        terms: machine.trail().wrapping_sub(trail),
+        world: machine.save_world(),
+    }
+}
+
+/// Runs one instruction of a guest, whose step is counted, where the machine met a clear modify bit: pages that it writes, and
+/// whose modify bits are set in the guest's own tables, are granted, or opened for it alone. Answers what the machine did.
+pub fn run_guarded<H: Hardware>(machine: &mut H, s: &mut Shadow, g: &mut GuestState) -> Ran
+    requires { StandsFor (H.machine machine.old).memory s.old g.old }
+    ensures { IsGuarded result.exit (H.machine machine.old) s.old g.old result.terms (H.machine machine.new) s.new g.new }
+{
+    let world = s.world(g);
+    let ended = run_one(machine, s, g, &world);
+    take_back(g, &ended.world);
+    Ran {
+        done: u32::from(is_retired(&ended.exit)),
+        terms: ended.terms,
+        exit: ended.exit,
+    }
+}

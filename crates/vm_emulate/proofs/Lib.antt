@@ -1,0 +1,15 @@
+pub mod GuestBytes
+pub mod Telling
+pub mod Sensing
+pub mod Returning
+pub mod Changing
+pub mod Writing
+pub mod Same
+pub mod MovingTo
+pub mod Probings
+pub mod Fetching
+pub mod FetchingTo
+pub mod Saving
+pub mod SavingContext
+pub mod Loading
+pub mod Dispatching

@@ -1,0 +1,73 @@
+ghost use Rattle.std.specs.Prelude.{◌≡◌, ◌∷◌, ◌++◌, [], Some, slice_index, true};
+ghost use Rattle.vm_emulate.specs.declared.emulated.Emulated.TheVariants.{Done, PastMemory, Stopped};
+ghost use Rattle.vm_state.specs.Sensitive.{behind};
+ghost use Rattle.vm_state.specs.State.{HasPlace, state_of};
+
+use crate::Emulated;
+use vax_table::Trapped;
+use vm_state::GuestState;
+
+/// The stop codes of HALT and of a place beyond memory.
+const HALTED: u8 = 0x06;
+
+const PAST_MEMORY: u8 = 0x10;
+
+/// R0 to R14 with the operands' side effects, and the next PC.
+pub fn registers_behind(t: &Trapped) -> [u32; 16]
+    ensures registers { result ≡ t.now.regs ++ t.now.next_pc ∷ [] }
+    ensures pc { slice_index result 15 ≡ t.now.next_pc }
+{
+    let mut r = [0; 16];
+    r[..15].copy_from_slice(&t.regs);
+    r[15] = t.next_pc;
+    r
+}
+
+/// The guest goes on behind an instruction.
+pub fn go_behind(g: &mut GuestState, t: &Trapped)
+    ensures state { state_of g.new ≡ behind (state_of g.old) t.now }
+    ensures place { HasPlace g.old.pages g.old.base g.old.start g.new }
+{
+    g.r = registers_behind(t);
+}
+
+/// The guest stops with a code.
+pub fn stop(g: &mut GuestState, code: u8) -> Emulated
+    ensures result { result ≡ Stopped code }
+    ensures state { state_of g.new ≡ record (state_of g.old) { halt = Some code } }
+    ensures place { HasPlace g.old.pages g.old.base g.old.start g.new }
+{
+    g.halt = Some(code);
+    Emulated::Stopped(code)
+}
+
+/// A place beyond memory stops the guest.
+pub fn stop_past_memory(g: &mut GuestState) -> Emulated
+    ensures result { result ≡ PastMemory }
+    ensures state { state_of g.new ≡ record (state_of g.old) { halt = Some 0x10 } }
+    ensures place { HasPlace g.old.pages g.old.base g.old.start g.new }
+{
+    g.halt = Some(PAST_MEMORY);
+    Emulated::PastMemory
+}
+
+/// HALT: the guest stops behind it.
+pub fn halt(g: &mut GuestState, t: &Trapped) -> Emulated
+    ensures result { result ≡ Stopped 6 }
+    ensures state { state_of g.new ≡ record (behind (state_of g.old) t.now) { halt = Some 6 } }
+    ensures place { HasPlace g.old.pages g.old.base g.old.start g.new }
+{
+    go_behind(g, t);
+    stop(g, HALTED)
+}
+
+/// WAIT: the guest waits for an interrupt.
+pub fn wait(g: &mut GuestState, t: &Trapped) -> Emulated
+    ensures result { result ≡ Done }
+    ensures state { state_of g.new ≡ record (behind (state_of g.old) t.now) { waiting = true } }
+    ensures place { HasPlace g.old.pages g.old.base g.old.start g.new }
+{
+    go_behind(g, t);
+    g.waiting = true;
+    Emulated::Done
+}

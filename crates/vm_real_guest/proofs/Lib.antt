@@ -1,0 +1,3 @@
+pub mod Storing
+pub mod Becoming
+pub mod Sharing

@@ -1,0 +1,17 @@
+ghost use Rattle.vm_simulation.specs.Bursts.{RunsGoAsTheGuest};
+ghost use Rattle.vm_simulation.specs.Laws.{ExitsMeetTheGuest, RetiresTheGuest};
+
+/// What stops the machine before an instruction is what the guest's own comes to, or a page that isn't filled or opened.
+pub fn exits_meet_the_guest()
+    ensures { ExitsMeetTheGuest }
+{}
+
+/// An instruction that the machine retires is one that the guest completes.
+pub fn instructions_retire_as_the_guests()
+    ensures { RetiresTheGuest }
+{}
+
+/// A run of the machine is as many plain steps of the guest as instructions retired.
+pub fn runs_go_as_the_guest()
+    ensures { RunsGoAsTheGuest }
+{}

@@ -1,0 +1,12 @@
+pub mod Making
+pub mod MissingPages
+pub mod SensingScripts
+pub mod SensingFaults
+pub mod SensingFilled
+pub mod SensingSteps
+pub mod SensingMade
+pub mod Going
+pub mod Meeting
+pub mod Running
+pub mod Beginning
+pub mod Advancing

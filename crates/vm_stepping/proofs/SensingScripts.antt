@@ -1,0 +1,135 @@
+-- What an instruction that completes is found to be.
+use Rattle.std.proofs.Common.{◌≡◌, ◌⊎◌, inl, inr, ℕ, zero, suc, ◌-◌, ◌||◌, ◌&&◌, Bool, true, false, eqb, leb, List, [], ◌∷◌, length, Option, Some, None, Result, Ok, Err, refl, ap}
+use Rattle.std.specs.Prelude.{slice_get, slice_index}
+use Rattle.std.proofs.lemmas.Bool.{and_parts}
+use Rattle.vv_base.specs.declared.width.Width.TheVariants.{Byte, Word, Long}
+use Rattle.vax_arch.specs.declared.mode.Intent.{Intent}
+use Rattle.vax_table.specs.Claims.{Holds, claims}
+use Rattle.vax_table.specs.Fetch.{fetched}
+use Rattle.vax_table.specs.Operand.{operands_of, trap_operands}
+use Rattle.vax_table.specs.Operations.{OperationLine, arithmetic_operations, in_operation_lines, in_operations, move_operations, operation_of, other_operations}
+use Rattle.vax_table.specs.Plan.{plan_of}
+use Rattle.vax_table.specs.Script.{Script, Trouble, outcome}
+use Rattle.vax_table.specs.Spelling.{Instruction}
+use Rattle.vax_table.specs.Tries.{Completes, first_clear, tried_by, unless_clear}
+use Rattle.vax_table.specs.Whole.{Act, Meant, Plain, Probes, Traps, acted, acted_by, instruction, is_always_done, is_kernel, meant, plainly, probing, trapped}
+use Rattle.vax_table.specs.declared.act.Sens.{Sens}
+use Rattle.vax_table.specs.declared.act.Sens.TheVariants.{Prober, Probew}
+use Rattle.vax_table.specs.declared.meaning.Operation.{Operation}
+use Rattle.vax_table.specs.declared.meaning.Operation.TheVariants as does
+use Rattle.vax_table.proofs.Claims.{holds-bind, holds_always, holds_made}
+use Rattle.vax_table.proofs.Tests.{if_both}
+use Rattle.vax_table.proofs.Widths.{OperandsAreWide, operands_wide}
+use Rattle.vm_simulation.specs.Loaded.{guest_try}
+use Rattle.vm_state.specs.State.{Guest, mode_of_state}
+use Rattle.vm_state.specs.Step.{instruction_of}
+use Rattle.vm_state.specs.Translation.{is_clear, space_of}
+
+-- a sensitive instruction but PROBE
+abbrev pub IsNoProbe : Sens → Type 0
+IsNoProbe Prober = ⊥
+IsNoProbe Probew = ⊥
+IsNoProbe op = Unit {0}
+
+-- what an operation is, if it is sensitive
+abbrev is_no_probe : Operation → Bool
+is_no_probe (does.Sensitive Prober) = false
+is_no_probe (does.Sensitive Probew) = false
+is_no_probe operation = true
+
+abbrev are_no_probes : List Operation → Bool
+are_no_probes [] = true
+are_no_probes (o ∷ os) = is_no_probe o && are_no_probes os
+
+abbrev are_no_probe_lines : List OperationLine → Bool
+are_no_probe_lines [] = true
+are_no_probe_lines (l ∷ ls) = is_no_probe l.operation && are_no_probe_lines ls
+
+-- an element of such a list, where there is one
+at_place : (os : List Operation) (k : ℕ) → are_no_probes os ≡ true → (slice_get os k ≡ None) ⊎ ((o : Operation) × (slice_get os k ≡ Some o) × (is_no_probe o ≡ true))
+at_place [] k e = inl refl
+at_place (o ∷ os) zero e = inr (o, refl, (and_parts (is_no_probe o) (are_no_probes os) e).0)
+at_place (o ∷ os) (suc k) e = at_place os k (and_parts (is_no_probe o) (are_no_probes os) e).1
+
+in_block : (n first : ℕ) (block : List Operation) (rest : Operation) → are_no_probes block ≡ true → is_no_probe rest ≡ true → is_no_probe (in_operations n first block rest) ≡ true
+in_block n first block rest e r =
+    if_both (λ (o : Operation). is_no_probe o ≡ true) (leb first n) _ _
+    (λ t. elim (at_place block (n - first) e) [ inl none ↦ rw none r | inr some ↦ rw some.1 some.2 ])
+    (λ t. r)
+
+in_lines : (n : ℕ) (ls : List OperationLine) → are_no_probe_lines ls ≡ true → is_no_probe (in_operation_lines n ls) ≡ true
+in_lines n [] e = refl
+in_lines n (l ∷ ls) e =
+    let parts = and_parts (is_no_probe l.operation) (are_no_probe_lines ls) e in
+    if_both (λ (o : Operation). is_no_probe o ≡ true) (eqb n l.opcode) _ _ (λ t. parts.0) (λ t. in_lines n ls parts.1)
+
+-- PROBE isn't among the sensitive ones
+no_probe : (n : ℕ) → is_no_probe (operation_of n) ≡ true
+unfolding operation_of
+no_probe n =
+    in_block n 0x80 (arithmetic_operations Byte) _ refl
+    (in_block n 0xa0 (arithmetic_operations Word) _ refl
+    (in_block n 0xc0 (arithmetic_operations Long) _ refl
+    (in_block n 0x90 (move_operations Byte) _ refl
+    (in_block n 0xb0 (move_operations Word) _ refl
+    (in_block n 0xd0 (move_operations Long) _ refl
+    (in_lines n other_operations refl))))))
+
+is_none : (op : Sens) → is_no_probe (does.Sensitive op) ≡ true → IsNoProbe op
+is_none Prober e = cc
+is_none Probew e = cc
+is_none op e = tt
+
+-- A sensitive instruction is no PROBE; and behind PROBE's operands there are as many registers as before.
+abbrev pub ActIsProper : ℕ → Act → Type 0
+ActIsProper n (Plain e) = Unit {0}
+ActIsProper n (Traps t) = IsNoProbe t.op
+ActIsProper n (Probes i o) = length o.r ≡ n
+
+abbrev MeantIsProper : ℕ → List ℕ → Meant → Type 0
+MeantIsProper n cs m = ActIsProper n m.act
+
+abbrev Anything : {A : Type 0} → List ℕ → A → Type 0
+Anything cs a = Unit {0}
+
+any_end : {A : Type 0} (cs : List ℕ) (m : Script A) → Holds Anything cs m
+any_end cs m = holds_always Anything cs m (λ ds a. tt)
+
+trap_holds : (n : ℕ) (op : Sens) (d : Instruction) (r cs : List ℕ) → IsNoProbe op → Holds (MeantIsProper n) cs (trapped op d r)
+trap_holds n op d r cs k = holds-bind Anything (MeantIsProper n) cs (trap_operands d r) _ (any_end cs (trap_operands d r)) (λ ds o h. k)
+
+plain_holds : (n psl : ℕ) (d : Instruction) (r cs : List ℕ) → Holds (MeantIsProper n) cs (plainly psl d r)
+plain_holds n psl d r cs = holds-bind Anything (MeantIsProper n) cs (plan_of psl d r) _ (any_end cs (plan_of psl d r)) (λ ds e h. tt)
+
+probe_holds : (i : Intent) (d : Instruction) (r cs : List ℕ) → Holds (MeantIsProper (length r)) cs (probing i d r)
+probe_holds i d r cs = holds-bind (OperandsAreWide (length r)) (MeantIsProper (length r)) cs (operands_of d r) _ (operands_wide d r cs) (λ ds o h. h)
+
+by_operation : (is_kernel : Bool) (psl : ℕ) (operation : Operation) (d : Instruction) (r cs : List ℕ) → is_no_probe operation ≡ true → Holds (MeantIsProper (length r)) cs (acted_by is_kernel psl operation d r)
+by_operation is_kernel psl (does.Sensitive op) d r cs k = if_both (Holds (MeantIsProper (length r)) cs) (is_always_done op || is_kernel) _ _ (λ t. trap_holds (length r) op d r cs (is_none op k)) (λ t. tt)
+by_operation is_kernel psl (does.Probe i) d r cs k = probe_holds i d r cs
+by_operation is_kernel psl operation d r cs k = plain_holds (length r) psl d r cs
+
+acted_holds : (is_kernel : Bool) (psl : ℕ) (d : Instruction) (r cs : List ℕ) → Holds (MeantIsProper (length r)) cs (acted is_kernel psl d r)
+unfolding acted
+acted_holds is_kernel psl d r cs = by_operation is_kernel psl (operation_of d.opcode) d r cs (no_probe d.opcode)
+
+whole_holds : (is_kernel : Bool) (psl : ℕ) (r : List ℕ) → Holds (MeantIsProper (length r)) [] (instruction is_kernel psl r)
+unfolding instruction
+whole_holds is_kernel psl r =
+    holds-bind Anything (MeantIsProper (length r)) [] (fetched (slice_index r 15)) _ (any_end [] (fetched (slice_index r 15)))
+    (λ cs d h. acted_holds is_kernel psl d r cs)
+
+-- what completes is the outcome
+ok_unless : {A : Type 0} (x : Option ℕ) (a b : A) → unless_clear a x ≡ Completes b → a ≡ b
+ok_unless None a b e = cc
+ok_unless (Some va) a b e = cc
+
+ok_by : {A : Type 0} (clear : ℕ → Bool) (claimed : List ℕ) (r : Result A Trouble) (b : A) → tried_by clear claimed r ≡ Completes b → r ≡ Ok b
+ok_by clear claimed (Ok a) b e = ap Ok (ok_unless (first_clear clear claimed) a b e)
+ok_by clear claimed (Err t) b e = cc
+
+pub proper_act : (g : Guest) (opcode : ℕ) (act : Act) → guest_try g ≡ Completes (meant opcode act) → ActIsProper (length g.state.r) act
+proper_act g opcode act e =
+    let m = instruction_of g.state in
+    holds_made (MeantIsProper (length g.state.r)) (space_of g) [] m (meant opcode act) (whole_holds (is_kernel (mode_of_state g.state)) g.state.psl g.state.r)
+    (ok_by (is_clear g) (claims (space_of g) m) (outcome (space_of g) m) (meant opcode act) e)

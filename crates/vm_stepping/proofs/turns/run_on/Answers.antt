@@ -1,0 +1,36 @@
+use Rattle.std.proofs.Common.{◌-◌, true, refl}
+use Rattle.vm_state.specs.Step.{Idle}
+use Rattle.vm_state.specs.State.{state_of}
+use Rattle.vm_stepping.proofs.Beginning.{quiet_on}
+use Rattle.vm_stepping.proofs.Running.{trap_falls_so, with_budget, with_fills, with_step, with_trap_behind}
+use Rattle.vm_stepping.proofs.turns.run_on.Goals as goal
+
+pub burst-ran-requires-clause-quiet : goal.burst-ran-requires-clause-quiet
+burst-ran-requires-clause-quiet g c = quiet_on c.budget.result (state_of c.args.g.now) c.requires.quiet c.budget.ensures.within
+
+pub returns-in-Budget-clause-proceeds : goal.returns-in-Budget-clause-proceeds
+returns-in-Budget-clause-proceeds g c =
+    with_budget c.args.left c.budget.result (g.H.Hardware.machine c.args.machine.now) c.args.s.now c.args.g.now c.args.counts.now c.retire.new.self c.burst-ran.result (g.H.Hardware.machine c.burst-ran.new.machine) c.burst-ran.new.g c.requires.stands c.budget.ensures.some c.budget.ensures.most c.retire.ensures.small c.burst-ran.ensures c.retire.ensures.is
+    c.of.result g.T.Port.may c.args.port.now c.args.port.now c.in-Budget.is c.of.ensures
+
+pub returns-in-Arithmetic-clause-proceeds : goal.returns-in-Arithmetic-clause-proceeds
+returns-in-Arithmetic-clause-proceeds g c =
+    with_trap_behind c.args.left c.budget.result (g.H.Hardware.machine c.args.machine.now) c.args.s.now c.args.g.now c.args.counts.now c.retire.new.self c.burst-ran.result (g.H.Hardware.machine c.burst-ran.new.machine) c.burst-ran.new.g c.requires.stands c.budget.ensures.some c.budget.ensures.most c.retire.ensures.small c.burst-ran.ensures c.retire.ensures.is
+    c.of-in-Arithmetic.result g.T.Port.may c.args.port.now c.begin.new.port (g.H.Hardware.machine c.begin.new.machine) c.begin.new.s c.begin.new.g c.in-Arithmetic.kind c.in-Arithmetic.is c.of-in-Arithmetic.ensures (c.begin.ensures.makes Idle) (c.begin.ensures.shown Idle)
+
+pub returns-in-Arithmetic-clause-falls : goal.returns-in-Arithmetic-clause-falls
+returns-in-Arithmetic-clause-falls g c =
+    trap_falls_so c.args.left c.budget.result (g.H.Hardware.machine c.args.machine.now) c.args.s.now c.args.g.now c.args.counts.now c.retire.new.self c.burst-ran.result (g.H.Hardware.machine c.burst-ran.new.machine) c.burst-ran.new.g c.requires.stands c.budget.ensures.some c.budget.ensures.most c.retire.ensures.small c.burst-ran.ensures c.retire.ensures.is
+    c.of-in-Arithmetic.result g.T.Port.may c.args.port.now c.begin.new.port (g.H.Hardware.machine c.begin.new.machine) c.begin.new.s c.begin.new.g c.in-Arithmetic.kind c.in-Arithmetic.is c.of-in-Arithmetic.ensures
+
+pub returns-then-meet : goal.returns-then-meet
+returns-then-meet g c =
+    let both = with_step c.args.left c.budget.result (g.H.Hardware.machine c.args.machine.now) c.args.s.now c.args.g.now c.args.counts.now c.retire.new.self c.burst-ran.result (g.H.Hardware.machine c.burst-ran.new.machine) c.burst-ran.new.g c.requires.stands c.budget.ensures.some c.budget.ensures.most c.retire.ensures.small c.burst-ran.ensures c.retire.ensures.is
+    c.of-then-meet.result g.T.Port.may c.args.port.now c.meet.new.port (g.H.Hardware.machine c.meet.new.machine) c.meet.new.s c.meet.new.g c.meet.new.counts c.in_default.not-Budget c.in_default.not-Arithmetic c.meet.result c.if-meet.true c.of-then-meet.ensures c.meet.ensures in
+    record { proceeds = both.0; falls = both.1 }
+
+pub returns-else-meet : goal.returns-else-meet
+returns-else-meet g c =
+    let both = with_fills c.args.left c.budget.result (g.H.Hardware.machine c.args.machine.now) c.args.s.now c.args.g.now c.args.counts.now c.retire.new.self c.burst-ran.result (g.H.Hardware.machine c.burst-ran.new.machine) c.burst-ran.new.g c.requires.stands c.budget.ensures.some c.budget.ensures.most c.retire.ensures.small c.burst-ran.ensures c.retire.ensures.is
+    (record { steps = c.args.left - c.burst-ran.result.done; counted = true }) g.T.Port.may c.args.port.now c.meet.new.port (g.H.Hardware.machine c.meet.new.machine) c.meet.new.s c.meet.new.g c.meet.new.counts c.in_default.not-Budget c.in_default.not-Arithmetic c.meet.result c.if-meet.false refl (quiet_on c.budget.result (state_of c.args.g.now) c.requires.quiet c.budget.ensures.within) c.meet.ensures in
+    record { proceeds = both.0; falls = both.1 }

@@ -1,0 +1,59 @@
+-- Steps of a guest that the kernel makes, of which the next one may be counted already.
+use Rattle.std.specs.Prelude.{◌≡◌, ℕ, ◌+◌, ◌*◌, ◌≤◌, Bool, true, false, if◌then◌else◌, List, ◌++◌, []}
+use Rattle.vax_hw.specs.Machine.{Machine}
+use Rattle.vm_console.specs.Appends.{Appends}
+use Rattle.vm_shadow.specs.Layout.{all_entries}
+use Rattle.vm_shadow.specs.Stands.{Shadowed}
+use Rattle.vm_simulation.specs.Bursts.{IsQuiet, after_counted}
+use Rattle.vm_state.specs.Run.{Run, after_steps}
+use Rattle.vm_state.specs.State.{state_of}
+use Rattle.vm_state.specs.declared.guest_state.GuestState.{GuestState}
+use Rattle.vm_stepping.specs.Made.{Goes, Refills, Retired, no_counts, run_of, steps_in, unfilled}
+use Rattle.vm_stepping.specs.declared.counts.Counts.{Counts}
+use Rattle.vm_stepping.specs.declared.turns.Left.{Left}
+
+-- A counted guest's instruction is done, with the trap behind it: that is its step.
+pub record Steps {Port : Type 0} (may : Port → List ℕ → Type 0) (port port' : Port) (m : Machine) (s : Shadowed) (g : GuestState) (c : Counts) (m' : Machine) (s' : Shadowed) (g' : GuestState) (c' : Counts) : Type 0 where
+  pub text : List ℕ
+  pub run : (shown : List ℕ) → after_counted 1 (run_of m.memory g c shown) ≡ run_of m'.memory g' c' (shown ++ text)
+  pub shows : Appends may port port' text
+  pub goes : Goes m s g m' s' g'
+  pub one : steps_in c' ≡ steps_in c + 1
+  pub retired : Retired m c m' c'
+
+-- the step is made; or pages are filled, and the instruction is tried again
+abbrev pub IsDone : {Port : Type 0} → (Port → List ℕ → Type 0) → Bool → Port → Port → Machine → Shadowed → GuestState → Counts → Machine → Shadowed → GuestState → Counts → Type 0
+IsDone may true port port' m s g c m' s' g' c' = Steps may port port' m s g c m' s' g' c'
+IsDone may false port port' m s g c m' s' g' c' = Refills m s g m' s' g' × (c' ≡ c) × Appends may port port' []
+
+-- so many steps, of which the first may be counted already
+abbrev pub behind : Left → Run → Run
+behind left run = if left.counted then after_counted left.steps run else after_steps left.steps run
+
+-- a guest whose next step is counted comes to its instruction in it
+abbrev pub IsBegun : Left → GuestState → Type 0
+IsBegun left g = left.counted ≡ true → (1 ≤ left.steps) × IsQuiet 1 (state_of g)
+
+-- Some of the steps that are left are made, or the next is begun, or pages are filled for it.
+pub record Proceeds {Port : Type 0} (may : Port → List ℕ → Type 0) (left left' : Left) (port port' : Port) (m : Machine) (s : Shadowed) (g : GuestState) (c : Counts) (m' : Machine) (s' : Shadowed) (g' : GuestState) (c' : Counts) : Type 0 where
+  pub text : List ℕ
+  pub run : (shown : List ℕ) → behind left (run_of m.memory g c shown) ≡ behind left' (run_of m'.memory g' c' (shown ++ text))
+  pub shows : Appends may port port' text
+  pub goes : Goes m s g m' s' g'
+  pub kinds : steps_in c' + left'.steps ≡ steps_in c + left.steps
+  pub fewer : left'.steps ≤ left.steps
+  pub retired : Retired m c m' c'
+  pub begun : IsBegun left' g'
+
+-- How much is to do at most: the steps that are left, each with a fill of every entry and its beginning.
+abbrev pub to_do : Left → Shadowed → ℕ
+to_do left s = 2 * ((all_entries + 1) * left.steps + unfilled s) + (if left.counted then 0 else 1)
+
+-- so many steps of a guest, none of which is counted yet
+pub record Advances {Port : Type 0} (may : Port → List ℕ → Type 0) (steps : ℕ) (port port' : Port) (m : Machine) (s : Shadowed) (g : GuestState) (m' : Machine) (s' : Shadowed) (g' : GuestState) (c : Counts) : Type 0 where
+  pub text : List ℕ
+  pub run : after_steps steps (run_of m.memory g no_counts []) ≡ run_of m'.memory g' c text
+  pub shows : Appends may port port' text
+  pub goes : Goes m s g m' s' g'
+  pub kinds : steps_in c ≡ steps
+  pub retired : Retired m no_counts m' c

@@ -1,0 +1,70 @@
+-- A step of a guest that the kernel makes and counts, over a machine and the guest's shadow page tables.
+use Rattle.std.specs.Prelude.{◌≡◌, ℕ, ◌+◌, ◌%◌, ◌^◌, ◌<◌, Bool, true, false, not, List, [], ◌++◌, is_some}
+use Rattle.vax_hw.specs.Machine.{Machine}
+use Rattle.vm_bursts.specs.Guarded.{OnlyBoth, count_below}
+use Rattle.vm_console.specs.Appends.{Appends}
+use Rattle.vm_shadow.specs.Layout.{all_entries}
+use Rattle.vm_shadow.specs.Stands.{Shadowed, read_at}
+use Rattle.vm_shadow.specs.StandsFor.{StandsFor}
+use Rattle.vm_simulation.specs.Loaded.{guest_try}
+use Rattle.vm_state.specs.Partition.{guest_of, partition_of}
+use Rattle.vm_state.specs.Run.{Run, Tally, after_step}
+use Rattle.vm_state.specs.State.{HasPlace}
+use Rattle.vm_state.specs.Step.{Stepped, by_try}
+use Rattle.vm_state.specs.declared.guest_state.GuestState.{GuestState}
+use Rattle.vm_stepping.specs.declared.counts.Counts.{Counts}
+
+-- the steps that are counted, by their kinds
+abbrev pub tally_of : Counts → Tally
+tally_of c = record { plain = c.plain; sensitive = c.sensitive; faults = c.faults; interrupts = c.interrupts; modify = c.modify; idle = c.idle; stopped = c.stopped; trail = c.trail }
+
+-- no steps
+abbrev pub no_counts : Counts
+no_counts = record { plain = 0; sensitive = 0; faults = 0; interrupts = 0; modify = 0; idle = 0; stopped = 0; trail = 0 }
+
+-- a guest's run so far
+abbrev pub run_of : List ℕ → GuestState → Counts → List ℕ → Run
+run_of memory g c shown = record { guest = guest_of memory g; shown = shown; tally = tally_of c }
+
+-- steps of every kind
+abbrev pub steps_in : Counts → ℕ
+steps_in c = c.plain + c.sensitive + c.faults + c.interrupts + c.modify + c.idle + c.stopped
+
+-- what stays while a guest goes on: its shadow page tables stand for its own, and no byte beyond both changes
+pub record Goes (m : Machine) (s : Shadowed) (g : GuestState) (m' : Machine) (s' : Shadowed) (g' : GuestState) : Type 0 where
+  pub stands : StandsFor m'.memory s' g'
+  pub only : OnlyBoth s m.memory m'.memory
+  pub place : HasPlace g.pages g.base g.start g'
+  pub tables : s'.at ≡ s.at
+
+-- the machine retired what is counted as plain
+pub record Retired (m : Machine) (c : Counts) (m' : Machine) (c' : Counts) : Type 0 where
+  pub retired : (m'.retired + c.plain) % 2 ^ 64 ≡ (m.retired + c'.plain) % 2 ^ 64
+  pub trail : (m'.trail + c.trail) % 2 ^ 64 ≡ (m.trail + c'.trail) % 2 ^ 64
+
+-- this step is made
+pub record Made {Port : Type 0} (may : Port → List ℕ → Type 0) (x : Stepped) (port port' : Port) (m : Machine) (s : Shadowed) (g : GuestState) (c : Counts) (m' : Machine) (s' : Shadowed) (g' : GuestState) (c' : Counts) : Type 0 where
+  pub run : (shown : List ℕ) → after_step (run_of m.memory g c shown) x ≡ run_of m'.memory g' c' (shown ++ x.shown)
+  pub shows : Appends may port port' x.shown
+  pub goes : Goes m s g m' s' g'
+  pub one : steps_in c' ≡ steps_in c + 1
+  pub retired : Retired m c m' c'
+
+-- how many entries aren't filled
+unfoldable pub unfilled : Shadowed → ℕ
+unfilled s = count_below (λ n. not (is_some (read_at s n))) all_entries
+
+-- Pages of the guest are filled, of which one wasn't; nothing of the guest changes, and no step is made.
+pub record Refills (m : Machine) (s : Shadowed) (g : GuestState) (m' : Machine) (s' : Shadowed) (g' : GuestState) : Type 0 where
+  pub guest : g' ≡ g
+  pub stands : StandsFor m'.memory s' g
+  pub own : partition_of m'.memory g ≡ partition_of m.memory g
+  pub machine : m' ≡ record m { memory = m'.memory; world = m'.world; misses = m'.misses }
+  pub only : OnlyBoth s m.memory m'.memory
+  pub tables : s'.at ≡ s.at
+  pub fewer : unfilled s' < unfilled s
+
+-- A counted guest's instruction: the step that it comes to is made; or pages are filled, and it is tried again.
+abbrev pub IsMet : {Port : Type 0} → (Port → List ℕ → Type 0) → Bool → Port → Port → Machine → Shadowed → GuestState → Counts → Machine → Shadowed → GuestState → Counts → Type 0
+IsMet may true port port' m s g c m' s' g' c' = Made may (by_try (guest_of m.memory g) (guest_try (guest_of m.memory g))) port port' m s g c m' s' g' c'
+IsMet may false port port' m s g c m' s' g' c' = Refills m s g m' s' g' × (c' ≡ c) × Appends may port port' []

@@ -1,0 +1,12 @@
+//! Steps of a guest over the machine and its shadow page tables.
+#![tactic(auto)]
+
+mod counts;
+mod made;
+mod met;
+mod missing;
+mod sensing;
+mod turns;
+
+pub use counts::Counts;
+pub use turns::advance;

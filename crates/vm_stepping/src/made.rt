@@ -1,0 +1,104 @@
+ghost use Rattle.std.specs.Prelude.{◌≡◌, ◌+◌, ◌<◌, ◌^◌, Some};
+ghost use Rattle.vm_exception.specs.Initiated.{IsProper};
+ghost use Rattle.vm_shadow.specs.StandsFor.{StandsFor};
+ghost use Rattle.vm_state.specs.Partition.{guest_of};
+ghost use Rattle.vm_events.specs.Sources.{source_of};
+ghost use Rattle.vm_state.specs.Initiate.{initiate};
+ghost use Rattle.vm_state.specs.Interrupts.{due, interrupt_of};
+ghost use Rattle.vm_state.specs.State.{HasPlace, state_of};
+ghost use Rattle.vm_state.specs.Step.{Fault, clear_met, counted, faulted, interrupted, stopped};
+ghost use Rattle.vm_state.specs.Stops.{PastMemory};
+ghost use Rattle.vm_stepping.specs.Made.{Made, steps_in};
+
+use crate::Counts;
+use vax_hw::Hardware;
+use vm_console::Port;
+use vm_events::{Source, begin, interrupt, show_stop};
+use vm_shadow::Shadow;
+use vm_state::{Exc, GuestState};
+
+/// The stop code of a reference beyond memory.
+pub const PAST_MEMORY: u8 = 0x10;
+
+/// A fault of the instruction is initiated.
+pub fn fault<H: Hardware, T: Port>(
+    machine: &mut H,
+    s: &mut Shadow,
+    g: &mut GuestState,
+    port: &mut T,
+    counts: &mut Counts,
+    e: Exc,
+)
+    requires stands { StandsFor (H.machine machine.old).memory s.old g.old }
+    requires proper { IsProper e }
+    requires room { steps_in counts.old < 2 ^ 32 }
+    ensures { Made T.may (faulted (guest_of (H.machine machine.old).memory g.old) e) port.old port.new (H.machine machine.old) s.old g.old counts.old (H.machine machine.new) s.new g.new counts.new }
+{
+    begin(machine, s, g, port, e);
+    counts.faults += 1;
+}
+
+/// A reference beyond memory stops the guest.
+pub fn stop_past_memory<H: Hardware, T: Port>(
+    machine: &H,
+    s: &Shadow,
+    g: &mut GuestState,
+    port: &mut T,
+    counts: &mut Counts,
+)
+    requires stands { StandsFor (H.machine machine.now).memory s.now g.old }
+    requires room { steps_in counts.old < 2 ^ 32 }
+    ensures { Made T.may (stopped (guest_of (H.machine machine.now).memory g.old) PastMemory Fault) port.old port.new (H.machine machine.now) s.now g.old counts.old (H.machine machine.now) s.now g.new counts.new }
+{
+    show_stop(g, port, PAST_MEMORY);
+    g.halt = Some(PAST_MEMORY);
+    counts.faults += 1;
+}
+
+/// A clear modify bit is met: it is set, and the instruction begins again at the next step; a guest with modify faults has one.
+pub fn meet_clear<H: Hardware, T: Port>(
+    machine: &mut H,
+    s: &mut Shadow,
+    g: &mut GuestState,
+    port: &mut T,
+    counts: &mut Counts,
+    va: u32,
+)
+    requires stands { StandsFor (H.machine machine.old).memory s.old g.old }
+    requires room { steps_in counts.old < 2 ^ 32 }
+    ensures { Made T.may (clear_met (guest_of (H.machine machine.old).memory g.old) va) port.old port.new (H.machine machine.old) s.old g.old counts.old (H.machine machine.new) s.new g.new counts.new }
+{
+    if g.modify_faults {
+        fault(machine, s, g, port, counts, Exc::ModifyFault { va });
+        return;
+    }
+    s.mark_modified(machine, g, va);
+    counts.modify += 1;
+}
+
+/// An interrupt that is due is taken.
+pub fn take_interrupt<H: Hardware, T: Port>(
+    machine: &mut H,
+    s: &mut Shadow,
+    g: &mut GuestState,
+    port: &mut T,
+    counts: &mut Counts,
+    source: Source,
+)
+    requires stands { StandsFor (H.machine machine.old).memory s.old g.old }
+    requires due { due (state_of g.old) ≡ Some (source_of source) }
+    requires room { steps_in counts.old < 2 ^ 32 }
+    ensures { Made T.may (interrupted (guest_of (H.machine machine.old).memory g.old) (source_of source) (initiate (guest_of (H.machine machine.old).memory g.old) (interrupt_of (source_of source)))) port.old port.new (H.machine machine.old) s.old g.old counts.old (H.machine machine.new) s.new g.new counts.new }
+{
+    interrupt(machine, s, g, port, source);
+    counts.interrupts += 1;
+}
+
+/// The next step of a guest counts its clock, and itself.
+pub fn count_step(g: &mut GuestState)
+    ensures state { state_of g.new ≡ counted (state_of g.old) }
+    ensures place { HasPlace g.old.pages g.old.base g.old.start g.new }
+{
+    g.clock.tick();
+    g.steps = g.steps.wrapping_add(1);
+}

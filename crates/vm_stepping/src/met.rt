@@ -1,0 +1,161 @@
+ghost use Rattle.std.specs.Prelude.{◌≡◌, ◌+◌, ◌<◌, ◌^◌, true};
+ghost use Rattle.vax_table.specs.Script.{Test};
+ghost use Rattle.vax_table.specs.Tries.{Stopped};
+ghost use Rattle.vax_table.specs.Troubles.{intent_of};
+ghost use Rattle.vm_bursts.specs.Guarded.{Tells};
+ghost use Rattle.vm_exception.specs.Initiated.{IsProper};
+ghost use Rattle.vm_shadow.specs.StandsFor.{StandsFor};
+ghost use Rattle.vm_simulation.specs.Laws.{Meets};
+ghost use Rattle.vm_simulation.specs.Loaded.{guest_try};
+ghost use Rattle.vm_state.specs.Partition.{guest_of};
+ghost use Rattle.vm_state.specs.Sensitive.{refused_as};
+ghost use Rattle.vm_stepping.specs.Advances.{IsDone};
+ghost use Rattle.vm_stepping.specs.Made.{IsMet, steps_in};
+
+use crate::Counts;
+use crate::made::{fault, meet_clear};
+use crate::missing::meet_missing;
+use crate::sensing::sense;
+use vax_arch::Intent;
+use vax_hw::{Exit, Hardware};
+use vax_table::Refusal;
+use vm_bursts::{is_clear, run_guarded};
+use vm_console::Port;
+use vm_events::begin;
+use vm_shadow::Shadow;
+use vm_state::{Exc, GuestState};
+
+/// The fault of an instruction that the machine refuses.
+fn refused_as(refusal: Refusal) -> Exc
+    ensures is { result ≡ refused_as refusal }
+    ensures proper { IsProper result }
+{
+    match refusal {
+        Refusal::Instruction => Exc::ReservedInstruction,
+        Refusal::Operand => Exc::ReservedOperand,
+        Refusal::Addressing => Exc::ReservedAddressing,
+        Refusal::Customer => Exc::Customer,
+        Refusal::Breakpoint => Exc::Breakpoint,
+    }
+}
+
+/// What a reference is for that a page was missed by.
+fn intent_of(write: bool) -> Intent
+    ensures { result ≡ intent_of write }
+{
+    if write { Intent::Write } else { Intent::Read }
+}
+
+/// A refused instruction is the guest's fault.
+fn refuse<H: Hardware, T: Port>(
+    machine: &mut H,
+    s: &mut Shadow,
+    g: &mut GuestState,
+    port: &mut T,
+    counts: &mut Counts,
+    refusal: Refusal,
+)
+    requires stands { StandsFor (H.machine machine.old).memory s.old g.old }
+    requires room { steps_in counts.old < 2 ^ 32 }
+    requires refused { guest_try (guest_of (H.machine machine.old).memory g.old) ≡ Stopped (Test refusal) }
+    ensures { IsMet T.may true port.old port.new (H.machine machine.old) s.old g.old counts.old (H.machine machine.new) s.new g.new counts.new }
+{
+    fault(machine, s, g, port, counts, refused_as(refusal));
+}
+
+/// What the machine stopped before is done for the guest: its step is made and counted; or pages are filled, and the instruction
+/// is to be tried again. Answers whether a step was made.
+fn meet_told<H: Hardware, T: Port>(
+    machine: &mut H,
+    s: &mut Shadow,
+    g: &mut GuestState,
+    port: &mut T,
+    counts: &mut Counts,
+    exit: Exit,
+) -> bool
+    requires stands { StandsFor (H.machine machine.old).memory s.old g.old }
+    requires room { steps_in counts.old < 2 ^ 32 }
+    requires told { Tells exit (H.machine machine.old).memory s.old g.old }
+    ensures { IsMet T.may result port.old port.new (H.machine machine.old) s.old g.old counts.old (H.machine machine.new) s.new g.new counts.new }
+{
+    match exit {
+        Exit::NotValid { va, write } => meet_missing(
+            machine,
+            s,
+            g,
+            port,
+            counts,
+            va,
+            intent_of(write),
+        ),
+        Exit::Denied { va, write } => meet_missing(
+            machine,
+            s,
+            g,
+            port,
+            counts,
+            va,
+            intent_of(write),
+        ),
+        Exit::Modify { va } => {
+            meet_clear(machine, s, g, port, counts, va);
+            true
+        }
+        Exit::Emulate(t) => sense(machine, s, g, port, counts, &t),
+        Exit::Refused(refusal) => {
+            refuse(machine, s, g, port, counts, refusal);
+            true
+        }
+        Exit::Budget => false,
+        Exit::Arithmetic { .. } => false,
+    }
+}
+
+/// Runs the guest's instruction alone, with the pages that it writes let be written. Answers whether its step was made.
+fn run_alone<H: Hardware, T: Port>(
+    machine: &mut H,
+    s: &mut Shadow,
+    g: &mut GuestState,
+    port: &mut T,
+    counts: &mut Counts,
+) -> bool
+    requires stands { StandsFor (H.machine machine.old).memory s.old g.old }
+    requires room { steps_in counts.old < 2 ^ 32 }
+    ensures { IsDone T.may result port.old port.new (H.machine machine.old) s.old g.old counts.old (H.machine machine.new) s.new g.new counts.new }
+{
+    let ran = run_guarded(machine, s, g);
+    match ran.exit {
+        Exit::Budget => {
+            counts.retire(1, ran.terms);
+            true
+        }
+        Exit::Arithmetic { kind } => {
+            counts.retire(1, ran.terms);
+            begin(machine, s, g, port, Exc::Arithmetic(kind));
+            true
+        }
+        exit => meet_told(machine, s, g, port, counts, exit),
+    }
+}
+
+/// What the machine stopped before is done for the guest, or its instruction is run alone. Answers whether its step was made.
+pub fn meet<H: Hardware, T: Port>(
+    machine: &mut H,
+    s: &mut Shadow,
+    g: &mut GuestState,
+    port: &mut T,
+    counts: &mut Counts,
+    exit: Exit,
+) -> bool
+    requires stands { StandsFor (H.machine machine.old).memory s.old g.old }
+    requires room { steps_in counts.old < 2 ^ 32 }
+    requires meets { Meets exit (H.machine machine.old).memory s.old g.old }
+    ensures { IsDone T.may result port.old port.new (H.machine machine.old) s.old g.old counts.old (H.machine machine.new) s.new g.new counts.new }
+{
+    if let Exit::Modify { va } = exit {
+        if !is_clear(machine, g, va) {
+            return run_alone(machine, s, g, port, counts);
+        }
+    }
+    meet_told(machine, s, g, port, counts, exit)
+}

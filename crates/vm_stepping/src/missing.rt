@@ -1,0 +1,45 @@
+ghost use Rattle.std.specs.Prelude.{◌≡◌, ◌+◌, ◌<◌, ◌^◌};
+ghost use Rattle.vm_shadow.specs.StandsFor.{StandsFor};
+ghost use Rattle.vm_simulation.specs.Laws.{IsMissed};
+ghost use Rattle.vm_stepping.specs.Made.{IsMet, steps_in};
+
+use crate::Counts;
+use crate::made::{fault, stop_past_memory};
+use vax_arch::Intent;
+use vax_hw::Hardware;
+use vm_console::Port;
+use vm_shadow::Shadow;
+use vm_state::{Exc, GuestState, Walk};
+use vm_walk::walk;
+
+/// What becomes of a byte that the machine has no place for: its page is filled, where the guest has a place; else that is the
+/// guest's own fault, or stops it. Answers whether a step was made.
+pub fn meet_missing<H: Hardware, T: Port>(
+    machine: &mut H,
+    s: &mut Shadow,
+    g: &mut GuestState,
+    port: &mut T,
+    counts: &mut Counts,
+    va: u32,
+    i: Intent,
+) -> bool
+    requires stands { StandsFor (H.machine machine.old).memory s.old g.old }
+    requires room { steps_in counts.old < 2 ^ 32 }
+    requires missed { IsMissed i va (H.machine machine.old).memory s.old g.old }
+    ensures { IsMet T.may result port.old port.new (H.machine machine.old) s.old g.old counts.old (H.machine machine.new) s.new g.new counts.new }
+{
+    match walk(machine, g, va, g.psl.current(), i) {
+        Walk::Frame { .. } => {
+            s.fill(machine, g, va);
+            false
+        }
+        Walk::Fault(trouble) => {
+            fault(machine, s, g, port, counts, Exc::Memory(trouble));
+            true
+        }
+        Walk::Beyond => {
+            stop_past_memory(machine, s, g, port, counts);
+            true
+        }
+    }
+}

@@ -1,0 +1,66 @@
+ghost use Rattle.std.specs.Prelude.{◌≡◌, ◌+◌, ◌<◌, ◌^◌, length};
+ghost use Rattle.vm_shadow.specs.StandsFor.{StandsFor};
+ghost use Rattle.vm_simulation.specs.Laws.{IsTrapped};
+ghost use Rattle.vm_stepping.specs.Made.{IsMet, steps_in};
+
+use crate::Counts;
+use crate::made::{PAST_MEMORY, fault};
+use vax_hw::Hardware;
+use vax_table::Trapped;
+use vm_console::Port;
+use vm_emulate::{Emulated, emulate};
+use vm_events::show_stop;
+use vm_shadow::Shadow;
+use vm_state::GuestState;
+
+/// A guest has sixteen registers, and a trap has all of them but PC.
+fn have_registers(r: &[u32; 16], t: &Trapped)
+    ensures guest { length r.now ≡ 16 }
+    ensures trap { length t.now.regs ≡ 15 }
+{
+    // What is read is known to have its type's length.
+    let _sp = t.regs[14];
+}
+
+/// What a trap of the guest's instruction comes to: the step that it makes is made and counted; or the pages of a PROBE are
+/// filled, so that the machine does it. Answers whether a step was made.
+pub fn sense<H: Hardware, T: Port>(
+    machine: &mut H,
+    s: &mut Shadow,
+    g: &mut GuestState,
+    port: &mut T,
+    counts: &mut Counts,
+    t: &Trapped,
+) -> bool
+    requires stands { StandsFor (H.machine machine.old).memory s.old g.old }
+    requires room { steps_in counts.old < 2 ^ 32 }
+    requires trapped { IsTrapped t.now (H.machine machine.old).memory s.old g.old }
+    ensures { IsMet T.may result port.old port.new (H.machine machine.old) s.old g.old counts.old (H.machine machine.new) s.new g.new counts.new }
+{
+    have_registers(&g.r, t);
+    match emulate(machine, s, g, port, t) {
+        Emulated::Done => {
+            counts.sensitive += 1;
+            true
+        }
+        Emulated::SetModify => {
+            counts.modify += 1;
+            true
+        }
+        Emulated::Fault(e) => {
+            fault(machine, s, g, port, counts, e);
+            true
+        }
+        Emulated::Stopped(code) => {
+            show_stop(g, port, code);
+            counts.sensitive += 1;
+            true
+        }
+        Emulated::PastMemory => {
+            show_stop(g, port, PAST_MEMORY);
+            counts.faults += 1;
+            true
+        }
+        Emulated::Filled => false,
+    }
+}

@@ -1,0 +1,165 @@
+ghost use Rattle.std.specs.Prelude.{◌≡◌, ◌+◌, ◌<◌, ◌≤◌, ◌^◌, IsTrue, false, true, None};
+ghost use Rattle.vm_clock.specs.Ticks.{ticks_to_wrap};
+ghost use Rattle.vm_shadow.specs.StandsFor.{StandsFor};
+ghost use Rattle.vm_simulation.specs.Bursts.{IsQuiet};
+ghost use Rattle.vm_state.specs.State.{state_of};
+ghost use Rattle.vm_stepping.specs.Advances.{Advances, IsBegun, Proceeds, to_do};
+ghost use Rattle.vm_stepping.specs.Made.{steps_in};
+
+use crate::Counts;
+use crate::made::{count_step, take_interrupt};
+use crate::met::meet;
+use vax_hw::{Exit, Hardware};
+use vm_bursts::burst;
+use vm_console::Port;
+use vm_events::{begin, due};
+use vm_shadow::Shadow;
+use vm_state::{Exc, GuestState};
+
+/// The steps that are left of a guest, of which the next may be counted already: then it comes to the guest's instruction.
+#[derive(Clone, Copy, Debug, PartialEq, Eq)]
+struct Left {
+    steps: u32,
+    counted: bool,
+}
+
+impl Left {
+    /// Steps of which none is counted.
+    fn of(steps: u32) -> Left
+        ensures { result ≡ record { steps = steps; counted = false } }
+    {
+        Left {
+            steps,
+            counted: false,
+        }
+    }
+}
+
+/// How many instructions the machine may run at most: the steps that are left, or those up to the clock's next wrap.
+fn budget(g: &GuestState, left: u32) -> u32
+    requires some { 1 ≤ left }
+    ensures some { 1 ≤ result }
+    ensures most { result ≤ left }
+    ensures within { IsTrue g.now.clock.run → result ≤ ticks_to_wrap g.now.clock }
+{
+    match g.clock.steps_to_event() {
+        Some(ticks) => u64::from(left).min(ticks) as u32,
+        None => left,
+    }
+}
+
+/// Runs the machine for a guest whose next step is counted, and does what it ends before or with.
+fn run_on<H: Hardware, T: Port>(
+    machine: &mut H,
+    s: &mut Shadow,
+    g: &mut GuestState,
+    port: &mut T,
+    counts: &mut Counts,
+    left: u32,
+) -> Left
+    requires stands { StandsFor (H.machine machine.old).memory s.old g.old }
+    requires some { 1 ≤ left }
+    requires quiet { IsQuiet 1 (state_of g.old) }
+    requires room { steps_in counts.old + left < 2 ^ 32 }
+    ensures proceeds { Proceeds T.may (record { steps = left; counted = true }) result port.old port.new (H.machine machine.old) s.old g.old counts.old (H.machine machine.new) s.new g.new counts.new }
+    ensures falls { to_do result s.new < to_do (record { steps = left; counted = true }) s.old }
+{
+    let ran = burst(machine, s, g, budget(g, left));
+    counts.retire(ran.done, ran.terms);
+    let left = left - ran.done;
+    match ran.exit {
+        Exit::Budget => Left::of(left),
+        Exit::Arithmetic { kind } => {
+            begin(machine, s, g, port, Exc::Arithmetic(kind));
+            Left::of(left)
+        }
+        exit => {
+            if meet(machine, s, g, port, counts, exit) {
+                Left::of(left - 1)
+            } else {
+                Left {
+                    steps: left,
+                    counted: true,
+                }
+            }
+        }
+    }
+}
+
+/// Begins the next step of a guest: one that stands does so in all that are left; an interrupt that is due is taken, and a guest
+/// that waits is idle; else the step is counted, and comes to the guest's instruction.
+fn begin_step<H: Hardware, T: Port>(
+    machine: &mut H,
+    s: &mut Shadow,
+    g: &mut GuestState,
+    port: &mut T,
+    counts: &mut Counts,
+    left: u32,
+) -> Left
+    requires stands { StandsFor (H.machine machine.old).memory s.old g.old }
+    requires some { 1 ≤ left }
+    requires room { steps_in counts.old + left < 2 ^ 32 }
+    ensures proceeds { Proceeds T.may (record { steps = left; counted = false }) result port.old port.new (H.machine machine.old) s.old g.old counts.old (H.machine machine.new) s.new g.new counts.new }
+    ensures falls { to_do result s.new < to_do (record { steps = left; counted = false }) s.old }
+{
+    if g.halt.is_some() {
+        counts.stopped += u64::from(left);
+        return Left::of(0);
+    }
+    count_step(g);
+    if let Some(source) = due(g) {
+        take_interrupt(machine, s, g, port, counts, source);
+        return Left::of(left - 1);
+    }
+    if g.waiting {
+        counts.idle += 1;
+        return Left::of(left - 1);
+    }
+    Left {
+        steps: left,
+        counted: true,
+    }
+}
+
+/// Goes on with the steps that are left.
+fn proceed<H: Hardware, T: Port>(
+    machine: &mut H,
+    s: &mut Shadow,
+    g: &mut GuestState,
+    port: &mut T,
+    counts: &mut Counts,
+    left: Left,
+) -> Left
+    requires stands { StandsFor (H.machine machine.old).memory s.old g.old }
+    requires some { 1 ≤ left.steps }
+    requires begun { IsBegun left g.old }
+    requires room { steps_in counts.old + left.steps < 2 ^ 32 }
+    ensures proceeds { Proceeds T.may left result port.old port.new (H.machine machine.old) s.old g.old counts.old (H.machine machine.new) s.new g.new counts.new }
+    ensures falls { to_do result s.new < to_do left s.old }
+{
+    if left.counted {
+        run_on(machine, s, g, port, counts, left.steps)
+    } else {
+        begin_step(machine, s, g, port, counts, left.steps)
+    }
+}
+
+/// Takes so many steps of a guest over the machine and its shadow page tables, and shows on its port what it shows. Answers how
+/// many of each kind there were.
+pub fn advance<H: Hardware, T: Port>(
+    machine: &mut H,
+    s: &mut Shadow,
+    g: &mut GuestState,
+    port: &mut T,
+    steps: u32,
+) -> Counts
+    requires stands { StandsFor (H.machine machine.old).memory s.old g.old }
+    ensures { Advances T.may steps port.old port.new (H.machine machine.old) s.old g.old (H.machine machine.new) s.new g.new result }
+{
+    let mut counts = Counts::none();
+    let mut left = Left::of(steps);
+    while left.steps > 0 {
+        left = proceed(machine, s, g, port, &mut counts, left);
+    }
+    counts
+}
