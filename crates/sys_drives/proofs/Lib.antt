@@ -1,0 +1,5 @@
+pub mod AllLoaded
+pub mod AllStored
+pub mod Places
+pub mod Reading
+pub mod Writing

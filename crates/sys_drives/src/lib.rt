@@ -1,0 +1,12 @@
+//! The volumes of a configuration, read from their drives and stored to them.
+#![tactic(auto)]
+
+mod drives;
+mod loading;
+mod storing;
+
+pub use loading::{LoadFault, load_volumes};
+pub use storing::store_volumes;
+
+#[cfg(test)]
+mod tests;

@@ -1,0 +1,3 @@
+pub mod AllDumps
+pub mod Lines
+pub mod Parts

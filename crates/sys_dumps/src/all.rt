@@ -1,0 +1,83 @@
+ghost use Rattle.std.specs.Prelude.{◌≡◌, ◌≢◌, ◌≤◌, ◌<◌, ◌+◌, ◌*◌, All, IfSome, filter_map, is_err, length, map, vec_len};
+ghost use Rattle.std.specs.List.{AllPairs};
+ghost use Rattle.sys_guests.specs.Layout.{guests_in};
+ghost use Rattle.sys_lines.specs.Showing.{IsShowing};
+ghost use Rattle.sys_lines.specs.Shows.{Shows, only_on};
+ghost use Rattle.sys_objects.specs.Condition.{IsGuest};
+ghost use Rattle.sys_rounds.specs.Bytes.{dump_on};
+ghost use Rattle.sys_rounds.specs.Dump.{dump_of};
+ghost use Rattle.vm_real_guest.specs.Kept.{StandsIn};
+ghost use Rattle.vm_state.specs.Partition.{guest_of};
+
+use crate::dumps::dump;
+use sys_lines::Marks;
+use sys_objects::GuestRow;
+use vax_hw::Hardware;
+use vm_real_guest::Guest;
+use vm_state::GuestState;
+use vv_base::Name;
+use vv_io::{Line, LineFault};
+
+/// Puts a guest's dump on one of several lines.
+fn dump_on<H: Hardware>(
+    machine: &H,
+    name: &Name,
+    guest: &GuestState,
+    lines: &mut Vec<Box<dyn Line>>,
+    k: usize,
+) -> Result<(), LineFault>
+    requires inside { 512 * guest.now.base + 512 * guest.now.pages ≤ length (H.machine machine.now).memory }
+    requires place { guest.now.base + guest.now.pages ≤ 65536 }
+    requires line { k < vec_len lines.old }
+    ensures shows { IsShowing k (is_err result) (map (λ b. seen b) lines.old.items) (map (λ b. seen b) lines.new.items) (dump_of name.now (guest_of (H.machine machine.now).memory guest.now)) }
+    ensures len { vec_len lines.new ≡ vec_len lines.old }
+{
+    let line = &mut lines[k];
+    dump(machine, name, guest, line)
+}
+
+/// Puts a guest's dump on a line, if there is one and it isn't marked; a fault marks it.
+fn dump_at<H: Hardware>(
+    marks: &mut Marks,
+    lines: &mut Vec<Box<dyn Line>>,
+    place: Option<u8>,
+    machine: &H,
+    name: &Name,
+    guest: &GuestState,
+)
+    requires there { IfSome place (λ line. line < 32) }
+    requires lines { vec_len lines.old ≡ 32 }
+    requires inside { 512 * guest.now.base + 512 * guest.now.pages ≤ length (H.machine machine.now).memory }
+    requires pages { guest.now.base + guest.now.pages ≤ 65536 }
+    ensures shows { Shows marks.old marks.new (map (λ b. seen b) lines.old.items) (map (λ b. seen b) lines.new.items) (only_on place (dump_of name.now (guest_of (H.machine machine.now).memory guest.now))) }
+    ensures len { vec_len lines.new ≡ vec_len lines.old }
+{
+    if let Some(line) = place {
+        let k = line as usize;
+        if !marks[k] {
+            marks[k] = dump_on(machine, name, guest, lines, k).is_err();
+        }
+    }
+}
+
+/// Puts each guest's dump on its line, in order; a line that is marked gets none, and one that fails is marked.
+pub fn dump_all<H: Hardware>(
+    machine: &H,
+    rows: &[GuestRow],
+    guests: &[Guest],
+    marks: &mut Marks,
+    lines: &mut Vec<Box<dyn Line>>,
+)
+    requires guests { All (λ k. StandsIn (H.machine machine.now).memory k) guests.now }
+    requires beside { length guests.now ≡ length rows.now }
+    requires rows { All IsGuest rows.now }
+    requires apart { AllPairs (λ x y. x ≢ y) (filter_map (λ row. row.dump) rows.now) }
+    requires lines { vec_len lines.old ≡ 32 }
+    ensures shows { Shows marks.old marks.new (map (λ b. seen b) lines.old.items) (map (λ b. seen b) lines.new.items) (λ k. dump_on k rows.now (guests_in (H.machine machine.now).memory guests.now)) }
+    ensures len { vec_len lines.new ≡ vec_len lines.old }
+{
+    for (place, row) in rows.iter().enumerate() {
+        let guest = &guests[place];
+        dump_at(marks, lines, row.dump, machine, &row.name, guest.state());
+    }
+}

@@ -1,0 +1,12 @@
+use Rattle.std.proofs.Common.{◌≡◌, map, take, vec_len}
+use Rattle.sys_events.specs.Happens.{Happen}
+use Rattle.sys_events.proofs.events.happen.Given as goal
+
+-- so many have happened
+abbrev pub invariant-loop-event : goal.invariant-loop-event
+invariant-loop-event g l =
+    let machine = g.H.Hardware.machine in
+    record {
+      happen : Happen l.round (take l.event-index l.events) (machine l.fn.machine) l.fn.kernel (map (λ b. (goal.Line-dyn g (b.vtable, b.value)).seen b.value) l.fn.lines.items) (machine l.machine) l.kernel (map (λ b. (goal.Line-dyn g (b.vtable, b.value)).seen b.value) l.lines.items);
+      len : vec_len l.lines ≡ vec_len l.fn.lines;
+    }

@@ -1,0 +1,45 @@
+-- What is put on lines while a command is answered.
+use Rattle.std.specs.Prelude.{ℕ, List, [], ◌∷◌, ◌++◌, codes, map, Bool, not, is_some, Option, Some, None, if◌then◌else◌}
+use Rattle.vv_class.specs.declared.class.AccessClass.{AccessClass}
+use Rattle.vv_class.specs.Class.{does_flow}
+use Rattle.sys_objects.specs.declared.records.Config.{Config}
+use Rattle.sys_objects.specs.declared.records.GuestRow.{GuestRow}
+use Rattle.sys_objects.specs.declared.records.Terminal.{Terminal}
+use Rattle.sys_rounds.specs.Events.{audit_puts, said_on, taken_puts}
+use Rattle.sys_rounds.specs.State.{Put}
+use Rattle.sys_server.specs.Replies.{ended, object_text, reply_of, running_text, shown_lines}
+use Rattle.sys_server.specs.declared.command.Verdict.{Verdict}
+use Rattle.vm_real_guest.specs.Kept.{Kept}
+
+-- a text, in one put
+abbrev pub one_put : ℕ → List ℕ → List Put
+one_put line text = record { line = line; bytes = text } ∷ []
+
+-- texts, in one put each
+abbrev pub puts_on : ℕ → List (List ℕ) → List Put
+puts_on line texts = map (λ text. record { line = line; bytes = text }) texts
+
+abbrev pub runs : Kept → Bool
+runs k = not (is_some k.state.halt)
+
+-- SHOW's line of a guest, if the class sees it
+abbrev pub guest_text : GuestRow → Bool → List ℕ
+guest_text row is_running = ended (object_text (codes "VM") row.name row.class ++ running_text is_running)
+
+abbrev pub guest_line : AccessClass → GuestRow → Bool → List (List ℕ)
+guest_line class row is_running = if does_flow row.class class then guest_text row is_running ∷ [] else []
+
+-- SHOW's lines at a terminal
+abbrev pub show_lines : Config → List Kept → Option Terminal → List Put
+show_lines c ks None = []
+show_lines c ks (Some t) = puts_on t.line (shown_lines c (record { at = []; mounts = []; running = map runs ks }) t.class)
+
+-- the reply at a terminal, and what another is told
+abbrev pub answers : Config → Option Terminal → Verdict → Option ℕ → List Put
+answers c None v taken = []
+answers c (Some t) v taken = said_on t.line (reply_of v) ∷ taken_puts c taken
+
+-- the audit of a command at a terminal
+abbrev pub audits : Config → ℕ → Option Terminal → List ℕ → Verdict → List Put
+audits c round None text v = []
+audits c round (Some t) text v = audit_puts c.audit round t text v

@@ -1,0 +1,86 @@
+ghost use Rattle.std.specs.Prelude.{◌≡◌, ◌<◌, ◌≤◌, ◌∷◌, [], All, IfSome, length, map, slice_get, vec_len};
+ghost use Rattle.sys_events.specs.Saying.{answers, audits};
+ghost use Rattle.sys_lines.specs.Shows.{Shows};
+ghost use Rattle.sys_objects.specs.Condition.{IsAudit, IsTerminal};
+ghost use Rattle.sys_rounds.specs.Events.{said_on, taken_puts};
+ghost use Rattle.sys_rounds.specs.State.{bytes_on};
+
+use crate::consoles::terminal_at;
+use crate::texts::ended;
+use sys_audit::audit_text;
+use sys_lines::{Marks, show_whole};
+use sys_objects::{Config, Terminal};
+use sys_server::{Verdict, reply};
+use vv_io::Line;
+
+/// Puts a text of the server on a line, with its end.
+pub fn say(marks: &mut Marks, lines: &mut Vec<Box<dyn Line>>, line: u8, text: &[u8])
+    requires short { length text.now ≤ 100 }
+    requires there { line < 32 }
+    requires lines { vec_len lines.old ≡ 32 }
+    ensures shows { Shows marks.old marks.new (map (λ b. seen b) lines.old.items) (map (λ b. seen b) lines.new.items) (λ k. bytes_on k (said_on line text.now ∷ [])) }
+    ensures len { vec_len lines.new ≡ vec_len lines.old }
+{
+    let text = ended(text);
+    show_whole(marks, lines, line, text.bytes());
+}
+
+/// Tells a terminal whose console was taken, if one was.
+fn tell_taken(marks: &mut Marks, lines: &mut Vec<Box<dyn Line>>, config: &Config, taken: Option<u8>)
+    requires terminals { All IsTerminal config.now.terminals }
+    requires lines { vec_len lines.old ≡ 32 }
+    ensures shows { Shows marks.old marks.new (map (λ b. seen b) lines.old.items) (map (λ b. seen b) lines.new.items) (λ k. bytes_on k (taken_puts config.now taken)) }
+    ensures len { vec_len lines.new ≡ vec_len lines.old }
+{
+    if let Some(terminal) = taken {
+        let terminals = config.terminals.as_slice();
+        if (terminal as usize) < terminals.len() {
+            let row = terminal_at(terminals, terminal);
+            say(marks, lines, row.line, b"CONSOLE TAKEN");
+        }
+    }
+}
+
+/// Puts the reply to a command at the terminal of a place, and tells the other terminal whose console was taken.
+pub fn answer(
+    marks: &mut Marks,
+    lines: &mut Vec<Box<dyn Line>>,
+    config: &Config,
+    terminal: u8,
+    verdict: &Verdict,
+    taken: Option<u8>,
+)
+    requires there { terminal < length config.now.terminals }
+    requires terminals { All IsTerminal config.now.terminals }
+    requires lines { vec_len lines.old ≡ 32 }
+    ensures shows { Shows marks.old marks.new (map (λ b. seen b) lines.old.items) (map (λ b. seen b) lines.new.items) (λ k. bytes_on k (answers config.now (slice_get config.now.terminals terminal) verdict.now taken)) }
+    ensures len { vec_len lines.new ≡ vec_len lines.old }
+{
+    let row = terminal_at(config.terminals.as_slice(), terminal);
+    say(marks, lines, row.line, reply(verdict).as_bytes());
+    tell_taken(marks, lines, config, taken);
+}
+
+/// Puts the audit of a command at the terminal of a place, if commands are audited.
+pub fn put_audit(
+    marks: &mut Marks,
+    lines: &mut Vec<Box<dyn Line>>,
+    config: &Config,
+    round: u32,
+    terminal: u8,
+    text: &[u8],
+    verdict: &Verdict,
+)
+    requires there { terminal < length config.now.terminals }
+    requires short { length text.now ≤ 1000 }
+    requires audit { IfSome config.now.audit IsAudit }
+    requires lines { vec_len lines.old ≡ 32 }
+    ensures shows { Shows marks.old marks.new (map (λ b. seen b) lines.old.items) (map (λ b. seen b) lines.new.items) (λ k. bytes_on k (audits config.now round (slice_get config.now.terminals terminal) text.now verdict.now)) }
+    ensures len { vec_len lines.new ≡ vec_len lines.old }
+{
+    let row = terminal_at(config.terminals.as_slice(), terminal);
+    if let Some(audit) = config.audit {
+        let text = audit_text(round, row, text, verdict);
+        show_whole(marks, lines, audit.line, text.bytes());
+    }
+}

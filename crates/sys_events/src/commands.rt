@@ -1,0 +1,93 @@
+ghost use Rattle.std.specs.Prelude.{◌≡◌, ◌<◌, ◌≤◌, length, map, vec_len};
+ghost use Rattle.sys_events.specs.Happens.{Does, asked_at, carried_out};
+ghost use Rattle.sys_events.specs.Seats.{Names, VerdictNames, took};
+ghost use Rattle.sys_guests.specs.Kernel.{IsKernel};
+ghost use Rattle.sys_server.specs.Apply.{HasPlaces, MayApply, taken};
+ghost use Rattle.sys_server.specs.declared.command.Verdict.TheVariants.{Granted};
+
+use crate::answering::{answer, put_audit};
+use crate::guests::act;
+use sys_guests::Kernel;
+use sys_server::{Command, Verdict, apply, verdict};
+use vax_hw::Hardware;
+use vv_io::Line;
+
+/// A granted command at the terminal of a place is carried out, up to its reply. Answers the other terminal whose
+/// console was taken, if one was.
+fn obey<H: Hardware>(
+    machine: &mut H,
+    lines: &mut Vec<Box<dyn Line>>,
+    kernel: &mut Kernel,
+    terminal: u8,
+    command: &Command,
+) -> Option<u8>
+    requires holds { IsKernel (H.machine machine.old).memory kernel.old }
+    requires there { terminal < length kernel.old.config.terminals }
+    requires places { HasPlaces command.now }
+    requires names { Names kernel.old.config command.now }
+    requires lines { vec_len lines.old ≡ 32 }
+    ensures does { Does (carried_out kernel.old.config terminal (Granted command.now)) (H.machine machine.old) kernel.old (map (λ b. seen b) lines.old.items) (H.machine machine.new) kernel.new (map (λ b. seen b) lines.new.items) }
+    ensures taken { result ≡ taken kernel.old.server terminal command.now }
+    ensures len { vec_len lines.new ≡ vec_len lines.old }
+{
+    let taken = apply(&mut kernel.server, terminal, command);
+    act(machine, lines, kernel, terminal, command);
+    taken
+}
+
+/// A verdict at the terminal of a place is carried out, up to its reply. Answers the other terminal whose console was
+/// taken, if one was.
+fn carry_out<H: Hardware>(
+    machine: &mut H,
+    lines: &mut Vec<Box<dyn Line>>,
+    kernel: &mut Kernel,
+    terminal: u8,
+    verdict: &Verdict,
+) -> Option<u8>
+    requires holds { IsKernel (H.machine machine.old).memory kernel.old }
+    requires there { terminal < length kernel.old.config.terminals }
+    requires places { MayApply verdict.now }
+    requires names { VerdictNames kernel.old.config verdict.now }
+    requires lines { vec_len lines.old ≡ 32 }
+    ensures does { Does (carried_out kernel.old.config terminal verdict.now) (H.machine machine.old) kernel.old (map (λ b. seen b) lines.old.items) (H.machine machine.new) kernel.new (map (λ b. seen b) lines.new.items) }
+    ensures took { result ≡ took kernel.old.server terminal verdict.now }
+    ensures len { vec_len lines.new ≡ vec_len lines.old }
+{
+    match verdict {
+        Verdict::Granted(command) => obey(machine, lines, kernel, terminal, command),
+        Verdict::BadCommand => None,
+        Verdict::NoSuchObject => None,
+        Verdict::Denied(_) => None,
+    }
+}
+
+/// A command at the terminal of a place: it is carried out, replied to, and audited.
+pub fn command<H: Hardware>(
+    machine: &mut H,
+    lines: &mut Vec<Box<dyn Line>>,
+    kernel: &mut Kernel,
+    round: u32,
+    terminal: u8,
+    text: &[u8],
+)
+    requires holds { IsKernel (H.machine machine.old).memory kernel.old }
+    requires there { terminal < length kernel.old.config.terminals }
+    requires short { length text.now ≤ 1000 }
+    requires lines { vec_len lines.old ≡ 32 }
+    ensures does { Does (asked_at kernel.old.config round terminal text.now) (H.machine machine.old) kernel.old (map (λ b. seen b) lines.old.items) (H.machine machine.new) kernel.new (map (λ b. seen b) lines.new.items) }
+    ensures len { vec_len lines.new ≡ vec_len lines.old }
+{
+    let verdict = verdict(&kernel.config, &kernel.server, terminal, text);
+    let taken = carry_out(machine, lines, kernel, terminal, &verdict);
+    let marks = &mut kernel.marks;
+    answer(marks, lines, &kernel.config, terminal, &verdict, taken);
+    put_audit(
+        marks,
+        lines,
+        &kernel.config,
+        round,
+        terminal,
+        text,
+        &verdict,
+    );
+}

@@ -1,0 +1,90 @@
+ghost use Rattle.std.specs.Prelude.{◌≡◌, ◌<◌, ◌≤◌, ℕ, length, map, vec_len};
+ghost use Rattle.sys_events.specs.Happens.{Does, DoesAnywhere, Happen, Happens, break_at, line_at};
+ghost use Rattle.sys_guests.specs.Kernel.{IsKernel};
+ghost use Rattle.sys_objects.specs.Condition.{IsConfig};
+
+use crate::answering::say;
+use crate::commands::command;
+use crate::consoles::{terminal_at, terminal_named};
+use crate::guests::type_to;
+use sys_guests::Kernel;
+use sys_script::{Event, Typed};
+use vax_hw::Hardware;
+use vv_io::Line;
+
+/// A break at the terminal of a place: its console goes back to the server, which says so.
+fn disconnect(kernel: &mut Kernel, lines: &mut Vec<Box<dyn Line>>, terminal: u8)
+    requires there { terminal < length kernel.old.config.terminals }
+    requires accepted { IsConfig kernel.old.config }
+    requires lines { vec_len lines.old ≡ 32 }
+    ensures does { (round : ℕ) → DoesAnywhere (break_at kernel.old.config round terminal) kernel.old (map (λ b. seen b) lines.old.items) kernel.new (map (λ b. seen b) lines.new.items) }
+    ensures len { vec_len lines.new ≡ vec_len lines.old }
+{
+    kernel.server.at[terminal as usize] = None;
+    let row = terminal_at(kernel.config.terminals.as_slice(), terminal);
+    say(&mut kernel.marks, lines, row.line, b"SERVER");
+}
+
+/// A line at the terminal of a place: it is typed to the terminal's guest, and without one it is a command.
+fn take_line<H: Hardware>(
+    machine: &mut H,
+    lines: &mut Vec<Box<dyn Line>>,
+    kernel: &mut Kernel,
+    round: u32,
+    terminal: u8,
+    text: &[u8],
+)
+    requires holds { IsKernel (H.machine machine.old).memory kernel.old }
+    requires there { terminal < length kernel.old.config.terminals }
+    requires short { length text.now ≤ 1000 }
+    requires lines { vec_len lines.old ≡ 32 }
+    ensures does { Does (line_at kernel.old.config round terminal text.now) (H.machine machine.old) kernel.old (map (λ b. seen b) lines.old.items) (H.machine machine.new) kernel.new (map (λ b. seen b) lines.new.items) }
+    ensures len { vec_len lines.new ≡ vec_len lines.old }
+{
+    match kernel.server.at[terminal as usize] {
+        Some(guest) => type_to(kernel, guest, text),
+        None => command(machine, lines, kernel, round, terminal, text),
+    }
+}
+
+/// An event of a round happens.
+fn happen_one<H: Hardware>(
+    machine: &mut H,
+    lines: &mut Vec<Box<dyn Line>>,
+    kernel: &mut Kernel,
+    round: u32,
+    event: &Event,
+)
+    requires holds { IsKernel (H.machine machine.old).memory kernel.old }
+    requires lines { vec_len lines.old ≡ 32 }
+    ensures happens { Happens round event.now (H.machine machine.old) kernel.old (map (λ b. seen b) lines.old.items) (H.machine machine.new) kernel.new (map (λ b. seen b) lines.new.items) }
+    ensures len { vec_len lines.new ≡ vec_len lines.old }
+{
+    let place = terminal_named(kernel.config.terminals.as_slice(), &event.terminal);
+    if let Some(terminal) = place {
+        match &event.what {
+            Typed::Break => disconnect(kernel, lines, terminal),
+            Typed::Line(text) => {
+                take_line(machine, lines, kernel, round, terminal, text.bytes());
+            }
+        }
+    }
+}
+
+/// The events of a round happen, one after another.
+pub fn happen<H: Hardware>(
+    machine: &mut H,
+    lines: &mut Vec<Box<dyn Line>>,
+    kernel: &mut Kernel,
+    round: u32,
+    events: &[Event],
+)
+    requires holds { IsKernel (H.machine machine.old).memory kernel.old }
+    requires lines { vec_len lines.old ≡ 32 }
+    ensures happen { Happen round events.now (H.machine machine.old) kernel.old (map (λ b. seen b) lines.old.items) (H.machine machine.new) kernel.new (map (λ b. seen b) lines.new.items) }
+    ensures len { vec_len lines.new ≡ vec_len lines.old }
+{
+    for event in events {
+        happen_one(machine, lines, kernel, round, event);
+    }
+}

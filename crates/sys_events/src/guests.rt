@@ -1,0 +1,66 @@
+ghost use Rattle.std.specs.Prelude.{◌≡◌, ◌<◌, map, vec_len, length};
+ghost use Rattle.sys_events.specs.Happens.{Does, DoesAnywhere, DoesUnseen, guest_halted, guest_typed, guests_obeyed};
+ghost use Rattle.sys_events.specs.Seats.{Names};
+ghost use Rattle.sys_guests.specs.Kernel.{IsKernel};
+ghost use Rattle.sys_objects.specs.Condition.{IsConfig};
+
+use crate::consoles::console_of;
+use crate::shows::show_objects;
+use sys_guests::{Kernel, start_at, stop_at, type_at};
+use sys_lines::show_each;
+use sys_server::Command;
+use vax_hw::Hardware;
+use vv_io::Line;
+
+/// A line is typed to a guest.
+pub fn type_to(kernel: &mut Kernel, guest: u8, text: &[u8])
+    requires there { guest < vec_len kernel.old.guests }
+    ensures { DoesUnseen (guest_typed guest text.now) kernel.old kernel.new }
+{
+    type_at(&mut kernel.guests, guest, text);
+}
+
+/// A guest is stopped, and its console is shown that, byte by byte.
+fn halt(kernel: &mut Kernel, lines: &mut Vec<Box<dyn Line>>, guest: u8)
+    requires there { guest < vec_len kernel.old.guests }
+    requires accepted { IsConfig kernel.old.config }
+    requires lines { vec_len lines.old ≡ 32 }
+    ensures does { DoesAnywhere (guest_halted kernel.old.config guest) kernel.old (map (λ b. seen b) lines.old.items) kernel.new (map (λ b. seen b) lines.new.items) }
+    ensures len { vec_len lines.new ≡ vec_len lines.old }
+{
+    stop_at(&mut kernel.port, &mut kernel.guests, guest);
+    let terminals = kernel.config.terminals.as_slice();
+    let console = console_of(terminals, &kernel.server.at, guest);
+    show_each(&mut kernel.marks, lines, console, kernel.port.bytes());
+}
+
+/// What a granted command at the terminal of a place does to guests, and what is shown before its reply.
+pub fn act<H: Hardware>(
+    machine: &mut H,
+    lines: &mut Vec<Box<dyn Line>>,
+    kernel: &mut Kernel,
+    terminal: u8,
+    command: &Command,
+)
+    requires holds { IsKernel (H.machine machine.old).memory kernel.old }
+    requires there { terminal < length kernel.old.config.terminals }
+    requires names { Names kernel.old.config command.now }
+    requires lines { vec_len lines.old ≡ 32 }
+    ensures does { Does (guests_obeyed kernel.old.config terminal command.now) (H.machine machine.old) kernel.old (map (λ b. seen b) lines.old.items) (H.machine machine.new) kernel.new (map (λ b. seen b) lines.new.items) }
+    ensures len { vec_len lines.new ≡ vec_len lines.old }
+{
+    match *command {
+        Command::Start(guest) => start_at(machine, &mut kernel.guests, guest),
+        Command::Halt(guest) => halt(kernel, lines, guest),
+        Command::Show => show_objects(
+            &mut kernel.marks,
+            lines,
+            &kernel.config,
+            &kernel.guests,
+            terminal,
+        ),
+        Command::Connect(_) => {}
+        Command::MountAt(_, _, _) => {}
+        Command::Dismount(_, _) => {}
+    }
+}

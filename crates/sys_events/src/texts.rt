@@ -1,0 +1,77 @@
+ghost use Rattle.std.specs.Prelude.{◌≡◌, ◌+◌, ◌≤◌, ◌++◌, codes, length};
+ghost use Rattle.sys_events.specs.Saying.{guest_text};
+ghost use Rattle.sys_server.specs.Replies.{ended, object_text, printer_line, running_text, volume_line};
+
+use sys_objects::{GuestRow, PrinterRow, VolumeRow};
+use vv_base::{Name, Text};
+use vv_class::{AccessClass, write_class};
+
+/// Appends bytes that fit.
+fn add(text: &mut Text<512>, bytes: &[u8])
+    requires { length text.old + length bytes.now ≤ 512 }
+    ensures written { text.new ≡ text.old ++ bytes.now }
+    ensures len { length text.new ≡ length text.old + length bytes.now }
+{
+    let _ = text.push_all(bytes);
+}
+
+/// An object with its name and class.
+fn object_text(kind: &[u8], name: &Name, class: &AccessClass) -> Text<512>
+    requires { length kind.now ≤ 7 }
+    ensures value { result ≡ object_text kind.now name.now class.now }
+    ensures room { length result ≤ 417 }
+{
+    let mut text = Text::new();
+    add(&mut text, kind);
+    add(&mut text, b" ");
+    add(&mut text, name.bytes());
+    add(&mut text, b" ");
+    add(&mut text, write_class(class).bytes());
+    text
+}
+
+fn running_text(runs: bool) -> &'static [u8]
+    ensures value { result.now ≡ running_text runs }
+    ensures len { length result.now ≤ 8 }
+{
+    if runs { b" RUNNING" } else { b" STOPPED" }
+}
+
+/// SHOW's line of a guest.
+pub fn guest_text(row: &GuestRow, runs: bool) -> Text<512>
+    ensures { result ≡ guest_text row.now runs }
+{
+    let mut text = object_text(b"VM", &row.name, &row.class);
+    add(&mut text, running_text(runs));
+    add(&mut text, b"\r\n");
+    text
+}
+
+/// SHOW's line of a volume.
+pub fn volume_text(row: &VolumeRow) -> Text<512>
+    ensures { result ≡ volume_line row.now }
+{
+    let mut text = object_text(b"VOLUME", &row.name, &row.class);
+    add(&mut text, b"\r\n");
+    text
+}
+
+/// SHOW's line of a printer.
+pub fn printer_text(row: &PrinterRow) -> Text<512>
+    ensures { result ≡ printer_line row.now }
+{
+    let mut text = object_text(b"PRINTER", &row.name, &row.class);
+    add(&mut text, b"\r\n");
+    text
+}
+
+/// A text of the server, with its end.
+pub fn ended(bytes: &[u8]) -> Text<512>
+    requires { length bytes.now ≤ 100 }
+    ensures { result ≡ ended bytes.now }
+{
+    let mut text = Text::new();
+    add(&mut text, bytes);
+    add(&mut text, b"\r\n");
+    text
+}

@@ -1,0 +1,34 @@
+use Rattle.std.proofs.Common.{◌∙◌, ◌+◌, ◌*◌, ◌≡◌, ◌≤◌, ℕ, List, length, map, refl, sym, subst, arith}
+use Rattle.std.proofs.lemmas.List.{length-map}
+use Rattle.std.specs.List.{sum_by}
+use Rattle.sys_guests.proofs.Powering.{AreLoaded, alone_then, each_fits, map_at, one_loaded}
+use Rattle.sys_guests.specs.Loads.{LoadsOne}
+use Rattle.sys_guests.proofs.loading.load_guests.Goals as goal
+
+pub load_guest-requires-clause-fits : goal.load_guest-requires-clause-fits
+load_guest-requires-clause-fits g c =
+    let row = c.index-rows-place.result in
+    let image = c.index-images-place.result in
+    let k = c.loop-place.place in
+    let images : List (List ℕ) = map (λ b. b.items) c.args.images.now in
+    let long : length images ≡ length c.args.rows.now = length-map c.args.images.now (λ b. b.items) ∙ c.requires.images in
+    let fits : row.load + length image.items ≤ 512 * row.pages = each_fits c.args.rows.now images k row image.items c.requires.fit c.loop-place-test.true long c.index-rows-place.is (map_at (λ b. b.items) c.args.images.now k image (omega (arith, c.requires.images)) c.index-images-place.is) in
+    omega (arith, fits, c.deref.ensures.len)
+
+pub loop-place-preserved : goal.loop-place-preserved
+loop-place-preserved g c =
+    let row = c.index-rows-place.result in
+    let image = c.index-images-place.result in
+    let k = c.loop-place.place in
+    let images : List (List ℕ) = map (λ b. b.items) c.args.images.now in
+    let long : length images ≡ length c.args.rows.now = length-map c.args.images.now (λ b. b.items) ∙ c.requires.images in
+    let before = (g.H.Hardware.machine c.loop-place.machine).memory in
+    let after = (g.H.Hardware.machine c.load_guest.new.machine).memory in
+    let all = sum_by (λ r. r.pages) c.args.rows.now in
+    let one : LoadsOne row image.items c.loop-place.base c.loop-place.tables before after c.in_ok-load_guest.field-0 = subst (λ (bytes : List ℕ). LoadsOne row bytes c.loop-place.base c.loop-place.tables before after c.in_ok-load_guest.field-0) c.deref.ensures.value c.in_ok-load_guest.ensures.ok in
+    let read' = map_at (λ b. b.items) c.args.images.now k image (omega (arith, c.requires.images)) c.index-images-place.is in
+    record {
+      loaded = subst (λ xs. AreLoaded c.args.rows.now images all (k + 1) (c.loop-place.base + row.pages) (c.loop-place.tables + 580) xs after) (sym c.in_ok-push.ensures.items)
+          (one_loaded c.args.rows.now images all k c.loop-place.base c.loop-place.tables c.loop-place.guests.items before after row image.items c.in_ok-load_guest.field-0 refl c.loop-place-test.true c.index-rows-place.is (omega (arith, c.requires.images, long)) read' one c.loop-place.invariant.loaded);
+      alone = alone_then _ _ _ c.loop-place.invariant.alone c.load_guest.ensures.alone;
+    }

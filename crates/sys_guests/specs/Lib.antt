@@ -1,0 +1,4 @@
+pub mod Changes
+pub mod Kernel
+pub mod Layout
+pub mod Loads

@@ -1,0 +1,39 @@
+-- How guests are loaded at power-up.
+use Rattle.std.specs.Prelude.{ℕ, ◌≡◌, ◌≤◌, ◌<◌, ◌+◌, ◌*◌, ◌⊎◌, nat_lt, List, length, slice_index, Bool, true, false, Option}
+use Rattle.vax_hw.specs.Machine.{Machine}
+use Rattle.sys_guests.specs.Layout.{IsPlaced}
+use Rattle.sys_objects.specs.declared.records.GuestRow.{GuestRow}
+use Rattle.sys_rounds.specs.Guests.{powered}
+use Rattle.sys_rounds.specs.Places.{beside_with, place_of}
+use Rattle.vm_real_guest.specs.Kept.{Becomes, Kept, StandsIn, guest_in}
+use Rattle.vm_state.specs.Start.{started}
+
+-- whether an image with its place doesn't fit the guest's memory
+abbrev pub is_misfit : GuestRow → List ℕ → Bool
+is_misfit row image = nat_lt (512 * row.pages) (row.load + length image)
+
+-- the first guest whose image doesn't fit
+abbrev pub first_misfit : List GuestRow → List (List ℕ) → Option ℕ
+first_misfit rows images = place_of (λ b. b) (beside_with is_misfit rows images)
+
+-- of the machine the memory alone changes; its size stays
+pub record MemoryAlone (m m' : Machine) : Type 0 where
+  pub rest : m' ≡ record m { memory = m'.memory }
+  pub size : length m'.memory ≡ length m.memory
+
+-- every byte beyond so many pages from a page on, and beyond the real tables from another on, stays
+pub record OnlyPlaces (base pages tables : ℕ) (before after : List ℕ) : Type 0 where
+  pub size : length after ≡ length before
+  pub other : (p : ℕ) → (p < 512 * base) ⊎ (512 * (base + pages) ≤ p) → (p < 512 * tables) ⊎ (512 * (tables + 580) ≤ p) → slice_index after p ≡ slice_index before p
+
+-- The guest of a row is loaded, and stands in the machine at its place.
+pub record LoadsOne (row : GuestRow) (image : List ℕ) (base tables : ℕ) (memory memory' : List ℕ) (k : Kept) : Type 0 where
+  pub placed : IsPlaced row base tables k
+  pub guest : guest_in memory' k ≡ powered row image
+  pub stands : StandsIn memory' k
+  pub only : OnlyPlaces base row.pages tables memory memory'
+
+-- it starts, if it is to
+abbrev pub StartsIf : Bool → Machine → Kept → Machine → Kept → Type 0
+StartsIf true m k m' k' = Becomes (record (guest_in m.memory k) { state = started k.state.start k.state.modify_faults }) m k m' k'
+StartsIf false m k m' k' = (m' ≡ m) × (k' ≡ k)

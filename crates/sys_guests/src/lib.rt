@@ -1,0 +1,13 @@
+//! Several guests on the one machine, and what the kernel keeps of them.
+#![tactic(auto)]
+
+mod image;
+mod kernel;
+mod laws;
+mod loading;
+mod turns;
+
+pub use kernel::{Kernel, MOST_SHOWN};
+pub use laws::guests_lie_apart;
+pub use loading::{first_misfit, load_guests};
+pub use turns::{Turn, advance_at, start_at, stop_at, type_at};

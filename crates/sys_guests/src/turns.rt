@@ -1,0 +1,64 @@
+ghost use Rattle.std.specs.Prelude.{◌≡◌, ◌≤◌, ◌<◌, All, vec_len};
+ghost use Rattle.sys_guests.specs.Changes.{AdvancesOne, StartsOne, StopShows, TurnsOne};
+ghost use Rattle.sys_rounds.specs.Guests.{commanded_to_stop, typed};
+ghost use Rattle.vm_real_guest.specs.Kept.{StandsIn};
+
+use crate::kernel::MOST_SHOWN;
+use vax_hw::Hardware;
+use vm_console::KeptPort;
+use vm_real_guest::{Counts, Guest};
+
+/// A guest's turn: its place, and how many steps it takes.
+#[derive(Clone, Copy, Debug, PartialEq, Eq)]
+pub struct Turn {
+    pub guest: u8,
+    pub steps: u32,
+}
+
+/// A guest's turn is taken, and what it shows is kept.
+pub fn advance_at<H: Hardware>(
+    machine: &mut H,
+    port: &mut KeptPort<MOST_SHOWN>,
+    guests: &mut Vec<Guest>,
+    turn: Turn,
+) -> Counts
+    requires there { turn.guest < vec_len guests.old }
+    requires few { turn.steps ≤ 100000 }
+    requires stand { All (λ k. StandsIn (H.machine machine.old).memory k) guests.old.items }
+    ensures { AdvancesOne (record { guest = turn.guest; steps = turn.steps }) (H.machine machine.old) guests.old.items (H.machine machine.new) guests.new.items port.new.bytes result }
+{
+    port.clear();
+    let guest = &mut guests[turn.guest as usize];
+    guest.advance(machine, port, turn.steps)
+}
+
+/// A guest starts.
+pub fn start_at<H: Hardware>(machine: &mut H, guests: &mut Vec<Guest>, place: u8)
+    requires there { place < vec_len guests.old }
+    requires stand { All (λ k. StandsIn (H.machine machine.old).memory k) guests.old.items }
+    ensures starts { StartsOne place (H.machine machine.old) guests.old.items (H.machine machine.new) guests.new.items }
+    ensures rest { H.machine machine.new ≡ record (H.machine machine.old) { memory = (H.machine machine.new).memory } }
+{
+    let guest = &mut guests[place as usize];
+    guest.start(machine);
+}
+
+/// A guest is stopped, if it runs, and what it shows is kept.
+pub fn stop_at(port: &mut KeptPort<MOST_SHOWN>, guests: &mut Vec<Guest>, place: u8)
+    requires there { place < vec_len guests.old }
+    ensures turns { TurnsOne place commanded_to_stop guests.old.items guests.new.items }
+    ensures shown { StopShows place guests.old.items port.new.bytes }
+{
+    port.clear();
+    let guest = &mut guests[place as usize];
+    guest.stop(port);
+}
+
+/// A line is typed to a guest.
+pub fn type_at(guests: &mut Vec<Guest>, place: u8, text: &[u8])
+    requires there { place < vec_len guests.old }
+    ensures { TurnsOne place (typed text.now) guests.old.items guests.new.items }
+{
+    let guest = &mut guests[place as usize];
+    guest.type_line(text);
+}

@@ -1,0 +1,4 @@
+pub mod Lists
+pub mod OneLine
+pub mod Puts
+pub mod Showings

@@ -1,0 +1,81 @@
+-- What lines are shown, one showing after another.
+use Rattle.std.proofs.Common.{ℕ, ◌≡◌, ◌<◌, List, [], ◌∷◌, ◌++◌, length, slice_index_or, slice_set, refl, sym, ◌∙◌, ap, subst, Bool, true, false, true≢false, if◌then◌else◌, ◌==◌, Some, map, Result, is_err}
+use Rattle.sys_lines.specs.Showing.{IsShowing}
+use Rattle.sys_rounds.proofs.Places.{both}
+use Rattle.std.proofs.lemmas.Bool.{eq-eqb, eqb-true}
+use Rattle.std.proofs.lemmas.List.{get_or-set_same, get_or-set_other}
+use Rattle.vv_io.specs.Lines.{PutsOn, Seen, unseen}
+use Rattle.sys_lines.proofs.OneLine.{put_once}
+use Rattle.sys_lines.proofs.Puts.{joined, shows_nothing, still}
+use Rattle.sys_lines.specs.Showing.{Showing}
+use Rattle.sys_lines.specs.Shows.{Gets, Shows, only_on}
+
+-- a line gets nothing
+gets_none : (marked : Bool) (line : Seen) → Gets marked marked line line []
+gets_none true line = (refl, refl)
+gets_none false line = shows_nothing line
+
+-- a line gets bytes and then more
+gets_then : (a b c : Bool) (l m n : Seen) (x y : List ℕ) → Gets a b l m x → Gets b c m n y → Gets a c l n (x ++ y)
+gets_then true true c l m n x y (marked, same) (still_marked, still_same) = (still_marked, still_same ∙ same)
+gets_then true false c l m n x y (marked, same) second = absurd (true≢false (sym marked))
+gets_then false true c l m n x y first (still_marked, same) =
+    subst (λ b. Showing b l n (x ++ y)) (sym still_marked) (subst (λ s. Showing true l s (x ++ y)) (sym same) (still l m x y first))
+gets_then false false c l m n x y first second = joined c l m n x y first second
+
+front_none : (xs ys : List ℕ) → xs ++ ys ≡ [] → xs ≡ []
+front_none [] ys e = refl
+front_none (x ∷ xs) ys e = cc
+
+back_none : (xs ys : List ℕ) → xs ++ ys ≡ [] → ys ≡ []
+back_none [] ys e = e
+back_none (x ∷ xs) ys e = cc
+
+-- nothing is shown
+pub shows_none : (marks : List Bool) (lines : List Seen) → Shows marks marks lines lines (λ k. [])
+shows_none marks lines = record { line = λ k. gets_none (slice_index_or marks k false) (slice_index_or lines k unseen); others = λ k none. (refl, refl) }
+
+-- some bytes are shown, and then more
+pub shows_then : {a b c : List Bool} {l m n : List Seen} {f h : ℕ → List ℕ} → Shows a b l m f → Shows b c m n h → Shows a c l n (λ k. f k ++ h k)
+shows_then {a} {b} {c} {l} {m} {n} {f} {h} first second = record {
+  line = λ k. gets_then (slice_index_or a k false) (slice_index_or b k false) (slice_index_or c k false) (slice_index_or l k unseen) (slice_index_or m k unseen) (slice_index_or n k unseen) (f k) (h k) (first.line k) (second.line k);
+  others = λ k none. let a : f k ≡ [] = front_none (f k) (h k) none in let b : h k ≡ [] = back_none (f k) (h k) none in ((second.others k b).0 ∙ (first.others k a).0, (second.others k b).1 ∙ (first.others k a).1);
+}
+
+-- a line that isn't marked shows bytes; one that isn't put on is as before
+gets_shown : (a b b' : Bool) (l l' line : Seen) (x y : List ℕ) → a ≡ false → b ≡ b' → l' ≡ line → y ≡ x → Showing b' l line x → Gets a b l l' y
+gets_shown a b b' l l' line x y unmarked mark is same shows =
+    subst (λ v. Gets v b l l' y) (sym unmarked) (subst (λ v. Showing v l l' y) (sym mark) (subst (λ s. Showing b' l s y) (sym is) (subst (λ bytes. Showing b' l line bytes) (sym same) shows)))
+
+gets_nothing : (a b : Bool) (l l' : Seen) (y : List ℕ) → b ≡ a → l' ≡ l → y ≡ [] → Gets a b l l' y
+gets_nothing a b l l' y mark is none = subst (λ v. Gets a v l l' y) (sym mark) (subst (λ s. Gets a a l s y) (sym is) (subst (λ bytes. Gets a a l l bytes) (sym none) (gets_none a l)))
+
+-- bytes for a line that isn't marked
+pub shows_on : (marks : List Bool) (lines lines' : List Seen) (k : ℕ) (failed : Bool) (bytes : List ℕ) → k < length marks → slice_index_or marks k false ≡ false → (bytes ≡ [] → ⊥) → IsShowing k failed lines lines' bytes → Shows marks (slice_set marks k failed) lines lines' (only_on (Some k) bytes)
+shows_on marks lines lines' k failed bytes there unmarked some (line, is, inside, shows) =
+    let mark : slice_index_or (slice_set marks k failed) k false ≡ failed = get_or-set_same marks k failed false there in
+    let shown : slice_index_or lines' k unseen ≡ line = ap (λ ls. slice_index_or ls k unseen) is ∙ get_or-set_same lines k line unseen inside in
+    let other_mark : (j : ℕ) → (j ≡ k → ⊥) → slice_index_or (slice_set marks k failed) j false ≡ slice_index_or marks j false = λ j ne. get_or-set_other marks k j failed false ne in
+    let other_line : (j : ℕ) → (j ≡ k → ⊥) → slice_index_or lines' j unseen ≡ slice_index_or lines j unseen = λ j ne. ap (λ ls. slice_index_or ls j unseen) is ∙ get_or-set_other lines k j line unseen ne in
+    let apart : (j : ℕ) → (k == j) ≡ false → j ≡ k → ⊥ = λ j e q. true≢false (sym (eq-eqb k j (sym q)) ∙ e) in
+    record {
+      line = λ j. both (k == j)
+          (λ e. subst (λ n. Gets (slice_index_or marks n false) (slice_index_or (slice_set marks k failed) n false) (slice_index_or lines n unseen) (slice_index_or lines' n unseen) (only_on (Some k) bytes n)) (eqb-true k j e)
+          (gets_shown _ _ failed _ _ line bytes _ unmarked mark shown (ap (λ b. if b then bytes else []) (eq-eqb k k refl)) shows))
+          (λ e. gets_nothing _ _ _ _ _ (other_mark j (apart j e)) (other_line j (apart j e)) (ap (λ b. if b then bytes else []) e));
+      others = λ j none. both (k == j)
+          (λ e. absurd (some (sym (ap (λ b. if b then bytes else []) e) ∙ none)))
+          (λ e. (other_mark j (apart j e), other_line j (apart j e)));
+    }
+
+-- the same bytes, told otherwise
+pub shows_same : (marks marks' : List Bool) (lines lines' : List Seen) (f h : ℕ → List ℕ) → ((k : ℕ) → f k ≡ h k) → Shows marks marks' lines lines' f → Shows marks marks' lines lines' h
+shows_same marks marks' lines lines' f h e shows = record {
+  line = λ k. subst (λ bytes. Gets (slice_index_or marks k false) (slice_index_or marks' k false) (slice_index_or lines k unseen) (slice_index_or lines' k unseen) bytes) (e k) (shows.line k);
+  others = λ k none. shows.others k (e k ∙ none);
+}
+
+-- bytes that are put at once on a line that isn't marked
+pub whole_shown : {D U E : Type 0} (f : D → Seen) (items : List D) (marks : List Bool) (k : ℕ) (after : List Seen) (bytes : List ℕ) (r : Result U E) (failed : Bool) → k < length marks → k < length items → slice_index_or marks k false ≡ false → (bytes ≡ [] → ⊥) → failed ≡ is_err r → PutsOn k (map f items) after bytes r → Shows marks (slice_set marks k failed) (map f items) after (only_on (Some k) bytes)
+whole_shown f items marks k after bytes r failed there inside unmarked some is put =
+    shows_on marks (map f items) after k failed bytes there unmarked some (subst (λ b. IsShowing k b (map f items) after bytes) (sym is) (put_once f items k after bytes r inside put))

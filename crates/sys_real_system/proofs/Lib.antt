@@ -1,0 +1,10 @@
+pub mod Insides
+pub mod Lists
+pub mod Mounting
+pub mod NextTurn
+pub mod Playing
+pub mod Rounding
+pub mod Seating
+pub mod Slices
+pub mod Slicing
+pub mod Sums

@@ -1,0 +1,16 @@
+//! Several guests on the one machine: rounds with their events, slices and transfers, and the devices of the outside.
+#![tactic(auto)]
+
+mod assembling;
+mod consoles;
+mod counting;
+mod parts;
+mod power;
+mod rounds;
+mod system;
+mod turns;
+
+pub use parts::Device;
+pub use power::PowerFault;
+pub use sys_guests::Turn;
+pub use system::System;

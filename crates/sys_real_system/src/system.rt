@@ -1,0 +1,135 @@
+ghost use Rattle.std.specs.Prelude.{◌≡◌, ◌<◌, ◌≤◌, All, false, map, option_map, vec_len};
+ghost use Rattle.sys_drives.specs.Rows.{FitsDrive};
+ghost use Rattle.sys_real_system.specs.Calls.{BeginsRound, CanTake, EndsRound, PowersDown, ShowsDumps, TakesSlice};
+ghost use Rattle.sys_real_system.specs.Devices.{first_failed};
+ghost use Rattle.sys_real_system.specs.System.{IsSystem, NoneLeft, StandsIn, next_turn, turn_of};
+
+use crate::parts::{Device, Parts, begin, dump, end, first_device, store, take};
+use std::marker::Model;
+use sys_guests::Turn;
+use sys_script::Event;
+use vax_hw::Hardware;
+use vm_real_guest::Counts;
+use vv_io::{Drive, Line};
+
+/// Several guests on the one machine, with their terminals, printers, volumes and server.
+#[derive(Drop)]
+pub struct System {
+    pub(crate) parts: Parts,
+}
+
+impl Model for System {
+    ghost use Rattle.sys_real_system.specs.System.{System};
+
+    ghost Value = { System };
+
+    ghost use Rattle.sys_real_system.specs.Held.{IsKept, seen_of};
+
+    ghost view = { seen_of };
+
+    ghost invariant = { IsKept };
+}
+
+impl System {
+    /// The next turn of the round: the next guest in the configuration's order, behind the one that was sliced last and
+    /// round again, that has steps left, with a slice or what it has left; a round begins with the first guest. None
+    /// where no guest has steps left, or no round is begun.
+    pub fn next(&self) -> Option<Turn>
+        ensures { option_map turn_of result ≡ next_turn self.now.config.slice self.now.turns }
+    {
+        self.parts.turns.next(self.parts.kernel.config.slice)
+    }
+
+    /// Begins a round, of which these are the events; fewer than 4,000,000,000 were begun before.
+    pub fn begin_round<H: Hardware>(
+        &mut self,
+        machine: &mut H,
+        lines: &mut Vec<Box<dyn Line>>,
+        events: &[Event],
+    )
+        requires rests { self.old.turns.is_begun ≡ false }
+        requires few { self.old.rounds < 4000000000 }
+        requires stands { StandsIn (H.machine machine.old).memory self.old }
+        requires lines { vec_len lines.old ≡ 32 }
+        ensures begins { BeginsRound events.now (H.machine machine.old) self.old (map (λ b. seen b) lines.old.items) (H.machine machine.new) self.new (map (λ b. seen b) lines.new.items) }
+        ensures len { vec_len lines.new ≡ vec_len lines.old }
+        ensures holds { IsSystem self.new }
+    {
+        begin(machine, lines, &mut self.parts, events);
+    }
+
+    /// A slice of a round: the guest takes so many of the steps that it has left, and its terminal's line is shown what
+    /// they show. It takes no memory, and no fault of a line is answered: it is kept as a mark.
+    pub fn slice<H: Hardware>(
+        &mut self,
+        machine: &mut H,
+        lines: &mut Vec<Box<dyn Line>>,
+        guest: u8,
+        steps: u32,
+    )
+        requires can { CanTake self.old (record { guest = guest; steps = steps }) }
+        requires stands { StandsIn (H.machine machine.old).memory self.old }
+        requires lines { vec_len lines.old ≡ 32 }
+        ensures takes { TakesSlice (record { guest = guest; steps = steps }) (H.machine machine.old) self.old (map (λ b. seen b) lines.old.items) (H.machine machine.new) self.new (map (λ b. seen b) lines.new.items) }
+        ensures len { vec_len lines.new ≡ vec_len lines.old }
+        ensures holds { IsSystem self.new }
+    {
+        take(machine, lines, &mut self.parts, Turn { guest, steps });
+    }
+
+    /// Ends a round in which no guest has steps left: the transfers that the guests ask for are made.
+    pub fn end_round<H: Hardware>(&mut self, machine: &mut H, lines: &mut Vec<Box<dyn Line>>)
+        requires none { NoneLeft self.old.turns.left }
+        requires stands { StandsIn (H.machine machine.old).memory self.old }
+        requires lines { vec_len lines.old ≡ 32 }
+        ensures ends { EndsRound (H.machine machine.old) self.old (map (λ b. seen b) lines.old.items) (H.machine machine.new) self.new (map (λ b. seen b) lines.new.items) }
+        ensures len { vec_len lines.new ≡ vec_len lines.old }
+        ensures holds { IsSystem self.new }
+    {
+        end(machine, lines, &mut self.parts);
+    }
+
+    /// The steps of all slices since the system was made, by their kinds.
+    pub fn counts(&self) -> Counts
+        ensures { result ≡ self.now.counts }
+    {
+        self.parts.counts
+    }
+
+    /// The first line that is marked as failed, or else the first drive.
+    pub fn failed(&self) -> Option<Device>
+        ensures { result ≡ first_failed self.now.marks self.now.drives }
+    {
+        first_device(&self.parts.kernel.marks, &self.parts.drives)
+    }
+
+    /// Shows the dumps of all guests that have one, each on its line, in order.
+    pub fn show_dumps<H: Hardware>(&mut self, machine: &H, lines: &mut Vec<Box<dyn Line>>)
+        requires stands { StandsIn (H.machine machine.now).memory self.old }
+        requires lines { vec_len lines.old ≡ 32 }
+        ensures shows { ShowsDumps (H.machine machine.now) self.old (map (λ b. seen b) lines.old.items) self.new (map (λ b. seen b) lines.new.items) }
+        ensures len { vec_len lines.new ≡ vec_len lines.old }
+    {
+        dump(machine, lines, &mut self.parts);
+    }
+
+    /// Ends a run, while no round is begun: shows the dumps of all guests that have one, and then stores every block of
+    /// every volume to its drive, in order. A device that fails is marked and gets no more.
+    pub fn power_down<H: Hardware>(
+        &mut self,
+        machine: &H,
+        lines: &mut Vec<Box<dyn Line>>,
+        drives: &mut Vec<Box<dyn Drive>>,
+    )
+        requires stands { StandsIn (H.machine machine.now).memory self.old }
+        requires lines { vec_len lines.old ≡ 32 }
+        requires drives { vec_len drives.old ≡ 16 }
+        requires fit { All (FitsDrive (map (λ d. kept d) drives.old.items)) self.old.config.volumes }
+        ensures ends { PowersDown (H.machine machine.now) self.old (map (λ b. seen b) lines.old.items) (map (λ d. kept d) drives.old.items) self.new (map (λ b. seen b) lines.new.items) (map (λ d. kept d) drives.new.items) }
+        ensures lines_len { vec_len lines.new ≡ vec_len lines.old }
+        ensures drives_len { vec_len drives.new ≡ vec_len drives.old }
+    {
+        dump(machine, lines, &mut self.parts);
+        store(&mut self.parts, drives);
+    }
+}

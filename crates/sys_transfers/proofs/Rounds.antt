@@ -1,0 +1,228 @@
+-- The transfers of all guests, one guest behind another.
+use Rattle.std.proofs.Common.{◌≡◌, ℕ, ◌+◌, ◌<◌, ◌≤◌, List, [], ◌∷◌, ◌++◌, length, map, drop, take, slice_index_or, slice_set, All, Bool, Option, Some, refl, ap, ◌∙◌, sym, subst, arith, append-nil, append_assoc}
+use Rattle.std.specs.List.{slice_get}
+use Rattle.std.proofs.lemmas.List.{drop_all, length-map, take_all}
+use Rattle.vax_hw.specs.Machine.{Machine}
+use Rattle.vv_io.specs.Lines.{Seen}
+use Rattle.vm_real_guest.specs.Kept.{Kept, StandsIn, guest_in}
+use Rattle.vm_state.specs.State.{Guest}
+use Rattle.sys_guests.proofs.LaidOut.{placed_long}
+use Rattle.sys_guests.proofs.Lists.{get_at, get_map, one_of_all}
+use Rattle.sys_guests.proofs.One.{one_becomes}
+use Rattle.sys_guests.specs.Kernel.{AreUnits, IsKernel, Leads, state_of}
+use Rattle.sys_guests.specs.Layout.{AreInMachine, OnlyGuests, guests_in}
+use Rattle.sys_guests.specs.declared.kernel.Kernel.{Kernel}
+use Rattle.sys_lines.specs.Shows.{Shows}
+use Rattle.sys_lines.proofs.Showings.{shows_none, shows_same, shows_then}
+use Rattle.sys_objects.specs.Condition.{IsConfig}
+use Rattle.sys_objects.specs.declared.records.Config.{Config}
+use Rattle.sys_objects.specs.declared.records.GuestRow.{GuestRow}
+use Rattle.sys_objects.specs.declared.records.Mount.{Mount}
+use Rattle.sys_rounds.proofs.Consoles.{bytes_append}
+use Rattle.sys_rounds.specs.Places.{changed}
+use Rattle.sys_rounds.specs.State.{Put, State, bytes_on}
+use Rattle.sys_rounds.specs.Transfers.{AllServed, Served, all_served, transfers}
+use Rattle.sys_transfers.specs.Serves.{AreMounted}
+use Rattle.sys_transfers.specs.ServesAll.{ServesAt, ServesGuest, all_packets}
+use Rattle.sys_transfers.proofs.Places.{before_changed, behind_changed, from_here, got_in_front}
+use Rattle.sys_transfers.proofs.Sizes.{as_many, packets_keep_faults, packets_keep_sizes, sizes}
+
+-- the guest at a place
+pub served_at : (c : Config) (mounts : List (List (Option Mount))) (place : ℕ) (row : GuestRow) (units : List (Option Mount)) (volumes : List (List (List ℕ))) (m : Machine) (ks : List Kept) (k : Kept) (marks : List Bool) (lines : List Seen) (volumes' : List (List (List ℕ))) (m' : Machine) (k' : Kept) (marks' : List Bool) (lines' : List Seen)
+    → place < length c.guests → row ≡ slice_index_or c.guests place row → place < length mounts → units ≡ slice_index_or mounts place units → k ≡ slice_index_or ks place k → AreInMachine c.guests m.memory ks
+    → ServesGuest c row units volumes m k marks lines volumes' m' k' marks' lines' → ServesAt c mounts place volumes m ks marks lines volumes' m' (slice_set ks place k') marks' lines'
+served_at c mounts place row units volumes m ks k marks lines volumes' m' k' marks' lines' there row_is there' units_is k_is placed x =
+    let long : length ks ≡ length c.guests = placed_long _ _ c.guests ks placed.laid_out in
+    let within : place < length ks = omega (arith, there, long) in
+    record {
+      row = row;
+      has_row = get_at c.guests place row there row_is;
+      units = units;
+      has_units = get_at mounts place units there' units_is;
+      guest = guest_in m.memory k;
+      has_guest = get_map (guest_in m.memory) ks place k within k_is;
+      changes = one_becomes c.guests place (λ g. (all_packets c row units g volumes).guest) ks k k' m m' within k_is placed (packets_keep_faults c row units (guest_in m.memory k) volumes) x.becomes;
+      volumes_are = x.volumes_are;
+      shows = x.shows;
+      machine = x.becomes.rest;
+    }
+
+-- it stands in the machine
+pub stands_at : (c : Config) (place : ℕ) (memory : List ℕ) (ks : List Kept) (k : Kept) → place < length c.guests → k ≡ slice_index_or ks place k → AreInMachine c.guests memory ks → StandsIn memory k
+stands_at c place memory ks k there k_is placed =
+    let long : length ks ≡ length c.guests = placed_long _ _ c.guests ks placed.laid_out in
+    one_of_all (λ (y : Kept). StandsIn memory y) ks place k (omega (arith, there, long)) k_is placed.stand
+
+-- what is mounted at its units are volumes
+pub units_mounted : (mounts : List (List (Option Mount))) (place : ℕ) (units : List (Option Mount)) (volumes : List (List (List ℕ))) → place < length mounts → units ≡ slice_index_or mounts place units → All (AreUnits (length volumes)) mounts → AreMounted units volumes
+units_mounted mounts place units volumes there is all = (one_of_all (AreUnits (length volumes)) mounts place units there is all).mounted
+
+-- one guest more, and none
+next_is : (c : Config) (row : GuestRow) (rows : List GuestRow) (units : List (Option Mount)) (mounts : List (List (Option Mount))) (g : Guest) (gs : List Guest) (vs : List (List (List ℕ))) →
+    let one : Served = all_packets c row units g vs in
+    let more : AllServed = all_served c rows mounts gs one.volumes in
+    all_served c (row ∷ rows) (units ∷ mounts) (g ∷ gs) vs ≡ record { guests = one.guest ∷ more.guests; volumes = more.volumes; puts = one.puts ++ more.puts }
+unfolding all_packets
+next_is c row rows units mounts g gs vs = refl
+
+next_at : (c : Config) (rows : List GuestRow) (mounts : List (List (Option Mount))) (gs : List Guest) (i : ℕ) (row : GuestRow) (units : List (Option Mount)) (g : Guest) (vs : List (List (List ℕ))) → slice_get rows i ≡ Some row → slice_get mounts i ≡ Some units → slice_get gs i ≡ Some g →
+    let one : Served = all_packets c row units g vs in
+    let more : AllServed = all_served c (drop (i + 1) rows) (drop (i + 1) mounts) (drop (i + 1) gs) one.volumes in
+    all_served c (drop i rows) (drop i mounts) (drop i gs) vs ≡ record { guests = one.guest ∷ more.guests; volumes = more.volumes; puts = one.puts ++ more.puts }
+next_at c rows mounts gs i row units g vs has_row has_units has_guest =
+    (λ j. all_served c (from_here rows i row has_row j) (from_here mounts i units has_units j) (from_here gs i g has_guest j) vs) ∙ next_is c row (drop (i + 1) rows) units (drop (i + 1) mounts) g (drop (i + 1) gs) vs
+
+module _ (k : Kernel) (volumes : List (List (List ℕ))) (m : Machine) (lines : List Seen) where
+  abbrev c : Config
+  c = k.config
+
+  abbrev before : State
+  before = state_of m.memory k volumes
+
+  abbrev whole : AllServed
+  whole = all_served c c.guests before.mounts before.guests volumes
+
+  -- the guests from a place on
+  abbrev pub rest : ℕ → List Guest → List (List (List ℕ)) → AllServed
+  rest i gs vs = all_served c (drop i c.guests) (drop i before.mounts) (drop i gs) vs
+
+  -- as far as the guests before this one
+  pub record SoFar (i : ℕ) (vs : List (List (List ℕ))) (m1 : Machine) (ks1 : List Kept) (marks1 : List Bool) (lines1 : List Seen) : Type 0 where
+    pub puts : List Put
+    pub guests : take i (guests_in m1.memory ks1) ++ (rest i (guests_in m1.memory ks1) vs).guests ≡ whole.guests
+    pub volumes_are : (rest i (guests_in m1.memory ks1) vs).volumes ≡ whole.volumes
+    pub puts_are : puts ++ (rest i (guests_in m1.memory ks1) vs).puts ≡ whole.puts
+    pub shows : Shows k.marks marks1 lines lines1 (λ j. bytes_on j puts)
+    pub placed : AreInMachine c.guests m1.memory ks1
+    pub machine : m1 ≡ record m { memory = m1.memory }
+    pub only : OnlyGuests c.guests m.memory m1.memory
+    pub size : length m1.memory ≡ length m.memory
+    pub sizes_are : sizes vs ≡ sizes volumes
+
+  pub none_served : AreInMachine c.guests m.memory k.guests.items → SoFar 0 volumes m k.guests.items k.marks lines
+  none_served placed = record {
+    puts = [];
+    guests = refl;
+    volumes_are = refl;
+    puts_are = refl;
+    shows = shows_none k.marks lines;
+    placed = placed;
+    machine = refl;
+    only = λ p behind. refl;
+    size = refl;
+    sizes_are = refl;
+  }
+
+  -- one guest more
+  pub one_more : (i : ℕ) (vs vs2 : List (List (List ℕ))) (m1 : Machine) (ks1 : List Kept) (marks1 : List Bool) (lines1 : List Seen) (m2 : Machine) (ks2 : List Kept) (marks2 : List Bool) (lines2 : List Seen) → i < length c.guests → SoFar i vs m1 ks1 marks1 lines1
+      → ServesAt c k.server.mounts i vs m1 ks1 marks1 lines1 vs2 m2 ks2 marks2 lines2 → SoFar (i + 1) vs2 m2 ks2 marks2 lines2
+  one_more i vs vs2 m1 ks1 marks1 lines1 m2 ks2 marks2 lines2 h x y = record {
+    puts = x.puts ++ one.puts;
+    guests = (λ j. done j ++ (sym later j).guests) ∙ append_assoc (take i gs1) (one.guest ∷ []) behind.guests ∙ ap (λ (s : AllServed). take i gs1 ++ s.guests) (sym first) ∙ x.guests;
+    volumes_are = ap (λ (s : AllServed). s.volumes) (sym later) ∙ ap (λ (s : AllServed). s.volumes) (sym first) ∙ x.volumes_are;
+    puts_are = append_assoc x.puts one.puts (rest (i + 1) gs2 vs2).puts ∙ ap (λ (s : AllServed). x.puts ++ (one.puts ++ s.puts)) (sym later) ∙ ap (λ (s : AllServed). x.puts ++ s.puts) (sym first) ∙ x.puts_are;
+    shows = shows_same k.marks marks2 lines lines2 (λ j. bytes_on j x.puts ++ bytes_on j one.puts) (λ j. bytes_on j (x.puts ++ one.puts)) (λ j. sym (bytes_append j x.puts one.puts)) (shows_then x.shows y.shows);
+    placed = y.changes.stay;
+    machine = y.machine ∙ (λ j. record (x.machine j) { memory = m2.memory });
+    only = λ p behind. y.changes.only p behind ∙ x.only p behind;
+    size = y.changes.size ∙ x.size;
+    sizes_are = ap sizes y.volumes_are ∙ packets_keep_sizes c y.row y.units y.guest vs ∙ x.sizes_are;
+  }
+    where
+      gs1 : List Guest
+      gs1 = guests_in m1.memory ks1
+
+      gs2 : List Guest
+      gs2 = guests_in m2.memory ks2
+
+      one : Served
+      one = all_packets c y.row y.units y.guest vs
+
+      behind : AllServed
+      behind = all_served c (drop (i + 1) c.guests) (drop (i + 1) before.mounts) (drop (i + 1) gs1) one.volumes
+
+      f : Guest → Guest
+      f g = (all_packets c y.row y.units g vs).guest
+
+      first : rest i gs1 vs ≡ record { guests = one.guest ∷ behind.guests; volumes = behind.volumes; puts = one.puts ++ behind.puts }
+      first = next_at c c.guests before.mounts gs1 i y.row y.units y.guest vs y.has_row (got_in_front (length c.guests) k.server.mounts i y.units h y.has_units) y.has_guest
+
+      changes : gs2 ≡ changed f gs1 i
+      changes = y.changes.guests
+
+      done : take (i + 1) gs2 ≡ take i gs1 ++ one.guest ∷ []
+      done = ap (take (i + 1)) changes ∙ before_changed f gs1 i y.guest y.has_guest
+
+      later : behind ≡ rest (i + 1) gs2 vs2
+      later = λ j. all_served c (drop (i + 1) c.guests) (drop (i + 1) before.mounts) (sym (ap (drop (i + 1)) changes ∙ behind_changed f gs1 i) j) (sym y.volumes_are j)
+
+  -- all are served
+  pub all_guests_served : (i : ℕ) (vs : List (List (List ℕ))) (m1 : Machine) (k1 : Kernel) (lines1 : List Seen) → IsKernel m.memory k → length k.guests.items ≤ i → k1 ≡ record k { guests = k1.guests; marks = k1.marks } → SoFar i vs m1 k1.guests.items k1.marks lines1
+      → Leads (transfers c before) m k lines m1 k1 vs lines1
+  all_guests_served i vs m1 k1 lines1 holds over is x = record {
+    state = (λ j. state_of m1.memory (is j) vs) ∙ (λ j. record before { guests = all_now j; volumes = (ap (λ (s : AllServed). s.volumes) (sym none) ∙ x.volumes_are) j });
+    shows = shows_same k.marks k1.marks lines lines1 (λ j. bytes_on j x.puts) (λ j. bytes_on j whole.puts) (λ j. ap (bytes_on j) (sym (append-nil x.puts) ∙ ap (λ (s : AllServed). x.puts ++ s.puts) (sym none) ∙ x.puts_are)) x.shows;
+    holds = subst (λ (y : Kernel). IsKernel m1.memory y) (sym is) (record {
+      accepted = holds.accepted;
+      placed = x.placed;
+      terminals = holds.terminals;
+      guests = holds.guests;
+      consoles = holds.consoles;
+      beyond = holds.beyond;
+      mounts = holds.mounts;
+    });
+    config = ap (λ (y : Kernel). y.config) is;
+    machine = x.machine;
+    only = x.only;
+    size = x.size;
+  }
+    where
+      gs1 : List Guest
+      gs1 = guests_in m1.memory k1.guests.items
+
+      h : length c.guests ≤ i
+      h = let long : length k.guests.items ≡ length c.guests = placed_long _ _ c.guests k.guests.items holds.placed.laid_out in omega (arith, long, over)
+
+      none : rest i gs1 vs ≡ record { guests = []; volumes = vs; puts = [] }
+      none = ap (λ (rows : List GuestRow). all_served c rows (drop i before.mounts) (drop i gs1) vs) (drop_all i c.guests h)
+
+      all_there : length gs1 ≤ i
+      all_there =
+          let many : length gs1 ≡ length k1.guests.items = length-map k1.guests.items (guest_in m1.memory) in
+          let long : length k1.guests.items ≡ length c.guests = placed_long _ _ c.guests k1.guests.items x.placed.laid_out in
+          omega (arith, many, long, h)
+
+      all_now : gs1 ≡ whole.guests
+      all_now = sym (append-nil gs1) ∙ ap (λ (xs : List Guest). xs ++ []) (sym (take_all i gs1 all_there)) ∙ ap (λ (s : AllServed). take i gs1 ++ s.guests) (sym none) ∙ x.guests
+
+-- each volume has as many blocks as before
+pub sizes_kept : (k : Kernel) (volumes : List (List (List ℕ))) (m : Machine) (lines : List Seen) (i : ℕ) (vs : List (List (List ℕ))) (m1 : Machine) (ks1 : List Kept) (marks1 : List Bool) (lines1 : List Seen) → SoFar k volumes m lines i vs m1 ks1 marks1 lines1 → map length vs ≡ map length volumes
+sizes_kept k volumes m lines i vs m1 ks1 marks1 lines1 x = x.sizes_are
+
+-- The kernel's configuration and server stay through the loop.
+module _ (k k1 : Kernel) (is : k1 ≡ record k { guests = k1.guests; marks = k1.marks }) where
+  same_config : k1.config ≡ k.config
+  same_config = ap (λ (y : Kernel). y.config) is
+
+  pub config_same : IsConfig k.config → IsConfig k1.config
+  config_same accepted = subst (λ (y : Config). IsConfig y) (sym same_config) accepted
+
+  pub placed_same : (memory : List ℕ) (ks : List Kept) → AreInMachine k.config.guests memory ks → AreInMachine k1.config.guests memory ks
+  placed_same memory ks placed = subst (λ (y : Config). AreInMachine y.guests memory ks) (sym same_config) placed
+
+  pub loop_there : (memory : List ℕ) (i : ℕ) → IsKernel memory k → i < length k.guests.items → i < length k.config.guests
+  loop_there memory i holds h = let long : length k.guests.items ≡ length k.config.guests = placed_long _ _ k.config.guests k.guests.items holds.placed.laid_out in omega (arith, long, h)
+
+  pub there_same : (memory : List ℕ) (i : ℕ) → IsKernel memory k → i < length k.guests.items → i < length k1.config.guests
+  there_same memory i holds h = subst (λ (y : Config). i < length y.guests) (sym same_config) (loop_there memory i holds h)
+
+  pub mounts_same : (vs volumes : List (List (List ℕ))) → sizes vs ≡ sizes volumes → length volumes ≡ length k.config.volumes → All (AreUnits (length k.config.volumes)) k.server.mounts → All (AreUnits (length vs)) k1.server.mounts
+  mounts_same vs volumes same many all = subst (λ (y : Kernel). All (AreUnits (length vs)) y.server.mounts) (sym is) (subst (λ n. All (AreUnits n) k.server.mounts) (sym (as_many vs volumes same ∙ many)) all)
+
+  pub one_more_of : (volumes : List (List (List ℕ))) (m : Machine) (lines : List Seen) (i : ℕ) (vs vs2 : List (List (List ℕ))) (m1 : Machine) (lines1 : List Seen) (m2 : Machine) (ks2 : List Kept) (marks2 : List Bool) (lines2 : List Seen) → i < length k.config.guests → SoFar k volumes m lines i vs m1 k1.guests.items k1.marks lines1
+      → ServesAt k1.config k1.server.mounts i vs m1 k1.guests.items k1.marks lines1 vs2 m2 ks2 marks2 lines2 → SoFar k volumes m lines (i + 1) vs2 m2 ks2 marks2 lines2
+  one_more_of volumes m lines i vs vs2 m1 lines1 m2 ks2 marks2 lines2 h x y =
+      one_more k volumes m lines i vs vs2 m1 k1.guests.items k1.marks lines1 m2 ks2 marks2 lines2 h x (subst (λ (z : Kernel). ServesAt z.config z.server.mounts i vs m1 k1.guests.items k1.marks lines1 vs2 m2 ks2 marks2 lines2) is y)
+
+pub as_many_guests : (c : Config) (memory : List ℕ) (ks : List Kept) → AreInMachine c.guests memory ks → length ks ≡ length c.guests
+as_many_guests c memory ks placed = placed_long _ _ c.guests ks placed.laid_out

@@ -1,0 +1,80 @@
+-- A packet of a guest's queue is served, over the guest in the machine: what the definition of a transfer comes to.
+use Rattle.std.specs.Prelude.{◌≡◌, ℕ, ◌<◌, ◌*◌, List, [], Option, Some, None, length, slice_index_or, IfSome, All}
+use Rattle.vax_hw.specs.Machine.{Machine}
+use Rattle.sys_objects.specs.declared.records.Config.{Config}
+use Rattle.sys_objects.specs.declared.records.GuestRow.{GuestRow}
+use Rattle.sys_objects.specs.declared.records.Mount.{Mount}
+use Rattle.sys_objects.specs.declared.records.PrinterRow.{PrinterRow}
+use Rattle.sys_rounds.specs.Guests.{bytes_at, with_bytes}
+use Rattle.sys_rounds.specs.State.{Put}
+use Rattle.sys_rounds.specs.Transfers.{Move, Packet, Prints, Reads, Refused, Served, Writes, done_status, move_of, printed, printer_of, served_one}
+use Rattle.sys_store.specs.Blocks.{blocks_of, with_block}
+use Rattle.sys_store.specs.Job.{job_text}
+use Rattle.sys_transfers.specs.declared.packets.Request.{Request}
+use Rattle.vm_real_guest.specs.Kept.{Becomes, Kept, guest_in}
+use Rattle.vm_state.specs.State.{Guest}
+
+-- each mount names a volume
+abbrev pub AreMounted : List (Option Mount) → List (List (List ℕ)) → Type 0
+AreMounted mounts volumes = All (λ m. IfSome m (λ (x : Mount). x.volume < length volumes)) mounts
+
+-- what a move leaves of the guest's memory, before the packet is answered
+abbrev pub carried : Move → Packet → List (List (List ℕ)) → Guest → Guest
+carried (Refused status) p volumes g = g
+carried (Reads v) p volumes g = with_bytes p.buffer (slice_index_or (blocks_of volumes v) p.block []) g
+carried (Writes v) p volumes g = g
+carried Prints p volumes g = g
+
+abbrev pub carried_volumes : Move → Packet → List (List (List ℕ)) → Guest → List (List (List ℕ))
+carried_volumes (Refused status) p volumes g = volumes
+carried_volumes (Reads v) p volumes g = volumes
+carried_volumes (Writes v) p volumes g = with_block volumes v p.block (bytes_at g p.buffer 512)
+carried_volumes Prints p volumes g = volumes
+
+abbrev pub status_of : Move → ℕ
+status_of (Refused status) = status
+status_of (Reads v) = done_status
+status_of (Writes v) = done_status
+status_of Prints = done_status
+
+-- a move is made, but for the answer
+pub record Carries (move : Move) (p : Packet) (volumes volumes' : List (List (List ℕ))) (m : Machine) (k : Kept) (status : ℕ) (m' : Machine) (k' : Kept) : Type 0 where
+  pub status_is : status ≡ status_of move
+  pub becomes : Becomes (carried move p volumes (guest_in m.memory k)) m k m' k'
+  pub volumes_are : volumes' ≡ carried_volumes move p volumes (guest_in m.memory k)
+
+-- what a printer gets of a job, if there is one
+abbrev pub job_on : Option PrinterRow → Option (List ℕ) → List Put
+job_on printer None = []
+job_on printer (Some job) = printed printer job
+
+-- the job that a move prints
+abbrev pub job_by : GuestRow → Packet → Guest → Move → Option (List ℕ)
+job_by row p g (Refused status) = None
+job_by row p g (Reads v) = None
+job_by row p g (Writes v) = None
+job_by row p g Prints = Some (job_text row.class row.name (bytes_at g p.buffer p.size))
+
+-- a text is printed, or refused
+pub record PrintsOf (row : GuestRow) (p : Packet) (g : Guest) (move : Move) (status : ℕ) (job : Option (List ℕ)) : Type 0 where
+  pub status_is : status ≡ status_of move
+  pub job_is : job ≡ job_by row p g move
+
+-- the move that a packet asks for, with the job that is printed
+pub record CarriesAll (row : GuestRow) (mounts : List (Option Mount)) (p : Packet) (volumes volumes' : List (List (List ℕ))) (m : Machine) (k : Kept) (status : ℕ) (job : Option (List ℕ)) (m' : Machine) (k' : Kept) : Type 0 where
+  pub carries : Carries (move_of (512 * k.state.pages) volumes mounts p) p volumes volumes' m k status m' k'
+  pub job_is : job ≡ job_by row p (guest_in m.memory k) (move_of (512 * k.state.pages) volumes mounts p)
+
+-- the packet at an address, served
+unfoldable pub one_packet : Config → GuestRow → List (Option Mount) → Guest → ℕ → List (List (List ℕ)) → Served
+one_packet c row mounts g at volumes = served_one c row mounts g at volumes
+
+-- the packet at an address is served, and its text is what the guest's printer gets
+pub record ServesOne (row : GuestRow) (mounts : List (Option Mount)) (at : ℕ) (volumes volumes' : List (List (List ℕ))) (m : Machine) (k : Kept) (job : Option (List ℕ)) (m' : Machine) (k' : Kept) : Type 0 where
+  pub becomes : (c : Config) → Becomes (one_packet c row mounts (guest_in m.memory k) at volumes).guest m k m' k'
+  pub volumes_are : (c : Config) → volumes' ≡ (one_packet c row mounts (guest_in m.memory k) at volumes).volumes
+  pub shows : (c : Config) → (one_packet c row mounts (guest_in m.memory k) at volumes).puts ≡ job_on (printer_of c row.printer) job
+
+-- the packet that the code has read
+abbrev pub packet_of : Request → Packet
+packet_of r = record { function = r.function; unit = r.unit; block = r.block; buffer = r.buffer; size = r.size }

@@ -1,0 +1,37 @@
+ghost use Rattle.std.specs.Prelude.{◌≡◌, length, map, vec_len};
+ghost use Rattle.sys_guests.specs.Kernel.{IsKernel, Leads, state_of};
+ghost use Rattle.sys_rounds.specs.Transfers.{transfers};
+
+use crate::guests::serve_at;
+use sys_guests::Kernel;
+use sys_store::Volumes;
+use vax_hw::Hardware;
+use vv_io::Line;
+
+/// The transfers of a round, guest by guest, packet by packet.
+pub fn transfer<H: Hardware>(
+    machine: &mut H,
+    lines: &mut Vec<Box<dyn Line>>,
+    kernel: &mut Kernel,
+    volumes: &mut Volumes,
+)
+    requires holds { IsKernel (H.machine machine.old).memory kernel.old }
+    requires volumes { length volumes.old ≡ length kernel.old.config.volumes }
+    requires lines { vec_len lines.old ≡ 32 }
+    ensures leads { Leads (transfers kernel.old.config (state_of (H.machine machine.old).memory kernel.old volumes.old)) (H.machine machine.old) kernel.old (map (λ b. seen b) lines.old.items) (H.machine machine.new) kernel.new volumes.new (map (λ b. seen b) lines.new.items) }
+    ensures sizes { map length volumes.new ≡ map length volumes.old }
+    ensures len { vec_len lines.new ≡ vec_len lines.old }
+{
+    for place in 0..kernel.guests.len() {
+        serve_at(
+            machine,
+            &mut kernel.marks,
+            lines,
+            &mut kernel.guests,
+            &kernel.config,
+            &kernel.server.mounts,
+            volumes,
+            place,
+        );
+    }
+}
