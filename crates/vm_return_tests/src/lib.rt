@@ -1,0 +1,8 @@
+//! Worked examples of REI: what it refuses, what it loads, and the system trap that it delivers. What each is to come to was
+//! found by hand from the manual's tables and the profile, and by no run. Numbers in comments are hexadecimal.
+#![tactic(auto)]
+
+#[cfg(test)]
+mod loads;
+#[cfg(test)]
+mod refusals;

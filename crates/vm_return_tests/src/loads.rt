@@ -1,0 +1,801 @@
+//! What REI loads, the stacks of before and behind, and the system trap that it delivers; REI that can't read its stack; and
+//! CHM with REI behind it.
+
+use std::alloc::Global;
+use std::process::Abort;
+use std::test::Fail;
+use vm_stage::Place::{Astlvl, IsStopped, KcallDue, Long, P0lr, Psl, R, Sisr, Stack, StopCode};
+use vm_stage::{CASE, Case, FAULT, SENSITIVE};
+
+/// All is as told, in one call and step by step.
+fn are_as_told(rt: &impl Abort, alloc: Global, cases: &[Case]) -> Result<(), Fail> {
+    for case in cases {
+        assert_eq!(rt; case.difference(alloc, false)?, None, "{}", case.name);
+        assert_eq!(rt; case.difference(alloc, true)?, None, "{} singly", case.name);
+    }
+    Ok(())
+}
+
+/// What is loaded.
+#[test]
+fn loads(rt: HostRuntime) -> Result<(), Fail> {
+    are_as_told(&rt, rt.alloc(), &LOADS)
+}
+
+/// System traps, and interrupts behind REI.
+#[test]
+fn system_traps(rt: HostRuntime) -> Result<(), Fail> {
+    are_as_told(&rt, rt.alloc(), &TRAPS)
+}
+
+/// Stacks that can't be read, and CHM with REI behind it.
+#[test]
+fn stacks_not_readable(rt: HostRuntime) -> Result<(), Fail> {
+    are_as_told(&rt, rt.alloc(), &TROUBLES)
+}
+
+static LOADS: [Case; 13] = [
+    Case {
+        name: "kernel to kernel, with all bits that may be set at IPL 0",
+        code: &[2],
+        before: &[
+            (R(14), 0x2E00),
+            (Long(0x2E00), 0x401),
+            (Long(0x2E04), 0x00C0_00FF),
+        ],
+        kinds: SENSITIVE,
+        after: &[
+            (R(14), 0x2E08),
+            (R(15), 0x401),
+            (Psl, 0x00C0_00FF),
+            (Stack(0), 0x2E08),
+        ],
+        ..CASE
+    },
+    Case {
+        name: "kernel to kernel at the same IPL",
+        code: &[2],
+        before: &[
+            (Psl, 0x0005_0000),
+            (R(14), 0x2E00),
+            (Long(0x2E00), 0x400),
+            (Long(0x2E04), 0x0005_0004),
+        ],
+        kinds: SENSITIVE,
+        after: &[
+            (R(14), 0x2E08),
+            (R(15), 0x400),
+            (Psl, 0x0005_0004),
+            (Stack(0), 0x2E08),
+        ],
+        ..CASE
+    },
+    Case {
+        name: "kernel to kernel at a lower IPL",
+        code: &[2],
+        before: &[
+            (Psl, 0x001F_0000),
+            (R(14), 0x2E00),
+            (Long(0x2E00), 0x400),
+            (Long(0x2E04), 0x001E_0000),
+        ],
+        kinds: SENSITIVE,
+        after: &[
+            (R(14), 0x2E08),
+            (R(15), 0x400),
+            (Psl, 0x001E_0000),
+            (Stack(0), 0x2E08),
+        ],
+        ..CASE
+    },
+    Case {
+        name: "kernel to executive",
+        code: &[2],
+        before: &[
+            (R(14), 0x2E00),
+            (Long(0x2E00), 0x400),
+            (Long(0x2E04), 0x0140_0000),
+            (Stack(1), 0x2600),
+        ],
+        kinds: SENSITIVE,
+        after: &[
+            (R(14), 0x2600),
+            (R(15), 0x400),
+            (Psl, 0x0140_0000),
+            (Stack(0), 0x2E08),
+        ],
+        ..CASE
+    },
+    Case {
+        name: "kernel to supervisor, with user before",
+        code: &[2],
+        before: &[
+            (Psl, 0x0007_0000),
+            (R(14), 0x2E00),
+            (Long(0x2E00), 0x400),
+            (Long(0x2E04), 0x02C0_0000),
+            (Stack(2), 0x2600),
+        ],
+        kinds: SENSITIVE,
+        after: &[
+            (R(14), 0x2600),
+            (R(15), 0x400),
+            (Psl, 0x02C0_0000),
+            (Stack(0), 0x2E08),
+        ],
+        ..CASE
+    },
+    Case {
+        name: "kernel to user",
+        code: &[2],
+        before: &[
+            (Psl, 0x001F_0000),
+            (R(14), 0x2E00),
+            (Long(0x2E00), 0x400),
+            (Long(0x2E04), 0x03C0_0001),
+            (Stack(3), 0x2600),
+        ],
+        kinds: SENSITIVE,
+        after: &[
+            (R(14), 0x2600),
+            (R(15), 0x400),
+            (Psl, 0x03C0_0001),
+            (Stack(0), 0x2E08),
+        ],
+        ..CASE
+    },
+    Case {
+        name: "executive to executive",
+        code: &[2],
+        before: &[
+            (Psl, 0x0140_0000),
+            (R(14), 0x2600),
+            (Long(0x2600), 0x400),
+            (Long(0x2604), 0x01C0_0000),
+        ],
+        kinds: SENSITIVE,
+        after: &[
+            (R(14), 0x2608),
+            (R(15), 0x400),
+            (Psl, 0x01C0_0000),
+            (Stack(1), 0x2608),
+        ],
+        ..CASE
+    },
+    Case {
+        name: "executive to supervisor",
+        code: &[2],
+        before: &[
+            (Psl, 0x0140_0000),
+            (R(14), 0x2600),
+            (Long(0x2600), 0x400),
+            (Long(0x2604), 0x0280_0000),
+            (Stack(2), 0x2700),
+        ],
+        kinds: SENSITIVE,
+        after: &[
+            (R(14), 0x2700),
+            (R(15), 0x400),
+            (Psl, 0x0280_0000),
+            (Stack(1), 0x2608),
+        ],
+        ..CASE
+    },
+    Case {
+        name: "supervisor to user",
+        code: &[2],
+        before: &[
+            (Psl, 0x0280_0000),
+            (R(14), 0x2600),
+            (Long(0x2600), 0x400),
+            (Long(0x2604), 0x03C0_0000),
+            (Stack(3), 0x700),
+        ],
+        kinds: SENSITIVE,
+        after: &[
+            (R(14), 0x700),
+            (R(15), 0x400),
+            (Psl, 0x03C0_0000),
+            (Stack(2), 0x2608),
+        ],
+        ..CASE
+    },
+    Case {
+        name: "user to user",
+        mapped: true,
+        code: &[2],
+        before: &[
+            (Psl, 0x03C0_0000),
+            (R(14), 0x600),
+            (Long(0x600), 0x400),
+            (Long(0x604), 0x03C0_0000),
+        ],
+        kinds: SENSITIVE,
+        after: &[(R(14), 0x608), (R(15), 0x400), (Stack(3), 0x608)],
+        ..CASE
+    },
+    // The interrupt stack
+    Case {
+        name: "interrupt stack to the same at a lower IPL",
+        code: &[2],
+        before: &[
+            (Psl, 0x041F_0000),
+            (R(14), 0x3800),
+            (Long(0x3800), 0x400),
+            (Long(0x3804), 0x0401_0000),
+        ],
+        kinds: SENSITIVE,
+        after: &[
+            (R(14), 0x3808),
+            (R(15), 0x400),
+            (Psl, 0x0401_0000),
+            (Stack(4), 0x3808),
+        ],
+        ..CASE
+    },
+    Case {
+        name: "interrupt stack to the kernel's at the same IPL",
+        code: &[2],
+        before: &[
+            (Psl, 0x0408_0000),
+            (R(14), 0x3800),
+            (Long(0x3800), 0x400),
+            (Long(0x3804), 0x00C8_0000),
+        ],
+        kinds: SENSITIVE,
+        after: &[
+            (R(14), 0x3000),
+            (R(15), 0x400),
+            (Psl, 0x00C8_0000),
+            (Stack(4), 0x3808),
+        ],
+        ..CASE
+    },
+    Case {
+        name: "interrupt stack to user",
+        code: &[2],
+        before: &[
+            (Psl, 0x041F_0000),
+            (R(14), 0x3800),
+            (Long(0x3800), 0x400),
+            (Long(0x3804), 0x03C0_0000),
+            (Stack(3), 0x600),
+        ],
+        kinds: SENSITIVE,
+        after: &[
+            (R(14), 0x600),
+            (R(15), 0x400),
+            (Psl, 0x03C0_0000),
+            (Stack(4), 0x3808),
+        ],
+        ..CASE
+    },
+];
+
+static TRAPS: [Case; 12] = [
+    // System traps: bit 2 of SISR is set where the new mode is at least ASTLVL.
+    Case {
+        name: "to kernel, with ASTLVL 0",
+        code: &[2],
+        before: &[
+            (Astlvl, 0),
+            (R(14), 0x2E00),
+            (Long(0x2E00), 0x400),
+            (Long(0x2E04), 0),
+        ],
+        kinds: SENSITIVE,
+        after: &[
+            (R(14), 0x2E08),
+            (R(15), 0x400),
+            (Sisr, 4),
+            (Stack(0), 0x2E08),
+        ],
+        ..CASE
+    },
+    Case {
+        name: "to kernel, with ASTLVL 1",
+        code: &[2],
+        before: &[
+            (Astlvl, 1),
+            (R(14), 0x2E00),
+            (Long(0x2E00), 0x400),
+            (Long(0x2E04), 0),
+        ],
+        kinds: SENSITIVE,
+        after: &[(R(14), 0x2E08), (R(15), 0x400), (Stack(0), 0x2E08)],
+        ..CASE
+    },
+    Case {
+        name: "to executive, with ASTLVL 1",
+        code: &[2],
+        before: &[
+            (Astlvl, 1),
+            (Sisr, 0x80),
+            (R(14), 0x2E00),
+            (Long(0x2E00), 0x400),
+            (Long(0x2E04), 0x0140_0000),
+            (Psl, 0x001F_0000),
+        ],
+        kinds: SENSITIVE,
+        after: &[
+            (R(14), 0),
+            (R(15), 0x400),
+            (Sisr, 0x84),
+            (Psl, 0x0140_0000),
+            (Stack(0), 0x2E08),
+        ],
+        ..CASE
+    },
+    Case {
+        name: "to executive, with ASTLVL 2",
+        code: &[2],
+        before: &[
+            (Astlvl, 2),
+            (R(14), 0x2E00),
+            (Long(0x2E00), 0x400),
+            (Long(0x2E04), 0x0140_0000),
+        ],
+        kinds: SENSITIVE,
+        after: &[
+            (R(14), 0),
+            (R(15), 0x400),
+            (Psl, 0x0140_0000),
+            (Stack(0), 0x2E08),
+        ],
+        ..CASE
+    },
+    Case {
+        name: "to user, with ASTLVL 3",
+        code: &[2],
+        before: &[
+            (Psl, 0x03C0_0000),
+            (Astlvl, 3),
+            (R(14), 0x600),
+            (Long(0x600), 0x400),
+            (Long(0x604), 0x03C0_0000),
+        ],
+        kinds: SENSITIVE,
+        after: &[(R(14), 0x608), (R(15), 0x400), (Sisr, 4), (Stack(3), 0x608)],
+        ..CASE
+    },
+    Case {
+        name: "to user, with ASTLVL 4",
+        code: &[2],
+        before: &[
+            (Psl, 0x03C0_0000),
+            (Astlvl, 4),
+            (R(14), 0x600),
+            (Long(0x600), 0x400),
+            (Long(0x604), 0x03C0_0000),
+        ],
+        kinds: SENSITIVE,
+        after: &[(R(14), 0x608), (R(15), 0x400), (Stack(3), 0x608)],
+        ..CASE
+    },
+    Case {
+        name: "to supervisor, with ASTLVL 0",
+        code: &[2],
+        before: &[
+            (Astlvl, 0),
+            (R(14), 0x2E00),
+            (Long(0x2E00), 0x400),
+            (Long(0x2E04), 0x0280_0000),
+        ],
+        kinds: SENSITIVE,
+        after: &[
+            (R(14), 0),
+            (R(15), 0x400),
+            (Sisr, 4),
+            (Psl, 0x0280_0000),
+            (Stack(0), 0x2E08),
+        ],
+        ..CASE
+    },
+    // None is delivered where the interrupt stack stays; one is where it is left.
+    Case {
+        name: "on the interrupt stack, with ASTLVL 0",
+        code: &[2],
+        before: &[
+            (Psl, 0x041F_0000),
+            (Astlvl, 0),
+            (R(14), 0x3800),
+            (Long(0x3800), 0x400),
+            (Long(0x3804), 0x0401_0000),
+        ],
+        kinds: SENSITIVE,
+        after: &[
+            (R(14), 0x3808),
+            (R(15), 0x400),
+            (Psl, 0x0401_0000),
+            (Stack(4), 0x3808),
+        ],
+        ..CASE
+    },
+    Case {
+        name: "from the interrupt stack, with ASTLVL 0",
+        code: &[2],
+        before: &[
+            (Psl, 0x041F_0000),
+            (Astlvl, 0),
+            (R(14), 0x3800),
+            (Long(0x3800), 0x400),
+            (Long(0x3804), 0x0004_0000),
+        ],
+        kinds: SENSITIVE,
+        after: &[
+            (R(14), 0x3000),
+            (R(15), 0x400),
+            (Sisr, 4),
+            (Psl, 0x0004_0000),
+            (Stack(4), 0x3808),
+        ],
+        ..CASE
+    },
+    // A refused REI delivers none.
+    Case {
+        name: "refused, with ASTLVL 0",
+        code: &[2],
+        before: &[
+            (Astlvl, 0),
+            (R(14), 0x2E00),
+            (Long(0x2E00), 0x400),
+            (Long(0x2E04), 0x0001_0000),
+        ],
+        kinds: FAULT,
+        after: &[
+            (R(14), 0x2DF8),
+            (R(15), 0x1000),
+            (Stack(0), 0x2E00),
+            (Long(0x2DF8), 0x200),
+            (Long(0x2DFC), 0),
+        ],
+        ..CASE
+    },
+    // At IPL 0 it is taken in the next step, at level 2.
+    Case {
+        name: "the system trap is taken",
+        code: &[2],
+        before: &[
+            (Astlvl, 3),
+            (R(14), 0x2E00),
+            (Stack(3), 0x600),
+            (Long(0x2E00), 0x400),
+            (Long(0x2E04), 0x03C0_0000),
+            (Long(0x4488), 0x1F00),
+        ],
+        steps: 2,
+        kinds: [0, 1, 0, 1, 0, 0, 0],
+        after: &[
+            (R(14), 0x2E00),
+            (R(15), 0x1F00),
+            (Psl, 0x0002_0000),
+            (Stack(0), 0x2E08),
+            (Long(0x2E00), 0x400),
+            (Long(0x2E04), 0x03C0_0000),
+        ],
+        ..CASE
+    },
+    // A lower IPL lets a request through.
+    Case {
+        name: "an interrupt behind it",
+        code: &[2],
+        before: &[
+            (Psl, 0x0015_0000),
+            (KcallDue, 1),
+            (R(14), 0x2E00),
+            (Long(0x2E00), 0x400),
+            (Long(0x2E04), 0x0014_0008),
+            (Long(0x4500), 0x1F00),
+        ],
+        steps: 2,
+        kinds: [0, 1, 0, 1, 0, 0, 0],
+        after: &[
+            (KcallDue, 0),
+            (R(14), 0x2E00),
+            (R(15), 0x1F00),
+            (Stack(0), 0x2E08),
+            (Long(0x2E00), 0x400),
+            (Long(0x2E04), 0x0014_0008),
+        ],
+        ..CASE
+    },
+];
+
+static TROUBLES: [Case; 15] = [
+    // The stack can't be read, in user mode: both longwords, the second, by length, by protection, and beyond memory.
+    Case {
+        name: "stack not valid",
+        mapped: true,
+        code: &[2],
+        before: &[
+            (Psl, 0x03C0_0000),
+            (R(14), 0x1000),
+            (Long(0x4220), 0x2000_0008),
+            (Long(0x4424), 0x8000_1F00),
+        ],
+        kinds: FAULT,
+        after: &[
+            (R(14), 0x8000_2FF0),
+            (R(15), 0x8000_1F00),
+            (Psl, 0x00C0_0000),
+            (Stack(3), 0x1000),
+            (Long(0x2FF0), 0),
+            (Long(0x2FF4), 0x1000),
+            (Long(0x2FF8), 0x200),
+            (Long(0x2FFC), 0x03C0_0000),
+        ],
+        ..CASE
+    },
+    Case {
+        name: "second longword not valid",
+        mapped: true,
+        code: &[2],
+        before: &[
+            (Psl, 0x03C0_0000),
+            (R(14), 0xFFC),
+            (Long(0xFFC), 0x400),
+            (Long(0x1000), 0x03C0_0000),
+            (Long(0x4220), 0x2000_0008),
+            (Long(0x4424), 0x8000_1F00),
+        ],
+        kinds: FAULT,
+        after: &[
+            (R(14), 0x8000_2FF0),
+            (R(15), 0x8000_1F00),
+            (Psl, 0x00C0_0000),
+            (Stack(3), 0xFFC),
+            (Long(0x2FF0), 0),
+            (Long(0x2FF4), 0x1000),
+            (Long(0x2FF8), 0x200),
+            (Long(0x2FFC), 0x03C0_0000),
+        ],
+        ..CASE
+    },
+    Case {
+        name: "stack beyond P0",
+        mapped: true,
+        code: &[2],
+        before: &[
+            (Psl, 0x03C0_0000),
+            (R(14), 0x1002),
+            (P0lr, 8),
+            (Long(0x4420), 0x8000_1F00),
+        ],
+        kinds: FAULT,
+        after: &[
+            (R(14), 0x8000_2FF0),
+            (R(15), 0x8000_1F00),
+            (Psl, 0x00C0_0000),
+            (Stack(3), 0x1002),
+            (Long(0x2FF0), 1),
+            (Long(0x2FF4), 0x1002),
+            (Long(0x2FF8), 0x200),
+            (Long(0x2FFC), 0x03C0_0000),
+        ],
+        ..CASE
+    },
+    // The kernel may read the page, and the user may not.
+    Case {
+        name: "stack of the kernel in user mode",
+        mapped: true,
+        code: &[2],
+        before: &[
+            (Psl, 0x03C0_0000),
+            (R(14), 0x1000),
+            (Long(0x1000), 0x400),
+            (Long(0x1004), 0x03C0_0000),
+            (Long(0x4220), 0x9400_0008),
+            (Long(0x4420), 0x8000_1F00),
+        ],
+        kinds: FAULT,
+        after: &[
+            (R(14), 0x8000_2FF0),
+            (R(15), 0x8000_1F00),
+            (Psl, 0x00C0_0000),
+            (Stack(3), 0x1000),
+            (Long(0x2FF0), 0),
+            (Long(0x2FF4), 0x1000),
+            (Long(0x2FF8), 0x200),
+            (Long(0x2FFC), 0x03C0_0000),
+        ],
+        ..CASE
+    },
+    // Executive mode may do what kernel mode may.
+    Case {
+        name: "stack of the kernel in executive mode",
+        mapped: true,
+        code: &[2],
+        before: &[
+            (Psl, 0x0140_0000),
+            (R(14), 0x1000),
+            (Long(0x1000), 0x400),
+            (Long(0x1004), 0x0140_0000),
+            (Long(0x4220), 0x9800_0008),
+        ],
+        kinds: SENSITIVE,
+        after: &[(R(14), 0x1008), (R(15), 0x400), (Stack(1), 0x1008)],
+        ..CASE
+    },
+    Case {
+        name: "stack's frame beyond memory",
+        mapped: true,
+        code: &[2],
+        before: &[
+            (Psl, 0x03C0_0000),
+            (R(14), 0x1000),
+            (Long(0x4220), 0xA400_0040),
+        ],
+        kinds: FAULT,
+        after: &[(IsStopped, 1), (StopCode, 0x10)],
+        shown: b"?10 00000200\r\n",
+        ..CASE
+    },
+    Case {
+        name: "stack beyond memory, with mapping off",
+        code: &[2],
+        before: &[(R(14), 0x7FFC), (Long(0x7FFC), 0x400)],
+        kinds: FAULT,
+        after: &[(IsStopped, 1), (StopCode, 0x10)],
+        shown: b"?10 00000200\r\n",
+        ..CASE
+    },
+    // The kernel's own stack isn't valid: vector 08 in place of the fault.
+    Case {
+        name: "kernel stack not valid",
+        mapped: true,
+        code: &[2],
+        before: &[
+            (Long(0x4060), 0x2400_0018),
+            (Long(0x405C), 0x2400_0017),
+            (Stack(4), 0x8000_3800),
+            (Long(0x4408), 0x8000_1F00),
+        ],
+        kinds: FAULT,
+        after: &[
+            (R(14), 0x8000_37F8),
+            (R(15), 0x8000_1F00),
+            (Psl, 0x041F_0000),
+            (Long(0x37F8), 0x200),
+            (Long(0x37FC), 0),
+        ],
+        ..CASE
+    },
+    // REI needn't write: its stack's modify bit stays clear.
+    Case {
+        name: "stack with a clear modify bit",
+        mapped: true,
+        code: &[2],
+        before: &[
+            (R(14), 0x8000_2E00),
+            (Long(0x2E00), 0x400),
+            (Long(0x2E04), 0),
+            (Long(0x405C), 0xA000_0017),
+        ],
+        kinds: SENSITIVE,
+        after: &[
+            (R(14), 0x8000_2E08),
+            (R(15), 0x400),
+            (Stack(0), 0x8000_2E08),
+        ],
+        ..CASE
+    },
+    // A PC behind which there is no page: the fault is the next instruction's.
+    Case {
+        name: "to a PC beyond P0",
+        mapped: true,
+        code: &[2],
+        before: &[
+            (R(14), 0x8000_2E00),
+            (Long(0x2E00), 0x8000),
+            (Long(0x2E04), 0),
+            (Long(0x4420), 0x8000_1F00),
+        ],
+        steps: 2,
+        kinds: [0, 1, 1, 0, 0, 0, 0],
+        after: &[
+            (R(14), 0x8000_2DF8),
+            (R(15), 0x8000_1F00),
+            (Stack(0), 0x8000_2E08),
+            (Long(0x2DF8), 1),
+            (Long(0x2DFC), 0x8000),
+            (Long(0x2E00), 0x8000),
+            (Long(0x2E04), 0),
+        ],
+        ..CASE
+    },
+    // CHM #5; NOP, and ADDL2 #4, SP; REI at the vector: there and back.
+    Case {
+        name: "CHMK and back",
+        code: &[0xBC, 0x05, 0x01],
+        before: &[
+            (Psl, 0x03C0_000A),
+            (R(14), 0x600),
+            (Long(0x1000), 0x025E_04C0),
+        ],
+        steps: 4,
+        kinds: [2, 2, 0, 0, 0, 0, 0],
+        after: &[
+            (R(15), 0x203),
+            (Stack(3), 0x600),
+            (Long(0x2FF4), 5),
+            (Long(0x2FF8), 0x202),
+            (Long(0x2FFC), 0x03C0_000A),
+        ],
+        ..CASE
+    },
+    Case {
+        name: "CHME and back",
+        mapped: true,
+        code: &[0xBD, 0x05, 0x01],
+        before: &[
+            (Psl, 0x03C0_0000),
+            (R(14), 0x600),
+            (Stack(1), 0x2800),
+            (Long(0x4444), 0x1000),
+            (Long(0x1000), 0x025E_04C0),
+        ],
+        steps: 4,
+        kinds: [2, 2, 0, 0, 0, 0, 0],
+        after: &[
+            (R(15), 0x203),
+            (Stack(3), 0x600),
+            (Long(0x27F4), 5),
+            (Long(0x27F8), 0x202),
+            (Long(0x27FC), 0x03C0_0000),
+        ],
+        ..CASE
+    },
+    Case {
+        name: "CHMS and back, from supervisor mode",
+        code: &[0xBE, 0x05, 0x01],
+        before: &[
+            (Psl, 0x02C0_0000),
+            (R(14), 0x2A00),
+            (Long(0x1000), 0x025E_04C0),
+        ],
+        steps: 4,
+        kinds: [2, 2, 0, 0, 0, 0, 0],
+        after: &[
+            (R(15), 0x203),
+            (Stack(2), 0x2A00),
+            (Long(0x29F4), 5),
+            (Long(0x29F8), 0x202),
+            (Long(0x29FC), 0x02C0_0000),
+        ],
+        ..CASE
+    },
+    Case {
+        name: "CHMU and back",
+        code: &[0xBF, 0x05, 0x01],
+        before: &[
+            (Psl, 0x03C0_0000),
+            (R(14), 0x700),
+            (Long(0x1000), 0x025E_04C0),
+        ],
+        steps: 4,
+        kinds: [2, 2, 0, 0, 0, 0, 0],
+        after: &[
+            (R(15), 0x203),
+            (Stack(3), 0x700),
+            (Long(0x6F4), 5),
+            (Long(0x6F8), 0x202),
+            (Long(0x6FC), 0x03C0_0000),
+        ],
+        ..CASE
+    },
+    // BPT in kernel mode at IPL 2 and REI to the BPT again: a fault begins anew.
+    Case {
+        name: "a breakpoint, back, and again",
+        code: &[3],
+        before: &[(Psl, 0x0002_0000), (Long(0x1000), 2)],
+        steps: 3,
+        kinds: [0, 1, 2, 0, 0, 0, 0],
+        after: &[
+            (R(14), 0x2FF8),
+            (R(15), 0x1000),
+            (Long(0x2FF8), 0x200),
+            (Long(0x2FFC), 0x0002_0000),
+        ],
+        ..CASE
+    },
+];

@@ -1,0 +1,183 @@
+use vm_state::GuestState;
+
+/// A register of a guest by its name, or a longword of its memory. The bits of PSL are one register, and so are the stop code
+/// and whether there is one; `Typed` is the number of bytes that wait at the console, `Packets` that of the packets that
+/// wait, and `Steps` what UPTIME reads.
+#[derive(Clone, Copy, Debug, PartialEq, Eq)]
+pub enum Place {
+    R(usize),
+    Psl,
+    Stack(usize),
+    P0br,
+    P0lr,
+    P1br,
+    P1lr,
+    Sbr,
+    Slr,
+    Mapen,
+    Pcbb,
+    Scbb,
+    Astlvl,
+    Sisr,
+    Iccs,
+    Nicr,
+    Icr,
+    ClockDue,
+    Rxcs,
+    RxDue,
+    Txcs,
+    TxDue,
+    Typed,
+    KcallDue,
+    Packets,
+    Packet(usize),
+    Waits,
+    IsStopped,
+    StopCode,
+    Steps,
+    ModifyFaults,
+    Long(u32),
+}
+
+/// All registers.
+pub static REGISTERS: [Place; 57] = [
+    Place::R(0),
+    Place::R(1),
+    Place::R(2),
+    Place::R(3),
+    Place::R(4),
+    Place::R(5),
+    Place::R(6),
+    Place::R(7),
+    Place::R(8),
+    Place::R(9),
+    Place::R(10),
+    Place::R(11),
+    Place::R(12),
+    Place::R(13),
+    Place::R(14),
+    Place::R(15),
+    Place::Psl,
+    Place::Stack(0),
+    Place::Stack(1),
+    Place::Stack(2),
+    Place::Stack(3),
+    Place::Stack(4),
+    Place::P0br,
+    Place::P0lr,
+    Place::P1br,
+    Place::P1lr,
+    Place::Sbr,
+    Place::Slr,
+    Place::Mapen,
+    Place::Pcbb,
+    Place::Scbb,
+    Place::Astlvl,
+    Place::Sisr,
+    Place::Iccs,
+    Place::Nicr,
+    Place::Icr,
+    Place::ClockDue,
+    Place::Rxcs,
+    Place::RxDue,
+    Place::Txcs,
+    Place::TxDue,
+    Place::Typed,
+    Place::KcallDue,
+    Place::Packets,
+    Place::Packet(0),
+    Place::Packet(1),
+    Place::Packet(2),
+    Place::Packet(3),
+    Place::Packet(4),
+    Place::Packet(5),
+    Place::Packet(6),
+    Place::Packet(7),
+    Place::Waits,
+    Place::IsStopped,
+    Place::StopCode,
+    Place::Steps,
+    Place::ModifyFaults,
+];
+
+/// A list's element, or 0.
+fn element(list: &[u32], n: usize) -> u32 {
+    list.get(n).copied().unwrap_or(0)
+}
+
+impl Place {
+    /// What a guest has there; 0 of what isn't a register.
+    pub fn of(self, g: &GuestState) -> u32 {
+        match self {
+            Place::R(n) => element(&g.r, n),
+            Place::Psl => g.psl.0,
+            Place::Stack(n) => element(&g.stacks, n),
+            Place::P0br => g.p0br,
+            Place::P0lr => g.p0lr,
+            Place::P1br => g.p1br,
+            Place::P1lr => g.p1lr,
+            Place::Sbr => g.sbr,
+            Place::Slr => g.slr,
+            Place::Mapen => u32::from(g.mapen),
+            Place::Pcbb => g.pcbb,
+            Place::Scbb => g.scbb,
+            Place::Astlvl => u32::from(g.astlvl),
+            Place::Sisr => u32::from(g.sisr),
+            Place::Iccs => g.clock.read_iccs(),
+            Place::Nicr => g.clock.parts().nicr,
+            Place::Icr => g.clock.read_icr(),
+            Place::ClockDue => u32::from(g.clock.due()),
+            Place::Rxcs => g.console.read_rxcs(),
+            Place::RxDue => u32::from(g.console.rx_due()),
+            Place::Txcs => g.console.read_txcs(),
+            Place::TxDue => u32::from(g.console.tx_due()),
+            Place::Typed => g.console.parts().waiting.bytes().len() as u32,
+            Place::KcallDue => u32::from(g.kcall_due),
+            Place::Packets => g.queue.len() as u32,
+            Place::Packet(n) => element(g.queue.as_slice(), n),
+            Place::Waits => u32::from(g.waiting),
+            Place::IsStopped => u32::from(g.halt.is_some()),
+            Place::StopCode => g.halt.map_or(0, u32::from),
+            Place::Steps => g.steps,
+            Place::ModifyFaults => u32::from(g.modify_faults),
+            Place::Long(_) => 0,
+        }
+    }
+
+    /// Puts a value there: into the clock and the console as a program writes them, where RXDB types a byte. What can't be
+    /// put is left.
+    pub fn put_into(self, g: &mut GuestState, v: u32) {
+        match self {
+            Place::R(n) if n < 16 => g.r[n] = v,
+            Place::Psl => g.psl.0 = v,
+            Place::Stack(n) if n < 5 => g.stacks[n] = v,
+            Place::P0br => g.p0br = v,
+            Place::P0lr => g.p0lr = v,
+            Place::P1br => g.p1br = v,
+            Place::P1lr => g.p1lr = v,
+            Place::Sbr => g.sbr = v,
+            Place::Slr => g.slr = v,
+            Place::Mapen => g.mapen = v == 1,
+            Place::Pcbb => g.pcbb = v,
+            Place::Scbb => g.scbb = v,
+            Place::Astlvl => g.astlvl = (v % 0x100) as u8,
+            Place::Sisr => g.sisr = (v % 0x1_0000) as u16,
+            Place::Iccs => g.clock.write_iccs(v),
+            Place::Nicr => g.clock.write_nicr(v),
+            Place::Rxcs => g.console.write_rxcs(v),
+            Place::Txcs => g.console.write_txcs(v),
+            Place::Typed => {
+                let _ = g.console.type_byte((v % 0x100) as u8);
+            }
+            Place::TxDue => g.console.sent(),
+            Place::KcallDue => g.kcall_due = v == 1,
+            Place::Packet(_) => {
+                let _ = g.queue.try_push(v);
+            }
+            Place::Waits => g.waiting = v == 1,
+            Place::Steps => g.steps = v,
+            Place::ModifyFaults => g.modify_faults = v == 1,
+            _ => {}
+        }
+    }
+}
