@@ -22,7 +22,7 @@ use Rattle.sys_lines.proofs.Showings.{shows_on, shows_same, shows_then}
 use Rattle.sys_lines.specs.Showing.{IsShowing}
 use Rattle.sys_guests.specs.Layout.{guests_in}
 use Rattle.sys_lines.specs.Shows.{Shows, only_on}
-use Rattle.vm_real_guest.specs.Kept.{Kept, StandsIn, guest_in}
+use Rattle.vm_guest.specs.Kept.{Kept, StandsIn, guest_in}
 use Rattle.vm_state.specs.State.{Guest}
 use Rattle.vm_state.specs.Partition.{guest_of}
 use Rattle.vm_state.specs.declared.guest_state.GuestState.{GuestState}

@@ -6,14 +6,14 @@ ghost use Rattle.sys_lines.specs.Shows.{Shows, only_on};
 ghost use Rattle.sys_objects.specs.Condition.{IsGuest};
 ghost use Rattle.sys_rounds.specs.Bytes.{dump_on};
 ghost use Rattle.sys_rounds.specs.Dump.{dump_of};
-ghost use Rattle.vm_real_guest.specs.Kept.{StandsIn};
+ghost use Rattle.vm_guest.specs.Kept.{StandsIn};
 ghost use Rattle.vm_state.specs.Partition.{guest_of};
 
 use crate::dumps::dump;
 use sys_lines::Marks;
 use sys_objects::GuestRow;
 use vax_hw::Hardware;
-use vm_real_guest::Guest;
+use vm_guest::Guest;
 use vm_state::GuestState;
 use vv_base::Name;
 use vv_io::{Line, LineFault};

@@ -4,7 +4,7 @@ use Rattle.std.specs.Prelude.{Vec}
 use Rattle.std.specs.declared.alloc.Global.{Global}
 use Rattle.vax_hw.specs.Machine.{Machine}
 use Rattle.vm_console.specs.Kept.{Keeps}
-use Rattle.vm_real_guest.specs.Kept.{Kept}
+use Rattle.vm_guest.specs.Kept.{Kept}
 use Rattle.vm_state.specs.State.{Guest}
 use Rattle.vv_io.specs.Lines.{Seen}
 use Rattle.sys_events.proofs.Seats.{disconnected, same_consoles, same_units, still_server}

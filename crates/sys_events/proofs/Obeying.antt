@@ -4,7 +4,7 @@ use Rattle.std.specs.Prelude.{Vec}
 use Rattle.std.specs.declared.alloc.Global.{Global}
 use Rattle.vax_hw.specs.Machine.{Machine}
 use Rattle.vm_console.specs.Kept.{Keeps}
-use Rattle.vm_real_guest.specs.Kept.{Kept}
+use Rattle.vm_guest.specs.Kept.{Kept}
 use Rattle.vm_state.specs.State.{Guest}
 use Rattle.vv_io.specs.Lines.{Seen}
 use Rattle.sys_events.proofs.Leading.{kernel_holds, leads_none, leads_same, leads_served, leads_shown, leads_started, leads_then, leads_turned, server_holds}

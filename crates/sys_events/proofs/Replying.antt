@@ -3,7 +3,7 @@ use Rattle.std.proofs.Common.{ℕ, ◌≡◌, ◌<◌, ◌≤◌, List, [], ◌�
 use Rattle.std.specs.Prelude.{All, filter}
 use Rattle.vv_class.specs.Class.{does_flow}
 use Rattle.vv_io.specs.Lines.{Seen}
-use Rattle.vm_real_guest.specs.Kept.{Kept}
+use Rattle.vm_guest.specs.Kept.{Kept}
 use Rattle.sys_events.proofs.Lists.{get_past, all_get}
 use Rattle.sys_events.proofs.Telling.{parts, told_then}
 use Rattle.sys_events.specs.Saying.{answers, audits, one_put, puts_on, runs, show_lines}

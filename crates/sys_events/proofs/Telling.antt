@@ -6,7 +6,7 @@ use Rattle.std.proofs.lemmas.List.Elements.{filter_more}
 use Rattle.vv_class.specs.declared.class.AccessClass.{AccessClass}
 use Rattle.vv_class.specs.Class.{does_flow}
 use Rattle.vv_io.specs.Lines.{Seen}
-use Rattle.vm_real_guest.specs.Kept.{Kept}
+use Rattle.vm_guest.specs.Kept.{Kept}
 use Rattle.sys_events.specs.Saying.{guest_line, guest_text, one_put, puts_on, runs}
 use Rattle.sys_guests.specs.Layout.{guests_in}
 use Rattle.sys_lines.proofs.Showings.{shows_same, shows_then}

@@ -9,7 +9,7 @@ use Rattle.sys_rounds.specs.Events.{audit_puts, said_on, taken_puts}
 use Rattle.sys_rounds.specs.State.{Put}
 use Rattle.sys_server.specs.Replies.{ended, object_text, reply_of, running_text, shown_lines}
 use Rattle.sys_server.specs.declared.command.Verdict.{Verdict}
-use Rattle.vm_real_guest.specs.Kept.{Kept}
+use Rattle.vm_guest.specs.Kept.{Kept}
 
 -- a text, in one put
 abbrev pub one_put : ℕ → List ℕ → List Put

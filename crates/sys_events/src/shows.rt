@@ -10,7 +10,7 @@ use crate::consoles::terminal_at;
 use crate::texts::{guest_text, printer_text, volume_text};
 use sys_lines::{Marks, show_whole};
 use sys_objects::{Config, GuestRow, PrinterRow, Terminal, VolumeRow};
-use vm_real_guest::Guest;
+use vm_guest::Guest;
 use vv_base::Text;
 use vv_class::flows;
 use vv_io::Line;

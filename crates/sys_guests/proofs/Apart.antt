@@ -6,7 +6,7 @@ use Rattle.std.proofs.lemmas.List.Sums.{sum_by-cons}
 use Rattle.std.specs.List.{All, AllPairs, sum_by}
 use Rattle.sys_objects.specs.declared.records.GuestRow.{GuestRow}
 use Rattle.sys_guests.specs.Layout.{ArePlaced, LiesApart, Range, memory_of, ranges, tables_of}
-use Rattle.vm_real_guest.specs.Kept.{Kept}
+use Rattle.vm_guest.specs.Kept.{Kept}
 
 -- pages one behind another, from a page on and up to a limit
 abbrev Follow : (from limit : ℕ) → List Range → Type 0

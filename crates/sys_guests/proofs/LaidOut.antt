@@ -6,8 +6,8 @@ use Rattle.std.specs.List.{sum_by}
 use Rattle.sys_guests.specs.Layout.{ArePlaced, IsPlaced}
 use Rattle.sys_objects.specs.declared.records.GuestRow.{GuestRow}
 use Rattle.vm_bursts.specs.Guarded.{OnlyBoth}
-use Rattle.vm_real_guest.specs.Kept.{Kept}
-use Rattle.vm_real_guest.specs.Laws.{SharesPart}
+use Rattle.vm_guest.specs.Kept.{Kept}
+use Rattle.vm_guest.specs.Laws.{SharesPart}
 use Rattle.vm_shadow.specs.StandsFor.{Serves}
 use Rattle.vm_state.specs.State.{HasPlace}
 

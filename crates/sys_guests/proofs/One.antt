@@ -8,8 +8,8 @@ use Rattle.sys_guests.specs.Layout.{AreInMachine, OnlyGuests}
 use Rattle.sys_objects.specs.declared.records.GuestRow.{GuestRow}
 use Rattle.sys_rounds.specs.Guests.{reset}
 use Rattle.vm_bursts.specs.Guarded.{OnlyBoth}
-use Rattle.vm_real_guest.proofs.Sharing.{stands_elsewhere}
-use Rattle.vm_real_guest.specs.Kept.{Becomes, Kept, StandsIn, Turns, guest_in}
+use Rattle.vm_guest.proofs.Sharing.{stands_elsewhere}
+use Rattle.vm_guest.specs.Kept.{Becomes, Kept, StandsIn, Turns, guest_in}
 use Rattle.vm_shadow.specs.Stands.{Shadowed}
 use Rattle.vm_state.specs.Partition.{part}
 use Rattle.vm_state.specs.Start.{started}

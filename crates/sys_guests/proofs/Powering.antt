@@ -20,8 +20,8 @@ use Rattle.sys_lines.proofs.Lists.{found_here, found_later, from_on}
 use Rattle.sys_objects.specs.declared.records.GuestRow.{GuestRow}
 use Rattle.sys_rounds.specs.Guests.{powered}
 use Rattle.sys_rounds.specs.Places.{beside_with, place_of}
-use Rattle.vm_real_guest.proofs.Sharing.{stands_elsewhere}
-use Rattle.vm_real_guest.specs.Kept.{Becomes, IsNew, Kept, StandsIn, guest_in}
+use Rattle.vm_guest.proofs.Sharing.{stands_elsewhere}
+use Rattle.vm_guest.specs.Kept.{Becomes, IsNew, Kept, StandsIn, guest_in}
 use Rattle.vm_shadow.proofs.Filling.{byte_apart}
 use Rattle.vm_shadow.proofs.Writes.{part_same}
 use Rattle.vm_shadow.specs.StandsFor.{Serves}

@@ -15,8 +15,8 @@ use Rattle.vm_console.proofs.Kept.{kept_whole}
 use Rattle.vm_console.specs.Appends.{Appends}
 use Rattle.vm_console.specs.Console.{ConsoleState, after_typed}
 use Rattle.vm_console.specs.Kept.{Keeps, MayKeep, empty}
-use Rattle.vm_real_guest.specs.Kept as kept
-use Rattle.vm_real_guest.specs.Kept.{Kept, StandsIn, Turns, guest_in, with_line}
+use Rattle.vm_guest.specs.Kept as kept
+use Rattle.vm_guest.specs.Kept.{Kept, StandsIn, Turns, guest_in, with_line}
 use Rattle.vm_state.proofs.Steps.{shows_few, steps_keep}
 use Rattle.vm_state.specs.Run.{Run, after_step, after_steps, no_steps}
 use Rattle.vm_state.specs.State.{Guest, State, state_of}

@@ -9,7 +9,7 @@ use Rattle.sys_rounds.specs.Events.{message_of}
 use Rattle.sys_rounds.specs.Guests.{alone, reset}
 use Rattle.sys_rounds.specs.Slices.{Slice}
 use Rattle.sys_rounds.specs.Places.{changed}
-use Rattle.vm_real_guest.specs.Kept.{Kept}
+use Rattle.vm_guest.specs.Kept.{Kept}
 use Rattle.vm_state.specs.Run.{Tally}
 use Rattle.vm_state.specs.State.{Guest}
 use Rattle.vm_stepping.specs.Made.{steps_in, tally_of}

@@ -5,7 +5,7 @@ use Rattle.std.specs.List.{AllPairs, sum_by}
 use Rattle.sys_objects.specs.Condition.{IsConfig}
 use Rattle.sys_objects.specs.declared.records.Config.{Config}
 use Rattle.sys_objects.specs.declared.records.GuestRow.{GuestRow}
-use Rattle.vm_real_guest.specs.Kept.{Kept, StandsIn, guest_in}
+use Rattle.vm_guest.specs.Kept.{Kept, StandsIn, guest_in}
 use Rattle.vm_state.specs.State.{Guest}
 
 -- the guest of a row, with its memory and its tables from these pages on

@@ -5,7 +5,7 @@ use Rattle.sys_guests.specs.Layout.{IsPlaced}
 use Rattle.sys_objects.specs.declared.records.GuestRow.{GuestRow}
 use Rattle.sys_rounds.specs.Guests.{powered}
 use Rattle.sys_rounds.specs.Places.{beside_with, place_of}
-use Rattle.vm_real_guest.specs.Kept.{Becomes, Kept, StandsIn, guest_in}
+use Rattle.vm_guest.specs.Kept.{Becomes, Kept, StandsIn, guest_in}
 use Rattle.vm_state.specs.Start.{started}
 
 -- whether an image with its place doesn't fit the guest's memory

@@ -2,7 +2,7 @@ use sys_lines::Marks;
 use sys_objects::Config;
 use sys_server::ServerState;
 use vm_console::KeptPort;
-use vm_real_guest::Guest;
+use vm_guest::Guest;
 
 /// What a guest shows in 100,000 steps at most, in bytes: 14 a step.
 pub const MOST_SHOWN: usize = 1_400_000;

@@ -5,13 +5,13 @@ ghost use Rattle.sys_guests.specs.Loads.{LoadsOne, MemoryAlone, StartsIf, first_
 ghost use Rattle.sys_objects.specs.Condition.{IsGuest};
 ghost use Rattle.sys_rounds.specs.Guests.{powered};
 ghost use Rattle.sys_rounds.specs.Places.{beside_with};
-ghost use Rattle.vm_real_guest.specs.Kept.{StandsIn};
+ghost use Rattle.vm_guest.specs.Kept.{StandsIn};
 
 use crate::image::load_image;
 use std::alloc::Global;
 use sys_objects::GuestRow;
 use vax_hw::Hardware;
-use vm_real_guest::Guest;
+use vm_guest::Guest;
 use vv_base::NoMemory;
 
 /// Machine pages of each guest's real tables.

@@ -1,12 +1,12 @@
 ghost use Rattle.std.specs.Prelude.{◌≡◌, ◌≤◌, ◌<◌, All, vec_len};
 ghost use Rattle.sys_guests.specs.Changes.{AdvancesOne, StartsOne, StopShows, TurnsOne};
 ghost use Rattle.sys_rounds.specs.Guests.{commanded_to_stop, typed};
-ghost use Rattle.vm_real_guest.specs.Kept.{StandsIn};
+ghost use Rattle.vm_guest.specs.Kept.{StandsIn};
 
 use crate::kernel::MOST_SHOWN;
 use vax_hw::Hardware;
 use vm_console::KeptPort;
-use vm_real_guest::{Counts, Guest};
+use vm_guest::{Counts, Guest};
 
 /// A guest's turn: its place, and how many steps it takes.
 #[derive(Clone, Copy, Debug, PartialEq, Eq)]

@@ -1,39 +1,40 @@
 -- What the code's records stand for.
-use Rattle.std.specs.Prelude.{ℕ, ◌≡◌, ◌≤◌, ◌*◌, List, slice_index_or}
-use Rattle.std.specs.List.{sum_by}
-use Rattle.vax_linear.specs.Machine.{Machine}
-use Rattle.sys_objects.specs.declared.records.GuestRow.{GuestRow}
-use Rattle.sys_plain_rounds.specs.Places.{changed}
-use Rattle.sys_plain_rounds.specs.Round.{alone}
-use Rattle.sys_plain_rounds.specs.Slices.{Slice}
-use Rattle.sys_system.specs.Calls.{Retires}
-use Rattle.sys_system.specs.Kernel as kernel
-use Rattle.sys_system.specs.Layout.{AreLaidOut, guests_in}
-use Rattle.sys_system.specs.declared.turns.Turn.{Turn}
+use Rattle.std.specs.Prelude.{ℕ, ◌≡◌, ◌<◌, length, take, drop, None, IfSome, All}
+use Rattle.sys_guests.specs.Kernel.{AreUnits}
+use Rattle.sys_system.specs.System.{IsSystem, System}
+use Rattle.sys_system.specs.System as systems
+use Rattle.sys_system.specs.declared.parts.Parts.{Parts}
+use Rattle.sys_system.specs.declared.system.System.TheInside.{Inside}
 use Rattle.sys_system.specs.declared.turns.Turns.{Turns}
-use Rattle.vm_guest.specs.Kept.{steps_in, tally_of}
-use Rattle.vm_guest.specs.Placed.{Placed}
-use Rattle.vm_guest.specs.declared.counts.Counts.{Counts}
-use Rattle.vm_plain.specs.Partition.{IsApart, guest_of}
 
-abbrev pub slice_of : Turn → Slice
-slice_of t = record { guest = t.guest; steps = t.steps }
-
-abbrev pub turns_of : Turns → kernel.Turns
+abbrev pub turns_of : Turns → systems.Turns
 turns_of t = record { left = t.left.items; from = t.from; is_begun = t.is_begun }
 
--- guests that are laid out for rows that fit the machine
-abbrev pub AreInMachine : List Placed → Type 0
-AreInMachine guests = (rows : List GuestRow) × AreLaidOut rows guests × (sum_by (λ row. row.pages) rows ≤ 16384)
+abbrev pub system_of : Parts → System
+system_of s = record {
+  config = s.kernel.config;
+  connected = take (length s.kernel.config.terminals) s.kernel.server.at;
+  mounts = take (length s.kernel.config.guests) s.kernel.server.mounts;
+  guests = s.kernel.guests.items;
+  volumes = s.volumes;
+  turns = turns_of s.turns;
+  rounds = s.rounds;
+  counts = s.counts;
+  marks = s.kernel.marks;
+  drives = s.drives;
+}
 
--- A guest's turn was taken, alone: its bytes are kept, its steps counted; of the machine's memory only its own changed.
-pub record Advanced (guests guests' : List Placed) (m m' : Machine) (turn : Turn) (shown : List ℕ) (counts : Counts) : Type 0 where
-  pub guest : Placed
-  pub read : guest ≡ slice_index_or guests turn.guest guest
-  pub now : guests_in m'.memory guests' ≡ changed (λ g. (alone turn.steps g).guest) (guests_in m.memory guests) turn.guest
-  pub laid_out : (rows : List GuestRow) → AreLaidOut rows guests → AreLaidOut rows guests'
-  pub shown_is : shown ≡ (alone turn.steps (guest_of m.memory guest.state)).shown
-  pub counts_are : tally_of counts ≡ (alone turn.steps (guest_of m.memory guest.state)).tally
-  pub steps : steps_in counts ≡ turn.steps
-  pub retires : Retires m m' (tally_of counts)
-  pub outside : IsApart (512 * guest.state.base) (512 * guest.state.pages) m.memory m'.memory
+-- beyond the terminals and the guests there is nothing
+pub record IsInside (s : Parts) : Type 0 where
+  pub system : IsSystem (system_of s)
+  pub terminals : length s.kernel.server.at ≡ 32
+  pub guests : length s.kernel.server.mounts ≡ 16
+  pub consoles : All (λ o. IfSome o (λ g. g < length s.kernel.config.guests)) s.kernel.server.at
+  pub beyond : All (λ o. o ≡ None) (drop (length s.kernel.config.terminals) s.kernel.server.at)
+  pub mounts : All (AreUnits (length s.kernel.config.volumes)) s.kernel.server.mounts
+
+abbrev pub seen_of : Inside → System
+seen_of s = system_of s.parts
+
+abbrev pub IsKept : Inside → Type 0
+IsKept s = IsInside s.parts

@@ -1,6 +1,8 @@
 pub mod Calls
+pub mod Devices
+pub mod Faults
+pub mod Given
 pub mod Held
-pub mod Inside
-pub mod Kernel
-pub mod Layout
-pub mod Shows
+pub mod Powers
+pub mod Seats
+pub mod System

@@ -1,6 +1,6 @@
 ghost use Rattle.std.specs.Prelude.{◌≡◌, ◌<◌, ◌+◌, ◌^◌};
-ghost use Rattle.sys_plain_rounds.specs.Counts.{added};
-ghost use Rattle.vm_guest.specs.Kept.{steps_in, tally_of};
+ghost use Rattle.sys_rounds.specs.Counts.{added};
+ghost use Rattle.vm_stepping.specs.Made.{steps_in, tally_of};
 
 use vm_guest::Counts;
 

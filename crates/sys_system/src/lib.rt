@@ -1,19 +1,17 @@
-//! Several guests on the one machine: rounds, slices and devices.
+//! Several guests on the one machine: rounds with their events, slices and transfers, and the devices of the outside.
 #![tactic(auto)]
 
-mod advancing;
+mod assembling;
 mod consoles;
 mod counting;
-mod dumps;
-mod laws;
-mod lines;
+mod given;
+mod parts;
 mod power;
 mod rounds;
 mod system;
 mod turns;
 
-pub use laws::guests_lie_apart;
-pub use lines::Device;
+pub use parts::Device;
 pub use power::PowerFault;
+pub use sys_guests::Turn;
 pub use system::System;
-pub use turns::Turn;

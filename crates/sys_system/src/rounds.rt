@@ -1,50 +1,61 @@
-ghost use Rattle.std.specs.Prelude.{◌≡◌, ◌<◌, ◌*◌, All, false, length, map, vec_len};
-ghost use Rattle.sys_plain_rounds.specs.Slices.{AreQuanta};
-ghost use Rattle.sys_system.specs.Calls.{MakesRound};
-ghost use Rattle.sys_system.specs.Held.{slice_of};
+ghost use Rattle.std.specs.Prelude.{◌≡◌, ◌<◌, ◌+◌, All, false, length, map, vec_len};
+ghost use Rattle.sys_system.specs.Calls.{AreOf, MakesRound};
+ghost use Rattle.sys_system.specs.System.{IsSystem, StandsIn, turn_of};
+ghost use Rattle.sys_rounds.specs.Slices.{AreQuanta};
 
 use crate::system::System;
-use crate::turns::Turn;
-use vax_linear::Hardware;
+use sys_guests::Turn;
+use sys_script::Event;
+use vax_hw::Hardware;
 use vv_io::Line;
 
 impl System {
-    /// Makes a round, by slices of the guests in turn.
-    pub fn make_round<H: Hardware>(&mut self, machine: &mut H, lines: &mut Vec<Box<dyn Line>>)
+    /// Makes a round with these events, by slices of the guests in turn.
+    pub fn make_round<H: Hardware>(
+        &mut self,
+        machine: &mut H,
+        lines: &mut Vec<Box<dyn Line>>,
+        events: &[Event],
+    )
         requires rests { self.old.turns.is_begun ≡ false }
         requires few { self.old.rounds < 4000000000 }
+        requires stands { StandsIn (H.machine machine.old).memory self.old }
         requires lines { vec_len lines.old ≡ 32 }
-        requires size { length (H.machine machine.old).memory ≡ 512 * 32768 }
-        ensures makes { MakesRound self.old self.new (H.machine machine.old) (H.machine machine.new) (map (λ b. seen b) lines.old.items) (map (λ b. seen b) lines.new.items) }
+        requires events { AreOf (self.old.rounds + 1) events.now }
+        ensures makes { MakesRound events.now (H.machine machine.old) self.old (map (λ b. seen b) lines.old.items) (H.machine machine.new) self.new (map (λ b. seen b) lines.new.items) }
         ensures len { vec_len lines.new ≡ vec_len lines.old }
+        ensures holds { IsSystem self.new }
     {
-        self.begin_round();
+        self.begin_round(machine, lines, events);
         while let Some(turn) = self.next() {
             self.slice(machine, lines, turn.guest, turn.steps);
         }
-        self.end_round();
+        self.end_round(machine, lines);
     }
 
-    /// Makes a round by turns in any order, in which each guest takes its quantum.
+    /// Makes a round with these events, by turns in any order, in which each guest takes its quantum.
     pub fn take_turns<H: Hardware>(
         &mut self,
         machine: &mut H,
         lines: &mut Vec<Box<dyn Line>>,
+        events: &[Event],
         turns: &[Turn],
     )
         requires rests { self.old.turns.is_begun ≡ false }
         requires few { self.old.rounds < 4000000000 }
+        requires stands { StandsIn (H.machine machine.old).memory self.old }
         requires lines { vec_len lines.old ≡ 32 }
-        requires size { length (H.machine machine.old).memory ≡ 512 * 32768 }
+        requires events { AreOf (self.old.rounds + 1) events.now }
         requires there { All (λ turn. turn.guest < length self.old.guests) turns.now }
-        requires quanta { AreQuanta (map slice_of turns.now) 0 self.old.config.guests }
-        ensures makes { MakesRound self.old self.new (H.machine machine.old) (H.machine machine.new) (map (λ b. seen b) lines.old.items) (map (λ b. seen b) lines.new.items) }
+        requires quanta { AreQuanta (map turn_of turns.now) 0 self.old.config.guests }
+        ensures makes { MakesRound events.now (H.machine machine.old) self.old (map (λ b. seen b) lines.old.items) (H.machine machine.new) self.new (map (λ b. seen b) lines.new.items) }
         ensures len { vec_len lines.new ≡ vec_len lines.old }
+        ensures holds { IsSystem self.new }
     {
-        self.begin_round();
+        self.begin_round(machine, lines, events);
         for turn in turns {
             self.slice(machine, lines, turn.guest, turn.steps);
         }
-        self.end_round();
+        self.end_round(machine, lines);
     }
 }

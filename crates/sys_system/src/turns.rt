@@ -1,17 +1,11 @@
 ghost use Rattle.std.specs.Prelude.{◌≡◌, ◌<◌, ◌≤◌, ◌+◌, ◌-◌, ◌*◌, false, nat_lt, IfOk, length, option_map, position, drop, replicate, slice_index, vec_len};
-ghost use Rattle.sys_system.specs.Kernel.{after_slice, all_turns, next_guest, next_turn};
-ghost use Rattle.sys_system.specs.Held.{slice_of, turns_of};
+ghost use Rattle.sys_system.specs.System.{after_slice, all_turns, next_guest, next_turn, turn_of};
+ghost use Rattle.sys_system.specs.Held.{turns_of};
 
 use std::alloc::Global;
+use sys_guests::Turn;
 use sys_objects::GuestRow;
 use vv_base::NoMemory;
-
-/// A guest's turn: its place, and how many steps it takes.
-#[derive(Clone, Copy, Debug, PartialEq, Eq)]
-pub struct Turn {
-    pub guest: u8,
-    pub steps: u32,
-}
 
 /// The turns of a round.
 #[derive(Drop)]
@@ -51,7 +45,7 @@ impl Turns {
     pub fn take(&mut self, turn: Turn)
         requires there { turn.guest < vec_len self.old.left }
         requires left { turn.steps ≤ slice_index self.old.left.items turn.guest }
-        ensures { turns_of self.new ≡ after_slice (turns_of self.old) (slice_of turn) }
+        ensures { turns_of self.new ≡ after_slice (turns_of self.old) (turn_of turn) }
     {
         let place = turn.guest as usize;
         self.left[place] -= turn.steps;
@@ -74,7 +68,7 @@ impl Turns {
     pub fn next(&self, slice: u32) -> Option<Turn>
         requires from { self.now.from ≤ vec_len self.now.left }
         requires few { vec_len self.now.left ≤ 16 }
-        ensures { option_map slice_of result ≡ next_turn slice (turns_of self.now) }
+        ensures { option_map turn_of result ≡ next_turn slice (turns_of self.now) }
     {
         if !self.is_begun {
             return None;

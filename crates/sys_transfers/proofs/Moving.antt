@@ -8,7 +8,7 @@ use Rattle.std.proofs.lemmas.Option.{get_or_from_slice_get, slice_get_within}
 use Rattle.vv_base.specs.Bytes.{long_at}
 use Rattle.vax_arch.specs.Walk.{is_past}
 use Rattle.vax_hw.specs.Machine.{Machine}
-use Rattle.vm_real_guest.specs.Kept.{Becomes, Kept, StandsIn, guest_in, with_bytes}
+use Rattle.vm_guest.specs.Kept.{Becomes, Kept, StandsIn, guest_in, with_bytes}
 use Rattle.vm_state.specs.Partition.{part}
 use Rattle.vm_state.proofs.Parts.{part_long}
 use Rattle.sys_objects.specs.declared.records.GuestRow.{GuestRow}

@@ -4,7 +4,7 @@ use Rattle.std.specs.Prelude.{IfSome}
 use Rattle.std.proofs.lemmas.List.{at_drop_all, at_drop_more}
 use Rattle.vax_hw.specs.Machine.{Machine}
 use Rattle.vv_io.specs.Lines.{Seen}
-use Rattle.vm_real_guest.specs.Kept.{Becomes, Kept, StandsIn, Turns, guest_in}
+use Rattle.vm_guest.specs.Kept.{Becomes, Kept, StandsIn, Turns, guest_in}
 use Rattle.vm_state.specs.Allowed.{IsPacket}
 use Rattle.vm_state.specs.State.{Guest, state_of}
 use Rattle.sys_lines.specs.Shows.{Shows}

@@ -4,7 +4,7 @@ use Rattle.std.specs.Prelude.{IfSome, nat_lt}
 use Rattle.vax_arch.specs.Walk.{is_past}
 use Rattle.std.proofs.lemmas.Bool.{ne_eqb}
 use Rattle.vax_hw.specs.Machine.{Machine}
-use Rattle.vm_real_guest.specs.Kept.{Becomes, Kept, StandsIn, guest_in}
+use Rattle.vm_guest.specs.Kept.{Becomes, Kept, StandsIn, guest_in}
 use Rattle.vm_state.specs.State.{Guest}
 use Rattle.sys_objects.specs.declared.records.Config.{Config}
 use Rattle.sys_objects.specs.declared.records.GuestRow.{GuestRow}

@@ -11,7 +11,7 @@ use Rattle.sys_rounds.specs.Transfers.{Move, Packet, Prints, Reads, Refused, Ser
 use Rattle.sys_store.specs.Blocks.{blocks_of, with_block}
 use Rattle.sys_store.specs.Job.{job_text}
 use Rattle.sys_transfers.specs.declared.packets.Request.{Request}
-use Rattle.vm_real_guest.specs.Kept.{Becomes, Kept, guest_in}
+use Rattle.vm_guest.specs.Kept.{Becomes, Kept, guest_in}
 use Rattle.vm_state.specs.State.{Guest}
 
 -- each mount names a volume

@@ -11,7 +11,7 @@ use Rattle.sys_objects.specs.declared.records.Mount.{Mount}
 use Rattle.sys_rounds.specs.Guests.{with_no_queue}
 use Rattle.sys_rounds.specs.State.{bytes_on}
 use Rattle.sys_rounds.specs.Transfers.{Served, served}
-use Rattle.vm_real_guest.specs.Kept.{Becomes, Kept, guest_in}
+use Rattle.vm_guest.specs.Kept.{Becomes, Kept, guest_in}
 use Rattle.vm_state.specs.State.{Guest}
 
 -- all packets that wait, taken from the queue first

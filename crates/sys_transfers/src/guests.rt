@@ -4,7 +4,7 @@ ghost use Rattle.sys_guests.specs.Layout.{AreInMachine};
 ghost use Rattle.sys_objects.specs.Condition.{IsConfig, IsPrinter};
 ghost use Rattle.sys_transfers.specs.Serves.{AreMounted};
 ghost use Rattle.sys_transfers.specs.ServesAll.{ServesAt, ServesGuest};
-ghost use Rattle.vm_real_guest.specs.Kept.{StandsIn};
+ghost use Rattle.vm_guest.specs.Kept.{StandsIn};
 
 use crate::printing::print_job_on;
 use crate::serving::serve;
@@ -12,7 +12,7 @@ use sys_lines::Marks;
 use sys_objects::{Config, GuestRow, Mount};
 use sys_store::Volumes;
 use vax_hw::Hardware;
-use vm_real_guest::Guest;
+use vm_guest::Guest;
 use vv_io::Line;
 
 /// A guest's packets are served in the order of its queue, and none waits then. Its printer is shown each job.

@@ -3,13 +3,13 @@ ghost use Rattle.sys_rounds.specs.Guests.{bytes_at};
 ghost use Rattle.sys_store.specs.Job.{job_text};
 ghost use Rattle.sys_rounds.specs.Transfers.{to_print, to_read, to_write};
 ghost use Rattle.sys_transfers.specs.Serves.{Carries, PrintsOf, packet_of};
-ghost use Rattle.vm_real_guest.specs.Kept.{StandsIn, guest_in};
+ghost use Rattle.vm_guest.specs.Kept.{StandsIn, guest_in};
 
 use crate::packets::{Request, is_outside};
 use sys_objects::{GuestRow, Mount};
 use sys_store::{Volumes, print_job};
 use vax_hw::Hardware;
-use vm_real_guest::Guest;
+use vm_guest::Guest;
 use vv_base::Text;
 
 /// The statuses of a packet: it was moved; nothing stands at the unit; what does is mounted for reading; the volume has no such

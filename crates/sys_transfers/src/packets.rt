@@ -2,10 +2,10 @@ ghost use Rattle.std.specs.Prelude.{◌≡◌, ◌+◌, ◌*◌, ◌≤◌, ◌<
 ghost use Rattle.sys_rounds.specs.Transfers.{packet_at};
 ghost use Rattle.sys_transfers.specs.Serves.{packet_of};
 ghost use Rattle.vax_arch.specs.Walk.{is_past};
-ghost use Rattle.vm_real_guest.specs.Kept.{StandsIn, guest_in};
+ghost use Rattle.vm_guest.specs.Kept.{StandsIn, guest_in};
 
 use vax_hw::Hardware;
-use vm_real_guest::Guest;
+use vm_guest::Guest;
 use vv_base::get_u32;
 
 /// A packet's longwords but for the last, which is the status.

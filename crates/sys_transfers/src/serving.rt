@@ -1,14 +1,14 @@
 ghost use Rattle.std.specs.Prelude.{◌≡◌, ◌+◌, ◌*◌, ◌≤◌, None, slice_index_or};
 ghost use Rattle.sys_rounds.specs.Guests.{answered};
 ghost use Rattle.sys_transfers.specs.Serves.{AreMounted, CarriesAll, ServesOne, packet_of};
-ghost use Rattle.vm_real_guest.specs.Kept.{Becomes, StandsIn, guest_in};
+ghost use Rattle.vm_guest.specs.Kept.{Becomes, StandsIn, guest_in};
 
 use crate::moves::{print, read, write};
 use crate::packets::{Request, request_at};
 use sys_objects::{GuestRow, Mount};
 use sys_store::Volumes;
 use vax_hw::Hardware;
-use vm_real_guest::Guest;
+use vm_guest::Guest;
 use vv_base::{Text, put_u32};
 
 /// The status of a packet whose function there isn't.

@@ -1,75 +1,77 @@
--- The guest that the kernel's record and the machine's memory stand for.
-use Rattle.std.specs.Prelude.{ℕ, ◌≡◌, ◌≤◌, ◌<◌, ◌⊎◌, ◌+◌, ◌-◌, ◌*◌, ◌%◌, ◌^◌, List, ◌++◌, length, None, Err}
-use Rattle.vax_linear.specs.Machine.{Machine}
-use Rattle.vax_linear.specs.Real.{one}
-use Rattle.vax_linear.specs.declared.world.Exit.{Exit}
-use Rattle.vax_linear.specs.declared.world.Exit.TheVariants.{Arithmetic, Budget}
-use Rattle.vax_linear.specs.declared.world.World.{World}
-use Rattle.vm_guest.specs.Exits.{ended}
-use Rattle.vm_guest.specs.StandsFor.{StandsFor}
-use Rattle.vm_plain.specs.Partition.{IsApart, guest_of}
-use Rattle.vm_plain.specs.Run.{Run, Tally, after_step, after_steps}
-use Rattle.vm_plain.specs.Step.{Stepped}
-use Rattle.vm_plain.specs.declared.guest_state.GuestState.{GuestState}
-use Rattle.vm_guest.specs.declared.counts.Counts.{Counts}
+-- A guest in the machine, and what is done to it from without: a line is typed, a command starts or stops it, a transfer is
+-- made (Karger and others, IEEE TSE 17(11), 1991: virtual machines of a VMM security kernel; details are profile).
+use Rattle.std.specs.Prelude.{◌≡◌, ℕ, List, [], ◌∷◌, ◌++◌, take, drop, Option, Some, None, Bool}
+use Rattle.vv_base.specs.Bytes.{overwritten}
+use Rattle.vax_hw.specs.Machine.{Machine}
+use Rattle.vm_bursts.specs.Guarded.{OnlyBoth}
+use Rattle.vm_console.specs.Console.{ConsoleState, after_typed}
+use Rattle.vm_shadow.specs.Stands.{Shadowed}
+use Rattle.vm_shadow.specs.StandsFor.{Makes, StandsFor}
+use Rattle.vm_state.specs.Partition.{guest_of}
+use Rattle.vm_state.specs.Start.{stopped_at_first}
+use Rattle.vm_state.specs.State.{Guest, HasPlace, State, pc_of, state_of}
+use Rattle.vm_state.specs.Stops.{Commanded, stop_code, stop_text}
+use Rattle.vm_state.specs.declared.guest_state.GuestState.{GuestState}
 
--- what is loaded into the machine: VM and executive mode, and the guest's PSW
-abbrev pub world_of : GuestState → World
-world_of g = record { r = g.r; psl = record { 0 = 2 ^ 29 + 5 * 2 ^ 22 + g.psl.0 % 256 }; vmpsl = g.psl; p0br = 512 * g.base; p0lr = g.pages; p1br = 0; p1lr = 0; sbr = 0; slr = 0 }
+-- what the kernel keeps of a guest
+pub record Kept : Type 0 where
+  pub state : GuestState
+  pub shadow : Shadowed
 
-abbrev pub tally_of : Counts → Tally
-tally_of c = record { plain = c.plain; sensitive = c.sensitive; faults = c.faults; interrupts = c.interrupts; modify = c.modify; idle = c.idle; stopped = c.stopped; trail = c.trail }
+-- its shadow page tables in the machine stand for its own
+abbrev pub StandsIn : List ℕ → Kept → Type 0
+StandsIn memory k = StandsFor memory k.shadow k.state
 
--- its run so far
-abbrev pub run_of : List ℕ → GuestState → Counts → List ℕ → Run
-run_of memory g c shown = record { guest = guest_of memory g; shown = shown; tally = tally_of c }
+-- its memory and its registers
+abbrev pub guest_in : List ℕ → Kept → Guest
+guest_in memory k = guest_of memory k.state
 
--- steps of every kind
-abbrev pub steps_in : Counts → ℕ
-steps_in c = c.plain + c.sensitive + c.faults + c.interrupts + c.modify + c.idle + c.stopped
+-- a new guest, which was never started; no page is filled
+pub record IsNew (pages base tables start : ℕ) (modify_faults : Bool) (m m' : Machine) (k : Kept) : Type 0 where
+  pub state : state_of k.state ≡ stopped_at_first start modify_faults
+  pub place : HasPlace pages base start k.state
+  pub made : Makes k.state tables m m' k.shadow
 
--- a guest that runs, and whose partition is in the machine
-pub record CanRun (memory : List ℕ) (g : GuestState) : Type 0 where
-  pub inside : 512 * g.base + 512 * g.pages ≤ length memory
-  pub running : g.halt ≡ None
+-- It is this guest then; of the machine its memory and its real tables alone change.
+pub record Becomes (h : Guest) (m : Machine) (k : Kept) (m' : Machine) (k' : Kept) : Type 0 where
+  pub guest : guest_in m'.memory k' ≡ h
+  pub stands : StandsIn m'.memory k'
+  pub rest : m' ≡ record m { memory = m'.memory }
+  pub only : OnlyBoth k.shadow m.memory m'.memory
+  pub place : HasPlace k.state.pages k.state.base k.state.start k'.state
+  pub tables : k'.shadow.at ≡ k.shadow.at
 
--- what never changes of a guest
-pub record AreSame (g g' : GuestState) : Type 0 where
-  pub pages : g'.pages ≡ g.pages
-  pub base : g'.base ≡ g.base
-  pub start : g'.start ≡ g.start
-  pub modify_faults : g'.modify_faults ≡ g.modify_faults
+-- It has these registers then; it stands in every machine in which it stood.
+pub record Turns (x : State) (k k' : Kept) : Type 0 where
+  pub state : state_of k'.state ≡ x
+  pub place : HasPlace k.state.pages k.state.base k.state.start k'.state
+  pub shadow : k'.shadow ≡ k.shadow
+  pub stands : (memory : List ℕ) → StandsIn memory k → StandsIn memory k'
 
--- Why the machine stopped, with so many of so many steps left: they were used; an instruction had an arithmetic trap; or
--- one did not retire.
-abbrev pub Ended : (steps left : ℕ) → Machine → Exit → Type 0
-Ended steps left m e = ((e ≡ Budget) × (left ≡ 0)) ⊎ ((((kind : ℕ) × (e ≡ Arithmetic kind)) × (left < steps)) ⊎ ((one m ≡ Err e) × (0 < left)))
+-- typed bytes wait, as far as they fit
+abbrev pub all_typed : List ℕ → ConsoleState → ConsoleState
+all_typed [] console = console
+all_typed (b ∷ bs) console = all_typed bs (after_typed console b)
 
--- The machine made plain steps of the guest until `left` of `steps` were left, whatever was shown before.
-pub record PlainRun (m m' : Machine) (g g' : GuestState) (c c' : Counts) (steps left : ℕ) (e : Exit) : Type 0 where
-  pub same : (shown : List ℕ) → after_steps steps (run_of m.memory g c shown) ≡ after_steps left (ended e (run_of m'.memory g' c' shown))
-  pub stands : StandsFor m' (guest_of m'.memory g')
-  pub outside : IsApart (512 * g.base) (512 * g.pages) m.memory m'.memory
-  pub place : AreSame g g'
-  pub counts : steps_in c' + left ≡ steps_in c + steps
-  pub retired : (m'.retired + c.plain) % 2 ^ 64 ≡ (m.retired + c'.plain) % 2 ^ 64
-  pub fewer : left ≤ steps
-  pub trail : (m'.trail + c.trail) % 2 ^ 64 ≡ (m.trail + c'.trail) % 2 ^ 64
-  pub ended : Ended steps left m' e
+-- a line is typed, with a carriage return behind it
+abbrev pub with_line : List ℕ → State → State
+with_line text s = record s { console = all_typed (text ++ 13 ∷ []) s.console }
 
--- how much a count of 64 bits rose
-abbrev pub rise : ℕ → ℕ → ℕ
-rise before now = (now + (2 ^ 64 - before)) % 2 ^ 64
+-- one that runs, or one that stands
+abbrev pub by_halt : {A : Type 0} → Option ℕ → (running standing : A) → A
+by_halt None running standing = running
+by_halt (Some code) running standing = standing
 
--- the machine with a guest's registers
-abbrev pub loaded : Machine → GuestState → Machine
-loaded m g = record m { world = world_of g }
+-- HALT: one that runs stops with the operator's code, and says so; one that stands stays
+abbrev pub commanded_to_stop : State → State
+commanded_to_stop s = by_halt s.halt (record s { halt = Some (stop_code Commanded) }) s
 
--- the counts of a machine are numbers of 64 bits
-pub record Counted (m : Machine) : Type 0 where
-  pub retired : m.retired < 2 ^ 64
-  pub trail : m.trail < 2 ^ 64
+abbrev pub stop_message : State → List ℕ
+stop_message s = by_halt s.halt (stop_text (stop_code Commanded) (pc_of s)) []
 
--- one more step, which shows these bytes
-abbrev pub TakesStep : List ℕ → GuestState → GuestState → Counts → Counts → List ℕ → Stepped → Type 0
-TakesStep memory g g' c c' bytes s = (shown : List ℕ) → after_step (run_of memory g c shown) s ≡ run_of memory g' c' (shown ++ bytes)
+-- bytes of its memory, and others in their place
+abbrev pub bytes_at : Guest → (at size : ℕ) → List ℕ
+bytes_at g at size = take size (drop at g.memory)
+
+abbrev pub with_bytes : ℕ → List ℕ → Guest → Guest
+with_bytes at bytes g = record g { memory = overwritten g.memory at bytes }

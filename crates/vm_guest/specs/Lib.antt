@@ -1,5 +1,3 @@
-pub mod Exits
 pub mod Kept
-pub mod StandsFor
-pub mod Turn
-pub mod Placed
+pub mod Laws
+pub mod Stores

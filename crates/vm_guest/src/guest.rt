@@ -1,81 +1,158 @@
-ghost use Rattle.std.specs.Prelude.{◌≡◌, ◌≤◌, ◌<◌, ◌+◌, ◌*◌, ◌^◌, ◌⊎◌, Some, length};
-ghost use Rattle.vm_guest.specs.Kept.{AreSame};
-ghost use Rattle.vm_guest.specs.Turn.{Advances};
-ghost use Rattle.vm_plain.specs.Start.{restarted, start_state};
+ghost use Rattle.std.specs.Prelude.{◌≡◌, ◌≤◌, ◌+◌, ◌*◌, ◌⊎◌, [], IfOk, OnErr, true, length};
+ghost use Rattle.vm_console.specs.Appends.{Appends};
+ghost use Rattle.vm_guest.specs.Kept.{Becomes, IsNew, StandsIn, Turns, bytes_at, commanded_to_stop, guest_in, stop_message, with_bytes, with_line};
+ghost use Rattle.vm_state.specs.Allowed.{AreAllowed};
+ghost use Rattle.vm_state.specs.Start.{started};
+ghost use Rattle.vm_state.specs.State.{HasPlace, state_of};
+ghost use Rattle.vm_stepping.specs.Advances.{Advances};
 
-use crate::Counts;
-use crate::kernel::advance_state;
+use crate::bytes::{fetch_all, store_all};
+use crate::changes::{put_state, restart};
+use crate::typing::type_line;
+use arrayvec::ArrayVec;
+use std::alloc::Global;
 use std::marker::Model;
-use vax_linear::Hardware;
+use vax_hw::Hardware;
 use vm_console::Port;
-use vm_plain::GuestState;
+use vm_events::show_stop;
+use vm_shadow::Shadow;
+use vm_state::GuestState;
+use vm_stepping::{Counts, advance};
+use vv_base::NoMemory;
 
-/// A guest in the machine: its state, and the first of the 580 machine pages for its real tables.
+/// The stop code of a command.
+const COMMANDED: u8 = 0x02;
+
+/// A guest on its private virtual VAX: what the kernel keeps of it, with its shadow page tables in the machine.
 #[derive(Drop)]
 pub struct Guest {
     state: GuestState,
-    tables: u32,
+    shadow: Shadow,
 }
 
 impl Model for Guest {
-    ghost use Rattle.vm_guest.specs.Placed.{Placed};
+    ghost use Rattle.vm_guest.specs.Kept.{Kept};
 
-    ghost Value = { Placed };
+    ghost Value = { Kept };
 
-    ghost view = { λ g. record { state = g.state; tables = g.tables } };
+    ghost view = { λ g. record { state = g.state; shadow = g.shadow } };
 }
 
 impl Guest {
-    /// A guest that was never started, of 64 to 2,048 pages from the machine's page `base` on, with its tables' pages
-    /// from `tables` on.
-    pub fn new(pages: u32, base: u32, tables: u32, start: u32, modify_faults: bool) -> Guest
+    /// A guest that was never started, of 64 to 2,048 pages from the machine's page `base` on, with its real tables in the 580
+    /// pages from `tables` on. All its memory is taken here; `NoMemory` leaves the machine as it was.
+    pub fn new<H: Hardware>(
+        alloc: Global,
+        machine: &mut H,
+        pages: u32,
+        base: u32,
+        tables: u32,
+        start: u32,
+        modify_faults: bool,
+    ) -> Result<Guest, NoMemory>
         requires some { 64 ≤ pages }
         requires few { pages ≤ 2048 }
-        requires memory { base + pages ≤ 32768 }
-        requires tables { tables + 580 ≤ 32768 }
+        requires low { base + pages ≤ 32768 }
+        requires partition { 512 * (base + pages) ≤ length (H.machine machine.old).memory }
+        requires room { 512 * (tables + 580) ≤ length (H.machine machine.old).memory }
         requires apart { (base + pages ≤ tables) ⊎ (tables + 580 ≤ base) }
-        ensures { result ≡ record { state = record (start_state pages base start modify_faults) { halt = Some 0 }; tables = tables } }
+        ensures ok { IfOk result (λ k. IsNew pages base tables start modify_faults (H.machine machine.old) (H.machine machine.new) k) }
+        ensures err { OnErr result (H.machine machine.new ≡ H.machine machine.old) }
     {
-        Guest {
-            state: GuestState::new(pages, base, start, modify_faults),
-            tables,
-        }
+        let state = GuestState::new(pages, base, start, modify_faults);
+        let shadow = Shadow::new(alloc, machine, &state, tables)?;
+        Ok(Guest { state, shadow })
     }
 
-    /// Its state.
+    /// Its registers.
     pub fn state(&self) -> &GuestState
         ensures { result.now ≡ self.now.state }
     {
         &self.state
     }
 
-    /// It is in another state, with the memory that it has.
-    pub fn set_state(&mut self, state: &GuestState)
-        requires { AreSame self.old.state state.now }
-        ensures { self.new ≡ record self.old { state = state.now } }
+    /// It has other registers, each with a value that it may have, and the memory that it has.
+    pub fn set_state<H: Hardware>(&mut self, machine: &mut H, state: GuestState)
+        requires stands { StandsIn (H.machine machine.old).memory self.old }
+        requires allowed { AreAllowed (512 * state.pages) (state_of state) }
+        requires place { HasPlace self.old.state.pages self.old.state.base self.old.state.start state }
+        ensures { Becomes (record (guest_in (H.machine machine.old).memory self.old) { state = state_of state }) (H.machine machine.old) self.old (H.machine machine.new) self.new }
     {
-        self.state = *state;
+        put_state(machine, &mut self.shadow, &mut self.state, state);
     }
 
-    /// It runs from its start address on, as one that starts.
-    pub fn start(&mut self)
-        ensures { self.new ≡ record self.old { state = restarted self.old.state } }
+    /// It runs from its start address on, as one that starts. Its memory stays; packets that wait are forgotten.
+    pub fn start<H: Hardware>(&mut self, machine: &mut H)
+        requires { StandsIn (H.machine machine.old).memory self.old }
+        ensures { Becomes (record (guest_in (H.machine machine.old).memory self.old) { state = started self.old.state.start self.old.state.modify_faults }) (H.machine machine.old) self.old (H.machine machine.new) self.new }
     {
-        self.state.reset();
+        restart(machine, &mut self.shadow, &mut self.state);
     }
 
-    /// It takes exactly so many steps; answers how many of each kind.
+    /// Stops it by a command, if it runs, and shows that.
+    pub fn stop<T: Port>(&mut self, port: &mut T)
+        ensures turns { Turns (commanded_to_stop (state_of self.old.state)) self.old self.new }
+        ensures shown { Appends T.may port.old port.new (stop_message (state_of self.old.state)) }
+    {
+        match self.state.halt {
+            None => {
+                show_stop(&self.state, port, COMMANDED);
+                self.state.halt = Some(COMMANDED);
+            }
+            Some(_) => {}
+        }
+    }
+
+    /// It takes exactly so many steps, and its port is shown what they show. Answers how many of each kind.
     pub fn advance<H: Hardware, T: Port>(
         &mut self,
         machine: &mut H,
         port: &mut T,
         steps: u32,
     ) -> Counts
-        requires inside { 512 * self.old.state.base + 512 * self.old.state.pages ≤ length (H.machine machine.old).memory }
-        requires place { 512 * self.old.state.base < 2 ^ 32 }
-        ensures advances { Advances T.may port.old port.new (H.machine machine.old) (H.machine machine.new) self.old.state self.new.state result steps }
-        ensures tables { self.new.tables ≡ self.old.tables }
+        requires { StandsIn (H.machine machine.old).memory self.old }
+        ensures { Advances T.may steps port.old port.new (H.machine machine.old) self.old.shadow self.old.state (H.machine machine.new) self.new.shadow self.new.state result }
     {
-        advance_state(machine, port, &mut self.state, steps)
+        advance(machine, &mut self.shadow, &mut self.state, port, steps)
+    }
+
+    /// A line is typed at its console, with a carriage return behind it, as far as it fits.
+    pub fn type_line(&mut self, text: &[u8])
+        ensures { Turns (with_line text.now (state_of self.old.state)) self.old self.new }
+    {
+        type_line(&mut self.state.console, text);
+    }
+
+    /// Writes bytes of its memory from a physical address on.
+    pub fn store<H: Hardware>(&mut self, machine: &mut H, pa: u32, bytes: &[u8])
+        requires stands { StandsIn (H.machine machine.old).memory self.old }
+        requires inside { pa + length bytes.now ≤ 512 * self.old.state.pages }
+        ensures { Becomes (with_bytes pa bytes.now (guest_in (H.machine machine.old).memory self.old)) (H.machine machine.old) self.old (H.machine machine.new) self.new }
+    {
+        store_all(machine, &mut self.shadow, &self.state, pa, bytes);
+    }
+
+    /// Reads bytes of its memory from a physical address on.
+    pub fn fetch_into<H: Hardware>(&self, machine: &H, pa: u32, bytes: &mut [u8])
+        requires stands { StandsIn (H.machine machine.now).memory self.now }
+        requires inside { pa + length bytes.old ≤ 512 * self.now.state.pages }
+        ensures { bytes.new ≡ bytes_at (guest_in (H.machine machine.now).memory self.now) pa (length bytes.old) }
+    {
+        fetch_all(machine, &self.state, pa, bytes);
+    }
+
+    /// Takes the packets that wait, in order; none waits any more.
+    pub fn take_queue(&mut self) -> ArrayVec<u32, 8>
+        ensures packets { result.items ≡ self.old.state.queue.items }
+        ensures turns { Turns (record (state_of self.old.state) { queue = [] }) self.old self.new }
+    {
+        std::mem::replace(&mut self.state.queue, ArrayVec::new())
+    }
+
+    /// Requests the interrupt of transfers.
+    pub fn post_kcall(&mut self)
+        ensures { Turns (record (state_of self.old.state) { kcall_due = true }) self.old self.new }
+    {
+        self.state.kcall_due = true;
     }
 }

@@ -1,10 +1,15 @@
-//! One guest on the machine: its steps are taken.
+//! A guest on its private virtual VAX, in a machine with real page tables.
 #![tactic(auto)]
 
-mod counts;
+mod bytes;
+mod changes;
 mod guest;
-mod kernel;
-mod meet;
+mod laws;
+mod typing;
 
-pub use counts::Counts;
 pub use guest::Guest;
+pub use laws::guests_stand_by_themselves;
+pub use vm_stepping::Counts;
+
+#[cfg(test)]
+mod tests;

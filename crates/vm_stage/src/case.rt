@@ -1,5 +1,5 @@
 ghost use Rattle.std.specs.Prelude.{IfOk, IfSome};
-ghost use Rattle.vm_real_guest.specs.Kept.{StandsIn};
+ghost use Rattle.vm_guest.specs.Kept.{StandsIn};
 
 use crate::stage::PLAIN;
 use crate::{Kinds, Place, Quanta, Snapshot, Stage};

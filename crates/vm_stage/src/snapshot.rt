@@ -1,4 +1,4 @@
-ghost use Rattle.vm_real_guest.specs.Kept.{StandsIn};
+ghost use Rattle.vm_guest.specs.Kept.{StandsIn};
 
 use crate::{Place, REGISTERS, Stage};
 use std::alloc::Global;

@@ -1,6 +1,6 @@
 ghost use Rattle.std.specs.Bool.{OnTrue};
 ghost use Rattle.std.specs.Prelude.{◌+◌, ◌*◌, ◌≤◌, IfOk};
-ghost use Rattle.vm_real_guest.specs.Kept.{StandsIn};
+ghost use Rattle.vm_guest.specs.Kept.{StandsIn};
 
 use crate::{Place, is_allowed};
 use std::alloc::Global;
@@ -8,7 +8,7 @@ use vax_cpu::Cpu;
 use vax_hw::Hardware;
 use vm_clock::Clock;
 use vm_console::{Console, KeptPort};
-use vm_real_guest::{Counts, Guest};
+use vm_guest::{Counts, Guest};
 use vm_state::GuestState;
 use vv_base::NoMemory;
 

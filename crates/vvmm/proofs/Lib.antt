@@ -1,4 +1,0 @@
-pub mod Causes
-pub mod Endings
-pub mod Files
-pub mod Runs

@@ -2,42 +2,30 @@
 #![tactic(auto)]
 
 mod edge;
-mod laws;
-mod report;
-mod solo;
-mod status;
-#[cfg(test)]
-mod system_tests;
 #[cfg(test)]
 mod tests;
-mod top;
-#[cfg(test)]
-mod watched_tests;
-mod words;
 
 use edge::{FileDrive, FileLine, FileShelf, OutSink};
-pub use laws::{
-    a_failed_line_is_told, a_file_is_shown, a_guest_runs_alone, a_missing_file_is_told,
-    a_refused_line_is_told, a_too_long_file_is_told, answers_are_complete, missing_is_told,
-    too_long_is_told,
-};
-pub use status::{Status, status_code, status_text};
 use std::io::{ErrorKind, Write};
 use std::process::ExitCode;
 use std::{env, io};
-pub use sys_system::Device;
-pub use top::vvmm_run;
-use vax_linear_cpu::Cpu;
+use vax_cpu::Cpu;
 use vv_base::NoMemory;
+pub use vv_commands::{Status, status_code, status_text, vvmm_run};
 use vv_io::{Drive, EmptyDrive, Line};
 
 const HELP: &str =
-    "vvmm solo IMAGE STEPS   runs the file IMAGE as one guest for STEPS steps, 1 to 100000;
-                        the guest's console is the file line00.out, its dump line01.out
-vvmm asm SOURCE         assembles the file SOURCE, and shows the image's bytes
-vvmm dis IMAGE          disassembles the file IMAGE, and shows the text
-vvmm --help             prints this
-vvmm --version          prints the version
+    "vvmm solo IMAGE STEPS          runs the file IMAGE as one guest for STEPS steps, 1 to 100000;
+                               the guest's console is the file line00.out, its dump line01.out
+vvmm run CONFIG SCRIPT ROUNDS  runs the guests of the configuration CONFIG for ROUNDS rounds, 1 to
+                               1000000, with what the file SCRIPT types at terminals; line k is the
+                               file linekk.out, drive k the file drivekk.vol
+vvmm check CONFIG              reads a configuration, and shows how many objects it has
+vvmm migrate CONFIG            shows a configuration in version 2
+vvmm asm SOURCE                assembles the file SOURCE, and shows the image's bytes
+vvmm dis IMAGE                 disassembles the file IMAGE, and shows the text
+vvmm --help                    prints this
+vvmm --version                 prints the version
 ";
 
 const VERSION: &str = "vvmm 0.1.0\n";

@@ -1,11 +1,11 @@
-use Rattle.std.proofs.Common.{ap, ◌∙◌, ◌++◌, ◌+◌, ◌∷◌, [], drop, sym}
-use Rattle.sys_plain_rounds.specs.Round.{connections}
-use Rattle.sys_system.proofs.Places.{connections_next}
+use Rattle.std.proofs.Common.{◌≡◌, ◌∙◌, slice_set, ap, arith}
+use Rattle.sys_system.proofs.Seating.{are_seated, seated, seated_next}
 use Rattle.sys_system.proofs.consoles.connections.Goals as goal
 
 pub loop-terminal-preserved : goal.loop-terminal-preserved
-loop-terminal-preserved c =
-    let k = c.loop-terminal.terminal in
-    let rows = c.args.rows.now in
-    let more = c.in_ok-push.ensures.items in
-    c.loop-terminal.invariant ∙ connections_next rows c.args.terminals.now k c.loop-terminal.connected.items c.loop-terminal-test.true ∙ ap (λ o. (c.loop-terminal.connected.items ++ o ∷ []) ++ connections rows (k + 1) (drop (k + 1) c.args.terminals.now)) (sym c.first_guest.ensures) ∙ ap (λ xs. xs ++ connections rows (k + 1) (drop (k + 1) c.args.terminals.now)) (sym more)
+loop-terminal-preserved c = (λ i. slice_set (c.loop-terminal.invariant i) c.loop-terminal.terminal (c.first_guest.ensures i)) ∙ seated_next c.args.rows.now c.loop-terminal.terminal (omega arith)
+
+pub returns : goal.returns
+returns c =
+    let all : c.loop-terminal.terminal ≡ c.args.terminals = omega arith in
+    are_seated c.args.rows.now c.args.terminals c.loop-terminal.at c.requires.terminals (c.loop-terminal.invariant ∙ ap (seated c.args.rows.now) all)

@@ -1,6 +1,6 @@
 use Rattle.std.proofs.Common.{arith}
 use Rattle.sys_transfers.proofs.Moving.{text_read}
-use Rattle.vm_real_guest.specs.Kept.{guest_in}
+use Rattle.vm_guest.specs.Kept.{guest_in}
 use Rattle.sys_transfers.proofs.moves.job_of.Goals as goal
 
 pub returns : goal.returns

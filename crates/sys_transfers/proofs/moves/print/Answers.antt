@@ -1,7 +1,7 @@
 use Rattle.std.proofs.Common.{◌*◌, ◌∙◌, sym}
 use Rattle.sys_transfers.specs.Serves.{packet_of}
 use Rattle.sys_transfers.proofs.Moving.{lie_inside, print_long, print_moves, print_past, text_printed, text_refused}
-use Rattle.vm_real_guest.specs.Kept.{guest_in}
+use Rattle.vm_guest.specs.Kept.{guest_in}
 use Rattle.sys_transfers.proofs.moves.print.Goals as goal
 
 pub returns-then-p-gt-MOST_PRINTED : goal.returns-then-p-gt-MOST_PRINTED

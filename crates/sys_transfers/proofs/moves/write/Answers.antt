@@ -3,7 +3,7 @@ use Rattle.sys_rounds.specs.Guests.{bytes_at}
 use Rattle.sys_store.specs.Blocks.{with_block}
 use Rattle.sys_transfers.specs.Serves.{packet_of}
 use Rattle.sys_transfers.proofs.Moving.{block_within, lie_inside, on_err, on_ok, refuses, surely_written, write_moves, write_no_block, write_no_memory, write_not, write_nothing, writes_block}
-use Rattle.vm_real_guest.specs.Kept.{guest_in}
+use Rattle.vm_guest.specs.Kept.{guest_in}
 use Rattle.sys_transfers.proofs.moves.write.Goals as goal
 
 pub returns-in_default : goal.returns-in_default

@@ -1,4 +1,4 @@
-use Rattle.vm_real_guest.specs.Kept.{guest_in}
+use Rattle.vm_guest.specs.Kept.{guest_in}
 use Rattle.sys_transfers.proofs.Moving.{packet_read}
 use Rattle.sys_transfers.proofs.packets.request_at.Goals as goal
 

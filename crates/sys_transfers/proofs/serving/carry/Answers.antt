@@ -4,7 +4,7 @@ use Rattle.sys_rounds.specs.Transfers.{Refused, to_print, to_read, to_write}
 use Rattle.sys_transfers.specs.Serves.{packet_of}
 use Rattle.sys_transfers.proofs.Moving.{refuses}
 use Rattle.sys_transfers.proofs.Served.{asks_nothing, asks_to_print, asks_to_read, asks_to_write, carries_all, names_volume, no_job_read, no_job_written, prints_only}
-use Rattle.vm_real_guest.specs.Kept.{guest_in}
+use Rattle.vm_guest.specs.Kept.{guest_in}
 use Rattle.sys_transfers.proofs.serving.carry.Goals as goal
 
 pub read-requires-clause-mounted : goal.read-requires-clause-mounted

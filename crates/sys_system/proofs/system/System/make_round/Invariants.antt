@@ -1,15 +1,15 @@
 use Rattle.std.proofs.Common.{◌≡◌, List, map, vec_len, sum}
-use Rattle.sys_plain_rounds.specs.Slices.{Slice}
 use Rattle.sys_system.specs.Calls.{Plays}
-use Rattle.sys_system.specs.Kernel.{IsKernel, begun}
+use Rattle.sys_system.specs.System.{IsSystem}
+use Rattle.sys_rounds.specs.Slices.{Slice}
 use Rattle.sys_system.proofs.system.System.make_round.Given as goal
 
 abbrev pub invariant-loop-turn : goal.invariant-loop-turn
 invariant-loop-turn g l =
     let machine = g.H.Hardware.machine in
     record {
-      plays : (xs : List Slice) × Plays (begun l.fn.self) l.self (machine l.fn.machine) (machine l.machine) (map (λ b. (goal.Line-dyn g (b.vtable, b.value)).seen b.value) l.fn.lines.items) (map (λ b. (goal.Line-dyn g (b.vtable, b.value)).seen b.value) l.lines.items) xs;
-      holds : IsKernel l.self;
+      plays : (xs : List Slice) × Plays xs (machine l.initial.machine) l.initial.self (map (λ b. (goal.Line-dyn g (b.vtable, b.value)).seen b.value) l.initial.lines.items) (machine l.machine) l.self (map (λ b. (goal.Line-dyn g (b.vtable, b.value)).seen b.value) l.lines.items);
+      holds : IsSystem l.self;
       len : vec_len l.lines ≡ vec_len l.fn.lines;
     }
 

@@ -1,12 +1,21 @@
-use Rattle.std.proofs.Common.{◌≡◌, ◌∙◌, map, slice_index_or, subst, arith}
-use Rattle.sys_system.proofs.Plays.{all_played, all_taken, plays_begun, plays_next, round_made, same_default, turn_can}
-use Rattle.sys_system.specs.Held.{slice_of}
-use Rattle.sys_system.specs.Kernel.{IsKernel, Kernel}
-use Rattle.sys_system.specs.declared.turns.Turn.{Turn}
+use Rattle.std.proofs.Common.{◌≡◌, ◌∙◌, ◌<◌, List, length, map, slice_index_or, sym, ap, subst, arith}
+use Rattle.std.specs.List.{sum_by}
+use Rattle.sys_guests.proofs.LaidOut.{placed_long}
+use Rattle.sys_guests.specs.declared.turns.Turn.{Turn}
+use Rattle.sys_objects.specs.Condition.{IsConfig}
+use Rattle.sys_objects.specs.declared.records.Config.{Config}
+use Rattle.sys_objects.specs.declared.records.GuestRow.{GuestRow}
+use Rattle.sys_rounds.specs.Slices.{AreQuanta}
+use Rattle.sys_system.proofs.Playing.{all_played, all_taken, plays_next, plays_none, turn_can}
+use Rattle.sys_system.proofs.Rounding.{round_made}
+use Rattle.sys_system.proofs.Slicing.{same_default}
+use Rattle.sys_system.specs.System.{System, all_turns, turn_of}
 use Rattle.sys_system.proofs.system.System.take_turns.Goals as goal
 
 pub loop-turn-init : goal.loop-turn-init
-loop-turn-init g c = record { plays = plays_begun c.args.self.now _ _ _ c.begin_round.ensures.begun c.begin_round.ensures.holds; holds = c.begin_round.ensures.holds; len = omega arith }
+loop-turn-init g c =
+    let b = c.begin_round.ensures.begins in
+    record { plays = plays_none _ _ _ c.begin_round.ensures.holds b.goes.stands (ap (λ (s : System). s.turns.is_begun) b.system); holds = c.begin_round.ensures.holds; len = c.begin_round.ensures.len }
 
 pub slice-requires-clause-can : goal.slice-requires-clause-can
 slice-requires-clause-can g c =
@@ -14,8 +23,20 @@ slice-requires-clause-can g c =
     let i = c.loop-turn.turn-index in
     let turn = slice_index_or c.args.turns.now i none in
     let read : turn ≡ slice_index_or c.args.turns.now i turn = same_default c.args.turns.now i none turn (omega arith) in
-    let began = subst (λ (k : Kernel). IsKernel k) c.begin_round.ensures.begun c.begin_round.ensures.holds in
-    turn_can c.args.self.now c.loop-turn.self _ _ _ _ c.args.turns.now i turn began c.loop-turn.invariant.holds c.requires.quanta (omega arith) read (c.requires.there i none (omega arith)) c.loop-turn.invariant.plays
+    let b = c.begin_round.ensures.begins in
+    let s1 = c.begin_round.new.self in
+    let config : s1.config ≡ c.args.self.now.config = ap (λ (s : System). s.config) b.system in
+    let first : s1.turns ≡ all_turns s1.config.guests = ap (λ (s : System). s.turns) b.system ∙ ap (λ (y : Config). all_turns y.guests) (sym config) in
+    let quanta : AreQuanta (map turn_of c.args.turns.now) 0 s1.config.guests = subst (λ (y : Config). AreQuanta (map turn_of c.args.turns.now) 0 y.guests) (sym config) c.requires.quanta in
+    let rows = c.args.self.now.config.guests in
+    let long : length c.args.self.now.guests ≡ length rows = placed_long 0 (sum_by (λ (row : GuestRow). row.pages) rows) rows c.args.self.now.guests c.requires.stands.laid_out in
+    let same : length s1.config.guests ≡ length rows = ap (λ (y : Config). length y.guests) config in
+    let there : turn.guest < length s1.guests = omega (arith, c.requires.there i none (omega arith), long, same, c.begin_round.ensures.holds.many) in
+    let can = turn_can c.args.turns.now i turn _ _ s1 c.loop-turn.self _ _ c.begin_round.ensures.holds c.loop-turn.invariant.holds first quanta (omega arith) read there c.loop-turn.invariant.plays in
+    can
+
+pub slice-requires-clause-stands : goal.slice-requires-clause-stands
+slice-requires-clause-stands g c = c.loop-turn.invariant.plays.stands
 
 pub loop-turn-preserved : goal.loop-turn-preserved
 loop-turn-preserved g c =
@@ -23,17 +44,40 @@ loop-turn-preserved g c =
     let i = c.loop-turn.turn-index in
     let turn = slice_index_or c.args.turns.now i none in
     let read : turn ≡ slice_index_or c.args.turns.now i turn = same_default c.args.turns.now i none turn (omega arith) in
-    let began = subst (λ (k : Kernel). IsKernel k) c.begin_round.ensures.begun c.begin_round.ensures.holds in
-    let can = turn_can c.args.self.now c.loop-turn.self _ _ _ _ c.args.turns.now i turn began c.loop-turn.invariant.holds c.requires.quanta (omega arith) read (c.requires.there i none (omega arith)) c.loop-turn.invariant.plays in
-    record { plays = plays_next _ _ _ _ _ _ _ _ _ c.args.turns.now i turn (omega arith) read c.loop-turn.invariant.plays can c.slice.ensures.takes; holds = c.slice.ensures.holds; len = c.slice.ensures.len ∙ c.loop-turn.invariant.len }
+    let b = c.begin_round.ensures.begins in
+    let s1 = c.begin_round.new.self in
+    let config : s1.config ≡ c.args.self.now.config = ap (λ (s : System). s.config) b.system in
+    let first : s1.turns ≡ all_turns s1.config.guests = ap (λ (s : System). s.turns) b.system ∙ ap (λ (y : Config). all_turns y.guests) (sym config) in
+    let quanta : AreQuanta (map turn_of c.args.turns.now) 0 s1.config.guests = subst (λ (y : Config). AreQuanta (map turn_of c.args.turns.now) 0 y.guests) (sym config) c.requires.quanta in
+    let rows = c.args.self.now.config.guests in
+    let long : length c.args.self.now.guests ≡ length rows = placed_long 0 (sum_by (λ (row : GuestRow). row.pages) rows) rows c.args.self.now.guests c.requires.stands.laid_out in
+    let same : length s1.config.guests ≡ length rows = ap (λ (y : Config). length y.guests) config in
+    let there : turn.guest < length s1.guests = omega (arith, c.requires.there i none (omega arith), long, same, c.begin_round.ensures.holds.many) in
+    let can = turn_can c.args.turns.now i turn _ _ s1 c.loop-turn.self _ _ c.begin_round.ensures.holds c.loop-turn.invariant.holds first quanta (omega arith) read there c.loop-turn.invariant.plays in
+    record { plays = plays_next c.args.turns.now i turn _ _ _ _ _ _ _ _ _ (omega arith) read c.loop-turn.invariant.plays can c.slice.ensures.takes; holds = c.slice.ensures.holds; len = c.slice.ensures.len ∙ c.loop-turn.invariant.len }
 
 pub end_round-requires-clause-none : goal.end_round-requires-clause-none
 end_round-requires-clause-none g c =
-    let plays = all_played _ _ _ _ _ _ c.args.turns.now c.loop-turn.turn-index c.loop-turn-test.false c.loop-turn.invariant.plays in
-    all_taken c.args.self.now c.loop-turn.self _ _ _ _ (map slice_of c.args.turns.now) c.requires.quanta plays
+    let b = c.begin_round.ensures.begins in
+    let s1 = c.begin_round.new.self in
+    let config : s1.config ≡ c.args.self.now.config = ap (λ (s : System). s.config) b.system in
+    let first : s1.turns ≡ all_turns s1.config.guests = ap (λ (s : System). s.turns) b.system ∙ ap (λ (y : Config). all_turns y.guests) (sym config) in
+    let quanta : AreQuanta (map turn_of c.args.turns.now) 0 s1.config.guests = subst (λ (y : Config). AreQuanta (map turn_of c.args.turns.now) 0 y.guests) (sym config) c.requires.quanta in
+    let plays = all_played c.args.turns.now c.loop-turn.turn-index _ _ _ _ _ _ c.loop-turn-test.false c.loop-turn.invariant.plays in
+    let none_left = all_taken (map turn_of c.args.turns.now) _ _ s1 c.loop-turn.self _ _ first quanta plays in
+    none_left
+
+pub end_round-requires-clause-stands : goal.end_round-requires-clause-stands
+end_round-requires-clause-stands g c = c.loop-turn.invariant.plays.stands
 
 pub returns-clause-makes : goal.returns-clause-makes
 returns-clause-makes g c =
-    let plays = all_played _ _ _ _ _ _ c.args.turns.now c.loop-turn.turn-index c.loop-turn-test.false c.loop-turn.invariant.plays in
-    let began = subst (λ (k : Kernel). IsKernel k) c.begin_round.ensures.begun c.begin_round.ensures.holds in
-    round_made _ _ _ _ _ _ _ (map slice_of c.args.turns.now) began plays (all_taken c.args.self.now c.loop-turn.self _ _ _ _ (map slice_of c.args.turns.now) c.requires.quanta plays) c.end_round.ensures
+    let b = c.begin_round.ensures.begins in
+    let s1 = c.begin_round.new.self in
+    let config : s1.config ≡ c.args.self.now.config = ap (λ (s : System). s.config) b.system in
+    let first : s1.turns ≡ all_turns s1.config.guests = ap (λ (s : System). s.turns) b.system ∙ ap (λ (y : Config). all_turns y.guests) (sym config) in
+    let quanta : AreQuanta (map turn_of c.args.turns.now) 0 s1.config.guests = subst (λ (y : Config). AreQuanta (map turn_of c.args.turns.now) 0 y.guests) (sym config) c.requires.quanta in
+    let plays = all_played c.args.turns.now c.loop-turn.turn-index _ _ _ _ _ _ c.loop-turn-test.false c.loop-turn.invariant.plays in
+    let none_left = all_taken (map turn_of c.args.turns.now) _ _ s1 c.loop-turn.self _ _ first quanta plays in
+    let accepted = subst (λ (y : Config). IsConfig y) config c.begin_round.ensures.holds.accepted in
+    round_made c.args.events.now (map turn_of c.args.turns.now) _ _ _ _ _ _ _ _ _ _ _ _ accepted c.requires.stands c.requires.events b plays none_left c.end_round.ensures.ends

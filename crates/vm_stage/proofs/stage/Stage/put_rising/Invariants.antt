@@ -1,4 +1,4 @@
-use Rattle.vm_real_guest.specs.Kept.{StandsIn}
+use Rattle.vm_guest.specs.Kept.{StandsIn}
 use Rattle.vm_stage.proofs.stage.Stage.put_rising.Given as goal
 
 abbrev pub invariant-loop-i : goal.invariant-loop-i

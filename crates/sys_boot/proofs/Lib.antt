@@ -1,4 +1,0 @@
-pub mod Images
-pub mod Lines
-pub mod Parts
-pub mod Puts

@@ -1,6 +1,0 @@
-use Rattle.std.proofs.Common.{◌∙◌}
-use Rattle.sys_boot.proofs.Puts.{shows_line}
-use Rattle.sys_boot.proofs.dumps.put_text.Goals as goal
-
-pub returns : goal.returns
-returns g c = shows_line _ _ _ c.args.text c.put.result (c.bytes.ensures.value ∙ c.append.ensures) c.put.ensures

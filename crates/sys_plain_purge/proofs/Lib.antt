@@ -1,9 +1,0 @@
-pub mod Accepted
-pub mod Connections
-pub mod Consoles
-pub mod Dumps
-pub mod Judged
-pub mod Kept
-pub mod Lines
-pub mod Places
-pub mod Steps

@@ -1,5 +1,0 @@
-use Rattle.sys_plain_purge.proofs.Lines.{keeps_devices}
-use Rattle.sys_plain_purge.proofs.laws.a_device_keeps_its_bytes.Goals as goal
-
-pub returns : goal.returns
-returns c = keeps_devices

@@ -1,8 +1,0 @@
-pub mod Events
-pub mod Input
-pub mod Judged
-pub mod Laws
-pub mod Lines
-pub mod Purge
-pub mod ShownEvents
-pub mod ShownPurge

@@ -1,6 +1,0 @@
-pub mod Consoles
-pub mod OwnLines
-pub mod Places
-pub mod Schedules
-pub mod Steps
-pub mod Sums

@@ -1,7 +1,0 @@
-pub mod Calls
-pub mod Devices
-pub mod Faults
-pub mod Held
-pub mod Powers
-pub mod Seats
-pub mod System

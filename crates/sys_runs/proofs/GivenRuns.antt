@@ -1,0 +1,48 @@
+-- A run over given volumes.
+use Rattle.std.proofs.Common.{ℕ, ◌≡◌, List, length, replicate, refl, ◌∙◌, ap, false}
+use Rattle.std.specs.declared.result.Result.TheVariants.{Err}
+use Rattle.vax_hw.specs.Machine.{Machine}
+use Rattle.vv_io.specs.Blocks.{Kept}
+use Rattle.vv_io.specs.Lines.{Seen}
+use Rattle.sys_guests.specs.Loads.{MemoryAlone}
+use Rattle.sys_objects.specs.declared.records.Config.{Config}
+use Rattle.sys_runs.proofs.Faults.{outside, unshown}
+use Rattle.sys_runs.proofs.Made.{counted, no_drives, retired, shown, steps_few}
+use Rattle.sys_runs.specs.Given.{MakesWith, RunsWith}
+use Rattle.sys_runs.specs.Rounds.{MakesRounds}
+use Rattle.sys_runs.specs.declared.running.Ran.{Ran}
+use Rattle.sys_script.specs.declared.event.Event.{Event}
+use Rattle.sys_system.specs.Calls.{ShowsDumps}
+use Rattle.sys_system.specs.Devices.{first_failed}
+use Rattle.sys_system.specs.Given.{HasPowerWith, PowersWith}
+use Rattle.sys_system.specs.System.{IsSystem, System}
+use Rattle.sys_system.specs.declared.power.PowerFault.{PowerFault}
+use Rattle.sys_system.specs.declared.power.PowerFault.TheVariants.{Image, VolumeSize, DriveIn, NoMemory}
+use Rattle.vm_stepping.specs.Made.{tally_of}
+
+-- it wasn't made
+pub not_run_with : (c : Config) (images : List (List ℕ)) (volumes : List (List (List ℕ))) (es : List Event) (n : ℕ) (m m' : Machine) (lines : List Seen) (drives : List Kept) (e : PowerFault) → PowersWith c images volumes m' (Err e) → MemoryAlone m m' → RunsWith c images volumes es n (Err e) (outside m m' lines drives drives)
+not_run_with c images volumes es n m m' lines drives (Image g) misfit alone = (misfit, record { shown = unshown m m' lines drives drives alone; drives = refl })
+not_run_with c images volumes es n m m' lines drives (VolumeSize v) (fits, other) alone = (fits, other, record { shown = unshown m m' lines drives drives alone; drives = refl })
+not_run_with c images volumes es n m m' lines drives (DriveIn d) never alone = absurd never
+not_run_with c images volumes es n m m' lines drives NoMemory free alone = record { shown = unshown m m' lines drives drives alone; drives = refl }
+
+-- it was made
+pub run_made_with : (c : Config) (images : List (List ℕ)) (volumes : List (List (List ℕ))) (es : List Event) (n : ℕ) (m0 m1 m2 : Machine) (s0 s1 s2 : System) (lines lines1 lines2 : List Seen) (drives : List Kept) (ran : Ran)
+    → HasPowerWith c images volumes m1 s0 → MemoryAlone m0 m1 → MakesRounds n es m1 s0 lines m2 s1 lines1 → ShowsDumps m2 s1 lines1 s2 lines2
+    → IsSystem s1 → ran.counts ≡ s2.counts → ran.failed ≡ first_failed s2.marks s2.drives → length lines2 ≡ length lines
+    → MakesWith (record { config = c; images = images; volumes = volumes; events = es; rounds = n }) ran (record { machine = m0; machine' = m2; lines = lines; lines' = lines2; drives = drives; drives' = drives })
+run_made_with c images volumes es n m0 m1 m2 s0 s1 s2 lines lines1 lines2 drives ran p alone r d holds counts failed size =
+    let unmarked : s2.drives ≡ replicate 16 false = ap (λ (s : System). s.drives) d.system ∙ no_drives c images volumes es n m0 m1 m2 s0 s1 lines lines1 p.powered alone r in
+    record {
+      fits = p.fits;
+      sizes = p.sizes;
+      marks = s2.marks;
+      lines = shown c images volumes es n m0 m1 m2 s0 s1 lines lines1 p.powered alone r s2.marks lines2 d.shows;
+      size = size;
+      drives = refl;
+      counts = ap tally_of counts ∙ ap (λ (s : System). tally_of s.counts) d.system ∙ counted c images volumes es n m0 m1 m2 s0 s1 lines lines1 p.powered alone r;
+      few = steps_few c images volumes es n m0 m1 m2 s0 s1 lines lines1 p.powered alone r ran.counts (counts ∙ ap (λ (s : System). s.counts) d.system) holds;
+      retires = retired c images volumes es n m0 m1 m2 s0 s1 lines lines1 p.powered alone r;
+      failed = failed ∙ ap (first_failed s2.marks) unmarked;
+    }

@@ -1,0 +1,8 @@
+pub mod Faults
+pub mod GivenRuns
+pub mod Holds
+pub mod Made
+pub mod Many
+pub mod Splitting
+pub mod Stored
+pub mod Whole

@@ -1,0 +1,92 @@
+-- What a run shows and counts, wherever its volumes are from.
+use Rattle.std.proofs.Common.{ℕ, ◌≡◌, ◌≤◌, ◌*◌, List, [], ◌++◌, replicate, slice_index_or, sym, ◌∙◌, ap, subst, arith, Bool, false}
+use Rattle.vax_hw.specs.Machine.{Machine}
+use Rattle.vv_io.specs.Lines.{Seen, unseen}
+use Rattle.sys_guests.specs.Changes.{Retires}
+use Rattle.sys_guests.specs.Layout.{guests_in}
+use Rattle.sys_guests.specs.Loads.{MemoryAlone}
+use Rattle.sys_lines.proofs.Showings.{shows_same, shows_then}
+use Rattle.sys_lines.specs.Shows.{Gets, Shows}
+use Rattle.sys_objects.specs.declared.records.Config.{Config}
+use Rattle.sys_rounds.proofs.Steps.{as_sum}
+use Rattle.sys_rounds.specs.Bytes.{dump_on, line_bytes}
+use Rattle.sys_rounds.specs.Counts.{added, rounds_tally}
+use Rattle.sys_rounds.specs.Run.{Input, first_state, rounds}
+use Rattle.sys_rounds.specs.State.{State, Went, bytes_on}
+use Rattle.sys_runs.proofs.Many.{rounds_fit}
+use Rattle.sys_runs.proofs.Stored.{unmarked}
+use Rattle.sys_runs.specs.Rounds.{MakesRounds}
+use Rattle.sys_script.specs.declared.event.Event.{Event}
+use Rattle.sys_system.proofs.Sums.{added_either}
+use Rattle.sys_system.specs.Powers.{IsPowered}
+use Rattle.sys_system.specs.System.{IsSystem, System, state_of}
+use Rattle.vm_state.specs.Run.{Tally, no_steps}
+use Rattle.vm_stepping.specs.Made.{steps_in, tally_of}
+use Rattle.vm_stepping.specs.declared.counts.Counts.{Counts}
+
+-- no line is marked at first
+shows_fresh : (n : ℕ) (marks : List Bool) (lines lines' : List Seen) (f : ℕ → List ℕ) → Shows (replicate n false) marks lines lines' f → Shows [] marks lines lines' f
+shows_fresh n marks lines lines' f shows = record {
+  line = λ k. subst (λ b. Gets b (slice_index_or marks k false) (slice_index_or lines k unseen) (slice_index_or lines' k unseen) (f k)) (unmarked n k) (shows.line k);
+  others = λ k none. ((shows.others k none).0 ∙ unmarked n k, (shows.others k none).1);
+}
+
+-- counts that are as before
+retires_from : (m0 m1 m2 : Machine) (t : Tally) → m1.retired ≡ m0.retired → m1.trail ≡ m0.trail → Retires m1 m2 t → Retires m0 m2 t
+retires_from m0 m1 m2 t retired trail r = record { retired = omega (arith, r.retired, retired); trail = omega (arith, r.trail, trail) }
+
+module _ (c : Config) (images : List (List ℕ)) (volumes : List (List (List ℕ))) (es : List Event) (n : ℕ) (m0 m1 m2 : Machine) (s0 s1 : System) (lines lines1 : List Seen) (p : IsPowered c images volumes m1 s0) (alone : MemoryAlone m0 m1) (r : MakesRounds n es m1 s0 lines m2 s1 lines1) where
+  abbrev pub x : Input
+  x = record { config = c; images = images; volumes = volumes; events = es; rounds = n }
+
+  abbrev first : State
+  first = first_state c images volumes
+
+  config0 : s0.config ≡ c
+  config0 = ap (λ (s : System). s.config) p.system
+
+  pub config1 : s1.config ≡ c
+  config1 = ap (λ (s : System). s.config) r.system ∙ config0
+
+  went : rounds s0.config 1 n es (state_of m1.memory s0) ≡ rounds c 1 n es first
+  went = λ i. rounds (config0 i) 1 n es (p.state i)
+
+  pub last : state_of m2.memory s1 ≡ (rounds c 1 n es first).now
+  last = r.goes.state ∙ ap (λ (w : Went State). w.now) went
+
+  bytes : (k : ℕ) → bytes_on k (rounds s0.config 1 n es (state_of m1.memory s0)).puts ++ dump_on k s1.config.guests (guests_in m2.memory s1.guests) ≡ line_bytes x k
+  bytes k = λ i. bytes_on k (went i).puts ++ dump_on k (config1 i).guests (last i).guests
+
+  -- each line gets its bytes of the run
+  pub shown : (marks : List Bool) (lines2 : List Seen) → Shows s1.marks marks lines1 lines2 (λ k. dump_on k s1.config.guests (guests_in m2.memory s1.guests)) → Shows [] marks lines lines2 (λ k. line_bytes x k)
+  shown marks lines2 dumps =
+      let marks0 : s0.marks ≡ replicate 32 false = ap (λ (s : System). s.marks) p.system in
+      let all : Shows s0.marks marks lines lines2 (λ k. line_bytes x k) = shows_same s0.marks marks lines lines2 _ _ bytes (shows_then r.goes.shows dumps) in
+      shows_fresh 32 marks lines lines2 _ (subst (λ before. Shows before marks lines lines2 (λ k. line_bytes x k)) marks0 all)
+
+  tally : rounds_tally s0.config 1 n es (state_of m1.memory s0) ≡ rounds_tally c 1 n es first
+  tally = λ i. rounds_tally (config0 i) 1 n es (p.state i)
+
+  -- the steps are those of the run
+  pub counted : tally_of s1.counts ≡ rounds_tally c 1 n es first
+  counted =
+      let none : tally_of s0.counts ≡ no_steps = ap (λ (s : System). tally_of s.counts) p.system in
+      let all = rounds_tally c 1 n es first in
+      r.counts ∙ (λ i. added (none i) (tally i)) ∙ sym (added_either all) ∙ sym (as_sum all (rounds_fit c 1 n es first))
+
+  -- and few
+  pub steps_few : (counts : Counts) → counts ≡ s1.counts → IsSystem s1 → steps_in counts ≤ 1600000 * n
+  steps_few counts same holds =
+      let rounds1 : s1.rounds ≡ n = ap (λ (s : System). s.rounds) r.system in
+      let few : steps_in s1.counts ≤ 1600000 * s1.rounds = omega (arith, holds.counted) in
+      subst (λ k. steps_in counts ≤ 1600000 * k) rounds1 (subst (λ (x : Counts). steps_in x ≤ 1600000 * s1.rounds) (sym same) few)
+
+  pub retired : Retires m0 m2 (rounds_tally c 1 n es first)
+  retired =
+      let retired : m1.retired ≡ m0.retired = ap (λ (m : Machine). m.retired) alone.rest in
+      let trail : m1.trail ≡ m0.trail = ap (λ (m : Machine). m.trail) alone.rest in
+      subst (λ (t : Tally). Retires m0 m2 t) tally (retires_from m0 m1 m2 (rounds_tally s0.config 1 n es (state_of m1.memory s0)) retired trail r.retires)
+
+  -- no drive was marked
+  pub no_drives : s1.drives ≡ replicate 16 false
+  no_drives = ap (λ (s : System). s.drives) r.system ∙ ap (λ (s : System). s.drives) p.system

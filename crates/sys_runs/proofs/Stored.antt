@@ -1,0 +1,53 @@
+-- What the drives have behind a run.
+use Rattle.std.proofs.Common.{ℕ, zero, suc, ◌≡◌, ◌≢◌, ◌<◌, List, [], ◌∷◌, length, replicate, slice_index_or, refl, sym, ◌∙◌, ap, subst, arith, Bool, true, false, All, Some, option_map}
+use Rattle.std.proofs.lemmas.Bool.{eq-eqb, ne_eqb}
+use Rattle.std.proofs.lemmas.List.{ext_get_or, get_or_default}
+use Rattle.vv_io.specs.Blocks.{Kept, unkept}
+use Rattle.sys_drives.proofs.Places.{stands}
+use Rattle.sys_drives.specs.Rows.{drive_at}
+use Rattle.sys_drives.specs.Stores.{Stores, StoresAll, is_marked}
+use Rattle.sys_objects.specs.Condition.{IsConfig}
+use Rattle.sys_objects.specs.declared.records.VolumeRow.{VolumeRow}
+use Rattle.sys_rounds.specs.Bytes.{blocks_at, drive_blocks, is_on_drive}
+use Rattle.sys_rounds.specs.Places.{place_of}
+use Rattle.sys_rounds.specs.Run.{Input, run}
+use Rattle.sys_runs.specs.Laws.{TouchesNoDrive}
+use Rattle.sys_runs.specs.Ran.{StoresRun}
+use Rattle.sys_store.specs.Blocks.{blocks_of}
+
+-- nothing is marked at first
+pub unmarked : (n k : ℕ) → slice_index_or (replicate n false) k false ≡ false
+unmarked zero k = refl
+unmarked (suc n) zero = refl
+unmarked (suc n) (suc k) = unmarked n k
+
+-- the first that passes
+first_place : {X : Type 0} (p : X → Bool) (xs : List X) (k : ℕ) (d : X) → k < length xs → p (slice_index_or xs k d) ≡ true → ((j : ℕ) → j < k → p (slice_index_or xs j d) ≡ false) → place_of p xs ≡ Some k
+first_place p [] k d h here none = absurd (omega (arith, h))
+first_place p (x ∷ xs) zero d h here none = rw here refl
+first_place p (x ∷ xs) (suc k) d h here none =
+    let later : p x ≡ false = none 0 (omega arith) in
+    rw later (ap (option_map suc) (first_place p xs k d (omega (arith, h)) here (λ j low. none (suc j) (omega (arith, low)))))
+
+module _ (x : Input) (volumes : List (List (List ℕ))) (marks : List Bool) (drives drives' : List Kept) (accepted : IsConfig x.config) (same : volumes ≡ (run x).now.volumes) (all : StoresAll x.config.volumes volumes (replicate 16 false) marks drives drives') where
+  abbrev rows : List VolumeRow
+  rows = x.config.volumes
+
+  -- a volume is the one on its drive
+  here : (k : ℕ) (d : VolumeRow) → k < length rows → drive_blocks x (slice_index_or rows k d).drive ≡ blocks_of volumes k
+  here k d h =
+      let drive = (slice_index_or rows k d).drive in
+      let first : place_of (is_on_drive drive) rows ≡ Some k = first_place (is_on_drive drive) rows k d h (eq-eqb drive drive refl) (λ j low. ne_eqb (slice_index_or rows j d).drive drive (accepted.drives j k d low h)) in
+      ap (blocks_at (run x).now.volumes) first ∙ ap (λ vs. blocks_of vs k) (sym same)
+
+  pub stored : length drives' ≡ length drives → StoresRun x marks drives drives'
+  stored size = record {
+    stores = λ k d h.
+        let row = slice_index_or rows k d in
+        subst (λ blocks. Stores (is_marked marks row.drive) (drive_at drives row.drive) (drive_at drives' row.drive) blocks) (sym (here k d h)) (all.stores k row (stands rows k row h (get_or_default rows k d row h)) (unmarked 16 row.drive));
+    others = λ d none. ((all.others d none).0 ∙ unmarked 16 d, (all.others d none).1);
+    size = size;
+  }
+
+pub touches_no_drive : TouchesNoDrive
+touches_no_drive x ran o none made = ext_get_or unkept o.drives' o.drives made.drives.size (λ d h. (made.drives.others d (subst (λ (rows : List VolumeRow). All (λ row. row.drive ≢ d) rows) (sym none) (λ k e within. absurd (omega (arith, within))))).1)

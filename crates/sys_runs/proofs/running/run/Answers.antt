@@ -1,0 +1,39 @@
+use Rattle.std.proofs.Common.{◌∙◌, ap}
+use Rattle.std.proofs.lemmas.Result.{err_from_is_err_and}
+use Rattle.sys_runs.proofs.Faults.{not_run}
+use Rattle.sys_runs.proofs.Holds.{powered_holds}
+use Rattle.sys_runs.proofs.Whole.{as_long, fits_still, run_made}
+use Rattle.sys_system.specs.System.{System}
+use Rattle.sys_runs.proofs.running.run.Goals as goal
+
+pub returns-in_err-system-clause-runs : goal.returns-in_err-system-clause-runs
+returns-in_err-system-clause-runs g c =
+    let p = err_from_is_err_and c.from_residual.result c.from_residual.ensures.1 in
+    rw (p.1, p.2) (not_run c.args.config _ c.args.events.now c.args.rounds _ _ _ _ _ _ c.in_err-system.ensures.powers c.power_up.ensures.alone)
+
+pub make_rounds-requires-clause-rests : goal.make_rounds-requires-clause-rests
+make_rounds-requires-clause-rests g c = ap (λ (s : System). s.turns.is_begun) c.in_ok-system.ensures.powers.powered.system
+
+pub make_rounds-requires-clause-first : goal.make_rounds-requires-clause-first
+make_rounds-requires-clause-first g c = ap (λ (s : System). s.rounds) c.in_ok-system.ensures.powers.powered.system
+
+pub make_rounds-requires-clause-holds : goal.make_rounds-requires-clause-holds
+make_rounds-requires-clause-holds g c =
+    let p = c.in_ok-system.ensures.powers in
+    powered_holds c.args.config _ p.volumes _ _ c.requires.accepted p.loaded.0.sizes p.powered
+
+pub make_rounds-requires-clause-stands : goal.make_rounds-requires-clause-stands
+make_rounds-requires-clause-stands g c = c.in_ok-system.ensures.powers.powered.stands
+
+pub power_down-requires-clause-stands : goal.power_down-requires-clause-stands
+power_down-requires-clause-stands g c = c.make_rounds.ensures.makes.goes.stands
+
+pub power_down-requires-clause-fit : goal.power_down-requires-clause-fit
+power_down-requires-clause-fit g c = fits_still c.args.config _ c.args.events.now c.args.rounds _ _ _ _ _ _ _ _ c.in_ok-system.ensures.powers c.make_rounds.ensures.makes
+
+pub returns-clause-runs : goal.returns-clause-runs
+returns-clause-runs g c =
+    let p = c.in_ok-system.ensures.powers in
+    let lines = as_long _ c.power_down.new.lines c.args.lines.now (c.power_down.ensures.lines_len ∙ c.make_rounds.ensures.len) in
+    let drives = as_long _ c.power_down.new.drives c.args.drives.now (c.power_down.ensures.drives_len ∙ c.power_up.ensures.len) in
+    (p.volumes, run_made c.args.config _ c.args.events.now c.args.rounds _ _ _ _ _ _ _ _ _ _ _ _ c.requires.accepted p c.power_up.ensures.alone c.make_rounds.ensures.makes c.power_down.ensures.ends _ c.make_rounds.ensures.holds c.counts.ensures c.failed.ensures lines drives)

@@ -1,0 +1,78 @@
+-- A whole run: what is left of it, and what the outside gets of it.
+use Rattle.std.specs.Prelude.{ℕ, ◌≡◌, ◌≢◌, ◌≤◌, ◌*◌, List, [], length, Bool, false, All}
+use Rattle.std.specs.declared.option.Option.TheVariants.{None, Some}
+use Rattle.std.specs.declared.result.Result.{Result}
+use Rattle.std.specs.declared.result.Result.TheVariants.{Ok, Err}
+use Rattle.vax_hw.specs.Machine.{Machine}
+use Rattle.vv_io.specs.Blocks.{Kept}
+use Rattle.vv_io.specs.Lines.{Seen}
+use Rattle.sys_drives.specs.Loads.{AreLoaded, HasFailed, IsMisfit}
+use Rattle.sys_drives.specs.Rows.{drive_at}
+use Rattle.sys_drives.specs.Stores.{Stores, is_marked}
+use Rattle.sys_guests.specs.Changes.{Retires}
+use Rattle.sys_guests.specs.Loads.{first_misfit}
+use Rattle.sys_lines.specs.Shows.{Shows}
+use Rattle.sys_objects.specs.declared.records.Config.{Config}
+use Rattle.sys_rounds.specs.Bytes.{drive_blocks, line_bytes}
+use Rattle.sys_rounds.specs.Counts.{outcome}
+use Rattle.sys_rounds.specs.Run.{Input}
+use Rattle.sys_runs.specs.declared.running.Ran.{Ran}
+use Rattle.sys_script.specs.declared.event.Event.{Event}
+use Rattle.sys_system.specs.Devices.{first_failed}
+use Rattle.sys_system.specs.declared.power.PowerFault.{PowerFault}
+use Rattle.sys_system.specs.declared.power.PowerFault.TheVariants.{Image, VolumeSize, DriveIn, NoMemory}
+use Rattle.vm_stepping.specs.Made.{steps_in, tally_of}
+
+-- the outside of a run, before it and behind it: the machine, the lines and the drives
+pub record Outside : Type 0 where
+  pub machine : Machine
+  pub machine' : Machine
+  pub lines : List Seen
+  pub lines' : List Seen
+  pub drives : List Kept
+  pub drives' : List Kept
+
+-- No line got a put, and the machine's counts are as before.
+pub record Unshown (o : Outside) : Type 0 where
+  pub lines : o.lines' ≡ o.lines
+  pub retired : o.machine'.retired ≡ o.machine.retired
+  pub trail : o.machine'.trail ≡ o.machine.trail
+  pub misses : o.machine'.misses ≡ o.machine.misses
+
+-- and every drive is as before
+pub record Untouched (o : Outside) : Type 0 where
+  pub shown : Unshown o
+  pub drives : o.drives' ≡ o.drives
+
+-- Each volume's drive has its last blocks of the run; one that failed is marked, and cut. A drive that no volume has is
+-- as before, and isn't marked.
+pub record StoresRun (x : Input) (marks : List Bool) (drives drives' : List Kept) : Type 0 where
+  pub stores : All (λ row. Stores (is_marked marks row.drive) (drive_at drives row.drive) (drive_at drives' row.drive) (drive_blocks x row.drive)) x.config.volumes
+  pub others : (d : ℕ) → All (λ row. row.drive ≢ d) x.config.volumes → (is_marked marks d ≡ false) × (drive_at drives' d ≡ drive_at drives d)
+  pub size : length drives' ≡ length drives
+
+-- The run was made. The images fit, and the volumes are those of the drives. Each line has its bytes of the run, or a
+-- front of them and a mark where it failed. The steps are those of the run, at most 1,600,000 in a round, and the machine
+-- retired the plain ones.
+pub record Makes (x : Input) (ran : Ran) (o : Outside) : Type 0 where
+  pub fits : first_misfit x.config.guests x.images ≡ None
+  pub loaded : AreLoaded x.config.volumes o.drives x.volumes
+  -- the lines and the drives that have failed
+  pub marks : List Bool
+  pub drive_marks : List Bool
+  pub lines : Shows [] marks o.lines o.lines' (λ k. line_bytes x k)
+  pub size : length o.lines' ≡ length o.lines
+  pub drives : StoresRun x drive_marks o.drives o.drives'
+  pub counts : tally_of ran.counts ≡ (outcome x).tally
+  pub few : steps_in ran.counts ≤ 1600000 * x.rounds
+  pub retires : Retires o.machine o.machine' (outcome x).tally
+  pub failed : ran.failed ≡ first_failed marks drive_marks
+
+-- a run by its answer: it was made; or the first image doesn't fit; or else the first volume that can't be read; or
+-- memory ran out
+abbrev pub Runs : Config → List (List ℕ) → List Event → ℕ → Result Ran PowerFault → Outside → Type 0
+Runs c images es n (Ok ran) o = (volumes : List (List (List ℕ))) × Makes (record { config = c; images = images; volumes = volumes; events = es; rounds = n }) ran o
+Runs c images es n (Err (Image g)) o = (first_misfit c.guests images ≡ Some g) × Untouched o
+Runs c images es n (Err (VolumeSize v)) o = (first_misfit c.guests images ≡ None) × IsMisfit c.volumes o.drives v × Untouched o
+Runs c images es n (Err (DriveIn d)) o = (first_misfit c.guests images ≡ None) × HasFailed c.volumes o.drives o.drives' d × Unshown o
+Runs c images es n (Err NoMemory) o = Untouched o

@@ -1,0 +1,54 @@
+ghost use Rattle.std.specs.Prelude.{◌≡◌, ◌≤◌, ◌*◌, length, map, vec_len};
+ghost use Rattle.sys_objects.specs.Condition.{IsConfig};
+ghost use Rattle.sys_runs.specs.Ran.{Runs};
+ghost use Rattle.sys_script.specs.Events.{AreEvents};
+
+use crate::rounds::make_rounds;
+use std::alloc::Global;
+use sys_objects::Config;
+use sys_script::Event;
+use sys_system::{Device, PowerFault, System};
+use vax_hw::Hardware;
+use vm_guest::Counts;
+use vv_io::{Drive, Line};
+
+/// What is left of a run that was made: the steps by their kinds, and the first device that failed, if one did.
+#[derive(Clone, Copy, Debug, PartialEq, Eq)]
+pub struct Ran {
+    pub counts: Counts,
+    pub failed: Option<Device>,
+}
+
+/// Brings power up in a machine of 32,768 pages, with an image for each guest and a drive for each volume; makes so many
+/// rounds, the i-th with the events of round i; and brings power down: the dumps are shown, and the volumes' blocks are
+/// stored. All memory is taken before the first round. A line or a drive that fails is marked and gets no more, and the
+/// run goes on. After a fault no line got a put, and no drive a set.
+pub fn run<H: Hardware>(
+    alloc: Global,
+    config: Config,
+    images: &[Vec<u8>],
+    events: &[Event],
+    rounds: u32,
+    machine: &mut H,
+    lines: &mut Vec<Box<dyn Line>>,
+    drives: &mut Vec<Box<dyn Drive>>,
+) -> Result<Ran, PowerFault>
+    requires accepted { IsConfig config }
+    requires images { length images.now ≡ length config.guests }
+    requires ordered { AreEvents events.now }
+    requires few { rounds ≤ 1000000 }
+    requires pages { length (H.machine machine.old).memory ≡ 512 * 32768 }
+    requires lines { vec_len lines.old ≡ 32 }
+    requires drives { vec_len drives.old ≡ 16 }
+    ensures runs { Runs config (map (λ b. b.items) images.now) events.now rounds result (record { machine = H.machine machine.old; machine' = H.machine machine.new; lines = map (λ b. seen b) lines.old.items; lines' = map (λ b. seen b) lines.new.items; drives = map (λ d. kept d) drives.old.items; drives' = map (λ d. kept d) drives.new.items }) }
+    ensures lines_len { vec_len lines.new ≡ vec_len lines.old }
+    ensures drives_len { vec_len drives.new ≡ vec_len drives.old }
+{
+    let mut system = System::power_up(alloc, config, images, machine, drives)?;
+    make_rounds(&mut system, machine, lines, events, rounds);
+    system.power_down(machine, lines, drives);
+    Ok(Ran {
+        counts: system.counts(),
+        failed: system.failed(),
+    })
+}

@@ -1,0 +1,123 @@
+-- Slices one after another, up to a whole round.
+use Rattle.std.proofs.Common.{ℕ, ◌≡◌, ◌<◌, ◌≤◌, ◌+◌, ◌-◌, ◌%◌, ◌^◌, List, [], ◌∷◌, ◌++◌, length, map, take, drop, slice_index, slice_index_or, refl, sym, ◌∙◌, ap, subst, arith, take-append-drop, Bool, true, if◌then◌else◌, ◌==◌, Option}
+use Rattle.std.proofs.lemmas.Bool.{eq-eqb, ltb-false, ltb-true}
+use Rattle.std.proofs.lemmas.List.{get_or_past, length-map, map-append, take_all}
+use Rattle.std.specs.List.{slice_get}
+use Rattle.std.specs.Prelude.{nat_lt, sum}
+use Rattle.vax_hw.specs.Machine.{Machine}
+use Rattle.vv_io.specs.Lines.{Seen}
+use Rattle.sys_guests.specs.Changes.{Retires}
+use Rattle.sys_guests.specs.Layout.{end_of_guests, guests_in}
+use Rattle.sys_guests.specs.declared.turns.Turn.{Turn}
+use Rattle.sys_lines.proofs.Showings.{shows_none, shows_same, shows_then}
+use Rattle.sys_objects.specs.declared.records.Config.{Config}
+use Rattle.sys_objects.specs.declared.records.GuestRow.{GuestRow}
+use Rattle.sys_objects.specs.declared.records.Terminal.{Terminal}
+use Rattle.sys_system.proofs.Slicing.{falls, front_takes, left_falls, now_more, puts_more, quanta_of, quantum_is, retires_then, taken, tally_more, total_more, turns_more}
+use Rattle.sys_system.proofs.Sums.{added_twice}
+use Rattle.sys_system.specs.Calls.{CanTake, Plays, TakesSlice}
+use Rattle.sys_system.specs.System.{IsSystem, NoneLeft, StandsIn, System, Turns, after_slice, all_turns, turn_of}
+use Rattle.sys_rounds.proofs.Consoles.{bytes_append}
+use Rattle.sys_rounds.proofs.Places.{both}
+use Rattle.sys_rounds.proofs.Steps.{as_sum}
+use Rattle.sys_rounds.specs.Counts.{added, slices_tally, tally_by}
+use Rattle.sys_rounds.specs.Places.{changed}
+use Rattle.sys_rounds.specs.Slices.{AreQuanta, Slice, sliced, slices, total}
+use Rattle.sys_rounds.specs.State.{Put, State, bytes_on}
+use Rattle.vm_state.specs.Run.{Tally}
+use Rattle.vm_state.specs.State.{Guest}
+use Rattle.vm_stepping.specs.Made.{tally_of}
+
+-- no slice yet
+pub plays_none : (s : System) (m : Machine) (lines : List Seen) → IsSystem s → StandsIn m.memory s → s.turns.is_begun ≡ true → Plays [] m s lines m s lines
+plays_none s m lines h stands running = record {
+  system = refl;
+  guests = refl;
+  shows = shows_none s.marks lines;
+  counts = as_sum (tally_of s.counts) h.trail;
+  retires = record { retired = omega arith; trail = omega arith };
+  left = λ i. omega arith;
+  begun = running;
+  stands = stands;
+  only = λ p behind. refl;
+  size = refl;
+}
+
+-- and one slice more
+pub plays_more : (xs : List Slice) (x : Slice) (m m' m'' : Machine) (s s' s'' : System) (lines lines' lines'' : List Seen) → Plays xs m s lines m' s' lines' → CanTake s' x → TakesSlice x m' s' lines' m'' s'' lines'' → Plays (xs ++ x ∷ []) m s lines m'' s'' lines''
+plays_more xs x m m' m'' s s' s'' lines lines' lines'' p can t =
+    let ks = s.config.terminals in
+    let os = s.connected in
+    let gs : List Guest = guests_in m.memory s.guests in
+    let gs' : List Guest = guests_in m'.memory s'.guests in
+    let config' : s'.config ≡ s.config = ap (λ (k : System). k.config) p.system in
+    let terminals : s'.config.terminals ≡ ks = ap (λ (c : Config). c.terminals) config' in
+    let consoles : s'.connected ≡ os = ap (λ (k : System). k.connected) p.system in
+    let turns : s''.turns ≡ after_slice s'.turns x = ap (λ (k : System). k.turns) t.system in
+    let here : Slice → List Guest → List Put = λ x gs. (sliced ks os x gs).puts in
+    let puts : (sliced s'.config.terminals s'.connected x gs').puts ≡ here x (slices ks os xs gs).now = λ i. (sliced (terminals i) (consoles i) x (p.guests i)).puts in
+    let bytes : (k : ℕ) → bytes_on k (slices ks os xs gs).puts ++ bytes_on k (sliced s'.config.terminals s'.connected x gs').puts ≡ bytes_on k (slices ks os (xs ++ x ∷ []) gs).puts =
+    λ k. ap (λ (ps : List Put). bytes_on k (slices ks os xs gs).puts ++ bytes_on k ps) puts ∙ sym (bytes_append k (slices ks os xs gs).puts (here x (slices ks os xs gs).now)) ∙ ap (λ (ps : List Put). bytes_on k ps) (sym (puts_more ks os xs x gs)) in
+    let tally : added (slices_tally xs gs) (tally_by x.steps (slice_get gs' x.guest)) ≡ slices_tally (xs ++ x ∷ []) gs = ap (λ (hs : List Guest). added (slices_tally xs gs) (tally_by x.steps (slice_get hs x.guest))) p.guests ∙ sym (tally_more ks os xs x gs) in
+    record {
+      system = t.system ∙ (λ i. record (p.system i) { guests = s''.guests; turns = after_slice s'.turns x; counts = s''.counts; marks = s''.marks }) ∙ (λ i. record s { guests = s''.guests; turns = sym turns i; counts = s''.counts; marks = s''.marks });
+      guests = ap (λ (y : State). y.guests) t.goes.state ∙ (λ i. (sliced (terminals i) (consoles i) x (p.guests i)).now) ∙ sym (now_more ks os xs x gs);
+      shows = shows_same s.marks s''.marks lines lines'' _ _ bytes (shows_then p.shows t.goes.shows);
+      counts = t.counts ∙ ap (λ (u : Tally). added u (tally_by x.steps (slice_get gs' x.guest))) p.counts ∙ added_twice (tally_of s.counts) (slices_tally xs gs) (tally_by x.steps (slice_get gs' x.guest)) ∙ ap (added (tally_of s.counts)) tally;
+      retires = subst (λ (u : Tally). Retires m m'' u) tally (retires_then m m' m'' (slices_tally xs gs) (tally_by x.steps (slice_get gs' x.guest)) p.retires t.retires);
+      left = λ i. let fall : slice_index (changed (λ y. y - x.steps) s'.turns.left x.guest) i + taken x i ≡ slice_index s'.turns.left i = left_falls s'.turns.left x.guest x.steps i can.left in
+          let now : slice_index s''.turns.left i ≡ slice_index (changed (λ y. y - x.steps) s'.turns.left x.guest) i = ap (λ (v : Turns). slice_index v.left i) turns in
+          omega (arith, fall, now, p.left i, total_more xs x i);
+      begun = ap (λ (v : Turns). v.is_begun) turns ∙ p.begun;
+      stands = t.goes.stands;
+      only = λ q behind. t.goes.only q (subst (λ (c : Config). end_of_guests c.guests ≤ q) (sym config') behind) ∙ p.only q behind;
+      size = t.goes.size ∙ p.size;
+    }
+
+-- a slice leaves fewer steps
+pub fewer_left : (x : Slice) (m m' : Machine) (s s' : System) (lines lines' : List Seen) → CanTake s x → 0 < x.steps → TakesSlice x m s lines m' s' lines' → sum s'.turns.left < sum s.turns.left
+fewer_left x m m' s s' lines lines' can some t = omega (arith, some, ap (λ (k : System). sum k.turns.left) t.system, falls s.turns.left x.guest x.steps can.left)
+
+-- where no guest has steps left each has taken its quantum
+pub quanta_taken : (xs : List Slice) (m m' : Machine) (s s' : System) (lines lines' : List Seen) → s.turns ≡ all_turns s.config.guests → Plays xs m s lines m' s' lines' → NoneLeft s'.turns.left → AreQuanta xs 0 s.config.guests
+quanta_taken xs m m' s s' lines lines' all p none =
+    quanta_of xs 0 s.config.guests (λ i. let e : 0 + i ≡ i = omega arith in ap (total xs) e ∙ omega (arith, p.left i, none i, ap (λ (t : Turns). slice_index t.left i) all))
+
+-- the turn at a place can be taken
+pub turn_can : (turns : List Turn) (i : ℕ) (turn : Turn) (m m' : Machine) (s s' : System) (lines lines' : List Seen) → IsSystem s → IsSystem s' → s.turns ≡ all_turns s.config.guests → AreQuanta (map turn_of turns) 0 s.config.guests → i < length turns → turn ≡ slice_index_or turns i turn → turn.guest < length s.guests
+    → Plays (map turn_of (take i turns)) m s lines m' s' lines' → CanTake s' (turn_of turn)
+turn_can turns i turn m m' s s' lines lines' h h' first quanta inside read there p =
+    let g = turn.guest in
+    let rows = s.config.guests in
+    let xs = map turn_of (take i turns) in
+    let same : length s'.config.guests ≡ length rows = ap (λ (k : System). length k.config.guests) p.system in
+    let all : map turn_of turns ≡ (xs ++ turn_of turn ∷ []) ++ map turn_of (drop (i + 1) turns) = ap (map turn_of) (sym (take-append-drop (i + 1) turns)) ∙ map-append turn_of (take (i + 1) turns) (drop (i + 1) turns) ∙ ap (λ ys. ys ++ map turn_of (drop (i + 1) turns)) (turns_more turns i turn inside read) in
+    let quantum : total (map turn_of turns) g ≡ slice_index (map (λ (row : GuestRow). row.quantum) rows) g = quantum_is (map turn_of turns) rows g quanta (omega (arith, there, h.many)) in
+    let front : total (xs ++ turn_of turn ∷ []) g ≤ total ((xs ++ turn_of turn ∷ []) ++ map turn_of (drop (i + 1) turns)) g = front_takes (xs ++ turn_of turn ∷ []) (map turn_of (drop (i + 1) turns)) g in
+    let whole : total (map turn_of turns) g ≡ total ((xs ++ turn_of turn ∷ []) ++ map turn_of (drop (i + 1) turns)) g = ap (λ ys. total ys g) all in
+    let own : taken (turn_of turn) g ≡ turn.steps = ap (λ b. if b then turn.steps else 0) (eq-eqb g g refl) in
+    let left : slice_index s.turns.left g ≡ slice_index (map (λ (row : GuestRow). row.quantum) rows) g = ap (λ (t : Turns). slice_index t.left g) first in
+    record { begun = p.begun; there = omega (arith, there, h.many, h'.many, same); left = omega (arith, p.left g, left, quantum, front, whole, own, total_more xs (turn_of turn) g) }
+
+-- when all turns are taken no guest has steps left
+pub all_taken : (xs : List Slice) (m m' : Machine) (s s' : System) (lines lines' : List Seen) → s.turns ≡ all_turns s.config.guests → AreQuanta xs 0 s.config.guests → Plays xs m s lines m' s' lines' → NoneLeft s'.turns.left
+all_taken xs m m' s s' lines lines' first quanta p i =
+    let rows = s.config.guests in
+    let quantum : GuestRow → ℕ = λ row. row.quantum in
+    let left : slice_index s.turns.left i ≡ slice_index (map quantum rows) i = ap (λ (t : Turns). slice_index t.left i) first in
+    both (nat_lt i (length rows))
+    (λ inside. let q = quantum_is xs rows i quanta (ltb-true i (length rows) inside) in omega (arith, p.left i, left, q))
+    (λ outside.
+    let size : length (map quantum rows) ≡ length rows = length-map rows quantum in
+    let past : length rows ≤ i = ltb-false i (length rows) outside in
+    let none : slice_index (map quantum rows) i ≡ 0 = get_or_past (map quantum rows) i 0 (omega (arith, size, past)) in
+    omega (arith, p.left i, left, none))
+
+-- the turns up to a place are played, and then the one there
+pub plays_next : (turns : List Turn) (i : ℕ) (turn : Turn) (m m' m'' : Machine) (s s' s'' : System) (lines lines' lines'' : List Seen) → i < length turns → turn ≡ slice_index_or turns i turn → Plays (map turn_of (take i turns)) m s lines m' s' lines' → CanTake s' (turn_of turn)
+    → TakesSlice (turn_of turn) m' s' lines' m'' s'' lines'' → Plays (map turn_of (take (i + 1) turns)) m s lines m'' s'' lines''
+plays_next turns i turn m m' m'' s s' s'' lines lines' lines'' inside read p can t =
+    subst (λ xs. Plays xs m s lines m'' s'' lines'') (sym (turns_more turns i turn inside read)) (plays_more (map turn_of (take i turns)) (turn_of turn) m m' m'' s s' s'' lines lines' lines'' p can t)
+
+pub all_played : (turns : List Turn) (i : ℕ) (m m' : Machine) (s s' : System) (lines lines' : List Seen) → length turns ≤ i → Plays (map turn_of (take i turns)) m s lines m' s' lines' → Plays (map turn_of turns) m s lines m' s' lines'
+all_played turns i m m' s s' lines lines' h p = subst (λ ts. Plays (map turn_of ts) m s lines m' s' lines') (take_all i turns h) p

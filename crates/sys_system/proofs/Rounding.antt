@@ -1,0 +1,148 @@
+-- A whole round: its events, the guests' turns in slices, its transfers.
+use Rattle.std.proofs.Common.{ℕ, suc, ◌≡◌, ◌≤◌, ◌+◌, ◌%◌, ◌^◌, ◌==◌, List, [], ◌∷◌, ◌++◌, length, map, filter, refl, sym, ◌∙◌, ap, subst, arith, Bool, true, Option}
+use Rattle.std.proofs.lemmas.Bool.{eq-eqb}
+use Rattle.std.proofs.lemmas.List.{length-map}
+use Rattle.std.specs.List.{sum_by}
+use Rattle.sys_guests.proofs.LaidOut.{placed_long}
+use Rattle.sys_objects.specs.Condition.{IsConfig}
+use Rattle.sys_objects.specs.declared.records.GuestRow.{GuestRow}
+use Rattle.vax_hw.specs.Machine.{Machine}
+use Rattle.vv_io.specs.Lines.{Seen}
+use Rattle.sys_guests.specs.Changes.{Retires}
+use Rattle.sys_guests.specs.Layout.{end_of_guests, guests_in}
+use Rattle.sys_lines.proofs.Showings.{shows_same, shows_then}
+use Rattle.sys_objects.specs.declared.records.Config.{Config}
+use Rattle.sys_objects.specs.declared.records.Mount.{Mount}
+use Rattle.sys_system.proofs.Playing.{quanta_taken}
+use Rattle.sys_system.specs.Calls.{AreOf, BeginsRound, EndsRound, MakesRound, Plays}
+use Rattle.sys_system.specs.System.{NoneLeft, StandsIn, System, all_turns, state_of}
+use Rattle.sys_rounds.proofs.Consoles.{bytes_append}
+use Rattle.sys_rounds.proofs.SlicedRound.{any_round}
+use Rattle.sys_rounds.specs.Counts.{added, round_tally, slices_tally}
+use Rattle.sys_rounds.specs.Events.{events}
+use Rattle.sys_rounds.specs.Run.{events_of, round}
+use Rattle.sys_rounds.specs.SlicedRound.{IsTheRound, sliced_round}
+use Rattle.sys_rounds.specs.Slices.{AreQuanta, Slice, slices}
+use Rattle.sys_rounds.specs.State.{Put, State, Went, bytes_on}
+use Rattle.sys_rounds.specs.Transfers.{transfers}
+use Rattle.sys_script.specs.declared.event.Event.{Event}
+use Rattle.vm_guest.specs.Kept.{Kept}
+use Rattle.vm_state.specs.Run.{Tally}
+use Rattle.vm_state.specs.State.{Guest}
+use Rattle.vm_stepping.specs.Made.{tally_of}
+
+-- events of one round are all of that round's
+pub all_of : (i : ℕ) (es : List Event) → AreOf i es → events_of i es ≡ es
+all_of i [] are = refl
+all_of i (e ∷ es) are =
+    let here : (e.round == i) ≡ true = eq-eqb e.round i (are 0 e (omega arith)) in
+    rw here (ap (λ (xs : List Event). e ∷ xs) (all_of i es (λ k d h. are (suc k) d (omega (arith, h)))))
+
+-- slices behind events, and transfers behind them
+abbrev after_slices : Config → List Slice → Went State → Went State
+after_slices c xs begun =
+    let turned = slices c.terminals begun.now.connected xs begun.now.guests in
+    let ended = transfers c (record begun.now { guests = turned.now }) in
+    record { now = ended.now; puts = begun.puts ++ turned.puts ++ ended.puts }
+
+module _ (es : List Event) (xs : List Slice) (m m1 m2 m3 : Machine) (s s1 s2 s3 : System) (lines lines1 lines2 lines3 : List Seen) (accepted : IsConfig s.config) (stands : StandsIn m.memory s) (are : AreOf (s.rounds + 1) es) (b : BeginsRound es m s lines m1 s1 lines1) (p : Plays xs m1 s1 lines1 m2 s2 lines2) (none : NoneLeft s2.turns.left) (e : EndsRound m2 s2 lines2 m3 s3 lines3) where
+  abbrev c : Config
+  c = s.config
+
+  abbrev i : ℕ
+  i = s.rounds + 1
+
+  abbrev st : State
+  st = state_of m.memory s
+
+  abbrev begun : Went State
+  begun = events c i st es
+
+  abbrev turned : Went (List Guest)
+  turned = slices c.terminals begun.now.connected xs begun.now.guests
+
+  config1 : s1.config ≡ c
+  config1 = ap (λ (x : System). x.config) b.system
+
+  config2 : s2.config ≡ c
+  config2 = ap (λ (x : System). x.config) p.system ∙ config1
+
+  config3 : s3.config ≡ c
+  config3 = ap (λ (x : System). x.config) e.system ∙ config2
+
+  rounds3 : s3.rounds ≡ s.rounds + 1
+  rounds3 = ap (λ (x : System). x.rounds) e.system ∙ ap (λ (x : System). x.rounds) p.system ∙ ap (λ (x : System). x.rounds) b.system
+
+  drives3 : s3.drives ≡ s.drives
+  drives3 = ap (λ (x : System). x.drives) e.system ∙ ap (λ (x : System). x.drives) p.system ∙ ap (λ (x : System). x.drives) b.system
+
+  first : s1.turns ≡ all_turns s1.config.guests
+  first = ap (λ (x : System). x.turns) b.system ∙ ap (λ (y : Config). all_turns y.guests) (sym config1)
+
+  quanta : AreQuanta xs 0 c.guests
+  quanta = subst (λ (y : Config). AreQuanta xs 0 y.guests) config1 (quanta_taken xs m1 m2 s1 s2 lines1 lines2 first p none)
+
+  is_turned : slices s1.config.terminals s1.connected xs (guests_in m1.memory s1.guests) ≡ turned
+  is_turned = λ j. slices (config1 j).terminals (b.goes.state j).connected xs (b.goes.state j).guests
+
+  state2 : state_of m2.memory s2 ≡ record begun.now { guests = turned.now }
+  state2 =
+      let same : state_of m2.memory s2 ≡ record (state_of m1.memory s1) { guests = (slices s1.config.terminals s1.connected xs (guests_in m1.memory s1.guests)).now } = λ j. record { connected = (p.system j).connected; mounts = (p.system j).mounts; guests = p.guests j; volumes = (p.system j).volumes } in
+      same ∙ (λ j. record (b.goes.state j) { guests = (is_turned j).now })
+
+  state3 : state_of m3.memory s3 ≡ (after_slices c xs begun).now
+  state3 = e.goes.state ∙ (λ j. (transfers (config2 j) (state2 j)).now)
+
+  ended_puts : (transfers s2.config (state_of m2.memory s2)).puts ≡ (transfers c (record begun.now { guests = turned.now })).puts
+  ended_puts = λ j. (transfers (config2 j) (state2 j)).puts
+
+  shown : (k : ℕ) → (bytes_on k begun.puts ++ bytes_on k (slices s1.config.terminals s1.connected xs (guests_in m1.memory s1.guests)).puts) ++ bytes_on k (transfers s2.config (state_of m2.memory s2)).puts ≡ bytes_on k (after_slices c xs begun).puts
+  shown k =
+      let last : List Put = (transfers c (record begun.now { guests = turned.now })).puts in
+      (λ j. (bytes_on k begun.puts ++ bytes_on k (is_turned j).puts) ++ bytes_on k (ended_puts j))
+      ∙ sym (bytes_append k (begun.puts ++ turned.puts) last ∙ ap (λ (ys : List ℕ). ys ++ bytes_on k last) (bytes_append k begun.puts turned.puts))
+
+  of : events_of i es ≡ es
+  of = all_of i es are
+
+  same : IsTheRound c i es xs st
+  same = any_round c i es xs st accepted (length-map s.guests (λ (k : Kept). _) ∙ placed_long 0 (sum_by (λ (row : GuestRow). row.pages) c.guests) c.guests s.guests stands.laid_out) quanta
+
+  -- the code's round is the definition's
+  whole_now : (after_slices c xs begun).now ≡ (round c i es st).now
+  whole_now = ap (λ (ys : List Event). (after_slices c xs (events c i st ys)).now) (sym of) ∙ same.now
+
+  whole_bytes : (k : ℕ) → bytes_on k (after_slices c xs begun).puts ≡ bytes_on k (round c i es st).puts
+  whole_bytes k = ap (λ (ys : List Event). bytes_on k (after_slices c xs (events c i st ys)).puts) (sym of) ∙ same.bytes k
+
+  tally : slices_tally xs (guests_in m1.memory s1.guests) ≡ round_tally c.guests begun.now.guests
+  tally =
+      ap (λ (y : State). slices_tally xs y.guests) b.goes.state
+      ∙ ap (λ (ys : List Event). slices_tally xs (events c i st ys).now.guests) (sym of) ∙ same.counts
+      ∙ ap (λ (ys : List Event). round_tally c.guests (events c i st ys).now.guests) of
+
+  retires : Retires m m3 (slices_tally xs (guests_in m1.memory s1.guests))
+  retires =
+      let first : m1.retired ≡ m.retired = ap (λ (x : Machine). x.retired) b.machine in
+      let first' : m1.trail ≡ m.trail = ap (λ (x : Machine). x.trail) b.machine in
+      let last : m3.retired ≡ m2.retired = ap (λ (x : Machine). x.retired) e.machine in
+      let last' : m3.trail ≡ m2.trail = ap (λ (x : Machine). x.trail) e.machine in
+      record { retired = omega (arith, p.retires.retired, first, last); trail = omega (arith, p.retires.trail, first', last') }
+
+  pub round_made : MakesRound es m s lines m3 s3 lines3
+  round_made = record {
+    system = λ j. record { config = config3 j; connected = s3.connected; mounts = s3.mounts; guests = s3.guests; volumes = s3.volumes; turns = s3.turns; rounds = rounds3 j; counts = s3.counts; marks = s3.marks; drives = drives3 j };
+    ended = ap (λ (x : System). x.turns.is_begun) e.system;
+    goes = record {
+      state = state3 ∙ whole_now;
+      shows = shows_same s.marks s3.marks lines lines3 _ _ (λ k. shown k ∙ whole_bytes k) (shows_then (shows_then b.goes.shows p.shows) e.goes.shows);
+      stands = e.goes.stands;
+      only = λ q behind.
+          e.goes.only q (subst (λ (y : Config). end_of_guests y.guests ≤ q) (sym config2) behind)
+          ∙ p.only q (subst (λ (y : Config). end_of_guests y.guests ≤ q) (sym config1) behind)
+          ∙ b.goes.only q behind;
+      size = e.goes.size ∙ p.size ∙ b.goes.size;
+    };
+    counts = ap (λ (x : System). tally_of x.counts) e.system ∙ p.counts ∙ ap (λ (x : System). added (tally_of x.counts) (slices_tally xs (guests_in m1.memory s1.guests))) b.system ∙ ap (added (tally_of s.counts)) tally;
+    retires = subst (λ (t : Tally). Retires m m3 t) tally retires;
+  }

@@ -1,6 +1,0 @@
-use Rattle.std.proofs.Common.{◌≡◌, drop}
-use Rattle.sys_plain_rounds.specs.Round.{console_of}
-use Rattle.sys_system.proofs.consoles.console_of.Given as goal
-
-abbrev pub invariant-loop-k : goal.invariant-loop-k
-invariant-loop-k l = console_of l.terminals l.connected l.guest ≡ console_of (drop l.k l.terminals) (drop l.k l.connected) l.guest

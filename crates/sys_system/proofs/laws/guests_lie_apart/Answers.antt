@@ -1,5 +1,0 @@
-use Rattle.sys_system.proofs.Apart.{lies_apart}
-use Rattle.sys_system.proofs.laws.guests_lie_apart.Goals as goal
-
-pub returns : goal.returns
-returns c = lies_apart

@@ -1,8 +1,0 @@
-use Rattle.std.proofs.Common.{◌≡◌, map}
-use Rattle.sys_plain_rounds.specs.Places.{beside_with}
-use Rattle.sys_system.proofs.Places.{from_on}
-use Rattle.sys_system.specs.Calls.{first_misfit, is_misfit}
-use Rattle.sys_system.proofs.power.first_misfit.Given as goal
-
-abbrev pub invariant-loop-place : goal.invariant-loop-place
-invariant-loop-place l = first_misfit l.rows (map (λ b. b.items) l.images) ≡ from_on (λ b. b) (beside_with is_misfit l.rows (map (λ b. b.items) l.images)) l.place

@@ -1,0 +1,83 @@
+ghost use Rattle.std.specs.Prelude.{◌≡◌, ◌≤◌, ◌*◌, IfOk, None, length, map};
+ghost use Rattle.sys_guests.specs.Loads.{MemoryAlone, first_misfit};
+ghost use Rattle.sys_objects.specs.Condition.{IsConfig};
+ghost use Rattle.sys_system.specs.Held.{IsInside, system_of};
+ghost use Rattle.sys_system.specs.Powers.{IsPowered};
+ghost use Rattle.sys_system.specs.Seats.{AreMounted, IsServer};
+
+use crate::consoles::connections;
+use crate::parts::Parts;
+use crate::turns::Turns;
+use std::alloc::Global;
+use sys_guests::{Kernel, load_guests};
+use sys_objects::{Config, GuestRow, Mount};
+use sys_server::ServerState;
+use sys_store::Volumes;
+use vax_hw::Hardware;
+use vm_console::KeptPort;
+use vm_guest::Counts;
+use vv_base::NoMemory;
+
+/// By guest and unit what is mounted at power-up; beyond the guests nothing is.
+fn mounts_of(rows: &[GuestRow]) -> [[Option<Mount>; 4]; 16]
+    requires { length rows.now ≤ 16 }
+    ensures { AreMounted rows.now result }
+{
+    let mut mounts = [[None; 4]; 16];
+    for (place, row) in rows.iter().enumerate() {
+        mounts[place] = row.mounts;
+    }
+    mounts
+}
+
+/// What the server keeps at power-up.
+fn server_of(config: &Config) -> ServerState
+    requires { IsConfig config.now }
+    ensures { IsServer config.now result }
+{
+    let rows = config.guests.as_slice();
+    ServerState {
+        at: connections(rows, config.terminals.len()),
+        mounts: mounts_of(rows),
+        running: [false; 16],
+    }
+}
+
+/// The parts of a system whose power comes on with these volumes: its guests are laid out in a machine of 32,768 pages, and
+/// their images loaded. All memory is taken here.
+pub fn assemble<H: Hardware>(
+    alloc: Global,
+    config: Config,
+    images: &[Vec<u8>],
+    machine: &mut H,
+    volumes: Volumes,
+) -> Result<Parts, NoMemory>
+    requires accepted { IsConfig config }
+    requires images { length images.now ≡ length config.guests }
+    requires fit { first_misfit config.guests (map (λ b. b.items) images.now) ≡ None }
+    requires sizes { map length volumes ≡ map (λ v. v.blocks) config.volumes }
+    requires pages { length (H.machine machine.old).memory ≡ 512 * 32768 }
+    ensures inside { IfOk result IsInside }
+    ensures powered { IfOk result (λ s. IsPowered config (map (λ b. b.items) images.now) volumes (H.machine machine.new) (system_of s)) }
+    ensures alone { MemoryAlone (H.machine machine.old) (H.machine machine.new) }
+{
+    let rows = config.guests.as_slice();
+    let port = KeptPort::new(alloc)?;
+    let turns = Turns::none(alloc, rows.len())?;
+    let guests = load_guests(alloc, rows, images, machine)?;
+    let server = server_of(&config);
+    Ok(Parts {
+        kernel: Kernel {
+            config,
+            server,
+            guests,
+            marks: [false; 32],
+            port,
+        },
+        volumes,
+        turns,
+        rounds: 0,
+        counts: Counts::none(),
+        drives: [false; 16],
+    })
+}

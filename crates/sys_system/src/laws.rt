@@ -1,6 +1,0 @@
-ghost use Rattle.sys_system.specs.Layout.{LiesApart};
-
-/// Guests that are laid out have memories and tables of their own.
-pub fn guests_lie_apart()
-    ensures { LiesApart }
-{}

@@ -1,0 +1,11 @@
+pub mod Counting
+pub mod Adding
+pub mod Slots
+pub mod Surviving
+pub mod Retelling
+pub mod Own
+pub mod Found
+pub mod Fitting
+pub mod Working
+pub mod Paying
+pub mod Running

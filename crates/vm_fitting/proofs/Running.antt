@@ -1,0 +1,274 @@
+-- A run of the machine, instruction by instruction, with first touches.
+use Rattle.std.proofs.Common.{◌≡◌, ℕ, zero, suc, ◌+◌, ◌/◌, ◌%◌, ◌^◌, ◌<◌, false, [], Option, Some, None, Result, Ok, Err, refl, ap, ◌∙◌, sym, subst, arith}
+use Rattle.vax_hw.specs.Machine.{Machine}
+use Rattle.vax_hw.specs.Real.{Retired, behind_trap, going_on, misses_after, one, real}
+use Rattle.vax_hw.specs.declared.world.Exit.{Exit}
+use Rattle.vax_hw.specs.declared.world.Exit.TheVariants.{Arithmetic, Budget, Denied, Emulate, Modify, NotValid, Refused}
+use Rattle.vax_hw.specs.declared.world.World.{World}
+use Rattle.vm_clock.specs.Clock.{after_tick}
+use Rattle.vm_clock.specs.Ticks.{after_ticks}
+use Rattle.vm_fitting.specs.Paid.{touching_counted}
+use Rattle.vm_fitting.specs.Present.{HasPresent}
+use Rattle.vm_fitting.specs.Runs.{ComesTo, EndsAt, IsPaidRun, RunsArePaid, StopsBefore, TrapsBehind}
+use Rattle.vm_fitting.specs.Works.{StepIsCounted}
+use Rattle.vm_fitting.proofs.Found.{found_entries}
+use Rattle.vm_fitting.proofs.Working.{retired_counted}
+use Rattle.vm_shadow.specs.Stands.{Shadowed}
+use Rattle.vm_simulation.specs.Bursts.{IsQuiet, counted_by, with_count}
+use Rattle.vm_simulation.specs.Laws.{IsRetired, Meets}
+use Rattle.vm_simulation.specs.Loaded.{RunsGuest, as_run}
+use Rattle.vm_simulation.proofs.Bursting.{due_same}
+use Rattle.vm_simulation.proofs.Meeting.{exits_meet}
+use Rattle.vm_simulation.proofs.Retiring.{retires}
+use Rattle.vm_state.specs.Interrupts.{due}
+use Rattle.vm_state.specs.Partition.{guest_of}
+use Rattle.vm_state.specs.State.{Guest, state_of}
+use Rattle.vm_state.specs.Step as steps
+use Rattle.vm_state.specs.Step.{Stepped, by_interrupt, counted, executed, instruction_of, step, step_by, touched_by, trapped_in, unless_waiting}
+use Rattle.vm_state.specs.Touches.{Touching, touching_step, touching_steps}
+use Rattle.vm_state.specs.declared.guest_state.GuestState.{GuestState}
+use Rattle.vm_touches.specs.Touched.{touches_now}
+use Rattle.vm_touches.proofs.Touching.{misses_touched, retired_filled}
+
+-- a quiet guest's next step comes to its instruction
+step_is : (h : Guest) → h.state.halt ≡ None → h.state.waiting ≡ false → due (counted h.state) ≡ None → step h ≡ executed (record h { state = counted h.state })
+unfolding step
+step_is h runs waits none = ap (step_by h) runs ∙ ap (by_interrupt (record h { state = counted h.state })) none ∙ ap (unless_waiting (record h { state = counted h.state })) waits
+
+abbrev next_of : World → GuestState → GuestState
+next_of w g = with_count 1 (as_run w g)
+
+quiet_next : (n : ℕ) (w : World) (g : GuestState) → (as_run w g).psl.0 / 2 ^ 8 ≡ g.psl.0 / 2 ^ 8 → IsQuiet (suc n) (state_of g) → IsQuiet n (state_of (next_of w g))
+unfolding after_ticks
+quiet_next n w g high q = record {
+  runs = q.runs;
+  waits = q.waits;
+  none = λ k h. due_same (record (state_of g) { clock = after_ticks (suc k) g.clock }) w.r (as_run w g).psl.0 ((g.steps + 1) % 2 ^ 32) high ∙ q.none (suc k) (omega arith);
+}
+
+none_counted : (g : GuestState) → g.steps < 2 ^ 32 → with_count 0 g ≡ g
+unfolding after_ticks
+none_counted g h = let e : (g.steps + 0) % 2 ^ 32 ≡ g.steps = omega arith in λ i. record g { steps = e i }
+
+own_world : (m : Machine) (s : Shadowed) (g : GuestState) → RunsGuest [] m s g → as_run m.world g ≡ g
+own_world m s g k = λ i. record g { r = k.loads.r i; psl = record { 0 = k.loads.psl i } }
+
+more_counted : (c : ℕ) (w v : World) (g : GuestState) → with_count c (as_run w (with_count 1 (as_run v g))) ≡ with_count (suc c) (as_run w g)
+unfolding after_ticks
+more_counted c w v g = let e : ((g.steps + 1) % 2 ^ 32 + c) % 2 ^ 32 ≡ (g.steps + suc c) % 2 ^ 32 = omega arith in λ i. record (as_run w g) { clock = after_ticks c (after_tick g.clock); steps = e i }
+
+next_counted : (m : Machine) (s : Shadowed) (g : GuestState) (x : Retired) → RunsGuest [] m s g → IsRetired [] m s g x → RunsGuest [] x.machine s (next_of x.machine.world g)
+next_counted m s g x k r = record {
+  keeps = r.keeps;
+  serves = record { pages = k.serves.pages; base = k.serves.base; told = k.serves.told };
+  loads = record { r = r.loads.r; psl = r.loads.psl; current = r.loads.current; previous = r.loads.previous; tables = r.loads.tables };
+}
+
+counts_more : (e : Exit) (done : ℕ) → suc (counted_by e done) ≡ counted_by e (suc done) → suc (counted_by e (suc done)) ≡ counted_by e (suc (suc done))
+counts_more Budget done k = omega arith
+counts_more (Arithmetic kind) done k = omega arith
+counts_more (NotValid va write) done k = refl
+counts_more (Denied va write) done k = refl
+counts_more (Modify va) done k = refl
+counts_more (Emulate t) done k = refl
+counts_more (Refused r) done k = refl
+
+-- the end says the same of touches that come to others
+on_comes : (s : Shadowed) (t u v : Touching) → ComesTo s t u → ComesTo s u v → ComesTo s t v
+on_comes s t u v a b = record { has = b.has; count = omega (arith, a.count, b.count) }
+
+on_stops : (left : ℕ) (all : Touching) (s : Shadowed) (t u : Touching) (h : Guest) → ComesTo s t u → StopsBefore left all s u h → StopsBefore left all s t h
+on_stops left all s t u h a b = record { at = b.at; comes = on_comes s t u b.at a b.comes; is = b.is }
+
+on_traps : (kind left : ℕ) (all : Touching) (s : Shadowed) (t u : Touching) (h : Guest) → ComesTo s t u → TrapsBehind kind left all s u h → TrapsBehind kind left all s t h
+on_traps kind left all s t u h a b = record {
+  memory = b.memory;
+  before = b.before;
+  keeps = b.keeps;
+  serves = b.serves;
+  found = b.found;
+  term = b.term;
+  written = b.written;
+  step = b.step;
+  at = b.at;
+  comes = on_comes s t u b.at a b.comes;
+  is = b.is;
+}
+
+ends_on : (e : Exit) (left : ℕ) (all : Touching) (s : Shadowed) (t u : Touching) (h : Guest) → ComesTo s t u → EndsAt e left all s u h → EndsAt e left all s t h
+ends_on Budget left all s t u h a b = on_comes s t u all a b
+ends_on (Arithmetic kind) left all s t u h a b = on_traps kind left all s t u h a b
+ends_on (NotValid va write) left all s t u h a b = (on_stops left all s t u h a b.0, b.1)
+ends_on (Denied va write) left all s t u h a b = on_stops left all s t u h a b
+ends_on (Modify va) left all s t u h a b = on_stops left all s t u h a b
+ends_on (Emulate x) left all s t u h a b = on_stops left all s t u h a b
+ends_on (Refused r) left all s t u h a b = on_stops left all s t u h a b
+
+-- before an instruction that doesn't retire
+stops_here : (left : ℕ) (s : Shadowed) (t : Touching) (h : Guest) → HasPresent s t.present → StopsBefore left (touching_counted left h t) s t h
+stops_here left s t h all = record { at = t; comes = record { has = all; count = omega arith }; is = refl }
+
+stops_as : (e : Exit) (n : ℕ) (m : Machine) (s : Shadowed) (g : GuestState) (t : Touching) → RunsGuest [] m s g → one m ≡ Err e → Meets e m.memory s g → HasPresent s t.present → EndsAt e n (touching_counted n (guest_of m.memory g) t) s t (guest_of m.memory g)
+stops_as Budget n m s g t k is meets all = absurd meets
+stops_as (Arithmetic kind) n m s g t k is meets all = absurd meets
+stops_as (NotValid va write) n m s g t k is meets all =
+    let miss = misses_touched [] m s g va write k is in
+    (stops_here n s t (guest_of m.memory g) all, record { touched = miss.touched; empty = miss.empty })
+stops_as (Denied va write) n m s g t k is meets all = stops_here n s t (guest_of m.memory g) all
+stops_as (Modify va) n m s g t k is meets all = stops_here n s t (guest_of m.memory g) all
+stops_as (Emulate x) n m s g t k is meets all = stops_here n s t (guest_of m.memory g) all
+stops_as (Refused r) n m s g t k is meets all = stops_here n s t (guest_of m.memory g) all
+
+none_of : (e : Exit) (m : Machine) (s : Shadowed) (g : GuestState) → Meets e m.memory s g → (counted_by e 0 ≡ 0) × (suc (counted_by e 0) ≡ counted_by e 1)
+none_of Budget m s g meets = absurd meets
+none_of (Arithmetic kind) m s g meets = absurd meets
+none_of (NotValid va write) m s g meets = (refl, refl)
+none_of (Denied va write) m s g meets = (refl, refl)
+none_of (Modify va) m s g meets = (refl, refl)
+none_of (Emulate x) m s g meets = (refl, refl)
+none_of (Refused r) m s g meets = (refl, refl)
+
+stopped_at : (n : ℕ) (m : Machine) (s : Shadowed) (g : GuestState) (e : Exit) → g.steps < 2 ^ 32 → RunsGuest [] m s g → one m ≡ Err e → IsPaidRun n m s g (record m { misses = misses_after m.misses e }) e
+stopped_at n m s g e small k is =
+    let meets = exits_meet [] m s g e k is in
+    let none = none_of e m s g meets in
+    let same : with_count (counted_by e 0) (as_run m.world g) ≡ g = ap (λ c. with_count c (as_run m.world g)) none.0 ∙ none_counted (as_run m.world g) small ∙ own_world m s g k in
+    record {
+      done = 0;
+      left = n;
+      budget = omega arith;
+      retired = ap (λ (c : ℕ). c % 2 ^ 64) (omega arith);
+      counts = none.1;
+      ends = λ t all. subst (λ (x : GuestState). EndsAt e n (touching_counted n (guest_of m.memory g) t) s t (guest_of m.memory x)) (sym same) (stops_as e n m s g t k is meets all);
+    }
+
+one_more : (a b : ℕ) → b ≡ (a + 1) % 2 ^ 64 → b % 2 ^ 64 ≡ (a + 1) % 2 ^ 64
+one_more a b e = grind arith
+
+-- the budget is used
+used : (m : Machine) (s : Shadowed) (g : GuestState) (x : Retired) → RunsGuest [] m s g → one m ≡ Ok x → IsRetired [] m s g x → x.trap ≡ None → IsPaidRun 1 m s g x.machine Budget
+used m s g x k is r none = record {
+  done = 1;
+  left = 0;
+  budget = refl;
+  retired = one_more m.retired x.machine.retired r.retired;
+  counts = refl;
+  ends = λ t all. let c : StepIsCounted s (guest_of m.memory g) t = retired_counted m s g x t k is none all in record { has = c.has; count = omega (arith, c.count) };
+}
+
+-- a trap ends the run behind its instruction
+module _ (n : ℕ) (m : Machine) (s : Shadowed) (g : GuestState) (x : Retired) (kind : ℕ) (small : g.steps < 2 ^ 32) (k : RunsGuest [] m s g) (is : one m ≡ Ok x) (r : IsRetired [] m s g x) (some : x.trap ≡ Some kind) where
+  abbrev whole : Guest
+  whole = guest_of m.memory g
+
+  step_there : executed whole ≡ record (trapped_in (steps.Plain r.term) r.written (guest_of x.machine.memory (as_run x.machine.world g)) (Some kind)) { touched = touches_now whole }
+  unfolding executed
+  step_there = ap (λ (y : Stepped). record y { touched = touched_by whole (instruction_of whole.state) }) (r.plain ∙ ap (trapped_in (steps.Plain r.term) r.written (guest_of x.machine.memory (as_run x.machine.world g))) some)
+
+  traps : (t : Touching) → HasPresent s t.present → TrapsBehind kind n (touching_counted (suc n) whole t) s t (guest_of x.machine.memory (as_run x.machine.world g))
+  traps t all = record {
+    memory = m.memory;
+    before = g;
+    keeps = k.keeps;
+    serves = k.serves;
+    found = λ page j. found_entries [] m.memory s g k.keeps k.serves (retired_filled [] m s g x k is).found page j;
+    term = r.term;
+    written = r.written;
+    step = step_there;
+    at = t;
+    comes = record { has = all; count = omega arith };
+    is = refl;
+  }
+
+  trapped : IsPaidRun (suc n) m s g x.machine (Arithmetic kind)
+  trapped = record {
+    done = 1;
+    left = n;
+    budget = omega arith;
+    retired = one_more m.retired x.machine.retired r.retired;
+    counts = refl;
+    ends = λ t all. subst (λ (y : GuestState). TrapsBehind kind n (touching_counted (suc n) whole t) s t (guest_of x.machine.memory y)) (sym (none_counted (as_run x.machine.world g) small)) (traps t all);
+  }
+
+-- one instruction more in front of a run
+module _ (n : ℕ) (m : Machine) (s : Shadowed) (g : GuestState) (x : Retired) (m' : Machine) (e : Exit) (k : RunsGuest [] m s g) (is : one m ≡ Ok x) (r : IsRetired [] m s g x) (none : x.trap ≡ None) (q : IsQuiet (suc (suc n)) (state_of g)) (rest : IsPaidRun (suc n) x.machine s (next_of x.machine.world g) m' e) where
+  abbrev w : World
+  w = x.machine.world
+
+  abbrev first : Guest
+  first = guest_of m.memory g
+
+  abbrev behind_first : Guest
+  behind_first = guest_of x.machine.memory (as_run w g)
+
+  abbrev between : Guest
+  between = guest_of x.machine.memory (next_of w g)
+
+  first_is : (executed first).guest ≡ behind_first
+  unfolding executed
+  first_is = ap (λ (y : Stepped). y.guest) (r.plain ∙ ap (trapped_in (steps.Plain r.term) r.written behind_first) none)
+
+  second : step behind_first ≡ executed between
+  unfolding after_ticks
+  second = step_is behind_first q.runs q.waits
+      (due_same (record (state_of g) { clock = after_tick g.clock }) w.r (as_run w g).psl.0 ((g.steps + 1) % 2 ^ 32) r.high ∙ q.none 1 (omega arith))
+
+  begins : (t : Touching) → touching_counted (suc (suc n)) first t ≡ touching_counted (suc n) between (touching_step first (executed first) t)
+  begins t =
+      ap (λ h. touching_steps (suc n) h (touching_step first (executed first) t)) first_is
+      ∙ ap (λ (y : Stepped). touching_steps n y.guest (touching_step behind_first y (touching_step first (executed first) t))) second
+
+  same_end : with_count (counted_by e rest.done) (as_run m'.world (next_of w g)) ≡ with_count (counted_by e (suc rest.done)) (as_run m'.world g)
+  same_end = more_counted (counted_by e rest.done) m'.world w g ∙ ap (λ c. with_count c (as_run m'.world g)) rest.counts
+
+  ends : (t : Touching) → HasPresent s t.present → EndsAt e rest.left (touching_counted (suc (suc n)) first t) s t (guest_of m'.memory (with_count (counted_by e (suc rest.done)) (as_run m'.world g)))
+  ends t all =
+      let c : StepIsCounted s first t = retired_counted m s g x t k is none all in
+      let u : Touching = touching_step first (executed first) t in
+      let comes : ComesTo s t u = record { has = c.has; count = omega (arith, c.count) } in
+      let there = rest.ends u c.has in
+      let moved = subst (λ (y : GuestState). EndsAt e rest.left (touching_counted (suc n) between u) s u (guest_of m'.memory y)) same_end there in
+      subst (λ (a : Touching). EndsAt e rest.left a s t (guest_of m'.memory (with_count (counted_by e (suc rest.done)) (as_run m'.world g)))) (sym (begins t))
+      (ends_on e rest.left (touching_counted (suc n) between u) s t u (guest_of m'.memory (with_count (counted_by e (suc rest.done)) (as_run m'.world g))) comes moved)
+
+  sum_mod : (t a b : ℕ) → ((t + a) % 2 ^ 64 + b) % 2 ^ 64 ≡ (t + (a + b)) % 2 ^ 64
+  sum_mod t a b = grind arith
+
+  more : IsPaidRun (suc (suc n)) m s g m' e
+  more = record {
+    done = suc rest.done;
+    left = rest.left;
+    budget = omega (arith, rest.budget);
+    retired = rest.retired ∙ ap (λ z. (z + rest.done) % 2 ^ 64) r.retired ∙ sum_mod m.retired 1 rest.done ∙ ap (λ (z : ℕ). (m.retired + z) % 2 ^ 64) (omega arith);
+    counts = counts_more e rest.done rest.counts;
+    ends = ends;
+  }
+
+Paid : ℕ → Machine → Shadowed → GuestState → Machine × Exit → Type 0
+Paid n m s g y = IsPaidRun n m s g y.0 y.1
+
+-- what follows a first instruction
+Rest : ℕ → Machine → Shadowed → GuestState → Type 0
+Rest zero m s g = Unit {0}
+Rest (suc n) m s g = (x : Retired) → IsRetired [] m s g x → Paid (suc n) x.machine s (next_of x.machine.world g) (real (suc n) x.machine)
+
+behind : (n : ℕ) (m : Machine) (s : Shadowed) (g : GuestState) (x : Retired) (t : Option ℕ) → x.trap ≡ t → g.steps < 2 ^ 32 → RunsGuest [] m s g → one m ≡ Ok x → IsRetired [] m s g x → IsQuiet (suc n) (state_of g) → Rest n m s g → Paid (suc n) m s g (behind_trap (real n) x.machine t)
+unfolding Paid Rest
+behind zero m s g x None is small k o r q rest = used m s g x k o r is
+behind (suc n) m s g x None is small k o r q rest = more n m s g x (real (suc n) x.machine).0 (real (suc n) x.machine).1 k o r is q (rest x r)
+behind n m s g x (Some kind) is small k o r q rest = trapped n m s g x kind small k o r is
+
+by_one : (n : ℕ) (m : Machine) (s : Shadowed) (g : GuestState) (y : Result Retired Exit) → one m ≡ y → g.steps < 2 ^ 32 → RunsGuest [] m s g → IsQuiet (suc n) (state_of g) → Rest n m s g → Paid (suc n) m s g (going_on (real n) m y)
+unfolding Paid
+by_one n m s g (Err e) is small k q rest = stopped_at (suc n) m s g e small k is
+by_one n m s g (Ok x) is small k q rest = behind n m s g x x.trap refl small k is (retires [] m s g x k is) q rest
+
+paid : (n : ℕ) (m : Machine) (s : Shadowed) (g : GuestState) → g.steps < 2 ^ 32 → RunsGuest [] m s g → IsQuiet (suc n) (state_of g) → Paid (suc n) m s g (real (suc n) m)
+unfolding Rest
+paid zero m s g small k q = by_one zero m s g (one m) refl small k q tt
+paid (suc n) m s g small k q = by_one (suc n) m s g (one m) refl small k q (λ x r. paid n x.machine s (next_of x.machine.world g) (omega arith) (next_counted m s g x k r) (quiet_next (suc n) x.machine.world g r.high q))
+
+pub runs_paid : RunsArePaid
+unfolding Paid
+runs_paid zero m s g h small k q = absurd (omega arith)
+runs_paid (suc n) m s g h small k q = paid n m s g small k q

@@ -1,0 +1,64 @@
+-- A guest that changed from without.
+use Rattle.std.proofs.Common.{◌≡◌, ℕ, ◌*◌, inl, Bool, List, [], ◌∷◌, ◌++◌, refl, ap, ◌∙◌, sym, subst, arith}
+use Rattle.std.proofs.lemmas.List.Elements.{All-nil}
+use Rattle.vax_hw.specs.Machine.{Machine}
+use Rattle.vm_bursts.proofs.Completing.{only_both, own_same}
+use Rattle.vm_guest.specs.Kept.{Becomes, Kept, StandsIn, all_typed, guest_in, with_bytes}
+use Rattle.vm_console.specs.Console.{ConsoleState, after_typed}
+use Rattle.vm_guest.specs.Stores.{StoresAll}
+use Rattle.vm_shadow.specs.Stands.{Shadowed}
+use Rattle.vm_shadow.specs.StandsFor.{Switches}
+use Rattle.vm_state.specs.Allowed.{AreAllowed, IsPacket}
+use Rattle.vm_state.specs.Partition.{part, partition_of}
+use Rattle.vm_state.specs.Start.{started}
+use Rattle.vm_state.specs.State.{HasPlace, State, state_of}
+use Rattle.vm_state.specs.declared.guest_state.GuestState.{GuestState}
+
+-- a guest that starts has allowed registers
+pub start_allowed : (size start : ℕ) (faults : Bool) → AreAllowed size (started start faults)
+start_allowed size start faults = record {
+  p0br = inl refl;
+  p0lr = refl;
+  p1br = refl;
+  p1lr = refl;
+  sbr = refl;
+  slr = refl;
+  pcbb = refl;
+  scbb = refl;
+  astlvl = refl;
+  sisr = refl;
+  psl = refl;
+  packets = All-nil (IsPacket size);
+  few = omega arith;
+}
+
+-- with other registers, and its shadow page tables told of them
+pub becomes_switched : (m : Machine) (k : Kept) (x : State) (g : GuestState) (m' : Machine) (s' : Shadowed) → StandsIn m.memory k → HasPlace k.state.pages k.state.base k.state.start g → state_of g ≡ x → AreAllowed (512 * g.pages) x → Switches g m k.shadow m' s' →
+    Becomes (record (guest_in m.memory k) { state = x }) m k m' (record { state = g; shadow = s' })
+becomes_switched m k x g m' s' stands place state allowed w = record {
+  guest = λ i. record { memory = memory i; state = state i };
+  stands = record { keeps = w.keeps; serves = w.serves; allowed = subst (AreAllowed (512 * g.pages)) (sym state) allowed };
+  rest = w.only.rest;
+  only = only_both k.shadow m m' w.only;
+  place = place;
+  tables = ap (λ (y : Shadowed). y.at) w.rest;
+}
+  where
+    memory : partition_of m'.memory g ≡ partition_of m.memory k.state
+    memory = (λ i. part m'.memory (512 * place.base i) (512 * place.pages i)) ∙ own_same m m' k.shadow k.state stands.keeps.fits stands.serves w.only
+
+-- with other bytes in its memory
+pub becomes_stored : (m : Machine) (k : Kept) (pa : ℕ) (bytes : List ℕ) (m' : Machine) (s' : Shadowed) → StoresAll pa bytes m k.shadow k.state m' s' → Becomes (with_bytes pa bytes (guest_in m.memory k)) m k m' (record { state = k.state; shadow = s' })
+becomes_stored m k pa bytes m' s' w = record {
+  guest = λ i. record { memory = w.memory i; state = state_of k.state };
+  stands = w.stands;
+  rest = w.only.rest;
+  only = record { size = w.only.size; other = w.only.other };
+  place = record { pages = refl; base = refl; start = refl };
+  tables = w.tables;
+}
+
+-- a line is typed in two parts
+pub typed_more : (xs ys : List ℕ) (c : ConsoleState) → all_typed ys (all_typed xs c) ≡ all_typed (xs ++ ys) c
+typed_more [] ys c = refl
+typed_more (x ∷ xs) ys c = typed_more xs ys (after_typed c x)

@@ -1,0 +1,6 @@
+ghost use Rattle.vm_guest.specs.Laws.{StandsElsewhere};
+
+/// What happens beyond a guest's memory and its real tables changes nothing of it.
+pub fn guests_stand_by_themselves()
+    ensures { StandsElsewhere }
+{}

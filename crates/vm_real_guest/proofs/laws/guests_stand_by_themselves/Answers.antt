@@ -1,5 +1,0 @@
-use Rattle.vm_real_guest.proofs.Sharing.{stands_elsewhere}
-use Rattle.vm_real_guest.proofs.laws.guests_stand_by_themselves.Goals as goal
-
-pub returns : goal.returns
-returns c = stands_elsewhere

@@ -1,0 +1,187 @@
+-- Each answer of the top call, and what it says of the outside.
+use Rattle.std.specs.Prelude.{ℕ, ◌≡◌, ◌⊎◌, List, [], ◌∷◌, All, Bool, true, false, Option, Some, None, Result, Ok, Err, if◌then◌else◌, pos}
+use Rattle.vv_io.specs.Blocks.{Kept}
+use Rattle.vv_io.specs.Lines.{Seen}
+use Rattle.vv_io.specs.Shelf.{File}
+use Rattle.vasm_text.specs.Asm.{asm_of}
+use Rattle.vasm_text.specs.Dis.{dis_of}
+use Rattle.vasm_text.specs.declared.fault.AsmFault.{AsmFault}
+use Rattle.vasm_files.specs.Commands.{Outside as ShelfAndSink, Follows as FollowsFile}
+use Rattle.vasm_files.specs.declared.answer.Answer.{Answer}
+use Rattle.vasm_files.specs.declared.answer.Answer.TheVariants as answers
+use Rattle.vax_hw.specs.Machine.{Machine}
+use Rattle.vm_stepping.specs.Made.{tally_of}
+use Rattle.sys_config.specs.Config.{config_of}
+use Rattle.sys_config.specs.Written.{version_of}
+use Rattle.sys_lines.specs.Showing.{Showing}
+use Rattle.sys_objects.specs.declared.records.Config.{Config}
+use Rattle.sys_purge.specs.Input.{purged}
+use Rattle.sys_rounds.specs.Bytes.{devices_of, drive_blocks, line_bytes}
+use Rattle.sys_rounds.specs.Run.{Input}
+use Rattle.sys_runs.specs.Ran.{Outside as RunOutside, Runs, Untouched}
+use Rattle.sys_runs.specs.declared.running.Ran.{Ran}
+use Rattle.sys_script.specs.declared.event.Event.{Event}
+use Rattle.sys_system.specs.declared.parts.Device.{Device}
+use Rattle.sys_system.specs.declared.power.PowerFault.{PowerFault}
+use Rattle.sys_system.specs.declared.power.PowerFault.TheVariants as faults
+use Rattle.vv_commands.specs.Files.{HasAll, HasConfig, IsRead, StopsConfig, StopsFile, StopsRun}
+use Rattle.vv_commands.specs.Solo.{solo_config}
+use Rattle.vv_commands.specs.Summary.{check_line, summary}
+use Rattle.vv_commands.specs.Words.{Asked, RunAsked, Wanted, WantsSolo, WantsRun, WantsCheck, WantsMigration, WantsBytes, WantsText}
+use Rattle.vv_commands.specs.declared.status.Status.{Status}
+use Rattle.vv_commands.specs.declared.status.Status.TheVariants.{Done, Words, Missing, TooLong, ShelfFault, Config as ConfigRefused, Script as ScriptRefused, Image, VolumeSize, DriveIn, Device as DeviceFault, Asm, OutFault, NoMemory}
+use Rattle.vv_commands.specs.declared.stop.Stop.{Stop}
+use Rattle.vv_commands.specs.declared.stop.Stop.TheVariants as stops
+
+-- The outside before and after the call: what the shelf holds, where it tells, and its count of faults; the machine;
+-- the lines, the drives, and where the summary is put.
+pub record Outside : Type 0 where
+  pub files : Option (List File)
+  pub shelf : ℕ
+  pub shelf' : ℕ
+  pub machine : Machine
+  pub machine' : Machine
+  pub lines : List Seen
+  pub lines' : List Seen
+  pub drives : List Kept
+  pub drives' : List Kept
+  pub out : Seen
+  pub out' : Seen
+
+-- what a run touches of it
+abbrev pub run_of : Outside → RunOutside
+run_of o = record { machine = o.machine; machine' = o.machine'; lines = o.lines; lines' = o.lines'; drives = o.drives; drives' = o.drives' }
+
+-- the shelf and where things are shown
+abbrev pub shelf_and_sink : Outside → ShelfAndSink
+shelf_and_sink o = record { files = o.files; shelf = o.shelf; shelf' = o.shelf'; out = o.out; out' = o.out' }
+
+-- no line and no `out` got a put, no drive was touched, and the machine's counts are as before
+pub record Silent (o : Outside) : Type 0 where
+  pub run : Untouched (run_of o)
+  pub out : o.out' ≡ o.out
+
+-- no line and no drive was touched, and the machine is as before
+pub record Apart (o : Outside) : Type 0 where
+  pub lines : o.lines' ≡ o.lines
+  pub drives : o.drives' ≡ o.drives
+  pub machine : o.machine' ≡ o.machine
+
+-- the answer where a command stops before anything is shown, and where power doesn't come up
+abbrev pub stopped_status : Stop → Status
+stopped_status (stops.Missing name) = Missing name
+stopped_status (stops.TooLong name) = TooLong name
+stopped_status stops.ShelfFault = ShelfFault
+stopped_status (stops.Config f) = ConfigRefused f
+stopped_status (stops.Script f) = ScriptRefused f
+stopped_status stops.NoMemory = NoMemory
+
+abbrev pub power_status : PowerFault → Status
+power_status (faults.Image guest) = Image guest
+power_status (faults.VolumeSize volume) = VolumeSize volume
+power_status (faults.DriveIn drive) = DriveIn drive
+power_status faults.NoMemory = NoMemory
+
+-- The answer where all was done: a device that failed is told first, then a sink that cut what was put.
+abbrev pub done_status : Option Device → Bool → Status
+done_status (Some device) cut = DeviceFault device
+done_status None true = OutFault
+done_status None false = Done
+
+-- bytes are put on `out` once, and all was done before
+pub record Closes (failed : Option Device) (bytes : List ℕ) (status : Status) (out out' : Seen) : Type 0 where
+  pub cut : Bool
+  pub is : status ≡ done_status failed cut
+  pub shows : Showing cut out out' bytes
+
+-- A command stops before anything is shown, for a reason.
+pub record Stops (Why : Stop → Type 0) (status : Status) : Type 0 where
+  pub stop : Stop
+  pub is : status ≡ stopped_status stop
+  pub why : Why stop
+
+-- how a run that was to be made is answered: power doesn't come up, or it is made, and its summary is put
+abbrev pub Answers : ℕ → Result Ran PowerFault → Status → Seen → Seen → Type 0
+Answers rounds (Err fault) status out out' = (status ≡ power_status fault) × (out' ≡ out)
+Answers rounds (Ok ran) status out out' = Closes ran.failed (summary rounds (tally_of ran.counts)) status out out'
+
+-- A run of this configuration, of these images and events is to be made: power is brought up, and so on.
+pub record Plays (c : Config) (images : List (List ℕ)) (es : List Event) (rounds : ℕ) (status : Status) (o : RunOutside) (out out' : Seen) : Type 0 where
+  pub result : Result Ran PowerFault
+  pub runs : Runs c images es rounds result o
+  pub answers : Answers rounds result status out out'
+
+-- Each device gets the bytes that it gets when all whose class doesn't flow into its own was never there, and so does each
+-- volume.
+pub record IsSeparate (x : Input) : Type 0 where
+  pub lines : All (λ d. line_bytes (purged x d.class) d.line ≡ line_bytes x d.line) (devices_of x.config)
+  pub drives : All (λ v. drive_blocks (purged x v.class) v.drive ≡ drive_blocks x v.drive) x.config.volumes
+
+-- `solo`: the image was fetched, and the guest A runs; no drive is touched
+pub record PlaysSolo (a : Asked) (status : Status) (o : Outside) : Type 0 where
+  pub image : List ℕ
+  pub read : IsRead o.files a.image image
+  pub shelf : o.shelf' ≡ o.shelf
+  pub plays : Plays (solo_config a) (image ∷ []) [] 1 status (run_of o) o.out o.out'
+  pub drives : o.drives' ≡ o.drives
+
+abbrev pub FollowsSolo : Asked → Status → Outside → Type 0
+FollowsSolo a status o = (Stops (StopsFile o.files a.image o.shelf o.shelf') status × Silent o) ⊎ PlaysSolo a status o
+
+-- `run`: all files were fetched, and the configuration runs. Whatever the drives hold, its devices are separate.
+pub record PlaysRun (a : RunAsked) (status : Status) (o : Outside) : Type 0 where
+  pub config : Config
+  pub events : List Event
+  pub images : List (List ℕ)
+  pub has : HasAll o.files a config events images
+  pub shelf : o.shelf' ≡ o.shelf
+  pub plays : Plays config images events a.rounds status (run_of o) o.out o.out'
+  pub separate : (volumes : List (List (List ℕ))) → IsSeparate (record { config = config; images = images; volumes = volumes; events = events; rounds = a.rounds })
+
+abbrev pub FollowsRun : RunAsked → Status → Outside → Type 0
+FollowsRun a status o = (Stops (StopsRun o.files a o.shelf o.shelf') status × Silent o) ⊎ PlaysRun a status o
+
+-- `check` and `migrate`: the configuration was fetched, and bytes that stand so to it are put
+pub record ShowsConfig (Bytes : Config → List ℕ → Type 0) (name : List ℕ) (status : Status) (o : ShelfAndSink) : Type 0 where
+  pub config : Config
+  pub bytes : List ℕ
+  pub has : HasConfig o.files name config
+  pub shelf : o.shelf' ≡ o.shelf
+  pub are : Bytes config bytes
+  pub closes : Closes None bytes status o.out o.out'
+
+abbrev pub FollowsConfig : (Config → List ℕ → Type 0) → List ℕ → Status → ShelfAndSink → Type 0
+FollowsConfig Bytes name status o = (Stops (StopsConfig o.files name o.shelf o.shelf') status × (o.out' ≡ o.out)) ⊎ ShowsConfig Bytes name status o
+
+-- the counts of a configuration
+abbrev pub AreCounts : Config → List ℕ → Type 0
+AreCounts c bytes = bytes ≡ check_line c
+
+-- a text of version 2 that stands for the same configuration
+pub record IsMigrated (c : Config) (bytes : List ℕ) : Type 0 where
+  pub same : config_of bytes ≡ Ok c
+  pub version : version_of bytes ≡ Some (pos 2)
+
+-- the answer about a file of this name
+abbrev pub status_of : List ℕ → Answer → Status
+status_of name answers.Done = Done
+status_of name answers.Missing = Missing name
+status_of name answers.TooLong = TooLong name
+status_of name answers.ShelfFault = ShelfFault
+status_of name (answers.Asm f) = Asm f
+status_of name answers.OutFault = OutFault
+status_of name answers.NoMemory = NoMemory
+
+-- what an answer to a command that shows what a file stands for says, where `made` tells that, or the line that is refused
+abbrev pub ShowsFile : (List ℕ → Result (List ℕ) AsmFault) → List ℕ → Status → Outside → Type 0
+ShowsFile made name status o = (answer : Answer) × (status ≡ status_of name answer) × FollowsFile made name answer (shelf_and_sink o) × Apart o
+
+-- what an answer says, given what the words ask for
+abbrev pub Says : Option Wanted → Status → Outside → Type 0
+Says None status o = (status ≡ Words) × Apart o × (o.out' ≡ o.out)
+Says (Some (WantsSolo a)) status o = FollowsSolo a status o
+Says (Some (WantsRun a)) status o = FollowsRun a status o
+Says (Some (WantsCheck name)) status o = FollowsConfig AreCounts name status (shelf_and_sink o) × Apart o
+Says (Some (WantsMigration name)) status o = FollowsConfig IsMigrated name status (shelf_and_sink o) × Apart o
+Says (Some (WantsBytes source)) status o = ShowsFile asm_of source status o
+Says (Some (WantsText image)) status o = ShowsFile (λ bytes. Ok (dis_of bytes)) image status o

@@ -1,0 +1,60 @@
+-- What the functions that fetch answer.
+use Rattle.std.specs.Prelude.{ℕ, ◌≡◌, List, [], ◌∷◌, map, take, Vec, Option, Some}
+use Rattle.std.specs.List.{slice_get}
+use Rattle.std.specs.declared.alloc.Global.{Global}
+use Rattle.std.specs.declared.result.Result.{Result}
+use Rattle.std.specs.declared.result.Result.TheVariants.{Ok, Err}
+use Rattle.vv_io.specs.Shelf.{File}
+use Rattle.sys_objects.specs.declared.records.Config.{Config}
+use Rattle.sys_objects.specs.declared.records.GuestRow.{GuestRow}
+use Rattle.sys_script.specs.declared.event.Event.{Event}
+use Rattle.vv_commands.specs.Files.{AreImages, HasAll, HasConfig, HasScript, IsRead, IsScriptRefused, StopsConfig, StopsFile, StopsRun}
+use Rattle.vv_commands.specs.Solo.{solo_config}
+use Rattle.vv_commands.specs.Words.{Asked, RunAsked}
+use Rattle.vv_commands.specs.declared.fetching.Inputs.{Inputs}
+use Rattle.vv_commands.specs.declared.stop.Stop.{Stop}
+use Rattle.vv_commands.specs.declared.stop.Stop.TheVariants.{Missing, TooLong, ShelfFault, Config as ConfigRefused, Script as ScriptRefused, NoMemory}
+
+abbrev pub FetchesFile : Option (List File) → List ℕ → ℕ → ℕ → Result (Vec ℕ Global) Stop → Type 0
+FetchesFile files name before now (Ok bytes) = IsRead files name bytes.items × (now ≡ before)
+FetchesFile files name before now (Err stop) = StopsFile files name before now stop
+
+abbrev pub FetchesConfig : Option (List File) → List ℕ → ℕ → ℕ → Result Config Stop → Type 0
+FetchesConfig files name before now (Ok c) = HasConfig files name c × (now ≡ before)
+FetchesConfig files name before now (Err stop) = StopsConfig files name before now stop
+
+-- why a file gives no script
+abbrev pub StopsScript : Option (List File) → List ℕ → ℕ → ℕ → Stop → Type 0
+StopsScript files name before now (ScriptRefused f) = IsScriptRefused files name f × (now ≡ before)
+StopsScript files name before now stop = StopsFile files name before now stop
+
+abbrev pub FetchesScript : Option (List File) → List ℕ → ℕ → ℕ → Result (Vec Event Global) Stop → Type 0
+FetchesScript files name before now (Ok es) = HasScript files name es.items × (now ≡ before)
+FetchesScript files name before now (Err stop) = StopsScript files name before now stop
+
+-- The fetch of one guest's image failed, and those of the guests before it were fetched.
+pub record StopsImages (files : Option (List File)) (rows : List GuestRow) (before now : ℕ) (stop : Stop) : Type 0 where
+  pub images : List (List ℕ)
+  pub guest : ℕ
+  pub row : GuestRow
+  pub fetched : AreImages files (take guest rows) images
+  pub stands : slice_get rows guest ≡ Some row
+  pub why : StopsFile files row.image before now stop
+
+-- .. or memory ran out
+abbrev pub StopsAtImages : Option (List File) → List GuestRow → ℕ → ℕ → Stop → Type 0
+StopsAtImages files rows before now NoMemory = Unit {0}
+StopsAtImages files rows before now stop = StopsImages files rows before now stop
+
+abbrev pub FetchesImages : Option (List File) → List GuestRow → ℕ → ℕ → Result (Vec (Vec ℕ Global) Global) Stop → Type 0
+FetchesImages files rows before now (Ok images) = AreImages files rows (map (λ b. b.items) images.items) × (now ≡ before)
+FetchesImages files rows before now (Err stop) = StopsAtImages files rows before now stop
+
+abbrev pub FetchesRun : Option (List File) → RunAsked → ℕ → ℕ → Result Inputs Stop → Type 0
+FetchesRun files a before now (Ok x) = HasAll files a x.config x.events.items (map (λ b. b.items) x.images.items) × (now ≡ before)
+FetchesRun files a before now (Err stop) = StopsRun files a before now stop
+
+-- the run of one guest: its image was fetched
+abbrev pub FetchesSolo : Option (List File) → Asked → ℕ → ℕ → Result Inputs Stop → Type 0
+FetchesSolo files a before now (Ok x) = (image : List ℕ) × IsRead files a.image image × (now ≡ before) × (x.config ≡ solo_config a) × (x.events.items ≡ []) × (map (λ b. b.items) x.images.items ≡ image ∷ [])
+FetchesSolo files a before now (Err stop) = StopsFile files a.image before now stop

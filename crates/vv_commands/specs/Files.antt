@@ -1,0 +1,108 @@
+-- The files that a command fetches, what they stand for, and why a command stops before anything is shown.
+use Rattle.std.specs.Prelude.{ℕ, ◌≡◌, ◌≤◌, ◌⊎◌, List, [], ◌∷◌, length, take, Option, Some, None, Result, Ok, Err}
+use Rattle.std.specs.List.{slice_get}
+use Rattle.vv_io.specs.Causes.{Rose}
+use Rattle.vv_io.specs.Shelf.{File, file_limit}
+use Rattle.vasm_files.specs.Commands.{HasTooLong, IsHeld, Lacks}
+use Rattle.sys_config.specs.Config.{config_of}
+use Rattle.sys_objects.specs.declared.errors.ConfigFault.{ConfigFault}
+use Rattle.sys_objects.specs.declared.records.Config.{Config}
+use Rattle.sys_objects.specs.declared.records.GuestRow.{GuestRow}
+use Rattle.sys_script.specs.Script.{script_of}
+use Rattle.sys_script.specs.declared.event.Event.{Event}
+use Rattle.sys_script.specs.declared.event.ScriptFault.{ScriptFault}
+use Rattle.vv_commands.specs.Words.{RunAsked}
+use Rattle.vv_commands.specs.declared.stop.Stop.{Stop}
+use Rattle.vv_commands.specs.declared.stop.Stop.TheVariants.{Missing, TooLong, ShelfFault, Config as ConfigRefused, Script as ScriptRefused, NoMemory}
+
+-- the file that was fetched, within the limit
+pub record IsRead (files : Option (List File)) (name bytes : List ℕ) : Type 0 where
+  pub held : IsHeld files name bytes
+  pub within : length bytes ≤ file_limit
+
+-- the configuration that a file stands for
+pub record HasConfig (files : Option (List File)) (name : List ℕ) (c : Config) : Type 0 where
+  pub text : List ℕ
+  pub read : IsRead files name text
+  pub means : config_of text ≡ Ok c
+
+-- the script that a file stands for
+pub record HasScript (files : Option (List File)) (name : List ℕ) (es : List Event) : Type 0 where
+  pub text : List ℕ
+  pub read : IsRead files name text
+  pub means : script_of text ≡ Ok es
+
+-- the images of guests, each the file that its row names
+abbrev pub AreImages : Option (List File) → List GuestRow → List (List ℕ) → Type 0
+AreImages files [] [] = Unit {0}
+AreImages files [] (image ∷ images) = ⊥
+AreImages files (row ∷ rows) [] = ⊥
+AreImages files (row ∷ rows) (image ∷ images) = IsRead files row.image image × AreImages files rows images
+
+-- all files of a run were fetched, and stand for these
+pub record HasAll (files : Option (List File)) (a : RunAsked) (c : Config) (es : List Event) (images : List (List ℕ)) : Type 0 where
+  pub config : HasConfig files a.config c
+  pub script : HasScript files a.script es
+  pub fetched : AreImages files c.guests images
+
+-- The script is fetched next: the configuration is accepted.
+pub record IsScript (files : Option (List File)) (a : RunAsked) (name : List ℕ) : Type 0 where
+  pub config : Config
+  pub has : HasConfig files a.config config
+  pub is : name ≡ a.script
+
+-- A guest's image is fetched next: configuration and script are accepted, and the images of the guests before it were fetched.
+pub record IsImage (files : Option (List File)) (a : RunAsked) (name : List ℕ) : Type 0 where
+  pub config : Config
+  pub events : List Event
+  pub images : List (List ℕ)
+  pub guest : ℕ
+  pub row : GuestRow
+  pub has_config : HasConfig files a.config config
+  pub has_script : HasScript files a.script events
+  pub before : AreImages files (take guest config.guests) images
+  pub stands : slice_get config.guests guest ≡ Some row
+  pub is : name ≡ row.image
+
+-- a file of a run that is fetched, as all before it were
+abbrev pub IsNext : Option (List File) → RunAsked → List ℕ → Type 0
+IsNext files a name = (name ≡ a.config) ⊎ (IsScript files a name ⊎ IsImage files a name)
+
+-- a configuration's text was fetched, and is refused
+pub record IsConfigRefused (files : Option (List File)) (name : List ℕ) (f : ConfigFault) : Type 0 where
+  pub text : List ℕ
+  pub read : IsRead files name text
+  pub refused : config_of text ≡ Err f
+
+-- a script's text was fetched, and is refused
+pub record IsScriptRefused (files : Option (List File)) (name : List ℕ) (f : ScriptFault) : Type 0 where
+  pub text : List ℕ
+  pub read : IsRead files name text
+  pub refused : script_of text ≡ Err f
+
+-- why the fetch of one file gives no bytes; counts are the shelf's faults before and after
+abbrev pub StopsFile : Option (List File) → List ℕ → ℕ → ℕ → Stop → Type 0
+StopsFile files name before now (Missing n) = (n ≡ name) × Lacks files n before now
+StopsFile files name before now (TooLong n) = (n ≡ name) × HasTooLong files n before now
+StopsFile files name before now ShelfFault = Rose before now
+StopsFile files name before now (ConfigRefused f) = ⊥
+StopsFile files name before now (ScriptRefused f) = ⊥
+StopsFile files name before now NoMemory = Unit {0}
+
+-- why a file gives no configuration
+abbrev pub StopsConfig : Option (List File) → List ℕ → ℕ → ℕ → Stop → Type 0
+StopsConfig files name before now (Missing n) = (n ≡ name) × Lacks files n before now
+StopsConfig files name before now (TooLong n) = (n ≡ name) × HasTooLong files n before now
+StopsConfig files name before now ShelfFault = Rose before now
+StopsConfig files name before now (ConfigRefused f) = IsConfigRefused files name f × (now ≡ before)
+StopsConfig files name before now (ScriptRefused f) = ⊥
+StopsConfig files name before now NoMemory = Unit {0}
+
+-- why a run's files give no run
+abbrev pub StopsRun : Option (List File) → RunAsked → ℕ → ℕ → Stop → Type 0
+StopsRun files a before now (Missing n) = IsNext files a n × Lacks files n before now
+StopsRun files a before now (TooLong n) = IsNext files a n × HasTooLong files n before now
+StopsRun files a before now ShelfFault = Rose before now
+StopsRun files a before now (ConfigRefused f) = IsConfigRefused files a.config f × (now ≡ before)
+StopsRun files a before now (ScriptRefused f) = (c : Config) × HasConfig files a.config c × IsScriptRefused files a.script f × (now ≡ before)
+StopsRun files a before now NoMemory = Unit {0}

@@ -1,0 +1,7 @@
+pub mod Answer
+pub mod Fetches
+pub mod Files
+pub mod Solo
+pub mod Summary
+pub mod Texts
+pub mod Words

@@ -1,0 +1,40 @@
+-- The lines that the commands show on the sink.
+use Rattle.std.specs.Prelude.{ℕ, List, [], ◌∷◌, ◌++◌, ◌+◌, codes, decimal, length}
+use Rattle.vv_base.specs.Digits.{hex_text}
+use Rattle.vm_state.specs.Run.{Tally}
+use Rattle.sys_objects.specs.declared.records.Config.{Config}
+
+-- a word and a number behind a text
+unfoldable pub field : List ℕ → List ℕ → ℕ → List ℕ
+field text word number = text ++ word ++ decimal number
+
+-- the trail behind a text in 16 digits of base 16, and the end of the line
+unfoldable pub trailer : List ℕ → ℕ → List ℕ
+trailer text trail = text ++ codes " trail " ++ hex_text 16 trail ++ 10 ∷ []
+
+-- steps of every kind
+abbrev pub all_steps : Tally → ℕ
+all_steps t = t.plain + t.sensitive + t.faults + t.interrupts + t.modify + t.idle + t.stopped
+
+-- the summary of a run of so many rounds
+abbrev pub summary : ℕ → Tally → List ℕ
+summary rounds t =
+    let a = field [] (codes "rounds ") rounds in
+    let b = field a (codes " steps ") (all_steps t) in
+    let c = field b (codes " plain ") t.plain in
+    let d = field c (codes " sensitive ") t.sensitive in
+    let e = field d (codes " faults ") t.faults in
+    let f = field e (codes " interrupts ") t.interrupts in
+    let g = field f (codes " modify ") t.modify in
+    let h = field g (codes " idle ") t.idle in
+    let i = field h (codes " stopped ") t.stopped in
+    trailer i t.trail
+
+-- how many terminals, volumes, printers and guests there are, and the end of the line
+abbrev pub check_line : Config → List ℕ
+check_line c =
+    let a = field [] (codes "terminals ") (length c.terminals) in
+    let b = field a (codes " volumes ") (length c.volumes) in
+    let d = field b (codes " printers ") (length c.printers) in
+    let e = field d (codes " guests ") (length c.guests) in
+    e ++ 10 ∷ []

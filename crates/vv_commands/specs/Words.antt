@@ -1,0 +1,82 @@
+-- What the words of the command line ask for.
+use Rattle.std.specs.Prelude.{ℕ, ◌≡◌, ◌≤◌, List, [], ◌∷◌, Bool, true, false, nat_eq, nat_le, ◌&&◌, if◌then◌else◌, codes, Option, Some, None}
+use Rattle.std.specs.Cmp.Lexicographic.{pointwise}
+use Rattle.std.specs.Option.{option_map}
+use Rattle.vv_base.specs.Digits.{decimal_of}
+use Rattle.vv_base.specs.Names.{is_file_name}
+use Rattle.vv_commands.specs.declared.words.Request.{Request}
+use Rattle.vv_commands.specs.declared.words.Request.TheVariants.{Solo, Run, Check, Migrate, Asm, Dis}
+
+-- `solo IMAGE STEPS`
+pub record Asked : Type 0 where
+  pub image : List ℕ
+  pub steps : ℕ
+
+-- `run CONFIG SCRIPT ROUNDS`
+pub record RunAsked : Type 0 where
+  pub config : List ℕ
+  pub script : List ℕ
+  pub rounds : ℕ
+
+-- what each command is given
+pub data Wanted : Type 0 where
+  WantsSolo : Asked → Wanted
+  WantsRun : RunAsked → Wanted
+  WantsCheck : List ℕ → Wanted
+  WantsMigration : List ℕ → Wanted
+  WantsBytes : List ℕ → Wanted
+  WantsText : List ℕ → Wanted
+
+-- the word is this command
+abbrev pub is_word : List ℕ → List ℕ → Bool
+is_word word command = pointwise nat_eq word command
+
+-- a number from 1 to the most
+abbrev pub from_one : Option ℕ → Option ℕ
+from_one None = None
+from_one (Some n) = if nat_le 1 n then Some n else None
+
+abbrev pub number_in : List ℕ → ℕ → Option ℕ
+number_in text most = from_one (decimal_of text most)
+
+-- a command, and a file's name
+abbrev pub file_wanted : List ℕ → List ℕ → Option Wanted
+file_wanted command file =
+    if is_file_name file then
+    (if is_word command (codes "check") then Some (WantsCheck file)
+    else if is_word command (codes "migrate") then Some (WantsMigration file)
+    else if is_word command (codes "asm") then Some (WantsBytes file)
+    else if is_word command (codes "dis") then Some (WantsText file) else None)
+    else None
+
+-- `solo`, a file's name, and a number to 100,000
+abbrev pub solo_asked : List ℕ → List ℕ → List ℕ → Option Asked
+solo_asked command image steps =
+    if is_word command (codes "solo") && is_file_name image then option_map (λ n. record { image = image; steps = n }) (number_in steps 100000) else None
+
+-- `run`, two files' names, and a number to 1,000,000
+abbrev pub run_asked : List ℕ → List ℕ → List ℕ → List ℕ → Option RunAsked
+run_asked command config script rounds =
+    if is_word command (codes "run") && is_file_name config && is_file_name script then option_map (λ n. record { config = config; script = script; rounds = n }) (number_in rounds 1000000) else None
+
+-- what the words ask for, if they are of a form
+abbrev pub wanted : List (List ℕ) → Option Wanted
+wanted (command ∷ file ∷ []) = file_wanted command file
+wanted (command ∷ image ∷ steps ∷ []) = option_map (λ a. WantsSolo a) (solo_asked command image steps)
+wanted (command ∷ config ∷ script ∷ rounds ∷ []) = option_map (λ a. WantsRun a) (run_asked command config script rounds)
+wanted words = None
+
+-- a request, as what is wanted
+abbrev pub wanted_by : Request → Wanted
+wanted_by (Solo order) = WantsSolo (record { image = order.image; steps = order.steps })
+wanted_by (Run order) = WantsRun (record { config = order.config; script = order.script; rounds = order.rounds })
+wanted_by (Check file) = WantsCheck file
+wanted_by (Migrate file) = WantsMigration file
+wanted_by (Asm source) = WantsBytes source
+wanted_by (Dis image) = WantsText image
+
+-- a run's files have files' names, and its number is in range
+abbrev pub IsInRange : Request → Type 0
+IsInRange (Solo order) = (is_file_name order.image ≡ true) × (1 ≤ order.steps) × (order.steps ≤ 100000)
+IsInRange (Run order) = (1 ≤ order.rounds) × (order.rounds ≤ 1000000)
+IsInRange request = Unit {0}

@@ -1,0 +1,76 @@
+ghost use Rattle.std.specs.Prelude.{◌≡◌, ◌≤◌, ◌*◌, List, ℕ, length, map, vec_len, is_err};
+ghost use Rattle.sys_lines.specs.Showing.{Showing};
+ghost use Rattle.sys_objects.specs.Condition.{IsConfig};
+ghost use Rattle.sys_script.specs.Events.{AreEvents};
+ghost use Rattle.vv_commands.specs.Answer.{Closes, Plays, done_status};
+
+use crate::fetching::Inputs;
+use crate::report::summary;
+use crate::status::Status;
+use crate::stop::power_status;
+use std::alloc::Global;
+use sys_runs::run;
+use sys_system::Device;
+use vax_hw::Hardware;
+use vv_io::{Drive, Line, Sink, SinkFault};
+
+/// Puts bytes once.
+fn put_once<O: Sink>(out: &mut O, bytes: &[u8]) -> Result<(), SinkFault>
+    ensures { Showing (is_err result) (O.printed out.old) (O.printed out.new) bytes.now }
+{
+    out.put(bytes)
+}
+
+/// The answer where all was done.
+fn done_status(failed: Option<Device>, is_cut: bool) -> Status
+    ensures { result ≡ done_status failed is_cut }
+{
+    match failed {
+        Some(device) => Status::Device(device),
+        None if is_cut => Status::OutFault,
+        None => Status::Done,
+    }
+}
+
+/// Puts bytes when all was done, and answers.
+pub fn close<O: Sink>(failed: Option<Device>, bytes: &[u8], out: &mut O) -> Status
+    ensures { Closes failed bytes.now result (O.printed out.old) (O.printed out.new) }
+{
+    let is_cut = put_once(out, bytes).is_err();
+    done_status(failed, is_cut)
+}
+
+/// Makes a run, puts its summary, and answers.
+pub fn play<H: Hardware, O: Sink>(
+    alloc: Global,
+    inputs: Inputs,
+    rounds: u32,
+    machine: &mut H,
+    lines: &mut Vec<Box<dyn Line>>,
+    drives: &mut Vec<Box<dyn Drive>>,
+    out: &mut O,
+) -> Status
+    requires accepted { IsConfig inputs.config }
+    requires ordered { AreEvents inputs.events.items }
+    requires images { length inputs.images.items ≡ length inputs.config.guests }
+    requires few { rounds ≤ 1000000 }
+    requires pages { length (H.machine machine.old).memory ≡ 512 * 32768 }
+    requires lines { vec_len lines.old ≡ 32 }
+    requires drives { vec_len drives.old ≡ 16 }
+    ensures { Plays inputs.config (map (λ b. b.items) inputs.images.items) inputs.events.items rounds result (record { machine = H.machine machine.old; machine' = H.machine machine.new; lines = map (λ b. seen b) lines.old.items; lines' = map (λ b. seen b) lines.new.items; drives = map (λ d. kept d) drives.old.items; drives' = map (λ d. kept d) drives.new.items }) (O.printed out.old) (O.printed out.new) }
+{
+    let ran = run(
+        alloc,
+        inputs.config,
+        inputs.images.as_slice(),
+        inputs.events.as_slice(),
+        rounds,
+        machine,
+        lines,
+        drives,
+    );
+    match ran {
+        Ok(ran) => close(ran.failed, summary(rounds, &ran.counts).bytes(), out),
+        Err(fault) => power_status(fault),
+    }
+}

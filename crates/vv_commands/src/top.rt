@@ -1,0 +1,153 @@
+ghost use Rattle.std.specs.Prelude.{◌≡◌, ◌≤◌, ◌*◌, List, ℕ, map, string_bytes, length, true, vec_len};
+ghost use Rattle.vv_base.specs.Names.{is_file_name};
+ghost use Rattle.vv_commands.specs.Answer.{AreCounts, FollowsConfig, FollowsRun, FollowsSolo, IsMigrated, Says, status_of};
+ghost use Rattle.vv_commands.specs.Fetches.{FetchesSolo};
+ghost use Rattle.vv_commands.specs.Words.{wanted};
+
+use crate::fetching::{Inputs, fetch_config, fetch_file, fetch_run};
+use crate::playing::{close, play};
+use crate::report::check_line;
+use crate::solo::solo_config;
+use crate::status::Status;
+use crate::stop::{Stop, stopped_status};
+use crate::words::{Order, Request, RunOrder, parse};
+use std::alloc::Global;
+use sys_config::migrate_text;
+use vasm_files::{Answer, asm, dis};
+use vax_hw::Hardware;
+use vv_base::{FileName, NoMemory};
+use vv_io::{Drive, Line, Shelf, Sink};
+
+/// What the run of one guest is made of.
+fn solo_inputs<S: Shelf>(alloc: Global, order: Order, shelf: &mut S) -> Result<Inputs, Stop>
+    ensures fetches { FetchesSolo (S.files shelf.old) (record { image = order.image; steps = order.steps }) (S.faults shelf.old) (S.faults shelf.new) result }
+    ensures files { S.files shelf.new ≡ S.files shelf.old }
+{
+    let image = fetch_file(alloc, shelf, &order.image)?;
+    let config = solo_config(alloc, order)?;
+    let mut images = Vec::new(alloc);
+    images.push(image)?;
+    Ok(Inputs {
+        config,
+        events: Vec::new(alloc),
+        images,
+    })
+}
+
+/// `solo`: fetches the image, makes its run and tells it.
+fn solo<H: Hardware, S: Shelf, O: Sink>(
+    alloc: Global,
+    order: Order,
+    shelf: &mut S,
+    machine: &mut H,
+    lines: &mut Vec<Box<dyn Line>>,
+    drives: &mut Vec<Box<dyn Drive>>,
+    out: &mut O,
+) -> Status
+    requires pages { length (H.machine machine.old).memory ≡ 512 * 32768 }
+    requires lines { vec_len lines.old ≡ 32 }
+    requires drives { vec_len drives.old ≡ 16 }
+    requires named { is_file_name order.image ≡ true }
+    requires some { 1 ≤ order.steps }
+    requires few { order.steps ≤ 100000 }
+    ensures { FollowsSolo (record { image = order.image; steps = order.steps }) result (record { files = S.files shelf.old; shelf = S.faults shelf.old; shelf' = S.faults shelf.new; machine = H.machine machine.old; machine' = H.machine machine.new; lines = map (λ b. seen b) lines.old.items; lines' = map (λ b. seen b) lines.new.items; drives = map (λ d. kept d) drives.old.items; drives' = map (λ d. kept d) drives.new.items; out = O.printed out.old; out' = O.printed out.new }) }
+{
+    match solo_inputs(alloc, order, shelf) {
+        Ok(inputs) => play(alloc, inputs, 1, machine, lines, drives, out),
+        Err(stop) => stopped_status(stop),
+    }
+}
+
+/// `run`: fetches the configuration, the script and the images, makes their run and tells it.
+fn run<H: Hardware, S: Shelf, O: Sink>(
+    alloc: Global,
+    order: RunOrder,
+    shelf: &mut S,
+    machine: &mut H,
+    lines: &mut Vec<Box<dyn Line>>,
+    drives: &mut Vec<Box<dyn Drive>>,
+    out: &mut O,
+) -> Status
+    requires pages { length (H.machine machine.old).memory ≡ 512 * 32768 }
+    requires lines { vec_len lines.old ≡ 32 }
+    requires drives { vec_len drives.old ≡ 16 }
+    requires few { order.rounds ≤ 1000000 }
+    ensures { FollowsRun (record { config = order.config; script = order.script; rounds = order.rounds }) result (record { files = S.files shelf.old; shelf = S.faults shelf.old; shelf' = S.faults shelf.new; machine = H.machine machine.old; machine' = H.machine machine.new; lines = map (λ b. seen b) lines.old.items; lines' = map (λ b. seen b) lines.new.items; drives = map (λ d. kept d) drives.old.items; drives' = map (λ d. kept d) drives.new.items; out = O.printed out.old; out' = O.printed out.new }) }
+{
+    match fetch_run(alloc, shelf, &order) {
+        Ok(inputs) => play(alloc, inputs, order.rounds, machine, lines, drives, out),
+        Err(stop) => stopped_status(stop),
+    }
+}
+
+/// `check`: shows how many terminals, volumes, printers and guests a configuration has.
+fn check<S: Shelf, O: Sink>(alloc: Global, name: &FileName, shelf: &mut S, out: &mut O) -> Status
+    ensures { FollowsConfig AreCounts name.now result (record { files = S.files shelf.old; shelf = S.faults shelf.old; shelf' = S.faults shelf.new; out = O.printed out.old; out' = O.printed out.new }) }
+{
+    match fetch_config(alloc, shelf, name) {
+        Ok(config) => close(None, check_line(&config).bytes(), out),
+        Err(stop) => stopped_status(stop),
+    }
+}
+
+/// `migrate`: shows a text of version 2 that stands for the same configuration.
+fn migrate<S: Shelf, O: Sink>(alloc: Global, name: &FileName, shelf: &mut S, out: &mut O) -> Status
+    ensures { FollowsConfig IsMigrated name.now result (record { files = S.files shelf.old; shelf = S.faults shelf.old; shelf' = S.faults shelf.new; out = O.printed out.old; out' = O.printed out.new }) }
+{
+    let config = match fetch_config(alloc, shelf, name) {
+        Ok(config) => config,
+        Err(stop) => return stopped_status(stop),
+    };
+    match migrate_text(alloc, &config) {
+        Ok(text) => close(None, text.as_slice(), out),
+        Err(NoMemory) => Status::NoMemory,
+    }
+}
+
+/// The answer about a file of this name.
+fn status_of(name: FileName, answer: Answer) -> Status
+    ensures { result ≡ status_of name answer }
+{
+    match answer {
+        Answer::Done => Status::Done,
+        Answer::Missing => Status::Missing(name),
+        Answer::TooLong => Status::TooLong(name),
+        Answer::ShelfFault => Status::ShelfFault,
+        Answer::Asm(fault) => Status::Asm(fault),
+        Answer::OutFault => Status::OutFault,
+        Answer::NoMemory => Status::NoMemory,
+    }
+}
+
+/// Does what the words say, over a shelf of files, a machine of 32,768 pages, 32 lines and 16 drives; the summary, or
+/// what a command shows of a file, is put on `out`. The machine's memory and counts may hold anything.
+pub fn vvmm_run<H: Hardware, S: Shelf, O: Sink>(
+    alloc: Global,
+    words: &[String],
+    shelf: &mut S,
+    machine: &mut H,
+    lines: &mut Vec<Box<dyn Line>>,
+    drives: &mut Vec<Box<dyn Drive>>,
+    out: &mut O,
+) -> Status
+    requires pages { length (H.machine machine.old).memory ≡ 512 * 32768 }
+    requires lines { vec_len lines.old ≡ 32 }
+    requires drives { vec_len drives.old ≡ 16 }
+    ensures { Says (wanted (map (λ w. string_bytes w) words.now)) result (record { files = S.files shelf.old; shelf = S.faults shelf.old; shelf' = S.faults shelf.new; machine = H.machine machine.old; machine' = H.machine machine.new; lines = map (λ b. seen b) lines.old.items; lines' = map (λ b. seen b) lines.new.items; drives = map (λ d. kept d) drives.old.items; drives' = map (λ d. kept d) drives.new.items; out = O.printed out.old; out' = O.printed out.new }) }
+{
+    match parse(words) {
+        None => Status::Words,
+        Some(Request::Solo(order)) => solo(alloc, order, shelf, machine, lines, drives, out),
+        Some(Request::Run(order)) => run(alloc, order, shelf, machine, lines, drives, out),
+        Some(Request::Check(name)) => check(alloc, &name, shelf, out),
+        Some(Request::Migrate(name)) => migrate(alloc, &name, shelf, out),
+        Some(Request::Asm(source)) => {
+            let answer = asm(alloc, &source, shelf, out);
+            status_of(source, answer)
+        }
+        Some(Request::Dis(image)) => {
+            let answer = dis(alloc, &image, shelf, out);
+            status_of(image, answer)
+        }
+    }
+}

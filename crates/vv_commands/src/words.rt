@@ -1,0 +1,123 @@
+ghost use Rattle.std.specs.Prelude.{◌≡◌, ◌≤◌, ℕ, map, string_bytes, true, IfSome};
+ghost use Rattle.std.specs.Option.{option_map};
+ghost use Rattle.vv_base.specs.Names.{is_file_name};
+ghost use Rattle.vv_commands.specs.Words.{IsInRange, file_wanted, number_in, run_asked, solo_asked, wanted, wanted_by};
+
+use vv_base::{FileName, file_name, read_decimal};
+
+/// What `solo IMAGE STEPS` asks for.
+#[derive(Drop)]
+pub struct Order {
+    pub image: FileName,
+    pub steps: u32,
+}
+
+/// What `run CONFIG SCRIPT ROUNDS` asks for.
+#[derive(Drop)]
+pub struct RunOrder {
+    pub config: FileName,
+    pub script: FileName,
+    pub rounds: u32,
+}
+
+/// What the words ask for.
+#[derive(Drop)]
+pub enum Request {
+    /// One guest's run.
+    Solo(Order),
+    /// A configuration's run.
+    Run(RunOrder),
+    /// A configuration, counted.
+    Check(FileName),
+    /// A configuration, written anew.
+    Migrate(FileName),
+    /// A source, assembled.
+    Asm(FileName),
+    /// An image, disassembled.
+    Dis(FileName),
+}
+
+/// A number from 1 to the most.
+fn number_in(text: &[u8], most: u32) -> Option<u32>
+    ensures is { option_map (λ n. n) result ≡ number_in text.now most }
+    ensures range { IfSome result (λ n. (1 ≤ n) × (n ≤ most)) }
+{
+    match read_decimal(text, u64::from(most)) {
+        Some(n) if 1 <= n => Some(n as u32),
+        _ => None,
+    }
+}
+
+/// What `solo IMAGE STEPS` asks for, if the words are of the form.
+fn solo_order(command: &[u8], image: &[u8], steps: &[u8]) -> Option<Order>
+    ensures range { IfSome result (λ o. (is_file_name o.image ≡ true) × (1 ≤ o.steps) × (o.steps ≤ 100000)) }
+    ensures asked { option_map (λ o. record { image = o.image; steps = o.steps }) result ≡ solo_asked command.now image.now steps.now }
+{
+    if command != b"solo".as_slice() {
+        return None;
+    }
+    let image = file_name(image)?;
+    let steps = number_in(steps, 100_000)?;
+    Some(Order { image, steps })
+}
+
+/// What `run CONFIG SCRIPT ROUNDS` asks for, if the words are of the form.
+fn run_order(command: &[u8], config: &[u8], script: &[u8], rounds: &[u8]) -> Option<RunOrder>
+    ensures range { IfSome result (λ o. (1 ≤ o.rounds) × (o.rounds ≤ 1000000)) }
+    ensures asked { option_map (λ o. record { config = o.config; script = o.script; rounds = o.rounds }) result ≡ run_asked command.now config.now script.now rounds.now }
+{
+    if command != b"run".as_slice() {
+        return None;
+    }
+    let config = file_name(config)?;
+    let script = file_name(script)?;
+    let rounds = number_in(rounds, 1_000_000)?;
+    Some(RunOrder {
+        config,
+        script,
+        rounds,
+    })
+}
+
+/// What a command with one file asks for, if the words are of a form.
+fn file_request(command: &[u8], file: &[u8]) -> Option<Request>
+    ensures range { IfSome result (λ r. IsInRange r) }
+    ensures wanted { option_map (λ r. wanted_by r) result ≡ file_wanted command.now file.now }
+{
+    let name = file_name(file)?;
+    if command == b"check".as_slice() {
+        Some(Request::Check(name))
+    } else if command == b"migrate".as_slice() {
+        Some(Request::Migrate(name))
+    } else if command == b"asm".as_slice() {
+        Some(Request::Asm(name))
+    } else if command == b"dis".as_slice() {
+        Some(Request::Dis(name))
+    } else {
+        None
+    }
+}
+
+/// What the words ask for, if they are of a form.
+pub fn parse(words: &[String]) -> Option<Request>
+    ensures range { IfSome result (λ r. IsInRange r) }
+    ensures wanted { option_map (λ r. wanted_by r) result ≡ wanted (map (λ w. string_bytes w) words.now) }
+{
+    match words {
+        [command, file] => file_request(command.as_bytes(), file.as_bytes()),
+        [command, image, steps] => {
+            let order = solo_order(command.as_bytes(), image.as_bytes(), steps.as_bytes())?;
+            Some(Request::Solo(order))
+        }
+        [command, config, script, rounds] => {
+            let order = run_order(
+                command.as_bytes(),
+                config.as_bytes(),
+                script.as_bytes(),
+                rounds.as_bytes(),
+            )?;
+            Some(Request::Run(order))
+        }
+        _ => None,
+    }
+}

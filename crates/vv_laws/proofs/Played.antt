@@ -1,0 +1,125 @@
+-- A run that was to be made, by its counts of faults.
+use Rattle.std.proofs.Common.{ℕ, ◌≡◌, ◌<◌, ◌==◌, List, length, Bool, true, false, All, Option, Some, None, Result, Ok, Err, refl, subst, sym, ap, ◌∙◌, arith}
+use Rattle.std.proofs.lemmas.Bool.{eqb-false, eqb-true}
+use Rattle.std.proofs.lemmas.List.{get_or-set_other, get_or-set_same}
+use Rattle.vv_io.specs.Blocks.{Kept, unkept}
+use Rattle.vv_io.specs.Causes.{Rose}
+use Rattle.vv_io.specs.Lines.{Seen}
+use Rattle.sys_drives.proofs.Places.{at_stands}
+use Rattle.sys_drives.specs.Loads.{HasFailed, OnlyRose}
+use Rattle.sys_drives.specs.Rows.{FitsDrive, drive_at}
+use Rattle.sys_guests.specs.Loads.{first_misfit}
+use Rattle.sys_lines.specs.Showing.{Showing}
+use Rattle.sys_objects.specs.Condition.{IsConfig, IsVolume}
+use Rattle.sys_objects.specs.declared.records.Config.{Config}
+use Rattle.sys_rounds.proofs.Places.{both}
+use Rattle.sys_rounds.specs.Run.{Input}
+use Rattle.sys_runs.specs.Ran.{Makes, Outside, Runs, Unshown}
+use Rattle.sys_runs.specs.declared.running.Ran.{Ran}
+use Rattle.sys_script.specs.declared.event.Event.{Event}
+use Rattle.sys_system.specs.Devices.{device_of}
+use Rattle.sys_system.specs.declared.parts.Device.{Device}
+use Rattle.sys_system.specs.declared.power.PowerFault.{PowerFault}
+use Rattle.sys_system.specs.declared.power.PowerFault.TheVariants.{Image, VolumeSize, DriveIn, NoMemory}
+use Rattle.vv_commands.specs.Answer.{Answers, Closes, Plays, done_status}
+use Rattle.vv_commands.specs.declared.status.Status.{Status}
+use Rattle.vv_laws.proofs.Marked.{drive_rose, first_marked, is_there, line_rose, marked_at, no_drive_greater, no_drive_lower, no_line_greater, no_line_lower}
+use Rattle.vv_laws.specs.Complete.{IsServed, NamesDrive, NamesLine, line_at}
+
+-- what is put is shown, where all was done before and the sink's count did not rise
+pub closes_served : (failed : Option Device) (bytes : List ℕ) (status : Status) (out out' : Seen) → failed ≡ None → Closes failed bytes status out out' → (Rose out.faults out'.faults → ⊥) → IsServed status
+closes_served failed bytes status out out' none c kept = subst (λ (s : Status). IsServed s) (sym c.is) (by failed c.cut none c.shows)
+  where
+    by : (failed : Option Device) (cut : Bool) → failed ≡ None → Showing cut out out' bytes → IsServed (done_status failed cut)
+    by (Some device) cut e shows = cc
+    by None true e shows = absurd (kept shows.0)
+    by None false e shows = tt
+
+no_device : (line drive : Option ℕ) → ((k : ℕ) → line ≡ Some k → ⊥) → ((d : ℕ) → drive ≡ Some d → ⊥) → device_of line drive ≡ None
+no_device None None lines drives = refl
+no_device None (Some d) lines drives = absurd (drives d refl)
+no_device (Some k) drive lines drives = absurd (lines k refl)
+
+-- where no count rose, no device failed
+abbrev NoLineRose : Outside → Type 0
+NoLineRose o = (k : ℕ) → Rose (line_at o.lines k).faults (line_at o.lines' k).faults → ⊥
+
+abbrev NoDriveRose : Outside → Type 0
+NoDriveRose o = (d : ℕ) → Rose (drive_at o.drives d).faults (drive_at o.drives' d).faults → ⊥
+
+none_failed : (x : Input) (ran : Ran) (o : Outside) → Makes x ran o → NoLineRose o → NoDriveRose o → ran.failed ≡ None
+none_failed x ran o made lines drives = made.failed ∙ no_device (first_marked made.marks) (first_marked made.drive_marks)
+    (λ k e. lines k (line_rose made.marks o.lines o.lines' _ k e made.lines))
+    (λ d e. drives d (drive_rose x made.drive_marks o.drives o.drives' d made.drives (marked_at made.drive_marks d e)))
+
+-- a drive that failed while its volume was read
+pub drive_in_rose : (c : Config) (drives drives' : List Kept) (d : ℕ) → IsConfig c → All (FitsDrive drives) c.volumes → HasFailed c.volumes drives drives' d → Rose (drive_at drives d).faults (drive_at drives' d).faults
+drive_in_rose c drives drives' d accepted fit failed =
+    let volume : IsVolume failed.row = at_stands IsVolume c.volumes failed.place failed.row failed.stands accepted.volumes in
+    let fits : FitsDrive drives failed.row = at_stands (FitsDrive drives) c.volumes failed.place failed.row failed.stands fit in
+    let size : (drive_at drives d).size ≡ failed.row.blocks = ap (λ k. (drive_at drives k).size) (sym failed.drive) ∙ fits in
+    let within : d < length drives = is_there drives d (omega (arith, size, volume.some_blocks)) in
+    let only : OnlyRose drives drives' d = failed.rose in
+    let now : (drive_at drives' d).faults ≡ only.faults = ap (λ (ks : List Kept). (drive_at ks d).faults) only.is ∙ ap (λ (k : Kept). k.faults) (get_or-set_same drives d (record (drive_at drives d) { faults = only.faults }) unkept within) in
+    subst (λ n. Rose (drive_at drives d).faults n) (sym now) only.rose
+
+module _ (c : Config) (images : List (List ℕ)) (es : List Event) (rounds : ℕ) (status : Status) (o : Outside) (out out' : Seen) (p : Plays c images es rounds status o out out') where
+  -- images and drives that fit, and no risen count, are served
+  pub plays_served : first_misfit c.guests images ≡ None → All (FitsDrive o.drives) c.volumes → ((d : ℕ) → HasFailed c.volumes o.drives o.drives' d → ⊥) → NoLineRose o → NoDriveRose o → (Rose out.faults out'.faults → ⊥) → IsServed status
+  plays_served fits drives_fit readable lines drives kept = by p.result p.runs p.answers
+    where
+      by : (result : Result Ran PowerFault) → Runs c images es rounds result o → Answers rounds result status out out' → IsServed status
+      by (Ok ran) (volumes, made) closes = closes_served ran.failed _ status out out' (none_failed _ ran o made lines drives) closes kept
+      by (Err (Image g)) (misfit, rest) answers = cc (misfit, fits)
+      by (Err (VolumeSize v)) (none, misfit, rest) answers = absurd (misfit.differs (at_stands (FitsDrive o.drives) c.volumes v misfit.row misfit.stands drives_fit))
+      by (Err (DriveIn d)) (none, failed, rest) answers = absurd (readable d failed)
+      by (Err NoMemory) rest (answer, same) = subst (λ (s : Status). IsServed s) (sym answer) tt
+
+  -- after a fault no line was put
+  unshown : (fault : PowerFault) → Runs c images es rounds (Err fault) o → Unshown o
+  unshown (Image g) (misfit, untouched) = untouched.shown
+  unshown (VolumeSize v) (none, misfit, untouched) = untouched.shown
+  unshown (DriveIn d) (none, failed, shown) = shown
+  unshown NoMemory untouched = untouched.shown
+
+  -- a line whose count is greater is named, or one of a lower number
+  pub plays_names_line : (k : ℕ) → (line_at o.lines k).faults < (line_at o.lines' k).faults → NamesLine k status
+  plays_names_line k h = by p.result p.runs p.answers
+    where
+      named : (x : Input) (ran : Ran) (made : Makes x ran o) (line drive : Option ℕ) (cut : Bool) → first_marked made.marks ≡ line → NamesLine k (done_status (device_of line drive) cut)
+      named x ran made (Some line) drive cut e = no_line_lower made.marks o.lines o.lines' _ line k e made.lines h
+      named x ran made None drive cut e = absurd (no_line_greater made.marks o.lines o.lines' _ k e made.lines h)
+
+      by : (result : Result Ran PowerFault) → Runs c images es rounds result o → Answers rounds result status out out' → NamesLine k status
+      by (Ok ran) (volumes, made) closes =
+          let is : status ≡ done_status (device_of (first_marked made.marks) (first_marked made.drive_marks)) closes.cut = closes.is ∙ ap (λ (f : Option Device). done_status f closes.cut) made.failed in
+          subst (λ (s : Status). NamesLine k s) (sym is) (named _ ran made (first_marked made.marks) (first_marked made.drive_marks) closes.cut refl)
+      by (Err fault) runs answers = absurd (omega (arith, h, ap (λ (ls : List Seen). (line_at ls k).faults) (unshown fault runs).lines))
+
+  -- a drive whose count is greater is named, or a line, or a drive of a lower number
+  pub plays_names_drive : (d : ℕ) → (drive_at o.drives d).faults < (drive_at o.drives' d).faults → NamesDrive d status
+  plays_names_drive d h = by p.result p.runs p.answers
+    where
+      named : (x : Input) (ran : Ran) (made : Makes x ran o) (line drive : Option ℕ) (cut : Bool) → first_marked made.drive_marks ≡ drive → NamesDrive d (done_status (device_of line drive) cut)
+      named x ran made (Some line) drive cut e = tt
+      named x ran made None (Some drive) cut e = no_drive_lower x made.drive_marks o.drives o.drives' d made.drives drive e h
+      named x ran made None None cut e = absurd (no_drive_greater x made.drive_marks o.drives o.drives' d made.drives e h)
+
+      same : o.drives' ≡ o.drives → ⊥
+      same e = omega (arith, h, ap (λ (ks : List Kept). (drive_at ks d).faults) e)
+
+      -- no other drive's count rose
+      only : (e : ℕ) → OnlyRose o.drives o.drives' e → e ≡ d
+      only e rose = both (e == d) (λ is. eqb-true e d is) (λ is.
+          let other : (e ≡ d → ⊥) = eqb-false e d is in
+          let kept : drive_at o.drives' d ≡ drive_at o.drives d = ap (λ (ks : List Kept). drive_at ks d) rose.is ∙ get_or-set_other o.drives e d (record (drive_at o.drives e) { faults = rose.faults }) unkept (λ q. other (sym q)) in
+          absurd (omega (arith, h, ap (λ (k : Kept). k.faults) kept)))
+
+      by : (result : Result Ran PowerFault) → Runs c images es rounds result o → Answers rounds result status out out' → NamesDrive d status
+      by (Ok ran) (volumes, made) closes =
+          let is : status ≡ done_status (device_of (first_marked made.marks) (first_marked made.drive_marks)) closes.cut = closes.is ∙ ap (λ (f : Option Device). done_status f closes.cut) made.failed in
+          subst (λ (s : Status). NamesDrive d s) (sym is) (named _ ran made (first_marked made.marks) (first_marked made.drive_marks) closes.cut refl)
+      by (Err (Image g)) (misfit, untouched) answers = absurd (same untouched.drives)
+      by (Err (VolumeSize v)) (none, misfit, untouched) answers = absurd (same untouched.drives)
+      by (Err (DriveIn e)) (none, failed, shown) (answer, kept) = subst (λ (s : Status). NamesDrive d s) (sym answer) (only e failed.rose)
+      by (Err NoMemory) untouched answers = absurd (same untouched.drives)

@@ -1,0 +1,86 @@
+-- Which answer must come to `solo`.
+use Rattle.std.proofs.Common.{ℕ, ◌≡◌, ◌≤◌, ◌+◌, inl, inr, List, [], ◌∷◌, length, slice_get, Bool, All, Option, Some, None, subst, sym, ap, arith}
+use Rattle.std.proofs.lemmas.Bool.{le-ltb}
+use Rattle.vv_io.specs.Blocks.{Kept}
+use Rattle.vv_io.specs.Causes.{Rose}
+use Rattle.vv_io.specs.Lines.{Seen}
+use Rattle.vv_io.specs.Shelf.{File, held}
+use Rattle.sys_drives.specs.Loads.{HasFailed}
+use Rattle.sys_drives.specs.Rows.{FitsDrive}
+use Rattle.sys_guests.specs.Loads.{first_misfit}
+use Rattle.sys_objects.specs.declared.records.VolumeRow.{VolumeRow}
+use Rattle.sys_rounds.specs.Places.{place_of}
+use Rattle.vv_commands.specs.Answer.{Outside, run_of, stopped_status}
+use Rattle.vv_commands.specs.Files.{IsRead, StopsFile}
+use Rattle.vv_commands.specs.Solo.{load_address, memory_size, solo_config}
+use Rattle.vv_commands.specs.Words.{Asked}
+use Rattle.vv_commands.specs.declared.status.Status.{Status}
+use Rattle.vv_commands.specs.declared.stop.Stop.{Stop}
+use Rattle.vv_commands.specs.declared.stop.Stop.TheVariants.{Missing, TooLong, ShelfFault, Config as ConfigRefused, Script as ScriptRefused, NoMemory}
+use Rattle.vv_laws.proofs.Played.{plays_names_line, plays_served}
+use Rattle.vv_laws.proofs.Told.{lacked, not_long, one_text, read_as, too_long}
+use Rattle.vv_laws.specs.Complete.{CompletesSolo, IsLong, IsMissing, IsServed, IsTooLong, TellsSoloDevice, TellsSoloMissing, TellsSoloTooLong, line_at}
+
+-- the image fits, and there is no volume
+no_misfit : (a : Asked) (image : List ℕ) → load_address + length image ≤ memory_size → first_misfit (solo_config a).guests (image ∷ []) ≡ None
+no_misfit a image fits = ap (λ b. place_of (λ (c : Bool). c) (b ∷ [])) (le-ltb memory_size (load_address + length image) fits)
+
+no_volume : (drives drives' : List Kept) (d : ℕ) → HasFailed [] drives drives' d → ⊥
+no_volume drives drives' d failed = there failed.place failed.row failed.stands
+  where
+    there : (v : ℕ) (row : VolumeRow) → (let rows : List VolumeRow = [] in slice_get rows v ≡ Some row) → ⊥
+    there v row e = cc
+
+all_fit : (drives : List Kept) → All (FitsDrive drives) []
+all_fit drives k e h = absurd (omega (arith, h))
+
+module _ (files : List File) (name : List ℕ) (before now : ℕ) where
+  -- the fetch of one file stops
+  served_stop : (stop : Stop) (text : List ℕ) → StopsFile (Some files) name before now stop → IsRead (Some files) name text → (Rose before now → ⊥) → IsServed (stopped_status stop)
+  served_stop (Missing n) text (same, lacks) read none = read_as files name n text same (lacked files n lacks) read
+  served_stop (TooLong n) text (same, long) read none = read_as files name n text same (too_long files n long) read
+  served_stop ShelfFault text rose read none = none rose
+  served_stop (ConfigRefused f) text h read none = h
+  served_stop (ScriptRefused f) text h read none = h
+  served_stop NoMemory text h read none = tt
+
+  missing_stop : (stop : Stop) → StopsFile (Some files) name before now stop → held files name ≡ None → (Rose before now → ⊥) → IsMissing name (stopped_status stop)
+  missing_stop (Missing n) (same, rest) lacks none = same
+  missing_stop (TooLong n) (same, long) lacks none = not_long files name n (sym same) lacks long
+  missing_stop ShelfFault rose lacks none = none rose
+  missing_stop (ConfigRefused f) h lacks none = h
+  missing_stop (ScriptRefused f) h lacks none = h
+  missing_stop NoMemory h lacks none = tt
+
+  long_stop : (stop : Stop) → StopsFile (Some files) name before now stop → IsLong files name → (Rose before now → ⊥) → IsTooLong name (stopped_status stop)
+  long_stop (TooLong n) (same, rest) long none = same
+  long_stop (Missing n) (same, lacks) long none = not_long files n name same lacks long
+  long_stop ShelfFault rose long none = none rose
+  long_stop (ConfigRefused f) h long none = h
+  long_stop (ScriptRefused f) h long none = h
+  long_stop NoMemory h long none = tt
+
+-- the shelf tells its files
+stops_told : (o : Outside) (files : List File) (name : List ℕ) (stop : Stop) → o.files ≡ Some files → StopsFile o.files name o.shelf o.shelf' stop → StopsFile (Some files) name o.shelf o.shelf' stop
+stops_told o files name stop told why = subst (λ (f : Option (List File)). StopsFile f name o.shelf o.shelf' stop) told why
+
+read_told : (o : Outside) (files : List File) (name text : List ℕ) → o.files ≡ Some files → IsRead o.files name text → IsRead (Some files) name text
+read_told o files name text told read = subst (λ (f : Option (List File)). IsRead f name text) told read
+
+pub completes_solo : CompletesSolo
+completes_solo a status o image files (inl (stops, silent)) told read fits none = subst (λ (s : Status). IsServed s) (sym stops.is) (served_stop files a.image o.shelf o.shelf' stops.stop image (stops_told o files a.image stops.stop told stops.why) read none.shelf)
+completes_solo a status o image files (inr p) told read fits none =
+    let same : image ≡ p.image = one_text files a.image image p.image read (read_told o files a.image p.image told p.read) in
+    plays_served (solo_config a) (p.image ∷ []) [] 1 status (run_of o) o.out o.out' p.plays (no_misfit a p.image (subst (λ (text : List ℕ). load_address + length text ≤ memory_size) same fits)) (all_fit o.drives) (no_volume o.drives o.drives') none.lines none.drives none.out
+
+pub tells_solo_missing : TellsSoloMissing
+tells_solo_missing a status o files (inl (stops, silent)) told lacks none = subst (λ (s : Status). IsMissing a.image s) (sym stops.is) (missing_stop files a.image o.shelf o.shelf' stops.stop (stops_told o files a.image stops.stop told stops.why) lacks none)
+tells_solo_missing a status o files (inr p) told lacks none = absurd (lacked files a.image lacks p.image (read_told o files a.image p.image told p.read))
+
+pub tells_solo_too_long : TellsSoloTooLong
+tells_solo_too_long a status o files (inl (stops, silent)) told long none = subst (λ (s : Status). IsTooLong a.image s) (sym stops.is) (long_stop files a.image o.shelf o.shelf' stops.stop (stops_told o files a.image stops.stop told stops.why) long none)
+tells_solo_too_long a status o files (inr p) told long none = absurd (too_long files a.image long p.image (read_told o files a.image p.image told p.read))
+
+pub tells_solo_device : TellsSoloDevice
+tells_solo_device a status o k (inl (stops, silent)) h = absurd (omega (arith, h, ap (λ (ls : List Seen). (line_at ls k).faults) silent.run.shown.lines))
+tells_solo_device a status o k (inr p) h = plays_names_line (solo_config a) (p.image ∷ []) [] 1 status (run_of o) o.out o.out' p.plays k h

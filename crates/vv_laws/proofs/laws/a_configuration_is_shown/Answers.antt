@@ -1,0 +1,9 @@
+use Rattle.vv_commands.specs.Answer.{AreCounts, IsMigrated}
+use Rattle.vv_laws.proofs.Shown.{completes_config}
+use Rattle.vv_laws.proofs.laws.a_configuration_is_shown.Goals as goal
+
+pub returns-clause-check : goal.returns-clause-check
+returns-clause-check c = completes_config AreCounts
+
+pub returns-clause-migrate : goal.returns-clause-migrate
+returns-clause-migrate c = completes_config IsMigrated

@@ -1,0 +1,9 @@
+use Rattle.vv_commands.specs.Answer.{AreCounts, IsMigrated}
+use Rattle.vv_laws.proofs.Shown.{tells_config_missing}
+use Rattle.vv_laws.proofs.laws.a_missing_configuration_is_told.Goals as goal
+
+pub returns-clause-check : goal.returns-clause-check
+returns-clause-check c = tells_config_missing AreCounts
+
+pub returns-clause-migrate : goal.returns-clause-migrate
+returns-clause-migrate c = tells_config_missing IsMigrated

@@ -1,0 +1,147 @@
+-- What follows from the answers' causes: which answer must come. The shelf tells its files.
+use Rattle.std.specs.Prelude.{ℕ, ◌≡◌, ◌≤◌, ◌<◌, ◌+◌, List, None, Some, Result, Ok, Err, length, All, slice_index_or}
+use Rattle.vv_io.specs.Causes.{Rose}
+use Rattle.vv_io.specs.Lines.{Seen, unseen}
+use Rattle.vv_io.specs.Shelf.{File, file_limit, held}
+use Rattle.vasm_text.specs.declared.fault.AsmFault.{AsmFault}
+use Rattle.sys_drives.specs.Rows.{FitsDrive, drive_at}
+use Rattle.sys_guests.specs.Loads.{first_misfit}
+use Rattle.sys_objects.specs.declared.errors.ConfigFault.{ConfigFault}
+use Rattle.sys_objects.specs.declared.records.Config.{Config}
+use Rattle.sys_script.specs.declared.event.Event.{Event}
+use Rattle.sys_script.specs.declared.event.ScriptFault.{ScriptFault}
+use Rattle.sys_system.specs.declared.parts.Device.TheVariants as devices
+use Rattle.vv_commands.specs.Answer.{FollowsConfig, FollowsRun, FollowsSolo, Outside, ShowsFile, shelf_and_sink}
+use Rattle.vv_commands.specs.Files.{HasAll, HasConfig, IsConfigRefused, IsNext, IsRead, IsScriptRefused}
+use Rattle.vv_commands.specs.Solo.{load_address, memory_size}
+use Rattle.vv_commands.specs.Words.{Asked, RunAsked}
+use Rattle.vv_commands.specs.declared.status.Status.{Status}
+use Rattle.vv_commands.specs.declared.status.Status.TheVariants.{Done, Missing, TooLong, Config as ConfigRefused, Script as ScriptRefused, DriveIn, Device as DeviceFault, Asm, NoMemory}
+
+abbrev pub line_at : List Seen → ℕ → Seen
+line_at lines k = slice_index_or lines k unseen
+
+-- no count of faults rose
+pub record NoneRose (o : Outside) : Type 0 where
+  pub shelf : Rose o.shelf o.shelf' → ⊥
+  pub lines : (k : ℕ) → Rose (line_at o.lines k).faults (line_at o.lines' k).faults → ⊥
+  pub drives : (d : ℕ) → Rose (drive_at o.drives d).faults (drive_at o.drives' d).faults → ⊥
+  pub out : Rose o.out.faults o.out'.faults → ⊥
+
+-- all was done, or memory ran out before anything was shown
+abbrev pub IsServed : Status → Type 0
+IsServed Done = Unit {0}
+IsServed NoMemory = Unit {0}
+IsServed status = ⊥
+
+-- this answer, or memory ran out
+abbrev pub IsMissing : List ℕ → Status → Type 0
+IsMissing file (Missing name) = name ≡ file
+IsMissing file NoMemory = Unit {0}
+IsMissing file status = ⊥
+
+abbrev pub IsTooLong : List ℕ → Status → Type 0
+IsTooLong file (TooLong name) = name ≡ file
+IsTooLong file NoMemory = Unit {0}
+IsTooLong file status = ⊥
+
+abbrev pub TellsRule : ConfigFault → Status → Type 0
+TellsRule fault (ConfigRefused f) = f ≡ fault
+TellsRule fault NoMemory = Unit {0}
+TellsRule fault status = ⊥
+
+abbrev pub TellsLine : ScriptFault → Status → Type 0
+TellsLine fault (ScriptRefused f) = f ≡ fault
+TellsLine fault NoMemory = Unit {0}
+TellsLine fault status = ⊥
+
+abbrev pub TellsAsm : AsmFault → Status → Type 0
+TellsAsm fault (Asm f) = f ≡ fault
+TellsAsm fault NoMemory = Unit {0}
+TellsAsm fault status = ⊥
+
+-- a line is named, of a number up to k
+abbrev pub NamesLine : ℕ → Status → Type 0
+NamesLine k (DeviceFault (devices.Line line)) = line ≤ k
+NamesLine k status = ⊥
+
+-- a line is named, or a drive of a number up to d; or the drive failed before the first round
+abbrev pub NamesDrive : ℕ → Status → Type 0
+NamesDrive d (DeviceFault (devices.Line line)) = Unit {0}
+NamesDrive d (DeviceFault (devices.Drive drive)) = drive ≤ d
+NamesDrive d (DriveIn drive) = drive ≡ d
+NamesDrive d status = ⊥
+
+-- a held file is of at most so many bytes
+abbrev pub IsLong : List File → List ℕ → Type 0
+IsLong files name = (bytes : List ℕ) × (held files name ≡ Some bytes) × (file_limit < length bytes)
+
+-- `solo`: a held image within the limit that fits, and no risen count, are served
+abbrev pub CompletesSolo : Type 0
+CompletesSolo = (a : Asked) (status : Status) (o : Outside) (image : List ℕ) (files : List File) → FollowsSolo a status o → o.files ≡ Some files → IsRead (Some files) a.image image → load_address + length image ≤ memory_size → NoneRose o
+    → IsServed status
+
+abbrev pub TellsSoloMissing : Type 0
+TellsSoloMissing = (a : Asked) (status : Status) (o : Outside) (files : List File) → FollowsSolo a status o → o.files ≡ Some files → held files a.image ≡ None → (Rose o.shelf o.shelf' → ⊥) → IsMissing a.image status
+
+abbrev pub TellsSoloTooLong : Type 0
+TellsSoloTooLong = (a : Asked) (status : Status) (o : Outside) (files : List File) → FollowsSolo a status o → o.files ≡ Some files → IsLong files a.image → (Rose o.shelf o.shelf' → ⊥) → IsTooLong a.image status
+
+-- where a line's count is greater, it is named or one of a lower number
+abbrev pub TellsSoloDevice : Type 0
+TellsSoloDevice = (a : Asked) (status : Status) (o : Outside) (k : ℕ) → FollowsSolo a status o → (line_at o.lines k).faults < (line_at o.lines' k).faults → NamesLine k status
+
+-- `run`: held files that stand for a configuration, a script and images that fit, drives that fit, and no risen count, are served
+abbrev pub CompletesRun : Type 0
+CompletesRun = (a : RunAsked) (status : Status) (o : Outside) (files : List File) (c : Config) (es : List Event) (images : List (List ℕ)) → FollowsRun a status o → o.files ≡ Some files → HasAll (Some files) a c es images
+    → first_misfit c.guests images ≡ None → All (FitsDrive o.drives) c.volumes → NoneRose o → IsServed status
+
+-- the first file that the shelf lacks is missing, and the first that is too long is told so, where the shelf did not fail
+abbrev pub TellsRunMissing : Type 0
+TellsRunMissing = (a : RunAsked) (status : Status) (o : Outside) (files : List File) (name : List ℕ) → FollowsRun a status o → o.files ≡ Some files → IsNext (Some files) a name → held files name ≡ None → (Rose o.shelf o.shelf' → ⊥) → IsMissing name status
+
+abbrev pub TellsRunTooLong : Type 0
+TellsRunTooLong = (a : RunAsked) (status : Status) (o : Outside) (files : List File) (name : List ℕ) → FollowsRun a status o → o.files ≡ Some files → IsNext (Some files) a name → IsLong files name → (Rose o.shelf o.shelf' → ⊥) → IsTooLong name status
+
+-- a configuration that is refused is told, and a script
+abbrev pub TellsRunRule : Type 0
+TellsRunRule = (a : RunAsked) (status : Status) (o : Outside) (files : List File) (f : ConfigFault) → FollowsRun a status o → o.files ≡ Some files → IsConfigRefused (Some files) a.config f → (Rose o.shelf o.shelf' → ⊥) → TellsRule f status
+
+abbrev pub TellsRunLine : Type 0
+TellsRunLine = (a : RunAsked) (status : Status) (o : Outside) (files : List File) (c : Config) (f : ScriptFault) → FollowsRun a status o → o.files ≡ Some files → HasConfig (Some files) a.config c → IsScriptRefused (Some files) a.script f → (Rose o.shelf o.shelf' → ⊥)
+    → TellsLine f status
+
+-- where a line's count is greater, it is named or one of a lower number; where a drive's is, a line or it or a lower drive
+abbrev pub TellsRunLineFault : Type 0
+TellsRunLineFault = (a : RunAsked) (status : Status) (o : Outside) (k : ℕ) → FollowsRun a status o → (line_at o.lines k).faults < (line_at o.lines' k).faults → NamesLine k status
+
+abbrev pub TellsRunDriveFault : Type 0
+TellsRunDriveFault = (a : RunAsked) (status : Status) (o : Outside) (d : ℕ) → FollowsRun a status o → (drive_at o.drives d).faults < (drive_at o.drives' d).faults → NamesDrive d status
+
+-- `check` and `migrate`, which put bytes that stand so to a configuration: likewise
+abbrev pub CompletesConfig : (Config → List ℕ → Type 0) → Type 0
+CompletesConfig Bytes = (name : List ℕ) (status : Status) (o : Outside) (files : List File) (c : Config) → FollowsConfig Bytes name status (shelf_and_sink o) → o.files ≡ Some files → HasConfig (Some files) name c → NoneRose o → IsServed status
+
+abbrev pub TellsConfigMissing : (Config → List ℕ → Type 0) → Type 0
+TellsConfigMissing Bytes = (name : List ℕ) (status : Status) (o : Outside) (files : List File) → FollowsConfig Bytes name status (shelf_and_sink o) → o.files ≡ Some files → held files name ≡ None → (Rose o.shelf o.shelf' → ⊥) → IsMissing name status
+
+abbrev pub TellsConfigTooLong : (Config → List ℕ → Type 0) → Type 0
+TellsConfigTooLong Bytes = (name : List ℕ) (status : Status) (o : Outside) (files : List File) → FollowsConfig Bytes name status (shelf_and_sink o) → o.files ≡ Some files → IsLong files name → (Rose o.shelf o.shelf' → ⊥) → IsTooLong name status
+
+abbrev pub TellsConfigRule : (Config → List ℕ → Type 0) → Type 0
+TellsConfigRule Bytes = (name : List ℕ) (status : Status) (o : Outside) (files : List File) (f : ConfigFault) → FollowsConfig Bytes name status (shelf_and_sink o) → o.files ≡ Some files → IsConfigRefused (Some files) name f → (Rose o.shelf o.shelf' → ⊥) → TellsRule f status
+
+-- `asm` and `dis`: a held file within the limit that stands for bytes, and no risen count, are served; and so on
+abbrev pub CompletesFile : Type 0
+CompletesFile = (made : List ℕ → Result (List ℕ) AsmFault) (name : List ℕ) (status : Status) (o : Outside) (files : List File) (bytes shown : List ℕ) → ShowsFile made name status o → o.files ≡ Some files → IsRead (Some files) name bytes
+    → made bytes ≡ Ok shown → NoneRose o → IsServed status
+
+abbrev pub TellsFileRefused : Type 0
+TellsFileRefused = (made : List ℕ → Result (List ℕ) AsmFault) (name : List ℕ) (status : Status) (o : Outside) (files : List File) (bytes : List ℕ) (fault : AsmFault) → ShowsFile made name status o → o.files ≡ Some files → IsRead (Some files) name bytes
+    → made bytes ≡ Err fault → NoneRose o → TellsAsm fault status
+
+abbrev pub TellsFileMissing : Type 0
+TellsFileMissing = (made : List ℕ → Result (List ℕ) AsmFault) (name : List ℕ) (status : Status) (o : Outside) (files : List File) → ShowsFile made name status o → o.files ≡ Some files → held files name ≡ None → (Rose o.shelf o.shelf' → ⊥) → IsMissing name status
+
+abbrev pub TellsFileTooLong : Type 0
+TellsFileTooLong = (made : List ℕ → Result (List ℕ) AsmFault) (name : List ℕ) (status : Status) (o : Outside) (files : List File) → ShowsFile made name status o → o.files ≡ Some files → IsLong files name → (Rose o.shelf o.shelf' → ⊥) → IsTooLong name status

@@ -1,0 +1,106 @@
+//! Who executes the guest's instructions.
+
+use std::test::Fail;
+use vax_cpu::Cpu;
+use vax_hw::{Exit, Hardware, World};
+use vv_stage::{PAGES, plain, run_words};
+
+/// INCL R0 and BRB 4 back, which is loaded and started at 200.
+const IMAGE: [u8; 4] = [0xD6, 0x50, 0x11, 0xFC];
+
+/// How many runs of the machine are noted.
+const NOTES: usize = 64;
+
+/// A run of the machine in which instructions retired: PC and R0 before it, and how many they were.
+#[derive(Clone, Copy)]
+struct Note {
+    pc: u32,
+    r0: u32,
+    retired: u64,
+}
+
+/// A machine that notes its runs.
+#[derive(Drop)]
+struct Watched {
+    machine: Cpu,
+    notes: Vec<Note>,
+}
+
+impl Hardware for Watched {
+    ghost machine = { λ w. w.machine };
+
+    fn pages(&self) -> u32 {
+        self.machine.pages()
+    }
+
+    fn retired(&self) -> u64 {
+        self.machine.retired()
+    }
+
+    fn trail(&self) -> u64 {
+        self.machine.trail()
+    }
+
+    fn misses(&self) -> u64 {
+        self.machine.misses()
+    }
+
+    fn read_long(&self, pa: u32) -> u32 {
+        self.machine.read_long(pa)
+    }
+
+    fn write_long(&mut self, pa: u32, v: u32) {
+        self.machine.write_long(pa, v);
+    }
+
+    fn load_world(&mut self, w: &World) {
+        self.machine.load_world(w);
+    }
+
+    fn save_world(&self) -> World {
+        self.machine.save_world()
+    }
+
+    fn run(&mut self, budget: u32) -> Exit {
+        let retired = self.machine.retired();
+        let world = self.machine.save_world();
+        let exit = self.machine.run(budget);
+        let note = Note {
+            pc: world.r[15],
+            r0: world.r[0],
+            retired: self.machine.retired().wrapping_sub(retired),
+        };
+        if note.retired > 0 && self.notes.len() < NOTES {
+            let _ = self.notes.push(note);
+        }
+        exit
+    }
+}
+
+#[test]
+fn the_machine_executes_the_guest(rt: HostRuntime) -> Result<(), Fail> {
+    let alloc = rt.alloc();
+    let files = [("x", IMAGE.as_slice())];
+    let mut watched = Watched {
+        machine: Cpu::new(alloc, PAGES)?,
+        notes: Vec::with_capacity(alloc, NOTES)?,
+    };
+    let told = run_words(alloc, &mut watched, "solo x 42", &plain(&files), &[], &[])?;
+    assert_eq!(rt; told.code, 0);
+    assert!(rt; !watched.notes.is_empty());
+    let mut before = 0u64;
+    for note in &watched.notes {
+        let pc = if before % 2 == 0 { 0x200 } else { 0x202 };
+        assert_eq!(rt; note.pc, pc, "behind {before} instructions");
+        assert_eq!(rt;
+            u64::from(note.r0),
+            before.div_ceil(2),
+            "behind {before} instructions"
+        );
+        before = before
+            .checked_add(note.retired)
+            .expect(&rt, "the sum of what retired");
+    }
+    assert_eq!(rt; before, 42);
+    Ok(())
+}

@@ -1,0 +1,86 @@
+use std::alloc::Global;
+use vv_base::{FileName, NoMemory, file_name};
+use vv_io::{Cut, MemShelf};
+
+/// The machine has 32,768 pages of 512 bytes.
+pub const PAGES: u32 = 32_768;
+
+/// A put on a line that fails.
+#[derive(Clone, Copy)]
+pub struct LineCut {
+    pub line: u8,
+    pub cut: Cut,
+}
+
+/// A drive: its number, how many blocks it has, the byte that each is full of, and the call that fails.
+#[derive(Clone, Copy)]
+pub struct Disk {
+    pub number: u8,
+    pub blocks: u32,
+    pub byte: u8,
+    pub failing: Option<u32>,
+}
+
+/// What a call is given.
+#[derive(Clone, Copy)]
+pub struct Props<'a, 'b> {
+    /// The shelf's files, and its call that fails.
+    pub files: &'a [(&'b str, &'b [u8])],
+    pub failing: Option<u32>,
+    /// How many bytes a line takes.
+    pub room: u32,
+    /// Where the sink is cut.
+    pub out: Option<Cut>,
+}
+
+/// A shelf of these files, on which nothing fails.
+pub fn plain<'a, 'b>(files: &'a [(&'b str, &'b [u8])]) -> Props<'a, 'b> {
+    Props {
+        files,
+        failing: None,
+        room: 1000,
+        out: None,
+    }
+}
+
+/// At most one of something.
+fn at_most_one<T: Copy>(alloc: Global, one: Option<T>) -> Result<Vec<T>, NoMemory> {
+    let mut all = Vec::new(alloc);
+    if let Some(one) = one {
+        all.push(one)?;
+    }
+    Ok(all)
+}
+
+impl Props<'_, '_> {
+    /// The shelf.
+    pub fn shelf(&self, alloc: Global) -> Result<MemShelf, NoMemory> {
+        let mut files = Vec::new(alloc);
+        for (name, bytes) in self.files {
+            let name = file_name(name.as_bytes()).unwrap_or(FileName::new());
+            files.push((name, bytes.to_vec(alloc)?))?;
+        }
+        Ok(MemShelf::new(files, at_most_one(alloc, self.failing)?))
+    }
+
+    /// Where the sink is cut.
+    pub fn cuts_of_out(&self, alloc: Global) -> Result<Vec<Cut>, NoMemory> {
+        at_most_one(alloc, self.out)
+    }
+}
+
+/// Where a line is cut.
+pub fn cuts_of(alloc: Global, cuts: &[LineCut], line: u8) -> Result<Vec<Cut>, NoMemory> {
+    let mut own = Vec::new(alloc);
+    for cut in cuts {
+        if cut.line == line {
+            own.push(cut.cut)?;
+        }
+    }
+    Ok(own)
+}
+
+/// The drive of a number, if there is one.
+pub fn disk_of(disks: &[Disk], number: u8) -> Option<Disk> {
+    disks.iter().find(|disk| disk.number == number).copied()
+}
