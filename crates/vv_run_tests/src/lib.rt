@@ -10,6 +10,8 @@ mod counting;
 #[cfg(test)]
 mod devices;
 #[cfg(test)]
+mod order;
+#[cfg(test)]
 mod serving;
 #[cfg(test)]
 mod slices;

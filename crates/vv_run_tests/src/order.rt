@@ -1,0 +1,126 @@
+//! In which order lines and the sink are put to, and how often.
+ghost use Rattle.std.specs.Prelude.{None};
+
+use std::cell::RefCell;
+use std::rc::Rc;
+use std::test::Fail;
+use vax_cpu::Cpu;
+use vax_hw::Hardware;
+use vv_commands::{Status, vvmm_run};
+use vv_io::{Drive, EmptyDrive, Line, LineFault, Sink, SinkFault};
+use vv_stage::{PAGES, plain};
+
+/// How many puts are noted.
+const NOTES: usize = 200;
+
+/// The sink's number among the notes.
+const OUT: u8 = 99;
+
+/// The numbers of the lines that were put to, in order.
+type Notes = Rc<RefCell<Vec<u8>>>;
+
+/// A line or a sink that notes each put.
+#[derive(Drop)]
+struct Noting {
+    number: u8,
+    notes: Notes,
+}
+
+impl Noting {
+    fn note(&self) {
+        if let Ok(mut notes) = self.notes.try_borrow_mut() {
+            if notes.len() < NOTES {
+                let _ = notes.push(self.number);
+            }
+        }
+    }
+}
+
+impl Line for Noting {
+    ghost seen = { λ l. record { shown = None; faults = 0 } };
+
+    fn put(&mut self, _bytes: &[u8]) -> Result<(), LineFault> {
+        self.note();
+        Ok(())
+    }
+
+    fn told(&self) -> Option<&[u8]> {
+        None
+    }
+}
+
+impl Sink for Noting {
+    ghost printed = { λ l. record { shown = None; faults = 0 } };
+
+    fn put(&mut self, _bytes: &[u8]) -> Result<(), SinkFault> {
+        self.note();
+        Ok(())
+    }
+}
+
+/// A guest with its console on line 4 and its dump on line 2, an audit on line 9, and a terminal at the server on line 6.
+const CONFIG: &[u8] = b"version = 1\nquantum = 5\nslice = 2
+[audit]\nline = 9\nclass = \"15{};0{}\"
+[[terminal]]\nname = \"T\"\nline = 4\nclass = \"0{};0{}\"
+[[terminal]]\nname = \"U\"\nline = 6\nclass = \"0{};0{}\"
+[[guest]]\nname = \"A\"\nclass = \"0{};0{}\"\npages = 64\nimage = \"x\"\nload = 512\nstart = 512\nautostart = true
+console = \"T\"\ndump = 2\n";
+
+/// SHOW has a line for the guest, and its reply.
+const SCRIPT: &[u8] = b"1 U > SHOW\n2 U > FOO\n";
+
+/// MTPR of the letter A to the transmit register, and HALT.
+const LETTER: &[u8] = &[0xDA, 0x8F, 0x41, 0, 0, 0, 0x23, 0];
+
+/// Round 1: two lines of SHOW and the audit; the letter and the 14 bytes of the message of HALT. Round 2: the reply and the
+/// audit. Then the dump: the name, 16 registers, PSL, and the one row of memory that isn't zero. Then the summary.
+const ORDER: [(u8, usize); 7] = [(6, 2), (9, 1), (4, 15), (6, 1), (9, 1), (2, 19), (OUT, 1)];
+
+#[test]
+fn lines_are_put_to_in_order_and_the_sink_at_last(rt: HostRuntime) -> Result<(), Fail> {
+    let alloc = rt.alloc();
+    let notes: Notes = Rc::new(alloc, RefCell::new(Vec::with_capacity(alloc, NOTES)?))?;
+    let mut lines: Vec<Box<dyn Line>> = Vec::new(alloc);
+    for number in 0..32u8 {
+        let line = Noting {
+            number,
+            notes: notes.clone()?,
+        };
+        lines.push(Box::new(alloc, line)?)?;
+    }
+    let mut drives: Vec<Box<dyn Drive>> = Vec::new(alloc);
+    for _number in 0..16u8 {
+        drives.push(Box::new(alloc, EmptyDrive)?)?;
+    }
+    let mut out = Noting {
+        number: OUT,
+        notes: notes.clone()?,
+    };
+    let mut words = Vec::new(alloc);
+    for word in ["run", "c", "s", "2"] {
+        words.push(word.to_string(alloc)?)?;
+    }
+    let mut machine = Cpu::new(alloc, PAGES)?;
+    assert_eq!(rt; machine.pages(), PAGES);
+    let files = [("c", CONFIG), ("s", SCRIPT), ("x", LETTER)];
+    let mut shelf = plain(&files).shelf(alloc)?;
+    let status = vvmm_run(
+        alloc,
+        &words,
+        &mut shelf,
+        &mut machine,
+        &mut lines,
+        &mut drives,
+        &mut out,
+    );
+    assert!(rt; matches!(status, Status::Done));
+    let mut expected = Vec::new(alloc);
+    for (number, times) in ORDER {
+        for _time in 0..times {
+            expected.push(number)?;
+        }
+    }
+    let noted = notes.try_borrow().expect(&rt, "the notes");
+    assert_eq!(rt; noted.as_slice(), expected.as_slice());
+    Ok(())
+}
