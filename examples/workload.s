@@ -4,7 +4,7 @@
 ; pages have been modified, and those of P0 not yet.
         MOVL I^#^XA4000000,R1
         MOVL I^#^X00004000,R2
-ENTRY:  MOVL R1,(R2)
+ENTRY: MOVL R1,(R2)
         BICL3 I^#^X04000000,R1,W^^X0200(R2)
         ADDL2 S^#4,R2
         INCL R1
@@ -36,7 +36,7 @@ LOWER:
         MTPR I^#^X00000051,S^#24
 
 ; A packet at 5000: read block R6 of the volume at unit 0 into 6000.
-AGAIN:  MOVL S^#1,@#^X00005000
+AGAIN: MOVL S^#1,@#^X00005000
         CLRL @#^X00005004
         MOVL R6,@#^X00005008
         MOVL I^#^X00006000,@#^X0000500C
@@ -45,7 +45,7 @@ AGAIN:  MOVL S^#1,@#^X00005000
 ; The sum of the block at 6000, and what comes of the sums so far into the block at 7000.
         CLRL R0
         MOVL I^#^X00006000,R1
-SUM:    ADDL2 (R1)+,R0
+SUM: ADDL2 (R1)+,R0
         XORL2 R0,R7
         MOVL R7,W^^X0FFC(R1)
         CMPL R1,I^#^X00006200
@@ -74,5 +74,5 @@ SUM:    ADDL2 (R1)+,R0
         NOP
 
 ; Ends the request of the clock, which runs on.
-CLOCK:  MTPR I^#^X000000C1,S^#24
+CLOCK: MTPR I^#^X000000C1,S^#24
         REI

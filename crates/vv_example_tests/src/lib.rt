@@ -11,3 +11,5 @@ mod page_fault;
 mod timesharing;
 #[cfg(test)]
 mod two_levels;
+#[cfg(test)]
+mod workload;
