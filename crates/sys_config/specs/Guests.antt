@@ -15,14 +15,14 @@ use Rattle.sys_objects.specs.declared.records.Mount.{Mount}
 use Rattle.sys_config.specs.declared.mounts.UnitMount.{UnitMount}
 
 -- the place of the object that has a name, or the number of the objects
-abbrev pub terminal_place : List Terminal → List ℕ → ℕ
-terminal_place terminals name = unwrap_or (position (λ t. bytes_eq name t.name) terminals) (length terminals)
+abbrev pub place_by : {A : Type 0} → (A → List ℕ) → List A → List ℕ → ℕ
+place_by name_of rows name = unwrap_or (position (λ x. bytes_eq name (name_of x)) rows) (length rows)
+
+abbrev pub object_in : {A : Type 0} → (A → List ℕ) → List A → Data → Option ℕ
+object_in name_of rows d = as_str d >>= name_in >>= (λ name. Some (place_by name_of rows name))
 
 abbrev pub volume_place : List VolumeRow → List ℕ → ℕ
-volume_place volumes name = unwrap_or (position (λ v. bytes_eq name v.name) volumes) (length volumes)
-
-abbrev pub printer_place : List PrinterRow → List ℕ → ℕ
-printer_place printers name = unwrap_or (position (λ p. bytes_eq name p.name) printers) (length printers)
+volume_place = place_by (λ (v : VolumeRow). v.name)
 
 -- a mount and its unit, 0 to 3
 unfoldable pub mount_of : List VolumeRow → Members → Option UnitMount
@@ -48,10 +48,10 @@ no_mounts = None ∷ None ∷ None ∷ None ∷ []
 
 -- what the keys that may be absent are read as
 abbrev pub console_in : List Terminal → Data → Option ℕ
-console_in terminals d = as_str d >>= name_in >>= (λ name. Some (terminal_place terminals name))
+console_in = object_in (λ (t : Terminal). t.name)
 
 abbrev pub printer_in : List PrinterRow → Data → Option ℕ
-printer_in printers d = as_str d >>= name_in >>= (λ name. Some (printer_place printers name))
+printer_in = object_in (λ (p : PrinterRow). p.name)
 
 abbrev pub mounts_in : List VolumeRow → Data → Option Units
 mounts_in volumes d = as_array d >>= mounts_from volumes no_mounts

@@ -6,3 +6,4 @@ pub mod Top
 pub mod Config
 pub mod Written
 pub mod Shown
+pub mod ShownRules

@@ -6,6 +6,7 @@ mod entries;
 mod guests;
 mod lists;
 mod mounts;
+mod named;
 mod numbers;
 mod reads;
 mod top;

@@ -1,10 +1,9 @@
-ghost use Rattle.std.specs.Prelude.{◌≡◌, ◌≤◌, ◌<◌, IfSome, length, unwrap_or};
-ghost use Rattle.std.specs.List.{position};
+ghost use Rattle.std.specs.Prelude.{◌≡◌, ◌≤◌, IfSome, length};
 ghost use Rattle.toml.specs.View.{view, table_view, items_view};
-ghost use Rattle.std.specs.Prelude.{bytes_eq};
 ghost use Rattle.sys_config.specs.Guests.{volume_place, mount_of, placed, mounts_from, no_mounts, mounts_in};
 
 use crate::entries::name_at;
+use crate::named::place_by;
 use crate::reads::{are_known, flag_at, number_at};
 use crate::{Mount, VolumeRow};
 use toml::{Table, Value};
@@ -16,22 +15,12 @@ pub struct UnitMount {
     pub mount: Mount,
 }
 
-fn position_of(volumes: &[VolumeRow], name: &[u8]) -> Option<usize>
-    ensures value { result ≡ position (λ v. bytes_eq name.now v.name) volumes.now }
-    ensures within { IfSome result (λ i. i < length volumes.now) }
-{
-    volumes.iter().position(|v| name == v.name.bytes())
-}
-
 /// The place of the volume that has a name, or the number of volumes.
 fn volume_place(volumes: &[VolumeRow], name: &[u8]) -> u8
     requires { length volumes.now ≤ 16 }
     ensures { result ≡ volume_place volumes.now name.now }
 {
-    match position_of(volumes, name) {
-        Some(place) => place as u8,
-        None => volumes.len() as u8,
-    }
+    place_by(volumes, name)
 }
 
 #[tactic(auto, unfolding(crate::specs::Guests::mount_of))]

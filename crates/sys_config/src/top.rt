@@ -15,14 +15,16 @@ pub struct Top {
     pub slice: i64,
 }
 
+/// The keys at the top; `quantum` stands first, and in version 1 alone.
+const KEYS: [&str; 8] = [
+    "quantum", "version", "slice", "audit", "terminal", "volume", "printer", "guest",
+];
+
 #[tactic(auto, unfolding(crate::specs::Top::top_of_two))]
 fn top_of_two(version: i64, table: &Table) -> Option<Top>
     ensures { result ≡ top_of_two version (table_view table.now) }
 {
-    let keys = [
-        "version", "slice", "audit", "terminal", "volume", "printer", "guest",
-    ];
-    if !are_known(table, &keys) {
+    if !are_known(table, &KEYS[1..]) {
         return None;
     }
     let slice = integer_at(table, "slice")?;
@@ -37,10 +39,7 @@ fn top_of_two(version: i64, table: &Table) -> Option<Top>
 fn top_of_one(version: i64, table: &Table) -> Option<Top>
     ensures { result ≡ top_of_one version (table_view table.now) }
 {
-    let keys = [
-        "quantum", "version", "slice", "audit", "terminal", "volume", "printer", "guest",
-    ];
-    if !are_known(table, &keys) {
+    if !are_known(table, &KEYS) {
         return None;
     }
     let quantum = integer_at(table, "quantum")?;
@@ -110,10 +109,7 @@ pub fn audit_table(table: &Table) -> Option<Option<&Table>>
     ensures { option_map (λ o. option_map (λ m. table_view m.now) o) result ≡ audit_table (table_view table.now) }
 {
     match value_at(table, "audit") {
-        Some(value) => match value.as_table() {
-            Some(table) => Some(Some(table)),
-            None => None,
-        },
+        Some(value) => value.as_table().map(Some),
         None => Some(None),
     }
 }

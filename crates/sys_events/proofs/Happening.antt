@@ -48,7 +48,7 @@ breaks k marks' l l' n t there is shows round m h x =
 line_by : (c : Config) (round : ℕ) (s : State) (n : ℕ) (t : Terminal) (text : List ℕ) (o : Option ℕ) → slice_get c.terminals n ≡ Some t → slice_index_or s.connected n None ≡ o → line_at c round n text s ≡ lined c round s n t text o
 line_by c round s n t text o is at = ap (λ (r : Option Terminal). at_row c round s n r (Line text)) is ∙ ap (lined c round s n t text) at
 
-connected_at : (m : Machine) (k : Kernel) (x : Volumes) (n : ℕ) → n < length k.config.terminals → slice_index_or (state_of m.memory k x).connected n None ≡ slice_index_or k.server.at n None
+pub connected_at : (m : Machine) (k : Kernel) (x : Volumes) (n : ℕ) → n < length k.config.terminals → slice_index_or (state_of m.memory k x).connected n None ≡ slice_index_or k.server.at n None
 connected_at m k x n there = get_or-take (length k.config.terminals) k.server.at n None there
 
 pub line_typed : (m : Machine) (k k' : Kernel) (l : List Seen) (round n g : ℕ) (text : List ℕ) → IsKernel m.memory k → n < length k.config.terminals → slice_index_or k.server.at n None ≡ Some g → DoesUnseen (guest_typed g text) k k' → Does (line_at k.config round n text) m k l m k' l

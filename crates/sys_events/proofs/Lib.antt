@@ -5,3 +5,4 @@ pub mod Obeying
 pub mod Replying
 pub mod Seats
 pub mod Telling
+pub mod Touching

@@ -7,6 +7,7 @@ use Rattle.sys_guests.specs.declared.kernel.Kernel.{Kernel}
 use Rattle.sys_objects.specs.declared.records.Config.{Config}
 use Rattle.sys_objects.specs.declared.records.Terminal.{Terminal}
 use Rattle.sys_rounds.specs.Events.{after_verdict, at_row, commanded, events, guests_by, happened, puts_before, stop_puts}
+use Rattle.sys_rounds.specs.FirstTouches.{typing_starts}
 use Rattle.sys_rounds.specs.Guests.{commanded_to_stop, typed}
 use Rattle.sys_rounds.specs.Places.{changed}
 use Rattle.sys_rounds.specs.State.{Put, State, Went, server_of}
@@ -43,6 +44,10 @@ break_at c round n s = at_row c round s n (slice_get c.terminals n) Break
 
 abbrev pub line_at : Config → ℕ → ℕ → List ℕ → State → Went State
 line_at c round n text s = at_row c round s n (slice_get c.terminals n) (Line text)
+
+-- the guest that such a line starts
+abbrev pub line_starts_at : Config → State → ℕ → List ℕ → Option ℕ
+line_starts_at c s n text = typing_starts c s n (Line text)
 
 -- a line that is a command
 abbrev pub asked_at_row : Config → ℕ → ℕ → List ℕ → State → Option Terminal → Went State

@@ -1,7 +1,10 @@
-ghost use Rattle.std.specs.Prelude.{◌≡◌, ◌<◌, ◌≤◌, ℕ, length, map, vec_len};
-ghost use Rattle.sys_events.specs.Happens.{Does, DoesAnywhere, Happen, Happens, break_at, line_at};
-ghost use Rattle.sys_guests.specs.Kernel.{IsKernel};
+ghost use Rattle.std.specs.Prelude.{◌≡◌, ◌<◌, ◌≤◌, ℕ, List, length, map, vec_len};
+ghost use Rattle.sys_events.specs.Happens.{Does, DoesAnywhere, Happen, Happens, break_at, line_at, line_starts_at};
+ghost use Rattle.sys_guests.specs.Kernel.{IsKernel, state_of};
+ghost use Rattle.sys_guests.specs.Layout.{guests_in};
+ghost use Rattle.sys_guests.specs.Present.{KeepsAll};
 ghost use Rattle.sys_objects.specs.Condition.{IsConfig};
+ghost use Rattle.sys_rounds.specs.FirstTouches.{event_starts, touches_of_events, with_reset};
 
 use crate::answering::say;
 use crate::commands::command;
@@ -18,6 +21,7 @@ fn disconnect(kernel: &mut Kernel, lines: &mut Vec<Box<dyn Line>>, terminal: u8)
     requires accepted { IsConfig kernel.old.config }
     requires lines { vec_len lines.old ≡ 32 }
     ensures does { (round : ℕ) → DoesAnywhere (break_at kernel.old.config round terminal) kernel.old (map (λ b. seen b) lines.old.items) kernel.new (map (λ b. seen b) lines.new.items) }
+    ensures present { KeepsAll (λ ts. ts) kernel.old.guests.items kernel.new.guests.items }
     ensures len { vec_len lines.new ≡ vec_len lines.old }
 {
     kernel.server.at[terminal as usize] = None;
@@ -39,6 +43,7 @@ fn take_line<H: Hardware>(
     requires short { length text.now ≤ 1000 }
     requires lines { vec_len lines.old ≡ 32 }
     ensures does { Does (line_at kernel.old.config round terminal text.now) (H.machine machine.old) kernel.old (map (λ b. seen b) lines.old.items) (H.machine machine.new) kernel.new (map (λ b. seen b) lines.new.items) }
+    ensures present { (volumes : List (List (List ℕ))) → KeepsAll (with_reset (line_starts_at kernel.old.config (state_of (H.machine machine.old).memory kernel.old volumes) terminal text.now) (guests_in (H.machine machine.new).memory kernel.new.guests.items)) kernel.old.guests.items kernel.new.guests.items }
     ensures len { vec_len lines.new ≡ vec_len lines.old }
 {
     match kernel.server.at[terminal as usize] {
@@ -58,6 +63,7 @@ fn happen_one<H: Hardware>(
     requires holds { IsKernel (H.machine machine.old).memory kernel.old }
     requires lines { vec_len lines.old ≡ 32 }
     ensures happens { Happens round event.now (H.machine machine.old) kernel.old (map (λ b. seen b) lines.old.items) (H.machine machine.new) kernel.new (map (λ b. seen b) lines.new.items) }
+    ensures present { (volumes : List (List (List ℕ))) → KeepsAll (with_reset (event_starts kernel.old.config (state_of (H.machine machine.old).memory kernel.old volumes) event.now) (guests_in (H.machine machine.new).memory kernel.new.guests.items)) kernel.old.guests.items kernel.new.guests.items }
     ensures len { vec_len lines.new ≡ vec_len lines.old }
 {
     let place = terminal_named(kernel.config.terminals.as_slice(), &event.terminal);
@@ -82,6 +88,7 @@ pub fn happen<H: Hardware>(
     requires holds { IsKernel (H.machine machine.old).memory kernel.old }
     requires lines { vec_len lines.old ≡ 32 }
     ensures happen { Happen round events.now (H.machine machine.old) kernel.old (map (λ b. seen b) lines.old.items) (H.machine machine.new) kernel.new (map (λ b. seen b) lines.new.items) }
+    ensures present { (volumes : List (List (List ℕ))) → KeepsAll (touches_of_events kernel.old.config round (state_of (H.machine machine.old).memory kernel.old volumes) events.now) kernel.old.guests.items kernel.new.guests.items }
     ensures len { vec_len lines.new ≡ vec_len lines.old }
 {
     for event in events {

@@ -2,7 +2,11 @@ ghost use Rattle.std.specs.Prelude.{◌≡◌, ◌<◌, map, vec_len, length};
 ghost use Rattle.sys_events.specs.Happens.{Does, DoesAnywhere, DoesUnseen, guest_halted, guest_typed, guests_obeyed};
 ghost use Rattle.sys_events.specs.Seats.{Names};
 ghost use Rattle.sys_guests.specs.Kernel.{IsKernel};
+ghost use Rattle.sys_guests.specs.Layout.{guests_in};
+ghost use Rattle.sys_guests.specs.Present.{KeepsAll};
 ghost use Rattle.sys_objects.specs.Condition.{IsConfig};
+ghost use Rattle.sys_rounds.specs.FirstTouches.{started_by, with_reset};
+ghost use Rattle.sys_server.specs.declared.command.Verdict.TheVariants.{Granted};
 
 use crate::consoles::console_of;
 use crate::shows::show_objects;
@@ -15,7 +19,8 @@ use vv_io::Line;
 /// A line is typed to a guest.
 pub fn type_to(kernel: &mut Kernel, guest: u8, text: &[u8])
     requires there { guest < vec_len kernel.old.guests }
-    ensures { DoesUnseen (guest_typed guest text.now) kernel.old kernel.new }
+    ensures does { DoesUnseen (guest_typed guest text.now) kernel.old kernel.new }
+    ensures present { KeepsAll (λ ts. ts) kernel.old.guests.items kernel.new.guests.items }
 {
     type_at(&mut kernel.guests, guest, text);
 }
@@ -26,6 +31,7 @@ fn halt(kernel: &mut Kernel, lines: &mut Vec<Box<dyn Line>>, guest: u8)
     requires accepted { IsConfig kernel.old.config }
     requires lines { vec_len lines.old ≡ 32 }
     ensures does { DoesAnywhere (guest_halted kernel.old.config guest) kernel.old (map (λ b. seen b) lines.old.items) kernel.new (map (λ b. seen b) lines.new.items) }
+    ensures present { KeepsAll (λ ts. ts) kernel.old.guests.items kernel.new.guests.items }
     ensures len { vec_len lines.new ≡ vec_len lines.old }
 {
     stop_at(&mut kernel.port, &mut kernel.guests, guest);
@@ -47,6 +53,7 @@ pub fn act<H: Hardware>(
     requires names { Names kernel.old.config command.now }
     requires lines { vec_len lines.old ≡ 32 }
     ensures does { Does (guests_obeyed kernel.old.config terminal command.now) (H.machine machine.old) kernel.old (map (λ b. seen b) lines.old.items) (H.machine machine.new) kernel.new (map (λ b. seen b) lines.new.items) }
+    ensures present { KeepsAll (with_reset (started_by (Granted command.now)) (guests_in (H.machine machine.new).memory kernel.new.guests.items)) kernel.old.guests.items kernel.new.guests.items }
     ensures len { vec_len lines.new ≡ vec_len lines.old }
 {
     match *command {

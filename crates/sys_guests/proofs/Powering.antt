@@ -125,7 +125,7 @@ beside_more f (a ∷ xs) (b ∷ ys) x y h = ap (λ zs. f a b ∷ zs) (beside_mor
 pub guests_more : (memory : List ℕ) (ks : List Kept) (k : Kept) → guests_in memory (ks ++ k ∷ []) ≡ guests_in memory ks ++ guest_in memory k ∷ []
 guests_more memory ks k = map-append (guest_in memory) ks (k ∷ [])
 
-all_more : {X : Type 0} (Q : X → Type 0) (xs : List X) (x : X) → All Q xs → Q x → All Q (xs ++ x ∷ [])
+pub all_more : {X : Type 0} (Q : X → Type 0) (xs : List X) (x : X) → All Q xs → Q x → All Q (xs ++ x ∷ [])
 all_more Q xs x all one i d h = by (cases_lt i (length xs))
   where
     by : (i < length xs) ⊎ (length xs ≤ i) → Q (slice_index_or (xs ++ x ∷ []) i d)

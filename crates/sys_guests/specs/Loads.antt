@@ -1,12 +1,14 @@
 -- How guests are loaded at power-up.
-use Rattle.std.specs.Prelude.{ℕ, ◌≡◌, ◌≤◌, ◌<◌, ◌+◌, ◌*◌, ◌⊎◌, nat_lt, List, length, slice_index, Bool, true, false, Option}
+use Rattle.std.specs.Prelude.{ℕ, ◌≡◌, ◌≤◌, ◌<◌, ◌+◌, ◌*◌, ◌⊎◌, nat_lt, List, [], length, slice_index, Bool, true, false, Option}
 use Rattle.vax_hw.specs.Machine.{Machine}
 use Rattle.sys_guests.specs.Layout.{IsPlaced}
 use Rattle.sys_objects.specs.declared.records.GuestRow.{GuestRow}
 use Rattle.sys_rounds.specs.Guests.{powered}
 use Rattle.sys_rounds.specs.Places.{beside_with, place_of}
+use Rattle.vm_fitting.specs.Present.{HasPresent}
 use Rattle.vm_guest.specs.Kept.{Becomes, Kept, StandsIn, guest_in}
 use Rattle.vm_state.specs.Start.{started}
+use Rattle.vm_state.specs.Touches.{at_first}
 
 -- whether an image with its place doesn't fit the guest's memory
 abbrev pub is_misfit : GuestRow → List ℕ → Bool
@@ -32,6 +34,10 @@ pub record LoadsOne (row : GuestRow) (image : List ℕ) (base tables : ℕ) (mem
   pub guest : guest_in memory' k ≡ powered row image
   pub stands : StandsIn memory' k
   pub only : OnlyPlaces base row.pages tables memory memory'
+
+-- what is present by first touches at power-up has entries: nothing is
+abbrev pub HasFirst : Kept → Type 0
+HasFirst k = HasPresent k.shadow (at_first (guest_in [] k))
 
 -- it starts, if it is to
 abbrev pub StartsIf : Bool → Machine → Kept → Machine → Kept → Type 0

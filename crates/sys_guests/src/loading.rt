@@ -1,11 +1,15 @@
 ghost use Rattle.std.specs.Prelude.{◌≡◌, ◌≤◌, ◌<◌, ◌+◌, ◌*◌, ◌^◌, All, IfOk, None, length, map};
 ghost use Rattle.std.specs.List.{sum_by};
 ghost use Rattle.sys_guests.specs.Layout.{AreInMachine, guests_in};
-ghost use Rattle.sys_guests.specs.Loads.{LoadsOne, MemoryAlone, StartsIf, first_misfit, is_misfit};
+ghost use Rattle.sys_guests.specs.Loads.{HasFirst, LoadsOne, MemoryAlone, StartsIf, first_misfit, is_misfit};
+ghost use Rattle.sys_guests.specs.Present.{HavePresent};
 ghost use Rattle.sys_objects.specs.Condition.{IsGuest};
+ghost use Rattle.sys_rounds.specs.FirstTouches.{none_touched};
 ghost use Rattle.sys_rounds.specs.Guests.{powered};
 ghost use Rattle.sys_rounds.specs.Places.{beside_with};
 ghost use Rattle.vm_guest.specs.Kept.{StandsIn};
+ghost use Rattle.vm_state.specs.Start.{start_tables};
+ghost use Rattle.vm_state.specs.State.{tables_of};
 
 use crate::image::load_image;
 use std::alloc::Global;
@@ -44,7 +48,8 @@ pub fn first_misfit(rows: &[GuestRow], images: &[Vec<u8>]) -> Option<u8>
 /// A guest starts, if it is to.
 fn start_if<H: Hardware>(machine: &mut H, guest: &mut Guest, starts: bool)
     requires { StandsIn (H.machine machine.old).memory guest.old }
-    ensures { StartsIf starts (H.machine machine.old) guest.old (H.machine machine.new) guest.new }
+    ensures starts { StartsIf starts (H.machine machine.old) guest.old (H.machine machine.new) guest.new }
+    ensures present { tables_of guest.old.state ≡ start_tables → HasFirst guest.old → HasFirst guest.new }
 {
     if starts {
         guest.start(machine);
@@ -66,6 +71,7 @@ fn load_guest<H: Hardware>(
     requires fits { row.now.load + length image.now ≤ 512 * row.now.pages }
     requires pages { length (H.machine machine.old).memory ≡ 512 * 32768 }
     ensures ok { IfOk result (LoadsOne row.now image.now base tables (H.machine machine.old).memory (H.machine machine.new).memory) }
+    ensures present { IfOk result HasFirst }
     ensures alone { MemoryAlone (H.machine machine.old) (H.machine machine.new) }
 {
     load_image(machine, base, row.pages, row.load, image);
@@ -106,6 +112,7 @@ pub fn load_guests<H: Hardware>(
     requires pages { length (H.machine machine.old).memory ≡ 512 * 32768 }
     ensures placed { IfOk result (λ guests. AreInMachine rows.now (H.machine machine.new).memory guests.items) }
     ensures guests { IfOk result (λ guests. guests_in (H.machine machine.new).memory guests.items ≡ beside_with powered rows.now (map (λ b. b.items) images.now)) }
+    ensures present { IfOk result (λ guests. HavePresent guests.items (map none_touched (guests_in (H.machine machine.new).memory guests.items))) }
     ensures alone { MemoryAlone (H.machine machine.old) (H.machine machine.new) }
 {
     let mut guests = Vec::with_capacity(alloc, rows.len())?;

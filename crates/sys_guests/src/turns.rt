@@ -1,6 +1,10 @@
-ghost use Rattle.std.specs.Prelude.{◌≡◌, ◌≤◌, ◌<◌, All, vec_len};
+ghost use Rattle.std.specs.Prelude.{◌≡◌, ◌≤◌, ◌<◌, All, Some, vec_len};
 ghost use Rattle.sys_guests.specs.Changes.{AdvancesOne, StartsOne, StopShows, TurnsOne};
+ghost use Rattle.sys_guests.specs.Layout.{guests_in};
+ghost use Rattle.sys_guests.specs.Present.{KeepsAll, PaysAll};
+ghost use Rattle.sys_rounds.specs.FirstTouches.{with_reset};
 ghost use Rattle.sys_rounds.specs.Guests.{commanded_to_stop, typed};
+ghost use Rattle.sys_rounds.specs.SlicedTouches.{touches_of_slice};
 ghost use Rattle.vm_guest.specs.Kept.{StandsIn};
 
 use crate::kernel::MOST_SHOWN;
@@ -25,7 +29,8 @@ pub fn advance_at<H: Hardware>(
     requires there { turn.guest < vec_len guests.old }
     requires few { turn.steps ≤ 100000 }
     requires stand { All (λ k. StandsIn (H.machine machine.old).memory k) guests.old.items }
-    ensures { AdvancesOne (record { guest = turn.guest; steps = turn.steps }) (H.machine machine.old) guests.old.items (H.machine machine.new) guests.new.items port.new.bytes result }
+    ensures advances { AdvancesOne (record { guest = turn.guest; steps = turn.steps }) (H.machine machine.old) guests.old.items (H.machine machine.new) guests.new.items port.new.bytes result }
+    ensures pays { PaysAll (touches_of_slice (record { guest = turn.guest; steps = turn.steps }) (guests_in (H.machine machine.old).memory guests.old.items)) (H.machine machine.old) guests.old.items (H.machine machine.new) guests.new.items }
 {
     port.clear();
     let guest = &mut guests[turn.guest as usize];
@@ -38,6 +43,7 @@ pub fn start_at<H: Hardware>(machine: &mut H, guests: &mut Vec<Guest>, place: u8
     requires stand { All (λ k. StandsIn (H.machine machine.old).memory k) guests.old.items }
     ensures starts { StartsOne place (H.machine machine.old) guests.old.items (H.machine machine.new) guests.new.items }
     ensures rest { H.machine machine.new ≡ record (H.machine machine.old) { memory = (H.machine machine.new).memory } }
+    ensures present { KeepsAll (with_reset (Some place) (guests_in (H.machine machine.new).memory guests.new.items)) guests.old.items guests.new.items }
 {
     let guest = &mut guests[place as usize];
     guest.start(machine);
@@ -48,6 +54,7 @@ pub fn stop_at(port: &mut KeptPort<MOST_SHOWN>, guests: &mut Vec<Guest>, place: 
     requires there { place < vec_len guests.old }
     ensures turns { TurnsOne place commanded_to_stop guests.old.items guests.new.items }
     ensures shown { StopShows place guests.old.items port.new.bytes }
+    ensures present { KeepsAll (λ ts. ts) guests.old.items guests.new.items }
 {
     port.clear();
     let guest = &mut guests[place as usize];
@@ -57,7 +64,8 @@ pub fn stop_at(port: &mut KeptPort<MOST_SHOWN>, guests: &mut Vec<Guest>, place: 
 /// A line is typed to a guest.
 pub fn type_at(guests: &mut Vec<Guest>, place: u8, text: &[u8])
     requires there { place < vec_len guests.old }
-    ensures { TurnsOne place (typed text.now) guests.old.items guests.new.items }
+    ensures turns { TurnsOne place (typed text.now) guests.old.items guests.new.items }
+    ensures present { KeepsAll (λ ts. ts) guests.old.items guests.new.items }
 {
     let guest = &mut guests[place as usize];
     guest.type_line(text);

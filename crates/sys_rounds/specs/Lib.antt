@@ -4,6 +4,7 @@ pub mod Counts
 pub mod Dump
 pub mod Events
 pub mod FirstTouches
+pub mod SlicedTouches
 pub mod Guests
 pub mod Laws
 pub mod Places

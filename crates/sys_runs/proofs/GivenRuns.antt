@@ -1,13 +1,16 @@
 -- A run over given volumes.
-use Rattle.std.proofs.Common.{ℕ, ◌≡◌, List, length, replicate, refl, ◌∙◌, ap, false}
+use Rattle.std.proofs.Common.{ℕ, ◌≡◌, List, length, map, replicate, refl, ◌∙◌, ap, false}
 use Rattle.std.specs.declared.result.Result.TheVariants.{Err}
 use Rattle.vax_hw.specs.Machine.{Machine}
 use Rattle.vv_io.specs.Blocks.{Kept}
 use Rattle.vv_io.specs.Lines.{Seen}
+use Rattle.sys_guests.specs.Layout.{guests_in}
 use Rattle.sys_guests.specs.Loads.{MemoryAlone}
+use Rattle.sys_guests.specs.Present.{HavePresent}
 use Rattle.sys_objects.specs.declared.records.Config.{Config}
+use Rattle.sys_rounds.specs.FirstTouches.{none_touched}
 use Rattle.sys_runs.proofs.Faults.{outside, unshown}
-use Rattle.sys_runs.proofs.Made.{counted, no_drives, retired, shown, steps_few}
+use Rattle.sys_runs.proofs.Made.{all_missed, all_touched, counted, no_drives, retired, shown, steps_few}
 use Rattle.sys_runs.specs.Given.{MakesWith, RunsWith}
 use Rattle.sys_runs.specs.Rounds.{MakesRounds}
 use Rattle.sys_runs.specs.declared.running.Ran.{Ran}
@@ -30,9 +33,9 @@ not_run_with c images volumes es n m m' lines drives NoMemory free alone = recor
 -- it was made
 pub run_made_with : (c : Config) (images : List (List ℕ)) (volumes : List (List (List ℕ))) (es : List Event) (n : ℕ) (m0 m1 m2 : Machine) (s0 s1 s2 : System) (lines lines1 lines2 : List Seen) (drives : List Kept) (ran : Ran)
     → HasPowerWith c images volumes m1 s0 → MemoryAlone m0 m1 → MakesRounds n es m1 s0 lines m2 s1 lines1 → ShowsDumps m2 s1 lines1 s2 lines2
-    → IsSystem s1 → ran.counts ≡ s2.counts → ran.failed ≡ first_failed s2.marks s2.drives → length lines2 ≡ length lines
+    → HavePresent s0.guests (map none_touched (guests_in m1.memory s0.guests)) → IsSystem s1 → ran.counts ≡ s2.counts → ran.failed ≡ first_failed s2.marks s2.drives → length lines2 ≡ length lines
     → MakesWith (record { config = c; images = images; volumes = volumes; events = es; rounds = n }) ran (record { machine = m0; machine' = m2; lines = lines; lines' = lines2; drives = drives; drives' = drives })
-run_made_with c images volumes es n m0 m1 m2 s0 s1 s2 lines lines1 lines2 drives ran p alone r d holds counts failed size =
+run_made_with c images volumes es n m0 m1 m2 s0 s1 s2 lines lines1 lines2 drives ran p alone r d present holds counts failed size =
     let unmarked : s2.drives ≡ replicate 16 false = ap (λ (s : System). s.drives) d.system ∙ no_drives c images volumes es n m0 m1 m2 s0 s1 lines lines1 p.powered alone r in
     record {
       fits = p.fits;
@@ -44,5 +47,8 @@ run_made_with c images volumes es n m0 m1 m2 s0 s1 s2 lines lines1 lines2 drives
       counts = ap tally_of counts ∙ ap (λ (s : System). tally_of s.counts) d.system ∙ counted c images volumes es n m0 m1 m2 s0 s1 lines lines1 p.powered alone r;
       few = steps_few c images volumes es n m0 m1 m2 s0 s1 lines lines1 p.powered alone r ran.counts (counts ∙ ap (λ (s : System). s.counts) d.system) holds;
       retires = retired c images volumes es n m0 m1 m2 s0 s1 lines lines1 p.powered alone r;
+      missed = r.pays.missed;
+      misses = all_missed c images volumes es n m0 m1 m2 s0 s1 lines lines1 p.powered alone r;
+      touches = all_touched c images volumes es n m0 m1 m2 s0 s1 lines lines1 p.powered alone r present;
       failed = failed ∙ ap (first_failed s2.marks) unmarked;
     }

@@ -1,6 +1,5 @@
 pub mod Faults
 pub mod GivenRuns
-pub mod Holds
 pub mod Made
 pub mod Many
 pub mod Splitting

@@ -1,16 +1,18 @@
 -- What a run shows and counts, wherever its volumes are from.
-use Rattle.std.proofs.Common.{ℕ, ◌≡◌, ◌≤◌, ◌*◌, List, [], ◌++◌, replicate, slice_index_or, sym, ◌∙◌, ap, subst, arith, Bool, false}
+use Rattle.std.proofs.Common.{ℕ, ◌≡◌, ◌≤◌, ◌+◌, ◌*◌, ◌%◌, ◌^◌, List, [], ◌++◌, map, replicate, slice_index_or, sym, ◌∙◌, ap, subst, arith, Bool, false}
 use Rattle.vax_hw.specs.Machine.{Machine}
 use Rattle.vv_io.specs.Lines.{Seen, unseen}
 use Rattle.sys_guests.specs.Changes.{Retires}
 use Rattle.sys_guests.specs.Layout.{guests_in}
 use Rattle.sys_guests.specs.Loads.{MemoryAlone}
+use Rattle.sys_guests.specs.Present.{HavePresent, counted_in}
 use Rattle.sys_lines.proofs.Showings.{shows_same, shows_then}
 use Rattle.sys_lines.specs.Shows.{Gets, Shows}
 use Rattle.sys_objects.specs.declared.records.Config.{Config}
 use Rattle.sys_rounds.proofs.Steps.{as_sum}
 use Rattle.sys_rounds.specs.Bytes.{dump_on, line_bytes}
 use Rattle.sys_rounds.specs.Counts.{added, rounds_tally}
+use Rattle.sys_rounds.specs.FirstTouches.{first_touches, none_touched, touches_of_rounds}
 use Rattle.sys_rounds.specs.Run.{Input, first_state, rounds}
 use Rattle.sys_rounds.specs.State.{State, Went, bytes_on}
 use Rattle.sys_runs.proofs.Many.{rounds_fit}
@@ -20,7 +22,9 @@ use Rattle.sys_script.specs.declared.event.Event.{Event}
 use Rattle.sys_system.proofs.Sums.{added_either}
 use Rattle.sys_system.specs.Powers.{IsPowered}
 use Rattle.sys_system.specs.System.{IsSystem, System, state_of}
+use Rattle.vm_fitting.specs.Paid.{Misses}
 use Rattle.vm_state.specs.Run.{Tally, no_steps}
+use Rattle.vm_state.specs.Touches.{Touching}
 use Rattle.vm_stepping.specs.Made.{steps_in, tally_of}
 use Rattle.vm_stepping.specs.declared.counts.Counts.{Counts}
 
@@ -86,6 +90,20 @@ module _ (c : Config) (images : List (List ℕ)) (volumes : List (List (List ℕ
       let retired : m1.retired ≡ m0.retired = ap (λ (m : Machine). m.retired) alone.rest in
       let trail : m1.trail ≡ m0.trail = ap (λ (m : Machine). m.trail) alone.rest in
       subst (λ (t : Tally). Retires m0 m2 t) tally (retires_from m0 m1 m2 (rounds_tally s0.config 1 n es (state_of m1.memory s0)) retired trail r.retires)
+
+  -- what the machine missed
+  pub all_missed : Misses r.pays.missed m0 m2
+  all_missed =
+      let same : m1.misses ≡ m0.misses = ap (λ (m : Machine). m.misses) alone.rest in
+      subst (λ k. m2.misses % 2 ^ 64 ≡ (k + r.pays.missed) % 2 ^ 64) same r.pays.misses
+
+  -- is paid for, where nothing was present at first
+  pub all_touched : HavePresent s0.guests (map none_touched (guests_in m1.memory s0.guests)) → r.pays.missed ≤ first_touches x
+  all_touched present =
+      let ts : List Touching = map none_touched (guests_in m1.memory s0.guests) in
+      let all : counted_in ts + r.pays.missed ≤ counted_in (touches_of_rounds s0.config 1 n es (state_of m1.memory s0) ts) = r.pays.counts ts present in
+      let same : counted_in (touches_of_rounds s0.config 1 n es (state_of m1.memory s0) ts) ≡ first_touches x = λ i. counted_in (touches_of_rounds (config0 i) 1 n es (p.state i) (map none_touched (p.state i).guests)) in
+      omega (arith, all, same)
 
   -- no drive was marked
   pub no_drives : s1.drives ≡ replicate 16 false

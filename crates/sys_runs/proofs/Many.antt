@@ -4,24 +4,28 @@ use Rattle.vax_hw.specs.Machine.{Machine}
 use Rattle.vv_io.specs.Lines.{Seen}
 use Rattle.sys_guests.specs.Changes.{Retires}
 use Rattle.sys_guests.specs.Layout.{end_of_guests}
+use Rattle.sys_guests.specs.Present.{PaysAll}
 use Rattle.sys_lines.proofs.Showings.{shows_none, shows_same, shows_then}
 use Rattle.sys_objects.specs.declared.records.Config.{Config}
 use Rattle.sys_rounds.proofs.Consoles.{bytes_append}
 use Rattle.sys_rounds.proofs.Steps.{as_sum}
 use Rattle.sys_rounds.specs.Counts.{added, round_tally, rounds_tally}
 use Rattle.sys_rounds.specs.Events.{events}
+use Rattle.sys_rounds.specs.FirstTouches.{touches_of_events, touches_of_round, touches_of_rounds, touches_of_transfers, touches_of_turns}
 use Rattle.sys_rounds.specs.Run.{events_of, round, rounds}
 use Rattle.sys_rounds.specs.State.{State, Went, bytes_on}
 use Rattle.sys_rounds.specs.Transfers.{transfers}
 use Rattle.sys_rounds.specs.Turns.{turns}
 use Rattle.sys_runs.specs.Rounds.{MakesRounds}
 use Rattle.sys_script.specs.declared.event.Event.{Event}
+use Rattle.sys_system.proofs.Paying.{pays_as, pays_kept, pays_then}
 use Rattle.sys_system.proofs.Rounding.{all_of}
 use Rattle.sys_system.proofs.Slicing.{retires_then}
 use Rattle.sys_system.proofs.Sums.{added_either, added_twice}
 use Rattle.sys_system.specs.Calls.{AreOf, MakesRound}
 use Rattle.sys_system.specs.System.{StandsIn, System, state_of}
 use Rattle.vm_state.specs.Run.{Tally, no_steps}
+use Rattle.vm_state.specs.Touches.{Touching}
 use Rattle.vm_stepping.specs.Made.{tally_of}
 
 -- a round with these events, which are all its own
@@ -35,6 +39,14 @@ round_by c i s es =
 -- the steps of a round
 abbrev tally_in : Config → ℕ → State → List Event → Tally
 tally_in c i s es = round_tally c.guests (events c i s es).now.guests
+
+-- its first touches
+abbrev touched_in : Config → ℕ → State → List Touching → List Event → List Touching
+touched_in c i s ts es =
+    let begun = (events c i s es).now in
+    let turned = (turns c begun).now in
+    touches_of_transfers c c.guests turned.mounts turned.guests turned.volumes
+    (touches_of_turns c.guests begun.guests (touches_of_events c i s es ts))
 
 -- one behind another
 abbrev joined : Went State → Went State → Went State
@@ -67,6 +79,16 @@ tally_more c i (suc n) es s =
     let last : ℕ → Tally = λ k. tally_in c k (rounds c (suc i) n es now).now (events_of k es) in
     ap (added first) (tally_more c (suc i) n es now) ∙ sym (added_twice first rest (last (suc i + n))) ∙ ap (λ k. added (added first rest) (last k)) same
 
+touches_more : (c : Config) (i n : ℕ) (es : List Event) (s : State) (ts : List Touching) → touches_of_rounds c i (suc n) es s ts ≡ touches_of_round c (i + n) es (rounds c i n es s).now (touches_of_rounds c i n es s ts)
+touches_more c i zero es s ts =
+    let same : i + 0 ≡ i = omega arith in
+    ap (λ k. touches_of_round c k es s ts) (sym same)
+touches_more c i (suc n) es s ts =
+    let same : suc i + n ≡ i + suc n = omega arith in
+    let now = (round c i es s).now in
+    let first = touches_of_round c i es s ts in
+    touches_more c (suc i) n es now first ∙ ap (λ k. touches_of_round c k es (rounds c (suc i) n es now).now (touches_of_rounds c (suc i) n es now first)) same
+
 -- the trail of the rounds is a number of 64 bits
 pub rounds_fit : (c : Config) (i n : ℕ) (es : List Event) (s : State) → (rounds_tally c i n es s).trail < 2 ^ 64
 rounds_fit c i zero es s = omega arith
@@ -81,6 +103,7 @@ none_made es m s lines first rests fits stands =
       goes = record { state = refl; shows = shows_none s.marks lines; stands = stands; only = λ q behind. refl; size = refl };
       counts = as_sum (tally_of s.counts) fits;
       retires = record { retired = omega arith; trail = omega arith };
+      pays = pays_kept (λ ts. ts) m m s.guests s.guests refl (λ ts all. refl) (λ ts all. all);
     }
 
 module _ (n : ℕ) (es these : List Event) (m m1 m2 : Machine) (s s1 s2 : System) (lines lines1 lines2 : List Seen) (a : MakesRounds n es m s lines m1 s1 lines1) (same : these ≡ events_of (n + 1) es) (are : AreOf (n + 1) these) (b : MakesRound these m1 s1 lines1 m2 s2 lines2) where
@@ -148,6 +171,20 @@ module _ (n : ℕ) (es these : List Event) (m m1 m2 : Machine) (s s1 s2 : System
   bytes : (k : ℕ) → bytes_on k before.puts ++ bytes_on k (round s1.config (s1.rounds + 1) these (state_of m1.memory s1)).puts ≡ bytes_on k (rounds c 1 (n + 1) es st).puts
   bytes k = sym (bytes_append k before.puts (round s1.config (s1.rounds + 1) these (state_of m1.memory s1)).puts) ∙ ap (λ (w : Went State). bytes_on k w.puts) whole
 
+  touched : (ts : List Touching) → touches_of_round s1.config (s1.rounds + 1) these (state_of m1.memory s1) (touches_of_rounds c 1 n es st ts) ≡ touches_of_rounds c 1 (n + 1) es st ts
+  touched ts =
+      let us : List Touching = touches_of_rounds c 1 n es st ts in
+      (λ j. touches_of_round (config1 j) (rounds1 j) these (a.goes.state j) us)
+      ∙ ap (touched_in c (n + 1) before.now us) own
+      ∙ ap (λ k. touches_of_round c k es before.now us) place
+      ∙ sym (touches_more c 1 n es st ts) ∙ ap (λ k. touches_of_rounds c 1 k es st ts) (sym next)
+
+  pays : PaysAll (touches_of_rounds c 1 (n + 1) es st) m s.guests m2 s2.guests
+  pays =
+      let first : List Touching → List Touching = touches_of_rounds c 1 n es st in
+      let last : List Touching → List Touching = touches_of_round s1.config (s1.rounds + 1) these (state_of m1.memory s1) in
+      pays_as (λ ts. last (first ts)) (touches_of_rounds c 1 (n + 1) es st) m m2 s.guests s2.guests (λ ts all. touched ts) (pays_then first last m m1 m2 s.guests s1.guests s2.guests a.pays b.pays)
+
   -- one round more
   pub more_made : MakesRounds (n + 1) es m s lines m2 s2 lines2
   more_made = record {
@@ -162,4 +199,5 @@ module _ (n : ℕ) (es these : List Event) (m m1 m2 : Machine) (s s1 s2 : System
     };
     counts = counts;
     retires = subst (λ (t : Tally). Retires m m2 t) sums retired;
+    pays = pays;
   }

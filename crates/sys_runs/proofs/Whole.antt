@@ -7,12 +7,15 @@ use Rattle.vv_io.specs.Blocks.{Kept}
 use Rattle.vv_io.specs.Lines.{Seen}
 use Rattle.sys_drives.specs.Rows.{FitsDrive}
 use Rattle.sys_drives.specs.Stores.{StoresAll}
+use Rattle.sys_guests.specs.Layout.{guests_in}
 use Rattle.sys_guests.specs.Loads.{MemoryAlone}
+use Rattle.sys_guests.specs.Present.{HavePresent}
 use Rattle.sys_objects.specs.Condition.{IsConfig}
 use Rattle.sys_objects.specs.declared.records.Config.{Config}
+use Rattle.sys_rounds.specs.FirstTouches.{none_touched}
 use Rattle.sys_rounds.specs.Run.{Input}
 use Rattle.sys_rounds.specs.State.{State}
-use Rattle.sys_runs.proofs.Made.{config1, counted, last, no_drives, retired, shown, steps_few}
+use Rattle.sys_runs.proofs.Made.{all_missed, all_touched, config1, counted, last, no_drives, retired, shown, steps_few}
 use Rattle.sys_runs.proofs.Stored.{stored}
 use Rattle.sys_runs.specs.Ran.{Makes}
 use Rattle.sys_runs.specs.Rounds.{MakesRounds}
@@ -36,7 +39,8 @@ as_long f a b e =
     let long : length a.items ≡ length b.items = omega (arith, a.ok.0, b.ok.0, e) in
     length-map a.items f ∙ long ∙ sym (length-map b.items f)
 
-module _ (c : Config) (images : List (List ℕ)) (es : List Event) (n : ℕ) (m0 m1 m2 : Machine) (s0 s1 s2 : System) (lines lines1 lines2 : List Seen) (drives drives1 drives2 : List Kept) (accepted : IsConfig c) (p : HasPower c images drives drives1 m1 s0) (alone : MemoryAlone m0 m1) (r : MakesRounds n es m1 s0 lines m2 s1 lines1) (d : PowersDown m2 s1 lines1 drives1 s2 lines2 drives2) where
+module _ (c : Config) (images : List (List ℕ)) (es : List Event) (n : ℕ) (m0 m1 m2 : Machine) (s0 s1 s2 : System) (lines lines1 lines2 : List Seen) (drives drives1 drives2 : List Kept) (accepted : IsConfig c) (p : HasPower c images drives drives1 m1 s0) (alone : MemoryAlone m0 m1) (r : MakesRounds n es m1 s0 lines m2 s1 lines1) (d : PowersDown m2 s1 lines1 drives1 s2 lines2 drives2)
+    (present : HavePresent s0.guests (map none_touched (guests_in m1.memory s0.guests))) where
   abbrev x : Input
   x = record { config = c; images = images; volumes = p.volumes; events = es; rounds = n }
 
@@ -60,5 +64,8 @@ module _ (c : Config) (images : List (List ℕ)) (es : List Event) (n : ℕ) (m0
     counts = ap tally_of counts ∙ ap (λ (s : System). tally_of s.counts) d.system ∙ counted c images p.volumes es n m0 m1 m2 s0 s1 lines lines1 p.powered alone r;
     few = steps_few c images p.volumes es n m0 m1 m2 s0 s1 lines lines1 p.powered alone r ran.counts (counts ∙ ap (λ (s : System). s.counts) d.system) holds;
     retires = retired c images p.volumes es n m0 m1 m2 s0 s1 lines lines1 p.powered alone r;
+    missed = r.pays.missed;
+    misses = all_missed c images p.volumes es n m0 m1 m2 s0 s1 lines lines1 p.powered alone r;
+    touches = all_touched c images p.volumes es n m0 m1 m2 s0 s1 lines lines1 p.powered alone r present;
     failed = failed;
   }

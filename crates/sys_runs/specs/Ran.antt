@@ -15,12 +15,14 @@ use Rattle.sys_lines.specs.Shows.{Shows}
 use Rattle.sys_objects.specs.declared.records.Config.{Config}
 use Rattle.sys_rounds.specs.Bytes.{drive_blocks, line_bytes}
 use Rattle.sys_rounds.specs.Counts.{outcome}
+use Rattle.sys_rounds.specs.FirstTouches.{first_touches}
 use Rattle.sys_rounds.specs.Run.{Input}
 use Rattle.sys_runs.specs.declared.running.Ran.{Ran}
 use Rattle.sys_script.specs.declared.event.Event.{Event}
 use Rattle.sys_system.specs.Devices.{first_failed}
 use Rattle.sys_system.specs.declared.power.PowerFault.{PowerFault}
 use Rattle.sys_system.specs.declared.power.PowerFault.TheVariants.{Image, VolumeSize, DriveIn, NoMemory}
+use Rattle.vm_fitting.specs.Paid.{Misses}
 use Rattle.vm_stepping.specs.Made.{steps_in, tally_of}
 
 -- the outside of a run, before it and behind it: the machine, the lines and the drives
@@ -53,7 +55,7 @@ pub record StoresRun (x : Input) (marks : List Bool) (drives drives' : List Kept
 
 -- The run was made. The images fit, and the volumes are those of the drives. Each line has its bytes of the run, or a
 -- front of them and a mark where it failed. The steps are those of the run, at most 1,600,000 in a round, and the machine
--- retired the plain ones.
+-- retired the plain ones. It missed at most as many pages as the run has first touches.
 pub record Makes (x : Input) (ran : Ran) (o : Outside) : Type 0 where
   pub fits : first_misfit x.config.guests x.images ≡ None
   pub loaded : AreLoaded x.config.volumes o.drives x.volumes
@@ -66,6 +68,9 @@ pub record Makes (x : Input) (ran : Ran) (o : Outside) : Type 0 where
   pub counts : tally_of ran.counts ≡ (outcome x).tally
   pub few : steps_in ran.counts ≤ 1600000 * x.rounds
   pub retires : Retires o.machine o.machine' (outcome x).tally
+  pub missed : ℕ
+  pub misses : Misses missed o.machine o.machine'
+  pub touches : missed ≤ first_touches x
   pub failed : ran.failed ≡ first_failed marks drive_marks
 
 -- a run by its answer: it was made; or the first image doesn't fit; or else the first volume that can't be read; or

@@ -3,9 +3,11 @@ pub mod Insides
 pub mod Lists
 pub mod Mounting
 pub mod NextTurn
+pub mod Paying
 pub mod Playing
 pub mod Rounding
 pub mod Seating
+pub mod SlicedTouches
 pub mod Slices
 pub mod Slicing
 pub mod Sums

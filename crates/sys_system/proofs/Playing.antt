@@ -8,11 +8,13 @@ use Rattle.vax_hw.specs.Machine.{Machine}
 use Rattle.vv_io.specs.Lines.{Seen}
 use Rattle.sys_guests.specs.Changes.{Retires}
 use Rattle.sys_guests.specs.Layout.{end_of_guests, guests_in}
+use Rattle.sys_guests.specs.Present.{PaysAll}
 use Rattle.sys_guests.specs.declared.turns.Turn.{Turn}
 use Rattle.sys_lines.proofs.Showings.{shows_none, shows_same, shows_then}
 use Rattle.sys_objects.specs.declared.records.Config.{Config}
 use Rattle.sys_objects.specs.declared.records.GuestRow.{GuestRow}
 use Rattle.sys_objects.specs.declared.records.Terminal.{Terminal}
+use Rattle.sys_system.proofs.Paying.{pays_more, pays_none}
 use Rattle.sys_system.proofs.Slicing.{falls, front_takes, left_falls, now_more, puts_more, quanta_of, quantum_is, retires_then, taken, tally_more, total_more, turns_more}
 use Rattle.sys_system.proofs.Sums.{added_twice}
 use Rattle.sys_system.specs.Calls.{CanTake, Plays, TakesSlice}
@@ -22,6 +24,7 @@ use Rattle.sys_rounds.proofs.Places.{both}
 use Rattle.sys_rounds.proofs.Steps.{as_sum}
 use Rattle.sys_rounds.specs.Counts.{added, slices_tally, tally_by}
 use Rattle.sys_rounds.specs.Places.{changed}
+use Rattle.sys_rounds.specs.SlicedTouches.{touches_of_slice}
 use Rattle.sys_rounds.specs.Slices.{AreQuanta, Slice, sliced, slices, total}
 use Rattle.sys_rounds.specs.State.{Put, State, bytes_on}
 use Rattle.vm_state.specs.Run.{Tally}
@@ -36,6 +39,7 @@ plays_none s m lines h stands running = record {
   shows = shows_none s.marks lines;
   counts = as_sum (tally_of s.counts) h.trail;
   retires = record { retired = omega arith; trail = omega arith };
+  pays = pays_none (guests_in m.memory s.guests) m s.guests;
   left = λ i. omega arith;
   begun = running;
   stands = stands;
@@ -44,8 +48,8 @@ plays_none s m lines h stands running = record {
 }
 
 -- and one slice more
-pub plays_more : (xs : List Slice) (x : Slice) (m m' m'' : Machine) (s s' s'' : System) (lines lines' lines'' : List Seen) → Plays xs m s lines m' s' lines' → CanTake s' x → TakesSlice x m' s' lines' m'' s'' lines'' → Plays (xs ++ x ∷ []) m s lines m'' s'' lines''
-plays_more xs x m m' m'' s s' s'' lines lines' lines'' p can t =
+pub plays_more : (xs : List Slice) (x : Slice) (m m' m'' : Machine) (s s' s'' : System) (lines lines' lines'' : List Seen) → Plays xs m s lines m' s' lines' → CanTake s' x → TakesSlice x m' s' lines' m'' s'' lines'' → PaysAll (touches_of_slice x (guests_in m'.memory s'.guests)) m' s'.guests m'' s''.guests → Plays (xs ++ x ∷ []) m s lines m'' s'' lines''
+plays_more xs x m m' m'' s s' s'' lines lines' lines'' p can t pays =
     let ks = s.config.terminals in
     let os = s.connected in
     let gs : List Guest = guests_in m.memory s.guests in
@@ -65,6 +69,7 @@ plays_more xs x m m' m'' s s' s'' lines lines' lines'' p can t =
       shows = shows_same s.marks s''.marks lines lines'' _ _ bytes (shows_then p.shows t.goes.shows);
       counts = t.counts ∙ ap (λ (u : Tally). added u (tally_by x.steps (slice_get gs' x.guest))) p.counts ∙ added_twice (tally_of s.counts) (slices_tally xs gs) (tally_by x.steps (slice_get gs' x.guest)) ∙ ap (added (tally_of s.counts)) tally;
       retires = subst (λ (u : Tally). Retires m m'' u) tally (retires_then m m' m'' (slices_tally xs gs) (tally_by x.steps (slice_get gs' x.guest)) p.retires t.retires);
+      pays = pays_more ks os xs x gs gs' m m' m'' s.guests s'.guests s''.guests p.guests p.pays pays;
       left = λ i. let fall : slice_index (changed (λ y. y - x.steps) s'.turns.left x.guest) i + taken x i ≡ slice_index s'.turns.left i = left_falls s'.turns.left x.guest x.steps i can.left in
           let now : slice_index s''.turns.left i ≡ slice_index (changed (λ y. y - x.steps) s'.turns.left x.guest) i = ap (λ (v : Turns). slice_index v.left i) turns in
           omega (arith, fall, now, p.left i, total_more xs x i);
@@ -115,9 +120,9 @@ all_taken xs m m' s s' lines lines' first quanta p i =
 
 -- the turns up to a place are played, and then the one there
 pub plays_next : (turns : List Turn) (i : ℕ) (turn : Turn) (m m' m'' : Machine) (s s' s'' : System) (lines lines' lines'' : List Seen) → i < length turns → turn ≡ slice_index_or turns i turn → Plays (map turn_of (take i turns)) m s lines m' s' lines' → CanTake s' (turn_of turn)
-    → TakesSlice (turn_of turn) m' s' lines' m'' s'' lines'' → Plays (map turn_of (take (i + 1) turns)) m s lines m'' s'' lines''
-plays_next turns i turn m m' m'' s s' s'' lines lines' lines'' inside read p can t =
-    subst (λ xs. Plays xs m s lines m'' s'' lines'') (sym (turns_more turns i turn inside read)) (plays_more (map turn_of (take i turns)) (turn_of turn) m m' m'' s s' s'' lines lines' lines'' p can t)
+    → TakesSlice (turn_of turn) m' s' lines' m'' s'' lines'' → PaysAll (touches_of_slice (turn_of turn) (guests_in m'.memory s'.guests)) m' s'.guests m'' s''.guests → Plays (map turn_of (take (i + 1) turns)) m s lines m'' s'' lines''
+plays_next turns i turn m m' m'' s s' s'' lines lines' lines'' inside read p can t pays =
+    subst (λ xs. Plays xs m s lines m'' s'' lines'') (sym (turns_more turns i turn inside read)) (plays_more (map turn_of (take i turns)) (turn_of turn) m m' m'' s s' s'' lines lines' lines'' p can t pays)
 
 pub all_played : (turns : List Turn) (i : ℕ) (m m' : Machine) (s s' : System) (lines lines' : List Seen) → length turns ≤ i → Plays (map turn_of (take i turns)) m s lines m' s' lines' → Plays (map turn_of turns) m s lines m' s' lines'
 all_played turns i m m' s s' lines lines' h p = subst (λ ts. Plays (map turn_of ts) m s lines m' s' lines') (take_all i turns h) p

@@ -10,25 +10,33 @@ use Rattle.vax_hw.specs.Machine.{Machine}
 use Rattle.vv_io.specs.Lines.{Seen}
 use Rattle.sys_guests.specs.Changes.{Retires}
 use Rattle.sys_guests.specs.Layout.{end_of_guests, guests_in}
+use Rattle.sys_guests.specs.Present.{HavePresent, KeepsAll, PaysAll}
 use Rattle.sys_lines.proofs.Showings.{shows_same, shows_then}
 use Rattle.sys_objects.specs.declared.records.Config.{Config}
 use Rattle.sys_objects.specs.declared.records.Mount.{Mount}
+use Rattle.sys_system.proofs.Paying.{counted_events, counted_transfers, pays_as, pays_kept, pays_then, present_long}
 use Rattle.sys_system.proofs.Playing.{quanta_taken}
+use Rattle.sys_system.proofs.SlicedTouches.{same_touches}
 use Rattle.sys_system.specs.Calls.{AreOf, BeginsRound, EndsRound, MakesRound, Plays}
 use Rattle.sys_system.specs.System.{NoneLeft, StandsIn, System, all_turns, state_of}
 use Rattle.sys_rounds.proofs.Consoles.{bytes_append}
+use Rattle.sys_rounds.proofs.Schedules.{any_schedule}
 use Rattle.sys_rounds.proofs.SlicedRound.{any_round}
 use Rattle.sys_rounds.specs.Counts.{added, round_tally, slices_tally}
 use Rattle.sys_rounds.specs.Events.{events}
+use Rattle.sys_rounds.specs.FirstTouches.{touches_of_events, touches_of_round, touches_of_transfers, touches_of_turns}
 use Rattle.sys_rounds.specs.Run.{events_of, round}
 use Rattle.sys_rounds.specs.SlicedRound.{IsTheRound, sliced_round}
+use Rattle.sys_rounds.specs.SlicedTouches.{touches_of_slices}
 use Rattle.sys_rounds.specs.Slices.{AreQuanta, Slice, slices}
 use Rattle.sys_rounds.specs.State.{Put, State, Went, bytes_on}
 use Rattle.sys_rounds.specs.Transfers.{transfers}
+use Rattle.sys_rounds.specs.Turns.{turns}
 use Rattle.sys_script.specs.declared.event.Event.{Event}
 use Rattle.vm_guest.specs.Kept.{Kept}
 use Rattle.vm_state.specs.Run.{Tally}
 use Rattle.vm_state.specs.State.{Guest}
+use Rattle.vm_state.specs.Touches.{Touching}
 use Rattle.vm_stepping.specs.Made.{tally_of}
 
 -- events of one round are all of that round's
@@ -45,7 +53,9 @@ after_slices c xs begun =
     let ended = transfers c (record begun.now { guests = turned.now }) in
     record { now = ended.now; puts = begun.puts ++ turned.puts ++ ended.puts }
 
-module _ (es : List Event) (xs : List Slice) (m m1 m2 m3 : Machine) (s s1 s2 s3 : System) (lines lines1 lines2 lines3 : List Seen) (accepted : IsConfig s.config) (stands : StandsIn m.memory s) (are : AreOf (s.rounds + 1) es) (b : BeginsRound es m s lines m1 s1 lines1) (p : Plays xs m1 s1 lines1 m2 s2 lines2) (none : NoneLeft s2.turns.left) (e : EndsRound m2 s2 lines2 m3 s3 lines3) where
+module _ (es : List Event) (xs : List Slice) (m m1 m2 m3 : Machine) (s s1 s2 s3 : System) (lines lines1 lines2 lines3 : List Seen) (accepted : IsConfig s.config) (stands : StandsIn m.memory s) (are : AreOf (s.rounds + 1) es) (b : BeginsRound es m s lines m1 s1 lines1) (p : Plays xs m1 s1 lines1 m2 s2 lines2) (none : NoneLeft s2.turns.left) (e : EndsRound m2 s2 lines2 m3 s3 lines3)
+    (keeps : KeepsAll (touches_of_events s.config (s.rounds + 1) (state_of m.memory s) es) s.guests s1.guests) (units : length s2.mounts ≡ length s2.config.guests)
+    (leaves : KeepsAll (touches_of_transfers s2.config s2.config.guests s2.mounts (guests_in m2.memory s2.guests) s2.volumes) s2.guests s3.guests) where
   abbrev c : Config
   c = s.config
 
@@ -129,6 +139,46 @@ module _ (es : List Event) (xs : List Slice) (m m1 m2 m3 : Machine) (s s1 s2 s3 
       let last' : m3.trail ≡ m2.trail = ap (λ (x : Machine). x.trail) e.machine in
       record { retired = omega (arith, p.retires.retired, first, last); trail = omega (arith, p.retires.trail, first', last') }
 
+  -- first touches pay for what is missed in the slices
+  begun_long : length begun.now.guests ≡ length s1.guests
+  begun_long = ap (λ (y : State). length y.guests) (sym b.goes.state) ∙ length-map s1.guests (λ (k : Kept). _)
+
+  rows_long : length begun.now.guests ≡ length c.guests
+  rows_long = begun_long ∙ placed_long 0 (sum_by (λ (row : GuestRow). row.pages) s1.config.guests) s1.config.guests s1.guests b.goes.stands.laid_out ∙ ap (λ (y : Config). length y.guests) config1
+
+  turns_same : record begun.now { guests = turned.now } ≡ (turns c begun.now).now
+  turns_same = ap (λ (gs : List Guest). record begun.now { guests = gs }) (any_schedule c begun.now xs accepted rows_long quanta).0
+
+  whole_state : state_of m2.memory s2 ≡ (turns c begun.now).now
+  whole_state = state2 ∙ turns_same
+
+  abbrev moved : Config → State → List Touching → List Touching
+  moved y x ts = touches_of_transfers y y.guests x.mounts x.guests x.volumes ts
+
+  abbrev touched : List Touching → List Touching
+  touched ts = moved s2.config (state_of m2.memory s2) (touches_of_slices xs (guests_in m1.memory s1.guests) (touches_of_events c i st es ts))
+
+  touches_same : (ts : List Touching) → HavePresent s.guests ts → touched ts ≡ touches_of_round c i es st ts
+  touches_same ts all =
+      let us : List Touching = touches_of_events c i st es ts in
+      let long : length us ≡ length begun.now.guests = present_long s1.guests us (keeps ts all) ∙ sym begun_long in
+      let middle : touches_of_slices xs (guests_in m1.memory s1.guests) us ≡ touches_of_turns c.guests begun.now.guests us = ap (λ (y : State). touches_of_slices xs y.guests us) b.goes.state ∙ same_touches c.guests begun.now.guests xs us rows_long long quanta in
+      let last : List Event → List Touching = λ ys. moved c (turns c (events c i st ys).now).now (touches_of_turns c.guests (events c i st ys).now.guests (touches_of_events c i st ys ts)) in
+      (λ j. moved (config2 j) (whole_state j) (middle j)) ∙ ap last (sym of)
+
+  pays : PaysAll (touches_of_round c i es st) m s.guests m3 s3.guests
+  pays =
+      let begin : PaysAll (touches_of_events c i st es) m s.guests m1 s1.guests = pays_kept (touches_of_events c i st es) m m1 s.guests s1.guests (ap (λ (x : Machine). x.misses) b.machine) (λ ts all. counted_events c i st es ts) keeps in
+      let gs2 : List Guest = guests_in m2.memory s2.guests in
+      let long2 : length gs2 ≡ length s2.guests = length-map s2.guests (λ (k : Kept). _) in
+      let rows2 : length s2.guests ≡ length s2.config.guests = placed_long 0 (sum_by (λ (row : GuestRow). row.pages) s2.config.guests) s2.config.guests s2.guests p.stands.laid_out in
+      let end : PaysAll (moved s2.config (state_of m2.memory s2)) m2 s2.guests m3 s3.guests = pays_kept (moved s2.config (state_of m2.memory s2)) m2 m3 s2.guests s3.guests (ap (λ (x : Machine). x.misses) e.machine)
+      (λ ts all. counted_transfers s2.config s2.config.guests s2.mounts gs2 s2.volumes ts units (long2 ∙ rows2) (present_long s2.guests ts all ∙ sym long2)) leaves in
+      let begun1 = touches_of_events c i st es in
+      let sliced1 = touches_of_slices xs (guests_in m1.memory s1.guests) in
+      pays_as touched (touches_of_round c i es st) m m3 s.guests s3.guests touches_same
+      (pays_then (λ ts. sliced1 (begun1 ts)) (moved s2.config (state_of m2.memory s2)) m m2 m3 s.guests s2.guests s3.guests (pays_then begun1 sliced1 m m1 m2 s.guests s1.guests s2.guests begin p.pays) end)
+
   pub round_made : MakesRound es m s lines m3 s3 lines3
   round_made = record {
     system = λ j. record { config = config3 j; connected = s3.connected; mounts = s3.mounts; guests = s3.guests; volumes = s3.volumes; turns = s3.turns; rounds = rounds3 j; counts = s3.counts; marks = s3.marks; drives = drives3 j };
@@ -145,4 +195,5 @@ module _ (es : List Event) (xs : List Slice) (m m1 m2 m3 : Machine) (s s1 s2 s3 
     };
     counts = ap (λ (x : System). tally_of x.counts) e.system ∙ p.counts ∙ ap (λ (x : System). added (tally_of x.counts) (slices_tally xs (guests_in m1.memory s1.guests))) b.system ∙ ap (added (tally_of s.counts)) tally;
     retires = subst (λ (t : Tally). Retires m m3 t) tally retires;
+    pays = pays;
   }

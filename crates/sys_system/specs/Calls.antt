@@ -7,12 +7,15 @@ use Rattle.vv_io.specs.Lines.{Seen}
 use Rattle.sys_drives.specs.Stores.{StoresAll}
 use Rattle.sys_guests.specs.Changes.{Retires}
 use Rattle.sys_guests.specs.Layout.{OnlyGuests, guests_in}
+use Rattle.sys_guests.specs.Present.{PaysAll}
 use Rattle.sys_lines.specs.Shows.{Shows}
 use Rattle.sys_system.specs.System.{StandsIn, System, after_slice, all_turns, no_round, state_of}
 use Rattle.sys_rounds.specs.Bytes.{dump_on}
 use Rattle.sys_rounds.specs.Counts.{added, round_tally, slices_tally, tally_by}
 use Rattle.sys_rounds.specs.Events.{events}
+use Rattle.sys_rounds.specs.FirstTouches.{touches_of_round}
 use Rattle.sys_rounds.specs.Run.{round}
+use Rattle.sys_rounds.specs.SlicedTouches.{touches_of_slices}
 use Rattle.sys_rounds.specs.Slices.{Slice, sliced, slices, total}
 use Rattle.sys_rounds.specs.State.{State, Went, bytes_on}
 use Rattle.sys_rounds.specs.Transfers.{transfers}
@@ -64,13 +67,15 @@ pub record EndsRound (m : Machine) (s : System) (lines : List Seen) (m' : Machin
   pub goes : Goes (transfers s.config (state_of m.memory s)) m s lines m' s' lines'
   pub machine : m' ≡ record m { memory = m'.memory }
 
--- A whole round: its events, then each guest's quantum of steps, taken alone, then its transfers.
+-- A whole round: its events, then each guest's quantum of steps, taken alone, then its transfers. First touches pay for what
+-- the machine misses.
 pub record MakesRound (es : List Event) (m : Machine) (s : System) (lines : List Seen) (m' : Machine) (s' : System) (lines' : List Seen) : Type 0 where
   pub system : s' ≡ record s { connected = s'.connected; mounts = s'.mounts; guests = s'.guests; volumes = s'.volumes; turns = s'.turns; rounds = s.rounds + 1; counts = s'.counts; marks = s'.marks }
   pub ended : s'.turns.is_begun ≡ false
   pub goes : Goes (round s.config (s.rounds + 1) es (state_of m.memory s)) m s lines m' s' lines'
   pub counts : tally_of s'.counts ≡ added (tally_of s.counts) (round_tally s.config.guests (events s.config (s.rounds + 1) (state_of m.memory s) es).now.guests)
   pub retires : Retires m m' (round_tally s.config.guests (events s.config (s.rounds + 1) (state_of m.memory s) es).now.guests)
+  pub pays : PaysAll (touches_of_round s.config (s.rounds + 1) es (state_of m.memory s)) m s.guests m' s'.guests
 
 -- the dumps of all guests are shown, each on its line
 pub record ShowsDumps (m : Machine) (s : System) (lines : List Seen) (s' : System) (lines' : List Seen) : Type 0 where
@@ -95,6 +100,7 @@ pub record Plays (xs : List Slice) (m : Machine) (s : System) (lines : List Seen
   pub shows : Shows s.marks s'.marks lines lines' (λ k. bytes_on k (slices s.config.terminals s.connected xs (guests_in m.memory s.guests)).puts)
   pub counts : tally_of s'.counts ≡ added (tally_of s.counts) (slices_tally xs (guests_in m.memory s.guests))
   pub retires : Retires m m' (slices_tally xs (guests_in m.memory s.guests))
+  pub pays : PaysAll (touches_of_slices xs (guests_in m.memory s.guests)) m s.guests m' s'.guests
   pub left : (i : ℕ) → slice_index s'.turns.left i + total xs i ≡ slice_index s.turns.left i
   pub begun : s'.turns.is_begun ≡ true
   pub stands : StandsIn m'.memory s'

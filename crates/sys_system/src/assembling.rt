@@ -1,5 +1,8 @@
 ghost use Rattle.std.specs.Prelude.{◌≡◌, ◌≤◌, ◌*◌, IfOk, None, length, map};
+ghost use Rattle.sys_guests.specs.Layout.{guests_in};
 ghost use Rattle.sys_guests.specs.Loads.{MemoryAlone, first_misfit};
+ghost use Rattle.sys_guests.specs.Present.{HavePresent};
+ghost use Rattle.sys_rounds.specs.FirstTouches.{none_touched};
 ghost use Rattle.sys_objects.specs.Condition.{IsConfig};
 ghost use Rattle.sys_system.specs.Held.{IsInside, system_of};
 ghost use Rattle.sys_system.specs.Powers.{IsPowered};
@@ -59,6 +62,7 @@ pub fn assemble<H: Hardware>(
     requires pages { length (H.machine machine.old).memory ≡ 512 * 32768 }
     ensures inside { IfOk result IsInside }
     ensures powered { IfOk result (λ s. IsPowered config (map (λ b. b.items) images.now) volumes (H.machine machine.new) (system_of s)) }
+    ensures present { IfOk result (λ s. HavePresent (system_of s).guests (map none_touched (guests_in (H.machine machine.new).memory (system_of s).guests))) }
     ensures alone { MemoryAlone (H.machine machine.old) (H.machine machine.new) }
 {
     let rows = config.guests.as_slice();

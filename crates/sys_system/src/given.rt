@@ -1,9 +1,13 @@
 ghost use Rattle.std.specs.Prelude.{◌≡◌, ◌≤◌, ◌<◌, ◌*◌, All, IfOk, None, length, map, slice_set};
 ghost use Rattle.sys_drives.specs.Rows.{FitRows};
+ghost use Rattle.sys_guests.specs.Layout.{guests_in};
 ghost use Rattle.sys_guests.specs.Loads.{MemoryAlone};
+ghost use Rattle.sys_guests.specs.Present.{HavePresent};
+ghost use Rattle.sys_rounds.specs.FirstTouches.{none_touched};
 ghost use Rattle.sys_objects.specs.Condition.{IsConfig, IsVolume};
 ghost use Rattle.sys_store.specs.Blocks.{blocks_of};
 ghost use Rattle.sys_system.specs.Given.{PowersWith, first_of_another_size, is_another_size};
+ghost use Rattle.sys_system.specs.System.{IsSystem};
 
 use crate::assembling::assemble;
 use crate::power::PowerFault;
@@ -96,7 +100,9 @@ impl System {
         requires volumes { length volumes.now ≡ length config.volumes }
         requires pages { length (H.machine machine.old).memory ≡ 512 * 32768 }
         ensures powers { PowersWith config (map (λ b. b.items) images.now) (map (λ b. b.items) volumes.now) (H.machine machine.new) result }
+        ensures present { IfOk result (λ s. HavePresent s.guests (map none_touched (guests_in (H.machine machine.new).memory s.guests))) }
         ensures alone { MemoryAlone (H.machine machine.old) (H.machine machine.new) }
+        ensures holds { IfOk result IsSystem }
     {
         if let Some(guest) = first_misfit(config.guests.as_slice(), images) {
             return Err(PowerFault::Image(guest));

@@ -1,10 +1,14 @@
-ghost use Rattle.std.specs.Prelude.{◌≡◌, ◌<◌, ◌≤◌, All, false, map, vec_len};
+ghost use Rattle.std.specs.Prelude.{◌≡◌, ◌<◌, ◌≤◌, ◌+◌, All, false, map, vec_len};
 ghost use Rattle.sys_drives.specs.Rows.{FitsDrive};
+ghost use Rattle.sys_guests.specs.Layout.{guests_in};
+ghost use Rattle.sys_guests.specs.Present.{KeepsAll, PaysAll};
 ghost use Rattle.sys_system.specs.Calls.{BeginsRound, CanTake, EndsRound, ShowsDumps, StoresVolumes, TakesSlice};
 ghost use Rattle.sys_system.specs.Devices.{first_failed};
 ghost use Rattle.sys_system.specs.Held.{IsInside, system_of};
-ghost use Rattle.sys_system.specs.System.{NoneLeft, StandsIn, turn_of};
+ghost use Rattle.sys_system.specs.System.{NoneLeft, StandsIn, state_of, turn_of};
+ghost use Rattle.sys_rounds.specs.FirstTouches.{touches_of_events, touches_of_transfers};
 ghost use Rattle.sys_rounds.specs.Places.{place_of};
+ghost use Rattle.sys_rounds.specs.SlicedTouches.{touches_of_slice};
 
 use crate::counting::add;
 use crate::turns::Turns;
@@ -52,6 +56,7 @@ pub fn begin<H: Hardware>(
     requires stands { StandsIn (H.machine machine.old).memory (system_of s.old) }
     requires lines { vec_len lines.old ≡ 32 }
     ensures begins { BeginsRound events.now (H.machine machine.old) (system_of s.old) (map (λ b. seen b) lines.old.items) (H.machine machine.new) (system_of s.new) (map (λ b. seen b) lines.new.items) }
+    ensures present { KeepsAll (touches_of_events (system_of s.old).config ((system_of s.old).rounds + 1) (state_of (H.machine machine.old).memory (system_of s.old)) events.now) (system_of s.old).guests (system_of s.new).guests }
     ensures inside { IsInside s.new }
     ensures len { vec_len lines.new ≡ vec_len lines.old }
 {
@@ -67,6 +72,7 @@ pub fn take<H: Hardware>(machine: &mut H, lines: &mut Vec<Box<dyn Line>>, s: &mu
     requires stands { StandsIn (H.machine machine.old).memory (system_of s.old) }
     requires lines { vec_len lines.old ≡ 32 }
     ensures takes { TakesSlice (turn_of turn) (H.machine machine.old) (system_of s.old) (map (λ b. seen b) lines.old.items) (H.machine machine.new) (system_of s.new) (map (λ b. seen b) lines.new.items) }
+    ensures pays { PaysAll (touches_of_slice (turn_of turn) (guests_in (H.machine machine.old).memory (system_of s.old).guests)) (H.machine machine.old) (system_of s.old).guests (H.machine machine.new) (system_of s.new).guests }
     ensures inside { IsInside s.new }
     ensures len { vec_len lines.new ≡ vec_len lines.old }
 {
@@ -86,6 +92,7 @@ pub fn end<H: Hardware>(machine: &mut H, lines: &mut Vec<Box<dyn Line>>, s: &mut
     requires stands { StandsIn (H.machine machine.old).memory (system_of s.old) }
     requires lines { vec_len lines.old ≡ 32 }
     ensures ends { EndsRound (H.machine machine.old) (system_of s.old) (map (λ b. seen b) lines.old.items) (H.machine machine.new) (system_of s.new) (map (λ b. seen b) lines.new.items) }
+    ensures present { KeepsAll (touches_of_transfers (system_of s.old).config (system_of s.old).config.guests (system_of s.old).mounts (guests_in (H.machine machine.old).memory (system_of s.old).guests) (system_of s.old).volumes) (system_of s.old).guests (system_of s.new).guests }
     ensures inside { IsInside s.new }
     ensures len { vec_len lines.new ≡ vec_len lines.old }
 {

@@ -1,7 +1,11 @@
-ghost use Rattle.std.specs.Prelude.{◌≡◌, ◌*◌, length, map, vec_len};
+ghost use Rattle.std.specs.Prelude.{◌≡◌, ◌*◌, IfOk, length, map, vec_len};
+ghost use Rattle.sys_guests.specs.Layout.{guests_in};
 ghost use Rattle.sys_guests.specs.Loads.{MemoryAlone};
+ghost use Rattle.sys_guests.specs.Present.{HavePresent};
+ghost use Rattle.sys_rounds.specs.FirstTouches.{none_touched};
 ghost use Rattle.sys_objects.specs.Condition.{IsConfig};
 ghost use Rattle.sys_system.specs.Faults.{Powers};
+ghost use Rattle.sys_system.specs.System.{IsSystem};
 
 use crate::assembling::assemble;
 use crate::system::System;
@@ -66,7 +70,9 @@ impl System {
         requires pages { length (H.machine machine.old).memory ≡ 512 * 32768 }
         requires drives { vec_len drives.old ≡ 16 }
         ensures powers { Powers config (map (λ b. b.items) images.now) (map (λ d. kept d) drives.old.items) (map (λ d. kept d) drives.new.items) (H.machine machine.new) result }
+        ensures present { IfOk result (λ s. HavePresent s.guests (map none_touched (guests_in (H.machine machine.new).memory s.guests))) }
         ensures alone { MemoryAlone (H.machine machine.old) (H.machine machine.new) }
+        ensures holds { IfOk result IsSystem }
         ensures len { vec_len drives.new ≡ vec_len drives.old }
     {
         if let Some(guest) = first_misfit(config.guests.as_slice(), images) {

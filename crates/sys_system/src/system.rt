@@ -1,8 +1,12 @@
-ghost use Rattle.std.specs.Prelude.{◌≡◌, ◌<◌, ◌≤◌, All, false, map, option_map, vec_len};
+ghost use Rattle.std.specs.Prelude.{◌≡◌, ◌<◌, ◌≤◌, ◌+◌, All, false, map, option_map, vec_len};
 ghost use Rattle.sys_drives.specs.Rows.{FitsDrive};
+ghost use Rattle.sys_guests.specs.Layout.{guests_in};
+ghost use Rattle.sys_guests.specs.Present.{KeepsAll, PaysAll};
+ghost use Rattle.sys_rounds.specs.FirstTouches.{touches_of_events, touches_of_transfers};
+ghost use Rattle.sys_rounds.specs.SlicedTouches.{touches_of_slice};
 ghost use Rattle.sys_system.specs.Calls.{BeginsRound, CanTake, EndsRound, PowersDown, ShowsDumps, TakesSlice};
 ghost use Rattle.sys_system.specs.Devices.{first_failed};
-ghost use Rattle.sys_system.specs.System.{IsSystem, NoneLeft, StandsIn, next_turn, turn_of};
+ghost use Rattle.sys_system.specs.System.{IsSystem, NoneLeft, StandsIn, next_turn, state_of, turn_of};
 
 use crate::parts::{Device, Parts, begin, dump, end, first_device, store, take};
 use std::marker::Model;
@@ -52,6 +56,7 @@ impl System {
         requires stands { StandsIn (H.machine machine.old).memory self.old }
         requires lines { vec_len lines.old ≡ 32 }
         ensures begins { BeginsRound events.now (H.machine machine.old) self.old (map (λ b. seen b) lines.old.items) (H.machine machine.new) self.new (map (λ b. seen b) lines.new.items) }
+        ensures present { KeepsAll (touches_of_events self.old.config (self.old.rounds + 1) (state_of (H.machine machine.old).memory self.old) events.now) self.old.guests self.new.guests }
         ensures len { vec_len lines.new ≡ vec_len lines.old }
         ensures holds { IsSystem self.new }
     {
@@ -71,6 +76,7 @@ impl System {
         requires stands { StandsIn (H.machine machine.old).memory self.old }
         requires lines { vec_len lines.old ≡ 32 }
         ensures takes { TakesSlice (record { guest = guest; steps = steps }) (H.machine machine.old) self.old (map (λ b. seen b) lines.old.items) (H.machine machine.new) self.new (map (λ b. seen b) lines.new.items) }
+        ensures pays { PaysAll (touches_of_slice (record { guest = guest; steps = steps }) (guests_in (H.machine machine.old).memory self.old.guests)) (H.machine machine.old) self.old.guests (H.machine machine.new) self.new.guests }
         ensures len { vec_len lines.new ≡ vec_len lines.old }
         ensures holds { IsSystem self.new }
     {
@@ -83,6 +89,7 @@ impl System {
         requires stands { StandsIn (H.machine machine.old).memory self.old }
         requires lines { vec_len lines.old ≡ 32 }
         ensures ends { EndsRound (H.machine machine.old) self.old (map (λ b. seen b) lines.old.items) (H.machine machine.new) self.new (map (λ b. seen b) lines.new.items) }
+        ensures present { KeepsAll (touches_of_transfers self.old.config self.old.config.guests self.old.mounts (guests_in (H.machine machine.old).memory self.old.guests) self.old.volumes) self.old.guests self.new.guests }
         ensures len { vec_len lines.new ≡ vec_len lines.old }
         ensures holds { IsSystem self.new }
     {

@@ -1,4 +1,5 @@
 pub mod Composing
+pub mod Dropping
 pub mod Moving
 pub mod Places
 pub mod Printed

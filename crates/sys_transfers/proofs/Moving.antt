@@ -1,5 +1,5 @@
 -- The moves that packets ask for, case by case.
-use Rattle.std.proofs.Common.{◌≡◌, ℕ, ◌+◌, ◌<◌, ◌≤◌, Bool, true, false, true≢false, not, List, [], length, take, slice_index_or, Option, Some, None, Result, refl, ap, ◌∙◌, sym, subst, arith, if◌then◌else◌}
+use Rattle.std.proofs.Common.{◌≡◌, ℕ, ◌+◌, ◌<◌, ◌≤◌, Bool, true, false, true≢false, not, List, [], ◌∷◌, length, take, slice_index_or, Option, Some, None, Result, refl, ap, ◌∙◌, sym, subst, arith, if◌then◌else◌}
 use Rattle.std.specs.Prelude.{OnErr, OnOk, is_err, nat_le, nat_lt}
 use Rattle.std.specs.declared.result.Result.TheVariants.{Err, Ok}
 use Rattle.std.proofs.lemmas.Bool.{false≢true, le-leb, le-ltb, lt-leb, lt-ltb, ltb-false}
@@ -8,7 +8,9 @@ use Rattle.std.proofs.lemmas.Option.{get_or_from_slice_get, slice_get_within}
 use Rattle.vv_base.specs.Bytes.{long_at}
 use Rattle.vax_arch.specs.Walk.{is_past}
 use Rattle.vax_hw.specs.Machine.{Machine}
-use Rattle.vm_guest.specs.Kept.{Becomes, Kept, StandsIn, guest_in, with_bytes}
+use Rattle.vm_fitting.specs.Moves.{Drops}
+use Rattle.vm_fitting.proofs.Own.{none_dropped}
+use Rattle.vm_guest.specs.Kept.{Becomes, Kept, StandsIn, frames_from, guest_in, with_bytes}
 use Rattle.vm_state.specs.Partition.{part}
 use Rattle.vm_state.proofs.Parts.{part_long}
 use Rattle.sys_objects.specs.declared.records.GuestRow.{GuestRow}
@@ -21,6 +23,8 @@ use Rattle.vv_class.specs.declared.class.AccessClass.{AccessClass}
 use Rattle.vm_state.specs.State.{Guest}
 use Rattle.sys_transfers.specs.Serves.{Carries, PrintsOf}
 use Rattle.sys_transfers.proofs.Composing.{becomes_same}
+use Rattle.sys_transfers.proofs.Dropping.{block_frames, dropped_within}
+use Rattle.vm_state.specs.Translation.{frame_at}
 
 -- A packet's longwords are read from its first 20 bytes.
 long_near : (memory bytes : List ℕ) (at n v : ℕ) → bytes ≡ part memory at 20 → n + 4 ≤ 20 → v ≡ long_at bytes n → v ≡ long_at memory (at + n)
@@ -110,20 +114,20 @@ print_moves space p h past = λ i. prints (le-ltb 132 p.size h i) (past i)
 
 -- A move is refused: nothing changes.
 pub refuses : (status : ℕ) (move : Move) (p : Packet) (volumes : List (List (List ℕ))) (m : Machine) (k : Kept) → StandsIn m.memory k → move ≡ Refused status → Carries move p volumes volumes m k status m k
-refuses status move p volumes m k stands is = subst (λ (x : Move). Carries x p volumes volumes m k status m k) (sym is) (record { status_is = refl; becomes = becomes_same m k stands; volumes_are = refl })
+refuses status move p volumes m k stands is = subst (λ (x : Move). Carries x p volumes volumes m k status m k) (sym is) (record { status_is = refl; becomes = becomes_same m k stands; volumes_are = refl; drops = none_dropped [] k.shadow })
 
 -- a block is read into memory
 pub reads_block : (v : ℕ) (move : Move) (p : Packet) (volumes : List (List (List ℕ))) (bytes : List ℕ) (m : Machine) (k : Kept) (m' : Machine) (k' : Kept) → move ≡ Reads v → HasBlock volumes v p.block bytes
-    → Becomes (with_bytes p.buffer bytes (guest_in m.memory k)) m k m' k' → Carries move p volumes volumes m k 1 m' k'
-reads_block v move p volumes bytes m k m' k' is has becomes =
+    → Becomes (with_bytes p.buffer bytes (guest_in m.memory k)) m k m' k' → length bytes ≡ 512 → Drops (frames_from p.buffer bytes) k.shadow k'.shadow → Carries move p volumes volumes m k 1 m' k'
+reads_block v move p volumes bytes m k m' k' is has becomes long drops =
     let block : bytes ≡ slice_index_or (blocks_of volumes v) p.block [] = sym (get_or_from_slice_get (blocks_of volumes v) p.block bytes [] has) in
     let read : Becomes (with_bytes p.buffer (slice_index_or (blocks_of volumes v) p.block []) (guest_in m.memory k)) m k m' k' = subst (λ (bs : List ℕ). Becomes (with_bytes p.buffer bs (guest_in m.memory k)) m k m' k') block becomes in
-    subst (λ (x : Move). Carries x p volumes volumes m k 1 m' k') (sym is) (record { status_is = refl; becomes = read; volumes_are = refl })
+    subst (λ (x : Move). Carries x p volumes volumes m k 1 m' k') (sym is) (record { status_is = refl; becomes = read; volumes_are = refl; drops = dropped_within p.buffer bytes (frame_at p.buffer ∷ frame_at (p.buffer + 511) ∷ []) k.shadow k'.shadow (λ i h. block_frames p.buffer i (omega (arith, h, long))) drops })
 
 -- a block is written from memory
 pub writes_block : (v : ℕ) (move : Move) (p : Packet) (volumes volumes' : List (List (List ℕ))) (m : Machine) (k : Kept) → StandsIn m.memory k → move ≡ Writes v → volumes' ≡ with_block volumes v p.block (bytes_at (guest_in m.memory k) p.buffer 512)
     → Carries move p volumes volumes' m k 1 m k
-writes_block v move p volumes volumes' m k stands is written = subst (λ (x : Move). Carries x p volumes volumes' m k 1 m k) (sym is) (record { status_is = refl; becomes = becomes_same m k stands; volumes_are = written })
+writes_block v move p volumes volumes' m k stands is written = subst (λ (x : Move). Carries x p volumes volumes' m k 1 m k) (sym is) (record { status_is = refl; becomes = becomes_same m k stands; volumes_are = written; drops = none_dropped [] k.shadow })
 
 -- What a call answers.
 pub on_err : {U E P : Type 0} (r : Result U E) → is_err r ≡ true → OnErr r P → P

@@ -1,23 +1,28 @@
 -- A guest's packets, one behind another.
-use Rattle.std.proofs.Common.{◌≡◌, ℕ, ◌+◌, ◌*◌, ◌<◌, ◌≤◌, List, [], ◌∷◌, ◌++◌, length, drop, slice_index_or, All, Bool, Option, refl, ap, ◌∙◌, sym, subst, arith, append-nil, append_assoc}
+use Rattle.std.proofs.Common.{◌≡◌, ℕ, ◌+◌, ◌*◌, ◌%◌, ◌<◌, ◌≤◌, List, [], ◌∷◌, ◌++◌, length, drop, slice_index_or, All, Bool, Option, refl, ap, ◌∙◌, sym, subst, arith, append-nil, append_assoc}
 use Rattle.std.specs.Prelude.{IfSome}
 use Rattle.std.proofs.lemmas.List.{at_drop_all, at_drop_more}
 use Rattle.vax_hw.specs.Machine.{Machine}
 use Rattle.vv_io.specs.Lines.{Seen}
+use Rattle.vm_fitting.specs.Present.{HasPresent}
+use Rattle.vm_fitting.proofs.Fitting.{writes_keep}
+use Rattle.vm_fitting.proofs.Own.{moves_alone}
 use Rattle.vm_guest.specs.Kept.{Becomes, Kept, StandsIn, Turns, guest_in}
 use Rattle.vm_state.specs.Allowed.{IsPacket}
-use Rattle.vm_state.specs.State.{Guest, state_of}
+use Rattle.vm_state.specs.State.{Guest, state_of, tables_of}
+use Rattle.vm_state.specs.Touches.{Present, Touching, touching_write}
 use Rattle.sys_lines.specs.Shows.{Shows}
 use Rattle.sys_lines.proofs.Showings.{shows_none, shows_same, shows_then}
 use Rattle.sys_objects.specs.declared.records.Config.{Config}
 use Rattle.sys_objects.specs.declared.records.GuestRow.{GuestRow}
 use Rattle.sys_objects.specs.declared.records.Mount.{Mount}
 use Rattle.sys_rounds.proofs.Consoles.{bytes_append}
+use Rattle.sys_rounds.specs.FirstTouches.{touches_of_queue}
 use Rattle.sys_rounds.specs.Guests.{with_no_queue}
 use Rattle.sys_rounds.specs.State.{Put, bytes_on}
 use Rattle.sys_rounds.specs.Transfers.{Served, printer_of, served}
-use Rattle.sys_transfers.specs.Serves.{AreMounted, ServesOne, job_on, one_packet}
-use Rattle.sys_transfers.specs.ServesAll.{ServesGuest, all_packets}
+use Rattle.sys_transfers.specs.Serves.{AreMounted, ServesOne, frames_served, job_on, one_packet}
+use Rattle.sys_transfers.specs.ServesAll.{ServesGuest, all_packets, all_touched}
 use Rattle.sys_transfers.proofs.Composing.{becomes_as, becomes_then, becomes_turned}
 use Rattle.sys_transfers.proofs.Sizes.{as_many, one_keeps_sizes, sizes}
 
@@ -47,6 +52,31 @@ next_at c row units g at queue n d volumes h is =
 none_at : (c : Config) (row : GuestRow) (units : List (Option Mount)) (g : Guest) (queue : List ℕ) (n : ℕ) (volumes : List (List (List ℕ))) → length queue ≤ n → served c row units g (drop n queue) volumes ≡ record { guest = g; volumes = volumes; puts = [] }
 none_at c row units g queue n volumes h = at_drop_all (λ (q : List ℕ). served c row units g q volumes) queue n h
 
+-- first touches behind a queue, packet by packet
+all_touches : (c : Config) (row : GuestRow) (units : List (Option Mount)) (g : Guest) (volumes : List (List (List ℕ))) (t : Touching) → touches_of_queue c row units (with_no_queue g) (drop 0 g.state.queue) volumes t ≡ all_touched c row units g volumes t
+unfolding all_touched
+all_touches c row units g volumes t = refl
+
+next_touches : (c : Config) (row : GuestRow) (units : List (Option Mount)) (g : Guest) (at : ℕ) (queue : List ℕ) (volumes : List (List (List ℕ))) (t : Touching) →
+    let one : Served = one_packet c row units g at volumes in
+    touches_of_queue c row units g (at ∷ queue) volumes t ≡ touches_of_queue c row units one.guest queue one.volumes (record t { present = touching_write g (frames_served units g at volumes) t.present })
+unfolding one_packet frames_served
+next_touches c row units g at queue volumes t = refl
+
+touches_at : (c : Config) (row : GuestRow) (units : List (Option Mount)) (g : Guest) (at : ℕ) (queue : List ℕ) (n d : ℕ) (volumes : List (List (List ℕ))) (t : Touching) → n < length queue → at ≡ slice_index_or queue n d →
+    let one : Served = one_packet c row units g at volumes in
+    touches_of_queue c row units g (drop n queue) volumes t ≡ touches_of_queue c row units one.guest (drop (n + 1) queue) one.volumes (record t { present = touching_write g (frames_served units g at volumes) t.present })
+touches_at c row units g at queue n d volumes t h is =
+    at_drop_more (λ (q : List ℕ). touches_of_queue c row units g q volumes t) queue n d h ∙ ap (λ (a : ℕ). touches_of_queue c row units g (a ∷ drop (n + 1) queue) volumes t) (sym is) ∙ next_touches c row units g at (drop (n + 1) queue) volumes t
+
+-- what is present behind a packet has entries
+one_present : (row : GuestRow) (units : List (Option Mount)) (at : ℕ) (vs vs2 : List (List (List ℕ))) (m1 : Machine) (k1 : Kept) (job : Option (List ℕ)) (m2 : Machine) (k2 : Kept) (p : Present) → StandsIn m1.memory k1 → StandsIn m2.memory k2 → ServesOne row units at vs vs2 m1 k1 job m2 k2 → at % 4 ≡ 0 → HasPresent k1.shadow p
+    → HasPresent k2.shadow (touching_write (guest_in m1.memory k1) (frames_served units (guest_in m1.memory k1) at vs) p)
+one_present row units at vs vs2 m1 k1 job m2 k2 p before after serves aligned has =
+    let frames = frames_served units (guest_in m1.memory k1) at vs in
+    let drops = serves.drops aligned in
+    writes_keep m1.memory k1.shadow k1.state frames p k2.shadow before.keeps before.serves (moves_alone frames m2.memory k1.shadow k2.shadow (tables_of k1.state) after.keeps.fits (drops.told ∙ before.serves.told) drops) has
+
 module _ (c : Config) (row : GuestRow) (units : List (Option Mount)) (volumes : List (List (List ℕ))) (m : Machine) (k : Kept) (marks : List Bool) (lines : List Seen) where
   abbrev g : Guest
   g = guest_in m.memory k
@@ -61,6 +91,12 @@ module _ (c : Config) (row : GuestRow) (units : List (Option Mount)) (volumes : 
   abbrev pub left : ℕ → Guest → List (List (List ℕ)) → Served
   left n h vs = served c row units h (drop n queue) vs
 
+  -- first touches, with what is left to be served
+  pub record Reaches (n : ℕ) (vs : List (List (List ℕ))) (m1 : Machine) (k1 : Kept) (t : Touching) : Type 0 where
+    pub at : Touching
+    pub has : HasPresent k1.shadow at.present
+    pub is : touches_of_queue c row units (guest_in m1.memory k1) (drop n queue) vs at ≡ all_touched c row units g volumes t
+
   -- as far as the packets before this one
   pub record SoFar (n : ℕ) (vs : List (List (List ℕ))) (m1 : Machine) (k1 : Kept) (marks1 : List Bool) (lines1 : List Seen) : Type 0 where
     pub puts : List Put
@@ -70,6 +106,7 @@ module _ (c : Config) (row : GuestRow) (units : List (Option Mount)) (volumes : 
     pub puts_are : puts ++ (left n (guest_in m1.memory k1) vs).puts ≡ whole.puts
     pub shows : Shows marks marks1 lines lines1 (λ j. bytes_on j puts)
     pub sizes_are : sizes vs ≡ sizes volumes
+    pub present : (t : Touching) → HasPresent k.shadow t.present → Reaches n vs m1 k1 t
 
   -- the queue is taken
   pub none_served : (k1 : Kept) → StandsIn m.memory k → Turns (record (state_of k.state) { queue = [] }) k k1 → SoFar 0 volumes m k1 marks lines
@@ -84,6 +121,11 @@ module _ (c : Config) (row : GuestRow) (units : List (Option Mount)) (volumes : 
         puts_are = ap (λ (s : Served). s.puts) (at volumes ∙ all_are c row units g volumes);
         shows = shows_none marks lines;
         sizes_are = refl;
+        present = λ t all. record {
+          at = t;
+          has = subst (λ s. HasPresent s t.present) (sym turns.shadow) all;
+          is = ap (λ (h : Guest). touches_of_queue c row units h (drop 0 queue) volumes t) taken.guest ∙ all_touches c row units g volumes t;
+        };
       }
 
   -- the packets that wait lie in memory
@@ -103,6 +145,12 @@ module _ (c : Config) (row : GuestRow) (units : List (Option Mount)) (volumes : 
     puts_are = append_assoc x.puts one.puts (left (n + 1) (guest_in m2.memory k2) vs2).puts ∙ ap (λ (s : Served). x.puts ++ (one.puts ++ s.puts)) (sym rest) ∙ ap (λ (s : Served). x.puts ++ s.puts) (sym first) ∙ x.puts_are;
     shows = shows_same marks marks2 lines lines2 (λ j. bytes_on j x.puts ++ bytes_on j (job_on (printer_of c row.printer) job)) (λ j. bytes_on j (x.puts ++ one.puts)) told (shows_then x.shows shown);
     sizes_are = ap sizes (serves.volumes_are c) ∙ one_keeps_sizes c row units h1 at vs ∙ x.sizes_are;
+    present = λ t all. let r = x.present t all in record {
+      at = record r.at { present = touching_write h1 (frames_served units h1 at vs) r.at.present };
+      has = one_present row units at vs vs2 m1 k1 job m2 k2 r.at.present x.becomes.stands served_now.stands serves aligned r.has;
+      is = (λ i. touches_of_queue c row units (served_now.guest i) (drop (n + 1) queue) (serves.volumes_are c i) (record r.at { present = touching_write h1 (frames_served units h1 at vs) r.at.present }))
+          ∙ sym (touches_at c row units h1 at queue n d vs r.at inside here) ∙ r.is;
+    };
   }
     where
       h1 : Guest
@@ -111,6 +159,15 @@ module _ (c : Config) (row : GuestRow) (units : List (Option Mount)) (volumes : 
       one : Served
       one = one_packet c row units h1 at vs
 
+      inside : n < length queue
+      inside = subst (λ (xs : List ℕ). n < length xs) same h
+
+      here : at ≡ slice_index_or queue n d
+      here = is ∙ ap (λ (xs : List ℕ). slice_index_or xs n d) same
+
+      aligned : at % 4 ≡ 0
+      aligned = let packet : IsPacket (512 * k.state.pages) (slice_index_or queue n d) = stands.allowed.packets n d inside in ap (λ a. a % 4) here ∙ packet.0
+
       served_now : Becomes one.guest m1 k1 m2 k2
       served_now = serves.becomes c
 
@@ -118,7 +175,7 @@ module _ (c : Config) (row : GuestRow) (units : List (Option Mount)) (volumes : 
       behind = served c row units one.guest (drop (n + 1) queue) one.volumes
 
       first : left n h1 vs ≡ record { guest = behind.guest; volumes = behind.volumes; puts = one.puts ++ behind.puts }
-      first = next_at c row units h1 at queue n d vs (subst (λ (xs : List ℕ). n < length xs) same h) (is ∙ ap (λ (xs : List ℕ). slice_index_or xs n d) same)
+      first = next_at c row units h1 at queue n d vs inside here
 
       rest : behind ≡ left (n + 1) (guest_in m2.memory k2) vs2
       rest = λ i. served c row units (sym served_now.guest i) (drop (n + 1) queue) (sym (serves.volumes_are c) i)
@@ -132,6 +189,8 @@ module _ (c : Config) (row : GuestRow) (units : List (Option Mount)) (volumes : 
     becomes = becomes_as (guest_in m1.memory k1) whole.guest m k m1 k1 (ap (λ (s : Served). s.guest) (sym none) ∙ x.guest) x.becomes;
     volumes_are = ap (λ (s : Served). s.volumes) (sym none) ∙ x.volumes_are;
     shows = shows_same marks marks1 lines lines1 (λ j. bytes_on j x.puts) (λ j. bytes_on j whole.puts) (λ j. ap (bytes_on j) (sym (append-nil x.puts) ∙ ap (λ (s : Served). x.puts ++ s.puts) (sym none) ∙ x.puts_are)) x.shows;
+    present = λ t all. let r = x.present t all in
+        subst (λ (u : Touching). HasPresent k1.shadow u.present) (sym (at_drop_all (λ (q : List ℕ). touches_of_queue c row units (guest_in m1.memory k1) q vs r.at) queue n (subst (λ (xs : List ℕ). length xs ≤ n) same h)) ∙ r.is) r.has;
   }
     where
       none : left n (guest_in m1.memory k1) vs ≡ record { guest = guest_in m1.memory k1; volumes = vs; puts = [] }

@@ -1,16 +1,19 @@
 -- The transfers of all guests, one guest behind another.
-use Rattle.std.proofs.Common.{◌≡◌, ℕ, ◌+◌, ◌<◌, ◌≤◌, List, [], ◌∷◌, ◌++◌, length, map, drop, take, slice_index_or, slice_set, All, Bool, Option, Some, refl, ap, ◌∙◌, sym, subst, arith, append-nil, append_assoc}
+use Rattle.std.proofs.Common.{◌≡◌, ℕ, zero, suc, ◌+◌, ◌<◌, ◌≤◌, List, [], ◌∷◌, ◌++◌, length, map, drop, take, slice_index_or, slice_set, All, Bool, Option, Some, refl, ap, ◌∙◌, sym, subst, arith, append-nil, append_assoc}
 use Rattle.std.specs.List.{slice_get}
 use Rattle.std.proofs.lemmas.List.{drop_all, length-map, take_all}
 use Rattle.vax_hw.specs.Machine.{Machine}
 use Rattle.vv_io.specs.Lines.{Seen}
 use Rattle.vm_guest.specs.Kept.{Kept, StandsIn, guest_in}
 use Rattle.vm_state.specs.State.{Guest}
+use Rattle.vm_state.specs.Touches.{Touching}
 use Rattle.sys_guests.proofs.LaidOut.{placed_long}
 use Rattle.sys_guests.proofs.Lists.{get_at, get_map, one_of_all}
 use Rattle.sys_guests.proofs.One.{one_becomes}
+use Rattle.sys_guests.proofs.Present.{set_present}
 use Rattle.sys_guests.specs.Kernel.{AreUnits, IsKernel, Leads, state_of}
 use Rattle.sys_guests.specs.Layout.{AreInMachine, OnlyGuests, guests_in}
+use Rattle.sys_guests.specs.Present.{HavePresent, KeepsAll}
 use Rattle.sys_guests.specs.declared.kernel.Kernel.{Kernel}
 use Rattle.sys_lines.specs.Shows.{Shows}
 use Rattle.sys_lines.proofs.Showings.{shows_none, shows_same, shows_then}
@@ -19,11 +22,12 @@ use Rattle.sys_objects.specs.declared.records.Config.{Config}
 use Rattle.sys_objects.specs.declared.records.GuestRow.{GuestRow}
 use Rattle.sys_objects.specs.declared.records.Mount.{Mount}
 use Rattle.sys_rounds.proofs.Consoles.{bytes_append}
+use Rattle.sys_rounds.specs.FirstTouches.{touches_of_transfers}
 use Rattle.sys_rounds.specs.Places.{changed}
 use Rattle.sys_rounds.specs.State.{Put, State, bytes_on}
 use Rattle.sys_rounds.specs.Transfers.{AllServed, Served, all_served, transfers}
 use Rattle.sys_transfers.specs.Serves.{AreMounted}
-use Rattle.sys_transfers.specs.ServesAll.{ServesAt, ServesGuest, all_packets}
+use Rattle.sys_transfers.specs.ServesAll.{ServesAt, ServesGuest, all_packets, all_touched}
 use Rattle.sys_transfers.proofs.Places.{before_changed, behind_changed, from_here, got_in_front}
 use Rattle.sys_transfers.proofs.Sizes.{as_many, packets_keep_faults, packets_keep_sizes, sizes}
 
@@ -45,6 +49,7 @@ served_at c mounts place row units volumes m ks k marks lines volumes' m' k' mar
       volumes_are = x.volumes_are;
       shows = x.shows;
       machine = x.becomes.rest;
+      present = set_present ks place k k' (all_touched c row units (guest_in m.memory k) volumes) within k_is x.present;
     }
 
 -- it stands in the machine
@@ -72,6 +77,30 @@ next_at : (c : Config) (rows : List GuestRow) (mounts : List (List (Option Mount
 next_at c rows mounts gs i row units g vs has_row has_units has_guest =
     (λ j. all_served c (from_here rows i row has_row j) (from_here mounts i units has_units j) (from_here gs i g has_guest j) vs) ∙ next_is c row (drop (i + 1) rows) units (drop (i + 1) mounts) g (drop (i + 1) gs) vs
 
+-- first touches behind one guest's packets more
+next_touch : (c : Config) (row : GuestRow) (rows : List GuestRow) (units : List (Option Mount)) (mounts : List (List (Option Mount))) (g : Guest) (gs : List Guest) (vs : List (List (List ℕ))) (t : Touching) (ts : List Touching) →
+    touches_of_transfers c (row ∷ rows) (units ∷ mounts) (g ∷ gs) vs (t ∷ ts) ≡ all_touched c row units g vs t ∷ touches_of_transfers c rows mounts gs (all_packets c row units g vs).volumes ts
+unfolding all_packets all_touched
+next_touch c row rows units mounts g gs vs t ts = refl
+
+touch_at : (c : Config) (rows : List GuestRow) (mounts : List (List (Option Mount))) (gs : List Guest) (i : ℕ) (row : GuestRow) (units : List (Option Mount)) (g : Guest) (vs : List (List (List ℕ))) (t : Touching) (ts : List Touching) → slice_get rows i ≡ Some row → slice_get mounts i ≡ Some units → slice_get gs i ≡ Some g → slice_get ts i ≡ Some t →
+    touches_of_transfers c (drop i rows) (drop i mounts) (drop i gs) vs (drop i ts) ≡ all_touched c row units g vs t ∷ touches_of_transfers c (drop (i + 1) rows) (drop (i + 1) mounts) (drop (i + 1) gs) (all_packets c row units g vs).volumes (drop (i + 1) ts)
+touch_at c rows mounts gs i row units g vs t ts has_row has_units has_guest has_touch =
+    (λ j. touches_of_transfers c (from_here rows i row has_row j) (from_here mounts i units has_units j) (from_here gs i g has_guest j) vs (from_here ts i t has_touch j)) ∙ next_touch c row (drop (i + 1) rows) units (drop (i + 1) mounts) g (drop (i + 1) gs) vs t (drop (i + 1) ts)
+
+-- a state of first touches for each guest
+touch_there : (ks : List Kept) (ts : List Touching) (i : ℕ) → i < length ks → HavePresent ks ts → (t : Touching) × (slice_get ts i ≡ Some t)
+touch_there [] ts i h all = absurd (omega (arith, h))
+touch_there (k ∷ ks) [] i h all = absurd all
+touch_there (k ∷ ks) (t ∷ ts) zero h all = (t, refl)
+touch_there (k ∷ ks) (t ∷ ts) (suc i) h all = touch_there ks ts i (omega (arith, h)) all.1
+
+touches_long : (ks : List Kept) (ts : List Touching) → HavePresent ks ts → length ts ≡ length ks
+touches_long [] [] all = refl
+touches_long [] (t ∷ ts) all = absurd all
+touches_long (k ∷ ks) [] all = absurd all
+touches_long (k ∷ ks) (t ∷ ts) all = ap suc (touches_long ks ts all.1)
+
 module _ (k : Kernel) (volumes : List (List (List ℕ))) (m : Machine) (lines : List Seen) where
   abbrev c : Config
   c = k.config
@@ -86,6 +115,18 @@ module _ (k : Kernel) (volumes : List (List (List ℕ))) (m : Machine) (lines : 
   abbrev pub rest : ℕ → List Guest → List (List (List ℕ)) → AllServed
   rest i gs vs = all_served c (drop i c.guests) (drop i before.mounts) (drop i gs) vs
 
+  -- first touches of all guests, and of those from a place on
+  abbrev all_left : List Touching → List Touching
+  all_left ts = touches_of_transfers c c.guests before.mounts before.guests volumes ts
+
+  abbrev some_left : ℕ → List Guest → List (List (List ℕ)) → List Touching → List Touching
+  some_left i gs vs ts = touches_of_transfers c (drop i c.guests) (drop i before.mounts) (drop i gs) vs (drop i ts)
+
+  pub record Reaches (i : ℕ) (vs : List (List (List ℕ))) (m1 : Machine) (ks1 : List Kept) (ts : List Touching) : Type 0 where
+    pub at : List Touching
+    pub has : HavePresent ks1 at
+    pub is : take i at ++ some_left i (guests_in m1.memory ks1) vs at ≡ all_left ts
+
   -- as far as the guests before this one
   pub record SoFar (i : ℕ) (vs : List (List (List ℕ))) (m1 : Machine) (ks1 : List Kept) (marks1 : List Bool) (lines1 : List Seen) : Type 0 where
     pub puts : List Put
@@ -98,6 +139,7 @@ module _ (k : Kernel) (volumes : List (List (List ℕ))) (m : Machine) (lines : 
     pub only : OnlyGuests c.guests m.memory m1.memory
     pub size : length m1.memory ≡ length m.memory
     pub sizes_are : sizes vs ≡ sizes volumes
+    pub present : (ts : List Touching) → HavePresent k.guests.items ts → Reaches i vs m1 ks1 ts
 
   pub none_served : AreInMachine c.guests m.memory k.guests.items → SoFar 0 volumes m k.guests.items k.marks lines
   none_served placed = record {
@@ -111,6 +153,7 @@ module _ (k : Kernel) (volumes : List (List (List ℕ))) (m : Machine) (lines : 
     only = λ p behind. refl;
     size = refl;
     sizes_are = refl;
+    present = λ ts all. record { at = ts; has = all; is = refl };
   }
 
   -- one guest more
@@ -127,6 +170,7 @@ module _ (k : Kernel) (volumes : List (List (List ℕ))) (m : Machine) (lines : 
     only = λ p behind. y.changes.only p behind ∙ x.only p behind;
     size = y.changes.size ∙ x.size;
     sizes_are = ap sizes y.volumes_are ∙ packets_keep_sizes c y.row y.units y.guest vs ∙ x.sizes_are;
+    present = λ ts all. let r = x.present ts all in one_touched ts r;
   }
     where
       gs1 : List Guest
@@ -152,6 +196,23 @@ module _ (k : Kernel) (volumes : List (List (List ℕ))) (m : Machine) (lines : 
 
       done : take (i + 1) gs2 ≡ take i gs1 ++ one.guest ∷ []
       done = ap (take (i + 1)) changes ∙ before_changed f gs1 i y.guest y.has_guest
+
+      one_touched : (ts : List Touching) → Reaches i vs m1 ks1 ts → Reaches (i + 1) vs2 m2 ks2 ts
+      one_touched ts r =
+          let there : i < length ks1 = omega (arith, h, placed_long _ _ c.guests ks1 x.placed.laid_out) in
+          let (t, has_touch) = touch_there ks1 r.at i there r.has in
+          let at2 : List Touching = changed (all_touched c y.row y.units y.guest vs) r.at i in
+          let front : take (i + 1) at2 ≡ take i r.at ++ all_touched c y.row y.units y.guest vs t ∷ [] = before_changed (all_touched c y.row y.units y.guest vs) r.at i t has_touch in
+          let back : drop (i + 1) at2 ≡ drop (i + 1) r.at = behind_changed (all_touched c y.row y.units y.guest vs) r.at i in
+          let now : some_left (i + 1) gs2 vs2 at2 ≡ touches_of_transfers c (drop (i + 1) c.guests) (drop (i + 1) before.mounts) (drop (i + 1) gs1) one.volumes (drop (i + 1) r.at) =
+          λ j. touches_of_transfers c (drop (i + 1) c.guests) (drop (i + 1) before.mounts) ((ap (drop (i + 1)) changes ∙ behind_changed f gs1 i) j) (y.volumes_are j) (back j) in
+          let here = touch_at c c.guests before.mounts gs1 i y.row y.units y.guest vs t r.at y.has_row (got_in_front (length c.guests) k.server.mounts i y.units h y.has_units) y.has_guest has_touch in
+          record {
+            at = at2;
+            has = y.present r.at r.has;
+            is = (λ j. front j ++ now j) ∙ append_assoc (take i r.at) (all_touched c y.row y.units y.guest vs t ∷ []) (touches_of_transfers c (drop (i + 1) c.guests) (drop (i + 1) before.mounts) (drop (i + 1) gs1) one.volumes (drop (i + 1) r.at))
+                ∙ ap (λ (us : List Touching). take i r.at ++ us) (sym here) ∙ r.is;
+          }
 
       later : behind ≡ rest (i + 1) gs2 vs2
       later = λ j. all_served c (drop (i + 1) c.guests) (drop (i + 1) before.mounts) (sym (ap (drop (i + 1)) changes ∙ behind_changed f gs1 i) j) (sym y.volumes_are j)
@@ -195,6 +256,17 @@ module _ (k : Kernel) (volumes : List (List (List ℕ))) (m : Machine) (lines : 
       all_now : gs1 ≡ whole.guests
       all_now = sym (append-nil gs1) ∙ ap (λ (xs : List Guest). xs ++ []) (sym (take_all i gs1 all_there)) ∙ ap (λ (s : AllServed). take i gs1 ++ s.guests) (sym none) ∙ x.guests
 
+-- what is present behind all transfers has entries
+pub all_present : (k : Kernel) (volumes : List (List (List ℕ))) (m : Machine) (lines : List Seen) (i : ℕ) (vs : List (List (List ℕ))) (m1 : Machine) (ks1 : List Kept) (marks1 : List Bool) (lines1 : List Seen) → length k.config.guests ≤ i → SoFar k volumes m lines i vs m1 ks1 marks1 lines1
+    → KeepsAll (touches_of_transfers k.config k.config.guests (state_of m.memory k volumes).mounts (guests_in m.memory k.guests.items) volumes) k.guests.items ks1
+all_present k volumes m lines i vs m1 ks1 marks1 lines1 over x ts all =
+    let r = x.present ts all in
+    let long : length r.at ≡ length k.config.guests = touches_long ks1 r.at r.has ∙ placed_long _ _ k.config.guests ks1 x.placed.laid_out in
+    let mounts = (state_of m.memory k volumes).mounts in
+    let gs1 = guests_in m1.memory ks1 in
+    let none : touches_of_transfers k.config (drop i k.config.guests) (drop i mounts) (drop i gs1) vs (drop i r.at) ≡ [] = ap (λ (rows : List GuestRow). touches_of_transfers k.config rows (drop i mounts) (drop i gs1) vs (drop i r.at)) (drop_all i k.config.guests over) in
+    subst (λ (us : List Touching). HavePresent ks1 us) (sym (append-nil r.at) ∙ ap (λ (us : List Touching). us ++ []) (sym (take_all i r.at (omega (arith, long, over)))) ∙ ap (λ (us : List Touching). take i r.at ++ us) (sym none) ∙ r.is) r.has
+
 -- each volume has as many blocks as before
 pub sizes_kept : (k : Kernel) (volumes : List (List (List ℕ))) (m : Machine) (lines : List Seen) (i : ℕ) (vs : List (List (List ℕ))) (m1 : Machine) (ks1 : List Kept) (marks1 : List Bool) (lines1 : List Seen) → SoFar k volumes m lines i vs m1 ks1 marks1 lines1 → map length vs ≡ map length volumes
 sizes_kept k volumes m lines i vs m1 ks1 marks1 lines1 x = x.sizes_are
@@ -226,3 +298,6 @@ module _ (k k1 : Kernel) (is : k1 ≡ record k { guests = k1.guests; marks = k1.
 
 pub as_many_guests : (c : Config) (memory : List ℕ) (ks : List Kept) → AreInMachine c.guests memory ks → length ks ≡ length c.guests
 as_many_guests c memory ks placed = placed_long _ _ c.guests ks placed.laid_out
+
+pub all_places : (k : Kernel) (memory : List ℕ) (i : ℕ) → IsKernel memory k → length k.guests.items ≤ i → length k.config.guests ≤ i
+all_places k memory i holds over = let long : length k.guests.items ≡ length k.config.guests = placed_long _ _ k.config.guests k.guests.items holds.placed.laid_out in omega (arith, long, over)

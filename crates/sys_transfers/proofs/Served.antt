@@ -1,18 +1,26 @@
 -- A packet is served: its move is made, and it is answered.
-use Rattle.std.proofs.Common.{◌≡◌, ℕ, zero, suc, ◌*◌, ◌<◌, ◌==◌, All, arith, Bool, true, false, List, [], ◌∷◌, length, slice_index_or, Option, Some, None, refl, ap, ◌∙◌, sym, subst, if◌then◌else◌}
+use Rattle.std.proofs.Common.{◌≡◌, ℕ, zero, suc, ◌+◌, ◌*◌, ◌%◌, ◌<◌, ◌==◌, All, arith, Bool, true, false, List, [], ◌∷◌, ◌++◌, length, slice_index_or, Option, Some, None, refl, ap, ◌∙◌, sym, subst, if◌then◌else◌}
 use Rattle.std.specs.Prelude.{IfSome, nat_lt}
 use Rattle.vax_arch.specs.Walk.{is_past}
 use Rattle.std.proofs.lemmas.Bool.{ne_eqb}
 use Rattle.vax_hw.specs.Machine.{Machine}
-use Rattle.vm_guest.specs.Kept.{Becomes, Kept, StandsIn, guest_in}
-use Rattle.vm_state.specs.State.{Guest}
+use Rattle.vv_base.specs.Bytes.{long_bytes}
+use Rattle.vm_fitting.specs.Moves.{Drops}
+use Rattle.vm_fitting.proofs.Own.{none_dropped}
+use Rattle.vm_guest.specs.Kept.{Becomes, Kept, StandsIn, Turns, frames_from, guest_in}
+use Rattle.vm_state.specs.Packets.{status_place}
+use Rattle.vm_state.specs.State.{Guest, State}
+use Rattle.vm_state.specs.Translation.{frame_at}
+use Rattle.vm_stepping.proofs.Paying.{dropped_then}
 use Rattle.sys_objects.specs.declared.records.Config.{Config}
 use Rattle.sys_objects.specs.declared.records.GuestRow.{GuestRow}
 use Rattle.sys_objects.specs.declared.records.Mount.{Mount}
+use Rattle.sys_rounds.specs.FirstTouches.{frames_by}
 use Rattle.sys_rounds.specs.Guests.{answered}
 use Rattle.sys_rounds.specs.Transfers.{Move, Packet, Prints, Reads, Refused, Served, Writes, move_of, moved, packet_at, printer_of, refused_block, to_print, to_read, to_write, unless_refused}
-use Rattle.sys_transfers.specs.Serves.{AreMounted, Carries, CarriesAll, PrintsOf, ServesOne, carried, carried_volumes, job_by, job_on, one_packet, status_of}
+use Rattle.sys_transfers.specs.Serves.{AreMounted, Carries, CarriesAll, PrintsOf, ServesOne, carried, carried_volumes, frames_carried, frames_served, job_by, job_on, one_packet, status_of}
 use Rattle.sys_transfers.proofs.Composing.{becomes_as, becomes_same, becomes_then, memory_size}
+use Rattle.sys_transfers.proofs.Dropping.{dropped_within, status_frames}
 
 -- the parts of a move that is made
 moved_guest : (c : Config) (row : GuestRow) (g : Guest) (at : ℕ) (p : Packet) (volumes : List (List (List ℕ))) (move : Move) → answered at (status_of move) (carried move p volumes g) ≡ (moved c row g at p volumes move).guest
@@ -75,13 +83,31 @@ one_volumes c row units g at p volumes space read size = moved_volumes c row g a
 one_shows : (c : Config) (row : GuestRow) (units : List (Option Mount)) (g : Guest) (at : ℕ) (p : Packet) (volumes : List (List (List ℕ))) (space : ℕ) → p ≡ packet_at g.memory at → space ≡ length g.memory → (one_packet c row units g at volumes).puts ≡ job_on (printer_of c row.printer) (job_by row p g (move_of space volumes units p))
 one_shows c row units g at p volumes space read size = ap (λ (s : Served). s.puts) (sym (one_is c row units g at p volumes space read size)) ∙ moved_puts c row g at p volumes (move_of space volumes units p)
 
+-- the frames that are written
+frames_split : (at : ℕ) (p : Packet) (move : Move) → frames_carried move p ++ (frame_at (status_place at) ∷ []) ≡ frames_by at p move
+frames_split at p (Refused status) = refl
+frames_split at p (Reads v) = refl
+frames_split at p (Writes v) = refl
+frames_split at p Prints = refl
+
+frames_are : (units : List (Option Mount)) (g : Guest) (at : ℕ) (p : Packet) (volumes : List (List (List ℕ))) (space : ℕ) → p ≡ packet_at g.memory at → space ≡ length g.memory → frames_carried (move_of space volumes units p) p ++ (frame_at (status_place at) ∷ []) ≡ frames_served units g at volumes
+unfolding frames_served
+frames_are units g at p volumes space read size = frames_split at p (move_of space volumes units p) ∙ (λ i. frames_by at (read i) (move_of (size i) volumes units (read i)))
+
+pub status_dropped : (at status : ℕ) (bytes : List ℕ) (k k1 k2 : Kept) {x : State} → bytes ≡ long_bytes status → Drops (frames_from (at + 20) bytes) k.shadow k1.shadow → Turns x k1 k2 → at % 4 ≡ 0 → Drops (frame_at (status_place at) ∷ []) k.shadow k2.shadow
+status_dropped at status bytes k k1 k2 is drops turns aligned =
+    let four : length bytes ≡ 4 = ap length is in
+    subst (Drops (frame_at (status_place at) ∷ []) k.shadow) (sym turns.shadow) (dropped_within (at + 20) bytes (frame_at (status_place at) ∷ []) k.shadow k1.shadow (λ i h. status_frames at i aligned (omega (arith, h, four))) drops)
+
 -- the whole
 pub serves_one : (row : GuestRow) (mounts : List (Option Mount)) (at : ℕ) (p : Packet) (volumes volumes' : List (List (List ℕ))) (m : Machine) (k : Kept) (status : ℕ) (job : Option (List ℕ)) (m1 : Machine) (k1 : Kept) (m2 : Machine) (k2 : Kept) → StandsIn m.memory k → p ≡ packet_at (guest_in m.memory k).memory at
-    → CarriesAll row mounts p volumes volumes' m k status job m1 k1 → Becomes (answered at status (guest_in m1.memory k1)) m1 k1 m2 k2 → ServesOne row mounts at volumes volumes' m k job m2 k2
-serves_one row mounts at p volumes volumes' m k status job m1 k1 m2 k2 stands read all answer = record {
+    → CarriesAll row mounts p volumes volumes' m k status job m1 k1 → Becomes (answered at status (guest_in m1.memory k1)) m1 k1 m2 k2 → (at % 4 ≡ 0 → Drops (frame_at (status_place at) ∷ []) k1.shadow k2.shadow) → ServesOne row mounts at volumes volumes' m k job m2 k2
+serves_one row mounts at p volumes volumes' m k status job m1 k1 m2 k2 stands read all answer answered_drops = record {
   becomes = λ c. becomes_as (answered at status (guest_in m1.memory k1)) (one_packet c row mounts (guest_in m.memory k) at volumes).guest m k m2 k2 (same c) whole;
   volumes_are = λ c. all.carries.volumes_are ∙ one_volumes c row mounts (guest_in m.memory k) at p volumes (512 * k.state.pages) read size;
   shows = λ c. one_shows c row mounts (guest_in m.memory k) at p volumes (512 * k.state.pages) read size ∙ ap (job_on (printer_of c row.printer)) (sym all.job_is);
+  drops = λ aligned. subst (λ fs. Drops fs k.shadow k2.shadow) (frames_are mounts (guest_in m.memory k) at p volumes (512 * k.state.pages) read size)
+      (dropped_then (frames_carried (move_of (512 * k.state.pages) volumes mounts p) p) (frame_at (status_place at) ∷ []) k.shadow k1.shadow k2.shadow all.carries.drops (answered_drops aligned));
 }
   where
     size : 512 * k.state.pages ≡ length (guest_in m.memory k).memory
@@ -131,4 +157,5 @@ prints_only row space p volumes m k status job stands printed =
       status_is = printed.status_is;
       becomes = becomes_as (guest_in m.memory k) (carried (to_print space p) p volumes (guest_in m.memory k)) m k m k (sym same.0) (becomes_same m k stands);
       volumes_are = sym same.1;
+      drops = none_dropped (frames_carried (to_print space p) p) k.shadow;
     }

@@ -1,18 +1,21 @@
 -- A packet of a guest's queue is served, over the guest in the machine: what the definition of a transfer comes to.
-use Rattle.std.specs.Prelude.{◌≡◌, ℕ, ◌<◌, ◌*◌, List, [], Option, Some, None, length, slice_index_or, IfSome, All}
+use Rattle.std.specs.Prelude.{◌≡◌, ℕ, ◌<◌, ◌+◌, ◌*◌, ◌%◌, List, [], ◌∷◌, Option, Some, None, length, slice_index_or, IfSome, All}
 use Rattle.vax_hw.specs.Machine.{Machine}
 use Rattle.sys_objects.specs.declared.records.Config.{Config}
 use Rattle.sys_objects.specs.declared.records.GuestRow.{GuestRow}
 use Rattle.sys_objects.specs.declared.records.Mount.{Mount}
 use Rattle.sys_objects.specs.declared.records.PrinterRow.{PrinterRow}
+use Rattle.sys_rounds.specs.FirstTouches.{frames_by}
 use Rattle.sys_rounds.specs.Guests.{bytes_at, with_bytes}
 use Rattle.sys_rounds.specs.State.{Put}
-use Rattle.sys_rounds.specs.Transfers.{Move, Packet, Prints, Reads, Refused, Served, Writes, done_status, move_of, printed, printer_of, served_one}
+use Rattle.sys_rounds.specs.Transfers.{Move, Packet, Prints, Reads, Refused, Served, Writes, done_status, move_of, packet_at, printed, printer_of, served_one}
 use Rattle.sys_store.specs.Blocks.{blocks_of, with_block}
 use Rattle.sys_store.specs.Job.{job_text}
 use Rattle.sys_transfers.specs.declared.packets.Request.{Request}
+use Rattle.vm_fitting.specs.Moves.{Drops}
 use Rattle.vm_guest.specs.Kept.{Becomes, Kept, guest_in}
 use Rattle.vm_state.specs.State.{Guest}
+use Rattle.vm_state.specs.Translation.{frame_at}
 
 -- each mount names a volume
 abbrev pub AreMounted : List (Option Mount) → List (List (List ℕ)) → Type 0
@@ -37,11 +40,19 @@ status_of (Reads v) = done_status
 status_of (Writes v) = done_status
 status_of Prints = done_status
 
--- a move is made, but for the answer
+-- the frames that a move writes, before the packet is answered
+abbrev pub frames_carried : Move → Packet → List ℕ
+frames_carried (Refused status) p = []
+frames_carried (Reads v) p = frame_at p.buffer ∷ frame_at (p.buffer + 511) ∷ []
+frames_carried (Writes v) p = []
+frames_carried Prints p = []
+
+-- A move is made, but for the answer. What is dropped was read from a frame that it writes.
 pub record Carries (move : Move) (p : Packet) (volumes volumes' : List (List (List ℕ))) (m : Machine) (k : Kept) (status : ℕ) (m' : Machine) (k' : Kept) : Type 0 where
   pub status_is : status ≡ status_of move
   pub becomes : Becomes (carried move p volumes (guest_in m.memory k)) m k m' k'
   pub volumes_are : volumes' ≡ carried_volumes move p volumes (guest_in m.memory k)
+  pub drops : Drops (frames_carried move p) k.shadow k'.shadow
 
 -- what a printer gets of a job, if there is one
 abbrev pub job_on : Option PrinterRow → Option (List ℕ) → List Put
@@ -69,11 +80,19 @@ pub record CarriesAll (row : GuestRow) (mounts : List (Option Mount)) (p : Packe
 unfoldable pub one_packet : Config → GuestRow → List (Option Mount) → Guest → ℕ → List (List (List ℕ)) → Served
 one_packet c row mounts g at volumes = served_one c row mounts g at volumes
 
--- the packet at an address is served, and its text is what the guest's printer gets
+-- the frames that are written for the packet at an address
+unfoldable pub frames_served : List (Option Mount) → Guest → ℕ → List (List (List ℕ)) → List ℕ
+frames_served mounts g at volumes =
+    let p = packet_at g.memory at in
+    frames_by at p (move_of (length g.memory) volumes mounts p)
+
+-- The packet at an address is served, and its text is what the guest's printer gets. A packet's address is a multiple of 4:
+-- then what is dropped was read from a frame that is written for it.
 pub record ServesOne (row : GuestRow) (mounts : List (Option Mount)) (at : ℕ) (volumes volumes' : List (List (List ℕ))) (m : Machine) (k : Kept) (job : Option (List ℕ)) (m' : Machine) (k' : Kept) : Type 0 where
   pub becomes : (c : Config) → Becomes (one_packet c row mounts (guest_in m.memory k) at volumes).guest m k m' k'
   pub volumes_are : (c : Config) → volumes' ≡ (one_packet c row mounts (guest_in m.memory k) at volumes).volumes
   pub shows : (c : Config) → (one_packet c row mounts (guest_in m.memory k) at volumes).puts ≡ job_on (printer_of c row.printer) job
+  pub drops : at % 4 ≡ 0 → Drops (frames_served mounts (guest_in m.memory k) at volumes) k.shadow k'.shadow
 
 -- the packet that the code has read
 abbrev pub packet_of : Request → Packet

@@ -1,7 +1,10 @@
-ghost use Rattle.std.specs.Prelude.{◌≡◌, ◌+◌, ◌*◌, ◌≤◌, None, slice_index_or};
+ghost use Rattle.std.specs.Prelude.{◌≡◌, ◌+◌, ◌*◌, ◌%◌, ◌≤◌, [], ◌∷◌, None, slice_index_or};
 ghost use Rattle.sys_rounds.specs.Guests.{answered};
 ghost use Rattle.sys_transfers.specs.Serves.{AreMounted, CarriesAll, ServesOne, packet_of};
+ghost use Rattle.vm_fitting.specs.Moves.{Drops};
 ghost use Rattle.vm_guest.specs.Kept.{Becomes, StandsIn, guest_in};
+ghost use Rattle.vm_state.specs.Packets.{status_place};
+ghost use Rattle.vm_state.specs.Translation.{frame_at};
 
 use crate::moves::{print, read, write};
 use crate::packets::{Request, request_at};
@@ -28,7 +31,8 @@ fn mount_at(mounts: &[Option<Mount>; 4], unit: u32) -> Option<Mount>
 fn answer<H: Hardware>(machine: &mut H, guest: &mut Guest, at: u32, status: u32)
     requires stands { StandsIn (H.machine machine.old).memory guest.old }
     requires inside { at + 24 ≤ 512 * guest.old.state.pages }
-    ensures { Becomes (answered at status (guest_in (H.machine machine.old).memory guest.old)) (H.machine machine.old) guest.old (H.machine machine.new) guest.new }
+    ensures becomes { Becomes (answered at status (guest_in (H.machine machine.old).memory guest.old)) (H.machine machine.old) guest.old (H.machine machine.new) guest.new }
+    ensures drops { at % 4 ≡ 0 → Drops (frame_at (status_place at) ∷ []) guest.old.shadow guest.new.shadow }
 {
     let mut bytes = [0; 4];
     put_u32(&mut bytes, 0, status);

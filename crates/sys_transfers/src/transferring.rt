@@ -1,5 +1,8 @@
 ghost use Rattle.std.specs.Prelude.{◌≡◌, length, map, vec_len};
 ghost use Rattle.sys_guests.specs.Kernel.{IsKernel, Leads, state_of};
+ghost use Rattle.sys_guests.specs.Layout.{guests_in};
+ghost use Rattle.sys_guests.specs.Present.{KeepsAll};
+ghost use Rattle.sys_rounds.specs.FirstTouches.{touches_of_transfers};
 ghost use Rattle.sys_rounds.specs.Transfers.{transfers};
 
 use crate::guests::serve_at;
@@ -20,6 +23,7 @@ pub fn transfer<H: Hardware>(
     requires lines { vec_len lines.old ≡ 32 }
     ensures leads { Leads (transfers kernel.old.config (state_of (H.machine machine.old).memory kernel.old volumes.old)) (H.machine machine.old) kernel.old (map (λ b. seen b) lines.old.items) (H.machine machine.new) kernel.new volumes.new (map (λ b. seen b) lines.new.items) }
     ensures sizes { map length volumes.new ≡ map length volumes.old }
+    ensures present { KeepsAll (touches_of_transfers kernel.old.config kernel.old.config.guests (state_of (H.machine machine.old).memory kernel.old volumes.old).mounts (guests_in (H.machine machine.old).memory kernel.old.guests.items) volumes.old) kernel.old.guests.items kernel.new.guests.items }
     ensures len { vec_len lines.new ≡ vec_len lines.old }
 {
     for place in 0..kernel.guests.len() {

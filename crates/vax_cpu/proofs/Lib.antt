@@ -1,3 +1,5 @@
+pub mod InPage
+pub mod Spelled
 pub mod Looks
 pub mod Mapped
 pub mod One

@@ -11,6 +11,7 @@ use Rattle.vax_table.specs.Whole.{Act as Meaning, Meant, Plain, Probes, Traps, m
 use Rattle.vax_table.specs.declared.act.Refusal.{Refusal}
 use Rattle.vax_table.specs.declared.act.Refusal.TheVariants as refusals
 use Rattle.vax_table.specs.declared.decoded.Decoded.{Decoded}
+use Rattle.vax_cpu.specs.declared.kept.Kept.{Kept}
 use Rattle.vax_cpu.specs.declared.perform.Act.{Act}
 use Rattle.vax_cpu.specs.declared.perform.Act.TheVariants as acts
 use Rattle.vax_cpu.specs.declared.perform.Found.{Found}
@@ -20,9 +21,15 @@ abbrev pub exits : {A : Type 0} → Result A Trouble → Result A Exit
 exits (Ok x) = Ok x
 exits (Err t) = Err (exit_of t)
 
-abbrev pub viewed : Result Decoded Exit → Result Instruction Exit
-viewed (Ok d) = Ok (view d)
-viewed (Err e) = Err e
+-- what is kept, or why there is nothing
+abbrev pub kept_view : Result Kept Exit → Result Instruction Exit
+kept_view (Ok k) = Ok (view k.decoded)
+kept_view (Err e) = Err e
+
+-- what is kept behind a fetch, unless that stopped
+abbrev pub taken : {A : Type 0} → Decoded → Result A Exit → Result Instruction Exit
+taken d (Ok u) = Ok (view d)
+taken d (Err e) = Err e
 
 -- bytes that spell nothing are a reserved instruction, or have a reserved addressing mode
 abbrev pub refusal_of : DecodeFault → Refusal

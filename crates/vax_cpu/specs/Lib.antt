@@ -1,3 +1,4 @@
 pub mod Completed
 pub mod Fetched
+pub mod InPage
 pub mod Paged

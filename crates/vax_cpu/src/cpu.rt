@@ -10,13 +10,14 @@ ghost use Rattle.vax_cpu.specs.Fetched.{exits, found};
 ghost use Rattle.vax_cpu.specs.Paged.{paged};
 
 use crate::entries::Paged;
-use crate::perform::{Act, Found, carry_out, probe_of, trap_of};
+use crate::kept::Kept;
+use crate::perform::{Act, Found, find, probe_of, trap_of};
 use crate::probe::probed;
 use crate::stores::store_all;
 use std::alloc::Global;
 use std::marker::Model;
 use vax_exec::Plan;
-use vax_hw::{Exit, Hardware, Mode, Psl, World};
+use vax_hw::{Exit, Hardware, Psl, World};
 use vv_base::{NoMemory, get_u32, put_u32};
 
 /// The machine of the program: so many pages of memory of 512 bytes.
@@ -28,6 +29,7 @@ pub struct Cpu {
     retired: u64,
     trail: u64,
     misses: u64,
+    kept: Vec<Kept>,
 }
 
 impl Model for Cpu {
@@ -38,7 +40,7 @@ impl Model for Cpu {
 
     ghost view = { λ m. record { memory = m.memory.items; world = m.world; retired = m.retired; trail = m.trail; misses = m.misses } };
 
-    ghost invariant = { λ m. (length m.memory.items ≡ 512 * m.pages) × (1 ≤ m.pages) × (m.pages ≤ 65536) };
+    ghost invariant = { λ m. (length m.memory.items ≡ 512 * m.pages) × (1 ≤ m.pages) × (m.pages ≤ 65536) × (length m.kept.items ≡ 2048) };
 }
 
 /// What an instruction adds to the trail.
@@ -61,13 +63,6 @@ fn with_effect(w: &World, plan: &Plan) -> World
     world.r = r;
     world.psl = Psl(w.psl.0 / 256 * 256 + u32::from(psw));
     world
-}
-
-/// The PSL that MOVPSL stores: VMPSL's upper bytes over the real status word.
-fn seen_psl(w: &World) -> Psl
-    ensures { result.0 ≡ seen_psl w.now }
-{
-    Psl(w.vmpsl.0 / 0x100 * 0x100 + w.psl.0 % 0x100)
 }
 
 /// The longword at a place of a memory, which is a list of bytes.
@@ -94,6 +89,17 @@ fn no_world() -> World {
     }
 }
 
+/// A place for each instruction that is kept.
+fn nothing_kept(alloc: Global) -> Result<Vec<Kept>, NoMemory>
+    ensures { IfOk result (λ kept. length kept.items ≡ 2048) }
+{
+    let mut kept = Vec::with_capacity(alloc, 2048)?;
+    for _n in 0..2048u32 {
+        kept.push(Kept::wait())?;
+    }
+    Ok(kept)
+}
+
 impl Cpu {
     /// A machine of 1 to 65,536 pages of zeros, whose counts are 0.
     #[tactic(auto, unfolding(vax_hw::specs::Machine::zeros))]
@@ -111,6 +117,7 @@ impl Cpu {
             retired: 0,
             trail: 0,
             misses: 0,
+            kept: nothing_kept(alloc)?,
         })
     }
 
@@ -125,21 +132,13 @@ impl Cpu {
         }
     }
 
-    /// The instruction at PC, and what it comes to.
-    #[tactic(auto, unfolding(vax_table::specs::Whole::instruction), using(vax_table::proofs::Scripts::binds))]
-    fn find(&self) -> Result<Found, Exit>
-        ensures { found result ≡ exits (outcome (paged self.now.memory self.now.world) (instruction (in_kernel self.now.world) (seen_psl self.now.world) self.now.world.r)) }
+    /// The instruction at PC, and what it comes to; the machine stays as it is.
+    fn find(&mut self) -> Result<Found, Exit>
+        ensures found { found result ≡ exits (outcome (paged self.old.memory self.old.world) (instruction (in_kernel self.old.world) (seen_psl self.old.world) self.old.world.r)) }
+        ensures same { self.new ≡ self.old }
     {
-        let pc = self.world.r[15];
-        let space = self.paged();
-        let decoded = space.fetch(pc)?;
-        let is_kernel = self.world.vmpsl.current() == Mode::Kernel;
-        let psl = seen_psl(&self.world);
-        let act = carry_out(&space, is_kernel, &decoded, &self.world.r, psl)?;
-        Ok(Found {
-            opcode: decoded.opcode,
-            act,
-        })
+        let slot = self.world.r[15] as usize / 2 % 2048;
+        find(&self.memory, &self.world, &mut self.kept[slot])
     }
 
     /// The machine after an instruction that retired.

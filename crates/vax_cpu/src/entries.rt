@@ -1,10 +1,11 @@
-ghost use Rattle.std.specs.Prelude.{◌≡◌, ◌+◌, ◌*◌, ◌≤◌, ◌<◌, ◌^◌, length, slice_index};
+ghost use Rattle.std.specs.Prelude.{◌≡◌, ◌+◌, ◌*◌, ◌≤◌, ◌<◌, ◌^◌};
 ghost use Rattle.vv_base.specs.Bytes.{long_at};
 ghost use Rattle.vax_arch.specs.Walk.{in_region, mapped_entry, process_entry, system_entry};
 ghost use Rattle.vax_hw.specs.Machine.{tables_of};
 ghost use Rattle.vax_hw.specs.RealTables.{everywhere, real_look};
 ghost use Rattle.vax_cpu.specs.Paged.{IsMapped, entry_of};
 
+use crate::memory::long_in;
 use vax_arch::Pte;
 use vax_hw::World;
 
@@ -25,24 +26,6 @@ pub enum Entry {
 pub struct Paged<'a> {
     pub memory: &'a [u8],
     pub world: &'a World,
-}
-
-/// The byte at a place; beyond memory it is 0.
-pub fn byte_in(memory: &[u8], at: usize) -> u8
-    ensures { result ≡ slice_index memory.now at }
-{
-    memory.get(at).copied().unwrap_or(0)
-}
-
-/// The longword at a place; each of its bytes that lies beyond memory is 0.
-fn long_in(memory: &[u8], at: usize) -> u32
-    requires { at ≤ everywhere }
-    ensures { result ≡ long_at memory.now at }
-{
-    u32::from(byte_in(memory, at))
-        + 0x100 * u32::from(byte_in(memory, at + 1))
-        + 0x1_0000 * u32::from(byte_in(memory, at + 2))
-        + 0x100_0000 * u32::from(byte_in(memory, at + 3))
 }
 
 impl Paged<'_> {

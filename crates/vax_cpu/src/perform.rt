@@ -4,15 +4,20 @@ ghost use Rattle.vax_table.specs.Operations.{operation_of};
 ghost use Rattle.vax_table.specs.Plan.{is_planned};
 ghost use Rattle.vax_table.specs.Script.{outcome};
 ghost use Rattle.vax_table.specs.Spelling.{IsWellFormed, view};
-ghost use Rattle.vax_table.specs.Whole.{acted, first_operand, is_always_done, plainly, probe_of, trap_of, trapped};
+ghost use Rattle.vax_table.specs.Whole.{acted, first_operand, instruction, is_always_done, plainly, probe_of, trap_of, trapped};
 ghost use Rattle.vax_table.specs.declared.meaning.Operation.TheVariants.{MoveStatus};
-ghost use Rattle.vax_cpu.specs.Fetched.{acts_of, exits};
+ghost use Rattle.vax_hw.specs.Machine.{seen_psl};
+ghost use Rattle.vax_hw.specs.Real.{in_kernel};
+ghost use Rattle.vax_cpu.specs.Fetched.{acts_of, exits, found};
+ghost use Rattle.vax_cpu.specs.Paged.{paged};
 
+use crate::entries::Paged;
+use crate::kept::Kept;
 use crate::space::exit_of;
 use vax_arch::Intent;
 use vax_decode::Decoded;
 use vax_exec::{Plan, plan};
-use vax_hw::{Exit, Psl, Refusal, Sens, Trapped};
+use vax_hw::{Exit, Mode, Psl, Refusal, Sens, Trapped, World};
 use vax_operand::{Operands, Space, evaluate, evaluate_trap};
 use vax_table::{Operation, operation};
 use vv_base::Width;
@@ -147,4 +152,27 @@ pub fn carry_out<S: Space>(
     };
     evaluate(s, d, r).map_err(exit_of)?;
     Err(Exit::Refused(refusal))
+}
+
+/// The PSL that MOVPSL stores: VMPSL's upper bytes over the real status word.
+fn seen_psl(w: &World) -> Psl
+    ensures { result.0 ≡ seen_psl w.now }
+{
+    Psl(w.vmpsl.0 / 0x100 * 0x100 + w.psl.0 % 0x100)
+}
+
+/// The instruction at PC of a world over a memory, and what it comes to. It is kept, or taken where it was kept already.
+#[tactic(auto, unfolding(vax_table::specs::Whole::instruction), using(vax_table::proofs::Scripts::binds))]
+pub fn find(memory: &[u8], world: &World, kept: &mut Kept) -> Result<Found, Exit>
+    ensures { found result ≡ exits (outcome (paged memory.now world.now) (instruction (in_kernel world.now) (seen_psl world.now) world.now.r)) }
+{
+    let space = Paged { memory, world };
+    space.fetch(world.r[15], kept)?;
+    let is_kernel = world.vmpsl.current() == Mode::Kernel;
+    let psl = seen_psl(world);
+    let act = carry_out(&space, is_kernel, &kept.decoded, &world.r, psl)?;
+    Ok(Found {
+        opcode: kept.decoded.opcode,
+        act,
+    })
 }

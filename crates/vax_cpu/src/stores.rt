@@ -1,4 +1,4 @@
-ghost use Rattle.std.specs.Prelude.{◌≡◌, ◌+◌, ◌*◌, ◌≤◌, ◌<◌, ◌^◌, ◌++◌, length, slice_set};
+ghost use Rattle.std.specs.Prelude.{◌≡◌, ◌+◌, ◌*◌, ◌≤◌, ◌<◌, ◌^◌, ◌++◌, [], ◌∷◌, length, IfSome};
 ghost use Rattle.vv_base.specs.Width.{size_of};
 ghost use Rattle.arrayvec.specs.ArrayVec.{array_vec_len};
 ghost use Rattle.vax_table.specs.Claims.{addresses};
@@ -6,10 +6,11 @@ ghost use Rattle.vax_table.specs.PlanLaws.{bytes_of_stores};
 ghost use Rattle.vax_table.specs.Stores.{all_stored};
 ghost use Rattle.vax_table.specs.Tries.{first_clear};
 ghost use Rattle.vax_cpu.specs.Completed.{made, puts_from, puts_of};
+ghost use Rattle.vax_cpu.specs.InPage.{IsWhole};
 ghost use Rattle.vax_cpu.specs.Paged.{is_clear_for, written_place};
 
 use crate::entries::{Entry, Paged};
-use crate::space::size;
+use crate::memory::{size, store_byte, store_in};
 use arrayvec::ArrayVec;
 use vax_exec::Store;
 use vax_hw::World;
@@ -19,15 +20,6 @@ use vax_hw::World;
 pub struct Put {
     pub place: u32,
     pub byte: u8,
-}
-
-/// Stores a byte in a memory, if it has a place for it.
-fn store_byte(memory: &mut [u8], at: usize, byte: u8)
-    ensures { memory.new ≡ slice_set memory.old at byte }
-{
-    if at < memory.len() {
-        memory[at] = byte;
-    }
 }
 
 /// Stores bytes in order.
@@ -51,9 +43,9 @@ impl Paged<'_> {
         }
     }
 
-    /// The first of so many bytes whose page's modify bit is clear.
+    /// The first of so many bytes whose page's modify bit is clear, each by its own page.
     #[tactic(auto, using(crate::proofs::Puts::byte_by_byte))]
-    fn first_clear_from(&self, va: u32, bytes: u32) -> Option<u32>
+    fn first_clear_by_bytes(&self, va: u32, bytes: u32) -> Option<u32>
         ensures { result ≡ first_clear (is_clear_for self.now.memory.now self.now.world.now) (addresses bytes va) }
     {
         if bytes == 0 {
@@ -61,7 +53,22 @@ impl Paged<'_> {
         } else if self.is_clear(va) {
             Some(va)
         } else {
-            self.first_clear_from(va.wrapping_add(1), bytes - 1)
+            self.first_clear_by_bytes(va.wrapping_add(1), bytes - 1)
+        }
+    }
+
+    /// The first of some bytes whose page's modify bit is clear: by one look-up where they lie in one page.
+    fn first_clear_from(&self, va: u32, bytes: u32) -> Option<u32>
+        requires some { 1 ≤ bytes }
+        requires few { bytes ≤ 9 }
+        ensures { result ≡ first_clear (is_clear_for self.now.memory.now self.now.world.now) (addresses bytes va) }
+    {
+        if va % 512 + bytes > 512 {
+            self.first_clear_by_bytes(va, bytes)
+        } else if self.is_clear(va) {
+            Some(va)
+        } else {
+            None
         }
     }
 
@@ -123,9 +130,9 @@ impl Paged<'_> {
     }
 }
 
-/// Makes stores in order, at the places of before the first.
+/// Makes stores in order byte by byte, at the places of before the first.
 #[tactic(auto, using(crate::proofs::Puts::as_stored))]
-pub fn store_all(memory: &mut [u8], world: &World, stores: &[Store])
+fn store_by_bytes(memory: &mut [u8], world: &World, stores: &[Store])
     requires memory { length memory.old < 2 ^ 32 }
     requires few { length stores.now ≤ 20 }
     ensures { memory.new ≡ all_stored (written_place memory.old world.now) stores.now memory.old }
@@ -136,4 +143,42 @@ pub fn store_all(memory: &mut [u8], world: &World, stores: &[Store])
     };
     let puts = space.puts(stores);
     make(memory, puts.as_slice());
+}
+
+/// The place of a store that lies in one page, where memory has it whole.
+fn whole_place(memory: &[u8], world: &World, store: &Store) -> Option<usize>
+    ensures { IfSome result (λ place. IsWhole memory.now world.now store.now place) }
+{
+    let bytes = size(store.width);
+    if store.va % 512 + bytes > 512 {
+        return None;
+    }
+    match (Paged { memory, world }).place(store.va, true) {
+        Ok(place) if place as usize + bytes as usize <= memory.len() => Some(place as usize),
+        _ => None,
+    }
+}
+
+/// Makes one store.
+fn store_one(memory: &mut [u8], world: &World, store: &Store)
+    requires { length memory.old < 2 ^ 32 }
+    ensures { memory.new ≡ all_stored (written_place memory.old world.now) (store.now ∷ []) memory.old }
+{
+    match whole_place(&*memory, world, store) {
+        Some(place) => store_in(memory, place, store.width, store.value),
+        None => store_by_bytes(memory, world, &[*store]),
+    }
+}
+
+/// Makes stores in order, at the places of before the first.
+pub fn store_all(memory: &mut [u8], world: &World, stores: &[Store])
+    requires memory { length memory.old < 2 ^ 32 }
+    requires few { length stores.now ≤ 20 }
+    ensures { memory.new ≡ all_stored (written_place memory.old world.now) stores.now memory.old }
+{
+    match stores {
+        [] => {}
+        [store] => store_one(memory, world, store),
+        _ => store_by_bytes(memory, world, stores),
+    }
 }

@@ -6,13 +6,14 @@ use Rattle.vax_hw.specs.declared.world.Exit.{Exit}
 use Rattle.vax_hw.specs.declared.world.Exit.TheVariants.{Arithmetic, Budget, Denied, Emulate, Modify, NotValid, Refused}
 use Rattle.vax_table.specs.Script.{IsIn}
 use Rattle.vax_table.specs.Whole.{Act, Plain, Probes, Traps}
-use Rattle.vm_bursts.specs.Guarded.{ClosesOne, IsCompleted, IsUnfinished, OnlyBoth, Tells, frames_claimed}
+use Rattle.vm_bursts.specs.Guarded.{ClosesOne, IsCompleted, IsUnfinished, OnlyBoth, Tells}
 use Rattle.vm_bursts.proofs.Completing.{guest_same, only_both, own_same}
+use Rattle.vm_fitting.specs.Runs.{MissesThere, Reaches}
 use Rattle.vm_shadow.specs.Calls.{OnlyTables, unless_dropped}
 use Rattle.vm_shadow.specs.Stands.{Keeps, Shadowed, is_opened, is_pending, is_read_from, mapped_frame, read_at, real_at}
 use Rattle.vm_shadow.specs.StandsFor.{IsPresent, Serves, closed_for}
 use Rattle.vm_shadow.specs.declared.source.Source.{Source}
-use Rattle.vm_simulation.specs.Laws.{IsUnfilled}
+use Rattle.vm_simulation.specs.Laws.{IsUnfilled, frames_claimed}
 use Rattle.vm_simulation.specs.Loaded.{Loads, as_run, frames_opened, guest_try}
 use Rattle.vm_state.specs.Partition.{guest_of, partition_of}
 use Rattle.vm_state.specs.State.{state_of}
@@ -20,6 +21,7 @@ use Rattle.vm_state.specs.Step as steps
 use Rattle.vm_state.specs.Step.{by_try, instruction_of, trapped_in}
 use Rattle.vm_state.specs.Translation.{frame_at, place_of, space_of}
 use Rattle.vm_state.specs.declared.guest_state.GuestState.{GuestState}
+use Rattle.vm_touches.specs.Touched.{AreFilled, touches_now}
 
 -- fewer are opened
 less_by : (q : ℕ → Bool) (k x : ℕ) (xs : List ℕ) (t : Bool) → q x ≡ t → (x == k) ≡ false → is_opened k (filter q xs) ≡ false → is_opened k (if t then x ∷ filter q xs else filter q xs) ≡ false
@@ -80,6 +82,21 @@ tells_same (Modify va) memory after s g e k = (k.0, ap guest_try e ∙ k.1)
 tells_same (Emulate t) memory after s g e k = record { opcode = k.opcode; act = k.act; is = k.is; try = ap guest_try e ∙ k.try; unfilled = unfilled_same k.act memory after s g e k.unfilled }
 tells_same (Refused r) memory after s g e k = ap guest_try e ∙ k
 
+filled_same : (memory after : List ℕ) (s : Shadowed) (g : GuestState) → guest_of after g ≡ guest_of memory g → AreFilled s (touches_now (guest_of memory g)).found → AreFilled s (touches_now (guest_of after g)).found
+filled_same memory after s g e k = subst (λ h. AreFilled s (touches_now h).found) (sym e) k
+
+reaches_same : (x : Exit) (memory after : List ℕ) (s : Shadowed) (g : GuestState) → guest_of after g ≡ guest_of memory g → Reaches x memory s g → Reaches x after s g
+reaches_same Budget memory after s g e k = k
+reaches_same (Arithmetic kind) memory after s g e k = k
+reaches_same (NotValid va write) memory after s g e k = (
+  subst (MissesThere va s) (sym e) k.0,
+  λ needs. filled_same memory after s g e (k.1 (needs.0, (λ i. Rattle.vm_shadow.specs.Laws.guest_place (Rattle.vm_state.specs.Translation.walk_of (sym e i) va (Rattle.vax_arch.specs.Fields.current_of g.psl.0) (Rattle.vax_table.specs.Troubles.intent_of write))) ∙ needs.1)),
+)
+reaches_same (Denied va write) memory after s g e k = filled_same memory after s g e k
+reaches_same (Modify va) memory after s g e k = filled_same memory after s g e k
+reaches_same (Emulate t) memory after s g e k = filled_same memory after s g e k
+reaches_same (Refused r) memory after s g e k = filled_same memory after s g e k
+
 module _ (n f : ℕ) (opened : List ℕ) (m m3 m4 : Machine) (s s3 s4 : Shadowed) (g : GuestState) (v : Serves g s) where
   -- the guest is served still
   serves_by : (w : List Bool) (r : List (Option Source)) (c : List Bool) → s3 ≡ record s { reads = r; consulted = c; writable = w } → Serves g s3
@@ -104,8 +121,7 @@ module _ (n f : ℕ) (opened : List ℕ) (m m3 m4 : Machine) (s s3 s4 : Shadowed
       let guest : guest_of m4.memory (as_run m4.world g) ≡ guest_of m3.memory (as_run m3.world g) = λ i. record { memory = own i; state = state_of (as_run (world i) g) } in
       record {
         term = k.term;
-        written = k.written;
-        plain = k.plain ∙ ap (λ h. trapped_in (steps.Plain k.term) k.written h trap) (sym guest);
+        plain = k.plain ∙ ap (λ h. trapped_in (steps.Plain k.term) (frames_claimed (guest_of m.memory g)) h trap) (sym guest);
         keeps = keeps_fewer (frames_opened m.memory s opened) n opened m4.memory s4 (c.keeps (frames_opened m.memory s opened) (n ∷ opened) (subst (λ x. Keeps (x ∷ frames_opened m.memory s opened) (n ∷ opened) m3.memory s3) (sym is) k.keeps));
         loads = subst (λ x. Loads x s4 (as_run x g)) (sym world) (record { r = k.loads.r; psl = k.loads.psl; current = k.loads.current; previous = k.loads.previous; tables = k.loads.tables ∙ (λ i. Rattle.vm_shadow.specs.Layout.real_tables (sym at i) (sym slot i)) });
         high = ap (λ x. (as_run x g).psl.0 / 2 ^ 8) world ∙ k.high;
@@ -115,6 +131,7 @@ module _ (n f : ℕ) (opened : List ℕ) (m m3 m4 : Machine) (s s3 s4 : Shadowed
         retired = ap (λ (x : Machine). x.retired) c.only.rest ∙ k.retired;
         trail = ap (λ (x : Machine). x.trail) c.only.rest ∙ k.trail;
         misses = ap (λ (x : Machine). x.misses) c.only.rest ∙ k.misses;
+        found = k.found;
       }
 
   pub unfinished_closed : (e : Exit) → IsUnfinished (n ∷ opened) m s g e m3 s3 → ClosesOne n f false m3 s3 m4 s4 → IsUnfinished opened m s g e m4 s4
@@ -130,4 +147,5 @@ module _ (n f : ℕ) (opened : List ℕ) (m m3 m4 : Machine) (s s3 s4 : Shadowed
         rest = c.drops ∙ k.rest ∙ (λ i. record s { writable = (sym c.drops i).writable });
         only = tables_both (ap (λ (x : Shadowed). x.at) k.rest) c.only k.only;
         tells = subst (λ x. Tells e m4.memory x g) (sym c.drops) (tells_same e m3.memory m4.memory s3 g whole k.tells);
+        reaches = subst (λ x. Reaches e m4.memory x g) (sym c.drops) (reaches_same e m3.memory m4.memory s3 g whole k.reaches);
       }

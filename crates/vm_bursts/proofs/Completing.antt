@@ -1,5 +1,5 @@
 -- One instruction of a guest, tried by the machine, and tried again when a page is let be written.
-use Rattle.std.proofs.Common.{◌≡◌, ℕ, ◌+◌, ◌-◌, ◌*◌, ◌%◌, ◌^◌, ◌<◌, ◌≤◌, ◌⊎◌, inl, inr, Bool, true, false, List, [], ◌∷◌, Option, Some, None, Result, Ok, Err, refl, ap, ◌∙◌, sym, subst, arith, if◌then◌else◌}
+use Rattle.std.proofs.Common.{◌≡◌, ℕ, ◌+◌, ◌-◌, ◌*◌, ◌%◌, ◌^◌, ◌<◌, ◌≤◌, ◌⊎◌, inl, inr, Bool, true, false, List, [], ◌∷◌, Option, Some, None, is_some, Result, Ok, Err, refl, ap, ◌∙◌, sym, subst, arith, if◌then◌else◌}
 use Rattle.std.proofs.lemmas.Bool.{cases_eq}
 use Rattle.vax_arch.specs.Fields.{frame_of, is_modified}
 use Rattle.vax_arch.specs.Walk.{page_of, with_modify}
@@ -7,13 +7,16 @@ use Rattle.vax_hw.specs.Machine.{Machine}
 use Rattle.vax_hw.specs.Real.{Retired, behind_trap, going_on, misses_after, one, real}
 use Rattle.vax_hw.specs.declared.world.Exit.{Exit}
 use Rattle.vax_hw.specs.declared.world.Exit.TheVariants.{Arithmetic, Budget, Denied, Emulate, Modify, NotValid, Refused}
-use Rattle.vm_bursts.specs.Guarded.{Allows, IsCompleted, IsTried, IsUnfinished, OnlyBoth, Tells, frames_claimed, opened_by}
+use Rattle.vm_bursts.specs.Guarded.{Allows, IsCompleted, IsTried, IsUnfinished, OnlyBoth, Tells, opened_by}
+use Rattle.vax_table.specs.Script.{IsIn}
+use Rattle.vm_fitting.specs.Runs.{Reaches}
+use Rattle.vm_fitting.proofs.Running.{reached_by}
 use Rattle.vm_shadow.specs.Calls.{OnlyTables}
 use Rattle.vm_shadow.specs.Layout.{IsCovered, all_entries}
 use Rattle.vm_shadow.specs.Stands.{Fits, Keeps, Shadowed, is_pending, mapped_frame, read_at, real_at}
 use Rattle.vm_shadow.specs.StandsFor.{Serves, own_number}
 use Rattle.vm_shadow.proofs.Filling.{byte_apart, own_apart}
-use Rattle.vm_simulation.specs.Laws.{IsRetired, IsUnwritten, Meets}
+use Rattle.vm_simulation.specs.Laws.{IsRetired, IsUnwritten, Meets, frames_claimed}
 use Rattle.vm_simulation.specs.Loaded.{Loads, RunsGuest, as_run, frames_opened, guest_try}
 use Rattle.vm_simulation.proofs.Meeting.{exits_meet}
 use Rattle.vm_simulation.proofs.Retiring.{retires}
@@ -22,6 +25,8 @@ use Rattle.vm_state.specs.State.{state_of}
 use Rattle.vm_state.specs.Step as steps
 use Rattle.vm_state.specs.Step.{by_try, trapped_in}
 use Rattle.vm_state.specs.declared.guest_state.GuestState.{GuestState}
+use Rattle.vm_touches.specs.Touched.{touches_now}
+use Rattle.vm_touches.proofs.Touching.{retired_filled}
 
 pub split : {A B C : Type 0} → A ⊎ B → (A → C) → (B → C) → C
 split (inl a) f g = f a
@@ -33,10 +38,9 @@ both_same : (s : Shadowed) (memory : List ℕ) → OnlyBoth s memory memory
 both_same s memory = record { size = refl; other = λ p h k. refl }
 
 module _ (opened : List ℕ) (m : Machine) (s : Shadowed) (g : GuestState) (k : RunsGuest opened m s g) where
-  completes : (x : Retired) → IsRetired opened m s g x → IsCompleted opened m s g x.trap x.machine s
-  completes x r = record {
+  completes : (x : Retired) → IsRetired opened m s g x → one m ≡ Ok x → IsCompleted opened m s g x.trap x.machine s
+  completes x r e = record {
     term = r.term;
-    written = r.written;
     plain = r.plain;
     keeps = r.keeps;
     loads = r.loads;
@@ -47,51 +51,52 @@ module _ (opened : List ℕ) (m : Machine) (s : Shadowed) (g : GuestState) (k : 
     retired = r.retired;
     trail = r.trail;
     misses = r.misses;
+    found = (retired_filled opened m s g x k e).found;
   }
     where
       here : (p : ℕ) → (p < 512 * s.base) ⊎ (512 * (s.base + s.pages) ≤ p) → (p < 512 * g.base) ⊎ (512 * (g.base + g.pages) ≤ p)
       here p (inl h) = inl (omega (arith, h, k.serves.base))
       here p (inr h) = inr (omega (arith, h, k.serves.base, k.serves.pages))
 
-  pub stops : (e : Exit) → Tells e m.memory s g → IsUnfinished opened m s g e (record m { misses = misses_after m.misses e }) s
-  stops e t = record { keeps = k.keeps; own = refl; machine = refl; rest = refl; only = both_same s m.memory; tells = t }
+  pub stops : (e : Exit) → Tells e m.memory s g → Reaches e m.memory s g → IsUnfinished opened m s g e (record m { misses = misses_after m.misses e }) s
+  stops e t reaches = record { keeps = k.keeps; own = refl; machine = refl; rest = refl; only = both_same s m.memory; tells = t; reaches = reaches }
 
   -- of an exit but Modify
   abbrev First : Machine × Exit → Type 0
   First z = ((va : ℕ) → z.1 ≡ Modify va → ⊥) → IsTried z.1 opened m s g z.0 s
 
-  by_exit : (e : Exit) → Meets e m.memory s g → First (record m { misses = misses_after m.misses e }, e)
-  by_exit Budget t other = absurd t
-  by_exit (Arithmetic kind) t other = absurd t
-  by_exit (NotValid va write) t other = stops (NotValid va write) t
-  by_exit (Denied va write) t other = stops (Denied va write) t
-  by_exit (Modify va) t other = absurd (other va refl)
-  by_exit (Emulate trap) t other = stops (Emulate trap) t
-  by_exit (Refused r) t other = stops (Refused r) t
+  by_exit : (e : Exit) → one m ≡ Err e → Meets e m.memory s g → First (record m { misses = misses_after m.misses e }, e)
+  by_exit Budget is t other = absurd t
+  by_exit (Arithmetic kind) is t other = absurd t
+  by_exit (NotValid va write) is t other = stops (NotValid va write) t (reached_by opened (NotValid va write) m s g k is t)
+  by_exit (Denied va write) is t other = stops (Denied va write) t (reached_by opened (Denied va write) m s g k is t)
+  by_exit (Modify va) is t other = absurd (other va refl)
+  by_exit (Emulate trap) is t other = stops (Emulate trap) t (reached_by opened (Emulate trap) m s g k is t)
+  by_exit (Refused r) is t other = stops (Refused r) t (reached_by opened (Refused r) m s g k is t)
 
   by_trap : (x : Retired) (t : Option ℕ) → IsCompleted opened m s g t x.machine s → First (behind_trap (real 0) x.machine t)
   by_trap x None c other = c
   by_trap x (Some kind) c other = c
 
   first_by : (y : Result Retired Exit) → one m ≡ y → First (going_on (real 0) m y)
-  first_by (Ok x) e = by_trap x x.trap (completes x (retires opened m s g x k e))
-  first_by (Err e) is = by_exit e (exits_meet opened m s g e k is)
+  first_by (Ok x) e = by_trap x x.trap (completes x (retires opened m s g x k e) e)
+  first_by (Err e) is = by_exit e is (exits_meet opened m s g e k is)
 
   pub first_try : (m1 : Machine) (e : Exit) → (m1, e) ≡ real 1 m → ((va : ℕ) → e ≡ Modify va → ⊥) → IsTried e opened m s g m1 s
   first_try m1 e is other = subst First (sym is) (first_by (one m) refl) other
 
   -- of Modify
   abbrev Met : Machine × Exit → Type 0
-  Met z = (va : ℕ) → z.1 ≡ Modify va → (z.0 ≡ m) × IsUnwritten va m.memory s g
+  Met z = (va : ℕ) → z.1 ≡ Modify va → (z.0 ≡ m) × IsUnwritten va m.memory s g × Reaches (Modify va) m.memory s g
 
-  met_exit : (e : Exit) → Meets e m.memory s g → Met (record m { misses = misses_after m.misses e }, e)
-  met_exit Budget t va is = absurd t
-  met_exit (Arithmetic kind) t va is = absurd t
-  met_exit (NotValid a write) t va is = cc
-  met_exit (Denied a write) t va is = cc
-  met_exit (Modify a) t va is = let same : a ≡ va = cc in (refl, subst (λ x. IsUnwritten x m.memory s g) same t)
-  met_exit (Emulate trap) t va is = cc
-  met_exit (Refused r) t va is = cc
+  met_exit : (e : Exit) → one m ≡ Err e → Meets e m.memory s g → Met (record m { misses = misses_after m.misses e }, e)
+  met_exit Budget o t va is = absurd t
+  met_exit (Arithmetic kind) o t va is = absurd t
+  met_exit (NotValid a write) o t va is = cc
+  met_exit (Denied a write) o t va is = cc
+  met_exit (Modify a) o t va is = let same : a ≡ va = cc in (refl, subst (λ x. IsUnwritten x m.memory s g) same t, reached_by opened (Modify a) m s g k o t)
+  met_exit (Emulate trap) o t va is = cc
+  met_exit (Refused r) o t va is = cc
 
   met_trap : (x : Retired) (t : Option ℕ) → Met (behind_trap (real 0) x.machine t)
   met_trap x None va is = cc
@@ -99,9 +104,9 @@ module _ (opened : List ℕ) (m : Machine) (s : Shadowed) (g : GuestState) (k : 
 
   met_by : (y : Result Retired Exit) → one m ≡ y → Met (going_on (real 0) m y)
   met_by (Ok x) e = met_trap x x.trap
-  met_by (Err e) is = met_exit e (exits_meet opened m s g e k is)
+  met_by (Err e) is = met_exit e is (exits_meet opened m s g e k is)
 
-  pub unwritten : (m1 : Machine) (e : Exit) (va : ℕ) → (m1, e) ≡ real 1 m → e ≡ Modify va → (m1 ≡ m) × IsUnwritten va m.memory s g
+  pub unwritten : (m1 : Machine) (e : Exit) (va : ℕ) → (m1, e) ≡ real 1 m → e ≡ Modify va → (m1 ≡ m) × IsUnwritten va m.memory s g × Reaches (Modify va) m.memory s g
   unwritten m1 e va is modify = subst Met (sym is) (met_by (one m) refl) va modify
 
 -- A page that is let be written, or closed, changes the real tables alone.
@@ -220,8 +225,7 @@ module _ (m : Machine) (s : Shadowed) (g : GuestState) (m2 : Machine) (s2 : Shad
   completed_from : (opened : List ℕ) (trap : Option ℕ) → IsCompleted opened m2 s2 g trap m3 s3 → IsCompleted opened m s g trap m3 s3
   completed_from opened trap k = record {
     term = k.term;
-    written = k.written;
-    plain = subst (λ h. by_try h (guest_try h) ≡ trapped_in (steps.Plain k.term) k.written (guest_of m3.memory (as_run m3.world g)) trap) whole_same k.plain;
+    plain = subst (λ h. by_try h (guest_try h) ≡ trapped_in (steps.Plain k.term) (frames_claimed h) (guest_of m3.memory (as_run m3.world g)) trap) whole_same k.plain;
     keeps = subst (λ x. Keeps x opened m3.memory s3) (a.frames opened) k.keeps;
     loads = k.loads;
     high = k.high;
@@ -232,6 +236,7 @@ module _ (m : Machine) (s : Shadowed) (g : GuestState) (m2 : Machine) (s2 : Shad
     retired = k.retired ∙ ap (λ (x : Machine). (x.retired + 1) % 2 ^ 64) a.machine;
     trail = k.trail ∙ ap (λ (x : Machine). (x.trail + k.term) % 2 ^ 64) a.machine;
     misses = k.misses ∙ ap (λ (x : Machine). x.misses) a.machine;
+    found = λ page j. sym (ap (λ (x : Shadowed). is_some (read_at x (own_number x page))) a.rest) ∙ k.found page (subst (λ h. IsIn page (touches_now h).found) (sym whole_same) j);
   }
 
   unfinished_from : (opened : List ℕ) (e : Exit) → IsUnfinished opened m2 s2 g e m3 s3 → IsUnfinished opened m s g e m3 s3
@@ -242,6 +247,7 @@ module _ (m : Machine) (s : Shadowed) (g : GuestState) (m2 : Machine) (s2 : Shad
     rest = k.rest ∙ ap (λ (x : Shadowed). record x { writable = s3.writable }) a.rest;
     only = then_both m.memory m2.memory m3.memory s s2 s2.writable a.rest a.only k.only;
     tells = k.tells;
+    reaches = k.reaches;
   }
 
   pub tried_from : (opened : List ℕ) (e : Exit) → IsTried e opened m2 s2 g m3 s3 → IsTried e opened m s g m3 s3

@@ -12,6 +12,7 @@ use Rattle.vm_shadow.specs.Stands.{Shadowed}
 use Rattle.vm_shadow.specs.StandsFor.{Serves, StandsFor, world_of}
 use Rattle.vm_shadow.specs.declared.source.Source.{Source}
 use Rattle.vm_simulation.specs.Bursts.{plainly}
+use Rattle.vm_simulation.specs.Laws.{frames_claimed}
 use Rattle.vm_simulation.specs.Loaded.{RunsGuest, as_run, guest_try}
 use Rattle.vm_state.specs.Allowed.{AreAllowed}
 use Rattle.vm_state.specs.Initiate.{Initiation, KernelStackBad, Stops, Taken, initiate}
@@ -22,12 +23,17 @@ use Rattle.vm_state.specs.Step as steps
 use Rattle.vm_state.specs.Step.{Stepped, by_try, executed, initiated_in, trapped_in}
 use Rattle.vm_state.specs.declared.exception.Exc.TheVariants as excs
 use Rattle.vm_state.specs.declared.guest_state.GuestState.{GuestState}
+use Rattle.vm_touches.specs.Touched.{touches_now}
 
 -- the run behind one plain step
 executed_as : (h : Guest) (run : Run) (x : Stepped) → run.guest ≡ h → by_try h (guest_try h) ≡ x → after_step run (executed run.guest) ≡ after_step run x
 unfolding executed
 executed_as h run x own e =
     ap (λ y. after_step run (executed y)) own ∙ ap (after_step run) (ap (λ (y : Stepped). record y { touched = steps.touched_by h (steps.instruction_of h.state) }) e)
+
+executed_is : (h : Guest) (x : Stepped) → by_try h (guest_try h) ≡ x → executed h ≡ record x { touched = touches_now h }
+unfolding executed
+executed_is h x e = ap (λ (y : Stepped). record y { touched = touches_now h }) e
 
 trap_by : (run : Run) (h : Guest) (term kind : ℕ) (i : Initiation) → i ≡ initiate h (excs.Arithmetic kind) → after_step run (initiated_in (steps.Plain term) h i) ≡ record (plainly run h 1 term) { guest = (initiated_in steps.Idle h i).guest; shown = run.shown ++ (initiated_in steps.Idle h i).shown }
 trap_by run h term kind (Taken x w) e = refl
@@ -65,9 +71,11 @@ module _ (m : Machine) (s : Shadowed) (g : GuestState) (x : Ended) (w : World) (
       let terms : x.terms ≡ c.term % 2 ^ 64 = r.terms ∙ rise_is m.trail m2.trail c.term r.trail (ap (λ n. n % 2 ^ 64) c.trail ∙ twice (m.trail + c.term)) in
       record {
         steps = λ run own low.
-            executed_as (guest_of m.memory g) run (trapped_in (steps.Plain c.term) c.written (guest_of m2.memory (as_run m2.world g)) trap) own c.plain
-            ∙ behind run (guest_of m2.memory (as_run m2.world g)) c.term c.written trap
+            executed_as (guest_of m.memory g) run (trapped_in (steps.Plain c.term) (frames_claimed (guest_of m.memory g)) (guest_of m2.memory (as_run m2.world g)) trap) own c.plain
+            ∙ behind run (guest_of m2.memory (as_run m2.world g)) c.term (frames_claimed (guest_of m.memory g)) trap
             ∙ ap (with_trap_of trap) (λ i. record { guest = guest_of m2.memory (sym back_is i); shown = run.shown; tally = record run.tally { plain = run.tally.plain + 1; trail = same_sum run.tally.trail x.terms c.term terms i } });
+        term = c.term;
+        step = executed_is (guest_of m.memory g) _ c.plain ∙ (λ i. record (trapped_in (steps.Plain c.term) (frames_claimed (guest_of m.memory g)) (guest_of m2.memory (sym back_is i)) trap) { touched = touches_now (guest_of m.memory g) });
         is = back_is;
         stands = subst (StandsFor m2.memory s2) (sym back_is) (record {
           keeps = c.keeps;
@@ -81,6 +89,7 @@ module _ (m : Machine) (s : Shadowed) (g : GuestState) (x : Ended) (w : World) (
         retired = ap (λ n. n % 2 ^ 64) c.retired ∙ twice (m.retired + 1);
         trail = ap (λ n. n % 2 ^ 64) c.trail ∙ twice (m.trail + c.term) ∙ same_sum m.trail x.terms c.term terms;
         misses = c.misses;
+        found = c.found;
       }
 
   stays_on : (e : Exit) → IsUnfinished [] first s g e m2 s2 → StaysGuarded m s g e m2 s2 g2
@@ -96,6 +105,7 @@ module _ (m : Machine) (s : Shadowed) (g : GuestState) (x : Ended) (w : World) (
         rest = u.rest;
         only = u.only;
         tells = u.tells;
+        reaches = u.reaches;
       }
 
   tried_is : IsTried x.exit [] first s g m2 s2

@@ -13,6 +13,9 @@ use Rattle.vax_hw.specs.declared.world.Exit.TheVariants.{Arithmetic, Budget, Den
 use Rattle.vax_hw.specs.declared.world.World.{World}
 use Rattle.vm_bursts.specs.Ran.{IsRun, RunsMachine, rise}
 use Rattle.vm_bursts.specs.declared.bursts.Ended.{Ended}
+use Rattle.vm_fitting.specs.Paid.{Owes, touching_counted}
+use Rattle.vm_fitting.specs.Runs.{EndsAt, IsPaidRun, Reaches}
+use Rattle.vm_fitting.proofs.Running.{runs_paid}
 use Rattle.vm_shadow.specs.Stands.{Shadowed}
 use Rattle.vm_shadow.specs.StandsFor.{StandsFor, real_psl, world_of}
 use Rattle.vm_clock.specs.Ticks.{after_ticks}
@@ -22,7 +25,9 @@ use Rattle.vm_simulation.proofs.Bursting.{ends_more, runs_go}
 use Rattle.vm_state.specs.Allowed.{AreAllowed}
 use Rattle.vm_state.specs.Partition.{guest_of}
 use Rattle.vm_state.specs.State.{state_of}
+use Rattle.vm_state.specs.Touches.{Touching}
 use Rattle.vm_state.specs.declared.guest_state.GuestState.{GuestState}
+use Rattle.vm_touches.specs.Touched.{touches_now}
 
 -- Fields of the real PSL.
 mode_small : (m : Mode) → mode_number m < 4
@@ -92,6 +97,30 @@ module _ (n : ℕ) (m : Machine) (s : Shadowed) (g : GuestState) (w : World) (x 
       let same : real n first ≡ (m', x.exit) = ap (λ v. real n (record m { world = v })) (sym is) ∙ sym r.ran in
       subst (λ y. IsBurst n first s g y.0 y.1) same (runs_go n first s g some small (loaded m s g k) q)
 
+  -- the same run, by first touches
+  the_paid : IsPaidRun n first s g m' x.exit
+  the_paid =
+      let same : real n first ≡ (m', x.exit) = ap (λ v. real n (record m { world = v })) (sym is) ∙ sym r.ran in
+      subst (λ y. IsPaidRun n first s g y.0 y.1) same (runs_paid n first s g some small (loaded m s g k) q)
+
+  same_done : the_paid.done ≡ the_burst.done
+  same_done =
+      let rose : rise m.retired m'.retired ≡ the_paid.done % 2 ^ 64 = rise_is m.retired m'.retired the_paid.done r.retired the_paid.retired in
+      let other : rise m.retired m'.retired ≡ the_burst.done % 2 ^ 64 = rise_is m.retired m'.retired the_burst.done r.retired the_burst.retired in
+      sym (small_rest the_paid.done (omega (arith, few, the_paid.budget))) ∙ sym rose ∙ other ∙ small_rest the_burst.done (omega (arith, few, the_burst.budget))
+
+  same_left : the_paid.left ≡ the_burst.left
+  same_left = omega (arith, same_done, the_paid.budget, the_burst.budget)
+
+  reaches_end : (h : GuestState) → h ≡ with_count (counted_by x.exit the_burst.done) (as_run m'.world g) → Reaches x.exit m'.memory s h
+  reaches_end h e = subst (Reaches x.exit m'.memory s) (ap (λ c. with_count (counted_by x.exit c) (as_run m'.world g)) same_done ∙ sym e) the_paid.reaches
+
+  touches_end : (h : GuestState) → h ≡ with_count (counted_by x.exit the_burst.done) (as_run m'.world g) → (owed : ℕ) (t : Touching) → Owes owed (touches_now (guest_of m.memory g)) s t → EndsAt x.exit the_burst.left (t.count + owed) (touching_counted n (guest_of m.memory g) t) s (guest_of m'.memory h)
+  touches_end h e owed t o =
+      let there : with_count (counted_by x.exit the_paid.done) (as_run m'.world g) ≡ h = ap (λ c. with_count (counted_by x.exit c) (as_run m'.world g)) same_done ∙ sym e in
+      subst (λ c. EndsAt x.exit c (t.count + owed) (touching_counted n (guest_of m.memory g) t) s (guest_of m'.memory h)) same_left
+      (subst (λ (y : GuestState). EndsAt x.exit the_paid.left (t.count + owed) (touching_counted n (guest_of m.memory g) t) s (guest_of m'.memory y)) there (the_paid.ends owed t o))
+
   pub done_is : x.done ≡ the_burst.done
   done_is = r.done ∙ rise_is m.retired m'.retired the_burst.done r.retired the_burst.retired ∙ small_rest the_burst.done (omega (arith, few, the_burst.budget))
 
@@ -151,4 +180,6 @@ module _ (n : ℕ) (m : Machine) (s : Shadowed) (g : GuestState) (w : World) (x 
         retired = b.retired ∙ ap (λ z. (m.retired + z) % 2 ^ 64) (sym same);
         trail = b.trail ∙ same_trail m.trail x.terms b.terms terms_are;
         misses = b.misses;
+        reaches = reaches_end g2 there;
+        touches = touches_end g2 there;
       }

@@ -11,15 +11,16 @@ use Rattle.vax_hw.specs.declared.world.Exit.{Exit}
 use Rattle.vax_hw.specs.declared.world.Exit.TheVariants.{Arithmetic, Budget, Denied, Emulate, Modify, NotValid, Refused}
 use Rattle.vax_table.specs.Claims.{claims}
 use Rattle.vax_table.specs.Script.{IsIn}
-use Rattle.vm_bursts.specs.Guarded.{Allows, CanAllow, CanClose, ClosesBehind, IsTried, IsUnfinished, RunsSome, clear_bits, count_below, frames_claimed, is_retired, opened_by}
+use Rattle.vm_bursts.specs.Guarded.{Allows, CanAllow, CanClose, ClosesBehind, IsTried, IsUnfinished, RunsSome, clear_bits, count_below, is_retired, opened_by}
 use Rattle.vm_bursts.proofs.Closed.{completed_closed, mapped_in, unfinished_closed}
 use Rattle.vm_bursts.proofs.Completing.{alike, guest_same, maps_same, own_same, runs_again, serves_again, slot_same, split, stops, tried_from, unwritten}
+use Rattle.vm_fitting.specs.Runs.{Reaches}
 use Rattle.vm_shadow.specs.Laws.{guest_place}
 use Rattle.vm_shadow.specs.Layout.{IsCovered, all_entries, entry_number}
 use Rattle.vm_shadow.specs.Stands.{Keeps, Shadowed, mapped_frame, real_at}
 use Rattle.vm_shadow.specs.StandsFor.{Serves, own_number}
 use Rattle.vm_shadow.proofs.Hearing.{number_is_small}
-use Rattle.vm_simulation.specs.Laws.{IsUnwritten}
+use Rattle.vm_simulation.specs.Laws.{IsUnwritten, frames_claimed}
 use Rattle.vm_simulation.specs.Loaded.{RunsGuest, frames_opened}
 use Rattle.vm_state.specs.Partition.{guest_of, partition_of}
 use Rattle.vm_state.specs.Step.{instruction_of}
@@ -165,10 +166,13 @@ module _ (opened : List ℕ) (m : Machine) (s : Shadowed) (g : GuestState) (k : 
   met : IsUnwritten va m.memory s g
   met = (unwritten opened m s g k m1 first va ran is).1
 
+  touched : Reaches (Modify va) m.memory s g
+  touched = (unwritten opened m s g k m1 first va ran is).2
+
   pub left_clear : is_clear (guest_of m1.memory g) va ≡ true → IsUnfinished opened m s g (Modify va) m1 s
   left_clear e =
       let clear : is_clear (guest_of m.memory g) va ≡ true = subst (λ (x : Machine). is_clear (guest_of x.memory g) va ≡ true) here e in
-      subst (λ x. IsUnfinished opened m s g (Modify va) x s) (sym here) (stops opened m s g k (Modify va) (met.small, met.clear clear))
+      subst (λ x. IsUnfinished opened m s g (Modify va) x s) (sym here) (stops opened m s g k (Modify va) (met.small, met.clear clear) touched)
 
   pub may_allow : is_clear (guest_of m1.memory g) va ≡ false → CanAllow va m1 s g
   may_allow e = subst (λ x. CanAllow va x s g) (sym here) (can_allow opened m s g va k met (subst (λ (x : Machine). is_clear (guest_of x.memory g) va ≡ false) here e))

@@ -1,5 +1,5 @@
 -- One instruction of a guest, for which pages are granted or opened that it writes.
-use Rattle.std.specs.Prelude.{◌≡◌, ◌≢◌, ◌⊎◌, ◌∷◌, IfSome, ℕ, zero, suc, ◌+◌, ◌*◌, ◌/◌, ◌%◌, ◌^◌, ◌<◌, ◌≤◌, Bool, true, false, not, if◌then◌else◌, List, [], length, map, slice_index, Option, Some, None}
+use Rattle.std.specs.Prelude.{◌≡◌, ◌≢◌, ◌⊎◌, ◌∷◌, IfSome, ℕ, zero, suc, ◌+◌, ◌*◌, ◌/◌, ◌%◌, ◌^◌, ◌<◌, ◌≤◌, Bool, true, false, not, if◌then◌else◌, List, [], length, slice_index, Option, Some, None}
 use Rattle.vax_arch.specs.Fields.{is_modified}
 use Rattle.vax_arch.specs.Walk.{page_of, with_modify}
 use Rattle.vax_hw.specs.Machine.{Machine}
@@ -9,22 +9,23 @@ use Rattle.vax_hw.specs.declared.world.Exit.{Exit}
 use Rattle.vm_bursts.specs.Ran.{rise}
 use Rattle.vm_bursts.specs.declared.bursts.Ended.{Ended}
 use Rattle.vax_hw.specs.declared.world.Exit.TheVariants.{Arithmetic, Budget, Denied, Emulate, Modify, NotValid, Refused}
-use Rattle.vax_table.specs.Claims.{claims}
 use Rattle.vax_table.specs.Tries.{Clear}
+use Rattle.vm_fitting.specs.Runs.{Reaches}
 use Rattle.vm_shadow.specs.Layout.{all_entries}
 use Rattle.vm_shadow.specs.Calls.{OnlyTables}
 use Rattle.vm_shadow.specs.Stands.{Fits, Keeps, Shadowed, is_pending, mapped_frame, read_at, real_at}
 use Rattle.vm_shadow.specs.StandsFor.{DropsFrom, StandsFor, closed_for, own_number}
 use Rattle.vm_simulation.specs.Bursts.{after_counted, plainly, with_trap}
 use Rattle.vm_state.specs.Run.{Run}
-use Rattle.vm_simulation.specs.Laws.{IsUnwritten, Meets}
+use Rattle.vm_simulation.specs.Laws.{IsUnwritten, Meets, frames_claimed}
 use Rattle.vm_simulation.specs.Loaded.{Loads, RunsGuest, as_run, frames_opened, guest_try}
 use Rattle.vm_state.specs.Partition.{guest_of, partition_of}
 use Rattle.vm_state.specs.State.{Guest}
 use Rattle.vm_state.specs.Step as steps
-use Rattle.vm_state.specs.Step.{by_try, instruction_of, trapped_in}
-use Rattle.vm_state.specs.Translation.{frame_at, is_clear, place_of, space_of}
+use Rattle.vm_state.specs.Step.{by_try, executed, trapped_in}
+use Rattle.vm_state.specs.Translation.{is_clear}
 use Rattle.vm_state.specs.declared.guest_state.GuestState.{GuestState}
+use Rattle.vm_touches.specs.Touched.{AreFilled, touches_now}
 
 -- of the machine's memory the guest's own and its real tables alone change
 pub record OnlyBoth (s : Shadowed) (before after : List ℕ) : Type 0 where
@@ -36,10 +37,6 @@ pub record RunsSome (m : Machine) (s : Shadowed) (g : GuestState) : Type 0 where
   pub opened : List ℕ
   pub runs : RunsGuest opened m s g
 
--- the frames of the bytes that an instruction would write
-abbrev pub frames_claimed : Guest → List ℕ
-frames_claimed h = map (λ va. frame_at (place_of h va)) (claims (space_of h) (instruction_of h.state))
-
 -- what an exit says: of a clear modify bit, that the guest's instruction meets it
 abbrev pub Tells : Exit → List ℕ → Shadowed → GuestState → Type 0
 Tells (Modify va) memory s g = (va < 2 ^ 32) × (guest_try (guest_of memory g) ≡ Clear va)
@@ -50,11 +47,11 @@ Tells (Denied va write) memory s g = Meets (Denied va write) memory s g
 Tells (Emulate t) memory s g = Meets (Emulate t) memory s g
 Tells (Refused r) memory s g = Meets (Refused r) memory s g
 
--- The instruction retired, and is plain. What was read from a frame that it wrote may be dropped.
+-- The instruction retired, and is plain. What was read from a frame that it wrote may be dropped; the pages that it touched
+-- are filled.
 pub record IsCompleted (opened : List ℕ) (m : Machine) (s : Shadowed) (g : GuestState) (trap : Option ℕ) (m' : Machine) (s' : Shadowed) : Type 0 where
   pub term : ℕ
-  pub written : List ℕ
-  pub plain : by_try (guest_of m.memory g) (guest_try (guest_of m.memory g)) ≡ trapped_in (steps.Plain term) written (guest_of m'.memory (as_run m'.world g)) trap
+  pub plain : by_try (guest_of m.memory g) (guest_try (guest_of m.memory g)) ≡ trapped_in (steps.Plain term) (frames_claimed (guest_of m.memory g)) (guest_of m'.memory (as_run m'.world g)) trap
   pub keeps : Keeps (frames_opened m.memory s opened) opened m'.memory s'
   pub loads : Loads m'.world s' (as_run m'.world g)
   pub high : (as_run m'.world g).psl.0 / 2 ^ 8 ≡ g.psl.0 / 2 ^ 8
@@ -64,6 +61,7 @@ pub record IsCompleted (opened : List ℕ) (m : Machine) (s : Shadowed) (g : Gue
   pub retired : m'.retired ≡ (m.retired + 1) % 2 ^ 64
   pub trail : m'.trail ≡ (m.trail + term) % 2 ^ 64
   pub misses : m'.misses ≡ m.misses
+  pub found : AreFilled s (touches_now (guest_of m.memory g)).found
 
 -- The instruction didn't retire, and nothing of the guest changed.
 pub record IsUnfinished (opened : List ℕ) (m : Machine) (s : Shadowed) (g : GuestState) (e : Exit) (m' : Machine) (s' : Shadowed) : Type 0 where
@@ -73,6 +71,7 @@ pub record IsUnfinished (opened : List ℕ) (m : Machine) (s : Shadowed) (g : Gu
   pub rest : s' ≡ record s { writable = s'.writable }
   pub only : OnlyBoth s m.memory m'.memory
   pub tells : Tells e m'.memory s' g
+  pub reaches : Reaches e m'.memory s' g
 
 abbrev pub IsTried : Exit → List ℕ → Machine → Shadowed → GuestState → Machine → Shadowed → Type 0
 IsTried Budget opened m s g m' s' = IsCompleted opened m s g None m' s'
@@ -150,6 +149,8 @@ with_trap_of None run = run
 with_trap_of (Some kind) run = with_trap kind run
 
 pub record StepsGuarded (m : Machine) (s : Shadowed) (g : GuestState) (terms : ℕ) (trap : Option ℕ) (m' : Machine) (s' : Shadowed) (g' : GuestState) : Type 0 where
+  pub term : ℕ
+  pub step : executed (guest_of m.memory g) ≡ record (trapped_in (steps.Plain term) (frames_claimed (guest_of m.memory g)) (guest_of m'.memory g') trap) { touched = touches_now (guest_of m.memory g) }
   pub steps : (run : Run) → run.guest ≡ guest_of m.memory g → run.tally.trail < 2 ^ 64 → after_counted 1 run ≡ with_trap_of trap (plainly run (guest_of m'.memory g') 1 terms)
   pub is : g' ≡ as_run m'.world g
   pub stands : StandsFor m'.memory s' g'
@@ -160,6 +161,7 @@ pub record StepsGuarded (m : Machine) (s : Shadowed) (g : GuestState) (terms : �
   pub retired : m'.retired % 2 ^ 64 ≡ (m.retired + 1) % 2 ^ 64
   pub trail : m'.trail % 2 ^ 64 ≡ (m.trail + terms) % 2 ^ 64
   pub misses : m'.misses ≡ m.misses
+  pub found : AreFilled s (touches_now (guest_of m.memory g)).found
 
 -- The instruction didn't retire: the guest is as it was, and all of the machine but memory, what is loaded, and misses.
 pub record StaysGuarded (m : Machine) (s : Shadowed) (g : GuestState) (e : Exit) (m' : Machine) (s' : Shadowed) (g' : GuestState) : Type 0 where
@@ -170,6 +172,7 @@ pub record StaysGuarded (m : Machine) (s : Shadowed) (g : GuestState) (e : Exit)
   pub rest : s' ≡ record s { writable = s'.writable }
   pub only : OnlyBoth s m.memory m'.memory
   pub tells : Tells e m'.memory s' g
+  pub reaches : Reaches e m'.memory s' g
 
 abbrev pub IsGuarded : Exit → Machine → Shadowed → GuestState → (terms : ℕ) → Machine → Shadowed → GuestState → Type 0
 IsGuarded Budget m s g terms m' s' g' = StepsGuarded m s g terms None m' s' g'

@@ -5,13 +5,17 @@ use Rattle.vax_hw.specs.Real.{real}
 use Rattle.vax_hw.specs.declared.world.World.{World}
 use Rattle.vm_bursts.specs.declared.bursts.Ended.{Ended}
 use Rattle.vm_bursts.specs.declared.bursts.Ran.{Ran}
+use Rattle.vm_fitting.specs.Paid.{Owes, touching_counted}
+use Rattle.vm_fitting.specs.Runs.{EndsAt, Reaches}
 use Rattle.vm_shadow.specs.Stands.{Shadowed}
 use Rattle.vm_shadow.specs.StandsFor.{StandsFor}
 use Rattle.vm_simulation.specs.Bursts.{Ends, after_counted, counted_by, goes_on, missed_by, plainly, with_count}
 use Rattle.vm_simulation.specs.Loaded.{OnlyPartition, as_run}
 use Rattle.vm_state.specs.Partition.{guest_of}
 use Rattle.vm_state.specs.Run.{Run}
+use Rattle.vm_state.specs.Touches.{Touching}
 use Rattle.vm_state.specs.declared.guest_state.GuestState.{GuestState}
+use Rattle.vm_touches.specs.Touched.{touches_now}
 
 -- how much a count of 64 bits rose
 abbrev pub rise : ℕ → ℕ → ℕ
@@ -27,7 +31,8 @@ pub record RunsMachine (n : ℕ) (m : Machine) (w : World) (ended : Ended) (m' :
   pub trail : m.trail < 2 ^ 64
 
 -- The machine ran: it retired so many instructions of at most n, which were plain steps of the guest, with the sum of their
--- terms of the trail; why it ended says how the guest goes on.
+-- terms of the trail; why it ended says how the guest goes on, and which pages are touched. It missed no page in these steps,
+-- and what is present behind them by first touches has real entries.
 pub record IsRun (n : ℕ) (m : Machine) (s : Shadowed) (g : GuestState) (ran : Ran) (m' : Machine) (g' : GuestState) : Type 0 where
   pub left : ℕ
   pub budget : ran.done + left ≡ n
@@ -40,3 +45,5 @@ pub record IsRun (n : ℕ) (m : Machine) (s : Shadowed) (g : GuestState) (ran : 
   pub retired : m'.retired % 2 ^ 64 ≡ (m.retired + ran.done) % 2 ^ 64
   pub trail : m'.trail % 2 ^ 64 ≡ (m.trail + ran.terms) % 2 ^ 64
   pub misses : m'.misses % 2 ^ 64 ≡ (m.misses + missed_by ran.exit) % 2 ^ 64
+  pub reaches : Reaches ran.exit m'.memory s g'
+  pub touches : (owed : ℕ) (t : Touching) → Owes owed (touches_now (guest_of m.memory g)) s t → EndsAt ran.exit left (t.count + owed) (touching_counted n (guest_of m.memory g) t) s (guest_of m'.memory g')

@@ -5,14 +5,14 @@ use Rattle.vax_arch.specs.Walk.{Tables}
 use Rattle.vm_exception.specs.Wrote.{DropsAmong}
 use Rattle.vm_shadow.specs.Calls.{unless_dropped}
 use Rattle.vm_shadow.specs.Stands.{Shadowed, read_at}
-use Rattle.vm_shadow.specs.StandsFor.{goes, is_full_for, staying}
-use Rattle.vm_slots.specs.Held.{brought_forward, contexts_of}
+use Rattle.vm_shadow.specs.StandsFor.{Takes, goes, is_full_for, staying}
 use Rattle.vm_state.specs.State.{context_of}
 use Rattle.vm_state.specs.Touches.{is_remapped}
 
--- the context of these registers is in front, and what a switch to it drops is dropped
+-- the context of these registers comes to the front of those that stay, which keep their slots, and what a switch to it
+-- drops is dropped
 pub record Retells (t : Tables) (s s' : Shadowed) : Type 0 where
-  pub contexts : contexts_of s'.held ≡ brought_forward (context_of t) (contexts_of (staying (is_remapped s.told t) s.held))
+  pub takes : Takes (context_of t) (staying (is_remapped s.told t) s.held) s'.held s'.slot
   pub each : (n : ℕ) → read_at s' n ≡ unless_dropped (goes (is_remapped s.told t) (is_full_for (context_of t) s.held) s'.slot n) (read_at s n)
   pub rest : s' ≡ record s { told = s'.told; slot = s'.slot; held = s'.held; reads = s'.reads }
 

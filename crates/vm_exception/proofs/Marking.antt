@@ -114,7 +114,7 @@ mark_among memory now place x stays e = split (cases_Bool (is_modified (long_at 
     (λ on. let none : is_pending (mark_written now (Some place)) x ≡ false = ap (λ b. is_pending (cond (not b) (frame_at place ∷ []) []) x) on in absurd (true≢false (sym e ∙ none)))
     (λ clear. ap (λ b. is_pending (cond (not b) (frame_at place ∷ []) []) x) off ∙ sym (ap (λ b. is_pending (cond (not b) (frame_at place ∷ []) []) x) clear) ∙ e))
 
-pending_append : (fs gs : List ℕ) (x : Option Source) → (is_pending fs x ≡ true) ⊎ (is_pending gs x ≡ true) → is_pending (fs ++ gs) x ≡ true
+pub pending_append : (fs gs : List ℕ) (x : Option Source) → (is_pending fs x ≡ true) ⊎ (is_pending gs x ≡ true) → is_pending (fs ++ gs) x ≡ true
 pending_append [] gs x (inl e) = absurd (false≢true e)
 pending_append [] gs x (inr e) = e
 pending_append (f ∷ fs) gs x h = split (cases_Bool (is_read_from f x))

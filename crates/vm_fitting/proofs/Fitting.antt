@@ -52,7 +52,7 @@ new_has g at m m' s k = record { system = λ page j. absurd j; processes = alone
 pub touches_counted : TouchesAreCounted
 touches_counted memory s x t f all = touches_pay x.found x.lacking (is_filled s) t (present_filled memory s t.present f all)
 
-in_pages : (page : ℕ) (x : Touched) → IsTouched page x → IsIn page (pages_of x)
+pub in_pages : (page : ℕ) (x : Touched) → IsTouched page x → IsIn page (pages_of x)
 in_pages page x (inl h) = among_front x.found x.lacking page h
 in_pages page x (inr h) = among_back x.found x.lacking page h
 

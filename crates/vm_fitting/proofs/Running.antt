@@ -1,5 +1,5 @@
 -- A run of the machine, instruction by instruction, with first touches.
-use Rattle.std.proofs.Common.{◌≡◌, ℕ, zero, suc, ◌+◌, ◌/◌, ◌%◌, ◌^◌, ◌<◌, false, [], Option, Some, None, Result, Ok, Err, refl, ap, ◌∙◌, sym, subst, arith}
+use Rattle.std.proofs.Common.{◌≡◌, ℕ, zero, suc, ◌+◌, ◌/◌, ◌%◌, ◌^◌, ◌<◌, ◌≤◌, false, List, [], Option, Some, None, Result, Ok, Err, refl, ap, ◌∙◌, sym, subst, arith}
 use Rattle.vax_hw.specs.Machine.{Machine}
 use Rattle.vax_hw.specs.Real.{Retired, behind_trap, going_on, misses_after, one, real}
 use Rattle.vax_hw.specs.declared.world.Exit.{Exit}
@@ -7,15 +7,15 @@ use Rattle.vax_hw.specs.declared.world.Exit.TheVariants.{Arithmetic, Budget, Den
 use Rattle.vax_hw.specs.declared.world.World.{World}
 use Rattle.vm_clock.specs.Clock.{after_tick}
 use Rattle.vm_clock.specs.Ticks.{after_ticks}
-use Rattle.vm_fitting.specs.Paid.{touching_counted}
-use Rattle.vm_fitting.specs.Present.{HasPresent}
-use Rattle.vm_fitting.specs.Runs.{ComesTo, EndsAt, IsPaidRun, RunsArePaid, StopsBefore, TrapsBehind}
-use Rattle.vm_fitting.specs.Works.{StepIsCounted}
+use Rattle.vm_fitting.specs.Paid.{Owes, touching_counted}
+use Rattle.vm_fitting.specs.Present.{behind_touches, to_miss}
+use Rattle.vm_fitting.specs.Runs.{ComesBefore, ComesTo, EndsAt, IsPaidRun, Reaches, RunsArePaid, StopsBefore, TrapsBehind}
 use Rattle.vm_fitting.proofs.Found.{found_entries}
+use Rattle.vm_fitting.proofs.Paying.{nothing_owed}
 use Rattle.vm_fitting.proofs.Working.{retired_counted}
 use Rattle.vm_shadow.specs.Stands.{Shadowed}
 use Rattle.vm_simulation.specs.Bursts.{IsQuiet, counted_by, with_count}
-use Rattle.vm_simulation.specs.Laws.{IsRetired, Meets}
+use Rattle.vm_simulation.specs.Laws.{IsRetired, Meets, frames_claimed}
 use Rattle.vm_simulation.specs.Loaded.{RunsGuest, as_run}
 use Rattle.vm_simulation.proofs.Bursting.{due_same}
 use Rattle.vm_simulation.proofs.Meeting.{exits_meet}
@@ -24,11 +24,11 @@ use Rattle.vm_state.specs.Interrupts.{due}
 use Rattle.vm_state.specs.Partition.{guest_of}
 use Rattle.vm_state.specs.State.{Guest, state_of}
 use Rattle.vm_state.specs.Step as steps
-use Rattle.vm_state.specs.Step.{Stepped, by_interrupt, counted, executed, instruction_of, step, step_by, touched_by, trapped_in, unless_waiting}
+use Rattle.vm_state.specs.Step.{Stepped, Touched, by_interrupt, counted, executed, instruction_of, step, step_by, touched_by, trapped_in, unless_waiting}
 use Rattle.vm_state.specs.Touches.{Touching, touching_step, touching_steps}
 use Rattle.vm_state.specs.declared.guest_state.GuestState.{GuestState}
 use Rattle.vm_touches.specs.Touched.{touches_now}
-use Rattle.vm_touches.proofs.Touching.{misses_touched, retired_filled}
+use Rattle.vm_touches.proofs.Touching.{misses_touched, retired_filled, stopped_filled}
 
 -- a quiet guest's next step comes to its instruction
 step_is : (h : Guest) → h.state.halt ≡ None → h.state.waiting ≡ false → due (counted h.state) ≡ None → step h ≡ executed (record h { state = counted h.state })
@@ -73,51 +73,67 @@ counts_more (Modify va) done k = refl
 counts_more (Emulate t) done k = refl
 counts_more (Refused r) done k = refl
 
--- the end says the same of touches that come to others
-on_comes : (s : Shadowed) (t u v : Touching) → ComesTo s t u → ComesTo s u v → ComesTo s t v
-on_comes s t u v a b = record { has = b.has; count = omega (arith, a.count, b.count) }
+-- fewer at least
+less_stops : (left a b : ℕ) (all : Touching) (s : Shadowed) (h : Guest) → a ≤ b → StopsBefore left b all s h → StopsBefore left a all s h
+less_stops left a b all s h less k = record { at = k.at; comes = record { owed = k.comes.owed; owes = k.comes.owes; count = omega (arith, less, k.comes.count) }; is = k.is }
 
-on_stops : (left : ℕ) (all : Touching) (s : Shadowed) (t u : Touching) (h : Guest) → ComesTo s t u → StopsBefore left all s u h → StopsBefore left all s t h
-on_stops left all s t u h a b = record { at = b.at; comes = on_comes s t u b.at a b.comes; is = b.is }
-
-on_traps : (kind left : ℕ) (all : Touching) (s : Shadowed) (t u : Touching) (h : Guest) → ComesTo s t u → TrapsBehind kind left all s u h → TrapsBehind kind left all s t h
-on_traps kind left all s t u h a b = record {
-  memory = b.memory;
-  before = b.before;
-  keeps = b.keeps;
-  serves = b.serves;
-  found = b.found;
-  term = b.term;
-  written = b.written;
-  step = b.step;
-  at = b.at;
-  comes = on_comes s t u b.at a b.comes;
-  is = b.is;
+less_traps : (kind left a b : ℕ) (all : Touching) (s : Shadowed) (h : Guest) → a ≤ b → TrapsBehind kind left b all s h → TrapsBehind kind left a all s h
+less_traps kind left a b all s h less k = record {
+  memory = k.memory;
+  before = k.before;
+  keeps = k.keeps;
+  serves = k.serves;
+  found = k.found;
+  term = k.term;
+  step = k.step;
+  at = k.at;
+  comes = record { owed = k.comes.owed; owes = k.comes.owes; count = omega (arith, less, k.comes.count) };
+  is = k.is;
 }
 
-ends_on : (e : Exit) (left : ℕ) (all : Touching) (s : Shadowed) (t u : Touching) (h : Guest) → ComesTo s t u → EndsAt e left all s u h → EndsAt e left all s t h
-ends_on Budget left all s t u h a b = on_comes s t u all a b
-ends_on (Arithmetic kind) left all s t u h a b = on_traps kind left all s t u h a b
-ends_on (NotValid va write) left all s t u h a b = (on_stops left all s t u h a b.0, b.1)
-ends_on (Denied va write) left all s t u h a b = on_stops left all s t u h a b
-ends_on (Modify va) left all s t u h a b = on_stops left all s t u h a b
-ends_on (Emulate x) left all s t u h a b = on_stops left all s t u h a b
-ends_on (Refused r) left all s t u h a b = on_stops left all s t u h a b
+ends_less : (e : Exit) (left a b : ℕ) (all : Touching) (s : Shadowed) (h : Guest) → a ≤ b → EndsAt e left b all s h → EndsAt e left a all s h
+ends_less Budget left a b all s h less k = record { has = k.has; count = omega (arith, less, k.count) }
+ends_less (Arithmetic kind) left a b all s h less k = less_traps kind left a b all s h less k
+ends_less (NotValid va write) left a b all s h less k = less_stops left a b all s h less k
+ends_less (Denied va write) left a b all s h less k = less_stops left a b all s h less k
+ends_less (Modify va) left a b all s h less k = less_stops left a b all s h less k
+ends_less (Emulate x) left a b all s h less k = less_stops left a b all s h less k
+ends_less (Refused r) left a b all s h less k = less_stops left a b all s h less k
+
+-- what an exit says of the pages that are touched
+pub reached_by : (opened : List ℕ) (e : Exit) (m : Machine) (s : Shadowed) (g : GuestState) → RunsGuest opened m s g → one m ≡ Err e → Meets e m.memory s g → Reaches e m.memory s g
+reached_by opened Budget m s g k is meets = tt
+reached_by opened (Arithmetic kind) m s g k is meets = tt
+reached_by opened (NotValid va write) m s g k is meets =
+    let miss = misses_touched opened m s g va write k is in
+    (record { touched = miss.touched; empty = miss.empty }, λ needs. stopped_filled opened m s g (NotValid va write) k is needs)
+reached_by opened (Denied va write) m s g k is meets = stopped_filled opened m s g (Denied va write) k is tt
+reached_by opened (Modify va) m s g k is meets = stopped_filled opened m s g (Modify va) k is tt
+reached_by opened (Emulate x) m s g k is meets = stopped_filled opened m s g (Emulate x) k is tt
+reached_by opened (Refused r) m s g k is meets = stopped_filled opened m s g (Refused r) k is tt
 
 -- before an instruction that doesn't retire
-stops_here : (left : ℕ) (s : Shadowed) (t : Touching) (h : Guest) → HasPresent s t.present → StopsBefore left (touching_counted left h t) s t h
-stops_here left s t h all = record { at = t; comes = record { has = all; count = omega arith }; is = refl }
+comes_here : (x : Touched) (owed : ℕ) (s : Shadowed) (t : Touching) → Owes owed x s t → ComesBefore x s (t.count + owed) t
+comes_here x owed s t o = record { owed = owed; owes = o; count = omega arith }
 
-stops_as : (e : Exit) (n : ℕ) (m : Machine) (s : Shadowed) (g : GuestState) (t : Touching) → RunsGuest [] m s g → one m ≡ Err e → Meets e m.memory s g → HasPresent s t.present → EndsAt e n (touching_counted n (guest_of m.memory g) t) s t (guest_of m.memory g)
-stops_as Budget n m s g t k is meets all = absurd meets
-stops_as (Arithmetic kind) n m s g t k is meets all = absurd meets
-stops_as (NotValid va write) n m s g t k is meets all =
-    let miss = misses_touched [] m s g va write k is in
-    (stops_here n s t (guest_of m.memory g) all, record { touched = miss.touched; empty = miss.empty })
-stops_as (Denied va write) n m s g t k is meets all = stops_here n s t (guest_of m.memory g) all
-stops_as (Modify va) n m s g t k is meets all = stops_here n s t (guest_of m.memory g) all
-stops_as (Emulate x) n m s g t k is meets all = stops_here n s t (guest_of m.memory g) all
-stops_as (Refused r) n m s g t k is meets all = stops_here n s t (guest_of m.memory g) all
+stops_here : (left owed : ℕ) (s : Shadowed) (t : Touching) (h : Guest) → Owes owed (touches_now h) s t → StopsBefore left (t.count + owed) (touching_counted left h t) s h
+stops_here left owed s t h o = record { at = t; comes = comes_here (touches_now h) owed s t o; is = refl }
+
+stops_as : (e : Exit) (n owed : ℕ) (memory : List ℕ) (s : Shadowed) (g : GuestState) (t : Touching) → Meets e memory s g → Owes owed (touches_now (guest_of memory g)) s t → EndsAt e n (t.count + owed) (touching_counted n (guest_of memory g) t) s (guest_of memory g)
+stops_as Budget n owed memory s g t meets o = absurd meets
+stops_as (Arithmetic kind) n owed memory s g t meets o = absurd meets
+stops_as (NotValid va write) n owed memory s g t meets o = stops_here n owed s t (guest_of memory g) o
+stops_as (Denied va write) n owed memory s g t meets o = stops_here n owed s t (guest_of memory g) o
+stops_as (Modify va) n owed memory s g t meets o = stops_here n owed s t (guest_of memory g) o
+stops_as (Emulate x) n owed memory s g t meets o = stops_here n owed s t (guest_of memory g) o
+stops_as (Refused r) n owed memory s g t meets o = stops_here n owed s t (guest_of memory g) o
+
+-- behind one that does: what was owed is counted
+retired_comes : (m : Machine) (s : Shadowed) (g : GuestState) (x : Retired) (owed : ℕ) (t : Touching) → RunsGuest [] m s g → one m ≡ Ok x → x.trap ≡ None → Owes owed (touches_now (guest_of m.memory g)) s t → ComesTo s (t.count + owed) (touching_step (guest_of m.memory g) (executed (guest_of m.memory g)) t)
+unfolding executed
+retired_comes m s g x owed t k is none o =
+    let within : t.count + owed + to_miss s (touches_now (guest_of m.memory g)) ≤ (behind_touches (touches_now (guest_of m.memory g)) t).count = o.within in
+    record { has = (retired_counted m s g x t k is none o.has).has; count = omega (arith, within) }
 
 none_of : (e : Exit) (m : Machine) (s : Shadowed) (g : GuestState) → Meets e m.memory s g → (counted_by e 0 ≡ 0) × (suc (counted_by e 0) ≡ counted_by e 1)
 none_of Budget m s g meets = absurd meets
@@ -139,7 +155,8 @@ stopped_at n m s g e small k is =
       budget = omega arith;
       retired = ap (λ (c : ℕ). c % 2 ^ 64) (omega arith);
       counts = none.1;
-      ends = λ t all. subst (λ (x : GuestState). EndsAt e n (touching_counted n (guest_of m.memory g) t) s t (guest_of m.memory x)) (sym same) (stops_as e n m s g t k is meets all);
+      reaches = subst (λ (x : GuestState). Reaches e m.memory s x) (sym same) (reached_by [] e m s g k is meets);
+      ends = λ owed t o. subst (λ (x : GuestState). EndsAt e n (t.count + owed) (touching_counted n (guest_of m.memory g) t) s (guest_of m.memory x)) (sym same) (stops_as e n owed m.memory s g t meets o);
     }
 
 one_more : (a b : ℕ) → b ≡ (a + 1) % 2 ^ 64 → b % 2 ^ 64 ≡ (a + 1) % 2 ^ 64
@@ -153,7 +170,8 @@ used m s g x k is r none = record {
   budget = refl;
   retired = one_more m.retired x.machine.retired r.retired;
   counts = refl;
-  ends = λ t all. let c : StepIsCounted s (guest_of m.memory g) t = retired_counted m s g x t k is none all in record { has = c.has; count = omega (arith, c.count) };
+  reaches = tt;
+  ends = λ owed t o. retired_comes m s g x owed t k is none o;
 }
 
 -- a trap ends the run behind its instruction
@@ -161,22 +179,21 @@ module _ (n : ℕ) (m : Machine) (s : Shadowed) (g : GuestState) (x : Retired) (
   abbrev whole : Guest
   whole = guest_of m.memory g
 
-  step_there : executed whole ≡ record (trapped_in (steps.Plain r.term) r.written (guest_of x.machine.memory (as_run x.machine.world g)) (Some kind)) { touched = touches_now whole }
+  step_there : executed whole ≡ record (trapped_in (steps.Plain r.term) (frames_claimed (guest_of m.memory g)) (guest_of x.machine.memory (as_run x.machine.world g)) (Some kind)) { touched = touches_now whole }
   unfolding executed
-  step_there = ap (λ (y : Stepped). record y { touched = touched_by whole (instruction_of whole.state) }) (r.plain ∙ ap (trapped_in (steps.Plain r.term) r.written (guest_of x.machine.memory (as_run x.machine.world g))) some)
+  step_there = ap (λ (y : Stepped). record y { touched = touched_by whole (instruction_of whole.state) }) (r.plain ∙ ap (trapped_in (steps.Plain r.term) (frames_claimed (guest_of m.memory g)) (guest_of x.machine.memory (as_run x.machine.world g))) some)
 
-  traps : (t : Touching) → HasPresent s t.present → TrapsBehind kind n (touching_counted (suc n) whole t) s t (guest_of x.machine.memory (as_run x.machine.world g))
-  traps t all = record {
+  traps : (owed : ℕ) (t : Touching) → Owes owed (touches_now whole) s t → TrapsBehind kind n (t.count + owed) (touching_counted (suc n) whole t) s (guest_of x.machine.memory (as_run x.machine.world g))
+  traps owed t o = record {
     memory = m.memory;
     before = g;
     keeps = k.keeps;
     serves = k.serves;
     found = λ page j. found_entries [] m.memory s g k.keeps k.serves (retired_filled [] m s g x k is).found page j;
     term = r.term;
-    written = r.written;
     step = step_there;
     at = t;
-    comes = record { has = all; count = omega arith };
+    comes = comes_here (touches_now whole) owed s t o;
     is = refl;
   }
 
@@ -187,7 +204,8 @@ module _ (n : ℕ) (m : Machine) (s : Shadowed) (g : GuestState) (x : Retired) (
     budget = omega arith;
     retired = one_more m.retired x.machine.retired r.retired;
     counts = refl;
-    ends = λ t all. subst (λ (y : GuestState). TrapsBehind kind n (touching_counted (suc n) whole t) s t (guest_of x.machine.memory y)) (sym (none_counted (as_run x.machine.world g) small)) (traps t all);
+    reaches = tt;
+    ends = λ owed t o. subst (λ (y : GuestState). TrapsBehind kind n (t.count + owed) (touching_counted (suc n) whole t) s (guest_of x.machine.memory y)) (sym (none_counted (as_run x.machine.world g) small)) (traps owed t o);
   }
 
 -- one instruction more in front of a run
@@ -206,7 +224,7 @@ module _ (n : ℕ) (m : Machine) (s : Shadowed) (g : GuestState) (x : Retired) (
 
   first_is : (executed first).guest ≡ behind_first
   unfolding executed
-  first_is = ap (λ (y : Stepped). y.guest) (r.plain ∙ ap (trapped_in (steps.Plain r.term) r.written behind_first) none)
+  first_is = ap (λ (y : Stepped). y.guest) (r.plain ∙ ap (trapped_in (steps.Plain r.term) (frames_claimed (guest_of m.memory g)) behind_first) none)
 
   second : step behind_first ≡ executed between
   unfolding after_ticks
@@ -221,15 +239,14 @@ module _ (n : ℕ) (m : Machine) (s : Shadowed) (g : GuestState) (x : Retired) (
   same_end : with_count (counted_by e rest.done) (as_run m'.world (next_of w g)) ≡ with_count (counted_by e (suc rest.done)) (as_run m'.world g)
   same_end = more_counted (counted_by e rest.done) m'.world w g ∙ ap (λ c. with_count c (as_run m'.world g)) rest.counts
 
-  ends : (t : Touching) → HasPresent s t.present → EndsAt e rest.left (touching_counted (suc (suc n)) first t) s t (guest_of m'.memory (with_count (counted_by e (suc rest.done)) (as_run m'.world g)))
-  ends t all =
-      let c : StepIsCounted s first t = retired_counted m s g x t k is none all in
+  ends : (owed : ℕ) (t : Touching) → Owes owed (touches_now first) s t → EndsAt e rest.left (t.count + owed) (touching_counted (suc (suc n)) first t) s (guest_of m'.memory (with_count (counted_by e (suc rest.done)) (as_run m'.world g)))
+  ends owed t o =
       let u : Touching = touching_step first (executed first) t in
-      let comes : ComesTo s t u = record { has = c.has; count = omega (arith, c.count) } in
-      let there = rest.ends u c.has in
-      let moved = subst (λ (y : GuestState). EndsAt e rest.left (touching_counted (suc n) between u) s u (guest_of m'.memory y)) same_end there in
-      subst (λ (a : Touching). EndsAt e rest.left a s t (guest_of m'.memory (with_count (counted_by e (suc rest.done)) (as_run m'.world g)))) (sym (begins t))
-      (ends_on e rest.left (touching_counted (suc n) between u) s t u (guest_of m'.memory (with_count (counted_by e (suc rest.done)) (as_run m'.world g))) comes moved)
+      let c : ComesTo s (t.count + owed) u = retired_comes m s g x owed t k is none o in
+      let there = rest.ends 0 u (nothing_owed m.memory (touches_now between) s u k.keeps.fits c.has) in
+      let moved = subst (λ (y : GuestState). EndsAt e rest.left (u.count + 0) (touching_counted (suc n) between u) s (guest_of m'.memory y)) same_end there in
+      subst (λ (a : Touching). EndsAt e rest.left (t.count + owed) a s (guest_of m'.memory (with_count (counted_by e (suc rest.done)) (as_run m'.world g)))) (sym (begins t))
+      (ends_less e rest.left (t.count + owed) (u.count + 0) (touching_counted (suc n) between u) s (guest_of m'.memory (with_count (counted_by e (suc rest.done)) (as_run m'.world g))) (omega (arith, c.count)) moved)
 
   sum_mod : (t a b : ℕ) → ((t + a) % 2 ^ 64 + b) % 2 ^ 64 ≡ (t + (a + b)) % 2 ^ 64
   sum_mod t a b = grind arith
@@ -241,6 +258,7 @@ module _ (n : ℕ) (m : Machine) (s : Shadowed) (g : GuestState) (x : Retired) (
     budget = omega (arith, rest.budget);
     retired = rest.retired ∙ ap (λ z. (z + rest.done) % 2 ^ 64) r.retired ∙ sum_mod m.retired 1 rest.done ∙ ap (λ (z : ℕ). (m.retired + z) % 2 ^ 64) (omega arith);
     counts = counts_more e rest.done rest.counts;
+    reaches = subst (λ (y : GuestState). Reaches e m'.memory s y) same_end rest.reaches;
     ends = ends;
   }
 

@@ -10,7 +10,7 @@ use Rattle.vax_table.specs.PlanLaws.{bytes_of_stores}
 use Rattle.vax_table.specs.Whole.{is_kernel}
 use Rattle.vax_table.specs.declared.effect.Store.{Store}
 use Rattle.vax_table.proofs.Wholes.{exactly_claimed}
-use Rattle.vm_fitting.specs.Works.{ClaimedFramesAreWritten, MarksAreDropped, OneFrameIsDropped, RetiredStepsAreCounted, StepIsCounted, SwitchesRetell}
+use Rattle.vm_fitting.specs.Works.{MarksAreDropped, OneFrameIsDropped, RetiredStepsAreCounted, StepIsCounted, SwitchesRetell}
 use Rattle.vm_fitting.specs.Moves.{Drops}
 use Rattle.vm_fitting.specs.Present.{HasPresent, to_miss}
 use Rattle.vm_fitting.proofs.Fitting.{steps_keep, touches_counted}
@@ -19,7 +19,7 @@ use Rattle.vm_fitting.proofs.Own.{moves_alone, none_dropped}
 use Rattle.vm_shadow.specs.Calls.{unless_dropped}
 use Rattle.vm_shadow.specs.Stands.{Shadowed, is_pending, is_read_from, read_at}
 use Rattle.vm_shadow.specs.declared.source.Source.{Source}
-use Rattle.vm_simulation.specs.Laws.{IsRetired}
+use Rattle.vm_simulation.specs.Laws.{IsRetired, frames_claimed}
 use Rattle.vm_simulation.specs.Loaded.{RunsGuest, as_run}
 use Rattle.vm_simulation.proofs.Retiring.{retires}
 use Rattle.vm_state.specs.Partition.{guest_of}
@@ -50,22 +50,8 @@ marks_dropped (Direct frame) s s' d = subst (λ z. Drops [] s z) (sym d) (none_d
 marks_dropped (Fails not_valid parameter) s s' d = subst (λ z. Drops [] s z) (sym d) (none_dropped [] s)
 marks_dropped Beyond s s' d = subst (λ z. Drops [] s z) (sym d) (none_dropped [] s)
 
-bytes_frames : (h : Guest) (vas : List ℕ) → map (λ va. frame_at (place_of h va)) vas ≡ frames_of_bytes h vas
-bytes_frames h [] = refl
-bytes_frames h (va ∷ vas) = ap (λ (xs : List ℕ). frame_at (place_of h va) ∷ xs) (bytes_frames h vas)
-
-stores_frames : (h : Guest) (xs : List Store) → map (λ va. frame_at (place_of h va)) (bytes_of_stores xs) ≡ frames_stored h xs
-stores_frames h [] = refl
-stores_frames h (x ∷ xs) =
-    map-append (λ va. frame_at (place_of h va)) (addresses (size_of x.width) x.va) (bytes_of_stores xs)
-    ∙ (λ j. bytes_frames h (addresses (size_of x.width) x.va) j ++ stores_frames h xs j)
-
-pub claimed_written : ClaimedFramesAreWritten
-claimed_written h opcode e done =
-    ap (map (λ va. frame_at (place_of h va))) (exactly_claimed (is_kernel (mode_of_state h.state)) h.state.psl h.state.r (space_of h) opcode e done) ∙ stores_frames h e.writes
-
 pub switches_retell : SwitchesRetell
-switches_retell g m m' s s' w takes = record { takes = takes; each = w.each }
+switches_retell g m m' s s' w = record { takes = w.takes; each = w.each }
 
 -- behind an instruction that retired
 module _ (m : Machine) (s : Shadowed) (g : GuestState) (x : Retired) (k : RunsGuest [] m s g) (e : one m ≡ Ok x) (none : x.trap ≡ None) where
@@ -76,11 +62,11 @@ module _ (m : Machine) (s : Shadowed) (g : GuestState) (x : Retired) (k : RunsGu
   done = retires [] m s g x k e
 
   abbrev plain : Stepped
-  plain = steps.stepped (guest_of x.machine.memory (as_run x.machine.world g)) [] (steps.Plain done.term) done.written
+  plain = steps.stepped (guest_of x.machine.memory (as_run x.machine.world g)) [] (steps.Plain done.term) (frames_claimed (guest_of m.memory g))
 
   step_is : executed whole ≡ record plain { touched = touched_by whole (instruction_of whole.state) }
   unfolding executed
-  step_is = ap (λ (y : Stepped). record y { touched = touched_by whole (instruction_of whole.state) }) (done.plain ∙ ap (trapped_in (steps.Plain done.term) done.written (guest_of x.machine.memory (as_run x.machine.world g))) none)
+  step_is = ap (λ (y : Stepped). record y { touched = touched_by whole (instruction_of whole.state) }) (done.plain ∙ ap (trapped_in (steps.Plain done.term) (frames_claimed (guest_of m.memory g)) (guest_of x.machine.memory (as_run x.machine.world g))) none)
 
   abbrev IsCounted : Touching → Stepped → Type 0
   IsCounted t y = HasPresent s (touching_step whole y t).present × (t.count + to_miss s (touches_now whole) ≤ (touching_step whole y t).count)
@@ -89,7 +75,7 @@ module _ (m : Machine) (s : Shadowed) (g : GuestState) (x : Retired) (k : RunsGu
   by_plain t all = (
     steps_keep m.memory s g (record plain { touched = touched_by whole (instruction_of whole.state) }) t s k.keeps k.serves
         (λ page j. found_entries [] m.memory s g k.keeps k.serves (retired_filled [] m s g x k e).found page j)
-        (moves_alone done.written m.memory s s (tables_of g) k.keeps.fits k.serves.told (none_dropped done.written s)) all,
+        (moves_alone (frames_claimed (guest_of m.memory g)) m.memory s s (tables_of g) k.keeps.fits k.serves.told (none_dropped (frames_claimed (guest_of m.memory g)) s)) all,
     touches_counted m.memory s (touches_now whole) t k.keeps.fits all,
   )
 

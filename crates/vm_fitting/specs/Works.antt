@@ -1,23 +1,19 @@
 -- The kernel's work by its kinds: what the shadow page tables' own relations drop and tell, and the steps of a guest that
 -- come to each.
-use Rattle.std.specs.Prelude.{◌≡◌, ℕ, ◌+◌, ◌≤◌, [], ◌∷◌, map, None, Ok}
+use Rattle.std.specs.Prelude.{◌≡◌, ℕ, ◌+◌, ◌≤◌, [], ◌∷◌, None, Ok}
 use Rattle.vax_arch.specs.declared.walk.Lookup.{Lookup}
 use Rattle.vax_hw.specs.Machine.{Machine}
 use Rattle.vax_hw.specs.Real.{Retired, one}
-use Rattle.vax_table.specs.Claims.{claims}
-use Rattle.vax_table.specs.Effects.{Effect}
-use Rattle.vax_table.specs.Script.{outcome}
-use Rattle.vax_table.specs.Whole.{Plain, meant}
 use Rattle.vm_fitting.specs.Moves.{Drops, Retells}
 use Rattle.vm_fitting.specs.Present.{HasPresent, to_miss}
 use Rattle.vm_shadow.specs.Stands.{Shadowed}
-use Rattle.vm_shadow.specs.StandsFor.{DropsFrom, DropsMarked, Switches, Takes, staying}
+use Rattle.vm_shadow.specs.StandsFor.{DropsFrom, DropsMarked, Switches}
 use Rattle.vm_simulation.specs.Loaded.{RunsGuest}
 use Rattle.vm_state.specs.Partition.{guest_of}
-use Rattle.vm_state.specs.State.{Guest, context_of, tables_of}
-use Rattle.vm_state.specs.Step.{executed, frames_stored, instruction_of}
-use Rattle.vm_state.specs.Touches.{Touching, is_remapped, touching_step}
-use Rattle.vm_state.specs.Translation.{frame_at, marks_by, place_of, space_of}
+use Rattle.vm_state.specs.State.{Guest, tables_of}
+use Rattle.vm_state.specs.Step.{executed}
+use Rattle.vm_state.specs.Touches.{Touching, touching_step}
+use Rattle.vm_state.specs.Translation.{marks_by}
 use Rattle.vm_state.specs.declared.guest_state.GuestState.{GuestState}
 use Rattle.vm_touches.specs.Touched.{touches_now}
 
@@ -29,14 +25,9 @@ OneFrameIsDropped = (frame : ℕ) (s s' : Shadowed) → DropsFrom frame s s' →
 abbrev pub MarksAreDropped : Type 0
 MarksAreDropped = (look : Lookup) (s s' : Shadowed) → DropsMarked look s s' → Drops (marks_by look) s s'
 
--- the frames of the bytes that a plain instruction claims are those that it writes
-abbrev pub ClaimedFramesAreWritten : Type 0
-ClaimedFramesAreWritten = (h : Guest) (opcode : ℕ) (e : Effect) → outcome (space_of h) (instruction_of h.state) ≡ Ok (meant opcode (Plain e))
-    → map (λ va. frame_at (place_of h va)) (claims (space_of h) (instruction_of h.state)) ≡ frames_stored h e.writes
-
--- another context, where those that stay keep their slots
+-- another context
 abbrev pub SwitchesRetell : Type 0
-SwitchesRetell = (g : GuestState) (m m' : Machine) (s s' : Shadowed) → Switches g m s m' s' → Takes (context_of (tables_of g)) (staying (is_remapped s.told (tables_of g)) s.held) s'.held s'.slot → Retells (tables_of g) s s'
+SwitchesRetell = (g : GuestState) (m m' : Machine) (s s' : Shadowed) → Switches g m s m' s' → Retells (tables_of g) s s'
 
 -- One instruction that the machine retired without a trap: no entry changes, what is present behind it has entries, and
 -- the touched pages that the machine could still miss are counted.

@@ -1,4 +1,4 @@
-ghost use Rattle.vm_fitting.specs.Works.{ClaimedFramesAreWritten, MarksAreDropped, OneFrameIsDropped, RetiredStepsAreCounted, SwitchesRetell};
+ghost use Rattle.vm_fitting.specs.Works.{MarksAreDropped, OneFrameIsDropped, RetiredStepsAreCounted, SwitchesRetell};
 ghost use Rattle.vm_fitting.specs.Laws.{EntriesAreValid, FilledEntriesStay, FilledPagesAreCounted, FillsKeepFilled, FoundPagesHaveEntries, MissesAreCounted, NewTablesHavePresent, ResetsKeepPresent, StepsKeepPresent, TouchesAreCounted, WritesAreMoves, WritesKeepPresent};
 
 /// A page that has an entry has a valid one.
@@ -71,12 +71,7 @@ pub fn marks_are_dropped()
     ensures { MarksAreDropped }
 {}
 
-/// The frames that a plain instruction claims are those that it writes.
-pub fn claimed_frames_are_written()
-    ensures { ClaimedFramesAreWritten }
-{}
-
-/// A switch that keeps slots tells the registers of another context.
+/// A switch tells the registers of another context.
 pub fn switches_retell()
     ensures { SwitchesRetell }
 {}

@@ -3,7 +3,11 @@ use Rattle.std.proofs.Common.{◌≡◌, ℕ, ◌*◌, inl, Bool, List, [], ◌�
 use Rattle.std.proofs.lemmas.List.Elements.{All-nil}
 use Rattle.vax_hw.specs.Machine.{Machine}
 use Rattle.vm_bursts.proofs.Completing.{only_both, own_same}
-use Rattle.vm_guest.specs.Kept.{Becomes, Kept, StandsIn, all_typed, guest_in, with_bytes}
+use Rattle.vm_fitting.specs.Moves.{Retells}
+use Rattle.vm_fitting.proofs.Fitting.{resets_keep, writes_keep}
+use Rattle.vm_fitting.proofs.Own.{moves_alone, none_dropped}
+use Rattle.vm_fitting.proofs.Working.{switches_retell}
+use Rattle.vm_guest.specs.Kept.{Becomes, KeepsPresent, Kept, StandsIn, all_typed, frames_from, guest_in, with_bytes}
 use Rattle.vm_console.specs.Console.{ConsoleState, after_typed}
 use Rattle.vm_guest.specs.Stores.{StoresAll}
 use Rattle.vm_shadow.specs.Stands.{Shadowed}
@@ -11,7 +15,8 @@ use Rattle.vm_shadow.specs.StandsFor.{Switches}
 use Rattle.vm_state.specs.Allowed.{AreAllowed, IsPacket}
 use Rattle.vm_state.specs.Partition.{part, partition_of}
 use Rattle.vm_state.specs.Start.{started}
-use Rattle.vm_state.specs.State.{HasPlace, State, state_of}
+use Rattle.vm_state.specs.State.{HasPlace, State, state_of, tables_of}
+use Rattle.vm_state.specs.Touches.{touching_reset, touching_write}
 use Rattle.vm_state.specs.declared.guest_state.GuestState.{GuestState}
 
 -- a guest that starts has allowed registers
@@ -46,6 +51,21 @@ becomes_switched m k x g m' s' stands place state allowed w = record {
   where
     memory : partition_of m'.memory g ≡ partition_of m.memory k.state
     memory = (λ i. part m'.memory (512 * place.base i) (512 * place.pages i)) ∙ own_same m m' k.shadow k.state stands.keeps.fits stands.serves w.only
+
+-- what is present behind a reset has entries
+pub reset_present : (m : Machine) (k : Kept) (x : State) (g : GuestState) (m' : Machine) (s' : Shadowed) → state_of g ≡ x → Switches g m k.shadow m' s' → KeepsPresent (touching_reset (record (guest_in m.memory k) { state = x })) k (record { state = g; shadow = s' })
+reset_present m k x g m' s' is w p all =
+    let told : tables_of g ≡ x.tables = ap (λ (y : State). y.tables) is in
+    resets_keep k.shadow (record (guest_in m.memory k) { state = x }) [] p s' (record {
+      between = k.shadow;
+      drops = none_dropped [] k.shadow;
+      retells = subst (λ t. Retells t k.shadow s') told (switches_retell g m m' k.shadow s' w);
+    }) all
+
+-- and so has what is present behind a write
+pub stored_present : (m : Machine) (k : Kept) (pa : ℕ) (bytes : List ℕ) (m' : Machine) (s' : Shadowed) → StandsIn m.memory k → StoresAll pa bytes m k.shadow k.state m' s' → KeepsPresent (touching_write (guest_in m.memory k) (frames_from pa bytes)) k (record { state = k.state; shadow = s' })
+stored_present m k pa bytes m' s' stands w p all =
+    writes_keep m.memory k.shadow k.state (frames_from pa bytes) p s' stands.keeps stands.serves (moves_alone (frames_from pa bytes) m'.memory k.shadow s' (tables_of k.state) w.stands.keeps.fits w.stands.serves.told w.drops) all
 
 -- with other bytes in its memory
 pub becomes_stored : (m : Machine) (k : Kept) (pa : ℕ) (bytes : List ℕ) (m' : Machine) (s' : Shadowed) → StoresAll pa bytes m k.shadow k.state m' s' → Becomes (with_bytes pa bytes (guest_in m.memory k)) m k m' (record { state = k.state; shadow = s' })

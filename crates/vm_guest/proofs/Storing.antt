@@ -4,10 +4,16 @@ use Rattle.std.specs.Prelude.{slice_index}
 use Rattle.std.proofs.lemmas.List.{append-nil, append_assoc, drop_all, drop_more, drop-set-lt, get_or-drop, length-drop, length-set, take-append-drop, take_more, take_more_set}
 use Rattle.vv_base.specs.Bytes.{overwritten}
 use Rattle.vax_hw.specs.Machine.{Machine}
+use Rattle.vm_fitting.specs.Moves.{Drops}
+use Rattle.vm_fitting.proofs.Own.{none_dropped}
+use Rattle.vm_fitting.proofs.Working.{one_dropped}
+use Rattle.vm_guest.specs.Kept.{frames_from}
 use Rattle.vm_shadow.specs.Stands.{Fits, Shadowed, own}
 use Rattle.vm_shadow.specs.StandsFor.{OnlyGuest, Serves, StandsFor, Stores}
 use Rattle.vm_shadow.proofs.Covering.{own_is, own_length}
 use Rattle.vm_state.specs.Partition.{partition_of}
+use Rattle.vm_state.specs.Translation.{frame_at}
+use Rattle.vm_stepping.proofs.Paying.{dropped_then}
 use Rattle.vm_state.specs.declared.guest_state.GuestState.{GuestState}
 use Rattle.vm_state.proofs.Parts.{part_byte, part_length}
 use Rattle.vm_guest.specs.Stores.{StoresAll}
@@ -45,9 +51,13 @@ pub record Storing (pa : ℕ) (bytes : List ℕ) (place k : ℕ) (m : Machine) (
   pub reached : place ≡ pa + k
   pub only : OnlyGuest s m m'
   pub tables : s'.at ≡ s.at
+  -- the frames of the bytes that are written
+  pub frames : List ℕ
+  pub drops : Drops frames s s'
+  pub whole : frames ++ frames_from place (drop k bytes) ≡ frames_from pa bytes
 
 pub none_stored : (pa : ℕ) (bytes : List ℕ) (m : Machine) (s : Shadowed) (g : GuestState) → StandsFor m.memory s g → Storing pa bytes pa 0 m s g m s
-none_stored pa bytes m s g k = record { stands = k; rest = refl; reached = omega arith; only = record { rest = refl; size = refl; other = λ p own tables. refl }; tables = refl }
+none_stored pa bytes m s g k = record { stands = k; rest = refl; reached = omega arith; only = record { rest = refl; size = refl; other = λ p own tables. refl }; tables = refl; frames = []; drops = none_dropped [] s; whole = refl }
 
 module _ (pa : ℕ) (bytes : List ℕ) (place k : ℕ) (m : Machine) (s : Shadowed) (g : GuestState) (m1 : Machine) (s1 : Shadowed) (stands : StandsFor m.memory s g) (inside : pa + length bytes ≤ 512 * g.pages) (x : Storing pa bytes place k m s g m1 s1) where
   pub place_inside : k < length bytes → place < 512 * s1.pages
@@ -70,6 +80,9 @@ module _ (pa : ℕ) (bytes : List ℕ) (place k : ℕ) (m : Machine) (s : Shadow
         reached = omega (arith, at);
         only = only_then m m1 m2 s s1 (x.stands.serves.base ∙ sym stands.serves.base) (x.stands.serves.pages ∙ sym stands.serves.pages) x.tables x.only w.only;
         tables = ap (λ (y : Shadowed). y.at) w.drops.rest ∙ x.tables;
+        frames = x.frames ++ frame_at place ∷ [];
+        drops = dropped_then x.frames (frame_at place ∷ []) s s1 s2 x.drops (one_dropped (frame_at place) s1 s2 w.drops);
+        whole = append_assoc x.frames (frame_at place ∷ []) (frames_from (place + 1) (drop (k + 1) bytes)) ∙ ap (λ ys. x.frames ++ frames_from place ys) (sym here) ∙ x.whole;
       }
 
   none_left : k ≡ length bytes → drop k bytes ≡ []
@@ -83,6 +96,7 @@ module _ (pa : ℕ) (bytes : List ℕ) (place k : ℕ) (m : Machine) (s : Shadow
         memory = ap (λ ys. all_set place ys (partition_of m1.memory g)) (sym (none_left e)) ∙ x.rest ∙ sets_overwrite pa bytes (partition_of m.memory g) (omega (arith, inside, size));
         only = x.only;
         tables = x.tables;
+        drops = subst (λ frames. Drops frames s s1) (sym (append-nil x.frames) ∙ ap (λ ys. x.frames ++ frames_from place ys) (sym (none_left e)) ∙ x.whole) x.drops;
       }
 
 -- Bytes that are read.

@@ -1,16 +1,19 @@
 -- A guest in the machine, and what is done to it from without: a line is typed, a command starts or stops it, a transfer is
 -- made (Karger and others, IEEE TSE 17(11), 1991: virtual machines of a VMM security kernel; details are profile).
-use Rattle.std.specs.Prelude.{◌≡◌, ℕ, List, [], ◌∷◌, ◌++◌, take, drop, Option, Some, None, Bool}
+use Rattle.std.specs.Prelude.{◌≡◌, ℕ, ◌+◌, List, [], ◌∷◌, ◌++◌, take, drop, Option, Some, None, Bool}
 use Rattle.vv_base.specs.Bytes.{overwritten}
 use Rattle.vax_hw.specs.Machine.{Machine}
 use Rattle.vm_bursts.specs.Guarded.{OnlyBoth}
 use Rattle.vm_console.specs.Console.{ConsoleState, after_typed}
+use Rattle.vm_fitting.specs.Present.{HasPresent}
 use Rattle.vm_shadow.specs.Stands.{Shadowed}
 use Rattle.vm_shadow.specs.StandsFor.{Makes, StandsFor}
 use Rattle.vm_state.specs.Partition.{guest_of}
 use Rattle.vm_state.specs.Start.{stopped_at_first}
 use Rattle.vm_state.specs.State.{Guest, HasPlace, State, pc_of, state_of}
 use Rattle.vm_state.specs.Stops.{Commanded, stop_code, stop_text}
+use Rattle.vm_state.specs.Touches.{Present, at_first}
+use Rattle.vm_state.specs.Translation.{frame_at}
 use Rattle.vm_state.specs.declared.guest_state.GuestState.{GuestState}
 
 -- what the kernel keeps of a guest
@@ -26,11 +29,21 @@ StandsIn memory k = StandsFor memory k.shadow k.state
 abbrev pub guest_in : List ℕ → Kept → Guest
 guest_in memory k = guest_of memory k.state
 
--- a new guest, which was never started; no page is filled
+-- a new guest, which was never started; no page is filled, and none is present by first touches
 pub record IsNew (pages base tables start : ℕ) (modify_faults : Bool) (m m' : Machine) (k : Kept) : Type 0 where
   pub state : state_of k.state ≡ stopped_at_first start modify_faults
   pub place : HasPlace pages base start k.state
   pub made : Makes k.state tables m m' k.shadow
+  pub present : HasPresent k.shadow (at_first (guest_in m'.memory k))
+
+-- What first touches leave of what is present has entries in the shadow page tables then, if it had before.
+abbrev pub KeepsPresent : (Present → Present) → Kept → Kept → Type 0
+KeepsPresent left k k' = (p : Present) → HasPresent k.shadow p → HasPresent k'.shadow (left p)
+
+-- the frames of bytes of its memory, from an address on
+abbrev pub frames_from : ℕ → List ℕ → List ℕ
+frames_from at [] = []
+frames_from at (b ∷ bs) = frame_at at ∷ frames_from (at + 1) bs
 
 -- It is this guest then; of the machine its memory and its real tables alone change.
 pub record Becomes (h : Guest) (m : Machine) (k : Kept) (m' : Machine) (k' : Kept) : Type 0 where

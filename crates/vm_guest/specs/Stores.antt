@@ -1,7 +1,9 @@
--- Many bytes of a guest's memory are written.
+-- Many bytes of a guest's memory are written. What is dropped was read from one of their frames.
 use Rattle.std.specs.Prelude.{◌≡◌, ℕ, List}
 use Rattle.vv_base.specs.Bytes.{overwritten}
 use Rattle.vax_hw.specs.Machine.{Machine}
+use Rattle.vm_fitting.specs.Moves.{Drops}
+use Rattle.vm_guest.specs.Kept.{frames_from}
 use Rattle.vm_shadow.specs.Stands.{Shadowed}
 use Rattle.vm_shadow.specs.StandsFor.{OnlyGuest, StandsFor}
 use Rattle.vm_state.specs.Partition.{partition_of}
@@ -12,3 +14,4 @@ pub record StoresAll (pa : ℕ) (bytes : List ℕ) (m : Machine) (s : Shadowed) 
   pub memory : partition_of m'.memory g ≡ overwritten (partition_of m.memory g) pa bytes
   pub only : OnlyGuest s m m'
   pub tables : s'.at ≡ s.at
+  pub drops : Drops (frames_from pa bytes) s s'

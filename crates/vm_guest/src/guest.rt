@@ -1,9 +1,12 @@
 ghost use Rattle.std.specs.Prelude.{◌≡◌, ◌≤◌, ◌+◌, ◌*◌, ◌⊎◌, [], IfOk, OnErr, true, length};
 ghost use Rattle.vm_console.specs.Appends.{Appends};
-ghost use Rattle.vm_guest.specs.Kept.{Becomes, IsNew, StandsIn, Turns, bytes_at, commanded_to_stop, guest_in, stop_message, with_bytes, with_line};
+ghost use Rattle.vm_fitting.specs.Moves.{Drops};
+ghost use Rattle.vm_fitting.specs.Paid.{Pays};
+ghost use Rattle.vm_guest.specs.Kept.{Becomes, IsNew, KeepsPresent, StandsIn, Turns, bytes_at, commanded_to_stop, frames_from, guest_in, stop_message, with_bytes, with_line};
 ghost use Rattle.vm_state.specs.Allowed.{AreAllowed};
 ghost use Rattle.vm_state.specs.Start.{started};
 ghost use Rattle.vm_state.specs.State.{HasPlace, state_of};
+ghost use Rattle.vm_state.specs.Touches.{touching_reset, touching_steps, touching_write};
 ghost use Rattle.vm_stepping.specs.Advances.{Advances};
 
 use crate::bytes::{fetch_all, store_all};
@@ -84,7 +87,8 @@ impl Guest {
     /// It runs from its start address on, as one that starts. Its memory stays; packets that wait are forgotten.
     pub fn start<H: Hardware>(&mut self, machine: &mut H)
         requires { StandsIn (H.machine machine.old).memory self.old }
-        ensures { Becomes (record (guest_in (H.machine machine.old).memory self.old) { state = started self.old.state.start self.old.state.modify_faults }) (H.machine machine.old) self.old (H.machine machine.new) self.new }
+        ensures becomes { Becomes (record (guest_in (H.machine machine.old).memory self.old) { state = started self.old.state.start self.old.state.modify_faults }) (H.machine machine.old) self.old (H.machine machine.new) self.new }
+        ensures present { KeepsPresent (touching_reset (record (guest_in (H.machine machine.old).memory self.old) { state = started self.old.state.start self.old.state.modify_faults })) self.old self.new }
     {
         restart(machine, &mut self.shadow, &mut self.state);
     }
@@ -103,7 +107,8 @@ impl Guest {
         }
     }
 
-    /// It takes exactly so many steps, and its port is shown what they show. Answers how many of each kind.
+    /// It takes exactly so many steps, and its port is shown what they show. Answers how many of each kind. The machine misses
+    /// no more pages than these steps touch for the first time.
     pub fn advance<H: Hardware, T: Port>(
         &mut self,
         machine: &mut H,
@@ -111,7 +116,8 @@ impl Guest {
         steps: u32,
     ) -> Counts
         requires { StandsIn (H.machine machine.old).memory self.old }
-        ensures { Advances T.may steps port.old port.new (H.machine machine.old) self.old.shadow self.old.state (H.machine machine.new) self.new.shadow self.new.state result }
+        ensures advances { Advances T.may steps port.old port.new (H.machine machine.old) self.old.shadow self.old.state (H.machine machine.new) self.new.shadow self.new.state result }
+        ensures pays { Pays (touching_steps steps (guest_in (H.machine machine.old).memory self.old)) (H.machine machine.old) self.old.shadow (H.machine machine.new) self.new.shadow }
     {
         advance(machine, &mut self.shadow, &mut self.state, port, steps)
     }
@@ -127,7 +133,9 @@ impl Guest {
     pub fn store<H: Hardware>(&mut self, machine: &mut H, pa: u32, bytes: &[u8])
         requires stands { StandsIn (H.machine machine.old).memory self.old }
         requires inside { pa + length bytes.now ≤ 512 * self.old.state.pages }
-        ensures { Becomes (with_bytes pa bytes.now (guest_in (H.machine machine.old).memory self.old)) (H.machine machine.old) self.old (H.machine machine.new) self.new }
+        ensures becomes { Becomes (with_bytes pa bytes.now (guest_in (H.machine machine.old).memory self.old)) (H.machine machine.old) self.old (H.machine machine.new) self.new }
+        ensures drops { Drops (frames_from pa bytes.now) self.old.shadow self.new.shadow }
+        ensures present { KeepsPresent (touching_write (guest_in (H.machine machine.old).memory self.old) (frames_from pa bytes.now)) self.old self.new }
     {
         store_all(machine, &mut self.shadow, &self.state, pa, bytes);
     }

@@ -10,6 +10,3 @@ mod typing;
 pub use guest::Guest;
 pub use laws::guests_stand_by_themselves;
 pub use vm_stepping::Counts;
-
-#[cfg(test)]
-mod tests;

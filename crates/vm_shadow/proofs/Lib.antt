@@ -17,6 +17,7 @@ pub mod Guarding
 pub mod Holding
 pub mod Switching
 pub mod Taking
+pub mod OwnContext
 pub mod Making
 pub mod Storing
 pub mod Marking

@@ -258,7 +258,7 @@ switch_all g m m' s held' slot first end evicted remapped reads' k pages base ta
         same = λ n h f. same_seen remapped evicted g m m' s held' slot reads' k tables is t full d n h f;
       });
       serves = record { pages = pages; base = base; told = refl };
-      contexts = t.contexts ∙ ap (λ r. Rattle.vm_slots.specs.Held.brought_forward (context_of (tables_of g)) (Rattle.vm_slots.specs.Held.contexts_of (staying r s.held))) is;
+      takes = subst (λ r. Takes (context_of (tables_of g)) (staying r s.held) held' slot) is t;
       each = λ n. each_goes g m m' s held' slot evicted remapped reads' k tables t full d n ∙ ap (λ b. unless_dropped b (read_at s n)) (same_goes remapped evicted (context_of (tables_of g)) s.held slot n full ∙ ap (λ r. goes r (is_full_for (context_of (tables_of g)) s.held) slot n) is);
       rest = refl;
       only = d.only;

@@ -166,7 +166,8 @@ range_that_goes false false slot = (0, 0)
 pub record Switches (g : GuestState) (m : Machine) (s : Shadowed) (m' : Machine) (s' : Shadowed) : Type 0 where
   pub keeps : Keeps [] [] m'.memory s'
   pub serves : Serves g s'
-  pub contexts : contexts_of s'.held ≡ brought_forward (context_of (tables_of g)) (contexts_of (staying (is_remapped s.told (tables_of g)) s.held))
+  -- the guest's context comes to the front of those that stay, which keep their slots
+  pub takes : Takes (context_of (tables_of g)) (staying (is_remapped s.told (tables_of g)) s.held) s'.held s'.slot
   pub each : (n : ℕ) → read_at s' n ≡ unless_dropped (goes (is_remapped s.told (tables_of g)) (is_full_for (context_of (tables_of g)) s.held) s'.slot n) (read_at s n)
   pub rest : s' ≡ record s { told = s'.told; slot = s'.slot; held = s'.held; reads = s'.reads }
   pub only : OnlyTables s.at m m'

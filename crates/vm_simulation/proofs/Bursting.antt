@@ -24,7 +24,7 @@ use Rattle.vm_shadow.specs.Laws.{guest_place}
 use Rattle.vm_shadow.specs.Stands.{Shadowed}
 use Rattle.vm_shadow.specs.StandsFor.{IsPresent}
 use Rattle.vm_simulation.specs.Bursts.{Ends, IsBurst, IsQuiet, RunsGoAsTheGuest, after_counted, counted_by, goes_on, missed_by, plainly, with_count, with_trap}
-use Rattle.vm_simulation.specs.Laws.{IsRetired, IsUnfilled, Meets, place_here}
+use Rattle.vm_simulation.specs.Laws.{IsRetired, IsUnfilled, Meets, frames_claimed, place_here}
 use Rattle.vm_simulation.specs.Loaded.{Loads, OnlyPartition, RunsGuest, as_run, guest_try}
 use Rattle.vm_simulation.proofs.Meeting.{exits_meet}
 use Rattle.vm_simulation.proofs.Retiring.{retires}
@@ -78,11 +78,11 @@ abbrev step_of : Run → ℕ → List ℕ → Guest → Run
 step_of run term written x = after_step run (steps.stepped x [] (steps.Plain term) written)
 
 -- the step of a plain instruction
-plain_step : (m : Machine) (s : Shadowed) (g : GuestState) (x : Retired) (r : IsRetired [] m s g x) (run : Run) → run.guest ≡ guest_of m.memory g → after_step run (executed run.guest) ≡ after_step run (trapped_in (steps.Plain r.term) r.written (guest_of x.machine.memory (as_run x.machine.world g)) x.trap)
+plain_step : (m : Machine) (s : Shadowed) (g : GuestState) (x : Retired) (r : IsRetired [] m s g x) (run : Run) → run.guest ≡ guest_of m.memory g → after_step run (executed run.guest) ≡ after_step run (trapped_in (steps.Plain r.term) (frames_claimed (guest_of m.memory g)) (guest_of x.machine.memory (as_run x.machine.world g)) x.trap)
 unfolding executed
 plain_step m s g x r run e =
     let own = guest_of m.memory g in
-    ap (λ h. after_step run (executed h)) e ∙ ap (after_step run) (ap (λ (y : Stepped). record y { touched = steps.touched_by own (steps.instruction_of own.state) }) r.plain) ∙ forgets (trapped_in (steps.Plain r.term) r.written (guest_of x.machine.memory (as_run x.machine.world g)) x.trap)
+    ap (λ h. after_step run (executed h)) e ∙ ap (after_step run) (ap (λ (y : Stepped). record y { touched = steps.touched_by own (steps.instruction_of own.state) }) r.plain) ∙ forgets (trapped_in (steps.Plain r.term) (frames_claimed (guest_of m.memory g)) (guest_of x.machine.memory (as_run x.machine.world g)) x.trap)
   where
     forgets : (y : Stepped) → after_step run (record y { touched = steps.touched_by (guest_of m.memory g) (steps.instruction_of (state_of g)) }) ≡ after_step run y
     forgets y = refl
@@ -101,7 +101,7 @@ same_plainly run h p q t u e f = λ i. record { guest = h; shown = run.shown; ta
 one_plain : (m : Machine) (s : Shadowed) (g : GuestState) (x : Retired) (r : IsRetired [] m s g x) (run : Run) → x.trap ≡ None → run.guest ≡ guest_of m.memory g → after_step run (executed run.guest) ≡ plainly run (guest_of x.machine.memory (as_run x.machine.world g)) 1 r.term
 one_plain m s g x r run none e =
     let h = guest_of x.machine.memory (as_run x.machine.world g) in
-    plain_step m s g x r run e ∙ ap (λ t. after_step run (trapped_in (steps.Plain r.term) r.written h t)) none
+    plain_step m s g x r run e ∙ ap (λ t. after_step run (trapped_in (steps.Plain r.term) (frames_claimed (guest_of m.memory g)) h t)) none
     ∙ (λ i. record { guest = h; shown = append-nil run.shown i; tally = record run.tally { plain = run.tally.plain + 1; trail = (run.tally.trail + r.term) % 2 ^ 64 } })
 
 -- and behind one with a trap
@@ -113,8 +113,8 @@ trap_by run h term kind written (Stops stop) e = refl
 one_trap : (m : Machine) (s : Shadowed) (g : GuestState) (x : Retired) (r : IsRetired [] m s g x) (kind : ℕ) (run : Run) → x.trap ≡ Some kind → run.guest ≡ guest_of m.memory g → after_step run (executed run.guest) ≡ with_trap kind (plainly run (guest_of x.machine.memory (as_run x.machine.world g)) 1 r.term)
 one_trap m s g x r kind run some e =
     let h = guest_of x.machine.memory (as_run x.machine.world g) in
-    plain_step m s g x r run e ∙ ap (λ t. after_step run (trapped_in (steps.Plain r.term) r.written h t)) some
-    ∙ trap_by run h r.term kind r.written (initiate h (excs.Arithmetic kind)) refl
+    plain_step m s g x r run e ∙ ap (λ t. after_step run (trapped_in (steps.Plain r.term) (frames_claimed (guest_of m.memory g)) h t)) some
+    ∙ trap_by run h r.term kind (frames_claimed (guest_of m.memory g)) (initiate h (excs.Arithmetic kind)) refl
 
 -- no step more is counted
 none_counted : (g : GuestState) → g.steps < 2 ^ 32 → with_count 0 g ≡ g

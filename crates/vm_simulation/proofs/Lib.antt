@@ -4,5 +4,6 @@ pub mod Answered
 pub mod Mapped
 pub mod Meeting
 pub mod Stores
+pub mod Claimed
 pub mod Retiring
 pub mod Bursting

@@ -1,5 +1,5 @@
 -- An instruction that the machine retires is one that the guest completes.
-use Rattle.std.proofs.Common.{◌≡◌, ℕ, ◌+◌, ◌*◌, ◌/◌, ◌%◌, ◌^◌, ◌<◌, ◌≤◌, ◌⊎◌, inl, inr, Bool, true, false, ◌&&◌, List, [], ◌∷◌, Option, Some, None, Result, Ok, Err, refl, ap, ◌∙◌, sym, subst, arith, if◌then◌else◌}
+use Rattle.std.proofs.Common.{◌≡◌, ℕ, ◌+◌, ◌*◌, ◌/◌, ◌%◌, ◌^◌, ◌<◌, ◌≤◌, ◌⊎◌, inl, inr, Bool, true, false, ◌&&◌, List, [], ◌∷◌, map, Option, Some, None, Result, Ok, Err, refl, ap, ◌∙◌, sym, subst, arith, if◌then◌else◌}
 use Rattle.std.specs.Prelude.{slice_index}
 use Rattle.std.proofs.lemmas.Bool.{not-false}
 use Rattle.vax_arch.specs.Fields.{current_of, is_modified, is_valid, mode_of, previous_of}
@@ -18,18 +18,19 @@ use Rattle.vax_table.specs.Script.{IsIn, Trouble, outcome}
 use Rattle.vax_table.specs.Stores.{all_stored}
 use Rattle.vax_table.specs.Trail.{term}
 use Rattle.vax_table.specs.Tries.{Clear, Completes, Stopped, Tried, TriedFar, first_clear, tried_by, unless_clear}
-use Rattle.vax_table.specs.Whole.{Act, Meant, Plain, Probes, Traps, meant}
+use Rattle.vax_table.specs.Whole.{Act, Meant, Plain, Probes, Traps, is_kernel, meant}
 use Rattle.vax_table.specs.declared.evaluation.Operands.{Operands}
-use Rattle.vax_table.proofs.Wholes.{stores_claimed}
+use Rattle.vax_table.proofs.Wholes.{probes_claim_none, stores_claimed}
 use Rattle.vm_shadow.specs.Laws.{guest_place, real_place}
 use Rattle.vm_shadow.specs.Layout.{all_entries, real_tables}
 use Rattle.vm_shadow.specs.Stands.{Shadowed, is_opened, is_pending, is_read_from, mapped_frame, own, read_at, real_at}
 use Rattle.vm_shadow.specs.StandsFor.{own_number}
 use Rattle.vm_shadow.proofs.Covering.{own_is}
 use Rattle.vm_shadow.proofs.Hearing.{clear_by, probes, size_is}
-use Rattle.vm_simulation.specs.Laws.{IsRetired, RetiresTheGuest}
+use Rattle.vm_simulation.specs.Laws.{IsRetired, RetiresTheGuest, frames_claimed}
 use Rattle.vm_simulation.specs.Loaded.{RunsGuest, as_run, frames_opened, guest_try}
 use Rattle.vm_simulation.proofs.Answered.{claims_answered}
+use Rattle.vm_simulation.proofs.Claimed.{claimed_written}
 use Rattle.vm_simulation.proofs.Mapped.{mapped}
 use Rattle.vm_simulation.proofs.Meeting.{byte_ok}
 use Rattle.vm_simulation.proofs.Narrow.{claims_low, narrow, narrowly}
@@ -37,10 +38,10 @@ use Rattle.vm_simulation.proofs.Spaces.{far, high_part, machine_bit, machine_byt
 use Rattle.vm_simulation.proofs.Stores.{AreStored, IsTarget, all_are, opened_pending, pend}
 use Rattle.vm_state.specs.Partition.{guest_of, partition_of}
 use Rattle.vm_state.specs.Probe.{Answers, both, probe}
-use Rattle.vm_state.specs.State.{Guest, pc_of, state_of}
+use Rattle.vm_state.specs.State.{Guest, mode_of_state, pc_of, state_of}
 use Rattle.vm_state.specs.Step as steps
-use Rattle.vm_state.specs.Step.{by_try as guest_by_try, frames_stored, trapped_in, with_effect}
-use Rattle.vm_state.specs.Translation.{is_clear, place_by, place_of, space_of, walk_of}
+use Rattle.vm_state.specs.Step.{by_try as guest_by_try, instruction_of, trapped_in, with_effect}
+use Rattle.vm_state.specs.Translation.{frame_at, is_clear, place_by, place_of, space_of, walk_of}
 use Rattle.vm_state.specs.declared.guest_state.GuestState.{GuestState}
 use Rattle.vm_state.specs.declared.walk.Walk.{Walk}
 use Rattle.vm_state.specs.declared.walk.Walk.TheVariants as walks
@@ -126,16 +127,15 @@ module _ (opened : List ℕ) (m : Machine) (s : Shadowed) (g : GuestState) (k : 
       sym (own_is (all_stored (machine_place m) e.writes m.memory) s g k.serves) ∙ stored.own ∙ ap (all_stored (place_of here) e.writes) (own_is m.memory s g k.serves) in
       λ i. record { memory = memory i; state = record (state_of g) { r = e.r; psl = psl i } }
 
-  retired_as : (opcode : ℕ) (e : Effect) (written : List ℕ) → AreStored pending opened s m.memory (all_stored (machine_place m) e.writes m.memory) (all_stored (place_of here) e.writes (own m.memory s)) →
-      guest_by_try here (guest_try here) ≡ trapped_in (steps.Plain (term (pc_of (state_of g)) opcode e.r)) written (with_effect here e) e.trap → IsRetired opened m s g (record { machine = retire opcode e m; trap = e.trap })
+  retired_as : (opcode : ℕ) (e : Effect) → AreStored pending opened s m.memory (all_stored (machine_place m) e.writes m.memory) (all_stored (place_of here) e.writes (own m.memory s)) →
+      guest_by_try here (guest_try here) ≡ trapped_in (steps.Plain (term (pc_of (state_of g)) opcode e.r)) (frames_claimed here) (with_effect here e) e.trap → IsRetired opened m s g (record { machine = retire opcode e m; trap = e.trap })
   unfolding retire
-  retired_as opcode e written stored plain =
+  retired_as opcode e stored plain =
       let psl = both_set m.world.vmpsl.0 m.world.psl.0 g.psl.0 e.psw k.loads.psl in
       let high : (m.world.vmpsl.0 / 256 * 256 + (m.world.psl.0 / 256 * 256 + e.psw % 256) % 256) / 256 ≡ g.psl.0 / 256 = ap (λ x. x / 256) psl ∙ high_part g.psl.0 e.psw in
       record {
         term = term (pc_of (state_of g)) opcode e.r;
-        written = written;
-        plain = plain ∙ ap (λ h. trapped_in (steps.Plain (term (pc_of (state_of g)) opcode e.r)) written h e.trap) (sym (behind_effect opcode e stored));
+        plain = plain ∙ ap (λ h. trapped_in (steps.Plain (term (pc_of (state_of g)) opcode e.r)) (frames_claimed here) h e.trap) (sym (behind_effect opcode e stored));
         keeps = stored.keeps;
         loads = record {
           r = refl;
@@ -155,6 +155,9 @@ module _ (opened : List ℕ) (m : Machine) (s : Shadowed) (g : GuestState) (k : 
       at_own p (inl h) = inl (omega (arith, h, k.serves.base))
       at_own p (inr h) = inr (omega (arith, h, k.serves.base, k.serves.pages))
 
+  guest_outcome : (x : Meant) → guest_try here ≡ Completes x → outcome (space_of here) (instruction_of here.state) ≡ Ok x
+  guest_outcome x own = (completed (is_clear here) (claims (space_of here) (instruction_of here.state)) (outcome (space_of here) (instruction_of here.state)) x own).0
+
   -- a plain instruction
   plain_retired : (opcode : ℕ) (e : Effect) (x : Retired) → machine_try opened m s g k ≡ Completes (meant opcode (Plain e)) → guest_try here ≡ Completes (meant opcode (Plain e)) → meets m opcode (Plain e) ≡ Ok x → IsRetired opened m s g x
   plain_retired opcode e x is own h =
@@ -164,7 +167,7 @@ module _ (opened : List ℕ) (m : Machine) (s : Shadowed) (g : GuestState) (k : 
       let stored = all_are pending opened s (machine_place m) (place_of here) (claims space script) (λ va c. target (meant opcode (Plain e)) va done.0 c (none_clear (machine_clear m) (claims space script) done.1 va c)) e.writes m.memory (stores_claimed (in_kernel m.world) (seen_psl m.world) m.world.r space opcode e done.0) (pend opened m.memory s pending k.keeps) in
       let made : Retired = record { machine = retire opcode e m; trap = e.trap } in
       let same : made ≡ x = cc in
-      subst (IsRetired opened m s g) same (retired_as opcode e (frames_stored here e.writes) stored (ap (guest_by_try here) own))
+      subst (IsRetired opened m s g) same (retired_as opcode e stored (ap (guest_by_try here) own ∙ ap (λ frames. trapped_in (steps.Plain (term (pc_of (state_of g)) opcode e.r)) frames (with_effect here e) e.trap) (sym (claimed_written here opcode e (guest_outcome (meant opcode (Plain e)) own)))))
 
   nothing_stored : AreStored pending opened s m.memory m.memory (own m.memory s)
   nothing_stored = record { keeps = pend opened m.memory s pending k.keeps; own = refl; size = refl; other = λ p h. refl }
@@ -190,9 +193,11 @@ module _ (opened : List ℕ) (m : Machine) (s : Shadowed) (g : GuestState) (k : 
       let same : made ≡ x = cc in
       let psw : g.psl.0 % 2 ^ 8 ≡ psw_of m.world = sym (low_part m.world.vmpsl.0 m.world.psl.0 g.psl.0 k.loads.psl) in
       let answers = probe_is i (long_of o 0) (long_of o 1) (long_of o 2) b (omega arith) is in
-      let step : guest_by_try here (guest_try here) ≡ trapped_in (steps.Plain (term (pc_of (state_of g)) opcode o.r)) [] (with_effect here e) None =
-      ap (guest_by_try here) own ∙ ap (steps.probed_as here opcode o) answers ∙ ap (λ w. trapped_in (steps.Plain (term (pc_of (state_of g)) opcode o.r)) [] (with_effect here (probed b o w)) None) psw in
-      subst (IsRetired opened m s g) same (retired_as opcode e [] nothing_stored step)
+      let none : frames_claimed here ≡ [] = ap (map (λ va. frame_at (place_of here va))) (probes_claim_none (is_kernel (mode_of_state here.state)) here.state.psl here.state.r (space_of here) opcode i o (guest_outcome (meant opcode (Probes i o)) own)) in
+      let step : guest_by_try here (guest_try here) ≡ trapped_in (steps.Plain (term (pc_of (state_of g)) opcode o.r)) (frames_claimed here) (with_effect here e) None =
+      ap (guest_by_try here) own ∙ ap (steps.probed_as here opcode o) answers ∙ ap (λ w. trapped_in (steps.Plain (term (pc_of (state_of g)) opcode o.r)) [] (with_effect here (probed b o w)) None) psw
+      ∙ ap (λ frames. trapped_in (steps.Plain (term (pc_of (state_of g)) opcode o.r)) frames (with_effect here e) None) (sym none) in
+      subst (IsRetired opened m s g) same (retired_as opcode e nothing_stored step)
 
   act_retired : (opcode : ℕ) (act : Act) (x : Retired) → machine_try opened m s g k ≡ Completes (meant opcode act) → guest_try here ≡ Completes (meant opcode act) → meets m opcode act ≡ Ok x → IsRetired opened m s g x
   act_retired opcode (Plain e) x is own h = plain_retired opcode e x is own h

@@ -1,5 +1,5 @@
 -- One instruction of the machine, and the guest's own step.
-use Rattle.std.specs.Prelude.{◌≡◌, ◌⊎◌, ℕ, ◌+◌, ◌/◌, ◌%◌, ◌^◌, ◌<◌, true, false, List, None, Result, Ok, Err}
+use Rattle.std.specs.Prelude.{◌≡◌, ◌⊎◌, ℕ, ◌+◌, ◌/◌, ◌%◌, ◌^◌, ◌<◌, true, false, List, map, None, Result, Ok, Err}
 use Rattle.vax_arch.specs.Fields.{current_of, is_modified}
 use Rattle.vax_arch.specs.Walk.{page_of}
 use Rattle.vax_arch.specs.declared.mode.Intent.{Intent}
@@ -9,9 +9,9 @@ use Rattle.vax_hw.specs.Real.{Retired, one}
 use Rattle.vax_hw.specs.declared.world.Exit.{Exit}
 use Rattle.vax_hw.specs.declared.world.Exit.TheVariants as exits
 use Rattle.vax_table.specs.Claims.{claims}
-use Rattle.vax_table.specs.Effects.{long_of}
+use Rattle.vax_table.specs.Effects.{Effect, long_of}
 use Rattle.vax_table.specs.Probing.{last_of}
-use Rattle.vax_table.specs.Script.{At, Cause, IsIn, Test}
+use Rattle.vax_table.specs.Script.{At, Cause, IsIn, Test, outcome}
 use Rattle.vax_table.specs.Tries.{Clear, Completes, Stopped}
 use Rattle.vax_table.specs.Troubles.{intent_of}
 use Rattle.vax_table.specs.Whole.{Act, Plain, Probes, Traps, meant, probe_of, trap_of}
@@ -23,9 +23,9 @@ use Rattle.vm_shadow.specs.StandsFor.{IsMarked, IsPresent, own_number}
 use Rattle.vm_simulation.specs.Loaded.{Loads, OnlyPartition, RunsGuest, as_run, frames_opened, guest_try}
 use Rattle.vm_state.specs.Partition.{guest_of}
 use Rattle.vm_state.specs.Step as steps
-use Rattle.vm_state.specs.State.{state_of}
-use Rattle.vm_state.specs.Step.{by_try, instruction_of, trapped_in}
-use Rattle.vm_state.specs.Translation.{is_clear, space_of}
+use Rattle.vm_state.specs.State.{Guest, state_of}
+use Rattle.vm_state.specs.Step.{by_try, frames_stored, instruction_of, trapped_in}
+use Rattle.vm_state.specs.Translation.{frame_at, is_clear, place_of, space_of}
 use Rattle.vm_state.specs.declared.guest_state.GuestState.{GuestState}
 
 -- a trap is of a sensitive instruction with these operands, or of a PROBE
@@ -94,12 +94,18 @@ Meets (exits.Modify va) memory s g = IsUnwritten va memory s g
 abbrev pub ExitsMeetTheGuest : Type 0
 ExitsMeetTheGuest = (opened : List ℕ) (m : Machine) (s : Shadowed) (g : GuestState) (e : Exit) → RunsGuest opened m s g → one m ≡ Err e → Meets e m.memory s g
 
+-- the frames of the bytes that an instruction would write
+abbrev pub frames_claimed : Guest → List ℕ
+frames_claimed h = map (λ va. frame_at (place_of h va)) (claims (space_of h) (instruction_of h.state))
+
+abbrev pub ClaimedFramesAreWritten : Type 0
+ClaimedFramesAreWritten = (h : Guest) (opcode : ℕ) (e : Effect) → outcome (space_of h) (instruction_of h.state) ≡ Ok (meant opcode (Plain e)) → frames_claimed h ≡ frames_stored h e.writes
+
 -- The machine retired an instruction: the guest's own is plain, with the same registers and memory behind it and the same
--- trap; nothing else of the machine's memory changed; what was read from a frame that an opened entry maps is pending.
+-- trap, and writes the frames that it claims; nothing else of the machine's memory changed; what was read from a frame that an opened entry maps is pending.
 pub record IsRetired (opened : List ℕ) (m : Machine) (s : Shadowed) (g : GuestState) (x : Retired) : Type 0 where
   pub term : ℕ
-  pub written : List ℕ
-  pub plain : by_try (guest_of m.memory g) (guest_try (guest_of m.memory g)) ≡ trapped_in (steps.Plain term) written (guest_of x.machine.memory (as_run x.machine.world g)) x.trap
+  pub plain : by_try (guest_of m.memory g) (guest_try (guest_of m.memory g)) ≡ trapped_in (steps.Plain term) (frames_claimed (guest_of m.memory g)) (guest_of x.machine.memory (as_run x.machine.world g)) x.trap
   pub keeps : Keeps (frames_opened m.memory s opened) opened x.machine.memory s
   pub loads : Loads x.machine.world s (as_run x.machine.world g)
   pub high : (as_run x.machine.world g).psl.0 / 2 ^ 8 ≡ g.psl.0 / 2 ^ 8

@@ -1,5 +1,5 @@
 ghost use Rattle.vm_simulation.specs.Bursts.{RunsGoAsTheGuest};
-ghost use Rattle.vm_simulation.specs.Laws.{ExitsMeetTheGuest, RetiresTheGuest};
+ghost use Rattle.vm_simulation.specs.Laws.{ClaimedFramesAreWritten, ExitsMeetTheGuest, RetiresTheGuest};
 
 /// What stops the machine before an instruction is what the guest's own comes to, or a page that isn't filled or opened.
 pub fn exits_meet_the_guest()
@@ -9,6 +9,11 @@ pub fn exits_meet_the_guest()
 /// An instruction that the machine retires is one that the guest completes.
 pub fn instructions_retire_as_the_guests()
     ensures { RetiresTheGuest }
+{}
+
+/// The frames that a plain instruction claims are those that it writes.
+pub fn claimed_frames_are_written()
+    ensures { ClaimedFramesAreWritten }
 {}
 
 /// A run of the machine is as many plain steps of the guest as instructions retired.

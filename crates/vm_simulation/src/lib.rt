@@ -3,4 +3,7 @@
 
 mod laws;
 
-pub use laws::{exits_meet_the_guest, instructions_retire_as_the_guests, runs_go_as_the_guest};
+pub use laws::{
+    claimed_frames_are_written, exits_meet_the_guest, instructions_retire_as_the_guests,
+    runs_go_as_the_guest,
+};

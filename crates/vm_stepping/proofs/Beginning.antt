@@ -54,7 +54,7 @@ quiet_on n s q within = record {
 }
 
 -- A guest that stands does so in all steps.
-stands_still : (h : Guest) (code : ℕ) → h.state.halt ≡ Some code → step h ≡ stepped h [] steps.Stopped []
+pub stands_still : (h : Guest) (code : ℕ) → h.state.halt ≡ Some code → step h ≡ stepped h [] steps.Stopped []
 unfolding step
 stands_still h code e = ap (step_by h) e
 
@@ -96,10 +96,10 @@ runs_by (Some code) e = absurd (not_counted (sym e))
 
 -- The step is counted.
 module _ (m : Machine) (s : Shadowed) (g : GuestState) (g1 : GuestState) (stands : StandsFor m.memory s g) (state : state_of g1 ≡ counted (state_of g)) (place : HasPlace g.pages g.base g.start g1) (runs : g.halt ≡ None) where
-  abbrev now : Guest
+  abbrev pub now : Guest
   now = record { memory = partition_of m.memory g; state = counted (state_of g) }
 
-  counted_is : guest_of m.memory g1 ≡ now
+  pub counted_is : guest_of m.memory g1 ≡ now
   counted_is = λ i. record { memory = part m.memory (512 * place.base i) (512 * place.pages i); state = state i }
 
   pub counted_stands : StandsFor m.memory s g1
@@ -115,7 +115,7 @@ module _ (m : Machine) (s : Shadowed) (g : GuestState) (g1 : GuestState) (stands
   count_goes = record { stands = counted_stands; only = record { size = refl; other = λ p own tables. refl }; place = place; tables = refl }
 
   -- what it comes to, by what is due
-  step_is : (o : Option Source) → due (state_of g1) ≡ o → step (guest_of m.memory g) ≡ by_interrupt now o
+  pub step_is : (o : Option Source) → due (state_of g1) ≡ o → step (guest_of m.memory g) ≡ by_interrupt now o
   unfolding step
   step_is o e = ap (step_by (guest_of m.memory g)) runs ∙ ap (by_interrupt now) (ap due (sym state) ∙ e)
 

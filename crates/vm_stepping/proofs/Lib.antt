@@ -1,3 +1,4 @@
+pub mod Paying
 pub mod Making
 pub mod MissingPages
 pub mod SensingScripts
@@ -7,6 +8,10 @@ pub mod SensingSteps
 pub mod SensingMade
 pub mod Going
 pub mod Meeting
+pub mod PayingMet
+pub mod PayingAlone
 pub mod Running
+pub mod PayingRuns
 pub mod Beginning
+pub mod PayingBegun
 pub mod Advancing

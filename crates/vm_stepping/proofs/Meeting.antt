@@ -120,11 +120,8 @@ module _ (m : Machine) (s : Shadowed) (g : GuestState) (c : Counts) (e : Exit) (
     done_behind false x = (refills_behind x.0, x.1, x.2)
 
 -- by the exit of the guarded run
-module _ {Port : Type 0} (may : Port → List ℕ → Type 0) (port port' : Port) (m : Machine) (s : Shadowed) (g : GuestState) (c : Counts) (terms : ℕ) (m1 : Machine) (s1 : Shadowed) (g1 : GuestState) (stands : StandsFor m.memory s g) where
-  pub guarded_budget : (e : Exit) (c1 : Counts) → e ≡ Budget → IsGuarded e m s g terms m1 s1 g1 → c.trail < 2 ^ 64 → c1 ≡ more_plain c 1 terms → Steps may port port m s g c m1 s1 g1 c1
-  guarded_budget e c1 is k small same = subst (λ x. Steps may port port m s g c m1 s1 g1 x) (sym same) (guarded_steps m s g c terms m1 s1 g1 small may port (subst (λ x. IsGuarded x m s g terms m1 s1 g1) is k))
-
-  stays_by : (e : Exit) → (e ≡ Budget → ⊥) → ((kind : ℕ) → e ≡ Arithmetic kind → ⊥) → IsGuarded e m s g terms m1 s1 g1 → StaysGuarded m s g e m1 s1 g1
+module _ (m : Machine) (s : Shadowed) (g : GuestState) (terms : ℕ) (m1 : Machine) (s1 : Shadowed) (g1 : GuestState) where
+  pub stays_by : (e : Exit) → (e ≡ Budget → ⊥) → ((kind : ℕ) → e ≡ Arithmetic kind → ⊥) → IsGuarded e m s g terms m1 s1 g1 → StaysGuarded m s g e m1 s1 g1
   stays_by Budget b a k = absurd (b refl)
   stays_by (Arithmetic kind) b a k = absurd (a kind refl)
   stays_by (NotValid va write) b a k = k
@@ -132,6 +129,10 @@ module _ {Port : Type 0} (may : Port → List ℕ → Type 0) (port port' : Port
   stays_by (Modify va) b a k = k
   stays_by (Emulate t) b a k = k
   stays_by (Refused r) b a k = k
+
+module _ {Port : Type 0} (may : Port → List ℕ → Type 0) (port port' : Port) (m : Machine) (s : Shadowed) (g : GuestState) (c : Counts) (terms : ℕ) (m1 : Machine) (s1 : Shadowed) (g1 : GuestState) (stands : StandsFor m.memory s g) where
+  pub guarded_budget : (e : Exit) (c1 : Counts) → e ≡ Budget → IsGuarded e m s g terms m1 s1 g1 → c.trail < 2 ^ 64 → c1 ≡ more_plain c 1 terms → Steps may port port m s g c m1 s1 g1 c1
+  guarded_budget e c1 is k small same = subst (λ x. Steps may port port m s g c m1 s1 g1 x) (sym same) (guarded_steps m s g c terms m1 s1 g1 small may port (subst (λ x. IsGuarded x m s g terms m1 s1 g1) is k))
 
   module _ (m2 : Machine) (s2 : Shadowed) (g2 : GuestState) where
     pub guarded_trap : (e : Exit) (kind : ℕ) (c1 : Counts) → e ≡ Arithmetic kind → IsGuarded e m s g terms m1 s1 g1 → c.trail < 2 ^ 64 → c1 ≡ more_plain c 1 terms →
@@ -141,7 +142,7 @@ module _ {Port : Type 0} (may : Port → List ℕ → Type 0) (port port' : Port
 
     pub guarded_other : (e : Exit) (b : Bool) (c2 : Counts) → (e ≡ Budget → ⊥) → ((kind : ℕ) → e ≡ Arithmetic kind → ⊥) → IsGuarded e m s g terms m1 s1 g1 → IsMet may b port port' m1 s1 g1 c m2 s2 g2 c2 → IsDone may b port port' m s g c m2 s2 g2 c2
     guarded_other e b c2 not_budget not_arithmetic k met =
-        let stays = stays_by e not_budget not_arithmetic k in
+        let stays = stays_by m s g terms m1 s1 g1 e not_budget not_arithmetic k in
         let own : g1 ≡ g = stays.guest in
         let again = subst (λ x. StaysGuarded m s g e m1 s1 x) own stays in
         let now = subst (λ x. IsMet may b port port' m1 s1 x c m2 s2 g2 c2) own met in

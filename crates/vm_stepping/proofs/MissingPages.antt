@@ -56,7 +56,7 @@ module _ (m : Machine) (s : Shadowed) (g : GuestState) (va : ℕ) (i : Intent) (
   abbrev here : Guest
   here = guest_of m.memory g
 
-  abbrev walked : Walk
+  abbrev pub walked : Walk
   walked = walk_of here va (current_of g.psl.0) i
 
   pub present : (pa : ℕ) (entry table : Option ℕ) → walks.Frame pa entry table ≡ walked → IsPresent here (page_of va)

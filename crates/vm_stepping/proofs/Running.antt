@@ -55,7 +55,7 @@ is_before (Modify va) b a = tt
 is_before (Emulate t) b a = tt
 is_before (Refused r) b a = tt
 
-before_goes : (e : Exit) (left : ℕ) (run : Run) → IsBefore e → goes_on e left run ≡ after_counted left run
+pub before_goes : (e : Exit) (left : ℕ) (run : Run) → IsBefore e → goes_on e left run ≡ after_counted left run
 before_goes Budget left run k = absurd k
 before_goes (Arithmetic kind) left run k = absurd k
 before_goes (NotValid va write) left run k = refl

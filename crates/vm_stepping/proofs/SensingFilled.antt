@@ -1,11 +1,12 @@
 -- Behind a PROBE whose pages are filled, fewer entries aren't.
 use Rattle.std.proofs.Common.{◌≡◌, ◌⊎◌, ℕ, zero, suc, ◌+◌, ◌<◌, ◌≤◌, Bool, true, false, not, [], None, is_some, refl, ap, ◌∙◌, sym, subst, arith, if◌then◌else◌}
-use Rattle.std.proofs.lemmas.Bool.{cases_eq, false≢true}
+use Rattle.std.proofs.lemmas.Bool.{cases_eq, false≢true, not-false}
 use Rattle.vax_arch.specs.Fields.{is_valid}
 use Rattle.vax_hw.specs.Machine.{Machine}
 use Rattle.vm_bursts.specs.Guarded.{count_below}
 use Rattle.vm_bursts.proofs.Completing.{split}
 use Rattle.vm_emulate.specs.Emulated.{FillsTwo, IsFilled}
+use Rattle.vm_fitting.specs.Laws.{KeepsFilled}
 use Rattle.vm_shadow.specs.Layout.{all_entries, entry_number}
 use Rattle.vm_shadow.specs.Stands.{Shadowed, read_at, real_at}
 use Rattle.vm_shadow.specs.StandsFor.{IsPresent, OnlyGuest, StandsFor, own_number}
@@ -62,6 +63,17 @@ module _ (p q : ℕ) (g : GuestState) (m : Machine) (s : Shadowed) (m' : Machine
 
   was_empty : (n : ℕ) → is_empty s' n ≡ true → is_empty s n ≡ true
   was_empty n h = split (two.stay n) (λ e. ap (λ x. not (is_some x)) (sym e) ∙ h) (λ one. split one (λ e. none_else p n here two.first e h) (λ e. none_else q n there two.second e h))
+
+  filled_at : (page n : ℕ) → IsPresent (guest_of m.memory g) page → IsFilled page m' s' → n ≡ own_number s page → is_some (read_at s' n) ≡ true
+  filled_at page n k f e = not-false (is_some (read_at s' n)) (subst (λ x. is_empty s' x ≡ false) (sym e) (now_filled page (number page k) f))
+
+  -- what is filled stays so
+  pub keeps_filled : KeepsFilled s s'
+  keeps_filled = record {
+    each = λ n h. split (two.stay n) (λ e. ap is_some e ∙ h) (λ one. split one (λ e. filled_at p n here two.first e) (λ e. filled_at q n there two.second e));
+    slot = ap (λ (x : Shadowed). x.slot) two.rest;
+    held = ap (λ (x : Shadowed). x.held) two.rest;
+  }
 
   one_fewer : (page : ℕ) → IsPresent (guest_of m.memory g) page → IsFilled page m' s' → read_at s (own_number s page) ≡ None → unfilled s' < unfilled s
   unfolding unfilled

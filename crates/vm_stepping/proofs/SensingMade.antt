@@ -8,6 +8,7 @@ use Rattle.vm_emulate.specs.declared.emulated.Emulated.{Emulated}
 use Rattle.vm_emulate.specs.declared.emulated.Emulated.TheVariants as outcomes
 use Rattle.vm_exception.specs.Attempted.{Stays}
 use Rattle.vm_exception.specs.Initiated.{IsProper}
+use Rattle.vm_fitting.specs.Laws.{KeepsFilled}
 use Rattle.vm_shadow.specs.Stands.{Shadowed}
 use Rattle.vm_shadow.specs.StandsFor.{StandsFor}
 use Rattle.vm_simulation.specs.Laws.{IsTrapped}
@@ -35,15 +36,17 @@ module _ {Port : Type 0} (may : Port → List ℕ → Type 0) (t : Trapped) (res
   shown = shown_of (guest_of m.memory g) t result
 
   comes_to : (r : Emulated) → result ≡ r → Comes r x shown m s g m' s' g'
-  comes_to r e = subst (λ y. Comes y x shown m s g m' s' g') e (trap_comes m s g m' s' g' stands k.place k.only t result trapped few regs k.is)
+  comes_to r e = subst (λ y. Comes y x shown m s g m' s' g') e (trap_comes m s g m' s' g' stands k.stands k.place k.only t result trapped few regs k.is)
 
-  made : (port' : Port) (c' : Counts) → Steps x s.at m' s' g' → Appends may port port' x.shown → tally_of c' ≡ tallied x.kind (tally_of c) → steps_in c' ≡ steps_in c + 1 → c'.plain ≡ c.plain → c'.trail ≡ c.trail → Made may x port port' m s g c m' s' g' c'
+  made : (port' : Port) (c' : Counts) → Steps x s m' s' g' → Appends may port port' x.shown → tally_of c' ≡ tallied x.kind (tally_of c) → steps_in c' ≡ steps_in c + 1 → c'.plain ≡ c.plain → c'.trail ≡ c.trail → Made may x port port' m s g c m' s' g' c'
   made port' c' is shows tally one plain trail = record {
     run = λ before i. record { guest = sym is.guest i; shown = before ++ x.shown; tally = sym tally i };
     shows = shows;
     goes = record { stands = k.stands; only = only_both s m m' k.only; place = k.place; tables = is.tables };
     one = one;
     retired = same_counts m m' c c' k.only.rest plain trail;
+    misses = ap (λ (y : Machine). y.misses) k.only.rest;
+    moves = is.moves;
   }
 
   pub made_done : result ≡ outcomes.Done → Made may x port port1 m s g c m' s' g' (record c { sensitive = c.sensitive + 1 })
@@ -83,10 +86,13 @@ module _ {Port : Type 0} (may : Port → List ℕ → Type 0) (t : Trapped) (res
     made_fault_then is y =
         let to = comes_to (outcomes.Fault e) is in
         let z = from_here to.2 y in
-        subst (λ w. IsMade w port m s g) (sym to.0) (record { run = z.run; shows = shows_then may port port1 port' shown (faulted (guest_of m.memory g) e).shown to.3 shows z.shows; goes = z.goes; one = z.one; retired = z.retired })
+        subst (λ w. IsMade w port m s g) (sym to.0) (record { run = z.run; shows = shows_then may port port1 port' shown (faulted (guest_of m.memory g) e).shown to.3 shows z.shows; goes = z.goes; one = z.one; retired = z.retired; misses = z.misses; moves = z.moves })
 
   pub refilled : result ≡ outcomes.Filled → Refills m s g m' s' g'
   refilled e = (comes_to outcomes.Filled e).0
+
+  pub refilled_keeps : result ≡ outcomes.Filled → KeepsFilled s s'
+  refilled_keeps e = (comes_to outcomes.Filled e).2
 
   pub shows_nothing_then : result ≡ outcomes.Filled → Appends may port port1 []
   shows_nothing_then e = subst (Appends may port port1) (comes_to outcomes.Filled e).1 shows

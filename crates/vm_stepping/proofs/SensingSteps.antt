@@ -20,7 +20,10 @@ use Rattle.vm_emulate.specs.declared.emulated.Emulated.{Emulated}
 use Rattle.vm_emulate.specs.declared.emulated.Emulated.TheVariants as outcomes
 use Rattle.vm_emulate.proofs.Probings.{plain_then}
 use Rattle.vm_exception.specs.Attempted.{Stays}
-use Rattle.vm_exception.specs.Initiated.{IsProper, StopsWith}
+use Rattle.vm_exception.specs.Initiated.{Becomes, IsProper, StopsWith}
+use Rattle.vm_fitting.specs.Laws.{KeepsFilled}
+use Rattle.vm_fitting.specs.Moves.{Moves}
+use Rattle.vm_fitting.proofs.Own.{moves_alone}
 use Rattle.vm_shadow.specs.Stands.{Shadowed}
 use Rattle.vm_shadow.specs.StandsFor.{OnlyGuest, StandsFor}
 use Rattle.vm_simulation.specs.Laws.{IsTrap, IsTrapped, IsUnfilled}
@@ -38,25 +41,27 @@ use Rattle.vm_state.specs.declared.exception.Exc.TheVariants as excs
 use Rattle.vm_state.specs.declared.guest_state.GuestState.{GuestState}
 use Rattle.vm_stepping.specs.Made.{Refills}
 use Rattle.vm_stepping.proofs.SensingFaults.{HasProperFault, proper_fault}
-use Rattle.vm_stepping.proofs.SensingFilled.{refills}
+use Rattle.vm_stepping.proofs.Paying.{among_dropped, follows_moves, stops_moves}
+use Rattle.vm_stepping.proofs.SensingFilled.{keeps_filled, refills}
 use Rattle.vm_stepping.proofs.SensingScripts.{ActIsProper, IsNoProbe, proper_act}
 
--- The guest is the step's, and its real tables lie where they lay.
-pub record Steps (x : Stepped) (at : ℕ) (m' : Machine) (s' : Shadowed) (g' : GuestState) : Type 0 where
+-- The guest is the step's, its real tables lie where they lay, and what it writes and tells is all that is dropped for.
+pub record Steps (x : Stepped) (s : Shadowed) (m' : Machine) (s' : Shadowed) (g' : GuestState) : Type 0 where
   pub guest : guest_of m'.memory g' ≡ x.guest
-  pub tables : s'.at ≡ at
+  pub tables : s'.at ≡ s.at
+  pub moves : Moves x.written x.guest.state.tables s s'
 
 abbrev pub text_now : ℕ → GuestState → List ℕ
 text_now code g' = stop_text code (pc_of (state_of g'))
 
 -- What the definition's step is, by what the emulation came to, and what that showed by itself.
 abbrev pub Comes : Emulated → Stepped → List ℕ → Machine → Shadowed → GuestState → Machine → Shadowed → GuestState → Type 0
-Comes outcomes.Done x shown m s g m' s' g' = Steps x s.at m' s' g' × (x.shown ≡ shown) × (x.kind ≡ Sensitive)
-Comes outcomes.SetModify x shown m s g m' s' g' = Steps x s.at m' s' g' × (x.shown ≡ []) × (x.kind ≡ SetModify) × (shown ≡ [])
+Comes outcomes.Done x shown m s g m' s' g' = Steps x s m' s' g' × (x.shown ≡ shown) × (x.kind ≡ Sensitive)
+Comes outcomes.SetModify x shown m s g m' s' g' = Steps x s m' s' g' × (x.shown ≡ []) × (x.kind ≡ SetModify) × (shown ≡ [])
 Comes (outcomes.Fault e) x shown m s g m' s' g' = (x ≡ faulted (guest_of m.memory g) e) × IsProper e × Stays m s g m' s' g' × (shown ≡ [])
-Comes (outcomes.Stopped code) x shown m s g m' s' g' = Steps x s.at m' s' g' × (x.shown ≡ text_now code g') × (x.kind ≡ Sensitive) × (shown ≡ [])
-Comes outcomes.PastMemory x shown m s g m' s' g' = Steps x s.at m' s' g' × (x.shown ≡ text_now 0x10 g') × (x.kind ≡ Fault) × (shown ≡ [])
-Comes outcomes.Filled x shown m s g m' s' g' = Refills m s g m' s' g' × (shown ≡ [])
+Comes (outcomes.Stopped code) x shown m s g m' s' g' = Steps x s m' s' g' × (x.shown ≡ text_now code g') × (x.kind ≡ Sensitive) × (shown ≡ [])
+Comes outcomes.PastMemory x shown m s g m' s' g' = Steps x s m' s' g' × (x.shown ≡ text_now 0x10 g') × (x.kind ≡ Fault) × (shown ≡ [])
+Comes outcomes.Filled x shown m s g m' s' g' = Refills m s g m' s' g' × (shown ≡ []) × KeepsFilled s s'
 
 follows_at : (frames : List ℕ) (t : Tables) (s s' : Shadowed) → Follows frames t s s' → s'.at ≡ s.at
 follows_at frames t s s' f = ap (λ (x : Shadowed). x.at) f.retells.rest ∙ ap (λ (x : Shadowed). x.at) f.drops.rest
@@ -68,7 +73,7 @@ in_two r e = sym (take_more r 15 0 (omega arith)) ∙ take_all 16 r (omega arith
 last_one : (r : List ℕ) (pc : ℕ) → length r ≡ 15 → slice_index (r ++ pc ∷ []) 15 ≡ pc
 last_one r pc e = get_or_push r pc 0 15 e
 
-module _ (m : Machine) (s : Shadowed) (g : GuestState) (m' : Machine) (s' : Shadowed) (g' : GuestState) (stands : StandsFor m.memory s g) (place : HasPlace g.pages g.base g.start g') (only : OnlyGuest s m m') where
+module _ (m : Machine) (s : Shadowed) (g : GuestState) (m' : Machine) (s' : Shadowed) (g' : GuestState) (stands : StandsFor m.memory s g) (still : StandsFor m'.memory s' g') (place : HasPlace g.pages g.base g.start g') (only : OnlyGuest s m m') where
   abbrev own : Guest
   own = guest_of m.memory g
 
@@ -85,11 +90,11 @@ module _ (m : Machine) (s : Shadowed) (g : GuestState) (m' : Machine) (s' : Shad
   stops_at code k = ap (λ (x : Shadowed). x.at) k.shadow
 
   comes_past : StopsWith 0x10 m s g m' s' g' → Comes outcomes.PastMemory (stopped own PastMemory Fault) [] m s g m' s' g'
-  comes_past k = (record { guest = stops 0x10 k; tables = stops_at 0x10 k }, same_text 0x10 k, refl, refl)
+  comes_past k = (record { guest = stops 0x10 k; tables = stops_at 0x10 k; moves = stops_moves 0x10 m s g m' s' g' stands k }, same_text 0x10 k, refl, refl)
 
   comes_stopped : (stop : Stop) (code : ℕ) → code ≡ stop_code stop → StopsWith code m s g m' s' g' → Comes (outcomes.Stopped code) (stopped own stop Sensitive) [] m s g m' s' g'
   comes_stopped stop code e k = (
-    record { guest = stops code k ∙ ap (λ n. record own { state = record own.state { halt = Some n } }) e; tables = stops_at code k },
+    record { guest = stops code k ∙ ap (λ n. record own { state = record own.state { halt = Some n } }) e; tables = stops_at code k; moves = stops_moves code m s g m' s' g' stands k },
     ap (λ n. stop_text n (pc_of own.state)) (sym e) ∙ same_text code k,
     refl,
     refl,
@@ -101,14 +106,17 @@ module _ (m : Machine) (s : Shadowed) (g : GuestState) (m' : Machine) (s' : Shad
   clear_set : (va : ℕ) → g.modify_faults ≡ false → sensed_as own (ClearAt va) ≡ stepped (marked_guest own va) [] SetModify (marks_by (look own (page_of va)))
   clear_set va e = ap (λ b. if b then faulted own (excs.ModifyFault va) else stepped (marked_guest own va) [] SetModify (marks_by (look own (page_of va)))) e
 
+  clear_moves : (va : ℕ) → Becomes (marked_guest own va) (marks_by (look own (page_of va))) s m' s' g' → Moves (marks_by (look own (page_of va))) (tables_of g) s s'
+  clear_moves va k = moves_alone (marks_by (look own (page_of va))) m'.memory s s' (tables_of g) still.keeps.fits (ap (λ (x : Shadowed). x.told) k.drops.rest ∙ stands.serves.told) (among_dropped (marks_by (look own (page_of va))) s s' k.drops)
+
   -- a sensitive instruction but HALT
   comes_sensed : (result : Emulated) (x : Sensed) → HasProperFault x → IsSensed x result m s g m' s' g' → Comes result (sensed_as own x) (shown_by result x) m s g m' s' g'
-  comes_sensed outcomes.Done (Does h shown frames) p k = (record { guest = k.guest; tables = follows_at frames h.state.tables s s' k.follows }, refl, refl)
+  comes_sensed outcomes.Done (Does h shown frames) p k = (record { guest = k.guest; tables = follows_at frames h.state.tables s s' k.follows; moves = follows_moves frames h.state.tables s s' k.follows }, refl, refl)
   comes_sensed (outcomes.Fault f) (Faults e) p k = comes_fault (faulted own e) e f refl p k.0 k.1
   comes_sensed (outcomes.Fault f) (ClearAt va) p k = comes_fault (sensed_as own (ClearAt va)) (excs.ModifyFault va) f (rw k.0) tt k.1 k.2
   comes_sensed outcomes.SetModify (ClearAt va) p k =
       subst (λ x. Comes outcomes.SetModify x [] m s g m' s' g') (sym (clear_set va k.0))
-      (record { guest = k.2.guest; tables = ap (λ (x : Shadowed). x.at) k.2.drops.rest }, refl, refl, refl)
+      (record { guest = k.2.guest; tables = ap (λ (x : Shadowed). x.at) k.2.drops.rest; moves = clear_moves va k.2 }, refl, refl, refl)
   comes_sensed (outcomes.Stopped code) (StopsThere stop) p k = comes_stopped stop code k.0 k.1
   comes_sensed outcomes.PastMemory LacksMemory p k = comes_past k
   comes_sensed outcomes.SetModify (Does h shown frames) p k = absurd k
@@ -143,7 +151,7 @@ module _ (m : Machine) (s : Shadowed) (g : GuestState) (m' : Machine) (s' : Shad
     comes_halted (outcomes.Stopped code) e k =
         let h = halted_guest own t in
         let pc : t.next_pc ≡ pc_of (state_of g') = sym (last_one t.regs t.next_pc e) ∙ ap (λ (x : Guest). pc_of x.state) (sym k.1.guest) in
-        (record { guest = k.1.guest; tables = follows_at [] h.state.tables s s' k.1.follows }, ap (stop_text 0x06) pc ∙ ap (λ n. stop_text n (pc_of (state_of g'))) (sym k.0), refl, refl)
+        (record { guest = k.1.guest; tables = follows_at [] h.state.tables s s' k.1.follows; moves = follows_moves [] h.state.tables s s' k.1.follows }, ap (stop_text 0x06) pc ∙ ap (λ n. stop_text n (pc_of (state_of g'))) (sym k.0), refl, refl)
     comes_halted outcomes.Done e k = absurd k
     comes_halted outcomes.SetModify e k = absurd k
     comes_halted (outcomes.Fault f) e k = absurd k
@@ -170,8 +178,8 @@ module _ (m : Machine) (s : Shadowed) (g : GuestState) (m' : Machine) (s' : Shad
     comes_probed : (opcode : ℕ) (result : Emulated) (x : Probed) → length o.r ≡ 16 → x ≡ probed_trap own i t → IsUnfilled (Probes i o) m.memory s g → IsProbed x t result m s g m' s' g' → Comes result (probed_as own opcode o x) [] m s g m' s' g'
     comes_probed opcode outcomes.Filled (Answers a true) e is u k =
         let two = plain_then i t m s g stands a true is refl in
-        (refills first (page_of (last_of (long_of o 2) (long_of o 1 % 2 ^ 16))) g m s m' s' stands two.0 two.1 k.1 g' k.0 only (u two.0 two.1), refl)
-    comes_probed opcode outcomes.Done (Answers a false) e is u k = (record { guest = k.guest ∙ with_same a e; tables = follows_at [] (tables_of g) s s' k.follows }, refl, refl)
+        (refills first (page_of (last_of (long_of o 2) (long_of o 1 % 2 ^ 16))) g m s m' s' stands two.0 two.1 k.1 g' k.0 only (u two.0 two.1), refl, keeps_filled first (page_of (last_of (long_of o 2) (long_of o 1 % 2 ^ 16))) g m s m' s' stands two.0 two.1 k.1)
+    comes_probed opcode outcomes.Done (Answers a false) e is u k = (record { guest = k.guest ∙ with_same a e; tables = follows_at [] (tables_of g) s s' k.follows; moves = follows_moves [] (tables_of g) s s' k.follows }, refl, refl)
     comes_probed opcode (outcomes.Fault f) (NotValid fault) e is u k = comes_fault (faulted own (excs.Memory fault)) (excs.Memory fault) f refl tt k.0 k.1
     comes_probed opcode outcomes.PastMemory probes.PastMemory e is u k = comes_past k
     comes_probed opcode outcomes.Done (Answers a true) e is u k = absurd k

@@ -3,6 +3,7 @@ use Rattle.std.specs.Prelude.{◌≡◌, ℕ, ◌+◌, ◌%◌, ◌^◌, ◌<◌
 use Rattle.vax_hw.specs.Machine.{Machine}
 use Rattle.vm_bursts.specs.Guarded.{OnlyBoth, count_below}
 use Rattle.vm_console.specs.Appends.{Appends}
+use Rattle.vm_fitting.specs.Moves.{Moves}
 use Rattle.vm_shadow.specs.Layout.{all_entries}
 use Rattle.vm_shadow.specs.Stands.{Shadowed, read_at}
 use Rattle.vm_shadow.specs.StandsFor.{StandsFor}
@@ -42,13 +43,15 @@ pub record Retired (m : Machine) (c : Counts) (m' : Machine) (c' : Counts) : Typ
   pub retired : (m'.retired + c.plain) % 2 ^ 64 ≡ (m.retired + c'.plain) % 2 ^ 64
   pub trail : (m'.trail + c.trail) % 2 ^ 64 ≡ (m.trail + c'.trail) % 2 ^ 64
 
--- this step is made
+-- This step is made: what it writes and tells is all that is dropped for, and the machine misses nothing.
 pub record Made {Port : Type 0} (may : Port → List ℕ → Type 0) (x : Stepped) (port port' : Port) (m : Machine) (s : Shadowed) (g : GuestState) (c : Counts) (m' : Machine) (s' : Shadowed) (g' : GuestState) (c' : Counts) : Type 0 where
   pub run : (shown : List ℕ) → after_step (run_of m.memory g c shown) x ≡ run_of m'.memory g' c' (shown ++ x.shown)
   pub shows : Appends may port port' x.shown
   pub goes : Goes m s g m' s' g'
   pub one : steps_in c' ≡ steps_in c + 1
   pub retired : Retired m c m' c'
+  pub misses : m'.misses ≡ m.misses
+  pub moves : Moves x.written x.guest.state.tables s s'
 
 -- how many entries aren't filled
 unfoldable pub unfilled : Shadowed → ℕ

@@ -4,13 +4,17 @@ ghost use Rattle.vax_table.specs.Tries.{Stopped};
 ghost use Rattle.vax_table.specs.Troubles.{intent_of};
 ghost use Rattle.vm_bursts.specs.Guarded.{Tells};
 ghost use Rattle.vm_exception.specs.Initiated.{IsProper};
+ghost use Rattle.vm_fitting.specs.Runs.{Reaches};
 ghost use Rattle.vm_shadow.specs.StandsFor.{StandsFor};
+ghost use Rattle.vm_simulation.specs.Bursts.{missed_by};
 ghost use Rattle.vm_simulation.specs.Laws.{Meets};
 ghost use Rattle.vm_simulation.specs.Loaded.{guest_try};
 ghost use Rattle.vm_state.specs.Partition.{guest_of};
 ghost use Rattle.vm_state.specs.Sensitive.{refused_as};
 ghost use Rattle.vm_stepping.specs.Advances.{IsDone};
 ghost use Rattle.vm_stepping.specs.Made.{IsMet, steps_in};
+ghost use Rattle.vm_stepping.specs.Pays.{PaysFor};
+ghost use Rattle.vm_touches.specs.Touched.{AreFilled, touches_now};
 
 use crate::Counts;
 use crate::made::{fault, meet_clear};
@@ -58,7 +62,9 @@ fn refuse<H: Hardware, T: Port>(
     requires stands { StandsFor (H.machine machine.old).memory s.old g.old }
     requires room { steps_in counts.old < 2 ^ 32 }
     requires refused { guest_try (guest_of (H.machine machine.old).memory g.old) ≡ Stopped (Test refusal) }
-    ensures { IsMet T.may true port.old port.new (H.machine machine.old) s.old g.old counts.old (H.machine machine.new) s.new g.new counts.new }
+    requires filled { AreFilled s.old (touches_now (guest_of (H.machine machine.old).memory g.old)).found }
+    ensures met { IsMet T.may true port.old port.new (H.machine machine.old) s.old g.old counts.old (H.machine machine.new) s.new g.new counts.new }
+    ensures pays { PaysFor true 0 (H.machine machine.old) s.old g.old (H.machine machine.new) s.new }
 {
     fault(machine, s, g, port, counts, refused_as(refusal));
 }
@@ -76,7 +82,9 @@ fn meet_told<H: Hardware, T: Port>(
     requires stands { StandsFor (H.machine machine.old).memory s.old g.old }
     requires room { steps_in counts.old < 2 ^ 32 }
     requires told { Tells exit (H.machine machine.old).memory s.old g.old }
-    ensures { IsMet T.may result port.old port.new (H.machine machine.old) s.old g.old counts.old (H.machine machine.new) s.new g.new counts.new }
+    requires reaches { Reaches exit (H.machine machine.old).memory s.old g.old }
+    ensures met { IsMet T.may result port.old port.new (H.machine machine.old) s.old g.old counts.old (H.machine machine.new) s.new g.new counts.new }
+    ensures pays { PaysFor result (missed_by exit) (H.machine machine.old) s.old g.old (H.machine machine.new) s.new }
 {
     match exit {
         Exit::NotValid { va, write } => meet_missing(
@@ -121,7 +129,8 @@ fn run_alone<H: Hardware, T: Port>(
 ) -> bool
     requires stands { StandsFor (H.machine machine.old).memory s.old g.old }
     requires room { steps_in counts.old < 2 ^ 32 }
-    ensures { IsDone T.may result port.old port.new (H.machine machine.old) s.old g.old counts.old (H.machine machine.new) s.new g.new counts.new }
+    ensures is { IsDone T.may result port.old port.new (H.machine machine.old) s.old g.old counts.old (H.machine machine.new) s.new g.new counts.new }
+    ensures pays { PaysFor result 0 (H.machine machine.old) s.old g.old (H.machine machine.new) s.new }
 {
     let ran = run_guarded(machine, s, g);
     match ran.exit {
@@ -150,7 +159,9 @@ pub fn meet<H: Hardware, T: Port>(
     requires stands { StandsFor (H.machine machine.old).memory s.old g.old }
     requires room { steps_in counts.old < 2 ^ 32 }
     requires meets { Meets exit (H.machine machine.old).memory s.old g.old }
-    ensures { IsDone T.may result port.old port.new (H.machine machine.old) s.old g.old counts.old (H.machine machine.new) s.new g.new counts.new }
+    requires reaches { Reaches exit (H.machine machine.old).memory s.old g.old }
+    ensures is { IsDone T.may result port.old port.new (H.machine machine.old) s.old g.old counts.old (H.machine machine.new) s.new g.new counts.new }
+    ensures pays { PaysFor result (missed_by exit) (H.machine machine.old) s.old g.old (H.machine machine.new) s.new }
 {
     if let Exit::Modify { va } = exit {
         if !is_clear(machine, g, va) {

@@ -1,7 +1,8 @@
-ghost use Rattle.std.specs.Prelude.{◌≡◌, ◌+◌, ◌<◌, ◌^◌};
+ghost use Rattle.std.specs.Prelude.{◌≡◌, ◌+◌, ◌<◌, ◌^◌, ℕ};
 ghost use Rattle.vm_shadow.specs.StandsFor.{StandsFor};
 ghost use Rattle.vm_simulation.specs.Laws.{IsMissed};
 ghost use Rattle.vm_stepping.specs.Made.{IsMet, steps_in};
+ghost use Rattle.vm_stepping.specs.Pays.{PaysFor, WereMissed};
 
 use crate::Counts;
 use crate::made::{fault, stop_past_memory};
@@ -26,7 +27,8 @@ pub fn meet_missing<H: Hardware, T: Port>(
     requires stands { StandsFor (H.machine machine.old).memory s.old g.old }
     requires room { steps_in counts.old < 2 ^ 32 }
     requires missed { IsMissed i va (H.machine machine.old).memory s.old g.old }
-    ensures { IsMet T.may result port.old port.new (H.machine machine.old) s.old g.old counts.old (H.machine machine.new) s.new g.new counts.new }
+    ensures met { IsMet T.may result port.old port.new (H.machine machine.old) s.old g.old counts.old (H.machine machine.new) s.new g.new counts.new }
+    ensures pays { (missed : ℕ) → WereMissed missed i va (H.machine machine.old).memory s.old g.old → PaysFor result missed (H.machine machine.old) s.old g.old (H.machine machine.new) s.new }
 {
     match walk(machine, g, va, g.psl.current(), i) {
         Walk::Frame { .. } => {

@@ -1,7 +1,10 @@
 ghost use Rattle.std.specs.Prelude.{◌≡◌, ◌+◌, ◌<◌, ◌^◌, length};
 ghost use Rattle.vm_shadow.specs.StandsFor.{StandsFor};
 ghost use Rattle.vm_simulation.specs.Laws.{IsTrapped};
+ghost use Rattle.vm_state.specs.Partition.{guest_of};
 ghost use Rattle.vm_stepping.specs.Made.{IsMet, steps_in};
+ghost use Rattle.vm_stepping.specs.Pays.{PaysFor};
+ghost use Rattle.vm_touches.specs.Touched.{AreFilled, touches_now};
 
 use crate::Counts;
 use crate::made::{PAST_MEMORY, fault};
@@ -35,7 +38,9 @@ pub fn sense<H: Hardware, T: Port>(
     requires stands { StandsFor (H.machine machine.old).memory s.old g.old }
     requires room { steps_in counts.old < 2 ^ 32 }
     requires trapped { IsTrapped t.now (H.machine machine.old).memory s.old g.old }
-    ensures { IsMet T.may result port.old port.new (H.machine machine.old) s.old g.old counts.old (H.machine machine.new) s.new g.new counts.new }
+    requires filled { AreFilled s.old (touches_now (guest_of (H.machine machine.old).memory g.old)).found }
+    ensures met { IsMet T.may result port.old port.new (H.machine machine.old) s.old g.old counts.old (H.machine machine.new) s.new g.new counts.new }
+    ensures pays { PaysFor result 0 (H.machine machine.old) s.old g.old (H.machine machine.new) s.new }
 {
     have_registers(&g.r, t);
     match emulate(machine, s, g, port, t) {

@@ -1,10 +1,14 @@
 ghost use Rattle.std.specs.Prelude.{◌≡◌, ◌+◌, ◌<◌, ◌≤◌, ◌^◌, IsTrue, false, true, None};
 ghost use Rattle.vm_clock.specs.Ticks.{ticks_to_wrap};
+ghost use Rattle.vm_fitting.specs.Paid.{Pays};
 ghost use Rattle.vm_shadow.specs.StandsFor.{StandsFor};
 ghost use Rattle.vm_simulation.specs.Bursts.{IsQuiet};
+ghost use Rattle.vm_state.specs.Partition.{guest_of};
 ghost use Rattle.vm_state.specs.State.{state_of};
+ghost use Rattle.vm_state.specs.Touches.{touching_steps};
 ghost use Rattle.vm_stepping.specs.Advances.{Advances, IsBegun, Proceeds, to_do};
 ghost use Rattle.vm_stepping.specs.Made.{steps_in};
+ghost use Rattle.vm_stepping.specs.Pays.{PaysOn};
 
 use crate::Counts;
 use crate::made::{count_step, take_interrupt};
@@ -62,6 +66,7 @@ fn run_on<H: Hardware, T: Port>(
     requires quiet { IsQuiet 1 (state_of g.old) }
     requires room { steps_in counts.old + left < 2 ^ 32 }
     ensures proceeds { Proceeds T.may (record { steps = left; counted = true }) result port.old port.new (H.machine machine.old) s.old g.old counts.old (H.machine machine.new) s.new g.new counts.new }
+    ensures pays { PaysOn (record { steps = left; counted = true }) result (H.machine machine.old) s.old g.old (H.machine machine.new) s.new g.new }
     ensures falls { to_do result s.new < to_do (record { steps = left; counted = true }) s.old }
 {
     let ran = burst(machine, s, g, budget(g, left));
@@ -100,6 +105,7 @@ fn begin_step<H: Hardware, T: Port>(
     requires some { 1 ≤ left }
     requires room { steps_in counts.old + left < 2 ^ 32 }
     ensures proceeds { Proceeds T.may (record { steps = left; counted = false }) result port.old port.new (H.machine machine.old) s.old g.old counts.old (H.machine machine.new) s.new g.new counts.new }
+    ensures pays { PaysOn (record { steps = left; counted = false }) result (H.machine machine.old) s.old g.old (H.machine machine.new) s.new g.new }
     ensures falls { to_do result s.new < to_do (record { steps = left; counted = false }) s.old }
 {
     if g.halt.is_some() {
@@ -135,6 +141,7 @@ fn proceed<H: Hardware, T: Port>(
     requires begun { IsBegun left g.old }
     requires room { steps_in counts.old + left.steps < 2 ^ 32 }
     ensures proceeds { Proceeds T.may left result port.old port.new (H.machine machine.old) s.old g.old counts.old (H.machine machine.new) s.new g.new counts.new }
+    ensures pays { PaysOn left result (H.machine machine.old) s.old g.old (H.machine machine.new) s.new g.new }
     ensures falls { to_do result s.new < to_do left s.old }
 {
     if left.counted {
@@ -154,7 +161,8 @@ pub fn advance<H: Hardware, T: Port>(
     steps: u32,
 ) -> Counts
     requires stands { StandsFor (H.machine machine.old).memory s.old g.old }
-    ensures { Advances T.may steps port.old port.new (H.machine machine.old) s.old g.old (H.machine machine.new) s.new g.new result }
+    ensures advances { Advances T.may steps port.old port.new (H.machine machine.old) s.old g.old (H.machine machine.new) s.new g.new result }
+    ensures pays { Pays (touching_steps steps (guest_of (H.machine machine.old).memory g.old)) (H.machine machine.old) s.old (H.machine machine.new) s.new }
 {
     let mut counts = Counts::none();
     let mut left = Left::of(steps);

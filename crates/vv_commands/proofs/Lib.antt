@@ -1,2 +1,3 @@
 pub mod Separate
 pub mod Stopping
+pub mod Workloads

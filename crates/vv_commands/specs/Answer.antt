@@ -18,16 +18,18 @@ use Rattle.sys_objects.specs.declared.records.Config.{Config}
 use Rattle.sys_purge.specs.Input.{purged}
 use Rattle.sys_rounds.specs.Bytes.{devices_of, drive_blocks, line_bytes}
 use Rattle.sys_rounds.specs.Run.{Input}
+use Rattle.sys_runs.specs.Given.{MakesWith}
 use Rattle.sys_runs.specs.Ran.{Outside as RunOutside, Runs, Untouched}
 use Rattle.sys_runs.specs.declared.running.Ran.{Ran}
 use Rattle.sys_script.specs.declared.event.Event.{Event}
 use Rattle.sys_system.specs.declared.parts.Device.{Device}
 use Rattle.sys_system.specs.declared.power.PowerFault.{PowerFault}
 use Rattle.sys_system.specs.declared.power.PowerFault.TheVariants as faults
+use Rattle.vv_gen.specs.Workload.{Generated, workload_of}
 use Rattle.vv_commands.specs.Files.{HasAll, HasConfig, IsRead, StopsConfig, StopsFile, StopsRun}
 use Rattle.vv_commands.specs.Solo.{solo_config}
 use Rattle.vv_commands.specs.Summary.{check_line, summary}
-use Rattle.vv_commands.specs.Words.{Asked, RunAsked, Wanted, WantsSolo, WantsRun, WantsCheck, WantsMigration, WantsBytes, WantsText}
+use Rattle.vv_commands.specs.Words.{Asked, RunAsked, Wanted, WantsSolo, WantsRun, WantsLoad, WantsCheck, WantsMigration, WantsBytes, WantsText}
 use Rattle.vv_commands.specs.declared.status.Status.{Status}
 use Rattle.vv_commands.specs.declared.status.Status.TheVariants.{Done, Words, Missing, TooLong, ShelfFault, Config as ConfigRefused, Script as ScriptRefused, Image, VolumeSize, DriveIn, Device as DeviceFault, Asm, OutFault, NoMemory}
 use Rattle.vv_commands.specs.declared.stop.Stop.{Stop}
@@ -153,6 +155,20 @@ pub record ShowsConfig (Bytes : Config → List ℕ → Type 0) (name : List ℕ
 abbrev pub FollowsConfig : (Config → List ℕ → Type 0) → List ℕ → Status → ShelfAndSink → Type 0
 FollowsConfig Bytes name status o = (Stops (StopsConfig o.files name o.shelf o.shelf') status × (o.out' ≡ o.out)) ⊎ ShowsConfig Bytes name status o
 
+-- the run of a workload, over its own volumes
+abbrev pub input_of : Generated → Input
+input_of w = record { config = w.config; images = w.images; volumes = w.volumes; events = w.events; rounds = w.rounds }
+
+-- `load`: the run of a workload was made, no drive was touched, and its summary is put
+pub record PlaysLoad (w : Generated) (status : Status) (o : RunOutside) (out out' : Seen) : Type 0 where
+  pub ran : Ran
+  pub made : MakesWith (input_of w) ran o
+  pub closes : Closes ran.failed (summary w.rounds (tally_of ran.counts)) status out out'
+
+-- it is the workload of the number; or memory ran out before the first round
+abbrev pub FollowsLoad : ℕ → Status → RunOutside → Seen → Seen → Type 0
+FollowsLoad number status o out out' = ((status ≡ NoMemory) × Untouched o × (out' ≡ out)) ⊎ PlaysLoad (workload_of number) status o out out'
+
 -- the counts of a configuration
 abbrev pub AreCounts : Config → List ℕ → Type 0
 AreCounts c bytes = bytes ≡ check_line c
@@ -181,6 +197,7 @@ abbrev pub Says : Option Wanted → Status → Outside → Type 0
 Says None status o = (status ≡ Words) × Apart o × (o.out' ≡ o.out)
 Says (Some (WantsSolo a)) status o = FollowsSolo a status o
 Says (Some (WantsRun a)) status o = FollowsRun a status o
+Says (Some (WantsLoad number)) status o = FollowsLoad number status (run_of o) o.out o.out' × (o.shelf' ≡ o.shelf)
 Says (Some (WantsCheck name)) status o = FollowsConfig AreCounts name status (shelf_and_sink o) × Apart o
 Says (Some (WantsMigration name)) status o = FollowsConfig IsMigrated name status (shelf_and_sink o) × Apart o
 Says (Some (WantsBytes source)) status o = ShowsFile asm_of source status o

@@ -5,7 +5,7 @@ use Rattle.std.specs.Option.{option_map}
 use Rattle.vv_base.specs.Digits.{decimal_of}
 use Rattle.vv_base.specs.Names.{is_file_name}
 use Rattle.vv_commands.specs.declared.words.Request.{Request}
-use Rattle.vv_commands.specs.declared.words.Request.TheVariants.{Solo, Run, Check, Migrate, Asm, Dis}
+use Rattle.vv_commands.specs.declared.words.Request.TheVariants.{Solo, Run, Load, Check, Migrate, Asm, Dis}
 
 -- `solo IMAGE STEPS`
 pub record Asked : Type 0 where
@@ -22,6 +22,7 @@ pub record RunAsked : Type 0 where
 pub data Wanted : Type 0 where
   WantsSolo : Asked → Wanted
   WantsRun : RunAsked → Wanted
+  WantsLoad : ℕ → Wanted
   WantsCheck : List ℕ → Wanted
   WantsMigration : List ℕ → Wanted
   WantsBytes : List ℕ → Wanted
@@ -49,6 +50,10 @@ file_wanted command file =
     else if is_word command (codes "dis") then Some (WantsText file) else None)
     else None
 
+-- `load` and a number, or a command with a file's name
+abbrev pub word_wanted : List ℕ → List ℕ → Option Wanted
+word_wanted command word = if is_word command (codes "load") then option_map (λ n. WantsLoad n) (decimal_of word 4294967295) else file_wanted command word
+
 -- `solo`, a file's name, and a number to 100,000
 abbrev pub solo_asked : List ℕ → List ℕ → List ℕ → Option Asked
 solo_asked command image steps =
@@ -61,7 +66,7 @@ run_asked command config script rounds =
 
 -- what the words ask for, if they are of a form
 abbrev pub wanted : List (List ℕ) → Option Wanted
-wanted (command ∷ file ∷ []) = file_wanted command file
+wanted (command ∷ word ∷ []) = word_wanted command word
 wanted (command ∷ image ∷ steps ∷ []) = option_map (λ a. WantsSolo a) (solo_asked command image steps)
 wanted (command ∷ config ∷ script ∷ rounds ∷ []) = option_map (λ a. WantsRun a) (run_asked command config script rounds)
 wanted words = None
@@ -70,6 +75,7 @@ wanted words = None
 abbrev pub wanted_by : Request → Wanted
 wanted_by (Solo order) = WantsSolo (record { image = order.image; steps = order.steps })
 wanted_by (Run order) = WantsRun (record { config = order.config; script = order.script; rounds = order.rounds })
+wanted_by (Load number) = WantsLoad number
 wanted_by (Check file) = WantsCheck file
 wanted_by (Migrate file) = WantsMigration file
 wanted_by (Asm source) = WantsBytes source

@@ -3,6 +3,7 @@
 #![tactic(auto)]
 
 mod fetching;
+mod loading;
 mod playing;
 mod report;
 mod solo;

@@ -1,16 +1,17 @@
-ghost use Rattle.std.specs.Prelude.{◌≡◌, ◌≤◌, ◌*◌, List, ℕ, length, map, vec_len, is_err};
+ghost use Rattle.std.specs.Prelude.{◌≡◌, ◌≤◌, ◌*◌, List, ℕ, length, map, vec_len, is_err, IfOk};
+ghost use Rattle.vm_stepping.specs.Made.{steps_in};
 ghost use Rattle.sys_lines.specs.Showing.{Showing};
 ghost use Rattle.sys_objects.specs.Condition.{IsConfig};
 ghost use Rattle.sys_script.specs.Events.{AreEvents};
-ghost use Rattle.vv_commands.specs.Answer.{Closes, Plays, done_status};
+ghost use Rattle.vv_commands.specs.Answer.{Answers, Closes, Plays, done_status};
 
 use crate::fetching::Inputs;
 use crate::report::summary;
 use crate::status::Status;
 use crate::stop::power_status;
 use std::alloc::Global;
-use sys_runs::run;
-use sys_system::Device;
+use sys_runs::{Ran, run};
+use sys_system::{Device, PowerFault};
 use vax_hw::Hardware;
 use vv_io::{Drive, Line, Sink, SinkFault};
 
@@ -38,6 +39,17 @@ pub fn close<O: Sink>(failed: Option<Device>, bytes: &[u8], out: &mut O) -> Stat
 {
     let is_cut = put_once(out, bytes).is_err();
     done_status(failed, is_cut)
+}
+
+/// Puts the summary of a run, if it was made, and answers.
+pub fn answer<O: Sink>(rounds: u32, ran: Result<Ran, PowerFault>, out: &mut O) -> Status
+    requires { IfOk ran (λ r. steps_in r.counts ≤ 1600000000000) }
+    ensures { Answers rounds ran result (O.printed out.old) (O.printed out.new) }
+{
+    match ran {
+        Ok(ran) => close(ran.failed, summary(rounds, &ran.counts).bytes(), out),
+        Err(fault) => power_status(fault),
+    }
 }
 
 /// Makes a run, puts its summary, and answers.
@@ -69,8 +81,5 @@ pub fn play<H: Hardware, O: Sink>(
         lines,
         drives,
     );
-    match ran {
-        Ok(ran) => close(ran.failed, summary(rounds, &ran.counts).bytes(), out),
-        Err(fault) => power_status(fault),
-    }
+    answer(rounds, ran, out)
 }

@@ -5,6 +5,7 @@ ghost use Rattle.vv_commands.specs.Fetches.{FetchesSolo};
 ghost use Rattle.vv_commands.specs.Words.{wanted};
 
 use crate::fetching::{Inputs, fetch_config, fetch_file, fetch_run};
+use crate::loading::load;
 use crate::playing::{close, play};
 use crate::report::check_line;
 use crate::solo::solo_config;
@@ -139,6 +140,7 @@ pub fn vvmm_run<H: Hardware, S: Shelf, O: Sink>(
         None => Status::Words,
         Some(Request::Solo(order)) => solo(alloc, order, shelf, machine, lines, drives, out),
         Some(Request::Run(order)) => run(alloc, order, shelf, machine, lines, drives, out),
+        Some(Request::Load(number)) => load(alloc, number, machine, lines, out),
         Some(Request::Check(name)) => check(alloc, &name, shelf, out),
         Some(Request::Migrate(name)) => migrate(alloc, &name, shelf, out),
         Some(Request::Asm(source)) => {

@@ -1,7 +1,7 @@
 ghost use Rattle.std.specs.Prelude.{◌≡◌, ◌≤◌, ℕ, map, string_bytes, true, IfSome};
 ghost use Rattle.std.specs.Option.{option_map};
 ghost use Rattle.vv_base.specs.Names.{is_file_name};
-ghost use Rattle.vv_commands.specs.Words.{IsInRange, file_wanted, number_in, run_asked, solo_asked, wanted, wanted_by};
+ghost use Rattle.vv_commands.specs.Words.{IsInRange, file_wanted, number_in, run_asked, solo_asked, wanted, wanted_by, word_wanted};
 
 use vv_base::{FileName, file_name, read_decimal};
 
@@ -27,6 +27,8 @@ pub enum Request {
     Solo(Order),
     /// A configuration's run.
     Run(RunOrder),
+    /// The run of the workload drawn from a number.
+    Load(u32),
     /// A configuration, counted.
     Check(FileName),
     /// A configuration, written anew.
@@ -98,13 +100,25 @@ fn file_request(command: &[u8], file: &[u8]) -> Option<Request>
     }
 }
 
+/// What a command with one word behind it asks for, if the words are of a form.
+fn word_request(command: &[u8], word: &[u8]) -> Option<Request>
+    ensures range { IfSome result (λ r. IsInRange r) }
+    ensures wanted { option_map (λ r. wanted_by r) result ≡ word_wanted command.now word.now }
+{
+    if command == b"load".as_slice() {
+        let number = read_decimal(word, 4_294_967_295)?;
+        return Some(Request::Load(number as u32));
+    }
+    file_request(command, word)
+}
+
 /// What the words ask for, if they are of a form.
 pub fn parse(words: &[String]) -> Option<Request>
     ensures range { IfSome result (λ r. IsInRange r) }
     ensures wanted { option_map (λ r. wanted_by r) result ≡ wanted (map (λ w. string_bytes w) words.now) }
 {
     match words {
-        [command, file] => file_request(command.as_bytes(), file.as_bytes()),
+        [command, word] => word_request(command.as_bytes(), word.as_bytes()),
         [command, image, steps] => {
             let order = solo_order(command.as_bytes(), image.as_bytes(), steps.as_bytes())?;
             Some(Request::Solo(order))

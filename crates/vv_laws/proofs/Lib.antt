@@ -3,6 +3,7 @@ pub mod Nexts
 pub mod Marked
 pub mod Played
 pub mod Solos
+pub mod Loads
 pub mod Chosen
 pub mod Shown
 pub mod Steps

@@ -1,5 +1,5 @@
 -- A run that was to be made, by its counts of faults.
-use Rattle.std.proofs.Common.{ℕ, ◌≡◌, ◌<◌, ◌==◌, List, length, Bool, true, false, All, Option, Some, None, Result, Ok, Err, refl, subst, sym, ap, ◌∙◌, arith}
+use Rattle.std.proofs.Common.{ℕ, ◌≡◌, ◌<◌, ◌==◌, List, [], length, Bool, true, false, All, Option, Some, None, Result, Ok, Err, refl, subst, sym, ap, ◌∙◌, arith}
 use Rattle.std.proofs.lemmas.Bool.{eqb-false, eqb-true}
 use Rattle.std.proofs.lemmas.List.{get_or-set_other, get_or-set_same}
 use Rattle.vv_io.specs.Blocks.{Kept, unkept}
@@ -10,6 +10,7 @@ use Rattle.sys_drives.specs.Loads.{HasFailed, OnlyRose}
 use Rattle.sys_drives.specs.Rows.{FitsDrive, drive_at}
 use Rattle.sys_guests.specs.Loads.{first_misfit}
 use Rattle.sys_lines.specs.Showing.{Showing}
+use Rattle.sys_lines.specs.Shows.{Shows}
 use Rattle.sys_objects.specs.Condition.{IsConfig, IsVolume}
 use Rattle.sys_objects.specs.declared.records.Config.{Config}
 use Rattle.sys_rounds.proofs.Places.{both}
@@ -35,7 +36,7 @@ closes_served failed bytes status out out' none c kept = subst (λ (s : Status).
     by None true e shows = absurd (kept shows.0)
     by None false e shows = tt
 
-no_device : (line drive : Option ℕ) → ((k : ℕ) → line ≡ Some k → ⊥) → ((d : ℕ) → drive ≡ Some d → ⊥) → device_of line drive ≡ None
+pub no_device : (line drive : Option ℕ) → ((k : ℕ) → line ≡ Some k → ⊥) → ((d : ℕ) → drive ≡ Some d → ⊥) → device_of line drive ≡ None
 no_device None None lines drives = refl
 no_device None (Some d) lines drives = absurd (drives d refl)
 no_device (Some k) drive lines drives = absurd (lines k refl)
@@ -63,6 +64,12 @@ drive_in_rose c drives drives' d accepted fit failed =
     let now : (drive_at drives' d).faults ≡ only.faults = ap (λ (ks : List Kept). (drive_at ks d).faults) only.is ∙ ap (λ (k : Kept). k.faults) (get_or-set_same drives d (record (drive_at drives d) { faults = only.faults }) unkept within) in
     subst (λ n. Rose (drive_at drives d).faults n) (sym now) only.rose
 
+-- a line whose count is greater is named, or one of a lower number
+pub named_line : (marks : List Bool) (lines lines' : List Seen) (f : ℕ → List ℕ) (k : ℕ) → Shows [] marks lines lines' f → (line_at lines k).faults < (line_at lines' k).faults
+    → (line drive : Option ℕ) (cut : Bool) → first_marked marks ≡ line → NamesLine k (done_status (device_of line drive) cut)
+named_line marks lines lines' f k shows h (Some line) drive cut e = no_line_lower marks lines lines' f line k e shows h
+named_line marks lines lines' f k shows h None drive cut e = absurd (no_line_greater marks lines lines' f k e shows h)
+
 module _ (c : Config) (images : List (List ℕ)) (es : List Event) (rounds : ℕ) (status : Status) (o : Outside) (out out' : Seen) (p : Plays c images es rounds status o out out') where
   -- images and drives that fit, and no risen count, are served
   pub plays_served : first_misfit c.guests images ≡ None → All (FitsDrive o.drives) c.volumes → ((d : ℕ) → HasFailed c.volumes o.drives o.drives' d → ⊥) → NoLineRose o → NoDriveRose o → (Rose out.faults out'.faults → ⊥) → IsServed status
@@ -82,18 +89,13 @@ module _ (c : Config) (images : List (List ℕ)) (es : List Event) (rounds : ℕ
   unshown (DriveIn d) (none, failed, shown) = shown
   unshown NoMemory untouched = untouched.shown
 
-  -- a line whose count is greater is named, or one of a lower number
   pub plays_names_line : (k : ℕ) → (line_at o.lines k).faults < (line_at o.lines' k).faults → NamesLine k status
   plays_names_line k h = by p.result p.runs p.answers
     where
-      named : (x : Input) (ran : Ran) (made : Makes x ran o) (line drive : Option ℕ) (cut : Bool) → first_marked made.marks ≡ line → NamesLine k (done_status (device_of line drive) cut)
-      named x ran made (Some line) drive cut e = no_line_lower made.marks o.lines o.lines' _ line k e made.lines h
-      named x ran made None drive cut e = absurd (no_line_greater made.marks o.lines o.lines' _ k e made.lines h)
-
       by : (result : Result Ran PowerFault) → Runs c images es rounds result o → Answers rounds result status out out' → NamesLine k status
       by (Ok ran) (volumes, made) closes =
           let is : status ≡ done_status (device_of (first_marked made.marks) (first_marked made.drive_marks)) closes.cut = closes.is ∙ ap (λ (f : Option Device). done_status f closes.cut) made.failed in
-          subst (λ (s : Status). NamesLine k s) (sym is) (named _ ran made (first_marked made.marks) (first_marked made.drive_marks) closes.cut refl)
+          subst (λ (s : Status). NamesLine k s) (sym is) (named_line made.marks o.lines o.lines' _ k made.lines h (first_marked made.marks) (first_marked made.drive_marks) closes.cut refl)
       by (Err fault) runs answers = absurd (omega (arith, h, ap (λ (ls : List Seen). (line_at ls k).faults) (unshown fault runs).lines))
 
   -- a drive whose count is greater is named, or a line, or a drive of a lower number

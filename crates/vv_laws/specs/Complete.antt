@@ -11,12 +11,12 @@ use Rattle.sys_objects.specs.declared.records.Config.{Config}
 use Rattle.sys_script.specs.declared.event.Event.{Event}
 use Rattle.sys_script.specs.declared.event.ScriptFault.{ScriptFault}
 use Rattle.sys_system.specs.declared.parts.Device.TheVariants as devices
-use Rattle.vv_commands.specs.Answer.{FollowsConfig, FollowsRun, FollowsSolo, Outside, ShowsFile, shelf_and_sink}
+use Rattle.vv_commands.specs.Answer.{FollowsConfig, FollowsLoad, FollowsRun, FollowsSolo, Outside, ShowsFile, run_of, shelf_and_sink}
 use Rattle.vv_commands.specs.Files.{HasAll, HasConfig, IsConfigRefused, IsNext, IsRead, IsScriptRefused}
 use Rattle.vv_commands.specs.Solo.{load_address, memory_size}
 use Rattle.vv_commands.specs.Words.{Asked, RunAsked}
 use Rattle.vv_commands.specs.declared.status.Status.{Status}
-use Rattle.vv_commands.specs.declared.status.Status.TheVariants.{Done, Missing, TooLong, Config as ConfigRefused, Script as ScriptRefused, DriveIn, Device as DeviceFault, Asm, NoMemory}
+use Rattle.vv_commands.specs.declared.status.Status.TheVariants.{Done, Missing, TooLong, Config as ConfigRefused, Script as ScriptRefused, DriveIn, Device as DeviceFault, Asm, OutFault, NoMemory}
 
 abbrev pub line_at : List Seen → ℕ → Seen
 line_at lines k = slice_index_or lines k unseen
@@ -117,6 +117,26 @@ TellsRunLineFault = (a : RunAsked) (status : Status) (o : Outside) (k : ℕ) →
 
 abbrev pub TellsRunDriveFault : Type 0
 TellsRunDriveFault = (a : RunAsked) (status : Status) (o : Outside) (d : ℕ) → FollowsRun a status o → (drive_at o.drives d).faults < (drive_at o.drives' d).faults → NamesDrive d status
+
+-- `load`: no risen count is served
+abbrev pub CompletesLoad : Type 0
+CompletesLoad = (number : ℕ) (status : Status) (o : Outside) → FollowsLoad number status (run_of o) o.out o.out' → NoneRose o → IsServed status
+
+-- all was done, or a line or the sink failed, or memory ran out
+abbrev pub CanCome : Status → Type 0
+CanCome Done = Unit {0}
+CanCome (DeviceFault (devices.Line line)) = Unit {0}
+CanCome OutFault = Unit {0}
+CanCome NoMemory = Unit {0}
+CanCome status = ⊥
+
+-- no other answer comes
+abbrev pub LimitsLoad : Type 0
+LimitsLoad = (number : ℕ) (status : Status) (o : Outside) → FollowsLoad number status (run_of o) o.out o.out' → CanCome status
+
+-- where a line's count is greater, it is named or one of a lower number
+abbrev pub TellsLoadLineFault : Type 0
+TellsLoadLineFault = (number : ℕ) (status : Status) (o : Outside) (k : ℕ) → FollowsLoad number status (run_of o) o.out o.out' → (line_at o.lines k).faults < (line_at o.lines' k).faults → NamesLine k status
 
 -- `check` and `migrate`, which put bytes that stand so to a configuration: likewise
 abbrev pub CompletesConfig : (Config → List ℕ → Type 0) → Type 0

@@ -1,6 +1,6 @@
 ghost use Rattle.vv_commands.specs.Answer.{AreCounts, IsMigrated};
 ghost use Rattle.vv_laws.specs.Alone.{RunsAlone};
-ghost use Rattle.vv_laws.specs.Complete.{CompletesConfig, CompletesFile, CompletesRun, CompletesSolo, TellsConfigMissing, TellsConfigRule, TellsConfigTooLong, TellsFileMissing, TellsFileRefused, TellsFileTooLong, TellsRunDriveFault, TellsRunLine, TellsRunLineFault, TellsRunMissing, TellsRunRule, TellsRunTooLong, TellsSoloDevice, TellsSoloMissing, TellsSoloTooLong};
+ghost use Rattle.vv_laws.specs.Complete.{CompletesConfig, CompletesFile, CompletesLoad, CompletesRun, CompletesSolo, LimitsLoad, TellsConfigMissing, TellsConfigRule, TellsConfigTooLong, TellsFileMissing, TellsFileRefused, TellsFileTooLong, TellsLoadLineFault, TellsRunDriveFault, TellsRunLine, TellsRunLineFault, TellsRunMissing, TellsRunRule, TellsRunTooLong, TellsSoloDevice, TellsSoloMissing, TellsSoloTooLong};
 
 /// The lines' bytes of `solo` are those of the guest that steps alone on its private virtual VAX.
 pub fn a_guest_runs_alone()
@@ -61,6 +61,21 @@ pub fn a_run_names_a_failed_line()
 /// Where a drive's count is greater behind `run`, the answer names a line, or it or a drive of a lower number.
 pub fn a_run_names_a_failed_drive()
     ensures { TellsRunDriveFault }
+{}
+
+/// No risen count gives `Done` of `load`, or `NoMemory` before anything is shown.
+pub fn load_is_complete()
+    ensures { CompletesLoad }
+{}
+
+/// `load` is answered by `Done`, by a line or an output that failed, or by `NoMemory`, and by nothing else.
+pub fn load_has_few_answers()
+    ensures { LimitsLoad }
+{}
+
+/// Where a line's count is greater behind `load`, the answer names it or one of a lower number.
+pub fn a_load_names_a_failed_line()
+    ensures { TellsLoadLineFault }
 {}
 
 /// A held configuration that is accepted, and no risen count, give `Done` of `check` and `migrate`, or `NoMemory`.

@@ -20,6 +20,8 @@ const HELP: &str =
 vvmm run CONFIG SCRIPT ROUNDS  runs the guests of the configuration CONFIG for ROUNDS rounds, 1 to
                                1000000, with what the file SCRIPT types at terminals; line k is the
                                file linekk.out, drive k the file drivekk.vol
+vvmm load NUMBER               runs the workload that is drawn from NUMBER, 0 to 4294967295: eight guests
+                               in 20 rounds, on volumes of its own
 vvmm check CONFIG              reads a configuration, and shows how many objects it has
 vvmm migrate CONFIG            shows a configuration in version 2
 vvmm asm SOURCE                assembles the file SOURCE, and shows the image's bytes

@@ -1,4 +1,4 @@
-//! The names of the files that stand for lines and drives.
+//! The names of the files that stand for lines and drives, and the help.
 
 use super::*;
 use std::alloc::Global;
@@ -65,6 +65,29 @@ fn lines_and_drives_are_files_of_these_names(rt: HostRuntime) -> Result<(), Fail
         assert_eq!(rt; bytes.len(), 512 * (drive as usize + 1));
         assert!(rt; bytes.iter().all(|byte| *byte == drive));
         fs::remove_file(&rt, path.as_str())?;
+    }
+    Ok(())
+}
+
+/// The words that follow `vvmm` in each form.
+const FORMS: [&str; 9] = [
+    "solo IMAGE STEPS",
+    "run CONFIG SCRIPT ROUNDS",
+    "load NUMBER",
+    "check CONFIG",
+    "migrate CONFIG",
+    "asm SOURCE",
+    "dis IMAGE",
+    "--help",
+    "--version",
+];
+
+#[test]
+fn the_help_tells_each_form(rt: HostRuntime) -> Result<(), Fail> {
+    let alloc = rt.alloc();
+    for form in FORMS {
+        let words = format!(in alloc; "vvmm {form} ")?;
+        assert!(rt; HELP.contains(words.as_str()), "{form}");
     }
     Ok(())
 }

@@ -4,6 +4,7 @@ use Rattle.sys_events.proofs.Seats.{verdict_names}
 use Rattle.sys_events.specs.Seats.{VerdictNames}
 use Rattle.sys_objects.specs.declared.records.Config.{Config}
 use Rattle.sys_server.specs.declared.command.Verdict.{Verdict}
+use Rattle.sys_events.proofs.Touching.{judged_so}
 use Rattle.sys_events.proofs.commands.command.Goals as goal
 
 pub carry_out-taken-requires-clause-names : goal.carry_out-taken-requires-clause-names
@@ -25,3 +26,6 @@ put_audit-requires-clause-audit g c = (c.carry_out-taken.ensures.does []).holds.
 
 pub returns-clause-does : goal.returns-clause-does
 returns-clause-does g c = commands _ _ c.args.kernel.now _ _ _ _ _ _ _ c.args.round c.args.terminal c.args.text.now c.verdict-verdict.result c.carry_out-taken.result c.requires.holds c.requires.there c.verdict-verdict.ensures.value c.carry_out-taken.ensures.took c.carry_out-taken.ensures.does c.answer.ensures.shows c.put_audit.ensures.shows
+
+pub returns-clause-present : goal.returns-clause-present
+returns-clause-present g c = judged_so (g.H.Hardware.machine c.args.machine.now) c.args.kernel.now _ _ _ c.args.terminal c.args.text.now c.verdict-verdict.result c.verdict-verdict.ensures.value c.carry_out-taken.ensures.present

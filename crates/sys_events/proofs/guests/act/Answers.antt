@@ -2,6 +2,7 @@ use Rattle.std.proofs.Common.{◌<◌, ◌∙◌, length, arith, ap}
 use Rattle.sys_events.proofs.Happening.{as_many}
 use Rattle.sys_events.proofs.Obeying.{as_command, halts, names_known, shows_all, starts}
 use Rattle.sys_server.specs.declared.command.Command.TheVariants.{Start, Halt, Show}
+use Rattle.sys_events.proofs.Touching.{as_started, none_told}
 use Rattle.sys_events.proofs.guests.act.Goals as goal
 
 pub start_at-requires-clause-there : goal.start_at-requires-clause-there
@@ -42,3 +43,21 @@ returns-in-Show-clause-does g c =
     let m = g.H.Hardware.machine c.args.machine.now in
     as_command m _ k _ _ _ c.args.terminal c.args.command.now Show c.in-Show.is
     (shows_all m k c.show_objects.new.marks _ _ c.args.terminal c.deref.result.now c.requires.holds c.deref.ensures.value c.show_objects.ensures.shows)
+
+pub returns-in-Start-clause-present : goal.returns-in-Start-clause-present
+returns-in-Start-clause-present g c = as_started _ _ _ c.in-Start.is c.start_at.ensures.present
+
+pub returns-in-Halt-clause-present : goal.returns-in-Halt-clause-present
+returns-in-Halt-clause-present g c = as_started _ _ _ c.in-Halt.is c.halt.ensures.present
+
+pub returns-in-Show-clause-present : goal.returns-in-Show-clause-present
+returns-in-Show-clause-present g c = as_started _ _ _ c.in-Show.is (none_told c.args.kernel.now.guests.items)
+
+pub returns-in-Connect-clause-present : goal.returns-in-Connect-clause-present
+returns-in-Connect-clause-present g c = as_started _ _ _ c.in-Connect.is (none_told c.args.kernel.now.guests.items)
+
+pub returns-in-MountAt-clause-present : goal.returns-in-MountAt-clause-present
+returns-in-MountAt-clause-present g c = as_started _ _ _ c.in-MountAt.is (none_told c.args.kernel.now.guests.items)
+
+pub returns-in-Dismount-clause-present : goal.returns-in-Dismount-clause-present
+returns-in-Dismount-clause-present g c = as_started _ _ _ c.in-Dismount.is (none_told c.args.kernel.now.guests.items)

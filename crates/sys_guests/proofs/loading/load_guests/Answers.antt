@@ -1,8 +1,9 @@
 use Rattle.std.proofs.Common.{◌∙◌, ◌+◌, ◌*◌, ◌≡◌, ◌≤◌, ℕ, List, length, map, refl, sym, subst, arith}
 use Rattle.std.proofs.lemmas.List.{length-map}
-use Rattle.std.specs.List.{sum_by}
-use Rattle.sys_guests.proofs.Powering.{AreLoaded, alone_then, each_fits, map_at, one_loaded}
-use Rattle.sys_guests.specs.Loads.{LoadsOne}
+use Rattle.std.specs.List.{All, sum_by}
+use Rattle.sys_guests.proofs.Present.{first_present}
+use Rattle.sys_guests.proofs.Powering.{AreLoaded, all_more, alone_then, each_fits, map_at, one_loaded}
+use Rattle.sys_guests.specs.Loads.{HasFirst, LoadsOne}
 use Rattle.sys_guests.proofs.loading.load_guests.Goals as goal
 
 pub load_guest-requires-clause-fits : goal.load_guest-requires-clause-fits
@@ -30,5 +31,9 @@ loop-place-preserved g c =
     record {
       loaded = subst (λ xs. AreLoaded c.args.rows.now images all (k + 1) (c.loop-place.base + row.pages) (c.loop-place.tables + 580) xs after) (sym c.in_ok-push.ensures.items)
           (one_loaded c.args.rows.now images all k c.loop-place.base c.loop-place.tables c.loop-place.guests.items before after row image.items c.in_ok-load_guest.field-0 refl c.loop-place-test.true c.index-rows-place.is (omega (arith, c.requires.images, long)) read' one c.loop-place.invariant.loaded);
+      first = subst (λ xs. All HasFirst xs) (sym c.in_ok-push.ensures.items) (all_more HasFirst c.loop-place.guests.items c.in_ok-load_guest.field-0 c.loop-place.invariant.first c.in_ok-load_guest.ensures.present);
       alone = alone_then _ _ _ c.loop-place.invariant.alone c.load_guest.ensures.alone;
     }
+
+pub returns-clause-present : goal.returns-clause-present
+returns-clause-present g c = first_present c.loop-place.guests.items c.loop-place.invariant.first (g.H.Hardware.machine c.loop-place.machine).memory

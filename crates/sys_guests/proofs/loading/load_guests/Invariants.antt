@@ -1,7 +1,7 @@
 use Rattle.std.proofs.Common.{map}
-use Rattle.std.specs.List.{sum_by}
+use Rattle.std.specs.List.{All, sum_by}
 use Rattle.sys_guests.proofs.Powering.{AreLoaded}
-use Rattle.sys_guests.specs.Loads.{MemoryAlone}
+use Rattle.sys_guests.specs.Loads.{HasFirst, MemoryAlone}
 use Rattle.sys_guests.proofs.loading.load_guests.Given as goal
 
 abbrev pub invariant-loop-place : goal.invariant-loop-place
@@ -9,5 +9,6 @@ invariant-loop-place g l =
     let machine = g.H.Hardware.machine in
     record {
       loaded : AreLoaded l.rows (map (λ b. b.items) l.images) (sum_by (λ row. row.pages) l.rows) l.place l.base l.tables l.guests.items (machine l.machine).memory;
+      first : All HasFirst l.guests.items;
       alone : MemoryAlone (machine l.fn.machine) (machine l.machine);
     }

@@ -1,4 +1,5 @@
 use Rattle.std.proofs.Common.{arith}
+use Rattle.sys_guests.proofs.Present.{one_same}
 use Rattle.sys_guests.proofs.Turning.{said, stopped}
 use Rattle.sys_guests.proofs.turns.stop_at.Goals as goal
 
@@ -7,3 +8,6 @@ returns-clause-turns c = stopped c.args.guests.now.items c.args.place c.index_mu
 
 pub returns-clause-shown : goal.returns-clause-shown
 returns-clause-shown c = said c.args.guests.now.items c.args.place c.index_mut-guest.result.now _ _ (omega arith) c.index_mut-guest.ensures.value c.clear.ensures c.stop.ensures.shown
+
+pub returns-clause-present : goal.returns-clause-present
+returns-clause-present c = one_same c.args.guests.now.items c.args.place c.index_mut-guest.result.now _ (omega arith) c.index_mut-guest.ensures.value c.stop.ensures.turns.shadow

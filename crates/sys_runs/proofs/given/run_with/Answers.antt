@@ -1,7 +1,6 @@
 use Rattle.std.proofs.Common.{◌∙◌, ap}
 use Rattle.std.proofs.lemmas.Result.{err_from_is_err_and}
 use Rattle.sys_runs.proofs.GivenRuns.{not_run_with, run_made_with}
-use Rattle.sys_runs.proofs.Holds.{powered_holds}
 use Rattle.sys_runs.proofs.Whole.{as_long}
 use Rattle.sys_system.specs.System.{System}
 use Rattle.sys_runs.proofs.given.run_with.Goals as goal
@@ -18,9 +17,7 @@ pub make_rounds-requires-clause-first : goal.make_rounds-requires-clause-first
 make_rounds-requires-clause-first g c = ap (λ (s : System). s.rounds) c.in_ok-system.ensures.powers.powered.system
 
 pub make_rounds-requires-clause-holds : goal.make_rounds-requires-clause-holds
-make_rounds-requires-clause-holds g c =
-    let p = c.in_ok-system.ensures.powers in
-    powered_holds c.args.config _ _ _ _ c.requires.accepted p.sizes p.powered
+make_rounds-requires-clause-holds g c = c.in_ok-system.ensures.holds
 
 pub make_rounds-requires-clause-stands : goal.make_rounds-requires-clause-stands
 make_rounds-requires-clause-stands g c = c.in_ok-system.ensures.powers.powered.stands
@@ -31,4 +28,4 @@ show_dumps-requires-clause-stands g c = c.make_rounds.ensures.makes.goes.stands
 pub returns-clause-runs : goal.returns-clause-runs
 returns-clause-runs g c drives =
     let size = as_long _ c.show_dumps.new.lines c.args.lines.now (c.show_dumps.ensures.len ∙ c.make_rounds.ensures.len) in
-    run_made_with c.args.config _ _ c.args.events.now c.args.rounds _ _ _ _ _ _ _ _ _ drives _ c.in_ok-system.ensures.powers c.power_up_with.ensures.alone c.make_rounds.ensures.makes c.show_dumps.ensures.shows c.make_rounds.ensures.holds c.counts.ensures c.failed.ensures size
+    run_made_with c.args.config _ _ c.args.events.now c.args.rounds _ _ _ _ _ _ _ _ _ drives _ c.in_ok-system.ensures.powers c.power_up_with.ensures.alone c.make_rounds.ensures.makes c.show_dumps.ensures.shows c.in_ok-system.ensures.present c.make_rounds.ensures.holds c.counts.ensures c.failed.ensures size

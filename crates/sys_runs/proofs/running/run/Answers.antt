@@ -1,7 +1,6 @@
 use Rattle.std.proofs.Common.{◌∙◌, ap}
 use Rattle.std.proofs.lemmas.Result.{err_from_is_err_and}
 use Rattle.sys_runs.proofs.Faults.{not_run}
-use Rattle.sys_runs.proofs.Holds.{powered_holds}
 use Rattle.sys_runs.proofs.Whole.{as_long, fits_still, run_made}
 use Rattle.sys_system.specs.System.{System}
 use Rattle.sys_runs.proofs.running.run.Goals as goal
@@ -18,9 +17,7 @@ pub make_rounds-requires-clause-first : goal.make_rounds-requires-clause-first
 make_rounds-requires-clause-first g c = ap (λ (s : System). s.rounds) c.in_ok-system.ensures.powers.powered.system
 
 pub make_rounds-requires-clause-holds : goal.make_rounds-requires-clause-holds
-make_rounds-requires-clause-holds g c =
-    let p = c.in_ok-system.ensures.powers in
-    powered_holds c.args.config _ p.volumes _ _ c.requires.accepted p.loaded.0.sizes p.powered
+make_rounds-requires-clause-holds g c = c.in_ok-system.ensures.holds
 
 pub make_rounds-requires-clause-stands : goal.make_rounds-requires-clause-stands
 make_rounds-requires-clause-stands g c = c.in_ok-system.ensures.powers.powered.stands
@@ -36,4 +33,4 @@ returns-clause-runs g c =
     let p = c.in_ok-system.ensures.powers in
     let lines = as_long _ c.power_down.new.lines c.args.lines.now (c.power_down.ensures.lines_len ∙ c.make_rounds.ensures.len) in
     let drives = as_long _ c.power_down.new.drives c.args.drives.now (c.power_down.ensures.drives_len ∙ c.power_up.ensures.len) in
-    (p.volumes, run_made c.args.config _ c.args.events.now c.args.rounds _ _ _ _ _ _ _ _ _ _ _ _ c.requires.accepted p c.power_up.ensures.alone c.make_rounds.ensures.makes c.power_down.ensures.ends _ c.make_rounds.ensures.holds c.counts.ensures c.failed.ensures lines drives)
+    (p.volumes, run_made c.args.config _ c.args.events.now c.args.rounds _ _ _ _ _ _ _ _ _ _ _ _ c.requires.accepted p c.power_up.ensures.alone c.make_rounds.ensures.makes c.power_down.ensures.ends c.in_ok-system.ensures.present _ c.make_rounds.ensures.holds c.counts.ensures c.failed.ensures lines drives)

@@ -22,3 +22,6 @@ returns-clause-inside g c =
     let after : Parts = record s { kernel = c.happen.new.kernel; turns = c.begin.new.self; rounds = s.rounds + 1 } in
     let turns : turns_of c.begin.new.self ≡ all_turns s.kernel.config.guests = c.begin.ensures ∙ ap (λ (rows : List GuestRow). all_turns rows) c.as_slice.ensures in
     (begun c.args.events.now _ _ s after _ _ c.requires.inside c.requires.few turns refl refl refl refl c.happen.ensures.happen).1
+
+pub returns-clause-present : goal.returns-clause-present
+returns-clause-present g c = c.happen.ensures.present c.args.s.now.volumes

@@ -19,3 +19,6 @@ returns-clause-inside g c =
     let s = c.args.s.now in
     let after : Parts = record s { kernel = c.transfer.new.kernel; volumes = c.transfer.new.volumes; turns = c.end.new.self } in
     (ended _ _ s after _ _ c.requires.inside (ap (λ (t : Turns). turns_of t) c.end.ensures) refl refl refl c.transfer.ensures.sizes c.transfer.ensures.leads).1
+
+pub returns-clause-present : goal.returns-clause-present
+returns-clause-present g c = c.transfer.ensures.present

@@ -22,4 +22,4 @@ pub returns : goal.returns
 returns g c =
     let has = on_ok c.read_block.result (sym c.is_err.ensures.value ∙ c.if-is_err.false) c.read_block.ensures.ok in
     let within = block_within c.args.volumes.now c.in-Some.mount.volume c.args.p.now.block c.read_block.new.into has in
-    reads_block c.in-Some.mount.volume _ (packet_of c.args.p.now) c.args.volumes.now c.read_block.new.into (g.H.Hardware.machine c.args.machine.now) c.args.guest.now (g.H.Hardware.machine c.store.new.machine) c.store.new.self (read_moves (512 * c.args.guest.now.state.pages) c.args.volumes.now c.args.unit (packet_of c.args.p.now) c.in-Some.mount c.in-Some.is within (sym c.is_outside.ensures ∙ c.if-is_outside.false)) has c.store.ensures
+    reads_block c.in-Some.mount.volume _ (packet_of c.args.p.now) c.args.volumes.now c.read_block.new.into (g.H.Hardware.machine c.args.machine.now) c.args.guest.now (g.H.Hardware.machine c.store.new.machine) c.store.new.self (read_moves (512 * c.args.guest.now.state.pages) c.args.volumes.now c.args.unit (packet_of c.args.p.now) c.in-Some.mount c.in-Some.is within (sym c.is_outside.ensures ∙ c.if-is_outside.false)) has c.store.ensures.becomes c.read_block.array_long c.store.ensures.drops

@@ -1,5 +1,5 @@
 use Rattle.std.proofs.Common.{◌∙◌, arith, refl}
-use Rattle.sys_transfers.proofs.Rounds.{all_guests_served, config_same, loop_there, mounts_same, none_served, one_more_of, placed_same, sizes_kept, there_same}
+use Rattle.sys_transfers.proofs.Rounds.{all_guests_served, all_places, all_present, config_same, loop_there, mounts_same, none_served, one_more_of, placed_same, sizes_kept, there_same}
 use Rattle.sys_transfers.proofs.transferring.transfer.Goals as goal
 
 pub loop-place-init : goal.loop-place-init
@@ -29,3 +29,8 @@ returns-clause-leads g c = all_guests_served c.args.kernel.now c.args.volumes.no
 
 pub returns-clause-sizes : goal.returns-clause-sizes
 returns-clause-sizes g c = sizes_kept c.args.kernel.now c.args.volumes.now (g.H.Hardware.machine c.args.machine.now) _ c.loop-place.place c.loop-place.volumes (g.H.Hardware.machine c.loop-place.machine) c.loop-place.kernel.guests.items c.loop-place.kernel.marks _ c.loop-place.invariant.so_far
+
+pub returns-clause-present : goal.returns-clause-present
+returns-clause-present g c =
+    all_present c.args.kernel.now c.args.volumes.now (g.H.Hardware.machine c.args.machine.now) _ c.loop-place.place c.loop-place.volumes (g.H.Hardware.machine c.loop-place.machine) c.loop-place.kernel.guests.items c.loop-place.kernel.marks _
+    (all_places c.args.kernel.now (g.H.Hardware.machine c.args.machine.now).memory c.loop-place.place c.requires.holds (omega arith)) c.loop-place.invariant.so_far

@@ -2,6 +2,7 @@ use Rattle.std.proofs.Common.{true, ap, sym, ◌∙◌}
 use Rattle.std.specs.Prelude.{option_map}
 use Rattle.vm_events.specs.Sources.{source_of}
 use Rattle.vm_stepping.proofs.Beginning.{begins_on, halted_on, interrupt_falls, interrupt_on, runs_by, waits_on}
+use Rattle.vm_stepping.proofs.PayingBegun.{pays_beginning, pays_halted, pays_interrupt, pays_waiting}
 use Rattle.vm_stepping.proofs.turns.begin_step.Goals as goal
 
 pub returns-then-is_some-clause-proceeds : goal.returns-then-is_some-clause-proceeds
@@ -26,4 +27,22 @@ returns-then-g-clause-proceeds g c =
 pub returns-clause-proceeds : goal.returns-clause-proceeds
 returns-clause-proceeds g c =
     begins_on (g.H.Hardware.machine c.args.machine.now) c.args.s.now c.args.g.now c.count_step.new.g c.requires.stands c.count_step.ensures.state c.count_step.ensures.place (runs_by c.args.g.now.halt (sym c.is_some.ensures ∙ c.if-is_some.false)) g.T.Port.may c.args.port.now c.args.port.now c.args.counts.now c.args.left c.requires.some (record { steps = c.args.left; counted = true })
+    (sym c.due.ensures ∙ ap (option_map source_of) c.in_default.is) c.if-g.false
+
+pub returns-then-is_some-clause-pays : goal.returns-then-is_some-clause-pays
+returns-then-is_some-clause-pays g c = pays_halted (g.H.Hardware.machine c.args.machine.now) c.args.s.now c.args.g.now c.args.left c.of.result c.requires.stands (sym c.is_some.ensures ∙ c.if-is_some.true) c.of.ensures
+
+pub returns-in-Some-clause-pays : goal.returns-in-Some-clause-pays
+returns-in-Some-clause-pays g c =
+    pays_interrupt (g.H.Hardware.machine c.args.machine.now) c.args.s.now c.args.g.now c.count_step.new.g c.requires.stands c.count_step.ensures.state c.count_step.ensures.place (runs_by c.args.g.now.halt (sym c.is_some.ensures ∙ c.if-is_some.false)) c.args.left c.requires.some
+    g.T.Port.may c.args.port.now c.take_interrupt.new.port c.args.counts.now c.take_interrupt.new.counts (source_of c.in-Some.source) (g.H.Hardware.machine c.take_interrupt.new.machine) c.take_interrupt.new.s c.take_interrupt.new.g c.of-in-Some.result (sym c.due.ensures ∙ ap (option_map source_of) c.in-Some.is) c.take_interrupt.ensures c.of-in-Some.ensures
+
+pub returns-then-g-clause-pays : goal.returns-then-g-clause-pays
+returns-then-g-clause-pays g c =
+    pays_waiting (g.H.Hardware.machine c.args.machine.now) c.args.s.now c.args.g.now c.count_step.new.g c.requires.stands c.count_step.ensures.state c.count_step.ensures.place (runs_by c.args.g.now.halt (sym c.is_some.ensures ∙ c.if-is_some.false)) c.args.left c.requires.some
+    c.of-then-g.result (sym c.due.ensures ∙ ap (option_map source_of) c.in_default.is) c.if-g.true c.of-then-g.ensures
+
+pub returns-clause-pays : goal.returns-clause-pays
+returns-clause-pays g c =
+    pays_beginning (g.H.Hardware.machine c.args.machine.now) c.args.s.now c.args.g.now c.count_step.new.g c.requires.stands c.count_step.ensures.state c.count_step.ensures.place (runs_by c.args.g.now.halt (sym c.is_some.ensures ∙ c.if-is_some.false)) c.args.left c.requires.some
     (sym c.due.ensures ∙ ap (option_map source_of) c.in_default.is) c.if-g.false

@@ -1,4 +1,4 @@
-use Rattle.std.proofs.Common.{◌∙◌, length, refl, subst, ◌≡◌, Option, Some, List, ℕ, map}
+use Rattle.std.proofs.Common.{◌∙◌, length, refl, subst, List, ℕ, map}
 use Rattle.std.proofs.lemmas.List.{take_all}
 use Rattle.std.proofs.lemmas.Option.{slice_get_read}
 use Rattle.std.proofs.lemmas.Result.{err_from_is_err_and}

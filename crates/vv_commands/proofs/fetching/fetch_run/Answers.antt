@@ -1,6 +1,5 @@
 use Rattle.std.proofs.Common.{◌∙◌, sym, ap, length}
 use Rattle.std.proofs.lemmas.List.{length-map}
-use Rattle.sys_objects.specs.declared.records.GuestRow.{GuestRow}
 use Rattle.vv_commands.proofs.Stopping.{as_many_images}
 use Rattle.vv_commands.proofs.fetching.fetch_run.Goals as goal
 

@@ -22,7 +22,7 @@ pub loop-turn-preserved : goal.loop-turn-preserved
 loop-turn-preserved g c =
     let can = (next_can c.loop-turn.self (turn_of c.in-Some.turn) c.loop-turn.invariant.holds (sym c.in-Some.ensures)).0 in
     let (xs, plays) = c.loop-turn.invariant.plays in
-    record { plays = (xs ++ turn_of c.in-Some.turn ∷ [], plays_more xs (turn_of c.in-Some.turn) _ _ _ _ _ _ _ _ _ plays can c.slice.ensures.takes); holds = c.slice.ensures.holds; len = c.slice.ensures.len ∙ c.loop-turn.invariant.len }
+    record { plays = (xs ++ turn_of c.in-Some.turn ∷ [], plays_more xs (turn_of c.in-Some.turn) _ _ _ _ _ _ _ _ _ plays can c.slice.ensures.takes c.slice.ensures.pays); holds = c.slice.ensures.holds; len = c.slice.ensures.len ∙ c.loop-turn.invariant.len }
 
 pub loop-turn-smaller : goal.loop-turn-smaller
 loop-turn-smaller g c =
@@ -40,4 +40,4 @@ returns-clause-makes g c =
     let (xs, plays) = c.loop-turn.invariant.plays in
     let b = c.begin_round.ensures.begins in
     let accepted = subst (λ (y : Config). IsConfig y) (ap (λ (s : System). s.config) b.system) c.begin_round.ensures.holds.accepted in
-    round_made c.args.events.now xs _ _ _ _ _ _ _ _ _ _ _ _ accepted c.requires.stands c.requires.events b plays (none_next c.loop-turn.self plays.begun (sym c.in_default.ensures)) c.end_round.ensures.ends
+    round_made c.args.events.now xs _ _ _ _ _ _ _ _ _ _ _ _ accepted c.requires.stands c.requires.events b plays (none_next c.loop-turn.self plays.begun (sym c.in_default.ensures)) c.end_round.ensures.ends c.begin_round.ensures.present c.loop-turn.invariant.holds.units c.end_round.ensures.present

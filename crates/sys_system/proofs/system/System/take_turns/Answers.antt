@@ -54,7 +54,7 @@ loop-turn-preserved g c =
     let same : length s1.config.guests ≡ length rows = ap (λ (y : Config). length y.guests) config in
     let there : turn.guest < length s1.guests = omega (arith, c.requires.there i none (omega arith), long, same, c.begin_round.ensures.holds.many) in
     let can = turn_can c.args.turns.now i turn _ _ s1 c.loop-turn.self _ _ c.begin_round.ensures.holds c.loop-turn.invariant.holds first quanta (omega arith) read there c.loop-turn.invariant.plays in
-    record { plays = plays_next c.args.turns.now i turn _ _ _ _ _ _ _ _ _ (omega arith) read c.loop-turn.invariant.plays can c.slice.ensures.takes; holds = c.slice.ensures.holds; len = c.slice.ensures.len ∙ c.loop-turn.invariant.len }
+    record { plays = plays_next c.args.turns.now i turn _ _ _ _ _ _ _ _ _ (omega arith) read c.loop-turn.invariant.plays can c.slice.ensures.takes c.slice.ensures.pays; holds = c.slice.ensures.holds; len = c.slice.ensures.len ∙ c.loop-turn.invariant.len }
 
 pub end_round-requires-clause-none : goal.end_round-requires-clause-none
 end_round-requires-clause-none g c =
@@ -80,4 +80,4 @@ returns-clause-makes g c =
     let plays = all_played c.args.turns.now c.loop-turn.turn-index _ _ _ _ _ _ c.loop-turn-test.false c.loop-turn.invariant.plays in
     let none_left = all_taken (map turn_of c.args.turns.now) _ _ s1 c.loop-turn.self _ _ first quanta plays in
     let accepted = subst (λ (y : Config). IsConfig y) config c.begin_round.ensures.holds.accepted in
-    round_made c.args.events.now (map turn_of c.args.turns.now) _ _ _ _ _ _ _ _ _ _ _ _ accepted c.requires.stands c.requires.events b plays none_left c.end_round.ensures.ends
+    round_made c.args.events.now (map turn_of c.args.turns.now) _ _ _ _ _ _ _ _ _ _ _ _ accepted c.requires.stands c.requires.events b plays none_left c.end_round.ensures.ends c.begin_round.ensures.present c.loop-turn.invariant.holds.units c.end_round.ensures.present

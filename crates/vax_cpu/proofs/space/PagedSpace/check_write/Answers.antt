@@ -8,7 +8,4 @@ use Rattle.vax_cpu.proofs.space.PagedSpace.check_write.Goals as goal
 
 pub returns-clause-same : goal.returns-clause-same
 returns-clause-same c =
-    let s = paged c.args.self.now.memory.now c.args.self.now.world.now in
-    let done : Result ℕ Trouble = Ok c.in_ok-number.field-0 in
-    written_read c.args.self.now.memory.now c.args.self.now.world.now (size_of c.args.w) c.args.va c.in_ok-number.field-0
-    (subst (λ (n : ℕ). done ≡ number_at s Write n c.args.va) c.size.ensures.value c.in_ok-number.ensures.number)
+    written_read c.args.self.now.memory.now c.args.self.now.world.now (size_of c.args.w) c.args.va c.in_ok-number.field-0 c.in_ok-number.ensures.number

@@ -1,0 +1,117 @@
+-- Kept bytes that stand at an address spell the instruction there.
+use Rattle.std.proofs.Common.{◌≡◌, ℕ, zero, suc, ◌+◌, ◌%◌, ◌^◌, ◌*◌, ◌<◌, ◌≤◌, arith, List, [], ◌∷◌, ◌++◌, length, take, drop, Result, Ok, Err, refl, ap, sym, ◌∙◌, subst, append_assoc, append-nil, length-append}
+use Rattle.std.specs.Prelude.{slice_index}
+use Rattle.std.proofs.Math.Seq.{take-append_seam}
+use Rattle.std.proofs.lemmas.List.{get_or-drop, get_or-take}
+use Rattle.vax_arch.specs.declared.mode.Intent.TheVariants.{Read}
+use Rattle.vax_hw.specs.RealTables.{byte_by}
+use Rattle.vax_hw.specs.declared.world.World.{World}
+use Rattle.vax_table.specs.Fetch.{by_answer, decided, fetched}
+use Rattle.vax_table.specs.Reading.{Answer, Whole, Short, Unknown, Reserved, Tells, decoded_at}
+use Rattle.vax_table.specs.Script.{Cause, Space, Trouble, bind_result, number_at, outcome, with_byte}
+use Rattle.vax_table.specs.Spelling.{AreBytes, Instruction, IsWellFormed, Spells}
+use Rattle.vax_table.specs.Spelling as spells
+use Rattle.vax_table.proofs.Bytes.{AreBytes-from_index}
+use Rattle.vax_table.proofs.Instructions.{reading_exact, spelled_again}
+use Rattle.vax_table.proofs.Lengths.{spellings_short}
+use Rattle.vax_table.proofs.OneSpelling.{rest_same}
+use Rattle.vax_cpu.specs.Paged.{paged, placed}
+use Rattle.vax_cpu.proofs.InPage.{next_place}
+
+some_left : (xs ys : List ℕ) → 0 < length ys → xs ++ ys ≡ [] → ⊥
+some_left xs ys some e = let none = ap (length {A = ℕ}) e in omega (arith, length-append {A = ℕ})
+
+wants_by : (a : Answer) (b tail : List ℕ) (d : Instruction) → 0 < length tail → Spells (b ++ tail) d → Tells b a → a ≡ Short
+wants_by (Whole e rest) b tail d some p t =
+    let same = rest_same t.0 (b ++ tail) (rest ++ tail) [] e d t.2 p (sym (append-nil (b ++ tail) ∙ (ap (λ (ys : List ℕ). ys ++ tail) t.1 ∙ append_assoc t.0 rest tail))) in
+    absurd (some_left rest tail some same.1)
+wants_by Short b tail d some p t = refl
+wants_by Unknown b tail d some p t = absurd (t.0.begin tail d p)
+wants_by Reserved b tail d some p t = absurd (t.0.begin tail d p)
+
+-- the front of a spelling wants more
+wants : (b tail : List ℕ) (d : Instruction) → AreBytes b → 0 < length tail → Spells (b ++ tail) d → decoded_at b ≡ Short
+wants b tail d are some p = wants_by (decoded_at b) b tail d some p (reading_exact.tells b are)
+
+one_read : (s : Space) (a b : ℕ) → s Read (a % 2 ^ 32) ≡ Ok b → number_at s Read 1 a ≡ Ok b
+one_read s a b e =
+    let same : b + 256 * 0 ≡ b = omega arith in
+    ap (λ (x : Result ℕ Cause). with_byte Read (a % 2 ^ 32) x (Ok 0)) e ∙ ap (λ (n : ℕ). Ok n) same
+
+one_more : (xs : List ℕ) (b : ℕ) → AreBytes xs → b < 256 → AreBytes (xs ++ b ∷ [])
+one_more [] b are small = (small, tt)
+one_more (x ∷ xs) b are small = (are.0, one_more xs b are.1 small)
+
+-- Some bytes of a spelling are fetched, and the space has the others.
+goes_on : (s : Space) (at n : ℕ) (rest done : List ℕ) (d : Instruction) → length rest < n → AreBytes done → AreBytes rest → Spells (done ++ rest) d →
+    ((i : ℕ) → i < length rest → s Read ((at + (length done + i)) % 2 ^ 32) ≡ Ok (slice_index rest i)) → outcome s (decided n at done) ≡ Ok d
+unfolding decided
+goes_on s at zero rest done d few a are p h = absurd (omega arith)
+goes_on s at (suc n) [] done d few a are p h =
+    let all : Spells done d = subst (λ (xs : List ℕ). Spells xs d) (append-nil done) p in
+    let whole : decoded_at done ≡ Whole d [] = ap decoded_at (sym (append-nil done)) ∙ spelled_again done [] d all in
+    ap (λ (x : Answer). outcome s (by_answer (decided n at) at done x)) whole
+goes_on s at (suc n) (b ∷ rest) done d few a are p h =
+    let here : at + (length done + 0) ≡ at + length done = omega arith in
+    let more : List ℕ → Result Instruction Trouble = λ xs. outcome s (decided n at xs) in
+    ap (λ (x : Answer). outcome s (by_answer (decided n at) at done x)) (wants done (b ∷ rest) d a (omega arith) p)
+    ∙ ap (λ (r : Result ℕ Trouble). bind_result r (λ c. more (done ++ c ∷ [])))
+    (one_read s (at + length done) b (subst (λ (k : ℕ). s Read (k % 2 ^ 32) ≡ Ok b) here (h 0 (omega arith))))
+    ∙ goes_on s at n rest (done ++ b ∷ []) d (omega arith) (one_more done b a are.0) are.1
+    (subst (λ (xs : List ℕ). Spells xs d) (sym (append_assoc done (b ∷ []) rest)) p)
+    (λ i low.
+    let on : at + (length done + suc i) ≡ at + (length (done ++ b ∷ []) + i) = omega (arith, length-append done (b ∷ [])) in
+    subst (λ (k : ℕ). s Read (k % 2 ^ 32) ≡ Ok (slice_index rest i)) on (h (suc i) (omega arith)))
+
+-- what a space has at an address spells the instruction there
+spelled_there : (s : Space) (at : ℕ) (front : List ℕ) (d : Instruction) → AreBytes front → Spells front d →
+    ((i : ℕ) → i < length front → s Read ((at + i) % 2 ^ 32) ≡ Ok (slice_index front i)) → outcome s (fetched at) ≡ Ok d
+unfolding fetched
+spelled_there s at front d are p h =
+    let short = spellings_short front d p in
+    goes_on s at 22 front [] d (omega arith) tt are p
+    (λ i low.
+    let same : at + i ≡ at + (0 + i) = omega arith in
+    subst (λ (k : ℕ). s Read (k % 2 ^ 32) ≡ Ok (slice_index front i)) same (h i low))
+
+later_place : (memory : List ℕ) (w : World) (va p i : ℕ) → va % 512 + i < 512 → placed memory w Read va ≡ Ok p → placed memory w Read (va + i) ≡ Ok (p + i)
+later_place memory w va p zero h e = let a : va + 0 ≡ va = omega arith in let b : p ≡ p + 0 = omega arith in ap (placed memory w Read) a ∙ e ∙ ap (λ (n : ℕ). Ok n) b
+later_place memory w va p (suc i) h e =
+    let a : va + suc i ≡ va + i + 1 = omega arith in
+    let b : p + i + 1 ≡ p + suc i = omega arith in
+    ap (placed memory w Read) a ∙ next_place memory w Read (va + i) (p + i) (omega arith) (later_place memory w va p i (omega arith) e) ∙ ap (λ (n : ℕ). Ok n) b
+
+has_byte : (memory : List ℕ) (w : World) (pc p i : ℕ) (front : List ℕ) → pc < 2 ^ 32 → pc % 512 + length front ≤ 512 → placed memory w Read pc ≡ Ok p →
+    take (length front) (drop p memory) ≡ front → i < length front → paged memory w Read ((pc + i) % 2 ^ 32) ≡ Ok (slice_index front i)
+has_byte memory w pc p i front small h e stand low =
+    let same : (pc + i) % 2 ^ 32 ≡ pc + i = omega arith in
+    ap (paged memory w Read) same
+    ∙ ap (byte_by memory) (later_place memory w pc p i (omega arith) e)
+    ∙ ap (λ (n : ℕ). Ok n) (sym (get_or-drop p memory i 0) ∙ sym (get_or-take (length front) (drop p memory) i 0 low) ∙ ap (λ (xs : List ℕ). slice_index xs i) stand)
+
+-- the spelling that reading told of
+spelling_of : (front : List ℕ) (d : Instruction) → AreBytes front → decoded_at front ≡ Whole d [] → Spells front d
+spelling_of front d are e =
+    let t : Tells front (Whole d []) = subst (λ (a : Answer). Tells front a) e (reading_exact.tells front are) in
+    subst (λ (xs : List ℕ). Spells xs d) (sym (t.1 ∙ append-nil t.0)) t.2
+
+pub kept_there : (memory : List ℕ) (w : World) (pc p : ℕ) (front : List ℕ) (d : Instruction) → pc < 2 ^ 32 → pc % 512 + length front ≤ 512 → placed memory w Read pc ≡ Ok p →
+    take (length front) (drop p memory) ≡ front → ((i : ℕ) → slice_index front i < 256) → decoded_at front ≡ Whole d [] → outcome (paged memory w) (fetched pc) ≡ Ok d
+kept_there memory w pc p front d small h e stand are spelled =
+    spelled_there (paged memory w) pc front d (AreBytes-from_index front are) (spelling_of front d (AreBytes-from_index front are) spelled)
+    (λ i low. has_byte memory w pc p i front small h e stand low)
+
+pub kept_formed : (front : List ℕ) (d : Instruction) → ((i : ℕ) → slice_index front i < 256) → decoded_at front ≡ Whole d [] → IsWellFormed d
+kept_formed front d are spelled = (front, spelling_of front d (AreBytes-from_index front are) spelled)
+
+-- an instruction has as many bytes as spell it
+pub spelled_length : (front : List ℕ) (d : Instruction) → Spells front d → d.length ≡ length front
+spelled_length front d (spells.wait e f) = ap (λ (x : Instruction). x.length) f ∙ sym (ap (length {A = ℕ}) e)
+spelled_length front d (spells.of_row e opcode rest specs small other row operands is f) = ap (λ (x : Instruction). x.length) f
+
+-- the front of some bytes that reading told of
+pub spelled_front : (bytes told front rest : List ℕ) (d : Instruction) → bytes ≡ told → told ≡ front ++ rest → Spells front d → decoded_at (take d.length bytes) ≡ Whole d []
+spelled_front bytes told front rest d same is p =
+    let all : take d.length bytes ≡ front =
+    ap (λ (xs : List ℕ). take d.length xs) (same ∙ is) ∙ ap (λ (n : ℕ). take n (front ++ rest)) (spelled_length front d p) ∙ take-append_seam front rest in
+    ap decoded_at (all ∙ sym (append-nil front)) ∙ spelled_again front [] d p

@@ -1,0 +1,106 @@
+ghost use Rattle.std.specs.Prelude.{◌≡◌, ◌≤◌, ◌*◌, length, IfOk};
+
+use std::alloc::Global;
+use std::cell::Cell;
+use vax_cpu::Cpu;
+use vax_hw::{Exit, Hardware, World};
+use vv_base::NoMemory;
+
+/// How often the machine was asked: longwords read and written by the kernel, runs, and pages missed in them.
+#[derive(Clone, Copy, Debug, Default, PartialEq, Eq)]
+pub struct Cost {
+    pub reads: u64,
+    pub writes: u64,
+    pub runs: u64,
+    pub misses: u64,
+}
+
+/// A machine that counts what it is asked.
+#[derive(Drop)]
+pub struct Counted {
+    machine: Cpu,
+    reads: Cell<u64>,
+    writes: u64,
+    runs: u64,
+}
+
+impl Counted {
+    /// A machine of so many pages, of which nothing was asked.
+    pub fn new(alloc: Global, pages: u32) -> Result<Counted, NoMemory>
+        requires some { 1 ≤ pages }
+        requires most { pages ≤ 65536 }
+        ensures { IfOk result (λ c. length c.machine.memory ≡ 512 * pages) }
+    {
+        Ok(Counted {
+            machine: Cpu::new(alloc, pages)?,
+            reads: Cell::new(0),
+            writes: 0,
+            runs: 0,
+        })
+    }
+
+    /// What it was asked so far.
+    pub fn cost(&self) -> Cost {
+        Cost {
+            reads: self.reads.get(),
+            writes: self.writes,
+            runs: self.runs,
+            misses: self.machine.misses(),
+        }
+    }
+}
+
+impl Cost {
+    /// What was asked since then.
+    pub fn since(&self, before: &Cost) -> Cost {
+        Cost {
+            reads: self.reads.wrapping_sub(before.reads),
+            writes: self.writes.wrapping_sub(before.writes),
+            runs: self.runs.wrapping_sub(before.runs),
+            misses: self.misses.wrapping_sub(before.misses),
+        }
+    }
+}
+
+impl Hardware for Counted {
+    ghost machine = { λ c. c.machine };
+
+    fn pages(&self) -> u32 {
+        self.machine.pages()
+    }
+
+    fn retired(&self) -> u64 {
+        self.machine.retired()
+    }
+
+    fn trail(&self) -> u64 {
+        self.machine.trail()
+    }
+
+    fn misses(&self) -> u64 {
+        self.machine.misses()
+    }
+
+    fn read_long(&self, pa: u32) -> u32 {
+        self.reads.set(self.reads.get().wrapping_add(1));
+        self.machine.read_long(pa)
+    }
+
+    fn write_long(&mut self, pa: u32, v: u32) {
+        self.writes = self.writes.wrapping_add(1);
+        self.machine.write_long(pa, v);
+    }
+
+    fn load_world(&mut self, w: &World) {
+        self.machine.load_world(w);
+    }
+
+    fn save_world(&self) -> World {
+        self.machine.save_world()
+    }
+
+    fn run(&mut self, budget: u32) -> Exit {
+        self.runs = self.runs.wrapping_add(1);
+        self.machine.run(budget)
+    }
+}

@@ -1,0 +1,15 @@
+//! The folders of `examples/`, byte for byte as constants: files, sources, and the bytes that are expected, which were computed
+//! by a model apart from the program; and a call of the program over them.
+#![tactic(auto)]
+
+mod example;
+mod page_fault;
+mod playing;
+mod timesharing;
+mod two_levels;
+
+pub use example::{Example, Image, Volume};
+pub use page_fault::EXAMPLE as PAGE_FAULT;
+pub use playing::play;
+pub use timesharing::EXAMPLE as TIMESHARING;
+pub use two_levels::EXAMPLE as TWO_LEVELS;

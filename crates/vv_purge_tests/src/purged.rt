@@ -1,0 +1,135 @@
+//! For each class that an object of an example has: the run that is purged to it.
+
+ghost use Rattle.std.specs.Prelude.{IfOk};
+ghost use Rattle.sys_objects.specs.Condition.{IsConfig};
+
+use crate::texts::{config_of, events_of, script_of};
+use std::alloc::Global;
+use std::process::Abort;
+use std::test::Fail;
+use sys_config::migrate_text;
+use sys_objects::Config;
+use sys_purge::{purge_config, purge_events, purged_is_accepted};
+use vax_cpu::Cpu;
+use vv_base::NoMemory;
+use vv_class::AccessClass;
+use vv_examples::{Example, PAGE_FAULT, TIMESHARING, TWO_LEVELS, play};
+use vv_stage::{PAGES, Told};
+
+/// The classes of the objects.
+fn classes(alloc: Global, config: &Config) -> Result<Vec<AccessClass>, NoMemory> {
+    let mut classes = Vec::new(alloc);
+    for terminal in config.terminals.as_slice() {
+        classes.push(terminal.class)?;
+    }
+    for volume in config.volumes.as_slice() {
+        classes.push(volume.class)?;
+    }
+    if let Some(audit) = config.audit {
+        classes.push(audit.class)?;
+    }
+    Ok(classes)
+}
+
+/// The configuration without what doesn't flow into the class.
+fn kept(alloc: Global, config: &Config, to: &AccessClass) -> Result<Config, NoMemory>
+    requires { IsConfig config.now }
+    ensures { IfOk result IsConfig }
+{
+    purged_is_accepted();
+    purge_config(alloc, config, to)
+}
+
+/// The lines of the devices that are left.
+fn lines_of(alloc: Global, config: &Config) -> Result<Vec<u8>, NoMemory> {
+    let mut lines = Vec::new(alloc);
+    for terminal in config.terminals.as_slice() {
+        lines.push(terminal.line)?;
+    }
+    for printer in config.printers.as_slice() {
+        lines.push(printer.line)?;
+    }
+    for guest in config.guests.as_slice() {
+        if let Some(line) = guest.dump {
+            lines.push(line)?;
+        }
+    }
+    if let Some(audit) = config.audit {
+        lines.push(audit.line)?;
+    }
+    Ok(lines)
+}
+
+/// The devices that are left have the bytes of the whole run, and the other lines none; so have the volumes.
+fn check_same(
+    rt: &impl Abort,
+    alloc: Global,
+    left: &Config,
+    whole: &Told,
+    purged: &Told,
+) -> Result<(), NoMemory> {
+    let lines = lines_of(alloc, left)?;
+    for number in 0..32u8 {
+        let place = number as usize;
+        if lines.iter().any(|line| *line == number) {
+            assert_eq!(rt; purged.line(place), whole.line(place), "line {number}");
+        } else {
+            assert!(rt; purged.line(place).is_empty(), "line {number}");
+        }
+    }
+    for volume in left.volumes.as_slice() {
+        let place = volume.drive as usize;
+        assert!(rt; !whole.drive(place).is_empty());
+        assert_eq!(rt; purged.drive(place), whole.drive(place), "drive {place}");
+    }
+    Ok(())
+}
+
+/// The run that is purged to each class.
+fn check_purges(
+    rt: &impl Abort,
+    alloc: Global,
+    machine: &mut Cpu,
+    example: &Example,
+) -> Result<(), NoMemory> {
+    let config = config_of(alloc, example)?;
+    let events = events_of(alloc, example)?;
+    let own = example.config.as_bytes();
+    let whole = play(alloc, machine, example, own, example.script.as_bytes())?;
+    for class in &classes(alloc, &config)? {
+        let left = kept(alloc, &config, class)?;
+        let text = migrate_text(alloc, &left)?;
+        let heard = purge_events(alloc, &config, &events, class)?;
+        let script = script_of(alloc, &heard)?;
+        let purged = play(alloc, machine, example, &text, &script)?;
+        assert_eq!(rt; purged.code, 0);
+        check_same(rt, alloc, &left, &whole, &purged)?;
+    }
+    Ok(())
+}
+
+#[test]
+fn what_may_not_flow_to_a_class_changes_nothing_there(rt: HostRuntime) -> Result<(), Fail> {
+    let alloc = rt.alloc();
+    let mut machine = Cpu::new(alloc, PAGES)?;
+    for example in &[TWO_LEVELS, TIMESHARING, PAGE_FAULT] {
+        check_purges(&rt, alloc, &mut machine, example)?;
+    }
+    Ok(())
+}
+
+/// The unclassified terminal of `two-levels` is left with the unclassified guest alone, so that the test above does purge.
+#[test]
+fn the_secret_guest_is_purged(rt: HostRuntime) -> Result<(), Fail> {
+    let alloc = rt.alloc();
+    let config = config_of(alloc, &TWO_LEVELS)?;
+    let mut most = 0;
+    let mut least = usize::MAX;
+    for class in &classes(alloc, &config)? {
+        let left = kept(alloc, &config, class)?;
+        most = left.guests.len().max(most);
+        least = left.guests.len().min(least);
+    }
+    assert_eq!(rt; (least, most), (1, 2));
+    Ok(())
+}
