@@ -1,4 +1,5 @@
 pub mod Keys
+pub mod HaveNames
 pub mod ItemLaws
 pub mod Each
 pub mod RowFacts

@@ -10,7 +10,7 @@ use Rattle.vv_base.specs.Names.{is_object_name, is_file_name}
 use Rattle.vv_class.specs.declared.class.AccessClass.{AccessClass}
 use Rattle.vv_class.specs.Class.{IsClass}
 use Rattle.vv_class.specs.Text.{class_text}
-use Rattle.vv_class.proofs.Runs.{written_is_read}
+use Rattle.vv_class.proofs.Places.{written_is_read}
 use Rattle.sys_objects.specs.declared.records.Config.{Config}
 use Rattle.sys_objects.specs.declared.records.Audit.{Audit}
 use Rattle.sys_objects.specs.declared.records.GuestRow.{GuestRow}
@@ -20,11 +20,11 @@ use Rattle.sys_objects.specs.declared.records.VolumeRow.{VolumeRow}
 use Rattle.sys_objects.specs.declared.records.PrinterRow.{PrinterRow}
 use Rattle.sys_config.specs.Reads.{number_in, number_at, flag_at, if_any, if_some, are_known}
 use Rattle.sys_config.specs.Answers.{entries_from}
-use Rattle.sys_config.specs.Entries.{name_in, name_at, class_in, class_at, terminal_of, volume_of, printer_of, audit_of}
-use Rattle.sys_config.specs.Guests.{mount_of, mounts_from, no_mounts, console_in, printer_in, mounts_in, modify_of, keys_of_guest, image_at, bare_guest_of, guest_of, Units}
+use Rattle.sys_config.specs.Entries.{name_in, name_at, class_in, class_at, named_line_of, terminal_of, volume_of, printer_of, audit_of}
+use Rattle.sys_config.specs.Guests.{mount_of, mounts_from, no_mounts, object_in, console_in, printer_in, mounts_in, modify_of, keys_of_guest, image_at, bare_guest_of, guest_of, Units}
 use Rattle.sys_objects.specs.Condition.{IsTerminal, IsVolume, IsPrinter, IsAudit, IsGuest, NamesObjects, IsConfig}
 use Rattle.sys_objects.proofs.JudgedAgain.{AreApart, texts_differ}
-use Rattle.sys_config.specs.Written.{with_any, number, written_terminal, written_volume, written_printer, written_audit, written_mount, mount_items, modify_text, console_value, printer_value, dump_value, written_guest, items_by}
+use Rattle.sys_config.specs.Written.{with_any, number, written_line, written_terminal, written_volume, written_printer, written_audit, written_mount, mount_items, modify_text, object_value, console_value, printer_value, dump_value, written_guest, items_by}
 
 number_back : (low high n : ℕ) → low ≤ n → n ≤ high → number_in low high (number n) ≡ Some n
 number_back low high n least most = rw (le-leb low n least, le-leb n high most)
@@ -51,15 +51,17 @@ image_found t name at is = rw (at, is)
 flag_found : (key : List ℕ) (t : Members) (b : Bool) → get_member key t ≡ Some (boolean b) → flag_at key t ≡ Some b
 flag_found key t b at = rw at
 
+line_back : (name : List ℕ) (line : ℕ) (class : AccessClass) → is_object_name name ≡ true → line ≤ 31 → IsClass class
+    → named_line_of 255 (written_line name line class) ≡ Some (record { name = name; line = line; class = class })
+unfolding named_line_of written_line
+line_back name line class named low is =
+    rw (named, le-leb 0 line (omega arith), le-leb line 31 low, written_is_read class is, le-leb class.secrecy 255 (omega (arith, is.secrecy)), le-leb class.integrity 255 (omega (arith, is.integrity)))
+
 pub terminal_back : (r : Terminal) → IsTerminal r → terminal_of 255 (written_terminal r) ≡ Some r
-unfolding terminal_of written_terminal
-terminal_back r is =
-    rw (is.named, le-leb 0 r.line (omega arith), le-leb r.line 31 is.line, written_is_read r.class is.class, le-leb r.class.secrecy 255 (omega (arith, is.class.secrecy)), le-leb r.class.integrity 255 (omega (arith, is.class.integrity)))
+terminal_back r is = rw (line_back r.name r.line r.class is.named is.line is.class)
 
 pub printer_back : (r : PrinterRow) → IsPrinter r → printer_of 255 (written_printer r) ≡ Some r
-unfolding printer_of written_printer
-printer_back r is =
-    rw (is.named, le-leb 0 r.line (omega arith), le-leb r.line 31 is.line, written_is_read r.class is.class, le-leb r.class.secrecy 255 (omega (arith, is.class.secrecy)), le-leb r.class.integrity 255 (omega (arith, is.class.integrity)))
+printer_back r is = rw (line_back r.name r.line r.class is.named is.line is.class)
 
 pub volume_back : (r : VolumeRow) → IsVolume r → volume_of 255 (written_volume r) ≡ Some r
 unfolding volume_of written_volume
@@ -245,17 +247,11 @@ bare_back c g is t e =
     let quantum : number_at (codes "quantum") 1 100000 t ≡ Some g.quantum = number_found (codes "quantum") t 1 100000 g.quantum (ap (λ (l : Looked). l.quantum) e) is.some_steps is.few_steps in
     rw (name, class, pages, image, load, start, autostart, quantum)
 
-console_back : (terminals : List Terminal) → All IsTerminal terminals → AllPairs (λ (x y : Terminal). x.name ≢ y.name) terminals → (o : Option ℕ) → IfSome o (λ k. k < length terminals)
-    → if_some (console_in terminals) (console_value terminals o) ≡ Some o
-console_back terminals rows apart None there = refl
-console_back terminals rows apart (Some k) there =
-    let h = held IsTerminal terminals k there rows in rw (h.at, h.is.named, place_back (λ (t : Terminal). t.name) terminals k h.one apart h.at)
-
-printer_name_back : (printers : List PrinterRow) → All IsPrinter printers → AllPairs (λ (x y : PrinterRow). x.name ≢ y.name) printers → (o : Option ℕ) → IfSome o (λ k. k < length printers)
-    → if_some (printer_in printers) (printer_value printers o) ≡ Some o
-printer_name_back printers rows apart None there = refl
-printer_name_back printers rows apart (Some k) there =
-    let h = held IsPrinter printers k there rows in rw (h.at, h.is.named, place_back (λ (p : PrinterRow). p.name) printers k h.one apart h.at)
+object_back : {A : Type 0} (P : A → Type 0) (name : A → List ℕ) (named : (x : A) → P x → is_object_name (name x) ≡ true) (xs : List A) → All P xs → AllPairs (λ x y. name x ≢ name y) xs
+    → (o : Option ℕ) → IfSome o (λ k. k < length xs) → if_some (object_in name xs) (object_value name xs o) ≡ Some o
+object_back P name named xs rows apart None there = refl
+object_back P name named xs rows apart (Some k) there =
+    let h = held P xs k there rows in rw (h.at, named h.one h.is, place_back name xs k h.one apart h.at)
 
 dump_back : (o : Option ℕ) → IfSome o (λ line. line ≤ 31) → if_some (number_in 0 31) (dump_value o) ≡ Some o
 dump_back None low = refl
@@ -271,8 +267,8 @@ unfolding guest_of
 guest_from c met apart g is numbers t e =
     let known : are_known (keys_of_guest None) t ≡ true = ap (λ (l : Looked). l.known) e in
     let first : bare_guest_of 255 None t ≡ Some (bare g) = bare_back c g is t e in
-    let console : if_any (console_in c.terminals) (codes "console") t ≡ Some g.console = rw (ap (λ (l : Looked). l.console) e) (console_back c.terminals met.terminals apart.terminals g.console numbers.console) in
-    let printer : if_any (printer_in c.printers) (codes "printer") t ≡ Some g.printer = rw (ap (λ (l : Looked). l.printer) e) (printer_name_back c.printers met.printers apart.printers g.printer numbers.printer) in
+    let console : if_any (console_in c.terminals) (codes "console") t ≡ Some g.console = rw (ap (λ (l : Looked). l.console) e) (object_back IsTerminal (λ (t : Terminal). t.name) (λ t is. is.named) c.terminals met.terminals apart.terminals g.console numbers.console) in
+    let printer : if_any (printer_in c.printers) (codes "printer") t ≡ Some g.printer = rw (ap (λ (l : Looked). l.printer) e) (object_back IsPrinter (λ (p : PrinterRow). p.name) (λ p is. is.named) c.printers met.printers apart.printers g.printer numbers.printer) in
     let dump : if_any (number_in 0 31) (codes "dump") t ≡ Some g.dump = rw (ap (λ (l : Looked). l.dump) e) (dump_back g.dump is.dump) in
     let modify : if_any modify_of (codes "modify") t ≡ Some (Some g.modify_faults) = rw (ap (λ (l : Looked). l.modify) e) (modify_back g.modify_faults) in
     let mounts : if_any (mounts_in c.volumes) (codes "mount") t ≡ Some (Some g.mounts) =

@@ -11,9 +11,10 @@ use Rattle.vv_class.specs.declared.text.ClassFault.{ClassFault}
 use Rattle.vv_class.proofs.Places.{reads_text}
 use Rattle.sys_config.specs.Reads.{◌>>=◌, in_range, number_in, number_at, text_at, flag_at, if_any, are_known}
 use Rattle.sys_config.specs.Answers.{entry_of}
-use Rattle.sys_config.specs.Entries.{name_in, name_at, low_enough, class_in, class_at, line_at, terminal_of, volume_of, printer_of, audit_of}
+use Rattle.sys_config.specs.Entries.{name_in, name_at, low_enough, class_in, class_at, line_at, named_line_of, terminal_of, volume_of, printer_of, audit_of}
 use Rattle.sys_config.specs.Guests.{mount_of, placed, mounts_from, no_mounts, mounts_in, console_in, printer_in, modify_of, own_quantum, keys_of_guest, image_at, bare_guest_of, guest_of, Units}
 use Rattle.sys_objects.specs.Condition.{IsTerminal, IsVolume, IsPrinter, IsAudit, IsGuest}
+use Rattle.sys_config.specs.declared.entries.NamedLine.{NamedLine}
 use Rattle.sys_config.specs.declared.mounts.UnitMount.{UnitMount}
 use Rattle.sys_objects.specs.declared.records.Terminal.{Terminal}
 use Rattle.sys_objects.specs.declared.records.VolumeRow.{VolumeRow}
@@ -55,13 +56,24 @@ class_is top t = each (λ _. Unit {0}) IsClass (text_at (codes "class") t) (clas
     read text (Ok c) e = guarded IsClass (nat_le c.secrecy top && nat_le c.integrity top) (Some c) (reads_text text (Ok c) e).0
     read text (Err f) e = tt
 
+record IsNamedLine (e : NamedLine) : Type 0 where
+  named : is_object_name e.name ≡ true
+  line : e.line ≤ 31
+  class : IsClass e.class
+
+named_line_is : (top : ℕ) (t : Members) → IfSome (named_line_of top t) IsNamedLine
+unfolding named_line_of
+named_line_is top t =
+    guarded IsNamedLine (are_known (codes "name" ∷ codes "line" ∷ codes "class" ∷ []) t) _
+    (each (λ name. is_object_name name ≡ true) IsNamedLine (name_at (codes "name") t) _ (name_is (codes "name") t) (λ name named.
+    each (Within 0 31) IsNamedLine (line_at (codes "line") t) _ (number_is (codes "line") 0 31 t) (λ line low.
+    each IsClass IsNamedLine (class_at top t) _ (class_is top t) (λ class is. record { named = named; line = low.1; class = is }))))
+
 pub terminal_is : (top : ℕ) (t : Members) → IfSome (terminal_of top t) IsTerminal
-unfolding terminal_of
-terminal_is top t =
-    guarded IsTerminal (are_known (codes "name" ∷ codes "line" ∷ codes "class" ∷ []) t) _
-    (each (λ name. is_object_name name ≡ true) IsTerminal (name_at (codes "name") t) _ (name_is (codes "name") t) (λ name named.
-    each (Within 0 31) IsTerminal (line_at (codes "line") t) _ (number_is (codes "line") 0 31 t) (λ line low.
-    each IsClass IsTerminal (class_at top t) _ (class_is top t) (λ class is. record { named = named; line = low.1; class = is }))))
+terminal_is top t = each IsNamedLine IsTerminal (named_line_of top t) _ (named_line_is top t) (λ e is. record { named = is.named; line = is.line; class = is.class })
+
+pub printer_is : (top : ℕ) (t : Members) → IfSome (printer_of top t) IsPrinter
+printer_is top t = each IsNamedLine IsPrinter (named_line_of top t) _ (named_line_is top t) (λ e is. record { named = is.named; line = is.line; class = is.class })
 
 pub volume_is : (top : ℕ) (t : Members) → IfSome (volume_of top t) IsVolume
 unfolding volume_of
@@ -72,14 +84,6 @@ volume_is top t =
     each (Within 1 2048) IsVolume (number_at (codes "blocks") 1 2048 t) _ (number_is (codes "blocks") 1 2048 t) (λ blocks some.
     each IsClass IsVolume (class_at top t) _ (class_is top t) (λ class is.
     record { named = named; drive = low.1; some_blocks = some.0; few_blocks = some.1; class = is })))))
-
-pub printer_is : (top : ℕ) (t : Members) → IfSome (printer_of top t) IsPrinter
-unfolding printer_of
-printer_is top t =
-    guarded IsPrinter (are_known (codes "name" ∷ codes "line" ∷ codes "class" ∷ []) t) _
-    (each (λ name. is_object_name name ≡ true) IsPrinter (name_at (codes "name") t) _ (name_is (codes "name") t) (λ name named.
-    each (Within 0 31) IsPrinter (line_at (codes "line") t) _ (number_is (codes "line") 0 31 t) (λ line low.
-    each IsClass IsPrinter (class_at top t) _ (class_is top t) (λ class is. record { named = named; line = low.1; class = is }))))
 
 pub audit_is : (top : ℕ) (t : Members) → IfSome (audit_of top t) IsAudit
 unfolding audit_of

@@ -3,14 +3,13 @@ use Rattle.std.proofs.Common.{◌≡◌, ◌≤◌, ◌+◌, ℕ, suc, Bool, tru
 use Rattle.std.specs.Ordering.{nat_cmp, match_ordering}
 use Rattle.std.specs.Cmp.Lexicographic.{slice_cmp}
 use Rattle.toml.specs.Data.{Data, array, table, Members, no_members, member, depth, members_depth, has_valid_dates, members_have_valid_dates}
+use Rattle.vv_class.specs.declared.class.AccessClass.{AccessClass}
 use Rattle.sys_objects.specs.declared.records.Config.{Config}
 use Rattle.sys_objects.specs.declared.records.Audit.{Audit}
 use Rattle.sys_objects.specs.declared.records.GuestRow.{GuestRow}
 use Rattle.sys_objects.specs.declared.records.Mount.{Mount}
-use Rattle.sys_objects.specs.declared.records.Terminal.{Terminal}
 use Rattle.sys_objects.specs.declared.records.VolumeRow.{VolumeRow}
-use Rattle.sys_objects.specs.declared.records.PrinterRow.{PrinterRow}
-use Rattle.sys_config.specs.Written.{with_member, with_any, number, written_terminal, written_volume, written_printer, written_audit, written_mount, mount_items, console_value, printer_value, dump_value, audit_value, written_guest, items_by, lists, written}
+use Rattle.sys_config.specs.Written.{with_member, with_any, number, written_line, written_terminal, written_volume, written_printer, written_audit, written_mount, mount_items, console_value, printer_value, dump_value, audit_value, written_guest, items_by, lists, written}
 
 -- no deeper than so much, and without dates
 record IsPlain (n : ℕ) (ms : Members) : Type 0 where
@@ -70,17 +69,13 @@ guest-plain c g =
     (with_any-plain 2 (codes "console") (console_value c.terminals g.console) _ (mapped-plain 2 _ g.console (λ k. record { shallow = omega arith; dateless = refl }))
     (record { shallow = omega (arith, mounts.shallow); dateless = rw mounts.dateless })))
 
-terminal-plain : (t : Terminal) → IsPlain 0 (written_terminal t)
-unfolding written_terminal
-terminal-plain t = record { shallow = omega arith; dateless = refl }
+line-plain : (name : List ℕ) (line : ℕ) (class : AccessClass) → IsPlain 0 (written_line name line class)
+unfolding written_line
+line-plain name line class = record { shallow = omega arith; dateless = refl }
 
 volume-plain : (v : VolumeRow) → IsPlain 0 (written_volume v)
 unfolding written_volume
 volume-plain v = record { shallow = omega arith; dateless = refl }
-
-printer-plain : (p : PrinterRow) → IsPlain 0 (written_printer p)
-unfolding written_printer
-printer-plain p = record { shallow = omega arith; dateless = refl }
 
 audit-plain : (a : Audit) → IsPlainData 4 (table (written_audit a))
 unfolding written_audit
@@ -90,8 +85,8 @@ plain : (c : Config) → IsPlain 4 (written c)
 unfolding written lists
 plain c =
     let guests = items_by-plain 2 (written_guest c) (guest-plain c) c.guests in
-    let printers = items_by-plain 0 written_printer printer-plain c.printers in
-    let terminals = items_by-plain 0 written_terminal terminal-plain c.terminals in
+    let printers = items_by-plain 0 written_printer (λ p. line-plain p.name p.line p.class) c.printers in
+    let terminals = items_by-plain 0 written_terminal (λ t. line-plain t.name t.line t.class) c.terminals in
     let volumes = items_by-plain 0 written_volume volume-plain c.volumes in
     with_any-plain 4 (codes "audit") (audit_value c.audit) _ (mapped-plain 4 _ c.audit audit-plain)
     (record { shallow = omega (arith, guests.shallow, printers.shallow, terminals.shallow, volumes.shallow); dateless = rw (guests.dateless, printers.dateless, terminals.dateless, volumes.dateless) })

@@ -7,6 +7,7 @@ use Rattle.vv_class.specs.declared.class.AccessClass.{AccessClass}
 use Rattle.vv_class.specs.declared.text.ClassFault.{ClassFault}
 use Rattle.vv_class.specs.Scan.{class_of}
 use Rattle.sys_config.specs.Reads.{◌>>=◌, number_at, text_at, are_known}
+use Rattle.sys_config.specs.declared.entries.NamedLine.{NamedLine}
 use Rattle.sys_objects.specs.declared.records.Terminal.{Terminal}
 use Rattle.sys_objects.specs.declared.records.VolumeRow.{VolumeRow}
 use Rattle.sys_objects.specs.declared.records.PrinterRow.{PrinterRow}
@@ -34,12 +35,19 @@ class_at top t = text_at (codes "class") t >>= class_in top
 abbrev pub line_at : List ℕ → Members → Option ℕ
 line_at key t = number_at key 0 31 t
 
-unfoldable pub terminal_of : ℕ → Members → Option Terminal
-terminal_of top t =
+-- an entry with a name, a line and a class
+unfoldable pub named_line_of : ℕ → Members → Option NamedLine
+named_line_of top t =
     if are_known (codes "name" ∷ codes "line" ∷ codes "class" ∷ []) t then
     (name_at (codes "name") t >>= λ name. line_at (codes "line") t >>= λ line. class_at top t >>= λ class.
     Some (record { name = name; line = line; class = class }))
     else None
+
+abbrev pub terminal_of : ℕ → Members → Option Terminal
+terminal_of top t = named_line_of top t >>= λ e. Some (record { name = e.name; line = e.line; class = e.class })
+
+abbrev pub printer_of : ℕ → Members → Option PrinterRow
+printer_of top t = named_line_of top t >>= λ e. Some (record { name = e.name; line = e.line; class = e.class })
 
 -- a drive is 0 to 15, and a volume has 1 to 2,048 blocks
 unfoldable pub volume_of : ℕ → Members → Option VolumeRow
@@ -47,13 +55,6 @@ volume_of top t =
     if are_known (codes "name" ∷ codes "drive" ∷ codes "blocks" ∷ codes "class" ∷ []) t then
     (name_at (codes "name") t >>= λ name. number_at (codes "drive") 0 15 t >>= λ drive. number_at (codes "blocks") 1 2048 t >>= λ blocks.
     class_at top t >>= λ class. Some (record { name = name; drive = drive; blocks = blocks; class = class }))
-    else None
-
-unfoldable pub printer_of : ℕ → Members → Option PrinterRow
-printer_of top t =
-    if are_known (codes "name" ∷ codes "line" ∷ codes "class" ∷ []) t then
-    (name_at (codes "name") t >>= λ name. line_at (codes "line") t >>= λ line. class_at top t >>= λ class.
-    Some (record { name = name; line = line; class = class }))
     else None
 
 unfoldable pub audit_of : ℕ → Members → Option Audit

@@ -4,7 +4,7 @@ use Rattle.std.specs.Str.{is_utf8, chars}
 use Rattle.toml.proofs.OnLiterals.{toml_on_literals}
 use Rattle.sys_objects.specs.Faults.{fault}
 use Rattle.sys_objects.specs.Judged.{judged}
-use Rattle.sys_config.specs.Entries.{terminal_of}
+use Rattle.sys_config.specs.Entries.{named_line_of}
 use Rattle.sys_config.specs.Top.{top_of, top_of_one, top_of_two, tables_at}
 use Rattle.sys_config.specs.Config.{numbers_of, rows_of, config_in, config_of}
 
@@ -25,5 +25,5 @@ unfolding toml_on_literals is_utf8 chars top_of top_of_one top_of_two tables_at 
 cut_inside_a_string = refl
 
 without_a_class : config_of (codes "version = 2\nslice = 3\n[[terminal]]\nname = \"T1\"\nline = 0\n") ≡ Err (fault 6 0)
-unfolding toml_on_literals is_utf8 chars terminal_of top_of top_of_one top_of_two tables_at numbers_of rows_of judged config_in config_of
+unfolding toml_on_literals is_utf8 chars named_line_of top_of top_of_one top_of_two tables_at numbers_of rows_of judged config_in config_of
 without_a_class = refl

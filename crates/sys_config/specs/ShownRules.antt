@@ -3,7 +3,7 @@ use Rattle.std.specs.Prelude.{◌≡◌, ℕ, List, [], ◌∷◌, codes, true, 
 use Rattle.std.specs.Str.{is_utf8, chars}
 use Rattle.toml.proofs.OnLiterals.{toml_on_literals}
 use Rattle.sys_config.specs.Config.{config_in, config_of, numbers_of, rows_of}
-use Rattle.sys_config.specs.Entries.{audit_of, printer_of, terminal_of, volume_of}
+use Rattle.sys_config.specs.Entries.{audit_of, named_line_of, volume_of}
 use Rattle.sys_config.specs.Guests.{bare_guest_of, guest_of}
 use Rattle.sys_config.specs.Top.{tables_at, top_of, top_of_one, top_of_two}
 use Rattle.sys_objects.specs.Faults.{fault}
@@ -43,7 +43,7 @@ rule_5_before_6 = refl
 
 -- entries without keys, from here on
 rule_6_before_7 : config_of (codes "version = 2\nslice = 3\n[[terminal]]\n[[volume]]\n") ≡ Err (fault 6 0)
-unfolding toml_on_literals is_utf8 chars terminal_of top_of top_of_one top_of_two tables_at numbers_of rows_of judged config_in config_of
+unfolding toml_on_literals is_utf8 chars named_line_of top_of top_of_one top_of_two tables_at numbers_of rows_of judged config_in config_of
 rule_6_before_7 = refl
 
 rule_7_before_8 : config_of (codes "version = 2\nslice = 3\n[[volume]]\n[[printer]]\n") ≡ Err (fault 7 0)
@@ -51,7 +51,7 @@ unfolding toml_on_literals is_utf8 chars volume_of top_of top_of_one top_of_two 
 rule_7_before_8 = refl
 
 rule_8_before_9 : config_of (codes "version = 2\nslice = 3\n[[printer]]\n[[guest]]\n") ≡ Err (fault 8 0)
-unfolding toml_on_literals is_utf8 chars printer_of top_of top_of_one top_of_two tables_at numbers_of rows_of judged config_in config_of
+unfolding toml_on_literals is_utf8 chars named_line_of top_of top_of_one top_of_two tables_at numbers_of rows_of judged config_in config_of
 rule_8_before_9 = refl
 
 rule_9_before_10 : config_of (codes "version = 2\nslice = 3\n[[guest]]\n[audit]\n") ≡ Err (fault 9 0)
@@ -60,7 +60,7 @@ rule_9_before_10 = refl
 
 -- an audit without keys, and two terminals of one name
 rule_10_before_11 : config_of (codes "version = 2\nslice = 3\n[[terminal]]\nname = \"T\"\nline = 0\nclass = \"0{};0{}\"\n[[terminal]]\nname = \"T\"\nline = 1\nclass = \"0{};0{}\"\n[audit]\n") ≡ Err (fault 10 0)
-unfolding toml_on_literals is_utf8 chars audit_of terminal_of scan.class_of scan.step_of scan.start_of scan.more_level top_of top_of_one top_of_two tables_at numbers_of rows_of judged config_in config_of
+unfolding toml_on_literals is_utf8 chars audit_of named_line_of scan.class_of scan.step_of scan.start_of scan.more_level top_of top_of_one top_of_two tables_at numbers_of rows_of judged config_in config_of
 rule_10_before_11 = refl
 
 -- a configuration that keeps the rules 11 to 18, in which a printer, a volume more, a terminal's class, a guest and the

@@ -3,6 +3,7 @@ use Rattle.std.specs.Prelude.{ℕ, suc, ℤ, pos, List, [], ◌∷◌, codes, Bo
 use Rattle.std.specs.Ordering.{nat_cmp, match_ordering}
 use Rattle.std.specs.Cmp.Lexicographic.{slice_cmp}
 use Rattle.toml.specs.Data.{Data, string, integer, boolean, array, table, Items, no_items, item, Members, no_members, member}
+use Rattle.vv_class.specs.declared.class.AccessClass.{AccessClass}
 use Rattle.vv_class.specs.Text.{class_text}
 use Rattle.sys_config.specs.Reads.{◌>>=◌, integer_at}
 use Rattle.sys_config.specs.Config.{document_of}
@@ -31,36 +32,31 @@ with_any k (Some d) ms = with_member k d ms
 abbrev pub number : ℕ → Data
 number n = integer (pos n)
 
-unfoldable pub written_terminal : Terminal → Members
-written_terminal t = member (codes "class") (string (class_text t.class)) (member (codes "line") (number t.line) (member (codes "name") (string t.name) no_members))
+unfoldable pub written_line : List ℕ → ℕ → AccessClass → Members
+written_line name line class = member (codes "class") (string (class_text class)) (member (codes "line") (number line) (member (codes "name") (string name) no_members))
+
+abbrev pub written_terminal : Terminal → Members
+written_terminal t = written_line t.name t.line t.class
+
+abbrev pub written_printer : PrinterRow → Members
+written_printer p = written_line p.name p.line p.class
 
 unfoldable pub written_volume : VolumeRow → Members
 written_volume v =
     member (codes "blocks") (number v.blocks) (member (codes "class") (string (class_text v.class)) (member (codes "drive") (number v.drive)
     (member (codes "name") (string v.name) no_members)))
 
-unfoldable pub written_printer : PrinterRow → Members
-written_printer p = member (codes "class") (string (class_text p.class)) (member (codes "line") (number p.line) (member (codes "name") (string p.name) no_members))
-
 unfoldable pub written_audit : Audit → Members
 written_audit a = member (codes "class") (string (class_text a.class)) (member (codes "line") (number a.line) no_members)
 
--- the names of objects at their places
-abbrev pub terminal_name : Option Terminal → List ℕ
-terminal_name None = []
-terminal_name (Some t) = t.name
-
-abbrev pub volume_name : Option VolumeRow → List ℕ
-volume_name None = []
-volume_name (Some v) = v.name
-
-abbrev pub printer_name : Option PrinterRow → List ℕ
-printer_name None = []
-printer_name (Some p) = p.name
+-- the name of the object at a place
+abbrev pub name_there : {A : Type 0} → (A → List ℕ) → Option A → List ℕ
+name_there name_of None = []
+name_there name_of (Some x) = name_of x
 
 unfoldable pub written_mount : List VolumeRow → ℕ → Mount → Members
 written_mount volumes unit m =
-    member (codes "unit") (number unit) (member (codes "volume") (string (volume_name (slice_get volumes m.volume))) (member (codes "write") (boolean m.write) no_members))
+    member (codes "unit") (number unit) (member (codes "volume") (string (name_there (λ (v : VolumeRow). v.name) (slice_get volumes m.volume))) (member (codes "write") (boolean m.write) no_members))
 
 -- the mounts at the units from one on
 abbrev pub mount_items : List VolumeRow → ℕ → List (Option Mount) → Items
@@ -79,11 +75,14 @@ fixed_keys c g =
     (member (codes "name") (string g.name) (member (codes "pages") (number g.pages) (member (codes "quantum") (number g.quantum)
     (member (codes "start") (number g.start) no_members)))))))))
 
+abbrev pub object_value : {A : Type 0} → (A → List ℕ) → List A → Option ℕ → Option Data
+object_value name_of rows place = option_map (λ k. string (name_there name_of (slice_get rows k))) place
+
 abbrev pub console_value : List Terminal → Option ℕ → Option Data
-console_value terminals place = option_map (λ k. string (terminal_name (slice_get terminals k))) place
+console_value = object_value (λ (t : Terminal). t.name)
 
 abbrev pub printer_value : List PrinterRow → Option ℕ → Option Data
-printer_value printers place = option_map (λ k. string (printer_name (slice_get printers k))) place
+printer_value = object_value (λ (p : PrinterRow). p.name)
 
 abbrev pub dump_value : Option ℕ → Option Data
 dump_value line = option_map number line

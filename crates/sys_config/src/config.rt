@@ -5,8 +5,9 @@ ghost use Rattle.sys_objects.specs.Condition.{IsConfig};
 ghost use Rattle.sys_objects.specs.Rules.{IsFew};
 ghost use Rattle.sys_config.specs.Config.{document_of, audit_if_any, rows_of, config_in, config_of};
 
-use crate::entries::audit;
-use crate::lists::{guest_rows, rows};
+use crate::entries::{UpTo, audit};
+use crate::guests::Guests;
+use crate::lists::rows;
 use crate::numbers::{Limits, most_guests, read_numbers, top_level};
 use crate::top::{audit_table, tables_at};
 use crate::{Audit, Config, ConfigError, Rows};
@@ -50,17 +51,16 @@ fn read_rows(
         return Err(fault(5, 3));
     };
     let top = top_level(limits.quantum);
-    let terminals = rows(alloc, terminals, top, 6)?;
-    let volumes = rows(alloc, volumes, top, 7)?;
-    let printers = rows(alloc, printers, top, 8)?;
-    let guests = guest_rows(
-        alloc,
-        guests,
-        limits.quantum,
-        terminals.as_slice(),
-        volumes.as_slice(),
-        printers.as_slice(),
-    )?;
+    let terminals = rows(alloc, &UpTo(top), terminals, 6)?;
+    let volumes = rows(alloc, &UpTo(top), volumes, 7)?;
+    let printers = rows(alloc, &UpTo(top), printers, 8)?;
+    let named = Guests {
+        quantum: limits.quantum,
+        terminals: terminals.as_slice(),
+        volumes: volumes.as_slice(),
+        printers: printers.as_slice(),
+    };
+    let guests = rows(alloc, &named, guests, 9)?;
     let Some(audit) = audit_if_any(audit, top) else {
         return Err(fault(10, 0));
     };

@@ -1,7 +1,8 @@
 ghost use Rattle.std.specs.Prelude.{◌≡◌, ◌≤◌, IfSome};
 ghost use Rattle.toml.specs.View.{table_view};
-ghost use Rattle.sys_config.specs.Entries.{class_in, name_at, class_at, line_at, terminal_of, volume_of, printer_of, audit_of};
+ghost use Rattle.sys_config.specs.Entries.{class_in, name_at, class_at, line_at, named_line_of, audit_of};
 
+use crate::lists::Reader;
 use crate::reads::{are_known, number_at, text_at};
 use crate::{Audit, PrinterRow, Terminal, VolumeRow};
 use toml::Table;
@@ -52,10 +53,17 @@ fn line_at(table: &Table, key: &str) -> Option<u8>
     }
 }
 
-/// An entry of the terminals.
-#[tactic(auto, unfolding(crate::specs::Entries::terminal_of))]
-pub fn terminal(table: &Table, top: u8) -> Option<Terminal>
-    ensures { result ≡ terminal_of top (table_view table.now) }
+/// What a terminal and a printer have.
+#[derive(Drop)]
+pub struct NamedLine {
+    pub name: Name,
+    pub line: u8,
+    pub class: AccessClass,
+}
+
+#[tactic(auto, unfolding(crate::specs::Entries::named_line_of))]
+fn named_line(table: &Table, top: u8) -> Option<NamedLine>
+    ensures { result ≡ named_line_of top (table_view table.now) }
 {
     if !are_known(table, &["name", "line", "class"]) {
         return None;
@@ -63,41 +71,62 @@ pub fn terminal(table: &Table, top: u8) -> Option<Terminal>
     let name = name_at(table, "name")?;
     let line = line_at(table, "line")?;
     let class = class_at(table, top)?;
-    Some(Terminal { name, line, class })
+    Some(NamedLine { name, line, class })
 }
 
-/// An entry of the volumes.
-#[tactic(auto, unfolding(crate::specs::Entries::volume_of))]
-pub fn volume(table: &Table, top: u8) -> Option<VolumeRow>
-    ensures { result ≡ volume_of top (table_view table.now) }
-{
-    if !are_known(table, &["name", "drive", "blocks", "class"]) {
-        return None;
+/// How entries are read that name no others: with levels up to this one.
+#[derive(Clone, Copy)]
+pub struct UpTo(pub u8);
+
+impl Reader<Terminal> for UpTo {
+    ghost use Rattle.sys_config.specs.Entries.{terminal_of};
+
+    ghost can_read = { λ reader. Unit {0} };
+
+    ghost row_of = { λ reader. terminal_of reader.0 };
+
+    fn read(&self, table: &Table) -> Option<Terminal> {
+        let NamedLine { name, line, class } = named_line(table, self.0)?;
+        Some(Terminal { name, line, class })
     }
-    let name = name_at(table, "name")?;
-    let drive = number_at(table, "drive", 0, 15)? as u8;
-    let blocks = number_at(table, "blocks", 1, 2048)?;
-    let class = class_at(table, top)?;
-    Some(VolumeRow {
-        name,
-        drive,
-        blocks,
-        class,
-    })
 }
 
-/// An entry of the printers.
-#[tactic(auto, unfolding(crate::specs::Entries::printer_of))]
-pub fn printer(table: &Table, top: u8) -> Option<PrinterRow>
-    ensures { result ≡ printer_of top (table_view table.now) }
-{
-    if !are_known(table, &["name", "line", "class"]) {
-        return None;
+impl Reader<PrinterRow> for UpTo {
+    ghost use Rattle.sys_config.specs.Entries.{printer_of};
+
+    ghost can_read = { λ reader. Unit {0} };
+
+    ghost row_of = { λ reader. printer_of reader.0 };
+
+    fn read(&self, table: &Table) -> Option<PrinterRow> {
+        let NamedLine { name, line, class } = named_line(table, self.0)?;
+        Some(PrinterRow { name, line, class })
     }
-    let name = name_at(table, "name")?;
-    let line = line_at(table, "line")?;
-    let class = class_at(table, top)?;
-    Some(PrinterRow { name, line, class })
+}
+
+impl Reader<VolumeRow> for UpTo {
+    ghost use Rattle.sys_config.specs.Entries.{volume_of};
+
+    ghost can_read = { λ reader. Unit {0} };
+
+    ghost row_of = { λ reader. volume_of reader.0 };
+
+    #[tactic(auto, unfolding(crate::specs::Entries::volume_of))]
+    fn read(&self, table: &Table) -> Option<VolumeRow> {
+        if !are_known(table, &["name", "drive", "blocks", "class"]) {
+            return None;
+        }
+        let name = name_at(table, "name")?;
+        let drive = number_at(table, "drive", 0, 15)? as u8;
+        let blocks = number_at(table, "blocks", 1, 2048)?;
+        let class = class_at(table, self.0)?;
+        Some(VolumeRow {
+            name,
+            drive,
+            blocks,
+            class,
+        })
+    }
 }
 
 /// The audit.

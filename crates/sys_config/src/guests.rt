@@ -1,12 +1,14 @@
 ghost use Rattle.std.specs.Prelude.{◌≡◌, ◌≤◌, length, codes};
 ghost use Rattle.toml.specs.View.{view, table_view};
 ghost use Rattle.sys_config.specs.Reads.{if_any, number_in};
-ghost use Rattle.sys_config.specs.Guests.{object_in, mounts_in, modify_in, modify_of, own_quantum, image_at, keys_of_guest, bare_guest_of, guest_of};
+ghost use Rattle.sys_config.specs.Guests.{object_in, mounts_in, modify_in, modify_of, own_quantum, image_at, keys_of_guest, bare_guest_of};
 ghost use Rattle.sys_config.specs.Reads.{are_known as are_known_of};
 
 use crate::entries::{class_at, name_at};
+use crate::lists::Reader;
 use crate::mounts::mounts_in;
 use crate::named::{Named, place_by};
+use crate::numbers::top_level;
 use crate::reads::{are_known, flag_at, number_at, number_in, text_at, value_at};
 use crate::{GuestRow, Mount, PrinterRow, Terminal, VolumeRow};
 use toml::{Table, Value};
@@ -159,29 +161,35 @@ fn bare_guest(table: &Table, top: u8, quantum: Option<u32>) -> Option<GuestRow>
     })
 }
 
-/// An entry of the guests.
-#[tactic(auto, unfolding(crate::specs::Guests::guest_of))]
-pub fn guest(
-    table: &Table,
-    top: u8,
-    quantum: Option<u32>,
-    terminals: &[Terminal],
-    volumes: &[VolumeRow],
-    printers: &[PrinterRow],
-) -> Option<GuestRow>
-    requires terminals { length terminals.now ≤ 32 }
-    requires volumes { length volumes.now ≤ 16 }
-    requires printers { length printers.now ≤ 32 }
-    ensures { result ≡ guest_of top quantum terminals.now volumes.now printers.now (table_view table.now) }
-{
-    if !are_known_keys(table, quantum) {
-        return None;
+/// How guests are read, that name these objects.
+#[derive(Clone, Copy)]
+pub struct Guests<'a> {
+    /// The quantum of all of them, in version 1.
+    pub quantum: Option<u32>,
+    pub terminals: &'a [Terminal],
+    pub volumes: &'a [VolumeRow],
+    pub printers: &'a [PrinterRow],
+}
+
+impl<'a> Reader<GuestRow> for Guests<'a> {
+    ghost use Rattle.sys_config.specs.Guests.{guest_of};
+    ghost use Rattle.sys_config.specs.Top.{top_level};
+
+    ghost can_read = { λ o. (length o.terminals.now ≤ 32) × (length o.volumes.now ≤ 16) × (length o.printers.now ≤ 32) };
+
+    ghost row_of = { λ o. guest_of (top_level o.quantum) o.quantum o.terminals.now o.volumes.now o.printers.now };
+
+    #[tactic(auto, unfolding(crate::specs::Guests::guest_of))]
+    fn read(&self, table: &Table) -> Option<GuestRow> {
+        if !are_known_keys(table, self.quantum) {
+            return None;
+        }
+        let mut guest = bare_guest(table, top_level(self.quantum), self.quantum)?;
+        guest.console = object_if_any(table, "console", self.terminals)?;
+        guest.printer = object_if_any(table, "printer", self.printers)?;
+        guest.dump = dump_if_any(table)?;
+        guest.modify_faults = modify_if_any(table)?.unwrap_or(false);
+        guest.mounts = mounts_if_any(table, self.volumes)?.unwrap_or([None; 4]);
+        Some(guest)
     }
-    let mut guest = bare_guest(table, top, quantum)?;
-    guest.console = object_if_any(table, "console", terminals)?;
-    guest.printer = object_if_any(table, "printer", printers)?;
-    guest.dump = dump_if_any(table)?;
-    guest.modify_faults = modify_if_any(table)?.unwrap_or(false);
-    guest.mounts = mounts_if_any(table, volumes)?.unwrap_or([None; 4]);
-    Some(guest)
 }

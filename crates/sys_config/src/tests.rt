@@ -1,36 +1,51 @@
 //! Texts of configurations and what they stand for, worked out by hand.
-use crate::*;
-use std::alloc::{AllocError, Global};
+use crate::{Audit, Config, ConfigError, GuestRow, Mount, Rows, migrate_text, read_config};
+use Part::{Drive, Guest, Line, Text, Unit};
+use std::alloc::Global;
 use std::process::Abort;
 use std::test::Fail;
 use vv_class::AccessClass;
 
-const V1: &str = "version = 1\nquantum = 10\nslice = 3\n";
+/// A part of a text.
+#[derive(Clone, Copy)]
+enum Part {
+    /// As it stands.
+    Text(&'static str),
+    /// A terminal or a printer: which, its name, its line and its class.
+    Line(&'static str, &'static str, &'static str, &'static str),
+    /// A volume: its name, its drive, its blocks and its class.
+    Drive(&'static str, &'static str, &'static str, &'static str),
+    /// A guest: its name, its class, its pages, its image, its load, and whether it starts by itself.
+    Guest(&'static str, &'static str, &'static str, &'static str, &'static str, &'static str),
+    /// A mount of the guest above: its unit, its volume, and whether it is written.
+    Unit(&'static str, &'static str, &'static str),
+}
 
-const V2: &str = "version = 2\nslice = 3\n";
+const V1: Part = Text("version = 1\nquantum = 10\nslice = 3\n");
 
-const T1: &str = "[[terminal]]\nname = \"T1\"\nline = 0\nclass = \"0{};0{}\"\n";
+const V2: Part = Text("version = 2\nslice = 3\n");
 
-const T2: &str = "[[terminal]]\nname = \"T2\"\nline = 1\nclass = \"2{};0{}\"\n";
+const QUANTUM: Part = Text("quantum = 10\n");
 
-const P1: &str = "[[printer]]\nname = \"P1\"\nline = 2\nclass = \"0{};0{}\"\n";
+const AUDIT: Part = Text("[audit]\nline = 31\nclass = \"0{};0{}\"\n");
 
-const D1: &str = "[[volume]]\nname = \"D1\"\ndrive = 0\nblocks = 1\nclass = \"0{};0{}\"\n";
+const T1: Part = Line("terminal", "T1", "0", "0{};0{}");
 
-const D2: &str = "[[volume]]\nname = \"D2\"\ndrive = 15\nblocks = 2048\nclass = \"2{};0{}\"\n";
+const T2: Part = Line("terminal", "T2", "1", "2{};0{}");
 
-const A: &str =
-    "[[guest]]\nname = \"A\"\nclass = \"0{};0{}\"\npages = 64\nimage = \"a\"\nload = 512\nstart = 512\nautostart = true\n";
+const P1: Part = Line("printer", "P1", "2", "0{};0{}");
 
-const B: &str =
-    "[[guest]]\nname = \"B\"\nclass = \"2{};0{}\"\npages = 2048\nimage = \"b\"\nload = 0\nstart = 4294967295\nautostart = false\n";
+const D1: Part = Drive("D1", "0", "1", "0{};0{}");
 
-const BIG: &str =
-    "class = \"0{};0{}\"\npages = 2048\nimage = \"a\"\nload = 512\nstart = 512\nautostart = true\nquantum = 10\n";
+const D2: Part = Drive("D2", "15", "2048", "2{};0{}");
 
-const MOUNT: &str = "[[guest.mount]]\n";
+const A: Part = Guest("A", "0{};0{}", "64", "a", "512", "true");
 
-const AUDIT: &str = "[audit]\nline = 31\nclass = \"0{};0{}\"\n";
+const C: Part = Guest("C", "0{};0{}", "64", "a", "512", "true");
+
+const CONSOLE: Part = Text("console = \"T1\"\n");
+
+const B: Part = Guest("B", "2{};0{}", "2048", "b", "4294967295", "false");
 
 /// A text with objects of each kind, and another spelling of it.
 const WHOLE: &str =
@@ -40,31 +55,31 @@ const SPELLED: &str =
     "# Two guests\r\n\"version\" = 0x1\r\n'quantum' = 1_0\r\nslice = 0b11\r\naudit.class = '2{};0{}'\r\naudit.line = 0x1F\r\nterminal = [{class = \"0{};0{}\", name = 'T1', line = 0}, {line = 1, name = \"T2\", class = \"2{};0{}\"}] # two\r\nvolume = [\r\n  {name = \"D1\", drive = 0, blocks = 1, class = \"0{};0{}\"},\r\n  {name = \"D2\", drive = 0o17, blocks = 2048, class = \"2{};0{}\"},\r\n]\r\nprinter = [{name = \"P1\", line = 2, class = \"2{};0{}\"}]\r\n[[guest]]\r\nname = \"\\u0041\"\r\nclass = \"2{};0{}\"\r\npages = 0x800\r\nimage = \"a.exe\"\r\nload = 512\r\nstart = 0xFFFFFFFF\r\nautostart = true\r\nconsole = \"T2\"\r\nprinter = \"P1\"\r\ndump = 3\r\nmodify = \"fault\"\r\nmount = [{unit = 3, volume = \"D2\", write = true}, {unit = 0, volume = \"D1\", write = false}]\r\n[[guest]]\r\nname = \"B\"\r\nclass = \"0{};0{}\"\r\npages = 64\r\nimage = \"b\"\r\nload = 0\r\nstart = 0\r\nautostart = false\r\n";
 
 /// The parts of a text, the rule that the text breaks, and the place.
-type Case = (&'static [&'static str], u8, u32);
+type Case = (&'static [Part], u8, u32);
 
 static TOPS: [Case; 24] = [
-    (&["version = \"1"], 0, 0),
-    (&["version = 1\nversion = 1\n"], 0, 0),
-    (&["version = 99999999999999999999\n"], 0, 0),
-    (&[""], 1, 0),
-    (&["version = 1\nquantum = 10\n"], 1, 0),
-    (&["version = 1\nslice = 3\n"], 1, 0),
-    (&["version = 2\nquantum = 10\nslice = 3\n"], 1, 0),
-    (&["version = \"1\"\nquantum = 10\nslice = 3\n"], 1, 0),
-    (&["version = 1\nquantum = 10.0\nslice = 3\n"], 1, 0),
-    (&[V1, "guests = []\n"], 1, 0),
-    (&[V1, "audit = 3\n"], 1, 0),
-    (&["version = 3\nquantum = 10\nslice = 3\n"], 2, 0),
-    (&["version = 0\nquantum = 0\nslice = 0\n"], 2, 0),
-    (&["version = 1\nquantum = 0\nslice = 3\n"], 3, 0),
-    (&["version = 1\nquantum = 100001\nslice = 0\n"], 3, 0),
-    (&["version = 1\nquantum = 10\nslice = 0\n"], 4, 0),
-    (&["version = 1\nquantum = 10\nslice = 11\n"], 4, 0),
-    (&["version = 2\nslice = 100001\n"], 4, 0),
-    (&[V1, "terminal = 3\n"], 5, 0),
-    (&[V1, "volume = [1]\n"], 5, 1),
-    (&[V1, "printer = \"P1\"\n"], 5, 2),
-    (&[V1, "[guest]\n"], 5, 3),
+    (&[Text("version = \"1")], 0, 0),
+    (&[Text("version = 1\nversion = 1\n")], 0, 0),
+    (&[Text("version = 99999999999999999999\n")], 0, 0),
+    (&[], 1, 0),
+    (&[Text("version = 1\nquantum = 10\n")], 1, 0),
+    (&[Text("version = 1\nslice = 3\n")], 1, 0),
+    (&[Text("version = 2\nquantum = 10\nslice = 3\n")], 1, 0),
+    (&[Text("version = \"1\"\nquantum = 10\nslice = 3\n")], 1, 0),
+    (&[Text("version = 1\nquantum = 10.0\nslice = 3\n")], 1, 0),
+    (&[V1, Text("guests = []\n")], 1, 0),
+    (&[V1, Text("audit = 3\n")], 1, 0),
+    (&[Text("version = 3\nquantum = 10\nslice = 3\n")], 2, 0),
+    (&[Text("version = 0\nquantum = 0\nslice = 0\n")], 2, 0),
+    (&[Text("version = 1\nquantum = 0\nslice = 3\n")], 3, 0),
+    (&[Text("version = 1\nquantum = 100001\nslice = 0\n")], 3, 0),
+    (&[Text("version = 1\nquantum = 10\nslice = 0\n")], 4, 0),
+    (&[Text("version = 1\nquantum = 10\nslice = 11\n")], 4, 0),
+    (&[Text("version = 2\nslice = 100001\n")], 4, 0),
+    (&[V1, Text("terminal = 3\n")], 5, 0),
+    (&[V1, Text("volume = [1]\n")], 5, 1),
+    (&[V1, Text("printer = \"P1\"\n")], 5, 2),
+    (&[V1, Text("[guest]\n")], 5, 3),
     (&[V1, A, A, A, A, A, A, A, A, A], 5, 3),
     (
         &[V2, A, A, A, A, A, A, A, A, A, A, A, A, A, A, A, A, A],
@@ -74,181 +89,77 @@ static TOPS: [Case; 24] = [
 ];
 
 static ENTRIES: [Case; 33] = [
-    (&[V1, "[[terminal]]\nname = \"T1\"\nline = 0\n"], 6, 0),
-    (
-        &[
-            V1,
-            T1,
-            "[[terminal]]\nname = \"T2\"\nline = 32\nclass = \"0{};0{}\"\n",
-        ],
-        6,
-        1,
-    ),
-    (
-        &[
-            V1,
-            "[[terminal]]\nname = \"t1\"\nline = 0\nclass = \"0{};0{}\"\n",
-        ],
-        6,
-        0,
-    ),
-    (
-        &[
-            V1,
-            "[[terminal]]\nname = \"T12345678\"\nline = 0\nclass = \"0{};0{}\"\n",
-        ],
-        6,
-        0,
-    ),
-    (
-        &[
-            V1,
-            "[[terminal]]\nname = \"T1\"\nline = 0\nclass = \"16{};0{}\"\n",
-        ],
-        6,
-        0,
-    ),
-    (
-        &[
-            V1,
-            "[[terminal]]\nname = \"T1\"\nline = 0\nclass = \"0{};16{}\"\n",
-        ],
-        6,
-        0,
-    ),
-    (
-        &[
-            V2,
-            "[[terminal]]\nname = \"T1\"\nline = 0\nclass = \"256{};0{}\"\n",
-        ],
-        6,
-        0,
-    ),
-    (&[V1, T1, "x = 1\n", "[[guest]]\n"], 6, 0),
-    (
-        &[
-            V1,
-            "[[volume]]\nname = \"D1\"\ndrive = 16\nblocks = 1\nclass = \"0{};0{}\"\n",
-        ],
-        7,
-        0,
-    ),
-    (
-        &[
-            V1,
-            D1,
-            "[[volume]]\nname = \"D2\"\ndrive = 1\nblocks = 0\nclass = \"0{};0{}\"\n",
-        ],
-        7,
-        1,
-    ),
-    (
-        &[
-            V1,
-            "[[volume]]\nname = \"D1\"\ndrive = 0\nblocks = 2049\nclass = \"0{};0{}\"\n",
-        ],
-        7,
-        0,
-    ),
-    (
-        &[
-            V1,
-            "[[printer]]\nname = \"P1\"\nline = -1\nclass = \"0{};0{}\"\n",
-        ],
-        8,
-        0,
-    ),
-    (
-        &[
-            V1,
-            P1,
-            "[[printer]]\nname = \"P2\"\nline = 3\nclass = \"0{};0\"\n",
-        ],
-        8,
-        1,
-    ),
-    (&[V1, A, "quantum = 10\n"], 9, 0),
+    (&[V1, Text("[[terminal]]\nname = \"T1\"\nline = 0\n")], 6, 0),
+    (&[V1, T1, Line("terminal", "T2", "32", "0{};0{}")], 6, 1),
+    (&[V1, Line("terminal", "t1", "0", "0{};0{}")], 6, 0),
+    (&[V1, Line("terminal", "T12345678", "0", "0{};0{}")], 6, 0),
+    (&[V1, Line("terminal", "T1", "0", "16{};0{}")], 6, 0),
+    (&[V1, Line("terminal", "T1", "0", "0{};16{}")], 6, 0),
+    (&[V2, Line("terminal", "T1", "0", "256{};0{}")], 6, 0),
+    (&[V1, T1, Text("x = 1\n[[guest]]\n")], 6, 0),
+    (&[V1, Drive("D1", "16", "1", "0{};0{}")], 7, 0),
+    (&[V1, D1, Drive("D2", "1", "0", "0{};0{}")], 7, 1),
+    (&[V1, Drive("D1", "0", "2049", "0{};0{}")], 7, 0),
+    (&[V1, Line("printer", "P1", "-1", "0{};0{}")], 8, 0),
+    (&[V1, P1, Line("printer", "P2", "3", "0{};0")], 8, 1),
+    (&[V1, A, QUANTUM], 9, 0),
     (&[V2, A], 9, 0),
-    (&[V2, A, "quantum = 0\n"], 9, 0),
-    (&[V2, A, "quantum = 1\n", B, "quantum = 100001\n"], 9, 1),
-    (&[V1, A, "modify = \"no\"\n"], 9, 0),
-    (&[V1, A, "modify = true\n"], 9, 0),
-    (&[V1, A, "console = \"t1\"\n"], 9, 0),
-    (&[V1, A, "printer = 2\n"], 9, 0),
-    (&[V1, A, "dump = 32\n"], 9, 0),
-    (&[V1, A, "mount = 3\n"], 9, 0),
+    (&[V2, A, Text("quantum = 0\n")], 9, 0),
+    (
+        &[V2, A, Text("quantum = 1\n"), B, Text("quantum = 100001\n")],
+        9,
+        1,
+    ),
+    (&[V1, A, Text("modify = \"no\"\n")], 9, 0),
+    (&[V1, A, Text("modify = true\n")], 9, 0),
+    (&[V1, A, Text("console = \"t1\"\n")], 9, 0),
+    (&[V1, A, Text("printer = 2\n")], 9, 0),
+    (&[V1, A, Text("dump = 32\n")], 9, 0),
+    (&[V1, A, Text("mount = 3\n")], 9, 0),
+    (&[V1, D1, A, Unit("4", "D1", "false")], 9, 0),
+    (&[V1, D1, A, Unit("0", "d1", "false")], 9, 0),
     (
         &[
             V1,
             D1,
             A,
-            MOUNT,
-            "unit = 4\nvolume = \"D1\"\nwrite = false\n",
+            Text("[[guest.mount]]\nunit = 0\nvolume = \"D1\"\n"),
         ],
         9,
         0,
     ),
-    (
-        &[
-            V1,
-            D1,
-            A,
-            MOUNT,
-            "unit = 0\nvolume = \"d1\"\nwrite = false\n",
-        ],
-        9,
-        0,
-    ),
-    (&[V1, D1, A, MOUNT, "unit = 0\nvolume = \"D1\"\n"], 9, 0),
     (
         &[
             V1,
             D1,
             B,
             A,
-            MOUNT,
-            "unit = 3\nvolume = \"D1\"\nwrite = false\n",
-            MOUNT,
-            "unit = 3\nvolume = \"D1\"\nwrite = false\n",
+            Unit("3", "D1", "false"),
+            Unit("3", "D1", "false"),
         ],
         9,
         1,
     ),
+    (&[V1, Guest("A", "0{};0{}", "63", "a", "512", "true")], 9, 0),
     (
-        &[
-            V1,
-            "[[guest]]\nname = \"A\"\nclass = \"0{};0{}\"\npages = 63\nimage = \"a\"\nload = 512\nstart = 512\nautostart = true\n",
-        ],
+        &[V1, Guest("A", "0{};0{}", "64", "a b", "512", "true")],
         9,
         0,
     ),
     (
-        &[
-            V1,
-            "[[guest]]\nname = \"A\"\nclass = \"0{};0{}\"\npages = 64\nimage = \"a b\"\nload = 512\nstart = 512\nautostart = true\n",
-        ],
+        &[V1, Guest("A", "0{};0{}", "64", "a", "4294967296", "true")],
         9,
         0,
     ),
+    (&[V1, Guest("A", "0{};0{}", "64", "a", "512", "1")], 9, 0),
+    (&[V1, Text("[audit]\nline = 31\n")], 10, 0),
     (
         &[
             V1,
-            "[[guest]]\nname = \"A\"\nclass = \"0{};0{}\"\npages = 64\nimage = \"a\"\nload = 4294967296\nstart = 512\nautostart = true\n",
+            Text("[audit]\nline = 32\nclass = \"0{};0{}\"\n"),
+            T1,
+            T1,
         ],
-        9,
-        0,
-    ),
-    (
-        &[
-            V1,
-            "[[guest]]\nname = \"A\"\nclass = \"0{};0{}\"\npages = 64\nimage = \"a\"\nload = 512\nstart = 512\nautostart = 1\n",
-        ],
-        9,
-        0,
-    ),
-    (&[V1, "[audit]\nline = 31\n"], 10, 0),
-    (
-        &[V1, "[audit]\nline = 32\nclass = \"0{};0{}\"\n", T1, T1],
         10,
         0,
     ),
@@ -263,169 +174,123 @@ static SEVERAL: [Case; 29] = [
             T2,
             D1,
             P1,
-            "[[guest]]\nname = \"D1\"\nclass = \"0{};0{}\"\npages = 64\nimage = \"a\"\nload = 512\nstart = 512\nautostart = true\n",
+            Guest("D1", "0{};0{}", "64", "a", "512", "true"),
         ],
         11,
         4,
     ),
+    (&[V1, T1, Line("terminal", "T2", "0", "0{};0{}")], 12, 1),
+    (&[V1, T1, T2, Line("printer", "P1", "1", "0{};0{}")], 12, 2),
+    (&[V1, T1, P1, A, B, Text("dump = 2\n")], 12, 2),
     (
-        &[
-            V1,
-            T1,
-            "[[terminal]]\nname = \"T2\"\nline = 0\nclass = \"0{};0{}\"\n",
-        ],
+        &[V1, T1, A, Text("dump = 5\n"), B, Text("dump = 5\n")],
         12,
-        1,
+        2,
     ),
     (
         &[
             V1,
+            Text("audit = {line = 0, class = \"9{};0{}\"}\n"),
             T1,
             T2,
-            "[[printer]]\nname = \"P1\"\nline = 1\nclass = \"0{};0{}\"\n",
         ],
         12,
         2,
     ),
-    (&[V1, T1, P1, A, B, "dump = 2\n"], 12, 2),
-    (&[V1, T1, A, "dump = 5\n", B, "dump = 5\n"], 12, 2),
-    (
-        &[V1, "audit = {line = 0, class = \"9{};0{}\"}\n", T1, T2],
-        12,
-        2,
-    ),
+    (&[V1, D1, Drive("D2", "0", "1", "0{};0{}")], 13, 1),
+    (&[V1, P1, A, Text("printer = \"P2\"\n")], 14, 0),
+    (&[V1, T1, A, Text("printer = \"T1\"\n")], 14, 0),
     (
         &[
             V1,
-            D1,
-            "[[volume]]\nname = \"D2\"\ndrive = 0\nblocks = 1\nclass = \"0{};0{}\"\n",
+            P1,
+            A,
+            Text("printer = \"P1\"\n"),
+            B,
+            Text("printer = \"P1\"\n"),
         ],
-        13,
-        1,
-    ),
-    (&[V1, P1, A, "printer = \"P2\"\n"], 14, 0),
-    (&[V1, T1, A, "printer = \"T1\"\n"], 14, 0),
-    (
-        &[V1, P1, A, "printer = \"P1\"\n", B, "printer = \"P1\"\n"],
         14,
         1,
     ),
-    (&[V1, T1, A, "console = \"T2\"\n"], 15, 0),
-    (&[V1, T1, T2, A, "console = \"T2\"\n"], 15, 0),
-    (&[V1, T1, T2, A, B, "console = \"T1\"\n"], 15, 1),
-    (
-        &[
-            V1,
-            T1,
-            A,
-            "console = \"T1\"\n",
-            "[[guest]]\nname = \"C\"\nclass = \"0{};0{}\"\npages = 64\nimage = \"a\"\nload = 512\nstart = 512\nautostart = true\nconsole = \"T1\"\n",
-        ],
-        15,
-        1,
-    ),
-    (
-        &[V1, A, MOUNT, "unit = 0\nvolume = \"D1\"\nwrite = false\n"],
-        16,
-        0,
-    ),
-    (
-        &[
-            V1,
-            D1,
-            D2,
-            A,
-            MOUNT,
-            "unit = 1\nvolume = \"D2\"\nwrite = false\n",
-        ],
-        16,
-        0,
-    ),
-    (
-        &[
-            V1,
-            D1,
-            D2,
-            A,
-            B,
-            MOUNT,
-            "unit = 2\nvolume = \"D1\"\nwrite = true\n",
-        ],
-        16,
-        1,
-    ),
+    (&[V1, T1, A, Text("console = \"T2\"\n")], 15, 0),
+    (&[V1, T1, T2, A, Text("console = \"T2\"\n")], 15, 0),
+    (&[V1, T1, T2, A, B, Text("console = \"T1\"\n")], 15, 1),
+    (&[V1, T1, A, CONSOLE, C, CONSOLE], 15, 1),
+    (&[V1, A, Unit("0", "D1", "false")], 16, 0),
+    (&[V1, D1, D2, A, Unit("1", "D2", "false")], 16, 0),
+    (&[V1, D1, D2, A, B, Unit("2", "D1", "true")], 16, 1),
     (&[V1, AUDIT, T1, T2], 17, 1),
     (&[V1, AUDIT, T1, D2, B], 17, 1),
     (&[V1, AUDIT, T1, D1, P1, A, B], 17, 4),
     (
         &[
             V2,
-            "[[guest]]\nname = \"A\"\n",
-            BIG,
-            "[[guest]]\nname = \"B\"\n",
-            BIG,
-            "[[guest]]\nname = \"C\"\n",
-            BIG,
-            "[[guest]]\nname = \"D\"\n",
-            BIG,
-            "[[guest]]\nname = \"E\"\n",
-            BIG,
-            "[[guest]]\nname = \"F\"\n",
-            BIG,
-            "[[guest]]\nname = \"G\"\n",
-            BIG,
-            "[[guest]]\nname = \"H\"\n",
-            BIG,
-            "[[guest]]\nname = \"I\"\n",
-            BIG,
+            Guest("A", "0{};0{}", "2048", "a", "512", "true"),
+            QUANTUM,
+            Guest("B", "0{};0{}", "2048", "a", "512", "true"),
+            QUANTUM,
+            Guest("C", "0{};0{}", "2048", "a", "512", "true"),
+            QUANTUM,
+            Guest("D", "0{};0{}", "2048", "a", "512", "true"),
+            QUANTUM,
+            Guest("E", "0{};0{}", "2048", "a", "512", "true"),
+            QUANTUM,
+            Guest("F", "0{};0{}", "2048", "a", "512", "true"),
+            QUANTUM,
+            Guest("G", "0{};0{}", "2048", "a", "512", "true"),
+            QUANTUM,
+            Guest("H", "0{};0{}", "2048", "a", "512", "true"),
+            QUANTUM,
+            Guest("I", "0{};0{}", "2048", "a", "512", "true"),
+            QUANTUM,
         ],
         18,
         8,
     ),
-    (&["version = 1\nquantum = 0\nslice = 0\n"], 3, 0),
-    (&[V1, "guest = 3\n", "[[terminal]]\n"], 5, 3),
-    (&[V1, "audit = {}\n", "[[guest]]\n"], 9, 0),
+    (&[Text("version = 1\nquantum = 0\nslice = 0\n")], 3, 0),
+    (&[V1, Text("guest = 3\n[[terminal]]\n")], 5, 3),
+    (&[V1, Text("audit = {}\n[[guest]]\n")], 9, 0),
     (&[V1, T1, T1, D1, D1], 11, 1),
     (
         &[
             V1,
             T1,
-            "[[terminal]]\nname = \"T2\"\nline = 0\nclass = \"0{};0{}\"\n",
+            Line("terminal", "T2", "0", "0{};0{}"),
             D1,
-            "[[volume]]\nname = \"D2\"\ndrive = 0\nblocks = 1\nclass = \"0{};0{}\"\n",
+            Drive("D2", "0", "1", "0{};0{}"),
         ],
         12,
         1,
     ),
-    (
-        &[V1, A, "console = \"T1\"\n", B, "printer = \"P1\"\n"],
-        14,
-        1,
-    ),
-    (
-        &[
-            V1,
-            A,
-            MOUNT,
-            "unit = 0\nvolume = \"D1\"\nwrite = false\n",
-            B,
-            "console = \"T1\"\n",
-        ],
-        15,
-        1,
-    ),
+    (&[V1, A, CONSOLE, B, Text("printer = \"P1\"\n")], 14, 1),
+    (&[V1, A, Unit("0", "D1", "false"), B, CONSOLE], 15, 1),
 ];
 
-fn joined(alloc: Global, parts: &[&str]) -> Result<String, AllocError> {
-    let mut text = String::new(alloc);
-    for part in parts {
-        text.push_str(part)?;
-    }
-    Ok(text)
+fn push(alloc: Global, text: &mut String, part: &Part) -> Result<(), Fail> {
+    let row = match *part {
+        Text(keys) => format!(in alloc; "{keys}")?,
+        Line(kind, name, line, class) => format!(in alloc;
+            "[[{kind}]]\nname = \"{name}\"\nline = {line}\nclass = \"{class}\"\n"
+        )?,
+        Drive(name, drive, blocks, class) => format!(in alloc;
+            "[[volume]]\nname = \"{name}\"\ndrive = {drive}\nblocks = {blocks}\nclass = \"{class}\"\n"
+        )?,
+        Guest(name, class, pages, image, load, autostart) => format!(in alloc;
+            "[[guest]]\nname = \"{name}\"\nclass = \"{class}\"\npages = {pages}\nimage = \"{image}\"\nload = {load}\nstart = 512\nautostart = {autostart}\n"
+        )?,
+        Unit(unit, volume, write) => format!(in alloc;
+            "[[guest.mount]]\nunit = {unit}\nvolume = \"{volume}\"\nwrite = {write}\n"
+        )?,
+    };
+    text.push_str(row.as_str())?;
+    Ok(())
 }
 
-fn breaks(rt: &impl Abort, alloc: Global, case: &Case) -> Result<(), AllocError> {
-    let text = joined(alloc, case.0)?;
+fn breaks(rt: &impl Abort, alloc: Global, case: &Case) -> Result<(), Fail> {
+    let mut text = String::new(alloc);
+    for part in case.0 {
+        push(alloc, &mut text, part)?;
+    }
     match read_config(alloc, text.as_str().as_bytes()) {
         Err(ConfigError::Fault(fault)) => {
             assert_eq!(rt;
@@ -529,7 +394,7 @@ fn two_spellings_stand_for_one_configuration_and_so_does_its_version_2(
         let again = read_config(rt.alloc(), migrated.as_slice())?;
         is_whole(&rt, &again);
     }
-    let config = read_config(rt.alloc(), V1.as_bytes())?;
+    let config = read_config(rt.alloc(), b"version = 1\nquantum = 10\nslice = 3\n")?;
     let migrated = migrate_text(rt.alloc(), &config)?;
     assert_eq!(rt;
         migrated.as_slice(),

@@ -1,4 +1,4 @@
-ghost use Rattle.std.specs.Prelude.{◌≡◌, ◌<◌, ◌≤◌, true, IsUtf8, IfOk, IfSome, OnOk, All, Ok, Some, pos, length, codes, slice_get, string_bytes};
+ghost use Rattle.std.specs.Prelude.{◌≡◌, ◌<◌, ◌≤◌, true, IsUtf8, IfOk, IfSome, OnOk, All, Ok, Some, option_map, pos, length, slice_get, string_bytes};
 ghost use Rattle.toml.specs.Data.{string};
 ghost use Rattle.toml.specs.View.{view, table_view, array_view};
 ghost use Rattle.vv_base.specs.Names.{is_object_name, is_file_name};
@@ -6,8 +6,9 @@ ghost use Rattle.vv_class.specs.Class.{IsClass};
 ghost use Rattle.vv_class.specs.Text.{class_text};
 ghost use Rattle.sys_objects.specs.Condition.{IsConfig, IsTerminal, IsVolume, IsPrinter, IsAudit, IsGuest, NamesObjects};
 ghost use Rattle.sys_config.specs.Config.{config_of};
-ghost use Rattle.sys_config.specs.Written.{version_of, with_member, with_any, written_terminal, written_volume, written_printer, written_audit, volume_name, written_mount, mount_items, modify_text, fixed_keys, console_value, printer_value, dump_value, audit_value, written_guest, items_by, lists, written};
+ghost use Rattle.sys_config.specs.Written.{version_of, with_member, with_any, written_line, written_terminal, written_volume, written_printer, written_audit, name_there, object_value, written_mount, mount_items, modify_text, fixed_keys, audit_value, written_guest, items_by, lists, written};
 
+use crate::named::Named;
 use crate::{Audit, Config, GuestRow, Mount, PrinterRow, Terminal, VolumeRow};
 use std::alloc::Global;
 use toml::ser::Error;
@@ -24,6 +25,21 @@ fn put(alloc: Global, table: &mut Table, key: &str, value: Value) -> Result<(), 
     match table.insert(key, value) {
         Ok(_) => Ok(()),
         Err(_) => Err(NoMemory),
+    }
+}
+
+/// Puts a value at a key, if there is one.
+fn put_if_any(
+    alloc: Global,
+    table: &mut Table,
+    key: &str,
+    value: Option<Value>,
+) -> Result<(), NoMemory>
+    ensures { OnOk result (table_view table.new ≡ with_any key.now (option_map view value) (table_view table.old)) }
+{
+    match value {
+        Some(value) => put(alloc, table, key, value),
+        None => Ok(()),
     }
 }
 
@@ -63,73 +79,80 @@ fn image_value(alloc: Global, image: &FileName) -> Result<Value, NoMemory>
     text_value(alloc, image.bytes())
 }
 
-/// What is printed as a table.
-pub trait Printed: Drop {
+#[tactic(auto, unfolding(crate::specs::Written::written_line))]
+fn line_table(alloc: Global, name: &Name, line: u8, class: &AccessClass) -> Result<Table, NoMemory>
+    requires named { is_object_name name.now ≡ true }
+    requires class { IsClass class.now }
+    ensures { IfOk result (λ t. table_view t ≡ written_line name.now line class.now) }
+{
+    let mut table = Table::new(alloc);
+    put(alloc, &mut table, "class", class_value(alloc, class)?)?;
+    put(alloc, &mut table, "line", Value::from(line))?;
+    put(alloc, &mut table, "name", name_value(alloc, name)?)?;
+    Ok(table)
+}
+
+/// How rows are printed as tables.
+pub trait Writer<R> {
     ghost use Rattle.toml.specs.Data.{Members};
 
-    /// What the rules ask of it.
-    ghost is_row: { Self → Type 0 };
+    /// What the rules ask of a row.
+    ghost can_write: { Self → R → Type 0 };
 
-    ghost printed_of: { Self → Members };
+    ghost written_of: { Self → R → Members };
 
-    fn table(&self, alloc: Global) -> Result<Table, NoMemory>
-        requires { is_row self.now }
-        ensures { IfOk result (λ t. table_view t ≡ printed_of self.now) };
+    fn table(&self, alloc: Global, row: &R) -> Result<Table, NoMemory>
+        requires { can_write self.now row.now }
+        ensures { IfOk result (λ t. table_view t ≡ written_of self.now row.now) };
 }
 
-impl Printed for Terminal {
-    ghost is_row = { IsTerminal };
+/// Of rows that name no others.
+#[derive(Clone, Copy)]
+struct Alone;
 
-    ghost printed_of = { written_terminal };
+impl Writer<Terminal> for Alone {
+    ghost can_write = { λ writer. IsTerminal };
 
-    #[tactic(auto, unfolding(crate::specs::Written::written_terminal))]
-    fn table(&self, alloc: Global) -> Result<Table, NoMemory> {
-        let mut table = Table::new(alloc);
-        put(alloc, &mut table, "class", class_value(alloc, &self.class)?)?;
-        put(alloc, &mut table, "line", Value::from(self.line))?;
-        put(alloc, &mut table, "name", name_value(alloc, &self.name)?)?;
-        Ok(table)
+    ghost written_of = { λ writer. written_terminal };
+
+    fn table(&self, alloc: Global, row: &Terminal) -> Result<Table, NoMemory> {
+        line_table(alloc, &row.name, row.line, &row.class)
     }
 }
 
-impl Printed for VolumeRow {
-    ghost is_row = { IsVolume };
+impl Writer<PrinterRow> for Alone {
+    ghost can_write = { λ writer. IsPrinter };
 
-    ghost printed_of = { written_volume };
+    ghost written_of = { λ writer. written_printer };
+
+    fn table(&self, alloc: Global, row: &PrinterRow) -> Result<Table, NoMemory> {
+        line_table(alloc, &row.name, row.line, &row.class)
+    }
+}
+
+impl Writer<VolumeRow> for Alone {
+    ghost can_write = { λ writer. IsVolume };
+
+    ghost written_of = { λ writer. written_volume };
 
     #[tactic(auto, unfolding(crate::specs::Written::written_volume))]
-    fn table(&self, alloc: Global) -> Result<Table, NoMemory> {
+    fn table(&self, alloc: Global, row: &VolumeRow) -> Result<Table, NoMemory> {
         let mut table = Table::new(alloc);
-        put(alloc, &mut table, "blocks", Value::from(self.blocks))?;
-        put(alloc, &mut table, "class", class_value(alloc, &self.class)?)?;
-        put(alloc, &mut table, "drive", Value::from(self.drive))?;
-        put(alloc, &mut table, "name", name_value(alloc, &self.name)?)?;
+        put(alloc, &mut table, "blocks", Value::from(row.blocks))?;
+        put(alloc, &mut table, "class", class_value(alloc, &row.class)?)?;
+        put(alloc, &mut table, "drive", Value::from(row.drive))?;
+        put(alloc, &mut table, "name", name_value(alloc, &row.name)?)?;
         Ok(table)
     }
 }
 
-impl Printed for PrinterRow {
-    ghost is_row = { IsPrinter };
-
-    ghost printed_of = { written_printer };
-
-    #[tactic(auto, unfolding(crate::specs::Written::written_printer))]
-    fn table(&self, alloc: Global) -> Result<Table, NoMemory> {
-        let mut table = Table::new(alloc);
-        put(alloc, &mut table, "class", class_value(alloc, &self.class)?)?;
-        put(alloc, &mut table, "line", Value::from(self.line))?;
-        put(alloc, &mut table, "name", name_value(alloc, &self.name)?)?;
-        Ok(table)
-    }
-}
-
-fn tables<P: Printed>(alloc: Global, rows: &[P]) -> Result<Array, NoMemory>
-    requires { All P.is_row rows.now }
-    ensures { IfOk result (λ v. array_view v ≡ items_by P.printed_of rows.now) }
+fn tables<R, W: Writer<R>>(alloc: Global, writer: &W, rows: &[R]) -> Result<Array, NoMemory>
+    requires { All (W.can_write writer.now) rows.now }
+    ensures { IfOk result (λ v. array_view v ≡ items_by (W.written_of writer.now) rows.now) }
 {
     let mut values = Vec::new(alloc);
     for row in rows {
-        let table = row.table(alloc)?;
+        let table = writer.table(alloc, row)?;
         values.push(Value::from(table))?;
     }
     Ok(values)
@@ -151,15 +174,31 @@ fn audit_of(alloc: Global, audit: &Audit) -> Result<Table, NoMemory>
     Ok(table)
 }
 
-fn volume_name(alloc: Global, volumes: &[VolumeRow], k: u8) -> Result<Value, NoMemory>
-    requires there { k < length volumes.now }
-    requires rows { All IsVolume volumes.now }
-    ensures { IfOk result (λ v. view v ≡ string (volume_name (slice_get volumes.now k))) }
+/// The name of the object at a place.
+fn name_there<R: Named>(alloc: Global, rows: &[R], place: u8) -> Result<Value, NoMemory>
+    requires there { place < length rows.now }
+    requires named { All (λ r. is_object_name (R.name_of r) ≡ true) rows.now }
+    ensures { IfOk result (λ v. view v ≡ string (name_there R.name_of (slice_get rows.now place))) }
 {
-    name_value(alloc, &volumes[usize::from(k)].name)
+    name_value(alloc, rows[usize::from(place)].name())
 }
 
-#[tactic(auto, unfolding(crate::specs::Written::written_mount))]
+fn object_value<R: Named>(
+    alloc: Global,
+    rows: &[R],
+    place: Option<u8>,
+) -> Result<Option<Value>, NoMemory>
+    requires there { IfSome place (λ k. k < length rows.now) }
+    requires named { All (λ r. is_object_name (R.name_of r) ≡ true) rows.now }
+    ensures { IfOk result (λ v. option_map view v ≡ object_value R.name_of rows.now place) }
+{
+    match place {
+        Some(place) => Ok(Some(name_there(alloc, rows, place)?)),
+        None => Ok(None),
+    }
+}
+
+#[tactic(auto, unfolding(crate::specs::Written::written_mount), using(crate::proofs::HaveNames::volumes_named))]
 fn mount_table(
     alloc: Global,
     volumes: &[VolumeRow],
@@ -172,7 +211,7 @@ fn mount_table(
 {
     let mut table = Table::new(alloc);
     put(alloc, &mut table, "unit", Value::from(unit))?;
-    let volume = volume_name(alloc, volumes, mount.volume)?;
+    let volume = name_there(alloc, volumes, mount.volume)?;
     put(alloc, &mut table, "volume", volume)?;
     put(alloc, &mut table, "write", Value::from(mount.write))?;
     Ok(table)
@@ -233,103 +272,47 @@ fn fixed_keys(alloc: Global, c: &Config, g: &GuestRow) -> Result<Table, NoMemory
     Ok(table)
 }
 
-fn put_console(
-    alloc: Global,
-    table: &mut Table,
-    terminals: &[Terminal],
-    console: Option<u8>,
-) -> Result<(), NoMemory>
-    requires there { IfSome console (λ k. k < length terminals.now) }
-    requires rows { All IsTerminal terminals.now }
-    ensures { OnOk result (table_view table.new ≡ with_any (codes "console") (console_value terminals.now console) (table_view table.old)) }
-{
-    match console {
-        Some(k) => {
-            let name = name_value(alloc, &terminals[usize::from(k)].name)?;
-            put(alloc, table, "console", name)
-        }
-        None => Ok(()),
+/// Of guests, which name objects of this configuration.
+#[derive(Clone, Copy)]
+struct Within<'a>(&'a Config);
+
+impl<'a> Writer<GuestRow> for Within<'a> {
+    ghost can_write = { λ writer g. IsConfig writer.0.now × IsGuest g × NamesObjects writer.0.now g };
+
+    ghost written_of = { λ writer. written_guest writer.0.now };
+
+    #[tactic(auto, unfolding(crate::specs::Written::written_guest), using(crate::proofs::HaveNames::named))]
+    fn table(&self, alloc: Global, row: &GuestRow) -> Result<Table, NoMemory> {
+        let mut table = fixed_keys(alloc, self.0, row)?;
+        let console = object_value(alloc, self.0.terminals.as_slice(), row.console)?;
+        put_if_any(alloc, &mut table, "console", console)?;
+        let dump = row.dump.map(|line| Value::from(line));
+        put_if_any(alloc, &mut table, "dump", dump)?;
+        let printer = object_value(alloc, self.0.printers.as_slice(), row.printer)?;
+        put_if_any(alloc, &mut table, "printer", printer)?;
+        Ok(table)
     }
 }
 
-fn put_printer(
-    alloc: Global,
-    table: &mut Table,
-    printers: &[PrinterRow],
-    printer: Option<u8>,
-) -> Result<(), NoMemory>
-    requires there { IfSome printer (λ k. k < length printers.now) }
-    requires rows { All IsPrinter printers.now }
-    ensures { OnOk result (table_view table.new ≡ with_any (codes "printer") (printer_value printers.now printer) (table_view table.old)) }
-{
-    match printer {
-        Some(k) => {
-            let name = name_value(alloc, &printers[usize::from(k)].name)?;
-            put(alloc, table, "printer", name)
-        }
-        None => Ok(()),
-    }
-}
-
-fn put_dump(alloc: Global, table: &mut Table, dump: Option<u8>) -> Result<(), NoMemory>
-    ensures { OnOk result (table_view table.new ≡ with_any (codes "dump") (dump_value dump) (table_view table.old)) }
-{
-    match dump {
-        Some(line) => put(alloc, table, "dump", Value::from(line)),
-        None => Ok(()),
-    }
-}
-
-#[tactic(auto, unfolding(crate::specs::Written::written_guest))]
-fn guest_table(alloc: Global, c: &Config, g: &GuestRow) -> Result<Table, NoMemory>
-    requires config { IsConfig c.now }
-    requires guest { IsGuest g.now }
-    requires numbers { NamesObjects c.now g.now }
-    ensures { IfOk result (λ t. table_view t ≡ written_guest c.now g.now) }
-{
-    let mut table = fixed_keys(alloc, c, g)?;
-    put_console(alloc, &mut table, c.terminals.as_slice(), g.console)?;
-    put_dump(alloc, &mut table, g.dump)?;
-    put_printer(alloc, &mut table, c.printers.as_slice(), g.printer)?;
-    Ok(table)
-}
-
-fn guest_values(alloc: Global, c: &Config, guests: &[GuestRow]) -> Result<Array, NoMemory>
-    requires config { IsConfig c.now }
-    requires rows { All IsGuest guests.now }
-    requires numbers { All (NamesObjects c.now) guests.now }
-    ensures { IfOk result (λ v. array_view v ≡ items_by (written_guest c.now) guests.now) }
-{
-    let mut values = Vec::new(alloc);
-    for guest in guests {
-        let table = guest_table(alloc, c, guest)?;
-        values.push(Value::from(table))?;
-    }
-    Ok(values)
-}
-
-fn put_audit(alloc: Global, table: &mut Table, audit: &Option<Audit>) -> Result<(), NoMemory>
+fn audit_value(alloc: Global, audit: &Option<Audit>) -> Result<Option<Value>, NoMemory>
     requires { IfSome audit.now IsAudit }
-    ensures { OnOk result (table_view table.new ≡ with_any (codes "audit") (audit_value audit.now) (table_view table.old)) }
+    ensures { IfOk result (λ v. option_map view v ≡ audit_value audit.now) }
 {
     match audit {
-        Some(audit) => {
-            let inner = audit_of(alloc, audit)?;
-            put(alloc, table, "audit", Value::from(inner))
-        }
-        None => Ok(()),
+        Some(audit) => Ok(Some(Value::from(audit_of(alloc, audit)?))),
+        None => Ok(None),
     }
 }
 
-#[tactic(auto, unfolding(crate::specs::Written::lists))]
+#[tactic(auto, unfolding(crate::specs::Written::lists), using(crate::proofs::HaveNames::guests_stand))]
 fn lists(alloc: Global, c: &Config) -> Result<Table, NoMemory>
     requires { IsConfig c.now }
     ensures { IfOk result (λ t. table_view t ≡ lists c.now) }
 {
-    let guests = guest_values(alloc, c, c.guests.as_slice())?;
-    let printers = tables(alloc, c.printers.as_slice())?;
-    let terminals = tables(alloc, c.terminals.as_slice())?;
-    let volumes = tables(alloc, c.volumes.as_slice())?;
+    let guests = tables(alloc, &Within(c), c.guests.as_slice())?;
+    let printers = tables(alloc, &Alone, c.printers.as_slice())?;
+    let terminals = tables(alloc, &Alone, c.terminals.as_slice())?;
+    let volumes = tables(alloc, &Alone, c.volumes.as_slice())?;
     let mut table = Table::new(alloc);
     put(alloc, &mut table, "guest", Value::from(guests))?;
     put(alloc, &mut table, "printer", Value::from(printers))?;
@@ -346,7 +329,7 @@ fn config_table(alloc: Global, c: &Config) -> Result<Table, NoMemory>
     ensures { IfOk result (λ t. table_view t ≡ written c.now) }
 {
     let mut table = lists(alloc, c)?;
-    put_audit(alloc, &mut table, &c.audit)?;
+    put_if_any(alloc, &mut table, "audit", audit_value(alloc, &c.audit)?)?;
     Ok(table)
 }
 

@@ -30,7 +30,7 @@ fn image_long(image: &[u8], load: u32, at: u32) -> u32
 
 /// Clears so many pages of the machine from a page on and copies an image to a place in them; no other byte changes.
 pub fn load_image<H: Hardware>(machine: &mut H, base: u32, pages: u32, load: u32, image: &[u8])
-    requires place { base + pages ≤ 32768 }
+    requires place { base + pages ≤ 65536 }
     requires inside { 512 * base + 512 * pages ≤ length (H.machine machine.old).memory }
     requires fits { load + length image.now ≤ 512 * pages }
     ensures { H.machine machine.new ≡ record (H.machine machine.old) { memory = overwritten (H.machine machine.old).memory (512 * base) (opening (512 * pages) load image.now) } }

@@ -1,7 +1,5 @@
 -- How many objects and lines there are at most.
-use Rattle.std.proofs.Common.{◌≡◌, ◌≤◌, ◌+◌, ℕ, suc, List, [], ◌∷◌, length, map, Option, Some, None, arith, length-append, refl, ap, ◌++◌, ◌<◌, get_or, take, append-nil, append_assoc}
-use Rattle.std.proofs.lemmas.List.{take_more}
-use Rattle.std.proofs.lemmas.List.Elements.{filter_map-append}
+use Rattle.std.proofs.Common.{◌≡◌, ◌≤◌, suc, List, [], ◌∷◌, length, map, Option, Some, None, arith, length-append, refl, ap}
 use Rattle.std.specs.List.{filter_map}
 use Rattle.sys_objects.specs.Rules.{IsFew, objects_of, lines_of, audit_line}
 use Rattle.sys_objects.specs.declared.records.Config.{Config}
@@ -30,21 +28,3 @@ few_objects c few =
 pub few_lines : (c : Config) → IsFew c → length (lines_of c) ≤ 81
 few_lines c few =
     simp (length-append, length-mapped) (omega (arith, few.terminals, few.printers, few.guests, few_dumps c.guests, one_audit c.audit))
-
--- a dump more, or none
-pub dumps-none : (gs : List GuestRow) (i : ℕ) (d : GuestRow) → i < length gs → (get_or gs i d).dump ≡ None → filter_map (λ (g : GuestRow). g.dump) (take (i + 1) gs) ≡ filter_map (λ (g : GuestRow). g.dump) (take i gs)
-dumps-none gs i d within none =
-    rw (take_more gs i d within, filter_map-append (λ (g : GuestRow). g.dump) (take i gs) (get_or gs i d ∷ []), none, append-nil (filter_map (λ (g : GuestRow). g.dump) (take i gs)))
-
-pub dumps-some : (gs : List GuestRow) (i : ℕ) (d : GuestRow) (line : ℕ) → i < length gs → (get_or gs i d).dump ≡ Some line → filter_map (λ (g : GuestRow). g.dump) (take (i + 1) gs) ≡ filter_map (λ (g : GuestRow). g.dump) (take i gs) ++ line ∷ []
-dumps-some gs i d line within some =
-    rw (take_more gs i d within, filter_map-append (λ (g : GuestRow). g.dump) (take i gs) (get_or gs i d ∷ []), some)
-
-pub ruleset dumps = (dumps-none, dumps-some)
-
-pub one_more : (before now old : List ℕ) (gs : List GuestRow) (i : ℕ) (g : GuestRow) (line : ℕ)
-    → now ≡ before ++ line ∷ [] → before ≡ old ++ filter_map (λ (g : GuestRow). g.dump) (take i gs) → i < length gs → g ≡ get_or gs i g → g.dump ≡ Some line
-    → now ≡ old ++ filter_map (λ (g : GuestRow). g.dump) (take (i + 1) gs)
-one_more before now old gs i g line pushed so_far within is_g some =
-    let same : (get_or gs i g).dump ≡ Some line = rw (← is_g) some in
-    rw (pushed, so_far, dumps-some gs i g line within same, append_assoc old (filter_map (λ (g : GuestRow). g.dump) (take i gs)) (line ∷ []))

@@ -5,7 +5,7 @@ ghost use Rattle.sys_objects.specs.Rules.{IsFew};
 
 use crate::errors::fault;
 use crate::rules::{
-    bad_audit, bad_console, bad_drive, bad_line, bad_mount, bad_name, bad_pages, bad_printer,
+    Audited, Connects, Mounts, NewDrive, NewName, Prints, bad_line, bad_pages, first_broken,
     objects,
 };
 use crate::{Config, ConfigError};
@@ -29,13 +29,13 @@ pub fn judge(alloc: Global, c: &Config) -> Result<(), ConfigError>
     ensures { Reads (λ u. u) result (judged c.now) }
 {
     let objects = objects(alloc, c)?;
-    unless_at(11, bad_name(objects.as_slice()))?;
-    unless_at(12, bad_line(alloc, c)?)?;
-    unless_at(13, bad_drive(c.volumes.as_slice()))?;
     let guests = c.guests.as_slice();
-    unless_at(14, bad_printer(c.printers.as_slice(), guests))?;
-    unless_at(15, bad_console(c.terminals.as_slice(), guests))?;
-    unless_at(16, bad_mount(c.volumes.as_slice(), guests))?;
-    unless_at(17, bad_audit(c.audit, objects.as_slice()))?;
+    unless_at(11, first_broken(&NewName, objects.as_slice()))?;
+    unless_at(12, bad_line(alloc, c)?)?;
+    unless_at(13, first_broken(&NewDrive, c.volumes.as_slice()))?;
+    unless_at(14, first_broken(&Prints(c.printers.as_slice()), guests))?;
+    unless_at(15, first_broken(&Connects(c.terminals.as_slice()), guests))?;
+    unless_at(16, first_broken(&Mounts(c.volumes.as_slice()), guests))?;
+    unless_at(17, first_broken(&Audited(c.audit), objects.as_slice()))?;
     unless_at(18, bad_pages(guests))
 }

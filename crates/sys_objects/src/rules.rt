@@ -1,7 +1,7 @@
 ghost use Rattle.std.specs.Prelude.{◌≡◌, ◌≤◌, ◌<◌, length, IfSome, [], ◌∷◌, ◌++◌, ◌==◌, map, bytes_eq, IfOk, OnOk};
 ghost use Rattle.std.specs.List.{list_any, list_all, filter_map};
 ghost use Rattle.sys_objects.specs.Faults.{Reads};
-ghost use Rattle.sys_objects.specs.Rules.{IsFew, objects_of, lines_of, audit_line, has_new_name, is_new_line, has_new_drive, same_class, may_print, printer_holds, may_connect, same_place, console_holds, may_mount, mounts_hold, audit_holds, pages_hold, first_broken, bad_name, bad_line, bad_drive, bad_printer, bad_console, bad_mount, bad_audit, bad_pages};
+ghost use Rattle.sys_objects.specs.Rules.{IsFew, objects_of, lines_of, audit_line, same_class, may_connect, same_place, may_mount, pages_hold, first_broken, bad_line};
 
 use crate::{Audit, Config, GuestRow, Mount, PrinterRow, Terminal, VolumeRow};
 use std::alloc::Global;
@@ -100,31 +100,21 @@ pub fn objects(alloc: Global, c: &Config) -> Result<Vec<Object>, NoMemory>
 fn push_terminal_lines(lines: &mut Vec<u8>, rows: &[Terminal]) -> Result<(), NoMemory>
     ensures { OnOk result (lines.new.items ≡ lines.old.items ++ map (λ t. t.line) rows.now) }
 {
-    for row in rows {
-        lines.push(row.line)?;
-    }
+    lines.extend(rows.iter().map(|t| t.line))?;
     Ok(())
 }
 
 fn push_printer_lines(lines: &mut Vec<u8>, rows: &[PrinterRow]) -> Result<(), NoMemory>
     ensures { OnOk result (lines.new.items ≡ lines.old.items ++ map (λ p. p.line) rows.now) }
 {
-    for row in rows {
-        lines.push(row.line)?;
-    }
+    lines.extend(rows.iter().map(|p| p.line))?;
     Ok(())
 }
 
-#[tactic(auto, using(crate::proofs::FewLaws::dumps))]
 fn push_dumps(lines: &mut Vec<u8>, rows: &[GuestRow]) -> Result<(), NoMemory>
     ensures { OnOk result (lines.new.items ≡ lines.old.items ++ filter_map (λ g. g.dump) rows.now) }
 {
-    for row in rows {
-        let Some(line) = row.dump else {
-            continue;
-        };
-        lines.push(line)?;
-    }
+    lines.extend(rows.iter().filter_map(|g| g.dump))?;
     Ok(())
 }
 
@@ -152,16 +142,47 @@ fn lines(alloc: Global, c: &Config) -> Result<Vec<u8>, NoMemory>
     Ok(lines)
 }
 
+/// What is asked of an element, given those before it.
+pub trait Rule<T> {
+    ghost use Rattle.std.specs.Prelude.{List, Bool};
+
+    ghost holds: { Self → List T → T → Bool };
+
+    fn holds(&self, seen: &[T], x: &T) -> bool
+        ensures { result ≡ holds self.now seen.now x.now };
+}
+
+/// The place of the first element for which a rule doesn't hold.
+pub fn first_broken<T, R: Rule<T>>(rule: &R, rows: &[T]) -> Option<usize>
+    ensures within { IfSome result (λ i. i < length rows.now) }
+    ensures value { result ≡ first_broken (R.holds rule.now) [] rows.now }
+{
+    for i in 0..rows.len() {
+        if !rule.holds(&rows[..i], &rows[i]) {
+            return Some(i);
+        }
+    }
+    None
+}
+
 fn is_named(seen: &[Object], x: &Object) -> bool
     ensures { result ≡ list_any (λ y. bytes_eq x.now.name y.name) seen.now }
 {
     seen.iter().any(|y| x.name.bytes() == y.name.bytes())
 }
 
-fn has_new_name(seen: &[Object], x: &Object) -> bool
-    ensures { result ≡ has_new_name seen.now x.now }
-{
-    !is_named(seen, x)
+/// Rule 11: a name stands once.
+#[derive(Clone, Copy)]
+pub struct NewName;
+
+impl Rule<Object> for NewName {
+    ghost use Rattle.sys_objects.specs.Rules.{has_new_name};
+
+    ghost holds = { λ rule. has_new_name };
+
+    fn holds(&self, seen: &[Object], x: &Object) -> bool {
+        !is_named(seen, x)
+    }
 }
 
 fn is_taken(seen: &[u8], x: u8) -> bool
@@ -170,10 +191,28 @@ fn is_taken(seen: &[u8], x: u8) -> bool
     seen.iter().any(|y| x == *y)
 }
 
-fn is_new_line(seen: &[u8], x: u8) -> bool
-    ensures { result ≡ is_new_line seen.now x }
+/// Rule 12: a line stands once.
+#[derive(Clone, Copy)]
+struct NewLine;
+
+impl Rule<u8> for NewLine {
+    ghost use Rattle.sys_objects.specs.Rules.{is_new_line};
+
+    ghost holds = { λ rule. is_new_line };
+
+    fn holds(&self, seen: &[u8], x: &u8) -> bool {
+        !is_taken(seen, *x)
+    }
+}
+
+/// The first line that stands before.
+pub fn bad_line(alloc: Global, c: &Config) -> Result<Option<usize>, NoMemory>
+    requires { IsFew c.now }
+    ensures within { IfOk result (λ place. IfSome place (λ i. i < 81)) }
+    ensures value { IfOk result (λ place. place ≡ bad_line c.now) }
 {
-    !is_taken(seen, x)
+    let lines = lines(alloc, c)?;
+    Ok(first_broken(&NewLine, lines.as_slice()))
 }
 
 fn is_in_drive(seen: &[VolumeRow], x: &VolumeRow) -> bool
@@ -182,10 +221,18 @@ fn is_in_drive(seen: &[VolumeRow], x: &VolumeRow) -> bool
     seen.iter().any(|y| x.drive == y.drive)
 }
 
-fn has_new_drive(seen: &[VolumeRow], x: &VolumeRow) -> bool
-    ensures { result ≡ has_new_drive seen.now x.now }
-{
-    !is_in_drive(seen, x)
+/// Rule 13: a drive holds one volume.
+#[derive(Clone, Copy)]
+pub struct NewDrive;
+
+impl Rule<VolumeRow> for NewDrive {
+    ghost use Rattle.sys_objects.specs.Rules.{has_new_drive};
+
+    ghost holds = { λ rule. has_new_drive };
+
+    fn holds(&self, seen: &[VolumeRow], x: &VolumeRow) -> bool {
+        !is_in_drive(seen, x)
+    }
 }
 
 fn same_class(a: &AccessClass, b: &AccessClass) -> bool
@@ -197,22 +244,24 @@ fn same_class(a: &AccessClass, b: &AccessClass) -> bool
         && a.integrity_cats == b.integrity_cats
 }
 
-fn may_print(printers: &[PrinterRow], class: &AccessClass, place: Option<u8>) -> bool
-    ensures { result ≡ may_print printers.now class.now place }
-{
-    match place {
-        Some(k) => match printers.get(usize::from(k)) {
-            Some(printer) => flows(class, &printer.class),
-            None => false,
-        },
-        None => true,
-    }
-}
+/// Rule 14: a guest prints on one of these, into which it flows.
+#[derive(Clone, Copy)]
+pub struct Prints<'a>(pub &'a [PrinterRow]);
 
-fn printer_holds(printers: &[PrinterRow], seen: &[GuestRow], g: &GuestRow) -> bool
-    ensures { result ≡ printer_holds printers.now seen.now g.now }
-{
-    may_print(printers, &g.class, g.printer)
+impl<'a> Rule<GuestRow> for Prints<'a> {
+    ghost use Rattle.sys_objects.specs.Rules.{printer_holds};
+
+    ghost holds = { λ rule. printer_holds rule.0.now };
+
+    fn holds(&self, seen: &[GuestRow], g: &GuestRow) -> bool {
+        match g.printer {
+            Some(k) => match self.0.get(usize::from(k)) {
+                Some(printer) => flows(&g.class, &printer.class),
+                None => false,
+            },
+            None => true,
+        }
+    }
 }
 
 fn may_connect(terminals: &[Terminal], class: &AccessClass, place: Option<u8>) -> bool
@@ -242,10 +291,18 @@ fn is_connected(seen: &[GuestRow], console: Option<u8>) -> bool
     seen.iter().any(|h| same_place(console, h.console))
 }
 
-fn console_holds(terminals: &[Terminal], seen: &[GuestRow], g: &GuestRow) -> bool
-    ensures { result ≡ console_holds terminals.now seen.now g.now }
-{
-    may_connect(terminals, &g.class, g.console) && !is_connected(seen, g.console)
+/// Rule 15: a guest's console is one of these, of its class, and no other's.
+#[derive(Clone, Copy)]
+pub struct Connects<'a>(pub &'a [Terminal]);
+
+impl<'a> Rule<GuestRow> for Connects<'a> {
+    ghost use Rattle.sys_objects.specs.Rules.{console_holds};
+
+    ghost holds = { λ rule. console_holds rule.0.now };
+
+    fn holds(&self, seen: &[GuestRow], g: &GuestRow) -> bool {
+        may_connect(self.0, &g.class, g.console) && !is_connected(seen, g.console)
+    }
 }
 
 fn may_mount(volumes: &[VolumeRow], class: &AccessClass, mount: Option<Mount>) -> bool
@@ -262,120 +319,36 @@ fn may_mount(volumes: &[VolumeRow], class: &AccessClass, mount: Option<Mount>) -
     }
 }
 
-#[tactic(auto, unfolding(crate::specs::Rules::mounts_hold))]
-fn mounts_hold(volumes: &[VolumeRow], seen: &[GuestRow], g: &GuestRow) -> bool
-    ensures { result ≡ mounts_hold volumes.now seen.now g.now }
-{
-    g.mounts.iter().all(|m| may_mount(volumes, &g.class, *m))
-}
+/// Rule 16: a guest mounts only some of these, which flow into it.
+#[derive(Clone, Copy)]
+pub struct Mounts<'a>(pub &'a [VolumeRow]);
 
-fn audit_holds(audit: Option<Audit>, seen: &[Object], x: &Object) -> bool
-    ensures { result ≡ audit_holds audit seen.now x.now }
-{
-    match audit {
-        Some(audit) => flows(&x.class, &audit.class),
-        None => true,
+impl<'a> Rule<GuestRow> for Mounts<'a> {
+    ghost use Rattle.sys_objects.specs.Rules.{mounts_hold};
+
+    ghost holds = { λ rule. mounts_hold rule.0.now };
+
+    #[tactic(auto, unfolding(crate::specs::Rules::mounts_hold))]
+    fn holds(&self, seen: &[GuestRow], g: &GuestRow) -> bool {
+        g.mounts.iter().all(|m| may_mount(self.0, &g.class, *m))
     }
 }
 
-/// Rule 11.
-pub fn bad_name(objects: &[Object]) -> Option<usize>
-    ensures within { IfSome result (λ i. i < length objects.now) }
-    ensures value { result ≡ first_broken has_new_name [] objects.now }
-{
-    for i in 0..objects.len() {
-        if !has_new_name(&objects[..i], &objects[i]) {
-            return Some(i);
+/// Rule 17: all flows into the audit.
+#[derive(Clone, Copy)]
+pub struct Audited(pub Option<Audit>);
+
+impl Rule<Object> for Audited {
+    ghost use Rattle.sys_objects.specs.Rules.{audit_holds};
+
+    ghost holds = { λ rule. audit_holds rule.0 };
+
+    fn holds(&self, seen: &[Object], x: &Object) -> bool {
+        match self.0 {
+            Some(audit) => flows(&x.class, &audit.class),
+            None => true,
         }
     }
-    None
-}
-
-fn first_old_line(lines: &[u8]) -> Option<usize>
-    ensures within { IfSome result (λ i. i < length lines.now) }
-    ensures value { result ≡ first_broken is_new_line [] lines.now }
-{
-    for i in 0..lines.len() {
-        if !is_new_line(&lines[..i], lines[i]) {
-            return Some(i);
-        }
-    }
-    None
-}
-
-/// Rule 12.
-pub fn bad_line(alloc: Global, c: &Config) -> Result<Option<usize>, NoMemory>
-    requires { IsFew c.now }
-    ensures within { IfOk result (λ place. IfSome place (λ i. i < 81)) }
-    ensures value { IfOk result (λ place. place ≡ bad_line c.now) }
-{
-    let lines = lines(alloc, c)?;
-    Ok(first_old_line(lines.as_slice()))
-}
-
-/// Rule 13.
-pub fn bad_drive(volumes: &[VolumeRow]) -> Option<usize>
-    ensures within { IfSome result (λ i. i < length volumes.now) }
-    ensures value { result ≡ first_broken has_new_drive [] volumes.now }
-{
-    for i in 0..volumes.len() {
-        if !has_new_drive(&volumes[..i], &volumes[i]) {
-            return Some(i);
-        }
-    }
-    None
-}
-
-/// Rule 14.
-pub fn bad_printer(printers: &[PrinterRow], guests: &[GuestRow]) -> Option<usize>
-    ensures within { IfSome result (λ i. i < length guests.now) }
-    ensures value { result ≡ first_broken (printer_holds printers.now) [] guests.now }
-{
-    for i in 0..guests.len() {
-        if !printer_holds(printers, &guests[..i], &guests[i]) {
-            return Some(i);
-        }
-    }
-    None
-}
-
-/// Rule 15.
-pub fn bad_console(terminals: &[Terminal], guests: &[GuestRow]) -> Option<usize>
-    ensures within { IfSome result (λ i. i < length guests.now) }
-    ensures value { result ≡ first_broken (console_holds terminals.now) [] guests.now }
-{
-    for i in 0..guests.len() {
-        if !console_holds(terminals, &guests[..i], &guests[i]) {
-            return Some(i);
-        }
-    }
-    None
-}
-
-/// Rule 16.
-pub fn bad_mount(volumes: &[VolumeRow], guests: &[GuestRow]) -> Option<usize>
-    ensures within { IfSome result (λ i. i < length guests.now) }
-    ensures value { result ≡ first_broken (mounts_hold volumes.now) [] guests.now }
-{
-    for i in 0..guests.len() {
-        if !mounts_hold(volumes, &guests[..i], &guests[i]) {
-            return Some(i);
-        }
-    }
-    None
-}
-
-/// Rule 17.
-pub fn bad_audit(audit: Option<Audit>, objects: &[Object]) -> Option<usize>
-    ensures within { IfSome result (λ i. i < length objects.now) }
-    ensures value { result ≡ first_broken (audit_holds audit) [] objects.now }
-{
-    for i in 0..objects.len() {
-        if !audit_holds(audit, &objects[..i], &objects[i]) {
-            return Some(i);
-        }
-    }
-    None
 }
 
 /// Rule 18.

@@ -4,10 +4,13 @@ use Rattle.sys_objects.specs.Condition.{IsConfig}
 use Rattle.sys_objects.specs.declared.records.Config.{Config}
 use Rattle.sys_objects.specs.declared.records.GuestRow.{GuestRow}
 use Rattle.sys_rounds.specs.Counts.{round_tally, slices_tally}
+use Rattle.sys_rounds.specs.FirstTouches.{touches_of_turns}
+use Rattle.sys_rounds.specs.SlicedTouches.{touches_of_slices}
 use Rattle.sys_rounds.specs.Slices.{AreQuanta, Slice, slices}
 use Rattle.sys_rounds.specs.State.{State, bytes_on}
 use Rattle.sys_rounds.specs.Turns.{turns}
 use Rattle.vm_state.specs.State.{Guest}
+use Rattle.vm_state.specs.Touches.{Touching}
 
 -- Slices in which each guest takes its quantum, in any order, leave the guests of the turns, and show each line its bytes.
 abbrev pub AnySchedule : Type 0
@@ -17,3 +20,7 @@ AnySchedule = (c : Config) (s : State) (xs : List Slice) → IsConfig c → leng
 -- In all of them together there are as many steps of each kind as in the turns, and the trail is theirs.
 abbrev pub SameCounts : Type 0
 SameCounts = (rows : List GuestRow) (guests : List Guest) (xs : List Slice) → length guests ≡ length rows → AreQuanta xs 0 rows → slices_tally xs guests ≡ round_tally rows guests
+
+-- They touch for the first time what the turns do.
+abbrev pub SameTouches : Type 0
+SameTouches = (rows : List GuestRow) (guests : List Guest) (xs : List Slice) (ts : List Touching) → length guests ≡ length rows → length ts ≡ length guests → AreQuanta xs 0 rows → touches_of_slices xs guests ts ≡ touches_of_turns rows guests ts

@@ -1,4 +1,4 @@
-ghost use Rattle.sys_rounds.specs.Laws.{AnySchedule, SameCounts};
+ghost use Rattle.sys_rounds.specs.Laws.{AnySchedule, SameCounts, SameTouches};
 ghost use Rattle.sys_rounds.specs.SlicedRound.{AnyRound};
 
 /// However the turns of a round are cut into slices and ordered, each guest and each line ends as the turns say.
@@ -9,6 +9,11 @@ pub fn any_schedule()
 /// However the turns of a round are cut into slices and ordered, the counts of steps are the round's.
 pub fn same_counts()
     ensures { SameCounts }
+{}
+
+/// However the turns of a round are cut into slices and ordered, their first touches are the round's.
+pub fn same_touches()
+    ensures { SameTouches }
 {}
 
 /// However the turns of a round are cut into slices and ordered, the guests, the server's state, the volumes, each line's

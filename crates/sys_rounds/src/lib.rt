@@ -4,4 +4,4 @@
 
 mod laws;
 
-pub use laws::{any_round, any_schedule, same_counts};
+pub use laws::{any_round, any_schedule, same_counts, same_touches};

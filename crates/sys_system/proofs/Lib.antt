@@ -7,7 +7,6 @@ pub mod Paying
 pub mod Playing
 pub mod Rounding
 pub mod Seating
-pub mod SlicedTouches
 pub mod Slices
 pub mod Slicing
 pub mod Sums

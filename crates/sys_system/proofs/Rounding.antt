@@ -16,12 +16,12 @@ use Rattle.sys_objects.specs.declared.records.Config.{Config}
 use Rattle.sys_objects.specs.declared.records.Mount.{Mount}
 use Rattle.sys_system.proofs.Paying.{counted_events, counted_transfers, pays_as, pays_kept, pays_then, present_long}
 use Rattle.sys_system.proofs.Playing.{quanta_taken}
-use Rattle.sys_system.proofs.SlicedTouches.{same_touches}
 use Rattle.sys_system.specs.Calls.{AreOf, BeginsRound, EndsRound, MakesRound, Plays}
 use Rattle.sys_system.specs.System.{NoneLeft, StandsIn, System, all_turns, state_of}
 use Rattle.sys_rounds.proofs.Consoles.{bytes_append}
 use Rattle.sys_rounds.proofs.Schedules.{any_schedule}
 use Rattle.sys_rounds.proofs.SlicedRound.{any_round}
+use Rattle.sys_rounds.proofs.SlicedTouches.{same_touches}
 use Rattle.sys_rounds.specs.Counts.{added, round_tally, slices_tally}
 use Rattle.sys_rounds.specs.Events.{events}
 use Rattle.sys_rounds.specs.FirstTouches.{touches_of_events, touches_of_round, touches_of_transfers, touches_of_turns}

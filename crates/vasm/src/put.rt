@@ -4,7 +4,7 @@ ghost use Rattle.vax_table.specs.Spelled.{behind_index, spelled, spelled_specifi
 ghost use Rattle.vax_decode.specs.Encoding.{IsInRange};
 ghost use Rattle.vasm_text.specs.Asm.{opcode_bytes};
 
-use crate::size::{size, value_size};
+use crate::size::value_size;
 use vax_table::{Access, Form, Spec};
 use vv_base::NoMemory;
 
@@ -61,7 +61,7 @@ pub(crate) fn put_operand(bytes: &mut Vec<u8>, form: Form, spec: &Spec) -> Resul
     ensures { OnOk result (bytes.new.items ≡ bytes.old.items ++ spelled form spec.now) }
 {
     if form.access == Access::Branch {
-        return put_number(bytes, size(form.width), spec.value);
+        return put_number(bytes, form.width.bytes(), spec.value);
     }
     put_index(bytes, spec.index)?;
     put_specifier(bytes, form, spec)

@@ -9,19 +9,6 @@ use vasm_read::{Line, Operand, Statement, forms_of};
 use vax_table::{Access, Form, Spec};
 use vv_base::Width;
 
-/// How many bytes a width has.
-pub(crate) fn size(width: Width) -> u8
-    ensures value { result ≡ size_of width }
-    ensures most { result ≤ 8 }
-{
-    match width {
-        Width::Byte => 1,
-        Width::Word => 2,
-        Width::Long => 4,
-        Width::Quad => 8,
-    }
-}
-
 /// The width of the displacement in a mode.
 pub(crate) fn displacement_width(mode: u8) -> Width
     ensures { size_of result ≡ displacement_size mode }
@@ -41,10 +28,10 @@ pub(crate) fn value_size(form: Form, spec: &Spec) -> u8
 {
     match (spec.mode, spec.reg) {
         (0..8, _) => 0,
-        (8, 15) => size(form.width),
+        (8, 15) => form.width.bytes(),
         (9, 15) => 4,
         (8 | 9, _) => 0,
-        (mode, _) => size(displacement_width(mode)),
+        (mode, _) => displacement_width(mode).bytes(),
     }
 }
 
@@ -66,7 +53,7 @@ pub(crate) fn operand_size(form: Form, spec: &Spec) -> u32
     ensures most { result ≤ 10 }
 {
     if form.access == Access::Branch {
-        return u32::from(size(form.width));
+        return u32::from(form.width.bytes());
     }
     u32::from(index_size(spec.index)) + 1 + u32::from(value_size(form, spec))
 }
@@ -100,7 +87,7 @@ fn statement_size(statement: &Statement) -> u32
     ensures most { result ≤ 64 }
 {
     match statement {
-        Statement::Field(width, _) => u32::from(size(*width)),
+        Statement::Field(width, _) => u32::from(width.bytes()),
         Statement::Instruct(opcode, operands) => {
             opcode_size(*opcode) + operands_size(forms_of(*opcode).as_slice(), operands.as_slice())
         }

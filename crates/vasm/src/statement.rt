@@ -11,7 +11,7 @@ ghost use Rattle.vasm_text.specs.Statements.{Instruct, forms_of};
 use crate::labels::{Labels, fault};
 use crate::operand::{field_value, lacks, lacks_any, put_operands};
 use crate::put::{put_number, put_opcode};
-use crate::size::{opcode_size, size};
+use crate::size::opcode_size;
 use vasm_read::{Line, Operand, Statement, forms_of};
 use vasm_text::{AsmError, AsmKind};
 use vv_base::{NoMemory, Width};
@@ -35,7 +35,7 @@ fn put_field(
 ) -> Result<(), NoMemory>
     ensures { OnOk result (bytes.new.items ≡ bytes.old.items ++ bytes_of (size_of width) (field_value (address_of labels.now) (operand_view operand.now))) }
 {
-    put_number(bytes, size(width), field_value(labels, operand))
+    put_number(bytes, width.bytes(), field_value(labels, operand))
 }
 
 /// Appends an instruction.

@@ -7,20 +7,6 @@ use crate::put::{put, put_around, put_field, put_register};
 use vax_table::{Access, Form, Spec};
 use vv_base::{NoMemory, Width, decimal};
 
-/// How many bytes a width has.
-fn size(width: Width) -> u8
-    ensures value { result ≡ size_of width }
-    ensures low { 1 ≤ result }
-    ensures high { result ≤ 8 }
-{
-    match width {
-        Width::Byte => 1,
-        Width::Word => 2,
-        Width::Long => 4,
-        Width::Quad => 8,
-    }
-}
-
 /// How many bytes the displacement of a mode has.
 fn displacement_bytes(mode: u8) -> u8
     ensures value { result ≡ displacement_size mode }
@@ -72,7 +58,7 @@ fn put_immediate(text: &mut Vec<u8>, width: Width, value: u64) -> Result<(), NoM
     ensures { OnOk result (text.new.items ≡ text.old.items ++ (codes "I^#" ++ field_text (size_of width) value)) }
 {
     put(text, b"I^#")?;
-    put_field(text, size(width), value)
+    put_field(text, width.bytes(), value)
 }
 
 /// Appends an absolute address.
@@ -135,7 +121,7 @@ fn put_operand(text: &mut Vec<u8>, form: Form, spec: &Spec) -> Result<(), NoMemo
     ensures { OnOk result (text.new.items ≡ text.old.items ++ operand_text form spec.now) }
 {
     if form.access == Access::Branch {
-        return put_field(text, size(form.width), spec.value);
+        return put_field(text, form.width.bytes(), spec.value);
     }
     put_specifier(text, form, spec)?;
     put_index(text, spec.index)

@@ -1,5 +1,5 @@
 -- Bytes of one page: their places are one behind the other, and one test is that of all.
-use Rattle.std.proofs.Common.{◌≡◌, ℕ, zero, suc, ◌+◌, ◌*◌, ◌/◌, ◌%◌, ◌^◌, ◌<◌, ◌≤◌, Bool, true, false, List, [], ◌∷◌, Option, Some, None, Result, Ok, Err, refl, ap, sym, ◌∙◌, subst, arith, slice_set}
+use Rattle.std.proofs.Common.{◌≡◌, ℕ, zero, suc, ◌+◌, ◌*◌, ◌/◌, ◌%◌, ◌^◌, ◌<◌, ◌≤◌, Bool, true, false, List, [], ◌∷◌, Option, Some, None, Result, Ok, Err, refl, ap, sym, ◌∙◌, arith, slice_set}
 use Rattle.std.specs.Prelude.{if◌then◌else◌, slice_index}
 use Rattle.vax_arch.specs.declared.mode.Intent.{Intent}
 use Rattle.vax_arch.specs.declared.mode.Intent.TheVariants.{Write}

@@ -5,4 +5,3 @@ pub mod Mapped
 pub mod One
 pub mod Puts
 pub mod Quiet
-pub mod Writable

@@ -1,15 +1,23 @@
 -- One instruction, by what was found.
-use Rattle.std.proofs.Common.{◌≡◌, ℕ, List, [], Result, Ok, Err, refl, ap, ◌∙◌}
-use Rattle.vax_hw.specs.Machine.{Machine, is_clear, seen_psl, space_of}
-use Rattle.vax_hw.specs.Real.{by_try, in_kernel, one}
+use Rattle.std.proofs.Common.{◌≡◌, ℕ, suc, Bool, List, [], Option, Some, None, Result, Ok, Err, refl, ap, sym, ◌∙◌, slice_index}
+use Rattle.vax_arch.specs.declared.mode.Intent.{Intent}
+use Rattle.vax_hw.specs.Machine.{Machine, is_clear, psw_of, retire, seen_psl, space_of, tables_of}
+use Rattle.vax_hw.specs.Real.{by_try, going_on, in_kernel, misses_after, one, probed_as, real}
+use Rattle.vax_hw.specs.RealTables.{real_probe}
+use Rattle.vax_hw.specs.declared.world.Exit.{Exit}
+use Rattle.vax_hw.specs.declared.world.Exit.TheVariants.{Arithmetic}
 use Rattle.vax_table.specs.Claims.{claims}
+use Rattle.vax_table.specs.Effects.{Effect, effect, long_of}
+use Rattle.vax_table.specs.PlanLaws.{bytes_of_stores}
+use Rattle.vax_table.specs.declared.effect.Plan.{Plan}
+use Rattle.vax_table.specs.declared.evaluation.Operands.{Operands}
 use Rattle.vax_table.specs.Script.{Trouble, outcome}
 use Rattle.vax_table.specs.Tries.{first_clear, tried, tried_by, unless_clear}
 use Rattle.vax_table.specs.Whole.{Act, Meant, Plain, Probes, Traps, instruction, meant}
 use Rattle.vax_table.proofs.Tries.{tries_stores}
-use Rattle.vax_cpu.specs.Completed.{completed, ended}
+use Rattle.vax_cpu.specs.Completed.{behind, by_judgement, completed, ended, retired_by, retired_from, settled, settled_meaning, unless_modified, with_opcode, with_registers}
 use Rattle.vax_cpu.specs.Fetched.{exits}
-use Rattle.vax_cpu.specs.Paged.{paged}
+use Rattle.vax_cpu.specs.Paged.{is_clear_for, paged}
 use Rattle.vax_cpu.proofs.Quiet.{found_claims}
 
 on_act : (m : Machine) (opcode : ℕ) (a : Act) → outcome (space_of m) (instruction (in_kernel m.world) (seen_psl m.world) m.world.r) ≡ Ok (meant opcode a) →
@@ -33,4 +41,49 @@ pub one_ended : (m : Machine) → one m ≡ ended m (exits (outcome (paged m.mem
 unfolding one
 one_ended m = on_outcome m _ refl
 
-pub ruleset ended_by = (one_ended)
+by_clear : (m : Machine) (opcode : ℕ) (e : Effect) (x : Option ℕ) → by_try m (unless_clear (meant opcode (Plain e)) x) ≡ retired_by m opcode (unless_modified e x)
+by_clear m opcode e None = refl
+by_clear m opcode e (Some va) = refl
+
+by_probe : (m : Machine) (opcode : ℕ) (i : Intent) (o : Operands) (x : Option Bool) → probed_as m opcode i o x ≡ retired_by m opcode (by_judgement i o (psw_of m.world) x)
+by_probe m opcode i o (Some is_accessible) = refl
+by_probe m opcode i o None = refl
+
+completed_settled : (m : Machine) (opcode : ℕ) (a : Act) → completed m opcode a ≡ retired_by m opcode (settled m.memory m.world a)
+completed_settled m opcode (Plain e) = by_clear m opcode e (first_clear (is_clear_for m.memory m.world) (bytes_of_stores e.writes))
+completed_settled m opcode (Traps t) = refl
+completed_settled m opcode (Probes i o) = by_probe m opcode i o (real_probe m.memory (tables_of m.world) m.world.psl.0 i (long_of o 0) (long_of o 1) (long_of o 2))
+
+with_opcode_retired : (m : Machine) (opcode : ℕ) (x : Result Effect Exit) → retired_by m opcode x ≡ retired_from m (with_opcode opcode x)
+with_opcode_retired m opcode (Ok e) = refl
+with_opcode_retired m opcode (Err x) = refl
+
+meaning_retired : (m : Machine) (x : Result Meant Exit) → ended m x ≡ retired_from m (settled_meaning m.memory m.world x)
+meaning_retired m (Ok meant) = completed_settled m meant.opcode meant.act ∙ with_opcode_retired m meant.opcode (settled m.memory m.world meant.act)
+meaning_retired m (Err e) = refl
+
+by_attempt : (m : Machine) (r : List ℕ) →
+    one (with_registers r m) ≡ retired_from (with_registers r m) (settled_meaning m.memory m.world (exits (outcome (paged m.memory m.world) (instruction (in_kernel m.world) (seen_psl m.world) r))))
+by_attempt m r = one_ended (with_registers r m) ∙ meaning_retired (with_registers r m) _
+
+-- an instruction that retires by a plan
+pub attempt_retires : (m after : Machine) (r : List ℕ) (opcode : ℕ) (p : Plan) →
+    Ok (opcode, effect p) ≡ settled_meaning m.memory m.world (exits (outcome (paged m.memory m.world) (instruction (in_kernel m.world) (seen_psl m.world) r))) →
+    after ≡ behind (slice_index r 15) opcode (effect p) m → one (with_registers r m) ≡ Ok (record { machine = with_registers p.r after; trap = p.trap })
+unfolding retire
+attempt_retires m after r opcode p h e = by_attempt m r ∙ ap (retired_from (with_registers r m)) (sym h) ∙ rw e refl
+
+-- and one that doesn't retire
+pub attempt_stops : (m : Machine) (r : List ℕ) (e : Exit) →
+    Err e ≡ settled_meaning m.memory m.world (exits (outcome (paged m.memory m.world) (instruction (in_kernel m.world) (seen_psl m.world) r))) → one (with_registers r m) ≡ Err e
+attempt_stops m r e h = by_attempt m r ∙ ap (retired_from (with_registers r m)) (sym h)
+
+-- a run, by its first instruction
+pub runs_on : (n : ℕ) (m after : Machine) → one m ≡ Ok (record { machine = after; trap = None }) → real (suc n) m ≡ real n after
+runs_on n m after h = ap (going_on (real n) m) h
+
+pub runs_to_trap : (n kind : ℕ) (m after : Machine) → one m ≡ Ok (record { machine = after; trap = Some kind }) → real (suc n) m ≡ (after, Arithmetic kind)
+runs_to_trap n kind m after h = ap (going_on (real n) m) h
+
+pub runs_to_stop : (n : ℕ) (m : Machine) (e : Exit) → one m ≡ Err e → real (suc n) m ≡ (record m { misses = misses_after m.misses e }, e)
+runs_to_stop n m e h = ap (going_on (real n) m) h

@@ -3,7 +3,7 @@ use Rattle.std.specs.Prelude.{◌≡◌, ℕ, zero, suc, ◌+◌, ◌*◌, ◌/�
 use Rattle.vv_base.specs.Width.{size_of}
 use Rattle.vax_arch.specs.declared.mode.Intent.TheVariants.{Write}
 use Rattle.vax_hw.specs.declared.world.World.{World}
-use Rattle.vax_table.specs.Script.{Cause, Trouble}
+use Rattle.vax_table.specs.Script.{Trouble}
 use Rattle.vax_table.specs.declared.effect.Store.{Store}
 use Rattle.vax_cpu.specs.Paged.{placed}
 

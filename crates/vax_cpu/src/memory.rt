@@ -6,20 +6,6 @@ ghost use Rattle.vax_cpu.specs.InPage.{number_from, stored_from};
 
 use vv_base::{Width, get_u32};
 
-/// The bytes of a width.
-pub fn size(w: Width) -> u32
-    ensures value { result ≡ size_of w }
-    ensures some { 1 ≤ result }
-    ensures most { result ≤ 8 }
-{
-    match w {
-        Width::Byte => 1,
-        Width::Word => 2,
-        Width::Long => 4,
-        Width::Quad => 8,
-    }
-}
-
 /// The byte at a place; beyond memory it is 0.
 pub fn byte_in(memory: &[u8], at: usize) -> u8
     ensures { result ≡ slice_index memory.now at }
@@ -86,7 +72,7 @@ pub fn store_in(memory: &mut [u8], place: usize, w: Width, value: u64)
 {
     let mut at = place;
     let mut rest = value;
-    for _left in (0..size(w)).rev() {
+    for _left in (0..w.bytes()).rev() {
         memory[at] = (rest % 256) as u8;
         at += 1;
         rest /= 256;

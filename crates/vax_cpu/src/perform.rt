@@ -5,36 +5,41 @@ ghost use Rattle.vax_table.specs.Plan.{is_planned};
 ghost use Rattle.vax_table.specs.Script.{outcome};
 ghost use Rattle.vax_table.specs.Spelling.{IsWellFormed, view};
 ghost use Rattle.vax_table.specs.Whole.{acted, first_operand, instruction, is_always_done, plainly, probe_of, trap_of, trapped};
+ghost use Rattle.vax_table.specs.declared.effect.Plan.{Plan};
+ghost use Rattle.vax_table.specs.declared.evaluation.Operands.{Operands};
 ghost use Rattle.vax_table.specs.declared.meaning.Operation.TheVariants.{MoveStatus};
+ghost use Rattle.vax_operand.specs.Left.{joined};
 ghost use Rattle.vax_hw.specs.Machine.{seen_psl};
 ghost use Rattle.vax_hw.specs.Real.{in_kernel};
-ghost use Rattle.vax_cpu.specs.Fetched.{acts_of, exits, found};
+ghost use Rattle.vax_cpu.specs.Fetched.{acts_of, exits, found, meaning_of};
+ghost use Rattle.vax_cpu.specs.Completed.{attempted, settled, settled_as, settled_meaning};
 ghost use Rattle.vax_cpu.specs.Paged.{paged};
 
 use crate::entries::Paged;
 use crate::kept::Kept;
-use crate::space::exit_of;
+use crate::probe::probed;
+use crate::stop::{Fault, Stop, stop_of};
 use vax_arch::Intent;
 use vax_decode::Decoded;
-use vax_exec::{Plan, plan};
-use vax_hw::{Exit, Mode, Psl, Refusal, Sens, Trapped, World};
-use vax_operand::{Operands, Space, evaluate, evaluate_trap};
+use vax_exec::{Plan, begin, plan_into};
+use vax_hw::{Mode, Psl, Refusal, Sens, Trapped, World};
+use vax_operand::{Operands, Space, Values, evaluate, evaluate_into, evaluate_trap};
 use vax_table::{Operation, operation};
 use vv_base::Width;
 
-/// What an instruction comes to: a plain one's plan, a sensitive one's operands, or PROBE's.
-#[derive(Drop)]
+/// What an instruction comes to: what it planned, or with its operands a trap, or PROBE's test of them.
+#[derive(Clone, Copy)]
 pub enum Act {
-    Plain(Plan),
-    Traps(Trapped),
-    Probes(Intent, Operands),
+    Plain,
+    Traps(Sens),
+    Probes(Intent),
 }
 
 /// An instruction that was found, with its opcode.
-#[derive(Drop)]
-pub struct Found {
-    pub opcode: u8,
-    pub act: Act,
+#[derive(Clone, Copy)]
+struct Found {
+    opcode: u8,
+    act: Act,
 }
 
 /// CHM and REI are done in every mode.
@@ -73,14 +78,24 @@ pub fn trap_of(op: Sens, o: &Operands) -> Trapped
     }
 }
 
-/// A sensitive instruction that traps.
+/// A sensitive instruction that traps; its operands go to `o` and the plan's registers.
 #[tactic(auto, using(vax_table::proofs::Scripts::binds))]
-fn trap<S: Space>(s: &S, op: Sens, d: &Decoded, r: &[u32; 16]) -> Result<Act, Exit>
+#[cold]
+#[inline(never)]
+fn trap<S: Space>(
+    s: &S,
+    op: Sens,
+    d: &Decoded,
+    o: &mut Values,
+    plan: &mut Plan,
+) -> Result<Act, Stop>
     requires { IsWellFormed (view d.now) }
-    ensures { acts_of d.now.opcode result ≡ exits (outcome (S.space s.now) (trapped op (view d.now) r.now)) }
+    ensures { acts_of d.now.opcode (joined o.new plan.new.r) plan.new result ≡ exits (outcome (S.space s.now) (trapped op (view d.now) plan.old.r)) }
 {
-    let o = evaluate_trap(s, d, r).map_err(exit_of)?;
-    Ok(Act::Traps(trap_of(op, &o)))
+    let Operands { values, dests, r } = evaluate_trap(s, d, &plan.r).map_err(stop_of)?;
+    *o = Values { values, dests };
+    plan.r = r;
+    Ok(Act::Traps(op))
 }
 
 /// The sensitive instruction that PROBE traps as.
@@ -95,63 +110,83 @@ pub fn probe_of(intent: Intent) -> Sens
 
 /// A plain instruction but MOVPSL, PROBE, BPT and XFC.
 #[tactic(auto, using(vax_table::proofs::Scripts::binds, vax_table::proofs::Plans::plans_planned))]
-fn plain<S: Space>(s: &S, d: &Decoded, r: &[u32; 16], psl: Psl) -> Result<Act, Exit>
-    requires formed { IsWellFormed (view d.now) }
-    requires planned { is_planned (operation_of d.now.opcode) ≡ true }
-    ensures { acts_of d.now.opcode result ≡ exits (outcome (S.space s.now) (plainly psl.0 (view d.now) r.now)) }
+fn plain<S: Space>(
+    s: &S,
+    kept: &Kept,
+    psl: Psl,
+    o: &mut Values,
+    plan: &mut Plan,
+) -> Result<Act, Stop>
+    requires formed { IsWellFormed (view kept.now.decoded) }
+    requires planned { is_planned (operation_of kept.now.decoded.opcode) ≡ true }
+    ensures { acts_of kept.now.decoded.opcode (joined o.new plan.new.r) plan.new result ≡ exits (outcome (S.space s.now) (plainly psl.0 (view kept.now.decoded) plan.old.r)) }
 {
-    let plan = plan(s, d, r, psl).map_err(exit_of)?;
-    Ok(Act::Plain(plan))
+    let forms = kept.forms.as_slice();
+    plan_into(s, forms, &kept.decoded, psl, o, plan).map_err(stop_of)?;
+    Ok(Act::Plain)
 }
 
 /// MOVPSL.
 #[tactic(auto, unfolding(vax_table::specs::Plan::plan_of), using(vax_table::proofs::Scripts::binds))]
-fn move_status<S: Space>(s: &S, d: &Decoded, r: &[u32; 16], psl: Psl) -> Result<Act, Exit>
-    requires formed { IsWellFormed (view d.now) }
-    requires moves { operation_of d.now.opcode ≡ MoveStatus }
-    ensures { acts_of d.now.opcode result ≡ exits (outcome (S.space s.now) (plainly psl.0 (view d.now) r.now)) }
+#[cold]
+#[inline(never)]
+fn move_status<S: Space>(
+    s: &S,
+    kept: &Kept,
+    psl: Psl,
+    o: &mut Values,
+    plan: &mut Plan,
+) -> Result<Act, Stop>
+    requires formed { IsWellFormed (view kept.now.decoded) }
+    requires moves { operation_of kept.now.decoded.opcode ≡ MoveStatus }
+    ensures { acts_of kept.now.decoded.opcode (joined o.new plan.new.r) plan.new result ≡ exits (outcome (S.space s.now) (plainly psl.0 (view kept.now.decoded) plan.old.r)) }
 {
-    let o = evaluate(s, d, r).map_err(exit_of)?;
-    let mut plan = Plan::begun(&o, (psl.0 % 0x100) as u8);
+    let forms = kept.forms.as_slice();
+    evaluate_into(s, forms, &kept.decoded, &mut plan.r, o).map_err(stop_of)?;
+    begin(plan, (psl.0 % 0x100) as u8);
     plan.put(o.dests[0], Width::Long, u64::from(psl.0));
-    Ok(Act::Plain(plan))
+    Ok(Act::Plain)
 }
 
-/// What an instruction comes to, in kernel mode or not, with the PSL that MOVPSL stores.
+/// What an instruction that is kept comes to, in kernel mode or not, with the PSL that MOVPSL stores. The plan's registers
+/// are those before it. Its operands go to `o`, and what it plans to `plan`; of what they are behind an error, and where it
+/// traps, nothing is said.
 #[tactic(auto, unfolding(vax_table::specs::Whole::acted, vax_table::specs::Plan::plan_of, vax_table::specs::Plan::performed), using(vax_table::proofs::Scripts::binds))]
 pub fn carry_out<S: Space>(
     s: &S,
     is_kernel: bool,
-    d: &Decoded,
-    r: &[u32; 16],
+    kept: &Kept,
     psl: Psl,
-) -> Result<Act, Exit>
-    requires { IsWellFormed (view d.now) }
-    ensures { acts_of d.now.opcode result ≡ exits (outcome (S.space s.now) (acted is_kernel psl.0 (view d.now) r.now)) }
+    o: &mut Values,
+    plan: &mut Plan,
+) -> Result<Act, Stop>
+    requires { IsWellFormed (view kept.now.decoded) }
+    ensures { acts_of kept.now.decoded.opcode (joined o.new plan.new.r) plan.new result ≡ exits (outcome (S.space s.now) (acted is_kernel psl.0 (view kept.now.decoded) plan.old.r)) }
 {
+    let d = &kept.decoded;
     let refusal = match operation(d.opcode) {
         Operation::Sensitive(op) => {
             if is_always_done(op) || is_kernel {
-                return trap(s, op, d, r);
+                return trap(s, op, d, o, plan);
             }
-            return Err(Exit::Refused(Refusal::Instruction));
+            return Err(Stop::Fault(Fault::Refused(Refusal::Instruction)));
         }
         Operation::Probe(intent) => {
-            let o = evaluate(s, d, r).map_err(exit_of)?;
-            return Ok(Act::Probes(intent, o));
+            evaluate_into(s, kept.forms.as_slice(), d, &mut plan.r, o).map_err(stop_of)?;
+            return Ok(Act::Probes(intent));
         }
         Operation::MoveStatus => {
-            return move_status(s, d, r, psl);
+            return move_status(s, kept, psl, o, plan);
         }
         Operation::Breakpoint => Refusal::Breakpoint,
         Operation::Customer => Refusal::Customer,
         Operation::Other => Refusal::Instruction,
         _ => {
-            return plain(s, d, r, psl);
+            return plain(s, kept, psl, o, plan);
         }
     };
-    evaluate(s, d, r).map_err(exit_of)?;
-    Err(Exit::Refused(refusal))
+    evaluate(s, d, &plan.r).map_err(stop_of)?;
+    Err(Stop::Fault(Fault::Refused(refusal)))
 }
 
 /// The PSL that MOVPSL stores: VMPSL's upper bytes over the real status word.
@@ -161,18 +196,63 @@ fn seen_psl(w: &World) -> Psl
     Psl(w.vmpsl.0 / 0x100 * 0x100 + w.psl.0 % 0x100)
 }
 
-/// The instruction at PC of a world over a memory, and what it comes to. It is kept, or taken where it was kept already.
+/// The instruction at PC over a memory, and what it comes to, with the plan's registers in place of the world's. It is kept,
+/// or taken where it was kept already.
 #[tactic(auto, unfolding(vax_table::specs::Whole::instruction), using(vax_table::proofs::Scripts::binds))]
-pub fn find(memory: &[u8], world: &World, kept: &mut Kept) -> Result<Found, Exit>
-    ensures { found result ≡ exits (outcome (paged memory.now world.now) (instruction (in_kernel world.now) (seen_psl world.now) world.now.r)) }
+fn find(
+    memory: &[u8],
+    world: &World,
+    kept: &mut Kept,
+    o: &mut Values,
+    plan: &mut Plan,
+) -> Result<Found, Stop>
+    ensures { found (joined o.new plan.new.r) plan.new result ≡ exits (outcome (paged memory.now world.now) (instruction (in_kernel world.now) (seen_psl world.now) plan.old.r)) }
 {
     let space = Paged { memory, world };
-    space.fetch(world.r[15], kept)?;
+    space.fetch(plan.r[15], kept).map_err(Stop::Fault)?;
     let is_kernel = world.vmpsl.current() == Mode::Kernel;
-    let psl = seen_psl(world);
-    let act = carry_out(&space, is_kernel, &kept.decoded, &world.r, psl)?;
+    let act = carry_out(&space, is_kernel, kept, seen_psl(world), o, plan)?;
     Ok(Found {
         opcode: kept.decoded.opcode,
         act,
     })
+}
+
+/// Whether an instruction that was found retires, by its plan: a plain one where the modify bits of all that it stores are
+/// set; PROBE where the machine judges its bytes.
+fn settle(memory: &[u8], world: &World, act: Act, o: &Values, plan: &mut Plan) -> Result<(), Stop>
+    ensures { settled_as (joined o.now plan.new.r) plan.new result ≡ settled memory.now world.now (meaning_of (joined o.now plan.old.r) plan.old act) }
+{
+    let space = Paged { memory, world };
+    match act {
+        Act::Plain if plan.writes.is_empty() => Ok(()),
+        Act::Plain => match space.first_clear(plan.writes.as_slice()) {
+            Some(va) => Err(Stop::Modify(va)),
+            None => Ok(()),
+        },
+        Act::Traps(op) => Err(Stop::Emulate(op)),
+        Act::Probes(intent) => match space.probe(intent, o) {
+            Some(is_accessible) => {
+                probed(is_accessible, (world.psl.0 % 0x100) as u8, plan);
+                Ok(())
+            }
+            None => Err(Stop::Emulate(probe_of(intent))),
+        },
+    }
+}
+
+/// The opcode of the instruction at PC over a memory, which retires by the plan, or why it doesn't retire. The plan's
+/// registers are those before it, in place of the world's; of what it is behind an error nothing is said.
+pub fn attempt(
+    memory: &[u8],
+    world: &World,
+    kept: &mut Kept,
+    o: &mut Values,
+    plan: &mut Plan,
+) -> Result<u8, Stop>
+    ensures { attempted (joined o.new plan.new.r) plan.new result ≡ settled_meaning memory.now world.now (exits (outcome (paged memory.now world.now) (instruction (in_kernel world.now) (seen_psl world.now) plan.old.r))) }
+{
+    let found = find(memory, world, kept, o, plan)?;
+    settle(memory, world, found.act, o, plan)?;
+    Ok(found.opcode)
 }

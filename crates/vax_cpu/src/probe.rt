@@ -1,14 +1,14 @@
-ghost use Rattle.std.specs.Prelude.{◌≡◌, ◌%◌};
+ghost use Rattle.std.specs.Prelude.{◌≡◌, ◌%◌, ◌^◌, [], slice_index};
 ghost use Rattle.vax_hw.specs.Machine.{tables_of};
 ghost use Rattle.vax_hw.specs.RealTables.{both, is_kernels_alone, judged, judged_by, real_probe};
-ghost use Rattle.vax_table.specs.Effects.{effect, long_of};
+ghost use Rattle.vax_table.specs.Effects.{effect};
 ghost use Rattle.vax_table.specs.Plan.{probed};
 ghost use Rattle.vax_table.specs.Probing.{last_of, probe_mode};
 
 use crate::entries::{Entry, Paged};
 use vax_arch::{Intent, Mode, Prot, Psl, Pte, may};
-use vax_exec::Plan;
-use vax_operand::Operands;
+use vax_exec::{Plan, begin};
+use vax_operand::Values;
 
 /// The less privileged of the mode that the operand names and the previous one.
 fn probe_mode(psl: Psl, named: u32) -> Mode
@@ -75,8 +75,8 @@ impl Paged<'_> {
     }
 
     /// Whether both bytes that PROBE asks of may be used, where the machine judges that.
-    pub fn probe(&self, i: Intent, o: &Operands) -> Option<bool>
-        ensures { result ≡ real_probe self.now.memory.now (tables_of self.now.world.now) self.now.world.now.psl.0 i (long_of o.now 0) (long_of o.now 1) (long_of o.now 2) }
+    pub fn probe(&self, i: Intent, o: &Values) -> Option<bool>
+        ensures { result ≡ real_probe self.now.memory.now (tables_of self.now.world.now) self.now.world.now.psl.0 i (slice_index o.now.values 0 % 2 ^ 32) (slice_index o.now.values 1 % 2 ^ 32) (slice_index o.now.values 2 % 2 ^ 32) }
     {
         let m = probe_mode(self.world.psl, o.long(0));
         let base = o.long(2);
@@ -88,9 +88,9 @@ impl Paged<'_> {
 }
 
 /// PROBE behind its operands: Z where not both bytes may be used, and C as before.
-pub fn probed(is_accessible: bool, o: &Operands, psw: u8) -> Plan
-    ensures { effect result ≡ probed is_accessible o.now psw }
+pub fn probed(is_accessible: bool, psw: u8, plan: &mut Plan)
+    ensures { effect plan.new ≡ probed is_accessible (record { values = []; dests = []; r = plan.old.r }) psw }
 {
     let zero = if is_accessible { 0 } else { 4 };
-    Plan::begun(o, psw / 16 * 16 + zero + psw % 2)
+    begin(plan, psw / 16 * 16 + zero + psw % 2);
 }

@@ -4,24 +4,24 @@ ghost use Rattle.vax_arch.specs.Fields.{current_of};
 ghost use Rattle.vax_arch.specs.Protection.{may_of};
 ghost use Rattle.vax_arch.specs.Walk.{granted};
 ghost use Rattle.vax_arch.specs.declared.mode.Intent.TheVariants.{Read};
-ghost use Rattle.vax_hw.specs.Real.{exit_of};
 ghost use Rattle.vax_hw.specs.RealTables.{everywhere, place_by};
 ghost use Rattle.vax_table.specs.Fetch.{fetched};
 ghost use Rattle.vax_table.specs.Reading.{Whole, decoded_at};
 ghost use Rattle.vax_table.specs.Script.{number_at, outcome};
 ghost use Rattle.vax_table.specs.Spelling.{IsWellFormed, view};
-ghost use Rattle.vax_table.specs.Troubles.{intent_of, told, trouble_of};
-ghost use Rattle.vax_cpu.specs.Fetched.{exits, kept_view, refusal_of, taken};
+ghost use Rattle.vax_table.specs.Troubles.{intent_of, told};
+ghost use Rattle.vax_cpu.specs.Fetched.{byte_view, exits, kept_view, refusal_of, taken};
 ghost use Rattle.vax_cpu.specs.Paged.{at_byte, paged, placed};
 
 use crate::entries::{Entry, Paged};
 use crate::kept::Kept;
-use crate::memory::{byte_in, number_in, size};
+use crate::memory::{byte_in, number_in};
+use crate::stop::{Fault, fault_of};
 use arrayvec::ArrayVec;
 use vax_arch::{Intent, Pte, may};
 use vax_decode::{Decode, DecodeFault, Decoded, decode};
-use vax_hw::{Exit, Refusal};
-use vax_operand::{Space, Trouble};
+use vax_hw::Refusal;
+use vax_operand::{Space, Trouble, forms};
 use vv_base::Width;
 
 /// Reading, or writing.
@@ -59,9 +59,11 @@ fn keep(bytes: &[u8], decoded: Decoded) -> Kept
 {
     let mut kept = [0; 24];
     kept[..bytes.len()].copy_from_slice(bytes);
+    let forms = forms(decoded.opcode);
     Kept {
         bytes: kept,
         decoded,
+        forms,
     }
 }
 
@@ -104,6 +106,8 @@ impl Paged<'_> {
 
     /// The number of so many bytes, the lowest first, each by its own page.
     #[tactic(auto, using(vax_operand::proofs::ByteByByte::byte_by_byte))]
+    #[cold]
+    #[inline(never)]
     fn number_by_bytes(&self, va: u32, bytes: u32, write: bool) -> Result<u64, Trouble>
         requires { bytes ≤ 8 }
         ensures number { told result ≡ number_at (paged self.now.memory.now self.now.world.now) (intent_of write) bytes va }
@@ -122,8 +126,8 @@ impl Paged<'_> {
         ensures number { told result ≡ number_at (paged self.now.memory.now self.now.world.now) (intent_of write) (size_of w) va }
         ensures fits { IfOk result (λ v. v < 256 ^ size_of w) }
     {
-        if va % 512 + size(w) > 512 {
-            return self.number_by_bytes(va, size(w), write);
+        if va % 512 + u32::from(w.bytes()) > 512 {
+            return self.number_by_bytes(va, u32::from(w.bytes()), write);
         }
         let place = self.place(va, write)?;
         Ok(number_in(self.memory, place as usize, w))
@@ -149,7 +153,7 @@ impl Paged<'_> {
     }
 
     /// The instruction at an address, which is kept, and taken where it was kept already.
-    pub fn fetch(&self, pc: u32, kept: &mut Kept) -> Result<(), Exit>
+    pub fn fetch(&self, pc: u32, kept: &mut Kept) -> Result<(), Fault>
         ensures fetched { taken kept.new.decoded result ≡ exits (outcome (paged self.now.memory.now self.now.world.now) (fetched pc)) }
         ensures formed { OnOk result (IsWellFormed (view kept.new.decoded)) }
     {
@@ -161,7 +165,9 @@ impl Paged<'_> {
 
     /// The instruction at an address, by its bytes, each by its own page.
     #[tactic(auto, unfolding(vax_table::specs::Fetch::fetched, vax_table::specs::Fetch::decided))]
-    fn decoded(&self, pc: u32) -> Result<Kept, Exit>
+    #[cold]
+    #[inline(never)]
+    fn decoded(&self, pc: u32) -> Result<Kept, Fault>
         ensures fetched { kept_view result ≡ exits (outcome (paged self.now.memory.now self.now.world.now) (fetched pc)) }
         ensures formed { IfOk result (λ k. IsWellFormed (view k.decoded)) }
     {
@@ -173,34 +179,23 @@ impl Paged<'_> {
                 }
                 Decode::NeedMore => match self.fetch_byte(pc.wrapping_add(bytes.len() as u32)) {
                     Ok(byte) => bytes.push(byte),
-                    Err(exit) => {
-                        return Err(exit);
+                    Err(fault) => {
+                        return Err(fault);
                     }
                 },
                 Decode::Fault(fault) => {
-                    return Err(Exit::Refused(refusal_of(fault)));
+                    return Err(Fault::Refused(refusal_of(fault)));
                 }
             }
         }
-        Err(Exit::Refused(Refusal::Instruction))
+        Err(Fault::Refused(Refusal::Instruction))
     }
 
     /// A byte of an instruction.
-    fn fetch_byte(&self, va: u32) -> Result<u8, Exit>
-        ensures { result ≡ exits (number_at (paged self.now.memory.now self.now.world.now) Read 1 va) }
+    fn fetch_byte(&self, va: u32) -> Result<u8, Fault>
+        ensures { byte_view result ≡ exits (number_at (paged self.now.memory.now self.now.world.now) Read 1 va) }
     {
-        self.byte(va, false).map_err(exit_of)
-    }
-}
-
-/// What a trouble stops the machine with.
-pub fn exit_of(trouble: Trouble) -> Exit
-    ensures { result ≡ exit_of (trouble_of trouble) }
-{
-    match trouble {
-        Trouble::NotValid { va, write } => Exit::NotValid { va, write },
-        Trouble::Denied { va, write } => Exit::Denied { va, write },
-        Trouble::Operand => Exit::Refused(Refusal::Operand),
+        self.byte(va, false).map_err(fault_of)
     }
 }
 
@@ -211,8 +206,7 @@ impl Space for Paged<'_> {
         self.number(va, w, false)
     }
 
-    fn check_write(&self, va: u32, w: Width) -> Result<(), Trouble> {
-        self.number(va, w, true)?;
-        Ok(())
+    fn claim(&self, va: u32, w: Width) -> Result<u64, Trouble> {
+        self.number(va, w, true)
     }
 }

@@ -10,7 +10,7 @@ ghost use Rattle.vax_cpu.specs.InPage.{IsWhole};
 ghost use Rattle.vax_cpu.specs.Paged.{is_clear_for, written_place};
 
 use crate::entries::{Entry, Paged};
-use crate::memory::{size, store_byte, store_in};
+use crate::memory::{store_byte, store_in};
 use arrayvec::ArrayVec;
 use vax_exec::Store;
 use vax_hw::World;
@@ -80,7 +80,7 @@ impl Paged<'_> {
         let [first, rest @ ..] = stores else {
             return None;
         };
-        match self.first_clear_from(first.va, size(first.width)) {
+        match self.first_clear_from(first.va, u32::from(first.width.bytes())) {
             Some(va) => Some(va),
             None => self.first_clear(rest),
         }
@@ -106,7 +106,7 @@ impl Paged<'_> {
     {
         let mut va = store.va;
         let mut rest = store.value;
-        for _left in (0..size(store.width)).rev() {
+        for _left in (0..store.width.bytes()).rev() {
             puts.push(Put {
                 place: self.place_or_end(va),
                 byte: (rest % 256) as u8,
@@ -132,6 +132,8 @@ impl Paged<'_> {
 
 /// Makes stores in order byte by byte, at the places of before the first.
 #[tactic(auto, using(crate::proofs::Puts::as_stored))]
+#[cold]
+#[inline(never)]
 fn store_by_bytes(memory: &mut [u8], world: &World, stores: &[Store])
     requires memory { length memory.old < 2 ^ 32 }
     requires few { length stores.now ≤ 20 }
@@ -149,7 +151,7 @@ fn store_by_bytes(memory: &mut [u8], world: &World, stores: &[Store])
 fn whole_place(memory: &[u8], world: &World, store: &Store) -> Option<usize>
     ensures { IfSome result (λ place. IsWhole memory.now world.now store.now place) }
 {
-    let bytes = size(store.width);
+    let bytes = u32::from(store.width.bytes());
     if store.va % 512 + bytes > 512 {
         return None;
     }

@@ -3,7 +3,7 @@ ghost use Rattle.vax_table.specs.Spelling.{bytes_of, view, IsWellFormed, Spells}
 ghost use Rattle.vax_table.specs.Spelled.{value_size, spelled_specifier, spelled, spelled_all};
 ghost use Rattle.vax_decode.specs.Encoding.{IsInRange, AllInRange};
 
-use crate::read::{displacement_bytes, size};
+use crate::read::displacement_bytes;
 use vax_table::{Access, Decoded, Form, Spec, row};
 use vv_base::Text;
 
@@ -34,7 +34,7 @@ fn value_bytes(form: Form, spec: &Spec) -> usize
 {
     match (spec.mode, spec.reg) {
         (0..8, _) => 0,
-        (8, 15) => size(form.width),
+        (8, 15) => usize::from(form.width.bytes()),
         (9, 15) => 4,
         (8 | 9, _) => 0,
         (mode, _) => displacement_bytes(mode),
@@ -66,7 +66,7 @@ fn put_operand(text: &mut Text<24>, form: Form, spec: &Spec)
     ensures { text.new ≡ text.old ++ spelled form spec.now }
 {
     if form.access == Access::Branch {
-        put_number(text, size(form.width), spec.value);
+        put_number(text, usize::from(form.width.bytes()), spec.value);
         return;
     }
     if let Some(index) = spec.index {

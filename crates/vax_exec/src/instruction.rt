@@ -1,46 +1,101 @@
-ghost use Rattle.std.specs.Prelude.{◌≡◌, true, ◌%◌, ◌^◌};
-ghost use Rattle.vax_table.specs.Effects.{effects};
-ghost use Rattle.vax_table.specs.Operations.{is_narrow, operation_of};
+ghost use Rattle.std.specs.Prelude.{◌≡◌, ◌≤◌, true, ◌%◌, ◌^◌, length};
+ghost use Rattle.vax_table.specs.Effects.{effect, effects};
+ghost use Rattle.vax_table.specs.Operand.{forms_in};
+ghost use Rattle.vax_table.specs.Operations.{operation_of};
 ghost use Rattle.vax_table.specs.Plan.{is_planned, performed, planned};
+ghost use Rattle.vax_table.specs.Rows.{row_of};
 ghost use Rattle.vax_table.specs.Script.{outcome};
 ghost use Rattle.vax_table.specs.Spelling.{IsWellFormed, view};
+ghost use Rattle.vax_operand.specs.Left.{joined, left};
 
 use crate::compute::{compute, move_quad};
 use crate::status::{clear_status, set_status};
+use arrayvec::ArrayVec;
 use vax_arch::Psl;
 use vax_decode::Decoded;
-use vax_flow::flow;
-use vax_operand::{Operands, Space, Trouble, evaluate};
+use vax_flow::{begin, flow};
+use vax_operand::{Space, Trouble, Values, evaluate_into, forms};
 use vax_table::effect::Plan;
-use vax_table::{Operation, operation};
+use vax_table::{Form, Operation, operation};
 
 /// What an instruction does behind its operands.
 #[tactic(auto, unfolding(vax_table::specs::Plan::performed))]
-fn perform<S: Space>(s: &S, d: &Decoded, o: &Operands, psl: Psl) -> Result<Plan, Trouble>
-    requires { is_planned (operation_of d.now.opcode) ≡ true }
-    ensures { effects result ≡ outcome (S.space s.now) (performed (operation_of d.now.opcode) o.now (psl.0 % 2 ^ 8)) }
+fn perform<S: Space>(
+    s: &S,
+    opcode: u8,
+    o: &Values,
+    psl: Psl,
+    plan: &mut Plan,
+) -> Result<(), Trouble>
+    requires { is_planned (operation_of opcode) ≡ true }
+    ensures { left result (effect plan.new) ≡ outcome (S.space s.now) (performed (operation_of opcode) (joined o.now plan.old.r) (psl.0 % 2 ^ 8)) }
 {
     let psw = (psl.0 % 0x100) as u8;
-    match operation(d.opcode) {
-        Operation::Nothing => Ok(Plan::begun(o, psw)),
-        Operation::Compute(op, w, inputs, target) => Ok(compute(op, w, inputs, target, o, psw)),
-        Operation::ClearQuad => Ok(move_quad(0, o.dests[0], o, psw)),
-        Operation::MoveQuad => Ok(move_quad(o.values[0], o.dests[1], o, psw)),
-        Operation::SetStatus => set_status(o, psw),
-        Operation::ClearStatus => clear_status(o, psw),
-        _ => flow(s, d, o, psl),
+    match operation(opcode) {
+        Operation::Nothing => {
+            begin(plan, psw);
+            Ok(())
+        }
+        Operation::Compute(op, w, inputs, target) => {
+            compute(op, w, inputs, target, o, psw, plan);
+            Ok(())
+        }
+        Operation::ClearQuad => {
+            move_quad(0, 0, o, psw, plan);
+            Ok(())
+        }
+        Operation::MoveQuad => {
+            move_quad(o.values[0], 1, o, psw, plan);
+            Ok(())
+        }
+        Operation::SetStatus => set_status(o, psw, plan),
+        Operation::ClearStatus => clear_status(o, psw, plan),
+        what => flow(s, what, o, psw, plan),
     }
 }
 
-/// What a plain instruction comes to that is neither MOVPSL nor PROBE, BPT or XFC: `r` is R0 to R15 before it, `psl`
-/// the processor status longword, of which the low byte counts. An error is the first trouble of its accesses and
-/// tests, in order, and then nothing is to change.
+/// What a plain instruction comes to that is neither MOVPSL nor PROBE, BPT or XFC: `forms` are those of its opcode's
+/// operands, `psl` is the processor status longword, of which the low byte counts. The plan's registers are R0 to R15 before
+/// it, and behind it then; its operands go to `o`. An error is the first trouble of its accesses and tests, in order;
+/// nothing is to change then, and what `o` and `plan` are is of no matter.
 #[tactic(auto, unfolding(vax_table::specs::Plan::planned), using(vax_table::proofs::Scripts::binds))]
+pub fn plan_into<S: Space>(
+    s: &S,
+    forms: &[Form],
+    d: &Decoded,
+    psl: Psl,
+    o: &mut Values,
+    plan: &mut Plan,
+) -> Result<(), Trouble>
+    requires formed { IsWellFormed (view d.now) }
+    requires few { length forms.now ≤ 4 }
+    requires forms { forms.now ≡ forms_in (row_of d.now.opcode) }
+    requires planned { is_planned (operation_of d.now.opcode) ≡ true }
+    ensures { left result (effect plan.new) ≡ outcome (S.space s.now) (planned (view d.now) plan.old.r (psl.0 % 2 ^ 8)) }
+{
+    evaluate_into(s, forms, d, &mut plan.r, o)?;
+    perform(s, d.opcode, o, psl, plan)
+}
+
+/// What a plain instruction comes to, as `plan_into` gives it; `r` is R0 to R15 before it.
 pub fn plan<S: Space>(s: &S, d: &Decoded, r: &[u32; 16], psl: Psl) -> Result<Plan, Trouble>
     requires formed { IsWellFormed (view d.now) }
     requires planned { is_planned (operation_of d.now.opcode) ≡ true }
     ensures { effects result ≡ outcome (S.space s.now) (planned (view d.now) r.now (psl.0 % 2 ^ 8)) }
 {
-    let o = evaluate(s, d, r)?;
-    perform(s, d, &o, psl)
+    let mut plan = Plan {
+        r: *r,
+        psw: 0,
+        writes: ArrayVec::new(),
+        trap: None,
+    };
+    plan_into(
+        s,
+        forms(d.opcode).as_slice(),
+        d,
+        psl,
+        &mut Values::none(),
+        &mut plan,
+    )?;
+    Ok(plan)
 }

@@ -51,28 +51,15 @@ fn number(m: &Memory, va: u32, bytes: u32, write: bool) -> Result<u64, Trouble>
     Ok(u64::from(byte) + 256 * rest)
 }
 
-fn size(w: Width) -> u32
-    ensures value { result ≡ size_of w }
-    ensures most { result ≤ 8 }
-{
-    match w {
-        Width::Byte => 1,
-        Width::Word => 2,
-        Width::Long => 4,
-        Width::Quad => 8,
-    }
-}
-
 impl Space for Memory {
     ghost space = { λ m. memory m.at m.longs };
 
     fn read(&self, va: u32, w: Width) -> Result<u64, Trouble> {
-        number(self, va, size(w), false)
+        number(self, va, u32::from(w.bytes()), false)
     }
 
-    fn check_write(&self, va: u32, w: Width) -> Result<(), Trouble> {
-        number(self, va, size(w), true)?;
-        Ok(())
+    fn claim(&self, va: u32, w: Width) -> Result<u64, Trouble> {
+        number(self, va, u32::from(w.bytes()), true)
     }
 }
 

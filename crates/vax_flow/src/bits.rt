@@ -2,12 +2,14 @@ ghost use Rattle.std.specs.Prelude.{◌≡◌, ◌<◌, ◌^◌, ◌%◌, IfOk};
 ghost use Rattle.arrayvec.specs.ArrayVec.{array_vec_len};
 ghost use Rattle.vv_base.specs.Width.{size_of};
 ghost use Rattle.vax_table.specs.Branches.{bit, bit_in, bit_intent, bit_made, bit_tested, branched_on_bit, byte_of_bit, with_bit};
-ghost use Rattle.vax_table.specs.Effects.{effect, effects};
+ghost use Rattle.vax_table.specs.Effects.{effect};
 ghost use Rattle.vax_table.specs.Script.{number_at, outcome};
 ghost use Rattle.vax_table.specs.Troubles.{told};
+ghost use Rattle.vax_operand.specs.Left.{joined, left};
 
+use crate::begun::begin;
 use crate::branches::comes_out;
-use vax_operand::{Dest, Operands, Space, Trouble};
+use vax_operand::{Dest, Space, Trouble, Values};
 use vax_table::effect::Plan;
 use vv_base::Width;
 
@@ -61,9 +63,10 @@ fn read_byte<S: Space>(space: &S, va: u32, becomes: Option<bool>) -> Result<u64,
     ensures fits { IfOk result (λ v. v < 256) }
 {
     if becomes.is_some() {
-        space.check_write(va, Width::Byte)?;
+        space.claim(va, Width::Byte)
+    } else {
+        space.read(va, Width::Byte)
     }
-    space.read(va, Width::Byte)
 }
 
 /// BBS, BBC and those that change the bit.
@@ -72,23 +75,24 @@ pub fn branch_on_bit<S: Space>(
     space: &S,
     on: bool,
     becomes: Option<bool>,
-    o: &Operands,
+    o: &Values,
     psw: u8,
-) -> Result<Plan, Trouble>
-    ensures { effects result ≡ outcome (S.space space.now) (branched_on_bit on becomes o.now psw) }
+    plan: &mut Plan,
+) -> Result<(), Trouble>
+    ensures { left result (effect plan.new) ≡ outcome (S.space space.now) (branched_on_bit on becomes (joined o.now plan.old.r) psw) }
 {
     let position = o.long(0);
     let to = o.long(2);
-    let mut plan = Plan::begun(o, psw);
+    begin(plan, psw);
     match o.dests[1] {
         Dest::Nowhere => {}
         Dest::Register(_) if position >= 32 => {
             return Err(Trouble::Operand);
         }
         Dest::Register(n) => {
-            let value = o.r.get(usize::from(n)).copied().unwrap_or(0);
+            let value = plan.r.get(usize::from(n)).copied().unwrap_or(0);
             test_bit(
-                &mut plan,
+                plan,
                 on,
                 becomes,
                 Dest::Register(n),
@@ -102,7 +106,7 @@ pub fn branch_on_bit<S: Space>(
             let at = byte_of_bit(base, position);
             let value = read_byte(space, at, becomes)? as u32;
             test_bit(
-                &mut plan,
+                plan,
                 on,
                 becomes,
                 Dest::Memory(at),
@@ -113,5 +117,5 @@ pub fn branch_on_bit<S: Space>(
             );
         }
     }
-    Ok(plan)
+    Ok(())
 }

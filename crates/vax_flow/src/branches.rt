@@ -1,13 +1,15 @@
 ghost use Rattle.std.specs.Prelude.{◌≡◌, ◌≢◌, ◌<◌, ◌^◌};
 ghost use Rattle.vax_table.specs.Branches.{bit, bit_in, bit_intent, bit_made, bit_tested, branched, branched_on_bit, branched_on_low_bit, byte_of_bit, called_subroutine, cased, comes_out, holds, left_subroutine, with_bit};
-ghost use Rattle.vax_table.specs.Effects.{effect, effects};
+ghost use Rattle.vax_table.specs.Effects.{effect};
 ghost use Rattle.vax_table.specs.Operand.{extended};
 ghost use Rattle.vax_table.specs.Script.{number_at, outcome};
 ghost use Rattle.vax_table.specs.Troubles.{told};
+ghost use Rattle.vax_operand.specs.Left.{joined, left};
 
+use crate::begun::begin;
 use crate::stack::push;
 use vax_alu::{AluOp, alu};
-use vax_operand::{Dest, Operands, Space, Trouble};
+use vax_operand::{Dest, Space, Trouble, Values};
 use vax_table::Condition;
 use vax_table::effect::Plan;
 use vv_base::Width;
@@ -44,36 +46,46 @@ pub fn holds(condition: Condition, psw: u8) -> bool
 
 /// A branch, and JMP.
 #[tactic(auto, unfolding(vax_table::specs::Branches::branched))]
-pub fn branch(condition: Condition, o: &Operands, psw: u8) -> Plan
-    ensures { effect result ≡ branched condition o.now psw }
+pub fn branch(condition: Condition, o: &Values, psw: u8, plan: &mut Plan)
+    ensures { effect plan.new ≡ branched condition (joined o.now plan.old.r) psw }
 {
-    let mut plan = Plan::begun(o, psw);
+    begin(plan, psw);
     plan.go_if(holds(condition, psw), o.long(0));
-    plan
 }
 
 /// BSB and JSB.
 #[tactic(auto, unfolding(vax_table::specs::Branches::called_subroutine), using(vax_table::proofs::Scripts::binds))]
-pub fn call_subroutine<S: Space>(space: &S, o: &Operands, psw: u8) -> Result<Plan, Trouble>
-    ensures { effects result ≡ outcome (S.space space.now) (called_subroutine o.now psw) }
+pub fn call_subroutine<S: Space>(
+    space: &S,
+    o: &Values,
+    psw: u8,
+    plan: &mut Plan,
+) -> Result<(), Trouble>
+    ensures { left result (effect plan.new) ≡ outcome (S.space space.now) (called_subroutine (joined o.now plan.old.r) psw) }
 {
-    let mut plan = Plan::begun(o, psw);
-    push(space, &mut plan, o.r[15])?;
+    begin(plan, psw);
+    let next = plan.r[15];
+    push(space, plan, next)?;
     plan.go_to(o.long(0));
-    Ok(plan)
+    Ok(())
 }
 
 /// RSB.
 #[tactic(auto, unfolding(vax_table::specs::Branches::left_subroutine))]
-pub fn leave_subroutine<S: Space>(space: &S, o: &Operands, psw: u8) -> Result<Plan, Trouble>
-    ensures { effects result ≡ outcome (S.space space.now) (left_subroutine o.now psw) }
+pub fn leave_subroutine<S: Space>(
+    space: &S,
+    o: &Values,
+    psw: u8,
+    plan: &mut Plan,
+) -> Result<(), Trouble>
+    ensures { left result (effect plan.new) ≡ outcome (S.space space.now) (left_subroutine (joined o.now plan.old.r) psw) }
 {
-    let sp = o.r[14];
+    let sp = plan.r[14];
     let pc = space.read(sp, Width::Long)? as u32;
-    let mut plan = Plan::begun(o, psw);
+    begin(plan, psw);
     plan.r[14] = sp.wrapping_add(4);
     plan.go_to(pc);
-    Ok(plan)
+    Ok(())
 }
 
 /// A displacement of a word, sign-extended to 32 bits.
@@ -90,14 +102,20 @@ fn extended(word: u64) -> u32
 
 /// CASE in a width.
 #[tactic(auto, unfolding(vax_table::specs::Branches::cased))]
-pub fn case<S: Space>(space: &S, w: Width, o: &Operands, psw: u8) -> Result<Plan, Trouble>
+pub fn case<S: Space>(
+    space: &S,
+    w: Width,
+    o: &Values,
+    psw: u8,
+    plan: &mut Plan,
+) -> Result<(), Trouble>
     requires { w ≢ Width.Quad }
-    ensures { effects result ≡ outcome (S.space space.now) (cased w o.now psw) }
+    ensures { left result (effect plan.new) ≡ outcome (S.space space.now) (cased w (joined o.now plan.old.r) psw) }
 {
     let t = alu(AluOp::Sub, o.long(1), o.long(0), w, psw).value;
     let limit = o.long(2);
-    let table = o.r[15];
-    let mut plan = Plan::begun(o, alu(AluOp::Cmp, t, limit, w, psw).psw);
+    let table = plan.r[15];
+    begin(plan, alu(AluOp::Cmp, t, limit, w, psw).psw);
     if t <= limit {
         let entry = table.wrapping_add(t.wrapping_mul(2));
         let displacement = space.read(entry, Width::Word)?;
@@ -106,7 +124,7 @@ pub fn case<S: Space>(space: &S, w: Width, o: &Operands, psw: u8) -> Result<Plan
         let size = limit.wrapping_add(1).wrapping_mul(2);
         plan.go_to(table.wrapping_add(size));
     }
-    Ok(plan)
+    Ok(())
 }
 
 /// Whether a test comes out as it is to.
@@ -118,10 +136,9 @@ pub fn comes_out(wanted: bool, is: bool) -> bool
 
 /// BLBS and BLBC.
 #[tactic(auto, unfolding(vax_table::specs::Branches::branched_on_low_bit))]
-pub fn branch_on_low_bit(on: bool, o: &Operands, psw: u8) -> Plan
-    ensures { effect result ≡ branched_on_low_bit on o.now psw }
+pub fn branch_on_low_bit(on: bool, o: &Values, psw: u8, plan: &mut Plan)
+    ensures { effect plan.new ≡ branched_on_low_bit on (joined o.now plan.old.r) psw }
 {
-    let mut plan = Plan::begun(o, psw);
+    begin(plan, psw);
     plan.go_if(comes_out(on, o.long(0) % 2 == 1), o.long(1));
-    plan
 }

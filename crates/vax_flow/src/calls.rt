@@ -1,14 +1,15 @@
 ghost use Rattle.std.specs.Prelude.{◌≡◌, ◌≤◌, [], ◌∷◌, slice_index};
 ghost use Rattle.arrayvec.specs.ArrayVec.{array_vec_len};
 ghost use Rattle.vax_table.specs.Calls.{called_general, called_on_stack, entered, entry_mask, frame_popped, frame_word, in_procedure, list_dropped, procedure_status, returned};
-ghost use Rattle.vax_table.specs.Effects.{effect, effects};
+ghost use Rattle.vax_table.specs.Effects.{effect};
 ghost use Rattle.vax_table.specs.Script.{outcome};
 ghost use Rattle.vax_table.specs.Stack.{push_all};
 ghost use Rattle.vax_table.specs.Troubles.{told};
-ghost use Rattle.vax_flow.specs.Stepped.{left};
+ghost use Rattle.vax_operand.specs.Left.{joined, left};
 
+use crate::begun::begin;
 use crate::stack::{pop, pop_named, push, push_named};
-use vax_operand::{Operands, Space, Trouble};
+use vax_operand::{Space, Trouble, Values};
 use vax_table::effect::Plan;
 use vax_table::evaluation::Place;
 use vv_base::Width;
@@ -95,28 +96,38 @@ fn read_mask<S: Space>(space: &S, procedure: u32) -> Result<u32, Trouble>
 
 /// CALLG.
 #[tactic(auto, unfolding(vax_table::specs::Calls::called_general), using(vax_table::proofs::Scripts::binds))]
-pub fn call_general<S: Space>(space: &S, o: &Operands, psw: u8) -> Result<Plan, Trouble>
-    ensures { effects result ≡ outcome (S.space space.now) (called_general o.now psw) }
+pub fn call_general<S: Space>(
+    space: &S,
+    o: &Values,
+    psw: u8,
+    plan: &mut Plan,
+) -> Result<(), Trouble>
+    ensures { left result (effect plan.new) ≡ outcome (S.space space.now) (called_general (joined o.now plan.old.r) psw) }
 {
     let procedure = o.long(1);
     let mask = read_mask(space, procedure)?;
-    let mut plan = Plan::begun(o, psw);
-    enter(space, &mut plan, false, procedure, mask, o.long(0))?;
-    Ok(plan)
+    begin(plan, psw);
+    enter(space, plan, false, procedure, mask, o.long(0))?;
+    Ok(())
 }
 
 /// CALLS.
 #[tactic(auto, unfolding(vax_table::specs::Calls::called_on_stack), using(vax_table::proofs::Scripts::binds))]
-pub fn call_on_stack<S: Space>(space: &S, o: &Operands, psw: u8) -> Result<Plan, Trouble>
-    ensures { effects result ≡ outcome (S.space space.now) (called_on_stack o.now psw) }
+pub fn call_on_stack<S: Space>(
+    space: &S,
+    o: &Values,
+    psw: u8,
+    plan: &mut Plan,
+) -> Result<(), Trouble>
+    ensures { left result (effect plan.new) ≡ outcome (S.space space.now) (called_on_stack (joined o.now plan.old.r) psw) }
 {
     let procedure = o.long(1);
     let mask = read_mask(space, procedure)?;
-    let mut plan = Plan::begun(o, psw);
-    push(space, &mut plan, o.long(0))?;
+    begin(plan, psw);
+    push(space, plan, o.long(0))?;
     let list = plan.r[14];
-    enter(space, &mut plan, true, procedure, mask, list)?;
-    Ok(plan)
+    enter(space, plan, true, procedure, mask, list)?;
+    Ok(())
 }
 
 /// SP behind a frame: where the argument list was on the stack, the count's longword and 4 times its low byte go too.
@@ -144,16 +155,16 @@ fn pop_frame<S: Space>(space: &S, place: &mut Place, mask: u32) -> Result<(), Tr
 
 /// RET.
 #[tactic(auto, unfolding(vax_table::specs::Calls::returned), using(vax_table::proofs::Scripts::binds))]
-pub fn ret<S: Space>(space: &S, o: &Operands, psw: u8) -> Result<Plan, Trouble>
-    ensures { effects result ≡ outcome (S.space space.now) (returned o.now psw) }
+pub fn ret<S: Space>(space: &S, o: &Values, psw: u8, plan: &mut Plan) -> Result<(), Trouble>
+    ensures { left result (effect plan.new) ≡ outcome (S.space space.now) (returned (joined o.now plan.old.r) psw) }
 {
-    let fp = o.r[13];
+    let r = plan.r;
+    let fp = r[13];
     space.read(fp, Width::Long)?;
     let word = space.read(fp.wrapping_add(4), Width::Long)? as u32;
     if word / 0x100 % 0x100 != 0 {
         return Err(Trouble::Operand);
     }
-    let r = o.r;
     let mut place = Place {
         at: fp.wrapping_add(8),
         r,
@@ -165,10 +176,10 @@ pub fn ret<S: Space>(space: &S, o: &Operands, psw: u8) -> Result<Plan, Trouble>
         is_on_stack,
         place.at.wrapping_add(word / 0x4000_0000),
     )?;
-    let mut plan = Plan::begun(o, psw);
+    begin(plan, psw);
     let r = place.r;
     plan.r = r;
     plan.r[14] = sp;
     plan.psw = (word % 0x100) as u8;
-    Ok(plan)
+    Ok(())
 }

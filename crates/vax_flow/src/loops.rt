@@ -1,9 +1,11 @@
-ghost use Rattle.std.specs.Prelude.{◌≡◌, ◌≢◌};
+ghost use Rattle.std.specs.Prelude.{◌≡◌, ◌≢◌, ◌<◌};
 ghost use Rattle.vax_table.specs.Branches.{added_and_compared, added_one, is_at_most, is_less, keeping_c, looped, subtracted_one};
-ghost use Rattle.vax_table.specs.Effects.{effect};
+ghost use Rattle.vax_table.specs.Effects.{dest_of, effect};
+ghost use Rattle.vax_operand.specs.Left.{joined};
 
+use crate::begun::begin;
 use vax_alu::{Alu, AluOp, alu};
-use vax_operand::{Dest, Operands};
+use vax_operand::Values;
 use vax_table::effect::Plan;
 use vv_base::{Width, signed};
 
@@ -14,15 +16,26 @@ fn keeping_c(psw: u8, new: u8) -> u8
     new / 2 * 2 + psw % 2
 }
 
-/// A loop's index becomes the result, and it branches where its test says so.
-fn loop_to(w: Width, dest: Dest, x: &Alu, taken: bool, to: u32, o: &Operands, psw: u8) -> Plan
-    ensures { effect result ≡ looped w dest x.now taken to o.now psw }
+/// A loop's index, the operand of this number, becomes the result, and it branches where its test says so.
+fn loop_to(
+    w: Width,
+    index: usize,
+    x: &Alu,
+    taken: bool,
+    to: u32,
+    o: &Values,
+    psw: u8,
+    plan: &mut Plan,
+)
+    requires { index < 4 }
+    ensures { effect plan.new ≡ looped w (dest_of (joined o.now plan.old.r) index) x.now taken to (joined o.now plan.old.r) psw }
 {
-    let mut plan = Plan::begun(o, keeping_c(psw, x.psw));
-    plan.trap = x.trap;
-    plan.put(dest, w, u64::from(x.value));
+    begin(plan, keeping_c(psw, x.psw));
+    if let Some(kind) = x.trap {
+        plan.trap = Some(kind);
+    }
+    plan.put(o.dests[index], w, u64::from(x.value));
     plan.go_if(taken, to);
-    plan
 }
 
 /// Signed, in a width: less.
@@ -43,9 +56,9 @@ fn is_at_most(w: Width, a: u32, b: u32) -> bool
 
 /// ACB in a width.
 #[tactic(auto, unfolding(vax_table::specs::Branches::added_and_compared))]
-pub fn add_and_compare(w: Width, o: &Operands, psw: u8) -> Plan
+pub fn add_and_compare(w: Width, o: &Values, psw: u8, plan: &mut Plan)
     requires { w ≢ Width.Quad }
-    ensures { effect result ≡ added_and_compared w o.now psw }
+    ensures { effect plan.new ≡ added_and_compared w (joined o.now plan.old.r) psw }
 {
     let (limit, add) = (o.long(0), o.long(1));
     let x = alu(AluOp::Add, add, o.long(2), w, psw);
@@ -54,13 +67,13 @@ pub fn add_and_compare(w: Width, o: &Operands, psw: u8) -> Plan
     } else {
         is_at_most(w, limit, x.value)
     };
-    loop_to(w, o.dests[2], &x, taken, o.long(3), o, psw)
+    loop_to(w, 2, &x, taken, o.long(3), o, psw, plan);
 }
 
 /// AOBLEQ where it branches at the limit too, else AOBLSS.
 #[tactic(auto, unfolding(vax_table::specs::Branches::added_one))]
-pub fn add_one(at_limit: bool, o: &Operands, psw: u8) -> Plan
-    ensures { effect result ≡ added_one at_limit o.now psw }
+pub fn add_one(at_limit: bool, o: &Values, psw: u8, plan: &mut Plan)
+    ensures { effect plan.new ≡ added_one at_limit (joined o.now plan.old.r) psw }
 {
     let limit = o.long(0);
     let x = alu(AluOp::Add, 1, o.long(1), Width::Long, psw);
@@ -69,13 +82,13 @@ pub fn add_one(at_limit: bool, o: &Operands, psw: u8) -> Plan
     } else {
         is_less(Width::Long, x.value, limit)
     };
-    loop_to(Width::Long, o.dests[1], &x, taken, o.long(2), o, psw)
+    loop_to(Width::Long, 1, &x, taken, o.long(2), o, psw, plan);
 }
 
 /// SOBGEQ where it branches at zero too, else SOBGTR.
 #[tactic(auto, unfolding(vax_table::specs::Branches::subtracted_one))]
-pub fn subtract_one(at_zero: bool, o: &Operands, psw: u8) -> Plan
-    ensures { effect result ≡ subtracted_one at_zero o.now psw }
+pub fn subtract_one(at_zero: bool, o: &Values, psw: u8, plan: &mut Plan)
+    ensures { effect plan.new ≡ subtracted_one at_zero (joined o.now plan.old.r) psw }
 {
     let x = alu(AluOp::Sub, 1, o.long(0), Width::Long, psw);
     let taken = if at_zero {
@@ -83,5 +96,5 @@ pub fn subtract_one(at_zero: bool, o: &Operands, psw: u8) -> Plan
     } else {
         is_less(Width::Long, 0, x.value)
     };
-    loop_to(Width::Long, o.dests[0], &x, taken, o.long(1), o, psw)
+    loop_to(Width::Long, 0, &x, taken, o.long(1), o, psw, plan);
 }

@@ -1,8 +1,9 @@
-ghost use Rattle.std.specs.Prelude.{◌≡◌, true, ◌%◌, ◌^◌};
-ghost use Rattle.vax_table.specs.Effects.{effects};
-ghost use Rattle.vax_table.specs.Operations.{is_narrow, operation_of};
+ghost use Rattle.std.specs.Prelude.{◌≡◌, true};
+ghost use Rattle.vax_table.specs.Effects.{effect};
+ghost use Rattle.vax_table.specs.Operations.{is_narrow};
 ghost use Rattle.vax_table.specs.Plan.{performed};
 ghost use Rattle.vax_table.specs.Script.{outcome};
+ghost use Rattle.vax_operand.specs.Left.{joined, left};
 ghost use Rattle.vax_flow.specs.Flow.{is_flow};
 
 use crate::bits::branch_on_bit;
@@ -10,44 +11,55 @@ use crate::branches::{branch, branch_on_low_bit, call_subroutine, case, leave_su
 use crate::calls::{call_general, call_on_stack, ret};
 use crate::loops::{add_and_compare, add_one, subtract_one};
 use crate::stack::{pop_registers, push_operand, push_registers};
-use vax_arch::Psl;
-use vax_decode::Decoded;
-use vax_operand::{Operands, Space, Trouble};
+use vax_operand::{Space, Trouble, Values};
+use vax_table::Operation;
 use vax_table::effect::Plan;
-use vax_table::{Operation, operation};
 
-/// What an operation does that goes on elsewhere, or works on the stack.
+/// What an operation does behind its operands that goes on elsewhere, or works on the stack: branches, loops, CASE,
+/// subroutines, calls, RET, the bit branches, PUSHL, PUSHA, PUSHR and POPR. `o` is the operands, and `plan` has the registers
+/// as they left them. An error is the first trouble, and what `plan` is then is of no matter.
 #[tactic(auto, unfolding(vax_table::specs::Plan::performed))]
-fn perform<S: Space>(s: &S, what: Operation, o: &Operands, psw: u8) -> Result<Plan, Trouble>
+pub fn flow<S: Space>(
+    s: &S,
+    what: Operation,
+    o: &Values,
+    psw: u8,
+    plan: &mut Plan,
+) -> Result<(), Trouble>
     requires flow { is_flow what ≡ true }
     requires narrow { is_narrow what ≡ true }
-    ensures { effects result ≡ outcome (S.space s.now) (performed what o.now psw) }
+    ensures { left result (effect plan.new) ≡ outcome (S.space s.now) (performed what (joined o.now plan.old.r) psw) }
 {
     match what {
-        Operation::Push => push_operand(s, o, psw),
-        Operation::Branch(condition) => Ok(branch(condition, o, psw)),
-        Operation::CallSubroutine => call_subroutine(s, o, psw),
-        Operation::LeaveSubroutine => leave_subroutine(s, o, psw),
-        Operation::AddAndCompare(w) => Ok(add_and_compare(w, o, psw)),
-        Operation::AddOne(at_limit) => Ok(add_one(at_limit, o, psw)),
-        Operation::SubtractOne(at_zero) => Ok(subtract_one(at_zero, o, psw)),
-        Operation::BranchOnLowBit(on) => Ok(branch_on_low_bit(on, o, psw)),
-        Operation::BranchOnBit(on, becomes) => branch_on_bit(s, on, becomes, o, psw),
-        Operation::Case(w) => case(s, w, o, psw),
-        Operation::PushRegisters => push_registers(s, o, psw),
-        Operation::PopRegisters => pop_registers(s, o, psw),
-        Operation::CallGeneral => call_general(s, o, psw),
-        Operation::CallOnStack => call_on_stack(s, o, psw),
-        _ => ret(s, o, psw),
+        Operation::Push => push_operand(s, o, psw, plan),
+        Operation::Branch(condition) => {
+            branch(condition, o, psw, plan);
+            Ok(())
+        }
+        Operation::CallSubroutine => call_subroutine(s, o, psw, plan),
+        Operation::LeaveSubroutine => leave_subroutine(s, o, psw, plan),
+        Operation::AddAndCompare(w) => {
+            add_and_compare(w, o, psw, plan);
+            Ok(())
+        }
+        Operation::AddOne(at_limit) => {
+            add_one(at_limit, o, psw, plan);
+            Ok(())
+        }
+        Operation::SubtractOne(at_zero) => {
+            subtract_one(at_zero, o, psw, plan);
+            Ok(())
+        }
+        Operation::BranchOnLowBit(on) => {
+            branch_on_low_bit(on, o, psw, plan);
+            Ok(())
+        }
+        Operation::BranchOnBit(on, becomes) => branch_on_bit(s, on, becomes, o, psw, plan),
+        Operation::Case(w) => case(s, w, o, psw, plan),
+        Operation::PushRegisters => push_registers(s, o, psw, plan),
+        Operation::PopRegisters => pop_registers(s, o, psw, plan),
+        Operation::CallGeneral => call_general(s, o, psw, plan),
+        Operation::CallOnStack => call_on_stack(s, o, psw, plan),
+        _ => ret(s, o, psw, plan),
     }
-}
-
-/// What an instruction does behind its operands that goes on elsewhere, or works on the stack: branches, loops, CASE,
-/// subroutines, calls, RET, the bit branches, PUSHL, PUSHA, PUSHR and POPR. `o` is its operands, with the registers as
-/// they left them. An error is the first trouble, and then nothing is to change.
-pub fn flow<S: Space>(s: &S, d: &Decoded, o: &Operands, psl: Psl) -> Result<Plan, Trouble>
-    requires { is_flow (operation_of d.now.opcode) ≡ true }
-    ensures { effects result ≡ outcome (S.space s.now) (performed (operation_of d.now.opcode) o.now (psl.0 % 2 ^ 8)) }
-{
-    perform(s, operation(d.opcode), o, (psl.0 % 0x100) as u8)
 }

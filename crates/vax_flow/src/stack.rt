@@ -2,13 +2,14 @@ ghost use Rattle.std.specs.Prelude.{◌≡◌, ◌<◌, ◌≤◌, ◌+◌, slic
 ghost use Rattle.arrayvec.specs.ArrayVec.{array_vec_len};
 ghost use Rattle.vax_table.specs.Calls.{registers_popped, registers_pushed, values_of};
 ghost use Rattle.vax_table.specs.Computing.{pushed};
-ghost use Rattle.vax_table.specs.Effects.{effect, effects};
+ghost use Rattle.vax_table.specs.Effects.{effect};
 ghost use Rattle.vax_table.specs.Script.{outcome};
 ghost use Rattle.vax_table.specs.Stack.{does_name, named_down, named_up, pop, pop_all, push, push_all};
-ghost use Rattle.vax_flow.specs.Stepped.{left};
+ghost use Rattle.vax_operand.specs.Left.{joined, left};
 
+use crate::begun::begin;
 use vax_alu::{AluOp, alu};
-use vax_operand::{Operands, Space, Trouble};
+use vax_operand::{Space, Trouble, Values};
 use vax_table::effect::Plan;
 use vax_table::evaluation::Place;
 use vv_base::Width;
@@ -21,7 +22,7 @@ pub fn push<S: Space>(space: &S, plan: &mut Plan, v: u32) -> Result<(), Trouble>
     ensures stores { array_vec_len plan.new.writes ≤ array_vec_len plan.old.writes + 1 }
 {
     let sp = plan.r[14].wrapping_sub(4);
-    space.check_write(sp, Width::Long)?;
+    space.claim(sp, Width::Long)?;
     plan.r[14] = sp;
     plan.store(sp, Width::Long, u64::from(v));
     Ok(())
@@ -90,39 +91,55 @@ pub fn pop_named<S: Space>(
 
 /// PUSHL and PUSHA.
 #[tactic(auto, unfolding(vax_table::specs::Computing::pushed))]
-pub fn push_operand<S: Space>(space: &S, o: &Operands, psw: u8) -> Result<Plan, Trouble>
-    ensures { effects result ≡ outcome (S.space space.now) (pushed o.now psw) }
+pub fn push_operand<S: Space>(
+    space: &S,
+    o: &Values,
+    psw: u8,
+    plan: &mut Plan,
+) -> Result<(), Trouble>
+    ensures { left result (effect plan.new) ≡ outcome (S.space space.now) (pushed (joined o.now plan.old.r) psw) }
 {
     let v = o.long(0);
-    let mut plan = Plan::begun(o, alu(AluOp::Move, v, 0, Width::Long, psw).psw);
-    push(space, &mut plan, v)?;
-    Ok(plan)
+    begin(plan, alu(AluOp::Move, v, 0, Width::Long, psw).psw);
+    push(space, plan, v)?;
+    Ok(())
 }
 
 /// PUSHR.
 #[tactic(auto, unfolding(vax_table::specs::Calls::registers_pushed))]
-pub fn push_registers<S: Space>(space: &S, o: &Operands, psw: u8) -> Result<Plan, Trouble>
-    ensures { effects result ≡ outcome (S.space space.now) (registers_pushed o.now psw) }
+pub fn push_registers<S: Space>(
+    space: &S,
+    o: &Values,
+    psw: u8,
+    plan: &mut Plan,
+) -> Result<(), Trouble>
+    ensures { left result (effect plan.new) ≡ outcome (S.space space.now) (registers_pushed (joined o.now plan.old.r) psw) }
 {
-    let mut plan = Plan::begun(o, psw);
-    push_named(space, &mut plan, &o.r, 15, o.long(0))?;
-    Ok(plan)
+    let r = plan.r;
+    begin(plan, psw);
+    push_named(space, plan, &r, 15, o.long(0))?;
+    Ok(())
 }
 
 /// POPR. A popped SP is the value that was popped.
 #[tactic(auto, unfolding(vax_table::specs::Calls::registers_popped), using(vax_table::proofs::Scripts::binds))]
-pub fn pop_registers<S: Space>(space: &S, o: &Operands, psw: u8) -> Result<Plan, Trouble>
-    ensures { effects result ≡ outcome (S.space space.now) (registers_popped o.now psw) }
+pub fn pop_registers<S: Space>(
+    space: &S,
+    o: &Values,
+    psw: u8,
+    plan: &mut Plan,
+) -> Result<(), Trouble>
+    ensures { left result (effect plan.new) ≡ outcome (S.space space.now) (registers_popped (joined o.now plan.old.r) psw) }
 {
     let mask = o.long(0);
-    let r = o.r;
-    let mut place = Place { at: o.r[14], r };
+    let r = plan.r;
+    let mut place = Place { at: r[14], r };
     pop_named(space, &mut place, 15, mask)?;
     if !does_name(mask, 14) {
         place.r[14] = place.at;
     }
-    let mut plan = Plan::begun(o, psw);
+    begin(plan, psw);
     let r = place.r;
     plan.r = r;
-    Ok(plan)
+    Ok(())
 }

@@ -1,5 +1,5 @@
 -- One operand more, in the words of the definition.
-use Rattle.std.proofs.Common.{◌≡◌, ◌≢◌, ℕ, zero, suc, ◌+◌, ◌<◌, List, [], ◌∷◌, length, get_or, drop, Some, Option, Result, Ok, Err, refl, ap, ◌∙◌, sym, subst, arith, add-one, below_more, get_or-set_other, IfOk, slice_get, slice_index, slice_index_or, slice_set}
+use Rattle.std.proofs.Common.{◌≡◌, ◌≢◌, ℕ, zero, suc, ◌+◌, ◌<◌, List, [], ◌∷◌, length, get_or, drop, Some, Option, Result, Ok, Err, refl, ap, ◌∙◌, sym, subst, arith, add-one, below_more, get_or-set_other, OnOk, slice_get, slice_index, slice_index_or, slice_set}
 use Rattle.std.specs.Prelude.{if◌then◌else◌}
 use Rattle.std.proofs.lemmas.Option.{get_or_from_slice_get}
 use Rattle.vax_table.specs.declared.act.Dest.{Dest}
@@ -10,11 +10,11 @@ use Rattle.vax_table.specs.declared.evaluation.Operands.{Operands}
 use Rattle.vax_table.specs.declared.evaluation.Trouble.{Trouble as Told}
 use Rattle.vax_table.specs.declared.forms.Form.{Form}
 use Rattle.vax_table.specs.Operand.{plus, behind_bytes, forms_in, no_operands, operand_of, operands_from, operands_of, trap_forms, with_operand}
-use Rattle.vax_table.specs.Rows.{Entry, row_of}
+use Rattle.vax_table.specs.Rows.{row_of}
 use Rattle.vax_table.specs.Script.{Space, Trouble, outcome}
 use Rattle.vax_table.specs.Spelling.{Instruction, IsWellFormed}
 use Rattle.vax_table.specs.Standing.{AllStand, Fits, IsRegister}
-use Rattle.vax_table.specs.Troubles.{told}
+use Rattle.vax_operand.specs.Left.{left}
 use Rattle.vax_table.proofs.Claims.{holds_made}
 use Rattle.vax_table.proofs.NextPc.{operands_go}
 use Rattle.vax_table.proofs.Scripts.{outcome-bind}
@@ -71,21 +71,15 @@ within (x ∷ fs) zero f e = omega arith
 within (x ∷ fs) (suc k) f e = let h : k < length fs = within fs k f e in omega arith
 
 -- PC is behind the instruction behind its operands
-pub next_pc : (s : Space) (d : Instruction) (r : List ℕ) (x : Result Operands Told) → IsWellFormed d → 15 < length r → told x ≡ outcome s (operands_of d r) → IfOk x (λ o. slice_index o.r 15 ≡ plus (slice_index r 15) d.length)
-next_pc s d r (Ok o) h room e = holds_made (λ cs p. slice_index p.r 15 ≡ plus (slice_index r 15) d.length) s [] (operands_of d r) o (operands_go d r h room) (sym e)
-next_pc s d r (Err t) h room e = tt
+pub next_pc : (s : Space) (d : Instruction) (r : List ℕ) (x : Result (Unit {0}) Told) (o : Operands) → IsWellFormed d → 15 < length r → left x o ≡ outcome s (operands_of d r) → OnOk x (slice_index o.r 15 ≡ plus (slice_index r 15) d.length)
+next_pc s d r (Ok u) o h room e = holds_made (λ cs p. slice_index p.r 15 ≡ plus (slice_index r 15) d.length) s [] (operands_of d r) o (operands_go d r h room) (sym e)
+next_pc s d r (Err t) o h room e = tt
 
--- the operands of the row that was found are those of the instruction
-pub of_row : (s : Space) (d : Instruction) (r : List ℕ) (e : Entry) (forms : List Form) (specs : List Spec) (start : Operands) (x : Result Operands Told) → Some e ≡ row_of d.opcode → forms ≡ e.operands → specs ≡ d.specs →
-    start ≡ no_operands (behind_bytes (if d.wait then 2 else 1) r) → told x ≡ outcome s (operands_from 0 forms specs start) → told x ≡ outcome s (operands_of d r)
+-- the operands of its opcode's forms are those of the instruction
+pub of_forms : (s : Space) (d : Instruction) (r : List ℕ) (forms : List Form) (specs : List Spec) (start : Operands) (x : Result Operands Trouble) → forms ≡ forms_in (row_of d.opcode) → specs ≡ d.specs →
+    start ≡ no_operands (behind_bytes (if d.wait then 2 else 1) r) → x ≡ outcome s (operands_from 0 forms specs start) → x ≡ outcome s (operands_of d r)
 unfolding operands_of
-of_row s d r e forms specs start x is f g h t = let all : forms ≡ forms_in (row_of d.opcode) = f ∙ ap forms_in is in t ∙ rw (all, g, h) refl
-
--- the operands of the row that was found
-pub in_row : (o : Option Entry) (e : Entry) (forms : List Form) (all specs : List Spec) → Some e ≡ o → forms ≡ e.operands → specs ≡ all → AllStand (forms_in o) all → AllStand forms specs
-in_row o e forms all specs is f s h =
-    let row : AllStand e.operands all = subst (λ (x : Option Entry). AllStand (forms_in x) all) (sym is) h in
-    rw (f, s) row
+of_forms s d r forms specs start x f g h t = t ∙ rw (f, g, h) refl
 
 -- MFPR's destination stands where bits are counted too
 mfpr_on : (specs : List Spec) → AllStand (forms_in (row_of 0xdb)) specs → AllStand (trap_forms 0xdb) specs

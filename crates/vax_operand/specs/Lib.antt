@@ -1,1 +1,1 @@
-pub mod Writable
+pub mod Left

@@ -4,25 +4,12 @@ ghost use Rattle.vax_table.specs.Operand.{address_of, base_address, extended, in
 ghost use Rattle.vax_table.specs.Reading.{displacement_size};
 ghost use Rattle.vax_table.specs.Script.{outcome};
 ghost use Rattle.vax_table.specs.Standing.{IsFormed};
-ghost use Rattle.vax_table.specs.Troubles.{told};
+ghost use Rattle.vax_operand.specs.Left.{placed};
 
 use crate::space::Space;
 use vax_table::Spec;
-use vax_table::evaluation::{Place, Trouble};
+use vax_table::evaluation::Trouble;
 use vv_base::Width;
-
-/// The bytes of a width.
-pub fn size(w: Width) -> u32
-    ensures value { result ≡ size_of w }
-    ensures most { result ≤ 8 }
-{
-    match w {
-        Width::Byte => 1,
-        Width::Word => 2,
-        Width::Long => 4,
-        Width::Quad => 8,
-    }
-}
 
 /// The width of the displacement in the modes A to F.
 pub fn displacement_width(mode: u8) -> Width
@@ -49,28 +36,22 @@ pub fn extended(w: Width, value: u64) -> u32
     }
 }
 
-fn place(at: u32, r: &[u32; 16]) -> Place
-    ensures { result ≡ place at r.now }
-{
-    Place { at, r: *r }
-}
-
-/// The address that a specifier without index gives for an operand of `size` bytes. R15 is behind the specifier.
+/// The address that a specifier without index gives for an operand of `size` bytes, whose side effect is on `r`. R15 is
+/// behind the specifier.
 #[tactic(auto, unfolding(vax_table::specs::Operand::base_address))]
 fn base_address<S: Space>(
     space: &S,
     size: u32,
     spec: &Spec,
-    r: &[u32; 16],
-) -> Result<Place, Trouble>
+    r: &mut [u32; 16],
+) -> Result<u32, Trouble>
     requires formed { IsFormed spec.now }
     requires memory { 5 < spec.now.mode }
     requires size { size ≤ 8 }
-    ensures { told result ≡ outcome (S.space space.now) (base_address size spec.now r.now) }
+    ensures { placed result r.new ≡ outcome (S.space space.now) (base_address size spec.now r.old) }
 {
     let n = usize::from(spec.reg);
     let x = r[n];
-    let mut r = *r;
     let at = match (spec.mode, n) {
         (6, _) => x,
         (7, _) => {
@@ -98,37 +79,34 @@ fn base_address<S: Space>(
             }
         }
     };
-    Ok(place(at, &r))
+    Ok(at)
 }
 
 /// An index adds the size times its register, which is read behind the base's side effect.
-fn indexed_by(size: u32, index: Option<u8>, base: &Place) -> Place
+fn indexed_by(size: u32, index: Option<u8>, base: u32, r: &[u32; 16]) -> u32
     requires register { IfSome index (λ x. x < 15) }
     requires size { size ≤ 8 }
-    ensures { result ≡ indexed_by size index base.now }
+    ensures { place result r.now ≡ indexed_by size index (place base r.now) }
 {
     match index {
-        None => *base,
-        Some(x) => {
-            let by = size.wrapping_mul(base.r[usize::from(x)]);
-            place(base.at.wrapping_add(by), &base.r)
-        }
+        None => base,
+        Some(x) => base.wrapping_add(size.wrapping_mul(r[usize::from(x)])),
     }
 }
 
-/// The address of an operand of `size` bytes in memory.
+/// The address of an operand of `size` bytes in memory, whose side effect is on `r`.
 #[tactic(auto, unfolding(vax_table::specs::Operand::address_of), using(vax_table::proofs::Scripts::binds))]
 pub fn address_of<S: Space>(
     space: &S,
     size: u32,
     spec: &Spec,
-    r: &[u32; 16],
-) -> Result<Place, Trouble>
+    r: &mut [u32; 16],
+) -> Result<u32, Trouble>
     requires formed { IsFormed spec.now }
     requires memory { 5 < spec.now.mode }
     requires size { size ≤ 8 }
-    ensures { told result ≡ outcome (S.space space.now) (address_of size spec.now r.now) }
+    ensures { placed result r.new ≡ outcome (S.space space.now) (address_of size spec.now r.old) }
 {
     let base = base_address(space, size, spec, r)?;
-    Ok(indexed_by(size, spec.index, &base))
+    Ok(indexed_by(size, spec.index, base, r))
 }

@@ -1,19 +1,23 @@
-ghost use Rattle.std.specs.Prelude.{◌≡◌, ◌≤◌, ◌<◌, if◌then◌else◌, length, slice_index, IfOk};
-ghost use Rattle.vax_table.specs.Operand.{behind_bytes, forms_in, no_operands, operand_length, operand_of, operands_from, operands_of, plus, trap_operands, with_operand};
+ghost use Rattle.std.specs.Prelude.{◌≡◌, ◌≤◌, ◌<◌, if◌then◌else◌, length, slice_index, IfOk, OnOk};
+ghost use Rattle.vax_table.specs.Operand.{behind_bytes, forms_in, no_operands, operand_length, operand_of, operands_from, operands_of, plus, trap_operands};
 ghost use Rattle.vax_table.specs.Rows.{row_of};
 ghost use Rattle.vax_table.specs.Script.{outcome};
 ghost use Rattle.vax_table.specs.Spelled.{value_size};
 ghost use Rattle.vax_table.specs.Spelling.{IsWellFormed, view};
 ghost use Rattle.vax_table.specs.Standing.{AllFit, AllStand, Fits, Stands};
 ghost use Rattle.vax_table.specs.Troubles.{told};
+ghost use Rattle.vax_operand.specs.Left.{evaluated_as, joined, left};
 
-use crate::address::{displacement_width, size};
+use crate::address::displacement_width;
 use crate::operand::{
-    address_operand, bits_operand, branch_operand, modified_operand, read_operand, written_operand,
+    Worth, address_operand, bits_operand, branch_operand, modified_operand, read_operand,
+    written_operand,
 };
 use crate::space::Space;
+use crate::values::Values;
+use arrayvec::ArrayVec;
 use vax_decode::Decoded;
-use vax_table::evaluation::{Evaluated, Operands, Trouble};
+use vax_table::evaluation::{Operands, Trouble};
 use vax_table::{Access, Dest, Form, Spec, row};
 use vv_base::Width;
 
@@ -24,10 +28,10 @@ fn value_size(form: Form, spec: &Spec) -> u32
     ensures most { result ≤ 8 }
 {
     match (spec.mode, spec.reg) {
-        (8, 15) => size(form.width),
+        (8, 15) => u32::from(form.width.bytes()),
         (9, 15) => 4,
         (0..=9, _) => 0,
-        (mode, _) => size(displacement_width(mode)),
+        (mode, _) => u32::from(displacement_width(mode).bytes()),
     }
 }
 
@@ -37,7 +41,7 @@ fn operand_length(form: Form, spec: &Spec) -> u32
     ensures most { result ≤ 10 }
 {
     if form.access == Access::Branch {
-        size(form.width)
+        u32::from(form.width.bytes())
     } else if spec.index.is_some() {
         2 + value_size(form, spec)
     } else {
@@ -45,55 +49,39 @@ fn operand_length(form: Form, spec: &Spec) -> u32
     }
 }
 
-/// One operand, which sees PC behind its own bytes.
+/// One operand, which sees PC behind its own bytes, and whose side effect is on `r`.
 #[tactic(auto, unfolding(vax_table::specs::Operand::operand_of))]
 fn operand_of<S: Space>(
     space: &S,
     form: Form,
     spec: &Spec,
-    r: &[u32; 16],
-) -> Result<Evaluated, Trouble>
+    r: &mut [u32; 16],
+) -> Result<Worth, Trouble>
     requires { Stands form.access form.width spec.now }
-    ensures outcome { told result ≡ outcome (S.space space.now) (operand_of form spec.now r.now) }
+    ensures outcome { evaluated_as result r.new ≡ outcome (S.space space.now) (operand_of form spec.now r.old) }
     ensures fits { IfOk result (λ e. Fits form e.value e.dest) }
 {
-    let mut r = *r;
     r[15] = r[15].wrapping_add(operand_length(form, spec));
     match form.access {
-        Access::Read => read_operand(space, form.width, spec, &r),
-        Access::Modify => modified_operand(space, form.width, spec, &r),
-        Access::Write => written_operand(space, form.width, spec, &r),
-        Access::Address => address_operand(space, form.width, spec, &r),
-        Access::Bits => bits_operand(space, form.width, spec, &r),
-        Access::Branch => Ok(branch_operand(form.width, spec, &r)),
+        Access::Read => read_operand(space, form.width, spec, r),
+        Access::Modify => modified_operand(space, form.width, spec, r),
+        Access::Write => written_operand(space, form.width, spec, r),
+        Access::Address => address_operand(space, form.width, spec, r),
+        Access::Bits => bits_operand(space, form.width, spec, r),
+        Access::Branch => Ok(branch_operand(form.width, spec, r)),
     }
-}
-
-/// An operand put at its number, with the registers behind it.
-fn with_operand(i: usize, o: &Operands, e: &Evaluated) -> Operands
-    requires { i < 4 }
-    ensures { result ≡ with_operand i o.now e.now }
-{
-    let mut o = *o;
-    o.values[i] = e.value;
-    o.dests[i] = e.dest;
-    let r = e.r;
-    o.r = r;
-    o
 }
 
 /// No operands yet, and PC behind the opcode, which has one byte, or two for WAIT.
-fn behind_opcode(d: &Decoded, r: &[u32; 16]) -> Operands
-    ensures value { result ≡ no_operands (behind_bytes (if d.now.wait then 2 else 1) r.now) }
-    ensures registers { length r.now ≡ 16 }
+fn begin(d: &Decoded, r: &mut [u32; 16], v: &mut Values)
+    ensures value { joined v.new r.new ≡ no_operands (behind_bytes (if d.now.wait then 2 else 1) r.old) }
+    ensures registers { length r.old ≡ 16 }
 {
-    let mut r = *r;
     r[15] = r[15].wrapping_add(if d.wait { 2 } else { 1 });
-    Operands {
+    *v = Values {
         values: [0; 4],
         dests: [Dest::Nowhere; 4],
-        r,
-    }
+    };
 }
 
 /// The operands of the forms, in order.
@@ -102,35 +90,64 @@ fn evaluate_all<S: Space>(
     space: &S,
     forms: &[Form],
     specs: &[Spec],
-    start: &Operands,
-) -> Result<Operands, Trouble>
+    r: &mut [u32; 16],
+    v: &mut Values,
+) -> Result<(), Trouble>
     requires few { length forms.now ≤ 4 }
     requires stand { AllStand forms.now specs.now }
-    ensures outcome { told result ≡ outcome (S.space space.now) (operands_from 0 forms.now specs.now start.now) }
-    ensures fits { IfOk result (λ o. AllFit forms.now o) }
+    ensures outcome { left result (joined v.new r.new) ≡ outcome (S.space space.now) (operands_from 0 forms.now specs.now (joined v.old r.old)) }
+    ensures fits { OnOk result (AllFit forms.now (joined v.new r.new)) }
 {
-    let mut o = *start;
     for (i, form) in forms.iter().enumerate() {
-        let e = operand_of(space, *form, &specs[i], &o.r)?;
-        o = with_operand(i, &o, &e);
+        let x = operand_of(space, *form, &specs[i], r)?;
+        v.put(i, &x);
     }
-    Ok(o)
+    Ok(())
 }
 
-/// The operands of a well-formed instruction at PC, in order with their side effects: `r` is R0 to R15 before it.
-/// An error is that of the first byte in this order that has trouble.
-#[tactic(auto, unfolding(vax_table::specs::Operand::operands_of), using(vax_table::proofs::Standings::well_formed))]
+/// The forms of an opcode's operands, in order.
+pub fn forms(opcode: u8) -> ArrayVec<Form, 4>
+    ensures { result.items ≡ forms_in (row_of opcode) }
+{
+    match row(opcode) {
+        None => ArrayVec::new(),
+        Some(row) => row.operands,
+    }
+}
+
+/// The operands of a well-formed instruction at PC, in order: `forms` are those of its opcode, `r` is R0 to R15 before it,
+/// and behind it with the side effects. An error is that of the first byte in this order that has trouble, and what `r`
+/// and `v` are then is of no matter.
+#[tactic(auto, unfolding(vax_table::specs::Operand::operands_of))]
+pub fn evaluate_into<S: Space>(
+    s: &S,
+    forms: &[Form],
+    d: &Decoded,
+    r: &mut [u32; 16],
+    v: &mut Values,
+) -> Result<(), Trouble>
+    requires formed { IsWellFormed (view d.now) }
+    requires few { length forms.now ≤ 4 }
+    requires forms { forms.now ≡ forms_in (row_of d.now.opcode) }
+    ensures outcome { left result (joined v.new r.new) ≡ outcome (S.space s.now) (operands_of (view d.now) r.old) }
+    ensures fits { OnOk result (AllFit (forms_in (row_of d.now.opcode)) (joined v.new r.new)) }
+    ensures next_pc { OnOk result (slice_index r.new 15 ≡ plus (slice_index r.old 15) d.now.length) }
+{
+    begin(d, r, v);
+    evaluate_all(s, forms, d.specs.as_slice(), r, v)
+}
+
+/// The operands of a well-formed instruction at PC and the registers with the side effects, as `evaluate_into` gives them.
 pub fn evaluate<S: Space>(s: &S, d: &Decoded, r: &[u32; 16]) -> Result<Operands, Trouble>
     requires { IsWellFormed (view d.now) }
     ensures outcome { told result ≡ outcome (S.space s.now) (operands_of (view d.now) r.now) }
     ensures fits { IfOk result (λ o. AllFit (forms_in (row_of d.now.opcode)) o) }
     ensures next_pc { IfOk result (λ o. slice_index o.r 15 ≡ plus (slice_index r.now 15) d.now.length) }
 {
-    let start = behind_opcode(d, r);
-    match row(d.opcode) {
-        None => Ok(start),
-        Some(row) => evaluate_all(s, row.operands.as_slice(), d.specs.as_slice(), &start),
-    }
+    let mut r = *r;
+    let mut v = Values::none();
+    evaluate_into(s, forms(d.opcode).as_slice(), d, &mut r, &mut v)?;
+    Ok(v.joined(&r))
 }
 
 /// MFPR's operands where it traps: a register's number, and a destination that is not translated.
@@ -147,17 +164,24 @@ const MFPR_FORMS: [Form; 2] = [
 
 /// The operands of a well-formed instruction that traps, as `evaluate` gives them, but that MFPR's destination is not
 /// translated: it is a register or an address.
-#[tactic(auto, unfolding(vax_table::specs::Operand::trap_operands), using(vax_table::proofs::Standings::well_formed))]
+#[tactic(auto, unfolding(vax_table::specs::Operand::trap_operands))]
 pub fn evaluate_trap<S: Space>(s: &S, d: &Decoded, r: &[u32; 16]) -> Result<Operands, Trouble>
     requires { IsWellFormed (view d.now) }
     ensures { told result ≡ outcome (S.space s.now) (trap_operands (view d.now) r.now) }
 {
-    let start = behind_opcode(d, r);
+    let mut r = *r;
+    let mut v = Values::none();
+    begin(d, &mut r, &mut v);
     if d.opcode == 0xDB {
-        return evaluate_all(s, &MFPR_FORMS, d.specs.as_slice(), &start);
+        evaluate_all(s, &MFPR_FORMS, d.specs.as_slice(), &mut r, &mut v)?;
+    } else {
+        evaluate_all(
+            s,
+            forms(d.opcode).as_slice(),
+            d.specs.as_slice(),
+            &mut r,
+            &mut v,
+        )?;
     }
-    match row(d.opcode) {
-        None => Ok(start),
-        Some(row) => evaluate_all(s, row.operands.as_slice(), d.specs.as_slice(), &start),
-    }
+    Ok(v.joined(&r))
 }

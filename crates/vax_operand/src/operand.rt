@@ -1,21 +1,27 @@
 ghost use Rattle.std.specs.Prelude.{◌≡◌, ◌≤◌, ◌<◌, ◌^◌, ◌⊎◌, IfOk};
 ghost use Rattle.vv_base.specs.Width.{size_of};
-ghost use Rattle.vax_arch.specs.declared.mode.Intent.TheVariants.{Write};
 ghost use Rattle.vax_table.specs.Operand.{address_operand, bits_operand, branch_operand, evaluated, modified_operand, read_operand, register_value, written_operand};
-ghost use Rattle.vax_table.specs.Script.{Done, number_at, outcome};
+ghost use Rattle.vax_table.specs.Script.{Done, outcome};
 ghost use Rattle.vax_table.specs.Standing.{Fits, IsFormed, IsSource};
-ghost use Rattle.vax_table.specs.Troubles.{told};
+ghost use Rattle.vax_operand.specs.Left.{evaluated_as};
 
-use crate::address::{address_of, extended, size};
+use crate::address::{address_of, extended};
 use crate::space::Space;
-use vax_table::evaluation::{Evaluated, Trouble};
+use vax_table::evaluation::Trouble;
 use vax_table::{Access, Dest, Spec};
 use vv_base::Width;
 
-fn evaluated(value: u64, dest: Dest, r: &[u32; 16]) -> Evaluated
-    ensures { result ≡ evaluated value dest r.now }
+/// What an operand is worth, and where its result goes.
+#[derive(Clone, Copy)]
+pub struct Worth {
+    pub value: u64,
+    pub dest: Dest,
+}
+
+fn valued(value: u64, dest: Dest) -> Worth
+    ensures { result ≡ record { value = value; dest = dest } }
 {
-    Evaluated { value, dest, r: *r }
+    Worth { value, dest }
 }
 
 /// What a register is worth: its low bits; a quadword is Rn and Rn+1.
@@ -40,30 +46,21 @@ pub fn read_operand<S: Space>(
     space: &S,
     w: Width,
     spec: &Spec,
-    r: &[u32; 16],
-) -> Result<Evaluated, Trouble>
+    r: &mut [u32; 16],
+) -> Result<Worth, Trouble>
     requires { IsSource w spec.now }
-    ensures outcome { told result ≡ outcome (S.space space.now) (read_operand w spec.now r.now) }
+    ensures outcome { evaluated_as result r.new ≡ outcome (S.space space.now) (read_operand w spec.now r.old) }
     ensures fits { IfOk result (λ e. Fits (record { access = Access.Read; width = w }) e.value e.dest) }
 {
     match (spec.mode, spec.reg) {
-        (0, _) | (8, 15) => Ok(evaluated(spec.value, Dest::Nowhere, r)),
-        (5, n) => Ok(evaluated(register_value(w, r, n), Dest::Nowhere, r)),
+        (0, _) | (8, 15) => Ok(valued(spec.value, Dest::Nowhere)),
+        (5, n) => Ok(valued(register_value(w, r, n), Dest::Nowhere)),
         _ => {
-            let place = address_of(space, size(w), spec, r)?;
-            let value = space.read(place.at, w)?;
-            Ok(evaluated(value, Dest::Nowhere, &place.r))
+            let at = address_of(space, u32::from(w.bytes()), spec, r)?;
+            let value = space.read(at, w)?;
+            Ok(valued(value, Dest::Nowhere))
         }
     }
-}
-
-/// The number in memory that is to be written: one access with write intent.
-fn claimed<S: Space>(space: &S, va: u32, w: Width) -> Result<u64, Trouble>
-    ensures number { told result ≡ number_at (S.space space.now) Write (size_of w) va }
-    ensures fits { IfOk result (λ v. v < 256 ^ size_of w) }
-{
-    space.check_write(va, w)?;
-    space.read(va, w)
 }
 
 /// A source that is written too: a register, or memory by one access with write intent.
@@ -72,20 +69,20 @@ pub fn modified_operand<S: Space>(
     space: &S,
     w: Width,
     spec: &Spec,
-    r: &[u32; 16],
-) -> Result<Evaluated, Trouble>
+    r: &mut [u32; 16],
+) -> Result<Worth, Trouble>
     requires formed { IsFormed spec.now }
     requires mode { 4 < spec.now.mode }
-    ensures outcome { told result ≡ outcome (S.space space.now) (modified_operand w spec.now r.now) }
+    ensures outcome { evaluated_as result r.new ≡ outcome (S.space space.now) (modified_operand w spec.now r.old) }
     ensures fits { IfOk result (λ e. Fits (record { access = Access.Modify; width = w }) e.value e.dest) }
 {
     if spec.mode == 5 {
         let value = register_value(w, r, spec.reg);
-        return Ok(evaluated(value, Dest::Register(spec.reg), r));
+        return Ok(valued(value, Dest::Register(spec.reg)));
     }
-    let place = address_of(space, size(w), spec, r)?;
-    let value = claimed(space, place.at, w)?;
-    Ok(evaluated(value, Dest::Memory(place.at), &place.r))
+    let at = address_of(space, u32::from(w.bytes()), spec, r)?;
+    let value = space.claim(at, w)?;
+    Ok(valued(value, Dest::Memory(at)))
 }
 
 /// A destination: a register, or memory, which is tested for writing here.
@@ -94,19 +91,19 @@ pub fn written_operand<S: Space>(
     space: &S,
     w: Width,
     spec: &Spec,
-    r: &[u32; 16],
-) -> Result<Evaluated, Trouble>
+    r: &mut [u32; 16],
+) -> Result<Worth, Trouble>
     requires formed { IsFormed spec.now }
     requires mode { 4 < spec.now.mode }
-    ensures outcome { told result ≡ outcome (S.space space.now) (written_operand w spec.now r.now) }
+    ensures outcome { evaluated_as result r.new ≡ outcome (S.space space.now) (written_operand w spec.now r.old) }
     ensures fits { IfOk result (λ e. Fits (record { access = Access.Write; width = w }) e.value e.dest) }
 {
     if spec.mode == 5 {
-        return Ok(evaluated(0, Dest::Register(spec.reg), r));
+        return Ok(valued(0, Dest::Register(spec.reg)));
     }
-    let place = address_of(space, size(w), spec, r)?;
-    space.check_write(place.at, w)?;
-    Ok(evaluated(0, Dest::Memory(place.at), &place.r))
+    let at = address_of(space, u32::from(w.bytes()), spec, r)?;
+    space.claim(at, w)?;
+    Ok(valued(0, Dest::Memory(at)))
 }
 
 /// An operand whose address is taken.
@@ -115,15 +112,15 @@ pub fn address_operand<S: Space>(
     space: &S,
     w: Width,
     spec: &Spec,
-    r: &[u32; 16],
-) -> Result<Evaluated, Trouble>
+    r: &mut [u32; 16],
+) -> Result<Worth, Trouble>
     requires formed { IsFormed spec.now }
     requires memory { 5 < spec.now.mode }
-    ensures outcome { told result ≡ outcome (S.space space.now) (address_operand w spec.now r.now) }
+    ensures outcome { evaluated_as result r.new ≡ outcome (S.space space.now) (address_operand w spec.now r.old) }
     ensures fits { IfOk result (λ e. Fits (record { access = Access.Address; width = w }) e.value e.dest) }
 {
-    let place = address_of(space, size(w), spec, r)?;
-    Ok(evaluated(u64::from(place.at), Dest::Nowhere, &place.r))
+    let at = address_of(space, u32::from(w.bytes()), spec, r)?;
+    Ok(valued(u64::from(at), Dest::Nowhere))
 }
 
 /// The register or the address from which bits are counted.
@@ -132,27 +129,27 @@ pub fn bits_operand<S: Space>(
     space: &S,
     w: Width,
     spec: &Spec,
-    r: &[u32; 16],
-) -> Result<Evaluated, Trouble>
+    r: &mut [u32; 16],
+) -> Result<Worth, Trouble>
     requires formed { IsFormed spec.now }
     requires mode { 4 < spec.now.mode }
-    ensures outcome { told result ≡ outcome (S.space space.now) (bits_operand w spec.now r.now) }
+    ensures outcome { evaluated_as result r.new ≡ outcome (S.space space.now) (bits_operand w spec.now r.old) }
     ensures fits { IfOk result (λ e. Fits (record { access = Access.Bits; width = w }) e.value e.dest) }
 {
     if spec.mode == 5 {
-        return Ok(evaluated(0, Dest::Register(spec.reg), r));
+        return Ok(valued(0, Dest::Register(spec.reg)));
     }
-    let place = address_of(space, size(w), spec, r)?;
-    Ok(evaluated(0, Dest::Memory(place.at), &place.r))
+    let at = address_of(space, u32::from(w.bytes()), spec, r)?;
+    Ok(valued(0, Dest::Memory(at)))
 }
 
 /// The target of a branch. R15 is behind the displacement.
 #[tactic(auto, unfolding(vax_table::specs::Operand::branch_operand))]
-pub fn branch_operand(w: Width, spec: &Spec, r: &[u32; 16]) -> Evaluated
+pub fn branch_operand(w: Width, spec: &Spec, r: &[u32; 16]) -> Worth
     requires { spec.now.value < 256 ^ size_of w }
-    ensures script { branch_operand w spec.now r.now ≡ Done result }
+    ensures script { branch_operand w spec.now r.now ≡ Done (evaluated result.value result.dest r.now) }
     ensures fits { Fits (record { access = Access.Branch; width = w }) result.value result.dest }
 {
     let target = r[15].wrapping_add(extended(w, spec.value));
-    evaluated(u64::from(target), Dest::Nowhere, r)
+    valued(u64::from(target), Dest::Nowhere)
 }

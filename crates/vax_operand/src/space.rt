@@ -1,10 +1,9 @@
-ghost use Rattle.std.specs.Prelude.{◌≡◌, ◌<◌, ◌^◌, ℕ, Result, IfOk, OnOk};
+ghost use Rattle.std.specs.Prelude.{◌≡◌, ◌<◌, ◌^◌, ℕ, Result, IfOk};
 ghost use Rattle.vv_base.specs.Width.{size_of};
 ghost use Rattle.vax_arch.specs.declared.mode.Intent.{Intent};
 ghost use Rattle.vax_arch.specs.declared.mode.Intent.TheVariants.{Read, Write};
 ghost use Rattle.vax_table.specs.Script.{Cause, number_at};
 ghost use Rattle.vax_table.specs.Troubles.{told};
-ghost use Rattle.vax_operand.specs.Writable.{IsWritable};
 
 use vax_table::evaluation::Trouble;
 use vv_base::Width;
@@ -20,9 +19,9 @@ pub trait Space {
         ensures number { told result ≡ number_at (space self.now) Read (size_of w) va }
         ensures fits { IfOk result (λ v. v < 256 ^ size_of w) };
 
-    /// Whether each of the width's bytes from `va` has a place for writing; what may be written may be read, and its
-    /// bytes are the same.
-    fn check_write(&self, va: u32, w: Width) -> Result<(), Trouble>
-        ensures places { IsWritable result (number_at (space self.now) Write (size_of w) va) }
-        ensures same { OnOk result (number_at (space self.now) Write (size_of w) va ≡ number_at (space self.now) Read (size_of w) va) };
+    /// The number in the width's bytes from `va`, the lowest first, each of which has a place for writing: one access with
+    /// write intent.
+    fn claim(&self, va: u32, w: Width) -> Result<u64, Trouble>
+        ensures number { told result ≡ number_at (space self.now) Write (size_of w) va }
+        ensures fits { IfOk result (λ v. v < 256 ^ size_of w) };
 }

@@ -3,7 +3,6 @@ ghost use Rattle.vax_table.specs.Script.{number_at};
 ghost use Rattle.vax_table.specs.ShownOperand.{space};
 ghost use Rattle.vax_table.specs.Troubles.{intent_of, told};
 
-use crate::address::size;
 use crate::{Dest, Operands, Space, Trouble, evaluate};
 use std::test::Fail;
 use vax_decode::{Decode, decode};
@@ -39,12 +38,11 @@ impl Space for Memory {
     ghost space = { λ m. space };
 
     fn read(&self, va: u32, w: Width) -> Result<u64, Trouble> {
-        number(va, size(w), false)
+        number(va, u32::from(w.bytes()), false)
     }
 
-    fn check_write(&self, va: u32, w: Width) -> Result<(), Trouble> {
-        number(va, size(w), true)?;
-        Ok(())
+    fn claim(&self, va: u32, w: Width) -> Result<u64, Trouble> {
+        number(va, u32::from(w.bytes()), true)
     }
 }
 

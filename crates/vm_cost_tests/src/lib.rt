@@ -8,3 +8,5 @@ pub use counted::{Cost, Counted};
 
 #[cfg(test)]
 mod costs;
+#[cfg(test)]
+mod loops;

@@ -65,13 +65,15 @@ mod tests {
         );
         assert_eq!(rt; get_u32(&field, 2), 0xABCD_3456);
         assert_eq!(rt; get_u16(&field, 0), 0x7801);
-        for (width, value) in [
-            (Width::Byte, -1),
-            (Width::Word, -32_513),
-            (Width::Long, 0x1_80FF),
+        for (width, bytes, value) in [
+            (Width::Byte, 1, -1),
+            (Width::Word, 2, -32_513),
+            (Width::Long, 4, 0x1_80FF),
         ] {
+            assert_eq!(rt; width.bytes(), bytes);
             assert_eq!(rt; signed(0x1_80FF, width), value);
         }
+        assert_eq!(rt; Width::Quad.bytes(), 8);
         let mut text: Text<4> = Text::new();
         assert_eq!(rt; text.push_all(b"abc"), Ok(()));
         assert_eq!(rt; text.push_all(b"de"), Err(Full));

@@ -1,5 +1,5 @@
-ghost use Rattle.std.specs.Prelude.{◌≡◌, ◌≢◌};
-ghost use Rattle.vv_base.specs.Width.{signed_of};
+ghost use Rattle.std.specs.Prelude.{◌≡◌, ◌≢◌, ◌≤◌};
+ghost use Rattle.vv_base.specs.Width.{signed_of, size_of};
 
 /// The width of an integer operand: 1, 2, 4 or 8 bytes.
 #[derive(Clone, Copy, Debug, Default, PartialEq, Eq)]
@@ -9,6 +9,22 @@ pub enum Width {
     Word,
     Long,
     Quad,
+}
+
+impl Width {
+    /// How many bytes the width has: 1, 2, 4 or 8.
+    pub fn bytes(self) -> u8
+        ensures value { result ≡ size_of self }
+        ensures some { 1 ≤ result }
+        ensures most { result ≤ 8 }
+    {
+        match self {
+            Width::Byte => 1,
+            Width::Word => 2,
+            Width::Long => 4,
+            Width::Quad => 8,
+        }
+    }
 }
 
 /// The two's complement value of the low bits of a number: its low 8, 16 or 32 bits.

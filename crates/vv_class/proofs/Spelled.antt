@@ -1,15 +1,16 @@
--- What was read when a state is reached, and how a class text goes on from there.
-use Rattle.std.proofs.Common.{◌≡◌, ℕ, ◌+◌, ◌-◌, ◌*◌, ◌<◌, ◌≤◌, ◌/◌, ◌%◌, ◌^◌, ◌==◌, nat_le, nat_lt, min, Bool, true, false, ◌&&◌, if◌then◌else◌, List, [], ◌∷◌, ◌++◌, codes, decimal, Option, Some, None, refl, sym, ap, ◌∙◌, arith, subst, append_assoc, append-nil, add-one, ◌⊎◌, inl, inr}
+-- What was read when a state is reached, and how a half goes on from there.
+use Rattle.std.proofs.Common.{◌≡◌, ℕ, ◌+◌, ◌-◌, ◌*◌, ◌<◌, ◌≤◌, ◌/◌, ◌%◌, ◌^◌, ◌==◌, nat_le, nat_lt, min, true, ◌&&◌, if◌then◌else◌, List, [], ◌∷◌, ◌++◌, codes, decimal, Option, Some, None, refl, sym, ap, ◌∙◌, arith, append_assoc, append-nil, add-one, ◌⊎◌, inl, inr}
 use Rattle.std.proofs.Math.Nat.{pow-suc}
 use Rattle.std.proofs.Math.Pow.{pow_mono}
-use Rattle.std.proofs.lemmas.Bool.{and_parts, or_cases, leb-true, ltb-true, eqb-true, cond_both}
+use Rattle.std.proofs.lemmas.Bool.{and_parts, or_cases, leb-true, ltb-true, eqb-true, cond_both, false≢true}
 use Rattle.std.proofs.lemmas.Fmt.{decimal_digit, decimal_step}
 use Rattle.std.proofs.lemmas.Nat.{pow_pos}
+use Rattle.vv_base.specs.Digits.{is_digit}
 use Rattle.vv_class.specs.declared.scan.Next.{Next}
-use Rattle.vv_class.specs.declared.scan.Next.TheVariants.{Level, MoreLevel, FirstCategory, Category, MoreCategory, Middle, End}
-use Rattle.vv_class.specs.declared.scan.Scan.{Scan}
-use Rattle.vv_class.specs.Scan.{start_of, is_digit, may_be_category, with_level, with_category, kept, closed, more_level, more_category, step_of}
-use Rattle.vv_class.specs.Text.{categories_below, listed, half_text, class_text, BeginsText}
+use Rattle.vv_class.specs.declared.scan.Next.TheVariants.{Level, MoreLevel, FirstCategory, Category, MoreCategory, End}
+use Rattle.vv_class.specs.declared.scan.Half.{Half}
+use Rattle.vv_class.specs.Scan.{start_of, is_whole, may_be_category, with_level, with_category, kept, closed, more_level, more_category, step_of}
+use Rattle.vv_class.specs.Text.{categories_below, listed, half_text}
 use Rattle.vv_class.proofs.Sets.{lead, listed-push, lead-push, with_one, none_below}
 
 -- a number that is a category from the least one on, or becomes one by a further digit
@@ -29,47 +30,36 @@ category_bounds least n h =
 few_digits : (least n : ℕ) → may_be_category least n ≡ true → n < 1000
 few_digits least n h = elim (category_bounds least n h) [ inl is ↦ omega (arith, is.1) | inr small ↦ omega (arith, small.1) ]
 
--- the half before, with its semicolon
-abbrev pub front_of : Bool → ℕ → ℕ → List ℕ
-front_of false level cats = []
-front_of true level cats = half_text level cats ++ codes ";"
-
-abbrev pub front : Scan → List ℕ
-front s = front_of s.second s.secrecy s.secrecy_cats
-
 -- a half up to where a category may follow
 abbrev pub opened : ℕ → ℕ → List ℕ
 opened level cats = decimal level ++ codes "{" ++ lead (categories_below 64 cats)
 
-abbrev pub written_at : Next → Scan → List ℕ
-written_at Level s = front s
-written_at MoreLevel s = front s ++ decimal s.number
-written_at FirstCategory s = front s ++ opened s.level s.cats
-written_at Category s = front s ++ opened s.level s.cats
-written_at MoreCategory s = front s ++ (opened s.level s.cats ++ decimal s.number)
-written_at Middle s = half_text s.secrecy s.secrecy_cats
-written_at End s = front s ++ half_text s.level s.cats
+abbrev pub written_at : Next → Half → List ℕ
+written_at Level s = []
+written_at MoreLevel s = decimal s.number
+written_at FirstCategory s = opened s.level s.cats
+written_at Category s = opened s.level s.cats
+written_at MoreCategory s = opened s.level s.cats ++ decimal s.number
+written_at End s = half_text s.level s.cats
 
 -- the bytes that lead to a state
-abbrev pub written : Scan → List ℕ
+abbrev pub written : Half → List ℕ
 written s = written_at s.next s
 
-abbrev pub FitsAt : Next → Scan → Type 0
+abbrev pub FitsAt : Next → Half → Type 0
 FitsAt Level s = (s.cats ≡ 0) × (s.least ≡ 0)
 FitsAt MoreLevel s = (s.number < 256) × (s.cats ≡ 0) × (s.least ≡ 0)
 FitsAt FirstCategory s = (s.level < 256) × (s.cats ≡ 0) × (s.least ≡ 0)
 FitsAt Category s = (s.level < 256) × (s.cats < 2 ^ s.least) × (s.least < 64)
 FitsAt MoreCategory s = (s.level < 256) × (s.cats < 2 ^ s.least) × (may_be_category s.least s.number ≡ true)
-FitsAt Middle s = (s.second ≡ false) × (s.cats ≡ 0) × (s.least ≡ 0)
-FitsAt End s = (s.second ≡ true) × (s.level < 256) × (s.cats < 2 ^ 64)
+FitsAt End s = (s.level < 256) × (s.cats < 2 ^ 64)
 
 -- what holds of each state that is reached
-pub record Fits (s : Scan) : Type 0 where
-  pub first : (s.secrecy < 256) × (s.secrecy_cats < 2 ^ 64)
-  pub here : FitsAt s.next s
+abbrev pub Fits : Half → Type 0
+Fits s = FitsAt s.next s
 
 -- a byte is refused, or leads to a state that has it behind what was read
-abbrev pub Good : List ℕ → ℕ → Option Scan → Type 0
+abbrev pub Good : List ℕ → ℕ → Option Half → Type 0
 Good before b None = Unit {0}
 Good before b (Some n) = Fits n × (written n ≡ before ++ b ∷ [])
 
@@ -85,29 +75,18 @@ more_digit m b positive small low high =
     let last : 48 + (10 * m + (b - 48)) % 10 ≡ b = omega arith in
     decimal_step (10 * m + (b - 48)) (omega arith) (omega arith) ∙ (λ i. decimal (front i) ++ last i ∷ [])
 
-level_good : (s : Scan) (before : List ℕ) (n b : ℕ) → (s.secrecy < 256) × (s.secrecy_cats < 2 ^ 64) → s.cats ≡ 0 → s.least ≡ 0 → front s ++ decimal n ≡ before ++ b ∷ [] → Good before b (with_level s n)
-level_good s before n b first none least e =
+level_good : (s : Half) (before : List ℕ) (n b : ℕ) → s.cats ≡ 0 → s.least ≡ 0 → decimal n ≡ before ++ b ∷ [] → Good before b (with_level s n)
+level_good s before n b none least e =
     cond_both (nat_le n 255) (Some (record s { next = MoreLevel; number = n })) None (Good before b)
-    (λ is. (record { first = first; here = (let le : n ≤ 255 = leb-true n 255 is in omega arith, none, least) }, e)) (λ is. tt)
+    (λ is. ((let le : n ≤ 255 = leb-true n 255 is in omega arith, none, least), e)) (λ is. tt)
 
-category_good : (s : Scan) (before : List ℕ) (n b : ℕ) → (s.secrecy < 256) × (s.secrecy_cats < 2 ^ 64) → s.level < 256 → s.cats < 2 ^ s.least
-    → front s ++ (opened s.level s.cats ++ decimal n) ≡ before ++ b ∷ [] → Good before b (with_category s n)
-category_good s before n b first level room e =
+category_good : (s : Half) (before : List ℕ) (n b : ℕ) → s.level < 256 → s.cats < 2 ^ s.least → opened s.level s.cats ++ decimal n ≡ before ++ b ∷ [] → Good before b (with_category s n)
+category_good s before n b level room e =
     cond_both (may_be_category s.least n) (Some (record s { next = MoreCategory; number = n })) None (Good before b)
-    (λ is. (record { first = first; here = (level, room, is) }, e)) (λ is. tt)
+    (λ is. ((level, room, is), e)) (λ is. tt)
 
-closed_by : (x : Bool) (s : Scan) (before : List ℕ) → (s.secrecy < 256) × (s.secrecy_cats < 2 ^ 64) → s.level < 256 → s.cats < 2 ^ 64
-    → front_of x s.secrecy s.secrecy_cats ++ (decimal s.level ++ codes "{" ++ listed (categories_below 64 s.cats)) ≡ before → Good before 125 (Some (closed (record s { second = x })))
-closed_by true s before first level cats e = (
-  record { first = first; here = (refl, level, cats) },
-  sym (append_assoc (half_text s.secrecy s.secrecy_cats ++ codes ";") (decimal s.level ++ codes "{" ++ listed (categories_below 64 s.cats)) (codes "}")) ∙ ap (λ (xs : List ℕ). xs ++ codes "}") e,
-)
-closed_by false s before first level cats e =
-    (record { first = (level, cats); here = (refl, refl, refl) }, ap (λ (xs : List ℕ). xs ++ codes "}") e)
-
-closed_good : (s : Scan) (before : List ℕ) (b : ℕ) → b ≡ 125 → (s.secrecy < 256) × (s.secrecy_cats < 2 ^ 64) → s.level < 256 → s.cats < 2 ^ 64
-    → front s ++ (decimal s.level ++ codes "{" ++ listed (categories_below 64 s.cats)) ≡ before → Good before b (Some (closed s))
-closed_good s before b is first level cats e = subst (λ c. Good before c (Some (closed s))) (sym is) (closed_by s.second s before first level cats e)
+closed_good : (s : Half) (before : List ℕ) (b : ℕ) → b ≡ 125 → s.level < 256 → s.cats < 2 ^ 64 → decimal s.level ++ codes "{" ++ listed (categories_below 64 s.cats) ≡ before → Good before b (Some (closed s))
+closed_good s before b is level cats e = ((level, cats), ap (λ (xs : List ℕ). xs ++ codes "}") e ∙ ap (λ c. before ++ c ∷ []) (sym is))
 
 -- a set with a category more
 room_for : (cats least k : ℕ) → cats < 2 ^ least → least ≤ k → cats + 2 ^ k < 2 ^ (k + 1)
@@ -144,57 +123,51 @@ no_lead cats none = ap (λ n. lead (categories_below 64 n)) none ∙ ap lead non
 none_listed : (cats : ℕ) → cats ≡ 0 → listed (categories_below 64 cats) ≡ lead (categories_below 64 cats)
 none_listed cats none = ap (λ n. listed (categories_below 64 n)) none ∙ ap listed none_below ∙ sym (no_lead cats none)
 
-digit_good : (s : Scan) (b : ℕ) → (s.secrecy < 256) × (s.secrecy_cats < 2 ^ 64) → s.level < 256 → s.cats < 2 ^ s.least
-    → Good (front s ++ opened s.level s.cats) b (if is_digit b then with_category s (b - 48) else None)
-digit_good s b first level room =
-    cond_both (is_digit b) (with_category s (b - 48)) None (Good (front s ++ opened s.level s.cats) b)
+digit_good : (s : Half) (b : ℕ) → s.level < 256 → s.cats < 2 ^ s.least → Good (opened s.level s.cats) b (if is_digit b then with_category s (b - 48) else None)
+digit_good s b level room =
+    cond_both (is_digit b) (with_category s (b - 48)) None (Good (opened s.level s.cats) b)
     (λ is. let bounds = digit_bounds b is in
-    category_good s (front s ++ opened s.level s.cats) (b - 48) b first level room
-    (ap (λ (xs : List ℕ). front s ++ (opened s.level s.cats ++ xs)) (first_digit b bounds.0 bounds.1) ∙ sym (append_assoc (front s) (opened s.level s.cats) (b ∷ []))))
+    category_good s (opened s.level s.cats) (b - 48) b level room (ap (λ (xs : List ℕ). opened s.level s.cats ++ xs) (first_digit b bounds.0 bounds.1)))
     (λ is. tt)
 
 -- each step
-step_at : (x : Next) (s : Scan) (b : ℕ) → Fits (record s { next = x }) → Good (written (record s { next = x })) b (step_of (record s { next = x }) b)
+step_at : (x : Next) (s : Half) (b : ℕ) → Fits (record s { next = x }) → Good (written (record s { next = x })) b (step_of (record s { next = x }) b)
 unfolding step_of more_level more_category
 step_at Level s b fits =
-    let t : Scan = record s { next = Level } in
-    cond_both (is_digit b) (with_level t (b - 48)) None (Good (front s) b)
-    (λ is. let bounds = digit_bounds b is in level_good t (front s) (b - 48) b fits.first fits.here.0 fits.here.1 (ap (λ (xs : List ℕ). front s ++ xs) (first_digit b bounds.0 bounds.1)))
+    let t : Half = record s { next = Level } in
+    cond_both (is_digit b) (with_level t (b - 48)) None (Good [] b)
+    (λ is. let bounds = digit_bounds b is in level_good t [] (b - 48) b fits.0 fits.1 (first_digit b bounds.0 bounds.1))
     (λ is. tt)
 step_at MoreLevel s b fits =
-    let t : Scan = record s { next = MoreLevel } in
-    let before : List ℕ = front s ++ decimal s.number in
+    let t : Half = record s { next = MoreLevel } in
+    let before : List ℕ = decimal s.number in
     cond_both (b == 123) (Some (record t { next = FirstCategory; level = t.number; number = 0 })) (if is_digit b && nat_le 1 t.number then with_level t (10 * t.number + (b - 48)) else None) (Good before b)
     (λ is. (
-      record { first = fits.first; here = (fits.here.0, fits.here.1, fits.here.2) },
-      ap (λ (xs : List ℕ). front s ++ (decimal s.number ++ codes "{" ++ xs)) (no_lead s.cats fits.here.1) ∙ ap (λ (xs : List ℕ). front s ++ xs) (append-nil (decimal s.number ++ codes "{"))
-          ∙ sym (append_assoc (front s) (decimal s.number) (codes "{")) ∙ ap (λ c. before ++ c ∷ []) (sym (eqb-true b 123 is)),
+      (fits.0, fits.1, fits.2),
+      ap (λ (xs : List ℕ). decimal s.number ++ codes "{" ++ xs) (no_lead s.cats fits.1) ∙ append-nil (decimal s.number ++ codes "{") ∙ ap (λ c. before ++ c ∷ []) (sym (eqb-true b 123 is)),
     ))
     (λ other. cond_both (is_digit b && nat_le 1 t.number) (with_level t (10 * t.number + (b - 48))) None (Good before b)
     (λ is.
     let both = and_parts _ _ is in
     let bounds = digit_bounds b both.0 in
-    level_good t before (10 * s.number + (b - 48)) b fits.first fits.here.1 fits.here.2
-    (ap (λ (xs : List ℕ). front s ++ xs) (more_digit s.number b (leb-true 1 s.number both.1) (omega (arith, fits.here.0)) bounds.0 bounds.1) ∙ sym (append_assoc (front s) (decimal s.number) (b ∷ []))))
+    level_good t before (10 * s.number + (b - 48)) b fits.1 fits.2 (more_digit s.number b (leb-true 1 s.number both.1) (omega (arith, fits.0)) bounds.0 bounds.1))
     (λ is. tt))
 step_at FirstCategory s b fits =
-    let t : Scan = record s { next = FirstCategory } in
-    cond_both (b == 125) (Some (closed t)) (if is_digit b then with_category t (b - 48) else None) (Good (front s ++ opened s.level s.cats) b)
-    (λ is. closed_good t (front s ++ opened s.level s.cats) b (eqb-true b 125 is) fits.first fits.here.0 (omega (arith, fits.here.1))
-    (ap (λ (xs : List ℕ). front s ++ (decimal s.level ++ codes "{" ++ xs)) (none_listed s.cats fits.here.1)))
-    (λ other. digit_good t b fits.first fits.here.0 (omega (arith, fits.here.1, pow_pos s.least)))
-step_at Category s b fits = digit_good (record s { next = Category }) b fits.first fits.here.0 fits.here.1
+    let t : Half = record s { next = FirstCategory } in
+    cond_both (b == 125) (Some (closed t)) (if is_digit b then with_category t (b - 48) else None) (Good (opened s.level s.cats) b)
+    (λ is. closed_good t (opened s.level s.cats) b (eqb-true b 125 is) fits.0 (omega (arith, fits.1)) (ap (λ (xs : List ℕ). decimal s.level ++ codes "{" ++ xs) (none_listed s.cats fits.1)))
+    (λ other. digit_good t b fits.0 (omega (arith, fits.1, pow_pos s.least)))
+step_at Category s b fits = digit_good (record s { next = Category }) b fits.0 fits.1
 step_at MoreCategory s b fits =
-    let t : Scan = record s { next = MoreCategory } in
-    let before : List ℕ = front s ++ (opened s.level s.cats ++ decimal s.number) in
+    let t : Half = record s { next = MoreCategory } in
+    let before : List ℕ = opened s.level s.cats ++ decimal s.number in
     cond_both (b == 125) _ _ (Good before b)
     (λ is. cond_both (nat_le s.least s.number && nat_le s.number 63) (Some (closed (kept t))) None (Good before b)
     (λ in_range.
     let both = and_parts _ _ in_range in
     let at : s.least ≤ s.number = leb-true s.least s.number both.0 in
     let le : s.number ≤ 63 = leb-true s.number 63 both.1 in
-    closed_good (kept t) before b (eqb-true b 125 is) fits.first fits.here.0 (room_in_all s.cats s.least s.number fits.here.1 at (omega arith))
-    (ap (λ (xs : List ℕ). front s ++ xs) (listed_one s.level s.cats s.least s.number fits.here.1 at (omega arith))))
+    closed_good (kept t) before b (eqb-true b 125 is) fits.0 (room_in_all s.cats s.least s.number fits.1 at (omega arith)) (listed_one s.level s.cats s.least s.number fits.1 at (omega arith)))
     (λ out. tt))
     (λ no_brace. cond_both (b == 44) _ _ (Good before b)
     (λ is. cond_both (nat_le s.least s.number && nat_lt s.number 63) (Some (kept t)) None (Good before b)
@@ -202,88 +175,98 @@ step_at MoreCategory s b fits =
     let both = and_parts _ _ in_range in
     let at : s.least ≤ s.number = leb-true s.least s.number both.0 in
     let lt : s.number < 63 = ltb-true s.number 63 both.1 in (
-      record { first = fits.first; here = (fits.here.0, room_for s.cats s.least s.number fits.here.1 at, omega arith) },
-      ap (λ (xs : List ℕ). front s ++ xs) (lead_one s.level s.cats s.least s.number fits.here.1 at (omega arith))
-          ∙ sym (append_assoc (front s) (opened s.level s.cats ++ decimal s.number) (codes ",")) ∙ ap (λ c. before ++ c ∷ []) (sym (eqb-true b 44 is)),
+      (fits.0, room_for s.cats s.least s.number fits.1 at, omega arith),
+      lead_one s.level s.cats s.least s.number fits.1 at (omega arith) ∙ ap (λ c. before ++ c ∷ []) (sym (eqb-true b 44 is)),
     ))
     (λ out. tt))
     (λ no_comma. cond_both (is_digit b && nat_le 1 s.number) (with_category t (10 * s.number + (b - 48))) None (Good before b)
     (λ is.
     let both = and_parts _ _ is in
     let bounds = digit_bounds b both.0 in
-    let few : s.number < 1000 = few_digits s.least s.number fits.here.2 in
-    category_good t before (10 * s.number + (b - 48)) b fits.first fits.here.0 fits.here.1
-    (ap (λ (xs : List ℕ). front s ++ (opened s.level s.cats ++ xs)) (more_digit s.number b (leb-true 1 s.number both.1) few bounds.0 bounds.1)
-    ∙ ap (λ (xs : List ℕ). front s ++ xs) (sym (append_assoc (opened s.level s.cats) (decimal s.number) (b ∷ []))) ∙ sym (append_assoc (front s) (opened s.level s.cats ++ decimal s.number) (b ∷ []))))
+    let few : s.number < 1000 = few_digits s.least s.number fits.2 in
+    category_good t before (10 * s.number + (b - 48)) b fits.0 fits.1
+    (ap (λ (xs : List ℕ). opened s.level s.cats ++ xs) (more_digit s.number b (leb-true 1 s.number both.1) few bounds.0 bounds.1) ∙ sym (append_assoc (opened s.level s.cats) (decimal s.number) (b ∷ []))))
     (λ is. tt)))
-step_at Middle s b fits =
-    let t : Scan = record s { next = Middle } in
-    let before : List ℕ = half_text s.secrecy s.secrecy_cats in
-    cond_both (b == 59) (Some (record t { next = Level; second = true })) None (Good before b)
-    (λ is. (record { first = fits.first; here = (fits.here.1, fits.here.2) }, ap (λ c. before ++ c ∷ []) (sym (eqb-true b 59 is)))) (λ other. tt)
 step_at End s b fits = tt
 
-pub step_good : (s : Scan) (b : ℕ) → Fits s → Good (written s) b (step_of s b)
+pub step_good : (s : Half) (b : ℕ) → Fits s → Good (written s) b (step_of s b)
 step_good s b fits = step_at s.next s b fits
 
--- a half that goes on so, as a class that does
-half_begins : (x : Bool) (secrecy secrecy_cats level cats : ℕ) (part rest : List ℕ) → (secrecy < 256) × (secrecy_cats < 2 ^ 64) → level < 256 → cats < 2 ^ 64
-    → half_text level cats ≡ part ++ rest → BeginsText (front_of x secrecy secrecy_cats ++ part)
-unfolding class_text
-half_begins true secrecy secrecy_cats level cats part rest first low below e = (
-  record { secrecy = secrecy; secrecy_cats = secrecy_cats; integrity = level; integrity_cats = cats },
-  rest,
-  record { secrecy = first.0; secrecy_cats = first.1; integrity = low; integrity_cats = below },
-  ap (λ (xs : List ℕ). half_text secrecy secrecy_cats ++ codes ";" ++ xs) e ∙ sym (append_assoc (half_text secrecy secrecy_cats ++ codes ";") part rest),
-)
-half_begins false secrecy secrecy_cats level cats part rest first low below e = (
-  record { secrecy = level; secrecy_cats = cats; integrity = 0; integrity_cats = 0 },
-  rest ++ (codes ";" ++ half_text 0 0),
-  record { secrecy = low; secrecy_cats = below; integrity = omega arith; integrity_cats = omega arith },
-  append_assoc (half_text level cats) (codes ";") (half_text 0 0) ∙ ap (λ (xs : List ℕ). xs ++ (codes ";" ++ half_text 0 0)) e ∙ append_assoc part rest (codes ";" ++ half_text 0 0),
-)
+-- some half begins so
+abbrev pub BeginsHalf : List ℕ → Type 0
+BeginsHalf bytes = (level cats : ℕ) × (rest : List ℕ) × (level < 256) × (cats < 2 ^ 64) × (half_text level cats ≡ bytes ++ rest)
 
-begins_at : (x : Next) (s : Scan) → Fits (record s { next = x }) → BeginsText (written (record s { next = x }))
-begins_at Level s fits =
-    subst BeginsText (append-nil (front s)) (half_begins s.second s.secrecy s.secrecy_cats 0 0 [] (half_text 0 0) fits.first (omega arith) (omega arith) refl)
+begins_at : (x : Next) (s : Half) → Fits (record s { next = x }) → BeginsHalf (written (record s { next = x }))
+begins_at Level s fits = (0, 0, half_text 0 0, omega arith, omega arith, refl)
 begins_at MoreLevel s fits =
-    let set : List ℕ = listed (categories_below 64 0) in
-    half_begins s.second s.secrecy s.secrecy_cats s.number 0 (decimal s.number) (codes "{" ++ set ++ codes "}") fits.first fits.here.0 (omega arith)
-    (ap (λ (xs : List ℕ). xs ++ codes "}") (append_assoc (decimal s.number) (codes "{") set) ∙ append_assoc (decimal s.number) (codes "{" ++ set) (codes "}"))
-begins_at FirstCategory s fits =
-    half_begins s.second s.secrecy s.secrecy_cats s.level s.cats (opened s.level s.cats) (codes "}") fits.first fits.here.0 (omega (arith, fits.here.1))
-    (ap (λ (xs : List ℕ). decimal s.level ++ codes "{" ++ xs ++ codes "}") (none_listed s.cats fits.here.1))
-begins_at Category s fits =
-    half_begins s.second s.secrecy s.secrecy_cats s.level (s.cats + 2 ^ 63) (opened s.level s.cats) (decimal 63 ++ codes "}") fits.first fits.here.0
-    (room_in_all s.cats s.least 63 fits.here.1 (omega (arith, fits.here.2)) (omega arith))
-    (ap (λ (xs : List ℕ). xs ++ codes "}") (listed_one s.level s.cats s.least 63 fits.here.1 (omega (arith, fits.here.2)) (omega arith)) ∙ append_assoc (opened s.level s.cats) (decimal 63) (codes "}"))
+    let set : List ℕ = listed (categories_below 64 0) in (
+      s.number,
+      0,
+      codes "{" ++ set ++ codes "}",
+      fits.0,
+      omega arith,
+      ap (λ (xs : List ℕ). xs ++ codes "}") (append_assoc (decimal s.number) (codes "{") set) ∙ append_assoc (decimal s.number) (codes "{" ++ set) (codes "}"),
+    )
+begins_at FirstCategory s fits = (
+  s.level,
+  s.cats,
+  codes "}",
+  fits.0,
+  omega (arith, fits.1),
+  ap (λ (xs : List ℕ). decimal s.level ++ codes "{" ++ xs ++ codes "}") (none_listed s.cats fits.1),
+)
+begins_at Category s fits = (
+  s.level,
+  s.cats + 2 ^ 63,
+  decimal 63 ++ codes "}",
+  fits.0,
+  room_in_all s.cats s.least 63 fits.1 (omega (arith, fits.2)) (omega arith),
+  ap (λ (xs : List ℕ). xs ++ codes "}") (listed_one s.level s.cats s.least 63 fits.1 (omega (arith, fits.2)) (omega arith)) ∙ append_assoc (opened s.level s.cats) (decimal 63) (codes "}"),
+)
 begins_at MoreCategory s fits =
-    elim (category_bounds s.least s.number fits.here.2) [
-      | inl is ↦
-          half_begins s.second s.secrecy s.secrecy_cats s.level (s.cats + 2 ^ s.number) (opened s.level s.cats ++ decimal s.number) (codes "}") fits.first fits.here.0
-          (room_in_all s.cats s.least s.number fits.here.1 is.0 (omega (arith, is.1)))
-          (ap (λ (xs : List ℕ). xs ++ codes "}") (listed_one s.level s.cats s.least s.number fits.here.1 is.0 (omega (arith, is.1))))
+    elim (category_bounds s.least s.number fits.2) [
+      | inl is ↦ (
+        s.level,
+        s.cats + 2 ^ s.number,
+        codes "}",
+        fits.0,
+        room_in_all s.cats s.least s.number fits.1 is.0 (omega (arith, is.1)),
+        ap (λ (xs : List ℕ). xs ++ codes "}") (listed_one s.level s.cats s.least s.number fits.1 is.0 (omega (arith, is.1))),
+      )
       | inr small ↦
           let d : ℕ = min 57 (48 + (63 - 10 * s.number)) in
           let k : ℕ = 10 * s.number + (d - 48) in
           let at : s.least ≤ k = omega (arith, small.1, small.2, small.3) in
-          let to : k < 64 = omega (arith, small.1) in
-          half_begins s.second s.secrecy s.secrecy_cats s.level (s.cats + 2 ^ k) (opened s.level s.cats ++ decimal s.number) (d ∷ codes "}") fits.first fits.here.0
-          (room_in_all s.cats s.least k fits.here.1 at to)
-          (ap (λ (xs : List ℕ). xs ++ codes "}") (listed_one s.level s.cats s.least k fits.here.1 at to)
-          ∙ ap (λ (xs : List ℕ). opened s.level s.cats ++ xs ++ codes "}") (more_digit s.number d small.0 (omega (arith, small.1)) (omega arith) (omega arith))
-          ∙ ap (λ (xs : List ℕ). xs ++ codes "}") (sym (append_assoc (opened s.level s.cats) (decimal s.number) (d ∷ [])))
-          ∙ append_assoc (opened s.level s.cats ++ decimal s.number) (d ∷ []) (codes "}"))
+          let to : k < 64 = omega (arith, small.1) in (
+            s.level,
+            s.cats + 2 ^ k,
+            d ∷ codes "}",
+            fits.0,
+            room_in_all s.cats s.least k fits.1 at to,
+            ap (λ (xs : List ℕ). xs ++ codes "}") (listed_one s.level s.cats s.least k fits.1 at to)
+                ∙ ap (λ (xs : List ℕ). opened s.level s.cats ++ xs ++ codes "}") (more_digit s.number d small.0 (omega (arith, small.1)) (omega arith) (omega arith))
+                ∙ ap (λ (xs : List ℕ). xs ++ codes "}") (sym (append_assoc (opened s.level s.cats) (decimal s.number) (d ∷ [])))
+                ∙ append_assoc (opened s.level s.cats ++ decimal s.number) (d ∷ []) (codes "}"),
+          )
     ]
-begins_at Middle s fits =
-    half_begins false 0 0 s.secrecy s.secrecy_cats (half_text s.secrecy s.secrecy_cats) [] (omega arith, omega arith) fits.first.0 fits.first.1 (sym (append-nil (half_text s.secrecy s.secrecy_cats)))
-begins_at End s fits =
-    half_begins s.second s.secrecy s.secrecy_cats s.level s.cats (half_text s.level s.cats) [] fits.first fits.here.1 fits.here.2 (sym (append-nil (half_text s.level s.cats)))
+begins_at End s fits = (s.level, s.cats, [], fits.0, fits.1, sym (append-nil (half_text s.level s.cats)))
 
--- what was read begins a class text
-pub begins : (s : Scan) → Fits s → BeginsText (written s)
+-- what was read begins a half
+pub begins : (s : Half) → Fits s → BeginsHalf (written s)
 begins s fits = begins_at s.next s fits
 
 pub start_fits : Fits start_of × (written start_of ≡ [])
 unfolding start_of
-start_fits = (record { first = (omega arith, omega arith); here = (refl, refl) }, refl)
+start_fits = ((refl, refl), refl)
+
+whole_at : (x : Next) (s : Half) → Fits (record s { next = x }) → is_whole (record s { next = x }) ≡ true → (s.level < 256) × (s.cats < 2 ^ 64) × (written (record s { next = x }) ≡ half_text s.level s.cats)
+whole_at End s fits is = (fits.0, fits.1, refl)
+whole_at Level s fits is = absurd (false≢true is)
+whole_at MoreLevel s fits is = absurd (false≢true is)
+whole_at FirstCategory s fits is = absurd (false≢true is)
+whole_at Category s fits is = absurd (false≢true is)
+whole_at MoreCategory s fits is = absurd (false≢true is)
+
+-- a half that was read to its end
+pub whole_half : (s : Half) → Fits s → is_whole s ≡ true → (s.level < 256) × (s.cats < 2 ^ 64) × (written s ≡ half_text s.level s.cats)
+whole_half s fits is = whole_at s.next s fits is

@@ -1,9 +1,7 @@
 ghost use Rattle.std.specs.Prelude.{◌≡◌, ◌<◌, ◌≤◌, ◌^◌, IfSome};
-ghost use Rattle.vv_class.specs.Scan.{start_of, is_digit, goes_on, with_level, with_category, kept, closed, more_level, more_category, step_of, class_in};
+ghost use Rattle.vv_class.specs.Scan.{start_of, goes_on, with_level, with_category, kept, closed, more_level, more_category, step_of, is_whole};
 
-use crate::AccessClass;
-
-/// What may come next in the text of a class.
+/// What may come next in a half of the text of a class.
 #[derive(Clone, Copy, Debug, PartialEq, Eq)]
 pub enum Next {
     /// The first digit of a level.
@@ -16,118 +14,72 @@ pub enum Next {
     Category,
     /// A further digit of the category, a comma, or a closing brace.
     MoreCategory,
-    /// The semicolon between secrecy and integrity.
-    Middle,
     /// Nothing.
     End,
 }
 
-/// How far the text of a class is read.
+/// How far a half of the text of a class is read.
 #[derive(Clone, Copy, Debug, PartialEq, Eq)]
-pub struct Scan {
+pub struct Half {
     pub next: Next,
-    /// Whether secrecy is read already.
-    pub second: bool,
     /// The number that is being read.
     pub number: u8,
     /// The least category that may come.
     pub least: u8,
-    /// The level and the set of this half.
     pub level: u8,
     pub cats: u64,
-    /// The first half, once it is read.
-    pub secrecy: u8,
-    pub secrecy_cats: u64,
 }
 
 /// Nothing is read.
 #[tactic(auto, unfolding(crate::specs::Scan::start_of))]
-pub fn start() -> Scan
+pub fn start() -> Half
     ensures value { result ≡ start_of }
     ensures room { result.cats < 2 ^ result.least }
 {
-    Scan {
+    Half {
         next: Next::Level,
-        second: false,
         number: 0,
         least: 0,
         level: 0,
         cats: 0,
-        secrecy: 0,
-        secrecy_cats: 0,
     }
 }
 
-impl Scan {
-    /// The class of a text that was read to its end.
-    pub fn class(&self) -> AccessClass
-        ensures { result ≡ class_in self.now }
+impl Half {
+    /// Whether it is read to its end.
+    pub fn is_whole(&self) -> bool
+        ensures { result ≡ is_whole self.now }
     {
-        AccessClass {
-            secrecy: self.secrecy,
-            secrecy_cats: self.secrecy_cats,
-            integrity: self.level,
-            integrity_cats: self.cats,
-        }
+        matches!(self.next, Next::End)
     }
 
-    /// Reads a byte more; `None` where no class text goes on so.
+    /// Reads a byte more; `None` where no half goes on so.
     #[tactic(auto, unfolding(crate::specs::Scan::step_of))]
-    pub fn step(&self, b: u8) -> Option<Scan>
+    pub fn step(&self, b: u8) -> Option<Half>
         requires { self.now.cats < 2 ^ self.now.least }
         ensures value { result ≡ step_of self.now b }
         ensures room { IfSome result (λ next. next.cats < 2 ^ next.least) }
     {
         match self.next {
-            Next::Level => {
-                if is_digit(b) {
-                    self.with_level(u32::from(b - b'0'))
-                } else {
-                    None
-                }
-            }
+            Next::Level if b.is_ascii_digit() => self.with_level(u32::from(b - b'0')),
             Next::MoreLevel => self.more_level(b),
-            Next::FirstCategory => {
-                if b == b'}' {
-                    return Some(self.closed());
-                }
-                if is_digit(b) {
-                    self.with_category(u32::from(b - b'0'))
-                } else {
-                    None
-                }
-            }
-            Next::Category => {
-                if is_digit(b) {
-                    self.with_category(u32::from(b - b'0'))
-                } else {
-                    None
-                }
+            Next::FirstCategory if b == b'}' => Some(self.closed()),
+            Next::FirstCategory | Next::Category if b.is_ascii_digit() => {
+                self.with_category(u32::from(b - b'0'))
             }
             Next::MoreCategory => self.more_category(b),
-            Next::Middle => {
-                if b == b';' {
-                    Some(Scan {
-                        next: Next::Level,
-                        second: true,
-                        ..*self
-                    })
-                } else {
-                    None
-                }
-            }
-            Next::End => None,
+            _ => None,
         }
     }
 
     #[tactic(auto, unfolding(crate::specs::Scan::more_level))]
-    fn more_level(&self, b: u8) -> Option<Scan>
+    fn more_level(&self, b: u8) -> Option<Half>
         requires { self.now.cats < 2 ^ self.now.least }
         ensures value { result ≡ more_level self.now b }
         ensures room { IfSome result (λ next. next.cats < 2 ^ next.least) }
     {
         if b == b'{' {
-            return Some(Scan {
+            return Some(Half {
                 next: Next::FirstCategory,
                 level: self.number,
                 number: 0,
@@ -142,7 +94,7 @@ impl Scan {
     }
 
     #[tactic(auto, unfolding(crate::specs::Scan::more_category))]
-    fn more_category(&self, b: u8) -> Option<Scan>
+    fn more_category(&self, b: u8) -> Option<Half>
         requires { self.now.cats < 2 ^ self.now.least }
         ensures value { result ≡ more_category self.now b }
         ensures room { IfSome result (λ next. next.cats < 2 ^ next.least) }
@@ -170,16 +122,16 @@ impl Scan {
     fn goes_on(&self, b: u8) -> bool
         ensures { result ≡ goes_on self.now b }
     {
-        is_digit(b) && 1 <= self.number
+        b.is_ascii_digit() && 1 <= self.number
     }
 
-    fn with_level(&self, n: u32) -> Option<Scan>
+    fn with_level(&self, n: u32) -> Option<Half>
         requires { self.now.cats < 2 ^ self.now.least }
         ensures value { result ≡ with_level self.now n }
         ensures room { IfSome result (λ next. next.cats < 2 ^ next.least) }
     {
         if n <= 255 {
-            Some(Scan {
+            Some(Half {
                 next: Next::MoreLevel,
                 number: n as u8,
                 ..*self
@@ -189,7 +141,7 @@ impl Scan {
         }
     }
 
-    fn with_category(&self, n: u32) -> Option<Scan>
+    fn with_category(&self, n: u32) -> Option<Half>
         requires small { n < 10000 }
         requires room { self.now.cats < 2 ^ self.now.least }
         ensures value { result ≡ with_category self.now n }
@@ -197,7 +149,7 @@ impl Scan {
     {
         let least = u32::from(self.least);
         if least <= n && n <= 63 || 1 <= n && n <= 6 && least <= 10 * n + 9 && least <= 63 {
-            Some(Scan {
+            Some(Half {
                 next: Next::MoreCategory,
                 number: n as u8,
                 ..*self
@@ -207,14 +159,14 @@ impl Scan {
         }
     }
 
-    fn kept(&self) -> Scan
+    fn kept(&self) -> Half
         requires least { self.now.least ≤ self.now.number }
         requires fits { self.now.number < 64 }
         requires room { self.now.cats < 2 ^ self.now.least }
         ensures value { result ≡ kept self.now }
         ensures room { result.cats < 2 ^ result.least }
     {
-        Scan {
+        Half {
             next: Next::Category,
             least: self.number + 1,
             cats: self.cats + (1u64 << u32::from(self.number)),
@@ -223,32 +175,14 @@ impl Scan {
         }
     }
 
-    fn closed(&self) -> Scan
+    fn closed(&self) -> Half
         requires { self.now.cats < 2 ^ self.now.least }
         ensures value { result ≡ closed self.now }
         ensures room { result.cats < 2 ^ result.least }
     {
-        if self.second {
-            return Scan {
-                next: Next::End,
-                ..*self
-            };
-        }
-        Scan {
-            next: Next::Middle,
-            secrecy: self.level,
-            secrecy_cats: self.cats,
-            level: 0,
-            cats: 0,
-            least: 0,
-            number: 0,
+        Half {
+            next: Next::End,
             ..*self
         }
     }
-}
-
-fn is_digit(b: u8) -> bool
-    ensures { result ≡ is_digit b }
-{
-    b'0' <= b && b <= b'9'
 }

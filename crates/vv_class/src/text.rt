@@ -1,13 +1,12 @@
-ghost use Rattle.std.specs.Prelude.{◌≡◌, ◌≢◌, ◌+◌, ◌<◌, ◌≤◌, ◌++◌, length, IfOk, IfErr, OnErr, Ok, decimal, List, ℕ};
+ghost use Rattle.std.specs.Prelude.{◌≡◌, ◌≢◌, ◌+◌, ◌-◌, ◌<◌, ◌≤◌, ◌++◌, length, IfOk, IfErr, OnErr, Ok, decimal, List, ℕ};
 ghost use Rattle.vv_class.specs.Class.{IsClass, has_category};
 ghost use Rattle.vv_class.specs.Text.{class_text, half_text, listed, categories_below, IsLongestStart};
-ghost use Rattle.vv_class.specs.Scan.{class_of};
+ghost use Rattle.vv_class.specs.Scan.{class_of, ended, part_of, start_of};
 ghost use Rattle.vv_class.specs.declared.class.AccessClass.{AccessClass};
 
 use crate::AccessClass;
-use crate::scan::{Next, start};
-use itoa::Buffer;
-use vv_base::Text;
+use crate::scan::{Half, start};
+use vv_base::{Text, decimal};
 
 /// The bytes are the text of no class, and the longest start of them that begins a class text has this many bytes.
 #[derive(Clone, Copy, Debug, PartialEq, Eq)]
@@ -33,19 +32,58 @@ pub fn read_class(b: &[u8]) -> Result<AccessClass, ClassFault>
 fn scan_text(b: &[u8]) -> Result<AccessClass, ClassFault>
     ensures { result ≡ class_of b.now }
 {
-    let mut scan = start();
-    let mut place = 0;
-    for byte in b {
-        match scan.step(*byte) {
-            Some(next) => scan = next,
-            None => return Err(ClassFault { place }),
+    let (secrecy, rest) = read_half(b);
+    match rest {
+        [b';', second @ ..] if secrecy.is_whole() => scan_second(b, &secrecy, second),
+        _ => Err(fault_before(b, rest)),
+    }
+}
+
+/// The class, from its first half and the bytes behind the semicolon.
+fn scan_second(b: &[u8], secrecy: &Half, second: &[u8]) -> Result<AccessClass, ClassFault>
+    requires within { length second.now ≤ length b.now }
+    requires short { length b.now ≤ length second.now + 198 }
+    ensures { result ≡ ended b.now secrecy.now (part_of start_of second.now).half (part_of start_of second.now).rest }
+{
+    let (integrity, rest) = read_half(second);
+    if rest.is_empty() && integrity.is_whole() {
+        return Ok(AccessClass {
+            secrecy: secrecy.level,
+            secrecy_cats: secrecy.cats,
+            integrity: integrity.level,
+            integrity_cats: integrity.cats,
+        });
+    }
+    Err(fault_before(b, rest))
+}
+
+/// The fault behind all but the last bytes.
+fn fault_before(b: &[u8], rest: &[u8]) -> ClassFault
+    requires within { length rest.now ≤ length b.now }
+    requires short { length b.now ≤ length rest.now + 395 }
+    ensures { result.place ≡ length b.now - length rest.now }
+{
+    ClassFault {
+        place: (b.len() - rest.len()) as u32,
+    }
+}
+
+/// A half as far as the bytes go on with it, and those that do not.
+#[tactic(auto, using(crate::proofs::Places::part_short))]
+fn read_half(b: &[u8]) -> (Half, &[u8])
+    ensures half { result.0 ≡ (part_of start_of b.now).half }
+    ensures rest { result.1.now ≡ (part_of start_of b.now).rest }
+    ensures within { length result.1.now ≤ length b.now }
+    ensures short { length b.now ≤ length (part_of start_of b.now).rest + 197 }
+{
+    let mut half = start();
+    for (place, byte) in b.iter().enumerate() {
+        match half.step(*byte) {
+            Some(next) => half = next,
+            None => return (half, &b[place..]),
         }
-        place += 1;
     }
-    match scan.next {
-        Next::End => Ok(scan.class()),
-        _ => Err(ClassFault { place }),
-    }
+    (half, &[])
 }
 
 /// The one text of a class. The longest, with all categories on both sides, has 373 bytes.
@@ -102,8 +140,7 @@ fn add_number(text: &mut Text<400>, n: u8)
     ensures written { text.new ≡ text.old ++ decimal n }
     ensures len { length text.new ≡ length text.old + length (decimal n) }
 {
-    let mut buffer = Buffer::new();
-    add(text, buffer.format(n).as_bytes());
+    add(text, decimal(u64::from(n)).bytes());
 }
 
 /// Appends bytes that fit.

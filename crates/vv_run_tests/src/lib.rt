@@ -15,3 +15,5 @@ mod order;
 mod serving;
 #[cfg(test)]
 mod slices;
+#[cfg(test)]
+mod tables;

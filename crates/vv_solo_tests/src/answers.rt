@@ -15,12 +15,23 @@ const SHOWN: &str = "A?06 00000208\r\n";
 const SUMMARY: &str =
     "rounds 1 steps 10 plain 0 sensitive 2 faults 0 interrupts 0 modify 0 idle 0 stopped 8 trail 0000000000000000\n";
 
+/// A file's name of 64 bytes, and one of 65.
+const LONGEST_NAME: &str =
+    "solo 0123456789abcdef0123456789abcdef0123456789abcdef0123456789abcdef 1";
+
+const LONGEST_NAME_MISSING: &str =
+    "missing 0123456789abcdef0123456789abcdef0123456789abcdef0123456789abcdef";
+
+const LONGER_NAME: &str =
+    "solo 0123456789abcdef0123456789abcdef0123456789abcdef0123456789abcdefX 1";
+
 #[test]
 fn each_answer_has_its_cause(rt: HostRuntime) -> Result<(), Fail> {
     let alloc = rt.alloc();
     let mut machine = Cpu::new(alloc, PAGES)?;
     let whole = vec![in alloc; 1; 65_024]?;
     let wide = vec![in alloc; 1; 65_025]?;
+    let most = vec![in alloc; 1; 16_777_216]?;
     let long = vec![in alloc; 1; 16_777_217]?;
     for (words, image, failing, code, text) in [
         ("solo x 0", LETTER.as_slice(), None, 2, "bad words"),
@@ -28,6 +39,15 @@ fn each_answer_has_its_cause(rt: HostRuntime) -> Result<(), Fail> {
         ("solo x 100001", LETTER.as_slice(), None, 2, "bad words"),
         ("solo", LETTER.as_slice(), None, 2, "bad words"),
         ("solo y 1", LETTER.as_slice(), None, 3, "missing y"),
+        (
+            LONGEST_NAME,
+            LETTER.as_slice(),
+            None,
+            3,
+            LONGEST_NAME_MISSING,
+        ),
+        (LONGER_NAME, LETTER.as_slice(), None, 2, "bad words"),
+        ("solo x 1", most.as_slice(), None, 7, "image 0"),
         ("solo x 1", long.as_slice(), None, 13, "too long x"),
         ("solo x 1", LETTER.as_slice(), Some(1), 4, "shelf fault"),
         ("solo x 1", wide.as_slice(), None, 7, "image 0"),

@@ -27,6 +27,8 @@ pub struct Props<'a, 'b> {
     /// The shelf's files, and its call that fails.
     pub files: &'a [(&'b str, &'b [u8])],
     pub failing: Option<u32>,
+    /// Drives of other blocks than a `Disk` has: their numbers and their blocks.
+    pub volumes: &'a [(u8, &'b [[u8; 512]])],
     /// How many bytes a line takes.
     pub room: u32,
     /// Where the sink is cut.
@@ -38,6 +40,7 @@ pub fn plain<'a, 'b>(files: &'a [(&'b str, &'b [u8])]) -> Props<'a, 'b> {
     Props {
         files,
         failing: None,
+        volumes: &[],
         room: 1000,
         out: None,
     }
@@ -78,6 +81,14 @@ pub fn cuts_of(alloc: Global, cuts: &[LineCut], line: u8) -> Result<Vec<Cut>, No
         }
     }
     Ok(own)
+}
+
+/// The blocks of the drive of a number, if they are given.
+pub fn volume_of<'b>(volumes: &[(u8, &'b [[u8; 512]])], number: u8) -> Option<&'b [[u8; 512]]> {
+    volumes
+        .iter()
+        .find(|(drive, _)| *drive == number)
+        .map(|(_, blocks)| *blocks)
 }
 
 /// The drive of a number, if there is one.

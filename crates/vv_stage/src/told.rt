@@ -1,6 +1,6 @@
 ghost use Rattle.std.specs.Prelude.{◌≡◌, ◌<◌, ◌^◌, ◌*◌, IfOk, length, vec_len};
 
-use crate::props::{Disk, LineCut, PAGES, Props, cuts_of, disk_of};
+use crate::props::{Disk, LineCut, PAGES, Props, cuts_of, disk_of, volume_of};
 use std::alloc::Global;
 use vax_hw::Hardware;
 use vv_base::NoMemory;
@@ -45,13 +45,32 @@ fn words_of(alloc: Global, text: &str) -> Result<Vec<String>, NoMemory> {
 }
 
 /// A drive in memory.
-fn memory_drive(alloc: Global, disk: Disk) -> Result<MemDrive, NoMemory> {
+fn disk_drive(alloc: Global, disk: Disk) -> Result<MemDrive, NoMemory> {
     let blocks = vec![in alloc; [disk.byte; 512]; disk.blocks as usize]?;
     let mut failing = Vec::new(alloc);
     if let Some(call) = disk.failing {
         failing.push(call)?;
     }
     Ok(MemDrive::new(blocks, failing))
+}
+
+/// The drive in memory of a number, if there is one.
+fn memory_drive(
+    alloc: Global,
+    props: &Props,
+    disks: &[Disk],
+    number: u8,
+) -> Result<Option<MemDrive>, NoMemory> {
+    if let Some(disk) = disk_of(disks, number) {
+        return Ok(Some(disk_drive(alloc, disk)?));
+    }
+    match volume_of(props.volumes, number) {
+        Some(blocks) if blocks.len() <= 2048 => {
+            let blocks = Vec::from_slice(alloc, blocks)?;
+            Ok(Some(MemDrive::new(blocks, Vec::new(alloc))))
+        }
+        _ => Ok(None),
+    }
 }
 
 /// What a line tells.
@@ -105,8 +124,8 @@ pub fn run_words<H: Hardware>(
     }
     let mut drives: Vec<Box<dyn Drive>> = Vec::new(alloc);
     for number in 0..16u8 {
-        match disk_of(disks, number) {
-            Some(disk) => drives.push(Box::new(alloc, memory_drive(alloc, disk)?)?)?,
+        match memory_drive(alloc, props, disks, number)? {
+            Some(drive) => drives.push(Box::new(alloc, drive)?)?,
             None => drives.push(Box::new(alloc, EmptyDrive)?)?,
         }
     }

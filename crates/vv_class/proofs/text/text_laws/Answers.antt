@@ -1,7 +1,6 @@
 use Rattle.std.proofs.Common.{refl}
 use Rattle.vv_class.specs.Scan.{class_of}
-use Rattle.vv_class.proofs.Runs.{written_is_read}
-use Rattle.vv_class.proofs.Places.{one_class, text_length, reads_text, faults_at}
+use Rattle.vv_class.proofs.Places.{written_is_read, one_class, text_length, reads_text, faults_at}
 use Rattle.vv_class.proofs.text.text_laws.Goals as goal
 
 pub returns-clause-one_class : goal.returns-clause-one_class

@@ -1,4 +1,5 @@
 use Rattle.std.proofs.Common.{length, arith, ap, sym, subst, ◌∙◌, List, ℕ, Ok, ◌+◌, ◌%◌, ◌^◌}
+use Rattle.vax_cpu.specs.Fetched.{fault_exit}
 use Rattle.vax_cpu.specs.Paged.{paged}
 use Rattle.vax_table.specs.Fetch.{decided, fetched}
 use Rattle.vax_table.specs.Script.{outcome}
@@ -25,7 +26,7 @@ loop-looks-preserved c = record {
 }
 
 pub returns-in-Err-clause-fetched : goal.returns-in-Err-clause-fetched
-returns-in-Err-clause-fetched c = stopped (paged c.args.self.now.memory.now c.args.self.now.world.now) c.loop-looks._looks c.args.pc ((c.args.pc + c.len.result) % 2 ^ 32) c.loop-looks.bytes.items _ c.in-Err.exit _ (omega arith) c.as_slice.ensures.value c.in-NeedMore.ensures.reads (ap (λ (x : ℕ). (c.args.pc + x) % 2 ^ 32) c.len.ensures.value) c.in-Err.ensures c.loop-looks.invariant.same
+returns-in-Err-clause-fetched c = stopped (paged c.args.self.now.memory.now c.args.self.now.world.now) c.loop-looks._looks c.args.pc ((c.args.pc + c.len.result) % 2 ^ 32) c.loop-looks.bytes.items _ (fault_exit c.in-Err.fault) _ (omega arith) c.as_slice.ensures.value c.in-NeedMore.ensures.reads (ap (λ (x : ℕ). (c.args.pc + x) % 2 ^ 32) c.len.ensures.value) c.in-Err.ensures c.loop-looks.invariant.same
 
 pub returns-in-Fault-clause-fetched : goal.returns-in-Fault-clause-fetched
 returns-in-Fault-clause-fetched c = fault (paged c.args.self.now.memory.now c.args.self.now.world.now) c.loop-looks._looks c.args.pc c.refusal_of.result c.loop-looks.bytes.items _ _ c.in-Fault.fault (omega arith) c.as_slice.ensures.value c.in-Fault.ensures.reads c.refusal_of.ensures c.loop-looks.invariant.same

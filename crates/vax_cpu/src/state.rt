@@ -1,0 +1,188 @@
+ghost use Rattle.std.specs.Prelude.{◌≡◌, ◌+◌, ◌*◌, ◌≤◌, ◌<◌, ◌/◌, ◌%◌, ◌^◌, ℕ, length, slice_index, IfOk};
+ghost use Rattle.vv_base.specs.Bytes.{long_at, long_bytes, overwritten};
+ghost use Rattle.vax_hw.specs.Machine.{Machine, with_psw, zeros};
+ghost use Rattle.vax_hw.specs.Real.{misses_after};
+ghost use Rattle.vax_table.specs.Effects.{effect};
+ghost use Rattle.vax_table.specs.Trail.{term};
+ghost use Rattle.vax_cpu.specs.Completed.{behind};
+
+use crate::stores::store_all;
+use std::alloc::Global;
+use std::marker::Model;
+use vax_exec::Plan;
+use vax_hw::{Exit, Psl, World};
+use vv_base::{NoMemory, get_u32, put_u32};
+
+/// What the machine is to those who use it, but for its registers: memory, what else is loaded, and counts. The registers of
+/// the world that it keeps are of no matter.
+#[derive(Drop)]
+pub struct State {
+    memory: Vec<u8>,
+    pages: u32,
+    world: World,
+    retired: u64,
+    trail: u64,
+    misses: u64,
+}
+
+impl Model for State {
+    ghost use Rattle.std.specs.Prelude.{◌≡◌, ◌≤◌, ◌*◌, length};
+    ghost use Rattle.vax_hw.specs.Machine.{Machine};
+
+    ghost Value = { Machine };
+
+    ghost view = { λ m. record { memory = m.memory.items; world = m.world; retired = m.retired; trail = m.trail; misses = m.misses } };
+
+    ghost invariant = { λ m. (length m.memory.items ≡ 512 * m.pages) × (1 ≤ m.pages) × (m.pages ≤ 65536) };
+}
+
+/// What an instruction adds to the trail.
+fn term(pc: u32, opcode: u8, r: &[u32; 16]) -> u64
+    ensures { result ≡ term pc opcode r.now }
+{
+    let mut sum = u64::from(pc) + 3 * u64::from(opcode);
+    for register in &r[..15] {
+        sum += u64::from(*register);
+    }
+    sum
+}
+
+/// A PSL with another status word.
+fn with_psw(psl: Psl, psw: u8) -> Psl
+    ensures { result ≡ with_psw psl psw }
+{
+    Psl(psl.0 / 256 * 256 + u32::from(psw))
+}
+
+/// The longword at a place of a memory, which is a list of bytes.
+fn long_in(memory: &[u8], at: usize) -> u32
+    requires { at + 4 ≤ length memory.now }
+    ensures value { result ≡ long_at memory.now at }
+    ensures bytes { (i : ℕ) → slice_index memory.now i < 256 }
+{
+    get_u32(memory, at)
+}
+
+/// A world of zeros.
+fn no_world() -> World {
+    World {
+        r: [0; 16],
+        psl: Psl(0),
+        vmpsl: Psl(0),
+        p0br: 0,
+        p0lr: 0,
+        p1br: 0,
+        p1lr: 0,
+        sbr: 0,
+        slr: 0,
+    }
+}
+
+impl State {
+    /// 1 to 65,536 pages of zeros, and counts of 0.
+    #[tactic(auto, unfolding(vax_hw::specs::Machine::zeros))]
+    pub fn new(alloc: Global, pages: u32) -> Result<State, NoMemory>
+        requires some { 1 ≤ pages }
+        requires most { pages ≤ 65536 }
+        ensures size { IfOk result (λ m. length m.memory ≡ 512 * pages) }
+        ensures memory { IfOk result (λ m. m.memory ≡ zeros (512 * pages)) }
+        ensures counts { IfOk result (λ m. (m.retired ≡ 0) × (m.trail ≡ 0) × (m.misses ≡ 0)) }
+    {
+        Ok(State {
+            memory: vec![in alloc; 0; 512 * pages as usize]?,
+            pages,
+            world: no_world(),
+            retired: 0,
+            trail: 0,
+            misses: 0,
+        })
+    }
+
+    /// How many pages there are.
+    pub fn pages(&self) -> u32
+        ensures size { length self.now.memory ≡ 512 * result }
+        ensures some { 1 ≤ result }
+        ensures most { result ≤ 65536 }
+    {
+        self.pages
+    }
+
+    /// The memory's bytes.
+    pub fn memory(&self) -> &[u8]
+        ensures value { result.now ≡ self.now.memory }
+        ensures size { length result.now < 2 ^ 32 }
+    {
+        &self.memory
+    }
+
+    /// What is loaded.
+    pub fn world(&self) -> &World
+        ensures { result.now ≡ self.now.world }
+    {
+        &self.world
+    }
+
+    /// How many instructions have retired, modulo 2^64.
+    pub fn retired(&self) -> u64
+        ensures { result ≡ self.now.retired }
+    {
+        self.retired
+    }
+
+    /// The trail, modulo 2^64.
+    pub fn trail(&self) -> u64
+        ensures { result ≡ self.now.trail }
+    {
+        self.trail
+    }
+
+    /// How many entries were missed, modulo 2^64.
+    pub fn misses(&self) -> u64
+        ensures { result ≡ self.now.misses }
+    {
+        self.misses
+    }
+
+    /// The longword at a place.
+    pub fn read_long(&self, place: u32) -> u32
+        requires { place + 4 ≤ length self.now.memory }
+        ensures value { result ≡ long_at self.now.memory place }
+        ensures bytes { (at : ℕ) → slice_index self.now.memory at < 256 }
+    {
+        long_in(&self.memory, place as usize)
+    }
+
+    /// Stores a longword at a place.
+    pub fn write_long(&mut self, place: u32, v: u32)
+        requires { place + 4 ≤ length self.old.memory }
+        ensures { self.new ≡ (record self.old { memory = overwritten self.old.memory place (long_bytes v) }) }
+    {
+        put_u32(&mut self.memory, place as usize, v);
+    }
+
+    /// Loads both status longwords and the table registers.
+    pub fn load(&mut self, w: &World)
+        ensures { self.new ≡ (record self.old { world = w.now }) }
+    {
+        self.world = *w;
+    }
+
+    /// An instruction at an address has retired: its stores are made, the status word is that behind it, and it is counted.
+    pub fn retire(&mut self, pc: u32, opcode: u8, plan: &Plan)
+        ensures { self.new ≡ behind pc opcode (effect plan.now) self.old }
+    {
+        self.trail = self.trail.wrapping_add(term(pc, opcode, &plan.r));
+        self.retired = self.retired.wrapping_add(1);
+        store_all(&mut self.memory, &self.world, plan.writes.as_slice());
+        self.world.psl = with_psw(self.world.psl, plan.psw);
+    }
+
+    /// An instruction didn't retire: an entry that wasn't valid is counted.
+    pub fn stop(&mut self, exit: &Exit)
+        ensures { self.new ≡ (record self.old { misses = misses_after self.old.misses exit.now }) }
+    {
+        if let Exit::NotValid { .. } = exit {
+            self.misses = self.misses.wrapping_add(1);
+        }
+    }
+}

@@ -1,0 +1,67 @@
+ghost use Rattle.std.specs.Prelude.{◌≡◌};
+ghost use Rattle.vax_hw.specs.Real.{exit_of};
+ghost use Rattle.vax_operand.specs.Left.{joined};
+ghost use Rattle.vax_table.specs.Troubles.{trouble_of};
+ghost use Rattle.vax_table.specs.Whole.{trap_of};
+ghost use Rattle.vax_cpu.specs.Fetched.{fault_exit, stop_exit};
+ghost use Rattle.vax_cpu.specs.declared.stop.Fault.TheVariants as faults;
+ghost use Rattle.vax_cpu.specs.declared.stop.Stop.TheVariants as stops;
+
+use crate::perform::trap_of;
+use vax_hw::{Exit, Refusal, Sens};
+use vax_operand::{Trouble, Values};
+
+/// Why an instruction can't be done.
+#[derive(Clone, Copy)]
+pub enum Fault {
+    Trouble(Trouble),
+    Refused(Refusal),
+}
+
+/// Why an instruction doesn't retire, without the operands of its trap: in small, since it is handed on by each function that
+/// an instruction goes through.
+#[derive(Clone, Copy)]
+pub enum Stop {
+    Fault(Fault),
+    Modify(u32),
+    Emulate(Sens),
+}
+
+/// A trouble as a fault.
+pub fn fault_of(trouble: Trouble) -> Fault
+    ensures { result ≡ faults.Trouble trouble }
+{
+    Fault::Trouble(trouble)
+}
+
+/// A trouble as a stop.
+pub fn stop_of(trouble: Trouble) -> Stop
+    ensures { result ≡ stops.Fault (faults.Trouble trouble) }
+{
+    Stop::Fault(Fault::Trouble(trouble))
+}
+
+/// What a trouble stops the machine with.
+fn exit_of(trouble: Trouble) -> Exit
+    ensures { result ≡ exit_of (trouble_of trouble) }
+{
+    match trouble {
+        Trouble::NotValid { va, write } => Exit::NotValid { va, write },
+        Trouble::Denied { va, write } => Exit::Denied { va, write },
+        Trouble::Operand => Exit::Refused(Refusal::Operand),
+    }
+}
+
+/// What a stop stops the machine with: these are the operands, and the registers behind them.
+#[cold]
+#[inline(never)]
+pub fn exit_for(stop: Stop, o: &Values, r: &[u32; 16]) -> Exit
+    ensures { result ≡ stop_exit (joined o.now r.now) stop }
+{
+    match stop {
+        Stop::Fault(Fault::Trouble(trouble)) => exit_of(trouble),
+        Stop::Fault(Fault::Refused(refusal)) => Exit::Refused(refusal),
+        Stop::Modify(va) => Exit::Modify { va },
+        Stop::Emulate(op) => Exit::Emulate(trap_of(op, &o.joined(r))),
+    }
+}

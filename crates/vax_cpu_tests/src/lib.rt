@@ -1,0 +1,5 @@
+//! Worked examples of runs of the simulated machine over page tables that were made by hand.
+#![tactic(auto)]
+
+#[cfg(test)]
+mod tables;

@@ -1,0 +1,5 @@
+pub mod Agreeing
+pub mod Walked
+pub mod Reading
+pub mod Again
+pub mod Storing

@@ -1,0 +1,56 @@
+ghost use Rattle.std.specs.Prelude.{◌≡◌, ◌<◌, ◌%◌, ◌^◌, List, ℕ, slice_index, slice_set};
+ghost use Rattle.vax_table.specs.Operand.{no_operands};
+ghost use Rattle.vax_operand.specs.Left.{joined};
+
+use crate::operand::Worth;
+use vax_table::Dest;
+use vax_table::evaluation::Operands;
+
+/// The operands of an instruction, in order; the registers with their side effects stand elsewhere.
+#[derive(Clone, Copy)]
+pub struct Values {
+    /// The number that is read or modified, the address that is taken, or a branch's target; else 0.
+    pub values: [u64; 4],
+    /// Where a result goes, or the register or address from which bits are counted; else nowhere.
+    pub dests: [Dest; 4],
+}
+
+impl Values {
+    /// No operands.
+    pub fn none() -> Values
+        ensures { (r : List ℕ) → joined result r ≡ no_operands r }
+    {
+        Values {
+            values: [0; 4],
+            dests: [Dest::Nowhere; 4],
+        }
+    }
+
+    /// The operand of a number, from 0 on, as a longword.
+    pub fn long(&self, i: usize) -> u32
+        requires { i < 4 }
+        ensures { result ≡ slice_index self.now.values i % 2 ^ 32 }
+    {
+        (self.values[i] % 0x1_0000_0000) as u32
+    }
+
+    /// An operand put at its number.
+    pub fn put(&mut self, i: usize, x: &Worth)
+        requires { i < 4 }
+        ensures { self.new ≡ (record { values = slice_set self.old.values i x.now.value; dests = slice_set self.old.dests i x.now.dest }) }
+    {
+        self.values[i] = x.value;
+        self.dests[i] = x.dest;
+    }
+
+    /// These operands with the registers behind them.
+    pub fn joined(&self, r: &[u32; 16]) -> Operands
+        ensures { result ≡ joined self.now r.now }
+    {
+        Operands {
+            values: self.values,
+            dests: self.dests,
+            r: *r,
+        }
+    }
+}

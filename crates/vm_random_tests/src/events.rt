@@ -1,0 +1,96 @@
+//! What happens to a guest from without.
+
+ghost use Rattle.vm_guest.specs.Kept.{StandsIn};
+
+use crate::draw::{Draw, entry};
+use crate::guests::enter;
+use vm_stage::{Place, Stage};
+use vm_state::GuestState;
+
+/// What happens to a guest between its steps: a byte is typed, a transfer ends, a longword is stored, it starts, or it is
+/// stopped.
+#[derive(Clone, Copy, Debug, PartialEq, Eq)]
+pub enum Event {
+    Nothing,
+    Type(u8),
+    Transfer,
+    Store(u32, u32),
+    Start,
+    Stop,
+}
+
+/// A store that is drawn: an entry of a table, or a longword of data.
+fn drawn_store(draw: &mut Draw) -> Event {
+    if draw.one_of(4) {
+        Event::Store(draw.data(), draw.address())
+    } else {
+        let page = draw.page();
+        Event::Store(draw.entry_place(page), entry(draw, page))
+    }
+}
+
+/// An event that is drawn.
+pub fn drawn_event(draw: &mut Draw) -> Event {
+    match draw.below(16) {
+        0 | 1 => Event::Type(draw.byte()),
+        2 | 3 => Event::Transfer,
+        4 | 5 | 6 | 7 | 8 => drawn_store(draw),
+        9 => Event::Start,
+        10 => Event::Stop,
+        _ => Event::Nothing,
+    }
+}
+
+/// What an event changes of the registers, if anything.
+fn change(state: &mut GuestState, event: Event) -> bool {
+    match event {
+        Event::Type(byte) => Place::Typed.put_into(state, u32::from(byte)),
+        Event::Transfer => {
+            state.kcall_due = true;
+            state.queue.clear();
+        }
+        _ => return false,
+    }
+    true
+}
+
+/// One that stands runs on at 200 in this mode; whether it stood.
+fn go_on(state: &mut GuestState, mode: u32) -> bool {
+    let stood = state.halt.is_some();
+    if stood {
+        state.halt = None;
+        state.r[15] = 0x200;
+        enter(state, mode);
+    }
+    stood
+}
+
+/// What an event does besides.
+fn act(stage: &mut Stage, event: Event)
+    requires { StandsIn stage.old.machine.memory stage.old.guest }
+    ensures { StandsIn stage.new.machine.memory stage.new.guest }
+{
+    match event {
+        Event::Store(pa, v) => {
+            let _ = stage.put(pa, &v.to_le_bytes());
+        }
+        Event::Start => stage.guest.start(&mut stage.machine),
+        Event::Stop => stage.guest.stop(&mut stage.port),
+        _ => {}
+    }
+}
+
+/// It happens to a guest; one that stands runs on in this mode. Registers are set only where one changes, since what is set is told
+/// to the tables.
+pub fn happen(stage: &mut Stage, event: Event, mode: u32)
+    requires { StandsIn stage.old.machine.memory stage.old.guest }
+    ensures { StandsIn stage.new.machine.memory stage.new.guest }
+{
+    act(stage, event);
+    let mut state = stage.copy();
+    let is_changed = change(&mut state, event);
+    let stood = go_on(&mut state, mode);
+    if is_changed || stood {
+        let _ = stage.set(state);
+    }
+}

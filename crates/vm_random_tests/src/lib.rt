@@ -1,0 +1,14 @@
+//! Guests whose code and tables are drawn at random: what they come to doesn't depend on how their steps are cut, nor on the
+//! machine on which each step is taken.
+#![tactic(auto)]
+
+#[cfg(test)]
+mod apart;
+#[cfg(test)]
+mod code;
+#[cfg(test)]
+mod draw;
+#[cfg(test)]
+mod events;
+#[cfg(test)]
+mod guests;
