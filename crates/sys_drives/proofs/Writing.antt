@@ -1,6 +1,6 @@
 -- Blocks that are stored to a drive, one behind another.
 use Rattle.std.proofs.Common.{ℕ, ◌≡◌, ◌<◌, ◌+◌, List, [], ◌∷◌, ◌++◌, length, map, take, drop, slice_set, slice_index_or, refl, sym, ◌∙◌, ap, subst, arith, append_assoc, true, Result, OnOk, OnErr}
-use Rattle.std.proofs.lemmas.List.{drop_more, get_or-set_same, length-map, length-take-le, set-set, set_at, take_more}
+use Rattle.std.proofs.lemmas.List.{drop_more, get_or-set_same, get_or_at, length-map, length-take-le, set-set, set_at, take_more}
 use Rattle.std.proofs.lemmas.Option.{get_or_from_slice_get}
 use Rattle.std.specs.declared.option.Option.{Option}
 use Rattle.std.specs.declared.option.Option.TheVariants.{None, Some}
@@ -8,7 +8,7 @@ use Rattle.std.specs.declared.result.Result.TheVariants.{Ok, Err}
 use Rattle.sys_drives.specs.Rows.{drive_at}
 use Rattle.sys_drives.specs.Stores.{StoresOn, told_until}
 use Rattle.sys_store.specs.Blocks.{HasBlock, LacksBlock, blocks_of}
-use Rattle.vv_io.specs.Blocks.{AreSoMany, IsSized, Kept, SetsOn, unkept, with_block}
+use Rattle.vv_io.specs.Blocks.{AreSoMany, IsAsLong, IsSized, Kept, SetsOn, unkept, with_block}
 use Rattle.vv_io.specs.Causes.{Rose}
 
 -- so many blocks in place of those that are told
@@ -32,6 +32,15 @@ next_told n (Some old) blocks any size h long many =
     let at : slice_set (take n blocks ++ drop n old) n any ≡ take n blocks ++ any ∷ drop (n + 1) old =
     ap (λ xs. slice_set (take n blocks ++ xs) n any) rest ∙ set_at (take n blocks) (slice_index_or old n []) (drop (n + 1) old) any n (length-take-le n blocks (omega (arith, h, long))) in
     ap Some at
+
+-- the block behind those that are stored is the drive's own
+still_long : (n : ℕ) (o : Option (List (List ℕ))) (blocks : List (List ℕ)) (any : List ℕ) (size : ℕ) → n < size → length blocks ≡ size → AreSoMany size o → IsAsLong (told_to n o blocks) n any → IsAsLong o n any
+still_long n None blocks any size h long many is = tt
+still_long n (Some old) blocks any size h long many is =
+    let rest : drop n old ≡ slice_index_or old n [] ∷ drop (n + 1) old = drop_more old n [] (omega (arith, h, many)) in
+    let at : slice_index_or (take n blocks ++ drop n old) n [] ≡ slice_index_or old n [] =
+    ap (λ xs. slice_index_or (take n blocks ++ xs) n []) rest ∙ get_or_at (take n blocks) (slice_index_or old n []) (drop (n + 1) old) [] n (length-take-le n blocks (omega (arith, h, long))) in
+    is ∙ ap length at
 
 -- that is the block that belongs there
 one_more : (n : ℕ) (o : Option (List (List ℕ))) (blocks : List (List ℕ)) (bytes : List ℕ) → n < length blocks → slice_index_or blocks n [] ≡ bytes → told_until o blocks n bytes ≡ told_to (n + 1) o blocks
@@ -89,6 +98,7 @@ cut_here n k start now after blocks bytes e h =
         block = n;
         within = h.within;
         any = sets.writes.0;
+        long = still_long n old.blocks blocks sets.writes.0 old.size inside h.long h.sized (subst (λ (d : Kept). IsAsLong d.blocks n sets.writes.0) at sets.writes.2);
         told = sets.writes.1 ∙ ap (λ d. with_block d.blocks n sets.writes.0) at ∙ next_told n old.blocks blocks sets.writes.0 old.size inside h.long h.sized;
       },
     )

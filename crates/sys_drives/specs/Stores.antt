@@ -5,7 +5,7 @@ use Rattle.std.specs.declared.option.Option.TheVariants.{None, Some}
 use Rattle.sys_drives.specs.Rows.{StandsAt, drive_at}
 use Rattle.sys_objects.specs.declared.records.VolumeRow.{VolumeRow}
 use Rattle.sys_store.specs.Blocks.{blocks_of}
-use Rattle.vv_io.specs.Blocks.{Kept}
+use Rattle.vv_io.specs.Blocks.{IsAsLong, Kept}
 use Rattle.vv_io.specs.Causes.{Rose}
 
 -- these blocks in place of those that are told
@@ -18,13 +18,14 @@ abbrev pub told_until : Option (List (List ℕ)) → List (List ℕ) → ℕ →
 told_until None blocks k any = None
 told_until (Some old) blocks k any = Some (take k blocks ++ any ∷ drop (k + 1) old)
 
--- A drive's count rose at one block, which may hold anything; those before it are stored, those behind it as before.
+-- A drive's count rose at one block, which may hold any bytes, as many as before; those before it are stored, those behind it as before.
 pub record IsCut (before after : Kept) (blocks : List (List ℕ)) : Type 0 where
   pub size : after.size ≡ before.size
   pub rose : Rose before.faults after.faults
   pub block : ℕ
   pub within : block < length blocks
   pub any : List ℕ
+  pub long : IsAsLong before.blocks block any
   pub told : after.blocks ≡ told_until before.blocks blocks block any
 
 -- a drive that hasn't failed has the blocks and its count; one that has failed is cut

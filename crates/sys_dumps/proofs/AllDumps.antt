@@ -19,7 +19,7 @@ use Rattle.sys_lines.proofs.Lists.{from_place}
 use Rattle.sys_guests.proofs.Lists.{one_of_all}
 use Rattle.sys_guests.proofs.Powering.{guests_more}
 use Rattle.sys_lines.proofs.Showings.{shows_on, shows_same, shows_then}
-use Rattle.sys_lines.specs.Showing.{IsShowing}
+use Rattle.sys_lines.specs.ShownSince.{ShownSinceOn}
 use Rattle.sys_guests.specs.Layout.{guests_in}
 use Rattle.sys_lines.specs.Shows.{Shows, only_on}
 use Rattle.vm_guest.specs.Kept.{Kept, StandsIn, guest_in}
@@ -106,9 +106,9 @@ unfolding dump_of
 dump_some name g e = cc
 
 -- a dump on a line that isn't marked
-pub dump_shown : (marks : List Bool) (lines lines' : List Seen) (place : Option ℕ) (k : ℕ) (failed told : Bool) (name : List ℕ) (g : Guest) → place ≡ Some k → k < length marks → slice_index_or marks k false ≡ false → failed ≡ told → IsShowing k told lines lines' (dump_of name g) → Shows marks (slice_set marks k failed) lines lines' (only_on place (dump_of name g))
+pub dump_shown : (marks : List Bool) (lines lines' : List Seen) (place : Option ℕ) (k : ℕ) (failed told : Bool) (name : List ℕ) (g : Guest) → place ≡ Some k → k < length marks → slice_index_or marks k false ≡ false → failed ≡ told → ShownSinceOn k told lines lines' (dump_of name g) → Shows marks (slice_set marks k failed) lines lines' (only_on place (dump_of name g))
 dump_shown marks lines lines' place k failed told name g is there unmarked same shows =
-    subst (λ o. Shows marks (slice_set marks k failed) lines lines' (only_on o (dump_of name g))) (sym is) (shows_on marks lines lines' k failed (dump_of name g) there unmarked (dump_some name g) (subst (λ b. IsShowing k b lines lines' (dump_of name g)) (sym same) shows))
+    subst (λ o. Shows marks (slice_set marks k failed) lines lines' (only_on o (dump_of name g))) (sym is) (shows_on marks lines lines' k failed (dump_of name g) there unmarked (dump_some name g) (subst (λ b. ShownSinceOn k b lines lines' (dump_of name g)) (sym same) shows))
 
 -- a guest that stands lies in the machine
 pub lies_within : (memory : List ℕ) (ks : List Kept) (i : ℕ) (k : Kept) → i < length ks → k ≡ slice_index_or ks i k → All (λ (y : Kept). StandsIn memory y) ks → (512 * k.state.base + 512 * k.state.pages ≤ length memory) × (k.state.base + k.state.pages ≤ 65536)

@@ -9,7 +9,7 @@ use Rattle.vm_state.specs.Partition.{part}
 use Rattle.sys_guests.proofs.Images.{one_long}
 use Rattle.vv_io.specs.Lines.{Puts, Seen}
 use Rattle.sys_lines.proofs.Puts.{shows}
-use Rattle.sys_lines.specs.Showing.{Showing}
+use Rattle.sys_lines.specs.ShownSince.{ShownSince}
 use Rattle.sys_rounds.specs.Dump.{if_shown, is_shown, register_line, register_lines, row_line, row_lines, text_of}
 
 -- lines behind lines
@@ -130,5 +130,5 @@ row_whole memory at n cleared row inside many few room is =
     is ∙ ap (λ (k : ℕ). overwritten cleared 0 (take k xs)) all ∙ ap (λ (ys : List ℕ). overwritten cleared 0 ys) (take-length xs) ∙ ap (λ (ys : List ℕ). xs ++ ys) (drop_of_length-le cleared past) ∙ append-nil xs
 
 -- a put of a line's text
-pub shows_line : {U E : Type 0} (before after : Seen) (bytes line : List ℕ) (r : Result U E) → bytes ≡ line ++ 13 ∷ 10 ∷ [] → Puts before after bytes r → Showing (is_err r) before after (text_of (line ∷ []))
-shows_line before after bytes line r is puts = subst (Showing (is_err r) before after) (is ∙ sym (append-nil (line ++ 13 ∷ 10 ∷ []))) (shows before after bytes r puts)
+pub shows_line : {U E : Type 0} (before after : Seen) (bytes line : List ℕ) (r : Result U E) → bytes ≡ line ++ 13 ∷ 10 ∷ [] → Puts before after bytes r → ShownSince (is_err r) before after (text_of (line ∷ []))
+shows_line before after bytes line r is puts = subst (ShownSince (is_err r) before after) (is ∙ sym (append-nil (line ++ 13 ∷ 10 ∷ []))) (shows before after bytes r puts)

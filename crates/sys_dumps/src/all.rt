@@ -1,7 +1,7 @@
 ghost use Rattle.std.specs.Prelude.{◌≡◌, ◌≢◌, ◌≤◌, ◌<◌, ◌+◌, ◌*◌, All, IfSome, filter_map, is_err, length, map, vec_len};
 ghost use Rattle.std.specs.List.{AllPairs};
 ghost use Rattle.sys_guests.specs.Layout.{guests_in};
-ghost use Rattle.sys_lines.specs.Showing.{IsShowing};
+ghost use Rattle.sys_lines.specs.ShownSince.{ShownSinceOn};
 ghost use Rattle.sys_lines.specs.Shows.{Shows, only_on};
 ghost use Rattle.sys_objects.specs.Condition.{IsGuest};
 ghost use Rattle.sys_rounds.specs.Bytes.{dump_on};
@@ -29,7 +29,7 @@ fn dump_on<H: Hardware>(
     requires inside { 512 * guest.now.base + 512 * guest.now.pages ≤ length (H.machine machine.now).memory }
     requires place { guest.now.base + guest.now.pages ≤ 65536 }
     requires line { k < vec_len lines.old }
-    ensures shows { IsShowing k (is_err result) (map (λ b. seen b) lines.old.items) (map (λ b. seen b) lines.new.items) (dump_of name.now (guest_of (H.machine machine.now).memory guest.now)) }
+    ensures shows { ShownSinceOn k (is_err result) (map (λ b. seen b) lines.old.items) (map (λ b. seen b) lines.new.items) (dump_of name.now (guest_of (H.machine machine.now).memory guest.now)) }
     ensures len { vec_len lines.new ≡ vec_len lines.old }
 {
     let line = &mut lines[k];

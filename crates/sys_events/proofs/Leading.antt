@@ -11,7 +11,7 @@ use Rattle.sys_events.proofs.Seats.{disconnected, same_consoles, same_units, sti
 use Rattle.sys_events.proofs.Lists.{take_set}
 use Rattle.sys_events.specs.Happens.{server_obeyed}
 use Rattle.sys_events.specs.Seats.{IsServer, Names}
-use Rattle.sys_guests.specs.Changes.{ChangesOne, StartsOne, TurnsOne}
+use Rattle.sys_guests.specs.Changes.{ChangesOne, StartsOne, TakesStateAt}
 use Rattle.sys_guests.specs.Kernel.{IsKernel, Leads, state_of}
 use Rattle.sys_guests.specs.Layout.{AreInMachine, end_of_guests, guests_in}
 use Rattle.sys_guests.specs.declared.kernel.Kernel.{Kernel}
@@ -99,7 +99,7 @@ changed_guest m m' k guests' port' l x place f h c rest = record {
   size = c.size;
 }
 
-pub leads_turned : (m : Machine) (k : Kernel) (guests' : Vec Kept Global) (port' : Keeps) (l : List Seen) (x : Volumes) (place : ℕ) (f : Guest → Guest) → IsKernel m.memory k → TurnsOne place f k.guests.items guests'.items
+pub leads_turned : (m : Machine) (k : Kernel) (guests' : Vec Kept Global) (port' : Keeps) (l : List Seen) (x : Volumes) (place : ℕ) (f : Guest → Guest) → IsKernel m.memory k → TakesStateAt place f k.guests.items guests'.items
     → Leads (record { now = record (state_of m.memory k x) { guests = changed f (guests_in m.memory k.guests.items) place }; puts = [] }) m k l m (record k { guests = guests'; port = port' }) x l
 leads_turned m k guests' port' l x place f h turns = changed_guest m m k guests' port' l x place f h (turns k.config.guests m h.placed) refl
 

@@ -14,7 +14,7 @@ use Rattle.sys_events.proofs.Telling.{console_in_front, console_told, told_then,
 use Rattle.sys_events.specs.Happens.{Does, DoesAnywhere, DoesUnseen, asked_at, asked_at_row, carried_out, guest_halted, guest_typed, guests_obeyed, server_obeyed, shown_before}
 use Rattle.sys_events.specs.Saying.{answers, audits, puts_on, runs, show_lines}
 use Rattle.sys_events.specs.Seats.{Names, took}
-use Rattle.sys_guests.specs.Changes.{StartsOne, StopShows, TurnsOne}
+use Rattle.sys_guests.specs.Changes.{StartsOne, StopShows, TakesStateAt}
 use Rattle.sys_guests.specs.Kernel.{IsKernel, Leads, state_of}
 use Rattle.sys_guests.specs.declared.kernel.Kernel.{Kernel}
 use Rattle.sys_lines.specs.Shows.{Shows, only_on}
@@ -36,11 +36,11 @@ use Rattle.sys_server.specs.declared.command.Verdict.{Verdict}
 use Rattle.sys_server.specs.declared.command.Verdict.TheVariants.{Granted, BadCommand, NoSuchObject, Denied}
 
 -- a line is typed to a guest
-pub guest_types : (k : Kernel) (guests' : Vec Kept Global) (g : ℕ) (text : List ℕ) → TurnsOne g (typed text) k.guests.items guests'.items → DoesUnseen (guest_typed g text) k (record k { guests = guests' })
+pub guest_types : (k : Kernel) (guests' : Vec Kept Global) (g : ℕ) (text : List ℕ) → TakesStateAt g (typed text) k.guests.items guests'.items → DoesUnseen (guest_typed g text) k (record k { guests = guests' })
 guest_types k guests' g text turns l m h x = leads_turned m k guests' k.port l x g (typed text) h turns
 
 -- a guest is stopped, and its console is shown that
-pub guest_halts : (k : Kernel) (guests' : Vec Kept Global) (port' : Keeps) (marks' : List Bool) (l l' : List Seen) (g : ℕ) (console : Option ℕ) (bytes : List ℕ) → TurnsOne g commanded_to_stop k.guests.items guests'.items → StopShows g k.guests.items bytes
+pub guest_halts : (k : Kernel) (guests' : Vec Kept Global) (port' : Keeps) (marks' : List Bool) (l l' : List Seen) (g : ℕ) (console : Option ℕ) (bytes : List ℕ) → TakesStateAt g commanded_to_stop k.guests.items guests'.items → StopShows g k.guests.items bytes
     → console ≡ console_of k.config.terminals k.server.at g → Shows k.marks marks' l l' (only_on console bytes) → DoesAnywhere (guest_halted k.config g) k l (record k { guests = guests'; port = port'; marks = marks' }) l'
 guest_halts k guests' port' marks' l l' g console bytes turns said at shows m h x =
     let s : State = state_of m.memory k x in

@@ -7,7 +7,7 @@ use Rattle.sys_objects.specs.declared.records.GuestRow.{GuestRow}
 use Rattle.sys_objects.specs.declared.records.Terminal.{Terminal}
 use Rattle.sys_rounds.specs.Events.{audit_puts, said_on, taken_puts}
 use Rattle.sys_rounds.specs.State.{Put}
-use Rattle.sys_server.specs.Replies.{ended, object_text, reply_of, running_text, shown_lines}
+use Rattle.sys_server.specs.Replies.{with_line_end, object_text, reply_of, running_text, shown_lines}
 use Rattle.sys_server.specs.declared.command.Verdict.{Verdict}
 use Rattle.vm_guest.specs.Kept.{Kept}
 
@@ -24,7 +24,7 @@ runs k = not (is_some k.state.halt)
 
 -- SHOW's line of a guest, if the class sees it
 abbrev pub guest_text : GuestRow → Bool → List ℕ
-guest_text row is_running = ended (object_text (codes "VM") row.name row.class ++ running_text is_running)
+guest_text row is_running = with_line_end (object_text (codes "VM") row.name row.class ++ running_text is_running)
 
 abbrev pub guest_line : AccessClass → GuestRow → Bool → List (List ℕ)
 guest_line class row is_running = if does_flow row.class class then guest_text row is_running ∷ [] else []

@@ -6,7 +6,7 @@ ghost use Rattle.sys_rounds.specs.Events.{said_on, taken_puts};
 ghost use Rattle.sys_rounds.specs.State.{bytes_on};
 
 use crate::consoles::terminal_at;
-use crate::texts::ended;
+use crate::texts::with_line_end;
 use sys_audit::audit_text;
 use sys_lines::{Marks, show_whole};
 use sys_objects::{Config, Terminal};
@@ -21,7 +21,7 @@ pub fn say(marks: &mut Marks, lines: &mut Vec<Box<dyn Line>>, line: u8, text: &[
     ensures shows { Shows marks.old marks.new (map (λ b. seen b) lines.old.items) (map (λ b. seen b) lines.new.items) (λ k. bytes_on k (said_on line text.now ∷ [])) }
     ensures len { vec_len lines.new ≡ vec_len lines.old }
 {
-    let text = ended(text);
+    let text = with_line_end(text);
     show_whole(marks, lines, line, text.bytes());
 }
 

@@ -1,6 +1,6 @@
 ghost use Rattle.std.specs.Prelude.{◌≡◌, ◌+◌, ◌≤◌, ◌++◌, codes, length};
 ghost use Rattle.sys_events.specs.Saying.{guest_text};
-ghost use Rattle.sys_server.specs.Replies.{ended, object_text, printer_line, running_text, volume_line};
+ghost use Rattle.sys_server.specs.Replies.{with_line_end, object_text, printer_line, running_text, volume_line};
 
 use sys_objects::{GuestRow, PrinterRow, VolumeRow};
 use vv_base::{Name, Text};
@@ -66,9 +66,9 @@ pub fn printer_text(row: &PrinterRow) -> Text<512>
 }
 
 /// A text of the server, with its end.
-pub fn ended(bytes: &[u8]) -> Text<512>
+pub fn with_line_end(bytes: &[u8]) -> Text<512>
     requires { length bytes.now ≤ 100 }
-    ensures { result ≡ ended bytes.now }
+    ensures { result ≡ with_line_end bytes.now }
 {
     let mut text = Text::new();
     add(&mut text, bytes);

@@ -3,13 +3,13 @@ use Rattle.std.proofs.Common.{ℕ, ◌≡◌, ◌<◌, ◌*◌, inr, List, lengt
 use Rattle.vax_hw.specs.Machine.{Machine}
 use Rattle.sys_guests.proofs.LaidOut.{IsWithin, one_before, pages_in, placed_at, placed_row, placed_set, shares}
 use Rattle.sys_guests.proofs.Lists.{all_set, got, map_set, one_of_all}
-use Rattle.sys_guests.specs.Changes.{ChangesOne, StartsOne, TurnsOne}
+use Rattle.sys_guests.specs.Changes.{ChangesOne, StartsOne, TakesStateAt}
 use Rattle.sys_guests.specs.Layout.{AreInMachine, OnlyGuests}
 use Rattle.sys_objects.specs.declared.records.GuestRow.{GuestRow}
 use Rattle.sys_rounds.specs.Guests.{reset}
 use Rattle.vm_bursts.specs.Guarded.{OnlyBoth}
 use Rattle.vm_guest.proofs.Sharing.{stands_elsewhere}
-use Rattle.vm_guest.specs.Kept.{Becomes, Kept, StandsIn, Turns, guest_in}
+use Rattle.vm_guest.specs.Kept.{Becomes, Kept, StandsIn, TakesState, guest_in}
 use Rattle.vm_shadow.specs.Stands.{Shadowed}
 use Rattle.vm_state.specs.Partition.{part}
 use Rattle.vm_state.specs.Start.{started}
@@ -73,7 +73,7 @@ one_starts place ks k k' m m' there read b rows row a is =
     one_becomes rows place (reset row) ks k k' m m' there read a (sym own.1) (subst (λ h. Becomes h m k m' k') by_row b)
 
 -- one that has other registers
-pub one_turns : (place : ℕ) (f : Guest → Guest) (x : Kept → State) (ks : List Kept) (k k' : Kept) → place < length ks → k ≡ slice_index_or ks place k → ((memory : List ℕ) → f (guest_in memory k) ≡ record (guest_in memory k) { state = x k }) → (x k).modify_faults ≡ k.state.modify_faults → Turns (x k) k k' → TurnsOne place f ks (slice_set ks place k')
+pub one_turns : (place : ℕ) (f : Guest → Guest) (x : Kept → State) (ks : List Kept) (k k' : Kept) → place < length ks → k ≡ slice_index_or ks place k → ((memory : List ℕ) → f (guest_in memory k) ≡ record (guest_in memory k) { state = x k }) → (x k).modify_faults ≡ k.state.modify_faults → TakesState (x k) k k' → TakesStateAt place f ks (slice_set ks place k')
 one_turns place f x ks k k' there read same faults t rows m a =
     let stands = one_of_all (λ (y : Kept). StandsIn m.memory y) ks place k there read a.stand in
     one_became rows place f ks k k' m m there read a (ap (λ (g : Guest). g.state.modify_faults) (same m.memory) ∙ faults) (record {

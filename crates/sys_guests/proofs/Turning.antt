@@ -4,7 +4,7 @@ use Rattle.std.specs.List.{All, slice_get}
 use Rattle.vax_hw.specs.Machine.{Machine}
 use Rattle.sys_guests.proofs.Lists.{get_map}
 use Rattle.sys_guests.proofs.One.{one_became, one_turns}
-use Rattle.sys_guests.specs.Changes.{AdvancesOne, StopShows, TurnsOne, shown_in}
+use Rattle.sys_guests.specs.Changes.{AdvancesOne, StopShows, TakesStateAt, shown_in}
 use Rattle.sys_guests.specs.Layout.{guests_in}
 use Rattle.sys_rounds.specs.Counts.{tally_by}
 use Rattle.sys_rounds.specs.Events.{message_of}
@@ -16,7 +16,7 @@ use Rattle.vm_console.specs.Appends.{Appends}
 use Rattle.vm_console.specs.Console.{ConsoleState, after_typed}
 use Rattle.vm_console.specs.Kept.{Keeps, MayKeep, empty}
 use Rattle.vm_guest.specs.Kept as kept
-use Rattle.vm_guest.specs.Kept.{Kept, StandsIn, Turns, guest_in, with_line}
+use Rattle.vm_guest.specs.Kept.{Kept, StandsIn, TakesState, guest_in, with_line}
 use Rattle.vm_state.proofs.Steps.{shows_few, steps_keep}
 use Rattle.vm_state.specs.Run.{Run, after_step, after_steps, no_steps}
 use Rattle.vm_state.specs.State.{Guest, State, state_of}
@@ -78,7 +78,7 @@ stop_keeps_faults s = by s.halt refl
     by None e = rw e refl
     by (Some code) e = rw e refl
 
-pub stopped : (ks : List Kept) (place : ℕ) (k k' : Kept) → place < length ks → k ≡ slice_index_or ks place k → Turns (kept.commanded_to_stop (state_of k.state)) k k' → TurnsOne place commanded_to_stop ks (slice_set ks place k')
+pub stopped : (ks : List Kept) (place : ℕ) (k k' : Kept) → place < length ks → k ≡ slice_index_or ks place k → TakesState (kept.commanded_to_stop (state_of k.state)) k k' → TakesStateAt place commanded_to_stop ks (slice_set ks place k')
 stopped ks place k k' there read t = one_turns place commanded_to_stop (λ (y : Kept). kept.commanded_to_stop (state_of y.state)) ks k k' there read (λ memory. stop_by (guest_in memory k)) (stop_keeps_faults (state_of k.state)) t
 
 -- what it says fits the port
@@ -99,7 +99,7 @@ typed_same : (xs : List ℕ) (c : ConsoleState) → rounds.all_typed xs c ≡ ke
 typed_same [] c = refl
 typed_same (x ∷ xs) c = typed_same xs (after_typed c x)
 
-pub line_typed : (ks : List Kept) (place : ℕ) (text : List ℕ) (k k' : Kept) → place < length ks → k ≡ slice_index_or ks place k → Turns (with_line text (state_of k.state)) k k' → TurnsOne place (typed text) ks (slice_set ks place k')
+pub line_typed : (ks : List Kept) (place : ℕ) (text : List ℕ) (k k' : Kept) → place < length ks → k ≡ slice_index_or ks place k → TakesState (with_line text (state_of k.state)) k k' → TakesStateAt place (typed text) ks (slice_set ks place k')
 line_typed ks place text k k' there read t =
     one_turns place (typed text) (λ (y : Kept). with_line text (state_of y.state)) ks k k' there read
     (λ memory i. record (guest_in memory k) { state = record (state_of k.state) { console = typed_same (text ++ 13 ∷ []) (state_of k.state).console i } }) refl t

@@ -23,8 +23,8 @@ pub record ChangesOne (rows : List GuestRow) (place : ℕ) (f : Guest → Guest)
   pub size : length m'.memory ≡ length m.memory
 
 -- The guest at a place has other registers; its memory stays.
-abbrev pub TurnsOne : (place : ℕ) (f : Guest → Guest) (ks ks' : List Kept) → Type 0
-TurnsOne place f ks ks' = (rows : List GuestRow) (m : Machine) → AreInMachine rows m.memory ks → ChangesOne rows place f m ks m ks'
+abbrev pub TakesStateAt : (place : ℕ) (f : Guest → Guest) (ks ks' : List Kept) → Type 0
+TakesStateAt place f ks ks' = (rows : List GuestRow) (m : Machine) → AreInMachine rows m.memory ks → ChangesOne rows place f m ks m ks'
 
 -- It starts, by its row.
 abbrev pub StartsOne : (place : ℕ) (m : Machine) (ks : List Kept) (m' : Machine) (ks' : List Kept) → Type 0

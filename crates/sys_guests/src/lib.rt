@@ -10,4 +10,4 @@ mod turns;
 pub use kernel::{Kernel, MOST_SHOWN};
 pub use laws::guests_lie_apart;
 pub use loading::{first_misfit, load_guests};
-pub use turns::{Turn, advance_at, start_at, stop_at, type_at};
+pub use turns::{TimeSlice, advance_at, start_at, stop_at, type_at};

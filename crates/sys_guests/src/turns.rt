@@ -1,5 +1,5 @@
 ghost use Rattle.std.specs.Prelude.{◌≡◌, ◌≤◌, ◌<◌, All, Some, vec_len};
-ghost use Rattle.sys_guests.specs.Changes.{AdvancesOne, StartsOne, StopShows, TurnsOne};
+ghost use Rattle.sys_guests.specs.Changes.{AdvancesOne, StartsOne, StopShows, TakesStateAt};
 ghost use Rattle.sys_guests.specs.Layout.{guests_in};
 ghost use Rattle.sys_guests.specs.Present.{KeepsAll, PaysAll};
 ghost use Rattle.sys_rounds.specs.FirstTouches.{with_reset};
@@ -14,7 +14,7 @@ use vm_guest::{Counts, Guest};
 
 /// A guest's turn: its place, and how many steps it takes.
 #[derive(Clone, Copy, Debug, PartialEq, Eq)]
-pub struct Turn {
+pub struct TimeSlice {
     pub guest: u8,
     pub steps: u32,
 }
@@ -24,7 +24,7 @@ pub fn advance_at<H: Hardware>(
     machine: &mut H,
     port: &mut KeptPort<MOST_SHOWN>,
     guests: &mut Vec<Guest>,
-    turn: Turn,
+    turn: TimeSlice,
 ) -> Counts
     requires there { turn.guest < vec_len guests.old }
     requires few { turn.steps ≤ 100000 }
@@ -52,7 +52,7 @@ pub fn start_at<H: Hardware>(machine: &mut H, guests: &mut Vec<Guest>, place: u8
 /// A guest is stopped, if it runs, and what it shows is kept.
 pub fn stop_at(port: &mut KeptPort<MOST_SHOWN>, guests: &mut Vec<Guest>, place: u8)
     requires there { place < vec_len guests.old }
-    ensures turns { TurnsOne place commanded_to_stop guests.old.items guests.new.items }
+    ensures turns { TakesStateAt place commanded_to_stop guests.old.items guests.new.items }
     ensures shown { StopShows place guests.old.items port.new.bytes }
     ensures present { KeepsAll (λ ts. ts) guests.old.items guests.new.items }
 {
@@ -64,7 +64,7 @@ pub fn stop_at(port: &mut KeptPort<MOST_SHOWN>, guests: &mut Vec<Guest>, place: 
 /// A line is typed to a guest.
 pub fn type_at(guests: &mut Vec<Guest>, place: u8, text: &[u8])
     requires there { place < vec_len guests.old }
-    ensures turns { TurnsOne place (typed text.now) guests.old.items guests.new.items }
+    ensures turns { TakesStateAt place (typed text.now) guests.old.items guests.new.items }
     ensures present { KeepsAll (λ ts. ts) guests.old.items guests.new.items }
 {
     let guest = &mut guests[place as usize];

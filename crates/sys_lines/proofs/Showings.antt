@@ -1,13 +1,13 @@
 -- What lines are shown, one showing after another.
 use Rattle.std.proofs.Common.{ℕ, ◌≡◌, ◌<◌, List, [], ◌∷◌, ◌++◌, length, slice_index_or, slice_set, refl, sym, ◌∙◌, ap, subst, Bool, true, false, true≢false, if◌then◌else◌, ◌==◌, Some, map, Result, is_err}
-use Rattle.sys_lines.specs.Showing.{IsShowing}
+use Rattle.sys_lines.specs.ShownSince.{ShownSinceOn}
 use Rattle.sys_rounds.proofs.Places.{both}
 use Rattle.std.proofs.lemmas.Bool.{eq-eqb, eqb-true}
 use Rattle.std.proofs.lemmas.List.{get_or-set_same, get_or-set_other}
 use Rattle.vv_io.specs.Lines.{PutsOn, Seen, unseen}
 use Rattle.sys_lines.proofs.OneLine.{put_once}
 use Rattle.sys_lines.proofs.Puts.{joined, shows_nothing, still}
-use Rattle.sys_lines.specs.Showing.{Showing}
+use Rattle.sys_lines.specs.ShownSince.{ShownSince}
 use Rattle.sys_lines.specs.Shows.{Gets, Shows, only_on}
 
 -- a line gets nothing
@@ -20,7 +20,7 @@ gets_then : (a b c : Bool) (l m n : Seen) (x y : List ℕ) → Gets a b l m x �
 gets_then true true c l m n x y (marked, same) (still_marked, still_same) = (still_marked, still_same ∙ same)
 gets_then true false c l m n x y (marked, same) second = absurd (true≢false (sym marked))
 gets_then false true c l m n x y first (still_marked, same) =
-    subst (λ b. Showing b l n (x ++ y)) (sym still_marked) (subst (λ s. Showing true l s (x ++ y)) (sym same) (still l m x y first))
+    subst (λ b. ShownSince b l n (x ++ y)) (sym still_marked) (subst (λ s. ShownSince true l s (x ++ y)) (sym same) (still l m x y first))
 gets_then false false c l m n x y first second = joined c l m n x y first second
 
 front_none : (xs ys : List ℕ) → xs ++ ys ≡ [] → xs ≡ []
@@ -43,15 +43,15 @@ shows_then {a} {b} {c} {l} {m} {n} {f} {h} first second = record {
 }
 
 -- a line that isn't marked shows bytes; one that isn't put on is as before
-gets_shown : (a b b' : Bool) (l l' line : Seen) (x y : List ℕ) → a ≡ false → b ≡ b' → l' ≡ line → y ≡ x → Showing b' l line x → Gets a b l l' y
+gets_shown : (a b b' : Bool) (l l' line : Seen) (x y : List ℕ) → a ≡ false → b ≡ b' → l' ≡ line → y ≡ x → ShownSince b' l line x → Gets a b l l' y
 gets_shown a b b' l l' line x y unmarked mark is same shows =
-    subst (λ v. Gets v b l l' y) (sym unmarked) (subst (λ v. Showing v l l' y) (sym mark) (subst (λ s. Showing b' l s y) (sym is) (subst (λ bytes. Showing b' l line bytes) (sym same) shows)))
+    subst (λ v. Gets v b l l' y) (sym unmarked) (subst (λ v. ShownSince v l l' y) (sym mark) (subst (λ s. ShownSince b' l s y) (sym is) (subst (λ bytes. ShownSince b' l line bytes) (sym same) shows)))
 
 gets_nothing : (a b : Bool) (l l' : Seen) (y : List ℕ) → b ≡ a → l' ≡ l → y ≡ [] → Gets a b l l' y
 gets_nothing a b l l' y mark is none = subst (λ v. Gets a v l l' y) (sym mark) (subst (λ s. Gets a a l s y) (sym is) (subst (λ bytes. Gets a a l l bytes) (sym none) (gets_none a l)))
 
 -- bytes for a line that isn't marked
-pub shows_on : (marks : List Bool) (lines lines' : List Seen) (k : ℕ) (failed : Bool) (bytes : List ℕ) → k < length marks → slice_index_or marks k false ≡ false → (bytes ≡ [] → ⊥) → IsShowing k failed lines lines' bytes → Shows marks (slice_set marks k failed) lines lines' (only_on (Some k) bytes)
+pub shows_on : (marks : List Bool) (lines lines' : List Seen) (k : ℕ) (failed : Bool) (bytes : List ℕ) → k < length marks → slice_index_or marks k false ≡ false → (bytes ≡ [] → ⊥) → ShownSinceOn k failed lines lines' bytes → Shows marks (slice_set marks k failed) lines lines' (only_on (Some k) bytes)
 shows_on marks lines lines' k failed bytes there unmarked some (line, is, inside, shows) =
     let mark : slice_index_or (slice_set marks k failed) k false ≡ failed = get_or-set_same marks k failed false there in
     let shown : slice_index_or lines' k unseen ≡ line = ap (λ ls. slice_index_or ls k unseen) is ∙ get_or-set_same lines k line unseen inside in
@@ -78,4 +78,4 @@ shows_same marks marks' lines lines' f h e shows = record {
 -- bytes that are put at once on a line that isn't marked
 pub whole_shown : {D U E : Type 0} (f : D → Seen) (items : List D) (marks : List Bool) (k : ℕ) (after : List Seen) (bytes : List ℕ) (r : Result U E) (failed : Bool) → k < length marks → k < length items → slice_index_or marks k false ≡ false → (bytes ≡ [] → ⊥) → failed ≡ is_err r → PutsOn k (map f items) after bytes r → Shows marks (slice_set marks k failed) (map f items) after (only_on (Some k) bytes)
 whole_shown f items marks k after bytes r failed there inside unmarked some is put =
-    shows_on marks (map f items) after k failed bytes there unmarked some (subst (λ b. IsShowing k b (map f items) after bytes) (sym is) (put_once f items k after bytes r inside put))
+    shows_on marks (map f items) after k failed bytes there unmarked some (subst (λ b. ShownSinceOn k b (map f items) after bytes) (sym is) (put_once f items k after bytes r inside put))

@@ -1,5 +1,5 @@
 ghost use Rattle.std.specs.Prelude.{◌≡◌, ◌<◌, map, vec_len, is_err, IfSome, Some};
-ghost use Rattle.sys_lines.specs.Showing.{IsShowing};
+ghost use Rattle.sys_lines.specs.ShownSince.{ShownSinceOn};
 ghost use Rattle.sys_lines.specs.Shows.{Shows, only_on};
 ghost use Rattle.sys_rounds.specs.Places.{place_of};
 
@@ -23,7 +23,7 @@ pub fn first_marked(marks: &Marks) -> Option<u8>
 /// Puts each byte by itself on a line; the first fault ends it.
 fn put_each(lines: &mut Vec<Box<dyn Line>>, k: usize, bytes: &[u8]) -> Result<(), LineFault>
     requires { k < vec_len lines.old }
-    ensures shows { IsShowing k (is_err result) (map (λ b. seen b) lines.old.items) (map (λ b. seen b) lines.new.items) bytes.now }
+    ensures shows { ShownSinceOn k (is_err result) (map (λ b. seen b) lines.old.items) (map (λ b. seen b) lines.new.items) bytes.now }
     ensures len { vec_len lines.new ≡ vec_len lines.old }
 {
     for byte in bytes {

@@ -33,7 +33,7 @@ use Rattle.sys_script.specs.declared.event.Event.{Event}
 use Rattle.sys_script.specs.declared.event.Typed.{Typed}
 use Rattle.sys_script.specs.declared.event.Typed.TheVariants.{Break, Line}
 use Rattle.sys_server.specs.Apply.{is_guest, taken}
-use Rattle.sys_server.specs.Replies.{ended, guest_lines, object_text, printer_line, reply_of, running_text, server_text, shown_lines, volume_line}
+use Rattle.sys_server.specs.Replies.{with_line_end, guest_lines, object_text, printer_line, reply_of, running_text, server_text, shown_lines, volume_line}
 use Rattle.sys_server.specs.Verdict.{verdict_of}
 use Rattle.sys_server.specs.declared.command.Command.TheVariants.{Connect, Start, Halt, MountAt, Dismount, Show}
 use Rattle.sys_server.specs.declared.command.ServerState.{ServerState}
@@ -68,7 +68,7 @@ module _ (c : Config) (to : AccessClass) where
       nothing (r ∷ rest) = refl
   lines_seen class e (row ∷ rows) (runs ∷ running) =
       let rest = lines_seen class e rows running in
-      let line : List ℕ = ended (object_text (86 ∷ 77 ∷ []) row.name row.class ++ running_text runs) in
+      let line : List ℕ = with_line_end (object_text (86 ∷ 77 ∷ []) row.name row.class ++ running_text runs) in
       both (is_kept to row)
       (λ b. both (does_flow row.class class) (λ d. rw (b, d) (ap (λ ls. line ∷ ls) rest)) (λ d. rw (b, d) rest))
       (λ b. both (does_flow row.class class) (λ d. absurd (true≢false (sym (flows_on row.class class to d e) ∙ b))) (λ d. rw (b, d) rest))

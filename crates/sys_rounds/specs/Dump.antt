@@ -3,7 +3,7 @@
 use Rattle.std.specs.Prelude.{ℕ, zero, suc, ◌+◌, ◌/◌, Bool, not, ◌==◌, List, [], ◌∷◌, ◌++◌, codes, decimal, drop, length, take, if◌then◌else◌}
 use Rattle.std.specs.List.{list_any}
 use Rattle.vv_base.specs.Digits.{hex_text}
-use Rattle.sys_server.specs.Replies.{ended}
+use Rattle.sys_server.specs.Replies.{with_line_end}
 use Rattle.vm_state.specs.State.{Guest}
 
 -- `R0 XXXXXXXX`, and the registers behind it
@@ -40,7 +40,7 @@ dump_lines name g =
 -- lines one after another, each with CR and LF
 abbrev pub text_of : List (List ℕ) → List ℕ
 text_of [] = []
-text_of (line ∷ lines) = ended line ++ text_of lines
+text_of (line ∷ lines) = with_line_end line ++ text_of lines
 
 unfoldable pub dump_of : List ℕ → Guest → List ℕ
 dump_of name g = text_of (dump_lines name g)

@@ -14,7 +14,7 @@ use Rattle.sys_script.specs.declared.event.Event.{Event}
 use Rattle.sys_script.specs.declared.event.Typed.{Typed}
 use Rattle.sys_script.specs.declared.event.Typed.TheVariants.{Break, Line}
 use Rattle.sys_server.specs.Apply.{applied, taken}
-use Rattle.sys_server.specs.Replies.{ended, reply_of, server_text, shown_lines, taken_text}
+use Rattle.sys_server.specs.Replies.{with_line_end, reply_of, server_text, shown_lines, taken_text}
 use Rattle.sys_server.specs.Verdict.{verdict_of}
 use Rattle.sys_server.specs.declared.command.Command.{Command}
 use Rattle.sys_server.specs.declared.command.Command.TheVariants.{Connect, Start, Halt, MountAt, Dismount, Show}
@@ -24,7 +24,7 @@ use Rattle.vm_state.specs.State.{Guest}
 
 -- a text of the server on a line
 abbrev pub said_on : ℕ → List ℕ → Put
-said_on line text = record { line = line; bytes = ended text }
+said_on line text = record { line = line; bytes = with_line_end text }
 
 -- START resets the guest, by its row, and it runs
 abbrev pub reset_by : Option GuestRow → Guest → Guest

@@ -27,8 +27,8 @@ server_text = codes "SERVER"
 abbrev pub taken_text : List ℕ
 taken_text = codes "CONSOLE TAKEN"
 
-abbrev pub ended : List ℕ → List ℕ
-ended text = text ++ 13 ∷ 10 ∷ []
+abbrev pub with_line_end : List ℕ → List ℕ
+with_line_end text = text ++ 13 ∷ 10 ∷ []
 
 -- an object with its name and class
 abbrev pub object_text : List ℕ → List ℕ → AccessClass → List ℕ
@@ -43,14 +43,14 @@ abbrev pub guest_lines : AccessClass → List GuestRow → List Bool → List (L
 guest_lines class [] running = []
 guest_lines class (g ∷ guests) [] = []
 guest_lines class (g ∷ guests) (runs ∷ running) =
-    if does_flow g.class class then ended (object_text (codes "VM") g.name g.class ++ running_text runs) ∷ guest_lines class guests running
+    if does_flow g.class class then with_line_end (object_text (codes "VM") g.name g.class ++ running_text runs) ∷ guest_lines class guests running
     else guest_lines class guests running
 
 abbrev pub volume_line : VolumeRow → List ℕ
-volume_line v = ended (object_text (codes "VOLUME") v.name v.class)
+volume_line v = with_line_end (object_text (codes "VOLUME") v.name v.class)
 
 abbrev pub printer_line : PrinterRow → List ℕ
-printer_line p = ended (object_text (codes "PRINTER") p.name p.class)
+printer_line p = with_line_end (object_text (codes "PRINTER") p.name p.class)
 
 -- what SHOW puts at a terminal of the class, line by line, before its reply
 abbrev pub shown_lines : Config → ServerState → AccessClass → List (List ℕ)

@@ -14,7 +14,7 @@ use Rattle.sys_guests.specs.Kernel as kernels
 use Rattle.sys_guests.specs.Kernel.{AreUnits, IsKernel, Leads}
 use Rattle.sys_guests.specs.Layout.{AreInMachine, guests_in}
 use Rattle.sys_guests.specs.declared.kernel.Kernel.{Kernel}
-use Rattle.sys_guests.specs.declared.turns.Turn.{Turn}
+use Rattle.sys_guests.specs.declared.turns.TimeSlice.{TimeSlice}
 use Rattle.sys_objects.specs.Condition.{IsConfig, IsGuest}
 use Rattle.sys_objects.specs.declared.records.Config.{Config}
 use Rattle.sys_objects.specs.declared.records.GuestRow.{GuestRow}

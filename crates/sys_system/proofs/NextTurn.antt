@@ -7,7 +7,7 @@ use Rattle.std.proofs.lemmas.List.Sums.{fails_before_first}
 use Rattle.std.specs.List.{position_or_len}
 use Rattle.std.specs.Prelude.{position, nat_lt}
 use Rattle.sys_system.specs.Calls.{CanTake}
-use Rattle.sys_system.specs.System.{IsSystem, NoneLeft, System, first_of, next_guest, next_turn}
+use Rattle.sys_system.specs.System.{IsSystem, NoneLeft, System, first_of, next_guest, next_slice}
 use Rattle.sys_rounds.proofs.Places.{both}
 use Rattle.sys_rounds.specs.Slices.{Slice}
 
@@ -49,7 +49,7 @@ guest_is from g left within e = first_is (option_map (λ k. from + k) (position 
     (λ is. behind_is from g left (position has_some (drop from left)) refl within is)
     (λ is. let found = position-Some has_some left g 0 is in (found.0, found.1)) e
 
-pub next_can : (s : System) (x : Slice) → IsSystem s → next_turn s.config.slice s.turns ≡ Some x → CanTake s x × (0 < x.steps)
+pub next_can : (s : System) (x : Slice) → IsSystem s → next_slice s.config.slice s.turns ≡ Some x → CanTake s x × (0 < x.steps)
 next_can s x h e =
     let left = s.turns.left in
     let turn : ℕ → Slice = λ g. record { guest = g; steps = min s.config.slice (slice_index left g) } in
@@ -72,7 +72,7 @@ no_turn true (Some g) f running e = cc
 no_turn true None f running e = refl
 no_turn false o f running e = absurd (true≢false (sym running))
 
-pub none_next : (s : System) → s.turns.is_begun ≡ true → next_turn s.config.slice s.turns ≡ None → NoneLeft s.turns.left
+pub none_next : (s : System) → s.turns.is_begun ≡ true → next_slice s.config.slice s.turns ≡ None → NoneLeft s.turns.left
 none_next s running e i =
     let left = s.turns.left in
     let turn : ℕ → Slice = λ g. record { guest = g; steps = min s.config.slice (slice_index left g) } in

@@ -9,7 +9,7 @@ use Rattle.vv_io.specs.Lines.{Seen}
 use Rattle.sys_guests.specs.Changes.{Retires}
 use Rattle.sys_guests.specs.Layout.{end_of_guests, guests_in}
 use Rattle.sys_guests.specs.Present.{PaysAll}
-use Rattle.sys_guests.specs.declared.turns.Turn.{Turn}
+use Rattle.sys_guests.specs.declared.turns.TimeSlice.{TimeSlice}
 use Rattle.sys_lines.proofs.Showings.{shows_none, shows_same, shows_then}
 use Rattle.sys_objects.specs.declared.records.Config.{Config}
 use Rattle.sys_objects.specs.declared.records.GuestRow.{GuestRow}
@@ -18,7 +18,7 @@ use Rattle.sys_system.proofs.Paying.{pays_more, pays_none}
 use Rattle.sys_system.proofs.Slicing.{falls, front_takes, left_falls, now_more, puts_more, quanta_of, quantum_is, retires_then, taken, tally_more, total_more, turns_more}
 use Rattle.sys_system.proofs.Sums.{added_twice}
 use Rattle.sys_system.specs.Calls.{CanTake, Plays, TakesSlice}
-use Rattle.sys_system.specs.System.{IsSystem, NoneLeft, StandsIn, System, Turns, after_slice, all_turns, turn_of}
+use Rattle.sys_system.specs.System.{IsSystem, NoneLeft, StandsIn, System, Turns, after_slice, all_turns, slice_of_time}
 use Rattle.sys_rounds.proofs.Consoles.{bytes_append}
 use Rattle.sys_rounds.proofs.Places.{both}
 use Rattle.sys_rounds.proofs.Steps.{as_sum}
@@ -89,20 +89,20 @@ quanta_taken xs m m' s s' lines lines' all p none =
     quanta_of xs 0 s.config.guests (λ i. let e : 0 + i ≡ i = omega arith in ap (total xs) e ∙ omega (arith, p.left i, none i, ap (λ (t : Turns). slice_index t.left i) all))
 
 -- the turn at a place can be taken
-pub turn_can : (turns : List Turn) (i : ℕ) (turn : Turn) (m m' : Machine) (s s' : System) (lines lines' : List Seen) → IsSystem s → IsSystem s' → s.turns ≡ all_turns s.config.guests → AreQuanta (map turn_of turns) 0 s.config.guests → i < length turns → turn ≡ slice_index_or turns i turn → turn.guest < length s.guests
-    → Plays (map turn_of (take i turns)) m s lines m' s' lines' → CanTake s' (turn_of turn)
+pub turn_can : (turns : List TimeSlice) (i : ℕ) (turn : TimeSlice) (m m' : Machine) (s s' : System) (lines lines' : List Seen) → IsSystem s → IsSystem s' → s.turns ≡ all_turns s.config.guests → AreQuanta (map slice_of_time turns) 0 s.config.guests → i < length turns → turn ≡ slice_index_or turns i turn → turn.guest < length s.guests
+    → Plays (map slice_of_time (take i turns)) m s lines m' s' lines' → CanTake s' (slice_of_time turn)
 turn_can turns i turn m m' s s' lines lines' h h' first quanta inside read there p =
     let g = turn.guest in
     let rows = s.config.guests in
-    let xs = map turn_of (take i turns) in
+    let xs = map slice_of_time (take i turns) in
     let same : length s'.config.guests ≡ length rows = ap (λ (k : System). length k.config.guests) p.system in
-    let all : map turn_of turns ≡ (xs ++ turn_of turn ∷ []) ++ map turn_of (drop (i + 1) turns) = ap (map turn_of) (sym (take-append-drop (i + 1) turns)) ∙ map-append turn_of (take (i + 1) turns) (drop (i + 1) turns) ∙ ap (λ ys. ys ++ map turn_of (drop (i + 1) turns)) (turns_more turns i turn inside read) in
-    let quantum : total (map turn_of turns) g ≡ slice_index (map (λ (row : GuestRow). row.quantum) rows) g = quantum_is (map turn_of turns) rows g quanta (omega (arith, there, h.many)) in
-    let front : total (xs ++ turn_of turn ∷ []) g ≤ total ((xs ++ turn_of turn ∷ []) ++ map turn_of (drop (i + 1) turns)) g = front_takes (xs ++ turn_of turn ∷ []) (map turn_of (drop (i + 1) turns)) g in
-    let whole : total (map turn_of turns) g ≡ total ((xs ++ turn_of turn ∷ []) ++ map turn_of (drop (i + 1) turns)) g = ap (λ ys. total ys g) all in
-    let own : taken (turn_of turn) g ≡ turn.steps = ap (λ b. if b then turn.steps else 0) (eq-eqb g g refl) in
+    let all : map slice_of_time turns ≡ (xs ++ slice_of_time turn ∷ []) ++ map slice_of_time (drop (i + 1) turns) = ap (map slice_of_time) (sym (take-append-drop (i + 1) turns)) ∙ map-append slice_of_time (take (i + 1) turns) (drop (i + 1) turns) ∙ ap (λ ys. ys ++ map slice_of_time (drop (i + 1) turns)) (turns_more turns i turn inside read) in
+    let quantum : total (map slice_of_time turns) g ≡ slice_index (map (λ (row : GuestRow). row.quantum) rows) g = quantum_is (map slice_of_time turns) rows g quanta (omega (arith, there, h.many)) in
+    let front : total (xs ++ slice_of_time turn ∷ []) g ≤ total ((xs ++ slice_of_time turn ∷ []) ++ map slice_of_time (drop (i + 1) turns)) g = front_takes (xs ++ slice_of_time turn ∷ []) (map slice_of_time (drop (i + 1) turns)) g in
+    let whole : total (map slice_of_time turns) g ≡ total ((xs ++ slice_of_time turn ∷ []) ++ map slice_of_time (drop (i + 1) turns)) g = ap (λ ys. total ys g) all in
+    let own : taken (slice_of_time turn) g ≡ turn.steps = ap (λ b. if b then turn.steps else 0) (eq-eqb g g refl) in
     let left : slice_index s.turns.left g ≡ slice_index (map (λ (row : GuestRow). row.quantum) rows) g = ap (λ (t : Turns). slice_index t.left g) first in
-    record { begun = p.begun; there = omega (arith, there, h.many, h'.many, same); left = omega (arith, p.left g, left, quantum, front, whole, own, total_more xs (turn_of turn) g) }
+    record { begun = p.begun; there = omega (arith, there, h.many, h'.many, same); left = omega (arith, p.left g, left, quantum, front, whole, own, total_more xs (slice_of_time turn) g) }
 
 -- when all turns are taken no guest has steps left
 pub all_taken : (xs : List Slice) (m m' : Machine) (s s' : System) (lines lines' : List Seen) → s.turns ≡ all_turns s.config.guests → AreQuanta xs 0 s.config.guests → Plays xs m s lines m' s' lines' → NoneLeft s'.turns.left
@@ -119,10 +119,10 @@ all_taken xs m m' s s' lines lines' first quanta p i =
     omega (arith, p.left i, left, none))
 
 -- the turns up to a place are played, and then the one there
-pub plays_next : (turns : List Turn) (i : ℕ) (turn : Turn) (m m' m'' : Machine) (s s' s'' : System) (lines lines' lines'' : List Seen) → i < length turns → turn ≡ slice_index_or turns i turn → Plays (map turn_of (take i turns)) m s lines m' s' lines' → CanTake s' (turn_of turn)
-    → TakesSlice (turn_of turn) m' s' lines' m'' s'' lines'' → PaysAll (touches_of_slice (turn_of turn) (guests_in m'.memory s'.guests)) m' s'.guests m'' s''.guests → Plays (map turn_of (take (i + 1) turns)) m s lines m'' s'' lines''
+pub plays_next : (turns : List TimeSlice) (i : ℕ) (turn : TimeSlice) (m m' m'' : Machine) (s s' s'' : System) (lines lines' lines'' : List Seen) → i < length turns → turn ≡ slice_index_or turns i turn → Plays (map slice_of_time (take i turns)) m s lines m' s' lines' → CanTake s' (slice_of_time turn)
+    → TakesSlice (slice_of_time turn) m' s' lines' m'' s'' lines'' → PaysAll (touches_of_slice (slice_of_time turn) (guests_in m'.memory s'.guests)) m' s'.guests m'' s''.guests → Plays (map slice_of_time (take (i + 1) turns)) m s lines m'' s'' lines''
 plays_next turns i turn m m' m'' s s' s'' lines lines' lines'' inside read p can t pays =
-    subst (λ xs. Plays xs m s lines m'' s'' lines'') (sym (turns_more turns i turn inside read)) (plays_more (map turn_of (take i turns)) (turn_of turn) m m' m'' s s' s'' lines lines' lines'' p can t pays)
+    subst (λ xs. Plays xs m s lines m'' s'' lines'') (sym (turns_more turns i turn inside read)) (plays_more (map slice_of_time (take i turns)) (slice_of_time turn) m m' m'' s s' s'' lines lines' lines'' p can t pays)
 
-pub all_played : (turns : List Turn) (i : ℕ) (m m' : Machine) (s s' : System) (lines lines' : List Seen) → length turns ≤ i → Plays (map turn_of (take i turns)) m s lines m' s' lines' → Plays (map turn_of turns) m s lines m' s' lines'
-all_played turns i m m' s s' lines lines' h p = subst (λ ts. Plays (map turn_of ts) m s lines m' s' lines') (take_all i turns h) p
+pub all_played : (turns : List TimeSlice) (i : ℕ) (m m' : Machine) (s s' : System) (lines lines' : List Seen) → length turns ≤ i → Plays (map slice_of_time (take i turns)) m s lines m' s' lines' → Plays (map slice_of_time turns) m s lines m' s' lines'
+all_played turns i m m' s s' lines lines' h p = subst (λ ts. Plays (map slice_of_time ts) m s lines m' s' lines') (take_all i turns h) p

@@ -8,7 +8,7 @@ use Rattle.vv_io.specs.Lines.{Seen}
 use Rattle.sys_guests.specs.Changes.{AdvancesOne, Retires, shown_in}
 use Rattle.sys_guests.specs.Kernel.{AreUnits, IsKernel}
 use Rattle.sys_guests.specs.Layout.{AreInMachine, guests_in}
-use Rattle.sys_guests.specs.declared.turns.Turn.{Turn}
+use Rattle.sys_guests.specs.declared.turns.TimeSlice.{TimeSlice}
 use Rattle.sys_lines.proofs.Showings.{shows_same}
 use Rattle.sys_lines.specs.Shows.{Shows, only_on}
 use Rattle.sys_objects.specs.Condition.{IsConfig, IsTerminal}
@@ -19,7 +19,7 @@ use Rattle.sys_system.proofs.Insides.{AreCounted, inside_of, kernel_holds}
 use Rattle.sys_system.proofs.Slicing.{falls}
 use Rattle.sys_system.specs.Calls.{CanTake, TakesSlice}
 use Rattle.sys_system.specs.Held.{IsInside, system_of, turns_of}
-use Rattle.sys_system.specs.System.{StandsIn, System, Turns, after_slice, turn_of}
+use Rattle.sys_system.specs.System.{StandsIn, System, Turns, after_slice, slice_of_time}
 use Rattle.sys_system.specs.declared.parts.Parts.{Parts}
 use Rattle.sys_rounds.proofs.Consoles.{bytes_of_console}
 use Rattle.sys_rounds.specs.Consoles.{console_of}
@@ -87,7 +87,7 @@ pub record StaysBeside (s s' : Parts) : Type 0 where
   pub rounds : s'.rounds ≡ s.rounds
   pub drives : s'.drives ≡ s.drives
 
-counted_taken : (turn : Turn) (s s' : Parts) (c : Counts) → IsInside s → CanTake (system_of s) (turn_of turn) → StaysBeside s s' → steps_in c ≡ turn.steps → tally_of s'.counts ≡ added (tally_of s.counts) (tally_of c) → turns_of s'.turns ≡ after_slice (turns_of s.turns) (turn_of turn) → AreCounted s'
+counted_taken : (turn : TimeSlice) (s s' : Parts) (c : Counts) → IsInside s → CanTake (system_of s) (slice_of_time turn) → StaysBeside s s' → steps_in c ≡ turn.steps → tally_of s'.counts ≡ added (tally_of s.counts) (tally_of c) → turns_of s'.turns ≡ after_slice (turns_of s.turns) (slice_of_time turn) → AreCounted s'
 counted_taken turn s s' c h can stays steps counts turns =
     let k = turn.guest in
     let n = turn.steps in
@@ -102,10 +102,10 @@ counted_taken turn s s' c h can stays steps counts turns =
       few_rounds = omega (arith, h.system.few_rounds, stays.rounds);
     }
 
-pub taken : (turn : Turn) (m m' : Machine) (s s' : Parts) (lines lines' : List Seen) (shown : List ℕ) (c : Counts) (console : Option ℕ) → IsInside s → StandsIn m.memory (system_of s) → CanTake (system_of s) (turn_of turn) → StaysBeside s s' → AdvancesOne (turn_of turn) m s.kernel.guests.items m' s'.kernel.guests.items shown c
-    → tally_of s'.counts ≡ added (tally_of s.counts) (tally_of c) → console ≡ console_of s.kernel.config.terminals s.kernel.server.at turn.guest → Shows s.kernel.marks s'.kernel.marks lines lines' (only_on console shown) → turns_of s'.turns ≡ after_slice (turns_of s.turns) (turn_of turn) → TakesSlice (turn_of turn) m (system_of s) lines m' (system_of s') lines' × IsInside s'
+pub taken : (turn : TimeSlice) (m m' : Machine) (s s' : Parts) (lines lines' : List Seen) (shown : List ℕ) (c : Counts) (console : Option ℕ) → IsInside s → StandsIn m.memory (system_of s) → CanTake (system_of s) (slice_of_time turn) → StaysBeside s s' → AdvancesOne (slice_of_time turn) m s.kernel.guests.items m' s'.kernel.guests.items shown c
+    → tally_of s'.counts ≡ added (tally_of s.counts) (tally_of c) → console ≡ console_of s.kernel.config.terminals s.kernel.server.at turn.guest → Shows s.kernel.marks s'.kernel.marks lines lines' (only_on console shown) → turns_of s'.turns ≡ after_slice (turns_of s.turns) (slice_of_time turn) → TakesSlice (slice_of_time turn) m (system_of s) lines m' (system_of s') lines' × IsInside s'
 taken turn m m' s s' lines lines' shown c console h stands can stays a counts at shows turns =
-    let x : Slice = turn_of turn in
+    let x : Slice = slice_of_time turn in
     let ts = s.kernel.config.terminals in
     let gs : List Guest = guests_in m.memory s.kernel.guests.items in
     let place = console_of ts (take (length ts) s.kernel.server.at) x.guest in

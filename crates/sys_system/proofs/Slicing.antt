@@ -7,11 +7,11 @@ use Rattle.std.specs.List.{slice_get}
 use Rattle.std.specs.Prelude.{sum}
 use Rattle.vax_hw.specs.Machine.{Machine}
 use Rattle.sys_guests.specs.Changes.{Retires}
-use Rattle.sys_guests.specs.declared.turns.Turn.{Turn}
+use Rattle.sys_guests.specs.declared.turns.TimeSlice.{TimeSlice}
 use Rattle.sys_objects.specs.declared.records.GuestRow.{GuestRow}
 use Rattle.sys_objects.specs.declared.records.Terminal.{Terminal}
 use Rattle.sys_system.proofs.Sums.{added_either, added_twice}
-use Rattle.sys_system.specs.System.{turn_of}
+use Rattle.sys_system.specs.System.{slice_of_time}
 use Rattle.sys_rounds.proofs.Places.{both}
 use Rattle.sys_rounds.specs.Counts.{added, slices_tally, tally_by}
 use Rattle.sys_rounds.specs.Guests.{alone}
@@ -98,8 +98,8 @@ front_takes (x ∷ xs) ys i = by (i == x.guest) (total xs i) (total (xs ++ ys) i
     by false m n h = h
 
 -- the turns up to a place, and the one there
-pub turns_more : (turns : List Turn) (i : ℕ) (turn : Turn) → i < length turns → turn ≡ slice_index_or turns i turn → map turn_of (take (i + 1) turns) ≡ map turn_of (take i turns) ++ turn_of turn ∷ []
-turns_more turns i turn h read = ap (map turn_of) (take_more turns i turn h ∙ ap (λ (t : Turn). take i turns ++ t ∷ []) (sym read)) ∙ map-append turn_of (take i turns) (turn ∷ [])
+pub turns_more : (turns : List TimeSlice) (i : ℕ) (turn : TimeSlice) → i < length turns → turn ≡ slice_index_or turns i turn → map slice_of_time (take (i + 1) turns) ≡ map slice_of_time (take i turns) ++ slice_of_time turn ∷ []
+turns_more turns i turn h read = ap (map slice_of_time) (take_more turns i turn h ∙ ap (λ (t : TimeSlice). take i turns ++ t ∷ []) (sym read)) ∙ map-append slice_of_time (take i turns) (turn ∷ [])
 
 -- numbers of which one falls
 changed_long : (f : ℕ → ℕ) (xs : List ℕ) (k : ℕ) → length (changed f xs k) ≡ length xs

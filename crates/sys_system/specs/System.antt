@@ -2,7 +2,7 @@
 use Rattle.std.specs.Prelude.{ℕ, ◌≡◌, ◌≤◌, ◌+◌, ◌*◌, ◌-◌, ◌^◌, ◌<◌, nat_lt, List, map, length, drop, sum, slice_index, All, Bool, true, false, if◌then◌else◌, Option, Some, None, IfSome, option_map, position, min}
 use Rattle.sys_guests.specs.Kernel.{AreUnits}
 use Rattle.sys_guests.specs.Layout.{AreInMachine, guests_in}
-use Rattle.sys_guests.specs.declared.turns.Turn.{Turn}
+use Rattle.sys_guests.specs.declared.turns.TimeSlice.{TimeSlice}
 use Rattle.sys_objects.specs.Condition.{IsConfig}
 use Rattle.sys_objects.specs.declared.records.Config.{Config}
 use Rattle.sys_objects.specs.declared.records.GuestRow.{GuestRow}
@@ -80,8 +80,8 @@ abbrev pub next_guest : ℕ → List ℕ → Option ℕ
 next_guest from left = first_of (option_map (λ k. from + k) (position (λ n. nat_lt 0 n) (drop from left))) (position (λ n. nat_lt 0 n) left)
 
 -- it takes a slice, or what it has left; there is none where no round is begun
-abbrev pub next_turn : ℕ → Turns → Option Slice
-next_turn slice t = if t.is_begun then option_map (λ g. record { guest = g; steps = min slice (slice_index t.left g) }) (next_guest t.from t.left) else None
+abbrev pub next_slice : ℕ → Turns → Option Slice
+next_slice slice t = if t.is_begun then option_map (λ g. record { guest = g; steps = min slice (slice_index t.left g) }) (next_guest t.from t.left) else None
 
 abbrev pub NoneLeft : List ℕ → Type 0
 NoneLeft left = (i : ℕ) → slice_index left i ≡ 0
@@ -89,5 +89,5 @@ NoneLeft left = (i : ℕ) → slice_index left i ≡ 0
 abbrev pub no_round : Turns → Turns
 no_round t = record t { is_begun = false }
 
-abbrev pub turn_of : Turn → Slice
-turn_of t = record { guest = t.guest; steps = t.steps }
+abbrev pub slice_of_time : TimeSlice → Slice
+slice_of_time t = record { guest = t.guest; steps = t.steps }

@@ -13,5 +13,5 @@ mod turns;
 
 pub use parts::Device;
 pub use power::PowerFault;
-pub use sys_guests::Turn;
+pub use sys_guests::TimeSlice;
 pub use system::System;

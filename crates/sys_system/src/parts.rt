@@ -5,7 +5,7 @@ ghost use Rattle.sys_guests.specs.Present.{KeepsAll, PaysAll};
 ghost use Rattle.sys_system.specs.Calls.{BeginsRound, CanTake, EndsRound, ShowsDumps, StoresVolumes, TakesSlice};
 ghost use Rattle.sys_system.specs.Devices.{first_failed};
 ghost use Rattle.sys_system.specs.Held.{IsInside, system_of};
-ghost use Rattle.sys_system.specs.System.{NoneLeft, StandsIn, state_of, turn_of};
+ghost use Rattle.sys_system.specs.System.{NoneLeft, StandsIn, state_of, slice_of_time};
 ghost use Rattle.sys_rounds.specs.FirstTouches.{touches_of_events, touches_of_transfers};
 ghost use Rattle.sys_rounds.specs.Places.{place_of};
 ghost use Rattle.sys_rounds.specs.SlicedTouches.{touches_of_slice};
@@ -15,7 +15,7 @@ use crate::turns::Turns;
 use sys_drives::store_volumes;
 use sys_dumps::dump_all;
 use sys_events::{console_of, happen};
-use sys_guests::{Kernel, Turn, advance_at};
+use sys_guests::{Kernel, TimeSlice, advance_at};
 use sys_lines::{Marks, first_marked, show_each};
 use sys_script::Event;
 use sys_store::Volumes;
@@ -66,13 +66,18 @@ pub fn begin<H: Hardware>(
 }
 
 /// A guest takes its turn, and its terminal's line is shown what it shows.
-pub fn take<H: Hardware>(machine: &mut H, lines: &mut Vec<Box<dyn Line>>, s: &mut Parts, turn: Turn)
+pub fn take<H: Hardware>(
+    machine: &mut H,
+    lines: &mut Vec<Box<dyn Line>>,
+    s: &mut Parts,
+    turn: TimeSlice,
+)
     requires inside { IsInside s.old }
-    requires can { CanTake (system_of s.old) (turn_of turn) }
+    requires can { CanTake (system_of s.old) (slice_of_time turn) }
     requires stands { StandsIn (H.machine machine.old).memory (system_of s.old) }
     requires lines { vec_len lines.old ≡ 32 }
-    ensures takes { TakesSlice (turn_of turn) (H.machine machine.old) (system_of s.old) (map (λ b. seen b) lines.old.items) (H.machine machine.new) (system_of s.new) (map (λ b. seen b) lines.new.items) }
-    ensures pays { PaysAll (touches_of_slice (turn_of turn) (guests_in (H.machine machine.old).memory (system_of s.old).guests)) (H.machine machine.old) (system_of s.old).guests (H.machine machine.new) (system_of s.new).guests }
+    ensures takes { TakesSlice (slice_of_time turn) (H.machine machine.old) (system_of s.old) (map (λ b. seen b) lines.old.items) (H.machine machine.new) (system_of s.new) (map (λ b. seen b) lines.new.items) }
+    ensures pays { PaysAll (touches_of_slice (slice_of_time turn) (guests_in (H.machine machine.old).memory (system_of s.old).guests)) (H.machine machine.old) (system_of s.old).guests (H.machine machine.new) (system_of s.new).guests }
     ensures inside { IsInside s.new }
     ensures len { vec_len lines.new ≡ vec_len lines.old }
 {

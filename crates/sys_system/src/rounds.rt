@@ -1,10 +1,10 @@
 ghost use Rattle.std.specs.Prelude.{◌≡◌, ◌<◌, ◌+◌, All, false, length, map, vec_len};
 ghost use Rattle.sys_system.specs.Calls.{AreOf, MakesRound};
-ghost use Rattle.sys_system.specs.System.{IsSystem, StandsIn, turn_of};
+ghost use Rattle.sys_system.specs.System.{IsSystem, StandsIn, slice_of_time};
 ghost use Rattle.sys_rounds.specs.Slices.{AreQuanta};
 
 use crate::system::System;
-use sys_guests::Turn;
+use sys_guests::TimeSlice;
 use sys_script::Event;
 use vax_hw::Hardware;
 use vv_io::Line;
@@ -39,7 +39,7 @@ impl System {
         machine: &mut H,
         lines: &mut Vec<Box<dyn Line>>,
         events: &[Event],
-        turns: &[Turn],
+        turns: &[TimeSlice],
     )
         requires rests { self.old.turns.is_begun ≡ false }
         requires few { self.old.rounds < 4000000000 }
@@ -47,7 +47,7 @@ impl System {
         requires lines { vec_len lines.old ≡ 32 }
         requires events { AreOf (self.old.rounds + 1) events.now }
         requires there { All (λ turn. turn.guest < length self.old.guests) turns.now }
-        requires quanta { AreQuanta (map turn_of turns.now) 0 self.old.config.guests }
+        requires quanta { AreQuanta (map slice_of_time turns.now) 0 self.old.config.guests }
         ensures makes { MakesRound events.now (H.machine machine.old) self.old (map (λ b. seen b) lines.old.items) (H.machine machine.new) self.new (map (λ b. seen b) lines.new.items) }
         ensures len { vec_len lines.new ≡ vec_len lines.old }
         ensures holds { IsSystem self.new }

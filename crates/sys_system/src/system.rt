@@ -6,11 +6,11 @@ ghost use Rattle.sys_rounds.specs.FirstTouches.{touches_of_events, touches_of_tr
 ghost use Rattle.sys_rounds.specs.SlicedTouches.{touches_of_slice};
 ghost use Rattle.sys_system.specs.Calls.{BeginsRound, CanTake, EndsRound, PowersDown, ShowsDumps, TakesSlice};
 ghost use Rattle.sys_system.specs.Devices.{first_failed};
-ghost use Rattle.sys_system.specs.System.{IsSystem, NoneLeft, StandsIn, next_turn, state_of, turn_of};
+ghost use Rattle.sys_system.specs.System.{IsSystem, NoneLeft, StandsIn, next_slice, state_of, slice_of_time};
 
 use crate::parts::{Device, Parts, begin, dump, end, first_device, store, take};
 use std::marker::Model;
-use sys_guests::Turn;
+use sys_guests::TimeSlice;
 use sys_script::Event;
 use vax_hw::Hardware;
 use vm_guest::Counts;
@@ -38,8 +38,8 @@ impl System {
     /// The next turn of the round: the next guest in the configuration's order, behind the one that was sliced last and
     /// round again, that has steps left, with a slice or what it has left; a round begins with the first guest. None
     /// where no guest has steps left, or no round is begun.
-    pub fn next(&self) -> Option<Turn>
-        ensures { option_map turn_of result ≡ next_turn self.now.config.slice self.now.turns }
+    pub fn next(&self) -> Option<TimeSlice>
+        ensures { option_map slice_of_time result ≡ next_slice self.now.config.slice self.now.turns }
     {
         self.parts.turns.next(self.parts.kernel.config.slice)
     }
@@ -80,7 +80,7 @@ impl System {
         ensures len { vec_len lines.new ≡ vec_len lines.old }
         ensures holds { IsSystem self.new }
     {
-        take(machine, lines, &mut self.parts, Turn { guest, steps });
+        take(machine, lines, &mut self.parts, TimeSlice { guest, steps });
     }
 
     /// Ends a round in which no guest has steps left: the transfers that the guests ask for are made.

@@ -1,9 +1,9 @@
 ghost use Rattle.std.specs.Prelude.{◌≡◌, ◌<◌, ◌≤◌, ◌+◌, ◌-◌, ◌*◌, false, nat_lt, IfOk, length, option_map, position, drop, replicate, slice_index, vec_len};
-ghost use Rattle.sys_system.specs.System.{after_slice, all_turns, next_guest, next_turn, turn_of};
+ghost use Rattle.sys_system.specs.System.{after_slice, all_turns, next_guest, next_slice, slice_of_time};
 ghost use Rattle.sys_system.specs.Held.{turns_of};
 
 use std::alloc::Global;
-use sys_guests::Turn;
+use sys_guests::TimeSlice;
 use sys_objects::GuestRow;
 use vv_base::NoMemory;
 
@@ -42,10 +42,10 @@ impl Turns {
     }
 
     /// A guest has taken its turn.
-    pub fn take(&mut self, turn: Turn)
+    pub fn take(&mut self, turn: TimeSlice)
         requires there { turn.guest < vec_len self.old.left }
         requires left { turn.steps ≤ slice_index self.old.left.items turn.guest }
-        ensures { turns_of self.new ≡ after_slice (turns_of self.old) (turn_of turn) }
+        ensures { turns_of self.new ≡ after_slice (turns_of self.old) (slice_of_time turn) }
     {
         let place = turn.guest as usize;
         self.left[place] -= turn.steps;
@@ -65,16 +65,16 @@ impl Turns {
     }
 
     /// The next turn: at most so many steps of the next guest with steps left.
-    pub fn next(&self, slice: u32) -> Option<Turn>
+    pub fn next(&self, slice: u32) -> Option<TimeSlice>
         requires from { self.now.from ≤ vec_len self.now.left }
         requires few { vec_len self.now.left ≤ 16 }
-        ensures { option_map turn_of result ≡ next_turn slice (turns_of self.now) }
+        ensures { option_map slice_of_time result ≡ next_slice slice (turns_of self.now) }
     {
         if !self.is_begun {
             return None;
         }
         let guest = self.next_guest()?;
-        Some(Turn {
+        Some(TimeSlice {
             guest: guest as u8,
             steps: slice.min(self.left[guest]),
         })

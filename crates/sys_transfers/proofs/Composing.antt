@@ -7,7 +7,7 @@ use Rattle.vm_shadow.specs.Stands.{Shadowed}
 use Rattle.vm_shadow.proofs.Covering.{own_is, own_length}
 use Rattle.vm_state.specs.Partition.{part}
 use Rattle.vm_state.specs.State.{Guest, State, state_of}
-use Rattle.vm_guest.specs.Kept.{Becomes, Kept, StandsIn, Turns, guest_in, with_bytes}
+use Rattle.vm_guest.specs.Kept.{Becomes, Kept, StandsIn, TakesState, guest_in, with_bytes}
 use Rattle.sys_rounds.specs.Guests.{answered}
 
 both_then : (s s1 : Shadowed) (a b c : List ℕ) → s1.base ≡ s.base → s1.pages ≡ s.pages → s1.at ≡ s.at → OnlyBoth s a b → OnlyBoth s1 b c → OnlyBoth s a c
@@ -38,7 +38,7 @@ becomes_then m k g m1 k1 h m2 k2 stands x y = record {
 }
 
 -- with other registers
-pub becomes_turned : (m : Machine) (k : Kept) (x : State) (k' : Kept) → StandsIn m.memory k → Turns x k k' → Becomes (record (guest_in m.memory k) { state = x }) m k m k'
+pub becomes_turned : (m : Machine) (k : Kept) (x : State) (k' : Kept) → StandsIn m.memory k → TakesState x k k' → Becomes (record (guest_in m.memory k) { state = x }) m k m k'
 becomes_turned m k x k' stands turns = record {
   guest = λ i. record { memory = part m.memory (512 * turns.place.base i) (512 * turns.place.pages i); state = turns.state i };
   stands = turns.stands m.memory stands;
@@ -53,7 +53,7 @@ pub becomes_as : (g h : Guest) (m : Machine) (k : Kept) (m' : Machine) (k' : Kep
 becomes_as g h m k m' k' same x = subst (λ (y : Guest). Becomes y m k m' k') same x
 
 -- a status is stored, and the interrupt requested
-pub becomes_answered : (at status : ℕ) (bytes : List ℕ) (m : Machine) (k : Kept) (m1 : Machine) (k1 k2 : Kept) → StandsIn m.memory k → bytes ≡ long_bytes status → Becomes (with_bytes (at + 20) bytes (guest_in m.memory k)) m k m1 k1 → Turns (record (state_of k1.state) { kcall_due = true }) k1 k2
+pub becomes_answered : (at status : ℕ) (bytes : List ℕ) (m : Machine) (k : Kept) (m1 : Machine) (k1 k2 : Kept) → StandsIn m.memory k → bytes ≡ long_bytes status → Becomes (with_bytes (at + 20) bytes (guest_in m.memory k)) m k m1 k1 → TakesState (record (state_of k1.state) { kcall_due = true }) k1 k2
     → Becomes (answered at status (guest_in m.memory k)) m k m1 k2
 becomes_answered at status bytes m k m1 k1 k2 stands is stored turns =
     let posted : Guest → Guest = λ g. record g { state = record g.state { kcall_due = true } } in

@@ -7,7 +7,7 @@ use Rattle.vv_io.specs.Lines.{Seen}
 use Rattle.vm_fitting.specs.Present.{HasPresent}
 use Rattle.vm_fitting.proofs.Fitting.{writes_keep}
 use Rattle.vm_fitting.proofs.Own.{moves_alone}
-use Rattle.vm_guest.specs.Kept.{Becomes, Kept, StandsIn, Turns, guest_in}
+use Rattle.vm_guest.specs.Kept.{Becomes, Kept, StandsIn, TakesState, guest_in}
 use Rattle.vm_state.specs.Allowed.{IsPacket}
 use Rattle.vm_state.specs.State.{Guest, state_of, tables_of}
 use Rattle.vm_state.specs.Touches.{Present, Touching, touching_write}
@@ -109,7 +109,7 @@ module _ (c : Config) (row : GuestRow) (units : List (Option Mount)) (volumes : 
     pub present : (t : Touching) → HasPresent k.shadow t.present → Reaches n vs m1 k1 t
 
   -- the queue is taken
-  pub none_served : (k1 : Kept) → StandsIn m.memory k → Turns (record (state_of k.state) { queue = [] }) k k1 → SoFar 0 volumes m k1 marks lines
+  pub none_served : (k1 : Kept) → StandsIn m.memory k → TakesState (record (state_of k.state) { queue = [] }) k k1 → SoFar 0 volumes m k1 marks lines
   none_served k1 stands turns =
       let taken : Becomes (with_no_queue g) m k m k1 = becomes_turned m k (record (state_of k.state) { queue = [] }) k1 stands turns in
       let at : (vs : List (List (List ℕ))) → left 0 (guest_in m.memory k1) vs ≡ left 0 (with_no_queue g) vs = λ vs. ap (λ (h : Guest). left 0 h vs) taken.guest in

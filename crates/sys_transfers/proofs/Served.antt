@@ -7,7 +7,7 @@ use Rattle.vax_hw.specs.Machine.{Machine}
 use Rattle.vv_base.specs.Bytes.{long_bytes}
 use Rattle.vm_fitting.specs.Moves.{Drops}
 use Rattle.vm_fitting.proofs.Own.{none_dropped}
-use Rattle.vm_guest.specs.Kept.{Becomes, Kept, StandsIn, Turns, frames_from, guest_in}
+use Rattle.vm_guest.specs.Kept.{Becomes, Kept, StandsIn, TakesState, frames_from, guest_in}
 use Rattle.vm_state.specs.Packets.{status_place}
 use Rattle.vm_state.specs.State.{Guest, State}
 use Rattle.vm_state.specs.Translation.{frame_at}
@@ -94,7 +94,7 @@ frames_are : (units : List (Option Mount)) (g : Guest) (at : ℕ) (p : Packet) (
 unfolding frames_served
 frames_are units g at p volumes space read size = frames_split at p (move_of space volumes units p) ∙ (λ i. frames_by at (read i) (move_of (size i) volumes units (read i)))
 
-pub status_dropped : (at status : ℕ) (bytes : List ℕ) (k k1 k2 : Kept) {x : State} → bytes ≡ long_bytes status → Drops (frames_from (at + 20) bytes) k.shadow k1.shadow → Turns x k1 k2 → at % 4 ≡ 0 → Drops (frame_at (status_place at) ∷ []) k.shadow k2.shadow
+pub status_dropped : (at status : ℕ) (bytes : List ℕ) (k k1 k2 : Kept) {x : State} → bytes ≡ long_bytes status → Drops (frames_from (at + 20) bytes) k.shadow k1.shadow → TakesState x k1 k2 → at % 4 ≡ 0 → Drops (frame_at (status_place at) ∷ []) k.shadow k2.shadow
 status_dropped at status bytes k k1 k2 is drops turns aligned =
     let four : length bytes ≡ 4 = ap length is in
     subst (Drops (frame_at (status_place at) ∷ []) k.shadow) (sym turns.shadow) (dropped_within (at + 20) bytes (frame_at (status_place at) ∷ []) k.shadow k1.shadow (λ i h. status_frames at i aligned (omega (arith, h, four))) drops)

@@ -4,8 +4,7 @@ ghost use Rattle.vax_table.specs.Spelled.{behind_index, spelled, spelled_specifi
 ghost use Rattle.vax_decode.specs.Encoding.{IsInRange};
 ghost use Rattle.vasm_text.specs.Asm.{opcode_bytes};
 
-use crate::size::value_size;
-use vax_table::{Access, Form, Spec};
+use vax_table::{Access, Form, Spec, value_size};
 use vv_base::NoMemory;
 
 /// Appends a byte.

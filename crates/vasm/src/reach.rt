@@ -2,9 +2,8 @@ ghost use Rattle.std.specs.Prelude.{◌≡◌, ◌^◌, pos};
 ghost use Rattle.vv_base.specs.Width.{size_of};
 ghost use Rattle.vasm_text.specs.Asm.{difference, field_size, is_within, reached};
 
-use crate::size::displacement_width;
 use vasm_text::AsmKind;
-use vax_table::{Access, Form, Spec};
+use vax_table::{Access, Form, Spec, displacement_width};
 use vv_base::Width;
 
 /// The width of the field that a name stands for.

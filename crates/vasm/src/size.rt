@@ -1,39 +1,10 @@
 ghost use Rattle.std.specs.Prelude.{◌≡◌, ◌+◌, ◌*◌, ◌≤◌, length, is_some, map, if◌then◌else◌};
-ghost use Rattle.vv_base.specs.Width.{size_of};
-ghost use Rattle.vax_table.specs.Reading.{displacement_size};
-ghost use Rattle.vax_table.specs.Spelled.{spelled, value_size};
+ghost use Rattle.vax_table.specs.Spelled.{spelled};
 ghost use Rattle.vasm_text.specs.Asm.{line_size, opcode_bytes, operands_size, statement_size};
 ghost use Rattle.vasm_read.specs.Views.{line_view, operand_view, statement_view};
 
 use vasm_read::{Line, Operand, Statement, forms_of};
-use vax_table::{Access, Form, Spec};
-use vv_base::Width;
-
-/// The width of the displacement in a mode.
-pub(crate) fn displacement_width(mode: u8) -> Width
-    ensures { size_of result ≡ displacement_size mode }
-{
-    match mode {
-        0..12 => Width::Byte,
-        12..14 => Width::Word,
-        _ => Width::Long,
-    }
-}
-
-/// How many bytes stand behind a specifier's first.
-#[tactic(auto, unfolding(vax_table::specs::Spelled::value_size))]
-pub(crate) fn value_size(form: Form, spec: &Spec) -> u8
-    ensures value { result ≡ value_size form spec.now }
-    ensures most { result ≤ 8 }
-{
-    match (spec.mode, spec.reg) {
-        (0..8, _) => 0,
-        (8, 15) => form.width.bytes(),
-        (9, 15) => 4,
-        (8 | 9, _) => 0,
-        (mode, _) => displacement_width(mode).bytes(),
-    }
-}
+use vax_table::{Access, Form, Spec, value_size};
 
 /// How many bytes an index has.
 fn index_size(index: Option<u8>) -> u8

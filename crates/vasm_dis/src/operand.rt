@@ -1,24 +1,10 @@
 ghost use Rattle.std.specs.Prelude.{◌≡◌, ◌==◌, ◌%◌, ◌++◌, ◌≤◌, OnOk, [], codes, decimal, if◌then◌else◌};
 ghost use Rattle.vv_base.specs.Width.{size_of};
-ghost use Rattle.vax_table.specs.Reading.{displacement_size};
 ghost use Rattle.vasm_text.specs.Printing.{behind_mark, displacement_text, field_text, increment_text, index_text, operand_text, size_letter, specifier_text};
 
 use crate::put::{put, put_around, put_field, put_register};
-use vax_table::{Access, Form, Spec};
+use vax_table::{Access, Form, Spec, displacement_width};
 use vv_base::{NoMemory, Width, decimal};
-
-/// How many bytes the displacement of a mode has.
-fn displacement_bytes(mode: u8) -> u8
-    ensures value { result ≡ displacement_size mode }
-    ensures low { 1 ≤ result }
-    ensures high { result ≤ 8 }
-{
-    match mode {
-        0..12 => 1,
-        12..14 => 2,
-        _ => 4,
-    }
-}
 
 /// The letter of a displacement's size.
 fn letter(mode: u8) -> &'static [u8]
@@ -49,7 +35,7 @@ fn put_displacement(text: &mut Vec<u8>, spec: &Spec) -> Result<(), NoMemory>
 {
     put_deferred(text, spec.mode)?;
     put(text, letter(spec.mode))?;
-    put_field(text, displacement_bytes(spec.mode), spec.value)?;
+    put_field(text, displacement_width(spec.mode).bytes(), spec.value)?;
     put_around(text, b"(", spec.reg, b")")
 }
 

@@ -15,7 +15,7 @@ use Rattle.vax_table.specs.Script.{Trouble, outcome}
 use Rattle.vax_table.specs.Tries.{first_clear, tried, tried_by, unless_clear}
 use Rattle.vax_table.specs.Whole.{Act, Meant, Plain, Probes, Traps, instruction, meant}
 use Rattle.vax_table.proofs.Tries.{tries_stores}
-use Rattle.vax_cpu.specs.Completed.{behind, by_judgement, completed, ended, retired_by, retired_from, settled, settled_meaning, unless_modified, with_opcode, with_registers}
+use Rattle.vax_cpu.specs.Completed.{behind, by_judgement, completed, completed_by, retired_by, retired_from, settled, settled_meaning, unless_modified, with_opcode, with_registers}
 use Rattle.vax_cpu.specs.Fetched.{exits}
 use Rattle.vax_cpu.specs.Paged.{is_clear_for, paged}
 use Rattle.vax_cpu.proofs.Quiet.{found_claims}
@@ -33,11 +33,11 @@ on_act m opcode (Probes i o) h =
     ∙ ap (λ (vas : List ℕ). by_try m (unless_clear (meant opcode (Probes i o)) (first_clear (is_clear m) vas))) none
 
 on_outcome : (m : Machine) (r : Result Meant Trouble) → outcome (space_of m) (instruction (in_kernel m.world) (seen_psl m.world) m.world.r) ≡ r →
-    by_try m (tried (space_of m) (is_clear m) (instruction (in_kernel m.world) (seen_psl m.world) m.world.r)) ≡ ended m (exits r)
+    by_try m (tried (space_of m) (is_clear m) (instruction (in_kernel m.world) (seen_psl m.world) m.world.r)) ≡ completed_by m (exits r)
 on_outcome m (Ok x) h = on_act m x.opcode x.act h
 on_outcome m (Err t) h = ap (λ (r : Result Meant Trouble). by_try m (tried_by (is_clear m) (claims (space_of m) (instruction (in_kernel m.world) (seen_psl m.world) m.world.r)) r)) h
 
-pub one_ended : (m : Machine) → one m ≡ ended m (exits (outcome (paged m.memory m.world) (instruction (in_kernel m.world) (seen_psl m.world) m.world.r)))
+pub one_ended : (m : Machine) → one m ≡ completed_by m (exits (outcome (paged m.memory m.world) (instruction (in_kernel m.world) (seen_psl m.world) m.world.r)))
 unfolding one
 one_ended m = on_outcome m _ refl
 
@@ -58,7 +58,7 @@ with_opcode_retired : (m : Machine) (opcode : ℕ) (x : Result Effect Exit) → 
 with_opcode_retired m opcode (Ok e) = refl
 with_opcode_retired m opcode (Err x) = refl
 
-meaning_retired : (m : Machine) (x : Result Meant Exit) → ended m x ≡ retired_from m (settled_meaning m.memory m.world x)
+meaning_retired : (m : Machine) (x : Result Meant Exit) → completed_by m x ≡ retired_from m (settled_meaning m.memory m.world x)
 meaning_retired m (Ok meant) = completed_settled m meant.opcode meant.act ∙ with_opcode_retired m meant.opcode (settled m.memory m.world meant.act)
 meaning_retired m (Err e) = refl
 

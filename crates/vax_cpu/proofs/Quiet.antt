@@ -26,7 +26,7 @@ use Rattle.vax_table.specs.Reading.{Answer, Whole, Short, Unknown, Reserved, dec
 use Rattle.vax_table.specs.Rows.{row_of}
 use Rattle.vax_table.specs.Script.{Script, Space, outcome, ◌>>=◌}
 use Rattle.vax_table.specs.Spelling.{Instruction}
-use Rattle.vax_table.specs.Whole.{Act, Meant, Plain, Probes, Traps, acted, acted_by, instruction, is_always_done, plainly, probing, trapped}
+use Rattle.vax_table.specs.Whole.{Act, Meant, Plain, Probes, Traps, acted, acted_by, instruction, is_always_done, plainly, probing, trapping}
 use Rattle.vax_table.proofs.Claims.{holds-bind, holds_always, holds_made}
 use Rattle.vax_table.proofs.Tests.{if_both, le_of}
 
@@ -184,7 +184,7 @@ ActClaims cs (Probes intent o) = cs ≡ []
 abbrev pub MeantClaims : List ℕ → Meant → Type 0
 MeantClaims cs m = ActClaims cs m.act
 
-trap_holds : (op : Sens) (d : Instruction) (r : List ℕ) → are_quiet (trap_forms d.opcode) ≡ true → Holds MeantClaims [] (trapped op d r)
+trap_holds : (op : Sens) (d : Instruction) (r : List ℕ) → are_quiet (trap_forms d.opcode) ≡ true → Holds MeantClaims [] (trapping op d r)
 unfolding trap_operands
 trap_holds op d r q = holds-bind Nothing MeantClaims [] (trap_operands d r) _ (from_quiet 0 (trap_forms d.opcode) d.specs (no_operands (behind_bytes (if d.wait then 2 else 1) r)) q) (λ ds o h. h)
 

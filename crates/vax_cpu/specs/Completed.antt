@@ -4,7 +4,7 @@ use Rattle.std.specs.Prelude.{ℕ, ◌/◌, ◌%◌, ◌^◌, zero, suc, ◌+◌
 use Rattle.vax_arch.specs.declared.mode.Intent.{Intent}
 use Rattle.vv_base.specs.Width.{size_of}
 use Rattle.vax_hw.specs.Machine.{Machine, psw_of, tables_of, with_psw}
-use Rattle.vax_hw.specs.Real.{Retired, by_try, meets, retired_with}
+use Rattle.vax_hw.specs.Real.{Retired, by_try, carried_out, retired_with}
 use Rattle.vax_hw.specs.RealTables.{real_probe}
 use Rattle.vax_hw.specs.declared.world.Exit.{Exit}
 use Rattle.vax_hw.specs.declared.world.Exit.TheVariants.{Emulate, Modify}
@@ -26,12 +26,12 @@ use Rattle.vax_cpu.specs.declared.stores.Put.{Put}
 
 abbrev pub completed : Machine → ℕ → Act → Result Retired Exit
 completed m opcode (Plain e) = by_try m (unless_clear (meant opcode (Plain e)) (first_clear (is_clear_for m.memory m.world) (bytes_of_stores e.writes)))
-completed m opcode (Traps t) = meets m opcode (Traps t)
-completed m opcode (Probes i o) = meets m opcode (Probes i o)
+completed m opcode (Traps t) = carried_out m opcode (Traps t)
+completed m opcode (Probes i o) = carried_out m opcode (Probes i o)
 
-abbrev pub ended : Machine → Result Meant Exit → Result Retired Exit
-ended m (Ok meant) = completed m meant.opcode meant.act
-ended m (Err e) = Err e
+abbrev pub completed_by : Machine → Result Meant Exit → Result Retired Exit
+completed_by m (Ok meant) = completed m meant.opcode meant.act
+completed_by m (Err e) = Err e
 
 -- The same without the machine's counts: by what an instruction retires, or why it doesn't.
 

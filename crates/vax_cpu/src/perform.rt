@@ -4,7 +4,7 @@ ghost use Rattle.vax_table.specs.Operations.{operation_of};
 ghost use Rattle.vax_table.specs.Plan.{is_planned};
 ghost use Rattle.vax_table.specs.Script.{outcome};
 ghost use Rattle.vax_table.specs.Spelling.{IsWellFormed, view};
-ghost use Rattle.vax_table.specs.Whole.{acted, first_operand, instruction, is_always_done, plainly, probe_of, trap_of, trapped};
+ghost use Rattle.vax_table.specs.Whole.{acted, first_operand, instruction, is_always_done, plainly, probe_of, trap_of, trapping};
 ghost use Rattle.vax_table.specs.declared.effect.Plan.{Plan};
 ghost use Rattle.vax_table.specs.declared.evaluation.Operands.{Operands};
 ghost use Rattle.vax_table.specs.declared.meaning.Operation.TheVariants.{MoveStatus};
@@ -90,7 +90,7 @@ fn trap<S: Space>(
     plan: &mut Plan,
 ) -> Result<Act, Stop>
     requires { IsWellFormed (view d.now) }
-    ensures { acts_of d.now.opcode (joined o.new plan.new.r) plan.new result ≡ exits (outcome (S.space s.now) (trapped op (view d.now) plan.old.r)) }
+    ensures { acts_of d.now.opcode (joined o.new plan.new.r) plan.new result ≡ exits (outcome (S.space s.now) (trapping op (view d.now) plan.old.r)) }
 {
     let Operands { values, dests, r } = evaluate_trap(s, d, &plan.r).map_err(stop_of)?;
     *o = Values { values, dests };

@@ -1,10 +1,9 @@
 ghost use Rattle.std.specs.Prelude.{◌≡◌, ◌+◌, ◌≤◌, ◌<◌, [], ◌∷◌, ◌++◌, length, IfSome};
 ghost use Rattle.vax_table.specs.Spelling.{bytes_of, view, IsWellFormed, Spells};
-ghost use Rattle.vax_table.specs.Spelled.{value_size, spelled_specifier, spelled, spelled_all};
+ghost use Rattle.vax_table.specs.Spelled.{spelled_specifier, spelled, spelled_all};
 ghost use Rattle.vax_decode.specs.Encoding.{IsInRange, AllInRange};
 
-use crate::read::displacement_bytes;
-use vax_table::{Access, Decoded, Form, Spec, row};
+use vax_table::{Access, Decoded, Form, Spec, row, value_size};
 use vv_base::Text;
 
 /// Appends a byte that fits.
@@ -27,20 +26,6 @@ fn put_number(text: &mut Text<24>, size: usize, value: u64)
     }
 }
 
-/// How many bytes stand behind a specifier's first.
-#[tactic(auto, unfolding(vax_table::specs::Spelled::value_size))]
-fn value_bytes(form: Form, spec: &Spec) -> usize
-    ensures { result ≡ value_size form spec.now }
-{
-    match (spec.mode, spec.reg) {
-        (0..8, _) => 0,
-        (8, 15) => usize::from(form.width.bytes()),
-        (9, 15) => 4,
-        (8 | 9, _) => 0,
-        (mode, _) => displacement_bytes(mode),
-    }
-}
-
 /// Appends a specifier without its index.
 #[tactic(auto, unfolding(vax_table::specs::Spelled::spelled_specifier))]
 fn put_specifier(text: &mut Text<24>, form: Form, spec: &Spec)
@@ -54,7 +39,7 @@ fn put_specifier(text: &mut Text<24>, form: Form, spec: &Spec)
         put(text, spec.value as u8);
     } else {
         put(text, 16 * spec.mode + spec.reg);
-        put_number(text, value_bytes(form, spec), spec.value);
+        put_number(text, usize::from(value_size(form, spec)), spec.value);
     }
 }
 

@@ -8,7 +8,7 @@ use Rattle.vax_arch.specs.declared.mode.Intent.{Intent}
 use Rattle.vax_table.specs.declared.evaluation.Operands.{Operands}
 use Rattle.std.specs.Prelude.{Bool}
 use Rattle.vax_hw.specs.Machine.{Machine, is_clear, seen_psl, space_of, tables_of}
-use Rattle.vax_hw.specs.Real.{Retired, behind_trap, by_try, exit_of, going_on, in_kernel, meets, misses_after, one, probed_as, real}
+use Rattle.vax_hw.specs.Real.{Retired, unless_trapped, by_try, exit_of, going_on, in_kernel, carried_out, misses_after, one, probed_as, real}
 use Rattle.vax_hw.specs.RealLaws.{RunsGoOn, continued}
 use Rattle.vax_hw.specs.RealTables.{real_probe}
 use Rattle.vax_hw.specs.declared.world.Exit.{Exit}
@@ -28,7 +28,7 @@ probe_ends : (m : Machine) (opcode : ℕ) (i : Intent) (o : Operands) (judged : 
 probe_ends m opcode i o (Some is_accessible) = tt
 probe_ends m opcode i o None = λ more n. refl
 
-act_ends : (m : Machine) (opcode : ℕ) (a : Act) → Ends (meets m opcode a)
+act_ends : (m : Machine) (opcode : ℕ) (a : Act) → Ends (carried_out m opcode a)
 act_ends m opcode (Plain e) = tt
 act_ends m opcode (Traps t) = λ more n. refl
 act_ends m opcode (Probes i o) = probe_ends m opcode i o (real_probe m.memory (tables_of m.world) m.world.psl.0 i (long_of o 0) (long_of o 1) (long_of o 2))
@@ -44,7 +44,7 @@ one_ends m = try_ends m (tried (space_of m) (is_clear m) (instruction (in_kernel
 
 -- behind a trap
 trap_goes_on : (n more : ℕ) (m : Machine) (trap : Option ℕ) → real (n + more) m ≡ continued more (real n m).0 (real n m).1 →
-    behind_trap (real (n + more)) m trap ≡ continued more (behind_trap (real n) m trap).0 (behind_trap (real n) m trap).1
+    unless_trapped (real (n + more)) m trap ≡ continued more (unless_trapped (real n) m trap).0 (unless_trapped (real n) m trap).1
 trap_goes_on n more m None e = e
 trap_goes_on n more m (Some kind) e = refl
 

@@ -13,7 +13,7 @@ use Rattle.vax_table.specs.Effects.{Effect, long_of}
 use Rattle.vax_table.specs.Plan.{probed}
 use Rattle.vax_table.specs.Script.{Absent, Refusing, Past, Trouble, At, Test}
 use Rattle.vax_table.specs.Tries.{Clear, Completes, Stopped, Tried, tried}
-use Rattle.vax_table.specs.Whole.{Act, Meant, Plain, Probes, Traps, instruction, is_kernel, probe_of, trap_of}
+use Rattle.vax_table.specs.Whole.{Act, Meant, Plain, Probes, Traps, instruction, is_kernel_mode, probe_of, trap_of}
 use Rattle.vax_table.specs.declared.evaluation.Operands.{Operands}
 
 abbrev pub is_write : Intent → Bool
@@ -29,7 +29,7 @@ exit_of (Test r) = Refused r
 
 -- whether the virtual machine's mode is kernel
 abbrev pub in_kernel : World → Bool
-in_kernel w = is_kernel (current_of w.vmpsl.0)
+in_kernel w = is_kernel_mode (current_of w.vmpsl.0)
 
 -- a machine that retired an instruction, and its arithmetic trap
 pub record Retired : Type 0 where
@@ -45,15 +45,15 @@ probed_as m opcode i o (Some is_accessible) = retired_with m opcode (probed is_a
 probed_as m opcode i o None = Err (Emulate (trap_of (probe_of i) o))
 
 -- an instruction that was found to be this retires, or traps
-abbrev pub meets : Machine → ℕ → Act → Result Retired Exit
-meets m opcode (Plain e) = retired_with m opcode e
-meets m opcode (Traps t) = Err (Emulate t)
-meets m opcode (Probes i o) =
+abbrev pub carried_out : Machine → ℕ → Act → Result Retired Exit
+carried_out m opcode (Plain e) = retired_with m opcode e
+carried_out m opcode (Traps t) = Err (Emulate t)
+carried_out m opcode (Probes i o) =
     probed_as m opcode i o (real_probe m.memory (tables_of m.world) m.world.psl.0 i (long_of o 0) (long_of o 1) (long_of o 2))
 
 -- by the try of the instruction at PC
 abbrev pub by_try : Machine → Tried Meant → Result Retired Exit
-by_try m (Completes meant) = meets m meant.opcode meant.act
+by_try m (Completes meant) = carried_out m meant.opcode meant.act
 by_try m (Clear va) = Err (Modify va)
 by_try m (Stopped trouble) = Err (exit_of trouble)
 
@@ -67,13 +67,13 @@ misses_after n (NotValid va write) = (n + 1) % 2 ^ 64
 misses_after n e = n
 
 -- going on behind an instruction that retired, unless it had a trap
-abbrev pub behind_trap : (Machine → Machine × Exit) → Machine → Option ℕ → Machine × Exit
-behind_trap rest m None = rest m
-behind_trap rest m (Some kind) = (m, Arithmetic kind)
+abbrev pub unless_trapped : (Machine → Machine × Exit) → Machine → Option ℕ → Machine × Exit
+unless_trapped rest m None = rest m
+unless_trapped rest m (Some kind) = (m, Arithmetic kind)
 
 -- going on behind one instruction
 abbrev pub going_on : (Machine → Machine × Exit) → Machine → Result Retired Exit → Machine × Exit
-going_on rest m (Ok after) = behind_trap rest after.machine after.trap
+going_on rest m (Ok after) = unless_trapped rest after.machine after.trap
 going_on rest m (Err e) = (record m { misses = misses_after m.misses e }, e)
 
 -- a run of at most so many instructions

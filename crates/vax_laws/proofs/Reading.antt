@@ -6,7 +6,7 @@ use Rattle.vax_arch.specs.Fields.{current_of}
 use Rattle.vax_arch.specs.declared.mode.Intent.{Intent}
 use Rattle.vax_arch.specs.declared.mode.Intent.TheVariants as intents
 use Rattle.vax_hw.specs.Machine.{Machine, is_clear, place_for, place_of, psw_of, retire, seen_psl, space_of, tables_of}
-use Rattle.vax_hw.specs.Real.{by_try, in_kernel, meets, one, probed_as, retired_with}
+use Rattle.vax_hw.specs.Real.{by_try, in_kernel, carried_out, one, probed_as, retired_with}
 use Rattle.vax_hw.specs.RealTables.{both, judged, place_in, place_or_end, real_probe}
 use Rattle.vax_hw.specs.declared.world.World.{World}
 use Rattle.vax_laws.specs.Laws.{AreAlike, DependsOnWhatItReads, HasTheSame}
@@ -110,11 +110,11 @@ judges_same m other i o h =
 
 act_alike : (m other : Machine) (opcode : ℕ) (act : Act) → HasTheSame (judged_for m act) m.memory other.memory →
     ((e : Effect) → act ≡ Plain e → (va : ℕ) → IsIn va (bytes_of_stores e.writes) → place_of (like m other) va ≡ place_of m va) →
-    AreAlike m (like m other) (meets m opcode act) (meets (like m other) opcode act)
+    AreAlike m (like m other) (carried_out m opcode act) (carried_out (like m other) opcode act)
 act_alike m other opcode (Plain e) h places = retired_alike m other opcode e (places e refl)
 act_alike m other opcode (Traps t) h places = refl
 act_alike m other opcode (Probes i o) h places =
-    subst (λ (x : Option Bool). AreAlike m (like m other) (meets m opcode (Probes i o)) (probed_as (like m other) opcode i o x)) (sym (judges_same m other i o h))
+    subst (λ (x : Option Bool). AreAlike m (like m other) (carried_out m opcode (Probes i o)) (probed_as (like m other) opcode i o x)) (sym (judges_same m other i o h))
     (probe_alike m other opcode i o (real_probe m.memory (tables_of m.world) m.world.psl.0 i (long_of o 0) (long_of o 1) (long_of o 2)))
 
 -- what a plain instruction stores it claimed
@@ -134,7 +134,7 @@ plain_places m other x is same e plain va h =
     ap (place_or_end other.memory) (same va (claims_reached (space_of m) script x is va claim)).place ∙ place_is m.memory other.memory answer.0 (place_for m intents.Write va) answer.1
 
 -- by the first clear modify bit, and by the outcome
-marked_alike : (m other : Machine) (x : Meant) (marked : Option ℕ) → AreAlike m (like m other) (meets m x.opcode x.act) (meets (like m other) x.opcode x.act) →
+marked_alike : (m other : Machine) (x : Meant) (marked : Option ℕ) → AreAlike m (like m other) (carried_out m x.opcode x.act) (carried_out (like m other) x.opcode x.act) →
     AreAlike m (like m other) (by_try m (unless_clear x marked)) (by_try (like m other) (unless_clear x marked))
 marked_alike m other x None alike = alike
 marked_alike m other x (Some va) alike = refl

@@ -7,7 +7,7 @@ use Rattle.vax_arch.specs.Fields.{current_of}
 use Rattle.vax_arch.specs.declared.mode.Intent.{Intent}
 use Rattle.vax_arch.specs.declared.mode.Intent.TheVariants.{Read, Write}
 use Rattle.vax_hw.specs.Machine.{Machine, is_clear, place_for, place_of, psw_of, retire, space_of, tables_of}
-use Rattle.vax_hw.specs.Real.{Retired, by_try, meets, one, probed_as, retired_with}
+use Rattle.vax_hw.specs.Real.{Retired, by_try, carried_out, one, probed_as, retired_with}
 use Rattle.vax_hw.specs.RealTables.{byte_by, place_or_end, real_probe}
 use Rattle.vax_hw.specs.declared.world.Exit.{Exit}
 use Rattle.vax_laws.specs.Laws.{ChangesWhatItReads}
@@ -71,12 +71,12 @@ probe_keeps : (m : Machine) (opcode : ℕ) (o : Operands) (i : Intent) (judged :
 probe_keeps m opcode o i (Some is_accessible) = effect_keeps m opcode (probed is_accessible o (psw_of m.world)) (λ va h. absurd h)
 probe_keeps m opcode o i None = tt
 
-act_keeps : (m : Machine) (opcode : ℕ) (act : Act) → ((e : Effect) → act ≡ Plain e → (va : ℕ) → IsIn va (bytes_of_stores e.writes) → IsIn (place_of m va) (places_read m)) → KeepsElsewhere m (meets m opcode act)
+act_keeps : (m : Machine) (opcode : ℕ) (act : Act) → ((e : Effect) → act ≡ Plain e → (va : ℕ) → IsIn va (bytes_of_stores e.writes) → IsIn (place_of m va) (places_read m)) → KeepsElsewhere m (carried_out m opcode act)
 act_keeps m opcode (Plain e) h = effect_keeps m opcode e (h e refl)
 act_keeps m opcode (Traps t) h = tt
 act_keeps m opcode (Probes i o) h = probe_keeps m opcode o i (real_probe m.memory (tables_of m.world) m.world.psl.0 i (long_of o 0) (long_of o 1) (long_of o 2))
 
-marked_keeps : (m : Machine) (x : Meant) (marked : Option ℕ) → KeepsElsewhere m (meets m x.opcode x.act) → KeepsElsewhere m (by_try m (unless_clear x marked))
+marked_keeps : (m : Machine) (x : Meant) (marked : Option ℕ) → KeepsElsewhere m (carried_out m x.opcode x.act) → KeepsElsewhere m (by_try m (unless_clear x marked))
 marked_keeps m x None h = h
 marked_keeps m x (Some va) h = tt
 

@@ -1,28 +1,14 @@
 ghost use Rattle.std.specs.Prelude.{◌≡◌, ◌≤◌, ◌<◌, ◌%◌, ◌^◌, IfSome};
 ghost use Rattle.vv_base.specs.Width.{size_of};
 ghost use Rattle.vax_table.specs.Operand.{address_of, base_address, extended, indexed_by, place};
-ghost use Rattle.vax_table.specs.Reading.{displacement_size};
 ghost use Rattle.vax_table.specs.Script.{outcome};
 ghost use Rattle.vax_table.specs.Standing.{IsFormed};
 ghost use Rattle.vax_operand.specs.Left.{placed};
 
 use crate::space::Space;
-use vax_table::Spec;
 use vax_table::evaluation::Trouble;
+use vax_table::{Spec, displacement_width};
 use vv_base::Width;
-
-/// The width of the displacement in the modes A to F.
-pub fn displacement_width(mode: u8) -> Width
-    ensures { size_of result ≡ displacement_size mode }
-{
-    if mode < 12 {
-        Width::Byte
-    } else if mode < 14 {
-        Width::Word
-    } else {
-        Width::Long
-    }
-}
 
 /// A displacement of a width, sign-extended to 32 bits.
 pub fn extended(w: Width, value: u64) -> u32

@@ -2,13 +2,11 @@ ghost use Rattle.std.specs.Prelude.{◌≡◌, ◌≤◌, ◌<◌, if◌then◌e
 ghost use Rattle.vax_table.specs.Operand.{behind_bytes, forms_in, no_operands, operand_length, operand_of, operands_from, operands_of, plus, trap_operands};
 ghost use Rattle.vax_table.specs.Rows.{row_of};
 ghost use Rattle.vax_table.specs.Script.{outcome};
-ghost use Rattle.vax_table.specs.Spelled.{value_size};
 ghost use Rattle.vax_table.specs.Spelling.{IsWellFormed, view};
 ghost use Rattle.vax_table.specs.Standing.{AllFit, AllStand, Fits, Stands};
 ghost use Rattle.vax_table.specs.Troubles.{told};
 ghost use Rattle.vax_operand.specs.Left.{evaluated_as, joined, left};
 
-use crate::address::displacement_width;
 use crate::operand::{
     Worth, address_operand, bits_operand, branch_operand, modified_operand, read_operand,
     written_operand,
@@ -18,22 +16,8 @@ use crate::values::Values;
 use arrayvec::ArrayVec;
 use vax_decode::Decoded;
 use vax_table::evaluation::{Operands, Trouble};
-use vax_table::{Access, Dest, Form, Spec, row};
+use vax_table::{Access, Dest, Form, Spec, row, value_size};
 use vv_base::Width;
-
-/// The bytes of an operand behind its specifier's first.
-#[tactic(auto, unfolding(vax_table::specs::Spelled::value_size))]
-fn value_size(form: Form, spec: &Spec) -> u32
-    ensures value { result ≡ value_size form spec.now }
-    ensures most { result ≤ 8 }
-{
-    match (spec.mode, spec.reg) {
-        (8, 15) => u32::from(form.width.bytes()),
-        (9, 15) => 4,
-        (0..=9, _) => 0,
-        (mode, _) => u32::from(displacement_width(mode).bytes()),
-    }
-}
 
 /// The bytes of an operand in the instruction.
 fn operand_length(form: Form, spec: &Spec) -> u32
@@ -43,9 +27,9 @@ fn operand_length(form: Form, spec: &Spec) -> u32
     if form.access == Access::Branch {
         u32::from(form.width.bytes())
     } else if spec.index.is_some() {
-        2 + value_size(form, spec)
+        2 + u32::from(value_size(form, spec))
     } else {
-        1 + value_size(form, spec)
+        1 + u32::from(value_size(form, spec))
     }
 }
 

@@ -14,7 +14,7 @@ use Rattle.vax_table.specs.Reading.{Answer, Whole, Short, Unknown, Reserved, dec
 use Rattle.vax_table.specs.Rows.{row_of}
 use Rattle.vax_table.specs.Script.{Script, Space, outcome}
 use Rattle.vax_table.specs.Spelling.{Instruction}
-use Rattle.vax_table.specs.Whole.{Act, Meant, Plain, Probes, Traps, acted, acted_by, instruction, is_always_done, meant, plainly, probing, trapped}
+use Rattle.vax_table.specs.Whole.{Act, Meant, Plain, Probes, Traps, acted, acted_by, instruction, is_always_done, meant, plainly, probing, trapping}
 use Rattle.vax_table.specs.declared.act.Sens.{Sens}
 use Rattle.vax_table.specs.declared.effect.Store.{Store}
 use Rattle.vax_table.specs.declared.evaluation.Operands.{Operands}
@@ -42,7 +42,7 @@ ActClaims cs (Probes intent o) = cs ≡ []
 abbrev pub MeantClaims : List ℕ → Meant → Type 0
 MeantClaims cs m = ActClaims cs m.act
 
-trap_holds : (op : Sens) (d : Instruction) (r : List ℕ) → Holds MeantClaims [] (trapped op d r)
+trap_holds : (op : Sens) (d : Instruction) (r : List ℕ) → Holds MeantClaims [] (trapping op d r)
 trap_holds op d r = holds-bind Anything MeantClaims [] (trap_operands d r) _ (any_end [] (trap_operands d r)) (λ ds o h. tt)
 
 plain_holds : (psl : ℕ) (d : Instruction) (r : List ℕ) → Holds MeantClaims [] (plainly psl d r)

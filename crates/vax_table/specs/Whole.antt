@@ -38,9 +38,9 @@ pub record Meant : Type 0 where
 abbrev pub meant : ℕ → Act → Meant
 meant opcode act = record { opcode = opcode; act = act }
 
-abbrev pub is_kernel : Mode → Bool
-is_kernel Kernel = true
-is_kernel mode = false
+abbrev pub is_kernel_mode : Mode → Bool
+is_kernel_mode Kernel = true
+is_kernel_mode mode = false
 
 -- CHM and REI are done in every mode, the other sensitive instructions in kernel mode alone
 abbrev pub is_always_done : Sens → Bool
@@ -65,8 +65,8 @@ trap_of op o = record {
   regs = take 15 o.r;
 }
 
-abbrev pub trapped : Sens → Instruction → List ℕ → Script Meant
-trapped op d r = trap_operands d r >>= λ o. Done (meant d.opcode (Traps (trap_of op o)))
+abbrev pub trapping : Sens → Instruction → List ℕ → Script Meant
+trapping op d r = trap_operands d r >>= λ o. Done (meant d.opcode (Traps (trap_of op o)))
 
 abbrev pub probe_of : Intent → Sens
 probe_of intents.Read = Prober
@@ -81,7 +81,7 @@ probing intent d r = operands_of d r >>= λ o. Done (meant d.opcode (Probes inte
 
 -- by what an instruction does
 abbrev pub acted_by : Bool → ℕ → Operation → Instruction → List ℕ → Script Meant
-acted_by kernel psl (Sensitive op) d r = if is_always_done op || kernel then trapped op d r else Refuse refusals.Instruction
+acted_by kernel psl (Sensitive op) d r = if is_always_done op || kernel then trapping op d r else Refuse refusals.Instruction
 acted_by kernel psl (Probe intent) d r = probing intent d r
 acted_by kernel psl operation d r = plainly psl d r
 

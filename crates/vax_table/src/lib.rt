@@ -13,6 +13,7 @@ mod lookup;
 mod meaning;
 mod meanings;
 mod plan_laws;
+mod sizes;
 
 pub use act::{Dest, Refusal, Sens, Trapped};
 pub use answer::{Alu, AluOp};
@@ -27,3 +28,4 @@ pub use plan_laws::{
     registers_are_kept, stores_are_claimed, stores_are_few, tries_are_local, tries_look_at_stores,
     troubles_are_reached,
 };
+pub use sizes::{displacement_width, value_size};

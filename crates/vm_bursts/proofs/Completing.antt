@@ -4,7 +4,7 @@ use Rattle.std.proofs.lemmas.Bool.{cases_eq}
 use Rattle.vax_arch.specs.Fields.{frame_of, is_modified}
 use Rattle.vax_arch.specs.Walk.{page_of, with_modify}
 use Rattle.vax_hw.specs.Machine.{Machine}
-use Rattle.vax_hw.specs.Real.{Retired, behind_trap, going_on, misses_after, one, real}
+use Rattle.vax_hw.specs.Real.{Retired, unless_trapped, going_on, misses_after, one, real}
 use Rattle.vax_hw.specs.declared.world.Exit.{Exit}
 use Rattle.vax_hw.specs.declared.world.Exit.TheVariants.{Arithmetic, Budget, Denied, Emulate, Modify, NotValid, Refused}
 use Rattle.vm_bursts.specs.Guarded.{Allows, IsCompleted, IsTried, IsUnfinished, OnlyBoth, Tells, opened_by}
@@ -74,7 +74,7 @@ module _ (opened : List ℕ) (m : Machine) (s : Shadowed) (g : GuestState) (k : 
   by_exit (Emulate trap) is t other = stops (Emulate trap) t (reached_by opened (Emulate trap) m s g k is t)
   by_exit (Refused r) is t other = stops (Refused r) t (reached_by opened (Refused r) m s g k is t)
 
-  by_trap : (x : Retired) (t : Option ℕ) → IsCompleted opened m s g t x.machine s → First (behind_trap (real 0) x.machine t)
+  by_trap : (x : Retired) (t : Option ℕ) → IsCompleted opened m s g t x.machine s → First (unless_trapped (real 0) x.machine t)
   by_trap x None c other = c
   by_trap x (Some kind) c other = c
 
@@ -98,7 +98,7 @@ module _ (opened : List ℕ) (m : Machine) (s : Shadowed) (g : GuestState) (k : 
   met_exit (Emulate trap) o t va is = cc
   met_exit (Refused r) o t va is = cc
 
-  met_trap : (x : Retired) (t : Option ℕ) → Met (behind_trap (real 0) x.machine t)
+  met_trap : (x : Retired) (t : Option ℕ) → Met (unless_trapped (real 0) x.machine t)
   met_trap x None va is = cc
   met_trap x (Some kind) va is = cc
 

@@ -22,7 +22,7 @@ use Rattle.vm_shadow.proofs.Making.{can_stand}
 use Rattle.vm_state.specs.Packets.{accepted, after_accept, busy_status, status_place}
 use Rattle.vm_state.specs.Partition.{guest_of, partition_of}
 use Rattle.vm_state.specs.Registers.{written}
-use Rattle.vm_state.specs.Sensitive.{Does, behind, move_to_register, mtpr_by, packet_taken, sensed, with_codes, with_effect}
+use Rattle.vm_state.specs.Sensitive.{Does, behind, move_to_register, mtpr_by, packet_taken, sensed, with_codes, with_register_effect}
 use Rattle.vm_state.specs.State.{Guest, HasPlace, State, state_of, tables_of}
 use Rattle.vm_state.specs.Translation.{frame_at, long_stored}
 use Rattle.vm_state.specs.declared.exception.Exc.TheVariants as excs
@@ -65,7 +65,7 @@ module _ (m : Machine) (s : Shadowed) (g : GuestState) (t : Trapped) (stands : S
         let all = chained size (state_of g) (behind (state_of g) t) (with_codes t.a w.0) (behind_keeps size (state_of g) t) (chained size (behind (state_of g) t) w.0 (with_codes t.a w.0) k (codes_keep size t.a w.0)) in
         subst (λ (x : State). CanStand x.tables) (sym w.2) (can_stand size (with_codes t.a w.0) (all.allowed stands.allowed))
 
-    comes : move_to_register whole t ≡ with_effect whole (with_codes t.a w.0) effect
+    comes : move_to_register whole t ≡ with_register_effect whole (with_codes t.a w.0) effect
     comes = ap (mtpr_by whole t.a) w.1
 
     left : Leaves effect (behind (state_of g) t) w.0

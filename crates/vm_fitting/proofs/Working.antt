@@ -7,7 +7,7 @@ use Rattle.vax_hw.specs.Machine.{Machine}
 use Rattle.vax_hw.specs.Real.{Retired, one}
 use Rattle.vax_table.specs.Claims.{addresses}
 use Rattle.vax_table.specs.PlanLaws.{bytes_of_stores}
-use Rattle.vax_table.specs.Whole.{is_kernel}
+use Rattle.vax_table.specs.Whole.{is_kernel_mode}
 use Rattle.vax_table.specs.declared.effect.Store.{Store}
 use Rattle.vax_table.proofs.Wholes.{exactly_claimed}
 use Rattle.vm_fitting.specs.Works.{MarksAreDropped, OneFrameIsDropped, RetiredStepsAreCounted, StepIsCounted, SwitchesRetell}

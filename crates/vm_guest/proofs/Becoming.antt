@@ -67,17 +67,6 @@ pub stored_present : (m : Machine) (k : Kept) (pa : ℕ) (bytes : List ℕ) (m' 
 stored_present m k pa bytes m' s' stands w p all =
     writes_keep m.memory k.shadow k.state (frames_from pa bytes) p s' stands.keeps stands.serves (moves_alone (frames_from pa bytes) m'.memory k.shadow s' (tables_of k.state) w.stands.keeps.fits w.stands.serves.told w.drops) all
 
--- with other bytes in its memory
-pub becomes_stored : (m : Machine) (k : Kept) (pa : ℕ) (bytes : List ℕ) (m' : Machine) (s' : Shadowed) → StoresAll pa bytes m k.shadow k.state m' s' → Becomes (with_bytes pa bytes (guest_in m.memory k)) m k m' (record { state = k.state; shadow = s' })
-becomes_stored m k pa bytes m' s' w = record {
-  guest = λ i. record { memory = w.memory i; state = state_of k.state };
-  stands = w.stands;
-  rest = w.only.rest;
-  only = record { size = w.only.size; other = w.only.other };
-  place = record { pages = refl; base = refl; start = refl };
-  tables = w.tables;
-}
-
 -- a line is typed in two parts
 pub typed_more : (xs ys : List ℕ) (c : ConsoleState) → all_typed ys (all_typed xs c) ≡ all_typed (xs ++ ys) c
 typed_more [] ys c = refl

@@ -55,7 +55,7 @@ pub record Becomes (h : Guest) (m : Machine) (k : Kept) (m' : Machine) (k' : Kep
   pub tables : k'.shadow.at ≡ k.shadow.at
 
 -- It has these registers then; it stands in every machine in which it stood.
-pub record Turns (x : State) (k k' : Kept) : Type 0 where
+pub record TakesState (x : State) (k k' : Kept) : Type 0 where
   pub state : state_of k'.state ≡ x
   pub place : HasPlace k.state.pages k.state.base k.state.start k'.state
   pub shadow : k'.shadow ≡ k.shadow

@@ -2,7 +2,7 @@ ghost use Rattle.std.specs.Prelude.{◌≡◌, ◌≤◌, ◌+◌, ◌*◌, ◌�
 ghost use Rattle.vm_console.specs.Appends.{Appends};
 ghost use Rattle.vm_fitting.specs.Moves.{Drops};
 ghost use Rattle.vm_fitting.specs.Paid.{Pays};
-ghost use Rattle.vm_guest.specs.Kept.{Becomes, IsNew, KeepsPresent, StandsIn, Turns, bytes_at, commanded_to_stop, frames_from, guest_in, stop_message, with_bytes, with_line};
+ghost use Rattle.vm_guest.specs.Kept.{Becomes, IsNew, KeepsPresent, StandsIn, TakesState, bytes_at, commanded_to_stop, frames_from, guest_in, stop_message, with_bytes, with_line};
 ghost use Rattle.vm_state.specs.Allowed.{AreAllowed};
 ghost use Rattle.vm_state.specs.Start.{started};
 ghost use Rattle.vm_state.specs.State.{HasPlace, state_of};
@@ -95,7 +95,7 @@ impl Guest {
 
     /// Stops it by a command, if it runs, and shows that.
     pub fn stop<T: Port>(&mut self, port: &mut T)
-        ensures turns { Turns (commanded_to_stop (state_of self.old.state)) self.old self.new }
+        ensures turns { TakesState (commanded_to_stop (state_of self.old.state)) self.old self.new }
         ensures shown { Appends T.may port.old port.new (stop_message (state_of self.old.state)) }
     {
         match self.state.halt {
@@ -124,7 +124,7 @@ impl Guest {
 
     /// A line is typed at its console, with a carriage return behind it, as far as it fits.
     pub fn type_line(&mut self, text: &[u8])
-        ensures { Turns (with_line text.now (state_of self.old.state)) self.old self.new }
+        ensures { TakesState (with_line text.now (state_of self.old.state)) self.old self.new }
     {
         type_line(&mut self.state.console, text);
     }
@@ -152,14 +152,14 @@ impl Guest {
     /// Takes the packets that wait, in order; none waits any more.
     pub fn take_queue(&mut self) -> ArrayVec<u32, 8>
         ensures packets { result.items ≡ self.old.state.queue.items }
-        ensures turns { Turns (record (state_of self.old.state) { queue = [] }) self.old self.new }
+        ensures turns { TakesState (record (state_of self.old.state) { queue = [] }) self.old self.new }
     {
         std::mem::replace(&mut self.state.queue, ArrayVec::new())
     }
 
     /// Requests the interrupt of transfers.
     pub fn post_kcall(&mut self)
-        ensures { Turns (record (state_of self.old.state) { kcall_due = true }) self.old self.new }
+        ensures { TakesState (record (state_of self.old.state) { kcall_due = true }) self.old self.new }
     {
         self.state.kcall_due = true;
     }

@@ -6,41 +6,45 @@ ghost use Rattle.vm_guest.specs.Kept.{StandsIn};
 use crate::draw::Draw;
 use crate::events::{drawn_event, happen};
 use crate::guests::drawn_guest;
+use crate::tally::{Look, Tally};
 use std::alloc::Global;
 use std::process::Abort;
 use std::test::Fail;
-use vm_stage::{Kinds, Quanta, Snapshot, Stage, sums};
+use vm_stage::{Quanta, Snapshot, Stage, sums};
 use vv_base::NoMemory;
 
-/// The same guest three times, and the kinds of the steps that it took.
+/// The same guest three times, and what its steps did, as far as each was taken on a new machine.
 #[derive(Drop)]
 struct Three {
     whole: Stage,
     single: Stage,
     carried: Stage,
-    kinds: Kinds,
+    tally: Tally,
 }
 
-/// Steps, of which so many at the front are each taken on a new machine, by their kinds.
+/// Steps, of which so many at the front are each taken on a new machine; what they did.
 fn play_carried(
     alloc: Global,
     stage: Stage,
     steps: u32,
     apart: u32,
-) -> Result<(Stage, Kinds), NoMemory>
+) -> Result<(Stage, Tally), NoMemory>
     requires { StandsIn stage.machine.memory stage.guest }
     ensures { IfOk result (λ x. StandsIn x.0.machine.memory x.0.guest) }
 {
     let mut stage = stage;
-    let mut kinds = [0; 7];
+    let mut tally = Tally::none();
     let together = steps.saturating_sub(apart);
     for _ in together..steps {
+        let here = Look::at(&stage);
         stage = stage.carried(alloc)?;
-        let one = stage.play(1, Quanta::Cut(0));
-        kinds = sums(&kinds, &one);
+        let kinds = stage.play(1, Quanta::Cut(0));
+        let deeds = here.deeds(&Look::at(&stage), &kinds);
+        tally = tally.and(&Tally { kinds, deeds });
     }
     let rest = stage.play(together, Quanta::Cut(0));
-    Ok((stage, sums(&kinds, &rest)))
+    tally.kinds = sums(&tally.kinds, &rest);
+    Ok((stage, tally))
 }
 
 /// The three are the same.
@@ -88,14 +92,14 @@ fn play(
         mut whole,
         mut single,
         carried,
-        kinds: before,
+        tally: before,
     } = three;
     let steps = 1 + draw.below(40);
     let kinds = whole.play(steps, Quanta::Cut(0));
     let singly = single.play(steps, Quanta::Single);
-    let (mut carried, others) = play_carried(alloc, carried, steps, apart)?;
+    let (mut carried, tally) = play_carried(alloc, carried, steps, apart)?;
     assert_eq!(rt; kinds, singly, "{case:?} singly");
-    assert_eq!(rt; kinds, others, "{case:?} carried");
+    assert_eq!(rt; kinds, tally.kinds, "{case:?} carried");
     let event = drawn_event(draw);
     let mode = draw.mode();
     happen(&mut whole, event, mode);
@@ -105,7 +109,7 @@ fn play(
         whole,
         single,
         carried,
-        kinds: sums(&before, &kinds),
+        tally: before.and(&tally),
     };
     are_same(rt, alloc, &three, case)?;
     Ok(three)
@@ -124,22 +128,25 @@ fn drawn_three(alloc: Global, seed: u32) -> Result<Three, NoMemory>
         whole,
         single,
         carried,
-        kinds: [0; 7],
+        tally: Tally::none(),
     })
 }
 
 /// Guests that are drawn from every other seed from one on, each for so many rounds of 1 to 40 steps, of which so many are
-/// taken on new machines; how many steps of each kind there are at least, and how many are stopped at most.
+/// taken on new machines; how many steps each guest takes at least that aren't stopped; how many steps of each kind there are at
+/// least, and how many that do each thing; and how many are stopped at most.
+#[derive(Clone, Copy)]
 struct Plan {
     first: u32,
     guests: u32,
     rounds: u32,
     apart: u32,
-    least: Kinds,
+    each: u64,
+    least: Tally,
     most_stopped: u64,
 }
 
-/// The rounds from this one to the last, in each of which so many steps are taken on new machines; the kinds of all steps.
+/// The rounds from this one to the last, in each of which so many steps are taken on new machines; what all steps did.
 fn play_from(
     rt: &impl Abort,
     alloc: Global,
@@ -147,7 +154,7 @@ fn play_from(
     draw: &mut Draw,
     plan: &Plan,
     case: (u32, u32),
-) -> Result<Kinds, Fail>
+) -> Result<Tally, Fail>
     requires whole { StandsIn three.whole.machine.memory three.whole.guest }
     requires single { StandsIn three.single.machine.memory three.single.guest }
     requires carried { StandsIn three.carried.machine.memory three.carried.guest }
@@ -157,35 +164,41 @@ fn play_from(
         let three = play(rt, alloc, three, draw, plan.apart, case)?;
         play_from(rt, alloc, three, draw, plan, (seed, round + 1))
     } else {
-        Ok(three.kinds)
+        Ok(three.tally)
     }
 }
 
-/// A drawn guest, in its rounds.
-fn play_rounds(rt: &impl Abort, alloc: Global, plan: &Plan, seed: u32) -> Result<Kinds, Fail> {
-    let mut draw = Draw::new(seed.wrapping_mul(0x9E37_79B1));
-    let three = drawn_three(alloc, seed)?;
-    play_from(rt, alloc, three, &mut draw, plan, (seed, 0))
+/// How many steps there were that aren't stopped.
+fn active(tally: &Tally) -> u64 {
+    let [plain, sensitive, faults, interrupts, modify, idle, _] = tally.kinds;
+    [sensitive, faults, interrupts, modify, idle]
+        .iter()
+        .fold(plain, |sum, count| sum.saturating_add(*count))
 }
 
-/// Whether there are enough steps of each kind.
-fn are_enough(plan: &Plan, kinds: &Kinds) -> bool {
-    let [.., stopped] = *kinds;
-    stopped <= plan.most_stopped
-        && kinds
-            .iter()
-            .zip(plan.least.iter())
-            .all(|(count, least)| *least <= *count)
+/// A drawn guest, in its rounds.
+fn play_rounds(rt: &impl Abort, alloc: Global, plan: &Plan, seed: u32) -> Result<Tally, Fail> {
+    let mut draw = Draw::new(seed.wrapping_mul(0x9E37_79B1));
+    let three = drawn_three(alloc, seed)?;
+    let tally = play_from(rt, alloc, three, &mut draw, plan, (seed, 0))?;
+    assert!(rt; plan.each <= active(&tally), "{seed} {tally:?}");
+    Ok(tally)
+}
+
+/// Whether enough steps were of each kind and did each thing, and few enough are stopped.
+fn are_enough(plan: &Plan, tally: &Tally) -> bool {
+    let [.., stopped] = tally.kinds;
+    stopped <= plan.most_stopped && tally.is_at_least(&plan.least)
 }
 
 /// All guests of a plan.
 fn play_guests(rt: &impl Abort, alloc: Global, plan: &Plan) -> Result<(), Fail> {
-    let mut kinds = [0; 7];
+    let mut tally = Tally::none();
     for k in 0..plan.guests {
         let own = play_rounds(rt, alloc, plan, plan.first.wrapping_add(k.wrapping_mul(2)))?;
-        kinds = sums(&kinds, &own);
+        tally = tally.and(&own);
     }
-    assert!(rt; are_enough(plan, &kinds), "{kinds:?}");
+    assert!(rt; are_enough(plan, &tally), "{tally:?}");
     Ok(())
 }
 
@@ -195,7 +208,11 @@ static MANY: Plan = Plan {
     guests: 200,
     rounds: 6,
     apart: 2,
-    least: [10_000, 5000, 1500, 400, 200, 20, 0],
+    each: 0,
+    least: Tally {
+        kinds: [10_000, 5000, 1500, 400, 100, 20, 0],
+        deeds: [0; 7],
+    },
     most_stopped: 1000,
 };
 
@@ -205,19 +222,29 @@ static LONG: Plan = Plan {
     guests: 8,
     rounds: 100,
     apart: 1,
-    least: [5000, 3000, 500, 300, 20, 0, 0],
+    each: 1000,
+    least: Tally {
+        kinds: [5000, 3000, 500, 300, 10, 0, 0],
+        deeds: [0; 7],
+    },
     most_stopped: 1000,
 };
 
-/// Guests each of whose steps is taken on a new machine.
-static APART: Plan = Plan {
-    first: 2001,
-    guests: 20,
-    rounds: 6,
-    apart: 40,
-    least: [800, 400, 80, 20, 10, 0, 0],
-    most_stopped: 100,
-};
+/// Two guests, one with modify faults, for some two thousand steps each, each of which is taken on a new machine.
+fn apart(first: u32) -> Plan {
+    Plan {
+        first,
+        guests: 2,
+        rounds: 100,
+        apart: 40,
+        each: 1000,
+        least: Tally {
+            kinds: [800, 400, 60, 30, 2, 0, 0],
+            deeds: [3, 40, 2, 150, 15, 15, 15],
+        },
+        most_stopped: 800,
+    }
+}
 
 #[test]
 fn many_guests(rt: HostRuntime) -> Result<(), Fail> {
@@ -230,6 +257,51 @@ fn long_runs(rt: HostRuntime) -> Result<(), Fail> {
 }
 
 #[test]
-fn each_step_apart(rt: HostRuntime) -> Result<(), Fail> {
-    play_guests(&rt, rt.alloc(), &APART)
+fn each_step_apart_from_2001(rt: HostRuntime) -> Result<(), Fail> {
+    play_guests(&rt, rt.alloc(), &apart(2001))
+}
+
+#[test]
+fn each_step_apart_from_2005(rt: HostRuntime) -> Result<(), Fail> {
+    play_guests(&rt, rt.alloc(), &apart(2005))
+}
+
+#[test]
+fn each_step_apart_from_2009(rt: HostRuntime) -> Result<(), Fail> {
+    play_guests(&rt, rt.alloc(), &apart(2009))
+}
+
+#[test]
+fn each_step_apart_from_2013(rt: HostRuntime) -> Result<(), Fail> {
+    play_guests(&rt, rt.alloc(), &apart(2013))
+}
+
+#[test]
+fn each_step_apart_from_2017(rt: HostRuntime) -> Result<(), Fail> {
+    play_guests(&rt, rt.alloc(), &apart(2017))
+}
+
+#[test]
+fn each_step_apart_from_2021(rt: HostRuntime) -> Result<(), Fail> {
+    play_guests(&rt, rt.alloc(), &apart(2021))
+}
+
+#[test]
+fn each_step_apart_from_2025(rt: HostRuntime) -> Result<(), Fail> {
+    play_guests(&rt, rt.alloc(), &apart(2025))
+}
+
+#[test]
+fn each_step_apart_from_2029(rt: HostRuntime) -> Result<(), Fail> {
+    play_guests(&rt, rt.alloc(), &apart(2029))
+}
+
+#[test]
+fn each_step_apart_from_2033(rt: HostRuntime) -> Result<(), Fail> {
+    play_guests(&rt, rt.alloc(), &apart(2033))
+}
+
+#[test]
+fn each_step_apart_from_2037(rt: HostRuntime) -> Result<(), Fail> {
+    play_guests(&rt, rt.alloc(), &apart(2037))
 }

@@ -1,6 +1,7 @@
 //! Instructions at random, each at a place that is a multiple of 16.
 
-use crate::draw::{Draw, TABLES, entry};
+use crate::draw::{Draw, FIRST_FAR, TABLES, entry};
+use crate::forms::{FORMS, WRITES};
 
 /// So many bytes of code.
 const SIZE: usize = 0x800;
@@ -11,102 +12,6 @@ pub struct Code {
     bytes: [u8; 0x800],
     len: usize,
 }
-
-/// Instructions by their opcodes, with the sizes of their operands; a branch displacement has size 0.
-static FORMS: [(u8, &'static [u8]); 64] = [
-    (0x90, &[1, 1]),
-    (0xB0, &[2, 2]),
-    (0xD0, &[4, 4]),
-    (0xD0, &[4, 4]),
-    (0xD0, &[4, 4]),
-    (0xD0, &[4, 4]),
-    (0x7D, &[8, 8]),
-    (0x7D, &[8, 8]),
-    (0x7C, &[8]),
-    (0x80, &[1, 1]),
-    (0xA0, &[2, 2]),
-    (0xC0, &[4, 4]),
-    (0xC0, &[4, 4]),
-    (0xC1, &[4, 4, 4]),
-    (0xC1, &[4, 4, 4]),
-    (0xC2, &[4, 4]),
-    (0xC4, &[4, 4]),
-    (0xC6, &[4, 4]),
-    (0xC8, &[4, 4]),
-    (0xCA, &[4, 4]),
-    (0xCC, &[4, 4]),
-    (0xD1, &[4, 4]),
-    (0xD1, &[4, 4]),
-    (0xD4, &[4]),
-    (0xD5, &[4]),
-    (0xD6, &[4]),
-    (0xD6, &[4]),
-    (0xD7, &[4]),
-    (0x94, &[1]),
-    (0x96, &[1]),
-    (0x9A, &[1, 4]),
-    (0x98, &[1, 4]),
-    (0xF6, &[4, 1]),
-    (0x78, &[1, 4, 4]),
-    (0x9C, &[1, 4, 4]),
-    (0xDE, &[4, 4]),
-    (0xDD, &[4]),
-    (0xDD, &[4]),
-    (0xDF, &[4]),
-    (0xD8, &[4, 4]),
-    (0x12, &[0]),
-    (0x13, &[0]),
-    (0x14, &[0]),
-    (0x19, &[0]),
-    (0x10, &[0]),
-    (0x05, &[]),
-    (0xF5, &[4, 0]),
-    (0xF2, &[4, 4, 0]),
-    (0xE0, &[4, 1, 0]),
-    (0xE2, &[4, 1, 0]),
-    (0xE2, &[4, 1, 0]),
-    (0xE8, &[4, 0]),
-    (0xE9, &[4, 0]),
-    (0xDC, &[4]),
-    (0x0C, &[1, 2, 1]),
-    (0x0C, &[1, 2, 1]),
-    (0x0D, &[1, 2, 1]),
-    (0x0D, &[1, 2, 1]),
-    (0x03, &[]),
-    (0xFC, &[]),
-    (0x02, &[]),
-    (0x07, &[]),
-    (0xBB, &[2]),
-    (0xBA, &[2]),
-];
-
-/// What MTPR writes: register numbers, each with a value and how much is drawn to it.
-static WRITES: [(u8, u32, u32); 24] = [
-    (0, 0x8000_2F00, 0x100),
-    (1, 0x2500, 0x100),
-    (3, 0x2900, 0x100),
-    (4, 0x8000_3700, 0x100),
-    (8, 0x8000_4200, 1),
-    (8, 0x8000_4600, 1),
-    (8, 0x8000_4800, 1),
-    (9, 0x7A, 10),
-    (11, 0x1F_FFF0, 0x11),
-    (12, 0x4000, 1),
-    (13, 58, 8),
-    (18, 0, 4),
-    (18, 0, 32),
-    (19, 0, 5),
-    (20, 1, 15),
-    (20, 1, 15),
-    (24, 0x51, 1),
-    (24, 0xD1, 1),
-    (25, 0xFFFF_FFC0, 0x40),
-    (32, 0, 0x80),
-    (34, 0, 0x80),
-    (35, 0x20, 0x60),
-    (56, 0, 8),
-    (58, 0, 0x1000),
-];
 
 impl Code {
     /// No code.
@@ -235,8 +140,8 @@ impl Code {
     /// that table, and INCL of the longword.
     fn push_touches(&mut self, draw: &mut Draw) {
         let page = draw.touched_page();
-        let va = 512 * page + draw.below(508);
-        let table = draw.table_address();
+        let (space, table) = draw.space_and_table();
+        let va = space.wrapping_add(512 * page + draw.below(508));
         self.push_absolute(&[0xD5], va);
         if draw.one_of(2) {
             self.push_absolute(&[0xC8, 0x00], table.wrapping_add(0x1FE));
@@ -244,6 +149,33 @@ impl Code {
         self.end_instruction();
         self.push_absolute(&[0xCC, 0x01], table.wrapping_add(4 * page));
         self.push_absolute(&[0xD6], va);
+    }
+
+    /// TSTL of a longword in a far page, and MTPR to PCBB of the place of the far pages' entries in its table; two PUSHL, SVPCTX,
+    /// which writes over these entries, and INCL of the longword.
+    fn push_block(&mut self, draw: &mut Draw) {
+        let (space, table) = draw.space_and_table();
+        let va = space.wrapping_add(512 * (FIRST_FAR + draw.below(4)) + draw.below(508));
+        self.push_absolute(&[0xD5], va);
+        self.push(0xDA);
+        self.push_immediate_long(table % 0x8000 + 4 * FIRST_FAR);
+        self.push(0x10);
+        self.end_instruction();
+        for byte in [0xDD, 0x00, 0xDD, 0x00, 0x07] {
+            self.push(byte);
+        }
+        self.push_absolute(&[0xD6], va);
+    }
+
+    /// TSTL of a longword of data, and MTPR of a table of P0; MTPR of a table of P1, and TSTL of another.
+    fn push_turn(&mut self, draw: &mut Draw) {
+        self.push_absolute(&[0xD5], draw.data());
+        self.push_table(draw);
+        self.end_instruction();
+        self.push(0xDA);
+        self.push_immediate_long(0x7F80_4310 + 4 * draw.below(4));
+        self.push(0x0A);
+        self.push_absolute(&[0xD5], draw.data());
     }
 
     /// MTPR of a value that is mostly allowed.
@@ -260,6 +192,15 @@ impl Code {
         self.push(0xDB);
         self.push(draw.byte() % 0x40);
         self.push_operand(draw, 4);
+    }
+
+    /// BISPSW of the bit by which an overflow traps, and CVTLB of a number that is mostly too great.
+    fn push_overflow(&mut self, draw: &mut Draw) {
+        for byte in [0xB8, 0x20, 0xF6] {
+            self.push(byte);
+        }
+        self.push_immediate_long(draw.address());
+        self.push(0x58);
     }
 
     /// PUSHL of a status longword and of the place of an instruction.
@@ -343,9 +284,12 @@ impl Code {
             0 | 1 => self.push_pointer(draw),
             2 | 3 => self.push_change(draw),
             4 => self.push_write(draw),
+            5 if draw.one_of(2) => self.push_overflow(draw),
             5 => self.push_read(draw),
             6 | 7 => self.push_switch(draw),
-            8 | 9 | 10 if self.len % 32 == 0 => self.push_touches(draw),
+            8 | 9 if self.len % 32 == 0 => self.push_touches(draw),
+            10 if self.len % 32 == 0 && draw.one_of(3) => self.push_block(draw),
+            10 | 11 if self.len % 32 == 0 => self.push_turn(draw),
             _ => {
                 let (opcode, sizes) = FORMS[(draw.below(64) % 64) as usize];
                 self.push(opcode);

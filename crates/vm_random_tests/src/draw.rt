@@ -13,16 +13,16 @@ const FIRST_OF_DATA: u32 = 44;
 
 const PAGES_OF_DATA: u32 = 8;
 
-/// The far pages of P0 are four from this one on; their entries are where stacks of outer modes lie.
-const FIRST_FAR: u32 = 92;
+/// The far pages are four from this one on; their entries are where stacks of outer modes lie.
+pub const FIRST_FAR: u32 = 92;
 
 /// Whether data lie in it.
 pub fn is_data(page: u32) -> bool {
     (FIRST_OF_DATA..FIRST_OF_DATA + PAGES_OF_DATA).contains(&page) || FIRST_FAR <= page
 }
 
-/// The tables' physical addresses: that of S, and three of P0.
-pub static TABLES: [u32; 4] = [0x4000, 0x4200, 0x4600, 0x4800];
+/// The tables' physical addresses: that of S, three of P0, and another of S.
+pub static TABLES: [u32; 5] = [0x4000, 0x4200, 0x4600, 0x4800, 0x4A00];
 
 impl Draw {
     /// One that begins with a number, which isn't 0.
@@ -80,13 +80,23 @@ impl Draw {
 
     /// The physical address of a table.
     fn table(&mut self) -> u32 {
-        TABLES[(self.below(4) % 4) as usize]
+        TABLES[(self.below(5) % 5) as usize]
     }
 
     /// The address of a table in S, or the same in P0.
     pub fn table_address(&mut self) -> u32 {
         let space = if self.one_of(3) { 0 } else { 0x8000_0000 };
         self.table().wrapping_add(space)
+    }
+
+    /// Where S or P0 begins, and the address of a table of it, in S or in P0.
+    pub fn space_and_table(&mut self) -> (u32, u32) {
+        let table = self.table_address();
+        if self.one_of(2) {
+            (0x8000_0000, table / 0x8000 * 0x8000 + 0x4000)
+        } else {
+            (0, table)
+        }
     }
 
     /// The physical address of an entry for a page, in some table.
@@ -123,13 +133,14 @@ impl Draw {
                 let page = self.page();
                 0x8000_0000 + self.entry_place(page) % 0x8000
             }
-            3 => 512 * FIRST_FAR + self.below(0x800),
+            3 => 512 * FIRST_FAR + self.below(0x800) + 0x8000_0000 * self.below(2),
             4 | 5 | 6 => 0x8000_0000 + self.data() % 0x8000,
             _ => self.data(),
         }
     }
 
-    /// A status longword of a mode, which is kernel more often than another; the mode before it is the same.
+    /// A status longword of a mode, which is kernel more often than another; the mode before it is the same. For half of them
+    /// an overflow traps.
     pub fn status(&mut self) -> u32 {
         let mode = self.mode() % 4;
         let level = if mode == 0 && self.one_of(6) {
@@ -137,7 +148,7 @@ impl Draw {
         } else {
             0
         };
-        0x0140_0000 * mode + 0x1_0000 * (level % 24)
+        0x0140_0000 * mode + 0x1_0000 * (level % 24) + 0x20 * self.below(2)
     }
 
     /// A mode, which is kernel more often than another.

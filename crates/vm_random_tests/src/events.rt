@@ -4,17 +4,19 @@ ghost use Rattle.vm_guest.specs.Kept.{StandsIn};
 
 use crate::draw::{Draw, entry};
 use crate::guests::enter;
+use vm_stage::Place::{P0br, R, Sbr};
 use vm_stage::{Place, Stage};
 use vm_state::GuestState;
 
-/// What happens to a guest between its steps: a byte is typed, a transfer ends, a longword is stored, it starts, or it is
-/// stopped.
+/// What happens to a guest between its steps: a byte is typed, a transfer ends, a longword is stored, the entry of the page of a
+/// register's address is, it starts, or it is stopped.
 #[derive(Clone, Copy, Debug, PartialEq, Eq)]
 pub enum Event {
     Nothing,
     Type(u8),
     Transfer,
     Store(u32, u32),
+    Remap(usize, u32),
     Start,
     Stop,
 }
@@ -34,7 +36,11 @@ pub fn drawn_event(draw: &mut Draw) -> Event {
     match draw.below(16) {
         0 | 1 => Event::Type(draw.byte()),
         2 | 3 => Event::Transfer,
-        4 | 5 | 6 | 7 | 8 => drawn_store(draw),
+        4 | 5 | 6 => drawn_store(draw),
+        7 | 8 => {
+            let page = draw.data_page();
+            Event::Remap((draw.below(8) % 8) as usize, entry(draw, page))
+        }
         9 => Event::Start,
         10 => Event::Stop,
         _ => Event::Nothing,
@@ -65,6 +71,17 @@ fn go_on(state: &mut GuestState, mode: u32) -> bool {
     stood
 }
 
+/// The physical address of the entry for the page of a register's address.
+fn entry_of(state: &GuestState, n: usize) -> u32 {
+    let va = R(n).of(state);
+    let table = if va < 0x8000_0000 {
+        P0br.of(state) % 0x8000_0000
+    } else {
+        Sbr.of(state)
+    };
+    table.wrapping_add(va % 0x4000_0000 / 512 * 4)
+}
+
 /// What an event does besides.
 fn act(stage: &mut Stage, event: Event)
     requires { StandsIn stage.old.machine.memory stage.old.guest }
@@ -73,6 +90,10 @@ fn act(stage: &mut Stage, event: Event)
     match event {
         Event::Store(pa, v) => {
             let _ = stage.put(pa, &v.to_le_bytes());
+        }
+        Event::Remap(n, v) => {
+            let place = entry_of(stage.state(), n);
+            let _ = stage.put(place, &v.to_le_bytes());
         }
         Event::Start => stage.guest.start(&mut stage.machine),
         Event::Stop => stage.guest.stop(&mut stage.port),

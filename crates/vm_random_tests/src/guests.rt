@@ -6,7 +6,7 @@ ghost use Rattle.vm_guest.specs.Kept.{StandsIn};
 use crate::code::Code;
 use crate::draw::{Draw, TABLES, entry, is_data};
 use std::alloc::Global;
-use vm_stage::Place::{Iccs, Long, Nicr, P0lr, P1br, P1lr, Pcbb, Psl, R, Stack};
+use vm_stage::Place::{Iccs, Long, Nicr, P0lr, P1br, P1lr, Pcbb, Psl, R, Slr, Stack};
 use vm_stage::{Place, Stage};
 use vm_state::GuestState;
 use vv_base::NoMemory;
@@ -17,7 +17,7 @@ static BACK: [u8; 3] = [0x31, 0xFD, 0xF7];
 /// What a guest executes from its start on.
 static BEGIN: [u8; 68] = [
     0xDA, 0x8F, 0x00, 0x40, 0x00, 0x00, 0x0C, // 900 MTPR #4000, #SBR
-    0xDA, 0x8F, 0x40, 0x00, 0x00, 0x00, 0x0D, // 907 MTPR #40, #SLR
+    0xDA, 0x8F, 0x60, 0x00, 0x00, 0x00, 0x0D, // 907 MTPR #60, #SLR
     0xDA, 0x8F, 0x00, 0x42, 0x00, 0x80, 0x08, // 90E MTPR #80004200, #P0BR
     0xDA, 0x8F, 0x80, 0x00, 0x00, 0x00, 0x09, // 915 MTPR #80, #P0LR
     0xDA, 0x8F, 0x00, 0x44, 0x00, 0x00, 0x11, // 91C MTPR #4400, #SCBB
@@ -32,8 +32,9 @@ static BEGIN: [u8; 68] = [
 
 /// The handlers, in the page at 80001000: of an interrupt; of a fault, which goes on at the next multiple of 16 in the code,
 /// and of one with two parameters; of what has one parameter; of a kernel stack that isn't valid; of the clock, which goes on
-/// with the next of eight contexts; of CHMK, which does so; and of software level 2, which asks for no trap any more.
-static HANDLERS: [u8; 80] = [
+/// with the next of eight contexts; of CHMK, which does so; of software level 2, which asks for no trap any more; of a modify
+/// fault; and of an arithmetic trap.
+static HANDLERS: [u8; 86] = [
     0x02, 0x01, 0x01, 0x01, // 1000 REI
     0xC0, 0x10, 0x6E, // 1004 ADDL2 #10, (SP)
     0xCA, 0x8F, 0x0F, 0xF8, 0xFF, 0xFF, 0x6E, // 1007 BICL2 #FFFFF80F, (SP)
@@ -54,10 +55,12 @@ static HANDLERS: [u8; 80] = [
     0x11, 0xDC, // 104A BRB 1028
     0xDA, 0x04, 0x13, // 104C MTPR #4, #ASTLVL
     0x02, // 104F REI
+    0x11, 0xBE, 0x01, 0x01, // 1050 BRB 1010
+    0x11, 0xC2, // 1054 BRB 1018
 ];
 
 /// The vectors, the context that is next, and registers.
-static FIXED: [(Place, u32); 28] = [
+static FIXED: [(Place, u32); 29] = [
     (Long(0x1180), 0x5080),
     (Long(0x4408), 0x8000_101D),
     (Long(0x4410), 0x8000_1004),
@@ -67,8 +70,8 @@ static FIXED: [(Place, u32); 28] = [
     (Long(0x4420), 0x8000_1010),
     (Long(0x4424), 0x8000_1010),
     (Long(0x442C), 0x8000_1004),
-    (Long(0x4434), 0x8000_1018),
-    (Long(0x443C), 0x8000_1010),
+    (Long(0x4434), 0x8000_1054),
+    (Long(0x443C), 0x8000_1050),
     (Long(0x4440), 0x8000_1048),
     (Long(0x4444), 0x8000_1018),
     (Long(0x4448), 0x8000_1018),
@@ -77,6 +80,7 @@ static FIXED: [(Place, u32); 28] = [
     (Long(0x4490), 0x8000_1001),
     (Long(0x44C0), 0x8000_1028),
     (Pcbb, 0x5000),
+    (Slr, 0x60),
     (P0lr, 0x80),
     (P1br, 0x7F80_4320),
     (P1lr, 0x1F_FFF8),
@@ -88,11 +92,16 @@ static FIXED: [(Place, u32); 28] = [
     (Iccs, 0x51),
 ];
 
+/// The pages behind two tables of P0, which in some tables can't be written.
+static BEHIND: [u32; 2] = [34, 37];
+
 /// What an entry of a table becomes, if anything: those of data are mostly drawn; those of code, handlers, stacks and tables
 /// mostly stay, of some the modify bit is clear.
 fn drawn_entry(draw: &mut Draw, page: u32) -> Option<u32> {
     if is_data(page) && !draw.one_of(4) || draw.one_of(80) {
         Some(entry(draw, page))
+    } else if BEHIND.contains(&page) && draw.one_of(2) {
+        Some(0xF800_0000 + page % 64)
     } else if draw.one_of(4) {
         Some(0xA000_0000 + page % 64)
     } else {
@@ -184,8 +193,8 @@ pub fn enter(state: &mut GuestState, mode: u32) {
     R(14).put_into(state, STACKS[(mode % 4) as usize]);
 }
 
-/// Numbers in R0 to R13, and a mode.
-fn draw_registers(stage: &mut Stage, draw: &mut Draw)
+/// Numbers in R0 to R13, and a mode; and whether it has modify faults.
+fn draw_registers(stage: &mut Stage, draw: &mut Draw, faults: bool)
     requires { StandsIn stage.old.machine.memory stage.old.guest }
     ensures { StandsIn stage.new.machine.memory stage.new.guest }
 {
@@ -194,11 +203,11 @@ fn draw_registers(stage: &mut Stage, draw: &mut Draw)
         R(n).put_into(&mut state, draw.address());
     }
     enter(&mut state, draw.mode());
-    Place::ModifyFaults.put_into(&mut state, u32::from(draw.one_of(8)));
+    Place::ModifyFaults.put_into(&mut state, u32::from(faults));
     let _ = stage.set(state);
 }
 
-/// A guest that is drawn from a seed.
+/// A guest that is drawn from a seed. That of every other odd seed has modify faults.
 pub fn drawn_guest(alloc: Global, seed: u32) -> Result<Stage, NoMemory>
     ensures { IfOk result (λ stage. StandsIn stage.machine.memory stage.guest) }
 {
@@ -213,6 +222,6 @@ pub fn drawn_guest(alloc: Global, seed: u32) -> Result<Stage, NoMemory>
     draw_data(&mut stage, &mut draw);
     draw_blocks(&mut stage, &mut draw);
     let _ = stage.put_all(&FIXED);
-    draw_registers(&mut stage, &mut draw);
+    draw_registers(&mut stage, &mut draw, seed % 4 == 3);
     Ok(stage)
 }

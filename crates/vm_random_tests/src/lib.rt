@@ -11,4 +11,8 @@ mod draw;
 #[cfg(test)]
 mod events;
 #[cfg(test)]
+mod forms;
+#[cfg(test)]
 mod guests;
+#[cfg(test)]
+mod tally;

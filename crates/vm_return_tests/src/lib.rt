@@ -6,3 +6,5 @@
 mod loads;
 #[cfg(test)]
 mod refusals;
+#[cfg(test)]
+mod troubles;

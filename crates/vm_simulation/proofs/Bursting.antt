@@ -9,7 +9,7 @@ use Rattle.vax_arch.specs.declared.mode.Mode.{Mode}
 use Rattle.vax_arch.specs.declared.walk.Lookup.{Lookup}
 use Rattle.vax_arch.specs.declared.walk.Lookup.TheVariants.{Beyond, Direct, Fails, Found}
 use Rattle.vax_hw.specs.Machine.{Machine}
-use Rattle.vax_hw.specs.Real.{Retired, behind_trap, going_on, misses_after, one, real}
+use Rattle.vax_hw.specs.Real.{Retired, unless_trapped, going_on, misses_after, one, real}
 use Rattle.vax_hw.specs.declared.world.Exit.{Exit}
 use Rattle.vax_hw.specs.declared.world.Exit.TheVariants.{Arithmetic, Budget, Denied, Emulate, Modify, NotValid, Refused}
 use Rattle.vax_hw.specs.declared.world.World.{World}
@@ -420,7 +420,7 @@ Rest : ℕ → Machine → Shadowed → GuestState → Type 0
 Rest zero m s g = Unit {0}
 Rest (suc n) m s g = (x : Retired) → IsRetired [] m s g x → Burst (suc n) x.machine s (next_of x.machine.world g) (real (suc n) x.machine)
 
-behind : (n : ℕ) (m : Machine) (s : Shadowed) (g : GuestState) (x : Retired) (t : Option ℕ) → x.trap ≡ t → g.steps < 2 ^ 32 → RunsGuest [] m s g → IsRetired [] m s g x → IsQuiet (suc n) (state_of g) → Rest n m s g → Burst (suc n) m s g (behind_trap (real n) x.machine t)
+behind : (n : ℕ) (m : Machine) (s : Shadowed) (g : GuestState) (x : Retired) (t : Option ℕ) → x.trap ≡ t → g.steps < 2 ^ 32 → RunsGuest [] m s g → IsRetired [] m s g x → IsQuiet (suc n) (state_of g) → Rest n m s g → Burst (suc n) m s g (unless_trapped (real n) x.machine t)
 unfolding Burst Rest
 behind zero m s g x None is small k r q rest = used m s g x small k r is
 behind (suc n) m s g x None is small k r q rest = more n m s g x (real (suc n) x.machine).0 (real (suc n) x.machine).1 small k r is q (rest x r)

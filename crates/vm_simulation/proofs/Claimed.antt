@@ -4,7 +4,7 @@ use Rattle.std.proofs.lemmas.List.{map-append}
 use Rattle.vv_base.specs.Width.{size_of}
 use Rattle.vax_table.specs.Claims.{addresses}
 use Rattle.vax_table.specs.PlanLaws.{bytes_of_stores}
-use Rattle.vax_table.specs.Whole.{is_kernel}
+use Rattle.vax_table.specs.Whole.{is_kernel_mode}
 use Rattle.vax_table.specs.declared.effect.Store.{Store}
 use Rattle.vax_table.proofs.Wholes.{exactly_claimed}
 use Rattle.vm_simulation.specs.Laws.{ClaimedFramesAreWritten}
@@ -25,4 +25,4 @@ stores_frames h (x ∷ xs) =
 
 pub claimed_written : ClaimedFramesAreWritten
 claimed_written h opcode e done =
-    ap (map (λ va. frame_at (place_of h va))) (exactly_claimed (is_kernel (mode_of_state h.state)) h.state.psl h.state.r (space_of h) opcode e done) ∙ stores_frames h e.writes
+    ap (map (λ va. frame_at (place_of h va))) (exactly_claimed (is_kernel_mode (mode_of_state h.state)) h.state.psl h.state.r (space_of h) opcode e done) ∙ stores_frames h e.writes

@@ -5,7 +5,7 @@ use Rattle.vax_arch.specs.Fields.{current_of, is_modified}
 use Rattle.vax_arch.specs.declared.mode.Intent.{Intent}
 use Rattle.vax_arch.specs.declared.mode.Intent.TheVariants as intents
 use Rattle.vax_hw.specs.Machine.{Machine, is_clear as machine_clear, space_of as machine_space, tables_of as machine_tables}
-use Rattle.vax_hw.specs.Real.{by_try, is_write, meets, one, probed_as}
+use Rattle.vax_hw.specs.Real.{by_try, is_write, carried_out, one, probed_as}
 use Rattle.std.proofs.lemmas.Option.{none-some}
 use Rattle.vax_arch.specs.Ring.{ring_of}
 use Rattle.vax_arch.specs.declared.mode.Mode.{Mode}
@@ -200,7 +200,7 @@ module _ (opened : List ℕ) (m : Machine) (s : Shadowed) (g : GuestState) (k : 
       })
   probe_met opcode i o e (Some b) is t h = cc
 
-  act_met : (opcode : ℕ) (act : Act) (e : Exit) → guest_try (guest_of m.memory g) ≡ Completes (meant opcode act) → meets m opcode act ≡ Err e → Meets e m.memory s g
+  act_met : (opcode : ℕ) (act : Act) (e : Exit) → guest_try (guest_of m.memory g) ≡ Completes (meant opcode act) → carried_out m opcode act ≡ Err e → Meets e m.memory s g
   act_met opcode (Plain f) e t h = cc
   act_met opcode (Traps u) e t h = let same : Emulate u ≡ e = cc in subst (λ x. Meets x m.memory s g) same (record { opcode = opcode; act = Traps u; is = refl; try = t; unfilled = tt })
   act_met opcode (Probes i o) e t h = probe_met opcode i o e _ refl t h

@@ -8,7 +8,7 @@ use Rattle.vax_arch.specs.Walk.{page_of}
 use Rattle.vax_arch.specs.declared.mode.Intent.{Intent}
 use Rattle.vax_arch.specs.declared.mode.Intent.TheVariants as intents
 use Rattle.vax_hw.specs.Machine.{Machine, is_clear as machine_clear, place_of as machine_place, psw_of, retire, seen_psl, space_of as machine_space, tables_of as machine_tables}
-use Rattle.vax_hw.specs.Real.{Retired, by_try, in_kernel, meets, one, probed_as}
+use Rattle.vax_hw.specs.Real.{Retired, by_try, in_kernel, carried_out, one, probed_as}
 use Rattle.vax_hw.specs.RealTables.{both as both_judged, judged, place_in, place_or_end, real_probe}
 use Rattle.vax_table.specs.Claims.{claims}
 use Rattle.vax_table.specs.Probing.{last_of, probe_mode}
@@ -18,7 +18,7 @@ use Rattle.vax_table.specs.Script.{IsIn, Trouble, outcome}
 use Rattle.vax_table.specs.Stores.{all_stored}
 use Rattle.vax_table.specs.Trail.{term}
 use Rattle.vax_table.specs.Tries.{Clear, Completes, Stopped, Tried, TriedFar, first_clear, tried_by, unless_clear}
-use Rattle.vax_table.specs.Whole.{Act, Meant, Plain, Probes, Traps, is_kernel, meant}
+use Rattle.vax_table.specs.Whole.{Act, Meant, Plain, Probes, Traps, is_kernel_mode, meant}
 use Rattle.vax_table.specs.declared.evaluation.Operands.{Operands}
 use Rattle.vax_table.proofs.Wholes.{probes_claim_none, stores_claimed}
 use Rattle.vm_shadow.specs.Laws.{guest_place, real_place}
@@ -159,7 +159,7 @@ module _ (opened : List ℕ) (m : Machine) (s : Shadowed) (g : GuestState) (k : 
   guest_outcome x own = (completed (is_clear here) (claims (space_of here) (instruction_of here.state)) (outcome (space_of here) (instruction_of here.state)) x own).0
 
   -- a plain instruction
-  plain_retired : (opcode : ℕ) (e : Effect) (x : Retired) → machine_try opened m s g k ≡ Completes (meant opcode (Plain e)) → guest_try here ≡ Completes (meant opcode (Plain e)) → meets m opcode (Plain e) ≡ Ok x → IsRetired opened m s g x
+  plain_retired : (opcode : ℕ) (e : Effect) (x : Retired) → machine_try opened m s g k ≡ Completes (meant opcode (Plain e)) → guest_try here ≡ Completes (meant opcode (Plain e)) → carried_out m opcode (Plain e) ≡ Ok x → IsRetired opened m s g x
   plain_retired opcode e x is own h =
       let script = machine_instruction opened m s g k in
       let space = machine_space m in
@@ -193,13 +193,13 @@ module _ (opened : List ℕ) (m : Machine) (s : Shadowed) (g : GuestState) (k : 
       let same : made ≡ x = cc in
       let psw : g.psl.0 % 2 ^ 8 ≡ psw_of m.world = sym (low_part m.world.vmpsl.0 m.world.psl.0 g.psl.0 k.loads.psl) in
       let answers = probe_is i (long_of o 0) (long_of o 1) (long_of o 2) b (omega arith) is in
-      let none : frames_claimed here ≡ [] = ap (map (λ va. frame_at (place_of here va))) (probes_claim_none (is_kernel (mode_of_state here.state)) here.state.psl here.state.r (space_of here) opcode i o (guest_outcome (meant opcode (Probes i o)) own)) in
+      let none : frames_claimed here ≡ [] = ap (map (λ va. frame_at (place_of here va))) (probes_claim_none (is_kernel_mode (mode_of_state here.state)) here.state.psl here.state.r (space_of here) opcode i o (guest_outcome (meant opcode (Probes i o)) own)) in
       let step : guest_by_try here (guest_try here) ≡ trapped_in (steps.Plain (term (pc_of (state_of g)) opcode o.r)) (frames_claimed here) (with_effect here e) None =
       ap (guest_by_try here) own ∙ ap (steps.probed_as here opcode o) answers ∙ ap (λ w. trapped_in (steps.Plain (term (pc_of (state_of g)) opcode o.r)) [] (with_effect here (probed b o w)) None) psw
       ∙ ap (λ frames. trapped_in (steps.Plain (term (pc_of (state_of g)) opcode o.r)) frames (with_effect here e) None) (sym none) in
       subst (IsRetired opened m s g) same (retired_as opcode e nothing_stored step)
 
-  act_retired : (opcode : ℕ) (act : Act) (x : Retired) → machine_try opened m s g k ≡ Completes (meant opcode act) → guest_try here ≡ Completes (meant opcode act) → meets m opcode act ≡ Ok x → IsRetired opened m s g x
+  act_retired : (opcode : ℕ) (act : Act) (x : Retired) → machine_try opened m s g k ≡ Completes (meant opcode act) → guest_try here ≡ Completes (meant opcode act) → carried_out m opcode act ≡ Ok x → IsRetired opened m s g x
   act_retired opcode (Plain e) x is own h = plain_retired opcode e x is own h
   act_retired opcode (Traps t) x is own h = cc
   act_retired opcode (Probes i o) x is own h = probe_retired opcode i o x _ refl own h

@@ -22,7 +22,7 @@ use Rattle.vax_hw.specs.Real.{in_kernel}
 use Rattle.vax_hw.specs.RealTables.{byte_by as byte_at, is_clear_in, place_in}
 use Rattle.vax_table.specs.Script.{Absent, Below, Cause, Refusing, Script}
 use Rattle.vax_table.specs.Tries.{IsMarked, Tried, TriedFar, tried}
-use Rattle.vax_table.specs.Whole.{Meant, instruction, is_kernel}
+use Rattle.vax_table.specs.Whole.{Meant, instruction, is_kernel_mode}
 use Rattle.vax_table.proofs.Tries.{tried_far}
 use Rattle.vm_shadow.specs.Laws.{HasNone, guest_place, moved, own_place, real_place}
 use Rattle.vm_shadow.specs.Layout.{real_tables}
@@ -179,7 +179,7 @@ module _ (opened : List ℕ) (m : Machine) (s : Shadowed) (g : GuestState) (k : 
   machine_instruction = instruction (in_kernel m.world) (seen_psl m.world) m.world.r
 
   pub same_instruction : machine_instruction ≡ instruction_of whole.state
-  same_instruction = λ j. instruction (is_kernel (vm_mode j)) (k.loads.psl j) (k.loads.r j)
+  same_instruction = λ j. instruction (is_kernel_mode (vm_mode j)) (k.loads.psl j) (k.loads.r j)
 
   abbrev pub machine_try : Tried Meant
   machine_try = tried (machine_space m) (machine_clear m) machine_instruction

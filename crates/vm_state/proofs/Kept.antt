@@ -23,7 +23,7 @@ use Rattle.vm_state.specs.Initiate.{Initiation, KernelStackBad, Stops, Taken, in
 use Rattle.vm_state.specs.Packets.{accepted, busy_status, status_place}
 use Rattle.vm_state.specs.Pushes.{Faulty, Homes, PastMemory, Walked, push_walked}
 use Rattle.vm_state.specs.Registers.{Value, Written, written}
-use Rattle.vm_state.specs.Sensitive.{ClearAt, Does, Faults, LacksMemory, Sensed, StopsThere, behind, behind_read, change_mode, changed, chm_walked, destination_walked, fault_of, guest_behind, halted, mfpr_by, mtpr_by, packet_taken, put_at, refused_as, rei_by, returned_to, sensed, switched, troubled, waited, with_codes, with_effect}
+use Rattle.vm_state.specs.Sensitive.{ClearAt, Does, Faults, LacksMemory, Sensed, StopsThere, behind, behind_read, change_mode, changed, chm_walked, destination_walked, fault_of, guest_behind, halted, mfpr_by, mtpr_by, packet_taken, put_at, refused_as, rei_by, returned_to, sensed, switched, troubled, waited, with_codes, with_register_effect}
 use Rattle.vm_state.specs.State.{Guest, State, mode_of_state, pointer_of}
 use Rattle.vm_state.specs.Stops.{ChangedMode}
 use Rattle.vm_state.specs.Translation.{is_clear, place_of, space_of, walk_of}
@@ -214,7 +214,7 @@ taken_sensible g s packet BadPacket k f = tt
 taken_sensible g s packet Busy k f = (record { size = long_size (status_place packet) busy_status g.memory; keeps = k }, none_shown)
 taken_sensible g s packet Queued k f = (with_state g _ (chained (length g.memory) g.state s _ k (queue_keeps (length g.memory) s packet f.0 f.1)), none_shown)
 
-effect_sensible : (g : Guest) (s : State) (e : Effect) → Keeps (length g.memory) g.state s → Sensible g (with_effect g s e)
+effect_sensible : (g : Guest) (s : State) (e : Effect) → Keeps (length g.memory) g.state s → Sensible g (with_register_effect g s e)
 effect_sensible g s effects.Done k = (with_state g s k, none_shown)
 effect_sensible g s effects.Remap k = (with_state g s k, none_shown)
 effect_sensible g s (effects.Show byte) k = (with_state g s k, omega arith)

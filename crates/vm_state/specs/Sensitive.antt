@@ -137,15 +137,15 @@ packet_taken g s packet Busy =
     Does (record { memory = long_stored (status_place packet) busy_status g.memory; state = s }) [] (frame_at (status_place packet) ∷ [])
 packet_taken g s packet Queued = Does (record g { state = after_accept Queued packet s }) [] []
 
-abbrev pub with_effect : Guest → State → Effect → Sensed
-with_effect g s effects.Done = Does (record g { state = s }) [] []
-with_effect g s effects.Remap = Does (record g { state = s }) [] []
-with_effect g s (effects.Show byte) = Does (record g { state = s }) (byte ∷ []) []
-with_effect g s (effects.Kcall packet) = packet_taken g s packet (accepted (length g.memory) s packet)
+abbrev pub with_register_effect : Guest → State → Effect → Sensed
+with_register_effect g s effects.Done = Does (record g { state = s }) [] []
+with_register_effect g s effects.Remap = Does (record g { state = s }) [] []
+with_register_effect g s (effects.Show byte) = Does (record g { state = s }) (byte ∷ []) []
+with_register_effect g s (effects.Kcall packet) = packet_taken g s packet (accepted (length g.memory) s packet)
 
 abbrev pub mtpr_by : Guest → (v : ℕ) → Result Written ReservedOperand → Sensed
 mtpr_by g v (Err refused) = Faults excs.ReservedOperand
-mtpr_by g v (Ok w) = with_effect g (with_codes v w.state) w.effect
+mtpr_by g v (Ok w) = with_register_effect g (with_codes v w.state) w.effect
 
 abbrev pub move_to_register : Guest → Trapped → Sensed
 move_to_register g t = mtpr_by g t.a (written (behind g.state t) t.b t.a)

@@ -12,7 +12,7 @@ use Rattle.vax_table.specs.Stores.{all_stored}
 use Rattle.vax_table.specs.Trail.{term}
 use Rattle.vax_table.specs.Tries.{Clear, Completes, Tried, tried}
 use Rattle.vax_table.specs.Tries as tries
-use Rattle.vax_table.specs.Whole.{Act, Meant, Probes, Traps, instruction, is_kernel}
+use Rattle.vax_table.specs.Whole.{Act, Meant, Probes, Traps, instruction, is_kernel_mode}
 use Rattle.vax_table.specs.Whole as whole
 use Rattle.vax_table.specs.declared.effect.Store.{Store}
 use Rattle.vax_table.specs.declared.evaluation.Operands.{Operands}
@@ -132,7 +132,7 @@ by_try g (tries.Stopped trouble) = sensed_as g (troubled g trouble)
 
 -- the instruction at PC, in the guest's mode and with its PSL
 abbrev pub instruction_of : State → Script Meant
-instruction_of s = instruction (is_kernel (mode_of_state s)) s.psl s.r
+instruction_of s = instruction (is_kernel_mode (mode_of_state s)) s.psl s.r
 
 -- the pages of the bytes that were asked for, of which the last has trouble where an access does
 abbrev pub pages_touched : {A : Type 0} → List ℕ → Result A Trouble → Touched

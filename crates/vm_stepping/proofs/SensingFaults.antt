@@ -21,7 +21,7 @@ use Rattle.vm_state.specs.Initiate.{Initiation, KernelStackBad, Stops, Taken, in
 use Rattle.vm_state.specs.Packets.{accepted}
 use Rattle.vm_state.specs.Pushes.{Faulty, Homes, PastMemory, Walked, push_walked}
 use Rattle.vm_state.specs.Registers.{Value, Written, read, written}
-use Rattle.vm_state.specs.Sensitive.{ClearAt, Does, Faults, LacksMemory, Sensed, StopsThere, behind, behind_read, change_mode, changed, chm_walked, destination_walked, fault_of, guest_behind, mfpr_by, mtpr_by, packet_taken, put_at, rei_by, sensed, switched, troubled, with_codes, with_effect}
+use Rattle.vm_state.specs.Sensitive.{ClearAt, Does, Faults, LacksMemory, Sensed, StopsThere, behind, behind_read, change_mode, changed, chm_walked, destination_walked, fault_of, guest_behind, mfpr_by, mtpr_by, packet_taken, put_at, rei_by, sensed, switched, troubled, with_codes, with_register_effect}
 use Rattle.vm_state.specs.State.{Guest, State, mode_of_state, pointer_of}
 use Rattle.vm_state.specs.Translation.{is_clear, space_of, walk_of}
 use Rattle.vm_state.specs.declared.exception.Exc.TheVariants as excs
@@ -85,7 +85,7 @@ proper_packet g s packet BadPacket = tt
 proper_packet g s packet Busy = tt
 proper_packet g s packet Queued = tt
 
-proper_effect : (g : Guest) (s : State) (e : Effect) → HasProperFault (with_effect g s e)
+proper_effect : (g : Guest) (s : State) (e : Effect) → HasProperFault (with_register_effect g s e)
 proper_effect g s effects.Done = tt
 proper_effect g s effects.Remap = tt
 proper_effect g s (effects.Show byte) = tt

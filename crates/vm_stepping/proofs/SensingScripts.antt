@@ -12,7 +12,7 @@ use Rattle.vax_table.specs.Plan.{plan_of}
 use Rattle.vax_table.specs.Script.{Script, Trouble, outcome}
 use Rattle.vax_table.specs.Spelling.{Instruction}
 use Rattle.vax_table.specs.Tries.{Completes, first_clear, tried_by, unless_clear}
-use Rattle.vax_table.specs.Whole.{Act, Meant, Plain, Probes, Traps, acted, acted_by, instruction, is_always_done, is_kernel, meant, plainly, probing, trapped}
+use Rattle.vax_table.specs.Whole.{Act, Meant, Plain, Probes, Traps, acted, acted_by, instruction, is_always_done, is_kernel_mode, meant, plainly, probing, trapping}
 use Rattle.vax_table.specs.declared.act.Sens.{Sens}
 use Rattle.vax_table.specs.declared.act.Sens.TheVariants.{Prober, Probew}
 use Rattle.vax_table.specs.declared.meaning.Operation.{Operation}
@@ -95,7 +95,7 @@ Anything cs a = Unit {0}
 any_end : {A : Type 0} (cs : List ℕ) (m : Script A) → Holds Anything cs m
 any_end cs m = holds_always Anything cs m (λ ds a. tt)
 
-trap_holds : (n : ℕ) (op : Sens) (d : Instruction) (r cs : List ℕ) → IsNoProbe op → Holds (MeantIsProper n) cs (trapped op d r)
+trap_holds : (n : ℕ) (op : Sens) (d : Instruction) (r cs : List ℕ) → IsNoProbe op → Holds (MeantIsProper n) cs (trapping op d r)
 trap_holds n op d r cs k = holds-bind Anything (MeantIsProper n) cs (trap_operands d r) _ (any_end cs (trap_operands d r)) (λ ds o h. k)
 
 plain_holds : (n psl : ℕ) (d : Instruction) (r cs : List ℕ) → Holds (MeantIsProper n) cs (plainly psl d r)
@@ -104,20 +104,20 @@ plain_holds n psl d r cs = holds-bind Anything (MeantIsProper n) cs (plan_of psl
 probe_holds : (i : Intent) (d : Instruction) (r cs : List ℕ) → Holds (MeantIsProper (length r)) cs (probing i d r)
 probe_holds i d r cs = holds-bind (OperandsAreWide (length r)) (MeantIsProper (length r)) cs (operands_of d r) _ (operands_wide d r cs) (λ ds o h. h)
 
-by_operation : (is_kernel : Bool) (psl : ℕ) (operation : Operation) (d : Instruction) (r cs : List ℕ) → is_no_probe operation ≡ true → Holds (MeantIsProper (length r)) cs (acted_by is_kernel psl operation d r)
-by_operation is_kernel psl (does.Sensitive op) d r cs k = if_both (Holds (MeantIsProper (length r)) cs) (is_always_done op || is_kernel) _ _ (λ t. trap_holds (length r) op d r cs (is_none op k)) (λ t. tt)
-by_operation is_kernel psl (does.Probe i) d r cs k = probe_holds i d r cs
-by_operation is_kernel psl operation d r cs k = plain_holds (length r) psl d r cs
+by_operation : (is_kernel_mode : Bool) (psl : ℕ) (operation : Operation) (d : Instruction) (r cs : List ℕ) → is_no_probe operation ≡ true → Holds (MeantIsProper (length r)) cs (acted_by is_kernel_mode psl operation d r)
+by_operation is_kernel_mode psl (does.Sensitive op) d r cs k = if_both (Holds (MeantIsProper (length r)) cs) (is_always_done op || is_kernel_mode) _ _ (λ t. trap_holds (length r) op d r cs (is_none op k)) (λ t. tt)
+by_operation is_kernel_mode psl (does.Probe i) d r cs k = probe_holds i d r cs
+by_operation is_kernel_mode psl operation d r cs k = plain_holds (length r) psl d r cs
 
-acted_holds : (is_kernel : Bool) (psl : ℕ) (d : Instruction) (r cs : List ℕ) → Holds (MeantIsProper (length r)) cs (acted is_kernel psl d r)
+acted_holds : (is_kernel_mode : Bool) (psl : ℕ) (d : Instruction) (r cs : List ℕ) → Holds (MeantIsProper (length r)) cs (acted is_kernel_mode psl d r)
 unfolding acted
-acted_holds is_kernel psl d r cs = by_operation is_kernel psl (operation_of d.opcode) d r cs (no_probe d.opcode)
+acted_holds is_kernel_mode psl d r cs = by_operation is_kernel_mode psl (operation_of d.opcode) d r cs (no_probe d.opcode)
 
-whole_holds : (is_kernel : Bool) (psl : ℕ) (r : List ℕ) → Holds (MeantIsProper (length r)) [] (instruction is_kernel psl r)
+whole_holds : (is_kernel_mode : Bool) (psl : ℕ) (r : List ℕ) → Holds (MeantIsProper (length r)) [] (instruction is_kernel_mode psl r)
 unfolding instruction
-whole_holds is_kernel psl r =
+whole_holds is_kernel_mode psl r =
     holds-bind Anything (MeantIsProper (length r)) [] (fetched (slice_index r 15)) _ (any_end [] (fetched (slice_index r 15)))
-    (λ cs d h. acted_holds is_kernel psl d r cs)
+    (λ cs d h. acted_holds is_kernel_mode psl d r cs)
 
 -- what completes is the outcome
 ok_unless : {A : Type 0} (x : Option ℕ) (a b : A) → unless_clear a x ≡ Completes b → a ≡ b
@@ -131,5 +131,5 @@ ok_by clear claimed (Err t) b e = cc
 pub proper_act : (g : Guest) (opcode : ℕ) (act : Act) → guest_try g ≡ Completes (meant opcode act) → ActIsProper (length g.state.r) act
 proper_act g opcode act e =
     let m = instruction_of g.state in
-    holds_made (MeantIsProper (length g.state.r)) (space_of g) [] m (meant opcode act) (whole_holds (is_kernel (mode_of_state g.state)) g.state.psl g.state.r)
+    holds_made (MeantIsProper (length g.state.r)) (space_of g) [] m (meant opcode act) (whole_holds (is_kernel_mode (mode_of_state g.state)) g.state.psl g.state.r)
     (ok_by (is_clear g) (claims (space_of g) m) (outcome (space_of g) m) (meant opcode act) e)

@@ -11,7 +11,7 @@ use Rattle.vax_arch.specs.declared.mode.Intent.TheVariants as intents
 use Rattle.vax_arch.specs.declared.mode.Mode.{Mode}
 use Rattle.vax_arch.specs.declared.walk.Grant.{Grant}
 use Rattle.vax_hw.specs.Machine.{Machine, is_clear as machine_clear, space_of as machine_space, tables_of as machine_tables}
-use Rattle.vax_hw.specs.Real.{Retired, by_try, exit_of, is_write, meets, one, probed_as}
+use Rattle.vax_hw.specs.Real.{Retired, by_try, exit_of, is_write, carried_out, one, probed_as}
 use Rattle.vax_hw.specs.RealTables.{byte_by, everywhere, place_by, place_in, real_probe}
 use Rattle.vax_hw.specs.declared.world.Exit.{Exit}
 use Rattle.vax_hw.specs.declared.world.Exit.TheVariants.{Denied, NotValid}
@@ -87,7 +87,7 @@ no_probe_misses : (m : Machine) (opcode : ℕ) (i : Intent) (o : Operands) (b : 
 no_probe_misses m opcode i o (Some b) va write e = cc
 no_probe_misses m opcode i o None va write e = cc
 
-no_act_misses : (m : Machine) (opcode : ℕ) (act : Act) (va : ℕ) (write : Bool) → meets m opcode act ≡ Err (NotValid va write) → ⊥
+no_act_misses : (m : Machine) (opcode : ℕ) (act : Act) (va : ℕ) (write : Bool) → carried_out m opcode act ≡ Err (NotValid va write) → ⊥
 no_act_misses m opcode (Plain f) va write e = cc
 no_act_misses m opcode (Traps t) va write e = cc
 no_act_misses m opcode (Probes i o) va write e = no_probe_misses m opcode i o (real_probe m.memory (machine_tables m.world) m.world.psl.0 i (long_of o 0) (long_of o 1) (long_of o 2)) va write e

@@ -7,7 +7,7 @@ use Rattle.vv_class.specs.declared.class.AccessClass.{AccessClass}
 use Rattle.vv_class.specs.declared.text.ClassFault.{ClassFault}
 use Rattle.vv_class.specs.declared.scan.Half.{Half}
 use Rattle.vv_class.specs.Class.{IsClass}
-use Rattle.vv_class.specs.Scan.{Part, start_of, step_of, part_of, is_whole, fault_before, class_in, ended, second_of, class_of}
+use Rattle.vv_class.specs.Scan.{Part, start_of, step_of, part_of, is_whole, fault_before, class_in, at_the_end, second_of, class_of}
 use Rattle.vv_class.specs.Text.{categories_below, listed, half_text, class_text, BeginsText, IsLongestStart}
 use Rattle.vv_class.proofs.Sets.{length-listed}
 use Rattle.vv_class.proofs.Runs.{runs, runs_on, half_runs, end_of, Stuck, ends, part_on, read_to, stops_at}
@@ -127,7 +127,7 @@ both_begin one two fits whole fits_two =
     subst BeginsText same (second_begins one.level one.cats (written two) half.0 half.1 (begins two fits_two))
 
 ended_tells : (bytes rest : List ℕ) (one two : Half) → Fits one → is_whole one ≡ true → runs start_of (written one) ≡ Some one → step_of one 59 ≡ None
-    → Fits two → runs start_of (written two) ≡ Some two → Stuck two rest → bytes ≡ (written one ++ 59 ∷ written two) ++ rest → Tells bytes (ended bytes one two rest)
+    → Fits two → runs start_of (written two) ≡ Some two → Stuck two rest → bytes ≡ (written one ++ 59 ∷ written two) ++ rest → Tells bytes (at_the_end bytes one two rest)
 unfolding class_text
 ended_tells bytes [] one two fits whole ran stuck fits_two ran_two end split =
     cond_both (is_whole two) (Ok (class_in one two)) (fault_before bytes []) (Tells bytes)
@@ -145,7 +145,7 @@ second_tells : (bytes rest : List ℕ) (one : Half) → Fits one → bytes ≡ w
 second_tells bytes [] one fits split ran stuck = faulty bytes (written one) [] split (first_begins (written one) (begins one fits)) tt
 second_tells bytes (b ∷ rest) one fits split ran stuck =
     let two : Part = part_of start_of rest in
-    cond_both (is_whole one && b == 59) (ended bytes one two.half two.rest) (fault_before bytes (b ∷ rest)) (Tells bytes)
+    cond_both (is_whole one && b == 59) (at_the_end bytes one two.half two.rest) (fault_before bytes (b ∷ rest)) (Tells bytes)
     (λ is.
     let both = and_parts (is_whole one) (b == 59) is in
     let middle : b ≡ 59 = eqb-true b 59 both.1 in
@@ -173,7 +173,7 @@ written_is_read c is =
     ap (part_of start_of) (append_assoc a (codes ";") d) ∙ stops_at a (59 ∷ d) start_of first run.1 (ends c.secrecy run.0 c.secrecy_cats (59 ∷ d)) in
     let two : part_of start_of d ≡ read_to (end_of c.integrity last.0 c.integrity_cats) [] =
     ap (part_of start_of) (sym (append-nil d)) ∙ stops_at d [] start_of (end_of c.integrity last.0 c.integrity_cats) last.1 tt in
-    ap (λ (p : Part). second_of (class_text c) p.half p.rest) one ∙ ap (λ (p : Part). ended (class_text c) first p.half p.rest) two
+    ap (λ (p : Part). second_of (class_text c) p.half p.rest) one ∙ ap (λ (p : Part). at_the_end (class_text c) first p.half p.rest) two
 
 -- the length of a class text
 half_length : (level cats : ℕ) → level < 256 → length (half_text level cats) ≤ 197

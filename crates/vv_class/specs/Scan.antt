@@ -82,15 +82,15 @@ abbrev pub class_in : Half → Half → AccessClass
 class_in one two = record { secrecy = one.level; secrecy_cats = one.cats; integrity = two.level; integrity_cats = two.cats }
 
 -- behind the second half nothing stands
-abbrev pub ended : List ℕ → Half → Half → List ℕ → Result AccessClass ClassFault
-ended bytes one two [] = if is_whole two then Ok (class_in one two) else fault_before bytes []
-ended bytes one two (b ∷ rest) = fault_before bytes (b ∷ rest)
+abbrev pub at_the_end : List ℕ → Half → Half → List ℕ → Result AccessClass ClassFault
+at_the_end bytes one two [] = if is_whole two then Ok (class_in one two) else fault_before bytes []
+at_the_end bytes one two (b ∷ rest) = fault_before bytes (b ∷ rest)
 
 -- behind the first half stand a semicolon (59) and the second
 abbrev pub second_of : List ℕ → Half → List ℕ → Result AccessClass ClassFault
 second_of bytes one [] = fault_before bytes []
 second_of bytes one (b ∷ rest) =
-    if is_whole one && b == 59 then (let two = part_of start_of rest in ended bytes one two.half two.rest)
+    if is_whole one && b == 59 then (let two = part_of start_of rest in at_the_end bytes one two.half two.rest)
     else fault_before bytes (b ∷ rest)
 
 -- the class of a text, or the place of its fault

@@ -1,7 +1,7 @@
 ghost use Rattle.std.specs.Prelude.{◌≡◌, ◌≢◌, ◌+◌, ◌-◌, ◌<◌, ◌≤◌, ◌++◌, length, IfOk, IfErr, OnErr, Ok, decimal, List, ℕ};
 ghost use Rattle.vv_class.specs.Class.{IsClass, has_category};
 ghost use Rattle.vv_class.specs.Text.{class_text, half_text, listed, categories_below, IsLongestStart};
-ghost use Rattle.vv_class.specs.Scan.{class_of, ended, part_of, start_of};
+ghost use Rattle.vv_class.specs.Scan.{class_of, at_the_end, part_of, start_of};
 ghost use Rattle.vv_class.specs.declared.class.AccessClass.{AccessClass};
 
 use crate::AccessClass;
@@ -43,7 +43,7 @@ fn scan_text(b: &[u8]) -> Result<AccessClass, ClassFault>
 fn scan_second(b: &[u8], secrecy: &Half, second: &[u8]) -> Result<AccessClass, ClassFault>
     requires within { length second.now ≤ length b.now }
     requires short { length b.now ≤ length second.now + 198 }
-    ensures { result ≡ ended b.now secrecy.now (part_of start_of second.now).half (part_of start_of second.now).rest }
+    ensures { result ≡ at_the_end b.now secrecy.now (part_of start_of second.now).half (part_of start_of second.now).rest }
 {
     let (integrity, rest) = read_half(second);
     if rest.is_empty() && integrity.is_whole() {

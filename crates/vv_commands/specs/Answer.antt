@@ -13,7 +13,7 @@ use Rattle.vax_hw.specs.Machine.{Machine}
 use Rattle.vm_stepping.specs.Made.{tally_of}
 use Rattle.sys_config.specs.Config.{config_of}
 use Rattle.sys_config.specs.Written.{version_of}
-use Rattle.sys_lines.specs.Showing.{Showing}
+use Rattle.sys_lines.specs.ShownSince.{ShownSince}
 use Rattle.sys_objects.specs.declared.records.Config.{Config}
 use Rattle.sys_purge.specs.Input.{purged}
 use Rattle.sys_rounds.specs.Bytes.{devices_of, drive_blocks, line_bytes}
@@ -94,7 +94,7 @@ done_status None false = Done
 pub record Closes (failed : Option Device) (bytes : List ℕ) (status : Status) (out out' : Seen) : Type 0 where
   pub cut : Bool
   pub is : status ≡ done_status failed cut
-  pub shows : Showing cut out out' bytes
+  pub shows : ShownSince cut out out' bytes
 
 -- A command stops before anything is shown, for a reason.
 pub record Stops (Why : Stop → Type 0) (status : Status) : Type 0 where

@@ -1,6 +1,6 @@
 ghost use Rattle.std.specs.Prelude.{◌≡◌, ◌≤◌, ◌*◌, List, ℕ, length, map, vec_len, is_err, IfOk};
 ghost use Rattle.vm_stepping.specs.Made.{steps_in};
-ghost use Rattle.sys_lines.specs.Showing.{Showing};
+ghost use Rattle.sys_lines.specs.ShownSince.{ShownSince};
 ghost use Rattle.sys_objects.specs.Condition.{IsConfig};
 ghost use Rattle.sys_script.specs.Events.{AreEvents};
 ghost use Rattle.vv_commands.specs.Answer.{Answers, Closes, Plays, done_status};
@@ -17,7 +17,7 @@ use vv_io::{Drive, Line, Sink, SinkFault};
 
 /// Puts bytes once.
 fn put_once<O: Sink>(out: &mut O, bytes: &[u8]) -> Result<(), SinkFault>
-    ensures { Showing (is_err result) (O.printed out.old) (O.printed out.new) bytes.now }
+    ensures { ShownSince (is_err result) (O.printed out.old) (O.printed out.new) bytes.now }
 {
     out.put(bytes)
 }

@@ -1,5 +1,5 @@
 -- A set of a drive in memory that fails.
-use Rattle.std.proofs.Common.{ℕ, ◌≡◌, ◌≤◌, List, [], length, slice_index_or, sym, ◌∙◌, ap, Result}
+use Rattle.std.proofs.Common.{ℕ, ◌≡◌, ◌≤◌, List, [], length, slice_index_or, refl, sym, ◌∙◌, ap, Result}
 use Rattle.std.specs.declared.option.Option.TheVariants.{Some}
 use Rattle.std.specs.declared.result.Result.TheVariants.{Err}
 use Rattle.std.proofs.lemmas.List.{set-get_or}
@@ -10,6 +10,6 @@ pub failed_set : {U E : Type 0} (blocks blocks' : List (List ℕ)) (faults fault
     → (let r : Result U E = Err e in let old : Kept = record { size = length blocks; blocks = Some blocks; faults = faults } in let new : Kept = record { size = length blocks'; blocks = Some blocks'; faults = faults' } in Sets old new block bytes r)
 failed_set blocks blocks' faults faults' block bytes e same later rose = record {
   size = ap length same;
-  writes = (slice_index_or blocks block [], ap Some (same ∙ sym (set-get_or blocks block [])));
+  writes = (slice_index_or blocks block [], ap Some (same ∙ sym (set-get_or blocks block [])), refl);
   cause = record { later = later; kept = tt; failed = rose };
 }

@@ -25,6 +25,11 @@ AreSoMany size (Some blocks) = length blocks ≡ size
 abbrev pub IsSized : Kept → Type 0
 IsSized drive = AreSoMany drive.size drive.blocks
 
+-- bytes are as many as those of the block that they replace, where blocks are told
+abbrev pub IsAsLong : Option (List (List ℕ)) → ℕ → List ℕ → Type 0
+IsAsLong None block bytes = Unit {0}
+IsAsLong (Some blocks) block bytes = length bytes ≡ length (slice_index_or blocks block [])
+
 -- the bytes that a get puts into its buffer: the block's, where the blocks are told, and none where it failed
 abbrev pub Reads : {U E : Type 0} → Option (List (List ℕ)) → ℕ → List ℕ → List ℕ → Result U E → Type 0
 Reads None block before after (Ok _) = Unit {0}
@@ -42,10 +47,10 @@ abbrev pub with_block : Option (List (List ℕ)) → ℕ → List ℕ → Option
 with_block None block bytes = None
 with_block (Some blocks) block bytes = Some (slice_set blocks block bytes)
 
--- the block has the bytes; where the call failed it may hold anything
+-- the block has the bytes; where the call failed it may hold any, as many as before
 abbrev pub Writes : {U E : Type 0} → Option (List (List ℕ)) → Option (List (List ℕ)) → ℕ → List ℕ → Result U E → Type 0
 Writes before after block bytes (Ok _) = after ≡ with_block before block bytes
-Writes before after block bytes (Err _) = (any : List ℕ) × (after ≡ with_block before block any)
+Writes before after block bytes (Err _) = (any : List ℕ) × (after ≡ with_block before block any) × IsAsLong before block any
 
 -- one set; all other blocks stay
 pub record Sets {U E : Type 0} (before after : Kept) (block : ℕ) (bytes : List ℕ) (result : Result U E) : Type 0 where

@@ -21,13 +21,13 @@ shown_after None bytes = None
 shown_after (Some shown) bytes = Some (shown ++ bytes)
 
 -- all of the bytes were shown, or a front of them where the call failed
-abbrev pub Shows : {U E : Type 0} → Option (List ℕ) → Option (List ℕ) → List ℕ → Result U E → Type 0
-Shows before after bytes (Ok _) = after ≡ shown_after before bytes
-Shows before after bytes (Err _) = (n : ℕ) × (after ≡ shown_after before (take n bytes))
+abbrev pub PutShows : {U E : Type 0} → Option (List ℕ) → Option (List ℕ) → List ℕ → Result U E → Type 0
+PutShows before after bytes (Ok _) = after ≡ shown_after before bytes
+PutShows before after bytes (Err _) = (n : ℕ) × (after ≡ shown_after before (take n bytes))
 
 -- one put
 pub record Puts {U E : Type 0} (before after : Seen) (bytes : List ℕ) (result : Result U E) : Type 0 where
-  pub shows : Shows before.shown after.shown bytes result
+  pub shows : PutShows before.shown after.shown bytes result
   pub cause : HasCause before.faults after.faults result
 
 -- one put on line k of several; every other line is as before

@@ -21,7 +21,7 @@ pub trait Drive: Drop {
         requires { block < (kept self.old).size }
         ensures { Gets (kept self.old) (kept self.new) block into.old into.new result };
 
-    /// Writes a block. After a fault that block may hold anything; the others are as before.
+    /// Writes a block. After a fault that block may hold any bytes, as many as before; the others are as before.
     fn set(&mut self, block: u32, from: &[u8; 512]) -> Result<(), DriveFault>
         requires { block < (kept self.old).size }
         ensures { Sets (kept self.old) (kept self.new) block from.now result };

@@ -7,7 +7,7 @@ use Rattle.vv_io.specs.Lines.{Seen}
 use Rattle.sys_drives.proofs.Places.{at_stands}
 use Rattle.sys_drives.specs.Rows.{StandsAt, drive_at}
 use Rattle.sys_drives.specs.Stores.{IsCut, Stores, is_marked}
-use Rattle.sys_lines.specs.Showing.{Showing}
+use Rattle.sys_lines.specs.ShownSince.{ShownSince}
 use Rattle.sys_lines.specs.Shows.{Shows}
 use Rattle.sys_objects.specs.declared.records.VolumeRow.{VolumeRow}
 use Rattle.sys_rounds.proofs.Places.{both}
@@ -60,10 +60,10 @@ none_before (false ∷ marks) first (suc k) e h = by (first_marked marks) first 
 
 -- a line's count rose where it is marked, and is as before where it isn't
 pub line_rose : (marks : List Bool) (lines lines' : List Seen) (f : ℕ → List ℕ) (k : ℕ) → first_marked marks ≡ Some k → Shows [] marks lines lines' f → Rose (line_at lines k).faults (line_at lines' k).faults
-line_rose marks lines lines' f k e shows = (subst (λ b. Showing b (line_at lines k) (line_at lines' k) (f k)) (marked_at marks k e) (shows.line k)).0
+line_rose marks lines lines' f k e shows = (subst (λ b. ShownSince b (line_at lines k) (line_at lines' k) (f k)) (marked_at marks k e) (shows.line k)).0
 
 line_kept : (marks : List Bool) (lines lines' : List Seen) (f : ℕ → List ℕ) (k : ℕ) → slice_index_or marks k false ≡ false → Shows [] marks lines lines' f → (line_at lines' k).faults ≡ (line_at lines k).faults
-line_kept marks lines lines' f k e shows = (subst (λ b. Showing b (line_at lines k) (line_at lines' k) (f k)) e (shows.line k)).0
+line_kept marks lines lines' f k e shows = (subst (λ b. ShownSince b (line_at lines k) (line_at lines' k) (f k)) e (shows.line k)).0
 
 -- where no line failed, no count is greater
 pub no_line_greater : (marks : List Bool) (lines lines' : List Seen) (f : ℕ → List ℕ) (k : ℕ) → first_marked marks ≡ None → Shows [] marks lines lines' f → (line_at lines k).faults < (line_at lines' k).faults → ⊥

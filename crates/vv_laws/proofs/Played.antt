@@ -9,7 +9,7 @@ use Rattle.sys_drives.proofs.Places.{at_stands}
 use Rattle.sys_drives.specs.Loads.{HasFailed, OnlyRose}
 use Rattle.sys_drives.specs.Rows.{FitsDrive, drive_at}
 use Rattle.sys_guests.specs.Loads.{first_misfit}
-use Rattle.sys_lines.specs.Showing.{Showing}
+use Rattle.sys_lines.specs.ShownSince.{ShownSince}
 use Rattle.sys_lines.specs.Shows.{Shows}
 use Rattle.sys_objects.specs.Condition.{IsConfig, IsVolume}
 use Rattle.sys_objects.specs.declared.records.Config.{Config}
@@ -31,7 +31,7 @@ use Rattle.vv_laws.specs.Complete.{IsServed, NamesDrive, NamesLine, line_at}
 pub closes_served : (failed : Option Device) (bytes : List ℕ) (status : Status) (out out' : Seen) → failed ≡ None → Closes failed bytes status out out' → (Rose out.faults out'.faults → ⊥) → IsServed status
 closes_served failed bytes status out out' none c kept = subst (λ (s : Status). IsServed s) (sym c.is) (by failed c.cut none c.shows)
   where
-    by : (failed : Option Device) (cut : Bool) → failed ≡ None → Showing cut out out' bytes → IsServed (done_status failed cut)
+    by : (failed : Option Device) (cut : Bool) → failed ≡ None → ShownSince cut out out' bytes → IsServed (done_status failed cut)
     by (Some device) cut e shows = cc
     by None true e shows = absurd (kept shows.0)
     by None false e shows = tt

@@ -4,7 +4,7 @@ use Rattle.sys_objects.specs.declared.records.Config.{Config}
 use Rattle.sys_system.proofs.NextTurn.{next_can, none_next}
 use Rattle.sys_system.proofs.Playing.{fewer_left, plays_more, plays_none}
 use Rattle.sys_system.proofs.Rounding.{round_made}
-use Rattle.sys_system.specs.System.{System, turn_of}
+use Rattle.sys_system.specs.System.{System, slice_of_time}
 use Rattle.sys_system.proofs.system.System.make_round.Goals as goal
 
 pub loop-turn-init : goal.loop-turn-init
@@ -13,21 +13,21 @@ loop-turn-init g c =
     record { plays = ([], plays_none _ _ _ c.begin_round.ensures.holds b.goes.stands (ap (λ (s : System). s.turns.is_begun) b.system)); holds = c.begin_round.ensures.holds; len = c.begin_round.ensures.len }
 
 pub slice-requires-clause-can : goal.slice-requires-clause-can
-slice-requires-clause-can g c = (next_can c.loop-turn.self (turn_of c.in-Some.turn) c.loop-turn.invariant.holds (sym c.in-Some.ensures)).0
+slice-requires-clause-can g c = (next_can c.loop-turn.self (slice_of_time c.in-Some.turn) c.loop-turn.invariant.holds (sym c.in-Some.ensures)).0
 
 pub slice-requires-clause-stands : goal.slice-requires-clause-stands
 slice-requires-clause-stands g c = c.loop-turn.invariant.plays.1.stands
 
 pub loop-turn-preserved : goal.loop-turn-preserved
 loop-turn-preserved g c =
-    let can = (next_can c.loop-turn.self (turn_of c.in-Some.turn) c.loop-turn.invariant.holds (sym c.in-Some.ensures)).0 in
+    let can = (next_can c.loop-turn.self (slice_of_time c.in-Some.turn) c.loop-turn.invariant.holds (sym c.in-Some.ensures)).0 in
     let (xs, plays) = c.loop-turn.invariant.plays in
-    record { plays = (xs ++ turn_of c.in-Some.turn ∷ [], plays_more xs (turn_of c.in-Some.turn) _ _ _ _ _ _ _ _ _ plays can c.slice.ensures.takes c.slice.ensures.pays); holds = c.slice.ensures.holds; len = c.slice.ensures.len ∙ c.loop-turn.invariant.len }
+    record { plays = (xs ++ slice_of_time c.in-Some.turn ∷ [], plays_more xs (slice_of_time c.in-Some.turn) _ _ _ _ _ _ _ _ _ plays can c.slice.ensures.takes c.slice.ensures.pays); holds = c.slice.ensures.holds; len = c.slice.ensures.len ∙ c.loop-turn.invariant.len }
 
 pub loop-turn-smaller : goal.loop-turn-smaller
 loop-turn-smaller g c =
-    let can = next_can c.loop-turn.self (turn_of c.in-Some.turn) c.loop-turn.invariant.holds (sym c.in-Some.ensures) in
-    fewer_left (turn_of c.in-Some.turn) _ _ _ _ _ _ can.0 can.1 c.slice.ensures.takes
+    let can = next_can c.loop-turn.self (slice_of_time c.in-Some.turn) c.loop-turn.invariant.holds (sym c.in-Some.ensures) in
+    fewer_left (slice_of_time c.in-Some.turn) _ _ _ _ _ _ can.0 can.1 c.slice.ensures.takes
 
 pub end_round-requires-clause-none : goal.end_round-requires-clause-none
 end_round-requires-clause-none g c = none_next c.loop-turn.self c.loop-turn.invariant.plays.1.begun (sym c.in_default.ensures)

@@ -1,7 +1,7 @@
 use Rattle.std.proofs.Common.{◌≡◌, ◌∙◌, ◌<◌, List, length, map, slice_index_or, sym, ap, subst, arith}
 use Rattle.std.specs.List.{sum_by}
 use Rattle.sys_guests.proofs.LaidOut.{placed_long}
-use Rattle.sys_guests.specs.declared.turns.Turn.{Turn}
+use Rattle.sys_guests.specs.declared.turns.TimeSlice.{TimeSlice}
 use Rattle.sys_objects.specs.Condition.{IsConfig}
 use Rattle.sys_objects.specs.declared.records.Config.{Config}
 use Rattle.sys_objects.specs.declared.records.GuestRow.{GuestRow}
@@ -9,7 +9,7 @@ use Rattle.sys_rounds.specs.Slices.{AreQuanta}
 use Rattle.sys_system.proofs.Playing.{all_played, all_taken, plays_next, plays_none, turn_can}
 use Rattle.sys_system.proofs.Rounding.{round_made}
 use Rattle.sys_system.proofs.Slicing.{same_default}
-use Rattle.sys_system.specs.System.{System, all_turns, turn_of}
+use Rattle.sys_system.specs.System.{System, all_turns, slice_of_time}
 use Rattle.sys_system.proofs.system.System.take_turns.Goals as goal
 
 pub loop-turn-init : goal.loop-turn-init
@@ -19,7 +19,7 @@ loop-turn-init g c =
 
 pub slice-requires-clause-can : goal.slice-requires-clause-can
 slice-requires-clause-can g c =
-    let none : Turn = record { guest = 0; steps = 0 } in
+    let none : TimeSlice = record { guest = 0; steps = 0 } in
     let i = c.loop-turn.turn-index in
     let turn = slice_index_or c.args.turns.now i none in
     let read : turn ≡ slice_index_or c.args.turns.now i turn = same_default c.args.turns.now i none turn (omega arith) in
@@ -27,7 +27,7 @@ slice-requires-clause-can g c =
     let s1 = c.begin_round.new.self in
     let config : s1.config ≡ c.args.self.now.config = ap (λ (s : System). s.config) b.system in
     let first : s1.turns ≡ all_turns s1.config.guests = ap (λ (s : System). s.turns) b.system ∙ ap (λ (y : Config). all_turns y.guests) (sym config) in
-    let quanta : AreQuanta (map turn_of c.args.turns.now) 0 s1.config.guests = subst (λ (y : Config). AreQuanta (map turn_of c.args.turns.now) 0 y.guests) (sym config) c.requires.quanta in
+    let quanta : AreQuanta (map slice_of_time c.args.turns.now) 0 s1.config.guests = subst (λ (y : Config). AreQuanta (map slice_of_time c.args.turns.now) 0 y.guests) (sym config) c.requires.quanta in
     let rows = c.args.self.now.config.guests in
     let long : length c.args.self.now.guests ≡ length rows = placed_long 0 (sum_by (λ (row : GuestRow). row.pages) rows) rows c.args.self.now.guests c.requires.stands.laid_out in
     let same : length s1.config.guests ≡ length rows = ap (λ (y : Config). length y.guests) config in
@@ -40,7 +40,7 @@ slice-requires-clause-stands g c = c.loop-turn.invariant.plays.stands
 
 pub loop-turn-preserved : goal.loop-turn-preserved
 loop-turn-preserved g c =
-    let none : Turn = record { guest = 0; steps = 0 } in
+    let none : TimeSlice = record { guest = 0; steps = 0 } in
     let i = c.loop-turn.turn-index in
     let turn = slice_index_or c.args.turns.now i none in
     let read : turn ≡ slice_index_or c.args.turns.now i turn = same_default c.args.turns.now i none turn (omega arith) in
@@ -48,7 +48,7 @@ loop-turn-preserved g c =
     let s1 = c.begin_round.new.self in
     let config : s1.config ≡ c.args.self.now.config = ap (λ (s : System). s.config) b.system in
     let first : s1.turns ≡ all_turns s1.config.guests = ap (λ (s : System). s.turns) b.system ∙ ap (λ (y : Config). all_turns y.guests) (sym config) in
-    let quanta : AreQuanta (map turn_of c.args.turns.now) 0 s1.config.guests = subst (λ (y : Config). AreQuanta (map turn_of c.args.turns.now) 0 y.guests) (sym config) c.requires.quanta in
+    let quanta : AreQuanta (map slice_of_time c.args.turns.now) 0 s1.config.guests = subst (λ (y : Config). AreQuanta (map slice_of_time c.args.turns.now) 0 y.guests) (sym config) c.requires.quanta in
     let rows = c.args.self.now.config.guests in
     let long : length c.args.self.now.guests ≡ length rows = placed_long 0 (sum_by (λ (row : GuestRow). row.pages) rows) rows c.args.self.now.guests c.requires.stands.laid_out in
     let same : length s1.config.guests ≡ length rows = ap (λ (y : Config). length y.guests) config in
@@ -62,9 +62,9 @@ end_round-requires-clause-none g c =
     let s1 = c.begin_round.new.self in
     let config : s1.config ≡ c.args.self.now.config = ap (λ (s : System). s.config) b.system in
     let first : s1.turns ≡ all_turns s1.config.guests = ap (λ (s : System). s.turns) b.system ∙ ap (λ (y : Config). all_turns y.guests) (sym config) in
-    let quanta : AreQuanta (map turn_of c.args.turns.now) 0 s1.config.guests = subst (λ (y : Config). AreQuanta (map turn_of c.args.turns.now) 0 y.guests) (sym config) c.requires.quanta in
+    let quanta : AreQuanta (map slice_of_time c.args.turns.now) 0 s1.config.guests = subst (λ (y : Config). AreQuanta (map slice_of_time c.args.turns.now) 0 y.guests) (sym config) c.requires.quanta in
     let plays = all_played c.args.turns.now c.loop-turn.turn-index _ _ _ _ _ _ c.loop-turn-test.false c.loop-turn.invariant.plays in
-    let none_left = all_taken (map turn_of c.args.turns.now) _ _ s1 c.loop-turn.self _ _ first quanta plays in
+    let none_left = all_taken (map slice_of_time c.args.turns.now) _ _ s1 c.loop-turn.self _ _ first quanta plays in
     none_left
 
 pub end_round-requires-clause-stands : goal.end_round-requires-clause-stands
@@ -76,8 +76,8 @@ returns-clause-makes g c =
     let s1 = c.begin_round.new.self in
     let config : s1.config ≡ c.args.self.now.config = ap (λ (s : System). s.config) b.system in
     let first : s1.turns ≡ all_turns s1.config.guests = ap (λ (s : System). s.turns) b.system ∙ ap (λ (y : Config). all_turns y.guests) (sym config) in
-    let quanta : AreQuanta (map turn_of c.args.turns.now) 0 s1.config.guests = subst (λ (y : Config). AreQuanta (map turn_of c.args.turns.now) 0 y.guests) (sym config) c.requires.quanta in
+    let quanta : AreQuanta (map slice_of_time c.args.turns.now) 0 s1.config.guests = subst (λ (y : Config). AreQuanta (map slice_of_time c.args.turns.now) 0 y.guests) (sym config) c.requires.quanta in
     let plays = all_played c.args.turns.now c.loop-turn.turn-index _ _ _ _ _ _ c.loop-turn-test.false c.loop-turn.invariant.plays in
-    let none_left = all_taken (map turn_of c.args.turns.now) _ _ s1 c.loop-turn.self _ _ first quanta plays in
+    let none_left = all_taken (map slice_of_time c.args.turns.now) _ _ s1 c.loop-turn.self _ _ first quanta plays in
     let accepted = subst (λ (y : Config). IsConfig y) config c.begin_round.ensures.holds.accepted in
-    round_made c.args.events.now (map turn_of c.args.turns.now) _ _ _ _ _ _ _ _ _ _ _ _ accepted c.requires.stands c.requires.events b plays none_left c.end_round.ensures.ends c.begin_round.ensures.present c.loop-turn.invariant.holds.units c.end_round.ensures.present
+    round_made c.args.events.now (map slice_of_time c.args.turns.now) _ _ _ _ _ _ _ _ _ _ _ _ accepted c.requires.stands c.requires.events b plays none_left c.end_round.ensures.ends c.begin_round.ensures.present c.loop-turn.invariant.holds.units c.end_round.ensures.present
