@@ -1,0 +1,253 @@
+ghost use Rattle.std.specs.Prelude.{◌≡◌, ◌<◌, ◌≤◌, ◌*◌, ◌+◌, All, IfOk, IfSome, IsTrue, false, length, map, vec_len};
+ghost use Rattle.sys_drives.specs.Rows.{FitsDrive};
+ghost use Rattle.sys_objects.specs.Condition.{IsConfig};
+ghost use Rattle.sys_stage.specs.Turns.{AreTurns};
+ghost use Rattle.sys_system.specs.Calls.{AreOf};
+ghost use Rattle.sys_system.specs.System.{StandsIn};
+
+use crate::case::Case;
+use crate::content::bytes_of;
+use crate::outcome::Ending;
+use crate::trouble::Trouble;
+use crate::turns::{are_quanta, rotations};
+use std::alloc::Global;
+use sys_config::read_config;
+use sys_objects::Config;
+use sys_script::{Event, read_script};
+use sys_system::{PowerFault, System, TimeSlice};
+use vax_hw::Hardware;
+use vm_guest::Counts;
+use vv_base::NoMemory;
+use vv_io::{Cut, Drive, Line};
+
+/// The pages of the machine.
+pub const PAGES: u32 = 32_768;
+
+/// Whether all are events of a round.
+fn are_of(events: &[Event], round: u32) -> bool
+    ensures { IsTrue result → AreOf round events.now }
+{
+    events.iter().all(|event| event.round == round)
+}
+
+/// The events of a round, which stand together.
+fn of_round(events: &[Event], round: u32) -> &[Event]
+    ensures { AreOf round result.now }
+{
+    let first = events
+        .iter()
+        .take_while(|event| event.round < round)
+        .count();
+    let behind = events.get(first..).unwrap_or(&[]);
+    let count = behind
+        .iter()
+        .take_while(|event| event.round == round)
+        .count();
+    let these = behind.get(..count).unwrap_or(&[]);
+    if are_of(these, round) { these } else { &[] }
+}
+
+/// Whether each guest takes its quantum in these turns.
+fn are_turns(turns: &[TimeSlice], config: &Config) -> bool
+    ensures { IsTrue result → AreTurns config.now turns.now }
+{
+    let rows = config.guests.as_slice();
+    turns.iter().all(|turn| (turn.guest as usize) < rows.len()) && are_quanta(turns, 0, rows)
+}
+
+/// Brings power up.
+fn powered<H: Hardware>(
+    alloc: Global,
+    config: Config,
+    images: &[Vec<u8>],
+    machine: &mut H,
+    drives: &mut Vec<Box<dyn Drive>>,
+) -> Result<System, PowerFault>
+    requires accepted { IsConfig config }
+    requires images { length images.now ≡ length config.guests }
+    requires pages { length (H.machine machine.old).memory ≡ 512 * 32768 }
+    requires drives { vec_len drives.old ≡ 16 }
+    ensures config { IfOk result (λ s. s.config ≡ config) }
+    ensures first { IfOk result (λ s. s.rounds ≡ 0) }
+    ensures rests { IfOk result (λ s. s.turns.is_begun ≡ false) }
+    ensures stands { IfOk result (λ s. StandsIn (H.machine machine.new).memory s) }
+    ensures fit { IfOk result (λ s. All (FitsDrive (map (λ d. kept d) drives.new.items)) s.config.volumes) }
+    ensures len { vec_len drives.new ≡ vec_len drives.old }
+{
+    let system = System::power_up(alloc, config, images, machine, drives)?;
+    Ok(system)
+}
+
+/// Makes a round by turns.
+fn take_one<H: Hardware>(
+    system: &mut System,
+    machine: &mut H,
+    lines: &mut Vec<Box<dyn Line>>,
+    events: &[Event],
+    turns: &[TimeSlice],
+)
+    requires rests { system.old.turns.is_begun ≡ false }
+    requires few { system.old.rounds < 4000000000 }
+    requires stands { StandsIn (H.machine machine.old).memory system.old }
+    requires lines { vec_len lines.old ≡ 32 }
+    requires events { AreOf (system.old.rounds + 1) events.now }
+    requires turns { AreTurns system.old.config turns.now }
+    ensures config { system.new.config ≡ system.old.config }
+    ensures rounds { system.new.rounds ≡ system.old.rounds + 1 }
+    ensures rests { system.new.turns.is_begun ≡ false }
+    ensures stands { StandsIn (H.machine machine.new).memory system.new }
+    ensures len { vec_len lines.new ≡ vec_len lines.old }
+{
+    system.take_turns(machine, lines, events, turns);
+}
+
+/// Makes a round, by slices or by turns.
+fn make_one<H: Hardware>(
+    system: &mut System,
+    machine: &mut H,
+    lines: &mut Vec<Box<dyn Line>>,
+    events: &[Event],
+    turns: &Option<Vec<TimeSlice>>,
+)
+    requires rests { system.old.turns.is_begun ≡ false }
+    requires few { system.old.rounds < 4000000000 }
+    requires stands { StandsIn (H.machine machine.old).memory system.old }
+    requires lines { vec_len lines.old ≡ 32 }
+    requires events { AreOf (system.old.rounds + 1) events.now }
+    requires turns { IfSome turns.now (λ ts. AreTurns system.old.config ts.items) }
+    ensures config { system.new.config ≡ system.old.config }
+    ensures rounds { system.new.rounds ≡ system.old.rounds + 1 }
+    ensures rests { system.new.turns.is_begun ≡ false }
+    ensures stands { StandsIn (H.machine machine.new).memory system.new }
+    ensures len { vec_len lines.new ≡ vec_len lines.old }
+{
+    match turns {
+        None => system.make_round(machine, lines, events),
+        Some(turns) => take_one(system, machine, lines, events, turns.as_slice()),
+    }
+}
+
+/// Makes so many rounds, with their events, each by slices or by these turns.
+fn make_rounds<H: Hardware>(
+    system: &mut System,
+    machine: &mut H,
+    lines: &mut Vec<Box<dyn Line>>,
+    events: &[Event],
+    rounds: u32,
+    turns: &Option<Vec<TimeSlice>>,
+)
+    requires rests { system.old.turns.is_begun ≡ false }
+    requires first { system.old.rounds ≡ 0 }
+    requires few { rounds ≤ 1000000 }
+    requires stands { StandsIn (H.machine machine.old).memory system.old }
+    requires lines { vec_len lines.old ≡ 32 }
+    requires turns { IfSome turns.now (λ ts. AreTurns system.old.config ts.items) }
+    ensures config { system.new.config ≡ system.old.config }
+    ensures stands { StandsIn (H.machine machine.new).memory system.new }
+    ensures len { vec_len lines.new ≡ vec_len lines.old }
+{
+    for number in 0..rounds {
+        let these = of_round(events, number + 1);
+        make_one(system, machine, lines, these, turns);
+    }
+}
+
+/// How a case is played.
+#[derive(Clone, Copy)]
+pub struct How<'a> {
+    /// Steps in a slice.
+    pub slice: u32,
+    /// Where there are any: guests in the order of their turns, each with so many steps at most, round and again.
+    pub order: &'a [(u8, u32)],
+    /// Puts that fail, by line.
+    pub cuts: &'a [(u8, Cut)],
+    /// Calls that fail, by drive, counted from 1.
+    pub failing: &'a [(u8, u32)],
+}
+
+/// By slices of 10 steps, and nothing fails.
+pub const HOW: How<'static> = How {
+    slice: 10,
+    order: &[],
+    cuts: &[],
+    failing: &[],
+};
+
+/// The configuration of a case.
+fn config_of(alloc: Global, case: &Case, slice: u32) -> Result<Config, Trouble>
+    ensures { IfOk result (λ c. IsConfig c) }
+{
+    let Ok(text) = format!(in alloc; "version = 2\nslice = {slice}\n{}", case.config) else {
+        return Err(Trouble::NoMemory);
+    };
+    match read_config(alloc, text.as_bytes()) {
+        Ok(config) => Ok(config),
+        Err(error) => Err(Trouble::Config(error)),
+    }
+}
+
+/// The images of a case.
+fn images_of(alloc: Global, case: &Case) -> Result<Vec<Vec<u8>>, NoMemory> {
+    let mut images = Vec::new(alloc);
+    for content in case.images {
+        images.push(bytes_of(alloc, content)?)?;
+    }
+    Ok(images)
+}
+
+/// The turns of a round; none where it goes by slices.
+fn turns_of(
+    alloc: Global,
+    config: &Config,
+    order: &[(u8, u32)],
+) -> Result<Option<Vec<TimeSlice>>, Trouble>
+    ensures { IfOk result (λ o. IfSome o (λ ts. AreTurns config.now ts.items)) }
+{
+    if order.is_empty() {
+        return Ok(None);
+    }
+    let turns = rotations(alloc, config.guests.as_slice(), order)?;
+    if are_turns(&turns, config) {
+        Ok(Some(turns))
+    } else {
+        Err(Trouble::Turns)
+    }
+}
+
+/// Plays a case on lines and drives that are there; what they show and keep is to be asked of them.
+pub fn run<H: Hardware>(
+    alloc: Global,
+    machine: &mut H,
+    case: &Case,
+    how: &How<'_>,
+    lines: &mut Vec<Box<dyn Line>>,
+    drives: &mut Vec<Box<dyn Drive>>,
+) -> Result<Ending, Trouble>
+    requires lines { vec_len lines.old ≡ 32 }
+    requires drives { vec_len drives.old ≡ 16 }
+{
+    if machine.pages() != PAGES {
+        return Err(Trouble::Machine);
+    }
+    let config = config_of(alloc, case, how.slice)?;
+    let events = read_script(alloc, case.script.as_bytes())?;
+    let images = images_of(alloc, case)?;
+    let turns = turns_of(alloc, &config, how.order)?;
+    if images.len() != config.guests.len() {
+        return Err(Trouble::Images);
+    }
+    if case.rounds > 1_000_000 {
+        return Err(Trouble::Rounds);
+    }
+    let mut system = match powered(alloc, config, &images, machine, drives) {
+        Ok(system) => system,
+        Err(fault) => return Ok(Ending::without_power(fault)),
+    };
+    make_rounds(&mut system, machine, lines, &events, case.rounds, &turns);
+    system.power_down(machine, lines, drives);
+    Ok(Ending {
+        fault: None,
+        failed: system.failed(),
+        counts: system.counts(),
+    })
+}
