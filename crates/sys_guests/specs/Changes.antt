@@ -44,7 +44,7 @@ abbrev pub shown_in : ℕ → Option Guest → List ℕ
 shown_in n None = []
 shown_in n (Some g) = (alone n g).shown
 
--- It takes its turn, alone: its bytes are kept, its steps counted.
+-- It takes a slice of its turn, alone: its bytes are kept, its steps counted.
 pub record AdvancesOne (x : Slice) (m : Machine) (ks : List Kept) (m' : Machine) (ks' : List Kept) (text : List ℕ) (c : Counts) : Type 0 where
   pub changes : (rows : List GuestRow) → AreInMachine rows m.memory ks → ChangesOne rows x.guest (λ g. (alone x.steps g).guest) m ks m' ks'
   pub shown : text ≡ shown_in x.steps (slice_get (guests_in m.memory ks) x.guest)

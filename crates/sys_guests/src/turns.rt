@@ -12,29 +12,29 @@ use vax_hw::Hardware;
 use vm_console::KeptPort;
 use vm_guest::{Counts, Guest};
 
-/// A guest's turn: its place, and how many steps it takes.
+/// A slice of a guest's turn: the guest's place, and how many steps it takes.
 #[derive(Clone, Copy, Debug, PartialEq, Eq)]
 pub struct TimeSlice {
     pub guest: u8,
     pub steps: u32,
 }
 
-/// A guest's turn is taken, and what it shows is kept.
+/// A guest takes a slice of its turn, and what it shows is kept.
 pub fn advance_at<H: Hardware>(
     machine: &mut H,
     port: &mut KeptPort<MOST_SHOWN>,
     guests: &mut Vec<Guest>,
-    turn: TimeSlice,
+    slice: TimeSlice,
 ) -> Counts
-    requires there { turn.guest < vec_len guests.old }
-    requires few { turn.steps ≤ 100000 }
+    requires there { slice.guest < vec_len guests.old }
+    requires few { slice.steps ≤ 100000 }
     requires stand { All (λ k. StandsIn (H.machine machine.old).memory k) guests.old.items }
-    ensures advances { AdvancesOne (record { guest = turn.guest; steps = turn.steps }) (H.machine machine.old) guests.old.items (H.machine machine.new) guests.new.items port.new.bytes result }
-    ensures pays { PaysAll (touches_of_slice (record { guest = turn.guest; steps = turn.steps }) (guests_in (H.machine machine.old).memory guests.old.items)) (H.machine machine.old) guests.old.items (H.machine machine.new) guests.new.items }
+    ensures advances { AdvancesOne (record { guest = slice.guest; steps = slice.steps }) (H.machine machine.old) guests.old.items (H.machine machine.new) guests.new.items port.new.bytes result }
+    ensures pays { PaysAll (touches_of_slice (record { guest = slice.guest; steps = slice.steps }) (guests_in (H.machine machine.old).memory guests.old.items)) (H.machine machine.old) guests.old.items (H.machine machine.new) guests.new.items }
 {
     port.clear();
-    let guest = &mut guests[turn.guest as usize];
-    guest.advance(machine, port, turn.steps)
+    let guest = &mut guests[slice.guest as usize];
+    guest.advance(machine, port, slice.steps)
 }
 
 /// A guest starts.

@@ -8,8 +8,8 @@ mod devices;
 mod outcome;
 mod playing;
 mod running;
+mod slices;
 mod trouble;
-mod turns;
 
 pub use case::{CASE, Case, Shown};
 pub use content::{Content, Piece};

@@ -1,15 +1,15 @@
 ghost use Rattle.std.specs.Prelude.{◌≡◌, ◌<◌, ◌≤◌, ◌*◌, ◌+◌, All, IfOk, IfSome, IsTrue, false, length, map, vec_len};
 ghost use Rattle.sys_drives.specs.Rows.{FitsDrive};
 ghost use Rattle.sys_objects.specs.Condition.{IsConfig};
-ghost use Rattle.sys_stage.specs.Turns.{AreTurns};
+ghost use Rattle.sys_stage.specs.Slices.{AreSlices};
 ghost use Rattle.sys_system.specs.Calls.{AreOf};
 ghost use Rattle.sys_system.specs.System.{StandsIn};
 
 use crate::case::Case;
 use crate::content::bytes_of;
 use crate::outcome::Ending;
+use crate::slices::{are_quanta, rotations};
 use crate::trouble::Trouble;
-use crate::turns::{are_quanta, rotations};
 use std::alloc::Global;
 use sys_config::read_config;
 use sys_objects::Config;
@@ -47,12 +47,15 @@ fn of_round(events: &[Event], round: u32) -> &[Event]
     if are_of(these, round) { these } else { &[] }
 }
 
-/// Whether each guest takes its quantum in these turns.
-fn are_turns(turns: &[TimeSlice], config: &Config) -> bool
-    ensures { IsTrue result → AreTurns config.now turns.now }
+/// Whether each guest takes its quantum in these slices.
+fn are_slices(slices: &[TimeSlice], config: &Config) -> bool
+    ensures { IsTrue result → AreSlices config.now slices.now }
 {
     let rows = config.guests.as_slice();
-    turns.iter().all(|turn| (turn.guest as usize) < rows.len()) && are_quanta(turns, 0, rows)
+    slices
+        .iter()
+        .all(|slice| (slice.guest as usize) < rows.len())
+        && are_quanta(slices, 0, rows)
 }
 
 /// Brings power up.
@@ -78,77 +81,77 @@ fn powered<H: Hardware>(
     Ok(system)
 }
 
-/// Makes a round by turns.
+/// Makes a round by slices.
 fn take_one<H: Hardware>(
     system: &mut System,
     machine: &mut H,
     lines: &mut Vec<Box<dyn Line>>,
     events: &[Event],
-    turns: &[TimeSlice],
+    slices: &[TimeSlice],
 )
     requires rests { system.old.turns.is_begun ≡ false }
     requires few { system.old.rounds < 4000000000 }
     requires stands { StandsIn (H.machine machine.old).memory system.old }
     requires lines { vec_len lines.old ≡ 32 }
     requires events { AreOf (system.old.rounds + 1) events.now }
-    requires turns { AreTurns system.old.config turns.now }
+    requires slices { AreSlices system.old.config slices.now }
     ensures config { system.new.config ≡ system.old.config }
     ensures rounds { system.new.rounds ≡ system.old.rounds + 1 }
     ensures rests { system.new.turns.is_begun ≡ false }
     ensures stands { StandsIn (H.machine machine.new).memory system.new }
     ensures len { vec_len lines.new ≡ vec_len lines.old }
 {
-    system.take_turns(machine, lines, events, turns);
+    system.take_slices(machine, lines, events, slices);
 }
 
-/// Makes a round, by slices or by turns.
+/// Makes a round, by the slices of `next`, or by these.
 fn make_one<H: Hardware>(
     system: &mut System,
     machine: &mut H,
     lines: &mut Vec<Box<dyn Line>>,
     events: &[Event],
-    turns: &Option<Vec<TimeSlice>>,
+    slices: &Option<Vec<TimeSlice>>,
 )
     requires rests { system.old.turns.is_begun ≡ false }
     requires few { system.old.rounds < 4000000000 }
     requires stands { StandsIn (H.machine machine.old).memory system.old }
     requires lines { vec_len lines.old ≡ 32 }
     requires events { AreOf (system.old.rounds + 1) events.now }
-    requires turns { IfSome turns.now (λ ts. AreTurns system.old.config ts.items) }
+    requires slices { IfSome slices.now (λ ts. AreSlices system.old.config ts.items) }
     ensures config { system.new.config ≡ system.old.config }
     ensures rounds { system.new.rounds ≡ system.old.rounds + 1 }
     ensures rests { system.new.turns.is_begun ≡ false }
     ensures stands { StandsIn (H.machine machine.new).memory system.new }
     ensures len { vec_len lines.new ≡ vec_len lines.old }
 {
-    match turns {
+    match slices {
         None => system.make_round(machine, lines, events),
-        Some(turns) => take_one(system, machine, lines, events, turns.as_slice()),
+        Some(slices) => take_one(system, machine, lines, events, slices.as_slice()),
     }
 }
 
-/// Makes so many rounds, with their events, each by slices or by these turns.
+/// Makes so many rounds, with their events, each by the slices of `next`, or by these.
 fn make_rounds<H: Hardware>(
     system: &mut System,
     machine: &mut H,
     lines: &mut Vec<Box<dyn Line>>,
     events: &[Event],
     rounds: u32,
-    turns: &Option<Vec<TimeSlice>>,
+    slices: &Option<Vec<TimeSlice>>,
 )
     requires rests { system.old.turns.is_begun ≡ false }
     requires first { system.old.rounds ≡ 0 }
     requires few { rounds ≤ 1000000 }
     requires stands { StandsIn (H.machine machine.old).memory system.old }
     requires lines { vec_len lines.old ≡ 32 }
-    requires turns { IfSome turns.now (λ ts. AreTurns system.old.config ts.items) }
+    requires slices { IfSome slices.now (λ ts. AreSlices system.old.config ts.items) }
     ensures config { system.new.config ≡ system.old.config }
     ensures stands { StandsIn (H.machine machine.new).memory system.new }
     ensures len { vec_len lines.new ≡ vec_len lines.old }
 {
     for number in 0..rounds {
         let these = of_round(events, number + 1);
-        make_one(system, machine, lines, these, turns);
+        make_one(system, machine, lines, these, slices);
     }
 }
 
@@ -157,7 +160,7 @@ fn make_rounds<H: Hardware>(
 pub struct How<'a> {
     /// Steps in a slice.
     pub slice: u32,
-    /// Where there are any: guests in the order of their turns, each with so many steps at most, round and again.
+    /// Where there are any: guests in an order, each with so many steps at most, round and again.
     pub order: &'a [(u8, u32)],
     /// Puts that fail, by line.
     pub cuts: &'a [(u8, Cut)],
@@ -195,22 +198,22 @@ fn images_of(alloc: Global, case: &Case) -> Result<Vec<Vec<u8>>, NoMemory> {
     Ok(images)
 }
 
-/// The turns of a round; none where it goes by slices.
-fn turns_of(
+/// The slices of a round; none where it goes by those of `next`.
+fn slices_of(
     alloc: Global,
     config: &Config,
     order: &[(u8, u32)],
 ) -> Result<Option<Vec<TimeSlice>>, Trouble>
-    ensures { IfOk result (λ o. IfSome o (λ ts. AreTurns config.now ts.items)) }
+    ensures { IfOk result (λ o. IfSome o (λ ts. AreSlices config.now ts.items)) }
 {
     if order.is_empty() {
         return Ok(None);
     }
-    let turns = rotations(alloc, config.guests.as_slice(), order)?;
-    if are_turns(&turns, config) {
-        Ok(Some(turns))
+    let slices = rotations(alloc, config.guests.as_slice(), order)?;
+    if are_slices(&slices, config) {
+        Ok(Some(slices))
     } else {
-        Err(Trouble::Turns)
+        Err(Trouble::Slices)
     }
 }
 
@@ -232,7 +235,7 @@ pub fn run<H: Hardware>(
     let config = config_of(alloc, case, how.slice)?;
     let events = read_script(alloc, case.script.as_bytes())?;
     let images = images_of(alloc, case)?;
-    let turns = turns_of(alloc, &config, how.order)?;
+    let slices = slices_of(alloc, &config, how.order)?;
     if images.len() != config.guests.len() {
         return Err(Trouble::Images);
     }
@@ -243,7 +246,7 @@ pub fn run<H: Hardware>(
         Ok(system) => system,
         Err(fault) => return Ok(Ending::without_power(fault)),
     };
-    make_rounds(&mut system, machine, lines, &events, case.rounds, &turns);
+    make_rounds(&mut system, machine, lines, &events, case.rounds, &slices);
     system.power_down(machine, lines, drives);
     Ok(Ending {
         fault: None,

@@ -15,8 +15,8 @@ pub enum Trouble {
     Images,
     /// There are more than 1,000,000 rounds.
     Rounds,
-    /// A guest doesn't take its quantum in the turns.
-    Turns,
+    /// A guest doesn't take its quantum in the slices.
+    Slices,
 }
 
 impl From<NoMemory> for Trouble {

@@ -1,4 +1,4 @@
--- The next turn of a round.
+-- The next slice of a round.
 use Rattle.std.proofs.Common.{ℕ, zero, suc, ◌≡◌, ◌<◌, ◌≤◌, ◌+◌, ◌-◌, List, [], ◌∷◌, length, drop, slice_index, min, refl, sym, ◌∙◌, ap, arith, Bool, true, false, true≢false, if◌then◌else◌, Option, Some, None, option_map}
 use Rattle.std.proofs.lemmas.Bool.{ltb-false, ltb-true}
 use Rattle.std.proofs.lemmas.List.{get_or-drop, get_or_past, length-drop}
@@ -14,7 +14,7 @@ use Rattle.sys_rounds.specs.Slices.{Slice}
 same_some : {X : Type 0} (x y : X) → (let o : Option X = Some x in o ≡ Some y) → x ≡ y
 same_some x y e = cc
 
--- the next turn can be taken
+-- the next slice can be taken
 none_first : (b : Bool) (n : ℕ) → (if b then Some n else None) ≡ None → b ≡ false
 none_first true n e = cc
 none_first false n e = refl
@@ -52,8 +52,8 @@ guest_is from g left within e = first_is (option_map (λ k. from + k) (position 
 pub next_can : (s : System) (x : Slice) → IsSystem s → next_slice s.config.slice s.turns ≡ Some x → CanTake s x × (0 < x.steps)
 next_can s x h e =
     let left = s.turns.left in
-    let turn : ℕ → Slice = λ g. record { guest = g; steps = min s.config.slice (slice_index left g) } in
-    let (running, rest) = turn_is s.turns.is_begun (next_guest s.turns.from left) turn x e in
+    let piece : ℕ → Slice = λ g. record { guest = g; steps = min s.config.slice (slice_index left g) } in
+    let (running, rest) = turn_is s.turns.is_begun (next_guest s.turns.from left) piece x e in
     let g = rest.0 in
     let is : next_guest s.turns.from left ≡ Some g = rest.1.0 in
     let guest : g ≡ x.guest = ap (λ (y : Slice). y.guest) rest.1.1 in
@@ -75,8 +75,8 @@ no_turn false o f running e = absurd (true≢false (sym running))
 pub none_next : (s : System) → s.turns.is_begun ≡ true → next_slice s.config.slice s.turns ≡ None → NoneLeft s.turns.left
 none_next s running e i =
     let left = s.turns.left in
-    let turn : ℕ → Slice = λ g. record { guest = g; steps = min s.config.slice (slice_index left g) } in
-    let none : position has_some left ≡ None = both_none (option_map (λ k. s.turns.from + k) (position has_some (drop s.turns.from left))) (position has_some left) (no_turn s.turns.is_begun (next_guest s.turns.from left) turn running e) in
+    let piece : ℕ → Slice = λ g. record { guest = g; steps = min s.config.slice (slice_index left g) } in
+    let none : position has_some left ≡ None = both_none (option_map (λ k. s.turns.from + k) (position has_some (drop s.turns.from left))) (position has_some left) (no_turn s.turns.is_begun (next_guest s.turns.from left) piece running e) in
     both (nat_lt i (length left))
     (λ inside. let zero_left : slice_index left i ≤ 0 = ltb-false 0 (slice_index left i) (passes_none has_some left i none (ltb-true i (length left) inside)) in omega (arith, zero_left))
     (λ outside. get_or_past left i 0 (ltb-false i (length left) outside))

@@ -15,7 +15,7 @@ use Rattle.sys_objects.specs.declared.records.Config.{Config}
 use Rattle.sys_objects.specs.declared.records.GuestRow.{GuestRow}
 use Rattle.sys_objects.specs.declared.records.Terminal.{Terminal}
 use Rattle.sys_system.proofs.Paying.{pays_more, pays_none}
-use Rattle.sys_system.proofs.Slicing.{falls, front_takes, left_falls, now_more, puts_more, quanta_of, quantum_is, retires_then, taken, tally_more, total_more, turns_more}
+use Rattle.sys_system.proofs.Slicing.{falls, front_takes, left_falls, now_more, puts_more, quanta_of, quantum_is, retires_then, taken, tally_more, total_more, slices_more}
 use Rattle.sys_system.proofs.Sums.{added_twice}
 use Rattle.sys_system.specs.Calls.{CanTake, Plays, TakesSlice}
 use Rattle.sys_system.specs.System.{IsSystem, NoneLeft, StandsIn, System, Turns, after_slice, all_turns, slice_of_time}
@@ -88,23 +88,23 @@ pub quanta_taken : (xs : List Slice) (m m' : Machine) (s s' : System) (lines lin
 quanta_taken xs m m' s s' lines lines' all p none =
     quanta_of xs 0 s.config.guests (λ i. let e : 0 + i ≡ i = omega arith in ap (total xs) e ∙ omega (arith, p.left i, none i, ap (λ (t : Turns). slice_index t.left i) all))
 
--- the turn at a place can be taken
-pub turn_can : (turns : List TimeSlice) (i : ℕ) (turn : TimeSlice) (m m' : Machine) (s s' : System) (lines lines' : List Seen) → IsSystem s → IsSystem s' → s.turns ≡ all_turns s.config.guests → AreQuanta (map slice_of_time turns) 0 s.config.guests → i < length turns → turn ≡ slice_index_or turns i turn → turn.guest < length s.guests
-    → Plays (map slice_of_time (take i turns)) m s lines m' s' lines' → CanTake s' (slice_of_time turn)
-turn_can turns i turn m m' s s' lines lines' h h' first quanta inside read there p =
-    let g = turn.guest in
+-- the slice at a place can be taken
+pub slice_can : (pieces : List TimeSlice) (i : ℕ) (piece : TimeSlice) (m m' : Machine) (s s' : System) (lines lines' : List Seen) → IsSystem s → IsSystem s' → s.turns ≡ all_turns s.config.guests → AreQuanta (map slice_of_time pieces) 0 s.config.guests → i < length pieces → piece ≡ slice_index_or pieces i piece → piece.guest < length s.guests
+    → Plays (map slice_of_time (take i pieces)) m s lines m' s' lines' → CanTake s' (slice_of_time piece)
+slice_can pieces i piece m m' s s' lines lines' h h' first quanta inside read there p =
+    let g = piece.guest in
     let rows = s.config.guests in
-    let xs = map slice_of_time (take i turns) in
+    let xs = map slice_of_time (take i pieces) in
     let same : length s'.config.guests ≡ length rows = ap (λ (k : System). length k.config.guests) p.system in
-    let all : map slice_of_time turns ≡ (xs ++ slice_of_time turn ∷ []) ++ map slice_of_time (drop (i + 1) turns) = ap (map slice_of_time) (sym (take-append-drop (i + 1) turns)) ∙ map-append slice_of_time (take (i + 1) turns) (drop (i + 1) turns) ∙ ap (λ ys. ys ++ map slice_of_time (drop (i + 1) turns)) (turns_more turns i turn inside read) in
-    let quantum : total (map slice_of_time turns) g ≡ slice_index (map (λ (row : GuestRow). row.quantum) rows) g = quantum_is (map slice_of_time turns) rows g quanta (omega (arith, there, h.many)) in
-    let front : total (xs ++ slice_of_time turn ∷ []) g ≤ total ((xs ++ slice_of_time turn ∷ []) ++ map slice_of_time (drop (i + 1) turns)) g = front_takes (xs ++ slice_of_time turn ∷ []) (map slice_of_time (drop (i + 1) turns)) g in
-    let whole : total (map slice_of_time turns) g ≡ total ((xs ++ slice_of_time turn ∷ []) ++ map slice_of_time (drop (i + 1) turns)) g = ap (λ ys. total ys g) all in
-    let own : taken (slice_of_time turn) g ≡ turn.steps = ap (λ b. if b then turn.steps else 0) (eq-eqb g g refl) in
+    let all : map slice_of_time pieces ≡ (xs ++ slice_of_time piece ∷ []) ++ map slice_of_time (drop (i + 1) pieces) = ap (map slice_of_time) (sym (take-append-drop (i + 1) pieces)) ∙ map-append slice_of_time (take (i + 1) pieces) (drop (i + 1) pieces) ∙ ap (λ ys. ys ++ map slice_of_time (drop (i + 1) pieces)) (slices_more pieces i piece inside read) in
+    let quantum : total (map slice_of_time pieces) g ≡ slice_index (map (λ (row : GuestRow). row.quantum) rows) g = quantum_is (map slice_of_time pieces) rows g quanta (omega (arith, there, h.many)) in
+    let front : total (xs ++ slice_of_time piece ∷ []) g ≤ total ((xs ++ slice_of_time piece ∷ []) ++ map slice_of_time (drop (i + 1) pieces)) g = front_takes (xs ++ slice_of_time piece ∷ []) (map slice_of_time (drop (i + 1) pieces)) g in
+    let whole : total (map slice_of_time pieces) g ≡ total ((xs ++ slice_of_time piece ∷ []) ++ map slice_of_time (drop (i + 1) pieces)) g = ap (λ ys. total ys g) all in
+    let own : taken (slice_of_time piece) g ≡ piece.steps = ap (λ b. if b then piece.steps else 0) (eq-eqb g g refl) in
     let left : slice_index s.turns.left g ≡ slice_index (map (λ (row : GuestRow). row.quantum) rows) g = ap (λ (t : Turns). slice_index t.left g) first in
-    record { begun = p.begun; there = omega (arith, there, h.many, h'.many, same); left = omega (arith, p.left g, left, quantum, front, whole, own, total_more xs (slice_of_time turn) g) }
+    record { begun = p.begun; there = omega (arith, there, h.many, h'.many, same); left = omega (arith, p.left g, left, quantum, front, whole, own, total_more xs (slice_of_time piece) g) }
 
--- when all turns are taken no guest has steps left
+-- when all slices are taken no guest has steps left
 pub all_taken : (xs : List Slice) (m m' : Machine) (s s' : System) (lines lines' : List Seen) → s.turns ≡ all_turns s.config.guests → AreQuanta xs 0 s.config.guests → Plays xs m s lines m' s' lines' → NoneLeft s'.turns.left
 all_taken xs m m' s s' lines lines' first quanta p i =
     let rows = s.config.guests in
@@ -118,11 +118,11 @@ all_taken xs m m' s s' lines lines' first quanta p i =
     let none : slice_index (map quantum rows) i ≡ 0 = get_or_past (map quantum rows) i 0 (omega (arith, size, past)) in
     omega (arith, p.left i, left, none))
 
--- the turns up to a place are played, and then the one there
-pub plays_next : (turns : List TimeSlice) (i : ℕ) (turn : TimeSlice) (m m' m'' : Machine) (s s' s'' : System) (lines lines' lines'' : List Seen) → i < length turns → turn ≡ slice_index_or turns i turn → Plays (map slice_of_time (take i turns)) m s lines m' s' lines' → CanTake s' (slice_of_time turn)
-    → TakesSlice (slice_of_time turn) m' s' lines' m'' s'' lines'' → PaysAll (touches_of_slice (slice_of_time turn) (guests_in m'.memory s'.guests)) m' s'.guests m'' s''.guests → Plays (map slice_of_time (take (i + 1) turns)) m s lines m'' s'' lines''
-plays_next turns i turn m m' m'' s s' s'' lines lines' lines'' inside read p can t pays =
-    subst (λ xs. Plays xs m s lines m'' s'' lines'') (sym (turns_more turns i turn inside read)) (plays_more (map slice_of_time (take i turns)) (slice_of_time turn) m m' m'' s s' s'' lines lines' lines'' p can t pays)
+-- the slices up to a place are played, and then the one there
+pub plays_next : (pieces : List TimeSlice) (i : ℕ) (piece : TimeSlice) (m m' m'' : Machine) (s s' s'' : System) (lines lines' lines'' : List Seen) → i < length pieces → piece ≡ slice_index_or pieces i piece → Plays (map slice_of_time (take i pieces)) m s lines m' s' lines' → CanTake s' (slice_of_time piece)
+    → TakesSlice (slice_of_time piece) m' s' lines' m'' s'' lines'' → PaysAll (touches_of_slice (slice_of_time piece) (guests_in m'.memory s'.guests)) m' s'.guests m'' s''.guests → Plays (map slice_of_time (take (i + 1) pieces)) m s lines m'' s'' lines''
+plays_next pieces i piece m m' m'' s s' s'' lines lines' lines'' inside read p can t pays =
+    subst (λ xs. Plays xs m s lines m'' s'' lines'') (sym (slices_more pieces i piece inside read)) (plays_more (map slice_of_time (take i pieces)) (slice_of_time piece) m m' m'' s s' s'' lines lines' lines'' p can t pays)
 
-pub all_played : (turns : List TimeSlice) (i : ℕ) (m m' : Machine) (s s' : System) (lines lines' : List Seen) → length turns ≤ i → Plays (map slice_of_time (take i turns)) m s lines m' s' lines' → Plays (map slice_of_time turns) m s lines m' s' lines'
-all_played turns i m m' s s' lines lines' h p = subst (λ ts. Plays (map slice_of_time ts) m s lines m' s' lines') (take_all i turns h) p
+pub all_played : (pieces : List TimeSlice) (i : ℕ) (m m' : Machine) (s s' : System) (lines lines' : List Seen) → length pieces ≤ i → Plays (map slice_of_time (take i pieces)) m s lines m' s' lines' → Plays (map slice_of_time pieces) m s lines m' s' lines'
+all_played pieces i m m' s s' lines lines' h p = subst (λ ts. Plays (map slice_of_time ts) m s lines m' s' lines') (take_all i pieces h) p

@@ -87,10 +87,10 @@ pub record StaysBeside (s s' : Parts) : Type 0 where
   pub rounds : s'.rounds ≡ s.rounds
   pub drives : s'.drives ≡ s.drives
 
-counted_taken : (turn : TimeSlice) (s s' : Parts) (c : Counts) → IsInside s → CanTake (system_of s) (slice_of_time turn) → StaysBeside s s' → steps_in c ≡ turn.steps → tally_of s'.counts ≡ added (tally_of s.counts) (tally_of c) → turns_of s'.turns ≡ after_slice (turns_of s.turns) (slice_of_time turn) → AreCounted s'
-counted_taken turn s s' c h can stays steps counts turns =
-    let k = turn.guest in
-    let n = turn.steps in
+counted_taken : (piece : TimeSlice) (s s' : Parts) (c : Counts) → IsInside s → CanTake (system_of s) (slice_of_time piece) → StaysBeside s s' → steps_in c ≡ piece.steps → tally_of s'.counts ≡ added (tally_of s.counts) (tally_of c) → turns_of s'.turns ≡ after_slice (turns_of s.turns) (slice_of_time piece) → AreCounted s'
+counted_taken piece s s' c h can stays steps counts turns =
+    let k = piece.guest in
+    let n = piece.steps in
     let old : List ℕ = s.turns.left.items in
     let left : s'.turns.left.items ≡ changed (λ x. x - n) old k = ap (λ (t : Turns). t.left) turns in
     record {
@@ -102,10 +102,10 @@ counted_taken turn s s' c h can stays steps counts turns =
       few_rounds = omega (arith, h.system.few_rounds, stays.rounds);
     }
 
-pub taken : (turn : TimeSlice) (m m' : Machine) (s s' : Parts) (lines lines' : List Seen) (shown : List ℕ) (c : Counts) (console : Option ℕ) → IsInside s → StandsIn m.memory (system_of s) → CanTake (system_of s) (slice_of_time turn) → StaysBeside s s' → AdvancesOne (slice_of_time turn) m s.kernel.guests.items m' s'.kernel.guests.items shown c
-    → tally_of s'.counts ≡ added (tally_of s.counts) (tally_of c) → console ≡ console_of s.kernel.config.terminals s.kernel.server.at turn.guest → Shows s.kernel.marks s'.kernel.marks lines lines' (only_on console shown) → turns_of s'.turns ≡ after_slice (turns_of s.turns) (slice_of_time turn) → TakesSlice (slice_of_time turn) m (system_of s) lines m' (system_of s') lines' × IsInside s'
-taken turn m m' s s' lines lines' shown c console h stands can stays a counts at shows turns =
-    let x : Slice = slice_of_time turn in
+pub taken : (piece : TimeSlice) (m m' : Machine) (s s' : Parts) (lines lines' : List Seen) (shown : List ℕ) (c : Counts) (console : Option ℕ) → IsInside s → StandsIn m.memory (system_of s) → CanTake (system_of s) (slice_of_time piece) → StaysBeside s s' → AdvancesOne (slice_of_time piece) m s.kernel.guests.items m' s'.kernel.guests.items shown c
+    → tally_of s'.counts ≡ added (tally_of s.counts) (tally_of c) → console ≡ console_of s.kernel.config.terminals s.kernel.server.at piece.guest → Shows s.kernel.marks s'.kernel.marks lines lines' (only_on console shown) → turns_of s'.turns ≡ after_slice (turns_of s.turns) (slice_of_time piece) → TakesSlice (slice_of_time piece) m (system_of s) lines m' (system_of s') lines' × IsInside s'
+taken piece m m' s s' lines lines' shown c console h stands can stays a counts at shows turns =
+    let x : Slice = slice_of_time piece in
     let ts = s.kernel.config.terminals in
     let gs : List Guest = guests_in m.memory s.kernel.guests.items in
     let place = console_of ts (take (length ts) s.kernel.server.at) x.guest in
@@ -127,7 +127,7 @@ taken turn m m' s s' lines lines' shown c console h stands can stays a counts at
         retires = subst (λ (t : Tally). Retires m m' t) tally a.retires;
       },
       inside_of m'.memory s' (still m'.memory s s' stays (kernel_holds m.memory s h stands) stands')
-          (ap (λ vs. map length vs) stays.volumes ∙ h.system.volumes ∙ ap (λ (k : Config). map (λ (v : VolumeRow). v.blocks) k.volumes) (sym stays.config)) (counted_taken turn s s' c h can stays a.steps counts turns),
+          (ap (λ vs. map length vs) stays.volumes ∙ h.system.volumes ∙ ap (λ (k : Config). map (λ (v : VolumeRow). v.blocks) k.volumes) (sym stays.config)) (counted_taken piece s s' c h can stays a.steps counts turns),
     )
   where
     still : (memory : List ℕ) (s s' : Parts) → StaysBeside s s' → IsKernel m.memory s.kernel → StandsIn memory (system_of s') → IsKernel memory s'.kernel

@@ -97,9 +97,9 @@ front_takes (x ∷ xs) ys i = by (i == x.guest) (total xs i) (total (xs ++ ys) i
     by true m n h = omega (arith, h)
     by false m n h = h
 
--- the turns up to a place, and the one there
-pub turns_more : (turns : List TimeSlice) (i : ℕ) (turn : TimeSlice) → i < length turns → turn ≡ slice_index_or turns i turn → map slice_of_time (take (i + 1) turns) ≡ map slice_of_time (take i turns) ++ slice_of_time turn ∷ []
-turns_more turns i turn h read = ap (map slice_of_time) (take_more turns i turn h ∙ ap (λ (t : TimeSlice). take i turns ++ t ∷ []) (sym read)) ∙ map-append slice_of_time (take i turns) (turn ∷ [])
+-- the slices up to a place, and the one there
+pub slices_more : (pieces : List TimeSlice) (i : ℕ) (piece : TimeSlice) → i < length pieces → piece ≡ slice_index_or pieces i piece → map slice_of_time (take (i + 1) pieces) ≡ map slice_of_time (take i pieces) ++ slice_of_time piece ∷ []
+slices_more pieces i piece h read = ap (map slice_of_time) (take_more pieces i piece h ∙ ap (λ (t : TimeSlice). take i pieces ++ t ∷ []) (sym read)) ∙ map-append slice_of_time (take i pieces) (piece ∷ [])
 
 -- numbers of which one falls
 changed_long : (f : ℕ → ℕ) (xs : List ℕ) (k : ℕ) → length (changed f xs k) ≡ length xs

@@ -65,28 +65,28 @@ pub fn begin<H: Hardware>(
     happen(machine, lines, &mut s.kernel, s.rounds, events);
 }
 
-/// A guest takes its turn, and its terminal's line is shown what it shows.
+/// A guest takes a slice of its turn, and its terminal's line is shown what it shows.
 pub fn take<H: Hardware>(
     machine: &mut H,
     lines: &mut Vec<Box<dyn Line>>,
     s: &mut Parts,
-    turn: TimeSlice,
+    slice: TimeSlice,
 )
     requires inside { IsInside s.old }
-    requires can { CanTake (system_of s.old) (slice_of_time turn) }
+    requires can { CanTake (system_of s.old) (slice_of_time slice) }
     requires stands { StandsIn (H.machine machine.old).memory (system_of s.old) }
     requires lines { vec_len lines.old ≡ 32 }
-    ensures takes { TakesSlice (slice_of_time turn) (H.machine machine.old) (system_of s.old) (map (λ b. seen b) lines.old.items) (H.machine machine.new) (system_of s.new) (map (λ b. seen b) lines.new.items) }
-    ensures pays { PaysAll (touches_of_slice (slice_of_time turn) (guests_in (H.machine machine.old).memory (system_of s.old).guests)) (H.machine machine.old) (system_of s.old).guests (H.machine machine.new) (system_of s.new).guests }
+    ensures takes { TakesSlice (slice_of_time slice) (H.machine machine.old) (system_of s.old) (map (λ b. seen b) lines.old.items) (H.machine machine.new) (system_of s.new) (map (λ b. seen b) lines.new.items) }
+    ensures pays { PaysAll (touches_of_slice (slice_of_time slice) (guests_in (H.machine machine.old).memory (system_of s.old).guests)) (H.machine machine.old) (system_of s.old).guests (H.machine machine.new) (system_of s.new).guests }
     ensures inside { IsInside s.new }
     ensures len { vec_len lines.new ≡ vec_len lines.old }
 {
-    s.turns.take(turn);
+    s.turns.take(slice);
     let kernel = &mut s.kernel;
-    let counts = advance_at(machine, &mut kernel.port, &mut kernel.guests, turn);
+    let counts = advance_at(machine, &mut kernel.port, &mut kernel.guests, slice);
     add(&mut s.counts, &counts);
     let terminals = kernel.config.terminals.as_slice();
-    let console = console_of(terminals, &kernel.server.at, turn.guest);
+    let console = console_of(terminals, &kernel.server.at, slice.guest);
     show_each(&mut kernel.marks, lines, console, kernel.port.bytes());
 }
 

@@ -27,34 +27,34 @@ impl System {
         ensures holds { IsSystem self.new }
     {
         self.begin_round(machine, lines, events);
-        while let Some(turn) = self.next() {
-            self.slice(machine, lines, turn.guest, turn.steps);
+        while let Some(one) = self.next() {
+            self.slice(machine, lines, one.guest, one.steps);
         }
         self.end_round(machine, lines);
     }
 
-    /// Makes a round with these events, by turns in any order, in which each guest takes its quantum.
-    pub fn take_turns<H: Hardware>(
+    /// Makes a round with these events, by slices in any order, in which each guest takes its quantum.
+    pub fn take_slices<H: Hardware>(
         &mut self,
         machine: &mut H,
         lines: &mut Vec<Box<dyn Line>>,
         events: &[Event],
-        turns: &[TimeSlice],
+        slices: &[TimeSlice],
     )
         requires rests { self.old.turns.is_begun ≡ false }
         requires few { self.old.rounds < 4000000000 }
         requires stands { StandsIn (H.machine machine.old).memory self.old }
         requires lines { vec_len lines.old ≡ 32 }
         requires events { AreOf (self.old.rounds + 1) events.now }
-        requires there { All (λ turn. turn.guest < length self.old.guests) turns.now }
-        requires quanta { AreQuanta (map slice_of_time turns.now) 0 self.old.config.guests }
+        requires there { All (λ slice. slice.guest < length self.old.guests) slices.now }
+        requires quanta { AreQuanta (map slice_of_time slices.now) 0 self.old.config.guests }
         ensures makes { MakesRound events.now (H.machine machine.old) self.old (map (λ b. seen b) lines.old.items) (H.machine machine.new) self.new (map (λ b. seen b) lines.new.items) }
         ensures len { vec_len lines.new ≡ vec_len lines.old }
         ensures holds { IsSystem self.new }
     {
         self.begin_round(machine, lines, events);
-        for turn in turns {
-            self.slice(machine, lines, turn.guest, turn.steps);
+        for one in slices {
+            self.slice(machine, lines, one.guest, one.steps);
         }
         self.end_round(machine, lines);
     }

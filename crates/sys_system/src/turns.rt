@@ -41,14 +41,14 @@ impl Turns {
         self.is_begun = true;
     }
 
-    /// A guest has taken its turn.
-    pub fn take(&mut self, turn: TimeSlice)
-        requires there { turn.guest < vec_len self.old.left }
-        requires left { turn.steps ≤ slice_index self.old.left.items turn.guest }
-        ensures { turns_of self.new ≡ after_slice (turns_of self.old) (slice_of_time turn) }
+    /// A guest has taken a slice of its turn.
+    pub fn take(&mut self, slice: TimeSlice)
+        requires there { slice.guest < vec_len self.old.left }
+        requires left { slice.steps ≤ slice_index self.old.left.items slice.guest }
+        ensures { turns_of self.new ≡ after_slice (turns_of self.old) (slice_of_time slice) }
     {
-        let place = turn.guest as usize;
-        self.left[place] -= turn.steps;
+        let place = slice.guest as usize;
+        self.left[place] -= slice.steps;
         self.from = place + 1;
     }
 
@@ -64,7 +64,7 @@ impl Turns {
         }
     }
 
-    /// The next turn: at most so many steps of the next guest with steps left.
+    /// The next slice: at most so many steps of the next guest with steps left.
     pub fn next(&self, slice: u32) -> Option<TimeSlice>
         requires from { self.now.from ≤ vec_len self.now.left }
         requires few { vec_len self.now.left ≤ 16 }

@@ -1,4 +1,4 @@
-//! Worked examples of several guests that take turns on the one machine, by slices and in orders of all kinds. What they come to was
+//! Worked examples of several guests that take turns on the one machine, by slices of all sizes and in all orders. What they come to was
 //! found by hand. Numbers in comments are hexadecimal, but those of steps and rounds.
 #![tactic(auto)]
 

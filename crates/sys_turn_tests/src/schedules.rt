@@ -1,4 +1,4 @@
-//! Slices and turns in any order come to the same.
+//! Slices of any size, in any order, come to the same.
 
 use std::alloc::Global;
 use std::test::Fail;
@@ -19,9 +19,9 @@ fn slices_of_any_size(rt: HostRuntime) -> Result<(), Fail> {
     Ok(())
 }
 
-/// The same by turns of the three guests in each order, of one step, of seven, of whole quanta, and of different sizes.
+/// The same by slices of the three guests in each order, of one step, of seven, of whole quanta, and of different sizes.
 #[test]
-fn turns_in_any_order(rt: HostRuntime) -> Result<(), Fail> {
+fn slices_in_any_order(rt: HostRuntime) -> Result<(), Fail> {
     let alloc = rt.alloc();
     let mut machine = new_machine(alloc)?;
     let (whole, difference) = ALL.played(alloc, &mut machine, &HOW)?;
@@ -32,7 +32,7 @@ fn turns_in_any_order(rt: HostRuntime) -> Result<(), Fail> {
     Ok(())
 }
 
-/// Three guests that count down a thousand steps, by slices and by turns in each order.
+/// Three guests that count down a thousand steps, by the slices of `next` and by slices in each order.
 #[test]
 fn three_guests_count_down(rt: HostRuntime) -> Result<(), Fail> {
     let alloc = rt.alloc();
@@ -80,17 +80,17 @@ fn other_slice(
     Ok(None)
 }
 
-/// Guests in the order of their turns, each with its steps in a turn at most.
-type Turns = [(u8, u32); 3];
+/// Guests in an order, each with its steps in a slice at most.
+type Order = [(u8, u32); 3];
 
-/// The first order of turns of these sizes by which a case doesn't come to the same.
+/// The first order of slices of these sizes by which a case doesn't come to the same.
 fn other_order_of(
     alloc: Global,
     machine: &mut Cpu,
     case: &Case,
     whole: &Outcome,
     sizes: [u32; 3],
-) -> Result<Option<Turns>, Trouble> {
+) -> Result<Option<Order>, Trouble> {
     let [x, y, z] = sizes;
     for [a, b, c] in ORDERS {
         let order = [(a, x), (b, y), (c, z)];
@@ -112,7 +112,7 @@ fn other_order(
     case: &Case,
     whole: &Outcome,
     sizes: &[[u32; 3]],
-) -> Result<Option<Turns>, Trouble> {
+) -> Result<Option<Order>, Trouble> {
     for these in sizes {
         let other = other_order_of(alloc, machine, case, whole, *these)?;
         if other.is_some() {

@@ -1,5 +1,5 @@
 use Rattle.std.proofs.Common.{length}
-use Rattle.sys_stage.proofs.turns.+steps_of.Given as goal
+use Rattle.sys_stage.proofs.slices.+steps_of.Given as goal
 
 abbrev pub decreases-steps_of : goal.decreases-steps_of
 decreases-steps_of l = length l.turns.now
