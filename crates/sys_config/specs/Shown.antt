@@ -1,11 +1,13 @@
 -- Worked examples of whole texts, checked by computation.
-use Rattle.std.specs.Prelude.{◌≡◌, [], codes, None, Ok, Err, refl}
+use Rattle.std.specs.Prelude.{◌≡◌, ℕ, [], codes, None, Some, Ok, Err, refl}
 use Rattle.std.specs.Str.{is_utf8, chars}
 use Rattle.toml.proofs.OnLiterals.{toml_on_literals}
 use Rattle.sys_objects.specs.Faults.{fault}
 use Rattle.sys_objects.specs.Judged.{judged}
-use Rattle.sys_config.specs.Entries.{named_line_of}
-use Rattle.sys_config.specs.Top.{top_of, top_of_one, top_of_two, tables_at}
+use Rattle.sys_config.specs.Entries.{class_in, named_line_of}
+use Rattle.sys_config.specs.Top.{tables_at, top_level, top_of, top_of_one, top_of_two}
+use Rattle.vv_class.specs.Scan.{class_of, more_level, start_of, step_of}
+use Rattle.vv_class.specs.declared.class.AccessClass.{AccessClass}
 use Rattle.sys_config.specs.Config.{numbers_of, rows_of, config_in, config_of}
 
 three_lines : config_of (codes "version = 1\nquantum = 10\nslice = 3\n") ≡ Ok (record { slice = 3; audit = None; terminals = []; volumes = []; printers = []; guests = [] })
@@ -27,3 +29,23 @@ cut_inside_a_string = refl
 without_a_class : config_of (codes "version = 2\nslice = 3\n[[terminal]]\nname = \"T1\"\nline = 0\n") ≡ Err (fault 6 0)
 unfolding toml_on_literals is_utf8 chars named_line_of top_of top_of_one top_of_two tables_at numbers_of rows_of judged config_in config_of
 without_a_class = refl
+
+-- the highest level is 15 in version 1, whose quantum is given at the top, and 255 in version 2
+abbrev secret : ℕ → AccessClass
+secret n = record { secrecy = n; secrecy_cats = 0; integrity = 0; integrity_cats = 0 }
+
+level_15_of_version_1 : class_in (top_level (Some 10)) (codes "15{};0{}") ≡ Some (secret 15)
+unfolding class_of step_of start_of more_level
+level_15_of_version_1 = refl
+
+level_16_of_version_1 : class_in (top_level (Some 10)) (codes "16{};0{}") ≡ None
+unfolding class_of step_of start_of more_level
+level_16_of_version_1 = refl
+
+level_16_of_version_2 : class_in (top_level None) (codes "16{};0{}") ≡ Some (secret 16)
+unfolding class_of step_of start_of more_level
+level_16_of_version_2 = refl
+
+level_256_of_version_2 : class_in (top_level None) (codes "256{};0{}") ≡ None
+unfolding class_of step_of start_of more_level
+level_256_of_version_2 = refl

@@ -17,6 +17,3 @@ pub use sys_objects::{
     Audit, Config, ConfigError, ConfigFault, GuestRow, Mount, PrinterRow, Rows, Terminal, VolumeRow,
 };
 pub use write::migrate_text;
-
-#[cfg(test)]
-mod tests;

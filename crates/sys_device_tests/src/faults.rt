@@ -314,7 +314,7 @@ struct Several {
     second: &'static [Content],
 }
 
-static SEVERAL: [Several; 6] = [
+static SEVERAL: [Several; 7] = [
     // within line 5's letter, and before line 3's: 115 bytes are the server's
     Several {
         cuts: &[
@@ -344,15 +344,28 @@ static SEVERAL: [Several; 6] = [
         fifth: &[NEW_0, OLD_1, OLD_2, OLD_3],
         second: &[OLD],
     },
-    // within a dump's first line, and behind 18 lines of registers and 11 of memory, of 58 bytes each
+    // within the line of R3, behind 6 bytes of the name and three registers of 13; and behind 18 lines of name, registers and PSL and 11
+    // of memory, of 58 bytes each
     Several {
         cuts: &[
-            (8, Cut { call: 1, after: 3 }),
+            (8, Cut { call: 5, after: 3 }),
             (7, Cut { call: 30, after: 0 }),
         ],
         failing: &[],
         device: Device::Line(7),
-        shown: &[(8, 3), (7, 872)],
+        shown: &[(8, 48), (7, 872)],
+        fifth: &[NEW_0, NEW_1, NEW_2, NEW_3],
+        second: &[OTHER_0],
+    },
+    // within a dump's first line, and before the PSL, behind the name and registers of 130 and 84 bytes
+    Several {
+        cuts: &[
+            (7, Cut { call: 1, after: 3 }),
+            (8, Cut { call: 18, after: 0 }),
+        ],
+        failing: &[],
+        device: Device::Line(7),
+        shown: &[(7, 3), (8, 220)],
         fifth: &[NEW_0, NEW_1, NEW_2, NEW_3],
         second: &[OTHER_0],
     },

@@ -14,10 +14,3 @@ pub use laws::{
     devices_depend_on_what_flows, purged_is_accepted, volumes_depend_on_what_flows,
 };
 pub use purge::purge_config;
-
-#[cfg(test)]
-mod content_tests;
-#[cfg(test)]
-mod event_tests;
-#[cfg(test)]
-mod tests;

@@ -32,11 +32,28 @@ reads_nothing = refl
 pub other_bits : after_rxcs_write initial_state 0xffff_ffbf ≡ initial_state
 other_bits = refl
 
+-- enable that is set while a byte waits requests; set again it makes no request, and cleared it ends the one there is
+abbrev one_waits : ConsoleState
+one_waits = record initial_state { waiting = 65 ∷ [] }
+
+pub enable_with_a_byte : after_rxcs_write one_waits 0x40 ≡ record one_waits { rx_enable = true; rx_request = true }
+enable_with_a_byte = refl
+
+pub enable_again : after_rxcs_write (after_rx_taken (after_rxcs_write one_waits 0x40)) 0x40 ≡ record one_waits { rx_enable = true }
+enable_again = refl
+
+pub disable_ends : after_rxcs_write (after_rxcs_write one_waits 0x40) 0 ≡ one_waits
+disable_ends = refl
+
 pub ready : txcs_of initial_state ≡ 0x80
 ready = refl
 
 pub enable_requests : after_txcs_write initial_state 0x40 ≡ record initial_state { tx_enable = true; tx_request = true }
 enable_requests = refl
+
+-- enable that is set again makes no request
+pub transmit_enable_again : after_txcs_write (record initial_state { tx_enable = true }) 0x40 ≡ record initial_state { tx_enable = true }
+transmit_enable_again = refl
 
 pub silent_send : after_sent initial_state ≡ initial_state
 silent_send = refl

@@ -24,8 +24,9 @@ fn tables() -> [u8; 3072] {
     tables
 }
 
-/// The program turns mapping on, reads and writes, writes its own table, and goes to other contexts.
-const PROGRAM: [u8; 97] = [
+/// The program turns mapping on, reads and writes, writes its own table, goes to other contexts, and writes the table of one of
+/// them by its system address.
+const PROGRAM: [u8; 149] = [
     0xDA, 0x8F, 0x00, 0x40, 0x00, 0x00, 0x0C, // 200 MTPR #4000, #SBR
     0xDA, 0x8F, 0x80, 0x00, 0x00, 0x00, 0x0D, // 207 MTPR #80, #SLR
     0xDA, 0x8F, 0x00, 0x42, 0x00, 0x80, 0x08, // 20E MTPR #80004200, #P0BR
@@ -45,6 +46,12 @@ const PROGRAM: [u8; 97] = [
     0xDA, 0x8F, 0x00, 0x48, 0x00, 0x80, 0x08, // 252 MTPR #80004800, #P0BR
     0xDA, 0x8F, 0x00, 0x4A, 0x00, 0x80, 0x08, // 259 MTPR #80004A00, #P0BR
     0x01, // 260 NOP
+    0xD0, 0x8F, 0x01, 0x00, 0x00, 0xA4, 0x9F, 0x04, 0x48, 0x00, 0x80, // 261 MOVL #A4000001, @#80004804
+    0xD0, 0x8F, 0x01, 0x00, 0x00, 0xA4, 0x9F, 0x04, 0x48, 0x00, 0x80, // 26C MOVL #A4000001, @#80004804
+    0xD0, 0x8F, 0x01, 0x00, 0x00, 0xA4, 0x9F, 0x04, 0x48, 0x00, 0x80, // 277 MOVL #A4000001, @#80004804
+    0xDA, 0x8F, 0x00, 0x48, 0x00, 0x80, 0x08, // 282 MTPR #80004800, #P0BR
+    0x01, // 289 NOP
+    0xD0, 0x8F, 0x01, 0x00, 0x00, 0xA4, 0x9F, 0x04, 0x48, 0x00, 0x80, // 28A MOVL #A4000001, @#80004804
 ];
 
 /// The guest with its program and tables, at its start.
@@ -69,7 +76,13 @@ fn each_step_costs_what_was_counted_by_hand(rt: HostRuntime) -> Result<(), Fail>
         let _ = guest.advance(&mut machine, &mut port, 1);
         let cost = machine.cost().since(&before);
         assert_eq!(rt;
-            [cost.reads, cost.writes, cost.runs, cost.misses],
+            [
+                cost.reads,
+                cost.writes,
+                cost.runs,
+                cost.misses,
+                cost.guarded
+            ],
             wanted,
             "{what}"
         );
@@ -77,32 +90,50 @@ fn each_step_costs_what_was_counted_by_hand(rt: HostRuntime) -> Result<(), Fail>
     Ok(())
 }
 
-/// The steps of the program: longwords read and written by the kernel, runs of the machine, and misses in them. Each switch
-/// empties what it drops, one write an entry; a mapped page is found by two longwords, and looked up twice at a fill.
-const STEPS: [(&str, [u64; 4]); 19] = [
-    ("SBR, over the filled page", [0, 2, 2, 1]),
-    ("SLR", [0, 2, 2, 1]),
-    ("P0BR, a context more", [0, 1, 2, 1]),
-    ("P0LR, one more", [0, 1, 2, 1]),
-    ("MAPEN, which drops three pages", [0, 4, 2, 1]),
-    ("the code's page is filled", [4, 1, 2, 1]),
-    ("a kept step", [0, 0, 1, 0]),
-    ("a page is filled, and granted for good", [9, 2, 4, 1]),
-    ("a kept store", [0, 0, 1, 0]),
+/// The steps of the program: longwords read and written by the kernel, runs of the machine, misses in them, and guarded runs.
+/// Each switch empties what it drops, one write an entry; a mapped page is found by two longwords, a system page by one, and
+/// looked up twice at a fill. Behind a guarded store its page is closed by a write more, unless its own entry is dropped; it
+/// may then be granted, since nothing is read from its frame. A fill from a frame that may be written reads each entry that is
+/// filled, and closes those that map it.
+const STEPS: [(&str, [u64; 5]); 25] = [
+    ("SBR, over the filled page", [0, 2, 2, 1, 0]),
+    ("SLR", [0, 2, 2, 1, 0]),
+    ("P0BR, a context more", [0, 1, 2, 1, 0]),
+    ("P0LR, one more", [0, 1, 2, 1, 0]),
+    ("MAPEN, which drops three pages", [0, 4, 2, 1, 0]),
+    ("the code's page is filled", [4, 1, 2, 1, 0]),
+    ("a kept step", [0, 0, 1, 0, 0]),
+    ("a page is filled, and granted for good", [9, 2, 4, 1, 0]),
+    ("a kept store", [0, 0, 1, 0, 0]),
     (
         "a guarded store to a table, which drops three pages",
-        [13, 5, 4, 1],
+        [13, 5, 4, 1, 1],
     ),
-    ("the code's page is filled again", [4, 1, 2, 1]),
-    ("a second context", [0, 0, 1, 0]),
-    ("its page is filled", [4, 1, 2, 1]),
-    ("back to the first context", [0, 0, 1, 0]),
-    ("a kept step there", [0, 0, 1, 0]),
-    ("a third context", [0, 0, 1, 0]),
-    ("its page is filled, and a fourth context", [4, 1, 2, 1]),
+    ("the code's page is filled again", [4, 1, 2, 1, 0]),
+    ("a second context", [0, 0, 1, 0, 0]),
+    ("its page is filled", [4, 1, 2, 1, 0]),
+    ("back to the first context", [0, 0, 1, 0, 0]),
+    ("a kept step there", [0, 0, 1, 0, 0]),
+    ("a third context", [0, 0, 1, 0, 0]),
+    ("its page is filled, and a fourth context", [4, 1, 2, 1, 0]),
     (
         "its page is filled, and a fifth context takes a slot",
-        [4, 2, 2, 1],
+        [4, 2, 2, 1, 0],
     ),
-    ("its page is filled", [4, 1, 2, 1]),
+    ("its page is filled", [4, 1, 2, 1, 0]),
+    (
+        "a guarded store to the fourth context's table, by its system page, which is filled and closed",
+        [8, 4, 4, 1, 1],
+    ),
+    (
+        "a store there again, granted since nothing is read from it",
+        [3, 1, 3, 0, 0],
+    ),
+    ("a kept store there", [0, 0, 1, 0, 0]),
+    ("back to the fourth context", [0, 0, 1, 0, 0]),
+    (
+        "its page is filled, and the table's closed, one of four",
+        [8, 2, 2, 1, 0],
+    ),
+    ("a guarded store there again", [6, 3, 3, 0, 1]),
 ];

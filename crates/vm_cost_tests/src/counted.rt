@@ -2,17 +2,20 @@ ghost use Rattle.std.specs.Prelude.{◌≡◌, ◌≤◌, ◌*◌, length, IfOk}
 
 use std::alloc::Global;
 use std::cell::Cell;
+use vax_arch::Pte;
 use vax_cpu::Cpu;
 use vax_hw::{Exit, Hardware, World};
 use vv_base::NoMemory;
 
-/// How often the machine was asked: longwords read and written by the kernel, runs, and pages missed in them.
+/// How often the machine was asked: longwords read and written by the kernel, runs, pages missed in them, and how many of the
+/// runs were guarded: a modify bit was set by the kernel right before such a run, and is clear again right behind it.
 #[derive(Clone, Copy, Debug, Default, PartialEq, Eq)]
 pub struct Cost {
     pub reads: u64,
     pub writes: u64,
     pub runs: u64,
     pub misses: u64,
+    pub guarded: u64,
 }
 
 /// A machine that counts what it is asked.
@@ -22,6 +25,10 @@ pub struct Counted {
     reads: Cell<u64>,
     writes: u64,
     runs: u64,
+    guarded: u64,
+    /// Where the kernel set a modify bit last: since the last run, and right before it.
+    opened: Option<u32>,
+    opened_before: Option<u32>,
 }
 
 impl Counted {
@@ -36,6 +43,9 @@ impl Counted {
             reads: Cell::new(0),
             writes: 0,
             runs: 0,
+            guarded: 0,
+            opened: None,
+            opened_before: None,
         })
     }
 
@@ -46,6 +56,20 @@ impl Counted {
             writes: self.writes,
             runs: self.runs,
             misses: self.machine.misses(),
+            guarded: self.guarded,
+        }
+    }
+
+    /// A longword is written whose modify bit was set before, or is set now.
+    fn note(&mut self, pa: u32, before: bool, now: bool)
+        ensures { self.new.machine ≡ self.old.machine }
+    {
+        if now && !before {
+            self.opened = Some(pa);
+        }
+        if before && !now && self.opened_before == Some(pa) {
+            self.guarded = self.guarded.wrapping_add(1);
+            self.opened_before = None;
         }
     }
 }
@@ -58,6 +82,7 @@ impl Cost {
             writes: self.writes.wrapping_sub(before.writes),
             runs: self.runs.wrapping_sub(before.runs),
             misses: self.misses.wrapping_sub(before.misses),
+            guarded: self.guarded.wrapping_sub(before.guarded),
         }
     }
 }
@@ -88,6 +113,8 @@ impl Hardware for Counted {
 
     fn write_long(&mut self, pa: u32, v: u32) {
         self.writes = self.writes.wrapping_add(1);
+        let before = Pte(self.machine.read_long(pa)).modified();
+        self.note(pa, before, Pte(v).modified());
         self.machine.write_long(pa, v);
     }
 
@@ -101,6 +128,8 @@ impl Hardware for Counted {
 
     fn run(&mut self, budget: u32) -> Exit {
         self.runs = self.runs.wrapping_add(1);
+        self.opened_before = self.opened;
+        self.opened = None;
         self.machine.run(budget)
     }
 }

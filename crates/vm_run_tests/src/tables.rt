@@ -1,7 +1,7 @@
 //! Programs that write their own page tables while they use them, and modify bits.
 
 use std::test::Fail;
-use vm_stage::Place::{Iccs, Icr, Long, ModifyFaults, Psl, R, Stack};
+use vm_stage::Place::{Iccs, Icr, Long, ModifyFaults, P0lr, Psl, R, Stack};
 use vm_stage::{CASE, Case, Place};
 
 /// All is as told, in one call, step by step, and cut at every place.
@@ -37,7 +37,7 @@ const EIGHT: [(Place, u32); 12] = [
     (Long(0x2E00), 0x80),
 ];
 
-static CASES: [Case; 13] = [
+static CASES: [Case; 14] = [
     // MOVL R0, (R1) twice, with a clear modify bit, while the clock runs
     Case {
         name: "a modify bit is set",
@@ -257,6 +257,35 @@ static CASES: [Case; 13] = [
             (R(15), 0x203),
             (Long(0x43FC), 0x2211_0000),
             (Long(0x1200), 0x0000_4433),
+        ],
+        ..CASE
+    },
+    // MOVQ R0, @#FFFC; MOVB @#FE00, R4: the page at FE00 is that of the P0 table, its own entry is the last longword there, and
+    // the entry of the next page is the first of the table's next page, with a clear modify bit. The store is let write the
+    // table's page, and then meets the clear bit: that is set in a step of its own. Tried again, the store must be seen, so that
+    // the page at FE00 has frame 6.
+    Case {
+        name: "a store into a table that meets a clear modify bit",
+        mapped: true,
+        code: &[
+            0x7D, 0x50, 0x9F, 0xFC, 0xFF, 0x00, 0x00, 0x90, 0x9F, 0x00, 0xFE, 0x00, 0x00, 0x54,
+        ],
+        before: &[
+            (P0lr, 129),
+            (R(0), 0xA400_0006),
+            (R(1), 5),
+            (Long(0x43FC), 0xA400_0021),
+            (Long(0x4400), 0xA000_0009),
+            (Long(0xC00), 0x22),
+        ],
+        steps: 3,
+        kinds: [2, 0, 0, 0, 1, 0, 0],
+        after: &[
+            (R(4), 0x22),
+            (R(15), 0x20E),
+            (Long(0x43FC), 0xA400_0006),
+            (Long(0x4400), 0xA400_0009),
+            (Long(0x1200), 5),
         ],
         ..CASE
     },

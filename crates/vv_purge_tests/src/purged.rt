@@ -16,23 +16,31 @@ use vv_class::AccessClass;
 use vv_examples::{Example, PAGE_FAULT, TIMESHARING, TWO_LEVELS, play};
 use vv_stage::{PAGES, Told};
 
-/// The classes of the objects.
-fn classes(alloc: Global, config: &Config) -> Result<Vec<AccessClass>, NoMemory> {
+/// Adds a class that isn't among them yet.
+fn add(classes: &mut Vec<AccessClass>, class: AccessClass) -> Result<(), NoMemory> {
+    if !classes.iter().any(|one| *one == class) {
+        classes.push(class)?;
+    }
+    Ok(())
+}
+
+/// The classes of the objects, each once.
+pub fn classes(alloc: Global, config: &Config) -> Result<Vec<AccessClass>, NoMemory> {
     let mut classes = Vec::new(alloc);
     for terminal in config.terminals.as_slice() {
-        classes.push(terminal.class)?;
+        add(&mut classes, terminal.class)?;
     }
     for volume in config.volumes.as_slice() {
-        classes.push(volume.class)?;
+        add(&mut classes, volume.class)?;
     }
     if let Some(audit) = config.audit {
-        classes.push(audit.class)?;
+        add(&mut classes, audit.class)?;
     }
     Ok(classes)
 }
 
 /// The configuration without what doesn't flow into the class.
-fn kept(alloc: Global, config: &Config, to: &AccessClass) -> Result<Config, NoMemory>
+pub fn kept(alloc: Global, config: &Config, to: &AccessClass) -> Result<Config, NoMemory>
     requires { IsConfig config.now }
     ensures { IfOk result IsConfig }
 {
@@ -61,7 +69,7 @@ fn lines_of(alloc: Global, config: &Config) -> Result<Vec<u8>, NoMemory> {
 }
 
 /// The devices that are left have the bytes of the whole run, and the other lines none; so have the volumes.
-fn check_same(
+pub fn check_same(
     rt: &impl Abort,
     alloc: Global,
     left: &Config,

@@ -11,7 +11,7 @@ use vv_examples::{Example, PAGE_FAULT, TIMESHARING, TWO_LEVELS, play};
 use vv_stage::PAGES;
 
 /// A text of a configuration, in version 2, with this slice.
-fn with_slice(alloc: Global, text: &[u8], slice: u32) -> Result<String, NoMemory> {
+pub fn with_slice(alloc: Global, text: &[u8], slice: u32) -> Result<String, NoMemory> {
     let mut changed = String::new(alloc);
     for line in str::from_utf8(text).unwrap_or("").lines() {
         if line.starts_with("slice = ") {

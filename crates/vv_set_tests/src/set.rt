@@ -6,6 +6,7 @@ use vax_cpu::Cpu;
 use vax_hw::Hardware;
 use vv_base::NoMemory;
 use vv_gen::workload;
+use vv_io::Cut;
 use vv_stage::{Disk, LineCut, PAGES, Told, plain, run_words};
 
 /// Two classes. The guests of the lower one read and write the volume SHARED, those of the higher read it and write LOG.
@@ -118,7 +119,7 @@ pub const DISKS: [Disk; 2] = [
 ];
 
 /// The lines that show something: nothing is printed.
-pub const LINES: [u8; 9] = [0, 1, 2, 3, 16, 17, 18, 19, 24];
+const LINES: [u8; 9] = [0, 1, 2, 3, 16, 17, 18, 19, 24];
 
 /// The image of the first guest of a generated workload, with a clock of 1,000 steps: NICR is FFFFFC18 in the place of its own.
 pub fn image(alloc: Global) -> Result<Vec<u8>, NoMemory> {
@@ -146,6 +147,7 @@ pub struct How<'a> {
     pub shelf: Option<u32>,
     pub cuts: &'a [LineCut],
     pub disks: [Disk; 2],
+    pub out: Option<Cut>,
 }
 
 /// The files of a run.
@@ -167,6 +169,7 @@ pub fn run_set<H: Hardware>(
     let files = files_of(config.as_bytes(), &image);
     let mut props = plain(&files);
     props.failing = how.shelf;
+    props.out = how.out;
     props.room = 100_000;
     run_words(alloc, machine, words.as_str(), &props, how.cuts, &how.disks)
 }
@@ -186,6 +189,10 @@ fn kinds_in(summary: &[u8]) -> u64 {
     sum
 }
 
+/// The summary, which a separate model of the guests in another language gave.
+const SUMMARY: &str =
+    "rounds 50 steps 1000000 plain 658316 sensitive 6412 faults 0 interrupts 1192 modify 16 idle 334064 stopped 0 trail 000EC7A331602E5C\n";
+
 #[test]
 fn a_million_steps_are_the_same_in_any_slices(rt: HostRuntime) -> Result<(), Fail> {
     let alloc = rt.alloc();
@@ -197,10 +204,11 @@ fn a_million_steps_are_the_same_in_any_slices(rt: HostRuntime) -> Result<(), Fai
         shelf: None,
         cuts: &[],
         disks: DISKS,
+        out: None,
     };
     let first = run_set(alloc, &mut machine, &image, &how)?;
     assert_eq!(rt; first.code, 0);
-    assert!(rt; first.out.starts_with(b"rounds 50 steps 1000000 plain "));
+    assert_eq!(rt; str::from_utf8(&first.out).unwrap_or("?"), SUMMARY);
     assert_eq!(rt; kinds_in(&first.out), 1_000_000);
     for line in LINES {
         assert!(rt; !first.line(line as usize).is_empty(), "{line}");

@@ -1,8 +1,8 @@
 //! Events at a terminal of level 1, at one of level 0, and at one that the configuration lacks.
-use crate::purge_events;
 use std::alloc::Global;
 use std::test::Fail;
 use sys_objects::{Config, Rows, Terminal};
+use sys_purge::purge_events;
 use sys_script::{Typed, read_script};
 use vv_base::{NoMemory, object_name};
 use vv_class::AccessClass;

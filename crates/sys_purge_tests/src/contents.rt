@@ -1,8 +1,8 @@
 //! Images and blocks beside the rows of a configuration with objects of levels 0 and 2.
-use crate::tests::{level, whole};
-use crate::{purge_images, purge_volumes};
+use crate::configurations::{level, whole};
 use std::alloc::Global;
 use std::test::Fail;
+use sys_purge::{purge_images, purge_volumes};
 use vv_base::NoMemory;
 
 fn images(alloc: Global) -> Result<Vec<Vec<u8>>, NoMemory> {

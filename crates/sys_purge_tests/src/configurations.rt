@@ -1,9 +1,9 @@
 //! A configuration with objects of levels 0 and 2, and what of it is kept at a level, by hand.
-use crate::*;
 use std::alloc::Global;
 use std::process::Abort;
 use std::test::Fail;
 use sys_objects::{Audit, Config, GuestRow, Mount, PrinterRow, Rows, Terminal, VolumeRow};
+use sys_purge::purge_config;
 use vv_base::{NoMemory, Text};
 use vv_class::AccessClass;
 

@@ -1,9 +1,9 @@
 //! Texts of configurations and what they stand for, worked out by hand.
-use crate::{Audit, Config, ConfigError, GuestRow, Mount, Rows, migrate_text, read_config};
 use Part::{Drive, Guest, Line, Text, Unit};
 use std::alloc::Global;
 use std::process::Abort;
 use std::test::Fail;
+use sys_config::{Audit, Config, ConfigError, GuestRow, Mount, Rows, migrate_text, read_config};
 use vv_class::AccessClass;
 
 /// A part of a text.

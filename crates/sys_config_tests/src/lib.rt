@@ -1,0 +1,5 @@
+//! Worked examples of texts of configurations.
+#![tactic(auto)]
+
+#[cfg(test)]
+mod texts;
