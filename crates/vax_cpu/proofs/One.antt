@@ -1,5 +1,5 @@
 -- One instruction, by what was found.
-use Rattle.std.proofs.Common.{◌≡◌, ℕ, suc, Bool, List, [], Option, Some, None, Result, Ok, Err, refl, ap, sym, ◌∙◌, slice_index}
+use Rattle.std.proofs.Common.{◌≡◌, ℕ, suc, ◌%◌, ◌^◌, Bool, true, List, [], Option, Some, None, Result, Ok, Err, refl, ap, sym, ◌∙◌, subst, slice_index}
 use Rattle.vax_arch.specs.declared.mode.Intent.{Intent}
 use Rattle.vax_hw.specs.Machine.{Machine, is_clear, psw_of, retire, seen_psl, space_of, tables_of}
 use Rattle.vax_hw.specs.Real.{by_try, going_on, in_kernel, misses_after, one, probed_as, real}
@@ -11,13 +11,25 @@ use Rattle.vax_table.specs.Effects.{Effect, effect, long_of}
 use Rattle.vax_table.specs.PlanLaws.{bytes_of_stores}
 use Rattle.vax_table.specs.declared.effect.Plan.{Plan}
 use Rattle.vax_table.specs.declared.evaluation.Operands.{Operands}
-use Rattle.vax_table.specs.Script.{Trouble, outcome}
+use Rattle.vax_table.specs.Fetch.{fetched}
+use Rattle.vax_table.specs.Script.{AsFar, Done, Script, Space, Trouble, bind_result, outcome, ◌>>=◌}
+use Rattle.vax_table.specs.Spelling.{Instruction}
+use Rattle.vax_table.specs.Operations.{operation_of}
+use Rattle.vax_table.specs.Plan.{is_planned, plan_of, planned}
+use Rattle.vax_table.specs.declared.meaning.Operation.{Operation}
+use Rattle.vax_table.specs.declared.meaning.Operation.TheVariants as does
+use Rattle.vax_table.proofs.Plans.{plans_planned}
+use Rattle.vax_table.proofs.Scripts.{outcome-bind, outcome_far}
 use Rattle.vax_table.specs.Tries.{first_clear, tried, tried_by, unless_clear}
-use Rattle.vax_table.specs.Whole.{Act, Meant, Plain, Probes, Traps, instruction, meant}
+use Rattle.vax_table.specs.Whole.{Act, Meant, Plain, Probes, Traps, acted, acted_by, instruction, meant, plainly}
 use Rattle.vax_table.proofs.Tries.{tries_stores}
 use Rattle.vax_cpu.specs.Completed.{behind, by_judgement, completed, completed_by, retired_by, retired_from, settled, settled_meaning, unless_modified, with_opcode, with_registers}
 use Rattle.vax_cpu.specs.Fetched.{exits}
-use Rattle.vax_cpu.specs.Paged.{is_clear_for, paged}
+use Rattle.vax_paged.specs.Known.{AreKnown, known_space}
+use Rattle.vax_paged.specs.Paged.{is_clear_for, paged}
+use Rattle.vax_paged.specs.declared.known.Known.{Known}
+use Rattle.vax_hw.specs.declared.world.World.{World}
+use Rattle.vax_paged.proofs.Knowing.{known_below}
 use Rattle.vax_cpu.proofs.Quiet.{found_claims}
 
 on_act : (m : Machine) (opcode : ℕ) (a : Act) → outcome (space_of m) (instruction (in_kernel m.world) (seen_psl m.world) m.world.r) ≡ Ok (meant opcode a) →
@@ -87,3 +99,42 @@ runs_to_trap n kind m after h = ap (going_on (real n) m) h
 
 pub runs_to_stop : (n : ℕ) (m : Machine) (e : Exit) → one m ≡ Err e → real (suc n) m ≡ (record m { misses = misses_after m.misses e }, e)
 runs_to_stop n m e h = ap (going_on (real n) m) h
+
+-- An instruction that comes to a plan over known pages, whose stores are all modified, retires by it.
+
+ok_is : {A : Type 0} (x : A) (r : Result A Trouble) → (let y : Result A Exit = Ok x in y ≡ exits r) → r ≡ Ok x
+ok_is x (Ok y) h = let same : y ≡ x = cc in ap (λ z. Ok z) same
+ok_is x (Err t) h = cc
+
+as_far : {A : Type 0} (s t : Space) (x : A) (r q : Result A Trouble) → r ≡ Ok x → AsFar s t r q → q ≡ Ok x
+as_far s t x r q is far = subst (λ (z : Result _ Trouble). AsFar s t z q) is far
+
+found_on : {A B : Type 0} (s : Space) (m : Script A) (f : A → Script B) (x : A) (y : B) → outcome s m ≡ Ok x → outcome s (f x) ≡ Ok y → outcome s (m >>= f) ≡ Ok y
+found_on s m f x y first next = outcome-bind s m f ∙ ap (λ (z : Result _ Trouble). bind_result z (λ v. outcome s (f v))) first ∙ next
+
+plain_acts : (kernel : Bool) (psl : ℕ) (op : Operation) (d : Instruction) (r : List ℕ) → is_planned op ≡ true → acted_by kernel psl op d r ≡ plainly psl d r
+plain_acts kernel psl (does.Sensitive op) d r h = cc
+plain_acts kernel psl (does.Probe intent) d r h = cc
+plain_acts kernel psl op d r h = refl
+
+-- a plan is what the instruction is found to be
+plan_found : (s : Space) (kernel : Bool) (psl : ℕ) (d : Instruction) (r : List ℕ) (e : Effect) → is_planned (operation_of d.opcode) ≡ true →
+    outcome s (planned d r (psl % 2 ^ 8)) ≡ Ok e → outcome s (acted kernel psl d r) ≡ Ok (meant d.opcode (Plain e))
+unfolding acted
+plan_found s kernel psl d r e plain h =
+    ap (outcome s) (plain_acts kernel psl (operation_of d.opcode) d r plain)
+    ∙ found_on s (plan_of psl d r) (λ x. Done (meant d.opcode (Plain x))) e (meant d.opcode (Plain e)) (ap (outcome s) (plans_planned psl d r plain) ∙ h) refl
+
+pub known_settled : (memory : List ℕ) (w : World) (ks : List Known) (kernel : Bool) (psl : ℕ) (r : List ℕ) (d : Instruction) (e : Effect) → AreKnown w ks → is_planned (operation_of d.opcode) ≡ true →
+    Ok d ≡ exits (outcome (paged memory w) (fetched (slice_index r 15))) → Ok e ≡ outcome (known_space memory ks) (planned d r (psl % 2 ^ 8)) →
+    None ≡ first_clear (is_clear_for memory w) (bytes_of_stores e.writes) → Ok (d.opcode, e) ≡ settled_meaning memory w (exits (outcome (paged memory w) (instruction kernel psl r)))
+unfolding instruction
+known_settled memory w ks kernel psl r d e all plain fetch plans clear =
+    let s = known_space memory ks in
+    let t = paged memory w in
+    let found : Meant = meant d.opcode (Plain e) in
+    let act : outcome t (acted kernel psl d r) ≡ Ok found =
+    as_far s t found (outcome s (acted kernel psl d r)) (outcome t (acted kernel psl d r)) (plan_found s kernel psl d r e plain (sym plans)) (outcome_far s t (known_below memory w ks all) (acted kernel psl d r)) in
+    let whole : outcome t (instruction kernel psl r) ≡ Ok found =
+    found_on t (fetched (slice_index r 15)) (λ x. acted kernel psl x r) d found (ok_is d (outcome t (fetched (slice_index r 15))) fetch) act in
+    sym (ap (λ (z : Result Meant Trouble). settled_meaning memory w (exits z)) whole ∙ ap (λ (z : Option ℕ). with_opcode d.opcode (unless_modified e z)) (sym clear))

@@ -1,8 +1,8 @@
 -- Kept bytes that stand at an address spell the instruction there.
-use Rattle.std.proofs.Common.{◌≡◌, ℕ, zero, suc, ◌+◌, ◌%◌, ◌^◌, ◌*◌, ◌<◌, ◌≤◌, arith, List, [], ◌∷◌, ◌++◌, length, take, drop, Result, Ok, refl, ap, sym, ◌∙◌, subst, append_assoc, append-nil, length-append}
+use Rattle.std.proofs.Common.{◌≡◌, ℕ, zero, suc, ◌+◌, ◌%◌, ◌^◌, ◌*◌, ◌<◌, ◌≤◌, arith, List, [], ◌∷◌, ◌++◌, length, take, Result, Ok, refl, ap, sym, ◌∙◌, subst, append_assoc, append-nil, length-append}
 use Rattle.std.specs.Prelude.{slice_index}
 use Rattle.std.proofs.Math.Seq.{take-append_seam}
-use Rattle.std.proofs.lemmas.List.{get_or-drop, get_or-take}
+use Rattle.std.proofs.lemmas.List.{get_or-take, length-take}
 use Rattle.vax_arch.specs.declared.mode.Intent.TheVariants.{Read}
 use Rattle.vax_hw.specs.RealTables.{byte_by}
 use Rattle.vax_hw.specs.declared.world.World.{World}
@@ -15,8 +15,8 @@ use Rattle.vax_table.proofs.Bytes.{AreBytes-from_index}
 use Rattle.vax_table.proofs.Instructions.{reading_exact, spelled_again}
 use Rattle.vax_table.proofs.Lengths.{spellings_short}
 use Rattle.vax_table.proofs.OneSpelling.{rest_same}
-use Rattle.vax_cpu.specs.Paged.{paged, placed}
-use Rattle.vax_cpu.proofs.InPage.{next_place}
+use Rattle.vax_paged.specs.Paged.{paged, placed}
+use Rattle.vax_paged.proofs.InPage.{next_place}
 
 some_left : (xs ys : List ℕ) → 0 < length ys → xs ++ ys ≡ [] → ⊥
 some_left xs ys some e = let none = ap (length {A = ℕ}) e in omega (arith, length-append {A = ℕ})
@@ -82,12 +82,18 @@ later_place memory w va p (suc i) h e =
     ap (placed memory w Read) a ∙ next_place memory w Read (va + i) (p + i) (omega arith) (later_place memory w va p i (omega arith) e) ∙ ap (λ (n : ℕ). Ok n) b
 
 has_byte : (memory : List ℕ) (w : World) (pc p i : ℕ) (front : List ℕ) → pc < 2 ^ 32 → pc % 512 + length front ≤ 512 → placed memory w Read pc ≡ Ok p →
-    take (length front) (drop p memory) ≡ front → i < length front → paged memory w Read ((pc + i) % 2 ^ 32) ≡ Ok (slice_index front i)
-has_byte memory w pc p i front small h e stand low =
+    slice_index memory (p + i) ≡ slice_index front i → i < length front → paged memory w Read ((pc + i) % 2 ^ 32) ≡ Ok (slice_index front i)
+has_byte memory w pc p i front small h e stands low =
     let same : (pc + i) % 2 ^ 32 ≡ pc + i = omega arith in
     ap (paged memory w Read) same
     ∙ ap (byte_by memory) (later_place memory w pc p i (omega arith) e)
-    ∙ ap (λ (n : ℕ). Ok n) (sym (get_or-drop p memory i 0) ∙ sym (get_or-take (length front) (drop p memory) i 0 low) ∙ ap (λ (xs : List ℕ). slice_index xs i) stand)
+    ∙ ap (λ (n : ℕ). Ok n) stands
+
+taken_small : (n : ℕ) (bytes : List ℕ) → ((i : ℕ) → slice_index bytes i < 256) → (i : ℕ) → slice_index (take n bytes) i < 256
+taken_small zero bytes are i = omega arith
+taken_small (suc n) [] are i = omega arith
+taken_small (suc n) (b ∷ bytes) are zero = are 0
+taken_small (suc n) (b ∷ bytes) are (suc i) = taken_small n bytes (λ k. are (suc k)) i
 
 -- the spelling that reading told of
 spelling_of : (front : List ℕ) (d : Instruction) → AreBytes front → decoded_at front ≡ Whole d [] → Spells front d
@@ -95,14 +101,18 @@ spelling_of front d are e =
     let t : Tells front (Whole d []) = subst (λ (a : Answer). Tells front a) e (reading_exact.tells front are) in
     subst (λ (xs : List ℕ). Spells xs d) (sym (t.1 ∙ append-nil t.0)) t.2
 
-pub kept_there : (memory : List ℕ) (w : World) (pc p : ℕ) (front : List ℕ) (d : Instruction) → pc < 2 ^ 32 → pc % 512 + length front ≤ 512 → placed memory w Read pc ≡ Ok p →
-    take (length front) (drop p memory) ≡ front → ((i : ℕ) → slice_index front i < 256) → decoded_at front ≡ Whole d [] → outcome (paged memory w) (fetched pc) ≡ Ok d
-kept_there memory w pc p front d small h e stand are spelled =
-    spelled_there (paged memory w) pc front d (AreBytes-from_index front are) (spelling_of front d (AreBytes-from_index front are) spelled)
-    (λ i low. has_byte memory w pc p i front small h e stand low)
+pub kept_there : (memory : List ℕ) (w : World) (pc p n : ℕ) (bytes : List ℕ) (d : Instruction) → pc < 2 ^ 32 → pc % 512 + n ≤ 512 → n ≤ length bytes → placed memory w Read pc ≡ Ok p →
+    ((i : ℕ) → i < n → slice_index memory (p + i) ≡ slice_index bytes i) → ((i : ℕ) → slice_index bytes i < 256) → decoded_at (take n bytes) ≡ Whole d [] → outcome (paged memory w) (fetched pc) ≡ Ok d
+kept_there memory w pc p n bytes d small h few e stand are spelled =
+    let size : length (take n bytes) ≡ n = omega (arith, length-take n bytes) in
+    let bytes_are : AreBytes (take n bytes) = AreBytes-from_index (take n bytes) (taken_small n bytes are) in
+    spelled_there (paged memory w) pc (take n bytes) d bytes_are (spelling_of (take n bytes) d bytes_are spelled)
+    (λ i low.
+    let here : i < n = omega (arith, size, low) in
+    has_byte memory w pc p i (take n bytes) small (omega (arith, size)) e (stand i here ∙ sym (get_or-take n bytes i 0 here)) low)
 
-pub kept_formed : (front : List ℕ) (d : Instruction) → ((i : ℕ) → slice_index front i < 256) → decoded_at front ≡ Whole d [] → IsWellFormed d
-kept_formed front d are spelled = (front, spelling_of front d (AreBytes-from_index front are) spelled)
+pub kept_formed : (n : ℕ) (bytes : List ℕ) (d : Instruction) → ((i : ℕ) → slice_index bytes i < 256) → decoded_at (take n bytes) ≡ Whole d [] → IsWellFormed d
+kept_formed n bytes d are spelled = (take n bytes, spelling_of (take n bytes) d (AreBytes-from_index (take n bytes) (taken_small n bytes are)) spelled)
 
 -- an instruction has as many bytes as spell it
 pub spelled_length : (front : List ℕ) (d : Instruction) → Spells front d → d.length ≡ length front

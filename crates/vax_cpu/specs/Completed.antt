@@ -1,8 +1,7 @@
 -- What the machine does with what it found, by the troubles' exits: a plain instruction looks at the bytes that it
 -- stores.
-use Rattle.std.specs.Prelude.{ℕ, ◌/◌, ◌%◌, ◌^◌, zero, suc, ◌+◌, Bool, List, [], ◌∷◌, ◌++◌, Option, Some, None, Result, Ok, Err, slice_set}
+use Rattle.std.specs.Prelude.{ℕ, ◌+◌, ◌%◌, ◌^◌, Bool, List, Option, Some, None, Result, Ok, Err}
 use Rattle.vax_arch.specs.declared.mode.Intent.{Intent}
-use Rattle.vv_base.specs.Width.{size_of}
 use Rattle.vax_hw.specs.Machine.{Machine, psw_of, tables_of, with_psw}
 use Rattle.vax_hw.specs.Real.{Retired, by_try, carried_out, retired_with}
 use Rattle.vax_hw.specs.RealTables.{real_probe}
@@ -16,13 +15,11 @@ use Rattle.vax_table.specs.Tries.{first_clear, unless_clear}
 use Rattle.vax_table.specs.Whole.{Act, Meant, Plain, Probes, Traps, meant, probe_of, trap_of}
 use Rattle.vax_table.specs.declared.effect.Plan.{Plan}
 use Rattle.vax_table.specs.declared.evaluation.Operands.{Operands}
-use Rattle.vax_table.specs.declared.effect.Store.{Store}
 use Rattle.vax_table.specs.Stores.{all_stored}
 use Rattle.vax_table.specs.Trail.{term}
-use Rattle.vax_cpu.specs.Paged.{is_clear_for, written_place}
+use Rattle.vax_paged.specs.Paged.{is_clear_for, written_place}
 use Rattle.vax_cpu.specs.Fetched.{stop_exit}
 use Rattle.vax_cpu.specs.declared.stop.Stop.{Stop}
-use Rattle.vax_cpu.specs.declared.stores.Put.{Put}
 
 abbrev pub completed : Machine → ℕ → Act → Result Retired Exit
 completed m opcode (Plain e) = by_try m (unless_clear (meant opcode (Plain e)) (first_clear (is_clear_for m.memory m.world) (bytes_of_stores e.writes)))
@@ -88,23 +85,3 @@ behind pc opcode e m = record m {
 -- with these registers
 abbrev pub with_registers : List ℕ → Machine → Machine
 with_registers r m = record m { world = record m.world { r = r } }
-
--- Stores as bytes at places.
-
-abbrev pub put : ℕ → ℕ → Put
-put place byte = record { place = place; byte = byte }
-
--- of k bytes of a number from an address
-abbrev pub puts_from : (ℕ → ℕ) → (k a v : ℕ) → List Put
-puts_from place zero a v = []
-puts_from place (suc k) a v = put (place (a % 2 ^ 32)) (v % 256) ∷ puts_from place k (a + 1) (v / 256)
-
--- of stores in order
-abbrev pub puts_of : (ℕ → ℕ) → List Store → List Put
-puts_of place [] = []
-puts_of place (x ∷ xs) = puts_from place (size_of x.width) x.va x.value ++ puts_of place xs
-
--- made in order
-abbrev pub made : List Put → List ℕ → List ℕ
-made [] memory = memory
-made (p ∷ ps) memory = made ps (slice_set memory p.place p.byte)

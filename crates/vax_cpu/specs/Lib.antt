@@ -1,4 +1,2 @@
 pub mod Completed
 pub mod Fetched
-pub mod InPage
-pub mod Paged

@@ -1,14 +1,20 @@
 ghost use Rattle.std.specs.Prelude.{◌≡◌, ◌*◌, ◌≤◌, length, IfOk};
-ghost use Rattle.vax_hw.specs.Machine.{Machine, zeros};
-ghost use Rattle.vax_hw.specs.Real.{real};
-ghost use Rattle.vax_cpu.specs.Completed.{with_registers};
+ghost use Rattle.vax_hw.specs.Machine.{Machine, seen_psl, zeros};
+ghost use Rattle.vax_hw.specs.Real.{in_kernel, real};
+ghost use Rattle.vax_operand.specs.Left.{joined};
+ghost use Rattle.vax_paged.specs.Paged.{paged};
+ghost use Rattle.vax_table.specs.Script.{outcome};
+ghost use Rattle.vax_table.specs.Whole.{instruction};
+ghost use Rattle.vax_cpu.specs.Completed.{attempted, settled_meaning, with_registers};
+ghost use Rattle.vax_cpu.specs.Fetched.{exits};
 
 use crate::kept::Kept;
-use crate::perform::attempt;
+use crate::perform::{attempt, attempt_known};
 use crate::state::State;
-use crate::stop::exit_for;
+use crate::stop::{Stop, exit_for};
 use arrayvec::ArrayVec;
 use std::alloc::Global;
+use std::cell::Cell;
 use std::marker::Model;
 use vax_exec::Plan;
 use vax_hw::{Exit, Hardware, World};
@@ -71,6 +77,28 @@ impl Cpu {
     }
 }
 
+/// The opcode of the instruction at PC, which retires by the plan, or why it doesn't retire: by the pages that are known, or
+/// else by the page tables, and then a page that was missed is known.
+fn attempt_next(
+    state: &mut State,
+    missed: &Cell<u32>,
+    kept: &mut Kept,
+    o: &mut Values,
+    before: &[u32; 16],
+    plan: &mut Plan,
+) -> Result<u8, Stop>
+    requires { plan.old.r ≡ before.now }
+    ensures attempted { attempted (joined o.new plan.new.r) plan.new result ≡ settled_meaning state.old.memory state.old.world (exits (outcome (paged state.old.memory state.old.world) (instruction (in_kernel state.old.world) (seen_psl state.old.world) plan.old.r))) }
+    ensures state { state.new ≡ state.old }
+{
+    if attempt_known(state, missed, kept, o, plan) {
+        return Ok(kept.decoded.opcode);
+    }
+    plan.r = *before;
+    state.learn(missed);
+    attempt(state.memory(), state.world(), kept, o, plan)
+}
+
 /// A run of at most so many instructions. The plan's registers are the machine's, in place of the world's.
 fn run_parts(
     state: &mut State,
@@ -82,12 +110,13 @@ fn run_parts(
     requires { length kept.old ≡ 2048 }
     ensures { (with_registers plan.new.r state.new, result) ≡ real budget (with_registers plan.old.r state.old) }
 {
+    let missed = Cell::new(u32::MAX);
     for _left in (0..budget).rev() {
         let before = plan.r;
         let slot = before[15] as usize / 2 % 2048;
-        match attempt(state.memory(), state.world(), &mut kept[slot], o, plan) {
+        match attempt_next(state, &missed, &mut kept[slot], o, &before, plan) {
             Ok(opcode) => {
-                state.retire(before[15], opcode, plan);
+                state.retire(before[15], opcode, plan, &missed);
                 match plan.trap {
                     Some(kind) => {
                         return Exit::Arithmetic { kind };

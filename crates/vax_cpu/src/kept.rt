@@ -1,5 +1,7 @@
-ghost use Rattle.std.specs.Prelude.{◌≡◌, [], take};
+ghost use Rattle.std.specs.Prelude.{◌≡◌, ◌<◌, ℕ, [], length, slice_index, take};
 ghost use Rattle.vax_table.specs.Operand.{forms_in};
+ghost use Rattle.vax_table.specs.Operations.{operation_of};
+ghost use Rattle.vax_table.specs.Plan.{is_planned};
 ghost use Rattle.vax_table.specs.Rows.{row_of};
 ghost use Rattle.vax_table.specs.Reading.{Whole, decoded_at};
 ghost use Rattle.vax_table.specs.Spelling.{view};
@@ -7,7 +9,7 @@ ghost use Rattle.vax_table.specs.Spelling.{view};
 use arrayvec::ArrayVec;
 use vax_decode::Decoded;
 use vax_operand::forms;
-use vax_table::Form;
+use vax_table::{Form, Operation, operation};
 
 /// An instruction that was decoded, the bytes that spell it, and its operands' forms.
 #[derive(Drop)]
@@ -15,8 +17,28 @@ pub struct Kept {
     pub bytes: [u8; 24],
     pub decoded: Decoded,
     pub forms: ArrayVec<Form, 4>,
+    /// Whether it is one of the instructions that `plan_into` plans.
+    pub is_plain: bool,
+    ghost sized: { length bytes ≡ 24 },
+    ghost small: { (i : ℕ) → slice_index bytes i < 256 },
     ghost spelled: { decoded_at (take decoded.length bytes) ≡ Whole (view decoded) [] },
     ghost formed: { forms.items ≡ forms_in (row_of decoded.opcode) },
+    ghost planned: { is_plain ≡ is_planned (operation_of decoded.opcode) },
+}
+
+/// Whether an operation is one of those that `plan_into` plans.
+pub fn is_planned(what: Operation) -> bool
+    ensures { result ≡ is_planned what }
+{
+    match what {
+        Operation::Other
+        | Operation::Sensitive(_)
+        | Operation::MoveStatus
+        | Operation::Probe(_)
+        | Operation::Breakpoint
+        | Operation::Customer => false,
+        _ => true,
+    }
 }
 
 impl Kept {
@@ -35,6 +57,7 @@ impl Kept {
                 specs: ArrayVec::new(),
             },
             forms: forms(0xFD),
+            is_plain: is_planned(operation(0xFD)),
         }
     }
 }

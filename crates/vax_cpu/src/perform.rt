@@ -1,4 +1,5 @@
-ghost use Rattle.std.specs.Prelude.{◌≡◌, true};
+ghost use Rattle.std.specs.Prelude.{◌≡◌, Ok, true};
+ghost use Rattle.vax_table.specs.Effects.{effect};
 ghost use Rattle.vax_table.specs.Operand.{trap_operands};
 ghost use Rattle.vax_table.specs.Operations.{operation_of};
 ghost use Rattle.vax_table.specs.Plan.{is_planned};
@@ -13,17 +14,20 @@ ghost use Rattle.vax_hw.specs.Machine.{seen_psl};
 ghost use Rattle.vax_hw.specs.Real.{in_kernel};
 ghost use Rattle.vax_cpu.specs.Fetched.{acts_of, exits, found, meaning_of};
 ghost use Rattle.vax_cpu.specs.Completed.{attempted, settled, settled_as, settled_meaning};
-ghost use Rattle.vax_cpu.specs.Paged.{paged};
+ghost use Rattle.vax_paged.specs.Paged.{paged};
 
-use crate::entries::Paged;
+use crate::fetch::{fetch, has_known};
 use crate::kept::Kept;
-use crate::probe::probed;
+use crate::probe::{probe, probed};
+use crate::state::State;
 use crate::stop::{Fault, Stop, stop_of};
+use std::cell::Cell;
 use vax_arch::Intent;
 use vax_decode::Decoded;
 use vax_exec::{Plan, begin, plan_into};
 use vax_hw::{Mode, Psl, Refusal, Sens, Trapped, World};
 use vax_operand::{Operands, Space, Values, evaluate, evaluate_into, evaluate_trap};
+use vax_paged::Paged;
 use vax_table::{Operation, operation};
 use vv_base::Width;
 
@@ -209,7 +213,7 @@ fn find(
     ensures { found (joined o.new plan.new.r) plan.new result ≡ exits (outcome (paged memory.now world.now) (instruction (in_kernel world.now) (seen_psl world.now) plan.old.r)) }
 {
     let space = Paged { memory, world };
-    space.fetch(plan.r[15], kept).map_err(Stop::Fault)?;
+    fetch(&space, plan.r[15], kept).map_err(Stop::Fault)?;
     let is_kernel = world.vmpsl.current() == Mode::Kernel;
     let act = carry_out(&space, is_kernel, kept, seen_psl(world), o, plan)?;
     Ok(Found {
@@ -231,13 +235,37 @@ fn settle(memory: &[u8], world: &World, act: Act, o: &Values, plan: &mut Plan) -
             None => Ok(()),
         },
         Act::Traps(op) => Err(Stop::Emulate(op)),
-        Act::Probes(intent) => match space.probe(intent, o) {
+        Act::Probes(intent) => match probe(&space, intent, o) {
             Some(is_accessible) => {
                 probed(is_accessible, (world.psl.0 % 0x100) as u8, plan);
                 Ok(())
             }
             None => Err(Stop::Emulate(probe_of(intent))),
         },
+    }
+}
+
+/// Whether the instruction at PC retires by the plan, as far as that is told quickly: it is kept, it is a plain one, and all
+/// that it refers to lies in pages that are known. The plan's registers are those before it, in place of the world's; of what
+/// it is where this answers no nothing is said.
+pub fn attempt_known(
+    state: &State,
+    missed: &Cell<u32>,
+    kept: &Kept,
+    o: &mut Values,
+    plan: &mut Plan,
+) -> bool
+    ensures { result ≡ true → Ok (kept.now.decoded.opcode, effect plan.new) ≡ settled_meaning state.now.memory state.now.world (exits (outcome (paged state.now.memory state.now.world) (instruction (in_kernel state.now.world) (seen_psl state.now.world) plan.old.r))) }
+{
+    let world = state.world();
+    let space = state.mapped(missed);
+    if !kept.is_plain || !has_known(&space, world, kept, plan.r[15]) {
+        return false;
+    }
+    let forms = kept.forms.as_slice();
+    match plan_into(&space, forms, &kept.decoded, seen_psl(world), o, plan) {
+        Ok(()) => space.may_store(world, plan.writes.as_slice()),
+        Err(_) => false,
     }
 }
 

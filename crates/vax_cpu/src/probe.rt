@@ -5,10 +5,10 @@ ghost use Rattle.vax_table.specs.Effects.{effect};
 ghost use Rattle.vax_table.specs.Plan.{probed};
 ghost use Rattle.vax_table.specs.Probing.{last_of, probe_mode};
 
-use crate::entries::{Entry, Paged};
 use vax_arch::{Intent, Mode, Prot, Psl, Pte, may};
 use vax_exec::{Plan, begin};
 use vax_operand::Values;
+use vax_paged::{Entry, Paged};
 
 /// The less privileged of the mode that the operand names and the previous one.
 fn probe_mode(psl: Psl, named: u32) -> Mode
@@ -62,29 +62,27 @@ fn both(a: Option<bool>, b: Option<bool>) -> Option<bool>
     }
 }
 
-impl Paged<'_> {
-    /// Whether a mode may use the byte at an address, where the machine judges that.
-    #[tactic(auto, unfolding(vax_hw::specs::RealTables::judged), using(crate::proofs::Mapped::mapped))]
-    fn judged(&self, m: Mode, i: Intent, va: u32) -> Option<bool>
-        ensures { result ≡ judged self.now.memory.now (tables_of self.now.world.now) m i va }
-    {
-        match self.entry(va / 512) {
-            Entry::Found(entry) => judged_by(entry, m, i),
-            Entry::NotValid | Entry::TooFar => None,
-        }
+/// Whether a mode may use the byte at an address, where the machine judges that.
+#[tactic(auto, unfolding(vax_hw::specs::RealTables::judged), using(vax_paged::proofs::Lookups::mapped))]
+fn judged(space: &Paged, m: Mode, i: Intent, va: u32) -> Option<bool>
+    ensures { result ≡ judged space.now.memory.now (tables_of space.now.world.now) m i va }
+{
+    match space.entry(va / 512) {
+        Entry::Found(entry) => judged_by(entry, m, i),
+        Entry::NotValid | Entry::TooFar => None,
     }
+}
 
-    /// Whether both bytes that PROBE asks of may be used, where the machine judges that.
-    pub fn probe(&self, i: Intent, o: &Values) -> Option<bool>
-        ensures { result ≡ real_probe self.now.memory.now (tables_of self.now.world.now) self.now.world.now.psl.0 i (slice_index o.now.values 0 % 2 ^ 32) (slice_index o.now.values 1 % 2 ^ 32) (slice_index o.now.values 2 % 2 ^ 32) }
-    {
-        let m = probe_mode(self.world.psl, o.long(0));
-        let base = o.long(2);
-        both(
-            self.judged(m, i, base),
-            self.judged(m, i, last_of(base, o.long(1) % 0x1_0000)),
-        )
-    }
+/// Whether both bytes that PROBE asks of may be used, where the machine judges that.
+pub fn probe(space: &Paged, i: Intent, o: &Values) -> Option<bool>
+    ensures { result ≡ real_probe space.now.memory.now (tables_of space.now.world.now) space.now.world.now.psl.0 i (slice_index o.now.values 0 % 2 ^ 32) (slice_index o.now.values 1 % 2 ^ 32) (slice_index o.now.values 2 % 2 ^ 32) }
+{
+    let m = probe_mode(space.world.psl, o.long(0));
+    let base = o.long(2);
+    both(
+        judged(space, m, i, base),
+        judged(space, m, i, last_of(base, o.long(1) % 0x1_0000)),
+    )
 }
 
 /// PROBE behind its operands: Z where not both bytes may be used, and C as before.

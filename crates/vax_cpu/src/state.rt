@@ -1,16 +1,18 @@
-ghost use Rattle.std.specs.Prelude.{◌≡◌, ◌+◌, ◌*◌, ◌≤◌, ◌<◌, ◌/◌, ◌%◌, ◌^◌, ℕ, length, slice_index, IfOk};
+ghost use Rattle.std.specs.Prelude.{◌≡◌, true, ◌+◌, ◌*◌, ◌≤◌, ◌<◌, ◌/◌, ◌%◌, ◌^◌, ℕ, length, slice_index, IfOk};
 ghost use Rattle.vv_base.specs.Bytes.{long_at, long_bytes, overwritten};
-ghost use Rattle.vax_hw.specs.Machine.{Machine, with_psw, zeros};
+ghost use Rattle.vax_hw.specs.Machine.{Machine, tables_of, with_psw, zeros};
 ghost use Rattle.vax_hw.specs.Real.{misses_after};
 ghost use Rattle.vax_table.specs.Effects.{effect};
 ghost use Rattle.vax_table.specs.Trail.{term};
 ghost use Rattle.vax_cpu.specs.Completed.{behind};
+ghost use Rattle.vax_paged.specs.Known.{AreKnown};
 
-use crate::stores::store_all;
 use std::alloc::Global;
+use std::cell::Cell;
 use std::marker::Model;
 use vax_exec::Plan;
 use vax_hw::{Exit, Psl, World};
+use vax_paged::{KnownPages, Mapped, Paged, store_all};
 use vv_base::{NoMemory, get_u32, put_u32};
 
 /// What the machine is to those who use it, but for its registers: memory, what else is loaded, and counts. The registers of
@@ -23,17 +25,20 @@ pub struct State {
     retired: u64,
     trail: u64,
     misses: u64,
+    known: KnownPages,
 }
 
 impl Model for State {
     ghost use Rattle.std.specs.Prelude.{◌≡◌, ◌≤◌, ◌*◌, length};
     ghost use Rattle.vax_hw.specs.Machine.{Machine};
+    ghost use Rattle.vax_hw.specs.Machine.{tables_of};
+    ghost use Rattle.vax_paged.specs.Known.{AreAllKnown};
 
     ghost Value = { Machine };
 
     ghost view = { λ m. record { memory = m.memory.items; world = m.world; retired = m.retired; trail = m.trail; misses = m.misses } };
 
-    ghost invariant = { λ m. (length m.memory.items ≡ 512 * m.pages) × (1 ≤ m.pages) × (m.pages ≤ 65536) };
+    ghost invariant = { λ m. (length m.memory.items ≡ 512 * m.pages) × (1 ≤ m.pages) × (m.pages ≤ 65536) × AreAllKnown (tables_of m.world) m.known };
 }
 
 /// What an instruction adds to the trail.
@@ -52,6 +57,18 @@ fn with_psw(psl: Psl, psw: u8) -> Psl
     ensures { result ≡ with_psw psl psw }
 {
     Psl(psl.0 / 256 * 256 + u32::from(psw))
+}
+
+/// Whether two worlds have the same page tables.
+fn has_same_tables(a: &World, b: &World) -> bool
+    ensures { result ≡ true → tables_of a.now ≡ tables_of b.now }
+{
+    a.p0br == b.p0br
+        && a.p0lr == b.p0lr
+        && a.p1br == b.p1br
+        && a.p1lr == b.p1lr
+        && a.sbr == b.sbr
+        && a.slr == b.slr
 }
 
 /// The longword at a place of a memory, which is a list of bytes.
@@ -95,6 +112,7 @@ impl State {
             retired: 0,
             trail: 0,
             misses: 0,
+            known: KnownPages::nothing(),
         })
     }
 
@@ -120,6 +138,38 @@ impl State {
         ensures { result.now ≡ self.now.world }
     {
         &self.world
+    }
+
+    /// The memory by the pages that are known. The number of a page that is missed goes to `missed`.
+    pub fn mapped<'a>(&'a self, missed: &'a Cell<u32>) -> Mapped<'a>
+        ensures memory { result.memory.now ≡ self.now.memory }
+        ensures known { AreKnown self.now.world result.known.now }
+    {
+        Mapped {
+            memory: &self.memory,
+            known: self.known.of(self.world.psl.current()),
+            missed,
+        }
+    }
+
+    /// What the tables say of the page that was missed is known from now on, if there is one and they say anything; nothing
+    /// else changes.
+    #[cold]
+    #[inline(never)]
+    pub fn learn(&mut self, missed: &Cell<u32>)
+        ensures { self.new ≡ self.old }
+    {
+        let page = missed.replace(u32::MAX);
+        if page >= 0x80_0000 {
+            return;
+        }
+        let space = Paged {
+            memory: &self.memory,
+            world: &self.world,
+        };
+        if let Some(known) = space.looked_up(page) {
+            self.known.learn(self.world.psl.current(), known);
+        }
     }
 
     /// How many instructions have retired, modulo 2^64.
@@ -164,16 +214,24 @@ impl State {
     pub fn load(&mut self, w: &World)
         ensures { self.new ≡ (record self.old { world = w.now }) }
     {
+        if has_same_tables(&self.world, w) {
+            self.world = *w;
+            return;
+        }
+        self.known = KnownPages::nothing();
         self.world = *w;
     }
 
     /// An instruction at an address has retired: its stores are made, the status word is that behind it, and it is counted.
-    pub fn retire(&mut self, pc: u32, opcode: u8, plan: &Plan)
+    pub fn retire(&mut self, pc: u32, opcode: u8, plan: &Plan, missed: &Cell<u32>)
         ensures { self.new ≡ behind pc opcode (effect plan.now) self.old }
     {
         self.trail = self.trail.wrapping_add(term(pc, opcode, &plan.r));
         self.retired = self.retired.wrapping_add(1);
-        store_all(&mut self.memory, &self.world, plan.writes.as_slice());
+        let mode = self.world.psl.current();
+        let known = self.known.of(mode);
+        let stores = plan.writes.as_slice();
+        store_all(&mut self.memory, &self.world, known, missed, stores);
         self.world.psl = with_psw(self.world.psl, plan.psw);
     }
 

@@ -1,4 +1,0 @@
-use Rattle.vax_cpu.proofs.entries.Paged.+number_by_bytes.Given as goal
-
-abbrev pub decreases-number_by_bytes : goal.decreases-number_by_bytes
-decreases-number_by_bytes l = l.bytes

@@ -1,0 +1,4 @@
+pub mod InPage
+pub mod Knowing
+pub mod Lookups
+pub mod Puts

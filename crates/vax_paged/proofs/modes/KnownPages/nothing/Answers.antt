@@ -1,0 +1,12 @@
+use Rattle.std.proofs.lemmas.List.Elements.{All-replicate}
+use Rattle.vax_arch.specs.declared.mode.Mode.TheVariants.{Executive, Kernel, Supervisor, User}
+use Rattle.vax_paged.specs.Known.{IsKnownIn}
+use Rattle.vax_paged.proofs.modes.KnownPages.nothing.Goals as goal
+
+pub returns : goal.returns
+returns c = λ t. record {
+  kernel = All-replicate (IsKnownIn t Kernel) 64 c.nothing.result (c.nothing.ensures t Kernel);
+  executive = All-replicate (IsKnownIn t Executive) 64 c.nothing-2.result (c.nothing-2.ensures t Executive);
+  supervisor = All-replicate (IsKnownIn t Supervisor) 64 c.nothing-3.result (c.nothing-3.ensures t Supervisor);
+  user = All-replicate (IsKnownIn t User) 64 c.nothing-4.result (c.nothing-4.ensures t User);
+}

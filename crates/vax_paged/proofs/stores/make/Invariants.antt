@@ -1,0 +1,6 @@
+use Rattle.std.proofs.Common.{◌≡◌, drop}
+use Rattle.vax_paged.specs.Puts.{made}
+use Rattle.vax_paged.proofs.stores.make.Given as goal
+
+abbrev pub invariant-loop-put : goal.invariant-loop-put
+invariant-loop-put l = made (drop l.put-index l.puts) l.memory ≡ made l.puts l.fn.memory

@@ -1,0 +1,30 @@
+-- Numbers in one page: their bytes lie one behind the other in the machine.
+use Rattle.std.specs.Prelude.{◌≡◌, ℕ, zero, suc, ◌+◌, ◌*◌, ◌/◌, ◌%◌, ◌≤◌, ◌<◌, ◌^◌, List, length, slice_index, slice_set, Result, Ok, Err}
+use Rattle.vv_base.specs.Width.{size_of}
+use Rattle.vax_arch.specs.declared.mode.Intent.TheVariants.{Write}
+use Rattle.vax_hw.specs.declared.world.World.{World}
+use Rattle.vax_table.specs.Script.{Trouble}
+use Rattle.vax_table.specs.declared.effect.Store.{Store}
+use Rattle.vax_paged.specs.Paged.{placed}
+
+-- the number in k bytes from a place, the lowest first
+abbrev pub number_from : List ℕ → (k place : ℕ) → ℕ
+number_from memory zero place = 0
+number_from memory (suc k) place = slice_index memory place + 256 * number_from memory k (place + 1)
+
+-- and from the place that an address has
+abbrev pub numbered : List ℕ → (k : ℕ) → Result ℕ Trouble → Result ℕ Trouble
+numbered memory k (Ok place) = Ok (number_from memory k place)
+numbered memory k (Err trouble) = Err trouble
+
+-- k bytes of a number stored from a place
+abbrev pub stored_from : (k place v : ℕ) → List ℕ → List ℕ
+stored_from zero place v memory = memory
+stored_from (suc k) place v memory = stored_from k (place + 1) (v / 256) (slice_set memory place (v % 256))
+
+-- a store in one page, which memory has whole from a place
+pub record IsWhole (memory : List ℕ) (w : World) (x : Store) (place : ℕ) : Type 0 where
+  pub placed_at : placed memory w Write x.va ≡ Ok place
+  pub small : x.va < 2 ^ 32
+  pub in_page : x.va % 512 + size_of x.width ≤ 512
+  pub in_memory : place + size_of x.width ≤ length memory

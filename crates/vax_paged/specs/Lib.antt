@@ -1,0 +1,4 @@
+pub mod InPage
+pub mod Known
+pub mod Paged
+pub mod Puts

@@ -1,0 +1,247 @@
+ghost use Rattle.std.specs.Prelude.{◌≡◌, ◌+◌, ◌*◌, ◌≤◌, ◌<◌, ◌%◌, ◌^◌, ℕ, None, Ok, true, IfOk, IfSome};
+ghost use Rattle.vv_base.specs.Width.{size_of};
+ghost use Rattle.vax_arch.specs.Fields.{frame_of};
+ghost use Rattle.vax_arch.specs.Protection.{may_of};
+ghost use Rattle.vax_arch.specs.Walk.{Tables, granted};
+ghost use Rattle.vax_arch.specs.WalkLaws.{table_place};
+ghost use Rattle.vax_hw.specs.RealTables.{everywhere, place_by};
+ghost use Rattle.vax_hw.specs.Machine.{tables_of};
+ghost use Rattle.vax_table.specs.Claims.{addresses};
+ghost use Rattle.vax_table.specs.PlanLaws.{bytes_of_stores};
+ghost use Rattle.vax_table.specs.Script.{number_at};
+ghost use Rattle.vax_table.specs.Tries.{first_clear};
+ghost use Rattle.vax_table.specs.Troubles.{intent_of, told};
+ghost use Rattle.vax_paged.specs.InPage.{IsWhole};
+ghost use Rattle.vax_paged.specs.Known.{AreKnown, IsKnown, IsKnownIn, is_there, known_space, may_be, place_known, place_told};
+ghost use Rattle.vax_paged.specs.Paged.{is_clear_for};
+
+use crate::entries::{Look, Paged, REGION};
+use crate::memory::{byte_in, long_in, number_in};
+use std::cell::Cell;
+use vax_arch::{Intent, Mode, Pte, may};
+use vax_hw::World;
+use vax_operand::{Space, Trouble};
+use vax_table::effect::Store;
+use vv_base::Width;
+
+/// What the tables said of a page. It is so in every memory that has the same two entries.
+#[derive(Clone, Copy)]
+pub struct Known {
+    /// The page's number, an address divided by 512.
+    pub page: u32,
+    /// The place of the system table's entry for the page's table, and that entry.
+    pub table: u32,
+    pub table_entry: u32,
+    /// The place of the page's entry, and the entry.
+    pub place: u32,
+    pub entry: u32,
+    /// The place of the page's first byte.
+    pub base: u32,
+    pub may_read: bool,
+    /// Whether it may be written, and its modify bit is set.
+    pub may_write: bool,
+}
+
+impl Known {
+    /// Nothing is known.
+    pub fn nothing() -> Known
+        ensures { (t : Tables) → (m : Mode) → IsKnownIn t m result }
+    {
+        Known {
+            page: 0,
+            table: 0,
+            table_entry: 0,
+            place: 0,
+            entry: 0,
+            base: 0,
+            may_read: false,
+            may_write: false,
+        }
+    }
+}
+
+impl Known {
+    fn may(&self, write: bool) -> bool
+        ensures { result ≡ may_be (intent_of write) self.now }
+    {
+        if write { self.may_write } else { self.may_read }
+    }
+
+    /// Whether a memory has its entries.
+    fn is_there(&self, memory: &[u8]) -> bool
+        ensures { result ≡ is_there memory.now self.now }
+    {
+        long_in(memory, self.table as usize) == self.table_entry
+            && long_in(memory, self.place as usize) == self.entry
+    }
+}
+
+/// Whether an entry opens its page.
+#[tactic(auto, unfolding(vax_arch::specs::Walk::granted))]
+fn is_open(entry: Pte, mode: Mode, intent: Intent) -> bool
+    ensures { result ≡ true → (va : ℕ) → place_by va (granted may_of everywhere entry.0 mode intent) ≡ Ok (512 * frame_of entry.0 + va % 512) }
+{
+    entry.valid() && may(entry.prot(), mode, intent)
+}
+
+impl Paged<'_> {
+    /// The place of the system table's entry for a page's table, whether there is one or not.
+    #[tactic(auto, unfolding(vax_arch::specs::WalkLaws::table_place))]
+    fn table_place(&self, page: u32) -> usize
+        requires { page < 2 ^ 23 }
+        ensures { result ≡ table_place (tables_of self.now.world.now) page }
+    {
+        let base = if page / REGION == 0 {
+            self.world.p0br
+        } else {
+            self.world.p1br
+        };
+        let at = base.wrapping_add(4 * (page % REGION));
+        self.in_system_table(at / 512 % REGION)
+    }
+
+    /// What the tables say of a page, if it has an entry, and both lie below 2^32.
+    pub fn looked_up(&self, page: u32) -> Option<Known>
+        requires { page < 2 ^ 23 }
+        ensures { IfSome result (IsKnown self.now.world.now) }
+    {
+        let Look::Found(place) = self.look(page) else {
+            return None;
+        };
+        let table = self.table_place(page);
+        if place > 0xFFFF_FFFF || table > 0xFFFF_FFFF {
+            return None;
+        }
+        let entry = Pte(long_in(self.memory, place));
+        let mode = self.world.psl.current();
+        Some(Known {
+            page,
+            table: table as u32,
+            table_entry: long_in(self.memory, table),
+            place: place as u32,
+            entry: entry.0,
+            base: 512 * entry.frame(),
+            may_read: is_open(entry, mode, Intent::Read),
+            may_write: entry.modified() && is_open(entry, mode, Intent::Write),
+        })
+    }
+}
+
+/// The machine's memory by the pages that are known. A page that was wanted and isn't known is noted.
+#[derive(Drop)]
+pub struct Mapped<'a> {
+    pub memory: &'a [u8],
+    pub known: &'a [Known],
+    pub missed: &'a Cell<u32>,
+}
+
+impl Mapped<'_> {
+    /// The place of an address, if its page is known and open.
+    pub fn place(&self, va: u32, write: bool) -> Option<usize>
+        ensures is { place_told result ≡ place_known self.now.memory.now self.now.known.now (intent_of write) va }
+        ensures small { IfSome result (λ place. place < 2 ^ 32 + 512) }
+    {
+        let page = va / 512;
+        if let Some(known) = self.known.get((page % 64) as usize) {
+            if known.page == page && known.may(write) && known.is_there(self.memory) {
+                return Some(known.base as usize + va as usize % 512);
+            }
+        }
+        self.missed.set(page);
+        None
+    }
+
+    /// The byte at an address.
+    fn byte(&self, va: u32, write: bool) -> Result<u8, Trouble>
+        ensures { told result ≡ number_at (known_space self.now.memory.now self.now.known.now) (intent_of write) 1 va }
+    {
+        match self.place(va, write) {
+            Some(place) => Ok(byte_in(self.memory, place)),
+            None => Err(Trouble::NotValid { va, write }),
+        }
+    }
+
+    /// The number of so many bytes, the lowest first, each by its own page.
+    #[tactic(auto, using(vax_operand::proofs::ByteByByte::byte_by_byte))]
+    #[cold]
+    #[inline(never)]
+    fn number_by_bytes(&self, va: u32, bytes: u32, write: bool) -> Result<u64, Trouble>
+        requires { bytes ≤ 8 }
+        ensures number { told result ≡ number_at (known_space self.now.memory.now self.now.known.now) (intent_of write) bytes va }
+        ensures fits { IfOk result (λ v. v < 256 ^ bytes) }
+    {
+        if bytes == 0 {
+            return Ok(0);
+        }
+        let byte = self.byte(va, write)?;
+        let rest = self.number_by_bytes(va.wrapping_add(1), bytes - 1, write)?;
+        Ok(u64::from(byte) + 256 * rest)
+    }
+
+    /// The number of a width, the lowest byte first: by one look-up where it lies in one page.
+    fn number(&self, va: u32, w: Width, write: bool) -> Result<u64, Trouble>
+        ensures number { told result ≡ number_at (known_space self.now.memory.now self.now.known.now) (intent_of write) (size_of w) va }
+        ensures fits { IfOk result (λ v. v < 256 ^ size_of w) }
+    {
+        if va % 512 + u32::from(w.bytes()) > 512 {
+            return self.number_by_bytes(va, u32::from(w.bytes()), write);
+        }
+        match self.place(va, write) {
+            Some(place) => Ok(number_in(self.memory, place, w)),
+            None => Err(Trouble::NotValid { va, write }),
+        }
+    }
+
+    /// The place of a store that lies in one known page, where memory has it whole.
+    pub fn whole_place(&self, world: &World, store: &Store) -> Option<usize>
+        requires { AreKnown world.now self.now.known.now }
+        ensures whole { IfSome result (λ place. IsWhole self.now.memory.now world.now store.now place) }
+    {
+        let bytes = u32::from(store.width.bytes());
+        if store.va % 512 + bytes > 512 {
+            return None;
+        }
+        match self.place(store.va, true) {
+            Some(place) if place + bytes as usize <= self.memory.len() => Some(place),
+            _ => None,
+        }
+    }
+
+    /// Whether a store lies in one known page, so that its modify bit is set.
+    fn is_modified(&self, world: &World, store: &Store) -> bool
+        requires { AreKnown world.now self.now.known.now }
+        ensures { result ≡ true → first_clear (is_clear_for self.now.memory.now world.now) (addresses (size_of store.now.width) store.now.va) ≡ None }
+    {
+        if store.va % 512 + u32::from(store.width.bytes()) > 512 {
+            return false;
+        }
+        match self.place(store.va, true) {
+            Some(_) => true,
+            None => false,
+        }
+    }
+
+    /// Whether each store lies in one known page, so that no modify bit of theirs is clear.
+    #[tactic(auto, using(crate::proofs::Puts::store_by_store))]
+    pub fn may_store(&self, world: &World, stores: &[Store]) -> bool
+        requires { AreKnown world.now self.now.known.now }
+        ensures { result ≡ true → first_clear (is_clear_for self.now.memory.now world.now) (bytes_of_stores stores.now) ≡ None }
+    {
+        let [first, rest @ ..] = stores else {
+            return true;
+        };
+        self.is_modified(world, first) && self.may_store(world, rest)
+    }
+}
+
+impl Space for Mapped<'_> {
+    ghost space = { λ m. known_space m.memory.now m.known.now };
+
+    fn read(&self, va: u32, w: Width) -> Result<u64, Trouble> {
+        self.number(va, w, false)
+    }
+
+    fn claim(&self, va: u32, w: Width) -> Result<u64, Trouble> {
+        self.number(va, w, true)
+    }
+}

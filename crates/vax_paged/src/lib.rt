@@ -1,0 +1,15 @@
+//! The machine's memory as its page tables show it, and what is known of its pages.
+#![tactic(auto)]
+
+mod entries;
+mod known;
+mod memory;
+mod modes;
+mod space;
+mod stores;
+
+pub use entries::{Entry, Paged};
+pub use known::{Known, Mapped};
+pub use memory::{byte_in, number_in};
+pub use modes::KnownPages;
+pub use stores::store_all;

@@ -1,0 +1,80 @@
+ghost use Rattle.std.specs.Prelude.{◌≡◌, ◌+◌, ◌≤◌, ◌<◌, ◌^◌, length, slice_index, slice_set};
+ghost use Rattle.vv_base.specs.Bytes.{long_at};
+ghost use Rattle.vv_base.specs.Width.{size_of};
+ghost use Rattle.vax_hw.specs.RealTables.{everywhere};
+ghost use Rattle.vax_paged.specs.InPage.{number_from, stored_from};
+
+use vv_base::{Width, get_u32};
+
+/// The byte at a place; beyond memory it is 0.
+pub fn byte_in(memory: &[u8], at: usize) -> u8
+    ensures { result ≡ slice_index memory.now at }
+{
+    memory.get(at).copied().unwrap_or(0)
+}
+
+/// The longword at a place at or over the memory's end, where each byte that lies beyond it is 0.
+#[cold]
+#[inline(never)]
+fn long_at_end(memory: &[u8], at: usize) -> u32
+    requires { at ≤ everywhere + 4 }
+    ensures { result ≡ long_at memory.now at }
+{
+    u32::from(byte_in(memory, at))
+        + 0x100 * u32::from(byte_in(memory, at + 1))
+        + 0x1_0000 * u32::from(byte_in(memory, at + 2))
+        + 0x100_0000 * u32::from(byte_in(memory, at + 3))
+}
+
+/// The longword at a place; each of its bytes that lies beyond memory is 0.
+pub fn long_in(memory: &[u8], at: usize) -> u32
+    requires { at ≤ everywhere + 4 }
+    ensures { result ≡ long_at memory.now at }
+{
+    if at + 4 <= memory.len() {
+        get_u32(memory, at)
+    } else {
+        long_at_end(memory, at)
+    }
+}
+
+/// The number of a width at a place; each of its bytes that lies beyond memory is 0.
+pub fn number_in(memory: &[u8], at: usize, w: Width) -> u64
+    requires { at ≤ everywhere }
+    ensures is { result ≡ number_from memory.now (size_of w) at }
+    ensures fits { result < 256 ^ size_of w }
+{
+    match w {
+        Width::Byte => u64::from(byte_in(memory, at)),
+        Width::Word => {
+            u64::from(byte_in(memory, at)) + 0x100 * u64::from(byte_in(memory, at + 1))
+        }
+        Width::Long => u64::from(long_in(memory, at)),
+        Width::Quad => {
+            u64::from(long_in(memory, at)) + 0x1_0000_0000 * u64::from(long_in(memory, at + 4))
+        }
+    }
+}
+
+/// Stores a byte in a memory, if it has a place for it.
+pub fn store_byte(memory: &mut [u8], at: usize, byte: u8)
+    ensures { memory.new ≡ slice_set memory.old at byte }
+{
+    if at < memory.len() {
+        memory[at] = byte;
+    }
+}
+
+/// Stores the low bytes of a number from a place on, the lowest first.
+pub fn store_in(memory: &mut [u8], place: usize, w: Width, value: u64)
+    requires { place + size_of w ≤ length memory.old }
+    ensures { memory.new ≡ stored_from (size_of w) place value memory.old }
+{
+    let mut at = place;
+    let mut rest = value;
+    for _left in (0..w.bytes()).rev() {
+        memory[at] = (rest % 256) as u8;
+        at += 1;
+        rest /= 256;
+    }
+}

@@ -1,0 +1,219 @@
+ghost use Rattle.std.specs.Prelude.{◌≡◌, ◌+◌, ◌*◌, ◌≤◌, ◌<◌, ◌^◌, ◌++◌, [], ◌∷◌, length, IfSome};
+ghost use Rattle.vv_base.specs.Width.{size_of};
+ghost use Rattle.arrayvec.specs.ArrayVec.{array_vec_len};
+ghost use Rattle.vax_table.specs.Claims.{addresses};
+ghost use Rattle.vax_table.specs.PlanLaws.{bytes_of_stores};
+ghost use Rattle.vax_table.specs.Stores.{all_stored};
+ghost use Rattle.vax_table.specs.Tries.{first_clear};
+ghost use Rattle.vax_paged.specs.Puts.{made, puts_from, puts_of};
+ghost use Rattle.vax_paged.specs.InPage.{IsWhole};
+ghost use Rattle.vax_paged.specs.Known.{AreKnown};
+ghost use Rattle.vax_paged.specs.Paged.{is_clear_for, written_place};
+
+use crate::entries::{Entry, Paged};
+use crate::known::{Known, Mapped};
+use crate::memory::{store_byte, store_in};
+use arrayvec::ArrayVec;
+use std::cell::Cell;
+use vax_hw::World;
+use vax_table::effect::Store;
+
+/// A byte that is stored, and its place in the machine.
+#[derive(Clone, Copy, Debug, Default, PartialEq, Eq)]
+pub struct Put {
+    pub place: u32,
+    pub byte: u8,
+}
+
+/// Stores bytes in order.
+pub fn make(memory: &mut [u8], puts: &[Put])
+    ensures { memory.new ≡ made puts.now memory.old }
+{
+    for put in puts {
+        store_byte(memory, put.place as usize, put.byte);
+    }
+}
+
+impl Paged<'_> {
+    /// Whether the modify bit of an address's page is clear.
+    #[tactic(auto, unfolding(vax_hw::specs::RealTables::is_clear_in), using(crate::proofs::Lookups::mapped))]
+    fn is_clear(&self, va: u32) -> bool
+        ensures { result ≡ is_clear_for self.now.memory.now self.now.world.now va }
+    {
+        match self.entry(va / 512) {
+            Entry::Found(entry) => !entry.modified(),
+            Entry::NotValid | Entry::TooFar => false,
+        }
+    }
+
+    /// The first of so many bytes whose page's modify bit is clear, each by its own page.
+    #[tactic(auto, using(crate::proofs::Puts::byte_by_byte))]
+    fn first_clear_by_bytes(&self, va: u32, bytes: u32) -> Option<u32>
+        ensures { result ≡ first_clear (is_clear_for self.now.memory.now self.now.world.now) (addresses bytes va) }
+    {
+        if bytes == 0 {
+            None
+        } else if self.is_clear(va) {
+            Some(va)
+        } else {
+            self.first_clear_by_bytes(va.wrapping_add(1), bytes - 1)
+        }
+    }
+
+    /// The first of some bytes whose page's modify bit is clear: by one look-up where they lie in one page.
+    fn first_clear_from(&self, va: u32, bytes: u32) -> Option<u32>
+        requires some { 1 ≤ bytes }
+        requires few { bytes ≤ 9 }
+        ensures { result ≡ first_clear (is_clear_for self.now.memory.now self.now.world.now) (addresses bytes va) }
+    {
+        if va % 512 + bytes > 512 {
+            self.first_clear_by_bytes(va, bytes)
+        } else if self.is_clear(va) {
+            Some(va)
+        } else {
+            None
+        }
+    }
+
+    /// The first byte of these stores, in order, whose page's modify bit is clear.
+    #[tactic(auto, using(crate::proofs::Puts::store_by_store))]
+    pub fn first_clear(&self, stores: &[Store]) -> Option<u32>
+        ensures { result ≡ first_clear (is_clear_for self.now.memory.now self.now.world.now) (bytes_of_stores stores.now) }
+    {
+        let [first, rest @ ..] = stores else {
+            return None;
+        };
+        match self.first_clear_from(first.va, u32::from(first.width.bytes())) {
+            Some(va) => Some(va),
+            None => self.first_clear(rest),
+        }
+    }
+
+    /// The place of a byte that is written; where there is none, it lies nowhere in the machine.
+    fn place_or_end(&self, va: u32) -> u32
+        requires { length self.now.memory.now < 2 ^ 32 }
+        ensures { result ≡ written_place self.now.memory.now self.now.world.now va }
+    {
+        match self.place(va, true) {
+            Ok(place) => place,
+            Err(_) => self.memory.len() as u32,
+        }
+    }
+
+    /// The bytes of a store, behind others.
+    fn add_store(&self, puts: &mut ArrayVec<Put, 160>, store: &Store)
+        requires memory { length self.now.memory.now < 2 ^ 32 }
+        requires room { array_vec_len puts.old + 8 ≤ 160 }
+        ensures room { array_vec_len puts.new ≤ array_vec_len puts.old + 8 }
+        ensures items { puts.new.items ≡ puts.old.items ++ puts_from (written_place self.now.memory.now self.now.world.now) (size_of store.now.width) store.now.va store.now.value }
+    {
+        let mut va = store.va;
+        let mut rest = store.value;
+        for _left in (0..store.width.bytes()).rev() {
+            puts.push(Put {
+                place: self.place_or_end(va),
+                byte: (rest % 256) as u8,
+            });
+            va = va.wrapping_add(1);
+            rest /= 256;
+        }
+    }
+
+    /// The bytes of stores, in order.
+    pub fn puts(&self, stores: &[Store]) -> ArrayVec<Put, 160>
+        requires memory { length self.now.memory.now < 2 ^ 32 }
+        requires few { length stores.now ≤ 20 }
+        ensures { result.items ≡ puts_of (written_place self.now.memory.now self.now.world.now) stores.now }
+    {
+        let mut puts = ArrayVec::new();
+        for store in stores {
+            self.add_store(&mut puts, store);
+        }
+        puts
+    }
+}
+
+/// Makes stores in order byte by byte, at the places of before the first.
+#[tactic(auto, using(crate::proofs::Puts::as_stored))]
+#[cold]
+#[inline(never)]
+fn store_by_bytes(memory: &mut [u8], world: &World, stores: &[Store])
+    requires memory { length memory.old < 2 ^ 32 }
+    requires few { length stores.now ≤ 20 }
+    ensures { memory.new ≡ all_stored (written_place memory.old world.now) stores.now memory.old }
+{
+    let space = Paged {
+        memory: &*memory,
+        world,
+    };
+    let puts = space.puts(stores);
+    make(memory, puts.as_slice());
+}
+
+/// The place of a store that lies in one page, where memory has it whole, by the tables.
+fn walked_place(memory: &[u8], world: &World, store: &Store) -> Option<usize>
+    ensures { IfSome result (λ place. IsWhole memory.now world.now store.now place) }
+{
+    let bytes = u32::from(store.width.bytes());
+    if store.va % 512 + bytes > 512 {
+        return None;
+    }
+    match (Paged { memory, world }).place(store.va, true) {
+        Ok(place) if place as usize + bytes as usize <= memory.len() => Some(place as usize),
+        _ => None,
+    }
+}
+
+/// The same, by what is known of its page where it is known.
+fn whole_place(
+    memory: &[u8],
+    world: &World,
+    known: &[Known],
+    missed: &Cell<u32>,
+    store: &Store,
+) -> Option<usize>
+    requires { AreKnown world.now known.now }
+    ensures { IfSome result (λ place. IsWhole memory.now world.now store.now place) }
+{
+    let space = Mapped {
+        memory,
+        known,
+        missed,
+    };
+    match space.whole_place(world, store) {
+        Some(place) => Some(place),
+        None => walked_place(memory, world, store),
+    }
+}
+
+/// Makes one store.
+fn store_one(memory: &mut [u8], world: &World, known: &[Known], missed: &Cell<u32>, store: &Store)
+    requires memory { length memory.old < 2 ^ 32 }
+    requires known { AreKnown world.now known.now }
+    ensures { memory.new ≡ all_stored (written_place memory.old world.now) (store.now ∷ []) memory.old }
+{
+    match whole_place(&*memory, world, known, missed, store) {
+        Some(place) => store_in(memory, place, store.width, store.value),
+        None => store_by_bytes(memory, world, &[*store]),
+    }
+}
+
+/// Makes stores in order, at the places of before the first.
+pub fn store_all(
+    memory: &mut [u8],
+    world: &World,
+    known: &[Known],
+    missed: &Cell<u32>,
+    stores: &[Store],
+)
+    requires memory { length memory.old < 2 ^ 32 }
+    requires known { AreKnown world.now known.now }
+    requires few { length stores.now ≤ 20 }
+    ensures { memory.new ≡ all_stored (written_place memory.old world.now) stores.now memory.old }
+{
+    match stores {
+        [] => {}
+        [store] => store_one(memory, world, known, missed, store),
+        _ => store_by_bytes(memory, world, stores),
+    }
+}
