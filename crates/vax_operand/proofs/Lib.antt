@@ -1,2 +1,3 @@
 pub mod ByteByByte
+pub mod Preparing
 pub mod Steps

@@ -1,7 +1,6 @@
 -- One operand more, in the words of the definition.
-use Rattle.std.proofs.Common.{◌≡◌, ◌≢◌, ℕ, zero, suc, ◌+◌, ◌<◌, List, [], ◌∷◌, length, get_or, drop, Some, Option, Result, Ok, Err, refl, ap, ◌∙◌, sym, subst, arith, add-one, below_more, get_or-set_other, OnOk, slice_get, slice_index, slice_index_or, slice_set}
-use Rattle.std.specs.Prelude.{if◌then◌else◌}
-use Rattle.std.proofs.lemmas.Option.{get_or_from_slice_get}
+use Rattle.std.proofs.Common.{◌≡◌, ◌≢◌, ℕ, zero, suc, ◌+◌, ◌<◌, List, [], ◌∷◌, length, map, get_or, drop, Some, Result, Ok, Err, refl, ap, ◌∙◌, sym, subst, arith, add-one, below_more, get_or-set_other, OnOk, slice_get, slice_index, slice_index_or, slice_set}
+use Rattle.std.specs.Prelude.{if◌then◌else◌, IfOk}
 use Rattle.vax_table.specs.declared.act.Dest.{Dest}
 use Rattle.vax_table.specs.declared.act.Dest.TheVariants.{Nowhere}
 use Rattle.vax_table.specs.declared.decoded.Spec.{Spec}
@@ -11,36 +10,49 @@ use Rattle.vax_table.specs.declared.evaluation.Trouble.{Trouble as Told}
 use Rattle.vax_table.specs.declared.forms.Form.{Form}
 use Rattle.vax_table.specs.Operand.{plus, behind_bytes, forms_in, no_operands, operand_of, operands_from, operands_of, trap_forms, with_operand}
 use Rattle.vax_table.specs.Rows.{row_of}
-use Rattle.vax_table.specs.Script.{Space, Trouble, outcome}
+use Rattle.vax_table.specs.Script.{Script, Space, Trouble, outcome}
 use Rattle.vax_table.specs.Spelling.{Instruction, IsWellFormed}
 use Rattle.vax_table.specs.Standing.{AllStand, Fits, IsRegister}
+use Rattle.vax_table.specs.Troubles.{told}
+use Rattle.vax_operand.specs.declared.prepared.Operand.{Operand}
 use Rattle.vax_operand.specs.Left.{left}
 use Rattle.vax_table.proofs.Claims.{holds_made}
 use Rattle.vax_table.proofs.NextPc.{operands_go}
 use Rattle.vax_table.proofs.Scripts.{outcome-bind}
 
-next : (s : Space) (j i : ℕ) (fs : List Form) (ss : List Spec) (o : Operands) (f : Form) (x : Spec) (e : Evaluated) → i < length fs → i < length ss →
-    Ok e ≡ outcome s (operand_of (get_or fs i f) (get_or ss i x) o.r) →
-    outcome s (operands_from (j + 1) (drop (suc i) fs) (drop (suc i) ss) (with_operand j o e)) ≡ outcome s (operands_from j (drop i fs) (drop i ss) o)
-next s j i [] ss o f x e h k is = absurd (omega arith)
-next s j i (g ∷ fs) [] o f x e h k is = absurd (omega arith)
-next s j zero (g ∷ fs) (y ∷ ss) o f x e h k is = rw (outcome-bind, ← is) refl
-next s j (suc i) (g ∷ fs) (y ∷ ss) o f x e h k is = next s j i fs ss o f x e (omega arith) (omega arith) is
+abbrev pub forms_of : List Operand → List Form
+forms_of xs = map (λ x. x.form) xs
+
+abbrev pub specs_of : List Operand → List Spec
+specs_of xs = map (λ x. x.spec) xs
+
+-- the operands from a number on, of which these are left
+abbrev pub left_from : ℕ → List Operand → Operands → Script Operands
+left_from i xs o = operands_from i (map (λ x. x.form) xs) (map (λ x. x.spec) xs) o
+
+next : (s : Space) (j i : ℕ) (xs : List Operand) (o : Operands) (d : Operand) (e : Evaluated) → i < length xs →
+    Ok e ≡ outcome s (operand_of (get_or xs i d).form (get_or xs i d).spec o.r) → outcome s (left_from (j + 1) (drop (suc i) xs) (with_operand j o e)) ≡ outcome s (left_from j (drop i xs) o)
+next s j i [] o d e h is = absurd (omega arith)
+next s j zero (x ∷ xs) o d e h is = rw (outcome-bind, ← is) refl
+next s j (suc i) (x ∷ xs) o d e h is = next s j i xs o d e (omega arith) is
+
+stop : (s : Space) (j i : ℕ) (xs : List Operand) (o : Operands) (d : Operand) (t : Trouble) → i < length xs →
+    Err t ≡ outcome s (operand_of (get_or xs i d).form (get_or xs i d).spec o.r) → Err t ≡ outcome s (left_from j (drop i xs) o)
+stop s j i [] o d t h is = absurd (omega arith)
+stop s j zero (x ∷ xs) o d t h is = rw (outcome-bind, ← is) refl
+stop s j (suc i) (x ∷ xs) o d t h is = stop s j i xs o d t (omega arith) is
 
 -- an operand that completes
-pub operands_next : (s : Space) (i : ℕ) (fs : List Form) (ss : List Spec) (o : Operands) (f : Form) (x : Spec) (e : Evaluated) → i < length fs → i < length ss →
-    Ok e ≡ outcome s (operand_of (get_or fs i f) (get_or ss i x) o.r) →
-    outcome s (operands_from (i + 1) (drop (i + 1) fs) (drop (i + 1) ss) (with_operand i o e)) ≡ outcome s (operands_from i (drop i fs) (drop i ss) o)
-operands_next s i fs ss o f x e h k is =
-    subst (λ (n : ℕ). outcome s (operands_from (i + 1) (drop n fs) (drop n ss) (with_operand i o e)) ≡ outcome s (operands_from i (drop i fs) (drop i ss) o)) (sym (add-one i)) (next s i i fs ss o f x e h k is)
+pub operands_next : (s : Space) (i : ℕ) (xs : List Operand) (o : Operands) (x : Operand) (e : Evaluated) → i < length xs → x ≡ get_or xs i x →
+    Ok e ≡ outcome s (operand_of x.form x.spec o.r) → outcome s (left_from (i + 1) (drop (i + 1) xs) (with_operand i o e)) ≡ outcome s (left_from i (drop i xs) o)
+operands_next s i xs o x e h there is =
+    subst (λ (n : ℕ). outcome s (left_from (i + 1) (drop n xs) (with_operand i o e)) ≡ outcome s (left_from i (drop i xs) o)) (sym (add-one i))
+    (next s i i xs o x e h (subst (λ (y : Operand). Ok e ≡ outcome s (operand_of y.form y.spec o.r)) there is))
 
 -- an operand that has trouble
-pub operands_stop : (s : Space) (j i : ℕ) (fs : List Form) (ss : List Spec) (o : Operands) (f : Form) (x : Spec) (t : Trouble) → i < length fs → i < length ss →
-    Err t ≡ outcome s (operand_of (get_or fs i f) (get_or ss i x) o.r) → Err t ≡ outcome s (operands_from j (drop i fs) (drop i ss) o)
-operands_stop s j i [] ss o f x t h k is = absurd (omega arith)
-operands_stop s j i (g ∷ fs) [] o f x t h k is = absurd (omega arith)
-operands_stop s j zero (g ∷ fs) (y ∷ ss) o f x t h k is = rw (outcome-bind, ← is) refl
-operands_stop s j (suc i) (g ∷ fs) (y ∷ ss) o f x t h k is = operands_stop s j i fs ss o f x t (omega arith) (omega arith) is
+pub operands_stop : (s : Space) (i : ℕ) (xs : List Operand) (o : Operands) (x : Operand) (t : Trouble) → i < length xs → x ≡ get_or xs i x →
+    Err t ≡ outcome s (operand_of x.form x.spec o.r) → Err t ≡ outcome s (left_from i (drop i xs) o)
+operands_stop s i xs o x t h there is = stop s i i xs o x t h (subst (λ (y : Operand). Err t ≡ outcome s (operand_of y.form y.spec o.r)) there is)
 
 -- what is put into a list, or left out beyond its end
 value_put : (xs : List ℕ) (i v most : ℕ) → v < most → slice_index (slice_set xs i v) i < most
@@ -53,27 +65,36 @@ dest_put [] i d h = tt
 dest_put (x ∷ xs) zero d h = h
 dest_put (x ∷ xs) (suc i) d h = dest_put xs i d h
 
+form_at : (xs : List Operand) (i : ℕ) (d : Operand) (f : Form) → slice_get (map (λ x. x.form) xs) i ≡ Some f → (get_or xs i d).form ≡ f
+form_at [] i d f e = cc
+form_at (x ∷ xs) zero d f e = cc
+form_at (x ∷ xs) (suc i) d f e = form_at xs i d f e
+
 -- the operands so far and one more
-pub fits_next : (fs : List Form) (o : Operands) (e : Evaluated) (i : ℕ) (d : Form) →
-    ((k : ℕ) (f : Form) → k < i → slice_get fs k ≡ Some f → Fits f (slice_index o.values k) (slice_index_or o.dests k Nowhere)) → Fits (get_or fs i d) e.value e.dest →
-    (k : ℕ) (f : Form) → k < i + 1 → slice_get fs k ≡ Some f → Fits f (slice_index (with_operand i o e).values k) (slice_index_or (with_operand i o e).dests k Nowhere)
-fits_next fs o e i d before now k f h g =
-    let P : ℕ → Type 0 = λ n. (f : Form) → slice_get fs n ≡ Some f → Fits f (slice_index (slice_set o.values i e.value) n) (slice_index_or (slice_set o.dests i e.dest) n Nowhere) in
+pub fits_next : (xs : List Operand) (o : Operands) (e : Evaluated) (i : ℕ) (d : Operand) → d ≡ get_or xs i d →
+    ((k : ℕ) (f : Form) → k < i → slice_get (map (λ x. x.form) xs) k ≡ Some f → Fits f (slice_index o.values k) (slice_index_or o.dests k Nowhere)) → Fits d.form e.value e.dest →
+    (k : ℕ) (f : Form) → k < i + 1 → slice_get (map (λ x. x.form) xs) k ≡ Some f → Fits f (slice_index (with_operand i o e).values k) (slice_index_or (with_operand i o e).dests k Nowhere)
+fits_next xs o e i d there before now k f h g =
+    let P : ℕ → Type 0 = λ n. (f : Form) → slice_get (map (λ x. x.form) xs) n ≡ Some f → Fits f (slice_index (slice_set o.values i e.value) n) (slice_index_or (slice_set o.dests i e.dest) n Nowhere) in
     below_more P i
     (λ n low x is. let ne : n ≢ i = omega arith in let p = before n x low is in (rw get_or-set_other p.0, rw get_or-set_other p.1))
-    (λ x is. let p = subst (λ (y : Form). Fits y e.value e.dest) (get_or_from_slice_get fs i x d is) now in (value_put o.values i e.value _ p.0, dest_put o.dests i e.dest p.1))
+    (λ x is. let p = subst (λ (y : Form). Fits y e.value e.dest) (ap (λ (y : Operand). y.form) there ∙ form_at xs i d x is) now in (value_put o.values i e.value _ p.0, dest_put o.dests i e.dest p.1))
     k h f g
 
 -- a form that there is has a number below their count
-pub within : (fs : List Form) (k : ℕ) (f : Form) → slice_get fs k ≡ Some f → k < length fs
+pub within : (xs : List Operand) (k : ℕ) (f : Form) → slice_get (map (λ x. x.form) xs) k ≡ Some f → k < length xs
 within [] k f e = cc
-within (x ∷ fs) zero f e = omega arith
-within (x ∷ fs) (suc k) f e = let h : k < length fs = within fs k f e in omega arith
+within (x ∷ xs) zero f e = omega arith
+within (x ∷ xs) (suc k) f e = let h : k < length xs = within xs k f e in omega arith
 
 -- PC is behind the instruction behind its operands
 pub next_pc : (s : Space) (d : Instruction) (r : List ℕ) (x : Result (Unit {0}) Told) (o : Operands) → IsWellFormed d → 15 < length r → left x o ≡ outcome s (operands_of d r) → OnOk x (slice_index o.r 15 ≡ plus (slice_index r 15) d.length)
 next_pc s d r (Ok u) o h room e = holds_made (λ cs p. slice_index p.r 15 ≡ plus (slice_index r 15) d.length) s [] (operands_of d r) o (operands_go d r h room) (sym e)
 next_pc s d r (Err t) o h room e = tt
+
+pub next_pc_told : (s : Space) (d : Instruction) (r : List ℕ) (x : Result Operands Told) → IsWellFormed d → 15 < length r → told x ≡ outcome s (operands_of d r) → IfOk x (λ o. slice_index o.r 15 ≡ plus (slice_index r 15) d.length)
+next_pc_told s d r (Ok o) h room e = holds_made (λ cs p. slice_index p.r 15 ≡ plus (slice_index r 15) d.length) s [] (operands_of d r) o (operands_go d r h room) (sym e)
+next_pc_told s d r (Err t) h room e = tt
 
 -- the operands of its opcode's forms are those of the instruction
 pub of_forms : (s : Space) (d : Instruction) (r : List ℕ) (forms : List Form) (specs : List Spec) (start : Operands) (x : Result Operands Trouble) → forms ≡ forms_in (row_of d.opcode) → specs ≡ d.specs →

@@ -3,13 +3,17 @@
 
 mod address;
 mod instruction;
+mod kind;
 mod operand;
+mod prepared;
 mod space;
 #[cfg(test)]
 mod tests;
 mod values;
 
-pub use instruction::{evaluate, evaluate_into, evaluate_trap, forms};
+pub use instruction::{evaluate, evaluate_into, evaluate_trap};
+pub use kind::{Base, Kind};
+pub use prepared::{Operand, Prepared, forms};
 pub use space::Space;
 pub use values::Values;
 pub use vax_table::Dest;

@@ -1,14 +1,17 @@
-ghost use Rattle.std.specs.Prelude.{◌≡◌, ◌≤◌, ◌<◌, ◌^◌, ◌⊎◌, IfOk};
+ghost use Rattle.std.specs.Prelude.{◌≡◌, ◌<◌, ◌^◌, IfOk};
 ghost use Rattle.vv_base.specs.Width.{size_of};
-ghost use Rattle.vax_table.specs.Operand.{address_operand, bits_operand, branch_operand, evaluated, modified_operand, read_operand, register_value, written_operand};
-ghost use Rattle.vax_table.specs.Script.{Done, outcome};
-ghost use Rattle.vax_table.specs.Standing.{Fits, IsFormed, IsSource};
+ghost use Rattle.vax_table.specs.Operand.{operand_of, register_value};
+ghost use Rattle.vax_table.specs.Script.{outcome};
+ghost use Rattle.vax_table.specs.Standing.{Fits};
 ghost use Rattle.vax_operand.specs.Left.{evaluated_as};
+ghost use Rattle.vax_operand.specs.Prepared.{IsAddressed, access_of, operand_by};
 
-use crate::address::{address_of, extended};
+use crate::address::address;
+use crate::kind::{Base, Kind};
+use crate::prepared::Operand;
 use crate::space::Space;
 use vax_table::evaluation::Trouble;
-use vax_table::{Access, Dest, Spec};
+use vax_table::{Dest, Spec};
 use vv_base::Width;
 
 /// What an operand is worth, and where its result goes.
@@ -18,6 +21,7 @@ pub struct Worth {
     pub dest: Dest,
 }
 
+#[inline(always)]
 fn valued(value: u64, dest: Dest) -> Worth
     ensures { result ≡ record { value = value; dest = dest } }
 {
@@ -25,6 +29,7 @@ fn valued(value: u64, dest: Dest) -> Worth
 }
 
 /// What a register is worth: its low bits; a quadword is Rn and Rn+1.
+#[inline(always)]
 fn register_value(w: Width, r: &[u32; 16], n: u8) -> u64
     requires { n < 15 }
     ensures value { result ≡ register_value w r.now n }
@@ -40,116 +45,132 @@ fn register_value(w: Width, r: &[u32; 16], n: u8) -> u64
     }
 }
 
-/// A source: a literal, a register, an immediate, or memory.
-#[tactic(auto, unfolding(vax_table::specs::Operand::read_operand), using(vax_table::proofs::Scripts::binds))]
-pub fn read_operand<S: Space>(
+/// A source in memory.
+#[inline(always)]
+#[tactic(auto, unfolding(crate::specs::Prepared::operand_by), using(vax_table::proofs::Scripts::binds))]
+fn read_operand<S: Space>(
     space: &S,
+    base: Base,
     w: Width,
     spec: &Spec,
     r: &mut [u32; 16],
 ) -> Result<Worth, Trouble>
-    requires { IsSource w spec.now }
-    ensures outcome { evaluated_as result r.new ≡ outcome (S.space space.now) (read_operand w spec.now r.old) }
-    ensures fits { IfOk result (λ e. Fits (record { access = Access.Read; width = w }) e.value e.dest) }
+    requires { IsAddressed spec.now }
+    ensures outcome { evaluated_as result r.new ≡ outcome (S.space space.now) (operand_by (Kind.Read base) w spec.now r.old) }
+    ensures fits { IfOk result (λ e. Fits (record { access = access_of (Kind.Read base); width = w }) e.value e.dest) }
 {
-    match (spec.mode, spec.reg) {
-        (0, _) | (8, 15) => Ok(valued(spec.value, Dest::Nowhere)),
-        (5, n) => Ok(valued(register_value(w, r, n), Dest::Nowhere)),
-        _ => {
-            let at = address_of(space, u32::from(w.bytes()), spec, r)?;
-            let value = space.read(at, w)?;
-            Ok(valued(value, Dest::Nowhere))
-        }
-    }
+    let at = address(space, base, u32::from(w.bytes()), spec, r)?;
+    let value = space.read(at, w)?;
+    Ok(valued(value, Dest::Nowhere))
 }
 
-/// A source that is written too: a register, or memory by one access with write intent.
-#[tactic(auto, unfolding(vax_table::specs::Operand::modified_operand), using(vax_table::proofs::Scripts::binds))]
-pub fn modified_operand<S: Space>(
+/// A source in memory that is written too: one access with write intent.
+#[inline(always)]
+#[tactic(auto, unfolding(crate::specs::Prepared::operand_by), using(vax_table::proofs::Scripts::binds))]
+fn modified_operand<S: Space>(
     space: &S,
+    base: Base,
     w: Width,
     spec: &Spec,
     r: &mut [u32; 16],
 ) -> Result<Worth, Trouble>
-    requires formed { IsFormed spec.now }
-    requires mode { 4 < spec.now.mode }
-    ensures outcome { evaluated_as result r.new ≡ outcome (S.space space.now) (modified_operand w spec.now r.old) }
-    ensures fits { IfOk result (λ e. Fits (record { access = Access.Modify; width = w }) e.value e.dest) }
+    requires { IsAddressed spec.now }
+    ensures outcome { evaluated_as result r.new ≡ outcome (S.space space.now) (operand_by (Kind.Modify base) w spec.now r.old) }
+    ensures fits { IfOk result (λ e. Fits (record { access = access_of (Kind.Modify base); width = w }) e.value e.dest) }
 {
-    if spec.mode == 5 {
-        let value = register_value(w, r, spec.reg);
-        return Ok(valued(value, Dest::Register(spec.reg)));
-    }
-    let at = address_of(space, u32::from(w.bytes()), spec, r)?;
+    let at = address(space, base, u32::from(w.bytes()), spec, r)?;
     let value = space.claim(at, w)?;
     Ok(valued(value, Dest::Memory(at)))
 }
 
-/// A destination: a register, or memory, which is tested for writing here.
-#[tactic(auto, unfolding(vax_table::specs::Operand::written_operand), using(vax_table::proofs::Scripts::binds))]
-pub fn written_operand<S: Space>(
+/// A destination in memory, which is tested for writing here.
+#[inline(always)]
+#[tactic(auto, unfolding(crate::specs::Prepared::operand_by), using(vax_table::proofs::Scripts::binds))]
+fn written_operand<S: Space>(
     space: &S,
+    base: Base,
     w: Width,
     spec: &Spec,
     r: &mut [u32; 16],
 ) -> Result<Worth, Trouble>
-    requires formed { IsFormed spec.now }
-    requires mode { 4 < spec.now.mode }
-    ensures outcome { evaluated_as result r.new ≡ outcome (S.space space.now) (written_operand w spec.now r.old) }
-    ensures fits { IfOk result (λ e. Fits (record { access = Access.Write; width = w }) e.value e.dest) }
+    requires { IsAddressed spec.now }
+    ensures outcome { evaluated_as result r.new ≡ outcome (S.space space.now) (operand_by (Kind.Write base) w spec.now r.old) }
+    ensures fits { IfOk result (λ e. Fits (record { access = access_of (Kind.Write base); width = w }) e.value e.dest) }
 {
-    if spec.mode == 5 {
-        return Ok(valued(0, Dest::Register(spec.reg)));
-    }
-    let at = address_of(space, u32::from(w.bytes()), spec, r)?;
+    let at = address(space, base, u32::from(w.bytes()), spec, r)?;
     space.claim(at, w)?;
     Ok(valued(0, Dest::Memory(at)))
 }
 
 /// An operand whose address is taken.
-#[tactic(auto, unfolding(vax_table::specs::Operand::address_operand), using(vax_table::proofs::Scripts::binds))]
-pub fn address_operand<S: Space>(
+#[inline(always)]
+#[tactic(auto, unfolding(crate::specs::Prepared::operand_by), using(vax_table::proofs::Scripts::binds))]
+fn address_operand<S: Space>(
     space: &S,
+    base: Base,
     w: Width,
     spec: &Spec,
     r: &mut [u32; 16],
 ) -> Result<Worth, Trouble>
-    requires formed { IsFormed spec.now }
-    requires memory { 5 < spec.now.mode }
-    ensures outcome { evaluated_as result r.new ≡ outcome (S.space space.now) (address_operand w spec.now r.old) }
-    ensures fits { IfOk result (λ e. Fits (record { access = Access.Address; width = w }) e.value e.dest) }
+    requires { IsAddressed spec.now }
+    ensures outcome { evaluated_as result r.new ≡ outcome (S.space space.now) (operand_by (Kind.Address base) w spec.now r.old) }
+    ensures fits { IfOk result (λ e. Fits (record { access = access_of (Kind.Address base); width = w }) e.value e.dest) }
 {
-    let at = address_of(space, u32::from(w.bytes()), spec, r)?;
+    let at = address(space, base, u32::from(w.bytes()), spec, r)?;
     Ok(valued(u64::from(at), Dest::Nowhere))
 }
 
-/// The register or the address from which bits are counted.
-#[tactic(auto, unfolding(vax_table::specs::Operand::bits_operand), using(vax_table::proofs::Scripts::binds))]
-pub fn bits_operand<S: Space>(
+/// An address from which bits are counted.
+#[inline(always)]
+#[tactic(auto, unfolding(crate::specs::Prepared::operand_by), using(vax_table::proofs::Scripts::binds))]
+fn bits_operand<S: Space>(
     space: &S,
+    base: Base,
     w: Width,
     spec: &Spec,
     r: &mut [u32; 16],
 ) -> Result<Worth, Trouble>
-    requires formed { IsFormed spec.now }
-    requires mode { 4 < spec.now.mode }
-    ensures outcome { evaluated_as result r.new ≡ outcome (S.space space.now) (bits_operand w spec.now r.old) }
-    ensures fits { IfOk result (λ e. Fits (record { access = Access.Bits; width = w }) e.value e.dest) }
+    requires { IsAddressed spec.now }
+    ensures outcome { evaluated_as result r.new ≡ outcome (S.space space.now) (operand_by (Kind.Bits base) w spec.now r.old) }
+    ensures fits { IfOk result (λ e. Fits (record { access = access_of (Kind.Bits base); width = w }) e.value e.dest) }
 {
-    if spec.mode == 5 {
-        return Ok(valued(0, Dest::Register(spec.reg)));
-    }
-    let at = address_of(space, u32::from(w.bytes()), spec, r)?;
+    let at = address(space, base, u32::from(w.bytes()), spec, r)?;
     Ok(valued(0, Dest::Memory(at)))
 }
 
-/// The target of a branch. R15 is behind the displacement.
-#[tactic(auto, unfolding(vax_table::specs::Operand::branch_operand))]
-pub fn branch_operand(w: Width, spec: &Spec, r: &[u32; 16]) -> Worth
-    requires { spec.now.value < 256 ^ size_of w }
-    ensures script { branch_operand w spec.now r.now ≡ Done (evaluated result.value result.dest r.now) }
-    ensures fits { Fits (record { access = Access.Branch; width = w }) result.value result.dest }
+/// An operand by its kind, behind its own bytes.
+#[inline(always)]
+#[tactic(auto, unfolding(crate::specs::Prepared::operand_by))]
+fn operand_by<S: Space>(space: &S, x: &Operand, r: &mut [u32; 16]) -> Result<Worth, Trouble>
+    ensures outcome { evaluated_as result r.new ≡ outcome (S.space space.now) (operand_by x.now.kind x.now.form.width x.now.spec r.old) }
+    ensures fits { IfOk result (λ e. Fits (record { access = access_of x.now.kind; width = x.now.form.width }) e.value e.dest) }
 {
-    let target = r[15].wrapping_add(extended(w, spec.value));
-    valued(u64::from(target), Dest::Nowhere)
+    let w = x.form.width;
+    let n = x.spec.reg;
+    match x.kind {
+        Kind::Constant => Ok(valued(x.spec.value, Dest::Nowhere)),
+        Kind::ReadRegister => Ok(valued(register_value(w, r, n), Dest::Nowhere)),
+        Kind::ModifyRegister => Ok(valued(register_value(w, r, n), Dest::Register(n))),
+        Kind::WriteRegister | Kind::BitsRegister => Ok(valued(0, Dest::Register(n))),
+        Kind::Branch(displacement) => {
+            let target = r[15].wrapping_add(displacement);
+            Ok(valued(u64::from(target), Dest::Nowhere))
+        }
+        Kind::Read(base) => read_operand(space, base, w, &x.spec, r),
+        Kind::Modify(base) => modified_operand(space, base, w, &x.spec, r),
+        Kind::Write(base) => written_operand(space, base, w, &x.spec, r),
+        Kind::Address(base) => address_operand(space, base, w, &x.spec, r),
+        Kind::Bits(base) => bits_operand(space, base, w, &x.spec, r),
+    }
+}
+
+/// One operand, which sees PC behind its own bytes, and whose side effect is on `r`.
+#[inline(always)]
+#[tactic(auto, using(crate::proofs::Preparing::prepared_same))]
+pub fn operand_of<S: Space>(space: &S, x: &Operand, r: &mut [u32; 16]) -> Result<Worth, Trouble>
+    ensures outcome { evaluated_as result r.new ≡ outcome (S.space space.now) (operand_of x.now.form x.now.spec r.old) }
+    ensures fits { IfOk result (λ e. Fits x.now.form e.value e.dest) }
+{
+    r[15] = r[15].wrapping_add(x.length);
+    operand_by(space, x, r)
 }
