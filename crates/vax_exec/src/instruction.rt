@@ -1,9 +1,7 @@
-ghost use Rattle.std.specs.Prelude.{◌≡◌, ◌≤◌, true, ◌%◌, ◌^◌, length};
+ghost use Rattle.std.specs.Prelude.{◌≡◌, true, ◌%◌, ◌^◌};
 ghost use Rattle.vax_table.specs.Effects.{effect, effects};
-ghost use Rattle.vax_table.specs.Operand.{forms_in};
-ghost use Rattle.vax_table.specs.Operations.{operation_of};
+ghost use Rattle.vax_table.specs.Operations.{is_narrow, operation_of};
 ghost use Rattle.vax_table.specs.Plan.{is_planned, performed, planned};
-ghost use Rattle.vax_table.specs.Rows.{row_of};
 ghost use Rattle.vax_table.specs.Script.{outcome};
 ghost use Rattle.vax_table.specs.Spelling.{IsWellFormed, view};
 ghost use Rattle.vax_operand.specs.Left.{joined, left};
@@ -14,24 +12,25 @@ use arrayvec::ArrayVec;
 use vax_arch::Psl;
 use vax_decode::Decoded;
 use vax_flow::{begin, flow};
-use vax_operand::{Space, Trouble, Values, evaluate_into, forms};
+use vax_operand::{Operands, Prepared, Space, Trouble, Values, evaluate, evaluate_into};
 use vax_table::effect::Plan;
-use vax_table::{Form, Operation, operation};
+use vax_table::{Operation, operation};
 
 /// What an instruction does behind its operands.
 #[tactic(auto, unfolding(vax_table::specs::Plan::performed))]
 fn perform<S: Space>(
     s: &S,
-    opcode: u8,
+    what: Operation,
     o: &Values,
     psl: Psl,
     plan: &mut Plan,
 ) -> Result<(), Trouble>
-    requires { is_planned (operation_of opcode) ≡ true }
-    ensures { left result (effect plan.new) ≡ outcome (S.space s.now) (performed (operation_of opcode) (joined o.now plan.old.r) (psl.0 % 2 ^ 8)) }
+    requires planned { is_planned what ≡ true }
+    requires narrow { is_narrow what ≡ true }
+    ensures { left result (effect plan.new) ≡ outcome (S.space s.now) (performed what (joined o.now plan.old.r) (psl.0 % 2 ^ 8)) }
 {
     let psw = (psl.0 % 0x100) as u8;
-    match operation(opcode) {
+    match what {
         Operation::Nothing => {
             begin(plan, psw);
             Ok(())
@@ -50,52 +49,45 @@ fn perform<S: Space>(
         }
         Operation::SetStatus => set_status(o, psw, plan),
         Operation::ClearStatus => clear_status(o, psw, plan),
-        what => flow(s, what, o, psw, plan),
+        _ => flow(s, what, o, psw, plan),
     }
 }
 
-/// What a plain instruction comes to that is neither MOVPSL nor PROBE, BPT or XFC: `forms` are those of its opcode's
-/// operands, `psl` is the processor status longword, of which the low byte counts. The plan's registers are R0 to R15 before
-/// it, and behind it then; its operands go to `o`. An error is the first trouble of its accesses and tests, in order;
-/// nothing is to change then, and what `o` and `plan` are is of no matter.
+/// What a plain instruction comes to that is neither MOVPSL nor PROBE, BPT or XFC: `psl` is the processor status longword,
+/// of which the low byte counts. The plan's registers are R0 to R15 before it, and behind it then; its operands go to `o`.
+/// An error is the first trouble of its accesses and tests, in order; nothing is to change then, and what `o` and `plan`
+/// are is of no matter.
+#[inline(always)]
 #[tactic(auto, unfolding(vax_table::specs::Plan::planned), using(vax_table::proofs::Scripts::binds))]
 pub fn plan_into<S: Space>(
     s: &S,
-    forms: &[Form],
-    d: &Decoded,
+    e: &Prepared,
     psl: Psl,
     o: &mut Values,
     plan: &mut Plan,
 ) -> Result<(), Trouble>
-    requires formed { IsWellFormed (view d.now) }
-    requires few { length forms.now ≤ 4 }
-    requires forms { forms.now ≡ forms_in (row_of d.now.opcode) }
-    requires planned { is_planned (operation_of d.now.opcode) ≡ true }
-    ensures { left result (effect plan.new) ≡ outcome (S.space s.now) (planned (view d.now) plan.old.r (psl.0 % 2 ^ 8)) }
+    requires formed { IsWellFormed (view e.now.decoded) }
+    requires planned { is_planned (operation_of e.now.decoded.opcode) ≡ true }
+    ensures { left result (effect plan.new) ≡ outcome (S.space s.now) (planned (view e.now.decoded) plan.old.r (psl.0 % 2 ^ 8)) }
 {
-    evaluate_into(s, forms, d, &mut plan.r, o)?;
-    perform(s, d.opcode, o, psl, plan)
+    evaluate_into(s, e, &mut plan.r, o)?;
+    perform(s, e.operation, o, psl, plan)
 }
 
 /// What a plain instruction comes to, as `plan_into` gives it; `r` is R0 to R15 before it.
+#[tactic(auto, unfolding(vax_table::specs::Plan::planned), using(vax_table::proofs::Scripts::binds))]
 pub fn plan<S: Space>(s: &S, d: &Decoded, r: &[u32; 16], psl: Psl) -> Result<Plan, Trouble>
     requires formed { IsWellFormed (view d.now) }
     requires planned { is_planned (operation_of d.now.opcode) ≡ true }
     ensures { effects result ≡ outcome (S.space s.now) (planned (view d.now) r.now (psl.0 % 2 ^ 8)) }
 {
+    let Operands { values, dests, r } = evaluate(s, d, r)?;
     let mut plan = Plan {
-        r: *r,
+        r,
         psw: 0,
         writes: ArrayVec::new(),
         trap: None,
     };
-    plan_into(
-        s,
-        forms(d.opcode).as_slice(),
-        d,
-        psl,
-        &mut Values::none(),
-        &mut plan,
-    )?;
+    perform(s, operation(d.opcode), &Values { values, dests }, psl, &mut plan)?;
     Ok(plan)
 }

@@ -1,6 +1,6 @@
-ghost use Rattle.std.specs.Prelude.{◌≡◌, ◌≤◌, length, map};
+ghost use Rattle.std.specs.Prelude.{◌≡◌, ◌≤◌, true, length, map};
 ghost use Rattle.vax_table.specs.Operand.{forms_in, operand_length};
-ghost use Rattle.vax_table.specs.Operations.{operation_of};
+ghost use Rattle.vax_table.specs.Operations.{is_narrow, operation_of};
 ghost use Rattle.vax_table.specs.Rows.{row_of};
 ghost use Rattle.vax_table.specs.Spelling.{IsWellFormed, view};
 ghost use Rattle.vax_table.specs.Standing.{AllStand, Stands};
@@ -56,6 +56,7 @@ pub struct Prepared {
     pub operation: Operation,
     pub operands: ArrayVec<Operand, 4>,
     ghost does: { operation ≡ operation_of decoded.opcode },
+    ghost narrow: { is_narrow operation ≡ true },
     ghost forms: { map (λ x. x.form) operands.items ≡ forms_in (row_of decoded.opcode) },
     ghost specs: { map (λ x. x.spec) operands.items ≡ decoded.specs.items },
 }
