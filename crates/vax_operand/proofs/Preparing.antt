@@ -1,9 +1,10 @@
 -- What a prepared operand does is what the operand does.
 use Rattle.std.proofs.Common.{◌≡◌, ℕ, ◌%◌, ◌^◌, ◌<◌, ◌&&◌, Bool, true, false, eqb, List, refl, ap, ◌∙◌, subst, arith}
-use Rattle.std.specs.Prelude.{IfOk, Result}
+use Rattle.std.specs.Prelude.{OnOk, Result}
 use Rattle.vv_base.specs.declared.width.Width.{Width}
 use Rattle.vv_base.specs.declared.width.Width.TheVariants.{Byte, Word, Long, Quad}
 use Rattle.vv_base.specs.Width.{size_of}
+use Rattle.vax_table.specs.declared.act.Dest.{Dest}
 use Rattle.vax_table.specs.declared.decoded.Spec.{Spec}
 use Rattle.vax_table.specs.declared.forms.Access.{Access}
 use Rattle.vax_table.specs.declared.forms.Access.TheVariants.{Read, Modify, Write, Address, Bits, Branch}
@@ -13,7 +14,6 @@ use Rattle.vax_table.specs.declared.evaluation.Trouble.{Trouble as Told}
 use Rattle.vax_table.specs.Standing.{Fits, IsFormed, Stands}
 use Rattle.vax_table.proofs.Tests.{if_both, eq_of}
 use Rattle.vax_operand.specs.declared.kind.Kind.{Kind}
-use Rattle.vax_operand.specs.declared.operand.Worth.{Worth}
 use Rattle.vax_operand.specs.Prepared.{RestsOn, access_of, address_by, base_by, base_of, kind_by, kind_of, operand_by}
 
 plus_low : (a d : ℕ) → plus a (d % 2 ^ 32) ≡ plus a d
@@ -115,5 +115,5 @@ pub prepared_same : (f : Form) (s : Spec) (k : Kind) (n : ℕ) (r : List ℕ) �
 unfolding operand_of
 prepared_same f s k n r e g = rw (e, g) (by_kind f.access f.width s (behind_bytes (operand_length f s) r))
 
-pub prepared_fits : (f : Form) (s : Spec) (k : Kind) (x : Result Worth Told) → k ≡ kind_of f s → IfOk x (λ e. Fits (record { access = access_of k; width = f.width }) e.value e.dest) → IfOk x (λ e. Fits f e.value e.dest)
-prepared_fits f s k x e h = subst (λ (a : Access). IfOk x (λ e. Fits (record { access = a; width = f.width }) e.value e.dest)) (ap access_of e ∙ kind_access f.access f.width s) h
+pub prepared_fits : (f : Form) (s : Spec) (k : Kind) (x : Result (Unit {0}) Told) (value : ℕ) (dest : Dest) → k ≡ kind_of f s → OnOk x (Fits (record { access = access_of k; width = f.width }) value dest) → OnOk x (Fits f value dest)
+prepared_fits f s k x value dest e h = subst (λ (a : Access). OnOk x (Fits (record { access = a; width = f.width }) value dest)) (ap access_of e ∙ kind_access f.access f.width s) h

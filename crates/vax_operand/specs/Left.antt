@@ -1,13 +1,11 @@
 -- What a step left beside its result, in the words of scripts: registers, operands, a plan or a place.
 use Rattle.std.specs.Prelude.{ℕ, List, Result, Ok, Err}
-use Rattle.vax_table.specs.Operand.{evaluated, place}
+use Rattle.vax_table.specs.Operand.{place}
 use Rattle.vax_table.specs.Script.{Trouble}
 use Rattle.vax_table.specs.Troubles.{trouble_of}
-use Rattle.vax_table.specs.declared.evaluation.Evaluated.{Evaluated}
 use Rattle.vax_table.specs.declared.evaluation.Place.{Place}
 use Rattle.vax_table.specs.declared.evaluation.Trouble.{Trouble as Told}
 use Rattle.vax_table.specs.declared.evaluation.Operands.{Operands}
-use Rattle.vax_operand.specs.declared.operand.Worth.{Worth}
 use Rattle.vax_operand.specs.declared.values.Values.{Values}
 
 abbrev pub left : {A : Type 0} → Result (Unit {0}) Told → A → Result A Trouble
@@ -22,8 +20,3 @@ joined v r = record { values = v.values; dests = v.dests; r = r }
 abbrev pub placed : Result ℕ Told → List ℕ → Result Place Trouble
 placed (Ok at) r = Ok (place at r)
 placed (Err t) r = Err (trouble_of t)
-
--- an operand, and the registers
-abbrev pub evaluated_as : Result Worth Told → List ℕ → Result Evaluated Trouble
-evaluated_as (Ok x) r = Ok (evaluated x.value x.dest r)
-evaluated_as (Err t) r = Err (trouble_of t)

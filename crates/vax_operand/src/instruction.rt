@@ -43,8 +43,7 @@ fn evaluate_all<S: Space>(
     ensures fits { OnOk result (AllFit (map (λ x. x.form) operands.now) (joined v.new r.new)) }
 {
     for (i, operand) in operands.iter().enumerate() {
-        let x = operand_of(space, operand, r)?;
-        v.put(i, &x);
+        operand_of(space, operand, r, &mut v.values[i], &mut v.dests[i])?;
     }
     Ok(())
 }

@@ -1,8 +1,7 @@
-ghost use Rattle.std.specs.Prelude.{◌≡◌, ◌<◌, ◌%◌, ◌^◌, List, ℕ, slice_index, slice_set};
+ghost use Rattle.std.specs.Prelude.{◌≡◌, ◌<◌, ◌%◌, ◌^◌, List, ℕ, slice_index};
 ghost use Rattle.vax_table.specs.Operand.{no_operands};
 ghost use Rattle.vax_operand.specs.Left.{joined};
 
-use crate::operand::Worth;
 use vax_table::Dest;
 use vax_table::evaluation::Operands;
 
@@ -32,15 +31,6 @@ impl Values {
         ensures { result ≡ slice_index self.now.values i % 2 ^ 32 }
     {
         (self.values[i] % 0x1_0000_0000) as u32
-    }
-
-    /// An operand put at its number.
-    pub fn put(&mut self, i: usize, x: &Worth)
-        requires { i < 4 }
-        ensures { self.new ≡ (record { values = slice_set self.old.values i x.now.value; dests = slice_set self.old.dests i x.now.dest }) }
-    {
-        self.values[i] = x.value;
-        self.dests[i] = x.dest;
     }
 
     /// These operands with the registers behind them.

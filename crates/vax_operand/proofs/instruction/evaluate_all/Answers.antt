@@ -5,19 +5,19 @@ use Rattle.vax_operand.specs.Left.{joined}
 use Rattle.vax_operand.proofs.Steps.{operands_next, operands_stop, fits_next, within}
 use Rattle.vax_operand.proofs.instruction.evaluate_all.Goals as goal
 
-pub returns-in_err-x-clause-outcome : goal.returns-in_err-x-clause-outcome
-returns-in_err-x-clause-outcome g c =
+pub returns-in_err-operand_of-clause-outcome : goal.returns-in_err-operand_of-clause-outcome
+returns-in_err-operand_of-clause-outcome g c =
     let p = err_from_is_err_and c.from_residual.result c.from_residual.ensures.1 in
-    rw (p.1, p.2) (operands_stop (g.S.Space.space c.args.space.now) c.loop-i.i c.args.operands.now (joined c.loop-i.v c.loop-i.r) c.index-operands-i.result _ c.loop-i-test.true c.index-operands-i.is c.in_err-x.ensures.outcome ∙ c.loop-i.invariant.same)
+    rw (p.1, p.2) (operands_stop (g.S.Space.space c.args.space.now) c.loop-i.i c.args.operands.now (joined c.loop-i.v c.loop-i.r) c.index-operands-i.result _ c.loop-i-test.true c.index-operands-i.is c.in_err-operand_of.ensures.outcome ∙ c.loop-i.invariant.same)
 
 pub loop-i-preserved : goal.loop-i-preserved
 loop-i-preserved g c =
-    let e = evaluated c.in_ok-x.x.value c.in_ok-x.x.dest c.operand_of.new.r in
+    let e = evaluated c.operand_of.new.value c.operand_of.new.dest c.operand_of.new.r in
     let x = c.index-operands-i.result in
-    let step = operands_next (g.S.Space.space c.args.space.now) c.loop-i.i c.args.operands.now (joined c.loop-i.v c.loop-i.r) x e c.loop-i-test.true c.index-operands-i.is c.in_ok-x.ensures.outcome ∙ c.loop-i.invariant.same in
+    let o = joined c.loop-i.v c.loop-i.r in
     record {
-      same = rw c.put.ensures step;
-      fits = rw c.put.ensures (fits_next c.args.operands.now (joined c.loop-i.v c.loop-i.r) e c.loop-i.i x c.index-operands-i.is c.loop-i.invariant.fits c.in_ok-x.ensures.fits);
+      same = operands_next (g.S.Space.space c.args.space.now) c.loop-i.i c.args.operands.now o x e c.loop-i-test.true c.index-operands-i.is c.in_ok-operand_of.ensures.outcome ∙ c.loop-i.invariant.same;
+      fits = fits_next c.args.operands.now o e c.loop-i.i x c.index-operands-i.is c.loop-i.invariant.fits c.in_ok-operand_of.ensures.fits;
     }
 
 pub returns-clause-fits : goal.returns-clause-fits
