@@ -46,7 +46,7 @@ byte_view (Err f) = Err (fault_exit f)
 
 -- what is kept, or why there is nothing
 abbrev pub kept_view : Result Kept Fault → Result Instruction Exit
-kept_view (Ok k) = Ok (view k.decoded)
+kept_view (Ok k) = Ok (view k.prepared.decoded)
 kept_view (Err f) = Err (fault_exit f)
 
 -- what is kept behind a fetch, unless that stopped

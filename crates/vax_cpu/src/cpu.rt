@@ -77,8 +77,27 @@ impl Cpu {
     }
 }
 
-/// The opcode of the instruction at PC, which retires by the plan, or why it doesn't retire: by the pages that are known, or
-/// else by the page tables, and then a page that was missed is known.
+/// The opcode of the instruction at PC, which retires by the plan, or why it doesn't retire, by the page tables; a page that
+/// was missed is known then. `before` are the registers before it.
+#[cold]
+#[inline(never)]
+fn attempt_walked(
+    state: &mut State,
+    missed: &Cell<u32>,
+    kept: &mut Kept,
+    o: &mut Values,
+    before: &[u32; 16],
+    plan: &mut Plan,
+) -> Result<u8, Stop>
+    ensures attempted { attempted (joined o.new plan.new.r) plan.new result ≡ settled_meaning state.old.memory state.old.world (exits (outcome (paged state.old.memory state.old.world) (instruction (in_kernel state.old.world) (seen_psl state.old.world) before.now))) }
+    ensures state { state.new ≡ state.old }
+{
+    plan.r = *before;
+    state.learn(missed);
+    attempt(state.memory(), state.world(), kept, o, plan)
+}
+
+/// The same by the pages that are known, or else by the page tables.
 fn attempt_next(
     state: &mut State,
     missed: &Cell<u32>,
@@ -88,15 +107,13 @@ fn attempt_next(
     plan: &mut Plan,
 ) -> Result<u8, Stop>
     requires { plan.old.r ≡ before.now }
-    ensures attempted { attempted (joined o.new plan.new.r) plan.new result ≡ settled_meaning state.old.memory state.old.world (exits (outcome (paged state.old.memory state.old.world) (instruction (in_kernel state.old.world) (seen_psl state.old.world) plan.old.r))) }
+    ensures attempted { attempted (joined o.new plan.new.r) plan.new result ≡ settled_meaning state.old.memory state.old.world (exits (outcome (paged state.old.memory state.old.world) (instruction (in_kernel state.old.world) (seen_psl state.old.world) before.now))) }
     ensures state { state.new ≡ state.old }
 {
     if attempt_known(state, missed, kept, o, plan) {
-        return Ok(kept.decoded.opcode);
+        return Ok(kept.prepared.decoded.opcode);
     }
-    plan.r = *before;
-    state.learn(missed);
-    attempt(state.memory(), state.world(), kept, o, plan)
+    attempt_walked(state, missed, kept, o, before, plan)
 }
 
 /// A run of at most so many instructions. The plan's registers are the machine's, in place of the world's.

@@ -14,7 +14,7 @@ use crate::stop::{Fault, fault_of};
 use arrayvec::ArrayVec;
 use vax_decode::{Decode, DecodeFault, Decoded, decode};
 use vax_hw::{Refusal, World};
-use vax_operand::forms;
+use vax_operand::Prepared;
 use vax_paged::{Mapped, Paged, number_in};
 use vax_table::operation;
 use vv_base::Width;
@@ -50,10 +50,10 @@ fn has_all(memory: &[u8], place: usize, bytes: &[u8]) -> bool
 /// Whether the bytes that spell a kept instruction stand in a memory at a place.
 fn stands_at(memory: &[u8], place: usize, kept: &Kept) -> bool
     requires place { place ≤ everywhere }
-    requires length { kept.now.decoded.length ≤ 24 }
-    ensures { result ≡ true → (i : ℕ) → i < kept.now.decoded.length → slice_index memory.now (place + i) ≡ slice_index kept.now.bytes i }
+    requires length { kept.now.prepared.decoded.length ≤ 24 }
+    ensures { result ≡ true → (i : ℕ) → i < kept.now.prepared.decoded.length → slice_index memory.now (place + i) ≡ slice_index kept.now.bytes i }
 {
-    let length = usize::from(kept.decoded.length);
+    let length = usize::from(kept.prepared.decoded.length);
     if length <= 8 {
         has_eight(memory, place, &kept.bytes)
     } else {
@@ -70,10 +70,10 @@ fn is_in_page(pc: u32, length: u8) -> bool
 
 /// Whether kept bytes stand at an address, all in one page, so that the instruction there is the kept one.
 fn has(space: &Paged, kept: &Kept, pc: u32) -> bool
-    ensures fetched { result ≡ true → Ok (view kept.now.decoded) ≡ exits (outcome (paged space.now.memory.now space.now.world.now) (fetched pc)) }
-    ensures formed { result ≡ true → IsWellFormed (view kept.now.decoded) }
+    ensures fetched { result ≡ true → Ok (view kept.now.prepared.decoded) ≡ exits (outcome (paged space.now.memory.now space.now.world.now) (fetched pc)) }
+    ensures formed { result ≡ true → IsWellFormed (view kept.now.prepared.decoded) }
 {
-    if !is_in_page(pc, kept.decoded.length) {
+    if !is_in_page(pc, kept.prepared.decoded.length) {
         return false;
     }
     match space.place(pc, false) {
@@ -85,10 +85,10 @@ fn has(space: &Paged, kept: &Kept, pc: u32) -> bool
 /// The same by a page that is known.
 pub fn has_known(space: &Mapped, world: &World, kept: &Kept, pc: u32) -> bool
     requires { AreKnown world.now space.now.known.now }
-    ensures fetched { result ≡ true → Ok (view kept.now.decoded) ≡ exits (outcome (paged space.now.memory.now world.now) (fetched pc)) }
-    ensures formed { result ≡ true → IsWellFormed (view kept.now.decoded) }
+    ensures fetched { result ≡ true → Ok (view kept.now.prepared.decoded) ≡ exits (outcome (paged space.now.memory.now world.now) (fetched pc)) }
+    ensures formed { result ≡ true → IsWellFormed (view kept.now.prepared.decoded) }
 {
-    if !is_in_page(pc, kept.decoded.length) {
+    if !is_in_page(pc, kept.prepared.decoded.length) {
         return false;
     }
     match space.place(pc, false) {
@@ -113,17 +113,16 @@ fn window(space: &Paged, pc: u32) -> [u8; 24] {
 fn keep(bytes: &[u8], window: &[u8; 24], decoded: Decoded) -> Kept
     requires few { length bytes.now ≤ 24 }
     requires whole { decoded.length ≤ length bytes.now }
+    requires formed { IsWellFormed (view decoded) }
     requires spelled { decoded_at (take decoded.length bytes.now) ≡ Whole (view decoded) [] }
-    ensures { result.decoded ≡ decoded }
+    ensures { result.prepared.decoded ≡ decoded }
 {
     let mut kept = *window;
     kept[..bytes.len()].copy_from_slice(bytes);
-    let forms = forms(decoded.opcode);
     let is_plain = is_planned(operation(decoded.opcode));
     Kept {
         bytes: kept,
-        decoded,
-        forms,
+        prepared: Prepared::new(decoded),
         is_plain,
     }
 }
@@ -141,7 +140,7 @@ fn fetch_byte(space: &Paged, va: u32) -> Result<u8, Fault>
 #[inline(never)]
 fn decoded(space: &Paged, pc: u32) -> Result<Kept, Fault>
     ensures fetched { kept_view result ≡ exits (outcome (paged space.now.memory.now space.now.world.now) (fetched pc)) }
-    ensures formed { IfOk result (λ k. IsWellFormed (view k.decoded)) }
+    ensures formed { IfOk result (λ k. IsWellFormed (view k.prepared.decoded)) }
 {
     let mut bytes: ArrayVec<u8, 24> = ArrayVec::new();
     for _looks in (0..22u32).rev() {
@@ -165,8 +164,8 @@ fn decoded(space: &Paged, pc: u32) -> Result<Kept, Fault>
 
 /// The instruction at an address, which is kept, and taken where it was kept already.
 pub fn fetch(space: &Paged, pc: u32, kept: &mut Kept) -> Result<(), Fault>
-    ensures fetched { taken kept.new.decoded result ≡ exits (outcome (paged space.now.memory.now space.now.world.now) (fetched pc)) }
-    ensures formed { OnOk result (IsWellFormed (view kept.new.decoded)) }
+    ensures fetched { taken kept.new.prepared.decoded result ≡ exits (outcome (paged space.now.memory.now space.now.world.now) (fetched pc)) }
+    ensures formed { OnOk result (IsWellFormed (view kept.new.prepared.decoded)) }
 {
     if !has(space, kept, pc) {
         *kept = decoded(space, pc)?;

@@ -1,29 +1,25 @@
 ghost use Rattle.std.specs.Prelude.{◌≡◌, ◌<◌, ℕ, [], length, slice_index, take};
-ghost use Rattle.vax_table.specs.Operand.{forms_in};
 ghost use Rattle.vax_table.specs.Operations.{operation_of};
 ghost use Rattle.vax_table.specs.Plan.{is_planned};
-ghost use Rattle.vax_table.specs.Rows.{row_of};
 ghost use Rattle.vax_table.specs.Reading.{Whole, decoded_at};
 ghost use Rattle.vax_table.specs.Spelling.{view};
 
 use arrayvec::ArrayVec;
 use vax_decode::Decoded;
-use vax_operand::forms;
-use vax_table::{Form, Operation, operation};
+use vax_operand::Prepared;
+use vax_table::{Operation, operation};
 
-/// An instruction that was decoded, the bytes that spell it, and its operands' forms.
+/// An instruction that was decoded and prepared, the bytes that spell it, and those that stood behind them.
 #[derive(Drop)]
 pub struct Kept {
     pub bytes: [u8; 24],
-    pub decoded: Decoded,
-    pub forms: ArrayVec<Form, 4>,
+    pub prepared: Prepared,
     /// Whether it is one of the instructions that `plan_into` plans.
     pub is_plain: bool,
     ghost sized: { length bytes ≡ 24 },
     ghost small: { (i : ℕ) → slice_index bytes i < 256 },
-    ghost spelled: { decoded_at (take decoded.length bytes) ≡ Whole (view decoded) [] },
-    ghost formed: { forms.items ≡ forms_in (row_of decoded.opcode) },
-    ghost planned: { is_plain ≡ is_planned (operation_of decoded.opcode) },
+    ghost spelled: { decoded_at (take prepared.decoded.length bytes) ≡ Whole (view prepared.decoded) [] },
+    ghost planned: { is_plain ≡ is_planned (operation_of prepared.decoded.opcode) },
 }
 
 /// Whether an operation is one of those that `plan_into` plans.
@@ -50,13 +46,12 @@ impl Kept {
         bytes[1] = 1;
         Kept {
             bytes,
-            decoded: Decoded {
+            prepared: Prepared::new(Decoded {
                 opcode: 0xFD,
                 wait: true,
                 length: 2,
                 specs: ArrayVec::new(),
-            },
-            forms: forms(0xFD),
+            }),
             is_plain: is_planned(operation(0xFD)),
         }
     }

@@ -28,7 +28,7 @@ use vax_exec::{Plan, begin, plan_into};
 use vax_hw::{Mode, Psl, Refusal, Sens, Trapped, World};
 use vax_operand::{Operands, Space, Values, evaluate, evaluate_into, evaluate_trap};
 use vax_paged::Paged;
-use vax_table::{Operation, operation};
+use vax_table::Operation;
 use vv_base::Width;
 
 /// What an instruction comes to: what it planned, or with its operands a trap, or PROBE's test of them.
@@ -121,12 +121,11 @@ fn plain<S: Space>(
     o: &mut Values,
     plan: &mut Plan,
 ) -> Result<Act, Stop>
-    requires formed { IsWellFormed (view kept.now.decoded) }
-    requires planned { is_planned (operation_of kept.now.decoded.opcode) ≡ true }
-    ensures { acts_of kept.now.decoded.opcode (joined o.new plan.new.r) plan.new result ≡ exits (outcome (S.space s.now) (plainly psl.0 (view kept.now.decoded) plan.old.r)) }
+    requires formed { IsWellFormed (view kept.now.prepared.decoded) }
+    requires planned { is_planned (operation_of kept.now.prepared.decoded.opcode) ≡ true }
+    ensures { acts_of kept.now.prepared.decoded.opcode (joined o.new plan.new.r) plan.new result ≡ exits (outcome (S.space s.now) (plainly psl.0 (view kept.now.prepared.decoded) plan.old.r)) }
 {
-    let forms = kept.forms.as_slice();
-    plan_into(s, forms, &kept.decoded, psl, o, plan).map_err(stop_of)?;
+    plan_into(s, &kept.prepared, psl, o, plan).map_err(stop_of)?;
     Ok(Act::Plain)
 }
 
@@ -141,12 +140,11 @@ fn move_status<S: Space>(
     o: &mut Values,
     plan: &mut Plan,
 ) -> Result<Act, Stop>
-    requires formed { IsWellFormed (view kept.now.decoded) }
-    requires moves { operation_of kept.now.decoded.opcode ≡ MoveStatus }
-    ensures { acts_of kept.now.decoded.opcode (joined o.new plan.new.r) plan.new result ≡ exits (outcome (S.space s.now) (plainly psl.0 (view kept.now.decoded) plan.old.r)) }
+    requires formed { IsWellFormed (view kept.now.prepared.decoded) }
+    requires moves { operation_of kept.now.prepared.decoded.opcode ≡ MoveStatus }
+    ensures { acts_of kept.now.prepared.decoded.opcode (joined o.new plan.new.r) plan.new result ≡ exits (outcome (S.space s.now) (plainly psl.0 (view kept.now.prepared.decoded) plan.old.r)) }
 {
-    let forms = kept.forms.as_slice();
-    evaluate_into(s, forms, &kept.decoded, &mut plan.r, o).map_err(stop_of)?;
+    evaluate_into(s, &kept.prepared, &mut plan.r, o).map_err(stop_of)?;
     begin(plan, (psl.0 % 0x100) as u8);
     plan.put(o.dests[0], Width::Long, u64::from(psl.0));
     Ok(Act::Plain)
@@ -164,11 +162,11 @@ pub fn carry_out<S: Space>(
     o: &mut Values,
     plan: &mut Plan,
 ) -> Result<Act, Stop>
-    requires { IsWellFormed (view kept.now.decoded) }
-    ensures { acts_of kept.now.decoded.opcode (joined o.new plan.new.r) plan.new result ≡ exits (outcome (S.space s.now) (acted is_kernel psl.0 (view kept.now.decoded) plan.old.r)) }
+    requires { IsWellFormed (view kept.now.prepared.decoded) }
+    ensures { acts_of kept.now.prepared.decoded.opcode (joined o.new plan.new.r) plan.new result ≡ exits (outcome (S.space s.now) (acted is_kernel psl.0 (view kept.now.prepared.decoded) plan.old.r)) }
 {
-    let d = &kept.decoded;
-    let refusal = match operation(d.opcode) {
+    let d = &kept.prepared.decoded;
+    let refusal = match kept.prepared.operation {
         Operation::Sensitive(op) => {
             if is_always_done(op) || is_kernel {
                 return trap(s, op, d, o, plan);
@@ -176,7 +174,7 @@ pub fn carry_out<S: Space>(
             return Err(Stop::Fault(Fault::Refused(Refusal::Instruction)));
         }
         Operation::Probe(intent) => {
-            evaluate_into(s, kept.forms.as_slice(), d, &mut plan.r, o).map_err(stop_of)?;
+            evaluate_into(s, &kept.prepared, &mut plan.r, o).map_err(stop_of)?;
             return Ok(Act::Probes(intent));
         }
         Operation::MoveStatus => {
@@ -217,7 +215,7 @@ fn find(
     let is_kernel = world.vmpsl.current() == Mode::Kernel;
     let act = carry_out(&space, is_kernel, kept, seen_psl(world), o, plan)?;
     Ok(Found {
-        opcode: kept.decoded.opcode,
+        opcode: kept.prepared.decoded.opcode,
         act,
     })
 }
@@ -255,15 +253,14 @@ pub fn attempt_known(
     o: &mut Values,
     plan: &mut Plan,
 ) -> bool
-    ensures { result ≡ true → Ok (kept.now.decoded.opcode, effect plan.new) ≡ settled_meaning state.now.memory state.now.world (exits (outcome (paged state.now.memory state.now.world) (instruction (in_kernel state.now.world) (seen_psl state.now.world) plan.old.r))) }
+    ensures { result ≡ true → Ok (kept.now.prepared.decoded.opcode, effect plan.new) ≡ settled_meaning state.now.memory state.now.world (exits (outcome (paged state.now.memory state.now.world) (instruction (in_kernel state.now.world) (seen_psl state.now.world) plan.old.r))) }
 {
     let world = state.world();
     let space = state.mapped(missed);
     if !kept.is_plain || !has_known(&space, world, kept, plan.r[15]) {
         return false;
     }
-    let forms = kept.forms.as_slice();
-    match plan_into(&space, forms, &kept.decoded, seen_psl(world), o, plan) {
+    match plan_into(&space, &kept.prepared, seen_psl(world), o, plan) {
         Ok(()) => space.may_store(world, plan.writes.as_slice()),
         Err(_) => false,
     }

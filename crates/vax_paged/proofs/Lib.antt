@@ -2,3 +2,4 @@ pub mod InPage
 pub mod Knowing
 pub mod Lookups
 pub mod Puts
+pub mod Widths

@@ -137,6 +137,7 @@ pub struct Mapped<'a> {
 
 impl Mapped<'_> {
     /// The place of an address, if its page is known and open.
+    #[inline(always)]
     pub fn place(&self, va: u32, write: bool) -> Option<usize>
         ensures is { place_told result ≡ place_known self.now.memory.now self.now.known.now (intent_of write) va }
         ensures small { IfSome result (λ place. place < 2 ^ 32 + 512) }
@@ -179,6 +180,7 @@ impl Mapped<'_> {
     }
 
     /// The number of a width, the lowest byte first: by one look-up where it lies in one page.
+    #[inline(always)]
     fn number(&self, va: u32, w: Width, write: bool) -> Result<u64, Trouble>
         ensures number { told result ≡ number_at (known_space self.now.memory.now self.now.known.now) (intent_of write) (size_of w) va }
         ensures fits { IfOk result (λ v. v < 256 ^ size_of w) }
@@ -237,10 +239,12 @@ impl Mapped<'_> {
 impl Space for Mapped<'_> {
     ghost space = { λ m. known_space m.memory.now m.known.now };
 
+    #[inline(always)]
     fn read(&self, va: u32, w: Width) -> Result<u64, Trouble> {
         self.number(va, w, false)
     }
 
+    #[inline(always)]
     fn claim(&self, va: u32, w: Width) -> Result<u64, Trouble> {
         self.number(va, w, true)
     }

@@ -4,7 +4,7 @@ ghost use Rattle.vv_base.specs.Width.{size_of};
 ghost use Rattle.vax_hw.specs.RealTables.{everywhere};
 ghost use Rattle.vax_paged.specs.InPage.{number_from, stored_from};
 
-use vv_base::{Width, get_u32};
+use vv_base::{Width, get_u32, put_u16, put_u32};
 
 /// The byte at a place; beyond memory it is 0.
 pub fn byte_in(memory: &[u8], at: usize) -> u8
@@ -70,11 +70,17 @@ pub fn store_in(memory: &mut [u8], place: usize, w: Width, value: u64)
     requires { place + size_of w ≤ length memory.old }
     ensures { memory.new ≡ stored_from (size_of w) place value memory.old }
 {
-    let mut at = place;
-    let mut rest = value;
-    for _left in (0..w.bytes()).rev() {
-        memory[at] = (rest % 256) as u8;
-        at += 1;
-        rest /= 256;
+    match w {
+        Width::Byte => memory[place] = (value % 0x100) as u8,
+        Width::Word => put_u16(memory, place, (value % 0x1_0000) as u16),
+        Width::Long => put_u32(memory, place, (value % 0x1_0000_0000) as u32),
+        Width::Quad => {
+            put_u32(memory, place, (value % 0x1_0000_0000) as u32);
+            put_u32(
+                memory,
+                place + 4,
+                (value / 0x1_0000_0000 % 0x1_0000_0000) as u32,
+            );
+        }
     }
 }

@@ -1,7 +1,9 @@
 use Rattle.std.proofs.Common.{◌≡◌, ◌<◌, ◌≤◌, ◌+◌, ◌++◌, ℕ, zero, suc, List, [], ◌∷◌, length, take, drop, ap, sym, ◌∙◌, subst, arith, length-append, length-drop}
 use Rattle.std.specs.Prelude.{slice_index}
 use Rattle.std.proofs.lemmas.List.{get_or-drop, take-append-le}
-use Rattle.vax_table.specs.Reading.{decoded_at}
+use Rattle.vax_table.specs.Reading.{Whole, decoded_at}
+use Rattle.vax_table.specs.Spelling.{view}
+use Rattle.vax_table.specs.declared.decoded.Decoded.{Decoded}
 use Rattle.vax_cpu.proofs.fetch.keep.Goals as goal
 
 AreSmall : List ℕ → Type 0
@@ -33,5 +35,7 @@ pub invariant_of-result-clause-spelled : goal.invariant_of-result-clause-spelled
 invariant_of-result-clause-spelled c =
     let front : length c.copy_from_slice.new.self ≡ length c.args.bytes.now = ap (length {A = ℕ}) c.copy_from_slice.ensures.after in
     let room : c.args.decoded.length ≤ length c.copy_from_slice.new.self = omega (arith, front, c.requires.whole) in
+    let spelled : decoded_at (take c.args.decoded.length (c.copy_from_slice.new.self ++ drop (length c.args.bytes.now) c.args.window.now)) ≡ Whole (view c.args.decoded) [] =
     ap decoded_at (take-append-le c.args.decoded.length c.copy_from_slice.new.self (drop (length c.args.bytes.now) c.args.window.now) room
-    ∙ ap (λ (xs : List ℕ). take c.args.decoded.length xs) c.copy_from_slice.ensures.after) ∙ c.requires.spelled
+    ∙ ap (λ (xs : List ℕ). take c.args.decoded.length xs) c.copy_from_slice.ensures.after) ∙ c.requires.spelled in
+    subst (λ (d : Decoded). decoded_at (take d.length (c.copy_from_slice.new.self ++ drop (length c.args.bytes.now) c.args.window.now)) ≡ Whole (view d) []) (sym c.new.ensures) spelled

@@ -15,5 +15,5 @@ returns-in-Ok c = λ e.
     let fetches = rw (memory, world) at (c.if-not-has_known.ensures.fetched refl) in
     let plans = rw (memory, c.seen_psl.ensures, world) at c.in-Ok.ensures in
     let clear = rw (memory, world, c.as_slice.ensures.value) at (c.may_store.ensures e) in
-    known_settled c.args.state.now.memory w c.mapped-space.result.known.now (in_kernel w) (seen_psl w) c.args.plan.now.r (view c.args.kept.now.decoded) (effect c.plan_into.new.plan)
+    known_settled c.args.state.now.memory w c.mapped-space.result.known.now (in_kernel w) (seen_psl w) c.args.plan.now.r (view c.args.kept.now.prepared.decoded) (effect c.plan_into.new.plan)
     c.mapped-space.ensures.known plain fetches plans (sym clear)
