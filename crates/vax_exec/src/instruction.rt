@@ -88,6 +88,12 @@ pub fn plan<S: Space>(s: &S, d: &Decoded, r: &[u32; 16], psl: Psl) -> Result<Pla
         writes: ArrayVec::new(),
         trap: None,
     };
-    perform(s, operation(d.opcode), &Values { values, dests }, psl, &mut plan)?;
+    perform(
+        s,
+        operation(d.opcode),
+        &Values { values, dests },
+        psl,
+        &mut plan,
+    )?;
     Ok(plan)
 }
