@@ -2,4 +2,6 @@
 #![tactic(auto)]
 
 #[cfg(test)]
+mod known;
+#[cfg(test)]
 mod tables;
