@@ -87,3 +87,17 @@ fn calls_from_without(rt: HostRuntime) -> Result<(), Fail> {
     assert_eq!(rt; guest.state().halt, Some(2));
     Ok(())
 }
+
+/// MTPR #280, #KCALL, behind which zeros stand: a packet waits, and one that starts has none.
+#[test]
+fn a_start_forgets_what_waits(rt: HostRuntime) -> Result<(), Fail> {
+    let program = [0xDA, 0x8F, 0x80, 0x02, 0, 0, 0x8F, 0xC8];
+    let (mut machine, mut guest) = alone(rt.alloc(), program)?;
+    let mut port = KeptPort::<64>::new(rt.alloc())?;
+    let _ = guest.advance(&mut machine, &mut port, 1);
+    assert_eq!(rt; guest.state().queue.as_slice(), [0x280].as_slice());
+    guest.start(&mut machine);
+    assert_eq!(rt; guest.state().r[15], 0x200);
+    assert_eq!(rt; guest.take_queue().len(), 0);
+    Ok(())
+}

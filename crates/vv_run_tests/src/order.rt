@@ -66,15 +66,27 @@ const CONFIG: &[u8] = b"version = 1\nquantum = 5\nslice = 2
 [[guest]]\nname = \"A\"\nclass = \"0{};0{}\"\npages = 64\nimage = \"x\"\nload = 512\nstart = 512\nautostart = true
 console = \"T\"\ndump = 2\n";
 
-/// SHOW has a line for the guest, and its reply.
-const SCRIPT: &[u8] = b"1 U > SHOW\n2 U > FOO\n";
+/// SHOW has a line for the guest, and its reply. The other terminal has the guest's console, which is taken from it.
+const SCRIPT: &[u8] = b"1 U > SHOW\n2 U > FOO\n2 U > CONNECT A\n";
 
 /// MTPR of the letter A to the transmit register, and HALT.
 const LETTER: &[u8] = &[0xDA, 0x8F, 0x41, 0, 0, 0, 0x23, 0];
 
 /// Round 1: two lines of SHOW and the audit; the letter and the 14 bytes of the message of HALT. Round 2: the reply and the
-/// audit. Then the dump: the name, 16 registers, PSL, and the one row of memory that isn't zero. Then the summary.
-const ORDER: [(u8, usize); 7] = [(6, 2), (9, 1), (4, 15), (6, 1), (9, 1), (2, 19), (OUT, 1)];
+/// audit; the reply, what the other terminal is told, and the audit. Then the dump: the name, 16 registers, PSL, and the one
+/// row of memory that isn't zero. Then the summary.
+const ORDER: [(u8, usize); 10] = [
+    (6, 2),
+    (9, 1),
+    (4, 15),
+    (6, 1),
+    (9, 1),
+    (6, 1),
+    (4, 1),
+    (9, 1),
+    (2, 19),
+    (OUT, 1),
+];
 
 #[test]
 fn lines_are_put_to_in_order_and_the_sink_at_last(rt: HostRuntime) -> Result<(), Fail> {

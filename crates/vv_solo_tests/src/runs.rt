@@ -5,7 +5,7 @@ use vax_cpu::Cpu;
 use vv_stage::{PAGES, plain, run_words};
 
 /// Row by row: an image, a number of steps, the console's bytes, and the summary.
-pub const RUNS: [(&[u8], &str, &str, &str); 14] = [
+pub const RUNS: [(&[u8], &str, &str, &str); 15] = [
     (
         &[0xDA, 0x8F, 0x41, 0, 0, 0, 0x23, 0],
         "10",
@@ -71,6 +71,13 @@ pub const RUNS: [(&[u8], &str, &str, &str); 14] = [
         "1",
         "",
         "rounds 1 steps 1 plain 1 sensitive 0 faults 0 interrupts 0 modify 0 idle 0 stopped 0 trail 0000000000000224\n",
+    ),
+    // PROBER #0,#1,@#10000, beyond memory: the kernel emulates it, and it adds nothing to the trail
+    (
+        &[0x0C, 0, 1, 0x9F, 0, 0, 1, 0, 0],
+        "2",
+        "?06 00000209\r\n",
+        "rounds 1 steps 2 plain 0 sensitive 2 faults 0 interrupts 0 modify 0 idle 0 stopped 0 trail 0000000000000000\n",
     ),
     // DIVL2 #0,R1 retires; nothing can be pushed below address 0, so that its trap stops the guest behind it
     (

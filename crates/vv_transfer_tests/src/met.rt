@@ -12,7 +12,7 @@ use vv_stage::{Disk, PAGES};
 fn a_guest_meets_a_transfer(rt: HostRuntime) -> Result<(), Fail> {
     let alloc = rt.alloc();
     let mut machine = Cpu::new(alloc, PAGES)?;
-    for case in &[OVER, WAITS, TOO_FAR] {
+    for case in &[OVER, WAITS, REFUSED, TOO_FAR] {
         check(&rt, alloc, &mut machine, case)?;
     }
     Ok(())
@@ -56,23 +56,31 @@ const UNDER: Content = &[
     (0x5020, Longs(&[0xA400_0006])),
 ];
 
-/// MOVL #1000, SP; MTPR #280, #KCALL; MTPR #0, #IPL; WAIT; and at 300, to which vector 100 leads: MTPR #4B, #TXDB; HALT
+/// MOVL #1000, SP; MTPR #280, #KCALL; MTPR #0, #IPL; WAIT
+const ASK_AND_WAIT: &[u8] = &[
+    0xD0, 0x8F, 0x00, 0x10, 0x00, 0x00, 0x5E, // 200
+    0xDA, 0x8F, 0x80, 0x02, 0x00, 0x00, 0x8F, 0xC8, 0x00, 0x00, 0x00, // 207
+    0xDA, 0x00, 0x12, // 212
+    0xFD, 0x01, // 215
+];
+
+/// MTPR #4B, #TXDB; HALT
+const SHOW_AND_HALT: &[u8] = &[0xDA, 0x8F, 0x4B, 0x00, 0x00, 0x00, 0x23, 0x00];
+
+/// A block is asked for, and vector 100 leads to 300.
 const WAITING: Content = &[
     (0x100, Longs(&[0x300])),
-    (
-        0x200,
-        Bytes(&[
-            0xD0, 0x8F, 0x00, 0x10, 0x00, 0x00, 0x5E, // 200
-            0xDA, 0x8F, 0x80, 0x02, 0x00, 0x00, 0x8F, 0xC8, 0x00, 0x00, 0x00, // 207
-            0xDA, 0x00, 0x12, // 212
-            0xFD, 0x01, // 215
-        ]),
-    ),
+    (0x200, Bytes(ASK_AND_WAIT)),
     (0x280, Longs(&[1, 2, 0, 0x1800, 0, 0])),
-    (
-        0x300,
-        Bytes(&[0xDA, 0x8F, 0x4B, 0x00, 0x00, 0x00, 0x23, 0x00]),
-    ),
+    (0x300, Bytes(SHOW_AND_HALT)),
+];
+
+/// The same, and nothing stands at the unit.
+const WAITING_IN_VAIN: Content = &[
+    (0x100, Longs(&[0x300])),
+    (0x200, Bytes(ASK_AND_WAIT)),
+    (0x280, Longs(&[1, 3, 0, 0x1800, 0, 0])),
+    (0x300, Bytes(SHOW_AND_HALT)),
 ];
 
 /// MOVL #1000, SP; MTPR #7FFE, #KCALL; and at 300, to which vector 18 leads: HALT
@@ -141,6 +149,23 @@ const WAITS: Case = Case {
     ],
     counts: "rounds 2 steps 18 plain 1 sensitive 5 faults 0 interrupts 1 modify 0 idle 5 stopped 6 trail ",
     ..CASE
+};
+
+/// A packet that is refused has its interrupt too.
+const REFUSED: Case = Case {
+    images: [WAITING_IN_VAIN, &[]],
+    lines: &[
+        (0, Whole("K?06 00000308\r\n")),
+        (
+            4,
+            Parts(&[
+                "R14 00000FF8\r\nR15 00000308\r\nPSL 04150000\r\n",
+                "00000290 00 00 00 00 03 00 00 00 00 00 00 00 00 00 00 00\r\n",
+                "00000FF0 00 00 00 00 00 00 00 00 17 02 00 00 04 00 00 04\r\n",
+            ]),
+        ),
+    ],
+    ..WAITS
 };
 
 /// Reserved operand: nothing is queued.

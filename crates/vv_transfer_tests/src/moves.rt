@@ -21,7 +21,7 @@ fn blocks_and_statuses(rt: HostRuntime) -> Result<(), Fail> {
 /// Two guests of one class that share a volume of two blocks.
 const SHARED: &str = "[[volume]]\nname = \"V\"\ndrive = 0\nblocks = 2\nclass = \"0{};0{}\"
 [[guest]]\nname = \"A\"\nclass = \"0{};0{}\"\npages = 64\nimage = \"a\"\nload = 0\nstart = 512\nautostart = true
-dump = 4\nquantum = 1\nmount = [{unit = 0, volume = \"V\", write = true}]
+dump = 4\nquantum = 2\nmount = [{unit = 0, volume = \"V\", write = true}]
 [[guest]]\nname = \"B\"\nclass = \"0{};0{}\"\npages = 64\nimage = \"b\"\nload = 0\nstart = 512\nautostart = true
 dump = 5\nquantum = 1\nmount = [{unit = 2, volume = \"V\", write = true}]\n";
 
@@ -36,6 +36,12 @@ pub const ASK: &[u8] = &[
     0xDA, 0x8F, 0x80, 0x02, 0x00, 0x00, 0x8F, 0xC8, 0x00, 0x00, 0x00,
 ];
 
+/// MTPR of 280 and 2A0 to KCALL
+const ASK_TWO: &[u8] = &[
+    0xDA, 0x8F, 0x80, 0x02, 0x00, 0x00, 0x8F, 0xC8, 0x00, 0x00, 0x00, // 200
+    0xDA, 0x8F, 0xA0, 0x02, 0x00, 0x00, 0x8F, 0xC8, 0x00, 0x00, 0x00, // 20B
+];
+
 /// MTPR of 280 and the seven addresses 20 and 20 behind it to KCALL
 pub const ASK_EIGHT: &[u8] = &[
     0xDA, 0x8F, 0x80, 0x02, 0x00, 0x00, 0x8F, 0xC8, 0x00, 0x00, 0x00, // 200
@@ -48,15 +54,17 @@ pub const ASK_EIGHT: &[u8] = &[
     0xDA, 0x8F, 0x60, 0x03, 0x00, 0x00, 0x8F, 0xC8, 0x00, 0x00, 0x00, // 24D, to 258
 ];
 
-/// Both write block 0 in one round: it is what the later guest wrote.
+/// Both write block 0 in one round, the first guest twice: it is what the later guest wrote, whose packet is served behind both.
 const WRITERS: Case = Case {
     config: SHARED,
     images: [
         &[
-            (0x200, Bytes(ASK)),
+            (0x200, Bytes(ASK_TWO)),
             (0x280, Longs(&[2, 0, 0, 0x1000, 0, 0])),
+            (0x2A0, Longs(&[2, 0, 0, 0x1200, 0, 0])),
             (0x1000, Bytes(b"first")),
             (0x11FE, Bytes(b"A")),
+            (0x1200, Bytes(b"again")),
         ],
         &[
             (0x200, Bytes(ASK)),
@@ -78,6 +86,7 @@ const WRITERS: Case = Case {
             Parts(&[
                 "VM A\r\n",
                 "00000290 00 00 00 00 01 00 00 00 00 00 00 00 00 00 00 00\r\n",
+                "000002B0 00 00 00 00 01 00 00 00 00 00 00 00 00 00 00 00\r\n",
             ]),
         ),
         (
@@ -89,7 +98,7 @@ const WRITERS: Case = Case {
         ),
     ],
     drives: &[(0, b"second")],
-    counts: "rounds 1 steps 2 plain 0 sensitive 2 faults 0 interrupts 0 modify 0 idle 0 stopped 0 trail ",
+    counts: "rounds 1 steps 3 plain 0 sensitive 3 faults 0 interrupts 0 modify 0 idle 0 stopped 0 trail ",
     ..CASE
 };
 
