@@ -1,4 +1,4 @@
-//! Guests that meet a transfer: a block over page tables, an interrupt that is waited for, a packet beyond memory.
+//! Guests that meet a transfer: a block or a status over page tables, an interrupt that is waited for, a packet beyond memory.
 
 use crate::case::Shown::{Parts, Whole};
 use crate::case::{CASE, Case, check};
@@ -12,7 +12,7 @@ use vv_stage::{Disk, PAGES};
 fn a_guest_meets_a_transfer(rt: HostRuntime) -> Result<(), Fail> {
     let alloc = rt.alloc();
     let mut machine = Cpu::new(alloc, PAGES)?;
-    for case in &[OVER, WAITS, REFUSED, TOO_FAR] {
+    for case in &[OVER, IN_TABLE, WAITS, REFUSED, TOO_FAR] {
         check(&rt, alloc, &mut machine, case)?;
     }
     Ok(())
@@ -54,6 +54,32 @@ const UNDER: Content = &[
     (0x4220, Longs(&[0xA400_0005])),
     (0x5000, Rising(64, 0xA400_0000)),
     (0x5020, Longs(&[0xA400_0006])),
+];
+
+/// Mapping is turned on, and a packet is queued that stands in P0's table: its status is the entry of the page at 7E00, which is
+/// read before. Behind the round the page is probed.
+const BELOW: Content = &[
+    (
+        0x200,
+        Bytes(&[
+            0xDA, 0x8F, 0x00, 0x40, 0x00, 0x00, 0x0C, // 200: MTPR #4000, #SBR
+            0xDA, 0x8F, 0x40, 0x00, 0x00, 0x00, 0x0D, // 207: MTPR #40, #SLR
+            0xDA, 0x8F, 0x00, 0x42, 0x00, 0x80, 0x08, // 20E: MTPR #80004200, #P0BR
+            0xDA, 0x8F, 0x40, 0x00, 0x00, 0x00, 0x09, // 215: MTPR #40, #P0LR
+            0xDA, 0x01, 0x38, // 21C: MTPR #1, #MAPEN
+            0xD0, 0x8F, 0x00, 0x7E, 0x00, 0x00, 0x51, // 21F: MOVL #7E00, R1
+            0x90, 0x61, 0x53, // 226: MOVB (R1), R3
+            0xDA, 0x8F, 0xE8, 0x42, 0x00, 0x00, 0x8F, 0xC8, 0x00, 0x00, 0x00, // 229: MTPR #42E8, #KCALL
+            0x01, // 234: NOP
+            0x0C, 0x00, 0x01, 0x61, // 235: PROBER #0, #1, (R1)
+            0xDC, 0x54, // 239: MOVPSL R4
+            0x00, // 23B: HALT
+        ]),
+    ),
+    (0x4000, Rising(64, 0xA400_0000)),
+    (0x4200, Rising(64, 0xA400_0000)),
+    (0x42E8, Longs(&[0, 0, 0, 0, 0, 0xA400_003F])),
+    (0x7E00, Bytes(b"z")),
 ];
 
 /// MOVL #1000, SP; MTPR #280, #KCALL; MTPR #0, #IPL; WAIT
@@ -121,6 +147,32 @@ const OVER: Case = Case {
     ],
     drives: &[(1, &[0, 0, 0, 0xA4, 1, 0, 0, 0xA4])],
     counts: "rounds 2 steps 18 plain 3 sensitive 10 faults 0 interrupts 0 modify 0 idle 0 stopped 5 trail ",
+    ..CASE
+};
+
+/// There is no function 0: the status is 7, which as an entry closes its page to every mode, so that PROBER sets Z.
+const IN_TABLE: Case = Case {
+    config: READER,
+    images: [BELOW, &[]],
+    disks: &[Disk {
+        number: 1,
+        blocks: 1,
+        byte: 7,
+        failing: None,
+    }],
+    words: "run c s 2",
+    lines: &[
+        (0, Whole("?06 0000023C\r\n")),
+        (
+            4,
+            Parts(&[
+                "R1 00007E00\r\n",
+                "R3 0000007A\r\nR4 041F0004\r\n",
+                "000042F0 00 00 00 00 00 00 00 00 00 00 00 00 07 00 00 00\r\n",
+            ]),
+        ),
+    ],
+    counts: "rounds 2 steps 18 plain 4 sensitive 8 faults 0 interrupts 0 modify 0 idle 0 stopped 6 trail ",
     ..CASE
 };
 

@@ -12,7 +12,7 @@ use vv_stage::{Disk, PAGES};
 fn blocks_and_statuses(rt: HostRuntime) -> Result<(), Fail> {
     let alloc = rt.alloc();
     let mut machine = Cpu::new(alloc, PAGES)?;
-    for case in &[WRITERS, STATUSES, MOUNTING] {
+    for case in &[WRITERS, STATUSES, OVER_ITSELF, MOUNTING] {
         check(&rt, alloc, &mut machine, case)?;
     }
     Ok(())
@@ -143,6 +143,31 @@ const STATUSES: Case = Case {
         ]),
     )],
     counts: "rounds 1 steps 8 plain 0 sensitive 8 faults 0 interrupts 0 modify 0 idle 0 stopped 0 trail ",
+    ..CASE
+};
+
+/// A block is read over the packet that asks for it, and its status is stored behind that.
+const OVER_ITSELF: Case = Case {
+    config: UNITS,
+    images: [
+        &[(0x200, Bytes(ASK)), (0x280, Longs(&[1, 1, 0, 0x280, 0, 0]))],
+        &[],
+    ],
+    disks: &[Disk {
+        number: 7,
+        blocks: 1,
+        byte: 7,
+        failing: None,
+    }],
+    lines: &[(
+        4,
+        Parts(&[
+            "00000280 07 07 07 07 07 07 07 07 07 07 07 07 07 07 07 07\r\n\
+             00000290 07 07 07 07 01 00 00 00 07 07 07 07 07 07 07 07\r\n\
+             000002A0 07 07 07 07 07 07 07 07 07 07 07 07 07 07 07 07\r\n",
+        ]),
+    )],
+    counts: "rounds 1 steps 8 plain 0 sensitive 2 faults 0 interrupts 0 modify 0 idle 0 stopped 6 trail ",
     ..CASE
 };
 
