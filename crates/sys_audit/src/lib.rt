@@ -4,6 +4,3 @@
 mod audit;
 
 pub use audit::audit_text;
-
-#[cfg(test)]
-mod tests;

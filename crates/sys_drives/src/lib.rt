@@ -7,6 +7,3 @@ mod storing;
 
 pub use loading::{LoadFault, load_volumes};
 pub use storing::store_volumes;
-
-#[cfg(test)]
-mod tests;

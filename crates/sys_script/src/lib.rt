@@ -9,6 +9,3 @@ mod text;
 pub use event::{Event, ScriptError, ScriptFault, ScriptKind, Typed};
 pub use script::{read_script, script_law};
 pub use text::LineText;
-
-#[cfg(test)]
-mod tests;

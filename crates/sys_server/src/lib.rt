@@ -10,6 +10,3 @@ pub use command::{Asked, Command, Rule, ServerState, Verdict};
 pub use granting::apply;
 pub use judging::{reply, verdict};
 pub use line::{asked_in, lines_law};
-
-#[cfg(test)]
-mod tests;

@@ -6,6 +6,3 @@ mod volumes;
 
 pub use job::print_job;
 pub use volumes::{NoBlock, Volumes};
-
-#[cfg(test)]
-mod tests;

@@ -7,8 +7,6 @@ mod put;
 mod reach;
 mod size;
 mod statement;
-#[cfg(test)]
-mod tests;
 mod text;
 
 pub use text::assemble;

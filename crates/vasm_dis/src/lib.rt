@@ -5,8 +5,6 @@ mod image;
 mod laws;
 mod operand;
 mod put;
-#[cfg(test)]
-mod tests;
 
 pub use image::disassemble;
 pub use laws::{assembling_undoes_disassembling, reading_undoes_printing};

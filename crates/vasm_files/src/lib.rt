@@ -3,8 +3,6 @@
 
 mod answer;
 mod commands;
-#[cfg(test)]
-mod tests;
 
 pub use answer::{Answer, fault_text};
 pub use commands::{asm, dis};

@@ -7,8 +7,6 @@ mod numbers;
 mod operand;
 mod specifier;
 mod statement;
-#[cfg(test)]
-mod tests;
 
 pub use cutting::Pieces;
 pub use line::{Line, first_line, line_in};

@@ -3,8 +3,6 @@
 
 mod compute;
 mod exact;
-#[cfg(test)]
-mod tests;
 
 pub use compute::alu;
 pub use vax_table::{Alu, AluOp};

@@ -5,8 +5,6 @@ mod laws;
 mod outcome;
 mod read;
 mod scan;
-#[cfg(test)]
-mod tests;
 mod write;
 
 pub use laws::{beginnings_need_more, decoding_undoes_encoding};

@@ -7,8 +7,6 @@ mod kind;
 mod operand;
 mod prepared;
 mod space;
-#[cfg(test)]
-mod tests;
 mod values;
 
 pub use instruction::{evaluate, evaluate_into, evaluate_trap};

@@ -250,6 +250,3 @@ fn is_set(value: u32, bit: u32) -> bool
 {
     value / bit % 2 == 1
 }
-
-#[cfg(test)]
-mod tests;

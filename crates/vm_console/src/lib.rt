@@ -215,6 +215,3 @@ fn waiting_of(bytes: &[u8]) -> ArrayVec<u8, MOST_WAITING>
     prove!(pushed.is_ok());
     waiting
 }
-
-#[cfg(test)]
-mod tests;

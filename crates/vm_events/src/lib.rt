@@ -9,6 +9,3 @@ mod stop;
 pub use beginning::{begin, interrupt};
 pub use pending::{Source, due};
 pub use stop::show_stop;
-
-#[cfg(test)]
-mod tests;

@@ -7,6 +7,3 @@ mod write;
 pub use read::{is_readable, mfpr};
 pub use vm_state::{Effect, ReservedOperand};
 pub use write::mtpr;
-
-#[cfg(test)]
-mod tests;

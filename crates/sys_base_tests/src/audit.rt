@@ -1,0 +1,80 @@
+use std::test::Fail;
+use sys_audit::audit_text;
+use sys_objects::Terminal;
+use sys_server::{Command, Rule, Verdict};
+use vv_base::object_name;
+use vv_class::read_class;
+
+fn terminal(name: &str, class: &str) -> Result<Terminal, Fail> {
+    Ok(Terminal {
+        name: object_name(name.as_bytes()).ok_or("a name")?,
+        line: 7,
+        class: read_class(class.as_bytes()).ok().ok_or("a class")?,
+    })
+}
+
+#[test]
+fn commands_are_audited(rt: HostRuntime) -> Result<(), Fail> {
+    let audits: [(u32, &str, &str, &str, Verdict, &str); 6] = [
+        (
+            1,
+            "T1",
+            "1{};0{}",
+            "HALT X",
+            Verdict::NoSuchObject,
+            "1 T1 1{};0{} NO SUCH OBJECT HALT X\r\n",
+        ),
+        (
+            2,
+            "T2",
+            "0{};0{}",
+            "CONNECT A",
+            Verdict::Granted(Command::Connect(0)),
+            "2 T2 0{};0{} OK CONNECT A\r\n",
+        ),
+        (
+            2,
+            "T2",
+            "0{};0{}",
+            "CONNECT A",
+            Verdict::Granted(Command::Show),
+            "2 T2 0{};0{} OK CONNECT A\r\n",
+        ),
+        (
+            3,
+            "T1",
+            "2{1,5};0{}",
+            "",
+            Verdict::BadCommand,
+            "3 T1 2{1,5};0{} BAD COMMAND \r\n",
+        ),
+        (
+            10,
+            "A",
+            "0{};9{63}",
+            "X",
+            Verdict::Denied(Rule::Equal),
+            "10 A 0{};9{63} DENIED EQUAL X\r\n",
+        ),
+        (
+            1_000_000,
+            "ABCDEFGH",
+            "0{};0{}",
+            " ",
+            Verdict::Denied(Rule::Write),
+            "1000000 ABCDEFGH 0{};0{} DENIED WRITE  \r\n",
+        ),
+    ];
+    for (round, name, class, text, verdict, wanted) in audits {
+        let audit = audit_text(round, &terminal(name, class)?, text.as_bytes(), &verdict);
+        assert_eq!(rt; audit.bytes(), wanted.as_bytes());
+    }
+    let longest = audit_text(
+        1,
+        &terminal("T1", "0{};0{}")?,
+        &[b'x'; 1000],
+        &Verdict::BadCommand,
+    );
+    assert_eq!(rt; longest.bytes().len(), 1027);
+    Ok(())
+}

@@ -1,0 +1,262 @@
+use std::alloc::{AllocError, Global};
+use std::test::Fail;
+use vax_decode::{Decode, DecodeFault, decode, encode};
+use vax_table::{Access, Form, row};
+use vv_base::Width;
+
+/// The operands of each opcode by the manual's letters, access and width in turn; `-` where no
+/// instruction has the opcode.
+static OPERANDS: [&str; 256] = [
+    // 00
+    "", "", "", "", "", "", "", "", "-", "-", "-", "-", "rbrwab", "rbrwab", "-", "-",
+    // 10
+    "bb", "bb", "bb", "bb", "bb", "bb", "ab", "ab", "bb", "bb", "bb", "bb", "bb", "bb", "bb", "bb",
+    // 20
+    "-", "-", "-", "-", "-", "-", "-", "-", "-", "-", "-", "-", "-", "-", "-", "-",
+    // 30
+    "bw", "bw", "rwwl", "rwwb", "-", "-", "-", "-", "-", "-", "-", "-", "rwwl", "rwrwmwbw", "awwl",
+    "aw",
+    // 40
+    "-", "-", "-", "-", "-", "-", "-", "-", "-", "-", "-", "-", "-", "-", "-", "-",
+    // 50
+    "-", "-", "-", "-", "-", "-", "-", "-", "-", "-", "-", "-", "-", "-", "-", "-",
+    // 60
+    "-", "-", "-", "-", "-", "-", "-", "-", "-", "-", "-", "-", "-", "-", "-", "-",
+    // 70
+    "-", "-", "-", "-", "-", "-", "-", "-", "rbrlwl", "-", "-", "-", "wq", "rqwq", "aqwl", "aq",
+    // 80
+    "rbmb", "rbrbwb", "rbmb", "rbrbwb", "rbmb", "rbrbwb", "rbmb", "rbrbwb", "rbmb", "rbrbwb",
+    "rbmb", "rbrbwb", "rbmb", "rbrbwb", "rbwb", "rbrbrb",
+    // 90
+    "rbwb", "rbrb", "rbwb", "rbrb", "wb", "rb", "mb", "mb", "rbwl", "rbww", "rbwl", "rbww",
+    "rbrlwl", "rbrbmbbw", "abwl", "ab",
+    // A0
+    "rwmw", "rwrwww", "rwmw", "rwrwww", "rwmw", "rwrwww", "rwmw", "rwrwww", "rwmw", "rwrwww",
+    "rwmw", "rwrwww", "rwmw", "rwrwww", "rwww", "rwrwrw",
+    // B0
+    "rwww", "rwrw", "rwww", "rwrw", "ww", "rw", "mw", "mw", "rw", "rw", "rw", "rw", "rw", "rw",
+    "rw", "rw",
+    // C0
+    "rlml", "rlrlwl", "rlml", "rlrlwl", "rlml", "rlrlwl", "rlml", "rlrlwl", "rlml", "rlrlwl",
+    "rlml", "rlrlwl", "rlml", "rlrlwl", "rlwl", "rlrlrl",
+    // D0
+    "rlwl", "rlrl", "rlwl", "rlrl", "wl", "rl", "ml", "ml", "rlml", "rlml", "rlrl", "rlwl", "wl",
+    "rl", "alwl", "al",
+    // E0
+    "rlvbbb", "rlvbbb", "rlvbbb", "rlvbbb", "rlvbbb", "rlvbbb", "rlvbbb", "rlvbbb", "rlbb", "rlbb",
+    "-", "-", "-", "-", "-", "-",
+    // F0
+    "-", "rlrlmlbw", "rlmlbb", "rlmlbb", "mlbb", "mlbb", "rlwb", "rlww", "-", "-", "abab", "rlab",
+    "", "", "-", "-",
+];
+
+/// The opcodes whose instructions a monitor does: HALT, REI, LDPCTX, SVPCTX, CHMK to CHMU, MTPR, MFPR
+/// and WAIT.
+const SENSITIVE: [usize; 11] = [
+    0x00, 0x02, 0x06, 0x07, 0xbc, 0xbd, 0xbe, 0xbf, 0xda, 0xdb, 0xfd,
+];
+
+/// How the bytes are answered: the instruction's length, `None` for more bytes, or the fault.
+fn answer(b: &[u8]) -> Result<u8, Option<DecodeFault>> {
+    match decode(b) {
+        Decode::Done(d) => Ok(d.length),
+        Decode::NeedMore => Err(None),
+        Decode::Fault(fault) => Err(Some(fault)),
+    }
+}
+
+/// Whether the bytes begin with an instruction, and encoding it gives its bytes.
+fn is_encoded_again(b: &[u8]) -> bool {
+    match decode(b) {
+        Decode::Done(d) => b.starts_with(encode(&d).bytes()),
+        _ => false,
+    }
+}
+
+fn size_of(width: u8) -> usize {
+    match width {
+        b'b' => 1,
+        b'w' => 2,
+        b'l' => 4,
+        _ => 8,
+    }
+}
+
+/// An instruction whose operands are immediates and displacements of ones, but for the operand at one
+/// place, which is one given byte.
+fn instruction(
+    alloc: Global,
+    opcode: u8,
+    letters: &[u8],
+    place: usize,
+    given: u8,
+) -> Result<Vec<u8>, AllocError> {
+    let mut bytes = Vec::new(alloc);
+    bytes.push(opcode)?;
+    for (k, letter) in letters.iter().enumerate() {
+        if k % 2 == 1 {
+            if k / 2 == place {
+                continue;
+            }
+            for _ in 0..size_of(*letter) {
+                bytes.push(1)?;
+            }
+        } else if k / 2 == place {
+            bytes.push(given)?;
+        } else if *letter != b'b' {
+            bytes.push(0x8f)?;
+        }
+    }
+    Ok(bytes)
+}
+
+fn access_letter(access: Access) -> u8 {
+    match access {
+        Access::Read => b'r',
+        Access::Modify => b'm',
+        Access::Write => b'w',
+        Access::Address => b'a',
+        Access::Bits => b'v',
+        Access::Branch => b'b',
+    }
+}
+
+fn width_letter(width: Width) -> u8 {
+    match width {
+        Width::Byte => b'b',
+        Width::Word => b'w',
+        Width::Long => b'l',
+        Width::Quad => b'q',
+    }
+}
+
+fn letters_of(alloc: Global, forms: &[Form]) -> Result<Vec<u8>, AllocError> {
+    let mut letters = Vec::new(alloc);
+    for form in forms {
+        letters.push(access_letter(form.access))?;
+        letters.push(width_letter(form.width))?;
+    }
+    Ok(letters)
+}
+
+#[test]
+fn rows_are_those_of_the_manual(rt: HostRuntime) -> Result<(), Fail> {
+    for (opcode, letters) in OPERANDS.iter().enumerate() {
+        match row(opcode as u8) {
+            None => assert_eq!(rt; *letters, "-", "at {opcode}"),
+            Some(row) => {
+                let found = letters_of(rt.alloc(), row.operands.as_slice())?;
+                assert_eq!(rt; found.as_slice(), letters.as_bytes(), "at {opcode}");
+                assert_eq!(rt; row.sensitive, SENSITIVE.contains(&opcode), "at {opcode}");
+            }
+        }
+    }
+    Ok(())
+}
+
+/// Whether every proper front of the bytes wants more.
+fn wants_more_throughout(b: &[u8]) -> bool {
+    for cut in 0..b.len() {
+        if answer(&b[..cut]) != Err(None) {
+            return false;
+        }
+    }
+    true
+}
+
+/// How an instruction is answered in which one operand is the one byte given.
+fn answer_with(
+    alloc: Global,
+    opcode: u8,
+    letters: &[u8],
+    place: usize,
+    given: u8,
+) -> Result<Result<u8, Option<DecodeFault>>, AllocError> {
+    let bytes = instruction(alloc, opcode, letters, place, given)?;
+    Ok(answer(&bytes))
+}
+
+#[test]
+fn every_first_byte_is_decoded_by_the_manual(rt: HostRuntime) -> Result<(), Fail> {
+    for (opcode, letters) in OPERANDS.iter().enumerate() {
+        let opcode = opcode as u8;
+        if *letters == "-" {
+            assert_eq!(rt;
+                answer(&[opcode]),
+                Err(Some(DecodeFault::Opcode)),
+                "at {opcode}"
+            );
+        } else if opcode != 0xfd {
+            let whole = instruction(rt.alloc(), opcode, letters.as_bytes(), 4, 0)?;
+            assert_eq!(rt;
+                answer(&whole).map(usize::from),
+                Ok(whole.len()),
+                "at {opcode}"
+            );
+            assert!(rt; is_encoded_again(&whole), "at {opcode}");
+            assert!(rt; wants_more_throughout(&whole), "at {opcode}");
+        }
+    }
+    assert_eq!(rt; answer(&[0xfd]), Err(None));
+    assert_eq!(rt; answer(&[0xfd, 1]), Ok(2));
+    assert_eq!(rt; answer(&[0xfd, 2]), Err(Some(DecodeFault::Opcode)));
+    Ok(())
+}
+
+/// A literal stands only where an operand is read, a register only where its address isn't taken, and
+/// PC in mode 6 nowhere.
+#[test]
+fn each_operand_allows_what_its_access_does(rt: HostRuntime) -> Result<(), Fail> {
+    let alloc = rt.alloc();
+    for (opcode, letters) in OPERANDS.iter().enumerate() {
+        let opcode = opcode as u8;
+        let letters = letters.as_bytes();
+        for (place, access) in letters.iter().step_by(2).enumerate() {
+            if *access != b'b' && *access != b'-' {
+                let literal = answer_with(alloc, opcode, letters, place, 0x3f)?;
+                assert_eq!(rt; literal.is_ok(), *access == b'r', "at {opcode}");
+                let register = answer_with(alloc, opcode, letters, place, 0x52)?;
+                assert_eq!(rt; register.is_ok(), *access != b'a', "at {opcode}");
+                let pc = answer_with(alloc, opcode, letters, place, 0x6f)?;
+                assert_eq!(rt; pc, Err(Some(DecodeFault::Addressing)), "at {opcode}");
+            }
+        }
+    }
+    Ok(())
+}
+
+#[test]
+fn worked_examples_are_decoded(rt: HostRuntime) {
+    let addressing = Err(Some(DecodeFault::Addressing));
+    let cases: [(&[u8], Result<u8, Option<DecodeFault>>); 11] = [
+        (&[], Err(None)),
+        (&[0xd0, 0x8f, 0x01], Err(None)),
+        (&[0xd0, 0x01, 0x01], addressing),
+        (&[0xd0, 0x4f], addressing),
+        (&[0xfd, 0x02], Err(Some(DecodeFault::Opcode))),
+        (&[0xfd, 0x01], Ok(2)),
+        (&[0xc0, 0x44, 0xc3, 0x34, 0x12, 0x50], Ok(6)),
+        (&[0xc0, 0x44, 0x53, 0x50], addressing),
+        (&[0xde, 0x51, 0x50], addressing),
+        (&[0xd0, 0x41, 0x8f], addressing),
+        (&[0x7d, 0x5d, 0x5e], addressing),
+    ];
+    for (bytes, want) in cases {
+        assert_eq!(rt; answer(bytes), want, "at {bytes:?}");
+    }
+}
+
+#[test]
+fn an_indexed_word_displacement_is_decoded_and_encoded(rt: HostRuntime) {
+    // ADDL2 1234(R3)[R4], R0, and two bytes behind it
+    let bytes = [0xc0, 0x44, 0xc3, 0x34, 0x12, 0x50, 0xde, 0xad];
+    let Decode::Done(d) = decode(&bytes) else {
+        assert!(rt; false, "a whole instruction");
+        return;
+    };
+    assert_eq!(rt;
+        (d.opcode, d.wait, d.length, d.specs.len()),
+        (0xc0, false, 6, 2)
+    );
+    assert_eq!(rt; encode(&d).bytes(), &bytes[..6]);
+}

@@ -1,0 +1,17 @@
+//! Worked examples of the processor's parts: fields of its longwords, decoding, arithmetic, operands, and whole instructions over a memory of bytes.
+#![tactic(auto)]
+
+#[cfg(test)]
+mod arithmetic;
+#[cfg(test)]
+mod decoding;
+#[cfg(test)]
+mod entries;
+#[cfg(test)]
+mod instructions;
+#[cfg(test)]
+mod operands;
+#[cfg(test)]
+mod protection;
+#[cfg(test)]
+mod status;
