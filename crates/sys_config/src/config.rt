@@ -3,29 +3,18 @@ ghost use Rattle.toml.specs.View.{table_view};
 ghost use Rattle.sys_objects.specs.Faults.{Reads, by_rule};
 ghost use Rattle.sys_objects.specs.Condition.{IsConfig};
 ghost use Rattle.sys_objects.specs.Rules.{IsFew};
-ghost use Rattle.sys_config.specs.Config.{document_of, audit_if_any, rows_of, config_in, config_of};
+ghost use Rattle.sys_config.specs.Config.{document_of, rows_of, config_in, config_of};
 
-use crate::entries::{UpTo, audit};
+use crate::entries::{UpTo, audit as audit_in};
 use crate::guests::Guests;
 use crate::lists::rows;
 use crate::numbers::{Limits, most_guests, read_numbers, top_level};
+use crate::reads::if_any;
 use crate::top::{audit_table, tables_at};
 use crate::{Audit, Config, ConfigError, Rows};
 use std::alloc::Global;
 use sys_objects::{fault, judge};
 use toml::Table;
-
-fn audit_if_any(table: Option<&Table>, top: u8) -> Option<Option<Audit>>
-    ensures { result ≡ audit_if_any top (option_map (λ m. table_view m.now) table.entry) }
-{
-    match table {
-        Some(table) => match audit(table, top) {
-            Some(audit) => Some(Some(audit)),
-            None => None,
-        },
-        None => Some(None),
-    }
-}
 
 /// The objects, by rules 5 to 10.
 #[tactic(auto, unfolding(crate::specs::Config::rows_of))]
@@ -61,7 +50,7 @@ fn read_rows(
         printers: printers.as_slice(),
     };
     let guests = rows(alloc, &named, guests, 9)?;
-    let Some(audit) = audit_if_any(audit, top) else {
+    let Some(audit) = if_any(audit, |table| audit_in(table, top)) else {
         return Err(fault(10, 0));
     };
     Ok(Config {

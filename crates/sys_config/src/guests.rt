@@ -1,7 +1,7 @@
-ghost use Rattle.std.specs.Prelude.{◌≡◌, ◌≤◌, length, codes};
+ghost use Rattle.std.specs.Prelude.{◌≡◌, ◌≤◌, length, codes, option_map, unwrap_or};
 ghost use Rattle.toml.specs.View.{view, table_view};
 ghost use Rattle.sys_config.specs.Reads.{if_any, number_in};
-ghost use Rattle.sys_config.specs.Guests.{object_in, mounts_in, modify_in, modify_of, own_quantum, image_at, keys_of_guest, bare_guest_of};
+ghost use Rattle.sys_config.specs.Guests.{object_in, mounts_in, no_mounts, modify_in, modify_of, own_quantum, image_at, keys_of_guest, bare_guest_of};
 ghost use Rattle.sys_config.specs.Reads.{are_known as are_known_of};
 
 use crate::entries::{class_at, name_at};
@@ -9,7 +9,7 @@ use crate::lists::Reader;
 use crate::mounts::mounts_in;
 use crate::named::{Named, place_by};
 use crate::numbers::top_level;
-use crate::reads::{are_known, flag_at, number_at, number_in, text_at, value_at};
+use crate::reads::{are_known, flag_at, if_any, number_at, number_in, text_at, value_at};
 use crate::{GuestRow, Mount, PrinterRow, Terminal, VolumeRow};
 use toml::{Table, Value};
 use vv_base::{FileName, file_name, object_name};
@@ -28,22 +28,13 @@ fn object_in<R: Named>(value: &Value, rows: &[R]) -> Option<u8>
     }
 }
 
-fn object_if_any<R: Named>(table: &Table, key: &str, rows: &[R]) -> Option<Option<u8>>
-    requires { length rows.now ≤ 32 }
-    ensures { result ≡ if_any (object_in R.name_of rows.now) key.now (table_view table.now) }
+/// The line of a dump.
+fn dump_in(value: &Value) -> Option<u8>
+    ensures { result ≡ number_in 0 31 (view value.now) }
 {
-    match value_at(table, key) {
-        Some(value) => object_in(value, rows).map(Some),
-        None => Some(None),
-    }
-}
-
-fn dump_if_any(table: &Table) -> Option<Option<u8>>
-    ensures { result ≡ if_any (number_in 0 31) (codes "dump") (table_view table.now) }
-{
-    match value_at(table, "dump") {
-        Some(value) => number_in(value, 0, 31).map(|line| Some(line as u8)),
-        None => Some(None),
+    match number_in(value, 0, 31) {
+        Some(line) => Some(line as u8),
+        None => None,
     }
 }
 
@@ -68,23 +59,13 @@ fn modify_of(value: &Value) -> Option<bool>
     }
 }
 
-fn modify_if_any(table: &Table) -> Option<Option<bool>>
-    ensures { result ≡ if_any modify_of (codes "modify") (table_view table.now) }
-{
-    match value_at(table, "modify") {
-        Some(value) => modify_of(value).map(Some),
-        None => Some(None),
-    }
-}
-
-fn mounts_if_any(table: &Table, volumes: &[VolumeRow]) -> Option<Option<[Option<Mount>; 4]>>
+/// What is mounted: nothing where nothing is said.
+fn mounts_at(table: &Table, volumes: &[VolumeRow]) -> Option<[Option<Mount>; 4]>
     requires { length volumes.now ≤ 16 }
-    ensures { result ≡ if_any (mounts_in volumes.now) (codes "mount") (table_view table.now) }
+    ensures { result ≡ option_map (λ mounts. unwrap_or mounts no_mounts) (if_any (mounts_in volumes.now) (codes "mount") (table_view table.now)) }
 {
-    match value_at(table, "mount") {
-        Some(value) => mounts_in(value, volumes).map(Some),
-        None => Some(None),
-    }
+    let mounts = if_any(value_at(table, "mount"), |value| mounts_in(value, volumes))?;
+    Some(mounts.unwrap_or([None; 4]))
 }
 
 fn own_quantum(table: &Table, quantum: Option<u32>) -> Option<u32>
@@ -185,11 +166,14 @@ impl<'a> Reader<GuestRow> for Guests<'a> {
             return None;
         }
         let mut guest = bare_guest(table, top_level(self.quantum), self.quantum)?;
-        guest.console = object_if_any(table, "console", self.terminals)?;
-        guest.printer = object_if_any(table, "printer", self.printers)?;
-        guest.dump = dump_if_any(table)?;
-        guest.modify_faults = modify_if_any(table)?.unwrap_or(false);
-        guest.mounts = mounts_if_any(table, self.volumes)?.unwrap_or([None; 4]);
+        let console = value_at(table, "console");
+        guest.console = if_any(console, |value| object_in(value, self.terminals))?;
+        let printer = value_at(table, "printer");
+        guest.printer = if_any(printer, |value| object_in(value, self.printers))?;
+        guest.dump = if_any(value_at(table, "dump"), dump_in)?;
+        let modify = value_at(table, "modify");
+        guest.modify_faults = if_any(modify, modify_of)?.unwrap_or(false);
+        guest.mounts = mounts_at(table, self.volumes)?;
         Some(guest)
     }
 }

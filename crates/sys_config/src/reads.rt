@@ -1,4 +1,5 @@
-ghost use Rattle.std.specs.Prelude.{◌≡◌, ◌≤◌, option_map, IfSome, map, bytes_eq, string_bytes};
+ghost use Rattle.std.specs.Prelude.{◌≡◌, ◌≤◌, Option, MatchOption, option_map, IfSome, map, bytes_eq, string_bytes};
+ghost use Rattle.std.specs.Fn.{FnOnceReturnsAt};
 ghost use Rattle.std.specs.List.{list_all, list_any};
 ghost use Rattle.std.specs.BTreeMap.{keys as entry_keys};
 ghost use Rattle.toml.specs.Data.{get_member};
@@ -12,6 +13,20 @@ pub fn value_at<'a>(table: &'a Table, key: &str) -> Option<&'a Value>
     ensures { option_map (λ v. view v.now) result ≡ get_member key.now (table_view table.now) }
 {
     table.get(key)
+}
+
+/// What may be left out, as it is read: `None` exactly where it is there and isn't read.
+pub fn if_any<T, R, F: FnOnce(&T) -> Option<R>>(given: Option<&T>, read: F) -> Option<Option<R>>
+    requires { F.IsAlwaysCallable read }
+    ensures { MatchOption given.entry (result ≡ Some None) (λ g. (r : Option R) × FnOnceReturnsAt F.FnOnce read g.now r × (result ≡ option_map Some r)) }
+{
+    let Some(value) = given else {
+        return Some(None);
+    };
+    match read(value) {
+        Some(one) => Some(Some(one)),
+        None => None,
+    }
 }
 
 /// The integer, if it is from `low` to `high`.

@@ -1,7 +1,7 @@
 use Rattle.std.proofs.Common.{◌<◌, ◌^◌, arith}
 use Rattle.vax_operand.proofs.ByteByByte.{seven_bytes}
-use Rattle.vax_operand.proofs.tests.+number.Goals as goal
-use Rattle.vax_operand.proofs.tests.+number.Goals.{in-4097, in-0-to-4351, in-4352-to-32767}
+use Rattle.vax_base_tests.proofs.operands.+number.Goals as goal
+use Rattle.vax_base_tests.proofs.operands.+number.Goals.{in-4097, in-0-to-4351, in-4352-to-32767}
 
 pub overflow_mul-result : goal.overflow_mul-result
 overflow_mul-result t c = let h : c.in_ok-rest.rest < 2 ^ 56 = seven_bytes _ c.args.bytes c.in_ok-rest.ensures.fits c.requires in omega arith

@@ -1,4 +1,4 @@
-use Rattle.vax_exec.proofs.tests.+number.Given as goal
+use Rattle.vax_base_tests.proofs.instructions.+number.Given as goal
 
 abbrev pub decreases-number : goal.decreases-number
 decreases-number l = l.bytes

@@ -1,4 +1,4 @@
-use Rattle.vax_operand.proofs.tests.+number.Given as goal
+use Rattle.vax_base_tests.proofs.operands.+number.Given as goal
 
 abbrev pub decreases-number : goal.decreases-number
 decreases-number l = l.bytes
