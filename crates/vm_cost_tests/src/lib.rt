@@ -2,9 +2,11 @@
 //! are taken one by one.
 #![tactic(auto)]
 
+#[cfg(test)]
 mod counted;
 
-pub use counted::{Cost, Counted};
+#[cfg(test)]
+pub use counted::Counted;
 
 #[cfg(test)]
 mod costs;

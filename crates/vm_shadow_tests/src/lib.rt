@@ -2,14 +2,20 @@
 //! the guest's, and a slow walk of the machine's that is compared with the guest's.
 #![tactic(auto)]
 
+#[cfg(test)]
 mod compare;
+#[cfg(test)]
 mod driver;
+#[cfg(test)]
 mod machine_walks;
+#[cfg(test)]
 mod registers;
 
-pub use compare::Mismatch;
+#[cfg(test)]
 pub use driver::{BASE, Bench, Event, PAGES};
+#[cfg(test)]
 pub use machine_walks::{NoPlace, real_entry, real_walk};
+#[cfg(test)]
 pub use registers::{MAPPED, Registers};
 
 #[cfg(test)]
