@@ -10,6 +10,7 @@ use vax_table::{Alu, AluOp};
 use vv_base::{Width, signed};
 
 /// C, bit 0.
+#[inline(always)]
 fn carry_of(psw: u8) -> bool
     ensures { result ≡ carry_of psw }
 {
@@ -17,6 +18,7 @@ fn carry_of(psw: u8) -> bool
 }
 
 /// IV, bit 5.
+#[inline(always)]
 fn traps_overflow(psw: u8) -> bool
     ensures { result ≡ traps_overflow psw }
 {
@@ -24,6 +26,7 @@ fn traps_overflow(psw: u8) -> bool
 }
 
 /// The PSW with these condition codes.
+#[inline(always)]
 fn with_codes(psw: u8, n: bool, z: bool, v: bool, c: bool) -> u8
     ensures { result ≡ psw_with psw (record { n = n; z = z; v = v; c = c }) }
 {
@@ -31,6 +34,7 @@ fn with_codes(psw: u8, n: bool, z: bool, v: bool, c: bool) -> u8
 }
 
 /// A value of the width, with N and Z of it.
+#[inline(always)]
 fn valued(value: u32, w: Width, v: bool, c: bool, psw: u8) -> Alu
     requires { w ≢ Width.Quad }
     ensures { result ≡ answered (valued w value v c) psw }
@@ -48,6 +52,7 @@ fn valued(value: u32, w: Width, v: bool, c: bool, psw: u8) -> Alu
 }
 
 /// An exact result, where V says that it doesn't fit.
+#[inline(always)]
 fn exact(x: i64, w: Width, c: bool, psw: u8) -> Alu
     requires { w ≢ Width.Quad }
     ensures { result ≡ answered (exactly w x c) psw }
@@ -56,6 +61,7 @@ fn exact(x: i64, w: Width, c: bool, psw: u8) -> Alu
 }
 
 /// A result of bits, where C is as before.
+#[inline(always)]
 fn plain(value: u32, w: Width, psw: u8) -> Alu
     requires { w ≢ Width.Quad }
     ensures { result ≡ answered (plainly w value (carry_of psw)) psw }
@@ -65,6 +71,7 @@ fn plain(value: u32, w: Width, psw: u8) -> Alu
 
 /// Second plus first plus a carry.
 #[tactic(auto, using(crate::proofs::Casts::casts))]
+#[inline(always)]
 fn sum(a: u32, b: u32, c: bool, w: Width, psw: u8) -> Alu
     requires { w ≢ Width.Quad }
     ensures { result ≡ answered (sum_of w a b c) psw }
@@ -75,6 +82,7 @@ fn sum(a: u32, b: u32, c: bool, w: Width, psw: u8) -> Alu
 
 /// Second minus first minus a borrow.
 #[tactic(auto, using(crate::proofs::Casts::casts))]
+#[inline(always)]
 fn difference(a: u32, b: u32, c: bool, w: Width, psw: u8) -> Alu
     requires { w ≢ Width.Quad }
     ensures { result ≡ answered (difference_of w a b c) psw }
@@ -85,6 +93,7 @@ fn difference(a: u32, b: u32, c: bool, w: Width, psw: u8) -> Alu
 
 /// Second times first.
 #[tactic(auto, using(crate::proofs::Casts::casts))]
+#[inline(always)]
 fn product(a: u32, b: u32, w: Width, psw: u8) -> Alu
     requires { w ≢ Width.Quad }
     ensures { result ≡ answered (exactly w (signed_of w b *ℤ signed_of w a) false) psw }
@@ -110,6 +119,7 @@ fn divide(a: u32, b: u32, w: Width, psw: u8) -> Alu
 
 /// Minus a number, where C says that the result isn't 0.
 #[tactic(auto, using(crate::proofs::Casts::casts))]
+#[inline(always)]
 fn negate(a: u32, w: Width, psw: u8) -> Alu
     requires { w ≢ Width.Quad }
     ensures { result ≡ answered (negation_of w a) psw }
@@ -120,6 +130,7 @@ fn negate(a: u32, w: Width, psw: u8) -> Alu
 
 /// First against second: N below, signed; Z equal; C below, unsigned.
 #[tactic(auto, using(crate::proofs::Casts::casts))]
+#[inline(always)]
 fn compare(a: u32, b: u32, w: Width, psw: u8) -> Alu
     requires { w ≢ Width.Quad }
     ensures { result ≡ answered (comparison_of w a b) psw }
@@ -164,11 +175,10 @@ fn rotate(n: u32, count: u32, w: Width) -> u32
     }
 }
 
-/// The value, the condition codes and the trap of an operation on the low bits of two operands,
-/// by the VAX Architecture Reference Manual. A count of Ash or Rot is the signed low byte of `a`,
-/// and Narrow takes all of `a`.
+/// The same in a width that is known where this is written out, so that nothing is chosen by it.
+#[inline(always)]
 #[tactic(auto, using(crate::proofs::Casts::casts), unfolding(vax_table::specs::Arithmetic::alu_of))]
-pub fn alu(op: AluOp, a: u32, b: u32, w: Width, psw: u8) -> Alu
+fn alu_in(op: AluOp, a: u32, b: u32, w: Width, psw: u8) -> Alu
     requires { w ≢ Width.Quad }
     ensures { result ≡ alu_of op a b w psw }
 {
@@ -193,5 +203,20 @@ pub fn alu(op: AluOp, a: u32, b: u32, w: Width, psw: u8) -> Alu
         AluOp::Ash => shift(b, signed(a, Width::Byte), w, psw),
         AluOp::Rot => plain(rotate(second, a % 256, w), w, psw),
         AluOp::Narrow => exact(i64::from(signed(a, Width::Long)), w, false, psw),
+    }
+}
+
+/// The value, the condition codes and the trap of an operation on the low bits of two operands,
+/// by the VAX Architecture Reference Manual. A count of Ash or Rot is the signed low byte of `a`,
+/// and Narrow takes all of `a`.
+pub fn alu(op: AluOp, a: u32, b: u32, w: Width, psw: u8) -> Alu
+    requires { w ≢ Width.Quad }
+    ensures { result ≡ alu_of op a b w psw }
+{
+    match w {
+        Width::Byte => alu_in(op, a, b, Width::Byte, psw),
+        Width::Word => alu_in(op, a, b, Width::Word, psw),
+        Width::Long => alu_in(op, a, b, Width::Long, psw),
+        Width::Quad => unreachable!(),
     }
 }
