@@ -1,7 +1,10 @@
-ghost use Rattle.std.specs.Prelude.{◌≡◌, ◌≢◌, ◌<◌, List, ℕ};
+ghost use Rattle.std.specs.Prelude.{◌≡◌, ◌≢◌, ◌<◌, ◌-◌, List, ℕ, slice_set};
+ghost use Rattle.arrayvec.specs.ArrayVec.{array_vec_len};
 ghost use Rattle.vax_table.specs.Computing.{computed, first_input, moved_quad, second_input, target_of};
-ghost use Rattle.vax_table.specs.Effects.{dest_of, effect};
+ghost use Rattle.vax_table.specs.Effects.{dest_of, effect, put};
 ghost use Rattle.vax_table.specs.Operand.{extended};
+ghost use Rattle.vax_table.specs.declared.act.Dest.TheVariants.{Nowhere};
+ghost use Rattle.vax_table.specs.declared.evaluation.Operands.{Operands};
 ghost use Rattle.vv_base.specs.Width.{low, size_of};
 ghost use Rattle.vax_operand.specs.Left.{joined};
 
@@ -25,42 +28,70 @@ fn extended(w: Width, v: u32) -> u32
     }
 }
 
-/// The first number of an operation.
-fn first_input(inputs: Inputs, o: &Values) -> u32
-    ensures { (r : List ℕ) → result ≡ first_input inputs (joined o.now r) }
+/// The numbers of an operation: the first, and the second, which is 0 where it has none.
+#[inline(always)]
+fn numbers(inputs: Inputs, o: &Values) -> (u32, u32)
+    ensures first { (r : List ℕ) → result.0 ≡ first_input inputs (joined o.now r) }
+    ensures second { (r : List ℕ) → result.1 ≡ second_input inputs (joined o.now r) }
 {
     match inputs {
-        Inputs::Zero => 0,
-        Inputs::First | Inputs::Both => o.long(0),
-        Inputs::Signed(w) => extended(w, o.long(0)),
-        Inputs::OneAndFirst => 1,
+        Inputs::Zero => (0, 0),
+        Inputs::First => (o.long(0), 0),
+        Inputs::Signed(w) => (extended(w, o.long(0)), 0),
+        Inputs::Both => (o.long(0), o.long(1)),
+        Inputs::OneAndFirst => (1, o.long(0)),
     }
 }
 
-/// The second number of an operation, where it has one.
-fn second_input(inputs: Inputs, o: &Values) -> u32
-    ensures { (r : List ℕ) → result ≡ second_input inputs (joined o.now r) }
+/// Sets a register, if there is one of this number.
+#[inline(always)]
+fn set(r: &mut [u32; 16], n: u8, v: u32)
+    ensures { r.new ≡ slice_set r.old n v }
 {
-    match inputs {
-        Inputs::Zero | Inputs::First | Inputs::Signed(_) => 0,
-        Inputs::Both => o.long(1),
-        Inputs::OneAndFirst => o.long(0),
+    if n < 16 {
+        r[usize::from(n)] = v;
     }
 }
 
-/// Where the result goes.
-fn target_of(target: Target, o: &Values) -> Dest
-    ensures { (r : List ℕ) → result ≡ target_of target (joined o.now r) }
+/// A result at its destination: mostly a longword in a register.
+#[inline(always)]
+fn put(dest: &Dest, w: Width, value: u32, plan: &mut Plan)
+    requires room { array_vec_len plan.old.writes < 20 }
+    ensures { effect plan.new ≡ put dest.now w value (effect plan.old) }
 {
-    match target {
-        Target::Codes => Dest::Nowhere,
-        Target::First => o.dests[0],
-        Target::Second => o.dests[1],
-        Target::Third => o.dests[2],
+    if let Dest::Register(n) = *dest {
+        if let Width::Long = w {
+            set(&mut plan.r, n, value);
+            return;
+        }
+    }
+    plan.put(*dest, w, u64::from(value));
+}
+
+/// The number of the operand that gets the result, from 1 on, or 0 where none does.
+#[inline(always)]
+fn number_of(target: Target) -> usize
+    ensures few { result < 4 }
+    ensures none { result ≡ 0 → (o : Operands) → target_of target o ≡ Nowhere }
+    ensures some { 0 < result → (o : Operands) → target_of target o ≡ dest_of o (result - 1) }
+{
+    usize::from(target as u8)
+}
+
+/// A result at the destination of the operand that gets it.
+#[inline(always)]
+fn put_result(target: Target, o: &Values, w: Width, value: u32, plan: &mut Plan)
+    requires room { array_vec_len plan.old.writes < 20 }
+    ensures { (r : List ℕ) → effect plan.new ≡ put (target_of target (joined o.now r)) w value (effect plan.old) }
+{
+    let number = number_of(target);
+    if number > 0 {
+        put(&o.dests[number - 1], w, value, plan);
     }
 }
 
 /// An operation of the arithmetic in a width.
+#[inline(always)]
 #[tactic(auto, unfolding(vax_table::specs::Computing::computed))]
 pub fn compute(
     op: AluOp,
@@ -74,12 +105,13 @@ pub fn compute(
     requires { w ≢ Width.Quad }
     ensures { effect plan.new ≡ computed op w inputs target (joined o.now plan.old.r) psw }
 {
-    let x = alu(op, first_input(inputs, o), second_input(inputs, o), w, psw);
+    let (first, second) = numbers(inputs, o);
+    let x = alu(op, first, second, w, psw);
     begin(plan, x.psw);
     if let Some(kind) = x.trap {
         plan.trap = Some(kind);
     }
-    plan.put(target_of(target, o), w, u64::from(x.value));
+    put_result(target, o, w, x.value, plan);
 }
 
 /// CLRQ and MOVQ: a quadword at the destination of the operand of this number, with its codes; C stays.

@@ -5,38 +5,35 @@ ghost use Rattle.vax_table.specs.Plan.{is_planned, performed, planned};
 ghost use Rattle.vax_table.specs.Script.{outcome};
 ghost use Rattle.vax_table.specs.Spelling.{IsWellFormed, view};
 ghost use Rattle.vax_operand.specs.Left.{joined, left};
+ghost use Rattle.vax_exec.specs.Other.{is_other};
 
 use crate::compute::{compute, move_quad};
 use crate::status::{clear_status, set_status};
 use arrayvec::ArrayVec;
 use vax_arch::Psl;
 use vax_decode::Decoded;
-use vax_flow::{begin, flow};
+use vax_flow::{begin, branch, flow};
 use vax_operand::{Operands, Prepared, Space, Trouble, Values, evaluate, evaluate_into};
 use vax_table::effect::Plan;
 use vax_table::{Operation, operation};
 
-/// What an instruction does behind its operands.
+/// What an instruction does behind its operands that neither computes nor branches by the codes alone.
+#[inline(never)]
 #[tactic(auto, unfolding(vax_table::specs::Plan::performed))]
-fn perform<S: Space>(
+fn perform_other<S: Space>(
     s: &S,
     what: Operation,
     o: &Values,
-    psl: Psl,
+    psw: u8,
     plan: &mut Plan,
 ) -> Result<(), Trouble>
-    requires planned { is_planned what ≡ true }
+    requires other { is_other what ≡ true }
     requires narrow { is_narrow what ≡ true }
-    ensures { left result (effect plan.new) ≡ outcome (S.space s.now) (performed what (joined o.now plan.old.r) (psl.0 % 2 ^ 8)) }
+    ensures { left result (effect plan.new) ≡ outcome (S.space s.now) (performed what (joined o.now plan.old.r) psw) }
 {
-    let psw = (psl.0 % 0x100) as u8;
     match what {
         Operation::Nothing => {
             begin(plan, psw);
-            Ok(())
-        }
-        Operation::Compute(op, w, inputs, target) => {
-            compute(op, w, inputs, target, o, psw, plan);
             Ok(())
         }
         Operation::ClearQuad => {
@@ -51,6 +48,32 @@ fn perform<S: Space>(
         Operation::ClearStatus => clear_status(o, psw, plan),
         _ => flow(s, what, o, psw, plan),
     }
+}
+
+/// What an instruction does behind its operands.
+#[inline(always)]
+#[tactic(auto, unfolding(vax_table::specs::Plan::performed))]
+fn perform<S: Space>(
+    s: &S,
+    what: &Operation,
+    o: &Values,
+    psl: Psl,
+    plan: &mut Plan,
+) -> Result<(), Trouble>
+    requires planned { is_planned what.now ≡ true }
+    requires narrow { is_narrow what.now ≡ true }
+    ensures { left result (effect plan.new) ≡ outcome (S.space s.now) (performed what.now (joined o.now plan.old.r) (psl.0 % 2 ^ 8)) }
+{
+    let psw = (psl.0 % 0x100) as u8;
+    if let Operation::Compute(op, w, inputs, target) = *what {
+        compute(op, w, inputs, target, o, psw, plan);
+        return Ok(());
+    }
+    if let Operation::Branch(condition) = *what {
+        branch(condition, o, psw, plan);
+        return Ok(());
+    }
+    perform_other(s, *what, o, psw, plan)
 }
 
 /// What a plain instruction comes to that is neither MOVPSL nor PROBE, BPT or XFC: `psl` is the processor status longword,
@@ -71,7 +94,7 @@ pub fn plan_into<S: Space>(
     ensures { left result (effect plan.new) ≡ outcome (S.space s.now) (planned (view e.now.decoded) plan.old.r (psl.0 % 2 ^ 8)) }
 {
     evaluate_into(s, e, &mut plan.r, o)?;
-    perform(s, e.operation, o, psl, plan)
+    perform(s, &e.operation, o, psl, plan)
 }
 
 /// What a plain instruction comes to, as `plan_into` gives it; `r` is R0 to R15 before it.
@@ -90,7 +113,7 @@ pub fn plan<S: Space>(s: &S, d: &Decoded, r: &[u32; 16], psl: Psl) -> Result<Pla
     };
     perform(
         s,
-        operation(d.opcode),
+        &operation(d.opcode),
         &Values { values, dests },
         psl,
         &mut plan,

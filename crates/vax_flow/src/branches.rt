@@ -26,21 +26,20 @@ fn has(psw: u8, k: u32) -> bool
 pub fn holds(condition: Condition, psw: u8) -> bool
     ensures { result ≡ holds condition psw }
 {
-    let (c, v, z, n) = (has(psw, 0), has(psw, 1), has(psw, 2), has(psw, 3));
     match condition {
         Condition::Always => true,
-        Condition::NotEqual => !z,
-        Condition::Equal => z,
-        Condition::Greater => !(n || z),
-        Condition::LessOrEqual => n || z,
-        Condition::GreaterOrEqual => !n,
-        Condition::Less => n,
-        Condition::GreaterUnsigned => !(c || z),
-        Condition::LessOrEqualUnsigned => c || z,
-        Condition::OverflowClear => !v,
-        Condition::OverflowSet => v,
-        Condition::CarryClear => !c,
-        Condition::CarrySet => c,
+        Condition::NotEqual => !has(psw, 2),
+        Condition::Equal => has(psw, 2),
+        Condition::Greater => !(has(psw, 3) || has(psw, 2)),
+        Condition::LessOrEqual => has(psw, 3) || has(psw, 2),
+        Condition::GreaterOrEqual => !has(psw, 3),
+        Condition::Less => has(psw, 3),
+        Condition::GreaterUnsigned => !(has(psw, 0) || has(psw, 2)),
+        Condition::LessOrEqualUnsigned => has(psw, 0) || has(psw, 2),
+        Condition::OverflowClear => !has(psw, 1),
+        Condition::OverflowSet => has(psw, 1),
+        Condition::CarryClear => !has(psw, 0),
+        Condition::CarrySet => has(psw, 0),
     }
 }
 

@@ -1,6 +1,8 @@
 ghost use Rattle.std.specs.Prelude.{◌≡◌, ◌≤◌, ◌<◌, IfSome};
+ghost use Rattle.vax_arch.specs.declared.mode.Intent.TheVariants.{Read};
 ghost use Rattle.vax_table.specs.Operand.{indexed_by, place};
-ghost use Rattle.vax_table.specs.Script.{outcome};
+ghost use Rattle.vax_table.specs.Script.{number_at, outcome};
+ghost use Rattle.vax_table.specs.Troubles.{told};
 ghost use Rattle.vax_operand.specs.Left.{placed};
 ghost use Rattle.vax_operand.specs.Prepared.{IsAddressed, address_by, base_by};
 
@@ -9,6 +11,14 @@ use crate::space::Space;
 use vax_table::Spec;
 use vax_table::evaluation::Trouble;
 use vv_base::Width;
+
+/// The longword from an address, which is an address again.
+#[inline(never)]
+fn pointer<S: Space>(space: &S, va: u32) -> Result<u32, Trouble>
+    ensures { told result ≡ number_at (S.space space.now) Read 4 va }
+{
+    Ok(space.read(va, Width::Long)? as u32)
+}
 
 /// The address that a base and its register give for an operand of `size` bytes, whose side effect is on `r`.
 #[inline(always)]
@@ -38,15 +48,13 @@ fn base_address<S: Space>(
             x
         }
         Base::IncrementDeferred => {
-            let at = space.read(x, Width::Long)?;
+            let at = pointer(space, x)?;
             r[n] = x.wrapping_add(4);
-            at as u32
+            at
         }
         Base::Absolute(at) => at,
         Base::Displaced(displacement) => x.wrapping_add(displacement),
-        Base::DisplacedDeferred(displacement) => {
-            space.read(x.wrapping_add(displacement), Width::Long)? as u32
-        }
+        Base::DisplacedDeferred(displacement) => pointer(space, x.wrapping_add(displacement))?,
     };
     Ok(at)
 }

@@ -16,6 +16,12 @@ use vax_table::evaluation::{Operands, Trouble};
 use vax_table::{Access, Dest, Form};
 use vv_base::Width;
 
+/// No operands.
+const NONE: Values = Values {
+    values: [0; 4],
+    dests: [Dest::Nowhere; 4],
+};
+
 /// No operands yet, and PC behind the opcode, which has one byte, or two for WAIT.
 #[inline(always)]
 fn begin(d: &Decoded, r: &mut [u32; 16], v: &mut Values)
@@ -23,13 +29,10 @@ fn begin(d: &Decoded, r: &mut [u32; 16], v: &mut Values)
     ensures registers { length r.old ≡ 16 }
 {
     r[15] = r[15].wrapping_add(if d.wait { 2 } else { 1 });
-    *v = Values {
-        values: [0; 4],
-        dests: [Dest::Nowhere; 4],
-    };
+    *v = NONE;
 }
 
-/// The operands, in order.
+/// The operands, in order. Nearly each instruction has a first, so that one stands by itself.
 #[inline(always)]
 #[tactic(auto, using(vax_table::proofs::Scripts::binds))]
 fn evaluate_all<S: Space>(
@@ -42,8 +45,13 @@ fn evaluate_all<S: Space>(
     ensures outcome { left result (joined v.new r.new) ≡ outcome (S.space space.now) (operands_from 0 (map (λ x. x.form) operands.now) (map (λ x. x.spec) operands.now) (joined v.old r.old)) }
     ensures fits { OnOk result (AllFit (map (λ x. x.form) operands.now) (joined v.new r.new)) }
 {
-    for (i, operand) in operands.iter().enumerate() {
-        operand_of(space, operand, r, &mut v.values[i], &mut v.dests[i])?;
+    let n = operands.len();
+    if n == 0 {
+        return Ok(());
+    }
+    operand_of(space, &operands[0], r, &mut v.values[0], &mut v.dests[0])?;
+    for i in 1..n {
+        operand_of(space, &operands[i], r, &mut v.values[i], &mut v.dests[i])?;
     }
     Ok(())
 }
