@@ -125,7 +125,7 @@ plan_found s kernel psl d r e plain h =
     ap (outcome s) (plain_acts kernel psl (operation_of d.opcode) d r plain)
     ∙ found_on s (plan_of psl d r) (λ x. Done (meant d.opcode (Plain x))) e (meant d.opcode (Plain e)) (ap (outcome s) (plans_planned psl d r plain) ∙ h) refl
 
-pub known_settled : (memory : List ℕ) (w : World) (ks : List Known) (kernel : Bool) (psl : ℕ) (r : List ℕ) (d : Instruction) (e : Effect) → AreKnown w ks → is_planned (operation_of d.opcode) ≡ true →
+pub known_settled : (memory : List ℕ) (w : World) (ks : List Known) (kernel : Bool) (psl : ℕ) (r : List ℕ) (d : Instruction) (e : Effect) → AreKnown memory w ks → is_planned (operation_of d.opcode) ≡ true →
     Ok d ≡ exits (outcome (paged memory w) (fetched (slice_index r 15))) → Ok e ≡ outcome (known_space memory ks) (planned d r (psl % 2 ^ 8)) →
     None ≡ first_clear (is_clear_for memory w) (bytes_of_stores e.writes) → Ok (d.opcode, e) ≡ settled_meaning memory w (exits (outcome (paged memory w) (instruction kernel psl r)))
 unfolding instruction

@@ -2,6 +2,8 @@ ghost use Rattle.std.specs.Prelude.{◌≡◌, ◌%◌, ◌+◌, ◌≤◌, ◌<
 ghost use Rattle.vax_arch.specs.declared.mode.Intent.TheVariants.{Read};
 ghost use Rattle.vax_hw.specs.RealTables.{everywhere};
 ghost use Rattle.vax_table.specs.Fetch.{fetched};
+ghost use Rattle.vax_table.specs.Operations.{operation_of};
+ghost use Rattle.vax_table.specs.Plan.{is_planned};
 ghost use Rattle.vax_table.specs.Reading.{Whole, decoded_at};
 ghost use Rattle.vax_table.specs.Script.{number_at, outcome};
 ghost use Rattle.vax_table.specs.Spelling.{IsWellFormed, view};
@@ -9,14 +11,13 @@ ghost use Rattle.vax_cpu.specs.Fetched.{byte_view, exits, kept_view, refusal_of,
 ghost use Rattle.vax_paged.specs.Known.{AreKnown};
 ghost use Rattle.vax_paged.specs.Paged.{paged};
 
-use crate::kept::{Kept, is_planned};
+use crate::kept::{Kept, reach_of};
 use crate::stop::{Fault, fault_of};
 use arrayvec::ArrayVec;
 use vax_decode::{Decode, DecodeFault, Decoded, decode};
 use vax_hw::{Refusal, World};
 use vax_operand::Prepared;
 use vax_paged::{Mapped, Paged, number_in};
-use vax_table::operation;
 use vv_base::Width;
 
 /// Why bytes that spell nothing are refused.
@@ -82,13 +83,14 @@ fn has(space: &Paged, kept: &Kept, pc: u32) -> bool
     }
 }
 
-/// The same by a page that is known.
+/// The same of an instruction that `plan_into` plans, by a page that is known.
 pub fn has_known(space: &Mapped, world: &World, kept: &Kept, pc: u32) -> bool
-    requires { AreKnown world.now space.now.known.now }
+    requires { AreKnown space.now.memory.now world.now space.now.known.now }
     ensures fetched { result ≡ true → Ok (view kept.now.prepared.decoded) ≡ exits (outcome (paged space.now.memory.now world.now) (fetched pc)) }
     ensures formed { result ≡ true → IsWellFormed (view kept.now.prepared.decoded) }
+    ensures planned { result ≡ true → is_planned (operation_of kept.now.prepared.decoded.opcode) ≡ true }
 {
-    if !is_in_page(pc, kept.prepared.decoded.length) {
+    if 512 - pc % 512 < kept.reach {
         return false;
     }
     match space.place(pc, false) {
@@ -119,11 +121,11 @@ fn keep(bytes: &[u8], window: &[u8; 24], decoded: Decoded) -> Kept
 {
     let mut kept = *window;
     kept[..bytes.len()].copy_from_slice(bytes);
-    let is_plain = is_planned(operation(decoded.opcode));
+    let reach = reach_of(&decoded);
     Kept {
         bytes: kept,
         prepared: Prepared::new(decoded),
-        is_plain,
+        reach,
     }
 }
 

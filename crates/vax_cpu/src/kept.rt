@@ -1,4 +1,4 @@
-ghost use Rattle.std.specs.Prelude.{◌≡◌, ◌<◌, ℕ, [], length, slice_index, take};
+ghost use Rattle.std.specs.Prelude.{◌≡◌, ◌≤◌, ◌<◌, true, ℕ, [], length, slice_index, take};
 ghost use Rattle.vax_table.specs.Operations.{operation_of};
 ghost use Rattle.vax_table.specs.Plan.{is_planned};
 ghost use Rattle.vax_table.specs.Reading.{Whole, decoded_at};
@@ -14,12 +14,14 @@ use vax_table::{Operation, operation};
 pub struct Kept {
     pub bytes: [u8; 24],
     pub prepared: Prepared,
-    /// Whether it is one of the instructions that `plan_into` plans.
-    pub is_plain: bool,
+    /// How many bytes it has, if it is one of the instructions that `plan_into` plans; else more than a page has.
+    pub reach: u32,
     ghost sized: { length bytes ≡ 24 },
     ghost small: { (i : ℕ) → slice_index bytes i < 256 },
     ghost spelled: { decoded_at (take prepared.decoded.length bytes) ≡ Whole (view prepared.decoded) [] },
-    ghost planned: { is_plain ≡ is_planned (operation_of prepared.decoded.opcode) },
+    ghost whole: { reach ≤ 512 → reach ≡ prepared.decoded.length },
+    ghost short: { reach ≤ 512 → reach ≤ 24 },
+    ghost planned: { reach ≤ 512 → is_planned (operation_of prepared.decoded.opcode) ≡ true },
 }
 
 /// Whether an operation is one of those that `plan_into` plans.
@@ -34,6 +36,19 @@ pub fn is_planned(what: Operation) -> bool
         | Operation::Breakpoint
         | Operation::Customer => false,
         _ => true,
+    }
+}
+
+/// How many bytes an instruction has that is kept, as far as that is asked.
+pub fn reach_of(decoded: &Decoded) -> u32
+    ensures whole { result ≤ 512 → result ≡ decoded.now.length }
+    ensures short { result ≤ 512 → result ≤ 24 }
+    ensures planned { result ≤ 512 → is_planned (operation_of decoded.now.opcode) ≡ true }
+{
+    if is_planned(operation(decoded.opcode)) && decoded.length <= 24 {
+        u32::from(decoded.length)
+    } else {
+        1024
     }
 }
 
@@ -52,7 +67,7 @@ impl Kept {
                 length: 2,
                 specs: ArrayVec::new(),
             }),
-            is_plain: is_planned(operation(0xFD)),
+            reach: 1024,
         }
     }
 }

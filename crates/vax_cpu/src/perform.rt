@@ -257,7 +257,7 @@ pub fn attempt_known(
 {
     let world = state.world();
     let space = state.mapped(missed);
-    if !kept.is_plain || !has_known(&space, world, kept, plan.r[15]) {
+    if !has_known(&space, world, kept, plan.r[15]) {
         return false;
     }
     match plan_into(&space, &kept.prepared, seen_psl(world), o, plan) {

@@ -38,7 +38,7 @@ impl Model for State {
 
     ghost view = { λ m. record { memory = m.memory.items; world = m.world; retired = m.retired; trail = m.trail; misses = m.misses } };
 
-    ghost invariant = { λ m. (length m.memory.items ≡ 512 * m.pages) × (1 ≤ m.pages) × (m.pages ≤ 65536) × AreAllKnown (tables_of m.world) m.known };
+    ghost invariant = { λ m. (length m.memory.items ≡ 512 * m.pages) × (1 ≤ m.pages) × (m.pages ≤ 65536) × AreAllKnown m.memory.items (tables_of m.world) m.known };
 }
 
 /// What an instruction adds to the trail.
@@ -112,7 +112,7 @@ impl State {
             retired: 0,
             trail: 0,
             misses: 0,
-            known: KnownPages::nothing(),
+            known: KnownPages::nothing(alloc, pages)?,
         })
     }
 
@@ -143,7 +143,7 @@ impl State {
     /// The memory by the pages that are known. The number of a page that is missed goes to `missed`.
     pub fn mapped<'a>(&'a self, missed: &'a Cell<u32>) -> Mapped<'a>
         ensures memory { result.memory.now ≡ self.now.memory }
-        ensures known { AreKnown self.now.world result.known.now }
+        ensures known { AreKnown self.now.memory self.now.world result.known.now }
     {
         Mapped {
             memory: &self.memory,
@@ -167,8 +167,8 @@ impl State {
             memory: &self.memory,
             world: &self.world,
         };
-        if let Some(known) = space.looked_up(page) {
-            self.known.learn(self.world.psl.current(), known);
+        if let Some(learned) = space.looked_up(page) {
+            self.known.learn(self.world.psl.current(), page, learned);
         }
     }
 
@@ -207,7 +207,9 @@ impl State {
         requires { place + 4 ≤ length self.old.memory }
         ensures { self.new ≡ (record self.old { memory = overwritten self.old.memory place (long_bytes v) }) }
     {
-        put_u32(&mut self.memory, place as usize, v);
+        let place = place as usize;
+        put_u32(&mut self.memory, place, v);
+        self.known.stored(place, place + 3);
     }
 
     /// Loads both status longwords and the table registers.
@@ -218,7 +220,7 @@ impl State {
             self.world = *w;
             return;
         }
-        self.known = KnownPages::nothing();
+        self.known.forget();
         self.world = *w;
     }
 
@@ -228,10 +230,14 @@ impl State {
     {
         self.trail = self.trail.wrapping_add(term(pc, opcode, &plan.r));
         self.retired = self.retired.wrapping_add(1);
-        let mode = self.world.psl.current();
-        let known = self.known.of(mode);
         let stores = plan.writes.as_slice();
-        store_all(&mut self.memory, &self.world, known, missed, stores);
+        store_all(
+            &mut self.memory,
+            &self.world,
+            &mut self.known,
+            missed,
+            stores,
+        );
         self.world.psl = with_psw(self.world.psl, plan.psw);
     }
 

@@ -93,8 +93,8 @@ pub number_there : (memory : List ℕ) (w : World) (i : Intent) (k va : ℕ) (r 
 number_there memory w i k va r small some h e = number_by memory (placed memory w) i (next_place memory w i) k va r small some h e
 
 -- and so is one of a known page
-pub number_known : (memory : List ℕ) (ks : List Known) (i : Intent) (k va : ℕ) (r : Result ℕ Trouble) → va < 2 ^ 32 → 0 < k → va % 512 + k ≤ 512 → r ≡ at_byte i va (place_known memory ks i va) → numbered memory k r ≡ number_at (known_space memory ks) i k va
-number_known memory ks i k va r small some h e = number_by memory (place_known memory ks) i (next_known memory ks i) k va r small some h e
+pub number_known : (memory : List ℕ) (ks : List Known) (i : Intent) (k va : ℕ) (r : Result ℕ Trouble) → va < 2 ^ 32 → 0 < k → va % 512 + k ≤ 512 → r ≡ at_byte i va (place_known ks i va) → numbered memory k r ≡ number_at (known_space memory ks) i k va
+number_known memory ks i k va r small some h e = number_by memory (place_known ks) i (next_known ks i) k va r small some h e
 
 -- an address that has a place has it by the walk
 pub placed_ok : (i : Intent) (va p : ℕ) (x : Result ℕ Cause) → Ok p ≡ at_byte i va x → x ≡ Ok p
@@ -150,6 +150,23 @@ stored_there before w (suc zero) va p v memory small h e = byte_stored (written_
 stored_there before w (suc (suc k)) va p v memory small h e =
     byte_stored (written_place before w) (suc k) va p v memory small (found_place before w va p e)
     ∙ stored_there before w (suc k) (va + 1) (p + 1) (v / 256) (slice_set memory p (v % 256)) (omega arith) (omega arith) (next_place before w Write va p (omega arith) e)
+
+-- an address's place in its frame is that in its page
+frame_by : (va p : ℕ) (g : Grant) → place_by va g ≡ Ok p → p % 512 ≡ va % 512
+frame_by va p (Granted frame) e = let same : 512 * frame + va % 512 ≡ p = cc in omega (arith, same)
+frame_by va p Refused e = cc
+frame_by va p Absent e = cc
+frame_by va p Past e = cc
+
+frame_in : (memory : List ℕ) (va p : ℕ) (m : Mode) (i : Intent) (l : Lookup) → placed_by memory va m i l ≡ Ok p → p % 512 ≡ va % 512
+frame_in memory va p m i (Found place table) e = frame_by va p (granted may_of everywhere (long_at memory place) m i) e
+frame_in memory va p m i (Direct frame) e = let same : va ≡ p = cc in ap (λ (n : ℕ). n % 512) (sym same)
+frame_in memory va p m i (Fails not_valid parameter) e = cc
+frame_in memory va p m i Beyond e = cc
+
+pub placed_frame : (memory : List ℕ) (w : World) (i : Intent) (va p : ℕ) → placed memory w i va ≡ Ok p → p % 512 ≡ va % 512
+unfolding place_in
+placed_frame memory w i va p e = frame_in memory va p (current_of w.psl.0) i (real_look memory (tables_of w) (page_of va)) e
 
 -- a store that lies whole in one page
 pub whole_stored : (memory new : List ℕ) (w : World) (x : Store) (p : ℕ) → IsWhole memory w x p → new ≡ stored_from (size_of x.width) p x.value memory → new ≡ all_stored (written_place memory w) (x ∷ []) memory

@@ -1,7 +1,8 @@
 -- A page that is known gives an address the place that the tables give it.
-use Rattle.std.proofs.Common.{◌≡◌, ℕ, ◌+◌, ◌*◌, ◌%◌, ◌<◌, Bool, true, false, List, Option, Some, None, Result, Ok, Err, refl, ap, sym, ◌∙◌, subst, arith}
-use Rattle.std.specs.Prelude.{if◌then◌else◌, ◌==◌, ◌&&◌, not}
+use Rattle.std.proofs.Common.{◌≡◌, ℕ, ◌+◌, ◌*◌, ◌%◌, ◌^◌, ◌<◌, Bool, true, false, List, Option, Some, None, Result, Ok, Err, refl, ap, sym, ◌∙◌, subst, arith}
+use Rattle.std.specs.Prelude.{if◌then◌else◌, ◌==◌, ◌&&◌, not, nat_lt}
 use Rattle.std.specs.List.{slice_get}
+use Rattle.std.proofs.lemmas.Bool.Decides.{nat_tests}
 use Rattle.std.proofs.lemmas.Option.{get_or_from_slice_get, slice_get_within}
 use Rattle.vv_base.specs.Bytes.{long_at}
 use Rattle.vax_arch.specs.Fields.{current_of, frame_of, is_modified}
@@ -20,7 +21,7 @@ use Rattle.vax_hw.specs.declared.world.World.{World}
 use Rattle.vax_table.specs.Script.{Below, Cause}
 use Rattle.vax_table.specs.Script as script
 use Rattle.vax_table.proofs.Tests.{eq_of}
-use Rattle.vax_paged.specs.Known.{AreKnown, IsKnown, is_there, known_space, may_be, place_in_known, place_known}
+use Rattle.vax_paged.specs.Known.{AreKnown, IsKnownIn, known_space, page_for, place_in_known, place_known}
 use Rattle.vax_paged.specs.Paged.{is_clear_for, look_of, paged, placed}
 use Rattle.vax_paged.specs.declared.entries.Look.TheVariants as looks
 use Rattle.vax_paged.specs.declared.known.Known.{Known}
@@ -41,21 +42,81 @@ looked_again memory other w page place found same =
     let (table, is) = found_in place (real_look memory (tables_of w) page) found in
     (table, looks_at_one everywhere memory other (tables_of w) page same ∙ is)
 
-pub known_by : (memory : List ℕ) (w : World) (page table table_entry place entry base : ℕ) (m : Mode) (r x : Bool) →
-    looks.Found place ≡ look_of (real_look memory (tables_of w) page) → table ≡ table_place (tables_of w) page → table_entry ≡ long_at memory table →
-    base ≡ 512 * frame_of entry → m ≡ current_of w.psl.0 →
-    (r ≡ true → (va : ℕ) → place_by va (granted may_of everywhere entry m Read) ≡ Ok (512 * frame_of entry + va % 512)) →
-    (x ≡ true → (va : ℕ) → place_by va (granted may_of everywhere entry m Write) ≡ Ok (512 * frame_of entry + va % 512)) →
-    (x ≡ true → is_modified entry ≡ true) →
-    IsKnown w (record { page = page; table = table; table_entry = table_entry; place = place; entry = entry; base = base; may_read = r; may_write = x })
-known_by memory w page table table_entry place entry base m r x found at is first mode reads writes modified =
-    let moved : (va : ℕ) → (let y : Result ℕ Cause = Ok (512 * frame_of entry + va % 512) in y ≡ Ok (base + va % 512)) = λ va. ap (λ (n : ℕ). Ok (n + va % 512)) (sym first) in
-    record {
-      looks = λ i may other same. looked_again memory other w page place found (ap (long_at other) (sym at) ∙ same ∙ is ∙ ap (long_at memory) at);
-      reads = λ h va. ap (λ (n : Mode). place_by va (granted may_of everywhere entry n Read)) (sym mode) ∙ reads h va ∙ moved va;
-      writes = λ h va. ap (λ (n : Mode). place_by va (granted may_of everywhere entry n Write)) (sym mode) ∙ writes h va ∙ moved va;
-      modified = modified;
-    }
+-- a page that is open
+opened : (t : Bool) (page p : ℕ) → p < 2 ^ 23 → (if t then page else 4294967295) ≡ p → (t ≡ true) × (page ≡ p)
+opened true page p h e = (refl, e)
+opened false page p h e = absurd (omega (arith, e))
+
+-- an entry that opens its page so
+abbrev Opens : (entry : ℕ) → Mode → Intent → Type 0
+Opens entry m i = (va : ℕ) → place_by va (granted may_of everywhere entry m i) ≡ Ok (512 * frame_of entry + va % 512)
+
+-- its pages for reading and for writing, and what its modify bit says
+record Entry (entry : ℕ) (m : Mode) (r x : Bool) : Type 0 where
+  reads : r ≡ true → Opens entry m Read
+  writes : x ≡ true → Opens entry m Write
+  modified : x ≡ true → is_modified entry ≡ true
+
+-- what was found of a page
+record Looked (memory other : List ℕ) (w : World) (page table place entry : ℕ) : Type 0 where
+  found : looks.Found place ≡ look_of (real_look memory (tables_of w) page)
+  at : table ≡ table_place (tables_of w) page
+  is : entry ≡ long_at memory place
+  same_table : long_at other table ≡ long_at memory table
+  same_entry : long_at other place ≡ long_at memory place
+
+found_again : (memory other : List ℕ) (w : World) (page table place entry : ℕ) → Looked memory other w page table place entry → (x : Option ℕ) × (real_look other (tables_of w) page ≡ Found place x)
+found_again memory other w page table place entry l =
+    looked_again memory other w page place l.found (ap (long_at other) (sym l.at) ∙ l.same_table ∙ ap (long_at memory) l.at)
+
+entry_again : (memory other : List ℕ) (w : World) (page table place entry : ℕ) → Looked memory other w page table place entry → long_at other place ≡ entry
+entry_again memory other w page table place entry l = l.same_entry ∙ sym l.is
+
+placed_again : (memory other : List ℕ) (w : World) (page table place entry va : ℕ) (m : Mode) (i : Intent) → Looked memory other w page table place entry → page ≡ page_of va → Opens entry m i → place_in other (tables_of w) m i va ≡ Ok (512 * frame_of entry + va % 512)
+unfolding place_in
+placed_again memory other w page table place entry va m i l here opens =
+    let (x, is) = found_again memory other w page table place entry l in
+    ap (λ (n : ℕ). placed_by other va m i (real_look other (tables_of w) n)) (sym here)
+    ∙ ap (placed_by other va m i) is
+    ∙ ap (λ (n : ℕ). place_by va (granted may_of everywhere n m i)) (entry_again memory other w page table place entry l)
+    ∙ opens va
+
+placed_open : (memory other : List ℕ) (w : World) (page table place entry va : ℕ) (m : Mode) (i : Intent) (t : Bool) → Looked memory other w page table place entry → va < 2 ^ 32 → (t ≡ true → Opens entry m i) → (if t then page else 4294967295) ≡ page_of va → place_in other (tables_of w) m i va ≡ Ok (512 * frame_of entry + va % 512)
+placed_open memory other w page table place entry va m i t l small opens e =
+    let (holds, here) = opened t page (page_of va) (omega arith) e in
+    placed_again memory other w page table place entry va m i l here (opens holds)
+
+clear_open : (memory other : List ℕ) (w : World) (page table place entry va : ℕ) (t : Bool) → Looked memory other w page table place entry → va < 2 ^ 32 → (t ≡ true → is_modified entry ≡ true) → (if t then page else 4294967295) ≡ page_of va → is_clear_for other w va ≡ false
+clear_open memory other w page table place entry va t l small modified e =
+    let (holds, here) = opened t page (page_of va) (omega arith) e in
+    let (x, is) = found_again memory other w page table place entry l in
+    ap (λ (n : ℕ). is_clear_at other (real_look other (tables_of w) n)) (sym here)
+    ∙ ap (is_clear_at other) is
+    ∙ ap (λ (n : ℕ). not (is_modified n)) (entry_again memory other w page table place entry l)
+    ∙ ap not (modified holds)
+
+placed_as : (memory other : List ℕ) (w : World) (page table place entry : ℕ) (m : Mode) (r x : Bool) → Looked memory other w page table place entry → Entry entry m r x →
+    (i : Intent) (va : ℕ) → va < 2 ^ 32 → page_for i (record { read_page = if r then page else 4294967295; write_page = if x then page else 4294967295; base = 512 * frame_of entry }) ≡ page_of va → place_in other (tables_of w) m i va ≡ Ok (512 * frame_of entry + va % 512)
+placed_as memory other w page table place entry m r x l e Read va small here = placed_open memory other w page table place entry va m Read r l small e.reads here
+placed_as memory other w page table place entry m r x l e Write va small here = placed_open memory other w page table place entry va m Write x l small e.writes here
+
+known_as : (memory other : List ℕ) (w : World) (page table place entry : ℕ) (m : Mode) (r x : Bool) → Looked memory other w page table place entry → Entry entry m r x →
+    IsKnownIn other (tables_of w) m (record { read_page = if r then page else 4294967295; write_page = if x then page else 4294967295; base = 512 * frame_of entry })
+known_as memory other w page table place entry m r x l e = record {
+  placed = λ i va small here. placed_as memory other w page table place entry m r x l e i va small here;
+  modified = λ va small here. clear_open memory other w page table place entry va x l small e.modified here;
+}
+
+pub known_by : (memory : List ℕ) (w : World) (page table place entry read_page write_page base : ℕ) (m : Mode) (r x : Bool) →
+    looks.Found place ≡ look_of (real_look memory (tables_of w) page) → table ≡ table_place (tables_of w) page → entry ≡ long_at memory place → m ≡ current_of w.psl.0 →
+    (r ≡ true → Opens entry m Read) → (x ≡ true → Opens entry m Write) → (x ≡ true → is_modified entry ≡ true) →
+    read_page ≡ (if r then page else 4294967295) → write_page ≡ (if x then page else 4294967295) → base ≡ 512 * frame_of entry →
+    (other : List ℕ) → long_at other table ≡ long_at memory table → long_at other place ≡ long_at memory place →
+    IsKnownIn other (tables_of w) (current_of w.psl.0) (record { read_page = read_page; write_page = write_page; base = base })
+known_by memory w page table place entry read_page write_page base m r x found at is mode reads writes modified read_is write_is base_is other same_table same_entry =
+    let l : Looked memory other w page table place entry = record { found = found; at = at; is = is; same_table = same_table; same_entry = same_entry } in
+    let e : Entry entry m r x = record { reads = reads; writes = writes; modified = modified } in
+    rw (read_is, write_is, base_is, ← mode) (known_as memory other w page table place entry m r x l e)
 
 -- What is known gives a place.
 
@@ -67,62 +128,47 @@ chosen : (t : Bool) (a p : ℕ) (c : Cause) → (let y : Result ℕ Cause = if t
 chosen true a p c h = let same : a ≡ p = cc in (refl, same)
 chosen false a p c h = cc
 
+below_of : (a b : ℕ) → nat_lt a b ≡ true → a < b
+below_of a b h = grind (arith, nat_tests)
+
 -- a known page by which an address has a place
 record Gives (memory : List ℕ) (w : World) (i : Intent) (va p : ℕ) (k : Known) : Type 0 where
-  known : IsKnown w k
-  page : k.page ≡ page_of va
-  may : may_be i k ≡ true
-  table : long_at memory k.table ≡ k.table_entry
-  entry : long_at memory k.place ≡ k.entry
+  known : IsKnownIn memory (tables_of w) (current_of w.psl.0) k
+  page : page_for i k ≡ page_of va
+  small : va < 2 ^ 32
   place : k.base + va % 512 ≡ p
 
-given_in : (memory : List ℕ) (w : World) (i : Intent) (va p : ℕ) (o : Option Known) → ((k : Known) → o ≡ Some k → IsKnown w k) → place_in_known memory i va o ≡ Ok p → (k : Known) × Gives memory w i va p k
+given_in : (memory : List ℕ) (w : World) (i : Intent) (va p : ℕ) (o : Option Known) → ((k : Known) → o ≡ Some k → IsKnownIn memory (tables_of w) (current_of w.psl.0) k) → place_in_known i va o ≡ Ok p → (k : Known) × Gives memory w i va p k
 given_in memory w i va p None all h = cc
 given_in memory w i va p (Some k) all h =
-    let (holds, place) = chosen ((k.page == page_of va) && may_be i k && is_there memory k) (k.base + va % 512) p script.Absent h in
-    let (front, there) = both_are ((k.page == page_of va) && may_be i k) (is_there memory k) holds in
-    let (page, may) = both_are (k.page == page_of va) (may_be i k) front in
-    let (table, entry) = both_are (long_at memory k.table == k.table_entry) (long_at memory k.place == k.entry) there in
-    (k, record { known = all k refl; page = eq_of k.page (page_of va) page; may = may; table = eq_of (long_at memory k.table) k.table_entry table; entry = eq_of (long_at memory k.place) k.entry entry; place = place })
+    let (holds, place) = chosen ((page_for i k == page_of va) && nat_lt va (2 ^ 32)) (k.base + va % 512) p script.Absent h in
+    let (page, small) = both_are (page_for i k == page_of va) (nat_lt va (2 ^ 32)) holds in
+    (k, record { known = all k refl; page = eq_of (page_for i k) (page_of va) page; small = below_of va (2 ^ 32) small; place = place })
 
-is_known : (w : World) (ks : List Known) (n : ℕ) → AreKnown w ks → (k : Known) → slice_get ks n ≡ Some k → IsKnown w k
-is_known w ks n all k e = subst (IsKnown w) (get_or_from_slice_get ks n k k e) (all n k (slice_get_within ks n k e))
+is_known : (memory : List ℕ) (w : World) (ks : List Known) (n : ℕ) → AreKnown memory w ks → (k : Known) → slice_get ks n ≡ Some k → IsKnownIn memory (tables_of w) (current_of w.psl.0) k
+is_known memory w ks n all k e = subst (IsKnownIn memory (tables_of w) (current_of w.psl.0)) (get_or_from_slice_get ks n k k e) (all n k (slice_get_within ks n k e))
 
-given : (memory : List ℕ) (w : World) (ks : List Known) (i : Intent) (va p : ℕ) → AreKnown w ks → place_known memory ks i va ≡ Ok p → (k : Known) × Gives memory w i va p k
-given memory w ks i va p all h = given_in memory w i va p (slice_get ks (page_of va % 64)) (is_known w ks (page_of va % 64) all) h
+given : (memory : List ℕ) (w : World) (ks : List Known) (i : Intent) (va p : ℕ) → AreKnown memory w ks → place_known ks i va ≡ Ok p → (k : Known) × Gives memory w i va p k
+given memory w ks i va p all h = given_in memory w i va p (slice_get ks (page_of va % 64)) (is_known memory w ks (page_of va % 64) all) h
 
-granted_by : (w : World) (i : Intent) (va : ℕ) (k : Known) → IsKnown w k → may_be i k ≡ true → place_by va (granted may_of everywhere k.entry (current_of w.psl.0) i) ≡ Ok (k.base + va % 512)
-granted_by w Read va k known may = known.reads may va
-granted_by w Write va k known may = known.writes may va
-
-look_given : (memory : List ℕ) (w : World) (i : Intent) (va p : ℕ) (k : Known) → Gives memory w i va p k → (table : Option ℕ) × (real_look memory (tables_of w) (page_of va) ≡ Found k.place table)
-look_given memory w i va p k g =
-    let (table, is) = g.known.looks i g.may memory g.table in
-    (table, ap (real_look memory (tables_of w)) (sym g.page) ∙ is)
-
-pub known_placed : (memory : List ℕ) (w : World) (ks : List Known) (i : Intent) (va p : ℕ) → AreKnown w ks → place_known memory ks i va ≡ Ok p → placed memory w i va ≡ Ok p
-unfolding place_in
+pub known_placed : (memory : List ℕ) (w : World) (ks : List Known) (i : Intent) (va p : ℕ) → AreKnown memory w ks → place_known ks i va ≡ Ok p → placed memory w i va ≡ Ok p
 known_placed memory w ks i va p all h =
     let (k, g) = given memory w ks i va p all h in
-    let (table, is) = look_given memory w i va p k g in
-    ap (placed_by memory va (current_of w.psl.0) i) is
-    ∙ ap (λ (entry : ℕ). place_by va (granted may_of everywhere entry (current_of w.psl.0) i)) g.entry
-    ∙ granted_by w i va k g.known g.may ∙ ap (λ (n : ℕ). Ok n) g.place
+    g.known.placed i va g.small g.page ∙ ap (λ (n : ℕ). Ok n) g.place
 
 -- and a page that may be written is modified
-pub known_clear : (memory : List ℕ) (w : World) (ks : List Known) (va p : ℕ) → AreKnown w ks → place_known memory ks Write va ≡ Ok p → is_clear_for memory w va ≡ false
+pub known_clear : (memory : List ℕ) (w : World) (ks : List Known) (va p : ℕ) → AreKnown memory w ks → place_known ks Write va ≡ Ok p → is_clear_for memory w va ≡ false
 known_clear memory w ks va p all h =
     let (k, g) = given memory w ks Write va p all h in
-    let (table, is) = look_given memory w Write va p k g in
-    ap (is_clear_at memory) is ∙ ap (λ (entry : ℕ). not (is_modified entry)) g.entry ∙ ap not (g.known.modified g.may)
+    g.known.modified va g.small g.page
 
 below_on : (memory : List ℕ) (b : ℕ) (x y : Result ℕ Cause) → ((p : ℕ) → x ≡ Ok p → y ≡ Ok p) → byte_by memory x ≡ Ok b → byte_by memory y ≡ Ok b
 below_on memory b (Ok p) y same h = ap (byte_by memory) (same p refl) ∙ h
 below_on memory b (Err c) y same h = cc
 
 -- where known pages have a byte, the machine has it
-pub known_below : (memory : List ℕ) (w : World) (ks : List Known) → AreKnown w ks → Below (known_space memory ks) (paged memory w)
-known_below memory w ks all = λ i va b h. below_on memory b (place_known memory ks i va) (placed memory w i va) (λ p e. known_placed memory w ks i va p all e) h
+pub known_below : (memory : List ℕ) (w : World) (ks : List Known) → AreKnown memory w ks → Below (known_space memory ks) (paged memory w)
+known_below memory w ks all = λ i va b h. below_on memory b (place_known ks i va) (placed memory w i va) (λ p e. known_placed memory w ks i va p all e) h
 
 -- The next byte of a page.
 
@@ -130,17 +176,28 @@ next_on : (t : Bool) (a b p : ℕ) (c : Cause) → b ≡ a + 1 → (let y : Resu
 next_on true a b p c e h = let same : a ≡ p = cc in ap (λ (n : ℕ). Ok n) (e ∙ ap (λ (n : ℕ). n + 1) same)
 next_on false a b p c e h = cc
 
-next_in : (memory : List ℕ) (i : Intent) (va p : ℕ) (o : Option Known) → va % 512 + 1 < 512 → place_in_known memory i va o ≡ Ok p → place_in_known memory i (va + 1) o ≡ Ok (p + 1)
-next_in memory i va p None h e = cc
-next_in memory i va p (Some k) h e =
+one_below_by : (va : ℕ) (a b : Bool) → va % 512 + 1 < 512 → nat_lt (va + 1) (2 ^ 32) ≡ a → nat_lt va (2 ^ 32) ≡ b → nat_lt (va + 1) (2 ^ 32) ≡ nat_lt va (2 ^ 32)
+one_below_by va true true h e f = e ∙ sym f
+one_below_by va false false h e f = e ∙ sym f
+one_below_by va true false h e f = absurd (grind (arith, nat_tests, e, f, h))
+one_below_by va false true h e f = absurd (grind (arith, nat_tests, e, f, h))
+
+one_below : (va : ℕ) → va % 512 + 1 < 512 → nat_lt (va + 1) (2 ^ 32) ≡ nat_lt va (2 ^ 32)
+one_below va h = one_below_by va (nat_lt (va + 1) (2 ^ 32)) (nat_lt va (2 ^ 32)) h refl refl
+
+next_in : (i : Intent) (va p : ℕ) (o : Option Known) → va % 512 + 1 < 512 → place_in_known i va o ≡ Ok p → place_in_known i (va + 1) o ≡ Ok (p + 1)
+next_in i va p None h e = cc
+next_in i va p (Some k) h e =
     let same : page_of (va + 1) ≡ page_of va = omega arith in
     let more : k.base + (va + 1) % 512 ≡ k.base + va % 512 + 1 = omega arith in
-    let test : ℕ → Bool = λ page. (k.page == page) && may_be i k && is_there memory k in
-    ap (λ (page : ℕ). let y : Result ℕ Cause = if test page then Ok (k.base + (va + 1) % 512) else Err script.Absent in y) same
+    let small : nat_lt (va + 1) (2 ^ 32) ≡ nat_lt va (2 ^ 32) = one_below va h in
+    let test : ℕ → Bool = λ page. (page_for i k == page) && nat_lt va (2 ^ 32) in
+    ap (λ (t : Bool). let y : Result ℕ Cause = if (page_for i k == page_of (va + 1)) && t then Ok (k.base + (va + 1) % 512) else Err script.Absent in y) small
+    ∙ ap (λ (page : ℕ). let y : Result ℕ Cause = if test page then Ok (k.base + (va + 1) % 512) else Err script.Absent in y) same
     ∙ next_on (test (page_of va)) (k.base + va % 512) (k.base + (va + 1) % 512) p script.Absent more e
 
-pub next_known : (memory : List ℕ) (ks : List Known) (i : Intent) (va p : ℕ) → va % 512 + 1 < 512 → place_known memory ks i va ≡ Ok p → place_known memory ks i (va + 1) ≡ Ok (p + 1)
-next_known memory ks i va p h e =
+pub next_known : (ks : List Known) (i : Intent) (va p : ℕ) → va % 512 + 1 < 512 → place_known ks i va ≡ Ok p → place_known ks i (va + 1) ≡ Ok (p + 1)
+next_known ks i va p h e =
     let same : page_of (va + 1) ≡ page_of va = omega arith in
-    ap (λ (page : ℕ). place_in_known memory i (va + 1) (slice_get ks (page % 64))) same
-    ∙ next_in memory i va p (slice_get ks (page_of va % 64)) h e
+    ap (λ (page : ℕ). place_in_known i (va + 1) (slice_get ks (page % 64))) same
+    ∙ next_in i va p (slice_get ks (page_of va % 64)) h e

@@ -2,4 +2,5 @@ pub mod InPage
 pub mod Knowing
 pub mod Lookups
 pub mod Puts
+pub mod Watching
 pub mod Widths

@@ -1,5 +1,5 @@
 -- A longword that is written at once is its bytes, stored one after another.
-use Rattle.std.proofs.Common.{◌≡◌, ℕ, zero, suc, ◌+◌, ◌*◌, ◌/◌, ◌%◌, ◌^◌, ◌<◌, ◌≤◌, List, [], ◌∷◌, ◌++◌, length, take, drop, slice_set, refl, ap, sym, ◌∙◌, arith, append-nil, length-set}
+use Rattle.std.proofs.Common.{◌≡◌, ℕ, zero, suc, ◌+◌, ◌/◌, ◌%◌, ◌^◌, ◌<◌, ◌≤◌, List, [], ◌∷◌, ◌++◌, length, take, drop, slice_set, ap, ◌∙◌, arith, append-nil, length-set}
 use Rattle.std.proofs.lemmas.List.{take-append-drop}
 use Rattle.vv_base.specs.Bytes.{long_bytes, overwritten}
 use Rattle.vax_paged.specs.InPage.{stored_from}

@@ -1,9 +1,10 @@
-ghost use Rattle.std.specs.Prelude.{◌≡◌, ◌+◌, ◌*◌, ◌≤◌, ◌<◌, ◌%◌, ◌^◌, ℕ, None, Ok, true, IfOk, IfSome};
+ghost use Rattle.std.specs.Prelude.{◌≡◌, ◌+◌, ◌*◌, ◌≤◌, ◌<◌, ◌%◌, ◌^◌, if◌then◌else◌, ℕ, List, None, Ok, true, IfOk, IfSome};
 ghost use Rattle.vv_base.specs.Width.{size_of};
-ghost use Rattle.vax_arch.specs.Fields.{frame_of};
+ghost use Rattle.vax_arch.specs.Fields.{current_of, frame_of, is_modified};
 ghost use Rattle.vax_arch.specs.Protection.{may_of};
 ghost use Rattle.vax_arch.specs.Walk.{Tables, granted};
 ghost use Rattle.vax_arch.specs.WalkLaws.{table_place};
+ghost use Rattle.vax_arch.specs.declared.mode.Intent.TheVariants.{Write};
 ghost use Rattle.vax_hw.specs.RealTables.{everywhere, place_by};
 ghost use Rattle.vax_hw.specs.Machine.{tables_of};
 ghost use Rattle.vax_table.specs.Claims.{addresses};
@@ -12,7 +13,7 @@ ghost use Rattle.vax_table.specs.Script.{number_at};
 ghost use Rattle.vax_table.specs.Tries.{first_clear};
 ghost use Rattle.vax_table.specs.Troubles.{intent_of, told};
 ghost use Rattle.vax_paged.specs.InPage.{IsWhole};
-ghost use Rattle.vax_paged.specs.Known.{AreKnown, IsKnown, IsKnownIn, is_there, known_space, may_be, place_known, place_told};
+ghost use Rattle.vax_paged.specs.Known.{AreKnown, IsKnownIn, IsLearned, known_space, page_for, place_known, place_told};
 ghost use Rattle.vax_paged.specs.Paged.{is_clear_for};
 
 use crate::entries::{Look, Paged, REGION};
@@ -24,56 +25,55 @@ use vax_operand::{Space, Trouble};
 use vax_table::effect::Store;
 use vv_base::Width;
 
-/// What the tables said of a page. It is so in every memory that has the same two entries.
+/// What the tables said of a page. No page has the number 0xFFFF_FFFF.
 #[derive(Clone, Copy)]
 pub struct Known {
-    /// The page's number, an address divided by 512.
-    pub page: u32,
-    /// The place of the system table's entry for the page's table, and that entry.
-    pub table: u32,
-    pub table_entry: u32,
-    /// The place of the page's entry, and the entry.
-    pub place: u32,
-    pub entry: u32,
+    /// The page's number, an address divided by 512, if it may be read.
+    pub read_page: u32,
+    /// The same if it may be written, and its modify bit is set.
+    pub write_page: u32,
     /// The place of the page's first byte.
     pub base: u32,
-    pub may_read: bool,
-    /// Whether it may be written, and its modify bit is set.
-    pub may_write: bool,
+}
+
+/// What was learned of a page, which is so as long as two longwords stay as they are.
+#[derive(Clone, Copy)]
+pub struct Learned {
+    pub known: Known,
+    /// The place of the system table's entry for the page's table.
+    pub table: usize,
+    /// The place of the page's entry.
+    pub place: usize,
 }
 
 impl Known {
     /// Nothing is known.
     pub fn nothing() -> Known
-        ensures { (t : Tables) → (m : Mode) → IsKnownIn t m result }
+        ensures { (memory : List ℕ) (t : Tables) (m : Mode) → IsKnownIn memory t m result }
     {
         Known {
-            page: 0,
-            table: 0,
-            table_entry: 0,
-            place: 0,
-            entry: 0,
+            read_page: 0xFFFF_FFFF,
+            write_page: 0xFFFF_FFFF,
             base: 0,
-            may_read: false,
-            may_write: false,
+        }
+    }
+
+    fn page_for(&self, write: bool) -> u32
+        ensures { result ≡ page_for (intent_of write) self.now }
+    {
+        if write {
+            self.write_page
+        } else {
+            self.read_page
         }
     }
 }
 
-impl Known {
-    fn may(&self, write: bool) -> bool
-        ensures { result ≡ may_be (intent_of write) self.now }
-    {
-        if write { self.may_write } else { self.may_read }
-    }
-
-    /// Whether a memory has its entries.
-    fn is_there(&self, memory: &[u8]) -> bool
-        ensures { result ≡ is_there memory.now self.now }
-    {
-        long_in(memory, self.table as usize) == self.table_entry
-            && long_in(memory, self.place as usize) == self.entry
-    }
+/// The number of a page that is open.
+fn page_if(is_open: bool, page: u32) -> u32
+    ensures { result ≡ (if is_open then page else 4294967295) }
+{
+    if is_open { page } else { 0xFFFF_FFFF }
 }
 
 /// Whether an entry opens its page.
@@ -84,12 +84,21 @@ fn is_open(entry: Pte, mode: Mode, intent: Intent) -> bool
     entry.valid() && may(entry.prot(), mode, intent)
 }
 
+/// Whether an entry opens its page for writing, and its modify bit is set.
+fn is_open_to_write(entry: Pte, mode: Mode) -> bool
+    ensures opens { result ≡ true → (va : ℕ) → place_by va (granted may_of everywhere entry.0 mode Write) ≡ Ok (512 * frame_of entry.0 + va % 512) }
+    ensures modified { result ≡ true → is_modified entry.0 ≡ true }
+{
+    entry.modified() && is_open(entry, mode, Intent::Write)
+}
+
 impl Paged<'_> {
     /// The place of the system table's entry for a page's table, whether there is one or not.
     #[tactic(auto, unfolding(vax_arch::specs::WalkLaws::table_place))]
     fn table_place(&self, page: u32) -> usize
         requires { page < 2 ^ 23 }
-        ensures { result ≡ table_place (tables_of self.now.world.now) page }
+        ensures is { result ≡ table_place (tables_of self.now.world.now) page }
+        ensures small { result ≤ everywhere }
     {
         let base = if page / REGION == 0 {
             self.world.p0br
@@ -100,38 +109,35 @@ impl Paged<'_> {
         self.in_system_table(at / 512 % REGION)
     }
 
-    /// What the tables say of a page, if it has an entry, and both lie below 2^32.
-    pub fn looked_up(&self, page: u32) -> Option<Known>
+    /// What the tables say of a page, if it has an entry.
+    pub fn looked_up(&self, page: u32) -> Option<Learned>
         requires { page < 2 ^ 23 }
-        ensures { IfSome result (IsKnown self.now.world.now) }
+        ensures learned { IfSome result (IsLearned self.now.memory.now (tables_of self.now.world.now) (current_of self.now.world.now.psl.0)) }
+        ensures low { IfSome result (λ x. (x.table ≤ everywhere) × (x.place ≤ everywhere)) }
     {
         let Look::Found(place) = self.look(page) else {
             return None;
         };
         let table = self.table_place(page);
-        if place > 0xFFFF_FFFF || table > 0xFFFF_FFFF {
-            return None;
-        }
         let entry = Pte(long_in(self.memory, place));
         let mode = self.world.psl.current();
-        Some(Known {
-            page,
-            table: table as u32,
-            table_entry: long_in(self.memory, table),
-            place: place as u32,
-            entry: entry.0,
-            base: 512 * entry.frame(),
-            may_read: is_open(entry, mode, Intent::Read),
-            may_write: entry.modified() && is_open(entry, mode, Intent::Write),
+        Some(Learned {
+            known: Known {
+                read_page: page_if(is_open(entry, mode, Intent::Read), page),
+                write_page: page_if(is_open_to_write(entry, mode), page),
+                base: 512 * entry.frame(),
+            },
+            table,
+            place,
         })
     }
 }
 
 /// The machine's memory by the pages that are known. A page that was wanted and isn't known is noted.
-#[derive(Drop)]
+#[derive(Clone, Copy)]
 pub struct Mapped<'a> {
     pub memory: &'a [u8],
-    pub known: &'a [Known],
+    pub known: &'a [Known; 64],
     pub missed: &'a Cell<u32>,
 }
 
@@ -139,12 +145,13 @@ impl Mapped<'_> {
     /// The place of an address, if its page is known and open.
     #[inline(always)]
     pub fn place(&self, va: u32, write: bool) -> Option<usize>
-        ensures is { place_told result ≡ place_known self.now.memory.now self.now.known.now (intent_of write) va }
+        ensures is { place_told result ≡ place_known self.now.known.now (intent_of write) va }
         ensures small { IfSome result (λ place. place < 2 ^ 32 + 512) }
     {
         let page = va / 512;
-        if let Some(known) = self.known.get((page % 64) as usize) {
-            if known.page == page && known.may(write) && known.is_there(self.memory) {
+        let pages = self.known;
+        if let Some(known) = pages.get((page % 64) as usize) {
+            if known.page_for(write) == page {
                 return Some(known.base as usize + va as usize % 512);
             }
         }
@@ -166,9 +173,9 @@ impl Mapped<'_> {
     #[tactic(auto, using(vax_operand::proofs::ByteByByte::byte_by_byte))]
     #[cold]
     #[inline(never)]
-    fn number_by_bytes(&self, va: u32, bytes: u32, write: bool) -> Result<u64, Trouble>
+    fn number_by_bytes(self, va: u32, bytes: u32, write: bool) -> Result<u64, Trouble>
         requires { bytes ≤ 8 }
-        ensures number { told result ≡ number_at (known_space self.now.memory.now self.now.known.now) (intent_of write) bytes va }
+        ensures number { told result ≡ number_at (known_space self.entry.memory.now self.entry.known.now) (intent_of write) bytes va }
         ensures fits { IfOk result (λ v. v < 256 ^ bytes) }
     {
         if bytes == 0 {
@@ -196,7 +203,7 @@ impl Mapped<'_> {
 
     /// The place of a store that lies in one known page, where memory has it whole.
     pub fn whole_place(&self, world: &World, store: &Store) -> Option<usize>
-        requires { AreKnown world.now self.now.known.now }
+        requires { AreKnown self.now.memory.now world.now self.now.known.now }
         ensures whole { IfSome result (λ place. IsWhole self.now.memory.now world.now store.now place) }
     {
         let bytes = u32::from(store.width.bytes());
@@ -211,7 +218,7 @@ impl Mapped<'_> {
 
     /// Whether a store lies in one known page, so that its modify bit is set.
     fn is_modified(&self, world: &World, store: &Store) -> bool
-        requires { AreKnown world.now self.now.known.now }
+        requires { AreKnown self.now.memory.now world.now self.now.known.now }
         ensures { result ≡ true → first_clear (is_clear_for self.now.memory.now world.now) (addresses (size_of store.now.width) store.now.va) ≡ None }
     {
         if store.va % 512 + u32::from(store.width.bytes()) > 512 {
@@ -226,7 +233,7 @@ impl Mapped<'_> {
     /// Whether each store lies in one known page, so that no modify bit of theirs is clear.
     #[tactic(auto, using(crate::proofs::Puts::store_by_store))]
     pub fn may_store(&self, world: &World, stores: &[Store]) -> bool
-        requires { AreKnown world.now self.now.known.now }
+        requires { AreKnown self.now.memory.now world.now self.now.known.now }
         ensures { result ≡ true → first_clear (is_clear_for self.now.memory.now world.now) (bytes_of_stores stores.now) ≡ None }
     {
         let [first, rest @ ..] = stores else {

@@ -9,7 +9,7 @@ mod space;
 mod stores;
 
 pub use entries::{Entry, Paged};
-pub use known::{Known, Mapped};
+pub use known::{Known, Learned, Mapped};
 pub use memory::{byte_in, number_in};
 pub use modes::KnownPages;
 pub use stores::store_all;

@@ -1,10 +1,10 @@
-ghost use Rattle.std.specs.Prelude.{◌≡◌, ◌+◌, ◌≤◌, ◌<◌, ◌^◌, length, slice_index, slice_set};
+ghost use Rattle.std.specs.Prelude.{◌≡◌, ◌+◌, ◌*◌, ◌≤◌, ◌<◌, ◌^◌, length, slice_index, slice_set};
 ghost use Rattle.vv_base.specs.Bytes.{long_at};
 ghost use Rattle.vv_base.specs.Width.{size_of};
 ghost use Rattle.vax_hw.specs.RealTables.{everywhere};
 ghost use Rattle.vax_paged.specs.InPage.{number_from, stored_from};
 
-use vv_base::{Width, get_u32, put_u16, put_u32};
+use vv_base::{Width, get_u16, get_u32, put_u16, put_u32};
 
 /// The byte at a place; beyond memory it is 0.
 pub fn byte_in(memory: &[u8], at: usize) -> u8
@@ -38,6 +38,52 @@ pub fn long_in(memory: &[u8], at: usize) -> u32
     }
 }
 
+/// The word at a place at or over the memory's end.
+#[cold]
+#[inline(never)]
+fn word_at_end(memory: &[u8], at: usize) -> u64
+    requires { at ≤ everywhere }
+    ensures is { result ≡ number_from memory.now 2 at }
+    ensures fits { result < 2 ^ 16 }
+{
+    u64::from(byte_in(memory, at)) + 0x100 * u64::from(byte_in(memory, at + 1))
+}
+
+/// The word at a place; each of its bytes that lies beyond memory is 0.
+fn word_in(memory: &[u8], at: usize) -> u64
+    requires { at ≤ everywhere }
+    ensures is { result ≡ number_from memory.now 2 at }
+    ensures fits { result < 2 ^ 16 }
+{
+    if at + 2 <= memory.len() {
+        u64::from(get_u16(memory, at))
+    } else {
+        word_at_end(memory, at)
+    }
+}
+
+/// The quadword at a place at or over the memory's end.
+#[cold]
+#[inline(never)]
+fn quad_at_end(memory: &[u8], at: usize) -> u64
+    requires { at ≤ everywhere }
+    ensures { result ≡ long_at memory.now at + 2 ^ 32 * long_at memory.now (at + 4) }
+{
+    u64::from(long_in(memory, at)) + 0x1_0000_0000 * u64::from(long_in(memory, at + 4))
+}
+
+/// The quadword at a place; each of its bytes that lies beyond memory is 0.
+fn quad_in(memory: &[u8], at: usize) -> u64
+    requires { at ≤ everywhere }
+    ensures { result ≡ long_at memory.now at + 2 ^ 32 * long_at memory.now (at + 4) }
+{
+    if at + 8 <= memory.len() {
+        u64::from(get_u32(memory, at)) + 0x1_0000_0000 * u64::from(get_u32(memory, at + 4))
+    } else {
+        quad_at_end(memory, at)
+    }
+}
+
 /// The number of a width at a place; each of its bytes that lies beyond memory is 0.
 pub fn number_in(memory: &[u8], at: usize, w: Width) -> u64
     requires { at ≤ everywhere }
@@ -46,13 +92,9 @@ pub fn number_in(memory: &[u8], at: usize, w: Width) -> u64
 {
     match w {
         Width::Byte => u64::from(byte_in(memory, at)),
-        Width::Word => {
-            u64::from(byte_in(memory, at)) + 0x100 * u64::from(byte_in(memory, at + 1))
-        }
+        Width::Word => word_in(memory, at),
         Width::Long => u64::from(long_in(memory, at)),
-        Width::Quad => {
-            u64::from(long_in(memory, at)) + 0x1_0000_0000 * u64::from(long_in(memory, at + 4))
-        }
+        Width::Quad => quad_in(memory, at),
     }
 }
 

@@ -1,34 +1,56 @@
+ghost use Rattle.std.specs.Prelude.{◌≡◌, ◌+◌, ◌≤◌, ◌<◌, ◌/◌, ℕ, List, true, slice_set, IfOk};
 ghost use Rattle.vax_arch.specs.Walk.{Tables};
-ghost use Rattle.vax_paged.specs.Known.{AreAllKnown, AreKnownIn, IsKnownIn};
+ghost use Rattle.vax_hw.specs.RealTables.{everywhere};
+ghost use Rattle.vax_paged.specs.Known.{AreAllIn, AreAllKnown, AreKnownIn, IsKnownIn, IsLearned, IsSameBut, watches};
 
-use crate::known::Known;
+use crate::known::{Known, Learned};
+use std::alloc::Global;
 use vax_arch::Mode;
+use vv_base::NoMemory;
 
-/// The pages that are known in each mode, each at its number modulo 64.
-#[derive(Clone, Copy)]
+/// The pages that are known in each mode, each at its number modulo 64, and the frames of memory whose stores are watched,
+/// since what is known rests on them: those that have the present mark.
+#[derive(Drop)]
 pub struct KnownPages {
     pub kernel: [Known; 64],
     pub executive: [Known; 64],
     pub supervisor: [Known; 64],
     pub user: [Known; 64],
+    pub marks: Vec<u32>,
+    pub mark: u32,
 }
 
 impl KnownPages {
-    /// None is known.
-    pub fn nothing() -> KnownPages
-        ensures { (t : Tables) → AreAllKnown t result }
+    /// None is known, over so many pages of memory.
+    pub fn nothing(alloc: Global, pages: u32) -> Result<KnownPages, NoMemory>
+        ensures { IfOk result (λ p. (memory : List ℕ) (t : Tables) → AreAllKnown memory t p) }
     {
-        KnownPages {
+        Ok(KnownPages {
             kernel: [Known::nothing(); 64],
             executive: [Known::nothing(); 64],
             supervisor: [Known::nothing(); 64],
             user: [Known::nothing(); 64],
-        }
+            marks: vec![in alloc; 0; pages as usize]?,
+            mark: 1,
+        })
+    }
+
+    /// None is known any more, and no store is watched.
+    #[cold]
+    #[inline(never)]
+    pub fn forget(&mut self)
+        ensures { (memory : List ℕ) (t : Tables) → AreAllKnown memory t self.new }
+    {
+        self.kernel = [Known::nothing(); 64];
+        self.executive = [Known::nothing(); 64];
+        self.supervisor = [Known::nothing(); 64];
+        self.user = [Known::nothing(); 64];
+        self.mark = self.mark.wrapping_add(1);
     }
 
     /// Those of a mode.
     pub fn of(&self, m: Mode) -> &[Known; 64]
-        ensures { (t : Tables) → AreAllKnown t self.now → AreKnownIn t m result.now }
+        ensures { (memory : List ℕ) (t : Tables) → AreAllKnown memory t self.now → AreKnownIn memory t m result.now }
     {
         match m {
             Mode::Kernel => &self.kernel,
@@ -38,16 +60,70 @@ impl KnownPages {
         }
     }
 
-    /// One more in a mode.
-    pub fn learn(&mut self, m: Mode, known: Known)
-        ensures { (t : Tables) → AreAllKnown t self.old → IsKnownIn t m known → AreAllKnown t self.new }
+    /// Whether stores to the frame of a place are watched.
+    fn watches(&self, place: usize) -> bool
+        ensures { result ≡ watches self.now.marks.items self.now.mark place }
     {
-        let at = (known.page % 64) as usize;
+        match self.marks.get(place / 512) {
+            Some(mark) => *mark == self.mark,
+            None => true,
+        }
+    }
+
+    /// There were stores to the frames of two places, and to no others.
+    pub fn stored(&mut self, first: usize, last: usize)
+        ensures { (memory other : List ℕ) (t : Tables) → AreAllKnown memory t self.old → IsSameBut first last memory other → AreAllKnown other t self.new }
+    {
+        if !self.watches(first) && !self.watches(last) {
+            return;
+        }
+        self.forget();
+    }
+
+    /// Stores to a frame are watched from now on.
+    fn watch_frame(&mut self, frame: usize)
+        ensures same { self.new ≡ (record self.old { marks = self.new.marks }) }
+        ensures marks { self.new.marks.items ≡ slice_set self.old.marks.items frame self.old.mark }
+    {
+        if frame < self.marks.len() {
+            self.marks[frame] = self.mark;
+        }
+    }
+
+    /// Stores to the longword at a place are watched from now on.
+    fn watch(&mut self, place: usize)
+        requires { place ≤ everywhere }
+        ensures same { self.new ≡ (record self.old { marks = self.new.marks }) }
+        ensures more { (at : ℕ) → watches self.old.marks.items self.old.mark at ≡ true → watches self.new.marks.items self.new.mark at ≡ true }
+        ensures watched { (i : ℕ) → i < 4 → watches self.new.marks.items self.new.mark (place + i) ≡ true }
+    {
+        self.watch_frame(place / 512);
+        self.watch_frame((place + 3) / 512);
+    }
+
+    /// A page is known in a mode.
+    fn put(&mut self, m: Mode, at: usize, known: Known)
+        requires { at < 64 }
+        ensures marks { self.new.marks ≡ self.old.marks }
+        ensures mark { self.new.mark ≡ self.old.mark }
+        ensures known { (memory : List ℕ) (t : Tables) → AreAllIn memory t self.old → IsKnownIn memory t m known → AreAllIn memory t self.new }
+    {
         match m {
             Mode::Kernel => self.kernel[at] = known,
             Mode::Executive => self.executive[at] = known,
             Mode::Supervisor => self.supervisor[at] = known,
             Mode::User => self.user[at] = known,
         }
+    }
+
+    /// One more page in a mode, and stores to its entries are watched.
+    pub fn learn(&mut self, m: Mode, page: u32, learned: Learned)
+        requires table { learned.table ≤ everywhere }
+        requires place { learned.place ≤ everywhere }
+        ensures { (memory : List ℕ) (t : Tables) → AreAllKnown memory t self.old → IsLearned memory t m learned → AreAllKnown memory t self.new }
+    {
+        self.watch(learned.table);
+        self.watch(learned.place);
+        self.put(m, (page % 64) as usize, learned.known);
     }
 }

@@ -7,12 +7,15 @@ ghost use Rattle.vax_table.specs.Stores.{all_stored};
 ghost use Rattle.vax_table.specs.Tries.{first_clear};
 ghost use Rattle.vax_paged.specs.Puts.{made, puts_from, puts_of};
 ghost use Rattle.vax_paged.specs.InPage.{IsWhole};
-ghost use Rattle.vax_paged.specs.Known.{AreKnown};
+ghost use Rattle.vax_arch.specs.Walk.{Tables};
+ghost use Rattle.vax_hw.specs.Machine.{tables_of};
+ghost use Rattle.vax_paged.specs.Known.{AreAllKnown, AreKnown};
 ghost use Rattle.vax_paged.specs.Paged.{is_clear_for, written_place};
 
 use crate::entries::{Entry, Paged};
 use crate::known::{Known, Mapped};
 use crate::memory::{store_byte, store_in};
+use crate::modes::KnownPages;
 use arrayvec::ArrayVec;
 use std::cell::Cell;
 use vax_hw::World;
@@ -25,12 +28,15 @@ pub struct Put {
     pub byte: u8,
 }
 
-/// Stores bytes in order.
-pub fn make(memory: &mut [u8], puts: &[Put])
-    ensures { memory.new ≡ made puts.now memory.old }
+/// Stores bytes in order; what rests on them isn't known any more.
+pub fn make(memory: &mut [u8], known: &mut KnownPages, puts: &[Put])
+    ensures memory { memory.new ≡ made puts.now memory.old }
+    ensures known { (t : Tables) → AreAllKnown memory.old t known.old → AreAllKnown memory.new t known.new }
 {
     for put in puts {
-        store_byte(memory, put.place as usize, put.byte);
+        let place = put.place as usize;
+        store_byte(memory, place, put.byte);
+        known.stored(place, place);
     }
 }
 
@@ -137,17 +143,18 @@ impl Paged<'_> {
 #[tactic(auto, using(crate::proofs::Puts::as_stored))]
 #[cold]
 #[inline(never)]
-fn store_by_bytes(memory: &mut [u8], world: &World, stores: &[Store])
+fn store_by_bytes(memory: &mut [u8], world: &World, known: &mut KnownPages, stores: &[Store])
     requires memory { length memory.old < 2 ^ 32 }
     requires few { length stores.now ≤ 20 }
-    ensures { memory.new ≡ all_stored (written_place memory.old world.now) stores.now memory.old }
+    ensures memory { memory.new ≡ all_stored (written_place memory.old world.now) stores.now memory.old }
+    ensures known { (t : Tables) → AreAllKnown memory.old t known.old → AreAllKnown memory.new t known.new }
 {
     let space = Paged {
         memory: &*memory,
         world,
     };
     let puts = space.puts(stores);
-    make(memory, puts.as_slice());
+    make(memory, known, puts.as_slice());
 }
 
 /// The place of a store that lies in one page, where memory has it whole, by the tables.
@@ -168,11 +175,11 @@ fn walked_place(memory: &[u8], world: &World, store: &Store) -> Option<usize>
 fn whole_place(
     memory: &[u8],
     world: &World,
-    known: &[Known],
+    known: &[Known; 64],
     missed: &Cell<u32>,
     store: &Store,
 ) -> Option<usize>
-    requires { AreKnown world.now known.now }
+    requires { AreKnown memory.now world.now known.now }
     ensures { IfSome result (λ place. IsWhole memory.now world.now store.now place) }
 {
     let space = Mapped {
@@ -187,14 +194,25 @@ fn whole_place(
 }
 
 /// Makes one store.
-fn store_one(memory: &mut [u8], world: &World, known: &[Known], missed: &Cell<u32>, store: &Store)
+fn store_one(
+    memory: &mut [u8],
+    world: &World,
+    known: &mut KnownPages,
+    missed: &Cell<u32>,
+    store: &Store,
+)
     requires memory { length memory.old < 2 ^ 32 }
-    requires known { AreKnown world.now known.now }
-    ensures { memory.new ≡ all_stored (written_place memory.old world.now) (store.now ∷ []) memory.old }
+    requires known { AreAllKnown memory.old (tables_of world.now) known.old }
+    ensures memory { memory.new ≡ all_stored (written_place memory.old world.now) (store.now ∷ []) memory.old }
+    ensures known { AreAllKnown memory.new (tables_of world.now) known.new }
 {
-    match whole_place(&*memory, world, known, missed, store) {
-        Some(place) => store_in(memory, place, store.width, store.value),
-        None => store_by_bytes(memory, world, &[*store]),
+    let pages = known.of(world.psl.current());
+    match whole_place(&*memory, world, pages, missed, store) {
+        Some(place) => {
+            store_in(memory, place, store.width, store.value);
+            known.stored(place, place);
+        }
+        None => store_by_bytes(memory, world, known, &[*store]),
     }
 }
 
@@ -202,18 +220,19 @@ fn store_one(memory: &mut [u8], world: &World, known: &[Known], missed: &Cell<u3
 pub fn store_all(
     memory: &mut [u8],
     world: &World,
-    known: &[Known],
+    known: &mut KnownPages,
     missed: &Cell<u32>,
     stores: &[Store],
 )
     requires memory { length memory.old < 2 ^ 32 }
-    requires known { AreKnown world.now known.now }
+    requires known { AreAllKnown memory.old (tables_of world.now) known.old }
     requires few { length stores.now ≤ 20 }
-    ensures { memory.new ≡ all_stored (written_place memory.old world.now) stores.now memory.old }
+    ensures memory { memory.new ≡ all_stored (written_place memory.old world.now) stores.now memory.old }
+    ensures known { AreAllKnown memory.new (tables_of world.now) known.new }
 {
     match stores {
         [] => {}
         [store] => store_one(memory, world, known, missed, store),
-        _ => store_by_bytes(memory, world, stores),
+        _ => store_by_bytes(memory, world, known, stores),
     }
 }

@@ -1,4 +1,4 @@
-use Rattle.std.proofs.Common.{refl, sym, ◌∙◌}
+use Rattle.std.proofs.Common.{refl, sym}
 use Rattle.vax_hw.specs.Machine.{seen_psl}
 use Rattle.vax_hw.specs.Real.{in_kernel}
 use Rattle.vax_table.specs.Effects.{effect}
@@ -11,7 +11,7 @@ returns-in-Ok c = λ e.
     let w = c.args.state.now.world in
     let memory = c.mapped-space.ensures.memory in
     let world = c.world-world.ensures in
-    let plain = sym c.args.kept.now.planned ∙ c.if-not-kept.false in
+    let plain = c.if-not-has_known.ensures.planned refl in
     let fetches = rw (memory, world) at (c.if-not-has_known.ensures.fetched refl) in
     let plans = rw (memory, c.seen_psl.ensures, world) at c.in-Ok.ensures in
     let clear = rw (memory, world, c.as_slice.ensures.value) at (c.may_store.ensures e) in
