@@ -2,3 +2,5 @@ pub mod Spelled
 pub mod Looks
 pub mod One
 pub mod Quiet
+pub mod Changes
+pub mod Sums

@@ -1,4 +1,4 @@
-ghost use Rattle.std.specs.Prelude.{◌≡◌, ◌*◌, ◌≤◌, length, IfOk};
+ghost use Rattle.std.specs.Prelude.{◌≡◌, ◌*◌, ◌≤◌, length, sum, take, IfOk, OnOk};
 ghost use Rattle.vax_hw.specs.Machine.{Machine, seen_psl, zeros};
 ghost use Rattle.vax_hw.specs.Real.{in_kernel, real};
 ghost use Rattle.vax_operand.specs.Left.{joined};
@@ -8,6 +8,7 @@ ghost use Rattle.vax_table.specs.Whole.{instruction};
 ghost use Rattle.vax_cpu.specs.Completed.{attempted, settled_meaning, with_registers};
 ghost use Rattle.vax_cpu.specs.Fetched.{exits};
 
+use crate::changed::{sum_behind, sum_of};
 use crate::kept::Kept;
 use crate::perform::{attempt, attempt_known};
 use crate::state::State;
@@ -97,7 +98,7 @@ fn attempt_walked(
     attempt(state.memory(), state.world(), kept, o, plan)
 }
 
-/// The same by the pages that are known, or else by the page tables.
+/// The same by the pages that are known, or else by the page tables. `total` is the sum of R0 to R14, before and behind it.
 fn attempt_next(
     state: &mut State,
     missed: &Cell<u32>,
@@ -105,15 +106,21 @@ fn attempt_next(
     o: &mut Values,
     before: &[u32; 16],
     plan: &mut Plan,
+    total: &mut u64,
 ) -> Result<u8, Stop>
-    requires { plan.old.r ≡ before.now }
+    requires plan { plan.old.r ≡ before.now }
+    requires sum { total.old ≡ sum (take 15 before.now) }
+    ensures sum { OnOk result (total.new ≡ sum (take 15 plan.new.r)) }
     ensures attempted { attempted (joined o.new plan.new.r) plan.new result ≡ settled_meaning state.old.memory state.old.world (exits (outcome (paged state.old.memory state.old.world) (instruction (in_kernel state.old.world) (seen_psl state.old.world) before.now))) }
     ensures state { state.new ≡ state.old }
 {
     if attempt_known(state, missed, kept, o, plan) {
+        *total = sum_behind(*total, kept.changed, before, &plan.r);
         return Ok(kept.prepared.decoded.opcode);
     }
-    attempt_walked(state, missed, kept, o, before, plan)
+    let opcode = attempt_walked(state, missed, kept, o, before, plan)?;
+    *total = sum_of(&plan.r);
+    Ok(opcode)
 }
 
 /// A run of at most so many instructions. The plan's registers are the machine's, in place of the world's.
@@ -128,12 +135,21 @@ fn run_parts(
     ensures { (with_registers plan.new.r state.new, result) ≡ real budget (with_registers plan.old.r state.old) }
 {
     let missed = Cell::new(u32::MAX);
+    let mut total = sum_of(&plan.r);
     for _left in (0..budget).rev() {
         let before = plan.r;
         let slot = before[15] as usize / 2 % 2048;
-        match attempt_next(state, &missed, &mut kept[slot], o, &before, plan) {
+        match attempt_next(
+            state,
+            &missed,
+            &mut kept[slot],
+            o,
+            &before,
+            plan,
+            &mut total,
+        ) {
             Ok(opcode) => {
-                state.retire(before[15], opcode, plan, &missed);
+                state.retire(before[15], opcode, total, plan, &missed);
                 match plan.trap {
                     Some(kind) => {
                         return Exit::Arithmetic { kind };

@@ -11,6 +11,7 @@ ghost use Rattle.vax_cpu.specs.Fetched.{byte_view, exits, kept_view, refusal_of,
 ghost use Rattle.vax_paged.specs.Known.{AreKnown};
 ghost use Rattle.vax_paged.specs.Paged.{paged};
 
+use crate::changed::changed_register;
 use crate::kept::{Kept, reach_of};
 use crate::stop::{Fault, fault_of};
 use arrayvec::ArrayVec;
@@ -122,10 +123,12 @@ fn keep(bytes: &[u8], window: &[u8; 24], decoded: Decoded) -> Kept
     let mut kept = *window;
     kept[..bytes.len()].copy_from_slice(bytes);
     let reach = reach_of(&decoded);
+    let prepared = Prepared::new(decoded);
     Kept {
         bytes: kept,
-        prepared: Prepared::new(decoded),
         reach,
+        changed: changed_register(&prepared),
+        prepared,
     }
 }
 

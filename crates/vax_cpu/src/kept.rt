@@ -3,7 +3,9 @@ ghost use Rattle.vax_table.specs.Operations.{operation_of};
 ghost use Rattle.vax_table.specs.Plan.{is_planned};
 ghost use Rattle.vax_table.specs.Reading.{Whole, decoded_at};
 ghost use Rattle.vax_table.specs.Spelling.{view};
+ghost use Rattle.vax_cpu.specs.Changed.{changed_register};
 
+use crate::changed::changed_register;
 use arrayvec::ArrayVec;
 use vax_decode::Decoded;
 use vax_operand::Prepared;
@@ -16,11 +18,14 @@ pub struct Kept {
     pub prepared: Prepared,
     /// How many bytes it has, if it is one of the instructions that `plan_into` plans; else more than a page has.
     pub reach: u32,
+    /// The register that it changes, if it changes one of R0 to R14 at most; else 15.
+    pub changed: u8,
     ghost sized: { length bytes ≡ 24 },
     ghost small: { (i : ℕ) → slice_index bytes i < 256 },
     ghost spelled: { decoded_at (take prepared.decoded.length bytes) ≡ Whole (view prepared.decoded) [] },
     ghost whole: { reach ≤ 512 → reach ≡ prepared.decoded.length },
     ghost short: { reach ≤ 512 → reach ≤ 24 },
+    ghost changes: { changed ≡ changed_register prepared.operation prepared.operands.items },
     ghost planned: { reach ≤ 512 → is_planned (operation_of prepared.decoded.opcode) ≡ true },
 }
 
@@ -59,14 +64,16 @@ impl Kept {
         let mut bytes = [0; 24];
         bytes[0] = 0xFD;
         bytes[1] = 1;
+        let prepared = Prepared::new(Decoded {
+            opcode: 0xFD,
+            wait: true,
+            length: 2,
+            specs: ArrayVec::new(),
+        });
         Kept {
             bytes,
-            prepared: Prepared::new(Decoded {
-                opcode: 0xFD,
-                wait: true,
-                length: 2,
-                specs: ArrayVec::new(),
-            }),
+            changed: changed_register(&prepared),
+            prepared,
             reach: 1024,
         }
     }

@@ -1,4 +1,4 @@
-ghost use Rattle.std.specs.Prelude.{◌≡◌, Ok, true};
+ghost use Rattle.std.specs.Prelude.{◌≡◌, ◌<◌, Ok, true};
 ghost use Rattle.vax_table.specs.Effects.{effect};
 ghost use Rattle.vax_table.specs.Operand.{trap_operands};
 ghost use Rattle.vax_table.specs.Operations.{operation_of};
@@ -12,6 +12,7 @@ ghost use Rattle.vax_table.specs.declared.meaning.Operation.TheVariants.{MoveSta
 ghost use Rattle.vax_operand.specs.Left.{joined};
 ghost use Rattle.vax_hw.specs.Machine.{seen_psl};
 ghost use Rattle.vax_hw.specs.Real.{in_kernel};
+ghost use Rattle.vax_cpu.specs.Changed.{AreAlikeBut};
 ghost use Rattle.vax_cpu.specs.Fetched.{acts_of, exits, found, meaning_of};
 ghost use Rattle.vax_cpu.specs.Completed.{attempted, settled, settled_as, settled_meaning};
 ghost use Rattle.vax_paged.specs.Paged.{paged};
@@ -253,7 +254,8 @@ pub fn attempt_known(
     o: &mut Values,
     plan: &mut Plan,
 ) -> bool
-    ensures { result ≡ true → Ok (kept.now.prepared.decoded.opcode, effect plan.new) ≡ settled_meaning state.now.memory state.now.world (exits (outcome (paged state.now.memory state.now.world) (instruction (in_kernel state.now.world) (seen_psl state.now.world) plan.old.r))) }
+    ensures changed { result ≡ true → kept.now.changed < 15 → AreAlikeBut kept.now.changed plan.old.r plan.new.r }
+    ensures attempted { result ≡ true → Ok (kept.now.prepared.decoded.opcode, effect plan.new) ≡ settled_meaning state.now.memory state.now.world (exits (outcome (paged state.now.memory state.now.world) (instruction (in_kernel state.now.world) (seen_psl state.now.world) plan.old.r))) }
 {
     let world = state.world();
     let space = state.mapped(missed);

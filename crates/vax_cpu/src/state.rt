@@ -1,9 +1,8 @@
-ghost use Rattle.std.specs.Prelude.{◌≡◌, true, ◌+◌, ◌*◌, ◌≤◌, ◌<◌, ◌/◌, ◌%◌, ◌^◌, ℕ, length, slice_index, IfOk};
+ghost use Rattle.std.specs.Prelude.{◌≡◌, true, ◌+◌, ◌*◌, ◌≤◌, ◌<◌, ◌/◌, ◌%◌, ◌^◌, ℕ, length, slice_index, sum, take, IfOk};
 ghost use Rattle.vv_base.specs.Bytes.{long_at, long_bytes, overwritten};
 ghost use Rattle.vax_hw.specs.Machine.{Machine, tables_of, with_psw, zeros};
 ghost use Rattle.vax_hw.specs.Real.{misses_after};
 ghost use Rattle.vax_table.specs.Effects.{effect};
-ghost use Rattle.vax_table.specs.Trail.{term};
 ghost use Rattle.vax_cpu.specs.Completed.{behind};
 ghost use Rattle.vax_paged.specs.Known.{AreKnown};
 
@@ -39,17 +38,6 @@ impl Model for State {
     ghost view = { λ m. record { memory = m.memory.items; world = m.world; retired = m.retired; trail = m.trail; misses = m.misses } };
 
     ghost invariant = { λ m. (length m.memory.items ≡ 512 * m.pages) × (1 ≤ m.pages) × (m.pages ≤ 65536) × AreAllKnown m.memory.items (tables_of m.world) m.known };
-}
-
-/// What an instruction adds to the trail.
-fn term(pc: u32, opcode: u8, r: &[u32; 16]) -> u64
-    ensures { result ≡ term pc opcode r.now }
-{
-    let mut sum = u64::from(pc) + 3 * u64::from(opcode);
-    for register in &r[..15] {
-        sum += u64::from(*register);
-    }
-    sum
 }
 
 /// A PSL with another status word.
@@ -225,10 +213,13 @@ impl State {
     }
 
     /// An instruction at an address has retired: its stores are made, the status word is that behind it, and it is counted.
-    pub fn retire(&mut self, pc: u32, opcode: u8, plan: &Plan, missed: &Cell<u32>)
+    /// `total` is the sum of R0 to R14 behind it.
+    pub fn retire(&mut self, pc: u32, opcode: u8, total: u64, plan: &Plan, missed: &Cell<u32>)
+        requires { total ≡ sum (take 15 plan.now.r) }
         ensures { self.new ≡ behind pc opcode (effect plan.now) self.old }
     {
-        self.trail = self.trail.wrapping_add(term(pc, opcode, &plan.r));
+        let own = u64::from(pc) + 3 * u64::from(opcode);
+        self.trail = self.trail.wrapping_add(own).wrapping_add(total);
         self.retired = self.retired.wrapping_add(1);
         let stores = plan.writes.as_slice();
         store_all(

@@ -10,7 +10,7 @@ use vax_hw::{Exit, Hardware, Psl, World};
 use vv_base::NoMemory;
 
 /// A longword at a place.
-type At = (u32, u32);
+pub type At = (u32, u32);
 
 /// The place of the system table's entry 0, and of the P0 table's entries 4 and 5.
 const SYSTEM_0: u32 = 0;
@@ -29,13 +29,13 @@ const LONGS: [At; 7] = [
     (0xC00, 0x22),
 ];
 
-fn put(cpu: &mut Cpu, (place, v): At) {
+pub fn put(cpu: &mut Cpu, (place, v): At) {
     if u64::from(place) + 4 <= 512 * u64::from(cpu.pages()) {
         cpu.write_long(place, v);
     }
 }
 
-fn machine(alloc: Global) -> Result<Cpu, NoMemory> {
+pub fn machine(alloc: Global) -> Result<Cpu, NoMemory> {
     let mut cpu = Cpu::new(alloc, 16)?;
     for i in 0..16 {
         put(&mut cpu, (4 * i, 0xA400_0000 + i));
@@ -48,7 +48,7 @@ fn machine(alloc: Global) -> Result<Cpu, NoMemory> {
 }
 
 /// R1 800, in a mode, 0 to 3.
-fn world(mode: u32, r0: u32, r2: u32) -> World {
+pub fn world(mode: u32, r0: u32, r2: u32) -> World {
     World {
         r: [r0, 0x800, r2, 0, 0, 0, 0, 0, 0, 0, 0, 0, 0, 0, 0, 0x200],
         psl: Psl(mode % 4 * 0x140_0000),

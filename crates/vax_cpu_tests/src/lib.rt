@@ -5,3 +5,5 @@
 mod known;
 #[cfg(test)]
 mod tables;
+#[cfg(test)]
+mod trail;

@@ -44,6 +44,7 @@ pub fn holds(condition: Condition, psw: u8) -> bool
 }
 
 /// A branch, and JMP.
+#[inline(always)]
 #[tactic(auto, unfolding(vax_table::specs::Branches::branched))]
 pub fn branch(condition: Condition, o: &Values, psw: u8, plan: &mut Plan)
     ensures { effect plan.new ≡ branched condition (joined o.now plan.old.r) psw }

@@ -12,7 +12,7 @@ returns-in-Some c =
     let left : suc (c.loop-left._left - 1) ≡ c.loop-left._left = omega arith in
     let retired = rw c.in-Ok.ensures.state at c.retire.ensures in
     let done = attempt_retires c.loop-left.state c.retire.new.self c.loop-left.plan.r c.in-Ok.opcode c.attempt_next.new.plan c.in-Ok.ensures.attempted retired in
-    sym (runs_to_trap (c.loop-left._left - 1) c.in-Some.kind m _ (rw c.in-Some.is at done)) ∙ ap (λ (n : ℕ). real n m) left ∙ c.loop-left.invariant
+    sym (runs_to_trap (c.loop-left._left - 1) c.in-Some.kind m _ (rw c.in-Some.is at done)) ∙ ap (λ (n : ℕ). real n m) left ∙ c.loop-left.invariant.runs
 
 pub loop-left-preserved : goal.loop-left-preserved
 loop-left-preserved c =
@@ -20,7 +20,10 @@ loop-left-preserved c =
     let left : suc (c.loop-left._left - 1) ≡ c.loop-left._left = omega arith in
     let retired = rw c.in-Ok.ensures.state at c.retire.ensures in
     let done = attempt_retires c.loop-left.state c.retire.new.self c.loop-left.plan.r c.in-Ok.opcode c.attempt_next.new.plan c.in-Ok.ensures.attempted retired in
-    sym (runs_on (c.loop-left._left - 1) m _ (rw c.in-None.is at done)) ∙ ap (λ (n : ℕ). real n m) left ∙ c.loop-left.invariant
+    record {
+      runs = sym (runs_on (c.loop-left._left - 1) m _ (rw c.in-None.is at done)) ∙ ap (λ (n : ℕ). real n m) left ∙ c.loop-left.invariant.runs;
+      sum = c.in-Ok.ensures.sum;
+    }
 
 pub returns-in-Err : goal.returns-in-Err
 returns-in-Err c =
@@ -28,4 +31,4 @@ returns-in-Err c =
     let left : suc (c.loop-left._left - 1) ≡ c.loop-left._left = omega arith in
     let stops = rw c.in-Err.ensures.state at c.stop.ensures in
     let stopped = attempt_stops c.loop-left.state c.loop-left.plan.r _ c.in-Err.ensures.attempted ∙ ap (λ (e : Exit). Err e) (sym c.exit_for-exit.ensures) in
-    rw stops (sym (runs_to_stop (c.loop-left._left - 1) m _ stopped) ∙ ap (λ (n : ℕ). real n m) left ∙ c.loop-left.invariant)
+    rw stops (sym (runs_to_stop (c.loop-left._left - 1) m _ stopped) ∙ ap (λ (n : ℕ). real n m) left ∙ c.loop-left.invariant.runs)

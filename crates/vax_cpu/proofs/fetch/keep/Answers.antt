@@ -38,4 +38,4 @@ invariant_of-result-clause-spelled c =
     let spelled : decoded_at (take c.args.decoded.length (c.copy_from_slice.new.self ++ drop (length c.args.bytes.now) c.args.window.now)) ≡ Whole (view c.args.decoded) [] =
     ap decoded_at (take-append-le c.args.decoded.length c.copy_from_slice.new.self (drop (length c.args.bytes.now) c.args.window.now) room
     ∙ ap (λ (xs : List ℕ). take c.args.decoded.length xs) c.copy_from_slice.ensures.after) ∙ c.requires.spelled in
-    subst (λ (d : Decoded). decoded_at (take d.length (c.copy_from_slice.new.self ++ drop (length c.args.bytes.now) c.args.window.now)) ≡ Whole (view d) []) (sym c.new.ensures) spelled
+    subst (λ (d : Decoded). decoded_at (take d.length (c.copy_from_slice.new.self ++ drop (length c.args.bytes.now) c.args.window.now)) ≡ Whole (view d) []) (sym c.new-prepared.ensures) spelled

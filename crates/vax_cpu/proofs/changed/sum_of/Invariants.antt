@@ -1,0 +1,8 @@
+use Rattle.std.proofs.Common.{◌≡◌, ◌*◌, ◌≤◌, ◌^◌, sum, take}
+use Rattle.vax_cpu.proofs.changed.sum_of.Given as goal
+
+abbrev pub invariant-loop-register : goal.invariant-loop-register
+invariant-loop-register l = record {
+  is : l.total ≡ sum (take l.register-index (take 15 l.r));
+  small : l.total ≤ l.register-index * 2 ^ 32;
+}
