@@ -44,17 +44,17 @@ fn trailed(alloc: Global, first: u32, second: u32) -> Result<(Exit, u64, u32), N
         ],
         ..world(3, 0, 0)
     });
-    let _first = cpu.run(first);
-    let exit = cpu.run(second);
+    let _first = cpu.run(first.max(1));
+    let exit = cpu.run(second.max(1));
     Ok((exit, cpu.trail(), cpu.save_world().r[3]))
 }
 
 #[test]
 fn trails_are_summed(rt: HostRuntime) -> Result<(), Fail> {
     for (first, second, trail, r3) in [
-        (0, 7, 0x1E_D148_F9BC, 0xAABB_CC11),
-        (0, 14, 0x2C_FBDF_3726, 0xAABB_CC22),
-        (0, 15, 0x2E_B8D0_1C09, 0xAABB_CC22),
+        (1, 6, 0x1E_D148_F9BC, 0xAABB_CC11),
+        (1, 13, 0x2C_FBDF_3726, 0xAABB_CC22),
+        (1, 14, 0x2E_B8D0_1C09, 0xAABB_CC22),
         (7, 8, 0x2E_B8D0_1C09, 0xAABB_CC22),
         (10, 5, 0x2E_B8D0_1C09, 0xAABB_CC22),
     ] {
