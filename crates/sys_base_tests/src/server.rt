@@ -1,5 +1,6 @@
 //! Terminal `T1` and guest `A` of one class; objects below, above and apart from it.
 use std::alloc::Global;
+use std::process::Abort;
 use std::test::Fail;
 use sys_objects::{Config, GuestRow, Mount, PrinterRow, Rows, Terminal, VolumeRow};
 use sys_server::{Command, Rule, ServerState, Verdict, apply, asked_in, reply, verdict};
@@ -100,136 +101,173 @@ const WRITTEN: Verdict = Verdict::Denied(Rule::Write);
 
 const UNEQUAL: Verdict = Verdict::Denied(Rule::Equal);
 
-fn mounted(unit: u8, volume: u8, write: bool) -> Verdict {
-    Verdict::Granted(Command::MountAt(1, unit, Mount { volume, write }))
+/// A macro, since a constant's value calls no function.
+macro_rules! mounted {
+    ($unit:expr, $volume:expr, $write:expr) => {
+        Verdict::Granted(Command::MountAt(
+            1,
+            $unit,
+            Mount {
+                volume: $volume,
+                write: $write,
+            },
+        ))
+    };
 }
+
+/// Lines of `T1`, and what the server says of them.
+static VERDICTS: [(&str, Verdict); 32] = [
+    ("CONNECT A", Verdict::Granted(Command::Connect(1))),
+    ("CONNECT LOW", UNEQUAL),
+    ("CONNECT HIGH", Verdict::NoSuchObject),
+    ("CONNECT APART", Verdict::NoSuchObject),
+    ("CONNECT X", Verdict::NoSuchObject),
+    ("CONNECT SEC", Verdict::NoSuchObject),
+    ("START A", Verdict::Granted(Command::Start(1))),
+    ("START LOW", UNEQUAL),
+    ("START HIGH", Verdict::NoSuchObject),
+    ("HALT A", Verdict::Granted(Command::Halt(1))),
+    ("HALT LOW", UNEQUAL),
+    ("HALT X", Verdict::NoSuchObject),
+    ("MOUNT A 0 SEC READ", Verdict::NoSuchObject),
+    ("MOUNT A 0 SEC WRITE", Verdict::NoSuchObject),
+    ("MOUNT A 0 SIDE READ", Verdict::NoSuchObject),
+    ("MOUNT A 0 X READ", Verdict::NoSuchObject),
+    ("MOUNT A 0 A READ", Verdict::NoSuchObject),
+    ("MOUNT A 0 PUB WRITE", WRITTEN),
+    ("MOUNT A 0 PUB READ", mounted!(0, 1, false)),
+    ("MOUNT A 1 OWN READ", mounted!(1, 2, false)),
+    ("MOUNT A 3 OWN WRITE", mounted!(3, 2, true)),
+    ("MOUNT LOW 0 PUB WRITE", UNEQUAL),
+    ("MOUNT LOW 0 SEC READ", Verdict::NoSuchObject),
+    ("MOUNT HIGH 0 PUB READ", Verdict::NoSuchObject),
+    ("DISMOUNT A 2", Verdict::NoSuchObject),
+    ("DISMOUNT A 1", Verdict::Granted(Command::Dismount(1, 1))),
+    ("DISMOUNT LOW 1", UNEQUAL),
+    ("DISMOUNT LOW 2", UNEQUAL),
+    ("DISMOUNT HIGH 1", Verdict::NoSuchObject),
+    ("SHOW", Verdict::Granted(Command::Show)),
+    ("MOUNT A 4 PUB READ", Verdict::BadCommand),
+    ("", Verdict::BadCommand),
+];
 
 #[test]
 fn each_command_has_its_verdict(rt: HostRuntime) -> Result<(), Fail> {
     let c = config(rt.alloc())?;
     assert!(rt; c.guests.len() <= 16 && c.volumes.len() <= 16 && c.terminals.len() == 1);
     let s = state();
-    let verdicts: [(&str, Verdict); 32] = [
-        ("CONNECT A", Verdict::Granted(Command::Connect(1))),
-        ("CONNECT LOW", UNEQUAL),
-        ("CONNECT HIGH", Verdict::NoSuchObject),
-        ("CONNECT APART", Verdict::NoSuchObject),
-        ("CONNECT X", Verdict::NoSuchObject),
-        ("CONNECT SEC", Verdict::NoSuchObject),
-        ("START A", Verdict::Granted(Command::Start(1))),
-        ("START LOW", UNEQUAL),
-        ("START HIGH", Verdict::NoSuchObject),
-        ("HALT A", Verdict::Granted(Command::Halt(1))),
-        ("HALT LOW", UNEQUAL),
-        ("HALT X", Verdict::NoSuchObject),
-        ("MOUNT A 0 SEC READ", Verdict::NoSuchObject),
-        ("MOUNT A 0 SEC WRITE", Verdict::NoSuchObject),
-        ("MOUNT A 0 SIDE READ", Verdict::NoSuchObject),
-        ("MOUNT A 0 X READ", Verdict::NoSuchObject),
-        ("MOUNT A 0 A READ", Verdict::NoSuchObject),
-        ("MOUNT A 0 PUB WRITE", WRITTEN),
-        ("MOUNT A 0 PUB READ", mounted(0, 1, false)),
-        ("MOUNT A 1 OWN READ", mounted(1, 2, false)),
-        ("MOUNT A 3 OWN WRITE", mounted(3, 2, true)),
-        ("MOUNT LOW 0 PUB WRITE", UNEQUAL),
-        ("MOUNT LOW 0 SEC READ", Verdict::NoSuchObject),
-        ("MOUNT HIGH 0 PUB READ", Verdict::NoSuchObject),
-        ("DISMOUNT A 2", Verdict::NoSuchObject),
-        ("DISMOUNT A 1", Verdict::Granted(Command::Dismount(1, 1))),
-        ("DISMOUNT LOW 1", UNEQUAL),
-        ("DISMOUNT LOW 2", UNEQUAL),
-        ("DISMOUNT HIGH 1", Verdict::NoSuchObject),
-        ("SHOW", Verdict::Granted(Command::Show)),
-        ("MOUNT A 4 PUB READ", Verdict::BadCommand),
-        ("", Verdict::BadCommand),
-    ];
-    for (text, wanted) in verdicts {
-        assert_eq!(rt; verdict(&c, &s, 0, text.as_bytes()), wanted, "{text}");
+    for (text, wanted) in &VERDICTS {
+        assert_eq!(rt; verdict(&c, &s, 0, text.as_bytes()), *wanted, "{text}");
     }
     Ok(())
 }
 
+/// Lines that are no commands.
+static OTHERS: [&str; 46] = [
+    "SHOW ",
+    " SHOW",
+    "SHOW SHOW",
+    "show",
+    "SHO",
+    "SHOWS",
+    "\tSHOW",
+    "CONNECT",
+    "CONNECT ",
+    "CONNECT  A",
+    " CONNECT A",
+    "CONNECT A ",
+    "CONNECTA",
+    "CONNECT A B",
+    "connect A",
+    "CONNECT a",
+    "CONNECT 1A",
+    "CONNECT ABCDEFGHI",
+    "START",
+    "START A 0",
+    "Start A",
+    "HALT",
+    "HALT  A",
+    "HALT A\r",
+    "DISMOUNT A",
+    "DISMOUNT A 4",
+    "DISMOUNT A 00",
+    "DISMOUNT A  0",
+    "DISMOUNT A 0 ",
+    "DISMOUNT A x",
+    "DISMOUNT 0 A",
+    "dismount A 0",
+    "MOUNT A 0 PUB",
+    "MOUNT A 0 PUB ",
+    "MOUNT A 0 PUB read",
+    "MOUNT A 0 PUB READ ",
+    "MOUNT A 0 PUB READS",
+    "MOUNT A 0 PUB READ WRITE",
+    "MOUNT A 4 PUB READ",
+    "MOUNT A 10 PUB READ",
+    "MOUNT A  PUB READ",
+    "MOUNT A 0 ABCDEFGHI READ",
+    "MOUNT A 0  READ",
+    "MOUNT A 0 1P READ",
+    "MOUNT PUB READ",
+    "MOUNT 1A 0 PUB READ",
+];
+
 #[test]
 fn other_lines_are_no_commands(rt: HostRuntime) {
-    for text in [
-        "SHOW ",
-        " SHOW",
-        "SHOW SHOW",
-        "show",
-        "SHO",
-        "SHOWS",
-        "\tSHOW",
-        "CONNECT",
-        "CONNECT ",
-        "CONNECT  A",
-        " CONNECT A",
-        "CONNECT A ",
-        "CONNECTA",
-        "CONNECT A B",
-        "connect A",
-        "CONNECT a",
-        "CONNECT 1A",
-        "CONNECT ABCDEFGHI",
-        "START",
-        "START A 0",
-        "Start A",
-        "HALT",
-        "HALT  A",
-        "HALT A\r",
-        "DISMOUNT A",
-        "DISMOUNT A 4",
-        "DISMOUNT A 00",
-        "DISMOUNT A  0",
-        "DISMOUNT A 0 ",
-        "DISMOUNT A x",
-        "DISMOUNT 0 A",
-        "dismount A 0",
-        "MOUNT A 0 PUB",
-        "MOUNT A 0 PUB ",
-        "MOUNT A 0 PUB read",
-        "MOUNT A 0 PUB READ ",
-        "MOUNT A 0 PUB READS",
-        "MOUNT A 0 PUB READ WRITE",
-        "MOUNT A 4 PUB READ",
-        "MOUNT A 10 PUB READ",
-        "MOUNT A  PUB READ",
-        "MOUNT A 0 ABCDEFGHI READ",
-        "MOUNT A 0  READ",
-        "MOUNT A 0 1P READ",
-        "MOUNT PUB READ",
-        "MOUNT 1A 0 PUB READ",
-    ] {
+    for text in &OTHERS {
         assert_eq!(rt; asked_in(text.as_bytes()).is_none(), true, "{text}");
     }
 }
 
+/// Verdicts, and what the terminal is told.
+static REPLIES: [(Verdict, &str); 5] = [
+    (Verdict::Granted(Command::Show), "OK"),
+    (Verdict::BadCommand, "BAD COMMAND"),
+    (Verdict::NoSuchObject, "NO SUCH OBJECT"),
+    (UNEQUAL, "DENIED EQUAL"),
+    (WRITTEN, "DENIED WRITE"),
+];
+
 #[test]
-fn replies_and_commands_are_done(rt: HostRuntime) {
-    for (verdict, text) in [
-        (Verdict::Granted(Command::Show), "OK"),
-        (Verdict::BadCommand, "BAD COMMAND"),
-        (Verdict::NoSuchObject, "NO SUCH OBJECT"),
-        (UNEQUAL, "DENIED EQUAL"),
-        (WRITTEN, "DENIED WRITE"),
-    ] {
-        assert_eq!(rt; reply(&verdict), text);
+fn each_verdict_has_its_reply(rt: HostRuntime) {
+    for (verdict, text) in &REPLIES {
+        assert_eq!(rt; reply(verdict), *text);
     }
-    let mut s = state();
-    assert_eq!(rt; apply(&mut s, 3, &Command::Connect(1)), None);
-    assert_eq!(rt; apply(&mut s, 4, &Command::Connect(1)), Some(3));
-    assert_eq!(rt; apply(&mut s, 4, &Command::Connect(1)), None);
+}
+
+/// The guest's console is taken from one terminal by another.
+fn connects(rt: &impl Abort, s: &mut ServerState) {
+    assert_eq!(rt; apply(s, 3, &Command::Connect(1)), None);
+    assert_eq!(rt; apply(s, 4, &Command::Connect(1)), Some(3));
+    assert_eq!(rt; apply(s, 4, &Command::Connect(1)), None);
     assert!(rt; s.at[3].is_none() && s.at[4] == Some(1));
-    assert_eq!(rt; apply(&mut s, 0, &Command::Start(1)), None);
-    assert_eq!(rt; s.running[1] && !s.running[0], true);
-    assert_eq!(rt; apply(&mut s, 0, &Command::Halt(1)), None);
-    assert_eq!(rt; s.running[1], false);
+}
+
+/// The guest alone starts, and is halted.
+fn starts_and_halts(rt: &impl Abort, s: &mut ServerState) {
+    assert_eq!(rt; apply(s, 0, &Command::Start(1)), None);
+    assert!(rt; s.running[1] && !s.running[0]);
+    assert_eq!(rt; apply(s, 0, &Command::Halt(1)), None);
+    assert!(rt; !s.running[1]);
+}
+
+/// A volume is mounted and dismounted.
+fn mounts(rt: &impl Abort, s: &mut ServerState) {
     let mount = Mount {
         volume: 1,
         write: true,
     };
-    assert_eq!(rt; apply(&mut s, 0, &Command::MountAt(15, 3, mount)), None);
+    assert_eq!(rt; apply(s, 0, &Command::MountAt(15, 3, mount)), None);
     assert_eq!(rt; s.mounts[15][3], Some(mount));
-    assert_eq!(rt; apply(&mut s, 0, &Command::Dismount(15, 3)), None);
+    assert_eq!(rt; apply(s, 0, &Command::Dismount(15, 3)), None);
     assert_eq!(rt; s.mounts[15][3], None);
+}
+
+#[test]
+fn commands_are_done(rt: HostRuntime) {
+    let mut s = state();
+    connects(&rt, &mut s);
+    starts_and_halts(&rt, &mut s);
+    mounts(&rt, &mut s);
     assert_eq!(rt; apply(&mut s, 0, &Command::Show), None);
 }

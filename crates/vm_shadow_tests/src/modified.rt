@@ -2,44 +2,59 @@
 //! from the page.
 
 use crate::{Bench, Event, MAPPED, Registers};
+use std::alloc::Global;
+use std::process::Abort;
 use std::test::Fail;
+use vv_base::NoMemory;
 
 /// Entries of the page at 1000; whether writes can be granted; and whether they can be once the modify bit is set. Frame 21
 /// has the P0 table, frame 20 the system table.
+static GRANTS: [(u32, bool, bool); 8] = [
+    (0xA400_0008, true, true),
+    (0xA000_0008, false, true),
+    (0xA400_0021, false, false),
+    (0xA000_0021, false, false),
+    (0xA400_0020, false, false),
+    (0x2400_0008, false, false),
+    (0xA400_0040, false, false),
+    (0xF800_0008, false, true),
+];
+
+/// Writes to the page at 1000 are granted as they are to be before its modify bit is set, and behind it.
+fn is_granted(
+    rt: &impl Abort,
+    alloc: Global,
+    entry: u32,
+    granted: bool,
+    marked: bool,
+) -> Result<(), NoMemory> {
+    let mut bench = Bench::with_tables(alloc, &MAPPED)?;
+    let _ = bench.put(0x4220, entry);
+    let _ = bench.touch_all();
+    assert!(rt; !bench.is_open(0x1000), "{entry:x}");
+    let first = bench.grant(0x1000);
+    assert!(rt;
+        first == granted && bench.is_open(0x1000) == granted,
+        "{entry:x}"
+    );
+    bench.mark(0x1000);
+    let second = bench.grant(0x1000);
+    assert!(rt;
+        second == marked && bench.is_open(0x1000) == marked,
+        "{entry:x}"
+    );
+    let followed = bench.follow(&[
+        Event::Touch { va: 0x1000 },
+        Event::Grant { va: 0x8000_0000 },
+    ]);
+    assert!(rt; followed.is_ok(), "{entry:x}");
+    Ok(())
+}
+
 #[test]
 fn grants(rt: HostRuntime) -> Result<(), Fail> {
-    for (entry, granted, marked) in [
-        (0xA400_0008, true, true),
-        (0xA000_0008, false, true),
-        (0xA400_0021, false, false),
-        (0xA000_0021, false, false),
-        (0xA400_0020, false, false),
-        (0x2400_0008, false, false),
-        (0xA400_0040, false, false),
-        (0xF800_0008, false, true),
-    ] {
-        let mut bench = Bench::with_tables(rt.alloc(), &MAPPED)?;
-        let _ = bench.put(0x4220, entry);
-        let _ = bench.touch_all();
-        assert!(rt; !bench.is_open(0x1000), "{entry:x}");
-        let first = bench.grant(0x1000);
-        assert_eq!(rt;
-            (first, bench.is_open(0x1000)),
-            (granted, granted),
-            "{entry:x}"
-        );
-        bench.mark(0x1000);
-        let second = bench.grant(0x1000);
-        assert_eq!(rt;
-            (second, bench.is_open(0x1000)),
-            (marked, marked),
-            "{entry:x}"
-        );
-        let followed = bench.follow(&[
-            Event::Touch { va: 0x1000 },
-            Event::Grant { va: 0x8000_0000 },
-        ]);
-        assert_eq!(rt; followed.is_ok(), true, "{entry:x}");
+    for (entry, granted, marked) in &GRANTS {
+        is_granted(&rt, rt.alloc(), *entry, *granted, *marked)?;
     }
     Ok(())
 }

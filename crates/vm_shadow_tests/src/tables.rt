@@ -1,238 +1,252 @@
 //! The machine's answers are the guest's, over tables of all kinds, before and after writes of their entries.
 
 use crate::{Bench, Event, MAPPED, Registers};
+use std::alloc::Global;
+use std::process::Abort;
 use std::test::Fail;
+use vv_base::NoMemory;
+
+/// Table registers with mapping on. Macros, since a constant's value calls no function.
+macro_rules! registers {
+    ($p0br:expr, $p0lr:expr, $p1br:expr, $p1lr:expr, $sbr:expr, $slr:expr) => {
+        Registers {
+            mapen: true,
+            p0br: $p0br,
+            p0lr: $p0lr,
+            p1br: $p1br,
+            p1lr: $p1lr,
+            sbr: $sbr,
+            slr: $slr,
+        }
+    };
+}
 
 /// With a P0 table of another base and length.
-const fn p0(p0br: u32, p0lr: u32) -> Registers {
-    Registers {
-        mapen: true,
-        p0br,
-        p0lr,
-        p1br: 0,
-        p1lr: 0x20_0000,
-        sbr: 0x4000,
-        slr: 64,
-    }
+macro_rules! p0 {
+    ($p0br:expr, $p0lr:expr) => {
+        registers!($p0br, $p0lr, 0, 0x20_0000, 0x4000, 64)
+    };
 }
 
 /// With a P1 table.
-const fn p1(p1br: u32, p1lr: u32) -> Registers {
-    Registers {
-        mapen: true,
-        p0br: 0x8000_4200,
-        p0lr: 64,
-        p1br,
-        p1lr,
-        sbr: 0x4000,
-        slr: 64,
-    }
+macro_rules! p1 {
+    ($p1br:expr, $p1lr:expr) => {
+        registers!(0x8000_4200, 64, $p1br, $p1lr, 0x4000, 64)
+    };
 }
 
 /// With another system table.
-const fn system(sbr: u32, slr: u32) -> Registers {
-    Registers {
-        mapen: true,
-        p0br: 0x8000_4200,
-        p0lr: 64,
-        p1br: 0,
-        p1lr: 0x20_0000,
-        sbr,
-        slr,
-    }
+macro_rules! system {
+    ($sbr:expr, $slr:expr) => {
+        registers!(0x8000_4200, 64, 0, 0x20_0000, $sbr, $slr)
+    };
 }
 
-/// Each case: registers; how many pages among those that are compared have frames then; and two events.
+/// Registers; how many pages among those that are compared have frames then; and two events.
+type Row = (Registers, u32, Event, Event);
+
+/// Mapping off.
+const OFF: Registers = Registers {
+    mapen: false,
+    ..MAPPED
+};
+
+static ROWS: [Row; 15] = [
+    // P0 and S as they are; the P0 table's page is written through itself, then the system table's.
+    (
+        MAPPED,
+        128,
+        Event::Put {
+            pa: 0x4284,
+            long: 0xA400_0020,
+        },
+        Event::Put {
+            pa: 0x4080,
+            long: 0xA400_0021,
+        },
+    ),
+    // Mapping off.
+    (
+        OFF,
+        64,
+        Event::Put {
+            pa: 0x4220,
+            long: 0,
+        },
+        Event::Load(MAPPED),
+    ),
+    // No P0 page, and as many as there can be.
+    (
+        p0!(0x8000_4200, 0),
+        64,
+        Event::Put {
+            pa: 0x4200,
+            long: 5,
+        },
+        Event::Load(MAPPED),
+    ),
+    (
+        p0!(0x8000_4200, 8192),
+        128,
+        Event::Put {
+            pa: 0x4300,
+            long: 0xA400_0001,
+        },
+        Event::Put {
+            pa: 0x4000,
+            long: 0x2000_0000,
+        },
+    ),
+    // A P0 table that is the system table, one in the last page, and one beyond it.
+    (
+        p0!(0x8000_4000, 64),
+        128,
+        Event::Put {
+            pa: 0x4080,
+            long: 0xA400_0021,
+        },
+        Event::Put {
+            pa: 0x4080,
+            long: 0,
+        },
+    ),
+    (
+        p0!(0x8000_7E00, 64),
+        64,
+        Event::Put {
+            pa: 0x7E04,
+            long: 0xA400_003F,
+        },
+        Event::Put {
+            pa: 0x40FC,
+            long: 0xA400_0040,
+        },
+    ),
+    (
+        p0!(0x8000_7FFC, 64),
+        64,
+        Event::Put {
+            pa: 0x7FFC,
+            long: 0xA400_003F,
+        },
+        Event::Put {
+            pa: 0x4100,
+            long: 0xA400_0021,
+        },
+    ),
+    // P1 empty, with its eight last pages, with the most that there can be, at its lower end and at its upper end.
+    (
+        p1!(0x7F80_4320, 0x20_0000),
+        128,
+        Event::Put {
+            pa: 0x433C,
+            long: 0xA400_0003,
+        },
+        Event::Load(MAPPED),
+    ),
+    (
+        p1!(0x7F80_4220, 0x1F_FFF8),
+        136,
+        Event::Put {
+            pa: 0x421C,
+            long: 0xA400_0003,
+        },
+        Event::Put {
+            pa: 0x4200,
+            long: 0xA400_0040,
+        },
+    ),
+    (
+        p1!(0x7F80_C200, 0x1F_E000),
+        130,
+        Event::Put {
+            pa: 0x4204,
+            long: 0x8400_0003,
+        },
+        Event::Put {
+            pa: 0x4200,
+            long: 0x9400_0004,
+        },
+    ),
+    (
+        p1!(0x7F80_4200, 0x1F_E000),
+        128,
+        Event::Put {
+            pa: 0x41FC,
+            long: 0xA400_0005,
+        },
+        Event::Put {
+            pa: 0x4084,
+            long: 0,
+        },
+    ),
+    // No system page, and as many as there can be; a system table in the P0 table's page, and one at memory's end.
+    (
+        system!(0x4000, 0),
+        0,
+        Event::Put {
+            pa: 0x4000,
+            long: 0,
+        },
+        Event::Load(MAPPED),
+    ),
+    (
+        system!(0x4000, 8192),
+        129,
+        Event::Put {
+            pa: 0x4100,
+            long: 0xA400_0040,
+        },
+        Event::Put {
+            pa: 0x4200,
+            long: 0xA41F_FFFF,
+        },
+    ),
+    (
+        system!(0x4200, 64),
+        128,
+        Event::Put {
+            pa: 0x4284,
+            long: 0xA400_0020,
+        },
+        Event::Put {
+            pa: 0x4284,
+            long: 0xA400_0022,
+        },
+    ),
+    (
+        system!(0x7FFC, 64),
+        0,
+        Event::Put {
+            pa: 0x7FFC,
+            long: 0xA400_0005,
+        },
+        Event::Put {
+            pa: 0x7FFC,
+            long: 0xA41F_FFFF,
+        },
+    ),
+];
+
+/// The machine agrees with the guest's tables before its pages are filled, behind it, and behind each of the events.
+fn agrees(rt: &impl Abort, alloc: Global, row: &Row) -> Result<(), NoMemory> {
+    let (registers, pages, first, second) = *row;
+    let mut bench = Bench::with_tables(alloc, &registers)?;
+    let before = bench.mismatch(false);
+    assert_eq!(rt; before, None, "{registers:?}");
+    let filled = bench.touch_all();
+    assert_eq!(rt; filled, pages, "{registers:?}");
+    let after = bench.mismatch(true);
+    assert_eq!(rt; after, None, "{registers:?}");
+    let followed = bench.follow(&[first, second]);
+    assert_eq!(rt; followed, Ok(2), "{registers:?}");
+    Ok(())
+}
+
 #[test]
 fn tables_of_all_kinds(rt: HostRuntime) -> Result<(), Fail> {
-    for (registers, pages, first, second) in [
-        // P0 and S as they are; the P0 table's page is written through itself, then the system table's.
-        (
-            MAPPED,
-            128,
-            Event::Put {
-                pa: 0x4284,
-                long: 0xA400_0020,
-            },
-            Event::Put {
-                pa: 0x4080,
-                long: 0xA400_0021,
-            },
-        ),
-        // Mapping off.
-        (
-            Registers {
-                mapen: false,
-                ..MAPPED
-            },
-            64,
-            Event::Put {
-                pa: 0x4220,
-                long: 0,
-            },
-            Event::Load(MAPPED),
-        ),
-        // No P0 page, and as many as there can be.
-        (
-            p0(0x8000_4200, 0),
-            64,
-            Event::Put {
-                pa: 0x4200,
-                long: 5,
-            },
-            Event::Load(MAPPED),
-        ),
-        (
-            p0(0x8000_4200, 8192),
-            128,
-            Event::Put {
-                pa: 0x4300,
-                long: 0xA400_0001,
-            },
-            Event::Put {
-                pa: 0x4000,
-                long: 0x2000_0000,
-            },
-        ),
-        // A P0 table that is the system table, one in the last page, and one beyond it.
-        (
-            p0(0x8000_4000, 64),
-            128,
-            Event::Put {
-                pa: 0x4080,
-                long: 0xA400_0021,
-            },
-            Event::Put {
-                pa: 0x4080,
-                long: 0,
-            },
-        ),
-        (
-            p0(0x8000_7E00, 64),
-            64,
-            Event::Put {
-                pa: 0x7E04,
-                long: 0xA400_003F,
-            },
-            Event::Put {
-                pa: 0x40FC,
-                long: 0xA400_0040,
-            },
-        ),
-        (
-            p0(0x8000_7FFC, 64),
-            64,
-            Event::Put {
-                pa: 0x7FFC,
-                long: 0xA400_003F,
-            },
-            Event::Put {
-                pa: 0x4100,
-                long: 0xA400_0021,
-            },
-        ),
-        // P1 empty, with its eight last pages, with the most that there can be, at its lower end and at its upper end.
-        (
-            p1(0x7F80_4320, 0x20_0000),
-            128,
-            Event::Put {
-                pa: 0x433C,
-                long: 0xA400_0003,
-            },
-            Event::Load(MAPPED),
-        ),
-        (
-            p1(0x7F80_4220, 0x1F_FFF8),
-            136,
-            Event::Put {
-                pa: 0x421C,
-                long: 0xA400_0003,
-            },
-            Event::Put {
-                pa: 0x4200,
-                long: 0xA400_0040,
-            },
-        ),
-        (
-            p1(0x7F80_C200, 0x1F_E000),
-            130,
-            Event::Put {
-                pa: 0x4204,
-                long: 0x8400_0003,
-            },
-            Event::Put {
-                pa: 0x4200,
-                long: 0x9400_0004,
-            },
-        ),
-        (
-            p1(0x7F80_4200, 0x1F_E000),
-            128,
-            Event::Put {
-                pa: 0x41FC,
-                long: 0xA400_0005,
-            },
-            Event::Put {
-                pa: 0x4084,
-                long: 0,
-            },
-        ),
-        // No system page, and as many as there can be; a system table in the P0 table's page, and one at memory's end.
-        (
-            system(0x4000, 0),
-            0,
-            Event::Put {
-                pa: 0x4000,
-                long: 0,
-            },
-            Event::Load(MAPPED),
-        ),
-        (
-            system(0x4000, 8192),
-            129,
-            Event::Put {
-                pa: 0x4100,
-                long: 0xA400_0040,
-            },
-            Event::Put {
-                pa: 0x4200,
-                long: 0xA41F_FFFF,
-            },
-        ),
-        (
-            system(0x4200, 64),
-            128,
-            Event::Put {
-                pa: 0x4284,
-                long: 0xA400_0020,
-            },
-            Event::Put {
-                pa: 0x4284,
-                long: 0xA400_0022,
-            },
-        ),
-        (
-            system(0x7FFC, 64),
-            0,
-            Event::Put {
-                pa: 0x7FFC,
-                long: 0xA400_0005,
-            },
-            Event::Put {
-                pa: 0x7FFC,
-                long: 0xA41F_FFFF,
-            },
-        ),
-    ] {
-        let mut bench = Bench::with_tables(rt.alloc(), &registers)?;
-        let before = bench.mismatch(false);
-        assert_eq!(rt; before, None, "{registers:?}");
-        let filled = bench.touch_all();
-        assert_eq!(rt; filled, pages, "{registers:?}");
-        let after = bench.mismatch(true);
-        assert_eq!(rt; after, None, "{registers:?}");
-        let followed = bench.follow(&[first, second]);
-        assert_eq!(rt; followed, Ok(2), "{registers:?}");
+    for row in &ROWS {
+        agrees(&rt, rt.alloc(), row)?;
     }
     Ok(())
 }

@@ -1,169 +1,191 @@
 //! Frames of tables that the guest itself writes, each in a guarded step, or that the kernel writes.
 
 use crate::{Bench, Event, MAPPED, NoPlace, Registers};
+use std::alloc::Global;
+use std::process::Abort;
 use std::test::Fail;
+use vv_base::NoMemory;
+
+/// The entry of page 8, an address, a write, and the frame of the address's page behind it.
+type Written = (u32, u32, Event, u32);
+
+static WRITTEN: [Written; 9] = [
+    // Page 8 is at frame 5; its entry is written at its system address, then at its P0 address.
+    (
+        0xA400_0005,
+        0x1000,
+        Event::Write {
+            va: 0x8000_4220,
+            byte: 6,
+        },
+        6,
+    ),
+    (
+        0xA400_0005,
+        0x1000,
+        Event::Write {
+            va: 0x4220,
+            byte: 7,
+        },
+        7,
+    ),
+    // Page 8 is the P0 table: page 9's entry is written through it, then page 8's own.
+    (
+        0xA400_0021,
+        0x1200,
+        Event::Write {
+            va: 0x1024,
+            byte: 6,
+        },
+        6,
+    ),
+    (
+        0xA400_0021,
+        0x1000,
+        Event::Write {
+            va: 0x1020,
+            byte: 5,
+        },
+        5,
+    ),
+    // Page 8 is the system table: the entry of the P0 table's page becomes that of the system table.
+    (
+        0xA400_0020,
+        0x1000,
+        Event::Write {
+            va: 0x1084,
+            byte: 0x20,
+        },
+        8,
+    ),
+    // The entry of the P0 table's page, by the system page that maps the system table.
+    (
+        0xA400_0005,
+        0x1000,
+        Event::Write {
+            va: 0x8000_4084,
+            byte: 0x20,
+        },
+        8,
+    ),
+    // The kernel writes the same entries.
+    (
+        0xA400_0005,
+        0x1000,
+        Event::Put {
+            pa: 0x4220,
+            long: 0xA400_0006,
+        },
+        6,
+    ),
+    (
+        0xA400_0005,
+        0x1000,
+        Event::PutByte {
+            pa: 0x4084,
+            byte: 0x20,
+        },
+        8,
+    ),
+    // The last frame of memory.
+    (
+        0xA400_0005,
+        0x1200,
+        Event::Write {
+            va: 0x8000_4224,
+            byte: 63,
+        },
+        63,
+    ),
+];
 
 /// A page's frame changes with a byte that is written by a page that maps its table.
+fn is_moved(rt: &impl Abort, alloc: Global, row: &Written) -> Result<(), NoMemory> {
+    let (entry_8, va, write, frame) = *row;
+    let mut bench = Bench::with_tables(alloc, &MAPPED)?;
+    let before = bench.follow(&[Event::Put {
+        pa: 0x4220,
+        long: entry_8,
+    }]);
+    assert_eq!(rt; before, Ok(1));
+    let followed = bench.follow(&[write]);
+    assert_eq!(rt; followed, Ok(1), "{entry_8:x} {write:?}");
+    assert_eq!(rt; bench.real_frame(va), Ok(frame), "{entry_8:x} {write:?}");
+    Ok(())
+}
+
 #[test]
 fn tables_written_by_the_guest(rt: HostRuntime) -> Result<(), Fail> {
-    for (entry_8, va, write, frame) in [
-        // Page 8 is at frame 5; its entry is written at its system address, then at its P0 address.
-        (
-            0xA400_0005,
-            0x1000,
-            Event::Write {
-                va: 0x8000_4220,
-                byte: 6,
-            },
-            6,
-        ),
-        (
-            0xA400_0005,
-            0x1000,
-            Event::Write {
-                va: 0x4220,
-                byte: 7,
-            },
-            7,
-        ),
-        // Page 8 is the P0 table: page 9's entry is written through it, then page 8's own.
-        (
-            0xA400_0021,
-            0x1200,
-            Event::Write {
-                va: 0x1024,
-                byte: 6,
-            },
-            6,
-        ),
-        (
-            0xA400_0021,
-            0x1000,
-            Event::Write {
-                va: 0x1020,
-                byte: 5,
-            },
-            5,
-        ),
-        // Page 8 is the system table: the entry of the P0 table's page becomes that of the system table.
-        (
-            0xA400_0020,
-            0x1000,
-            Event::Write {
-                va: 0x1084,
-                byte: 0x20,
-            },
-            8,
-        ),
-        // The entry of the P0 table's page, by the system page that maps the system table.
-        (
-            0xA400_0005,
-            0x1000,
-            Event::Write {
-                va: 0x8000_4084,
-                byte: 0x20,
-            },
-            8,
-        ),
-        // The kernel writes the same entries.
-        (
-            0xA400_0005,
-            0x1000,
-            Event::Put {
-                pa: 0x4220,
-                long: 0xA400_0006,
-            },
-            6,
-        ),
-        (
-            0xA400_0005,
-            0x1000,
-            Event::PutByte {
-                pa: 0x4084,
-                byte: 0x20,
-            },
-            8,
-        ),
-        // The last frame of memory.
-        (
-            0xA400_0005,
-            0x1200,
-            Event::Write {
-                va: 0x8000_4224,
-                byte: 63,
-            },
-            63,
-        ),
-    ] {
-        let mut bench = Bench::with_tables(rt.alloc(), &MAPPED)?;
-        let before = bench.follow(&[Event::Put {
-            pa: 0x4220,
-            long: entry_8,
-        }]);
-        assert_eq!(rt; before, Ok(1));
-        let followed = bench.follow(&[write]);
-        assert_eq!(rt; followed, Ok(1), "{entry_8:x} {write:?}");
-        assert_eq!(rt; bench.real_frame(va), Ok(frame), "{entry_8:x} {write:?}");
+    for row in &WRITTEN {
+        is_moved(&rt, rt.alloc(), row)?;
     }
     Ok(())
 }
 
+/// A write, and where a page of P0 and one of the system are behind it.
+type Dropped = (Event, Result<u32, NoPlace>, Result<u32, NoPlace>);
+
+static DROPPED: [Dropped; 8] = [
+    (
+        Event::Put {
+            pa: 0x4220,
+            long: 0xA400_0006,
+        },
+        Err(NoPlace::Absent),
+        Ok(3),
+    ),
+    (
+        Event::Put {
+            pa: 0x4000,
+            long: 0xA400_0006,
+        },
+        Err(NoPlace::Absent),
+        Err(NoPlace::Absent),
+    ),
+    (
+        Event::Put {
+            pa: 0x4400,
+            long: 0xA400_0006,
+        },
+        Ok(2),
+        Ok(3),
+    ),
+    (
+        Event::Write {
+            va: 0x4400,
+            byte: 7,
+        },
+        Ok(2),
+        Ok(3),
+    ),
+    (Event::Mark { va: 0x0400 }, Err(NoPlace::Absent), Ok(3)),
+    (
+        Event::Mark { va: 0x8000_0600 },
+        Err(NoPlace::Absent),
+        Err(NoPlace::Absent),
+    ),
+    (Event::Mark { va: 0x4000_0000 }, Ok(2), Ok(3)),
+    (Event::Load(MAPPED), Ok(2), Ok(3)),
+];
+
 /// What is behind a write, without all pages being filled anew: only the written table's pages are missed.
+fn is_dropped(rt: &impl Abort, alloc: Global, row: &Dropped) -> Result<(), NoMemory> {
+    let (write, process, system) = *row;
+    let mut bench = Bench::with_tables(alloc, &MAPPED)?;
+    let before = bench.follow(&[]);
+    assert_eq!(rt; before, Ok(0));
+    let filled = bench.touch_all();
+    assert_eq!(rt; filled, 128);
+    let _ = bench.happen(write);
+    assert_eq!(rt; bench.real_frame(0x400), process, "{write:?}");
+    assert_eq!(rt; bench.real_frame(0x8000_0600), system, "{write:?}");
+    Ok(())
+}
+
 #[test]
 fn only_what_was_read_is_dropped(rt: HostRuntime) -> Result<(), Fail> {
-    for (write, process, system) in [
-        (
-            Event::Put {
-                pa: 0x4220,
-                long: 0xA400_0006,
-            },
-            Err(NoPlace::Absent),
-            Ok(3),
-        ),
-        (
-            Event::Put {
-                pa: 0x4000,
-                long: 0xA400_0006,
-            },
-            Err(NoPlace::Absent),
-            Err(NoPlace::Absent),
-        ),
-        (
-            Event::Put {
-                pa: 0x4400,
-                long: 0xA400_0006,
-            },
-            Ok(2),
-            Ok(3),
-        ),
-        (
-            Event::Write {
-                va: 0x4400,
-                byte: 7,
-            },
-            Ok(2),
-            Ok(3),
-        ),
-        (Event::Mark { va: 0x0400 }, Err(NoPlace::Absent), Ok(3)),
-        (
-            Event::Mark { va: 0x8000_0600 },
-            Err(NoPlace::Absent),
-            Err(NoPlace::Absent),
-        ),
-        (Event::Mark { va: 0x4000_0000 }, Ok(2), Ok(3)),
-        (Event::Load(MAPPED), Ok(2), Ok(3)),
-    ] {
-        let mut bench = Bench::with_tables(rt.alloc(), &MAPPED)?;
-        let before = bench.follow(&[]);
-        assert_eq!(rt; before, Ok(0));
-        let filled = bench.touch_all();
-        assert_eq!(rt; filled, 128);
-        let _ = bench.happen(write);
-        assert_eq!(rt;
-            (bench.real_frame(0x400), bench.real_frame(0x8000_0600)),
-            (process, system),
-            "{write:?}"
-        );
+    for row in &DROPPED {
+        is_dropped(&rt, rt.alloc(), row)?;
     }
     Ok(())
 }

@@ -5,7 +5,7 @@ use std::process::Abort;
 use std::test::Fail;
 use vax_cpu::Cpu;
 use vv_base::NoMemory;
-use vv_examples::{Example, PAGE_FAULT, TIMESHARING, TWO_LEVELS, play};
+use vv_examples::{Example, examples, play};
 use vv_stage::{PAGES, Told, plain, run_words};
 
 /// What a line is to show.
@@ -82,7 +82,7 @@ fn check_run(
 fn the_sources_are_the_images(rt: HostRuntime) -> Result<(), Fail> {
     let alloc = rt.alloc();
     let mut machine = Cpu::new(alloc, PAGES)?;
-    for example in &[TWO_LEVELS, TIMESHARING, PAGE_FAULT] {
+    for example in examples() {
         check_images(&rt, alloc, &mut machine, example)?;
     }
     Ok(())
@@ -92,7 +92,7 @@ fn the_sources_are_the_images(rt: HostRuntime) -> Result<(), Fail> {
 fn all_comes_out_as_expected(rt: HostRuntime) -> Result<(), Fail> {
     let alloc = rt.alloc();
     let mut machine = Cpu::new(alloc, PAGES)?;
-    for example in &[TWO_LEVELS, TIMESHARING, PAGE_FAULT] {
+    for example in examples() {
         check_run(&rt, alloc, &mut machine, example)?;
     }
     Ok(())

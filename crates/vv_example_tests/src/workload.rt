@@ -1,7 +1,9 @@
 //! The program of the guests of a generated workload: assembled, and there and back.
 
+use std::alloc::Global;
 use std::test::Fail;
 use vax_cpu::Cpu;
+use vv_base::NoMemory;
 use vv_gen::workload;
 use vv_stage::{PAGES, plain, run_words};
 
@@ -87,24 +89,34 @@ CLOCK: MTPR I^#^X000000C1,S^#24
         REI
 "#;
 
+/// The image of the first guest.
+fn image_of(alloc: Global) -> Result<Vec<u8>, NoMemory> {
+    let work = workload(alloc, 0)?;
+    match work.images.first() {
+        Some(image) => Ok(image.to_vec(alloc)?),
+        None => Ok(Vec::new(alloc)),
+    }
+}
+
+/// What a call over one file shows.
+fn shown(alloc: Global, machine: &mut Cpu, words: &str, file: &[u8]) -> Result<Vec<u8>, NoMemory> {
+    let files = [("file", file)];
+    let mut props = plain(&files);
+    props.room = 8000;
+    let told = run_words(alloc, machine, words, &props, &[], &[])?;
+    Ok(told.out)
+}
+
 #[test]
 fn the_generated_image_goes_to_text_and_back(rt: HostRuntime) -> Result<(), Fail> {
     let alloc = rt.alloc();
     let mut machine = Cpu::new(alloc, PAGES)?;
-    let work = workload(alloc, 0)?;
-    let image = match work.images.first() {
-        Some(image) => image.to_vec(alloc)?,
-        None => Vec::new(alloc),
-    };
+    let image = image_of(alloc)?;
     assert_eq!(rt; image.len(), 304);
-    let files = [("source", SOURCE.as_bytes()), ("image", image.as_slice())];
-    let mut props = plain(&files);
-    props.room = 8000;
-    let made = run_words(alloc, &mut machine, "asm source", &props, &[], &[])?;
-    assert_eq!(rt; made.out.as_slice(), image.as_slice());
-    let text = run_words(alloc, &mut machine, "dis image", &props, &[], &[])?;
-    let files = [("text", text.out.as_slice())];
-    let back = run_words(alloc, &mut machine, "asm text", &plain(&files), &[], &[])?;
-    assert_eq!(rt; back.out.as_slice(), image.as_slice());
+    let made = shown(alloc, &mut machine, "asm file", SOURCE.as_bytes())?;
+    assert_eq!(rt; made.as_slice(), image.as_slice());
+    let text = shown(alloc, &mut machine, "dis file", &image)?;
+    let back = shown(alloc, &mut machine, "asm file", &text)?;
+    assert_eq!(rt; back.as_slice(), image.as_slice());
     Ok(())
 }

@@ -9,7 +9,13 @@ mod timesharing;
 mod two_levels;
 
 pub use example::{Example, Image, Volume};
-pub use page_fault::EXAMPLE as PAGE_FAULT;
 pub use playing::play;
-pub use timesharing::EXAMPLE as TIMESHARING;
-pub use two_levels::EXAMPLE as TWO_LEVELS;
+
+/// `two-levels`, `timesharing` and `page-fault`.
+pub fn examples() -> [&'static Example; 3] {
+    [
+        &two_levels::EXAMPLE,
+        &timesharing::EXAMPLE,
+        &page_fault::EXAMPLE,
+    ]
+}

@@ -272,7 +272,7 @@ const SUMMARY: &str =
     "rounds 1 steps 1500 plain 1021 sensitive 178 faults 6 interrupts 0 modify 0 idle 0 stopped 295 trail 0000059000EE9B12\n";
 
 /// The example.
-pub const EXAMPLE: Example = Example {
+pub static EXAMPLE: Example = Example {
     words: "run config script 1",
     config: CONFIG,
     script: SCRIPT,

@@ -360,7 +360,7 @@ const SUMMARY: &str =
     "rounds 10 steps 36000 plain 29036 sensitive 4238 faults 0 interrupts 316 modify 10 idle 0 stopped 2400 trail 00000808683BDFC3\n";
 
 /// The example.
-pub const EXAMPLE: Example = Example {
+pub static EXAMPLE: Example = Example {
     words: "run config script 10",
     config: CONFIG,
     script: SCRIPT,

@@ -459,7 +459,7 @@ const SUMMARY: &str =
     "rounds 6 steps 3600 plain 399 sensitive 153 faults 0 interrupts 22 modify 0 idle 805 stopped 2221 trail 00000000007453A6\n";
 
 /// The example.
-pub const EXAMPLE: Example = Example {
+pub static EXAMPLE: Example = Example {
     words: "run config script 6",
     config: CONFIG,
     script: SCRIPT,

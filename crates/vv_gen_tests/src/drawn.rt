@@ -1,5 +1,6 @@
+use std::process::Abort;
 use std::test::Fail;
-use sys_script::Typed;
+use sys_script::{Event, Typed};
 use vv_gen::workload;
 
 /// What is drawn from a number: the bytes of the shared volume by the first, the last and their sum, and the events by
@@ -132,6 +133,14 @@ fn sum_of(blocks: &[[u8; 512]]) -> u32 {
     sum
 }
 
+/// The images of a case, by their periods.
+fn have_periods(rt: &impl Abort, images: &[Vec<u8>], case: &Case) {
+    for (image, period) in images.iter().zip(case.periods.iter()) {
+        assert_eq!(rt; image.len(), 304);
+        assert_eq!(rt; period_in(image), Some(*period));
+    }
+}
+
 #[test]
 fn slices_and_periods(rt: HostRuntime) -> Result<(), Fail> {
     for case in &CASES {
@@ -139,10 +148,7 @@ fn slices_and_periods(rt: HostRuntime) -> Result<(), Fail> {
         assert_eq!(rt; w.config.slice, case.slice);
         assert_eq!(rt; w.rounds, 20);
         assert_eq!(rt; w.images.len(), 8);
-        for (image, period) in w.images.iter().zip(case.periods.iter()) {
-            assert_eq!(rt; image.len(), 304);
-            assert_eq!(rt; period_in(image), Some(*period));
-        }
+        have_periods(&rt, &w.images, case);
     }
     Ok(())
 }
@@ -163,24 +169,45 @@ fn end(blocks: &[[u8; 512]]) -> &[u8] {
     }
 }
 
+/// The volume that all read, which is drawn.
+fn is_shared(rt: &impl Abort, blocks: &[[u8; 512]], case: &Case) {
+    assert_eq!(rt; beginning(blocks), case.first.as_slice());
+    assert_eq!(rt; end(blocks), case.last.as_slice());
+    assert_eq!(rt; sum_of(blocks), case.sum);
+}
+
+/// The volumes of a case: the first is drawn, and the last is zero.
+fn are_volumes(rt: &impl Abort, volumes: &[Vec<[u8; 512]>], case: &Case) {
+    for (place, blocks) in volumes.iter().enumerate() {
+        assert_eq!(rt; blocks.len(), 8);
+        if place == 0 {
+            is_shared(rt, blocks, case);
+        }
+        if place == 8 {
+            assert_eq!(rt; sum_of(blocks), 0);
+        }
+    }
+}
+
 #[test]
 fn volumes(rt: HostRuntime) -> Result<(), Fail> {
     for case in &CASES {
         let w = workload(rt.alloc(), case.number)?;
         assert_eq!(rt; w.volumes.len(), 9);
-        for (place, blocks) in w.volumes.iter().enumerate() {
-            assert_eq!(rt; blocks.len(), 8);
-            if place == 0 {
-                assert_eq!(rt; beginning(blocks), case.first.as_slice());
-                assert_eq!(rt; end(blocks), case.last.as_slice());
-                assert_eq!(rt; sum_of(blocks), case.sum);
-            }
-            if place == 8 {
-                assert_eq!(rt; sum_of(blocks), 0);
-            }
-        }
+        are_volumes(&rt, &w.volumes, case);
     }
     Ok(())
+}
+
+/// The events of a case, one in each round.
+fn are_events(rt: &impl Abort, events: &[Event], case: &Case) {
+    let mut round = 0u32;
+    for (event, (terminal, text)) in events.iter().zip(case.events.iter()) {
+        round = round.wrapping_add(1);
+        assert_eq!(rt; event.round, round);
+        assert_eq!(rt; event.terminal.bytes(), terminal.as_bytes());
+        assert_eq!(rt; text_of(&event.what), text.as_bytes());
+    }
 }
 
 #[test]
@@ -188,13 +215,7 @@ fn events(rt: HostRuntime) -> Result<(), Fail> {
     for case in &CASES {
         let w = workload(rt.alloc(), case.number)?;
         assert_eq!(rt; w.events.len(), 20);
-        let mut round = 0u32;
-        for (event, (terminal, text)) in w.events.iter().zip(case.events.iter()) {
-            round = round.wrapping_add(1);
-            assert_eq!(rt; event.round, round);
-            assert_eq!(rt; event.terminal.bytes(), terminal.as_bytes());
-            assert_eq!(rt; text_of(&event.what), text.as_bytes());
-        }
+        are_events(&rt, &w.events, case);
     }
     Ok(())
 }

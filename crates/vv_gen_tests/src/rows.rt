@@ -1,3 +1,4 @@
+use std::alloc::Global;
 use std::process::Abort;
 use std::test::Fail;
 use sys_config::{migrate_text, read_config};
@@ -136,61 +137,80 @@ static ROWS: [Row; 8] = [
     },
 ];
 
+fn is_named(rt: &impl Abort, found: &[u8], wanted: &str) {
+    assert_eq!(rt; found, wanted.as_bytes());
+}
+
+/// The class of a guest's objects.
+fn is_own(rt: &impl Abort, found: AccessClass, row: &Row) {
+    assert_eq!(rt; found, class(row.secrecy, row.secrecy_cats));
+}
+
 fn are_terminals(rt: &impl Abort, terminals: &[Terminal]) {
     assert_eq!(rt; terminals.len(), 8);
     for (terminal, row) in terminals.iter().zip(ROWS.iter()) {
-        assert_eq!(rt; terminal.name.bytes(), row.terminal.as_bytes());
+        is_named(rt, terminal.name.bytes(), row.terminal);
         assert_eq!(rt; terminal.line, row.line);
-        assert_eq!(rt; terminal.class, class(row.secrecy, row.secrecy_cats));
+        is_own(rt, terminal.class, row);
     }
+}
+
+fn is_volume(rt: &impl Abort, volume: &VolumeRow, name: &str, drive: u8) {
+    is_named(rt, volume.name.bytes(), name);
+    assert!(rt; volume.drive == drive && volume.blocks == 8);
 }
 
 fn are_volumes(rt: &impl Abort, volumes: &[VolumeRow]) {
     assert_eq!(rt; volumes.len(), 9);
-    assert_eq!(rt; volumes[0].name.bytes(), b"V0".as_slice());
-    assert_eq!(rt; (volumes[0].drive, volumes[0].blocks), (0, 8));
+    is_volume(rt, &volumes[0], "V0", 0);
     assert_eq!(rt; volumes[0].class, class(0, 0));
     for (volume, row) in volumes[1..].iter().zip(ROWS.iter()) {
-        assert_eq!(rt; volume.name.bytes(), row.volume.as_bytes());
-        assert_eq!(rt; (volume.drive, volume.blocks), (row.drive, 8));
-        assert_eq!(rt; volume.class, class(row.secrecy, row.secrecy_cats));
+        is_volume(rt, volume, row.volume, row.drive);
+        is_own(rt, volume.class, row);
     }
 }
 
 fn are_printers(rt: &impl Abort, printers: &[PrinterRow]) {
     assert_eq!(rt; printers.len(), 8);
     for (printer, row) in printers.iter().zip(ROWS.iter()) {
-        assert_eq!(rt; printer.name.bytes(), row.printer.as_bytes());
+        is_named(rt, printer.name.bytes(), row.printer);
         assert_eq!(rt; printer.line, row.printed);
-        assert_eq!(rt; printer.class, class(row.secrecy, row.secrecy_cats));
+        is_own(rt, printer.class, row);
     }
 }
 
-fn is_guest(rt: &impl Abort, guest: &GuestRow, row: &Row) {
-    assert_eq!(rt; guest.name.bytes(), row.guest.as_bytes());
-    assert_eq!(rt; guest.image.bytes(), row.image.as_bytes());
-    assert_eq!(rt; guest.class, class(row.secrecy, row.secrecy_cats));
-    assert_eq!(rt; (guest.pages, guest.quantum), (128, 5_000));
-    assert_eq!(rt; (guest.load, guest.start), (512, 512));
-    assert_eq!(rt; (guest.autostart, guest.modify_faults), (true, false));
+/// All guests have this.
+fn is_as_all(rt: &impl Abort, guest: &GuestRow) {
     assert_eq!(rt;
-        (guest.console, guest.printer),
-        (Some(row.line), Some(row.line))
+        [guest.pages, guest.quantum, guest.load, guest.start],
+        [128, 5_000, 512, 512]
     );
-    assert_eq!(rt; guest.dump, Some(row.dump));
+    assert!(rt; guest.autostart && !guest.modify_faults);
+}
+
+/// The guest reads the volume of all, and writes its own.
+fn has_mounts(rt: &impl Abort, guest: &GuestRow, drive: u8) {
     let shared = Mount {
         volume: 0,
         write: false,
     };
     let own = Mount {
-        volume: row.drive,
+        volume: drive,
         write: true,
     };
+    assert_eq!(rt; guest.mounts, [Some(shared), Some(own), None, None]);
+}
+
+fn is_guest(rt: &impl Abort, guest: &GuestRow, row: &Row) {
+    is_named(rt, guest.name.bytes(), row.guest);
+    is_named(rt, guest.image.bytes(), row.image);
+    is_own(rt, guest.class, row);
+    is_as_all(rt, guest);
     assert_eq!(rt;
-        (guest.mounts[0], guest.mounts[1]),
-        (Some(shared), Some(own))
+        [guest.console, guest.printer, guest.dump],
+        [Some(row.line), Some(row.line), Some(row.dump)]
     );
-    assert_eq!(rt; (guest.mounts[2], guest.mounts[3]), (None, None));
+    has_mounts(rt, guest, row.drive);
 }
 
 fn are_guests(rt: &impl Abort, guests: &[GuestRow]) {
@@ -212,15 +232,21 @@ fn is_whole(rt: &impl Abort, config: &Config) {
     are_guests(rt, config.guests.as_slice());
 }
 
+/// The configuration of a number, and what is read from its text.
+fn is_accepted(rt: &impl Abort, alloc: Global, number: u32, slice: u32) -> Result<(), Fail> {
+    let generated = workload(alloc, number)?;
+    let text = migrate_text(alloc, &generated.config)?;
+    let config = read_config(alloc, text.as_slice())?;
+    assert_eq!(rt; config.slice, slice);
+    is_whole(rt, &generated.config);
+    is_whole(rt, &config);
+    Ok(())
+}
+
 #[test]
 fn the_written_configuration_is_accepted(rt: HostRuntime) -> Result<(), Fail> {
     for (number, slice) in [(0, 471), (7, 649), (4_294_967_295, 446)] {
-        let generated = workload(rt.alloc(), number)?;
-        let text = migrate_text(rt.alloc(), &generated.config)?;
-        let config = read_config(rt.alloc(), text.as_slice())?;
-        assert_eq!(rt; config.slice, slice);
-        is_whole(&rt, &generated.config);
-        is_whole(&rt, &config);
+        is_accepted(&rt, rt.alloc(), number, slice)?;
     }
     Ok(())
 }

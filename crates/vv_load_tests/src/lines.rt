@@ -3,13 +3,14 @@
 //! the twenty events.
 
 use crate::playing::{SUMMARY, digest_of, load, text_of};
+use std::process::Abort;
 use std::test::Fail;
 use vax_cpu::Cpu;
 use vv_io::Cut;
 use vv_stage::{Disk, LineCut, PAGES, Told, plain, run_words};
 
 /// The terminals of the guests: what a guest prints, up to the break of its terminal, and then what the server shows.
-const TERMINALS: [&str; 8] = [
+static TERMINALS: [&str; 8] = [
     "@@@LLLSPPPOOO\\PPPRRRRJJJZRRRSSSWNNNLLLPPPOOOOJJJORRRSSSBNNNLLLPPP\\OOO",
     "@@@@@WPPPPPP@JJJJJJVSSSSSSOOOOOONRRRRRRENNNNNNNPPPPPPJJJJJJJSSSSSSYLLL\
      LLLEOOOOOO[RRRRRCPPPPPPFPPPPPPDJJJJJJGSSSSSIOOOOOOXRRRRRRUNNNNNN",
@@ -64,7 +65,7 @@ const AUDIT: &str = "7 T3 3{0};0{} BAD COMMAND HELLO\r\n\
      19 T5 1{2};0{} BAD COMMAND HELLO\r\n";
 
 /// The dumps of the guests: how many bytes, and the number that stands for them.
-const DUMPS: [(usize, u64); 8] = [
+static DUMPS: [(usize, u64); 8] = [
     (9341, 16_661_706_309_569_488_195),
     (9341, 15_755_651_615_298_697_380),
     (9341, 7_918_031_211_781_668_248),
@@ -106,6 +107,16 @@ fn only_first_failed(drive: &[u8]) -> bool {
     drive.iter().enumerate().all(|(place, byte)| *byte == if place < 512 { 0 } else { 0x5A })
 }
 
+/// Each line but those that failed shows what it is to.
+fn check_lines(rt: &impl Abort, told: &Told, failed: &[usize]) {
+    for number in 0..32 {
+        assert!(rt;
+            failed.contains(&number) || shows(told, number),
+            "line {number}"
+        );
+    }
+}
+
 #[test]
 fn lines_show_what_the_guests_print_and_the_server_replies(rt: HostRuntime) -> Result<(), Fail> {
     let alloc = rt.alloc();
@@ -113,9 +124,7 @@ fn lines_show_what_the_guests_print_and_the_server_replies(rt: HostRuntime) -> R
     let told = load(alloc, &mut machine, 7, &[], &[FAILING])?;
     assert_eq!(rt; told.code, 0);
     assert_eq!(rt; text_of(&told.out), SUMMARY);
-    for number in 0..32 {
-        assert!(rt; shows(&told, number), "line {number}");
-    }
+    check_lines(&rt, &told, &[]);
     // The first call on the drive is the reading of its first block, here, behind the call of the program.
     assert_eq!(rt; told.drive(0).len(), 4096);
     assert!(rt; only_first_failed(told.drive(0)));
@@ -123,7 +132,7 @@ fn lines_show_what_the_guests_print_and_the_server_replies(rt: HostRuntime) -> R
 }
 
 /// Line 5 shows the first five bytes that guest 5 prints, and line 24 nothing.
-const CUTS: [LineCut; 2] = [
+static CUTS: [LineCut; 2] = [
     LineCut {
         line: 24,
         cut: Cut { call: 1, after: 0 },
@@ -134,27 +143,30 @@ const CUTS: [LineCut; 2] = [
     },
 ];
 
+/// The line that failed first is named, and both show what was put before.
+fn check_failed(rt: &impl Abort, told: &Told) {
+    assert_eq!(rt; told.code, 10);
+    assert_eq!(rt; told.text.as_slice(), b"device line 5".as_slice());
+    assert_eq!(rt; text_of(&told.out), SUMMARY);
+    assert_eq!(rt; told.line(5), b"@@@XS".as_slice());
+    assert!(rt; told.line(24).is_empty());
+}
+
 #[test]
 fn a_line_that_fails_harms_itself_alone(rt: HostRuntime) -> Result<(), Fail> {
     let alloc = rt.alloc();
     let mut machine = Cpu::new(alloc, PAGES)?;
     let told = load(alloc, &mut machine, 7, &CUTS, &[])?;
-    assert_eq!(rt;
-        (told.code, told.text.as_slice()),
-        (10, b"device line 5".as_slice())
-    );
-    assert_eq!(rt; text_of(&told.out), SUMMARY);
-    assert_eq!(rt;
-        (told.line(5), told.line(24)),
-        (b"@@@XS".as_slice(), b"".as_slice())
-    );
-    for number in 0..32 {
-        assert!(rt;
-            number == 5 || number == 24 || shows(&told, number),
-            "line {number}"
-        );
-    }
+    check_failed(&rt, &told);
+    check_lines(&rt, &told, &[5, 24]);
     Ok(())
+}
+
+/// The words are of no form.
+fn are_bad(rt: &impl Abort, told: &Told, words: &str) {
+    assert_eq!(rt; told.text.as_slice(), b"bad words".as_slice(), "{words}");
+    assert_eq!(rt; told.code, 2, "{words}");
+    assert!(rt; told.out.is_empty(), "{words}");
 }
 
 #[test]
@@ -163,8 +175,7 @@ fn numbers_out_of_range_are_no_words(rt: HostRuntime) -> Result<(), Fail> {
     let mut machine = Cpu::new(alloc, PAGES)?;
     for words in ["load", "load 07", "load 4294967296", "load -1", "load 7 8"] {
         let told = run_words(alloc, &mut machine, words, &plain(&[]), &[], &[])?;
-        assert_eq!(rt; told.text.as_slice(), b"bad words".as_slice(), "{words}");
-        assert_eq!(rt; (told.code, told.out.len()), (2, 0), "{words}");
+        are_bad(&rt, &told, words);
     }
     Ok(())
 }

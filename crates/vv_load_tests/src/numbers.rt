@@ -12,7 +12,7 @@ use vv_stage::{PAGES, Told};
 /// A number, and the summary of its workload.
 type Summed = (u32, &'static str);
 
-const TO_15: [Summed; 4] = [
+static TO_15: [Summed; 4] = [
     (
         0,
         "rounds 20 steps 800000 plain 490292 sensitive 4782 faults 0 interrupts 880 modify 32 idle 304014 stopped 0 trail 000AE9E65116A88B\n",
@@ -31,7 +31,7 @@ const TO_15: [Summed; 4] = [
     ),
 ];
 
-const TO_35: [Summed; 4] = [
+static TO_35: [Summed; 4] = [
     (
         20,
         "rounds 20 steps 800000 plain 523450 sensitive 5082 faults 0 interrupts 932 modify 32 idle 270504 stopped 0 trail 000B860594C3347F\n",
@@ -50,7 +50,7 @@ const TO_35: [Summed; 4] = [
     ),
 ];
 
-const TO_THE_GREATEST: [Summed; 4] = [
+static TO_THE_GREATEST: [Summed; 4] = [
     (
         40,
         "rounds 20 steps 800000 plain 475662 sensitive 4656 faults 0 interrupts 861 modify 32 idle 318789 stopped 0 trail 000A6F5720BC0EF6\n",
@@ -80,15 +80,20 @@ fn kinds_in(summary: &str) -> u64 {
     sum
 }
 
-/// The run of each number is done and has its summary, whose kinds add up to 800,000 steps.
+/// The run of a number is done and has its summary, whose kinds add up to 800,000 steps.
+fn is_done(rt: &impl Abort, told: &Told, number: u32, summary: &str) {
+    let shown = text_of(&told.out);
+    assert_eq!(rt; told.code, 0, "{number}");
+    assert_eq!(rt; shown, summary, "{number}");
+    assert_eq!(rt; kinds_in(shown), 800_000, "{number}");
+}
+
+/// The runs of the numbers are done.
 fn are_done(rt: &impl Abort, alloc: Global, summaries: &[Summed]) -> Result<(), Fail> {
     let mut machine = Cpu::new(alloc, PAGES)?;
     for (number, summary) in summaries {
         let told = load(alloc, &mut machine, *number, &[], &[])?;
-        let shown = text_of(&told.out);
-        assert_eq!(rt; told.code, 0, "{number}");
-        assert_eq!(rt; shown, *summary, "{number}");
-        assert_eq!(rt; kinds_in(shown), 800_000, "{number}");
+        is_done(rt, &told, *number, summary);
     }
     Ok(())
 }
@@ -127,6 +132,18 @@ fn is_alike(rt: &impl Abort, told: &Told, other: &Told) {
     }
 }
 
+/// Runs workload 7 on a machine, and compares it with another run.
+fn runs_alike(
+    rt: &impl Abort,
+    alloc: Global,
+    machine: &mut Cpu,
+    other: &Told,
+) -> Result<(), NoMemory> {
+    let told = load(alloc, machine, 7, &[], &[])?;
+    is_alike(rt, &told, other);
+    Ok(())
+}
+
 /// On two new machines, on one that has run it before, and on one whose memory was full.
 #[test]
 fn a_workload_runs_alike_on_any_machine(rt: HostRuntime) -> Result<(), Fail> {
@@ -134,11 +151,8 @@ fn a_workload_runs_alike_on_any_machine(rt: HostRuntime) -> Result<(), Fail> {
     let mut machine = Cpu::new(alloc, PAGES)?;
     let first = load(alloc, &mut machine, 7, &[], &[])?;
     is_alike(&rt, &first, &first);
-    let again = load(alloc, &mut machine, 7, &[], &[])?;
-    is_alike(&rt, &again, &first);
-    let mut new = Cpu::new(alloc, PAGES)?;
-    is_alike(&rt, &load(alloc, &mut new, 7, &[], &[])?, &first);
-    let mut full = full_machine(alloc)?;
-    is_alike(&rt, &load(alloc, &mut full, 7, &[], &[])?, &first);
+    runs_alike(&rt, alloc, &mut machine, &first)?;
+    runs_alike(&rt, alloc, &mut Cpu::new(alloc, PAGES)?, &first)?;
+    runs_alike(&rt, alloc, &mut full_machine(alloc)?, &first)?;
     Ok(())
 }

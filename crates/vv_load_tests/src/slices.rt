@@ -50,12 +50,12 @@ fn with_slice(alloc: Global, text: &[u8], slice: u32) -> Result<String, NoMemory
 }
 
 /// The images' names.
-const NAMES: [&str; 8] = [
+static NAMES: [&str; 8] = [
     "IMAGE0", "IMAGE1", "IMAGE2", "IMAGE3", "IMAGE4", "IMAGE5", "IMAGE6", "IMAGE7",
 ];
 
 /// The numbers of the volumes' drives.
-const DRIVES: [u8; 9] = [0, 1, 2, 3, 4, 5, 6, 7, 8];
+static DRIVES: [u8; 9] = [0, 1, 2, 3, 4, 5, 6, 7, 8];
 
 /// The files of a run, which lie there as long as the texts and the workload do.
 fn files_of<'b>(
@@ -107,7 +107,7 @@ fn play<'b>(
 
 /// What stands for the blocks of each volume behind the run of workload 7: the shared one first, as it was drawn, since no guest
 /// writes to it.
-const VOLUMES: [u64; 9] = [
+static VOLUMES: [u64; 9] = [
     3_796_544_183_383_698_040,
     6_739_012_976_346_510_888,
     2_474_613_314_026_871_277,

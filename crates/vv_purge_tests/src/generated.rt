@@ -43,7 +43,7 @@ struct Left {
 
 /// The classes of the eight terminals, of the volume that all read, and of the audit. Guest g has level g modulo 4 and category
 /// g modulo 3; the volume's class is below all, and the audit's above.
-const LEFT: [Left; 10] = [
+static LEFT: [Left; 10] = [
     Left {
         digits: &[0],
         events: 2,
@@ -182,39 +182,59 @@ fn load(alloc: Global, machine: &mut Cpu) -> Result<Told, NoMemory> {
     run_words(alloc, machine, words.as_str(), &props, &[], &[])
 }
 
+/// The lines of the terminal, the printer and the dump at a place, and the drive of the volume behind the first one.
+fn numbers_at(left: &Config, place: usize) -> [Option<u8>; 4] {
+    let terminal = left.terminals.as_slice().get(place);
+    let printer = left.printers.as_slice().get(place);
+    let guest = left.guests.as_slice().get(place);
+    let volume = left.volumes.as_slice().get(place.wrapping_add(1));
+    [
+        terminal.map(|row| row.line),
+        printer.map(|row| row.line),
+        guest.and_then(|row| row.dump),
+        volume.map(|row| row.drive),
+    ]
+}
+
 /// The rows that are left are those of these digits, on their lines and drives.
 fn check_rows(rt: &impl Abort, left: &Config, digits: &[u8]) {
     for (place, digit) in digits.iter().enumerate() {
-        let terminal = left.terminals.as_slice().get(place).map(|row| row.line);
-        assert_eq!(rt; terminal, Some(*digit));
-        let printer = left.printers.as_slice().get(place).map(|row| row.line);
-        assert_eq!(rt; printer, Some(digit.wrapping_add(8)));
-        let guest = left.guests.as_slice().get(place).and_then(|row| row.dump);
-        assert_eq!(rt; guest, Some(digit.wrapping_add(16)));
-        let volume = left
-            .volumes
-            .as_slice()
-            .get(place.wrapping_add(1))
-            .map(|row| row.drive);
-        assert_eq!(rt; volume, Some(digit.wrapping_add(1)));
+        let wanted = [
+            Some(*digit),
+            Some(digit.wrapping_add(8)),
+            Some(digit.wrapping_add(16)),
+            Some(digit.wrapping_add(1)),
+        ];
+        assert_eq!(rt; numbers_at(left, place), wanted);
     }
+}
+
+/// How many terminals, printers, guests, images, rows of volumes, and volumes are left.
+fn counts_of(left: &Workload) -> [usize; 6] {
+    [
+        left.config.terminals.len(),
+        left.config.printers.len(),
+        left.config.guests.len(),
+        left.images.len(),
+        left.config.volumes.len(),
+        left.volumes.len(),
+    ]
 }
 
 /// Of a workload this is left, the volume that all read, and the audit where all is left.
 fn check_left(rt: &impl Abort, left: &Workload, want: &Left) {
-    let digits = want.digits;
-    check_rows(rt, &left.config, digits);
-    assert_eq!(rt; left.config.terminals.len(), digits.len());
-    assert_eq!(rt; left.config.printers.len(), digits.len());
-    assert_eq!(rt; left.config.guests.len(), digits.len());
-    assert_eq!(rt; left.config.volumes.len(), digits.len().wrapping_add(1));
+    let guests = want.digits.len();
+    let volumes = guests.wrapping_add(1);
+    check_rows(rt, &left.config, want.digits);
+    assert_eq!(rt;
+        counts_of(left),
+        [guests, guests, guests, guests, volumes, volumes]
+    );
     assert_eq!(rt;
         left.config.volumes.as_slice().first().map(|row| row.drive),
         Some(0)
     );
-    assert_eq!(rt; left.config.audit.is_some(), digits.len() == 8);
-    assert_eq!(rt; left.images.len(), digits.len());
-    assert_eq!(rt; left.volumes.len(), digits.len().wrapping_add(1));
+    assert_eq!(rt; left.config.audit.is_some(), guests == 8);
     assert_eq!(rt; left.events.len(), want.events);
 }
 
@@ -233,17 +253,32 @@ fn check_shows(rt: &impl Abort, whole: &Told) {
     }
 }
 
-/// The run that is purged to each class, in this slice.
+/// The run that is purged to a class, in this slice.
+fn check_purge(
+    rt: &impl Abort,
+    alloc: Global,
+    machine: &mut Cpu,
+    work: &Workload,
+    whole: &Told,
+    class: &AccessClass,
+    slice: u32,
+) -> Result<(), NoMemory>
+    requires { IsConfig work.now.config }
+{
+    let left = purged(alloc, work, class)?;
+    let told = play(alloc, machine, &left, slice)?;
+    assert_eq!(rt; told.code, 0);
+    check_same(rt, alloc, &left.config, whole, &told)
+}
+
+/// The runs that are purged to each class, in this slice.
 fn check_purges(rt: &impl Abort, alloc: Global, slice: u32) -> Result<(), NoMemory> {
     let mut machine = Cpu::new(alloc, PAGES)?;
     let work = generated(alloc)?;
     let whole = play(alloc, &mut machine, &work, SLICE)?;
     check_shows(rt, &whole);
     for class in &classes(alloc, &work.config)? {
-        let left = purged(alloc, &work, class)?;
-        let told = play(alloc, &mut machine, &left, slice)?;
-        assert_eq!(rt; told.code, 0);
-        check_same(rt, alloc, &left.config, &whole, &told)?;
+        check_purge(rt, alloc, &mut machine, &work, &whole, class, slice)?;
     }
     Ok(())
 }

@@ -13,7 +13,7 @@ use sys_purge::{purge_config, purge_events, purged_is_accepted};
 use vax_cpu::Cpu;
 use vv_base::NoMemory;
 use vv_class::AccessClass;
-use vv_examples::{Example, PAGE_FAULT, TIMESHARING, TWO_LEVELS, play};
+use vv_examples::{Example, examples, play};
 use vv_stage::{PAGES, Told};
 
 /// Adds a class that isn't among them yet.
@@ -93,7 +93,45 @@ pub fn check_same(
     Ok(())
 }
 
-/// The run that is purged to each class.
+/// The run that is purged to a class.
+fn check_purge(
+    rt: &impl Abort,
+    alloc: Global,
+    machine: &mut Cpu,
+    example: &Example,
+    whole: &Told,
+    class: &AccessClass,
+) -> Result<(), NoMemory> {
+    let config = config_of(alloc, example)?;
+    let left = kept(alloc, &config, class)?;
+    let text = migrate_text(alloc, &left)?;
+    let script = script_left(alloc, &config, example, class)?;
+    let purged = play(alloc, machine, example, &text, &script)?;
+    assert_eq!(rt; purged.code, 0);
+    check_same(rt, alloc, &left, whole, &purged)
+}
+
+/// The script that is left in a class.
+fn script_left(
+    alloc: Global,
+    config: &Config,
+    example: &Example,
+    class: &AccessClass,
+) -> Result<Vec<u8>, NoMemory>
+    requires { IsConfig config.now }
+{
+    let events = events_of(alloc, example)?;
+    let heard = purge_events(alloc, config, &events, class)?;
+    script_of(alloc, &heard)
+}
+
+/// The whole run of an example.
+fn play_whole(alloc: Global, machine: &mut Cpu, example: &Example) -> Result<Told, NoMemory> {
+    let own = example.config.as_bytes();
+    play(alloc, machine, example, own, example.script.as_bytes())
+}
+
+/// The runs that are purged to each class.
 fn check_purges(
     rt: &impl Abort,
     alloc: Global,
@@ -101,17 +139,9 @@ fn check_purges(
     example: &Example,
 ) -> Result<(), NoMemory> {
     let config = config_of(alloc, example)?;
-    let events = events_of(alloc, example)?;
-    let own = example.config.as_bytes();
-    let whole = play(alloc, machine, example, own, example.script.as_bytes())?;
+    let whole = play_whole(alloc, machine, example)?;
     for class in &classes(alloc, &config)? {
-        let left = kept(alloc, &config, class)?;
-        let text = migrate_text(alloc, &left)?;
-        let heard = purge_events(alloc, &config, &events, class)?;
-        let script = script_of(alloc, &heard)?;
-        let purged = play(alloc, machine, example, &text, &script)?;
-        assert_eq!(rt; purged.code, 0);
-        check_same(rt, alloc, &left, &whole, &purged)?;
+        check_purge(rt, alloc, machine, example, &whole, class)?;
     }
     Ok(())
 }
@@ -120,17 +150,15 @@ fn check_purges(
 fn what_may_not_flow_to_a_class_changes_nothing_there(rt: HostRuntime) -> Result<(), Fail> {
     let alloc = rt.alloc();
     let mut machine = Cpu::new(alloc, PAGES)?;
-    for example in &[TWO_LEVELS, TIMESHARING, PAGE_FAULT] {
+    for example in examples() {
         check_purges(&rt, alloc, &mut machine, example)?;
     }
     Ok(())
 }
 
-/// The unclassified terminal of `two-levels` is left with the unclassified guest alone, so that the test above does purge.
-#[test]
-fn the_secret_guest_is_purged(rt: HostRuntime) -> Result<(), Fail> {
-    let alloc = rt.alloc();
-    let config = config_of(alloc, &TWO_LEVELS)?;
+/// How many guests are left in a class at least, and at most.
+fn guests_left(alloc: Global, example: &Example) -> Result<(usize, usize), NoMemory> {
+    let config = config_of(alloc, example)?;
     let mut most = 0;
     let mut least = usize::MAX;
     for class in &classes(alloc, &config)? {
@@ -138,6 +166,15 @@ fn the_secret_guest_is_purged(rt: HostRuntime) -> Result<(), Fail> {
         most = left.guests.len().max(most);
         least = left.guests.len().min(least);
     }
+    Ok((least, most))
+}
+
+/// The unclassified terminal of `two-levels` is left with the unclassified guest alone, so that the test above does purge.
+#[test]
+fn the_secret_guest_is_purged(rt: HostRuntime) -> Result<(), Fail> {
+    let alloc = rt.alloc();
+    let [two_levels, ..] = examples();
+    let (least, most) = guests_left(alloc, two_levels)?;
     assert_eq!(rt; (least, most), (1, 2));
     Ok(())
 }

@@ -1,9 +1,11 @@
 //! Answers with their causes: the first file that isn't there, the first text that is refused.
 
-use crate::case::{Case, check};
+use crate::case::{Case, check, is_told};
+use std::alloc::Global;
 use std::test::Fail;
 use vax_cpu::Cpu;
-use vv_stage::{Disk, PAGES, plain, run_words};
+use vv_base::NoMemory;
+use vv_stage::{Disk, PAGES, Told, plain, run_words};
 
 /// A configuration without guests.
 const EMPTY: &[u8] = b"version = 1\nquantum = 10\nslice = 3\n";
@@ -37,7 +39,7 @@ macro_rules! case {
     };
 }
 
-const ANSWERS: [Case; 17] = [
+static ANSWERS: [Case; 17] = [
     case!("run c s 2", &[("c", EMPTY), ("s", b"")], 0, "", ZEROS),
     case!("run c s 0", &[("c", EMPTY), ("s", b"")], 2, "bad words", ""),
     case!(
@@ -110,14 +112,17 @@ const ANSWERS: [Case; 17] = [
 fn each_answer_has_its_cause(rt: HostRuntime) -> Result<(), Fail> {
     let alloc = rt.alloc();
     let mut machine = Cpu::new(alloc, PAGES)?;
-    for case in ANSWERS {
-        check(&rt, alloc, &mut machine, &case)?;
+    for case in &ANSWERS {
+        check(&rt, alloc, &mut machine, case)?;
     }
     Ok(())
 }
 
+/// The call of the drive that fails; the code, its text and the summary.
+type Row = (Option<u32>, u8, &'static str, &'static str);
+
 /// A volume of two blocks is read by calls 1 and 2 of its drive, and stored by calls 3 and 4.
-const DRIVES: [(Option<u32>, u8, &str, &str); 5] = [
+static DRIVES: [Row; 5] = [
     (None, 0, "", ZEROS),
     (Some(1), 9, "drive 0", ""),
     (Some(2), 9, "drive 0", ""),
@@ -125,29 +130,25 @@ const DRIVES: [(Option<u32>, u8, &str, &str); 5] = [
     (Some(4), 10, "device drive 0", ZEROS),
 ];
 
+/// Makes the run in which this call of the drive fails.
+fn told_of(alloc: Global, machine: &mut Cpu, failing: Option<u32>) -> Result<Told, NoMemory> {
+    let files = [("c", VOLUME), ("s", b"".as_slice())];
+    let disks = [Disk {
+        number: 0,
+        blocks: 2,
+        byte: 7,
+        failing,
+    }];
+    run_words(alloc, machine, "run c s 2", &plain(&files), &[], &disks)
+}
+
 #[test]
 fn a_drive_fails_before_the_first_round_or_behind_the_last(rt: HostRuntime) -> Result<(), Fail> {
     let alloc = rt.alloc();
     let mut machine = Cpu::new(alloc, PAGES)?;
-    let files = [("c", VOLUME), ("s", b"".as_slice())];
-    for (failing, code, text, out) in DRIVES {
-        let disks = [Disk {
-            number: 0,
-            blocks: 2,
-            byte: 7,
-            failing,
-        }];
-        let told = run_words(
-            alloc,
-            &mut machine,
-            "run c s 2",
-            &plain(&files),
-            &[],
-            &disks,
-        )?;
-        assert_eq!(rt; told.code, code);
-        assert_eq!(rt; told.text.as_slice(), text.as_bytes());
-        assert_eq!(rt; told.out.as_slice(), out.as_bytes());
+    for (failing, code, text, out) in &DRIVES {
+        let told = told_of(alloc, &mut machine, *failing)?;
+        is_told(&rt, &told, *code, text, out);
     }
     Ok(())
 }

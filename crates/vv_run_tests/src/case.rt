@@ -4,7 +4,7 @@ use std::alloc::Global;
 use std::process::Abort;
 use vax_cpu::Cpu;
 use vv_base::NoMemory;
-use vv_stage::{Disk, LineCut, plain, run_words};
+use vv_stage::{Disk, LineCut, Told, plain, run_words};
 
 /// What a call is given, and what it comes to; lines that aren't named show nothing.
 #[derive(Clone, Copy)]
@@ -27,6 +27,18 @@ fn expected(case: &Case, line: usize) -> &'static str {
         .map_or("", |shown| shown.1)
 }
 
+/// The code, its text, and what the sink has.
+pub fn is_told(rt: &impl Abort, told: &Told, code: u8, text: &str, out: &str) {
+    assert_eq!(rt; told.text.as_slice(), text.as_bytes());
+    assert_eq!(rt; told.code, code);
+    assert_eq!(rt; told.out.as_slice(), out.as_bytes());
+}
+
+/// What a line shows.
+pub fn shows(rt: &impl Abort, told: &Told, line: usize, wanted: &str) {
+    assert_eq!(rt; told.line(line), wanted.as_bytes(), "line {line}");
+}
+
 /// Makes the call, and compares.
 pub fn check(
     rt: &impl Abort,
@@ -37,15 +49,9 @@ pub fn check(
     let mut props = plain(case.files);
     props.room = 2000;
     let told = run_words(alloc, machine, case.words, &props, case.cuts, case.disks)?;
-    assert_eq!(rt; told.text.as_slice(), case.text.as_bytes());
-    assert_eq!(rt; told.code, case.code);
-    assert_eq!(rt; told.out.as_slice(), case.out.as_bytes());
-    for (number, shown) in told.lines.iter().enumerate() {
-        assert_eq!(rt;
-            shown.as_slice(),
-            expected(case, number).as_bytes(),
-            "line {number}"
-        );
+    is_told(rt, &told, case.code, case.text, case.out);
+    for number in 0..told.lines.len() {
+        shows(rt, &told, number, expected(case, number));
     }
     Ok(())
 }

@@ -1,11 +1,13 @@
 //! In which order lines and the sink are put to, and how often.
-ghost use Rattle.std.specs.Prelude.{None};
+ghost use Rattle.std.specs.Prelude.{◌≡◌, IfOk, None, vec_len};
 
+use std::alloc::Global;
 use std::cell::RefCell;
 use std::rc::Rc;
 use std::test::Fail;
 use vax_cpu::Cpu;
 use vax_hw::Hardware;
+use vv_base::NoMemory;
 use vv_commands::{Status, vvmm_run};
 use vv_io::{Drive, EmptyDrive, Line, LineFault, Sink, SinkFault};
 use vv_stage::{PAGES, plain};
@@ -88,10 +90,10 @@ const ORDER: [(u8, usize); 10] = [
     (OUT, 1),
 ];
 
-#[test]
-fn lines_are_put_to_in_order_and_the_sink_at_last(rt: HostRuntime) -> Result<(), Fail> {
-    let alloc = rt.alloc();
-    let notes: Notes = Rc::new(alloc, RefCell::new(Vec::with_capacity(alloc, NOTES)?))?;
+/// Lines that note their puts.
+fn noting_lines(alloc: Global, notes: &Notes) -> Result<Vec<Box<dyn Line>>, NoMemory>
+    ensures { IfOk result (λ lines. vec_len lines ≡ 32) }
+{
     let mut lines: Vec<Box<dyn Line>> = Vec::new(alloc);
     for number in 0..32u8 {
         let line = Noting {
@@ -100,20 +102,42 @@ fn lines_are_put_to_in_order_and_the_sink_at_last(rt: HostRuntime) -> Result<(),
         };
         lines.push(Box::new(alloc, line)?)?;
     }
+    Ok(lines)
+}
+
+/// Drives without blocks.
+fn empty_drives(alloc: Global) -> Result<Vec<Box<dyn Drive>>, NoMemory>
+    ensures { IfOk result (λ drives. vec_len drives ≡ 16) }
+{
     let mut drives: Vec<Box<dyn Drive>> = Vec::new(alloc);
     for _number in 0..16u8 {
         drives.push(Box::new(alloc, EmptyDrive)?)?;
     }
-    let mut out = Noting {
-        number: OUT,
-        notes: notes.clone()?,
-    };
+    Ok(drives)
+}
+
+/// The words of the run.
+fn words(alloc: Global) -> Result<Vec<String>, NoMemory> {
     let mut words = Vec::new(alloc);
     for word in ["run", "c", "s", "2"] {
         words.push(word.to_string(alloc)?)?;
     }
+    Ok(words)
+}
+
+/// Makes the run over such lines and such a sink; whether all was done.
+fn is_done(alloc: Global, notes: &Notes) -> Result<bool, NoMemory> {
     let mut machine = Cpu::new(alloc, PAGES)?;
-    assert_eq!(rt; machine.pages(), PAGES);
+    if machine.pages() != PAGES {
+        return Ok(false);
+    }
+    let mut lines = noting_lines(alloc, notes)?;
+    let mut drives = empty_drives(alloc)?;
+    let mut out = Noting {
+        number: OUT,
+        notes: notes.clone()?,
+    };
+    let words = words(alloc)?;
     let files = [("c", CONFIG), ("s", SCRIPT), ("x", LETTER)];
     let mut shelf = plain(&files).shelf(alloc)?;
     let status = vvmm_run(
@@ -125,13 +149,26 @@ fn lines_are_put_to_in_order_and_the_sink_at_last(rt: HostRuntime) -> Result<(),
         &mut drives,
         &mut out,
     );
-    assert!(rt; matches!(status, Status::Done));
+    Ok(matches!(status, Status::Done))
+}
+
+/// The numbers that are to be noted.
+fn expected(alloc: Global) -> Result<Vec<u8>, NoMemory> {
     let mut expected = Vec::new(alloc);
     for (number, times) in ORDER {
         for _time in 0..times {
             expected.push(number)?;
         }
     }
+    Ok(expected)
+}
+
+#[test]
+fn lines_are_put_to_in_order_and_the_sink_at_last(rt: HostRuntime) -> Result<(), Fail> {
+    let alloc = rt.alloc();
+    let notes: Notes = Rc::new(alloc, RefCell::new(Vec::with_capacity(alloc, NOTES)?))?;
+    assert!(rt; is_done(alloc, &notes)?);
+    let expected = expected(alloc)?;
     let noted = notes.try_borrow().expect(&rt, "the notes");
     assert_eq!(rt; noted.as_slice(), expected.as_slice());
     Ok(())

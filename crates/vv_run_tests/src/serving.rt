@@ -85,7 +85,7 @@ macro_rules! whole {
     };
 }
 
-const SERVED: [Case; 6] = [
+static SERVED: [Case; 6] = [
     whole!(
         "run c s 1",
         &[("c", MOUNTS), ("s", MOUNTING), ("x", LOOP)],
@@ -159,14 +159,14 @@ const SERVED: [Case; 6] = [
 fn the_server_replies_and_is_audited(rt: HostRuntime) -> Result<(), Fail> {
     let alloc = rt.alloc();
     let mut machine = Cpu::new(alloc, PAGES)?;
-    for case in SERVED {
-        check(&rt, alloc, &mut machine, &case)?;
+    for case in &SERVED {
+        check(&rt, alloc, &mut machine, case)?;
     }
     Ok(())
 }
 
 /// The second put on line 3 fails behind five bytes.
-const FAILING: Case = Case {
+static FAILING: Case = Case {
     words: "run c s 1",
     files: &[("c", ALONE), ("s", b"1 T4 > FOO\n1 T4 > HALT X\n")],
     cuts: &[LineCut {

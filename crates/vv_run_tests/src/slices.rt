@@ -1,11 +1,12 @@
 //! Guests that count, in slices of any size, and the machine's runs.
 
 use std::alloc::Global;
+use std::process::Abort;
 use std::test::Fail;
 use vax_cpu::Cpu;
 use vax_hw::{Exit, Hardware, World};
 use vv_base::NoMemory;
-use vv_stage::{PAGES, plain, run_words};
+use vv_stage::{PAGES, Told, plain, run_words};
 
 /// INCL R0 and BRB 4 back.
 const UP: &[u8] = &[0xD6, 0x50, 0x11, 0xFC];
@@ -23,41 +24,69 @@ fn config_of(alloc: Global, slice: u32, guests: &[(&str, u8, u32)]) -> Result<St
     Ok(text)
 }
 
+/// Makes the run of these guests in this slice.
+fn told_of<H: Hardware>(
+    alloc: Global,
+    machine: &mut H,
+    slice: u32,
+    guests: &[(&str, u8, u32)],
+) -> Result<Told, NoMemory> {
+    let config = config_of(alloc, slice, guests)?;
+    let files = [("c", config.as_bytes()), ("s", b"".as_slice()), ("x", UP)];
+    run_words(alloc, machine, "run c s 1", &plain(&files), &[], &[])
+}
+
+/// Three guests, whose dumps are on these lines.
+const GUESTS: [(&str, u8, u32); 3] = [("A", 0, 1000), ("B", 1, 1000), ("C", 2, 1000)];
+
+/// The summary of the three.
+const SUMMARY: &str =
+    "rounds 1 steps 3000 plain 3000 sensitive 0 faults 0 interrupts 0 modify 0 idle 0 stopped 0 trail 000000000032CFD0\n";
+
+/// The guest's dump tells that it has counted to 500.
+fn has_counted(
+    rt: &impl Abort,
+    alloc: Global,
+    told: &Told,
+    name: &str,
+    line: u8,
+) -> Result<(), NoMemory> {
+    let dump = str::from_utf8(told.line(line as usize)).unwrap_or("?");
+    let front = format!(in alloc; "VM {name}\r\nR0 000001F4\r\n")?;
+    assert!(rt; dump.starts_with(front.as_str()), "{dump}");
+    assert!(rt; dump.contains("R15 00000200\r\n"), "{dump}");
+    Ok(())
+}
+
 #[test]
 fn three_guests_count_in_slices_of_any_size(rt: HostRuntime) -> Result<(), Fail> {
     let alloc = rt.alloc();
     let mut machine = Cpu::new(alloc, PAGES)?;
-    let guests = [("A", 0, 1000), ("B", 1, 1000), ("C", 2, 1000)];
     for slice in [1, 7, 1000] {
-        let config = config_of(alloc, slice, &guests)?;
-        let files = [("c", config.as_bytes()), ("s", b"".as_slice()), ("x", UP)];
-        let told = run_words(alloc, &mut machine, "run c s 1", &plain(&files), &[], &[])?;
+        let told = told_of(alloc, &mut machine, slice, &GUESTS)?;
         assert_eq!(rt; told.code, 0);
-        assert_eq!(rt;
-            str::from_utf8(&told.out).unwrap_or("?"),
-            "rounds 1 steps 3000 plain 3000 sensitive 0 faults 0 interrupts 0 modify 0 idle 0 stopped 0 trail 000000000032CFD0\n"
-        );
-        for (name, line, _) in guests {
-            let dump = str::from_utf8(told.line(line as usize)).unwrap_or("?");
-            let front = format!(in alloc; "VM {name}\r\nR0 000001F4\r\n")?;
-            assert!(rt; dump.starts_with(front.as_str()), "{dump}");
-            assert!(rt; dump.contains("R15 00000200\r\n"), "{dump}");
+        assert_eq!(rt; str::from_utf8(&told.out).unwrap_or("?"), SUMMARY);
+        for (name, line, _) in &GUESTS {
+            has_counted(&rt, alloc, &told, name, *line)?;
         }
     }
     Ok(())
+}
+
+/// The summary and both dumps of guests with quanta of 10 and of 20.
+fn took_own_quanta(rt: &impl Abort, told: &Told) {
+    assert_eq!(rt; told.code, 0);
+    assert!(rt; told.out.starts_with(b"rounds 1 steps 30 plain 30 "));
+    assert!(rt; told.line(0).starts_with(b"VM A\r\nR0 00000005\r\n"));
+    assert!(rt; told.line(1).starts_with(b"VM B\r\nR0 0000000A\r\n"));
 }
 
 #[test]
 fn each_guest_takes_its_own_quantum(rt: HostRuntime) -> Result<(), Fail> {
     let alloc = rt.alloc();
     let mut machine = Cpu::new(alloc, PAGES)?;
-    let config = config_of(alloc, 3, &[("A", 0, 10), ("B", 1, 20)])?;
-    let files = [("c", config.as_bytes()), ("s", b"".as_slice()), ("x", UP)];
-    let told = run_words(alloc, &mut machine, "run c s 1", &plain(&files), &[], &[])?;
-    assert_eq!(rt; told.code, 0);
-    assert!(rt; told.out.starts_with(b"rounds 1 steps 30 plain 30 "));
-    assert!(rt; told.line(0).starts_with(b"VM A\r\nR0 00000005\r\n"));
-    assert!(rt; told.line(1).starts_with(b"VM B\r\nR0 0000000A\r\n"));
+    let told = told_of(alloc, &mut machine, 3, &[("A", 0, 10), ("B", 1, 20)])?;
+    took_own_quanta(&rt, &told);
     Ok(())
 }
 
@@ -135,31 +164,35 @@ fn retired_before(all: u64) -> u64 {
     (all / 21).saturating_mul(7).saturating_add(all % 7)
 }
 
+/// A run of the machine goes on where the guest's runs before it ended, and ends with its slice; how many instructions were
+/// retired by then.
+fn follows(rt: &impl Abort, note: &Note, all: u64) -> u64 {
+    let own = retired_before(all);
+    assert_eq!(rt;
+        u64::from(note.r0),
+        own.div_ceil(2),
+        "behind {all} instructions"
+    );
+    assert_eq!(rt; note.pc, if own % 2 == 0 { 0x200 } else { 0x202 });
+    assert!(rt; note.retired <= 7 - all % 7, "behind {all} instructions");
+    all.saturating_add(note.retired)
+}
+
 #[test]
 fn the_machine_executes_the_guests_slice_by_slice(rt: HostRuntime) -> Result<(), Fail> {
     let alloc = rt.alloc();
-    let config = config_of(alloc, 7, &[("A", 0, 1000), ("B", 1, 1000), ("C", 2, 1000)])?;
-    let files = [("c", config.as_bytes()), ("s", b"".as_slice()), ("x", UP)];
     let mut watched = Watched {
         machine: Cpu::new(alloc, PAGES)?,
         notes: Vec::with_capacity(alloc, NOTES)?,
     };
-    let told = run_words(alloc, &mut watched, "run c s 1", &plain(&files), &[], &[])?;
+    let told = told_of(alloc, &mut watched, 7, &GUESTS)?;
     assert_eq!(rt; told.code, 0);
     let mut all = 0u64;
     for note in watched.notes.iter().take_while(|note| note.retired <= 7) {
         if all >= 42 {
             break;
         }
-        let own = retired_before(all);
-        assert_eq!(rt;
-            u64::from(note.r0),
-            own.div_ceil(2),
-            "behind {all} instructions"
-        );
-        assert_eq!(rt; note.pc, if own % 2 == 0 { 0x200 } else { 0x202 });
-        assert!(rt; note.retired <= 7 - all % 7, "behind {all} instructions");
-        all = all.saturating_add(note.retired);
+        all = follows(&rt, note, all);
     }
     assert!(rt; all >= 42);
     Ok(())

@@ -4,7 +4,7 @@ use std::alloc::Global;
 use std::process::Abort;
 use std::test::Fail;
 use vax_cpu::Cpu;
-use vv_base::NoMemory;
+use vv_base::{NoMemory, put_u32};
 use vv_stage::{Disk, PAGES, Told, plain, run_words};
 
 /// The program, at 200.
@@ -33,10 +33,8 @@ const ENTRIES: [(usize, u32); 2] = [(0x4220, 0xA400_0005), (0x5220, 0xA400_0006)
 
 /// Puts a longword of memory into an image that is loaded at 200.
 fn put(image: &mut [u8], at: usize, v: u32) {
-    for (k, byte) in v.to_le_bytes().iter().enumerate() {
-        if let Some(place) = image.get_mut(at.wrapping_sub(0x200).wrapping_add(k)) {
-            *place = *byte;
-        }
+    if at >= 0x200 && at - 0x200 < image.len() && image.len() - (at - 0x200) >= 4 {
+        put_u32(image, at - 0x200, v);
     }
 }
 
@@ -72,7 +70,7 @@ dump = 0\nquantum = {quantum}\nmount = [{{ unit = 0, volume = \"V\", write = tru
 
 /// A quantum and a number of rounds; the bytes that are read; the summary. In rounds of two steps the first byte is read behind the
 /// request and before the transfer. In rounds of one step both are read behind it, and in one of a hundred both before it.
-const ROWS: [(u32, u32, [u8; 2], &str); 3] = [
+static ROWS: [(u32, u32, [u8; 2], &str); 3] = [
     (
         2,
         9,
@@ -94,7 +92,7 @@ const ROWS: [(u32, u32, [u8; 2], &str); 3] = [
 ];
 
 /// The rows of the dump that tell the table behind the transfer, and both packets with their status 1.
-const MEMORY: [&str; 5] = [
+static MEMORY: [&str; 5] = [
     "\r\n00004220 06 00 00 A4 09 00 00 A4 0A 00 00 A4 0B 00 00 A4\r\n",
     "\r\n00005000 02 00 00 00 00 00 00 00 00 00 00 00 00 52 00 00\r\n",
     "\r\n00005010 00 00 00 00 01 00 00 00 00 00 00 00 00 00 00 00\r\n",
@@ -144,15 +142,19 @@ fn told_of(
     run_words(alloc, machine, words.as_str(), &props, &[], &[DISK])
 }
 
+/// The dump has this front, and the rows of memory.
+fn is_dump(rt: &impl Abort, dump: &str, front: &str) {
+    assert!(rt; dump.starts_with(front));
+    for row in &MEMORY {
+        assert!(rt; dump.contains(*row), "{row}");
+    }
+}
+
 /// The summary, the front of the dump, the table and the packets in it, and the volume are as they are to be.
 fn is_as_wanted(rt: &impl Abort, told: &Told, front: &str, summary: &str) {
-    let dump = str::from_utf8(told.line(0)).unwrap_or("?");
     assert_eq!(rt; told.code, 0);
     assert_eq!(rt; str::from_utf8(&told.out).unwrap_or("?"), summary);
-    assert!(rt; dump.starts_with(front));
-    for row in MEMORY {
-        assert!(rt; dump.contains(row), "{row}");
-    }
+    is_dump(rt, str::from_utf8(told.line(0)).unwrap_or("?"), front);
     assert_eq!(rt;
         told.drive(0).get(28..40),
         Some(b"\x07\0\0\xA4\x06\0\0\xA4\x09\0\0\xA4".as_slice())
@@ -164,9 +166,9 @@ fn a_transfer_over_a_table_is_seen_behind_it(rt: HostRuntime) -> Result<(), Fail
     let alloc = rt.alloc();
     let mut machine = Cpu::new(alloc, PAGES)?;
     let image = image(alloc)?;
-    for (quantum, rounds, bytes, summary) in ROWS {
-        let told = told_of(alloc, &mut machine, &image, quantum, rounds)?;
-        let front = registers(alloc, bytes)?;
+    for (quantum, rounds, bytes, summary) in &ROWS {
+        let told = told_of(alloc, &mut machine, &image, *quantum, *rounds)?;
+        let front = registers(alloc, *bytes)?;
         is_as_wanted(&rt, &told, front.as_str(), summary);
     }
     Ok(())

@@ -4,7 +4,10 @@ use std::alloc::Global;
 use std::test::Fail;
 use vax_cpu::Cpu;
 use vv_base::NoMemory;
-use vv_stage::{PAGES, plain, run_words};
+use vv_stage::{PAGES, Told, plain, run_words};
+
+/// INCL R0 and BRB 4 back.
+const UP: &[u8] = &[0xD6, 0x50, 0x11, 0xFC];
 
 /// So many guests of 2,048 pages in version 2.
 fn config_of(alloc: Global, guests: u32) -> Result<String, NoMemory> {
@@ -19,20 +22,20 @@ fn config_of(alloc: Global, guests: u32) -> Result<String, NoMemory> {
     Ok(text)
 }
 
+/// Makes a call over a configuration of so many guests.
+fn told_of(alloc: Global, machine: &mut Cpu, guests: u32, words: &str) -> Result<Told, NoMemory> {
+    let config = config_of(alloc, guests)?;
+    let files = [("c", config.as_bytes()), ("s", b"".as_slice()), ("x", UP)];
+    run_words(alloc, machine, words, &plain(&files), &[], &[])
+}
+
 #[test]
 fn eight_guests_of_2048_pages_fit_and_nine_do_not(rt: HostRuntime) -> Result<(), Fail> {
     let alloc = rt.alloc();
     let mut machine = Cpu::new(alloc, PAGES)?;
     for (guests, code, text) in [(8, 0, ""), (9, 5, "config rule 18 at 8")] {
-        let config = config_of(alloc, guests)?;
-        let image = [0xD6, 0x50, 0x11, 0xFC];
-        let files = [
-            ("c", config.as_bytes()),
-            ("s", b"".as_slice()),
-            ("x", image.as_slice()),
-        ];
         for words in ["run c s 1", "check c"] {
-            let told = run_words(alloc, &mut machine, words, &plain(&files), &[], &[])?;
+            let told = told_of(alloc, &mut machine, guests, words)?;
             assert_eq!(rt; told.code, code, "{guests}");
             assert_eq!(rt; str::from_utf8(&told.text).unwrap_or("?"), text, "{guests}");
         }

@@ -87,7 +87,7 @@ fn rows() -> [Row; 9] {
 
 /// What the lines show in the whole run, but for the dumps. The guests' bytes are those that a separate model in another language
 /// gave; guest A's terminal is with the server all the time, and guest C's for a moment before the second round.
-const TEXTS: [(usize, &str); 5] = [
+static TEXTS: [(usize, &str); 5] = [
     (
         0,
         "SERVER\r\nVM A 0{};0{} RUNNING\r\nVM B 0{};0{} RUNNING\r\nVOLUME SHARED 0{};0{}\r\nOK\r\nBAD COMMAND\r\n",
@@ -185,6 +185,21 @@ fn check_alone(
     Ok(())
 }
 
+/// The lines have their texts.
+fn check_texts(rt: &impl Abort, whole: &Told) {
+    for (line, text) in &TEXTS {
+        let shown = str::from_utf8(whole.line(*line)).unwrap_or("?");
+        assert_eq!(rt; shown, *text, "{line}");
+    }
+}
+
+/// The lines that failed so have their fronts.
+fn check_fronts(rt: &impl Abort, told: &Told, which: Which, after: u32) {
+    for row in &rows() {
+        check_front(rt, told, row, which, after);
+    }
+}
+
 #[test]
 fn the_lines_show_so_many_bytes_in_so_many_puts(rt: HostRuntime) -> Result<(), Fail> {
     let alloc = rt.alloc();
@@ -192,13 +207,8 @@ fn the_lines_show_so_many_bytes_in_so_many_puts(rt: HostRuntime) -> Result<(), F
     let image = image(alloc)?;
     let whole = run_set(alloc, &mut machine, &image, &PLAIN)?;
     assert_eq!(rt; whole.code, 0);
-    for row in &rows() {
-        check_front(&rt, &whole, row, Which::Last, ALL);
-    }
-    for (line, text) in TEXTS {
-        let shown = str::from_utf8(whole.line(line)).unwrap_or("?");
-        assert_eq!(rt; shown, text, "{line}");
-    }
+    check_fronts(&rt, &whole, Which::Last, ALL);
+    check_texts(&rt, &whole);
     Ok(())
 }
 
@@ -234,9 +244,7 @@ fn all_lines_fail_in_their_first_second_and_last_puts(rt: HostRuntime) -> Result
         for after in [0, 1, ALL] {
             let cuts = cuts_of(alloc, which, after)?;
             let told = run_cut(&rt, alloc, &mut machine, &image, &whole, &cuts)?;
-            for row in &rows() {
-                check_front(&rt, &told, row, which, after);
-            }
+            check_fronts(&rt, &told, which, after);
         }
     }
     Ok(())

@@ -1,6 +1,7 @@
 //! The set, and its whole run in slices of two sizes.
 
 use std::alloc::Global;
+use std::process::Abort;
 use std::test::Fail;
 use vax_cpu::Cpu;
 use vax_hw::Hardware;
@@ -119,7 +120,7 @@ pub const DISKS: [Disk; 2] = [
 ];
 
 /// The lines that show something: nothing is printed.
-const LINES: [u8; 9] = [0, 1, 2, 3, 16, 17, 18, 19, 24];
+static LINES: [u8; 9] = [0, 1, 2, 3, 16, 17, 18, 19, 24];
 
 /// The image of the first guest of a generated workload, with a clock of 1,000 steps: NICR is FFFFFC18 in the place of its own.
 pub fn image(alloc: Global) -> Result<Vec<u8>, NoMemory> {
@@ -193,27 +194,18 @@ fn kinds_in(summary: &[u8]) -> u64 {
 const SUMMARY: &str =
     "rounds 50 steps 1000000 plain 658316 sensitive 6412 faults 0 interrupts 1192 modify 16 idle 334064 stopped 0 trail 000EC7A331602E5C\n";
 
-#[test]
-fn a_million_steps_are_the_same_in_any_slices(rt: HostRuntime) -> Result<(), Fail> {
-    let alloc = rt.alloc();
-    let mut machine = Cpu::new(alloc, PAGES)?;
-    let image = image(alloc)?;
-    let how = How {
-        slice: 500,
-        rounds: 50,
-        shelf: None,
-        cuts: &[],
-        disks: DISKS,
-        out: None,
-    };
-    let first = run_set(alloc, &mut machine, &image, &how)?;
-    assert_eq!(rt; first.code, 0);
-    assert_eq!(rt; str::from_utf8(&first.out).unwrap_or("?"), SUMMARY);
-    assert_eq!(rt; kinds_in(&first.out), 1_000_000);
-    for line in LINES {
-        assert!(rt; !first.line(line as usize).is_empty(), "{line}");
+/// The summary, and that each line that is to show something does.
+fn is_whole(rt: &impl Abort, told: &Told) {
+    assert_eq!(rt; told.code, 0);
+    assert_eq!(rt; str::from_utf8(&told.out).unwrap_or("?"), SUMMARY);
+    assert_eq!(rt; kinds_in(&told.out), 1_000_000);
+    for line in &LINES {
+        assert!(rt; !told.line(*line as usize).is_empty(), "{line}");
     }
-    let second = run_set(alloc, &mut machine, &image, &How { slice: 5000, ..how })?;
+}
+
+/// The same on the sink, on all lines and on both drives.
+fn are_same(rt: &impl Abort, first: &Told, second: &Told) {
     assert_eq!(rt; second.code, 0);
     assert_eq!(rt; second.out.as_slice(), first.out.as_slice());
     for line in 0..32usize {
@@ -222,5 +214,34 @@ fn a_million_steps_are_the_same_in_any_slices(rt: HostRuntime) -> Result<(), Fai
     for drive in 0..2usize {
         assert_eq!(rt; second.drive(drive), first.drive(drive), "{drive}");
     }
+}
+
+/// The whole run in this slice.
+fn run_sliced(
+    alloc: Global,
+    machine: &mut Cpu,
+    image: &[u8],
+    slice: u32,
+) -> Result<Told, NoMemory> {
+    let how = How {
+        slice,
+        rounds: 50,
+        shelf: None,
+        cuts: &[],
+        disks: DISKS,
+        out: None,
+    };
+    run_set(alloc, machine, image, &how)
+}
+
+#[test]
+fn a_million_steps_are_the_same_in_any_slices(rt: HostRuntime) -> Result<(), Fail> {
+    let alloc = rt.alloc();
+    let mut machine = Cpu::new(alloc, PAGES)?;
+    let image = image(alloc)?;
+    let first = run_sliced(alloc, &mut machine, &image, 500)?;
+    is_whole(&rt, &first);
+    let second = run_sliced(alloc, &mut machine, &image, 5000)?;
+    are_same(&rt, &first, &second);
     Ok(())
 }

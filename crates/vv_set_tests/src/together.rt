@@ -41,9 +41,9 @@ const AUDIT: LineCut = LineCut {
 const OUT: Cut = Cut { call: 1, after: 0 };
 
 /// How many bytes the lines show that fail so.
-const FRONTS: [(u8, usize); 3] = [(1, 2), (16, 3), (24, 22)];
+static FRONTS: [(u8, usize); 3] = [(1, 2), (16, 3), (24, 22)];
 
-const CASES: [Case; 10] = [
+static CASES: [Case; 10] = [
     Case {
         cuts: &[],
         calls: [None, None],
@@ -134,9 +134,9 @@ fn how_of(case: &Case) -> How<'static> {
 
 /// Each line that fails shows so many bytes.
 fn check_fronts(rt: &impl Abort, told: &Told, cuts: &[LineCut]) {
-    for (line, length) in FRONTS {
-        if cuts.iter().any(|cut| cut.line == line) {
-            assert_eq!(rt; told.line(line as usize).len(), length, "{line}");
+    for (line, length) in &FRONTS {
+        if cuts.iter().any(|cut| cut.line == *line) {
+            assert_eq!(rt; told.line(*line as usize).len(), *length, "{line}");
         }
     }
 }
@@ -159,6 +159,18 @@ fn check_out(rt: &impl Abort, whole: &Told, told: &Told, cut: Option<Cut>) {
     assert!(rt; whole.out.starts_with(&told.out));
 }
 
+/// What the run of a case has told.
+fn check_case(rt: &impl Abort, whole: &Told, told: &Told, case: &Case) {
+    assert_eq!(rt; told.code, case.code, "{}", case.text);
+    assert_eq!(rt; str::from_utf8(&told.text).unwrap_or("?"), case.text);
+    check_lines(rt, whole, told, case.cuts);
+    check_fronts(rt, told, case.cuts);
+    for (number, call) in case.calls.iter().enumerate() {
+        check_drive(rt, whole, told, number, *call);
+    }
+    check_out(rt, whole, told, case.out);
+}
+
 #[test]
 fn the_first_of_those_that_fail_is_named(rt: HostRuntime) -> Result<(), Fail> {
     let alloc = rt.alloc();
@@ -167,14 +179,7 @@ fn the_first_of_those_that_fail_is_named(rt: HostRuntime) -> Result<(), Fail> {
     let whole = run_set(alloc, &mut machine, &image, &PLAIN)?;
     for case in &CASES {
         let told = run_set(alloc, &mut machine, &image, &how_of(case))?;
-        assert_eq!(rt; told.code, case.code, "{}", case.text);
-        assert_eq!(rt; str::from_utf8(&told.text).unwrap_or("?"), case.text);
-        check_lines(&rt, &whole, &told, case.cuts);
-        check_fronts(&rt, &told, case.cuts);
-        for (number, call) in case.calls.iter().enumerate() {
-            check_drive(&rt, &whole, &told, number, *call);
-        }
-        check_out(&rt, &whole, &told, case.out);
+        check_case(&rt, &whole, &told, case);
     }
     Ok(())
 }

@@ -1,12 +1,25 @@
 //! Files that are assembled and disassembled.
 
+use crate::telling::is_told;
+use std::alloc::Global;
+use std::process::Abort;
 use std::test::Fail;
 use vax_cpu::Cpu;
+use vv_base::NoMemory;
 use vv_io::Cut;
-use vv_stage::{PAGES, plain, run_words};
+use vv_stage::{PAGES, Told, plain, run_words};
 
-/// Row by row: the words, the file, where the sink is cut, the code, its text, and what is shown.
-const FILES: [(&str, &[u8], Option<Cut>, u8, &str, &[u8]); 12] = [
+/// The words, the file, where the sink is cut, the code, its text, and what is shown.
+type Row = (
+    &'static str,
+    &'static [u8],
+    Option<Cut>,
+    u8,
+    &'static str,
+    &'static [u8],
+);
+
+static FILES: [Row; 12] = [
     (
         "asm x",
         b"L: DECL R0\nBNEQ L\n",
@@ -63,19 +76,33 @@ const FILES: [(&str, &[u8], Option<Cut>, u8, &str, &[u8]); 12] = [
     ("dis x 1", &[0x01], None, 2, "bad words", b""),
 ];
 
+/// Makes the call over a file, where the sink may be cut.
+fn told_of(
+    alloc: Global,
+    machine: &mut Cpu,
+    words: &str,
+    file: &[u8],
+    cut: Option<Cut>,
+) -> Result<Told, NoMemory> {
+    let files = [("x", file)];
+    let mut props = plain(&files);
+    props.out = cut;
+    run_words(alloc, machine, words, &props, &[], &[])
+}
+
+/// No line shows anything.
+fn is_silent(rt: &impl Abort, told: &Told) {
+    assert!(rt; told.lines.iter().all(|line| line.is_empty()));
+}
+
 #[test]
 fn files_are_assembled_and_disassembled(rt: HostRuntime) -> Result<(), Fail> {
     let alloc = rt.alloc();
     let mut machine = Cpu::new(alloc, PAGES)?;
-    for (words, file, cut, code, text, shown) in FILES {
-        let files = [("x", file)];
-        let mut props = plain(&files);
-        props.out = cut;
-        let told = run_words(alloc, &mut machine, words, &props, &[], &[])?;
-        assert_eq!(rt; told.code, code, "{words}");
-        assert_eq!(rt; told.text.as_slice(), text.as_bytes());
-        assert_eq!(rt; told.out.as_slice(), shown);
-        assert!(rt; told.lines.iter().all(|line| line.is_empty()));
+    for row in &FILES {
+        let told = told_of(alloc, &mut machine, row.0, row.1, row.2)?;
+        is_told(&rt, &told, row.3, row.4, row.5);
+        is_silent(&rt, &told);
     }
     Ok(())
 }

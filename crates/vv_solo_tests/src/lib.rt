@@ -8,4 +8,6 @@ mod files;
 #[cfg(test)]
 mod runs;
 #[cfg(test)]
+mod telling;
+#[cfg(test)]
 mod watched;

@@ -1,11 +1,14 @@
 //! Images of one guest, with what the console, the summary and the dump show.
 
+use crate::telling::{is_told, shows};
+use std::alloc::Global;
 use std::test::Fail;
 use vax_cpu::Cpu;
-use vv_stage::{PAGES, plain, run_words};
+use vv_base::NoMemory;
+use vv_stage::{PAGES, Told, plain, run_words};
 
 /// Row by row: an image, a number of steps, the console's bytes, and the summary.
-pub const RUNS: [(&[u8], &str, &str, &str); 15] = [
+static RUNS: [(&[u8], &str, &str, &str); 15] = [
     (
         &[0xDA, 0x8F, 0x41, 0, 0, 0, 0x23, 0],
         "10",
@@ -109,7 +112,7 @@ pub const RUNS: [(&[u8], &str, &str, &str); 15] = [
 ];
 
 /// Row by row: an image, a number of steps, and the dump.
-const DUMPS: [(&[u8], &str, &str); 3] = [
+static DUMPS: [(&[u8], &str, &str); 3] = [
     // HALT alone leaves no row to show
     (
         &[],
@@ -173,24 +176,21 @@ const WORKED: &[u8] = &[
     4, // 24A RET
 ];
 
+/// Runs an image for so many steps.
+fn told_of(alloc: Global, machine: &mut Cpu, image: &[u8], steps: &str) -> Result<Told, NoMemory> {
+    let words = format!(in alloc; "solo x {steps}")?;
+    let files = [("x", image)];
+    run_words(alloc, machine, words.as_str(), &plain(&files), &[], &[])
+}
+
 #[test]
 fn images_run_as_worked_out(rt: HostRuntime) -> Result<(), Fail> {
     let alloc = rt.alloc();
     let mut machine = Cpu::new(alloc, PAGES)?;
-    for (image, steps, line, out) in RUNS {
-        let words = format!(in alloc; "solo x {steps}")?;
-        let files = [("x", image)];
-        let told = run_words(
-            alloc,
-            &mut machine,
-            words.as_str(),
-            &plain(&files),
-            &[],
-            &[],
-        )?;
-        assert_eq!(rt; told.code, 0);
-        assert_eq!(rt; told.line(0), line.as_bytes());
-        assert_eq!(rt; told.out.as_slice(), out.as_bytes());
+    for (image, steps, line, out) in &RUNS {
+        let told = told_of(alloc, &mut machine, image, steps)?;
+        is_told(&rt, &told, 0, "", out.as_bytes());
+        shows(&rt, &told, 0, line.as_bytes());
     }
     Ok(())
 }
@@ -199,19 +199,10 @@ fn images_run_as_worked_out(rt: HostRuntime) -> Result<(), Fail> {
 fn dumps_show_registers_and_rows(rt: HostRuntime) -> Result<(), Fail> {
     let alloc = rt.alloc();
     let mut machine = Cpu::new(alloc, PAGES)?;
-    for (image, steps, dump) in DUMPS {
-        let words = format!(in alloc; "solo x {steps}")?;
-        let files = [("x", image)];
-        let told = run_words(
-            alloc,
-            &mut machine,
-            words.as_str(),
-            &plain(&files),
-            &[],
-            &[],
-        )?;
+    for (image, steps, dump) in &DUMPS {
+        let told = told_of(alloc, &mut machine, image, steps)?;
         assert_eq!(rt; told.code, 0);
-        assert_eq!(rt; told.line(1), dump.as_bytes());
+        shows(&rt, &told, 1, dump.as_bytes());
     }
     Ok(())
 }

@@ -1,5 +1,6 @@
 //! Who executes the guest's instructions.
 
+use std::process::Abort;
 use std::test::Fail;
 use vax_cpu::Cpu;
 use vax_hw::{Exit, Hardware, World};
@@ -77,6 +78,29 @@ impl Hardware for Watched {
     }
 }
 
+/// A run of the machine goes on where the runs before it ended.
+fn follows(rt: &impl Abort, note: &Note, before: u64) {
+    let pc = if before % 2 == 0 { 0x200 } else { 0x202 };
+    assert_eq!(rt; note.pc, pc, "behind {before} instructions");
+    assert_eq!(rt;
+        u64::from(note.r0),
+        before.div_ceil(2),
+        "behind {before} instructions"
+    );
+}
+
+/// Each run follows those before it; how many instructions retired in all.
+fn retired_in(rt: &impl Abort, notes: &[Note]) -> u64 {
+    let mut before = 0u64;
+    for note in notes {
+        follows(rt, note, before);
+        before = before
+            .checked_add(note.retired)
+            .expect(rt, "the sum of what retired");
+    }
+    before
+}
+
 #[test]
 fn the_machine_executes_the_guest(rt: HostRuntime) -> Result<(), Fail> {
     let alloc = rt.alloc();
@@ -88,19 +112,6 @@ fn the_machine_executes_the_guest(rt: HostRuntime) -> Result<(), Fail> {
     let told = run_words(alloc, &mut watched, "solo x 42", &plain(&files), &[], &[])?;
     assert_eq!(rt; told.code, 0);
     assert!(rt; !watched.notes.is_empty());
-    let mut before = 0u64;
-    for note in &watched.notes {
-        let pc = if before % 2 == 0 { 0x200 } else { 0x202 };
-        assert_eq!(rt; note.pc, pc, "behind {before} instructions");
-        assert_eq!(rt;
-            u64::from(note.r0),
-            before.div_ceil(2),
-            "behind {before} instructions"
-        );
-        before = before
-            .checked_add(note.retired)
-            .expect(&rt, "the sum of what retired");
-    }
-    assert_eq!(rt; before, 42);
+    assert_eq!(rt; retired_in(&rt, &watched.notes), 42);
     Ok(())
 }
