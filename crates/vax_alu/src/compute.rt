@@ -10,7 +10,7 @@ use vax_table::{Alu, AluOp};
 use vv_base::{Width, signed};
 
 /// C, bit 0.
-#[inline(always)]
+#[inline]
 fn carry_of(psw: u8) -> bool
     ensures { result ≡ carry_of psw }
 {
@@ -18,7 +18,7 @@ fn carry_of(psw: u8) -> bool
 }
 
 /// IV, bit 5.
-#[inline(always)]
+#[inline]
 fn traps_overflow(psw: u8) -> bool
     ensures { result ≡ traps_overflow psw }
 {
@@ -26,7 +26,7 @@ fn traps_overflow(psw: u8) -> bool
 }
 
 /// The PSW with these condition codes.
-#[inline(always)]
+#[inline]
 fn with_codes(psw: u8, n: bool, z: bool, v: bool, c: bool) -> u8
     ensures { result ≡ psw_with psw (record { n = n; z = z; v = v; c = c }) }
 {
@@ -34,7 +34,7 @@ fn with_codes(psw: u8, n: bool, z: bool, v: bool, c: bool) -> u8
 }
 
 /// A value of the width, with N and Z of it.
-#[inline(always)]
+#[inline]
 fn valued(value: u32, w: Width, v: bool, c: bool, psw: u8) -> Alu
     requires { w ≢ Width.Quad }
     ensures { result ≡ answered (valued w value v c) psw }
@@ -52,7 +52,7 @@ fn valued(value: u32, w: Width, v: bool, c: bool, psw: u8) -> Alu
 }
 
 /// An exact result, where V says that it doesn't fit.
-#[inline(always)]
+#[inline]
 fn exact(x: i64, w: Width, c: bool, psw: u8) -> Alu
     requires { w ≢ Width.Quad }
     ensures { result ≡ answered (exactly w x c) psw }
@@ -61,7 +61,7 @@ fn exact(x: i64, w: Width, c: bool, psw: u8) -> Alu
 }
 
 /// A result of bits, where C is as before.
-#[inline(always)]
+#[inline]
 fn plain(value: u32, w: Width, psw: u8) -> Alu
     requires { w ≢ Width.Quad }
     ensures { result ≡ answered (plainly w value (carry_of psw)) psw }
@@ -71,7 +71,7 @@ fn plain(value: u32, w: Width, psw: u8) -> Alu
 
 /// Second plus first plus a carry.
 #[tactic(auto, using(crate::proofs::Casts::casts))]
-#[inline(always)]
+#[inline]
 fn sum(a: u32, b: u32, c: bool, w: Width, psw: u8) -> Alu
     requires { w ≢ Width.Quad }
     ensures { result ≡ answered (sum_of w a b c) psw }
@@ -82,7 +82,7 @@ fn sum(a: u32, b: u32, c: bool, w: Width, psw: u8) -> Alu
 
 /// Second minus first minus a borrow.
 #[tactic(auto, using(crate::proofs::Casts::casts))]
-#[inline(always)]
+#[inline]
 fn difference(a: u32, b: u32, c: bool, w: Width, psw: u8) -> Alu
     requires { w ≢ Width.Quad }
     ensures { result ≡ answered (difference_of w a b c) psw }
@@ -93,7 +93,7 @@ fn difference(a: u32, b: u32, c: bool, w: Width, psw: u8) -> Alu
 
 /// Second times first.
 #[tactic(auto, using(crate::proofs::Casts::casts))]
-#[inline(always)]
+#[inline]
 fn product(a: u32, b: u32, w: Width, psw: u8) -> Alu
     requires { w ≢ Width.Quad }
     ensures { result ≡ answered (exactly w (signed_of w b *ℤ signed_of w a) false) psw }
@@ -119,7 +119,7 @@ fn divide(a: u32, b: u32, w: Width, psw: u8) -> Alu
 
 /// Minus a number, where C says that the result isn't 0.
 #[tactic(auto, using(crate::proofs::Casts::casts))]
-#[inline(always)]
+#[inline]
 fn negate(a: u32, w: Width, psw: u8) -> Alu
     requires { w ≢ Width.Quad }
     ensures { result ≡ answered (negation_of w a) psw }
@@ -130,7 +130,7 @@ fn negate(a: u32, w: Width, psw: u8) -> Alu
 
 /// First against second: N below, signed; Z equal; C below, unsigned.
 #[tactic(auto, using(crate::proofs::Casts::casts))]
-#[inline(always)]
+#[inline]
 fn compare(a: u32, b: u32, w: Width, psw: u8) -> Alu
     requires { w ≢ Width.Quad }
     ensures { result ≡ answered (comparison_of w a b) psw }
@@ -208,7 +208,10 @@ fn alu_in(op: AluOp, a: u32, b: u32, w: Width, psw: u8) -> Alu
 
 /// The value, the condition codes and the trap of an operation on the low bits of two operands,
 /// by the VAX Architecture Reference Manual. A count of Ash or Rot is the signed low byte of `a`,
-/// and Narrow takes all of `a`.
+/// and Narrow takes all of `a`. It is written out where it is called, since a call hands the answer
+/// over through memory; the functions below leave that to the compiler, so that this one is small
+/// enough.
+#[inline(always)]
 pub fn alu(op: AluOp, a: u32, b: u32, w: Width, psw: u8) -> Alu
     requires { w ≢ Width.Quad }
     ensures { result ≡ alu_of op a b w psw }

@@ -1,3 +1,4 @@
 pub mod Changed
+pub mod ShownChanged
 pub mod Completed
 pub mod Fetched

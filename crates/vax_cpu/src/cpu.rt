@@ -137,8 +137,10 @@ fn run_parts(
     let missed = Cell::new(u32::MAX);
     let mut total = sum_of(&plan.r);
     for _left in (0..budget).rev() {
+        // PC is read by itself, since it is needed at once, and the copy isn't
+        let pc = plan.r[15];
         let before = plan.r;
-        let slot = before[15] as usize / 2 % 2048;
+        let slot = pc as usize / 2 % 2048;
         match attempt_next(
             state,
             &missed,
@@ -149,7 +151,7 @@ fn run_parts(
             &mut total,
         ) {
             Ok(opcode) => {
-                state.retire(before[15], opcode, total, plan, &missed);
+                state.retire(pc, opcode, total, plan, &missed);
                 match plan.trap {
                     Some(kind) => {
                         return Exit::Arithmetic { kind };

@@ -218,6 +218,8 @@ impl State {
         requires { total ≡ sum (take 15 plan.now.r) }
         ensures { self.new ≡ behind pc opcode (effect plan.now) self.old }
     {
+        // The PSL is read before the stores, so that it is stored as one longword, which the next instruction reads
+        let psl = with_psw(self.world.psl, plan.psw);
         let own = u64::from(pc) + 3 * u64::from(opcode);
         self.trail = self.trail.wrapping_add(own).wrapping_add(total);
         self.retired = self.retired.wrapping_add(1);
@@ -229,7 +231,7 @@ impl State {
             missed,
             stores,
         );
-        self.world.psl = with_psw(self.world.psl, plan.psw);
+        self.world.psl = psl;
     }
 
     /// An instruction didn't retire: an entry that wasn't valid is counted.
