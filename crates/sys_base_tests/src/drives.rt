@@ -1,4 +1,4 @@
-ghost use Rattle.std.specs.Prelude.{◌≡◌, ◌≢◌, ◌≤◌, [], ◌∷◌, All, IfSome, length, map, vec_len};
+ghost use Rattle.std.specs.Prelude.{◌≡◌, ◌≢◌, ◌≤◌, [], ◌∷◌, All, IfOk, IfSome, length, map, vec_len};
 ghost use Rattle.std.specs.List.{AllPairs};
 ghost use Rattle.sys_objects.specs.Condition.{IsVolume};
 
@@ -43,6 +43,26 @@ fn two_volumes(drives: (u8, u8), first: u32, second: u32) -> Option<[VolumeRow; 
     Some([volume(drives.0, first)?, volume(drives.1, second)?])
 }
 
+/// So many blocks of one byte.
+fn blocks_of(alloc: Global, count: u32, byte: u8) -> Result<Vec<[u8; 512]>, Fail> {
+    let mut blocks = Vec::new(alloc);
+    for _block in 0..count {
+        blocks.push([byte; 512])?;
+    }
+    Ok(blocks)
+}
+
+/// The calls of one drive that fail.
+fn calls_of(alloc: Global, number: u8, failing: &[(u8, u32)]) -> Result<Vec<u32>, Fail> {
+    let mut calls = Vec::new(alloc);
+    for (drive, call) in failing {
+        if *drive == number {
+            calls.push(*call)?;
+        }
+    }
+    Ok(calls)
+}
+
 /// A drive by its number: three blocks of 7 on drive 4 and one on 2, three of 1 on 5 and one on 1. One of its calls may
 /// fail.
 fn drive_of(
@@ -58,18 +78,26 @@ fn drive_of(
         5 => (3, 1),
         _ => (0, 0),
     };
-    let mut blocks = Vec::new(alloc);
-    for _block in 0..count {
-        blocks.push([byte; 512])?;
-    }
-    let mut calls = Vec::new(alloc);
-    for (drive, call) in failing {
-        if *drive == number {
-            calls.push(*call)?;
-        }
-    }
+    let blocks = blocks_of(alloc, count, byte)?;
     assert!(rt; blocks.len() < 9);
+    let calls = calls_of(alloc, number, failing)?;
     Ok(MemDrive::new(blocks, calls))
+}
+
+/// All sixteen drives.
+fn drives_of(
+    rt: &impl Abort,
+    alloc: Global,
+    failing: &[(u8, u32)],
+) -> Result<Vec<Box<dyn Drive>>, Fail>
+    ensures { IfOk result (λ drives. vec_len drives ≡ 16) }
+{
+    let mut drives: Vec<Box<dyn Drive>> = Vec::new(alloc);
+    for number in 0..16u8 {
+        drives.push(Box::new(alloc, drive_of(rt, alloc, number, failing)?)?)?;
+    }
+    assert!(rt; drives.len() == 16);
+    Ok(drives)
 }
 
 /// The first byte of a block, if it can be read.
@@ -109,66 +137,114 @@ fn copy(
     Ok(())
 }
 
+/// Copies the volumes of 4 and 2 to 5 and 1, and gives the fault.
+fn fault_of(
+    alloc: Global,
+    first: u32,
+    second: u32,
+    marks: &mut [bool; 16],
+    drives: &mut Vec<Box<dyn Drive>>,
+) -> Result<Option<LoadFault>, Fail>
+    requires { vec_len drives.old ≡ 16 }
+{
+    let from = two_volumes((4, 2), first, second).ok_or("rows")?;
+    let to = two_volumes((5, 1), first, second).ok_or("rows")?;
+    Ok(copy(alloc, &from, &to, marks, drives).err())
+}
+
+/// The first bytes of the blocks of 5 and 1.
+fn bytes_on(drives: &mut Vec<Box<dyn Drive>>) -> [u8; 4] {
+    let mut bytes = [0; 4];
+    for (place, byte) in bytes.iter_mut().enumerate() {
+        let (drive, block) = if place < 3 { (5, place as u32) } else { (1, 0) };
+        *byte = byte_on(drives, drive, block).unwrap_or(0);
+    }
+    bytes
+}
+
+/// The first and the second of two sizes, the calls that fail, and whether drive 5 is marked before.
+type Copied = (u32, u32, &'static [(u8, u32)], bool);
+
 /// What came of a copy: its fault, the first bytes of the blocks of 5 and 1, and their marks.
 type Outcome = (Option<LoadFault>, [u8; 4], bool, bool);
 
 /// Copies the volumes of 4 and 2 to 5 and 1, where some calls fail. Before the first set drive 5 had three calls and
 /// drive 1 one.
-fn outcome_of(
-    rt: &impl Abort,
-    alloc: Global,
-    first: u32,
-    second: u32,
-    failing: &[(u8, u32)],
-    is_marked: bool,
-) -> Result<Outcome, Fail> {
-    let from = two_volumes((4, 2), first, second).ok_or("rows")?;
-    let to = two_volumes((5, 1), first, second).ok_or("rows")?;
-    let mut drives: Vec<Box<dyn Drive>> = Vec::new(alloc);
-    for number in 0..16u8 {
-        drives.push(Box::new(alloc, drive_of(rt, alloc, number, failing)?)?)?;
-    }
-    assert_eq!(rt; drives.len(), 16);
+fn outcome_of(rt: &impl Abort, alloc: Global, copied: &Copied) -> Result<Outcome, Fail> {
+    let (first, second, failing, is_marked) = *copied;
+    let mut drives = drives_of(rt, alloc, failing)?;
     let mut marks = [false; 16];
     marks[5] = is_marked;
-    let fault = copy(alloc, &from, &to, &mut marks, &mut drives).err();
-    let mut bytes = [0; 4];
-    for (place, byte) in bytes.iter_mut().enumerate() {
-        let (drive, block) = if place < 3 { (5, place as u32) } else { (1, 0) };
-        *byte = byte_on(&mut drives, drive, block).unwrap_or(0);
-    }
+    let fault = fault_of(alloc, first, second, &mut marks, &mut drives)?;
+    let bytes = bytes_on(&mut drives);
     Ok((fault, bytes, marks[5], marks[1]))
+}
+
+/// A copy has its outcome.
+fn comes_to(rt: &impl Abort, alloc: Global, copied: &Copied, wanted: &Outcome) -> Result<(), Fail> {
+    let found = outcome_of(rt, alloc, copied)?;
+    assert!(rt; found == *wanted);
+    Ok(())
+}
+
+/// The calls that fail, whether drive 5 is marked before, the first bytes, and the marks.
+type Stored = (&'static [(u8, u32)], bool, [u8; 4], bool, bool);
+
+/// Copies without a fault, where some sets fail.
+static STORED: [Stored; 6] = [
+    (&[(0, 0), (0, 0)], false, [7, 7, 7, 7], false, false),
+    (&[(5, 4), (0, 0)], false, [1, 1, 1, 7], true, false),
+    (&[(5, 5), (0, 0)], false, [7, 1, 1, 7], true, false),
+    (&[(5, 6), (0, 0)], false, [7, 7, 1, 7], true, false),
+    (&[(5, 5), (1, 2)], false, [7, 1, 1, 1], true, true),
+    (&[(0, 0), (0, 0)], true, [1, 1, 1, 7], true, false),
+];
+
+/// The drive is stored to until it fails.
+fn is_stored(rt: &impl Abort, alloc: Global, row: &Stored) -> Result<(), Fail> {
+    let (failing, is_marked, bytes, first, second) = *row;
+    let copied = (3, 1, failing, is_marked);
+    comes_to(rt, alloc, &copied, &(None, bytes, first, second))
 }
 
 #[test]
 fn a_drive_is_stored_to_until_it_fails(rt: HostRuntime) -> Result<(), Fail> {
-    for (failing, is_marked, bytes, first, second) in [
-        ([(0, 0), (0, 0)], false, [7, 7, 7, 7], false, false),
-        ([(5, 4), (0, 0)], false, [1, 1, 1, 7], true, false),
-        ([(5, 5), (0, 0)], false, [7, 1, 1, 7], true, false),
-        ([(5, 6), (0, 0)], false, [7, 7, 1, 7], true, false),
-        ([(5, 5), (1, 2)], false, [7, 1, 1, 1], true, true),
-        ([(0, 0), (0, 0)], true, [1, 1, 1, 7], true, false),
-    ] {
-        let found = outcome_of(&rt, rt.alloc(), 3, 1, &failing, is_marked)?;
-        assert_eq!(rt; found, (None, bytes, first, second));
+    for row in &STORED {
+        is_stored(&rt, rt.alloc(), row)?;
     }
     Ok(())
 }
 
+/// The first and the second of two sizes, the calls that fail, and the trouble.
+type Trouble = (u32, u32, &'static [(u8, u32)], LoadFault);
+
+/// Copies that stop before the first set.
+static TROUBLES: [Trouble; 7] = [
+    (3, 1, &[(4, 1), (0, 0)], LoadFault::DriveIn(4)),
+    (3, 1, &[(4, 2), (0, 0)], LoadFault::DriveIn(4)),
+    (3, 1, &[(4, 3), (2, 1)], LoadFault::DriveIn(4)),
+    (3, 1, &[(0, 0), (2, 1)], LoadFault::DriveIn(2)),
+    (2, 2, &[(0, 0), (0, 0)], LoadFault::VolumeSize(0)),
+    (3, 2, &[(0, 0), (0, 0)], LoadFault::VolumeSize(1)),
+    (3, 2, &[(5, 3), (0, 0)], LoadFault::DriveIn(5)),
+];
+
+/// The trouble is told, and nothing is stored.
+fn is_told(rt: &impl Abort, alloc: Global, row: &Trouble) -> Result<(), Fail> {
+    let (first, second, failing, fault) = *row;
+    let copied = (first, second, failing, false);
+    comes_to(
+        rt,
+        alloc,
+        &copied,
+        &(Some(fault), [1, 1, 1, 1], false, false),
+    )
+}
+
 #[test]
 fn the_first_trouble_is_told(rt: HostRuntime) -> Result<(), Fail> {
-    for (first, second, failing, fault) in [
-        (3, 1, [(4, 1), (0, 0)], LoadFault::DriveIn(4)),
-        (3, 1, [(4, 2), (0, 0)], LoadFault::DriveIn(4)),
-        (3, 1, [(4, 3), (2, 1)], LoadFault::DriveIn(4)),
-        (3, 1, [(0, 0), (2, 1)], LoadFault::DriveIn(2)),
-        (2, 2, [(0, 0), (0, 0)], LoadFault::VolumeSize(0)),
-        (3, 2, [(0, 0), (0, 0)], LoadFault::VolumeSize(1)),
-        (3, 2, [(5, 3), (0, 0)], LoadFault::DriveIn(5)),
-    ] {
-        let found = outcome_of(&rt, rt.alloc(), first, second, &failing, false)?;
-        assert_eq!(rt; found, (Some(fault), [1, 1, 1, 1], false, false));
+    for row in &TROUBLES {
+        is_told(&rt, rt.alloc(), row)?;
     }
     Ok(())
 }

@@ -40,44 +40,60 @@ fn guest(name: &str, class: AccessClass) -> GuestRow {
     }
 }
 
+/// Names of guests, levels of their classes and categories.
+static GUESTS: [(&str, u8, u64); 4] = [("HIGH", 2, 0), ("A", 1, 0), ("LOW", 0, 0), ("APART", 1, 1)];
+
 fn guests(alloc: Global) -> Result<Rows<GuestRow>, NoMemory> {
     let mut rows = Vec::new(alloc);
-    for (name, level, cats) in [("HIGH", 2, 0), ("A", 1, 0), ("LOW", 0, 0), ("APART", 1, 1)] {
-        rows.push(guest(name, class(level, cats)))?;
+    for (name, level, cats) in &GUESTS {
+        rows.push(guest(name, class(*level, *cats)))?;
     }
     Ok(Rows::new(rows))
+}
+
+/// Names of volumes, their drives, levels of their classes and categories.
+static VOLUMES: [(&str, u8, u8, u64); 4] = [
+    ("SEC", 0, 2, 0),
+    ("PUB", 1, 0, 0),
+    ("OWN", 2, 1, 0),
+    ("SIDE", 3, 1, 1),
+];
+
+/// A volume of a class.
+fn volume(name: &str, drive: u8, class: AccessClass) -> VolumeRow {
+    VolumeRow {
+        name: named(name),
+        drive,
+        blocks: 8,
+        class,
+    }
 }
 
 fn volumes(alloc: Global) -> Result<Rows<VolumeRow>, NoMemory> {
     let mut rows = Vec::new(alloc);
-    for (name, drive, level, cats) in [
-        ("SEC", 0, 2, 0),
-        ("PUB", 1, 0, 0),
-        ("OWN", 2, 1, 0),
-        ("SIDE", 3, 1, 1),
-    ] {
-        rows.push(VolumeRow {
-            name: named(name),
-            drive,
-            blocks: 8,
-            class: class(level, cats),
-        })?;
+    for (name, drive, level, cats) in &VOLUMES {
+        rows.push(volume(name, *drive, class(*level, *cats)))?;
     }
     Ok(Rows::new(rows))
 }
 
-fn config(alloc: Global) -> Result<Config, NoMemory> {
-    let mut terminals = Vec::new(alloc);
-    terminals.push(Terminal {
+/// The terminal `T1`.
+fn terminals(alloc: Global) -> Result<Rows<Terminal>, NoMemory> {
+    let mut rows = Vec::new(alloc);
+    rows.push(Terminal {
         name: named("T1"),
         line: 0,
         class: class(1, 0),
     })?;
+    Ok(Rows::new(rows))
+}
+
+fn config(alloc: Global) -> Result<Config, NoMemory> {
     let printers: Vec<PrinterRow> = Vec::new(alloc);
     Ok(Config {
         slice: 10,
         audit: None,
-        terminals: Rows::new(terminals),
+        terminals: terminals(alloc)?,
         volumes: volumes(alloc)?,
         printers: Rows::new(printers),
         guests: guests(alloc)?,
@@ -157,7 +173,7 @@ fn each_command_has_its_verdict(rt: HostRuntime) -> Result<(), Fail> {
     assert!(rt; c.guests.len() <= 16 && c.volumes.len() <= 16 && c.terminals.len() == 1);
     let s = state();
     for (text, wanted) in &VERDICTS {
-        assert_eq!(rt; verdict(&c, &s, 0, text.as_bytes()), *wanted, "{text}");
+        assert!(rt; verdict(&c, &s, 0, text.as_bytes()) == *wanted, "{text}");
     }
     Ok(())
 }
@@ -215,7 +231,7 @@ static OTHERS: [&str; 46] = [
 #[test]
 fn other_lines_are_no_commands(rt: HostRuntime) {
     for text in &OTHERS {
-        assert_eq!(rt; asked_in(text.as_bytes()).is_none(), true, "{text}");
+        assert!(rt; asked_in(text.as_bytes()).is_none(), "{text}");
     }
 }
 
@@ -231,23 +247,23 @@ static REPLIES: [(Verdict, &str); 5] = [
 #[test]
 fn each_verdict_has_its_reply(rt: HostRuntime) {
     for (verdict, text) in &REPLIES {
-        assert_eq!(rt; reply(verdict), *text);
+        assert!(rt; reply(verdict) == *text, "{text}");
     }
 }
 
 /// The guest's console is taken from one terminal by another.
 fn connects(rt: &impl Abort, s: &mut ServerState) {
-    assert_eq!(rt; apply(s, 3, &Command::Connect(1)), None);
-    assert_eq!(rt; apply(s, 4, &Command::Connect(1)), Some(3));
-    assert_eq!(rt; apply(s, 4, &Command::Connect(1)), None);
+    assert!(rt; apply(s, 3, &Command::Connect(1)).is_none());
+    assert!(rt; apply(s, 4, &Command::Connect(1)) == Some(3));
+    assert!(rt; apply(s, 4, &Command::Connect(1)).is_none());
     assert!(rt; s.at[3].is_none() && s.at[4] == Some(1));
 }
 
 /// The guest alone starts, and is halted.
 fn starts_and_halts(rt: &impl Abort, s: &mut ServerState) {
-    assert_eq!(rt; apply(s, 0, &Command::Start(1)), None);
+    assert!(rt; apply(s, 0, &Command::Start(1)).is_none());
     assert!(rt; s.running[1] && !s.running[0]);
-    assert_eq!(rt; apply(s, 0, &Command::Halt(1)), None);
+    assert!(rt; apply(s, 0, &Command::Halt(1)).is_none());
     assert!(rt; !s.running[1]);
 }
 
@@ -257,10 +273,10 @@ fn mounts(rt: &impl Abort, s: &mut ServerState) {
         volume: 1,
         write: true,
     };
-    assert_eq!(rt; apply(s, 0, &Command::MountAt(15, 3, mount)), None);
-    assert_eq!(rt; s.mounts[15][3], Some(mount));
-    assert_eq!(rt; apply(s, 0, &Command::Dismount(15, 3)), None);
-    assert_eq!(rt; s.mounts[15][3], None);
+    assert!(rt; apply(s, 0, &Command::MountAt(15, 3, mount)).is_none());
+    assert!(rt; s.mounts[15][3] == Some(mount));
+    assert!(rt; apply(s, 0, &Command::Dismount(15, 3)).is_none());
+    assert!(rt; s.mounts[15][3].is_none());
 }
 
 #[test]
@@ -269,5 +285,5 @@ fn commands_are_done(rt: HostRuntime) {
     connects(&rt, &mut s);
     starts_and_halts(&rt, &mut s);
     mounts(&rt, &mut s);
-    assert_eq!(rt; apply(&mut s, 0, &Command::Show), None);
+    assert!(rt; apply(&mut s, 0, &Command::Show).is_none());
 }

@@ -1,19 +1,24 @@
 use std::alloc::Global;
+use std::process::Abort;
 use std::test::Fail;
 use vasm::assemble;
 use vasm_text::{AsmError, AsmFault, AsmKind};
+use vv_base::NoMemory;
 
-/// A branch over lines of NOP.
-fn over(alloc: Global, count: u8) -> Result<Vec<u8>, AsmError> {
+/// The text of a branch over lines of NOP.
+fn text_over(alloc: Global, count: u8) -> Result<Vec<u8>, NoMemory> {
     let mut text = Vec::new(alloc);
-    text.extend_from_slice(b"BRB M\n")
-        .map_err(|_| AsmError::NoMemory)?;
+    text.extend_from_slice(b"BRB M\n")?;
     for _ in 0..count {
-        text.extend_from_slice(b"NOP\n")
-            .map_err(|_| AsmError::NoMemory)?;
+        text.extend_from_slice(b"NOP\n")?;
     }
-    text.extend_from_slice(b"M:\n")
-        .map_err(|_| AsmError::NoMemory)?;
+    text.extend_from_slice(b"M:\n")?;
+    Ok(text)
+}
+
+/// Assembles a branch over lines of NOP.
+fn over(alloc: Global, count: u8) -> Result<Vec<u8>, AsmError> {
+    let text = text_over(alloc, count)?;
     if text.len() > 2_000 {
         return Ok(Vec::new(alloc));
     }
@@ -22,52 +27,58 @@ fn over(alloc: Global, count: u8) -> Result<Vec<u8>, AsmError> {
 
 #[test]
 fn branches_reach_127_bytes(rt: HostRuntime) -> Result<(), Fail> {
-    match over(rt.alloc(), 127) {
-        Ok(bytes) => {
-            assert_eq!(rt; bytes.len(), 129);
-            assert_eq!(rt; &bytes.as_slice()[..3], b"\x11\x7F\x01".as_slice());
-        }
-        Err(_) => {
-            return Err("refused".into());
-        }
-    }
+    let bytes = over(rt.alloc(), 127).map_err(|_| "refused")?;
+    assert!(rt; bytes.len() == 129);
+    assert!(rt; &bytes.as_slice()[..3] == b"\x11\x7F\x01".as_slice());
+    Ok(())
+}
+
+#[test]
+fn branches_over_128_bytes_are_refused(rt: HostRuntime) {
+    let fault = AsmFault {
+        line: 1,
+        kind: AsmKind::OutOfReach,
+    };
     match over(rt.alloc(), 128) {
-        Ok(_) => {
-            return Err("assembled".into());
-        }
-        Err(e) => {
-            assert_eq!(rt;
-                e,
-                AsmError::Fault(AsmFault {
-                    line: 1,
-                    kind: AsmKind::OutOfReach
-                })
-            );
-        }
+        Ok(_) => assert!(rt; false, "assembled"),
+        Err(e) => assert!(rt; e == AsmError::Fault(fault)),
     }
+}
+
+/// Sources and their images.
+static SOURCES: [(&[u8], &[u8]); 4] = [
+    (HELLO, b"\xDA\x8F\x41\x00\x00\x00\x23\x00"),
+    (
+        TEXT,
+        b"\x9E\xAF\x0E\x51\xD0\x06\x52\x9A\x81\x50\xDA\x50\x23\xF5\x52\xF7\x00\x48\x45\x4C\x4C\x4F\x0A",
+    ),
+    (
+        TABLE,
+        b"\xD4\x50\xD4\x51\xC0\x41\xEF\x06\x00\x00\x00\x50\xF2\x03\x51\xF4\x00\x01\x00\x00\x00\x00\x00\x00\x80\x11\x02\x00\x00",
+    ),
+    (
+        CALL,
+        b"\xDD\x15\xFB\x01\xCF\x01\x00\x00\x00\x00\xC1\xAC\x04\xAC\x04\x50\x04",
+    ),
+];
+
+/// A source is assembled to its image.
+fn is_assembled(
+    rt: &impl Abort,
+    alloc: Global,
+    row: &(&'static [u8], &'static [u8]),
+) -> Result<(), Fail> {
+    let (text, image) = *row;
+    assert!(rt; text.len() <= 16_777_216);
+    let bytes = assemble(alloc, text).map_err(|_| "refused")?;
+    assert!(rt; bytes.as_slice() == image);
     Ok(())
 }
 
 #[test]
 fn sources_of_the_examples(rt: HostRuntime) -> Result<(), Fail> {
-    let sources: [(&[u8], &[u8]); 4] = [
-        (HELLO, b"\xDA\x8F\x41\x00\x00\x00\x23\x00"),
-        (
-            TEXT,
-            b"\x9E\xAF\x0E\x51\xD0\x06\x52\x9A\x81\x50\xDA\x50\x23\xF5\x52\xF7\x00\x48\x45\x4C\x4C\x4F\x0A",
-        ),
-        (
-            TABLE,
-            b"\xD4\x50\xD4\x51\xC0\x41\xEF\x06\x00\x00\x00\x50\xF2\x03\x51\xF4\x00\x01\x00\x00\x00\x00\x00\x00\x80\x11\x02\x00\x00",
-        ),
-        (
-            CALL,
-            b"\xDD\x15\xFB\x01\xCF\x01\x00\x00\x00\x00\xC1\xAC\x04\xAC\x04\x50\x04",
-        ),
-    ];
-    for (text, image) in sources {
-        let bytes = assemble(rt.alloc(), text).map_err(|_| "refused")?;
-        assert_eq!(rt; bytes.as_slice(), image);
+    for row in &SOURCES {
+        is_assembled(&rt, rt.alloc(), row)?;
     }
     Ok(())
 }

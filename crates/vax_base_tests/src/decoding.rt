@@ -1,4 +1,5 @@
 use std::alloc::{AllocError, Global};
+use std::process::Abort;
 use std::test::Fail;
 use vax_decode::{Decode, DecodeFault, decode, encode};
 use vax_table::{Access, Form, row};
@@ -52,7 +53,7 @@ static OPERANDS: [&str; 256] = [
 
 /// The opcodes whose instructions a monitor does: HALT, REI, LDPCTX, SVPCTX, CHMK to CHMU, MTPR, MFPR
 /// and WAIT.
-const SENSITIVE: [usize; 11] = [
+static SENSITIVE: [u8; 11] = [
     0x00, 0x02, 0x06, 0x07, 0xbc, 0xbd, 0xbe, 0xbf, 0xda, 0xdb, 0xfd,
 ];
 
@@ -139,17 +140,23 @@ fn letters_of(alloc: Global, forms: &[Form]) -> Result<Vec<u8>, AllocError> {
     Ok(letters)
 }
 
+/// An opcode's row has the manual's operands, and tells whether a monitor does the instruction.
+fn check_row(rt: &impl Abort, alloc: Global, opcode: u8, letters: &str) -> Result<(), AllocError> {
+    match row(opcode) {
+        None => assert!(rt; letters == "-", "at {opcode}"),
+        Some(row) => {
+            let found = letters_of(alloc, row.operands.as_slice())?;
+            assert!(rt; found.as_slice() == letters.as_bytes(), "at {opcode}");
+            assert!(rt; row.sensitive == SENSITIVE.contains(&opcode), "at {opcode}");
+        }
+    }
+    Ok(())
+}
+
 #[test]
 fn rows_are_those_of_the_manual(rt: HostRuntime) -> Result<(), Fail> {
     for (opcode, letters) in OPERANDS.iter().enumerate() {
-        match row(opcode as u8) {
-            None => assert_eq!(rt; *letters, "-", "at {opcode}"),
-            Some(row) => {
-                let found = letters_of(rt.alloc(), row.operands.as_slice())?;
-                assert_eq!(rt; found.as_slice(), letters.as_bytes(), "at {opcode}");
-                assert_eq!(rt; row.sensitive, SENSITIVE.contains(&opcode), "at {opcode}");
-            }
-        }
+        check_row(&rt, rt.alloc(), opcode as u8, letters)?;
     }
     Ok(())
 }
@@ -176,30 +183,72 @@ fn answer_with(
     Ok(answer(&bytes))
 }
 
+/// An opcode of this first byte is refused where no instruction has it, and else is decoded whole and encoded again.
+fn check_first_byte(
+    rt: &impl Abort,
+    alloc: Global,
+    opcode: u8,
+    letters: &str,
+) -> Result<(), AllocError> {
+    if letters == "-" {
+        let refused = Err(Some(DecodeFault::Opcode));
+        assert!(rt; answer(&[opcode]) == refused, "at {opcode}");
+    } else if opcode != 0xfd {
+        let whole = instruction(alloc, opcode, letters.as_bytes(), 4, 0)?;
+        let length = answer(&whole).map(usize::from);
+        assert!(rt; length == Ok(whole.len()), "at {opcode}");
+        assert!(rt; is_encoded_again(&whole), "at {opcode}");
+        assert!(rt; wants_more_throughout(&whole), "at {opcode}");
+    }
+    Ok(())
+}
+
 #[test]
 fn every_first_byte_is_decoded_by_the_manual(rt: HostRuntime) -> Result<(), Fail> {
     for (opcode, letters) in OPERANDS.iter().enumerate() {
-        let opcode = opcode as u8;
-        if *letters == "-" {
-            assert_eq!(rt;
-                answer(&[opcode]),
-                Err(Some(DecodeFault::Opcode)),
-                "at {opcode}"
-            );
-        } else if opcode != 0xfd {
-            let whole = instruction(rt.alloc(), opcode, letters.as_bytes(), 4, 0)?;
-            assert_eq!(rt;
-                answer(&whole).map(usize::from),
-                Ok(whole.len()),
-                "at {opcode}"
-            );
-            assert!(rt; is_encoded_again(&whole), "at {opcode}");
-            assert!(rt; wants_more_throughout(&whole), "at {opcode}");
+        check_first_byte(&rt, rt.alloc(), opcode as u8, letters)?;
+    }
+    Ok(())
+}
+
+#[test]
+fn a_first_byte_fd_wants_a_second_one(rt: HostRuntime) {
+    assert!(rt; answer(&[0xfd]) == Err(None));
+    assert!(rt; answer(&[0xfd, 1]) == Ok(2));
+    assert!(rt; answer(&[0xfd, 2]) == Err(Some(DecodeFault::Opcode)));
+}
+
+/// The operand at a place may be a literal where it is read, a register where its address isn't taken, and never PC in
+/// mode 6.
+fn check_operand(
+    rt: &impl Abort,
+    alloc: Global,
+    opcode: u8,
+    letters: &[u8],
+    place: usize,
+    access: u8,
+) -> Result<(), AllocError> {
+    let literal = answer_with(alloc, opcode, letters, place, 0x3f)?;
+    assert!(rt; literal.is_ok() == (access == b'r'), "at {opcode}");
+    let register = answer_with(alloc, opcode, letters, place, 0x52)?;
+    assert!(rt; register.is_ok() == (access != b'a'), "at {opcode}");
+    let pc = answer_with(alloc, opcode, letters, place, 0x6f)?;
+    assert!(rt; pc == Err(Some(DecodeFault::Addressing)), "at {opcode}");
+    Ok(())
+}
+
+/// Each operand of an instruction that isn't a branch's.
+fn check_operands(
+    rt: &impl Abort,
+    alloc: Global,
+    opcode: u8,
+    letters: &[u8],
+) -> Result<(), AllocError> {
+    for (place, access) in letters.iter().step_by(2).enumerate() {
+        if *access != b'b' && *access != b'-' {
+            check_operand(rt, alloc, opcode, letters, place, *access)?;
         }
     }
-    assert_eq!(rt; answer(&[0xfd]), Err(None));
-    assert_eq!(rt; answer(&[0xfd, 1]), Ok(2));
-    assert_eq!(rt; answer(&[0xfd, 2]), Err(Some(DecodeFault::Opcode)));
     Ok(())
 }
 
@@ -207,42 +256,36 @@ fn every_first_byte_is_decoded_by_the_manual(rt: HostRuntime) -> Result<(), Fail
 /// PC in mode 6 nowhere.
 #[test]
 fn each_operand_allows_what_its_access_does(rt: HostRuntime) -> Result<(), Fail> {
-    let alloc = rt.alloc();
     for (opcode, letters) in OPERANDS.iter().enumerate() {
-        let opcode = opcode as u8;
-        let letters = letters.as_bytes();
-        for (place, access) in letters.iter().step_by(2).enumerate() {
-            if *access != b'b' && *access != b'-' {
-                let literal = answer_with(alloc, opcode, letters, place, 0x3f)?;
-                assert_eq!(rt; literal.is_ok(), *access == b'r', "at {opcode}");
-                let register = answer_with(alloc, opcode, letters, place, 0x52)?;
-                assert_eq!(rt; register.is_ok(), *access != b'a', "at {opcode}");
-                let pc = answer_with(alloc, opcode, letters, place, 0x6f)?;
-                assert_eq!(rt; pc, Err(Some(DecodeFault::Addressing)), "at {opcode}");
-            }
-        }
+        check_operands(&rt, rt.alloc(), opcode as u8, letters.as_bytes())?;
     }
     Ok(())
 }
 
+/// Bytes, and how they are answered.
+type Answered = (&'static [u8], Result<u8, Option<DecodeFault>>);
+
+static EXAMPLES: [Answered; 11] = [
+    (&[], Err(None)),
+    (&[0xd0, 0x8f, 0x01], Err(None)),
+    (&[0xd0, 0x01, 0x01], Err(Some(DecodeFault::Addressing))),
+    (&[0xd0, 0x4f], Err(Some(DecodeFault::Addressing))),
+    (&[0xfd, 0x02], Err(Some(DecodeFault::Opcode))),
+    (&[0xfd, 0x01], Ok(2)),
+    (&[0xc0, 0x44, 0xc3, 0x34, 0x12, 0x50], Ok(6)),
+    (
+        &[0xc0, 0x44, 0x53, 0x50],
+        Err(Some(DecodeFault::Addressing)),
+    ),
+    (&[0xde, 0x51, 0x50], Err(Some(DecodeFault::Addressing))),
+    (&[0xd0, 0x41, 0x8f], Err(Some(DecodeFault::Addressing))),
+    (&[0x7d, 0x5d, 0x5e], Err(Some(DecodeFault::Addressing))),
+];
+
 #[test]
 fn worked_examples_are_decoded(rt: HostRuntime) {
-    let addressing = Err(Some(DecodeFault::Addressing));
-    let cases: [(&[u8], Result<u8, Option<DecodeFault>>); 11] = [
-        (&[], Err(None)),
-        (&[0xd0, 0x8f, 0x01], Err(None)),
-        (&[0xd0, 0x01, 0x01], addressing),
-        (&[0xd0, 0x4f], addressing),
-        (&[0xfd, 0x02], Err(Some(DecodeFault::Opcode))),
-        (&[0xfd, 0x01], Ok(2)),
-        (&[0xc0, 0x44, 0xc3, 0x34, 0x12, 0x50], Ok(6)),
-        (&[0xc0, 0x44, 0x53, 0x50], addressing),
-        (&[0xde, 0x51, 0x50], addressing),
-        (&[0xd0, 0x41, 0x8f], addressing),
-        (&[0x7d, 0x5d, 0x5e], addressing),
-    ];
-    for (bytes, want) in cases {
-        assert_eq!(rt; answer(bytes), want, "at {bytes:?}");
+    for (bytes, want) in &EXAMPLES {
+        assert!(rt; answer(bytes) == *want, "at {bytes:?}");
     }
 }
 
@@ -254,9 +297,9 @@ fn an_indexed_word_displacement_is_decoded_and_encoded(rt: HostRuntime) {
         assert!(rt; false, "a whole instruction");
         return;
     };
-    assert_eq!(rt;
-        (d.opcode, d.wait, d.length, d.specs.len()),
-        (0xc0, false, 6, 2)
-    );
-    assert_eq!(rt; encode(&d).bytes(), &bytes[..6]);
+    assert_eq!(rt; d.opcode, 0xc0);
+    assert!(rt; !d.wait);
+    assert_eq!(rt; d.length, 6);
+    assert_eq!(rt; d.specs.len(), 2);
+    assert!(rt; encode(&d).bytes() == &bytes[..6]);
 }

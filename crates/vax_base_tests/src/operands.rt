@@ -3,7 +3,7 @@ ghost use Rattle.vax_table.specs.Script.{number_at};
 ghost use Rattle.vax_table.specs.ShownOperand.{space};
 ghost use Rattle.vax_table.specs.Troubles.{intent_of, told};
 
-use std::test::Fail;
+use std::process::Abort;
 use vax_decode::{Decode, decode};
 use vax_operand::{Dest, Operands, Space, Trouble, evaluate};
 use vv_base::Width;
@@ -64,7 +64,7 @@ fn operands(code: &[u8], r0: u32, r1: u32) -> Option<Result<Operands, Trouble>> 
 }
 
 /// What is told of one operand: its value and destination, and R0 and PC behind the instruction.
-#[derive(Clone, Copy, Debug, PartialEq, Eq)]
+#[derive(Clone, Copy, PartialEq, Eq)]
 struct Found {
     value: u64,
     dest: Dest,
@@ -92,290 +92,312 @@ fn operand(code: &[u8], r0: u32, r1: u32) -> Option<Found> {
 
 /// An operand in memory: its specifier and how many bytes it has, R0 before, the address and R0 after for a word, the
 /// word there, and the address and R0 after for bits. R1 is 3.
-#[derive(Clone, Copy)]
-struct InMemory {
-    spec: [u8; 6],
-    bytes: u32,
-    r0: u32,
-    at: u32,
-    after: u32,
-    word: u64,
-    bits_at: u32,
-    bits_after: u32,
+type InMemory = ([u8; 6], u32, u32, (u32, u32, u64), (u32, u32));
+
+static PLAIN: [InMemory; 12] = [
+    // (R0), -(R0), (R0)+
+    (
+        [0x60, 0, 0, 0, 0, 0],
+        1,
+        0x2000,
+        (0x2000, 0x2000, 0xA1A0),
+        (0x2000, 0x2000),
+    ),
+    (
+        [0x70, 0, 0, 0, 0, 0],
+        1,
+        0x2002,
+        (0x2000, 0x2000, 0xA1A0),
+        (0x2001, 0x2001),
+    ),
+    (
+        [0x80, 0, 0, 0, 0, 0],
+        1,
+        0x2000,
+        (0x2000, 0x2002, 0xA1A0),
+        (0x2000, 0x2001),
+    ),
+    // @(R0)+, @#2000
+    (
+        [0x90, 0, 0, 0, 0, 0],
+        1,
+        0x1000,
+        (0x2000, 0x1004, 0xA1A0),
+        (0x2000, 0x1004),
+    ),
+    (
+        [0x9F, 0, 0x20, 0, 0, 0],
+        5,
+        7,
+        (0x2000, 7, 0xA1A0),
+        (0x2000, 7),
+    ),
+    // -4(R0), @7F(R0), -2000(R0), @1000(R0), -10(R0), @1000(R0)
+    (
+        [0xA0, 0xFC, 0, 0, 0, 0],
+        2,
+        0x2004,
+        (0x2000, 0x2004, 0xA1A0),
+        (0x2000, 0x2004),
+    ),
+    (
+        [0xB0, 0x7F, 0, 0, 0, 0],
+        2,
+        0xF81,
+        (0x2000, 0xF81, 0xA1A0),
+        (0x2000, 0xF81),
+    ),
+    (
+        [0xC0, 0, 0xE0, 0, 0, 0],
+        3,
+        0x4000,
+        (0x2000, 0x4000, 0xA1A0),
+        (0x2000, 0x4000),
+    ),
+    (
+        [0xD0, 0, 0x10, 0, 0, 0],
+        3,
+        0,
+        (0x2000, 0, 0xA1A0),
+        (0x2000, 0),
+    ),
+    (
+        [0xE0, 0xF0, 0xFF, 0xFF, 0xFF, 0],
+        5,
+        0x2010,
+        (0x2000, 0x2010, 0xA1A0),
+        (0x2000, 0x2010),
+    ),
+    (
+        [0xF0, 0, 0x10, 0, 0, 0],
+        5,
+        0,
+        (0x2000, 0, 0xA1A0),
+        (0x2000, 0),
+    ),
+    // 1DFA(PC), where PC is 206, and 207 behind one byte more
+    (
+        [0xEF, 0xFA, 0x1D, 0, 0, 0],
+        5,
+        7,
+        (0x2000, 7, 0xA1A0),
+        (0x2001, 7),
+    ),
+];
+
+static INDEXED: [InMemory; 5] = [
+    // (R0)[R1], (R0)+[R1], (R0)+[R0], @(R0)+[R1], @#2000[R1]
+    (
+        [0x41, 0x60, 0, 0, 0, 0],
+        2,
+        0x2000,
+        (0x2006, 0x2000, 0xA7A6),
+        (0x2003, 0x2000),
+    ),
+    (
+        [0x41, 0x80, 0, 0, 0, 0],
+        2,
+        0x2000,
+        (0x2006, 0x2002, 0xA7A6),
+        (0x2003, 0x2001),
+    ),
+    (
+        [0x40, 0x80, 0, 0, 0, 0],
+        2,
+        0x400,
+        (0xC04, 0x402, 0),
+        (0x801, 0x401),
+    ),
+    (
+        [0x41, 0x90, 0, 0, 0, 0],
+        2,
+        0x1000,
+        (0x2006, 0x1004, 0xA7A6),
+        (0x2003, 0x1004),
+    ),
+    (
+        [0x41, 0x9F, 0, 0x20, 0, 0],
+        6,
+        7,
+        (0x2006, 7, 0xA7A6),
+        (0x2003, 7),
+    ),
+];
+
+/// An instruction of one word operand, which a row is.
+fn check_word(rt: &impl Abort, row: &InMemory, opcode: u8, value: u64, dest: Dest) {
+    let ([a, b, c, d, e, f], bytes, r0, (_, after, _), _) = *row;
+    let found = operand(&[opcode, a, b, c, d, e, f], r0, 3);
+    let pc = bytes.wrapping_add(0x201);
+    assert!(rt; found == wanted(value, dest, after, pc), "{opcode} {a} {b}");
 }
 
-const fn in_memory(
-    spec: [u8; 6],
-    bytes: u32,
-    r0: u32,
-    word: (u32, u32, u64),
-    bits: (u32, u32),
-) -> InMemory {
-    InMemory {
-        spec,
-        bytes,
-        r0,
-        at: word.0,
-        after: word.1,
-        word: word.2,
-        bits_at: bits.0,
-        bits_after: bits.1,
+/// BBS #0, whose second operand a row is.
+fn check_bits(rt: &impl Abort, row: &InMemory) {
+    let ([a, b, c, d, e, f], bytes, r0, _, (at, after)) = *row;
+    let found = operand(&[0xE0, 0, a, b, c, d, e, f, 0], r0, 3);
+    let pc = bytes.wrapping_add(0x203);
+    assert!(rt; found == wanted(0, Dest::Memory(at), after, pc), "{a} {b}");
+}
+
+/// A row's operand, with each access.
+fn check_in_memory(rt: &impl Abort, row: &InMemory) {
+    let (_, _, _, (at, _, word), _) = *row;
+    check_word(rt, row, 0xB5, word, Dest::Nowhere); // TSTW
+    check_word(rt, row, 0xB6, word, Dest::Memory(at)); // INCW
+    check_word(rt, row, 0xB4, 0, Dest::Memory(at)); // CLRW
+    check_word(rt, row, 0x3F, u64::from(at), Dest::Nowhere); // PUSHAW
+    check_bits(rt, row);
+}
+
+#[test]
+fn takes_each_mode_with_each_access(rt: HostRuntime) {
+    for row in &PLAIN {
+        check_in_memory(&rt, row);
     }
 }
 
 #[test]
-fn takes_each_mode_with_each_access(rt: HostRuntime) -> Result<(), Fail> {
-    for m in [
-        // (R0), -(R0), (R0)+
-        in_memory(
-            [0x60, 0, 0, 0, 0, 0],
-            1,
-            0x2000,
-            (0x2000, 0x2000, 0xA1A0),
-            (0x2000, 0x2000),
-        ),
-        in_memory(
-            [0x70, 0, 0, 0, 0, 0],
-            1,
-            0x2002,
-            (0x2000, 0x2000, 0xA1A0),
-            (0x2001, 0x2001),
-        ),
-        in_memory(
-            [0x80, 0, 0, 0, 0, 0],
-            1,
-            0x2000,
-            (0x2000, 0x2002, 0xA1A0),
-            (0x2000, 0x2001),
-        ),
-        // @(R0)+, @#2000
-        in_memory(
-            [0x90, 0, 0, 0, 0, 0],
-            1,
-            0x1000,
-            (0x2000, 0x1004, 0xA1A0),
-            (0x2000, 0x1004),
-        ),
-        in_memory(
-            [0x9F, 0, 0x20, 0, 0, 0],
-            5,
-            7,
-            (0x2000, 7, 0xA1A0),
-            (0x2000, 7),
-        ),
-        // -4(R0), @7F(R0), -2000(R0), @1000(R0), -10(R0), @1000(R0)
-        in_memory(
-            [0xA0, 0xFC, 0, 0, 0, 0],
-            2,
-            0x2004,
-            (0x2000, 0x2004, 0xA1A0),
-            (0x2000, 0x2004),
-        ),
-        in_memory(
-            [0xB0, 0x7F, 0, 0, 0, 0],
-            2,
-            0xF81,
-            (0x2000, 0xF81, 0xA1A0),
-            (0x2000, 0xF81),
-        ),
-        in_memory(
-            [0xC0, 0, 0xE0, 0, 0, 0],
-            3,
-            0x4000,
-            (0x2000, 0x4000, 0xA1A0),
-            (0x2000, 0x4000),
-        ),
-        in_memory(
-            [0xD0, 0, 0x10, 0, 0, 0],
-            3,
-            0,
-            (0x2000, 0, 0xA1A0),
-            (0x2000, 0),
-        ),
-        in_memory(
-            [0xE0, 0xF0, 0xFF, 0xFF, 0xFF, 0],
-            5,
-            0x2010,
-            (0x2000, 0x2010, 0xA1A0),
-            (0x2000, 0x2010),
-        ),
-        in_memory(
-            [0xF0, 0, 0x10, 0, 0, 0],
-            5,
-            0,
-            (0x2000, 0, 0xA1A0),
-            (0x2000, 0),
-        ),
-        // 1DFA(PC), where PC is 206, and 207 behind one byte more
-        in_memory(
-            [0xEF, 0xFA, 0x1D, 0, 0, 0],
-            5,
-            7,
-            (0x2000, 7, 0xA1A0),
-            (0x2001, 7),
-        ),
-        // (R0)[R1], (R0)+[R1], (R0)+[R0], @(R0)+[R1], @#2000[R1]
-        in_memory(
-            [0x41, 0x60, 0, 0, 0, 0],
-            2,
-            0x2000,
-            (0x2006, 0x2000, 0xA7A6),
-            (0x2003, 0x2000),
-        ),
-        in_memory(
-            [0x41, 0x80, 0, 0, 0, 0],
-            2,
-            0x2000,
-            (0x2006, 0x2002, 0xA7A6),
-            (0x2003, 0x2001),
-        ),
-        in_memory(
-            [0x40, 0x80, 0, 0, 0, 0],
-            2,
-            0x400,
-            (0xC04, 0x402, 0),
-            (0x801, 0x401),
-        ),
-        in_memory(
-            [0x41, 0x90, 0, 0, 0, 0],
-            2,
-            0x1000,
-            (0x2006, 0x1004, 0xA7A6),
-            (0x2003, 0x1004),
-        ),
-        in_memory(
-            [0x41, 0x9F, 0, 0x20, 0, 0],
-            6,
-            7,
-            (0x2006, 7, 0xA7A6),
-            (0x2003, 7),
-        ),
-    ] {
-        let [a, b, c, d, e, f] = m.spec;
-        let pc = m.bytes.wrapping_add(0x201);
-        for (opcode, value, dest) in [
-            (0xB5, m.word, Dest::Nowhere), // TSTW
-            (0xB6, m.word, Dest::Memory(m.at)), // INCW
-            (0xB4, 0, Dest::Memory(m.at)), // CLRW
-            (0x3F, u64::from(m.at), Dest::Nowhere), // PUSHAW
-        ] {
-            let found = operand(&[opcode, a, b, c, d, e, f], m.r0, 3);
-            assert_eq!(rt; found, wanted(value, dest, m.after, pc), "{opcode} {a} {b}");
-        }
-        // BBS #0
-        let found = operand(&[0xE0, 0, a, b, c, d, e, f, 0], m.r0, 3);
-        assert_eq!(rt;
-            found,
-            wanted(0, Dest::Memory(m.bits_at), m.bits_after, pc.wrapping_add(2)),
-            "{a} {b}"
-        );
+fn takes_each_indexed_mode_with_each_access(rt: HostRuntime) {
+    for row in &INDEXED {
+        check_in_memory(&rt, row);
     }
-    Ok(())
+}
+
+/// An instruction, the value and destination of its operand, and PC after. R0 is 12345678, R1 3.
+type Elsewhere = ([u8; 6], u64, Dest, u32);
+
+static REGISTERS: [Elsewhere; 7] = [
+    ([0xB5, 0x50, 0, 0, 0, 0], 0x5678, Dest::Nowhere, 0x202), // TSTW R0
+    ([0x95, 0x50, 0, 0, 0, 0], 0x78, Dest::Nowhere, 0x202), // TSTB R0
+    ([0xD5, 0x50, 0, 0, 0, 0], 0x1234_5678, Dest::Nowhere, 0x202), // TSTL R0
+    (
+        [0x7D, 0x50, 0x54, 0, 0, 0],
+        0x3_1234_5678,
+        Dest::Nowhere,
+        0x203,
+    ), // MOVQ R0, R4
+    ([0xB6, 0x50, 0, 0, 0, 0], 0x5678, Dest::Register(0), 0x202), // INCW R0
+    ([0xB4, 0x50, 0, 0, 0, 0], 0, Dest::Register(0), 0x202), // CLRW R0
+    ([0xE0, 0x00, 0x50, 0, 0, 0], 0, Dest::Register(0), 0x204), // BBS #0, R0
+];
+
+static IN_LINE: [Elsewhere; 9] = [
+    ([0xB5, 0x3F, 0, 0, 0, 0], 63, Dest::Nowhere, 0x202), // TSTW #63
+    ([0xB5, 0x8F, 0x34, 0x92, 0, 0], 0x9234, Dest::Nowhere, 0x204), // TSTW #9234
+    (
+        [0xB6, 0x8F, 0x34, 0x12, 0, 0],
+        0,
+        Dest::Memory(0x202),
+        0x204,
+    ), // INCW #1234
+    (
+        [0xB4, 0x8F, 0x34, 0x12, 0, 0],
+        0,
+        Dest::Memory(0x202),
+        0x204,
+    ), // CLRW #1234
+    ([0x3F, 0x8F, 0x34, 0x12, 0, 0], 0x202, Dest::Nowhere, 0x204), // PUSHAW #1234
+    (
+        [0xE0, 0x00, 0x8F, 0x34, 0, 0],
+        0,
+        Dest::Memory(0x203),
+        0x205,
+    ), // BBS #0, #34
+    ([0x11, 0xFE, 0, 0, 0, 0], 0x200, Dest::Nowhere, 0x202), // BRB back by 2
+    (
+        [0x31, 0x01, 0x80, 0, 0, 0],
+        0xFFFF_8204,
+        Dest::Nowhere,
+        0x203,
+    ), // BRW back by 7FFF
+    ([0x31, 0xFF, 0x7F, 0, 0, 0], 0x8202, Dest::Nowhere, 0x203), // BRW on by 7FFF
+];
+
+/// An instruction's operand is as its row says.
+fn check_elsewhere(rt: &impl Abort, row: &Elsewhere) {
+    let (code, value, dest, pc) = row;
+    let found = operand(code, 0x1234_5678, 3);
+    assert!(rt;
+        found == wanted(*value, *dest, 0x1234_5678, *pc),
+        "{code:?}"
+    );
 }
 
 #[test]
-fn takes_registers_literals_immediates_and_branches(rt: HostRuntime) -> Result<(), Fail> {
-    for (code, value, dest, pc) in [
-        ([0xB5, 0x50, 0, 0, 0, 0], 0x5678, Dest::Nowhere, 0x202), // TSTW R0
-        ([0x95, 0x50, 0, 0, 0, 0], 0x78, Dest::Nowhere, 0x202), // TSTB R0
-        ([0xD5, 0x50, 0, 0, 0, 0], 0x1234_5678, Dest::Nowhere, 0x202), // TSTL R0
-        (
-            [0x7D, 0x50, 0x54, 0, 0, 0],
-            0x3_1234_5678,
-            Dest::Nowhere,
-            0x203,
-        ), // MOVQ R0, R4
-        ([0xB6, 0x50, 0, 0, 0, 0], 0x5678, Dest::Register(0), 0x202), // INCW R0
-        ([0xB4, 0x50, 0, 0, 0, 0], 0, Dest::Register(0), 0x202), // CLRW R0
-        ([0xE0, 0x00, 0x50, 0, 0, 0], 0, Dest::Register(0), 0x204), // BBS #0, R0
-        ([0xB5, 0x3F, 0, 0, 0, 0], 63, Dest::Nowhere, 0x202), // TSTW #63
-        ([0xB5, 0x8F, 0x34, 0x92, 0, 0], 0x9234, Dest::Nowhere, 0x204), // TSTW #9234
-        (
-            [0xB6, 0x8F, 0x34, 0x12, 0, 0],
-            0,
-            Dest::Memory(0x202),
-            0x204,
-        ), // INCW #1234
-        (
-            [0xB4, 0x8F, 0x34, 0x12, 0, 0],
-            0,
-            Dest::Memory(0x202),
-            0x204,
-        ), // CLRW #1234
-        ([0x3F, 0x8F, 0x34, 0x12, 0, 0], 0x202, Dest::Nowhere, 0x204), // PUSHAW #1234
-        (
-            [0xE0, 0x00, 0x8F, 0x34, 0, 0],
-            0,
-            Dest::Memory(0x203),
-            0x205,
-        ), // BBS #0, #34
-        ([0x11, 0xFE, 0, 0, 0, 0], 0x200, Dest::Nowhere, 0x202), // BRB back by 2
-        (
-            [0x31, 0x01, 0x80, 0, 0, 0],
-            0xFFFF_8204,
-            Dest::Nowhere,
-            0x203,
-        ), // BRW back by 7FFF
-        ([0x31, 0xFF, 0x7F, 0, 0, 0], 0x8202, Dest::Nowhere, 0x203), // BRW on by 7FFF
-    ] {
-        let found = operand(&code, 0x1234_5678, 3);
-        assert_eq!(rt; found, wanted(value, dest, 0x1234_5678, pc), "{code:?}");
+fn takes_registers(rt: HostRuntime) {
+    for row in &REGISTERS {
+        check_elsewhere(&rt, row);
     }
-    Ok(())
 }
 
 #[test]
-fn tells_the_first_trouble(rt: HostRuntime) -> Result<(), Fail> {
-    for (code, r0, va, write) in [
-        ([0xB5, 0x60, 0], 0x7FFF, 0x8000, false), // TSTW, its second byte
-        ([0xB6, 0x60, 0], 0x7FFF, 0x8000, true), // INCW
-        ([0xB4, 0x60, 0], 0x7FFF, 0x8000, true), // CLRW
-        ([0xB4, 0x90, 0], 0x7FFE, 0x8000, false), // CLRW @(R0)+, its longword
-        ([0xC0, 0x70, 0x60], 0x8001, 0x8000, false), // ADDL2, where both operands have trouble
-    ] {
-        let trouble = Trouble::NotValid { va, write };
-        assert_eq!(rt; operands(&code, r0, 0), Some(Err(trouble)), "{code:?}");
+fn takes_literals_immediates_and_branches(rt: HostRuntime) {
+    for row in &IN_LINE {
+        check_elsewhere(&rt, row);
     }
-    Ok(())
+}
+
+/// An instruction, R0, and the address that isn't valid, and whether for writing.
+type Failing = ([u8; 3], u32, u32, bool);
+
+static FAILING: [Failing; 5] = [
+    ([0xB5, 0x60, 0], 0x7FFF, 0x8000, false), // TSTW, its second byte
+    ([0xB6, 0x60, 0], 0x7FFF, 0x8000, true), // INCW
+    ([0xB4, 0x60, 0], 0x7FFF, 0x8000, true), // CLRW
+    ([0xB4, 0x90, 0], 0x7FFE, 0x8000, false), // CLRW @(R0)+, its longword
+    ([0xC0, 0x70, 0x60], 0x8001, 0x8000, false), // ADDL2, where both operands have trouble
+];
+
+/// An instruction's trouble is its row's.
+fn check_trouble(rt: &impl Abort, row: &Failing) {
+    let (code, r0, va, write) = *row;
+    let found = operands(&code, r0, 0);
+    let trouble = Trouble::NotValid { va, write };
+    assert!(rt; found == Some(Err(trouble)), "{code:?}");
 }
 
 #[test]
-fn goes_in_order(rt: HostRuntime) -> Result<(), Fail> {
-    // ADDL2 1234(R3)[R4], R0, with R3 1000 and R4 2: the first operand is read at 223C.
+fn tells_the_first_trouble(rt: HostRuntime) {
+    for row in &FAILING {
+        check_trouble(&rt, row);
+    }
+}
+
+/// Registers of which some are given, R0, R3, R4 and PC.
+fn registers(r0: u32, r3: u32, r4: u32, pc: u32) -> [u32; 16] {
     let mut r = [0; 16];
-    r[0] = 7;
-    r[3] = 0x1000;
-    r[4] = 2;
-    r[15] = 0x200;
-    let mut after = r;
-    after[15] = 0x206;
-    let found = decoded(&[0xC0, 0x44, 0xC3, 0x34, 0x12, 0x50], &r);
-    let wanted = Operands {
-        values: [0xE9E8_E7E6, 7, 0, 0],
-        dests: [
-            Dest::Nowhere,
-            Dest::Register(0),
-            Dest::Nowhere,
-            Dest::Nowhere,
-        ],
-        r: after,
-    };
-    assert_eq!(rt; found, Some(Ok(wanted)));
+    r[0] = r0;
+    r[3] = r3;
+    r[4] = r4;
+    r[15] = pc;
+    r
+}
 
-    // ADDL2 (R0)+, (R0)+, with R0 1000: the operands are read at 1000 and 1004, and R0 becomes 1008.
-    let mut r = [0; 16];
-    r[0] = 0x1008;
-    r[15] = 0x203;
-    let wanted = Operands {
-        values: [0x2000, 0, 0, 0],
-        dests: [
-            Dest::Nowhere,
-            Dest::Memory(0x1004),
-            Dest::Nowhere,
-            Dest::Nowhere,
-        ],
+/// Two operands, of which the first one is only read.
+fn two(values: [u64; 2], second: Dest, r: [u32; 16]) -> Operands {
+    Operands {
+        values: [values[0], values[1], 0, 0],
+        dests: [Dest::Nowhere, second, Dest::Nowhere, Dest::Nowhere],
         r,
-    };
-    assert_eq!(rt; operands(&[0xC0, 0x80, 0x80], 0x1000, 0), Some(Ok(wanted)));
-    Ok(())
+    }
+}
+
+/// ADDL2 1234(R3)[R4], R0, with R3 1000 and R4 2: the first operand is read at 223C.
+#[test]
+fn reads_an_indexed_operand_before_a_register(rt: HostRuntime) {
+    let r = registers(7, 0x1000, 2, 0x200);
+    let found = decoded(&[0xC0, 0x44, 0xC3, 0x34, 0x12, 0x50], &r);
+    let after = registers(7, 0x1000, 2, 0x206);
+    let wanted = two([0xE9E8_E7E6, 7], Dest::Register(0), after);
+    assert!(rt; found == Some(Ok(wanted)));
+}
+
+/// ADDL2 (R0)+, (R0)+, with R0 1000: the operands are read at 1000 and 1004, and R0 becomes 1008.
+#[test]
+fn goes_in_order(rt: HostRuntime) {
+    let found = operands(&[0xC0, 0x80, 0x80], 0x1000, 0);
+    let after = registers(0x1008, 0, 0, 0x203);
+    let wanted = two([0x2000, 0], Dest::Memory(0x1004), after);
+    assert!(rt; found == Some(Ok(wanted)));
 }

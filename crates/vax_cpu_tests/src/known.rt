@@ -4,6 +4,7 @@
 //! loop MOVL (R1),R3; MOVL R0,(R2); BRB. Numbers are hexadecimal.
 
 use std::alloc::Global;
+use std::process::Abort;
 use std::test::Fail;
 use vax_cpu::Cpu;
 use vax_hw::{Exit, Hardware, Psl, World};
@@ -19,7 +20,7 @@ const ENTRY_4: u32 = 0x90;
 
 const ENTRY_5: u32 = 0x94;
 
-const LONGS: [At; 7] = [
+static LONGS: [At; 7] = [
     (0x200, 0xD053_61D0),
     (0x204, 0xF811_6250),
     (0x284, 0xA400_0001),
@@ -41,8 +42,8 @@ pub fn machine(alloc: Global) -> Result<Cpu, NoMemory> {
         put(&mut cpu, (4 * i, 0xA400_0000 + i));
         put(&mut cpu, (0x80 + 4 * i, 0xA400_0000 + i));
     }
-    for long in LONGS {
-        put(&mut cpu, long);
+    for long in &LONGS {
+        put(&mut cpu, *long);
     }
     Ok(cpu)
 }
@@ -62,8 +63,20 @@ pub fn world(mode: u32, r0: u32, r2: u32) -> World {
     }
 }
 
-/// Why the second of two runs ended, R3, and the misses: the first goes through the loop four times, then a longword is changed,
-/// and another world loaded.
+/// A machine that went through the loop four times, with a longword of the tables.
+fn looped(alloc: Global, first: At, before: &World) -> Result<Cpu, NoMemory> {
+    let mut cpu = machine(alloc)?;
+    put(&mut cpu, first);
+    cpu.load_world(before);
+    let _first = cpu.run(12);
+    Ok(cpu)
+}
+
+/// Why a run ended, R3, and the misses.
+type Seen = (Exit, u32, u64);
+
+/// What the second of two runs comes to: the first goes through the loop four times, then a longword is changed, and another world
+/// loaded.
 fn again(
     alloc: Global,
     first: At,
@@ -71,140 +84,136 @@ fn again(
     changed: At,
     after: &World,
     budget: u32,
-) -> Result<(Exit, u32, u64), NoMemory> {
-    let mut cpu = machine(alloc)?;
-    put(&mut cpu, first);
-    cpu.load_world(before);
-    let _first = cpu.run(12);
+) -> Result<Seen, NoMemory> {
+    let mut cpu = looped(alloc, first, before)?;
     put(&mut cpu, changed);
     cpu.load_world(after);
     let exit = cpu.run(budget.max(1));
     Ok((exit, cpu.save_world().r[3], cpu.misses()))
 }
 
+/// It comes to what it is to.
+fn check(
+    rt: &impl Abort,
+    alloc: Global,
+    worlds: (&World, &World),
+    longs: (At, At),
+    budget: u32,
+    seen: &Seen,
+) -> Result<(), NoMemory> {
+    let (before, after) = worlds;
+    let (first, changed) = longs;
+    let found = again(alloc, first, before, changed, after, budget)?;
+    assert!(rt; found == *seen, "{changed:?} {seen:?}");
+    Ok(())
+}
+
+/// A longword that changes, and what is seen in user mode then.
+type Changed = (At, Seen);
+
+/// The first of the loop's longwords, as it stands.
+const SAME: At = (0x200, 0xD053_61D0);
+
+const DENIED: Exit = Exit::Denied {
+    va: 0x800,
+    write: false,
+};
+
+static CHANGED: [Changed; 7] = [
+    // nothing changes; another frame, by the page's entry and by its table's
+    (SAME, (Exit::Budget, 0x11, 0)),
+    ((ENTRY_4, 0xA400_0006), (Exit::Budget, 0x22, 0)),
+    ((SYSTEM_0, 0xA400_0001), (Exit::Budget, 0x22, 0)),
+    // no longer valid, open to none, not modified, and a table that isn't valid
+    (
+        (ENTRY_4, 0x2400_0004),
+        (
+            Exit::NotValid {
+                va: 0x800,
+                write: false,
+            },
+            0,
+            1,
+        ),
+    ),
+    ((ENTRY_4, 0x8400_0004), (DENIED, 0, 0)),
+    (
+        (ENTRY_5, 0xA000_0005),
+        (Exit::Modify { va: 0xA00 }, 0x11, 0),
+    ),
+    (
+        (SYSTEM_0, 0x2400_0000),
+        (
+            Exit::NotValid {
+                va: 0x200,
+                write: false,
+            },
+            0,
+            1,
+        ),
+    ),
+];
+
+/// A row's change, in user mode throughout.
+fn check_changed(rt: &impl Abort, alloc: Global, row: &Changed) -> Result<(), NoMemory> {
+    let (changed, seen) = row;
+    let user = world(3, 7, 0xA00);
+    check(rt, alloc, (&user, &user), (SAME, *changed), 2, seen)
+}
+
 #[test]
 fn what_was_known_follows_its_entries(rt: HostRuntime) -> Result<(), Fail> {
-    let user = world(3, 7, 0xA00);
-    let executives = (ENTRY_4, 0xAC00_0004);
-    let other_tables = World {
-        p0br: 0x8000_0280,
-        ..world(3, 7, 0xA00)
-    };
-    let short = World {
-        p0lr: 4,
-        ..world(3, 7, 0xA00)
-    };
-    let denied = Exit::Denied {
-        va: 0x800,
-        write: false,
-    };
-    for (first, before, changed, after, budget, seen) in [
-        // nothing changes; another frame, by the page's entry and by its table's
-        (LONGS[0], &user, LONGS[0], &user, 2, (Exit::Budget, 0x11, 0)),
-        (
-            LONGS[0],
-            &user,
-            (ENTRY_4, 0xA400_0006),
-            &user,
-            2,
-            (Exit::Budget, 0x22, 0),
-        ),
-        (
-            LONGS[0],
-            &user,
-            (SYSTEM_0, 0xA400_0001),
-            &user,
-            2,
-            (Exit::Budget, 0x22, 0),
-        ),
-        // no longer valid, open to none, not modified, and a table that isn't valid
-        (
-            LONGS[0],
-            &user,
-            (ENTRY_4, 0x2400_0004),
-            &user,
-            2,
-            (
-                Exit::NotValid {
-                    va: 0x800,
-                    write: false,
-                },
-                0,
-                1,
-            ),
-        ),
-        (
-            LONGS[0],
-            &user,
-            (ENTRY_4, 0x8400_0004),
-            &user,
-            2,
-            (denied, 0, 0),
-        ),
-        (
-            LONGS[0],
-            &user,
-            (ENTRY_5, 0xA000_0005),
-            &user,
-            2,
-            (Exit::Modify { va: 0xA00 }, 0x11, 0),
-        ),
-        (
-            LONGS[0],
-            &user,
-            (SYSTEM_0, 0x2400_0000),
-            &user,
-            2,
-            (
-                Exit::NotValid {
-                    va: 0x200,
-                    write: false,
-                },
-                0,
-                1,
-            ),
-        ),
-        // another mode; other tables, and a shorter one
-        (
-            executives,
-            &world(1, 7, 0xA00),
-            LONGS[0],
-            &user,
-            2,
-            (denied, 0, 0),
-        ),
-        (
-            executives,
-            &world(1, 7, 0xA00),
-            LONGS[0],
-            &world(1, 7, 0xA00),
-            2,
-            (Exit::Budget, 0x11, 0),
-        ),
-        (
-            LONGS[0],
-            &user,
-            LONGS[0],
-            &other_tables,
-            2,
-            (Exit::Budget, 0x22, 0),
-        ),
-        (LONGS[0], &user, LONGS[0], &short, 2, (denied, 0, 0)),
-        // the loop stores the same into the page's entry, and then another frame
-        (
-            LONGS[0],
-            &world(3, 0xA400_0004, 0x8000_0090),
-            LONGS[0],
-            &world(3, 0xA400_0006, 0x8000_0090),
-            4,
-            (Exit::Budget, 0x22, 0),
-        ),
-    ] {
-        assert_eq!(rt;
-            again(rt.alloc(), first, before, changed, after, budget),
-            Ok(seen),
-            "{changed:?}"
-        );
+    for row in &CHANGED {
+        check_changed(&rt, rt.alloc(), row)?;
     }
+    Ok(())
+}
+
+/// The longword at 800 is the kernel's alone in the guest's tables, and executive mode reads it before a mode does.
+fn check_mode(rt: &impl Abort, alloc: Global, mode: u32, seen: &Seen) -> Result<(), NoMemory> {
+    let executive = world(1, 7, 0xA00);
+    let after = world(mode, 7, 0xA00);
+    let longs = ((ENTRY_4, 0xAC00_0004), SAME);
+    check(rt, alloc, (&executive, &after), longs, 2, seen)
+}
+
+#[test]
+fn another_mode_is_judged_anew(rt: HostRuntime) -> Result<(), Fail> {
+    check_mode(&rt, rt.alloc(), 3, &(DENIED, 0, 0))?;
+    check_mode(&rt, rt.alloc(), 1, &(Exit::Budget, 0x11, 0))?;
+    Ok(())
+}
+
+/// What is seen with P0's table at an address, and of a length, behind the usual one.
+fn check_table(
+    rt: &impl Abort,
+    alloc: Global,
+    p0br: u32,
+    p0lr: u32,
+    seen: &Seen,
+) -> Result<(), NoMemory> {
+    let user = world(3, 7, 0xA00);
+    let after = World {
+        p0br,
+        p0lr,
+        ..world(3, 7, 0xA00)
+    };
+    check(rt, alloc, (&user, &after), (SAME, SAME), 2, seen)
+}
+
+#[test]
+fn other_tables_and_a_shorter_one_are_looked_up(rt: HostRuntime) -> Result<(), Fail> {
+    check_table(&rt, rt.alloc(), 0x8000_0280, 16, &(Exit::Budget, 0x22, 0))?;
+    check_table(&rt, rt.alloc(), 0x8000_0080, 4, &(DENIED, 0, 0))?;
+    Ok(())
+}
+
+/// The loop stores the same into the page's entry, and then another frame.
+#[test]
+fn an_entry_that_the_loop_stores_is_looked_up(rt: HostRuntime) -> Result<(), Fail> {
+    let before = world(3, 0xA400_0004, 0x8000_0090);
+    let after = world(3, 0xA400_0006, 0x8000_0090);
+    let seen = (Exit::Budget, 0x22, 0);
+    check(&rt, rt.alloc(), (&before, &after), (SAME, SAME), 4, &seen)?;
     Ok(())
 }

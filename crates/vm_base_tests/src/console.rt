@@ -2,6 +2,7 @@ ghost use Rattle.std.specs.Prelude.{◌≡◌, ◌+◌, ◌≤◌, [], ◌++◌,
 
 use arrayvec::ArrayVec;
 use std::alloc::Global;
+use std::process::Abort;
 use std::test::Fail;
 use vm_console::{Console, KeptPort, NullPort, Port, show_all};
 use vv_base::NoMemory;
@@ -34,127 +35,159 @@ fn perform(console: &mut Console, deed: Deed) {
     }
 }
 
+use Deed::{ReadData, Receive, ReceiveTaken, Sent, Transmit, TransmitTaken, Type};
+
+/// Deeds on a new console: RXCS and TXCS as read, and the two requests.
+type Case = (&'static str, [Deed; 5], u32, u32, bool, bool);
+
+static RECEIVING: [Case; 8] = [
+    (
+        "typed without enable",
+        [Type(65), Type(66), ReadData, Sent, Sent],
+        0x80,
+        0x80,
+        false,
+        false,
+    ),
+    (
+        "typed with enable",
+        [Sent, Sent, Sent, Receive(0x40), Type(65)],
+        0xc0,
+        0x80,
+        true,
+        false,
+    ),
+    (
+        "enabled behind the byte",
+        [Sent, Sent, Sent, Type(65), Receive(0x40)],
+        0xc0,
+        0x80,
+        true,
+        false,
+    ),
+    (
+        "enabled again",
+        [Sent, Type(65), Receive(0x40), ReceiveTaken, Receive(0x40)],
+        0xc0,
+        0x80,
+        false,
+        false,
+    ),
+    (
+        "a second byte",
+        [Sent, Receive(0x40), Type(65), ReceiveTaken, Type(66)],
+        0xc0,
+        0x80,
+        false,
+        false,
+    ),
+    (
+        "a read that leaves a byte",
+        [Type(65), Type(66), Receive(0x40), ReceiveTaken, ReadData],
+        0xc0,
+        0x80,
+        true,
+        false,
+    ),
+    (
+        "a read that leaves none",
+        [Sent, Sent, Type(65), Receive(0x40), ReadData],
+        0x40,
+        0x80,
+        false,
+        false,
+    ),
+    (
+        "receive enable cleared",
+        [Sent, Sent, Type(65), Receive(0x40), Receive(0xbf)],
+        0x80,
+        0x80,
+        false,
+        false,
+    ),
+];
+
+static TRANSMITTING: [Case; 4] = [
+    (
+        "transmit enable set",
+        [Sent, Sent, Sent, Sent, Transmit(0x7f)],
+        0,
+        0xc0,
+        false,
+        true,
+    ),
+    (
+        "transmit enable set again",
+        [Sent, Sent, Transmit(0x40), TransmitTaken, Transmit(0x40)],
+        0,
+        0xc0,
+        false,
+        false,
+    ),
+    (
+        "sent with enable",
+        [Sent, Sent, Transmit(0x40), TransmitTaken, Sent],
+        0,
+        0xc0,
+        false,
+        true,
+    ),
+    (
+        "transmit enable cleared",
+        [Sent, Sent, Transmit(0x40), Sent, Transmit(0)],
+        0,
+        0x80,
+        false,
+        false,
+    ),
+];
+
+/// A new console behind some deeds.
+fn behind(deeds: &[Deed]) -> Console {
+    let mut console = Console::new();
+    for deed in deeds {
+        perform(&mut console, *deed);
+    }
+    console
+}
+
+/// The deeds of a case come to what it says.
+fn check(rt: &impl Abort, case: &Case) {
+    let (name, deeds, rxcs, txcs, rx_due, tx_due) = case;
+    let console = behind(deeds);
+    assert!(rt; console.read_rxcs() == *rxcs, "{name}");
+    assert!(rt; console.read_txcs() == *txcs, "{name}");
+    assert!(rt; console.rx_due() == *rx_due, "{name}");
+    assert!(rt; console.tx_due() == *tx_due, "{name}");
+}
+
 #[test]
-fn registers_and_requests(rt: HostRuntime) {
-    use Deed::{ReadData, Receive, ReceiveTaken, Sent, Transmit, TransmitTaken, Type};
-    // Deeds on a new console: RXCS and TXCS as read, and the two requests.
-    for (name, deeds, rxcs, txcs, rx_due, tx_due) in [
-        (
-            "typed without enable",
-            [Type(65), Type(66), ReadData, Sent, Sent],
-            0x80,
-            0x80,
-            false,
-            false,
-        ),
-        (
-            "typed with enable",
-            [Sent, Sent, Sent, Receive(0x40), Type(65)],
-            0xc0,
-            0x80,
-            true,
-            false,
-        ),
-        (
-            "enabled behind the byte",
-            [Sent, Sent, Sent, Type(65), Receive(0x40)],
-            0xc0,
-            0x80,
-            true,
-            false,
-        ),
-        (
-            "enabled again",
-            [Sent, Type(65), Receive(0x40), ReceiveTaken, Receive(0x40)],
-            0xc0,
-            0x80,
-            false,
-            false,
-        ),
-        (
-            "a second byte",
-            [Sent, Receive(0x40), Type(65), ReceiveTaken, Type(66)],
-            0xc0,
-            0x80,
-            false,
-            false,
-        ),
-        (
-            "a read that leaves a byte",
-            [Type(65), Type(66), Receive(0x40), ReceiveTaken, ReadData],
-            0xc0,
-            0x80,
-            true,
-            false,
-        ),
-        (
-            "a read that leaves none",
-            [Sent, Sent, Type(65), Receive(0x40), ReadData],
-            0x40,
-            0x80,
-            false,
-            false,
-        ),
-        (
-            "receive enable cleared",
-            [Sent, Sent, Type(65), Receive(0x40), Receive(0xbf)],
-            0x80,
-            0x80,
-            false,
-            false,
-        ),
-        (
-            "transmit enable set",
-            [Sent, Sent, Sent, Sent, Transmit(0x7f)],
-            0,
-            0xc0,
-            false,
-            true,
-        ),
-        (
-            "transmit enable set again",
-            [Sent, Sent, Transmit(0x40), TransmitTaken, Transmit(0x40)],
-            0,
-            0xc0,
-            false,
-            false,
-        ),
-        (
-            "sent with enable",
-            [Sent, Sent, Transmit(0x40), TransmitTaken, Sent],
-            0,
-            0xc0,
-            false,
-            true,
-        ),
-        (
-            "transmit enable cleared",
-            [Sent, Sent, Transmit(0x40), Sent, Transmit(0)],
-            0,
-            0x80,
-            false,
-            false,
-        ),
-    ] {
-        let mut console = Console::new();
-        for deed in deeds {
-            perform(&mut console, deed);
-        }
-        assert_eq!(rt; console.read_rxcs(), rxcs, "{name}");
-        assert_eq!(rt; console.read_txcs(), txcs, "{name}");
-        assert_eq!(rt; console.rx_due(), rx_due, "{name}");
-        assert_eq!(rt; console.tx_due(), tx_due, "{name}");
+fn receives_with_its_requests(rt: HostRuntime) {
+    for case in &RECEIVING {
+        check(&rt, case);
     }
 }
 
 #[test]
-fn bytes_wait_in_order(rt: HostRuntime) {
+fn transmits_with_its_requests(rt: HostRuntime) {
+    for case in &TRANSMITTING {
+        check(&rt, case);
+    }
+}
+
+/// A console that 256 bytes were typed to, from 0 on, and that takes no more.
+fn full(rt: &impl Abort) -> Console {
     let mut console = Console::new();
     for byte in 0..=255u8 {
         assert!(rt; console.type_byte(byte));
     }
     assert!(rt; !console.type_byte(7));
-    let mut console = Console::of_parts(&console.parts());
+    console
+}
+
+#[test]
+fn bytes_wait_in_order(rt: HostRuntime) {
+    let mut console = Console::of_parts(&full(&rt).parts());
     for byte in 0..=255u8 {
         assert_eq!(rt; console.read_rxdb(), u32::from(byte));
     }
@@ -187,7 +220,7 @@ fn shows_in_order(rt: HostRuntime) {
     };
     show_all(&mut kept, b"VM");
     show_all(&mut kept, b" UP");
-    assert_eq!(rt; kept.bytes.as_slice(), b"VM UP".as_slice());
+    assert!(rt; kept.bytes.as_slice() == b"VM UP".as_slice());
     show_all(&mut NullPort, b"VM");
 }
 
@@ -211,25 +244,49 @@ fn new_after(alloc: Global, text: &[u8]) -> Result<KeptPort<131_072>, NoMemory>
     Ok(port)
 }
 
+/// A text that is shown; and the bytes that the port keeps behind it, and whether it is cut.
+type Show = (&'static str, &'static str, bool);
+
+static SHOWS: [Show; 5] = [
+    ("VM", "VM", false),
+    (" UP", "VM UP", false),
+    ("", "VM UP", false),
+    ("!", "VM UP", true),
+    ("?", "VM UP", true),
+];
+
+/// A row's text is shown, and kept as the row says.
+fn check_show(rt: &impl Abort, port: &mut KeptPort<5>, row: &Show) {
+    let (text, kept, is_cut) = row;
+    show_all(port, text.as_bytes());
+    assert!(rt; port.bytes() == kept.as_bytes(), "{text}");
+    assert!(rt; port.is_cut() == *is_cut, "{text}");
+}
+
 #[test]
 fn keeps_what_fits(rt: HostRuntime) -> Result<(), Fail> {
     let mut port = KeptPort::<5>::new(rt.alloc())?;
-    for (text, kept, is_cut) in [
-        ("VM", "VM", false),
-        (" UP", "VM UP", false),
-        ("", "VM UP", false),
-        ("!", "VM UP", true),
-        ("?", "VM UP", true),
-    ] {
-        show_all(&mut port, text.as_bytes());
-        assert_eq!(rt; port.bytes(), kept.as_bytes(), "{text}");
-        assert_eq!(rt; port.is_cut(), is_cut, "{text}");
+    for row in &SHOWS {
+        check_show(&rt, &mut port, row);
     }
     port.clear();
     assert_eq!(rt; port.bytes().len(), 0);
     assert!(rt; !port.is_cut());
+    Ok(())
+}
+
+#[test]
+fn keeps_the_same_when_cleared(rt: HostRuntime) -> Result<(), Fail> {
+    let mut port = KeptPort::<5>::new(rt.alloc())?;
+    show_all(&mut port, b"VM UP!");
     kept_after(&mut port, b"VM", b" UP");
-    assert_eq!(rt; port.bytes(), b"VM UP".as_slice());
-    assert_eq!(rt; new_after(rt.alloc(), b"VM")?.bytes(), b"VM".as_slice());
+    assert!(rt; port.bytes() == b"VM UP".as_slice());
+    Ok(())
+}
+
+#[test]
+fn keeps_all_in_a_large_room(rt: HostRuntime) -> Result<(), Fail> {
+    let port = new_after(rt.alloc(), b"VM")?;
+    assert!(rt; port.bytes() == b"VM".as_slice());
     Ok(())
 }

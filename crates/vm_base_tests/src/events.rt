@@ -1,3 +1,4 @@
+use std::process::Abort;
 use std::test::Fail;
 use vax_arch::Psl;
 use vm_console::KeptPort;
@@ -5,7 +6,7 @@ use vm_events::{Source, due, show_stop};
 use vm_state::GuestState;
 
 /// What pends in a guest beside software levels.
-#[derive(Clone, Copy, Debug, PartialEq, Eq)]
+#[derive(Clone, Copy)]
 enum Device {
     Clock,
     Transfer,
@@ -37,42 +38,62 @@ fn guest(level: u8, devices: &[Device], sisr: u16) -> GuestState {
     g
 }
 
-/// The highest source above the guest's level: the level, what pends, and the software levels that do.
+/// A guest's level, what pends, the software levels that do, and the highest source above the level.
+type Pending = (u8, &'static [Device], u16, Option<Source>);
+
+static DEVICES: [Pending; 10] = [
+    (0, &[], 0, None),
+    (23, &[Device::Clock], 0, Some(Source::IntervalClock)),
+    (24, &[Device::Clock], 0, None),
+    (20, &[Device::Transfer], 0, Some(Source::Kcall)),
+    (21, &[Device::Transfer], 0, None),
+    (19, &[Device::Typed], 0, Some(Source::Receiver)),
+    (20, &[Device::Typed, Device::Sent], 0, None),
+    (
+        19,
+        &[Device::Sent, Device::Typed],
+        0,
+        Some(Source::Receiver),
+    ),
+    (19, &[Device::Sent], 0, Some(Source::Transmitter)),
+    (
+        0,
+        &[Device::Typed, Device::Transfer],
+        0,
+        Some(Source::Kcall),
+    ),
+];
+
+static WITH_SOFTWARE: [Pending; 9] = [
+    (0, &[Device::Clock], 0x8000, Some(Source::IntervalClock)),
+    (0, &[Device::Sent], 0xFFFE, Some(Source::Transmitter)),
+    (0, &[], 0x8002, Some(Source::Software(15))),
+    (14, &[], 0x8000, Some(Source::Software(15))),
+    (15, &[], 0x8000, None),
+    (4, &[], 0x0032, Some(Source::Software(5))),
+    (5, &[], 0x0032, None),
+    (0, &[], 0x0002, Some(Source::Software(1))),
+    (31, &[Device::Clock, Device::Transfer], 0xFFFE, None),
+];
+
+/// The highest source of a row's guest is the row's.
+fn check_due(rt: &impl Abort, row: &Pending) {
+    let (level, devices, sisr, expected) = row;
+    let found = due(&guest(*level, devices, *sisr));
+    assert_eq!(rt; found, *expected, "{level} {sisr}");
+}
+
 #[test]
 fn highest_is_due(rt: HostRuntime) {
-    for (level, devices, sisr, expected) in [
-        (0, [].as_slice(), 0, None),
-        (23, &[Device::Clock], 0, Some(Source::IntervalClock)),
-        (24, &[Device::Clock], 0, None),
-        (20, &[Device::Transfer], 0, Some(Source::Kcall)),
-        (21, &[Device::Transfer], 0, None),
-        (19, &[Device::Typed], 0, Some(Source::Receiver)),
-        (20, &[Device::Typed, Device::Sent], 0, None),
-        (
-            19,
-            &[Device::Sent, Device::Typed],
-            0,
-            Some(Source::Receiver),
-        ),
-        (19, &[Device::Sent], 0, Some(Source::Transmitter)),
-        (
-            0,
-            &[Device::Typed, Device::Transfer],
-            0,
-            Some(Source::Kcall),
-        ),
-        (0, &[Device::Clock], 0x8000, Some(Source::IntervalClock)),
-        (0, &[Device::Sent], 0xFFFE, Some(Source::Transmitter)),
-        (0, &[], 0x8002, Some(Source::Software(15))),
-        (14, &[], 0x8000, Some(Source::Software(15))),
-        (15, &[], 0x8000, None),
-        (4, &[], 0x0032, Some(Source::Software(5))),
-        (5, &[], 0x0032, None),
-        (0, &[], 0x0002, Some(Source::Software(1))),
-        (31, &[Device::Clock, Device::Transfer], 0xFFFE, None),
-    ] {
-        let g = guest(level, devices, sisr);
-        assert_eq!(rt; due(&g), expected, "{level} {sisr}");
+    for row in &DEVICES {
+        check_due(&rt, row);
+    }
+}
+
+#[test]
+fn highest_is_due_with_software_levels(rt: HostRuntime) {
+    for row in &WITH_SOFTWARE {
+        check_due(&rt, row);
     }
 }
 
@@ -82,6 +103,6 @@ fn stop_is_shown(rt: HostRuntime) -> Result<(), Fail> {
     g.r[15] = 0x8000_0208;
     let mut port = KeptPort::<32>::new(rt.alloc())?;
     show_stop(&g, &mut port, 0x0A);
-    assert_eq!(rt; port.bytes(), b"?0A 80000208\r\n".as_slice());
+    assert!(rt; port.bytes() == b"?0A 80000208\r\n".as_slice());
     Ok(())
 }

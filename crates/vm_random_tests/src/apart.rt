@@ -47,40 +47,45 @@ fn play_carried(
     Ok((stage, tally))
 }
 
+/// Another guest is the same as the whole one, which shows this.
+fn is_same(
+    rt: &impl Abort,
+    alloc: Global,
+    whole: &Snapshot,
+    shown: &[u8],
+    other: &Stage,
+    case: (u32, u32),
+    how: &str,
+) -> Result<(), NoMemory>
+    requires { StandsIn other.now.machine.memory other.now.guest }
+{
+    let found = Snapshot::of(alloc, other)?;
+    assert_eq!(rt; whole.difference(&found), None, "{case:?} {how}");
+    assert!(rt; shown == other.port.bytes(), "{case:?} {how}");
+    Ok(())
+}
+
 /// The three are the same.
-fn are_same(rt: &impl Abort, alloc: Global, three: &Three, case: (u32, u32)) -> Result<(), Fail>
+fn are_same(rt: &impl Abort, alloc: Global, three: &Three, case: (u32, u32)) -> Result<(), NoMemory>
     requires whole { StandsIn three.now.whole.machine.memory three.now.whole.guest }
     requires single { StandsIn three.now.single.machine.memory three.now.single.guest }
     requires carried { StandsIn three.now.carried.machine.memory three.now.carried.guest }
 {
-    let (seed, round) = case;
     let whole = Snapshot::of(alloc, &three.whole)?;
-    let single = Snapshot::of(alloc, &three.single)?;
-    let carried = Snapshot::of(alloc, &three.carried)?;
-    assert_eq!(rt; whole.difference(&single), None, "{seed} {round} singly");
-    assert_eq!(rt; whole.difference(&carried), None, "{seed} {round} carried");
-    assert_eq!(rt;
-        three.whole.port.bytes(),
-        three.single.port.bytes(),
-        "{seed} {round}"
-    );
-    assert_eq!(rt;
-        three.whole.port.bytes(),
-        three.carried.port.bytes(),
-        "{seed} {round}"
-    );
-    Ok(())
+    let shown = three.whole.port.bytes();
+    is_same(rt, alloc, &whole, shown, &three.single, case, "singly")?;
+    is_same(rt, alloc, &whole, shown, &three.carried, case, "carried")
 }
 
-/// Some steps, and what happens from without behind them.
-fn play(
+/// Some steps of each, which come to the same.
+fn step(
     rt: &impl Abort,
     alloc: Global,
     three: Three,
-    draw: &mut Draw,
+    steps: u32,
     apart: u32,
     case: (u32, u32),
-) -> Result<Three, Fail>
+) -> Result<Three, NoMemory>
     requires whole { StandsIn three.whole.machine.memory three.whole.guest }
     requires single { StandsIn three.single.machine.memory three.single.guest }
     requires carried { StandsIn three.carried.machine.memory three.carried.guest }
@@ -94,23 +99,54 @@ fn play(
         carried,
         tally: before,
     } = three;
-    let steps = 1 + draw.below(40);
     let kinds = whole.play(steps, Quanta::Cut(0));
     let singly = single.play(steps, Quanta::Single);
-    let (mut carried, tally) = play_carried(alloc, carried, steps, apart)?;
-    assert_eq!(rt; kinds, singly, "{case:?} singly");
-    assert_eq!(rt; kinds, tally.kinds, "{case:?} carried");
-    let event = drawn_event(draw);
-    let mode = draw.mode();
-    happen(&mut whole, event, mode);
-    happen(&mut single, event, mode);
-    happen(&mut carried, event, mode);
-    let three = Three {
+    assert!(rt; kinds == singly, "{case:?} singly");
+    let (carried, tally) = play_carried(alloc, carried, steps, apart)?;
+    assert!(rt; kinds == tally.kinds, "{case:?} carried");
+    Ok(Three {
         whole,
         single,
         carried,
         tally: before.and(&tally),
-    };
+    })
+}
+
+/// What is drawn happens to each from without.
+fn befall(three: &mut Three, draw: &mut Draw)
+    requires whole { StandsIn three.old.whole.machine.memory three.old.whole.guest }
+    requires single { StandsIn three.old.single.machine.memory three.old.single.guest }
+    requires carried { StandsIn three.old.carried.machine.memory three.old.carried.guest }
+    ensures whole { StandsIn three.new.whole.machine.memory three.new.whole.guest }
+    ensures single { StandsIn three.new.single.machine.memory three.new.single.guest }
+    ensures carried { StandsIn three.new.carried.machine.memory three.new.carried.guest }
+{
+    let event = drawn_event(draw);
+    let mode = draw.mode();
+    happen(&mut three.whole, event, mode);
+    happen(&mut three.single, event, mode);
+    happen(&mut three.carried, event, mode);
+}
+
+/// Some steps, and what happens from without behind them.
+fn play(
+    rt: &impl Abort,
+    alloc: Global,
+    three: Three,
+    draw: &mut Draw,
+    apart: u32,
+    case: (u32, u32),
+) -> Result<Three, NoMemory>
+    requires whole { StandsIn three.whole.machine.memory three.whole.guest }
+    requires single { StandsIn three.single.machine.memory three.single.guest }
+    requires carried { StandsIn three.carried.machine.memory three.carried.guest }
+    ensures whole { IfOk result (λ x. StandsIn x.whole.machine.memory x.whole.guest) }
+    ensures single { IfOk result (λ x. StandsIn x.single.machine.memory x.single.guest) }
+    ensures carried { IfOk result (λ x. StandsIn x.carried.machine.memory x.carried.guest) }
+{
+    let steps = 1 + draw.below(40);
+    let mut three = step(rt, alloc, three, steps, apart, case)?;
+    befall(&mut three, draw);
     are_same(rt, alloc, &three, case)?;
     Ok(three)
 }
@@ -154,7 +190,7 @@ fn play_from(
     draw: &mut Draw,
     plan: &Plan,
     case: (u32, u32),
-) -> Result<Tally, Fail>
+) -> Result<Tally, NoMemory>
     requires whole { StandsIn three.whole.machine.memory three.whole.guest }
     requires single { StandsIn three.single.machine.memory three.single.guest }
     requires carried { StandsIn three.carried.machine.memory three.carried.guest }
@@ -177,7 +213,7 @@ fn active(tally: &Tally) -> u64 {
 }
 
 /// A drawn guest, in its rounds.
-fn play_rounds(rt: &impl Abort, alloc: Global, plan: &Plan, seed: u32) -> Result<Tally, Fail> {
+fn play_rounds(rt: &impl Abort, alloc: Global, plan: &Plan, seed: u32) -> Result<Tally, NoMemory> {
     let mut draw = Draw::new(seed.wrapping_mul(0x9E37_79B1));
     let three = drawn_three(alloc, seed)?;
     let tally = play_from(rt, alloc, three, &mut draw, plan, (seed, 0))?;

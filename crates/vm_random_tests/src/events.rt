@@ -10,7 +10,7 @@ use vm_state::GuestState;
 
 /// What happens to a guest between its steps: a byte is typed, a transfer ends, a longword is stored, the entry of the page of a
 /// register's address is, it starts, or it is stopped.
-#[derive(Clone, Copy, Debug, PartialEq, Eq)]
+#[derive(Clone, Copy)]
 pub enum Event {
     Nothing,
     Type(u8),

@@ -37,7 +37,7 @@ pub struct Bench {
 
 /// What happens to a guest: the kernel writes a longword or a byte of its memory; the kernel sets the modify bit of a page;
 /// writes to a page are granted; a byte is written in a guarded step; its table registers change; a page is referred to.
-#[derive(Clone, Copy, Debug, PartialEq, Eq)]
+#[derive(Clone, Copy, Debug)]
 pub enum Event {
     Put { pa: u32, long: u32 },
     PutByte { pa: u32, byte: u8 },

@@ -5,7 +5,7 @@ ghost use Rattle.vm_state.specs.State.{state_of, tables_of};
 use vm_state::GuestState;
 
 /// The table registers of a guest.
-#[derive(Clone, Copy, Debug, PartialEq, Eq)]
+#[derive(Clone, Copy, Debug)]
 pub struct Registers {
     pub mapen: bool,
     pub p0br: u32,

@@ -1,5 +1,7 @@
 //! The machine's answers are the guest's, over tables of all kinds, before and after writes of their entries.
 
+ghost use Rattle.vm_shadow.specs.StandsFor.{StandsFor};
+
 use crate::{Bench, Event, MAPPED, Registers};
 use std::alloc::Global;
 use std::process::Abort;
@@ -230,16 +232,13 @@ static ROWS: [Row; 15] = [
 
 /// The machine agrees with the guest's tables before its pages are filled, behind it, and behind each of the events.
 fn agrees(rt: &impl Abort, alloc: Global, row: &Row) -> Result<(), NoMemory> {
-    let (registers, pages, first, second) = *row;
-    let mut bench = Bench::with_tables(alloc, &registers)?;
-    let before = bench.mismatch(false);
-    assert_eq!(rt; before, None, "{registers:?}");
+    let (registers, pages, first, second) = row;
+    let mut bench = Bench::with_tables(alloc, registers)?;
+    bench.check_agreement(rt, registers, false);
     let filled = bench.touch_all();
-    assert_eq!(rt; filled, pages, "{registers:?}");
-    let after = bench.mismatch(true);
-    assert_eq!(rt; after, None, "{registers:?}");
-    let followed = bench.follow(&[first, second]);
-    assert_eq!(rt; followed, Ok(2), "{registers:?}");
+    assert!(rt; filled == *pages, "{registers:?}");
+    bench.check_agreement(rt, registers, true);
+    bench.check_followed(rt, &[*first, *second], 2);
     Ok(())
 }
 
@@ -251,31 +250,41 @@ fn tables_of_all_kinds(rt: HostRuntime) -> Result<(), Fail> {
     Ok(())
 }
 
+static UPPERS: [u32; 6] = [
+    0x8000_0005,
+    0x8400_0003,
+    5,
+    0x0400_0003,
+    0x8000_0040,
+    0x85E0_0007,
+];
+
+/// An entry is written to the P0 table, to the system table, and as the one of the page of the P0 table.
+fn check_entry(rt: &impl Abort, bench: &mut Bench, long: u32)
+    requires { StandsFor bench.old.machine.memory bench.old.shadow bench.old.guest }
+    ensures { StandsFor bench.new.machine.memory bench.new.shadow bench.new.guest }
+{
+    let events = [
+        Event::Put { pa: 0x4220, long },
+        Event::Put { pa: 0x4020, long },
+        Event::Put { pa: 0x4084, long },
+        Event::Put {
+            pa: 0x4084,
+            long: 0xA400_0021,
+        },
+    ];
+    bench.check_followed(rt, &events, 4);
+}
+
 /// An entry of the P0 table, of the system table and of the page of the P0 table, under each code, valid and not, modified
 /// and not, with a frame in memory and beyond.
 #[test]
 fn entries_of_all_kinds(rt: HostRuntime) -> Result<(), Fail> {
     let mut bench = Bench::with_tables(rt.alloc(), &MAPPED)?;
     for code in 0..16u32 {
-        for upper in [
-            0x8000_0005,
-            0x8400_0003,
-            5,
-            0x0400_0003,
-            0x8000_0040,
-            0x85E0_0007,
-        ] {
-            let long = code.wrapping_mul(0x0800_0000).wrapping_add(upper);
-            let followed = bench.follow(&[
-                Event::Put { pa: 0x4220, long },
-                Event::Put { pa: 0x4020, long },
-                Event::Put { pa: 0x4084, long },
-                Event::Put {
-                    pa: 0x4084,
-                    long: 0xA400_0021,
-                },
-            ]);
-            assert_eq!(rt; followed, Ok(4), "{long:x}");
+        for upper in &UPPERS {
+            let long = code.wrapping_mul(0x0800_0000).wrapping_add(*upper);
+            check_entry(&rt, &mut bench, long);
         }
     }
     Ok(())

@@ -103,14 +103,13 @@ static WRITTEN: [Written; 9] = [
 fn is_moved(rt: &impl Abort, alloc: Global, row: &Written) -> Result<(), NoMemory> {
     let (entry_8, va, write, frame) = *row;
     let mut bench = Bench::with_tables(alloc, &MAPPED)?;
-    let before = bench.follow(&[Event::Put {
+    let entry = Event::Put {
         pa: 0x4220,
         long: entry_8,
-    }]);
-    assert_eq!(rt; before, Ok(1));
-    let followed = bench.follow(&[write]);
-    assert_eq!(rt; followed, Ok(1), "{entry_8:x} {write:?}");
-    assert_eq!(rt; bench.real_frame(va), Ok(frame), "{entry_8:x} {write:?}");
+    };
+    bench.check_followed(rt, &[entry], 1);
+    bench.check_followed(rt, &[write], 1);
+    assert!(rt; bench.real_frame(va) == Ok(frame), "{entry_8:x} {write:?}");
     Ok(())
 }
 
@@ -172,13 +171,12 @@ static DROPPED: [Dropped; 8] = [
 fn is_dropped(rt: &impl Abort, alloc: Global, row: &Dropped) -> Result<(), NoMemory> {
     let (write, process, system) = *row;
     let mut bench = Bench::with_tables(alloc, &MAPPED)?;
-    let before = bench.follow(&[]);
-    assert_eq!(rt; before, Ok(0));
+    bench.check_followed(rt, &[], 0);
     let filled = bench.touch_all();
-    assert_eq!(rt; filled, 128);
+    assert!(rt; filled == 128);
     let _ = bench.happen(write);
-    assert_eq!(rt; bench.real_frame(0x400), process, "{write:?}");
-    assert_eq!(rt; bench.real_frame(0x8000_0600), system, "{write:?}");
+    assert!(rt; bench.real_frame(0x400) == process, "{write:?}");
+    assert!(rt; bench.real_frame(0x8000_0600) == system, "{write:?}");
     Ok(())
 }
 
@@ -190,48 +188,49 @@ fn only_what_was_read_is_dropped(rt: HostRuntime) -> Result<(), Fail> {
     Ok(())
 }
 
+/// A context that maps the first one's table, and whose table the first one maps.
+const OTHER: Registers = Registers {
+    p0br: 0x8000_4400,
+    p1br: 0x7F80_4220,
+    p1lr: 0x1F_FFF8,
+    ..MAPPED
+};
+
+static ALIASING: [Event; 9] = [
+    Event::Load(OTHER),
+    Event::Load(MAPPED),
+    Event::Write {
+        va: 0x4420,
+        byte: 9,
+    },
+    Event::Load(OTHER),
+    Event::Write {
+        va: 0x7FFF_F000,
+        byte: 1,
+    },
+    Event::Write {
+        va: 0x4220,
+        byte: 10,
+    },
+    Event::Load(MAPPED),
+    Event::Write {
+        va: 0x4200,
+        byte: 11,
+    },
+    Event::Load(OTHER),
+];
+
 /// Two contexts of which each maps the other's table: what is written in one is seen in the other.
 #[test]
 fn contexts_that_alias(rt: HostRuntime) -> Result<(), Fail> {
-    let other = Registers {
-        p0br: 0x8000_4400,
-        p1br: 0x7F80_4220,
-        p1lr: 0x1F_FFF8,
-        ..MAPPED
-    };
     let mut bench = Bench::with_tables(rt.alloc(), &MAPPED)?;
     bench.put_rising(0x4400, 64, 0xA400_0000);
-    let followed = bench.follow(&[
-        Event::Load(other),
-        Event::Load(MAPPED),
-        Event::Write {
-            va: 0x4420,
-            byte: 9,
-        },
-        Event::Load(other),
-        Event::Write {
-            va: 0x7FFF_F000,
-            byte: 1,
-        },
-        Event::Write {
-            va: 0x4220,
-            byte: 10,
-        },
-        Event::Load(MAPPED),
-        Event::Write {
-            va: 0x4200,
-            byte: 11,
-        },
-        Event::Load(other),
-    ]);
-    assert_eq!(rt; followed, Ok(9));
-    assert_eq!(rt;
-        (bench.real_frame(0x1000), bench.real_frame(0x7FFF_F000)),
-        (Ok(9), Ok(11))
-    );
+    bench.check_followed(&rt, &ALIASING, 9);
+    bench.check_frame(&rt, 0x1000, Ok(9));
+    bench.check_frame(&rt, 0x7FFF_F000, Ok(11));
     let _ = bench.load(&MAPPED);
-    assert_eq!(rt; bench.mismatch(false), None);
+    bench.check_agreement(&rt, &MAPPED, false);
     let _ = bench.touch(0x1000);
-    assert_eq!(rt; bench.real_frame(0x1000), Ok(10));
+    bench.check_frame(&rt, 0x1000, Ok(10));
     Ok(())
 }

@@ -1,7 +1,12 @@
+use std::process::Abort;
 use vv_class::{AccessClass, flows, join};
 
+/// A level of secrecy and its categories, and of integrity.
+pub type Parts = (u8, u64, u8, u64);
+
 /// A class of these levels and sets of categories.
-pub fn class(secrecy: u8, secrecy_cats: u64, integrity: u8, integrity_cats: u64) -> AccessClass {
+pub fn class(parts: Parts) -> AccessClass {
+    let (secrecy, secrecy_cats, integrity, integrity_cats) = parts;
     AccessClass {
         secrecy,
         secrecy_cats,
@@ -10,25 +15,49 @@ pub fn class(secrecy: u8, secrecy_cats: u64, integrity: u8, integrity_cats: u64)
     }
 }
 
+/// Low, with one category.
+const LOW: Parts = (1, 4, 3, 0);
+
+/// High, with two categories and less integrity.
+const HIGH: Parts = (2, 20, 1, 0);
+
+/// A category of integrity alone.
+const TRUSTED: Parts = (0, 0, 0, 16);
+
+/// No level and no category.
+const PLAIN: Parts = (0, 0, 0, 0);
+
+/// Two classes, and whether the first flows to the second.
+type Flow = (Parts, Parts, bool);
+
+/// Pairs of these, each way.
+static FLOWS: [Flow; 6] = [
+    (LOW, HIGH, true),
+    (HIGH, LOW, false),
+    (TRUSTED, PLAIN, true),
+    (PLAIN, TRUSTED, false),
+    (PLAIN, PLAIN, true),
+    (LOW, PLAIN, false),
+];
+
+/// A class flows to another, or doesn't.
+fn is_flow(rt: &impl Abort, row: &Flow) {
+    let (from, to, wanted) = *row;
+    assert!(rt;
+        flows(&class(from), &class(to)) == wanted,
+        "from {from:?} to {to:?}"
+    );
+}
+
 #[test]
 fn secrecy_rises_and_integrity_falls(rt: HostRuntime) {
-    let low = class(1, 4, 3, 0);
-    let high = class(2, 20, 1, 0);
-    let trusted = class(0, 0, 0, 16);
-    let plain = class(0, 0, 0, 0);
-    let pairs = [
-        (low, high, true),
-        (high, low, false),
-        (trusted, plain, true),
-        (plain, trusted, false),
-        (plain, plain, true),
-        (low, plain, false),
-    ];
-    for (from, to, wanted) in pairs {
-        assert_eq!(rt; flows(&from, &to), wanted, "from {from:?} to {to:?}");
+    for row in &FLOWS {
+        is_flow(&rt, row);
     }
-    assert_eq!(rt;
-        join(&class(1, 4, 3, 6), &class(2, 16, 1, 2)),
-        class(2, 20, 1, 2)
-    );
+}
+
+#[test]
+fn a_join_has_the_higher_secrecy_and_the_lower_integrity(rt: HostRuntime) {
+    let joined = join(&class((1, 4, 3, 6)), &class((2, 16, 1, 2)));
+    assert!(rt; joined == class((2, 20, 1, 2)));
 }

@@ -1,4 +1,5 @@
 use super::*;
+use std::process::Abort;
 use std::test::Fail;
 use std::{env, fs, process};
 use vv_base::{FileName, file_name};
@@ -17,18 +18,25 @@ fn named(text: &str) -> FileName {
 
 #[test]
 fn a_shelf_reads_files(rt: HostRuntime) -> Result<(), Fail> {
-    let alloc = rt.alloc();
     let path = scratch(&rt, "image")?;
     fs::write(&rt, path.as_str(), b"bytes")?;
     let mut shelf = FileShelf::new(&rt);
-    let bytes = shelf.fetch(alloc, &named(path.as_str())).ok();
+    let bytes = shelf.fetch(rt.alloc(), &named(path.as_str())).ok();
     assert_eq!(rt; bytes.map(|bytes| bytes.len()), Some(5));
-    fs::write(&rt, path.as_str(), vec![in alloc; 0; 16_777_217]?)?;
-    let long = shelf.fetch(alloc, &named(path.as_str()));
+    fs::remove_file(&rt, path.as_str())?;
+    let gone = shelf.fetch(rt.alloc(), &named(path.as_str()));
+    assert_eq!(rt; gone.err(), Some(ShelfFault::Missing));
+    Ok(())
+}
+
+#[test]
+fn a_shelf_refuses_a_file_that_is_too_long(rt: HostRuntime) -> Result<(), Fail> {
+    let path = scratch(&rt, "long")?;
+    fs::write(&rt, path.as_str(), vec![in rt.alloc(); 0; 16_777_217]?)?;
+    let mut shelf = FileShelf::new(&rt);
+    let long = shelf.fetch(rt.alloc(), &named(path.as_str()));
     assert_eq!(rt; long.err(), Some(ShelfFault::TooLong));
     fs::remove_file(&rt, path.as_str())?;
-    let gone = shelf.fetch(alloc, &named(path.as_str()));
-    assert_eq!(rt; gone.err(), Some(ShelfFault::Missing));
     Ok(())
 }
 
@@ -40,15 +48,37 @@ fn a_line_writes_a_file(rt: HostRuntime) -> Result<(), Fail> {
     assert_eq!(rt; line.put(b"one "), Ok(()));
     assert_eq!(rt; line.put(b"two"), Ok(()));
     assert_eq!(rt; line.told(), None);
-    assert_eq!(rt;
-        fs::read(&rt, path.as_str())?.as_slice(),
-        b"one two".as_slice()
-    );
+    let written = fs::read(&rt, path.as_str())?;
+    assert!(rt; written.as_slice() == b"one two".as_slice());
     fs::remove_file(&rt, path.as_str())?;
+    Ok(())
+}
+
+#[test]
+fn a_folder_takes_no_line(rt: HostRuntime) -> Result<(), Fail> {
     let folder = env::temp_dir(&rt)?;
     let mut broken = FileLine::new(rt.clone()?, String::from_str(rt.alloc(), folder.as_str())?);
     assert_eq!(rt; broken.put(b"x"), Err(LineFault));
     Ok(())
+}
+
+/// A block is stored, and both are read again.
+fn check_blocks(rt: &impl Abort, drive: &mut impl Drive) {
+    let mut into = [0; 512];
+    assert_eq!(rt; drive.blocks(), 2);
+    assert_eq!(rt; drive.set(1, &[9; 512]), Ok(()));
+    assert_eq!(rt; drive.get(0, &mut into), Ok(()));
+    assert_eq!(rt; into[511], 7);
+    assert_eq!(rt; drive.get(1, &mut into), Ok(()));
+    assert_eq!(rt; into[0], 9);
+}
+
+/// A block that its file no longer has leaves what it is read into.
+fn check_short(rt: &impl Abort, drive: &mut impl Drive) {
+    let mut into = [9; 512];
+    assert_eq!(rt; drive.blocks(), 2);
+    assert_eq!(rt; drive.get(1, &mut into), Err(DriveFault));
+    assert_eq!(rt; into[0], 9);
 }
 
 #[test]
@@ -56,16 +86,9 @@ fn a_drive_reads_and_writes_blocks(rt: HostRuntime) -> Result<(), Fail> {
     let path = scratch(&rt, "drive")?;
     fs::write(&rt, path.as_str(), vec![in rt.alloc(); 7; 1_300]?)?;
     let mut drive = FileDrive::open(&rt, path.as_str())?;
-    assert_eq!(rt; drive.blocks(), 2);
-    let mut into = [0; 512];
-    assert_eq!(rt; drive.set(1, &[9; 512]), Ok(()));
-    assert_eq!(rt; drive.get(0, &mut into), Ok(()));
-    assert_eq!(rt; into[511], 7);
-    assert_eq!(rt; drive.get(1, &mut into), Ok(()));
-    assert_eq!(rt; into[0], 9);
+    check_blocks(&rt, &mut drive);
     fs::write(&rt, path.as_str(), b"short")?;
-    assert_eq!(rt; drive.get(1, &mut into), Err(DriveFault));
-    assert_eq!(rt; into[0], 9);
+    check_short(&rt, &mut drive);
     fs::remove_file(&rt, path.as_str())?;
     assert!(rt; FileDrive::open(&rt, path.as_str()).is_err());
     Ok(())
