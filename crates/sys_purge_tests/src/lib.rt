@@ -7,3 +7,5 @@ mod configurations;
 mod contents;
 #[cfg(test)]
 mod events;
+#[cfg(test)]
+mod workload;

@@ -1,6 +1,5 @@
 use crate::content::Content;
 use crate::outcome::{Difference, Kinds, Outcome};
-use sys_system::{Device, PowerFault};
 
 /// What a line is to show.
 #[derive(Clone, Copy)]
@@ -28,8 +27,6 @@ pub struct Case {
     pub stored: &'static [(u8, &'static [Content])],
     /// Plain, sensitive, faults, interrupts, modify, idle and stopped steps.
     pub kinds: Kinds,
-    pub fault: Option<PowerFault>,
-    pub failed: Option<Device>,
 }
 
 /// No guest, no device, no round.
@@ -43,8 +40,6 @@ pub const CASE: Case = Case {
     lines: &[],
     stored: &[],
     kinds: [0; 7],
-    fault: None,
-    failed: None,
 };
 
 /// What stands beside a number in a list, if it stands there.
@@ -91,10 +86,7 @@ impl Case {
     /// What isn't as told, if anything. Nothing is promised of it.
     pub fn difference(&self, outcome: &Outcome) -> Option<Difference> {
         let ending = &outcome.ending;
-        if ending.fault != self.fault {
-            return Some(Difference::Fault(ending.fault));
-        }
-        if ending.failed != self.failed {
+        if ending.failed.is_some() {
             return Some(Difference::Failed(ending.failed));
         }
         if let Some(line) = self.other_line(outcome) {

@@ -6,35 +6,13 @@ use crate::trouble::Trouble;
 use std::alloc::Global;
 use vax_hw::Hardware;
 use vv_base::NoMemory;
-use vv_io::{Cut, Drive, EmptyDrive, Line, MemDrive, MemLine};
+use vv_io::{Drive, EmptyDrive, Line, MemDrive, MemLine};
 
 /// Bytes for which a line has room.
 const ROOM: u32 = 60_000;
 
-/// The cuts of a line.
-fn cuts_of(alloc: Global, cuts: &[(u8, Cut)], line: u8) -> Result<Vec<Cut>, NoMemory> {
-    let mut own = Vec::new(alloc);
-    for (number, cut) in cuts {
-        if *number == line {
-            own.push(*cut)?;
-        }
-    }
-    Ok(own)
-}
-
-/// The failing calls of a drive.
-fn failing_of(alloc: Global, failing: &[(u8, u32)], drive: u8) -> Result<Vec<u32>, NoMemory> {
-    let mut own = Vec::new(alloc);
-    for (number, call) in failing {
-        if *number == drive {
-            own.push(*call)?;
-        }
-    }
-    Ok(own)
-}
-
 /// A drive of these blocks.
-fn drive_of(alloc: Global, blocks: &[Content], failing: Vec<u32>) -> Result<MemDrive, NoMemory> {
+fn drive_of(alloc: Global, blocks: &[Content]) -> Result<MemDrive, NoMemory> {
     let mut list = Vec::new(alloc);
     for content in blocks {
         list.push(block_of(content))?;
@@ -42,7 +20,7 @@ fn drive_of(alloc: Global, blocks: &[Content], failing: Vec<u32>) -> Result<MemD
     if list.len() > 2048 {
         list.clear();
     }
-    Ok(MemDrive::new(list, failing))
+    Ok(MemDrive::new(list, Vec::new(alloc)))
 }
 
 /// Plays a case on lines and drives in memory. Nothing is promised of what it tells.
@@ -53,16 +31,15 @@ pub fn play<H: Hardware>(
     how: &How<'_>,
 ) -> Result<Outcome, Trouble> {
     let mut lines: Vec<Box<dyn Line>> = Vec::new(alloc);
-    for number in 0..32u8 {
-        let cuts = cuts_of(alloc, how.cuts, number)?;
-        lines.push(Box::new(alloc, MemLine::new(alloc, ROOM, cuts)?)?)?;
+    for _number in 0..32u8 {
+        let line = MemLine::new(alloc, ROOM, Vec::new(alloc))?;
+        lines.push(Box::new(alloc, line)?)?;
     }
     let mut drives: Vec<Box<dyn Drive>> = Vec::new(alloc);
     for number in 0..16u8 {
-        let failing = failing_of(alloc, how.failing, number)?;
         match beside(case.drives, number) {
             Some(blocks) => {
-                drives.push(Box::new(alloc, drive_of(alloc, blocks, failing)?)?)?;
+                drives.push(Box::new(alloc, drive_of(alloc, blocks)?)?)?;
             }
             None => drives.push(Box::new(alloc, EmptyDrive)?)?,
         }

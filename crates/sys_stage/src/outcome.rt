@@ -1,8 +1,6 @@
-use crate::case::beside;
 use crate::content::{Content, block_of};
-use crate::running::How;
 use std::alloc::Global;
-use sys_system::{Device, PowerFault};
+use sys_system::Device;
 use vm_guest::Counts;
 use vv_base::NoMemory;
 use vv_io::{Drive, Line};
@@ -13,22 +11,11 @@ pub type Kinds = [u64; 7];
 /// What the system answers.
 #[derive(Drop)]
 pub struct Ending {
-    /// Why there was no power.
-    pub fault: Option<PowerFault>,
     pub failed: Option<Device>,
     pub counts: Counts,
 }
 
 impl Ending {
-    /// There was no power.
-    pub fn without_power(fault: PowerFault) -> Ending {
-        Ending {
-            fault: Some(fault),
-            failed: None,
-            counts: Counts::none(),
-        }
-    }
-
     /// The kinds of the steps.
     pub fn kinds(&self) -> Kinds {
         let counts = &self.counts;
@@ -54,10 +41,9 @@ pub struct Outcome {
     pub kept: Vec<Vec<[u8; 512]>>,
 }
 
-/// What isn't as told: the answer of power-up, the device that failed, a line or a drive by its number, or the kinds of steps.
+/// What isn't as told: a device failed; a line or a drive, by its number; or the kinds of steps.
 #[derive(Clone, Copy, Debug, PartialEq, Eq)]
 pub enum Difference {
-    Fault(Option<PowerFault>),
     Failed(Option<Device>),
     Line(u8),
     Drive(u8),
@@ -73,13 +59,11 @@ pub fn shown_by(alloc: Global, lines: &[Box<dyn Line>]) -> Result<Vec<Vec<u8>>, 
     Ok(shown)
 }
 
-/// A block of a drive. A get that fails is made once more.
+/// A block of a drive.
 fn block_in(drive: &mut Box<dyn Drive>, number: u32) -> Option<[u8; 512]> {
     let mut block = [0; 512];
-    for _try in 0..2 {
-        if number < drive.blocks() && drive.get(number, &mut block).is_ok() {
-            return Some(block);
-        }
+    if number < drive.blocks() && drive.get(number, &mut block).is_ok() {
+        return Some(block);
     }
     None
 }
@@ -139,24 +123,10 @@ impl Outcome {
                 .all(|(block, content)| *block == block_of(content))
     }
 
-    /// Whether a line shows the same as in a run in which nothing failed, or a front of it where it is one that fails.
-    fn shows_as(&self, whole: &Outcome, how: &How<'_>, line: u8) -> bool {
-        match beside(how.cuts, line) {
-            Some(_) => whole.on(line).starts_with(self.on(line)),
-            None => self.on(line) == whole.on(line),
-        }
-    }
-
-    /// Whether a drive keeps the same as in a run in which nothing failed, or is one that fails.
-    fn keeps_as(&self, whole: &Outcome, how: &How<'_>, drive: u8) -> bool {
-        beside(how.failing, drive).is_some() || self.blocks_of(drive) == whole.blocks_of(drive)
-    }
-
-    /// Whether all devices but those that fail, and all counts, are as in a run in which nothing failed; a line that fails shows a
-    /// front of what it showed there.
-    pub fn is_whole_but(&self, whole: &Outcome, how: &How<'_>) -> bool {
-        (0..32u8).all(|line| self.shows_as(whole, how, line))
-            && (0..16u8).all(|drive| self.keeps_as(whole, how, drive))
-            && self.ending.counts == whole.ending.counts
+    /// Whether all lines, drives and counts are those of another run.
+    pub fn is_same(&self, other: &Outcome) -> bool {
+        (0..32u8).all(|line| self.on(line) == other.on(line))
+            && (0..16u8).all(|drive| self.blocks_of(drive) == other.blocks_of(drive))
+            && self.ending.counts == other.ending.counts
     }
 }

@@ -18,7 +18,7 @@ use sys_system::{PowerFault, System, TimeSlice};
 use vax_hw::Hardware;
 use vm_guest::Counts;
 use vv_base::NoMemory;
-use vv_io::{Cut, Drive, Line};
+use vv_io::{Drive, Line};
 
 /// The pages of the machine.
 pub const PAGES: u32 = 32_768;
@@ -162,18 +162,12 @@ pub struct How<'a> {
     pub slice: u32,
     /// Where there are any: guests in an order, each with so many steps at most, round and again.
     pub order: &'a [(u8, u32)],
-    /// Puts that fail, by line.
-    pub cuts: &'a [(u8, Cut)],
-    /// Calls that fail, by drive, counted from 1.
-    pub failing: &'a [(u8, u32)],
 }
 
-/// By slices of 10 steps, and nothing fails.
+/// By slices of 10 steps.
 pub const HOW: How<'static> = How {
     slice: 10,
     order: &[],
-    cuts: &[],
-    failing: &[],
 };
 
 /// The configuration of a case.
@@ -244,12 +238,11 @@ pub fn run<H: Hardware>(
     }
     let mut system = match powered(alloc, config, &images, machine, drives) {
         Ok(system) => system,
-        Err(fault) => return Ok(Ending::without_power(fault)),
+        Err(fault) => return Err(Trouble::Power(fault)),
     };
     make_rounds(&mut system, machine, lines, &events, case.rounds, &slices);
     system.power_down(machine, lines, drives);
     Ok(Ending {
-        fault: None,
         failed: system.failed(),
         counts: system.counts(),
     })

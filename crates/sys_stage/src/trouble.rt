@@ -1,6 +1,7 @@
 use std::alloc::{AllocError, AllocFailed};
 use sys_objects::ConfigError;
 use sys_script::ScriptError;
+use sys_system::PowerFault;
 use vv_base::NoMemory;
 
 /// Why a case can't be played.
@@ -11,6 +12,8 @@ pub enum Trouble {
     Machine,
     Config(ConfigError),
     Script(ScriptError),
+    /// There is no power.
+    Power(PowerFault),
     /// There isn't an image for each guest.
     Images,
     /// There are more than 1,000,000 rounds.

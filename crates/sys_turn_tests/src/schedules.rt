@@ -1,4 +1,4 @@
-//! Slices of any size, in any order, come to the same.
+//! Slices of any guests, in any order, come to the same.
 
 use std::alloc::Global;
 use std::test::Fail;
@@ -7,19 +7,7 @@ use sys_stage::Shown::{Each, Exactly};
 use sys_stage::{CASE, Case, Content, HOW, How, Outcome, Trouble, new_machine};
 use vax_cpu::Cpu;
 
-/// A script of all forms, with transfers: by slices of one step, of seven, and up to the greatest quantum and beyond.
-#[test]
-fn slices_of_any_size(rt: HostRuntime) -> Result<(), Fail> {
-    let alloc = rt.alloc();
-    let mut machine = new_machine(alloc)?;
-    let (whole, difference) = ALL.played(alloc, &mut machine, &HOW)?;
-    assert_eq!(rt; difference, None);
-    let other = other_slice(alloc, &mut machine, &ALL, &whole, &[1, 7, 14, 30, 100_000])?;
-    assert_eq!(rt; other, None);
-    Ok(())
-}
-
-/// The same by slices of the three guests in each order, of one step, of seven, of whole quanta, and of different sizes.
+/// A script of all forms, with transfers: by slices of the three guests in each order, of one step, of seven, of whole quanta, and of different sizes.
 #[test]
 fn slices_in_any_order(rt: HostRuntime) -> Result<(), Fail> {
     let alloc = rt.alloc();
@@ -32,7 +20,7 @@ fn slices_in_any_order(rt: HostRuntime) -> Result<(), Fail> {
     Ok(())
 }
 
-/// Three guests that count down a thousand steps, by the slices of `next` and by slices in each order.
+/// Three guests that count down a thousand steps, by slices in each order.
 #[test]
 fn three_guests_count_down(rt: HostRuntime) -> Result<(), Fail> {
     let alloc = rt.alloc();
@@ -40,8 +28,6 @@ fn three_guests_count_down(rt: HostRuntime) -> Result<(), Fail> {
     let (whole, difference) = COUNTING.played(alloc, &mut machine, &HOW)?;
     assert_eq!(rt; difference, None);
     assert_eq!(rt; whole.ending.counts.trail, 0x0BB8_001B_F24C);
-    let slice = other_slice(alloc, &mut machine, &COUNTING, &whole, &[1, 7, 1000])?;
-    assert_eq!(rt; slice, None);
     let sizes = [[1, 7, 1000]];
     let order = other_order(alloc, &mut machine, &COUNTING, &whole, &sizes)?;
     assert_eq!(rt; order, None);
@@ -57,27 +43,7 @@ fn is_same(
     how: &How<'_>,
 ) -> Result<bool, Trouble> {
     let (outcome, difference) = case.played(alloc, machine, how)?;
-    Ok(difference.is_none() && outcome.is_whole_but(whole, &HOW))
-}
-
-/// The first of these sizes of slices by which a case doesn't come to the same.
-fn other_slice(
-    alloc: Global,
-    machine: &mut Cpu,
-    case: &Case,
-    whole: &Outcome,
-    slices: &[u32],
-) -> Result<Option<u32>, Trouble> {
-    for slice in slices {
-        let how = How {
-            slice: *slice,
-            ..HOW
-        };
-        if !is_same(alloc, machine, case, whole, &how)? {
-            return Ok(Some(*slice));
-        }
-    }
-    Ok(None)
+    Ok(difference.is_none() && outcome.is_same(whole))
 }
 
 /// Guests in an order, each with its steps in a slice at most.

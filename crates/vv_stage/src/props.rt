@@ -29,6 +29,8 @@ pub struct Props<'a, 'b> {
     pub failing: Option<u32>,
     /// Drives of other blocks than a `Disk` has: their numbers and their blocks.
     pub volumes: &'a [(u8, &'b [[u8; 512]])],
+    /// The calls of these drives that fail.
+    pub spoiled: &'a [(u8, u32)],
     /// How many bytes a line takes.
     pub room: u32,
     /// Where the sink is cut.
@@ -41,6 +43,7 @@ pub fn plain<'a, 'b>(files: &'a [(&'b str, &'b [u8])]) -> Props<'a, 'b> {
         files,
         failing: None,
         volumes: &[],
+        spoiled: &[],
         room: 1000,
         out: None,
     }
@@ -78,6 +81,17 @@ pub fn cuts_of(alloc: Global, cuts: &[LineCut], line: u8) -> Result<Vec<Cut>, No
     for cut in cuts {
         if cut.line == line {
             own.push(cut.cut)?;
+        }
+    }
+    Ok(own)
+}
+
+/// The calls of the drive of a number that fail.
+pub fn calls_of(alloc: Global, spoiled: &[(u8, u32)], number: u8) -> Result<Vec<u32>, NoMemory> {
+    let mut own = Vec::new(alloc);
+    for (drive, call) in spoiled {
+        if *drive == number {
+            own.push(*call)?;
         }
     }
     Ok(own)

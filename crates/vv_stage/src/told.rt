@@ -1,6 +1,6 @@
 ghost use Rattle.std.specs.Prelude.{◌≡◌, ◌<◌, ◌^◌, ◌*◌, IfOk, length, vec_len};
 
-use crate::props::{Disk, LineCut, PAGES, Props, cuts_of, disk_of, volume_of};
+use crate::props::{Disk, LineCut, PAGES, Props, calls_of, cuts_of, disk_of, volume_of};
 use std::alloc::Global;
 use vax_hw::Hardware;
 use vv_base::NoMemory;
@@ -67,7 +67,8 @@ fn memory_drive(
     match volume_of(props.volumes, number) {
         Some(blocks) if blocks.len() <= 2048 => {
             let blocks = Vec::from_slice(alloc, blocks)?;
-            Ok(Some(MemDrive::new(blocks, Vec::new(alloc))))
+            let failing = calls_of(alloc, props.spoiled, number)?;
+            Ok(Some(MemDrive::new(blocks, failing)))
         }
         _ => Ok(None),
     }

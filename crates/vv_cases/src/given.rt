@@ -1,0 +1,85 @@
+//! What a call is given.
+
+use std::alloc::Global;
+use vax_cpu::Cpu;
+use vv_base::NoMemory;
+use vv_io::Cut;
+use vv_stage::{Disk, LineCut, Props, Told, run_words};
+
+/// How many bytes a line takes where nothing is said.
+const ROOM: u32 = 100_000;
+
+/// What a call is given: files of the shelf, drives, and what fails.
+#[derive(Drop)]
+pub struct Given<'t> {
+    pub files: Vec<(&'t str, Vec<u8>)>,
+    pub volumes: Vec<(u8, Vec<[u8; 512]>)>,
+    pub spoiled: Vec<(u8, u32)>,
+    pub disks: Vec<Disk>,
+    pub cuts: Vec<LineCut>,
+    pub out: Option<Cut>,
+    pub failing: Option<u32>,
+    pub room: u32,
+}
+
+/// Bytes in blocks; what is behind the last whole one is left.
+pub fn blocks_of(alloc: Global, bytes: &[u8]) -> Result<Vec<[u8; 512]>, NoMemory> {
+    let mut blocks = Vec::new(alloc);
+    for bytes in bytes.chunks_exact(512) {
+        let mut block = [0; 512];
+        for (into, byte) in block.iter_mut().zip(bytes.iter()) {
+            *into = *byte;
+        }
+        blocks.push(block)?;
+    }
+    Ok(blocks)
+}
+
+impl<'t> Given<'t> {
+    /// Nothing.
+    pub fn new(alloc: Global) -> Given<'t> {
+        Given {
+            files: Vec::new(alloc),
+            volumes: Vec::new(alloc),
+            spoiled: Vec::new(alloc),
+            disks: Vec::new(alloc),
+            cuts: Vec::new(alloc),
+            out: None,
+            failing: None,
+            room: ROOM,
+        }
+    }
+
+    /// The files, by reference.
+    fn files(&self, alloc: Global) -> Result<Vec<(&str, &[u8])>, NoMemory> {
+        let mut files = Vec::new(alloc);
+        for (name, bytes) in &self.files {
+            files.push((*name, bytes.as_slice()))?;
+        }
+        Ok(files)
+    }
+
+    /// The volumes, by reference.
+    fn volumes(&self, alloc: Global) -> Result<Vec<(u8, &[[u8; 512]])>, NoMemory> {
+        let mut volumes = Vec::new(alloc);
+        for (number, blocks) in &self.volumes {
+            volumes.push((*number, blocks.as_slice()))?;
+        }
+        Ok(volumes)
+    }
+
+    /// Makes the call with these words.
+    pub fn call(&self, alloc: Global, machine: &mut Cpu, words: &str) -> Result<Told, NoMemory> {
+        let files = self.files(alloc)?;
+        let volumes = self.volumes(alloc)?;
+        let props = Props {
+            files: &files,
+            failing: self.failing,
+            volumes: &volumes,
+            spoiled: &self.spoiled,
+            room: self.room,
+            out: self.out,
+        };
+        run_words(alloc, machine, words, &props, &self.cuts, &self.disks)
+    }
+}

@@ -1,0 +1,12 @@
+//! What the bytes of a call don't tell: who executes the guests' instructions, in which order lines and the sink are put to, that
+//! any machine serves, and what the machine misses beside the first touches of the guests alone.
+#![tactic(auto)]
+
+#[cfg(test)]
+mod machines;
+#[cfg(test)]
+mod order;
+#[cfg(test)]
+mod touches;
+#[cfg(test)]
+mod watched;
