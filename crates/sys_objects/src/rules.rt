@@ -127,14 +127,17 @@ fn push_audit_line(lines: &mut Vec<u8>, audit: Option<Audit>) -> Result<(), NoMe
     Ok(())
 }
 
-/// The lines of terminals, printers, dumps and the audit.
+/// The most lines: of 32 terminals, 32 printers, 16 dumps and the audit.
+const MOST_LINES: usize = 81;
+
+/// The lines of terminals, printers, dumps and the audit. All memory is taken at once.
 #[tactic(auto, using(crate::proofs::FewLaws::few_lines))]
 fn lines(alloc: Global, c: &Config) -> Result<Vec<u8>, NoMemory>
     requires { IsFew c.now }
     ensures few { IfOk result (λ v. length v.items ≤ 81) }
     ensures value { IfOk result (λ v. v.items ≡ lines_of c.now) }
 {
-    let mut lines = Vec::new(alloc);
+    let mut lines = Vec::with_capacity(alloc, MOST_LINES)?;
     push_terminal_lines(&mut lines, c.terminals.as_slice())?;
     push_printer_lines(&mut lines, c.printers.as_slice())?;
     push_dumps(&mut lines, c.guests.as_slice())?;

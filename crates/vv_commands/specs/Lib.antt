@@ -1,4 +1,5 @@
 pub mod Answer
+pub mod Devices
 pub mod Fetches
 pub mod Files
 pub mod Solo

@@ -2,6 +2,7 @@
 //! words say.
 #![tactic(auto)]
 
+mod devices;
 mod fetching;
 mod loading;
 mod playing;
@@ -12,5 +13,7 @@ mod stop;
 mod top;
 mod words;
 
+pub use devices::{Devices, devices_of};
+pub use playing::close;
 pub use status::{Status, status_code, status_text};
 pub use top::vvmm_run;

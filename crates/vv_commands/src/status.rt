@@ -6,7 +6,7 @@ use sys_script::{ScriptFault, ScriptKind};
 use sys_system::Device;
 use vasm_files::fault_text;
 use vasm_text::AsmFault;
-use vv_base::{FileName, Text, decimal};
+use vv_base::{FileName, NoMemory, Text, decimal};
 
 /// The answer of the program.
 #[derive(Drop)]
@@ -39,6 +39,16 @@ pub enum Status {
     OutFault,
     /// Memory ran out.
     NoMemory,
+}
+
+impl From<NoMemory> for Status {
+    ghost use Rattle.vv_commands.specs.declared.status.Status.TheVariants.{NoMemory as OutOfMemory};
+
+    ghost from_gives = { λ _ e. e ≡ OutOfMemory };
+
+    fn from(_: NoMemory) -> Status {
+        Status::NoMemory
+    }
 }
 
 /// Bytes behind a text that has room for them.

@@ -65,3 +65,12 @@ SetsOn k before after block bytes result = (drive : Kept) × (after ≡ slice_se
 -- one get from drive k of several; every other drive is as before
 abbrev pub GetsFrom : {U E : Type 0} → ℕ → List Kept → List Kept → ℕ → List ℕ → List ℕ → Result U E → Type 0
 GetsFrom k before after block into into' result = (drive : Kept) × (after ≡ slice_set before k drive) × Gets (slice_index_or before k unkept) drive block into into' result
+
+-- One sync: size and blocks stay.
+pub record SyncsDrive {U E : Type 0} (before after : Kept) (result : Result U E) : Type 0 where
+  pub stays : after ≡ record before { faults = after.faults }
+  pub cause : HasCause before.faults after.faults result
+
+-- one sync of drive k of several; every other drive is as before
+abbrev pub SyncsDriveOn : {U E : Type 0} → ℕ → List Kept → List Kept → Result U E → Type 0
+SyncsDriveOn k before after result = (drive : Kept) × (after ≡ slice_set before k drive) × SyncsDrive (slice_index_or before k unkept) drive result

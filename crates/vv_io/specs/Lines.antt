@@ -33,3 +33,12 @@ pub record Puts {U E : Type 0} (before after : Seen) (bytes : List ℕ) (result 
 -- one put on line k of several; every other line is as before
 abbrev pub PutsOn : {U E : Type 0} → ℕ → List Seen → List Seen → List ℕ → Result U E → Type 0
 PutsOn k before after bytes result = (line : Seen) × (after ≡ slice_set before k line) × Puts (slice_index_or before k unseen) line bytes result
+
+-- One sync: what was shown stays.
+pub record Syncs {U E : Type 0} (before after : Seen) (result : Result U E) : Type 0 where
+  pub shown : after.shown ≡ before.shown
+  pub cause : HasCause before.faults after.faults result
+
+-- one sync of line k of several; every other line is as before
+abbrev pub SyncsOn : {U E : Type 0} → ℕ → List Seen → List Seen → Result U E → Type 0
+SyncsOn k before after result = (line : Seen) × (after ≡ slice_set before k line) × Syncs (slice_index_or before k unseen) line result

@@ -1,5 +1,5 @@
 ghost use Rattle.std.specs.Prelude.{◌≡◌, ◌<◌, List, ℕ, map, vec_len, slice_index_or};
-ghost use Rattle.vv_io.specs.Blocks.{Kept, unkept, IsSized, Gets, Sets, GetsFrom, SetsOn};
+ghost use Rattle.vv_io.specs.Blocks.{Kept, unkept, IsSized, Gets, Sets, GetsFrom, SetsOn, SyncsDrive, SyncsDriveOn};
 
 /// A drive failed.
 #[derive(Clone, Copy, Debug, PartialEq, Eq)]
@@ -25,6 +25,13 @@ pub trait Drive: Drop {
     fn set(&mut self, block: u32, from: &[u8; 512]) -> Result<(), DriveFault>
         requires { block < (kept self.old).size }
         ensures { Sets (kept self.old) (kept self.new) block from.now result };
+
+    /// What was written is kept for good, as a file's bytes on its disk; or it is a fault. No block changes.
+    fn sync(&mut self) -> Result<(), DriveFault>
+        ensures { SyncsDrive (kept self.old) (kept self.new) result }
+    {
+        Ok(())
+    }
 }
 
 /// Reads a block of one drive; all other drives stay.
@@ -71,4 +78,20 @@ fn set_block(drive: &mut Box<dyn Drive>, block: u32, from: &[u8; 512]) -> Result
     ensures { Sets (kept drive.old) (kept drive.new) block from.now result }
 {
     drive.set(block, from)
+}
+
+/// Syncs one drive; all others stay.
+pub fn sync_drive(drives: &mut Vec<Box<dyn Drive>>, k: usize) -> Result<(), DriveFault>
+    requires { k < vec_len drives.old }
+    ensures syncs { SyncsDriveOn k (map (λ d. kept d) drives.old.items) (map (λ d. kept d) drives.new.items) result }
+    ensures len { vec_len drives.new ≡ vec_len drives.old }
+{
+    let drive = &mut drives[k];
+    sync_one(drive)
+}
+
+fn sync_one(drive: &mut Box<dyn Drive>) -> Result<(), DriveFault>
+    ensures { SyncsDrive (kept drive.old) (kept drive.new) result }
+{
+    drive.sync()
 }

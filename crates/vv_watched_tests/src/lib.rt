@@ -1,7 +1,9 @@
 //! What the bytes of a call don't tell: who executes the guests' instructions, in which order lines and the sink are put to, that
-//! any machine serves, and what the machine misses beside the first touches of the guests alone.
+//! any machine serves, what the machine misses beside the first touches of the guests alone, and which files are fetched.
 #![tactic(auto)]
 
+#[cfg(test)]
+mod fetches;
 #[cfg(test)]
 mod machines;
 #[cfg(test)]

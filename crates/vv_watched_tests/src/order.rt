@@ -19,7 +19,7 @@ const NOTES: usize = 200;
 const OUT: u8 = 99;
 
 /// The numbers of the lines that were put to, in order.
-type Notes = Rc<RefCell<Vec<u8>>>;
+pub type Notes = Rc<RefCell<Vec<u8>>>;
 
 /// A line or a sink that notes each put.
 #[derive(Drop)]
@@ -61,7 +61,7 @@ impl Sink for Noting {
 }
 
 /// A guest with its console on line 4 and its dump on line 2, an audit on line 9, and a terminal at the server on line 6.
-const CONFIG: &[u8] = b"version = 1\nquantum = 5\nslice = 2
+pub const CONFIG: &[u8] = b"version = 1\nquantum = 5\nslice = 2
 [audit]\nline = 9\nclass = \"15{};0{}\"
 [[terminal]]\nname = \"T\"\nline = 4\nclass = \"0{};0{}\"
 [[terminal]]\nname = \"U\"\nline = 6\nclass = \"0{};0{}\"
@@ -69,10 +69,10 @@ const CONFIG: &[u8] = b"version = 1\nquantum = 5\nslice = 2
 console = \"T\"\ndump = 2\n";
 
 /// SHOW has a line for the guest, and its reply. The other terminal has the guest's console, which is taken from it.
-const SCRIPT: &[u8] = b"1 U > SHOW\n2 U > FOO\n2 U > CONNECT A\n";
+pub const SCRIPT: &[u8] = b"1 U > SHOW\n2 U > FOO\n2 U > CONNECT A\n";
 
 /// MTPR of the letter A to the transmit register, and HALT.
-const LETTER: &[u8] = &[0xDA, 0x8F, 0x41, 0, 0, 0, 0x23, 0];
+pub const LETTER: &[u8] = &[0xDA, 0x8F, 0x41, 0, 0, 0, 0x23, 0];
 
 /// Round 1: two lines of SHOW and the audit; the letter and the 14 bytes of the message of HALT. Round 2: the reply and the
 /// audit; the reply, what the other terminal is told, and the audit. Then the dump: the name, 16 registers, PSL, and the one
@@ -91,7 +91,7 @@ const ORDER: [(u8, usize); 10] = [
 ];
 
 /// Lines that note their puts.
-fn noting_lines(alloc: Global, notes: &Notes) -> Result<Vec<Box<dyn Line>>, NoMemory>
+pub fn noting_lines(alloc: Global, notes: &Notes) -> Result<Vec<Box<dyn Line>>, NoMemory>
     ensures { IfOk result (λ lines. vec_len lines ≡ 32) }
 {
     let mut lines: Vec<Box<dyn Line>> = Vec::new(alloc);
@@ -106,7 +106,7 @@ fn noting_lines(alloc: Global, notes: &Notes) -> Result<Vec<Box<dyn Line>>, NoMe
 }
 
 /// Drives without blocks.
-fn empty_drives(alloc: Global) -> Result<Vec<Box<dyn Drive>>, NoMemory>
+pub fn empty_drives(alloc: Global) -> Result<Vec<Box<dyn Drive>>, NoMemory>
     ensures { IfOk result (λ drives. vec_len drives ≡ 16) }
 {
     let mut drives: Vec<Box<dyn Drive>> = Vec::new(alloc);

@@ -1,14 +1,17 @@
-//! The trusted edge: files and standard output. They tell no content; each counts its faults.
+//! The trusted edge: files and standard streams. They tell no content; each counts its faults.
 
 mod file_drive;
 mod file_line;
 mod file_shelf;
+mod found;
 mod out_sink;
+mod standard;
 
 pub use file_drive::FileDrive;
 pub use file_line::FileLine;
 pub use file_shelf::FileShelf;
 pub use out_sink::OutSink;
+pub use standard::{hold_standard, identity_of};
 
 #[cfg(test)]
 mod tests;

@@ -1,129 +1,180 @@
 //! The program: guests on one simulated VAX, each as if alone on a private virtual VAX.
 #![tactic(auto)]
 
+ghost use Rattle.std.specs.Prelude.{◌<◌};
+
 mod edge;
 #[cfg(test)]
 mod tests;
 
-use edge::{FileDrive, FileLine, FileShelf, OutSink};
-use std::io::{ErrorKind, Write};
+use edge::{FileDrive, FileLine, FileShelf, OutSink, hold_standard, identity_of};
+use std::env;
+use std::io::ErrorKind;
 use std::process::ExitCode;
-use std::{env, io};
+use std::rt::{Stderr, Stdout};
 use vax_cpu::Cpu;
 use vv_base::NoMemory;
-pub use vv_commands::{Status, status_code, status_text, vvmm_run};
+pub use vv_commands::vvmm_run;
+use vv_commands::{Devices, Status, close, devices_of};
+use vv_edge::{Flaw, FlawedDrive, Identity};
 use vv_io::{Drive, EmptyDrive, Line};
-
-const HELP: &str =
-    "vvmm solo IMAGE STEPS          runs the file IMAGE as one guest for STEPS steps, 1 to 100000;
-                               the guest's console is the file line00.out, its dump line01.out
-vvmm run CONFIG SCRIPT ROUNDS  runs the guests of the configuration CONFIG for ROUNDS rounds, 1 to
-                               1000000, with what the file SCRIPT types at terminals; line k is the
-                               file linekk.out, drive k the file drivekk.vol
-vvmm load NUMBER               runs the workload that is drawn from NUMBER, 0 to 4294967295: eight guests
-                               in 20 rounds, on volumes of its own
-vvmm check CONFIG              reads a configuration, and shows how many objects it has
-vvmm migrate CONFIG            shows a configuration in version 2
-vvmm asm SOURCE                assembles the file SOURCE, and shows the image's bytes
-vvmm dis IMAGE                 disassembles the file IMAGE, and shows the text
-vvmm --help                    prints this
-vvmm --version                 prints the version
-";
-
-const VERSION: &str = "vvmm 0.1.0\n";
+use vv_program::{conclude, serve, text_asked, words_status};
 
 /// The machine has 32,768 pages of 512 bytes: 16 megabytes.
 const PAGES: u32 = 32_768;
 
+/// Standard output and standard error.
+#[derive(Drop)]
+struct Streams {
+    out: OutSink<Stdout>,
+    errors: OutSink<Stderr>,
+}
+
+impl Streams {
+    /// One that is this device's file takes nothing from now on.
+    fn keep_from(&mut self, device: Option<Identity>) {
+        self.out.keep_from(device);
+        self.errors.keep_from(device);
+    }
+}
+
+/// Why drives can't be used.
+type Flawed = [Option<FlawedDrive>; 16];
+
 /// The program's words, behind its own name.
-fn given_words(rt: &HostRuntime) -> Result<Vec<String>, Status> {
+fn given_words(rt: &HostRuntime) -> Result<Vec<String>, ErrorKind> {
     let mut words = Vec::new(rt.alloc());
     let args = match env::args(rt) {
         Ok(args) => args,
-        Err(error) if error.kind() == ErrorKind::OutOfMemory => {
-            return Err(Status::NoMemory);
-        }
-        Err(_) => {
-            return Err(Status::Words);
+        Err(error) => {
+            return Err(error.kind());
         }
     };
     for word in args.skip(1) {
         if words.push(word).is_err() {
-            return Err(Status::NoMemory);
+            return Err(ErrorKind::OutOfMemory);
         }
     }
     Ok(words)
 }
 
-/// Runs the top call over a machine, files and standard output.
-fn run(rt: &HostRuntime, words: &[String]) -> Result<Status, NoMemory> {
+/// Files that no line and no drive may be: those of standard output, of standard error, and of the words.
+fn taken_at_first(
+    rt: &HostRuntime,
+    words: &[String],
+    streams: &Streams,
+) -> Result<Vec<Identity>, NoMemory> {
+    let mut taken = Vec::new(rt.alloc());
+    for identity in [streams.out.identity(), streams.errors.identity()] {
+        if let Some(identity) = identity {
+            taken.push(identity)?;
+        }
+    }
+    for word in words {
+        if let Some(identity) = identity_of(rt, word.as_str()) {
+            taken.push(identity)?;
+        }
+    }
+    Ok(taken)
+}
+
+/// The file of a drive's name, where the command has drives and something stands there. It is taken then, or flawed.
+fn look(
+    rt: &HostRuntime,
+    number: u8,
+    path: String,
+    taken: &mut Vec<Identity>,
+    flawed: &mut Flawed,
+) -> Result<Option<FileDrive<HostRuntime>>, NoMemory>
+    requires { number < 16 }
+{
+    let looked = FileDrive::look(rt.clone()?, path, taken.as_slice());
+    if let Some(drive) = &looked {
+        match drive.judgment() {
+            Ok(identity) => taken.push(identity)?,
+            Err(flaw) => flawed[usize::from(number)] = Some(FlawedDrive { number, flaw }),
+        }
+    }
+    Ok(looked)
+}
+
+/// Runs the call over a machine, files and standard output.
+fn run(
+    rt: &HostRuntime,
+    words: &[String],
+    streams: &mut Streams,
+    flawed: &mut Flawed,
+) -> Result<Status, NoMemory> {
     let alloc = rt.alloc();
+    let devices = devices_of(words);
+    let mut taken = taken_at_first(rt, words, streams)?;
     let mut machine = Cpu::new(alloc, PAGES)?;
     let mut lines: Vec<Box<dyn Line>> = Vec::new(alloc);
     for number in 0..32u8 {
         let path = format!(in alloc; "line{number:02}.out")?;
-        lines.push(Box::new(alloc, FileLine::new(rt.clone()?, path))?)?;
+        let line = match devices {
+            Devices::Nothing => FileLine::new(rt.clone()?, path),
+            _ => {
+                streams.keep_from(identity_of(rt, path.as_str()));
+                FileLine::cleared(rt.clone()?, path, &taken)
+            }
+        };
+        lines.push(Box::new(alloc, line)?)?;
     }
     let mut drives: Vec<Box<dyn Drive>> = Vec::new(alloc);
     for number in 0..16u8 {
         let path = format!(in alloc; "drive{number:02}.vol")?;
-        match FileDrive::open(rt, path.as_str()) {
-            Ok(drive) => drives.push(Box::new(alloc, drive)?)?,
-            Err(_) => drives.push(Box::new(alloc, EmptyDrive)?)?,
+        let looked = match devices {
+            Devices::LinesAndDrives => {
+                streams.keep_from(identity_of(rt, path.as_str()));
+                look(rt, number, path, &mut taken, flawed)?
+            }
+            _ => None,
+        };
+        match looked {
+            Some(drive) => drives.push(Box::new(alloc, drive)?)?,
+            None => drives.push(Box::new(alloc, EmptyDrive)?)?,
         }
     }
     let mut shelf = FileShelf::new(rt);
-    let mut out = OutSink::new(rt);
-    Ok(vvmm_run(
+    Ok(serve(
         alloc,
         words,
         &mut shelf,
         &mut machine,
         &mut lines,
         &mut drives,
-        &mut out,
+        &mut streams.out,
     ))
 }
 
-/// Prints a text on standard output.
-fn tell(rt: &HostRuntime, text: &str) -> Status {
-    match io::writer(rt).write_all(text.as_bytes()) {
-        Ok(()) => Status::Done,
-        Err(_) => Status::OutFault,
-    }
-}
-
 /// What the words ask for.
-fn answer(rt: &HostRuntime) -> Status {
+fn answer(rt: &HostRuntime, streams: &mut Streams, flawed: &mut Flawed) -> Status {
     let words = match given_words(rt) {
         Ok(words) => words,
-        Err(status) => {
-            return status;
+        Err(kind) => {
+            return words_status(kind);
         }
     };
-    if let [word] = words.as_slice() {
-        match word.as_str() {
-            "--help" => {
-                return tell(rt, HELP);
-            }
-            "--version" => {
-                return tell(rt, VERSION);
-            }
-            _ => {}
-        }
+    if let Some(text) = text_asked(&words) {
+        return close(None, text.as_bytes(), &mut streams.out);
     }
-    match run(rt, &words) {
+    match run(rt, &words, streams, flawed) {
         Ok(status) => status,
-        Err(NoMemory) => Status::NoMemory,
+        Err(fault) => Status::from(fault),
     }
 }
 
 fn main(rt: HostRuntime) -> ExitCode {
-    let status = answer(&rt);
-    if !matches!(status, Status::Done) {
-        let text = status_text(&status);
-        let line = str::from_utf8(text.bytes()).unwrap_or("");
-        let _ = eprintln!(rt; "vvmm: {line}");
-    }
-    ExitCode::from(status_code(&status))
+    let held = hold_standard(&rt);
+    let mut streams = Streams {
+        out: OutSink::new(rt.stdout(), identity_of(&rt, "/dev/fd/1")),
+        errors: OutSink::new(rt.stderr(), identity_of(&rt, "/dev/fd/2")),
+    };
+    let mut flawed = [None; 16];
+    let status = match &held {
+        Ok(_) => answer(&rt, &mut streams, &mut flawed),
+        Err(_) => Status::ShelfFault,
+    };
+    ExitCode::from(conclude(&status, &flawed, &mut streams.errors))
 }

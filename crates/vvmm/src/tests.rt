@@ -5,6 +5,8 @@ use std::alloc::Global;
 use std::fs;
 use std::process::Abort;
 use std::test::Fail;
+use vv_commands::status_code;
+use vv_program::HELP;
 
 /// A configuration with a terminal on each line and a volume on each drive; drive k has k + 1 blocks.
 fn config_of(alloc: Global) -> Result<String, NoMemory> {
@@ -99,7 +101,12 @@ fn is_as_written(rt: &impl Abort, held: &[u8], drive: u8) {
 fn lines_and_drives_are_files_of_these_names(rt: HostRuntime) -> Result<(), Fail> {
     write_files(&rt)?;
     let words = words_of(rt.alloc())?;
-    let status = run(&rt, &words)?;
+    let mut streams = Streams {
+        out: OutSink::new(rt.stdout(), None),
+        errors: OutSink::new(rt.stderr(), None),
+    };
+    let mut flawed = [None; 16];
+    let status = run(&rt, &words, &mut streams, &mut flawed)?;
     assert!(rt; matches!(status, Status::Done), "{}", status_code(&status));
     for line in 0..32u8 {
         has_prompts(&rt, &shown_on(&rt, line)?, line);

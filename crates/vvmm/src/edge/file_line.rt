@@ -1,42 +1,98 @@
 ghost use Rattle.std.specs.Prelude.{◌≡◌, None};
 
-use std::io::Write;
+use super::found::{check_same, found_of, unfit};
+use std::fs::{OpenFile, OpenOptions};
+use std::io::{ErrorKind, Write};
+use std::os::unix::fs::OpenOptionsExt;
 use std::rt::Files;
 use std::{fs, io};
+use vv_edge::{Identity, is_removable};
 use vv_io::{Line, LineFault};
 
-/// A line into a file, which is made at the first put.
+/// A line into a file of its own, which is made at the first put, for its owner alone.
 #[derive(Drop)]
 pub struct FileLine<R: Files + Drop> {
     files: R,
     path: String,
+    /// Whether something stands under the name that isn't this line's and can't be removed.
+    is_blocked: bool,
     file: Option<R::File>,
     faults: u64,
 }
 
 impl<R: Files + Drop> FileLine<R> {
-    /// A line that has shown nothing.
+    /// A line that has shown nothing, and looks at no file before its first put.
     pub fn new(files: R, path: String) -> Self {
         FileLine {
             files,
             path,
+            is_blocked: false,
             file: None,
             faults: 0,
         }
     }
 
-    /// Writes all of the bytes behind those of before.
+    /// A line that has shown nothing, whose name is free: the file of an earlier run is removed. What isn't a plain file, is
+    /// taken or can't be removed stays, and the line fails.
+    pub fn cleared(files: R, path: String, taken: &[Identity]) -> Self {
+        let is_blocked = clear(&files, path.as_str(), taken).is_err();
+        FileLine {
+            files,
+            path,
+            is_blocked,
+            file: None,
+            faults: 0,
+        }
+    }
+
+    /// Writes all of the bytes behind those of before. The file is new: nothing stood under its name.
     fn write(&mut self, bytes: &[u8]) -> io::Result<()>
         ensures { self.new.faults ≡ self.old.faults }
     {
+        if self.is_blocked {
+            return Err(unfit());
+        }
         if self.file.is_none() {
-            self.file = Some(fs::create(&self.files, self.path.as_str())?);
+            self.file = Some(create(&self.files, self.path.as_str())?);
         }
         match &mut self.file {
             Some(file) => file.write_all(bytes),
             None => Ok(()),
         }
     }
+
+    /// The file is on the disk, and still under its name.
+    fn settle(&self) -> io::Result<()> {
+        match &self.file {
+            _ if self.is_blocked => Err(unfit()),
+            None => Ok(()),
+            Some(file) => {
+                file.sync_all()?;
+                let named = fs::symlink_metadata(&self.files, self.path.as_str())?;
+                check_same(file, &found_of(&named))?;
+                fs::open(&self.files, ".")?.sync_all()
+            }
+        }
+    }
+}
+
+/// Removes what stands under a name, if something does and it may be removed.
+fn clear(files: &impl Files, path: &str, taken: &[Identity]) -> io::Result<()> {
+    match fs::symlink_metadata(files, path) {
+        Ok(metadata) if is_removable(&found_of(&metadata), taken) => fs::remove_file(files, path),
+        Ok(_) => Err(unfit()),
+        Err(error) if error.kind() == ErrorKind::NotFound => Ok(()),
+        Err(error) => Err(error),
+    }
+}
+
+/// A new file of a name under which nothing stands, not even a link.
+fn create<R: Files>(files: &R, path: &str) -> io::Result<R::File> {
+    let mut options = OpenOptions::new();
+    options.write(true);
+    options.create_new(true);
+    options.mode(0o600);
+    options.open(files, path)
 }
 
 impl<R: Files + Drop> Line for FileLine<R> {
@@ -54,5 +110,15 @@ impl<R: Files + Drop> Line for FileLine<R> {
 
     fn told(&self) -> Option<&[u8]> {
         None
+    }
+
+    fn sync(&mut self) -> Result<(), LineFault> {
+        match self.settle() {
+            Ok(()) => Ok(()),
+            Err(_) => {
+                self.faults = self.faults.saturating_add(1);
+                Err(LineFault)
+            }
+        }
     }
 }

@@ -2,9 +2,10 @@ ghost use Rattle.std.specs.Prelude.{◌≤◌, IfOk, None, length};
 
 use std::alloc::Global;
 use std::fs;
-use std::io::{ErrorKind, Read};
+use std::io::Read;
 use std::rt::Files;
 use vv_base::FileName;
+use vv_edge::shelf_fault;
 use vv_io::{Shelf, ShelfFault};
 
 /// The most bytes of a file.
@@ -32,19 +33,15 @@ impl<'a, R: Files> FileShelf<'a, R> {
         };
         let file = match fs::open(self.files, path) {
             Ok(file) => file,
-            Err(error) if error.kind() == ErrorKind::NotFound => {
-                return Err(ShelfFault::Missing);
-            }
-            Err(_) => {
-                return Err(ShelfFault::Failed);
+            Err(error) => {
+                return Err(shelf_fault(error.kind()));
             }
         };
         let mut bytes = Vec::new(alloc);
         match file.take(FILE_LIMIT as u64 + 1).read_to_end(&mut bytes) {
             Ok(_) if bytes.len() > FILE_LIMIT => Err(ShelfFault::TooLong),
             Ok(_) => Ok(bytes),
-            Err(error) if error.kind() == ErrorKind::OutOfMemory => Err(ShelfFault::NoMemory),
-            Err(_) => Err(ShelfFault::Failed),
+            Err(error) => Err(shelf_fault(error.kind())),
         }
     }
 }

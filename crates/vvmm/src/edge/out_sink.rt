@@ -1,34 +1,50 @@
 ghost use Rattle.std.specs.Prelude.{None};
 
-use std::io;
-use std::io::Write;
+use vv_edge::Identity;
 use vv_io::{Sink, SinkFault};
 
-/// Standard output.
+/// Standard output, or standard error.
 #[derive(Drop)]
-pub struct OutSink<'a, R> {
-    output: &'a R,
+pub struct OutSink<P: Print + Drop> {
+    stream: P,
+    /// Which file it is, where the system tells.
+    identity: Option<Identity>,
+    is_shut: bool,
     faults: u64,
 }
 
-impl<'a, R: Print> OutSink<'a, R> {
+impl<P: Print + Drop> OutSink<P> {
     /// A sink that has not failed.
-    pub fn new(output: &'a R) -> Self {
-        OutSink { output, faults: 0 }
+    pub fn new(stream: P, identity: Option<Identity>) -> Self {
+        OutSink {
+            stream,
+            identity,
+            is_shut: false,
+            faults: 0,
+        }
+    }
+
+    /// Which file it is, where the system tells.
+    pub fn identity(&self) -> Option<Identity> {
+        self.identity
+    }
+
+    /// Where this is the file of a device, each put is a fault from now on: nothing but the device's own bytes get there.
+    pub fn keep_from(&mut self, device: Option<Identity>) {
+        if self.identity.is_some() && self.identity == device {
+            self.is_shut = true;
+        }
     }
 }
 
-impl<R: Print> Sink for OutSink<'_, R> {
+impl<P: Print + Drop> Sink for OutSink<P> {
     ghost printed = { λ s. record { shown = None; faults = s.faults } };
 
     fn put(&mut self, bytes: &[u8]) -> Result<(), SinkFault> {
-        let told = io::writer(self.output).write_all(bytes);
-        match told {
-            Ok(()) => Ok(()),
-            Err(_) => {
-                self.faults = self.faults.saturating_add(1);
-                Err(SinkFault)
-            }
+        if !self.is_shut && self.stream.write_all(bytes).is_ok() {
+            return Ok(());
         }
+        self.faults = self.faults.saturating_add(1);
+        Err(SinkFault)
     }
 }

@@ -1,9 +1,11 @@
 use super::*;
+use std::os::unix::fs::{MetadataExt, symlink};
 use std::process::Abort;
 use std::test::Fail;
 use std::{env, fs, process};
 use vv_base::{FileName, file_name};
-use vv_io::{Drive, DriveFault, Line, LineFault, Shelf, ShelfFault, Sink};
+use vv_edge::{Flaw, Identity};
+use vv_io::{Drive, DriveFault, Line, LineFault, Shelf, ShelfFault, Sink, SinkFault};
 
 /// A path of this process in the system's folder for files that don't last.
 fn scratch(rt: &HostRuntime, name: &str) -> Result<String, Fail> {
@@ -41,15 +43,57 @@ fn a_shelf_refuses_a_file_that_is_too_long(rt: HostRuntime) -> Result<(), Fail> 
 }
 
 #[test]
+fn a_shelf_fails_at_a_folder(rt: HostRuntime) {
+    let mut shelf = FileShelf::new(&rt);
+    let folder = shelf.fetch(rt.alloc(), &named("/"));
+    assert_eq!(rt; folder.err(), Some(ShelfFault::Failed));
+}
+
+/// Who may do what with a file.
+fn rights(rt: &HostRuntime, path: &str) -> Result<u32, Fail> {
+    Ok(fs::metadata(rt, path)?.mode() & 0o777)
+}
+
+#[test]
 fn a_line_writes_a_file(rt: HostRuntime) -> Result<(), Fail> {
     let path = scratch(&rt, "line")?;
     let mut line = FileLine::new(rt.clone()?, path.clone()?);
+    assert_eq!(rt; line.sync(), Ok(()));
     assert!(rt; fs::read(&rt, path.as_str()).is_err());
     assert_eq!(rt; line.put(b"one "), Ok(()));
     assert_eq!(rt; line.put(b"two"), Ok(()));
     assert_eq!(rt; line.told(), None);
+    assert_eq!(rt; line.sync(), Ok(()));
     let written = fs::read(&rt, path.as_str())?;
     assert!(rt; written.as_slice() == b"one two".as_slice());
+    assert_eq!(rt; rights(&rt, path.as_str())?, 0o600);
+    fs::remove_file(&rt, path.as_str())?;
+    assert_eq!(rt; line.sync(), Err(LineFault));
+    Ok(())
+}
+
+#[test]
+fn a_line_never_writes_what_stands_there(rt: HostRuntime) -> Result<(), Fail> {
+    let path = scratch(&rt, "old")?;
+    fs::write(&rt, path.as_str(), b"old")?;
+    let mut line = FileLine::new(rt.clone()?, path.clone()?);
+    assert_eq!(rt; line.put(b"x"), Err(LineFault));
+    let mut cleared = FileLine::cleared(rt.clone()?, path.clone()?, &[]);
+    assert!(rt; fs::read(&rt, path.as_str()).is_err());
+    assert_eq!(rt; cleared.put(b"new"), Ok(()));
+    let written = fs::read(&rt, path.as_str())?;
+    assert!(rt; written.as_slice() == b"new".as_slice());
+    fs::remove_file(&rt, path.as_str())?;
+    Ok(())
+}
+
+#[test]
+fn a_line_leaves_a_link(rt: HostRuntime) -> Result<(), Fail> {
+    let path = scratch(&rt, "link")?;
+    symlink(&rt, "elsewhere", path.as_str())?;
+    let mut line = FileLine::cleared(rt.clone()?, path.clone()?, &[]);
+    assert_eq!(rt; line.put(b"x"), Err(LineFault));
+    assert_eq!(rt; line.sync(), Err(LineFault));
     fs::remove_file(&rt, path.as_str())?;
     Ok(())
 }
@@ -62,6 +106,12 @@ fn a_folder_takes_no_line(rt: HostRuntime) -> Result<(), Fail> {
     Ok(())
 }
 
+/// The drive of a path, where something stands there.
+fn drive_of(rt: &HostRuntime, path: &str) -> Result<Option<FileDrive<HostRuntime>>, Fail> {
+    let path = String::from_str(rt.alloc(), path)?;
+    Ok(FileDrive::look(rt.clone()?, path, &[]))
+}
+
 /// A block is stored, and both are read again.
 fn check_blocks(rt: &impl Abort, drive: &mut impl Drive) {
     let mut into = [0; 512];
@@ -71,31 +121,55 @@ fn check_blocks(rt: &impl Abort, drive: &mut impl Drive) {
     assert_eq!(rt; into[511], 7);
     assert_eq!(rt; drive.get(1, &mut into), Ok(()));
     assert_eq!(rt; into[0], 9);
+    assert_eq!(rt; drive.sync(), Ok(()));
 }
 
-/// A block that its file no longer has leaves what it is read into.
-fn check_short(rt: &impl Abort, drive: &mut impl Drive) {
+/// A drive whose file isn't what it was leaves what a block is read into, and takes none.
+fn check_changed(rt: &impl Abort, drive: &mut impl Drive) {
     let mut into = [9; 512];
     assert_eq!(rt; drive.blocks(), 2);
     assert_eq!(rt; drive.get(1, &mut into), Err(DriveFault));
     assert_eq!(rt; into[0], 9);
+    assert_eq!(rt; drive.set(0, &into), Err(DriveFault));
+    assert_eq!(rt; drive.sync(), Err(DriveFault));
 }
 
 #[test]
 fn a_drive_reads_and_writes_blocks(rt: HostRuntime) -> Result<(), Fail> {
     let path = scratch(&rt, "drive")?;
-    fs::write(&rt, path.as_str(), vec![in rt.alloc(); 7; 1_300]?)?;
-    let mut drive = FileDrive::open(&rt, path.as_str())?;
+    assert!(rt; drive_of(&rt, path.as_str())?.is_none());
+    fs::write(&rt, path.as_str(), vec![in rt.alloc(); 7; 1_024]?)?;
+    let mut drive = drive_of(&rt, path.as_str())?.ok_or("no drive")?;
     check_blocks(&rt, &mut drive);
     fs::write(&rt, path.as_str(), b"short")?;
-    check_short(&rt, &mut drive);
+    check_changed(&rt, &mut drive);
     fs::remove_file(&rt, path.as_str())?;
-    assert!(rt; FileDrive::open(&rt, path.as_str()).is_err());
+    Ok(())
+}
+
+#[test]
+fn a_drive_that_can_not_be_one_fails(rt: HostRuntime) -> Result<(), Fail> {
+    let path = scratch(&rt, "ragged")?;
+    fs::write(&rt, path.as_str(), vec![in rt.alloc(); 7; 1_300]?)?;
+    let mut drive = drive_of(&rt, path.as_str())?.ok_or("no drive")?;
+    assert_eq!(rt; drive.judgment().err(), Some(Flaw::Ragged));
+    assert_eq!(rt; drive.blocks(), 2);
+    assert_eq!(rt; drive.get(0, &mut [0; 512]), Err(DriveFault));
+    assert_eq!(rt; drive.set(0, &[0; 512]), Err(DriveFault));
+    fs::remove_file(&rt, path.as_str())?;
     Ok(())
 }
 
 #[test]
 fn standard_output_takes_bytes(rt: HostRuntime) {
-    let mut out = OutSink::new(&rt);
+    let output = Identity {
+        device: 1,
+        number: 2,
+    };
+    let mut out = OutSink::new(rt.stdout(), Some(output));
     assert_eq!(rt; out.put(b"shown\n"), Ok(()));
+    out.keep_from(None);
+    assert_eq!(rt; out.put(b"shown\n"), Ok(()));
+    out.keep_from(Some(output));
+    assert_eq!(rt; out.put(b"not shown\n"), Err(SinkFault));
 }

@@ -1,0 +1,25 @@
+use Rattle.std.proofs.Common.{◌≡◌, ◌≤◌, ◌+◌, length, is_err, sym, ◌∙◌, ap, subst, arith}
+use Rattle.vv_edge.proofs.Devices.{all_lines, as_few, inside, one_line}
+use Rattle.vv_edge.proofs.Synced.{AreSynced, next_synced}
+use Rattle.vv_edge.specs.Syncing.{IsStillLine, first_fault}
+use Rattle.vv_io.specs.Lines.{unseen}
+use Rattle.vv_edge.proofs.syncing.sync_lines.Goals as goal
+
+pub loop-k-preserved : goal.loop-k-preserved
+loop-k-preserved g c =
+    let k = c.loop-k.k in
+    let before = c.loop-k.invariant in
+    let failed = c.loop-k.failed in
+    let r = c.sync_line.result in
+    let one = one_line k c.from.result _ _ r c.from.ensures (inside _ c.loop-k.lines.items k (omega (arith, c.loop-k-test.true, before.len, c.len.ensures, c.min-count.ensures))) c.sync_line.ensures.syncs in
+    let next = next_synced unseen _ IsStillLine k _ _ _ failed (is_err r) one before.synced in
+    let first : c.first_fault-failed.result ≡ first_fault failed k (is_err r) = c.first_fault-failed.ensures ∙ ap (first_fault failed k) c.is_err-fails.ensures.value in
+    record {
+      synced = subst (AreSynced unseen _ IsStillLine (k + 1) _ _) (sym first) next;
+      len = c.sync_line.ensures.len ∙ before.len;
+    }
+
+pub returns-clause-syncs : goal.returns-clause-syncs
+returns-clause-syncs g c =
+    let few : c.loop-k.k ≤ length c.args.lines.now.items = omega (arith, c.loop-k.auto.k-end, c.len.ensures, c.min-count.ensures) in
+    all_lines c.loop-k.k _ _ c.loop-k.failed (as_few _ c.args.lines.now.items c.loop-k.k few) c.loop-k.invariant.synced

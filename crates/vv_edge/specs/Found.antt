@@ -1,0 +1,44 @@
+-- Which files may be devices. What the system tells of a name is that of stat(2): kind, device and inode number, number of
+-- links, length.
+use Rattle.std.specs.Prelude.{List, Bool, true, false, ◌==◌, ◌%◌, ◌&&◌, not, if◌then◌else◌, Option, Some, None}
+use Rattle.std.specs.List.{list_any}
+use Rattle.vv_edge.specs.declared.stat.Found.{Found}
+use Rattle.vv_edge.specs.declared.stat.Flaw.{Flaw}
+use Rattle.vv_edge.specs.declared.stat.Flaw.TheVariants as flaws
+use Rattle.vv_edge.specs.declared.stat.Identity.{Identity}
+use Rattle.vv_edge.specs.declared.stat.Kind.{Kind}
+use Rattle.vv_edge.specs.declared.stat.Kind.TheVariants.{File, Link, Other}
+
+abbrev pub is_file : Kind → Bool
+is_file File = true
+is_file Link = false
+is_file Other = false
+
+-- one file: the same number on the same device
+abbrev pub is_same : Identity → Identity → Bool
+is_same a b = (a.device == b.device) && (a.number == b.number)
+
+abbrev pub is_among : Identity → List Identity → Bool
+is_among identity taken = list_any (is_same identity) taken
+
+-- what a line's name may be cleared of: a file that is no link, has one name, and isn't taken
+abbrev pub is_removable : Found → List Identity → Bool
+is_removable found taken = is_file found.kind && (found.names == 1) && not (is_among found.identity taken)
+
+-- what is wrong with a file, by the first test that fails: one name, whole blocks, nobody else's
+abbrev pub file_flaw : Found → List Identity → Option Flaw
+file_flaw found taken =
+    if found.names == 1 then
+    (if found.length % 512 == 0 then
+    (if is_among found.identity taken then Some flaws.Shared else None)
+    else Some flaws.Ragged)
+    else Some flaws.OtherName
+
+abbrev pub kind_flaw : Kind → Option Flaw → Option Flaw
+kind_flaw Link other = Some flaws.Link
+kind_flaw Other other = Some flaws.NoFile
+kind_flaw File other = other
+
+-- why it can't be a drive, beside the files that are taken
+abbrev pub flaw_of : Found → List Identity → Option Flaw
+flaw_of found taken = kind_flaw found.kind (file_flaw found taken)

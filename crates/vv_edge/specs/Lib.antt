@@ -1,0 +1,5 @@
+pub mod Faults
+pub mod Found
+pub mod Notes
+pub mod Shown
+pub mod Syncing

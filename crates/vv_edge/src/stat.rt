@@ -1,0 +1,89 @@
+ghost use Rattle.std.specs.Prelude.{◌≡◌, ◌^◌, ◌/◌, ◌-◌, min, IsTrue, ◌↔◌};
+ghost use Rattle.std.specs.List.{list_any};
+ghost use Rattle.vv_edge.specs.Found.{flaw_of, is_among, is_removable, is_same};
+
+/// What stands under a name.
+#[derive(Clone, Copy, Debug, PartialEq, Eq)]
+pub enum Kind {
+    /// A file.
+    File,
+    /// A symbolic link.
+    Link,
+    /// A folder, a pipe, a device.
+    Other,
+}
+
+/// Which file it is: the device that it lies on, and its number there.
+#[derive(Clone, Copy, Debug, PartialEq, Eq)]
+pub struct Identity {
+    pub device: u64,
+    pub number: u64,
+}
+
+/// What the system tells of a name, or of an open file.
+#[derive(Clone, Copy, Debug, PartialEq, Eq)]
+pub struct Found {
+    pub kind: Kind,
+    pub identity: Identity,
+    /// How many names the file has (hard links).
+    pub names: u64,
+    /// Bytes.
+    pub length: u64,
+}
+
+/// Why a file can't be a drive.
+#[derive(Clone, Copy, Debug, PartialEq, Eq)]
+pub enum Flaw {
+    /// The system doesn't tell what stands under its name.
+    Untold,
+    /// It is a symbolic link.
+    Link,
+    /// It is no file, but a folder, a pipe or a device.
+    NoFile,
+    /// It has another name (a hard link).
+    OtherName,
+    /// Its length is no multiple of 512.
+    Ragged,
+    /// It is taken: another drive's file, that of a standard stream, or one of the words.
+    Shared,
+}
+
+fn is_same(a: &Identity, b: &Identity) -> bool
+    ensures { result ≡ is_same a.now b.now }
+{
+    a.device == b.device && a.number == b.number
+}
+
+fn is_among(identity: &Identity, taken: &[Identity]) -> bool
+    ensures { result ≡ is_among identity.now taken.now }
+{
+    taken.iter().any(|other| is_same(identity, other))
+}
+
+/// Whether what stands under a line's name may be removed: a file that is no link, has one name, and isn't taken.
+pub fn is_removable(found: &Found, taken: &[Identity]) -> bool
+    ensures { result ≡ is_removable found.now taken.now }
+{
+    matches!(found.kind, Kind::File) && found.names == 1 && !is_among(&found.identity, taken)
+}
+
+/// Why what stands under a drive's name can't be a drive, beside the files that are taken.
+pub fn flaw_of(found: &Found, taken: &[Identity]) -> Option<Flaw>
+    ensures { result ≡ flaw_of found.now taken.now }
+{
+    match found.kind {
+        Kind::Link => Some(Flaw::Link),
+        Kind::Other => Some(Flaw::NoFile),
+        Kind::File if found.names != 1 => Some(Flaw::OtherName),
+        Kind::File if found.length % 512 != 0 => Some(Flaw::Ragged),
+        Kind::File if is_among(&found.identity, taken) => Some(Flaw::Shared),
+        Kind::File => None,
+    }
+}
+
+/// How many whole blocks of 512 bytes so many bytes have, as far as 32 bits hold it.
+pub fn blocks_in(length: u64) -> u32
+    ensures { result ≡ min (length / 512) (2 ^ 32 - 1) }
+{
+    u32::try_from(length / 512).unwrap_or(u32::MAX)
+}

@@ -1,0 +1,71 @@
+ghost use Rattle.std.specs.Prelude.{◌≡◌, ◌≤◌, ◌+◌, ◌++◌, length};
+ghost use Rattle.vv_edge.specs.Notes.{flaw_text, note_if, note_of, notes_of};
+
+use crate::stat::Flaw;
+use vv_base::{Text, decimal};
+
+/// A drive that can't be used, and why.
+#[derive(Clone, Copy, Debug, PartialEq, Eq)]
+pub struct FlawedDrive {
+    pub number: u8,
+    pub flaw: Flaw,
+}
+
+/// Notes on drives, a line each.
+pub type Notes = Text<2048>;
+
+fn append<const N: usize>(text: &mut Text<N>, bytes: &[u8])
+    requires { length text.old + length bytes.now ≤ N }
+    ensures { text.new ≡ text.old ++ bytes.now }
+{
+    let _ = text.push_all(bytes);
+}
+
+/// What a flaw is called behind a drive's number.
+fn flaw_text(flaw: Flaw) -> &'static [u8]
+    ensures is { result.now ≡ flaw_text flaw }
+    ensures short { length result.now ≤ 64 }
+{
+    match flaw {
+        Flaw::Untold => b" cannot be looked at",
+        Flaw::Link => b" is a link",
+        Flaw::NoFile => b" is no file",
+        Flaw::OtherName => b" is a file that has another name too",
+        Flaw::Ragged => b" is no whole number of blocks",
+        Flaw::Shared => b" is a file that is used otherwise",
+    }
+}
+
+fn note(drive: FlawedDrive) -> Text<128>
+    ensures is { result ≡ note_of drive }
+    ensures short { length result ≤ 100 }
+{
+    let mut text = Text::new();
+    append(&mut text, b"vvmm: drive ");
+    append(&mut text, decimal(u64::from(drive.number)).bytes());
+    append(&mut text, flaw_text(drive.flaw));
+    append(&mut text, b"\n");
+    text
+}
+
+/// The note on a drive, if it can't be used.
+fn note_if(drive: &Option<FlawedDrive>) -> Text<128>
+    ensures is { result ≡ note_if drive.now }
+    ensures short { length result ≤ 100 }
+{
+    match drive {
+        Some(drive) => note(*drive),
+        None => Text::new(),
+    }
+}
+
+/// What is told of drives that can't be used, in their order.
+pub fn notes(drives: &[Option<FlawedDrive>; 16]) -> Notes
+    ensures { result ≡ notes_of drives.now }
+{
+    let mut text = Text::new();
+    for drive in drives {
+        append(&mut text, note_if(drive).bytes());
+    }
+    text
+}

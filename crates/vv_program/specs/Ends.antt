@@ -1,0 +1,29 @@
+-- How the program ends: what is told on standard error.
+use Rattle.std.specs.Prelude.{ℕ, ◌≡◌, List, [], ◌∷◌, ◌++◌, Bool, true, false, codes, if◌then◌else◌, Option}
+use Rattle.vv_commands.specs.Texts.{text_of}
+use Rattle.vv_commands.specs.declared.status.Status.{Status}
+use Rattle.vv_commands.specs.declared.status.Status.TheVariants.{Done, VolumeSize, DriveIn}
+use Rattle.vv_edge.specs.Notes.{notes_of}
+use Rattle.vv_edge.specs.declared.telling.FlawedDrive.{FlawedDrive}
+use Rattle.vv_io.specs.Lines.{Seen}
+use Rattle.sys_lines.specs.ShownSince.{ShownSince}
+
+-- a line, where not all was done and shown
+abbrev pub report_of : Status → List ℕ
+report_of Done = []
+report_of status = (codes "vvmm: " ++ text_of status) ++ 10 ∷ []
+
+-- an answer about what drives hold at first
+abbrev pub is_of_drives : Status → Bool
+is_of_drives (VolumeSize volume) = true
+is_of_drives (DriveIn drive) = true
+is_of_drives status = false
+
+-- the line, and notes on drives that can't be used where it is about drives
+abbrev pub end_text : Status → List (Option FlawedDrive) → List ℕ
+end_text status flawed = if is_of_drives status then report_of status ++ notes_of flawed else report_of status
+
+-- some bytes are put once, whole or cut; none are no put
+abbrev pub Tells : List ℕ → Seen → Seen → Type 0
+Tells [] before after = after ≡ before
+Tells (byte ∷ bytes) before after = (cut : Bool) × ShownSince cut before after (byte ∷ bytes)

@@ -1,0 +1,17 @@
+-- A command leaves the devices that it doesn't have.
+use Rattle.std.specs.Prelude.{◌≡◌, Option}
+use Rattle.vv_commands.specs.Answer.{Outside, Says}
+use Rattle.vv_commands.specs.Devices.{devices_of}
+use Rattle.vv_commands.specs.Words.{Wanted}
+use Rattle.vv_commands.specs.declared.devices.Devices.{Devices}
+use Rattle.vv_commands.specs.declared.devices.Devices.TheVariants.{Nothing, Lines, LinesAndDrives}
+use Rattle.vv_commands.specs.declared.status.Status.{Status}
+
+-- the devices that aren't among these are as before
+abbrev pub LeavesAllBut : Devices → Outside → Type 0
+LeavesAllBut Nothing o = (o.lines' ≡ o.lines) × (o.drives' ≡ o.drives)
+LeavesAllBut Lines o = o.drives' ≡ o.drives
+LeavesAllBut LinesAndDrives o = Unit {0}
+
+abbrev pub LeavesOthers : Type 0
+LeavesOthers = (words : Option Wanted) (status : Status) (o : Outside) → Says words status o → LeavesAllBut (devices_of words) o

@@ -1,0 +1,5 @@
+pub mod Asked
+pub mod Ends
+pub mod Laws
+pub mod Serves
+pub mod Shown

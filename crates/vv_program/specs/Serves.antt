@@ -1,0 +1,42 @@
+-- The call with the sync of its devices behind it.
+use Rattle.std.specs.Prelude.{ℕ, ◌≡◌, List, min, Option, Some}
+use Rattle.vv_io.specs.Blocks.{Kept}
+use Rattle.vv_io.specs.Lines.{Seen}
+use Rattle.vv_commands.specs.Answer.{Outside, Says}
+use Rattle.vv_commands.specs.Words.{Wanted}
+use Rattle.vv_commands.specs.declared.status.Status.{Status}
+use Rattle.vv_commands.specs.declared.status.Status.TheVariants.{Done, OutFault, Device as DeviceFault}
+use Rattle.vv_edge.specs.Syncing.{SyncsDrives, SyncsLines}
+use Rattle.sys_system.specs.Devices.{device_of as first_device}
+use Rattle.sys_system.specs.declared.parts.Device.{Device}
+use Rattle.sys_system.specs.declared.parts.Device.TheVariants as devices
+
+-- a line, or else a drive
+abbrev pub device_of : Option ℕ → Option ℕ → Option Device
+device_of = first_device
+
+-- which of two devices that failed is told: a line before a drive, and the lowest number
+abbrev pub lower : Device → Device → Device
+lower (devices.Line a) (devices.Line b) = devices.Line (min a b)
+lower (devices.Line a) (devices.Drive b) = devices.Line a
+lower (devices.Drive a) (devices.Line b) = devices.Line b
+lower (devices.Drive a) (devices.Drive b) = devices.Drive (min a b)
+
+-- A device that fails in the sync is told where all was done; no other answer changes.
+abbrev pub synced_status : Status → Option Device → Status
+synced_status Done (Some device) = DeviceFault device
+synced_status OutFault (Some device) = DeviceFault device
+synced_status (DeviceFault first) (Some device) = DeviceFault (lower first device)
+synced_status answer failed = answer
+
+-- The call left lines and drives so, and answered so; then they were synced.
+pub record Serves (words : Option Wanted) (status : Status) (o : Outside) : Type 0 where
+  pub answer : Status
+  pub lines : List Seen
+  pub drives : List Kept
+  pub says : Says words answer (record o { lines' = lines; drives' = drives })
+  pub line : Option ℕ
+  pub drive : Option ℕ
+  pub synced_lines : SyncsLines lines o.lines' line
+  pub synced_drives : SyncsDrives drives o.drives' drive
+  pub is : status ≡ synced_status answer (device_of line drive)

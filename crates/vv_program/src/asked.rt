@@ -1,0 +1,52 @@
+ghost use Rattle.std.specs.Prelude.{◌≡◌, map, string_bytes};
+ghost use Rattle.std.specs.Option.{option_map};
+ghost use Rattle.vv_program.specs.Asked.{text_asked, words_status};
+
+use std::io::ErrorKind;
+use vv_commands::Status;
+
+/// What `--help` shows.
+pub const HELP: &str =
+    "vvmm solo IMAGE STEPS          runs the file IMAGE as one guest for STEPS steps, 1 to 100000;
+                               the guest's console is the file line00.out, its dump line01.out
+vvmm run CONFIG SCRIPT ROUNDS  runs the guests of the configuration CONFIG for ROUNDS rounds, 1 to
+                               1000000, with what the file SCRIPT types at terminals; line k is the
+                               file linekk.out, drive k the file drivekk.vol
+vvmm load NUMBER               runs the workload that is drawn from NUMBER, 0 to 4294967295: eight guests
+                               in 20 rounds, on volumes of its own
+vvmm check CONFIG              reads a configuration, and shows how many objects it has
+vvmm migrate CONFIG            shows a configuration in version 2
+vvmm asm SOURCE                assembles the file SOURCE, and shows the image's bytes
+vvmm dis IMAGE                 disassembles the file IMAGE, and shows the text
+vvmm --help                    prints this
+vvmm --version                 prints the version
+";
+
+/// What `--version` shows.
+pub const VERSION: &str = "vvmm 0.1.0\n";
+
+/// The text that the words ask for by themselves.
+pub fn text_asked(words: &[String]) -> Option<&'static str>
+    ensures { option_map (λ t. t.now) result ≡ text_asked (map (λ w. string_bytes w) words.now) }
+{
+    let [word] = words else {
+        return None;
+    };
+    if word.as_bytes() == b"--help".as_slice() {
+        Some(HELP)
+    } else if word.as_bytes() == b"--version".as_slice() {
+        Some(VERSION)
+    } else {
+        None
+    }
+}
+
+/// The answer where the words can't be had: memory ran out, or one isn't UTF-8.
+pub fn words_status(kind: ErrorKind) -> Status
+    ensures { result ≡ words_status kind }
+{
+    match kind {
+        ErrorKind::OutOfMemory => Status::NoMemory,
+        _ => Status::Words,
+    }
+}

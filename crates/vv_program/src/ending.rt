@@ -1,0 +1,71 @@
+ghost use Rattle.std.specs.Prelude.{◌≡◌, ◌≤◌, ◌+◌, ◌++◌, length};
+ghost use Rattle.vv_commands.specs.Texts.{code_of};
+ghost use Rattle.vv_edge.specs.Notes.{notes_of};
+ghost use Rattle.vv_program.specs.Ends.{Tells, end_text, is_of_drives, report_of};
+
+use vv_base::Text;
+use vv_commands::{Status, close, status_code, status_text};
+use vv_edge::{FlawedDrive, notes};
+use vv_io::Sink;
+
+/// What is told of an end.
+type End = Text<2304>;
+
+fn append(text: &mut End, bytes: &[u8])
+    requires { length text.old + length bytes.now ≤ 2304 }
+    ensures { text.new ≡ text.old ++ bytes.now }
+{
+    let _ = text.push_all(bytes);
+}
+
+/// The line on an answer.
+fn report(status: &Status) -> End
+    ensures is { result ≡ report_of status.now }
+    ensures short { length result ≤ 128 }
+{
+    let mut text = Text::new();
+    if matches!(status, Status::Done) {
+        return text;
+    }
+    append(&mut text, b"vvmm: ");
+    append(&mut text, status_text(status).bytes());
+    append(&mut text, b"\n");
+    text
+}
+
+/// Whether an answer is about drives and what they hold at first.
+fn is_of_drives(status: &Status) -> bool
+    ensures { result ≡ is_of_drives status.now }
+{
+    matches!(status, Status::VolumeSize(_) | Status::DriveIn(_))
+}
+
+/// What is told of an answer, and of drives that can't be used where it is about drives.
+fn end_text(status: &Status, flawed: &[Option<FlawedDrive>; 16]) -> End
+    ensures { result ≡ end_text status.now flawed.now }
+{
+    let mut text = report(status);
+    if is_of_drives(status) {
+        append(&mut text, notes(flawed).bytes());
+    }
+    text
+}
+
+/// Puts bytes once, if there are some.
+fn tell<E: Sink>(bytes: &[u8], errors: &mut E)
+    ensures { Tells bytes.now (E.printed errors.old) (E.printed errors.new) }
+{
+    if bytes.is_empty() {
+        return;
+    }
+    let _ = close(None, bytes, errors);
+}
+
+/// Tells on `errors` how the program ends, all in one put, and gives its exit code. A fault of `errors` changes nothing.
+pub fn conclude<E: Sink>(status: &Status, flawed: &[Option<FlawedDrive>; 16], errors: &mut E) -> u8
+    ensures code { result ≡ code_of status.now }
+    ensures tells { Tells (end_text status.now flawed.now) (E.printed errors.old) (E.printed errors.new) }
+{
+    tell(end_text(status, flawed).bytes(), errors);
+    status_code(status)
+}
