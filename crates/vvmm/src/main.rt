@@ -16,7 +16,7 @@ use vax_cpu::Cpu;
 use vv_base::NoMemory;
 pub use vv_commands::vvmm_run;
 use vv_commands::{Devices, Status, close, devices_of};
-use vv_edge::{Flaw, FlawedDrive, Identity};
+use vv_edge::{FlawedDrive, Identity};
 use vv_io::{Drive, EmptyDrive, Line};
 use vv_program::{conclude, serve, text_asked, words_status};
 
@@ -78,16 +78,38 @@ fn taken_at_first(
     Ok(taken)
 }
 
-/// The file of a drive's name, where the command has drives and something stands there. It is taken then, or flawed.
-fn look(
+/// The line of a number. Where the command has lines, the file of an earlier run goes.
+fn line_of(
     rt: &HostRuntime,
     number: u8,
-    path: String,
+    devices: Devices,
+    taken: &[Identity],
+    streams: &mut Streams,
+) -> Result<FileLine<HostRuntime>, NoMemory> {
+    let path = format!(in rt.alloc(); "line{number:02}.out")?;
+    if devices == Devices::Nothing {
+        return Ok(FileLine::new(rt.clone()?, path));
+    }
+    streams.keep_from(identity_of(rt, path.as_str()));
+    Ok(FileLine::cleared(rt.clone()?, path, taken))
+}
+
+/// The drive of a number, where the command has drives and something stands under its name. Its file is taken then, or flawed.
+fn drive_of(
+    rt: &HostRuntime,
+    number: u8,
+    devices: Devices,
     taken: &mut Vec<Identity>,
     flawed: &mut Flawed,
+    streams: &mut Streams,
 ) -> Result<Option<FileDrive<HostRuntime>>, NoMemory>
     requires { number < 16 }
 {
+    if devices != Devices::LinesAndDrives {
+        return Ok(None);
+    }
+    let path = format!(in rt.alloc(); "drive{number:02}.vol")?;
+    streams.keep_from(identity_of(rt, path.as_str()));
     let looked = FileDrive::look(rt.clone()?, path, taken.as_slice());
     if let Some(drive) = &looked {
         match drive.judgment() {
@@ -111,32 +133,18 @@ fn run(
     let mut machine = Cpu::new(alloc, PAGES)?;
     let mut lines: Vec<Box<dyn Line>> = Vec::new(alloc);
     for number in 0..32u8 {
-        let path = format!(in alloc; "line{number:02}.out")?;
-        let line = match devices {
-            Devices::Nothing => FileLine::new(rt.clone()?, path),
-            _ => {
-                streams.keep_from(identity_of(rt, path.as_str()));
-                FileLine::cleared(rt.clone()?, path, &taken)
-            }
-        };
+        let line = line_of(rt, number, devices, &taken, streams)?;
         lines.push(Box::new(alloc, line)?)?;
     }
     let mut drives: Vec<Box<dyn Drive>> = Vec::new(alloc);
     for number in 0..16u8 {
-        let path = format!(in alloc; "drive{number:02}.vol")?;
-        let looked = match devices {
-            Devices::LinesAndDrives => {
-                streams.keep_from(identity_of(rt, path.as_str()));
-                look(rt, number, path, &mut taken, flawed)?
-            }
-            _ => None,
-        };
-        match looked {
+        match drive_of(rt, number, devices, &mut taken, flawed, streams)? {
             Some(drive) => drives.push(Box::new(alloc, drive)?)?,
             None => drives.push(Box::new(alloc, EmptyDrive)?)?,
         }
     }
     let mut shelf = FileShelf::new(rt);
+    let out = &mut streams.out;
     Ok(serve(
         alloc,
         words,
@@ -144,7 +152,7 @@ fn run(
         &mut machine,
         &mut lines,
         &mut drives,
-        &mut streams.out,
+        out,
     ))
 }
 

@@ -1,10 +1,9 @@
 use super::*;
-use std::os::unix::fs::{MetadataExt, symlink};
 use std::process::Abort;
 use std::test::Fail;
 use std::{env, fs, process};
 use vv_base::{FileName, file_name};
-use vv_edge::{Flaw, Identity};
+use vv_edge::Identity;
 use vv_io::{Drive, DriveFault, Line, LineFault, Shelf, ShelfFault, Sink, SinkFault};
 
 /// A path of this process in the system's folder for files that don't last.
@@ -43,18 +42,6 @@ fn a_shelf_refuses_a_file_that_is_too_long(rt: HostRuntime) -> Result<(), Fail> 
 }
 
 #[test]
-fn a_shelf_fails_at_a_folder(rt: HostRuntime) {
-    let mut shelf = FileShelf::new(&rt);
-    let folder = shelf.fetch(rt.alloc(), &named("/"));
-    assert_eq!(rt; folder.err(), Some(ShelfFault::Failed));
-}
-
-/// Who may do what with a file.
-fn rights(rt: &HostRuntime, path: &str) -> Result<u32, Fail> {
-    Ok(fs::metadata(rt, path)?.mode() & 0o777)
-}
-
-#[test]
 fn a_line_writes_a_file(rt: HostRuntime) -> Result<(), Fail> {
     let path = scratch(&rt, "line")?;
     let mut line = FileLine::new(rt.clone()?, path.clone()?);
@@ -66,35 +53,8 @@ fn a_line_writes_a_file(rt: HostRuntime) -> Result<(), Fail> {
     assert_eq!(rt; line.sync(), Ok(()));
     let written = fs::read(&rt, path.as_str())?;
     assert!(rt; written.as_slice() == b"one two".as_slice());
-    assert_eq!(rt; rights(&rt, path.as_str())?, 0o600);
     fs::remove_file(&rt, path.as_str())?;
     assert_eq!(rt; line.sync(), Err(LineFault));
-    Ok(())
-}
-
-#[test]
-fn a_line_never_writes_what_stands_there(rt: HostRuntime) -> Result<(), Fail> {
-    let path = scratch(&rt, "old")?;
-    fs::write(&rt, path.as_str(), b"old")?;
-    let mut line = FileLine::new(rt.clone()?, path.clone()?);
-    assert_eq!(rt; line.put(b"x"), Err(LineFault));
-    let mut cleared = FileLine::cleared(rt.clone()?, path.clone()?, &[]);
-    assert!(rt; fs::read(&rt, path.as_str()).is_err());
-    assert_eq!(rt; cleared.put(b"new"), Ok(()));
-    let written = fs::read(&rt, path.as_str())?;
-    assert!(rt; written.as_slice() == b"new".as_slice());
-    fs::remove_file(&rt, path.as_str())?;
-    Ok(())
-}
-
-#[test]
-fn a_line_leaves_a_link(rt: HostRuntime) -> Result<(), Fail> {
-    let path = scratch(&rt, "link")?;
-    symlink(&rt, "elsewhere", path.as_str())?;
-    let mut line = FileLine::cleared(rt.clone()?, path.clone()?, &[]);
-    assert_eq!(rt; line.put(b"x"), Err(LineFault));
-    assert_eq!(rt; line.sync(), Err(LineFault));
-    fs::remove_file(&rt, path.as_str())?;
     Ok(())
 }
 
@@ -143,19 +103,6 @@ fn a_drive_reads_and_writes_blocks(rt: HostRuntime) -> Result<(), Fail> {
     check_blocks(&rt, &mut drive);
     fs::write(&rt, path.as_str(), b"short")?;
     check_changed(&rt, &mut drive);
-    fs::remove_file(&rt, path.as_str())?;
-    Ok(())
-}
-
-#[test]
-fn a_drive_that_can_not_be_one_fails(rt: HostRuntime) -> Result<(), Fail> {
-    let path = scratch(&rt, "ragged")?;
-    fs::write(&rt, path.as_str(), vec![in rt.alloc(); 7; 1_300]?)?;
-    let mut drive = drive_of(&rt, path.as_str())?.ok_or("no drive")?;
-    assert_eq!(rt; drive.judgment().err(), Some(Flaw::Ragged));
-    assert_eq!(rt; drive.blocks(), 2);
-    assert_eq!(rt; drive.get(0, &mut [0; 512]), Err(DriveFault));
-    assert_eq!(rt; drive.set(0, &[0; 512]), Err(DriveFault));
     fs::remove_file(&rt, path.as_str())?;
     Ok(())
 }
