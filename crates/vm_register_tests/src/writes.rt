@@ -117,6 +117,36 @@ fn numbers_of_none(rt: HostRuntime) -> Result<(), Fail> {
     Ok(())
 }
 
+/// SIRR sets its level beside those that are set; SISR puts other levels in their place.
+#[test]
+fn software_levels(rt: HostRuntime) -> Result<(), Fail> {
+    for case in &SOFTWARE_LEVELS {
+        assert_eq!(rt; case.difference(rt.alloc(), false)?, None, "{}", case.name);
+    }
+    Ok(())
+}
+
+static SOFTWARE_LEVELS: [Case; 2] = [
+    // MTPR #3, #SIRR, where level 1 is requested
+    Case {
+        name: "SIRR",
+        code: &[0xDA, 0x03, 0x14],
+        before: &[(Psl, 0x001F_0000), (Sisr, 2)],
+        kinds: SENSITIVE,
+        after: &[(R(15), 0x203), (Sisr, 0xA)],
+        ..CASE
+    },
+    // MTPR #4, #SISR, where level 3 is requested
+    Case {
+        name: "SISR",
+        code: &[0xDA, 0x04, 0x15],
+        before: &[(Psl, 0x001F_0000), (Sisr, 8)],
+        kinds: SENSITIVE,
+        after: &[(R(15), 0x203), (Sisr, 4)],
+        ..CASE
+    },
+];
+
 static TAKEN: [Write; 57] = [
     // KSP is R14 in kernel mode; the other stacks have their registers.
     (0, 0x2800, 0x001F_0001, &[(R(14), 0x2800)]),

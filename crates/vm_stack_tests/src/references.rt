@@ -1,7 +1,7 @@
 //! References that the guest's tables refuse, by each rule of the walk: the parameter and the address, or a stop.
 
 use std::test::Fail;
-use vm_stage::Place::{IsStopped, Long, Mapen, P0br, Psl, R, Stack, StopCode};
+use vm_stage::Place::{IsStopped, Long, Mapen, P0br, P0lr, Psl, R, Sbr, Stack, StopCode};
 use vm_stage::{CASE, Case, FAULT, PLAIN};
 
 /// All is as told, in one call and step by step.
@@ -38,7 +38,7 @@ const STORE: Case = Case {
     ..LOAD
 };
 
-static CASES: [Case; 19] = [
+static CASES: [Case; 21] = [
     // The entry of the page at 1000 would be at 80008020, beyond the system's length: bits 0 and 1.
     Case {
         name: "the table beyond the system's length",
@@ -114,6 +114,30 @@ static CASES: [Case; 19] = [
         before: &[(Long(0x4084), 0xA400_0040)],
         after: &[(IsStopped, 1), (StopCode, 0x10)],
         shown: b"?10 80000200\r\n",
+        ..LOAD
+    },
+    // The code's page is 1, and its entry's place is FFFFFFFC and 4: 2^32, and not 0.
+    Case {
+        name: "the system's entry beyond memory, at 2^32",
+        before: &[(Sbr, 0xFFFF_FFFC)],
+        after: &[(IsStopped, 1), (StopCode, 0x10)],
+        shown: b"?10 80000200\r\n",
+        ..LOAD
+    },
+    // The system's page 0, whose entry is the last longword, has the P0 table's first 128 entries; the next is in page 1.
+    Case {
+        name: "the table's own entry beyond memory",
+        before: &[
+            (Sbr, 0x7FFC),
+            (Long(0x7FFC), 0xA400_0021),
+            (P0br, 0x8000_0000),
+            (P0lr, 0x81),
+            (R(14), 0x3000),
+            (R(15), 0x200),
+            (R(1), 0x1_0000),
+        ],
+        after: &[(IsStopped, 1), (StopCode, 0x10)],
+        shown: b"?10 00000200\r\n",
         ..LOAD
     },
     Case {

@@ -267,7 +267,37 @@ static LOW_BITS: [Case; 16] = [
     },
 ];
 
-static NOT_VALID: [Case; 15] = [
+static NOT_VALID: [Case; 17] = [
+    // A stack needn't be aligned: the PSL is pushed at 2FFE, the PC at 2FFA.
+    Case {
+        name: "a stack that is not aligned",
+        code: &[0x03],
+        before: &[(Psl, 0x0003_0000), (R(14), 0x3002), (Long(0x442C), 0x1F00)],
+        kinds: FAULT,
+        after: &[
+            (R(14), 0x2FFA),
+            (R(15), 0x1F00),
+            (Stack(0), 0x3002),
+            (Long(0x2FF8), 0x0200_0000),
+            (Long(0x3000), 3),
+        ],
+        ..CASE
+    },
+    // The first place, in page 18, lies beyond memory; the second, in page 17, isn't valid.
+    Case {
+        name: "kernel stack beyond memory, then not valid",
+        mapped: true,
+        code: &[0x03],
+        before: &[
+            (R(14), 0x8000_3004),
+            (Long(0x4060), 0xA400_0040),
+            (Long(0x405C), 0x2400_0017),
+        ],
+        kinds: FAULT,
+        after: &[(IsStopped, 1), (StopCode, 0x10)],
+        shown: b"?10 00000200\r\n",
+        ..CASE
+    },
     // The kernel stack isn't valid: vector 08, on the interrupt stack, at IPL 31.
     Case {
         name: "kernel stack not valid",
