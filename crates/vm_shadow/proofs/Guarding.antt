@@ -117,6 +117,7 @@ pub closes_same : (m : Machine) (s : Shadowed) (n : ℕ) → is_modified (real_a
 closes_same m s n off = record {
   keeps = λ pending opened k. record { fits = k.fits; entries = k.entries; writes = k.writes; guarded = λ i j h c o v x. k.guarded i j h c (still_opened n opened j (λ same. true≢false (sym x ∙ subst (λ y. is_modified (real_at m.memory s y) ≡ false) (sym same) off)) o) v x };
   closes = off;
+  others = λ k differ. refl;
   only = only_none s.at m;
 }
 
@@ -126,6 +127,7 @@ closes_now m s n f h on =
     record {
       keeps = λ pending opened k. (closed pending opened (closed_for n opened) m.memory _ s n k h on (λ j differ o. still_opened n opened j differ o) w).0;
       closes = ap is_modified w.is ∙ one_clear (real_at m.memory s n) on;
+      others = λ k differ. long_kept m.memory _ (entry_place s.at n) (real_at m.memory s n - 2 ^ 26) (entry_place s.at k) w (places_apart s.at n k (λ e. differ (sym e)));
       only = only_more s.at m m (entry_place s.at n) _ f.room (place_within s.at n h) (only_none s.at m);
     }
 

@@ -9,6 +9,8 @@ pub mod Stored
 pub mod Scanning
 pub mod Closing
 pub mod Flagging
+pub mod Sets
+pub mod Remembering
 pub mod Noting
 pub mod Protecting
 pub mod Covering

@@ -1,14 +1,15 @@
 -- New real tables.
-use Rattle.std.proofs.Common.{◌≡◌, ◌≢◌, ℕ, zero, suc, slice_index_or, ◌==◌, ◌+◌, ◌*◌, ◌/◌, ◌%◌, ◌^◌, ◌<◌, ◌≤◌, ◌⊎◌, inl, inr, Bool, true, false, ◌&&◌, List, [], ◌∷◌, length, replicate, All, Option, None, refl, ap, ◌∙◌, sym, subst, arith}
+use Rattle.std.proofs.Common.{◌≡◌, ◌≢◌, ℕ, ◌==◌, ◌+◌, ◌*◌, ◌/◌, ◌%◌, ◌^◌, ◌<◌, ◌≤◌, ◌⊎◌, inl, inr, Bool, true, false, ◌&&◌, List, [], ◌∷◌, length, replicate, All, Option, None, refl, ap, ◌∙◌, sym, subst, arith}
 use Rattle.std.proofs.lemmas.Bool.{and_parts, cases_eq, cases_lt, eqb-true, false≢true, leb-true}
 use Rattle.std.proofs.lemmas.List.Elements.{All-cons, All-nil}
-use Rattle.std.proofs.lemmas.List.{get_or-replicate, length-replicate}
+use Rattle.std.proofs.lemmas.List.{length-replicate}
 use Rattle.vax_hw.specs.Machine.{Machine}
 use Rattle.vm_slots.specs.Held.{AreSlots, Held, contexts_of}
 use Rattle.vm_slots.specs.declared.context.Context.{Context}
 use Rattle.vm_shadow.specs.Calls.{Clears, Maps, OnlyTables}
 use Rattle.vm_shadow.specs.Layout.{all_entries, empty_entry, entry_place, kernel_entry}
 use Rattle.vm_shadow.specs.Stands.{CanStand, Fits, IsFirst, IsKept, Shadowed, in_context, is_read_from, own, read_at, real_at, seen_at}
+use Rattle.vm_shadow.specs.Marks.{AreEmpty}
 use Rattle.vm_shadow.specs.StandsFor.{Makes}
 use Rattle.vm_shadow.specs.declared.source.Source.{Source}
 use Rattle.vm_state.specs.Allowed.{AreAllowed}
@@ -72,26 +73,15 @@ can_stand size s a = record {
   slr = leb-true s.tables.slr 8192 a.slr;
 }
 
-no_source : Option Source
-no_source = None
-
-past_end : {X : Type 0} (xs : List X) (k : ℕ) (d : X) → length xs ≤ k → slice_index_or xs k d ≡ d
-past_end [] k d h = refl
-past_end (x ∷ xs) zero d h = absurd (omega arith)
-past_end (x ∷ xs) (suc k) d h = past_end xs k d (omega arith)
-
-all_same : {X : Type 0} (n k : ℕ) (x : X) → slice_index_or (replicate n x) k x ≡ x
-all_same n k x = split (cases_lt k n) (λ h. get_or-replicate n k x x h) (λ h. past_end (replicate n x) k x (omega (arith, length-replicate n x)))
-
 -- what was written for a guest is its shadow's
 pub makes : (g : GuestState) (at slot : ℕ) (held : Held) (reads : List (Option Source)) (consulted writable : List Bool) (m m1 m2 : Machine) → length m.memory ≤ 33554432 → 512 * (g.base + g.pages) ≤ length m.memory → 512 * (at + 580) ≤ length m.memory → (g.base + g.pages ≤ at) ⊎ (at + 580 ≤ g.base) → g.pages ≤ 2048 → AreAllowed (512 * g.pages) (state_of g) →
-    reads ≡ replicate all_entries None → consulted ≡ replicate g.pages false → writable ≡ replicate g.pages false → held ≡ (context_of (tables_of g), slot) ∷ [] → AreSlots held → Maps at 512 m m1 → Clears at all_entries m1 m2 →
+    AreEmpty reads → consulted ≡ replicate g.pages false → writable ≡ replicate g.pages false → held ≡ (context_of (tables_of g), slot) ∷ [] → AreSlots held → Maps at 512 m m1 → Clears at all_entries m1 m2 →
     Makes g at m m2 (record { pages = g.pages; base = g.base; at = at; told = tables_of g; slot = slot; held = held; reads = reads; consulted = consulted; writable = writable })
 makes g at slot held reads consulted writable m m1 m2 few partition room apart small allowed reads_is consulted_is writable_is held_is slots maps clears =
     let s : Shadowed = record { pages = g.pages; base = g.base; at = at; told = tables_of g; slot = slot; held = held; reads = reads; consulted = consulted; writable = writable } in
     let size : length m2.memory ≡ length m.memory = clears.only.tables.size ∙ maps.only.tables.size in
     let can = can_stand (512 * g.pages) (state_of g) allowed in
-    let empty : (n : ℕ) → read_at s n ≡ None = λ n. ap (λ r. slice_index_or r n None) reads_is ∙ all_same all_entries n None in
+    let empty : (n : ℕ) → read_at s n ≡ None = reads_is.empty in
     let clear : (n : ℕ) → n < all_entries → real_at m2.memory s n ≡ empty_entry = λ n h. clears.cleared n h in
     let fits : Fits m2.memory s = record {
       few = omega (arith, size);
@@ -104,7 +94,7 @@ makes g at slot held reads consulted writable m m1 m2 few partition room apart s
       slots = slots;
       first = subst (IsFirst (context_of (tables_of g)) slot) (sym held_is) (refl, refl);
       system = λ j h. clears.stay j h ∙ maps.mapped j h;
-      whole = ap length reads_is ∙ length-replicate all_entries no_source;
+      whole = reads_is.whole;
       consulted = ap length consulted_is ∙ length-replicate g.pages false;
       writable = ap length writable_is ∙ length-replicate g.pages false;
       consults = λ n frame h e. ap (is_read_from frame) (empty n);

@@ -7,6 +7,7 @@ use Rattle.vax_hw.specs.Machine.{Machine}
 use Rattle.vm_shadow.specs.Layout.{all_entries, empty_entry, entry_place}
 use Rattle.vm_shadow.specs.Stands.{Keeps, Shadowed}
 use Rattle.vm_shadow.specs.Calls.{Drops, OnlyTables, is_between, is_dropped, remembered, unless_dropped}
+use Rattle.vm_shadow.specs.Marks.{IsPast}
 use Rattle.vm_shadow.specs.declared.source.Source.{Source}
 use Rattle.vm_shadow.specs.declared.scans.Dropped.{Dropped}
 use Rattle.vm_shadow.proofs.Places.{LiesWithin, place_within, split}
@@ -78,14 +79,19 @@ between_other first n k differ = ap (λ b. nat_le first k && b) (split (cases_lt
 still : (at first n : ℕ) (which : Dropped) (m m' : Machine) (reads reads' : List (Option Source)) → Drops at first n which m reads m' reads' → remembered reads' n ≡ remembered reads n
 still at first n which m m' reads reads' d = d.each n ∙ ap (λ b. unless_dropped (b && is_dropped which (remembered reads n)) (remembered reads n)) (between_here first n)
 
-pub drops_past : (at first n : ℕ) (which : Dropped) (m m' : Machine) (reads reads' : List (Option Source)) → first ≤ n → is_dropped which (remembered reads' n) ≡ false → Drops at first n which m reads m' reads' → Drops at first (n + 1) which m reads m' reads'
-drops_past at first n which m m' reads reads' order no_ d = record {
+-- entries that aren't to be dropped are passed
+pub drops_more : (at first n end : ℕ) (which : Dropped) (m m' : Machine) (reads reads' : List (Option Source)) → IsPast which reads' n end → Drops at first n which m reads m' reads' → Drops at first end which m reads m' reads'
+drops_more at first n end which m m' reads reads' past d = record {
   only = d.only;
   whole = d.whole;
   keeps = d.keeps;
-  each = λ k. split (cases_eq k n)
-      (λ e. rw e (still at first n which m m' reads reads' d ∙ sym (ap (λ b. unless_dropped b (remembered reads n)) (ap (λ b. b && is_dropped which (remembered reads n)) (between_next first n order) ∙ subst (λ x. is_dropped which x ≡ false) (still at first n which m m' reads reads' d) no_))))
-      (λ differ. d.each k ∙ sym (ap (λ b. unless_dropped (b && is_dropped which (remembered reads k)) (remembered reads k)) (between_other first n k differ)));
+  each = λ k. split (cases_lt k n)
+      (λ h. d.each k ∙ ap (λ b. unless_dropped (nat_le first k && b && is_dropped which (remembered reads k)) (remembered reads k)) (lt-ltb k n h ∙ sym (lt-ltb k end (omega (arith, past.order)))))
+      (λ h.
+      let same : remembered reads' k ≡ remembered reads k = d.each k ∙ ap (λ b. unless_dropped (b && is_dropped which (remembered reads k)) (remembered reads k)) (and_right (nat_le first k) _ (le-ltb k n h)) in
+      split (cases_lt k end)
+      (λ l. same ∙ sym (ap (λ b. unless_dropped b (remembered reads k)) (and_right (is_between first end k) _ (subst (λ x. is_dropped which x ≡ false) same (past.free k h l)))))
+      (λ l. same ∙ sym (ap (λ b. unless_dropped (b && is_dropped which (remembered reads k)) (remembered reads k)) (and_right (nat_le first k) _ (le-ltb k end l)))));
 }
 
 pub drops_taken : (at first n place : ℕ) (which : Dropped) (m m' : Machine) (reads reads' : List (Option Source)) → first ≤ n → n < all_entries → length reads ≡ all_entries → 512 * (at + 580) ≤ length m'.memory → place ≡ entry_place at n → is_dropped which (remembered reads' n) ≡ true → Drops at first n which m reads m' reads' → Drops at first (n + 1) which m reads (with_long m' place empty_entry) (set reads' n None)

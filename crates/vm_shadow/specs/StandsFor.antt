@@ -132,6 +132,7 @@ IsGranted false n m s m' s' = (m' ≡ m) × (s' ≡ s)
 pub record ClosesPage (n : ℕ) (m : Machine) (s : Shadowed) (m' : Machine) : Type 0 where
   pub keeps : (pending opened : List ℕ) → Keeps pending opened m.memory s → Keeps pending (closed_for n opened) m'.memory s
   pub closes : is_modified (real_at m'.memory s n) ≡ false
+  pub others : (k : ℕ) → k ≢ n → real_at m'.memory s k ≡ real_at m.memory s k
   pub only : OnlyTables s.at m m'
 
 -- Another context: SBR, SLR or mapping changed, so that no context stays; or the others stay, but for the last of four.

@@ -9,7 +9,7 @@ ghost use Rattle.vm_state.specs.Partition.{guest_of, partition_of};
 ghost use Rattle.vm_state.specs.Translation.{look};
 
 use crate::flags::{any_flagged, set_flags};
-use crate::scans::{close_entries, entry_place};
+use crate::scans::entry_place;
 use crate::{Shadow, Source};
 use vax_arch::{Lookup, Pte, compress};
 use vax_hw::Hardware;
@@ -76,7 +76,8 @@ impl Shadow {
         ensures { Protects source (H.machine machine.old) self.old (H.machine machine.new) self.new }
     {
         if any_flagged(&self.writable, source) {
-            close_entries(&self.reads, machine, self.at, self.base, source);
+            self.reads
+                .close_entries(machine, self.at, self.base, source);
             set_flags(&mut self.writable, source, false);
         }
     }
@@ -94,7 +95,7 @@ impl Shadow {
             self.protect(machine, source);
             let n = entry_number(u32::from(self.slot), page);
             machine.write_long(entry_place(self.at, n), real_entry(self.base, entry));
-            self.reads[n as usize] = Some(source);
+            self.reads.fill(n, source);
             set_flags(&mut self.consulted, source, true);
         }
     }

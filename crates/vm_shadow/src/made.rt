@@ -5,6 +5,7 @@ ghost use Rattle.vm_state.specs.Allowed.{AreAllowed};
 ghost use Rattle.vm_state.specs.State.{state_of};
 
 use crate::Shadow;
+use crate::records::Records;
 use crate::scans::{ALL_ENTRIES, EMPTY, entry_place};
 use crate::switches::context_of;
 use std::alloc::Global;
@@ -90,7 +91,7 @@ impl Shadow {
         ensures ok { IfOk result (λ s. Makes g.now tables (H.machine machine.old) (H.machine machine.new) s) }
         ensures err { OnErr result (H.machine machine.new ≡ H.machine machine.old) }
     {
-        let reads = vec![in alloc; None; ALL_ENTRIES as usize]?;
+        let reads = Records::new(alloc, g.pages)?;
         let consulted = vec![in alloc; false; g.pages as usize]?;
         let writable = vec![in alloc; false; g.pages as usize]?;
         let context = context_of(g);

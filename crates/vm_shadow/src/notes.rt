@@ -4,7 +4,6 @@ ghost use Rattle.vm_shadow.specs.StandsFor.{Notes};
 
 use crate::Shadow;
 use crate::flags::{is_flagged, set_flag};
-use crate::scans::{ALL_ENTRIES, Dropped, drop_entries};
 use vax_hw::Hardware;
 
 impl Shadow {
@@ -15,14 +14,7 @@ impl Shadow {
         ensures { Notes frame (H.machine machine.old) self.old (H.machine machine.new) self.new }
     {
         if is_flagged(&self.consulted, frame) {
-            drop_entries(
-                &mut self.reads,
-                machine,
-                self.at,
-                0,
-                ALL_ENTRIES,
-                Dropped::ReadFrom(frame),
-            );
+            self.reads.drop_read_from(machine, self.at, frame);
             set_flag(&mut self.consulted, frame, false);
         }
     }

@@ -2,7 +2,7 @@ ghost use Rattle.std.specs.Prelude.{◌≡◌, ◌≤◌, ◌<◌, ◌+◌, ◌*
 ghost use Rattle.vv_base.specs.Bytes.{long_at};
 ghost use Rattle.vm_shadow.specs.Layout.{entry_place};
 ghost use Rattle.vm_shadow.specs.Stands.{is_read_from};
-ghost use Rattle.vm_shadow.specs.Calls.{Closes, Drops, closed_at, is_dropped, maps_open};
+ghost use Rattle.vm_shadow.specs.Calls.{closed_at, is_dropped, maps_open};
 
 use crate::Source;
 use vax_hw::Hardware;
@@ -53,37 +53,12 @@ pub fn is_read_from(source: Option<Source>, frame: u32) -> bool
 
 impl Dropped {
     /// Whether an entry is dropped that was read so.
-    fn takes(self, source: Option<Source>) -> bool
+    pub fn takes(self, source: Option<Source>) -> bool
         ensures { result ≡ is_dropped self source }
     {
         match self {
             Dropped::ReadFrom(frame) => is_read_from(source, frame),
             Dropped::All => source.is_some(),
-        }
-    }
-}
-
-/// Drops entries, from one number up to another.
-#[tactic(auto, using(crate::proofs::Scanning::drops_none))]
-pub fn drop_entries<H: Hardware>(
-    reads: &mut Vec<Option<Source>>,
-    machine: &mut H,
-    at: u32,
-    first: u32,
-    end: u32,
-    which: Dropped,
-)
-    requires whole { length reads.old.items ≡ 73728 }
-    requires order { first ≤ end }
-    requires few { end ≤ 73728 }
-    requires room { 512 * (at + 580) ≤ length (H.machine machine.old).memory }
-    ensures { Drops at first end which (H.machine machine.old) reads.old.items (H.machine machine.new) reads.new.items }
-{
-    let _all = machine.pages();
-    for n in first..end {
-        if which.takes(reads[n as usize]) {
-            machine.write_long(entry_place(at, n), EMPTY);
-            reads[n as usize] = None;
         }
     }
 }
@@ -97,33 +72,12 @@ fn maps_open(entry: u32, base: u32, source: Source) -> bool
 }
 
 /// Clears the modify bit of the real entry at a place, if it maps a frame that a source has.
-fn close_entry<H: Hardware>(machine: &mut H, place: u32, base: u32, source: Source)
+pub fn close_entry<H: Hardware>(machine: &mut H, place: u32, base: u32, source: Source)
     requires { place + 4 ≤ length (H.machine machine.old).memory }
     ensures { H.machine machine.new ≡ closed_at (maps_open base source (long_at (H.machine machine.old).memory place)) (H.machine machine.old) place }
 {
     let entry = machine.read_long(place);
     if maps_open(entry, base, source) {
         machine.write_long(place, entry - MODIFY);
-    }
-}
-
-/// Clears the modify bit of each real entry that maps a frame that a source has.
-#[tactic(auto, using(crate::proofs::Closing::closes_none))]
-pub fn close_entries<H: Hardware>(
-    reads: &[Option<Source>],
-    machine: &mut H,
-    at: u32,
-    base: u32,
-    source: Source,
-)
-    requires whole { length reads.now ≡ 73728 }
-    requires room { 512 * (at + 580) ≤ length (H.machine machine.old).memory }
-    ensures { Closes at base 73728 source (H.machine machine.old) reads.now (H.machine machine.new) }
-{
-    let _all = machine.pages();
-    for n in 0..ALL_ENTRIES {
-        if reads[n as usize].is_some() {
-            close_entry(machine, entry_place(at, n), base, source);
-        }
     }
 }

@@ -1,4 +1,4 @@
-use crate::Source;
+use crate::records::Records;
 use std::marker::Model;
 use vm_slots::{Context, Slots};
 
@@ -16,7 +16,7 @@ pub struct Shadow {
     pub(crate) slot: u8,
     pub(crate) held: Slots,
     /// By the number of a real entry, the frames that it was read from.
-    pub(crate) reads: Vec<Option<Source>>,
+    pub(crate) reads: Records,
     /// By frame of the guest: an entry may have been read from it; a real entry may map it with its modify bit set.
     pub(crate) consulted: Vec<bool>,
     pub(crate) writable: Vec<bool>,
@@ -27,5 +27,12 @@ impl Model for Shadow {
 
     ghost Value = { Shadowed };
 
-    ghost view = { λ s. record { pages = s.pages; base = s.base; at = s.at; told = record { mapped = s.context.mapped; p0br = s.context.p0br; p0lr = s.context.p0lr; p1br = s.context.p1br; p1lr = s.context.p1lr; sbr = s.sbr; slr = s.slr }; slot = s.slot; held = s.held; reads = s.reads.items; consulted = s.consulted.items; writable = s.writable.items } };
+    ghost view = { λ s. record { pages = s.pages; base = s.base; at = s.at; told = record { mapped = s.context.mapped; p0br = s.context.p0br; p0lr = s.context.p0lr; p1br = s.context.p1br; p1lr = s.context.p1lr; sbr = s.sbr; slr = s.slr }; slot = s.slot; held = s.held; reads = s.reads; consulted = s.consulted.items; writable = s.writable.items } };
+}
+
+impl Shadow {
+    /// How many records of real entries were looked at since it was made, modulo 2 ^ 64: to drop entries, and to close pages.
+    pub fn looked_at(&self) -> u64 {
+        self.reads.looked()
+    }
 }

@@ -6,7 +6,7 @@ ghost use Rattle.vm_state.specs.State.{context_of, tables_of};
 ghost use Rattle.vm_state.specs.Touches.{is_remapped};
 
 use crate::Shadow;
-use crate::scans::{ALL_ENTRIES, Dropped, drop_entries};
+use crate::scans::{ALL_ENTRIES, Dropped};
 use vax_hw::Hardware;
 use vm_slots::{Context, Slots, Taken};
 use vm_state::GuestState;
@@ -87,7 +87,8 @@ impl Shadow {
         let remapped = self.is_remapped(g);
         let taken = take_slot(&mut self.held, remapped, &context);
         let (first, end) = entries_that_go(remapped, &taken);
-        drop_entries(&mut self.reads, machine, self.at, first, end, Dropped::All);
+        self.reads
+            .drop_entries(machine, self.at, first, end, Dropped::All);
         self.context = context;
         self.sbr = g.sbr;
         self.slr = g.slr;

@@ -23,6 +23,8 @@ pub use registers::{MAPPED, Registers};
 #[cfg(test)]
 mod contexts;
 #[cfg(test)]
+mod looks;
+#[cfg(test)]
 mod machine_rows;
 #[cfg(test)]
 mod modified;

@@ -1,5 +1,4 @@
-use Rattle.std.proofs.Common.{arith, rules, ◌≡◌, ◌∙◌, ap, replicate, Option, None, [], ◌∷◌, false}
-use Rattle.vm_shadow.specs.declared.source.Source.{Source}
+use Rattle.std.proofs.Common.{arith, ◌≡◌, ◌∙◌, ap, replicate, [], ◌∷◌, false}
 use Rattle.vm_shadow.proofs.Making.{makes, makes_told}
 use Rattle.vm_slots.specs.Held.{Held, beside}
 use Rattle.vm_slots.specs.declared.context.Context.{Context}
@@ -9,11 +8,10 @@ pub returns-clause-ok : goal.returns-clause-ok
 returns-clause-ok g c =
     let before = g.H.Hardware.machine c.args.machine.now in
     let own_context = c.context_of-context.ensures in
-    let reads : c.in_ok-reads.reads.items ≡ replicate 73728 (let none : Option Source = None in none) = c.in_ok-reads.ensures.items_if_clones_equal (λ y h. search rules) in
     let consulted : c.in_ok-consulted.consulted.items ≡ replicate c.args.g.now.pages false = c.in_ok-consulted.ensures.items_if_clones_equal (λ y h. h) in
     let writable : c.in_ok-writable.writable.items ≡ replicate c.args.g.now.pages false = c.in_ok-writable.ensures.items_if_clones_equal (λ y h. h) in
     let first : c.take-taken.new.self ≡ (c.context_of-context.result, c.take-taken.result.slot) ∷ beside c.context_of-context.result [] = c.take-taken.ensures.front ∙ ap (λ (h : Held). (c.context_of-context.result, c.take-taken.result.slot) ∷ beside c.context_of-context.result h) c.new-held.ensures in
     makes_told c.args.g.now c.args.tables c.take-taken.result.slot c.context_of-context.result c.take-taken.new.self _ _ _ before _ own_context
-    (makes c.args.g.now c.args.tables c.take-taken.result.slot c.take-taken.new.self c.in_ok-reads.reads.items c.in_ok-consulted.consulted.items c.in_ok-writable.writable.items before (g.H.Hardware.machine c.map_tables.new.machine) (g.H.Hardware.machine c.clear_entries.new.machine)
-    (omega (arith, c.pages-all.ensures.all, c.pages-all.ensures.few)) c.requires.partition c.requires.room c.requires.apart c.requires.few c.requires.allowed reads consulted writable
+    (makes c.args.g.now c.args.tables c.take-taken.result.slot c.take-taken.new.self c.in_ok-reads.reads c.in_ok-consulted.consulted.items c.in_ok-writable.writable.items before (g.H.Hardware.machine c.map_tables.new.machine) (g.H.Hardware.machine c.clear_entries.new.machine)
+    (omega (arith, c.pages-all.ensures.all, c.pages-all.ensures.few)) c.requires.partition c.requires.room c.requires.apart c.requires.few c.requires.allowed c.in_ok-reads.ensures consulted writable
     (first ∙ ap (λ (x : Context). (x, c.take-taken.result.slot) ∷ []) own_context) c.take-taken.ensures.facts c.map_tables.ensures c.clear_entries.ensures)

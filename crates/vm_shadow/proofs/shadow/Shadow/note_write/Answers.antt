@@ -6,8 +6,8 @@ use Rattle.vm_shadow.proofs.shadow.Shadow.note_write.Goals as goal
 pub returns-then-is_flagged : goal.returns-then-is_flagged
 returns-then-is_flagged g c =
     let flags : c.set_flag.new.flags.items ≡ set c.self.inside.consulted.items c.args.frame false = c.set_flag.ensures in
-    rw flags (notes_seen c.args.frame (g.H.Hardware.machine c.args.machine.now) (g.H.Hardware.machine c.drop_entries.new.machine) _ c.args.self.now _ c.self.view_is
-    (note_all (g.H.Hardware.machine c.args.machine.now) (g.H.Hardware.machine c.drop_entries.new.machine) _ c.drop_entries.new.reads.items c.args.frame (subst (Fits (g.H.Hardware.machine c.args.machine.now).memory) (sym c.self.view_is) c.requires.fits) c.drop_entries.ensures))
+    rw flags (notes_seen c.args.frame (g.H.Hardware.machine c.args.machine.now) (g.H.Hardware.machine c.drop_read_from.new.machine) _ c.args.self.now _ c.self.view_is
+    (note_all (g.H.Hardware.machine c.args.machine.now) (g.H.Hardware.machine c.drop_read_from.new.machine) _ c.drop_read_from.new.self c.args.frame (subst (Fits (g.H.Hardware.machine c.args.machine.now).memory) (sym c.self.view_is) c.requires.fits) c.drop_read_from.ensures))
 
 pub returns-else-is_flagged : goal.returns-else-is_flagged
 returns-else-is_flagged g c =

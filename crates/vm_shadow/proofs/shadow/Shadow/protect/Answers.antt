@@ -1,7 +1,5 @@
 use Rattle.std.proofs.Common.{◌≡◌, ap, sym, ◌∙◌, subst, false, []}
-use Rattle.vm_shadow.specs.Calls.{Closes}
 use Rattle.vm_shadow.specs.Flags.{any_flagged, with_flags}
-use Rattle.vm_shadow.specs.Layout.{all_entries}
 use Rattle.vm_shadow.specs.Stands.{Keeps, Shadowed}
 use Rattle.vm_shadow.proofs.Protecting.{protects_all, protects_none, protects_seen}
 use Rattle.vm_shadow.proofs.shadow.Shadow.protect.Goals as goal
@@ -11,8 +9,8 @@ returns-then-any_flagged g c =
     let before = g.H.Hardware.machine c.args.machine.now in
     let after = g.H.Hardware.machine c.close_entries.new.machine in
     let flags : c.set_flags.new.flags.items ≡ with_flags false c.args.source c.self.inside.writable.items = c.set_flags.ensures in
-    rw flags (protects_seen c.args.source before after _ c.args.self.now _ c.self.view_is
-    (protects_all c.args.source before after _ (subst (Keeps [] [] before.memory) (sym c.self.view_is) c.requires) (subst (λ r. Closes c.self.inside.at c.self.inside.base all_entries c.args.source before r after) c.deref-then-any_flagged.ensures.value c.close_entries.ensures)))
+    rw (flags, c.close_entries.ensures.same) (protects_seen c.args.source before after _ c.args.self.now _ c.self.view_is
+    (protects_all c.args.source before after _ (subst (Keeps [] [] before.memory) (sym c.self.view_is) c.requires) c.close_entries.ensures.closes))
 
 pub returns-else-any_flagged : goal.returns-else-any_flagged
 returns-else-any_flagged g c =

@@ -11,8 +11,8 @@ returns g c =
     let before = g.H.Hardware.machine c.args.machine.now in
     let after = g.H.Hardware.machine c.drop_entries.new.machine in
     let own_context = c.context_of-context.ensures in
-    switch_seen c.args.g.now before after _ c.args.self.now _ c.self.view_is (switch_told c.args.g.now before after _ c.context_of-context.result c.take_slot-taken.result.slot c.take_slot-taken.new.held c.drop_entries.new.reads.items own_context
-    (switch_all c.args.g.now before after _ c.take_slot-taken.new.held c.take_slot-taken.result.slot _ _ c.take_slot-taken.result.evicted c.is_remapped-remapped.result c.drop_entries.new.reads.items
+    switch_seen c.args.g.now before after _ c.args.self.now _ c.self.view_is (switch_told c.args.g.now before after _ c.context_of-context.result c.take_slot-taken.result.slot c.take_slot-taken.new.held c.drop_entries.new.self own_context
+    (switch_all c.args.g.now before after _ c.take_slot-taken.new.held c.take_slot-taken.result.slot _ _ c.take_slot-taken.result.evicted c.is_remapped-remapped.result c.drop_entries.new.self
     (subst (Keeps [] [] before.memory) (sym c.self.view_is) c.requires.keeps)
     (ap (λ (s : Shadowed). s.pages) c.self.view_is ∙ c.requires.pages) (ap (λ (s : Shadowed). s.base) c.self.view_is ∙ c.requires.base) c.requires.tables
     (c.is_remapped-remapped.ensures ∙ ap (λ (s : Shadowed). is_remapped s.told (tables_of c.args.g.now)) (sym c.self.view_is))
