@@ -40,8 +40,8 @@ fn counted_by(exit: &Exit, done: u32) -> u32
     }
 }
 
-/// Counts so many steps more.
-fn count(g: &mut GuestState, steps: u32)
+/// Counts so many steps more of a guest, in none of which its clock wraps: their ticks, and the steps modulo 2^32.
+pub fn count_more(g: &mut GuestState, steps: u32)
     requires { IsTrue g.old.clock.run → steps < ticks_to_wrap g.old.clock }
     ensures { g.new ≡ with_count steps g.old }
 {
@@ -96,7 +96,7 @@ pub fn burst<H: Hardware>(machine: &mut H, s: &Shadow, g: &mut GuestState, budge
     let ended = run_machine(machine, &s.world(g), budget);
     take_back(g, &ended.world);
     let done = ended.done as u32;
-    count(g, counted_by(&ended.exit, done));
+    count_more(g, counted_by(&ended.exit, done));
     Ran {
         done,
         terms: ended.terms,

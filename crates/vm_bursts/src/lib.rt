@@ -4,5 +4,5 @@
 mod bursts;
 mod guarded;
 
-pub use bursts::{Ran, burst};
+pub use bursts::{Ran, burst, count_more};
 pub use guarded::{is_clear, run_guarded};

@@ -1,5 +1,5 @@
 -- The highest pending interrupt, and its request.
-use Rattle.std.proofs.Common.{◌≡◌, ℕ, zero, suc, ◌-◌, ◌/◌, ◌%◌, ◌^◌, ◌<◌, ◌≤◌, Bool, true, false, ◌&&◌, ltb, List, [], ◌∷◌, Option, Some, None, refl, subst, arith}
+use Rattle.std.proofs.Common.{◌≡◌, ℕ, zero, suc, ◌-◌, ◌/◌, ◌%◌, ◌^◌, ◌<◌, ◌≤◌, Bool, true, false, ◌&&◌, ltb, List, [], ◌∷◌, Option, Some, None, refl, ap, ◌∙◌, sym, subst, arith}
 use Rattle.std.specs.Prelude.{if◌then◌else◌, find}
 use Rattle.std.proofs.lemmas.Bool.Decides.{nat_tests}
 use Rattle.std.proofs.lemmas.Grind.{common_steps}
@@ -151,3 +151,11 @@ ended_keeps size (Software level) s t h r e =
 
 pub taken_keeps : (size : ℕ) (x : Source) (s t : State) → due s ≡ Some x → t.sisr ≡ s.sisr → Keeps size t (taken x t)
 taken_keeps size x s t d e = let p = pends s x d in ended_keeps size x s t p.level p.request e
+
+-- where no level is requested, none is due
+none_of_none : (s : State) → None ≡ software_due (record s { sisr = 0 })
+unfolding software_due
+none_of_none s = refl
+
+pub no_levels : (s : State) → s.sisr ≡ 0 → None ≡ software_due s
+no_levels s e = none_of_none s ∙ ap software_due (λ i. record s { sisr = sym e i })

@@ -64,7 +64,7 @@ fn is_bit_set(sisr: u16, level: u8) -> bool
     requires { level < 16 }
     ensures { result ≡ (sisr / 2 ^ level % 2 == 1) }
 {
-    sisr / 2u16.pow(u32::from(level)) % 2 == 1
+    (sisr >> level) % 2 == 1
 }
 
 /// Whether a source requests an interrupt.
@@ -93,6 +93,9 @@ fn is_due(g: &GuestState, source: Source) -> bool
 fn software_due(g: &GuestState) -> Option<Source>
     ensures { option_map source_of result ≡ software_due (state_of g.now) }
 {
+    if g.sisr == 0 {
+        return None;
+    }
     for level in (1..16).rev() {
         let source = Source::Software(level);
         if is_due(g, source) {

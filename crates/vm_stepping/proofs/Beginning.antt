@@ -42,7 +42,7 @@ due_now : (s : State) → due (record s { clock = after_ticks 0 s.clock }) ≡ d
 unfolding after_ticks
 due_now s = refl
 
-due_then : (s : State) (k : ℕ) (run : Bool) → s.clock.run ≡ run → (run ≡ true → k < ticks_to_wrap s.clock) → due (record s { clock = after_ticks k s.clock }) ≡ due s
+pub due_then : (s : State) (k : ℕ) (run : Bool) → s.clock.run ≡ run → (run ≡ true → k < ticks_to_wrap s.clock) → due (record s { clock = after_ticks k s.clock }) ≡ due s
 due_then s k true runs early = let soon = early refl in ap (λ (c : ClockState). due (record s { clock = c })) (after_ticks-count k s.clock runs (omega (arith, soon))) ∙ due_later s (s.clock.icr + k)
 due_then s k false runs early = ap (λ (c : ClockState). due (record s { clock = c })) (after_ticks-stopped k s.clock runs)
 

@@ -15,3 +15,4 @@ pub mod PayingRuns
 pub mod Beginning
 pub mod PayingBegun
 pub mod Advancing
+pub mod Idling

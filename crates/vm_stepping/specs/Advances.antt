@@ -1,10 +1,11 @@
 -- Steps of a guest that the kernel makes, of which the next one may be counted already.
-use Rattle.std.specs.Prelude.{◌≡◌, ℕ, ◌+◌, ◌*◌, ◌≤◌, Bool, true, false, if◌then◌else◌, List, ◌++◌, []}
+use Rattle.std.specs.Prelude.{◌≡◌, ℕ, ◌+◌, ◌-◌, ◌*◌, ◌^◌, ◌<◌, ◌≤◌, IsTrue, Bool, true, false, if◌then◌else◌, List, ◌++◌, []}
 use Rattle.vax_hw.specs.Machine.{Machine}
+use Rattle.vm_clock.specs.Ticks.{ticks_to_wrap}
 use Rattle.vm_console.specs.Appends.{Appends}
 use Rattle.vm_shadow.specs.Layout.{all_entries}
 use Rattle.vm_shadow.specs.Stands.{Shadowed}
-use Rattle.vm_simulation.specs.Bursts.{IsQuiet, after_counted}
+use Rattle.vm_simulation.specs.Bursts.{IsQuiet, after_counted, with_count}
 use Rattle.vm_state.specs.Run.{Run, after_steps}
 use Rattle.vm_state.specs.State.{state_of}
 use Rattle.vm_state.specs.declared.guest_state.GuestState.{GuestState}
@@ -44,6 +45,16 @@ pub record Proceeds {Port : Type 0} (may : Port → List ℕ → Type 0) (left l
   pub fewer : left'.steps ≤ left.steps
   pub retired : Retired m c m' c'
   pub begun : IsBegun left' g'
+
+-- A guest whose next step is counted is idle in it and in some that follow, in none of which its clock wraps.
+pub record Idles (steps : ℕ) (left : Left) (g : GuestState) (c : Counts) (g' : GuestState) (c' : Counts) : Type 0 where
+  pub more : ℕ
+  pub most : more + 1 ≤ steps
+  pub within : IsTrue g.clock.run → more < ticks_to_wrap g.clock
+  pub left_is : left ≡ record { steps = steps - (more + 1); counted = false }
+  pub small : g.steps < 2 ^ 32
+  pub guest : g' ≡ with_count more g
+  pub counts : c' ≡ record c { idle = c.idle + (more + 1) }
 
 -- How much is to do at most: the steps that are left, each with a fill of every entry and its beginning.
 abbrev pub to_do : Left → Shadowed → ℕ

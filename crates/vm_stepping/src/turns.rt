@@ -6,7 +6,7 @@ ghost use Rattle.vm_simulation.specs.Bursts.{IsQuiet};
 ghost use Rattle.vm_state.specs.Partition.{guest_of};
 ghost use Rattle.vm_state.specs.State.{state_of};
 ghost use Rattle.vm_state.specs.Touches.{touching_steps};
-ghost use Rattle.vm_stepping.specs.Advances.{Advances, IsBegun, Proceeds, to_do};
+ghost use Rattle.vm_stepping.specs.Advances.{Advances, Idles, IsBegun, Proceeds, to_do};
 ghost use Rattle.vm_stepping.specs.Made.{steps_in};
 ghost use Rattle.vm_stepping.specs.Pays.{PaysOn};
 
@@ -14,7 +14,7 @@ use crate::Counts;
 use crate::made::{count_step, take_interrupt};
 use crate::met::meet;
 use vax_hw::{Exit, Hardware};
-use vm_bursts::burst;
+use vm_bursts::{burst, count_more};
 use vm_console::Port;
 use vm_events::{begin, due};
 use vm_shadow::Shadow;
@@ -91,6 +91,27 @@ fn run_on<H: Hardware, T: Port>(
     }
 }
 
+/// The steps that are counted of a guest, modulo 2^32.
+fn steps_of(g: &GuestState) -> u32
+    ensures is { result ≡ g.now.steps }
+    ensures small { result < 2 ^ 32 }
+{
+    g.steps
+}
+
+/// A guest that waits, whose next step is counted, is idle in it and in those that are left, up to its clock's next wrap.
+fn idle(g: &mut GuestState, counts: &mut Counts, left: u32) -> Left
+    requires some { 1 ≤ left }
+    requires room { steps_in counts.old + left < 2 ^ 32 }
+    ensures { Idles left result g.old counts.old g.new counts.new }
+{
+    let _counted = steps_of(g);
+    let steps = budget(g, left);
+    count_more(g, steps - 1);
+    counts.idle += u64::from(steps);
+    Left::of(left - steps)
+}
+
 /// Begins the next step of a guest: one that stands does so in all that are left; an interrupt that is due is taken, and a guest
 /// that waits is idle; else the step is counted, and comes to the guest's instruction.
 fn begin_step<H: Hardware, T: Port>(
@@ -118,8 +139,7 @@ fn begin_step<H: Hardware, T: Port>(
         return Left::of(left - 1);
     }
     if g.waiting {
-        counts.idle += 1;
-        return Left::of(left - 1);
+        return idle(g, counts, left);
     }
     Left {
         steps: left,

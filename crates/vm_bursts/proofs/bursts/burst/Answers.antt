@@ -16,8 +16,8 @@ overflow_cast-done g c = record {
       few_done c.args.budget (g.H.Hardware.machine c.args.machine.now) c.args.s.now c.args.g.now c.world.result c.run_machine-ended.result (g.H.Hardware.machine c.run_machine-ended.new.machine) c.requires.stands c.world.ensures c.requires.some (subst (λ n. n < 2 ^ 32) c.steps_of-steps.ensures.is c.steps_of-steps.ensures.small) c.ranges.budget.fits c.requires.quiet c.run_machine-ended.ensures;
 }
 
-pub count-requires : goal.count-requires
-count-requires g c = λ running.
+pub count_more-requires : goal.count_more-requires
+count_more-requires g c = λ running.
     let few = few_counted c.args.budget (g.H.Hardware.machine c.args.machine.now) c.args.s.now c.args.g.now c.world.result c.run_machine-ended.result (g.H.Hardware.machine c.run_machine-ended.new.machine) c.requires.stands c.world.ensures c.requires.some (subst (λ n. n < 2 ^ 32) c.steps_of-steps.ensures.is c.steps_of-steps.ensures.small) c.ranges.budget.fits c.requires.quiet c.run_machine-ended.ensures c.run_machine-ended.result.done refl in
     let within = c.requires.within (subst (λ (x : GuestState). IsTrue x.clock.run) c.take_back.ensures running) in
     omega (arith, few, within, c.counted_by.ensures, ap (λ (x : GuestState). ticks_to_wrap x.clock) c.take_back.ensures)
@@ -25,4 +25,4 @@ count-requires g c = λ running.
 pub returns : goal.returns
 returns g c =
     is_run c.args.budget (g.H.Hardware.machine c.args.machine.now) c.args.s.now c.args.g.now c.world.result c.run_machine-ended.result (g.H.Hardware.machine c.run_machine-ended.new.machine) c.requires.stands c.world.ensures c.requires.some (subst (λ n. n < 2 ^ 32) c.steps_of-steps.ensures.is c.steps_of-steps.ensures.small) c.ranges.budget.fits c.requires.quiet c.run_machine-ended.ensures
-    c.run_machine-ended.result.done c.take_back.new.g c.count.new.g c.run_machine-ended.result.world refl c.run_machine-ended.ensures.world c.take_back.ensures (c.count.ensures ∙ ap (λ n. with_count n c.take_back.new.g) c.counted_by.ensures)
+    c.run_machine-ended.result.done c.take_back.new.g c.count_more.new.g c.run_machine-ended.result.world refl c.run_machine-ended.ensures.world c.take_back.ensures (c.count_more.ensures ∙ ap (λ n. with_count n c.take_back.new.g) c.counted_by.ensures)

@@ -1,7 +1,10 @@
 use Rattle.std.proofs.Common.{◌∙◌, sym}
-use Rattle.vm_events.proofs.Requests.{all_levels, level_due, level_not_due, no_level}
+use Rattle.vm_events.proofs.Requests.{all_levels, level_due, level_not_due, no_level, no_levels}
 use Rattle.vm_state.specs.State.{state_of}
 use Rattle.vm_events.proofs.pending.software_due.Goals as goal
+
+pub returns-then-g-eq0 : goal.returns-then-g-eq0
+returns-then-g-eq0 c = no_levels (state_of c.args.g.now) c.if-g-eq0.true
 
 pub loop-level-init : goal.loop-level-init
 loop-level-init c = all_levels (state_of c.args.g.now)

@@ -1,8 +1,9 @@
 use Rattle.std.proofs.Common.{true, ap, sym, ◌∙◌}
 use Rattle.std.specs.Prelude.{option_map}
 use Rattle.vm_events.specs.Sources.{source_of}
-use Rattle.vm_stepping.proofs.Beginning.{begins_on, halted_on, interrupt_falls, interrupt_on, runs_by, waits_on}
-use Rattle.vm_stepping.proofs.PayingBegun.{pays_beginning, pays_halted, pays_interrupt, pays_waiting}
+use Rattle.vm_stepping.proofs.Beginning.{begins_on, halted_on, interrupt_falls, interrupt_on, runs_by}
+use Rattle.vm_stepping.proofs.Idling.{idle_falls, idles_on, pays_idle}
+use Rattle.vm_stepping.proofs.PayingBegun.{pays_beginning, pays_halted, pays_interrupt}
 use Rattle.vm_stepping.proofs.turns.begin_step.Goals as goal
 
 pub returns-then-is_some-clause-proceeds : goal.returns-then-is_some-clause-proceeds
@@ -21,8 +22,8 @@ returns-in-Some-clause-falls g c =
 
 pub returns-then-g-clause-proceeds : goal.returns-then-g-clause-proceeds
 returns-then-g-clause-proceeds g c =
-    waits_on (g.H.Hardware.machine c.args.machine.now) c.args.s.now c.args.g.now c.count_step.new.g c.requires.stands c.count_step.ensures.state c.count_step.ensures.place (runs_by c.args.g.now.halt (sym c.is_some.ensures ∙ c.if-is_some.false)) g.T.Port.may c.args.port.now c.args.port.now c.args.counts.now c.args.left c.requires.some c.of-then-g.result
-    (sym c.due.ensures ∙ ap (option_map source_of) c.in_default.is) c.if-g.true c.of-then-g.ensures
+    idles_on (g.H.Hardware.machine c.args.machine.now) c.args.s.now c.args.g.now c.count_step.new.g c.idle.new.g c.requires.stands c.count_step.ensures.state c.count_step.ensures.place (runs_by c.args.g.now.halt (sym c.is_some.ensures ∙ c.if-is_some.false)) c.args.left c.requires.some c.idle.result c.args.counts.now c.idle.new.counts
+    (sym c.due.ensures ∙ ap (option_map source_of) c.in_default.is) c.if-g.true c.idle.ensures g.T.Port.may c.args.port.now
 
 pub returns-clause-proceeds : goal.returns-clause-proceeds
 returns-clause-proceeds g c =
@@ -39,8 +40,13 @@ returns-in-Some-clause-pays g c =
 
 pub returns-then-g-clause-pays : goal.returns-then-g-clause-pays
 returns-then-g-clause-pays g c =
-    pays_waiting (g.H.Hardware.machine c.args.machine.now) c.args.s.now c.args.g.now c.count_step.new.g c.requires.stands c.count_step.ensures.state c.count_step.ensures.place (runs_by c.args.g.now.halt (sym c.is_some.ensures ∙ c.if-is_some.false)) c.args.left c.requires.some
-    c.of-then-g.result (sym c.due.ensures ∙ ap (option_map source_of) c.in_default.is) c.if-g.true c.of-then-g.ensures
+    pays_idle (g.H.Hardware.machine c.args.machine.now) c.args.s.now c.args.g.now c.count_step.new.g c.idle.new.g c.requires.stands c.count_step.ensures.state c.count_step.ensures.place (runs_by c.args.g.now.halt (sym c.is_some.ensures ∙ c.if-is_some.false)) c.args.left c.requires.some c.idle.result c.args.counts.now c.idle.new.counts
+    (sym c.due.ensures ∙ ap (option_map source_of) c.in_default.is) c.if-g.true c.idle.ensures
+
+pub returns-then-g-clause-falls : goal.returns-then-g-clause-falls
+returns-then-g-clause-falls g c =
+    idle_falls (g.H.Hardware.machine c.args.machine.now) c.args.s.now c.args.g.now c.count_step.new.g c.idle.new.g c.requires.stands c.count_step.ensures.state c.count_step.ensures.place (runs_by c.args.g.now.halt (sym c.is_some.ensures ∙ c.if-is_some.false)) c.args.left c.requires.some c.idle.result c.args.counts.now c.idle.new.counts
+    (sym c.due.ensures ∙ ap (option_map source_of) c.in_default.is) c.if-g.true c.idle.ensures
 
 pub returns-clause-pays : goal.returns-clause-pays
 returns-clause-pays g c =
