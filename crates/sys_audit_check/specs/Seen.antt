@@ -1,0 +1,6 @@
+-- A command that was read of a line's bytes.
+use Rattle.sys_audit_check.specs.Audited.{Entry}
+use Rattle.sys_audit_check.specs.declared.reading.Entry.{Entry as Read}
+
+abbrev pub seen : Read → Entry
+seen e = record { round = e.round; terminal = e.terminal; text = e.text.now }

@@ -1,0 +1,3 @@
+mod Puts
+mod Tracks
+pub mod Fit
