@@ -1,0 +1,13 @@
+pub mod Agree
+pub mod Closed
+pub mod Commands
+pub mod Connected
+pub mod Depends
+pub mod Events
+pub mod Far
+pub mod Held
+pub mod Lines
+pub mod Reached
+pub mod Rounds
+pub mod Transfers
+pub mod Turns
