@@ -1,0 +1,3 @@
+pub mod Behind
+pub mod Folds
+pub mod Members

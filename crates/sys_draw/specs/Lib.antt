@@ -1,0 +1,5 @@
+pub mod Laws
+pub mod Layout
+pub mod Picture
+pub mod Seats
+pub mod Shown

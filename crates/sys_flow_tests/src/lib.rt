@@ -1,0 +1,44 @@
+//! Reports and pictures of what leads to what in configurations, worked out by hand.
+#![tactic(auto)]
+
+macro_rules! line {
+    ($kind:literal, $name:literal, $line:literal, $class:literal) => {
+        concat!(
+            "[[", $kind, "]]\nname = \"", $name, "\"\nline = ", $line, "\nclass = \"", $class,
+            "\"\n"
+        )
+    };
+}
+
+macro_rules! volume {
+    ($name:literal, $drive:literal, $class:literal) => {
+        concat!(
+            "[[volume]]\nname = \"", $name, "\"\ndrive = ", $drive,
+            "\nblocks = 8\nclass = \"", $class, "\"\n"
+        )
+    };
+}
+
+macro_rules! guest {
+    ($name:literal, $class:literal) => {
+        concat!(
+            "[[guest]]\nname = \"", $name, "\"\nclass = \"", $class,
+            "\"\npages = 64\nimage = \"a\"\nload = 512\nstart = 512\nautostart = false\nquantum = 10\n"
+        )
+    };
+}
+
+macro_rules! mount {
+    ($unit:literal, $volume:literal, $write:literal) => {
+        concat!(
+            "[[guest.mount]]\nunit = ", $unit, "\nvolume = \"", $volume, "\"\nwrite = ", $write, "\n"
+        )
+    };
+}
+
+#[cfg(test)]
+mod pictures;
+#[cfg(test)]
+mod reports;
+#[cfg(test)]
+mod texts;
