@@ -7,8 +7,8 @@ use Rattle.sys_objects.specs.declared.records.Config.{Config}
 use Rattle.sys_objects.specs.declared.records.GuestRow.{GuestRow}
 use Rattle.sys_script.specs.declared.event.Event.{Event}
 use Rattle.vv_commands.specs.Fetches.{StopsAtImages, StopsScript}
-use Rattle.vv_commands.specs.Files.{AreImages, HasConfig, HasScript, IsRead, StopsConfig, StopsFile, StopsRun}
-use Rattle.vv_commands.specs.Words.{RunAsked}
+use Rattle.vv_commands.specs.Files.{AreImages, HasConfig, HasScript, IsRead, StopsAudit, StopsConfig, StopsFile, StopsRun}
+use Rattle.vv_commands.specs.Words.{AuditAsked, RunAsked}
 use Rattle.vv_commands.specs.declared.stop.Stop.{Stop}
 use Rattle.vv_commands.specs.declared.stop.Stop.TheVariants.{Missing, TooLong, ShelfFault, Config as ConfigRefused, Script as ScriptRefused, NoMemory}
 
@@ -97,3 +97,20 @@ module _ (files : Option (List File)) (a : RunAsked) (before now : ℕ) where
   images_stop c es has has_script (ConfigRefused f) h = absurd h.why
   images_stop c es has has_script (ScriptRefused f) h = absurd h.why
   images_stop c es has has_script NoMemory h = h
+
+module _ (files : Option (List File)) (a : AuditAsked) (before now : ℕ) where
+  pub audit_config_stops : (stop : Stop) → StopsConfig files a.config before now stop → StopsAudit files a before now stop
+  audit_config_stops (Missing n) h = (inl h.0, h.1)
+  audit_config_stops (TooLong n) h = (inl h.0, h.1)
+  audit_config_stops ShelfFault h = h
+  audit_config_stops (ConfigRefused f) h = h
+  audit_config_stops (ScriptRefused f) h = h
+  audit_config_stops NoMemory h = h
+
+  pub recorded_stops : (c : Config) → HasConfig files a.config c → (stop : Stop) → StopsFile files a.recorded before now stop → StopsAudit files a before now stop
+  recorded_stops c has (Missing n) h = (inr (record { config = c; has = has; is = h.0 }), h.1)
+  recorded_stops c has (TooLong n) h = (inr (record { config = c; has = has; is = h.0 }), h.1)
+  recorded_stops c has ShelfFault h = h
+  recorded_stops c has (ConfigRefused f) h = absurd h
+  recorded_stops c has (ScriptRefused f) h = h
+  recorded_stops c has NoMemory h = h

@@ -1,5 +1,5 @@
 -- Each answer of the top call, and what it says of the outside.
-use Rattle.std.specs.Prelude.{ℕ, ◌≡◌, ◌⊎◌, List, [], ◌∷◌, All, Bool, true, false, Option, Some, None, Result, Ok, Err, if◌then◌else◌, pos}
+use Rattle.std.specs.Prelude.{ℕ, ◌≡◌, ◌⊎◌, List, [], ◌∷◌, All, Bool, true, false, Option, Some, None, Result, Ok, Err, if◌then◌else◌, codes, pos}
 use Rattle.vv_io.specs.Blocks.{Kept}
 use Rattle.vv_io.specs.Lines.{Seen}
 use Rattle.vv_io.specs.Shelf.{File}
@@ -11,8 +11,12 @@ use Rattle.vasm_files.specs.declared.answer.Answer.{Answer}
 use Rattle.vasm_files.specs.declared.answer.Answer.TheVariants as answers
 use Rattle.vax_hw.specs.Machine.{Machine}
 use Rattle.vm_stepping.specs.Made.{tally_of}
+use Rattle.sys_audit_check.specs.Lines.{Checks}
+use Rattle.sys_audit_check.specs.declared.fault.AuditFault.{AuditFault}
 use Rattle.sys_config.specs.Config.{config_of}
 use Rattle.sys_config.specs.Written.{version_of}
+use Rattle.sys_draw.specs.Picture.{drawing_of}
+use Rattle.sys_flow.specs.Report.{IsReport}
 use Rattle.sys_lines.specs.ShownSince.{ShownSince}
 use Rattle.sys_objects.specs.declared.records.Config.{Config}
 use Rattle.sys_purge.specs.Input.{purged}
@@ -26,12 +30,12 @@ use Rattle.sys_system.specs.declared.parts.Device.{Device}
 use Rattle.sys_system.specs.declared.power.PowerFault.{PowerFault}
 use Rattle.sys_system.specs.declared.power.PowerFault.TheVariants as faults
 use Rattle.vv_gen.specs.Workload.{Generated, workload_of}
-use Rattle.vv_commands.specs.Files.{HasAll, HasConfig, IsRead, StopsConfig, StopsFile, StopsRun}
+use Rattle.vv_commands.specs.Files.{HasAll, HasConfig, IsRead, StopsAudit, StopsConfig, StopsFile, StopsRun}
 use Rattle.vv_commands.specs.Solo.{solo_config}
 use Rattle.vv_commands.specs.Summary.{check_line, summary}
-use Rattle.vv_commands.specs.Words.{Asked, RunAsked, Wanted, WantsSolo, WantsRun, WantsLoad, WantsCheck, WantsMigration, WantsBytes, WantsText}
+use Rattle.vv_commands.specs.Words.{Asked, AuditAsked, RunAsked, Wanted, WantsSolo, WantsRun, WantsLoad, WantsCheck, WantsMigration, WantsAudit, WantsFlow, WantsDrawing, WantsBytes, WantsText}
 use Rattle.vv_commands.specs.declared.status.Status.{Status}
-use Rattle.vv_commands.specs.declared.status.Status.TheVariants.{Done, Words, Missing, TooLong, ShelfFault, Config as ConfigRefused, Script as ScriptRefused, Image, VolumeSize, DriveIn, Device as DeviceFault, Asm, OutFault, NoMemory}
+use Rattle.vv_commands.specs.declared.status.Status.TheVariants.{Done, Words, Missing, TooLong, ShelfFault, Config as ConfigRefused, Script as ScriptRefused, Image, VolumeSize, DriveIn, Device as DeviceFault, Asm, Audit, OutFault, NoMemory}
 use Rattle.vv_commands.specs.declared.stop.Stop.{Stop}
 use Rattle.vv_commands.specs.declared.stop.Stop.TheVariants as stops
 
@@ -143,7 +147,7 @@ pub record PlaysRun (a : RunAsked) (status : Status) (o : Outside) : Type 0 wher
 abbrev pub FollowsRun : RunAsked → Status → Outside → Type 0
 FollowsRun a status o = (Stops (StopsRun o.files a o.shelf o.shelf') status × Silent o) ⊎ PlaysRun a status o
 
--- `check` and `migrate`: the configuration was fetched, and bytes that stand so to it are put
+-- `check`, `migrate`, `flow` and `draw`: the configuration was fetched, and bytes that stand so to it are put
 pub record ShowsConfig (Bytes : Config → List ℕ → Type 0) (name : List ℕ) (status : Status) (o : ShelfAndSink) : Type 0 where
   pub config : Config
   pub bytes : List ℕ
@@ -178,6 +182,29 @@ pub record IsMigrated (c : Config) (bytes : List ℕ) : Type 0 where
   pub same : config_of bytes ≡ Ok c
   pub version : version_of bytes ≡ Some (pos 2)
 
+-- the picture of a configuration
+abbrev pub IsDrawing : Config → List ℕ → Type 0
+IsDrawing c bytes = bytes ≡ drawing_of c
+
+-- how a check is answered: what was recorded is accepted, and that is put; or the line is told
+abbrev pub AnswersCheck : Result (Unit {0}) AuditFault → Status → Seen → Seen → Type 0
+AnswersCheck (Ok _) status out out' = Closes None (codes "accepted\n") status out out'
+AnswersCheck (Err fault) status out out' = (status ≡ Audit fault) × (out' ≡ out)
+
+-- `audit`: the configuration and what was recorded were fetched, and are checked
+pub record ChecksAudit (a : AuditAsked) (status : Status) (o : ShelfAndSink) : Type 0 where
+  pub config : Config
+  pub bytes : List ℕ
+  pub result : Result (Unit {0}) AuditFault
+  pub has : HasConfig o.files a.config config
+  pub read : IsRead o.files a.recorded bytes
+  pub shelf : o.shelf' ≡ o.shelf
+  pub checks : Checks config bytes result
+  pub answers : AnswersCheck result status o.out o.out'
+
+abbrev pub FollowsAudit : AuditAsked → Status → ShelfAndSink → Type 0
+FollowsAudit a status o = (Stops (StopsAudit o.files a o.shelf o.shelf') status × (o.out' ≡ o.out)) ⊎ ChecksAudit a status o
+
 -- the answer about a file of this name
 abbrev pub status_of : List ℕ → Answer → Status
 status_of name answers.Done = Done
@@ -200,5 +227,8 @@ Says (Some (WantsRun a)) status o = FollowsRun a status o
 Says (Some (WantsLoad number)) status o = FollowsLoad number status (run_of o) o.out o.out' × (o.shelf' ≡ o.shelf)
 Says (Some (WantsCheck name)) status o = FollowsConfig AreCounts name status (shelf_and_sink o) × Apart o
 Says (Some (WantsMigration name)) status o = FollowsConfig IsMigrated name status (shelf_and_sink o) × Apart o
+Says (Some (WantsAudit a)) status o = FollowsAudit a status (shelf_and_sink o) × Apart o
+Says (Some (WantsFlow name)) status o = FollowsConfig IsReport name status (shelf_and_sink o) × Apart o
+Says (Some (WantsDrawing name)) status o = FollowsConfig IsDrawing name status (shelf_and_sink o) × Apart o
 Says (Some (WantsBytes source)) status o = ShowsFile asm_of source status o
 Says (Some (WantsText image)) status o = ShowsFile (λ bytes. Ok (dis_of bytes)) image status o

@@ -8,10 +8,11 @@ use Rattle.vv_io.specs.Shelf.{File}
 use Rattle.sys_objects.specs.declared.records.Config.{Config}
 use Rattle.sys_objects.specs.declared.records.GuestRow.{GuestRow}
 use Rattle.sys_script.specs.declared.event.Event.{Event}
-use Rattle.vv_commands.specs.Files.{AreImages, HasAll, HasConfig, HasScript, IsRead, IsScriptRefused, StopsConfig, StopsFile, StopsRun}
+use Rattle.vv_commands.specs.Files.{AreImages, HasAll, HasConfig, HasScript, IsRead, IsScriptRefused, StopsAudit, StopsConfig, StopsFile, StopsRun}
 use Rattle.vv_commands.specs.Solo.{solo_config}
-use Rattle.vv_commands.specs.Words.{Asked, RunAsked}
+use Rattle.vv_commands.specs.Words.{Asked, AuditAsked, RunAsked}
 use Rattle.vv_commands.specs.declared.fetching.Inputs.{Inputs}
+use Rattle.vv_commands.specs.declared.fetching.Recorded.{Recorded}
 use Rattle.vv_commands.specs.declared.stop.Stop.{Stop}
 use Rattle.vv_commands.specs.declared.stop.Stop.TheVariants.{Missing, TooLong, ShelfFault, Config as ConfigRefused, Script as ScriptRefused, NoMemory}
 
@@ -58,3 +59,8 @@ FetchesRun files a before now (Err stop) = StopsRun files a before now stop
 abbrev pub FetchesSolo : Option (List File) → Asked → ℕ → ℕ → Result Inputs Stop → Type 0
 FetchesSolo files a before now (Ok x) = (image : List ℕ) × IsRead files a.image image × (now ≡ before) × (x.config ≡ solo_config a) × (x.events.items ≡ []) × (map (λ b. b.items) x.images.items ≡ image ∷ [])
 FetchesSolo files a before now (Err stop) = StopsFile files a.image before now stop
+
+-- what an audit checks: its configuration and what was recorded were fetched
+abbrev pub FetchesAudit : Option (List File) → AuditAsked → ℕ → ℕ → Result Recorded Stop → Type 0
+FetchesAudit files a before now (Ok x) = HasConfig files a.config x.config × IsRead files a.recorded x.bytes.items × (now ≡ before)
+FetchesAudit files a before now (Err stop) = StopsAudit files a before now stop

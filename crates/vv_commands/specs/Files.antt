@@ -11,7 +11,7 @@ use Rattle.sys_objects.specs.declared.records.GuestRow.{GuestRow}
 use Rattle.sys_script.specs.Script.{script_of}
 use Rattle.sys_script.specs.declared.event.Event.{Event}
 use Rattle.sys_script.specs.declared.event.ScriptFault.{ScriptFault}
-use Rattle.vv_commands.specs.Words.{RunAsked}
+use Rattle.vv_commands.specs.Words.{AuditAsked, RunAsked}
 use Rattle.vv_commands.specs.declared.stop.Stop.{Stop}
 use Rattle.vv_commands.specs.declared.stop.Stop.TheVariants.{Missing, TooLong, ShelfFault, Config as ConfigRefused, Script as ScriptRefused, NoMemory}
 
@@ -68,6 +68,16 @@ pub record IsImage (files : Option (List File)) (a : RunAsked) (name : List ℕ)
 abbrev pub IsNext : Option (List File) → RunAsked → List ℕ → Type 0
 IsNext files a name = (name ≡ a.config) ⊎ (IsScript files a name ⊎ IsImage files a name)
 
+-- what is to be checked is fetched next: the configuration is accepted
+pub record IsRecorded (files : Option (List File)) (a : AuditAsked) (name : List ℕ) : Type 0 where
+  pub config : Config
+  pub has : HasConfig files a.config config
+  pub is : name ≡ a.recorded
+
+-- a file of an audit that is fetched, as all before it were
+abbrev pub IsNextOfAudit : Option (List File) → AuditAsked → List ℕ → Type 0
+IsNextOfAudit files a name = (name ≡ a.config) ⊎ IsRecorded files a name
+
 -- a configuration's text was fetched, and is refused
 pub record IsConfigRefused (files : Option (List File)) (name : List ℕ) (f : ConfigFault) : Type 0 where
   pub text : List ℕ
@@ -106,3 +116,12 @@ StopsRun files a before now ShelfFault = Rose before now
 StopsRun files a before now (ConfigRefused f) = IsConfigRefused files a.config f × (now ≡ before)
 StopsRun files a before now (ScriptRefused f) = (c : Config) × HasConfig files a.config c × IsScriptRefused files a.script f × (now ≡ before)
 StopsRun files a before now NoMemory = Unit {0}
+
+-- why an audit's files give nothing to check
+abbrev pub StopsAudit : Option (List File) → AuditAsked → ℕ → ℕ → Stop → Type 0
+StopsAudit files a before now (Missing n) = IsNextOfAudit files a n × Lacks files n before now
+StopsAudit files a before now (TooLong n) = IsNextOfAudit files a n × HasTooLong files n before now
+StopsAudit files a before now ShelfFault = Rose before now
+StopsAudit files a before now (ConfigRefused f) = IsConfigRefused files a.config f × (now ≡ before)
+StopsAudit files a before now (ScriptRefused f) = ⊥
+StopsAudit files a before now NoMemory = Unit {0}

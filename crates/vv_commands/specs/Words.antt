@@ -5,7 +5,7 @@ use Rattle.std.specs.Option.{option_map}
 use Rattle.vv_base.specs.Digits.{decimal_of}
 use Rattle.vv_base.specs.Names.{is_file_name}
 use Rattle.vv_commands.specs.declared.words.Request.{Request}
-use Rattle.vv_commands.specs.declared.words.Request.TheVariants.{Solo, Run, Load, Check, Migrate, Asm, Dis}
+use Rattle.vv_commands.specs.declared.words.Request.TheVariants.{Solo, Run, Load, Check, Migrate, Audit, Flow, Draw, Asm, Dis}
 
 -- `solo IMAGE STEPS`
 pub record Asked : Type 0 where
@@ -18,6 +18,11 @@ pub record RunAsked : Type 0 where
   pub script : List ℕ
   pub rounds : ℕ
 
+-- `audit CONFIG RECORD`
+pub record AuditAsked : Type 0 where
+  pub config : List ℕ
+  pub recorded : List ℕ
+
 -- what each command is given
 pub data Wanted : Type 0 where
   WantsSolo : Asked → Wanted
@@ -25,6 +30,9 @@ pub data Wanted : Type 0 where
   WantsLoad : ℕ → Wanted
   WantsCheck : List ℕ → Wanted
   WantsMigration : List ℕ → Wanted
+  WantsAudit : AuditAsked → Wanted
+  WantsFlow : List ℕ → Wanted
+  WantsDrawing : List ℕ → Wanted
   WantsBytes : List ℕ → Wanted
   WantsText : List ℕ → Wanted
 
@@ -46,6 +54,8 @@ file_wanted command file =
     if is_file_name file then
     (if is_word command (codes "check") then Some (WantsCheck file)
     else if is_word command (codes "migrate") then Some (WantsMigration file)
+    else if is_word command (codes "flow") then Some (WantsFlow file)
+    else if is_word command (codes "draw") then Some (WantsDrawing file)
     else if is_word command (codes "asm") then Some (WantsBytes file)
     else if is_word command (codes "dis") then Some (WantsText file) else None)
     else None
@@ -59,6 +69,16 @@ abbrev pub solo_asked : List ℕ → List ℕ → List ℕ → Option Asked
 solo_asked command image steps =
     if is_word command (codes "solo") && is_file_name image then option_map (λ n. record { image = image; steps = n }) (number_in steps 100000) else None
 
+-- `audit`, and two files' names
+abbrev pub audit_asked : List ℕ → List ℕ → List ℕ → Option AuditAsked
+audit_asked command config recorded =
+    if is_word command (codes "audit") && is_file_name config && is_file_name recorded then Some (record { config = config; recorded = recorded }) else None
+
+-- `audit` and its two files, or `solo`, an image and a number
+unfoldable pub two_wanted : List ℕ → List ℕ → List ℕ → Option Wanted
+two_wanted command first second =
+    if is_word command (codes "audit") then option_map (λ a. WantsAudit a) (audit_asked command first second) else option_map (λ a. WantsSolo a) (solo_asked command first second)
+
 -- `run`, two files' names, and a number to 1,000,000
 abbrev pub run_asked : List ℕ → List ℕ → List ℕ → List ℕ → Option RunAsked
 run_asked command config script rounds =
@@ -67,7 +87,7 @@ run_asked command config script rounds =
 -- what the words ask for, if they are of a form
 abbrev pub wanted : List (List ℕ) → Option Wanted
 wanted (command ∷ word ∷ []) = word_wanted command word
-wanted (command ∷ image ∷ steps ∷ []) = option_map (λ a. WantsSolo a) (solo_asked command image steps)
+wanted (command ∷ first ∷ second ∷ []) = two_wanted command first second
 wanted (command ∷ config ∷ script ∷ rounds ∷ []) = option_map (λ a. WantsRun a) (run_asked command config script rounds)
 wanted words = None
 
@@ -78,6 +98,9 @@ wanted_by (Run order) = WantsRun (record { config = order.config; script = order
 wanted_by (Load number) = WantsLoad number
 wanted_by (Check file) = WantsCheck file
 wanted_by (Migrate file) = WantsMigration file
+wanted_by (Audit order) = WantsAudit (record { config = order.config; recorded = order.recorded })
+wanted_by (Flow file) = WantsFlow file
+wanted_by (Draw file) = WantsDrawing file
 wanted_by (Asm source) = WantsBytes source
 wanted_by (Dis image) = WantsText image
 

@@ -1,10 +1,10 @@
-ghost use Rattle.std.specs.Prelude.{◌≡◌, length, map, IfOk};
+ghost use Rattle.std.specs.Prelude.{◌≡◌, ◌≤◌, length, map, IfOk};
 ghost use Rattle.sys_objects.specs.Condition.{IsConfig};
 ghost use Rattle.sys_script.specs.Events.{AreEvents};
-ghost use Rattle.vv_commands.specs.Fetches.{FetchesConfig, FetchesFile, FetchesImages, FetchesRun, FetchesScript};
+ghost use Rattle.vv_commands.specs.Fetches.{FetchesAudit, FetchesConfig, FetchesFile, FetchesImages, FetchesRun, FetchesScript};
 
 use crate::stop::Stop;
-use crate::words::RunOrder;
+use crate::words::{AuditOrder, RunOrder};
 use std::alloc::Global;
 use sys_config::read_config;
 use sys_objects::{Config, ConfigError, GuestRow};
@@ -104,4 +104,27 @@ pub fn fetch_run<S: Shelf>(alloc: Global, shelf: &mut S, order: &RunOrder) -> Re
         events,
         images,
     })
+}
+
+/// What is checked by an audit.
+#[derive(Drop)]
+pub struct Recorded {
+    pub config: Config,
+    /// What an audit line was shown, it may be.
+    pub bytes: Vec<u8>,
+}
+
+/// Fetches the configuration, and then what was recorded.
+pub fn fetch_audit<S: Shelf>(
+    alloc: Global,
+    shelf: &mut S,
+    audit: &AuditOrder,
+) -> Result<Recorded, Stop>
+    ensures fetches { FetchesAudit (S.files shelf.old) (record { config = audit.now.config; recorded = audit.now.recorded }) (S.faults shelf.old) (S.faults shelf.new) result }
+    ensures accepted { IfOk result (λ x. IsConfig x.config) }
+    ensures within { IfOk result (λ x. length x.bytes.items ≤ 16777216) }
+{
+    let config = fetch_config(alloc, shelf, &audit.config)?;
+    let bytes = fetch_file(alloc, shelf, &audit.recorded)?;
+    Ok(Recorded { config, bytes })
 }

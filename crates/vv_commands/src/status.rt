@@ -1,6 +1,7 @@
 ghost use Rattle.std.specs.Prelude.{◌≡◌, ◌++◌, ◌+◌, ◌≤◌, length, decimal};
 ghost use Rattle.vv_commands.specs.Texts.{code_of, config_text, device_text, kind_text, script_text, text_of};
 
+use sys_audit_check::AuditFault;
 use sys_objects::ConfigFault;
 use sys_script::{ScriptFault, ScriptKind};
 use sys_system::Device;
@@ -35,6 +36,8 @@ pub enum Status {
     Device(Device),
     /// A line of the source is refused.
     Asm(AsmFault),
+    /// The bytes through a line are no audit of the configuration.
+    Audit(AuditFault),
     /// The summary, bytes or text couldn't be put.
     OutFault,
     /// Memory ran out.
@@ -150,6 +153,7 @@ pub fn status_text(s: &Status) -> Text<96>
         Status::DriveIn(drive) => numbered(b"drive ", u64::from(*drive)),
         Status::Device(device) => device_text(*device),
         Status::Asm(fault) => fault_text(fault),
+        Status::Audit(fault) => numbered(b"audit line ", u64::from(fault.line)),
         Status::OutFault => worded(b"output fault"),
         Status::NoMemory => worded(b"no memory"),
     }
@@ -174,5 +178,6 @@ pub fn status_code(s: &Status) -> u8
         Status::NoMemory => 12,
         Status::TooLong(_) => 13,
         Status::Asm(_) => 15,
+        Status::Audit(_) => 18,
     }
 }

@@ -1,19 +1,23 @@
 ghost use Rattle.std.specs.Prelude.{◌≡◌, ◌≤◌, ◌*◌, List, ℕ, map, string_bytes, length, true, vec_len};
+ghost use Rattle.sys_flow.specs.Report.{IsReport};
 ghost use Rattle.vv_base.specs.Names.{is_file_name};
-ghost use Rattle.vv_commands.specs.Answer.{AreCounts, FollowsConfig, FollowsRun, FollowsSolo, IsMigrated, Says, status_of};
+ghost use Rattle.vv_commands.specs.Answer.{AreCounts, FollowsAudit, FollowsConfig, FollowsRun, FollowsSolo, IsDrawing, IsMigrated, Says, status_of};
 ghost use Rattle.vv_commands.specs.Fetches.{FetchesSolo};
 ghost use Rattle.vv_commands.specs.Words.{wanted};
 
-use crate::fetching::{Inputs, fetch_config, fetch_file, fetch_run};
+use crate::fetching::{Inputs, fetch_audit, fetch_config, fetch_file, fetch_run};
 use crate::loading::load;
 use crate::playing::{close, play};
 use crate::report::check_line;
 use crate::solo::solo_config;
 use crate::status::Status;
 use crate::stop::{Stop, stopped_status};
-use crate::words::{Order, Request, RunOrder, parse};
+use crate::words::{AuditOrder, Order, Request, RunOrder, parse};
 use std::alloc::Global;
+use sys_audit_check::check_audit;
 use sys_config::migrate_text;
+use sys_draw::drawing;
+use sys_flow::report;
 use vasm_files::{Answer, asm, dis};
 use vax_hw::Hardware;
 use vv_base::{FileName, NoMemory};
@@ -105,6 +109,48 @@ fn migrate<S: Shelf, O: Sink>(alloc: Global, name: &FileName, shelf: &mut S, out
     }
 }
 
+/// `flow`: shows which object's inputs may reach which object.
+fn flow<S: Shelf, O: Sink>(alloc: Global, name: &FileName, shelf: &mut S, out: &mut O) -> Status
+    ensures { FollowsConfig IsReport name.now result (record { files = S.files shelf.old; shelf = S.faults shelf.old; shelf' = S.faults shelf.new; out = O.printed out.old; out' = O.printed out.new }) }
+{
+    let config = match fetch_config(alloc, shelf, name) {
+        Ok(config) => config,
+        Err(stop) => return stopped_status(stop),
+    };
+    match report(alloc, &config) {
+        Ok(lines) => close(None, lines.as_slice(), out),
+        Err(NoMemory) => Status::NoMemory,
+    }
+}
+
+/// `draw`: shows a picture of the configuration.
+fn draw<S: Shelf, O: Sink>(alloc: Global, name: &FileName, shelf: &mut S, out: &mut O) -> Status
+    ensures { FollowsConfig IsDrawing name.now result (record { files = S.files shelf.old; shelf = S.faults shelf.old; shelf' = S.faults shelf.new; out = O.printed out.old; out' = O.printed out.new }) }
+{
+    let config = match fetch_config(alloc, shelf, name) {
+        Ok(config) => config,
+        Err(stop) => return stopped_status(stop),
+    };
+    match drawing(alloc, &config) {
+        Ok(picture) => close(None, picture.as_slice(), out),
+        Err(NoMemory) => Status::NoMemory,
+    }
+}
+
+/// `audit`: shows that what was recorded is an audit of the configuration, or tells the first line through which it isn't.
+fn audit<S: Shelf, O: Sink>(alloc: Global, order: &AuditOrder, shelf: &mut S, out: &mut O) -> Status
+    ensures { FollowsAudit (record { config = order.now.config; recorded = order.now.recorded }) result (record { files = S.files shelf.old; shelf = S.faults shelf.old; shelf' = S.faults shelf.new; out = O.printed out.old; out' = O.printed out.new }) }
+{
+    let recorded = match fetch_audit(alloc, shelf, order) {
+        Ok(recorded) => recorded,
+        Err(stop) => return stopped_status(stop),
+    };
+    match check_audit(&recorded.config, recorded.bytes.as_slice()) {
+        Ok(()) => close(None, b"accepted\n", out),
+        Err(fault) => Status::Audit(fault),
+    }
+}
+
 /// The answer about a file of this name.
 fn status_of(name: FileName, answer: Answer) -> Status
     ensures { result ≡ status_of name answer }
@@ -143,6 +189,9 @@ pub fn vvmm_run<H: Hardware, S: Shelf, O: Sink>(
         Some(Request::Load(number)) => load(alloc, number, machine, lines, out),
         Some(Request::Check(name)) => check(alloc, &name, shelf, out),
         Some(Request::Migrate(name)) => migrate(alloc, &name, shelf, out),
+        Some(Request::Audit(order)) => audit(alloc, &order, shelf, out),
+        Some(Request::Flow(name)) => flow(alloc, &name, shelf, out),
+        Some(Request::Draw(name)) => draw(alloc, &name, shelf, out),
         Some(Request::Asm(source)) => {
             let answer = asm(alloc, &source, shelf, out);
             status_of(source, answer)

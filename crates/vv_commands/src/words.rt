@@ -1,7 +1,7 @@
 ghost use Rattle.std.specs.Prelude.{◌≡◌, ◌≤◌, ℕ, map, string_bytes, true, IfSome};
 ghost use Rattle.std.specs.Option.{option_map};
 ghost use Rattle.vv_base.specs.Names.{is_file_name};
-ghost use Rattle.vv_commands.specs.Words.{IsInRange, file_wanted, number_in, run_asked, solo_asked, wanted, wanted_by, word_wanted};
+ghost use Rattle.vv_commands.specs.Words.{IsInRange, file_wanted, number_in, run_asked, audit_asked, solo_asked, two_wanted, wanted, wanted_by, word_wanted};
 
 use vv_base::{FileName, file_name, read_decimal};
 
@@ -20,6 +20,13 @@ pub struct RunOrder {
     pub rounds: u32,
 }
 
+/// What `audit CONFIG RECORD` asks for.
+#[derive(Drop)]
+pub struct AuditOrder {
+    pub config: FileName,
+    pub recorded: FileName,
+}
+
 /// What the words ask for.
 #[derive(Drop)]
 pub enum Request {
@@ -33,6 +40,12 @@ pub enum Request {
     Check(FileName),
     /// A configuration, written anew.
     Migrate(FileName),
+    /// What an audit line was shown, checked against a configuration.
+    Audit(AuditOrder),
+    /// Which object's inputs may reach which object.
+    Flow(FileName),
+    /// A picture of a configuration.
+    Draw(FileName),
     /// A source, assembled.
     Asm(FileName),
     /// An image, disassembled.
@@ -63,6 +76,32 @@ fn solo_order(command: &[u8], image: &[u8], steps: &[u8]) -> Option<Order>
     Some(Order { image, steps })
 }
 
+/// What `audit CONFIG RECORD` asks for, if the words are of the form.
+fn audit_order(command: &[u8], config: &[u8], recorded: &[u8]) -> Option<AuditOrder>
+    ensures { option_map (λ o. record { config = o.config; recorded = o.recorded }) result ≡ audit_asked command.now config.now recorded.now }
+{
+    if command != b"audit".as_slice() {
+        return None;
+    }
+    let config = file_name(config)?;
+    let recorded = file_name(recorded)?;
+    Some(AuditOrder { config, recorded })
+}
+
+/// What a command with two words behind it asks for, if the words are of a form.
+#[tactic(auto, unfolding(crate::specs::Words::two_wanted))]
+fn two_request(command: &[u8], first: &[u8], second: &[u8]) -> Option<Request>
+    ensures range { IfSome result (λ r. IsInRange r) }
+    ensures wanted { option_map (λ r. wanted_by r) result ≡ two_wanted command.now first.now second.now }
+{
+    if command == b"audit".as_slice() {
+        let order = audit_order(command, first, second)?;
+        return Some(Request::Audit(order));
+    }
+    let order = solo_order(command, first, second)?;
+    Some(Request::Solo(order))
+}
+
 /// What `run CONFIG SCRIPT ROUNDS` asks for, if the words are of the form.
 fn run_order(command: &[u8], config: &[u8], script: &[u8], rounds: &[u8]) -> Option<RunOrder>
     ensures range { IfSome result (λ o. (1 ≤ o.rounds) × (o.rounds ≤ 1000000)) }
@@ -91,6 +130,10 @@ fn file_request(command: &[u8], file: &[u8]) -> Option<Request>
         Some(Request::Check(name))
     } else if command == b"migrate".as_slice() {
         Some(Request::Migrate(name))
+    } else if command == b"flow".as_slice() {
+        Some(Request::Flow(name))
+    } else if command == b"draw".as_slice() {
+        Some(Request::Draw(name))
     } else if command == b"asm".as_slice() {
         Some(Request::Asm(name))
     } else if command == b"dis".as_slice() {
@@ -119,9 +162,8 @@ pub fn parse(words: &[String]) -> Option<Request>
 {
     match words {
         [command, word] => word_request(command.as_bytes(), word.as_bytes()),
-        [command, image, steps] => {
-            let order = solo_order(command.as_bytes(), image.as_bytes(), steps.as_bytes())?;
-            Some(Request::Solo(order))
+        [command, first, second] => {
+            two_request(command.as_bytes(), first.as_bytes(), second.as_bytes())
         }
         [command, config, script, rounds] => {
             let order = run_order(

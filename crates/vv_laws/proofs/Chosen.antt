@@ -1,10 +1,11 @@
 -- Which answer must come to `run`.
-use Rattle.std.proofs.Common.{ℕ, ◌≡◌, inl, inr, List, Option, Some, None, All, subst, sym, ap, arith}
+use Rattle.std.proofs.Common.{ℕ, ◌≡◌, inl, inr, List, Option, Some, None, All, refl, subst, sym, ap, ◌∙◌, arith}
 use Rattle.vv_io.specs.Blocks.{Kept}
 use Rattle.vv_io.specs.Causes.{Rose}
 use Rattle.vv_io.specs.Lines.{Seen}
 use Rattle.vv_io.specs.Shelf.{File, held}
 use Rattle.sys_config.proofs.Accepted.{accepted_is}
+use Rattle.sys_drives.specs.Loads.{IsMisfit}
 use Rattle.sys_drives.specs.Rows.{FitsDrive, drive_at}
 use Rattle.sys_guests.specs.Loads.{first_misfit}
 use Rattle.sys_objects.specs.declared.errors.ConfigFault.{ConfigFault}
@@ -18,19 +19,19 @@ use Rattle.vv_commands.specs.declared.status.Status.{Status}
 use Rattle.vv_commands.specs.declared.stop.Stop.{Stop}
 use Rattle.vv_commands.specs.declared.stop.Stop.TheVariants.{Missing, TooLong, ShelfFault, Config as ConfigRefused, Script as ScriptRefused, NoMemory}
 use Rattle.vv_laws.proofs.Nexts.{all_read, line_read, rule_read, same_next}
-use Rattle.vv_laws.proofs.Played.{drive_in_rose, plays_names_drive, plays_names_line, plays_served}
+use Rattle.vv_laws.proofs.Played.{drive_in_rose, plays_image, plays_names_drive, plays_names_line, plays_served, plays_size}
 use Rattle.vv_laws.proofs.Told.{lacked, not_config, not_long, not_script, one_config, one_images, one_line, one_rule, too_long}
-use Rattle.vv_laws.specs.Complete.{CompletesRun, IsLong, IsMissing, IsServed, IsTooLong, TellsLine, TellsRule, TellsRunDriveFault, TellsRunLine, TellsRunLineFault, TellsRunMissing, TellsRunRule, TellsRunTooLong, line_at}
+use Rattle.vv_laws.specs.Complete.{CompletesRun, IsImageOf, IsLong, IsMissing, IsServed, IsSizeOf, IsTooLong, TellsLine, TellsRule, TellsRunDriveFault, TellsRunImage, TellsRunLine, TellsRunLineFault, TellsRunMissing, TellsRunRule, TellsRunSize, TellsRunTooLong, line_at}
 
 module _ (files : List File) (a : RunAsked) (before now : ℕ) (none : Rose before now → ⊥) where
   -- the fetch of a run's files stops
-  served_stop : (stop : Stop) (c : Config) (es : List Event) (images : List (List ℕ)) → StopsRun (Some files) a before now stop → HasAll (Some files) a c es images → IsServed (stopped_status stop)
-  served_stop (Missing n) c es images (next, lacks) has = all_read files a n c es images has next (lacked files n lacks)
-  served_stop (TooLong n) c es images (next, long) has = all_read files a n c es images has next (too_long files n long)
-  served_stop ShelfFault c es images rose has = none rose
-  served_stop (ConfigRefused f) c es images (refused, kept) has = not_config files a.config c f has.config refused
-  served_stop (ScriptRefused f) c es images (d, config, refused, kept) has = not_script files a.script es f has.script refused
-  served_stop NoMemory c es images h has = tt
+  only_memory : (stop : Stop) (c : Config) (es : List Event) (images : List (List ℕ)) → StopsRun (Some files) a before now stop → HasAll (Some files) a c es images → stopped_status stop ≡ stopped_status NoMemory
+  only_memory (Missing n) c es images (next, lacks) has = absurd (all_read files a n c es images has next (lacked files n lacks))
+  only_memory (TooLong n) c es images (next, long) has = absurd (all_read files a n c es images has next (too_long files n long))
+  only_memory ShelfFault c es images rose has = absurd (none rose)
+  only_memory (ConfigRefused f) c es images (refused, kept) has = absurd (not_config files a.config c f has.config refused)
+  only_memory (ScriptRefused f) c es images (d, config, refused, kept) has = absurd (not_script files a.script es f has.script refused)
+  only_memory NoMemory c es images h has = refl
 
   missing_stop : (stop : Stop) (name : List ℕ) → StopsRun (Some files) a before now stop → IsNext (Some files) a name → held files name ≡ None → IsMissing name (stopped_status stop)
   missing_stop (Missing n) name (next, lacks) mine lack = same_next files a n name next mine (lacked files n lacks) (lacked files name lack)
@@ -71,17 +72,27 @@ stops_told o files a stop told why = subst (λ (f : Option (List File)). StopsRu
 has_told : (o : Outside) (files : List File) (a : RunAsked) (status : Status) (p : PlaysRun a status o) → o.files ≡ Some files → HasAll (Some files) a p.config p.events p.images
 has_told o files a status p told = subst (λ (f : Option (List File)). HasAll f a p.config p.events p.images) told p.has
 
+-- what a run was made of is what the files stand for
+same_config : (o : Outside) (files : List File) (a : RunAsked) (status : Status) (p : PlaysRun a status o) → o.files ≡ Some files → (c : Config) (es : List Event) (images : List (List ℕ)) → HasAll (Some files) a c es images → c ≡ p.config
+same_config o files a status p told c es images has = one_config files a.config c p.config has.config (has_told o files a status p told).config
+
+same_images : (o : Outside) (files : List File) (a : RunAsked) (status : Status) (p : PlaysRun a status o) → o.files ≡ Some files → (c : Config) (es : List Event) (images : List (List ℕ)) → HasAll (Some files) a c es images → images ≡ p.images
+same_images o files a status p told c es images has =
+    one_images files p.config.guests images p.images (subst (λ (d : Config). AreImages (Some files) d.guests images) (same_config o files a status p told c es images has) has.fetched) (has_told o files a status p told).fetched
+
+misfit_told : (o : Outside) (files : List File) (a : RunAsked) (status : Status) (p : PlaysRun a status o) → o.files ≡ Some files → (c : Config) (es : List Event) (images : List (List ℕ)) → HasAll (Some files) a c es images → (misfit : Option ℕ)
+    → first_misfit c.guests images ≡ misfit → first_misfit p.config.guests p.images ≡ misfit
+misfit_told o files a status p told c es images has misfit is =
+    subst (λ (d : Config). first_misfit d.guests p.images ≡ misfit) (same_config o files a status p told c es images has) (subst (λ (xs : List (List ℕ)). first_misfit c.guests xs ≡ misfit) (same_images o files a status p told c es images has) is)
+
 pub completes_run : CompletesRun
-completes_run a status o files c es images (inl (stops, silent)) told has fits drives none = subst (λ (s : Status). IsServed s) (sym stops.is) (served_stop files a o.shelf o.shelf' none.shelf stops.stop c es images (stops_told o files a stops.stop told stops.why) has)
+completes_run a status o files c es images (inl (stops, silent)) told has fits drives none = subst (λ (s : Status). IsServed s) (sym (stops.is ∙ only_memory files a o.shelf o.shelf' none.shelf stops.stop c es images (stops_told o files a stops.stop told stops.why) has)) tt
 completes_run a status o files c es images (inr p) told has fits drives none =
     let all : HasAll (Some files) a p.config p.events p.images = has_told o files a status p told in
-    let config : c ≡ p.config = one_config files a.config c p.config has.config all.config in
-    let own : AreImages (Some files) p.config.guests images = subst (λ (d : Config). AreImages (Some files) d.guests images) config has.fetched in
-    let same : images ≡ p.images = one_images files p.config.guests images p.images own all.fetched in
-    let misfit : first_misfit p.config.guests p.images ≡ None = subst (λ (d : Config). first_misfit d.guests p.images ≡ None) config (subst (λ (xs : List (List ℕ)). first_misfit c.guests xs ≡ None) same fits) in
-    let fit : All (FitsDrive o.drives) p.config.volumes = subst (λ (d : Config). All (FitsDrive o.drives) d.volumes) config drives in
+    let misfit : first_misfit p.config.guests p.images ≡ None = misfit_told o files a status p told c es images has None fits in
+    let fit : All (FitsDrive o.drives) p.config.volumes = subst (λ (d : Config). All (FitsDrive o.drives) d.volumes) (same_config o files a status p told c es images has) drives in
     plays_served p.config p.images p.events a.rounds status (run_of o) o.out o.out' p.plays misfit fit
-    (λ d failed. none.drives d (drive_in_rose p.config o.drives o.drives' d (accepted_is all.config.text p.config all.config.means) fit failed)) none.lines none.drives none.out
+    (λ d failed. none.drives d (drive_in_rose p.config o.drives o.drives' d (accepted_is all.config.text p.config all.config.means) failed)) none.lines none.drives none.out
 
 pub tells_run_missing : TellsRunMissing
 tells_run_missing a status o files name (inl (stops, silent)) told next lacks none = subst (λ (s : Status). IsMissing name s) (sym stops.is) (missing_stop files a o.shelf o.shelf' none stops.stop name (stops_told o files a stops.stop told stops.why) next lacks)
@@ -98,6 +109,18 @@ tells_run_rule a status o files f (inr p) told refused none = let all : HasAll (
 pub tells_run_line : TellsRunLine
 tells_run_line a status o files c f (inl (stops, silent)) told has refused none = subst (λ (s : Status). TellsLine f s) (sym stops.is) (line_stop files a o.shelf o.shelf' none stops.stop c f (stops_told o files a stops.stop told stops.why) has refused)
 tells_run_line a status o files c f (inr p) told has refused none = let all : HasAll (Some files) a p.config p.events p.images = has_told o files a status p told in absurd (not_script files a.script p.events f all.script refused)
+
+pub tells_run_image : TellsRunImage
+tells_run_image a status o files c es images g (inl (stops, silent)) told has misfit none = subst (λ (s : Status). IsImageOf g s) (sym (stops.is ∙ only_memory files a o.shelf o.shelf' none stops.stop c es images (stops_told o files a stops.stop told stops.why) has)) tt
+tells_run_image a status o files c es images g (inr p) told has misfit none =
+    plays_image p.config p.images p.events a.rounds status (run_of o) o.out o.out' p.plays g (misfit_told o files a status p told c es images has (Some g) misfit)
+
+pub tells_run_size : TellsRunSize
+tells_run_size a status o files c es images v (inl (stops, silent)) told has fits misfit none = subst (λ (s : Status). IsSizeOf v s) (sym (stops.is ∙ only_memory files a o.shelf o.shelf' none.shelf stops.stop c es images (stops_told o files a stops.stop told stops.why) has)) tt
+tells_run_size a status o files c es images v (inr p) told has fits misfit none =
+    let all : HasAll (Some files) a p.config p.events p.images = has_told o files a status p told in
+    plays_size p.config p.images p.events a.rounds status (run_of o) o.out o.out' p.plays v (misfit_told o files a status p told c es images has None fits) (subst (λ (d : Config). IsMisfit d.volumes o.drives v) (same_config o files a status p told c es images has) misfit)
+    (λ d failed. none.drives d (drive_in_rose p.config o.drives o.drives' d (accepted_is all.config.text p.config all.config.means) failed))
 
 pub tells_run_line_fault : TellsRunLineFault
 tells_run_line_fault a status o k (inl (stops, silent)) h = absurd (omega (arith, h, ap (λ (ls : List Seen). (line_at ls k).faults) silent.run.shown.lines))

@@ -6,4 +6,5 @@ pub mod Solos
 pub mod Loads
 pub mod Chosen
 pub mod Shown
+pub mod Audits
 pub mod Steps

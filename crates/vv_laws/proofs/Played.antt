@@ -1,18 +1,19 @@
 -- A run that was to be made, by its counts of faults.
-use Rattle.std.proofs.Common.{ℕ, ◌≡◌, ◌<◌, ◌==◌, List, [], length, Bool, true, false, All, Option, Some, None, Result, Ok, Err, refl, subst, sym, ap, ◌∙◌, arith}
-use Rattle.std.proofs.lemmas.Bool.{eqb-false, eqb-true}
+use Rattle.std.proofs.Common.{ℕ, ◌≡◌, ◌<◌, ◌+◌, ◌==◌, ◌⊎◌, inl, inr, List, [], length, take, Bool, true, false, All, Option, Some, None, Result, Ok, Err, refl, subst, sym, ap, ◌∙◌, arith}
+use Rattle.std.proofs.lemmas.Bool.{cases_order, eqb-false, eqb-true}
 use Rattle.std.proofs.lemmas.List.{get_or-set_other, get_or-set_same}
 use Rattle.vv_io.specs.Blocks.{Kept, unkept}
 use Rattle.vv_io.specs.Causes.{Rose}
 use Rattle.vv_io.specs.Lines.{Seen}
-use Rattle.sys_drives.proofs.Places.{at_stands}
-use Rattle.sys_drives.specs.Loads.{HasFailed, OnlyRose}
+use Rattle.sys_drives.proofs.Places.{at_stands, to_first}
+use Rattle.sys_drives.specs.Loads.{HasFailed, IsMisfit, OnlyRose}
 use Rattle.sys_drives.specs.Rows.{FitsDrive, drive_at}
 use Rattle.sys_guests.specs.Loads.{first_misfit}
 use Rattle.sys_lines.specs.ShownSince.{ShownSince}
 use Rattle.sys_lines.specs.Shows.{Shows}
 use Rattle.sys_objects.specs.Condition.{IsConfig, IsVolume}
 use Rattle.sys_objects.specs.declared.records.Config.{Config}
+use Rattle.sys_objects.specs.declared.records.VolumeRow.{VolumeRow}
 use Rattle.sys_rounds.proofs.Places.{both}
 use Rattle.sys_rounds.specs.Run.{Input}
 use Rattle.sys_runs.specs.Ran.{Makes, Outside, Runs, Unshown}
@@ -25,7 +26,7 @@ use Rattle.sys_system.specs.declared.power.PowerFault.TheVariants.{Image, Volume
 use Rattle.vv_commands.specs.Answer.{Answers, Closes, Plays, done_status}
 use Rattle.vv_commands.specs.declared.status.Status.{Status}
 use Rattle.vv_laws.proofs.Marked.{drive_rose, first_marked, is_there, line_rose, marked_at, no_drive_greater, no_drive_lower, no_line_greater, no_line_lower}
-use Rattle.vv_laws.specs.Complete.{IsServed, NamesDrive, NamesLine, line_at}
+use Rattle.vv_laws.specs.Complete.{IsImageOf, IsServed, IsSizeOf, NamesDrive, NamesLine, line_at}
 
 -- what is put is shown, where all was done before and the sink's count did not rise
 pub closes_served : (failed : Option Device) (bytes : List ℕ) (status : Status) (out out' : Seen) → failed ≡ None → Closes failed bytes status out out' → (Rose out.faults out'.faults → ⊥) → IsServed status
@@ -54,15 +55,28 @@ none_failed x ran o made lines drives = made.failed ∙ no_device (first_marked 
     (λ d e. drives d (drive_rose x made.drive_marks o.drives o.drives' d made.drives (marked_at made.drive_marks d e)))
 
 -- a drive that failed while its volume was read
-pub drive_in_rose : (c : Config) (drives drives' : List Kept) (d : ℕ) → IsConfig c → All (FitsDrive drives) c.volumes → HasFailed c.volumes drives drives' d → Rose (drive_at drives d).faults (drive_at drives' d).faults
-drive_in_rose c drives drives' d accepted fit failed =
+pub drive_in_rose : (c : Config) (drives drives' : List Kept) (d : ℕ) → IsConfig c → HasFailed c.volumes drives drives' d → Rose (drive_at drives d).faults (drive_at drives' d).faults
+drive_in_rose c drives drives' d accepted failed =
     let volume : IsVolume failed.row = at_stands IsVolume c.volumes failed.place failed.row failed.stands accepted.volumes in
-    let fits : FitsDrive drives failed.row = at_stands (FitsDrive drives) c.volumes failed.place failed.row failed.stands fit in
+    let first : List VolumeRow = take (failed.place + 1) c.volumes in
+    let fits : FitsDrive drives failed.row = at_stands (FitsDrive drives) first failed.place failed.row (to_first c.volumes (failed.place + 1) failed.place failed.row (omega arith) failed.stands) failed.fit in
     let size : (drive_at drives d).size ≡ failed.row.blocks = ap (λ k. (drive_at drives k).size) (sym failed.drive) ∙ fits in
     let within : d < length drives = is_there drives d (omega (arith, size, volume.some_blocks)) in
     let only : OnlyRose drives drives' d = failed.rose in
     let now : (drive_at drives' d).faults ≡ only.faults = ap (λ (ks : List Kept). (drive_at ks d).faults) only.is ∙ ap (λ (k : Kept). k.faults) (get_or-set_same drives d (record (drive_at drives d) { faults = only.faults }) unkept within) in
     subst (λ n. Rose (drive_at drives d).faults n) (sym now) only.rose
+
+-- the first volume whose drive has another size is one
+before_fits : (rows : List VolumeRow) (drives : List Kept) (v w : ℕ) → IsMisfit rows drives v → IsMisfit rows drives w → v < w → ⊥
+before_fits rows drives v w a b low = a.differs (at_stands (FitsDrive drives) (take w rows) v a.row (to_first rows w v a.row low a.stands) b.before)
+
+one_misfit : (rows : List VolumeRow) (drives : List Kept) (v w : ℕ) → IsMisfit rows drives v → IsMisfit rows drives w → v ≡ w
+one_misfit rows drives v w a b = by (cases_order v w)
+  where
+    by : (v ≡ w) ⊎ ((v < w) ⊎ (w < v)) → v ≡ w
+    by (inl e) = e
+    by (inr (inl low)) = absurd (before_fits rows drives v w a b low)
+    by (inr (inr low)) = absurd (before_fits rows drives w v b a low)
 
 -- a line whose count is greater is named, or one of a lower number
 pub named_line : (marks : List Bool) (lines lines' : List Seen) (f : ℕ → List ℕ) (k : ℕ) → Shows [] marks lines lines' f → (line_at lines k).faults < (line_at lines' k).faults
@@ -81,6 +95,27 @@ module _ (c : Config) (images : List (List ℕ)) (es : List Event) (rounds : ℕ
       by (Err (VolumeSize v)) (none, misfit, rest) answers = absurd (misfit.differs (at_stands (FitsDrive o.drives) c.volumes v misfit.row misfit.stands drives_fit))
       by (Err (DriveIn d)) (none, failed, rest) answers = absurd (readable d failed)
       by (Err NoMemory) rest (answer, same) = subst (λ (s : Status). IsServed s) (sym answer) tt
+
+  -- an image that doesn't fit is told, and then a volume whose drive has another size
+  pub plays_image : (g : ℕ) → first_misfit c.guests images ≡ Some g → IsImageOf g status
+  plays_image g first = by p.result p.runs p.answers
+    where
+      by : (result : Result Ran PowerFault) → Runs c images es rounds result o → Answers rounds result status out out' → IsImageOf g status
+      by (Ok ran) (volumes, made) closes = absurd (cc (made.fits, first))
+      by (Err (Image h)) (misfit, rest) (answer, same) = let one : h ≡ g = cc (misfit, first) in subst (λ (s : Status). IsImageOf g s) (sym answer) one
+      by (Err (VolumeSize v)) (none, other, rest) answers = cc (none, first)
+      by (Err (DriveIn d)) (none, failed, rest) answers = cc (none, first)
+      by (Err NoMemory) rest (answer, same) = subst (λ (s : Status). IsImageOf g s) (sym answer) tt
+
+  pub plays_size : (v : ℕ) → first_misfit c.guests images ≡ None → IsMisfit c.volumes o.drives v → ((d : ℕ) → HasFailed c.volumes o.drives o.drives' d → ⊥) → IsSizeOf v status
+  plays_size v fits misfit readable = by p.result p.runs p.answers
+    where
+      by : (result : Result Ran PowerFault) → Runs c images es rounds result o → Answers rounds result status out out' → IsSizeOf v status
+      by (Ok ran) (volumes, made) closes = absurd (misfit.differs (at_stands (FitsDrive o.drives) c.volumes v misfit.row misfit.stands made.loaded.fit))
+      by (Err (Image g)) (other, rest) answers = cc (other, fits)
+      by (Err (VolumeSize w)) (none, other, rest) (answer, same) = subst (λ (s : Status). IsSizeOf v s) (sym answer) (one_misfit c.volumes o.drives w v other misfit)
+      by (Err (DriveIn d)) (none, failed, rest) answers = absurd (readable d failed)
+      by (Err NoMemory) rest (answer, same) = subst (λ (s : Status). IsSizeOf v s) (sym answer) tt
 
   -- after a fault no line was put
   unshown : (fault : PowerFault) → Runs c images es rounds (Err fault) o → Unshown o

@@ -1,6 +1,6 @@
 -- Which answer must come to `solo`.
-use Rattle.std.proofs.Common.{ℕ, ◌≡◌, ◌≤◌, ◌+◌, inl, inr, List, [], ◌∷◌, length, slice_get, Bool, All, Option, Some, None, subst, sym, ap, arith}
-use Rattle.std.proofs.lemmas.Bool.{le-ltb}
+use Rattle.std.proofs.Common.{ℕ, ◌≡◌, ◌≤◌, ◌<◌, ◌+◌, inl, inr, List, [], ◌∷◌, length, slice_get, Bool, All, Option, Some, None, refl, subst, sym, ap, ◌∙◌, arith}
+use Rattle.std.proofs.lemmas.Bool.{le-ltb, lt-ltb}
 use Rattle.vv_io.specs.Blocks.{Kept}
 use Rattle.vv_io.specs.Causes.{Rose}
 use Rattle.vv_io.specs.Lines.{Seen}
@@ -17,13 +17,17 @@ use Rattle.vv_commands.specs.Words.{Asked}
 use Rattle.vv_commands.specs.declared.status.Status.{Status}
 use Rattle.vv_commands.specs.declared.stop.Stop.{Stop}
 use Rattle.vv_commands.specs.declared.stop.Stop.TheVariants.{Missing, TooLong, ShelfFault, Config as ConfigRefused, Script as ScriptRefused, NoMemory}
-use Rattle.vv_laws.proofs.Played.{plays_names_line, plays_served}
+use Rattle.vv_laws.proofs.Played.{plays_image, plays_names_line, plays_served}
 use Rattle.vv_laws.proofs.Told.{lacked, not_long, one_text, read_as, too_long}
-use Rattle.vv_laws.specs.Complete.{CompletesSolo, IsLong, IsMissing, IsServed, IsTooLong, TellsSoloDevice, TellsSoloMissing, TellsSoloTooLong, line_at}
+use Rattle.vv_laws.specs.Complete.{CompletesSolo, IsImageOf, IsLong, IsMissing, IsServed, IsTooLong, TellsSoloDevice, TellsSoloImage, TellsSoloMissing, TellsSoloTooLong, line_at}
 
 -- the image fits, and there is no volume
 no_misfit : (a : Asked) (image : List ℕ) → load_address + length image ≤ memory_size → first_misfit (solo_config a).guests (image ∷ []) ≡ None
 no_misfit a image fits = ap (λ b. place_of (λ (c : Bool). c) (b ∷ [])) (le-ltb memory_size (load_address + length image) fits)
+
+-- or it doesn't fit
+misfit : (a : Asked) (image : List ℕ) → memory_size < load_address + length image → first_misfit (solo_config a).guests (image ∷ []) ≡ Some 0
+misfit a image more = ap (λ b. place_of (λ (c : Bool). c) (b ∷ [])) (lt-ltb memory_size (load_address + length image) more)
 
 no_volume : (drives drives' : List Kept) (d : ℕ) → HasFailed [] drives drives' d → ⊥
 no_volume drives drives' d failed = there failed.place failed.row failed.stands
@@ -36,13 +40,13 @@ all_fit drives k e h = absurd (omega (arith, h))
 
 module _ (files : List File) (name : List ℕ) (before now : ℕ) where
   -- the fetch of one file stops
-  served_stop : (stop : Stop) (text : List ℕ) → StopsFile (Some files) name before now stop → IsRead (Some files) name text → (Rose before now → ⊥) → IsServed (stopped_status stop)
-  served_stop (Missing n) text (same, lacks) read none = read_as files name n text same (lacked files n lacks) read
-  served_stop (TooLong n) text (same, long) read none = read_as files name n text same (too_long files n long) read
-  served_stop ShelfFault text rose read none = none rose
-  served_stop (ConfigRefused f) text h read none = h
-  served_stop (ScriptRefused f) text h read none = h
-  served_stop NoMemory text h read none = tt
+  only_memory : (stop : Stop) (text : List ℕ) → StopsFile (Some files) name before now stop → IsRead (Some files) name text → (Rose before now → ⊥) → stopped_status stop ≡ stopped_status NoMemory
+  only_memory (Missing n) text (same, lacks) read none = absurd (read_as files name n text same (lacked files n lacks) read)
+  only_memory (TooLong n) text (same, long) read none = absurd (read_as files name n text same (too_long files n long) read)
+  only_memory ShelfFault text rose read none = absurd (none rose)
+  only_memory (ConfigRefused f) text h read none = absurd h
+  only_memory (ScriptRefused f) text h read none = absurd h
+  only_memory NoMemory text h read none = refl
 
   missing_stop : (stop : Stop) → StopsFile (Some files) name before now stop → held files name ≡ None → (Rose before now → ⊥) → IsMissing name (stopped_status stop)
   missing_stop (Missing n) (same, rest) lacks none = same
@@ -68,10 +72,16 @@ read_told : (o : Outside) (files : List File) (name text : List ℕ) → o.files
 read_told o files name text told read = subst (λ (f : Option (List File)). IsRead f name text) told read
 
 pub completes_solo : CompletesSolo
-completes_solo a status o image files (inl (stops, silent)) told read fits none = subst (λ (s : Status). IsServed s) (sym stops.is) (served_stop files a.image o.shelf o.shelf' stops.stop image (stops_told o files a.image stops.stop told stops.why) read none.shelf)
+completes_solo a status o image files (inl (stops, silent)) told read fits none = subst (λ (s : Status). IsServed s) (sym (stops.is ∙ only_memory files a.image o.shelf o.shelf' stops.stop image (stops_told o files a.image stops.stop told stops.why) read none.shelf)) tt
 completes_solo a status o image files (inr p) told read fits none =
     let same : image ≡ p.image = one_text files a.image image p.image read (read_told o files a.image p.image told p.read) in
     plays_served (solo_config a) (p.image ∷ []) [] 1 status (run_of o) o.out o.out' p.plays (no_misfit a p.image (subst (λ (text : List ℕ). load_address + length text ≤ memory_size) same fits)) (all_fit o.drives) (no_volume o.drives o.drives') none.lines none.drives none.out
+
+pub tells_solo_image : TellsSoloImage
+tells_solo_image a status o image files (inl (stops, silent)) told read more none = subst (λ (s : Status). IsImageOf 0 s) (sym (stops.is ∙ only_memory files a.image o.shelf o.shelf' stops.stop image (stops_told o files a.image stops.stop told stops.why) read none)) tt
+tells_solo_image a status o image files (inr p) told read more none =
+    let same : image ≡ p.image = one_text files a.image image p.image read (read_told o files a.image p.image told p.read) in
+    plays_image (solo_config a) (p.image ∷ []) [] 1 status (run_of o) o.out o.out' p.plays 0 (misfit a p.image (subst (λ (text : List ℕ). memory_size < load_address + length text) same more))
 
 pub tells_solo_missing : TellsSoloMissing
 tells_solo_missing a status o files (inl (stops, silent)) told lacks none = subst (λ (s : Status). IsMissing a.image s) (sym stops.is) (missing_stop files a.image o.shelf o.shelf' stops.stop (stops_told o files a.image stops.stop told stops.why) lacks none)

@@ -4,6 +4,9 @@ use Rattle.vv_io.specs.Causes.{Rose}
 use Rattle.vv_io.specs.Lines.{Seen, unseen}
 use Rattle.vv_io.specs.Shelf.{File, file_limit, held}
 use Rattle.vasm_text.specs.declared.fault.AsmFault.{AsmFault}
+use Rattle.sys_audit_check.specs.Audited.{Audited}
+use Rattle.sys_audit_check.specs.Lines.{IsFirstBad}
+use Rattle.sys_drives.specs.Loads.{IsMisfit}
 use Rattle.sys_drives.specs.Rows.{FitsDrive, drive_at}
 use Rattle.sys_guests.specs.Loads.{first_misfit}
 use Rattle.sys_objects.specs.declared.errors.ConfigFault.{ConfigFault}
@@ -11,12 +14,12 @@ use Rattle.sys_objects.specs.declared.records.Config.{Config}
 use Rattle.sys_script.specs.declared.event.Event.{Event}
 use Rattle.sys_script.specs.declared.event.ScriptFault.{ScriptFault}
 use Rattle.sys_system.specs.declared.parts.Device.TheVariants as devices
-use Rattle.vv_commands.specs.Answer.{FollowsConfig, FollowsLoad, FollowsRun, FollowsSolo, Outside, ShowsFile, run_of, shelf_and_sink}
-use Rattle.vv_commands.specs.Files.{HasAll, HasConfig, IsConfigRefused, IsNext, IsRead, IsScriptRefused}
+use Rattle.vv_commands.specs.Answer.{FollowsAudit, FollowsConfig, FollowsLoad, FollowsRun, FollowsSolo, Outside, ShowsFile, run_of, shelf_and_sink}
+use Rattle.vv_commands.specs.Files.{HasAll, HasConfig, IsConfigRefused, IsNext, IsNextOfAudit, IsRead, IsScriptRefused}
 use Rattle.vv_commands.specs.Solo.{load_address, memory_size}
-use Rattle.vv_commands.specs.Words.{Asked, RunAsked}
+use Rattle.vv_commands.specs.Words.{Asked, AuditAsked, RunAsked}
 use Rattle.vv_commands.specs.declared.status.Status.{Status}
-use Rattle.vv_commands.specs.declared.status.Status.TheVariants.{Done, Missing, TooLong, Config as ConfigRefused, Script as ScriptRefused, DriveIn, Device as DeviceFault, Asm, OutFault, NoMemory}
+use Rattle.vv_commands.specs.declared.status.Status.TheVariants.{Done, Missing, TooLong, Config as ConfigRefused, Script as ScriptRefused, Image, VolumeSize, DriveIn, Device as DeviceFault, Asm, Audit, OutFault, NoMemory}
 
 abbrev pub line_at : List Seen → ℕ → Seen
 line_at lines k = slice_index_or lines k unseen
@@ -60,6 +63,23 @@ TellsAsm fault (Asm f) = f ≡ fault
 TellsAsm fault NoMemory = Unit {0}
 TellsAsm fault status = ⊥
 
+-- the first line through whose end the bytes are no audit is told
+abbrev pub TellsFirstBad : Config → List ℕ → Status → Type 0
+TellsFirstBad c bytes (Audit f) = IsFirstBad c bytes f.line
+TellsFirstBad c bytes NoMemory = Unit {0}
+TellsFirstBad c bytes status = ⊥
+
+-- this guest is told, or this volume
+abbrev pub IsImageOf : ℕ → Status → Type 0
+IsImageOf guest (Image g) = g ≡ guest
+IsImageOf guest NoMemory = Unit {0}
+IsImageOf guest status = ⊥
+
+abbrev pub IsSizeOf : ℕ → Status → Type 0
+IsSizeOf volume (VolumeSize v) = v ≡ volume
+IsSizeOf volume NoMemory = Unit {0}
+IsSizeOf volume status = ⊥
+
 -- a line is named, of a number up to k
 abbrev pub NamesLine : ℕ → Status → Type 0
 NamesLine k (DeviceFault (devices.Line line)) = line ≤ k
@@ -87,6 +107,11 @@ TellsSoloMissing = (a : Asked) (status : Status) (o : Outside) (files : List Fil
 abbrev pub TellsSoloTooLong : Type 0
 TellsSoloTooLong = (a : Asked) (status : Status) (o : Outside) (files : List File) → FollowsSolo a status o → o.files ≡ Some files → IsLong files a.image → (Rose o.shelf o.shelf' → ⊥) → IsTooLong a.image status
 
+-- an image that doesn't fit is told
+abbrev pub TellsSoloImage : Type 0
+TellsSoloImage = (a : Asked) (status : Status) (o : Outside) (image : List ℕ) (files : List File) → FollowsSolo a status o → o.files ≡ Some files → IsRead (Some files) a.image image → memory_size < load_address + length image → (Rose o.shelf o.shelf' → ⊥)
+    → IsImageOf 0 status
+
 -- where a line's count is greater, it is named or one of a lower number
 abbrev pub TellsSoloDevice : Type 0
 TellsSoloDevice = (a : Asked) (status : Status) (o : Outside) (k : ℕ) → FollowsSolo a status o → (line_at o.lines k).faults < (line_at o.lines' k).faults → NamesLine k status
@@ -110,6 +135,16 @@ TellsRunRule = (a : RunAsked) (status : Status) (o : Outside) (files : List File
 abbrev pub TellsRunLine : Type 0
 TellsRunLine = (a : RunAsked) (status : Status) (o : Outside) (files : List File) (c : Config) (f : ScriptFault) → FollowsRun a status o → o.files ≡ Some files → HasConfig (Some files) a.config c → IsScriptRefused (Some files) a.script f → (Rose o.shelf o.shelf' → ⊥)
     → TellsLine f status
+
+-- of held files that stand for a configuration, a script and images, the first image that doesn't fit is told, and the first
+-- volume whose drive has another number of blocks, where the images fit and no drive failed
+abbrev pub TellsRunImage : Type 0
+TellsRunImage = (a : RunAsked) (status : Status) (o : Outside) (files : List File) (c : Config) (es : List Event) (images : List (List ℕ)) (g : ℕ) → FollowsRun a status o → o.files ≡ Some files → HasAll (Some files) a c es images
+    → first_misfit c.guests images ≡ Some g → (Rose o.shelf o.shelf' → ⊥) → IsImageOf g status
+
+abbrev pub TellsRunSize : Type 0
+TellsRunSize = (a : RunAsked) (status : Status) (o : Outside) (files : List File) (c : Config) (es : List Event) (images : List (List ℕ)) (v : ℕ) → FollowsRun a status o → o.files ≡ Some files → HasAll (Some files) a c es images
+    → first_misfit c.guests images ≡ None → IsMisfit c.volumes o.drives v → NoneRose o → IsSizeOf v status
 
 -- where a line's count is greater, it is named or one of a lower number; where a drive's is, a line or it or a lower drive
 abbrev pub TellsRunLineFault : Type 0
@@ -138,7 +173,7 @@ LimitsLoad = (number : ℕ) (status : Status) (o : Outside) → FollowsLoad numb
 abbrev pub TellsLoadLineFault : Type 0
 TellsLoadLineFault = (number : ℕ) (status : Status) (o : Outside) (k : ℕ) → FollowsLoad number status (run_of o) o.out o.out' → (line_at o.lines k).faults < (line_at o.lines' k).faults → NamesLine k status
 
--- `check` and `migrate`, which put bytes that stand so to a configuration: likewise
+-- `check`, `migrate`, `flow` and `draw`, which put bytes that stand so to a configuration: likewise
 abbrev pub CompletesConfig : (Config → List ℕ → Type 0) → Type 0
 CompletesConfig Bytes = (name : List ℕ) (status : Status) (o : Outside) (files : List File) (c : Config) → FollowsConfig Bytes name status (shelf_and_sink o) → o.files ≡ Some files → HasConfig (Some files) name c → NoneRose o → IsServed status
 
@@ -150,6 +185,27 @@ TellsConfigTooLong Bytes = (name : List ℕ) (status : Status) (o : Outside) (fi
 
 abbrev pub TellsConfigRule : (Config → List ℕ → Type 0) → Type 0
 TellsConfigRule Bytes = (name : List ℕ) (status : Status) (o : Outside) (files : List File) (f : ConfigFault) → FollowsConfig Bytes name status (shelf_and_sink o) → o.files ≡ Some files → IsConfigRefused (Some files) name f → (Rose o.shelf o.shelf' → ⊥) → TellsRule f status
+
+-- `audit`: a held configuration that is accepted, a held file within the limit that is an audit of it, and no risen count, are
+-- served; where the file is none, the first line is told
+abbrev pub CompletesAudit : Type 0
+CompletesAudit = (a : AuditAsked) (status : Status) (o : Outside) (files : List File) (c : Config) (bytes : List ℕ) → FollowsAudit a status (shelf_and_sink o) → o.files ≡ Some files → HasConfig (Some files) a.config c → IsRead (Some files) a.recorded bytes
+    → Audited c bytes → NoneRose o → IsServed status
+
+abbrev pub TellsAuditLine : Type 0
+TellsAuditLine = (a : AuditAsked) (status : Status) (o : Outside) (files : List File) (c : Config) (bytes : List ℕ) → FollowsAudit a status (shelf_and_sink o) → o.files ≡ Some files → HasConfig (Some files) a.config c → IsRead (Some files) a.recorded bytes
+    → (Audited c bytes → ⊥) → (Rose o.shelf o.shelf' → ⊥) → TellsFirstBad c bytes status
+
+abbrev pub TellsAuditMissing : Type 0
+TellsAuditMissing = (a : AuditAsked) (status : Status) (o : Outside) (files : List File) (name : List ℕ) → FollowsAudit a status (shelf_and_sink o) → o.files ≡ Some files → IsNextOfAudit (Some files) a name → held files name ≡ None → (Rose o.shelf o.shelf' → ⊥)
+    → IsMissing name status
+
+abbrev pub TellsAuditTooLong : Type 0
+TellsAuditTooLong = (a : AuditAsked) (status : Status) (o : Outside) (files : List File) (name : List ℕ) → FollowsAudit a status (shelf_and_sink o) → o.files ≡ Some files → IsNextOfAudit (Some files) a name → IsLong files name → (Rose o.shelf o.shelf' → ⊥)
+    → IsTooLong name status
+
+abbrev pub TellsAuditRule : Type 0
+TellsAuditRule = (a : AuditAsked) (status : Status) (o : Outside) (files : List File) (f : ConfigFault) → FollowsAudit a status (shelf_and_sink o) → o.files ≡ Some files → IsConfigRefused (Some files) a.config f → (Rose o.shelf o.shelf' → ⊥) → TellsRule f status
 
 -- `asm` and `dis`: a held file within the limit that stands for bytes, and no risen count, are served; and so on
 abbrev pub CompletesFile : Type 0

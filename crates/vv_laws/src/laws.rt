@@ -1,6 +1,7 @@
-ghost use Rattle.vv_commands.specs.Answer.{AreCounts, IsMigrated};
+ghost use Rattle.sys_flow.specs.Report.{IsReport};
+ghost use Rattle.vv_commands.specs.Answer.{AreCounts, IsDrawing, IsMigrated};
 ghost use Rattle.vv_laws.specs.Alone.{RunsAlone};
-ghost use Rattle.vv_laws.specs.Complete.{CompletesConfig, CompletesFile, CompletesLoad, CompletesRun, CompletesSolo, LimitsLoad, TellsConfigMissing, TellsConfigRule, TellsConfigTooLong, TellsFileMissing, TellsFileRefused, TellsFileTooLong, TellsLoadLineFault, TellsRunDriveFault, TellsRunLine, TellsRunLineFault, TellsRunMissing, TellsRunRule, TellsRunTooLong, TellsSoloDevice, TellsSoloMissing, TellsSoloTooLong};
+ghost use Rattle.vv_laws.specs.Complete.{CompletesAudit, CompletesConfig, CompletesFile, CompletesLoad, CompletesRun, CompletesSolo, LimitsLoad, TellsAuditLine, TellsAuditMissing, TellsAuditRule, TellsAuditTooLong, TellsConfigMissing, TellsConfigRule, TellsConfigTooLong, TellsFileMissing, TellsFileRefused, TellsFileTooLong, TellsLoadLineFault, TellsRunDriveFault, TellsRunImage, TellsRunLine, TellsRunLineFault, TellsRunMissing, TellsRunRule, TellsRunSize, TellsRunTooLong, TellsSoloDevice, TellsSoloImage, TellsSoloMissing, TellsSoloTooLong};
 
 /// The lines' bytes of `solo` are those of the guest that steps alone on its private virtual VAX.
 pub fn a_guest_runs_alone()
@@ -20,6 +21,11 @@ pub fn a_missing_image_is_told()
 /// Over a shelf that did not fail, an image that is too long gives `TooLong`, or `NoMemory`.
 pub fn a_too_long_image_is_told()
     ensures { TellsSoloTooLong }
+{}
+
+/// Over a shelf that did not fail, an image that doesn't fit the guest's memory gives `Image`, or `NoMemory`.
+pub fn an_image_that_does_not_fit_is_told()
+    ensures { TellsSoloImage }
 {}
 
 /// Where a line's count is greater behind `solo`, the answer names it or one of a lower number.
@@ -53,6 +59,17 @@ pub fn a_refused_script_is_told()
     ensures { TellsRunLine }
 {}
 
+/// Over a shelf that did not fail, the first image of a run that doesn't fit its guest's memory gives `Image`, or `NoMemory`.
+pub fn the_first_image_that_does_not_fit_is_told()
+    ensures { TellsRunImage }
+{}
+
+/// Where images fit and no count rose, the first volume whose drive has another number of blocks gives `VolumeSize`, or
+/// `NoMemory`.
+pub fn the_first_volume_of_another_size_is_told()
+    ensures { TellsRunSize }
+{}
+
 /// Where a line's count is greater behind `run`, the answer names it or one of a lower number.
 pub fn a_run_names_a_failed_line()
     ensures { TellsRunLineFault }
@@ -78,28 +95,63 @@ pub fn a_load_names_a_failed_line()
     ensures { TellsLoadLineFault }
 {}
 
-/// A held configuration that is accepted, and no risen count, give `Done` of `check` and `migrate`, or `NoMemory`.
+/// A held configuration that is accepted, and no risen count, give `Done` of `check`, `migrate`, `flow` and `draw`, or `NoMemory`.
 pub fn a_configuration_is_shown()
     ensures check { CompletesConfig AreCounts }
     ensures migrate { CompletesConfig IsMigrated }
+    ensures flow { CompletesConfig IsReport }
+    ensures draw { CompletesConfig IsDrawing }
 {}
 
-/// Over a shelf that did not fail, a configuration that it lacks gives `Missing` of `check` and `migrate`, or `NoMemory`.
+/// Over a shelf that did not fail, a configuration that it lacks gives `Missing` of `check`, `migrate`, `flow` and `draw`, or `NoMemory`.
 pub fn a_missing_configuration_is_told()
     ensures check { TellsConfigMissing AreCounts }
     ensures migrate { TellsConfigMissing IsMigrated }
+    ensures flow { TellsConfigMissing IsReport }
+    ensures draw { TellsConfigMissing IsDrawing }
 {}
 
-/// Over a shelf that did not fail, a configuration that is too long gives `TooLong` of `check` and `migrate`, or `NoMemory`.
+/// Over a shelf that did not fail, a configuration that is too long gives `TooLong` of `check`, `migrate`, `flow` and `draw`, or `NoMemory`.
 pub fn a_too_long_configuration_is_told()
     ensures check { TellsConfigTooLong AreCounts }
     ensures migrate { TellsConfigTooLong IsMigrated }
+    ensures flow { TellsConfigTooLong IsReport }
+    ensures draw { TellsConfigTooLong IsDrawing }
 {}
 
-/// A configuration that breaks a rule gives `Config` of `check` and `migrate`, or `NoMemory`.
+/// A configuration that breaks a rule gives `Config` of `check`, `migrate`, `flow` and `draw`, or `NoMemory`.
 pub fn a_broken_rule_is_told()
     ensures check { TellsConfigRule AreCounts }
     ensures migrate { TellsConfigRule IsMigrated }
+    ensures flow { TellsConfigRule IsReport }
+    ensures draw { TellsConfigRule IsDrawing }
+{}
+
+/// A held configuration that is accepted, a held file within the limit that is an audit of it, and no risen count, give `Done`
+/// of `audit`, or `NoMemory`.
+pub fn an_audit_is_accepted()
+    ensures { CompletesAudit }
+{}
+
+/// Over a shelf that did not fail, a held file that is no audit of the configuration gives `Audit` of the first line through
+/// whose end it is none, or `NoMemory`.
+pub fn a_line_of_no_audit_is_told()
+    ensures { TellsAuditLine }
+{}
+
+/// Over a shelf that did not fail, the first file of `audit` that it lacks gives `Missing`, or `NoMemory`.
+pub fn a_missing_file_of_an_audit_is_told()
+    ensures { TellsAuditMissing }
+{}
+
+/// Over a shelf that did not fail, the first file of `audit` that is too long gives `TooLong`, or `NoMemory`.
+pub fn a_too_long_file_of_an_audit_is_told()
+    ensures { TellsAuditTooLong }
+{}
+
+/// A configuration that breaks a rule gives `Config` of `audit`, or `NoMemory`.
+pub fn a_broken_rule_of_an_audit_is_told()
+    ensures { TellsAuditRule }
 {}
 
 /// A held file within the limit that stands for bytes or a text, and no risen count, give `Done` of `asm` and `dis`, or `NoMemory`.

@@ -16,6 +16,9 @@ vvmm load NUMBER               runs the workload that is drawn from NUMBER, 0 to
                                in 20 rounds, on volumes of its own
 vvmm check CONFIG              reads a configuration, and shows how many objects it has
 vvmm migrate CONFIG            shows a configuration in version 2
+vvmm audit CONFIG RECORD       checks what an audit line was shown, the file RECORD, against CONFIG
+vvmm flow CONFIG               shows which object's inputs may reach which object
+vvmm draw CONFIG               shows a picture of a configuration, in SVG
 vvmm asm SOURCE                assembles the file SOURCE, and shows the image's bytes
 vvmm dis IMAGE                 disassembles the file IMAGE, and shows the text
 vvmm --help                    prints this

@@ -1,4 +1,5 @@
-use Rattle.vv_commands.specs.Answer.{AreCounts, IsMigrated}
+use Rattle.sys_flow.specs.Report.{IsReport}
+use Rattle.vv_commands.specs.Answer.{AreCounts, IsDrawing, IsMigrated}
 use Rattle.vv_laws.proofs.Shown.{completes_config}
 use Rattle.vv_laws.proofs.laws.a_configuration_is_shown.Goals as goal
 
@@ -7,3 +8,9 @@ returns-clause-check c = completes_config AreCounts
 
 pub returns-clause-migrate : goal.returns-clause-migrate
 returns-clause-migrate c = completes_config IsMigrated
+
+pub returns-clause-flow : goal.returns-clause-flow
+returns-clause-flow c = completes_config IsReport
+
+pub returns-clause-draw : goal.returns-clause-draw
+returns-clause-draw c = completes_config IsDrawing

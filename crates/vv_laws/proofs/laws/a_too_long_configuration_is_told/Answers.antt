@@ -1,4 +1,5 @@
-use Rattle.vv_commands.specs.Answer.{AreCounts, IsMigrated}
+use Rattle.sys_flow.specs.Report.{IsReport}
+use Rattle.vv_commands.specs.Answer.{AreCounts, IsDrawing, IsMigrated}
 use Rattle.vv_laws.proofs.Shown.{tells_config_too_long}
 use Rattle.vv_laws.proofs.laws.a_too_long_configuration_is_told.Goals as goal
 
@@ -7,3 +8,9 @@ returns-clause-check c = tells_config_too_long AreCounts
 
 pub returns-clause-migrate : goal.returns-clause-migrate
 returns-clause-migrate c = tells_config_too_long IsMigrated
+
+pub returns-clause-flow : goal.returns-clause-flow
+returns-clause-flow c = tells_config_too_long IsReport
+
+pub returns-clause-draw : goal.returns-clause-draw
+returns-clause-draw c = tells_config_too_long IsDrawing

@@ -1,5 +1,5 @@
 use Rattle.std.proofs.Common.{inl, inr, Some, None}
-use Rattle.vv_commands.specs.Words.{WantsSolo, WantsRun, WantsLoad, WantsCheck, WantsMigration, WantsBytes, WantsText}
+use Rattle.vv_commands.specs.Words.{WantsSolo, WantsRun, WantsLoad, WantsCheck, WantsMigration, WantsAudit, WantsFlow, WantsDrawing, WantsBytes, WantsText}
 use Rattle.vv_program.specs.Laws.{LeavesOthers}
 use Rattle.vv_program.proofs.laws.other_devices_are_left.Goals as goal
 
@@ -12,6 +12,9 @@ leaves (Some (WantsLoad number)) status o (inl (is, untouched, out), shelf) = un
 leaves (Some (WantsLoad number)) status o (inr plays, shelf) = plays.made.drives
 leaves (Some (WantsCheck name)) status o (follows, apart) = (apart.lines, apart.drives)
 leaves (Some (WantsMigration name)) status o (follows, apart) = (apart.lines, apart.drives)
+leaves (Some (WantsAudit a)) status o (follows, apart) = (apart.lines, apart.drives)
+leaves (Some (WantsFlow name)) status o (follows, apart) = (apart.lines, apart.drives)
+leaves (Some (WantsDrawing name)) status o (follows, apart) = (apart.lines, apart.drives)
 leaves (Some (WantsBytes source)) status o (answer, is, follows, apart) = (apart.lines, apart.drives)
 leaves (Some (WantsText image)) status o (answer, is, follows, apart) = (apart.lines, apart.drives)
 
