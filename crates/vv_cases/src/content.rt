@@ -22,7 +22,7 @@ pub struct Marked<'t> {
     pub text: &'t str,
 }
 
-const MARKS: [(&str, char); 11] = [
+const MARKS: [(&str, char); 12] = [
     ("|", '|'),
     ("/", '/'),
     ("=", '='),
@@ -34,6 +34,7 @@ const MARKS: [(&str, char); 11] = [
     ("+", '+'),
     ("&", '&'),
     ("<", '<'),
+    (">", '>'),
 ];
 
 /// The line as content, if it begins with a mark.

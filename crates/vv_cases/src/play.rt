@@ -57,6 +57,12 @@ fn found<'v, T>(all: &'v [(&str, T)], name: &str) -> Option<&'v T> {
     all.iter().rev().find(|one| one.0 == name).map(|one| &one.1)
 }
 
+/// What a line, a drive or the sink had in a run that was kept.
+fn kept_in<'v>(runs: &'v [(&str, Told)], text: &str) -> Option<&'v [u8]> {
+    let (subject, name) = subject_in(text)?;
+    Some(held(found(runs, name)?, subject))
+}
+
 fn verdict_of(holds: bool) -> Verdict {
     if holds {
         Verdict::Holds
@@ -181,6 +187,12 @@ impl<'t> Play<'t> {
     fn add(&mut self, rt: &HostRuntime, line: Marked) -> Result<Verdict, NoMemory> {
         match line.mark {
             '+' => match found(&self.lets, line.text) {
+                Some(bytes) => self.content.put(bytes)?,
+                None => {
+                    return Ok(Verdict::Unread);
+                }
+            },
+            '>' => match kept_in(&self.runs, line.text) {
                 Some(bytes) => self.content.put(bytes)?,
                 None => {
                     return Ok(Verdict::Unread);
