@@ -1,5 +1,7 @@
+pub mod Additions
 pub mod Consoles
 pub mod OwnLines
+pub mod Parts
 pub mod Places
 pub mod Schedules
 pub mod SlicedRound

@@ -10,8 +10,9 @@ use Rattle.sys_objects.specs.declared.records.Terminal.{Terminal}
 use Rattle.sys_objects.specs.declared.records.VolumeRow.{VolumeRow}
 use Rattle.sys_rounds.specs.Dump.{dump_of}
 use Rattle.sys_rounds.specs.Places.{is_at, place_of}
-use Rattle.sys_rounds.specs.Run.{Input, run}
+use Rattle.sys_rounds.specs.Run.{Input, Moment, opening, rounds_from}
 use Rattle.sys_rounds.specs.State.{bytes_on}
+use Rattle.sys_script.specs.declared.event.Event.{Event}
 use Rattle.sys_store.specs.Blocks.{blocks_of}
 use Rattle.vm_state.specs.State.{Guest}
 
@@ -21,9 +22,17 @@ dump_on line [] gs = []
 dump_on line (row ∷ rows) [] = []
 dump_on line (row ∷ rows) (g ∷ gs) = if is_at line row.dump then dump_of row.name g else dump_on line rows gs
 
+-- what a line is shown in so many rounds from a moment on
+abbrev pub shown_from : Moment → List Event → ℕ → ℕ → List ℕ
+shown_from m es n line = bytes_on line (rounds_from m es n).puts
+
 -- a line gets what it is shown, and the dump in the last state
+abbrev pub line_bytes_from : Moment → List Event → ℕ → ℕ → List ℕ
+line_bytes_from m es n line = shown_from m es n line ++ dump_on line m.config.guests (rounds_from m es n).now.guests
+
+-- of a run
 abbrev pub line_bytes : Input → ℕ → List ℕ
-line_bytes x line = bytes_on line (run x).puts ++ dump_on line x.config.guests (run x).now.guests
+line_bytes x line = line_bytes_from (opening x) x.events x.rounds line
 
 -- a drive gets the last blocks of its volume
 abbrev pub blocks_at : List (List (List ℕ)) → Option ℕ → List (List ℕ)
@@ -33,8 +42,11 @@ blocks_at volumes (Some v) = blocks_of volumes v
 abbrev pub is_on_drive : ℕ → VolumeRow → Bool
 is_on_drive drive v = v.drive == drive
 
+abbrev pub drive_blocks_from : Moment → List Event → ℕ → ℕ → List (List ℕ)
+drive_blocks_from m es n drive = blocks_at (rounds_from m es n).now.volumes (place_of (is_on_drive drive) m.config.volumes)
+
 abbrev pub drive_blocks : Input → ℕ → List (List ℕ)
-drive_blocks x drive = blocks_at (run x).now.volumes (place_of (is_on_drive drive) x.config.volumes)
+drive_blocks x drive = drive_blocks_from (opening x) x.events x.rounds drive
 
 -- a device on a line, with its class
 pub record Device : Type 0 where

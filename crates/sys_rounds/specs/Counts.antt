@@ -6,7 +6,7 @@ use Rattle.sys_objects.specs.declared.records.GuestRow.{GuestRow}
 use Rattle.sys_rounds.specs.Places.{changed}
 use Rattle.sys_rounds.specs.Guests.{alone}
 use Rattle.sys_rounds.specs.Events.{events}
-use Rattle.sys_rounds.specs.Run.{Input, events_of, first_state, round, run}
+use Rattle.sys_rounds.specs.Run.{Input, Moment, events_of, opening, round, run}
 use Rattle.sys_rounds.specs.State.{State, Went}
 use Rattle.sys_script.specs.declared.event.Event.{Event}
 use Rattle.sys_rounds.specs.Slices.{Slice}
@@ -47,10 +47,14 @@ rounds_tally c i zero es s = no_steps
 rounds_tally c i (suc n) es s =
     added (round_tally c.guests (events c i s (events_of i es)).now.guests) (rounds_tally c (suc i) n es (round c i es s).now)
 
+-- in so many from a moment on
+abbrev pub tally_from : Moment → List Event → ℕ → Tally
+tally_from m es n = rounds_tally m.config (m.made + 1) n es m.state
+
 -- what a run has come to: where it led, what was shown, and the steps of all its rounds
 pub record Outcome : Type 0 where
   pub went : Went State
   pub tally : Tally
 
 abbrev pub outcome : Input → Outcome
-outcome x = record { went = run x; tally = rounds_tally x.config 1 x.rounds x.events (first_state x.config x.images x.volumes) }
+outcome x = record { went = run x; tally = tally_from (opening x) x.events x.rounds }

@@ -8,7 +8,7 @@ use Rattle.sys_objects.specs.declared.records.Mount.{Mount}
 use Rattle.sys_rounds.specs.Events.{events, happened, is_named}
 use Rattle.sys_rounds.specs.Guests.{with_no_queue}
 use Rattle.sys_rounds.specs.Places.{changed, place_of}
-use Rattle.sys_rounds.specs.Run.{Input, events_of, first_state, round}
+use Rattle.sys_rounds.specs.Run.{Input, Moment, events_of, opening, round}
 use Rattle.sys_rounds.specs.State.{State, server_of}
 use Rattle.sys_rounds.specs.Transfers.{Move, Packet, Prints, Reads, Refused, Writes, move_of, packet_at, served, served_one}
 use Rattle.sys_rounds.specs.Turns.{turns}
@@ -113,7 +113,10 @@ touches_of_rounds c i (suc n) es s ts = touches_of_rounds c (suc i) n es (round 
 abbrev pub none_touched : Guest → Touching
 none_touched g = record { present = at_first g; count = 0 }
 
+-- of so many rounds from a moment on, where nothing is present at their beginning
+abbrev pub first_touches_from : Moment → List Event → ℕ → ℕ
+first_touches_from m es n = sum_by (λ t. t.count) (touches_of_rounds m.config (m.made + 1) n es m.state (map none_touched m.state.guests))
+
+-- of a run
 abbrev pub first_touches : Input → ℕ
-first_touches x =
-    let first = first_state x.config x.images x.volumes in
-    sum_by (λ t. t.count) (touches_of_rounds x.config 1 x.rounds x.events first (map none_touched first.guests))
+first_touches x = first_touches_from (opening x) x.events x.rounds

@@ -7,12 +7,14 @@ pub mod FirstTouches
 pub mod SlicedTouches
 pub mod Guests
 pub mod Laws
+pub mod Parts
 pub mod Places
 pub mod Run
 pub mod ShownMapped
 pub mod ShownRuns
 pub mod ShownServer
 pub mod ShownSetup
+pub mod ShownTouches
 pub mod ShownTransfers
 pub mod SlicedRound
 pub mod Slices

@@ -1,5 +1,5 @@
 -- Rounds and runs: a round is its events, then the guests' turns, then the transfers.
-use Rattle.std.specs.Prelude.{ℕ, zero, suc, ◌==◌, List, [], ◌∷◌, ◌++◌, Option, filter, map}
+use Rattle.std.specs.Prelude.{ℕ, zero, suc, ◌+◌, ◌==◌, List, [], ◌∷◌, ◌++◌, Option, filter, map}
 use Rattle.sys_objects.specs.declared.records.Config.{Config}
 use Rattle.sys_objects.specs.declared.records.GuestRow.{GuestRow}
 use Rattle.sys_objects.specs.declared.records.Terminal.{Terminal}
@@ -39,6 +39,20 @@ rounds c i (suc n) es s =
     let rest = rounds c (suc i) n es first.now in
     record { now = rest.now; puts = first.puts ++ rest.puts }
 
+-- A moment between two rounds: the configuration, how many rounds were made before, and the state that they left.
+pub record Moment : Type 0 where
+  pub config : Config
+  pub made : ℕ
+  pub state : State
+
+-- so many rounds from there on, each with its own of these events; rounds are numbered from 1
+abbrev pub rounds_from : Moment → List Event → ℕ → Went State
+rounds_from m es n = rounds m.config (m.made + 1) n es m.state
+
+-- the moment after so many rounds
+abbrev pub moment_after : Moment → List Event → ℕ → Moment
+moment_after m es n = record m { made = m.made + n; state = (rounds_from m es n).now }
+
 -- at power-up each console is connected to its terminal, and each mount of the configuration is made
 abbrev pub connections : List GuestRow → ℕ → List Terminal → List (Option ℕ)
 connections rows i [] = []
@@ -52,6 +66,14 @@ first_state c images volumes = record {
   volumes = volumes;
 }
 
--- a run; rounds are numbered from 1
+-- power-up with these images and volumes
+abbrev pub first_moment : Config → List (List ℕ) → List (List (List ℕ)) → Moment
+first_moment c images volumes = record { config = c; made = 0; state = first_state c images volumes }
+
+-- and that of a run
+abbrev pub opening : Input → Moment
+opening x = first_moment x.config x.images x.volumes
+
+-- a run
 abbrev pub run : Input → Went State
-run x = rounds x.config 1 x.rounds x.events (first_state x.config x.images x.volumes)
+run x = rounds_from (opening x) x.events x.rounds

@@ -1,4 +1,5 @@
 ghost use Rattle.sys_rounds.specs.Laws.{AnySchedule, SameCounts, SameTouches};
+ghost use Rattle.sys_rounds.specs.Parts.{CutsAnywhere};
 ghost use Rattle.sys_rounds.specs.SlicedRound.{AnyRound};
 
 /// However the turns of a round are cut into slices and ordered, each guest and each line ends as the turns say.
@@ -20,4 +21,9 @@ pub fn same_touches()
 /// bytes and the counts of steps are the round's, with its events and transfers.
 pub fn any_round()
     ensures { AnyRound }
+{}
+
+/// Rounds that are made in two parts, the second from where the first ends, are the rounds of both.
+pub fn a_run_is_cut_anywhere()
+    ensures { CutsAnywhere }
 {}

@@ -4,4 +4,4 @@
 
 mod laws;
 
-pub use laws::{any_round, any_schedule, same_counts, same_touches};
+pub use laws::{a_run_is_cut_anywhere, any_round, any_schedule, same_counts, same_touches};

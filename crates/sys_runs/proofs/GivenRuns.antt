@@ -1,5 +1,5 @@
 -- A run over given volumes.
-use Rattle.std.proofs.Common.{ℕ, ◌≡◌, List, length, map, replicate, refl, ◌∙◌, ap, false}
+use Rattle.std.proofs.Common.{ℕ, ◌≡◌, ◌≤◌, ◌+◌, ◌*◌, List, length, map, replicate, refl, ◌∙◌, ap, arith, false}
 use Rattle.std.specs.declared.result.Result.TheVariants.{Err}
 use Rattle.vax_hw.specs.Machine.{Machine}
 use Rattle.vv_io.specs.Blocks.{Kept}
@@ -9,6 +9,7 @@ use Rattle.sys_guests.specs.Loads.{MemoryAlone}
 use Rattle.sys_guests.specs.Present.{HavePresent}
 use Rattle.sys_objects.specs.declared.records.Config.{Config}
 use Rattle.sys_rounds.specs.FirstTouches.{none_touched}
+use Rattle.sys_rounds.specs.Run.{Moment, first_moment}
 use Rattle.sys_runs.proofs.Faults.{outside, unshown}
 use Rattle.sys_runs.proofs.Made.{all_missed, all_touched, counted, no_drives, retired, shown, steps_few}
 use Rattle.sys_runs.specs.Given.{MakesWith, RunsWith}
@@ -21,7 +22,7 @@ use Rattle.sys_system.specs.Given.{HasPowerWith, PowersWith}
 use Rattle.sys_system.specs.System.{IsSystem, System}
 use Rattle.sys_system.specs.declared.power.PowerFault.{PowerFault}
 use Rattle.sys_system.specs.declared.power.PowerFault.TheVariants.{Image, VolumeSize, DriveIn, NoMemory}
-use Rattle.vm_stepping.specs.Made.{tally_of}
+use Rattle.vm_stepping.specs.Made.{steps_in, tally_of}
 
 -- it wasn't made
 pub not_run_with : (c : Config) (images : List (List ℕ)) (volumes : List (List (List ℕ))) (es : List Event) (n : ℕ) (m m' : Machine) (lines : List Seen) (drives : List Kept) (e : PowerFault) → PowersWith c images volumes m' (Err e) → MemoryAlone m m' → RunsWith c images volumes es n (Err e) (outside m m' lines drives drives)
@@ -36,19 +37,21 @@ pub run_made_with : (c : Config) (images : List (List ℕ)) (volumes : List (Lis
     → HavePresent s0.guests (map none_touched (guests_in m1.memory s0.guests)) → IsSystem s1 → ran.counts ≡ s2.counts → ran.failed ≡ first_failed s2.marks s2.drives → length lines2 ≡ length lines
     → MakesWith (record { config = c; images = images; volumes = volumes; events = es; rounds = n }) ran (record { machine = m0; machine' = m2; lines = lines; lines' = lines2; drives = drives; drives' = drives })
 run_made_with c images volumes es n m0 m1 m2 s0 s1 s2 lines lines1 lines2 drives ran p alone r d present holds counts failed size =
-    let unmarked : s2.drives ≡ replicate 16 false = ap (λ (s : System). s.drives) d.system ∙ no_drives c images volumes es n m0 m1 m2 s0 s1 lines lines1 p.powered alone r in
+    let m : Moment = first_moment c images volumes in
+    let few : steps_in ran.counts ≤ 1600000 * (m.made + n) = steps_few m es n m0 m1 m2 s0 s1 lines lines1 p.powered alone r ran.counts (counts ∙ ap (λ (s : System). s.counts) d.system) holds in
+    let unmarked : s2.drives ≡ replicate 16 false = ap (λ (s : System). s.drives) d.system ∙ no_drives m es n m0 m1 m2 s0 s1 lines lines1 p.powered alone r in
     record {
       fits = p.fits;
       sizes = p.sizes;
       marks = s2.marks;
-      lines = shown c images volumes es n m0 m1 m2 s0 s1 lines lines1 p.powered alone r s2.marks lines2 d.shows;
+      lines = shown m es n m0 m1 m2 s0 s1 lines lines1 p.powered alone r s2.marks lines2 d.shows;
       size = size;
       drives = refl;
-      counts = ap tally_of counts ∙ ap (λ (s : System). tally_of s.counts) d.system ∙ counted c images volumes es n m0 m1 m2 s0 s1 lines lines1 p.powered alone r;
-      few = steps_few c images volumes es n m0 m1 m2 s0 s1 lines lines1 p.powered alone r ran.counts (counts ∙ ap (λ (s : System). s.counts) d.system) holds;
-      retires = retired c images volumes es n m0 m1 m2 s0 s1 lines lines1 p.powered alone r;
+      counts = ap tally_of counts ∙ ap (λ (s : System). tally_of s.counts) d.system ∙ counted m es n m0 m1 m2 s0 s1 lines lines1 p.powered alone r;
+      few = omega (arith, few);
+      retires = retired m es n m0 m1 m2 s0 s1 lines lines1 p.powered alone r;
       missed = r.pays.missed;
-      misses = all_missed c images volumes es n m0 m1 m2 s0 s1 lines lines1 p.powered alone r;
-      touches = all_touched c images volumes es n m0 m1 m2 s0 s1 lines lines1 p.powered alone r present;
+      misses = all_missed m es n m0 m1 m2 s0 s1 lines lines1 p.powered alone r;
+      touches = all_touched m es n m0 m1 m2 s0 s1 lines lines1 p.powered alone r present;
       failed = failed ∙ ap (first_failed s2.marks) unmarked;
     }

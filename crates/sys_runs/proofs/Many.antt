@@ -95,10 +95,11 @@ rounds_fit c i zero es s = omega arith
 rounds_fit c i (suc n) es s = omega arith
 
 -- no round is made
-pub none_made : (es : List Event) (m : Machine) (s : System) (lines : List Seen) → s.rounds ≡ 0 → s.turns.is_begun ≡ false → s.counts.trail < 2 ^ 64 → StandsIn m.memory s → MakesRounds 0 es m s lines m s lines
-none_made es m s lines first rests fits stands =
+pub none_made : (es : List Event) (m : Machine) (s : System) (lines : List Seen) → s.turns.is_begun ≡ false → s.counts.trail < 2 ^ 64 → StandsIn m.memory s → MakesRounds 0 es m s lines m s lines
+none_made es m s lines rests fits stands =
+    let same : s.rounds ≡ s.rounds + 0 = omega arith in
     record {
-      system = λ j. record s { rounds = first j };
+      system = λ j. record s { rounds = same j };
       ended = rests;
       goes = record { state = refl; shows = shows_none s.marks lines; stands = stands; only = λ q behind. refl; size = refl };
       counts = as_sum (tally_of s.counts) fits;
@@ -106,84 +107,93 @@ none_made es m s lines first rests fits stands =
       pays = pays_kept (λ ts. ts) m m s.guests s.guests refl (λ ts all. refl) (λ ts all. all);
     }
 
-module _ (n : ℕ) (es these : List Event) (m m1 m2 : Machine) (s s1 s2 : System) (lines lines1 lines2 : List Seen) (a : MakesRounds n es m s lines m1 s1 lines1) (same : these ≡ events_of (n + 1) es) (are : AreOf (n + 1) these) (b : MakesRound these m1 s1 lines1 m2 s2 lines2) where
+module _ (n : ℕ) (es these : List Event) (m m1 m2 : Machine) (s s1 s2 : System) (lines lines1 lines2 : List Seen) (a : MakesRounds n es m s lines m1 s1 lines1) (same : these ≡ events_of ((s.rounds + n) + 1) es) (are : AreOf ((s.rounds + n) + 1) these) (b : MakesRound these m1 s1 lines1 m2 s2 lines2) where
   abbrev c : Config
   c = s.config
 
   abbrev st : State
   st = state_of m.memory s
 
+  -- the first of the rounds, and the last
+  abbrev from : ℕ
+  from = s.rounds + 1
+
+  abbrev to : ℕ
+  to = (s.rounds + n) + 1
+
   abbrev before : Went State
-  before = rounds c 1 n es st
+  before = rounds c from n es st
 
   config1 : s1.config ≡ c
   config1 = ap (λ (x : System). x.config) a.system
 
-  rounds1 : s1.rounds + 1 ≡ n + 1
+  rounds1 : s1.rounds + 1 ≡ to
   rounds1 = ap (λ (x : System). x.rounds + 1) a.system
 
-  place : n + 1 ≡ 1 + n
+  place : to ≡ from + n
   place = omega arith
 
   next : n + 1 ≡ suc n
   next = omega arith
 
   -- the round that is made is the next of the definition
-  own : events_of (n + 1) these ≡ events_of (n + 1) es
-  own = all_of (n + 1) these are ∙ same
+  own : events_of to these ≡ events_of to es
+  own = all_of to these are ∙ same
 
-  last : round s1.config (s1.rounds + 1) these (state_of m1.memory s1) ≡ round c (1 + n) es before.now
+  last : round s1.config (s1.rounds + 1) these (state_of m1.memory s1) ≡ round c (from + n) es before.now
   last =
       (λ j. round (config1 j) (rounds1 j) these (a.goes.state j))
-      ∙ ap (round_by c (n + 1) before.now) own
+      ∙ ap (round_by c to before.now) own
       ∙ ap (λ k. round c k es before.now) place
 
-  whole : joined before (round s1.config (s1.rounds + 1) these (state_of m1.memory s1)) ≡ rounds c 1 (n + 1) es st
-  whole = ap (joined before) last ∙ sym (rounds_more c 1 n es st) ∙ ap (λ k. rounds c 1 k es st) (sym next)
+  whole : joined before (round s1.config (s1.rounds + 1) these (state_of m1.memory s1)) ≡ rounds c from (n + 1) es st
+  whole = ap (joined before) last ∙ sym (rounds_more c from n es st) ∙ ap (λ k. rounds c from k es st) (sym next)
 
-  tally : tally_in s1.config (s1.rounds + 1) (state_of m1.memory s1) these ≡ tally_in c (1 + n) before.now (events_of (1 + n) es)
+  tally : tally_in s1.config (s1.rounds + 1) (state_of m1.memory s1) these ≡ tally_in c (from + n) before.now (events_of (from + n) es)
   tally =
       (λ j. tally_in (config1 j) (rounds1 j) (a.goes.state j) these)
-      ∙ ap (tally_in c (n + 1) before.now) same
+      ∙ ap (tally_in c to before.now) same
       ∙ ap (λ k. tally_in c k before.now (events_of k es)) place
 
-  sums : added (rounds_tally c 1 n es st) (tally_in s1.config (s1.rounds + 1) (state_of m1.memory s1) these) ≡ rounds_tally c 1 (n + 1) es st
-  sums = ap (added (rounds_tally c 1 n es st)) tally ∙ sym (tally_more c 1 n es st) ∙ ap (λ k. rounds_tally c 1 k es st) (sym next)
+  sums : added (rounds_tally c from n es st) (tally_in s1.config (s1.rounds + 1) (state_of m1.memory s1) these) ≡ rounds_tally c from (n + 1) es st
+  sums = ap (added (rounds_tally c from n es st)) tally ∙ sym (tally_more c from n es st) ∙ ap (λ k. rounds_tally c from k es st) (sym next)
 
-  counts : tally_of s2.counts ≡ added (tally_of s.counts) (rounds_tally c 1 (n + 1) es st)
+  counts : tally_of s2.counts ≡ added (tally_of s.counts) (rounds_tally c from (n + 1) es st)
   counts =
       b.counts ∙ ap (λ t. added t (tally_in s1.config (s1.rounds + 1) (state_of m1.memory s1) these)) a.counts
-      ∙ added_twice (tally_of s.counts) (rounds_tally c 1 n es st) (tally_in s1.config (s1.rounds + 1) (state_of m1.memory s1) these)
+      ∙ added_twice (tally_of s.counts) (rounds_tally c from n es st) (tally_in s1.config (s1.rounds + 1) (state_of m1.memory s1) these)
       ∙ ap (added (tally_of s.counts)) sums
 
-  retired : Retires m m2 (added (rounds_tally c 1 n es st) (tally_in s1.config (s1.rounds + 1) (state_of m1.memory s1) these))
-  retired = retires_then m m1 m2 (rounds_tally c 1 n es st) (tally_in s1.config (s1.rounds + 1) (state_of m1.memory s1) these) a.retires b.retires
+  retired : Retires m m2 (added (rounds_tally c from n es st) (tally_in s1.config (s1.rounds + 1) (state_of m1.memory s1) these))
+  retired = retires_then m m1 m2 (rounds_tally c from n es st) (tally_in s1.config (s1.rounds + 1) (state_of m1.memory s1) these) a.retires b.retires
 
   config2 : s2.config ≡ c
   config2 = ap (λ (x : System). x.config) b.system ∙ config1
 
-  rounds2 : s2.rounds ≡ n + 1
-  rounds2 = ap (λ (x : System). x.rounds) b.system ∙ rounds1
+  rounds2 : s2.rounds ≡ s.rounds + (n + 1)
+  rounds2 =
+      let more : to ≡ s.rounds + (n + 1) = omega arith in
+      ap (λ (x : System). x.rounds) b.system ∙ rounds1 ∙ more
 
   drives2 : s2.drives ≡ s.drives
   drives2 = ap (λ (x : System). x.drives) b.system ∙ ap (λ (x : System). x.drives) a.system
 
-  bytes : (k : ℕ) → bytes_on k before.puts ++ bytes_on k (round s1.config (s1.rounds + 1) these (state_of m1.memory s1)).puts ≡ bytes_on k (rounds c 1 (n + 1) es st).puts
+  bytes : (k : ℕ) → bytes_on k before.puts ++ bytes_on k (round s1.config (s1.rounds + 1) these (state_of m1.memory s1)).puts ≡ bytes_on k (rounds c from (n + 1) es st).puts
   bytes k = sym (bytes_append k before.puts (round s1.config (s1.rounds + 1) these (state_of m1.memory s1)).puts) ∙ ap (λ (w : Went State). bytes_on k w.puts) whole
 
-  touched : (ts : List Touching) → touches_of_round s1.config (s1.rounds + 1) these (state_of m1.memory s1) (touches_of_rounds c 1 n es st ts) ≡ touches_of_rounds c 1 (n + 1) es st ts
+  touched : (ts : List Touching) → touches_of_round s1.config (s1.rounds + 1) these (state_of m1.memory s1) (touches_of_rounds c from n es st ts) ≡ touches_of_rounds c from (n + 1) es st ts
   touched ts =
-      let us : List Touching = touches_of_rounds c 1 n es st ts in
+      let us : List Touching = touches_of_rounds c from n es st ts in
       (λ j. touches_of_round (config1 j) (rounds1 j) these (a.goes.state j) us)
-      ∙ ap (touched_in c (n + 1) before.now us) own
+      ∙ ap (touched_in c to before.now us) own
       ∙ ap (λ k. touches_of_round c k es before.now us) place
-      ∙ sym (touches_more c 1 n es st ts) ∙ ap (λ k. touches_of_rounds c 1 k es st ts) (sym next)
+      ∙ sym (touches_more c from n es st ts) ∙ ap (λ k. touches_of_rounds c from k es st ts) (sym next)
 
-  pays : PaysAll (touches_of_rounds c 1 (n + 1) es st) m s.guests m2 s2.guests
+  pays : PaysAll (touches_of_rounds c from (n + 1) es st) m s.guests m2 s2.guests
   pays =
-      let first : List Touching → List Touching = touches_of_rounds c 1 n es st in
+      let first : List Touching → List Touching = touches_of_rounds c from n es st in
       let last : List Touching → List Touching = touches_of_round s1.config (s1.rounds + 1) these (state_of m1.memory s1) in
-      pays_as (λ ts. last (first ts)) (touches_of_rounds c 1 (n + 1) es st) m m2 s.guests s2.guests (λ ts all. touched ts) (pays_then first last m m1 m2 s.guests s1.guests s2.guests a.pays b.pays)
+      pays_as (λ ts. last (first ts)) (touches_of_rounds c from (n + 1) es st) m m2 s.guests s2.guests (λ ts all. touched ts) (pays_then first last m m1 m2 s.guests s1.guests s2.guests a.pays b.pays)
 
   -- one round more
   pub more_made : MakesRounds (n + 1) es m s lines m2 s2 lines2

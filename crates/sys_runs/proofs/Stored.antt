@@ -1,4 +1,4 @@
--- What the drives have behind a run.
+-- What the drives have after rounds from a moment on.
 use Rattle.std.proofs.Common.{ℕ, zero, suc, ◌≡◌, ◌≢◌, ◌<◌, List, [], ◌∷◌, length, replicate, slice_index_or, refl, sym, ◌∙◌, ap, subst, arith, Bool, true, false, All, Some, option_map}
 use Rattle.std.proofs.lemmas.Bool.{eq-eqb, ne_eqb}
 use Rattle.std.proofs.lemmas.List.{ext_get_or, get_or_default}
@@ -8,11 +8,12 @@ use Rattle.sys_drives.specs.Rows.{drive_at}
 use Rattle.sys_drives.specs.Stores.{Stores, StoresAll, is_marked}
 use Rattle.sys_objects.specs.Condition.{IsConfig}
 use Rattle.sys_objects.specs.declared.records.VolumeRow.{VolumeRow}
-use Rattle.sys_rounds.specs.Bytes.{blocks_at, drive_blocks, is_on_drive}
+use Rattle.sys_rounds.specs.Bytes.{blocks_at, drive_blocks_from, is_on_drive}
 use Rattle.sys_rounds.specs.Places.{place_of}
-use Rattle.sys_rounds.specs.Run.{Input, run}
+use Rattle.sys_rounds.specs.Run.{Moment, rounds_from}
 use Rattle.sys_runs.specs.Laws.{TouchesNoDrive}
-use Rattle.sys_runs.specs.Ran.{StoresRun}
+use Rattle.sys_runs.specs.Ran.{StoresFrom}
+use Rattle.sys_script.specs.declared.event.Event.{Event}
 use Rattle.sys_store.specs.Blocks.{blocks_of}
 
 -- nothing is marked at first
@@ -29,18 +30,18 @@ first_place p (x ∷ xs) (suc k) d h here none =
     let later : p x ≡ false = none 0 (omega arith) in
     rw later (ap (option_map suc) (first_place p xs k d (omega (arith, h)) here (λ j low. none (suc j) (omega (arith, low)))))
 
-module _ (x : Input) (volumes : List (List (List ℕ))) (marks : List Bool) (drives drives' : List Kept) (accepted : IsConfig x.config) (same : volumes ≡ (run x).now.volumes) (all : StoresAll x.config.volumes volumes (replicate 16 false) marks drives drives') where
+module _ (m : Moment) (es : List Event) (n : ℕ) (volumes : List (List (List ℕ))) (marks : List Bool) (drives drives' : List Kept) (accepted : IsConfig m.config) (same : volumes ≡ (rounds_from m es n).now.volumes) (all : StoresAll m.config.volumes volumes (replicate 16 false) marks drives drives') where
   abbrev rows : List VolumeRow
-  rows = x.config.volumes
+  rows = m.config.volumes
 
   -- a volume is the one on its drive
-  here : (k : ℕ) (d : VolumeRow) → k < length rows → drive_blocks x (slice_index_or rows k d).drive ≡ blocks_of volumes k
+  here : (k : ℕ) (d : VolumeRow) → k < length rows → drive_blocks_from m es n (slice_index_or rows k d).drive ≡ blocks_of volumes k
   here k d h =
       let drive = (slice_index_or rows k d).drive in
       let first : place_of (is_on_drive drive) rows ≡ Some k = first_place (is_on_drive drive) rows k d h (eq-eqb drive drive refl) (λ j low. ne_eqb (slice_index_or rows j d).drive drive (accepted.drives j k d low h)) in
-      ap (blocks_at (run x).now.volumes) first ∙ ap (λ vs. blocks_of vs k) (sym same)
+      ap (blocks_at (rounds_from m es n).now.volumes) first ∙ ap (λ vs. blocks_of vs k) (sym same)
 
-  pub stored : length drives' ≡ length drives → StoresRun x marks drives drives'
+  pub stored : length drives' ≡ length drives → StoresFrom m es n marks drives drives'
   stored size = record {
     stores = λ k d h.
         let row = slice_index_or rows k d in
@@ -50,4 +51,4 @@ module _ (x : Input) (volumes : List (List (List ℕ))) (marks : List Bool) (dri
   }
 
 pub touches_no_drive : TouchesNoDrive
-touches_no_drive x ran o none made = ext_get_or unkept o.drives' o.drives made.drives.size (λ d h. (made.drives.others d (subst (λ (rows : List VolumeRow). All (λ row. row.drive ≢ d) rows) (sym none) (λ k e within. absurd (omega (arith, within))))).1)
+touches_no_drive x ran o none made = ext_get_or unkept o.drives' o.drives made.makes.drives.size (λ d h. (made.makes.drives.others d (subst (λ (rows : List VolumeRow). All (λ row. row.drive ≢ d) rows) (sym none) (λ k e within. absurd (omega (arith, within))))).1)

@@ -1,5 +1,5 @@
 -- A whole run: what is left of it, and what the outside gets of it.
-use Rattle.std.specs.Prelude.{ℕ, ◌≡◌, ◌≢◌, ◌≤◌, ◌*◌, List, [], length, Bool, false, All}
+use Rattle.std.specs.Prelude.{ℕ, ◌≡◌, ◌≢◌, ◌≤◌, ◌+◌, ◌*◌, List, [], length, Bool, false, All}
 use Rattle.std.specs.declared.option.Option.TheVariants.{None, Some}
 use Rattle.std.specs.declared.result.Result.{Result}
 use Rattle.std.specs.declared.result.Result.TheVariants.{Ok, Err}
@@ -7,16 +7,16 @@ use Rattle.vax_hw.specs.Machine.{Machine}
 use Rattle.vv_io.specs.Blocks.{Kept}
 use Rattle.vv_io.specs.Lines.{Seen}
 use Rattle.sys_drives.specs.Loads.{AreLoaded, HasFailed, IsMisfit}
-use Rattle.sys_drives.specs.Rows.{drive_at}
+use Rattle.sys_drives.specs.Rows.{FitsDrive, drive_at}
 use Rattle.sys_drives.specs.Stores.{Stores, is_marked}
 use Rattle.sys_guests.specs.Changes.{Retires}
 use Rattle.sys_guests.specs.Loads.{first_misfit}
 use Rattle.sys_lines.specs.Shows.{Shows}
 use Rattle.sys_objects.specs.declared.records.Config.{Config}
-use Rattle.sys_rounds.specs.Bytes.{drive_blocks, line_bytes}
-use Rattle.sys_rounds.specs.Counts.{outcome}
-use Rattle.sys_rounds.specs.FirstTouches.{first_touches}
-use Rattle.sys_rounds.specs.Run.{Input}
+use Rattle.sys_rounds.specs.Bytes.{drive_blocks_from, line_bytes_from}
+use Rattle.sys_rounds.specs.Counts.{tally_from}
+use Rattle.sys_rounds.specs.FirstTouches.{first_touches_from}
+use Rattle.sys_rounds.specs.Run.{Input, Moment, opening}
 use Rattle.sys_runs.specs.declared.running.Ran.{Ran}
 use Rattle.sys_script.specs.declared.event.Event.{Event}
 use Rattle.sys_system.specs.Devices.{first_failed}
@@ -46,32 +46,38 @@ pub record Untouched (o : Outside) : Type 0 where
   pub shown : Unshown o
   pub drives : o.drives' ≡ o.drives
 
--- Each volume's drive has its last blocks of the run; one that failed is marked, and cut. A drive that no volume has is
--- as before, and isn't marked.
-pub record StoresRun (x : Input) (marks : List Bool) (drives drives' : List Kept) : Type 0 where
-  pub stores : All (λ row. Stores (is_marked marks row.drive) (drive_at drives row.drive) (drive_at drives' row.drive) (drive_blocks x row.drive)) x.config.volumes
-  pub others : (d : ℕ) → All (λ row. row.drive ≢ d) x.config.volumes → (is_marked marks d ≡ false) × (drive_at drives' d ≡ drive_at drives d)
+-- Each volume's drive has its last blocks after so many rounds from a moment on; one that failed is marked, and cut. A drive
+-- that no volume has is as before, and isn't marked.
+pub record StoresFrom (m : Moment) (es : List Event) (n : ℕ) (marks : List Bool) (drives drives' : List Kept) : Type 0 where
+  pub stores : All (λ row. Stores (is_marked marks row.drive) (drive_at drives row.drive) (drive_at drives' row.drive) (drive_blocks_from m es n row.drive)) m.config.volumes
+  pub others : (d : ℕ) → All (λ row. row.drive ≢ d) m.config.volumes → (is_marked marks d ≡ false) × (drive_at drives' d ≡ drive_at drives d)
   pub size : length drives' ≡ length drives
 
--- The run was made. The images fit, and the volumes are those of the drives. Each line has its bytes of the run, or a
--- front of them and a mark where it failed. The steps are those of the run, at most 1,600,000 in a round, and the machine
--- retired the plain ones. It missed at most as many pages as the run has first touches.
-pub record Makes (x : Input) (ran : Ran) (o : Outside) : Type 0 where
-  pub fits : first_misfit x.config.guests x.images ≡ None
-  pub loaded : AreLoaded x.config.volumes o.drives x.volumes
+-- So many rounds were made from a moment on, and then power went down. The drives have as many blocks as the volumes. Each
+-- line has its bytes, or a front of them and a mark where it failed. The steps are those of these rounds, and with those
+-- before at most 1,600,000 in a round, and the machine retired the plain ones. It missed at most as many pages as these
+-- rounds have first touches.
+pub record MakesFrom (m : Moment) (es : List Event) (n : ℕ) (ran : Ran) (o : Outside) : Type 0 where
+  pub fit : All (FitsDrive o.drives) m.config.volumes
   -- the lines and the drives that have failed
   pub marks : List Bool
   pub drive_marks : List Bool
-  pub lines : Shows [] marks o.lines o.lines' (λ k. line_bytes x k)
+  pub lines : Shows [] marks o.lines o.lines' (λ k. line_bytes_from m es n k)
   pub size : length o.lines' ≡ length o.lines
-  pub drives : StoresRun x drive_marks o.drives o.drives'
-  pub counts : tally_of ran.counts ≡ (outcome x).tally
-  pub few : steps_in ran.counts ≤ 1600000 * x.rounds
-  pub retires : Retires o.machine o.machine' (outcome x).tally
+  pub drives : StoresFrom m es n drive_marks o.drives o.drives'
+  pub counts : tally_of ran.counts ≡ tally_from m es n
+  pub few : steps_in ran.counts ≤ 1600000 * (m.made + n)
+  pub retires : Retires o.machine o.machine' (tally_from m es n)
   pub missed : ℕ
   pub misses : Misses missed o.machine o.machine'
-  pub touches : missed ≤ first_touches x
+  pub touches : missed ≤ first_touches_from m es n
   pub failed : ran.failed ≡ first_failed marks drive_marks
+
+-- The run was made: the images fit, the volumes are those of the drives, and its rounds were made from power-up on.
+pub record Makes (x : Input) (ran : Ran) (o : Outside) : Type 0 where
+  pub fits : first_misfit x.config.guests x.images ≡ None
+  pub loaded : AreLoaded x.config.volumes o.drives x.volumes
+  pub makes : MakesFrom (opening x) x.events x.rounds ran o
 
 -- a run by its answer: it was made; or the first image doesn't fit; or else the first volume that can't be read; or
 -- memory ran out

@@ -1,4 +1,4 @@
-ghost use Rattle.std.specs.Prelude.{◌≡◌, ◌≤◌, ◌==◌, false, length, map, take_while, vec_len};
+ghost use Rattle.std.specs.Prelude.{◌≡◌, ◌≤◌, ◌+◌, drop, false, length, map, nat_le, take_while, vec_len};
 ghost use Rattle.sys_runs.specs.Rounds.{MakesRounds};
 ghost use Rattle.sys_script.specs.Events.{AreEvents};
 ghost use Rattle.sys_system.specs.System.{IsSystem, StandsIn};
@@ -8,18 +8,26 @@ use sys_system::System;
 use vax_hw::Hardware;
 use vv_io::Line;
 
-/// How many of the first events are of a round, up to the first that isn't.
-fn count_first(events: &[Event], round: u32) -> usize
-    ensures { result ≡ length (take_while (λ e. e.round == round) events.now) }
+/// How many of the first events are of rounds up to this one.
+fn count_up_to(events: &[Event], round: u32) -> usize
+    ensures { result ≡ length (take_while (λ e. nat_le e.round round) events.now) }
 {
     events
         .iter()
-        .take_while(|event| event.round == round)
+        .take_while(|event| event.round <= round)
         .count()
 }
 
-/// Makes so many rounds of a system to which power came, the i-th with the events of round i. Events of later rounds
-/// have no effect. It takes no memory, and no fault of a line is answered: it is kept as a mark.
+/// The events that stand after the first ones of rounds up to this one.
+fn later_than(events: &[Event], round: u32) -> &[Event]
+    ensures { result.now ≡ drop (length (take_while (λ e. nat_le e.round round) events.now)) events.now }
+{
+    let past = count_up_to(events, round);
+    events.split_at(past).1
+}
+
+/// Makes the next rounds of a system, so many, the i-th round since power-up with the events of round i. Events of earlier
+/// and of later rounds have no effect. It takes no memory, and no fault of a line is answered: it is kept as a mark.
 pub fn make_rounds<H: Hardware>(
     system: &mut System,
     machine: &mut H,
@@ -28,8 +36,7 @@ pub fn make_rounds<H: Hardware>(
     rounds: u32,
 )
     requires rests { system.old.turns.is_begun ≡ false }
-    requires first { system.old.rounds ≡ 0 }
-    requires few { rounds ≤ 1000000 }
+    requires few { system.old.rounds + rounds ≤ 2000000 }
     requires ordered { AreEvents events.now }
     requires holds { IsSystem system.old }
     requires stands { StandsIn (H.machine machine.old).memory system.old }
@@ -38,9 +45,11 @@ pub fn make_rounds<H: Hardware>(
     ensures len { vec_len lines.new ≡ vec_len lines.old }
     ensures holds { IsSystem system.new }
 {
-    let mut rest = events;
+    let before = system.rounds();
+    let mut rest = later_than(events, before);
     for made in 0..rounds {
-        let (these, later) = rest.split_at(count_first(rest, made + 1));
+        let own = count_up_to(rest, before + made + 1);
+        let (these, later) = rest.split_at(own);
         system.make_round(machine, lines, these);
         rest = later;
     }

@@ -8,6 +8,7 @@ use Rattle.sys_objects.specs.declared.records.Config.{Config}
 use Rattle.sys_objects.specs.declared.records.GuestRow.{GuestRow}
 use Rattle.sys_objects.specs.declared.records.Mount.{Mount}
 use Rattle.sys_rounds.specs.Places.{changed}
+use Rattle.sys_rounds.specs.Run.{Moment}
 use Rattle.sys_rounds.specs.Slices.{Slice}
 use Rattle.sys_rounds.specs.State.{State}
 use Rattle.vm_guest.specs.Kept.{Kept}
@@ -42,6 +43,10 @@ pub record System : Type 0 where
 -- the state that it stands for, with the machine's memory
 abbrev pub state_of : List ℕ → System → State
 state_of memory s = record { connected = s.connected; mounts = s.mounts; guests = guests_in memory s.guests; volumes = s.volumes }
+
+-- the moment at which it stands, where no round is begun
+abbrev pub moment_of : List ℕ → System → Moment
+moment_of memory s = record { config = s.config; made = s.rounds; state = state_of memory s }
 
 -- what holds of it at every moment
 pub record IsSystem (s : System) : Type 0 where

@@ -103,6 +103,13 @@ impl System {
         self.parts.counts
     }
 
+    /// How many rounds were begun since power-up.
+    pub fn rounds(&self) -> u32
+        ensures { result ≡ self.now.rounds }
+    {
+        self.parts.rounds
+    }
+
     /// The first line that is marked as failed, or else the first drive.
     pub fn failed(&self) -> Option<Device>
         ensures { result ≡ first_failed self.now.marks self.now.drives }

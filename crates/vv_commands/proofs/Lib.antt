@@ -1,3 +1,4 @@
+pub mod Counted
 pub mod Separate
 pub mod Stopping
 pub mod Workloads

@@ -11,10 +11,11 @@ use Rattle.sys_lines.specs.ShownSince.{ShownSince}
 use Rattle.sys_lines.specs.Shows.{Shows}
 use Rattle.sys_objects.specs.declared.records.VolumeRow.{VolumeRow}
 use Rattle.sys_rounds.proofs.Places.{both}
-use Rattle.sys_rounds.specs.Bytes.{drive_blocks}
+use Rattle.sys_rounds.specs.Bytes.{drive_blocks_from}
 use Rattle.sys_rounds.specs.Places.{place_of}
-use Rattle.sys_rounds.specs.Run.{Input}
-use Rattle.sys_runs.specs.Ran.{StoresRun}
+use Rattle.sys_rounds.specs.Run.{Moment}
+use Rattle.sys_runs.specs.Ran.{StoresFrom}
+use Rattle.sys_script.specs.declared.event.Event.{Event}
 use Rattle.vv_laws.specs.Complete.{line_at}
 
 -- the first that is marked
@@ -91,27 +92,27 @@ on_row (r ∷ rows) d = both (r.drive == d) (λ e. inl (0, r, refl, eqb-true r.d
         all zero e h = other
         all (suc k) e h = none k e (omega (arith, h))
 
-module _ (x : Input) (marks : List Bool) (drives drives' : List Kept) (d : ℕ) (s : StoresRun x marks drives drives') where
-  -- what a row's drive has behind the run
-  stored : (v : ℕ) (row : VolumeRow) → StandsAt x.config.volumes v row → row.drive ≡ d → Stores (is_marked marks d) (drive_at drives d) (drive_at drives' d) (drive_blocks x d)
+module _ (m : Moment) (es : List Event) (n : ℕ) (marks : List Bool) (drives drives' : List Kept) (d : ℕ) (s : StoresFrom m es n marks drives drives') where
+  -- what a row's drive has after the rounds
+  stored : (v : ℕ) (row : VolumeRow) → StandsAt m.config.volumes v row → row.drive ≡ d → Stores (is_marked marks d) (drive_at drives d) (drive_at drives' d) (drive_blocks_from m es n d)
   stored v row at same =
-      let here : Stores (is_marked marks row.drive) (drive_at drives row.drive) (drive_at drives' row.drive) (drive_blocks x row.drive) =
-      at_stands (λ (r : VolumeRow). Stores (is_marked marks r.drive) (drive_at drives r.drive) (drive_at drives' r.drive) (drive_blocks x r.drive)) x.config.volumes v row at s.stores in
-      subst (λ (k : ℕ). Stores (is_marked marks k) (drive_at drives k) (drive_at drives' k) (drive_blocks x k)) same here
+      let here : Stores (is_marked marks row.drive) (drive_at drives row.drive) (drive_at drives' row.drive) (drive_blocks_from m es n row.drive) =
+      at_stands (λ (r : VolumeRow). Stores (is_marked marks r.drive) (drive_at drives r.drive) (drive_at drives' r.drive) (drive_blocks_from m es n r.drive)) m.config.volumes v row at s.stores in
+      subst (λ (k : ℕ). Stores (is_marked marks k) (drive_at drives k) (drive_at drives' k) (drive_blocks_from m es n k)) same here
 
   -- a drive's count rose where it is marked, and is as before where it isn't
   pub drive_rose : is_marked marks d ≡ true → Rose (drive_at drives d).faults (drive_at drives' d).faults
-  drive_rose e = by (on_row x.config.volumes d)
+  drive_rose e = by (on_row m.config.volumes d)
     where
-      by : IsOn x.config.volumes d ⊎ All (λ row. row.drive ≢ d) x.config.volumes → Rose (drive_at drives d).faults (drive_at drives' d).faults
-      by (inl (v, row, at, same)) = let cut : IsCut (drive_at drives d) (drive_at drives' d) (drive_blocks x d) = subst (λ b. Stores b (drive_at drives d) (drive_at drives' d) (drive_blocks x d)) e (stored v row at same) in cut.rose
+      by : IsOn m.config.volumes d ⊎ All (λ row. row.drive ≢ d) m.config.volumes → Rose (drive_at drives d).faults (drive_at drives' d).faults
+      by (inl (v, row, at, same)) = let cut : IsCut (drive_at drives d) (drive_at drives' d) (drive_blocks_from m es n d) = subst (λ b. Stores b (drive_at drives d) (drive_at drives' d) (drive_blocks_from m es n d)) e (stored v row at same) in cut.rose
       by (inr none) = let fine : is_marked marks d ≡ false = (s.others d none).0 in cc (e, fine)
 
   drive_kept : is_marked marks d ≡ false → (drive_at drives' d).faults ≡ (drive_at drives d).faults
-  drive_kept e = by (on_row x.config.volumes d)
+  drive_kept e = by (on_row m.config.volumes d)
     where
-      by : IsOn x.config.volumes d ⊎ All (λ row. row.drive ≢ d) x.config.volumes → (drive_at drives' d).faults ≡ (drive_at drives d).faults
-      by (inl (v, row, at, same)) = ap (λ (k : Kept). k.faults) (subst (λ b. Stores b (drive_at drives d) (drive_at drives' d) (drive_blocks x d)) e (stored v row at same))
+      by : IsOn m.config.volumes d ⊎ All (λ row. row.drive ≢ d) m.config.volumes → (drive_at drives' d).faults ≡ (drive_at drives d).faults
+      by (inl (v, row, at, same)) = ap (λ (k : Kept). k.faults) (subst (λ b. Stores b (drive_at drives d) (drive_at drives' d) (drive_blocks_from m es n d)) e (stored v row at same))
       by (inr none) = ap (λ (k : Kept). k.faults) (s.others d none).1
 
   pub no_drive_greater : first_marked marks ≡ None → (drive_at drives d).faults < (drive_at drives' d).faults → ⊥

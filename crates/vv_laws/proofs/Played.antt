@@ -15,8 +15,8 @@ use Rattle.sys_objects.specs.Condition.{IsConfig, IsVolume}
 use Rattle.sys_objects.specs.declared.records.Config.{Config}
 use Rattle.sys_objects.specs.declared.records.VolumeRow.{VolumeRow}
 use Rattle.sys_rounds.proofs.Places.{both}
-use Rattle.sys_rounds.specs.Run.{Input}
-use Rattle.sys_runs.specs.Ran.{Makes, Outside, Runs, Unshown}
+use Rattle.sys_rounds.specs.Run.{Moment}
+use Rattle.sys_runs.specs.Ran.{MakesFrom, Outside, Runs, Unshown}
 use Rattle.sys_runs.specs.declared.running.Ran.{Ran}
 use Rattle.sys_script.specs.declared.event.Event.{Event}
 use Rattle.sys_system.specs.Devices.{device_of}
@@ -49,10 +49,10 @@ NoLineRose o = (k : ℕ) → Rose (line_at o.lines k).faults (line_at o.lines' k
 abbrev NoDriveRose : Outside → Type 0
 NoDriveRose o = (d : ℕ) → Rose (drive_at o.drives d).faults (drive_at o.drives' d).faults → ⊥
 
-none_failed : (x : Input) (ran : Ran) (o : Outside) → Makes x ran o → NoLineRose o → NoDriveRose o → ran.failed ≡ None
-none_failed x ran o made lines drives = made.failed ∙ no_device (first_marked made.marks) (first_marked made.drive_marks)
+none_failed : (m : Moment) (es : List Event) (n : ℕ) (ran : Ran) (o : Outside) → MakesFrom m es n ran o → NoLineRose o → NoDriveRose o → ran.failed ≡ None
+none_failed m es n ran o made lines drives = made.failed ∙ no_device (first_marked made.marks) (first_marked made.drive_marks)
     (λ k e. lines k (line_rose made.marks o.lines o.lines' _ k e made.lines))
-    (λ d e. drives d (drive_rose x made.drive_marks o.drives o.drives' d made.drives (marked_at made.drive_marks d e)))
+    (λ d e. drives d (drive_rose m es n made.drive_marks o.drives o.drives' d made.drives (marked_at made.drive_marks d e)))
 
 -- a drive that failed while its volume was read
 pub drive_in_rose : (c : Config) (drives drives' : List Kept) (d : ℕ) → IsConfig c → HasFailed c.volumes drives drives' d → Rose (drive_at drives d).faults (drive_at drives' d).faults
@@ -90,7 +90,7 @@ module _ (c : Config) (images : List (List ℕ)) (es : List Event) (rounds : ℕ
   plays_served fits drives_fit readable lines drives kept = by p.result p.runs p.answers
     where
       by : (result : Result Ran PowerFault) → Runs c images es rounds result o → Answers rounds result status out out' → IsServed status
-      by (Ok ran) (volumes, made) closes = closes_served ran.failed _ status out out' (none_failed _ ran o made lines drives) closes kept
+      by (Ok ran) (volumes, made) closes = closes_served ran.failed _ status out out' (none_failed _ _ _ ran o made.makes lines drives) closes kept
       by (Err (Image g)) (misfit, rest) answers = cc (misfit, fits)
       by (Err (VolumeSize v)) (none, misfit, rest) answers = absurd (misfit.differs (at_stands (FitsDrive o.drives) c.volumes v misfit.row misfit.stands drives_fit))
       by (Err (DriveIn d)) (none, failed, rest) answers = absurd (readable d failed)
@@ -129,18 +129,18 @@ module _ (c : Config) (images : List (List ℕ)) (es : List Event) (rounds : ℕ
     where
       by : (result : Result Ran PowerFault) → Runs c images es rounds result o → Answers rounds result status out out' → NamesLine k status
       by (Ok ran) (volumes, made) closes =
-          let is : status ≡ done_status (device_of (first_marked made.marks) (first_marked made.drive_marks)) closes.cut = closes.is ∙ ap (λ (f : Option Device). done_status f closes.cut) made.failed in
-          subst (λ (s : Status). NamesLine k s) (sym is) (named_line made.marks o.lines o.lines' _ k made.lines h (first_marked made.marks) (first_marked made.drive_marks) closes.cut refl)
+          let is : status ≡ done_status (device_of (first_marked made.makes.marks) (first_marked made.makes.drive_marks)) closes.cut = closes.is ∙ ap (λ (f : Option Device). done_status f closes.cut) made.makes.failed in
+          subst (λ (s : Status). NamesLine k s) (sym is) (named_line made.makes.marks o.lines o.lines' _ k made.makes.lines h (first_marked made.makes.marks) (first_marked made.makes.drive_marks) closes.cut refl)
       by (Err fault) runs answers = absurd (omega (arith, h, ap (λ (ls : List Seen). (line_at ls k).faults) (unshown fault runs).lines))
 
   -- a drive whose count is greater is named, or a line, or a drive of a lower number
   pub plays_names_drive : (d : ℕ) → (drive_at o.drives d).faults < (drive_at o.drives' d).faults → NamesDrive d status
   plays_names_drive d h = by p.result p.runs p.answers
     where
-      named : (x : Input) (ran : Ran) (made : Makes x ran o) (line drive : Option ℕ) (cut : Bool) → first_marked made.drive_marks ≡ drive → NamesDrive d (done_status (device_of line drive) cut)
-      named x ran made (Some line) drive cut e = tt
-      named x ran made None (Some drive) cut e = no_drive_lower x made.drive_marks o.drives o.drives' d made.drives drive e h
-      named x ran made None None cut e = absurd (no_drive_greater x made.drive_marks o.drives o.drives' d made.drives e h)
+      named : (m : Moment) (es : List Event) (n : ℕ) (ran : Ran) (made : MakesFrom m es n ran o) (line drive : Option ℕ) (cut : Bool) → first_marked made.drive_marks ≡ drive → NamesDrive d (done_status (device_of line drive) cut)
+      named m es n ran made (Some line) drive cut e = tt
+      named m es n ran made None (Some drive) cut e = no_drive_lower m es n made.drive_marks o.drives o.drives' d made.drives drive e h
+      named m es n ran made None None cut e = absurd (no_drive_greater m es n made.drive_marks o.drives o.drives' d made.drives e h)
 
       same : o.drives' ≡ o.drives → ⊥
       same e = omega (arith, h, ap (λ (ks : List Kept). (drive_at ks d).faults) e)
@@ -154,8 +154,8 @@ module _ (c : Config) (images : List (List ℕ)) (es : List Event) (rounds : ℕ
 
       by : (result : Result Ran PowerFault) → Runs c images es rounds result o → Answers rounds result status out out' → NamesDrive d status
       by (Ok ran) (volumes, made) closes =
-          let is : status ≡ done_status (device_of (first_marked made.marks) (first_marked made.drive_marks)) closes.cut = closes.is ∙ ap (λ (f : Option Device). done_status f closes.cut) made.failed in
-          subst (λ (s : Status). NamesDrive d s) (sym is) (named _ ran made (first_marked made.marks) (first_marked made.drive_marks) closes.cut refl)
+          let is : status ≡ done_status (device_of (first_marked made.makes.marks) (first_marked made.makes.drive_marks)) closes.cut = closes.is ∙ ap (λ (f : Option Device). done_status f closes.cut) made.makes.failed in
+          subst (λ (s : Status). NamesDrive d s) (sym is) (named _ _ _ ran made.makes (first_marked made.makes.marks) (first_marked made.makes.drive_marks) closes.cut refl)
       by (Err (Image g)) (misfit, untouched) answers = absurd (same untouched.drives)
       by (Err (VolumeSize v)) (none, misfit, untouched) answers = absurd (same untouched.drives)
       by (Err (DriveIn e)) (none, failed, shown) (answer, kept) = subst (λ (s : Status). NamesDrive d s) (sym answer) (only e failed.rose)

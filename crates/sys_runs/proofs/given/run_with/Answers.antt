@@ -1,4 +1,4 @@
-use Rattle.std.proofs.Common.{◌∙◌, ap}
+use Rattle.std.proofs.Common.{◌≡◌, ◌∙◌, ap, arith}
 use Rattle.std.proofs.lemmas.Result.{err_from_is_err_and}
 use Rattle.sys_runs.proofs.GivenRuns.{not_run_with, run_made_with}
 use Rattle.sys_runs.proofs.Whole.{as_long}
@@ -13,8 +13,10 @@ returns-in_err-system-clause-runs g c drives =
 pub make_rounds-requires-clause-rests : goal.make_rounds-requires-clause-rests
 make_rounds-requires-clause-rests g c = ap (λ (s : System). s.turns.is_begun) c.in_ok-system.ensures.powers.powered.system
 
-pub make_rounds-requires-clause-first : goal.make_rounds-requires-clause-first
-make_rounds-requires-clause-first g c = ap (λ (s : System). s.rounds) c.in_ok-system.ensures.powers.powered.system
+pub make_rounds-requires-clause-few : goal.make_rounds-requires-clause-few
+make_rounds-requires-clause-few g c =
+    let none : c.in_ok-system.system.rounds ≡ 0 = ap (λ (s : System). s.rounds) c.in_ok-system.ensures.powers.powered.system in
+    omega (arith, c.requires.few, none)
 
 pub make_rounds-requires-clause-holds : goal.make_rounds-requires-clause-holds
 make_rounds-requires-clause-holds g c = c.in_ok-system.ensures.holds

@@ -1,7 +1,7 @@
-use Rattle.std.proofs.Common.{◌∙◌, ap}
+use Rattle.std.proofs.Common.{◌≡◌, ◌∙◌, ap, arith}
 use Rattle.std.proofs.lemmas.Result.{err_from_is_err_and}
 use Rattle.sys_runs.proofs.Faults.{not_run}
-use Rattle.sys_runs.proofs.Whole.{as_long, fits_still, run_made}
+use Rattle.sys_runs.proofs.Whole.{as_long, fits_as_read, fits_still, run_made}
 use Rattle.sys_system.specs.System.{System}
 use Rattle.sys_runs.proofs.running.run.Goals as goal
 
@@ -13,8 +13,10 @@ returns-in_err-system-clause-runs g c =
 pub make_rounds-requires-clause-rests : goal.make_rounds-requires-clause-rests
 make_rounds-requires-clause-rests g c = ap (λ (s : System). s.turns.is_begun) c.in_ok-system.ensures.powers.powered.system
 
-pub make_rounds-requires-clause-first : goal.make_rounds-requires-clause-first
-make_rounds-requires-clause-first g c = ap (λ (s : System). s.rounds) c.in_ok-system.ensures.powers.powered.system
+pub make_rounds-requires-clause-few : goal.make_rounds-requires-clause-few
+make_rounds-requires-clause-few g c =
+    let none : c.in_ok-system.system.rounds ≡ 0 = ap (λ (s : System). s.rounds) c.in_ok-system.ensures.powers.powered.system in
+    omega (arith, c.requires.few, none)
 
 pub make_rounds-requires-clause-holds : goal.make_rounds-requires-clause-holds
 make_rounds-requires-clause-holds g c = c.in_ok-system.ensures.holds
@@ -26,7 +28,9 @@ pub power_down-requires-clause-stands : goal.power_down-requires-clause-stands
 power_down-requires-clause-stands g c = c.make_rounds.ensures.makes.goes.stands
 
 pub power_down-requires-clause-fit : goal.power_down-requires-clause-fit
-power_down-requires-clause-fit g c = fits_still c.args.config _ c.args.events.now c.args.rounds _ _ _ _ _ _ _ _ c.in_ok-system.ensures.powers c.make_rounds.ensures.makes
+power_down-requires-clause-fit g c =
+    let p = c.in_ok-system.ensures.powers in
+    fits_still _ c.args.events.now c.args.rounds _ _ _ _ _ _ _ (fits_as_read c.args.config _ _ _ _ _ p) p.powered c.make_rounds.ensures.makes
 
 pub returns-clause-runs : goal.returns-clause-runs
 returns-clause-runs g c =
