@@ -7,17 +7,26 @@ use Rattle.vm_fitting.specs.Moves.{Retells}
 use Rattle.vm_fitting.proofs.Fitting.{resets_keep, writes_keep}
 use Rattle.vm_fitting.proofs.Own.{moves_alone, none_dropped}
 use Rattle.vm_fitting.proofs.Working.{switches_retell}
-use Rattle.vm_guest.specs.Kept.{Becomes, KeepsPresent, Kept, StandsIn, all_typed, frames_from, guest_in, with_bytes}
+use Rattle.vm_guest.specs.Kept.{Becomes, IsNew, IsResumed, KeepsPresent, Kept, StandsIn, all_typed, frames_from, guest_in}
 use Rattle.vm_console.specs.Console.{ConsoleState, after_typed}
 use Rattle.vm_guest.specs.Stores.{StoresAll}
 use Rattle.vm_shadow.specs.Stands.{Shadowed}
-use Rattle.vm_shadow.specs.StandsFor.{Switches}
+use Rattle.vm_shadow.specs.StandsFor.{Makes, Switches}
 use Rattle.vm_state.specs.Allowed.{AreAllowed, IsPacket}
 use Rattle.vm_state.specs.Partition.{part, partition_of}
-use Rattle.vm_state.specs.Start.{started}
+use Rattle.vm_state.specs.Start.{started, stopped_at_first}
 use Rattle.vm_state.specs.State.{HasPlace, State, state_of, tables_of}
 use Rattle.vm_state.specs.Touches.{touching_reset, touching_write}
 use Rattle.vm_state.specs.declared.guest_state.GuestState.{GuestState}
+
+-- a guest that goes on with the registers of a new one is new
+pub resumed_new : (pages base tables start : ℕ) (faults : Bool) (given : GuestState) (m m' : Machine) (k : Kept) → state_of given ≡ stopped_at_first start faults → HasPlace pages base start given → IsResumed given tables m m' k → IsNew pages base tables start faults m m' k
+resumed_new pages base tables start faults given m m' k is place resumed = record {
+  state = ap state_of resumed.state ∙ is;
+  place = subst (HasPlace pages base start) (sym resumed.state) place;
+  made = subst (λ g. Makes g tables m m' k.shadow) (sym resumed.state) resumed.made;
+  present = resumed.present;
+}
 
 -- a guest that starts has allowed registers
 pub start_allowed : (size start : ℕ) (faults : Bool) → AreAllowed size (started start faults)

@@ -1,16 +1,14 @@
 -- A guest in two memories that are the same in its part.
-use Rattle.std.proofs.Common.{◌≡◌, ℕ, ◌+◌, ◌-◌, ◌*◌, ◌/◌, ◌%◌, ◌<◌, ◌≤◌, ◌==◌, ◌⊎◌, Bool, true, false, List, [], length, Option, Some, None, refl, ap, ◌∙◌, sym, subst, arith}
-use Rattle.std.specs.Prelude.{slice_index, nat_lt, if◌then◌else◌}
+use Rattle.std.proofs.Common.{◌≡◌, ℕ, ◌+◌, ◌*◌, ◌<◌, ◌≤◌, List, [], ap, ◌∙◌, sym, subst, arith}
 use Rattle.vv_base.specs.Bytes.{long_at}
 use Rattle.vax_arch.specs.Fields.{is_modified, is_valid}
 use Rattle.vax_arch.specs.declared.walk.Lookup.{Lookup}
-use Rattle.vm_shadow.specs.Layout.{all_entries, entry_page, entry_place, kernel_entry}
+use Rattle.vm_shadow.specs.Layout.{all_entries, entry_page, entry_place}
 use Rattle.vm_shadow.specs.Stands.{Fits, IsKept, is_flagged, Keeps, Shadowed, look_under, mapped_frame, own, read_at, real_at, seen_at, tables_for, is_read_from}
-use Rattle.vm_shadow.specs.StandsFor.{StandsFor}
 use Rattle.vm_shadow.proofs.Covering.{own_is}
 use Rattle.vm_shadow.proofs.Places.{place_within}
 use Rattle.vm_shadow.proofs.Writes.{long_by, part_same}
-use Rattle.vm_state.specs.Partition.{guest_of, partition_of}
+use Rattle.vm_state.specs.Partition.{partition_of}
 use Rattle.vm_state.specs.State.{state_of}
 use Rattle.vm_guest.specs.Kept.{Kept, StandsIn, guest_in}
 use Rattle.vm_guest.specs.Laws.{SharesPart, StandsElsewhere}

@@ -36,6 +36,12 @@ pub record IsNew (pages base tables start : ℕ) (modify_faults : Bool) (m m' : 
   pub made : Makes k.state tables m m' k.shadow
   pub present : HasPresent k.shadow (at_first (guest_in m'.memory k))
 
+-- a guest that goes on with these registers; no page is filled, and none is present by first touches
+pub record IsResumed (given : GuestState) (tables : ℕ) (m m' : Machine) (k : Kept) : Type 0 where
+  pub state : k.state ≡ given
+  pub made : Makes given tables m m' k.shadow
+  pub present : HasPresent k.shadow (at_first (guest_in m'.memory k))
+
 -- What first touches leave of what is present has entries in the shadow page tables then, if it had before.
 abbrev pub KeepsPresent : (Present → Present) → Kept → Kept → Type 0
 KeepsPresent left k k' = (p : Present) → HasPresent k.shadow p → HasPresent k'.shadow (left p)

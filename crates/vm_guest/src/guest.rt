@@ -2,7 +2,7 @@ ghost use Rattle.std.specs.Prelude.{◌≡◌, ◌≤◌, ◌+◌, ◌*◌, ◌�
 ghost use Rattle.vm_console.specs.Appends.{Appends};
 ghost use Rattle.vm_fitting.specs.Moves.{Drops};
 ghost use Rattle.vm_fitting.specs.Paid.{Pays};
-ghost use Rattle.vm_guest.specs.Kept.{Becomes, IsNew, KeepsPresent, StandsIn, TakesState, bytes_at, commanded_to_stop, frames_from, guest_in, stop_message, with_bytes, with_line};
+ghost use Rattle.vm_guest.specs.Kept.{Becomes, IsNew, IsResumed, KeepsPresent, StandsIn, TakesState, bytes_at, commanded_to_stop, frames_from, guest_in, stop_message, with_bytes, with_line};
 ghost use Rattle.vm_state.specs.Allowed.{AreAllowed};
 ghost use Rattle.vm_state.specs.Start.{started};
 ghost use Rattle.vm_state.specs.State.{HasPlace, state_of};
@@ -63,6 +63,25 @@ impl Guest {
         ensures err { OnErr result (H.machine machine.new ≡ H.machine machine.old) }
     {
         let state = GuestState::new(pages, base, start, modify_faults);
+        Guest::of_state(alloc, machine, state, tables)
+    }
+
+    /// A guest with these registers and the memory that the machine has at its place, of at most 2,048 pages, with its real
+    /// tables in the 580 pages from `tables` on. All its memory is taken here; `NoMemory` leaves the machine as it was.
+    pub fn of_state<H: Hardware>(
+        alloc: Global,
+        machine: &mut H,
+        state: GuestState,
+        tables: u32,
+    ) -> Result<Guest, NoMemory>
+        requires few { state.pages ≤ 2048 }
+        requires partition { 512 * (state.base + state.pages) ≤ length (H.machine machine.old).memory }
+        requires room { 512 * (tables + 580) ≤ length (H.machine machine.old).memory }
+        requires apart { (state.base + state.pages ≤ tables) ⊎ (tables + 580 ≤ state.base) }
+        requires allowed { AreAllowed (512 * state.pages) (state_of state) }
+        ensures ok { IfOk result (λ k. IsResumed state tables (H.machine machine.old) (H.machine machine.new) k) }
+        ensures err { OnErr result (H.machine machine.new ≡ H.machine machine.old) }
+    {
         let shadow = Shadow::new(alloc, machine, &state, tables)?;
         Ok(Guest { state, shadow })
     }
