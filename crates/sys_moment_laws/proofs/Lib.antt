@@ -1,0 +1,3 @@
+mod Holds
+mod Shapes
+pub mod Stands

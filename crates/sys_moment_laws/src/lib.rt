@@ -1,0 +1,23 @@
+//! Laws of what the state between two rounds keeps.
+#![tactic(auto)]
+
+ghost use Rattle.sys_moment_laws.specs.Holds.{RoundsKeep, RunsKeep};
+ghost use Rattle.sys_moment_laws.specs.Stands.{MomentsStandRight, OpensRight, RoundsKeepRight, RunsStandRight};
+
+/// Rounds keep that no guest stands at two terminals, and that each runs or stands with a stop code.
+pub fn rounds_keep_them()
+    ensures rounds { RoundsKeep }
+    ensures runs { RunsKeep }
+{}
+
+/// From any moment on, rounds keep the seats' and mounts' rules and that each guest runs or stands with a stop code.
+pub fn rounds_keep_a_moment_right()
+    ensures rounds { RoundsKeepRight }
+    ensures moments { MomentsStandRight }
+{}
+
+/// After each run of an accepted configuration they hold.
+pub fn runs_stand_right()
+    ensures opens { OpensRight }
+    ensures runs { RunsStandRight }
+{}

@@ -1,0 +1,10 @@
+mod Fields
+pub mod Fills
+pub mod Loops
+mod OnlyFields
+mod OnlyRecords
+pub mod OnlyStates
+pub mod Pieces
+pub mod Placing
+mod Records
+pub mod States

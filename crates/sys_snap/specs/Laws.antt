@@ -1,0 +1,21 @@
+-- Snapshots are read as what they were written of, and only they are read.
+use Rattle.std.specs.Prelude.{ℕ, ◌≡◌, ◌<◌, List, All, Result, Ok, Err}
+use Rattle.sys_rounds.specs.Run.{Moment}
+use Rattle.sys_snap.specs.Reader.{snap_in}
+use Rattle.sys_snap.specs.Snap.{IsSnap}
+use Rattle.sys_snap.specs.declared.fault.SnapFault.{SnapFault}
+
+abbrev pub ReadsEach : Type 0
+ReadsEach = (bytes : List ℕ) (m : Moment) → IsSnap bytes m → snap_in bytes ≡ Ok m
+
+-- also of bytes that nobody wrote
+abbrev pub ReadsOnlySnaps : Type 0
+ReadsOnlySnaps = (bytes : List ℕ) (m : Moment) → All (λ b. b < 256) bytes → snap_in bytes ≡ Ok m → IsSnap bytes m
+
+-- a snapshot is of one moment
+abbrev pub AreOfOneMoment : Type 0
+AreOfOneMoment = (bytes : List ℕ) (m n : Moment) → IsSnap bytes m → IsSnap bytes n → m ≡ n
+
+-- what is refused is a snapshot of none
+abbrev pub RefusedAreNone : Type 0
+RefusedAreNone = (bytes : List ℕ) (fault : SnapFault) → snap_in bytes ≡ Err fault → (m : Moment) → IsSnap bytes m → ⊥

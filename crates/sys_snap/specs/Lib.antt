@@ -1,0 +1,13 @@
+pub mod Conditions
+pub mod Fronts
+pub mod Held
+pub mod Laws
+pub mod Parts
+pub mod Pieces
+pub mod Reader
+pub mod Reading
+pub mod Reads
+pub mod Shown
+pub mod ShownSnaps
+pub mod Snap
+pub mod Written
