@@ -228,7 +228,7 @@ static MODES: [Case; 21] = [
     },
 ];
 
-static ENDS: [Case; 26] = [
+static ENDS: [Case; 28] = [
     // Both ends
     Case {
         name: "the second byte not accessible",
@@ -399,6 +399,45 @@ static ENDS: [Case; 26] = [
             (Long(0x2FFC), 0),
         ],
         ..PROBEW
+    },
+    // The entry of the page at FE00 lies at 800043FC, on a system page beyond memory; that of the page at 10000 lies at
+    // 80004400, on one that isn't valid. The base is asked for first.
+    Case {
+        name: "the base's table beyond memory, the second byte's not valid",
+        code: &[0x0C, 0x00, 0x02, 0x61],
+        before: &[
+            (R(15), 0x8000_0200),
+            (P0lr, 8192),
+            (R(1), 0xFFFF),
+            (Long(0x4084), 0xA400_0040),
+            (Long(0x4088), 0x2400_0022),
+        ],
+        kinds: FAULT,
+        after: &[(IsStopped, 1), (StopCode, 0x10)],
+        shown: b"?10 80000200\r\n",
+        ..PROBER
+    },
+    Case {
+        name: "the base's table not valid, the second byte's beyond memory",
+        code: &[0x0C, 0x00, 0x02, 0x61],
+        before: &[
+            (R(15), 0x8000_0200),
+            (P0lr, 8192),
+            (R(1), 0xFFFF),
+            (Long(0x4084), 0x2400_0021),
+            (Long(0x4088), 0xA400_0040),
+            (Long(0x4424), 0x8000_1F00),
+        ],
+        kinds: FAULT,
+        after: &[
+            (R(14), 0x8000_2FF0),
+            (R(15), 0x8000_1F00),
+            (Long(0x2FF0), 2),
+            (Long(0x2FF4), 0xFFFF),
+            (Long(0x2FF8), 0x8000_0200),
+            (Long(0x2FFC), 0),
+        ],
+        ..PROBER
     },
     // The entry of the page at 10000 lies at 80004400, on a system page that isn't valid; the base, of no access, hides it not.
     Case {
