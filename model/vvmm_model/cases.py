@@ -1,0 +1,292 @@
+"""Case files: calls of the program over objects in memory, and what they must come to.
+
+`docs/CASES.md` tells their language. Here each call is the model's.
+"""
+
+import os
+from dataclasses import dataclass, field
+
+from .case_checks import check
+from .outside import DeviceFault, MemoryDrive, MemoryLine, MemoryShelf, blocks_of
+from .program import Outside, call
+from .system import run
+
+MARKS = "|/=#$^%@+&<>"
+DEFAULT_ROOM = 100_000
+
+
+class Unreadable(Exception):
+    """A line of a case file is of no form."""
+
+
+@dataclass
+class Statement:
+    line: int
+    words: list
+    content: list = field(default_factory=list)
+
+
+@dataclass
+class Told:
+    """What a call told."""
+
+    code: int
+    text: str
+    lines: list
+    drives: list
+    out: bytes
+
+
+@dataclass
+class Given:
+    """What a case gives to its calls."""
+
+    files: dict = field(default_factory=dict)
+    volumes: dict = field(default_factory=dict)
+    failing: list = field(default_factory=list)
+    failing_drives: dict = field(default_factory=dict)
+    cuts: dict = field(default_factory=dict)
+    room: int = DEFAULT_ROOM
+
+    def fails(self) -> bool:
+        return bool(self.failing or self.failing_drives or self.cuts)
+
+    def drives(self) -> list:
+        return [MemoryDrive(self.volumes.get(n, []), self.failing_drives.get(n, [])) for n in range(16)]
+
+    def tell(self, words: list, runner, room: int) -> Told:
+        """What the model's call tells over this."""
+        lines = [MemoryLine(room, self.cuts.get(n, [])) for n in range(32)]
+        out = MemoryLine(room, self.cuts.get("out", []))
+        drives = self.drives()
+        outside = Outside(MemoryShelf(self.files, self.failing), lines, drives, out, runner)
+        code, text = call(words, outside)
+        shown = [bytes(line.shown) for line in lines]
+        return Told(code, text, shown, [read_back(drive) for drive in drives], bytes(out.shown))
+
+
+def read_back(drive: MemoryDrive) -> bytes:
+    """What a drive holds, as its next calls give it; a block whose call fails counts as zero."""
+    data = bytearray()
+    for block in range(drive.size()):
+        try:
+            data += drive.get(block)
+        except DeviceFault:
+            data += bytes(512)
+    return bytes(data)
+
+
+class Memory:
+    """Runs that were made, so that equal ones, whatever their slice, are made once."""
+
+    def __init__(self):
+        self.runs = {}
+
+    def run(self, config, images, volumes, events, rounds):
+        guests = config.guests, config.terminals, config.volumes, config.printers, config.audit
+        key = repr((guests, events, rounds)), tuple(map(bytes, images)), tuple(map(tuple, volumes))
+        if key not in self.runs:
+            self.runs[key] = run(config, images, volumes, events, rounds)
+        return self.runs[key]
+
+
+def read_statements(text: str) -> list:
+    statements = []
+    for number, line in enumerate(text.split("\n"), 1):
+        if not line or line.startswith(";"):
+            continue
+        if line[0] in MARKS:
+            statements[-1].content.append((number, line[0], line[2:]))
+        else:
+            statements.append(Statement(number, line.split(" ")))
+    return statements
+
+
+def read_file(folder: str, name: str) -> list:
+    with open(os.path.join(folder, name), encoding="utf-8") as file:
+        return read_statements(file.read())
+
+
+def can_be_parted(statements: list) -> bool:
+    """Whether no case speaks of what another kept."""
+    return all(statement.words[0] != "keep" for statement in statements)
+
+
+def cut_into_cases(statements: list) -> list:
+    """Lists of statements: what stands in front of the first case, and each case."""
+    parts = [[]]
+    for statement in statements:
+        if statement.words[0] == "case":
+            parts.append([])
+        parts[-1].append(statement)
+    return parts
+
+
+class Player:
+    """Plays the cases of one file; `compare` is called with each call and what the model told."""
+
+    def __init__(self, folder: str, compare=None):
+        self.folder = folder
+        self.compare = compare
+        self.memory = Memory()
+        self.lets = {}
+        self.runs = {}
+        self.value = None
+
+    def play(self, name: str, part: int = 0, parts: int = 1):
+        """Gives for each case its title and a list of what doesn't hold; of several parts those of one alone."""
+        first, *cases = cut_into_cases(read_file(self.folder, name))
+        self.begin()
+        self.do_all(first)
+        for number, statements in enumerate(cases):
+            if number % parts == part:
+                yield from self.play_case(statements)
+            else:
+                self.do_all([statement for statement in statements if statement.words[0] == "let"])
+
+    def play_case(self, statements: list):
+        title = " ".join(statements[0].words[1:])
+        values = [None]
+        rest = statements[1:]
+        if rest and rest[0].words[0] == "with":
+            values = rest[0].words[1:]
+            rest = rest[1:]
+        for value in values:
+            self.value = value
+            self.begin()
+            yield title + (" " + value if value else ""), self.do_all(rest)
+
+    def begin(self) -> None:
+        self.given = Given()
+        self.told = None
+        self.checked = set()
+
+    def do_all(self, statements: list) -> list:
+        wrong = []
+        for statement in statements:
+            complaint = self.do(statement)
+            if complaint:
+                wrong.append("line %d: %s" % (statement.line, complaint))
+        return wrong
+
+    def do(self, statement: Statement):
+        word, *rest = statement.words
+        if word in GIVES:
+            return GIVES[word](self, rest, statement)
+        if word in ("line", "drive", "out", "code", "others", "drives"):
+            return check(self, word, rest, statement)
+        raise Unreadable("line %d" % statement.line)
+
+    def content(self, statement: Statement) -> bytes:
+        data, place = bytearray(), 0
+        for _, mark, text in statement.content:
+            if mark == "@":
+                place = int(text, 16)
+                continue
+            piece = self.piece(mark, text)
+            data += bytes(max(0, place - len(data)))
+            data[place : place + len(piece)] = piece
+            place += len(piece)
+        return bytes(data)
+
+    def piece(self, mark: str, text: str) -> bytes:
+        if mark in PIECES:
+            return PIECES[mark](text)
+        if mark == "&":
+            return (text + self.value).encode() + b"\n"
+        if mark == "+":
+            return self.lets[text]
+        if mark == "<":
+            with open(os.path.join(self.folder, text), "rb") as file:
+                return file.read()
+        *words, run_name = text.split(" ")
+        told = self.runs[run_name]
+        if words[0] == "out":
+            return told.out
+        return (told.lines if words[0] == "line" else told.drives)[int(words[1])]
+
+
+def longwords(text: str) -> bytes:
+    return b"".join(int(word, 16).to_bytes(4, "little") for word in text.split(" "))
+
+
+def rising(text: str) -> bytes:
+    count, first = (int(word, 16) for word in text.split(" "))
+    return b"".join((first + k & 0xFFFFFFFF).to_bytes(4, "little") for k in range(count))
+
+
+def repeated(text: str) -> bytes:
+    count, byte = text.split(" ")
+    return bytes.fromhex(byte) * int(count, 16)
+
+
+PIECES = {
+    "|": lambda text: text.encode() + b"\n",
+    "/": lambda text: text.encode() + b"\r\n",
+    "=": lambda text: text.encode(),
+    "#": bytes.fromhex,
+    "$": longwords,
+    "^": rising,
+    "%": repeated,
+}
+
+
+def give_let(player, rest, statement):
+    player.lets[rest[0]] = player.content(statement)
+
+
+def give_file(player, rest, statement):
+    player.given.files[rest[0]] = player.content(statement)
+
+
+def give_disk(player, rest, statement):
+    number = int(rest[0])
+    player.given.volumes[number] = [bytes.fromhex(rest[2]) * 512] * int(rest[1])
+    player.given.failing_drives.pop(number, None)
+    if len(rest) > 3:
+        player.given.failing_drives[number] = [int(rest[3])]
+
+
+def give_volume(player, rest, statement):
+    player.given.volumes[int(rest[0])] = blocks_of(player.content(statement))
+
+
+def give_room(player, rest, statement):
+    player.given.room = int(rest[0])
+
+
+def give_failure(player, rest, statement):
+    if rest[0] == "drive":
+        player.given.failing_drives.setdefault(int(rest[1]), []).append(int(rest[2]))
+    else:
+        player.given.failing.append(int(rest[0]))
+
+
+def give_cut(player, rest, statement):
+    number = rest[0] if rest[0] == "out" else int(rest[0])
+    player.given.cuts.setdefault(number, []).append((int(rest[1]), int(rest[2])))
+
+
+def make_call(player, rest, statement):
+    given = player.given
+    player.told = given.tell(rest, player.memory.run, given.room)
+    player.checked = set()
+    if player.compare and not given.fails():
+        return player.compare(given, rest, given.tell(rest, player.memory.run, 1 << 62))
+
+
+def keep(player, rest, statement):
+    player.runs[rest[0]] = player.told
+
+
+GIVES = {
+    "let": give_let,
+    "file": give_file,
+    "disk": give_disk,
+    "volume": give_volume,
+    "room": give_room,
+    "fail": give_failure,
+    "cut": give_cut,
+    "call": make_call,
+    "keep": keep,
+}

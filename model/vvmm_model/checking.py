@@ -1,0 +1,137 @@
+"""Everything whose bytes are known, compared with the model and, where one is given, with a program."""
+
+import multiprocessing
+import os
+import shutil
+import tempfile
+
+from .asm import assemble
+from .cases import Player, Unreadable, can_be_parted, read_file
+from .differences import first_difference
+from .examples import ENDLESS, EXAMPLES, calls_of, expected_by_model, files_of, place_of, read
+from .fuzzing import Case, compare_case, given_of, has_snapshots
+from .system import run
+from .workload import workload
+
+PARTS = 4
+
+
+def check_example(root: str, number: int, program) -> list:
+    """What is compared of an example: pairs of a title and a list of differences."""
+    example = EXAMPLES[number]
+    made = expected_by_model(root, example)
+    results = []
+    wanted = sorted(os.listdir(os.path.join(root, example.folder, "expected"))) + example.images
+    for name in sorted(set(wanted) | made.keys()):
+        path = place_of(root, example, name)
+        data = read(path) if os.path.exists(path) else b""
+        difference = first_difference(data, made.get(name, b""))
+        results.append(("%s/%s" % (example.folder, name), [difference] if difference else []))
+    if program:
+        case = Case(files_of(root, example), list(calls_of(example).values()))
+        results.append((example.folder + " by the program", compare_in_folder(case, program)))
+    return results
+
+
+def check_parts(root: str, number: int, program) -> list:
+    """An example in two parts, saved and resumed after some of its rounds: its lines and drives come out the same."""
+    example = EXAMPLES[number]
+    results = []
+    for rounds in sorted({1, example.rounds // 2} & set(range(1, example.rounds))):
+        save = ["save", "config", "script", str(rounds), ">", "snap"]
+        calls = [save, ["resume", "snap", "script", str(example.rounds - rounds)]]
+        differences = parts_differ(root, example, calls)
+        if program and has_snapshots(program):
+            differences += compare_in_folder(Case(files_of(root, example), calls), program)
+        results.append(("%s saved after round %d" % (example.folder, rounds), differences))
+    return results
+
+
+def parts_differ(root: str, example, calls: list) -> list:
+    files = files_of(root, example)
+    first = given_of(files).tell(calls[0][:4], run, ENDLESS)
+    second = given_of(files | {"snap": first.out}).tell(calls[1], run, ENDLESS)
+    made = {"line%02d.out" % k: first.lines[k] + second.lines[k] for k in range(32)}
+    made |= {"drive%02d.vol" % k: second.drives[k] for k in example.drives}
+    differences = []
+    for name, data in made.items():
+        path = place_of(root, example, name)
+        differences.append(first_difference(read(path) if os.path.exists(path) else b"", data))
+    return [difference for difference in differences if difference]
+
+
+def check_sources(root: str, program) -> list:
+    """The two sources that stand by themselves: of `hello`, and of what each guest of a generated workload runs."""
+    images = {"hello.s": read(root, "hello"), "workload.s": workload(0).images[0]}
+    results = []
+    for name, image in images.items():
+        difference = first_difference(image, assemble(read(root, name)))
+        results.append((name, [difference] if difference else []))
+    if program:
+        case = Case({"hello": images["hello.s"]}, [["solo", "hello", "10"], ["dis", "hello"]])
+        results.append(("hello by the program", compare_in_folder(case, program)))
+    return results
+
+
+def compare_in_folder(case: Case, program: str) -> list:
+    folder = tempfile.mkdtemp(prefix="vvmm-check-")
+    try:
+        return compare_case(case, program, folder)
+    finally:
+        shutil.rmtree(folder)
+
+
+def check_case_file(folder: str, name: str, part: int, parts: int, program) -> list:
+    def compare(given, words, told):
+        files = dict(given.files)
+        files |= {"drive%02d.vol" % number: b"".join(blocks) for number, blocks in given.volumes.items()}
+        differences = compare_in_folder(Case(files, [words]), program)
+        return "program: " + differences[0] if differences else None
+
+    player = Player(folder, compare if program else None)
+    return list(player.play(name, part, parts))
+
+
+def tasks_of(root: str, program) -> list:
+    """Names with what is done for them, the longest work first."""
+    folder = os.path.join(root, "crates/vv_cases/data")
+    examples = os.path.join(root, "examples")
+    tasks = [("examples", check_example, (examples, number, program)) for number in range(len(EXAMPLES))]
+    tasks += [("examples", check_parts, (examples, number, program)) for number in range(len(EXAMPLES))]
+    tasks.append(("examples", check_sources, (examples, program)))
+    names = [name for name in sorted(os.listdir(folder)) if name.endswith(".cases") and name != "wrong.cases"]
+    for name in names:
+        statements = read_file(folder, name)
+        parts = PARTS if can_be_parted(statements) and is_long(statements) else 1
+        tasks += [(name, check_case_file, (folder, name, part, parts, program)) for part in range(parts)]
+    return sorted(tasks, key=lambda task: "load" not in task[0])
+
+
+def is_long(statements: list) -> bool:
+    return sum(statement.words[:2] == ["call", "load"] for statement in statements) > 1
+
+
+def do_task(task) -> tuple:
+    name, work, arguments = task
+    try:
+        return name, work(*arguments)
+    except Unreadable as unreadable:
+        return name, [("all", ["can't be read: %s" % unreadable])]
+
+
+def check_all(root: str, program, tell=print) -> int:
+    """Tells for each file how many agree, and each first difference; how many don't agree."""
+    results = {}
+    with multiprocessing.Pool(min(PARTS, os.cpu_count() or 1)) as pool:
+        for name, told in pool.imap_unordered(do_task, tasks_of(root, program)):
+            results.setdefault(name, []).extend(told)
+    agreed = different = 0
+    for name in sorted(results):
+        wrong = [(title, differences[0]) for title, differences in results[name] if differences]
+        count = len(results[name])
+        tell("%s: %d of %d agree" % (name, count - len(wrong), count))
+        for title, difference in wrong:
+            tell("  %s: %s" % (title, difference))
+        agreed, different = agreed + count - len(wrong), different + len(wrong)
+    tell("%d agree, %d differ" % (agreed, different))
+    return different

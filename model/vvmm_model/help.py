@@ -1,0 +1,21 @@
+"""What `--help` and `--version` show."""
+
+VERSION = "vvmm 0.1.0\n"
+HELP = """\
+vvmm solo IMAGE STEPS          runs the file IMAGE as one guest for STEPS steps, 1 to 100000;
+                               the guest's console is the file line00.out, its dump line01.out
+vvmm run CONFIG SCRIPT ROUNDS  runs the guests of the configuration CONFIG for ROUNDS rounds, 1 to
+                               1000000, with what the file SCRIPT types at terminals; line k is the
+                               file linekk.out, drive k the file drivekk.vol
+vvmm load NUMBER               runs the workload that is drawn from NUMBER, 0 to 4294967295: eight guests
+                               in 20 rounds, on volumes of its own
+vvmm check CONFIG              reads a configuration, and shows how many objects it has
+vvmm migrate CONFIG            shows a configuration in version 2
+vvmm audit CONFIG RECORD       checks what an audit line was shown, the file RECORD, against CONFIG
+vvmm flow CONFIG               shows which object's inputs may reach which object
+vvmm draw CONFIG               shows a picture of a configuration, in SVG
+vvmm asm SOURCE                assembles the file SOURCE, and shows the image's bytes
+vvmm dis IMAGE                 disassembles the file IMAGE, and shows the text
+vvmm --help                    prints this
+vvmm --version                 prints the version
+"""

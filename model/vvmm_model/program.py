@@ -1,0 +1,286 @@
+"""The program's call: words and an outside go in; an exit code and a text for standard error come out."""
+
+from itertools import chain
+
+from .asm import AsmRefused, assemble
+from .audit import first_bad_line
+from .classes import class_of
+from .config import Config, GuestRow, Refused, Terminal, read_config
+from .dis import disassemble
+from .draw import drawing
+from .flow import flow_report
+from .migrate import migrate_text
+from .outside import DeviceFault, Missing, TooLong
+from .script import MOST_ROUNDS, ScriptRefused, read_script
+from .snapshot import SnapRefused, is_too_large, read_snapshot, snapshot
+from .system import make_rounds, summary
+from .system import run as run_system
+from .texts import is_file_name, read_decimal
+from .workload import workload
+
+
+class Ended(Exception):
+    """The call ends with this code and text, and did nothing more."""
+
+    def __init__(self, code: int, text: str):
+        self.code = code
+        self.text = text
+
+
+BAD_WORDS = Ended(2, "bad words")
+MOST_STEPS = 100_000
+SOLO_PAGES, SOLO_PLACE = 128, 0x200
+
+
+class Outside:
+    """What a call is given: a shelf, 32 lines, 16 drives and an output.
+
+    `run` can be another function that gives what `system.run` gives, as one that remembers.
+    """
+
+    def __init__(self, shelf, lines, drives, out, run=run_system):
+        self.shelf = shelf
+        self.lines = lines
+        self.drives = drives
+        self.out = out
+        self.run = run
+
+
+def call(words: list, outside: Outside):
+    """The exit code, and the text that stands on standard error after `vvmm: `."""
+    try:
+        if not words or words[0] not in COMMANDS:
+            raise BAD_WORDS
+        forms, command = COMMANDS[words[0]]
+        if len(words) - 1 != len(forms):
+            raise BAD_WORDS
+        command(outside, *[form(word) for form, word in zip(forms, words[1:])])
+    except Ended as ended:
+        return ended.code, ended.text
+    return 0, ""
+
+
+def file_word(word: str) -> str:
+    if not is_file_name(word.encode("utf-8", "surrogateescape")):
+        raise BAD_WORDS
+    return word
+
+
+def number_word(least: int, most: int):
+    def read(word: str) -> int:
+        number = read_decimal(word.encode("utf-8", "surrogateescape"), most)
+        if number is None or number < least:
+            raise BAD_WORDS
+        return number
+
+    return read
+
+
+def fetch(outside: Outside, name: str) -> bytes:
+    try:
+        return outside.shelf.fetch(name)
+    except Missing:
+        raise Ended(3, "missing " + name)
+    except TooLong:
+        raise Ended(13, "too long " + name)
+    except DeviceFault:
+        raise Ended(4, "shelf fault")
+
+
+def fetch_config(outside: Outside, name: str) -> Config:
+    return config_of(fetch(outside, name))
+
+
+def config_of(text: bytes) -> Config:
+    try:
+        return read_config(text)
+    except Refused as refused:
+        raise Ended(5, "config rule %d at %d" % (refused.rule, refused.place))
+
+
+def fetch_script(outside: Outside, name: str) -> list:
+    try:
+        return read_script(fetch(outside, name))
+    except ScriptRefused as refused:
+        raise Ended(6, "script line %d %s" % (refused.line, refused.kind))
+
+
+def check_images(config: Config, images: list) -> None:
+    for number, (row, image) in enumerate(zip(config.guests, images)):
+        if row.load + len(image) > 512 * row.pages:
+            raise Ended(7, "image %d" % number)
+
+
+def check_sizes(outside: Outside, number: int, row) -> None:
+    if outside.drives[row.drive].size() != row.blocks:
+        raise Ended(8, "volume size %d" % number)
+
+
+def read_volumes(outside: Outside, config: Config) -> list:
+    volumes = []
+    for number, row in enumerate(config.volumes):
+        check_sizes(outside, number, row)
+        drive = outside.drives[row.drive]
+        try:
+            volumes.append([drive.get(block) for block in range(row.blocks)])
+        except DeviceFault:
+            raise Ended(9, "drive %d" % row.drive)
+    return volumes
+
+
+def show_lines(outside: Outside, system, dumps: dict) -> list:
+    """Gives each line its puts, and then its dump; the lines that failed, which get no more."""
+    failed = []
+    for number, puts in enumerate(system.puts):
+        try:
+            for data in chain(puts, dumps.get(number, [])):
+                outside.lines[number].put(data)
+        except DeviceFault:
+            failed.append("line %d" % number)
+    return failed
+
+
+def store_volumes(outside: Outside, config: Config, system) -> list:
+    failed = []
+    for row, blocks in sorted(zip(config.volumes, system.volumes), key=lambda pair: pair[0].drive):
+        try:
+            for block, data in enumerate(blocks):
+                outside.drives[row.drive].set(block, data)
+        except DeviceFault:
+            failed.append("drive %d" % row.drive)
+    return failed
+
+
+def put_out(outside: Outside, data: bytes, failed: list) -> None:
+    """Shows bytes on the output; a device that failed is told before an output that did."""
+    try:
+        outside.out.put(data)
+        out_failed = False
+    except DeviceFault:
+        out_failed = True
+    if failed:
+        raise Ended(10, "device " + failed[0])
+    if out_failed:
+        raise Ended(11, "output fault")
+
+
+def conclude(outside: Outside, config: Config, system, rounds: int, has_drives: bool) -> None:
+    """Dumps, stored volumes and the summary."""
+    failed = show_lines(outside, system, system.dumps())
+    if has_drives:
+        failed += store_volumes(outside, config, system)
+    put_out(outside, summary(system, rounds), failed)
+
+
+def solo(outside: Outside, image_name: str, steps: int) -> None:
+    image = fetch(outside, image_name)
+    access = class_of("0{};0{}")
+    row = GuestRow(
+        name="A",
+        access=access,
+        pages=SOLO_PAGES,
+        image=image_name,
+        load=SOLO_PLACE,
+        start=SOLO_PLACE,
+        autostart=True,
+        console=0,
+        printer=None,
+        dump=1,
+        mounts=[None] * 4,
+        modify_faults=False,
+        quantum=steps,
+    )
+    config = Config(slice=steps, terminals=[Terminal("T", 0, access)], guests=[row])
+    check_images(config, [image])
+    conclude(outside, config, outside.run(config, [image], [], [], 1), 1, False)
+
+
+def run(outside: Outside, config_name: str, script_name: str, rounds: int) -> None:
+    config = fetch_config(outside, config_name)
+    events = fetch_script(outside, script_name)
+    images = [fetch(outside, row.image) for row in config.guests]
+    check_images(config, images)
+    volumes = read_volumes(outside, config)
+    conclude(outside, config, outside.run(config, images, volumes, events, rounds), rounds, True)
+
+
+def save(outside: Outside, config_name: str, script_name: str, rounds: int) -> None:
+    """As `run`, but the system after the rounds goes to the output as a snapshot; nothing else is shown or stored."""
+    text = fetch(outside, config_name)
+    config = config_of(text)
+    events = fetch_script(outside, script_name)
+    if is_too_large(config, text):
+        raise Ended(16, "snapshot size")
+    images = [fetch(outside, row.image) for row in config.guests]
+    check_images(config, images)
+    volumes = read_volumes(outside, config)
+    system = outside.run(config, images, volumes, events, rounds)
+    failed = show_lines(outside, system, {})
+    put_out(outside, snapshot(system, text), failed)
+
+
+def resume(outside: Outside, snapshot_name: str, script_name: str, rounds: int) -> None:
+    """The next rounds of a snapshot, which end as `run` does; drives are stored but not read."""
+    try:
+        system = read_snapshot(fetch(outside, snapshot_name))
+    except SnapRefused as refused:
+        raise Ended(17, "snapshot at %d" % refused.place)
+    events = fetch_script(outside, script_name)
+    for number, row in enumerate(system.config.volumes):
+        check_sizes(outside, number, row)
+    make_rounds(system, events, rounds)
+    conclude(outside, system.config, system, rounds, True)
+
+
+def load(outside: Outside, number: int) -> None:
+    drawn = workload(number)
+    system = outside.run(drawn.config, drawn.images, drawn.volumes, drawn.events, drawn.rounds)
+    conclude(outside, drawn.config, system, drawn.rounds, False)
+
+
+def check(outside: Outside, name: str) -> None:
+    config = fetch_config(outside, name)
+    counts = len(config.terminals), len(config.volumes), len(config.printers), len(config.guests)
+    put_out(outside, b"terminals %d volumes %d printers %d guests %d\n" % counts, [])
+
+
+def audit(outside: Outside, config_name: str, record_name: str) -> None:
+    config = fetch_config(outside, config_name)
+    line = first_bad_line(config, fetch(outside, record_name))
+    if line is not None:
+        raise Ended(18, "audit line %d" % line)
+    put_out(outside, b"accepted\n", [])
+
+
+def show_text(text_of):
+    """A command that shows a text of the configuration."""
+    return lambda outside, name: put_out(outside, text_of(fetch_config(outside, name)).encode(), [])
+
+
+def asm(outside: Outside, name: str) -> None:
+    try:
+        image = assemble(fetch(outside, name))
+    except AsmRefused as refused:
+        raise Ended(15, "asm line %d %s" % (refused.line, refused.kind))
+    put_out(outside, image, [])
+
+
+def dis(outside: Outside, name: str) -> None:
+    put_out(outside, disassemble(fetch(outside, name)).encode(), [])
+
+
+ROUNDS = number_word(1, MOST_ROUNDS)
+COMMANDS = {
+    "solo": ([file_word, number_word(1, MOST_STEPS)], solo),
+    "run": ([file_word, file_word, ROUNDS], run),
+    "save": ([file_word, file_word, ROUNDS], save),
+    "resume": ([file_word, file_word, ROUNDS], resume),
+    "load": ([number_word(0, 2**32 - 1)], load),
+    "check": ([file_word], check),
+    "migrate": ([file_word], show_text(migrate_text)),
+    "audit": ([file_word, file_word], audit),
+    "flow": ([file_word], show_text(flow_report)),
+    "draw": ([file_word], show_text(drawing)),
+    "asm": ([file_word], asm),
+    "dis": ([file_word], dis),
+}
