@@ -20,7 +20,7 @@ use Rattle.sys_purge.proofs.SeenTransfers.{Volumes}
 use Rattle.sys_purge.proofs.SeenTurns.{seen_rows}
 use Rattle.sys_purge.specs.Events.{purge_events}
 use Rattle.sys_purge.specs.Input.{beside, is_kept, purged}
-use Rattle.sys_purge.specs.Laws.{DriveFlowsInto, KeepsDevices, KeepsDrives, KeepsLines, LineFlowsInto}
+use Rattle.sys_purge.specs.Laws.{DriveFlowsInto, KeepsDevices, KeepsDrives, KeepsLines, KeepsShown, LineFlowsInto}
 use Rattle.sys_purge.specs.Purge.{purge_config, rank}
 use Rattle.sys_rounds.specs.Bytes.{blocks_at, devices_of, dump_on, is_on_drive}
 use Rattle.sys_rounds.specs.Places.{is_at, place_of}
@@ -68,6 +68,11 @@ pub keeps_devices : KeepsDevices
 keeps_devices x is k d within =
     let class : AccessClass = (get_or (devices_of x.config) k d).class in
     keeps_lines x class (get_or (devices_of x.config) k d).line is (line_flows x.config is class k d within (flows_itself class))
+
+pub keeps_shown : KeepsShown
+keeps_shown x is k d within =
+    let class : AccessClass = (get_or (devices_of x.config) k d).class in
+    run_bytes x class is (get_or (devices_of x.config) k d).line (line_flows x.config is class k d within (flows_itself class))
 
 -- the volume on a drive that flows into the class
 module _ (c : Config) (to : AccessClass) (drive : ℕ) (flow : DriveFlowsInto c drive to) where

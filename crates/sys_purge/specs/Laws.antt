@@ -1,13 +1,13 @@
 -- Non-interference: what may not flow to an observer might never have been there (Goguen and Meseguer, Security policies
 -- and security models, 1982).
-use Rattle.std.specs.Prelude.{ℕ, ◌≡◌, true, All}
+use Rattle.std.specs.Prelude.{ℕ, ◌≡◌, List, true, All}
 use Rattle.vv_class.specs.Class.{does_flow}
 use Rattle.vv_class.specs.declared.class.AccessClass.{AccessClass}
 use Rattle.sys_objects.specs.Condition.{IsConfig}
 use Rattle.sys_objects.specs.declared.records.Config.{Config}
 use Rattle.sys_purge.specs.Input.{purged}
-use Rattle.sys_rounds.specs.Bytes.{devices_of, drive_blocks, line_bytes}
-use Rattle.sys_rounds.specs.Run.{Input}
+use Rattle.sys_rounds.specs.Bytes.{devices_of, drive_blocks, line_bytes, shown_from}
+use Rattle.sys_rounds.specs.Run.{Input, opening}
 
 -- each device on the line flows into the class
 abbrev pub LineFlowsInto : Config → ℕ → AccessClass → Type 0
@@ -30,6 +30,14 @@ KeepsDevices = (x : Input) → IsConfig x.config → All (λ d. line_bytes (purg
 
 abbrev pub KeepsVolumes : Type 0
 KeepsVolumes = (x : Input) → IsConfig x.config → All (λ v. drive_blocks (purged x v.class) v.drive ≡ drive_blocks x v.drive) x.config.volumes
+
+-- what a run's rounds show on a line, before any dump
+abbrev pub shown_on : Input → ℕ → List ℕ
+shown_on x line = shown_from (opening x) x.events x.rounds line
+
+-- each device is shown what it is in the run purged to its own class
+abbrev pub KeepsShown : Type 0
+KeepsShown = (x : Input) → IsConfig x.config → All (λ d. shown_on (purged x d.class) d.line ≡ shown_on x d.line) (devices_of x.config)
 
 -- two inputs with one purge to a class give the same bytes on each device of the one that flows into the class
 abbrev pub DevicesDependOnPurges : Type 0

@@ -2,7 +2,7 @@ ghost use Rattle.sys_objects.specs.Condition.{IsConfig};
 ghost use Rattle.sys_objects.specs.declared.records.Config.{Config};
 ghost use Rattle.sys_purge.specs.Adding.{GuestsAddNoBlocks, GuestsAddNothing};
 ghost use Rattle.sys_purge.specs.Judged.{KeepsVerdicts};
-ghost use Rattle.sys_purge.specs.Laws.{DevicesDependOnPurges, KeepsDevices, KeepsDrives, KeepsLines, KeepsVolumes, VolumesDependOnPurges};
+ghost use Rattle.sys_purge.specs.Laws.{DevicesDependOnPurges, KeepsDevices, KeepsDrives, KeepsLines, KeepsShown, KeepsVolumes, VolumesDependOnPurges};
 ghost use Rattle.sys_purge.specs.Purge.{purge_config};
 ghost use Rattle.vv_class.specs.declared.class.AccessClass.{AccessClass};
 
@@ -31,6 +31,12 @@ pub fn a_purge_keeps_drives()
 /// Each device on a line gets the bytes that it gets when all that doesn't flow into its own class was never there.
 pub fn a_device_keeps_its_bytes()
     ensures { KeepsDevices }
+{}
+
+/// Each device on a line is shown by the rounds, before any dump, what it is shown when all that doesn't flow into its own class
+/// was never there.
+pub fn a_device_keeps_what_it_is_shown()
+    ensures { KeepsShown }
 {}
 
 /// Each volume ends with the blocks with which it ends when all that doesn't flow into its own class was never there.
