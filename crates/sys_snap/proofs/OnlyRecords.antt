@@ -194,7 +194,7 @@ pub record IsRecordOf (size : ℕ) (faults : Bool) (s : State) : Type 0 where
 is_record : (size : ℕ) (modify_faults : Bool) (a : Registers) (b : Bases) (l : Levels) (clock : ClockState) (console : ConsoleState) (q : Queue) (e : End) → AreRegisters a → AreBases b → AreLevels l → IsClock (parts_of clock) → IsConsoleOf console → IsQueue size q → IsHalt e.halt → IsRecordOf size modify_faults (made_of modify_faults a b l clock console q e)
 is_record size modify_faults a b l clock console q e k0 k1 k2 k3 k4 k5 k6 = record {
   is = record {
-    all = record { sixteen = k0.sixteen; five = k0.five };
+    sound = record { sixteen = k0.sixteen; five = k0.five; clock = k3; console = k4.is; few_bytes = k4.few };
     allowed = record {
       p0br = start_or b.p0br k1.p0br;
       p0lr = k1.p0lr;
@@ -211,9 +211,6 @@ is_record size modify_faults a b l clock console q e k0 k1 k2 k3 k4 k5 k6 = reco
       few = k5.few;
     };
     halt = k6;
-    clock = k3;
-    console = k4.is;
-    few_bytes = k4.few;
   };
   modify_faults = refl;
 }

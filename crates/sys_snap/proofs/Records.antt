@@ -48,9 +48,9 @@ module _ (size : ℕ) (s : State) (is : IsRecord size s) where
 
   pub reads_registers : ReadsAs registers_in (register_bytes s) (record { r = s.r; psl = s.psl; stacks = s.stacks })
   reads_registers =
-      reads_then (longs_in 16) _ (longs s.r) _ s.r _ (reads_longs 16 s.r is.all.sixteen)
+      reads_then (longs_in 16) _ (longs s.r) _ s.r _ (reads_longs 16 s.r is.sound.sixteen)
       (reads_then (four is_psl) _ (long_bytes s.psl) _ s.psl _ (reads_four is_psl s.psl psl_passes)
-      (reads_last (longs_in 5) _ (longs s.stacks) s.stacks (reads_longs 5 s.stacks is.all.five)))
+      (reads_last (longs_in 5) _ (longs s.stacks) s.stacks (reads_longs 5 s.stacks is.sound.five)))
 
   p0br_passes : is_p0br s.tables.p0br ≡ true
   p0br_passes = elim is.allowed.p0br [ inl zero_ ↦ rw zero_ refl | inr allowed ↦ rw allowed (or_right (s.tables.p0br == 0) true refl) ]
@@ -73,10 +73,10 @@ module _ (size : ℕ) (s : State) (is : IsRecord size s) where
       (reads_last (flag either) _ (flag_byte s.tables.mapped) s.tables.mapped (reads_flag either s.tables.mapped refl)))
 
   request_passes : needs (is_set (iccs_of s.clock) 6) s.clock.request ≡ true
-  request_passes = needed s.clock.request (is_set (iccs_of s.clock) 6) is.clock.enabled
+  request_passes = needed s.clock.request (is_set (iccs_of s.clock) 6) is.sound.clock.enabled
 
   iccs_passes : is_iccs (iccs_of s.clock) ≡ true
-  iccs_passes = rw is.clock.low_clear (rw is.clock.high_clear refl)
+  iccs_passes = rw is.sound.clock.low_clear (rw is.sound.clock.high_clear refl)
 
   pub reads_clock : ReadsAs clock_in (clock_bytes s.clock) (state_of (parts_of s.clock))
   reads_clock =
@@ -86,17 +86,17 @@ module _ (size : ℕ) (s : State) (is : IsRecord size s) where
       (reads_last (flag (needs (is_set (iccs_of s.clock) 6))) _ (flag_byte s.clock.request) s.clock.request (reads_flag (needs (is_set (iccs_of s.clock) 6)) s.clock.request request_passes))))
 
   count_passes : (request : Bool) → (IsTrue request → 0 < length s.console.waiting) → is_count request (length s.console.waiting) ≡ true
-  count_passes false h = rw (le-leb (length s.console.waiting) 256 is.few_bytes) refl
-  count_passes true h = rw (le-leb (length s.console.waiting) 256 is.few_bytes) (lt-ltb 0 (length s.console.waiting) (h refl))
+  count_passes false h = rw (le-leb (length s.console.waiting) 256 is.sound.few_bytes) refl
+  count_passes true h = rw (le-leb (length s.console.waiting) 256 is.sound.few_bytes) (lt-ltb 0 (length s.console.waiting) (h refl))
 
   pub reads_console : ReadsAs console_in (console_bytes s.console) s.console
   reads_console =
       reads_then (flag either) _ (flag_byte s.console.rx_enable) _ s.console.rx_enable _ (reads_flag either s.console.rx_enable refl)
       (reads_then (flag either) _ (flag_byte s.console.tx_enable) _ s.console.tx_enable _ (reads_flag either s.console.tx_enable refl)
-      (reads_then (flag (needs s.console.rx_enable)) _ (flag_byte s.console.rx_request) _ s.console.rx_request _ (reads_flag (needs s.console.rx_enable) s.console.rx_request (needed s.console.rx_request s.console.rx_enable is.console.rx_enabled))
-      (reads_then (flag (needs s.console.tx_enable)) _ (flag_byte s.console.tx_request) _ s.console.tx_request _ (reads_flag (needs s.console.tx_enable) s.console.tx_request (needed s.console.tx_request s.console.tx_enable is.console.tx_enabled))
-      (reads_then (two (is_count s.console.rx_request)) _ (word_bytes (length s.console.waiting)) _ (length s.console.waiting) _ (reads_two (is_count s.console.rx_request) (length s.console.waiting) (count_passes s.console.rx_request is.console.rx_waiting))
-      (reads_last (field 256 (waiting_in (length s.console.waiting))) _ (s.console.waiting ++ replicate (256 - length s.console.waiting) 0) s.console.waiting (reads_waiting s.console.waiting is.few_bytes))))))
+      (reads_then (flag (needs s.console.rx_enable)) _ (flag_byte s.console.rx_request) _ s.console.rx_request _ (reads_flag (needs s.console.rx_enable) s.console.rx_request (needed s.console.rx_request s.console.rx_enable is.sound.console.rx_enabled))
+      (reads_then (flag (needs s.console.tx_enable)) _ (flag_byte s.console.tx_request) _ s.console.tx_request _ (reads_flag (needs s.console.tx_enable) s.console.tx_request (needed s.console.tx_request s.console.tx_enable is.sound.console.tx_enabled))
+      (reads_then (two (is_count s.console.rx_request)) _ (word_bytes (length s.console.waiting)) _ (length s.console.waiting) _ (reads_two (is_count s.console.rx_request) (length s.console.waiting) (count_passes s.console.rx_request is.sound.console.rx_waiting))
+      (reads_last (field 256 (waiting_in (length s.console.waiting))) _ (s.console.waiting ++ replicate (256 - length s.console.waiting) 0) s.console.waiting (reads_waiting s.console.waiting is.sound.few_bytes))))))
 
   pub reads_queue : ReadsAs (queue_in size) (queue_bytes s) (record { due = s.kcall_due; packets = s.queue })
   reads_queue =

@@ -15,19 +15,19 @@ use Rattle.vm_state.specs.Allowed.{AreAllowed}
 use Rattle.vm_state.specs.State.{Guest, State}
 use Rattle.vm_state.specs.Stops.{IsHalt}
 
--- its registers are as many as there are
-pub record HasAll (s : State) : Type 0 where
+-- its registers are as many as there are, and its clock and its console are ones that can be
+pub record IsSound (s : State) : Type 0 where
   pub sixteen : length s.r ≡ 16
   pub five : length s.stacks ≡ 5
-
--- what a record may hold, of a guest with a memory of so many bytes
-pub record IsRecord (size : ℕ) (s : State) : Type 0 where
-  pub all : HasAll s
-  pub allowed : AreAllowed size s
-  pub halt : IsHalt s.halt
   pub clock : IsClock (parts_of s.clock)
   pub console : IsConsole s.console
   pub few_bytes : length s.console.waiting ≤ 256
+
+-- what a record may hold, of a guest with a memory of so many bytes
+pub record IsRecord (size : ℕ) (s : State) : Type 0 where
+  pub sound : IsSound s
+  pub allowed : AreAllowed size s
+  pub halt : IsHalt s.halt
 
 pub record IsGuestOf (row : GuestRow) (g : Guest) : Type 0 where
   pub size : length g.memory ≡ 512 * row.pages

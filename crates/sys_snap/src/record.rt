@@ -1,9 +1,12 @@
 ghost use Rattle.std.specs.Prelude.{◌≡◌, ◌+◌, ◌-◌, ◌*◌, ◌≤◌, ◌∷◌, [], ◌++◌, length, replicate};
 ghost use Rattle.std.specs.Int.{from_bool};
 ghost use Rattle.vm_clock.specs.Clock.{ClockState};
+ghost use Rattle.vm_clock.specs.Parts.{IsClock, parts_of};
+ghost use Rattle.vm_console.specs.Console.{IsConsole};
 ghost use Rattle.vm_state.specs.State.{state_of};
 ghost use Rattle.vv_base.specs.Bytes.{long_bytes, word_bytes};
 ghost use Rattle.sys_snap.specs.Pieces.{waiting_bytes};
+ghost use Rattle.sys_snap.specs.Snap.{IsSound};
 ghost use Rattle.sys_snap.specs.Written.{base_bytes, clock_bytes, console_bytes, end_bytes, flag_byte, level_bytes, longs, place_byte, queue_bytes, record_of, register_bytes};
 
 use vm_clock::Clock;
@@ -69,6 +72,8 @@ fn add_longs(text: &mut Text<439>, values: &[u32])
 fn add_registers(text: &mut Text<439>, g: &GuestState)
     requires { length text.old + 88 ≤ 439 }
     ensures written { text.new ≡ text.old ++ register_bytes (state_of g.now) }
+    ensures sixteen { length g.now.r ≡ 16 }
+    ensures five { length g.now.stacks ≡ 5 }
     ensures len { length text.new ≡ length text.old + 88 }
 {
     add_longs(text, &g.r);
@@ -107,6 +112,7 @@ fn add_levels(text: &mut Text<439>, g: &GuestState)
 fn add_clock(text: &mut Text<439>, clock: &Clock)
     requires { length text.old + 13 ≤ 439 }
     ensures written { text.new ≡ text.old ++ clock_bytes clock.now }
+    ensures is { IsClock (parts_of clock.now) }
     ensures len { length text.new ≡ length text.old + 13 }
 {
     let parts = clock.parts();
@@ -143,6 +149,8 @@ fn add_waiting(text: &mut Text<439>, waiting: &[u8])
 fn add_console(text: &mut Text<439>, console: &Console)
     requires { length text.old + 262 ≤ 439 }
     ensures written { text.new ≡ text.old ++ console_bytes console.now }
+    ensures is { IsConsole console.now }
+    ensures few { length console.now.waiting ≤ 256 }
     ensures len { length text.new ≡ length text.old + 262 }
 {
     let parts = console.parts();
@@ -179,7 +187,8 @@ fn add_end(text: &mut Text<439>, g: &GuestState)
 
 /// A guest's state as the 439 bytes of its record.
 pub fn guest_record(g: &GuestState) -> [u8; 439]
-    ensures { result ≡ record_of (state_of g.now) }
+    ensures is { result ≡ record_of (state_of g.now) }
+    ensures sound { IsSound (state_of g.now) }
 {
     let mut text = Text::new();
     add_registers(&mut text, g);
