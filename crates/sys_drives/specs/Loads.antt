@@ -30,6 +30,11 @@ pub record IsMisfit (rows : List VolumeRow) (drives : List Kept) (v : ℕ) : Typ
   pub differs : ¬ FitsDrive drives row
   pub before : All (FitsDrive drives) (take v rows)
 
+-- the first row whose drive has another number of blocks, if there is one
+abbrev pub FirstMisfit : List VolumeRow → List Kept → Option ℕ → Type 0
+FirstMisfit rows drives None = All (FitsDrive drives) rows
+FirstMisfit rows drives (Some v) = IsMisfit rows drives v
+
 -- The count of one drive rose; its size and its blocks stay, and every other drive is as before.
 pub record OnlyRose (drives drives' : List Kept) (d : ℕ) : Type 0 where
   pub faults : ℕ

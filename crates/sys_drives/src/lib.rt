@@ -5,5 +5,5 @@ mod drives;
 mod loading;
 mod storing;
 
-pub use loading::{LoadFault, load_volumes};
+pub use loading::{LoadFault, first_of_another_size, load_volumes};
 pub use storing::store_volumes;

@@ -1,5 +1,5 @@
 ghost use Rattle.std.specs.Prelude.{◌≡◌, ◌≤◌, ◌<◌, All, IfOk, length, map, vec_len};
-ghost use Rattle.sys_drives.specs.Loads.{Loads, LoadsOne, ReadsAll};
+ghost use Rattle.sys_drives.specs.Loads.{FirstMisfit, Loads, LoadsOne, ReadsAll};
 ghost use Rattle.sys_drives.specs.Rows.{FitRows, drive_at};
 ghost use Rattle.sys_objects.specs.Condition.{IsVolume};
 ghost use Rattle.sys_store.specs.Blocks.{blocks_of};
@@ -105,4 +105,19 @@ pub fn load_volumes(
         load_one(&mut volumes, place as u8, row, drives)?;
     }
     Ok(volumes)
+}
+
+/// The first volume whose drive has another number of blocks than its row says. No block is read.
+pub fn first_of_another_size(rows: &[VolumeRow], drives: &Vec<Box<dyn Drive>>) -> Option<u8>
+    requires rows { All IsVolume rows.now }
+    requires few { length rows.now ≤ 16 }
+    requires drives { vec_len drives.now ≡ 16 }
+    ensures { FirstMisfit rows.now (map (λ d. kept d) drives.now.items) result }
+{
+    for (place, row) in rows.iter().enumerate() {
+        if blocks_on(drives, usize::from(row.drive)) != row.blocks {
+            return Some(place as u8);
+        }
+    }
+    None
 }

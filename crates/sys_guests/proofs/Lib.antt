@@ -4,5 +4,7 @@ pub mod LaidOut
 pub mod Lists
 pub mod Present
 pub mod One
+pub mod Entering
 pub mod Powering
+pub mod Resuming
 pub mod Turning

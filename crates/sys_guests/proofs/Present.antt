@@ -2,7 +2,6 @@
 use Rattle.std.proofs.Common.{ℕ, zero, suc, ◌≡◌, ◌<◌, ◌≤◌, ◌+◌, List, [], ◌∷◌, length, map, slice_set, slice_index_or, Option, Some, refl, ap, ◌∙◌, sym, subst, arith}
 use Rattle.std.proofs.lemmas.List.Sums.{sum_by-cons}
 use Rattle.std.specs.List.{All, slice_get}
-use Rattle.vax_arch.specs.Walk.{Tables}
 use Rattle.vax_hw.specs.Machine.{Machine}
 use Rattle.sys_guests.proofs.Lists.{get_map}
 use Rattle.sys_guests.specs.Layout.{guests_in}
@@ -16,7 +15,6 @@ use Rattle.vm_fitting.specs.Paid.{Pays}
 use Rattle.vm_fitting.specs.Present.{HasPresent}
 use Rattle.vm_guest.specs.Kept.{KeepsPresent, Kept, guest_in}
 use Rattle.vm_shadow.specs.Stands.{Shadowed}
-use Rattle.vm_state.specs.Start.{start_tables, started}
 use Rattle.vm_state.specs.State.{Guest, context_of, tables_of}
 use Rattle.vm_state.specs.Touches.{Present, Touching, no_pages, touching_reset, touching_steps}
 
@@ -78,14 +76,7 @@ one_same (x ∷ ks) place k k' there read same [] all = absurd all
 one_same (x ∷ ks) zero k k' there read same (t ∷ ts) all = (subst (λ (s : Shadowed). HasPresent s t.present) (ap (λ (y : Kept). y.shadow) (sym read) ∙ sym same) all.0, all.1)
 one_same (x ∷ ks) (suc place) k k' there read same (t ∷ ts) all = (all.0, one_same ks place k k' (omega (arith, there)) read same ts all.1)
 
--- At power-up: nothing is present, whether a guest starts or not.
-pub first_still : (k k' : Kept) (memory memory' : List ℕ) → tables_of k.state ≡ start_tables → guest_in memory' k' ≡ record (guest_in memory k) { state = started k.state.start k.state.modify_faults } → KeepsPresent (touching_reset (record (guest_in memory k) { state = started k.state.start k.state.modify_faults })) k k' → HasFirst k → HasFirst k'
-first_still k k' memory memory' tables is keeps first =
-    let now : tables_of k'.state ≡ start_tables = ap (λ (h : Guest). h.state.tables) is in
-    let at : Tables → Present = λ t. record { system = []; processes = no_pages (context_of t) ∷ [] } in
-    let before : HasPresent k.shadow (at start_tables) = subst (λ t. HasPresent k.shadow (at t)) tables first in
-    subst (λ t. HasPresent k'.shadow (at t)) (sym now) (keeps (at start_tables) before)
-
+-- At the beginning nothing is present.
 pub first_present : (ks : List Kept) → All HasFirst ks → (memory : List ℕ) → HavePresent ks (map none_touched (guests_in memory ks))
 first_present [] all memory = tt
 first_present (k ∷ ks) all memory = (all 0 k (omega arith), first_present ks (λ i d h. all (suc i) d (omega (arith, h))) memory)

@@ -1,4 +1,4 @@
--- How guests are loaded at power-up.
+-- How guests come into the machine: at power-up with their images, and again as they were.
 use Rattle.std.specs.Prelude.{ℕ, ◌≡◌, ◌≤◌, ◌<◌, ◌+◌, ◌*◌, ◌⊎◌, nat_lt, List, [], length, slice_index, Bool, true, false, Option}
 use Rattle.vax_hw.specs.Machine.{Machine}
 use Rattle.sys_guests.specs.Layout.{IsPlaced}
@@ -6,9 +6,11 @@ use Rattle.sys_objects.specs.declared.records.GuestRow.{GuestRow}
 use Rattle.sys_rounds.specs.Guests.{powered}
 use Rattle.sys_rounds.specs.Places.{beside_with, place_of}
 use Rattle.vm_fitting.specs.Present.{HasPresent}
-use Rattle.vm_guest.specs.Kept.{Becomes, Kept, StandsIn, guest_in}
-use Rattle.vm_state.specs.Start.{started}
+use Rattle.vm_guest.specs.Kept.{Kept, StandsIn, guest_in}
+use Rattle.vm_state.specs.Partition.{partition_of}
+use Rattle.vm_state.specs.State.{Guest}
 use Rattle.vm_state.specs.Touches.{at_first}
+use Rattle.vm_state.specs.declared.guest_state.GuestState.{GuestState}
 
 -- whether an image with its place doesn't fit the guest's memory
 abbrev pub is_misfit : GuestRow → List ℕ → Bool
@@ -28,18 +30,25 @@ pub record OnlyPlaces (base pages tables : ℕ) (before after : List ℕ) : Type
   pub size : length after ≡ length before
   pub other : (p : ℕ) → (p < 512 * base) ⊎ (512 * (base + pages) ≤ p) → (p < 512 * tables) ⊎ (512 * (tables + 580) ≤ p) → slice_index after p ≡ slice_index before p
 
--- The guest of a row is loaded, and stands in the machine at its place.
-pub record LoadsOne (row : GuestRow) (image : List ℕ) (base tables : ℕ) (memory memory' : List ℕ) (k : Kept) : Type 0 where
+-- A guest with these registers and this memory stands in the machine, with its real tables from a page on.
+pub record PutsIn (given : GuestState) (table : ℕ) (bytes : List ℕ) (memory memory' : List ℕ) (k : Kept) : Type 0 where
+  pub state : k.state ≡ given
+  pub tables : k.shadow.at ≡ table
+  pub holds : partition_of memory' given ≡ bytes
+  pub stands : StandsIn memory' k
+  pub only : OnlyPlaces given.base given.pages table memory memory'
+
+-- The guest of a row is this one, and stands in the machine at its place.
+pub record PlacesOne (row : GuestRow) (h : Guest) (base tables : ℕ) (memory memory' : List ℕ) (k : Kept) : Type 0 where
   pub placed : IsPlaced row base tables k
-  pub guest : guest_in memory' k ≡ powered row image
+  pub guest : guest_in memory' k ≡ h
   pub stands : StandsIn memory' k
   pub only : OnlyPlaces base row.pages tables memory memory'
 
--- what is present by first touches at power-up has entries: nothing is
+-- the guest of a row is loaded
+abbrev pub LoadsOne : (row : GuestRow) (image : List ℕ) (base tables : ℕ) (memory memory' : List ℕ) (k : Kept) → Type 0
+LoadsOne row image = PlacesOne row (powered row image)
+
+-- what is present by first touches at a guest's beginning has entries: nothing is
 abbrev pub HasFirst : Kept → Type 0
 HasFirst k = HasPresent k.shadow (at_first (guest_in [] k))
-
--- it starts, if it is to
-abbrev pub StartsIf : Bool → Machine → Kept → Machine → Kept → Type 0
-StartsIf true m k m' k' = Becomes (record (guest_in m.memory k) { state = started k.state.start k.state.modify_faults }) m k m' k'
-StartsIf false m k m' k' = (m' ≡ m) × (k' ≡ k)

@@ -5,9 +5,11 @@ mod image;
 mod kernel;
 mod laws;
 mod loading;
+mod placing;
 mod turns;
 
 pub use kernel::{Kernel, MOST_SHOWN};
 pub use laws::guests_lie_apart;
 pub use loading::{first_misfit, load_guests};
+pub use placing::place_guests;
 pub use turns::{TimeSlice, advance_at, start_at, stop_at, type_at};

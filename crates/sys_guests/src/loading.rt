@@ -1,25 +1,22 @@
-ghost use Rattle.std.specs.Prelude.{◌≡◌, ◌≤◌, ◌<◌, ◌+◌, ◌*◌, ◌^◌, All, IfOk, None, length, map};
+ghost use Rattle.std.specs.Prelude.{◌≡◌, ◌≤◌, ◌<◌, ◌+◌, ◌*◌, ◌^◌, All, IfOk, None, [], length, map};
 ghost use Rattle.std.specs.List.{sum_by};
 ghost use Rattle.sys_guests.specs.Layout.{AreInMachine, guests_in};
-ghost use Rattle.sys_guests.specs.Loads.{HasFirst, LoadsOne, MemoryAlone, StartsIf, first_misfit, is_misfit};
+ghost use Rattle.sys_guests.specs.Loads.{HasFirst, LoadsOne, MemoryAlone, first_misfit, is_misfit};
 ghost use Rattle.sys_guests.specs.Present.{HavePresent};
 ghost use Rattle.sys_objects.specs.Condition.{IsGuest};
 ghost use Rattle.sys_rounds.specs.FirstTouches.{none_touched};
 ghost use Rattle.sys_rounds.specs.Guests.{powered};
 ghost use Rattle.sys_rounds.specs.Places.{beside_with};
-ghost use Rattle.vm_guest.specs.Kept.{StandsIn};
-ghost use Rattle.vm_state.specs.Start.{start_tables};
-ghost use Rattle.vm_state.specs.State.{tables_of};
+ghost use Rattle.vm_state.specs.Allowed.{AreAllowed};
+ghost use Rattle.vm_state.specs.State.{HasPlace, state_of};
 
-use crate::image::load_image;
+use crate::placing::{TABLE_PAGES, all_pages, place_guest};
 use std::alloc::Global;
 use sys_objects::GuestRow;
 use vax_hw::Hardware;
 use vm_guest::Guest;
+use vm_state::GuestState;
 use vv_base::NoMemory;
-
-/// Machine pages of each guest's real tables.
-const TABLE_PAGES: u32 = 580;
 
 /// Whether an image with its place doesn't fit the guest's memory.
 fn is_misfit(row: &GuestRow, image: &[u8]) -> bool
@@ -45,15 +42,19 @@ pub fn first_misfit(rows: &[GuestRow], images: &[Vec<u8>]) -> Option<u8>
     None
 }
 
-/// A guest starts, if it is to.
-fn start_if<H: Hardware>(machine: &mut H, guest: &mut Guest, starts: bool)
-    requires { StandsIn (H.machine machine.old).memory guest.old }
-    ensures starts { StartsIf starts (H.machine machine.old) guest.old (H.machine machine.new) guest.new }
-    ensures present { tables_of guest.old.state ≡ start_tables → HasFirst guest.old → HasFirst guest.new }
+/// The registers of a row's guest at power-up, with its memory from a page of the machine on; it runs where its row says so.
+fn first_state(row: &GuestRow, base: u32) -> GuestState
+    requires guest { IsGuest row.now }
+    requires inside { base + row.now.pages ≤ 32768 }
+    ensures state { state_of result ≡ (powered row.now []).state }
+    ensures place { HasPlace row.now.pages base row.now.start result }
+    ensures allowed { AreAllowed (512 * row.now.pages) (state_of result) }
 {
-    if starts {
-        guest.start(machine);
+    let mut state = GuestState::new(row.pages, base, row.start, row.modify_faults);
+    if row.autostart {
+        state.reset();
     }
+    state
 }
 
 /// Loads an image, and makes the guest of its row there, with its tables from these pages on; it runs where its row says so.
@@ -74,26 +75,8 @@ fn load_guest<H: Hardware>(
     ensures present { IfOk result HasFirst }
     ensures alone { MemoryAlone (H.machine machine.old) (H.machine machine.new) }
 {
-    load_image(machine, base, row.pages, row.load, image);
-    let mut guest = Guest::new(
-        alloc,
-        machine,
-        row.pages,
-        base,
-        tables,
-        row.start,
-        row.modify_faults,
-    )?;
-    start_if(machine, &mut guest, row.autostart);
-    Ok(guest)
-}
-
-/// All pages of the guests' memories.
-fn all_pages(rows: &[GuestRow]) -> u32
-    requires { sum_by (λ row. row.pages) rows.now ≤ 16384 }
-    ensures { result ≡ sum_by (λ row. row.pages) rows.now }
-{
-    rows.iter().map(|row| row.pages).sum()
+    let state = first_state(row, base);
+    place_guest(alloc, machine, state, row.load, image, tables)
 }
 
 /// Lays the guests of rows out in the machine, and loads their images. All memory is taken here; after `NoMemory` the machine's

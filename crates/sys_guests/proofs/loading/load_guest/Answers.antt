@@ -1,26 +1,21 @@
-use Rattle.std.proofs.Common.{ap, sym, subst, arith}
-use Rattle.vax_hw.specs.Machine.{Machine}
-use Rattle.sys_guests.specs.Loads.{MemoryAlone}
+use Rattle.std.proofs.Common.{◌≡◌, ◌*◌, ◌∙◌, ap}
+use Rattle.std.proofs.lemmas.Result.{IfOk-weaker}
+use Rattle.sys_guests.specs.Loads.{LoadsOne, PutsIn}
+use Rattle.sys_guests.proofs.Powering.{placed_as, powered_faults}
+use Rattle.sys_rounds.specs.Guests.{powered}
+use Rattle.vm_state.specs.Start.{opening}
 use Rattle.vm_state.specs.State.{State}
-use Rattle.sys_guests.proofs.Powering.{IsMade, alone_loaded, alone_made, alone_started, alone_then, loads_made}
 use Rattle.sys_guests.proofs.loading.load_guest.Goals as goal
-
-pub returns-in_err-guest-clause-alone : goal.returns-in_err-guest-clause-alone
-returns-in_err-guest-clause-alone g c =
-    let made : IsMade c.args.row.now c.args.image.now c.args.base c.args.tables (g.H.Hardware.machine c.args.machine.now) (g.H.Hardware.machine c.load_image.new.machine) = record { fits = c.requires.fits; order = c.requires.order; inside = omega (arith, c.requires.order, c.requires.tables, c.requires.pages); loaded = c.load_image.ensures } in
-    subst (λ (x : Machine). MemoryAlone (g.H.Hardware.machine c.args.machine.now) x) (sym c.in_err-guest.ensures.err) (alone_loaded c.args.row.now c.args.image.now c.args.base c.args.tables _ _ made)
 
 pub returns-clause-ok : goal.returns-clause-ok
 returns-clause-ok g c =
     let row = c.args.row.now in
-    let made : IsMade row c.args.image.now c.args.base c.args.tables (g.H.Hardware.machine c.args.machine.now) (g.H.Hardware.machine c.load_image.new.machine) = record { fits = c.requires.fits; order = c.requires.order; inside = omega (arith, c.requires.order, c.requires.tables, c.requires.pages); loaded = c.load_image.ensures } in
-    loads_made row c.args.image.now c.args.base c.args.tables _ _ _ c.in_ok-guest.guest made c.in_ok-guest.ensures.ok _ _ c.start_if.ensures.starts
-
-pub returns-clause-alone : goal.returns-clause-alone
-returns-clause-alone g c =
-    let row = c.args.row.now in
-    let made : IsMade row c.args.image.now c.args.base c.args.tables (g.H.Hardware.machine c.args.machine.now) (g.H.Hardware.machine c.load_image.new.machine) = record { fits = c.requires.fits; order = c.requires.order; inside = omega (arith, c.requires.order, c.requires.tables, c.requires.pages); loaded = c.load_image.ensures } in
-    alone_then _ _ _ (alone_made row c.args.image.now c.args.base c.args.tables _ _ _ c.in_ok-guest.guest made c.in_ok-guest.ensures.ok) (alone_started _ _ _ _ row.autostart c.start_if.ensures.starts)
-
-pub returns-clause-present : goal.returns-clause-present
-returns-clause-present g c = c.start_if.ensures.present (ap (λ (x : State). x.tables) c.in_ok-guest.ensures.ok.state) c.in_ok-guest.ensures.ok.present
+    let image = c.args.image.now in
+    let state = c.first_state-state.result in
+    let is = c.first_state-state.ensures in
+    let before = (g.H.Hardware.machine c.args.machine.now).memory in
+    let after = (g.H.Hardware.machine c.place_guest.new.machine).memory in
+    let bytes = opening (512 * row.pages) row.load image in
+    let same : opening (512 * state.pages) row.load image ≡ bytes = ap (λ n. opening (512 * n) row.load image) is.place.pages in
+    IfOk-weaker c.place_guest.result (PutsIn state c.args.tables (opening (512 * state.pages) row.load image) before after) (LoadsOne row image c.args.base c.args.tables before after)
+    (λ k put. placed_as row (powered row image) c.args.base c.args.tables (opening (512 * state.pages) row.load image) before after state k is.place (ap (λ (s : State). s.modify_faults) is.state ∙ powered_faults row) (λ i. record { memory = same i; state = is.state i }) put) c.place_guest.ensures.ok
