@@ -1,4 +1,5 @@
 pub mod Copying
+pub mod GoingOn
 pub mod Insides
 pub mod Lists
 pub mod Mounting
@@ -9,4 +10,5 @@ pub mod Rounding
 pub mod Seating
 pub mod Slices
 pub mod Slicing
+pub mod Snapshot
 pub mod Sums

@@ -13,6 +13,7 @@ use Rattle.sys_objects.specs.declared.records.Config.{Config}
 use Rattle.sys_objects.specs.declared.records.GuestRow.{GuestRow}
 use Rattle.sys_objects.specs.declared.records.Mount.{Mount}
 use Rattle.sys_objects.specs.declared.records.VolumeRow.{VolumeRow}
+use Rattle.sys_server.specs.declared.command.ServerState.{ServerState}
 use Rattle.sys_system.proofs.Insides.{AreCounted, inside_of}
 use Rattle.sys_system.specs.Held.{IsInside, turns_of}
 use Rattle.sys_system.specs.Powers.{no_turns}
@@ -48,7 +49,7 @@ are_mounted rows n mounts long few is =
     }
 
 -- nothing is mounted, or volumes of the configuration
-none_mounted : (volumes : ℕ) → AreUnits volumes no_units
+pub none_mounted : (volumes : ℕ) → AreUnits volumes no_units
 none_mounted volumes = record { four = refl; mounted = All-replicate (λ (m : Option Mount). IfSome m (λ n. n.volume < volumes)) 4 None tt }
 
 units_of : (c : Config) → IsConfig c → All (AreUnits (length c.volumes)) (map (λ row. row.mounts) c.guests)
@@ -68,23 +69,40 @@ sum_zero : (n : ℕ) → sum (replicate n 0) ≡ 0
 sum_zero zero = refl
 sum_zero (suc n) = let rest : sum (replicate n 0) ≡ 0 = sum_zero n in omega (arith, rest, sum_by-cons (λ (x : ℕ). x) 0 (replicate n 0))
 
--- the parts of a system that begins
-pub assembled : (memory : List ℕ) (s : Parts) (rows : List GuestRow) → IsConfig s.kernel.config → rows ≡ s.kernel.config.guests → AreInMachine rows memory s.kernel.guests.items → IsServer s.kernel.config s.kernel.server → map length s.volumes ≡ map (λ (v : VolumeRow). v.blocks) s.kernel.config.volumes → turns_of s.turns ≡ no_turns (length rows) → s.rounds ≡ 0 → s.counts ≡ no_counts → IsInside s
-assembled memory s rows accepted same placed server sized turns rounds counts =
+-- what the server keeps has its size, and names guests and volumes of the configuration alone
+pub record IsSeated (c : Config) (server : ServerState) : Type 0 where
+  pub terminals : length server.at ≡ 32
+  pub guests : length server.mounts ≡ 16
+  pub consoles : All (λ o. IfSome o (λ g. g < length c.guests)) server.at
+  pub beyond : All (λ o. o ≡ None) (drop (length c.terminals) server.at)
+  pub mounts : All (AreUnits (length c.volumes)) server.mounts
+
+pub seated_at_first : (c : Config) (server : ServerState) → IsConfig c → IsServer c server → IsSeated c server
+seated_at_first c server accepted is = record {
+  terminals = is.seated.size;
+  guests = is.mounted.size;
+  consoles = is.seated.consoles;
+  beyond = is.seated.beyond;
+  mounts = all_units c server.mounts accepted is.mounted;
+}
+
+-- the parts of a system between two rounds
+pub assembled : (memory : List ℕ) (s : Parts) (rows : List GuestRow) → IsConfig s.kernel.config → rows ≡ s.kernel.config.guests → AreInMachine rows memory s.kernel.guests.items → IsSeated s.kernel.config s.kernel.server → map length s.volumes ≡ map (λ (v : VolumeRow). v.blocks) s.kernel.config.volumes → turns_of s.turns ≡ no_turns (length rows) → s.rounds ≤ 4000000000 → s.counts ≡ no_counts → IsInside s
+assembled memory s rows accepted same placed seated sized turns few counts =
     let left : s.turns.left.items ≡ replicate (length rows) 0 = ap (λ (t : Turns). t.left) turns in
     inside_of memory s (record {
       accepted = accepted;
       placed = subst (λ (xs : List GuestRow). AreInMachine xs memory s.kernel.guests.items) same placed;
-      terminals = server.seated.size;
-      guests = server.mounted.size;
-      consoles = server.seated.consoles;
-      beyond = server.seated.beyond;
-      mounts = all_units s.kernel.config s.kernel.server.mounts accepted server.mounted;
+      terminals = seated.terminals;
+      guests = seated.guests;
+      consoles = seated.consoles;
+      beyond = seated.beyond;
+      mounts = seated.mounts;
     }) sized (record {
       beside = ap length left ∙ length-replicate (length rows) 0 ∙ ap length same;
       from = omega (arith, ap (λ (t : Turns). t.from) turns);
       few = subst (λ xs. All (λ n. n ≤ 100000) xs) (sym left) (All-replicate (λ n. n ≤ 100000) (length rows) 0 (omega arith));
       counted = omega (arith, ap steps_in counts, ap sum left, sum_zero (length rows));
       trail = omega (arith, ap (λ (x : Counts). x.trail) counts);
-      few_rounds = omega (arith, rounds);
+      few_rounds = few;
     })

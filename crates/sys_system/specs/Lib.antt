@@ -5,4 +5,5 @@ pub mod Given
 pub mod Held
 pub mod Powers
 pub mod Seats
+pub mod Snaps
 pub mod System

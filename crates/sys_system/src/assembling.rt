@@ -5,16 +5,20 @@ ghost use Rattle.sys_guests.specs.Present.{HavePresent};
 ghost use Rattle.sys_rounds.specs.FirstTouches.{none_touched};
 ghost use Rattle.sys_objects.specs.Condition.{IsConfig};
 ghost use Rattle.sys_system.specs.Held.{IsInside, system_of};
-ghost use Rattle.sys_system.specs.Powers.{IsPowered};
+ghost use Rattle.sys_snap.specs.Held.{HoldsMoment, moment_of};
+ghost use Rattle.sys_snap.specs.Snap.{IsMoment};
+ghost use Rattle.sys_system.specs.Powers.{IsAt, IsPowered};
 ghost use Rattle.sys_system.specs.Seats.{AreMounted, IsServer};
 
 use crate::consoles::connections;
+use crate::given::volumes_of;
 use crate::parts::Parts;
 use crate::turns::Turns;
 use std::alloc::Global;
-use sys_guests::{Kernel, load_guests};
+use sys_guests::{Kernel, load_guests, place_guests};
 use sys_objects::{Config, GuestRow, Mount};
 use sys_server::ServerState;
+use sys_snap::Snap;
 use sys_store::Volumes;
 use vax_hw::Hardware;
 use vm_console::KeptPort;
@@ -81,6 +85,49 @@ pub fn assemble<H: Hardware>(
         volumes,
         turns,
         rounds: 0,
+        counts: Counts::none(),
+        drives: [false; 16],
+    })
+}
+
+/// The parts of a system that goes on from a moment: its guests are laid out in a machine of 32,768 pages, with their memories.
+/// All memory is taken here.
+pub fn assemble_again<H: Hardware>(
+    alloc: Global,
+    snap: Snap,
+    machine: &mut H,
+) -> Result<Parts, NoMemory>
+    requires held { HoldsMoment snap }
+    requires moment { IsMoment (moment_of snap) }
+    requires pages { length (H.machine machine.old).memory ≡ 512 * 32768 }
+    ensures inside { IfOk result IsInside }
+    ensures at { IfOk result (λ s. IsAt (moment_of snap) (H.machine machine.new) (system_of s)) }
+    ensures present { IfOk result (λ s. HavePresent (system_of s).guests (map none_touched (guests_in (H.machine machine.new).memory (system_of s).guests))) }
+    ensures alone { MemoryAlone (H.machine machine.old) (H.machine machine.new) }
+{
+    let Snap {
+        config,
+        round,
+        server,
+        guests,
+        volumes,
+    } = snap;
+    let rows = config.guests.as_slice();
+    let port = KeptPort::new(alloc)?;
+    let turns = Turns::none(alloc, rows.len())?;
+    let volumes = volumes_of(alloc, config.volumes.as_slice(), &volumes)?;
+    let guests = place_guests(alloc, rows, guests, machine)?;
+    Ok(Parts {
+        kernel: Kernel {
+            config,
+            server,
+            guests,
+            marks: [false; 32],
+            port,
+        },
+        volumes,
+        turns,
+        rounds: round,
         counts: Counts::none(),
         drives: [false; 16],
     })

@@ -65,7 +65,7 @@ fn sizes_of(alloc: Global, rows: &[VolumeRow]) -> Result<Vec<u32>, NoMemory>
 }
 
 /// Volumes with the given blocks, which are as many for each as its row says.
-fn volumes_of(
+pub fn volumes_of(
     alloc: Global,
     rows: &[VolumeRow],
     given: &[Vec<[u8; 512]>],

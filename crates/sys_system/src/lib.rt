@@ -7,7 +7,9 @@ mod counting;
 mod given;
 mod parts;
 mod power;
+mod resuming;
 mod rounds;
+mod saving;
 mod system;
 mod turns;
 
