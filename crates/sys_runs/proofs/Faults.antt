@@ -6,8 +6,7 @@ use Rattle.vv_io.specs.Blocks.{Kept}
 use Rattle.vv_io.specs.Lines.{Seen}
 use Rattle.sys_guests.specs.Loads.{MemoryAlone}
 use Rattle.sys_objects.specs.declared.records.Config.{Config}
-use Rattle.sys_runs.specs.Ran.{Outside, Runs, Unshown}
-use Rattle.sys_script.specs.declared.event.Event.{Event}
+use Rattle.sys_runs.specs.Ran.{Outside, StaysDown, Unshown}
 use Rattle.sys_system.specs.Faults.{Powers}
 use Rattle.sys_system.specs.declared.power.PowerFault.{PowerFault}
 use Rattle.sys_system.specs.declared.power.PowerFault.TheVariants.{Image, VolumeSize, DriveIn, NoMemory}
@@ -19,8 +18,9 @@ outside m m' lines drives drives' = record { machine = m; machine' = m'; lines =
 pub unshown : (m m' : Machine) (lines : List Seen) (drives drives' : List Kept) → MemoryAlone m m' → Unshown (outside m m' lines drives drives')
 unshown m m' lines drives drives' alone = record { lines = refl; retired = ap (λ (x : Machine). x.retired) alone.rest; trail = ap (λ (x : Machine). x.trail) alone.rest; misses = ap (λ (x : Machine). x.misses) alone.rest }
 
-pub not_run : (c : Config) (images : List (List ℕ)) (es : List Event) (n : ℕ) (m m' : Machine) (lines : List Seen) (drives drives' : List Kept) (e : PowerFault) → Powers c images drives drives' m' (Err e) → MemoryAlone m m' → Runs c images es n (Err e) (outside m m' lines drives drives')
-not_run c images es n m m' lines drives drives' (Image g) (misfit, same) alone = (misfit, record { shown = unshown m m' lines drives drives' alone; drives = same })
-not_run c images es n m m' lines drives drives' (VolumeSize v) (fits, (misfit, same)) alone = (fits, misfit, record { shown = unshown m m' lines drives drives' alone; drives = same })
-not_run c images es n m m' lines drives drives' (DriveIn d) (fits, failed) alone = (fits, failed, unshown m m' lines drives drives' alone)
-not_run c images es n m m' lines drives drives' NoMemory same alone = record { shown = unshown m m' lines drives drives' alone; drives = same }
+-- power stays down
+pub stays_down : (c : Config) (images : List (List ℕ)) (m m' : Machine) (lines : List Seen) (drives drives' : List Kept) (e : PowerFault) → Powers c images drives drives' m' (Err e) → MemoryAlone m m' → StaysDown c images e (outside m m' lines drives drives')
+stays_down c images m m' lines drives drives' (Image g) (misfit, same) alone = (misfit, record { shown = unshown m m' lines drives drives' alone; drives = same })
+stays_down c images m m' lines drives drives' (VolumeSize v) (fits, (misfit, same)) alone = (fits, misfit, record { shown = unshown m m' lines drives drives' alone; drives = same })
+stays_down c images m m' lines drives drives' (DriveIn d) (fits, failed) alone = (fits, failed, unshown m m' lines drives drives' alone)
+stays_down c images m m' lines drives drives' NoMemory same alone = record { shown = unshown m m' lines drives drives' alone; drives = same }

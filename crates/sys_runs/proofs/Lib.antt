@@ -2,6 +2,9 @@ pub mod Faults
 pub mod GivenRuns
 pub mod Made
 pub mod Many
+pub mod Moments
+pub mod Resumed
+pub mod SavedRuns
 pub mod Splitting
 pub mod Stored
 pub mod Whole

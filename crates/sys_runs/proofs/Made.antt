@@ -9,10 +9,10 @@ use Rattle.sys_guests.specs.Present.{HavePresent, counted_in}
 use Rattle.sys_lines.proofs.Showings.{shows_same, shows_then}
 use Rattle.sys_lines.specs.Shows.{Gets, Shows}
 use Rattle.sys_rounds.proofs.Steps.{as_sum}
-use Rattle.sys_rounds.specs.Bytes.{dump_on, line_bytes_from}
+use Rattle.sys_rounds.specs.Bytes.{dump_on, line_bytes_from, shown_from}
 use Rattle.sys_rounds.specs.Counts.{added, tally_from}
 use Rattle.sys_rounds.specs.FirstTouches.{first_touches_from, none_touched, touches_of_rounds}
-use Rattle.sys_rounds.specs.Run.{Moment, rounds_from}
+use Rattle.sys_rounds.specs.Run.{Moment, moment_after, rounds_from}
 use Rattle.sys_rounds.specs.State.{State, Went, bytes_on}
 use Rattle.sys_runs.proofs.Many.{rounds_fit}
 use Rattle.sys_runs.proofs.Stored.{unmarked}
@@ -58,13 +58,28 @@ module _ (m : Moment) (es : List Event) (n : ℕ) (m0 m1 m2 : Machine) (s0 s1 : 
   pub last : state_of m2.memory s1 ≡ (rounds_from m es n).now
   last = r.goes.state ∙ ap (λ (w : Went State). w.now) went
 
+  rounds1 : s1.rounds ≡ m.made + n
+  rounds1 = ap (λ (s : System). s.rounds) r.system ∙ ap (λ k. k + n) rounds0
+
+  -- so many rounds later it is at that moment
+  pub after : moment_of m2.memory s1 ≡ moment_after m es n
+  after = λ i. record { config = config1 i; made = rounds1 i; state = last i }
+
+  marks0 : s0.marks ≡ replicate 32 false
+  marks0 = ap (λ (s : System). s.marks) p.system
+
+  -- each line is shown what the rounds show
+  pub rounds_shown : Shows [] s1.marks lines lines1 (λ k. shown_from m es n k)
+  rounds_shown =
+      let all : Shows s0.marks s1.marks lines lines1 (λ k. shown_from m es n k) = shows_same s0.marks s1.marks lines lines1 _ _ (λ k. ap (λ (w : Went State). bytes_on k w.puts) went) r.goes.shows in
+      shows_fresh 32 s1.marks lines lines1 _ (subst (λ before. Shows before s1.marks lines lines1 (λ k. shown_from m es n k)) marks0 all)
+
   bytes : (k : ℕ) → bytes_on k (rounds_from (moment_of m1.memory s0) es n).puts ++ dump_on k s1.config.guests (guests_in m2.memory s1.guests) ≡ line_bytes_from m es n k
   bytes k = λ i. bytes_on k (went i).puts ++ dump_on k (config1 i).guests (last i).guests
 
   -- each line gets its bytes
   pub shown : (marks : List Bool) (lines2 : List Seen) → Shows s1.marks marks lines1 lines2 (λ k. dump_on k s1.config.guests (guests_in m2.memory s1.guests)) → Shows [] marks lines lines2 (λ k. line_bytes_from m es n k)
   shown marks lines2 dumps =
-      let marks0 : s0.marks ≡ replicate 32 false = ap (λ (s : System). s.marks) p.system in
       let all : Shows s0.marks marks lines lines2 (λ k. line_bytes_from m es n k) = shows_same s0.marks marks lines lines2 _ _ bytes (shows_then r.goes.shows dumps) in
       shows_fresh 32 marks lines lines2 _ (subst (λ before. Shows before marks lines lines2 (λ k. line_bytes_from m es n k)) marks0 all)
 
@@ -81,7 +96,6 @@ module _ (m : Moment) (es : List Event) (n : ℕ) (m0 m1 m2 : Machine) (s0 s1 : 
   -- and few
   pub steps_few : (counts : Counts) → counts ≡ s1.counts → IsSystem s1 → steps_in counts ≤ 1600000 * (m.made + n)
   steps_few counts same holds =
-      let rounds1 : s1.rounds ≡ m.made + n = ap (λ (s : System). s.rounds) r.system ∙ ap (λ k. k + n) rounds0 in
       let few : steps_in s1.counts ≤ 1600000 * s1.rounds = omega (arith, holds.counted) in
       subst (λ k. steps_in counts ≤ 1600000 * k) rounds1 (subst (λ (x : Counts). steps_in x ≤ 1600000 * s1.rounds) (sym same) few)
 

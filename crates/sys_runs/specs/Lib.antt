@@ -2,3 +2,4 @@ pub mod Given
 pub mod Laws
 pub mod Ran
 pub mod Rounds
+pub mod Saved

@@ -79,11 +79,14 @@ pub record Makes (x : Input) (ran : Ran) (o : Outside) : Type 0 where
   pub loaded : AreLoaded x.config.volumes o.drives x.volumes
   pub makes : MakesFrom (opening x) x.events x.rounds ran o
 
--- a run by its answer: it was made; or the first image doesn't fit; or else the first volume that can't be read; or
--- memory ran out
+-- Power doesn't come up: the first image doesn't fit; or else the first volume that can't be read; or memory ran out.
+abbrev pub StaysDown : Config → List (List ℕ) → PowerFault → Outside → Type 0
+StaysDown c images (Image g) o = (first_misfit c.guests images ≡ Some g) × Untouched o
+StaysDown c images (VolumeSize v) o = (first_misfit c.guests images ≡ None) × IsMisfit c.volumes o.drives v × Untouched o
+StaysDown c images (DriveIn d) o = (first_misfit c.guests images ≡ None) × HasFailed c.volumes o.drives o.drives' d × Unshown o
+StaysDown c images NoMemory o = Untouched o
+
+-- a run by its answer: it was made; or power doesn't come up
 abbrev pub Runs : Config → List (List ℕ) → List Event → ℕ → Result Ran PowerFault → Outside → Type 0
 Runs c images es n (Ok ran) o = (volumes : List (List (List ℕ))) × Makes (record { config = c; images = images; volumes = volumes; events = es; rounds = n }) ran o
-Runs c images es n (Err (Image g)) o = (first_misfit c.guests images ≡ Some g) × Untouched o
-Runs c images es n (Err (VolumeSize v)) o = (first_misfit c.guests images ≡ None) × IsMisfit c.volumes o.drives v × Untouched o
-Runs c images es n (Err (DriveIn d)) o = (first_misfit c.guests images ≡ None) × HasFailed c.volumes o.drives o.drives' d × Unshown o
-Runs c images es n (Err NoMemory) o = Untouched o
+Runs c images es n (Err fault) o = StaysDown c images fault o

@@ -1,6 +1,6 @@
 use Rattle.std.proofs.Common.{◌≡◌, ◌∙◌, ap, arith}
 use Rattle.std.proofs.lemmas.Result.{err_from_is_err_and}
-use Rattle.sys_runs.proofs.Faults.{not_run}
+use Rattle.sys_runs.proofs.Faults.{stays_down}
 use Rattle.sys_runs.proofs.Whole.{as_long, fits_as_read, fits_still, run_made}
 use Rattle.sys_system.specs.System.{System}
 use Rattle.sys_runs.proofs.running.run.Goals as goal
@@ -8,7 +8,7 @@ use Rattle.sys_runs.proofs.running.run.Goals as goal
 pub returns-in_err-system-clause-runs : goal.returns-in_err-system-clause-runs
 returns-in_err-system-clause-runs g c =
     let p = err_from_is_err_and c.from_residual.result c.from_residual.ensures.1 in
-    rw (p.1, p.2) (not_run c.args.config _ c.args.events.now c.args.rounds _ _ _ _ _ _ c.in_err-system.ensures.powers c.power_up.ensures.alone)
+    rw (p.1, p.2) (stays_down c.args.config _ _ _ _ _ _ _ c.in_err-system.ensures.powers c.power_up.ensures.alone)
 
 pub make_rounds-requires-clause-rests : goal.make_rounds-requires-clause-rests
 make_rounds-requires-clause-rests g c = ap (λ (s : System). s.turns.is_begun) c.in_ok-system.ensures.powers.powered.system
