@@ -2,11 +2,17 @@
 use Rattle.std.proofs.Common.{ℕ, ◌≤◌, List, arith, Result, Ok, Err, IfOk}
 use Rattle.vm_stepping.specs.Made.{steps_in}
 use Rattle.sys_objects.specs.declared.records.Config.{Config}
+use Rattle.sys_rounds.specs.Run.{Moment}
 use Rattle.sys_runs.specs.Ran.{Outside, Runs}
+use Rattle.sys_runs.specs.Saved.{GoesOn}
 use Rattle.sys_runs.specs.declared.running.Ran.{Ran}
 use Rattle.sys_script.specs.declared.event.Event.{Event}
 use Rattle.sys_system.specs.declared.power.PowerFault.{PowerFault}
 
-pub few_in_run : (c : Config) (images : List (List ℕ)) (es : List Event) (n : ℕ) (result : Result Ran PowerFault) (o : Outside) → n ≤ 1000000 → Runs c images es n result o → IfOk result (λ ran. steps_in ran.counts ≤ 1600000000000)
+pub few_in_run : (c : Config) (images : List (List ℕ)) (es : List Event) (n : ℕ) (result : Result Ran PowerFault) (o : Outside) → n ≤ 1000000 → Runs c images es n result o → IfOk result (λ ran. steps_in ran.counts ≤ 3200000000000)
 few_in_run c images es n (Ok ran) o few (volumes, made) = omega (arith, few, made.makes.few)
 few_in_run c images es n (Err fault) o few runs = tt
+
+pub few_from : (m : Moment) (es : List Event) (n : ℕ) (result : Result Ran PowerFault) (o : Outside) → m.made ≤ 1000000 → n ≤ 1000000 → GoesOn m es n result o → IfOk result (λ ran. steps_in ran.counts ≤ 3200000000000)
+few_from m es n (Ok ran) o few_before few made = omega (arith, few_before, few, made.few)
+few_from m es n (Err fault) o few_before few goes_on = tt

@@ -1,4 +1,6 @@
 pub mod Counted
+pub mod Lent
 pub mod Separate
+pub mod Sizes
 pub mod Stopping
 pub mod Workloads

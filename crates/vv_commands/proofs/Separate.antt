@@ -2,7 +2,7 @@
 use Rattle.std.proofs.Common.{ℕ, ◌≡◌, List, [], ◌∷◌, Option, Some, None, Result, Ok, Err, refl, subst}
 use Rattle.std.specs.List.{slice_get}
 use Rattle.sys_objects.specs.Condition.{IsConfig}
-use Rattle.sys_purge.proofs.Lines.{keeps_devices}
+use Rattle.sys_purge.proofs.Lines.{keeps_devices, keeps_shown}
 use Rattle.sys_purge.proofs.Depends.{keeps_volumes}
 use Rattle.sys_rounds.specs.Run.{Input}
 use Rattle.sys_objects.specs.declared.records.Config.{Config}
@@ -14,13 +14,16 @@ use Rattle.sys_runs.specs.Ran.{Outside, Runs}
 use Rattle.sys_runs.specs.declared.running.Ran.{Ran}
 use Rattle.sys_system.specs.declared.power.PowerFault.{PowerFault}
 use Rattle.sys_system.specs.declared.power.PowerFault.TheVariants.{Image, VolumeSize, DriveIn, NoMemory}
-use Rattle.vv_commands.specs.Answer.{IsSeparate, Plays}
+use Rattle.vv_commands.specs.Answer.{IsSeparate, IsShownSeparate, Plays}
 use Rattle.vv_commands.specs.Solo.{solo_config}
 use Rattle.vv_commands.specs.Words.{Asked}
 use Rattle.vv_commands.specs.declared.status.Status.{Status}
 
 pub separate : (x : Input) → IsConfig x.config → IsSeparate x
 separate x accepted = record { lines = keeps_devices x accepted; drives = keeps_volumes x accepted }
+
+pub shown_separate : (x : Input) → IsConfig x.config → IsShownSeparate x
+shown_separate = keeps_shown
 
 -- a run of the guest A
 pub as_solo : (a : Asked) (c : Config) (images : List (List ℕ)) (es : List Event) (image : List ℕ) (status : Status) (o : Outside) (out out' : Seen) → c ≡ solo_config a → es ≡ [] → images ≡ image ∷ [] → Plays c images es 1 status o out out' → Plays (solo_config a) (image ∷ []) [] 1 status o out out'

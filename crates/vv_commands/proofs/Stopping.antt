@@ -1,32 +1,17 @@
--- Why a command's files give nothing: the fetch of a file, of a configuration, of a script and of images, as parts of a run's.
-use Rattle.std.proofs.Common.{ℕ, zero, suc, ◌≡◌, ◌+◌, inl, inr, List, [], ◌∷◌, ◌++◌, length, map, take, refl, sym, ap, subst, ◌∙◌, arith, Option, Some, Vec, Global}
+-- Why a command's files give nothing: the fetch of images as one, and of a script and images as parts of a run's.
+use Rattle.std.proofs.Common.{ℕ, zero, suc, ◌≡◌, ◌+◌, inl, inr, List, [], ◌∷◌, ◌++◌, length, map, take, refl, sym, ap, subst, ◌∙◌, arith, Option, Some, Result, Ok, Err, Vec, Global}
 use Rattle.std.proofs.lemmas.List.{map-append}
 use Rattle.std.specs.List.{slice_get}
 use Rattle.vv_io.specs.Shelf.{File}
 use Rattle.sys_objects.specs.declared.records.Config.{Config}
 use Rattle.sys_objects.specs.declared.records.GuestRow.{GuestRow}
 use Rattle.sys_script.specs.declared.event.Event.{Event}
-use Rattle.vv_commands.specs.Fetches.{StopsAtImages, StopsScript}
-use Rattle.vv_commands.specs.Files.{AreImages, HasConfig, HasScript, IsRead, StopsAudit, StopsConfig, StopsFile, StopsRun}
-use Rattle.vv_commands.specs.Words.{AuditAsked, RunAsked}
+use Rattle.sys_snap.specs.declared.snap.Snap.{Snap}
+use Rattle.vv_commands.specs.Fetches.{FetchesSnap, MeansSnap, StopsAtImages, StopsScript}
+use Rattle.vv_commands.specs.Files.{AreImages, FitsSnap, HasConfig, HasScript, IsImageToSave, IsRead, StopsFile, StopsSave}
+use Rattle.vv_commands.specs.Words.{RunAsked}
 use Rattle.vv_commands.specs.declared.stop.Stop.{Stop}
-use Rattle.vv_commands.specs.declared.stop.Stop.TheVariants.{Missing, TooLong, ShelfFault, Config as ConfigRefused, Script as ScriptRefused, NoMemory}
-
-pub stops_config : (files : Option (List File)) (name : List ℕ) (before now : ℕ) (stop : Stop) → StopsFile files name before now stop → StopsConfig files name before now stop
-stops_config files name before now (Missing n) h = h
-stops_config files name before now (TooLong n) h = h
-stops_config files name before now ShelfFault h = h
-stops_config files name before now (ConfigRefused f) h = absurd h
-stops_config files name before now (ScriptRefused f) h = h
-stops_config files name before now NoMemory h = h
-
-pub stops_script : (files : Option (List File)) (name : List ℕ) (before now : ℕ) (stop : Stop) → StopsFile files name before now stop → StopsScript files name before now stop
-stops_script files name before now (Missing n) h = h
-stops_script files name before now (TooLong n) h = h
-stops_script files name before now ShelfFault h = h
-stops_script files name before now (ConfigRefused f) h = h
-stops_script files name before now (ScriptRefused f) h = absurd h
-stops_script files name before now NoMemory h = h
+use Rattle.vv_commands.specs.declared.stop.Stop.TheVariants.{Missing, TooLong, ShelfFault, Config as ConfigRefused, Script as ScriptRefused, SnapSize, Snap as SnapRefused, NoMemory}
 
 -- the image of a guest wasn't fetched, and those of the guests before it were
 pub stops_images : (files : Option (List File)) (rows : List GuestRow) (before now n : ℕ) (row : GuestRow) (images : List (List ℕ)) (stop : Stop) → AreImages files (take n rows) images → slice_get rows n ≡ Some row → StopsFile files row.image before now stop → StopsAtImages files rows before now stop
@@ -35,6 +20,8 @@ stops_images files rows before now n row images (TooLong name) fetched stands h 
 stops_images files rows before now n row images ShelfFault fetched stands h = record { images = images; guest = n; row = row; fetched = fetched; stands = stands; why = h }
 stops_images files rows before now n row images (ConfigRefused f) fetched stands h = absurd h
 stops_images files rows before now n row images (ScriptRefused f) fetched stands h = absurd h
+stops_images files rows before now n row images SnapSize fetched stands h = absurd h
+stops_images files rows before now n row images (SnapRefused f) fetched stands h = absurd h
 stops_images files rows before now n row images NoMemory fetched stands h = tt
 
 -- one image more
@@ -73,44 +60,54 @@ as_many_images files [] (image ∷ images) h = absurd h
 as_many_images files (row ∷ rows) [] h = absurd h
 as_many_images files (row ∷ rows) (image ∷ images) h = ap suc (as_many_images files rows images h.1)
 
-module _ (files : Option (List File)) (a : RunAsked) (before now : ℕ) where
-  pub config_stops : (stop : Stop) → StopsConfig files a.config before now stop → StopsRun files a before now stop
-  config_stops (Missing n) h = (inl h.0, h.1)
-  config_stops (TooLong n) h = (inl h.0, h.1)
-  config_stops ShelfFault h = h
-  config_stops (ConfigRefused f) h = h
-  config_stops (ScriptRefused f) h = absurd h
-  config_stops NoMemory h = h
+-- a run that is to be saved stops at its script
+module _ (files : Option (List File)) (a : RunAsked) (before now : ℕ) (c : Config) (has : HasConfig files a.config c) where
+  at_script : (stop : Stop) → StopsScript files a.script before now stop → StopsSave files a before now stop
+  at_script (Missing n) h = (inr (inl (record { config = c; has = has; is = h.0 })), h.1)
+  at_script (TooLong n) h = (inr (inl (record { config = c; has = has; is = h.0 })), h.1)
+  at_script ShelfFault h = h
+  at_script (ConfigRefused f) h = absurd h
+  at_script (ScriptRefused f) h = (c, has, h.0, h.1)
+  at_script SnapSize h = absurd h
+  at_script (SnapRefused f) h = h
+  at_script NoMemory h = h
 
-  pub script_stops : (c : Config) → HasConfig files a.config c → (stop : Stop) → StopsScript files a.script before now stop → StopsRun files a before now stop
-  script_stops c has (Missing n) h = (inr (inl (record { config = c; has = has; is = h.0 })), h.1)
-  script_stops c has (TooLong n) h = (inr (inl (record { config = c; has = has; is = h.0 })), h.1)
-  script_stops c has ShelfFault h = h
-  script_stops c has (ConfigRefused f) h = absurd h
-  script_stops c has (ScriptRefused f) h = (c, has, h.0, h.1)
-  script_stops c has NoMemory h = h
+pub script_stops_save : (files files' : Option (List File)) (a : RunAsked) (before before' now : ℕ) (c : Config) → HasConfig files a.config c → files' ≡ files → before' ≡ before → (stop : Stop) → StopsScript files' a.script before' now stop → StopsSave files a before now stop
+script_stops_save files files' a before before' now c has same none stop why =
+    at_script files a before now c has stop (subst (λ (fs : Option (List File)). StopsScript fs a.script before now stop) same (subst (λ (b : ℕ). StopsScript files' a.script b now stop) none why))
 
-  pub images_stop : (c : Config) (es : List Event) → HasConfig files a.config c → HasScript files a.script es → (stop : Stop) → StopsAtImages files c.guests before now stop → StopsRun files a before now stop
-  images_stop c es has has_script (Missing n) h = (inr (inr (record { config = c; events = es; images = h.images; guest = h.guest; row = h.row; has_config = has; has_script = has_script; before = h.fetched; stands = h.stands; is = h.why.0 })), h.why.1)
-  images_stop c es has has_script (TooLong n) h = (inr (inr (record { config = c; events = es; images = h.images; guest = h.guest; row = h.row; has_config = has; has_script = has_script; before = h.fetched; stands = h.stands; is = h.why.0 })), h.why.1)
-  images_stop c es has has_script ShelfFault h = h.why
-  images_stop c es has has_script (ConfigRefused f) h = absurd h.why
-  images_stop c es has has_script (ScriptRefused f) h = absurd h.why
-  images_stop c es has has_script NoMemory h = h
+-- .. or at an image, where a snapshot can be written
+module _ (files : Option (List File)) (a : RunAsked) (before now : ℕ) (c : Config) (es : List Event) (has : HasConfig files a.config c) (has_script : HasScript files a.script es) (fits : FitsSnap has.text c) where
+  is_next : (name : List ℕ) (images : List (List ℕ)) (guest : ℕ) (row : GuestRow) → AreImages files (take guest c.guests) images → slice_get c.guests guest ≡ Some row → name ≡ row.image → IsImageToSave files a name
+  is_next name images guest row fetched stands is = record {
+    image = record { config = c; events = es; images = images; guest = guest; row = row; has_config = has; has_script = has_script; before = fetched; stands = stands; is = is };
+    fits = fits;
+  }
 
-module _ (files : Option (List File)) (a : AuditAsked) (before now : ℕ) where
-  pub audit_config_stops : (stop : Stop) → StopsConfig files a.config before now stop → StopsAudit files a before now stop
-  audit_config_stops (Missing n) h = (inl h.0, h.1)
-  audit_config_stops (TooLong n) h = (inl h.0, h.1)
-  audit_config_stops ShelfFault h = h
-  audit_config_stops (ConfigRefused f) h = h
-  audit_config_stops (ScriptRefused f) h = h
-  audit_config_stops NoMemory h = h
+  at_image : (stop : Stop) → StopsAtImages files c.guests before now stop → StopsSave files a before now stop
+  at_image (Missing n) h = (inr (inr (is_next n h.images h.guest h.row h.fetched h.stands h.why.0)), h.why.1)
+  at_image (TooLong n) h = (inr (inr (is_next n h.images h.guest h.row h.fetched h.stands h.why.0)), h.why.1)
+  at_image ShelfFault h = h.why
+  at_image (ConfigRefused f) h = absurd h.why
+  at_image (ScriptRefused f) h = absurd h.why
+  at_image SnapSize h = absurd h.why
+  at_image (SnapRefused f) h = absurd h.why
+  at_image NoMemory h = h
 
-  pub recorded_stops : (c : Config) → HasConfig files a.config c → (stop : Stop) → StopsFile files a.recorded before now stop → StopsAudit files a before now stop
-  recorded_stops c has (Missing n) h = (inr (record { config = c; has = has; is = h.0 }), h.1)
-  recorded_stops c has (TooLong n) h = (inr (record { config = c; has = has; is = h.0 }), h.1)
-  recorded_stops c has ShelfFault h = h
-  recorded_stops c has (ConfigRefused f) h = absurd h
-  recorded_stops c has (ScriptRefused f) h = h
-  recorded_stops c has NoMemory h = h
+pub images_stop_save : (files files' : Option (List File)) (a : RunAsked) (before before' now : ℕ) (c : Config) (es : List Event) (rows : List GuestRow) (has : HasConfig files a.config c) → HasScript files a.script es → FitsSnap has.text c → files' ≡ files → before' ≡ before → rows ≡ c.guests → (stop : Stop) → StopsAtImages files' rows before' now stop
+    → StopsSave files a before now stop
+images_stop_save files files' a before before' now c es rows has has_script fits same none are_rows stop why =
+    at_image files a before now c es has has_script fits stop (subst (λ (rs : List GuestRow). StopsAtImages files rs before now stop) are_rows
+    (subst (λ (fs : Option (List File)). StopsAtImages fs rows before now stop) same (subst (λ (b : ℕ). StopsAtImages files' rows b now stop) none why)))
+
+-- what the bytes of a file are read as
+pub fetched_snap : (files : Option (List File)) (name bytes : List ℕ) (before now : ℕ) (result : Result Snap Stop) → IsRead files name bytes → now ≡ before → MeansSnap bytes result → FetchesSnap files name before now result
+fetched_snap files name bytes before now (Ok snap) read same is = (record { bytes = bytes; read = read; is = is }, same)
+fetched_snap files name bytes before now (Err (Missing n)) read same never = absurd never
+fetched_snap files name bytes before now (Err (TooLong n)) read same never = absurd never
+fetched_snap files name bytes before now (Err ShelfFault) read same never = absurd never
+fetched_snap files name bytes before now (Err (ConfigRefused f)) read same never = absurd never
+fetched_snap files name bytes before now (Err (ScriptRefused f)) read same never = absurd never
+fetched_snap files name bytes before now (Err SnapSize) read same never = absurd never
+fetched_snap files name bytes before now (Err (SnapRefused f)) read same refused = (record { bytes = bytes; read = read; refused = refused }, same)
+fetched_snap files name bytes before now (Err NoMemory) read same nothing = tt

@@ -61,7 +61,7 @@ none_another (row ∷ rows) (blocks ∷ volumes) fit =
     none_passes (is_another_size row blocks) (first_of_another_size rows volumes) (ap not (eq-eqb (length blocks) row.blocks here)) (none_another rows volumes rest)
 
 -- its steps are few
-pub few_steps : (c : Config) (images : List (List ℕ)) (volumes : List (List (List ℕ))) (events : List Event) (rounds : ℕ) (r : Result Ran PowerFault) (o : Outside) → rounds ≡ 20 → RunsWith c images volumes events rounds r o → IfOk r (λ ran. steps_in ran.counts ≤ 1600000000000)
+pub few_steps : (c : Config) (images : List (List ℕ)) (volumes : List (List (List ℕ))) (events : List Event) (rounds : ℕ) (r : Result Ran PowerFault) (o : Outside) → rounds ≡ 20 → RunsWith c images volumes events rounds r o → IfOk r (λ ran. steps_in ran.counts ≤ 3200000000000)
 few_steps c images volumes events rounds (Ok ran) o twenty made = omega (arith, twenty, made.few)
 few_steps c images volumes events rounds (Err fault) o twenty not_made = tt
 

@@ -20,22 +20,25 @@ use Rattle.sys_flow.specs.Report.{IsReport}
 use Rattle.sys_lines.specs.ShownSince.{ShownSince}
 use Rattle.sys_objects.specs.declared.records.Config.{Config}
 use Rattle.sys_purge.specs.Input.{purged}
+use Rattle.sys_purge.specs.Laws.{shown_on}
 use Rattle.sys_rounds.specs.Bytes.{devices_of, drive_blocks, line_bytes}
-use Rattle.sys_rounds.specs.Run.{Input}
+use Rattle.sys_rounds.specs.Run.{Input, Moment}
 use Rattle.sys_runs.specs.Given.{MakesWith}
 use Rattle.sys_runs.specs.Ran.{Outside as RunOutside, Runs, Untouched}
+use Rattle.sys_runs.specs.Saved.{GoesOn, SavesRun}
 use Rattle.sys_runs.specs.declared.running.Ran.{Ran}
+use Rattle.sys_runs.specs.declared.saving.Saved.{Saved}
 use Rattle.sys_script.specs.declared.event.Event.{Event}
 use Rattle.sys_system.specs.declared.parts.Device.{Device}
 use Rattle.sys_system.specs.declared.power.PowerFault.{PowerFault}
 use Rattle.sys_system.specs.declared.power.PowerFault.TheVariants as faults
 use Rattle.vv_gen.specs.Workload.{Generated, workload_of}
-use Rattle.vv_commands.specs.Files.{HasAll, HasConfig, IsRead, StopsAudit, StopsConfig, StopsFile, StopsRun}
+use Rattle.vv_commands.specs.Files.{HasAll, HasAllToSave, HasBoth, HasConfig, IsRead, StopsAudit, StopsConfig, StopsFile, StopsResume, StopsRun, StopsSave}
 use Rattle.vv_commands.specs.Solo.{solo_config}
 use Rattle.vv_commands.specs.Summary.{check_line, summary}
-use Rattle.vv_commands.specs.Words.{Asked, AuditAsked, RunAsked, Wanted, WantsSolo, WantsRun, WantsLoad, WantsCheck, WantsMigration, WantsAudit, WantsFlow, WantsDrawing, WantsBytes, WantsText}
+use Rattle.vv_commands.specs.Words.{Asked, AuditAsked, ResumeAsked, RunAsked, Wanted, WantsSolo, WantsRun, WantsSave, WantsResume, WantsLoad, WantsCheck, WantsMigration, WantsAudit, WantsFlow, WantsDrawing, WantsBytes, WantsText}
 use Rattle.vv_commands.specs.declared.status.Status.{Status}
-use Rattle.vv_commands.specs.declared.status.Status.TheVariants.{Done, Words, Missing, TooLong, ShelfFault, Config as ConfigRefused, Script as ScriptRefused, Image, VolumeSize, DriveIn, Device as DeviceFault, Asm, Audit, OutFault, NoMemory}
+use Rattle.vv_commands.specs.declared.status.Status.TheVariants.{Done, Words, Missing, TooLong, ShelfFault, Config as ConfigRefused, Script as ScriptRefused, Image, VolumeSize, DriveIn, Device as DeviceFault, Asm, SnapSize, Snap as SnapRefused, Audit, OutFault, NoMemory}
 use Rattle.vv_commands.specs.declared.stop.Stop.{Stop}
 use Rattle.vv_commands.specs.declared.stop.Stop.TheVariants as stops
 
@@ -80,6 +83,8 @@ stopped_status (stops.TooLong name) = TooLong name
 stopped_status stops.ShelfFault = ShelfFault
 stopped_status (stops.Config f) = ConfigRefused f
 stopped_status (stops.Script f) = ScriptRefused f
+stopped_status stops.SnapSize = SnapSize
+stopped_status (stops.Snap f) = SnapRefused f
 stopped_status stops.NoMemory = NoMemory
 
 abbrev pub power_status : PowerFault → Status
@@ -146,6 +151,45 @@ pub record PlaysRun (a : RunAsked) (status : Status) (o : Outside) : Type 0 wher
 
 abbrev pub FollowsRun : RunAsked → Status → Outside → Type 0
 FollowsRun a status o = (Stops (StopsRun o.files a o.shelf o.shelf') status × Silent o) ⊎ PlaysRun a status o
+
+-- What its rounds show on each device is what they show when all whose class doesn't flow into its own was never there.
+abbrev pub IsShownSeparate : Input → Type 0
+IsShownSeparate x = All (λ d. shown_on (purged x d.class) d.line ≡ shown_on x d.line) (devices_of x.config)
+
+-- how a run that was to be saved is answered: power doesn't come up, or its rounds were made, and the snapshot was put
+abbrev pub AnswersSave : Result Saved PowerFault → Status → Type 0
+AnswersSave (Err fault) status = status ≡ power_status fault
+AnswersSave (Ok saved) status = status ≡ done_status saved.failed saved.is_cut
+
+-- `save`: all files were fetched, the rounds are made, and the snapshot is put with the fetched text. Whatever the drives hold,
+-- its devices are separate.
+pub record PlaysSave (a : RunAsked) (status : Status) (o : Outside) : Type 0 where
+  pub config : Config
+  pub text : List ℕ
+  pub events : List Event
+  pub images : List (List ℕ)
+  pub has : HasAllToSave o.files a text config events images
+  pub shelf : o.shelf' ≡ o.shelf
+  pub result : Result Saved PowerFault
+  pub saves : SavesRun config text images events a.rounds result (run_of o) o.out o.out'
+  pub answers : AnswersSave result status
+  pub separate : (volumes : List (List (List ℕ))) → IsShownSeparate (record { config = config; images = images; volumes = volumes; events = events; rounds = a.rounds })
+
+abbrev pub FollowsSave : RunAsked → Status → Outside → Type 0
+FollowsSave a status o = (Stops (StopsSave o.files a o.shelf o.shelf') status × Silent o) ⊎ PlaysSave a status o
+
+-- `resume`: snapshot and script were fetched, and the run goes on
+pub record PlaysResume (a : ResumeAsked) (status : Status) (o : Outside) : Type 0 where
+  pub moment : Moment
+  pub events : List Event
+  pub has : HasBoth o.files a moment events
+  pub shelf : o.shelf' ≡ o.shelf
+  pub result : Result Ran PowerFault
+  pub goes_on : GoesOn moment events a.rounds result (run_of o)
+  pub answers : Answers a.rounds result status o.out o.out'
+
+abbrev pub FollowsResume : ResumeAsked → Status → Outside → Type 0
+FollowsResume a status o = (Stops (StopsResume o.files a o.shelf o.shelf') status × Silent o) ⊎ PlaysResume a status o
 
 -- `check`, `migrate`, `flow` and `draw`: the configuration was fetched, and bytes that stand so to it are put
 pub record ShowsConfig (Bytes : Config → List ℕ → Type 0) (name : List ℕ) (status : Status) (o : ShelfAndSink) : Type 0 where
@@ -224,6 +268,8 @@ abbrev pub Says : Option Wanted → Status → Outside → Type 0
 Says None status o = (status ≡ Words) × Apart o × (o.out' ≡ o.out)
 Says (Some (WantsSolo a)) status o = FollowsSolo a status o
 Says (Some (WantsRun a)) status o = FollowsRun a status o
+Says (Some (WantsSave a)) status o = FollowsSave a status o
+Says (Some (WantsResume a)) status o = FollowsResume a status o
 Says (Some (WantsLoad number)) status o = FollowsLoad number status (run_of o) o.out o.out' × (o.shelf' ≡ o.shelf)
 Says (Some (WantsCheck name)) status o = FollowsConfig AreCounts name status (shelf_and_sink o) × Apart o
 Says (Some (WantsMigration name)) status o = FollowsConfig IsMigrated name status (shelf_and_sink o) × Apart o

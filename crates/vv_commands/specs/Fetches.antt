@@ -4,21 +4,35 @@ use Rattle.std.specs.List.{slice_get}
 use Rattle.std.specs.declared.alloc.Global.{Global}
 use Rattle.std.specs.declared.result.Result.{Result}
 use Rattle.std.specs.declared.result.Result.TheVariants.{Ok, Err}
+use Rattle.std.specs.Prelude as results
+use Rattle.sys_config.specs.Config.{config_of}
+use Rattle.sys_snap.specs.Held.{moment_of}
+use Rattle.sys_snap.specs.Reader.{snap_in}
+use Rattle.sys_snap.specs.Snap.{IsSnap}
+use Rattle.sys_snap.specs.declared.snap.Snap.{Snap}
 use Rattle.vv_io.specs.Shelf.{File}
 use Rattle.sys_objects.specs.declared.records.Config.{Config}
 use Rattle.sys_objects.specs.declared.records.GuestRow.{GuestRow}
 use Rattle.sys_script.specs.declared.event.Event.{Event}
-use Rattle.vv_commands.specs.Files.{AreImages, HasAll, HasConfig, HasScript, IsRead, IsScriptRefused, StopsAudit, StopsConfig, StopsFile, StopsRun}
+use Rattle.vv_commands.specs.Files.{AreImages, HasAll, HasAllToSave, HasBoth, HasConfig, HasScript, HasSnap, IsRead, IsScriptRefused, IsSnapRefused, StopsAudit, StopsConfig, StopsFile, StopsResume, StopsRun, StopsSave}
 use Rattle.vv_commands.specs.Solo.{solo_config}
-use Rattle.vv_commands.specs.Words.{Asked, AuditAsked, RunAsked}
+use Rattle.vv_commands.specs.Words.{Asked, AuditAsked, ResumeAsked, RunAsked}
 use Rattle.vv_commands.specs.declared.fetching.Inputs.{Inputs}
+use Rattle.vv_commands.specs.declared.fetching.InputsToResume.{InputsToResume}
+use Rattle.vv_commands.specs.declared.fetching.InputsToSave.{InputsToSave}
+use Rattle.vv_commands.specs.declared.fetching.Read.{Read}
 use Rattle.vv_commands.specs.declared.fetching.Recorded.{Recorded}
 use Rattle.vv_commands.specs.declared.stop.Stop.{Stop}
-use Rattle.vv_commands.specs.declared.stop.Stop.TheVariants.{Missing, TooLong, ShelfFault, Config as ConfigRefused, Script as ScriptRefused, NoMemory}
+use Rattle.vv_commands.specs.declared.stop.Stop.TheVariants.{Missing, TooLong, ShelfFault, Config as ConfigRefused, Script as ScriptRefused, Snap as SnapRefused, NoMemory}
 
 abbrev pub FetchesFile : Option (List File) → List ℕ → ℕ → ℕ → Result (Vec ℕ Global) Stop → Type 0
 FetchesFile files name before now (Ok bytes) = IsRead files name bytes.items × (now ≡ before)
 FetchesFile files name before now (Err stop) = StopsFile files name before now stop
+
+-- a configuration, and the text of the file
+abbrev pub FetchesText : Option (List File) → List ℕ → ℕ → ℕ → Result Read Stop → Type 0
+FetchesText files name before now (Ok x) = IsRead files name x.text.items × (config_of x.text.items ≡ results.Ok x.config) × (now ≡ before)
+FetchesText files name before now (Err stop) = StopsConfig files name before now stop
 
 abbrev pub FetchesConfig : Option (List File) → List ℕ → ℕ → ℕ → Result Config Stop → Type 0
 FetchesConfig files name before now (Ok c) = HasConfig files name c × (now ≡ before)
@@ -54,6 +68,32 @@ FetchesImages files rows before now (Err stop) = StopsAtImages files rows before
 abbrev pub FetchesRun : Option (List File) → RunAsked → ℕ → ℕ → Result Inputs Stop → Type 0
 FetchesRun files a before now (Ok x) = HasAll files a x.config x.events.items (map (λ b. b.items) x.images.items) × (now ≡ before)
 FetchesRun files a before now (Err stop) = StopsRun files a before now stop
+
+-- a run that is to be saved: as a run's, and the text of its configuration is kept
+abbrev pub FetchesSave : Option (List File) → RunAsked → ℕ → ℕ → Result InputsToSave Stop → Type 0
+FetchesSave files a before now (Ok x) = HasAllToSave files a x.text.items x.inputs.config x.inputs.events.items (map (λ b. b.items) x.inputs.images.items) × (now ≡ before)
+FetchesSave files a before now (Err stop) = StopsSave files a before now stop
+
+-- the moment of which bytes are a snapshot; or they are none, or memory ran out
+abbrev pub MeansSnap : List ℕ → Result Snap Stop → Type 0
+MeansSnap bytes (Ok snap) = IsSnap bytes (moment_of snap)
+MeansSnap bytes (Err (SnapRefused f)) = snap_in bytes ≡ results.Err f
+MeansSnap bytes (Err NoMemory) = Unit {0}
+MeansSnap bytes (Err stop) = ⊥
+
+-- why a file gives no snapshot
+abbrev pub StopsSnap : Option (List File) → List ℕ → ℕ → ℕ → Stop → Type 0
+StopsSnap files name before now (SnapRefused f) = IsSnapRefused files name f × (now ≡ before)
+StopsSnap files name before now stop = StopsFile files name before now stop
+
+abbrev pub FetchesSnap : Option (List File) → List ℕ → ℕ → ℕ → Result Snap Stop → Type 0
+FetchesSnap files name before now (Ok snap) = HasSnap files name (moment_of snap) × (now ≡ before)
+FetchesSnap files name before now (Err stop) = StopsSnap files name before now stop
+
+-- a run that goes on: snapshot and script were fetched
+abbrev pub FetchesResume : Option (List File) → ResumeAsked → ℕ → ℕ → Result InputsToResume Stop → Type 0
+FetchesResume files a before now (Ok x) = HasBoth files a (moment_of x.snap) x.events.items × (now ≡ before)
+FetchesResume files a before now (Err stop) = StopsResume files a before now stop
 
 -- the run of one guest: its image was fetched
 abbrev pub FetchesSolo : Option (List File) → Asked → ℕ → ℕ → Result Inputs Stop → Type 0

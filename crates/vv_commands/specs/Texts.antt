@@ -8,7 +8,7 @@ use Rattle.sys_system.specs.declared.parts.Device.{Device}
 use Rattle.sys_system.specs.declared.parts.Device.TheVariants as devices
 use Rattle.vasm_files.specs.Texts.{fault_text}
 use Rattle.vv_commands.specs.declared.status.Status.{Status}
-use Rattle.vv_commands.specs.declared.status.Status.TheVariants.{Done, Words, Missing, TooLong, ShelfFault, Config as ConfigRefused, Script as ScriptRefused, Image, VolumeSize, DriveIn, Device as DeviceFault, Asm, Audit, OutFault, NoMemory}
+use Rattle.vv_commands.specs.declared.status.Status.TheVariants.{Done, Words, Missing, TooLong, ShelfFault, Config as ConfigRefused, Script as ScriptRefused, Image, VolumeSize, DriveIn, Device as DeviceFault, Asm, SnapSize, Snap, Audit, OutFault, NoMemory}
 
 abbrev pub device_text : Device → List ℕ
 device_text (devices.Line n) = codes "device line " ++ decimal n
@@ -42,6 +42,8 @@ text_of OutFault = codes "output fault"
 text_of NoMemory = codes "no memory"
 text_of (TooLong name) = codes "too long " ++ name
 text_of (Asm f) = fault_text f
+text_of SnapSize = codes "snapshot size"
+text_of (Snap f) = codes "snapshot at " ++ decimal f.place
 text_of (Audit f) = codes "audit line " ++ decimal f.line
 
 abbrev pub code_of : Status → ℕ
@@ -59,4 +61,6 @@ code_of OutFault = 11
 code_of NoMemory = 12
 code_of (TooLong name) = 13
 code_of (Asm f) = 15
+code_of SnapSize = 16
+code_of (Snap f) = 17
 code_of (Audit f) = 18

@@ -5,16 +5,22 @@ use Rattle.std.specs.Option.{option_map}
 use Rattle.vv_base.specs.Digits.{decimal_of}
 use Rattle.vv_base.specs.Names.{is_file_name}
 use Rattle.vv_commands.specs.declared.words.Request.{Request}
-use Rattle.vv_commands.specs.declared.words.Request.TheVariants.{Solo, Run, Load, Check, Migrate, Audit, Flow, Draw, Asm, Dis}
+use Rattle.vv_commands.specs.declared.words.Request.TheVariants.{Solo, Run, Save, Resume, Load, Check, Migrate, Audit, Flow, Draw, Asm, Dis}
 
 -- `solo IMAGE STEPS`
 pub record Asked : Type 0 where
   pub image : List ℕ
   pub steps : ℕ
 
--- `run CONFIG SCRIPT ROUNDS`
+-- `run CONFIG SCRIPT ROUNDS`, and `save` likewise
 pub record RunAsked : Type 0 where
   pub config : List ℕ
+  pub script : List ℕ
+  pub rounds : ℕ
+
+-- `resume SNAP SCRIPT ROUNDS`
+pub record ResumeAsked : Type 0 where
+  pub snap : List ℕ
   pub script : List ℕ
   pub rounds : ℕ
 
@@ -27,6 +33,8 @@ pub record AuditAsked : Type 0 where
 pub data Wanted : Type 0 where
   WantsSolo : Asked → Wanted
   WantsRun : RunAsked → Wanted
+  WantsSave : RunAsked → Wanted
+  WantsResume : ResumeAsked → Wanted
   WantsLoad : ℕ → Wanted
   WantsCheck : List ℕ → Wanted
   WantsMigration : List ℕ → Wanted
@@ -79,22 +87,35 @@ unfoldable pub two_wanted : List ℕ → List ℕ → List ℕ → Option Wanted
 two_wanted command first second =
     if is_word command (codes "audit") then option_map (λ a. WantsAudit a) (audit_asked command first second) else option_map (λ a. WantsSolo a) (solo_asked command first second)
 
--- `run`, two files' names, and a number to 1,000,000
-abbrev pub run_asked : List ℕ → List ℕ → List ℕ → List ℕ → Option RunAsked
-run_asked command config script rounds =
-    if is_word command (codes "run") && is_file_name config && is_file_name script then option_map (λ n. record { config = config; script = script; rounds = n }) (number_in rounds 1000000) else None
+-- two files' names, and a number to 1,000,000
+abbrev pub run_asked : List ℕ → List ℕ → List ℕ → Option RunAsked
+run_asked config script rounds =
+    if is_file_name config && is_file_name script then option_map (λ n. record { config = config; script = script; rounds = n }) (number_in rounds 1000000) else None
+
+abbrev pub resume_asked : List ℕ → List ℕ → List ℕ → Option ResumeAsked
+resume_asked snap script rounds =
+    if is_file_name snap && is_file_name script then option_map (λ n. record { snap = snap; script = script; rounds = n }) (number_in rounds 1000000) else None
+
+-- `run`, `save` or `resume`, and what each is given
+unfoldable pub three_wanted : List ℕ → List ℕ → List ℕ → List ℕ → Option Wanted
+three_wanted command first script rounds =
+    if is_word command (codes "run") then option_map (λ a. WantsRun a) (run_asked first script rounds)
+    else if is_word command (codes "save") then option_map (λ a. WantsSave a) (run_asked first script rounds)
+    else if is_word command (codes "resume") then option_map (λ a. WantsResume a) (resume_asked first script rounds) else None
 
 -- what the words ask for, if they are of a form
 abbrev pub wanted : List (List ℕ) → Option Wanted
 wanted (command ∷ word ∷ []) = word_wanted command word
 wanted (command ∷ first ∷ second ∷ []) = two_wanted command first second
-wanted (command ∷ config ∷ script ∷ rounds ∷ []) = option_map (λ a. WantsRun a) (run_asked command config script rounds)
+wanted (command ∷ first ∷ script ∷ rounds ∷ []) = three_wanted command first script rounds
 wanted words = None
 
 -- a request, as what is wanted
 abbrev pub wanted_by : Request → Wanted
 wanted_by (Solo order) = WantsSolo (record { image = order.image; steps = order.steps })
 wanted_by (Run order) = WantsRun (record { config = order.config; script = order.script; rounds = order.rounds })
+wanted_by (Save order) = WantsSave (record { config = order.config; script = order.script; rounds = order.rounds })
+wanted_by (Resume order) = WantsResume (record { snap = order.snap; script = order.script; rounds = order.rounds })
 wanted_by (Load number) = WantsLoad number
 wanted_by (Check file) = WantsCheck file
 wanted_by (Migrate file) = WantsMigration file
@@ -108,4 +129,6 @@ wanted_by (Dis image) = WantsText image
 abbrev pub IsInRange : Request → Type 0
 IsInRange (Solo order) = (is_file_name order.image ≡ true) × (1 ≤ order.steps) × (order.steps ≤ 100000)
 IsInRange (Run order) = (1 ≤ order.rounds) × (order.rounds ≤ 1000000)
+IsInRange (Save order) = (1 ≤ order.rounds) × (order.rounds ≤ 1000000)
+IsInRange (Resume order) = (1 ≤ order.rounds) × (order.rounds ≤ 1000000)
 IsInRange request = Unit {0}

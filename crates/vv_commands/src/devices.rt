@@ -23,6 +23,8 @@ pub fn devices_of(words: &[String]) -> Devices
         Some(Request::Solo(_)) => Devices::Lines,
         Some(Request::Load(_)) => Devices::Lines,
         Some(Request::Run(_)) => Devices::LinesAndDrives,
+        Some(Request::Save(_)) => Devices::LinesAndDrives,
+        Some(Request::Resume(_)) => Devices::LinesAndDrives,
         _ => Devices::Nothing,
     }
 }

@@ -7,6 +7,7 @@ mod fetching;
 mod loading;
 mod playing;
 mod report;
+mod snaps;
 mod solo;
 mod status;
 mod stop;

@@ -23,7 +23,7 @@ fn put_once<O: Sink>(out: &mut O, bytes: &[u8]) -> Result<(), SinkFault>
 }
 
 /// The answer where all was done.
-fn done_status(failed: Option<Device>, is_cut: bool) -> Status
+pub fn done_status(failed: Option<Device>, is_cut: bool) -> Status
     ensures { result ≡ done_status failed is_cut }
 {
     match failed {
@@ -43,7 +43,7 @@ pub fn close<O: Sink>(failed: Option<Device>, bytes: &[u8], out: &mut O) -> Stat
 
 /// Puts the summary of a run, if it was made, and answers.
 pub fn answer<O: Sink>(rounds: u32, ran: Result<Ran, PowerFault>, out: &mut O) -> Status
-    requires { IfOk ran (λ r. steps_in r.counts ≤ 1600000000000) }
+    requires { IfOk ran (λ r. steps_in r.counts ≤ 3200000000000) }
     ensures { Answers rounds ran result (O.printed out.old) (O.printed out.new) }
 {
     match ran {

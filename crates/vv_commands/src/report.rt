@@ -41,7 +41,7 @@ fn end(text: &mut Line, trail: u64)
 
 /// The steps of every kind.
 fn all_steps(counts: &Counts) -> u64
-    requires { steps_in counts.now ≤ 1600000000000 }
+    requires { steps_in counts.now ≤ 3200000000000 }
     ensures { result ≡ steps_in counts.now }
 {
     counts.plain
@@ -55,7 +55,7 @@ fn all_steps(counts: &Counts) -> u64
 
 /// The line of a run's summary.
 pub fn summary(rounds: u32, counts: &Counts) -> Line
-    requires { steps_in counts.now ≤ 1600000000000 }
+    requires { steps_in counts.now ≤ 3200000000000 }
     ensures { result ≡ summary rounds (tally_of counts.now) }
 {
     let mut text = Text::new();

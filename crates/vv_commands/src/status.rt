@@ -4,6 +4,7 @@ ghost use Rattle.vv_commands.specs.Texts.{code_of, config_text, device_text, kin
 use sys_audit_check::AuditFault;
 use sys_objects::ConfigFault;
 use sys_script::{ScriptFault, ScriptKind};
+use sys_snap::SnapFault;
 use sys_system::Device;
 use vasm_files::fault_text;
 use vasm_text::AsmFault;
@@ -36,6 +37,10 @@ pub enum Status {
     Device(Device),
     /// A line of the source is refused.
     Asm(AsmFault),
+    /// A snapshot would have too many bytes.
+    SnapSize,
+    /// The bytes of a file are no snapshot.
+    Snap(SnapFault),
     /// The bytes through a line are no audit of the configuration.
     Audit(AuditFault),
     /// The summary, bytes or text couldn't be put.
@@ -153,6 +158,8 @@ pub fn status_text(s: &Status) -> Text<96>
         Status::DriveIn(drive) => numbered(b"drive ", u64::from(*drive)),
         Status::Device(device) => device_text(*device),
         Status::Asm(fault) => fault_text(fault),
+        Status::SnapSize => worded(b"snapshot size"),
+        Status::Snap(fault) => numbered(b"snapshot at ", u64::from(fault.place)),
         Status::Audit(fault) => numbered(b"audit line ", u64::from(fault.line)),
         Status::OutFault => worded(b"output fault"),
         Status::NoMemory => worded(b"no memory"),
@@ -178,6 +185,8 @@ pub fn status_code(s: &Status) -> u8
         Status::NoMemory => 12,
         Status::TooLong(_) => 13,
         Status::Asm(_) => 15,
+        Status::SnapSize => 16,
+        Status::Snap(_) => 17,
         Status::Audit(_) => 18,
     }
 }

@@ -5,6 +5,7 @@ use crate::status::Status;
 use std::alloc::{AllocError, AllocFailed};
 use sys_objects::{ConfigError, ConfigFault};
 use sys_script::{ScriptError, ScriptFault};
+use sys_snap::SnapFault;
 use sys_system::PowerFault;
 use vv_base::{FileName, NoMemory};
 
@@ -21,6 +22,10 @@ pub enum Stop {
     Config(ConfigFault),
     /// A line of the script is refused.
     Script(ScriptFault),
+    /// A snapshot would have too many bytes.
+    SnapSize,
+    /// The bytes of a file are no snapshot.
+    Snap(SnapFault),
     /// Memory ran out.
     NoMemory,
 }
@@ -65,6 +70,8 @@ pub fn stopped_status(stop: Stop) -> Status
         Stop::ShelfFault => Status::ShelfFault,
         Stop::Config(fault) => Status::Config(fault),
         Stop::Script(fault) => Status::Script(fault),
+        Stop::SnapSize => Status::SnapSize,
+        Stop::Snap(fault) => Status::Snap(fault),
         Stop::NoMemory => Status::NoMemory,
     }
 }

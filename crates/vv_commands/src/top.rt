@@ -9,6 +9,7 @@ use crate::fetching::{Inputs, fetch_audit, fetch_config, fetch_file, fetch_run};
 use crate::loading::load;
 use crate::playing::{close, play};
 use crate::report::check_line;
+use crate::snaps::{resume, save};
 use crate::solo::solo_config;
 use crate::status::Status;
 use crate::stop::{Stop, stopped_status};
@@ -186,6 +187,8 @@ pub fn vvmm_run<H: Hardware, S: Shelf, O: Sink>(
         None => Status::Words,
         Some(Request::Solo(order)) => solo(alloc, order, shelf, machine, lines, drives, out),
         Some(Request::Run(order)) => run(alloc, order, shelf, machine, lines, drives, out),
+        Some(Request::Save(order)) => save(alloc, order, shelf, machine, lines, drives, out),
+        Some(Request::Resume(order)) => resume(alloc, order, shelf, machine, lines, drives, out),
         Some(Request::Load(number)) => load(alloc, number, machine, lines, out),
         Some(Request::Check(name)) => check(alloc, &name, shelf, out),
         Some(Request::Migrate(name)) => migrate(alloc, &name, shelf, out),

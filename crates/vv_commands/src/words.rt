@@ -1,7 +1,7 @@
 ghost use Rattle.std.specs.Prelude.{◌≡◌, ◌≤◌, ℕ, map, string_bytes, true, IfSome};
 ghost use Rattle.std.specs.Option.{option_map};
 ghost use Rattle.vv_base.specs.Names.{is_file_name};
-ghost use Rattle.vv_commands.specs.Words.{IsInRange, file_wanted, number_in, run_asked, audit_asked, solo_asked, two_wanted, wanted, wanted_by, word_wanted};
+ghost use Rattle.vv_commands.specs.Words.{IsInRange, file_wanted, number_in, resume_asked, run_asked, audit_asked, solo_asked, three_wanted, two_wanted, wanted, wanted_by, word_wanted};
 
 use vv_base::{FileName, file_name, read_decimal};
 
@@ -12,10 +12,18 @@ pub struct Order {
     pub steps: u32,
 }
 
-/// What `run CONFIG SCRIPT ROUNDS` asks for.
+/// What `run CONFIG SCRIPT ROUNDS` asks for, and `save` likewise.
 #[derive(Drop)]
 pub struct RunOrder {
     pub config: FileName,
+    pub script: FileName,
+    pub rounds: u32,
+}
+
+/// What `resume SNAP SCRIPT ROUNDS` asks for.
+#[derive(Drop)]
+pub struct ResumeOrder {
+    pub snap: FileName,
     pub script: FileName,
     pub rounds: u32,
 }
@@ -34,6 +42,10 @@ pub enum Request {
     Solo(Order),
     /// A configuration's run.
     Run(RunOrder),
+    /// A configuration's run, whose last moment is shown as a snapshot.
+    Save(RunOrder),
+    /// The run that goes on from a snapshot.
+    Resume(ResumeOrder),
     /// The run of the workload drawn from a number.
     Load(u32),
     /// A configuration, counted.
@@ -102,14 +114,11 @@ fn two_request(command: &[u8], first: &[u8], second: &[u8]) -> Option<Request>
     Some(Request::Solo(order))
 }
 
-/// What `run CONFIG SCRIPT ROUNDS` asks for, if the words are of the form.
-fn run_order(command: &[u8], config: &[u8], script: &[u8], rounds: &[u8]) -> Option<RunOrder>
+/// What `run` and `save` are given, if the words are of the form.
+fn run_order(config: &[u8], script: &[u8], rounds: &[u8]) -> Option<RunOrder>
     ensures range { IfSome result (λ o. (1 ≤ o.rounds) × (o.rounds ≤ 1000000)) }
-    ensures asked { option_map (λ o. record { config = o.config; script = o.script; rounds = o.rounds }) result ≡ run_asked command.now config.now script.now rounds.now }
+    ensures asked { option_map (λ o. record { config = o.config; script = o.script; rounds = o.rounds }) result ≡ run_asked config.now script.now rounds.now }
 {
-    if command != b"run".as_slice() {
-        return None;
-    }
     let config = file_name(config)?;
     let script = file_name(script)?;
     let rounds = number_in(rounds, 1_000_000)?;
@@ -118,6 +127,38 @@ fn run_order(command: &[u8], config: &[u8], script: &[u8], rounds: &[u8]) -> Opt
         script,
         rounds,
     })
+}
+
+/// What `resume` is given, if the words are of the form.
+fn resume_order(snap: &[u8], script: &[u8], rounds: &[u8]) -> Option<ResumeOrder>
+    ensures range { IfSome result (λ o. (1 ≤ o.rounds) × (o.rounds ≤ 1000000)) }
+    ensures asked { option_map (λ o. record { snap = o.snap; script = o.script; rounds = o.rounds }) result ≡ resume_asked snap.now script.now rounds.now }
+{
+    let snap = file_name(snap)?;
+    let script = file_name(script)?;
+    let rounds = number_in(rounds, 1_000_000)?;
+    Some(ResumeOrder {
+        snap,
+        script,
+        rounds,
+    })
+}
+
+/// What a command with three words behind it asks for, if the words are of a form.
+#[tactic(auto, unfolding(crate::specs::Words::three_wanted))]
+fn three_request(command: &[u8], first: &[u8], script: &[u8], rounds: &[u8]) -> Option<Request>
+    ensures range { IfSome result (λ r. IsInRange r) }
+    ensures wanted { option_map (λ r. wanted_by r) result ≡ three_wanted command.now first.now script.now rounds.now }
+{
+    if command == b"run".as_slice() {
+        Some(Request::Run(run_order(first, script, rounds)?))
+    } else if command == b"save".as_slice() {
+        Some(Request::Save(run_order(first, script, rounds)?))
+    } else if command == b"resume".as_slice() {
+        Some(Request::Resume(resume_order(first, script, rounds)?))
+    } else {
+        None
+    }
 }
 
 /// What a command with one file asks for, if the words are of a form.
@@ -165,15 +206,12 @@ pub fn parse(words: &[String]) -> Option<Request>
         [command, first, second] => {
             two_request(command.as_bytes(), first.as_bytes(), second.as_bytes())
         }
-        [command, config, script, rounds] => {
-            let order = run_order(
-                command.as_bytes(),
-                config.as_bytes(),
-                script.as_bytes(),
-                rounds.as_bytes(),
-            )?;
-            Some(Request::Run(order))
-        }
+        [command, first, script, rounds] => three_request(
+            command.as_bytes(),
+            first.as_bytes(),
+            script.as_bytes(),
+            rounds.as_bytes(),
+        ),
         _ => None,
     }
 }

@@ -8,6 +8,7 @@ use Rattle.vv_edge.specs.declared.stat.Flaw.TheVariants.{Link}
 use Rattle.vv_program.specs.Asked.{text_asked, words_status}
 use Rattle.vv_program.specs.Ends.{end_text}
 use Rattle.vv_program.specs.Serves.{synced_status}
+use Rattle.vv_program.specs.declared.asked.TheConstants.{HELP}
 
 two_words_are_no_text : text_asked (codes "--help" ∷ codes "--version" ∷ []) ≡ None
 two_words_are_no_text = refl
@@ -24,7 +25,10 @@ no_room_for_words = refl
 nothing_to_tell : end_text Done (None ∷ Some (record { number = 3; flaw = Link }) ∷ []) ≡ []
 nothing_to_tell = refl
 
-no_notes : end_text Words (None ∷ Some (record { number = 3; flaw = Link }) ∷ []) ≡ (codes "vvmm: " ++ codes "bad words") ++ 10 ∷ []
+the_forms : end_text Words (None ∷ Some (record { number = 3; flaw = Link }) ∷ []) ≡ ((codes "vvmm: " ++ codes "bad words") ++ 10 ∷ []) ++ HELP.now
+the_forms = refl
+
+no_notes : end_text OutFault (None ∷ Some (record { number = 3; flaw = Link }) ∷ []) ≡ (codes "vvmm: " ++ codes "output fault") ++ 10 ∷ []
 no_notes = refl
 
 a_drive_and_its_note : end_text (DriveIn 3) (None ∷ Some (record { number = 3; flaw = Link }) ∷ []) ≡ ((codes "vvmm: " ++ (codes "drive " ++ decimal 3)) ++ 10 ∷ []) ++ (note_of (record { number = 3; flaw = Link }) ++ [])

@@ -12,6 +12,9 @@ pub const HELP: &str =
 vvmm run CONFIG SCRIPT ROUNDS  runs the guests of the configuration CONFIG for ROUNDS rounds, 1 to
                                1000000, with what the file SCRIPT types at terminals; line k is the
                                file linekk.out, drive k the file drivekk.vol
+vvmm save CONFIG SCRIPT ROUNDS makes the rounds of run, and shows what the system is after them, as a
+                               snapshot; drives stay as they are
+vvmm resume SNAP SCRIPT ROUNDS goes on from the snapshot SNAP for ROUNDS rounds more, and ends as run does
 vvmm load NUMBER               runs the workload that is drawn from NUMBER, 0 to 4294967295: eight guests
                                in 20 rounds, on volumes of its own
 vvmm check CONFIG              reads a configuration, and shows how many objects it has
@@ -26,7 +29,7 @@ vvmm --version                 prints the version
 ";
 
 /// What `--version` shows.
-pub const VERSION: &str = "vvmm 0.1.0\n";
+pub const VERSION: &str = "vvmm 0.2.0\n";
 
 /// The text that the words ask for by themselves.
 pub fn text_asked(words: &[String]) -> Option<&'static str>

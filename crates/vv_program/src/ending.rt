@@ -3,6 +3,7 @@ ghost use Rattle.vv_commands.specs.Texts.{code_of};
 ghost use Rattle.vv_edge.specs.Notes.{notes_of};
 ghost use Rattle.vv_program.specs.Ends.{Tells, end_text, is_of_drives, report_of};
 
+use crate::asked::HELP;
 use vv_base::Text;
 use vv_commands::{Status, close, status_code, status_text};
 use vv_edge::{FlawedDrive, notes};
@@ -40,11 +41,14 @@ fn is_of_drives(status: &Status) -> bool
     matches!(status, Status::VolumeSize(_) | Status::DriveIn(_))
 }
 
-/// What is told of an answer, and of drives that can't be used where it is about drives.
+/// What is told of an answer: the forms where the words are of none, and drives that can't be used where it is about drives.
 fn end_text(status: &Status, flawed: &[Option<FlawedDrive>; 16]) -> End
     ensures { result ≡ end_text status.now flawed.now }
 {
     let mut text = report(status);
+    if matches!(status, Status::Words) {
+        append(&mut text, HELP.as_bytes());
+    }
     if is_of_drives(status) {
         append(&mut text, notes(flawed).bytes());
     }

@@ -118,12 +118,17 @@ fn lines_and_drives_are_files_of_these_names(rt: HostRuntime) -> Result<(), Fail
 }
 
 /// The words that follow `vvmm` in each form.
-const FORMS: [&str; 9] = [
+const FORMS: [&str; 14] = [
     "solo IMAGE STEPS",
     "run CONFIG SCRIPT ROUNDS",
+    "save CONFIG SCRIPT ROUNDS",
+    "resume SNAP SCRIPT ROUNDS",
     "load NUMBER",
     "check CONFIG",
     "migrate CONFIG",
+    "audit CONFIG RECORD",
+    "flow CONFIG",
+    "draw CONFIG",
     "asm SOURCE",
     "dis IMAGE",
     "--help",

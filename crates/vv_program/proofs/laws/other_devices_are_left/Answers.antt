@@ -1,5 +1,5 @@
 use Rattle.std.proofs.Common.{inl, inr, Some, None}
-use Rattle.vv_commands.specs.Words.{WantsSolo, WantsRun, WantsLoad, WantsCheck, WantsMigration, WantsAudit, WantsFlow, WantsDrawing, WantsBytes, WantsText}
+use Rattle.vv_commands.specs.Words.{WantsSolo, WantsRun, WantsSave, WantsResume, WantsLoad, WantsCheck, WantsMigration, WantsAudit, WantsFlow, WantsDrawing, WantsBytes, WantsText}
 use Rattle.vv_program.specs.Laws.{LeavesOthers}
 use Rattle.vv_program.proofs.laws.other_devices_are_left.Goals as goal
 
@@ -8,6 +8,8 @@ leaves None status o (is, apart, out) = (apart.lines, apart.drives)
 leaves (Some (WantsSolo a)) status o (inl (stops, silent)) = silent.run.drives
 leaves (Some (WantsSolo a)) status o (inr plays) = plays.drives
 leaves (Some (WantsRun a)) status o says = tt
+leaves (Some (WantsSave a)) status o says = tt
+leaves (Some (WantsResume a)) status o says = tt
 leaves (Some (WantsLoad number)) status o (inl (is, untouched, out), shelf) = untouched.drives
 leaves (Some (WantsLoad number)) status o (inr plays, shelf) = plays.made.drives
 leaves (Some (WantsCheck name)) status o (follows, apart) = (apart.lines, apart.drives)

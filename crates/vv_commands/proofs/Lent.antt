@@ -1,0 +1,24 @@
+-- A run that is saved or goes on is given slices of what was fetched.
+use Rattle.std.proofs.Common.{ℕ, ◌≡◌, List, map, subst, Result, Vec, Global}
+use Rattle.vv_io.specs.Lines.{Seen}
+use Rattle.sys_objects.specs.declared.records.Config.{Config}
+use Rattle.sys_rounds.specs.Run.{Moment}
+use Rattle.sys_runs.specs.Ran.{Outside}
+use Rattle.sys_runs.specs.Saved.{GoesOn, SavesRun}
+use Rattle.sys_runs.specs.declared.running.Ran.{Ran}
+use Rattle.sys_runs.specs.declared.saving.Saved.{Saved}
+use Rattle.sys_script.specs.declared.event.Event.{Event}
+use Rattle.sys_system.specs.declared.power.PowerFault.{PowerFault}
+
+abbrev items : Vec ℕ Global → List ℕ
+items v = v.items
+
+pub saves_over : (c : Config) (text text' : List ℕ) (images images' : List (Vec ℕ Global)) (es es' : List Event) (n : ℕ) (result : Result Saved PowerFault) (o : Outside) (out out' : Seen) → text ≡ text' → images ≡ images' → es ≡ es'
+    → SavesRun c text (map items images) es n result o out out' → SavesRun c text' (map items images') es' n result o out out'
+saves_over c text text' images images' es es' n result o out out' are_text are_images are_events saves =
+    subst (λ (bytes : List ℕ). SavesRun c bytes (map items images') es' n result o out out') are_text
+    (subst (λ (xs : List (Vec ℕ Global)). SavesRun c text (map items xs) es' n result o out out') are_images
+    (subst (λ (xs : List Event). SavesRun c text (map items images) xs n result o out out') are_events saves))
+
+pub goes_over : (m : Moment) (es es' : List Event) (n : ℕ) (result : Result Ran PowerFault) (o : Outside) → es ≡ es' → GoesOn m es n result o → GoesOn m es' n result o
+goes_over m es es' n result o are_events goes_on = subst (λ (xs : List Event). GoesOn m xs n result o) are_events goes_on
