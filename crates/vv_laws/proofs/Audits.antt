@@ -14,7 +14,7 @@ use Rattle.vv_commands.specs.Files.{HasConfig, IsConfigRefused, IsNextOfAudit, I
 use Rattle.vv_commands.specs.Words.{AuditAsked}
 use Rattle.vv_commands.specs.declared.status.Status.{Status}
 use Rattle.vv_commands.specs.declared.stop.Stop.{Stop}
-use Rattle.vv_commands.specs.declared.stop.Stop.TheVariants.{Missing, TooLong, ShelfFault, Config as ConfigRefused, Script as ScriptRefused, NoMemory}
+use Rattle.vv_commands.specs.declared.stop.Stop.TheVariants.{Missing, TooLong, ShelfFault, Config as ConfigRefused, Script as ScriptRefused, SnapSize, Snap as SnapRefused, NoMemory}
 use Rattle.vv_laws.proofs.Played.{closes_served}
 use Rattle.vv_laws.proofs.Told.{Unread, lacked, not_config, not_long, one_config, one_rule, one_text, read_as, too_long}
 use Rattle.vv_laws.specs.Complete.{CompletesAudit, IsLong, IsMissing, IsServed, IsTooLong, TellsAuditLine, TellsAuditMissing, TellsAuditRule, TellsAuditTooLong, TellsFirstBad, TellsRule}
@@ -44,6 +44,8 @@ module _ (files : List File) (a : AuditAsked) (before now : ℕ) (none : Rose be
   served_stop ShelfFault c bytes rose has read = absurd (none rose)
   served_stop (ConfigRefused f) c bytes (refused, kept) has read = absurd (not_config files a.config c f has refused)
   served_stop (ScriptRefused f) c bytes h has read = absurd h
+  served_stop SnapSize c bytes h has read = absurd h
+  served_stop (SnapRefused f) c bytes h has read = absurd h
   served_stop NoMemory c bytes h has read = refl
 
   missing_stop : (stop : Stop) (name : List ℕ) → StopsAudit (Some files) a before now stop → IsNextOfAudit (Some files) a name → held files name ≡ None → IsMissing name (stopped_status stop)
@@ -52,6 +54,8 @@ module _ (files : List File) (a : AuditAsked) (before now : ℕ) (none : Rose be
   missing_stop ShelfFault name rose mine lack = none rose
   missing_stop (ConfigRefused f) name (refused, kept) mine lack = rule_read files a name f refused mine (lacked files name lack)
   missing_stop (ScriptRefused f) name h mine lack = h
+  missing_stop SnapSize name h mine lack = h
+  missing_stop (SnapRefused f) name h mine lack = h
   missing_stop NoMemory name h mine lack = tt
 
   long_stop : (stop : Stop) (name : List ℕ) → StopsAudit (Some files) a before now stop → IsNextOfAudit (Some files) a name → IsLong files name → IsTooLong name (stopped_status stop)
@@ -60,6 +64,8 @@ module _ (files : List File) (a : AuditAsked) (before now : ℕ) (none : Rose be
   long_stop ShelfFault name rose mine long = none rose
   long_stop (ConfigRefused f) name (refused, kept) mine long = rule_read files a name f refused mine (too_long files name long)
   long_stop (ScriptRefused f) name h mine long = h
+  long_stop SnapSize name h mine long = h
+  long_stop (SnapRefused f) name h mine long = h
   long_stop NoMemory name h mine long = tt
 
   rule_stop : (stop : Stop) (f : ConfigFault) → StopsAudit (Some files) a before now stop → IsConfigRefused (Some files) a.config f → TellsRule f (stopped_status stop)
@@ -68,6 +74,8 @@ module _ (files : List File) (a : AuditAsked) (before now : ℕ) (none : Rose be
   rule_stop ShelfFault f rose refused = none rose
   rule_stop (ConfigRefused g) f (other, kept) refused = one_rule files a.config g f other refused
   rule_stop (ScriptRefused g) f h refused = h
+  rule_stop SnapSize f h refused = h
+  rule_stop (SnapRefused g) f h refused = h
   rule_stop NoMemory f h refused = tt
 
 -- the shelf tells its files

@@ -8,3 +8,6 @@ pub mod Chosen
 pub mod Shown
 pub mod Audits
 pub mod Steps
+pub mod Joined
+pub mod Saves
+pub mod Resumes

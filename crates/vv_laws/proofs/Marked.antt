@@ -39,7 +39,8 @@ marked_at (false ∷ marks) k e = by (first_marked marks) k (λ n. marked_at mar
     by (Some n) zero rest e = cc
     by (Some n) (suc k) rest e = rest k (cc (e))
 
-none_marked : (marks : List Bool) (k : ℕ) → first_marked marks ≡ None → slice_index_or marks k false ≡ false
+-- where none is, none is marked
+pub none_marked : (marks : List Bool) (k : ℕ) → first_marked marks ≡ None → slice_index_or marks k false ≡ false
 none_marked [] k e = refl
 none_marked (true ∷ marks) k e = cc
 none_marked (false ∷ marks) zero e = refl
@@ -63,8 +64,12 @@ none_before (false ∷ marks) first (suc k) e h = by (first_marked marks) first 
 pub line_rose : (marks : List Bool) (lines lines' : List Seen) (f : ℕ → List ℕ) (k : ℕ) → first_marked marks ≡ Some k → Shows [] marks lines lines' f → Rose (line_at lines k).faults (line_at lines' k).faults
 line_rose marks lines lines' f k e shows = (subst (λ b. ShownSince b (line_at lines k) (line_at lines' k) (f k)) (marked_at marks k e) (shows.line k)).0
 
+-- .. and all its bytes are shown
+pub line_whole : (marks : List Bool) (lines lines' : List Seen) (f : ℕ → List ℕ) (k : ℕ) → slice_index_or marks k false ≡ false → Shows [] marks lines lines' f → ShownSince false (line_at lines k) (line_at lines' k) (f k)
+line_whole marks lines lines' f k e shows = subst (λ b. ShownSince b (line_at lines k) (line_at lines' k) (f k)) e (shows.line k)
+
 line_kept : (marks : List Bool) (lines lines' : List Seen) (f : ℕ → List ℕ) (k : ℕ) → slice_index_or marks k false ≡ false → Shows [] marks lines lines' f → (line_at lines' k).faults ≡ (line_at lines k).faults
-line_kept marks lines lines' f k e shows = (subst (λ b. ShownSince b (line_at lines k) (line_at lines' k) (f k)) e (shows.line k)).0
+line_kept marks lines lines' f k e shows = (line_whole marks lines lines' f k e shows).0
 
 -- where no line failed, no count is greater
 pub no_line_greater : (marks : List Bool) (lines lines' : List Seen) (f : ℕ → List ℕ) (k : ℕ) → first_marked marks ≡ None → Shows [] marks lines lines' f → (line_at lines k).faults < (line_at lines' k).faults → ⊥

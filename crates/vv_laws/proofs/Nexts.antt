@@ -32,10 +32,10 @@ same_image files a n m s t none gone =
     let rows : s.row ≡ t.row = first_unread files s.config.guests s.images t.images s.guest t.guest s.row t.row s.before before s.stands stands (subst (Unread files) s.is none) (subst (Unread files) t.is gone) in
     s.is ∙ ap (λ (row : GuestRow). row.image) rows ∙ sym t.is
 
-config_read : (files : List File) (a : RunAsked) (n : List ℕ) (c : Config) → n ≡ a.config → Unread files n → HasConfig (Some files) a.config c → ⊥
+pub config_read : (files : List File) (a : RunAsked) (n : List ℕ) (c : Config) → n ≡ a.config → Unread files n → HasConfig (Some files) a.config c → ⊥
 config_read files a n c same none has = read_as files a.config n has.text same none has.read
 
-script_read : (files : List File) (a : RunAsked) (n : List ℕ) (es : List Event) → n ≡ a.script → Unread files n → HasScript (Some files) a.script es → ⊥
+pub script_read : (files : List File) (a : RunAsked) (n : List ℕ) (es : List Event) → n ≡ a.script → Unread files n → HasScript (Some files) a.script es → ⊥
 script_read files a n es same none has = read_as files a.script n has.text same none has.read
 
 -- two files that are fetched next, and can't be read, are one

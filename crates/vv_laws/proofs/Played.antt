@@ -16,26 +16,26 @@ use Rattle.sys_objects.specs.declared.records.Config.{Config}
 use Rattle.sys_objects.specs.declared.records.VolumeRow.{VolumeRow}
 use Rattle.sys_rounds.proofs.Places.{both}
 use Rattle.sys_rounds.specs.Run.{Moment}
-use Rattle.sys_runs.specs.Ran.{MakesFrom, Outside, Runs, Unshown}
+use Rattle.sys_runs.specs.Ran.{MakesFrom, Outside, Runs, StaysDown, Unshown}
 use Rattle.sys_runs.specs.declared.running.Ran.{Ran}
 use Rattle.sys_script.specs.declared.event.Event.{Event}
 use Rattle.sys_system.specs.Devices.{device_of}
 use Rattle.sys_system.specs.declared.parts.Device.{Device}
 use Rattle.sys_system.specs.declared.power.PowerFault.{PowerFault}
 use Rattle.sys_system.specs.declared.power.PowerFault.TheVariants.{Image, VolumeSize, DriveIn, NoMemory}
-use Rattle.vv_commands.specs.Answer.{Answers, Closes, Plays, done_status}
+use Rattle.vv_commands.specs.Answer.{Answers, Closes, Plays, done_status, power_status}
 use Rattle.vv_commands.specs.declared.status.Status.{Status}
 use Rattle.vv_laws.proofs.Marked.{drive_rose, first_marked, is_there, line_rose, marked_at, no_drive_greater, no_drive_lower, no_line_greater, no_line_lower}
 use Rattle.vv_laws.specs.Complete.{IsImageOf, IsServed, IsSizeOf, NamesDrive, NamesLine, line_at}
 
 -- what is put is shown, where all was done before and the sink's count did not rise
+pub shown_served : (failed : Option Device) (cut : Bool) (bytes : List ℕ) (out out' : Seen) → failed ≡ None → ShownSince cut out out' bytes → (Rose out.faults out'.faults → ⊥) → IsServed (done_status failed cut)
+shown_served (Some device) cut bytes out out' e shows kept = cc
+shown_served None true bytes out out' e shows kept = absurd (kept shows.0)
+shown_served None false bytes out out' e shows kept = tt
+
 pub closes_served : (failed : Option Device) (bytes : List ℕ) (status : Status) (out out' : Seen) → failed ≡ None → Closes failed bytes status out out' → (Rose out.faults out'.faults → ⊥) → IsServed status
-closes_served failed bytes status out out' none c kept = subst (λ (s : Status). IsServed s) (sym c.is) (by failed c.cut none c.shows)
-  where
-    by : (failed : Option Device) (cut : Bool) → failed ≡ None → ShownSince cut out out' bytes → IsServed (done_status failed cut)
-    by (Some device) cut e shows = cc
-    by None true e shows = absurd (kept shows.0)
-    by None false e shows = tt
+closes_served failed bytes status out out' none c kept = subst (λ (s : Status). IsServed s) (sym c.is) (shown_served failed c.cut bytes out out' none c.shows kept)
 
 pub no_device : (line drive : Option ℕ) → ((k : ℕ) → line ≡ Some k → ⊥) → ((d : ℕ) → drive ≡ Some d → ⊥) → device_of line drive ≡ None
 no_device None None lines drives = refl
@@ -43,10 +43,10 @@ no_device None (Some d) lines drives = absurd (drives d refl)
 no_device (Some k) drive lines drives = absurd (lines k refl)
 
 -- where no count rose, no device failed
-abbrev NoLineRose : Outside → Type 0
+abbrev pub NoLineRose : Outside → Type 0
 NoLineRose o = (k : ℕ) → Rose (line_at o.lines k).faults (line_at o.lines' k).faults → ⊥
 
-abbrev NoDriveRose : Outside → Type 0
+abbrev pub NoDriveRose : Outside → Type 0
 NoDriveRose o = (d : ℕ) → Rose (drive_at o.drives d).faults (drive_at o.drives' d).faults → ⊥
 
 none_failed : (m : Moment) (es : List Event) (n : ℕ) (ran : Ran) (o : Outside) → MakesFrom m es n ran o → NoLineRose o → NoDriveRose o → ran.failed ≡ None
@@ -70,7 +70,7 @@ drive_in_rose c drives drives' d accepted failed =
 before_fits : (rows : List VolumeRow) (drives : List Kept) (v w : ℕ) → IsMisfit rows drives v → IsMisfit rows drives w → v < w → ⊥
 before_fits rows drives v w a b low = a.differs (at_stands (FitsDrive drives) (take w rows) v a.row (to_first rows w v a.row low a.stands) b.before)
 
-one_misfit : (rows : List VolumeRow) (drives : List Kept) (v w : ℕ) → IsMisfit rows drives v → IsMisfit rows drives w → v ≡ w
+pub one_misfit : (rows : List VolumeRow) (drives : List Kept) (v w : ℕ) → IsMisfit rows drives v → IsMisfit rows drives w → v ≡ w
 one_misfit rows drives v w a b = by (cases_order v w)
   where
     by : (v ≡ w) ⊎ ((v < w) ⊎ (w < v)) → v ≡ w
@@ -84,67 +84,46 @@ pub named_line : (marks : List Bool) (lines lines' : List Seen) (f : ℕ → Lis
 named_line marks lines lines' f k shows h (Some line) drive cut e = no_line_lower marks lines lines' f line k e shows h
 named_line marks lines lines' f k shows h None drive cut e = absurd (no_line_greater marks lines lines' f k e shows h)
 
-module _ (c : Config) (images : List (List ℕ)) (es : List Event) (rounds : ℕ) (status : Status) (o : Outside) (out out' : Seen) (p : Plays c images es rounds status o out out') where
-  -- images and drives that fit, and no risen count, are served
-  pub plays_served : first_misfit c.guests images ≡ None → All (FitsDrive o.drives) c.volumes → ((d : ℕ) → HasFailed c.volumes o.drives o.drives' d → ⊥) → NoLineRose o → NoDriveRose o → (Rose out.faults out'.faults → ⊥) → IsServed status
-  plays_served fits drives_fit readable lines drives kept = by p.result p.runs p.answers
-    where
-      by : (result : Result Ran PowerFault) → Runs c images es rounds result o → Answers rounds result status out out' → IsServed status
-      by (Ok ran) (volumes, made) closes = closes_served ran.failed _ status out out' (none_failed _ _ _ ran o made.makes lines drives) closes kept
-      by (Err (Image g)) (misfit, rest) answers = cc (misfit, fits)
-      by (Err (VolumeSize v)) (none, misfit, rest) answers = absurd (misfit.differs (at_stands (FitsDrive o.drives) c.volumes v misfit.row misfit.stands drives_fit))
-      by (Err (DriveIn d)) (none, failed, rest) answers = absurd (readable d failed)
-      by (Err NoMemory) rest (answer, same) = subst (λ (s : Status). IsServed s) (sym answer) tt
+-- drives that are as before have no greater count
+pub same_drives : (o : Outside) (d : ℕ) → (drive_at o.drives d).faults < (drive_at o.drives' d).faults → o.drives' ≡ o.drives → ⊥
+same_drives o d h e = omega (arith, h, ap (λ (ks : List Kept). (drive_at ks d).faults) e)
+
+-- Power doesn't come up.
+module _ (c : Config) (images : List (List ℕ)) (o : Outside) where
+  -- .. where images and drives fit, and the drives could be read, for want of memory alone
+  pub down_served : (fault : PowerFault) → StaysDown c images fault o → first_misfit c.guests images ≡ None → All (FitsDrive o.drives) c.volumes → ((d : ℕ) → HasFailed c.volumes o.drives o.drives' d → ⊥) → IsServed (power_status fault)
+  down_served (Image g) (misfit, rest) fits drives_fit readable = cc (misfit, fits)
+  down_served (VolumeSize v) (none, misfit, rest) fits drives_fit readable = absurd (misfit.differs (at_stands (FitsDrive o.drives) c.volumes v misfit.row misfit.stands drives_fit))
+  down_served (DriveIn d) (none, failed, rest) fits drives_fit readable = absurd (readable d failed)
+  down_served NoMemory rest fits drives_fit readable = tt
 
   -- an image that doesn't fit is told, and then a volume whose drive has another size
-  pub plays_image : (g : ℕ) → first_misfit c.guests images ≡ Some g → IsImageOf g status
-  plays_image g first = by p.result p.runs p.answers
+  pub down_image : (fault : PowerFault) → StaysDown c images fault o → (g : ℕ) → first_misfit c.guests images ≡ Some g → IsImageOf g (power_status fault)
+  down_image (Image h) (misfit, rest) g first = cc (misfit, first)
+  down_image (VolumeSize v) (none, other, rest) g first = cc (none, first)
+  down_image (DriveIn d) (none, failed, rest) g first = cc (none, first)
+  down_image NoMemory rest g first = tt
+
+  pub down_size : (fault : PowerFault) → StaysDown c images fault o → (v : ℕ) → first_misfit c.guests images ≡ None → IsMisfit c.volumes o.drives v → ((d : ℕ) → HasFailed c.volumes o.drives o.drives' d → ⊥) → IsSizeOf v (power_status fault)
+  down_size (Image g) (other, rest) v fits misfit readable = cc (other, fits)
+  down_size (VolumeSize w) (none, other, rest) v fits misfit readable = one_misfit c.volumes o.drives w v other misfit
+  down_size (DriveIn d) (none, failed, rest) v fits misfit readable = absurd (readable d failed)
+  down_size NoMemory rest v fits misfit readable = tt
+
+  -- no line was put
+  down_unshown : (fault : PowerFault) → StaysDown c images fault o → Unshown o
+  down_unshown (Image g) (misfit, untouched) = untouched.shown
+  down_unshown (VolumeSize v) (none, misfit, untouched) = untouched.shown
+  down_unshown (DriveIn d) (none, failed, shown) = shown
+  down_unshown NoMemory untouched = untouched.shown
+
+  pub down_line_kept : (fault : PowerFault) → StaysDown c images fault o → (k : ℕ) → (line_at o.lines k).faults < (line_at o.lines' k).faults → ⊥
+  down_line_kept fault down k h = omega (arith, h, ap (λ (ls : List Seen). (line_at ls k).faults) (down_unshown fault down).lines)
+
+  -- a drive whose count is greater is named
+  pub down_names_drive : (fault : PowerFault) → StaysDown c images fault o → (d : ℕ) → (drive_at o.drives d).faults < (drive_at o.drives' d).faults → NamesDrive d (power_status fault)
+  down_names_drive fault down d h = by fault down
     where
-      by : (result : Result Ran PowerFault) → Runs c images es rounds result o → Answers rounds result status out out' → IsImageOf g status
-      by (Ok ran) (volumes, made) closes = absurd (cc (made.fits, first))
-      by (Err (Image h)) (misfit, rest) (answer, same) = let one : h ≡ g = cc (misfit, first) in subst (λ (s : Status). IsImageOf g s) (sym answer) one
-      by (Err (VolumeSize v)) (none, other, rest) answers = cc (none, first)
-      by (Err (DriveIn d)) (none, failed, rest) answers = cc (none, first)
-      by (Err NoMemory) rest (answer, same) = subst (λ (s : Status). IsImageOf g s) (sym answer) tt
-
-  pub plays_size : (v : ℕ) → first_misfit c.guests images ≡ None → IsMisfit c.volumes o.drives v → ((d : ℕ) → HasFailed c.volumes o.drives o.drives' d → ⊥) → IsSizeOf v status
-  plays_size v fits misfit readable = by p.result p.runs p.answers
-    where
-      by : (result : Result Ran PowerFault) → Runs c images es rounds result o → Answers rounds result status out out' → IsSizeOf v status
-      by (Ok ran) (volumes, made) closes = absurd (misfit.differs (at_stands (FitsDrive o.drives) c.volumes v misfit.row misfit.stands made.loaded.fit))
-      by (Err (Image g)) (other, rest) answers = cc (other, fits)
-      by (Err (VolumeSize w)) (none, other, rest) (answer, same) = subst (λ (s : Status). IsSizeOf v s) (sym answer) (one_misfit c.volumes o.drives w v other misfit)
-      by (Err (DriveIn d)) (none, failed, rest) answers = absurd (readable d failed)
-      by (Err NoMemory) rest (answer, same) = subst (λ (s : Status). IsSizeOf v s) (sym answer) tt
-
-  -- after a fault no line was put
-  unshown : (fault : PowerFault) → Runs c images es rounds (Err fault) o → Unshown o
-  unshown (Image g) (misfit, untouched) = untouched.shown
-  unshown (VolumeSize v) (none, misfit, untouched) = untouched.shown
-  unshown (DriveIn d) (none, failed, shown) = shown
-  unshown NoMemory untouched = untouched.shown
-
-  pub plays_names_line : (k : ℕ) → (line_at o.lines k).faults < (line_at o.lines' k).faults → NamesLine k status
-  plays_names_line k h = by p.result p.runs p.answers
-    where
-      by : (result : Result Ran PowerFault) → Runs c images es rounds result o → Answers rounds result status out out' → NamesLine k status
-      by (Ok ran) (volumes, made) closes =
-          let is : status ≡ done_status (device_of (first_marked made.makes.marks) (first_marked made.makes.drive_marks)) closes.cut = closes.is ∙ ap (λ (f : Option Device). done_status f closes.cut) made.makes.failed in
-          subst (λ (s : Status). NamesLine k s) (sym is) (named_line made.makes.marks o.lines o.lines' _ k made.makes.lines h (first_marked made.makes.marks) (first_marked made.makes.drive_marks) closes.cut refl)
-      by (Err fault) runs answers = absurd (omega (arith, h, ap (λ (ls : List Seen). (line_at ls k).faults) (unshown fault runs).lines))
-
-  -- a drive whose count is greater is named, or a line, or a drive of a lower number
-  pub plays_names_drive : (d : ℕ) → (drive_at o.drives d).faults < (drive_at o.drives' d).faults → NamesDrive d status
-  plays_names_drive d h = by p.result p.runs p.answers
-    where
-      named : (m : Moment) (es : List Event) (n : ℕ) (ran : Ran) (made : MakesFrom m es n ran o) (line drive : Option ℕ) (cut : Bool) → first_marked made.drive_marks ≡ drive → NamesDrive d (done_status (device_of line drive) cut)
-      named m es n ran made (Some line) drive cut e = tt
-      named m es n ran made None (Some drive) cut e = no_drive_lower m es n made.drive_marks o.drives o.drives' d made.drives drive e h
-      named m es n ran made None None cut e = absurd (no_drive_greater m es n made.drive_marks o.drives o.drives' d made.drives e h)
-
-      same : o.drives' ≡ o.drives → ⊥
-      same e = omega (arith, h, ap (λ (ks : List Kept). (drive_at ks d).faults) e)
-
       -- no other drive's count rose
       only : (e : ℕ) → OnlyRose o.drives o.drives' e → e ≡ d
       only e rose = both (e == d) (λ is. eqb-true e d is) (λ is.
@@ -152,11 +131,68 @@ module _ (c : Config) (images : List (List ℕ)) (es : List Event) (rounds : ℕ
           let kept : drive_at o.drives' d ≡ drive_at o.drives d = ap (λ (ks : List Kept). drive_at ks d) rose.is ∙ get_or-set_other o.drives e d (record (drive_at o.drives e) { faults = rose.faults }) unkept (λ q. other (sym q)) in
           absurd (omega (arith, h, ap (λ (k : Kept). k.faults) kept)))
 
+      by : (fault : PowerFault) → StaysDown c images fault o → NamesDrive d (power_status fault)
+      by (Image g) (misfit, untouched) = same_drives o d h untouched.drives
+      by (VolumeSize v) (none, misfit, untouched) = same_drives o d h untouched.drives
+      by (DriveIn e) (none, failed, shown) = only e failed.rose
+      by NoMemory untouched = same_drives o d h untouched.drives
+
+-- Rounds were made, and then bytes were put.
+module _ (m : Moment) (es : List Event) (n : ℕ) (ran : Ran) (o : Outside) (made : MakesFrom m es n ran o) (bytes : List ℕ) (status : Status) (out out' : Seen) (closes : Closes ran.failed bytes status out out') where
+  pub made_served : NoLineRose o → NoDriveRose o → (Rose out.faults out'.faults → ⊥) → IsServed status
+  made_served lines drives kept = closes_served ran.failed bytes status out out' (none_failed m es n ran o made lines drives) closes kept
+
+  -- the answer, by the devices that failed
+  answer_is : status ≡ done_status (device_of (first_marked made.marks) (first_marked made.drive_marks)) closes.cut
+  answer_is = closes.is ∙ ap (λ (f : Option Device). done_status f closes.cut) made.failed
+
+  pub made_names_line : (k : ℕ) → (line_at o.lines k).faults < (line_at o.lines' k).faults → NamesLine k status
+  made_names_line k h =
+      subst (λ (s : Status). NamesLine k s) (sym answer_is) (named_line made.marks o.lines o.lines' _ k made.lines h (first_marked made.marks) (first_marked made.drive_marks) closes.cut refl)
+
+  -- a drive whose count is greater is named, or a line, or a drive of a lower number
+  pub made_names_drive : (d : ℕ) → (drive_at o.drives d).faults < (drive_at o.drives' d).faults → NamesDrive d status
+  made_names_drive d h = subst (λ (s : Status). NamesDrive d s) (sym answer_is) (named (first_marked made.marks) (first_marked made.drive_marks) refl)
+    where
+      named : (line drive : Option ℕ) → first_marked made.drive_marks ≡ drive → NamesDrive d (done_status (device_of line drive) closes.cut)
+      named (Some line) drive e = tt
+      named None (Some drive) e = no_drive_lower m es n made.drive_marks o.drives o.drives' d made.drives drive e h
+      named None None e = absurd (no_drive_greater m es n made.drive_marks o.drives o.drives' d made.drives e h)
+
+module _ (c : Config) (images : List (List ℕ)) (es : List Event) (rounds : ℕ) (status : Status) (o : Outside) (out out' : Seen) (p : Plays c images es rounds status o out out') where
+  -- images and drives that fit, and no risen count, are served
+  pub plays_served : first_misfit c.guests images ≡ None → All (FitsDrive o.drives) c.volumes → ((d : ℕ) → HasFailed c.volumes o.drives o.drives' d → ⊥) → NoLineRose o → NoDriveRose o → (Rose out.faults out'.faults → ⊥) → IsServed status
+  plays_served fits drives_fit readable lines drives kept = by p.result p.runs p.answers
+    where
+      by : (result : Result Ran PowerFault) → Runs c images es rounds result o → Answers rounds result status out out' → IsServed status
+      by (Ok ran) (volumes, made) closes = made_served _ _ _ ran o made.makes _ status out out' closes lines drives kept
+      by (Err fault) down (answer, same) = subst (λ (s : Status). IsServed s) (sym answer) (down_served c images o fault down fits drives_fit readable)
+
+  -- an image that doesn't fit is told, and then a volume whose drive has another size
+  pub plays_image : (g : ℕ) → first_misfit c.guests images ≡ Some g → IsImageOf g status
+  plays_image g first = by p.result p.runs p.answers
+    where
+      by : (result : Result Ran PowerFault) → Runs c images es rounds result o → Answers rounds result status out out' → IsImageOf g status
+      by (Ok ran) (volumes, made) closes = absurd (cc (made.fits, first))
+      by (Err fault) down (answer, same) = subst (λ (s : Status). IsImageOf g s) (sym answer) (down_image c images o fault down g first)
+
+  pub plays_size : (v : ℕ) → first_misfit c.guests images ≡ None → IsMisfit c.volumes o.drives v → ((d : ℕ) → HasFailed c.volumes o.drives o.drives' d → ⊥) → IsSizeOf v status
+  plays_size v fits misfit readable = by p.result p.runs p.answers
+    where
+      by : (result : Result Ran PowerFault) → Runs c images es rounds result o → Answers rounds result status out out' → IsSizeOf v status
+      by (Ok ran) (volumes, made) closes = absurd (misfit.differs (at_stands (FitsDrive o.drives) c.volumes v misfit.row misfit.stands made.loaded.fit))
+      by (Err fault) down (answer, same) = subst (λ (s : Status). IsSizeOf v s) (sym answer) (down_size c images o fault down v fits misfit readable)
+
+  pub plays_names_line : (k : ℕ) → (line_at o.lines k).faults < (line_at o.lines' k).faults → NamesLine k status
+  plays_names_line k h = by p.result p.runs p.answers
+    where
+      by : (result : Result Ran PowerFault) → Runs c images es rounds result o → Answers rounds result status out out' → NamesLine k status
+      by (Ok ran) (volumes, made) closes = made_names_line _ _ _ ran o made.makes _ status out out' closes k h
+      by (Err fault) down answers = absurd (down_line_kept c images o fault down k h)
+
+  pub plays_names_drive : (d : ℕ) → (drive_at o.drives d).faults < (drive_at o.drives' d).faults → NamesDrive d status
+  plays_names_drive d h = by p.result p.runs p.answers
+    where
       by : (result : Result Ran PowerFault) → Runs c images es rounds result o → Answers rounds result status out out' → NamesDrive d status
-      by (Ok ran) (volumes, made) closes =
-          let is : status ≡ done_status (device_of (first_marked made.makes.marks) (first_marked made.makes.drive_marks)) closes.cut = closes.is ∙ ap (λ (f : Option Device). done_status f closes.cut) made.makes.failed in
-          subst (λ (s : Status). NamesDrive d s) (sym is) (named _ _ _ ran made.makes (first_marked made.makes.marks) (first_marked made.makes.drive_marks) closes.cut refl)
-      by (Err (Image g)) (misfit, untouched) answers = absurd (same untouched.drives)
-      by (Err (VolumeSize v)) (none, misfit, untouched) answers = absurd (same untouched.drives)
-      by (Err (DriveIn e)) (none, failed, shown) (answer, kept) = subst (λ (s : Status). NamesDrive d s) (sym answer) (only e failed.rose)
-      by (Err NoMemory) untouched answers = absurd (same untouched.drives)
+      by (Ok ran) (volumes, made) closes = made_names_drive _ _ _ ran o made.makes _ status out out' closes d h
+      by (Err fault) down (answer, same) = subst (λ (s : Status). NamesDrive d s) (sym answer) (down_names_drive c images o fault down d h)

@@ -12,7 +12,7 @@ use Rattle.vv_commands.specs.Answer.{shelf_and_sink, status_of, stopped_status}
 use Rattle.vv_commands.specs.Files.{HasConfig, IsConfigRefused, IsRead, StopsConfig}
 use Rattle.vv_commands.specs.declared.status.Status.{Status}
 use Rattle.vv_commands.specs.declared.stop.Stop.{Stop}
-use Rattle.vv_commands.specs.declared.stop.Stop.TheVariants.{Missing, TooLong, ShelfFault, Config as ConfigRefused, Script as ScriptRefused, NoMemory}
+use Rattle.vv_commands.specs.declared.stop.Stop.TheVariants.{Missing, TooLong, ShelfFault, Config as ConfigRefused, Script as ScriptRefused, SnapSize, Snap as SnapRefused, NoMemory}
 use Rattle.vv_laws.proofs.Played.{closes_served}
 use Rattle.vv_laws.proofs.Told.{lacked, not_both, not_config, not_long, one_error, one_rule, one_text, read_as, too_long}
 use Rattle.vv_laws.specs.Complete.{CompletesConfig, CompletesFile, IsLong, IsMissing, IsServed, IsTooLong, TellsAsm, TellsConfigMissing, TellsConfigRule, TellsConfigTooLong, TellsFileMissing, TellsFileRefused, TellsFileTooLong, TellsRule}
@@ -25,6 +25,8 @@ module _ (files : List File) (name : List ℕ) (before now : ℕ) (none : Rose b
   served_stop ShelfFault c rose has = none rose
   served_stop (ConfigRefused f) c (refused, kept) has = not_config files name c f has refused
   served_stop (ScriptRefused f) c h has = h
+  served_stop SnapSize c h has = h
+  served_stop (SnapRefused f) c h has = h
   served_stop NoMemory c h has = tt
 
   missing_stop : (stop : Stop) → StopsConfig (Some files) name before now stop → held files name ≡ None → IsMissing name (stopped_status stop)
@@ -33,6 +35,8 @@ module _ (files : List File) (name : List ℕ) (before now : ℕ) (none : Rose b
   missing_stop ShelfFault rose lacks = none rose
   missing_stop (ConfigRefused f) (refused, kept) lacks = lacked files name lacks refused.text refused.read
   missing_stop (ScriptRefused f) h lacks = h
+  missing_stop SnapSize h lacks = h
+  missing_stop (SnapRefused f) h lacks = h
   missing_stop NoMemory h lacks = tt
 
   long_stop : (stop : Stop) → StopsConfig (Some files) name before now stop → IsLong files name → IsTooLong name (stopped_status stop)
@@ -41,6 +45,8 @@ module _ (files : List File) (name : List ℕ) (before now : ℕ) (none : Rose b
   long_stop ShelfFault rose long = none rose
   long_stop (ConfigRefused f) (refused, kept) long = too_long files name long refused.text refused.read
   long_stop (ScriptRefused f) h long = h
+  long_stop SnapSize h long = h
+  long_stop (SnapRefused f) h long = h
   long_stop NoMemory h long = tt
 
   rule_stop : (stop : Stop) (f : ConfigFault) → StopsConfig (Some files) name before now stop → IsConfigRefused (Some files) name f → TellsRule f (stopped_status stop)
@@ -49,6 +55,8 @@ module _ (files : List File) (name : List ℕ) (before now : ℕ) (none : Rose b
   rule_stop ShelfFault f rose refused = none rose
   rule_stop (ConfigRefused g) f (other, kept) refused = one_rule files name g f other refused
   rule_stop (ScriptRefused g) f h refused = h
+  rule_stop SnapSize f h refused = h
+  rule_stop (SnapRefused g) f h refused = h
   rule_stop NoMemory f h refused = tt
 
 -- the shelf tells its files

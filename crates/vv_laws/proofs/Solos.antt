@@ -16,7 +16,7 @@ use Rattle.vv_commands.specs.Solo.{load_address, memory_size, solo_config}
 use Rattle.vv_commands.specs.Words.{Asked}
 use Rattle.vv_commands.specs.declared.status.Status.{Status}
 use Rattle.vv_commands.specs.declared.stop.Stop.{Stop}
-use Rattle.vv_commands.specs.declared.stop.Stop.TheVariants.{Missing, TooLong, ShelfFault, Config as ConfigRefused, Script as ScriptRefused, NoMemory}
+use Rattle.vv_commands.specs.declared.stop.Stop.TheVariants.{Missing, TooLong, ShelfFault, Config as ConfigRefused, Script as ScriptRefused, SnapSize, Snap as SnapRefused, NoMemory}
 use Rattle.vv_laws.proofs.Played.{plays_image, plays_names_line, plays_served}
 use Rattle.vv_laws.proofs.Told.{lacked, not_long, one_text, read_as, too_long}
 use Rattle.vv_laws.specs.Complete.{CompletesSolo, IsImageOf, IsLong, IsMissing, IsServed, IsTooLong, TellsSoloDevice, TellsSoloImage, TellsSoloMissing, TellsSoloTooLong, line_at}
@@ -46,6 +46,8 @@ module _ (files : List File) (name : List ℕ) (before now : ℕ) where
   only_memory ShelfFault text rose read none = absurd (none rose)
   only_memory (ConfigRefused f) text h read none = absurd h
   only_memory (ScriptRefused f) text h read none = absurd h
+  only_memory SnapSize text h read none = absurd h
+  only_memory (SnapRefused f) text h read none = absurd h
   only_memory NoMemory text h read none = refl
 
   missing_stop : (stop : Stop) → StopsFile (Some files) name before now stop → held files name ≡ None → (Rose before now → ⊥) → IsMissing name (stopped_status stop)
@@ -54,6 +56,8 @@ module _ (files : List File) (name : List ℕ) (before now : ℕ) where
   missing_stop ShelfFault rose lacks none = none rose
   missing_stop (ConfigRefused f) h lacks none = h
   missing_stop (ScriptRefused f) h lacks none = h
+  missing_stop SnapSize h lacks none = h
+  missing_stop (SnapRefused f) h lacks none = h
   missing_stop NoMemory h lacks none = tt
 
   long_stop : (stop : Stop) → StopsFile (Some files) name before now stop → IsLong files name → (Rose before now → ⊥) → IsTooLong name (stopped_status stop)
@@ -62,6 +66,8 @@ module _ (files : List File) (name : List ℕ) (before now : ℕ) where
   long_stop ShelfFault rose long none = none rose
   long_stop (ConfigRefused f) h long none = h
   long_stop (ScriptRefused f) h long none = h
+  long_stop SnapSize h long none = h
+  long_stop (SnapRefused f) h long none = h
   long_stop NoMemory h long none = tt
 
 -- the shelf tells its files

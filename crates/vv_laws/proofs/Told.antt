@@ -12,13 +12,13 @@ use Rattle.sys_script.specs.declared.event.ScriptFault.{ScriptFault}
 use Rattle.vv_commands.specs.Files.{AreImages, HasConfig, HasScript, IsConfigRefused, IsRead, IsScriptRefused}
 use Rattle.vv_laws.specs.Complete.{IsLong}
 
-one_value : {X : Type 0} (r : Option X) (x y : X) → r ≡ Some x → r ≡ Some y → x ≡ y
+pub one_value : {X : Type 0} (r : Option X) (x y : X) → r ≡ Some x → r ≡ Some y → x ≡ y
 one_value r x y e f = cc
 
 nothing_there : {X : Type 0} (r : Option X) (x : X) → r ≡ None → r ≡ Some x → ⊥
 nothing_there r x e f = cc
 
-one_made : {T E : Type 0} (r : Result T E) (x y : T) → r ≡ Ok x → r ≡ Ok y → x ≡ y
+pub one_made : {T E : Type 0} (r : Result T E) (x y : T) → r ≡ Ok x → r ≡ Ok y → x ≡ y
 one_made r x y e f = cc
 
 pub one_error : {T E : Type 0} (r : Result T E) (x y : E) → r ≡ Err x → r ≡ Err y → x ≡ y

@@ -1,2 +1,4 @@
 pub mod Alone
 pub mod Complete
+pub mod Snaps
+pub mod Together

@@ -2,6 +2,7 @@
 #![tactic(auto)]
 
 mod laws;
+mod snaps;
 
 pub use laws::{
     a_broken_rule_is_told, a_configuration_is_shown, a_failed_line_is_told, a_file_is_shown,
@@ -11,4 +12,14 @@ pub use laws::{
     a_run_names_a_failed_line, a_too_long_configuration_is_told, a_too_long_file_is_told,
     a_too_long_image_is_told, load_has_few_answers, load_is_complete, run_is_complete,
     solo_is_complete, the_first_missing_file_is_told, the_first_too_long_file_is_told,
+};
+pub use snaps::{
+    a_refused_configuration_to_save_is_told, a_refused_script_to_resume_is_told,
+    a_refused_script_to_save_is_told, a_refused_snapshot_is_told, a_resume_names_a_failed_drive,
+    a_resume_names_a_failed_line, a_save_names_a_failed_line, a_too_large_snapshot_is_told,
+    resume_is_complete, save_and_resume_are_one_run, save_is_complete,
+    the_first_image_to_save_that_does_not_fit_is_told, the_first_missing_file_to_resume_is_told,
+    the_first_missing_file_to_save_is_told, the_first_too_long_file_to_resume_is_told,
+    the_first_too_long_file_to_save_is_told, the_first_volume_to_resume_of_another_size_is_told,
+    the_first_volume_to_save_of_another_size_is_told,
 };
