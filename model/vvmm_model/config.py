@@ -106,7 +106,7 @@ def read_config(data: bytes) -> Config:
 
 def parse(data: bytes) -> dict:
     try:
-        table = tomllib.loads(data.decode())
+        table = tomllib.loads(data.decode().removeprefix("\ufeff"))
     except (ValueError, RecursionError):
         raise Refused(0)
     if not fits_64_bits(table):

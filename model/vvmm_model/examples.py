@@ -24,6 +24,8 @@ EXAMPLES = [
     Example("two-levels", 6, {0: 2}, ["public", "secret"]),
     Example("timesharing", 10, {}, ["kernel"]),
     Example("page-fault", 1, {}, ["pager"]),
+    Example("misbehaving", 8, {0: 1}, ["low", "rogue", "high"]),
+    Example("typing", 4, {}, ["adder"]),
 ]
 
 

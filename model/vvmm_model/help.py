@@ -1,12 +1,15 @@
 """What `--help` and `--version` show."""
 
-VERSION = "vvmm 0.1.0\n"
+VERSION = "vvmm 0.2.0\n"
 HELP = """\
 vvmm solo IMAGE STEPS          runs the file IMAGE as one guest for STEPS steps, 1 to 100000;
                                the guest's console is the file line00.out, its dump line01.out
 vvmm run CONFIG SCRIPT ROUNDS  runs the guests of the configuration CONFIG for ROUNDS rounds, 1 to
                                1000000, with what the file SCRIPT types at terminals; line k is the
                                file linekk.out, drive k the file drivekk.vol
+vvmm save CONFIG SCRIPT ROUNDS makes the rounds of run, and shows what the system is after them, as a
+                               snapshot; drives stay as they are
+vvmm resume SNAP SCRIPT ROUNDS goes on from the snapshot SNAP for ROUNDS rounds more, and ends as run does
 vvmm load NUMBER               runs the workload that is drawn from NUMBER, 0 to 4294967295: eight guests
                                in 20 rounds, on volumes of its own
 vvmm check CONFIG              reads a configuration, and shows how many objects it has
