@@ -12,4 +12,4 @@ pub use kernel::{Kernel, MOST_SHOWN};
 pub use laws::guests_lie_apart;
 pub use loading::{first_misfit, load_guests};
 pub use placing::place_guests;
-pub use turns::{TimeSlice, advance_at, start_at, stop_at, type_at};
+pub use turns::{TimeSlice, advance_at, start_at, step_at, stop_at, type_at};

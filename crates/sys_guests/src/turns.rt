@@ -1,16 +1,17 @@
-ghost use Rattle.std.specs.Prelude.{◌≡◌, ◌≤◌, ◌<◌, All, Some, vec_len};
+ghost use Rattle.std.specs.Prelude.{◌≡◌, ◌≤◌, ◌<◌, All, IfSome, Some, slice_get, vec_len};
 ghost use Rattle.sys_guests.specs.Changes.{AdvancesOne, StartsOne, StopShows, TakesStateAt};
 ghost use Rattle.sys_guests.specs.Layout.{guests_in};
 ghost use Rattle.sys_guests.specs.Present.{KeepsAll, PaysAll};
 ghost use Rattle.sys_rounds.specs.FirstTouches.{with_reset};
 ghost use Rattle.sys_rounds.specs.Guests.{commanded_to_stop, typed};
 ghost use Rattle.sys_rounds.specs.SlicedTouches.{touches_of_slice};
+ghost use Rattle.vm_events.specs.Noted.{note_of};
 ghost use Rattle.vm_guest.specs.Kept.{StandsIn};
 
 use crate::kernel::MOST_SHOWN;
 use vax_hw::Hardware;
 use vm_console::KeptPort;
-use vm_guest::{Counts, Guest};
+use vm_guest::{Counts, Guest, Once};
 
 /// A slice of a guest's turn: the guest's place, and how many steps it takes.
 #[derive(Clone, Copy, Debug, PartialEq, Eq)]
@@ -35,6 +36,24 @@ pub fn advance_at<H: Hardware>(
     port.clear();
     let guest = &mut guests[slice.guest as usize];
     guest.advance(machine, port, slice.steps)
+}
+
+/// A guest takes one step of its turn, and what it shows is kept; what the step tells is answered besides.
+pub fn step_at<H: Hardware>(
+    machine: &mut H,
+    port: &mut KeptPort<MOST_SHOWN>,
+    guests: &mut Vec<Guest>,
+    place: u8,
+) -> Once
+    requires there { place < vec_len guests.old }
+    requires stand { All (λ k. StandsIn (H.machine machine.old).memory k) guests.old.items }
+    ensures advances { AdvancesOne (record { guest = place; steps = 1 }) (H.machine machine.old) guests.old.items (H.machine machine.new) guests.new.items port.new.bytes result.counts }
+    ensures pays { PaysAll (touches_of_slice (record { guest = place; steps = 1 }) (guests_in (H.machine machine.old).memory guests.old.items)) (H.machine machine.old) guests.old.items (H.machine machine.new) guests.new.items }
+    ensures note { IfSome (slice_get (guests_in (H.machine machine.old).memory guests.old.items) place) (λ g. result.note ≡ note_of g) }
+{
+    port.clear();
+    let guest = &mut guests[place as usize];
+    guest.step(machine, port)
 }
 
 /// A guest starts.

@@ -7,3 +7,4 @@ pub mod Powers
 pub mod Seats
 pub mod Snaps
 pub mod System
+pub mod Watched

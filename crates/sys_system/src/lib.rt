@@ -12,8 +12,10 @@ mod rounds;
 mod saving;
 mod system;
 mod turns;
+mod watching;
 
 pub use parts::Device;
 pub use power::PowerFault;
 pub use sys_guests::TimeSlice;
 pub use system::System;
+pub use watching::Watched;

@@ -13,7 +13,7 @@ use Rattle.vm_shadow.specs.Calls.{OnlyTables, unless_dropped}
 use Rattle.vm_shadow.specs.Stands.{Keeps, Shadowed, is_opened, is_pending, is_read_from, mapped_frame, read_at, real_at}
 use Rattle.vm_shadow.specs.StandsFor.{IsPresent, Serves, closed_for}
 use Rattle.vm_shadow.specs.declared.source.Source.{Source}
-use Rattle.vm_simulation.specs.Laws.{IsUnfilled, frames_claimed}
+use Rattle.vm_simulation.specs.Laws.{IsUnfilled, Leaves, frames_claimed}
 use Rattle.vm_simulation.specs.Loaded.{Loads, as_run, frames_opened, guest_try}
 use Rattle.vm_state.specs.Partition.{guest_of, partition_of}
 use Rattle.vm_state.specs.State.{state_of}
@@ -122,6 +122,7 @@ module _ (n f : ℕ) (opened : List ℕ) (m m3 m4 : Machine) (s s3 s4 : Shadowed
       record {
         term = k.term;
         plain = k.plain ∙ ap (λ h. trapped_in (steps.Plain k.term) (frames_claimed (guest_of m.memory g)) h trap) (sym guest);
+        leaves = subst (λ h. Leaves (guest_of m.memory g) h trap) (sym guest) k.leaves;
         keeps = keeps_fewer (frames_opened m.memory s opened) n opened m4.memory s4 (c.keeps (frames_opened m.memory s opened) (n ∷ opened) (subst (λ x. Keeps (x ∷ frames_opened m.memory s opened) (n ∷ opened) m3.memory s3) (sym is) k.keeps));
         loads = subst (λ x. Loads x s4 (as_run x g)) (sym world) (record { r = k.loads.r; psl = k.loads.psl; current = k.loads.current; previous = k.loads.previous; tables = k.loads.tables ∙ (λ i. Rattle.vm_shadow.specs.Layout.real_tables (sym at i) (sym slot i)) });
         high = ap (λ x. (as_run x g).psl.0 / 2 ^ 8) world ∙ k.high;

@@ -16,7 +16,7 @@ use Rattle.vm_shadow.specs.Layout.{IsCovered, all_entries}
 use Rattle.vm_shadow.specs.Stands.{Fits, Keeps, Shadowed, is_pending, mapped_frame, read_at, real_at}
 use Rattle.vm_shadow.specs.StandsFor.{Serves, own_number}
 use Rattle.vm_shadow.proofs.Filling.{byte_apart, own_apart}
-use Rattle.vm_simulation.specs.Laws.{IsRetired, IsUnwritten, Meets, frames_claimed}
+use Rattle.vm_simulation.specs.Laws.{IsRetired, IsUnwritten, Leaves, Meets, frames_claimed}
 use Rattle.vm_simulation.specs.Loaded.{Loads, RunsGuest, as_run, frames_opened, guest_try}
 use Rattle.vm_simulation.proofs.Meeting.{exits_meet}
 use Rattle.vm_simulation.proofs.Retiring.{retires}
@@ -42,6 +42,7 @@ module _ (opened : List ℕ) (m : Machine) (s : Shadowed) (g : GuestState) (k : 
   completes x r e = record {
     term = r.term;
     plain = r.plain;
+    leaves = r.leaves;
     keeps = r.keeps;
     loads = r.loads;
     high = r.high;
@@ -226,6 +227,7 @@ module _ (m : Machine) (s : Shadowed) (g : GuestState) (m2 : Machine) (s2 : Shad
   completed_from opened trap k = record {
     term = k.term;
     plain = subst (λ h. by_try h (guest_try h) ≡ trapped_in (steps.Plain k.term) (frames_claimed h) (guest_of m3.memory (as_run m3.world g)) trap) whole_same k.plain;
+    leaves = subst (λ h. Leaves h (guest_of m3.memory (as_run m3.world g)) trap) whole_same k.leaves;
     keeps = subst (λ x. Keeps x opened m3.memory s3) (a.frames opened) k.keeps;
     loads = k.loads;
     high = k.high;

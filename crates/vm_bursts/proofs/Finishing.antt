@@ -12,7 +12,7 @@ use Rattle.vm_shadow.specs.Stands.{Shadowed}
 use Rattle.vm_shadow.specs.StandsFor.{Serves, StandsFor, world_of}
 use Rattle.vm_shadow.specs.declared.source.Source.{Source}
 use Rattle.vm_simulation.specs.Bursts.{plainly}
-use Rattle.vm_simulation.specs.Laws.{frames_claimed}
+use Rattle.vm_simulation.specs.Laws.{Leaves, frames_claimed}
 use Rattle.vm_simulation.specs.Loaded.{RunsGuest, as_run, guest_try}
 use Rattle.vm_state.specs.Allowed.{AreAllowed}
 use Rattle.vm_state.specs.Initiate.{Initiation, KernelStackBad, Stops, Taken, initiate}
@@ -75,6 +75,7 @@ module _ (m : Machine) (s : Shadowed) (g : GuestState) (x : Ended) (w : World) (
             ∙ behind run (guest_of m2.memory (as_run m2.world g)) c.term (frames_claimed (guest_of m.memory g)) trap
             ∙ ap (with_trap_of trap) (λ i. record { guest = guest_of m2.memory (sym back_is i); shown = run.shown; tally = record run.tally { plain = run.tally.plain + 1; trail = same_sum run.tally.trail x.terms c.term terms i } });
         term = c.term;
+        leaves = subst (λ (h : GuestState). Leaves (guest_of m.memory g) (guest_of m2.memory h) trap) (sym back_is) c.leaves;
         step = executed_is (guest_of m.memory g) _ c.plain ∙ (λ i. record (trapped_in (steps.Plain c.term) (frames_claimed (guest_of m.memory g)) (guest_of m2.memory (sym back_is i)) trap) { touched = touches_now (guest_of m.memory g) });
         is = back_is;
         stands = subst (StandsFor m2.memory s2) (sym back_is) (record {

@@ -1,5 +1,5 @@
 -- A run of the machine for a guest.
-use Rattle.std.proofs.Common.{◌≡◌, ℕ, ◌+◌, ◌*◌, ◌/◌, ◌%◌, ◌^◌, ◌<◌, ◌≤◌, List, [], refl, ap, ◌∙◌, sym, subst, arith}
+use Rattle.std.proofs.Common.{◌≡◌, ℕ, ◌+◌, ◌*◌, ◌/◌, ◌%◌, ◌^◌, ◌<◌, ◌≤◌, List, [], Option, Some, None, Result, Ok, Err, refl, ap, ◌∙◌, sym, subst, arith}
 use Rattle.std.specs.Prelude.{◌==◌, ◌||◌, not, if◌then◌else◌}
 use Rattle.vax_arch.specs.Rei.{has_must_be_zero_bit}
 use Rattle.vax_arch.specs.Fields.{current_of, mode_number, mode_of, previous_of}
@@ -7,11 +7,11 @@ use Rattle.vax_arch.specs.Ring.{ring_of}
 use Rattle.vax_arch.specs.declared.mode.Mode.{Mode}
 use Rattle.vax_arch.specs.declared.mode.Mode.TheVariants.{Executive, Kernel, Supervisor, User}
 use Rattle.vax_hw.specs.Machine.{Machine}
-use Rattle.vax_hw.specs.Real.{real}
+use Rattle.vax_hw.specs.Real.{Retired, going_on, misses_after, one, real, unless_trapped}
 use Rattle.vax_hw.specs.declared.world.Exit.{Exit}
 use Rattle.vax_hw.specs.declared.world.Exit.TheVariants.{Arithmetic, Budget, Denied, Emulate, Modify, NotValid, Refused}
 use Rattle.vax_hw.specs.declared.world.World.{World}
-use Rattle.vm_bursts.specs.Ran.{IsRun, RunsMachine, rise}
+use Rattle.vm_bursts.specs.Ran.{IsAlone, IsRun, RunsMachine, rise}
 use Rattle.vm_bursts.specs.declared.bursts.Ended.{Ended}
 use Rattle.vm_fitting.specs.Paid.{Owes, touching_counted}
 use Rattle.vm_fitting.specs.Runs.{EndsAt, IsPaidRun, Reaches}
@@ -20,8 +20,11 @@ use Rattle.vm_shadow.specs.Stands.{Shadowed}
 use Rattle.vm_shadow.specs.StandsFor.{StandsFor, real_psl, world_of}
 use Rattle.vm_clock.specs.Ticks.{after_ticks}
 use Rattle.vm_simulation.specs.Bursts.{Ends, IsBurst, IsQuiet, counted_by, goes_on, with_count}
+use Rattle.vm_simulation.specs.Laws.{Leaves, Meets}
 use Rattle.vm_simulation.specs.Loaded.{Loads, RunsGuest, as_run}
 use Rattle.vm_simulation.proofs.Bursting.{ends_more, runs_go}
+use Rattle.vm_simulation.proofs.Meeting.{exits_meet}
+use Rattle.vm_simulation.proofs.Retiring.{retires}
 use Rattle.vm_state.specs.Allowed.{AreAllowed}
 use Rattle.vm_state.specs.Partition.{guest_of}
 use Rattle.vm_state.specs.State.{state_of}
@@ -88,6 +91,11 @@ zero_bits p q e =
     let b : p / 2 ^ 21 ≡ q / 2 ^ 21 = omega (arith, e) in
     λ i. not (a i % 32 == 0) || not (b i % 2 == 0) || not (e i % 256 == 0)
 
+-- no step more is counted
+no_more : (g : GuestState) → g.steps < 2 ^ 32 → with_count 0 g ≡ g
+unfolding after_ticks
+no_more g small = let same : (g.steps + 0) % 2 ^ 32 ≡ g.steps = omega (arith, small) in λ i. record g { steps = same i }
+
 module _ (n : ℕ) (m : Machine) (s : Shadowed) (g : GuestState) (w : World) (x : Ended) (m' : Machine) (k : StandsFor m.memory s g) (is : w ≡ world_of s g) (some : 1 ≤ n) (small : g.steps < 2 ^ 32) (few : n < 2 ^ 32) (q : IsQuiet n (state_of g)) (r : RunsMachine n m w x m') where
   abbrev first : Machine
   first = record m { world = world_of s g }
@@ -153,6 +161,35 @@ module _ (n : ℕ) (m : Machine) (s : Shadowed) (g : GuestState) (w : World) (x 
       sum_low : (t b : ℕ) → (t + b) % 2 ^ 64 ≡ (t + b % 2 ^ 64) % 2 ^ 64
       sum_low t b = grind arith
 
+  -- a run of one instruction
+  abbrev AloneAt : Machine × Exit → Type 0
+  AloneAt z = IsAlone z.1 (guest_of m.memory g) (guest_of z.0.memory (as_run z.0.world g))
+
+  alone_trap : (y : Retired) (t : Option ℕ) → Leaves (guest_of m.memory g) (guest_of y.machine.memory (as_run y.machine.world g)) t → AloneAt (unless_trapped (real 0) y.machine t)
+  alone_trap y None k = k
+  alone_trap y (Some kind) k = k
+
+  as_before : guest_of m.memory (as_run (world_of s g) g) ≡ guest_of m.memory g
+  as_before = λ i. guest_of m.memory (record g { psl = record { 0 = (loads_world s g).psl i } })
+
+  alone_exit : (e : Exit) → Meets e m.memory s g → AloneAt (record first { misses = misses_after m.misses e }, e)
+  alone_exit Budget k = absurd k
+  alone_exit (Arithmetic kind) k = absurd k
+  alone_exit (NotValid va write) k = as_before
+  alone_exit (Denied va write) k = as_before
+  alone_exit (Modify va) k = as_before
+  alone_exit (Emulate t) k = as_before
+  alone_exit (Refused refusal) k = as_before
+
+  alone_by : (y : Result Retired Exit) → one first ≡ y → AloneAt (going_on (real 0) first y)
+  alone_by (Ok y) e = alone_trap y y.trap (retires [] first s g y (loaded m s g k) e).leaves
+  alone_by (Err y) e = alone_exit y (exits_meet [] first s g y (loaded m s g k) e)
+
+  alone_ran : n ≡ 1 → IsAlone x.exit (guest_of m.memory g) (guest_of m'.memory (as_run m'.world g))
+  alone_ran single =
+      let same : (m', x.exit) ≡ real n first = r.ran ∙ ap (λ v. real n (record m { world = v })) is in
+      subst AloneAt (sym (same ∙ ap (λ j. real j first) single)) (alone_by (one first) refl)
+
   pub is_run : (done : ℕ) (g1 g2 : GuestState) (v : World) → done ≡ x.done → v ≡ m'.world → g1 ≡ as_run v g → g2 ≡ with_count (counted_by x.exit done) g1 → IsRun n m s g (record { done = done; terms = x.terms; exit = x.exit }) m' g2
   is_run done g1 g2 v d vm one two =
       let b = the_burst in
@@ -168,6 +205,11 @@ module _ (n : ℕ) (m : Machine) (s : Shadowed) (g : GuestState) (w : World) (x 
           shown = run.shown;
           tally = record run.tally { plain = run.tally.plain + sym same i; trail = same_trail run.tally.trail x.terms b.terms terms_are i };
         });
+        alone = λ single.
+            let few = few_counted done d in
+            let zero : counted_by x.exit done ≡ 0 = omega (arith, few, single) in
+            let end : g2 ≡ as_run m'.world g = is ∙ ap (λ c. with_count c (as_run m'.world g)) zero ∙ no_more (as_run m'.world g) small in
+            subst (λ (h : GuestState). IsAlone x.exit (guest_of m.memory g) (guest_of m'.memory h)) (sym end) (alone_ran single);
         is = is;
         stands = subst (StandsFor m'.memory s) (sym there) (record {
           keeps = b.runs.keeps;

@@ -17,7 +17,7 @@ use Rattle.vm_shadow.specs.Stands.{Fits, Keeps, Shadowed, is_pending, mapped_fra
 use Rattle.vm_shadow.specs.StandsFor.{DropsFrom, StandsFor, closed_for, own_number}
 use Rattle.vm_simulation.specs.Bursts.{after_counted, plainly, with_trap}
 use Rattle.vm_state.specs.Run.{Run}
-use Rattle.vm_simulation.specs.Laws.{IsUnwritten, Meets, frames_claimed}
+use Rattle.vm_simulation.specs.Laws.{IsUnwritten, Leaves, Meets, frames_claimed}
 use Rattle.vm_simulation.specs.Loaded.{Loads, RunsGuest, as_run, frames_opened, guest_try}
 use Rattle.vm_state.specs.Partition.{guest_of, partition_of}
 use Rattle.vm_state.specs.State.{Guest}
@@ -52,6 +52,7 @@ Tells (Refused r) memory s g = Meets (Refused r) memory s g
 pub record IsCompleted (opened : List ℕ) (m : Machine) (s : Shadowed) (g : GuestState) (trap : Option ℕ) (m' : Machine) (s' : Shadowed) : Type 0 where
   pub term : ℕ
   pub plain : by_try (guest_of m.memory g) (guest_try (guest_of m.memory g)) ≡ trapped_in (steps.Plain term) (frames_claimed (guest_of m.memory g)) (guest_of m'.memory (as_run m'.world g)) trap
+  pub leaves : Leaves (guest_of m.memory g) (guest_of m'.memory (as_run m'.world g)) trap
   pub keeps : Keeps (frames_opened m.memory s opened) opened m'.memory s'
   pub loads : Loads m'.world s' (as_run m'.world g)
   pub high : (as_run m'.world g).psl.0 / 2 ^ 8 ≡ g.psl.0 / 2 ^ 8
@@ -151,6 +152,7 @@ with_trap_of (Some kind) run = with_trap kind run
 pub record StepsGuarded (m : Machine) (s : Shadowed) (g : GuestState) (terms : ℕ) (trap : Option ℕ) (m' : Machine) (s' : Shadowed) (g' : GuestState) : Type 0 where
   pub term : ℕ
   pub step : executed (guest_of m.memory g) ≡ record (trapped_in (steps.Plain term) (frames_claimed (guest_of m.memory g)) (guest_of m'.memory g') trap) { touched = touches_now (guest_of m.memory g) }
+  pub leaves : Leaves (guest_of m.memory g) (guest_of m'.memory g') trap
   pub steps : (run : Run) → run.guest ≡ guest_of m.memory g → run.tally.trail < 2 ^ 64 → after_counted 1 run ≡ with_trap_of trap (plainly run (guest_of m'.memory g') 1 terms)
   pub is : g' ≡ as_run m'.world g
   pub stands : StandsFor m'.memory s' g'

@@ -1,7 +1,9 @@
 -- A run of the machine for a guest, as the kernel makes it.
-use Rattle.std.specs.Prelude.{◌≡◌, ℕ, ◌+◌, ◌-◌, ◌/◌, ◌%◌, ◌^◌, ◌<◌}
+use Rattle.std.specs.Prelude.{◌≡◌, ℕ, ◌+◌, ◌-◌, ◌/◌, ◌%◌, ◌^◌, ◌<◌, Some, None}
 use Rattle.vax_hw.specs.Machine.{Machine}
 use Rattle.vax_hw.specs.Real.{real}
+use Rattle.vax_hw.specs.declared.world.Exit.{Exit}
+use Rattle.vax_hw.specs.declared.world.Exit.TheVariants.{Arithmetic, Budget}
 use Rattle.vax_hw.specs.declared.world.World.{World}
 use Rattle.vm_bursts.specs.declared.bursts.Ended.{Ended}
 use Rattle.vm_bursts.specs.declared.bursts.Ran.{Ran}
@@ -10,9 +12,11 @@ use Rattle.vm_fitting.specs.Runs.{EndsAt, Reaches}
 use Rattle.vm_shadow.specs.Stands.{Shadowed}
 use Rattle.vm_shadow.specs.StandsFor.{StandsFor}
 use Rattle.vm_simulation.specs.Bursts.{Ends, after_counted, counted_by, goes_on, missed_by, plainly, with_count}
+use Rattle.vm_simulation.specs.Laws.{Leaves}
 use Rattle.vm_simulation.specs.Loaded.{OnlyPartition, as_run}
 use Rattle.vm_state.specs.Partition.{guest_of}
 use Rattle.vm_state.specs.Run.{Run}
+use Rattle.vm_state.specs.State.{Guest}
 use Rattle.vm_state.specs.Touches.{Touching}
 use Rattle.vm_state.specs.declared.guest_state.GuestState.{GuestState}
 use Rattle.vm_touches.specs.Touched.{touches_now}
@@ -30,6 +34,12 @@ pub record RunsMachine (n : ℕ) (m : Machine) (w : World) (ended : Ended) (m' :
   pub retired : m.retired < 2 ^ 64
   pub trail : m.trail < 2 ^ 64
 
+-- A run of one instruction: it retired, and left the guest with this trap; or the guest is as it was.
+abbrev pub IsAlone : Exit → Guest → Guest → Type 0
+IsAlone Budget h after = Leaves h after None
+IsAlone (Arithmetic kind) h after = Leaves h after (Some kind)
+IsAlone e h after = after ≡ h
+
 -- The machine ran: it retired so many instructions of at most n, which were plain steps of the guest, with the sum of their
 -- terms of the trail; why it ended says how the guest goes on, and which pages are touched. It missed no page in these steps,
 -- and what is present behind them by first touches has real entries.
@@ -37,6 +47,7 @@ pub record IsRun (n : ℕ) (m : Machine) (s : Shadowed) (g : GuestState) (ran : 
   pub left : ℕ
   pub budget : ran.done + left ≡ n
   pub steps : (run : Run) → run.guest ≡ guest_of m.memory g → run.tally.trail < 2 ^ 64 → after_counted n run ≡ goes_on ran.exit left (plainly run (guest_of m'.memory g') ran.done ran.terms)
+  pub alone : n ≡ 1 → IsAlone ran.exit (guest_of m.memory g) (guest_of m'.memory g')
   pub is : g' ≡ with_count (counted_by ran.exit ran.done) (as_run m'.world g)
   pub stands : StandsFor m'.memory s g'
   pub high : g'.psl.0 / 2 ^ 8 ≡ g.psl.0 / 2 ^ 8

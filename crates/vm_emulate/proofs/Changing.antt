@@ -102,31 +102,31 @@ module _ (m m' : Machine) (s s' : Shadowed) (r : List ℕ) (g g2 : GuestState) w
 
       by : (x : Sensed) (result : Emulated) → is_done result ≡ true → IsSensed x result m s (with_registers r g) m' s' g2 → Senses x m s g result m' s' g2
       by (Does h shown frames) outcomes.Done e is = all (Does h shown frames) outcomes.Done is
-      by (Does h shown frames) outcomes.SetModify e is = cc
+      by (Does h shown frames) (outcomes.SetModify at) e is = cc
       by (Does h shown frames) (outcomes.Fault f) e is = cc
       by (Does h shown frames) (outcomes.Stopped code) e is = cc
       by (Does h shown frames) outcomes.PastMemory e is = cc
       by (Does h shown frames) outcomes.Filled e is = cc
       by (Faults f) outcomes.Done e is = absurd is
-      by (Faults f) outcomes.SetModify e is = cc
+      by (Faults f) (outcomes.SetModify at) e is = cc
       by (Faults f) (outcomes.Fault h) e is = cc
       by (Faults f) (outcomes.Stopped code) e is = cc
       by (Faults f) outcomes.PastMemory e is = cc
       by (Faults f) outcomes.Filled e is = cc
       by (ClearAt va) outcomes.Done e is = absurd is
-      by (ClearAt va) outcomes.SetModify e is = cc
+      by (ClearAt va) (outcomes.SetModify at) e is = cc
       by (ClearAt va) (outcomes.Fault f) e is = cc
       by (ClearAt va) (outcomes.Stopped code) e is = cc
       by (ClearAt va) outcomes.PastMemory e is = cc
       by (ClearAt va) outcomes.Filled e is = cc
       by (StopsThere stop) outcomes.Done e is = absurd is
-      by (StopsThere stop) outcomes.SetModify e is = cc
+      by (StopsThere stop) (outcomes.SetModify at) e is = cc
       by (StopsThere stop) (outcomes.Fault f) e is = cc
       by (StopsThere stop) (outcomes.Stopped code) e is = cc
       by (StopsThere stop) outcomes.PastMemory e is = cc
       by (StopsThere stop) outcomes.Filled e is = cc
       by LacksMemory outcomes.Done e is = absurd is
-      by LacksMemory outcomes.SetModify e is = cc
+      by LacksMemory (outcomes.SetModify at) e is = cc
       by LacksMemory (outcomes.Fault f) e is = cc
       by LacksMemory (outcomes.Stopped code) e is = cc
       by LacksMemory outcomes.PastMemory e is = cc
@@ -146,26 +146,26 @@ module _ (m m' : Machine) (s s' : Shadowed) (r : List ℕ) (g g2 : GuestState) w
 
       by : (x : Sensed) (result : Emulated) → IsUnmarked x → is_done result ≡ false → IsSensed x result m s (with_registers r g) m' s' g2 → Senses x m s g result m' s' (with_registers g.r g2)
       by (Does h shown frames) outcomes.Done u e is = cc
-      by (Does h shown frames) outcomes.SetModify u e is = absurd is
+      by (Does h shown frames) (outcomes.SetModify at) u e is = absurd is
       by (Does h shown frames) (outcomes.Fault f) u e is = absurd is
       by (Does h shown frames) (outcomes.Stopped code) u e is = absurd is
       by (Does h shown frames) outcomes.PastMemory u e is = absurd is
       by (Does h shown frames) outcomes.Filled u e is = absurd is
       by (Faults f) outcomes.Done u e is = absurd is
-      by (Faults f) outcomes.SetModify u e is = absurd is
+      by (Faults f) (outcomes.SetModify at) u e is = absurd is
       by (Faults f) (outcomes.Fault h) u e is = all (Faults f) (outcomes.Fault h) (is.0, stayed_before is.1)
       by (Faults f) (outcomes.Stopped code) u e is = absurd is
       by (Faults f) outcomes.PastMemory u e is = absurd is
       by (Faults f) outcomes.Filled u e is = absurd is
       by (ClearAt va) result u e is = absurd u
       by (StopsThere stop) outcomes.Done u e is = absurd is
-      by (StopsThere stop) outcomes.SetModify u e is = absurd is
+      by (StopsThere stop) (outcomes.SetModify at) u e is = absurd is
       by (StopsThere stop) (outcomes.Fault f) u e is = absurd is
       by (StopsThere stop) (outcomes.Stopped code) u e is = all (StopsThere stop) (outcomes.Stopped code) (is.0, stopped_before code is.1)
       by (StopsThere stop) outcomes.PastMemory u e is = absurd is
       by (StopsThere stop) outcomes.Filled u e is = absurd is
       by LacksMemory outcomes.Done u e is = absurd is
-      by LacksMemory outcomes.SetModify u e is = absurd is
+      by LacksMemory (outcomes.SetModify at) u e is = absurd is
       by LacksMemory (outcomes.Fault f) u e is = absurd is
       by LacksMemory (outcomes.Stopped code) u e is = absurd is
       by LacksMemory outcomes.PastMemory u e is = all LacksMemory outcomes.PastMemory (stopped_before past_memory is)

@@ -52,8 +52,8 @@ abbrev pub IsSensed : Sensed → Emulated → Machine → Shadowed → GuestStat
 IsSensed (Does h shown frames) outcomes.Done m s g m' s' g' = Goes h frames s m' s' g'
 IsSensed (Faults e) (outcomes.Fault f) m s g m' s' g' = (f ≡ e) × Stays m s g m' s' g'
 IsSensed (ClearAt va) (outcomes.Fault f) m s g m' s' g' = (g.modify_faults ≡ true) × (f ≡ clear_fault va) × Stays m s g m' s' g'
-IsSensed (ClearAt va) outcomes.SetModify m s g m' s' g' =
-    (g.modify_faults ≡ false) × (g' ≡ g) × Becomes (marked_guest (guest_of m.memory g) va) (marks_by (look (guest_of m.memory g) (page_of va))) s m' s' g'
+IsSensed (ClearAt va) (outcomes.SetModify at) m s g m' s' g' =
+    (at ≡ va) × (g.modify_faults ≡ false) × (g' ≡ g) × Becomes (marked_guest (guest_of m.memory g) va) (marks_by (look (guest_of m.memory g) (page_of va))) s m' s' g'
 IsSensed (StopsThere stop) (outcomes.Stopped code) m s g m' s' g' = (code ≡ stop_code stop) × StopsWith code m s g m' s' g'
 IsSensed LacksMemory outcomes.PastMemory m s g m' s' g' = StopsWith past_memory m s g m' s' g'
 IsSensed _ _ m s g m' s' g' = ⊥

@@ -172,7 +172,7 @@ fn meet_clear<H: Hardware>(machine: &mut H, s: &mut Shadow, g: &GuestState, va: 
         return Emulated::Fault(Exc::ModifyFault { va });
     }
     s.mark_modified(machine, g, va);
-    Emulated::SetModify
+    Emulated::SetModify { va }
 }
 
 /// MFPR to a longword of memory whose bytes have places. Where one of their pages has a clear modify bit, the register isn't

@@ -3,9 +3,11 @@
 #![tactic(auto)]
 
 mod beginning;
+mod note;
 mod pending;
 mod stop;
 
 pub use beginning::{begin, interrupt};
+pub use note::Note;
 pub use pending::{Source, due};
 pub use stop::show_stop;

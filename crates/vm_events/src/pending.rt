@@ -34,7 +34,7 @@ impl Source {
     }
 
     /// Where the vector is in the system control block, in bytes.
-    fn vector(self) -> u32
+    pub(crate) fn vector(self) -> u32
         ensures { result ≡ vector_of (source_of self) }
     {
         match self {

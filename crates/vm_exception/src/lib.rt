@@ -8,6 +8,7 @@ mod initiating;
 mod pushes;
 mod writes;
 
+pub use entry::vector_offset;
 pub use initiated::Initiated;
 pub use initiating::initiate;
 pub use pushes::{Home, Walked, walk_pushes};

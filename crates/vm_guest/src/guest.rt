@@ -1,5 +1,6 @@
 ghost use Rattle.std.specs.Prelude.{◌≡◌, ◌≤◌, ◌+◌, ◌*◌, ◌⊎◌, [], IfOk, OnErr, true, length};
 ghost use Rattle.vm_console.specs.Appends.{Appends};
+ghost use Rattle.vm_events.specs.Noted.{note_of};
 ghost use Rattle.vm_fitting.specs.Moves.{Drops};
 ghost use Rattle.vm_fitting.specs.Paid.{Pays};
 ghost use Rattle.vm_guest.specs.Kept.{Becomes, IsNew, IsResumed, KeepsPresent, StandsIn, TakesState, bytes_at, commanded_to_stop, frames_from, guest_in, stop_message, with_bytes, with_line};
@@ -20,7 +21,7 @@ use vm_console::Port;
 use vm_events::show_stop;
 use vm_shadow::Shadow;
 use vm_state::GuestState;
-use vm_stepping::{Counts, advance};
+use vm_stepping::{Counts, Once, advance, advance_once};
 use vv_base::NoMemory;
 
 /// The stop code of a command.
@@ -139,6 +140,16 @@ impl Guest {
         ensures pays { Pays (touching_steps steps (guest_in (H.machine machine.old).memory self.old)) (H.machine machine.old) self.old.shadow (H.machine machine.new) self.new.shadow }
     {
         advance(machine, &mut self.shadow, &mut self.state, port, steps)
+    }
+
+    /// It takes one step as `advance` does; what the step tells is answered besides.
+    pub fn step<H: Hardware, T: Port>(&mut self, machine: &mut H, port: &mut T) -> Once
+        requires { StandsIn (H.machine machine.old).memory self.old }
+        ensures advances { Advances T.may 1 port.old port.new (H.machine machine.old) self.old.shadow self.old.state (H.machine machine.new) self.new.shadow self.new.state result.counts }
+        ensures pays { Pays (touching_steps 1 (guest_in (H.machine machine.old).memory self.old)) (H.machine machine.old) self.old.shadow (H.machine machine.new) self.new.shadow }
+        ensures note { result.note ≡ note_of (guest_in (H.machine machine.old).memory self.old) }
+    {
+        advance_once(machine, &mut self.shadow, &mut self.state, port)
     }
 
     /// A line is typed at its console, with a carriage return behind it, as far as it fits.

@@ -9,4 +9,4 @@ mod typing;
 
 pub use guest::Guest;
 pub use laws::guests_stand_by_themselves;
-pub use vm_stepping::Counts;
+pub use vm_stepping::{Counts, Note, Once};

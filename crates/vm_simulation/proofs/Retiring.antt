@@ -27,7 +27,7 @@ use Rattle.vm_shadow.specs.Stands.{Shadowed, is_opened, is_pending, is_read_from
 use Rattle.vm_shadow.specs.StandsFor.{own_number}
 use Rattle.vm_shadow.proofs.Covering.{own_is}
 use Rattle.vm_shadow.proofs.Hearing.{clear_by, probes, size_is}
-use Rattle.vm_simulation.specs.Laws.{IsRetired, RetiresTheGuest, frames_claimed}
+use Rattle.vm_simulation.specs.Laws.{IsRetired, Leaves, RetiresTheGuest, frames_claimed}
 use Rattle.vm_simulation.specs.Loaded.{RunsGuest, as_run, frames_opened, guest_try}
 use Rattle.vm_simulation.proofs.Answered.{claims_answered}
 use Rattle.vm_simulation.proofs.Claimed.{claimed_written}
@@ -128,14 +128,15 @@ module _ (opened : List ℕ) (m : Machine) (s : Shadowed) (g : GuestState) (k : 
       λ i. record { memory = memory i; state = record (state_of g) { r = e.r; psl = psl i } }
 
   retired_as : (opcode : ℕ) (e : Effect) → AreStored pending opened s m.memory (all_stored (machine_place m) e.writes m.memory) (all_stored (place_of here) e.writes (own m.memory s)) →
-      guest_by_try here (guest_try here) ≡ trapped_in (steps.Plain (term (pc_of (state_of g)) opcode e.r)) (frames_claimed here) (with_effect here e) e.trap → IsRetired opened m s g (record { machine = retire opcode e m; trap = e.trap })
+      guest_by_try here (guest_try here) ≡ trapped_in (steps.Plain (term (pc_of (state_of g)) opcode e.r)) (frames_claimed here) (with_effect here e) e.trap → Leaves here (with_effect here e) e.trap → IsRetired opened m s g (record { machine = retire opcode e m; trap = e.trap })
   unfolding retire
-  retired_as opcode e stored plain =
+  retired_as opcode e stored plain leaves =
       let psl = both_set m.world.vmpsl.0 m.world.psl.0 g.psl.0 e.psw k.loads.psl in
       let high : (m.world.vmpsl.0 / 256 * 256 + (m.world.psl.0 / 256 * 256 + e.psw % 256) % 256) / 256 ≡ g.psl.0 / 256 = ap (λ x. x / 256) psl ∙ high_part g.psl.0 e.psw in
       record {
         term = term (pc_of (state_of g)) opcode e.r;
         plain = plain ∙ ap (λ h. trapped_in (steps.Plain (term (pc_of (state_of g)) opcode e.r)) (frames_claimed here) h e.trap) (sym (behind_effect opcode e stored));
+        leaves = subst (λ h. Leaves here h e.trap) (sym (behind_effect opcode e stored)) leaves;
         keeps = stored.keeps;
         loads = record {
           r = refl;
@@ -167,7 +168,8 @@ module _ (opened : List ℕ) (m : Machine) (s : Shadowed) (g : GuestState) (k : 
       let stored = all_are pending opened s (machine_place m) (place_of here) (claims space script) (λ va c. target (meant opcode (Plain e)) va done.0 c (none_clear (machine_clear m) (claims space script) done.1 va c)) e.writes m.memory (stores_claimed (in_kernel m.world) (seen_psl m.world) m.world.r space opcode e done.0) (pend opened m.memory s pending k.keeps) in
       let made : Retired = record { machine = retire opcode e m; trap = e.trap } in
       let same : made ≡ x = cc in
-      subst (IsRetired opened m s g) same (retired_as opcode e stored (ap (guest_by_try here) own ∙ ap (λ frames. trapped_in (steps.Plain (term (pc_of (state_of g)) opcode e.r)) frames (with_effect here e) e.trap) (sym (claimed_written here opcode e (guest_outcome (meant opcode (Plain e)) own)))))
+      subst (IsRetired opened m s g) same (retired_as opcode e stored (ap (guest_by_try here) own ∙ ap (λ frames. trapped_in (steps.Plain (term (pc_of (state_of g)) opcode e.r)) frames (with_effect here e) e.trap) (sym (claimed_written here opcode e (guest_outcome (meant opcode (Plain e)) own))))
+      (record { opcode = opcode; act = Plain e; try = own; behind = (refl, refl) }))
 
   nothing_stored : AreStored pending opened s m.memory m.memory (own m.memory s)
   nothing_stored = record { keeps = pend opened m.memory s pending k.keeps; own = refl; size = refl; other = λ p h. refl }
@@ -197,7 +199,7 @@ module _ (opened : List ℕ) (m : Machine) (s : Shadowed) (g : GuestState) (k : 
       let step : guest_by_try here (guest_try here) ≡ trapped_in (steps.Plain (term (pc_of (state_of g)) opcode o.r)) (frames_claimed here) (with_effect here e) None =
       ap (guest_by_try here) own ∙ ap (steps.probed_as here opcode o) answers ∙ ap (λ w. trapped_in (steps.Plain (term (pc_of (state_of g)) opcode o.r)) [] (with_effect here (probed b o w)) None) psw
       ∙ ap (λ frames. trapped_in (steps.Plain (term (pc_of (state_of g)) opcode o.r)) frames (with_effect here e) None) (sym none) in
-      subst (IsRetired opened m s g) same (retired_as opcode e nothing_stored step)
+      subst (IsRetired opened m s g) same (retired_as opcode e nothing_stored step (record { opcode = opcode; act = Probes i o; try = own; behind = (b, answers, ap (λ w. with_effect here (probed b o w)) (sym psw), refl) }))
 
   act_retired : (opcode : ℕ) (act : Act) (x : Retired) → machine_try opened m s g k ≡ Completes (meant opcode act) → guest_try here ≡ Completes (meant opcode act) → carried_out m opcode act ≡ Ok x → IsRetired opened m s g x
   act_retired opcode (Plain e) x is own h = plain_retired opcode e x is own h

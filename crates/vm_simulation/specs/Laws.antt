@@ -1,5 +1,5 @@
 -- One instruction of the machine, and the guest's own step.
-use Rattle.std.specs.Prelude.{◌≡◌, ◌⊎◌, ℕ, ◌+◌, ◌/◌, ◌%◌, ◌^◌, ◌<◌, true, false, List, map, None, Result, Ok, Err}
+use Rattle.std.specs.Prelude.{◌≡◌, ◌⊎◌, ℕ, ◌+◌, ◌/◌, ◌%◌, ◌^◌, ◌<◌, Bool, true, false, List, map, Option, None, Result, Ok, Err}
 use Rattle.vax_arch.specs.Fields.{current_of, is_modified}
 use Rattle.vax_arch.specs.Walk.{page_of}
 use Rattle.vax_arch.specs.declared.mode.Intent.{Intent}
@@ -10,6 +10,7 @@ use Rattle.vax_hw.specs.declared.world.Exit.{Exit}
 use Rattle.vax_hw.specs.declared.world.Exit.TheVariants as exits
 use Rattle.vax_table.specs.Claims.{claims}
 use Rattle.vax_table.specs.Effects.{Effect, long_of}
+use Rattle.vax_table.specs.Plan.{probed}
 use Rattle.vax_table.specs.Probing.{last_of}
 use Rattle.vax_table.specs.Script.{At, Cause, IsIn, Test, outcome}
 use Rattle.vax_table.specs.Tries.{Clear, Completes, Stopped}
@@ -22,9 +23,10 @@ use Rattle.vm_shadow.specs.Stands.{Keeps, Shadowed, mapped_frame, read_at, real_
 use Rattle.vm_shadow.specs.StandsFor.{IsMarked, IsPresent, own_number}
 use Rattle.vm_simulation.specs.Loaded.{Loads, OnlyPartition, RunsGuest, as_run, frames_opened, guest_try}
 use Rattle.vm_state.specs.Partition.{guest_of}
+use Rattle.vm_state.specs.Probe.{Answers, probe}
 use Rattle.vm_state.specs.Step as steps
 use Rattle.vm_state.specs.State.{Guest, state_of}
-use Rattle.vm_state.specs.Step.{by_try, frames_stored, instruction_of, trapped_in}
+use Rattle.vm_state.specs.Step.{by_try, frames_stored, instruction_of, trapped_in, with_effect}
 use Rattle.vm_state.specs.Translation.{frame_at, is_clear, place_of, space_of}
 use Rattle.vm_state.specs.declared.guest_state.GuestState.{GuestState}
 
@@ -101,11 +103,26 @@ frames_claimed h = map (λ va. frame_at (place_of h va)) (claims (space_of h) (i
 abbrev pub ClaimedFramesAreWritten : Type 0
 ClaimedFramesAreWritten = (h : Guest) (opcode : ℕ) (e : Effect) → outcome (space_of h) (instruction_of h.state) ≡ Ok (meant opcode (Plain e)) → frames_claimed h ≡ frames_stored h e.writes
 
+-- What a plain instruction leaves: the guest behind it, and its arithmetic trap, which is initiated there.
+abbrev pub LeavesBehind : Act → Guest → Guest → Option ℕ → Type 0
+LeavesBehind (Plain e) h after trap = (after ≡ with_effect h e) × (trap ≡ e.trap)
+LeavesBehind (Traps t) h after trap = ⊥
+LeavesBehind (Probes i o) h after trap =
+    (is_accessible : Bool) × (probe h i (long_of o 0) (long_of o 1) (long_of o 2) ≡ Answers is_accessible true) × (after ≡ with_effect h (probed is_accessible o (h.state.psl % 2 ^ 8))) × (trap ≡ None)
+
+-- the guest's instruction is plain
+pub record Leaves (h after : Guest) (trap : Option ℕ) : Type 0 where
+  pub opcode : ℕ
+  pub act : Act
+  pub try : guest_try h ≡ Completes (meant opcode act)
+  pub behind : LeavesBehind act h after trap
+
 -- The machine retired an instruction: the guest's own is plain, with the same registers and memory behind it and the same
 -- trap, and writes the frames that it claims; nothing else of the machine's memory changed; what was read from a frame that an opened entry maps is pending.
 pub record IsRetired (opened : List ℕ) (m : Machine) (s : Shadowed) (g : GuestState) (x : Retired) : Type 0 where
   pub term : ℕ
   pub plain : by_try (guest_of m.memory g) (guest_try (guest_of m.memory g)) ≡ trapped_in (steps.Plain term) (frames_claimed (guest_of m.memory g)) (guest_of x.machine.memory (as_run x.machine.world g)) x.trap
+  pub leaves : Leaves (guest_of m.memory g) (guest_of x.machine.memory (as_run x.machine.world g)) x.trap
   pub keeps : Keeps (frames_opened m.memory s opened) opened x.machine.memory s
   pub loads : Loads x.machine.world s (as_run x.machine.world g)
   pub high : (as_run x.machine.world g).psl.0 / 2 ^ 8 ≡ g.psl.0 / 2 ^ 8

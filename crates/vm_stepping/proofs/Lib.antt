@@ -16,3 +16,7 @@ pub mod Beginning
 pub mod PayingBegun
 pub mod Advancing
 pub mod Idling
+pub mod Noting
+pub mod SensingNotes
+pub mod NotingSteps
+pub mod NotingRuns

@@ -64,7 +64,7 @@ before_goes (Modify va) left run k = refl
 before_goes (Emulate t) left run k = refl
 before_goes (Refused r) left run k = refl
 
-before_ends : (e : Exit) (done left : ℕ) (memory : List ℕ) (s : Shadowed) (g : GuestState) → IsBefore e → Ends e done left memory s g → (1 ≤ left) × Meets e memory s g
+pub before_ends : (e : Exit) (done left : ℕ) (memory : List ℕ) (s : Shadowed) (g : GuestState) → IsBefore e → Ends e done left memory s g → (1 ≤ left) × Meets e memory s g
 before_ends Budget done left memory s g k ends = absurd k
 before_ends (Arithmetic kind) done left memory s g k ends = absurd k
 before_ends (NotValid va write) done left memory s g k ends = ends

@@ -54,9 +54,9 @@ module _ {Port : Type 0} (may : Port → List ℕ → Type 0) (t : Trapped) (res
       let to = comes_to outcomes.Done e in
       made port1 (record c { sensitive = c.sensitive + 1 }) to.0 (subst (Appends may port port1) (sym to.1) shows) (ap (λ kind. tallied kind (tally_of c)) (sym to.2)) (omega arith) refl refl
 
-  pub made_modify : result ≡ outcomes.SetModify → Made may x port port1 m s g c m' s' g' (record c { modify = c.modify + 1 })
-  made_modify e =
-      let to = comes_to outcomes.SetModify e in
+  pub made_modify : (at : ℕ) → result ≡ outcomes.SetModify at → Made may x port port1 m s g c m' s' g' (record c { modify = c.modify + 1 })
+  made_modify at e =
+      let to = comes_to (outcomes.SetModify at) e in
       made port1 (record c { modify = c.modify + 1 }) to.0 (subst (Appends may port port1) (to.3 ∙ sym to.1) shows) (ap (λ kind. tallied kind (tally_of c)) (sym to.2)) (omega arith) refl refl
 
   pub made_stopped : (code : ℕ) (port' : Port) → result ≡ outcomes.Stopped code → Appends may port1 port' (text_now code g') → Made may x port port' m s g c m' s' g' (record c { sensitive = c.sensitive + 1 })
@@ -71,6 +71,9 @@ module _ {Port : Type 0} (may : Port → List ℕ → Type 0) (t : Trapped) (res
 
   pub fault_proper : (e : Exc) → result ≡ outcomes.Fault e → IsProper e
   fault_proper e is = (comes_to (outcomes.Fault e) is).1
+
+  pub fault_stays : (e : Exc) → result ≡ outcomes.Fault e → Stays m s g m' s' g'
+  fault_stays e is = (comes_to (outcomes.Fault e) is).2
 
   module _ (e : Exc) (port' : Port) (m2 : Machine) (s2 : Shadowed) (g2 : GuestState) (c2 : Counts) where
     abbrev IsMade : Stepped → Port → Machine → Shadowed → GuestState → Type 0

@@ -57,7 +57,7 @@ text_now code g' = stop_text code (pc_of (state_of g'))
 -- What the definition's step is, by what the emulation came to, and what that showed by itself.
 abbrev pub Comes : Emulated → Stepped → List ℕ → Machine → Shadowed → GuestState → Machine → Shadowed → GuestState → Type 0
 Comes outcomes.Done x shown m s g m' s' g' = Steps x s m' s' g' × (x.shown ≡ shown) × (x.kind ≡ Sensitive)
-Comes outcomes.SetModify x shown m s g m' s' g' = Steps x s m' s' g' × (x.shown ≡ []) × (x.kind ≡ SetModify) × (shown ≡ [])
+Comes (outcomes.SetModify at) x shown m s g m' s' g' = Steps x s m' s' g' × (x.shown ≡ []) × (x.kind ≡ SetModify) × (shown ≡ [])
 Comes (outcomes.Fault e) x shown m s g m' s' g' = (x ≡ faulted (guest_of m.memory g) e) × IsProper e × Stays m s g m' s' g' × (shown ≡ [])
 Comes (outcomes.Stopped code) x shown m s g m' s' g' = Steps x s m' s' g' × (x.shown ≡ text_now code g') × (x.kind ≡ Sensitive) × (shown ≡ [])
 Comes outcomes.PastMemory x shown m s g m' s' g' = Steps x s m' s' g' × (x.shown ≡ text_now 0x10 g') × (x.kind ≡ Fault) × (shown ≡ [])
@@ -114,18 +114,18 @@ module _ (m : Machine) (s : Shadowed) (g : GuestState) (m' : Machine) (s' : Shad
   comes_sensed outcomes.Done (Does h shown frames) p k = (record { guest = k.guest; tables = follows_at frames h.state.tables s s' k.follows; moves = follows_moves frames h.state.tables s s' k.follows }, refl, refl)
   comes_sensed (outcomes.Fault f) (Faults e) p k = comes_fault (faulted own e) e f refl p k.0 k.1
   comes_sensed (outcomes.Fault f) (ClearAt va) p k = comes_fault (sensed_as own (ClearAt va)) (excs.ModifyFault va) f (rw k.0) tt k.1 k.2
-  comes_sensed outcomes.SetModify (ClearAt va) p k =
-      subst (λ x. Comes outcomes.SetModify x [] m s g m' s' g') (sym (clear_set va k.0))
-      (record { guest = k.2.guest; tables = ap (λ (x : Shadowed). x.at) k.2.drops.rest; moves = clear_moves va k.2 }, refl, refl, refl)
+  comes_sensed (outcomes.SetModify at) (ClearAt va) p k =
+      subst (λ x. Comes (outcomes.SetModify at) x [] m s g m' s' g') (sym (clear_set va k.1))
+      (record { guest = k.3.guest; tables = ap (λ (x : Shadowed). x.at) k.3.drops.rest; moves = clear_moves va k.3 }, refl, refl, refl)
   comes_sensed (outcomes.Stopped code) (StopsThere stop) p k = comes_stopped stop code k.0 k.1
   comes_sensed outcomes.PastMemory LacksMemory p k = comes_past k
-  comes_sensed outcomes.SetModify (Does h shown frames) p k = absurd k
+  comes_sensed (outcomes.SetModify at) (Does h shown frames) p k = absurd k
   comes_sensed (outcomes.Fault f) (Does h shown frames) p k = absurd k
   comes_sensed (outcomes.Stopped code) (Does h shown frames) p k = absurd k
   comes_sensed outcomes.PastMemory (Does h shown frames) p k = absurd k
   comes_sensed outcomes.Filled (Does h shown frames) p k = absurd k
   comes_sensed outcomes.Done (Faults e) p k = absurd k
-  comes_sensed outcomes.SetModify (Faults e) p k = absurd k
+  comes_sensed (outcomes.SetModify at) (Faults e) p k = absurd k
   comes_sensed (outcomes.Stopped code) (Faults e) p k = absurd k
   comes_sensed outcomes.PastMemory (Faults e) p k = absurd k
   comes_sensed outcomes.Filled (Faults e) p k = absurd k
@@ -134,12 +134,12 @@ module _ (m : Machine) (s : Shadowed) (g : GuestState) (m' : Machine) (s' : Shad
   comes_sensed outcomes.PastMemory (ClearAt va) p k = absurd k
   comes_sensed outcomes.Filled (ClearAt va) p k = absurd k
   comes_sensed outcomes.Done (StopsThere stop) p k = absurd k
-  comes_sensed outcomes.SetModify (StopsThere stop) p k = absurd k
+  comes_sensed (outcomes.SetModify at) (StopsThere stop) p k = absurd k
   comes_sensed (outcomes.Fault f) (StopsThere stop) p k = absurd k
   comes_sensed outcomes.PastMemory (StopsThere stop) p k = absurd k
   comes_sensed outcomes.Filled (StopsThere stop) p k = absurd k
   comes_sensed outcomes.Done LacksMemory p k = absurd k
-  comes_sensed outcomes.SetModify LacksMemory p k = absurd k
+  comes_sensed (outcomes.SetModify at) LacksMemory p k = absurd k
   comes_sensed (outcomes.Fault f) LacksMemory p k = absurd k
   comes_sensed (outcomes.Stopped code) LacksMemory p k = absurd k
   comes_sensed outcomes.Filled LacksMemory p k = absurd k
@@ -153,7 +153,7 @@ module _ (m : Machine) (s : Shadowed) (g : GuestState) (m' : Machine) (s' : Shad
         let pc : t.next_pc ≡ pc_of (state_of g') = sym (last_one t.regs t.next_pc e) ∙ ap (λ (x : Guest). pc_of x.state) (sym k.1.guest) in
         (record { guest = k.1.guest; tables = follows_at [] h.state.tables s s' k.1.follows; moves = follows_moves [] h.state.tables s s' k.1.follows }, ap (stop_text 0x06) pc ∙ ap (λ n. stop_text n (pc_of (state_of g'))) (sym k.0), refl, refl)
     comes_halted outcomes.Done e k = absurd k
-    comes_halted outcomes.SetModify e k = absurd k
+    comes_halted (outcomes.SetModify at) e k = absurd k
     comes_halted (outcomes.Fault f) e k = absurd k
     comes_halted outcomes.PastMemory e k = absurd k
     comes_halted outcomes.Filled e k = absurd k
@@ -183,22 +183,22 @@ module _ (m : Machine) (s : Shadowed) (g : GuestState) (m' : Machine) (s' : Shad
     comes_probed opcode (outcomes.Fault f) (NotValid fault) e is u k = comes_fault (faulted own (excs.Memory fault)) (excs.Memory fault) f refl tt k.0 k.1
     comes_probed opcode outcomes.PastMemory probes.PastMemory e is u k = comes_past k
     comes_probed opcode outcomes.Done (Answers a true) e is u k = absurd k
-    comes_probed opcode outcomes.SetModify (Answers a true) e is u k = absurd k
+    comes_probed opcode (outcomes.SetModify at) (Answers a true) e is u k = absurd k
     comes_probed opcode (outcomes.Fault f) (Answers a true) e is u k = absurd k
     comes_probed opcode (outcomes.Stopped code) (Answers a true) e is u k = absurd k
     comes_probed opcode outcomes.PastMemory (Answers a true) e is u k = absurd k
-    comes_probed opcode outcomes.SetModify (Answers a false) e is u k = absurd k
+    comes_probed opcode (outcomes.SetModify at) (Answers a false) e is u k = absurd k
     comes_probed opcode (outcomes.Fault f) (Answers a false) e is u k = absurd k
     comes_probed opcode (outcomes.Stopped code) (Answers a false) e is u k = absurd k
     comes_probed opcode outcomes.PastMemory (Answers a false) e is u k = absurd k
     comes_probed opcode outcomes.Filled (Answers a false) e is u k = absurd k
     comes_probed opcode outcomes.Done (NotValid fault) e is u k = absurd k
-    comes_probed opcode outcomes.SetModify (NotValid fault) e is u k = absurd k
+    comes_probed opcode (outcomes.SetModify at) (NotValid fault) e is u k = absurd k
     comes_probed opcode (outcomes.Stopped code) (NotValid fault) e is u k = absurd k
     comes_probed opcode outcomes.PastMemory (NotValid fault) e is u k = absurd k
     comes_probed opcode outcomes.Filled (NotValid fault) e is u k = absurd k
     comes_probed opcode outcomes.Done probes.PastMemory e is u k = absurd k
-    comes_probed opcode outcomes.SetModify probes.PastMemory e is u k = absurd k
+    comes_probed opcode (outcomes.SetModify at) probes.PastMemory e is u k = absurd k
     comes_probed opcode (outcomes.Fault f) probes.PastMemory e is u k = absurd k
     comes_probed opcode (outcomes.Stopped code) probes.PastMemory e is u k = absurd k
     comes_probed opcode outcomes.Filled probes.PastMemory e is u k = absurd k
@@ -206,7 +206,7 @@ module _ (m : Machine) (s : Shadowed) (g : GuestState) (m' : Machine) (s' : Shad
   -- PROBE shows nothing
   shows_none : (result : Emulated) (e : Exc) → shown_by result (Faults e) ≡ []
   shows_none outcomes.Done e = refl
-  shows_none outcomes.SetModify e = refl
+  shows_none (outcomes.SetModify at) e = refl
   shows_none (outcomes.Fault f) e = refl
   shows_none (outcomes.Stopped code) e = refl
   shows_none outcomes.PastMemory e = refl

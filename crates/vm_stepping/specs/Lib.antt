@@ -1,3 +1,4 @@
 pub mod Made
+pub mod Noted
 pub mod Pays
 pub mod Advances

@@ -9,4 +9,5 @@ mod sensing;
 mod turns;
 
 pub use counts::Counts;
-pub use turns::advance;
+pub use turns::{Once, advance, advance_once};
+pub use vm_events::Note;

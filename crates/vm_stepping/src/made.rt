@@ -1,8 +1,10 @@
-ghost use Rattle.std.specs.Prelude.{◌≡◌, ◌+◌, ◌<◌, ◌^◌, Some};
+ghost use Rattle.std.specs.Prelude.{◌≡◌, ◌+◌, ◌*◌, ◌/◌, ◌<◌, ◌^◌, Some};
 ghost use Rattle.vm_exception.specs.Initiated.{IsProper};
 ghost use Rattle.vm_shadow.specs.StandsFor.{StandsFor};
 ghost use Rattle.vm_state.specs.Partition.{guest_of};
+ghost use Rattle.vm_events.specs.Noted.{note_of_clear, taken_by};
 ghost use Rattle.vm_events.specs.Sources.{source_of};
+ghost use Rattle.vm_events.specs.declared.note.Note.TheVariants.{Nothing, Page};
 ghost use Rattle.vm_state.specs.Initiate.{initiate};
 ghost use Rattle.vm_state.specs.Interrupts.{due, interrupt_of};
 ghost use Rattle.vm_state.specs.State.{HasPlace, state_of};
@@ -13,7 +15,7 @@ ghost use Rattle.vm_stepping.specs.Made.{Made, steps_in};
 use crate::Counts;
 use vax_hw::Hardware;
 use vm_console::Port;
-use vm_events::{Source, begin, interrupt, show_stop};
+use vm_events::{Note, Source, begin, interrupt, show_stop};
 use vm_shadow::Shadow;
 use vm_state::{Exc, GuestState};
 
@@ -27,14 +29,16 @@ pub fn fault<H: Hardware, T: Port>(
     g: &mut GuestState,
     port: &mut T,
     counts: &mut Counts,
+    note: &mut Note,
     e: Exc,
 )
     requires stands { StandsFor (H.machine machine.old).memory s.old g.old }
     requires proper { IsProper e }
     requires room { steps_in counts.old < 2 ^ 32 }
-    ensures { Made T.may (faulted (guest_of (H.machine machine.old).memory g.old) e) port.old port.new (H.machine machine.old) s.old g.old counts.old (H.machine machine.new) s.new g.new counts.new }
+    ensures made { Made T.may (faulted (guest_of (H.machine machine.old).memory g.old) e) port.old port.new (H.machine machine.old) s.old g.old counts.old (H.machine machine.new) s.new g.new counts.new }
+    ensures note { note.new ≡ taken_by (guest_of (H.machine machine.old).memory g.old) e }
 {
-    begin(machine, s, g, port, e);
+    *note = begin(machine, s, g, port, e);
     counts.faults += 1;
 }
 
@@ -45,14 +49,24 @@ pub fn stop_past_memory<H: Hardware, T: Port>(
     g: &mut GuestState,
     port: &mut T,
     counts: &mut Counts,
+    note: &mut Note,
 )
     requires stands { StandsFor (H.machine machine.now).memory s.now g.old }
     requires room { steps_in counts.old < 2 ^ 32 }
-    ensures { Made T.may (stopped (guest_of (H.machine machine.now).memory g.old) PastMemory Fault) port.old port.new (H.machine machine.now) s.now g.old counts.old (H.machine machine.now) s.now g.new counts.new }
+    ensures made { Made T.may (stopped (guest_of (H.machine machine.now).memory g.old) PastMemory Fault) port.old port.new (H.machine machine.now) s.now g.old counts.old (H.machine machine.now) s.now g.new counts.new }
+    ensures note { note.new ≡ Nothing }
 {
     show_stop(g, port, PAST_MEMORY);
     g.halt = Some(PAST_MEMORY);
     counts.faults += 1;
+    *note = Note::Nothing;
+}
+
+/// That the modify bit of an address's page was set.
+pub fn page_note(va: u32) -> Note
+    ensures { result ≡ Page (va / 512 * 512) }
+{
+    Note::Page(va / 512 * 512)
 }
 
 /// A clear modify bit is met: it is set, and the instruction begins again at the next step; a guest with modify faults has one.
@@ -62,18 +76,21 @@ pub fn meet_clear<H: Hardware, T: Port>(
     g: &mut GuestState,
     port: &mut T,
     counts: &mut Counts,
+    note: &mut Note,
     va: u32,
 )
     requires stands { StandsFor (H.machine machine.old).memory s.old g.old }
     requires room { steps_in counts.old < 2 ^ 32 }
-    ensures { Made T.may (clear_met (guest_of (H.machine machine.old).memory g.old) va) port.old port.new (H.machine machine.old) s.old g.old counts.old (H.machine machine.new) s.new g.new counts.new }
+    ensures made { Made T.may (clear_met (guest_of (H.machine machine.old).memory g.old) va) port.old port.new (H.machine machine.old) s.old g.old counts.old (H.machine machine.new) s.new g.new counts.new }
+    ensures note { note.new ≡ note_of_clear (guest_of (H.machine machine.old).memory g.old) va }
 {
     if g.modify_faults {
-        fault(machine, s, g, port, counts, Exc::ModifyFault { va });
+        fault(machine, s, g, port, counts, note, Exc::ModifyFault { va });
         return;
     }
     s.mark_modified(machine, g, va);
     counts.modify += 1;
+    *note = page_note(va);
 }
 
 /// An interrupt that is due is taken.
@@ -83,14 +100,16 @@ pub fn take_interrupt<H: Hardware, T: Port>(
     g: &mut GuestState,
     port: &mut T,
     counts: &mut Counts,
+    note: &mut Note,
     source: Source,
 )
     requires stands { StandsFor (H.machine machine.old).memory s.old g.old }
     requires due { due (state_of g.old) ≡ Some (source_of source) }
     requires room { steps_in counts.old < 2 ^ 32 }
-    ensures { Made T.may (interrupted (guest_of (H.machine machine.old).memory g.old) (source_of source) (initiate (guest_of (H.machine machine.old).memory g.old) (interrupt_of (source_of source)))) port.old port.new (H.machine machine.old) s.old g.old counts.old (H.machine machine.new) s.new g.new counts.new }
+    ensures made { Made T.may (interrupted (guest_of (H.machine machine.old).memory g.old) (source_of source) (initiate (guest_of (H.machine machine.old).memory g.old) (interrupt_of (source_of source)))) port.old port.new (H.machine machine.old) s.old g.old counts.old (H.machine machine.new) s.new g.new counts.new }
+    ensures note { note.new ≡ taken_by (guest_of (H.machine machine.old).memory g.old) (interrupt_of (source_of source)) }
 {
-    interrupt(machine, s, g, port, source);
+    *note = interrupt(machine, s, g, port, source);
     counts.interrupts += 1;
 }
 

@@ -3,6 +3,7 @@ ghost use Rattle.vax_table.specs.Script.{Test};
 ghost use Rattle.vax_table.specs.Tries.{Stopped};
 ghost use Rattle.vax_table.specs.Troubles.{intent_of};
 ghost use Rattle.vm_bursts.specs.Guarded.{Tells};
+ghost use Rattle.vm_events.specs.Noted.{note_by_try, note_of_instruction};
 ghost use Rattle.vm_exception.specs.Initiated.{IsProper};
 ghost use Rattle.vm_fitting.specs.Runs.{Reaches};
 ghost use Rattle.vm_shadow.specs.StandsFor.{StandsFor};
@@ -13,6 +14,7 @@ ghost use Rattle.vm_state.specs.Partition.{guest_of};
 ghost use Rattle.vm_state.specs.Sensitive.{refused_as};
 ghost use Rattle.vm_stepping.specs.Advances.{IsDone};
 ghost use Rattle.vm_stepping.specs.Made.{IsMet, steps_in};
+ghost use Rattle.vm_stepping.specs.Noted.{NotesMet};
 ghost use Rattle.vm_stepping.specs.Pays.{PaysFor};
 ghost use Rattle.vm_touches.specs.Touched.{AreFilled, touches_now};
 
@@ -25,7 +27,7 @@ use vax_hw::{Exit, Hardware};
 use vax_table::Refusal;
 use vm_bursts::{is_clear, run_guarded};
 use vm_console::Port;
-use vm_events::begin;
+use vm_events::{Note, begin};
 use vm_shadow::Shadow;
 use vm_state::{Exc, GuestState};
 
@@ -57,6 +59,7 @@ fn refuse<H: Hardware, T: Port>(
     g: &mut GuestState,
     port: &mut T,
     counts: &mut Counts,
+    note: &mut Note,
     refusal: Refusal,
 )
     requires stands { StandsFor (H.machine machine.old).memory s.old g.old }
@@ -65,8 +68,9 @@ fn refuse<H: Hardware, T: Port>(
     requires filled { AreFilled s.old (touches_now (guest_of (H.machine machine.old).memory g.old)).found }
     ensures met { IsMet T.may true port.old port.new (H.machine machine.old) s.old g.old counts.old (H.machine machine.new) s.new g.new counts.new }
     ensures pays { PaysFor true 0 (H.machine machine.old) s.old g.old (H.machine machine.new) s.new }
+    ensures note { note.new ≡ note_by_try (guest_of (H.machine machine.old).memory g.old) (guest_try (guest_of (H.machine machine.old).memory g.old)) }
 {
-    fault(machine, s, g, port, counts, refused_as(refusal));
+    fault(machine, s, g, port, counts, note, refused_as(refusal));
 }
 
 /// What the machine stopped before is done for the guest: its step is made and counted; or pages are filled, and the instruction
@@ -77,6 +81,7 @@ fn meet_told<H: Hardware, T: Port>(
     g: &mut GuestState,
     port: &mut T,
     counts: &mut Counts,
+    note: &mut Note,
     exit: Exit,
 ) -> bool
     requires stands { StandsFor (H.machine machine.old).memory s.old g.old }
@@ -85,6 +90,7 @@ fn meet_told<H: Hardware, T: Port>(
     requires reaches { Reaches exit (H.machine machine.old).memory s.old g.old }
     ensures met { IsMet T.may result port.old port.new (H.machine machine.old) s.old g.old counts.old (H.machine machine.new) s.new g.new counts.new }
     ensures pays { PaysFor result (missed_by exit) (H.machine machine.old) s.old g.old (H.machine machine.new) s.new }
+    ensures note { NotesMet result (note_by_try (guest_of (H.machine machine.old).memory g.old) (guest_try (guest_of (H.machine machine.old).memory g.old))) note.new }
 {
     match exit {
         Exit::NotValid { va, write } => meet_missing(
@@ -93,6 +99,7 @@ fn meet_told<H: Hardware, T: Port>(
             g,
             port,
             counts,
+            note,
             va,
             intent_of(write),
         ),
@@ -102,16 +109,17 @@ fn meet_told<H: Hardware, T: Port>(
             g,
             port,
             counts,
+            note,
             va,
             intent_of(write),
         ),
         Exit::Modify { va } => {
-            meet_clear(machine, s, g, port, counts, va);
+            meet_clear(machine, s, g, port, counts, note, va);
             true
         }
-        Exit::Emulate(t) => sense(machine, s, g, port, counts, &t),
+        Exit::Emulate(t) => sense(machine, s, g, port, counts, note, &t),
         Exit::Refused(refusal) => {
-            refuse(machine, s, g, port, counts, refusal);
+            refuse(machine, s, g, port, counts, note, refusal);
             true
         }
         Exit::Budget => false,
@@ -126,24 +134,27 @@ fn run_alone<H: Hardware, T: Port>(
     g: &mut GuestState,
     port: &mut T,
     counts: &mut Counts,
+    note: &mut Note,
 ) -> bool
     requires stands { StandsFor (H.machine machine.old).memory s.old g.old }
     requires room { steps_in counts.old < 2 ^ 32 }
     ensures is { IsDone T.may result port.old port.new (H.machine machine.old) s.old g.old counts.old (H.machine machine.new) s.new g.new counts.new }
     ensures pays { PaysFor result 0 (H.machine machine.old) s.old g.old (H.machine machine.new) s.new }
+    ensures note { NotesMet result (note_of_instruction (guest_of (H.machine machine.old).memory g.old)) note.new }
 {
     let ran = run_guarded(machine, s, g);
     match ran.exit {
         Exit::Budget => {
             counts.retire(1, ran.terms);
+            *note = Note::Nothing;
             true
         }
         Exit::Arithmetic { kind } => {
             counts.retire(1, ran.terms);
-            begin(machine, s, g, port, Exc::Arithmetic(kind));
+            *note = begin(machine, s, g, port, Exc::Arithmetic(kind));
             true
         }
-        exit => meet_told(machine, s, g, port, counts, exit),
+        exit => meet_told(machine, s, g, port, counts, note, exit),
     }
 }
 
@@ -154,6 +165,7 @@ pub fn meet<H: Hardware, T: Port>(
     g: &mut GuestState,
     port: &mut T,
     counts: &mut Counts,
+    note: &mut Note,
     exit: Exit,
 ) -> bool
     requires stands { StandsFor (H.machine machine.old).memory s.old g.old }
@@ -162,11 +174,12 @@ pub fn meet<H: Hardware, T: Port>(
     requires reaches { Reaches exit (H.machine machine.old).memory s.old g.old }
     ensures is { IsDone T.may result port.old port.new (H.machine machine.old) s.old g.old counts.old (H.machine machine.new) s.new g.new counts.new }
     ensures pays { PaysFor result (missed_by exit) (H.machine machine.old) s.old g.old (H.machine machine.new) s.new }
+    ensures note { NotesMet result (note_of_instruction (guest_of (H.machine machine.old).memory g.old)) note.new }
 {
     if let Exit::Modify { va } = exit {
         if !is_clear(machine, g, va) {
-            return run_alone(machine, s, g, port, counts);
+            return run_alone(machine, s, g, port, counts, note);
         }
     }
-    meet_told(machine, s, g, port, counts, exit)
+    meet_told(machine, s, g, port, counts, note, exit)
 }

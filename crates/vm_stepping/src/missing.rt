@@ -1,6 +1,10 @@
 ghost use Rattle.std.specs.Prelude.{◌≡◌, ◌+◌, ◌<◌, ◌^◌, ℕ};
 ghost use Rattle.vm_shadow.specs.StandsFor.{StandsFor};
 ghost use Rattle.vm_simulation.specs.Laws.{IsMissed};
+ghost use Rattle.vm_events.specs.Noted.{note_by_try};
+ghost use Rattle.vm_simulation.specs.Loaded.{guest_try};
+ghost use Rattle.vm_state.specs.Partition.{guest_of};
+ghost use Rattle.vm_stepping.specs.Noted.{NotesMet};
 ghost use Rattle.vm_stepping.specs.Made.{IsMet, steps_in};
 ghost use Rattle.vm_stepping.specs.Pays.{PaysFor, WereMissed};
 
@@ -9,6 +13,7 @@ use crate::made::{fault, stop_past_memory};
 use vax_arch::Intent;
 use vax_hw::Hardware;
 use vm_console::Port;
+use vm_events::Note;
 use vm_shadow::Shadow;
 use vm_state::{Exc, GuestState, Walk};
 use vm_walk::walk;
@@ -21,6 +26,7 @@ pub fn meet_missing<H: Hardware, T: Port>(
     g: &mut GuestState,
     port: &mut T,
     counts: &mut Counts,
+    note: &mut Note,
     va: u32,
     i: Intent,
 ) -> bool
@@ -29,6 +35,7 @@ pub fn meet_missing<H: Hardware, T: Port>(
     requires missed { IsMissed i va (H.machine machine.old).memory s.old g.old }
     ensures met { IsMet T.may result port.old port.new (H.machine machine.old) s.old g.old counts.old (H.machine machine.new) s.new g.new counts.new }
     ensures pays { (missed : ℕ) → WereMissed missed i va (H.machine machine.old).memory s.old g.old → PaysFor result missed (H.machine machine.old) s.old g.old (H.machine machine.new) s.new }
+    ensures note { NotesMet result (note_by_try (guest_of (H.machine machine.old).memory g.old) (guest_try (guest_of (H.machine machine.old).memory g.old))) note.new }
 {
     match walk(machine, g, va, g.psl.current(), i) {
         Walk::Frame { .. } => {
@@ -36,11 +43,11 @@ pub fn meet_missing<H: Hardware, T: Port>(
             false
         }
         Walk::Fault(trouble) => {
-            fault(machine, s, g, port, counts, Exc::Memory(trouble));
+            fault(machine, s, g, port, counts, note, Exc::Memory(trouble));
             true
         }
         Walk::Beyond => {
-            stop_past_memory(machine, s, g, port, counts);
+            stop_past_memory(machine, s, g, port, counts, note);
             true
         }
     }

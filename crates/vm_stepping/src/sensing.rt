@@ -2,17 +2,20 @@ ghost use Rattle.std.specs.Prelude.{◌≡◌, ◌+◌, ◌<◌, ◌^◌, length
 ghost use Rattle.vm_shadow.specs.StandsFor.{StandsFor};
 ghost use Rattle.vm_simulation.specs.Laws.{IsTrapped};
 ghost use Rattle.vm_state.specs.Partition.{guest_of};
+ghost use Rattle.vm_events.specs.Noted.{note_by_try};
+ghost use Rattle.vm_simulation.specs.Loaded.{guest_try};
+ghost use Rattle.vm_stepping.specs.Noted.{NotesMet};
 ghost use Rattle.vm_stepping.specs.Made.{IsMet, steps_in};
 ghost use Rattle.vm_stepping.specs.Pays.{PaysFor};
 ghost use Rattle.vm_touches.specs.Touched.{AreFilled, touches_now};
 
 use crate::Counts;
-use crate::made::{PAST_MEMORY, fault};
+use crate::made::{PAST_MEMORY, fault, page_note};
 use vax_hw::Hardware;
 use vax_table::Trapped;
 use vm_console::Port;
 use vm_emulate::{Emulated, emulate};
-use vm_events::show_stop;
+use vm_events::{Note, show_stop};
 use vm_shadow::Shadow;
 use vm_state::GuestState;
 
@@ -33,6 +36,7 @@ pub fn sense<H: Hardware, T: Port>(
     g: &mut GuestState,
     port: &mut T,
     counts: &mut Counts,
+    note: &mut Note,
     t: &Trapped,
 ) -> bool
     requires stands { StandsFor (H.machine machine.old).memory s.old g.old }
@@ -41,19 +45,22 @@ pub fn sense<H: Hardware, T: Port>(
     requires filled { AreFilled s.old (touches_now (guest_of (H.machine machine.old).memory g.old)).found }
     ensures met { IsMet T.may result port.old port.new (H.machine machine.old) s.old g.old counts.old (H.machine machine.new) s.new g.new counts.new }
     ensures pays { PaysFor result 0 (H.machine machine.old) s.old g.old (H.machine machine.new) s.new }
+    ensures note { NotesMet result (note_by_try (guest_of (H.machine machine.old).memory g.old) (guest_try (guest_of (H.machine machine.old).memory g.old))) note.new }
 {
     have_registers(&g.r, t);
+    *note = Note::Nothing;
     match emulate(machine, s, g, port, t) {
         Emulated::Done => {
             counts.sensitive += 1;
             true
         }
-        Emulated::SetModify => {
+        Emulated::SetModify { va } => {
             counts.modify += 1;
+            *note = page_note(va);
             true
         }
         Emulated::Fault(e) => {
-            fault(machine, s, g, port, counts, e);
+            fault(machine, s, g, port, counts, note, e);
             true
         }
         Emulated::Stopped(code) => {

@@ -1,5 +1,6 @@
 ghost use Rattle.std.specs.Prelude.{◌≡◌, ◌+◌, ◌<◌, ◌≤◌, ◌^◌, IsTrue, false, true, None};
 ghost use Rattle.vm_clock.specs.Ticks.{ticks_to_wrap};
+ghost use Rattle.vm_events.specs.Noted.{note_of};
 ghost use Rattle.vm_fitting.specs.Paid.{Pays};
 ghost use Rattle.vm_shadow.specs.StandsFor.{StandsFor};
 ghost use Rattle.vm_simulation.specs.Bursts.{IsQuiet};
@@ -8,6 +9,7 @@ ghost use Rattle.vm_state.specs.State.{state_of};
 ghost use Rattle.vm_state.specs.Touches.{touching_steps};
 ghost use Rattle.vm_stepping.specs.Advances.{Advances, Idles, IsBegun, Proceeds, to_do};
 ghost use Rattle.vm_stepping.specs.Made.{steps_in};
+ghost use Rattle.vm_stepping.specs.Noted.{NotesOne};
 ghost use Rattle.vm_stepping.specs.Pays.{PaysOn};
 
 use crate::Counts;
@@ -16,7 +18,7 @@ use crate::met::meet;
 use vax_hw::{Exit, Hardware};
 use vm_bursts::{burst, count_more};
 use vm_console::Port;
-use vm_events::{begin, due};
+use vm_events::{Note, begin, due};
 use vm_shadow::Shadow;
 use vm_state::{Exc, GuestState};
 
@@ -59,6 +61,7 @@ fn run_on<H: Hardware, T: Port>(
     g: &mut GuestState,
     port: &mut T,
     counts: &mut Counts,
+    note: &mut Note,
     left: u32,
 ) -> Left
     requires stands { StandsFor (H.machine machine.old).memory s.old g.old }
@@ -68,18 +71,20 @@ fn run_on<H: Hardware, T: Port>(
     ensures proceeds { Proceeds T.may (record { steps = left; counted = true }) result port.old port.new (H.machine machine.old) s.old g.old counts.old (H.machine machine.new) s.new g.new counts.new }
     ensures pays { PaysOn (record { steps = left; counted = true }) result (H.machine machine.old) s.old g.old (H.machine machine.new) s.new g.new }
     ensures falls { to_do result s.new < to_do (record { steps = left; counted = true }) s.old }
+    ensures note { NotesOne (record { steps = left; counted = true }) result (H.machine machine.old) g.old (H.machine machine.new) g.new note.new }
 {
     let ran = burst(machine, s, g, budget(g, left));
     counts.retire(ran.done, ran.terms);
+    *note = Note::Nothing;
     let left = left - ran.done;
     match ran.exit {
         Exit::Budget => Left::of(left),
         Exit::Arithmetic { kind } => {
-            begin(machine, s, g, port, Exc::Arithmetic(kind));
+            *note = begin(machine, s, g, port, Exc::Arithmetic(kind));
             Left::of(left)
         }
         exit => {
-            if meet(machine, s, g, port, counts, exit) {
+            if meet(machine, s, g, port, counts, note, exit) {
                 Left::of(left - 1)
             } else {
                 Left {
@@ -120,6 +125,7 @@ fn begin_step<H: Hardware, T: Port>(
     g: &mut GuestState,
     port: &mut T,
     counts: &mut Counts,
+    note: &mut Note,
     left: u32,
 ) -> Left
     requires stands { StandsFor (H.machine machine.old).memory s.old g.old }
@@ -128,14 +134,16 @@ fn begin_step<H: Hardware, T: Port>(
     ensures proceeds { Proceeds T.may (record { steps = left; counted = false }) result port.old port.new (H.machine machine.old) s.old g.old counts.old (H.machine machine.new) s.new g.new counts.new }
     ensures pays { PaysOn (record { steps = left; counted = false }) result (H.machine machine.old) s.old g.old (H.machine machine.new) s.new g.new }
     ensures falls { to_do result s.new < to_do (record { steps = left; counted = false }) s.old }
+    ensures note { NotesOne (record { steps = left; counted = false }) result (H.machine machine.old) g.old (H.machine machine.new) g.new note.new }
 {
+    *note = Note::Nothing;
     if g.halt.is_some() {
         counts.stopped += u64::from(left);
         return Left::of(0);
     }
     count_step(g);
     if let Some(source) = due(g) {
-        take_interrupt(machine, s, g, port, counts, source);
+        take_interrupt(machine, s, g, port, counts, note, source);
         return Left::of(left - 1);
     }
     if g.waiting {
@@ -154,6 +162,7 @@ fn proceed<H: Hardware, T: Port>(
     g: &mut GuestState,
     port: &mut T,
     counts: &mut Counts,
+    note: &mut Note,
     left: Left,
 ) -> Left
     requires stands { StandsFor (H.machine machine.old).memory s.old g.old }
@@ -163,12 +172,36 @@ fn proceed<H: Hardware, T: Port>(
     ensures proceeds { Proceeds T.may left result port.old port.new (H.machine machine.old) s.old g.old counts.old (H.machine machine.new) s.new g.new counts.new }
     ensures pays { PaysOn left result (H.machine machine.old) s.old g.old (H.machine machine.new) s.new g.new }
     ensures falls { to_do result s.new < to_do left s.old }
+    ensures note { NotesOne left result (H.machine machine.old) g.old (H.machine machine.new) g.new note.new }
 {
     if left.counted {
-        run_on(machine, s, g, port, counts, left.steps)
+        run_on(machine, s, g, port, counts, note, left.steps)
     } else {
-        begin_step(machine, s, g, port, counts, left.steps)
+        begin_step(machine, s, g, port, counts, note, left.steps)
     }
+}
+
+/// Takes so many steps of a guest over the machine and its shadow page tables, and shows on its port what it shows. Answers how
+/// many of each kind there were. Of one step, what it tells is noted.
+fn advance_noting<H: Hardware, T: Port>(
+    machine: &mut H,
+    s: &mut Shadow,
+    g: &mut GuestState,
+    port: &mut T,
+    note: &mut Note,
+    steps: u32,
+) -> Counts
+    requires stands { StandsFor (H.machine machine.old).memory s.old g.old }
+    ensures advances { Advances T.may steps port.old port.new (H.machine machine.old) s.old g.old (H.machine machine.new) s.new g.new result }
+    ensures pays { Pays (touching_steps steps (guest_of (H.machine machine.old).memory g.old)) (H.machine machine.old) s.old (H.machine machine.new) s.new }
+    ensures note { steps ≡ 1 → note.new ≡ note_of (guest_of (H.machine machine.old).memory g.old) }
+{
+    let mut counts = Counts::none();
+    let mut left = Left::of(steps);
+    while left.steps > 0 {
+        left = proceed(machine, s, g, port, &mut counts, note, left);
+    }
+    counts
 }
 
 /// Takes so many steps of a guest over the machine and its shadow page tables, and shows on its port what it shows. Answers how
@@ -184,10 +217,30 @@ pub fn advance<H: Hardware, T: Port>(
     ensures advances { Advances T.may steps port.old port.new (H.machine machine.old) s.old g.old (H.machine machine.new) s.new g.new result }
     ensures pays { Pays (touching_steps steps (guest_of (H.machine machine.old).memory g.old)) (H.machine machine.old) s.old (H.machine machine.new) s.new }
 {
-    let mut counts = Counts::none();
-    let mut left = Left::of(steps);
-    while left.steps > 0 {
-        left = proceed(machine, s, g, port, &mut counts, left);
-    }
-    counts
+    let mut note = Note::Nothing;
+    advance_noting(machine, s, g, port, &mut note, steps)
+}
+
+/// One step of a guest: how many of each kind there were, which is one in all, and what it tells.
+#[derive(Clone, Copy, Debug, PartialEq, Eq)]
+pub struct Once {
+    pub counts: Counts,
+    pub note: Note,
+}
+
+/// Takes one step of a guest as `advance` does, and answers what it tells besides.
+pub fn advance_once<H: Hardware, T: Port>(
+    machine: &mut H,
+    s: &mut Shadow,
+    g: &mut GuestState,
+    port: &mut T,
+) -> Once
+    requires stands { StandsFor (H.machine machine.old).memory s.old g.old }
+    ensures advances { Advances T.may 1 port.old port.new (H.machine machine.old) s.old g.old (H.machine machine.new) s.new g.new result.counts }
+    ensures pays { Pays (touching_steps 1 (guest_of (H.machine machine.old).memory g.old)) (H.machine machine.old) s.old (H.machine machine.new) s.new }
+    ensures note { result.note ≡ note_of (guest_of (H.machine machine.old).memory g.old) }
+{
+    let mut note = Note::Nothing;
+    let counts = advance_noting(machine, s, g, port, &mut note, 1);
+    Once { counts, note }
 }

@@ -1,5 +1,10 @@
+use Rattle.vm_state.specs.Partition.{guest_of}
 use Rattle.vm_stepping.proofs.Meeting.{met_done}
+use Rattle.vm_stepping.proofs.Noting.{notes_instruction}
 use Rattle.vm_stepping.proofs.met.meet.Goals as goal
 
 pub returns-clause-is : goal.returns-clause-is
 returns-clause-is g c = met_done g.T.Port.may c.meet_told.result c.args.port.now c.meet_told.new.port (g.H.Hardware.machine c.args.machine.now) c.args.s.now c.args.g.now c.args.counts.now (g.H.Hardware.machine c.meet_told.new.machine) c.meet_told.new.s c.meet_told.new.g c.meet_told.new.counts c.meet_told.ensures.met
+
+pub returns-clause-note : goal.returns-clause-note
+returns-clause-note g c = notes_instruction c.meet_told.result (guest_of (g.H.Hardware.machine c.args.machine.now).memory c.args.g.now) c.meet_told.new.note c.meet_told.ensures.note

@@ -9,4 +9,4 @@ returns-in-NotValid-clause-pays g c =
 pub returns-in-Modify-clause-pays : goal.returns-in-Modify-clause-pays
 returns-in-Modify-clause-pays g c =
     clear_pays g.T.Port.may c.args.port.now c.meet_clear.new.port (g.H.Hardware.machine c.args.machine.now) c.args.s.now c.args.g.now c.args.counts.now (g.H.Hardware.machine c.meet_clear.new.machine) c.meet_clear.new.s c.meet_clear.new.g c.meet_clear.new.counts
-    c.requires.stands c.args.exit c.requires.reaches c.in-Modify.va c.in-Modify.is c.requires.told c.meet_clear.ensures
+    c.requires.stands c.args.exit c.requires.reaches c.in-Modify.va c.in-Modify.is c.requires.told c.meet_clear.ensures.made

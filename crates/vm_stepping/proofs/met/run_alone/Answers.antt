@@ -3,6 +3,8 @@ use Rattle.vm_bursts.specs.Guarded.{Tells}
 use Rattle.vm_fitting.specs.Runs.{Reaches}
 use Rattle.vm_shadow.specs.StandsFor.{StandsFor}
 use Rattle.vm_stepping.proofs.Meeting.{guarded_budget, guarded_other, guarded_trap, stays_by}
+use Rattle.vm_stepping.proofs.Noting.{guarded_notes}
+use Rattle.vm_stepping.proofs.NotingRuns.{guarded_silent, guarded_tells}
 use Rattle.vm_state.specs.Step.{Idle}
 use Rattle.vm_stepping.proofs.PayingAlone.{budget_pays, other_pays, trap_pays}
 use Rattle.vm_stepping.proofs.met.run_alone.Goals as goal
@@ -46,3 +48,14 @@ meet_told-requires g c =
       told = subst (Tells c.run_guarded-ran.result.exit after.memory c.run_guarded-ran.new.s) (sym stays.guest) stays.tells;
       reaches = subst (Reaches c.run_guarded-ran.result.exit after.memory c.run_guarded-ran.new.s) (sym stays.guest) stays.reaches;
     }
+
+pub returns-in_default-clause-note : goal.returns-in_default-clause-note
+returns-in_default-clause-note g c =
+    guarded_notes (g.H.Hardware.machine c.args.machine.now) c.args.s.now c.args.g.now c.run_guarded-ran.result.terms (g.H.Hardware.machine c.run_guarded-ran.new.machine) c.run_guarded-ran.new.s c.run_guarded-ran.new.g c.run_guarded-ran.result.exit c.meet_told.result c.meet_told.new.note c.in_default.not-Budget c.in_default.not-Arithmetic c.run_guarded-ran.ensures c.meet_told.ensures.note
+
+pub returns-in-Budget-clause-note : goal.returns-in-Budget-clause-note
+returns-in-Budget-clause-note g c = guarded_silent (g.H.Hardware.machine c.args.machine.now) c.args.s.now c.args.g.now c.run_guarded-ran.result.terms (g.H.Hardware.machine c.run_guarded-ran.new.machine) c.run_guarded-ran.new.s c.run_guarded-ran.new.g c.run_guarded-ran.result.exit c.run_guarded-ran.ensures c.in-Budget.is
+
+pub returns-in-Arithmetic-clause-note : goal.returns-in-Arithmetic-clause-note
+returns-in-Arithmetic-clause-note g c =
+    guarded_tells (g.H.Hardware.machine c.args.machine.now) c.args.s.now c.args.g.now c.run_guarded-ran.result.terms (g.H.Hardware.machine c.run_guarded-ran.new.machine) c.run_guarded-ran.new.s c.run_guarded-ran.new.g c.run_guarded-ran.result.exit c.run_guarded-ran.ensures c.in-Arithmetic.kind c.begin.result c.in-Arithmetic.is c.begin.ensures.note

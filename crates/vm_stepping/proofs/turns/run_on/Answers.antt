@@ -3,6 +3,7 @@ use Rattle.vm_state.specs.Step.{Idle}
 use Rattle.vm_state.specs.State.{state_of}
 use Rattle.vm_stepping.proofs.Beginning.{quiet_on}
 use Rattle.vm_stepping.proofs.Running.{trap_falls_so, with_budget, with_fills, with_step, with_trap_behind}
+use Rattle.vm_stepping.proofs.NotingRuns.{notes_budget, notes_fills, notes_step, notes_trap}
 use Rattle.vm_stepping.proofs.PayingRuns.{pays_budget, pays_fills, pays_step, pays_trap}
 use Rattle.vm_stepping.proofs.turns.run_on.Goals as goal
 
@@ -33,6 +34,8 @@ returns-then-meet g c =
       pays = pays_step c.args.left c.budget.result (g.H.Hardware.machine c.args.machine.now) c.args.s.now c.args.g.now c.burst-ran.result (g.H.Hardware.machine c.burst-ran.new.machine) c.burst-ran.new.g c.budget.ensures.some c.budget.ensures.most c.burst-ran.ensures c.of-then-meet.result (g.H.Hardware.machine c.meet.new.machine) c.meet.new.s c.meet.new.g
           g.T.Port.may c.args.port.now c.meet.new.port c.retire.new.self c.meet.new.counts c.in_default.not-Budget c.in_default.not-Arithmetic c.meet.result c.meet.ensures.is c.meet.ensures.pays c.if-meet.true c.of-then-meet.ensures;
       falls = both.1;
+      note = notes_step c.args.left c.budget.result (g.H.Hardware.machine c.args.machine.now) c.args.s.now c.args.g.now c.burst-ran.result (g.H.Hardware.machine c.burst-ran.new.machine) c.burst-ran.new.g c.budget.ensures.some c.budget.ensures.most c.burst-ran.ensures c.of-then-meet.result
+          (g.H.Hardware.machine c.meet.new.machine) c.meet.new.s c.meet.new.g c.meet.new.note c.in_default.not-Budget c.in_default.not-Arithmetic c.meet.result c.meet.ensures.note c.if-meet.true c.of-then-meet.ensures;
     }
 
 pub returns-else-meet : goal.returns-else-meet
@@ -44,6 +47,8 @@ returns-else-meet g c =
       pays = pays_fills c.args.left c.budget.result (g.H.Hardware.machine c.args.machine.now) c.args.s.now c.args.g.now c.burst-ran.result (g.H.Hardware.machine c.burst-ran.new.machine) c.burst-ran.new.g c.budget.ensures.some c.budget.ensures.most c.burst-ran.ensures (record { steps = c.args.left - c.burst-ran.result.done; counted = true }) (g.H.Hardware.machine c.meet.new.machine) c.meet.new.s c.meet.new.g
           g.T.Port.may c.args.port.now c.meet.new.port c.retire.new.self c.meet.new.counts c.in_default.not-Budget c.in_default.not-Arithmetic c.meet.result c.meet.ensures.is c.meet.ensures.pays c.if-meet.false refl;
       falls = both.1;
+      note = notes_fills c.args.left c.budget.result (g.H.Hardware.machine c.args.machine.now) c.args.s.now c.args.g.now c.burst-ran.result (g.H.Hardware.machine c.burst-ran.new.machine) c.burst-ran.new.g c.budget.ensures.some c.budget.ensures.most c.burst-ran.ensures (record { steps = c.args.left - c.burst-ran.result.done; counted = true })
+          (g.H.Hardware.machine c.meet.new.machine) c.meet.new.s c.meet.new.g c.meet.new.note c.in_default.not-Budget c.in_default.not-Arithmetic c.meet.result c.meet.ensures.note g.T.Port.may c.args.port.now c.meet.new.port c.retire.new.self c.meet.new.counts c.if-meet.false refl c.meet.ensures.is;
     }
 
 pub returns-in-Budget-clause-pays : goal.returns-in-Budget-clause-pays
@@ -53,3 +58,10 @@ pub returns-in-Arithmetic-clause-pays : goal.returns-in-Arithmetic-clause-pays
 returns-in-Arithmetic-clause-pays g c =
     pays_trap c.args.left c.budget.result (g.H.Hardware.machine c.args.machine.now) c.args.s.now c.args.g.now c.burst-ran.result (g.H.Hardware.machine c.burst-ran.new.machine) c.burst-ran.new.g c.budget.ensures.some c.budget.ensures.most c.burst-ran.ensures c.of-in-Arithmetic.result (g.H.Hardware.machine c.begin.new.machine) c.begin.new.s c.begin.new.g
     c.in-Arithmetic.kind c.in-Arithmetic.is c.of-in-Arithmetic.ensures c.begin.ensures.makes
+
+pub returns-in-Budget-clause-note : goal.returns-in-Budget-clause-note
+returns-in-Budget-clause-note g c = notes_budget c.args.left c.budget.result (g.H.Hardware.machine c.args.machine.now) c.args.s.now c.args.g.now c.burst-ran.result (g.H.Hardware.machine c.burst-ran.new.machine) c.burst-ran.new.g c.budget.ensures.some c.budget.ensures.most c.burst-ran.ensures c.of.result _ c.in-Budget.is c.of.ensures refl
+
+pub returns-in-Arithmetic-clause-note : goal.returns-in-Arithmetic-clause-note
+returns-in-Arithmetic-clause-note g c =
+    notes_trap c.args.left c.budget.result (g.H.Hardware.machine c.args.machine.now) c.args.s.now c.args.g.now c.burst-ran.result (g.H.Hardware.machine c.burst-ran.new.machine) c.burst-ran.new.g c.budget.ensures.some c.budget.ensures.most c.burst-ran.ensures c.of-in-Arithmetic.result (g.H.Hardware.machine c.begin.new.machine) c.begin.new.s c.begin.new.g c.begin.result c.in-Arithmetic.kind c.in-Arithmetic.is c.of-in-Arithmetic.ensures c.begin.ensures.note

@@ -1,0 +1,89 @@
+ghost use Rattle.std.specs.Prelude.{◌≡◌, ◌<◌, IfSome, Some, length, map, slice_get, vec_len};
+ghost use Rattle.sys_guests.specs.Layout.{guests_in};
+ghost use Rattle.sys_guests.specs.Present.{PaysAll};
+ghost use Rattle.sys_rounds.specs.SlicedTouches.{touches_of_slice};
+ghost use Rattle.sys_system.specs.Calls.{CanTake, TakesSlice};
+ghost use Rattle.sys_system.specs.Held.{IsInside, system_of};
+ghost use Rattle.sys_system.specs.System.{IsSystem, StandsIn};
+ghost use Rattle.sys_system.specs.Watched.{Tells};
+
+use crate::counting::add;
+use crate::parts::Parts;
+use crate::system::System;
+use sys_events::console_of;
+use sys_guests::{TimeSlice, step_at};
+use sys_lines::show_each;
+use vax_hw::Hardware;
+use vm_guest::{Counts, Guest, Note};
+use vv_base::Text;
+use vv_io::Line;
+
+/// What a step was: how many of each kind, which is one in all; what it tells; and the bytes that it showed.
+#[derive(Drop)]
+pub struct Watched {
+    pub counts: Counts,
+    pub note: Note,
+    pub shown: Text<14>,
+}
+
+/// A guest takes one step of its turn, and its terminal's line is shown what it shows.
+fn watch<H: Hardware>(
+    machine: &mut H,
+    lines: &mut Vec<Box<dyn Line>>,
+    s: &mut Parts,
+    guest: u8,
+) -> Watched
+    requires inside { IsInside s.old }
+    requires can { CanTake (system_of s.old) (record { guest = guest; steps = 1 }) }
+    requires stands { StandsIn (H.machine machine.old).memory (system_of s.old) }
+    requires lines { vec_len lines.old ≡ 32 }
+    ensures takes { TakesSlice (record { guest = guest; steps = 1 }) (H.machine machine.old) (system_of s.old) (map (λ b. seen b) lines.old.items) (H.machine machine.new) (system_of s.new) (map (λ b. seen b) lines.new.items) }
+    ensures pays { PaysAll (touches_of_slice (record { guest = guest; steps = 1 }) (guests_in (H.machine machine.old).memory (system_of s.old).guests)) (H.machine machine.old) (system_of s.old).guests (H.machine machine.new) (system_of s.new).guests }
+    ensures tells { IfSome (slice_get (guests_in (H.machine machine.old).memory (system_of s.old).guests) guest) (λ g. Tells g result) }
+    ensures inside { IsInside s.new }
+    ensures len { vec_len lines.new ≡ vec_len lines.old }
+{
+    s.turns.take(TimeSlice { guest, steps: 1 });
+    let kernel = &mut s.kernel;
+    let once = step_at(machine, &mut kernel.port, &mut kernel.guests, guest);
+    add(&mut s.counts, &once.counts);
+    let terminals = kernel.config.terminals.as_slice();
+    let console = console_of(terminals, &kernel.server.at, guest);
+    show_each(&mut kernel.marks, lines, console, kernel.port.bytes());
+    let mut shown = Text::new();
+    let _ = shown.push_all(kernel.port.bytes());
+    Watched {
+        counts: once.counts,
+        note: once.note,
+        shown,
+    }
+}
+
+impl System {
+    /// The guest at a place.
+    pub fn guest(&self, place: u8) -> &Guest
+        requires { place < length self.now.guests }
+        ensures { slice_get self.now.guests place ≡ Some result.now }
+    {
+        &self.parts.kernel.guests[place as usize]
+    }
+
+    /// A slice of one step, with what the step was.
+    pub fn step<H: Hardware>(
+        &mut self,
+        machine: &mut H,
+        lines: &mut Vec<Box<dyn Line>>,
+        guest: u8,
+    ) -> Watched
+        requires can { CanTake self.old (record { guest = guest; steps = 1 }) }
+        requires stands { StandsIn (H.machine machine.old).memory self.old }
+        requires lines { vec_len lines.old ≡ 32 }
+        ensures takes { TakesSlice (record { guest = guest; steps = 1 }) (H.machine machine.old) self.old (map (λ b. seen b) lines.old.items) (H.machine machine.new) self.new (map (λ b. seen b) lines.new.items) }
+        ensures pays { PaysAll (touches_of_slice (record { guest = guest; steps = 1 }) (guests_in (H.machine machine.old).memory self.old.guests)) (H.machine machine.old) self.old.guests (H.machine machine.new) self.new.guests }
+        ensures tells { IfSome (slice_get (guests_in (H.machine machine.old).memory self.old.guests) guest) (λ g. Tells g result) }
+        ensures len { vec_len lines.new ≡ vec_len lines.old }
+        ensures holds { IsSystem self.new }
+    {
+        watch(machine, lines, &mut self.parts, guest)
+    }
+}
