@@ -37,7 +37,7 @@ pub hex_plain : (k v : ℕ) → ArePlain (hex_text k v)
 hex_plain zero v = refl
 hex_plain (suc k) v = rw (digit_plain (v / 2 ^ (4 * k)), hex_plain k v)
 
-hex_length : (k v : ℕ) → length (hex_text k v) ≡ k
+pub hex_length : (k v : ℕ) → length (hex_text k v) ≡ k
 hex_length zero v = refl
 hex_length (suc k) v = ap suc (hex_length k v)
 

@@ -13,6 +13,7 @@ use Rattle.vax_decode.specs.Decoding.{IsWhole, IsAnswer}
 use Rattle.vasm_dis.specs.First.{IsNone}
 use Rattle.vasm_text.specs.Printing.{instruction_text, byte_text}
 use Rattle.vasm_text.specs.Dis.{and_others, shown_by, lines_of, dis_of}
+use Rattle.vasm_text.specs.Front.{front_by, front_text}
 
 -- a spelling has at least a byte, and as many as it says
 pub spelled_some : (bytes : List ℕ) (d : Instruction) → Spells bytes d → (0 < length bytes) × (d.length ≡ length bytes)
@@ -91,18 +92,25 @@ done_by b bs d Reserved all is w = absurd w
 put_together : (old new line rest : List ℕ) → new ≡ old ++ line ++ 10 ∷ [] → new ++ rest ≡ old ++ and_others line rest
 put_together old new line rest end = rw (end, append_assoc (old ++ line) (10 ∷ []) rest, append_assoc old line (10 ∷ rest))
 
-pub done_size : (image : List ℕ) (d : Decoded) → AreBytes image → 0 < length image → IsWhole d (decoded_at image) → (0 < d.length) × (d.length ≤ length image)
-done_size [] d all some w = absurd (omega arith)
-done_size (b ∷ bs) d all some w = let r = done_by b bs d (decoded_at (b ∷ bs)) all refl w in (r.0, r.1)
+-- what `front` answers where an instruction stands there
+pub record IsFront (image line : List ℕ) (size : ℕ) : Type 0 where
+  pub text : line ≡ front_text image
+  pub some : 0 < size
+  pub most : size ≤ length image
+  pub rest : dis_of image ≡ and_others line (dis_of (drop size image))
 
-pub done_line : (image old new : List ℕ) (d : Decoded) (shown : ℕ) → AreBytes image → 0 < length image → IsWhole d (decoded_at image) → new ≡ old ++ instruction_text d.opcode d.specs.items ++ 10 ∷ [] → shown ≡ d.length
-    → new ++ dis_of (drop shown image) ≡ old ++ dis_of image
-done_line [] old new d shown all some w end size = absurd (omega arith)
-done_line (b ∷ bs) old new d shown all some w end size =
+front_done_by : (b : ℕ) (d : Decoded) (a : Answer) → IsWhole d a → instruction_text d.opcode d.specs.items ≡ front_by b a
+front_done_by b d (Whole e others) w = ap (λ (i : Instruction). instruction_text i.opcode i.specs) (sym w)
+front_done_by b d Short w = absurd w
+front_done_by b d Unknown w = absurd w
+front_done_by b d Reserved w = absurd w
+
+pub front_done : (image : List ℕ) (d : Decoded) → AreBytes image → 0 < length image → IsWhole d (decoded_at image) → IsFront image (instruction_text d.opcode d.specs.items) d.length
+unfolding front_text
+front_done [] d all some w = absurd (omega arith)
+front_done (b ∷ bs) d all some w =
     let r = done_by b bs d (decoded_at (b ∷ bs)) all refl w in
-    ap (λ n. new ++ dis_of (drop n (b ∷ bs))) size
-    ∙ put_together old new (instruction_text d.opcode d.specs.items) (dis_of (drop d.length (b ∷ bs))) end
-    ∙ ap (λ (xs : List ℕ). old ++ xs) (sym r.2)
+    record { text = front_done_by b d (decoded_at (b ∷ bs)) w; some = r.0; most = r.1; rest = r.2 }
 
 byte_by : (b : ℕ) (bs : List ℕ) (a : Answer) → AreBytes (b ∷ bs) → decoded_at (b ∷ bs) ≡ a → IsNone a → dis_of (b ∷ bs) ≡ and_others (byte_text b) (dis_of bs)
 byte_by b bs (Whole d others) all is none = absurd none
@@ -110,11 +118,25 @@ byte_by b bs Short all is none = first_line b bs Short all is
 byte_by b bs Unknown all is none = first_line b bs Unknown all is
 byte_by b bs Reserved all is none = first_line b bs Reserved all is
 
-pub byte_line : (image old new : List ℕ) → AreBytes image → 0 < length image → IsNone (decoded_at image) → new ≡ old ++ byte_text (get_or image 0 0) ++ 10 ∷ []
-    → new ++ dis_of (drop 1 image) ≡ old ++ dis_of image
-byte_line [] old new all some none end = absurd (omega arith)
-byte_line (x ∷ bs) old new all some none end =
-    put_together old new (byte_text x) (dis_of bs) end ∙ ap (λ (xs : List ℕ). old ++ xs) (sym (byte_by x bs (decoded_at (x ∷ bs)) all refl none))
+front_none_by : (b : ℕ) (a : Answer) → IsNone a → byte_text b ≡ front_by b a
+front_none_by b (Whole d others) none = absurd none
+front_none_by b Short none = refl
+front_none_by b Unknown none = refl
+front_none_by b Reserved none = refl
+
+pub as_front : (image line other : List ℕ) (size n : ℕ) → line ≡ other → size ≡ n → IsFront image other n → IsFront image line size
+as_front image line other size n same at f = subst (λ t. IsFront image t size) (sym same) (subst (λ k. IsFront image other k) (sym at) f)
+
+-- and where none does
+pub front_none : (image : List ℕ) → AreBytes image → 0 < length image → IsNone (decoded_at image) → IsFront image (byte_text (get_or image 0 0)) 1
+unfolding front_text
+front_none [] all some none = absurd (omega arith)
+front_none (b ∷ bs) all some none =
+    record { text = front_none_by b (decoded_at (b ∷ bs)) none; some = omega arith; most = omega arith; rest = byte_by b bs (decoded_at (b ∷ bs)) all refl none }
+
+-- a line is appended
+pub then_line : (old new line rest image : List ℕ) → new ≡ old ++ (line ++ 10 ∷ []) → dis_of image ≡ and_others line rest → new ++ rest ≡ old ++ dis_of image
+then_line old new line rest image end is = put_together old new line rest (end ∙ sym (append_assoc old line (10 ∷ []))) ∙ ap (λ (xs : List ℕ). old ++ xs) (sym is)
 
 -- where nothing is left
 pub all_shown : (text rest whole : List ℕ) → (length rest == 0) ≡ true → text ++ dis_of rest ≡ whole → text ≡ whole

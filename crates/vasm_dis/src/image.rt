@@ -1,58 +1,62 @@
 ghost use Rattle.std.specs.Prelude.{◌≡◌, [], ◌∷◌, ◌++◌, ◌≤◌, ◌<◌, length, drop, IfOk, OnOk};
 ghost use Rattle.vax_table.specs.Spelling.{view};
 ghost use Rattle.vasm_dis.specs.First.{IsFirst};
-ghost use Rattle.vasm_text.specs.Dis.{dis_of};
+ghost use Rattle.vasm_text.specs.Dis.{and_others, dis_of};
+ghost use Rattle.vasm_text.specs.Front.{front_text};
 ghost use Rattle.vasm_text.specs.Mnemonics.{mnemonic_of};
 ghost use Rattle.vasm_text.specs.Statements.{forms_of};
 ghost use Rattle.vasm_text.specs.Printing.{behind_mark, byte_text, instruction_text, name_text};
 
 use crate::operand::put_operands;
-use crate::put::{put, put_field};
+use crate::put::{Line, put, put_field};
 use std::alloc::Global;
 use vasm_text::mnemonic;
 use vax_decode::{Decode, decode};
 use vax_table::{Decoded, Spec, row};
-use vv_base::NoMemory;
+use vv_base::{NoMemory, Text};
 
 /// Appends an instruction's name.
-fn put_name(text: &mut Vec<u8>, opcode: u8) -> Result<(), NoMemory>
-    ensures { OnOk result (text.new.items ≡ text.old.items ++ name_text (mnemonic_of opcode)) }
+fn put_name(text: &mut Line, opcode: u8)
+    requires { length text.old ≡ 0 }
+    ensures text { text.new ≡ text.old ++ name_text (mnemonic_of opcode) }
+    ensures short { length text.new ≤ 6 }
 {
-    match mnemonic(opcode) {
-        Some(name) => put(text, name.as_bytes()),
-        None => Ok(()),
+    if let Some(name) = mnemonic(opcode) {
+        put(text, name.as_bytes());
     }
 }
 
 /// Appends an instruction's operands.
 #[tactic(auto, unfolding(vasm_text::specs::Statements::forms_of))]
-fn put_all(text: &mut Vec<u8>, opcode: u8, specs: &[Spec]) -> Result<(), NoMemory>
-    ensures { OnOk result (text.new.items ≡ text.old.items ++ behind_mark 32 (forms_of opcode) specs.now) }
+fn put_all(text: &mut Line, opcode: u8, specs: &[Spec])
+    requires { length text.old ≤ 6 }
+    ensures { text.new ≡ text.old ++ behind_mark 32 (forms_of opcode) specs.now }
 {
-    match row(opcode) {
-        Some(row) => put_operands(text, b' ', row.operands.as_slice(), specs),
-        None => Ok(()),
+    if let Some(row) = row(opcode) {
+        put_operands(text, b' ', row.operands.as_slice(), specs);
     }
 }
 
-/// Appends the line of an instruction.
+/// The text of an instruction.
 #[tactic(auto, unfolding(vasm_text::specs::Printing::instruction_text))]
-fn put_instruction(text: &mut Vec<u8>, d: &Decoded) -> Result<(), NoMemory>
-    ensures { OnOk result (text.new.items ≡ text.old.items ++ instruction_text d.now.opcode d.now.specs.items ++ 10 ∷ []) }
+fn instruction(d: &Decoded) -> Line
+    ensures { result ≡ instruction_text d.now.opcode d.now.specs.items }
 {
-    put_name(text, d.opcode)?;
-    put_all(text, d.opcode, d.specs.as_slice())?;
-    put(text, b"\n")
+    let mut text = Text::new();
+    put_name(&mut text, d.opcode);
+    put_all(&mut text, d.opcode, d.specs.as_slice());
+    text
 }
 
-/// Appends the line of a byte by itself.
+/// The text of a byte by itself.
 #[tactic(auto, unfolding(vasm_text::specs::Printing::byte_text))]
-fn put_byte(text: &mut Vec<u8>, b: u8) -> Result<(), NoMemory>
-    ensures { OnOk result (text.new.items ≡ text.old.items ++ byte_text b ++ 10 ∷ []) }
+fn single_byte(b: u8) -> Line
+    ensures { result ≡ byte_text b }
 {
-    put(text, b".byte ")?;
-    put_field(text, 1, u64::from(b))?;
-    put(text, b"\n")
+    let mut text = Text::new();
+    put(&mut text, b".byte ");
+    put_field(&mut text, 1, u64::from(b));
+    text
 }
 
 /// The instruction at the front of an image, if one stands there.
@@ -66,22 +70,28 @@ fn first(image: &[u8]) -> Option<Decoded>
     }
 }
 
-/// Appends the first line of an image, and answers how many bytes it shows.
-fn put_line(text: &mut Vec<u8>, image: &[u8]) -> Result<usize, NoMemory>
+/// What stands at the front of an image that isn't empty: the text of the instruction, or of the first byte where none stands
+/// there; and how many bytes that is.
+pub fn front(image: &[u8]) -> (Line, usize)
     requires { 0 < length image.now }
-    ensures some { IfOk result (λ n. (0 < n) × (n ≤ length image.now)) }
-    ensures text { IfOk result (λ n. text.new.items ++ dis_of (drop n image.now) ≡ text.old.items ++ dis_of image.now) }
+    ensures text { result.0 ≡ front_text image.now }
+    ensures some { 0 < result.1 }
+    ensures most { result.1 ≤ length image.now }
+    ensures rest { dis_of image.now ≡ and_others result.0 (dis_of (drop result.1 image.now)) }
 {
     match first(image) {
-        Some(d) => {
-            put_instruction(text, &d)?;
-            Ok(usize::from(d.length))
-        }
-        None => {
-            put_byte(text, image[0])?;
-            Ok(1)
-        }
+        Some(d) => (instruction(&d), usize::from(d.length)),
+        None => (single_byte(image[0]), 1),
     }
+}
+
+/// Appends a line, with its end.
+fn put_line(text: &mut Vec<u8>, line: &Line) -> Result<(), NoMemory>
+    ensures { OnOk result (text.new.items ≡ text.old.items ++ (line.now ++ 10 ∷ [])) }
+{
+    text.extend_from_slice(line.bytes())?;
+    text.push(b'\n')?;
+    Ok(())
 }
 
 /// The text of an image: a line for each instruction, and one for each byte that begins none.
@@ -92,8 +102,9 @@ pub fn disassemble(alloc: Global, image: &[u8]) -> Result<Vec<u8>, NoMemory>
     let mut text = Vec::new(alloc);
     let mut rest = image;
     while !rest.is_empty() {
-        let shown = put_line(&mut text, rest)?;
-        rest = &rest[shown..];
+        let (line, size) = front(rest);
+        put_line(&mut text, &line)?;
+        rest = &rest[size..];
     }
     Ok(text)
 }

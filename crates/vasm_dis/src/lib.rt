@@ -6,5 +6,6 @@ mod laws;
 mod operand;
 mod put;
 
-pub use image::disassemble;
+pub use image::{disassemble, front};
 pub use laws::{assembling_undoes_disassembling, reading_undoes_printing};
+pub use put::Line;

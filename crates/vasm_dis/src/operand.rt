@@ -1,10 +1,10 @@
-ghost use Rattle.std.specs.Prelude.{◌≡◌, ◌==◌, ◌%◌, ◌++◌, ◌≤◌, OnOk, [], codes, decimal, if◌then◌else◌};
+ghost use Rattle.std.specs.Prelude.{◌≡◌, ◌==◌, ◌%◌, ◌++◌, ◌≤◌, ◌+◌, ◌*◌, [], codes, decimal, if◌then◌else◌, length};
 ghost use Rattle.vv_base.specs.Width.{size_of};
 ghost use Rattle.vasm_text.specs.Printing.{behind_mark, displacement_text, field_text, increment_text, index_text, operand_text, size_letter, specifier_text};
 
-use crate::put::{put, put_around, put_field, put_register};
+use crate::put::{Line, put, put_around, put_field, put_register};
 use vax_table::{Access, Form, Spec, displacement_width};
-use vv_base::{NoMemory, Width, decimal};
+use vv_base::{Width, decimal};
 
 /// The letter of a displacement's size.
 fn letter(mode: u8) -> &'static [u8]
@@ -18,47 +18,55 @@ fn letter(mode: u8) -> &'static [u8]
 }
 
 /// Appends the sign of deferred modes.
-fn put_deferred(text: &mut Vec<u8>, mode: u8) -> Result<(), NoMemory>
-    ensures { OnOk result (text.new.items ≡ text.old.items ++ (if mode % 2 == 1 then codes "@" else [])) }
+fn put_deferred(text: &mut Line, mode: u8)
+    requires { length text.old + 1 ≤ 160 }
+    ensures text { text.new ≡ text.old ++ (if mode % 2 == 1 then codes "@" else []) }
+    ensures grows { length text.new ≤ length text.old + 1 }
 {
     if mode % 2 == 1 {
         put(text, b"@")
-    } else {
-        Ok(())
     }
 }
 
 /// Appends an operand of the modes A to F.
 #[tactic(auto, unfolding(vasm_text::specs::Printing::displacement_text))]
-fn put_displacement(text: &mut Vec<u8>, spec: &Spec) -> Result<(), NoMemory>
-    ensures { OnOk result (text.new.items ≡ text.old.items ++ displacement_text spec.now) }
+fn put_displacement(text: &mut Line, spec: &Spec)
+    requires { length text.old + 38 ≤ 160 }
+    ensures text { text.new ≡ text.old ++ displacement_text spec.now }
+    ensures grows { length text.new ≤ length text.old + 18 }
 {
-    put_deferred(text, spec.mode)?;
-    put(text, letter(spec.mode))?;
-    put_field(text, displacement_width(spec.mode).bytes(), spec.value)?;
+    put_deferred(text, spec.mode);
+    put(text, letter(spec.mode));
+    put_field(text, displacement_width(spec.mode).bytes(), spec.value);
     put_around(text, b"(", spec.reg, b")")
 }
 
 /// Appends an immediate.
-fn put_immediate(text: &mut Vec<u8>, width: Width, value: u64) -> Result<(), NoMemory>
-    ensures { OnOk result (text.new.items ≡ text.old.items ++ (codes "I^#" ++ field_text (size_of width) value)) }
+fn put_immediate(text: &mut Line, width: Width, value: u64)
+    requires { length text.old + 21 ≤ 160 }
+    ensures text { text.new ≡ text.old ++ (codes "I^#" ++ field_text (size_of width) value) }
+    ensures grows { length text.new ≤ length text.old + 21 }
 {
-    put(text, b"I^#")?;
+    put(text, b"I^#");
     put_field(text, width.bytes(), value)
 }
 
 /// Appends an absolute address.
-fn put_absolute(text: &mut Vec<u8>, value: u64) -> Result<(), NoMemory>
-    ensures { OnOk result (text.new.items ≡ text.old.items ++ (codes "@#" ++ field_text 4 value)) }
+fn put_absolute(text: &mut Line, value: u64)
+    requires { length text.old + 20 ≤ 160 }
+    ensures text { text.new ≡ text.old ++ (codes "@#" ++ field_text 4 value) }
+    ensures grows { length text.new ≤ length text.old + 12 }
 {
-    put(text, b"@#")?;
+    put(text, b"@#");
     put_field(text, 4, value)
 }
 
 /// Appends an operand of the modes 8 and 9.
 #[tactic(auto, unfolding(vasm_text::specs::Printing::increment_text))]
-fn put_increment(text: &mut Vec<u8>, form: Form, spec: &Spec) -> Result<(), NoMemory>
-    ensures { OnOk result (text.new.items ≡ text.old.items ++ increment_text form spec.now) }
+fn put_increment(text: &mut Line, form: Form, spec: &Spec)
+    requires { length text.old + 25 ≤ 160 }
+    ensures text { text.new ≡ text.old ++ increment_text form spec.now }
+    ensures grows { length text.new ≤ length text.old + 21 }
 {
     match (spec.mode, spec.reg) {
         (8, 15) => put_immediate(text, form.width, spec.value),
@@ -69,17 +77,21 @@ fn put_increment(text: &mut Vec<u8>, form: Form, spec: &Spec) -> Result<(), NoMe
 }
 
 /// Appends a literal.
-fn put_literal(text: &mut Vec<u8>, value: u64) -> Result<(), NoMemory>
-    ensures { OnOk result (text.new.items ≡ text.old.items ++ (codes "S^#" ++ decimal value)) }
+fn put_literal(text: &mut Line, value: u64)
+    requires { length text.old + 24 ≤ 160 }
+    ensures text { text.new ≡ text.old ++ (codes "S^#" ++ decimal value) }
+    ensures grows { length text.new ≤ length text.old + 24 }
 {
-    put(text, b"S^#")?;
+    put(text, b"S^#");
     put(text, decimal(value).bytes())
 }
 
 /// Appends a specifier without its index.
 #[tactic(auto, unfolding(vasm_text::specs::Printing::specifier_text))]
-fn put_specifier(text: &mut Vec<u8>, form: Form, spec: &Spec) -> Result<(), NoMemory>
-    ensures { OnOk result (text.new.items ≡ text.old.items ++ specifier_text form spec.now) }
+fn put_specifier(text: &mut Line, form: Form, spec: &Spec)
+    requires { length text.old + 38 ≤ 160 }
+    ensures text { text.new ≡ text.old ++ specifier_text form spec.now }
+    ensures grows { length text.new ≤ length text.old + 24 }
 {
     match spec.mode {
         0 => put_literal(text, spec.value),
@@ -92,42 +104,42 @@ fn put_specifier(text: &mut Vec<u8>, form: Form, spec: &Spec) -> Result<(), NoMe
 }
 
 /// Appends an index, if there is one.
-fn put_index(text: &mut Vec<u8>, index: Option<u8>) -> Result<(), NoMemory>
-    ensures { OnOk result (text.new.items ≡ text.old.items ++ index_text index) }
+fn put_index(text: &mut Line, index: Option<u8>)
+    requires { length text.old + 25 ≤ 160 }
+    ensures text { text.new ≡ text.old ++ index_text index }
+    ensures grows { length text.new ≤ length text.old + 5 }
 {
     match index {
         Some(x) => put_around(text, b"[", x, b"]"),
-        None => Ok(()),
+        None => {}
     }
 }
 
 /// Appends an operand of the form.
 #[tactic(auto, unfolding(vasm_text::specs::Printing::operand_text))]
-fn put_operand(text: &mut Vec<u8>, form: Form, spec: &Spec) -> Result<(), NoMemory>
-    ensures { OnOk result (text.new.items ≡ text.old.items ++ operand_text form spec.now) }
+fn put_operand(text: &mut Line, form: Form, spec: &Spec)
+    requires { length text.old + 49 ≤ 160 }
+    ensures text { text.new ≡ text.old ++ operand_text form spec.now }
+    ensures grows { length text.new ≤ length text.old + 29 }
 {
     if form.access == Access::Branch {
-        return put_field(text, form.width.bytes(), spec.value);
+        put_field(text, form.width.bytes(), spec.value);
+        return;
     }
-    put_specifier(text, form, spec)?;
-    put_index(text, spec.index)
+    put_specifier(text, form, spec);
+    put_index(text, spec.index);
 }
 
 /// Appends operands of the forms, the first behind a mark and each other behind a comma.
-pub(crate) fn put_operands(
-    text: &mut Vec<u8>,
-    mark: u8,
-    forms: &[Form],
-    specs: &[Spec],
-) -> Result<(), NoMemory>
-    ensures { OnOk result (text.new.items ≡ text.old.items ++ behind_mark mark forms.now specs.now) }
+pub(crate) fn put_operands(text: &mut Line, mark: u8, forms: &[Form], specs: &[Spec])
+    requires { length text.old + 30 * length forms.now + 20 ≤ 160 }
+    ensures { text.new ≡ text.old ++ behind_mark mark forms.now specs.now }
 {
     if let [form, other_forms @ ..] = forms
         && let [spec, other_specs @ ..] = specs
     {
-        put(text, &[mark])?;
-        put_operand(text, *form, spec)?;
-        put_operands(text, b',', other_forms, other_specs)?;
+        put(text, &[mark]);
+        put_operand(text, *form, spec);
+        put_operands(text, b',', other_forms, other_specs);
     }
-    Ok(())
 }

@@ -1,25 +1,30 @@
-ghost use Rattle.std.specs.Prelude.{◌≡◌, ◌*◌, ◌++◌, ◌≤◌, OnOk};
+ghost use Rattle.std.specs.Prelude.{◌≡◌, ◌*◌, ◌+◌, ◌++◌, ◌≤◌, length};
 ghost use Rattle.vasm_text.specs.Printing.{field_text, register_text};
 
-use vv_base::{NoMemory, decimal, hex};
+use vv_base::{Text, decimal, hex};
 
-/// Appends bytes.
-pub(crate) fn put(text: &mut Vec<u8>, bytes: &[u8]) -> Result<(), NoMemory>
-    ensures { OnOk result (text.new.items ≡ text.old.items ++ bytes.now) }
+/// The text of an instruction, without a line end.
+pub type Line = Text<160>;
+
+/// Appends bytes that fit.
+pub(crate) fn put(text: &mut Line, bytes: &[u8])
+    requires { length text.old + length bytes.now ≤ 160 }
+    ensures { text.new ≡ text.old ++ bytes.now }
 {
-    text.extend_from_slice(bytes)?;
-    Ok(())
+    let _ = text.push_all(bytes);
 }
 
 /// Appends the name of a register.
 #[tactic(auto, unfolding(vasm_text::specs::Printing::register_text))]
-pub(crate) fn put_register(text: &mut Vec<u8>, n: u8) -> Result<(), NoMemory>
-    ensures { OnOk result (text.new.items ≡ text.old.items ++ register_text n) }
+pub(crate) fn put_register(text: &mut Line, n: u8)
+    requires { length text.old + 21 ≤ 160 }
+    ensures text { text.new ≡ text.old ++ register_text n }
+    ensures grows { length text.new ≤ length text.old + 3 }
 {
     match n {
         0..12 => {
-            put(text, b"R")?;
-            put(text, decimal(u64::from(n)).bytes())
+            put(text, b"R");
+            put(text, decimal(u64::from(n)).bytes());
         }
         12 => put(text, b"AP"),
         13 => put(text, b"FP"),
@@ -29,26 +34,26 @@ pub(crate) fn put_register(text: &mut Vec<u8>, n: u8) -> Result<(), NoMemory>
 }
 
 /// Appends a register between two texts.
-pub(crate) fn put_around(
-    text: &mut Vec<u8>,
-    before: &[u8],
-    n: u8,
-    behind: &[u8],
-) -> Result<(), NoMemory>
-    ensures { OnOk result (text.new.items ≡ text.old.items ++ (before.now ++ (register_text n ++ behind.now))) }
+pub(crate) fn put_around(text: &mut Line, before: &[u8], n: u8, behind: &[u8])
+    requires few { length before.now + length behind.now ≤ 4 }
+    requires room { length text.old + 25 ≤ 160 }
+    ensures text { text.new ≡ text.old ++ (before.now ++ (register_text n ++ behind.now)) }
+    ensures grows { length text.new ≤ length text.old + (length before.now + 3 + length behind.now) }
 {
-    put(text, before)?;
-    put_register(text, n)?;
-    put(text, behind)
+    put(text, before);
+    put_register(text, n);
+    put(text, behind);
 }
 
 /// Appends the number in a field of so many bytes.
 #[tactic(auto, unfolding(vasm_text::specs::Printing::field_text))]
-pub(crate) fn put_field(text: &mut Vec<u8>, size: u8, value: u64) -> Result<(), NoMemory>
+pub(crate) fn put_field(text: &mut Line, size: u8, value: u64)
     requires low { 1 ≤ size }
     requires high { size ≤ 8 }
-    ensures { OnOk result (text.new.items ≡ text.old.items ++ field_text size value) }
+    requires room { length text.old + 18 ≤ 160 }
+    ensures text { text.new ≡ text.old ++ field_text size value }
+    ensures grows { length text.new ≤ length text.old + (2 + 2 * size) }
 {
-    put(text, b"^X")?;
-    put(text, hex(value, 2 * size).bytes())
+    put(text, b"^X");
+    put(text, hex(value, 2 * size).bytes());
 }

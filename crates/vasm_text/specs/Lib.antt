@@ -8,5 +8,6 @@ pub mod Statements
 pub mod Asm
 pub mod Printing
 pub mod Dis
+pub mod Front
 pub mod ShownAsm
 pub mod ShownDis

@@ -7,6 +7,7 @@ use Rattle.vasm_text.specs.Mnemonics.{mnemonic_of}
 use Rattle.vasm_text.specs.Statements.{forms_of}
 use Rattle.vasm_text.specs.Printing.{register_text, field_text, displacement_text, increment_text, specifier_text, operand_text, instruction_text, byte_text}
 use Rattle.vasm_text.specs.Dis.{dis_of}
+use Rattle.vasm_text.specs.Front.{front_text}
 
 pub a_loop : dis_of (0xd7 ∷ 0x50 ∷ 0x12 ∷ 0xfc ∷ []) ≡ codes "DECL R0\nBNEQ ^XFC\n"
 unfolding digits dis_of instruction_text byte_text operand_text specifier_text increment_text displacement_text field_text register_text forms_of mnemonic_of decoded_at operand_at indexed_at specifier_at specifier_by row_of
@@ -64,3 +65,22 @@ a_reserved_form = refl
 pub a_front_alone : dis_of (0xd0 ∷ 0x8f ∷ 0x01 ∷ []) ≡ codes ".byte ^XD0\n.byte ^X8F\nNOP\n"
 unfolding digits dis_of instruction_text byte_text operand_text specifier_text increment_text displacement_text field_text register_text forms_of mnemonic_of decoded_at operand_at indexed_at specifier_at specifier_by row_of
 a_front_alone = refl
+
+-- ---- what stands at the front
+
+pub an_instruction_in_front : front_text (0xd7 ∷ 0x50 ∷ 0x12 ∷ 0xfc ∷ []) ≡ codes "DECL R0"
+unfolding digits front_text instruction_text byte_text operand_text specifier_text increment_text displacement_text field_text register_text forms_of mnemonic_of decoded_at operand_at indexed_at specifier_at specifier_by row_of
+an_instruction_in_front = refl
+
+pub a_byte_in_front : front_text (0xff ∷ 0xd7 ∷ 0x50 ∷ []) ≡ codes ".byte ^XFF"
+unfolding digits front_text instruction_text byte_text operand_text specifier_text increment_text displacement_text field_text register_text forms_of mnemonic_of decoded_at operand_at indexed_at specifier_at specifier_by row_of
+a_byte_in_front = refl
+
+-- an immediate of four bytes, of which one is there
+pub an_instruction_cut_short : front_text (0xd0 ∷ 0x8f ∷ 0x01 ∷ []) ≡ codes ".byte ^XD0"
+unfolding digits front_text instruction_text byte_text operand_text specifier_text increment_text displacement_text field_text register_text forms_of mnemonic_of decoded_at operand_at indexed_at specifier_at specifier_by row_of
+an_instruction_cut_short = refl
+
+pub nothing_in_front : front_text ([]) ≡ codes ""
+unfolding front_text
+nothing_in_front = refl
