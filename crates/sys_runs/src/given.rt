@@ -4,6 +4,7 @@ ghost use Rattle.sys_runs.specs.Given.{RunsWith};
 ghost use Rattle.sys_script.specs.Events.{AreEvents};
 ghost use Rattle.vv_io.specs.Blocks.{Kept};
 
+use crate::progress::Progress;
 use crate::rounds::make_rounds;
 use crate::running::Ran;
 use std::alloc::Global;
@@ -16,7 +17,7 @@ use vv_io::Line;
 /// Makes a run as `run` does, over given blocks of the volumes, a list for each, in place of those of drives; at its end the
 /// dumps are shown, and no volume is stored. A line that fails is marked and gets no more, and the run goes on. After a
 /// fault, which is never of a drive, no line got a put.
-pub fn run_with<H: Hardware>(
+pub fn run_with<H: Hardware, P: Progress>(
     alloc: Global,
     config: Config,
     images: &[Vec<u8>],
@@ -25,6 +26,7 @@ pub fn run_with<H: Hardware>(
     rounds: u32,
     machine: &mut H,
     lines: &mut Vec<Box<dyn Line>>,
+    progress: &mut P,
 ) -> Result<Ran, PowerFault>
     requires accepted { IsConfig config }
     requires images { length images.now ≡ length config.guests }
@@ -37,7 +39,7 @@ pub fn run_with<H: Hardware>(
     ensures len { vec_len lines.new ≡ vec_len lines.old }
 {
     let mut system = System::power_up_with(alloc, config, images, machine, volumes)?;
-    make_rounds(&mut system, machine, lines, events, rounds);
+    make_rounds(&mut system, machine, lines, events, rounds, progress);
     system.show_dumps(machine, lines);
     Ok(Ran {
         counts: system.counts(),

@@ -4,6 +4,7 @@ ghost use Rattle.sys_script.specs.Events.{AreEvents};
 ghost use Rattle.sys_snap.specs.Held.{HoldsMoment, moment_of};
 ghost use Rattle.sys_snap.specs.Snap.{IsMoment};
 
+use crate::progress::Progress;
 use crate::rounds::make_rounds;
 use crate::running::Ran;
 use std::alloc::Global;
@@ -16,7 +17,7 @@ use vv_io::{Drive, Line};
 /// Goes on from a snapshot in a machine of 32,768 pages, with a drive for each volume: makes the next so many rounds, each with
 /// its own events, and brings power down as `run` does. The counts are those of these rounds. All memory is taken before the
 /// first of them. After a fault no line got a put, and no drive a set.
-pub fn resume<H: Hardware>(
+pub fn resume<H: Hardware, P: Progress>(
     alloc: Global,
     snap: Snap,
     events: &[Event],
@@ -24,6 +25,7 @@ pub fn resume<H: Hardware>(
     machine: &mut H,
     lines: &mut Vec<Box<dyn Line>>,
     drives: &mut Vec<Box<dyn Drive>>,
+    progress: &mut P,
 ) -> Result<Ran, PowerFault>
     requires held { HoldsMoment snap }
     requires moment { IsMoment (moment_of snap) }
@@ -37,7 +39,7 @@ pub fn resume<H: Hardware>(
     ensures drives_len { vec_len drives.new ≡ vec_len drives.old }
 {
     let mut system = System::resume(alloc, snap, machine, drives)?;
-    make_rounds(&mut system, machine, lines, events, rounds);
+    make_rounds(&mut system, machine, lines, events, rounds, progress);
     system.power_down(machine, lines, drives);
     Ok(Ran {
         counts: system.counts(),

@@ -3,6 +3,7 @@ ghost use Rattle.sys_runs.specs.Rounds.{MakesRounds};
 ghost use Rattle.sys_script.specs.Events.{AreEvents};
 ghost use Rattle.sys_system.specs.System.{IsSystem, StandsIn};
 
+use crate::progress::Progress;
 use sys_script::Event;
 use sys_system::System;
 use vax_hw::Hardware;
@@ -27,13 +28,15 @@ fn later_than(events: &[Event], round: u32) -> &[Event]
 }
 
 /// Makes the next rounds of a system, so many, the i-th round since power-up with the events of round i. Events of earlier
-/// and of later rounds have no effect. It takes no memory, and no fault of a line is answered: it is kept as a mark.
-pub fn make_rounds<H: Hardware>(
+/// and of later rounds have no effect. After each round it is told how many of them were made. It takes no memory, and no fault
+/// of a line is answered: it is kept as a mark.
+pub fn make_rounds<H: Hardware, P: Progress>(
     system: &mut System,
     machine: &mut H,
     lines: &mut Vec<Box<dyn Line>>,
     events: &[Event],
     rounds: u32,
+    progress: &mut P,
 )
     requires rests { system.old.turns.is_begun ≡ false }
     requires few { system.old.rounds + rounds ≤ 2000000 }
@@ -52,5 +55,6 @@ pub fn make_rounds<H: Hardware>(
         let (these, later) = rest.split_at(own);
         system.make_round(machine, lines, these);
         rest = later;
+        progress.made(made + 1, rounds);
     }
 }

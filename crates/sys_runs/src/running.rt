@@ -3,6 +3,7 @@ ghost use Rattle.sys_objects.specs.Condition.{IsConfig};
 ghost use Rattle.sys_runs.specs.Ran.{Runs};
 ghost use Rattle.sys_script.specs.Events.{AreEvents};
 
+use crate::progress::Progress;
 use crate::rounds::make_rounds;
 use std::alloc::Global;
 use sys_objects::Config;
@@ -23,7 +24,7 @@ pub struct Ran {
 /// rounds, the i-th with the events of round i; and brings power down: the dumps are shown, and the volumes' blocks are
 /// stored. All memory is taken before the first round. A line or a drive that fails is marked and gets no more, and the
 /// run goes on. After a fault no line got a put, and no drive a set.
-pub fn run<H: Hardware>(
+pub fn run<H: Hardware, P: Progress>(
     alloc: Global,
     config: Config,
     images: &[Vec<u8>],
@@ -32,6 +33,7 @@ pub fn run<H: Hardware>(
     machine: &mut H,
     lines: &mut Vec<Box<dyn Line>>,
     drives: &mut Vec<Box<dyn Drive>>,
+    progress: &mut P,
 ) -> Result<Ran, PowerFault>
     requires accepted { IsConfig config }
     requires images { length images.now ≡ length config.guests }
@@ -45,7 +47,7 @@ pub fn run<H: Hardware>(
     ensures drives_len { vec_len drives.new ≡ vec_len drives.old }
 {
     let mut system = System::power_up(alloc, config, images, machine, drives)?;
-    make_rounds(&mut system, machine, lines, events, rounds);
+    make_rounds(&mut system, machine, lines, events, rounds, progress);
     system.power_down(machine, lines, drives);
     Ok(Ran {
         counts: system.counts(),

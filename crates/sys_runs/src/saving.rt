@@ -4,6 +4,7 @@ ghost use Rattle.sys_objects.specs.Condition.{IsConfig};
 ghost use Rattle.sys_runs.specs.Saved.{SavesRun};
 ghost use Rattle.sys_script.specs.Events.{AreEvents};
 
+use crate::progress::Progress;
 use crate::rounds::make_rounds;
 use std::alloc::Global;
 use sys_objects::Config;
@@ -23,7 +24,7 @@ pub struct Saved {
 /// system is after them, as a snapshot with the text of its configuration, of at most 262,144 bytes. No dump is shown, and no
 /// volume is stored. All memory is taken before the first round. A line that fails is marked and gets no more, and the run
 /// goes on. After a fault no line and no `out` got a put, and no drive a set.
-pub fn save<H: Hardware, O: Sink>(
+pub fn save<H: Hardware, O: Sink, P: Progress>(
     alloc: Global,
     config: Config,
     text: &[u8],
@@ -34,6 +35,7 @@ pub fn save<H: Hardware, O: Sink>(
     lines: &mut Vec<Box<dyn Line>>,
     drives: &mut Vec<Box<dyn Drive>>,
     out: &mut O,
+    progress: &mut P,
 ) -> Result<Saved, PowerFault>
     requires accepted { IsConfig config }
     requires text { config_of text.now ≡ Ok config }
@@ -49,7 +51,7 @@ pub fn save<H: Hardware, O: Sink>(
     ensures drives_len { vec_len drives.new ≡ vec_len drives.old }
 {
     let mut system = System::power_up(alloc, config, images, machine, drives)?;
-    make_rounds(&mut system, machine, lines, events, rounds);
+    make_rounds(&mut system, machine, lines, events, rounds, progress);
     let failed = system.failed();
     let is_cut = system.save(machine, text, out).is_err();
     Ok(Saved { failed, is_cut })

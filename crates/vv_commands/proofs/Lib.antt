@@ -3,4 +3,5 @@ pub mod Lent
 pub mod Separate
 pub mod Sizes
 pub mod Stopping
+pub mod Tracing
 pub mod Workloads

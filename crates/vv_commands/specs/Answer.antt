@@ -1,5 +1,5 @@
 -- Each answer of the top call, and what it says of the outside.
-use Rattle.std.specs.Prelude.{ℕ, ◌≡◌, ◌⊎◌, List, [], ◌∷◌, All, Bool, true, false, Option, Some, None, Result, Ok, Err, if◌then◌else◌, codes, pos}
+use Rattle.std.specs.Prelude.{ℕ, ◌≡◌, ◌⊎◌, List, [], ◌∷◌, All, Bool, true, false, ◌++◌, Option, Some, None, Result, Ok, Err, if◌then◌else◌, codes, pos}
 use Rattle.vv_io.specs.Blocks.{Kept}
 use Rattle.vv_io.specs.Lines.{Seen}
 use Rattle.vv_io.specs.Shelf.{File}
@@ -22,6 +22,7 @@ use Rattle.sys_objects.specs.declared.records.Config.{Config}
 use Rattle.sys_purge.specs.Input.{purged}
 use Rattle.sys_purge.specs.Laws.{shown_on}
 use Rattle.sys_rounds.specs.Bytes.{devices_of, drive_blocks, line_bytes}
+use Rattle.sys_rounds.specs.Guests.{powered}
 use Rattle.sys_rounds.specs.Run.{Input, Moment}
 use Rattle.sys_runs.specs.Given.{MakesWith}
 use Rattle.sys_runs.specs.Ran.{Outside as RunOutside, Runs, Untouched}
@@ -32,11 +33,12 @@ use Rattle.sys_script.specs.declared.event.Event.{Event}
 use Rattle.sys_system.specs.declared.parts.Device.{Device}
 use Rattle.sys_system.specs.declared.power.PowerFault.{PowerFault}
 use Rattle.sys_system.specs.declared.power.PowerFault.TheVariants as faults
+use Rattle.sys_trace.specs.Trace.{trace_of}
 use Rattle.vv_gen.specs.Workload.{Generated, workload_of}
 use Rattle.vv_commands.specs.Files.{HasAll, HasAllToSave, HasBoth, HasConfig, IsRead, StopsAudit, StopsConfig, StopsFile, StopsResume, StopsRun, StopsSave}
-use Rattle.vv_commands.specs.Solo.{solo_config}
+use Rattle.vv_commands.specs.Solo.{solo_config, solo_guest}
 use Rattle.vv_commands.specs.Summary.{check_line, summary}
-use Rattle.vv_commands.specs.Words.{Asked, AuditAsked, ResumeAsked, RunAsked, Wanted, WantsSolo, WantsRun, WantsSave, WantsResume, WantsLoad, WantsCheck, WantsMigration, WantsAudit, WantsFlow, WantsDrawing, WantsBytes, WantsText}
+use Rattle.vv_commands.specs.Words.{Asked, AuditAsked, ResumeAsked, RunAsked, Wanted, WantsSolo, WantsTrace, WantsRun, WantsSave, WantsResume, WantsLoad, WantsCheck, WantsMigration, WantsAudit, WantsFlow, WantsDrawing, WantsBytes, WantsText}
 use Rattle.vv_commands.specs.declared.status.Status.{Status}
 use Rattle.vv_commands.specs.declared.status.Status.TheVariants.{Done, Words, Missing, TooLong, ShelfFault, Config as ConfigRefused, Script as ScriptRefused, Image, VolumeSize, DriveIn, Device as DeviceFault, Asm, SnapSize, Snap as SnapRefused, Audit, OutFault, NoMemory}
 use Rattle.vv_commands.specs.declared.stop.Stop.{Stop}
@@ -138,6 +140,26 @@ pub record PlaysSolo (a : Asked) (status : Status) (o : Outside) : Type 0 where
 
 abbrev pub FollowsSolo : Asked → Status → Outside → Type 0
 FollowsSolo a status o = (Stops (StopsFile o.files a.image o.shelf o.shelf') status × Silent o) ⊎ PlaysSolo a status o
+
+-- how a run whose steps were to be shown is answered: power doesn't come up, or it is made, and its trace is put, with the summary
+-- after it
+abbrev pub AnswersTrace : List ℕ → Result Ran PowerFault → Status → Seen → Seen → Type 0
+AnswersTrace trace (Err fault) status out out' = (status ≡ power_status fault) × (out' ≡ out)
+AnswersTrace trace (Ok ran) status out out' = Closes ran.failed (trace ++ summary 1 (tally_of ran.counts)) status out out'
+
+-- `trace`: the image was fetched, and the run of `solo` is made; what is put is the trace of the guest A, which steps alone on its
+-- private virtual VAX
+pub record PlaysTrace (a : Asked) (status : Status) (o : Outside) : Type 0 where
+  pub image : List ℕ
+  pub read : IsRead o.files a.image image
+  pub shelf : o.shelf' ≡ o.shelf
+  pub result : Result Ran PowerFault
+  pub runs : Runs (solo_config a) (image ∷ []) [] 1 result (run_of o)
+  pub answers : AnswersTrace (trace_of a.steps (powered (solo_guest a) image)) result status o.out o.out'
+  pub drives : o.drives' ≡ o.drives
+
+abbrev pub FollowsTrace : Asked → Status → Outside → Type 0
+FollowsTrace a status o = (Stops (StopsFile o.files a.image o.shelf o.shelf') status × Silent o) ⊎ PlaysTrace a status o
 
 -- `run`: all files were fetched, and the configuration runs. Whatever the drives hold, its devices are separate.
 pub record PlaysRun (a : RunAsked) (status : Status) (o : Outside) : Type 0 where
@@ -267,6 +289,7 @@ ShowsFile made name status o = (answer : Answer) × (status ≡ status_of name a
 abbrev pub Says : Option Wanted → Status → Outside → Type 0
 Says None status o = (status ≡ Words) × Apart o × (o.out' ≡ o.out)
 Says (Some (WantsSolo a)) status o = FollowsSolo a status o
+Says (Some (WantsTrace a)) status o = FollowsTrace a status o
 Says (Some (WantsRun a)) status o = FollowsRun a status o
 Says (Some (WantsSave a)) status o = FollowsSave a status o
 Says (Some (WantsResume a)) status o = FollowsResume a status o

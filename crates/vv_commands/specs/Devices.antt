@@ -1,12 +1,13 @@
 -- The devices that each command has.
 use Rattle.std.specs.Prelude.{Option, Some, None}
-use Rattle.vv_commands.specs.Words.{Wanted, WantsSolo, WantsRun, WantsSave, WantsResume, WantsLoad}
+use Rattle.vv_commands.specs.Words.{Wanted, WantsSolo, WantsTrace, WantsRun, WantsSave, WantsResume, WantsLoad}
 use Rattle.vv_commands.specs.declared.devices.Devices.{Devices}
 use Rattle.vv_commands.specs.declared.devices.Devices.TheVariants.{Nothing, Lines, LinesAndDrives}
 
--- `solo` and `load` show on lines; `run`, `save` and `resume` have drives besides; no other command has any
+-- `solo`, `trace` and `load` show on lines; `run`, `save` and `resume` have drives besides; no other command has any
 abbrev pub devices_of : Option Wanted → Devices
 devices_of (Some (WantsSolo a)) = Lines
+devices_of (Some (WantsTrace a)) = Lines
 devices_of (Some (WantsLoad number)) = Lines
 devices_of (Some (WantsRun a)) = LinesAndDrives
 devices_of (Some (WantsSave a)) = LinesAndDrives

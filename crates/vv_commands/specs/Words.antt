@@ -5,9 +5,9 @@ use Rattle.std.specs.Option.{option_map}
 use Rattle.vv_base.specs.Digits.{decimal_of}
 use Rattle.vv_base.specs.Names.{is_file_name}
 use Rattle.vv_commands.specs.declared.words.Request.{Request}
-use Rattle.vv_commands.specs.declared.words.Request.TheVariants.{Solo, Run, Save, Resume, Load, Check, Migrate, Audit, Flow, Draw, Asm, Dis}
+use Rattle.vv_commands.specs.declared.words.Request.TheVariants.{Solo, Trace, Run, Save, Resume, Load, Check, Migrate, Audit, Flow, Draw, Asm, Dis}
 
--- `solo IMAGE STEPS`
+-- `solo IMAGE STEPS`, and `trace` likewise
 pub record Asked : Type 0 where
   pub image : List ℕ
   pub steps : ℕ
@@ -32,6 +32,7 @@ pub record AuditAsked : Type 0 where
 -- what each command is given
 pub data Wanted : Type 0 where
   WantsSolo : Asked → Wanted
+  WantsTrace : Asked → Wanted
   WantsRun : RunAsked → Wanted
   WantsSave : RunAsked → Wanted
   WantsResume : ResumeAsked → Wanted
@@ -72,20 +73,22 @@ file_wanted command file =
 abbrev pub word_wanted : List ℕ → List ℕ → Option Wanted
 word_wanted command word = if is_word command (codes "load") then option_map (λ n. WantsLoad n) (decimal_of word 4294967295) else file_wanted command word
 
--- `solo`, a file's name, and a number to 100,000
-abbrev pub solo_asked : List ℕ → List ℕ → List ℕ → Option Asked
-solo_asked command image steps =
-    if is_word command (codes "solo") && is_file_name image then option_map (λ n. record { image = image; steps = n }) (number_in steps 100000) else None
+-- this command, a file's name, and a number to 100,000
+abbrev pub steps_asked : (name command image steps : List ℕ) → Option Asked
+steps_asked name command image steps =
+    if is_word command name && is_file_name image then option_map (λ n. record { image = image; steps = n }) (number_in steps 100000) else None
 
 -- `audit`, and two files' names
 abbrev pub audit_asked : List ℕ → List ℕ → List ℕ → Option AuditAsked
 audit_asked command config recorded =
     if is_word command (codes "audit") && is_file_name config && is_file_name recorded then Some (record { config = config; recorded = recorded }) else None
 
--- `audit` and its two files, or `solo`, an image and a number
+-- `audit` and its two files, or `solo` or `trace`, an image and a number
 unfoldable pub two_wanted : List ℕ → List ℕ → List ℕ → Option Wanted
 two_wanted command first second =
-    if is_word command (codes "audit") then option_map (λ a. WantsAudit a) (audit_asked command first second) else option_map (λ a. WantsSolo a) (solo_asked command first second)
+    if is_word command (codes "audit") then option_map (λ a. WantsAudit a) (audit_asked command first second)
+    else if is_word command (codes "trace") then option_map (λ a. WantsTrace a) (steps_asked (codes "trace") command first second)
+    else option_map (λ a. WantsSolo a) (steps_asked (codes "solo") command first second)
 
 -- two files' names, and a number to 1,000,000
 abbrev pub run_asked : List ℕ → List ℕ → List ℕ → Option RunAsked
@@ -113,6 +116,7 @@ wanted words = None
 -- a request, as what is wanted
 abbrev pub wanted_by : Request → Wanted
 wanted_by (Solo order) = WantsSolo (record { image = order.image; steps = order.steps })
+wanted_by (Trace order) = WantsTrace (record { image = order.image; steps = order.steps })
 wanted_by (Run order) = WantsRun (record { config = order.config; script = order.script; rounds = order.rounds })
 wanted_by (Save order) = WantsSave (record { config = order.config; script = order.script; rounds = order.rounds })
 wanted_by (Resume order) = WantsResume (record { snap = order.snap; script = order.script; rounds = order.rounds })
@@ -128,6 +132,7 @@ wanted_by (Dis image) = WantsText image
 -- a run's files have files' names, and its number is in range
 abbrev pub IsInRange : Request → Type 0
 IsInRange (Solo order) = (is_file_name order.image ≡ true) × (1 ≤ order.steps) × (order.steps ≤ 100000)
+IsInRange (Trace order) = (is_file_name order.image ≡ true) × (1 ≤ order.steps) × (order.steps ≤ 100000)
 IsInRange (Run order) = (1 ≤ order.rounds) × (order.rounds ≤ 1000000)
 IsInRange (Save order) = (1 ≤ order.rounds) × (order.rounds ≤ 1000000)
 IsInRange (Resume order) = (1 ≤ order.rounds) × (order.rounds ≤ 1000000)

@@ -21,6 +21,7 @@ pub fn devices_of(words: &[String]) -> Devices
 {
     match parse(words) {
         Some(Request::Solo(_)) => Devices::Lines,
+        Some(Request::Trace(_)) => Devices::Lines,
         Some(Request::Load(_)) => Devices::Lines,
         Some(Request::Run(_)) => Devices::LinesAndDrives,
         Some(Request::Save(_)) => Devices::LinesAndDrives,

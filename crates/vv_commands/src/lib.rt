@@ -12,9 +12,11 @@ mod solo;
 mod status;
 mod stop;
 mod top;
+mod traces;
 mod words;
 
 pub use devices::{Devices, devices_of};
 pub use playing::close;
 pub use status::{Status, status_code, status_text};
+pub use sys_runs::{NoProgress, Progress};
 pub use top::vvmm_run;

@@ -5,18 +5,19 @@ ghost use Rattle.vv_commands.specs.Answer.{FollowsLoad};
 use crate::playing::answer;
 use crate::status::Status;
 use std::alloc::Global;
-use sys_runs::run_with;
+use sys_runs::{Progress, run_with};
 use vax_hw::Hardware;
 use vv_gen::workload;
 use vv_io::{Line, Sink};
 
 /// `load`: makes the run of the workload that is drawn from a number, over its own volumes, and tells it. Drives stay as they are.
-pub fn load<H: Hardware, O: Sink>(
+pub fn load<H: Hardware, O: Sink, P: Progress>(
     alloc: Global,
     number: u32,
     machine: &mut H,
     lines: &mut Vec<Box<dyn Line>>,
     out: &mut O,
+    progress: &mut P,
 ) -> Status
     requires pages { length (H.machine machine.old).memory ≡ 512 * 32768 }
     requires lines { vec_len lines.old ≡ 32 }
@@ -35,6 +36,7 @@ pub fn load<H: Hardware, O: Sink>(
         rounds,
         machine,
         lines,
+        progress,
     );
     answer(rounds, ran, out)
 }

@@ -10,7 +10,7 @@ use crate::report::summary;
 use crate::status::Status;
 use crate::stop::power_status;
 use std::alloc::Global;
-use sys_runs::{Ran, run};
+use sys_runs::{Progress, Ran, run};
 use sys_system::{Device, PowerFault};
 use vax_hw::Hardware;
 use vv_io::{Drive, Line, Sink, SinkFault};
@@ -53,7 +53,7 @@ pub fn answer<O: Sink>(rounds: u32, ran: Result<Ran, PowerFault>, out: &mut O) -
 }
 
 /// Makes a run, puts its summary, and answers.
-pub fn play<H: Hardware, O: Sink>(
+pub fn play<H: Hardware, O: Sink, P: Progress>(
     alloc: Global,
     inputs: Inputs,
     rounds: u32,
@@ -61,6 +61,7 @@ pub fn play<H: Hardware, O: Sink>(
     lines: &mut Vec<Box<dyn Line>>,
     drives: &mut Vec<Box<dyn Drive>>,
     out: &mut O,
+    progress: &mut P,
 ) -> Status
     requires accepted { IsConfig inputs.config }
     requires ordered { AreEvents inputs.events.items }
@@ -80,6 +81,7 @@ pub fn play<H: Hardware, O: Sink>(
         machine,
         lines,
         drives,
+        progress,
     );
     answer(rounds, ran, out)
 }

@@ -7,7 +7,7 @@ use crate::status::Status;
 use crate::stop::{power_status, stopped_status};
 use crate::words::{ResumeOrder, RunOrder};
 use std::alloc::Global;
-use sys_runs::Saved;
+use sys_runs::{Progress, Saved};
 use sys_system::PowerFault;
 use vax_hw::Hardware;
 use vv_io::{Drive, Line, Shelf, Sink};
@@ -24,7 +24,7 @@ fn saved_status(saved: Result<Saved, PowerFault>) -> Status
 
 /// `save`: fetches the configuration, the script and the images, makes the rounds, and shows what the system is after them
 /// as a snapshot. The drives stay as they are.
-pub fn save<H: Hardware, S: Shelf, O: Sink>(
+pub fn save<H: Hardware, S: Shelf, O: Sink, P: Progress>(
     alloc: Global,
     order: RunOrder,
     shelf: &mut S,
@@ -32,6 +32,7 @@ pub fn save<H: Hardware, S: Shelf, O: Sink>(
     lines: &mut Vec<Box<dyn Line>>,
     drives: &mut Vec<Box<dyn Drive>>,
     out: &mut O,
+    progress: &mut P,
 ) -> Status
     requires pages { length (H.machine machine.old).memory ≡ 512 * 32768 }
     requires lines { vec_len lines.old ≡ 32 }
@@ -55,12 +56,13 @@ pub fn save<H: Hardware, S: Shelf, O: Sink>(
         lines,
         drives,
         out,
+        progress,
     );
     saved_status(saved)
 }
 
 /// `resume`: fetches a snapshot and the script, goes on with the rounds from there, and tells them as `run` does.
-pub fn resume<H: Hardware, S: Shelf, O: Sink>(
+pub fn resume<H: Hardware, S: Shelf, O: Sink, P: Progress>(
     alloc: Global,
     order: ResumeOrder,
     shelf: &mut S,
@@ -68,6 +70,7 @@ pub fn resume<H: Hardware, S: Shelf, O: Sink>(
     lines: &mut Vec<Box<dyn Line>>,
     drives: &mut Vec<Box<dyn Drive>>,
     out: &mut O,
+    progress: &mut P,
 ) -> Status
     requires pages { length (H.machine machine.old).memory ≡ 512 * 32768 }
     requires lines { vec_len lines.old ≡ 32 }
@@ -87,6 +90,7 @@ pub fn resume<H: Hardware, S: Shelf, O: Sink>(
         machine,
         lines,
         drives,
+        progress,
     );
     answer(order.rounds, ran, out)
 }

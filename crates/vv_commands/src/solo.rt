@@ -1,11 +1,15 @@
 ghost use Rattle.std.specs.Prelude.{◌≡◌, ◌∷◌, [], IfOk};
+ghost use Rattle.vv_commands.specs.Fetches.{FetchesSolo};
 ghost use Rattle.vv_commands.specs.Solo.{lowest, solo_config};
 
+use crate::fetching::{Inputs, fetch_file};
+use crate::stop::Stop;
 use crate::words::Order;
 use std::alloc::Global;
 use sys_objects::{Config, GuestRow, Rows, Terminal};
 use vv_base::{Name, NoMemory};
 use vv_class::AccessClass;
+use vv_io::Shelf;
 
 /// The guest's pages, and the address at which it is loaded and started.
 const PAGES: u32 = 128;
@@ -34,7 +38,7 @@ fn letter(b: u8) -> Name
 }
 
 /// The configuration of `solo`: the guest A alone, with its console on line 0 and its dump on line 1.
-pub fn solo_config(alloc: Global, order: Order) -> Result<Config, NoMemory>
+fn solo_config(alloc: Global, order: Order) -> Result<Config, NoMemory>
     ensures { IfOk result (λ c. c ≡ solo_config (record { image = order.image; steps = order.steps })) }
 {
     let mut terminals = Vec::new(alloc);
@@ -66,5 +70,21 @@ pub fn solo_config(alloc: Global, order: Order) -> Result<Config, NoMemory>
         volumes: Rows::new(Vec::new(alloc)),
         printers: Rows::new(Vec::new(alloc)),
         guests: Rows::new(guests),
+    })
+}
+
+/// What the run of one guest is made of.
+pub fn solo_inputs<S: Shelf>(alloc: Global, order: Order, shelf: &mut S) -> Result<Inputs, Stop>
+    ensures fetches { FetchesSolo (S.files shelf.old) (record { image = order.image; steps = order.steps }) (S.faults shelf.old) (S.faults shelf.new) result }
+    ensures files { S.files shelf.new ≡ S.files shelf.old }
+{
+    let image = fetch_file(alloc, shelf, &order.image)?;
+    let config = solo_config(alloc, order)?;
+    let mut images = Vec::new(alloc);
+    images.push(image)?;
+    Ok(Inputs {
+        config,
+        events: Vec::new(alloc),
+        images,
     })
 }

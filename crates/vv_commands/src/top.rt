@@ -2,43 +2,28 @@ ghost use Rattle.std.specs.Prelude.{◌≡◌, ◌≤◌, ◌*◌, List, ℕ, ma
 ghost use Rattle.sys_flow.specs.Report.{IsReport};
 ghost use Rattle.vv_base.specs.Names.{is_file_name};
 ghost use Rattle.vv_commands.specs.Answer.{AreCounts, FollowsAudit, FollowsConfig, FollowsRun, FollowsSolo, IsDrawing, IsMigrated, Says, status_of};
-ghost use Rattle.vv_commands.specs.Fetches.{FetchesSolo};
 ghost use Rattle.vv_commands.specs.Words.{wanted};
 
-use crate::fetching::{Inputs, fetch_audit, fetch_config, fetch_file, fetch_run};
+use crate::fetching::{fetch_audit, fetch_config, fetch_run};
 use crate::loading::load;
 use crate::playing::{close, play};
 use crate::report::check_line;
 use crate::snaps::{resume, save};
-use crate::solo::solo_config;
+use crate::solo::solo_inputs;
 use crate::status::Status;
-use crate::stop::{Stop, stopped_status};
+use crate::stop::stopped_status;
+use crate::traces::trace;
 use crate::words::{AuditOrder, Order, Request, RunOrder, parse};
 use std::alloc::Global;
 use sys_audit_check::check_audit;
 use sys_config::migrate_text;
 use sys_draw::drawing;
 use sys_flow::report;
+use sys_runs::{NoProgress, Progress};
 use vasm_files::{Answer, asm, dis};
 use vax_hw::Hardware;
 use vv_base::{FileName, NoMemory};
 use vv_io::{Drive, Line, Shelf, Sink};
-
-/// What the run of one guest is made of.
-fn solo_inputs<S: Shelf>(alloc: Global, order: Order, shelf: &mut S) -> Result<Inputs, Stop>
-    ensures fetches { FetchesSolo (S.files shelf.old) (record { image = order.image; steps = order.steps }) (S.faults shelf.old) (S.faults shelf.new) result }
-    ensures files { S.files shelf.new ≡ S.files shelf.old }
-{
-    let image = fetch_file(alloc, shelf, &order.image)?;
-    let config = solo_config(alloc, order)?;
-    let mut images = Vec::new(alloc);
-    images.push(image)?;
-    Ok(Inputs {
-        config,
-        events: Vec::new(alloc),
-        images,
-    })
-}
 
 /// `solo`: fetches the image, makes its run and tells it.
 fn solo<H: Hardware, S: Shelf, O: Sink>(
@@ -59,13 +44,22 @@ fn solo<H: Hardware, S: Shelf, O: Sink>(
     ensures { FollowsSolo (record { image = order.image; steps = order.steps }) result (record { files = S.files shelf.old; shelf = S.faults shelf.old; shelf' = S.faults shelf.new; machine = H.machine machine.old; machine' = H.machine machine.new; lines = map (λ b. seen b) lines.old.items; lines' = map (λ b. seen b) lines.new.items; drives = map (λ d. kept d) drives.old.items; drives' = map (λ d. kept d) drives.new.items; out = O.printed out.old; out' = O.printed out.new }) }
 {
     match solo_inputs(alloc, order, shelf) {
-        Ok(inputs) => play(alloc, inputs, 1, machine, lines, drives, out),
+        Ok(inputs) => play(
+            alloc,
+            inputs,
+            1,
+            machine,
+            lines,
+            drives,
+            out,
+            &mut NoProgress,
+        ),
         Err(stop) => stopped_status(stop),
     }
 }
 
 /// `run`: fetches the configuration, the script and the images, makes their run and tells it.
-fn run<H: Hardware, S: Shelf, O: Sink>(
+fn run<H: Hardware, S: Shelf, O: Sink, P: Progress>(
     alloc: Global,
     order: RunOrder,
     shelf: &mut S,
@@ -73,6 +67,7 @@ fn run<H: Hardware, S: Shelf, O: Sink>(
     lines: &mut Vec<Box<dyn Line>>,
     drives: &mut Vec<Box<dyn Drive>>,
     out: &mut O,
+    progress: &mut P,
 ) -> Status
     requires pages { length (H.machine machine.old).memory ≡ 512 * 32768 }
     requires lines { vec_len lines.old ≡ 32 }
@@ -81,7 +76,16 @@ fn run<H: Hardware, S: Shelf, O: Sink>(
     ensures { FollowsRun (record { config = order.config; script = order.script; rounds = order.rounds }) result (record { files = S.files shelf.old; shelf = S.faults shelf.old; shelf' = S.faults shelf.new; machine = H.machine machine.old; machine' = H.machine machine.new; lines = map (λ b. seen b) lines.old.items; lines' = map (λ b. seen b) lines.new.items; drives = map (λ d. kept d) drives.old.items; drives' = map (λ d. kept d) drives.new.items; out = O.printed out.old; out' = O.printed out.new }) }
 {
     match fetch_run(alloc, shelf, &order) {
-        Ok(inputs) => play(alloc, inputs, order.rounds, machine, lines, drives, out),
+        Ok(inputs) => play(
+            alloc,
+            inputs,
+            order.rounds,
+            machine,
+            lines,
+            drives,
+            out,
+            progress,
+        ),
         Err(stop) => stopped_status(stop),
     }
 }
@@ -168,8 +172,9 @@ fn status_of(name: FileName, answer: Answer) -> Status
 }
 
 /// Does what the words say, over a shelf of files, a machine of 32,768 pages, 32 lines and 16 drives; the summary, or
-/// what a command shows of a file, is put on `out`. The machine's memory and counts may hold anything.
-pub fn vvmm_run<H: Hardware, S: Shelf, O: Sink>(
+/// what a command shows of a file, is put on `out`. The machine's memory and counts may hold anything. After each round of a
+/// run it is told how many were made.
+pub fn vvmm_run<H: Hardware, S: Shelf, O: Sink, P: Progress>(
     alloc: Global,
     words: &[String],
     shelf: &mut S,
@@ -177,6 +182,7 @@ pub fn vvmm_run<H: Hardware, S: Shelf, O: Sink>(
     lines: &mut Vec<Box<dyn Line>>,
     drives: &mut Vec<Box<dyn Drive>>,
     out: &mut O,
+    progress: &mut P,
 ) -> Status
     requires pages { length (H.machine machine.old).memory ≡ 512 * 32768 }
     requires lines { vec_len lines.old ≡ 32 }
@@ -186,10 +192,17 @@ pub fn vvmm_run<H: Hardware, S: Shelf, O: Sink>(
     match parse(words) {
         None => Status::Words,
         Some(Request::Solo(order)) => solo(alloc, order, shelf, machine, lines, drives, out),
-        Some(Request::Run(order)) => run(alloc, order, shelf, machine, lines, drives, out),
-        Some(Request::Save(order)) => save(alloc, order, shelf, machine, lines, drives, out),
-        Some(Request::Resume(order)) => resume(alloc, order, shelf, machine, lines, drives, out),
-        Some(Request::Load(number)) => load(alloc, number, machine, lines, out),
+        Some(Request::Trace(order)) => trace(alloc, order, shelf, machine, lines, drives, out),
+        Some(Request::Run(order)) => run(
+            alloc, order, shelf, machine, lines, drives, out, progress,
+        ),
+        Some(Request::Save(order)) => save(
+            alloc, order, shelf, machine, lines, drives, out, progress,
+        ),
+        Some(Request::Resume(order)) => resume(
+            alloc, order, shelf, machine, lines, drives, out, progress,
+        ),
+        Some(Request::Load(number)) => load(alloc, number, machine, lines, out, progress),
         Some(Request::Check(name)) => check(alloc, &name, shelf, out),
         Some(Request::Migrate(name)) => migrate(alloc, &name, shelf, out),
         Some(Request::Audit(order)) => audit(alloc, &order, shelf, out),

@@ -1,11 +1,11 @@
 ghost use Rattle.std.specs.Prelude.{◌≡◌, ◌≤◌, ℕ, map, string_bytes, true, IfSome};
 ghost use Rattle.std.specs.Option.{option_map};
 ghost use Rattle.vv_base.specs.Names.{is_file_name};
-ghost use Rattle.vv_commands.specs.Words.{IsInRange, file_wanted, number_in, resume_asked, run_asked, audit_asked, solo_asked, three_wanted, two_wanted, wanted, wanted_by, word_wanted};
+ghost use Rattle.vv_commands.specs.Words.{IsInRange, file_wanted, number_in, resume_asked, run_asked, audit_asked, steps_asked, three_wanted, two_wanted, wanted, wanted_by, word_wanted};
 
 use vv_base::{FileName, file_name, read_decimal};
 
-/// What `solo IMAGE STEPS` asks for.
+/// What `solo IMAGE STEPS` asks for, and `trace` likewise.
 #[derive(Drop)]
 pub struct Order {
     pub image: FileName,
@@ -40,6 +40,8 @@ pub struct AuditOrder {
 pub enum Request {
     /// One guest's run.
     Solo(Order),
+    /// One guest's run, with a line for each step.
+    Trace(Order),
     /// A configuration's run.
     Run(RunOrder),
     /// A configuration's run, whose last moment is shown as a snapshot.
@@ -75,12 +77,12 @@ fn number_in(text: &[u8], most: u32) -> Option<u32>
     }
 }
 
-/// What `solo IMAGE STEPS` asks for, if the words are of the form.
-fn solo_order(command: &[u8], image: &[u8], steps: &[u8]) -> Option<Order>
+/// What a command of this name asks for that is given an image and a number of steps, if the words are of the form.
+fn steps_order(name: &[u8], command: &[u8], image: &[u8], steps: &[u8]) -> Option<Order>
     ensures range { IfSome result (λ o. (is_file_name o.image ≡ true) × (1 ≤ o.steps) × (o.steps ≤ 100000)) }
-    ensures asked { option_map (λ o. record { image = o.image; steps = o.steps }) result ≡ solo_asked command.now image.now steps.now }
+    ensures asked { option_map (λ o. record { image = o.image; steps = o.steps }) result ≡ steps_asked name.now command.now image.now steps.now }
 {
-    if command != b"solo".as_slice() {
+    if command != name {
         return None;
     }
     let image = file_name(image)?;
@@ -110,7 +112,11 @@ fn two_request(command: &[u8], first: &[u8], second: &[u8]) -> Option<Request>
         let order = audit_order(command, first, second)?;
         return Some(Request::Audit(order));
     }
-    let order = solo_order(command, first, second)?;
+    if command == b"trace".as_slice() {
+        let order = steps_order(b"trace", command, first, second)?;
+        return Some(Request::Trace(order));
+    }
+    let order = steps_order(b"solo", command, first, second)?;
     Some(Request::Solo(order))
 }
 

@@ -11,3 +11,4 @@ pub mod Steps
 pub mod Joined
 pub mod Saves
 pub mod Resumes
+pub mod Traced

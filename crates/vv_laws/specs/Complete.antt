@@ -14,7 +14,7 @@ use Rattle.sys_objects.specs.declared.records.Config.{Config}
 use Rattle.sys_script.specs.declared.event.Event.{Event}
 use Rattle.sys_script.specs.declared.event.ScriptFault.{ScriptFault}
 use Rattle.sys_system.specs.declared.parts.Device.TheVariants as devices
-use Rattle.vv_commands.specs.Answer.{FollowsAudit, FollowsConfig, FollowsLoad, FollowsRun, FollowsSolo, Outside, ShowsFile, run_of, shelf_and_sink}
+use Rattle.vv_commands.specs.Answer.{FollowsAudit, FollowsConfig, FollowsLoad, FollowsRun, Outside, ShowsFile, run_of, shelf_and_sink}
 use Rattle.vv_commands.specs.Files.{HasAll, HasConfig, IsConfigRefused, IsNext, IsNextOfAudit, IsRead, IsScriptRefused}
 use Rattle.vv_commands.specs.Solo.{load_address, memory_size}
 use Rattle.vv_commands.specs.Words.{Asked, AuditAsked, RunAsked}
@@ -96,25 +96,25 @@ NamesDrive d status = ⊥
 abbrev pub IsLong : List File → List ℕ → Type 0
 IsLong files name = (bytes : List ℕ) × (held files name ≡ Some bytes) × (file_limit < length bytes)
 
--- `solo`: a held image within the limit that fits, and no risen count, are served
-abbrev pub CompletesSolo : Type 0
-CompletesSolo = (a : Asked) (status : Status) (o : Outside) (image : List ℕ) (files : List File) → FollowsSolo a status o → o.files ≡ Some files → IsRead (Some files) a.image image → load_address + length image ≤ memory_size → NoneRose o
+-- `solo` and `trace`, by what follows: a held image within the limit that fits, and no risen count, are served
+abbrev pub CompletesImage : (Asked → Status → Outside → Type 0) → Type 0
+CompletesImage Follows = (a : Asked) (status : Status) (o : Outside) (image : List ℕ) (files : List File) → Follows a status o → o.files ≡ Some files → IsRead (Some files) a.image image → load_address + length image ≤ memory_size → NoneRose o
     → IsServed status
 
-abbrev pub TellsSoloMissing : Type 0
-TellsSoloMissing = (a : Asked) (status : Status) (o : Outside) (files : List File) → FollowsSolo a status o → o.files ≡ Some files → held files a.image ≡ None → (Rose o.shelf o.shelf' → ⊥) → IsMissing a.image status
+abbrev pub TellsImageMissing : (Asked → Status → Outside → Type 0) → Type 0
+TellsImageMissing Follows = (a : Asked) (status : Status) (o : Outside) (files : List File) → Follows a status o → o.files ≡ Some files → held files a.image ≡ None → (Rose o.shelf o.shelf' → ⊥) → IsMissing a.image status
 
-abbrev pub TellsSoloTooLong : Type 0
-TellsSoloTooLong = (a : Asked) (status : Status) (o : Outside) (files : List File) → FollowsSolo a status o → o.files ≡ Some files → IsLong files a.image → (Rose o.shelf o.shelf' → ⊥) → IsTooLong a.image status
+abbrev pub TellsImageTooLong : (Asked → Status → Outside → Type 0) → Type 0
+TellsImageTooLong Follows = (a : Asked) (status : Status) (o : Outside) (files : List File) → Follows a status o → o.files ≡ Some files → IsLong files a.image → (Rose o.shelf o.shelf' → ⊥) → IsTooLong a.image status
 
 -- an image that doesn't fit is told
-abbrev pub TellsSoloImage : Type 0
-TellsSoloImage = (a : Asked) (status : Status) (o : Outside) (image : List ℕ) (files : List File) → FollowsSolo a status o → o.files ≡ Some files → IsRead (Some files) a.image image → memory_size < load_address + length image → (Rose o.shelf o.shelf' → ⊥)
+abbrev pub TellsImageMisfit : (Asked → Status → Outside → Type 0) → Type 0
+TellsImageMisfit Follows = (a : Asked) (status : Status) (o : Outside) (image : List ℕ) (files : List File) → Follows a status o → o.files ≡ Some files → IsRead (Some files) a.image image → memory_size < load_address + length image → (Rose o.shelf o.shelf' → ⊥)
     → IsImageOf 0 status
 
 -- where a line's count is greater, it is named or one of a lower number
-abbrev pub TellsSoloDevice : Type 0
-TellsSoloDevice = (a : Asked) (status : Status) (o : Outside) (k : ℕ) → FollowsSolo a status o → (line_at o.lines k).faults < (line_at o.lines' k).faults → NamesLine k status
+abbrev pub TellsImageLineFault : (Asked → Status → Outside → Type 0) → Type 0
+TellsImageLineFault Follows = (a : Asked) (status : Status) (o : Outside) (k : ℕ) → Follows a status o → (line_at o.lines k).faults < (line_at o.lines' k).faults → NamesLine k status
 
 -- `run`: held files that stand for a configuration, a script and images that fit, drives that fit, and no risen count, are served
 abbrev pub CompletesRun : Type 0

@@ -2,3 +2,4 @@ pub mod Alone
 pub mod Complete
 pub mod Snaps
 pub mod Together
+pub mod Traced

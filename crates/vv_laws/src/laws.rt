@@ -1,7 +1,7 @@
 ghost use Rattle.sys_flow.specs.Report.{IsReport};
-ghost use Rattle.vv_commands.specs.Answer.{AreCounts, IsDrawing, IsMigrated};
+ghost use Rattle.vv_commands.specs.Answer.{AreCounts, FollowsSolo, FollowsTrace, IsDrawing, IsMigrated};
 ghost use Rattle.vv_laws.specs.Alone.{RunsAlone};
-ghost use Rattle.vv_laws.specs.Complete.{CompletesAudit, CompletesConfig, CompletesFile, CompletesLoad, CompletesRun, CompletesSolo, LimitsLoad, TellsAuditLine, TellsAuditMissing, TellsAuditRule, TellsAuditTooLong, TellsConfigMissing, TellsConfigRule, TellsConfigTooLong, TellsFileMissing, TellsFileRefused, TellsFileTooLong, TellsLoadLineFault, TellsRunDriveFault, TellsRunImage, TellsRunLine, TellsRunLineFault, TellsRunMissing, TellsRunRule, TellsRunSize, TellsRunTooLong, TellsSoloDevice, TellsSoloImage, TellsSoloMissing, TellsSoloTooLong};
+ghost use Rattle.vv_laws.specs.Complete.{CompletesAudit, CompletesConfig, CompletesFile, CompletesImage, CompletesLoad, CompletesRun, LimitsLoad, TellsAuditLine, TellsAuditMissing, TellsAuditRule, TellsAuditTooLong, TellsConfigMissing, TellsConfigRule, TellsConfigTooLong, TellsFileMissing, TellsFileRefused, TellsFileTooLong, TellsImageLineFault, TellsImageMisfit, TellsImageMissing, TellsImageTooLong, TellsLoadLineFault, TellsRunDriveFault, TellsRunImage, TellsRunLine, TellsRunLineFault, TellsRunMissing, TellsRunRule, TellsRunSize, TellsRunTooLong};
 
 /// The lines' bytes of `solo` are those of the guest that steps alone on its private virtual VAX.
 pub fn a_guest_runs_alone()
@@ -10,27 +10,32 @@ pub fn a_guest_runs_alone()
 
 /// A held image within the limit that fits, and no risen count, give `Done`, or `NoMemory` before anything is shown.
 pub fn solo_is_complete()
-    ensures { CompletesSolo }
+    ensures { CompletesImage FollowsSolo }
 {}
 
-/// Over a shelf that did not fail, an image that it lacks gives `Missing`, or `NoMemory`.
+/// Over a shelf that did not fail, an image that it lacks gives `Missing` of `solo` and `trace`, or `NoMemory`.
 pub fn a_missing_image_is_told()
-    ensures { TellsSoloMissing }
+    ensures solo { TellsImageMissing FollowsSolo }
+    ensures trace { TellsImageMissing FollowsTrace }
 {}
 
-/// Over a shelf that did not fail, an image that is too long gives `TooLong`, or `NoMemory`.
+/// Over a shelf that did not fail, an image that is too long gives `TooLong` of `solo` and `trace`, or `NoMemory`.
 pub fn a_too_long_image_is_told()
-    ensures { TellsSoloTooLong }
+    ensures solo { TellsImageTooLong FollowsSolo }
+    ensures trace { TellsImageTooLong FollowsTrace }
 {}
 
-/// Over a shelf that did not fail, an image that doesn't fit the guest's memory gives `Image`, or `NoMemory`.
+/// Over a shelf that did not fail, an image that doesn't fit the guest's memory gives `Image` of `solo` and `trace`, or
+/// `NoMemory`.
 pub fn an_image_that_does_not_fit_is_told()
-    ensures { TellsSoloImage }
+    ensures solo { TellsImageMisfit FollowsSolo }
+    ensures trace { TellsImageMisfit FollowsTrace }
 {}
 
-/// Where a line's count is greater behind `solo`, the answer names it or one of a lower number.
+/// Where a line's count is greater behind `solo` or `trace`, the answer names it or one of a lower number.
 pub fn a_failed_line_is_told()
-    ensures { TellsSoloDevice }
+    ensures solo { TellsImageLineFault FollowsSolo }
+    ensures trace { TellsImageLineFault FollowsTrace }
 {}
 
 /// Held files that stand for a configuration, a script and images that fit, drives that fit, and no risen count, give `Done`, or

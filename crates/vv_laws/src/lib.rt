@@ -3,6 +3,7 @@
 
 mod laws;
 mod snaps;
+mod traces;
 
 pub use laws::{
     a_broken_rule_is_told, a_configuration_is_shown, a_failed_line_is_told, a_file_is_shown,
@@ -23,3 +24,4 @@ pub use snaps::{
     the_first_too_long_file_to_save_is_told, the_first_volume_to_resume_of_another_size_is_told,
     the_first_volume_to_save_of_another_size_is_told,
 };
+pub use traces::{a_trace_is_the_run_of_solo, trace_is_complete};

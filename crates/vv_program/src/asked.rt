@@ -9,6 +9,7 @@ use vv_commands::Status;
 pub const HELP: &str =
     "vvmm solo IMAGE STEPS          runs the file IMAGE as one guest for STEPS steps, 1 to 100000;
                                the guest's console is the file line00.out, its dump line01.out
+vvmm trace IMAGE STEPS         runs as solo does, and shows a line for each step
 vvmm run CONFIG SCRIPT ROUNDS  runs the guests of the configuration CONFIG for ROUNDS rounds, 1 to
                                1000000, with what the file SCRIPT types at terminals; line k is the
                                file linekk.out, drive k the file drivekk.vol
@@ -29,7 +30,7 @@ vvmm --version                 prints the version
 ";
 
 /// What `--version` shows.
-pub const VERSION: &str = "vvmm 0.2.0\n";
+pub const VERSION: &str = "vvmm 0.3.0\n";
 
 /// The text that the words ask for by themselves.
 pub fn text_asked(words: &[String]) -> Option<&'static str>

@@ -5,7 +5,7 @@ ghost use Rattle.vv_program.specs.Serves.{Serves, device_of, lower, synced_statu
 use std::alloc::Global;
 use sys_system::Device;
 use vax_hw::Hardware;
-use vv_commands::{Status, vvmm_run};
+use vv_commands::{Progress, Status, vvmm_run};
 use vv_edge::{sync_drives, sync_lines};
 use vv_io::{Drive, Line, Shelf, Sink};
 
@@ -47,7 +47,7 @@ fn synced_status(answer: Status, failed: Option<Device>) -> Status
 }
 
 /// Does what the words say, and then syncs all lines and drives; a device that fails in that is told as one that failed.
-pub fn serve<H: Hardware, S: Shelf, O: Sink>(
+pub fn serve<H: Hardware, S: Shelf, O: Sink, P: Progress>(
     alloc: Global,
     words: &[String],
     shelf: &mut S,
@@ -55,13 +55,14 @@ pub fn serve<H: Hardware, S: Shelf, O: Sink>(
     lines: &mut Vec<Box<dyn Line>>,
     drives: &mut Vec<Box<dyn Drive>>,
     out: &mut O,
+    progress: &mut P,
 ) -> Status
     requires pages { length (H.machine machine.old).memory ≡ 512 * 32768 }
     requires lines { vec_len lines.old ≡ 32 }
     requires drives { vec_len drives.old ≡ 16 }
     ensures { Serves (wanted (map (λ w. string_bytes w) words.now)) result (record { files = S.files shelf.old; shelf = S.faults shelf.old; shelf' = S.faults shelf.new; machine = H.machine machine.old; machine' = H.machine machine.new; lines = map (λ b. seen b) lines.old.items; lines' = map (λ b. seen b) lines.new.items; drives = map (λ d. kept d) drives.old.items; drives' = map (λ d. kept d) drives.new.items; out = O.printed out.old; out' = O.printed out.new }) }
 {
-    let answer = vvmm_run(alloc, words, shelf, machine, lines, drives, out);
+    let answer = vvmm_run(alloc, words, shelf, machine, lines, drives, out, progress);
     let line = sync_lines(lines);
     let drive = sync_drives(drives);
     synced_status(answer, device_of(line, drive))

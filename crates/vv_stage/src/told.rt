@@ -4,7 +4,7 @@ use crate::props::{Disk, LineCut, PAGES, Props, calls_of, cuts_of, disk_of, volu
 use std::alloc::Global;
 use vax_hw::Hardware;
 use vv_base::NoMemory;
-use vv_commands::{status_code, status_text, vvmm_run};
+use vv_commands::{NoProgress, status_code, status_text, vvmm_run};
 use vv_io::{Drive, EmptyDrive, Line, MemDrive, MemLine};
 
 /// What a call answered, and what lines, drives and the sink hold behind it.
@@ -141,6 +141,7 @@ pub fn run_words<H: Hardware>(
         &mut lines,
         &mut drives,
         &mut out,
+        &mut NoProgress,
     );
     Ok(Told {
         code: status_code(&status),

@@ -7,7 +7,7 @@ use std::test::Fail;
 use vax_cpu::Cpu;
 use vax_hw::Hardware;
 use vv_base::{FileName, NoMemory};
-use vv_commands::vvmm_run;
+use vv_commands::{NoProgress, vvmm_run};
 use vv_io::{MemLine, MemShelf, Shelf, ShelfFault};
 use vv_stage::{PAGES, plain};
 
@@ -77,6 +77,7 @@ fn fetched(alloc: Global, text: &str) -> Result<Vec<u8>, NoMemory> {
             &mut lines,
             &mut drives,
             &mut out,
+            &mut NoProgress,
         );
     }
     let NotingShelf { shelf: _, letters } = shelf;

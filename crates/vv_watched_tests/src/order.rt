@@ -8,7 +8,7 @@ use std::test::Fail;
 use vax_cpu::Cpu;
 use vax_hw::Hardware;
 use vv_base::NoMemory;
-use vv_commands::{Status, vvmm_run};
+use vv_commands::{NoProgress, Status, vvmm_run};
 use vv_io::{Drive, EmptyDrive, Line, LineFault, Sink, SinkFault};
 use vv_stage::{PAGES, plain};
 
@@ -148,6 +148,7 @@ fn is_done(alloc: Global, notes: &Notes) -> Result<bool, NoMemory> {
         &mut lines,
         &mut drives,
         &mut out,
+        &mut NoProgress,
     );
     Ok(matches!(status, Status::Done))
 }

@@ -6,12 +6,14 @@ mod file_shelf;
 mod found;
 mod out_sink;
 mod standard;
+mod ticker;
 
 pub use file_drive::FileDrive;
 pub use file_line::FileLine;
 pub use file_shelf::FileShelf;
 pub use out_sink::OutSink;
 pub use standard::{hold_standard, identity_of};
+pub use ticker::Ticker;
 
 #[cfg(test)]
 mod tests;

@@ -7,9 +7,9 @@ mod edge;
 #[cfg(test)]
 mod tests;
 
-use edge::{FileDrive, FileLine, FileShelf, OutSink, hold_standard, identity_of};
+use edge::{FileDrive, FileLine, FileShelf, OutSink, Ticker, hold_standard, identity_of};
 use std::env;
-use std::io::ErrorKind;
+use std::io::{ErrorKind, IsTerminal};
 use std::process::ExitCode;
 use std::rt::{Stderr, Stdout};
 use vax_cpu::Cpu;
@@ -144,6 +144,8 @@ fn run(
         }
     }
     let mut shelf = FileShelf::new(rt);
+    let is_terminal = rt.stderr().is_terminal();
+    let mut ticker = Ticker::new(&mut streams.errors, is_terminal, rt);
     let out = &mut streams.out;
     Ok(serve(
         alloc,
@@ -153,6 +155,7 @@ fn run(
         &mut lines,
         &mut drives,
         out,
+        &mut ticker,
     ))
 }
 

@@ -118,8 +118,9 @@ fn lines_and_drives_are_files_of_these_names(rt: HostRuntime) -> Result<(), Fail
 }
 
 /// The words that follow `vvmm` in each form.
-const FORMS: [&str; 14] = [
+const FORMS: [&str; 15] = [
     "solo IMAGE STEPS",
+    "trace IMAGE STEPS",
     "run CONFIG SCRIPT ROUNDS",
     "save CONFIG SCRIPT ROUNDS",
     "resume SNAP SCRIPT ROUNDS",

@@ -1,10 +1,14 @@
 use super::*;
+use std::cell::Cell;
 use std::process::Abort;
+use std::rt::Clock;
 use std::test::Fail;
-use std::{env, fs, process};
+use std::time::Duration;
+use std::{env, fs, io, process};
 use vv_base::{FileName, file_name};
+use vv_commands::Progress;
 use vv_edge::Identity;
-use vv_io::{Drive, DriveFault, Line, LineFault, Shelf, ShelfFault, Sink, SinkFault};
+use vv_io::{Drive, DriveFault, Line, LineFault, MemLine, Shelf, ShelfFault, Sink, SinkFault};
 
 /// A path of this process in the system's folder for files that don't last.
 fn scratch(rt: &HostRuntime, name: &str) -> Result<String, Fail> {
@@ -119,4 +123,41 @@ fn standard_output_takes_bytes(rt: HostRuntime) {
     assert_eq!(rt; out.put(b"shown\n"), Ok(()));
     out.keep_from(Some(output));
     assert_eq!(rt; out.put(b"not shown\n"), Err(SinkFault));
+}
+
+/// A clock that shows so many seconds.
+#[derive(Drop)]
+struct Seconds(Cell<u64>);
+
+impl Clock for Seconds {
+    fn monotonic(&self) -> io::Result<Duration> {
+        Ok(Duration::from_secs(self.0.get()))
+    }
+
+    fn since_1970(&self) -> io::Result<Duration> {
+        self.monotonic()
+    }
+}
+
+/// What is told of four rounds, of which the second ends after so many seconds.
+fn told_of_four(rt: &HostRuntime, is_terminal: bool, seconds: u64) -> Result<Vec<u8>, Fail> {
+    let clock = Seconds(Cell::new(0));
+    let mut out = MemLine::new(rt.alloc(), 100, Vec::new(rt.alloc()))?;
+    let mut ticker = Ticker::new(&mut out, is_terminal, &clock);
+    ticker.made(1, 4);
+    clock.0.set(seconds);
+    for round in 2..=4 {
+        ticker.made(round, 4);
+    }
+    Ok(out.shown().to_vec(rt.alloc())?)
+}
+
+#[test]
+fn a_ticker_tells_of_a_long_run(rt: HostRuntime) -> Result<(), Fail> {
+    let long = told_of_four(&rt, true, 2)?;
+    let told = b"\rvvmm: round 2 of 4\rvvmm: round 3 of 4\rvvmm: round 4 of 4\n";
+    assert!(rt; long.as_slice() == told.as_slice());
+    assert!(rt; told_of_four(&rt, true, 1)?.is_empty());
+    assert!(rt; told_of_four(&rt, false, 2)?.is_empty());
+    Ok(())
 }

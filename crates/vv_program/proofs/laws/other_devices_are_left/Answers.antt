@@ -1,5 +1,5 @@
 use Rattle.std.proofs.Common.{inl, inr, Some, None}
-use Rattle.vv_commands.specs.Words.{WantsSolo, WantsRun, WantsSave, WantsResume, WantsLoad, WantsCheck, WantsMigration, WantsAudit, WantsFlow, WantsDrawing, WantsBytes, WantsText}
+use Rattle.vv_commands.specs.Words.{WantsSolo, WantsTrace, WantsRun, WantsSave, WantsResume, WantsLoad, WantsCheck, WantsMigration, WantsAudit, WantsFlow, WantsDrawing, WantsBytes, WantsText}
 use Rattle.vv_program.specs.Laws.{LeavesOthers}
 use Rattle.vv_program.proofs.laws.other_devices_are_left.Goals as goal
 
@@ -7,6 +7,8 @@ leaves : LeavesOthers
 leaves None status o (is, apart, out) = (apart.lines, apart.drives)
 leaves (Some (WantsSolo a)) status o (inl (stops, silent)) = silent.run.drives
 leaves (Some (WantsSolo a)) status o (inr plays) = plays.drives
+leaves (Some (WantsTrace a)) status o (inl (stops, silent)) = silent.run.drives
+leaves (Some (WantsTrace a)) status o (inr plays) = plays.drives
 leaves (Some (WantsRun a)) status o says = tt
 leaves (Some (WantsSave a)) status o says = tt
 leaves (Some (WantsResume a)) status o says = tt

@@ -1,0 +1,13 @@
+/// Who is told how far a run is. What is told changes nothing in the run: it answers nothing, and has no part in any contract.
+pub trait Progress {
+    /// So many of these rounds were made.
+    fn made(&mut self, rounds: u32, of: u32);
+}
+
+/// Nobody is told.
+#[derive(Clone, Copy, Debug, PartialEq, Eq)]
+pub struct NoProgress;
+
+impl Progress for NoProgress {
+    fn made(&mut self, _rounds: u32, _of: u32) {}
+}

@@ -1,0 +1,4 @@
+mod Columns
+mod Lines
+mod Pages
+mod Turns

@@ -1,0 +1,5 @@
+pub mod Line
+pub mod Trace
+pub mod Held
+pub mod Traced
+pub mod ShownTrace
