@@ -27,6 +27,28 @@ pub fn held(told: &Told, subject: Subject) -> &[u8] {
     }
 }
 
+/// Whether the code and the text of standard error are these: the code, a blank, and the text.
+pub fn is_coded(told: &Told, answer: &str) -> bool {
+    let (code, text) = answer.split_once(' ').unwrap_or((answer, ""));
+    code.parse() == Ok(told.code) && told.text.as_slice() == text.as_bytes()
+}
+
+/// Whether a call answers this. One that is refused shows nothing; of one that isn't, the text is what the sink shows,
+/// without the end of its line.
+pub fn answers(told: &Told, answer: &str) -> bool {
+    let shown = told.out.as_slice();
+    match answer.strip_prefix("0 ") {
+        Some(text) => {
+            told.code == 0 && shown.strip_suffix(b"\n").unwrap_or(shown) == text.as_bytes()
+        }
+        None => {
+            is_coded(told, answer)
+                && shown.is_empty()
+                && (0..32).all(|number| told.line(number).is_empty())
+        }
+    }
+}
+
 /// The subject that words begin with, and the words behind it.
 pub fn subject_in(line: &str) -> Option<(Subject, &str)> {
     if let Some(rest) = line.strip_prefix("out ") {

@@ -22,6 +22,13 @@ pub struct Given<'t> {
     pub room: u32,
 }
 
+/// Other bytes of a file, for one call.
+#[derive(Clone, Copy)]
+pub struct Variant<'v> {
+    pub file: &'v str,
+    pub bytes: &'v [u8],
+}
+
 /// Bytes in blocks; what is behind the last whole one is left.
 pub fn blocks_of(alloc: Global, bytes: &[u8]) -> Result<Vec<[u8; 512]>, NoMemory> {
     let mut blocks = Vec::new(alloc);
@@ -50,11 +57,27 @@ impl<'t> Given<'t> {
         }
     }
 
-    /// The files, by reference.
-    fn files(&self, alloc: Global) -> Result<Vec<(&str, &[u8])>, NoMemory> {
+    /// The bytes of the first file of a name.
+    pub fn file(&self, name: &str) -> Option<&[u8]> {
+        self.files
+            .iter()
+            .find(|file| file.0 == name)
+            .map(|file| file.1.as_slice())
+    }
+
+    /// The files, by reference; the one that has a variant with the bytes of that.
+    fn files<'v>(
+        &'v self,
+        alloc: Global,
+        variant: Option<Variant<'v>>,
+    ) -> Result<Vec<(&'v str, &'v [u8])>, NoMemory> {
         let mut files = Vec::new(alloc);
         for (name, bytes) in &self.files {
-            files.push((*name, bytes.as_slice()))?;
+            let bytes = match variant {
+                Some(variant) if variant.file == *name => variant.bytes,
+                _ => bytes.as_slice(),
+            };
+            files.push((*name, bytes))?;
         }
         Ok(files)
     }
@@ -68,9 +91,15 @@ impl<'t> Given<'t> {
         Ok(volumes)
     }
 
-    /// Makes the call with these words.
-    pub fn call(&self, alloc: Global, machine: &mut Cpu, words: &str) -> Result<Told, NoMemory> {
-        let files = self.files(alloc)?;
+    /// Makes the call with these words, where a file may have a variant.
+    pub fn call(
+        &self,
+        alloc: Global,
+        machine: &mut Cpu,
+        words: &str,
+        variant: Option<Variant>,
+    ) -> Result<Told, NoMemory> {
+        let files = self.files(alloc, variant)?;
         let volumes = self.volumes(alloc)?;
         let props = Props {
             files: &files,

@@ -2,11 +2,13 @@
 //! what they come to. A case that holds is told by its title, and a line that doesn't hold, or can't be read, by its number.
 //!
 //! A case file is read line by line; an empty line, and one that begins with `;`, is passed over. A line that begins with a
-//! mark (`content.rt`) puts bytes for the statement above it; each other line is a statement (`play.rt`).
+//! mark (`content.rt`) puts bytes for the statement above it; each other line is a statement (`play.rt`), of which some make
+//! a call with each of many texts (`each.rt`).
 #![tactic(auto)]
 
 mod checks;
 mod content;
+mod each;
 mod given;
 mod play;
 

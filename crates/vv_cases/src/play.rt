@@ -1,9 +1,11 @@
 //! The statements of a case file, one by one.
 
 use crate::checks::{
-    Relation, Subject, digest_of, held, is_front, is_mixed, is_related, relation_in, subject_in,
+    Relation, Subject, digest_of, held, is_coded, is_front, is_mixed, is_related, relation_in,
+    subject_in,
 };
 use crate::content::{Content, Marked, mark_in};
+use crate::each::{Each, each_in};
 use crate::given::{Given, blocks_of};
 use std::alloc::Global;
 use vax_cpu::Cpu;
@@ -17,6 +19,10 @@ pub enum Verdict {
     Holds,
     Differs,
     Unread,
+    /// The answer to the text of this number differs.
+    DiffersAt(usize),
+    /// A table leaves this number out, or goes beyond it.
+    UnreadAt(usize),
 }
 
 /// For what the content that follows is.
@@ -27,6 +33,7 @@ enum Pending<'t> {
     File(&'t str),
     Volume(u8),
     Check(Subject, Relation),
+    Each(Each<'t>),
 }
 
 /// The play of a case file.
@@ -171,16 +178,21 @@ impl<'t> Play<'t> {
 
     /// Tells a line that doesn't hold, or can't be read.
     fn note(&mut self, rt: &HostRuntime, verdict: Verdict, number: usize) {
-        let what = match verdict {
+        let (what, place) = match verdict {
             Verdict::Holds => {
                 return;
             }
-            Verdict::Differs => "differs",
-            Verdict::Unread => "can't be read",
+            Verdict::Differs => ("differs", None),
+            Verdict::Unread => ("can't be read", None),
+            Verdict::DiffersAt(place) => ("differs", Some(place)),
+            Verdict::UnreadAt(place) => ("can't be read", Some(place)),
         };
         self.holds = false;
         let with = if self.value.is_empty() { "" } else { " with " };
-        let _ = println!(rt; "line {number} {what}{with}{}", self.value);
+        let _ = match place {
+            Some(place) => println!(rt; "line {number} {what} at {place}{with}{}", self.value),
+            None => println!(rt; "line {number} {what}{with}{}", self.value),
+        };
     }
 
     /// Puts what a line of content tells.
@@ -235,6 +247,15 @@ impl<'t> Play<'t> {
                     is_related(held(told, subject), relation, &content.bytes)
                 }),
             )),
+            Pending::Each(each) => self.try_each(each, &content.bytes),
+        }
+    }
+
+    /// Makes the calls with each text of a file, by a table.
+    fn try_each(&mut self, each: Each, table: &[u8]) -> Result<Verdict, NoMemory> {
+        match str::from_utf8(table) {
+            Ok(table) => each.try_all(self.alloc, &mut self.machine, &self.given, table),
+            Err(_) => Ok(Verdict::Unread),
         }
     }
 
@@ -246,6 +267,7 @@ impl<'t> Play<'t> {
             "let" => Ok(self.await_content(Pending::Let(rest))),
             "file" => Ok(self.await_content(Pending::File(rest))),
             "call" => self.call(rest),
+            "prefixes" | "changes" => Ok(self.await_table(word, rest)),
             "keep" => Ok(self.keep(rest)),
             "code" => Ok(self.check_code(rest)),
             "others" | "drives" => Ok(self.check_others(word, rest)),
@@ -257,6 +279,14 @@ impl<'t> Play<'t> {
     fn await_content(&mut self, pending: Pending<'t>) -> Verdict {
         self.pending = pending;
         Verdict::Holds
+    }
+
+    /// Takes a statement on each text of a file, whose table follows.
+    fn await_table(&mut self, word: &str, rest: &'t str) -> Verdict {
+        match each_in(word, rest) {
+            Some(each) => self.await_content(Pending::Each(each)),
+            None => Verdict::Unread,
+        }
     }
 
     /// Takes a statement that gives something but files.
@@ -328,7 +358,7 @@ impl<'t> Play<'t> {
 
     /// Makes the call with these words.
     fn call(&mut self, words: &str) -> Result<Verdict, NoMemory> {
-        let told = self.given.call(self.alloc, &mut self.machine, words)?;
+        let told = self.given.call(self.alloc, &mut self.machine, words, None)?;
         if self.runs.last().is_some_and(|run| run.0.is_empty()) {
             self.runs.pop();
         }
@@ -360,12 +390,7 @@ impl<'t> Play<'t> {
 
     /// The code and its text.
     fn check_code(&self, rest: &str) -> Verdict {
-        let (code, text) = rest.split_once(' ').unwrap_or((rest, ""));
-        said(
-            self.told().map(|told| {
-                code.parse() == Ok(told.code) && told.text.as_slice() == text.as_bytes()
-            }),
-        )
+        said(self.told().map(|told| is_coded(told, rest)))
     }
 
     /// A check of a line, a drive or the sink.
