@@ -76,3 +76,52 @@ def check_others(player, word: str, rest: list):
         if difference:
             return "%s %d: %s" % (kind, number, difference)
     return None
+
+
+def check_texts(player, word: str, rest: list, statement):
+    """A call with each text that is made of a file, by a table; the program makes those of each row's ends alone."""
+    name, *rest = rest
+    whole = player.given.files[name]
+    texts = fronts(whole)
+    if word == "changes":
+        byte, *rest = rest
+        texts = changes(whole, bytes.fromhex(byte))
+    following = 0
+    for first, last, answer in rows_of(player.content(statement)):
+        if first != following or not first <= last < len(texts):
+            return "the table leaves out %d" % following
+        following = last + 1
+        for number in range(first, following) if answer else ():
+            given = player.given.with_file(name, texts[number])
+            told = answer_of(player.tell(given, rest))
+            if told != answer:
+                return "%d is answered %s" % (number, told)
+            difference = player.compared(given, rest) if number in (first, last) else None
+            if difference:
+                return "%d: %s" % (number, difference)
+    return None if following == len(texts) else "the table leaves out %d" % following
+
+
+def fronts(data: bytes) -> list:
+    return [data[:length] for length in range(len(data) + 1)]
+
+
+def changes(data: bytes, byte: bytes) -> list:
+    return [data[:place] + byte + data[place + 1 :] for place in range(len(data))]
+
+
+def rows_of(table: bytes):
+    """First and last number of each row, and the answer, which is empty where nothing is tried."""
+    for line in table.decode().splitlines():
+        numbers, _, answer = line.partition(" ")
+        first, _, last = numbers.partition("-")
+        yield int(first), int(last or first), answer
+
+
+def answer_of(told) -> str:
+    """What a table says of a call. One that is refused and shows something has no answer that a table could give."""
+    if told.code == 0:
+        return ("0 " + told.out.removesuffix(b"\n").decode("latin-1")).rstrip(" ")
+    if told.out or any(told.lines):
+        return "it is refused and shows something"
+    return "%d %s" % (told.code, told.text)

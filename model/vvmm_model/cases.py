@@ -4,9 +4,9 @@
 """
 
 import os
-from dataclasses import dataclass, field
+from dataclasses import dataclass, field, replace
 
-from .case_checks import check
+from .case_checks import check, check_texts
 from .outside import DeviceFault, MemoryDrive, MemoryLine, MemoryShelf, blocks_of
 from .program import Outside, call
 from .system import run
@@ -53,6 +53,10 @@ class Given:
 
     def drives(self) -> list:
         return [MemoryDrive(self.volumes.get(n, []), self.failing_drives.get(n, [])) for n in range(16)]
+
+    def with_file(self, name: str, data: bytes):
+        """The same with other bytes of a file."""
+        return replace(self, files=self.files | {name: data})
 
     def tell(self, words: list, runner, room: int) -> Told:
         """What the model's call tells over this."""
@@ -169,12 +173,22 @@ class Player:
                 wrong.append("line %d: %s" % (statement.line, complaint))
         return wrong
 
+    def tell(self, given: Given, words: list) -> Told:
+        return given.tell(words, self.memory.run, given.room)
+
+    def compared(self, given: Given, words: list):
+        """What the program does otherwise, where one is compared and nothing fails."""
+        if self.compare and not given.fails():
+            return self.compare(given, words, given.tell(words, self.memory.run, 1 << 62))
+
     def do(self, statement: Statement):
         word, *rest = statement.words
         if word in GIVES:
             return GIVES[word](self, rest, statement)
         if word in ("line", "drive", "out", "code", "others", "drives"):
             return check(self, word, rest, statement)
+        if word in ("prefixes", "changes"):
+            return check_texts(self, word, rest, statement)
         raise Unreadable("line %d" % statement.line)
 
     def content(self, statement: Statement) -> bytes:
@@ -268,11 +282,9 @@ def give_cut(player, rest, statement):
 
 
 def make_call(player, rest, statement):
-    given = player.given
-    player.told = given.tell(rest, player.memory.run, given.room)
+    player.told = player.tell(player.given, rest)
     player.checked = set()
-    if player.compare and not given.fails():
-        return player.compare(given, rest, given.tell(rest, player.memory.run, 1 << 62))
+    return player.compared(player.given, rest)
 
 
 def keep(player, rest, statement):

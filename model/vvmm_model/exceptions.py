@@ -65,6 +65,7 @@ def initiate(g, offset: int, pushed=(), level=None, change_mode=None) -> bool:
         initiate(g, KERNEL_STACK_NOT_VALID)
         return False
     make_pushes(g, places, values, clear)
+    g.vector = offset
     g.stacks[current_stack(g)] = g.r[14]
     g.r[14] = sp - 4 * len(values) & WORD
     g.r[15] = vector & ~3

@@ -20,7 +20,7 @@ from .system import run
 from .texts import LARGEST_FILE
 
 ENDLESS = 1 << 62
-MAKE_LINES = ("run", "solo", "load", "save", "resume")
+MAKE_LINES = ("run", "solo", "trace", "load", "save", "resume")
 
 
 @dataclass
@@ -35,7 +35,8 @@ class Case:
 
 
 def solo_case(random) -> Case:
-    return Case({"image": random_image(random)[512:]}, [["solo", "image", str(random.choice([300, 1000, 3000]))]])
+    command = random.choice(["solo", "trace"])
+    return Case({"image": random_image(random)[512:]}, [[command, "image", str(random.choice([300, 1000, 3000]))]])
 
 
 def tests_case(random) -> Case:

@@ -46,6 +46,8 @@ class Guest:
         self.shown = bytearray()
         self.kinds = [0] * 7
         self.trail = 0
+        # of the last step that did so: the vector that it took, and the page whose modify bit it set
+        self.vector = self.marked = None
         self.reset()
         self.halt = 0
 
@@ -171,6 +173,7 @@ class Guest:
             self.initiate_or_stop(MODIFY_FAULT, [va, 4])
             return FAULT
         self.longs[entry >> 2] |= MODIFY_BIT
+        self.marked = va // PAGE * PAGE
         return MODIFY
 
     def retire(self) -> None:

@@ -1,9 +1,10 @@
 """What `--help` and `--version` show."""
 
-VERSION = "vvmm 0.2.0\n"
+VERSION = "vvmm 0.3.0\n"
 HELP = """\
 vvmm solo IMAGE STEPS          runs the file IMAGE as one guest for STEPS steps, 1 to 100000;
                                the guest's console is the file line00.out, its dump line01.out
+vvmm trace IMAGE STEPS         runs as solo does, and shows a line for each step
 vvmm run CONFIG SCRIPT ROUNDS  runs the guests of the configuration CONFIG for ROUNDS rounds, 1 to
                                1000000, with what the file SCRIPT types at terminals; line k is the
                                file linekk.out, drive k the file drivekk.vol

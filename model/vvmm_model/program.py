@@ -13,9 +13,10 @@ from .migrate import migrate_text
 from .outside import DeviceFault, Missing, TooLong
 from .script import MOST_ROUNDS, ScriptRefused, read_script
 from .snapshot import SnapRefused, is_too_large, read_snapshot, snapshot
-from .system import make_rounds, summary
+from .system import System, make_rounds, summary
 from .system import run as run_system
 from .texts import is_file_name, read_decimal
+from .trace import one_line
 from .workload import workload
 
 
@@ -172,8 +173,7 @@ def conclude(outside: Outside, config: Config, system, rounds: int, has_drives: 
     put_out(outside, summary(system, rounds), failed)
 
 
-def solo(outside: Outside, image_name: str, steps: int) -> None:
-    image = fetch(outside, image_name)
+def solo_config(image_name: str, steps: int) -> Config:
     access = class_of("0{};0{}")
     row = GuestRow(
         name="A",
@@ -190,9 +190,42 @@ def solo(outside: Outside, image_name: str, steps: int) -> None:
         modify_faults=False,
         quantum=steps,
     )
-    config = Config(slice=steps, terminals=[Terminal("T", 0, access)], guests=[row])
+    return Config(slice=steps, terminals=[Terminal("T", 0, access)], guests=[row])
+
+
+def solo(outside: Outside, image_name: str, steps: int) -> None:
+    image = fetch(outside, image_name)
+    config = solo_config(image_name, steps)
     check_images(config, [image])
     conclude(outside, config, outside.run(config, [image], [], [], 1), 1, False)
+
+
+def trace(outside: Outside, image_name: str, steps: int) -> None:
+    """As `solo`, and each step's line goes to the output, before the summary."""
+    image = fetch(outside, image_name)
+    config = solo_config(image_name, steps)
+    check_images(config, [image])
+    system = System(config, [image], [])
+    told = [one_line(system.guests[0], number) for number in range(1, steps + 1)]
+    system.show_console(0)
+    system.make_transfers(0)
+    failed = show_lines(outside, system, system.dumps())
+    put_trace(outside, told + [summary(system, 1)], failed)
+
+
+def put_trace(outside: Outside, lines: list, failed: list) -> None:
+    """Shows lines on the output, each by itself; behind one that couldn't be shown none is."""
+    out_failed = False
+    for line in lines:
+        try:
+            outside.out.put(line)
+        except DeviceFault:
+            out_failed = True
+            break
+    if failed:
+        raise Ended(10, "device " + failed[0])
+    if out_failed:
+        raise Ended(11, "output fault")
 
 
 def run(outside: Outside, config_name: str, script_name: str, rounds: int) -> None:
@@ -272,6 +305,7 @@ def dis(outside: Outside, name: str) -> None:
 ROUNDS = number_word(1, MOST_ROUNDS)
 COMMANDS = {
     "solo": ([file_word, number_word(1, MOST_STEPS)], solo),
+    "trace": ([file_word, number_word(1, MOST_STEPS)], trace),
     "run": ([file_word, file_word, ROUNDS], run),
     "save": ([file_word, file_word, ROUNDS], save),
     "resume": ([file_word, file_word, ROUNDS], resume),
