@@ -8,4 +8,6 @@ mod classes;
 #[cfg(test)]
 mod fields;
 #[cfg(test)]
+mod keyboards;
+#[cfg(test)]
 mod objects;

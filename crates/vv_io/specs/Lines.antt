@@ -1,5 +1,5 @@
 -- What a line or a sink has shown and how often it has failed, and what one put does to it.
-use Rattle.std.specs.Prelude.{ℕ, ◌≡◌, List, ◌++◌, take, slice_set, slice_index_or}
+use Rattle.std.specs.Prelude.{ℕ, ◌≡◌, ◌-◌, ◌^◌, ◌≤◌, List, ◌++◌, length, min, take, drop, slice_set, slice_index_or}
 use Rattle.std.specs.declared.option.Option.{Option}
 use Rattle.std.specs.declared.option.Option.TheVariants.{None, Some}
 use Rattle.std.specs.declared.result.Result.{Result}
@@ -42,3 +42,14 @@ pub record Syncs {U E : Type 0} (before after : Seen) (result : Result U E) : Ty
 -- one sync of line k of several; every other line is as before
 abbrev pub SyncsOn : {U E : Type 0} → ℕ → List Seen → List Seen → Result U E → Type 0
 SyncsOn k before after result = (line : Seen) × (after ≡ slice_set before k line) × Syncs (slice_index_or before k unseen) line result
+
+-- how many bytes were shown, where they are told
+abbrev pub Counts : Option (List ℕ) → ℕ → Type 0
+Counts None count = Unit {0}
+Counts (Some shown) count = count ≡ min (length shown) (2 ^ 64 - 1)
+
+-- What is read back of what was shown, from a place on: the first `n` of a buffer's bytes, which are those from there on, at
+-- most 512. Where nothing is told they may be any.
+abbrev pub ReadsBack : Option (List ℕ) → ℕ → List ℕ → ℕ → Type 0
+ReadsBack None place into n = n ≤ 512
+ReadsBack (Some shown) place into n = (n ≤ 512) × (take n into ≡ take 512 (drop place shown))

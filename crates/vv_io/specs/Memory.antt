@@ -1,5 +1,5 @@
 -- Objects of the outside in memory. Calls are counted from 1, and a call fails where a list names its number.
-use Rattle.std.specs.Prelude.{ℕ, ◌≡◌, ◌<◌, ◌≤◌, ◌-◌, List, [], ◌∷◌, ◌++◌, length, take, min, map, Bool, true, false, ◌==◌, nat_lt, ◌||◌, if◌then◌else◌, is_some, unwrap_or, Vec, slice_set}
+use Rattle.std.specs.Prelude.{ℕ, ◌≡◌, ◌<◌, ◌≤◌, ◌-◌, List, [], ◌∷◌, ◌++◌, length, take, drop, min, map, Bool, true, false, ◌==◌, nat_lt, ◌||◌, if◌then◌else◌, is_some, unwrap_or, Vec, slice_set}
 use Rattle.std.specs.declared.alloc.Global.{Global}
 use Rattle.std.specs.List.{list_any}
 use Rattle.std.specs.declared.option.Option.{Option}
@@ -9,6 +9,7 @@ use Rattle.std.specs.declared.result.Result.TheVariants.{Ok, Err}
 use Rattle.vv_io.specs.Blocks.{Kept}
 use Rattle.vv_io.specs.Causes.{counted}
 use Rattle.vv_io.specs.Shelf.{File, file_limit, held}
+use Rattle.vv_io.specs.Keys.{Keys}
 use Rattle.vv_io.specs.Lines.{Seen}
 use Rattle.vv_io.specs.declared.cut.Cut.{Cut}
 use Rattle.vv_io.specs.declared.shelf.ShelfFault.{ShelfFault}
@@ -107,3 +108,22 @@ after_set drive block bytes = record (after_call drive) { blocks = if is_next_na
 -- what the outside knows of it
 abbrev pub kept_of : MemoryDrive → Kept
 kept_of drive = record { size = length drive.blocks; blocks = Some drive.blocks; faults = drive.faults }
+
+-- a keyboard: the lines that are still to come
+pub record MemoryKeyboard : Type 0 where
+  pub coming : List (List ℕ)
+  pub failing : List ℕ
+  pub calls : ℕ
+  pub faults : ℕ
+
+-- the keyboard after the next call, which takes a line where one comes and it doesn't fail
+abbrev pub after_next : MemoryKeyboard → MemoryKeyboard
+after_next keyboard = record keyboard {
+  coming = if is_next_named keyboard.failing keyboard.calls then keyboard.coming else drop 1 keyboard.coming;
+  calls = counted keyboard.calls;
+  faults = if is_next_named keyboard.failing keyboard.calls then counted keyboard.faults else keyboard.faults;
+}
+
+-- what the outside knows of it
+abbrev pub keys_of : MemoryKeyboard → Keys
+keys_of keyboard = record { coming = Some keyboard.coming; faults = keyboard.faults }

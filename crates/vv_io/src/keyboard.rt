@@ -1,0 +1,21 @@
+ghost use Rattle.vv_io.specs.Keys.{Keys, Takes};
+
+use vv_base::Text;
+
+/// A keyboard failed.
+#[derive(Clone, Copy, Debug, PartialEq, Eq)]
+pub struct KeyFault;
+
+/// A line as a keyboard gives it, without its end: at most 1,024 bytes.
+pub type KeyLine = Text<1024>;
+
+/// Where someone types line by line.
+pub trait Keyboard {
+    /// The lines that are still to come, where it tells them, and how often it has failed.
+    ghost keys: { Self → Keys };
+
+    /// The next line, or its first 1,024 bytes where it has more; none where no more come. After a fault no line is gone.
+    /// It may wait until a line is typed.
+    fn next(&mut self) -> Result<Option<KeyLine>, KeyFault>
+        ensures { Takes (keys self.old) (keys self.new) result };
+}
