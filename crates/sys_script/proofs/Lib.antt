@@ -1,4 +1,5 @@
 pub mod Cutting
 pub mod Ordered
 pub mod Reading
+pub mod TypedLines
 pub mod WrittenAgain

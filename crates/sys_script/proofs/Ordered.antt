@@ -16,7 +16,7 @@ use Rattle.sys_script.specs.declared.event.ScriptKind.TheVariants.{BadRound, Bad
 use Rattle.sys_script.specs.declared.event.Typed.{Typed}
 
 -- a value behind a test
-passed : {A : Type 0} (test : Bool) (x y : A) → (if test then Some x else None) ≡ Some y → (test ≡ true) × (x ≡ y)
+pub passed : {A : Type 0} (test : Bool) (x y : A) → (if test then Some x else None) ≡ Some y → (test ≡ true) × (x ≡ y)
 passed true x y is = (refl, cc)
 passed false x y is = (cc, cc)
 

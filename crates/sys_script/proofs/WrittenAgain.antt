@@ -25,28 +25,28 @@ use Rattle.sys_script.specs.declared.event.Typed.TheVariants.{Break, Line}
 use Rattle.sys_script.proofs.Cutting.{first_part}
 
 -- Bytes that are not below a bound.
-abbrev AreFrom : ℕ → List ℕ → Type 0
+abbrev pub AreFrom : ℕ → List ℕ → Type 0
 AreFrom least bytes = ByRecursion (λ b. least ≤ b) bytes
 
-both : (a b : Bool) → (a && b) ≡ true → (a ≡ true) × (b ≡ true)
+pub both : (a b : Bool) → (a && b) ≡ true → (a ≡ true) × (b ≡ true)
 both true b is = (refl, is)
 both false b is = (cc, cc)
 
-from_test : (test : ℕ → Bool) (least : ℕ) → ((b : ℕ) → test b ≡ true → least ≤ b) → (bytes : List ℕ) → list_all test bytes ≡ true → AreFrom least bytes
+pub from_test : (test : ℕ → Bool) (least : ℕ) → ((b : ℕ) → test b ≡ true → least ≤ b) → (bytes : List ℕ) → list_all test bytes ≡ true → AreFrom least bytes
 from_test test least bound [] is = tt
 from_test test least bound (b ∷ bytes) is =
     let parts : (test b ≡ true) × (list_all test bytes ≡ true) = both (test b) (list_all test bytes) is in
     (bound b parts.0, from_test test least bound bytes parts.1)
 
-joined : (least : ℕ) (xs ys : List ℕ) → AreFrom least xs → AreFrom least ys → AreFrom least (xs ++ ys)
+pub joined : (least : ℕ) (xs ys : List ℕ) → AreFrom least xs → AreFrom least ys → AreFrom least (xs ++ ys)
 joined least [] ys first second = second
 joined least (x ∷ xs) ys first second = (first.0, joined least xs ys first.1 second)
 
-lower : (more less : ℕ) (xs : List ℕ) → less ≤ more → AreFrom more xs → AreFrom less xs
+pub lower : (more less : ℕ) (xs : List ℕ) → less ≤ more → AreFrom more xs → AreFrom less xs
 lower more less [] below all = tt
 lower more less (x ∷ xs) below all = (omega (arith, below, all.0), lower more less xs below all.1)
 
-other : (least b c : ℕ) → c < least → least ≤ b → (b == c) ≡ false
+pub other : (least b c : ℕ) → c < least → least ≤ b → (b == c) ≡ false
 other least b c below from = let ne : b ≢ c = omega (arith, below, from) in grind (arith, nat_tests)
 
 lacks : (least c : ℕ) (xs : List ℕ) → c < least → AreFrom least xs → (i : ℕ) → i < length xs → (get_or xs i 0 == c) ≡ false
@@ -61,10 +61,10 @@ position_at least c xs ys below all =
     position_or_len_is (λ b. b == c) (xs ++ c ∷ ys) (length xs) 0 (grind (arith, common_steps))
     (λ k within. rw get_or_append_left (lacks least c xs below all k within)) (λ _. rw (get_or_at xs c ys 0 (length xs) refl) (same c))
 
-front_at : (xs ys : List ℕ) → AreFrom 33 xs → front (xs ++ 32 ∷ ys) ≡ xs
+pub front_at : (xs ys : List ℕ) → AreFrom 33 xs → front (xs ++ 32 ∷ ys) ≡ xs
 front_at xs ys all = ap (λ n. take n (xs ++ 32 ∷ ys)) (position_at 33 32 xs ys (lit< tt) all) ∙ take_at xs (32 ∷ ys) (length xs) refl
 
-behind_at : (xs ys : List ℕ) → AreFrom 33 xs → behind (xs ++ 32 ∷ ys) ≡ ys
+pub behind_at : (xs ys : List ℕ) → AreFrom 33 xs → behind (xs ++ 32 ∷ ys) ≡ ys
 behind_at xs ys all =
     ap (λ n. drop (n + 1) (xs ++ 32 ∷ ys)) (position_at 33 32 xs ys (lit< tt) all)
     ∙ ap (drop (length xs + 1)) (sym (append_assoc xs (32 ∷ []) ys)) ∙ drop_at (xs ++ 32 ∷ []) ys (length xs + 1) (length_push xs 32)
@@ -74,7 +74,7 @@ no_return : (line : List ℕ) → AreFrom 32 line → strip_carriage_return line
 no_return [] all = refl
 no_return (b ∷ line) all = rw (lacks 32 13 (b ∷ line) (lit< tt) all (length (b ∷ line) - 1) (grind (arith, common_steps)))
 
-lines_at : (line rest : List ℕ) → AreFrom 32 line → lines (line ++ 10 ∷ rest) ≡ line ∷ lines rest
+pub lines_at : (line rest : List ℕ) → AreFrom 32 line → lines (line ++ 10 ∷ rest) ≡ line ∷ lines rest
 lines_at line rest all =
     let cut : slice_split (λ b. b == 10) (line ++ 10 ∷ rest) ≡ line ∷ slice_split (λ b. b == 10) rest =
     slice_split_at (λ b. b == 10) line 10 rest (All-from_get_or (λ b. (b == 10) ≡ false) line 0 (λ i within. lacks 32 10 line (lit< tt) all i within)) refl in
@@ -89,7 +89,7 @@ is_a_number [] all first = grind arith
 is_a_number (d ∷ []) all first = (both (is_digit d) true all).0
 is_a_number (d ∷ e ∷ digits) all first = rw (other 49 d 48 (lit< tt) (omega (arith, first)), all)
 
-round_read : (n : ℕ) → 1 ≤ n → n ≤ 1000000 → round_in (decimal n) ≡ Some n
+pub round_read : (n : ℕ) → 1 ≤ n → n ≤ 1000000 → round_in (decimal n) ≡ Some n
 round_read n from to =
     let small : n < 2 ^ 64 = omega (arith, to) in
     let all : list_all is_digit (decimal n) ≡ true = digits_decimal own n small in
@@ -99,7 +99,7 @@ round_read n from to =
 digits_from : (b : ℕ) → is_digit b ≡ true → 48 ≤ b
 digits_from b is = leb-true 48 b (both (nat_le 48 b) (nat_le b 57) is).0
 
-shown_from : (b : ℕ) → is_shown b ≡ true → 32 ≤ b
+pub shown_from : (b : ℕ) → is_shown b ≡ true → 32 ≤ b
 shown_from b is = leb-true 32 b (both (nat_le 32 b) (nat_le b 126) is).0
 
 letters_from : (b : ℕ) → is_letter b ≡ true → 65 ≤ b
@@ -112,10 +112,10 @@ either false second is = inr is
 characters_from : (b : ℕ) → is_name_character b ≡ true → 48 ≤ b
 characters_from b is = elim (either (is_letter b) (nat_le 48 b && nat_le b 57) is) [ inl letter ↦ omega (arith, letters_from b letter) | inr digit ↦ leb-true 48 b (both (nat_le 48 b) (nat_le b 57) digit).0 ]
 
-decimal_from_48 : (n : ℕ) → n < 2 ^ 64 → AreFrom 48 (decimal n)
+pub decimal_from_48 : (n : ℕ) → n < 2 ^ 64 → AreFrom 48 (decimal n)
 decimal_from_48 n small = from_test is_digit 48 digits_from (decimal n) (digits_decimal own n small)
 
-name_from_48 : (name : List ℕ) → is_object_name name ≡ true → AreFrom 48 name
+pub name_from_48 : (name : List ℕ) → is_object_name name ≡ true → AreFrom 48 name
 name_from_48 [] is = tt
 name_from_48 (b ∷ name) is =
     let outer : (is_letter b && list_all is_name_character name ≡ true) × (nat_le (length name) 7 ≡ true) = both (is_letter b && list_all is_name_character name) (nat_le (length name) 7) is in
@@ -160,7 +160,7 @@ line_read last event is rises =
     passed last _ _ _ event round terminal what is.what (le-leb last event.round rises)
 
 -- it is no comment
-is_read : (number rest : List ℕ) → AreFrom 48 number → 0 < length number → is_passed_over (number ++ rest) ≡ false
+pub is_read : (number rest : List ℕ) → AreFrom 48 number → 0 < length number → is_passed_over (number ++ rest) ≡ false
 is_read [] rest all some = grind arith
 is_read (b ∷ number) rest all some = other 48 b 35 (lit< tt) all.0
 

@@ -1,8 +1,10 @@
 pub mod Answers
 pub mod Asked
 pub mod Events
+pub mod Kinds
 pub mod Line
 pub mod Script
 pub mod Shown
 pub mod Texts
+pub mod Typed
 pub mod Written

@@ -1,9 +1,10 @@
 -- Worked examples of lines and scripts, checked by computation.
-use Rattle.std.specs.Prelude.{◌≡◌, ℕ, ◌+◌, ◌^◌, [], ◌∷◌, ◌++◌, codes, Ok, Err, refl}
+use Rattle.std.specs.Prelude.{◌≡◌, ℕ, ◌+◌, ◌^◌, [], ◌∷◌, ◌++◌, codes, false, Ok, Err, refl}
 use Rattle.std.specs.Fmt.{digits}
 use Rattle.std.specs.Str.Lines.{lines}
 use Rattle.sys_script.specs.Line.{event_in}
 use Rattle.sys_script.specs.Script.{script_of, told}
+use Rattle.sys_script.specs.Typed.{events_typed, rounds_typed, script_typed, told_typed, typed_in}
 use Rattle.sys_script.specs.Written.{script_text}
 use Rattle.sys_script.specs.declared.event.ScriptKind.TheVariants.{BadRound, BadName, BadEvent, BadText, RoundFalls}
 use Rattle.sys_script.specs.declared.event.Typed.TheVariants.{Break, Line}
@@ -71,3 +72,29 @@ the_greatest_number = refl
 pub written : script_text (record { round = 12; terminal = codes "T1"; what = Line (codes "SHOW") } ∷ record { round = 1000000; terminal = codes "T1"; what = Break } ∷ []) ≡ codes "12 T1 > SHOW\n1000000 T1 break\n"
 unfolding digits
 written = refl
+
+-- the second round has no event, and the third has one after a comment and a line that is refused
+pub script_of_lines : script_typed 1 (codes "T1 > A" ∷ [] ∷ [] ∷ codes "# no" ∷ codes "T1 brake" ∷ codes "T1 break" ∷ []) ≡ codes "1 T1 > A\n3 T1 break\n"
+unfolding typed_in digits
+script_of_lines = refl
+
+pub rounds_of_lines : rounds_typed false (codes "T1 > A" ∷ [] ∷ [] ∷ codes "T1 brake" ∷ codes "T1 break" ∷ []) ≡ 3
+unfolding typed_in
+rounds_of_lines = refl
+
+-- what is refused begins no round
+pub no_round_of_a_refused_line : rounds_typed false (codes "T1 > A" ∷ [] ∷ codes "T1 brake" ∷ []) ≡ 1
+unfolding typed_in
+no_round_of_a_refused_line = refl
+
+pub nothing_typed : rounds_typed false [] ≡ 0
+nothing_typed = refl
+
+pub typed_events : events_typed 1 ([] ∷ codes "T1 break" ∷ []) ≡ record { round = 2; terminal = codes "T1"; what = Break } ∷ []
+unfolding typed_in
+typed_events = refl
+
+-- empty lines and comments count
+pub told_of_the_fourth : told_typed 1 ([] ∷ codes "# no" ∷ codes "T1 break" ∷ codes "T1 brake" ∷ []) ≡ codes "vvmm: typed line 4 BadEvent\n"
+unfolding typed_in digits
+told_of_the_fourth = refl

@@ -49,3 +49,12 @@ pub enum ScriptError {
     #[error("no memory")]
     NoMemory,
 }
+
+/// Why a line that is typed without its round says no event.
+#[derive(Clone, Copy, Debug, PartialEq, Eq)]
+pub enum TypedError {
+    /// The line is refused: the first kind that applies, which is never of a round.
+    Refused(ScriptKind),
+    /// Memory ran out.
+    NoMemory,
+}

@@ -5,8 +5,9 @@ ghost use Rattle.sys_script.specs.Asked.{seen_of};
 ghost use Rattle.sys_script.specs.Line.{behind, event_in, front, is_allowed, round_in, what_in};
 ghost use Rattle.sys_script.specs.Script.{at_line, told};
 ghost use Rattle.sys_script.specs.Texts.{is_shown, is_text};
+ghost use Rattle.sys_script.specs.Typed.{ReadsTyped, typed_in};
 
-use crate::{Event, LineText, ScriptError, ScriptFault, ScriptKind, Typed};
+use crate::{Event, LineText, ScriptError, ScriptFault, ScriptKind, Typed, TypedError};
 use std::alloc::Global;
 use vv_base::{object_name, read_decimal};
 
@@ -133,4 +134,29 @@ pub(crate) fn read_event(
         terminal,
         what,
     })
+}
+
+/// The event that a line says in a round, which it doesn't name.
+#[tactic(auto, unfolding(crate::specs::Typed::typed_in))]
+pub fn read_typed(alloc: Global, round: u32, line: &[u8]) -> Result<Event, TypedError>
+    ensures { ReadsTyped (typed_in round line.now) result }
+{
+    let (name, what) = cut(line);
+    let Some(terminal) = object_name(name) else {
+        return Err(TypedError::Refused(ScriptKind::BadName));
+    };
+    let Some(asked) = what_in(what) else {
+        return Err(TypedError::Refused(ScriptKind::BadEvent));
+    };
+    if !is_allowed(asked) {
+        return Err(TypedError::Refused(ScriptKind::BadText));
+    }
+    match kept(alloc, asked) {
+        Ok(what) => Ok(Event {
+            round,
+            terminal,
+            what,
+        }),
+        Err(_) => Err(TypedError::NoMemory),
+    }
 }

@@ -39,7 +39,8 @@ fn next_line(text: &[u8]) -> Option<(&[u8], &[u8])>
     }
 }
 
-fn is_passed_over(line: &[u8]) -> bool
+/// Whether a line is empty, or a comment.
+pub fn is_passed_over(line: &[u8]) -> bool
     ensures { result ≡ is_passed_over line.now }
 {
     matches!(line, [] | [b'#', ..])
