@@ -1,0 +1,23 @@
+use Rattle.std.proofs.Common.{◌≡◌, ◌-◌, drop, map, vec_len, slice_index_or}
+use Rattle.vv_io.specs.Lines.{unseen}
+use Rattle.sys_echo.specs.Echo.{echo_of}
+use Rattle.sys_echo.specs.Screens.{IsSameScreen, IsTold, IsWithin, told_of}
+use Rattle.sys_echo.proofs.Endings.{ending}
+use Rattle.sys_echo.proofs.Parts.{IsPart}
+use Rattle.sys_echo.proofs.screen.echo_one.Given as goal
+
+-- all is put but for what is left from the place seen on
+abbrev pub invariant-loop-screen : goal.invariant-loop-screen
+invariant-loop-screen g l =
+    let lines = map (λ b. (goal.Line-dyn g (b.vtable, b.value)).seen b.value) l.fn.lines.items in
+    let line = slice_index_or lines l.fn.screen.line unseen in
+    record {
+      same : IsSameScreen l.fn.screen l.screen;
+      put : IsPart (IsTold line) (g.O.Sink.printed l.fn.out) (g.O.Sink.printed l.out) (ending l.fn.screen.name l.is_begun (drop l.screen.seen (told_of line.shown))) (echo_of l.fn.screen.name (drop l.fn.screen.seen (told_of line.shown)));
+      within : IsWithin lines l.fn.screen → IsWithin lines l.screen;
+      stays : map (λ b. (goal.Line-dyn g (b.vtable, b.value)).seen b.value) l.lines.items ≡ lines;
+      len : vec_len l.lines ≡ vec_len l.fn.lines;
+    }
+
+abbrev pub decreases-loop-screen : goal.decreases-loop-screen
+decreases-loop-screen g l = l.end - l.screen.seen

@@ -1,0 +1,5 @@
+pub mod Echo
+pub mod Pieces
+pub mod Rounds
+pub mod Screens
+pub mod Shown
