@@ -1,0 +1,329 @@
+-- Rounds that are made as their lines are typed: what stands between two of them.
+use Rattle.std.proofs.Common.{ℕ, suc, ◌≡◌, ◌≢◌, ◌<◌, ◌≤◌, ◌+◌, ◌==◌, List, [], ◌∷◌, ◌++◌, length, slice_index_or, refl, sym, ◌∙◌, ap, subst, arith, append_assoc, append-nil, length-append, All, IfOk, Bool, true, false, true≢false, Option, Some, None, Result, Ok, Err, inl, inr}
+use Rattle.std.proofs.lemmas.Bool.{eqb-true}
+use Rattle.std.proofs.lemmas.List.Elements.{All-append}
+use Rattle.std.specs.Result.{is_err}
+use Rattle.vax_hw.specs.Machine.{Machine}
+use Rattle.vv_io.specs.Keys.{Keys, Took}
+use Rattle.vv_io.specs.Lines.{Seen, unseen}
+use Rattle.sys_echo.specs.Rounds.{echo_all, echo_rounds, taken_next}
+use Rattle.sys_echo.specs.Screens.{AreSameScreens, AreScreens, AreWithin, Echoes, IsTold, more_on, new_on}
+use Rattle.sys_echo.specs.declared.screen.Screen.{Screen}
+use Rattle.sys_lines.proofs.Puts.{joined, shows_nothing, still}
+use Rattle.sys_lines.specs.ShownSince.{ShownSince}
+use Rattle.sys_lines.specs.Shows.{Shows}
+use Rattle.sys_rounds.specs.Bytes.{shown_from}
+use Rattle.sys_rounds.specs.Run.{Moment}
+use Rattle.sys_runs.proofs.Many.{none_made}
+use Rattle.sys_runs.specs.Rounds.{MakesRounds}
+use Rattle.sys_script.specs.Typed.{events_typed, rounds_ended, rounds_typed, told_typed}
+use Rattle.sys_script.specs.declared.event.Event.{Event}
+use Rattle.sys_system.specs.Calls.{AreOf}
+use Rattle.sys_system.specs.System.{IsSystem, StandsIn, System, moment_of}
+use Rattle.sys_live.proofs.Echoing.{AreCurrent, current_after, current_first, echo_earlier, news_are, same_there, screens_there, screens_told, screens_within, seen_earlier}
+use Rattle.sys_live.proofs.Joining.{AreAlike, AreUpTo, alike_before, then_made, up_to_later}
+use Rattle.sys_live.proofs.Lines.{AreWhole, Texts, broke_off, ended_append, events_append, events_ended, none_ended, none_typed, rounds_append, some_typed, told_append, told_ended, told_then, took_well}
+use Rattle.sys_live.specs.Lives.{AreSeen}
+use Rattle.sys_live.specs.Made.{GoesOnShowing, MakesTyped, ShowsNews}
+use Rattle.sys_live.specs.Operator.{Operator}
+use Rattle.sys_live.specs.Typing.{Ends, EndsRound, Stands, TookWell, TypesRound}
+use Rattle.sys_live.specs.declared.session.Went.{Went}
+use Rattle.sys_live.specs.declared.typing.Count.{Count}
+use Rattle.sys_live.specs.declared.typing.TypedRound.{TypedRound}
+use Rattle.sys_live.specs.declared.typing.Typing.{Typing}
+use Rattle.sys_live.specs.declared.typing.Typing.TheVariants.{GoesOn, Over, Broken}
+
+-- what holds where all was shown
+where_whole : {T E : Type 0} (P : Type 0) (r : Result T E) → IfOk r (λ _. P) → is_err r ≡ false → P
+where_whole P (Ok x) holds whole = holds
+where_whole P (Err e) holds whole = absurd (true≢false whole)
+
+-- the news were put where nothing was cut before
+pub news_shown : {T E : Type 0} (cut cut' : Bool) (lines lines' : List Seen) (screens screens' : List Screen) (out out' : Seen) (r : Result T E) → cut ≡ false → cut' ≡ is_err r → lines' ≡ lines
+    → Echoes (is_err r) lines screens out out' → AreSameScreens screens screens' → IfOk r (λ _. All (λ screen. IsTold (slice_index_or lines screen.line unseen) → new_on lines screen ≡ []) screens') → (AreWithin lines screens → AreWithin lines screens')
+    → GoesOnShowing cut cut' lines' screens screens' out out'
+news_shown cut cut' lines lines' screens screens' out out' r whole is stays echoes same seen within =
+    let news : ShowsNews (is_err r) lines screens screens' out out' = record {
+      echoes = echoes;
+      same = same;
+      seen = λ all. where_whole (All (λ screen. IsTold (slice_index_or lines screen.line unseen) → new_on lines screen ≡ []) screens') r seen all;
+      within = within;
+    } in
+    subst (λ b. GoesOnShowing b cut' lines' screens screens' out out') (sym whole)
+    (subst (λ b. ShowsNews b lines' screens screens' out out') (sym is) (subst (λ (ls : List Seen). ShowsNews (is_err r) ls screens screens' out out') (sym stays) news))
+
+-- So many rounds were made with these events, and what was to be shown of them was shown.
+pub record IsSofar (n : ℕ) (es : List Event) (cut : Bool) (m m1 : Machine) (s s1 : System) (lines lines1 : List Seen) (screens : List Screen) (out out1 : Seen) : Type 0 where
+  pub makes : MakesRounds n es m s lines m1 s1 lines1
+  pub up_to : AreUpTo n es
+  pub echoed : List ℕ
+  pub shown : ShownSince cut out out1 echoed
+  pub exact : AreSeen s.config.terminals lines1 → echoed ≡ echo_rounds (more_on lines lines1) (moment_of m.memory s) es n
+  pub there : All (λ q. q.line < 32) screens
+  pub current : cut ≡ false → AreCurrent lines1 s.config.terminals screens
+
+-- none at first
+pub none_sofar : (m : Machine) (s : System) (lines : List Seen) (screens : List Screen) (out : Seen) → s.turns.is_begun ≡ false → IsSystem s → StandsIn m.memory s → AreScreens lines s.config.terminals screens → IsSofar 0 [] false m m s s lines lines screens out out
+none_sofar m s lines screens out rests holds stands are = record {
+  makes = none_made [] m s lines rests holds.trail stands;
+  up_to = λ k d within. absurd (omega (arith, within));
+  echoed = [];
+  shown = shows_nothing out;
+  exact = λ seen. refl;
+  there = screens_there lines s.config.terminals screens are (λ k d within. omega (arith, (holds.accepted.terminals k d within).line));
+  current = λ whole. current_first lines s.config.terminals screens are;
+}
+
+module _ (n : ℕ) (es these : List Event) (m m1 m2 : Machine) (s s1 s2 : System) (lines lines1 lines2 : List Seen) (fresh : s.rounds ≡ 0) (are : AreOf (n + 1) these) (before : AreUpTo n es) (a : MakesRounds n es m s lines m1 s1 lines1) (b : MakesRounds 1 these m1 s1 lines1 m2 s2 lines2) where
+  abbrev from : Moment
+  from = moment_of m.memory s
+
+  abbrev fs : List Event
+  fs = es ++ these
+
+  all : MakesRounds (n + 1) fs m s lines m2 s2 lines2
+  all = then_made n es these m m1 m2 s s1 s2 lines lines1 lines2 fresh before are a b
+
+  next : n + 1 ≡ suc n
+  next = omega arith
+
+  alike : AreAlike (s.rounds + 1) n es fs
+  alike = let first : 1 ≡ s.rounds + 1 = omega (arith, fresh) in subst (λ k. AreAlike k n es fs) first (alike_before n es these before are)
+
+  whole : Shows s.marks s2.marks lines lines2 (λ k. shown_from from fs (suc n) k)
+  whole = subst (λ j. Shows s.marks s2.marks lines lines2 (λ k. shown_from from fs j k)) next all.goes.shows
+
+  earlier : AreSeen s.config.terminals lines2 → AreSeen s.config.terminals lines1
+  earlier = seen_earlier from es fs n s.marks s1.marks s2.marks lines lines1 lines2 _ alike a.goes.shows b.goes.shows s.config.terminals
+
+  -- the bytes of the next round
+  abbrev last : List ℕ
+  last = echo_all s.config.terminals (λ line. taken_next (more_on lines lines2 line) from fs n line)
+
+  told_after : (echoed bytes : List ℕ) → (AreSeen s.config.terminals lines1 → echoed ≡ echo_rounds (more_on lines lines1) from es n) → (AreSeen s.config.terminals lines2 → bytes ≡ last) → AreSeen s.config.terminals lines2 → echoed ++ bytes ≡ echo_rounds (more_on lines lines2) from fs (n + 1)
+  told_after echoed bytes first second told =
+      let begun : echoed ≡ echo_rounds (more_on lines lines2) from fs n = first (earlier told) ∙ echo_earlier from es fs n s.marks s1.marks s2.marks lines lines1 lines2 _ alike a.goes.shows b.goes.shows told in
+      let ended : bytes ≡ last = second told in
+      (λ j. begun j ++ ended j) ∙ ap (echo_rounds (more_on lines lines2) from fs) (sym next)
+
+  more_up_to : AreUpTo (n + 1) fs
+  more_up_to = All-append (λ (e : Event). e.round ≤ n + 1) es these (up_to_later n es before) (λ k d within. omega (arith, are k d within))
+
+  news_of : (screens : List Screen) → AreCurrent lines1 s.config.terminals screens → (bytes : List ℕ) (cut' : Bool) (out1 out2 : Seen) (e : Echoes cut' lines2 screens out1 out2) → AreSeen s.config.terminals lines2 → e.bytes ≡ last
+  news_of screens current bytes cut' out1 out2 e told =
+      e.exact (screens_told from es fs n s.marks s1.marks s2.marks lines lines1 lines2 _ alike a.goes.shows b.goes.shows s.config.terminals screens current told)
+      ∙ news_are from es fs n s.marks s1.marks s2.marks lines lines1 lines2 _ alike a.goes.shows b.goes.shows whole s.config.terminals screens current told
+
+-- one more
+pub next_sofar : (n : ℕ) (es these : List Event) (cut cut' : Bool) (m m1 m2 : Machine) (s s1 s2 : System) (lines lines1 lines2 : List Seen) (screens screens' : List Screen) (out out1 out2 : Seen) → s.rounds ≡ 0 → AreOf (n + 1) these
+    → IsSofar n es cut m m1 s s1 lines lines1 screens out out1 → MakesRounds 1 these m1 s1 lines1 m2 s2 lines2 → GoesOnShowing cut cut' lines2 screens screens' out1 out2 → IsSofar (n + 1) (es ++ these) cut' m m2 s s2 lines lines2 screens' out out2
+next_sofar n es these true cut' m m1 m2 s s1 s2 lines lines1 lines2 screens screens' out out1 out2 fresh are sofar b (is, same, put) =
+    let bytes : List ℕ = last n es these m m1 m2 s s1 s2 lines lines1 lines2 fresh are sofar.up_to sofar.makes b in
+    record {
+      makes = all n es these m m1 m2 s s1 s2 lines lines1 lines2 fresh are sofar.up_to sofar.makes b;
+      up_to = more_up_to n es these m m1 m2 s s1 s2 lines lines1 lines2 fresh are sofar.up_to sofar.makes b;
+      echoed = sofar.echoed ++ bytes;
+      shown = subst (λ v. ShownSince v out out2 (sofar.echoed ++ bytes)) (sym is) (subst (λ o. ShownSince true out o (sofar.echoed ++ bytes)) (sym put) (still out out1 sofar.echoed bytes sofar.shown));
+      exact = told_after n es these m m1 m2 s s1 s2 lines lines1 lines2 fresh are sofar.up_to sofar.makes b sofar.echoed bytes sofar.exact (λ told. refl);
+      there = subst (λ (qs : List Screen). All (λ q. q.line < 32) qs) (sym same) sofar.there;
+      current = λ whole. absurd (true≢false (sym is ∙ whole));
+    }
+next_sofar n es these false cut' m m1 m2 s s1 s2 lines lines1 lines2 screens screens' out out1 out2 fresh are sofar b news =
+    let current : AreCurrent lines1 s.config.terminals screens = sofar.current refl in
+    let within : AreWithin lines2 screens' = news.within (screens_within (moment_of m.memory s) es (es ++ these) n s.marks s1.marks s2.marks lines lines1 lines2 _ (alike n es these m m1 m2 s s1 s2 lines lines1 lines2 fresh are sofar.up_to sofar.makes b) sofar.makes.goes.shows b.goes.shows s.config.terminals screens current) in
+    record {
+      makes = all n es these m m1 m2 s s1 s2 lines lines1 lines2 fresh are sofar.up_to sofar.makes b;
+      up_to = more_up_to n es these m m1 m2 s s1 s2 lines lines1 lines2 fresh are sofar.up_to sofar.makes b;
+      echoed = sofar.echoed ++ news.echoes.bytes;
+      shown = joined cut' out out1 out2 sofar.echoed news.echoes.bytes sofar.shown news.echoes.shown;
+      exact = told_after n es these m m1 m2 s s1 s2 lines lines1 lines2 fresh are sofar.up_to sofar.makes b sofar.echoed news.echoes.bytes sofar.exact (news_of n es these m m1 m2 s s1 s2 lines lines1 lines2 fresh are sofar.up_to sofar.makes b screens current news.echoes.bytes cut' out1 out2 news.echoes);
+      there = same_there screens screens' news.same sofar.there;
+      current = λ whole. current_after lines1 lines2 s.config.terminals screens screens' current news.same within (news.seen whole);
+    }
+
+-- Lines were typed that end so many rounds, and what was to be told of them was told.
+pub record IsTyped (n : ℕ) (typed : Texts) (count : Count) (p : Operator) : Type 0 where
+  pub took : TookWell typed p.keys p.keys'
+  pub lines : count.lines ≡ length typed
+  pub told : ShownSince count.is_cut p.errors p.errors' (told_typed 1 typed)
+  pub ended : rounds_ended typed ≡ n
+  pub whole : AreWhole typed
+
+abbrev pub operator : Keys → Keys → Seen → Seen → Operator
+operator keys keys' errors errors' = record { keys = keys; keys' = keys'; errors = errors; errors' = errors' }
+
+none_took : (coming : Option Texts) → Took [] coming coming
+none_took None = refl
+none_took (Some coming) = ([], coming, refl, refl, refl)
+
+pub none_typed_yet : (keys : Keys) (errors : Seen) → IsTyped 0 [] (record { lines = 0; is_cut = false }) (operator keys keys errors errors)
+none_typed_yet keys errors = record {
+  took = record { took = none_took keys.coming; faults = refl };
+  lines = refl;
+  told = shows_nothing errors;
+  ended = refl;
+  whole = inr refl;
+}
+
+module _ (n : ℕ) (typed : Texts) (before after : Count) (round : TypedRound) (keys keys1 keys2 : Keys) (errors errors1 errors2 : Seen) (first : IsTyped n typed before (operator keys keys1 errors errors1)) (next : TypesRound (n + 1) before after round (operator keys1 keys2 errors1 errors2)) where
+  place : before.lines + 1 ≡ 1 + length typed
+  place = omega (arith, first.lines)
+
+  now : 1 + rounds_ended typed ≡ n + 1
+  now = omega (arith, first.ended)
+
+  -- the lines of the round are told after those before
+  told_all : ShownSince after.is_cut errors errors2 (told_typed 1 (typed ++ next.lines))
+  told_all = subst (λ bytes. ShownSince after.is_cut errors errors2 bytes) (ap (λ k. told_typed 1 typed ++ told_typed k next.lines) place ∙ sym (told_append 1 typed next.lines)) (told_then before.is_cut after.is_cut errors errors1 errors2 (told_typed 1 typed) (told_typed (before.lines + 1) next.lines) first.told next.told)
+
+  -- and its events stand after those before
+  pub events_all : events_typed 1 (typed ++ next.lines) ≡ events_typed 1 typed ++ round.events.items
+  events_all = events_append 1 typed next.lines ∙ ap (λ k. events_typed 1 typed ++ events_typed k next.lines) now ∙ ap (λ es. events_typed 1 typed ++ es) (sym next.events)
+
+  pub events_more : events_typed 1 (typed ++ (next.lines ++ [] ∷ [])) ≡ events_typed 1 typed ++ round.events.items
+  events_more =
+      events_append 1 typed (next.lines ++ [] ∷ []) ∙ ap (λ k. events_typed 1 typed ++ events_typed k (next.lines ++ [] ∷ [])) now
+      ∙ ap (λ es. events_typed 1 typed ++ es) (events_ended (n + 1) next.lines ∙ sym next.events)
+
+  -- an empty line ended the round
+  pub typed_more : round.typing ≡ GoesOn → IsTyped (n + 1) (typed ++ (next.lines ++ [] ∷ [])) after (operator keys keys2 errors errors2)
+  typed_more goes_on =
+      let lines : Texts = next.lines ++ [] ∷ [] in
+      let taken : TookWell lines keys1 keys2 = subst (λ t. Stands t (before.lines + length next.lines) next.lines keys1 keys2) goes_on next.taken in
+      let long : length (typed ++ lines) ≡ length typed + (length next.lines + 1) = length-append typed lines ∙ ap (λ k. length typed + k) (length-append next.lines ([] ∷ [])) in
+      let own : rounds_ended lines ≡ 1 = ended_append next.lines ([] ∷ []) ∙ ap (λ k. k + 1) (none_ended next.lines next.none_is_empty) in
+      record {
+        took = took_well typed lines keys keys1 keys2 first.took taken;
+        lines = omega (arith, next.counts goes_on, first.lines, long);
+        told = subst (λ bytes. ShownSince after.is_cut errors errors2 bytes) (sym (told_ended 1 (typed ++ next.lines)) ∙ ap (told_typed 1) (append_assoc typed next.lines ([] ∷ []))) told_all;
+        ended = omega (arith, ended_append typed lines, own, first.ended);
+        whole = inl (typed ++ next.lines, sym (append_assoc typed next.lines ([] ∷ [])));
+      }
+
+  ended_all : rounds_ended (typed ++ next.lines) ≡ n
+  ended_all = omega (arith, ended_append typed next.lines, none_ended next.lines next.none_is_empty, first.ended)
+
+  -- or it was the last
+  ends_by : (most : ℕ) → n < most → (t : Typing) (broken : Bool) → (t ≡ GoesOn → ⊥) → (broken ≡ true → t ≡ Broken) → (broken ≡ false → t ≡ Broken → ⊥) → Stands t (before.lines + length next.lines) next.lines keys1 keys2 → Ends broken most (typed ++ next.lines) keys keys2
+  ends_by most low GoesOn broken over is isnt taken = absurd (over refl)
+  ends_by most low Over true over is isnt taken = absurd (over_is_broken (is refl))
+    where
+      over_is_broken : Over ≡ Broken → ⊥
+      over_is_broken e = absurd cc
+  ends_by most low Over false over is isnt (taken, out) = (took_well typed next.lines keys keys1 keys2 first.took taken, inr (out, subst (λ k. k < most) (sym ended_all) low))
+  ends_by most low Broken true over is isnt taken =
+      let count : before.lines + length next.lines ≡ length typed + length next.lines = ap (λ k. k + length next.lines) first.lines in
+      (broke_off typed next.lines keys keys1 keys2 first.took (subst (λ k. Stands Broken k next.lines keys1 keys2) count taken), subst (λ k. k < most) (sym ended_all) low)
+  ends_by most low Broken false over is isnt taken = absurd (isnt refl refl)
+
+  pub ends_last : (most : ℕ) → n < most → (broken : Bool) → (round.typing ≡ GoesOn → ⊥) → (broken ≡ true → round.typing ≡ Broken) → (broken ≡ false → round.typing ≡ Broken → ⊥) → Ends broken most (typed ++ next.lines) keys keys2
+  ends_last most low broken over is isnt = ends_by most low round.typing broken over is isnt next.taken
+
+  -- no round is begun where no event was said
+  pub rounds_same : round.events.items ≡ [] → rounds_typed false (typed ++ next.lines) ≡ n
+  rounds_same none =
+      let nothing : rounds_typed false next.lines ≡ 0 = none_typed (n + 1) next.lines next.none_is_empty (sym next.events ∙ none) in
+      omega (arith, rounds_append typed next.lines first.whole, nothing, first.ended)
+
+  pub rounds_one : (round.events.items ≡ [] → ⊥) → rounds_typed false (typed ++ next.lines) ≡ n + 1
+  rounds_one some =
+      let one : rounds_typed false next.lines ≡ 1 = some_typed (n + 1) next.lines next.none_is_empty (λ none. some (next.events ∙ none)) in
+      omega (arith, rounds_append typed next.lines first.whole, one, first.ended)
+
+-- all rounds were ended
+pub ends_all : (most : ℕ) (typed : Texts) (count : Count) (p : Operator) → 1 ≤ most → IsTyped most typed count p → Ends false most typed p.keys p.keys'
+ends_all most typed count p some t = (t.took, inl (ends t.whole, t.ended))
+  where
+    ends : AreWhole typed → EndsRound typed
+    ends (inl is) = is
+    ends (inr none) = let zero_rounds : most ≡ 0 = sym t.ended ∙ ap rounds_ended none in absurd (omega (arith, some, zero_rounds))
+
+pub rounds_all : (n : ℕ) (typed : Texts) (count : Count) (p : Operator) → IsTyped n typed count p → rounds_typed false typed ≡ n
+rounds_all n typed count p t =
+    ap (rounds_typed false) (sym (append-nil typed)) ∙ rounds_append typed [] t.whole ∙ omega (arith, t.ended)
+
+-- what was typed was made
+pub made_typed : (most n : ℕ) (went : Went) (typed : Texts) (p : Operator) (es : List Event) (m m1 : Machine) (s s1 : System) (lines lines1 : List Seen) (screens : List Screen) (out out1 : Seen) (cut : Bool) → IsSofar n es went.is_cut m m1 s s1 lines lines1 screens out out1
+    → Ends went.is_broken most typed p.keys p.keys' → rounds_typed false typed ≡ n → n ≤ most → events_typed 1 typed ≡ es → ShownSince cut p.errors p.errors' (told_typed 1 typed) → MakesTyped most went p out out1 m s lines m1 s1 lines1
+made_typed most n went typed p es m m1 s s1 lines lines1 screens out out1 cut sofar ends rounds few events told = record {
+  typed = typed;
+  ends = ends;
+  few = omega (arith, rounds, few);
+  makes = subst (λ k. MakesRounds k (events_typed 1 typed) m s lines m1 s1 lines1) (sym rounds) (subst (λ xs. MakesRounds n xs m s lines m1 s1 lines1) (sym events) sofar.makes);
+  cut = cut;
+  told = told;
+  echoed = sofar.echoed;
+  shown = sofar.shown;
+  exact = λ seen. sofar.exact seen ∙ (λ j. echo_rounds (more_on lines lines1) (moment_of m.memory s) (sym events j) (sym rounds j));
+}
+
+pub made_last : (most n : ℕ) (went : Went) (typed : Texts) (before after : Count) (round : TypedRound) (keys keys1 keys2 : Keys) (errors errors1 errors2 : Seen) (t : IsTyped n typed before (operator keys keys1 errors errors1)) (r : TypesRound (n + 1) before after round (operator keys1 keys2 errors1 errors2))
+    (k : ℕ) (m m1 : Machine) (s s1 : System) (lines lines1 : List Seen) (screens : List Screen) (out out1 : Seen) → IsSofar k (events_typed 1 typed ++ round.events.items) went.is_cut m m1 s s1 lines lines1 screens out out1
+    → n < most → k ≤ most → rounds_typed false (typed ++ r.lines) ≡ k → (round.typing ≡ GoesOn → ⊥) → (went.is_broken ≡ true → round.typing ≡ Broken) → (went.is_broken ≡ false → round.typing ≡ Broken → ⊥)
+    → MakesTyped most went (operator keys keys2 errors errors2) out out1 m s lines m1 s1 lines1
+made_last most n went typed before after round keys keys1 keys2 errors errors1 errors2 t r k m m1 s s1 lines lines1 screens out out1 sofar low few rounds over is isnt =
+    made_typed most k went (typed ++ r.lines) (operator keys keys2 errors errors2) (events_typed 1 typed ++ round.events.items) m m1 s s1 lines lines1 screens out out1 after.is_cut sofar
+    (ends_last n typed before after round keys keys1 keys2 errors errors1 errors2 t r most low went.is_broken over is isnt) rounds few (events_all n typed before after round keys keys1 keys2 errors errors1 errors2 t r)
+    (told_all n typed before after round keys keys1 keys2 errors errors1 errors2 t r)
+
+nothing_in : (es : List Event) → (length es == 0) ≡ true → es ≡ []
+nothing_in [] empty = refl
+nothing_in (e ∷ es) empty = let none : length (e ∷ es) ≡ 0 = eqb-true (length (e ∷ es)) 0 empty in absurd (omega (arith, none))
+
+-- What stands before a round's lines are typed: so many rounds were made, of the lines that were typed.
+pub record IsBetween (n : ℕ) (count : Count) (p : Operator) (cut : Bool) (m m1 : Machine) (s s1 : System) (lines lines1 : List Seen) (screens : List Screen) (out out1 : Seen) : Type 0 where
+  pub typed : Texts
+  pub types : IsTyped n typed count p
+  pub sofar : IsSofar n (events_typed 1 typed) cut m m1 s s1 lines lines1 screens out out1
+
+pub between_first : (keys : Keys) (errors : Seen) (m : Machine) (s : System) (lines : List Seen) (screens : List Screen) (out : Seen) → s.turns.is_begun ≡ false → IsSystem s → StandsIn m.memory s → AreScreens lines s.config.terminals screens
+    → IsBetween 0 (record { lines = 0; is_cut = false }) (operator keys keys errors errors) false m m s s lines lines screens out out
+between_first keys errors m s lines screens out rests holds stands are = record {
+  typed = [];
+  types = none_typed_yet keys errors;
+  sofar = none_sofar m s lines screens out rests holds stands are;
+}
+
+module _ (n : ℕ) (before after : Count) (round : TypedRound) (keys keys1 keys2 : Keys) (errors errors1 errors2 : Seen) (cut cut' : Bool) (m m1 m2 : Machine) (s s1 s2 : System) (lines lines1 lines2 : List Seen) (screens screens' : List Screen) (out out1 out2 : Seen) (fresh : s.rounds ≡ 0)
+    (b : IsBetween n before (operator keys keys1 errors errors1) cut m m1 s s1 lines lines1 screens out out1) (r : TypesRound (n + 1) before after round (operator keys1 keys2 errors1 errors2)) where
+  -- a round more was made
+  pub between_next : (these : List Event) → these ≡ round.events.items → AreOf (n + 1) round.events.items → MakesRounds 1 these m1 s1 lines1 m2 s2 lines2 → GoesOnShowing cut cut' lines2 screens screens' out1 out2 → round.typing ≡ GoesOn
+      → IsBetween (n + 1) after (operator keys keys2 errors errors2) cut' m m2 s s2 lines lines2 screens' out out2
+  between_next these same are made shows goes_on =
+      let makes : MakesRounds 1 round.events.items m1 s1 lines1 m2 s2 lines2 = subst (λ (es : List Event). MakesRounds 1 es m1 s1 lines1 m2 s2 lines2) same made in
+      let more : IsSofar (n + 1) (events_typed 1 b.typed ++ round.events.items) cut' m m2 s s2 lines lines2 screens' out out2 = next_sofar n (events_typed 1 b.typed) round.events.items cut cut' m m1 m2 s s1 s2 lines lines1 lines2 screens screens' out out1 out2 fresh are b.sofar makes shows in
+      record {
+        typed = b.typed ++ (r.lines ++ [] ∷ []);
+        types = typed_more n b.typed before after round keys keys1 keys2 errors errors1 errors2 b.types r goes_on;
+        sofar = subst (λ es. IsSofar (n + 1) es cut' m m2 s s2 lines lines2 screens' out out2) (sym (events_more n b.typed before after round keys keys1 keys2 errors errors1 errors2 b.types r)) more;
+      }
+
+  -- the last round was made
+  pub last_made : (most : ℕ) (broken : Bool) (these : List Event) → n < most → these ≡ round.events.items → AreOf (n + 1) round.events.items → MakesRounds 1 these m1 s1 lines1 m2 s2 lines2 → GoesOnShowing cut cut' lines2 screens screens' out1 out2
+      → (length these == 0) ≡ false → (round.typing ≡ GoesOn → ⊥) → (broken ≡ true → round.typing ≡ Broken) → (broken ≡ false → round.typing ≡ Broken → ⊥)
+      → MakesTyped most (record { is_cut = cut'; is_broken = broken }) (operator keys keys2 errors errors2) out out2 m s lines m2 s2 lines2
+  last_made most broken these low same are made shows filled over is isnt =
+      let makes : MakesRounds 1 round.events.items m1 s1 lines1 m2 s2 lines2 = subst (λ (es : List Event). MakesRounds 1 es m1 s1 lines1 m2 s2 lines2) same made in
+      let some : round.events.items ≡ [] → ⊥ = λ none. true≢false (ap (λ (es : List Event). length es == 0) (sym none ∙ sym same) ∙ filled) in
+      made_last most n (record { is_cut = cut'; is_broken = broken }) b.typed before after round keys keys1 keys2 errors errors1 errors2 b.types r (n + 1) m m2 s s2 lines lines2 screens' out out2
+      (next_sofar n (events_typed 1 b.typed) round.events.items cut cut' m m1 m2 s s1 s2 lines lines1 lines2 screens screens' out out1 out2 fresh are b.sofar makes shows)
+      low (omega (arith, low)) (rounds_one n b.typed before after round keys keys1 keys2 errors errors1 errors2 b.types r some) over is isnt
+
+-- no event was said for the last
+pub none_made_more : (n : ℕ) (before after : Count) (round : TypedRound) (keys keys1 keys2 : Keys) (errors errors1 errors2 : Seen) (cut : Bool) (m m1 : Machine) (s s1 : System) (lines lines1 : List Seen) (screens : List Screen) (out out1 : Seen)
+    → (b : IsBetween n before (operator keys keys1 errors errors1) cut m m1 s s1 lines lines1 screens out out1) → (r : TypesRound (n + 1) before after round (operator keys1 keys2 errors1 errors2))
+    → (most : ℕ) (broken : Bool) (these : List Event) → n < most → these ≡ round.events.items → (length these == 0) ≡ true → (round.typing ≡ GoesOn → ⊥) → (broken ≡ true → round.typing ≡ Broken) → (broken ≡ false → round.typing ≡ Broken → ⊥)
+    → MakesTyped most (record { is_cut = cut; is_broken = broken }) (operator keys keys2 errors errors2) out out1 m s lines m1 s1 lines1
+none_made_more n before after round keys keys1 keys2 errors errors1 errors2 cut m m1 s s1 lines lines1 screens out out1 b r most broken these low whole empty over is isnt =
+    let none : round.events.items ≡ [] = sym whole ∙ nothing_in these empty in
+    let same : events_typed 1 b.typed ≡ events_typed 1 b.typed ++ round.events.items = sym (ap (λ es. events_typed 1 b.typed ++ es) none ∙ append-nil (events_typed 1 b.typed)) in
+    made_last most n (record { is_cut = cut; is_broken = broken }) b.typed before after round keys keys1 keys2 errors errors1 errors2 b.types r n m m1 s s1 lines lines1 screens out out1
+    (subst (λ es. IsSofar n es cut m m1 s s1 lines lines1 screens out out1) same b.sofar)
+    low (omega (arith, low)) (rounds_same n b.typed before after round keys keys1 keys2 errors errors1 errors2 b.types r none) over is isnt
+
+-- all rounds were made
+pub all_made : (most n : ℕ) (count : Count) (p : Operator) (cut : Bool) (m m1 : Machine) (s s1 : System) (lines lines1 : List Seen) (screens : List Screen) (out out1 : Seen) → 1 ≤ most → n ≡ most → IsBetween n count p cut m m1 s s1 lines lines1 screens out out1
+    → MakesTyped most (record { is_cut = cut; is_broken = false }) p out out1 m s lines m1 s1 lines1
+all_made most n count p cut m m1 s s1 lines lines1 screens out out1 some same so_many =
+    let b : IsBetween most count p cut m m1 s s1 lines lines1 screens out out1 = subst (λ k. IsBetween k count p cut m m1 s s1 lines lines1 screens out out1) same so_many in
+    made_typed most most (record { is_cut = cut; is_broken = false }) b.typed p (events_typed 1 b.typed) m m1 s s1 lines lines1 screens out out1 count.is_cut b.sofar (ends_all most b.typed count p some b.types) (rounds_all most b.typed count p b.types) (omega arith) refl b.types.told

@@ -1,0 +1,4 @@
+pub mod Lives
+pub mod Made
+pub mod Operator
+pub mod Typing

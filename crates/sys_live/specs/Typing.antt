@@ -1,0 +1,56 @@
+-- How lines are taken from a keyboard, and how that ends.
+use Rattle.std.specs.Prelude.{ℕ, ◌≡◌, ◌≢◌, ◌<◌, ◌+◌, ◌-◌, ◌^◌, ◌⊎◌, List, [], ◌∷◌, ◌++◌, All, Bool, true, false, length}
+use Rattle.vv_io.specs.Causes.{Rose}
+use Rattle.vv_io.specs.Keys.{IsOut, Keys, Took}
+use Rattle.vv_io.specs.Lines.{Seen}
+use Rattle.sys_lines.specs.ShownSince.{ShownSince}
+use Rattle.sys_script.specs.Typed.{events_typed, rounds_ended, says_event, told_typed}
+use Rattle.sys_live.specs.Operator.{Operator}
+use Rattle.sys_live.specs.declared.typing.Count.{Count}
+use Rattle.sys_live.specs.declared.typing.TypedRound.{TypedRound}
+use Rattle.sys_live.specs.declared.typing.Typing.{Typing}
+use Rattle.sys_live.specs.declared.typing.Typing.TheVariants.{GoesOn, Over, Broken}
+
+-- these lines were taken, and no call failed
+pub record TookWell (lines : List (List ℕ)) (before after : Keys) : Type 0 where
+  pub took : Took lines before.coming after.coming
+  pub faults : after.faults ≡ before.faults
+
+-- the keyboard failed after these lines; or with them as many were taken as are counted; or memory ran out for the next one, which
+-- says an event
+abbrev pub BreaksOff : ℕ → List (List ℕ) → Keys → Keys → Type 0
+BreaksOff count lines before after =
+    (Took lines before.coming after.coming × Rose before.faults after.faults)
+    ⊎ ((TookWell lines before after × (count ≡ 2 ^ 32 - 1)) ⊎ ((lost : List ℕ) × (says_event lost ≡ true) × TookWell (lines ++ lost ∷ []) before after))
+
+-- How the lines of one round ended, `count` with those of the rounds before: an empty line was taken; or no more come; or it broke
+-- off.
+abbrev pub Stands : Typing → ℕ → List (List ℕ) → Keys → Keys → Type 0
+Stands GoesOn count lines before after = TookWell (lines ++ [] ∷ []) before after
+Stands Over count lines before after = TookWell lines before after × IsOut after.coming
+Stands Broken count lines before after = BreaksOff count lines before after
+
+-- bytes are told where nothing was cut before
+abbrev pub Tells : (cut cut' : Bool) → Seen → Seen → List ℕ → Type 0
+Tells true cut' before after bytes = (cut' ≡ true) × (after ≡ before)
+Tells false cut' before after bytes = ShownSince cut' before after bytes
+
+-- The lines of one round were taken, of which none is empty, and their events are the round's. Those that say none were told, by the
+-- numbers that follow those of the rounds before. Where an empty line ended the round it is counted with them.
+pub record TypesRound (round : ℕ) (before after : Count) (typed : TypedRound) (p : Operator) : Type 0 where
+  pub lines : List (List ℕ)
+  pub none_is_empty : All (λ line. line ≢ []) lines
+  pub taken : Stands typed.typing (before.lines + length lines) lines p.keys p.keys'
+  pub counts : typed.typing ≡ GoesOn → after.lines ≡ before.lines + length lines + 1
+  pub events : typed.events.items ≡ events_typed round lines
+  pub told : Tells before.is_cut after.is_cut p.errors p.errors' (told_typed (before.lines + 1) lines)
+
+-- the last line is empty
+abbrev pub EndsRound : List (List ℕ) → Type 0
+EndsRound lines = (before : List (List ℕ)) × (lines ≡ before ++ [] ∷ [])
+
+-- How the typing of a run of at most so many rounds ended: all rounds were ended, and no line was taken after them; or, with fewer,
+-- no more lines come, or it broke off.
+abbrev pub Ends : Bool → ℕ → List (List ℕ) → Keys → Keys → Type 0
+Ends true most lines before after = BreaksOff (length lines) lines before after × (rounds_ended lines < most)
+Ends false most lines before after = TookWell lines before after × ((EndsRound lines × (rounds_ended lines ≡ most)) ⊎ (IsOut after.coming × (rounds_ended lines < most)))
