@@ -1,4 +1,4 @@
-//! What is said of a line, a drive or the sink behind a call.
+//! What is said of a line, a drive, the sink or what is told of typed lines after a call.
 
 use vv_stage::Told;
 
@@ -8,6 +8,7 @@ pub enum Subject {
     Line(usize),
     Drive(usize),
     Out,
+    Errors,
 }
 
 /// What is said of it by bytes that follow.
@@ -24,6 +25,7 @@ pub fn held(told: &Told, subject: Subject) -> &[u8] {
         Subject::Line(number) => told.line(number),
         Subject::Drive(number) => told.drive(number),
         Subject::Out => told.out.as_slice(),
+        Subject::Errors => told.errors.as_slice(),
     }
 }
 
@@ -53,6 +55,9 @@ pub fn answers(told: &Told, answer: &str) -> bool {
 pub fn subject_in(line: &str) -> Option<(Subject, &str)> {
     if let Some(rest) = line.strip_prefix("out ") {
         return Some((Subject::Out, rest));
+    }
+    if let Some(rest) = line.strip_prefix("errors ") {
+        return Some((Subject::Errors, rest));
     }
     let (what, rest) = line.split_once(' ')?;
     let (number, rest) = rest.split_once(' ')?;

@@ -20,6 +20,9 @@ pub struct Given<'t> {
     pub out: Option<Cut>,
     pub failing: Option<u32>,
     pub room: u32,
+    pub keys: Vec<u8>,
+    pub broken: Option<u32>,
+    pub errors: Option<Cut>,
 }
 
 /// Other bytes of a file, for one call.
@@ -54,6 +57,9 @@ impl<'t> Given<'t> {
             out: None,
             failing: None,
             room: ROOM,
+            keys: Vec::new(alloc),
+            broken: None,
+            errors: None,
         }
     }
 
@@ -108,6 +114,9 @@ impl<'t> Given<'t> {
             spoiled: &self.spoiled,
             room: self.room,
             out: self.out,
+            keys: self.keys.as_slice(),
+            broken: self.broken,
+            errors: self.errors,
         };
         run_words(alloc, machine, words, &props, &self.cuts, &self.disks)
     }

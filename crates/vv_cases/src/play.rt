@@ -32,6 +32,7 @@ enum Pending<'t> {
     Let(&'t str),
     File(&'t str),
     Volume(u8),
+    Keys,
     Check(Subject, Relation),
     Each(Each<'t>),
 }
@@ -75,6 +76,15 @@ fn verdict_of(holds: bool) -> Verdict {
         Verdict::Holds
     } else {
         Verdict::Differs
+    }
+}
+
+/// Whether a statement could be read.
+fn verdict_read(is_read: bool) -> Verdict {
+    if is_read {
+        Verdict::Holds
+    } else {
+        Verdict::Unread
     }
 }
 
@@ -242,6 +252,10 @@ impl<'t> Play<'t> {
                 self.given.volumes.push((number, blocks))?;
                 Ok(Verdict::Holds)
             }
+            Pending::Keys => {
+                self.given.keys = content.bytes;
+                Ok(Verdict::Holds)
+            }
             Pending::Check(subject, relation) => Ok(said(
                 self.told().map(|told| {
                     is_related(held(told, subject), relation, &content.bytes)
@@ -266,12 +280,13 @@ impl<'t> Play<'t> {
             "case" | "with" => Ok(Verdict::Holds),
             "let" => Ok(self.await_content(Pending::Let(rest))),
             "file" => Ok(self.await_content(Pending::File(rest))),
+            "keys" => Ok(self.await_content(Pending::Keys)),
             "call" => self.call(rest),
             "prefixes" | "changes" => Ok(self.await_table(word, rest)),
             "keep" => Ok(self.keep(rest)),
             "code" => Ok(self.check_code(rest)),
             "others" | "drives" => Ok(self.check_others(word, rest)),
-            "line" | "drive" | "out" => self.check(line),
+            "line" | "drive" | "out" | "errors" => self.check(line),
             _ => self.give(word, rest),
         }
     }
@@ -323,11 +338,15 @@ impl<'t> Play<'t> {
         Ok(Verdict::Holds)
     }
 
-    /// Spoils a call of the shelf or of a drive.
+    /// Spoils a call of the shelf, of the keyboard or of a drive.
     fn fail(&mut self, rest: &str) -> Result<Verdict, NoMemory> {
         if let Ok(call) = rest.parse() {
             self.given.failing = Some(call);
             return Ok(Verdict::Holds);
+        }
+        if let Some(call) = rest.strip_prefix("keys ") {
+            self.given.broken = call.parse().ok();
+            return Ok(verdict_read(self.given.broken.is_some()));
         }
         match rest
             .strip_prefix("drive ")
@@ -348,6 +367,7 @@ impl<'t> Play<'t> {
         };
         match (what, what.parse(), cut_in(numbers)) {
             ("out", _, Some(cut)) => self.given.out = Some(cut),
+            ("errors", _, Some(cut)) => self.given.errors = Some(cut),
             (_, Ok(line), Some(cut)) => self.given.cuts.push(LineCut { line, cut })?,
             _ => {
                 return Ok(Verdict::Unread);

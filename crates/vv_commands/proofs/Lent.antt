@@ -1,6 +1,9 @@
--- A run that is saved or goes on is given slices of what was fetched.
+-- A run that is saved, goes on or is typed is given slices of what was fetched.
 use Rattle.std.proofs.Common.{ℕ, ◌≡◌, List, map, subst, Result, Vec, Global}
 use Rattle.vv_io.specs.Lines.{Seen}
+use Rattle.sys_live.specs.Lives.{LivesRun}
+use Rattle.sys_live.specs.Operator.{Operator}
+use Rattle.sys_live.specs.declared.session.Lived.{Lived}
 use Rattle.sys_objects.specs.declared.records.Config.{Config}
 use Rattle.sys_rounds.specs.Run.{Moment}
 use Rattle.sys_runs.specs.Ran.{Outside}
@@ -22,3 +25,8 @@ saves_over c text text' images images' es es' n result o out out' are_text are_i
 
 pub goes_over : (m : Moment) (es es' : List Event) (n : ℕ) (result : Result Ran PowerFault) (o : Outside) → es ≡ es' → GoesOn m es n result o → GoesOn m es' n result o
 goes_over m es es' n result o are_events goes_on = subst (λ (xs : List Event). GoesOn m xs n result o) are_events goes_on
+
+pub lives_over : (c : Config) (images images' : List (Vec ℕ Global)) (most : ℕ) (result : Result Lived PowerFault) (o : Outside) (p : Operator) (out out' : Seen) → images ≡ images'
+    → LivesRun c (map items images) most result o p out out' → LivesRun c (map items images') most result o p out out'
+lives_over c images images' most result o p out out' are_images lives =
+    subst (λ (xs : List (Vec ℕ Global)). LivesRun c (map items xs) most result o p out out') are_images lives

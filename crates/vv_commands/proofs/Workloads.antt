@@ -11,6 +11,7 @@ use Rattle.sys_guests.specs.Loads.{first_misfit, is_misfit}
 use Rattle.sys_objects.specs.declared.records.Config.{Config}
 use Rattle.sys_objects.specs.declared.records.GuestRow.{GuestRow}
 use Rattle.sys_objects.specs.declared.records.VolumeRow.{VolumeRow}
+use Rattle.sys_live.specs.Operator.{Operator, Untyped}
 use Rattle.sys_runs.specs.Given.{RunsWith}
 use Rattle.sys_runs.specs.Ran.{Outside, Untouched}
 use Rattle.sys_runs.specs.declared.running.Ran.{Ran}
@@ -95,7 +96,7 @@ runs_over w images volumes events result o are_images are_volumes are_events run
     (subst (λ (xs : List Event). RunsWith w.config (map items images) (map blocks volumes) xs w.rounds result o) are_events runs))
 
 -- what the words asked for was done
-pub says_load : (w : Option Wanted) (request : Request) (number : ℕ) (status : Status) (o : CallOutside) → request ≡ Load number → (let asked : Option Wanted = Some (wanted_by request) in asked ≡ w) → FollowsLoad number status (run_of o) o.out o.out' → o.shelf' ≡ o.shelf → Says w status o
-says_load w request number status o is asked follows shelf =
+pub says_load : (w : Option Wanted) (request : Request) (number : ℕ) (status : Status) (o : CallOutside) (p : Operator) → request ≡ Load number → (let asked : Option Wanted = Some (wanted_by request) in asked ≡ w) → FollowsLoad number status (run_of o) o.out o.out' → o.shelf' ≡ o.shelf → Untyped p → Says w status o p
+says_load w request number status o p is asked follows shelf untyped =
     let load : (let x : Option Wanted = Some (WantsLoad number) in x ≡ w) = subst (λ (r : Request). let x : Option Wanted = Some (wanted_by r) in x ≡ w) is asked in
-    subst (λ (x : Option Wanted). Says x status o) load (follows, shelf)
+    subst (λ (x : Option Wanted). Says x status o p) load (follows, shelf, untyped)

@@ -18,6 +18,9 @@ use Rattle.sys_config.specs.Written.{version_of}
 use Rattle.sys_draw.specs.Picture.{drawing_of}
 use Rattle.sys_flow.specs.Report.{IsReport}
 use Rattle.sys_lines.specs.ShownSince.{ShownSince}
+use Rattle.sys_live.specs.Lives.{LivesRun}
+use Rattle.sys_live.specs.Operator.{Operator, Untyped}
+use Rattle.sys_live.specs.declared.session.Lived.{Lived}
 use Rattle.sys_objects.specs.declared.records.Config.{Config}
 use Rattle.sys_purge.specs.Input.{purged}
 use Rattle.sys_purge.specs.Laws.{shown_on}
@@ -35,12 +38,12 @@ use Rattle.sys_system.specs.declared.power.PowerFault.{PowerFault}
 use Rattle.sys_system.specs.declared.power.PowerFault.TheVariants as faults
 use Rattle.sys_trace.specs.Trace.{trace_of}
 use Rattle.vv_gen.specs.Workload.{Generated, workload_of}
-use Rattle.vv_commands.specs.Files.{HasAll, HasAllToSave, HasBoth, HasConfig, IsRead, StopsAudit, StopsConfig, StopsFile, StopsResume, StopsRun, StopsSave}
+use Rattle.vv_commands.specs.Files.{HasAll, HasAllToLive, HasAllToSave, HasBoth, HasConfig, IsRead, StopsAudit, StopsConfig, StopsFile, StopsLive, StopsResume, StopsRun, StopsSave}
 use Rattle.vv_commands.specs.Solo.{solo_config, solo_guest}
 use Rattle.vv_commands.specs.Summary.{check_line, summary}
-use Rattle.vv_commands.specs.Words.{Asked, AuditAsked, ResumeAsked, RunAsked, Wanted, WantsSolo, WantsTrace, WantsRun, WantsSave, WantsResume, WantsLoad, WantsCheck, WantsMigration, WantsAudit, WantsFlow, WantsDrawing, WantsBytes, WantsText}
+use Rattle.vv_commands.specs.Words.{Asked, AuditAsked, LiveAsked, ResumeAsked, RunAsked, Wanted, WantsSolo, WantsTrace, WantsRun, WantsSave, WantsResume, WantsLive, WantsLoad, WantsCheck, WantsMigration, WantsAudit, WantsFlow, WantsDrawing, WantsBytes, WantsText}
 use Rattle.vv_commands.specs.declared.status.Status.{Status}
-use Rattle.vv_commands.specs.declared.status.Status.TheVariants.{Done, Words, Missing, TooLong, ShelfFault, Config as ConfigRefused, Script as ScriptRefused, Image, VolumeSize, DriveIn, Device as DeviceFault, Asm, SnapSize, Snap as SnapRefused, Audit, OutFault, NoMemory}
+use Rattle.vv_commands.specs.declared.status.Status.TheVariants.{Done, Words, Missing, TooLong, ShelfFault, Config as ConfigRefused, Script as ScriptRefused, Image, VolumeSize, DriveIn, Device as DeviceFault, Asm, SnapSize, Snap as SnapRefused, Audit, OutFault, KeyFault, NoMemory}
 use Rattle.vv_commands.specs.declared.stop.Stop.{Stop}
 use Rattle.vv_commands.specs.declared.stop.Stop.TheVariants as stops
 
@@ -213,6 +216,46 @@ pub record PlaysResume (a : ResumeAsked) (status : Status) (o : Outside) : Type 
 abbrev pub FollowsResume : ResumeAsked → Status → Outside → Type 0
 FollowsResume a status o = (Stops (StopsResume o.files a o.shelf o.shelf') status × Silent o) ⊎ PlaysResume a status o
 
+-- the answer where all was done: a device that failed is told first, then what is cut, then that the typing broke off
+abbrev pub live_status : Option Device → Bool → Bool → Status
+live_status (Some device) cut broken = DeviceFault device
+live_status None true broken = OutFault
+live_status None false true = KeyFault
+live_status None false false = Done
+
+-- a summary after what was shown, which may be cut; where that was cut nothing more is put
+abbrev pub PutsSummary : (was_cut cut : Bool) → List ℕ → Seen → Seen → Type 0
+PutsSummary true cut bytes shown out' = (cut ≡ true) × (out' ≡ shown)
+PutsSummary false cut bytes shown out' = ShownSince cut shown out' bytes
+
+-- The run was made: after what was shown of its rounds its summary is put, unless that was cut.
+pub record ClosesLive (lived : Lived) (status : Status) (shown out' : Seen) : Type 0 where
+  pub cut : Bool
+  pub is : status ≡ live_status lived.ran.failed cut lived.is_broken
+  pub closes : PutsSummary lived.is_cut cut (summary lived.rounds (tally_of lived.ran.counts)) shown out'
+
+-- how a run that was to be typed is answered: power doesn't come up, or it is made
+abbrev pub AnswersLive : Result Lived PowerFault → Status → Seen → Seen → Type 0
+AnswersLive (Err fault) status shown out' = (status ≡ power_status fault) × (out' ≡ shown)
+AnswersLive (Ok lived) status shown out' = ClosesLive lived status shown out'
+
+-- `live`: configuration and images were fetched, and the run is made as it is typed. Whatever is typed and the drives hold, its
+-- devices are separate.
+pub record PlaysLive (a : LiveAsked) (status : Status) (o : Outside) (p : Operator) : Type 0 where
+  pub config : Config
+  pub images : List (List ℕ)
+  pub has : HasAllToLive o.files a config images
+  pub shelf : o.shelf' ≡ o.shelf
+  pub result : Result Lived PowerFault
+  -- what was shown before the summary
+  pub shown : Seen
+  pub lives : LivesRun config images a.rounds result (run_of o) p o.out shown
+  pub answers : AnswersLive result status shown o.out'
+  pub separate : (x : Input) → x.config ≡ config → IsSeparate x
+
+abbrev pub FollowsLive : LiveAsked → Status → Outside → Operator → Type 0
+FollowsLive a status o p = (Stops (StopsLive o.files a o.shelf o.shelf') status × Silent o × Untyped p) ⊎ PlaysLive a status o p
+
 -- `check`, `migrate`, `flow` and `draw`: the configuration was fetched, and bytes that stand so to it are put
 pub record ShowsConfig (Bytes : Config → List ℕ → Type 0) (name : List ℕ) (status : Status) (o : ShelfAndSink) : Type 0 where
   pub config : Config
@@ -285,19 +328,20 @@ status_of name answers.NoMemory = NoMemory
 abbrev pub ShowsFile : (List ℕ → Result (List ℕ) AsmFault) → List ℕ → Status → Outside → Type 0
 ShowsFile made name status o = (answer : Answer) × (status ≡ status_of name answer) × FollowsFile made name answer (shelf_and_sink o) × Apart o
 
--- what an answer says, given what the words ask for
-abbrev pub Says : Option Wanted → Status → Outside → Type 0
-Says None status o = (status ≡ Words) × Apart o × (o.out' ≡ o.out)
-Says (Some (WantsSolo a)) status o = FollowsSolo a status o
-Says (Some (WantsTrace a)) status o = FollowsTrace a status o
-Says (Some (WantsRun a)) status o = FollowsRun a status o
-Says (Some (WantsSave a)) status o = FollowsSave a status o
-Says (Some (WantsResume a)) status o = FollowsResume a status o
-Says (Some (WantsLoad number)) status o = FollowsLoad number status (run_of o) o.out o.out' × (o.shelf' ≡ o.shelf)
-Says (Some (WantsCheck name)) status o = FollowsConfig AreCounts name status (shelf_and_sink o) × Apart o
-Says (Some (WantsMigration name)) status o = FollowsConfig IsMigrated name status (shelf_and_sink o) × Apart o
-Says (Some (WantsAudit a)) status o = FollowsAudit a status (shelf_and_sink o) × Apart o
-Says (Some (WantsFlow name)) status o = FollowsConfig IsReport name status (shelf_and_sink o) × Apart o
-Says (Some (WantsDrawing name)) status o = FollowsConfig IsDrawing name status (shelf_and_sink o) × Apart o
-Says (Some (WantsBytes source)) status o = ShowsFile asm_of source status o
-Says (Some (WantsText image)) status o = ShowsFile (λ bytes. Ok (dis_of bytes)) image status o
+-- what an answer says, given what the words ask for; only `live` has anything typed
+abbrev pub Says : Option Wanted → Status → Outside → Operator → Type 0
+Says None status o p = (status ≡ Words) × Apart o × (o.out' ≡ o.out) × Untyped p
+Says (Some (WantsSolo a)) status o p = FollowsSolo a status o × Untyped p
+Says (Some (WantsTrace a)) status o p = FollowsTrace a status o × Untyped p
+Says (Some (WantsRun a)) status o p = FollowsRun a status o × Untyped p
+Says (Some (WantsSave a)) status o p = FollowsSave a status o × Untyped p
+Says (Some (WantsResume a)) status o p = FollowsResume a status o × Untyped p
+Says (Some (WantsLive a)) status o p = FollowsLive a status o p
+Says (Some (WantsLoad number)) status o p = FollowsLoad number status (run_of o) o.out o.out' × (o.shelf' ≡ o.shelf) × Untyped p
+Says (Some (WantsCheck name)) status o p = FollowsConfig AreCounts name status (shelf_and_sink o) × Apart o × Untyped p
+Says (Some (WantsMigration name)) status o p = FollowsConfig IsMigrated name status (shelf_and_sink o) × Apart o × Untyped p
+Says (Some (WantsAudit a)) status o p = FollowsAudit a status (shelf_and_sink o) × Apart o × Untyped p
+Says (Some (WantsFlow name)) status o p = FollowsConfig IsReport name status (shelf_and_sink o) × Apart o × Untyped p
+Says (Some (WantsDrawing name)) status o p = FollowsConfig IsDrawing name status (shelf_and_sink o) × Apart o × Untyped p
+Says (Some (WantsBytes source)) status o p = ShowsFile asm_of source status o × Untyped p
+Says (Some (WantsText image)) status o p = ShowsFile (λ bytes. Ok (dis_of bytes)) image status o × Untyped p

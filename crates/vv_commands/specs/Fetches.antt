@@ -14,10 +14,11 @@ use Rattle.vv_io.specs.Shelf.{File}
 use Rattle.sys_objects.specs.declared.records.Config.{Config}
 use Rattle.sys_objects.specs.declared.records.GuestRow.{GuestRow}
 use Rattle.sys_script.specs.declared.event.Event.{Event}
-use Rattle.vv_commands.specs.Files.{AreImages, HasAll, HasAllToSave, HasBoth, HasConfig, HasScript, HasSnap, IsRead, IsScriptRefused, IsSnapRefused, StopsAudit, StopsConfig, StopsFile, StopsResume, StopsRun, StopsSave}
+use Rattle.vv_commands.specs.Files.{AreImages, HasAll, HasAllToLive, HasAllToSave, HasBoth, HasConfig, HasScript, HasSnap, IsRead, IsScriptRefused, IsSnapRefused, StopsAudit, StopsConfig, StopsFile, StopsLive, StopsResume, StopsRun, StopsSave}
 use Rattle.vv_commands.specs.Solo.{solo_config}
-use Rattle.vv_commands.specs.Words.{Asked, AuditAsked, ResumeAsked, RunAsked}
+use Rattle.vv_commands.specs.Words.{Asked, AuditAsked, LiveAsked, ResumeAsked, RunAsked}
 use Rattle.vv_commands.specs.declared.fetching.Inputs.{Inputs}
+use Rattle.vv_commands.specs.declared.fetching.InputsToLive.{InputsToLive}
 use Rattle.vv_commands.specs.declared.fetching.InputsToResume.{InputsToResume}
 use Rattle.vv_commands.specs.declared.fetching.InputsToSave.{InputsToSave}
 use Rattle.vv_commands.specs.declared.fetching.Read.{Read}
@@ -94,6 +95,11 @@ FetchesSnap files name before now (Err stop) = StopsSnap files name before now s
 abbrev pub FetchesResume : Option (List File) → ResumeAsked → ℕ → ℕ → Result InputsToResume Stop → Type 0
 FetchesResume files a before now (Ok x) = HasBoth files a (moment_of x.snap) x.events.items × (now ≡ before)
 FetchesResume files a before now (Err stop) = StopsResume files a before now stop
+
+-- a run that is typed: its configuration and images were fetched
+abbrev pub FetchesLive : Option (List File) → LiveAsked → ℕ → ℕ → Result InputsToLive Stop → Type 0
+FetchesLive files a before now (Ok x) = HasAllToLive files a x.config (map (λ b. b.items) x.images.items) × (now ≡ before)
+FetchesLive files a before now (Err stop) = StopsLive files a before now stop
 
 -- the run of one guest: its image was fetched
 abbrev pub FetchesSolo : Option (List File) → Asked → ℕ → ℕ → Result Inputs Stop → Type 0

@@ -15,7 +15,7 @@ use Rattle.sys_script.specs.declared.event.ScriptFault.{ScriptFault}
 use Rattle.sys_snap.specs.Reader.{snap_in}
 use Rattle.sys_snap.specs.Snap.{IsSnap}
 use Rattle.sys_snap.specs.declared.fault.SnapFault.{SnapFault}
-use Rattle.vv_commands.specs.Words.{AuditAsked, ResumeAsked, RunAsked}
+use Rattle.vv_commands.specs.Words.{AuditAsked, LiveAsked, ResumeAsked, RunAsked}
 use Rattle.vv_commands.specs.declared.stop.Stop.{Stop}
 use Rattle.vv_commands.specs.declared.stop.Stop.TheVariants.{Missing, TooLong, ShelfFault, Config as ConfigRefused, Script as ScriptRefused, SnapSize, Snap as SnapRefused, NoMemory}
 
@@ -135,6 +135,26 @@ pub record IsScriptToResume (files : Option (List File)) (a : ResumeAsked) (name
 abbrev pub IsNextToResume : Option (List File) → ResumeAsked → List ℕ → Type 0
 IsNextToResume files a name = (name ≡ a.snap) ⊎ IsScriptToResume files a name
 
+-- the files of a run that is typed were fetched, and stand for these
+pub record HasAllToLive (files : Option (List File)) (a : LiveAsked) (c : Config) (images : List (List ℕ)) : Type 0 where
+  pub config : HasConfig files a.config c
+  pub fetched : AreImages files c.guests images
+
+-- A guest's image is fetched next: the configuration is accepted, and the images of the guests before it were fetched.
+pub record IsImageToLive (files : Option (List File)) (a : LiveAsked) (name : List ℕ) : Type 0 where
+  pub config : Config
+  pub images : List (List ℕ)
+  pub guest : ℕ
+  pub row : GuestRow
+  pub has_config : HasConfig files a.config config
+  pub before : AreImages files (take guest config.guests) images
+  pub stands : slice_get config.guests guest ≡ Some row
+  pub is : name ≡ row.image
+
+-- a file of a run that is typed which is fetched, as all before it were
+abbrev pub IsNextToLive : Option (List File) → LiveAsked → List ℕ → Type 0
+IsNextToLive files a name = (name ≡ a.config) ⊎ IsImageToLive files a name
+
 -- what is to be checked is fetched next: the configuration is accepted
 pub record IsRecorded (files : Option (List File)) (a : AuditAsked) (name : List ℕ) : Type 0 where
   pub config : Config
@@ -222,3 +242,14 @@ StopsAudit files a before now (ScriptRefused f) = ⊥
 StopsAudit files a before now SnapSize = ⊥
 StopsAudit files a before now (SnapRefused f) = ⊥
 StopsAudit files a before now NoMemory = Unit {0}
+
+-- why the files of a run that is typed give none
+abbrev pub StopsLive : Option (List File) → LiveAsked → ℕ → ℕ → Stop → Type 0
+StopsLive files a before now (Missing n) = IsNextToLive files a n × Lacks files n before now
+StopsLive files a before now (TooLong n) = IsNextToLive files a n × HasTooLong files n before now
+StopsLive files a before now ShelfFault = Rose before now
+StopsLive files a before now (ConfigRefused f) = IsConfigRefused files a.config f × (now ≡ before)
+StopsLive files a before now (ScriptRefused f) = ⊥
+StopsLive files a before now SnapSize = ⊥
+StopsLive files a before now (SnapRefused f) = ⊥
+StopsLive files a before now NoMemory = Unit {0}

@@ -1,14 +1,13 @@
 -- The text and the exit code of each answer.
 use Rattle.std.specs.Prelude.{ℕ, List, [], ◌++◌, codes, decimal}
 use Rattle.sys_objects.specs.declared.errors.ConfigFault.{ConfigFault}
+use Rattle.sys_script.specs.Kinds.{kind_text}
 use Rattle.sys_script.specs.declared.event.ScriptFault.{ScriptFault}
-use Rattle.sys_script.specs.declared.event.ScriptKind.{ScriptKind}
-use Rattle.sys_script.specs.declared.event.ScriptKind.TheVariants.{BadRound, BadName, BadEvent, BadText, RoundFalls}
 use Rattle.sys_system.specs.declared.parts.Device.{Device}
 use Rattle.sys_system.specs.declared.parts.Device.TheVariants as devices
 use Rattle.vasm_files.specs.Texts.{fault_text}
 use Rattle.vv_commands.specs.declared.status.Status.{Status}
-use Rattle.vv_commands.specs.declared.status.Status.TheVariants.{Done, Words, Missing, TooLong, ShelfFault, Config as ConfigRefused, Script as ScriptRefused, Image, VolumeSize, DriveIn, Device as DeviceFault, Asm, SnapSize, Snap, Audit, OutFault, NoMemory}
+use Rattle.vv_commands.specs.declared.status.Status.TheVariants.{Done, Words, Missing, TooLong, ShelfFault, Config as ConfigRefused, Script as ScriptRefused, Image, VolumeSize, DriveIn, Device as DeviceFault, Asm, SnapSize, Snap, Audit, OutFault, KeyFault, NoMemory}
 
 abbrev pub device_text : Device → List ℕ
 device_text (devices.Line n) = codes "device line " ++ decimal n
@@ -16,13 +15,6 @@ device_text (devices.Drive n) = codes "device drive " ++ decimal n
 
 abbrev pub config_text : ConfigFault → List ℕ
 config_text f = ((codes "config rule " ++ decimal f.rule) ++ codes " at ") ++ decimal f.place
-
-abbrev pub kind_text : ScriptKind → List ℕ
-kind_text BadRound = codes "BadRound"
-kind_text BadName = codes "BadName"
-kind_text BadEvent = codes "BadEvent"
-kind_text BadText = codes "BadText"
-kind_text RoundFalls = codes "RoundFalls"
 
 abbrev pub script_text : ScriptFault → List ℕ
 script_text f = ((codes "script line " ++ decimal f.line) ++ codes " ") ++ kind_text f.kind
@@ -39,6 +31,7 @@ text_of (VolumeSize volume) = codes "volume size " ++ decimal volume
 text_of (DriveIn drive) = codes "drive " ++ decimal drive
 text_of (DeviceFault device) = device_text device
 text_of OutFault = codes "output fault"
+text_of KeyFault = codes "keyboard fault"
 text_of NoMemory = codes "no memory"
 text_of (TooLong name) = codes "too long " ++ name
 text_of (Asm f) = fault_text f
@@ -64,3 +57,4 @@ code_of (Asm f) = 15
 code_of SnapSize = 16
 code_of (Snap f) = 17
 code_of (Audit f) = 18
+code_of KeyFault = 19

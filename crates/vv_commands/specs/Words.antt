@@ -5,7 +5,7 @@ use Rattle.std.specs.Option.{option_map}
 use Rattle.vv_base.specs.Digits.{decimal_of}
 use Rattle.vv_base.specs.Names.{is_file_name}
 use Rattle.vv_commands.specs.declared.words.Request.{Request}
-use Rattle.vv_commands.specs.declared.words.Request.TheVariants.{Solo, Trace, Run, Save, Resume, Load, Check, Migrate, Audit, Flow, Draw, Asm, Dis}
+use Rattle.vv_commands.specs.declared.words.Request.TheVariants.{Solo, Trace, Run, Save, Resume, Live, Load, Check, Migrate, Audit, Flow, Draw, Asm, Dis}
 
 -- `solo IMAGE STEPS`, and `trace` likewise
 pub record Asked : Type 0 where
@@ -24,6 +24,11 @@ pub record ResumeAsked : Type 0 where
   pub script : List ℕ
   pub rounds : ℕ
 
+-- `live CONFIG ROUNDS`
+pub record LiveAsked : Type 0 where
+  pub config : List ℕ
+  pub rounds : ℕ
+
 -- `audit CONFIG RECORD`
 pub record AuditAsked : Type 0 where
   pub config : List ℕ
@@ -36,6 +41,7 @@ pub data Wanted : Type 0 where
   WantsRun : RunAsked → Wanted
   WantsSave : RunAsked → Wanted
   WantsResume : ResumeAsked → Wanted
+  WantsLive : LiveAsked → Wanted
   WantsLoad : ℕ → Wanted
   WantsCheck : List ℕ → Wanted
   WantsMigration : List ℕ → Wanted
@@ -83,10 +89,15 @@ abbrev pub audit_asked : List ℕ → List ℕ → List ℕ → Option AuditAske
 audit_asked command config recorded =
     if is_word command (codes "audit") && is_file_name config && is_file_name recorded then Some (record { config = config; recorded = recorded }) else None
 
--- `audit` and its two files, or `solo` or `trace`, an image and a number
+-- a file's name, and a number to 1,000,000
+abbrev pub live_asked : List ℕ → List ℕ → Option LiveAsked
+live_asked config rounds = if is_file_name config then option_map (λ n. record { config = config; rounds = n }) (number_in rounds 1000000) else None
+
+-- `audit` and its two files; `live`, a configuration and a number; or `solo` or `trace`, an image and a number
 unfoldable pub two_wanted : List ℕ → List ℕ → List ℕ → Option Wanted
 two_wanted command first second =
     if is_word command (codes "audit") then option_map (λ a. WantsAudit a) (audit_asked command first second)
+    else if is_word command (codes "live") then option_map (λ a. WantsLive a) (live_asked first second)
     else if is_word command (codes "trace") then option_map (λ a. WantsTrace a) (steps_asked (codes "trace") command first second)
     else option_map (λ a. WantsSolo a) (steps_asked (codes "solo") command first second)
 
@@ -120,6 +131,7 @@ wanted_by (Trace order) = WantsTrace (record { image = order.image; steps = orde
 wanted_by (Run order) = WantsRun (record { config = order.config; script = order.script; rounds = order.rounds })
 wanted_by (Save order) = WantsSave (record { config = order.config; script = order.script; rounds = order.rounds })
 wanted_by (Resume order) = WantsResume (record { snap = order.snap; script = order.script; rounds = order.rounds })
+wanted_by (Live order) = WantsLive (record { config = order.config; rounds = order.rounds })
 wanted_by (Load number) = WantsLoad number
 wanted_by (Check file) = WantsCheck file
 wanted_by (Migrate file) = WantsMigration file
@@ -136,4 +148,5 @@ IsInRange (Trace order) = (is_file_name order.image ≡ true) × (1 ≤ order.st
 IsInRange (Run order) = (1 ≤ order.rounds) × (order.rounds ≤ 1000000)
 IsInRange (Save order) = (1 ≤ order.rounds) × (order.rounds ≤ 1000000)
 IsInRange (Resume order) = (1 ≤ order.rounds) × (order.rounds ≤ 1000000)
+IsInRange (Live order) = (1 ≤ order.rounds) × (order.rounds ≤ 1000000)
 IsInRange request = Unit {0}

@@ -5,11 +5,11 @@ ghost use Rattle.sys_objects.specs.Condition.{IsConfig};
 ghost use Rattle.sys_script.specs.Events.{AreEvents};
 ghost use Rattle.sys_snap.specs.Held.{HoldsMoment, moment_of};
 ghost use Rattle.sys_snap.specs.Snap.{IsMoment};
-ghost use Rattle.vv_commands.specs.Fetches.{FetchesAudit, FetchesConfig, FetchesFile, FetchesImages, FetchesResume, FetchesRun, FetchesSave, FetchesScript, FetchesSnap, FetchesText, MeansSnap};
+ghost use Rattle.vv_commands.specs.Fetches.{FetchesAudit, FetchesConfig, FetchesFile, FetchesImages, FetchesLive, FetchesResume, FetchesRun, FetchesSave, FetchesScript, FetchesSnap, FetchesText, MeansSnap};
 ghost use Rattle.vv_commands.specs.Files.{FitsSnap, IsTooLarge};
 
 use crate::stop::Stop;
-use crate::words::{AuditOrder, ResumeOrder, RunOrder};
+use crate::words::{AuditOrder, LiveOrder, ResumeOrder, RunOrder};
 use std::alloc::Global;
 use sys_config::read_config;
 use sys_objects::{Config, ConfigError, GuestRow, VolumeRow};
@@ -238,6 +238,28 @@ pub fn fetch_to_resume<S: Shelf>(
     let snap = fetch_snap(alloc, shelf, &order.snap)?;
     let events = fetch_script(alloc, shelf, &order.script)?;
     Ok(InputsToResume { snap, events })
+}
+
+/// What a run that is typed is made of.
+#[derive(Drop)]
+pub struct InputsToLive {
+    pub config: Config,
+    pub images: Vec<Vec<u8>>,
+}
+
+/// Fetches the configuration, and then the images in the order of the guests.
+pub fn fetch_to_live<S: Shelf>(
+    alloc: Global,
+    shelf: &mut S,
+    live: &LiveOrder,
+) -> Result<InputsToLive, Stop>
+    ensures fetches { FetchesLive (S.files shelf.old) (record { config = live.now.config; rounds = live.now.rounds }) (S.faults shelf.old) (S.faults shelf.new) result }
+    ensures accepted { IfOk result (λ x. IsConfig x.config) }
+    ensures images { IfOk result (λ x. length x.images.items ≡ length x.config.guests) }
+{
+    let config = fetch_config(alloc, shelf, &live.config)?;
+    let images = fetch_images(alloc, shelf, config.guests.as_slice())?;
+    Ok(InputsToLive { config, images })
 }
 
 /// What is checked by an audit.

@@ -4,6 +4,7 @@
 
 mod devices;
 mod fetching;
+mod live;
 mod loading;
 mod playing;
 mod report;

@@ -16,7 +16,7 @@ use vax_hw::Hardware;
 use vv_io::{Drive, Line, Sink, SinkFault};
 
 /// Puts bytes once.
-fn put_once<O: Sink>(out: &mut O, bytes: &[u8]) -> Result<(), SinkFault>
+pub fn put_once<O: Sink>(out: &mut O, bytes: &[u8]) -> Result<(), SinkFault>
     ensures { ShownSince (is_err result) (O.printed out.old) (O.printed out.new) bytes.now }
 {
     out.put(bytes)

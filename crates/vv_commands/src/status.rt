@@ -1,9 +1,9 @@
 ghost use Rattle.std.specs.Prelude.{◌≡◌, ◌++◌, ◌+◌, ◌≤◌, length, decimal};
-ghost use Rattle.vv_commands.specs.Texts.{code_of, config_text, device_text, kind_text, script_text, text_of};
+ghost use Rattle.vv_commands.specs.Texts.{code_of, config_text, device_text, script_text, text_of};
 
 use sys_audit_check::AuditFault;
 use sys_objects::ConfigFault;
-use sys_script::{ScriptFault, ScriptKind};
+use sys_script::{ScriptFault, kind_text};
 use sys_snap::SnapFault;
 use sys_system::Device;
 use vasm_files::fault_text;
@@ -45,6 +45,8 @@ pub enum Status {
     Audit(AuditFault),
     /// The summary, bytes or text couldn't be put.
     OutFault,
+    /// The typing broke off: the keyboard failed, or memory ran out for a line.
+    KeyFault,
     /// Memory ran out.
     NoMemory,
 }
@@ -118,20 +120,6 @@ fn config_text(fault: ConfigFault) -> Text<96>
     text
 }
 
-/// The name of a kind of refusal.
-fn kind_text(kind: ScriptKind) -> &'static [u8]
-    ensures is { result.now ≡ kind_text kind }
-    ensures short { length result.now ≤ 10 }
-{
-    match kind {
-        ScriptKind::BadRound => b"BadRound",
-        ScriptKind::BadName => b"BadName",
-        ScriptKind::BadEvent => b"BadEvent",
-        ScriptKind::BadText => b"BadText",
-        ScriptKind::RoundFalls => b"RoundFalls",
-    }
-}
-
 fn script_text(fault: ScriptFault) -> Text<96>
     ensures { result ≡ script_text fault }
 {
@@ -162,6 +150,7 @@ pub fn status_text(s: &Status) -> Text<96>
         Status::Snap(fault) => numbered(b"snapshot at ", u64::from(fault.place)),
         Status::Audit(fault) => numbered(b"audit line ", u64::from(fault.line)),
         Status::OutFault => worded(b"output fault"),
+        Status::KeyFault => worded(b"keyboard fault"),
         Status::NoMemory => worded(b"no memory"),
     }
 }
@@ -188,5 +177,6 @@ pub fn status_code(s: &Status) -> u8
         Status::SnapSize => 16,
         Status::Snap(_) => 17,
         Status::Audit(_) => 18,
+        Status::KeyFault => 19,
     }
 }

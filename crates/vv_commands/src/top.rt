@@ -5,6 +5,7 @@ ghost use Rattle.vv_commands.specs.Answer.{AreCounts, FollowsAudit, FollowsConfi
 ghost use Rattle.vv_commands.specs.Words.{wanted};
 
 use crate::fetching::{fetch_audit, fetch_config, fetch_run};
+use crate::live::live;
 use crate::loading::load;
 use crate::playing::{close, play};
 use crate::report::check_line;
@@ -23,7 +24,7 @@ use sys_runs::{NoProgress, Progress};
 use vasm_files::{Answer, asm, dis};
 use vax_hw::Hardware;
 use vv_base::{FileName, NoMemory};
-use vv_io::{Drive, Line, Shelf, Sink};
+use vv_io::{Drive, Keyboard, Line, Shelf, Sink};
 
 /// `solo`: fetches the image, makes its run and tells it.
 fn solo<H: Hardware, S: Shelf, O: Sink>(
@@ -172,9 +173,9 @@ fn status_of(name: FileName, answer: Answer) -> Status
 }
 
 /// Does what the words say, over a shelf of files, a machine of 32,768 pages, 32 lines and 16 drives; the summary, or
-/// what a command shows of a file, is put on `out`. The machine's memory and counts may hold anything. After each round of a
-/// run it is told how many were made.
-pub fn vvmm_run<H: Hardware, S: Shelf, O: Sink, P: Progress>(
+/// what a command shows of a file, is put on `out`. The machine's memory and counts may hold anything. Only `live` asks the keyboard
+/// for lines, and tells on `errors` which of them say no event. After each round of any other run it is told how many were made.
+pub fn vvmm_run<H: Hardware, S: Shelf, O: Sink, K: Keyboard, E: Sink, P: Progress>(
     alloc: Global,
     words: &[String],
     shelf: &mut S,
@@ -182,12 +183,14 @@ pub fn vvmm_run<H: Hardware, S: Shelf, O: Sink, P: Progress>(
     lines: &mut Vec<Box<dyn Line>>,
     drives: &mut Vec<Box<dyn Drive>>,
     out: &mut O,
+    keyboard: &mut K,
+    errors: &mut E,
     progress: &mut P,
 ) -> Status
     requires pages { length (H.machine machine.old).memory ≡ 512 * 32768 }
     requires lines { vec_len lines.old ≡ 32 }
     requires drives { vec_len drives.old ≡ 16 }
-    ensures { Says (wanted (map (λ w. string_bytes w) words.now)) result (record { files = S.files shelf.old; shelf = S.faults shelf.old; shelf' = S.faults shelf.new; machine = H.machine machine.old; machine' = H.machine machine.new; lines = map (λ b. seen b) lines.old.items; lines' = map (λ b. seen b) lines.new.items; drives = map (λ d. kept d) drives.old.items; drives' = map (λ d. kept d) drives.new.items; out = O.printed out.old; out' = O.printed out.new }) }
+    ensures { Says (wanted (map (λ w. string_bytes w) words.now)) result (record { files = S.files shelf.old; shelf = S.faults shelf.old; shelf' = S.faults shelf.new; machine = H.machine machine.old; machine' = H.machine machine.new; lines = map (λ b. seen b) lines.old.items; lines' = map (λ b. seen b) lines.new.items; drives = map (λ d. kept d) drives.old.items; drives' = map (λ d. kept d) drives.new.items; out = O.printed out.old; out' = O.printed out.new }) (record { keys = K.keys keyboard.old; keys' = K.keys keyboard.new; errors = E.printed errors.old; errors' = E.printed errors.new }) }
 {
     match parse(words) {
         None => Status::Words,
@@ -201,6 +204,9 @@ pub fn vvmm_run<H: Hardware, S: Shelf, O: Sink, P: Progress>(
         ),
         Some(Request::Resume(order)) => resume(
             alloc, order, shelf, machine, lines, drives, out, progress,
+        ),
+        Some(Request::Live(order)) => live(
+            alloc, order, shelf, machine, lines, drives, out, keyboard, errors,
         ),
         Some(Request::Load(number)) => load(alloc, number, machine, lines, out, progress),
         Some(Request::Check(name)) => check(alloc, &name, shelf, out),

@@ -1,7 +1,7 @@
 ghost use Rattle.std.specs.Prelude.{◌≡◌, ◌≤◌, ℕ, map, string_bytes, true, IfSome};
 ghost use Rattle.std.specs.Option.{option_map};
 ghost use Rattle.vv_base.specs.Names.{is_file_name};
-ghost use Rattle.vv_commands.specs.Words.{IsInRange, file_wanted, number_in, resume_asked, run_asked, audit_asked, steps_asked, three_wanted, two_wanted, wanted, wanted_by, word_wanted};
+ghost use Rattle.vv_commands.specs.Words.{IsInRange, file_wanted, number_in, resume_asked, run_asked, audit_asked, live_asked, steps_asked, three_wanted, two_wanted, wanted, wanted_by, word_wanted};
 
 use vv_base::{FileName, file_name, read_decimal};
 
@@ -28,6 +28,13 @@ pub struct ResumeOrder {
     pub rounds: u32,
 }
 
+/// What `live CONFIG ROUNDS` asks for.
+#[derive(Drop)]
+pub struct LiveOrder {
+    pub config: FileName,
+    pub rounds: u32,
+}
+
 /// What `audit CONFIG RECORD` asks for.
 #[derive(Drop)]
 pub struct AuditOrder {
@@ -48,6 +55,8 @@ pub enum Request {
     Save(RunOrder),
     /// The run that goes on from a snapshot.
     Resume(ResumeOrder),
+    /// A configuration's run, whose events are typed while it goes on.
+    Live(LiveOrder),
     /// The run of the workload drawn from a number.
     Load(u32),
     /// A configuration, counted.
@@ -102,6 +111,16 @@ fn audit_order(command: &[u8], config: &[u8], recorded: &[u8]) -> Option<AuditOr
     Some(AuditOrder { config, recorded })
 }
 
+/// What `live` is given, if the words are of the form.
+fn live_order(config: &[u8], rounds: &[u8]) -> Option<LiveOrder>
+    ensures range { IfSome result (λ o. (1 ≤ o.rounds) × (o.rounds ≤ 1000000)) }
+    ensures asked { option_map (λ o. record { config = o.config; rounds = o.rounds }) result ≡ live_asked config.now rounds.now }
+{
+    let config = file_name(config)?;
+    let rounds = number_in(rounds, 1_000_000)?;
+    Some(LiveOrder { config, rounds })
+}
+
 /// What a command with two words behind it asks for, if the words are of a form.
 #[tactic(auto, unfolding(crate::specs::Words::two_wanted))]
 fn two_request(command: &[u8], first: &[u8], second: &[u8]) -> Option<Request>
@@ -111,6 +130,9 @@ fn two_request(command: &[u8], first: &[u8], second: &[u8]) -> Option<Request>
     if command == b"audit".as_slice() {
         let order = audit_order(command, first, second)?;
         return Some(Request::Audit(order));
+    }
+    if command == b"live".as_slice() {
+        return Some(Request::Live(live_order(first, second)?));
     }
     if command == b"trace".as_slice() {
         let order = steps_order(b"trace", command, first, second)?;

@@ -1,5 +1,6 @@
 -- A command leaves the devices that it doesn't have.
 use Rattle.std.specs.Prelude.{◌≡◌, Option}
+use Rattle.sys_live.specs.Operator.{Operator}
 use Rattle.vv_commands.specs.Answer.{Outside, Says}
 use Rattle.vv_commands.specs.Devices.{devices_of}
 use Rattle.vv_commands.specs.Words.{Wanted}
@@ -14,4 +15,4 @@ LeavesAllBut Lines o = o.drives' ≡ o.drives
 LeavesAllBut LinesAndDrives o = Unit {0}
 
 abbrev pub LeavesOthers : Type 0
-LeavesOthers = (words : Option Wanted) (status : Status) (o : Outside) → Says words status o → LeavesAllBut (devices_of words) o
+LeavesOthers = (words : Option Wanted) (status : Status) (o : Outside) (p : Operator) → Says words status o p → LeavesAllBut (devices_of words) o

@@ -2,10 +2,11 @@
 use Rattle.std.specs.Prelude.{ℕ, ◌≡◌, List, min, Option, Some}
 use Rattle.vv_io.specs.Blocks.{Kept}
 use Rattle.vv_io.specs.Lines.{Seen}
+use Rattle.sys_live.specs.Operator.{Operator}
 use Rattle.vv_commands.specs.Answer.{Outside, Says}
 use Rattle.vv_commands.specs.Words.{Wanted}
 use Rattle.vv_commands.specs.declared.status.Status.{Status}
-use Rattle.vv_commands.specs.declared.status.Status.TheVariants.{Done, OutFault, Device as DeviceFault}
+use Rattle.vv_commands.specs.declared.status.Status.TheVariants.{Done, OutFault, KeyFault, Device as DeviceFault}
 use Rattle.vv_edge.specs.Syncing.{SyncsDrives, SyncsLines}
 use Rattle.sys_system.specs.Devices.{device_of as first_device}
 use Rattle.sys_system.specs.declared.parts.Device.{Device}
@@ -26,15 +27,16 @@ lower (devices.Drive a) (devices.Drive b) = devices.Drive (min a b)
 abbrev pub synced_status : Status → Option Device → Status
 synced_status Done (Some device) = DeviceFault device
 synced_status OutFault (Some device) = DeviceFault device
+synced_status KeyFault (Some device) = DeviceFault device
 synced_status (DeviceFault first) (Some device) = DeviceFault (lower first device)
 synced_status answer failed = answer
 
 -- The call left lines and drives so, and answered so; then they were synced.
-pub record Serves (words : Option Wanted) (status : Status) (o : Outside) : Type 0 where
+pub record Serves (words : Option Wanted) (status : Status) (o : Outside) (p : Operator) : Type 0 where
   pub answer : Status
   pub lines : List Seen
   pub drives : List Kept
-  pub says : Says words answer (record o { lines' = lines; drives' = drives })
+  pub says : Says words answer (record o { lines' = lines; drives' = drives }) p
   pub line : Option ℕ
   pub drive : Option ℕ
   pub synced_lines : SyncsLines lines o.lines' line

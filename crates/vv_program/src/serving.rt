@@ -7,7 +7,7 @@ use sys_system::Device;
 use vax_hw::Hardware;
 use vv_commands::{Progress, Status, vvmm_run};
 use vv_edge::{sync_drives, sync_lines};
-use vv_io::{Drive, Line, Shelf, Sink};
+use vv_io::{Drive, Keyboard, Line, Shelf, Sink};
 
 /// A line, or else a drive.
 fn device_of(line: Option<u8>, drive: Option<u8>) -> Option<Device>
@@ -41,13 +41,14 @@ fn synced_status(answer: Status, failed: Option<Device>) -> Status
     match (answer, failed) {
         (Status::Done, Some(device)) => Status::Device(device),
         (Status::OutFault, Some(device)) => Status::Device(device),
+        (Status::KeyFault, Some(device)) => Status::Device(device),
         (Status::Device(first), Some(device)) => Status::Device(lower(first, device)),
         (answer, _) => answer,
     }
 }
 
 /// Does what the words say, and then syncs all lines and drives; a device that fails in that is told as one that failed.
-pub fn serve<H: Hardware, S: Shelf, O: Sink, P: Progress>(
+pub fn serve<H: Hardware, S: Shelf, O: Sink, K: Keyboard, E: Sink, P: Progress>(
     alloc: Global,
     words: &[String],
     shelf: &mut S,
@@ -55,14 +56,18 @@ pub fn serve<H: Hardware, S: Shelf, O: Sink, P: Progress>(
     lines: &mut Vec<Box<dyn Line>>,
     drives: &mut Vec<Box<dyn Drive>>,
     out: &mut O,
+    keyboard: &mut K,
+    errors: &mut E,
     progress: &mut P,
 ) -> Status
     requires pages { length (H.machine machine.old).memory ≡ 512 * 32768 }
     requires lines { vec_len lines.old ≡ 32 }
     requires drives { vec_len drives.old ≡ 16 }
-    ensures { Serves (wanted (map (λ w. string_bytes w) words.now)) result (record { files = S.files shelf.old; shelf = S.faults shelf.old; shelf' = S.faults shelf.new; machine = H.machine machine.old; machine' = H.machine machine.new; lines = map (λ b. seen b) lines.old.items; lines' = map (λ b. seen b) lines.new.items; drives = map (λ d. kept d) drives.old.items; drives' = map (λ d. kept d) drives.new.items; out = O.printed out.old; out' = O.printed out.new }) }
+    ensures { Serves (wanted (map (λ w. string_bytes w) words.now)) result (record { files = S.files shelf.old; shelf = S.faults shelf.old; shelf' = S.faults shelf.new; machine = H.machine machine.old; machine' = H.machine machine.new; lines = map (λ b. seen b) lines.old.items; lines' = map (λ b. seen b) lines.new.items; drives = map (λ d. kept d) drives.old.items; drives' = map (λ d. kept d) drives.new.items; out = O.printed out.old; out' = O.printed out.new }) (record { keys = K.keys keyboard.old; keys' = K.keys keyboard.new; errors = E.printed errors.old; errors' = E.printed errors.new }) }
 {
-    let answer = vvmm_run(alloc, words, shelf, machine, lines, drives, out, progress);
+    let answer = vvmm_run(
+        alloc, words, shelf, machine, lines, drives, out, keyboard, errors, progress,
+    );
     let line = sync_lines(lines);
     let drive = sync_drives(drives);
     synced_status(answer, device_of(line, drive))

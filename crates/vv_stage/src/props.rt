@@ -1,6 +1,6 @@
 use std::alloc::Global;
 use vv_base::{FileName, NoMemory, file_name};
-use vv_io::{Cut, MemShelf};
+use vv_io::{Cut, MemKeyboard, MemShelf};
 
 /// The machine has 32,768 pages of 512 bytes.
 pub const PAGES: u32 = 32_768;
@@ -35,6 +35,11 @@ pub struct Props<'a, 'b> {
     pub room: u32,
     /// Where the sink is cut.
     pub out: Option<Cut>,
+    /// What is typed, in lines, and the call of the keyboard that fails.
+    pub keys: &'a [u8],
+    pub broken: Option<u32>,
+    /// Where that is cut on which lines are told that say no event.
+    pub errors: Option<Cut>,
 }
 
 /// A shelf of these files, on which nothing fails.
@@ -46,6 +51,9 @@ pub fn plain<'a, 'b>(files: &'a [(&'b str, &'b [u8])]) -> Props<'a, 'b> {
         spoiled: &[],
         room: 1000,
         out: None,
+        keys: &[],
+        broken: None,
+        errors: None,
     }
 }
 
@@ -58,6 +66,32 @@ fn at_most_one<T: Copy>(alloc: Global, one: Option<T>) -> Result<Vec<T>, NoMemor
     Ok(all)
 }
 
+/// A line without the carriage return at its end.
+fn without_return(line: &[u8]) -> &[u8] {
+    match line {
+        [line @ .., b'\r'] => line,
+        _ => line,
+    }
+}
+
+/// The lines of what is typed, as standard input has them: each ends with a line feed, or with a carriage return and one; the last
+/// may lack its end.
+fn key_lines(alloc: Global, text: &[u8]) -> Result<Vec<Vec<u8>>, NoMemory> {
+    let mut lines = Vec::new(alloc);
+    let mut line_begins = 0;
+    for (place, byte) in text.iter().enumerate() {
+        if *byte == b'\n' {
+            lines.push(without_return(text.get(line_begins..place).unwrap_or(&[])).to_vec(alloc)?)?;
+            line_begins = place.saturating_add(1);
+        }
+    }
+    let rest = text.get(line_begins..).unwrap_or(&[]);
+    if !rest.is_empty() {
+        lines.push(rest.to_vec(alloc)?)?;
+    }
+    Ok(lines)
+}
+
 impl Props<'_, '_> {
     /// The shelf.
     pub fn shelf(&self, alloc: Global) -> Result<MemShelf, NoMemory> {
@@ -67,6 +101,17 @@ impl Props<'_, '_> {
             files.push((name, bytes.to_vec(alloc)?))?;
         }
         Ok(MemShelf::new(files, at_most_one(alloc, self.failing)?))
+    }
+
+    /// The keyboard.
+    pub fn keyboard(&self, alloc: Global) -> Result<MemKeyboard, NoMemory> {
+        let lines = key_lines(alloc, self.keys)?;
+        Ok(MemKeyboard::new(lines, at_most_one(alloc, self.broken)?))
+    }
+
+    /// Where that is cut on which lines are told.
+    pub fn cuts_of_errors(&self, alloc: Global) -> Result<Vec<Cut>, NoMemory> {
+        at_most_one(alloc, self.errors)
     }
 
     /// Where the sink is cut.

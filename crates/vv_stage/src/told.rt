@@ -15,6 +15,8 @@ pub struct Told {
     pub lines: Vec<Vec<u8>>,
     pub drives: Vec<Vec<u8>>,
     pub out: Vec<u8>,
+    /// What was told of lines that say no event.
+    pub errors: Vec<u8>,
 }
 
 impl Told {
@@ -131,6 +133,8 @@ pub fn run_words<H: Hardware>(
         }
     }
     let mut out = MemLine::new(alloc, props.room, props.cuts_of_out(alloc)?)?;
+    let mut errors = MemLine::new(alloc, props.room, props.cuts_of_errors(alloc)?)?;
+    let mut keyboard = props.keyboard(alloc)?;
     let mut shelf = props.shelf(alloc)?;
     let words = words_of(alloc, words)?;
     let status = vvmm_run(
@@ -141,6 +145,8 @@ pub fn run_words<H: Hardware>(
         &mut lines,
         &mut drives,
         &mut out,
+        &mut keyboard,
+        &mut errors,
         &mut NoProgress,
     );
     Ok(Told {
@@ -149,5 +155,6 @@ pub fn run_words<H: Hardware>(
         lines: shown_on(alloc, &lines)?,
         drives: held_on(alloc, &mut drives)?,
         out: out.shown().to_vec(alloc)?,
+        errors: errors.shown().to_vec(alloc)?,
     })
 }

@@ -8,7 +8,7 @@ use vax_cpu::Cpu;
 use vax_hw::Hardware;
 use vv_base::{FileName, NoMemory};
 use vv_commands::{NoProgress, vvmm_run};
-use vv_io::{MemLine, MemShelf, Shelf, ShelfFault};
+use vv_io::{MemKeyboard, MemLine, MemShelf, Shelf, ShelfFault};
 use vv_stage::{PAGES, plain};
 
 /// A shelf that notes the first letter of each name that is fetched.
@@ -34,13 +34,14 @@ impl Shelf for NotingShelf {
 }
 
 /// Words, with a blank between two, and the first letters of what they fetch, in order.
-const FETCHED: [(&str, &str); 10] = [
+const FETCHED: [(&str, &str); 11] = [
     ("check c", "c"),
     ("migrate c", "c"),
     ("asm s", "s"),
     ("dis x", "x"),
     ("solo x 5", "x"),
     ("run c s 1", "csx"),
+    ("live c 1", "cx"),
     ("run c m 1", "cm"),
     ("run c s 0", ""),
     ("chek c", ""),
@@ -67,6 +68,8 @@ fn fetched(alloc: Global, text: &str) -> Result<Vec<u8>, NoMemory> {
         shelf: plain(&files).shelf(alloc)?,
         letters: Vec::new(alloc),
     };
+    let mut keyboard = MemKeyboard::new(Vec::new(alloc), Vec::new(alloc));
+    let mut errors = MemLine::new(alloc, 0, Vec::new(alloc))?;
     let words = words_of(alloc, text)?;
     if machine.pages() == PAGES {
         let _ = vvmm_run(
@@ -77,6 +80,8 @@ fn fetched(alloc: Global, text: &str) -> Result<Vec<u8>, NoMemory> {
             &mut lines,
             &mut drives,
             &mut out,
+            &mut keyboard,
+            &mut errors,
             &mut NoProgress,
         );
     }

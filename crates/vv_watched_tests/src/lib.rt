@@ -1,5 +1,6 @@
 //! What the bytes of a call don't tell: who executes the guests' instructions, in which order lines and the sink are put to, that
-//! any machine serves, what the machine misses beside the first touches of the guests alone, and which files are fetched.
+//! any machine serves, what the machine misses beside the first touches of the guests alone, which files are fetched, and when
+//! lines that are typed are asked for.
 #![tactic(auto)]
 
 #[cfg(test)]
@@ -10,5 +11,7 @@ mod machines;
 mod order;
 #[cfg(test)]
 mod touches;
+#[cfg(test)]
+mod typing;
 #[cfg(test)]
 mod watched;

@@ -9,30 +9,37 @@ use vax_cpu::Cpu;
 use vax_hw::Hardware;
 use vv_base::NoMemory;
 use vv_commands::{NoProgress, Status, vvmm_run};
-use vv_io::{Drive, EmptyDrive, Line, LineFault, Sink, SinkFault};
+use vv_io::{Drive, EmptyDrive, Line, LineFault, MemKeyboard, MemLine, Sink, SinkFault};
 use vv_stage::{PAGES, plain};
 
-/// How many puts are noted.
-const NOTES: usize = 200;
+/// How many calls are noted.
+pub const NOTES: usize = 200;
 
 /// The sink's number among the notes.
-const OUT: u8 = 99;
+pub const OUT: u8 = 99;
 
-/// The numbers of the lines that were put to, in order.
+/// The numbers of what was called, in order.
 pub type Notes = Rc<RefCell<Vec<u8>>>;
 
 /// A line or a sink that notes each put.
 #[derive(Drop)]
-struct Noting {
+pub struct Noting {
     number: u8,
     notes: Notes,
 }
 
 impl Noting {
-    fn note(&self) {
+    /// One that notes with this number.
+    pub fn new(number: u8, notes: &Notes) -> Result<Noting, NoMemory> {
+        let notes = notes.clone()?;
+        Ok(Noting { number, notes })
+    }
+
+    /// Notes a call as the number and so much.
+    pub fn note(&self, more: u8) {
         if let Ok(mut notes) = self.notes.try_borrow_mut() {
             if notes.len() < NOTES {
-                let _ = notes.push(self.number);
+                let _ = notes.push(self.number.saturating_add(more));
             }
         }
     }
@@ -42,7 +49,7 @@ impl Line for Noting {
     ghost seen = { λ l. record { shown = None; faults = 0 } };
 
     fn put(&mut self, _bytes: &[u8]) -> Result<(), LineFault> {
-        self.note();
+        self.note(0);
         Ok(())
     }
 
@@ -55,7 +62,7 @@ impl Sink for Noting {
     ghost printed = { λ l. record { shown = None; faults = 0 } };
 
     fn put(&mut self, _bytes: &[u8]) -> Result<(), SinkFault> {
-        self.note();
+        self.note(0);
         Ok(())
     }
 }
@@ -96,10 +103,7 @@ pub fn noting_lines(alloc: Global, notes: &Notes) -> Result<Vec<Box<dyn Line>>, 
 {
     let mut lines: Vec<Box<dyn Line>> = Vec::new(alloc);
     for number in 0..32u8 {
-        let line = Noting {
-            number,
-            notes: notes.clone()?,
-        };
+        let line = Noting::new(number, notes)?;
         lines.push(Box::new(alloc, line)?)?;
     }
     Ok(lines)
@@ -133,10 +137,9 @@ fn is_done(alloc: Global, notes: &Notes) -> Result<bool, NoMemory> {
     }
     let mut lines = noting_lines(alloc, notes)?;
     let mut drives = empty_drives(alloc)?;
-    let mut out = Noting {
-        number: OUT,
-        notes: notes.clone()?,
-    };
+    let mut out = Noting::new(OUT, notes)?;
+    let mut keyboard = MemKeyboard::new(Vec::new(alloc), Vec::new(alloc));
+    let mut errors = MemLine::new(alloc, 0, Vec::new(alloc))?;
     let words = words(alloc)?;
     let files = [("c", CONFIG), ("s", SCRIPT), ("x", LETTER)];
     let mut shelf = plain(&files).shelf(alloc)?;
@@ -148,6 +151,8 @@ fn is_done(alloc: Global, notes: &Notes) -> Result<bool, NoMemory> {
         &mut lines,
         &mut drives,
         &mut out,
+        &mut keyboard,
+        &mut errors,
         &mut NoProgress,
     );
     Ok(matches!(status, Status::Done))

@@ -7,9 +7,11 @@ mod edge;
 #[cfg(test)]
 mod tests;
 
-use edge::{FileDrive, FileLine, FileShelf, OutSink, Ticker, hold_standard, identity_of};
+use edge::{
+    FileDrive, FileLine, FileShelf, InputKeys, OutSink, Ticker, hold_standard, identity_of,
+};
 use std::env;
-use std::io::{ErrorKind, IsTerminal};
+use std::io::{ErrorKind, Input, IsTerminal};
 use std::process::ExitCode;
 use std::rt::{Stderr, Stdout};
 use vax_cpu::Cpu;
@@ -58,14 +60,15 @@ fn given_words(rt: &HostRuntime) -> Result<Vec<String>, ErrorKind> {
     Ok(words)
 }
 
-/// Files that no line and no drive may be: those of standard output, of standard error, and of the words.
+/// Files that no line and no drive may be: those of the standard streams, and of the words.
 fn taken_at_first(
     rt: &HostRuntime,
     words: &[String],
     streams: &Streams,
 ) -> Result<Vec<Identity>, NoMemory> {
     let mut taken = Vec::new(rt.alloc());
-    for identity in [streams.out.identity(), streams.errors.identity()] {
+    let input = identity_of(rt, "/dev/fd/0");
+    for identity in [input, streams.out.identity(), streams.errors.identity()] {
         if let Some(identity) = identity {
             taken.push(identity)?;
         }
@@ -120,7 +123,7 @@ fn drive_of(
     Ok(looked)
 }
 
-/// Runs the call over a machine, files and standard output.
+/// Runs the call over a machine, files and standard streams.
 fn run(
     rt: &HostRuntime,
     words: &[String],
@@ -144,9 +147,10 @@ fn run(
         }
     }
     let mut shelf = FileShelf::new(rt);
+    let mut keyboard = InputKeys::new(rt.reader());
     let is_terminal = rt.stderr().is_terminal();
-    let mut ticker = Ticker::new(&mut streams.errors, is_terminal, rt);
-    let out = &mut streams.out;
+    let mut notes = streams.errors.beside(rt.stderr());
+    let mut ticker = Ticker::new(&mut notes, is_terminal, rt);
     Ok(serve(
         alloc,
         words,
@@ -154,7 +158,9 @@ fn run(
         &mut machine,
         &mut lines,
         &mut drives,
-        out,
+        &mut streams.out,
+        &mut keyboard,
+        &mut streams.errors,
         &mut ticker,
     ))
 }

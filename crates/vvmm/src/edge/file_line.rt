@@ -1,8 +1,8 @@
-ghost use Rattle.std.specs.Prelude.{◌≡◌, None};
+ghost use Rattle.std.specs.Prelude.{◌≡◌, ◌≤◌, IfOk, None};
 
 use super::found::{check_same, found_of, unfit};
 use std::fs::{OpenFile, OpenOptions};
-use std::io::{ErrorKind, Write};
+use std::io::{ErrorKind, Read, Seek, SeekFrom, Write};
 use std::os::unix::fs::OpenOptionsExt;
 use std::rt::Files;
 use std::{fs, io};
@@ -17,6 +17,10 @@ pub struct FileLine<R: Files + Drop> {
     /// Whether something stands under the name that isn't this line's and can't be removed.
     is_blocked: bool,
     file: Option<R::File>,
+    /// How many bytes were written.
+    shown: u64,
+    /// Whether the file was read since it was written, so that the next byte doesn't go to its end by itself.
+    is_away: bool,
     faults: u64,
 }
 
@@ -28,6 +32,8 @@ impl<R: Files + Drop> FileLine<R> {
             path,
             is_blocked: false,
             file: None,
+            shown: 0,
+            is_away: false,
             faults: 0,
         }
     }
@@ -41,6 +47,8 @@ impl<R: Files + Drop> FileLine<R> {
             path,
             is_blocked,
             file: None,
+            shown: 0,
+            is_away: false,
             faults: 0,
         }
     }
@@ -55,10 +63,28 @@ impl<R: Files + Drop> FileLine<R> {
         if self.file.is_none() {
             self.file = Some(create(&self.files, self.path.as_str())?);
         }
-        match &mut self.file {
-            Some(file) => file.write_all(bytes),
-            None => Ok(()),
+        if let Some(file) = &mut self.file {
+            if self.is_away {
+                file.seek(SeekFrom::End(0))?;
+                self.is_away = false;
+            }
+            file.write_all(bytes)?;
+            self.shown = self.shown.saturating_add(bytes.len() as u64);
         }
+        Ok(())
+    }
+
+    /// Reads what stands in the file from a place on; how many bytes.
+    fn read(&mut self, place: u64, into: &mut [u8; 512]) -> io::Result<usize>
+        ensures faults { self.new.faults ≡ self.old.faults }
+        ensures count { IfOk result (λ n. n ≤ 512) }
+    {
+        let Some(file) = &mut self.file else {
+            return Ok(0);
+        };
+        self.is_away = true;
+        file.seek(SeekFrom::Start(place))?;
+        file.read(into)
     }
 
     /// The file is on the disk, and still under its name.
@@ -89,6 +115,7 @@ fn clear(files: &impl Files, path: &str, taken: &[Identity]) -> io::Result<()> {
 /// A new file of a name under which nothing stands, not even a link.
 fn create<R: Files>(files: &R, path: &str) -> io::Result<R::File> {
     let mut options = OpenOptions::new();
+    options.read(true);
     options.write(true);
     options.create_new(true);
     options.mode(0o600);
@@ -110,6 +137,14 @@ impl<R: Files + Drop> Line for FileLine<R> {
 
     fn told(&self) -> Option<&[u8]> {
         None
+    }
+
+    fn shown_len(&self) -> u64 {
+        self.shown
+    }
+
+    fn read_back(&mut self, place: u64, into: &mut [u8; 512]) -> usize {
+        self.read(place, into).unwrap_or(0)
     }
 
     fn sync(&mut self) -> Result<(), LineFault> {

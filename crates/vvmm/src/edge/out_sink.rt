@@ -24,6 +24,16 @@ impl<P: Print + Drop> OutSink<P> {
         }
     }
 
+    /// Another sink to the same file through this stream, that takes nothing where this one doesn't.
+    pub fn beside(&self, stream: P) -> Self {
+        OutSink {
+            stream,
+            identity: self.identity,
+            is_shut: self.is_shut,
+            faults: 0,
+        }
+    }
+
     /// Which file it is, where the system tells.
     pub fn identity(&self) -> Option<Identity> {
         self.identity

@@ -8,7 +8,9 @@ use std::{env, fs, io, process};
 use vv_base::{FileName, file_name};
 use vv_commands::Progress;
 use vv_edge::Identity;
-use vv_io::{Drive, DriveFault, Line, LineFault, MemLine, Shelf, ShelfFault, Sink, SinkFault};
+use vv_io::{
+    Drive, DriveFault, Keyboard, Line, LineFault, MemLine, Shelf, ShelfFault, Sink, SinkFault,
+};
 
 /// A path of this process in the system's folder for files that don't last.
 fn scratch(rt: &HostRuntime, name: &str) -> Result<String, Fail> {
@@ -60,6 +62,35 @@ fn a_line_writes_a_file(rt: HostRuntime) -> Result<(), Fail> {
     fs::remove_file(&rt, path.as_str())?;
     assert_eq!(rt; line.sync(), Err(LineFault));
     Ok(())
+}
+
+#[test]
+fn a_line_is_read_back_and_written_on(rt: HostRuntime) -> Result<(), Fail> {
+    let path = scratch(&rt, "line-read")?;
+    let mut line = FileLine::new(rt.clone()?, path.clone()?);
+    let mut into = [0; 512];
+    assert_eq!(rt; line.shown_len(), 0);
+    assert_eq!(rt; line.read_back(0, &mut into), 0);
+    assert_eq!(rt; line.put(b"one two"), Ok(()));
+    assert_eq!(rt; line.shown_len(), 7);
+    assert_eq!(rt; line.read_back(4, &mut into), 3);
+    assert!(rt; into.starts_with(b"two"));
+    assert_eq!(rt; line.read_back(7, &mut into), 0);
+    assert_eq!(rt; line.put(b"!"), Ok(()));
+    let written = fs::read(&rt, path.as_str())?;
+    assert!(rt; written.as_slice() == b"one two!".as_slice());
+    fs::remove_file(&rt, path.as_str())?;
+    Ok(())
+}
+
+#[test]
+fn standard_input_gives_lines(rt: HostRuntime) {
+    let mut keys = InputKeys::new(b"ab\r\nc\n\nd".as_slice());
+    for line in [b"ab".as_slice(), b"c", b"", b"d"] {
+        let given = keys.next().expect(&rt, "a line");
+        assert!(rt; given.is_some_and(|given| given.bytes() == line));
+    }
+    assert!(rt; matches!(keys.next(), Ok(None)));
 }
 
 #[test]
