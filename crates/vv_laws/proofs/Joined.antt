@@ -37,7 +37,7 @@ use Rattle.vv_laws.specs.Complete.{line_at}
 use Rattle.vv_laws.specs.Together.{AreJoined, AreOneRun, TwoMakeOne}
 
 -- no stop and no fault of power is `Done`, and where it is the answer no device failed, and nothing was cut
-not_stopped : (stop : Stop) → Done ≡ stopped_status stop → ⊥
+pub not_stopped : (stop : Stop) → Done ≡ stopped_status stop → ⊥
 not_stopped (stops.Missing name) e = cc
 not_stopped (stops.TooLong name) e = cc
 not_stopped stops.ShelfFault e = cc
@@ -47,7 +47,7 @@ not_stopped stops.SnapSize e = cc
 not_stopped (stops.Snap f) e = cc
 not_stopped stops.NoMemory e = cc
 
-not_down : (fault : PowerFault) → Done ≡ power_status fault → ⊥
+pub not_down : (fault : PowerFault) → Done ≡ power_status fault → ⊥
 not_down (faults.Image g) e = cc
 not_down (faults.VolumeSize v) e = cc
 not_down (faults.DriveIn d) e = cc
@@ -62,11 +62,11 @@ none_cut (Some device) cut e = cc
 none_cut None true e = cc
 none_cut None false e = refl
 
-no_line : (line drive : Option ℕ) → device_of line drive ≡ None → line ≡ None
+pub no_line : (line drive : Option ℕ) → device_of line drive ≡ None → line ≡ None
 no_line (Some k) drive e = cc
 no_line None drive e = refl
 
-no_drive : (line drive : Option ℕ) → device_of line drive ≡ None → drive ≡ None
+pub no_drive : (line drive : Option ℕ) → device_of line drive ≡ None → drive ≡ None
 no_drive (Some k) drive e = cc
 no_drive None (Some d) e = cc
 no_drive None None e = refl

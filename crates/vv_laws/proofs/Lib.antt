@@ -12,3 +12,6 @@ pub mod Joined
 pub mod Saves
 pub mod Resumes
 pub mod Traced
+pub mod Lives
+pub mod Typed
+pub mod Agreed

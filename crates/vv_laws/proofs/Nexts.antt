@@ -12,7 +12,7 @@ use Rattle.vv_commands.specs.Words.{RunAsked}
 use Rattle.vv_laws.proofs.Told.{Unread, image_read, not_config, not_script, one_config, read_as}
 
 -- the first row whose image can't be read
-first_unread : (files : List File) (rows : List GuestRow) (xs ys : List (List ℕ)) (g h : ℕ) (row other : GuestRow) → AreImages (Some files) (take g rows) xs → AreImages (Some files) (take h rows) ys
+pub first_unread : (files : List File) (rows : List GuestRow) (xs ys : List (List ℕ)) (g h : ℕ) (row other : GuestRow) → AreImages (Some files) (take g rows) xs → AreImages (Some files) (take h rows) ys
     → slice_get rows g ≡ Some row → slice_get rows h ≡ Some other → Unread files row.image → Unread files other.image → row ≡ other
 first_unread files [] xs ys g h row other a b at place none gone = cc
 first_unread files (r ∷ rows) xs ys zero zero row other a b at place none gone = cc

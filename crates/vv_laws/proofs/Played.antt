@@ -49,7 +49,7 @@ NoLineRose o = (k : ℕ) → Rose (line_at o.lines k).faults (line_at o.lines' k
 abbrev pub NoDriveRose : Outside → Type 0
 NoDriveRose o = (d : ℕ) → Rose (drive_at o.drives d).faults (drive_at o.drives' d).faults → ⊥
 
-none_failed : (m : Moment) (es : List Event) (n : ℕ) (ran : Ran) (o : Outside) → MakesFrom m es n ran o → NoLineRose o → NoDriveRose o → ran.failed ≡ None
+pub none_failed : (m : Moment) (es : List Event) (n : ℕ) (ran : Ran) (o : Outside) → MakesFrom m es n ran o → NoLineRose o → NoDriveRose o → ran.failed ≡ None
 none_failed m es n ran o made lines drives = made.failed ∙ no_device (first_marked made.marks) (first_marked made.drive_marks)
     (λ k e. lines k (line_rose made.marks o.lines o.lines' _ k e made.lines))
     (λ d e. drives d (drive_rose m es n made.drive_marks o.drives o.drives' d made.drives (marked_at made.drive_marks d e)))
@@ -137,27 +137,31 @@ module _ (c : Config) (images : List (List ℕ)) (o : Outside) where
       by (DriveIn e) (none, failed, shown) = only e failed.rose
       by NoMemory untouched = same_drives o d h untouched.drives
 
--- Rounds were made, and then bytes were put.
+-- Rounds were made: a device that failed is named, whatever was cut then.
+module _ (m : Moment) (es : List Event) (n : ℕ) (ran : Ran) (o : Outside) (made : MakesFrom m es n ran o) (cut : Bool) where
+  pub names_line : (k : ℕ) → (line_at o.lines k).faults < (line_at o.lines' k).faults → NamesLine k (done_status ran.failed cut)
+  names_line k h =
+      subst (λ (f : Option Device). NamesLine k (done_status f cut)) (sym made.failed) (named_line made.marks o.lines o.lines' _ k made.lines h (first_marked made.marks) (first_marked made.drive_marks) cut refl)
+
+  -- a drive whose count is greater is named, or a line, or a drive of a lower number
+  pub names_drive : (d : ℕ) → (drive_at o.drives d).faults < (drive_at o.drives' d).faults → NamesDrive d (done_status ran.failed cut)
+  names_drive d h = subst (λ (f : Option Device). NamesDrive d (done_status f cut)) (sym made.failed) (named (first_marked made.marks) (first_marked made.drive_marks) refl)
+    where
+      named : (line drive : Option ℕ) → first_marked made.drive_marks ≡ drive → NamesDrive d (done_status (device_of line drive) cut)
+      named (Some line) drive e = tt
+      named None (Some drive) e = no_drive_lower m es n made.drive_marks o.drives o.drives' d made.drives drive e h
+      named None None e = absurd (no_drive_greater m es n made.drive_marks o.drives o.drives' d made.drives e h)
+
+-- Then bytes were put.
 module _ (m : Moment) (es : List Event) (n : ℕ) (ran : Ran) (o : Outside) (made : MakesFrom m es n ran o) (bytes : List ℕ) (status : Status) (out out' : Seen) (closes : Closes ran.failed bytes status out out') where
   pub made_served : NoLineRose o → NoDriveRose o → (Rose out.faults out'.faults → ⊥) → IsServed status
   made_served lines drives kept = closes_served ran.failed bytes status out out' (none_failed m es n ran o made lines drives) closes kept
 
-  -- the answer, by the devices that failed
-  answer_is : status ≡ done_status (device_of (first_marked made.marks) (first_marked made.drive_marks)) closes.cut
-  answer_is = closes.is ∙ ap (λ (f : Option Device). done_status f closes.cut) made.failed
-
   pub made_names_line : (k : ℕ) → (line_at o.lines k).faults < (line_at o.lines' k).faults → NamesLine k status
-  made_names_line k h =
-      subst (λ (s : Status). NamesLine k s) (sym answer_is) (named_line made.marks o.lines o.lines' _ k made.lines h (first_marked made.marks) (first_marked made.drive_marks) closes.cut refl)
+  made_names_line k h = subst (λ (s : Status). NamesLine k s) (sym closes.is) (names_line m es n ran o made closes.cut k h)
 
-  -- a drive whose count is greater is named, or a line, or a drive of a lower number
   pub made_names_drive : (d : ℕ) → (drive_at o.drives d).faults < (drive_at o.drives' d).faults → NamesDrive d status
-  made_names_drive d h = subst (λ (s : Status). NamesDrive d s) (sym answer_is) (named (first_marked made.marks) (first_marked made.drive_marks) refl)
-    where
-      named : (line drive : Option ℕ) → first_marked made.drive_marks ≡ drive → NamesDrive d (done_status (device_of line drive) closes.cut)
-      named (Some line) drive e = tt
-      named None (Some drive) e = no_drive_lower m es n made.drive_marks o.drives o.drives' d made.drives drive e h
-      named None None e = absurd (no_drive_greater m es n made.drive_marks o.drives o.drives' d made.drives e h)
+  made_names_drive d h = subst (λ (s : Status). NamesDrive d s) (sym closes.is) (names_drive m es n ran o made closes.cut d h)
 
 module _ (c : Config) (images : List (List ℕ)) (es : List Event) (rounds : ℕ) (status : Status) (o : Outside) (out out' : Seen) (p : Plays c images es rounds status o out out') where
   -- images and drives that fit, and no risen count, are served

@@ -2,6 +2,7 @@
 #![tactic(auto)]
 
 mod laws;
+mod live;
 mod snaps;
 mod traces;
 
@@ -13,6 +14,13 @@ pub use laws::{
     a_run_names_a_failed_line, a_too_long_configuration_is_told, a_too_long_file_is_told,
     a_too_long_image_is_told, load_has_few_answers, load_is_complete, run_is_complete,
     solo_is_complete, the_first_missing_file_is_told, the_first_too_long_file_is_told,
+};
+pub use live::{
+    a_line_more_is_alike, a_live_run_names_a_failed_drive, a_live_run_names_a_failed_line,
+    a_refused_configuration_to_live_is_told, live_is_complete, live_runs_agree,
+    the_first_image_to_live_that_does_not_fit_is_told, the_first_missing_file_to_live_is_told,
+    the_first_too_long_file_to_live_is_told, the_first_volume_to_live_of_another_size_is_told,
+    typing_keeps_drives, typing_keeps_lines,
 };
 pub use snaps::{
     a_refused_configuration_to_save_is_told, a_refused_script_to_resume_is_told,
