@@ -17,8 +17,8 @@ def check(player, word: str, rest: list, statement):
 
 def bytes_told(player, word: str, rest: list):
     """The bytes that a check speaks of, and the words of its relation."""
-    if word == "out":
-        return player.told.out, rest
+    if word in ("out", "errors"):
+        return getattr(player.told, word), rest
     number = int(rest[0])
     player.checked.add((word, number))
     return (player.told.lines if word == "line" else player.told.drives)[number], rest[1:]
@@ -26,8 +26,8 @@ def bytes_told(player, word: str, rest: list):
 
 def of_run(player, run_name: str, word: str, rest: list) -> bytes:
     run = player.runs[run_name]
-    if word == "out":
-        return run.out
+    if word in ("out", "errors"):
+        return getattr(run, word)
     return (run.lines if word == "line" else run.drives)[int(rest[0])]
 
 

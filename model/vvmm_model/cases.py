@@ -7,8 +7,9 @@ import os
 from dataclasses import dataclass, field, replace
 
 from .case_checks import check, check_texts
-from .outside import DeviceFault, MemoryDrive, MemoryLine, MemoryShelf, blocks_of
+from .outside import DeviceFault, MemoryDrive, MemoryKeyboard, MemoryLine, MemoryShelf, blocks_of
 from .program import Outside, call
+from .script import lines_of
 from .system import run
 
 MARKS = "|/=#$^%@+&<>"
@@ -35,6 +36,7 @@ class Told:
     lines: list
     drives: list
     out: bytes
+    errors: bytes = b""
 
 
 @dataclass
@@ -47,9 +49,11 @@ class Given:
     failing_drives: dict = field(default_factory=dict)
     cuts: dict = field(default_factory=dict)
     room: int = DEFAULT_ROOM
+    keys: bytes = b""
+    failing_keys: list = field(default_factory=list)
 
     def fails(self) -> bool:
-        return bool(self.failing or self.failing_drives or self.cuts)
+        return bool(self.failing or self.failing_drives or self.cuts or self.failing_keys)
 
     def drives(self) -> list:
         return [MemoryDrive(self.volumes.get(n, []), self.failing_drives.get(n, [])) for n in range(16)]
@@ -62,11 +66,14 @@ class Given:
         """What the model's call tells over this."""
         lines = [MemoryLine(room, self.cuts.get(n, [])) for n in range(32)]
         out = MemoryLine(room, self.cuts.get("out", []))
+        errors = MemoryLine(room, self.cuts.get("errors", []))
+        keyboard = MemoryKeyboard(lines_of(self.keys), self.failing_keys)
         drives = self.drives()
-        outside = Outside(MemoryShelf(self.files, self.failing), lines, drives, out, runner)
+        outside = Outside(MemoryShelf(self.files, self.failing), lines, drives, out, runner, keyboard, errors)
         code, text = call(words, outside)
         shown = [bytes(line.shown) for line in lines]
-        return Told(code, text, shown, [read_back(drive) for drive in drives], bytes(out.shown))
+        held = [read_back(drive) for drive in drives]
+        return Told(code, text, shown, held, bytes(out.shown), bytes(errors.shown))
 
 
 def read_back(drive: MemoryDrive) -> bytes:
@@ -185,7 +192,7 @@ class Player:
         word, *rest = statement.words
         if word in GIVES:
             return GIVES[word](self, rest, statement)
-        if word in ("line", "drive", "out", "code", "others", "drives"):
+        if word in ("line", "drive", "out", "errors", "code", "others", "drives"):
             return check(self, word, rest, statement)
         if word in ("prefixes", "changes"):
             return check_texts(self, word, rest, statement)
@@ -215,8 +222,8 @@ class Player:
                 return file.read()
         *words, run_name = text.split(" ")
         told = self.runs[run_name]
-        if words[0] == "out":
-            return told.out
+        if words[0] in ("out", "errors"):
+            return getattr(told, words[0])
         return (told.lines if words[0] == "line" else told.drives)[int(words[1])]
 
 
@@ -269,15 +276,21 @@ def give_room(player, rest, statement):
     player.given.room = int(rest[0])
 
 
+def give_keys(player, rest, statement):
+    player.given.keys = player.content(statement)
+
+
 def give_failure(player, rest, statement):
-    if rest[0] == "drive":
+    if rest[0] == "keys":
+        player.given.failing_keys = [int(rest[1])]
+    elif rest[0] == "drive":
         player.given.failing_drives.setdefault(int(rest[1]), []).append(int(rest[2]))
     else:
         player.given.failing.append(int(rest[0]))
 
 
 def give_cut(player, rest, statement):
-    number = rest[0] if rest[0] == "out" else int(rest[0])
+    number = rest[0] if rest[0] in ("out", "errors") else int(rest[0])
     player.given.cuts.setdefault(number, []).append((int(rest[1]), int(rest[2])))
 
 
@@ -294,6 +307,7 @@ def keep(player, rest, statement):
 GIVES = {
     "let": give_let,
     "file": give_file,
+    "keys": give_keys,
     "disk": give_disk,
     "volume": give_volume,
     "room": give_room,

@@ -8,7 +8,7 @@ import tempfile
 from .asm import assemble
 from .cases import Player, Unreadable, can_be_parted, read_file
 from .differences import first_difference
-from .examples import ENDLESS, EXAMPLES, calls_of, expected_by_model, files_of, place_of, read
+from .examples import ENDLESS, EXAMPLES, calls_of, expected_by_model, files_of, keys_of, place_of, read
 from .fuzzing import Case, compare_case, given_of, has_snapshots
 from .system import run
 from .workload import workload
@@ -28,7 +28,8 @@ def check_example(root: str, number: int, program) -> list:
         difference = first_difference(data, made.get(name, b""))
         results.append(("%s/%s" % (example.folder, name), [difference] if difference else []))
     if program:
-        case = Case(files_of(root, example), list(calls_of(example).values()))
+        files = files_of(root, example)
+        case = Case(files, list(calls_of(example).values()), keys_of(files))
         results.append((example.folder + " by the program", compare_in_folder(case, program)))
     return results
 
@@ -85,7 +86,7 @@ def check_case_file(folder: str, name: str, part: int, parts: int, program) -> l
     def compare(given, words, told):
         files = dict(given.files)
         files |= {"drive%02d.vol" % number: b"".join(blocks) for number, blocks in given.volumes.items()}
-        differences = compare_in_folder(Case(files, [words]), program)
+        differences = compare_in_folder(Case(files, [words], given.keys), program)
         return "program: " + differences[0] if differences else None
 
     player = Player(folder, compare if program else None)

@@ -12,16 +12,18 @@ ENDLESS = 1 << 62
 
 @dataclass
 class Example:
-    """A folder of examples: its rounds, the blocks of its drives, and its images with their sources."""
+    """A folder of examples: its rounds, the blocks of its drives, its images with their sources, and whether there is also a
+    file of what may be typed in place of the script."""
 
     folder: str
     rounds: int
     drives: dict
     images: list
+    is_typed: bool = False
 
 
 EXAMPLES = [
-    Example("two-levels", 6, {0: 2}, ["public", "secret"]),
+    Example("two-levels", 6, {0: 2}, ["public", "secret"], True),
     Example("timesharing", 10, {}, ["kernel"]),
     Example("page-fault", 1, {}, ["pager"]),
     Example("misbehaving", 8, {0: 1}, ["low", "rogue", "high"]),
@@ -45,13 +47,21 @@ def files_of(root: str, example: Example) -> dict:
 def calls_of(example: Example) -> dict:
     """The file that each call's output makes, with the call's words."""
     calls = {"summary": ["run", "config", "script", str(example.rounds)], "flow.svg": ["draw", "config"]}
+    if example.is_typed:
+        calls["shown"] = ["live", "config", str(example.rounds)]
     return calls | {image: ["asm", image + ".s"] for image in example.images}
+
+
+def keys_of(files: dict) -> bytes:
+    """What is typed at the calls."""
+    return files.get("typed", b"")
 
 
 def expected_by_model(root: str, example: Example) -> dict:
     """All that comes of an example: the lines, the drives, and each call's output."""
     files = files_of(root, example)
-    given = Given(files=files, volumes={number: blocks_of(bytes(512 * n)) for number, n in example.drives.items()})
+    volumes = {number: blocks_of(bytes(512 * n)) for number, n in example.drives.items()}
+    given = Given(files=files, volumes=volumes, keys=keys_of(files))
     made = {}
     for name, words in calls_of(example).items():
         told = given.tell(words, run, ENDLESS)

@@ -3,7 +3,7 @@
 import os
 import sys
 
-from .outside import DeviceFault, Missing, TooLong
+from .outside import LONGEST_KEYS, DeviceFault, Missing, TooLong
 from .texts import LARGEST_FILE
 
 
@@ -38,6 +38,7 @@ class FileLine:
                 descriptor = os.open(self.name, os.O_CREAT | os.O_EXCL | os.O_WRONLY, 0o600)
                 self.file = os.fdopen(descriptor, "wb")
             self.file.write(data)
+            self.file.flush()
         except OSError:
             raise DeviceFault
 
@@ -70,10 +71,28 @@ class FileDrive:
             raise DeviceFault
 
 
+class Keyboard:
+    """Standard input, line by line."""
+
+    def next(self):
+        try:
+            line = sys.stdin.buffer.readline()
+        except OSError:
+            raise DeviceFault
+        if line.endswith(b"\n"):
+            return line[:-1].removesuffix(b"\r")[:LONGEST_KEYS]
+        return line[:LONGEST_KEYS] or None
+
+
 class Output:
+    """Standard output; or standard error."""
+
+    def __init__(self, stream=None):
+        self.stream = (stream or sys.stdout).buffer
+
     def put(self, data: bytes) -> None:
         try:
-            sys.stdout.buffer.write(data)
-            sys.stdout.buffer.flush()
+            self.stream.write(data)
+            self.stream.flush()
         except OSError:
             raise DeviceFault

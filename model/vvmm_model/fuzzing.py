@@ -20,18 +20,19 @@ from .system import run
 from .texts import LARGEST_FILE
 
 ENDLESS = 1 << 62
-MAKE_LINES = ("run", "solo", "trace", "load", "save", "resume")
+MAKE_LINES = ("run", "solo", "trace", "load", "save", "resume", "live")
 
 
 @dataclass
 class Case:
     """Files of a folder, and the calls that are made there, one after another.
 
-    After a call `>` and a name may stand: the file that its output becomes.
+    After a call `>` and a name may stand: the file that its output becomes. `keys` is what each has as standard input.
     """
 
     files: dict
     calls: list
+    keys: bytes = b""
 
 
 def solo_case(random) -> Case:
@@ -57,6 +58,19 @@ def run_case(random) -> Case:
     if line:
         calls.append(["audit", "config", line])
     return Case(files, calls)
+
+
+def live_case(random) -> Case:
+    """A run whose script is typed: its rounds in front of no line, and an empty line after each round."""
+    case = run_case(random)
+    typed, at = b"", 1
+    for line in case.files["script"].splitlines(keepends=True):
+        number, _, rest = line.partition(b" ")
+        typed += b"\n" * (int(number) - at) + rest
+        at = int(number)
+        typed += random.choice([b"", b"", b"# \n", b"T brake\n"])
+    typed += random.choice([b"", b"\n", b"\n\n\n"])
+    return Case(case.files, [["live", "config", str(random.randrange(1, 6))]], typed)
 
 
 def audit_line(config: str):
@@ -185,7 +199,7 @@ def load_case(random) -> Case:
     return Case({}, [["load", str(random.getrandbits(32))]])
 
 
-KINDS = {run_case: 40, solo_case: 10, tables_case: 20, tests_case: 10, text_case: 15, audit_case: 5, assembler_case: 10}
+KINDS = {run_case: 40, live_case: 10, solo_case: 10, tables_case: 20, tests_case: 10, text_case: 15, audit_case: 5, assembler_case: 10}
 SNAPSHOT_KINDS = {snapshot_case: 60, run_case: 20, text_case: 20}
 
 
@@ -210,7 +224,7 @@ def compare_case(case: Case, program: str, folder: str) -> list:
     files, differences = dict(case.files), []
     write_files(folder, files)
     for words in case.calls:
-        difference, changed = compare_call(files, words, program, folder)
+        difference, changed = compare_call(files, words, program, folder, case.keys)
         files |= changed
         files = {name: data for name, data in files.items() if data or name not in changed}
         if difference:
@@ -224,12 +238,14 @@ def write_files(folder: str, files: dict) -> None:
             file.write(data)
 
 
-def compare_call(files: dict, words: list, program: str, folder: str):
+def compare_call(files: dict, words: list, program: str, folder: str, keys: bytes):
     """The first difference of a call, and the files as the model leaves them."""
     output = words[-1] if ">" in words else None
     words = words[: words.index(">")] if output else words
-    told = given_of(files).tell(words, run, ENDLESS)
-    done = subprocess.run([program, *words], cwd=folder, capture_output=True, check=False)
+    given = given_of(files)
+    given.keys = keys
+    told = given.tell(words, run, ENDLESS)
+    done = subprocess.run([program, *words], cwd=folder, input=keys, capture_output=True, check=False)
     changed = {}
     if words[:1] and words[0] in MAKE_LINES and told.code != 2:
         changed = {"line%02d.out" % number: data for number, data in enumerate(told.lines)}
@@ -245,7 +261,10 @@ def compared(files: dict, words: list, told, done, changed: dict, folder: str):
     """Names of what is compared, with the model's bytes and the program's."""
     yield "exit code", b"%d" % told.code, b"%d" % done.returncode
     message = ("vvmm: " + told.text + "\n").encode() if told.code else b""
-    yield "standard error", message, done.stderr.split(b"\n")[0] + b"\n" if done.stderr else b""
+    if words[:1] == ["live"] and told.code in (0, 10, 11, 19):
+        yield "standard error", told.errors + message, done.stderr
+    else:
+        yield "standard error", message, done.stderr.split(b"\n")[0] + b"\n" if done.stderr else b""
     if words[:1] != ["migrate"]:
         yield "standard output", told.out, done.stdout
     elif told.code == 0 and not same_meaning(files[words[1]], done.stdout):

@@ -1,6 +1,6 @@
 """What `--help` and `--version` show."""
 
-VERSION = "vvmm 0.3.0\n"
+VERSION = "vvmm 0.4.0\n"
 HELP = """\
 vvmm solo IMAGE STEPS          runs the file IMAGE as one guest for STEPS steps, 1 to 100000;
                                the guest's console is the file line00.out, its dump line01.out
@@ -11,6 +11,9 @@ vvmm run CONFIG SCRIPT ROUNDS  runs the guests of the configuration CONFIG for R
 vvmm save CONFIG SCRIPT ROUNDS makes the rounds of run, and shows what the system is after them, as a
                                snapshot; drives stay as they are
 vvmm resume SNAP SCRIPT ROUNDS goes on from the snapshot SNAP for ROUNDS rounds more, and ends as run does
+vvmm live CONFIG ROUNDS        runs as run does, for at most ROUNDS rounds, with what is typed on standard
+                               input while it runs: a line of a script without its round; an empty
+                               line ends a round, and the end of the input the run
 vvmm load NUMBER               runs the workload that is drawn from NUMBER, 0 to 4294967295: eight guests
                                in 20 rounds, on volumes of its own
 vvmm check CONFIG              reads a configuration, and shows how many objects it has

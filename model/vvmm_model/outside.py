@@ -2,6 +2,8 @@
 
 from .texts import LARGEST_FILE
 
+LONGEST_KEYS = 1_024
+
 
 class Missing(Exception):
     """There is no file of this name."""
@@ -12,7 +14,11 @@ class TooLong(Exception):
 
 
 class DeviceFault(Exception):
-    """A shelf, line, drive or output failed."""
+    """A device failed; a line or an output showed so many bytes before."""
+
+    def __init__(self, taken: int = 0):
+        super().__init__()
+        self.taken = taken
 
 
 class MemoryShelf:
@@ -47,13 +53,26 @@ class MemoryLine:
 
     def put(self, data: bytes) -> None:
         self.calls += 1
-        left = self.room - len(self.shown)
-        if self.calls in self.cuts:
-            self.shown += data[: min(left, self.cuts[self.calls])]
-            raise DeviceFault
+        left = min(self.room - len(self.shown), self.cuts.get(self.calls, len(data)))
         self.shown += data[:left]
-        if len(data) > left:
+        if len(data) > left or self.calls in self.cuts:
+            raise DeviceFault(min(left, len(data)))
+
+
+class MemoryKeyboard:
+    """Lines that are typed, one after another; the calls of these numbers, from 1, fail."""
+
+    def __init__(self, lines=(), failing=()):
+        self.lines = list(lines)
+        self.failing = set(failing)
+        self.calls = 0
+
+    def next(self):
+        """The next line, its first 1,024 bytes if it has more; None where no more come."""
+        self.calls += 1
+        if self.calls in self.failing:
             raise DeviceFault
+        return self.lines.pop(0)[:LONGEST_KEYS] if self.lines else None
 
 
 class MemoryDrive:

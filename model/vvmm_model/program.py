@@ -10,8 +10,8 @@ from .dis import disassemble
 from .draw import drawing
 from .flow import flow_report
 from .migrate import migrate_text
-from .outside import DeviceFault, Missing, TooLong
-from .script import MOST_ROUNDS, ScriptRefused, read_script
+from .outside import DeviceFault, MemoryKeyboard, MemoryLine, Missing, TooLong
+from .script import MOST_ROUNDS, ScriptRefused, lines_of, read_script, read_typed
 from .snapshot import SnapRefused, is_too_large, read_snapshot, snapshot
 from .system import System, make_rounds, summary
 from .system import run as run_system
@@ -34,17 +34,19 @@ SOLO_PAGES, SOLO_PLACE = 128, 0x200
 
 
 class Outside:
-    """What a call is given: a shelf, 32 lines, 16 drives and an output.
+    """What a call is given: a shelf, 32 lines, 16 drives and an output; a keyboard, and where lines are told that say no event.
 
     `run` can be another function that gives what `system.run` gives, as one that remembers.
     """
 
-    def __init__(self, shelf, lines, drives, out, run=run_system):
+    def __init__(self, shelf, lines, drives, out, run=run_system, keyboard=None, errors=None):
         self.shelf = shelf
         self.lines = lines
         self.drives = drives
         self.out = out
         self.run = run
+        self.keyboard = keyboard or MemoryKeyboard()
+        self.errors = errors or MemoryLine()
 
 
 def call(words: list, outside: Outside):
@@ -265,6 +267,133 @@ def resume(outside: Outside, snapshot_name: str, script_name: str, rounds: int) 
     conclude(outside, system.config, system, rounds, True)
 
 
+class Screens:
+    """What the operator is shown of the terminals: after each round what each of them was shown in it."""
+
+    def __init__(self, config: Config):
+        self.terminals = config.terminals
+        self.seen = {row.line: 0 for row in self.terminals}
+
+    def text(self, lines) -> bytes:
+        """`lines` have all bytes that each line was shown."""
+        shown = b""
+        for row in self.terminals:
+            new = bytes(lines[row.line])[self.seen[row.line] :]
+            self.seen[row.line] += len(new)
+            shown += b"".join(echo_line(row.name, line) for line in lines_of(new.replace(b"\r", b"")))
+        return shown
+
+
+def echo_line(name: str, line: bytes) -> bytes:
+    """A line as the operator sees it: a byte that doesn't print is a point."""
+    return name.encode() + b": " + bytes(byte if 0x20 <= byte <= 0x7E else 0x2E for byte in line) + b"\n"
+
+
+class Typing:
+    """What is typed: the events of each round, and whether more lines come."""
+
+    def __init__(self, outside: Outside):
+        self.outside = outside
+        self.lines = 0
+        self.goes_on = True
+        self.is_broken = False
+        self.is_cut = False
+
+    def read_round(self, number: int) -> list:
+        events = []
+        while True:
+            try:
+                line = self.outside.keyboard.next()
+            except DeviceFault:
+                self.goes_on, self.is_broken = False, True
+                return events
+            if line is None:
+                self.goes_on = False
+                return events
+            self.lines += 1
+            if not line:
+                return events
+            if not line.startswith(b"#"):
+                self.take(number, line, events)
+
+    def take(self, number: int, line: bytes, events: list) -> None:
+        try:
+            events.append(read_typed(self.lines, number, line))
+        except ScriptRefused as refused:
+            self.tell(b"vvmm: typed line %d %s\n" % (refused.line, refused.kind.encode()))
+
+    def tell(self, text: bytes) -> None:
+        if not self.is_cut:
+            try:
+                self.outside.errors.put(text)
+            except DeviceFault:
+                self.is_cut = True
+
+
+class Shower:
+    """Gives lines their puts as the rounds go; a line that fails gets no more."""
+
+    def __init__(self, outside: Outside):
+        self.lines = outside.lines
+        self.given = [0] * len(self.lines)
+        self.failed = set()
+        self.shown = [bytearray() for _ in self.lines]
+
+    def show(self, all_puts: list) -> None:
+        for number, puts in enumerate(all_puts):
+            for data in puts[self.given[number] :]:
+                if number not in self.failed:
+                    self.put(number, data)
+            self.given[number] = len(puts)
+
+    def put(self, number: int, data: bytes) -> None:
+        taken = len(data)
+        try:
+            self.lines[number].put(data)
+        except DeviceFault as fault:
+            taken = fault.taken
+            self.failed.add(number)
+        self.shown[number] += data[:taken]
+
+
+def live(outside: Outside, config_name: str, most: int) -> None:
+    """Rounds with what is typed for them while the run goes on; each is shown on the output when it is made."""
+    config = fetch_config(outside, config_name)
+    images = [fetch(outside, row.image) for row in config.guests]
+    check_images(config, images)
+    system = System(config, images, read_volumes(outside, config))
+    typing, screens, shower = Typing(outside), Screens(config), Shower(outside)
+    out_failed = False
+    while typing.goes_on and system.round < most:
+        events = typing.read_round(system.round + 1)
+        if typing.goes_on or events:
+            system.make_round(events)
+            shower.show(system.puts)
+            out_failed = out_failed or fails(outside.out, screens.text(shower.shown))
+    for number, dump in system.dumps().items():
+        system.puts[number] = system.puts[number] + dump
+    shower.show(system.puts)
+    failed = ["line %d" % number for number in sorted(shower.failed)]
+    failed += store_volumes(outside, config, system)
+    out_failed = out_failed or fails(outside.out, summary(system, system.round))
+    if failed:
+        raise Ended(10, "device " + failed[0])
+    if out_failed:
+        raise Ended(11, "output fault")
+    if typing.is_broken:
+        raise Ended(19, "keyboard fault")
+
+
+def fails(sink, data: bytes) -> bool:
+    """Puts bytes, if there are some; whether that failed."""
+    try:
+        if data:
+            sink.put(data)
+    except DeviceFault:
+        return True
+    return False
+
+
 def load(outside: Outside, number: int) -> None:
     drawn = workload(number)
     system = outside.run(drawn.config, drawn.images, drawn.volumes, drawn.events, drawn.rounds)
@@ -309,6 +438,7 @@ COMMANDS = {
     "run": ([file_word, file_word, ROUNDS], run),
     "save": ([file_word, file_word, ROUNDS], save),
     "resume": ([file_word, file_word, ROUNDS], resume),
+    "live": ([file_word, ROUNDS], live),
     "load": ([number_word(0, 2**32 - 1)], load),
     "check": ([file_word], check),
     "migrate": ([file_word], show_text(migrate_text)),

@@ -1,4 +1,4 @@
-"""Scripts: what is typed at which terminal in which round."""
+"""Scripts: what is typed at which terminal in which round; and lines that are typed while a run goes on."""
 
 from dataclasses import dataclass
 
@@ -44,10 +44,15 @@ def read_script(data: bytes) -> list:
 
 def read_event(number: int, line: bytes) -> Event:
     round_text, _, rest = line.partition(b" ")
-    name, _, what = rest.partition(b" ")
     round_number = read_decimal(round_text, MOST_ROUNDS)
     if not round_number:
         raise ScriptRefused(number, "BadRound")
+    return read_typed(number, round_number, rest)
+
+
+def read_typed(number: int, round_number: int, line: bytes) -> Event:
+    """What a line without its round says in a round."""
+    name, _, what = line.partition(b" ")
     if not is_object_name(name):
         raise ScriptRefused(number, "BadName")
     if what == b"break":
