@@ -1,0 +1,3 @@
+pub mod ShownApplied
+pub mod ShownTyped
+pub mod ShownWords

@@ -1,0 +1,3 @@
+pub mod ShownDevices
+pub mod ShownSlices
+pub mod ShownStops

@@ -1,0 +1,22 @@
+-- Worked examples of HALT, by computation: a guest that runs stops with the operator's code and says so, one that stands stays.
+use Rattle.std.specs.Prelude.{◌≡◌, [], codes, true, false, refl, Some, None}
+use Rattle.std.specs.Fmt.{digits}
+use Rattle.sys_rounds.specs.Guests.{commanded_to_stop, powered, stop_message}
+use Rattle.sys_rounds.specs.ShownSetup.{guest}
+use Rattle.vm_state.specs.Start.{opening}
+use Rattle.vm_state.specs.State.{Guest}
+
+-- a guest of one page at power-up, which runs or stands with code 00
+abbrev pub running : Guest
+running = powered (guest (codes "A") 0 1 1 true None) []
+
+abbrev pub standing : Guest
+standing = powered (guest (codes "A") 0 1 1 false None) []
+
+pub one_that_runs : ((commanded_to_stop running).state.halt ≡ Some 2) × (stop_message running ≡ codes "?02 00000200\r\n")
+unfolding opening digits
+one_that_runs = (refl, refl)
+
+pub one_that_stands : ((commanded_to_stop standing).state.halt ≡ Some 0) × (stop_message standing ≡ [])
+unfolding opening digits
+one_that_stands = (refl, refl)

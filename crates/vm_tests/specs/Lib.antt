@@ -1,0 +1,5 @@
+pub mod ShownTouches
+pub mod ShownFrames
+pub mod ShownRegisters
+pub mod ShownBorders
+pub mod ShownWidths
