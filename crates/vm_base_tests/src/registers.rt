@@ -19,12 +19,14 @@ fn read_back(g: &mut GuestState, number: u32) -> Result<u32, ReservedOperand> {
 /// A register's number, the value written, the effect, and the value read, where the register allows it.
 type Written = (u32, u32, Effect, Option<u32>);
 
-static WRITTEN: [Written; 19] = [
+static WRITTEN: [Written; 21] = [
     (0, 0x1234_5678, Effect::Done, Some(0x1234_5678)),
     (4, 0x1234_5678, Effect::Done, Some(0x1234_5678)),
     (8, 0xBFFF_FFFC, Effect::Remap, Some(0xBFFF_FFFC)),
     (9, 8192, Effect::Remap, Some(8192)),
+    (10, 0xFFFF_FFFC, Effect::Remap, Some(0xFFFF_FFFC)),
     (11, 2_088_960, Effect::Remap, Some(2_088_960)),
+    (12, 0xFFFF_FFFC, Effect::Remap, Some(0xFFFF_FFFC)),
     (13, 8192, Effect::Remap, Some(8192)),
     (17, 0xFFFF_FE00, Effect::Done, Some(0xFFFF_FE00)),
     (18, 0xFFFF_FFE3, Effect::Done, Some(3)),

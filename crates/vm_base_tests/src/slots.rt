@@ -74,3 +74,54 @@ fn five_contexts_in_turn(rt: HostRuntime) {
     assert!(rt; slots.take(&context(5)) == fifth);
     assert_eq!(rt; slots.find(&context(1)), None);
 }
+
+/// Contexts that differ from that of 1 in one register alone.
+static APART: [Context; 5] = [
+    Context {
+        mapped: false,
+        p0br: 1,
+        p0lr: 8,
+        p1br: 0,
+        p1lr: 0,
+    },
+    Context {
+        mapped: true,
+        p0br: 2,
+        p0lr: 8,
+        p1br: 0,
+        p1lr: 0,
+    },
+    Context {
+        mapped: true,
+        p0br: 1,
+        p0lr: 9,
+        p1br: 0,
+        p1lr: 0,
+    },
+    Context {
+        mapped: true,
+        p0br: 1,
+        p0lr: 8,
+        p1br: 4,
+        p1lr: 0,
+    },
+    Context {
+        mapped: true,
+        p0br: 1,
+        p0lr: 8,
+        p1br: 0,
+        p1lr: 1,
+    },
+];
+
+/// Each has a slot of its own beside that one's.
+#[test]
+fn each_register_tells_contexts_apart(rt: HostRuntime) {
+    for other in &APART {
+        let mut slots = Slots::new();
+        assert_eq!(rt; slots.take(&context(1)).slot, 0);
+        assert_eq!(rt; slots.find(other), None);
+        assert_eq!(rt; slots.take(other).slot, 1);
+        assert_eq!(rt; slots.find(&context(1)), Some(0));
+    }
+}

@@ -1,7 +1,8 @@
-//! Which files each command fetches, and how often: no clause counts calls.
-use super::order::{CONFIG, LETTER, SCRIPT, empty_drives, noting_lines};
+//! Which files each command fetches, and how often, and in how many puts it is answered: no clause counts calls.
+use super::order::{CONFIG, LETTER, NOTES, Notes, Noting, OUT, SCRIPT, empty_drives, noting_lines};
 use std::alloc::Global;
 use std::cell::RefCell;
+use std::process::Abort;
 use std::rc::Rc;
 use std::test::Fail;
 use vax_cpu::Cpu;
@@ -33,19 +34,22 @@ impl Shelf for NotingShelf {
     }
 }
 
-/// Words, with a blank between two, and the first letters of what they fetch, in order.
-const FETCHED: [(&str, &str); 11] = [
-    ("check c", "c"),
-    ("migrate c", "c"),
-    ("asm s", "s"),
-    ("dis x", "x"),
-    ("solo x 5", "x"),
-    ("run c s 1", "csx"),
-    ("live c 1", "cx"),
-    ("run c m 1", "cm"),
-    ("run c s 0", ""),
-    ("chek c", ""),
-    ("load c", ""),
+/// Words, with a blank between two, the first letters of what they fetch, in order, and how often the sink is put to.
+const CALLS: [(&str, &str, usize); 14] = [
+    ("check c", "c", 1),
+    ("migrate c", "c", 1),
+    ("flow c", "c", 1),
+    ("draw c", "c", 1),
+    ("asm s", "s", 0),
+    ("asm t", "t", 1),
+    ("dis x", "x", 1),
+    ("solo x 5", "x", 1),
+    ("run c s 1", "csx", 1),
+    ("live c 1", "cx", 1),
+    ("run c m 1", "cm", 0),
+    ("run c s 0", "", 0),
+    ("chek c", "", 0),
+    ("load c", "", 0),
 ];
 
 fn words_of(alloc: Global, text: &str) -> Result<Vec<String>, NoMemory> {
@@ -56,14 +60,22 @@ fn words_of(alloc: Global, text: &str) -> Result<Vec<String>, NoMemory> {
     Ok(words)
 }
 
-/// What these words fetch.
-fn fetched(alloc: Global, text: &str) -> Result<Vec<u8>, NoMemory> {
-    let mut machine = Cpu::new(alloc, PAGES)?;
-    let notes = Rc::new(alloc, RefCell::new(Vec::new(alloc)))?;
-    let mut lines = noting_lines(alloc, &notes)?;
+/// What these words fetch; the sink notes its puts.
+fn fetched(
+    alloc: Global,
+    machine: &mut Cpu,
+    text: &str,
+    notes: &Notes,
+) -> Result<Vec<u8>, NoMemory> {
+    let mut lines = noting_lines(alloc, notes)?;
     let mut drives = empty_drives(alloc)?;
-    let mut out = MemLine::new(alloc, 4096, Vec::new(alloc))?;
-    let files = [("c", CONFIG), ("s", SCRIPT), ("x", LETTER)];
+    let mut out = Noting::new(OUT, notes)?;
+    let files = [
+        ("c", CONFIG),
+        ("s", SCRIPT),
+        ("t", b"NOP\n".as_slice()),
+        ("x", LETTER),
+    ];
     let mut shelf = NotingShelf {
         shelf: plain(&files).shelf(alloc)?,
         letters: Vec::new(alloc),
@@ -76,7 +88,7 @@ fn fetched(alloc: Global, text: &str) -> Result<Vec<u8>, NoMemory> {
             alloc,
             &words,
             &mut shelf,
-            &mut machine,
+            machine,
             &mut lines,
             &mut drives,
             &mut out,
@@ -89,11 +101,21 @@ fn fetched(alloc: Global, text: &str) -> Result<Vec<u8>, NoMemory> {
     Ok(letters)
 }
 
+/// How often the sink was put to.
+fn puts(rt: &impl Abort, notes: &Notes) -> usize {
+    let noted = notes.try_borrow().expect(rt, "the notes");
+    noted.iter().filter(|number| **number == OUT).count()
+}
+
 #[test]
-fn each_file_is_fetched_once_and_no_other(rt: HostRuntime) -> Result<(), Fail> {
-    for (words, letters) in FETCHED {
-        let fetched = fetched(rt.alloc(), words)?;
+fn each_file_is_fetched_once_and_told_in_one_put(rt: HostRuntime) -> Result<(), Fail> {
+    let alloc = rt.alloc();
+    let mut machine = Cpu::new(alloc, PAGES)?;
+    for (words, letters, times) in CALLS {
+        let notes: Notes = Rc::new(alloc, RefCell::new(Vec::with_capacity(alloc, NOTES)?))?;
+        let fetched = fetched(alloc, &mut machine, words, &notes)?;
         assert!(rt; fetched.as_slice() == letters.as_bytes(), "{words}");
+        assert_eq!(rt; puts(&rt, &notes), times, "{words}");
     }
     Ok(())
 }
