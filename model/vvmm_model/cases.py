@@ -133,6 +133,10 @@ def cut_into_cases(statements: list) -> list:
     return parts
 
 
+def title_of(statements: list) -> str:
+    return " ".join(statements[0].words[1:])
+
+
 class Player:
     """Plays the cases of one file; `compare` is called with each call and what the model told."""
 
@@ -144,19 +148,22 @@ class Player:
         self.runs = {}
         self.value = None
 
-    def play(self, name: str, part: int = 0, parts: int = 1):
-        """Gives for each case its title and a list of what doesn't hold; of several parts those of one alone."""
-        first, *cases = cut_into_cases(read_file(self.folder, name))
+    def play(self, name: str, part: int = 0, parts: int = 1, only: str = ""):
+        """Gives for each case its title and a list of what doesn't hold; of several parts those of one alone, or of `only` one
+        case, where none speaks of what another kept."""
+        statements = read_file(self.folder, name)
+        only = only if can_be_parted(statements) else ""
+        first, *cases = cut_into_cases(statements)
         self.begin()
         self.do_all(first)
         for number, statements in enumerate(cases):
-            if number % parts == part:
+            if number % parts == part and (not only or only.startswith(title_of(statements))):
                 yield from self.play_case(statements)
             else:
                 self.do_all([statement for statement in statements if statement.words[0] == "let"])
 
     def play_case(self, statements: list):
-        title = " ".join(statements[0].words[1:])
+        title = title_of(statements)
         values = [None]
         rest = statements[1:]
         if rest and rest[0].words[0] == "with":

@@ -1,7 +1,9 @@
 """Everything whose bytes are known, compared with the model and, where one is given, with a program."""
 
+import importlib
 import multiprocessing
 import os
+import re
 import shutil
 import tempfile
 
@@ -10,6 +12,7 @@ from .cases import Player, Unreadable, can_be_parted, read_file
 from .differences import first_difference
 from .examples import ENDLESS, EXAMPLES, calls_of, expected_by_model, files_of, keys_of, place_of, read
 from .fuzzing import Case, compare_case, given_of, has_snapshots
+from .purge_checks import check_purge
 from .system import run
 from .workload import workload
 
@@ -101,10 +104,12 @@ def tasks_of(root: str, program) -> list:
     tasks += [("examples", check_parts, (examples, number, program)) for number in range(len(EXAMPLES))]
     tasks.append(("examples", check_sources, (examples, program)))
     names = [name for name in sorted(os.listdir(folder)) if name.endswith(".cases") and name != "wrong.cases"]
+    tasks += [(name + ", purged by the model", check_purge, (folder, name)) for name in names if name.startswith("purge_")]
     for name in names:
         statements = read_file(folder, name)
         parts = PARTS if can_be_parted(statements) and is_long(statements) else 1
         tasks += [(name, check_case_file, (folder, name, part, parts, program)) for part in range(parts)]
+    tasks.append(("definitions", check_definitions, (root,)))
     return sorted(tasks, key=lambda task: "load" not in task[0])
 
 
@@ -136,3 +141,36 @@ def check_all(root: str, program, tell=print) -> int:
         agreed, different = agreed + count - len(wrong), different + len(wrong)
     tell("%d agree, %d differ" % (agreed, different))
     return different
+
+
+def titles_of(task, only: str = ""):
+    """The titles of a task with their differences, one after another; of a case file, of `only` one case."""
+    _, work, arguments = task
+    if work is not check_case_file:
+        return work(*arguments)
+    folder, name, part, parts, program = arguments
+    return Player(folder).play(name, part, parts, only)
+
+
+
+def check_definitions(root: str) -> list:
+    """The table of the definitions and the model's functions: each file and each function is there."""
+    with open(os.path.join(root, "model/DEFINITIONS.md"), encoding="utf-8") as file:
+        rows = [line.strip("|\n ").split(" | ") for line in file if line.startswith("| `")]
+    results = []
+    for files, _, functions in rows:
+        lacking = [name for name in re.findall("`([^`]+)`", files) if not os.path.exists(os.path.join(root, "crates", name))]
+        lacking += [name for name in re.findall(r"`([a-z_]+\.\w[\w.]*)`", functions) if not stands(name)]
+        results.append((files, ["there is no " + name for name in lacking]))
+    return results
+
+
+def stands(name: str) -> bool:
+    """Whether the model has a function or a table of this name."""
+    module, *parts = name.split(".")
+    if not os.path.exists(os.path.join(os.path.dirname(__file__), module + ".py")):
+        return False
+    thing = importlib.import_module("vvmm_model." + module)
+    for part in parts:
+        thing = getattr(thing, part, None)
+    return thing is not None

@@ -268,20 +268,20 @@ def resume(outside: Outside, snapshot_name: str, script_name: str, rounds: int) 
 
 
 class Screens:
-    """What the operator is shown of the terminals: after each round what each of them was shown in it."""
+    """What the operator is shown of the terminals: after each round what each of them was shown in it, one after another."""
 
     def __init__(self, config: Config):
         self.terminals = config.terminals
         self.seen = {row.line: 0 for row in self.terminals}
 
-    def text(self, lines) -> bytes:
-        """`lines` have all bytes that each line was shown."""
-        shown = b""
-        for row in self.terminals:
-            new = bytes(lines[row.line])[self.seen[row.line] :]
-            self.seen[row.line] += len(new)
-            shown += b"".join(echo_line(row.name, line) for line in lines_of(new.replace(b"\r", b"")))
-        return shown
+    def texts(self, lines) -> list:
+        """What is shown of each terminal; `lines` have all bytes that each line was shown."""
+        return [self.text(row, bytes(lines[row.line])) for row in self.terminals]
+
+    def text(self, row, shown: bytes) -> bytes:
+        new = shown[self.seen[row.line] :]
+        self.seen[row.line] += len(new)
+        return b"".join(echo_line(row.name, line) for line in lines_of(new.replace(b"\r", b"")))
 
 
 def echo_line(name: str, line: bytes) -> bytes:
@@ -369,13 +369,13 @@ def live(outside: Outside, config_name: str, most: int) -> None:
         if typing.goes_on or events:
             system.make_round(events)
             shower.show(system.puts)
-            out_failed = out_failed or fails(outside.out, screens.text(shower.shown))
+            out_failed = out_failed or fails(outside.out, screens.texts(shower.shown))
     for number, dump in system.dumps().items():
         system.puts[number] = system.puts[number] + dump
     shower.show(system.puts)
     failed = ["line %d" % number for number in sorted(shower.failed)]
     failed += store_volumes(outside, config, system)
-    out_failed = out_failed or fails(outside.out, summary(system, system.round))
+    out_failed = out_failed or fails(outside.out, [summary(system, system.round)])
     if failed:
         raise Ended(10, "device " + failed[0])
     if out_failed:
@@ -384,10 +384,10 @@ def live(outside: Outside, config_name: str, most: int) -> None:
         raise Ended(19, "keyboard fault")
 
 
-def fails(sink, data: bytes) -> bool:
-    """Puts bytes, if there are some; whether that failed."""
+def fails(sink, pieces: list) -> bool:
+    """Puts pieces that aren't empty, up to the first whose put fails; whether one did."""
     try:
-        if data:
+        for data in filter(None, pieces):
             sink.put(data)
     except DeviceFault:
         return True

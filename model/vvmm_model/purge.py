@@ -32,7 +32,7 @@ def purge_config(config: Config, to: AccessClass) -> Config:
 
 
 def purge_events(config: Config, events: list, to: AccessClass) -> list:
-    classes = {terminal.name: terminal.access for terminal in config.terminals}
+    classes = {terminal.name: terminal.access for terminal in reversed(config.terminals)}
     return [event for event in events if event.terminal in classes and flows(classes[event.terminal], to)]
 
 
