@@ -23,7 +23,7 @@ pub denied : audit_of 1000000 (terminal (codes "T1") 1) (codes "MOUNT A 0 PUB WR
 unfolding audit_of class_text categories_below digits
 denied = refl
 
--- the blank behind the reply stays
+-- the blank after the reply stays
 pub empty_command : audit_of 3 (terminal (codes "T1") 0) [] BadCommand ≡ codes "3 T1 0{};0{} BAD COMMAND \r\n"
 unfolding audit_of class_text categories_below digits
 empty_command = refl

@@ -18,12 +18,12 @@ use Rattle.sys_objects.specs.declared.records.Terminal.{Terminal}
 use Rattle.sys_script.specs.Line.{behind, front}
 use Rattle.sys_script.specs.Texts.{is_shown, is_text}
 
--- a value behind a test
+-- where a choice by a test gives a value, the test passes
 passed : {A : Type 0} (test : Bool) (x y : A) → cond test (Some x) None ≡ Some y → (test ≡ true) × (x ≡ y)
 passed true x y is = (refl, cc)
 passed false x y is = (cc, cc)
 
--- what is read is of a round up to the last, and at a terminal that is there
+-- what is read is of a round up to the last, and at a terminal that exists
 record Read (c : Config) (e : Entry) : Type 0 where
   few : e.round ≤ 1000000
   there : e.terminal < length c.terminals
@@ -67,7 +67,7 @@ shown (b ∷ text) all =
     let own = All-head (λ x. (32 ≤ x) × (x ≤ 126)) b text all in
     and_from (is_shown b) (list_all is_shown text) (and_from (nat_le 32 b) (nat_le b 126) (le-leb 32 b own.0) (le-leb b 126 own.1)) (shown text (All-tail (λ x. (32 ≤ x) × (x ≤ 126)) b text all))
 
--- the line is the record of a command that may come next, and this is behind it
+-- the line is the record of a command that may come next, and this is the replay after it
 pub record Follows (c : Config) (replay : Replay) (line : List ℕ) (next : Replay) : Type 0 where
   pub entry : Entry
   pub fits : IsEntry c entry

@@ -33,7 +33,7 @@ module _ (c : Config) (is : IsConfig c) where
       subst (λ xs. AuditedFrom c s from xs) (sym here)
       (one_more c s from e (through k more) fits order.0 (front_from k (server_behind c s e) e.round more es (All-tail (IsEntry c) e es each) order.1 refl))
 
-  -- behind the records of some commands stand those of others
+  -- after the records of some commands come those of others
   behind_all : (s : ServerState) (from : ℕ) (before : List Entry) (bytes : List ℕ) → All (IsEntry c) before → AuditedFrom c s from (audit_bytes c s before ++ bytes) → (r : ℕ) × AuditedFrom c (server_after c s before) r bytes
   behind_all s from [] bytes each all = (from, all)
   behind_all s from (e ∷ es) bytes each all =

@@ -1,4 +1,4 @@
--- Lines, and what stands behind them.
+-- Lines, and what follows them.
 use Rattle.std.proofs.Common.{◌≡◌, ◌≤◌, ◌<◌, ◌+◌, ◌==◌, ℕ, zero, suc, List, [], ◌∷◌, ◌++◌, length, take, drop, Bool, true, false, not, nat_lt, Some, None, refl, sym, ◌∙◌, ap, arith, append_assoc, append-nil}
 use Rattle.std.specs.Prelude.{cond, if◌then◌else◌}
 use Rattle.std.proofs.lemmas.Bool.{ltb-false, ne_eqb}
@@ -87,7 +87,7 @@ line_of_line (b ∷ bytes) = by_test (b == 10) refl (line_of_line bytes)
     by_test true is rest = rw is
     by_test false is rest = rw is (ap (λ xs. b ∷ xs) rest)
 
--- bytes that have their one line feed at the end, and others behind them
+-- bytes that have their one line feed at the end, and others after them
 pub line_at : (body rest : List ℕ) → AreFrom 11 body → (first_line (body ++ 10 ∷ rest) ≡ body ++ 10 ∷ []) × (behind_line (body ++ 10 ∷ rest) ≡ rest)
 line_at [] rest all = (refl, refl)
 line_at (b ∷ body) rest all =
@@ -95,7 +95,7 @@ line_at (b ∷ body) rest all =
     let more = line_at body rest all.1 in
     (rw other (ap (λ xs. b ∷ xs) more.0), rw other more.1)
 
--- what stands behind so many lines
+-- what follows so many lines
 abbrev pub behind_lines : ℕ → List ℕ → List ℕ
 behind_lines zero bytes = bytes
 behind_lines (suc n) bytes = behind_lines n (behind_line bytes)

@@ -1,4 +1,4 @@
--- How far a check has come: the lines so far are records, and what may follow them is what may follow in the replay.
+-- How far a check has come: the lines so far are records, and the records that may follow them are those that the replay allows.
 use Rattle.std.proofs.Common.{◌≡◌, ◌≤◌, ◌<◌, ◌+◌, inl, inr, ℕ, suc, zero, List, [], ◌∷◌, ◌++◌, length, Some, None, All, refl, sym, ◌∙◌, ap, subst, arith, append-nil, append_assoc, add-one}
 use Rattle.std.proofs.lemmas.Bool.{cases_lt}
 use Rattle.std.proofs.lemmas.List.Elements.{All-cons, All-head, All-nil, All-tail}
@@ -14,7 +14,7 @@ use Rattle.sys_objects.specs.Condition.{IsConfig}
 use Rattle.sys_objects.specs.declared.records.Config.{Config}
 use Rattle.sys_server.specs.declared.command.ServerState.{ServerState}
 
--- nothing is an audit
+-- no bytes at all are an audit
 pub none_from : (c : Config) (s : ServerState) (from : ℕ) → AuditedFrom c s from []
 none_from c s from = record { entries = []; each = All-nil (IsEntry c); order = tt; is = refl }
 
@@ -45,7 +45,7 @@ module _ (c : Config) (is : IsConfig c) where
       let rest : AuditedFrom c (server_behind c s f) f.round bytes = record { entries = fs; each = All-tail (IsEntry c) f fs each; order = order.1; is = two.1 } in
       subst (λ (x : Entry). AuditedFrom c (server_behind c s x) x.round bytes) (sym two.0) rest
 
-  -- behind a record stand others
+  -- after a record come others
   pub one_less : (s : ServerState) (from : ℕ) (e : Entry) (bytes : List ℕ) → IsEntry c e → AuditedFrom c s from (record_of c s e ++ bytes) → AuditedFrom c (server_behind c s e) e.round bytes
   one_less s from e bytes fits all = behind_entries s from e bytes fits all.entries all.each all.order all.is
 

@@ -77,7 +77,7 @@ body_from round t text v small is shown =
       ),
     )
 
--- the command behind the class and the reply
+-- the command after the class and the reply
 after_reply : (v : Verdict) (rest : List ℕ) → behind_reply (reply_of v ++ 32 ∷ rest) ≡ rest
 after_reply (Granted command) rest = refl
 after_reply BadCommand rest = refl
@@ -131,7 +131,7 @@ words_read c n t round text v is from to at named =
     let last : behind (t.name ++ 32 ∷ rest) ≡ rest = behind_at t.name rest name in
     rw (first, after, number_read round from to, second, last, terminal_found c n t is at, at, command_read t.class v text)
 
--- a terminal that is there
+-- a terminal that exists
 pub record Stands (c : Config) (n : ℕ) : Type 0 where
   pub terminal : Terminal
   pub at : slice_get c.terminals n ≡ Some terminal

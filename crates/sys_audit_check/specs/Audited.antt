@@ -34,7 +34,7 @@ NeverFalls from (e ∷ es) = (from ≤ e.round) × NeverFalls e.round es
 abbrev pub opening_server : Config → ServerState
 opening_server c = record { at = connections c.guests 0 c.terminals; mounts = map (λ row. row.mounts) c.guests; running = map (λ row. row.autostart) c.guests }
 
--- the state behind a command at a terminal; a granted one alone changes it
+-- the state after a command at a terminal; a granted one alone changes it
 abbrev pub after_verdict : ServerState → ℕ → Verdict → ServerState
 after_verdict s n (Granted command) = applied s n command
 after_verdict s n BadCommand = s

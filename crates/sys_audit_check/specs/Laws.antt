@@ -32,7 +32,7 @@ IsGranted BadCommand = ⊥
 IsGranted NoSuchObject = ⊥
 IsGranted (Denied rule) = ⊥
 
--- where an audit goes on, behind the records of some commands, with a record that says OK, the server grants that command in
+-- where an audit goes on, after the records of some commands, with a record that says OK, the server grants that command in
 -- the state that they leave; a record that says OK is the same for each command that is granted
 abbrev pub OkIsGranted : Type 0
 OkIsGranted = (c : Config) (before : List Entry) (e : Entry) (t : Terminal) (command : Command) (rest : List ℕ)
@@ -40,7 +40,7 @@ OkIsGranted = (c : Config) (before : List Entry) (e : Entry) (t : Terminal) (com
     → Audited c (audit_bytes c (opening_server c) before ++ (audit_of e.round t e.text (Granted command) ++ rest))
     → IsGranted (verdict_on c (server_after c (opening_server c) before) e)
 
--- what stands at the units of the configuration's guests is the same
+-- what is at the units of the configuration's guests is the same
 abbrev pub SameMounts : Config → ServerState → ServerState → Type 0
 SameMounts c s t = (g unit : ℕ) → g < length c.guests → mount_at s g unit ≡ mount_at t g unit
 

@@ -1,4 +1,4 @@
--- Lines of bytes, and the first through whose end the bytes are no audit. A line ends with LF, and bytes behind the last LF
+-- Lines of bytes, and the first through whose end the bytes are no audit. A line ends with LF, and bytes after the last LF
 -- are a line.
 use Rattle.std.specs.Prelude.{ℕ, zero, suc, ◌≤◌, ◌<◌, ◌==◌, if◌then◌else◌, List, [], ◌∷◌, ◌++◌, Result, Ok, Err}
 use Rattle.sys_objects.specs.declared.records.Config.{Config}
@@ -10,7 +10,7 @@ abbrev pub first_line : List ℕ → List ℕ
 first_line [] = []
 first_line (b ∷ bytes) = if b == 10 then b ∷ [] else b ∷ first_line bytes
 
--- what stands behind it
+-- what follows it
 abbrev pub behind_line : List ℕ → List ℕ
 behind_line [] = []
 behind_line (b ∷ bytes) = if b == 10 then bytes else behind_line bytes

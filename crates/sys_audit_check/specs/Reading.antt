@@ -17,7 +17,7 @@ abbrev pub reply_length : List ℕ → ℕ
 reply_length [] = 0
 reply_length (b ∷ bytes) = if b == 79 then 2 else if b == 66 then 11 else if b == 78 then 14 else 12
 
--- what stands behind a reply and a blank
+-- what follows a reply and a blank
 abbrev pub behind_reply : List ℕ → List ℕ
 behind_reply bytes = drop (reply_length bytes + 1) bytes
 
@@ -25,11 +25,11 @@ behind_reply bytes = drop (reply_length bytes + 1) bytes
 abbrev pub without_end : List ℕ → List ℕ
 without_end bytes = take (length bytes - 2) bytes
 
--- the text of a command, which stands behind the class and the reply
+-- the text of a command, which comes after the class and the reply
 unfoldable pub command_in : AccessClass → List ℕ → List ℕ
 command_in class bytes = without_end (behind_reply (drop (length (class_text class) + 1) bytes))
 
--- what a line says, step by step: the bytes are those behind the words that were read
+-- what a line says, step by step: the bytes are those after the words that were read
 abbrev pub read_at : ℕ → ℕ → Option Terminal → List ℕ → Option Entry
 read_at round n None bytes = None
 read_at round n (Some t) bytes = Some (record { round = round; terminal = n; text = command_in t.class bytes })
@@ -48,7 +48,7 @@ read_in_round c (Some round) bytes = read_by c round (terminal_place c (front by
 unfoldable pub entry_in : Config → List ℕ → Option Entry
 entry_in c line = read_in_round c (decimal_of (front line) 1000000) (behind line)
 
--- the replay behind a command, where the line is its record and its round doesn't fall
+-- the replay after a command, where the line is its record and its round doesn't fall
 unfoldable pub followed_by : Config → Replay → List ℕ → Entry → Option Replay
 followed_by c replay line e =
     if nat_le replay.round e.round && is_text e.text && bytes_eq (record_of c replay.server e) line
@@ -58,6 +58,6 @@ abbrev pub followed_if : Config → Replay → List ℕ → Option Entry → Opt
 followed_if c replay line None = None
 followed_if c replay line (Some e) = followed_by c replay line e
 
--- the replay behind a line, where it is the record of a command
+-- the replay after a line, where it is the record of a command
 abbrev pub followed : Config → Replay → List ℕ → Option Replay
 followed c replay line = followed_if c replay line (entry_in c line)

@@ -50,7 +50,7 @@ abbrev said : ℕ → List ℕ → Entry
 said round text = record { round = round; terminal = 0; text = text }
 
 -- A volume above isn't seen; a dismount is granted where the mount before it was, and not twice. An empty command leaves a
--- blank behind the reply.
+-- blank after the reply.
 pub records :
     audit_bytes small (opening_server small) (
     said 1 (codes "MOUNT A 0 SEC READ") ∷ said 1 (codes "MOUNT A 0 PUB READ") ∷ said 2 (codes "DISMOUNT A 0") ∷ said 7 (codes "DISMOUNT A 0") ∷ said 7 [] ∷ [])
@@ -58,11 +58,11 @@ pub records :
 unfolding asked_in judged does_flow is_subset applied audit_of class_text categories_below digits
 records = refl
 
--- what stands behind the last line feed is a line
+-- what follows the last line feed is itself a line
 pub lines : (through 1 (codes "a\nb\nc") ≡ codes "a\n") × (through 3 (codes "a\nb\nc") ≡ codes "a\nb\nc") × (through 2 (codes "\n\n") ≡ codes "\n\n") × (through 0 (codes "a") ≡ [])
 lines = (refl, refl, refl, refl)
 
--- a replay that has come to a round, with the mounts of the configuration
+-- a replay that has reached a round, with the mounts of the configuration
 abbrev at_round : ℕ → Replay
 at_round round = record { round = round; server = opening_server small }
 

@@ -17,7 +17,7 @@ fn are_same(a: &[u8], b: &[u8]) -> bool
     a == b
 }
 
-/// The replay behind a command, where the line is its record.
+/// The replay after a command, where the line is its record.
 #[tactic(auto, unfolding(crate::specs::Reading::followed_by))]
 fn followed_by(c: &Config, replay: &Replay, line: &[u8], e: Entry) -> Option<Replay>
     requires config { IsConfig c.now }
@@ -39,7 +39,7 @@ fn followed_by(c: &Config, replay: &Replay, line: &[u8], e: Entry) -> Option<Rep
     })
 }
 
-/// The replay behind a line, where it is the record of a command.
+/// The replay after a line, where it is the record of a command.
 fn followed(c: &Config, replay: &Replay, line: &[u8]) -> Option<Replay>
     requires { IsConfig c.now }
     ensures { result ≡ followed c.now replay.now line.now }
@@ -54,7 +54,7 @@ fn find_line_feed(bytes: &[u8]) -> Option<usize>
     bytes.iter().position(|b| *b == b'\n')
 }
 
-/// The first line with its line feed, and what stands behind it.
+/// The first line with its line feed, and what follows it.
 fn cut_line(bytes: &[u8]) -> (&[u8], &[u8])
     ensures line { result.0.now ≡ first_line bytes.now }
     ensures behind { result.1.now ≡ behind_line bytes.now }

@@ -30,7 +30,7 @@ fn find_blank(text: &[u8]) -> Option<usize>
     text.iter().position(|b| *b == b' ')
 }
 
-/// What stands up to the first blank, and behind it.
+/// What comes up to the first blank, and after it.
 fn cut(text: &[u8]) -> (&[u8], &[u8])
     ensures before { result.0.now ≡ front text.now }
     ensures after { result.1.now ≡ behind text.now }
@@ -41,14 +41,14 @@ fn cut(text: &[u8]) -> (&[u8], &[u8])
     }
 }
 
-/// What stands behind so many bytes.
+/// What follows the first so many bytes.
 fn behind(bytes: &[u8], count: usize) -> &[u8]
     ensures { result.now ≡ drop count bytes.now }
 {
     &bytes[count.min(bytes.len())..]
 }
 
-/// What stands before the last two bytes.
+/// What comes before the last two bytes.
 fn without_end(bytes: &[u8]) -> &[u8]
     ensures { result.now ≡ without_end bytes.now }
 {
@@ -69,7 +69,7 @@ fn reply_length(bytes: &[u8]) -> usize
     }
 }
 
-/// The command that stands behind a class and a reply, and before CR and LF.
+/// The command that comes after a class and a reply, and before CR and LF.
 #[tactic(auto, unfolding(crate::specs::Reading::command_in))]
 fn command_in<'a>(class: &AccessClass, bytes: &'a [u8]) -> &'a [u8]
     ensures { result.now ≡ command_in class.now bytes.now }

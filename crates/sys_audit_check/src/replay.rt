@@ -41,7 +41,7 @@ pub fn opening(c: &Config) -> Replay
     }
 }
 
-/// What the server keeps behind a command at a terminal, 0 to 31.
+/// What the server keeps after a command at a terminal, 0 to 31.
 pub fn after_verdict(server: &ServerState, terminal: u8, verdict: &Verdict) -> ServerState
     requires terminal { terminal < 32 }
     requires places { MayApply verdict.now }

@@ -50,7 +50,7 @@ pub record Tracks (c : Config) (line : ℕ) (srv : ServerState) (es : List Entry
   pub bytes : bytes_on line w.puts ≡ audit_bytes c srv es
   pub mounts : (server_after c srv es).mounts ≡ w.now.mounts
 
--- one thing and then another
+-- one thing after another
 tracks_then : (c : Config) (line : ℕ) (srv : ServerState) (xs ys : List Entry) (v w : Went State) → Tracks c line srv xs v → Tracks c line (server_after c srv xs) ys w → Tracks c line srv (xs ++ ys) (record { now = w.now; puts = v.puts ++ w.puts })
 tracks_then c line srv xs ys v w a b = record {
   bytes = bytes_append line v.puts w.puts ∙ (λ i. a.bytes i ++ b.bytes i) ∙ sym (audit_then c srv xs ys);
@@ -61,7 +61,7 @@ tracks_then c line srv xs ys v w a b = record {
 tracks_none : (c : Config) (line : ℕ) (srv : ServerState) (w : Went State) → Elsewhere line w.puts → srv.mounts ≡ w.now.mounts → Tracks c line srv [] w
 tracks_none c line srv w far same = record { bytes = nothing_on line w.puts far; mounts = same }
 
--- a granted command makes the same of the mounts
+-- a granted command changes the mounts in the same way
 applied_mounts : (s t : ServerState) (n : ℕ) (command : Command) → s.mounts ≡ t.mounts → (applied s n command).mounts ≡ (applied t n command).mounts
 unfolding applied
 applied_mounts s t n (Connect g) same = same

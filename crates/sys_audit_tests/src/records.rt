@@ -3,7 +3,7 @@ use std::test::Fail;
 use sys_audit_check::{AuditFault, check_audit};
 use sys_config::read_config;
 
-/// A terminal and a guest of level 1, a volume above, `SEC`, and one below, `PUB`, which stands at unit 1 of the guest.
+/// A terminal and a guest of level 1, a volume above, `SEC`, and one below, `PUB`, which is at unit 1 of the guest.
 const SMALL: &str = concat!(
     "version = 1\nquantum = 10\nslice = 3\n",
     "[audit]\nline = 9\nclass = \"15{};0{}\"\n",
@@ -18,12 +18,12 @@ const SMALL: &str = concat!(
 type Row = (&'static str, Option<u32>);
 
 static ROWS: [Row; 33] = [
-    // nothing is an audit
+    // no bytes at all are an audit
     ("", None),
     // the server sees no volume above the terminal, and so can't have granted its mount
     ("1 T1 1{};0{} OK MOUNT A 0 SEC READ\r\n", Some(1)),
     ("1 T1 1{};0{} NO SUCH OBJECT MOUNT A 0 SEC READ\r\n", None),
-    // nothing stands at the unit, or what was mounted there, or what the configuration mounts
+    // nothing is at the unit, or what was mounted there, or what the configuration mounts
     ("1 T1 1{};0{} OK DISMOUNT A 0\r\n", Some(1)),
     (
         "1 T1 1{};0{} OK MOUNT A 0 PUB READ\r\n1 T1 1{};0{} OK DISMOUNT A 0\r\n",

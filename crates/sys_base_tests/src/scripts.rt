@@ -171,7 +171,7 @@ fn last_length(events: &[Event]) -> usize {
 static RUNS: [(usize, Answer); 19] = [
     // The comment.
     (7, Ok((0, 0))),
-    // `1 T1 > A`; its return is part of it until the line feed stands.
+    // `1 T1 > A`; its return is part of it until the line feed is there.
     (2, Err((2, BadName))),
     (3, Err((2, BadEvent))),
     (2, Ok((1, 0))),
@@ -193,7 +193,7 @@ static RUNS: [(usize, Answer); 19] = [
     (7, Err((6, BadEvent))),
     (1, Err((6, RoundFalls))),
     (1, Err((6, BadEvent))),
-    // Its line feed, and the line behind it.
+    // Its line feed, and the line after it.
     (6, Err((6, RoundFalls))),
 ];
 
@@ -211,7 +211,7 @@ fn every_prefix_has_its_answer(rt: HostRuntime) -> Result<(), Fail> {
     Ok(())
 }
 
-/// A text of one byte is read, but for those that may not stand in it.
+/// A text of one byte is read, but for those that may not occur in it.
 fn has_its_byte(rt: &impl Abort, alloc: Global, byte: u8) -> Result<(), Fail> {
     let script = [b'1', b' ', b'T', b'1', b' ', b'>', b' ', byte];
     let wanted = match byte {

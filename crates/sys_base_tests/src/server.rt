@@ -100,7 +100,7 @@ fn config(alloc: Global) -> Result<Config, NoMemory> {
     })
 }
 
-/// Nothing is connected; `SEC` stands at unit 1 of each guest.
+/// Nothing is connected; `SEC` is at unit 1 of each guest.
 fn state() -> ServerState {
     let mount = Some(Mount {
         volume: 0,

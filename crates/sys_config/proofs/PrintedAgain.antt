@@ -20,7 +20,7 @@ use Rattle.sys_config.specs.Written.{version_of, with_any, number, written_termi
 use Rattle.sys_config.proofs.ReadAgain.{terminal_back, volume_back, printer_back, audit_back, entries_back, guest_back}
 use Rattle.sys_objects.proofs.JudgedAgain.{judged_back, are_apart}
 
--- what stands at the keys of the whole table
+-- what is at the keys of the whole table
 record Looked : Type 0 where
   guest : Option Data
   printer : Option Data

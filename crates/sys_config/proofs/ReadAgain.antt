@@ -102,7 +102,7 @@ place_back {A} name xs k x apart at =
     (λ i below. let differ : name (get_or xs i x) ≢ name (get_or xs k x) = apart i k x below within in texts_differ (name (get_or xs i x)) (name x) (rw here at differ)) in
     rw (place, lt-ltb k (length xs) within)
 
--- an object that is there
+-- an object that exists
 pub record Held {A : Type 0} (P : A → Type 0) (xs : List A) (k : ℕ) : Type 0 where
   pub one : A
   pub at : slice_get xs k ≡ Some one
@@ -157,7 +157,7 @@ module _ (volumes : List VolumeRow) (rows : All IsVolume volumes) (apart : AllPa
   pub mounts_read : (ms : Units) → length ms ≡ 4 → All IsThere ms → mounts_in volumes (array (mount_items volumes 0 ms)) ≡ Some ms
   mounts_read ms units there = rw (four ms units) at (mounts_back ms [] (omega arith) there)
 
--- what stands at the keys of a guest's table
+-- what is at the keys of a guest's table
 record Looked : Type 0 where
   autostart : Option Data
   class : Option Data

@@ -2,7 +2,7 @@
 -- is named, with the first place at which it fails, counted from 0:
 --
 --   0      the bytes aren't UTF-8 or no TOML
---   1      a key at the top is missing, unknown or of another form; `quantum` stands there in version 1 alone
+--   1      a key at the top is missing, unknown or of another form; `quantum` occurs in version 1 alone
 --   2      the version isn't 1 or 2
 --   3      in version 1 the quantum isn't 1 to 100,000
 --   4      the slice isn't 1 to the quantum, or in version 2 1 to 100,000
@@ -10,9 +10,9 @@
 --   6 to 9 an entry of terminal, volume, printer, guest has a missing or unknown key, a bad form or range, a unit twice, or
 --          in version 1 a level above 15
 --   10     the audit likewise
---   11     a name stands earlier, in the order terminals, volumes, printers, guests
---   12     a line stands earlier, in the order terminals, printers, guests' dumps, audit
---   13     a drive stands earlier
+--   11     a name occurs earlier, in the order terminals, volumes, printers, guests
+--   12     a line occurs earlier, in the order terminals, printers, guests' dumps, audit
+--   13     a drive occurs earlier
 --   14     a guest's printer isn't one into whose class the guest flows
 --   15     a guest's console isn't a terminal of its class, or is that of an earlier guest
 --   16     a mount's volume isn't one that flows into the guest, or is written with another class

@@ -1,5 +1,5 @@
 -- An entry of the guests. A console, a printer and a mount's volume are given by name, and kept by place; a name that
--- no object has gets the number of the objects in the place of one, so that nothing stands there.
+-- no object has gets the number of the objects in the place of one, so that nothing is there.
 use Rattle.std.specs.Prelude.{ℕ, List, [], ◌∷◌, codes, length, Bool, true, false, if◌then◌else◌, Option, Some, None, is_some, bytes_eq, slice_index_or, slice_set, unwrap_or}
 use Rattle.std.specs.List.{position}
 use Rattle.toml.specs.Data.{Data, Items, no_items, item, Members, as_str, as_array}

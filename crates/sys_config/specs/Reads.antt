@@ -1,4 +1,4 @@
--- What stands at a key of a table, read as a number, a text or a truth value.
+-- What is at a key of a table, read as a number, a text or a truth value.
 use Rattle.std.specs.Prelude.{ℕ, ℤ, pos, List, Bool, true, ◌&&◌, if◌then◌else◌, Option, Some, None, option_map, option_and_then, int_le, unsigned_abs, bytes_eq}
 use Rattle.std.specs.List.{list_any}
 use Rattle.toml.specs.Data.{Data, Members, no_members, member, get_member, as_integer, as_str, as_bool}

@@ -24,7 +24,7 @@ abbrev pub with_member : List ℕ → Data → Members → Members
 with_member k d no_members = member k d no_members
 with_member k d (member l e ms) = match_ordering (slice_cmp nat_cmp k l) (member k d (member l e ms)) (member l d ms) (member l e (with_member k d ms))
 
--- a key that stands only where there is a value
+-- a key that is only where there is a value
 abbrev pub with_any : List ℕ → Option Data → Members → Members
 with_any k None ms = ms
 with_any k (Some d) ms = with_member k d ms

@@ -86,7 +86,7 @@ fn image_at(table: &Table) -> Option<FileName>
     }
 }
 
-/// The keys that a guest may have; `quantum` stands first, and in version 2 alone.
+/// The keys that a guest may have; `quantum` is first, and in version 2 alone.
 const KEYS: [&str; 13] = [
     "quantum",
     "name",

@@ -15,7 +15,7 @@ pub struct Top {
     pub slice: i64,
 }
 
-/// The keys at the top; `quantum` stands first, and in version 1 alone.
+/// The keys at the top; `quantum` is first, and in version 1 alone.
 const KEYS: [&str; 8] = [
     "quantum", "version", "slice", "audit", "terminal", "volume", "printer", "guest",
 ];

@@ -1,4 +1,4 @@
--- Parts of the picture, one behind another.
+-- Parts of the picture, one after another.
 use Rattle.std.proofs.Common.{◌≡◌, ◌+◌, ◌∙◌, ℕ, Bool, true, false, List, [], ◌∷◌, ◌++◌, map, refl, sym, ap, append_assoc, append-nil}
 use Rattle.std.specs.List.{range_with_len, filter, flat_map}
 use Rattle.std.proofs.lemmas.List.{map-append}
@@ -46,7 +46,7 @@ rows_more {A} f g n =
     ∙ ap joined (map-append f (flat_map g (range_with_len 0 n)) (g n ++ [])) ∙ joined-append (map f (flat_map g (range_with_len 0 n))) (map f (g n ++ []))
     ∙ ap (λ (xs : List A). joined (map f (flat_map g (range_with_len 0 n))) ++ joined (map f xs)) (append-nil (g n))
 
--- a part behind a part
+-- a part after a part
 pub behind : (old first now part new whole : List ℕ) → now ≡ old ++ first → new ≡ now ++ part → whole ≡ first ++ part → new ≡ old ++ whole
 behind old first now part new whole is next all =
     next ∙ ap (λ (front : List ℕ). front ++ part) is ∙ append_assoc old first part ∙ ap (λ (rest : List ℕ). old ++ rest) (sym all)

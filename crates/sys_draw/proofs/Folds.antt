@@ -19,7 +19,7 @@ greatest_all f xs i most h e =
     let none : greatest_by f (drop i xs) ≡ 0 = at_drop_all (greatest_by f) xs i h in
     omega (arith, none, e)
 
--- a list of what the first numbers have grows by one
+-- a list of the values for the first numbers grows by one
 pub pushed : {X : Type 0} (f : ℕ → X) (xs : List X) (x : X) (a : ℕ) → xs ≡ map f (range_with_len 0 a) → x ≡ f a → xs ++ x ∷ [] ≡ map f (range_with_len 0 (a + 1))
 pushed f xs x a is last = (λ i. is i ++ last i ∷ []) ∙ sym (map-range_with_len_more f 0 a a (omega arith))
 

@@ -1,4 +1,4 @@
--- Where the objects stand: those of one height in one row, the highest row first, each of a row in a column of its own.
+-- Where the objects are: those of one height in one row, the highest row first, each of a row in a column of its own.
 -- Lengths are in pixels.
 use Rattle.std.specs.Prelude.{ℕ, ◌+◌, ◌-◌, ◌*◌, ◌%◌, ◌==◌, ◌&&◌, nat_lt, max, List, [], ◌∷◌, map, length, count_by}
 use Rattle.vv_class.specs.Text.{class_text}
@@ -7,7 +7,7 @@ use Rattle.sys_draw.specs.Seats.{classes_of, seats_of}
 use Rattle.sys_draw.specs.declared.layout.Spot.{Spot}
 use Rattle.sys_draw.specs.declared.seats.Seat.{Seat}
 
--- how many of the same row stand before
+-- how many of the same row come before
 abbrev pub column : List Seat → Seat → ℕ
 column seats s = count_by (λ t. t.height == s.height && nat_lt t.order s.order) seats
 
@@ -31,7 +31,7 @@ half n = 4 * n + 6
 abbrev pub quarter : ℕ → ℕ
 quarter n = 2 * n + 8
 
--- the left upper corner of a box; the lines of one rank are shifted, so that fewer arrows pass behind boxes
+-- the left upper corner of a box; the rows of one rank are shifted, so that fewer arrows pass behind boxes
 abbrev pub spot : ℕ → List Seat → Seat → Spot
 spot n seats s = record { x = 10 + (4 * column seats s + 3 * (3 - s.height % 4)) * quarter n; y = 10 + 128 * row seats s }
 

@@ -1,5 +1,5 @@
--- How high an object stands in the picture, and in what order. What flows, flows up: an object whose class flows into another
--- class stands lower, and incomparable classes may stand beside each other.
+-- How high an object is in the picture, and in what order. What flows, flows up: an object whose class flows into another
+-- class is lower, and incomparable classes may be beside each other.
 use Rattle.std.specs.Prelude.{ℕ, ◌+◌, ◌-◌, ◌*◌, List, map, length, slice_get, unwrap_or, position, count_ones}
 use Rattle.std.specs.List.{range_with_len}
 use Rattle.std.specs.Option.{option_map_or}
@@ -28,7 +28,7 @@ class_of c a = option_map_or (class_in c) (slice_get (all_objects c) a) no_class
 abbrev pub rank : AccessClass → ℕ
 rank class = class.secrecy + count_ones class.secrecy_cats + (255 - class.integrity) + (64 - count_ones class.integrity_cats)
 
--- among objects of one rank volumes stand lowest, then guests, then terminals and printers, then the audit
+-- among objects of one rank volumes are lowest, then guests, then terminals and printers, then the audit
 abbrev pub line : Object → ℕ
 line (IsVolumeAt v) = 0
 line (IsGuestAt g) = 1
@@ -49,7 +49,7 @@ classes_of c = map (class_of c) (numbers c)
 abbrev pub first_of : List AccessClass → AccessClass → ℕ
 first_of classes class = unwrap_or (position (same_class class) classes) 0
 
--- objects of one class stand together, in the order of their numbers; there are fewer than 128
+-- objects of one class are together, in the order of their numbers; there are fewer than 128
 abbrev pub seat_of : Config → ℕ → Seat
 seat_of c a = record { height = 4 * rank (class_of c a) + line_of c a; order = 128 * first_of (classes_of c) (class_of c a) + a }
 

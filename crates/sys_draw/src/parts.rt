@@ -62,7 +62,7 @@ fn put_frame(text: &mut Vec<u8>, letters: u32, s: Spot, color: &[u8]) -> Result<
     put(text, after_color())
 }
 
-/// What stands in a box: its kind, its name and its class, and its color.
+/// What is in a box: its kind, its name and its class, and its color.
 #[derive(Clone, Copy)]
 pub struct Words<'a> {
     pub color: &'a [u8],

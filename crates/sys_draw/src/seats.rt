@@ -10,7 +10,7 @@ use sys_objects::Config;
 use vv_base::NoMemory;
 use vv_class::AccessClass;
 
-/// How high an object stands, and in what order among those of its height.
+/// How high an object is, and in what order among those of its height.
 #[derive(Clone, Copy)]
 pub struct Seat {
     pub height: u32,

@@ -1,4 +1,4 @@
--- Volumes that are loaded one behind another.
+-- Volumes that are loaded one after another.
 use Rattle.std.proofs.Common.{ℕ, ◌≡◌, ◌<◌, ◌≤◌, ◌+◌, ◌==◌, List, [], length, map, take, slice_index_or, slice_set, sym, ◌∙◌, ap, subst, arith, All, Result}
 use Rattle.std.proofs.lemmas.Bool.{eqb-false, eqb-true}
 use Rattle.std.proofs.lemmas.List.{get_or-map, get_or-set_other, map-set, set-get_or, take_all}

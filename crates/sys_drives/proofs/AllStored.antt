@@ -1,4 +1,4 @@
--- Volumes that are stored one behind another.
+-- Volumes that are stored one after another.
 use Rattle.std.proofs.Common.{ℕ, ◌≡◌, ◌≢◌, ◌<◌, ◌+◌, ◌==◌, List, length, take, slice_index_or, sym, ◌∙◌, ap, subst, arith, Bool, true, false, All}
 use Rattle.std.proofs.lemmas.Bool.{eqb-false, eqb-true}
 use Rattle.std.proofs.lemmas.List.{get_or-take, get_or_default, length-take-le}

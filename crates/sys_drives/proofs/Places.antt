@@ -11,11 +11,11 @@ pub both : {A : Type 0} (b : Bool) → (b ≡ true → A) → (b ≡ false → A
 both true f g = f refl
 both false f g = g refl
 
--- the row that is read at a place stands there
+-- the row that is read at a place is there
 pub stands : (rows : List VolumeRow) (v : ℕ) (row : VolumeRow) → v < length rows → row ≡ slice_index_or rows v row → StandsAt rows v row
 stands rows v row h read = slice_get_read rows (length rows) v row refl h read
 
--- what stands where one is read is that one
+-- what is found where one is read is that one
 pub same_row : (rows : List VolumeRow) (v : ℕ) (row other : VolumeRow) → row ≡ slice_index_or rows v row → StandsAt rows v other → row ≡ other
 same_row rows v row other read at = read ∙ get_or_from_slice_get rows v other row at
 

@@ -1,4 +1,4 @@
--- Blocks that are stored to a drive, one behind another.
+-- Blocks that are stored to a drive, one after another.
 use Rattle.std.proofs.Common.{ℕ, ◌≡◌, ◌<◌, ◌+◌, List, [], ◌∷◌, ◌++◌, length, map, take, drop, slice_set, slice_index_or, refl, sym, ◌∙◌, ap, subst, arith, append_assoc, true, Result, OnOk, OnErr}
 use Rattle.std.proofs.lemmas.List.{drop_more, get_or-set_same, get_or_at, length-map, length-take-le, set-set, set_at, take_more}
 use Rattle.std.proofs.lemmas.Option.{get_or_from_slice_get}
@@ -33,7 +33,7 @@ next_told n (Some old) blocks any size h long many =
     ap (λ xs. slice_set (take n blocks ++ xs) n any) rest ∙ set_at (take n blocks) (slice_index_or old n []) (drop (n + 1) old) any n (length-take-le n blocks (omega (arith, h, long))) in
     ap Some at
 
--- the block behind those that are stored is the drive's own
+-- the block after those that are stored is the drive's own
 still_long : (n : ℕ) (o : Option (List (List ℕ))) (blocks : List (List ℕ)) (any : List ℕ) (size : ℕ) → n < size → length blocks ≡ size → AreSoMany size o → IsAsLong (told_to n o blocks) n any → IsAsLong o n any
 still_long n None blocks any size h long many is = tt
 still_long n (Some old) blocks any size h long many is =

@@ -4,7 +4,7 @@ use Rattle.std.specs.declared.option.Option.TheVariants.{Some}
 use Rattle.sys_objects.specs.declared.records.VolumeRow.{VolumeRow}
 use Rattle.vv_io.specs.Blocks.{Kept, unkept}
 
--- this row stands at that place
+-- this row is at that place
 abbrev pub StandsAt : List VolumeRow → ℕ → VolumeRow → Type 0
 StandsAt rows v row = slice_get rows v ≡ Some row
 

@@ -13,12 +13,13 @@ abbrev pub told_after : Option (List (List ℕ)) → List (List ℕ) → Option 
 told_after None blocks = None
 told_after (Some old) blocks = Some blocks
 
--- the blocks before the k-th in place of those that are told, something for it, and the told ones behind it
+-- the blocks before the k-th in place of those that are told, something for it, and the told ones after it
 abbrev pub told_until : Option (List (List ℕ)) → List (List ℕ) → ℕ → List ℕ → Option (List (List ℕ))
 told_until None blocks k any = None
 told_until (Some old) blocks k any = Some (take k blocks ++ any ∷ drop (k + 1) old)
 
--- A drive's count rose at one block, which may hold any bytes, as many as before; those before it are stored, those behind it as before.
+-- A drive's count rose at one block, which may hold any bytes, as many as before. The blocks before it are stored, those after
+-- it are as before.
 pub record IsCut (before after : Kept) (blocks : List (List ℕ)) : Type 0 where
   pub size : after.size ≡ before.size
   pub rose : Rose before.faults after.faults

@@ -85,7 +85,7 @@ next_shown {a} {b} {c} {l} {m} {n} memory rows guests k row g state h long read 
     let next : (line : ℕ) → first_dumps memory rows guests k line ++ dump state line ≡ first_dumps memory rows guests (k + 1) line = λ line. ap (λ s. first_dumps memory rows guests k line ++ dump s line) is ∙ dumps_next memory rows guests k row g h long read read' apart line in
     shows_same a c l n (λ line. first_dumps memory rows guests k line ++ dump state line) (first_dumps memory rows guests (k + 1)) next (shows_then before now)
 
--- of lists one behind another
+-- of lists one after another
 front_apart : (xs ys : List ℕ) → AreApart (xs ++ ys) → AreApart xs
 front_apart xs ys apart i j d h within e =
     apart i j d h (omega (arith, within, length-append xs ys)) (get_or_append_left xs ys d i (omega (arith, h, within)) ∙ e ∙ sym (get_or_append_left xs ys d j within))
@@ -110,7 +110,7 @@ pub dump_shown : (marks : List Bool) (lines lines' : List Seen) (place : Option 
 dump_shown marks lines lines' place k failed told name g is there unmarked same shows =
     subst (λ o. Shows marks (slice_set marks k failed) lines lines' (only_on o (dump_of name g))) (sym is) (shows_on marks lines lines' k failed (dump_of name g) there unmarked (dump_some name g) (subst (λ b. ShownSinceOn k b lines lines' (dump_of name g)) (sym same) shows))
 
--- a guest that stands lies in the machine
+-- a guest that is in the machine lies within its memory
 pub lies_within : (memory : List ℕ) (ks : List Kept) (i : ℕ) (k : Kept) → i < length ks → k ≡ slice_index_or ks i k → All (λ (y : Kept). StandsIn memory y) ks → (512 * k.state.base + 512 * k.state.pages ≤ length memory) × (k.state.base + k.state.pages ≤ 65536)
 lies_within memory ks i k h read all =
     let stands = one_of_all (λ (y : Kept). StandsIn memory y) ks i k h read all in

@@ -12,7 +12,7 @@ use Rattle.sys_lines.proofs.Puts.{shows}
 use Rattle.sys_lines.specs.ShownSince.{ShownSince}
 use Rattle.sys_rounds.specs.Dump.{if_shown, is_shown, register_line, register_lines, row_line, row_lines, text_of}
 
--- lines behind lines
+-- lines after lines
 pub text_joined : (xs ys : List (List ℕ)) → text_of (xs ++ ys) ≡ text_of xs ++ text_of ys
 text_joined [] ys = refl
 text_joined (x ∷ xs) ys = ap (λ (t : List ℕ). (x ++ 13 ∷ 10 ∷ []) ++ t) (text_joined xs ys) ∙ sym (append_assoc (x ++ 13 ∷ 10 ∷ []) (text_of xs) (text_of ys))
@@ -30,7 +30,7 @@ next_register r n h =
 pub next_register_of : (r : List ℕ) (n : ℕ) (line : List ℕ) → n < length r → line ≡ register_line n (get_or r n 0) → text_of (register_lines n (drop n r)) ≡ text_of (line ∷ []) ++ text_of (register_lines (n + 1) (drop (n + 1) r))
 next_register_of r n line h is = next_register r n h ∙ ap (λ (xs : List ℕ). text_of (xs ∷ []) ++ text_of (register_lines (n + 1) (drop (n + 1) r))) (sym is)
 
--- behind the last register
+-- after the last register
 pub no_register : (r : List ℕ) (n : ℕ) → n ≡ length r → text_of (register_lines n (drop n r)) ≡ []
 no_register r n h = ap (λ (k : ℕ). text_of (register_lines n (drop k r))) h ∙ ap (λ (xs : List ℕ). text_of (register_lines n xs)) (drop-length r)
 
@@ -53,7 +53,7 @@ next_row_of n i memory row h is =
     ∙ ap (λ (k : ℕ). text_of (if_shown (16 * i) (take 16 (drop (16 * i) memory)) []) ++ text_of (row_lines (n - (i + 1)) k memory)) place
     ∙ ap (λ (xs : List ℕ). text_of (if_shown (16 * i) xs []) ++ text_of (row_lines (n - (i + 1)) (16 * (i + 1)) memory)) (sym is)
 
--- behind the last row
+-- after the last row
 pub no_row : (n i : ℕ) (memory : List ℕ) → n ≤ i → text_of (row_lines (n - i) (16 * i) memory) ≡ []
 no_row n i memory h = let none : n - i ≡ 0 = omega arith in ap (λ (k : ℕ). text_of (row_lines k (16 * i) memory)) none
 

@@ -17,7 +17,7 @@ fn put(line: &mut Box<dyn Line>, bytes: &[u8]) -> Result<(), LineFault>
     line.put(bytes)
 }
 
-/// Puts a text on a line, with CR and LF behind it.
+/// Puts a text on a line, with CR and LF after it.
 fn put_text(line: &mut Box<dyn Line>, mut text: Text<64>) -> Result<(), LineFault>
     requires { length text ≤ 62 }
     ensures { ShownSince (is_err result) (seen line.old) (seen line.new) (text_of (text ∷ [])) }

@@ -50,7 +50,7 @@ leads_then {v} {w} {m} {n} {o} {k} {k'} {k''} {l} {l'} {l''} {x} {y} a b = recor
   size = b.size ∙ a.size;
 }
 
--- the same, told otherwise
+-- the same, with the definition in another form
 pub leads_same : {v : Went State} {m n : Machine} {k k' : Kernel} {l l' : List Seen} {x : Volumes} (w : Went State) → v.now ≡ w.now → ((line : ℕ) → bytes_on line v.puts ≡ bytes_on line w.puts) → Leads v m k l n k' x l' → Leads w m k l n k' x l'
 leads_same {v} {m} {n} {k} {k'} {l} {l'} {x} w now puts a = record {
   state = a.state ∙ now;

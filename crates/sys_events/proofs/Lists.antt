@@ -7,7 +7,7 @@ use Rattle.std.proofs.lemmas.Iterator.Adapters.{position_from-zero}
 use Rattle.sys_rounds.proofs.Places.{both}
 use Rattle.sys_rounds.specs.Places.{changed, place_of}
 
--- an element that is there
+-- an element that exists
 pub get_at : {X : Type 0} (xs : List X) (k : ℕ) (x : X) → k < length xs → x ≡ slice_index_or xs k x → slice_get xs k ≡ Some x
 get_at [] k x h read = absurd (omega (arith, h))
 get_at (y ∷ xs) zero x h read = ap Some (sym read)
@@ -62,7 +62,7 @@ at_zero (Some n) = let e : 0 + n ≡ n = omega arith in ap Some e
 pub position_is : {X : Type 0} (p : X → Bool) (xs : List X) → position p xs ≡ place_of p xs
 position_is p xs = position_from-zero p xs ∙ from_place p 0 xs ∙ at_zero (place_of p xs)
 
--- where nothing behind a front passes, the first is in the front
+-- where nothing after a front passes, the first is in the front
 none_passes : {X : Type 0} (p : X → Bool) (xs : List X) → ((k : ℕ) (d : X) → k < length xs → p (slice_index_or xs k d) ≡ false) → place_of p xs ≡ None
 none_passes p [] none = refl
 none_passes p (x ∷ xs) none =
@@ -79,7 +79,7 @@ place_in_front p (suc n) (x ∷ xs) e = both (p x)
 pub first_in_front : {X : Type 0} (p : X → Bool) (n : ℕ) (xs : List X) → ((k : ℕ) (d : X) → k < length (drop n xs) → p (slice_index_or (drop n xs) k d) ≡ false) → position p (take n xs) ≡ position p xs
 first_in_front p n xs none = position_is p (take n xs) ∙ place_in_front p n xs (none_passes p (drop n xs) none) ∙ sym (position_is p xs)
 
--- what is found stands there
+-- what is found is there
 pub found_within : {X : Type 0} (p : X → Bool) (xs : List X) (k : ℕ) → place_of p xs ≡ Some k → k < length xs
 found_within p [] k e = cc
 found_within p (x ∷ xs) k e = by (p x) (place_of p xs) (λ n h. found_within p xs n h) k e

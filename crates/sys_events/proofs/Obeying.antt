@@ -95,7 +95,7 @@ rests m k l n command h same none x =
     leads_same (guests_obeyed k.config n command s) (λ i. record s { guests = same k.config s.guests i }) (λ line. ap (λ (ps : List Put). bytes_on line ps) (sym (quiet k.config s (slice_get k.config.terminals n) (Granted command) none)))
     (leads_none m k l x h)
 
--- what is shown before the reply is the same behind the server's part
+-- what is shown before the reply is the same after the server's part
 before_same : (c : Config) (s : State) (n : ℕ) (command : Command) (o : Option Terminal) → shown_before c (server_obeyed n command s).now o (Granted command) ≡ shown_before c s o (Granted command)
 unfolding applied
 before_same c s n command None = refl
@@ -175,7 +175,7 @@ pub obeys_by : (m m' : Machine) (k k' : Kernel) (server' : ServerState) (l l' : 
 obeys_by m m' k k' server' l l' n command h there places names is does =
     obeys m m' k k' l l' n command h there places names (subst (λ (s : ServerState). Does (guests_obeyed k.config n command) m (record k { server = s }) l m' k' l') is does)
 
--- the same of a command, or a verdict, that is known to be one of these
+-- the same of a command or a verdict that is known to be one of these
 pub as_command : (m m' : Machine) (k k' : Kernel) (l l' : List Seen) (n : ℕ) (command known : Command) → command ≡ known → Does (guests_obeyed k.config n known) m k l m' k' l' → Does (guests_obeyed k.config n command) m k l m' k' l'
 as_command m m' k k' l l' n command known is does = subst (λ (d : Command). Does (guests_obeyed k.config n d) m k l m' k' l') (sym is) does
 

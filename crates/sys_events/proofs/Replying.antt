@@ -1,4 +1,4 @@
--- Replies, audits and SHOW at a terminal that is there.
+-- Replies, audits and SHOW at a terminal that exists.
 use Rattle.std.proofs.Common.{ℕ, ◌≡◌, ◌<◌, ◌≤◌, List, [], ◌∷◌, ◌++◌, length, map, slice_get, refl, sym, ◌∙◌, ap, arith, Bool, Option, Some, None}
 use Rattle.std.specs.Prelude.{All, filter}
 use Rattle.vv_class.specs.Class.{does_flow}
@@ -23,7 +23,7 @@ use Rattle.sys_rounds.specs.State.{Put, bytes_on}
 use Rattle.sys_server.specs.Replies.{guest_lines, printer_line, reply_of, taken_text, volume_line}
 use Rattle.sys_server.specs.declared.command.Verdict.{Verdict}
 
--- the same puts, told otherwise
+-- the same puts, in another form
 pub same_puts : (marks marks' : List Bool) (l l' : List Seen) (p q : List Put) → p ≡ q → Shows marks marks' l l' (λ k. bytes_on k p) → Shows marks marks' l l' (λ k. bytes_on k q)
 same_puts marks marks' l l' p q e shows = shows_same marks marks' l l' (λ k. bytes_on k p) (λ k. bytes_on k q) (λ k. ap (λ (ps : List Put). bytes_on k ps) e) shows
 

@@ -1,4 +1,4 @@
--- The server's verdict, and what it makes of its arrays, are those of the lists of terminals and guests that are there.
+-- The server's verdict, and what it makes of its arrays, are those of the lists of terminals and guests that exist.
 use Rattle.std.proofs.Common.{ℕ, ◌≡◌, ◌<◌, List, [], length, map, take, drop, slice_get, slice_set, slice_index_or, refl, sym, ◌∙◌, ap, subst, arith, Bool, false, not, ◌&&◌, Option, Some, None}
 use Rattle.std.specs.Prelude.{All, IfSome}
 use Rattle.std.specs.List.{position}
@@ -85,7 +85,7 @@ module _ (c : Config) where
   pub verdict_names : (s : ServerState) (n : ℕ) (text : List ℕ) → VerdictNames c (verdict_of c s n text)
   verdict_names s n text = names_at s (slice_get c.terminals n) text
 
-  -- the verdict reads mounts of guests that are there alone, and nothing else of the server's state
+  -- the verdict reads mounts of guests that exist alone, and nothing else of the server's state
   empty_either : (m m' : Option Mounted) → unless_empty m NoSuchObject ≡ unless_empty m' NoSuchObject
   empty_either None None = refl
   empty_either None (Some m) = refl
@@ -123,7 +123,7 @@ module _ (c : Config) where
     pub same_verdict : (n : ℕ) (text : List ℕ) → verdict_of c (seated c s running) n text ≡ verdict_of c s n text
     same_verdict n text = same_at (slice_get c.terminals n) text
 
-    -- no terminal beyond those that are there has a guest
+    -- no terminal beyond those that exist has a guest
     none_beyond : IsServer c s → (n : ℕ) → n < length c.terminals → (g k : ℕ) (d : Option ℕ) → k < length (drop (length c.terminals) (slice_set s.at n None)) → is_guest g (slice_index_or (drop (length c.terminals) (slice_set s.at n None)) k d) ≡ false
     none_beyond h n there g k d within =
         let same : drop (length c.terminals) (slice_set s.at n None) ≡ drop (length c.terminals) s.at = drop-set-lt (length c.terminals) s.at n None there in

@@ -1,4 +1,4 @@
--- Which bytes puts come to.
+-- Which bytes puts show in all.
 use Rattle.std.proofs.Common.{ℕ, zero, suc, ◌≡◌, ◌<◌, ◌≤◌, ◌+◌, List, [], ◌∷◌, ◌++◌, length, map, take, slice_index_or, refl, sym, ◌∙◌, ap, arith, add-one, append-nil, Bool, true, false, ◌==◌, if◌then◌else◌, Option, Some}
 use Rattle.std.specs.Prelude.{All, IfSome, filter}
 use Rattle.std.proofs.lemmas.List.{map-append, take_all, length-map, get_or-map}
@@ -95,7 +95,7 @@ pub who_runs : (memory : List ℕ) (ks : List Kept) → map is_running (guests_i
 who_runs memory [] = refl
 who_runs memory (k ∷ ks) = ap (λ (rs : List Bool). runs k ∷ rs) (who_runs memory ks)
 
--- the console of a guest is found among the terminals that are there
+-- the console of a guest is found among the terminals that exist
 pub console_in_front : (ks : List Terminal) (os : List (Option ℕ)) (g : ℕ) → console_of ks (take (length ks) os) g ≡ console_of ks os g
 console_in_front [] os g = refl
 console_in_front (k ∷ ks) [] g = refl

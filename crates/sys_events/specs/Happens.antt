@@ -1,4 +1,4 @@
--- What the events of a round make of the machine, the kernel and the lines, whatever stands on the volumes.
+-- What the events of a round make of the machine, the kernel and the lines, whatever is on the volumes.
 use Rattle.std.specs.Prelude.{ℕ, List, [], Option, Some, None, slice_get}
 use Rattle.vax_hw.specs.Machine.{Machine}
 use Rattle.vv_io.specs.Lines.{Seen}
@@ -23,7 +23,7 @@ use Rattle.sys_server.specs.declared.command.Verdict.TheVariants.{Granted}
 abbrev pub Does : (f : State → Went State) (m : Machine) (k : Kernel) (lines : List Seen) (m' : Machine) (k' : Kernel) (lines' : List Seen) → Type 0
 Does f m k lines m' k' lines' = (volumes : List (List (List ℕ))) → Leads (f (state_of m.memory k volumes)) m k lines m' k' volumes lines'
 
--- it does so in every machine in which the kernel stands, and leaves that as it was
+-- it does so in every machine in which the kernel is, and leaves that as it was
 abbrev pub DoesAnywhere : (f : State → Went State) (k : Kernel) (lines : List Seen) (k' : Kernel) (lines' : List Seen) → Type 0
 DoesAnywhere f k lines k' lines' = (m : Machine) → IsKernel m.memory k → Does f m k lines m k' lines'
 

@@ -9,7 +9,7 @@ use Rattle.sys_server.specs.declared.command.ServerState.{ServerState}
 use Rattle.sys_server.specs.declared.command.Verdict.{Verdict}
 use Rattle.sys_server.specs.declared.command.Verdict.TheVariants.{Granted, BadCommand, NoSuchObject, Denied}
 
--- 32 terminals, of which those that are there have guests of the configuration, and 16 guests
+-- 32 terminals, of which those that exist have guests of the configuration, and 16 guests
 pub record IsServer (c : Config) (s : ServerState) : Type 0 where
   pub terminals : length s.at ≡ 32
   pub guests : length s.mounts ≡ 16
@@ -17,7 +17,7 @@ pub record IsServer (c : Config) (s : ServerState) : Type 0 where
   pub beyond : All (λ o. o ≡ None) (drop (length c.terminals) s.at)
   pub mounts : All (AreUnits (length c.volumes)) s.mounts
 
--- what of it belongs to terminals and guests that are there
+-- what of it belongs to terminals and guests that exist
 abbrev pub seated : Config → ServerState → List Bool → ServerState
 seated c s running = record { at = take (length c.terminals) s.at; mounts = take (length c.guests) s.mounts; running = running }
 

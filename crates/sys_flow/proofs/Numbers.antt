@@ -8,7 +8,7 @@ pub length-numbered : {A : Type 0} (f : ℕ → Object) (k : ℕ) (xs : List A) 
 length-numbered f k [] = refl
 length-numbered f k (x ∷ xs) = ap suc (length-numbered f (suc k) xs)
 
--- within the first list, and behind it
+-- within the first list, and after it
 pub within_first : {A : Type 0} (f : ℕ → Object) (k : ℕ) (xs : List A) (rest : List Object) (i : ℕ) → i < length xs → slice_get (numbered_from f k xs ++ rest) i ≡ Some (f (k + i))
 within_first f k [] rest i h = absurd (omega arith)
 within_first f k (x ∷ xs) rest zero h = ap (λ n. Some (f n)) (omega arith)

@@ -87,7 +87,7 @@ module _ (c : Config) (k : ℕ) (has next : ℕ → ℕ → Bool) (is : IsThroug
   sound_by a b false true false hx hy hz h = absurd (cc)
   sound_by a b false false z hx hy hz h = absurd (cc)
 
-  -- the way goes by k, or it doesn't
+  -- the way goes through k, or it doesn't
   abbrev Goes : ℕ → ℕ → Type 0
   Goes a b = (has a b ≡ true) ⊎ ((has a k ≡ true) × (has k b ≡ true))
 
@@ -131,7 +131,7 @@ module _ (c : Config) (k : ℕ) (has next : ℕ → ℕ → Bool) (is : IsThroug
     complete = λ a b t. passed a b ∙ complete_by a b _ _ _ refl refl refl (goes a b t.via t.below t.lead);
   }
 
--- behind the last pass
+-- after the last pass
 all_below : (c : Config) (a : ℕ) (via : List ℕ) (b : ℕ) → leads c a via b ≡ true → AreBelow (length (all_objects c)) via
 all_below c a [] b h = tt
 all_below c a (x ∷ via) b h =

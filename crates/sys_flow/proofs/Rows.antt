@@ -28,7 +28,7 @@ max_one (suc (suc x)) y h j = absurd (omega arith)
 pub bit_of_both : (x y k : ℕ) → has_bit (bit_or x y) k ≡ (has_bit x k || has_bit y k)
 bit_of_both x y k = ap (λ n. n == 1) (bit_at_or x y k) ∙ max_one (bit_at x k) (bit_at y k) (bit_at-lt x k) (bit_at-lt y k)
 
--- a row that is being filled: so far, the bits below k are those of f, and no other stands
+-- a row that is being filled: so far, the bits below k are those of f, and no other is set
 pub record IsFilled (f : ℕ → Bool) (k row : ℕ) : Type 0 where
   pub below : (j : ℕ) → j < k → has_bit row j ≡ f j
   pub above : (j : ℕ) → k ≤ j → has_bit row j ≡ false

@@ -1,4 +1,4 @@
--- What is reached from what, as rows of bits: bit b of row a stands where object b is reached from object a.
+-- What is reached from what, as rows of bits: bit b of row a is set where object b is reached from object a.
 use Rattle.std.specs.Prelude.{ℕ, ◌≡◌, ◌==◌, Bool, true, List, length, slice_index}
 use Rattle.std.specs.Int.{bit_at}
 use Rattle.sys_flow.specs.Reach.{IsReached, all_objects}

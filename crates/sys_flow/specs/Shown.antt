@@ -67,7 +67,7 @@ lines : flow_text small (reads (9 ∷ 0 ∷ 9 ∷ 9 ∷ [])) ≡ codes "FLOW T1 
 unfolding flow_line
 lines = refl
 
--- the terminal reaches the audit, which stands last and has no name
+-- the terminal reaches the audit, which is last and has no name
 abbrev audited : Config
 audited = record small { audit = Some (record { line = 1; class = level 15 }) }
 

@@ -7,7 +7,7 @@ use std::marker::Model;
 /// Which object is reached from which, by their numbers.
 #[derive(Drop)]
 pub struct Reach {
-    /// A row for each object: bit b stands where object b is reached from it.
+    /// A row for each object: bit b is set where object b is reached from it.
     rows: ArrayVec<u128, 97>,
 }
 

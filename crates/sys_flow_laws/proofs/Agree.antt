@@ -2,7 +2,7 @@
 use Rattle.std.proofs.Common.{◌≡◌, ◌+◌, ℕ, zero, suc, List, [], ◌∷◌, length, map, Bool, true, false, refl, sym, ap, ◌∙◌, Some, slice_get, slice_set, slice_index_or, true≢false, arith}
 use Rattle.sys_rounds.specs.Places.{beside_with, changed}
 
--- they have one length, and from the i-th place on what stands at a place of the set is the same
+-- they have one length, and from the i-th place on what is at a place of the set is the same
 abbrev pub AgreeFrom : {X : Type 0} → (ℕ → Bool) → ℕ → List X → List X → Type 0
 AgreeFrom far i [] [] = Unit {0}
 AgreeFrom far i [] (y ∷ ys) = ⊥
@@ -27,7 +27,7 @@ module _ {X : Type 0} (far : ℕ → Bool) where
   agree_trans i (x ∷ xs) (y ∷ ys) [] a b = absurd b
   agree_trans i (x ∷ xs) (y ∷ ys) (z ∷ zs) a b = ((λ f. a.0 f ∙ b.0 f), agree_trans (suc i) xs ys zs a.1 b.1)
 
-  -- what stands at a place of the set
+  -- what is at a place of the set
   get_from : (i : ℕ) (xs ys : List X) → AgreeFrom far i xs ys → (k j : ℕ) → i + k ≡ j → far j ≡ true → slice_get xs k ≡ slice_get ys k
   get_from i [] [] a k j e f = refl
   get_from i [] (y ∷ ys) a k j e f = absurd a
@@ -82,7 +82,7 @@ module _ {X : Type 0} (far : ℕ → Bool) where
   pub agree_unset : (xs : List X) (z : X) (k : ℕ) → far k ≡ false → AgreeFrom far 0 xs (slice_set xs k z)
   agree_unset xs z k n = set_from 0 xs z k k (omega arith) n
 
-  -- from what stands at each place
+  -- from what is at each place
   from_places : (i : ℕ) (xs ys : List X) → length xs ≡ length ys → ((k j : ℕ) → i + k ≡ j → far j ≡ true → slice_get xs k ≡ slice_get ys k) → AgreeFrom far i xs ys
   from_places i [] [] e h = tt
   from_places i [] (y ∷ ys) e h = absurd (omega (arith, e))

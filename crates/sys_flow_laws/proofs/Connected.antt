@@ -42,7 +42,7 @@ as_at g None = refl
 as_at g (Some h) = refl
 
 module _ (c : Config) (far : Object → Bool) (closed : IsClosed c far) where
-  -- a terminal and its guest are both far, or none is
+  -- a terminal and its guest are both far, or neither is
   pub at_far : (n : ℕ) (k : Terminal) → slice_get c.terminals n ≡ Some k → (g : ℕ) (o : Option ℕ) → ConnectFits c k o → is_at g o ≡ true → far_guest c far g ≡ far_terminal c far n
   at_far n k at g None h e = absurd (false≢true e)
   at_far n k at g (Some j) h e = ap (far_guest c far) (sym (eqb-true j g e)) ∙ holds_far c far closed n k at j h
@@ -63,7 +63,7 @@ module _ (c : Config) (far : Object → Bool) (closed : IsClosed c far) where
       (λ e. let one = a.0 e in λ j. if is_at g (one j) then Some k.line else rest j)
       (λ n. let left = not_at i k stand.0 n g f o p.0 in let right = not_at i k stand.0 n g f u q.0 in rw (left, right) rest)
 
-  -- the terminal that has a far guest's console stands at one place in both
+  -- the terminal that has a far guest's console is at one place in both
   pub place_alike : (g : ℕ) → far_guest c far g ≡ true → (i : ℕ) (ks : List Terminal) (os us : List (Option ℕ)) → StandFrom c.terminals i ks → AsLong ks os → Pairs (ConnectFits c) ks os → Pairs (ConnectFits c) ks us → AgreeFrom (far_terminal c far) i os us
       → place_of (is_guest g) os ≡ place_of (is_guest g) us
   place_alike g f i [] [] [] stand l p q a = refl

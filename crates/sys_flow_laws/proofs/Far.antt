@@ -50,7 +50,7 @@ module _ (c : Config) (far : Object → Bool) where
     pub shown_far : (g : ℕ) (row : GuestRow) → slice_get c.guests g ≡ Some row → (n : ℕ) (k : Terminal) → slice_get c.terminals n ≡ Some k → does_flow row.class k.class ≡ true → far_terminal n ≡ true → far_guest g ≡ true
     shown_far g row at_g n k at_n flow f = closed (IsGuestAt g) (IsTerminalAt n) (rw (at_g, at_n) flow) f
 
-    -- a guest and a terminal of one class are both far, or none is
+    -- a guest and a terminal of one class are both far, or neither is
     pub alike_far : (g : ℕ) (row : GuestRow) → slice_get c.guests g ≡ Some row → (n : ℕ) (k : Terminal) → slice_get c.terminals n ≡ Some k → row.class ≡ k.class → far_guest g ≡ far_terminal n
     alike_far g row at_g n k at_n e =
         let flow : does_flow row.class k.class ≡ true = ap (λ (d : AccessClass). does_flow row.class d) (sym e) ∙ flows_itself row.class in
@@ -84,7 +84,7 @@ module _ (c : Config) (far : Object → Bool) where
     pub audit_near : (n : ℕ) → far_terminal n ≡ false → far IsTheAudit ≡ false
     audit_near n e = both (far IsTheAudit) (λ f. absurd (true≢false (sym (closed (IsTerminalAt n) IsTheAudit refl f) ∙ e))) (λ f. f)
 
-  -- a line on which far objects alone stand
+  -- a line on which far objects alone are
   pub record IsFarLine (line : ℕ) : Type 0 where
     pub terminals : (n : ℕ) (k : Terminal) → slice_get c.terminals n ≡ Some k → k.line ≡ line → far_terminal n ≡ true
     pub printers : (p : ℕ) (q : PrinterRow) → slice_get c.printers p ≡ Some q → q.line ≡ line → far_printer p ≡ true

@@ -1,4 +1,4 @@
--- What every state of a run keeps of the edges: each mount has its edges. Beside each terminal stands its connection.
+-- What every state of a run keeps of the edges: each mount has its edges. Beside each terminal is its connection.
 use Rattle.std.proofs.Common.{◌≡◌, ◌==◌, ℕ, zero, suc, List, [], ◌∷◌, map, Bool, true, refl, sym, ap, ◌∙◌, subst, All, Option, Some, None, slice_get, slice_set, slice_index_or, if◌then◌else◌}
 use Rattle.std.specs.List.{list_any}
 use Rattle.std.proofs.lemmas.Bool.{and_parts, eq-eqb, false≢true}

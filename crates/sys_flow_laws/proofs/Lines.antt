@@ -1,4 +1,4 @@
--- Each line has one device: on the line of a far device stand far objects alone.
+-- Each line has one device: on the line of a far device are far objects alone.
 use Rattle.std.proofs.Common.{◌≡◌, ◌≢◌, ◌<◌, ◌≤◌, ℕ, zero, suc, List, [], ◌∷◌, ◌++◌, length, map, true, refl, sym, ap, ◌∙◌, subst, get_or, Option, Some, None, IfSome, slice_get, Bool, inl, inr, arith}
 use Rattle.std.specs.List.{AllPairs, cons_option, filter_map}
 use Rattle.sys_flow.specs.Reach.{IsTheAudit, Object}
@@ -13,7 +13,7 @@ use Rattle.sys_objects.specs.declared.records.Terminal.{Terminal}
 use Rattle.sys_purge.proofs.Fits.{all_get}
 use Rattle.sys_purge.proofs.Members.{IsIn}
 
--- lists without an element twice
+-- lists in which no element occurs twice
 abbrev pub Distinct : List ℕ → Type 0
 Distinct [] = Unit {0}
 Distinct (x ∷ xs) = ((y : ℕ) → IsIn y xs → x ≡ y → ⊥) × Distinct xs
@@ -189,7 +189,7 @@ module _ (c : Config) where
           dumps = λ g row at_g e. absurd (dumps_audit a.line a.line (in_dumps c.guests g row a.line at_g e) here refl);
         }
 
-    -- a line on which nothing stands
+    -- a line on which there is nothing
     few_dump : (row : GuestRow) → IsGuest row → row.dump ≡ Some 32 → ⊥
     few_dump row fit e = let h : 32 ≤ 31 = subst (λ (o : Option ℕ). IfSome o (λ line. line ≤ 31)) e fit.dump in omega (arith, h)
 

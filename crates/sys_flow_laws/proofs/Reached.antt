@@ -62,7 +62,7 @@ pub get_behind : {X : Type 0} (xs ys : List X) (k : ℕ) → slice_get (xs ++ ys
 get_behind [] ys k = let e : 0 + k ≡ k = omega arith in ap (slice_get ys) e
 get_behind (z ∷ zs) ys k = let e : suc (length zs) + k ≡ suc (length zs + k) = omega arith in ap (slice_get (z ∷ zs ++ ys)) e ∙ get_behind zs ys k
 
--- an element stands in front or behind
+-- an element comes before or after
 abbrev Behind : {X : Type 0} → List X → List X → ℕ → X → Type 0
 Behind xs ys k x = (j : ℕ) × (k ≡ length xs + j) × (slice_get ys j ≡ Some x)
 
@@ -80,7 +80,7 @@ get_numbered object i [] k j x e at = cc
 get_numbered object i (y ∷ ys) zero j x e at = let same : i ≡ j = omega (arith, e) in ap (λ (n : ℕ). Some (object n)) same
 get_numbered object i (y ∷ ys) (suc k) j x e at = get_numbered object (suc i) ys k j x (omega (arith, e)) at
 
--- what stands at a number
+-- what is at a number
 abbrev Numbered : {A : Type 0} → (ℕ → Object) → List A → ℕ → ℕ → Object → Type 0
 Numbered {A} object xs k j p = (x : A) × (slice_get xs k ≡ Some x) × (object j ≡ p)
 
@@ -158,7 +158,7 @@ module _ (c : Config) (a : ℕ) (f : ℕ → Bool) where
   audit_number : (x : Audit) → c.audit ≡ Some x → slice_get (all_objects c) (length to_guests + 0) ≡ Some IsTheAudit
   audit_number x at = get_behind to_guests (audit_object c.audit) 0 ∙ ap (λ (o : Option Audit). slice_get (audit_object o) 0) at
 
-  -- an object that is there is of the set by its number
+  -- an object that exists is of the set by its number
   module _ (i : ℕ) (p : Object) where
     in_terminals : slice_get to_terminals i ≡ Some p → apart_from p ≡ is_apart i
     in_terminals at =

@@ -16,7 +16,7 @@ pub const PUB: &str = volume!("PUB", "1", "0{};0{}");
 
 pub const A: &str = guest!("A", "1{};0{}");
 
-/// The parts of a text, one behind another.
+/// The parts of a text, one after another.
 pub fn text_of(alloc: Global, parts: &[&str]) -> Result<Vec<u8>, AllocError> {
     let mut text = Vec::new(alloc);
     for part in parts {

@@ -8,7 +8,7 @@ use Rattle.sys_objects.specs.declared.records.GuestRow.{GuestRow}
 use Rattle.sys_guests.specs.Layout.{ArePlaced, LiesApart, Range, memory_of, ranges, tables_of}
 use Rattle.vm_guest.specs.Kept.{Kept}
 
--- pages one behind another, from a page on and up to a limit
+-- pages one after another, from a page on and up to a limit
 abbrev Follow : (from limit : ℕ) → List Range → Type 0
 Follow from limit [] = Unit {0}
 Follow from limit (r ∷ rs) = (from ≤ r.from) × (r.from + r.pages ≤ limit) × Follow (r.from + r.pages) limit rs

@@ -16,14 +16,14 @@ bytes_of_long a b c d p q r s = grind arith
 four_more : (xs : List ℕ) (n : ℕ) → n + 4 ≤ length xs → take (n + 4) xs ≡ take n xs ++ (get_or xs n 0 ∷ get_or xs (n + 1) 0 ∷ get_or xs (n + 2) 0 ∷ get_or xs (n + 3) 0 ∷ [])
 four_more xs n h = grind (arith, common_steps)
 
--- behind the image there are zeros
+-- after the image there are zeros
 padded : (xs : List ℕ) (k i : ℕ) → get_or (xs ++ replicate k 0) i 0 ≡ get_or xs i 0
 padded xs k i = grind (arith, common_steps)
 
 bytes_below : (load : ℕ) (image : List ℕ) → ((i : ℕ) → get_or image i 0 < 256) → (i : ℕ) → get_or (replicate load 0 ++ image) i 0 < 256
 bytes_below load image h i = grind (arith, common_steps, h)
 
--- a write behind a front of n bytes
+-- a write after a front of n bytes
 front_kept : (front rest : List ℕ) (n : ℕ) → length front ≡ n → take n (front ++ rest) ≡ front
 front_kept front rest n h = grind (arith, common_steps)
 
@@ -36,7 +36,7 @@ moved_seam front back n new h k =
     ∙ ap (λ x. x ++ new ++ drop (n + 4) (front ++ drop n back)) (front_kept front (drop n back) n h)
     ∙ ap (λ x. front ++ new ++ x) (rest_kept front back n h)
 
--- the longword from a list without the zeros behind it
+-- the longword from a list without the zeros after it
 same_long : (xs : List ℕ) (k n : ℕ) → long_at xs n ≡ long_at (xs ++ replicate k 0) n
 same_long xs k n = sym (λ i. padded xs k n i + 256 * padded xs k (n + 1) i + 65536 * padded xs k (n + 2) i + 16777216 * padded xs k (n + 3) i)
 
@@ -46,7 +46,7 @@ front_length xs n h = length-take-le n xs h
 joined_length : (xs ys : List ℕ) → length (xs ++ ys) ≡ length xs + length ys
 joined_length xs ys = length-append xs ys
 
--- one longword more of the image is copied behind a base
+-- one longword more of the image is copied after a base
 pub one_long : (xs back : List ℕ) (base n long : ℕ) → base ≤ length back → ((i : ℕ) → get_or xs i 0 < 256) → n + 4 ≤ length xs → long ≡ long_at xs n →
     overwritten (overwritten back base (take n xs)) (base + n) (long_bytes long) ≡ overwritten back base (take (n + 4) xs)
 one_long xs back base n long room bytes within is =

@@ -1,4 +1,4 @@
--- Guests that lie one behind another.
+-- Guests that lie one after another.
 use Rattle.std.proofs.Common.{ℕ, zero, suc, ◌≡◌, ◌≢◌, ◌<◌, ◌≤◌, ◌+◌, ◌*◌, ◌⊎◌, inl, inr, List, [], ◌∷◌, ◌++◌, length, slice_set, slice_index_or, refl, sym, ◌∙◌, ap, subst, arith}
 use Rattle.std.proofs.lemmas.Bool.{cases_lt}
 use Rattle.std.proofs.lemmas.List.Sums.{sum_by-cons}
@@ -75,7 +75,7 @@ shares all k l memory other (inr before) inside inside' behind behind' s t only 
   tables = λ p low high. only.other p (inr (omega (arith, low, inside, behind', s.base, s.pages))) (inl (omega (arith, high, before.tables)));
 }
 
--- of two guests one stands before the other
+-- of two guests one comes before the other
 pub one_before : (base tables : ℕ) (rows : List GuestRow) (ks : List Kept) (i j : ℕ) (k l : Kept) → (i ≡ j → ⊥) → i < length ks → j < length ks → k ≡ slice_index_or ks i k → l ≡ slice_index_or ks j l → ArePlaced base tables rows ks → IsBefore k l ⊎ IsBefore l k
 one_before base tables rows ks i j k l ne h h' e f p = by (cases_lt i j)
   where

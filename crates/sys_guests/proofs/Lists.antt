@@ -70,7 +70,7 @@ none_some x e = cc
 same_some : {X : Type 0} (a b : X) → (let o : Option X = Some a in o ≡ Some b) → a ≡ b
 same_some a b e = cc
 
--- an element that is there is the one at its place
+-- an element that exists is the one at its place
 pub got : {X : Type 0} (xs : List X) (k : ℕ) (x : X) → slice_get xs k ≡ Some x → x ≡ slice_index_or xs k x
 got [] k x e = absurd (none_some x e)
 got (y ∷ xs) zero x e = sym (same_some y x e)

@@ -26,7 +26,7 @@ pub record Became (h : Guest) (k k' : Kept) (memory memory' : List ℕ) : Type 0
 pub became : (h : Guest) (m : Machine) (k : Kept) (m' : Machine) (k' : Kept) → Becomes h m k m' k' → Became h k k' m.memory m'.memory
 became h m k m' k' b = record { guest = b.guest; stands = b.stands; only = b.only; place = b.place; tables = b.tables }
 
--- the others are as before, and stand
+-- the others are as before, and are in the machine still
 other_stays : (rows : List GuestRow) (ks : List Kept) (place : ℕ) (k : Kept) (memory memory' : List ℕ) → place < length ks → k ≡ slice_index_or ks place k → AreInMachine rows memory ks → OnlyBoth k.shadow memory memory'
     → (i : ℕ) (l : Kept) → i < length ks → (i ≡ place → ⊥) → l ≡ slice_index_or ks i l → StandsIn memory' l × (guest_in memory' l ≡ guest_in memory l)
 other_stays rows ks place k memory memory' there read a only i l h ne read' =

@@ -33,7 +33,7 @@ use Rattle.vm_state.specs.Start.{opening, started, stopped_at_first}
 use Rattle.vm_state.specs.State.{Guest, HasPlace, state_of}
 use Rattle.vm_state.specs.declared.guest_state.GuestState.{GuestState}
 
--- what stands beside at a place
+-- the pair of what is at one place of two lists
 pub beside_at : {X Y Z : Type 0} (f : X → Y → Z) (xs : List X) (ys : List Y) (k : ℕ) (x : X) (y : Y) → k < length xs → k < length ys → x ≡ slice_index_or xs k x → y ≡ slice_index_or ys k y → f x y ≡ slice_index_or (beside_with f xs ys) k (f x y)
 beside_at f [] ys k x y h h' read read' = absurd (omega (arith, h))
 beside_at f (a ∷ xs) [] k x y h h' read read' = absurd (omega (arith, h'))
@@ -50,7 +50,7 @@ map_at f [] k x h read = absurd (omega (arith, h))
 map_at f (y ∷ xs) zero x h read = ap f read
 map_at f (y ∷ xs) (suc k) x h read = map_at f xs k x (omega (arith, h)) read
 
--- the first misfit stands here, or later
+-- the first misfit is here, or later
 abbrev misfits : List GuestRow → List (List ℕ) → List Bool
 misfits rows images = beside_with is_misfit rows images
 

@@ -57,11 +57,11 @@ advanced ks k k' m m' old new x c there read stand few is_empty a =
     retires : (x y n : ℕ) → (x + 0) % 2 ^ 64 ≡ (y + n) % 2 ^ 64 → x % 2 ^ 64 ≡ (y + n) % 2 ^ 64
     retires x y n e = omega (arith, e)
 
--- what holds of the one that is there
+-- what holds of the guest that is there
 pub of_one : (ks : List Kept) (place : ℕ) (k : Kept) (memory : List ℕ) (P : Guest → Type 0) → place < length ks → k ≡ slice_index_or ks place k → P (guest_in memory k) → IfSome (slice_get (guests_in memory ks) place) P
 of_one ks place k memory P there read holds = subst (λ (o : Option Guest). IfSome o P) (sym (get_map (guest_in memory) ks place k there read)) holds
 
--- one that runs is stopped by a command, and one that stands stays
+-- one that runs is stopped by a command, and one that has stopped stays so
 stop_by : (g : Guest) → commanded_to_stop g ≡ record g { state = kept.commanded_to_stop g.state }
 stop_by g = by g.state.halt refl
   where

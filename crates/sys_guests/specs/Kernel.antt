@@ -9,8 +9,8 @@ use Rattle.sys_objects.specs.Condition.{IsConfig}
 use Rattle.sys_objects.specs.declared.records.Mount.{Mount}
 use Rattle.sys_rounds.specs.State.{State, Went, bytes_on}
 
--- The state that it stands for, with the machine's memory and the volumes: the places of terminals and guests that aren't
--- there are left out.
+-- The state that it stands for, with the machine's memory and the volumes: the places of terminals and guests that don't
+-- exist are left out.
 abbrev pub state_of : List ℕ → Kernel → List (List (List ℕ)) → State
 state_of memory k volumes = record {
   connected = take (length k.config.terminals) k.server.at;

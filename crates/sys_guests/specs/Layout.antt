@@ -1,5 +1,5 @@
--- How the guests lie in the machine of 32,768 pages (profile): their memories one behind another from page 0 on, in the
--- order of the configuration, and behind them all their real tables, 580 pages each, in the same order.
+-- How the guests lie in the machine of 32,768 pages (profile): their memories one after another from page 0 on, in the
+-- order of the configuration, and after them all their real tables, 580 pages each, in the same order.
 use Rattle.std.specs.Prelude.{ℕ, ◌≡◌, ◌≤◌, ◌+◌, ◌*◌, List, [], ◌∷◌, ◌++◌, map, length, slice_index, All}
 use Rattle.std.specs.List.{AllPairs, sum_by}
 use Rattle.sys_objects.specs.Condition.{IsConfig}
@@ -16,7 +16,7 @@ pub record IsPlaced (row : GuestRow) (first table : ℕ) (k : Kept) : Type 0 whe
   pub start : k.state.start ≡ row.start
   pub modify_faults : k.state.modify_faults ≡ row.modify_faults
 
--- the guests of the rows, with their memories and their tables one behind another from these pages on
+-- the guests of the rows, with their memories and their tables one after another from these pages on
 abbrev pub ArePlaced : (base tables : ℕ) → List GuestRow → List Kept → Type 0
 ArePlaced base tables [] [] = Unit {0}
 ArePlaced base tables [] (k ∷ ks) = ⊥
@@ -52,7 +52,7 @@ abbrev pub ranges : List Kept → List Range
 ranges ks = map memory_of ks ++ map tables_of ks
 
 -- The guests of an accepted configuration that are laid out so have memories and tables of their own, in the machine:
--- each begins behind all before it.
+-- each begins after all before it.
 abbrev pub LiesApart : Type 0
 LiesApart = (c : Config) (ks : List Kept) → IsConfig c → AreLaidOut c.guests ks
     → AllPairs (λ a b. a.from + a.pages ≤ b.from) (ranges ks) × All (λ a. a.from + a.pages ≤ 32768) (ranges ks)

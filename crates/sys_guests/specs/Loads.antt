@@ -30,7 +30,7 @@ pub record OnlyPlaces (base pages tables : ℕ) (before after : List ℕ) : Type
   pub size : length after ≡ length before
   pub other : (p : ℕ) → (p < 512 * base) ⊎ (512 * (base + pages) ≤ p) → (p < 512 * tables) ⊎ (512 * (tables + 580) ≤ p) → slice_index after p ≡ slice_index before p
 
--- A guest with these registers and this memory stands in the machine, with its real tables from a page on.
+-- A guest with these registers and this memory is in the machine, with its real tables from a page on.
 pub record PutsIn (given : GuestState) (table : ℕ) (bytes : List ℕ) (memory memory' : List ℕ) (k : Kept) : Type 0 where
   pub state : k.state ≡ given
   pub tables : k.shadow.at ≡ table
@@ -38,7 +38,7 @@ pub record PutsIn (given : GuestState) (table : ℕ) (bytes : List ℕ) (memory 
   pub stands : StandsIn memory' k
   pub only : OnlyPlaces given.base given.pages table memory memory'
 
--- The guest of a row is this one, and stands in the machine at its place.
+-- The guest of a row is this one, and is in the machine at its place.
 pub record PlacesOne (row : GuestRow) (h : Guest) (base tables : ℕ) (memory memory' : List ℕ) (k : Kept) : Type 0 where
   pub placed : IsPlaced row base tables k
   pub guest : guest_in memory' k ≡ h

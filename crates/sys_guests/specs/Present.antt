@@ -23,7 +23,7 @@ KeepsAll left ks ks' = (ts : List Touching) → HavePresent ks ts → HavePresen
 abbrev pub counted_in : List Touching → ℕ
 counted_in ts = sum_by (λ t. t.count) ts
 
--- What is done to first touches pays for the misses, and what is present behind it has entries.
+-- What is done to first touches pays for the misses, and what is present after it has entries.
 pub record PaysAll (touching : List Touching → List Touching) (m : Machine) (ks : List Kept) (m' : Machine) (ks' : List Kept) : Type 0 where
   pub missed : ℕ
   pub misses : Misses missed m m'

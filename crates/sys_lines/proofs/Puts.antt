@@ -44,7 +44,7 @@ shows before after bytes (Err e) puts =
 pub shows_nothing : (start : Seen) → ShownSince false start start []
 shows_nothing start = (refl, sym (shown_none start.shown))
 
--- one text behind another
+-- one text after another
 pub joined : (failed : Bool) (a b c : Seen) (x y : List ℕ) → ShownSince false a b x → ShownSince failed b c y → ShownSince failed a c (x ++ y)
 joined false a b c x y (count, shown) (later, more) = (later ∙ count, more ∙ ap (λ s. shown_after s y) shown ∙ shown_twice a.shown x y)
 joined true a b c x y (count, shown) (rose, (n, le, more)) =
@@ -88,6 +88,6 @@ pub stops : (failed : Bool) (start now after : Seen) (rest more left whole : Lis
 stops failed start now after rest more left whole fault parts before shown =
     subst (λ (b : Bool). ShownSince b start after whole) (sym fault) (fails_now start now after rest more left whole parts before shown)
 
--- what `?` hands on is a fault
+-- what `?` passes on is a fault
 pub hands_on : {T E : Type 0} (Q : E → Type 0) (r : Result T E) → IsErrAnd r Q → is_err r ≡ true
 hands_on Q r fault = let (e, is, holds) = err_from_is_err_and r fault in ap is_err is

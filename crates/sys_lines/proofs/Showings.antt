@@ -68,7 +68,7 @@ shows_on marks lines lines' k failed bytes there unmarked some (line, is, inside
           (λ e. (other_mark j (apart j e), other_line j (apart j e)));
     }
 
--- the same bytes, told otherwise
+-- the same bytes, in another form
 pub shows_same : (marks marks' : List Bool) (lines lines' : List Seen) (f h : ℕ → List ℕ) → ((k : ℕ) → f k ≡ h k) → Shows marks marks' lines lines' f → Shows marks marks' lines lines' h
 shows_same marks marks' lines lines' f h e shows = record {
   line = λ k. subst (λ bytes. Gets (slice_index_or marks k false) (slice_index_or marks' k false) (slice_index_or lines k unseen) (slice_index_or lines' k unseen) bytes) (e k) (shows.line k);

@@ -25,7 +25,7 @@ if_said_append : (said : Result Event ScriptKind) (xs ys : List Event) → if_sa
 if_said_append (Ok event) xs ys = refl
 if_said_append (Err kind) xs ys = refl
 
--- the events of more lines stand after those of the first
+-- the events of more lines come after those of the first
 pub events_append : (r : ℕ) (xs ys : Texts) → events_typed r (xs ++ ys) ≡ events_typed r xs ++ events_typed (r + rounds_ended xs) ys
 events_append r [] ys = let same : r ≡ r + 0 = omega arith in ap (λ k. events_typed k ys) same
 events_append r ([] ∷ xs) ys =

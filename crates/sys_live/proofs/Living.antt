@@ -56,7 +56,7 @@ line_of [] rest k d l = absurd (omega (arith, l))
 line_of (t ∷ ts) rest zero d l = refl
 line_of (t ∷ ts) rest (suc k) d l = line_of ts rest k d (omega (arith, l))
 
--- no line of a terminal stands behind them
+-- no line of a terminal comes after them
 apart : (ts : List Terminal) (rest : List ℕ) → AllPairs (λ x y. x ≢ y) (map (λ (t : Terminal). t.line) ts ++ rest) → All (λ t. Lacks t.line rest) ts
 apart ts rest distinct i d l j e m same =
     let lines : List ℕ = map (λ (t : Terminal). t.line) ts in

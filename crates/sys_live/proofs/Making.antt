@@ -1,4 +1,4 @@
--- Rounds that are made as their lines are typed: what stands between two of them.
+-- Rounds that are made as their lines are typed: what holds between two of them.
 use Rattle.std.proofs.Common.{ℕ, suc, ◌≡◌, ◌≢◌, ◌<◌, ◌≤◌, ◌+◌, ◌==◌, List, [], ◌∷◌, ◌++◌, length, slice_index_or, refl, sym, ◌∙◌, ap, subst, arith, append_assoc, append-nil, length-append, All, IfOk, Bool, true, false, true≢false, Option, Some, None, Result, Ok, Err, inl, inr}
 use Rattle.std.proofs.lemmas.Bool.{eqb-true}
 use Rattle.std.proofs.lemmas.List.Elements.{All-append}
@@ -176,7 +176,7 @@ module _ (n : ℕ) (typed : Texts) (before after : Count) (round : TypedRound) (
   told_all : ShownSince after.is_cut errors errors2 (told_typed 1 (typed ++ next.lines))
   told_all = subst (λ bytes. ShownSince after.is_cut errors errors2 bytes) (ap (λ k. told_typed 1 typed ++ told_typed k next.lines) place ∙ sym (told_append 1 typed next.lines)) (told_then before.is_cut after.is_cut errors errors1 errors2 (told_typed 1 typed) (told_typed (before.lines + 1) next.lines) first.told next.told)
 
-  -- and its events stand after those before
+  -- and its events come after those before
   pub events_all : events_typed 1 (typed ++ next.lines) ≡ events_typed 1 typed ++ round.events.items
   events_all = events_append 1 typed next.lines ∙ ap (λ k. events_typed 1 typed ++ events_typed k next.lines) now ∙ ap (λ es. events_typed 1 typed ++ es) (sym next.events)
 
@@ -270,7 +270,7 @@ nothing_in : (es : List Event) → (length es == 0) ≡ true → es ≡ []
 nothing_in [] empty = refl
 nothing_in (e ∷ es) empty = let none : length (e ∷ es) ≡ 0 = eqb-true (length (e ∷ es)) 0 empty in absurd (omega (arith, none))
 
--- What stands before a round's lines are typed: so many rounds were made, of the lines that were typed.
+-- What holds before a round's lines are typed: so many rounds were made, of the lines that were typed.
 pub record IsBetween (n : ℕ) (count : Count) (p : Operator) (cut : Bool) (m m1 : Machine) (s s1 : System) (lines lines1 : List Seen) (screens : List Screen) (out out1 : Seen) : Type 0 where
   pub typed : Texts
   pub types : IsTyped n typed count p

@@ -28,7 +28,7 @@ GoesOnShowing true cut' lines screens screens' out out' = (cut' ≡ true) × (sc
 GoesOnShowing false cut' lines screens screens' out out' = ShowsNews cut' lines screens screens' out out'
 
 -- Lines were typed, and the rounds that they make were made with their events; what lines say no event was told, and what the
--- terminals were shown was shown.
+-- terminals were shown was shown to the operator.
 pub record MakesTyped (most : ℕ) (went : Went) (p : Operator) (out out' : Seen) (m : Machine) (s : System) (lines : List Seen) (m' : Machine) (s' : System) (lines' : List Seen) : Type 0 where
   pub typed : List (List ℕ)
   pub ends : Ends went.is_broken most typed p.keys p.keys'

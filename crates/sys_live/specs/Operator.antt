@@ -3,7 +3,7 @@ use Rattle.std.specs.Prelude.{◌≡◌}
 use Rattle.vv_io.specs.Keys.{Keys}
 use Rattle.vv_io.specs.Lines.{Seen}
 
--- The operator's keyboard before and after a call, and where it is told which lines say no event.
+-- The operator's keyboard before and after a call, and the sink on which it is told which lines say no event.
 pub record Operator : Type 0 where
   pub keys : Keys
   pub keys' : Keys

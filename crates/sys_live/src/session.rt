@@ -114,8 +114,8 @@ fn make_typed<H: Hardware, K: Keyboard, E: Sink, O: Sink>(
     }
 }
 
-/// Brings power up as `run` does; makes at most so many rounds, each with the events of the lines that are typed for it, and puts
-/// what its terminals were shown on `out`; and brings power down as `run` does. An empty line ends a round's lines. Where no more
+/// Brings power up as `run` does. Makes at most so many rounds, each with the events of the lines that are typed for it, and puts
+/// what its terminals were shown on `out`. Brings power down as `run` does. An empty line ends a round's lines. Where no more
 /// lines come, the keyboard fails, or memory runs out for a line, the round is the last one in which an event is said, if one is.
 /// Lines that say no event are told on `errors` at once, and change nothing. All memory but that of events is taken before the
 /// first line. After a fault no line got a put, no drive a set, and no key was asked for.

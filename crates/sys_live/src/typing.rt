@@ -9,7 +9,7 @@ use sys_script::{Event, ScriptKind, TypedError, is_passed_over, kind_text, read_
 use vv_base::{NoMemory, Text, decimal};
 use vv_io::{KeyFault, Keyboard, Sink};
 
-/// How the typing stands after a round's lines.
+/// The state of the typing after a round's lines.
 #[derive(Clone, Copy, Debug, PartialEq, Eq)]
 pub enum Typing {
     /// An empty line ended the round.
@@ -57,7 +57,7 @@ fn tell<E: Sink>(count: &mut Count, kind: ScriptKind, errors: &mut E)
     }
 }
 
-/// Takes the last line, which isn't empty: what it says is one event more, or is told.
+/// Takes the last line, which isn't empty: what it says is one event more, or why it says none is told.
 fn take_line<E: Sink>(
     alloc: Global,
     round: u32,
@@ -121,7 +121,7 @@ pub fn read_round<K: Keyboard, E: Sink>(
     ended(events, Typing::Broken)
 }
 
-/// A round's events, and how the typing stands after them.
+/// A round's events, and the state of the typing after them.
 fn ended(events: Vec<Event>, typing: Typing) -> TypedRound
     ensures { result ≡ record { events = events; typing = typing } }
 {

@@ -1,4 +1,4 @@
--- Events, turns and transfers keep that no guest stands at two terminals, and that each runs or stands with a stop code.
+-- Events, turns and transfers keep that no guest is at two terminals, and that each runs or has stopped with a stop code.
 use Rattle.std.proofs.Common.{◌≡◌, ℕ, zero, suc, ◌==◌, List, [], ◌∷◌, map, Bool, false, refl, sym, ◌∙◌, arith, ◌<◌, Option, Some, None, slice_get, slice_set, slice_index_or, length}
 use Rattle.std.specs.Prelude.{cond, option_map}
 use Rattle.std.proofs.lemmas.Bool.{cond_both, eqb-true, eqb-false, ne_eqb}

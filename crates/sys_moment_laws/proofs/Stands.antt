@@ -1,4 +1,4 @@
--- Rounds keep how a system stands, and power-up makes it so.
+-- Rounds keep the rules of the seats and mounts and that each guest runs or has stopped, and power-up makes it so.
 use Rattle.std.proofs.Common.{◌≡◌, ℕ, zero, suc, ◌+◌, List, [], ◌∷◌, length, true, false, not, ◌&&◌, refl, subst, arith, All, Option, Some, None, slice_get}
 use Rattle.std.specs.List.{AllZip, list_any}
 use Rattle.std.proofs.lemmas.Bool.{and_from, and_parts, eq-eqb, false≢true, not-true, not_from_false, or_from, or_parts}
@@ -27,7 +27,7 @@ use Rattle.vm_state.specs.Stops.{IsHalt}
 same_itself : (a : AccessClass) → same_class a a ≡ true
 same_itself a = rw (eq-eqb a.secrecy a.secrecy refl, eq-eqb a.secrecy_cats a.secrecy_cats refl, eq-eqb a.integrity a.integrity refl, eq-eqb a.integrity_cats a.integrity_cats refl) refl
 
--- no guest sits twice
+-- no guest is at two terminals
 none_any : (o : Option ℕ) (os : List (Option ℕ)) → NoneIs (same_place o) os → list_any (same_place o) os ≡ false
 none_any o [] none = refl
 none_any o (p ∷ os) none = or_from (same_place o p) (list_any (same_place o) os) none.0 (none_any o os none.1)

@@ -1,4 +1,4 @@
--- What every state of a run keeps: no guest stands at two terminals, and each runs or stands with a stop code.
+-- What every state of a run keeps: no guest is at two terminals, and each runs or has stopped with a stop code.
 use Rattle.std.specs.Prelude.{ℕ, ◌≡◌, List, [], ◌∷◌, Bool, false, Option}
 use Rattle.sys_objects.specs.Rules.{same_place}
 use Rattle.sys_objects.specs.declared.records.Config.{Config}

@@ -1,4 +1,4 @@
--- What of a moment the rounds themselves keep: who sits where, what is mounted, and how the guests stand.
+-- What of a moment the rounds themselves keep: which guest each terminal has, what is mounted, and whether each guest runs.
 use Rattle.std.specs.Prelude.{ℕ, ◌≡◌, List, All, true}
 use Rattle.std.specs.List.{AllZip}
 use Rattle.sys_objects.specs.Condition.{IsConfig}
@@ -10,8 +10,8 @@ use Rattle.sys_snap.specs.Conditions.{may_all_sit}
 use Rattle.sys_snap.specs.Snap.{AreUnitsOf, IsMoment}
 use Rattle.vm_state.specs.Stops.{IsHalt}
 
--- each terminal has no guest or one of its class, and no guest sits twice; each guest has four units, with mounts that it
--- may have; each guest runs, or stands with a stop code
+-- each terminal has no guest or one of its class, and no guest is at two terminals; each guest has four units, with mounts
+-- that it may have; each guest runs, or has stopped with a stop code
 pub record StandsRight (c : Config) (s : State) : Type 0 where
   pub seated : may_all_sit c.guests c.terminals s.connected ≡ true
   pub mounted : AllZip (AreUnitsOf c.volumes) c.guests s.mounts

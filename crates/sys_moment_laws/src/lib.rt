@@ -4,13 +4,13 @@
 ghost use Rattle.sys_moment_laws.specs.Holds.{RoundsKeep, RunsKeep};
 ghost use Rattle.sys_moment_laws.specs.Stands.{MomentsStandRight, OpensRight, RoundsKeepRight, RunsStandRight};
 
-/// Rounds keep that no guest stands at two terminals, and that each runs or stands with a stop code.
+/// Rounds keep that no guest is at two terminals, and that each runs or has stopped with a stop code.
 pub fn rounds_keep_them()
     ensures rounds { RoundsKeep }
     ensures runs { RunsKeep }
 {}
 
-/// From any moment on, rounds keep the seats' and mounts' rules and that each guest runs or stands with a stop code.
+/// From any moment on, rounds keep the seats' and mounts' rules and that each guest runs or has stopped with a stop code.
 pub fn rounds_keep_a_moment_right()
     ensures rounds { RoundsKeepRight }
     ensures moments { MomentsStandRight }

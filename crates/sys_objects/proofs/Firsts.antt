@@ -13,7 +13,7 @@ passed : (b : Bool) (rest : Option ℕ) (place : ℕ) → (if b then rest else S
 passed true rest place e = (refl, e)
 passed false rest place e = cc
 
--- an element that is there does not depend on the default
+-- an element that exists does not depend on the default
 at_any : {A : Type 0} (xs : List A) (k : ℕ) (d e : A) → k < length xs → get_or xs k d ≡ get_or xs k e
 at_any [] k d e within = absurd (omega arith)
 at_any (x ∷ xs) zero d e within = refl

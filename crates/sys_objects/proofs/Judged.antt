@@ -1,4 +1,4 @@
--- What stands of a configuration that no rule on several entries refuses.
+-- What holds of a configuration that no rule on several entries refuses.
 use Rattle.std.proofs.Common.{◌≡◌, ◌≢◌, ◌≤◌, ◌<◌, ℕ, Bool, true, false, ◌&&◌, ◌==◌, List, [], length, take, get_or, bytes_eq, Option, Some, None, IfSome, All, sum_by, slice_get, refl, sym, ◌∙◌, arith}
 use Rattle.std.specs.List.{AllPairs, list_all}
 use Rattle.std.proofs.lemmas.Bool.{false≢true, eq-eqb}

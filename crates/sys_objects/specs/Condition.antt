@@ -71,7 +71,7 @@ pub record IsConfig (c : Config) : Type 0 where
   pub printers : All IsPrinter c.printers
   pub guests : All IsGuest c.guests
   pub audit : IfSome c.audit IsAudit
-  -- what stands once
+  -- what occurs once
   pub names : AllPairs (λ x y. x.name ≢ y.name) (objects_of c)
   pub lines : AllPairs (λ x y. x ≢ y) (lines_of c)
   pub drives : AllPairs (λ v w. v.drive ≢ w.drive) c.volumes

@@ -10,7 +10,7 @@ Reads seen (Ok x) defined = defined ≡ Ok (seen x)
 Reads seen (Err (Fault fault)) defined = defined ≡ Err fault
 Reads seen (Err NoMemory) defined = Unit {0}
 
--- the first fault stands
+-- the first fault counts
 infixl 10 ◌>>=◌
 abbrev pub ◌>>=◌ : {A B : Type 0} → Result A ConfigFault → (A → Result B ConfigFault) → Result B ConfigFault
 (Ok x) >>= f = f x

@@ -12,7 +12,7 @@ use Rattle.sys_objects.specs.declared.records.Terminal.{Terminal}
 use Rattle.sys_objects.specs.declared.records.VolumeRow.{VolumeRow}
 use Rattle.sys_objects.specs.declared.records.PrinterRow.{PrinterRow}
 
--- the place of the first for which a test fails, behind those that were seen
+-- the place of the first for which a test fails, after those that were seen
 abbrev pub first_broken : {A : Type 0} → (List A → A → Bool) → List A → List A → Option ℕ
 first_broken holds seen [] = None
 first_broken holds seen (x ∷ xs) = if holds seen x then first_broken holds (seen ++ x ∷ []) xs else Some (length seen)
@@ -41,7 +41,7 @@ audit_line (Some a) = a.line ∷ []
 abbrev pub lines_of : Config → List ℕ
 lines_of c = map (λ t. t.line) c.terminals ++ map (λ p. p.line) c.printers ++ filter_map (λ g. g.dump) c.guests ++ audit_line c.audit
 
--- a name, a line, a drive stands once
+-- a name, a line, a drive occurs once
 abbrev pub has_new_name : List Object → Object → Bool
 has_new_name seen x = not (list_any (λ y. bytes_eq x.name y.name) seen)
 

@@ -88,7 +88,7 @@ pub struct Mount {
     pub write: bool,
 }
 
-/// A guest. A console is a place among the terminals, a printer one among the printers, a dump a line; a mount stands
+/// A guest. A console is a place among the terminals, a printer one among the printers, a dump a line; a mount is
 /// at its unit.
 #[derive(Drop)]
 pub struct GuestRow {

@@ -174,7 +174,7 @@ fn is_named(seen: &[Object], x: &Object) -> bool
     seen.iter().any(|y| x.name.bytes() == y.name.bytes())
 }
 
-/// Rule 11: a name stands once.
+/// Rule 11: a name occurs once.
 #[derive(Clone, Copy)]
 pub struct NewName;
 
@@ -194,7 +194,7 @@ fn is_taken(seen: &[u8], x: u8) -> bool
     seen.iter().any(|y| x == *y)
 }
 
-/// Rule 12: a line stands once.
+/// Rule 12: a line occurs once.
 #[derive(Clone, Copy)]
 struct NewLine;
 
@@ -208,7 +208,7 @@ impl Rule<u8> for NewLine {
     }
 }
 
-/// The first line that stands before.
+/// The first line that comes before.
 pub fn bad_line(alloc: Global, c: &Config) -> Result<Option<usize>, NoMemory>
     requires { IsFew c.now }
     ensures within { IfOk result (λ place. IfSome place (λ i. i < 81)) }

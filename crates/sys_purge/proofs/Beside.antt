@@ -1,4 +1,4 @@
--- Lists that stand beside the rows, seen through what is kept of the rows.
+-- Lists that are beside the rows, seen through what is kept of the rows.
 use Rattle.std.proofs.Common.{◌≡◌, ℕ, zero, suc, List, [], ◌∷◌, map, Bool, true, false, refl, sym, ap, Some, slice_get, slice_set, slice_index_or}
 use Rattle.sys_purge.proofs.Kept.{both}
 use Rattle.sys_purge.specs.Input.{beside}

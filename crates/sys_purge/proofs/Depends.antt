@@ -60,7 +60,7 @@ module _ (c : Config) (to : AccessClass) where
       (λ i. ((terminals i ++ printers i) ++ dumps i) ++ audit i)
       ∙ sym (four ∙ (λ i. three i ++ filter flows (audit_device c.audit)) ∙ (λ i. (two i ++ filter flows (ds c)) ++ filter flows (audit_device c.audit)))
 
--- a device that flows into the class stands in both
+-- a device that flows into the class is in both
 in_both : (c e : Config) (to : AccessClass) → purge_config c to ≡ purge_config e to → (d : Device) → does_flow d.class to ≡ true → IsIn d (devices_of c) → IsIn d (devices_of e)
 in_both c e to same d flow h =
     let kept : IsIn d (filter (λ (x : Device). does_flow x.class to) (devices_of c)) = in_kept (λ (x : Device). does_flow x.class to) d flow (devices_of c) h in

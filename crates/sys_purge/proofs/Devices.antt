@@ -25,7 +25,7 @@ use Rattle.sys_purge.specs.Laws.{LineFlowsInto}
 use Rattle.sys_rounds.specs.Bytes.{Device, audit_device, devices_of, dump_device, printer_device, terminal_device}
 use Rattle.sys_rounds.specs.Places.{is_at}
 
--- the elements of a list in front of another, behind another, and those that are changed
+-- the elements of a list in front of another, after another, and those that are changed
 all_before : {A : Type 0} (P : A → Type 0) (xs ys : List A) → All P (xs ++ ys) → All P xs
 all_before P [] ys all = All-nil P
 all_before P (x ∷ xs) ys all = All-cons P x xs (All-head P x (xs ++ ys) all) (all_before P xs ys (All-tail P x (xs ++ ys) all))
@@ -137,7 +137,7 @@ module _ (c : Config) (is : IsConfig c) where
       let size : length (map line (devices_of c)) ≡ length (devices_of c) = length-map (devices_of c) line in
       apart i j 0 before (omega (arith, within, size)) (get_or-map line (devices_of c) i d 0 (omega (arith, before, within)) ∙ same ∙ sym (get_or-map line (devices_of c) j d 0 within))
 
-  -- a device's line flows into a class where the device does, since no other stands on the line
+  -- a device's line flows into a class where the device does, since no other is on the line
   abbrev device_at : Device → ℕ → Device
   device_at d k = get_or (devices_of c) k d
 

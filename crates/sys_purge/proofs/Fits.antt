@@ -56,7 +56,7 @@ all_get P [] k x all h = cc
 all_get P (y ∷ ys) zero x all h = let s : y ≡ x = cc in subst P s (All-head P y ys all)
 all_get P (y ∷ ys) (suc k) x all h = all_get P ys k x (All-tail P y ys all) h
 
--- a fact of each row and what stands beside it
+-- a fact of each row and what is beside it
 abbrev pub Pairs : {X Y : Type 0} → (X → Y → Type 0) → List X → List Y → Type 0
 Pairs P [] ys = Unit {0}
 Pairs P (x ∷ xs) [] = Unit {0}

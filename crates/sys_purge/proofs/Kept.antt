@@ -67,7 +67,7 @@ sum_kept f change test same (x ∷ xs) =
 pub few_kept : {A : Type 0} (test : A → Bool) (xs : List A) → length (filter test xs) ≤ length xs
 few_kept test xs = rw (length-filter test xs) (count_by-le-length test xs)
 
--- what is kept stands at its place among the kept
+-- what is kept is at its place among the kept
 pub get_kept : {A : Type 0} (test : A → Bool) (y : A) → test y ≡ true → (xs : List A) (k : ℕ) → slice_get xs k ≡ Some y → slice_get (filter test xs) (rank test xs k) ≡ Some y
 get_kept test y e [] k h = cc
 get_kept test y e (x ∷ xs) zero h = let s : x ≡ y = cc in let k : test x ≡ true = ap test s ∙ e in rw k h

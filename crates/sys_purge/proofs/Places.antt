@@ -6,7 +6,7 @@ use Rattle.sys_purge.proofs.Kept.{both, rank_apart}
 use Rattle.sys_purge.specs.Purge.{rank}
 use Rattle.sys_rounds.specs.Places.{place_of}
 
--- the elements stand in a list from a place on
+-- the elements are in a list from a place on
 abbrev pub StandFrom : {X : Type 0} → List X → ℕ → List X → Type 0
 StandFrom all i [] = Unit {0}
 StandFrom all i (x ∷ xs) = (slice_get all i ≡ Some x) × StandFrom all (suc i) xs
@@ -41,7 +41,7 @@ rank_same test x y p q zs j k at_x at_y = both (j == k)
     (λ e. eq-eqb _ _ (ap (rank test zs) (eqb-true j k e)) ∙ sym e)
     (λ e. ne_eqb _ _ (λ same. true≢false (sym (eq-eqb j k (rank_apart test x y p q zs j k at_x at_y same)) ∙ e)) ∙ sym e)
 
--- what stands at a place has the property
+-- what is at a place has the property
 abbrev pub StandsAt : {X : Type 0} → (X → Type 0) → List X → Option ℕ → Type 0
 StandsAt P xs None = Unit {0}
 StandsAt {X} P xs (Some k) = (x : X) × (slice_get xs k ≡ Some x) × P x

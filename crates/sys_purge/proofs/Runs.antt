@@ -60,7 +60,7 @@ module _ (c : Config) (to : AccessClass) where
   rounds_now i zero es s f = refl
   rounds_now i (suc n) es s f = ap (later (suc i) n es) (round_now i es s f) ∙ rounds_now (suc i) n es (round c i es s).now (fits_round i es s f)
 
-  -- what on the line stands flows into the class, and the configuration's rules
+  -- what is on the line flows into the class, and the configuration's rules hold
   pub record Heard (line : ℕ) : Type 0 where
     pub terminals : TerminalsFlow line to c.terminals
     pub printers : PrintersFlow line to c.printers

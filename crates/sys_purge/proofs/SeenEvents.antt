@@ -25,7 +25,7 @@ use Rattle.sys_script.specs.declared.event.Typed.{Typed}
 use Rattle.sys_script.specs.declared.event.Typed.TheVariants.{Break, Line}
 use Rattle.sys_server.specs.Verdict.{verdict_of}
 
--- what stands at the place that was found
+-- what is at the place that was found
 abbrev pub Found : {X : Type 0} → (X → Bool) → List X → Option ℕ → Type 0
 Found {X} p xs None = find p xs ≡ None
 Found {X} p xs (Some k) = (x : X) × (slice_get xs k ≡ Some x) × (find p xs ≡ Some x)

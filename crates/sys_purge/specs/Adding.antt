@@ -6,7 +6,7 @@ use Rattle.sys_objects.specs.declared.records.GuestRow.{GuestRow}
 use Rattle.sys_rounds.specs.Bytes.{devices_of, drive_blocks, line_bytes}
 use Rattle.sys_rounds.specs.Run.{Input}
 
--- one guest more, behind the others, with its image
+-- one guest more, after the others, with its image
 abbrev pub with_guest : Input → GuestRow → List ℕ → Input
 with_guest x row image = record x { config = record x.config { guests = x.config.guests ++ row ∷ [] }; images = x.images ++ image ∷ [] }
 

@@ -6,7 +6,7 @@ use Rattle.vv_class.specs.Class.{does_flow}
 use Rattle.sys_objects.specs.declared.records.Config.{Config}
 use Rattle.sys_script.specs.declared.event.Event.{Event}
 
--- an event at a terminal that isn't there is not kept
+-- an event at a terminal that doesn't exist is not kept
 abbrev pub is_kept_event : Config → AccessClass → Event → Bool
 is_kept_event c to e = option_map_or (λ t. does_flow t.class to) (find (λ t. bytes_eq t.name e.terminal) c.terminals) false
 

@@ -8,7 +8,7 @@ use Rattle.sys_purge.specs.Events.{purge_events}
 use Rattle.sys_purge.specs.Purge.{purge_config}
 use Rattle.sys_rounds.specs.Run.{Input}
 
--- what stands beside the rows that are kept
+-- what is beside the rows that are kept
 abbrev pub beside : {X Y : Type 0} → (X → Bool) → List X → List Y → List Y
 beside test [] ys = []
 beside test (x ∷ xs) [] = []

@@ -83,7 +83,7 @@ nothing : purge_config whole trusted ≡ record { slice = 3; audit = None; termi
 unfolding does_flow is_subset
 nothing = refl
 
--- a place of none is that behind the kept
+-- a place of none is that after the kept
 none_there : rank (λ (t : Terminal). does_flow t.class (level 0)) whole.terminals 7 ≡ 2
 unfolding does_flow is_subset
 none_there = refl

@@ -15,7 +15,7 @@ with_greatest = record { secrecy = 2; secrecy_cats = 2 ^ 63; integrity = 0; inte
 abbrev pub of_audit : AccessClass
 of_audit = record { secrecy = 9; secrecy_cats = 2 ^ 63; integrity = 1; integrity_cats = 0 }
 
--- Two terminals, a printer, a guest's dump and an audit, each of another class. The first guest has no dump, and a volume stands
+-- Two terminals, a printer, a guest's dump and an audit, each of another class. The first guest has no dump, and a volume is
 -- on a drive and on no line.
 abbrev pub offices : Config
 offices = config

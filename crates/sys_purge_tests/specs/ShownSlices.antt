@@ -33,11 +33,11 @@ three_slices = record { guest = 1; steps = 1 } ∷ record { guest = 0; steps = 4
 pub each_its_quantum : AreQuanta three_slices 0 both_there.config.guests
 each_its_quantum = (refl, (refl, tt))
 
--- where no guest stands nothing is shown, and no step is counted
+-- where there is no guest nothing is shown, and no step is counted
 pub no_guest : (shown_by (Some 0) 4 None ≡ []) × (tally_by 4 None ≡ no_steps)
 no_guest = (refl, refl)
 
--- the high guest branches to itself four times; the low one shows `A`, halts, and stands for two steps
+-- the high guest branches to itself four times; the low one shows `A`, halts, and is stopped for two steps
 pub steps_of_slices :
     ((slices_tally three_slices (first_state both_there.config both_there.images []).guests).plain ≡ 4)
     × ((slices_tally three_slices (first_state both_there.config both_there.images []).guests).sensitive ≡ 2)

@@ -1,4 +1,5 @@
--- Worked examples of HALT, by computation: a guest that runs stops with the operator's code and says so, one that stands stays.
+-- Worked examples of HALT, by computation: a guest that runs stops with the operator's code and says so, and one that has
+-- stopped stays so.
 use Rattle.std.specs.Prelude.{◌≡◌, [], codes, true, false, refl, Some, None}
 use Rattle.std.specs.Fmt.{digits}
 use Rattle.sys_rounds.specs.Guests.{commanded_to_stop, powered, stop_message}
@@ -6,7 +7,7 @@ use Rattle.sys_rounds.specs.ShownSetup.{guest}
 use Rattle.vm_state.specs.Start.{opening}
 use Rattle.vm_state.specs.State.{Guest}
 
--- a guest of one page at power-up, which runs or stands with code 00
+-- a guest of one page at power-up, which runs or has stopped with code 00
 abbrev pub running : Guest
 running = powered (guest (codes "A") 0 1 1 true None) []
 

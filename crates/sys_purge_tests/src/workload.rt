@@ -121,7 +121,7 @@ fn purged(alloc: Global, work: &Workload, to: &AccessClass) -> Result<Workload, 
     })
 }
 
-/// The lines of the terminal, the printer and the dump at a place, and the drive of the volume behind the first one.
+/// The lines of the terminal, the printer and the dump at a place, and the drive of the volume after the first one.
 fn numbers_at(left: &Config, place: usize) -> [Option<u8>; 4] {
     let terminal = left.terminals.as_slice().get(place);
     let printer = left.printers.as_slice().get(place);

@@ -15,7 +15,7 @@ line_of [] rest k d l = absurd (omega (arith, l))
 line_of (t ∷ ts) rest zero d l = refl
 line_of (t ∷ ts) rest (suc k) d l = line_of ts rest k d (omega (arith, l))
 
--- what stands behind the terminals' lines
+-- what follows the terminals' lines
 abbrev others : Config → List ℕ
 others c = map (λ (p : PrinterRow). p.line) c.printers ++ (filter_map (λ (g : GuestRow). g.dump) c.guests ++ audit_line c.audit)
 

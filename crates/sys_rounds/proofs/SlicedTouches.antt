@@ -60,7 +60,7 @@ slice_pairs x i k s (g ∷ gs) [] l = absurd (omega (arith, l))
 slice_pairs x i zero s (g ∷ gs) (t ∷ ts) l = let e : (i == x.guest) ≡ true = eq-eqb i x.guest (omega (arith, s)) in rw e (ap (λ us. touching_steps x.steps g t ∷ us) (untouched x (suc i) gs ts (omega (arith, s)) (omega (arith, l))))
 slice_pairs x i (suc k) s (g ∷ gs) (t ∷ ts) l = let e : (i == x.guest) ≡ false = ne_eqb i x.guest (λ q. omega (arith, s, q)) in rw e (ap (λ us. t ∷ us) (slice_pairs x (suc i) k (omega (arith, s)) gs ts (omega (arith, l))))
 
--- one slice, and those behind it
+-- one slice, and those after it
 pair_more : (x : Slice) (xs : List Slice) (i : ℕ) (g : Guest) (t : Touching) → after_pair xs i (one_at x i g) (one_pair x i g t) ≡ after_pair (x ∷ xs) i g t
 pair_more x xs i g t = both (i == x.guest)
     (λ e. (λ j. touching_steps (total xs i) (moves x i g e j) (if e j then touching_steps x.steps g t else t)) ∙ sym (touching_add x.steps (total xs i) g t) ∙ ap (λ n. touching_steps n g t) (sym (takes x xs i e)))

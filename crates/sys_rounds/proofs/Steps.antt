@@ -11,7 +11,7 @@ same_guest : (n : ℕ) (g : Guest) (x y : List ℕ) (t u : Tally) → (after_ste
 same_guest zero g x y t u = refl
 same_guest (suc n) g x y t u = same_guest n (step g).guest (x ++ (step g).shown) (y ++ (step g).shown) (tallied (step g).kind t) (tallied (step g).kind u)
 
--- what is shown stands behind what was shown before
+-- what is shown comes after what was shown before
 shown_behind : (n : ℕ) (g : Guest) (x : List ℕ) (t u : Tally) → (after_steps n (record { guest = g; shown = x; tally = t })).shown ≡ x ++ (after_steps n (record { guest = g; shown = []; tally = u })).shown
 shown_behind zero g x t u = sym (append-nil x)
 shown_behind (suc n) g x t u =

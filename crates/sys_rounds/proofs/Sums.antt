@@ -14,7 +14,7 @@ use Rattle.sys_rounds.proofs.Steps.{as_sum, tally_add, trail_fits}
 use Rattle.vm_state.specs.State.{Guest}
 use Rattle.vm_state.specs.Run.{Tally, no_steps}
 
--- the sum of what stands at each place, from the i-th on
+-- the sum of what is at each place, from the i-th on
 abbrev sum_at : {X : Type 0} → (ℕ → X → Tally) → ℕ → List X → Tally
 sum_at f i [] = no_steps
 sum_at f i (x ∷ xs) = added (f i x) (sum_at f (suc i) xs)

@@ -67,6 +67,6 @@ abbrev pub audit_device : Option Audit → List Device
 audit_device None = []
 audit_device (Some a) = record { line = a.line; class = a.class } ∷ []
 
--- the devices of a configuration that stand on lines, in the order in which lines are compared
+-- the devices of a configuration that are on lines, in the order in which lines are compared
 abbrev pub devices_of : Config → List Device
 devices_of c = map terminal_device c.terminals ++ map printer_device c.printers ++ filter_map dump_device c.guests ++ audit_device c.audit

@@ -41,7 +41,7 @@ abbrev pub slices_tally : List Slice → List Guest → Tally
 slices_tally [] gs = no_steps
 slices_tally (x ∷ xs) gs = added (tally_by x.steps (slice_get gs x.guest)) (slices_tally xs (changed (λ g. (alone x.steps g).guest) gs x.guest))
 
--- in so many rounds from the i-th on: each round's guests are those behind its events
+-- in so many rounds from the i-th on: each round's guests are those after its events
 abbrev pub rounds_tally : Config → ℕ → ℕ → List Event → State → Tally
 rounds_tally c i zero es s = no_steps
 rounds_tally c i (suc n) es s =
@@ -51,7 +51,7 @@ rounds_tally c i (suc n) es s =
 abbrev pub tally_from : Moment → List Event → ℕ → Tally
 tally_from m es n = rounds_tally m.config (m.made + 1) n es m.state
 
--- what a run has come to: where it led, what was shown, and the steps of all its rounds
+-- the outcome of a run: where it led, what was shown, and the steps of all its rounds
 pub record Outcome : Type 0 where
   pub went : Went State
   pub tally : Tally

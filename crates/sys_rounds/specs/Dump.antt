@@ -6,7 +6,7 @@ use Rattle.vv_base.specs.Digits.{hex_text}
 use Rattle.sys_server.specs.Replies.{with_line_end}
 use Rattle.vm_state.specs.State.{Guest}
 
--- `R0 XXXXXXXX`, and the registers behind it
+-- `R0 XXXXXXXX`, and the registers after it
 unfoldable pub register_line : ℕ → ℕ → List ℕ
 register_line n v = codes "R" ++ decimal n ++ codes " " ++ hex_text 8 v
 

@@ -40,7 +40,7 @@ guests_by c (MountAt g unit mount) gs = gs
 guests_by c (Dismount g unit) gs = gs
 guests_by c Show gs = gs
 
--- the state behind a granted command, at the terminal of a place
+-- the state after a granted command, at the terminal of a place
 abbrev pub obeyed : Config → State → ℕ → Command → State
 obeyed c s n command = record {
   connected = (applied (server_of s) n command).at;
@@ -95,7 +95,7 @@ puts_behind c s n BadCommand = []
 puts_behind c s n NoSuchObject = []
 puts_behind c s n (Denied rule) = []
 
--- each command is audited, behind its replies
+-- each command is audited, after its replies
 abbrev pub audit_puts : Option Audit → ℕ → Terminal → List ℕ → Verdict → List Put
 audit_puts None round t text v = []
 audit_puts (Some a) round t text v = record { line = a.line; bytes = audit_of round t text v } ∷ []
@@ -117,7 +117,7 @@ abbrev pub acted : Config → ℕ → State → ℕ → Terminal → Typed → W
 acted c round s n t Break = record { now = record s { connected = slice_set s.connected n None }; puts = said_on t.line server_text ∷ [] }
 acted c round s n t (Line text) = lined c round s n t text (slice_index_or s.connected n None)
 
--- an event of a terminal that isn't there has no effect
+-- an event of a terminal that doesn't exist has no effect
 abbrev pub at_row : Config → ℕ → State → ℕ → Option Terminal → Typed → Went State
 at_row c round s n None what = record { now = s; puts = [] }
 at_row c round s n (Some t) what = acted c round s n t what

@@ -51,7 +51,7 @@ starts_at c s (Some n) what = typing_starts c s n what
 abbrev pub event_starts : Config → State → Event → Option ℕ
 event_starts c s e = starts_at c s (place_of (is_named e.terminal) c.terminals) e.what
 
--- the touches behind a reset, where `guests` are those behind it
+-- the touches after a reset, where `guests` are those after it
 abbrev pub reset_as : Option Guest → Touching → Touching
 reset_as None t = t
 reset_as (Some g) t = record t { present = touching_reset g t.present }

@@ -1,4 +1,4 @@
--- What happens to a guest from without: a line is typed, a command starts or stops it, a transfer is made.
+-- What happens to a guest from outside: a line is typed, a command starts or stops it, a transfer is made.
 use Rattle.std.specs.Prelude.{ℕ, ◌*◌, true, List, [], ◌∷◌, ◌++◌, Some, drop, take, if◌then◌else◌}
 use Rattle.vv_base.specs.Bytes.{long_bytes, overwritten}
 use Rattle.sys_objects.specs.declared.records.GuestRow.{GuestRow}
@@ -14,7 +14,7 @@ use Rattle.vm_state.specs.Stops.{Commanded, stop_code, stop_text}
 abbrev pub alone : ℕ → Guest → Run
 alone n g = after_steps n (record { guest = g; shown = []; tally = no_steps })
 
--- a guest at power-up: its image lies in zero memory; it runs where its row says so, and else stands with code 00
+-- a guest at power-up: its image lies in zero memory; it runs where its row says so, and else it is stopped with code 00
 abbrev pub powered : GuestRow → List ℕ → Guest
 powered row image = record {
   memory = opening (512 * row.pages) row.load image;
@@ -26,7 +26,7 @@ abbrev pub all_typed : List ℕ → ConsoleState → ConsoleState
 all_typed [] console = console
 all_typed (b ∷ bs) console = all_typed bs (after_typed console b)
 
--- a line is typed, with a carriage return behind it
+-- a line is typed, with a carriage return after it
 abbrev pub typed : List ℕ → Guest → Guest
 typed text g = record g { state = record g.state { console = all_typed (text ++ 13 ∷ []) g.state.console } }
 
@@ -34,7 +34,7 @@ typed text g = record g { state = record g.state { console = all_typed (text ++ 
 abbrev pub reset : GuestRow → Guest → Guest
 reset row g = record g { state = started row.start row.modify_faults }
 
--- HALT: one that runs stops with the operator's code, and says so; one that stands stays
+-- HALT: one that runs stops with the operator's code, and says so; one that has stopped stays so
 abbrev pub commanded_to_stop : Guest → Guest
 commanded_to_stop g = if is_running g then record g { state = record g.state { halt = Some (stop_code Commanded) } } else g
 

@@ -1,4 +1,4 @@
--- Objects that stand beside the rows of a configuration, by their places.
+-- Objects that belong to the rows of a configuration, by their places.
 use Rattle.std.specs.Prelude.{ℕ, zero, suc, List, [], ◌∷◌, Bool, false, Option, None, Some, option_map, if◌then◌else◌, ◌==◌}
 
 -- whether it is place k
@@ -11,7 +11,7 @@ abbrev pub place_of : {X : Type 0} → (X → Bool) → List X → Option ℕ
 place_of p [] = None
 place_of p (x ∷ xs) = if p x then Some 0 else option_map suc (place_of p xs)
 
--- what stands beside each row
+-- what belongs to each row
 abbrev pub beside_with : {X Y Z : Type 0} → (X → Y → Z) → List X → List Y → List Z
 beside_with f [] ys = []
 beside_with f (x ∷ xs) [] = []

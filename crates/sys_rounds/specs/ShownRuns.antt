@@ -74,7 +74,7 @@ pub low_bytes :
 unfolding asked_in judged does_flow is_subset applied taken opening step executed instruction fetched decided decoded_at acted plan_of performed row_of operation_of operands_of operand_of read_operand address_of branch_operand branched value_size trap_operands operand_at specifier_at specifier_by after_tick due sensed register_of written walk_of lookup alu_of
 low_bytes = (refl, refl, refl)
 
--- in a round of four steps each: two sensitive ones of the low guest; the high guest stands from its event on
+-- in a round of four steps each: two sensitive ones of the low guest; the high guest is stopped from its event on
 pub counts :
     ((outcome both_there).tally.sensitive ≡ 2)
     × ((outcome both_there).tally.stopped ≡ 6)
@@ -89,7 +89,7 @@ pub in_slices :
 unfolding opening step executed instruction fetched decided decoded_at acted plan_of performed row_of operation_of operands_of operand_of read_operand address_of branch_operand branched value_size trap_operands operand_at specifier_at specifier_by after_tick due sensed register_of written walk_of lookup alu_of
 in_slices = refl
 
--- A guest of one page that was never started: its dump, on a line; a drive that a volume is on, and one that none is on.
+-- A guest of one page that was never started: its dump, on a line; a drive of a volume, and one that no volume has.
 abbrev never_started : Input
 never_started = record {
   config = config None [] (volume (codes "V") 3 0 ∷ []) [] (record (guest (codes "Z") 0 1 1 false None) { load = 0x10; dump = Some 7 } ∷ []);

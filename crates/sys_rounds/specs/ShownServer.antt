@@ -29,7 +29,7 @@ use Rattle.vm_state.specs.Step.{executed, step}
 use Rattle.vm_state.specs.Translation.{walk_of}
 
 -- A terminal and a guest of level 1, a volume above and one below, and an audit. A volume that isn't seen is as one that
--- isn't there, whatever is asked of it; a lower one may be read.
+-- doesn't exist, whatever is asked of it; a lower one may be read.
 abbrev pub mounts : Input
 mounts = record {
   config = config (audit 9 15) (terminal (codes "T1") 0 1 ∷ []) (volume (codes "SEC") 0 2 ∷ volume (codes "PUB") 1 0 ∷ []) [] (guest (codes "A") 1 1 1 false None ∷ []);

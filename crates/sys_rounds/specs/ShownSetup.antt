@@ -68,6 +68,6 @@ kcall packet = 0xda ∷ 0x8f ∷ long_bytes packet ++ 0x8f ∷ 0xc8 ∷ 0 ∷ 0 
 abbrev pub packet : ℕ → ℕ → ℕ → ℕ → ℕ → List ℕ
 packet function unit block buffer size = long_bytes function ++ long_bytes unit ++ long_bytes block ++ long_bytes buffer ++ long_bytes size ++ long_bytes 0
 
--- bytes and zeros behind them, so many in all
+-- bytes and zeros after them, so many in all
 abbrev pub filled : ℕ → List ℕ → List ℕ
 filled n bytes = bytes ++ replicate (n - length bytes) 0

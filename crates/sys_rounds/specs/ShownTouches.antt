@@ -55,7 +55,7 @@ probes = in_p0 0 0 (0x0c ∷ 0x00 ∷ 0x04 ∷ 0x61 ∷ [])
 pub touches :
     -- a loop that stores to a page that holds no table: its code's page and that one, once each
     ((touched 4 stores).count ≡ 2)
-    -- the same behind a reset: both are touched anew
+    -- the same after a reset: both are touched anew
     × ((touching_steps 2 stores (record { present = touching_reset stores (touched 2 stores).present; count = (touched 2 stores).count })).count ≡ 4)
     -- two contexts in turn, twice: the system page of the code once, and the page at 800 once in each
     × ((touched 10 turns_about).count ≡ 3)

@@ -52,7 +52,8 @@ pub later_writer :
 unfolding opening step executed instruction fetched decided decoded_at acted plan_of performed row_of operation_of operands_of operand_of read_operand address_of value_size trap_operands operand_at specifier_at specifier_by after_tick due sensed register_of written accepted walk_of lookup alu_of
 later_writer = (refl, refl, refl, refl)
 
--- Nine packets in one round, at 280 and each 20 behind: the ninth's status is 2 at once, the first eight move at the end.
+-- Nine packets in one round, at 280 and each 20 after the one before: the ninth's status is 2 at once, the first eight move
+-- at the end.
 -- They print one byte each, and there is no printer.
 -- a packet is followed by eight bytes
 abbrev long_zeros : List ℕ
@@ -95,7 +96,7 @@ unfolding opening step executed instruction fetched decided decoded_at acted pla
 prints = (refl, refl, refl, refl)
 
 -- Each status, in a memory of 1024 bytes, with a volume of one block mounted for reading at unit 1 and for writing at
--- unit 2. What stands earlier in the order of the tests counts.
+-- unit 2. What occurs earlier in the order of the tests counts.
 abbrev asked : ℕ → ℕ → ℕ → ℕ → ℕ → Packet
 asked function unit block buffer size = record { function = function; unit = unit; block = block; buffer = buffer; size = size }
 

@@ -1,6 +1,6 @@
 -- The transfers at the end of a round (profile): by guest in the configuration's order, by packet in the order of its
 -- queue. A packet is read when its turn comes, so what moved before may have changed it. Statuses: 1 moved, 2 the queue
--- was full, 3 nothing stands at the unit, 4 it is mounted for reading, 5 no such block, 6 not in memory, 7 no such function.
+-- was full, 3 nothing is at the unit, 4 it is mounted for reading, 5 no such block, 6 not in memory, 7 no such function.
 use Rattle.std.specs.Prelude.{ℕ, ◌+◌, Bool, true, false, ◌&&◌, ◌==◌, not, nat_le, nat_lt, if◌then◌else◌, List, [], ◌∷◌, ◌++◌, length, Option, Some, None, slice_get, slice_index_or}
 use Rattle.vv_base.specs.Bytes.{long_at}
 use Rattle.sys_objects.specs.declared.records.Config.{Config}
@@ -41,7 +41,7 @@ pub data Move : Type 0 where
 abbrev pub done_status : ℕ
 done_status = 1
 
--- Reading and writing: nothing stands at the unit; the mount is not for writing; the volume has no such block; the
+-- Reading and writing: nothing is at the unit; the mount is not for writing; the volume has no such block; the
 -- buffer isn't all in memory. The first that applies.
 abbrev pub refused_block : ℕ → List (List (List ℕ)) → Mount → (writes : Bool) → Packet → Option ℕ
 refused_block space volumes m writes p =
@@ -65,7 +65,7 @@ to_write space volumes (Some m) p = unless_refused (refused_block space volumes 
 abbrev pub to_print : ℕ → Packet → Move
 to_print space p = if nat_lt 132 p.size then Refused 6 else if is_past space p.buffer p.size then Refused 6 else Prints
 
--- by the packet's function, where the mounts stand by their units
+-- by the packet's function, where the mounts are listed by their units
 abbrev pub move_of : ℕ → List (List (List ℕ)) → List (Option Mount) → Packet → Move
 move_of space volumes mounts p =
     if p.function == 1 then to_read space volumes (slice_index_or mounts p.unit None) p else
@@ -119,7 +119,7 @@ pub record AllServed : Type 0 where
   pub volumes : List (List (List ℕ))
   pub puts : List Put
 
--- guest by guest, whether it runs or stands; no packet waits afterwards
+-- guest by guest, whether it runs or has stopped; no packet waits afterwards
 abbrev pub all_served : Config → List GuestRow → List (List (Option Mount)) → List Guest → List (List (List ℕ)) → AllServed
 all_served c [] mounts guests volumes = record { guests = []; volumes = volumes; puts = [] }
 all_served c (row ∷ rows) [] guests volumes = record { guests = []; volumes = volumes; puts = [] }

@@ -48,11 +48,11 @@ touched_in c i s ts es =
     touches_of_transfers c c.guests turned.mounts turned.guests turned.volumes
     (touches_of_turns c.guests begun.guests (touches_of_events c i s es ts))
 
--- one behind another
+-- one after another
 abbrev joined : Went State → Went State → Went State
 joined a b = record { now = b.now; puts = a.puts ++ b.puts }
 
--- one round more is made behind the others
+-- one round more is made after the others
 pub rounds_more : (c : Config) (i n : ℕ) (es : List Event) (s : State) → rounds c i (suc n) es s ≡ joined (rounds c i n es s) (round c (i + n) es (rounds c i n es s).now)
 rounds_more c i zero es s =
     let same : i + 0 ≡ i = omega arith in

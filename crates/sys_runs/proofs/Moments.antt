@@ -1,4 +1,4 @@
--- A system between two rounds stands at a moment that can be written out.
+-- A system between two rounds is at a moment that can be written out.
 use Rattle.std.proofs.Common.{ℕ, ◌≡◌, ◌≤◌, ◌+◌, ◌*◌, List, [], ◌∷◌, length, map, drop, slice_index, ◌∙◌, ap, subst, arith, All}
 use Rattle.std.proofs.lemmas.List.Elements.{All-head, All-tail}
 use Rattle.std.specs.List.{AllZip, sum_by}

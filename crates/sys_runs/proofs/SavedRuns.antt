@@ -40,7 +40,7 @@ module _ (c : Config) (images : List (List ℕ)) (es : List Event) (n : ℕ) (m0
   abbrev x : Input
   x = record { config = c; images = images; volumes = p.volumes; events = es; rounds = n }
 
-  -- the system stands at the last moment then
+  -- the system is at the last moment then
   at : moment_of m2.memory s1 ≡ moment_after m es n
   at = after m es n m0 m1 m2 s0 s1 lines lines1 p.powered alone r
 

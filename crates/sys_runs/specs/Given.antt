@@ -1,4 +1,4 @@
--- A run over given volumes, which stand in for the drives.
+-- A run over given volumes, which take the place of the drives.
 use Rattle.std.specs.Prelude.{ℕ, ◌≡◌, ◌≤◌, ◌*◌, List, [], length, Bool}
 use Rattle.std.specs.declared.option.Option.TheVariants.{None, Some}
 use Rattle.std.specs.declared.result.Result.{Result}

@@ -25,7 +25,7 @@ use Rattle.sys_system.specs.declared.power.PowerFault.TheVariants.{Image, Volume
 use Rattle.vm_fitting.specs.Paid.{Misses}
 use Rattle.vm_stepping.specs.Made.{steps_in, tally_of}
 
--- the outside of a run, before it and behind it: the machine, the lines and the drives
+-- the outside of a run, before it and after it: the machine, the lines and the drives
 pub record Outside : Type 0 where
   pub machine : Machine
   pub machine' : Machine

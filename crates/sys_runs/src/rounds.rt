@@ -19,7 +19,7 @@ fn count_up_to(events: &[Event], round: u32) -> usize
         .count()
 }
 
-/// The events that stand after the first ones of rounds up to this one.
+/// The events that come after the first ones of rounds up to this one.
 fn later_than(events: &[Event], round: u32) -> &[Event]
     ensures { result.now ≡ drop (length (take_while (λ e. nat_le e.round round) events.now)) events.now }
 {

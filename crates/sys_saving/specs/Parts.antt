@@ -6,7 +6,7 @@ use Rattle.sys_snap.specs.Written.{guest_bytes, mount_bytes, snap_head}
 use Rattle.std.specs.declared.option.Option.{Option}
 use Rattle.vm_state.specs.State.{Guest}
 
--- what stands before the state: what the bytes are, the configuration's text with its length, and the rounds that were made
+-- what comes before the state: what the bytes are, the configuration's text with its length, and the rounds that were made
 abbrev pub head_bytes : List ℕ → ℕ → List ℕ
 head_bytes text made = snap_head ++ (long_bytes (length text) ++ (text ++ long_bytes made))
 

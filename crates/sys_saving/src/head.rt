@@ -22,7 +22,7 @@ fn put_long<O: Sink>(out: &mut O, v: u32) -> Result<(), SinkFault>
     put(out, &bytes)
 }
 
-/// Shows what stands before the state: what the bytes are, the text of the configuration with its length, and how many
+/// Shows what comes before the state: what the bytes are, the text of the configuration with its length, and how many
 /// rounds were made.
 pub fn put_head<O: Sink>(out: &mut O, text: &[u8], made: u32) -> Result<(), SinkFault>
     requires { length text.now ≤ 262144 }

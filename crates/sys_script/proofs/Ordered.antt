@@ -15,7 +15,7 @@ use Rattle.sys_script.specs.declared.event.ScriptKind.{ScriptKind}
 use Rattle.sys_script.specs.declared.event.ScriptKind.TheVariants.{BadRound, BadName, BadEvent, BadText, RoundFalls}
 use Rattle.sys_script.specs.declared.event.Typed.{Typed}
 
--- a value behind a test
+-- where a choice by a test gives a value, the test passes
 pub passed : {A : Type 0} (test : Bool) (x y : A) → (if test then Some x else None) ≡ Some y → (test ≡ true) × (x ≡ y)
 passed true x y is = (refl, cc)
 passed false x y is = (cc, cc)

@@ -11,7 +11,7 @@ use Rattle.sys_script.specs.declared.event.ScriptKind.TheVariants.{BadRound, Bad
 use Rattle.sys_script.specs.declared.event.Typed.{Typed}
 use Rattle.sys_script.specs.declared.event.Typed.TheVariants.{Break, Line}
 
--- up to the first blank (32), and behind it; with no blank that is all, and nothing
+-- up to the first blank (32), and after it; with no blank that is all, and nothing
 abbrev pub front : List ℕ → List ℕ
 front text = before_first (λ b. b == 32) text
 
@@ -26,7 +26,7 @@ at_least_one (Some n) = if nat_le 1 n then Some n else None
 abbrev pub round_in : List ℕ → Option ℕ
 round_in text = at_least_one (decimal_of text 1000000)
 
--- what happens at the terminal: a break, or a line typed behind the sign
+-- what happens at the terminal: a break, or a line typed after the sign
 abbrev pub what_in : List ℕ → Option Typed
 what_in text =
     if bytes_eq text (codes "break") then Some Break else

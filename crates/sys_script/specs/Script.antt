@@ -20,7 +20,7 @@ at_line number (Err kind) = Err (record { line = number; kind = kind })
 abbrev pub in_front : Event → Result (List Event) ScriptFault → Result (List Event) ScriptFault
 in_front event events = events >>= λ more. Ok (event ∷ more)
 
--- the events of lines that are numbered from `number` on, behind an event of the round `last`; or the
+-- the events of lines that are numbered from `number` on, after an event of the round `last`; or the
 -- first line that is refused, and why
 abbrev pub events_from : ℕ → ℕ → List (List ℕ) → Result (List Event) ScriptFault
 events_from number last [] = Ok []

@@ -27,12 +27,12 @@ pub events_in_order : script_of (codes "# comment\n\n3 T1 > SHOW\n3 T2 break\n")
 unfolding script_of event_in
 events_in_order = refl
 
--- with and without a blank behind the sign
+-- with and without a blank after the sign
 pub empty_texts : script_of (codes "1 T1 >\n1 T1 > \n") ≡ Ok (record { round = 1; terminal = codes "T1"; what = Line [] } ∷ record { round = 1; terminal = codes "T1"; what = Line [] } ∷ [])
 unfolding script_of event_in
 empty_texts = refl
 
--- the blanks behind the first are part of the text
+-- the blanks after the first are part of the text
 pub blanks_are_typed : script_of (codes "1 T1 >  A ") ≡ Ok (record { round = 1; terminal = codes "T1"; what = Line (codes " A ") } ∷ [])
 unfolding script_of event_in
 blanks_are_typed = refl

@@ -31,7 +31,7 @@ fn find_blank(text: &[u8]) -> Option<usize>
     text.iter().position(|b| *b == b' ')
 }
 
-/// What stands up to the first blank, and behind it.
+/// What comes up to the first blank, and after it.
 fn cut(text: &[u8]) -> (&[u8], &[u8])
     ensures before { result.0.now ≡ front text.now }
     ensures after { result.1.now ≡ behind text.now }

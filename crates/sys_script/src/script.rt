@@ -27,7 +27,7 @@ fn without_return(line: &[u8]) -> &[u8]
     }
 }
 
-/// The first line, without its end, and what stands behind it.
+/// The first line, without its end, and what follows it.
 fn next_line(text: &[u8]) -> Option<(&[u8], &[u8])>
     ensures first { lines text.now ≡ option_map_or (λ p. p.0.now ∷ lines p.1.now) result [] }
     ensures shorter { IfSome result (λ p. length p.1.now < length text.now) }

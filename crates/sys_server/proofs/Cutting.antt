@@ -27,7 +27,7 @@ word_without_blank text is =
     let all : length text ≤ position_or_len (λ b. b == 32) text = ltb-false _ _ beyond in
     slice_split_none (λ b. b == 32) text (All-from_get_or (λ b. (b == 32) ≡ false) text 0 (λ i below. fails_before_first (λ b. b == 32) text i 0 (omega (arith, below, all))))
 
--- a word behind the access
+-- a word after the access
 too_many_of : (verb vm : List ℕ) (unit : ℕ) (volume access : List ℕ) (ws : List (List ℕ)) (n : ℕ) → length ws ≡ n + 1 → behind_unit verb vm (Some unit) (volume ∷ access ∷ ws) ≡ None
 too_many_of verb vm unit volume access [] n h = absurd (omega arith)
 too_many_of verb vm unit volume access (w ∷ ws) n h = refl

@@ -13,7 +13,7 @@ abbrev pub is_guest : ℕ → Option ℕ → Bool
 is_guest g None = false
 is_guest g (Some h) = h == g
 
--- a terminal that had the guest is back with the server
+-- a terminal that had the guest is with the server again
 abbrev pub freed : ℕ → Option ℕ → Option ℕ
 freed g place = if is_guest g place then None else place
 

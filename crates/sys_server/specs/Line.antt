@@ -44,7 +44,7 @@ Asks text asked = IsAsked asked × (text ≡ join_with_byte 32 (words_of asked))
 abbrev pub words : List ℕ → List (List ℕ)
 words text = slice_split (λ b. b == 32) text
 
--- the words behind a blank, where there is one
+-- the words after a blank, where there is one
 abbrev pub rest_words : Option (List ℕ) → List (List ℕ)
 rest_words None = []
 rest_words (Some rest) = words rest

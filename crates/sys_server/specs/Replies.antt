@@ -38,7 +38,7 @@ abbrev pub running_text : Bool → List ℕ
 running_text true = codes " RUNNING"
 running_text false = codes " STOPPED"
 
--- a line for each guest that the class sees, where `running` stands beside the guests
+-- a line for each guest that the class sees, where `running` is beside the guests
 abbrev pub guest_lines : AccessClass → List GuestRow → List Bool → List (List ℕ)
 guest_lines class [] running = []
 guest_lines class (g ∷ guests) [] = []

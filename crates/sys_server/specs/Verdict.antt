@@ -1,5 +1,5 @@
 -- What the server answers to a line (profile): the first case that applies. A terminal sees the objects whose class
--- flows into its own; to it others are as those that aren't there.
+-- flows into its own; others are to it as those that don't exist.
 use Rattle.std.specs.Prelude.{ℕ, List, [], Bool, not, ◌&&◌, Option, None, Some, position, slice_get, slice_index_or, bytes_eq, if◌then◌else◌}
 use Rattle.vv_class.specs.declared.class.AccessClass.{AccessClass}
 use Rattle.vv_class.specs.Class.{does_flow}
@@ -47,7 +47,7 @@ on_mount c class (Some g) unit (Some v) write =
     on_rows class write (slice_get c.guests g) (slice_get c.volumes v) (to.MountAt g unit (record { volume = v; write = write }))
 on_mount c class _ unit _ write = NoSuchObject
 
--- what stands at a guest's unit
+-- what is at a guest's unit
 abbrev pub mount_at : ServerState → ℕ → ℕ → Option Mounted
 mount_at s g unit = slice_index_or (slice_index_or s.mounts g []) unit None
 

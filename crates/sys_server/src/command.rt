@@ -22,9 +22,9 @@ pub enum Command {
     Start(u8),
     /// The guest is stopped.
     Halt(u8),
-    /// The mount stands at the guest's unit.
+    /// The mount is at the guest's unit.
     MountAt(u8, u8, Mount),
-    /// Nothing stands at the guest's unit.
+    /// Nothing is at the guest's unit.
     Dismount(u8, u8),
     /// The visible objects are listed.
     Show,

@@ -15,7 +15,7 @@ fn freed(place: Option<u8>, g: u8) -> Option<u8>
     if is_guest(place, g) { None } else { place }
 }
 
-/// Each terminal that had the guest is back with the server.
+/// Each terminal that had the guest is with the server again.
 fn free(at: &mut [Option<u8>; 32], g: u8)
     ensures { at.new ≡ map (freed g) at.old }
 {

@@ -21,7 +21,7 @@ fn find_blank(text: &[u8]) -> Option<usize>
     text.iter().position(|b| *b == b' ')
 }
 
-/// The first word, and what stands behind the blank that follows it.
+/// The first word, and what comes after the blank that follows it.
 fn cut(text: &[u8]) -> (&[u8], Option<&[u8]>)
     ensures { words text.now ≡ result.0.now ∷ rest_words (option_copied result.1) }
 {

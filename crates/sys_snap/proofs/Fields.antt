@@ -20,7 +20,7 @@ rest_at at bytes = record { at = at; bytes = bytes }
 abbrev pub got : {A : Type 0} → A → ℕ → List ℕ → Result (Got A) SnapFault
 got value at bytes = Ok (record { value = value; rest = rest_at at bytes })
 
--- bytes that are read as a value, wherever they stand and whatever follows
+-- bytes that are read as a value, wherever they are and whatever follows
 pub record ReadsAs {A : Type 0} (p : Reading A) (w : List ℕ) (value : A) : Type 0 where
   pub reads : (at : ℕ) (rest : List ℕ) → p (rest_at at (w ++ rest)) ≡ got value (at + length w) rest
 
@@ -86,7 +86,7 @@ pub reads_longs : (k : ℕ) (ns : List ℕ) → length ns ≡ k → ReadsAs (lon
 unfolding longs_in
 reads_longs k ns h = times_longs k ns h
 
--- bytes that wait, and zeros behind them
+-- bytes that wait, and zeros after them
 padded : (n k : ℕ) → list_all (λ b. b == 0) (replicate k 0) ≡ true
 padded n zero = refl
 padded n (suc k) = padded n k
@@ -102,7 +102,7 @@ reads_waiting w few =
     let long : length (w ++ replicate (256 - length w) 0) ≡ 256 = omega (arith, length-append w (replicate (256 - length w) 0), length-replicate {A = ℕ} (256 - length w) 0, few) in
     reads_field 256 (waiting_in (length w)) (w ++ replicate (256 - length w) 0) w long (waiting_means w (256 - length w))
 
--- packets that wait, and zeros behind them
+-- packets that wait, and zeros after them
 no_packets : (size places : ℕ) → ReadsAs (packets_in size 0 places) (replicate (4 * places) 0) []
 no_packets size zero = reads_none []
 no_packets size (suc places) =

@@ -1,4 +1,4 @@
--- Readings of several, one after another, as a loop makes them: those that were read stand in front of what is still read.
+-- Readings of several, one after another, as a loop makes them: those that were read are in front of what is still read.
 use Rattle.std.proofs.Common.{◌≡◌, ℕ, suc, ◌+◌, ◌<◌, List, [], ◌∷◌, ◌++◌, length, drop, get_or, sym, refl, ap, ◌∙◌, arith, append_assoc, append-nil}
 use Rattle.std.specs.Prelude.{Result, Ok, Err}
 use Rattle.std.proofs.lemmas.List.{at_drop_more, at_drop_all}

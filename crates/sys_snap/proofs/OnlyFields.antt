@@ -63,7 +63,7 @@ last_took f V U bytes last (Ok g) t = record { taken = t.taken; is = t.is; means
 pub gives_last : {A B : Type 0} (p : Reading A) (f : A → B) (write : A → List ℕ) (R : A → Type 0) (U : List ℕ → B → Type 0) → Gives p (By write R) → ((x : A) → R x → U (write x) (f x)) → Gives (p >>= λ y. done (f y)) U
 gives_last p f write R U first last = record { gives = λ r are. last_took f (By write R) U r.bytes (λ x v h. subst (λ bs. U bs (f x)) (sym h.0) (last x h.1)) (p r) (first.gives r are) }
 
--- the same, seen otherwise
+-- the same, in another form
 weaker_took : {A : Type 0} (V U : List ℕ → A → Type 0) (bytes : List ℕ) → ((x : A) (v : List ℕ) → V v x → U v x) → (q : Result (Got A) SnapFault) → IfOk q (Took V bytes) → IfOk q (Took U bytes)
 weaker_took V U bytes so (Err e) t = tt
 weaker_took V U bytes so (Ok g) t = record { taken = t.taken; is = t.is; means = so g.value t.taken t.means }

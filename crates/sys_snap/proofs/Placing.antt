@@ -20,7 +20,7 @@ use Rattle.sys_snap.specs.declared.fault.SnapError.TheVariants.{Fault, NoMemory}
 use Rattle.sys_snap.specs.declared.snap.GuestSnap.{GuestSnap}
 use Rattle.vm_state.specs.State.{HasPlace}
 
--- the next that was read, seen as it is defined, after those before it
+-- the next that was read, as it is defined, after those before it
 pub seen_more : {A B C : Type 0} (p : A → Reading B) (seen : C → B) (xs : List A) (i : ℕ) (x : A) (cs cs' : List C) (c : C) (r r' : Rest) → i < length xs → x ≡ get_or xs i x → cs' ≡ cs ++ c ∷ [] → p x r ≡ got (seen c) r' → after_front (map seen cs) (each p (drop i xs) r) ≡ after_front (map seen cs') (each p (drop (i + 1) xs) r')
 seen_more p seen xs i x cs cs' c r r' inside is pushed read =
     each_more p (map seen cs) xs i x (seen c) r r' inside is read

@@ -39,7 +39,7 @@ abbrev pub may_sit : List GuestRow → Terminal → Option ℕ → Bool
 may_sit rows t None = true
 may_sit rows t (Some g) = is_of_class t (slice_get rows g)
 
--- each terminal's, and no guest stands twice
+-- each terminal's, and no guest occurs twice
 abbrev pub may_all_sit : List GuestRow → List Terminal → List (Option ℕ) → Bool
 may_all_sit rows [] [] = true
 may_all_sit rows [] (seat ∷ seats) = false

@@ -1,4 +1,4 @@
--- The same as a reading that computes: field by field, each with what it allows behind those before it.
+-- The same as a reading that computes: field by field, each with what it allows after those before it.
 use Rattle.std.specs.Prelude.{ℕ, zero, suc, ◌*◌, ◌==◌, ◌&&◌, ◌||◌, nat_le, nat_lt, not, Bool, true, false, bytes_eq, if◌then◌else◌, List, [], ◌∷◌, length, map, take, drop, slice_index, Option, Some, None, Result, Ok, Err}
 use Rattle.std.specs.List.{list_all}
 use Rattle.vm_clock.specs.Clock.{ClockState, is_set}
@@ -85,7 +85,7 @@ clock_in =
     flag (needs (is_set iccs 6)) >>= λ request.
     done (clocks.state_of (record { iccs = iccs; nicr = nicr; icr = icr; request = request }))
 
--- a receive request needs a byte that waits; it stands before their count, so the count is refused
+-- a receive request needs a byte that waits; it comes before their count, so the count is refused
 abbrev pub is_count : Bool → ℕ → Bool
 is_count request n = nat_le n 256 && (not request || nat_lt 0 n)
 

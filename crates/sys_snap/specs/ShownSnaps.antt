@@ -1,4 +1,4 @@
--- Worked examples of whole snapshots, checked by computation: of a configuration without guests and volumes, behind two rounds.
+-- Worked examples of whole snapshots, checked by computation: of a configuration without guests and volumes, after two rounds.
 use Rattle.std.specs.Prelude.{◌≡◌, ℕ, List, [], ◌∷◌, ◌++◌, codes, length, take, drop, replicate, None, Ok, Err, refl}
 use Rattle.std.specs.Str.{is_utf8, chars}
 use Rattle.toml.proofs.OnLiterals.{toml_on_literals}

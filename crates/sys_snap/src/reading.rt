@@ -59,7 +59,7 @@ fn round(r: &mut Cursor) -> Result<u32, SnapFault>
     Ok(round)
 }
 
-/// The configuration for which a text of so many bytes stands.
+/// The configuration that a text of so many bytes stands for.
 fn configuration(alloc: Global, r: &mut Cursor, length: u32) -> Result<Config, SnapError>
     ensures reads { ReadsOrLacks (λ c. c) (field length (λ text. accepted (config_of text))) r.old r.new result }
     ensures is { IfOk result (λ c. IsConfig c) }

@@ -51,7 +51,7 @@ fn is_among(seat: Option<u8>, seats: &[Option<u8>]) -> bool
     seats.iter().any(|other| same_place(seat, *other))
 }
 
-/// Whether each terminal's guest is of its class, and none stands twice.
+/// Whether each terminal's guest is of its class, and none occurs twice.
 fn may_all_sit(rows: &[GuestRow], terminals: &[Terminal], seats: &[Option<u8>]) -> bool
     requires { length seats.now ≡ length terminals.now }
     ensures { result ≡ may_all_sit rows.now terminals.now seats.now }

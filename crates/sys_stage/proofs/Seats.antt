@@ -1,4 +1,4 @@
--- Slices of guests that there are.
+-- Slices of guests that exist.
 use Rattle.std.proofs.Common.{ℕ, ◌≡◌, ◌<◌, List, length, All, subst, sym}
 use Rattle.sys_guests.proofs.LaidOut.{placed_long}
 use Rattle.sys_guests.specs.Layout.{AreInMachine}

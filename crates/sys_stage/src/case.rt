@@ -9,11 +9,11 @@ pub enum Shown {
     Each(&'static [&'static str]),
 }
 
-/// A configuration, images, drives and a script, and what their rounds come to.
+/// A configuration, images, drives and a script, and the outcome of their rounds.
 #[derive(Clone, Copy)]
 pub struct Case {
     pub name: &'static str,
-    /// The configuration's text behind its version, which is 2, and its slice.
+    /// The configuration's text after its version, which is 2, and its slice.
     pub config: &'static str,
     /// By guest the image, from its place of loading on.
     pub images: &'static [Content],
@@ -23,7 +23,7 @@ pub struct Case {
     pub rounds: u32,
     /// Lines by their numbers; each other line shows nothing.
     pub lines: &'static [(u8, Shown)],
-    /// Drives that are changed, with what they keep behind the rounds.
+    /// Drives that are changed, with what they keep after the rounds.
     pub stored: &'static [(u8, &'static [Content])],
     /// Plain, sensitive, faults, interrupts, modify, idle and stopped steps.
     pub kinds: Kinds,
@@ -42,7 +42,7 @@ pub const CASE: Case = Case {
     kinds: [0; 7],
 };
 
-/// What stands beside a number in a list, if it stands there.
+/// What is beside a number in a list, if it is there.
 pub fn beside<T: Copy + Drop>(list: &[(u8, T)], number: u8) -> Option<T> {
     for (n, what) in list {
         if *n == number {
@@ -73,17 +73,17 @@ impl Case {
             .unwrap_or(&[])
     }
 
-    /// The first line that isn't as told.
+    /// The first line that doesn't show what it is to show.
     fn other_line(&self, outcome: &Outcome) -> Option<u8> {
         (0..32u8).find(|line| !is_shown(outcome.text_on(*line), self.wanted_on(*line)))
     }
 
-    /// The first drive that isn't as told.
+    /// The first drive that doesn't keep what it is to keep.
     fn other_drive(&self, outcome: &Outcome) -> Option<u8> {
         (0..16u8).find(|drive| !outcome.keeps(*drive, self.wanted_in(*drive)))
     }
 
-    /// What isn't as told, if anything. Nothing is promised of it.
+    /// The first difference from what a case says, if there is one. Nothing is promised of it.
     pub fn difference(&self, outcome: &Outcome) -> Option<Difference> {
         let ending = &outcome.ending;
         if ending.failed.is_some() {

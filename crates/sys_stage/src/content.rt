@@ -1,14 +1,14 @@
 use std::alloc::Global;
 use vv_base::NoMemory;
 
-/// What stands at a place.
+/// What is at a place.
 #[derive(Clone, Copy)]
 pub enum Piece {
     Bytes(&'static [u8]),
     Longs(&'static [u32]),
 }
 
-/// Pieces by their places, over zeros; a later one stands over an earlier one.
+/// Pieces by their places, over zeros; a later one overwrites an earlier one.
 pub type Content = &'static [(usize, Piece)];
 
 /// Puts bytes at a place, as far as they fit.

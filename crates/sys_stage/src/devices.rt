@@ -23,7 +23,7 @@ fn drive_of(alloc: Global, blocks: &[Content]) -> Result<MemDrive, NoMemory> {
     Ok(MemDrive::new(list, Vec::new(alloc)))
 }
 
-/// Plays a case on lines and drives in memory. Nothing is promised of what it tells.
+/// Plays a case on lines and drives in memory. Nothing is promised of what it answers.
 pub fn play<H: Hardware>(
     alloc: Global,
     machine: &mut H,

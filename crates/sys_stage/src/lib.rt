@@ -1,5 +1,5 @@
-//! A system on a machine, for worked examples: cases that are told as data, played on lines and drives in memory, and compared. What is
-//! told of a case is promised by no clause: the tests that use it look at it.
+//! A system on a machine, for worked examples: cases that are written as data, played on lines and drives in memory, and
+//! compared. What is answered of a case is promised by no clause: the tests that use it look at it.
 #![tactic(auto)]
 
 mod case;

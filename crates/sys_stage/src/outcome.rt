@@ -31,7 +31,7 @@ impl Ending {
     }
 }
 
-/// What a run came to.
+/// The outcome of a run.
 #[derive(Drop)]
 pub struct Outcome {
     pub ending: Ending,
@@ -41,7 +41,7 @@ pub struct Outcome {
     pub kept: Vec<Vec<[u8; 512]>>,
 }
 
-/// What isn't as told: a device failed; a line or a drive, by its number; or the kinds of steps.
+/// What differs from the case: a device failed; a line or a drive, by its number; or the kinds of steps.
 #[derive(Clone, Copy, Debug, PartialEq, Eq)]
 pub enum Difference {
     Failed(Option<Device>),

@@ -13,8 +13,8 @@ pub fn new_machine(alloc: Global) -> Result<Cpu, NoMemory> {
 }
 
 impl Case {
-    /// What it comes to where it is played so with lines and drives in memory, and what of that isn't as told. Nothing is promised of
-    /// either: they are to be looked at.
+    /// The outcome where it is played so with lines and drives in memory, and what of that differs from the case. Nothing is
+    /// promised of either: they are to be looked at.
     pub fn played(
         &self,
         alloc: Global,

@@ -30,7 +30,7 @@ fn are_of(events: &[Event], round: u32) -> bool
     events.iter().all(|event| event.round == round)
 }
 
-/// The events of a round, which stand together.
+/// The events of a round, which are together.
 fn of_round(events: &[Event], round: u32) -> &[Event]
     ensures { AreOf round result.now }
 {
@@ -211,7 +211,7 @@ fn slices_of(
     }
 }
 
-/// Plays a case on lines and drives that are there; what they show and keep is to be asked of them.
+/// Plays a case on lines and drives that are given; what they show and keep is to be asked of them.
 pub fn run<H: Hardware>(
     alloc: Global,
     machine: &mut H,

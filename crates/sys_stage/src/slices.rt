@@ -55,7 +55,7 @@ fn slice_in(rows: &[GuestRow], rotation: u32, guest: u8, most: u32) -> Option<Ti
     }
 }
 
-/// The slices of one rotation, in this order, behind others; whether there are any.
+/// The slices of one rotation, in this order, after others; whether there are any.
 fn push_rotation(
     slices: &mut Vec<TimeSlice>,
     rows: &[GuestRow],

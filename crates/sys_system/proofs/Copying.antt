@@ -21,7 +21,7 @@ others rows given = beside_with is_another_size rows given
 other_at : (rows : List VolumeRow) (given : List (List (List ℕ))) (k : ℕ) (row : VolumeRow) (blocks : List (List ℕ)) (b : Bool) → k < length rows → k < length given → row ≡ slice_index_or rows k row → blocks ≡ slice_index_or given k blocks → b ≡ is_another_size row blocks → b ≡ slice_index_or (others rows given) k b
 other_at rows given k row blocks b h h' read read' is = subst (λ x. x ≡ slice_index_or (others rows given) k x) (sym is) (beside_at is_another_size rows given k row blocks h h' read read')
 
--- the first of another size stands here, or later
+-- the first of another size is here, or later
 pub other_here : (rows : List VolumeRow) (given : List (List (List ℕ))) (k : ℕ) (row : VolumeRow) (blocks : List (List ℕ)) (b : Bool) → k < length rows → length given ≡ length rows → row ≡ slice_index_or rows k row → blocks ≡ slice_index_or given k blocks → b ≡ is_another_size row blocks → b ≡ true → from_on (λ x. x) (beside_with is_another_size rows given) k ≡ Some k
 other_here rows given k row blocks b h long read read' is bad =
     let size : length (others rows given) ≡ length rows = beside_long is_another_size rows given (sym long) in

@@ -19,7 +19,7 @@ use Rattle.sys_snap.specs.declared.snap.Snap.{Snap}
 use Rattle.sys_system.proofs.Mounting.{IsSeated, none_mounted}
 use Rattle.sys_system.specs.Seats.{no_units}
 
--- what isn't there doesn't pass
+-- what doesn't exist doesn't pass
 inside : {X : Type 0} (test : Option X → Bool) (xs : List X) (k : ℕ) → test None ≡ false → test (slice_get xs k) ≡ true → k < length xs
 inside test [] k none passes = absurd (false≢true (sym none ∙ passes))
 inside test (x ∷ xs) zero none passes = omega arith

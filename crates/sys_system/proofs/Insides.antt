@@ -30,7 +30,7 @@ use Rattle.sys_rounds.specs.Transfers.{transfers}
 use Rattle.sys_script.specs.declared.event.Event.{Event}
 use Rattle.vm_stepping.specs.Made.{steps_in}
 
--- the kernel of a system that stands in the machine
+-- the kernel of a system that is in the machine
 pub kernel_holds : (memory : List ℕ) (s : Parts) → IsInside s → StandsIn memory (system_of s) → IsKernel memory s.kernel
 kernel_holds memory s h stands = record {
   accepted = h.system.accepted;

@@ -51,7 +51,7 @@ pays_kept f m m' ks ks' same counts keeps = record {
   has = keeps;
 }
 
--- other words for the same
+-- the same in another form
 pub pays_as : (f h : List Touching → List Touching) (m m' : Machine) (ks ks' : List Kept) → ((ts : List Touching) → HavePresent ks ts → f ts ≡ h ts) → PaysAll f m ks m' ks' → PaysAll h m ks m' ks'
 pays_as f h m m' ks ks' same p = record {
   missed = p.missed;

@@ -46,7 +46,7 @@ all_of i (e ∷ es) are =
     let here : (e.round == i) ≡ true = eq-eqb e.round i (are 0 e (omega arith)) in
     rw here (ap (λ (xs : List Event). e ∷ xs) (all_of i es (λ k d h. are (suc k) d (omega (arith, h)))))
 
--- slices behind events, and transfers behind them
+-- slices after events, and transfers after them
 abbrev after_slices : Config → List Slice → Went State → Went State
 after_slices c xs begun =
     let turned = slices c.terminals begun.now.connected xs begun.now.guests in

@@ -34,7 +34,7 @@ are_connections : (rows : List GuestRow) (i : ℕ) (ts : List Terminal) → conn
 are_connections rows i [] = refl
 are_connections rows i (t ∷ ts) = ap (λ xs. first_at rows i ∷ xs) (are_connections rows (suc i) ts)
 
--- so many are seated, and the other places are empty
+-- so many terminals have their consoles, and the other places are empty
 abbrev pub seated : List GuestRow → ℕ → List (Option ℕ)
 seated rows n = seats rows 0 n ++ replicate (32 - n) None
 

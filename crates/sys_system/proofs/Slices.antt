@@ -1,4 +1,4 @@
--- What a slice comes to.
+-- The outcome of a slice.
 use Rattle.std.proofs.Common.{ℕ, zero, suc, ◌≡◌, ◌<◌, ◌≤◌, ◌+◌, ◌-◌, ◌*◌, List, [], ◌∷◌, length, map, take, drop, refl, sym, ◌∙◌, ap, subst, arith, Bool, true, false, if◌then◌else◌, Option, Some, None}
 use Rattle.std.proofs.lemmas.List.Elements.{All-cons}
 use Rattle.std.specs.List.{All, slice_get}
@@ -60,7 +60,7 @@ shown_on line console n None = nothing (is_at line console)
     nothing false = refl
 shown_on line console n (Some g) = sym (bytes_of_console line console (shown_in n (Some g)))
 
--- numbers of which one falls
+-- numbers of which one gets lower
 changed_long : (f : ℕ → ℕ) (xs : List ℕ) (k : ℕ) → length (changed f xs k) ≡ length xs
 changed_long f [] k = refl
 changed_long f (x ∷ xs) zero = refl

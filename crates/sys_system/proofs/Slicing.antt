@@ -101,7 +101,7 @@ front_takes (x ∷ xs) ys i = by (i == x.guest) (total xs i) (total (xs ++ ys) i
 pub slices_more : (pieces : List TimeSlice) (i : ℕ) (piece : TimeSlice) → i < length pieces → piece ≡ slice_index_or pieces i piece → map slice_of_time (take (i + 1) pieces) ≡ map slice_of_time (take i pieces) ++ slice_of_time piece ∷ []
 slices_more pieces i piece h read = ap (map slice_of_time) (take_more pieces i piece h ∙ ap (λ (t : TimeSlice). take i pieces ++ t ∷ []) (sym read)) ∙ map-append slice_of_time (take i pieces) (piece ∷ [])
 
--- numbers of which one falls
+-- numbers of which one gets lower
 changed_long : (f : ℕ → ℕ) (xs : List ℕ) (k : ℕ) → length (changed f xs k) ≡ length xs
 changed_long f [] k = refl
 changed_long f (x ∷ xs) zero = refl
@@ -112,7 +112,7 @@ falls [] k n h = omega (arith, h)
 falls (x ∷ xs) zero n h = omega (arith, h, sum_by-cons (λ (y : ℕ). y) (x - n) xs, sum_by-cons (λ (y : ℕ). y) x xs)
 falls (x ∷ xs) (suc k) n h = omega (arith, falls xs k n h, sum_by-cons (λ (y : ℕ). y) x (changed (λ y. y - n) xs k), sum_by-cons (λ (y : ℕ). y) x xs)
 
--- an element is the same whatever stands for those that aren't there
+-- an element is the same whatever default stands for those that don't exist
 pub same_default : {X : Type 0} (xs : List X) (i : ℕ) (d e : X) → i < length xs → slice_index_or xs i d ≡ slice_index_or xs i e
 same_default [] i d e h = absurd (omega (arith, h))
 same_default (x ∷ xs) zero d e h = refl

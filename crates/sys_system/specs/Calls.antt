@@ -26,7 +26,7 @@ use Rattle.vm_stepping.specs.Made.{tally_of}
 abbrev pub AreOf : ℕ → List Event → Type 0
 AreOf round es = All (λ e. e.round ≡ round) es
 
--- What is done leads to this state, and each line is shown its bytes. The guests stand in the machine still; beyond them and
+-- What is done leads to this state, and each line is shown its bytes. The guests are in the machine still; beyond them and
 -- their real tables no byte of it changes.
 pub record Goes (w : Went State) (m : Machine) (s : System) (lines : List Seen) (m' : Machine) (s' : System) (lines' : List Seen) : Type 0 where
   pub state : state_of m'.memory s' ≡ w.now
@@ -47,7 +47,7 @@ pub record CanTake (s : System) (x : Slice) : Type 0 where
   pub there : x.guest < length s.guests
   pub left : x.steps ≤ slice_index s.turns.left x.guest
 
--- the state behind a slice
+-- the state after a slice
 abbrev pub slice_of : Slice → List ℕ → System → Went State
 slice_of x memory s = record {
   now = record (state_of memory s) { guests = (sliced s.config.terminals s.connected x (guests_in memory s.guests)).now };

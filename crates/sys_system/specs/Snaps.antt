@@ -12,7 +12,7 @@ use Rattle.sys_system.specs.System.{System}
 use Rattle.sys_system.specs.declared.power.PowerFault.{PowerFault}
 use Rattle.sys_system.specs.declared.power.PowerFault.TheVariants.{Image, VolumeSize, DriveIn, NoMemory}
 
--- it stands at the moment, and each volume's drive has its size; or the first whose drive has another; or memory ran out
+-- it is at the moment, and each volume's drive has its size; or the first whose drive has another; or memory ran out
 abbrev pub Resumes : Moment → List Kept → Machine → Result System PowerFault → Type 0
 Resumes m drives m' (Ok s) = IsAt m m' s × All (FitsDrive drives) m.config.volumes
 Resumes m drives m' (Err (Image g)) = ⊥

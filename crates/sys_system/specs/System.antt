@@ -44,7 +44,7 @@ pub record System : Type 0 where
 abbrev pub state_of : List ℕ → System → State
 state_of memory s = record { connected = s.connected; mounts = s.mounts; guests = guests_in memory s.guests; volumes = s.volumes }
 
--- the moment at which it stands, where no round is begun
+-- the moment at which it is, where no round is begun
 abbrev pub moment_of : List ℕ → System → Moment
 moment_of memory s = record { config = s.config; made = s.rounds; state = state_of memory s }
 

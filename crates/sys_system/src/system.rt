@@ -35,7 +35,7 @@ impl Model for System {
 }
 
 impl System {
-    /// The next slice of the round: of the next guest in the configuration's order, behind the one that was sliced last and
+    /// The next slice of the round: of the next guest in the configuration's order, after the one that was sliced last and
     /// round again, that has steps left, with a slice or what it has left; a round begins with the first guest. None
     /// where no guest has steps left, or no round is begun.
     pub fn next(&self) -> Option<TimeSlice>

@@ -124,7 +124,7 @@ turn_can s row h first is =
     let within = slice_get_within s.config.guests 0 row is in
     record { begun = ap (λ (t : Turns). t.is_begun) first; there = omega (arith, h.many, within); left = omega (arith, left) }
 
--- which leaves none
+-- which uses up all of it
 pub turn_taken : (m m' : Machine) (s s' : System) (lines lines' : List Seen) (row : GuestRow) → s.turns ≡ all_turns s.config.guests → length s.config.guests ≡ 1 → slice_get s.config.guests 0 ≡ Some row → Plays (single_steps row.quantum) m s lines m' s' lines' → NoneLeft s'.turns.left
 turn_taken m m' s s' lines lines' row first alone is p = all_taken (single_steps row.quantum) m m' s s' lines lines' first (one_quantum s.config.guests row alone is) p
 

@@ -30,7 +30,7 @@ mode_name Executive = codes "E"
 mode_name Supervisor = codes "S"
 mode_name User = codes "U"
 
--- a text in a column of so many bytes, at its left or at its right; one that is longer is whole
+-- a text in a column of so many bytes, at its left or at its right; one that is longer is shown whole
 abbrev pub at_left : ℕ → List ℕ → List ℕ
 at_left width text = text ++ replicate (width - length text) 32
 
@@ -46,7 +46,7 @@ unfoldable pub readable : ℕ → Guest → ℕ → List ℕ
 readable zero g va = []
 readable (suc most) g va = if_read (space_of g Read va) (readable most g ((va + 1) % 2 ^ 32))
 
--- what stands at PC, of which no instruction has more than 21 bytes; a mark where nothing can be read
+-- what is at PC, of which no instruction has more than 21 bytes; a mark where nothing can be read
 abbrev pub or_mark : List ℕ → List ℕ
 or_mark [] = codes "-"
 or_mark (b ∷ bs) = b ∷ bs
@@ -54,7 +54,7 @@ or_mark (b ∷ bs) = b ∷ bs
 unfoldable pub spelled : Guest → List ℕ
 spelled g = or_mark (front_text (readable 21 g (pc_of g.state)))
 
--- a step that doesn't come to an instruction has the mark
+-- a step that doesn't reach an instruction has the mark
 abbrev pub instruction_in : Kind → List ℕ → List ℕ
 instruction_in Stopped text = codes "-"
 instruction_in Interrupt text = codes "-"
@@ -89,13 +89,13 @@ abbrev pub shown_word : List ℕ → List ℕ
 shown_word [] = []
 shown_word (b ∷ bs) = word (codes "OUT") (flat_map (hex_text 2) (b ∷ bs))
 
--- all that a step took or changed; the PC stands in the next line
+-- all that a step took or changed; the PC is in the next line
 abbrev pub words_of : Guest → Stepped → List ℕ
 words_of g s =
     note_word (note_of g) ++ (register_words 0 (take 15 g.state.r) (take 15 s.guest.state.r)
     ++ (changed_word (codes "PSL") g.state.psl s.guest.state.psl ++ shown_word s.shown))
 
--- what stands before these words
+-- what comes before these words
 abbrev pub head_of : ℕ → Guest → Kind → List ℕ
 head_of number g kind =
     at_right 6 (decimal number) ++ (32 ∷ at_left 9 (kind_name kind)) ++ (32 ∷ mode_name (mode_of_state g.state)) ++ (32 ∷ hex_text 8 (pc_of g.state))

@@ -35,7 +35,7 @@ use Rattle.vm_state.specs.ShownSetup.{guest_m, guest_u, registers, with_isp, wit
 use Rattle.vm_state.specs.Step.{executed, step}
 use Rattle.vm_state.specs.Translation.{walk_of}
 
--- MTPR of a letter to the console, HALT, and then the guest stands
+-- MTPR of a letter to the console, HALT, and then the guest has stopped
 pub a_letter : trace_of 3 (guest_u (0xda ∷ 0x8f ∷ 0x41 ∷ 0x00 ∷ 0x00 ∷ 0x00 ∷ 0x23 ∷ 0x00 ∷ [])) ≡
     codes "     1 sensitive K 00000200 MTPR I^#^X00000041,S^#35         OUT=41\n"
     ++ codes "     2 sensitive K 00000207 HALT                             OUT=3F30362030303030303230380D0A\n"
@@ -43,7 +43,7 @@ pub a_letter : trace_of 3 (guest_u (0xda ∷ 0x8f ∷ 0x41 ∷ 0x00 ∷ 0x00 ∷
 unfolding trace_of line_of spelled readable front_text note_of note_of_instruction step executed instruction fetched decided decoded_at acted plan_of performed row_of operation_of operands_of operand_of read_operand modified_operand written_operand address_operand branch_operand bits_operand address_of base_address value_size computed alu_of branched trap_operands operand_at specifier_at specifier_by indexed_at lookup mapped_entry process_entry system_entry granted walk_of attempt initiate due push_walked pushed after_tick sensed probe probed_byte loads_context loaded is_block_reserved saves_context register_of read written accepted after_iccs_write status_set digits instruction_text byte_text operand_text specifier_text increment_text displacement_text field_text register_text forms_of mnemonic_of
 a_letter = refl
 
--- a loop that doubles R0, up to an integer overflow, whose trap is taken behind the instruction
+-- a loop that doubles R0, up to an integer overflow, whose trap is taken after the instruction
 pub a_trap : trace_of 4 (with_registers (registers 0x30000000 0 0 0x3000 0x200) (with_memory ((0x4434, 0x1004) ∷ []) (guest_u (0xb8 ∷ 0x20 ∷ 0xc0 ∷ 0x50 ∷ 0x50 ∷ 0x11 ∷ 0xfb ∷ [])))) ≡
     codes "     1 plain     K 00000200 BISPSW S^#32                     PSL=00000020\n"
     ++ codes "     2 plain     K 00000202 ADDL2 R0,R0                      R0=60000000\n"

@@ -72,7 +72,7 @@ fn readable<H: Hardware>(machine: &H, guest: &Guest) -> Bytes
     bytes
 }
 
-/// The text of what stands at the front of bytes; none where there are no bytes.
+/// The text of what is at the front of bytes; none where there are no bytes.
 fn front_of(bytes: &[u8]) -> Line
     ensures { result ≡ front_text bytes.now }
 {
@@ -94,7 +94,7 @@ fn or_mark(text: Line) -> Line
     mark
 }
 
-/// What stands at a guest's PC, as the disassembler spells it; a mark where nothing can be read.
+/// What is at a guest's PC, as the disassembler spells it; a mark where nothing can be read.
 #[tactic(auto, unfolding(crate::specs::Line::spelled))]
 pub fn spelled<H: Hardware>(machine: &H, guest: &Guest) -> Line
     requires { StandsIn (H.machine machine.now).memory guest.now }

@@ -16,7 +16,7 @@ use vm_guest::Counts;
 use vm_state::GuestState;
 use vv_base::{Text, decimal, hex};
 
-/// How many bytes stand before what follows the number, the kind, and the instruction.
+/// How many bytes come before what follows the number, the kind, and the instruction.
 const NUMBER: usize = 6;
 
 const KINDS_END: usize = 16;
@@ -45,7 +45,7 @@ fn kind_name(counts: &Counts) -> &'static str
     }
 }
 
-/// The instruction that the one step that is counted comes to, or a mark.
+/// The instruction that the one step that is counted reaches, or a mark.
 fn instruction_in<'a>(counts: &Counts, text: &'a [u8]) -> &'a [u8]
     requires { length text.now ≤ 160 }
     ensures text { (kind : Kind) → tally_of counts.now ≡ tallied kind no_steps → result.now ≡ instruction_in kind text.now }
@@ -113,7 +113,7 @@ fn address(value: u32) -> Text<16>
     hex(u64::from(value), 8)
 }
 
-/// What stands before the words.
+/// What comes before the words.
 fn head(number: u32, before: &Before, counts: &Counts) -> StepLine
     requires { number ≤ 100000 }
     ensures head { (g : Guest) (kind : Kind) → IsBefore g before.now → tally_of counts.now ≡ tallied kind no_steps → result ≡ head_of number g kind }

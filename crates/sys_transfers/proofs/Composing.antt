@@ -1,4 +1,4 @@
--- One change of a guest behind another.
+-- One change of a guest after another.
 use Rattle.std.proofs.Common.{◌≡◌, ℕ, ◌+◌, ◌*◌, ◌<◌, ◌≤◌, ◌⊎◌, true, List, length, refl, ap, ◌∙◌, sym, subst}
 use Rattle.vv_base.specs.Bytes.{long_bytes}
 use Rattle.vax_hw.specs.Machine.{Machine}

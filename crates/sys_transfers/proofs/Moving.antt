@@ -91,7 +91,7 @@ module _ (space : ℕ) (volumes : List (List (List ℕ))) (unit : Option Mount) 
 pub lie_inside : (space at n : ℕ) → is_past space at n ≡ false → at + n ≤ space
 lie_inside space at n e = ltb-false space (at + n) e
 
--- a block that is read is there
+-- a block that is read exists
 pub block_within : (volumes : List (List (List ℕ))) (v block : ℕ) (bytes : List ℕ) → HasBlock volumes v block bytes → block < length (blocks_of volumes v)
 block_within volumes v block bytes has = slice_get_within (blocks_of volumes v) block bytes has
 
@@ -138,7 +138,7 @@ pub on_ok : {U E P : Type 0} (r : Result U E) → is_err r ≡ false → OnOk r 
 on_ok (Ok u) e h = h
 on_ok (Err x) e h = absurd (true≢false e)
 
--- a block that is there is written
+-- a block that exists is written
 pub surely_written : {U E : Type 0} (r : Result U E) (volumes volumes' : List (List (List ℕ))) (v block : ℕ) (old bytes : List ℕ) → HasBlock volumes v block old → OnOk r (volumes' ≡ with_block volumes v block bytes) → OnErr r (LacksBlock volumes v block × (volumes' ≡ volumes))
     → volumes' ≡ with_block volumes v block bytes
 surely_written (Ok u) volumes volumes' v block old bytes has ok err = ok

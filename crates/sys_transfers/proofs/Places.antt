@@ -37,7 +37,7 @@ behind_changed f [] i = refl
 behind_changed f (y ∷ xs) zero = refl
 behind_changed f (y ∷ xs) (suc i) = let n : suc i + 1 ≡ suc (i + 1) = omega arith in rw n (behind_changed f xs i)
 
--- an element is read whatever stands for one that isn't there
+-- an element is read whatever default stands for one that doesn't exist
 pub read_there : {X : Type 0} (xs : List X) (i : ℕ) (d : X) → i < length xs → slice_index_or xs i d ≡ slice_index_or xs i (slice_index_or xs i d)
 read_there [] i d h = absurd (omega (arith, h))
 read_there (x ∷ xs) zero d h = refl

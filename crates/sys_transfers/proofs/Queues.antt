@@ -1,4 +1,4 @@
--- A guest's packets, one behind another.
+-- A guest's packets, one after another.
 use Rattle.std.proofs.Common.{◌≡◌, ℕ, ◌+◌, ◌*◌, ◌%◌, ◌<◌, ◌≤◌, List, [], ◌∷◌, ◌++◌, length, drop, slice_index_or, All, Bool, Option, refl, ap, ◌∙◌, sym, subst, arith, append-nil, append_assoc}
 use Rattle.std.specs.Prelude.{IfSome}
 use Rattle.std.proofs.lemmas.List.{at_drop_all, at_drop_more}
@@ -52,7 +52,7 @@ next_at c row units g at queue n d volumes h is =
 none_at : (c : Config) (row : GuestRow) (units : List (Option Mount)) (g : Guest) (queue : List ℕ) (n : ℕ) (volumes : List (List (List ℕ))) → length queue ≤ n → served c row units g (drop n queue) volumes ≡ record { guest = g; volumes = volumes; puts = [] }
 none_at c row units g queue n volumes h = at_drop_all (λ (q : List ℕ). served c row units g q volumes) queue n h
 
--- first touches behind a queue, packet by packet
+-- first touches after a queue, packet by packet
 all_touches : (c : Config) (row : GuestRow) (units : List (Option Mount)) (g : Guest) (volumes : List (List (List ℕ))) (t : Touching) → touches_of_queue c row units (with_no_queue g) (drop 0 g.state.queue) volumes t ≡ all_touched c row units g volumes t
 unfolding all_touched
 all_touches c row units g volumes t = refl
@@ -69,7 +69,7 @@ touches_at : (c : Config) (row : GuestRow) (units : List (Option Mount)) (g : Gu
 touches_at c row units g at queue n d volumes t h is =
     at_drop_more (λ (q : List ℕ). touches_of_queue c row units g q volumes t) queue n d h ∙ ap (λ (a : ℕ). touches_of_queue c row units g (a ∷ drop (n + 1) queue) volumes t) (sym is) ∙ next_touches c row units g at (drop (n + 1) queue) volumes t
 
--- what is present behind a packet has entries
+-- what is present after a packet has entries
 one_present : (row : GuestRow) (units : List (Option Mount)) (at : ℕ) (vs vs2 : List (List (List ℕ))) (m1 : Machine) (k1 : Kept) (job : Option (List ℕ)) (m2 : Machine) (k2 : Kept) (p : Present) → StandsIn m1.memory k1 → StandsIn m2.memory k2 → ServesOne row units at vs vs2 m1 k1 job m2 k2 → at % 4 ≡ 0 → HasPresent k1.shadow p
     → HasPresent k2.shadow (touching_write (guest_in m1.memory k1) (frames_served units (guest_in m1.memory k1) at vs) p)
 one_present row units at vs vs2 m1 k1 job m2 k2 p before after serves aligned has =

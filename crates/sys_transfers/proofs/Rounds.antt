@@ -1,4 +1,4 @@
--- The transfers of all guests, one guest behind another.
+-- The transfers of all guests, one guest after another.
 use Rattle.std.proofs.Common.{◌≡◌, ℕ, zero, suc, ◌+◌, ◌<◌, ◌≤◌, List, [], ◌∷◌, ◌++◌, length, map, drop, take, slice_index_or, slice_set, All, Bool, Option, Some, refl, ap, ◌∙◌, sym, subst, arith, append-nil, append_assoc}
 use Rattle.std.specs.List.{slice_get}
 use Rattle.std.proofs.lemmas.List.{drop_all, length-map, take_all}
@@ -52,7 +52,7 @@ served_at c mounts place row units volumes m ks k marks lines volumes' m' k' mar
       present = set_present ks place k k' (all_touched c row units (guest_in m.memory k) volumes) within k_is x.present;
     }
 
--- it stands in the machine
+-- it is in the machine
 pub stands_at : (c : Config) (place : ℕ) (memory : List ℕ) (ks : List Kept) (k : Kept) → place < length c.guests → k ≡ slice_index_or ks place k → AreInMachine c.guests memory ks → StandsIn memory k
 stands_at c place memory ks k there k_is placed =
     let long : length ks ≡ length c.guests = placed_long _ _ c.guests ks placed.laid_out in
@@ -77,7 +77,7 @@ next_at : (c : Config) (rows : List GuestRow) (mounts : List (List (Option Mount
 next_at c rows mounts gs i row units g vs has_row has_units has_guest =
     (λ j. all_served c (from_here rows i row has_row j) (from_here mounts i units has_units j) (from_here gs i g has_guest j) vs) ∙ next_is c row (drop (i + 1) rows) units (drop (i + 1) mounts) g (drop (i + 1) gs) vs
 
--- first touches behind one guest's packets more
+-- first touches after one guest's packets more
 next_touch : (c : Config) (row : GuestRow) (rows : List GuestRow) (units : List (Option Mount)) (mounts : List (List (Option Mount))) (g : Guest) (gs : List Guest) (vs : List (List (List ℕ))) (t : Touching) (ts : List Touching) →
     touches_of_transfers c (row ∷ rows) (units ∷ mounts) (g ∷ gs) vs (t ∷ ts) ≡ all_touched c row units g vs t ∷ touches_of_transfers c rows mounts gs (all_packets c row units g vs).volumes ts
 unfolding all_packets all_touched
@@ -256,7 +256,7 @@ module _ (k : Kernel) (volumes : List (List (List ℕ))) (m : Machine) (lines : 
       all_now : gs1 ≡ whole.guests
       all_now = sym (append-nil gs1) ∙ ap (λ (xs : List Guest). xs ++ []) (sym (take_all i gs1 all_there)) ∙ ap (λ (s : AllServed). take i gs1 ++ s.guests) (sym none) ∙ x.guests
 
--- what is present behind all transfers has entries
+-- what is present after all transfers has entries
 pub all_present : (k : Kernel) (volumes : List (List (List ℕ))) (m : Machine) (lines : List Seen) (i : ℕ) (vs : List (List (List ℕ))) (m1 : Machine) (ks1 : List Kept) (marks1 : List Bool) (lines1 : List Seen) → length k.config.guests ≤ i → SoFar k volumes m lines i vs m1 ks1 marks1 lines1
     → KeepsAll (touches_of_transfers k.config k.config.guests (state_of m.memory k volumes).mounts (guests_in m.memory k.guests.items) volumes) k.guests.items ks1
 all_present k volumes m lines i vs m1 ks1 marks1 lines1 over x ts all =

@@ -61,7 +61,7 @@ module _ (space : ℕ) (volumes : List (List (List ℕ))) (mounts : List (Option
   pub asks_nothing : (p.function ≡ 1 → ⊥) → (p.function ≡ 2 → ⊥) → (p.function ≡ 3 → ⊥) → move_of space volumes mounts p ≡ Refused 7
   asks_nothing one two three = λ i. by_function (ne_eqb p.function 1 one i) (ne_eqb p.function 2 two i) (ne_eqb p.function 3 three i)
 
--- a move told otherwise
+-- a move in another form
 pub carries_all : (row : GuestRow) (mounts : List (Option Mount)) (p : Packet) (move : Move) (volumes volumes' : List (List (List ℕ))) (m : Machine) (k : Kept) (status : ℕ) (job : Option (List ℕ)) (m' : Machine) (k' : Kept) → move_of (512 * k.state.pages) volumes mounts p ≡ move
     → Carries move p volumes volumes' m k status m' k' → job ≡ job_by row p (guest_in m.memory k) move → CarriesAll row mounts p volumes volumes' m k status job m' k'
 carries_all row mounts p move volumes volumes' m k status job m' k' is carries printed = record {
@@ -119,7 +119,7 @@ serves_one row mounts at p volumes volumes' m k status job m1 k1 m2 k2 stands re
     whole : Becomes (answered at status (guest_in m1.memory k1)) m k m2 k2
     whole = becomes_then m k (guest_in m1.memory k1) m1 k1 (answered at status (guest_in m1.memory k1)) m2 k2 stands (becomes_as (carried (move_of (512 * k.state.pages) volumes mounts p) p volumes (guest_in m.memory k)) (guest_in m1.memory k1) m k m1 k1 (sym all.carries.becomes.guest) all.carries.becomes) answer
 
--- what stands at a unit
+-- what is at a unit
 pub unit_mounted : (Q : Option Mount → Type 0) → Q None → (units : List (Option Mount)) (n : ℕ) → All Q units → Q (slice_index_or units n None)
 unit_mounted Q none [] n all = none
 unit_mounted Q none (x ∷ units) zero all = all 0 None (omega arith)

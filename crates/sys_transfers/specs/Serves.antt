@@ -1,4 +1,4 @@
--- A packet of a guest's queue is served, over the guest in the machine: what the definition of a transfer comes to.
+-- A packet of a guest's queue is served, over the guest in the machine: the outcome is that of the definition of a transfer.
 use Rattle.std.specs.Prelude.{◌≡◌, ℕ, ◌<◌, ◌+◌, ◌*◌, ◌%◌, List, [], ◌∷◌, Option, Some, None, length, slice_index_or, IfSome, All}
 use Rattle.vax_hw.specs.Machine.{Machine}
 use Rattle.sys_objects.specs.declared.records.Config.{Config}

@@ -23,7 +23,7 @@ use Rattle.vm_state.specs.Touches.{Touching}
 unfoldable pub all_packets : Config → GuestRow → List (Option Mount) → Guest → List (List (List ℕ)) → Served
 all_packets c row units g volumes = served c row units (with_no_queue g) g.state.queue volumes
 
--- first touches behind its packets
+-- first touches after its packets
 unfoldable pub all_touched : Config → GuestRow → List (Option Mount) → Guest → List (List (List ℕ)) → Touching → Touching
 all_touched c row units g volumes t = touches_of_queue c row units (with_no_queue g) g.state.queue volumes t
 

@@ -12,7 +12,7 @@ use vax_hw::Hardware;
 use vm_guest::Guest;
 use vv_base::Text;
 
-/// The statuses of a packet: it was moved; nothing stands at the unit; what does is mounted for reading; the volume has no such
+/// The statuses of a packet: it was moved; nothing is at the unit; what is there is mounted for reading; the volume has no such
 /// block; a buffer isn't in memory.
 const MOVED: u32 = 1;
 

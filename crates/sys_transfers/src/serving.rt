@@ -14,13 +14,13 @@ use vax_hw::Hardware;
 use vm_guest::Guest;
 use vv_base::{Text, put_u32};
 
-/// The status of a packet whose function there isn't.
+/// The status of a packet whose function doesn't exist.
 const NO_FUNCTION: u32 = 7;
 
 /// Where a packet's status is, in bytes from its beginning.
 const STATUS: u32 = 20;
 
-/// What stands at a unit.
+/// What is at a unit.
 fn mount_at(mounts: &[Option<Mount>; 4], unit: u32) -> Option<Mount>
     ensures { result ≡ slice_index_or mounts.now unit None }
 {

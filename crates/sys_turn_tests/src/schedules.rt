@@ -1,4 +1,4 @@
-//! Slices of any guests, in any order, come to the same.
+//! Slices of any guests, in any order, have the same outcome.
 
 use std::alloc::Global;
 use std::test::Fail;
@@ -34,7 +34,7 @@ fn three_guests_count_down(rt: HostRuntime) -> Result<(), Fail> {
     Ok(())
 }
 
-/// Whether a case that is played so comes out as told, and with all counts and bytes of another run of it.
+/// Whether a case that is played so has the outcome that it states, and all counts and bytes of another run of it.
 fn is_same(
     alloc: Global,
     machine: &mut Cpu,
@@ -49,7 +49,7 @@ fn is_same(
 /// Guests in an order, each with its steps in a slice at most.
 type Order = [(u8, u32); 3];
 
-/// The first order of slices of these sizes by which a case doesn't come to the same.
+/// The first order of slices of these sizes by which a case doesn't have the same outcome.
 fn other_order_of(
     alloc: Global,
     machine: &mut Cpu,
@@ -71,7 +71,7 @@ fn other_order_of(
     Ok(None)
 }
 
-/// The first of these sizes, and the first order, by which a case doesn't come to the same.
+/// The first of these sizes, and the first order, by which a case doesn't have the same outcome.
 fn other_order(
     alloc: Global,
     machine: &mut Cpu,
@@ -109,7 +109,7 @@ dump = 2\nquantum = 1000\n";
 /// L: DECL R0; BRB L
 const DOWN: Content = &[(0x200, Bytes(&[0xD7, 0x50, 0x11, 0xFC]))];
 
-/// Each goes 500 times through its loop, so that R0 comes to -500.
+/// Each goes 500 times through its loop, so that R0 is -500 at the end.
 const COUNTING: Case = Case {
     name: "three guests count down",
     config: COUNTERS,
@@ -183,7 +183,7 @@ const COPIER: Content = &[
 
 /// Six rounds. The first guest looks for typed bytes in every step: 90 plain steps and 90 sensitive ones. The second goes round four times in
 /// each round, and each time counts its byte, writes, prints and shows a letter: 48 plain and 72 sensitive steps. The third runs from the
-/// second round to the fifth: four sensitive steps, 52 plain ones, and 28 in which it stands.
+/// second round to the fifth: four sensitive steps, 52 plain ones, and 28 in which it has stopped.
 const ALL: Case = Case {
     name: "all forms of events",
     config: SYSTEM,

@@ -1,4 +1,4 @@
--- Bytes behind others, piece by piece.
+-- Bytes after others, piece by piece.
 use Rattle.std.specs.Prelude.{map, IsSome, if◌then◌else◌}
 use Rattle.std.proofs.Common.{◌≡◌, ℕ, zero, suc, ◌+◌, ◌-◌, ◌/◌, ◌%◌, ◌<◌, ◌≤◌, Bool, true, false, List, [], ◌∷◌, ◌++◌, length, get_or, take, drop, Option, Some, None, Result, Ok, Err, refl, sym, ap, subst, ◌∙◌, append_assoc, arith}
 use Rattle.std.proofs.lemmas.List.{take_rest}
@@ -64,7 +64,7 @@ first_bytes names at [] os f o s some more is = absurd (omega arith)
 first_bytes names at (g ∷ fs) [] f o s some more is = absurd (omega arith)
 first_bytes names at (g ∷ fs) (p ∷ os) f o s some more is = rw is
 
--- ---- bytes behind others
+-- ---- bytes after others
 
 behind_front : {E : Type 0} (old front : List ℕ) (wanted : Result (List ℕ) E) → behind old (wanted >>= λ bytes. Ok (front ++ bytes)) ≡ behind (old ++ front) wanted
 behind_front old front (Ok bytes) = ap (λ (xs : List ℕ). Ok xs) (sym (append_assoc old front bytes))

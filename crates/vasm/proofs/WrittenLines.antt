@@ -28,7 +28,7 @@ behind_nothing (Err e) = refl
 pub none_written : (names : List ℕ → Option ℕ) (text : List ℕ) (program : List Line) → read_from 1 [] (lines text) ≡ Ok program → IsWriting names program 1 0x200 [] text
 none_written names text program is = record { more = program; known = []; read = is; made = behind_nothing (bytes_from names 1 0x200 program) }
 
--- a line that is read, and those behind it
+-- a line that is read, and those after it
 record IsFirst (number : ℕ) (known : List (List ℕ)) (l : Line) (texts : List (List ℕ)) (more : List Line) : Type 0 where
   others : List Line
   read : read_from (number + 1) (and_label known l.label) texts ≡ Ok others
@@ -47,7 +47,7 @@ first_read : (number : ℕ) (known : List (List ℕ)) (text : List ℕ) (texts :
 first_read number known text texts l more is all =
     first_by number known l texts more (is_labelled l.label known) (ap (λ (o : Option Line). at_line number (read_line known o) >>= λ line. before_others line (read_from (number + 1) (and_label known line.label) texts)) (sym is) ∙ all)
 
--- the bytes of the first line behind the old ones, and then those of the others
+-- the bytes of the first line after the old ones, and then those of the others
 line_behind_by : (number : ℕ) (old new : List ℕ) (wanted : Result (List ℕ) AsmKind) (others : Result (List ℕ) AsmFault) → behind old wanted ≡ Ok new → behind old (at_line number wanted >>= λ bytes. joined bytes others) ≡ behind new others
 line_behind_by number old new (Ok bytes) (Ok more) is = let same : old ++ bytes ≡ new = cc in ap (λ (xs : List ℕ). Ok xs) (sym (append_assoc old bytes more)) ∙ ap (λ (xs : List ℕ). Ok (xs ++ more)) same
 line_behind_by number old new (Ok bytes) (Err f) is = refl

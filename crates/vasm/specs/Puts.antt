@@ -5,12 +5,12 @@ use Rattle.vasm_text.specs.declared.fault.AsmError.{AsmError}
 use Rattle.vasm_text.specs.declared.fault.AsmError.TheVariants.{Fault, NoMemory}
 use Rattle.vasm_text.specs.declared.fault.AsmKind.{AsmKind}
 
--- bytes behind others
+-- bytes after others
 abbrev pub behind : {E : Type 0} → List ℕ → Result (List ℕ) E → Result (List ℕ) E
 behind front (Ok bytes) = Ok (front ++ bytes)
 behind front (Err e) = Err e
 
--- the wanted bytes stand behind the old ones, or the line is refused for the reason wanted
+-- the wanted bytes come after the old ones, or the line is refused for the reason wanted
 abbrev pub Puts : {U : Type 0} → ℕ → List ℕ → List ℕ → Result (List ℕ) AsmKind → Result U AsmError → Type 0
 Puts number old new wanted (Ok _) = behind old wanted ≡ Ok new
 Puts number old new wanted (Err (Fault f)) = at_line number wanted ≡ Err f

@@ -49,7 +49,7 @@ fn difference(width: Width, target: u32, from: u32) -> u64
     (i128::from(target) - i128::from(from)).rem_euclid(span(width)) as u64
 }
 
-/// The specifier whose field reaches an address from the one behind it.
+/// The specifier whose field reaches an address from the one after it.
 pub(crate) fn reached(width: Width, spec: Spec, target: u32, behind: u32) -> Result<Spec, AsmKind>
     ensures { result ≡ reached (size_of width) spec target behind }
 {

@@ -8,7 +8,7 @@ use Rattle.vasm_text.specs.Printing.{field_text, name_text}
 use Rattle.vasm_dis.proofs.Fields.{hex_length}
 use Rattle.vasm_dis.proofs.Finite.{everywhere}
 
--- behind a text that grew
+-- after a text that grew
 pub grown : (old more new : List ℕ) → new ≡ old ++ more → length new ≡ length old + length more
 grown old more new is = ap (length {A = ℕ}) is ∙ length-append old more
 

@@ -20,7 +20,7 @@ pub spelled_some : (bytes : List ℕ) (d : Instruction) → Spells bytes d → (
 spelled_some bytes d (wait e g) = (rw e (omega arith), ap (λ (i : Instruction). i.length) g ∙ sym (ap (length {A = ℕ}) e))
 spelled_some bytes d (of_row x o r s l n q m e g) = (rw e (omega arith), ap (λ (i : Instruction). i.length) g)
 
--- where an instruction stands at the front
+-- where an instruction is at the front
 pub record Splits (b : List ℕ) (d : Instruction) (others : List ℕ) : Type 0 where
   pub some : 0 < d.length
   pub whole : d.length + length others ≡ length b
@@ -92,7 +92,7 @@ done_by b bs d Reserved all is w = absurd w
 put_together : (old new line rest : List ℕ) → new ≡ old ++ line ++ 10 ∷ [] → new ++ rest ≡ old ++ and_others line rest
 put_together old new line rest end = rw (end, append_assoc (old ++ line) (10 ∷ []) rest, append_assoc old line (10 ∷ rest))
 
--- what `front` answers where an instruction stands there
+-- what `front` answers where an instruction is there
 pub record IsFront (image line : List ℕ) (size : ℕ) : Type 0 where
   pub text : line ≡ front_text image
   pub some : 0 < size
@@ -127,7 +127,7 @@ front_none_by b Reserved none = refl
 pub as_front : (image line other : List ℕ) (size n : ℕ) → line ≡ other → size ≡ n → IsFront image other n → IsFront image line size
 as_front image line other size n same at f = subst (λ t. IsFront image t size) (sym same) (subst (λ k. IsFront image other k) (sym at) f)
 
--- and where none does
+-- and where none is
 pub front_none : (image : List ℕ) → AreBytes image → 0 < length image → IsNone (decoded_at image) → IsFront image (byte_text (get_or image 0 0)) 1
 unfolding front_text
 front_none [] all some none = absurd (omega arith)

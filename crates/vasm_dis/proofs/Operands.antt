@@ -79,7 +79,7 @@ no_index f bytes s (displacement mode k n v d h l e g) = ap (λ (t : Spec). t.in
 head_of : (b c : ℕ) (xs ys : List ℕ) → b ∷ xs ≡ c ∷ ys → b ≡ c
 head_of b c xs ys e = cc
 
--- what stands behind an index may
+-- what follows an index may
 indexed_mode : (mode k n v x : ℕ) → Displaces mode k → with_index (exact (unindexed mode n v)) x ≡ Some (exact (record (unindexed mode n v) { index = Some x }))
 indexed_mode mode k n v x byte = refl
 indexed_mode mode k n v x byte_deferred = refl
@@ -169,7 +169,7 @@ operand_whole f bytes s (branch a v h e g) =
 
 -- ---- operands with commas between
 
--- what stands behind the mark, where operands do
+-- what follows the mark, where operands do
 abbrev pub text_of : List Form → List Spec → Option (List ℕ)
 text_of [] ss = None
 text_of (f ∷ fs) [] = None

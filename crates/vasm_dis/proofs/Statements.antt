@@ -74,7 +74,7 @@ named n e below is = named_by n (mnemonic_of n) below refl (are_apart.every n be
 abbrev pub is_line : ℕ → Bool
 is_line b = is_whole b || (b == 44 || (b == 32 || (b == 46 || (nat_le 97 b && nat_le b 122))))
 
--- those behind the blank
+-- those after the blank
 abbrev is_tail : ℕ → Bool
 is_tail b = is_whole b || b == 44
 
@@ -134,7 +134,7 @@ words_back word text opcode os other op is =
     let b2 : s2 ≡ false = or_left s2 s3 r1 in let b3 : s3 ≡ false = or_right s2 s3 r1 in
     rw (b1, b2, b3, op, is)
 
--- the name, and its operands behind a blank
+-- the name, and its operands after a blank
 said_back : (word : List ℕ) (opcode : ℕ) (fs : List Form) (bytes : List ℕ) (ss : List Spec) → ArePlain word → is_directive word ≡ false → opcode_of word ≡ Some opcode → forms_of opcode ≡ fs → Operands fs bytes ss
     → statement_in (word ++ behind_mark 32 fs ss) ≡ Some (Instruct opcode (map exact ss))
 said_back word opcode [] bytes [] all other op forms m =
@@ -163,7 +163,7 @@ filled f bytes s [] m is =
     absurd (some_none (exact s) none)
 filled f bytes s (c ∷ cs) m is = (c, cs, refl)
 
--- operands behind a comma, and all behind the blank
+-- operands after a comma, and all after the blank
 tail_all : (fs : List Form) (bytes : List ℕ) (ss : List Spec) → Operands fs bytes ss → list_all is_tail (behind_mark 44 fs ss) ≡ true
 tail_all [] bytes [] m = refl
 tail_all [] bytes (s ∷ ss) m = absurd m
@@ -184,7 +184,7 @@ name_line text all = all_wider is_plain is_line (λ b is. rw is) text all
 blank_end : (c : ℕ) (cs : List ℕ) → without_back (c ∷ cs) ≡ c ∷ cs → without_back (32 ∷ c ∷ cs) ≡ 32 ∷ c ∷ cs
 blank_end c cs is = ap (unless_blank 32) is
 
--- a text behind the blank
+-- a text after the blank
 back_of : (word rest : List ℕ) (c : ℕ) (cs : List ℕ) → rest ≡ c ∷ cs → list_all is_tail rest ≡ true → without_back (word ++ 32 ∷ rest) ≡ word ++ 32 ∷ rest
 back_of word rest c cs is all =
     let kept : without_back rest ≡ rest = back_kept rest (no_blanks is_tail refl refl rest all) in

@@ -1,4 +1,4 @@
--- The instruction at the front of an image, or that none stands there.
+-- The instruction at the front of an image, or that none is there.
 use Rattle.std.specs.Prelude.{ℕ, List, Option, Some, None}
 use Rattle.vax_table.specs.declared.decoded.Decoded.{Decoded}
 use Rattle.vax_table.specs.Reading.{Answer, Whole, Short, Unknown, Reserved, decoded_at}

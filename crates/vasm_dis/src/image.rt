@@ -59,7 +59,7 @@ fn single_byte(b: u8) -> Line
     text
 }
 
-/// The instruction at the front of an image, if one stands there.
+/// The instruction at the front of an image, if one is there.
 fn first(image: &[u8]) -> Option<Decoded>
     ensures { IsFirst result image.now }
 {
@@ -70,7 +70,7 @@ fn first(image: &[u8]) -> Option<Decoded>
     }
 }
 
-/// What stands at the front of an image that isn't empty: the text of the instruction, or of the first byte where none stands
+/// What is at the front of an image that isn't empty: the text of the instruction, or of the first byte where there is none
 /// there; and how many bytes that is.
 pub fn front(image: &[u8]) -> (Line, usize)
     requires { 0 < length image.now }

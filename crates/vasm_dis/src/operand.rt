@@ -130,7 +130,7 @@ fn put_operand(text: &mut Line, form: Form, spec: &Spec)
     put_index(text, spec.index);
 }
 
-/// Appends operands of the forms, the first behind a mark and each other behind a comma.
+/// Appends operands of the forms, the first after a mark and each other after a comma.
 pub(crate) fn put_operands(text: &mut Line, mark: u8, forms: &[Form], specs: &[Spec])
     requires { length text.old + 30 * length forms.now + 20 ≤ 160 }
     ensures { text.new ≡ text.old ++ behind_mark mark forms.now specs.now }

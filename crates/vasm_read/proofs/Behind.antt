@@ -1,4 +1,4 @@
--- Operands behind others.
+-- Operands after others.
 use Rattle.std.proofs.Common.{◌≡◌, ◌<◌, List, [], ◌∷◌, ◌++◌, length, Option, Some, None, refl, sym, ◌∙◌, arith}
 use Rattle.vax_table.specs.declared.forms.Form.{Form}
 use Rattle.vasm_text.specs.Operands.{Operand, operands_in}

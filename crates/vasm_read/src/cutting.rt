@@ -3,12 +3,12 @@ ghost use Rattle.std.specs.List.{position};
 ghost use Rattle.vasm_text.specs.Cutting.{is_blank, cut, cut_at, trimmed, without_back, without_front};
 ghost use Rattle.vasm_read.specs.Pieces.{cut_view};
 
-/// A text in two: what stands before a mark, and behind it.
+/// A text in two: what comes before a mark, and after it.
 #[derive(Clone, Copy)]
 pub struct Pieces<'a> {
-    /// What stands before the mark.
+    /// What comes before the mark.
     pub before: &'a [u8],
-    /// What stands behind it.
+    /// What follows it.
     pub behind: &'a [u8],
 }
 
@@ -32,7 +32,7 @@ fn find_blank(text: &[u8]) -> Option<usize>
     text.iter().position(|b| is_blank(*b))
 }
 
-/// What stands before a place, and behind it.
+/// What comes before a place, and after it.
 fn split(text: &[u8], at: usize) -> Pieces<'_>
     requires { at < length text.now }
     ensures { cut_view result ≡ record { before = take at text.now; behind = drop (at + 1) text.now } }

@@ -30,7 +30,7 @@ fn saying<'a>(label: Option<&'a [u8]>, text: &'a [u8]) -> Option<Line<'a>>
     }
 }
 
-/// A line with a label, by what stands behind the colon.
+/// A line with a label, by what follows the colon.
 fn behind_label<'a>(name: &'a [u8], text: &'a [u8]) -> Option<Line<'a>>
     ensures { option_map line_view result ≡ behind_label name.now text.now }
 {
@@ -73,7 +73,7 @@ fn content_in(text: &[u8]) -> Option<Line<'_>>
     }
 }
 
-/// What stands before a comment.
+/// What comes before a comment.
 fn before_comment(text: &[u8]) -> &[u8]
     ensures { result.now ≡ before_comment text.now }
 {
@@ -101,7 +101,7 @@ fn without_return(line: &[u8]) -> &[u8]
     }
 }
 
-/// The first line of a text, and the text behind it.
+/// The first line of a text, and the text after it.
 pub fn first_line(text: &[u8]) -> Pieces<'_>
     requires { 0 < length text.now }
     ensures cut { lines text.now ≡ result.before.now ∷ lines result.behind.now }

@@ -22,7 +22,7 @@ fn named_in(mode: u8, reg: u8, text: &[u8]) -> Option<Operand<'_>>
     }
 }
 
-/// The register before a closing mark that nothing but the ending stands behind.
+/// The register before a closing mark that nothing but the ending follows.
 #[tactic(auto, unfolding(vasm_text::specs::Operands::closed_in))]
 fn closed_in(mark: u8, ending: &[u8], text: &[u8]) -> Option<u8>
     ensures { result ≡ closed_in mark ending.now text.now }
@@ -33,7 +33,7 @@ fn closed_in(mark: u8, ending: &[u8], text: &[u8]) -> Option<u8>
     }
 }
 
-/// A register and what closes it, behind a parenthesis.
+/// A register and what closes it, after a parenthesis.
 fn enclosed<'a>(mode: u8, ending: &[u8], text: &[u8]) -> Option<Operand<'a>>
     ensures { option_map operand_view result ≡ enclosed mode ending.now text.now }
 {
@@ -84,7 +84,7 @@ fn is_allowed(form: Form, reg: u8) -> bool
     form.access != Access::Address && !(form.width == Width::Quad && reg == 14)
 }
 
-/// N(R), behind the sign of a displacement.
+/// N(R), after the sign of a displacement.
 fn based<'a>(width: Width, mode: u8, pieces: Pieces) -> Option<Operand<'a>>
     ensures { option_map operand_view result ≡ based mode (size_of width) (cut_view pieces.entry) }
 {
@@ -108,7 +108,7 @@ fn displaced_in(width: Width, mode: u8, text: &[u8]) -> Option<Operand<'_>>
     }
 }
 
-/// A displacement; deferred is 1 behind @, else 0.
+/// A displacement; deferred is 1 after @, else 0.
 #[tactic(auto, unfolding(vasm_text::specs::Operands::displacement_in))]
 fn displacement_in(deferred: u8, text: &[u8]) -> Option<Operand<'_>>
     requires { deferred ≤ 1 }
@@ -122,7 +122,7 @@ fn displacement_in(deferred: u8, text: &[u8]) -> Option<Operand<'_>>
     }
 }
 
-/// An operand behind @.
+/// An operand after @.
 #[tactic(auto, unfolding(vasm_text::specs::Operands::deferred_in))]
 fn deferred_in(text: &[u8]) -> Option<Operand<'_>>
     ensures { option_map operand_view result ≡ deferred_in text.now }
@@ -134,7 +134,7 @@ fn deferred_in(text: &[u8]) -> Option<Operand<'_>>
     }
 }
 
-/// An operand behind an opening parenthesis.
+/// An operand after an opening parenthesis.
 fn opened_in<'a>(text: &[u8]) -> Option<Operand<'a>>
     ensures { option_map operand_view result ≡ opened_in text.now }
 {

@@ -34,7 +34,7 @@ pub fn forms_of(opcode: u8) -> ArrayVec<Form, 4>
     }
 }
 
-/// What stands before the first comma, or all where there is none.
+/// What comes before the first comma, or all where there is none.
 fn before_comma(text: &[u8]) -> &[u8]
     ensures { result.now ≡ before_comma text.now }
 {
@@ -44,7 +44,7 @@ fn before_comma(text: &[u8]) -> &[u8]
     }
 }
 
-/// What stands behind the first comma.
+/// What follows the first comma.
 fn behind_comma(text: &[u8]) -> Option<&[u8]>
     ensures { option_copied result ≡ behind_comma text.now }
 {
@@ -111,7 +111,7 @@ fn long_field_in(text: &[u8]) -> Option<Statement<'_>>
     }
 }
 
-/// A statement by its first word and what stands behind the blank.
+/// A statement by its first word and what follows the blank.
 #[tactic(auto, unfolding(vasm_text::specs::Statements::words_in))]
 fn words_in<'a>(word: &[u8], text: Option<&'a [u8]>) -> Option<Statement<'a>>
     ensures { option_map statement_view result ≡ words_in word.now (option_copied text.entry) }

@@ -76,7 +76,7 @@ static LINES: [Refused; 19] = [
     (b"NOP\nNOP\r", 2, AsmKind::BadLine),
 ];
 
-/// Names that stand twice or nowhere, and a bad line.
+/// Names that occur twice or nowhere, and a bad line.
 static NAMES: [Refused; 5] = [
     (b"A:\nA: NOP\nBRB B", 2, AsmKind::TwiceNamed),
     (b"A:\nA: NOPE", 2, AsmKind::BadLine),

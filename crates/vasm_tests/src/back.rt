@@ -20,7 +20,7 @@ fn comes_back(alloc: Global, image: &[u8]) -> Result<bool, AsmError> {
     Ok(bytes.as_slice() == image)
 }
 
-/// An image of an opcode and four operands that begin with a byte, each with four bytes behind.
+/// An image of an opcode and four operands that begin with a byte, each with four bytes after it.
 fn with_operands(opcode: u8, specifier: u8) -> [u8; 21] {
     let s = specifier;
     [

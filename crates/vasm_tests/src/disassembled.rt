@@ -18,7 +18,7 @@ static TEXTS: [(&[u8], &[u8]); 8] = [
     (b"\xD0\x01\x01\x00", b".byte ^XD0\nNOP\nNOP\nHALT\n"),
 ];
 
-/// Bytes, the text of what stands at their front, and how many bytes that is.
+/// Bytes, the text of what is at their front, and how many bytes that is.
 static FRONTS: [(&[u8], &[u8], usize); 6] = [
     (b"\xD7\x50\x12\xFC", b"DECL R0", 2),
     (b"\xFD\x01\xFD", b"WAIT", 2),
@@ -57,7 +57,7 @@ fn shows_images(rt: HostRuntime) -> Result<(), Fail> {
     Ok(())
 }
 
-/// What stands at the front of bytes is shown, and how many bytes it is of.
+/// What is at the front of bytes is shown, and how many bytes it is of.
 fn is_in_front(rt: &impl Abort, row: &(&'static [u8], &'static [u8], usize)) -> Result<(), Fail> {
     let (bytes, text, size) = *row;
     assert!(rt; !bytes.is_empty());

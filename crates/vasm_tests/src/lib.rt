@@ -1,4 +1,4 @@
-//! Texts and images there and back, and the sources of the examples.
+//! Texts and images, converted both ways, and the sources of the examples.
 #![tactic(auto)]
 
 #[cfg(test)]

@@ -41,7 +41,7 @@ abbrev pub and_label : List (List ℕ) → Option (List ℕ) → List (List ℕ)
 and_label labels None = labels
 and_label labels (Some name) = labels ++ name ∷ []
 
--- a line behind lines with these labels
+-- a line after lines with these labels
 abbrev pub read_line : List (List ℕ) → Option Line → Result Line AsmKind
 read_line labels None = Err BadLine
 read_line labels (Some line) = if is_labelled line.label labels then Err TwiceNamed else Ok line
@@ -49,7 +49,7 @@ read_line labels (Some line) = if is_labelled line.label labels then Err TwiceNa
 abbrev pub before_others : {A : Type 0} → A → Result (List A) AsmFault → Result (List A) AsmFault
 before_others x others = others >>= λ xs. Ok (x ∷ xs)
 
--- the lines from a number on, behind lines with these labels
+-- the lines from a number on, after lines with these labels
 abbrev pub read_from : ℕ → List (List ℕ) → List (List ℕ) → Result (List Line) AsmFault
 read_from number labels [] = Ok []
 read_from number labels (text ∷ texts) =
@@ -102,12 +102,12 @@ field_size form spec = if is_branch form.access then size_of form.width else dis
 abbrev pub target_of : (List ℕ → Option ℕ) → List ℕ → ℕ
 target_of names name = unwrap_or (names name) 0
 
--- a name's value minus the address behind, in the field
+-- a name's value minus the address after the field, in the field
 abbrev pub reached : ℕ → Spec → ℕ → ℕ → Result Spec AsmKind
 reached size spec target behind = if is_within size target behind then Ok (record spec { value = difference size target behind }) else Err OutOfReach
 
 -- an operand's specifier, where the operand ends before an address. A branch displacement is the last
--- operand, so the address behind it is the next instruction's.
+-- operand, so the address after it is the next instruction's.
 unfoldable pub resolved : (List ℕ → Option ℕ) → ℕ → Form → Operand → Result Spec AsmKind
 resolved names behind form o = elim (o.name) [
   | None ↦ Ok (o.spec)

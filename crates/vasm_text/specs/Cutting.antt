@@ -23,7 +23,7 @@ abbrev pub with_first : ℕ → Option Cut → Option Cut
 with_first b None = None
 with_first b (Some c) = Some (record { before = b ∷ c.before; behind = c.behind })
 
--- what stands before the first byte that passes a test, and behind it; None where none passes
+-- what comes before the first byte that passes a test, and after it; None where none passes
 abbrev pub cut : (ℕ → Bool) → List ℕ → Option Cut
 cut test [] = None
 cut test (b ∷ bs) = if test b then Some (record { before = []; behind = bs }) else with_first b (cut test bs)

@@ -1,4 +1,4 @@
--- The text of what stands at the front of bytes, as the first line of their disassembly has it.
+-- The text of what is at the front of bytes, as the first line of their disassembly has it.
 use Rattle.std.specs.Prelude.{ℕ, List, [], ◌∷◌}
 use Rattle.vax_table.specs.Reading.{Answer, Whole, Short, Unknown, Reserved, decoded_at}
 use Rattle.vasm_text.specs.Printing.{instruction_text, byte_text}

@@ -142,7 +142,7 @@ abbrev pub in_list : ℕ → List Named → Option (List ℕ)
 in_list n [] = None
 in_list n (l ∷ ls) = if n == l.opcode then Some l.name else in_list n ls
 
--- the first of these that there is
+-- the first of these that exists
 abbrev pub first_some : List (Option (List ℕ)) → Option (List ℕ)
 first_some [] = None
 first_some (Some name ∷ more) = Some name

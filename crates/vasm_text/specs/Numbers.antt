@@ -11,7 +11,7 @@ is_hex_digit b = is_digit b || (nat_le 0x41 b && nat_le b 0x46)
 abbrev pub hex_value : ℕ → ℕ
 hex_value b = if nat_le b 57 then b - 48 else b - 55
 
--- the number that digits of base 16 stand for, behind those read before
+-- the number that digits of base 16 stand for, after those read before
 abbrev pub hex_from : ℕ → List ℕ → ℕ
 hex_from so_far [] = so_far
 hex_from so_far (d ∷ digits) = hex_from (16 * so_far + hex_value d) digits

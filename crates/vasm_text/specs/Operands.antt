@@ -2,7 +2,7 @@
 -- reserved form (as in what spells an instruction) is no operand.
 -- S^#N literal; I^#N immediate; R register; (R) register deferred; -(R) autodecrement; (R)+ autoincrement;
 -- @(R)+ autoincrement deferred; @#N absolute; B^N(R), W^N(R), L^N(R) displacement, B^NAME, W^NAME, L^NAME
--- relative, each deferred behind @; any of these and [R] indexed; N or NAME where the instruction branches.
+-- relative, each deferred after @; any of these and [R] indexed; N or NAME where the instruction branches.
 use Rattle.std.specs.Prelude.{ℕ, ◌+◌, ◌==◌, List, [], ◌∷◌, take, drop, codes, bytes_eq, nat_lt, ◌&&◌, ◌||◌, if◌then◌else◌, Option, Some, None}
 use Rattle.vv_base.specs.Names.{is_object_name, tested}
 use Rattle.vv_base.specs.Width.{size_of}
@@ -35,11 +35,11 @@ with_value mode reg value = Some (plain mode reg value)
 abbrev pub named_in : ℕ → ℕ → List ℕ → Option Operand
 named_in mode reg text = tested is_object_name text >>= λ name. Some (with_name mode reg name)
 
--- a register before a closing mark, with nothing but an ending behind that
+-- a register before a closing mark, with nothing but an ending after that
 unfoldable pub closed_in : ℕ → List ℕ → List ℕ → Option ℕ
 closed_in mark ending text = cut_at mark text >>= λ c. if bytes_eq c.behind ending then register_in c.before else None
 
--- R), and R)+, behind a parenthesis (41 closes it)
+-- R), and R)+, after a parenthesis (41 closes it)
 abbrev pub enclosed : ℕ → List ℕ → List ℕ → Option Operand
 enclosed mode ending text = not_pc (closed_in 41 ending text) >>= in_mode mode
 
@@ -63,7 +63,7 @@ allowed form n = if is_address form.access || (is_quad form.width && n == 14) th
 abbrev pub register_operand_in : Form → List ℕ → Option Operand
 register_operand_in form text = not_pc (register_in text) >>= allowed form
 
--- N(R), behind B^ or the like; any register
+-- N(R), after B^ or the like; any register
 abbrev pub based : ℕ → ℕ → Cut → Option Operand
 based mode size c = field_in size c.before >>= λ value. closed_in 41 [] c.behind >>= λ reg. with_value mode reg value
 
@@ -74,20 +74,20 @@ displaced_in mode size text = elim (cut_at 40 text) [
   | Some c ↦ based mode size c
 ]
 
--- a displacement; deferred is 1 behind @, else 0
+-- a displacement; deferred is 1 after @, else 0
 unfoldable pub displacement_in : ℕ → List ℕ → Option Operand
 displacement_in deferred text =
     if bytes_eq (take 2 text) (codes "B^") then displaced_in (0xa + deferred) 1 (drop 2 text) else
     if bytes_eq (take 2 text) (codes "W^") then displaced_in (0xc + deferred) 2 (drop 2 text) else
     if bytes_eq (take 2 text) (codes "L^") then displaced_in (0xe + deferred) 4 (drop 2 text) else None
 
--- behind @
+-- after @
 unfoldable pub deferred_in : List ℕ → Option Operand
 deferred_in text =
     if bytes_eq (take 1 text) (codes "#") then absolute_in (drop 1 text) else
     if bytes_eq (take 1 text) (codes "(") then enclosed 9 (codes "+") (drop 1 text) else displacement_in 1 text
 
--- behind an opening parenthesis
+-- after an opening parenthesis
 abbrev pub opened_in : List ℕ → Option Operand
 opened_in text = or_else (enclosed 6 [] text) (enclosed 8 (codes "+") text)
 
@@ -108,7 +108,7 @@ specifier_in form text = if bytes_eq (take 1 text) (codes "@") then deferred_in 
 abbrev pub indexed : Operand → ℕ → Option Operand
 indexed o x = if nat_lt o.spec.mode 6 || (o.spec.mode == 8 && o.spec.reg == 15) then None else Some (record o { spec = record (o.spec) { index = Some x } })
 
--- with R] behind an opening bracket (93 closes it)
+-- with R] after an opening bracket (93 closes it)
 abbrev pub indexed_in : Form → Cut → Option Operand
 indexed_in form c = specifier_in form c.before >>= λ o. not_pc (closed_in 93 [] c.behind) >>= indexed o
 
@@ -124,11 +124,11 @@ operand_in form text =
       | Some c ↦ indexed_in form c
     ]
 
--- what stands before a comma (44), or all where there is none
+-- what comes before a comma (44), or all where there is none
 abbrev pub before_comma : List ℕ → List ℕ
 before_comma text = elim (cut_at 44 text) [ None ↦ text | Some c ↦ c.before ]
 
--- what stands behind a comma, None where there is none
+-- what follows a comma, None where there is none
 abbrev pub behind_comma : List ℕ → Option (List ℕ)
 behind_comma text = elim (cut_at 44 text) [ None ↦ None | Some c ↦ Some (c.behind) ]
 

@@ -24,12 +24,12 @@ field_text size n = codes "^X" ++ hex_text (2 * size) n
 abbrev pub size_letter : ℕ → List ℕ
 size_letter mode = if nat_lt mode 12 then codes "B^" else if nat_lt mode 14 then codes "W^" else codes "L^"
 
--- behind @ where it is deferred, in the odd modes
+-- after @ where it is deferred, in the odd modes
 unfoldable pub displacement_text : Spec → List ℕ
 displacement_text s =
     (if s.mode % 2 == 1 then codes "@" else []) ++ (size_letter s.mode ++ (field_text (displacement_size s.mode) s.value ++ (codes "(" ++ (register_text s.reg ++ codes ")"))))
 
--- what stands in the modes 8 and 9
+-- what is in the modes 8 and 9
 unfoldable pub increment_text : Form → Spec → List ℕ
 increment_text form s =
     if s.mode == 8 then (if s.reg == 15 then codes "I^#" ++ field_text (size_of form.width) s.value else codes "(" ++ (register_text s.reg ++ codes ")+")) else
@@ -51,7 +51,7 @@ index_text (Some x) = codes "[" ++ (register_text x ++ codes "]")
 unfoldable pub operand_text : Form → Spec → List ℕ
 operand_text form s = if is_branch form.access then field_text (size_of form.width) s.value else specifier_text form s ++ index_text s.index
 
--- operands, the first behind a mark and each other behind a comma (44)
+-- operands, the first after a mark and each other after a comma (44)
 abbrev pub behind_mark : ℕ → List Form → List Spec → List ℕ
 behind_mark mark [] ss = []
 behind_mark mark (f ∷ fs) [] = []
@@ -61,7 +61,7 @@ abbrev pub name_text : Option (List ℕ) → List ℕ
 name_text None = []
 name_text (Some name) = name
 
--- its name, and behind a blank (32) its operands
+-- its name, and after a blank (32) its operands
 unfoldable pub instruction_text : ℕ → List Spec → List ℕ
 instruction_text opcode ss = name_text (mnemonic_of opcode) ++ behind_mark 32 (forms_of opcode) ss
 

@@ -60,7 +60,7 @@ pub indices : asm_of (codes "MOVL (R1)[R2],B^4(R3)[AP]\nMOVAL @#0[R0],-(SP)[R14]
 unfolding asm_of statement_bytes resolved statement_size line_in content_in statement_in words_in forms_of operand_in value_in specifier_in direct_in deferred_in displacement_in displaced_in literal_in closed_in register_in field_in number_in opcode_of mnemonic_of row_of spelled spelled_specifier value_size
 indices = refl
 
--- 200 minus the address behind each specifier: 203, 206 and 20C
+-- 200 minus the address after each specifier: 203, 206 and 20C
 pub relative : asm_of (codes "A: MOVL B^A,W^A\nMOVAL @L^A,R0\n") ≡ Ok (0xd0 ∷ 0xaf ∷ 0xfd ∷ 0xcf ∷ 0xfa ∷ 0xff ∷ 0xde ∷ 0xff ∷ 0xf4 ∷ 0xff ∷ 0xff ∷ 0xff ∷ 0x50 ∷ [])
 unfolding asm_of statement_bytes resolved statement_size line_in content_in statement_in words_in forms_of operand_in value_in specifier_in direct_in deferred_in displacement_in displaced_in literal_in closed_in register_in field_in number_in opcode_of mnemonic_of row_of spelled spelled_specifier value_size
 relative = refl

@@ -66,7 +66,7 @@ pub a_front_alone : dis_of (0xd0 ∷ 0x8f ∷ 0x01 ∷ []) ≡ codes ".byte ^XD0
 unfolding digits dis_of instruction_text byte_text operand_text specifier_text increment_text displacement_text field_text register_text forms_of mnemonic_of decoded_at operand_at indexed_at specifier_at specifier_by row_of
 a_front_alone = refl
 
--- ---- what stands at the front
+-- ---- what is at the front
 
 pub an_instruction_in_front : front_text (0xd7 ∷ 0x50 ∷ 0x12 ∷ 0xfc ∷ []) ≡ codes "DECL R0"
 unfolding digits front_text instruction_text byte_text operand_text specifier_text increment_text displacement_text field_text register_text forms_of mnemonic_of decoded_at operand_at indexed_at specifier_at specifier_by row_of

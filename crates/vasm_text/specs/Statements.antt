@@ -39,7 +39,7 @@ long_field_in text = value_in 4 text >>= λ o. Some (Field 4 o)
 abbrev pub instruction_in : List ℕ → Option (List ℕ) → Option Statement
 instruction_in word text = opcode_of word >>= λ opcode. operands_in (forms_of opcode) text >>= λ os. Some (Instruct opcode os)
 
--- a word and what stands behind the blank, None where there is none
+-- a word and what follows the blank, None where there is none
 unfoldable pub words_in : List ℕ → Option (List ℕ) → Option Statement
 words_in word text =
     if bytes_eq word (codes ".byte") then (text >>= number_field_in 1) else
@@ -55,7 +55,7 @@ statement_in text = elim (cut is_blank text) [
 abbrev pub saying : Option (List ℕ) → List ℕ → Option Line
 saying label text = statement_in text >>= λ s. Some (record { label = label; statement = Some s })
 
--- exactly one blank stands behind a label
+-- exactly one blank comes after a label
 abbrev pub behind_label : List ℕ → List ℕ → Option Line
 behind_label name [] = Some (record { label = Some name; statement = None })
 behind_label name (b ∷ text) = if is_blank b then saying (Some name) text else None
@@ -71,7 +71,7 @@ content_in text = elim (cut_at 58 text) [
   | Some c ↦ if is_object_name c.before then behind_label c.before c.behind else None
 ]
 
--- what stands before the first semicolon (59)
+-- what comes before the first semicolon (59)
 abbrev pub before_comment : List ℕ → List ℕ
 before_comment text = elim (cut_at 59 text) [ None ↦ text | Some c ↦ c.before ]
 

@@ -208,8 +208,8 @@ fn alu_in(op: AluOp, a: u32, b: u32, w: Width, psw: u8) -> Alu
 
 /// The value, the condition codes and the trap of an operation on the low bits of two operands,
 /// by the VAX Architecture Reference Manual. A count of Ash or Rot is the signed low byte of `a`,
-/// and Narrow takes all of `a`. It is written out where it is called, since a call hands the answer
-/// over through memory; the functions below leave that to the compiler, so that this one is small
+/// and Narrow takes all of `a`. It is written out where it is called, since a call passes the answer
+/// through memory; the functions below leave that to the compiler, so that this one is small
 /// enough.
 #[inline(always)]
 pub fn alu(op: AluOp, a: u32, b: u32, w: Width, psw: u8) -> Alu

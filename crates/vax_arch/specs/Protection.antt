@@ -18,7 +18,7 @@ allows r Read = true
 allows r Write = false
 allows rw i = true
 
--- a line of the table: the rights of each mode
+-- a row of the table: the rights of each mode
 pub record Line : Type 0 where
   pub kernel : Rights
   pub executive : Rights
@@ -59,6 +59,6 @@ rights_in l Executive = l.executive
 rights_in l Supervisor = l.supervisor
 rights_in l User = l.user
 
--- whether the table lets a mode do it
+-- whether the table allows it to a mode
 abbrev pub may_of : ℕ → Mode → Intent → Bool
 may_of code m i = allows (rights_in (line_or_none (slice_get lines code)) m) i

@@ -37,14 +37,14 @@ compressed_codes =
 abbrev pub compressed_of : ℕ → ℕ
 compressed_of code = slice_index compressed_codes code
 
--- what the virtual machine lets a mode do: the manual's table, where executive has all that kernel has
+-- what the virtual machine allows to a mode: the manual's table, where executive has all that kernel has
 abbrev pub open_of : ℕ → Mode → Intent → Bool
 open_of code Kernel i = may_of code Kernel i
 open_of code Executive i = may_of code Executive i || may_of code Kernel i
 open_of code Supervisor i = may_of code Supervisor i
 open_of code User i = may_of code User i
 
--- The law of ring compression: under each code the compressed code lets the real mode do exactly what the virtual
--- machine lets the virtual mode do.
+-- The law of ring compression: under each code the compressed code allows the real mode exactly what the virtual
+-- machine allows the virtual mode.
 abbrev pub Compresses : Type 0
 Compresses = (code : ℕ) → code < 16 → (m : Mode) (i : Intent) → may_of (compressed_of code) (ring_of m) i ≡ open_of code m i

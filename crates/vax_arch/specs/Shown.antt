@@ -46,7 +46,7 @@ bits_of_entries = refl
 pub modify_of_entries : map is_modified (0xa400_0008 ∷ 0xa000_0008 ∷ []) ≡ true ∷ false ∷ []
 modify_of_entries = refl
 
--- a KW page: executive is refused by the manual's table, and let in by the virtual machine; user never
+-- a KW page: executive is refused by the manual's table, and allowed by the virtual machine; user never
 pub kw_by_the_manual : may_of 2 Executive Read ≡ false
 kw_by_the_manual = refl
 

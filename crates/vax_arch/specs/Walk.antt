@@ -1,6 +1,6 @@
 -- Address translation (VAX Architecture Reference Manual, memory management: address translation, page tables; the
 -- order of the tests where it shows is profile). A page's entry is looked up without mode and intent; what the entry
--- lets a mode do is asked behind that. A virtual and the real machine differ in the table of codes alone.
+-- allows to a mode is asked after that. A virtual and the real machine differ in the table of codes alone.
 use Rattle.std.specs.Prelude.{ℕ, ◌+◌, ◌*◌, ◌/◌, ◌%◌, ◌^◌, ◌==◌, Bool, true, false, not, ◌||◌, nat_le, nat_lt, if◌then◌else◌, List, Option, Some, None}
 use Rattle.vv_base.specs.Bytes.{long_at}
 use Rattle.vax_arch.specs.Fields.{frame_of, is_modified, is_valid, protection_of}
@@ -45,7 +45,7 @@ system_entry size t page =
     if nat_le t.slr page then Fails false 1 else
     in_memory size None (t.sbr + 4 * page)
 
--- behind the system entry of the page that holds a process entry: its protection isn't asked
+-- after the system entry of the page that holds a process entry: its protection isn't asked
 abbrev pub behind_table : ℕ → List ℕ → ℕ → ℕ → Lookup
 behind_table size memory at table =
     let entry = long_at memory table in

@@ -47,7 +47,7 @@ static LIMITS: [Limits; 16] = [
     Limits { write: 0, read: 4 },
 ];
 
-/// Whether a code lets a mode read or write, by the manual's table.
+/// Whether a code allows a mode to read or write, by the manual's table.
 pub fn may(p: Prot, m: Mode, i: Intent) -> bool
     ensures { result ≡ may_of p m i }
 {
@@ -72,7 +72,7 @@ pub fn compress(p: Prot) -> Prot
     }
 }
 
-/// Whether a code lets a mode of the virtual machine read or write: as `may`, and executive has
+/// Whether a code allows a mode of the virtual machine to read or write: as `may`, and executive has
 /// all that kernel has.
 pub fn ring_may(p: Prot, m: Mode, i: Intent) -> bool
     ensures { result ≡ open_of p m i }
@@ -81,7 +81,7 @@ pub fn ring_may(p: Prot, m: Mode, i: Intent) -> bool
 }
 
 /// The law of ring compression, which its contract states: a compressed code is a code, and it
-/// lets a real mode do exactly what the guest's code lets the virtual mode do.
+/// allows a real mode exactly what the guest's code allows the virtual mode.
 pub fn compression_law()
     ensures code { (code : ℕ) → code < 16 → compressed_of code < 16 }
     ensures rights { Compresses }

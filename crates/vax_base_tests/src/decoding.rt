@@ -252,7 +252,7 @@ fn check_operands(
     Ok(())
 }
 
-/// A literal stands only where an operand is read, a register only where its address isn't taken, and
+/// A literal is only where an operand is read, a register only where its address isn't taken, and
 /// PC in mode 6 nowhere.
 #[test]
 fn each_operand_allows_what_its_access_does(rt: HostRuntime) -> Result<(), Fail> {
@@ -291,7 +291,7 @@ fn worked_examples_are_decoded(rt: HostRuntime) {
 
 #[test]
 fn an_indexed_word_displacement_is_decoded_and_encoded(rt: HostRuntime) {
-    // ADDL2 1234(R3)[R4], R0, and two bytes behind it
+    // ADDL2 1234(R3)[R4], R0, and two bytes after it
     let bytes = [0xc0, 0x44, 0xc3, 0x34, 0x12, 0x50, 0xde, 0xad];
     let Decode::Done(d) = decode(&bytes) else {
         assert!(rt; false, "a whole instruction");

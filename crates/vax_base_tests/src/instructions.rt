@@ -115,7 +115,7 @@ fn length(code: u64) -> u32 {
     8 - code.leading_zeros() / 8
 }
 
-/// What an instruction comes to; None where it isn't one that `plan` takes.
+/// The outcome of an instruction; None where it isn't one that `plan` takes.
 fn found(m: &Memory, code: u64, r: &[u32; 16], psw: u8) -> Option<Result<Told, Trouble>> {
     match decode(&bytes_of(code)) {
         Decode::Done(d) if is_planned(operation(d.opcode)) => {
@@ -221,7 +221,7 @@ static COMPUTING: [Computing; 63] = [
     (0xD95051, 1, 0, 0, 0xFFFF_FFFF, 9, 0), // SBWC R0,R1
 ];
 
-/// An instruction, PSW, R0 and R1; and R1, PC, PSW and trap after. At 204 stand the words 10, FFF0 and 20.
+/// An instruction, PSW, R0 and R1; and R1, PC, PSW and trap after. At 204 are the words 10, FFF0 and 20.
 type Branching = (u64, u8, u32, u32, u32, u32, u8, u8);
 
 static BRANCHING: [Branching; 61] = [
@@ -610,7 +610,7 @@ static FAILING: [Failing; 21] = [
     (0xBA03, 0x7FFC, [0, 0], Some((0x8000, false))), // POPR #3: the second
 ];
 
-/// Behind an instruction, with the result in the register that its last byte names.
+/// After an instruction, with the result in the register that its last byte names.
 fn with_result(r: &[u32; 16], code: u64, value: u32) -> [u32; 16] {
     let mut r = *r;
     r[(code % 16) as usize] = value;

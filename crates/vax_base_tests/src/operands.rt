@@ -9,7 +9,7 @@ use vax_operand::{Dest, Operands, Space, Trouble, evaluate};
 use vv_base::Width;
 
 /// The memory of the worked examples: the longword 2000 at 1000, zeros below 1100, and up to 7FFF each byte is its
-/// address modulo 251, so that A0, A1, .. stand from 2000 on.
+/// address modulo 251, so that A0, A1, .. are from 2000 on.
 struct Memory;
 
 /// The number of so many bytes, the lowest first.
@@ -63,7 +63,7 @@ fn operands(code: &[u8], r0: u32, r1: u32) -> Option<Result<Operands, Trouble>> 
     decoded(code, &r)
 }
 
-/// What is told of one operand: its value and destination, and R0 and PC behind the instruction.
+/// What is told of one operand: its value and destination, and R0 and PC after the instruction.
 #[derive(Clone, Copy, PartialEq, Eq)]
 struct Found {
     value: u64,
@@ -81,7 +81,7 @@ fn wanted(value: u64, dest: Dest, r0: u32, pc: u32) -> Option<Found> {
     })
 }
 
-/// The first operand, or behind a literal the second.
+/// The first operand, or after a literal the second.
 fn operand(code: &[u8], r0: u32, r1: u32) -> Option<Found> {
     let i = usize::from(code.get(1) == Some(&0));
     match operands(code, r0, r1) {
@@ -175,7 +175,7 @@ static PLAIN: [InMemory; 12] = [
         (0x2000, 0, 0xA1A0),
         (0x2000, 0),
     ),
-    // 1DFA(PC), where PC is 206, and 207 behind one byte more
+    // 1DFA(PC), where PC is 206, and 207 after one byte more
     (
         [0xEF, 0xFA, 0x1D, 0, 0, 0],
         5,

@@ -92,7 +92,7 @@ kind_leaves (Write b) w s r cs h = holds-bind (PlaceLeaves r) (IsLeft r 0) cs (a
 kind_leaves (Address b) w s r cs h = holds-bind (PlaceLeaves r) (IsLeft r 0) cs (address_by b (size_of w) s r) _ (address_leaves b (size_of w) s r cs h) (λ ds p e. (e, tt))
 kind_leaves (Bits b) w s r cs h = holds-bind (PlaceLeaves r) (IsLeft r 0) cs (address_by b (size_of w) s r) _ (address_leaves b (size_of w) s r cs h) (λ ds p e. (e, tt))
 
--- the same behind its own bytes, by which PC goes on
+-- the same after its own bytes, by which PC goes on
 abbrev IsBehind : List ℕ → ℕ → List ℕ → Evaluated → Type 0
 IsBehind r n cs e = AreAlike r e.r × IsAt n e.dest
 

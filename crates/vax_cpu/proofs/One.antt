@@ -100,7 +100,7 @@ runs_to_trap n kind m after h = ap (going_on (real n) m) h
 pub runs_to_stop : (n : ℕ) (m : Machine) (e : Exit) → one m ≡ Err e → real (suc n) m ≡ (record m { misses = misses_after m.misses e }, e)
 runs_to_stop n m e h = ap (going_on (real n) m) h
 
--- An instruction that comes to a plan over known pages, whose stores are all modified, retires by it.
+-- An instruction whose outcome is a plan over known pages, whose stores are all modified, retires by it.
 
 ok_is : {A : Type 0} (x : A) (r : Result A Trouble) → (let y : Result A Exit = Ok x in y ≡ exits r) → r ≡ Ok x
 ok_is x (Ok y) h = let same : y ≡ x = cc in ap (λ z. Ok z) same

@@ -37,7 +37,7 @@ Nothing cs a = cs ≡ []
 at_none : {A : Type 0} (P : List ℕ → A → Type 0) (cs : List ℕ) (script : Script A) → cs ≡ [] → Holds P [] script → Holds P cs script
 at_none P cs script e h = subst (λ (zs : List ℕ). Holds P zs script) (sym e) h
 
--- one script and then another
+-- one interaction and then another
 both : {A B : Type 0} (m : Script A) (g : A → Script B) → Holds Nothing [] m → ((a : A) → Holds Nothing [] (g a)) → Holds Nothing [] (m >>= g)
 both m g h k = holds-bind Nothing Nothing [] m g h (λ ds a e. at_none Nothing ds (g a) e (k a))
 

@@ -55,7 +55,7 @@ target_register targets.First xs = register_at 0 xs
 target_register targets.Second xs = register_at 1 xs
 target_register targets.Third xs = register_at 2 xs
 
--- the one that an operation changes behind its operands, or 15 where that may be another one or several
+-- the one that an operation changes after its operands, or 15 where that may be another one or several
 abbrev pub result_register : Operation → List Operand → ℕ
 result_register (does.Compute op Quad inputs target) xs = 15
 result_register (does.Compute op w inputs target) xs = target_register target xs

@@ -73,7 +73,7 @@ abbrev pub retired_from : Machine → Result (ℕ × Effect) Exit → Result Ret
 retired_from m (Ok x) = retired_with m x.0 x.1
 retired_from m (Err x) = Err x
 
--- the machine behind an instruction at an address, but for its registers
+-- the machine after an instruction at an address, but for its registers
 abbrev pub behind : (pc opcode : ℕ) → Effect → Machine → Machine
 behind pc opcode e m = record m {
   memory = all_stored (written_place m.memory m.world) e.writes m.memory;

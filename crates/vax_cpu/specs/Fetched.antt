@@ -49,7 +49,7 @@ abbrev pub kept_view : Result Kept Fault → Result Instruction Exit
 kept_view (Ok k) = Ok (view k.prepared.decoded)
 kept_view (Err f) = Err (fault_exit f)
 
--- what is kept behind a fetch, unless that stopped
+-- what is kept after a fetch, unless that stopped
 abbrev pub taken : {A : Type 0} → Decoded → Result A Fault → Result Instruction Exit
 taken d (Ok u) = Ok (view d)
 taken d (Err f) = Err (fault_exit f)
@@ -64,7 +64,7 @@ meaning_of o p acts.Plain = Plain (effect p)
 meaning_of o p (acts.Traps op) = Traps (trap_of op o)
 meaning_of o p (acts.Probes intent) = Probes intent o
 
--- what an instruction of an opcode came to, with its operands and its plan
+-- the outcome of an instruction of an opcode, with its operands and its plan
 abbrev pub acts_of : ℕ → Operands → Plan → Result Act Stop → Result Meant Exit
 acts_of opcode o p (Ok a) = Ok (meant opcode (meaning_of o p a))
 acts_of opcode o p (Err s) = Err (stop_exit o s)

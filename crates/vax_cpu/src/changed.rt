@@ -74,7 +74,7 @@ fn target_register(target: Target, operands: &[Operand]) -> u8
     }
 }
 
-/// The register that an operation changes behind its operands, if it changes one of R0 to R14 at most; else 15.
+/// The register that an operation changes after its operands, if it changes one of R0 to R14 at most; else 15.
 fn result_register(operation: Operation, operands: &[Operand]) -> u8
     ensures { result ≡ result_register operation operands.now }
 {

@@ -98,7 +98,7 @@ fn attempt_walked(
     attempt(state.memory(), state.world(), kept, o, plan)
 }
 
-/// The same by the pages that are known, or else by the page tables. `total` is the sum of R0 to R14, before and behind it.
+/// The same by the pages that are known, or else by the page tables. `total` is the sum of R0 to R14, before and after it.
 fn attempt_next(
     state: &mut State,
     missed: &Cell<u32>,

@@ -39,7 +39,7 @@ fn has_eight(memory: &[u8], place: usize, bytes: &[u8; 24]) -> bool
     number_in(memory, place, Width::Quad) == number_in(bytes, 0, Width::Quad)
 }
 
-/// Whether bytes stand in a memory at a place.
+/// Whether bytes are in a memory at a place.
 #[cold]
 #[inline(never)]
 fn has_all(memory: &[u8], place: usize, bytes: &[u8]) -> bool
@@ -49,7 +49,7 @@ fn has_all(memory: &[u8], place: usize, bytes: &[u8]) -> bool
     place + bytes.len() <= memory.len() && &memory[place..place + bytes.len()] == bytes
 }
 
-/// Whether the bytes that spell a kept instruction stand in a memory at a place.
+/// Whether the bytes that spell a kept instruction are in a memory at a place.
 fn stands_at(memory: &[u8], place: usize, kept: &Kept) -> bool
     requires place { place ≤ everywhere }
     requires length { kept.now.prepared.decoded.length ≤ 24 }
@@ -70,7 +70,7 @@ fn is_in_page(pc: u32, length: u8) -> bool
     length <= 24 && pc % 512 + u32::from(length) <= 512
 }
 
-/// Whether kept bytes stand at an address, all in one page, so that the instruction there is the kept one.
+/// Whether kept bytes are at an address, all in one page, so that the instruction there is the kept one.
 fn has(space: &Paged, kept: &Kept, pc: u32) -> bool
     ensures fetched { result ≡ true → Ok (view kept.now.prepared.decoded) ≡ exits (outcome (paged space.now.memory.now space.now.world.now) (fetched pc)) }
     ensures formed { result ≡ true → IsWellFormed (view kept.now.prepared.decoded) }
@@ -100,7 +100,7 @@ pub fn has_known(space: &Mapped, world: &World, kept: &Kept, pc: u32) -> bool
     }
 }
 
-/// The bytes from the place of an address on, or zeros: what they are is of no matter.
+/// The bytes from the place of an address on, or zeros: what they are doesn't matter.
 fn window(space: &Paged, pc: u32) -> [u8; 24] {
     let mut bytes = [0; 24];
     if let Ok(place) = space.place(pc, false) {
@@ -112,7 +112,7 @@ fn window(space: &Paged, pc: u32) -> [u8; 24] {
     bytes
 }
 
-/// An instruction with the bytes that it was decoded from, and those that stand behind it.
+/// An instruction with the bytes that it was decoded from, and those that come after it.
 fn keep(bytes: &[u8], window: &[u8; 24], decoded: Decoded) -> Kept
     requires few { length bytes.now ≤ 24 }
     requires whole { decoded.length ≤ length bytes.now }

@@ -11,7 +11,7 @@ use vax_decode::Decoded;
 use vax_operand::Prepared;
 use vax_table::{Operation, operation};
 
-/// An instruction that was decoded and prepared, the bytes that spell it, and those that stood behind them.
+/// An instruction that was decoded and prepared, the bytes that spell it, and those that came after them.
 #[derive(Drop)]
 pub struct Kept {
     pub bytes: [u8; 24],
@@ -58,7 +58,7 @@ pub fn reach_of(decoded: &Decoded) -> u32
 }
 
 impl Kept {
-    /// WAIT, which stands where nothing was decoded yet.
+    /// WAIT, which fills the places where nothing was decoded yet.
     #[tactic(auto, unfolding(vax_table::specs::Reading::decoded_at))]
     pub fn wait() -> Kept {
         let mut bytes = [0; 24];

@@ -32,7 +32,7 @@ use vax_paged::Paged;
 use vax_table::Operation;
 use vv_base::Width;
 
-/// What an instruction comes to: what it planned, or with its operands a trap, or PROBE's test of them.
+/// The outcome of an instruction: what it planned, or with its operands a trap, or PROBE's test of them.
 #[derive(Clone, Copy)]
 pub enum Act {
     Plain,
@@ -151,8 +151,8 @@ fn move_status<S: Space>(
     Ok(Act::Plain)
 }
 
-/// What an instruction that is kept comes to, in kernel mode or not, with the PSL that MOVPSL stores. The plan's registers
-/// are those before it. Its operands go to `o`, and what it plans to `plan`; of what they are behind an error, and where it
+/// The outcome of an instruction that is kept, in kernel mode or not, with the PSL that MOVPSL stores. The plan's registers
+/// are those before it. Its operands go to `o`, and what it plans to `plan`; of what they are after an error, and where it
 /// traps, nothing is said.
 #[tactic(auto, unfolding(vax_table::specs::Whole::acted, vax_table::specs::Plan::plan_of, vax_table::specs::Plan::performed), using(vax_table::proofs::Scripts::binds))]
 pub fn carry_out<S: Space>(
@@ -199,7 +199,7 @@ fn seen_psl(w: &World) -> Psl
     Psl(w.vmpsl.0 / 0x100 * 0x100 + w.psl.0 % 0x100)
 }
 
-/// The instruction at PC over a memory, and what it comes to, with the plan's registers in place of the world's. It is kept,
+/// The instruction at PC over a memory, and its outcome, with the plan's registers in place of the world's. It is kept,
 /// or taken where it was kept already.
 #[tactic(auto, unfolding(vax_table::specs::Whole::instruction), using(vax_table::proofs::Scripts::binds))]
 fn find(
@@ -269,7 +269,7 @@ pub fn attempt_known(
 }
 
 /// The opcode of the instruction at PC over a memory, which retires by the plan, or why it doesn't retire. The plan's
-/// registers are those before it, in place of the world's; of what it is behind an error nothing is said.
+/// registers are those before it, in place of the world's; of what it is after an error nothing is said.
 pub fn attempt(
     memory: &[u8],
     world: &World,

@@ -41,7 +41,7 @@ fn is_kernels_alone(p: Prot) -> bool
     may(p, Mode::Kernel, Intent::Read) && !may(p, Mode::Executive, Intent::Read)
 }
 
-/// Whether an entry lets a mode use a byte, where the machine judges by it.
+/// Whether an entry allows a mode to use a byte, where the machine judges by it.
 fn judged_by(entry: Pte, m: Mode, i: Intent) -> Option<bool>
     ensures { result ≡ judged_by entry.0 m i }
 {
@@ -85,7 +85,7 @@ pub fn probe(space: &Paged, i: Intent, o: &Values) -> Option<bool>
     )
 }
 
-/// PROBE behind its operands: Z where not both bytes may be used, and C as before.
+/// PROBE after its operands: Z where not both bytes may be used, and C as before.
 pub fn probed(is_accessible: bool, psw: u8, plan: &mut Plan)
     ensures { effect plan.new ≡ probed is_accessible (record { values = []; dests = []; r = plan.old.r }) psw }
 {

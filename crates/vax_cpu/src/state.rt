@@ -15,7 +15,7 @@ use vax_paged::{KnownPages, Mapped, Paged, store_all};
 use vv_base::{NoMemory, get_u32, put_u32};
 
 /// What the machine is to those who use it, but for its registers: memory, what else is loaded, and counts. The registers of
-/// the world that it keeps are of no matter.
+/// the world that it keeps don't matter.
 #[derive(Drop)]
 pub struct State {
     memory: Vec<u8>,
@@ -212,8 +212,8 @@ impl State {
         self.world = *w;
     }
 
-    /// An instruction at an address has retired: its stores are made, the status word is that behind it, and it is counted.
-    /// `total` is the sum of R0 to R14 behind it.
+    /// An instruction at an address has retired: its stores are made, the status word is that after it, and it is counted.
+    /// `total` is the sum of R0 to R14 after it.
     pub fn retire(&mut self, pc: u32, opcode: u8, total: u64, plan: &Plan, missed: &Cell<u32>)
         requires { total ≡ sum (take 15 plan.now.r) }
         ensures { self.new ≡ behind pc opcode (effect plan.now) self.old }

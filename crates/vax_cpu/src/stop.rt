@@ -18,7 +18,7 @@ pub enum Fault {
     Refused(Refusal),
 }
 
-/// Why an instruction doesn't retire, without the operands of its trap: in small, since it is handed on by each function that
+/// Why an instruction doesn't retire, without the operands of its trap: kept small, since it is passed on by each function that
 /// an instruction goes through.
 #[derive(Clone, Copy)]
 pub enum Stop {
@@ -52,7 +52,7 @@ fn exit_of(trouble: Trouble) -> Exit
     }
 }
 
-/// What a stop stops the machine with: these are the operands, and the registers behind them.
+/// What a stop stops the machine with: these are the operands, and the registers after them.
 #[cold]
 #[inline(never)]
 pub fn exit_for(stop: Stop, o: &Values, r: &[u32; 16]) -> Exit

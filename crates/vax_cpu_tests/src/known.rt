@@ -1,6 +1,6 @@
 //! A page that the machine has used, and whose entries, mode or tables change then: it is looked up again. The system table
 //! is at 0 and the P0 table at 80, where the pages 0 to 15 have the frames of their numbers, open to all and modified. Another
-//! P0 table is at 280, which maps page 4 to frame 6. The word at 800 is 11, that at C00, in frame 6, is 22. At 200 stands the
+//! P0 table is at 280, which maps page 4 to frame 6. The word at 800 is 11, that at C00, in frame 6, is 22. At 200 is the
 //! loop MOVL (R1),R3; MOVL R0,(R2); BRB. Numbers are hexadecimal.
 
 use std::alloc::Global;
@@ -75,8 +75,8 @@ fn looped(alloc: Global, first: At, before: &World) -> Result<Cpu, NoMemory> {
 /// Why a run ended, R3, and the misses.
 type Seen = (Exit, u32, u64);
 
-/// What the second of two runs comes to: the first goes through the loop four times, then a longword is changed, and another world
-/// loaded.
+/// The outcome of the second of two runs: the first goes through the loop four times, then a longword is changed, and another
+/// world loaded.
 fn again(
     alloc: Global,
     first: At,
@@ -92,7 +92,7 @@ fn again(
     Ok((exit, cpu.save_world().r[3], cpu.misses()))
 }
 
-/// It comes to what it is to.
+/// Its outcome is the wanted one.
 fn check(
     rt: &impl Abort,
     alloc: Global,
@@ -111,7 +111,7 @@ fn check(
 /// A longword that changes, and what is seen in user mode then.
 type Changed = (At, Seen);
 
-/// The first of the loop's longwords, as it stands.
+/// The first of the loop's longwords, unchanged.
 const SAME: At = (0x200, 0xD053_61D0);
 
 const DENIED: Exit = Exit::Denied {
@@ -184,7 +184,7 @@ fn another_mode_is_judged_anew(rt: HostRuntime) -> Result<(), Fail> {
     Ok(())
 }
 
-/// What is seen with P0's table at an address, and of a length, behind the usual one.
+/// What is seen with P0's table at an address, and of a length, after the usual one.
 fn check_table(
     rt: &impl Abort,
     alloc: Global,

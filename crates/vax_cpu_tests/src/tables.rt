@@ -316,7 +316,7 @@ impl Use {
         }
     }
 
-    /// What PROBE #0,#4,(R1) with a MOVPSL R3 behind it comes to.
+    /// The outcome of PROBE #0,#4,(R1) with a MOVPSL R3 after it.
     fn probed(&self) -> Seen {
         if self.code == 2 || self.code == 3 {
             (trapped(self.write, 5, 0x800), 0, 0, 0)
@@ -379,7 +379,7 @@ fn check_rights(
     check_right(rt, alloc, code, 3, user)
 }
 
-/// Each code by each real mode and intent: a reference; and PROBE #0,#4,(R1) with a MOVPSL R3 behind it, which shows Z and,
+/// Each code by each real mode and intent: a reference; and PROBE #0,#4,(R1) with a MOVPSL R3 after it, which shows Z and,
 /// in every real mode, the virtual machine's user mode.
 #[test]
 fn each_code_in_each_mode(rt: HostRuntime) -> Result<(), Fail> {
@@ -865,7 +865,7 @@ static OWN_ENTRY: [At; 4] = [
 ];
 
 /// A store over a page's end into the entry of its own second page, which is stored to at its place of before: what a place
-/// has behind it.
+/// has after it.
 fn check_own_entry(
     rt: &impl Abort,
     alloc: Global,
@@ -892,7 +892,7 @@ const PROBE: At = (0x200, 0x6104_000C);
 
 const KERNELS: At = (ENTRY_4, 0xAC00_0004);
 
-/// MOVPSL R3, behind a PROBE.
+/// MOVPSL R3, after a PROBE.
 const SHOWS: At = (0x204, 0x53DC);
 
 /// A PROBE, an entry, a mode, R1, and what MOVPSL shows.
@@ -907,7 +907,7 @@ static PROBED: [Probed; 6] = [
     ((0x200, 0x6100_000C), KERNELS, 3, 0x7FE, 0x03C0_0000),
 ];
 
-/// A row's PROBE, and MOVPSL behind it.
+/// A row's PROBE, and MOVPSL after it.
 fn check_probed(rt: &impl Abort, alloc: Global, row: &Probed) -> Result<(), NoMemory> {
     let (code, entry, mode, r1, r3) = *row;
     let w = in_mode(mode, world(5, r1, 0));

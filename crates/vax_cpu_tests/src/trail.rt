@@ -51,7 +51,7 @@ fn looping(alloc: Global) -> Result<Cpu, NoMemory> {
     Ok(cpu)
 }
 
-/// The trail behind two runs, and R3.
+/// The trail after two runs, and R3.
 fn trailed(alloc: Global, first: u32, second: u32) -> Result<(Exit, u64, u32), NoMemory> {
     let mut cpu = looping(alloc)?;
     let _first = cpu.run(first.max(1));
@@ -59,7 +59,7 @@ fn trailed(alloc: Global, first: u32, second: u32) -> Result<(Exit, u64, u32), N
     Ok((exit, cpu.trail(), cpu.save_world().r[3]))
 }
 
-/// The budgets of two runs, the trail behind them, and R3.
+/// The budgets of two runs, the trail after them, and R3.
 type Trail = (u32, u32, u64, u32);
 
 static TRAILS: [Trail; 5] = [

@@ -1,4 +1,4 @@
--- Each answer of a decoder comes always where it may.
+-- Each answer of a decoder comes wherever it may.
 use Rattle.std.proofs.Common.{◌≡◌, ℕ, ◌<◌, List, [], ◌++◌, length, refl, sym, ap, ◌∙◌, append_assoc, append-nil, arith, length-append}
 use Rattle.vax_table.specs.Spelling.{view}
 use Rattle.vax_table.proofs.OneSpelling.{rest_same}

@@ -1,6 +1,6 @@
 use vax_table::Decoded;
 
-/// Why no instruction can stand at the front of the bytes.
+/// Why no instruction can be at the front of the bytes.
 #[derive(Clone, Copy, Debug, PartialEq, Eq)]
 pub enum DecodeFault {
     /// No instruction has the opcode bytes.
@@ -9,7 +9,7 @@ pub enum DecodeFault {
     Addressing,
 }
 
-/// What stands at the front of the bytes.
+/// What is at the front of the bytes.
 #[derive(Drop)]
 pub enum Decode {
     /// A whole instruction, with its length.

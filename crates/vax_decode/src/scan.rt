@@ -8,7 +8,7 @@ use crate::read::{Piece, operand};
 use arrayvec::ArrayVec;
 use vax_table::{Decoded, Form, Spec, row};
 
-/// Operands at the front of bytes and the bytes behind them, or why there are none.
+/// Operands at the front of bytes and the bytes after them, or why there are none.
 pub enum Pieces<'a> {
     Got(ArrayVec<Spec, 4>, &'a [u8]),
     More,
@@ -39,7 +39,7 @@ fn operands<'a>(forms: &[Form], b: &'a [u8]) -> Pieces<'a>
     Pieces::Got(specs, rest)
 }
 
-/// An instruction of an opcode, by its operands' forms and the bytes behind the opcode.
+/// An instruction of an opcode, by its operands' forms and the bytes after the opcode.
 fn behind_opcode(opcode: u8, forms: &[Form], b: &[u8]) -> Decode
     requires { length forms.now ≤ 4 }
     ensures { IsAnswer result (answer_of opcode b.now (operands_at forms.now b.now)) }
@@ -56,7 +56,7 @@ fn behind_opcode(opcode: u8, forms: &[Form], b: &[u8]) -> Decode
     }
 }
 
-/// What stands at the front of the bytes.
+/// What is at the front of the bytes.
 #[tactic(auto, unfolding(vax_table::specs::Reading::decoded_at))]
 fn scan(b: &[u8]) -> Decode
     ensures { IsAnswer result (decoded_at b.now) }

@@ -17,7 +17,7 @@ use vax_operand::{Operands, Prepared, Space, Trouble, Values, evaluate, evaluate
 use vax_table::effect::Plan;
 use vax_table::{Operation, operation};
 
-/// What an instruction does behind its operands that neither computes nor branches by the codes alone.
+/// What an instruction does after its operands that neither computes nor branches by the codes alone.
 #[inline(never)]
 #[tactic(auto, unfolding(vax_table::specs::Plan::performed))]
 fn perform_other<S: Space>(
@@ -50,7 +50,7 @@ fn perform_other<S: Space>(
     }
 }
 
-/// What an instruction does behind its operands.
+/// What an instruction does after its operands.
 #[inline(always)]
 #[tactic(auto, unfolding(vax_table::specs::Plan::performed))]
 fn perform<S: Space>(
@@ -76,10 +76,10 @@ fn perform<S: Space>(
     perform_other(s, *what, o, psw, plan)
 }
 
-/// What a plain instruction comes to that is neither MOVPSL nor PROBE, BPT or XFC: `psl` is the processor status longword,
-/// of which the low byte counts. The plan's registers are R0 to R15 before it, and behind it then; its operands go to `o`.
-/// An error is the first trouble of its accesses and tests, in order; nothing is to change then, and what `o` and `plan`
-/// are is of no matter.
+/// The outcome of a plain instruction that is neither MOVPSL nor PROBE, BPT or XFC: `psl` is the processor status longword,
+/// of which the low byte counts. The plan's registers are R0 to R15 before it, and after it then; its operands go to `o`.
+/// An error is the first trouble of its accesses and tests, in order; nothing is to change then, and it doesn't matter what
+/// `o` and `plan` are.
 #[inline(always)]
 #[tactic(auto, unfolding(vax_table::specs::Plan::planned), using(vax_table::proofs::Scripts::binds))]
 pub fn plan_into<S: Space>(
@@ -97,7 +97,7 @@ pub fn plan_into<S: Space>(
     perform(s, &e.operation, o, psl, plan)
 }
 
-/// What a plain instruction comes to, as `plan_into` gives it; `r` is R0 to R15 before it.
+/// The outcome of a plain instruction, as `plan_into` gives it; `r` is R0 to R15 before it.
 #[tactic(auto, unfolding(vax_table::specs::Plan::planned), using(vax_table::proofs::Scripts::binds))]
 pub fn plan<S: Space>(s: &S, d: &Decoded, r: &[u32; 16], psl: Psl) -> Result<Plan, Trouble>
     requires formed { IsWellFormed (view d.now) }

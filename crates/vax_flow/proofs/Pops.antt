@@ -13,7 +13,7 @@ passed : (k n mask : ℕ) → does_name mask n ≡ false → named_up (suc k) n 
 unfolding named_up
 passed k n mask e = rw e refl
 
--- what is left behind register n
+-- what is left after register n
 pub pops_next : (s : Space) (count n mask : ℕ) (p q : Place) → n < count → does_name mask n ≡ true → Ok q ≡ outcome s (pop n p) →
     outcome s (pop_all (named_up (count - (n + 1)) (n + 1) mask) q) ≡ outcome s (pop_all (named_up (count - n) n mask) p)
 pops_next s count n mask p q h e is =

@@ -16,7 +16,7 @@ fn clear(plan: &mut Plan)
     }
 }
 
-/// Begins a plan behind the operands, whose side effects its registers have: nothing else is done yet.
+/// Begins a plan after the operands, whose side effects its registers have: nothing else is done yet.
 pub fn begin(plan: &mut Plan, psw: u8)
     ensures { effect plan.new ≡ (record { r = plan.old.r; psw = psw; writes = []; trap = None }) }
 {

@@ -49,7 +49,7 @@ fn push_frame_end<S: Space>(
     push(space, plan, 0)
 }
 
-/// FP is SP, AP the argument list, and PC behind the mask.
+/// FP is SP, AP the argument list, and PC after the mask.
 fn begin_procedure(plan: &mut Plan, procedure: u32, mask: u32, list: u32)
     ensures { effect plan.new ≡ in_procedure procedure mask list (effect plan.old) }
 {
@@ -60,7 +60,7 @@ fn begin_procedure(plan: &mut Plan, procedure: u32, mask: u32, list: u32)
     plan.psw = procedure_status(mask, plan.psw);
 }
 
-/// Enters a procedure: the frame is pushed behind what is there.
+/// Enters a procedure: the frame is pushed after what is there.
 #[tactic(auto, unfolding(vax_table::specs::Calls::entered), using(vax_table::proofs::Scripts::binds))]
 fn enter<S: Space>(
     space: &S,
@@ -130,7 +130,7 @@ pub fn call_on_stack<S: Space>(
     Ok(())
 }
 
-/// SP behind a frame: where the argument list was on the stack, the count's longword and 4 times its low byte go too.
+/// SP after a frame: where the argument list was on the stack, the count's longword and 4 times its low byte go too.
 fn drop_list<S: Space>(space: &S, is_on_stack: bool, sp: u32) -> Result<u32, Trouble>
     ensures { told result ≡ outcome (S.space space.now) (list_dropped is_on_stack sp) }
 {
@@ -142,7 +142,7 @@ fn drop_list<S: Space>(space: &S, is_on_stack: bool, sp: u32) -> Result<u32, Tro
     }
 }
 
-/// Pops the frame behind its first two longwords.
+/// Pops the frame after its first two longwords.
 #[tactic(auto, unfolding(vax_table::specs::Calls::frame_popped), using(vax_table::proofs::Scripts::binds))]
 fn pop_frame<S: Space>(space: &S, place: &mut Place, mask: u32) -> Result<(), Trouble>
     ensures { left result place.new ≡ outcome (S.space space.now) (frame_popped mask place.old) }

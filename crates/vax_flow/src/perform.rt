@@ -15,9 +15,9 @@ use vax_operand::{Space, Trouble, Values};
 use vax_table::Operation;
 use vax_table::effect::Plan;
 
-/// What an operation does behind its operands that goes on elsewhere, or works on the stack: branches, loops, CASE,
+/// What an operation does after its operands that goes on elsewhere, or works on the stack: branches, loops, CASE,
 /// subroutines, calls, RET, the bit branches, PUSHL, PUSHA, PUSHR and POPR. `o` is the operands, and `plan` has the registers
-/// as they left them. An error is the first trouble, and what `plan` is then is of no matter.
+/// as they left them. An error is the first trouble, and then it doesn't matter what `plan` is.
 #[tactic(auto, unfolding(vax_table::specs::Plan::performed))]
 pub fn flow<S: Space>(
     s: &S,

@@ -1,4 +1,4 @@
--- Runs of the real machine, one behind another.
+-- Runs of the real machine, one after another.
 use Rattle.std.proofs.Common.{◌≡◌, ℕ, zero, suc, ◌+◌, Option, Some, None, Result, Ok, Err, refl, ap, ◌∙◌, sym, arith}
 use Rattle.vax_table.specs.Effects.{long_of}
 use Rattle.vax_table.specs.Script.{Absent, Refusing, Past, Trouble, At, Test}
@@ -42,7 +42,7 @@ one_ends : (m : Machine) → Ends (one m)
 unfolding one
 one_ends m = try_ends m (tried (space_of m) (is_clear m) (instruction (in_kernel m.world) (seen_psl m.world) m.world.r))
 
--- behind a trap
+-- after a trap
 trap_goes_on : (n more : ℕ) (m : Machine) (trap : Option ℕ) → real (n + more) m ≡ continued more (real n m).0 (real n m).1 →
     unless_trapped (real (n + more)) m trap ≡ continued more (unless_trapped (real n) m trap).0 (unless_trapped (real n) m trap).1
 trap_goes_on n more m None e = e

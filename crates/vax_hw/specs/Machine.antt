@@ -55,7 +55,7 @@ ShowsTheRealStatusWord = (w : World) → seen_psl w % 2 ^ 8 ≡ psw_of w
 abbrev pub with_psw : Psl → ℕ → Psl
 with_psw psl psw = record { 0 = psl.0 / 256 * 256 + psw % 256 }
 
--- with the registers and the status word behind an instruction
+-- with the registers and the status word after an instruction
 abbrev pub with_effect : World → Effect → World
 with_effect w e = record w { r = e.r; psl = with_psw w.psl e.psw }
 

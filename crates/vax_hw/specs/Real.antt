@@ -66,12 +66,12 @@ abbrev pub misses_after : ℕ → Exit → ℕ
 misses_after n (NotValid va write) = (n + 1) % 2 ^ 64
 misses_after n e = n
 
--- going on behind an instruction that retired, unless it had a trap
+-- going on after an instruction that retired, unless it had a trap
 abbrev pub unless_trapped : (Machine → Machine × Exit) → Machine → Option ℕ → Machine × Exit
 unless_trapped rest m None = rest m
 unless_trapped rest m (Some kind) = (m, Arithmetic kind)
 
--- going on behind one instruction
+-- going on after one instruction
 abbrev pub going_on : (Machine → Machine × Exit) → Machine → Result Retired Exit → Machine × Exit
 going_on rest m (Ok after) = unless_trapped rest after.machine after.trap
 going_on rest m (Err e) = (record m { misses = misses_after m.misses e }, e)

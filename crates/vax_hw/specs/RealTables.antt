@@ -18,7 +18,7 @@ use Rattle.vax_table.specs.Probing.{last_of, probe_mode}
 use Rattle.vax_table.specs.Script.{Cause}
 use Rattle.vax_table.specs.Script as script
 
--- more than any place that a walk comes to: a base has 32 bits, a page in its region 21, and so has a frame
+-- more than any place that a walk reaches: a base has 32 bits, a page in its region 21, and so has a frame
 abbrev pub everywhere : ℕ
 everywhere = 2 ^ 33
 
@@ -74,7 +74,7 @@ is_clear_in memory t va = is_clear_at memory (real_look memory t (page_of va))
 abbrev pub is_kernels_alone : ℕ → Bool
 is_kernels_alone code = may_of code Kernel intents.Read && not (may_of code Executive intents.Read)
 
--- Whether an entry lets a mode use a byte: its code alone says so. The machine doesn't judge by an entry that isn't
+-- Whether an entry allows a mode to use a byte: its code alone says so. The machine doesn't judge by an entry that isn't
 -- valid or is the kernel's alone.
 abbrev pub judged_by : (entry : ℕ) → Mode → Intent → Option Bool
 judged_by entry m i = if is_valid entry && not (is_kernels_alone (protection_of entry)) then Some (may_of (protection_of entry) m i) else None

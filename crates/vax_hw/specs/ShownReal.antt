@@ -59,7 +59,7 @@ world_of r0 r1 r3 = record {
 abbrev pub machine_of : List ℕ → List (ℕ × ℕ) → World → Machine
 machine_of code longs w = record { memory = with_longs longs (memory_of code); world = w; retired = 0; trail = 0; misses = 0 }
 
--- what is seen behind a run: why it ended, R0 to R3 and PC, the longwords at some places, and the three counts
+-- what is seen after a run: why it ended, R0 to R3 and PC, the longwords at some places, and the three counts
 pub record Seen : Type 0 where
   pub exit : Exit
   pub r : List ℕ
@@ -82,7 +82,7 @@ reads = 0xd0 ∷ 0x61 ∷ 0x53 ∷ []
 abbrev pub writes : List ℕ
 writes = 0xd0 ∷ 0x50 ∷ 0x61 ∷ []
 
--- what a reference to 400 comes to
+-- the outcome of a reference to 400
 pub references :
     -- it is read, and the trail is 200, 3 times D0, and the registers
     (behind (real 1 (machine_of reads ((0x400, 0x12345678) ∷ []) (world_of 7 0x400 0))) [] ≡ shows Budget (7 ∷ 0x400 ∷ 0 ∷ 0x12345678 ∷ []) [] (1 ∷ 0x12345eef ∷ 0 ∷ []))
@@ -112,7 +112,7 @@ over_an_end = (refl, refl, refl)
 abbrev pub writes_a_table : List ℕ
 writes_a_table = 0xd0 ∷ 0x50 ∷ 0x9f ∷ 0x88 ∷ 0x00 ∷ 0x00 ∷ 0x80 ∷ 0xd0 ∷ 0x61 ∷ 0x53 ∷ []
 
--- what the tables say is what stands in memory
+-- what the tables say is what is in memory
 pub tables_in_memory :
     (behind (real 2 (machine_of writes_a_table ((0x400, 0x11) ∷ (0x600, 0x22) ∷ []) (world_of 0xa4000003 0x400 0))) (0x88 ∷ []) ≡ shows Budget (0xa4000003 ∷ 0x400 ∷ 0 ∷ 0x22 ∷ []) (0xa4000003 ∷ []) (2 ∷ 0x14800110f ∷ 0 ∷ []))
     -- MOVQ R0,(R1) over the end of page 0 into that page's own next entry, by tables from 1F8 on: all its bytes go to the
@@ -133,7 +133,7 @@ probes = 0x0c ∷ 0x00 ∷ 0x04 ∷ 0x61 ∷ 0xdc ∷ 0x53 ∷ []
 pub ends :
     -- the trail of two instructions
     (behind (real 2 (machine_of counts_up [] (world_of 7 0x400 0))) [] ≡ shows Budget (7 ∷ 0x400 ∷ 0 ∷ 2 ∷ []) [] (2 ∷ 0x1117 ∷ 0 ∷ []))
-    -- an overflow that traps: it has retired, and the run ends behind it
+    -- an overflow that traps: it has retired, and the run ends after it
     × (behind (real 2 (machine_of counts_up [] (record (world_of 0 0 0x7fffffff) { psl = record { 0 = 0x03c00020 } }))) [] ≡ shows (Arithmetic 1) (0 ∷ 0 ∷ 0 ∷ 0x80000000 ∷ []) [] (1 ∷ 0x80000482 ∷ 0 ∷ []))
     -- PROBE is executed, and Z is 0; of user mode it isn't accessible, and Z is 1; MOVPSL shows VMPSL's mode
     × (behind (real 2 (machine_of probes [] (world_of 7 0x400 0))) [] ≡ shows Budget (7 ∷ 0x400 ∷ 0 ∷ 0x03c00000 ∷ []) [] (2 ∷ 0x03c00eca ∷ 0 ∷ []))

@@ -16,7 +16,7 @@ pub struct World {
     pub slr: u32,
 }
 
-/// Why a run of the machine came to its end: the budget is used; an instruction retired with an arithmetic trap of this
+/// Why a run of the machine ended: the budget is used; an instruction retired with an arithmetic trap of this
 /// kind; or else the first trouble of an instruction that did not retire.
 #[derive(Clone, Copy, Debug, PartialEq, Eq)]
 pub enum Exit {

@@ -1,4 +1,4 @@
--- Scripts over two spaces that answer alike at each address that is asked for.
+-- Interactions over two spaces that answer alike at each address that is asked for.
 use Rattle.std.proofs.Common.{◌≡◌, ℕ, zero, suc, ◌+◌, ◌%◌, ◌^◌, Bool, ◌⊎◌, inl, inr, List, [], ◌∷◌, ◌++◌, Some, Result, Ok, Err, refl, ap, ◌∙◌, sym, subst}
 use Rattle.std.specs.Prelude.{if◌then◌else◌}
 use Rattle.vax_arch.specs.declared.mode.Intent.{Intent}
@@ -72,7 +72,7 @@ reached_same s t (Touch i a k f) h =
     ∙ ap (λ r. here ++ on_ok r (λ v. reached t (f v))) (number_same s t i k a at_front)
     ∙ ap (λ xs. here ++ xs) (behind_same (AnswersThere s t) (λ v. reached s (f v)) (λ v. reached t (f v)) (λ v. reached s (f v)) (number_at s i k a) (fewer s t behind (here ++ behind) (among_back here behind) h) (λ v g. reached_same s t (f v) g))
 
--- What a script that completes claims is among what it asks for.
+-- What an interaction that completes claims is among what it asks for.
 
 made_of : (i : Intent) (a n : ℕ) (x : Result ℕ Cause) (r : Result ℕ Trouble) → with_byte i a x r ≡ Ok n → ((b : ℕ) × (x ≡ Ok b)) × ((v : ℕ) × (r ≡ Ok v))
 made_of i a n (Err c) r e = absurd (cc)

@@ -75,7 +75,7 @@ stores_same p q (x ∷ xs) memory h =
     ap (all_stored q xs) (bytes_same p q (size_of x.width) x.va x.value memory (λ va g. h va (among_front here (bytes_of_stores xs) va g)))
     ∙ stores_same p q xs (bytes_stored p (size_of x.width) x.va x.value memory) (λ va g. h va (among_back here (bytes_of_stores xs) va g))
 
--- What the instruction comes to. The other machine has the first one's registers and tables.
+-- The outcome of the instruction. The other machine has the first one's registers and tables.
 
 abbrev pub like : Machine → Machine → Machine
 like m other = record other { world = m.world }

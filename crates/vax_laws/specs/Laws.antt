@@ -18,7 +18,7 @@ pub record ReadsTheSame (m other : Machine) : Type 0 where
   pub world : other.world ≡ m.world
   pub bytes : HasTheSame (places_read m) m.memory other.memory
 
--- a machine behind an instruction that retired: with this world, these stores made in order at these places, one more
+-- a machine after an instruction that retired: with this world, these stores made in order at these places, one more
 -- instruction counted, and the trail up by a term
 abbrev pub behind : World → (ℕ → ℕ) → List Store → (term : ℕ) → Machine → Machine
 behind w place stores term m = record m {
@@ -44,7 +44,7 @@ AreAlike m other (Ok x) (Err e) = ⊥
 AreAlike m other (Err e) (Ok y) = ⊥
 AreAlike m other (Err e) (Err f) = f ≡ e
 
--- What an instruction comes to depends on memory only at the places that it reads. Beyond a memory's end a byte is 0, so
+-- The outcome of an instruction depends on memory only at the places that it reads. Beyond a memory's end a byte is 0, so
 -- that memories of two sizes can be compared.
 abbrev pub DependsOnWhatItReads : Type 0
 DependsOnWhatItReads = (m other : Machine) → ReadsTheSame m other → AreAlike m other (one m) (one other)

@@ -1,6 +1,6 @@
 ghost use Rattle.vax_laws.specs.Laws.{ChangesWhatItReads, DependsOnWhatItReads, ReadsAtTheSamePlaces};
 
-/// What an instruction comes to on the machine depends on memory only by the bytes that it asks for and by the table
+/// The outcome of an instruction on the machine depends on memory only by the bytes that it asks for and by the table
 /// longwords of its walks.
 pub fn instructions_depend_on_what_they_read()
     ensures { DependsOnWhatItReads }

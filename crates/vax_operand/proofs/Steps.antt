@@ -81,13 +81,13 @@ fits_next xs o e i d there before now k f h g =
     (λ x is. let p = subst (λ (y : Form). Fits y e.value e.dest) (ap (λ (y : Operand). y.form) there ∙ form_at xs i d x is) now in (value_put o.values i e.value _ p.0, dest_put o.dests i e.dest p.1))
     k h f g
 
--- a form that there is has a number below their count
+-- a form that exists has a number below their count
 pub within : (xs : List Operand) (k : ℕ) (f : Form) → slice_get (map (λ x. x.form) xs) k ≡ Some f → k < length xs
 within [] k f e = cc
 within (x ∷ xs) zero f e = omega arith
 within (x ∷ xs) (suc k) f e = let h : k < length xs = within xs k f e in omega arith
 
--- PC is behind the instruction behind its operands
+-- after its operands PC is after the instruction's bytes
 pub next_pc : (s : Space) (d : Instruction) (r : List ℕ) (x : Result (Unit {0}) Told) (o : Operands) → IsWellFormed d → 15 < length r → left x o ≡ outcome s (operands_of d r) → OnOk x (slice_index o.r 15 ≡ plus (slice_index r 15) d.length)
 next_pc s d r (Ok u) o h room e = holds_made (λ cs p. slice_index p.r 15 ≡ plus (slice_index r 15) d.length) s [] (operands_of d r) o (operands_go d r h room) (sym e)
 next_pc s d r (Err t) o h room e = tt
@@ -102,7 +102,7 @@ pub of_forms : (s : Space) (d : Instruction) (r : List ℕ) (forms : List Form) 
 unfolding operands_of
 of_forms s d r forms specs start x f g h t = t ∙ rw (f, g, h) refl
 
--- MFPR's destination stands where bits are counted too
+-- MFPR's destination is sound also as one from which bits are counted
 mfpr_on : (specs : List Spec) → AllStand (forms_in (row_of 0xdb)) specs → AllStand (trap_forms 0xdb) specs
 unfolding row_of
 mfpr_on [] h = absurd h

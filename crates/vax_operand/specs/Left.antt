@@ -1,4 +1,4 @@
--- What a step left beside its result, in the words of scripts: registers, operands, a plan or a place.
+-- What a step left beside its result, in the words of interactions: registers, operands, a plan or a place.
 use Rattle.std.specs.Prelude.{ℕ, List, Result, Ok, Err}
 use Rattle.vax_table.specs.Operand.{place}
 use Rattle.vax_table.specs.Script.{Trouble}
@@ -12,7 +12,7 @@ abbrev pub left : {A : Type 0} → Result (Unit {0}) Told → A → Result A Tro
 left (Ok u) x = Ok x
 left (Err t) x = Err (trouble_of t)
 
--- operands, and the registers behind them
+-- operands, and the registers after them
 abbrev pub joined : Values → List ℕ → Operands
 joined v r = record { values = v.values; dests = v.dests; r = r }
 

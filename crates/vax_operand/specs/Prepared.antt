@@ -67,7 +67,7 @@ access_of (Bits b) = accesses.Bits
 abbrev pub IsAddressed : Spec → Type 0
 IsAddressed s = (s.reg < 16) × IfSome s.index (λ x. x < 15)
 
--- what each kind rests on: a constant within its width, a register other than PC, or registers that there are
+-- what each kind rests on: a constant within its width, a register other than PC, or registers that exist
 abbrev pub RestsOn : Kind → Width → Spec → Type 0
 RestsOn Constant w s = s.value < 256 ^ size_of w
 RestsOn ReadRegister w s = s.reg < 15
@@ -112,7 +112,7 @@ base_by (DisplacedDeferred d) size n r = Touch intents.Read (plus (slice_index r
 unfoldable pub address_by : Base → ℕ → Spec → List ℕ → Script Place
 address_by b size s r = base_by b size s.reg r >>= λ p. Done (indexed_by size s.index p)
 
--- what an operand of each kind does behind its own bytes
+-- what an operand of each kind does after its own bytes
 unfoldable pub operand_by : Kind → Width → Spec → List ℕ → Script Evaluated
 operand_by Constant w s r = Done (evaluated s.value Nowhere r)
 operand_by ReadRegister w s r = Done (evaluated (register_value w r s.reg) Nowhere r)

@@ -59,7 +59,7 @@ fn base_address<S: Space>(
     Ok(at)
 }
 
-/// An index adds the size times its register, which is read behind the base's side effect.
+/// An index adds the size times its register, which is read after the base's side effect.
 #[inline(always)]
 fn indexed_by(size: u32, index: Option<u8>, base: u32, r: &[u32; 16]) -> u32
     requires register { IfSome index (λ x. x < 15) }
@@ -72,7 +72,7 @@ fn indexed_by(size: u32, index: Option<u8>, base: u32, r: &[u32; 16]) -> u32
     }
 }
 
-/// The address of an operand of `size` bytes in memory, whose side effect is on `r`. R15 is behind the specifier.
+/// The address of an operand of `size` bytes in memory, whose side effect is on `r`. R15 is after the specifier.
 #[inline(always)]
 #[tactic(auto, unfolding(crate::specs::Prepared::address_by), using(vax_table::proofs::Scripts::binds))]
 pub fn address<S: Space>(

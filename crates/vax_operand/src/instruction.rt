@@ -22,7 +22,7 @@ const NONE: Values = Values {
     dests: [Dest::Nowhere; 4],
 };
 
-/// No operands yet, and PC behind the opcode, which has one byte, or two for WAIT.
+/// No operands yet, and PC after the opcode, which has one byte, or two for WAIT.
 #[inline(always)]
 fn begin(d: &Decoded, r: &mut [u32; 16], v: &mut Values)
     ensures value { joined v.new r.new ≡ no_operands (behind_bytes (if d.now.wait then 2 else 1) r.old) }
@@ -32,7 +32,7 @@ fn begin(d: &Decoded, r: &mut [u32; 16], v: &mut Values)
     *v = NONE;
 }
 
-/// The operands, in order. Nearly each instruction has a first, so that one stands by itself.
+/// The operands, in order. Nearly each instruction has a first, so that one has a field of its own.
 #[inline(always)]
 #[tactic(auto, using(vax_table::proofs::Scripts::binds))]
 fn evaluate_all<S: Space>(
@@ -56,9 +56,9 @@ fn evaluate_all<S: Space>(
     Ok(())
 }
 
-/// The operands of a well-formed instruction at PC, in order: `r` is R0 to R15 before it, and behind it with the side
-/// effects. An error is that of the first byte in this order that has trouble, and what `r` and `v` are then is of no
-/// matter.
+/// The operands of a well-formed instruction at PC, in order: `r` is R0 to R15 before it, and after it with the side
+/// effects. An error is that of the first byte in this order that has trouble, and then it doesn't matter what
+/// `r` and `v` are.
 #[inline(always)]
 #[tactic(auto, unfolding(vax_table::specs::Operand::operands_of))]
 pub fn evaluate_into<S: Space>(

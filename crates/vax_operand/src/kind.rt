@@ -14,9 +14,9 @@ pub enum Base {
     Deferred,
     /// The register, from which the operand's size is taken before.
     Decrement,
-    /// The register, to which the operand's size is added behind.
+    /// The register, to which the operand's size is added afterwards.
     Increment,
-    /// The longword at the register, to which 4 is added behind.
+    /// The longword at the register, to which 4 is added afterwards.
     IncrementDeferred,
     /// This address.
     Absolute(u32),

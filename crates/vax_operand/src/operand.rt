@@ -14,7 +14,7 @@ use vax_table::evaluation::Trouble;
 use vax_table::{Dest, Spec};
 use vv_base::Width;
 
-/// What a register is worth: its low bits; a quadword is Rn and Rn+1.
+/// The value of a register: its low bits; a quadword is Rn and Rn+1.
 #[inline(always)]
 fn register_value(w: Width, r: &[u32; 16], n: u8) -> u64
     requires { n < 15 }
@@ -142,7 +142,7 @@ fn bits_operand<S: Space>(
     Ok(())
 }
 
-/// An operand by its kind, behind its own bytes.
+/// An operand by its kind, after its own bytes.
 #[inline(always)]
 #[tactic(auto, unfolding(crate::specs::Prepared::operand_by))]
 fn operand_by<S: Space>(
@@ -209,7 +209,7 @@ fn operand_by<S: Space>(
     Ok(())
 }
 
-/// One operand, which sees PC behind its own bytes, and whose side effect is on `r`: its value, and where its result goes.
+/// One operand, which sees PC after its own bytes, and whose side effect is on `r`: its value, and where its result goes.
 #[inline(always)]
 pub fn operand_of<S: Space>(
     space: &S,

@@ -5,7 +5,7 @@ ghost use Rattle.vax_operand.specs.Left.{joined};
 use vax_table::Dest;
 use vax_table::evaluation::Operands;
 
-/// The operands of an instruction, in order; the registers with their side effects stand elsewhere.
+/// The operands of an instruction, in order; the registers with their side effects are elsewhere.
 #[derive(Clone, Copy)]
 pub struct Values {
     /// The number that is read or modified, the address that is taken, or a branch's target; else 0.
@@ -33,7 +33,7 @@ impl Values {
         (self.values[i] % 0x1_0000_0000) as u32
     }
 
-    /// These operands with the registers behind them.
+    /// These operands with the registers after them.
     pub fn joined(&self, r: &[u32; 16]) -> Operands
         ensures { result ≡ joined self.now r.now }
     {

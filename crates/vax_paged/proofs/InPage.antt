@@ -1,4 +1,4 @@
--- Bytes of one page: their places are one behind the other, and one test is that of all.
+-- Bytes of one page: their places are one after the other, and one test is that of all.
 use Rattle.std.proofs.Common.{◌≡◌, ℕ, zero, suc, ◌+◌, ◌*◌, ◌/◌, ◌%◌, ◌^◌, ◌<◌, ◌≤◌, Bool, true, false, List, [], ◌∷◌, Option, Some, None, Result, Ok, Err, refl, ap, sym, ◌∙◌, arith, slice_set}
 use Rattle.std.specs.Prelude.{if◌then◌else◌, slice_index}
 use Rattle.vax_arch.specs.declared.mode.Intent.{Intent}
@@ -58,7 +58,7 @@ next_place memory w i va p h e =
 abbrev GoesOn : (ℕ → Result ℕ Cause) → Type 0
 GoesOn places = (va p : ℕ) → va % 512 + 1 < 512 → places va ≡ Ok p → places (va + 1) ≡ Ok (p + 1)
 
--- one byte and the number of those behind it
+-- one byte and the number of those after it
 one_byte : (memory : List ℕ) (places : Intent → ℕ → Result ℕ Cause) (i : Intent) (k va p n : ℕ) → va < 2 ^ 32 → places i va ≡ Ok p → number_at (byte_at memory places) i k (va + 1) ≡ Ok n → number_at (byte_at memory places) i (suc k) va ≡ Ok (slice_index memory p + 256 * n)
 one_byte memory places i k va p n small e rest =
     let same : va % 2 ^ 32 ≡ va = omega arith in

@@ -1,4 +1,4 @@
--- A look-up comes to what the code keeps of it.
+-- The outcome of a look-up is what the code keeps of it.
 use Rattle.std.proofs.Common.{◌≡◌, ℕ, true, false, List, refl}
 use Rattle.vax_arch.specs.declared.mode.Intent.{Intent}
 use Rattle.vax_arch.specs.declared.mode.Mode.{Mode}

@@ -39,7 +39,7 @@ puts_step place (suc k) a v h small =
     let wrap : (a + 1) % 2 ^ 32 ≡ (a + 1) % 2 ^ 32 % 2 ^ 32 = omega arith in
     rw (less, same, same_from place k (a + 1) ((a + 1) % 2 ^ 32) (v / 256) wrap) refl
 
--- put behind others
+-- put after others
 pub put_behind : (place : ℕ → ℕ) (k a v p : ℕ) (old new : List Put) → 0 < k → a < 2 ^ 32 → p ≡ place a → new ≡ old ++ put p (v % 256) ∷ [] → new ++ puts_from place (k - 1) ((a + 1) % 2 ^ 32) (v / 256) ≡ old ++ puts_from place k a v
 put_behind place k a v p old new h small at is =
     let rest = puts_from place (k - 1) ((a + 1) % 2 ^ 32) (v / 256) in

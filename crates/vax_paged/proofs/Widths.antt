@@ -14,7 +14,7 @@ over_none memory p =
     let same : p + 0 ≡ p = omega arith in
     ap (λ (xs : List ℕ). xs ++ drop (p + 0) memory) (append-nil (take p memory)) ∙ ap (λ (n : ℕ). take p memory ++ drop n memory) same ∙ take-append-drop p memory
 
--- one byte, and the others behind it
+-- one byte, and the others after it
 over_first : (memory : List ℕ) (p b : ℕ) (bs : List ℕ) → p < length memory → overwritten memory p (b ∷ bs) ≡ overwritten (slice_set memory p b) (p + 1) bs
 over_first [] p b bs h = absurd (omega arith)
 over_first (x ∷ xs) zero b bs h =

@@ -1,4 +1,4 @@
--- Numbers in one page: their bytes lie one behind the other in the machine.
+-- Numbers in one page: their bytes lie one after the other in the machine.
 use Rattle.std.specs.Prelude.{◌≡◌, ℕ, zero, suc, ◌+◌, ◌*◌, ◌/◌, ◌%◌, ◌≤◌, ◌<◌, ◌^◌, List, length, slice_index, slice_set, Result, Ok, Err}
 use Rattle.vv_base.specs.Width.{size_of}
 use Rattle.vax_arch.specs.declared.mode.Intent.TheVariants.{Write}

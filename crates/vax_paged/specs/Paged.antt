@@ -28,7 +28,7 @@ entry_of memory (Fails true parameter) = entries.NotValid
 entry_of memory (Fails false parameter) = entries.TooFar
 entry_of memory Beyond = entries.TooFar
 
--- where a look-up comes to
+-- the outcome of a look-up
 abbrev pub look_of : Lookup → Look
 look_of (Found place table) = looks.Found place
 look_of (Direct frame) = looks.TooFar

@@ -12,7 +12,7 @@ use vax_hw::World;
 /// The pages of a region. A page's number is its region times this, and its number in the region.
 pub const REGION: u32 = 0x20_0000;
 
-/// What a page comes to in the machine's own tables: its entry; or it has none, since the system table's entry for its
+/// The outcome for a page in the machine's own tables: its entry; or it has none, since the system table's entry for its
 /// table isn't valid, or by a length.
 #[derive(Clone, Copy, Debug, PartialEq, Eq)]
 pub enum Entry {

@@ -106,7 +106,7 @@ impl Paged<'_> {
         }
     }
 
-    /// The bytes of a store, behind others.
+    /// The bytes of a store, after others.
     fn add_store(&self, puts: &mut ArrayVec<Put, 160>, store: &Store)
         requires memory { length self.now.memory.now < 2 ^ 32 }
         requires room { array_vec_len puts.old + 8 ≤ 160 }

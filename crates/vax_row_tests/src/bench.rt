@@ -12,8 +12,8 @@ pub type Register = (usize, u32);
 /// A place in memory, and the longword there.
 pub type At = (u32, u32);
 
-/// An instruction, what it finds, and what it is to come to. A register that isn't named holds what it has in `REGISTERS`, or
-/// as before; and memory has zeros but for the tables and the instruction, or is as before. What retires goes on behind the
+/// An instruction, what it finds, and its expected outcome. A register that isn't named holds what it has in `REGISTERS`, or
+/// as before; and memory has zeros but for the tables and the instruction, or is as before. What retires goes on after the
 /// instruction, unless PC is named. Where it doesn't retire nothing is to change, and `psw_after` is ignored; where it traps,
 /// `r_after` is of the trap's registers.
 #[derive(Clone, Copy)]
@@ -31,7 +31,7 @@ pub struct Case {
     pub memory_after: &'static [At],
 }
 
-/// NOP in user mode, and nothing told of it: what a case says besides is written over this one.
+/// NOP in user mode, and nothing told of it: what a case says besides replaces that of this one.
 pub const NOP: Case = Case {
     code: 0x01,
     vmpsl: Psl(0x03C0_0000),
@@ -44,7 +44,7 @@ pub const NOP: Case = Case {
     memory_after: &[],
 };
 
-/// HALT's trap: what a case says besides is written over this one.
+/// HALT's trap: what a case says besides replaces that of this one.
 pub const HALT: Trapped = Trapped {
     op: Sens::Halt,
     a: 0,
@@ -55,7 +55,7 @@ pub const HALT: Trapped = Trapped {
     regs: [0; 15],
 };
 
-/// What one instruction came to: why the run ended, the registers and what else is loaded, how many retired, how many
+/// The outcome of one instruction: why the run ended, the registers and what else is loaded, how many retired, how many
 /// entries were missed, and the first place, if any, where memory isn't as wanted.
 #[derive(Clone, Copy, Debug, PartialEq, Eq)]
 pub struct Seen {
@@ -167,14 +167,14 @@ fn before(case: &Case) -> [u32; 16] {
     with_named(&REGISTERS, case.r)
 }
 
-/// The registers behind it.
+/// The registers after it.
 fn behind(case: &Case) -> [u32; 16] {
     let mut r = before(case);
     r[15] = length(case.code).wrapping_add(0x200);
     with_named(&r, case.r_after)
 }
 
-/// What the instruction of a case comes to.
+/// The outcome of a case's instruction.
 pub fn ran(alloc: Global, case: &Case) -> Result<Seen, NoMemory> {
     let mut cpu = machine(alloc, case)?;
     cpu.load_world(&world(case, before(case), case.psw));
@@ -201,7 +201,7 @@ fn trapped(trap: Trapped, r: &[u32; 16]) -> Trapped {
     }
 }
 
-/// What it is to come to.
+/// Its expected outcome.
 pub fn wanted(case: &Case) -> Seen {
     let stays = Seen {
         exit: case.exit,

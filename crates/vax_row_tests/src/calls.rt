@@ -230,7 +230,7 @@ static CASES: [Case; 13] = [
         ],
         ..NOP
     },
-    // PUSHR (R0)+: R0 behind the side effect
+    // PUSHR (R0)+: R0 after the side effect
     Case {
         code: 0xBB80,
         r: &[(0, 0x800), (14, 0x1000)],

@@ -1,4 +1,4 @@
-//! Worked examples of single instructions on a small machine. What each is to come to was found by hand from the manual's
+//! Worked examples of single instructions on a small machine. The expected outcome of each was found by hand from the manual's
 //! tables, and by no run. In the comments the operands of an instruction are hexadecimal, and other numbers decimal.
 #![tactic(auto)]
 

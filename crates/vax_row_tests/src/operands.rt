@@ -34,7 +34,7 @@ static CASES: [Case; 40] = [
         r_after: &[(13, 7), (14, 0x8000_0000)],
         ..NOP
     },
-    // MOVL (R1)+[R1],R2: the index behind the side effect
+    // MOVL (R1)+[R1],R2: the index after the side effect
     Case {
         code: 0xD0418152,
         r: &[(1, 0x100)],
@@ -42,7 +42,7 @@ static CASES: [Case; 40] = [
         r_after: &[(1, 0x104), (2, 5)],
         ..NOP
     },
-    // MOVL @4(R0)[R1],R2: the index behind the indirection
+    // MOVL @4(R0)[R1],R2: the index after the indirection
     Case {
         code: 0xD041B00452,
         r: &[(0, 0x800), (1, 2)],

@@ -1,4 +1,4 @@
--- Laws of what scripts claim.
+-- Laws of what interactions claim.
 use Rattle.std.proofs.Common.{◌≡◌, ℕ, inl, inr, List, [], ◌∷◌, ◌++◌, Result, Ok, Err, refl, ap, ◌∙◌, sym, subst, append_assoc, append-nil}
 use Rattle.vax_arch.specs.declared.mode.Intent.{Intent}
 use Rattle.vax_table.specs.Claims.{addresses, if_write, claims, Holds, AreAmong}
@@ -19,7 +19,7 @@ claims_same_on : {A : Type 0} (s t : Space) (f : ℕ → Script A) (x : A) (r q 
 claims_same_on s t f x (Ok v) q far next e = ap (λ z. on_ok z (λ v. claims t (f v))) far ∙ next v e
 claims_same_on s t f x (Err u) q far next e = cc
 
--- where a script completes over the lower space, it claims the same over the upper one
+-- where an interaction completes over the lower space, it claims the same over the upper one
 pub claims_same : {A : Type 0} (s t : Space) → Below s t → (m : Script A) (x : A) → outcome s m ≡ Ok x → claims t m ≡ claims s m
 claims_same s t below (Done a) x e = refl
 claims_same s t below (Refuse k) x e = refl
@@ -35,7 +35,7 @@ holds_made P s cs (Done a) x h e = let same : a ≡ x = cc in subst (λ z. P z x
 holds_made P s cs (Refuse t) x h e = cc
 holds_made P s cs (Touch i a k f) x h e = holds_on P s cs (if_write i (addresses k a)) f x (number_at s i k a) (λ v g. holds_made P s (cs ++ if_write i (addresses k a)) (f v) x (h v) g) e
 
--- one script and then another
+-- one interaction and then another
 pub holds-bind : {A B : Type 0} (Q : List ℕ → A → Type 0) (P : List ℕ → B → Type 0) (cs : List ℕ) (m : Script A) (g : A → Script B) → Holds Q cs m → ((ds : List ℕ) (a : A) → Q ds a → Holds P ds (g a)) → Holds P cs (m >>= g)
 holds-bind Q P cs (Done a) g h k = k cs a h
 holds-bind Q P cs (Refuse t) g h k = tt

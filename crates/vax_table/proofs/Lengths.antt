@@ -79,7 +79,7 @@ specifier_most f bytes s (displacement mode k n v d h l e g) = rw e (omega (arit
 head_of : (a b : ℕ) (xs ys : List ℕ) → a ∷ xs ≡ b ∷ ys → a ≡ b
 head_of a b xs ys e = cc
 
--- behind an index stands no immediate
+-- after an index comes no immediate
 indexed_most : (f : Form) (bytes : List ℕ) (b : ℕ) (rest : List ℕ) (s : Spec) → bytes ≡ b ∷ rest → b ≢ 0x8f → Specifier f bytes s → length bytes ≤ 5
 indexed_most f bytes b rest s w i (literal n h a e g) = rw e (omega arith)
 indexed_most f bytes b rest s w i (register n h a p e g) = rw e (omega arith)

@@ -1,4 +1,4 @@
--- Behind its operands an instruction's PC is behind its bytes.
+-- After its operands an instruction's PC is after its bytes.
 use Rattle.std.proofs.Common.{◌≡◌, ◌≢◌, ℕ, ◌+◌, ◌*◌, ◌%◌, ◌^◌, ◌<◌, ◌&&◌, true, false, eqb, List, [], ◌∷◌, length, Option, Some, None, refl, ap, ◌∙◌, sym, subst, arith, eq-eqb, length-append, get_or-set_other, get_or-set_same, slice_index, slice_set}
 use Rattle.std.specs.Prelude.{if◌then◌else◌}
 use Rattle.std.proofs.lemmas.Bool.{ne_eqb}
@@ -182,7 +182,7 @@ instruction_bytes d h = elim h.1 [
       subst (λ (x : Instruction). x.length ≡ opcode_length x + all_length (forms_in (row_of x.opcode)) x.specs) (sym g) all
 ]
 
--- behind the operands of a well-formed instruction PC is behind its bytes
+-- after the operands of a well-formed instruction PC is after its bytes
 pub operands_go : (d : Instruction) (r : List ℕ) → IsWellFormed d → 15 < length r → Holds (λ cs o. slice_index o.r 15 ≡ plus (slice_index r 15) d.length) [] (operands_of d r)
 unfolding operands_of GoesAll
 operands_go d r h room =

@@ -1,5 +1,5 @@
--- Operands, alone and one behind the other: what is read is spelled so, what is spelled is read again,
--- and what can't stand at the front stays so.
+-- Operands, alone and one after the other: what is read is spelled so, what is spelled is read again,
+-- and what can't be at the front stays so.
 use Rattle.std.proofs.Common.{◌≡◌, ◌≢◌, ℕ, suc, ◌+◌, ◌-◌, ◌/◌, ◌%◌, ◌^◌, ◌<◌, ◌≤◌, true, false, eqb, ltb, List, [], ◌∷◌, ◌++◌, length, take, Some, refl, sym, ap, ◌∙◌, subst, append_assoc, arith, length-take, length-append}
 use Rattle.std.proofs.lemmas.List.{take-append-drop}
 use Rattle.std.proofs.lemmas.Bool.{ltb-true, ne_eqb, le-ltb}
@@ -142,7 +142,7 @@ operand_again f bytes s rest (branch a v h e g) =
     let whole : bytes ≡ bytes_of (suc p.0) v = subst (λ n. bytes ≡ bytes_of n v) p.1 e in
     rw (whole, g) (branch_again f p.0 v rest a p.1 l)
 
--- ---- one operand: what can't stand at the front stays so
+-- ---- one operand: what can't be at the front stays so
 
 with_index_bad : (x : ℕ) (o : Seen) → with_index x o ≡ Bad → o ≡ Bad
 with_index_bad x (Got s rest) e = cc
@@ -181,7 +181,7 @@ some_operands : (fs : List Form) → (bytes : List ℕ) × (ss : List Spec) × O
 some_operands [] = ([], [], refl)
 some_operands (f ∷ fs) = let c = some_operand f in let r = some_operands fs in (c.tail ++ r.0, c.spec ∷ r.1, (c.tail, r.0, refl, c.spelled, r.2))
 
--- one operand, and what was read behind it
+-- one operand, and what was read after it
 joined : (f : Form) (fs : List Form) (all front rest : List ℕ) (s : Spec) (o : SeenAll) → all ≡ front ++ rest → Operand f front s → ReadsAll fs rest o → ReadsAll (f ∷ fs) all (behind (s ∷ []) o)
 joined f fs all front rest s (GotAll ss more) e m r = (front ++ r.0, rw (append_assoc front r.0 more) (rw (← r.1) e), (front, r.0, refl, m, r.2))
 joined f fs all front rest s MoreAll e m r = (r.0, s ∷ r.1, r.2, (front, rest ++ r.0, rw e (append_assoc front rest r.0), m, r.3))

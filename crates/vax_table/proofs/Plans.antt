@@ -1,4 +1,4 @@
--- What every plan comes to: what is stored is what was claimed, there are few stores, and as many registers as before.
+-- The outcome of every plan: what is stored is what was claimed, there are few stores, and as many registers as before.
 use Rattle.std.proofs.Common.{◌≡◌, ℕ, zero, suc, ◌+◌, ◌/◌, ◌%◌, ◌^◌, ◌≤◌, Bool, true, false, eqb, ltb, leb, List, [], ◌∷◌, ◌++◌, length, length-append, append_assoc, append-nil, Option, Some, None, Ok, refl, ap, ◌∙◌, sym, subst, arith, slice_set}
 use Rattle.std.specs.Prelude.{slice_index}
 use Rattle.std.proofs.lemmas.List.{length-map}

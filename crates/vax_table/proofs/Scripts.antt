@@ -1,4 +1,4 @@
--- Laws of scripts over two spaces, of which one answers wherever the other does.
+-- Laws of interactions over two spaces, of which one answers wherever the other does.
 use Rattle.std.proofs.Common.{◌≡◌, ℕ, zero, suc, ◌+◌, ◌%◌, ◌^◌, ◌⊎◌, inl, inr, List, [], ◌∷◌, ◌++◌, Result, Ok, Err, refl, ap, ◌∙◌, sym, subst}
 use Rattle.vax_arch.specs.declared.mode.Intent.{Intent}
 use Rattle.vax_table.specs.Script.{Cause, Trouble, At, Test, Space, with_byte, number_at, Script, Done, Refuse, Touch, ◌>>=◌, bind_result, outcome, on_ok, behind_byte, asked, reached, Below, AsFar, IsIn}

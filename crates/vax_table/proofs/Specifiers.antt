@@ -1,5 +1,5 @@
 -- Specifiers without index: what is read is spelled so, what is spelled is read again, and what can't
--- stand at the front stays so.
+-- be at the front stays so.
 use Rattle.std.proofs.Common.{◌≡◌, ◌≢◌, ℕ, ◌+◌, ◌-◌, ◌*◌, ◌/◌, ◌%◌, ◌^◌, ◌<◌, ◌≤◌, false, ◌&&◌, ◌||◌, eqb, ltb, List, [], ◌∷◌, ◌++◌, length, take, refl, sym, ap, subst, arith, length-take, length-append}
 use Rattle.std.proofs.lemmas.List.{take-append-drop, take_at, drop_at}
 use Rattle.std.proofs.lemmas.Bool.{ltb-true, lt-ltb, ne_eqb, le-ltb}
@@ -101,7 +101,7 @@ valued_again mode reg k v rest h =
 named_again : (mode n : ℕ) (rest : List ℕ) → n < 15 → named_at mode n rest ≡ Got (unindexed mode n 0) rest
 named_again mode n rest h = let e : eqb n 15 ≡ false = ne_eqb n 15 (omega arith) in rw e
 
--- the first byte of bytes, and what is behind it
+-- the first byte of bytes, and what is after it
 abbrev pub first_at : Form → List ℕ → Seen
 first_at f [] = More
 first_at f (b ∷ bs) = specifier_at f b bs

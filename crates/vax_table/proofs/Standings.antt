@@ -1,4 +1,4 @@
--- The operands of a well-formed instruction stand.
+-- The operands of a well-formed instruction are sound.
 use Rattle.std.proofs.Common.{◌≡◌, ◌≢◌, ℕ, zero, suc, ◌+◌, ◌<◌, ◌≤◌, ◌^◌, ◌⊎◌, inl, inr, List, [], ◌∷◌, length, get_or, Option, Some, None, refl, ap, sym, subst, arith, lit<}
 use Rattle.vv_base.specs.declared.width.Width.{Width}
 use Rattle.vv_base.specs.Width.{size_of}
@@ -100,7 +100,7 @@ of_memory f b rest s low (autoincrement_deferred n h e g) = let m = mode_of s 9 
 of_memory f b rest s low (absolute v h e g) = let m = mode_of s 9 15 v g in omega arith
 of_memory f b rest s low (displacement mode k n v d h l e g) = let m = mode_of s mode n v g in let high : 9 < mode = (displaces_mode mode k d).0 in omega arith
 
--- the same behind an index
+-- the same after an index
 with_index : (f : Form) (t : Spec) (x : ℕ) → x < 15 → 5 < t.mode → IsSpecified f t → IsSpecified f (record t { index = Some x })
 with_index f t x h m p = record {
   formed = record { register = p.formed.register; named = p.formed.named; index = h; address = p.formed.address; displacement = p.formed.displacement };
@@ -144,7 +144,7 @@ row_stands : (d : Instruction) (o : Option Entry) (e : Entry) (specs : List Spec
 row_stands d None e specs r h = cc
 row_stands d (Some g) e specs r h = let same : e ≡ g = cc in subst (λ (x : Entry). AllStand x.operands specs) same h
 
--- the operands of a well-formed instruction stand, one for each form of its opcode's row
+-- the operands of a well-formed instruction are sound, one for each form of its opcode's row
 pub well_formed : (d : Instruction) → IsWellFormed d → AllStand (forms_in (row_of d.opcode)) d.specs
 unfolding row_of
 well_formed d h = elim h.1 [

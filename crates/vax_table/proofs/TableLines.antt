@@ -1,4 +1,4 @@
--- The code's lines say what the table says, opcode by opcode.
+-- The code's rows say what the table says, opcode by opcode.
 use Rattle.std.specs.Prelude.{map}
 use Rattle.std.specs.List.{range_with_len}
 use Rattle.std.proofs.Common.{◌≡◌, ℕ, ◌<◌, Bool, true, List, Option, None, get_or, length, refl, sym, ap, ◌∙◌, arith}

@@ -28,7 +28,7 @@ tried_far_on s t c d m below mark (Ok a) q is far =
 tried_far_on s t c d m below mark (Err (Test k)) q is far = ap (tried_by d (claims t m)) far
 tried_far_on s t c d m below mark (Err (At x i a)) q is far = (far.0, λ y h. ap (tried_by d (claims t m)) (far.1 y h))
 
--- of any script
+-- of any interaction
 pub tried_far : {A : Type 0} (s t : Space) (c d : ℕ → Bool) (m : Script A) → Below s t → IsMarked c d → TriedFar s t c d (tried s c m) (tried t d m)
 tried_far s t c d m below mark = tried_far_on s t c d m below mark (outcome s m) (outcome t m) refl (outcome_far s t below m)
 

@@ -130,6 +130,6 @@ trap_of psw o =
 abbrev pub answered : Outcome → ℕ → Alu
 answered o psw = record { value = o.value; psw = psw_with psw o.codes; trap = trap_of psw o }
 
--- an operation's value of the width, the PSW behind it, and the type of its arithmetic trap
+-- an operation's value of the width, the PSW after it, and the type of its arithmetic trap
 unfoldable pub alu_of : AluOp → ℕ → ℕ → Width → ℕ → Alu
 alu_of op a b w psw = answered (outcome_of op w a b (carry_of psw)) psw

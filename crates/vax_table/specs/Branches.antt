@@ -101,7 +101,7 @@ subtracted_one at_zero o psw =
     let taken = if at_zero then is_at_most Long 0 x.value else is_less Long 0 x.value in
     looped Long (dest_of o 0) x taken (long_of o 1) o psw
 
--- CASE: selector, base, limit. The table of words begins at the PC behind the operands.
+-- CASE: selector, base, limit. The table of words begins at the PC after the operands.
 unfoldable pub cased : Width → Operands → ℕ → Script Effect
 cased w o psw =
     let t = (alu_of Sub (long_of o 1) (long_of o 0) w psw).value in

@@ -47,7 +47,7 @@ frame_end is_on_stack mask e = slice_index e.r 15 ∷ slice_index e.r 13 ∷ sli
 abbrev pub aligned : Effect → Effect
 aligned e = record e { r = slice_set e.r 14 (slice_index e.r 14 / 4 * 4) }
 
--- FP is SP, AP the argument list, and PC behind the mask
+-- FP is SP, AP the argument list, and PC after the mask
 abbrev pub in_procedure : ℕ → ℕ → ℕ → Effect → Effect
 in_procedure procedure mask list e =
     record e { r = slice_set (slice_set (slice_set e.r 12 list) 13 (slice_index e.r 14)) 15 (plus procedure 2); psw = procedure_status mask e.psw }
@@ -71,15 +71,15 @@ called_on_stack o psw =
     push (long_of o 0) (begun o psw) >>= λ e.
     entered true (long_of o 1) mask (slice_index e.r 14) e
 
--- what is behind a frame's first two longwords: AP, FP, PC, and the registers of the mask
+-- what is after a frame's first two longwords: AP, FP, PC, and the registers of the mask
 unfoldable pub frame_popped : ℕ → Place → Script Place
 frame_popped mask p = pop_all (12 ∷ 13 ∷ 15 ∷ named_up 12 0 mask) p
 
--- SP behind an argument list that was on the stack: the count's longword and 4 times its low byte go too
+-- SP after an argument list that was on the stack: the count's longword and 4 times its low byte go too
 abbrev pub list_dropped : Bool → ℕ → Script ℕ
 list_dropped is_on_stack sp = if is_on_stack then Touch Read sp 4 (λ count. Done (plus sp (4 + 4 * (count % 2 ^ 8)))) else Done sp
 
--- behind the first two longwords at FP, of which `word` is the second
+-- after the first two longwords at FP, of which `word` is the second
 abbrev pub frame_left : ℕ → ℕ → Operands → ℕ → Script Effect
 frame_left fp word o psw =
     frame_popped (word / 2 ^ 16) (place (plus fp 8) o.r) >>= λ p.

@@ -1,4 +1,4 @@
--- The bytes that a script claims for writing, and what holds of them and the result wherever it ends.
+-- The bytes that an interaction claims for writing, and what holds of them and the result wherever it ends.
 use Rattle.std.specs.Prelude.{ℕ, zero, suc, ◌+◌, ◌%◌, ◌^◌, List, [], ◌∷◌, ◌++◌}
 use Rattle.vv_base.specs.declared.width.Width.{Width}
 use Rattle.vv_base.specs.Width.{size_of}
@@ -26,7 +26,7 @@ claims s (Done a) = []
 claims s (Refuse t) = []
 claims s (Touch i a k f) = if_write i (addresses k a) ++ on_ok (number_at s i k a) (λ v. claims s (f v))
 
--- a relation between what was claimed so far and the result, at each end that a script can come to
+-- a relation between what was claimed so far and the result, at each end that an interaction can reach
 abbrev pub Holds : {A : Type 0} → (List ℕ → A → Type 0) → List ℕ → Script A → Type 0
 Holds P cs (Done a) = P cs a
 Holds P cs (Refuse t) = Unit {0}

@@ -1,4 +1,4 @@
--- What a plain instruction comes to: result registers over the operands' side effects, the processor status word, the
+-- The outcome of a plain instruction: result registers over the operands' side effects, the processor status word, the
 -- stores in order, and the arithmetic trap (VAX Architecture Reference Manual: instruction execution).
 use Rattle.std.specs.Prelude.{ℕ, ◌+◌, ◌*◌, ◌/◌, ◌%◌, ◌^◌, List, [], ◌∷◌, ◌++◌, Option, None, Bool, if◌then◌else◌, slice_index, slice_index_or, slice_set, Result, Ok, Err}
 use Rattle.vv_base.specs.declared.width.Width.{Width}

@@ -6,7 +6,7 @@ use Rattle.vax_table.specs.Script.{Script, Done, Refuse, Touch}
 use Rattle.vax_table.specs.Spelling.{Instruction}
 use Rattle.vax_table.specs.declared.act.Refusal.TheVariants as refusals
 
--- how it goes on behind the bytes fetched so far, by what stands at their front
+-- how it goes on after the bytes fetched so far, by what is at their front
 abbrev pub by_answer : (List ℕ → Script Instruction) → ℕ → List ℕ → Answer → Script Instruction
 by_answer more at bytes (Whole d rest) = Done d
 by_answer more at bytes Short = Touch Read (at + length bytes) 1 (λ b. more (bytes ++ b ∷ []))

@@ -1,6 +1,6 @@
--- The operands of an instruction, evaluated in order: what each is worth, where its result goes, and what it does to
+-- The operands of an instruction, evaluated in order: the value of each, where its result goes, and what it does to
 -- the registers (VAX Architecture Reference Manual, instruction formats and addressing modes: operand specifiers).
--- Profile, this project's own choices: a source is read as it is evaluated; an index register is read behind the
+-- Profile, this project's own choices: a source is read as it is evaluated; an index register is read after the
 -- base's side effect; a modified operand is one access with write intent; an immediate that is written, modified, or
 -- whose address or bits are taken, is the place in the instruction.
 use Rattle.std.specs.Prelude.{ℕ, ◌+◌, ◌-◌, ◌*◌, ◌%◌, ◌^◌, ◌&&◌, nat_lt, ◌==◌, List, [], ◌∷◌, Option, Some, None, is_some, if◌then◌else◌, slice_index, slice_set}
@@ -37,7 +37,7 @@ extended k v = if nat_lt v (2 ^ (8 * k - 1)) then v else v + (2 ^ 32 - 2 ^ (8 * 
 abbrev pub place : ℕ → List ℕ → Place
 place at r = record { at = at; r = r }
 
--- The address that a specifier without index gives for an operand of so many bytes. R15 is behind the specifier, so
+-- The address that a specifier without index gives for an operand of so many bytes. R15 is after the specifier, so
 -- an immediate is the operand's bytes in front of R15.
 unfoldable pub base_address : ℕ → Spec → List ℕ → Script Place
 base_address size s r =
@@ -52,7 +52,7 @@ base_address size s r =
     if s.mode % 2 == 0 then Done (place y r) else  -- displacement
     Touch intents.Read y 4 (λ a. Done (place a r))  -- displacement deferred
 
--- an index adds the size times its register, as that is behind the base's side effect
+-- an index adds the size times its register, as that is after the base's side effect
 abbrev pub indexed_by : ℕ → Option ℕ → Place → Place
 indexed_by size None p = p
 indexed_by size (Some x) p = place (plus p.at (size * slice_index p.r x)) p.r
@@ -60,7 +60,7 @@ indexed_by size (Some x) p = place (plus p.at (size * slice_index p.r x)) p.r
 unfoldable pub address_of : ℕ → Spec → List ℕ → Script Place
 address_of size s r = base_address size s r >>= λ p. Done (indexed_by size s.index p)
 
--- what a register is worth: its low bits; a quadword is Rn and Rn+1
+-- the value of a register: its low bits; a quadword is Rn and Rn+1
 abbrev pub register_value : Width → List ℕ → ℕ → ℕ
 register_value Byte r n = slice_index r n % 2 ^ 8
 register_value Word r n = slice_index r n % 2 ^ 16
@@ -113,7 +113,7 @@ by_access Address w s r = address_operand w s r
 by_access Bits w s r = bits_operand w s r
 by_access Branch w s r = branch_operand w s r
 
--- the bytes of an operand in the instruction: an index, the specifier's first and those behind it; or a displacement
+-- the bytes of an operand in the instruction: an index, the specifier's first and those after it; or a displacement
 abbrev pub operand_length : Form → Spec → ℕ
 operand_length f s =
     if is_branch f.access then size_of f.width else
@@ -123,11 +123,11 @@ operand_length f s =
 abbrev pub behind_bytes : ℕ → List ℕ → List ℕ
 behind_bytes k r = slice_set r 15 (plus (slice_index r 15) k)
 
--- an operand, which sees PC behind its own bytes
+-- an operand, which sees PC after its own bytes
 unfoldable pub operand_of : Form → Spec → List ℕ → Script Evaluated
 operand_of f s r = by_access f.access f.width s (behind_bytes (operand_length f s) r)
 
--- an operand put at its number, with the registers behind it
+-- an operand put at its number, with the registers after it
 abbrev pub with_operand : ℕ → Operands → Evaluated → Operands
 with_operand i o e = record { values = slice_set o.values i e.value; dests = slice_set o.dests i e.dest; r = e.r }
 
@@ -144,7 +144,7 @@ abbrev pub forms_in : Option Entry → List Form
 forms_in None = []
 forms_in (Some e) = e.operands
 
--- operands of these forms, behind an opcode of one byte, or of two for WAIT
+-- operands of these forms, after an opcode of one byte, or of two for WAIT
 abbrev pub operands_by : List Form → Instruction → List ℕ → Script Operands
 operands_by forms d r = operands_from 0 forms d.specs (no_operands (behind_bytes (if d.wait then 2 else 1) r))
 

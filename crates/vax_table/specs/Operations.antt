@@ -1,4 +1,4 @@
--- What each instruction does behind its operands, in the order of the instruction table
+-- What each instruction does after its operands, in the order of the instruction table
 -- (VAX Architecture Reference Manual: integer arithmetic and logical instructions; control instructions; procedure
 -- call instructions; miscellaneous instructions).
 use Rattle.std.specs.Prelude.{ℕ, ◌-◌, Bool, true, false, nat_le, ◌==◌, List, [], ◌∷◌, Option, Some, None, if◌then◌else◌, slice_get}
@@ -144,7 +144,7 @@ other_operations =
     ∷ does 0xfd (Sensitive Wait)  -- WAIT, which is FD 01
     ∷ []
 
--- what a block of opcodes that begins at first says of one, and else what comes behind it
+-- what a block of opcodes that begins at first says of one, and else what comes after it
 abbrev pub in_operations : ℕ → ℕ → List Operation → Operation → Operation
 in_operations n first block rest = if nat_le first n then given_or (slice_get block (n - first)) rest else rest
   where
@@ -152,7 +152,7 @@ in_operations n first block rest = if nat_le first n then given_or (slice_get bl
     given_or None rest = rest
     given_or (Some o) rest = o
 
--- what a list of lines says of an opcode
+-- what a list of rows says of an opcode
 abbrev pub in_operation_lines : ℕ → List OperationLine → Operation
 in_operation_lines n [] = Other
 in_operation_lines n (l ∷ ls) = if n == l.opcode then l.operation else in_operation_lines n ls

@@ -1,5 +1,5 @@
 -- What a plain instruction does over a space: its operands in order, and then its operation
--- (VAX Architecture Reference Manual: instruction execution). The script sees the registers and the PSL alone.
+-- (VAX Architecture Reference Manual: instruction execution). The interaction sees the registers and the PSL alone.
 -- From it follow the outcome, the first trouble, the bytes that are reached, and the places that are claimed, in
 -- access order. All accesses come before the first store, since stores are in the outcome.
 use Rattle.std.specs.Prelude.{ℕ, ◌+◌, ◌*◌, ◌/◌, ◌%◌, ◌^◌, Bool, true, false, not, List}
@@ -19,7 +19,7 @@ use Rattle.vax_table.specs.declared.meaning.Operation.{Operation}
 use Rattle.vax_table.specs.declared.meaning.Operation.TheVariants.{Other, Sensitive, Nothing, Compute, ClearQuad, MoveQuad, Push, SetStatus, ClearStatus, Branch, CallSubroutine, LeaveSubroutine, AddAndCompare, AddOne, SubtractOne, BranchOnLowBit, BranchOnBit, Case, PushRegisters, PopRegisters, CallGeneral, CallOnStack, Return, MoveStatus, Probe, Breakpoint, Customer}
 
 -- The operations that depend on registers, status word and space alone. The others refuse, as
--- instructions that there are not.
+-- instructions that don't exist.
 unfoldable pub performed : Operation → Operands → ℕ → Script Effect
 performed Nothing o psw = Done (begun o psw)
 performed (Compute op w inputs target) o psw = Done (computed op w inputs target o psw)
@@ -83,12 +83,12 @@ is_planned Return = true
 unfoldable pub planned : Instruction → List ℕ → ℕ → Script Effect
 planned d r psw = operands_of d r >>= λ o. performed (operation_of d.opcode) o psw
 
--- PROBE behind its operands: N 0, Z where not both bytes are accessible, V 0, C as before
+-- PROBE after its operands: N 0, Z where not both bytes are accessible, V 0, C as before
 abbrev pub probed : Bool → Operands → ℕ → Effect
 probed is_accessible o psw = record (begun o psw) { psw = psw / 16 * 16 + 4 * bit_of (not is_accessible) + psw % 2 }
 
 -- MOVPSL stores the PSL; the other operations depend on its status word alone. PROBE is no plan: whether bytes are
--- accessible is judged behind it.
+-- accessible is judged after it.
 abbrev pub performed_with : ℕ → Operation → Operands → Script Effect
 performed_with psl MoveStatus o = Done (put (dest_of o 0) Long psl (begun o (psl % 2 ^ 8)))
 performed_with psl operation o = performed operation o (psl % 2 ^ 8)

@@ -1,5 +1,5 @@
--- Reading an instruction from the front of a list of bytes: what stands there, that more is needed,
--- or that nothing can stand there. It is how a processor that fetches byte by byte decides.
+-- Reading an instruction from the front of a list of bytes: what is there, that more is needed,
+-- or that nothing can be there. It is how a processor that fetches byte by byte decides.
 use Rattle.std.specs.Prelude.{◌≡◌, ℕ, ◌-◌, ◌+◌, ◌*◌, ◌/◌, ◌%◌, ◌<◌, nat_lt, ◌==◌, ◌&&◌, ◌||◌, List, [], ◌∷◌, ◌++◌, length, take, drop, Option, Some, None, Bool, true, false, if◌then◌else◌}
 use Rattle.vv_base.specs.declared.width.Width.{Width}
 use Rattle.vv_base.specs.declared.width.Width.TheVariants.{Quad}
@@ -32,7 +32,7 @@ abbrev pub is_quad : Width → Bool
 is_quad Quad = true
 is_quad _ = false
 
--- an operand and the bytes behind it, more bytes wanted, or a reserved form
+-- an operand and the bytes after it, more bytes wanted, or a reserved form
 pub data Seen : Type 0 where
   Got : Spec → List ℕ → Seen
   More : Seen
@@ -50,7 +50,7 @@ named_at mode reg bytes = if reg == 15 then Bad else Got (unindexed mode reg 0) 
 abbrev pub displacement_size : ℕ → ℕ
 displacement_size mode = if nat_lt mode 12 then 1 else (if nat_lt mode 14 then 2 else 4)
 
--- a specifier of the modes 5 to F: form, mode, register, and the bytes behind the first
+-- a specifier of the modes 5 to F: form, mode, register, and the bytes after the first
 unfoldable pub specifier_by : Form → ℕ → ℕ → List ℕ → Seen
 specifier_by form mode reg bytes =
     if mode == 5 then (if is_address form.access || (is_quad form.width && reg == 14) then Bad else named_at 5 reg bytes) else
@@ -71,7 +71,7 @@ with_index x (Got s rest) = Got (record s { index = Some x }) rest
 with_index x More = More
 with_index x Bad = Bad
 
--- a specifier behind an index of register x
+-- a specifier after an index of register x
 unfoldable pub indexed_at : Form → ℕ → List ℕ → Seen
 indexed_at form x [] = More
 indexed_at form x (b ∷ bytes) = if nat_lt (b / 16) 6 then Bad else if b == 0x8f then Bad else with_index x (specifier_at form b bytes)
@@ -83,7 +83,7 @@ operand_at form (b ∷ bytes) =
     if b / 16 == 4 then (if b % 16 == 15 then Bad else indexed_at form (b % 16) bytes) else
     specifier_at form b bytes
 
--- operands and the bytes behind them, more bytes wanted, or a reserved form
+-- operands and the bytes after them, more bytes wanted, or a reserved form
 pub data SeenAll : Type 0 where
   GotAll : List Spec → List ℕ → SeenAll
   MoreAll : SeenAll
@@ -103,7 +103,7 @@ operands_at (f ∷ fs) bytes = elim (operand_at f bytes) [
   | Bad ↦ BadAll
 ]
 
--- a whole instruction and the bytes behind it, bytes that begin one, an opcode that no instruction
+-- a whole instruction and the bytes after it, bytes that begin one, an opcode that no instruction
 -- has, or a reserved form
 pub data Answer : Type 0 where
   Whole : Instruction → List ℕ → Answer
@@ -120,7 +120,7 @@ abbrev pub by_row : ℕ → List ℕ → Option Entry → Answer
 by_row opcode bytes None = Unknown
 by_row opcode bytes (Some e) = answer_of opcode bytes (operands_at e.operands bytes)
 
--- behind FD
+-- after FD
 abbrev pub wait_at : List ℕ → Answer
 wait_at [] = Short
 wait_at (c ∷ cs) = if c == 1 then Whole (record { opcode = 0xfd; wait = true; length = 2; specs = [] }) cs else Unknown

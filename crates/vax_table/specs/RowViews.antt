@@ -1,4 +1,4 @@
--- What the code's rows and lines say, in the table's words.
+-- What the code's rows say, in both of their forms, in the table's words.
 use Rattle.std.specs.Prelude.{[], ◌∷◌, Option, Some, None}
 use Rattle.vax_table.specs.declared.forms.Row.{Row}
 use Rattle.vax_table.specs.declared.lines.Line.{Line}

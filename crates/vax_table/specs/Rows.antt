@@ -172,12 +172,12 @@ others =
 abbrev pub in_block : ℕ → ℕ → List Entry → Option Entry
 in_block n first block = if nat_le first n then slice_get block (n - first) else None
 
--- what a list of lines says of an opcode
+-- what a list of rows says of an opcode
 abbrev pub in_lines : ℕ → List Line → Option Entry
 in_lines n [] = None
 in_lines n (l ∷ ls) = if n == l.opcode then Some l.entry else in_lines n ls
 
--- the first of these that there is
+-- the first of these that exists
 abbrev pub first_some : List (Option Entry) → Option Entry
 first_some [] = None
 first_some (Some e ∷ os) = Some e

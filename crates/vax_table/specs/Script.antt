@@ -1,5 +1,5 @@
--- What an instruction does in order: accesses and tests, and then a result. A script is interpreted over a
--- space; from the one script follow the result, the first trouble, and the bytes that were asked for
+-- What an instruction does in order: accesses and tests, and then a result. An interaction is interpreted over a
+-- space; from the one interaction follow the result, the first trouble, and the bytes that were asked for
 -- (VAX Architecture Reference Manual: instruction execution, and the order of operand accesses).
 use Rattle.std.specs.Prelude.{◌≡◌, ℕ, zero, suc, ◌+◌, ◌*◌, ◌%◌, ◌^◌, List, [], ◌∷◌, ◌++◌, ◌⊎◌, Result, Ok, Err}
 use Rattle.vax_arch.specs.declared.mode.Intent.{Intent}
@@ -9,7 +9,7 @@ use Rattle.vax_table.specs.declared.act.Refusal.{Refusal}
 pub data Cause : Type 0 where
   Absent Refusing Past : Cause
 
--- what a script stops at: the first byte of a reference that has trouble, or a test that refuses the instruction
+-- what an interaction stops at: the first byte of a reference that has trouble, or a test that refuses the instruction
 pub data Trouble : Type 0 where
   At : Cause → Intent → ℕ → Trouble
   Test : Refusal → Trouble
@@ -29,13 +29,13 @@ abbrev pub number_at : Space → Intent → ℕ → ℕ → Result ℕ Trouble
 number_at s i zero a = Ok 0
 number_at s i (suc k) a = with_byte i (a % 2 ^ 32) (s i (a % 2 ^ 32)) (number_at s i k (a + 1))
 
--- A script: it is done, it refuses, or it touches so many bytes from an address and goes on with their number.
+-- An interaction: it is done, it refuses, or it touches so many bytes from an address and goes on with their number.
 pub data Script (A : Type 0) : Type 0 where
   Done : A → Script A
   Refuse : Refusal → Script A
   Touch : Intent → (at size : ℕ) → (ℕ → Script A) → Script A
 
--- one script and then another
+-- one interaction and then another
 infixl 10 ◌>>=◌
 abbrev pub ◌>>=◌ : {A B : Type 0} → Script A → (A → Script B) → Script B
 (Done a) >>= g = g a
@@ -64,7 +64,7 @@ AsFar s t (Ok x) r = r ≡ Ok x
 AsFar s t (Err (Test k)) r = r ≡ Err (Test k)
 AsFar s t (Err (At c i a)) r = (s i a ≡ Err c) × ((d : Cause) → t i a ≡ Err d → r ≡ Err (At d i a))
 
--- what follows a result: nothing behind a trouble
+-- what follows a result: nothing after a trouble
 abbrev pub on_ok : {B : Type 0} → Result ℕ Trouble → (ℕ → List B) → List B
 on_ok (Ok v) f = f v
 on_ok (Err t) f = []
@@ -78,7 +78,7 @@ abbrev pub asked : Space → Intent → ℕ → ℕ → List ℕ
 asked s i zero a = []
 asked s i (suc k) a = a % 2 ^ 32 ∷ behind_byte (s i (a % 2 ^ 32)) (asked s i k (a + 1))
 
--- the bytes that a script asks for, up to and with the first that has trouble
+-- the bytes that an interaction asks for, up to and with the first that has trouble
 abbrev pub reached : {A : Type 0} → Space → Script A → List ℕ
 reached s (Done a) = []
 reached s (Refuse t) = []

@@ -13,7 +13,7 @@ use Rattle.vax_table.specs.Spelled.{value_size}
 use Rattle.vax_table.specs.Spelling.{Instruction, unindexed}
 
 -- 1000 has the longword 2000; the bytes below 1100 are 0 otherwise, those from 1100 to 7FFF their address modulo 251,
--- so that A0, A1, .. stand from 2000 on; from 8000 on there is nothing
+-- so that A0, A1, .. are from 2000 on; from 8000 on there is nothing
 abbrev pub space : Space
 space i at =
     if at == 0x1001 then Ok 0x20 else
@@ -89,7 +89,7 @@ pub wait_behind : outcome space (operands_of (record { opcode = 0xfd; wait = tru
 unfolding operands_of row_of
 wait_behind = refl
 
--- Each mode once, with PC 200 behind the opcode.
+-- Each mode once, with PC 200 after the opcode.
 
 pub literal : shown (r Quad) (unindexed 0 0 63) (only 0 0x200) ≡ Ok (evaluated 63 Nowhere (only 0 0x201))
 unfolding operand_of read_operand value_size
@@ -150,7 +150,7 @@ pub byte_displacement_deferred : shown (m Byte) (unindexed 11 0 0x7f) (only 0xf8
 unfolding operand_of modified_operand address_of base_address value_size
 byte_displacement_deferred = refl
 
--- plus 1E00 and minus 8000, from PC behind the specifier
+-- plus 1E00 and minus 8000, from PC after the specifier
 pub word_displacement : shown (r Byte) (unindexed 12 15 0x1e00) (only 0 0x200) ≡ Ok (evaluated 0xa3 Nowhere (only 0 0x203))
 unfolding operand_of read_operand address_of base_address value_size
 word_displacement = refl
@@ -171,12 +171,12 @@ pub long_displacement_deferred : shown (a Long) (unindexed 15 0 0x1000) (only 0 
 unfolding operand_of address_operand address_of base_address value_size
 long_displacement_deferred = refl
 
--- (R0)+[R0]: the index register is read behind the base's side effect; 400 plus 4 times 404
+-- (R0)+[R0]: the index register is read after the base's side effect; 400 plus 4 times 404
 pub index_behind_side_effect : shown (a Long) (indexed 0 8 0 0) (only 0x400 0x200) ≡ Ok (evaluated 0x1410 Nowhere (only 0x404 0x202))
 unfolding operand_of address_operand address_of base_address value_size
 index_behind_side_effect = refl
 
--- @(R1)[R0]: the index is added behind the indirection; 2000 plus 2 times 3, modulo 2 ^ 32 with minus 3
+-- @(R1)[R0]: the index is added after the indirection; 2000 plus 2 times 3, modulo 2 ^ 32 with minus 3
 pub index_behind_indirection : shown (a Word) (indexed 0 11 1 0) (registers 3 0x1000 0 0 0 0x200) ≡ Ok (evaluated 0x2006 Nowhere (registers 3 0x1000 0 0 0 0x203))
 unfolding operand_of address_operand address_of base_address value_size
 index_behind_indirection = refl

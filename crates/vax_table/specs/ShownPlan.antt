@@ -193,7 +193,7 @@ pub sets_a_bit : outcome zeros (doing (instruction 0xe2 (unindexed 5 0 0 ∷ uni
 unfolding plan_of performed operation_of row_of operands_of operand_of read_operand bits_operand branch_operand address_of base_address value_size branched_on_bit
 sets_a_bit = refl
 
--- CASEL R0,#1,#1 with R0 3: 2 is beyond the limit, so it goes on behind two words
+-- CASEL R0,#1,#1 with R0 3: 2 is beyond the limit, so it goes on after two words
 pub beyond_the_limit : outcome zeros (doing (instruction 0xcf (unindexed 5 0 0 ∷ unindexed 0 0 1 ∷ unindexed 0 0 1 ∷ [])) (registers 3 0 0 0 0 0x200) 0) ≡ Ok (record { r = registers 3 0 0 0 0 0x208; psw = 0; writes = []; trap = None })
 unfolding plan_of performed operation_of row_of operands_of operand_of read_operand value_size cased alu_of
 beyond_the_limit = refl

@@ -15,7 +15,7 @@ pub decb : row_of 0x97 ≡ Some (plain (m Byte ∷ []))
 unfolding row_of
 decb = refl
 
--- behind the eight of a block stand other lines
+-- after the eight of a block come other rows
 pub cvtbl : row_of 0x98 ≡ Some (plain (r Byte ∷ w Long ∷ []))
 unfolding row_of
 cvtbl = refl

@@ -10,7 +10,7 @@ pub indexed_displacement : decoded_at (0xc0 ∷ 0x44 ∷ 0xc3 ∷ 0x34 ∷ 0x12 
 unfolding decoded_at operand_at indexed_at specifier_at specifier_by row_of
 indexed_displacement = refl
 
--- ADDL2 (R1)+, 4(R2), and a byte behind it
+-- ADDL2 (R1)+, 4(R2), and a byte after it
 pub with_rest : decoded_at (0xc0 ∷ 0x81 ∷ 0xa2 ∷ 4 ∷ 9 ∷ []) ≡ Whole (record { opcode = 0xc0; wait = false; length = 4; specs = unindexed 8 1 0 ∷ unindexed 10 2 4 ∷ [] }) (9 ∷ [])
 unfolding decoded_at operand_at indexed_at specifier_at specifier_by row_of
 with_rest = refl

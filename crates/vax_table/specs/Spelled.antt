@@ -6,7 +6,7 @@ use Rattle.vax_table.specs.declared.decoded.Spec.{Spec}
 use Rattle.vax_table.specs.Spelling.{bytes_of}
 use Rattle.vax_table.specs.Reading.{is_branch, displacement_size}
 
--- the bytes behind a specifier's first
+-- the bytes after a specifier's first
 unfoldable pub value_size : Form → Spec → ℕ
 value_size f s =
     if nat_lt s.mode 8 then 0 else

@@ -42,15 +42,15 @@ pub data Specifier (form : Form) (bytes : List ℕ) (s : Spec) : Type 0 where
   absolute : (v : ℕ) → v < 256 ^ 4 → bytes ≡ 0x9f ∷ bytes_of 4 v → s ≡ unindexed 9 15 v → Specifier form bytes s
   displacement : (mode k n v : ℕ) → Displaces mode k → n < 16 → v < 256 ^ k → bytes ≡ (16 * mode + n) ∷ bytes_of k v → s ≡ unindexed mode n v → Specifier form bytes s
 
--- An operand of the form: a specifier, one behind an index, or a branch displacement. Behind an index
--- stands neither a literal, an index nor a register (all below 60), nor an immediate (8F).
+-- An operand of the form: a specifier, one after an index, or a branch displacement. After an index
+-- comes neither a literal, an index nor a register (all below 60), nor an immediate (8F).
 pub data Operand (form : Form) (bytes : List ℕ) (s : Spec) : Type 0 where
   specifier : form.access ≢ Branch → Specifier form bytes s → Operand form bytes s
   indexed : form.access ≢ Branch → (x : ℕ) → x < 15 → (b : ℕ) (rest : List ℕ) (t : Spec) → 0x60 ≤ b → b ≢ 0x8f → Specifier form (b ∷ rest) t →
       bytes ≡ (0x40 + x) ∷ (b ∷ rest) → s ≡ record t { index = Some x } → Operand form bytes s
   branch : form.access ≡ Branch → (v : ℕ) → v < 256 ^ size_of form.width → bytes ≡ bytes_of (size_of form.width) v → s ≡ unindexed 16 0 v → Operand form bytes s
 
--- operands of the forms, one behind the other
+-- operands of the forms, one after the other
 abbrev pub Operands : List Form → List ℕ → List Spec → Type 0
 Operands [] bytes [] = bytes ≡ []
 Operands (f ∷ fs) bytes (s ∷ ss) = (front : List ℕ) × (back : List ℕ) × (bytes ≡ front ++ back) × Operand f front s × Operands fs back ss
@@ -78,12 +78,12 @@ pub data Spells (bytes : List ℕ) (d : Instruction) : Type 0 where
 abbrev pub IsWellFormed : Instruction → Type 0
 IsWellFormed d = (bytes : List ℕ) × Spells bytes d
 
--- no spelling stands at the front of the bytes, and they begin none
+-- no spelling is at the front of the bytes, and they begin none
 pub record SpellsNone (b : List ℕ) : Type 0 where
   pub front : (front rest : List ℕ) (d : Instruction) → b ≡ front ++ rest → Spells front d → ⊥
   pub begin : (tail : List ℕ) (d : Instruction) → Spells (b ++ tail) d → ⊥
 
--- some instruction has the opcode bytes at the front: FD has 01 behind it, every other opcode a row
+-- some instruction has the opcode bytes at the front: FD has 01 after it, every other opcode a row
 abbrev pub HasOpcode : List ℕ → Type 0
 HasOpcode [] = ⊥
 HasOpcode (b ∷ bs) = ((b ≢ 0xfd) × IsSome (row_of b)) ⊎ ((b ≡ 0xfd) × (take 1 bs ≡ 1 ∷ []))

@@ -12,7 +12,7 @@ use Rattle.vax_table.specs.declared.forms.Access.TheVariants.{Read, Modify, Writ
 use Rattle.vax_table.specs.declared.forms.Form.{Form}
 use Rattle.vax_table.specs.Reading.{displacement_size}
 
--- A specifier's registers, and its address or displacement within its bytes. PC stands in no mode below 8.
+-- A specifier's registers, and its address or displacement within its bytes. PC is in no mode below 8.
 pub record IsFormed (s : Spec) : Type 0 where
   pub register : s.reg < 16
   pub named : s.mode < 8 → s.reg < 15
@@ -36,7 +36,7 @@ Stands Address w s = IsFormed s × (5 < s.mode)
 Stands Bits w s = IsFormed s × (4 < s.mode)
 Stands Branch w s = s.value < 256 ^ size_of w
 
--- operands that stand, one for each form
+-- operands that are sound, one for each form
 abbrev pub AllStand : List Form → List Spec → Type 0
 AllStand [] [] = Unit {0}
 AllStand (f ∷ fs) (s ∷ ss) = Stands f.access f.width s × AllStand fs ss
@@ -58,10 +58,10 @@ IsRegister Nowhere = Unit {0}
 IsRegister (Register n) = n < 15
 IsRegister (Memory at) = Unit {0}
 
--- a value within its width, and a register that there is
+-- a value within its width, and a register that exists
 abbrev pub Fits : Form → ℕ → Dest → Type 0
 Fits f value dest = (value < 256 ^ size_of (value_width f.access f.width)) × IsRegister dest
 
--- each operand of the forms has a value within its width, and a register that there is
+-- each operand of the forms has a value within its width, and a register that exists
 abbrev pub AllFit : List Form → Operands → Type 0
 AllFit forms o = (k : ℕ) (f : Form) → slice_get forms k ≡ Some f → Fits f (slice_index o.values k) (slice_index_or o.dests k Nowhere)

@@ -1,4 +1,4 @@
--- The code's troubles, in the words of scripts.
+-- The code's troubles, in the words of interactions.
 use Rattle.std.specs.Prelude.{Bool, true, false, Result, Ok, Err}
 use Rattle.vax_arch.specs.declared.mode.Intent.{Intent}
 use Rattle.vax_arch.specs.declared.mode.Intent.TheVariants.{Read, Write}

@@ -1,4 +1,4 @@
--- The instruction at PC, whole: its bytes, the privilege test, and then what it comes to; a sensitive instruction
+-- The instruction at PC, whole: its bytes, the privilege test, and then its outcome; a sensitive instruction
 -- traps with its operands (VAX Architecture Reference Manual: instruction execution; Hall and Robinson, Virtualizing
 -- the VAX Architecture, ISCA 1991, for the trap).
 use Rattle.std.specs.Prelude.{ℕ, ◌||◌, Bool, true, false, if◌then◌else◌, List, take, slice_index}
@@ -24,13 +24,13 @@ use Rattle.vax_table.specs.declared.meaning.Operation.{Operation}
 use Rattle.vax_table.specs.declared.meaning.Operation.TheVariants.{Sensitive, Probe}
 
 -- a plain instruction's effect, a sensitive one's operands, or PROBE's: whether its bytes are accessible is judged
--- behind the script, over the page tables
+-- after the interaction, over the page tables
 pub data Act : Type 0 where
   Plain : Effect → Act
   Traps : Trapped → Act
   Probes : Intent → Operands → Act
 
--- what an instruction was found to be, and what it comes to
+-- what an instruction was found to be, and its outcome
 pub record Meant : Type 0 where
   pub opcode : ℕ
   pub act : Act

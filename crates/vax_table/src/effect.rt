@@ -15,12 +15,12 @@ pub struct Store {
     pub value: u64,
 }
 
-/// What a plain instruction comes to.
+/// The outcome of a plain instruction.
 #[derive(Drop)]
 pub struct Plan {
-    /// R0 to R15 behind the instruction.
+    /// R0 to R15 after the instruction.
     pub r: [u32; 16],
-    /// The processor status word behind it.
+    /// The processor status word after it.
     pub psw: u8,
     /// Its stores, in order.
     pub writes: ArrayVec<Store, 20>,
@@ -85,7 +85,7 @@ impl Plan {
         }
     }
 
-    /// A store behind those that are there.
+    /// A store after those that are there.
     pub fn store(&mut self, va: u32, width: Width, value: u64)
         requires room { array_vec_len self.old.writes < 20 }
         ensures { effect self.new ≡ record (effect self.old) { writes = (effect self.old).writes ++ store va width value ∷ [] } }

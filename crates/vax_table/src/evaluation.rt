@@ -34,7 +34,7 @@ pub struct Operands {
     pub values: [u64; 4],
     /// Where a result goes, or the register or address from which bits are counted; else nowhere.
     pub dests: [Dest; 4],
-    /// R0 to R15 with the side effects, and PC behind the instruction.
+    /// R0 to R15 with the side effects, and PC after the instruction.
     pub r: [u32; 16],
 }
 

@@ -105,7 +105,7 @@ const WQ: Form = Form {
     width: Width::Quad,
 };
 
-/// The lines of the table, by opcode.
+/// The rows of the table, by opcode.
 pub static LINES: [Line; 256] = [
     Line::None(true), // 00 HALT
     Line::None(false), // 01 NOP

@@ -55,7 +55,7 @@ pub fn row(opcode: u8) -> Option<Row>
     })
 }
 
-/// What the instruction of an opcode does behind its operands; `Other` exactly where no instruction has the opcode.
+/// What the instruction of an opcode does after its operands; `Other` exactly where no instruction has the opcode.
 pub fn operation(opcode: u8) -> Operation
     ensures value { result ≡ operation_of opcode }
     ensures narrow { is_narrow result ≡ true }

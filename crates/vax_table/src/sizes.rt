@@ -18,7 +18,7 @@ pub fn displacement_width(mode: u8) -> Width
     }
 }
 
-/// How many bytes of an operand stand behind its specifier's first.
+/// How many bytes of an operand come after its specifier's first.
 #[tactic(auto, unfolding(crate::specs::Spelled::value_size))]
 pub fn value_size(form: Form, spec: &Spec) -> u8
     ensures value { result ≡ value_size form spec.now }

@@ -140,7 +140,7 @@ static CASES: [Case; 11] = [
     ),
 ];
 
-/// A clock with a full counter and NICR 7, behind some deeds.
+/// A clock with a full counter and NICR 7, after some deeds.
 fn behind(deeds: &[Deed]) -> Clock {
     let mut clock = Clock::new();
     clock.write_nicr(0xffff_ffff);
@@ -152,7 +152,7 @@ fn behind(deeds: &[Deed]) -> Clock {
     clock
 }
 
-/// The deeds of a case come to what it says.
+/// The deeds of a case have the outcome that it states.
 fn check(rt: &impl Abort, case: &Case) {
     let (name, deeds, iccs, icr, due) = case;
     let clock = behind(deeds);

@@ -142,7 +142,7 @@ static TRANSMITTING: [Case; 4] = [
     ),
 ];
 
-/// A new console behind some deeds.
+/// A new console after some deeds.
 fn behind(deeds: &[Deed]) -> Console {
     let mut console = Console::new();
     for deed in deeds {
@@ -151,7 +151,7 @@ fn behind(deeds: &[Deed]) -> Console {
     console
 }
 
-/// The deeds of a case come to what it says.
+/// The deeds of a case have the outcome that it states.
 fn check(rt: &impl Abort, case: &Case) {
     let (name, deeds, rxcs, txcs, rx_due, tx_due) = case;
     let console = behind(deeds);
@@ -244,7 +244,7 @@ fn new_after(alloc: Global, text: &[u8]) -> Result<KeptPort<131_072>, NoMemory>
     Ok(port)
 }
 
-/// A text that is shown; and the bytes that the port keeps behind it, and whether it is cut.
+/// A text that is shown; and the bytes that the port keeps after it, and whether it is cut.
 type Show = (&'static str, &'static str, bool);
 
 static SHOWS: [Show; 5] = [

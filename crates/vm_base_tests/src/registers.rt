@@ -63,7 +63,7 @@ fn written_and_read(rt: HostRuntime) {
     }
 }
 
-/// Values that a register doesn't allow, registers that are read alone, and numbers that there are not.
+/// Values that a register doesn't allow, registers that are read alone, and numbers that no register has.
 static REFUSED: [(u32, u32); 23] = [
     (5, 0),
     (8, 0x8000_0002),

@@ -24,7 +24,7 @@ static TAKES: [(u32, u8, bool, bool); 9] = [
     (4, 0, true, true),
 ];
 
-/// Where each context is behind them.
+/// Where each context is after them.
 static FINDS: [(u32, Option<u8>); 6] = [
     (1, None),
     (2, Some(1)),

@@ -1,4 +1,4 @@
--- A page that was opened for an instruction is closed behind it.
+-- A page that was opened for an instruction is closed after it.
 use Rattle.std.proofs.Common.{◌≡◌, ℕ, ◌/◌, ◌^◌, ◌⊎◌, inl, inr, ◌==◌, ◌||◌, Bool, true, false, not, List, [], ◌∷◌, filter, map, Option, None, refl, ap, ◌∙◌, sym, subst, if◌then◌else◌}
 use Rattle.std.proofs.lemmas.Bool.{eq-eqb, or_from, or_parts}
 use Rattle.vax_hw.specs.Machine.{Machine}

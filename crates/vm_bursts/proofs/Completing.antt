@@ -1,4 +1,4 @@
--- One instruction of a guest, tried by the machine, and tried again when a page is let be written.
+-- One instruction of a guest, tried by the machine, and tried again when a page is made writable.
 use Rattle.std.proofs.Common.{◌≡◌, ℕ, ◌+◌, ◌-◌, ◌*◌, ◌%◌, ◌^◌, ◌<◌, ◌≤◌, ◌⊎◌, inl, inr, Bool, true, false, List, [], ◌∷◌, Option, Some, None, is_some, Result, Ok, Err, refl, ap, ◌∙◌, sym, subst, arith, if◌then◌else◌}
 use Rattle.std.proofs.lemmas.Bool.{cases_eq}
 use Rattle.vax_arch.specs.Fields.{frame_of, is_modified}
@@ -110,7 +110,7 @@ module _ (opened : List ℕ) (m : Machine) (s : Shadowed) (g : GuestState) (k : 
   pub unwritten : (m1 : Machine) (e : Exit) (va : ℕ) → (m1, e) ≡ real 1 m → e ≡ Modify va → (m1 ≡ m) × IsUnwritten va m.memory s g × Reaches (Modify va) m.memory s g
   unwritten m1 e va is modify = subst Met (sym is) (met_by (one m) refl) va modify
 
--- A page that is let be written, or closed, changes the real tables alone.
+-- A page that is made writable, or closed, changes the real tables alone.
 pub only_both : (s : Shadowed) (m m2 : Machine) → OnlyTables s.at m m2 → OnlyBoth s m.memory m2.memory
 only_both s m m2 only = record {
   size = only.tables.size;
@@ -190,7 +190,7 @@ module _ (va : ℕ) (m m2 : Machine) (s s2 : Shadowed) (g : GuestState) (frame :
         loads = subst (λ x. Loads x s2 g) (sym w) (record { r = l.r; psl = l.psl; current = l.current; previous = l.previous; tables = l.tables ∙ (λ i. Rattle.vm_shadow.specs.Layout.real_tables (sym at_same i) (sym slot_same i)) });
       }
 
--- An instruction is tried behind that: what comes of it is what comes of it from before.
+-- An instruction is tried after that: its outcome is the one from before.
 pub guest_same : (m m2 : Machine) (g : GuestState) → partition_of m2.memory g ≡ partition_of m.memory g → guest_of m2.memory g ≡ guest_of m.memory g
 guest_same m m2 g e = λ i. record { memory = e i; state = state_of g }
 

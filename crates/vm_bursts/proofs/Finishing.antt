@@ -25,7 +25,7 @@ use Rattle.vm_state.specs.declared.exception.Exc.TheVariants as excs
 use Rattle.vm_state.specs.declared.guest_state.GuestState.{GuestState}
 use Rattle.vm_touches.specs.Touched.{touches_now}
 
--- the run behind one plain step
+-- the run after one plain step
 executed_as : (h : Guest) (run : Run) (x : Stepped) → run.guest ≡ h → by_try h (guest_try h) ≡ x → after_step run (executed run.guest) ≡ after_step run x
 unfolding executed
 executed_as h run x own e =

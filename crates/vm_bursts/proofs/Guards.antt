@@ -1,4 +1,4 @@
--- A page is let be written, and closed again.
+-- A page is made writable, and closed again.
 use Rattle.std.proofs.Common.{◌≡◌, ℕ, ◌*◌, ◌/◌, Bool, true, false, List, Option, Some, None, Ok, refl, ap, ◌∙◌, sym, subst}
 use Rattle.vax_arch.specs.Walk.{page_of}
 use Rattle.vax_arch.specs.declared.mode.Intent.TheVariants.{Write}
@@ -37,7 +37,7 @@ module _ (va : ℕ) (m : Machine) (s : Shadowed) (g : GuestState) (can : CanAllo
       let home : place_here m1.memory g Write va ≡ Ok can.unwritten.home = subst (λ (x : Machine). place_here x.memory g Write va ≡ Ok can.unwritten.home) (sym same.0) can.unwritten.place in
       record { keeps = k.keeps; told = at can.unwritten.home home ∙ sym can.unwritten.frame; entry = k.entry; others = k.others; rest = k.rest; only = k.only }
 
--- behind an instruction
+-- after an instruction
 pub fits_noted : (frame : ℕ) (m m1 : Machine) (s s1 : Shadowed) → CanClose (Some frame) true m s → Notes frame m s m1 s1 → Fits m1.memory s1
 fits_noted frame m m1 s s1 can k = (k.keeps can.pending can.opened can.keeps).fits
 

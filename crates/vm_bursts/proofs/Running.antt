@@ -151,7 +151,7 @@ module _ (n : ℕ) (m : Machine) (s : Shadowed) (g : GuestState) (w : World) (x 
   pub few_counted : (done : ℕ) → done ≡ x.done → counted_by x.exit done < n
   few_counted done e = subst (λ d. counted_by x.exit d < n) (sym (e ∙ done_is)) (counted_few x.exit the_burst.done the_burst.left m'.memory (as_run m'.world g) the_burst.ends the_burst.budget)
 
-  -- what the guest has become stands
+  -- what the guest has become is allowed still
   allowed_still : AreAllowed (512 * g.pages) (state_of g) → (c : ℕ) → AreAllowed (512 * g.pages) (state_of (with_count c (as_run m'.world g)))
   allowed_still a c = record { p0br = a.p0br; p0lr = a.p0lr; p1br = a.p1br; p1lr = a.p1lr; sbr = a.sbr; slr = a.slr; pcbb = a.pcbb; scbb = a.scbb; astlvl = a.astlvl; sisr = a.sisr; psl = zero_bits (as_run m'.world g).psl.0 g.psl.0 the_burst.high ∙ a.psl; packets = a.packets; few = a.few }
 

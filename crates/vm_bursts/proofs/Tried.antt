@@ -158,7 +158,7 @@ module _ (opened : List ℕ) (m : Machine) (s : Shadowed) (g : GuestState) (va :
         pub tried_again : ClosesBehind (own_number s3 (page_of va)) frame (is_retired e) m3 s3 m4 s4 → IsTried e opened m s g m4 s4
         tried_again c = tried_from m s g m2 s2 (alike va m m2 s s2 g frame k.keeps.fits k.serves a) m4 s4 opened e (closed_by frame refl e again (subst (λ x. ClosesBehind x frame (is_retired e) m3 s3 m4 s4) number_now c))
 
--- The same behind the machine's first try, which leaves it as it was.
+-- The same after the machine's first try, which leaves it as it was.
 module _ (opened : List ℕ) (m : Machine) (s : Shadowed) (g : GuestState) (k : RunsGuest opened m s g) (m1 : Machine) (first : Exit) (va : ℕ) (ran : (m1, first) ≡ real 1 m) (is : first ≡ Modify va) where
   here : m1 ≡ m
   here = (unwritten opened m s g k m1 first va ran is).0

@@ -88,7 +88,7 @@ is_retired Budget = true
 is_retired (Arithmetic kind) = true
 is_retired e = false
 
--- A page may be let be written: the guest's modify bit is set.
+-- A page may be made writable: the guest's modify bit is set.
 pub record CanAllow (va : ℕ) (m : Machine) (s : Shadowed) (g : GuestState) : Type 0 where
   pub fits : Fits m.memory s
   pub partition : 512 * (g.base + g.pages) ≤ length m.memory
@@ -109,7 +109,7 @@ pub record Allows (va : ℕ) (m : Machine) (s : Shadowed) (frame : Option ℕ) (
   pub rest : s' ≡ record s { writable = s'.writable }
   pub only : OnlyTables s.at m m'
 
--- A page that was opened is closed, behind a drop of what was read from its frame where the instruction retired.
+-- A page that was opened is closed, after a drop of what was read from its frame where the instruction retired.
 abbrev pub noted_by : Bool → ℕ → List ℕ → List ℕ
 noted_by true frame pending = frame ∷ pending
 noted_by false frame pending = pending
@@ -144,7 +144,7 @@ count_below p (suc n) = count_below p n + (if p n then 1 else 0)
 unfoldable pub clear_bits : List ℕ → Shadowed → ℕ
 clear_bits memory s = count_below (λ n. not (is_modified (real_at memory s n))) all_entries
 
--- The guest's step behind one guarded instruction: it is plain, and its trap is initiated in it.
+-- The guest's step after one guarded instruction: it is plain, and its trap is initiated in it.
 abbrev pub with_trap_of : Option ℕ → Run → Run
 with_trap_of None run = run
 with_trap_of (Some kind) run = with_trap kind run

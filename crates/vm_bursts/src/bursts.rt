@@ -13,7 +13,7 @@ use vm_shadow::Shadow;
 use vm_state::GuestState;
 
 /// What a run of the machine did: how many instructions retired, the sum of their terms of the trail modulo 2^64, and why it
-/// came to its end.
+/// ended.
 #[derive(Clone, Copy, Debug, PartialEq, Eq)]
 pub struct Ran {
     pub done: u32,
@@ -57,7 +57,7 @@ fn steps_of(g: &GuestState) -> u32
     g.steps
 }
 
-/// What a run of the machine came to: how much its counts rose, its registers, and why it ended.
+/// The outcome of a run of the machine: how much its counts rose, its registers, and why it ended.
 #[derive(Clone, Copy, Debug, PartialEq, Eq)]
 pub struct Ended {
     pub exit: Exit,

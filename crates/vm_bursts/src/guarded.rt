@@ -48,7 +48,7 @@ fn is_retired(exit: &Exit) -> bool
     matches!(exit, Exit::Budget | Exit::Arithmetic { .. })
 }
 
-/// Lets a page be written whose modify bit is set in the guest's own tables: it is granted for good, where no entry was read
+/// Makes a page writable whose modify bit is set in the guest's own tables: it is granted for good, where no entry was read
 /// from its frame; else it is opened for one instruction, and the answer is its frame.
 fn allow<H: Hardware>(machine: &mut H, s: &mut Shadow, g: &GuestState, va: u32) -> Option<u32>
     requires { CanAllow va (H.machine machine.old) s.old g.now }
@@ -62,7 +62,7 @@ fn allow<H: Hardware>(machine: &mut H, s: &mut Shadow, g: &GuestState, va: u32) 
     Some(frame)
 }
 
-/// Closes a page that was opened. Behind an instruction that retired, what was read from its frame is dropped.
+/// Closes a page that was opened. After an instruction that retired, what was read from its frame is dropped.
 fn close_behind<H: Hardware>(
     machine: &mut H,
     s: &mut Shadow,
@@ -86,8 +86,8 @@ fn close_behind<H: Hardware>(
 }
 
 /// Runs the guest's instruction, which the machine has. A page that it writes, and whose modify bit is set in the guest's own
-/// tables, is granted for good, where no entry was read from its frame, and else opened for this instruction alone: what was
-/// read from the frame is dropped behind it.
+/// tables, is granted for good, where no entry was read from its frame, and else opened for this instruction alone. What was
+/// read from the frame is dropped after it.
 fn complete<H: Hardware>(machine: &mut H, s: &mut Shadow, g: &GuestState) -> Exit
     requires { RunsSome (H.machine machine.old) s.old g.now }
     ensures { (opened : List ℕ) → RunsGuest opened (H.machine machine.old) s.old g.now → IsTried result opened (H.machine machine.old) s.old g.now (H.machine machine.new) s.new }

@@ -38,7 +38,7 @@ second_wrap_reads = refl
 abbrev full : ClockState
 full = record initial_state { nicr = 7; icr = 0xffff_ffff }
 
--- bit 6 set anew behind a single step that wraps: the request is made
+-- bit 6 set anew after a single step that wraps: the request is made
 pub step_then_enable : after_iccs_write full 0x60 ≡ record full { icr = 7; enable = true; interrupt = true; request = true }
 unfolding after_iccs_write
 step_then_enable = refl

@@ -34,7 +34,7 @@ most_waiting = 256
 abbrev pub has_room : ConsoleState → Bool
 has_room console = nat_lt (length console.waiting) most_waiting
 
--- A typed byte waits behind the others, where there is room. It requests where done becomes 1 with enable set.
+-- A typed byte waits after the others, where there is room. It requests where done becomes 1 with enable set.
 abbrev pub after_typed : ConsoleState → ℕ → ConsoleState
 after_typed console byte =
     if has_room console

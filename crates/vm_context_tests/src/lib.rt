@@ -1,5 +1,6 @@
-//! Worked examples of LDPCTX and SVPCTX: what is loaded and stored, what is refused, and five contexts by turns. What each is
-//! to come to was found by hand from the manual's tables and the profile, and by no run. Numbers in comments are hexadecimal.
+//! Worked examples of LDPCTX and SVPCTX: what is loaded and stored, what is refused, and five contexts in turn. The expected
+//! outcome of each was found by hand from the manual's tables and the profile, and by no run. Numbers in comments are
+//! hexadecimal.
 #![tactic(auto)]
 
 #[cfg(test)]

@@ -1,4 +1,4 @@
-//! What LDPCTX loads and pushes, the stack that it can't write, and five contexts by turns.
+//! What LDPCTX loads and pushes, the stack that it can't write, and five contexts in turn.
 
 use std::alloc::Global;
 use std::process::Abort;
@@ -8,7 +8,7 @@ use vm_stage::Place::{
 };
 use vm_stage::{CASE, Case, FAULT, Place, SENSITIVE};
 
-/// All is as told, in one call and step by step.
+/// All is as stated, in one call and step by step.
 fn are_as_told(rt: &impl Abort, alloc: Global, cases: &[Case]) -> Result<(), Fail> {
     for case in cases {
         assert_eq!(rt; case.difference(alloc, false)?, None, "{}", case.name);
@@ -29,7 +29,7 @@ fn pushed(rt: HostRuntime) -> Result<(), Fail> {
     are_as_told(&rt, rt.alloc(), &PUSHED)
 }
 
-/// Five contexts by turns.
+/// Five contexts in turn.
 #[test]
 fn five_contexts(rt: HostRuntime) -> Result<(), Fail> {
     are_as_told(&rt, rt.alloc(), &TURNS)

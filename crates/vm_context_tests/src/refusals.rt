@@ -21,7 +21,7 @@ const BLOCK: [(Place, u32); 11] = [
     (Long(0x4418), 0x1F00),
 ];
 
-/// The block with one longword otherwise.
+/// The block with another value in one longword.
 fn is_refused(rt: &impl Abort, alloc: Global, at: u32, v: u32) -> Result<(), Fail> {
     let at = at % 0x60;
     let before = [(Long(0x5000 + at), v)];

@@ -6,7 +6,7 @@ use std::test::Fail;
 use vm_stage::Place::{IsStopped, Long, Pcbb, Psl, R, Stack, StopCode};
 use vm_stage::{CASE, Case, FAULT, Place, SENSITIVE};
 
-/// All is as told, in one call and step by step.
+/// All is as stated, in one call and step by step.
 fn are_as_told(rt: &impl Abort, alloc: Global, cases: &[Case]) -> Result<(), Fail> {
     for case in cases {
         assert_eq!(rt; case.difference(alloc, false)?, None, "{}", case.name);
@@ -54,7 +54,7 @@ const REGISTERS: [(Place, u32); 22] = [
 ];
 
 static STORED: [Case; 5] = [
-    // From the kernel stack: KSP is R14 behind the pop, in the block and in its register; IPL becomes 1. Bytes 80 on stay.
+    // From the kernel stack: KSP is R14 after the pop, in the block and in its register; IPL becomes 1. Bytes 80 on stay.
     Case {
         name: "from the kernel stack at IPL 0",
         code: &[7],
@@ -112,7 +112,7 @@ static STORED: [Case; 5] = [
         ],
         ..CASE
     },
-    // On the interrupt stack: KSP is its register, R14 stays behind the pop, PSL stays.
+    // On the interrupt stack: KSP is its register, R14 stays after the pop, PSL stays.
     Case {
         name: "from the interrupt stack",
         code: &[7],

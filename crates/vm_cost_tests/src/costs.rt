@@ -8,7 +8,7 @@ use vm_console::KeptPort;
 use vm_guest::Guest;
 use vv_base::NoMemory;
 
-/// Pages of the guest; its real tables lie behind them in the machine.
+/// Pages of the guest; its real tables lie after them in the machine.
 const PAGES: u32 = 128;
 
 /// Where a system table and five P0 tables begin.
@@ -92,7 +92,7 @@ fn each_step_costs_what_was_counted_by_hand(rt: HostRuntime) -> Result<(), Fail>
 
 /// The steps of the program: longwords read and written by the kernel, runs of the machine, misses in them, and guarded runs.
 /// Each switch empties what it drops, one write an entry; a mapped page is found by two longwords, a system page by one, and
-/// looked up twice at a fill. Behind a guarded store its page is closed by a write more, unless its own entry is dropped; it
+/// looked up twice at a fill. After a guarded store its page is closed by a write more, unless its own entry is dropped; it
 /// may then be granted, since nothing is read from its frame. A fill from a frame that may be written reads each entry that is
 /// filled, and closes those that map it.
 const STEPS: [(&str, [u64; 5]); 25] = [

@@ -8,7 +8,7 @@ use vax_hw::{Exit, Hardware, World};
 use vv_base::NoMemory;
 
 /// How often the machine was asked: longwords read and written by the kernel, runs, pages missed in them, and how many of the
-/// runs were guarded: a modify bit was set by the kernel right before such a run, and is clear again right behind it.
+/// runs were guarded: a modify bit was set by the kernel right before such a run, and is clear again right after it.
 #[derive(Clone, Copy, Debug, Default, PartialEq, Eq)]
 pub struct Cost {
     pub reads: u64,

@@ -9,7 +9,7 @@ use vm_console::KeptPort;
 use vm_guest::Guest;
 use vv_base::NoMemory;
 
-/// Pages of the guest; its real tables lie behind them in the machine.
+/// Pages of the guest; its real tables lie after them in the machine.
 const PAGES: u32 = 128;
 
 /// Where a program begins.
@@ -75,7 +75,7 @@ fn data() -> [u8; 4096] {
     data
 }
 
-/// A program, with mapping off or on, and what 10,000 steps of it come to: how many are the machine's, and longwords read and
+/// A program, with mapping off or on, and the outcome of 10,000 steps of it: how many are the machine's, and longwords read and
 /// written by the kernel, runs of the machine, misses in them, and guarded runs.
 struct Loop {
     name: &'static str,
@@ -85,7 +85,7 @@ struct Loop {
     costs: [u64; 5],
 }
 
-/// Where its code is behind its start.
+/// Where its code is after its start.
 fn offset(case: &Loop) -> usize
     ensures { result ≤ 31 }
 {

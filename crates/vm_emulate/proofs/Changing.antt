@@ -56,7 +56,7 @@ module _ (e : Exc) (m m' : Machine) (s s' : Shadowed) (g g' : GuestState) where
   pub is_stopped : (code : ℕ) → Initiates e m s g (starts.Stopped code) m' s' g' → Senses (changed (initiate (guest_of m.memory g) e)) m s g (outcomes.Stopped code) m' s' g'
   is_stopped code i = stopped code (initiate (guest_of m.memory g) e) refl i.is i.stands i.place i.only
 
--- An instruction of a guest that stands behind it, and the guest as it was before.
+-- A guest that is past an instruction, and the guest as it was before.
 
 -- no clear modify bit is met
 abbrev IsUnmarked : Sensed → Type 0
@@ -171,7 +171,7 @@ module _ (m m' : Machine) (s s' : Shadowed) (r : List ℕ) (g g2 : GuestState) w
       by LacksMemory outcomes.PastMemory u e is = all LacksMemory outcomes.PastMemory (stopped_before past_memory is)
       by LacksMemory outcomes.Filled u e is = absurd is
 
--- CHM from the guest that stands behind it
+-- CHM from the guest that is past it
 by_entering : (g : Guest) (t : Trapped) (to : Mode) → is_on_interrupt_stack g.state.psl ≡ false → slice_index (t.regs ++ t.next_pc ∷ []) 15 ≡ t.next_pc → change_mode g t to ≡ entered (guest_behind g t) to t.a
 by_entering g t to off pc = rw (off, pc) refl
 

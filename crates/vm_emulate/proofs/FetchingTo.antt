@@ -65,7 +65,7 @@ module _ (m : Machine) (s : Shadowed) (g : GuestState) (t : Trapped) (stands : S
   abbrev to : Dest → Trapped
   to d = record t { dest = d }
 
-  -- what is read of the guest behind the instruction
+  -- what is read of the guest after the instruction
   abbrev what : Result Value ReservedOperand
   what = read (length whole.memory) (behind (state_of g) t) t.a
 

@@ -172,7 +172,7 @@ module _ (m : Machine) (s : Shadowed) (g : GuestState) (t : Trapped) (stands : S
       unfolding sensed becomes frames
       does = by_walk (Homes hs) walk
 
-      -- the guest behind the push
+      -- the guest after the push
       abbrev pub behind : GuestState
       behind = record g1 { r = slice_set g1.r 14 (minus (slice_index g1.r 14) 8) }
 

@@ -1,4 +1,4 @@
--- CHM, of a guest that stands behind it already.
+-- CHM, of a guest that is past it already.
 use Rattle.std.specs.Prelude.{ℕ, ◌==◌, Bool, true, false, [], ◌∷◌, if◌then◌else◌}
 use Rattle.vax_arch.specs.Fields.{mode_number}
 use Rattle.vax_arch.specs.declared.mode.Mode.{Mode}

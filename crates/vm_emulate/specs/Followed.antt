@@ -9,7 +9,7 @@ use Rattle.vm_shadow.specs.StandsFor.{Takes, goes, is_full_for, staying}
 use Rattle.vm_state.specs.State.{context_of}
 use Rattle.vm_state.specs.Touches.{is_remapped}
 
--- the context of these registers comes to the front of those that stay, which keep their slots, and what a switch to it
+-- the context of these registers moves to the front of those that stay, which keep their slots, and what a switch to it
 -- drops is dropped
 pub record Retells (t : Tables) (s s' : Shadowed) : Type 0 where
   pub takes : Takes (context_of t) (staying (is_remapped s.told t) s.held) s'.held s'.slot

@@ -44,7 +44,7 @@ fn walk_push<H: Hardware>(machine: &H, g: &GuestState, m: Mode, code: u32) -> Wa
     walk_pushes(machine, g, m, sp, &[g.psl.0, g.r[15], code])
 }
 
-/// Initiates CHM; what that comes to is its own completion.
+/// Initiates CHM; the outcome of that is its own completion.
 fn begin<H: Hardware>(
     machine: &mut H,
     s: &mut Shadow,
@@ -61,7 +61,7 @@ fn begin<H: Hardware>(
     }
 }
 
-/// Changes the mode of a guest that stands behind CHM. Where that goes to another stack than the kernel's, the push is walked
+/// Changes the mode of a guest that is past CHM. Where that goes to another stack than the kernel's, the push is walked
 /// first, and trouble of it is a fault of CHM.
 fn enter<H: Hardware>(
     machine: &mut H,

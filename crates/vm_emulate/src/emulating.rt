@@ -20,7 +20,7 @@ use vm_shadow::Shadow;
 use vm_state::GuestState;
 
 /// Emulates the instruction that trapped, with the operands, the next PC and the registers of its trap. `Done` and `Stopped`
-/// complete it; behind `SetModify` it begins again; after `Fault` nothing of the guest changed, and the caller initiates it;
+/// complete it; after `SetModify` it begins again; after `Fault` nothing of the guest changed, and the caller initiates it;
 /// `PastMemory` stopped the guest; `Filled` comes for a PROBE that the machine can do now.
 pub fn emulate<H: Hardware, T: Port>(
     machine: &mut H,

@@ -127,7 +127,7 @@ fn put_long<H: Hardware>(machine: &mut H, s: &mut Shadow, places: [u32; 4], long
     put_homes(machine, s, &homes);
 }
 
-/// Reads the register that MFPR names, and goes behind it with the codes of the value. A refused read changes nothing.
+/// Reads the register that MFPR names, and goes after it with the codes of the value. A refused read changes nothing.
 fn read_register(g: &mut GuestState, t: &Trapped) -> Result<u32, ReservedOperand>
     requires { g.old.pages ≤ 65536 }
     ensures is { IsFetched g.old t.now result g.new }
@@ -223,7 +223,7 @@ fn fetch_to_memory<H: Hardware>(
 }
 
 /// MFPR: reads a register into a destination. One in memory is walked for writing first, and trouble there comes before the
-/// register's number is tested; behind that test comes a clear modify bit, with which the register isn't read.
+/// register's number is tested; after that test comes a clear modify bit, with which the register isn't read.
 pub fn move_from_register<H: Hardware>(
     machine: &mut H,
     s: &mut Shadow,

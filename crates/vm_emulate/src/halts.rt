@@ -23,7 +23,7 @@ pub fn registers_behind(t: &Trapped) -> [u32; 16]
     r
 }
 
-/// The guest goes on behind an instruction.
+/// The guest goes on after an instruction.
 pub fn go_behind(g: &mut GuestState, t: &Trapped)
     ensures state { state_of g.new ≡ behind (state_of g.old) t.now }
     ensures place { HasPlace g.old.pages g.old.base g.old.start g.new }
@@ -51,7 +51,7 @@ pub fn stop_past_memory(g: &mut GuestState) -> Emulated
     Emulated::PastMemory
 }
 
-/// HALT: the guest stops behind it.
+/// HALT: the guest stops after it.
 pub fn halt(g: &mut GuestState, t: &Trapped) -> Emulated
     ensures result { result ≡ Stopped 6 }
     ensures state { state_of g.new ≡ record (behind (state_of g.old) t.now) { halt = Some 6 } }

@@ -38,7 +38,7 @@ pub fn set_codes(g: &mut GuestState, v: u32)
     g.psl = moved_psl(g.psl, v);
 }
 
-/// Writes the register that MTPR names, and goes behind it with the codes of the value. A refused write changes nothing.
+/// Writes the register that MTPR names, and goes after it with the codes of the value. A refused write changes nothing.
 fn write_register(g: &mut GuestState, t: &Trapped) -> Result<Effect, ReservedOperand>
     ensures is { IsWritten g.old t.now result g.new }
     ensures place { HasPlace g.old.pages g.old.base g.old.start g.new }
@@ -62,7 +62,7 @@ const STATUS: u32 = 20;
 
 const BUSY: u32 = 2;
 
-/// Hands a packet over. One that finds the queue full gets its status at once.
+/// Queues a packet. One that finds the queue full gets its status at once.
 fn hand_over<H: Hardware>(
     machine: &mut H,
     s: &mut Shadow,

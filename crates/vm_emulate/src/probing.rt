@@ -82,7 +82,7 @@ fn last_of(base: u32, bytes: u32) -> u32
     }
 }
 
-/// What a byte's entry lets: its code alone decides.
+/// What a byte's entry allows: its code alone decides.
 fn by_entry(g: &GuestState, entry: Pte, m: Mode, i: Intent) -> Probed
     requires { g.now.pages ≤ 65536 }
     ensures { probed_of result ≡ by_entry (512 * g.now.pages) entry.0 m i }

@@ -50,7 +50,7 @@ fn requests_behind(g: &GuestState, psl: Psl) -> u16
     }
 }
 
-/// Goes on with a PC and a PSL that were popped: the pointer behind them is kept, and R14 is the new stack's.
+/// Goes on with a PC and a PSL that were popped: the pointer after them is kept, and R14 is the new stack's.
 fn return_to(g: &mut GuestState, popped: Popped)
     ensures state { state_of g.new ≡ returned_to (state_of g.old) (popped_of popped) }
     ensures place { HasPlace g.old.pages g.old.base g.old.start g.new }

@@ -47,7 +47,7 @@ fn saved_longs(g: &GuestState, popped: Popped) -> [u32; 20]
     longs
 }
 
-/// Writes longwords of the guest's memory, one behind another, from a physical address that is a multiple of 4.
+/// Writes longwords of the guest's memory, one after another, from a physical address that is a multiple of 4.
 fn store_longs<H: Hardware>(machine: &mut H, s: &mut Shadow, at: u32, longs: &[u32])
     requires keeps { Keeps [] [] (H.machine machine.old).memory s.old }
     requires aligned { at % 4 ≡ 0 }
@@ -61,7 +61,7 @@ fn store_longs<H: Hardware>(machine: &mut H, s: &mut Shadow, at: u32, longs: &[u
     }
 }
 
-/// R14 is behind the PC and the PSL that were popped, and PC is the next instruction's.
+/// R14 is after the PC and the PSL that were popped, and PC is the next instruction's.
 fn go_behind_pops(g: &mut GuestState, next_pc: u32)
     ensures state { state_of g.new ≡ behind_pops (state_of g.old) next_pc }
     ensures place { HasPlace g.old.pages g.old.base g.old.start g.new }

@@ -48,7 +48,7 @@ note_of_sensed g (ClearAt va) = note_of_clear g va
 note_of_sensed g (StopsThere stop) = Nothing
 note_of_sensed g LacksMemory = Nothing
 
--- the arithmetic trap behind a plain instruction
+-- the arithmetic trap after a plain instruction
 abbrev pub note_of_trap : Guest → Option ℕ → Note
 note_of_trap h None = Nothing
 note_of_trap h (Some type) = taken_by h (excs.Arithmetic type)

@@ -140,7 +140,7 @@ stopped_stands memory s g g' code stands state place = record {
     halted : AreAllowed (512 * g.pages) (state_of g) → AreAllowed (512 * g.pages) (record (state_of g) { halt = Some code })
     halted a = record { p0br = a.p0br; p0lr = a.p0lr; p1br = a.p1br; p1lr = a.p1lr; sbr = a.sbr; slr = a.slr; pcbb = a.pcbb; scbb = a.scbb; astlvl = a.astlvl; sisr = a.sisr; psl = a.psl; packets = a.packets; few = a.few }
 
--- what an attempt came to, by the definition's
+-- the outcome of an attempt, by the definition's
 pub by_arrival : (a : initiations.Attempt) (m : Machine) (s : Shadowed) (g : GuestState) (m' : Machine) (s' : Shadowed) (g' : GuestState) → IsAttempted a attempts.Arrives m s g m' s' g' → (h : Guest) × (frames : List ℕ) × (a ≡ Arrives h frames) × Becomes h frames s m' s' g'
 by_arrival (Arrives h frames) m s g m' s' g' b = (h, frames, refl, b)
 by_arrival (StackFaulty stack) m s g m' s' g' b = absurd b

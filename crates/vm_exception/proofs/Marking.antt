@@ -197,7 +197,7 @@ mark_none m s base place entry k e inside is small on =
     let memory : own m.memory s ≡ marked place (own m.memory s) = sym (ap (λ v. long_stored place v (own m.memory s)) value ∙ stored_four (own m.memory s) place (long_at (own m.memory s) place) (omega (arith, f.small)) ∙ four_same (own m.memory s) place (own_bytes m.memory s small)) in
     subst (λ fs. Wrote fs (marked place (own m.memory s)) m s m s) (sym (ap (λ b. cond (not b) (frame_at place ∷ []) []) set_)) (wrote_as [] (own m.memory s) (marked place (own m.memory s)) m m s s memory (wrote_none [] m s))
 
--- Marks, one behind another.
+-- Marks, one after another.
 
 marked_more : (hs : List pushes.Home) (h : pushes.Home) (memory : List ℕ) → all_marked (hs ++ h ∷ []) memory ≡ marked_at h.entry (all_marked hs memory)
 marked_more [] h memory = refl

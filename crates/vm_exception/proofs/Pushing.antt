@@ -95,7 +95,7 @@ walking_past g m bytes n b homes h is found w = sym (w.is ∙ ap (onto (map home
 pub walking_all : (g : Guest) (m : Mode) (bytes : List Byte) (n : ℕ) (homes : List Home) → length bytes ≤ n → Walking g m bytes n homes → Homes (map home_of homes) ≡ walked g m (map byte_of bytes)
 walking_all g m bytes n homes h w = sym (w.is ∙ ap (λ (x : List Byte). onto (map home_of homes) (walked g m (map byte_of x))) (Rattle.std.proofs.lemmas.List.drop_all n bytes h) ∙ ap Homes (append-nil (map home_of homes)))
 
--- four bytes pushed one behind another
+-- four bytes pushed one after another
 pub pushed_four : (old p1 p2 p3 p4 : List Byte) (x0 x1 x2 x3 : Byte) (bs : List ℕ) (at long : ℕ) → at < 2 ^ 32 → bs ≡ to_le_bytes w32 long → p1 ≡ old ++ x0 ∷ [] → p2 ≡ p1 ++ x1 ∷ [] → p3 ≡ p2 ++ x2 ∷ [] → p4 ≡ p3 ++ x3 ∷ [] →
     x0 ≡ record { at = at; value = get_or bs 0 0 } → x1 ≡ record { at = (at + 1) % 2 ^ 32; value = get_or bs 1 0 } → x2 ≡ record { at = (at + 2) % 2 ^ 32; value = get_or bs 2 0 } → x3 ≡ record { at = (at + 3) % 2 ^ 32; value = get_or bs 3 0 } →
     map byte_of p4 ≡ map byte_of old ++ bytes_from 4 at long

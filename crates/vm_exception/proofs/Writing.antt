@@ -1,4 +1,4 @@
--- Writes of the kernel, one behind another.
+-- Writes of the kernel, one after another.
 use Rattle.std.proofs.Common.{◌≡◌, ℕ, ◌/◌, ◌⊎◌, inl, inr, Bool, true, false, List, [], ◌∷◌, Option, None, refl, ap, ◌∙◌, subst, arith}
 use Rattle.std.proofs.lemmas.Bool.{or_left}
 use Rattle.vax_hw.specs.Machine.{Machine}

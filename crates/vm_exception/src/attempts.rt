@@ -18,7 +18,7 @@ const BAD_VECTOR: u8 = 0x07;
 
 const PAST_MEMORY: u8 = 0x10;
 
-/// What an attempt to initiate comes to: the guest is at the handler; or its stack has trouble; or it is to stop with a
+/// The outcome of an attempt to initiate: the guest is at the handler; or its stack has trouble; or it is to stop with a
 /// code.
 #[derive(Clone, Copy, Debug, PartialEq, Eq)]
 pub enum Attempt {
@@ -27,7 +27,7 @@ pub enum Attempt {
     Halts(u8),
 }
 
-/// The stack pointer behind so many longwords.
+/// The stack pointer after so many longwords.
 fn pointer_behind(sp: u32, longs: &[u32]) -> u32
     requires { length longs.now ≤ 4 }
     ensures { result ≡ pointer_behind sp longs.now }

@@ -24,7 +24,7 @@ pub struct Home {
     pub value: u8,
 }
 
-/// What the walk of bytes that are pushed comes to: all have homes, or the first that has none has a fault, or is beyond
+/// The outcome of the walk of bytes that are pushed: all have homes, or the first that has none has a fault, or is beyond
 /// memory.
 #[derive(Drop)]
 pub enum Walked {
@@ -33,7 +33,7 @@ pub enum Walked {
     PastMemory,
 }
 
-/// The four bytes of a longword at an address, behind others.
+/// The four bytes of a longword at an address, after others.
 fn push_long(bytes: &mut ArrayVec<Byte, 16>, at: u32, long: u32)
     requires { length bytes.old.items ≤ 12 }
     ensures bytes { map byte_of bytes.new.items ≡ map byte_of bytes.old.items ++ bytes_from 4 at long }

@@ -9,7 +9,7 @@ use vm_stage::Place::{
 };
 use vm_stage::{CASE, Case, IDLE, INTERRUPT};
 
-/// All is as told, in one call and step by step.
+/// All is as stated, in one call and step by step.
 #[test]
 fn every_interrupt(rt: HostRuntime) -> Result<(), Fail> {
     for case in &CASES {
@@ -206,7 +206,7 @@ static CASES: [Case; 34] = [
         after: &[(R(15), 0x201)],
         ..CASE
     },
-    // A request of a clock that stands is there still.
+    // A request of a clock that has stopped is there still.
     Case {
         name: "clock that stands, with its request",
         before: &[
@@ -226,7 +226,7 @@ static CASES: [Case; 34] = [
         ],
         ..CASE
     },
-    // HALT: the clock and the steps count in that step, and not where the guest stands.
+    // HALT: the clock and the steps count in that step, and not where the guest has stopped.
     Case {
         name: "clock of a guest that stands",
         code: &[0],

@@ -1,5 +1,5 @@
-//! Worked examples of exceptions and interrupts of a guest. What each is to come to was found by hand from the manual's tables and
-//! the profile, and by no run. Numbers in comments are hexadecimal.
+//! Worked examples of exceptions and interrupts of a guest. The expected outcome of each was found by hand from the manual's
+//! tables and the profile, and by no run. Numbers in comments are hexadecimal.
 #![tactic(auto)]
 
 #[cfg(test)]

@@ -1,10 +1,10 @@
-//! Each vector of an exception: what is pushed, and the mode and the stack behind it.
+//! Each vector of an exception: what is pushed, and the mode and the stack after it.
 
 use std::test::Fail;
 use vm_stage::Place::{Long, ModifyFaults, P0lr, Psl, R, Stack};
 use vm_stage::{CASE, Case, FAULT, PLAIN, SENSITIVE};
 
-/// All is as told, in one call and step by step.
+/// All is as stated, in one call and step by step.
 #[test]
 fn every_vector(rt: HostRuntime) -> Result<(), Fail> {
     for case in &CASES {
@@ -539,7 +539,7 @@ static CASES: [Case; 33] = [
         ],
         ..CASE
     },
-    // CHMK (R0)+: the operand's side effect stays, and R14 of the user is saved behind it.
+    // CHMK (R0)+: the operand's side effect stays, and R14 of the user is saved after it.
     Case {
         name: "CHMK with a side effect on the stack pointer",
         code: &[0xBC, 0x8E],

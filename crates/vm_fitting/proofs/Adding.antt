@@ -19,7 +19,7 @@ pub held_in : (page : ℕ) (pages : List ℕ) → holds page pages ≡ true → 
 held_in page [] h = absurd (false≢true h)
 held_in page (x ∷ pages) h = split (held_by page x pages h) (λ same. inl same) (λ more. inr (held_in page pages more))
 
--- a page is present behind another that is added only where it is this one, or was present
+-- a page is present after another that is added only where it is this one, or was present
 present_front : (page x : ℕ) (ps : List Process) → holds page (front_pages (with_front x ps)) ≡ true → (page ≡ x) ⊎ (holds page (front_pages ps) ≡ true)
 present_front page x [] h = inr h
 present_front page x (p ∷ ps) h = held_by page x p.pages h

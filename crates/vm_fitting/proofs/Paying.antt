@@ -1,4 +1,4 @@
--- Misses and what pays for them, one behind the other.
+-- Misses and what pays for them, one after the other.
 use Rattle.std.proofs.Common.{◌≡◌, ℕ, zero, suc, ◌+◌, ◌%◌, ◌^◌, ◌<◌, ◌≤◌, [], is_some, ap, ◌∙◌, arith}
 use Rattle.vm_fitting.specs.Laws.{KeepsFilled}
 use Rattle.vm_fitting.specs.Paid.{FillsAreTries, NothingIsPaid, NothingIsTried, PaymentsFollow, StepsArePaid, TouchesFollow, TriesFollow, IsSettled, NothingIsOwed, Owes, StepsSettle, TriesAreOwed}

@@ -89,7 +89,7 @@ module _ (t : Tables) (s s' : Shadowed) (r : Retells t s s') where
       let low : in_region page < 8192 = system_low page region one.1.covered in
       (one.0, one_stays e 0 page (λ full. and_left (nat_le 8192 (entry_number 0 page)) _ (ap (nat_le 8192) number ∙ lt-leb 8192 (in_region page) low)) one.1)
 
-  -- the guest's context comes to the front
+  -- the guest's context moves to the front
   pub told_kept : (h : Guest) (p : Present) → h.state.tables ≡ t → is_remapped s.told t ≡ false → HasPresent s p → HasPresent s' (to_front h p)
   told_kept h p is e all = subst (λ (u : Tables). HasPresent s' (record p { processes = brought (context_of u) p.processes })) (sym is) (record {
     system = system_stays e p.system all.system;

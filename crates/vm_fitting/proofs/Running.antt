@@ -30,7 +30,7 @@ use Rattle.vm_state.specs.declared.guest_state.GuestState.{GuestState}
 use Rattle.vm_touches.specs.Touched.{touches_now}
 use Rattle.vm_touches.proofs.Touching.{misses_touched, retired_filled, stopped_filled}
 
--- a quiet guest's next step comes to its instruction
+-- a quiet guest's next step reaches its instruction
 step_is : (h : Guest) → h.state.halt ≡ None → h.state.waiting ≡ false → due (counted h.state) ≡ None → step h ≡ executed (record h { state = counted h.state })
 unfolding step
 step_is h runs waits none = ap (step_by h) runs ∙ ap (by_interrupt (record h { state = counted h.state })) none ∙ ap (unless_waiting (record h { state = counted h.state })) waits
@@ -128,7 +128,7 @@ stops_as (Modify va) n owed memory s g t meets o = stops_here n owed s t (guest_
 stops_as (Emulate x) n owed memory s g t meets o = stops_here n owed s t (guest_of memory g) o
 stops_as (Refused r) n owed memory s g t meets o = stops_here n owed s t (guest_of memory g) o
 
--- behind one that does: what was owed is counted
+-- after one that does: what was owed is counted
 retired_comes : (m : Machine) (s : Shadowed) (g : GuestState) (x : Retired) (owed : ℕ) (t : Touching) → RunsGuest [] m s g → one m ≡ Ok x → x.trap ≡ None → Owes owed (touches_now (guest_of m.memory g)) s t → ComesTo s (t.count + owed) (touching_step (guest_of m.memory g) (executed (guest_of m.memory g)) t)
 unfolding executed
 retired_comes m s g x owed t k is none o =
@@ -174,7 +174,7 @@ used m s g x k is r none = record {
   ends = λ owed t o. retired_comes m s g x owed t k is none o;
 }
 
--- a trap ends the run behind its instruction
+-- a trap ends the run after its instruction
 module _ (n : ℕ) (m : Machine) (s : Shadowed) (g : GuestState) (x : Retired) (kind : ℕ) (small : g.steps < 2 ^ 32) (k : RunsGuest [] m s g) (is : one m ≡ Ok x) (r : IsRetired [] m s g x) (some : x.trap ≡ Some kind) where
   abbrev whole : Guest
   whole = guest_of m.memory g

@@ -1,4 +1,4 @@
--- The contexts of the slots and the state's, when one of them comes to the front.
+-- The contexts of the slots and the state's, when one of them moves to the front.
 use Rattle.std.proofs.Common.{◌≡◌, ℕ, zero, suc, ◌<◌, ◌≤◌, Bool, true, false, cond, not, List, [], ◌∷◌, length, filter, find, map, take, All, IfSome, Option, Some, None, option_map, refl, ap, ◌∙◌, sym, subst, arith}
 use Rattle.std.proofs.lemmas.Bool.{false≢true, ne_eqb}
 use Rattle.std.proofs.lemmas.List.Elements.{All-head, All-tail}
@@ -105,7 +105,7 @@ same_slot : (slot own : ℕ) (o : Option ℕ) → o ≡ Some own → IfSome o (�
 same_slot slot own None e k = cc
 same_slot slot own (Some n) e k = let same : n ≡ own = cc in k ∙ same
 
--- a context comes to the front
+-- a context moves to the front
 pub brought_forward : (s s' : Shadowed) (c : Context) (slot : ℕ) (held : Held) (ps : List Process)
     → IfSome (slot_of c held) (λ own. slot ≡ own)
     → (slot_of c held ≡ Some slot → Stays s s' slot)

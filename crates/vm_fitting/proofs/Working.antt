@@ -53,7 +53,7 @@ marks_dropped Beyond s s' d = subst (λ z. Drops [] s z) (sym d) (none_dropped [
 pub switches_retell : SwitchesRetell
 switches_retell g m m' s s' w = record { takes = w.takes; each = w.each }
 
--- behind an instruction that retired
+-- after an instruction that retired
 module _ (m : Machine) (s : Shadowed) (g : GuestState) (x : Retired) (k : RunsGuest [] m s g) (e : one m ≡ Ok x) (none : x.trap ≡ None) where
   abbrev whole : Guest
   whole = guest_of m.memory g

@@ -1,5 +1,5 @@
--- Misses of the machine are of first touches: at each moment of a step the misses so far, with the touched pages that the
--- machine may miss yet, are at most what first touches count in the step; and what is present behind it has real entries.
+-- Misses of the machine are of first touches. At each moment of a step the misses so far, with the touched pages that the
+-- machine may miss yet, are at most what first touches count in the step; and what is present after it has real entries.
 use Rattle.std.specs.Prelude.{◌≡◌, ℕ, ◌+◌, ◌<◌, ◌≤◌, Bool, true, List, [], Ok, Err, is_some}
 use Rattle.vax_arch.specs.Fields.{is_valid}
 use Rattle.vax_arch.specs.Walk.{page_of}
@@ -65,13 +65,13 @@ FilledEntriesStay = (s s' : Shadowed) (p : Present) → KeepsFilled s s' → Sti
 abbrev pub FoundPagesHaveEntries : Type 0
 FoundPagesHaveEntries = (opened memory : List ℕ) (s : Shadowed) (g : GuestState) → Keeps [] opened memory s → Serves g s → AreFilled s (touches_now (guest_of memory g)).found → (page : ℕ) → IsIn page (touches_now (guest_of memory g)).found → HasEntry s s.slot page
 
--- A step: its pages have entries, and what it writes and tells is all that the kernel drops for. What is present behind it
+-- A step: its pages have entries, and what it writes and tells is all that the kernel drops for. What is present after it
 -- has entries.
 abbrev pub StepsKeepPresent : Type 0
 StepsKeepPresent = (memory : List ℕ) (s : Shadowed) (g : GuestState) (x : Stepped) (t : Touching) (s' : Shadowed) → Keeps [] [] memory s → Serves g s → ((page : ℕ) → IsIn page x.touched.found → HasEntry s s.slot page) → Moves x.written x.guest.state.tables s s'
     → HasPresent s t.present → HasPresent s' (touching_step (guest_of memory g) x t).present
 
--- frames that are written from without
+-- frames that are written from outside
 abbrev pub WritesKeepPresent : Type 0
 WritesKeepPresent = (memory : List ℕ) (s : Shadowed) (g : GuestState) (frames : List ℕ) (p : Present) (s' : Shadowed) → Keeps [] [] memory s → Serves g s → Moves frames (guest_of memory g).state.tables s s' → HasPresent s p → HasPresent s' (touching_write (guest_of memory g) frames p)
 

@@ -14,7 +14,7 @@ pub record Drops (frames : List ℕ) (s s' : Shadowed) : Type 0 where
   pub told : s'.told ≡ s.told
   pub held : s'.held ≡ s.held
 
--- The context of these registers comes to the front of those that stay, which keep their slots; what a switch to it drops
+-- The context of these registers moves to the front of those that stay, which keep their slots; what a switch to it drops
 -- is dropped.
 pub record Retells (t : Tables) (s s' : Shadowed) : Type 0 where
   pub takes : Takes (context_of t) (staying (is_remapped s.told t) s.held) s'.held s'.slot

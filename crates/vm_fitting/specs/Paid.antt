@@ -28,7 +28,7 @@ pub record Tries (x : Touched) (m : Machine) (s : Shadowed) (m' : Machine) (s' :
   pub fewer : missed + to_miss s' x ≤ to_miss s x
   pub has : (p : Present) → HasPresent s p → HasPresent s' p
 
--- What is done to first touches pays for the misses, and what is present behind it has entries.
+-- What is done to first touches pays for the misses, and what is present after it has entries.
 pub record Pays (touching : Touching → Touching) (m : Machine) (s : Shadowed) (m' : Machine) (s' : Shadowed) : Type 0 where
   pub missed : ℕ
   pub misses : Misses missed m m'
@@ -54,7 +54,7 @@ abbrev pub FillsAreTries : Type 0
 FillsAreTries = (memory : List ℕ) (page : ℕ) (x : Touched) (seen : Lookup) (m m' : Machine) (s s' : Shadowed) → Fits memory s → IsCovered page → IsTouched page x → read_at s (own_number s page) ≡ None
     → Fills seen (own_number s page) s s' → Misses 1 m m' → Tries x m s m' s'
 
--- A step that is made behind its tries, the last of which may have missed a page: its pages have entries, and what it writes
+-- A step that is made after its tries, the last of which may have missed a page: its pages have entries, and what it writes
 -- and tells is all that the kernel drops for.
 pub record IsMade (x : Stepped) (g : GuestState) (m1 : Machine) (s1 : Shadowed) (m' : Machine) (s' : Shadowed) : Type 0 where
   pub memory : List ℕ
@@ -69,7 +69,7 @@ pub record IsMade (x : Stepped) (g : GuestState) (m1 : Machine) (s1 : Shadowed) 
 abbrev pub StepsArePaid : Type 0
 StepsArePaid = (memory : List ℕ) (x : Stepped) (g : GuestState) (m m1 m' : Machine) (s s1 s' : Shadowed) → Fits memory s → Tries x.touched m s m1 s1 → (made : IsMade x g m1 s1 m' s') → Pays (touching_step (guest_of made.memory g) x) m s m' s'
 
--- So many steps of a guest, of which the first is counted already and comes to its instruction.
+-- So many steps of a guest, of which the first is counted already and reaches its instruction.
 abbrev pub touching_counted : ℕ → Guest → Touching → Touching
 touching_counted zero h t = t
 touching_counted (suc n) h t = touching_steps n (executed h).guest (touching_step h (executed h) t)

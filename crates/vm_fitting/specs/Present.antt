@@ -26,7 +26,7 @@ HaveNone [] = Unit {0}
 HaveNone (p ∷ ps) = (p.pages ≡ []) × HaveNone ps
 
 -- The contexts that have slots come first, in their order, and each one's present pages have entries in its slot. Of a
--- context behind them none is present.
+-- context after them none is present.
 abbrev pub HaveSlots : Shadowed → Held → List Process → Type 0
 HaveSlots s [] ps = HaveNone ps
 HaveSlots s (h ∷ hs) [] = ⊥
@@ -53,6 +53,6 @@ pages_of x = x.found ++ x.lacking
 abbrev pub to_miss : Shadowed → Touched → ℕ
 to_miss s x = unfilled_of (is_filled s) (pages_of x)
 
--- first touches behind an instruction's accesses
+-- first touches after an instruction's accesses
 abbrev pub behind_touches : Touched → Touching → Touching
 behind_touches x t = lacked_all x.lacking (found_all x.found t)

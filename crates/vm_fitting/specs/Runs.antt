@@ -21,7 +21,7 @@ use Rattle.vm_state.specs.Touches.{Touching, touching_step, touching_steps}
 use Rattle.vm_state.specs.declared.guest_state.GuestState.{GuestState}
 use Rattle.vm_touches.specs.Touched.{AreFilled, IsTouched, NeedsNoPage, touches_now}
 
--- First touches over steps in which nothing is missed and no entry is emptied: what is present behind them has entries, and
+-- First touches over steps in which nothing is missed and no entry is emptied: what is present after them has entries, and
 -- so many are counted at least.
 pub record ComesTo (s : Shadowed) (least : ℕ) (u : Touching) : Type 0 where
   pub has : HasPresent s u.present
@@ -56,7 +56,7 @@ Reaches (Modify va) memory s g = AreFilled s (touches_now (guest_of memory g)).f
 Reaches (Emulate x) memory s g = AreFilled s (touches_now (guest_of memory g)).found
 Reaches (Refused r) memory s g = AreFilled s (touches_now (guest_of memory g)).found
 
--- Behind an instruction that was retired with a trap, in whose step that is initiated.
+-- After an instruction that was retired with a trap, in whose step that is initiated.
 pub record TrapsBehind (kind left least : ℕ) (all : Touching) (s : Shadowed) (h : Guest) : Type 0 where
   pub memory : List ℕ
   pub before : GuestState

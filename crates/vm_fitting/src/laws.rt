@@ -41,17 +41,17 @@ pub fn found_pages_have_entries()
     ensures { FoundPagesHaveEntries }
 {}
 
-/// Behind a step what is present has entries.
+/// After a step what is present has entries.
 pub fn steps_keep_present()
     ensures { StepsKeepPresent }
 {}
 
-/// Behind a write from without what is present has entries.
+/// After a write from outside what is present has entries.
 pub fn writes_keep_present()
     ensures { WritesKeepPresent }
 {}
 
-/// Behind a reset what is present has entries.
+/// After a reset what is present has entries.
 pub fn resets_keep_present()
     ensures { ResetsKeepPresent }
 {}
@@ -76,7 +76,7 @@ pub fn switches_retell()
     ensures { SwitchesRetell }
 {}
 
-/// An instruction that the machine retired is counted, and what is present behind it has entries.
+/// An instruction that the machine retired is counted, and what is present after it has entries.
 pub fn retired_steps_are_counted()
     ensures { RetiredStepsAreCounted }
 {}

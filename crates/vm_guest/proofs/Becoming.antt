@@ -1,4 +1,4 @@
--- A guest that changed from without.
+-- A guest that changed from outside.
 use Rattle.std.proofs.Common.{◌≡◌, ℕ, ◌*◌, inl, Bool, List, [], ◌∷◌, ◌++◌, refl, ap, ◌∙◌, sym, subst, arith}
 use Rattle.std.proofs.lemmas.List.Elements.{All-nil}
 use Rattle.vax_hw.specs.Machine.{Machine}
@@ -61,7 +61,7 @@ becomes_switched m k x g m' s' stands place state allowed w = record {
     memory : partition_of m'.memory g ≡ partition_of m.memory k.state
     memory = (λ i. part m'.memory (512 * place.base i) (512 * place.pages i)) ∙ own_same m m' k.shadow k.state stands.keeps.fits stands.serves w.only
 
--- what is present behind a reset has entries
+-- what is present after a reset has entries
 pub reset_present : (m : Machine) (k : Kept) (x : State) (g : GuestState) (m' : Machine) (s' : Shadowed) → state_of g ≡ x → Switches g m k.shadow m' s' → KeepsPresent (touching_reset (record (guest_in m.memory k) { state = x })) k (record { state = g; shadow = s' })
 reset_present m k x g m' s' is w p all =
     let told : tables_of g ≡ x.tables = ap (λ (y : State). y.tables) is in
@@ -71,7 +71,7 @@ reset_present m k x g m' s' is w p all =
       retells = subst (λ t. Retells t k.shadow s') told (switches_retell g m m' k.shadow s' w);
     }) all
 
--- and so has what is present behind a write
+-- and so has what is present after a write
 pub stored_present : (m : Machine) (k : Kept) (pa : ℕ) (bytes : List ℕ) (m' : Machine) (s' : Shadowed) → StandsIn m.memory k → StoresAll pa bytes m k.shadow k.state m' s' → KeepsPresent (touching_write (guest_in m.memory k) (frames_from pa bytes)) k (record { state = k.state; shadow = s' })
 stored_present m k pa bytes m' s' stands w p all =
     writes_keep m.memory k.shadow k.state (frames_from pa bytes) p s' stands.keeps stands.serves (moves_alone (frames_from pa bytes) m'.memory k.shadow s' (tables_of k.state) w.stands.keeps.fits w.stands.serves.told w.drops) all

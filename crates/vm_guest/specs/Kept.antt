@@ -1,4 +1,4 @@
--- A guest in the machine, and what is done to it from without: a line is typed, a command starts or stops it, a transfer is
+-- A guest in the machine, and what is done to it from outside: a line is typed, a command starts or stops it, a transfer is
 -- made (Karger and others, IEEE TSE 17(11), 1991: virtual machines of a VMM security kernel; details are profile).
 use Rattle.std.specs.Prelude.{◌≡◌, ℕ, ◌+◌, List, [], ◌∷◌, ◌++◌, take, drop, Option, Some, None, Bool}
 use Rattle.vv_base.specs.Bytes.{overwritten}
@@ -60,7 +60,7 @@ pub record Becomes (h : Guest) (m : Machine) (k : Kept) (m' : Machine) (k' : Kep
   pub place : HasPlace k.state.pages k.state.base k.state.start k'.state
   pub tables : k'.shadow.at ≡ k.shadow.at
 
--- It has these registers then; it stands in every machine in which it stood.
+-- It has these registers then; it is in every machine in which it was before.
 pub record TakesState (x : State) (k k' : Kept) : Type 0 where
   pub state : state_of k'.state ≡ x
   pub place : HasPlace k.state.pages k.state.base k.state.start k'.state
@@ -72,16 +72,16 @@ abbrev pub all_typed : List ℕ → ConsoleState → ConsoleState
 all_typed [] console = console
 all_typed (b ∷ bs) console = all_typed bs (after_typed console b)
 
--- a line is typed, with a carriage return behind it
+-- a line is typed, with a carriage return after it
 abbrev pub with_line : List ℕ → State → State
 with_line text s = record s { console = all_typed (text ++ 13 ∷ []) s.console }
 
--- one that runs, or one that stands
+-- one that runs, or one that has stopped
 abbrev pub by_halt : {A : Type 0} → Option ℕ → (running standing : A) → A
 by_halt None running standing = running
 by_halt (Some code) running standing = standing
 
--- HALT: one that runs stops with the operator's code, and says so; one that stands stays
+-- HALT: one that runs stops with the operator's code, and says so; one that has stopped stays so
 abbrev pub commanded_to_stop : State → State
 commanded_to_stop s = by_halt s.halt (record s { halt = Some (stop_code Commanded) }) s
 

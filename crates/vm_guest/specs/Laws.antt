@@ -8,6 +8,6 @@ pub record SharesPart (k : Kept) (memory other : List ℕ) : Type 0 where
   pub own : (p : ℕ) → 512 * k.shadow.base ≤ p → p < 512 * (k.shadow.base + k.shadow.pages) → slice_index other p ≡ slice_index memory p
   pub tables : (p : ℕ) → 512 * k.shadow.at ≤ p → p < 512 * (k.shadow.at + 580) → slice_index other p ≡ slice_index memory p
 
--- A guest stands in either, and is the same: what happens elsewhere in the machine changes nothing of it.
+-- A guest is in either, and is the same: what happens elsewhere in the machine changes nothing of it.
 abbrev pub StandsElsewhere : Type 0
 StandsElsewhere = (k : Kept) (memory other : List ℕ) → StandsIn memory k → SharesPart k memory other → StandsIn other k × (guest_in other k ≡ guest_in memory k)

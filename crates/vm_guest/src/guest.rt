@@ -152,7 +152,7 @@ impl Guest {
         advance_once(machine, &mut self.shadow, &mut self.state, port)
     }
 
-    /// A line is typed at its console, with a carriage return behind it, as far as it fits.
+    /// A line is typed at its console, with a carriage return after it, as far as it fits.
     pub fn type_line(&mut self, text: &[u8])
         ensures { TakesState (with_line text.now (state_of self.old.state)) self.old self.new }
     {

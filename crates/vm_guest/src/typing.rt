@@ -12,7 +12,7 @@ fn type_all(console: &mut Console, text: &[u8])
     }
 }
 
-/// Types a line at a console, with a carriage return behind it, as far as it fits.
+/// Types a line at a console, with a carriage return after it, as far as it fits.
 pub fn type_line(console: &mut Console, text: &[u8])
     ensures { console.new ≡ all_typed (text.now ++ 13 ∷ []) console.old }
 {

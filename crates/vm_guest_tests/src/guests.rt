@@ -23,7 +23,7 @@ fn alone(alloc: Global, program: [u8; 8]) -> Result<(Cpu, Guest), NoMemory>
 /// A program, its steps, how many of them are plain, sensitive and stopped, and what it shows.
 type Run = ([u8; 8], u32, [u64; 3], &'static [u8]);
 
-/// A run's steps are counted as told.
+/// A run's steps are counted as the row says.
 fn check_counts(rt: &impl Abort, counts: &Counts, run: &Run) {
     let (_, steps, [plain, sensitive, stopped], _) = *run;
     assert!(rt; counts.plain == plain, "{steps}");
@@ -37,7 +37,7 @@ fn check_halt(rt: &impl Abort, guest: &Guest, port: &KeptPort<64>, reason: u8, s
     assert!(rt; guest.state().halt == Some(reason), "{reason}");
 }
 
-/// It halts as told.
+/// It halts as its row says.
 fn halts(rt: &impl Abort, alloc: Global, run: &Run) -> Result<(), NoMemory> {
     let (program, steps, _, shown) = *run;
     let (mut machine, mut guest) = alone(alloc, program)?;
@@ -75,7 +75,7 @@ fn programs_run(rt: HostRuntime) -> Result<(), Fail> {
     Ok(())
 }
 
-/// A guest of 64 pages from page 900 on, which stands, and starts at 300.
+/// A guest of 64 pages from page 900 on, which is stopped, and starts at 300.
 fn standing(alloc: Global) -> Result<(Cpu, Guest), NoMemory>
     ensures stands { IfOk result (λ x. StandsIn x.0.memory x.1) }
     ensures pages { IfOk result (λ x. x.1.state.pages ≡ 64) }
@@ -129,7 +129,7 @@ fn bytes_are_stored_and_fetched(rt: HostRuntime) -> Result<(), Fail> {
     Ok(())
 }
 
-/// MTPR #280, #KCALL, behind which zeros stand: a packet waits, and one that starts has none.
+/// MTPR #280, #KCALL, after which come zeros: a packet waits, and one that starts has none.
 #[test]
 fn a_start_forgets_what_waits(rt: HostRuntime) -> Result<(), Fail> {
     let program = [0xDA, 0x8F, 0x80, 0x02, 0, 0, 0x8F, 0xC8];

@@ -1,5 +1,5 @@
 //! Worked examples of a guest alone in the machine: it runs a program, and is started, stopped, typed to and written from
-//! without.
+//! outside.
 #![tactic(auto)]
 
 #[cfg(test)]

@@ -1,4 +1,4 @@
--- A step keeps that a guest runs or stands with a stop code.
+-- A step keeps that a guest runs or has stopped with a stop code.
 use Rattle.std.proofs.Common.{◌≡◌, ℕ, zero, suc, ◌+◌, ◌==◌, Bool, true, false, Option, Some, None, Result, Ok, Err, List, [], ◌∷◌, length, refl}
 use Rattle.std.specs.Prelude.{slice_index, slice_set}
 use Rattle.std.proofs.lemmas.Bool.{cond_both}

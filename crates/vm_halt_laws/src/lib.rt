@@ -3,7 +3,7 @@
 
 ghost use Rattle.vm_halt_laws.specs.Halts.{StopsWithCodes};
 
-/// A guest that runs, or stands with a stop code, does so after any steps.
+/// A guest that runs, or has stopped with a stop code, does so after any steps.
 pub fn a_guest_stops_with_a_code()
     ensures { StopsWithCodes }
 {}

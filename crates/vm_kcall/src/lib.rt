@@ -1,4 +1,4 @@
-//! The queue of packets that a guest hands over for transfers.
+//! The queue of packets by which a guest asks for transfers.
 #![tactic(auto)]
 
 ghost use Rattle.std.specs.Prelude.{◌≡◌, ◌*◌, ◌%◌, ◌==◌, ◌||◌, not};

@@ -77,7 +77,7 @@ fn are_same(rt: &impl Abort, alloc: Global, three: &Three, case: (u32, u32)) -> 
     is_same(rt, alloc, &whole, shown, &three.carried, case, "carried")
 }
 
-/// Some steps of each, which come to the same.
+/// Some steps of each, which have the same outcome.
 fn step(
     rt: &impl Abort,
     alloc: Global,
@@ -112,7 +112,7 @@ fn step(
     })
 }
 
-/// What is drawn happens to each from without.
+/// What is drawn happens to each from outside.
 fn befall(three: &mut Three, draw: &mut Draw)
     requires whole { StandsIn three.old.whole.machine.memory three.old.whole.guest }
     requires single { StandsIn three.old.single.machine.memory three.old.single.guest }
@@ -128,7 +128,7 @@ fn befall(three: &mut Three, draw: &mut Draw)
     happen(&mut three.carried, event, mode);
 }
 
-/// Some steps, and what happens from without behind them.
+/// Some steps, and what happens from outside after them.
 fn play(
     rt: &impl Abort,
     alloc: Global,
@@ -169,8 +169,8 @@ fn drawn_three(alloc: Global, seed: u32) -> Result<Three, NoMemory>
 }
 
 /// Guests that are drawn from every other seed from one on, each for so many rounds of 1 to 40 steps, of which so many are
-/// taken on new machines; how many steps each guest takes at least that aren't stopped; how many steps of each kind there are at
-/// least, and how many that do each thing; and how many are stopped at most.
+/// taken on new machines. Then the least number of steps that each guest takes without being stopped, of steps of each kind, and
+/// of steps that do each thing; and the greatest number of steps that are stopped.
 #[derive(Clone, Copy)]
 struct Plan {
     first: u32,

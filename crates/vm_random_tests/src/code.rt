@@ -6,7 +6,7 @@ use crate::forms::{FORMS, WRITES};
 /// So many bytes of code.
 const SIZE: usize = 0x800;
 
-/// Code, one instruction behind the other.
+/// Code, one instruction after the other.
 #[derive(Drop)]
 pub struct Code {
     bytes: [u8; 0x800],
@@ -51,7 +51,7 @@ impl Code {
         self.push_long(v);
     }
 
-    /// So many bytes, and an absolute address behind them.
+    /// So many bytes, and an absolute address after them.
     fn push_absolute(&mut self, front: &[u8], address: u32) {
         for byte in front {
             self.push(*byte);
@@ -61,7 +61,7 @@ impl Code {
     }
 
     /// A branch displacement to the place of one of the six instructions before this one, of this, or of one of the seven
-    /// behind it.
+    /// after it.
     fn push_displacement(&mut self, draw: &mut Draw) {
         let behind = (self.len % 16) as u32 + 1;
         let far = 0x100 - 96 + 16 * draw.below(14);

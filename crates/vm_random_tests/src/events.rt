@@ -1,4 +1,4 @@
-//! What happens to a guest from without.
+//! What happens to a guest from outside.
 
 ghost use Rattle.vm_guest.specs.Kept.{StandsIn};
 
@@ -60,7 +60,7 @@ fn change(state: &mut GuestState, event: Event) -> bool {
     true
 }
 
-/// One that stands runs on at 200 in this mode; whether it stood.
+/// One that has stopped runs on at 200 in this mode; whether it had stopped.
 fn go_on(state: &mut GuestState, mode: u32) -> bool {
     let stood = state.halt.is_some();
     if stood {
@@ -101,8 +101,8 @@ fn act(stage: &mut Stage, event: Event)
     }
 }
 
-/// It happens to a guest; one that stands runs on in this mode. Registers are set only where one changes, since what is set is told
-/// to the tables.
+/// It happens to a guest; one that has stopped runs on in this mode. Registers are set only where one changes, since what is
+/// set is told to the tables.
 pub fn happen(stage: &mut Stage, event: Event, mode: u32)
     requires { StandsIn stage.old.machine.memory stage.old.guest }
     ensures { StandsIn stage.new.machine.memory stage.new.guest }

@@ -11,7 +11,7 @@ use vm_stage::{Place, Stage};
 use vm_state::GuestState;
 use vv_base::NoMemory;
 
-/// Behind the code: BRW to its begin.
+/// After the code: BRW to its begin.
 static BACK: [u8; 3] = [0x31, 0xFD, 0xF7];
 
 /// What a guest executes from its start on.
@@ -92,7 +92,7 @@ static FIXED: [(Place, u32); 29] = [
     (Iccs, 0x51),
 ];
 
-/// The pages behind two tables of P0, which in some tables can't be written.
+/// The pages after two tables of P0, which in some tables can't be written.
 static BEHIND: [u32; 2] = [34, 37];
 
 /// What an entry of a table becomes, if anything: those of data are mostly drawn; those of code, handlers, stacks and tables

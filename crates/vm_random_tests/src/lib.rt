@@ -1,4 +1,4 @@
-//! Guests whose code and tables are drawn at random: what they come to doesn't depend on how their steps are cut, nor on the
+//! Guests whose code and tables are drawn at random: the outcome doesn't depend on how their steps are cut, nor on the
 //! machine on which each step is taken.
 #![tactic(auto)]
 

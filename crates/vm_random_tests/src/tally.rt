@@ -5,8 +5,8 @@ ghost use Rattle.vm_guest.specs.Kept.{StandsIn};
 use vm_stage::Place::{Mapen, P0br, P0lr, P1br, P1lr, Psl, R, Sbr, Slr};
 use vm_stage::{Kinds, Place, Stage, sums};
 
-/// How many steps ended in an arithmetic trap, in a fault of a page's protection or valid bit, or in a modify fault; how many
-/// went to another mode, loaded another context's tables, or wrote a register of mapping otherwise; and how many changed an
+/// How many steps ended in an arithmetic trap, in a fault of a page's protection or valid bit, or in a modify fault. How many
+/// went to another mode, loaded another context's tables, or wrote a register of mapping otherwise. And how many changed an
 /// entry of a table.
 pub type Deeds = [u64; 7];
 
@@ -31,7 +31,7 @@ pub struct Look {
 /// The registers of mapping.
 static MAPPING: [Place; 7] = [Mapen, Sbr, Slr, P0br, P0lr, P1br, P1lr];
 
-/// Where the handlers begin of an arithmetic trap, of a page that isn't let or valid, and of a modify fault.
+/// Where the handlers begin of an arithmetic trap, of a page that isn't allowed or valid, and of a modify fault.
 const TRAP: u32 = 0x8000_1054;
 
 const PAGE: u32 = 0x8000_1010;

@@ -6,10 +6,10 @@ use std::test::Fail;
 use vm_stage::Place::{ClockDue, Iccs, Icr, Nicr, Psl, R};
 use vm_stage::{CASE, Case, Place, SENSITIVE};
 
-/// What the clock was told before, what is written, the codes, and ICCS, ICR and the request behind it.
+/// What was written to the clock before, what is written, the codes, and ICCS, ICR and the request after it.
 type Write = (&'static [(Place, u32)], u32, u32, &'static [(Place, u32)]);
 
-/// The clock has been told so, and is written.
+/// The clock has been set so, and is written.
 fn is_written(rt: &impl Abort, alloc: Global, write: &Write) -> Result<(), Fail> {
     let (before, v, codes, after) = *write;
     let case = Case {
@@ -29,7 +29,7 @@ fn is_written(rt: &impl Abort, alloc: Global, write: &Write) -> Result<(), Fail>
     Ok(())
 }
 
-/// Each is as told.
+/// Each is as its row says.
 #[test]
 fn clock_writes(rt: HostRuntime) -> Result<(), Fail> {
     for write in &WRITES {
@@ -41,7 +41,7 @@ fn clock_writes(rt: HostRuntime) -> Result<(), Fail> {
 /// ICR and NICR FFFFFFFF.
 const END: (Place, u32) = (Nicr, 0xFFFF_FFFF);
 
-/// ICR from NICR, a count of a clock that stands, and both with enable.
+/// ICR from NICR, a count of a clock that has stopped, and both with enable.
 const LOAD: (Place, u32) = (Iccs, 0x10);
 
 const COUNT: (Place, u32) = (Iccs, 0x20);
@@ -66,11 +66,11 @@ static WRITES: [Write; 23] = [
     ),
     // Bits that mean nothing
     (&[], 0x7FFF_FF0E, 0, &[]),
-    // A single count: of a clock that stands, that is started, that is loaded
+    // A single count: of a clock that has stopped, that is started, that is loaded
     (&[(Nicr, 5), LOAD], 0x20, 0, &[(Icr, 6)]),
     (&[(Nicr, 5), LOAD], 0x21, 0, &[(Iccs, 1)]),
     (&[(Nicr, 5), LOAD, (Nicr, 9)], 0x30, 0, &[(Icr, 9)]),
-    // It counts too where the clock runs, behind the step's own count.
+    // It counts too where the clock runs, after the step's own count.
     (&[(Iccs, 1)], 0x20, 0, &[(Iccs, 0), (Icr, 2)]),
     // It wraps: interrupt, and no request without enable.
     (&[END, LOAD, (Nicr, 3)], 0x20, 0, &[(Iccs, 0x80), (Icr, 3)]),

@@ -1,4 +1,4 @@
-//! Worked examples of processor registers written, read and refused, and of PROBE. What each is to come to was found by hand
+//! Worked examples of processor registers written, read and refused, and of PROBE. The expected outcome of each was found by hand
 //! from the manual's tables and the profile, and by no run. Numbers in comments are hexadecimal.
 #![tactic(auto)]
 

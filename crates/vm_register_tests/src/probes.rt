@@ -6,7 +6,7 @@ use std::test::Fail;
 use vm_stage::Place::{IsStopped, Long, Mapen, P0lr, P1br, P1lr, Psl, R, Stack, StopCode};
 use vm_stage::{CASE, Case, FAULT, SENSITIVE};
 
-/// All is as told, in one call and step by step.
+/// All is as stated, in one call and step by step.
 fn are_as_told(rt: &impl Abort, alloc: Global, cases: &[Case]) -> Result<(), Fail> {
     for case in cases {
         assert_eq!(rt; case.difference(alloc, false)?, None, "{}", case.name);
@@ -439,7 +439,8 @@ static ENDS: [Case; 28] = [
         ],
         ..PROBER
     },
-    // The entry of the page at 10000 lies at 80004400, on a system page that isn't valid; the base, of no access, hides it not.
+    // The entry of the page at 10000 lies at 80004400, on a system page that isn't valid; the base, of no access, doesn't hide
+    // it.
     Case {
         name: "the base not accessible, the second byte's table not valid",
         code: &[0x0C, 0x00, 0x02, 0x61],

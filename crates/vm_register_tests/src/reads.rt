@@ -9,7 +9,7 @@ use vm_stage::Place::{
 };
 use vm_stage::{CASE, Case, FAULT, Place, SENSITIVE};
 
-/// A register's number, what is there before, the value that is read with its codes, and what is there behind it.
+/// A register's number, what is there before, the value that is read with its codes, and what is there after it.
 type Read = (
     u32,
     &'static [(Place, u32)],

@@ -60,7 +60,7 @@ fn is_refused(rt: &impl Abort, alloc: Global, number: u32, v: u32) -> Result<(),
     Ok(())
 }
 
-/// All values that are told are taken.
+/// All values that are stated are taken.
 #[test]
 fn taken(rt: HostRuntime) -> Result<(), Fail> {
     for write in &TAKEN {
@@ -69,7 +69,7 @@ fn taken(rt: HostRuntime) -> Result<(), Fail> {
     Ok(())
 }
 
-/// All values that are told are refused.
+/// All values that are stated are refused.
 #[test]
 fn refused(rt: HostRuntime) -> Result<(), Fail> {
     for (number, v) in &REFUSED {

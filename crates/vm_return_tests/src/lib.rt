@@ -1,4 +1,4 @@
-//! Worked examples of REI: what it refuses, what it loads, and the system trap that it delivers. What each is to come to was
+//! Worked examples of REI: what it refuses, what it loads, and the system trap that it delivers. The expected outcome of each was
 //! found by hand from the manual's tables and the profile, and by no run. Numbers in comments are hexadecimal.
 #![tactic(auto)]
 

@@ -1,5 +1,5 @@
-//! What REI loads, the stacks of before and behind, and the system trap that it delivers; REI that can't read its stack; and
-//! CHM with REI behind it.
+//! What REI loads, the stacks of before and after, and the system trap that it delivers; REI that can't read its stack; and
+//! CHM with REI after it.
 
 use crate::troubles::TROUBLES;
 use std::alloc::Global;
@@ -8,7 +8,7 @@ use std::test::Fail;
 use vm_stage::Place::{Astlvl, KcallDue, Long, Psl, R, Sisr, Stack};
 use vm_stage::{CASE, Case, FAULT, SENSITIVE};
 
-/// All is as told, in one call and step by step.
+/// All is as stated, in one call and step by step.
 fn are_as_told(rt: &impl Abort, alloc: Global, cases: &[Case]) -> Result<(), Fail> {
     for case in cases {
         assert_eq!(rt; case.difference(alloc, false)?, None, "{}", case.name);
@@ -23,13 +23,13 @@ fn loads(rt: HostRuntime) -> Result<(), Fail> {
     are_as_told(&rt, rt.alloc(), &LOADS)
 }
 
-/// System traps, and interrupts behind REI.
+/// System traps, and interrupts after REI.
 #[test]
 fn system_traps(rt: HostRuntime) -> Result<(), Fail> {
     are_as_told(&rt, rt.alloc(), &TRAPS)
 }
 
-/// Stacks that can't be read, and CHM with REI behind it.
+/// Stacks that can't be read, and CHM with REI after it.
 #[test]
 fn stacks_not_readable(rt: HostRuntime) -> Result<(), Fail> {
     are_as_told(&rt, rt.alloc(), &TROUBLES)

@@ -7,7 +7,7 @@ use vm_stage::Place::{Long, Psl, R, Stack};
 use vm_stage::{CASE, Case, FAULT};
 
 /// The PSL of before and the refused one; the stack in use, its pointer, and the pointer of the stack that the fault goes to
-/// behind the pushes; and the PSL behind them.
+/// after the pushes; and the PSL after them.
 #[derive(Clone, Copy)]
 struct Refusal {
     name: &'static str,

@@ -181,7 +181,7 @@ pub static TROUBLES: [Case; 15] = [
         ],
         ..CASE
     },
-    // A PC behind which there is no page: the fault is the next instruction's.
+    // A PC after which there is no page: the fault is the next instruction's.
     Case {
         name: "to a PC beyond P0",
         mapped: true,
@@ -205,7 +205,7 @@ pub static TROUBLES: [Case; 15] = [
         ],
         ..CASE
     },
-    // CHM #5; NOP, and ADDL2 #4, SP; REI at the vector: there and back.
+    // CHM #5; NOP, and ADDL2 #4, SP; REI at the vector: to the handler and back.
     Case {
         name: "CHMK and back",
         code: &[0xBC, 0x05, 0x01],

@@ -6,7 +6,7 @@ use vm_stage::Place::{
 };
 use vm_stage::{CASE, Case};
 
-/// All is as told, in one call, step by step, and cut at every place.
+/// All is as stated, in one call, step by step, and cut at every place.
 #[test]
 fn every_program(rt: HostRuntime) -> Result<(), Fail> {
     for case in &CASES {
@@ -59,7 +59,7 @@ const TICKING: [u8; 21] = [
 ];
 
 static CASES: [Case; 4] = [
-    // Six steps for each of the two characters, of which four are plain; one before them and three behind.
+    // Six steps for each of the two characters, of which four are plain; one before them and three after.
     Case {
         name: "printing by polling",
         code: &POLLING,

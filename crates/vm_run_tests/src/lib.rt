@@ -1,6 +1,6 @@
 //! Worked examples of whole runs: programs that build their tables and turn mapping on, take interrupts and faults, print, wait,
-//! switch processes and write their own tables. What each is to come to was found by hand, and by no run. Numbers in comments
-//! are hexadecimal, but those of steps.
+//! switch processes and write their own tables. The expected outcome of each was found by hand, and by no run. Numbers in
+//! comments are hexadecimal, but those of steps.
 #![tactic(auto)]
 
 #[cfg(test)]

@@ -23,7 +23,7 @@ fn a_loop_misses_each_page_once(rt: HostRuntime) -> Result<(), Fail> {
     Ok(())
 }
 
-/// All is as told, in one call and step by step.
+/// All is as stated, in one call and step by step.
 #[test]
 fn every_loop(rt: HostRuntime) -> Result<(), Fail> {
     for case in &CASES {

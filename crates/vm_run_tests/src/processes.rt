@@ -6,7 +6,7 @@ use vm_stage::Place::{
 };
 use vm_stage::{CASE, Case, Place};
 
-/// All is as told, in one call, step by step, and cut at every place.
+/// All is as stated, in one call, step by step, and cut at every place.
 #[test]
 fn every_run(rt: HostRuntime) -> Result<(), Fail> {
     for case in &CASES {
@@ -192,7 +192,7 @@ static CASES: [Case; 2] = [
         ..CASE
     },
     // L: INCL @#1000; BRB L in both. A counts 8 in steps 1 to 15; the clock wraps in each 16th step, and a switch takes 7 more;
-    // B's first step behind it sets the modify bit, and it counts 4 by step 31; A counts 4 more by 47, and B by 63.
+    // B's first step after it sets the modify bit, and it counts 4 by step 31; A counts 4 more by 47, and B by 63.
     Case {
         name: "two processes",
         mapped: true,

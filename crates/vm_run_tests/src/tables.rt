@@ -4,7 +4,7 @@ use std::test::Fail;
 use vm_stage::Place::{Iccs, Icr, Long, ModifyFaults, P0lr, Psl, R, Stack};
 use vm_stage::{CASE, Case, Place};
 
-/// All is as told, in one call, step by step, and cut at every place.
+/// All is as stated, in one call, step by step, and cut at every place.
 #[test]
 fn every_program(rt: HostRuntime) -> Result<(), Fail> {
     for case in &CASES {
@@ -261,7 +261,7 @@ static CASES: [Case; 14] = [
         ..CASE
     },
     // MOVQ R0, @#FFFC; MOVB @#FE00, R4: the page at FE00 is that of the P0 table, its own entry is the last longword there, and
-    // the entry of the next page is the first of the table's next page, with a clear modify bit. The store is let write the
+    // the entry of the next page is the first of the table's next page, with a clear modify bit. The store may write the
     // table's page, and then meets the clear bit: that is set in a step of its own. Tried again, the store must be seen, so that
     // the page at FE00 has frame 6.
     Case {

@@ -1,5 +1,5 @@
 //! Worked examples of the sensitive instructions of a guest: where MFPR writes, table registers that change under the code,
-//! packets, console bytes, HALT, WAIT, MOVPSL and privilege. What each is to come to was found by hand from the manual's
+//! packets, console bytes, HALT, WAIT, MOVPSL and privilege. The expected outcome of each was found by hand from the manual's
 //! tables and the profile, and by no run. Numbers in comments are hexadecimal.
 #![tactic(auto)]
 

@@ -10,7 +10,7 @@ use vm_stage::Place::{
 };
 use vm_stage::{CASE, Case, FAULT, MODIFY, SENSITIVE};
 
-/// All is as told, in one call and step by step.
+/// All is as stated, in one call and step by step.
 fn are_as_told(rt: &impl Abort, alloc: Global, cases: &[Case]) -> Result<(), Fail> {
     for case in cases {
         assert_eq!(rt; case.difference(alloc, false)?, None, "{}", case.name);
@@ -84,7 +84,7 @@ fn privileged_instructions(rt: HostRuntime) -> Result<(), Fail> {
 }
 
 static OPERANDS: [Case; 19] = [
-    // The privilege test comes behind the instruction's bytes: MTPR #.., whose third byte lies in a page that isn't valid.
+    // The privilege test comes after the instruction's bytes: MTPR #.., whose third byte lies in a page that isn't valid.
     Case {
         name: "MTPR in user mode, its bytes not valid",
         mapped: true,
@@ -226,7 +226,7 @@ static OPERANDS: [Case; 19] = [
         ],
         ..CASE
     },
-    // But behind the operand's walk
+    // But after the operand's walk
     Case {
         name: "MFPR of none to a page that isn't valid",
         mapped: true,
@@ -320,7 +320,7 @@ static OPERANDS: [Case; 19] = [
         shown: b"?10 00000200\r\n",
         ..CASE
     },
-    // MFPR #KSP, -(SP): R14 is read behind the side effect.
+    // MFPR #KSP, -(SP): R14 is read after the side effect.
     Case {
         name: "MFPR of KSP onto its stack",
         code: &[0xDB, 0x00, 0x7E],

@@ -287,7 +287,7 @@ module _ (opened : List ℕ) (memory : List ℕ) (s : Shadowed) (g : GuestState)
   unfolding judged
   elsewhere_unjudged m i va e = e.unjudged m i
 
-  -- what is filled is judged, as the guest's code lets
+  -- what is filled is judged, as the guest's code allows
   filled_judged : (m : Mode) (i : Intent) (va : ℕ) → IsCovered (page_of va) → (r : IsFilled memory s (own_number s (page_of va))) → judged memory (real_tables s.at s.slot) (ring_of m) i va ≡ Some (open_of (protection_of (r.right.entry)) m i)
   filled_judged m i va c r = judged_on m i va c ∙ ap (λ x. judged_by x (ring_of m) i) r.right.is ∙ judged_real s.base r.right.modify (r.right.entry) m i (frame_fits memory s (r.right.entry) k.fits r.right.inside)
 

@@ -1,4 +1,4 @@
--- The contexts that have slots, when one of them comes to the front.
+-- The contexts that have slots, when one of them moves to the front.
 use Rattle.std.proofs.Common.{◌≡◌, ◌≢◌, ℕ, zero, suc, ◌⊎◌, inl, inr, Bool, true, false, cond, not, ◌==◌, List, [], ◌∷◌, length, filter, find, get_or, AllPairs, Contains, IfSome, Option, Some, None, option_map, refl, ap, ◌∙◌, sym, subst, arith}
 use Rattle.std.proofs.lemmas.Bool.{cases_Bool, cases_lt, eq-eqb, eqb-true, false≢true, ne_eqb, true≢false}
 use Rattle.std.proofs.lemmas.List.{take_all}
@@ -12,7 +12,7 @@ use Rattle.vm_shadow.specs.Stands.{context_in}
 use Rattle.vm_shadow.specs.StandsFor.{Takes}
 use Rattle.vm_shadow.proofs.Places.{split}
 
--- the context that has a slot stands in the list with it
+-- the context that has a slot is in the list with it
 here_or_later : (t : Bool) (h : Context × ℕ) (o : Option (Context × ℕ)) (d : Context) → option_map (λ k. k.0) (cond t (Some h) o) ≡ Some d → ((t ≡ true) × (h.0 ≡ d)) ⊎ ((t ≡ false) × (option_map (λ k. k.0) o ≡ Some d))
 here_or_later true h o d e = inl (refl, same_Some h.0 d e)
 here_or_later false h o d e = inr (refl, e)

@@ -23,7 +23,7 @@ system_same : (size : ℕ) (memory other : List ℕ) (t : Tables) (page : ℕ) �
 unfolding lookup mapped_entry
 system_same size memory other t page r = rw r refl
 
--- how a page is found: its system entry, if it has one, stands at one place
+-- how a page is found: its system entry, if it has one, is at one place
 abbrev pub IsBy : ℕ → Tables → ℕ → Lookup → Type 0
 IsBy size t page (Found place None) = (memory other : List ℕ) → lookup size other t page ≡ lookup size memory t page
 IsBy size t page (Found place (Some table)) = table ≡ table_place t page

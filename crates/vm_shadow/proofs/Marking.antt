@@ -17,7 +17,7 @@ use Rattle.vm_state.specs.Translation.{long_stored, look, marked_by}
 use Rattle.vm_state.specs.declared.guest_state.GuestState.{GuestState}
 use Rattle.vm_state.proofs.Parts.{part_long}
 
--- an entry that is found stands at a multiple of 4
+-- an entry that is found is at a multiple of 4
 pub found_aligned : (memory : List ℕ) (s : Shadowed) (g : GuestState) (page place : ℕ) (table : Option ℕ) → StandsFor memory s g → Found place table ≡ look (guest_of memory g) page → place % 4 ≡ 0
 found_aligned memory s g page place table stands e =
     let can : CanStand (tables_of g) = subst CanStand stands.serves.told stands.keeps.fits.told in

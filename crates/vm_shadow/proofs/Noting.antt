@@ -53,7 +53,7 @@ each_from frame at m m' reads reads' whole d n = split (cases_lt n all_entries)
     let u : is_read_from frame (remembered reads n) ≡ false = unread_past frame reads n (omega arith) in
     d.each n ∙ ap (λ b. unless_dropped b (remembered reads n)) (and_right (is_between 0 all_entries n) _ u) ∙ sym (ap (λ b. unless_dropped b (remembered reads n)) u))
 
--- the shadow behind a scan, with the frame's flag taken away
+-- the shadow after a scan, with the frame's flag taken away
 abbrev pub unflag : Shadowed → List (Option Source) → ℕ → Shadowed
 unflag s reads frame = record s { reads = reads; consulted = set s.consulted frame false }
 

@@ -40,7 +40,7 @@ places_apart at n k differ = split (cases_lt n 8192)
     high : 8192 ≤ n → 8192 ≤ k → k ≤ n → 512 * (at + 68) + 4 * (k - 8192) + 4 ≤ 512 * (at + 68) + 4 * (n - 8192)
     high a b h = split (cases_lt k n) (λ q. omega arith) (λ q. absurd (differ (omega arith)))
 
--- the entries that map the process tables stand elsewhere
+-- the entries that map the process tables are elsewhere
 pub system_apart : (at n j : ℕ) → j < 512 → (512 * at + 4 * (8192 + j) + 4 ≤ entry_place at n) ⊎ (entry_place at n + 4 ≤ 512 * at + 4 * (8192 + j))
 system_apart at n j h = split (cases_lt n 8192)
     (λ a. rw (place_low at n a) (inr (omega arith)))

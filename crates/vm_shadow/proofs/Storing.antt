@@ -167,7 +167,7 @@ byte_written memory at byte long n bs room b small bytes is n_is bs_is =
     (λ differ. get_or-set_other four k j byte 0 (λ same. differ (omega arith)) ∙ four_at memory q j (omega arith) ∙ ap (λ x. get_or memory x 0) e ∙ sym (get_or-set_other memory at i byte 0 differ)))
     (λ high. w.other i (inr high) ∙ sym (get_or-set_other memory at i byte 0 (λ e. omega arith)))))
 
--- The kernel's write, behind the note of its frame.
+-- The kernel's write, after the note of its frame.
 
 gone_from : (frame : ℕ) (x : Option Source) → is_read_from frame (unless_dropped (is_read_from frame x) x) ≡ false
 gone_from frame x = by (is_read_from frame x) x refl

@@ -1,4 +1,4 @@
--- A context comes to the front of those that stay.
+-- A context moves to the front of those that stay.
 use Rattle.std.proofs.Common.{◌≡◌, ℕ, ◌<◌, Bool, true, false, [], ◌∷◌, length, All, IfSome, IsTrue, ◌↔◌, sym, subst, arith}
 use Rattle.std.proofs.lemmas.List.Elements.{All-head}
 use Rattle.std.specs.Bool.{OnTrue}

@@ -1,4 +1,4 @@
--- What stands between a guest's translation and the machine's, by its shadow page tables.
+-- How the machine's translation relates to a guest's, by its shadow page tables.
 use Rattle.std.specs.Prelude.{◌≡◌, ℕ, ◌+◌, ◌*◌, ◌^◌, ◌<◌, ◌⊎◌, Bool, true, false, List, [], Some, None, Result, Ok, Err, is_some}
 use Rattle.vax_arch.specs.Ring.{ring_of}
 use Rattle.vax_arch.specs.Walk.{page_of}

@@ -1,4 +1,4 @@
--- Where the shadow page tables of a guest lie in the machine, and what stands in them
+-- Where the shadow page tables of a guest lie in the machine, and what is in them
 -- (Hall and Robinson, Virtualizing the VAX Architecture, ISCA 1991: shadow page tables; the places are profile).
 -- A guest has 580 pages of real tables: 68 of the system table, of which the last 512 entries map the process tables for
 -- real kernel mode alone, and 64 each for a P0 and a P1 table in four slots.
@@ -37,7 +37,7 @@ entry_number slot page =
 abbrev pub IsCovered : ℕ → Type 0
 IsCovered page = ((region_of page ≡ 2) × (in_region page < 8192)) ⊎ (((region_of page ≡ 0) × (in_region page < 8192)) ⊎ ((region_of page ≡ 1) × (2088960 ≤ in_region page)))
 
--- an entry that isn't filled: it isn't valid, and its code (UW) lets every mode come to that
+-- an entry that isn't filled: it isn't valid, and its code (UW) refuses no mode, so that this is what each finds
 abbrev pub empty_entry : ℕ
 empty_entry = 4 * 2 ^ 27
 

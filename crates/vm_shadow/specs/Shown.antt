@@ -1,4 +1,4 @@
--- Worked examples of where shadow page tables lie, and of what stands in them, by computation.
+-- Worked examples of where shadow page tables lie, and of what is in them, by computation.
 use Rattle.std.specs.Prelude.{◌≡◌, refl, ◌+◌, ◌*◌, true, false, [], ◌∷◌, map, Some, None}
 use Rattle.vm_shadow.specs.Layout.{empty_entry, entry_number, entry_page, entry_place, entry_slot, kernel_entry, p0_base, p1_base, real_entry}
 use Rattle.vm_shadow.specs.Stands.{is_read_from}

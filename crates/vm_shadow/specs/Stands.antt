@@ -132,7 +132,7 @@ pub record Fits (memory : List ℕ) (s : Shadowed) : Type 0 where
   pub told : CanStand s.told
   pub contexts : All (λ h. CanStand (in_context s.told h.0)) s.held
   pub slots : AreSlots s.held
-  -- the guest's own context stands first
+  -- the guest's own context is first
   pub first : IsFirst (context_of s.told) s.slot s.held
   pub system : (j : ℕ) → j < 512 → long_at memory (512 * s.at + 4 * (8192 + j)) ≡ kernel_entry (s.at + 68 + j)
   pub whole : length s.reads ≡ all_entries

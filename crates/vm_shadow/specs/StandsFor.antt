@@ -33,7 +33,7 @@ pub record StandsFor (memory : List ℕ) (s : Shadowed) (g : GuestState) : Type 
   pub serves : Serves g s
   pub allowed : AreAllowed (512 * g.pages) (state_of g)
 
--- A page of the guest is present: its entry is found and valid, and names a frame in memory. What the entry lets isn't
+-- A page of the guest is present: its entry is found and valid, and names a frame in memory. What the entry allows isn't
 -- asked.
 pub record IsPresent (g : Guest) (page : ℕ) : Type 0 where
   pub entry : ℕ
@@ -94,7 +94,7 @@ pub record FillsPage (page : ℕ) (g : GuestState) (m : Machine) (s : Shadowed) 
   pub fills : Fills (look (guest_of m.memory g) page) (own_number s page) s s'
   pub only : OnlyTables s.at m m'
 
--- An entry of the guest whose page was modified, for which a real entry stands.
+-- An entry of the guest whose page was modified, and for which a real entry stands.
 pub record IsMarked (memory : List ℕ) (s : Shadowed) (n : ℕ) : Type 0 where
   pub filled : is_valid (real_at memory s n) ≡ true
   pub entry : ℕ
@@ -128,7 +128,7 @@ abbrev pub IsGranted : Bool → (n : ℕ) → (m : Machine) → (s : Shadowed) �
 IsGranted true n m s m' s' = GrantsPage n m s m' s'
 IsGranted false n m s m' s' = (m' ≡ m) × (s' ≡ s)
 
--- a page is closed behind a guarded step
+-- a page is closed after a guarded step
 pub record ClosesPage (n : ℕ) (m : Machine) (s : Shadowed) (m' : Machine) : Type 0 where
   pub keeps : (pending opened : List ℕ) → Keeps pending opened m.memory s → Keeps pending (closed_for n opened) m'.memory s
   pub closes : is_modified (real_at m'.memory s n) ≡ false
@@ -149,7 +149,7 @@ goes false false slot n = false
 abbrev pub is_full_for : Context → Held → Bool
 is_full_for c held = length (without c held) == 4
 
--- what the list of contexts becomes, when one comes to the front and has this slot
+-- what the list of contexts becomes, when one moves to the front and has this slot
 pub record Takes (c : Context) (held held' : Held) (slot : ℕ) : Type 0 where
   pub front : held' ≡ (c, slot) ∷ beside c held
   pub kept : IfSome (slot_of c held) (λ own. slot ≡ own)
@@ -167,7 +167,7 @@ range_that_goes false false slot = (0, 0)
 pub record Switches (g : GuestState) (m : Machine) (s : Shadowed) (m' : Machine) (s' : Shadowed) : Type 0 where
   pub keeps : Keeps [] [] m'.memory s'
   pub serves : Serves g s'
-  -- the guest's context comes to the front of those that stay, which keep their slots
+  -- the guest's context moves to the front of those that stay, which keep their slots
   pub takes : Takes (context_of (tables_of g)) (staying (is_remapped s.told (tables_of g)) s.held) s'.held s'.slot
   pub each : (n : ℕ) → read_at s' n ≡ unless_dropped (goes (is_remapped s.told (tables_of g)) (is_full_for (context_of (tables_of g)) s.held) s'.slot n) (read_at s n)
   pub rest : s' ≡ record s { told = s'.told; slot = s'.slot; held = s'.held; reads = s'.reads }

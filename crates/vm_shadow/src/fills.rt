@@ -83,7 +83,7 @@ impl Shadow {
     }
 
     /// Fills the real entry of an address's page, with its modify bit clear. The page's entry must be found and valid, and
-    /// name a frame in memory; what its code lets isn't asked.
+    /// name a frame in memory; what its code allows isn't asked.
     pub fn fill<H: Hardware>(&mut self, machine: &mut H, g: &GuestState, va: u32)
         requires stands { StandsFor (H.machine machine.old).memory self.old g.now }
         requires present { IsPresent (guest_of (H.machine machine.old).memory g.now) (page_of va) }

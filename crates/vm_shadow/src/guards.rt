@@ -66,7 +66,7 @@ impl Shadow {
         true
     }
 
-    /// Closes an address's page behind a guarded step: its real modify bit is clear.
+    /// Closes an address's page after a guarded step: its real modify bit is clear.
     pub fn close_write<H: Hardware>(&self, machine: &mut H, va: u32)
         requires fits { Fits (H.machine machine.old).memory self.now }
         requires covered { IsCovered (page_of va) }

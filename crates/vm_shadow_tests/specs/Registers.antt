@@ -12,7 +12,7 @@ use Rattle.vm_state.specs.declared.register.Register.TheVariants.{P0br, P0lr, P1
 abbrev pub are_allowed : Tables → Bool
 are_allowed t = (t.p0br == 0 || allows P0br t.p0br) && (allows P0lr t.p0lr && (allows P1br t.p1br && (allows P1lr t.p1lr && (allows Sbr t.sbr && allows Slr t.slr))))
 
--- whether an entry is there, and modified
+-- whether an entry exists, and is modified
 abbrev pub is_marked_entry : Option ℕ → Bool
 is_marked_entry None = false
 is_marked_entry (Some entry) = is_modified entry

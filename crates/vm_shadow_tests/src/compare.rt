@@ -179,7 +179,7 @@ impl Bench {
         }
     }
 
-    /// Events one after the other, with all compared behind each; how many of them could happen.
+    /// Events one after the other, with all compared after each; how many of them could happen.
     pub fn follow(&mut self, events: &[Event]) -> Result<u32, Mismatch>
         requires { StandsFor self.old.machine.memory self.old.shadow self.old.guest }
         ensures { StandsFor self.new.machine.memory self.new.shadow self.new.guest }

@@ -113,7 +113,7 @@ fn with_four_filled(alloc: Global) -> Result<Bench, NoMemory>
     Ok(bench)
 }
 
-/// Behind a write of a place, page 0 of a context is kept unless the place is in a page of its table.
+/// After a write of a place, page 0 of a context is kept unless the place is in a page of its table.
 fn check_slot(rt: &impl Abort, bench: &mut Bench, pa: u32, number: u32)
     requires { StandsFor bench.old.machine.memory bench.old.shadow bench.old.guest }
     ensures { StandsFor bench.new.machine.memory bench.new.shadow bench.new.guest }
@@ -131,7 +131,7 @@ fn check_slot(rt: &impl Abort, bench: &mut Bench, pa: u32, number: u32)
     bench.check_agreement(rt, &registers, false);
 }
 
-/// A place that is written, and what a system page has behind it.
+/// A place that is written, and what a system page has after it.
 type Reaching = (u32, Result<u32, NoPlace>);
 
 static REACHING: [Reaching; 3] = [
@@ -163,7 +163,7 @@ fn writes_reach_all_slots(rt: HostRuntime) -> Result<(), Fail> {
     Ok(())
 }
 
-/// Registers, and what a page of P0 and one of the system have behind a touch under them.
+/// Registers, and what a page of P0 and one of the system have after a touch under them.
 type Change = (Registers, Result<u32, NoPlace>, Result<u32, NoPlace>);
 
 static CHANGES: [Change; 4] = [

@@ -137,7 +137,7 @@ impl Bench {
         }
     }
 
-    /// Writes a byte at a place behind an address's page that is opened, and closes it again.
+    /// Writes a byte at a place after an address's page that is opened, and closes it again.
     #[tactic(auto, using(crate::proofs::Driving::opened_fits, crate::proofs::Driving::written_fits, crate::proofs::Driving::closed_again))]
     fn write_opened(&mut self, va: u32, pa: u32, byte: u8)
         requires stands { StandsFor self.old.machine.memory self.old.shadow self.old.guest }

@@ -1,4 +1,4 @@
-//! One instruction of the machine itself, on a copy of it, before and behind writes of tables.
+//! One instruction of the machine itself, on a copy of it, before and after writes of tables.
 
 ghost use Rattle.std.specs.Prelude.{IfOk};
 ghost use Rattle.vm_shadow.specs.StandsFor.{StandsFor};
@@ -135,7 +135,7 @@ fn check_before(
     check_exit(rt, alloc, bench, STORES, written, modify)
 }
 
-/// Behind it: the address's page is missed, and once it is filled it is another one.
+/// After it: the address's page is missed, and once it is filled it is another one.
 fn check_behind(
     rt: &impl Abort,
     alloc: Global,
@@ -163,7 +163,7 @@ fn check_seen(rt: &impl Abort, alloc: Global, row: &Seen) -> Result<(), NoMemory
     check_behind(rt, alloc, &mut bench, row)
 }
 
-/// Entries of the page at 1000, a byte that is written by an address, and the byte that an address has before and behind.
+/// Entries of the page at 1000, a byte that is written by an address, and the byte that an address has before and after.
 #[test]
 fn the_machine_sees_tables_as_they_are(rt: HostRuntime) -> Result<(), Fail> {
     for row in &SEEN {

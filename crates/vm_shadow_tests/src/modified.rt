@@ -35,7 +35,7 @@ fn is_granted(rt: &impl Abort, bench: &mut Bench, entry: u32, granted: bool)
     );
 }
 
-/// They are as they are to be before its modify bit is set, and behind it.
+/// They are as they are to be before its modify bit is set, and after it.
 fn check_grants(rt: &impl Abort, alloc: Global, row: &(u32, bool, bool)) -> Result<(), NoMemory> {
     let (entry, granted, marked) = *row;
     let mut bench = Bench::with_tables(alloc, &MAPPED)?;

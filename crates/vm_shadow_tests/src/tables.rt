@@ -230,7 +230,7 @@ static ROWS: [Row; 15] = [
     ),
 ];
 
-/// The machine agrees with the guest's tables before its pages are filled, behind it, and behind each of the events.
+/// The machine agrees with the guest's tables before its pages are filled, after it, and after each of the events.
 fn agrees(rt: &impl Abort, alloc: Global, row: &Row) -> Result<(), NoMemory> {
     let (registers, pages, first, second) = row;
     let mut bench = Bench::with_tables(alloc, registers)?;

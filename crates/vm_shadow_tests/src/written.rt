@@ -6,7 +6,7 @@ use std::process::Abort;
 use std::test::Fail;
 use vv_base::NoMemory;
 
-/// The entry of page 8, an address, a write, and the frame of the address's page behind it.
+/// The entry of page 8, an address, a write, and the frame of the address's page after it.
 type Written = (u32, u32, Event, u32);
 
 static WRITTEN: [Written; 9] = [
@@ -121,7 +121,7 @@ fn tables_written_by_the_guest(rt: HostRuntime) -> Result<(), Fail> {
     Ok(())
 }
 
-/// A write, and where a page of P0 and one of the system are behind it.
+/// A write, and where a page of P0 and one of the system are after it.
 type Dropped = (Event, Result<u32, NoPlace>, Result<u32, NoPlace>);
 
 static DROPPED: [Dropped; 8] = [
@@ -167,7 +167,7 @@ static DROPPED: [Dropped; 8] = [
     (Event::Load(MAPPED), Ok(2), Ok(3)),
 ];
 
-/// What is behind a write, without all pages being filled anew: only the written table's pages are missed.
+/// What is after a write, without all pages being filled anew: only the written table's pages are missed.
 fn is_dropped(rt: &impl Abort, alloc: Global, row: &Dropped) -> Result<(), NoMemory> {
     let (write, process, system) = *row;
     let mut bench = Bench::with_tables(alloc, &MAPPED)?;

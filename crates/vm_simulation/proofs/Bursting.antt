@@ -54,12 +54,12 @@ pub due_same : (s : State) (r : List ℕ) (psl n : ℕ) → psl / 2 ^ 8 ≡ s.ps
 unfolding due
 due_same s r psl n e = λ i. find (λ source. requests_same s r psl n source i && nat_lt (same_level psl s.psl e i) (level_of source)) sources
 
--- a quiet guest's next step comes to its instruction
+-- a quiet guest's next step reaches its instruction
 step_is : (h : Guest) → h.state.halt ≡ None → h.state.waiting ≡ false → due (counted h.state) ≡ None → step h ≡ executed (record h { state = counted h.state })
 unfolding step
 step_is h runs waits none = ap (step_by h) runs ∙ ap (by_interrupt (record h { state = counted h.state })) none ∙ ap (unless_waiting (record h { state = counted h.state })) waits
 
--- behind a plain step without a trap
+-- after a plain step without a trap
 abbrev next_of : World → GuestState → GuestState
 next_of w g = with_count 1 (as_run w g)
 
@@ -97,14 +97,14 @@ same_mod n = ap (λ k. k % 2 ^ 64) (omega arith)
 same_plainly : (run : Run) (h : Guest) (p q t u : ℕ) → run.tally.plain + p ≡ q → (run.tally.trail + t) % 2 ^ 64 ≡ u → plainly run h p t ≡ record { guest = h; shown = run.shown; tally = record run.tally { plain = q; trail = u } }
 same_plainly run h p q t u e f = λ i. record { guest = h; shown = run.shown; tally = record run.tally { plain = e i; trail = f i } }
 
--- the run behind one plain step without a trap
+-- the run after one plain step without a trap
 one_plain : (m : Machine) (s : Shadowed) (g : GuestState) (x : Retired) (r : IsRetired [] m s g x) (run : Run) → x.trap ≡ None → run.guest ≡ guest_of m.memory g → after_step run (executed run.guest) ≡ plainly run (guest_of x.machine.memory (as_run x.machine.world g)) 1 r.term
 one_plain m s g x r run none e =
     let h = guest_of x.machine.memory (as_run x.machine.world g) in
     plain_step m s g x r run e ∙ ap (λ t. after_step run (trapped_in (steps.Plain r.term) (frames_claimed (guest_of m.memory g)) h t)) none
     ∙ (λ i. record { guest = h; shown = append-nil run.shown i; tally = record run.tally { plain = run.tally.plain + 1; trail = (run.tally.trail + r.term) % 2 ^ 64 } })
 
--- and behind one with a trap
+-- and after one with a trap
 trap_by : (run : Run) (h : Guest) (term kind : ℕ) (written : List ℕ) (i : Initiation) → i ≡ initiate h (excs.Arithmetic kind) → after_step run (initiated_in (steps.Plain term) h i) ≡ record (plainly run h 1 term) { guest = (initiated_in steps.Idle h i).guest; shown = run.shown ++ (initiated_in steps.Idle h i).shown }
 trap_by run h term kind written (Taken x w) e = refl
 trap_by run h term kind written (KernelStackBad x w) e = refl
@@ -145,7 +145,7 @@ counts_on (Modify va) done left memory s g k = refl
 counts_on (Emulate t) done left memory s g k = refl
 counts_on (Refused r) done left memory s g k = refl
 
--- What a guest's instruction comes to doesn't depend on its clock.
+-- The outcome of a guest's instruction doesn't depend on its clock.
 walk_by_counted : (memory : List ℕ) (s : State) (c : ClockState) (n va : ℕ) (m : Mode) (i : Intent) (x : Lookup) → walk_by (record { memory = memory; state = record s { clock = c; steps = n } }) va m i x ≡ walk_by (record { memory = memory; state = s }) va m i x
 walk_by_counted memory s c n va m i (Found place table) = refl
 walk_by_counted memory s c n va m i (Direct frame) = refl
@@ -305,7 +305,7 @@ stopped_at n m s g e h small k is =
       misses = missed_sum m.misses e;
     }
 
--- behind one plain step
+-- after one plain step
 next_runs : (m : Machine) (s : Shadowed) (g : GuestState) (x : Retired) → RunsGuest [] m s g → IsRetired [] m s g x → RunsGuest [] x.machine s (as_run x.machine.world g)
 next_runs m s g x k r = record { keeps = r.keeps; serves = record { pages = k.serves.pages; base = k.serves.base; told = k.serves.told }; loads = r.loads }
 
@@ -336,7 +336,7 @@ used m s g x small k r none = record {
   misses = ap (λ n. n % 2 ^ 64) r.misses ∙ same_mod m.misses;
 }
 
--- a trap ends the run behind its instruction
+-- a trap ends the run after its instruction
 trapped : (n : ℕ) (m : Machine) (s : Shadowed) (g : GuestState) (x : Retired) (kind : ℕ) → g.steps < 2 ^ 32 → RunsGuest [] m s g → IsRetired [] m s g x → x.trap ≡ Some kind → IsBurst (suc n) m s g x.machine (Arithmetic kind)
 trapped n m s g x kind small k r some = record {
   done = 1;

@@ -118,7 +118,7 @@ module _ (opened : List ℕ) (m : Machine) (s : Shadowed) (g : GuestState) (k : 
         unread = λ n h p. unread_by n j (place_of here va / 512) h w.small w.valid on (w.frame ∙ ap (λ q. q / 512) (sym mine)) p (is_opened j opened) refl;
       }
 
-  -- the guest behind an instruction with this effect
+  -- the guest after an instruction with this effect
   behind_effect : (opcode : ℕ) (e : Effect) → AreStored pending opened s m.memory (all_stored (machine_place m) e.writes m.memory) (all_stored (place_of here) e.writes (own m.memory s)) → guest_of (retire opcode e m).memory (as_run (retire opcode e m).world g) ≡ with_effect here e
   unfolding retire
   behind_effect opcode e stored =

@@ -17,7 +17,7 @@ use Rattle.vm_state.specs.Step.{Idle, executed, initiated_in}
 use Rattle.vm_state.specs.declared.exception.Exc.TheVariants as excs
 use Rattle.vm_state.specs.declared.guest_state.GuestState.{GuestState}
 
--- So many steps of a guest, of which the first is counted already and comes to its instruction.
+-- So many steps of a guest, of which the first is counted already and reaches its instruction.
 abbrev pub after_counted : ℕ → Run → Run
 after_counted zero run = run
 after_counted (suc n) run = after_steps n (after_step run (executed run.guest))
@@ -43,7 +43,7 @@ with_trap kind run =
     let s = initiated_in Idle run.guest (initiate run.guest (excs.Arithmetic kind)) in
     record run { guest = s.guest; shown = run.shown ++ s.shown }
 
--- what is left to do behind a run of the machine that ended so
+-- what is left to do after a run of the machine that ended so
 abbrev pub goes_on : Exit → (left : ℕ) → Run → Run
 goes_on Budget left run = run
 goes_on (Arithmetic kind) left run = after_steps left (with_trap kind run)

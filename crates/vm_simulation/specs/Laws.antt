@@ -103,7 +103,7 @@ frames_claimed h = map (λ va. frame_at (place_of h va)) (claims (space_of h) (i
 abbrev pub ClaimedFramesAreWritten : Type 0
 ClaimedFramesAreWritten = (h : Guest) (opcode : ℕ) (e : Effect) → outcome (space_of h) (instruction_of h.state) ≡ Ok (meant opcode (Plain e)) → frames_claimed h ≡ frames_stored h e.writes
 
--- What a plain instruction leaves: the guest behind it, and its arithmetic trap, which is initiated there.
+-- What a plain instruction leaves: the guest after it, and its arithmetic trap, which is initiated there.
 abbrev pub LeavesBehind : Act → Guest → Guest → Option ℕ → Type 0
 LeavesBehind (Plain e) h after trap = (after ≡ with_effect h e) × (trap ≡ e.trap)
 LeavesBehind (Traps t) h after trap = ⊥
@@ -117,8 +117,9 @@ pub record Leaves (h after : Guest) (trap : Option ℕ) : Type 0 where
   pub try : guest_try h ≡ Completes (meant opcode act)
   pub behind : LeavesBehind act h after trap
 
--- The machine retired an instruction: the guest's own is plain, with the same registers and memory behind it and the same
--- trap, and writes the frames that it claims; nothing else of the machine's memory changed; what was read from a frame that an opened entry maps is pending.
+-- The machine retired an instruction. The guest's own is plain, with the same registers and memory after it and the same
+-- trap, and writes the frames that it claims. Nothing else of the machine's memory changed. What was read from a frame that an
+-- opened entry maps is pending.
 pub record IsRetired (opened : List ℕ) (m : Machine) (s : Shadowed) (g : GuestState) (x : Retired) : Type 0 where
   pub term : ℕ
   pub plain : by_try (guest_of m.memory g) (guest_try (guest_of m.memory g)) ≡ trapped_in (steps.Plain term) (frames_claimed (guest_of m.memory g)) (guest_of x.machine.memory (as_run x.machine.world g)) x.trap

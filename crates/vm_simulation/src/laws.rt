@@ -1,7 +1,7 @@
 ghost use Rattle.vm_simulation.specs.Bursts.{RunsGoAsTheGuest};
 ghost use Rattle.vm_simulation.specs.Laws.{ClaimedFramesAreWritten, ExitsMeetTheGuest, RetiresTheGuest};
 
-/// What stops the machine before an instruction is what the guest's own comes to, or a page that isn't filled or opened.
+/// What stops the machine before an instruction is the outcome of the guest's own, or a page that isn't filled or opened.
 pub fn exits_meet_the_guest()
     ensures { ExitsMeetTheGuest }
 {}

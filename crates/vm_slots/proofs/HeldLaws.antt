@@ -51,7 +51,7 @@ AllPairs-head R x xs h = λ k d within. h 0 (suc k) d (omega arith) (omega arith
 AllPairs-tail : {X : Type 0} (R : X → X → Type 0) (x : X) (xs : List X) → AllPairs R (x ∷ xs) → AllPairs R xs
 AllPairs-tail R x xs h = λ i j d below within. h (suc i) (suc j) d (omega arith) (omega arith)
 
--- the first of a list has the slot, or one behind it
+-- the first of a list has the slot, or one after it
 slot_at : (t : Bool) (h : Context × ℕ) (o : Option (Context × ℕ)) (slot : ℕ) → option_map (λ k. k.1) (cond t (Some h) o) ≡ Some slot
     → ((t ≡ true) × (h.1 ≡ slot)) ⊎ ((t ≡ false) × (option_map (λ k. k.1) o ≡ Some slot))
 slot_at true h o slot e = inl (refl, same_Some h.1 slot e)
@@ -65,7 +65,7 @@ at_found P c (h ∷ held) slot all e =
       | inr later ↦ at_found P c held slot (All-tail (λ k. P k.1) h held all) later.1
     ]
 
--- a context that has a slot stands in the list with it
+-- a context that has a slot is in the list with it
 pub stands : (c : Context) (held : Held) (slot : ℕ) → slot_of c held ≡ Some slot → Contains held (c, slot)
 stands c [] slot e = absurd (none-some slot e)
 stands c (h ∷ held) slot e =
@@ -74,7 +74,7 @@ stands c (h ∷ held) slot e =
       | inr later ↦ (let rest = stands c held slot later.1 in (suc rest.0, omega (arith, rest.1), rest.2))
     ]
 
--- and one that stands in the list with a slot has it
+-- and one that is in the list with a slot has it
 pub its_slot : (c : Context) (held : Held) (slot : ℕ) → AllPairs (λ h k. h.0 ≢ k.0) held → Contains held (c, slot) → slot_of c held ≡ Some slot
 its_slot c [] slot pairs (k, within, at) = absurd (omega arith)
 its_slot c (h ∷ held) slot pairs (zero, within, at) =
@@ -127,7 +127,7 @@ fronted c slot held are small free =
       small = All-cons (λ h. h.1 < 4) (c, slot) (beside c held) small (All-take (λ h. h.1 < 4) 3 others (All-filter (λ h. not (is_same c h.0)) (λ h. h.1 < 4) held are.small));
     }
 
--- the slot of a context that comes to the front: its own, or else the least that is free
+-- the slot of a context that moves to the front: its own, or else the least that is free
 abbrev pub IsSlotFor : Context → Held → ℕ → Type 0
 IsSlotFor c held slot = MatchOption (slot_of c held) (IsLeastFree slot (beside c held)) (λ own. slot ≡ own)
 

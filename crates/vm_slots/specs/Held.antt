@@ -29,7 +29,7 @@ slot_of c held = option_map (λ h. h.1) (find (λ h. is_same c h.0) held)
 abbrev pub without : Context → Held → Held
 without c held = filter (λ h. not (is_same c h.0)) held
 
--- the others that stay when a context comes to the front: the three most recent
+-- the others that stay when a context moves to the front: the three most recent
 abbrev pub beside : Context → Held → Held
 beside c held = take 3 (without c held)
 
@@ -46,6 +46,6 @@ LastGoes held stay slot = (last : Context) × (held ≡ stay ++ (last, slot) ∷
 abbrev pub contexts_of : Held → List Context
 contexts_of held = map (λ h. h.0) held
 
--- a context moves or comes to the front of a list of contexts, and a fifth drops the last
+-- a context is put at the front of a list of contexts, or moves there, and a fifth drops the last
 abbrev pub brought_forward : Context → List Context → List Context
 brought_forward c contexts = c ∷ take 3 (filter (λ d. not (is_same c d)) contexts)

@@ -258,7 +258,7 @@ pub static TABLES: [Case; 9] = [
         ],
         ..CASE
     },
-    // Behind it the page is closed to the next push: vector 08.
+    // After it the page is closed to the next push: vector 08.
     Case {
         name: "a push over the entry of the very page, and another push",
         mapped: true,

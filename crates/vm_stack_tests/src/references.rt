@@ -4,7 +4,7 @@ use std::test::Fail;
 use vm_stage::Place::{IsStopped, Long, Mapen, P0br, P0lr, Psl, R, Sbr, Stack, StopCode};
 use vm_stage::{CASE, Case, FAULT, PLAIN};
 
-/// All is as told, in one call and step by step.
+/// All is as stated, in one call and step by step.
 #[test]
 fn every_reference(rt: HostRuntime) -> Result<(), Fail> {
     for case in &CASES {

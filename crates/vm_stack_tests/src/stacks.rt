@@ -7,7 +7,7 @@ use std::test::Fail;
 use vm_stage::Place::{IsStopped, KcallDue, Long, Psl, R, Scbb, Stack, StopCode};
 use vm_stage::{CASE, Case, FAULT, INTERRUPT, PLAIN, SENSITIVE};
 
-/// All is as told, in one call and step by step.
+/// All is as stated, in one call and step by step.
 fn are_as_told(rt: &impl Abort, alloc: Global, cases: &[Case]) -> Result<(), Fail> {
     for case in cases {
         assert_eq!(rt; case.difference(alloc, false)?, None, "{}", case.name);
@@ -131,7 +131,7 @@ static LOW_BITS: [Case; 16] = [
         shown: b"?07 00000200\r\n",
         ..CASE
     },
-    // A trap's stop is behind the instruction: R0, codes and PC are those behind it.
+    // A trap's stop is after the instruction: R0, codes and PC are those after it.
     Case {
         name: "an arithmetic trap with bits 2",
         code: &[0x80, 0x01, 0x50],
@@ -466,7 +466,7 @@ static NOT_VALID: [Case; 17] = [
         shown: b"?10 00000200\r\n",
         ..CASE
     },
-    // Beyond comes second, behind a page that isn't valid: the first trouble counts.
+    // Beyond comes second, after a page that isn't valid: the first trouble counts.
     Case {
         name: "kernel stack not valid, then beyond memory",
         mapped: true,

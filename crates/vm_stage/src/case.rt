@@ -6,7 +6,7 @@ use crate::{Kinds, Place, Quanta, Snapshot, Stage};
 use std::alloc::Global;
 use vv_base::NoMemory;
 
-/// A program and what its steps come to. With mapping off the guest has every vector 1000; with mapping on the system table
+/// A program and the outcome of its steps. With mapping off the guest has every vector 1000; with mapping on the system table
 /// at 4000 and the P0 table at 4200 map each of the 64 pages to the frame of its number, open to all and modified, and every
 /// vector is 80001000. In both the system control block is at 4400, KSP is 3000 in its space, and the guest is in kernel
 /// mode at 200, where the code lies, with IPL 0.
@@ -22,12 +22,12 @@ pub struct Case {
     pub before: &'static [(Place, u32)],
     pub steps: u32,
     pub kinds: Kinds,
-    /// What is there behind them: all else is as before but the count of steps.
+    /// What is there after them: all else is as before but the count of steps.
     pub after: &'static [(Place, u32)],
     pub shown: &'static [u8],
 }
 
-/// NOP, told in no part but its kind.
+/// NOP, of which a case states no part but its kind.
 pub const CASE: Case = Case {
     name: "",
     mapped: false,
@@ -41,7 +41,7 @@ pub const CASE: Case = Case {
     shown: &[],
 };
 
-/// What isn't as a case tells it: it can't be set up, its kinds of steps, a place with what is found there and what is wanted,
+/// What differs from a case: it can't be set up, its kinds of steps, a place with what is found there and what is wanted,
 /// the bytes that are shown, or the machine's count of plain steps.
 #[derive(Clone, Copy, Debug, PartialEq, Eq)]
 pub enum Difference {
@@ -53,7 +53,7 @@ pub enum Difference {
 }
 
 impl Case {
-    /// The guest before the steps, with values that are told besides; none where it can't have all these.
+    /// The guest before the steps, with values that are given besides; none where it can't have all these.
     fn stage(&self, alloc: Global, more: &[(Place, u32)]) -> Result<Option<Stage>, NoMemory>
         ensures { IfOk result (λ found. IfSome found (λ stage. StandsIn stage.machine.memory stage.guest)) }
     {
@@ -73,7 +73,7 @@ impl Case {
         }
     }
 
-    /// What is to be there behind the steps, from what was there before, with values that are told besides.
+    /// What is to be there after the steps, from what was there before, with values that are given besides.
     fn want(&self, there: &mut Snapshot, more: &[(Place, u32)]) {
         let [.., stopped] = self.kinds;
         let steps = u64::from(there.at(Place::Steps)) + u64::from(self.steps);
@@ -85,13 +85,13 @@ impl Case {
         there.put_all(more);
     }
 
-    /// What isn't as it is told, of what is found and what is wanted.
+    /// The difference between what is found and what is wanted, if there is one.
     fn judge(&self, found: &Snapshot, wanted: &Snapshot) -> Option<Difference> {
         let place = found.difference(wanted)?;
         Some(Difference::At(place, found.at(place), wanted.at(place)))
     }
 
-    /// What doesn't come out as it is told, if anything, where the steps are taken so, with values that are told besides before and behind
+    /// What differs from a case, if anything, where the steps are taken so, with values that are given besides before and after
     /// them.
     fn difference_by(
         &self,
@@ -120,7 +120,7 @@ impl Case {
         }
     }
 
-    /// What doesn't come out as it is told, if anything, where the steps are taken in one call or one by one.
+    /// What differs from a case, if anything, where the steps are taken in one call or one by one.
     pub fn difference(&self, alloc: Global, singly: bool) -> Result<Option<Difference>, NoMemory> {
         let quanta = if singly {
             Quanta::Single
@@ -130,7 +130,7 @@ impl Case {
         self.difference_by(alloc, quanta, &[], &[])
     }
 
-    /// What doesn't come out as it is told, if anything, with values that are told besides before and behind the steps.
+    /// What differs from a case, if anything, with values that are given besides before and after the steps.
     pub fn difference_with(
         &self,
         alloc: Global,
@@ -140,7 +140,7 @@ impl Case {
         self.difference_by(alloc, Quanta::Cut(0), before, after)
     }
 
-    /// What doesn't come out as it is told, if anything, where the steps are cut in two at some place; and that place.
+    /// What differs from a case, if anything, where the steps are cut in two at some place; and that place.
     pub fn difference_cut(&self, alloc: Global) -> Result<Option<(u32, Difference)>, NoMemory> {
         for place in 1..self.steps {
             if let Some(difference) = self.difference_by(alloc, Quanta::Cut(place), &[], &[])? {

@@ -1,4 +1,4 @@
-//! A guest on the simulated machine, for worked examples: a stage whose calls keep that the guest stands in the machine, its
+//! A guest on the simulated machine, for worked examples: a stage whose calls keep that the guest is in the machine, its
 //! registers and memory by their places, and cases that are played on it.
 #![tactic(auto)]
 

@@ -62,7 +62,7 @@ static MAPPED: [(Place, u32); 7] = [
     (Place::R(14), 0x8000_3000),
 ];
 
-/// A guest of 64 pages in a machine, in which it stands between calls, and what its console was shown.
+/// A guest of 64 pages in a machine, in which it is between calls, and what its console was shown.
 #[derive(Drop)]
 pub struct Stage {
     pub machine: Cpu,

@@ -11,7 +11,7 @@ use Rattle.vm_state.specs.Partition.{part}
 pub part_byte : (memory : List ℕ) (at size i : ℕ) → i < size → slice_index (part memory at size) i ≡ slice_index memory (at + i)
 part_byte memory at size i h = get_or-take size (drop at memory) i 0 h ∙ get_or-drop at memory i 0
 
--- a longword of a part is the memory's, so far on
+-- a longword of a part is the memory's, at the place moved by the part's begin
 pub part_long : (memory : List ℕ) (at size place : ℕ) → place + 4 ≤ size → long_at (part memory at size) place ≡ long_at memory (at + place)
 part_long memory at size place h =
     let b1 : at + (place + 1) ≡ (at + place) + 1 = omega arith in

@@ -154,7 +154,7 @@ pub read_keeps : (size : ℕ) (r : Register) (s : State) → Keeps size s (after
 read_keeps size Rxdb s = loose size s _ refl refl refl refl refl refl refl refl refl
 read_keeps size r s = same size s
 
--- what MTPR's write and MFPR's read come to
+-- the outcomes of MTPR's write and MFPR's read
 abbrev pub WritesKept : ℕ → State → Result Written ReservedOperand → Type 0
 WritesKept size s (Ok w) = Keeps size s w.state
 WritesKept size s (Err refused) = Unit {0}

@@ -65,7 +65,7 @@ loaded g next_pc = record g.state {
   astlvl = loaded_astlvl g;
 }
 
--- What a context instruction comes to: the guest behind it and the frames written; a reserved operand; the first trouble
+-- The outcome of a context instruction: the guest after it and the frames written; a reserved operand; the first trouble
 -- of SVPCTX's pops; trouble of LDPCTX's push, which loads nothing and starts vector 08; or a place beyond memory.
 pub data Switched : Type 0 where
   Switches : Guest → (written : List ℕ) → Switched
@@ -118,7 +118,7 @@ on_interrupt s =
       psl = with_ipl (on_interrupt_stack s.psl) (if ipl_of s.psl == 0 then 1 else ipl_of s.psl);
     }
 
--- R14 behind the pops, and PC the next instruction's
+-- R14 after the pops, and PC the next instruction's
 abbrev pub behind_pops : State → (next_pc : ℕ) → State
 behind_pops s next_pc = record s { r = slice_set (slice_set s.r 14 (plus (slice_index s.r 14) 8)) 15 next_pc }
 

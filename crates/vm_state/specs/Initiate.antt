@@ -29,7 +29,7 @@ vector_offset (ModifyFault va) = 0x3c
 vector_offset (Chm to code) = 0x40 + 4 * mode_number to
 vector_offset (Interrupt level vector) = vector
 
--- what is pushed behind PSL and PC, in the order in which it is pushed
+-- what is pushed after PSL and PC, in the order in which it is pushed
 abbrev pub parameters : Exc → List ℕ
 parameters KernelStack = []
 parameters ReservedInstruction = []

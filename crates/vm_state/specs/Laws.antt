@@ -13,12 +13,12 @@ use Rattle.vm_state.specs.declared.walk.Walk.TheVariants.{Frame}
 abbrev pub ShowsFew : Type 0
 ShowsFew = (n : ℕ) (run : Run) → length (after_steps n run).shown ≤ length run.shown + 14 * n
 
--- a guest that stands stays as it is, and shows and touches nothing
+-- a guest that has stopped stays as it is, and shows and touches nothing
 abbrev pub StaysStopped : Type 0
 StaysStopped = (g : Guest) (code : ℕ) → g.state.halt ≡ Some code → step g ≡ stepped g [] Stopped []
 
 -- What a step keeps: the size of memory, whether there are modify faults, and that registers have allowed values; it
--- counts itself, whatever it is, where the guest doesn't stand.
+-- counts itself, whatever it is, where the guest runs.
 pub record IsKept (g h : Guest) : Type 0 where
   pub size : length h.memory ≡ length g.memory
   pub modify_faults : h.state.modify_faults ≡ g.state.modify_faults

@@ -1,4 +1,4 @@
--- Packets of transfers that a guest hands over (profile). A packet is six longwords; the last is its status.
+-- Packets by which a guest asks for transfers (profile). A packet is six longwords; the last is its status.
 use Rattle.std.specs.Prelude.{ℕ, ◌+◌, ◌%◌, ◌==◌, ◌||◌, not, nat_le, if◌then◌else◌, [], ◌∷◌, ◌++◌, length}
 use Rattle.vax_arch.specs.Walk.{is_past}
 use Rattle.vm_state.specs.State.{State}

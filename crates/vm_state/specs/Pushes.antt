@@ -28,7 +28,7 @@ abbrev pub pushed_bytes : ℕ → List ℕ → List Byte
 pushed_bytes sp [] = []
 pushed_bytes sp (v ∷ vs) = bytes_from 4 (minus sp 4) v ++ pushed_bytes (minus sp 4) vs
 
--- the stack pointer behind the pushes
+-- the stack pointer after the pushes
 abbrev pub pointer_behind : ℕ → List ℕ → ℕ
 pointer_behind sp [] = sp
 pointer_behind sp (v ∷ vs) = pointer_behind (minus sp 4) vs
@@ -73,7 +73,7 @@ abbrev pub all_put : List Home → List ℕ → List ℕ
 all_put [] memory = memory
 all_put (h ∷ hs) memory = all_put hs (slice_set memory h.place h.value)
 
--- the memory behind the pushes
+-- the memory after the pushes
 unfoldable pub pushed : List Home → List ℕ → List ℕ
 pushed hs memory = all_put hs (all_marked hs memory)
 

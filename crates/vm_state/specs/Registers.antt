@@ -72,7 +72,7 @@ with_ipl psl level = psl / 2 ^ 21 * 2 ^ 21 + 2 ^ 16 * level + psl % 2 ^ 16
 abbrev pub with_request : ℕ → ℕ → ℕ
 with_request level sisr = if level == 0 then sisr else if sisr / 2 ^ level % 2 == 1 then sisr else sisr + 2 ^ level
 
--- the state behind a write of an allowed value; what KCALL does is said of packets
+-- the state after a write of an allowed value; what KCALL does is said of packets
 abbrev pub after_write : Register → ℕ → State → State
 after_write Ksp v s = with_pointer 0 v s
 after_write Esp v s = with_pointer 1 v s
@@ -170,7 +170,7 @@ abbrev pub after_read : Register → State → State
 after_read Rxdb s = record s { console = after_rxdb_read s.console }
 after_read register s = s
 
--- a value that was read, and the state behind the read
+-- a value that was read, and the state after the read
 pub record Value : Type 0 where
   pub value : ℕ
   pub state : State

@@ -1,4 +1,4 @@
--- A guest's run: what it has come to, what it has shown, and its steps by their kinds.
+-- A guest's run: the guest then, what it has shown, and its steps by their kinds.
 use Rattle.std.specs.Prelude.{ℕ, zero, suc, ◌+◌, ◌%◌, ◌^◌, List, ◌++◌}
 use Rattle.vm_state.specs.State.{Guest}
 use Rattle.vm_state.specs.Step.{Kind, Stopped, Interrupt, Idle, SetModify, Plain, Sensitive, Fault, Stepped, step}

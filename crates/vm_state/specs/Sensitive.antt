@@ -39,8 +39,8 @@ use Rattle.vm_state.specs.declared.transfer.Accept.TheVariants.{BadPacket, Busy,
 use Rattle.vm_state.specs.declared.walk.Walk.{Walk}
 use Rattle.vm_state.specs.declared.walk.Walk.TheVariants as walks
 
--- What becomes of a sensitive instruction. It completes, shows bytes, and writes frames; it has a fault, with which
--- nothing of it happened; the page of a byte that it would write has a clear modify bit; its initiation stops the guest,
+-- What becomes of a sensitive instruction. It completes, shows bytes, and writes frames; or it has a fault, with which
+-- nothing of it happened; or the page of a byte that it would write has a clear modify bit; or its initiation stops the guest,
 -- and it counts as completed; or a place that it reads or writes is beyond memory, which stops the guest.
 pub data Sensed : Type 0 where
   Does : Guest → (shown written : List ℕ) → Sensed
@@ -49,7 +49,7 @@ pub data Sensed : Type 0 where
   StopsThere : Stop → Sensed
   LacksMemory : Sensed
 
--- the registers with the operands' side effects, and PC behind the instruction
+-- the registers with the operands' side effects, and PC after the instruction
 abbrev pub behind : State → Trapped → State
 behind s t = record s { r = t.regs ++ t.next_pc ∷ [] }
 
@@ -77,7 +77,7 @@ troubled g (Test refusal) = Faults (refused_as refusal)
 abbrev pub moved_psl : ℕ → ℕ → ℕ
 moved_psl psl v = psl / 2 ^ 8 * 2 ^ 8 + (alu_of Move v 0 Long (psl % 2 ^ 8)).psw % 2 ^ 8
 
--- HALT stops the guest behind itself
+-- HALT stops the guest, with PC after it
 abbrev pub halted : Guest → Trapped → Sensed
 halted g t =
     let h = guest_behind g t in
@@ -88,7 +88,7 @@ abbrev pub waited : Guest → Trapped → Sensed
 waited g t = let h = guest_behind g t in Does (record h { state = record h.state { waiting = true } }) [] []
 
 -- CHM: on the interrupt stack it stops the guest. Its push is walked first where it goes to another stack than the
--- kernel's, and trouble there is its own fault. What its initiation comes to is its own completion.
+-- kernel's, and trouble there is its own fault. The outcome of its initiation is its own completion.
 abbrev pub changed : Initiation → Sensed
 changed (Taken h written) = Does h [] written
 changed (KernelStackBad h written) = Does h [] written
@@ -108,7 +108,7 @@ change_mode g t to =
     if mode_number m == 0 then changed (initiate h e) else
     chm_walked (initiate h e) (push_walked h m (pointer_of h.state (mode_number m)) (g.state.psl ∷ t.next_pc ∷ t.a ∷ []))
 
--- REI: PC and PSL are popped; the pointer behind them is kept, and R14 is the new stack's. A mode that is at least ASTLVL
+-- REI: PC and PSL are popped; the pointer after them is kept, and R14 is the new stack's. A mode that is at least ASTLVL
 -- requests software level 2.
 abbrev pub returned_to : State → Popped → State
 returned_to s p =

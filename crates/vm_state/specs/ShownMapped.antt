@@ -27,7 +27,7 @@ use Rattle.vm_state.specs.Translation.{walk_of}
 
 -- the edges of the tables
 pub lengths :
-    -- MOVL R0,(R1) to the first page behind P0LR: a length violation for a write; and to the last page in front of it
+    -- MOVL R0,(R1) to the first page beyond P0LR: a length violation for a write; and to the last page in front of it
     (after (step (with_tables (record tables_m { p0lr = 0x4 }) (with_registers (registers 0 0x800 0 0x80000800 0x200) (guest_m (0xd0 ∷ 0x50 ∷ 0x61 ∷ []) [])))) (0x7f0 ∷ 0x7f4 ∷ 0x7f8 ∷ 0x7fc ∷ []) ≡ seen Fault 0x0 0x800 0x800007f0 0x80000a00 0x0 (0x5 ∷ 0x800 ∷ 0x200 ∷ 0x0 ∷ []))
     × (after (step (with_tables (record tables_m { p0lr = 0x4 }) (with_registers (registers 0 0x600 0 0x80000800 0x200) (guest_m (0xd0 ∷ 0x50 ∷ 0x61 ∷ []) [])))) ([]) ≡ seen (Plain 0x80001270) 0x0 0x600 0x80000800 0x203 0x4 ([]))
     -- MOVL (R1),R0 from the first page that P1 has, whose length is its empty part; and from the page in front of it
@@ -68,7 +68,7 @@ pub own_tables :
 unfolding step executed instruction fetched decided decoded_at acted plan_of performed row_of operation_of operands_of operand_of read_operand modified_operand written_operand address_operand branch_operand bits_operand address_of base_address value_size computed alu_of branched trap_operands operand_at specifier_at specifier_by indexed_at lookup mapped_entry process_entry system_entry granted walk_of attempt initiate due push_walked pushed after_tick sensed probe probed_byte loads_context loaded is_block_reserved saves_context register_of read written accepted after_iccs_write
 own_tables = (refl, refl, refl, refl, refl, refl, refl, refl, refl, refl, refl, refl)
 
--- stacks and vectors that are not there
+-- stacks and vectors that don't exist
 pub stacks :
     -- BPT with a kernel stack that is not valid: vector 08 on the interrupt stack, at IPL 31
     (after (step (with_memory ((0xc, 0x24000003) ∷ []) (with_isp 0x80000e00 (guest_m (0x03 ∷ []) [])))) (0xdf8 ∷ 0xdfc ∷ []) ≡ seen Fault 0x0 0x0 0x80000df8 0x80000a00 0x41f0000 (0x200 ∷ 0x0 ∷ []))

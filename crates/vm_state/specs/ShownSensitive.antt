@@ -58,7 +58,7 @@ saving psl = with_stacks (0x111 ∷ 0x222 ∷ 0x333 ∷ 0x444 ∷ 0x700 ∷ []) 
 
 -- REI
 pub returns :
-    -- from user mode to user mode: USP is behind the two longwords
+    -- from user mode to user mode: USP is after the two longwords
     (after (step (returning 0x3c00000 0x3c00000)) ([]) ≡ seen Sensitive 0x0 0x0 0x608 0x400 0x3c00000 ([]))
     -- refused: a more privileged mode
     × ((step (returning 0x3c00000 0)).kind ≡ Fault)
@@ -105,7 +105,7 @@ pub probes :
     × (after (step (with_registers (registers 0 0x7ff 0 0x80000800 0x200) (guest_m (0x0c ∷ 0x00 ∷ 0x02 ∷ 0x61 ∷ []) ((entry_4, 0x80000004) ∷ [])))) ([]) ≡ seen (Plain 0x80001223) 0x0 0x7ff 0x80000800 0x204 0x4 ([]))
     -- PROBEW of a page whose entry is on a system page that is not valid: a fault
     × (after (step (with_memory ((0x1c, 0x24000007) ∷ []) (with_tables (record tables_m { p0br = 0x80000e80 }) (with_registers (registers 0 0x800 0 0x80000800 0x80000200) (guest_m (0x0d ∷ 0x00 ∷ 0x01 ∷ 0x61 ∷ []) []))))) (0x7f0 ∷ 0x7f4 ∷ 0x7f8 ∷ 0x7fc ∷ []) ≡ seen Fault 0x0 0x800 0x800007f0 0x80000a00 0x0 (0x6 ∷ 0x800 ∷ 0x80000200 ∷ 0x0 ∷ []))
-    -- with mapping off, behind memory: not accessible, and sensitive
+    -- with mapping off, beyond memory: not accessible, and sensitive
     × (after (step (with_registers (registers 0 0x8000 0 0x3000 0x200) (guest_u (0x0c ∷ 0x00 ∷ 0x01 ∷ 0x61 ∷ [])))) ([]) ≡ seen Sensitive 0x0 0x8000 0x3000 0x204 0x4 ([]))
     -- and the last byte of memory
     × (after (step (with_registers (registers 0 0x7fff 0 0x3000 0x200) (guest_u (0x0d ∷ 0x03 ∷ 0x01 ∷ 0x61 ∷ [])))) ([]) ≡ seen (Plain 0xb226) 0x0 0x7fff 0x3000 0x204 0x0 ([]))
@@ -114,10 +114,11 @@ probes = (refl, refl, refl, refl, refl, refl, refl, refl, refl)
 
 -- SVPCTX and LDPCTX
 pub contexts :
-    -- SVPCTX: the pointers, of which KSP is R14 behind the pops, registers, PC and PSL; it goes on on the interrupt stack, at IPL 1
+    -- SVPCTX: the pointers, of which KSP is R14 after the pops, registers, PC and PSL; it goes on on the interrupt stack, at
+    -- IPL 1
     (after (step (saving 0)) (0x800 ∷ 0x804 ∷ 0x808 ∷ 0x80c ∷ 0x810 ∷ 0x814 ∷ 0x848 ∷ 0x84c ∷ []) ≡ seen Sensitive 0x7 0x9 0x700 0x201 0x4010000 (0x788 ∷ 0x222 ∷ 0x333 ∷ 0x444 ∷ 0x7 ∷ 0x9 ∷ 0x1234 ∷ 0x3c00000 ∷ []))
     × ((step (saving 0)).guest.state.stacks ≡ 0x788 ∷ 0x222 ∷ 0x333 ∷ 0x444 ∷ 0x700 ∷ [])
-    -- on the interrupt stack: KSP is its register, and R14 stays behind the pops
+    -- on the interrupt stack: KSP is its register, and R14 stays after the pops
     × (after (step (saving 0x041f0000)) (0x800 ∷ 0x804 ∷ 0x808 ∷ 0x80c ∷ 0x810 ∷ 0x814 ∷ 0x848 ∷ 0x84c ∷ []) ≡ seen Sensitive 0x7 0x9 0x788 0x201 0x41f0000 (0x111 ∷ 0x222 ∷ 0x333 ∷ 0x444 ∷ 0x7 ∷ 0x9 ∷ 0x1234 ∷ 0x3c00000 ∷ []))
     -- LDPCTX: all of it is loaded, R14 is kept as ISP, and PC and PSL are pushed on the kernel stack
     × (after (step (loading [] 0x41f0000)) (0x6f8 ∷ 0x6fc ∷ []) ≡ seen Sensitive 0x7 0x9 0x6f8 0x201 0x1f0000 (0x1234 ∷ 0x3c00000 ∷ []))
@@ -144,7 +145,7 @@ pub contexts :
     × (after (step (loading ((0x85c, 0x5ffff0) ∷ (0x4418, 0x1004) ∷ []) 0)) (0x778 ∷ 0x77c ∷ []) ≡ seen Fault 0x1 0x2 0x778 0x1004 0x0 (0x200 ∷ 0x0 ∷ []))
     -- a push beyond memory stops the guest, which loads nothing
     × (after (step (loading ((0x800, 0x8008) ∷ []) 0)) ([]) ≡ seen Fault 0x1 0x2 0x780 0x200 0x0 ([]))
-    -- a block that ends behind memory stops the guest
+    -- a block that ends beyond memory stops the guest
     × ((step (with_pcbb 0x7fa4 (loading [] 0))).guest.state.halt ≡ Some 0x10)
     × ((step (with_pcbb 0x7fa4 (loading [] 0))).kind ≡ Fault)
 unfolding step executed instruction fetched decided decoded_at acted plan_of performed row_of operation_of operands_of operand_of read_operand modified_operand written_operand address_operand branch_operand bits_operand address_of base_address value_size computed alu_of branched trap_operands operand_at specifier_at specifier_by indexed_at lookup mapped_entry process_entry system_entry granted walk_of attempt initiate due push_walked pushed after_tick sensed probe probed_byte loads_context loaded is_block_reserved saves_context register_of read written accepted after_iccs_write

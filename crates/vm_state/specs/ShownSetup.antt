@@ -90,7 +90,7 @@ after s places =
     let r = s.guest.state.r in
     seen s.kind (slice_index r 0) (slice_index r 1) (slice_index r 14) (slice_index r 15) s.guest.state.psl (longs_at s.guest places)
 
--- the guest behind so many steps, and their kinds
+-- the guest after so many steps, and their kinds
 abbrev pub behind_steps : ℕ → Guest → Guest
 behind_steps zero g = g
 behind_steps (suc n) g = behind_steps n (step g).guest

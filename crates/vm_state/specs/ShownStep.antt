@@ -27,7 +27,7 @@ use Rattle.vm_state.specs.Translation.{walk_of}
 
 -- an instruction and its first trouble
 pub faults :
-    -- DIVL2 #0,R1 with R1 7: plain, and its trap of type 2 is taken behind it, though IV is clear
+    -- DIVL2 #0,R1 with R1 7: plain, and its trap of type 2 is taken after it, though IV is clear
     (after (step (with_registers (registers 0 7 0 0x80000800 0x200) (guest_m (0xc6 ∷ 0x00 ∷ 0x51 ∷ []) []))) (0x7f4 ∷ 0x7f8 ∷ 0x7fc ∷ []) ≡ seen (Plain 0x80000c59) 0x0 0x7 0x800007f4 0x80000a00 0x0 (0x2 ∷ 0x203 ∷ 0x2 ∷ []))
     -- MOVL (R0)+,(R1), and the page at 800 is not valid: R0 is as before, and the parameter says that it was to be written
     × (after (step (with_registers (registers 0x300 0x800 0 0x80000800 0x200) (guest_m (0xd0 ∷ 0x80 ∷ 0x61 ∷ []) ((entry_4, 0x20000004) ∷ [])))) (0x7f0 ∷ 0x7f4 ∷ 0x7f8 ∷ 0x7fc ∷ []) ≡ seen Fault 0x300 0x800 0x800007f0 0x80000a00 0x0 (0x4 ∷ 0x800 ∷ 0x200 ∷ 0x0 ∷ []))

@@ -46,7 +46,7 @@ pub unmapped :
     × ((step (with_memory ((0x4440, 0x00001001) ∷ []) (guest_u (0xbc ∷ 0x05 ∷ [])))).kind ≡ Sensitive)
     -- CHM on the interrupt stack stops the guest with code 0A, and its operand changed nothing
     × (after (step (with_isp 0x2000 (with_psl 0x041f0000 (with_registers (registers 0x600 0 0 0x2000 0x200) (guest_u (0xbc ∷ 0x80 ∷ [])))))) ([]) ≡ seen Sensitive 0x600 0x0 0x2000 0x200 0x41f0000 ([]))
-    -- an opcode that there is not
+    -- an opcode that no instruction has
     × (after (step (with_memory ((0x4410, 0x00001004) ∷ []) (guest_u (0xff ∷ [])))) (0x2ff8 ∷ 0x2ffc ∷ []) ≡ seen Fault 0x0 0x0 0x2ff8 0x1004 0x0 (0x200 ∷ 0x0 ∷ []))
     -- XFC
     × (after (step (with_memory ((0x4414, 0x00001004) ∷ []) (guest_u (0xfc ∷ [])))) (0x2ff8 ∷ 0x2ffc ∷ []) ≡ seen Fault 0x0 0x0 0x2ff8 0x1004 0x0 (0x200 ∷ 0x0 ∷ []))
@@ -61,7 +61,7 @@ unmapped = (refl, refl, refl, refl, refl, refl, refl, refl, refl, refl, refl, re
 
 -- interrupts and processor registers
 pub registers_and_interrupts :
-    -- WAIT, and the clock wraps at the tenth step: its interrupt pushes the PC behind WAIT
+    -- WAIT, and the clock wraps at the tenth step: its interrupt pushes the PC after WAIT
     (after (step (behind_steps 9 (with_clock (record initial_state { run = true; enable = true; nicr = 0xfffffff6; icr = 0xfffffff6 }) (guest_u (0xfd ∷ 0x01 ∷ []))))) (0x2ff8 ∷ 0x2ffc ∷ []) ≡ seen Interrupt 0 0 0x2ff8 0x1000 0x00180000 (0x202 ∷ 0x0 ∷ []))
     × (kinds 10 (with_clock (record initial_state { run = true; enable = true; nicr = 0xfffffff6; icr = 0xfffffff6 }) (guest_u (0xfd ∷ 0x01 ∷ []))) ≡ Sensitive ∷ Idle ∷ Idle ∷ Idle ∷ Idle ∷ Idle ∷ Idle ∷ Idle ∷ Idle ∷ Interrupt ∷ [])
     -- MTPR #3,#SIRR, and then its interrupt
@@ -70,13 +70,13 @@ pub registers_and_interrupts :
     × ((behind_steps 1 (with_memory ((0x448c, 0x00001004) ∷ []) (guest_u (0xda ∷ 0x03 ∷ 0x14 ∷ [])))).state.sisr ≡ 8)
     -- MFPR of MEMSIZE
     × (slice_index (behind_steps 1 (guest_u (0xdb ∷ 0x8f ∷ 0xc9 ∷ 0x00 ∷ 0x00 ∷ 0x00 ∷ 0x50 ∷ []))).state.r 0 ≡ 0x8000)
-    -- MFPR of UPTIME behind a NOP
+    -- MFPR of UPTIME after a NOP
     × (slice_index (behind_steps 2 (guest_u (0x01 ∷ 0xdb ∷ 0x8f ∷ 0xca ∷ 0x00 ∷ 0x00 ∷ 0x00 ∷ 0x50 ∷ []))).state.r 0 ≡ 2)
     -- MTPR of 2 to MAPEN: a reserved operand
     × (after (step (with_memory ((0x4418, 0x00001004) ∷ []) (guest_u (0xda ∷ 0x02 ∷ 0x38 ∷ [])))) (0x2ff8 ∷ 0x2ffc ∷ []) ≡ seen Fault 0x0 0x0 0x2ff8 0x1004 0x0 (0x200 ∷ 0x0 ∷ []))
-    -- HALT stops behind itself
+    -- HALT stops the guest, with PC after it
     × (after (step (guest_u (0x00 ∷ []))) ([]) ≡ seen Sensitive 0x0 0x0 0x3000 0x201 0x0 ([]))
-    -- and a guest that stands stays as it is
+    -- and a guest that has stopped stays as it is
     × (kinds 2 (guest_u (0x00 ∷ [])) ≡ Sensitive ∷ Stopped ∷ [])
     × ((behind_steps 2 (guest_u (0x00 ∷ []))).state.steps ≡ 1)
 unfolding step executed instruction fetched decided decoded_at acted plan_of performed row_of operation_of operands_of operand_of read_operand modified_operand written_operand address_operand branch_operand bits_operand address_of base_address value_size computed alu_of branched trap_operands operand_at specifier_at specifier_by indexed_at lookup mapped_entry process_entry system_entry granted walk_of attempt initiate due push_walked pushed after_tick sensed probe probed_byte loads_context loaded is_block_reserved saves_context register_of read written accepted after_iccs_write status_set

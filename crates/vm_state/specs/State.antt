@@ -31,7 +31,7 @@ pub record State : Type 0 where
   pub waiting : Bool
   -- the code with which it stopped
   pub halt : Option ℕ
-  -- its steps since it started, but those in which it stood
+  -- its steps since it started, but those in which it was stopped
   pub steps : ℕ
   -- a clear modify bit is a fault of its own
   pub modify_faults : Bool

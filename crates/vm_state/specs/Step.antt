@@ -28,7 +28,7 @@ use Rattle.vm_state.specs.Translation.{is_clear, look, marked_by, marks_by, plac
 use Rattle.vm_state.specs.declared.exception.Exc.{Exc}
 use Rattle.vm_state.specs.declared.exception.Exc.TheVariants as excs
 
--- The kinds of step: the guest stands; an interrupt is taken; it waits; a modify bit is set; a plain instruction
+-- The kinds of step: the guest has stopped; an interrupt is taken; it waits; a modify bit is set; a plain instruction
 -- completes, with its term of the trail; a sensitive one completes; a fault is initiated.
 pub data Kind : Type 0 where
   Stopped Interrupt Idle SetModify : Kind
@@ -93,11 +93,11 @@ abbrev pub frames_stored : Guest → List Store → List ℕ
 frames_stored g [] = []
 frames_stored g (x ∷ xs) = frames_of_bytes g (addresses (size_of x.width) x.va) ++ frames_stored g xs
 
--- the guest behind a plain instruction: its stores are made in order, at the places of before the first
+-- the guest after a plain instruction: its stores are made in order, at the places of before the first
 abbrev pub with_effect : Guest → Effect → Guest
 with_effect g e = record { memory = all_stored (place_of g) e.writes g.memory; state = record g.state { r = e.r; psl = with_psw g.state.psl e.psw } }
 
--- its arithmetic trap is initiated behind it, in the same step
+-- its arithmetic trap is initiated after it, in the same step
 abbrev pub trapped_in : Kind → List ℕ → Guest → Option ℕ → Stepped
 trapped_in kind written h None = stepped h [] kind written
 trapped_in kind written h (Some type) =
@@ -118,7 +118,7 @@ probed_as g opcode o (Answers is_accessible is_plain) =
 probed_as g opcode o (NotValid f) = faulted g (excs.Memory f)
 probed_as g opcode o probes.PastMemory = stopped g PastMemory Fault
 
--- an instruction that came to this
+-- an instruction with this outcome
 abbrev pub did : Guest → ℕ → Act → Stepped
 did g opcode (whole.Plain e) = plainly_done g opcode e
 did g opcode (Traps t) = sensed_as g (sensed g t t.op)
@@ -171,7 +171,7 @@ counted s = record s { clock = after_tick s.clock; steps = (s.steps + 1) % 2 ^ 3
 abbrev pub active : Guest → Stepped
 active g = by_interrupt g (due g.state)
 
--- a guest that stands stays as it is
+-- a guest that has stopped stays as it is
 abbrev pub step_by : Guest → Option ℕ → Stepped
 step_by g (Some code) = stepped g [] Stopped []
 step_by g None = active (record g { state = counted g.state })

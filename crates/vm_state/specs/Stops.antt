@@ -20,7 +20,7 @@ stop_code PastMemory = 0x10
 abbrev pub is_stop_code : ℕ → Bool
 is_stop_code v = v == 0x00 || v == 0x02 || v == 0x04 || v == 0x06 || v == 0x07 || v == 0x0a || v == 0x10
 
--- it runs, or stands with one of them
+-- it runs, or has stopped with one of them
 abbrev pub IsHalt : Option ℕ → Type 0
 IsHalt halt = IfSome halt (λ code. is_stop_code code ≡ true)
 

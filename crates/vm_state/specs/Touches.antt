@@ -33,7 +33,7 @@ any p xs = is_some (find p xs)
 abbrev pub holds : ℕ → List ℕ → Bool
 holds page pages = any (λ p. p == page) pages
 
--- the context that is used comes to the front; a fifth drops the last
+-- the context that is used moves to the front; a fifth drops the last
 abbrev pub no_pages : Context → Process
 no_pages c = record { context = c; pages = [] }
 
@@ -117,7 +117,7 @@ is_remapped t u = not (t.sbr == u.sbr) || not (t.slr == u.slr) || not (beq t.map
 abbrev pub emptied : Present → Present
 emptied p = record { system = []; processes = map (λ q. no_pages q.context) p.processes }
 
--- what the frames that are written, and other system registers, leave; then the guest's context comes to the front
+-- what the frames that are written, and other system registers, leave; then the guest's context moves to the front
 abbrev pub present_after : Guest → Guest → List ℕ → Present → Present
 present_after g h written p = to_front h (if is_overwritten g written p || is_remapped g.state.tables h.state.tables then emptied p else p)
 
@@ -132,7 +132,7 @@ abbrev pub touching_steps : ℕ → Guest → Touching → Touching
 touching_steps zero g t = t
 touching_steps (suc n) g t = let s = step g in touching_steps n s.guest (touching_step g s t)
 
--- a write from without, and a reset
+-- a write from outside, and a reset
 abbrev pub touching_write : Guest → List ℕ → Present → Present
 touching_write g written p = present_after g g written p
 

@@ -45,7 +45,7 @@ pub struct GuestState {
     pub waiting: bool,
     /// The code with which it stopped.
     pub halt: Option<u8>,
-    /// Its steps since it started, but those in which it stood, modulo 2^32.
+    /// Its steps since it started, but those in which it was stopped, modulo 2^32.
     pub steps: u32,
     /// Its memory in pages of 512 bytes, the first of them in the machine, and the address at which it starts.
     pub pages: u32,

@@ -5,7 +5,7 @@ pub fn steps_show_few()
     ensures { ShowsFew }
 {}
 
-/// A guest that stands stays as it is.
+/// A guest that has stopped stays as it is.
 pub fn stopped_guests_stay()
     ensures { StaysStopped }
 {}
@@ -15,7 +15,7 @@ pub fn steps_keep_allowed_registers()
     ensures { StepsKeep }
 {}
 
-/// A step of a guest that doesn't stand counts 1, whatever it is.
+/// A step of a guest that runs counts 1, whatever it is.
 pub fn steps_are_counted()
     ensures { StepsCount }
 {}

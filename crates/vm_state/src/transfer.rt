@@ -1,4 +1,5 @@
-/// What becomes of a packet's address that a guest hands over: it is queued, the queue is full, or no packet can be there.
+/// What becomes of the address of a packet by which a guest asks for a transfer: it is queued, the queue is full, or no packet
+/// can be there.
 #[derive(Clone, Copy, Debug, PartialEq, Eq)]
 pub enum Accept {
     Queued,

@@ -1,4 +1,4 @@
--- All steps, one part behind another.
+-- All steps, one part after another.
 use Rattle.std.proofs.Common.{◌≡◌, ℕ, Bool, true, false, List, [], ◌++◌, append-nil, append_assoc, refl, ap, ◌∙◌, sym, subst, arith}
 use Rattle.std.specs.Prelude.{if◌then◌else◌}
 use Rattle.vax_hw.specs.Machine.{Machine}

@@ -53,7 +53,7 @@ quiet_on n s q within = record {
   none = λ k h. due_then s k s.clock.run refl (λ runs. let all = within runs in omega (arith, h, all)) ∙ sym (due_now s) ∙ q.none 0 (omega arith);
 }
 
--- A guest that stands does so in all steps.
+-- A guest that has stopped is stopped in all steps.
 pub stands_still : (h : Guest) (code : ℕ) → h.state.halt ≡ Some code → step h ≡ stepped h [] steps.Stopped []
 unfolding step
 stands_still h code e = ap (step_by h) e
@@ -114,7 +114,7 @@ module _ (m : Machine) (s : Shadowed) (g : GuestState) (g1 : GuestState) (stands
   count_goes : Goes m s g m s g1
   count_goes = record { stands = counted_stands; only = record { size = refl; other = λ p own tables. refl }; place = place; tables = refl }
 
-  -- what it comes to, by what is due
+  -- its outcome, by what is due
   pub step_is : (o : Option Source) → due (state_of g1) ≡ o → step (guest_of m.memory g) ≡ by_interrupt now o
   unfolding step
   step_is o e = ap (step_by (guest_of m.memory g)) runs ∙ ap (by_interrupt now) (ap due (sym state) ∙ e)

@@ -1,4 +1,4 @@
--- What steps of a guest leave, one behind another.
+-- What steps of a guest leave, one after another.
 use Rattle.std.proofs.Common.{◌≡◌, ℕ, zero, suc, ◌+◌, ◌*◌, ◌%◌, ◌^◌, ◌<◌, ◌≤◌, ◌⊎◌, Bool, true, false, not, List, ap, ◌∙◌, sym, subst, arith}
 use Rattle.std.specs.Prelude.{if◌then◌else◌, is_some}
 use Rattle.vax_hw.specs.Machine.{Machine}

@@ -25,7 +25,7 @@ use Rattle.vm_stepping.specs.declared.counts.Counts.{Counts}
 use Rattle.vm_stepping.proofs.Going.{goes_then, retired_then}
 use Rattle.vm_stepping.proofs.Making.{makes_goes, same_counts}
 
--- the step that the instruction comes to is the counted guest's
+-- the step in which the instruction is reached is the counted guest's
 pub made_steps : {Port : Type 0} (may : Port → List ℕ → Type 0) (port port' : Port) (m : Machine) (s : Shadowed) (g : GuestState) (c : Counts) (m' : Machine) (s' : Shadowed) (g' : GuestState) (c' : Counts) →
     Made may (by_try (guest_of m.memory g) (guest_try (guest_of m.memory g))) port port' m s g c m' s' g' c' → Steps may port port' m s g c m' s' g' c'
 unfolding executed
@@ -66,7 +66,7 @@ module _ (m : Machine) (s : Shadowed) (g : GuestState) (c : Counts) (terms : ℕ
     retired = guarded_retired None k;
   }
 
-  -- with its trap behind it
+  -- with its trap after it
   module _ (kind : ℕ) (m2 : Machine) (s2 : Shadowed) (g2 : GuestState) (stands : StandsFor m.memory s g) (k : StepsGuarded m s g terms (Some kind) m1 s1 g1) where
     abbrev trap : Stepped
     trap = initiated_in Idle (guest_of m1.memory g1) (initiate (guest_of m1.memory g1) (excs.Arithmetic kind))

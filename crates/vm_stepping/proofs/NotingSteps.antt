@@ -19,7 +19,7 @@ use Rattle.vm_stepping.specs.declared.turns.Left.{Left}
 use Rattle.vm_stepping.proofs.Beginning.{counted_is, now}
 use Rattle.vm_stepping.proofs.Running.{counted_left, not_counted, plain_left}
 
--- a guest that stands tells nothing
+-- a guest that has stopped tells nothing
 tells_nothing : (h : Guest) (o : Option ℕ) → is_some o ≡ true → note_by_halt h o ≡ Nothing
 tells_nothing h (Some code) e = refl
 tells_nothing h None e = absurd (not_counted e)
@@ -67,7 +67,7 @@ module _ (m : Machine) (s : Shadowed) (g : GuestState) (g1 : GuestState) (stands
     stays = λ one still. ap note_of_instruction here_is ∙ sym (unless false none waits);
   }
 
--- the steps that are left, one part behind another
+-- the steps that are left, one part after another
 pub notes_nothing : (n : ℕ) (left : Left) (m : Machine) (g : GuestState) (note : Note) → left ≡ plain_left n → NotesOne (plain_left n) left m g m g note
 notes_nothing n left m g note e = subst (λ l. NotesOne (plain_left n) l m g m g note) (sym e) (record {
   made = λ one none. absurd (omega (arith, one, none));

@@ -37,7 +37,7 @@ use Rattle.vm_touches.specs.Touched.{AreFilled, IsTouched, touches_now}
 pub among_dropped : (frames : List ℕ) (s s' : Shadowed) → DropsAmong frames s s' → Drops frames s s'
 among_dropped frames s s' d = record { each = d.each; told = ap (λ (x : Shadowed). x.told) d.rest; held = ap (λ (x : Shadowed). x.held) d.rest }
 
--- one behind another
+-- one after another
 dropped_each : (a b : List ℕ) (x y z : Option Source) → (y ≡ x) ⊎ ((y ≡ None) × (is_pending a x ≡ true)) → (z ≡ y) ⊎ ((z ≡ None) × (is_pending b y ≡ true)) → (z ≡ x) ⊎ ((z ≡ None) × (is_pending (a ++ b) x ≡ true))
 dropped_each a b x y z (inl same) (inl still) = inl (still ∙ same)
 dropped_each a b x y z (inl same) (inr gone) = inr (gone.0, pending_append a b x (inr (subst (λ w. is_pending b w ≡ true) same gone.1)))

@@ -31,7 +31,7 @@ use Rattle.vm_stepping.proofs.Paying.{among_dropped, dropped_then, step_settles}
 use Rattle.vm_stepping.proofs.PayingMet.{none_within}
 use Rattle.vm_touches.specs.Touched.{touches_now}
 
--- what a trap that is initiated behind an instruction drops is beside what that wrote
+-- what a trap that is initiated after an instruction drops is beside what that wrote
 pub trap_moves : (frames : List ℕ) (s s1 : Shadowed) (x : Stepped) (m1 : Machine) (g1 : GuestState) (m2 : Machine) (s2 : Shadowed) (g2 : GuestState) → Drops frames s s1 → Makes x m1 s1 g1 m2 s2 g2 → Moves (frames ++ x.written) x.guest.state.tables s s2
 trap_moves frames s s1 x m1 g1 m2 s2 g2 d k =
     moves_alone (frames ++ x.written) m2.memory s s2 x.guest.state.tables k.stands.keeps.fits (k.stands.serves.told ∙ ap (λ (h : Guest). h.state.tables) k.guest) (dropped_then frames x.written s s1 s2 d (among_dropped x.written s1 s2 k.drops))
@@ -48,7 +48,7 @@ module _ (m : Machine) (s : Shadowed) (g : GuestState) (terms : ℕ) (m1 : Machi
       step_settles 0 m s g m1 s1 (record (trapped_in (steps.Plain k.term) (frames_claimed here) (guest_of m1.memory g1) None) { touched = touches_now here }) stands k.step refl k.found
       (moves_alone (frames_claimed here) m1.memory s s1 (tables_of g1) k.stands.keeps.fits k.stands.serves.told (steps_drop None k)) (none_within s here) k.misses
 
-  -- with its trap behind it
+  -- with its trap after it
   pub trapped_pays : (kind : ℕ) (m2 : Machine) (s2 : Shadowed) (g2 : GuestState) → StepsGuarded m s g terms (Some kind) m1 s1 g1 → ((k : Kind) → Makes (initiated_in k (guest_of m1.memory g1) (initiate (guest_of m1.memory g1) (excs.Arithmetic kind))) m1 s1 g1 m2 s2 g2) → Settles 0 m s g m2 s2
   trapped_pays kind m2 s2 g2 k makes =
       let x = initiated_in (steps.Plain k.term) (guest_of m1.memory g1) (initiate (guest_of m1.memory g1) (excs.Arithmetic kind)) in

@@ -1,4 +1,4 @@
--- What pays for the misses of steps that come to no instruction: there are none; and all steps, one part behind another.
+-- What pays for the misses of steps that reach no instruction: there are none; and all steps, one part after another.
 use Rattle.std.proofs.Common.{◌≡◌, ℕ, zero, suc, ◌+◌, ◌-◌, ◌≤◌, Bool, true, false, [], List, Option, Some, None, is_some, refl, ap, ◌∙◌, sym, subst, arith}
 use Rattle.vax_hw.specs.Machine.{Machine}
 use Rattle.vax_table.specs.Script.{IsIn}
@@ -29,7 +29,7 @@ use Rattle.vm_stepping.proofs.PayingAlone.{misses_then}
 use Rattle.vm_stepping.proofs.Running.{counted_left, not_counted, plain_left}
 use Rattle.vm_touches.specs.Touched.{touches_now}
 
--- first touches of one step, and of those behind it
+-- first touches of one step, and of those after it
 one_touching : (n : ℕ) (h : Guest) (x : Stepped) (t : Touching) → 1 ≤ n → step h ≡ x → touching_steps n h t ≡ touching_steps (n - 1) x.guest (touching_step h x t)
 one_touching zero h x t some e = absurd (omega arith)
 one_touching (suc n) h x t some e = let is : n ≡ suc n - 1 = omega arith in ap (λ (y : Stepped). touching_steps n y.guest (touching_step h y t)) e ∙ ap (λ k. touching_steps k x.guest (touching_step h x t)) is
@@ -38,7 +38,7 @@ module _ (m : Machine) (s : Shadowed) (g : GuestState) (stands : StandsFor m.mem
   abbrev h : Guest
   h = guest_of m.memory g
 
-  -- a guest that stands
+  -- a guest that has stopped
   rests_so : (n : ℕ) (t : Touching) → step h ≡ stepped h [] steps.Stopped [] → HasPresent s t.present → HasPresent s (touching_steps n h t).present × (t.count ≤ (touching_steps n h t).count)
   rests_so zero t is all = (all, omega arith)
   rests_so (suc n) t is all =
@@ -101,7 +101,7 @@ module _ (m : Machine) (s : Shadowed) (g : GuestState) (g1 : GuestState) (stands
       pays_untouched m s g stands n (stepped begun [] steps.Idle []) m s g1 left some (comes None (stepped begun [] steps.Idle []) none (ap (unless_waiting begun) (waiting_now true waits)))
       refl (nothing_moves [] m.memory s g stands) refl (sym begun_is) e
 
-  -- its instruction is come to
+  -- its instruction is reached
   begins_touching : (k : ℕ) (t : Touching) → 1 ≤ k → step (guest_of m.memory g) ≡ executed begun → touching_steps k (guest_of m.memory g) t ≡ touching_counted k begun t
   begins_touching zero t more is = absurd (omega arith)
   begins_touching (suc k) t more is = ap (λ (y : Stepped). touching_steps k y.guest (touching_step (guest_of m.memory g) y t)) is

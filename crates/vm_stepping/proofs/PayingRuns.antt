@@ -1,4 +1,4 @@
--- What pays for the misses of a run of the machine, with what is done behind it.
+-- What pays for the misses of a run of the machine, with what is done after it.
 use Rattle.std.proofs.Common.{◌≡◌, ℕ, zero, suc, ◌+◌, ◌-◌, ◌%◌, ◌^◌, ◌<◌, ◌≤◌, Bool, true, false, List, [], ◌++◌, Some, refl, ap, ◌∙◌, sym, subst, arith}
 use Rattle.vax_hw.specs.Machine.{Machine}
 use Rattle.vax_hw.specs.declared.world.Exit.{Exit}
@@ -207,7 +207,7 @@ module _ (all n : ℕ) (m : Machine) (s : Shadowed) (g : GuestState) (ran : Ran)
         };
   }
 
--- what the code has behind the run
+-- what the code has after the run
 module _ (all n : ℕ) (m : Machine) (s : Shadowed) (g : GuestState) (ran : Ran) (m1 : Machine) (g1 : GuestState) (some : 1 ≤ n) (most : n ≤ all) (k : IsRun n m s g ran m1 g1) (left : Left) where
   pub pays_budget : ran.exit ≡ Budget → left ≡ plain_left (all - ran.done) → PaysOn (counted_left all) left m s g m1 s g1
   pays_budget is e = subst (λ x. PaysOn (counted_left all) x m s g m1 s g1) (sym e) (budget_on all n m s g ran m1 g1 some most k is)

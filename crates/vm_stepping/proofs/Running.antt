@@ -229,7 +229,7 @@ module _ (all n : ℕ) (m : Machine) (s : Shadowed) (g : GuestState) (c : Counts
       pub refills_falls : Refills m1 s g1 m2 s2 g1 → to_do (counted_left (all - ran.done)) s2 < to_do (counted_left all) s
       refills_falls x = let fewer = x.fewer in omega (arith, fewer)
 
--- what the code has behind the run
+-- what the code has after the run
 module _ (all n : ℕ) (m : Machine) (s : Shadowed) (g : GuestState) (c c1 : Counts) (ran : Ran) (m1 : Machine) (g1 : GuestState) (stands : StandsFor m.memory s g) (some : 1 ≤ n) (most : n ≤ all) (small : c.trail < 2 ^ 64) (k : IsRun n m s g ran m1 g1) (same : c1 ≡ more_plain c ran.done ran.terms) (left : Left) {Port : Type 0} (may : Port → List ℕ → Type 0) (port port' : Port) where
   pub with_budget : ran.exit ≡ Budget → left ≡ plain_left (all - ran.done) → Proceeds may (counted_left all) left port port m s g c m1 s g1 c1
   with_budget is e = subst (λ x. Proceeds may (counted_left all) x port port m s g c m1 s g1 c1) (sym e) (subst (λ x. Proceeds may (counted_left all) (plain_left (all - ran.done)) port port m s g c m1 s g1 x) (sym same) (ends_budget all n m s g c ran m1 g1 stands some most small k is may port))

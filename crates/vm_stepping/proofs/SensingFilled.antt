@@ -1,4 +1,4 @@
--- Behind a PROBE whose pages are filled, fewer entries aren't.
+-- After a PROBE whose pages are filled, fewer entries are empty.
 use Rattle.std.proofs.Common.{◌≡◌, ◌⊎◌, ℕ, zero, suc, ◌+◌, ◌<◌, ◌≤◌, Bool, true, false, not, [], None, is_some, refl, ap, ◌∙◌, sym, subst, arith, if◌then◌else◌}
 use Rattle.std.proofs.lemmas.Bool.{cases_eq, false≢true, not-false}
 use Rattle.vax_arch.specs.Fields.{is_valid}

@@ -80,7 +80,7 @@ is_none Prober e = cc
 is_none Probew e = cc
 is_none op e = tt
 
--- A sensitive instruction is no PROBE; and behind PROBE's operands there are as many registers as before.
+-- A sensitive instruction is no PROBE; and after PROBE's operands there are as many registers as before.
 abbrev pub ActIsProper : ℕ → Act → Type 0
 ActIsProper n (Plain e) = Unit {0}
 ActIsProper n (Traps t) = IsNoProbe t.op

@@ -1,4 +1,4 @@
--- The step of an instruction that trapped, by what its emulation came to.
+-- The step of an instruction that trapped, by the outcome of its emulation.
 use Rattle.std.proofs.Common.{◌≡◌, ℕ, ◌*◌, ◌%◌, ◌^◌, Bool, true, false, List, [], ◌∷◌, ◌++◌, length, take, Some, refl, ap, ◌∙◌, sym, subst, arith}
 use Rattle.std.specs.Prelude.{if◌then◌else◌, slice_index}
 use Rattle.std.proofs.lemmas.List.{get_or_push, take_all, take_more}
@@ -54,7 +54,7 @@ pub record Steps (x : Stepped) (s : Shadowed) (m' : Machine) (s' : Shadowed) (g'
 abbrev pub text_now : ℕ → GuestState → List ℕ
 text_now code g' = stop_text code (pc_of (state_of g'))
 
--- What the definition's step is, by what the emulation came to, and what that showed by itself.
+-- What the definition's step is, by the outcome of the emulation, and what that showed by itself.
 abbrev pub Comes : Emulated → Stepped → List ℕ → Machine → Shadowed → GuestState → Machine → Shadowed → GuestState → Type 0
 Comes outcomes.Done x shown m s g m' s' g' = Steps x s m' s' g' × (x.shown ≡ shown) × (x.kind ≡ Sensitive)
 Comes (outcomes.SetModify at) x shown m s g m' s' g' = Steps x s m' s' g' × (x.shown ≡ []) × (x.kind ≡ SetModify) × (shown ≡ [])

@@ -13,7 +13,7 @@ use Rattle.vm_stepping.specs.Made.{Goes, Refills, Retired, no_counts, run_of, st
 use Rattle.vm_stepping.specs.declared.counts.Counts.{Counts}
 use Rattle.vm_stepping.specs.declared.turns.Left.{Left}
 
--- A counted guest's instruction is done, with the trap behind it: that is its step.
+-- A counted guest's instruction is done, with the trap after it: that is its step.
 pub record Steps {Port : Type 0} (may : Port → List ℕ → Type 0) (port port' : Port) (m : Machine) (s : Shadowed) (g : GuestState) (c : Counts) (m' : Machine) (s' : Shadowed) (g' : GuestState) (c' : Counts) : Type 0 where
   pub text : List ℕ
   pub run : (shown : List ℕ) → after_counted 1 (run_of m.memory g c shown) ≡ run_of m'.memory g' c' (shown ++ text)
@@ -31,7 +31,7 @@ IsDone may false port port' m s g c m' s' g' c' = Refills m s g m' s' g' × (c' 
 abbrev pub behind : Left → Run → Run
 behind left run = if left.counted then after_counted left.steps run else after_steps left.steps run
 
--- a guest whose next step is counted comes to its instruction in it
+-- a guest whose next step is counted reaches its instruction in it
 abbrev pub IsBegun : Left → GuestState → Type 0
 IsBegun left g = left.counted ≡ true → (1 ≤ left.steps) × IsQuiet 1 (state_of g)
 

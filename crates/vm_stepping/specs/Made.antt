@@ -67,7 +67,7 @@ pub record Refills (m : Machine) (s : Shadowed) (g : GuestState) (m' : Machine) 
   pub tables : s'.at ≡ s.at
   pub fewer : unfilled s' < unfilled s
 
--- A counted guest's instruction: the step that it comes to is made; or pages are filled, and it is tried again.
+-- A counted guest's instruction: the step in which it is reached is made; or pages are filled, and it is tried again.
 abbrev pub IsMet : {Port : Type 0} → (Port → List ℕ → Type 0) → Bool → Port → Port → Machine → Shadowed → GuestState → Counts → Machine → Shadowed → GuestState → Counts → Type 0
 IsMet may true port port' m s g c m' s' g' c' = Made may (by_try (guest_of m.memory g) (guest_try (guest_of m.memory g))) port port' m s g c m' s' g' c'
 IsMet may false port port' m s g c m' s' g' c' = Refills m s g m' s' g' × (c' ≡ c) × Appends may port port' []

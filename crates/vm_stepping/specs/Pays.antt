@@ -23,7 +23,7 @@ pub record WereMissed (missed : ℕ) (i : Intent) (va : ℕ) (memory : List ℕ)
   pub filled : (c : Cause) → place_here memory g i va ≡ Err c → AreFilled s (touches_now (guest_of memory g)).found
 
 -- The step of a counted guest's instruction is made, in which some misses are owed and so many were made just now: first
--- touches count all of them in the step, and what is present behind it has real entries.
+-- touches count all of them in the step, and what is present after it has real entries.
 pub record Settles (missed : ℕ) (m : Machine) (s : Shadowed) (g : GuestState) (m' : Machine) (s' : Shadowed) : Type 0 where
   pub more : ℕ
   pub misses : Misses more m m'

@@ -127,7 +127,7 @@ fn meet_told<H: Hardware, T: Port>(
     }
 }
 
-/// Runs the guest's instruction alone, with the pages that it writes let be written. Answers whether its step was made.
+/// Runs the guest's instruction alone, with the pages that it writes made writable. Answers whether its step was made.
 fn run_alone<H: Hardware, T: Port>(
     machine: &mut H,
     s: &mut Shadow,

@@ -28,7 +28,7 @@ fn have_registers(r: &[u32; 16], t: &Trapped)
     let _sp = t.regs[14];
 }
 
-/// What a trap of the guest's instruction comes to: the step that it makes is made and counted; or the pages of a PROBE are
+/// The outcome of a trap of the guest's instruction: the step that it makes is made and counted; or the pages of a PROBE are
 /// filled, so that the machine does it. Answers whether a step was made.
 pub fn sense<H: Hardware, T: Port>(
     machine: &mut H,

@@ -22,7 +22,7 @@ use vm_events::{Note, begin, due};
 use vm_shadow::Shadow;
 use vm_state::{Exc, GuestState};
 
-/// The steps that are left of a guest, of which the next may be counted already: then it comes to the guest's instruction.
+/// The steps that are left of a guest, of which the next may be counted already: then it reaches the guest's instruction.
 #[derive(Clone, Copy, Debug, PartialEq, Eq)]
 struct Left {
     steps: u32,
@@ -117,8 +117,8 @@ fn idle(g: &mut GuestState, counts: &mut Counts, left: u32) -> Left
     Left::of(left - steps)
 }
 
-/// Begins the next step of a guest: one that stands does so in all that are left; an interrupt that is due is taken, and a guest
-/// that waits is idle; else the step is counted, and comes to the guest's instruction.
+/// Begins the next step of a guest: one that has stopped is stopped in all that are left; an interrupt that is due is taken, and
+/// a guest that waits is idle; else the step is counted, and reaches the guest's instruction.
 fn begin_step<H: Hardware, T: Port>(
     machine: &mut H,
     s: &mut Shadow,

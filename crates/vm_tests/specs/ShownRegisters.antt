@@ -69,7 +69,7 @@ pub clock :
     (iccs_of (after_iccs_write (record initial_state { interrupt = true; error = true; nicr = 0xffffffff; icr = 0xffffffff }) 0x80000020) ≡ 0x80000080)
     -- cleared, where the step doesn't wrap
     × (iccs_of (after_iccs_write (record initial_state { interrupt = true; error = true; nicr = 0xffffffff; icr = 7 }) 0x80000020) ≡ 0x80)
-    -- one that stands doesn't wrap at the next tick, though its count is at its end
+    -- one that has stopped doesn't wrap at the next tick, though its count is at its end
     × (wraps_next (record initial_state { run = true; icr = 0xffffffff }) ≡ true)
     × (wraps_next (record initial_state { run = false; icr = 0xffffffff }) ≡ false)
 unfolding after_iccs_write

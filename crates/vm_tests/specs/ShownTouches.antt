@@ -56,9 +56,9 @@ alike = (refl, refl, refl, refl, refl, refl)
 
 -- the list of contexts
 pub contexts :
-    -- a fifth comes to the front: the last goes, and the three others stay
+    -- a fifth moves to the front: the last goes, and the three others stay
     (brought (under 5) (with_pages 4 (40 ∷ []) ∷ with_pages 3 (30 ∷ []) ∷ with_pages 2 (20 ∷ []) ∷ with_pages 1 (10 ∷ []) ∷ []) ≡ with_pages 5 [] ∷ with_pages 4 (40 ∷ []) ∷ with_pages 3 (30 ∷ []) ∷ with_pages 2 (20 ∷ []) ∷ [])
-    -- one that is held comes to the front with its pages, and stands once
+    -- one that is held moves to the front with its pages, and occurs once
     × (brought (under 2) (with_pages 3 (30 ∷ []) ∷ with_pages 2 (20 ∷ []) ∷ with_pages 1 (10 ∷ []) ∷ []) ≡ with_pages 2 (20 ∷ []) ∷ with_pages 3 (30 ∷ []) ∷ with_pages 1 (10 ∷ []) ∷ [])
     -- what empties the sets leaves the contexts in their order
     × (emptied (record { system = 0x400000 ∷ []; processes = with_pages 3 (30 ∷ []) ∷ with_pages 1 (10 ∷ []) ∷ [] }) ≡ record { system = []; processes = no_pages (under 3) ∷ no_pages (under 1) ∷ [] })
@@ -92,7 +92,7 @@ nop = guest_u (1 ∷ [])
 pub untouched :
     -- NOP: the page of its code
     ((step nop).touched ≡ record { found = 1 ∷ []; lacking = [] })
-    -- the guest stands
+    -- the guest has stopped
     × ((step (record nop { state = record nop.state { halt = Some 6 } })).touched ≡ nothing_touched)
     -- it waits
     × ((step (record nop { state = record nop.state { waiting = true } })).touched ≡ nothing_touched)

@@ -115,7 +115,7 @@ fn codes_and_frames(rt: HostRuntime) -> Result<(), Fail> {
     Ok(())
 }
 
-/// Lengths of all three tables, and tables that are not there.
+/// Lengths of all three tables, and tables that don't exist.
 #[test]
 fn lengths_and_tables(rt: HostRuntime) -> Result<(), Fail> {
     let (mut machine, mut guest) = set_up(rt.alloc())?;

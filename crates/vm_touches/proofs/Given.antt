@@ -1,4 +1,4 @@
--- The bytes that a space gives a script, and the one that it lacks.
+-- The bytes that a space gives an interaction, and the one that it lacks.
 use Rattle.std.proofs.Common.{◌≡◌, ℕ, zero, suc, ◌+◌, ◌-◌, ◌%◌, ◌^◌, ◌<◌, ◌⊎◌, inl, inr, List, [], ◌∷◌, ◌++◌, length, map, take, drop, Result, Ok, Err, refl, ap, ◌∙◌, sym, subst, arith, append_assoc, append-nil}
 use Rattle.std.proofs.lemmas.List.{length-append}
 use Rattle.std.proofs.Math.Seq.{drop-append_seam, take-append_seam}
@@ -19,7 +19,7 @@ abbrev pub bytes_given : Space → Intent → ℕ → ℕ → List ℕ
 bytes_given s i zero a = []
 bytes_given s i (suc k) a = if_given (a % 2 ^ 32) (s i (a % 2 ^ 32)) (bytes_given s i k (a + 1))
 
--- the bytes of a script, up to the first that has trouble
+-- the bytes of an interaction, up to the first that has trouble
 abbrev pub given : {A : Type 0} → Space → Script A → List ℕ
 given s (Done a) = []
 given s (Refuse r) = []
@@ -87,7 +87,7 @@ bytes_alike : (s t : Space) → AreAlike s t → (i : Intent) (k a : ℕ) → by
 bytes_alike s t alike i zero a = refl
 bytes_alike s t alike i (suc k) a = λ j. if_given (a % 2 ^ 32) (alike i (a % 2 ^ 32) (low a) j) (bytes_alike s t alike i k (a + 1) j)
 
--- a script asks for addresses of 32 bits alone
+-- an interaction asks for addresses of 32 bits alone
 pub given_alike : {A : Type 0} (s t : Space) → AreAlike s t → (m : Script A) → given s m ≡ given t m
 given_alike s t alike (Done a) = refl
 given_alike s t alike (Refuse r) = refl
@@ -100,7 +100,7 @@ pub record HasByte (s : Space) (va : ℕ) : Type 0 where
   pub byte : ℕ
   pub is : s intent va ≡ Ok byte
 
--- What stops a script over a lower space stops it over the upper one, too.
+-- What stops an interaction over a lower space stops it over the upper one, too.
 abbrev pub StopsAt : Space → Trouble → Type 0
 StopsAt t (Test r) = Unit {0}
 StopsAt t (At c i va) = (d : Cause) × (t i va ≡ Err d)

@@ -1,4 +1,4 @@
--- The pages that the guest's instruction touches, by what the machine's own came to.
+-- The pages that the guest's instruction touches, by the outcome of the machine's own.
 use Rattle.std.proofs.Common.{◌≡◌, ℕ, ◌*◌, ◌%◌, ◌^◌, ◌<◌, inl, inr, Bool, true, not, List, [], ◌∷◌, map, Option, Some, None, is_some, Result, Ok, Err, refl, ap, ◌∙◌, sym, subst, arith}
 use Rattle.std.specs.Prelude.{slice_index}
 use Rattle.std.proofs.lemmas.Bool.{cond_both, false≢true}
@@ -199,7 +199,7 @@ module _ (opened : List ℕ) (m : Machine) (s : Shadowed) (g : GuestState) (k : 
         lacking = lacking;
       }
 
-  -- behind an instruction that retired
+  -- after an instruction that retired
   served_as : (vas : List ℕ) (x : Retired) (r : Result Meant Trouble) → machine_outcome ≡ r → by_try m (tried_by (machine_clear m) vas r) ≡ Ok x → IsServed m.memory s g
   served_as vas x (Ok a) is e =
       let done : outcome real script ≡ Ok a = sym real_outcome ∙ is in

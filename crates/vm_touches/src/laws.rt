@@ -5,7 +5,7 @@ pub fn misses_are_touched()
     ensures { MissesAreTouched }
 {}
 
-/// Behind an instruction that the machine retired every page that it touched is filled, and none lacked.
+/// After an instruction that the machine retired every page that it touched is filled, and none lacked.
 pub fn retired_pages_are_filled()
     ensures { RetiredPagesAreFilled }
 {}

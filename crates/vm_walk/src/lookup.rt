@@ -131,7 +131,7 @@ fn mapped_entry<H: Hardware>(machine: &H, g: &GuestState, page: u32) -> Lookup
     }
 }
 
-/// The look-up of a page of the guest, which is an address divided by 512: where its entry is, whatever that lets.
+/// The look-up of a page of the guest, which is an address divided by 512: where its entry is, whatever that allows.
 /// Places are physical in the guest's memory.
 #[tactic(auto, unfolding(vax_arch::specs::Walk::lookup), using(vm_state::proofs::Parts::part_length, vm_state::proofs::Parts::inside_by))]
 pub fn look_up<H: Hardware>(machine: &H, g: &GuestState, page: u32) -> Lookup

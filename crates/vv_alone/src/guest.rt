@@ -35,7 +35,7 @@ const NO_EFFECT: Effect = Effect {
     written: None,
 };
 
-/// The registers behind a reset.
+/// The registers after a reset.
 const RESET: Registers = Registers {
     r: [0; 14],
     sp: 0,
@@ -71,7 +71,7 @@ const NO_COUNTS: Counts = Counts {
 };
 
 impl Guest {
-    /// The guest behind its reset, with an image at 200.
+    /// The guest after its reset, with an image at 200.
     pub fn new(alloc: Global, image: &[u8]) -> Result<Guest, AllocError> {
         let memory = Memory::new(alloc, image)?;
         Ok(Guest {
@@ -152,7 +152,7 @@ impl Guest {
         self.waits = false;
     }
 
-    /// A packet is handed on; where eight are, its status is 2 at once.
+    /// A packet is queued; where eight are, its status is 2 at once.
     fn post(&mut self, packet: u32) {
         if !self.queue.push(packet) {
             self.store(packet.wrapping_add(20), 2);
@@ -182,7 +182,7 @@ impl Guest {
         }
     }
 
-    /// What an instruction does behind its accesses.
+    /// What an instruction does after its accesses.
     fn complete(&mut self) {
         if let Some((at, v)) = self.effect.store {
             self.store(at, v);
@@ -200,7 +200,7 @@ impl Guest {
     }
 
     /// The instruction at PC: it sets the first modify bit that is clear, or it completes. The term of a plain one is its place,
-    /// its opcode, and the registers but PC behind it.
+    /// its opcode, and the registers but PC after it.
     fn execute(&mut self) -> usize {
         let before = self.registers;
         self.effect = NO_EFFECT;

@@ -48,14 +48,14 @@ impl Guest {
         (d ^ 0x8000).wrapping_sub(0x8000)
     }
 
-    /// The address in a register, which is four more behind it.
+    /// The address in a register, which is four more after it.
     fn increment(&mut self, k: u8) -> u32 {
         let at = self.registers.get(k);
         self.registers.set(k, at.wrapping_add(4));
         at
     }
 
-    /// An operand in memory: of a register, behind PC, or by a displacement.
+    /// An operand in memory: of a register, after PC, or by a displacement.
     fn memory_operand(&mut self, specifier: u8) -> Operand {
         let k = specifier % 16;
         match specifier / 16 {

@@ -98,7 +98,7 @@ impl Clock {
     }
 }
 
-/// The packets that are handed on in a round, of which there are at most eight.
+/// The packets that are queued in a round, of which there are at most eight.
 #[derive(Clone, Copy)]
 pub struct Queue {
     pub packets: [u32; 8],
@@ -117,7 +117,7 @@ impl Queue {
     }
 }
 
-/// What an instruction does behind its accesses: it sets the first modify bit that is clear; or it stores a longword and writes a
+/// What an instruction does after its accesses: it sets the first modify bit that is clear; or it stores a longword and writes a
 /// register of the processor.
 #[derive(Clone, Copy)]
 pub struct Effect {
@@ -137,7 +137,7 @@ pub const MODIFY: usize = 4;
 
 pub const IDLE: usize = 5;
 
-/// How many steps there were of each kind, the sum over the plain ones, and whether the guest came to what its program hasn't.
+/// How many steps there were of each kind, the sum over the plain ones, and whether the guest met what its program hasn't.
 #[derive(Clone, Copy)]
 pub struct Counts {
     pub kinds: [u64; 7],

@@ -4,13 +4,13 @@ use crate::guest::Guest;
 use crate::parts::Counts;
 use std::alloc::{AllocError, Global};
 
-/// What the guests come to together: their counts, and their first touches.
+/// The sums of all guests: their counts, and their first touches.
 #[derive(Clone, Copy)]
 pub struct Sums {
     pub kinds: [u64; 7],
     pub trail: u64,
     pub touches: u64,
-    /// Whether each guest came only to what its program has.
+    /// Whether each guest met only what its program has.
     pub are_known: bool,
 }
 

@@ -19,7 +19,7 @@ pub enum Relation {
     Begins,
 }
 
-/// What a subject holds behind a call.
+/// What a subject holds after a call.
 pub fn held(told: &Told, subject: Subject) -> &[u8] {
     match subject {
         Subject::Line(number) => told.line(number),
@@ -51,7 +51,7 @@ pub fn answers(told: &Told, answer: &str) -> bool {
     }
 }
 
-/// The subject that words begin with, and the words behind it.
+/// The subject that words begin with, and the words after it.
 pub fn subject_in(line: &str) -> Option<(Subject, &str)> {
     if let Some(rest) = line.strip_prefix("out ") {
         return Some((Subject::Out, rest));
@@ -105,7 +105,7 @@ pub fn is_front(held: &[u8], length: usize, whole: &[u8]) -> bool {
     whole.get(..length) == Some(held)
 }
 
-/// Whether the first so many bytes are those of others, and all behind them this byte.
+/// Whether the first so many bytes are those of others, and all after them this byte.
 pub fn is_mixed(held: &[u8], length: usize, byte: u8, whole: &[u8]) -> bool {
     let rest = held.get(length..).unwrap_or(&[]);
     held.len() >= length

@@ -15,7 +15,7 @@ pub struct Content {
     place: usize,
 }
 
-/// A line of content: its mark, and what stands behind the blank.
+/// A line of content: its mark, and what follows the blank.
 #[derive(Clone, Copy)]
 pub struct Marked<'t> {
     pub mark: char,
@@ -68,7 +68,7 @@ impl Content {
         }
     }
 
-    /// Puts a byte: over what stands there, or behind all.
+    /// Puts a byte: over what is there, or after all.
     fn put_byte(&mut self, byte: u8) -> Result<(), NoMemory> {
         if self.place < self.bytes.len() {
             self.bytes[self.place] = byte;

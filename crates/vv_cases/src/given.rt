@@ -32,7 +32,7 @@ pub struct Variant<'v> {
     pub bytes: &'v [u8],
 }
 
-/// Bytes in blocks; what is behind the last whole one is left.
+/// Bytes in blocks; what is after the last whole one is left.
 pub fn blocks_of(alloc: Global, bytes: &[u8]) -> Result<Vec<[u8; 512]>, NoMemory> {
     let mut blocks = Vec::new(alloc);
     for bytes in bytes.chunks_exact(512) {

@@ -1,5 +1,5 @@
-//! Worked cases of the program's call, told as data: each argument names a case file, which tells what calls are given and
-//! what they come to. A case that holds is told by its title, and a line that doesn't hold, or can't be read, by its number.
+//! Worked cases of the program's call, written as data: each argument names a case file, which tells what calls are given and
+//! their outcome. A case that holds is told by its title, and a line that doesn't hold, or can't be read, by its number.
 //!
 //! A case file is read line by line; an empty line, and one that begins with `;`, is passed over. A line that begins with a
 //! mark (`content.rt`) puts bytes for the statement above it; each other line is a statement (`play.rt`), of which some make
@@ -27,7 +27,7 @@ struct Block<'t> {
     lines: Vec<&'t str>,
 }
 
-/// What stands in front of the first case, and each case.
+/// What is in front of the first case, and each case.
 fn blocks_of(alloc: Global, text: &str) -> Result<Vec<Block<'_>>, NoMemory> {
     let mut blocks = Vec::new(alloc);
     let mut lines = Vec::new(alloc);

@@ -43,7 +43,7 @@ pub struct Play<'t> {
     alloc: Global,
     machine: Cpu,
     lets: Vec<(&'t str, Vec<u8>)>,
-    /// The runs that were kept, by their names, and behind them the last one, which has none unless it was kept.
+    /// The runs that were kept, by their names, and after them the last one, which has none unless it was kept.
     runs: Vec<(&'t str, Told)>,
     /// Whether a call was made in this case.
     is_called: bool,
@@ -60,7 +60,7 @@ pub struct Play<'t> {
     pub holds: bool,
 }
 
-/// What stands under a name; the last one where there are several.
+/// What is under a name; the last one where there are several.
 fn found<'v, T>(all: &'v [(&str, T)], name: &str) -> Option<&'v T> {
     all.iter().rev().find(|one| one.0 == name).map(|one| &one.1)
 }
@@ -93,7 +93,7 @@ fn said(holds: Option<bool>) -> Verdict {
     holds.map_or(Verdict::Unread, verdict_of)
 }
 
-/// A put that fails, and behind how many of its bytes.
+/// A put that fails, and after how many of its bytes.
 fn cut_in(text: &str) -> Option<Cut> {
     let (call, after) = text.split_once(' ')?;
     Some(Cut {

@@ -90,7 +90,7 @@ bars_second one two b ran stuck ran_two stuck_two more (c, after, is, e) =
     let short : 0 ≡ suc (length (more ++ after)) = ap (λ (p : Part). length p.rest) none in
     omega arith
 
--- a fault behind what begins a class text
+-- a fault after what begins a class text
 faulty : (bytes read rest : List ℕ) → bytes ≡ read ++ rest → BeginsText read → Bars read rest → IsLongestStart bytes (length bytes - length rest)
 faulty bytes read [] split start bars =
     let whole : bytes ≡ read = split ∙ append-nil read in
@@ -205,7 +205,7 @@ part_short bytes =
     let text : length (half_text half.0 half.1) ≡ length (written one.half) + length half.2 = ap length half.5 ∙ length-append (written one.half) half.2 in
     omega (arith, half_length half.0 half.1 half.3, size, text)
 
--- what the promises of reading come to
+-- what the promises of reading give
 pub reads_text : (bytes : List ℕ) (r : Result AccessClass ClassFault) → r ≡ class_of bytes → IfOk r (λ c. IsClass c × (bytes ≡ class_text c))
 reads_text bytes (Ok c) is = subst (Tells bytes) (sym is) (reading_tells bytes)
 reads_text bytes (Err fault) is = tt

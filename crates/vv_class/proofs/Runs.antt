@@ -41,7 +41,7 @@ if_false false x y h = refl
 pub digit_is : (d : ℕ) → d < 10 → is_digit (48 + d) ≡ true
 digit_is d below = and_from _ _ (le-leb 48 (48 + d) (omega arith)) (le-leb (48 + d) 57 (omega arith))
 
--- states within a half: before its level, behind digits of the level, in the set, behind digits of a category
+-- states within a half: before its level, after digits of the level, in the set, after digits of a category
 abbrev pub at_level : Half
 at_level = record { next = Level; number = 0; least = 0; level = 0; cats = 0 }
 
@@ -181,7 +181,7 @@ whole_set (k ∷ ks) level rising =
           ∙ next.1 ∙ ap (λ n. Some (closed (in_set Category level next.0 n))) all,
     )
 
--- the state behind a half
+-- the state after a half
 abbrev pub end_of : ℕ → ℕ → ℕ → Half
 end_of level last cats = record { next = End; number = 0; least = last; level = level; cats = cats }
 

@@ -126,7 +126,7 @@ with_one cats least k below at to =
         let sum : cats + 2 ^ k ≡ 1 * 2 ^ k + cats = omega arith in
         ap (λ x. x / 2 ^ k % 2) sum ∙ ap (λ x. x % 2) (div-mul-add 1 (2 ^ k) cats low)
 
--- what stands in front of a further category: those before, and a comma
+-- what is in front of a further category: those before, and a comma
 abbrev pub lead : List ℕ → List ℕ
 lead [] = []
 lead (k ∷ ks) = listed (k ∷ ks) ++ codes ","
@@ -142,7 +142,7 @@ pub lead-push : (ks : List ℕ) (k : ℕ) → lead (ks ++ k ∷ []) ≡ lead ks 
 lead-push [] k = refl
 lead-push (a ∷ ks) k = ap (λ (xs : List ℕ). xs ++ codes ",") (listed-push (a ∷ ks) k) ∙ append_assoc (lead (a ∷ ks)) (decimal k) (codes ",")
 
--- categories behind the first
+-- categories after the first
 abbrev pub tail_text : List ℕ → List ℕ
 tail_text [] = []
 tail_text (k ∷ ks) = 44 ∷ (decimal k ++ tail_text ks)

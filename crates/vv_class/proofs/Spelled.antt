@@ -58,7 +58,7 @@ FitsAt End s = (s.level < 256) × (s.cats < 2 ^ 64)
 abbrev pub Fits : Half → Type 0
 Fits s = FitsAt s.next s
 
--- a byte is refused, or leads to a state that has it behind what was read
+-- a byte is refused, or leads to a state that has it after what was read
 abbrev pub Good : List ℕ → ℕ → Option Half → Type 0
 Good before b None = Unit {0}
 Good before b (Some n) = Fits n × (written n ≡ before ++ b ∷ [])

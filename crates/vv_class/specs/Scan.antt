@@ -31,7 +31,7 @@ with_category s n = if may_be_category s.least n then Some (record s { next = Mo
 abbrev pub kept : Half → Half
 kept s = record s { next = Category; least = s.number + 1; cats = s.cats + 2 ^ s.number; number = 0 }
 
--- the brace behind a set
+-- the brace after a set
 abbrev pub closed : Half → Half
 closed s = record s { next = End }
 
@@ -74,19 +74,19 @@ part_of s (b ∷ bytes) = elim (step_of s b) [ None ↦ record { half = s; rest 
 abbrev pub is_whole : Half → Bool
 is_whole s = elim s.next [ End ↦ true | _ ↦ false ]
 
--- the fault behind all but the rest
+-- the fault after all but the rest
 abbrev pub fault_before : List ℕ → List ℕ → Result AccessClass ClassFault
 fault_before bytes rest = Err (record { place = length bytes - length rest })
 
 abbrev pub class_in : Half → Half → AccessClass
 class_in one two = record { secrecy = one.level; secrecy_cats = one.cats; integrity = two.level; integrity_cats = two.cats }
 
--- behind the second half nothing stands
+-- after the second half comes nothing
 abbrev pub at_the_end : List ℕ → Half → Half → List ℕ → Result AccessClass ClassFault
 at_the_end bytes one two [] = if is_whole two then Ok (class_in one two) else fault_before bytes []
 at_the_end bytes one two (b ∷ rest) = fault_before bytes (b ∷ rest)
 
--- behind the first half stand a semicolon (59) and the second
+-- after the first half come a semicolon (59) and the second
 abbrev pub second_of : List ℕ → Half → List ℕ → Result AccessClass ClassFault
 second_of bytes one [] = fault_before bytes []
 second_of bytes one (b ∷ rest) =

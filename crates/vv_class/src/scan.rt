@@ -10,7 +10,7 @@ pub enum Next {
     MoreLevel,
     /// The first digit of the first category, or a closing brace.
     FirstCategory,
-    /// The first digit of a category, behind a comma.
+    /// The first digit of a category, after a comma.
     Category,
     /// A further digit of the category, a comma, or a closing brace.
     MoreCategory,

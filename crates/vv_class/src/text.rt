@@ -39,7 +39,7 @@ fn scan_text(b: &[u8]) -> Result<AccessClass, ClassFault>
     }
 }
 
-/// The class, from its first half and the bytes behind the semicolon.
+/// The class, from its first half and the bytes after the semicolon.
 fn scan_second(b: &[u8], secrecy: &Half, second: &[u8]) -> Result<AccessClass, ClassFault>
     requires within { length second.now ≤ length b.now }
     requires short { length b.now ≤ length second.now + 198 }
@@ -57,7 +57,7 @@ fn scan_second(b: &[u8], secrecy: &Half, second: &[u8]) -> Result<AccessClass, C
     Err(fault_before(b, rest))
 }
 
-/// The fault behind all but the last bytes.
+/// The fault after all but the last bytes.
 fn fault_before(b: &[u8], rest: &[u8]) -> ClassFault
     requires within { length rest.now ≤ length b.now }
     requires short { length b.now ≤ length rest.now + 395 }

@@ -256,7 +256,7 @@ pub record PlaysLive (a : LiveAsked) (status : Status) (o : Outside) (p : Operat
 abbrev pub FollowsLive : LiveAsked → Status → Outside → Operator → Type 0
 FollowsLive a status o p = (Stops (StopsLive o.files a o.shelf o.shelf') status × Silent o × Untyped p) ⊎ PlaysLive a status o p
 
--- `check`, `migrate`, `flow` and `draw`: the configuration was fetched, and bytes that stand so to it are put
+-- `check`, `migrate`, `flow` and `draw`: the configuration was fetched, and bytes in this relation to it are put
 pub record ShowsConfig (Bytes : Config → List ℕ → Type 0) (name : List ℕ) (status : Status) (o : ShelfAndSink) : Type 0 where
   pub config : Config
   pub bytes : List ℕ

@@ -4,11 +4,11 @@ use Rattle.vv_base.specs.Digits.{hex_text}
 use Rattle.vm_state.specs.Run.{Tally}
 use Rattle.sys_objects.specs.declared.records.Config.{Config}
 
--- a word and a number behind a text
+-- a word and a number after a text
 unfoldable pub field : List ℕ → List ℕ → ℕ → List ℕ
 field text word number = text ++ word ++ decimal number
 
--- the trail behind a text in 16 digits of base 16, and the end of the line
+-- the trail after a text in 16 digits of base 16, and the end of the line
 unfoldable pub trailer : List ℕ → ℕ → List ℕ
 trailer text trail = text ++ codes " trail " ++ hex_text 16 trail ++ 10 ∷ []
 

@@ -9,7 +9,7 @@ use vv_base::{Text, decimal, hex};
 /// A line that is shown.
 pub type Line = Text<512>;
 
-/// Bytes behind a text that has room for them.
+/// Bytes after a text that has room for them.
 fn append(text: &mut Line, bytes: &[u8])
     requires { length text.old + length bytes.now ≤ 512 }
     ensures { text.new ≡ text.old ++ bytes.now }
@@ -17,7 +17,7 @@ fn append(text: &mut Line, bytes: &[u8])
     let _ = text.push_all(bytes);
 }
 
-/// A word and a number behind a text.
+/// A word and a number after a text.
 #[tactic(auto, unfolding(crate::specs::Summary::field))]
 fn add(text: &mut Line, word: &[u8], number: u64)
     requires { length text.old + length word.now + 20 ≤ 512 }
@@ -28,7 +28,7 @@ fn add(text: &mut Line, word: &[u8], number: u64)
     append(text, decimal(number).bytes());
 }
 
-/// The trail behind a text, and the end of the line.
+/// The trail after a text, and the end of the line.
 #[tactic(auto, unfolding(crate::specs::Summary::trailer))]
 fn end(text: &mut Line, trail: u64)
     requires { length text.old + 40 ≤ 512 }

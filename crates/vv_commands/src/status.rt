@@ -15,7 +15,7 @@ use vv_base::{FileName, NoMemory, Text, decimal};
 pub enum Status {
     /// All was done and shown.
     Done,
-    /// The words are of no form that there is.
+    /// The words are of no form that exists.
     Words,
     /// The shelf lacks a file.
     Missing(FileName),
@@ -61,7 +61,7 @@ impl From<NoMemory> for Status {
     }
 }
 
-/// Bytes behind a text that has room for them.
+/// Bytes after a text that has room for them.
 fn append(text: &mut Text<96>, bytes: &[u8])
     requires { length text.old + length bytes.now ≤ 96 }
     ensures { text.new ≡ text.old ++ bytes.now }

@@ -121,7 +121,7 @@ fn live_order(config: &[u8], rounds: &[u8]) -> Option<LiveOrder>
     Some(LiveOrder { config, rounds })
 }
 
-/// What a command with two words behind it asks for, if the words are of a form.
+/// What a command with two words after it asks for, if the words are of a form.
 #[tactic(auto, unfolding(crate::specs::Words::two_wanted))]
 fn two_request(command: &[u8], first: &[u8], second: &[u8]) -> Option<Request>
     ensures range { IfSome result (λ r. IsInRange r) }
@@ -172,7 +172,7 @@ fn resume_order(snap: &[u8], script: &[u8], rounds: &[u8]) -> Option<ResumeOrder
     })
 }
 
-/// What a command with three words behind it asks for, if the words are of a form.
+/// What a command with three words after it asks for, if the words are of a form.
 #[tactic(auto, unfolding(crate::specs::Words::three_wanted))]
 fn three_request(command: &[u8], first: &[u8], script: &[u8], rounds: &[u8]) -> Option<Request>
     ensures range { IfSome result (λ r. IsInRange r) }
@@ -212,7 +212,7 @@ fn file_request(command: &[u8], file: &[u8]) -> Option<Request>
     }
 }
 
-/// What a command with one word behind it asks for, if the words are of a form.
+/// What a command with one word after it asks for, if the words are of a form.
 fn word_request(command: &[u8], word: &[u8]) -> Option<Request>
     ensures range { IfSome result (λ r. IsInRange r) }
     ensures wanted { option_map (λ r. wanted_by r) result ≡ word_wanted command.now word.now }

@@ -30,7 +30,7 @@ one_more : {V : Type 0} (none : V) (faults : V → ℕ) (n : ℕ) (start now : L
 one_more none faults n start now None all = all
 one_more none faults n start now (Some k) (low, rose, before) = (omega (arith, low), rose, before)
 
--- the one behind them is what it was
+-- the one after them is what it was
 same_next : {V : Type 0} (none : V) (faults : V → ℕ) (IsStill : V → V → Type 0) (n : ℕ) (start now after : List V) (failed : Option ℕ) → after ≡ now → AreSynced none faults IsStill n start now failed → AreSynced none faults IsStill (n + 1) start after failed
 same_next none faults IsStill n start now after failed same before =
     subst (λ l. AreSynced none faults IsStill (n + 1) start l failed) (sym same) (record { rest = λ j high. before.rest j (omega (arith, high)); still = before.still; first = one_more none faults n start now failed before.first })

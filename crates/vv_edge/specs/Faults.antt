@@ -4,7 +4,7 @@ use Rattle.std.specs.declared.io.ErrorKind.TheVariants.{NotFound, OutOfMemory}
 use Rattle.vv_io.specs.declared.shelf.ShelfFault.{ShelfFault}
 use Rattle.vv_io.specs.declared.shelf.ShelfFault.TheVariants.{Missing, Failed, NoMemory}
 
--- only a name under which nothing stands is missing
+-- only a name that no file has is missing
 abbrev pub shelf_fault : ErrorKind → ShelfFault
 shelf_fault NotFound = Missing
 shelf_fault OutOfMemory = NoMemory

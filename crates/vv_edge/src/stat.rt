@@ -2,7 +2,7 @@ ghost use Rattle.std.specs.Prelude.{◌≡◌, ◌^◌, ◌/◌, ◌-◌, min, I
 ghost use Rattle.std.specs.List.{list_any};
 ghost use Rattle.vv_edge.specs.Found.{flaw_of, is_among, is_removable, is_same};
 
-/// What stands under a name.
+/// What is under a name.
 #[derive(Clone, Copy, Debug, PartialEq, Eq)]
 pub enum Kind {
     /// A file.
@@ -34,7 +34,7 @@ pub struct Found {
 /// Why a file can't be a drive.
 #[derive(Clone, Copy, Debug, PartialEq, Eq)]
 pub enum Flaw {
-    /// The system doesn't tell what stands under its name.
+    /// The system doesn't tell what is under its name.
     Untold,
     /// It is a symbolic link.
     Link,
@@ -60,14 +60,14 @@ fn is_among(identity: &Identity, taken: &[Identity]) -> bool
     taken.iter().any(|other| is_same(identity, other))
 }
 
-/// Whether what stands under a line's name may be removed: a file that is no link, has one name, and isn't taken.
+/// Whether what is under a line's name may be removed: a file that is no link, has one name, and isn't taken.
 pub fn is_removable(found: &Found, taken: &[Identity]) -> bool
     ensures { result ≡ is_removable found.now taken.now }
 {
     matches!(found.kind, Kind::File) && found.names == 1 && !is_among(&found.identity, taken)
 }
 
-/// Why what stands under a drive's name can't be a drive, beside the files that are taken.
+/// Why what is under a drive's name can't be a drive, beside the files that are taken.
 pub fn flaw_of(found: &Found, taken: &[Identity]) -> Option<Flaw>
     ensures { result ≡ flaw_of found.now taken.now }
 {

@@ -21,7 +21,7 @@ fn append<const N: usize>(text: &mut Text<N>, bytes: &[u8])
     let _ = text.push_all(bytes);
 }
 
-/// What a flaw is called behind a drive's number.
+/// What a flaw is called after a drive's number.
 fn flaw_text(flaw: Flaw) -> &'static [u8]
     ensures is { result.now ≡ flaw_text flaw }
     ensures short { length result.now ≤ 64 }

@@ -43,7 +43,7 @@ pub first_draw : (x : ℕ) → next x / 65536 ≡ draw x 0
 unfolding draw behind
 first_draw x = refl
 
--- a state s that is behind k draws of x: its next draw, and the state behind that
+-- a state s that is after k draws of x: its next draw, and the state after that
 pub next_draw : (x k s d : ℕ) → s ≡ behind x k → d ≡ draw s 0 → d ≡ draw x k
 next_draw x k s d at drawn =
     let f : ℕ → ℕ = λ s. draw s 0 in
@@ -53,7 +53,7 @@ next_draw x k s d at drawn =
 pub next_state : (x k s t : ℕ) → s ≡ behind x k → t ≡ next s → t ≡ behind x (k + 1)
 next_state x k s t at goes = goes ∙ ap next at ∙ behind_more x k
 
--- its draws, and the state behind n of them
+-- its draws, and the state after n of them
 pub next_draws : (x k s : ℕ) → s ≡ behind x k → draw s ≡ draws_behind k x
 next_draws x k s at = ap draw at ∙ draws_from x k
 

@@ -1,4 +1,4 @@
--- The parts of a workload, each drawn behind the one before, make up the whole.
+-- The parts of a workload, each drawn after the one before, make up the whole.
 use Rattle.std.proofs.Common.{◌≡◌, ℕ, List, ◌∷◌, ◌+◌, ◌*◌, ◌%◌, map, replicate, ap, ◌∙◌, refl, sym, subst}
 use Rattle.std.specs.List.{range_with_len}
 use Rattle.sys_store.specs.Blocks.{zero_volume}

@@ -34,7 +34,7 @@ pushed {X} f n before after x made push same =
     let with : X → List X = λ y. map f (range_with_len 0 n) ++ y ∷ [] in
     push ∙ ap on made ∙ ap with same ∙ one_more f n
 
--- the same behind a first element
+-- the same after a first element
 pub pushed_behind : {X : Type 0} (first : X) (f : ℕ → X) (n : ℕ) (before after : List X) (x : X) → before ≡ first ∷ map f (range_with_len 0 n) → after ≡ before ++ x ∷ [] → x ≡ f n
     → after ≡ first ∷ map f (range_with_len 0 (n + 1))
 pushed_behind {X} first f n before after x made push same =

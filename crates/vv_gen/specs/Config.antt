@@ -12,7 +12,7 @@ use Rattle.sys_objects.specs.declared.records.VolumeRow.{VolumeRow}
 unfoldable pub all_guests : List ℕ
 all_guests = range_with_len 0 8
 
--- a name with a digit behind it
+-- a name with a digit after it
 abbrev pub numbered : List ℕ → ℕ → List ℕ
 numbered name digit = name ++ (48 + digit) ∷ []
 

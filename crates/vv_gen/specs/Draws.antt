@@ -2,19 +2,19 @@
 -- 16 bits.
 use Rattle.std.specs.Prelude.{ℕ, zero, suc, ◌+◌, ◌*◌, ◌/◌, ◌%◌, ◌^◌}
 
--- the state behind a draw
+-- the state after a draw
 abbrev pub next : ℕ → ℕ
 next x = (x * 1664525 + 1013904223) % 2 ^ 32
 
--- the state behind so many draws, which begins with x
+-- the state after so many draws, which begins with x
 unfoldable pub behind : ℕ → ℕ → ℕ
 behind x zero = x
 behind x (suc k) = next (behind x k)
 
--- the draw behind k others
+-- the draw after k others
 unfoldable pub draw : ℕ → ℕ → ℕ
 draw x k = behind x (k + 1) / 2 ^ 16
 
--- the draws behind so many others
+-- the draws after so many others
 abbrev pub draws_behind : ℕ → ℕ → ℕ → ℕ
 draws_behind others x k = draw x (others + k)

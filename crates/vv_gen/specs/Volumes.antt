@@ -1,4 +1,4 @@
--- What stands on the volumes.
+-- What is on the volumes.
 use Rattle.std.specs.List.{range_with_len}
 use Rattle.std.specs.Prelude.{ℕ, ◌+◌, ◌*◌, ◌%◌, List, ◌∷◌, map, replicate}
 use Rattle.sys_store.specs.Blocks.{zero_volume}

@@ -13,7 +13,7 @@ pub const GUESTS: u8 = 8;
 /// The blocks of each volume.
 pub const BLOCKS: u32 = 8;
 
-/// A name with a digit behind it.
+/// A name with a digit after it.
 pub fn numbered<const N: usize>(name: &[u8], digit: u8) -> Text<N>
     requires fits { length name.now + 1 ≤ N }
     requires digit { digit ≤ 9 }
@@ -126,7 +126,7 @@ fn terminals(alloc: Global) -> Result<Vec<Terminal>, NoMemory>
     Ok(rows)
 }
 
-/// The volume of all guests, and behind it one of each guest.
+/// The volume of all guests, and after it one of each guest.
 #[tactic(auto, using(crate::proofs::Ranges::eight_guests))]
 fn volumes(alloc: Global) -> Result<Vec<VolumeRow>, NoMemory>
     ensures { IfOk result (λ v. v.items ≡ shared_volume ∷ map volume_of all_guests) }

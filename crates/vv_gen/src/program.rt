@@ -1,4 +1,4 @@
-/// Where the lower half of the clock's next interval stands in an image: 65,536 less the period, the lower byte first.
+/// Where the lower half of the clock's next interval is in an image: 65,536 less the period, the lower byte first.
 pub const PERIOD_AT: usize = 0x7B;
 
 /// A guest's program without its period, to be loaded and started at 200 hex with mapping off. It builds system and P0

@@ -62,7 +62,7 @@ fn zero_blocks(alloc: Global) -> Result<Vec<[u8; 512]>, NoMemory>
     Ok(blocks)
 }
 
-/// The volume whose bytes are drawn, and behind it one of zeros for each guest.
+/// The volume whose bytes are drawn, and after it one of zeros for each guest.
 pub fn drawn_volumes(alloc: Global, draws: &mut Draws) -> Result<Vec<Vec<[u8; 512]>>, NoMemory>
     ensures volumes { IfOk result (λ v. map (λ blocks. blocks.items) v.items ≡ volumes_of (draw draws.old.state)) }
     ensures goes { OnOk result (draws.new.state ≡ behind draws.old.state 4096) }

@@ -108,7 +108,7 @@ static CASES: [Case; 3] = [
     },
 ];
 
-/// The period of a guest, by the longword behind the program's first MTPR to the clock's next interval.
+/// The period of a guest, by the longword after the program's first MTPR to the clock's next interval.
 fn period_in(image: &[u8]) -> Option<u32> {
     match (image.get(0x7B), image.get(0x7C)) {
         (Some(low), Some(high)) => Some(65_536 - (u32::from(*low) + 256 * u32::from(*high))),

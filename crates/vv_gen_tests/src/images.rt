@@ -19,7 +19,7 @@ fn the_images_come_back_from_their_texts(rt: HostRuntime) -> Result<(), Fail> {
     Ok(())
 }
 
-/// Whether two images are one but for the period, which stands at 7B and 7C.
+/// Whether two images are one but for the period, which is at 7B and 7C.
 fn are_alike(one: &[u8], other: &[u8]) -> bool {
     one.len() == 304
         && other.len() == 304

@@ -12,7 +12,7 @@ pub record Kept : Type 0 where
   pub blocks : Option (List (List ℕ))
   pub faults : ℕ
 
--- a drive that isn't there
+-- a drive that doesn't exist
 abbrev pub unkept : Kept
 unkept = record { size = 0; blocks = None; faults = 0 }
 

@@ -11,11 +11,11 @@ pub record Seen : Type 0 where
   pub shown : Option (List ℕ)
   pub faults : ℕ
 
--- a line that isn't there
+-- a line that doesn't exist
 abbrev pub unseen : Seen
 unseen = record { shown = None; faults = 0 }
 
--- these bytes behind what was shown; where nothing is told, nothing is told afterwards
+-- these bytes after what was shown; where nothing is told, nothing is told afterwards
 abbrev pub shown_after : Option (List ℕ) → List ℕ → Option (List ℕ)
 shown_after None bytes = None
 shown_after (Some shown) bytes = Some (shown ++ bytes)

@@ -18,7 +18,7 @@ pub fn is_named(failing: &[u32], call: u64) -> bool
     failing.iter().any(|number| u64::from(*number) == call)
 }
 
-/// What stands from a place on, in as many bytes as there are, at most 512.
+/// What is there from a place on, in as many bytes as there are, at most 512.
 pub fn copy_from(shown: &[u8], place: u64, into: &mut [u8; 512]) -> usize
     ensures { ReadsBack (Some shown.now) place into.new result }
 {

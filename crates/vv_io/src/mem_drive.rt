@@ -28,7 +28,7 @@ impl Model for MemDrive {
 
 impl MemDrive {
     /// A drive of these blocks, of which there are fewer than 4,294,967,296. A call whose number, from 1,
-    /// stands in `failing` fails.
+    /// is in `failing` fails.
     pub fn new(list: Vec<[u8; 512]>, failing: Vec<u32>) -> MemDrive
         requires { vec_len list < 2 ^ 32 }
         ensures { result ≡ record { blocks = list.items; failing = failing.items; calls = 0; faults = 0 } }

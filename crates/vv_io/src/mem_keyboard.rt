@@ -31,7 +31,7 @@ impl Model for MemKeyboard {
 impl MemKeyboard {
     ghost use Rattle.std.specs.Prelude.{map};
 
-    /// A keyboard at which these lines are typed. A call whose number, from 1, stands in `failing` fails.
+    /// A keyboard at which these lines are typed. A call whose number, from 1, is in `failing` fails.
     pub fn new(lines: Vec<Vec<u8>>, failing: Vec<u32>) -> MemKeyboard
         ensures { result ≡ record { coming = map (λ b. b.items) lines.items; failing = failing.items; calls = 0; faults = 0 } }
     {

@@ -1,4 +1,4 @@
--- Which answer must come to `audit`.
+-- Which answer must be given to `audit`.
 use Rattle.std.proofs.Common.{ℕ, ◌≡◌, inl, inr, List, Option, Some, None, Result, Ok, Err, refl, subst, sym, ◌∙◌}
 use Rattle.vv_io.specs.Causes.{Rose}
 use Rattle.vv_io.specs.Lines.{Seen}

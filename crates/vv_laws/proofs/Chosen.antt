@@ -1,4 +1,4 @@
--- Which answer must come to `run`.
+-- Which answer must be given to `run`.
 use Rattle.std.proofs.Common.{ℕ, ◌≡◌, inl, inr, List, Option, Some, None, All, refl, subst, sym, ap, ◌∙◌, arith}
 use Rattle.vv_io.specs.Blocks.{Kept}
 use Rattle.vv_io.specs.Causes.{Rose}

@@ -1,4 +1,4 @@
--- Which answer must come to `live`.
+-- Which answer must be given to `live`.
 use Rattle.std.proofs.Common.{ℕ, ◌≡◌, ◌<◌, inl, inr, List, take, Bool, true, false, Option, Some, None, All, Result, Ok, Err, refl, subst, sym, ap, ◌∙◌, arith}
 use Rattle.std.specs.List.{slice_get}
 use Rattle.vv_io.specs.Blocks.{Kept}

@@ -1,4 +1,4 @@
--- Which answer must come to `load`.
+-- Which answer must be given to `load`.
 use Rattle.std.proofs.Common.{ℕ, ◌≡◌, ◌<◌, inl, inr, List, Bool, true, false, Option, Some, None, refl, subst, sym, ap, ◌∙◌, arith}
 use Rattle.vv_io.specs.Lines.{Seen}
 use Rattle.sys_system.specs.Devices.{device_of}

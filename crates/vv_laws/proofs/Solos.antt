@@ -1,4 +1,4 @@
--- Which answer must come to `solo`.
+-- Which answer must be given to `solo`.
 use Rattle.std.proofs.Common.{ℕ, ◌≡◌, ◌≤◌, ◌<◌, ◌+◌, inl, inr, List, [], ◌∷◌, length, slice_get, Bool, All, Option, Some, None, refl, subst, sym, ap, ◌∙◌, arith}
 use Rattle.std.proofs.lemmas.Bool.{le-ltb, lt-ltb}
 use Rattle.vv_io.specs.Blocks.{Kept}

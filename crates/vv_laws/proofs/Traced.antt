@@ -60,7 +60,7 @@ pub trace_is_solo : TraceIsSolo
 trace_is_solo a status o (inl (stops, silent)) = (o.out', refl, inl (stops, silent))
 trace_is_solo a status o (inr plays) = by_result a status o plays (trace_of a.steps (powered (solo_guest a) plays.image)) plays.result plays.runs plays.answers
 
--- so what must come to `solo` must come to `trace`
+-- so what must be given to `solo` must be given to `trace`
 pub completes_trace : CompletesImage FollowsTrace
 completes_trace a status o image files follows told read fits none =
     let (out, same, solo) = trace_is_solo a status o follows in

@@ -14,7 +14,7 @@ use Rattle.vv_commands.specs.Words.{Asked}
 abbrev pub solo_input : Asked → List ℕ → Input
 solo_input a image = record { config = solo_config a; images = image ∷ []; volumes = []; events = []; rounds = 1 }
 
--- the guest behind its steps, when the transfers are made that it asked for: there is no volume, and no printer
+-- the guest after its steps, when the transfers are made that it asked for: there is no volume, and no printer
 abbrev pub served_alone : Asked → Guest → Guest
 served_alone a g = (served (solo_config a) (solo_guest a) (solo_guest a).mounts (with_no_queue g) g.state.queue []).guest
 

@@ -1,4 +1,4 @@
--- What follows from the answers' causes: which answer must come. The shelf tells its files.
+-- What follows from the answers' causes: which answer must be given. The shelf tells its files.
 use Rattle.std.specs.Prelude.{ℕ, ◌≡◌, ◌≤◌, ◌<◌, ◌+◌, List, None, Some, Result, Ok, Err, length, All, slice_index_or}
 use Rattle.vv_io.specs.Causes.{Rose}
 use Rattle.vv_io.specs.Lines.{Seen, unseen}
@@ -121,7 +121,7 @@ abbrev pub CompletesRun : Type 0
 CompletesRun = (a : RunAsked) (status : Status) (o : Outside) (files : List File) (c : Config) (es : List Event) (images : List (List ℕ)) → FollowsRun a status o → o.files ≡ Some files → HasAll (Some files) a c es images
     → first_misfit c.guests images ≡ None → All (FitsDrive o.drives) c.volumes → NoneRose o → IsServed status
 
--- the first file that the shelf lacks is missing, and the first that is too long is told so, where the shelf did not fail
+-- the first file that the shelf lacks is told as missing, and the first too long one as too long, where the shelf did not fail
 abbrev pub TellsRunMissing : Type 0
 TellsRunMissing = (a : RunAsked) (status : Status) (o : Outside) (files : List File) (name : List ℕ) → FollowsRun a status o → o.files ≡ Some files → IsNext (Some files) a name → held files name ≡ None → (Rose o.shelf o.shelf' → ⊥) → IsMissing name status
 
@@ -165,7 +165,7 @@ CanCome OutFault = Unit {0}
 CanCome NoMemory = Unit {0}
 CanCome status = ⊥
 
--- no other answer comes
+-- no other answer is given
 abbrev pub LimitsLoad : Type 0
 LimitsLoad = (number : ℕ) (status : Status) (o : Outside) → FollowsLoad number status (run_of o) o.out o.out' → CanCome status
 
@@ -173,7 +173,7 @@ LimitsLoad = (number : ℕ) (status : Status) (o : Outside) → FollowsLoad numb
 abbrev pub TellsLoadLineFault : Type 0
 TellsLoadLineFault = (number : ℕ) (status : Status) (o : Outside) (k : ℕ) → FollowsLoad number status (run_of o) o.out o.out' → (line_at o.lines k).faults < (line_at o.lines' k).faults → NamesLine k status
 
--- `check`, `migrate`, `flow` and `draw`, which put bytes that stand so to a configuration: likewise
+-- `check`, `migrate`, `flow` and `draw`, which put bytes in this relation to a configuration: likewise
 abbrev pub CompletesConfig : (Config → List ℕ → Type 0) → Type 0
 CompletesConfig Bytes = (name : List ℕ) (status : Status) (o : Outside) (files : List File) (c : Config) → FollowsConfig Bytes name status (shelf_and_sink o) → o.files ≡ Some files → HasConfig (Some files) name c → NoneRose o → IsServed status
 

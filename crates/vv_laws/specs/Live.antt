@@ -1,4 +1,5 @@
--- What follows from the answers' causes of `live`: which answer must come, and what typing reaches. The shelf tells its files.
+-- What follows from the answers' causes of `live`: which answer must be given, and what typing reaches. The shelf tells its
+-- files.
 use Rattle.std.specs.Prelude.{ℕ, ◌≡◌, ◌≢◌, ◌<◌, ◌≤◌, List, [], ◌∷◌, ◌++◌, None, Some, All, false, true}
 use Rattle.vv_io.specs.Causes.{Rose}
 use Rattle.vv_io.specs.Shelf.{File, held}
@@ -34,7 +35,7 @@ abbrev pub CompletesLive : Type 0
 CompletesLive = (a : LiveAsked) (status : Status) (o : Outside) (p : Operator) (files : List File) (c : Config) (images : List (List ℕ)) → FollowsLive a status o p → o.files ≡ Some files → HasAllToLive (Some files) a c images
     → first_misfit c.guests images ≡ None → All (FitsDrive o.drives) c.volumes → NoneRose o → (Rose p.keys.faults p.keys'.faults → ⊥) → IsLived status
 
--- the first file that the shelf lacks is missing, and the first that is too long is told so, where the shelf did not fail
+-- the first file that the shelf lacks is told as missing, and the first too long one as too long, where the shelf did not fail
 abbrev pub TellsLiveMissing : Type 0
 TellsLiveMissing = (a : LiveAsked) (status : Status) (o : Outside) (p : Operator) (files : List File) (name : List ℕ) → FollowsLive a status o p → o.files ≡ Some files → IsNextToLive (Some files) a name → held files name ≡ None → (Rose o.shelf o.shelf' → ⊥) → IsMissing name status
 
@@ -66,7 +67,7 @@ TellsLiveDriveFault = (a : LiveAsked) (status : Status) (o : Outside) (p : Opera
 abbrev pub input_typed : Config → List (List ℕ) → List (List (List ℕ)) → List (List ℕ) → Input
 input_typed c images volumes typed = record { config = c; images = images; volumes = volumes; events = events_typed 1 typed; rounds = rounds_typed false typed }
 
--- Two typings differ only at terminals that aren't there or whose class doesn't flow into another, and make as many rounds.
+-- Two typings differ only at terminals that don't exist or whose class doesn't flow into another, and make as many rounds.
 pub record AreAlikeTo (c : Config) (to : AccessClass) (typed typed' : List (List ℕ)) : Type 0 where
   pub events : purge_events c (events_typed 1 typed) to ≡ purge_events c (events_typed 1 typed') to
   pub rounds : rounds_typed false typed ≡ rounds_typed false typed'
@@ -80,7 +81,7 @@ abbrev pub TypingKeepsDrives : Type 0
 TypingKeepsDrives = (c : Config) (images : List (List ℕ)) (volumes : List (List (List ℕ))) (typed typed' : List (List ℕ)) (to : AccessClass) → IsConfig c → AreAlikeTo c to typed typed'
     → All (λ v. does_flow v.class to ≡ true → drive_blocks (input_typed c images volumes typed) v.drive ≡ drive_blocks (input_typed c images volumes typed') v.drive) c.volumes
 
--- A line more of which, alone, nothing is kept: it says no event, or one at a terminal that isn't there or whose class doesn't flow
--- into that. Where an empty line ends its round, the typing is alike to the one without it.
+-- A line more of which, alone, nothing is kept: it says no event, or one at a terminal that doesn't exist or whose class doesn't
+-- flow into that. Where an empty line ends its round, the typing is alike to the one without it.
 abbrev pub ALineMoreIsAlike : Type 0
 ALineMoreIsAlike = (c : Config) (to : AccessClass) (before after : List (List ℕ)) (line : List ℕ) → line ≢ [] → purge_events c (events_typed 1 (line ∷ [])) to ≡ [] → 1 ≤ rounds_ended after → AreAlikeTo c to (before ++ line ∷ after) (before ++ after)

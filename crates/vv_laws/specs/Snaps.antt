@@ -1,4 +1,4 @@
--- What follows from the answers' causes of `save` and `resume`: which answer must come. The shelf tells its files.
+-- What follows from the answers' causes of `save` and `resume`: which answer must be given. The shelf tells its files.
 use Rattle.std.specs.Prelude.{ℕ, ◌≡◌, ◌<◌, List, None, Some, All}
 use Rattle.vv_io.specs.Causes.{Rose}
 use Rattle.vv_io.specs.Shelf.{File, held}
@@ -35,7 +35,7 @@ abbrev pub CompletesSave : Type 0
 CompletesSave = (a : RunAsked) (status : Status) (o : Outside) (files : List File) (text : List ℕ) (c : Config) (es : List Event) (images : List (List ℕ)) → FollowsSave a status o → o.files ≡ Some files → HasAllToSave (Some files) a text c es images
     → first_misfit c.guests images ≡ None → All (FitsDrive o.drives) c.volumes → NoneRose o → IsServed status
 
--- the first file that the shelf lacks is missing, and the first that is too long is told so, where the shelf did not fail
+-- the first file that the shelf lacks is told as missing, and the first too long one as too long, where the shelf did not fail
 abbrev pub TellsSaveMissing : Type 0
 TellsSaveMissing = (a : RunAsked) (status : Status) (o : Outside) (files : List File) (name : List ℕ) → FollowsSave a status o → o.files ≡ Some files → IsNextToSave (Some files) a name → held files name ≡ None → (Rose o.shelf o.shelf' → ⊥) → IsMissing name status
 
@@ -72,7 +72,7 @@ TellsSaveLineFault = (a : RunAsked) (status : Status) (o : Outside) (k : ℕ) �
 abbrev pub CompletesResume : Type 0
 CompletesResume = (a : ResumeAsked) (status : Status) (o : Outside) (files : List File) (m : Moment) (es : List Event) → FollowsResume a status o → o.files ≡ Some files → HasBoth (Some files) a m es → All (FitsDrive o.drives) m.config.volumes → NoneRose o → IsServed status
 
--- the first file that the shelf lacks is missing, and the first that is too long is told so, where the shelf did not fail
+-- the first file that the shelf lacks is told as missing, and the first too long one as too long, where the shelf did not fail
 abbrev pub TellsResumeMissing : Type 0
 TellsResumeMissing = (a : ResumeAsked) (status : Status) (o : Outside) (files : List File) (name : List ℕ) → FollowsResume a status o → o.files ≡ Some files → IsNextToResume (Some files) a name → held files name ≡ None → (Rose o.shelf o.shelf' → ⊥) → IsMissing name status
 

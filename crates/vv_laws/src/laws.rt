@@ -32,7 +32,7 @@ pub fn an_image_that_does_not_fit_is_told()
     ensures trace { TellsImageMisfit FollowsTrace }
 {}
 
-/// Where a line's count is greater behind `solo` or `trace`, the answer names it or one of a lower number.
+/// Where a line's count is greater after `solo` or `trace`, the answer names it or one of a lower number.
 pub fn a_failed_line_is_told()
     ensures solo { TellsImageLineFault FollowsSolo }
     ensures trace { TellsImageLineFault FollowsTrace }
@@ -75,12 +75,12 @@ pub fn the_first_volume_of_another_size_is_told()
     ensures { TellsRunSize }
 {}
 
-/// Where a line's count is greater behind `run`, the answer names it or one of a lower number.
+/// Where a line's count is greater after `run`, the answer names it or one of a lower number.
 pub fn a_run_names_a_failed_line()
     ensures { TellsRunLineFault }
 {}
 
-/// Where a drive's count is greater behind `run`, the answer names a line, or it or a drive of a lower number.
+/// Where a drive's count is greater after `run`, the answer names a line, or it or a drive of a lower number.
 pub fn a_run_names_a_failed_drive()
     ensures { TellsRunDriveFault }
 {}
@@ -95,7 +95,7 @@ pub fn load_has_few_answers()
     ensures { LimitsLoad }
 {}
 
-/// Where a line's count is greater behind `load`, the answer names it or one of a lower number.
+/// Where a line's count is greater after `load`, the answer names it or one of a lower number.
 pub fn a_load_names_a_failed_line()
     ensures { TellsLoadLineFault }
 {}

@@ -1,4 +1,4 @@
-//! Laws of the program's answers: which answer must come, and what the lines of one guest get.
+//! Laws of the program's answers: which answer must be given, and what the lines of one guest get.
 #![tactic(auto)]
 
 mod laws;

@@ -1,7 +1,7 @@
 ghost use Rattle.vv_laws.specs.Snaps.{CompletesResume, CompletesSave, TellsResumeDriveFault, TellsResumeLine, TellsResumeLineFault, TellsResumeMissing, TellsResumeSize, TellsResumeTooLong, TellsSaveImage, TellsSaveLine, TellsSaveLineFault, TellsSaveMissing, TellsSaveRule, TellsSaveSize, TellsSaveTooLong, TellsSnap, TellsSnapSize};
 ghost use Rattle.vv_laws.specs.Together.{TwoMakeOne};
 
-/// `save`, and `resume` of what it showed with the same script, both answered by `Done`, are the run of all rounds of both: what
+/// `save`, and `resume` of what it showed with the same script, both answered by `Done`, are the run of all rounds of both. What
 /// each line gets in the first and then in the second is what the run gives it, and each volume's drive ends with its last
 /// blocks.
 pub fn save_and_resume_are_one_run()

@@ -1,4 +1,4 @@
--- What words alone ask for, and what it means that there are none to be had.
+-- What words alone ask for, and the answer where they can't be read.
 use Rattle.std.specs.Prelude.{ℕ, List, [], ◌∷◌, codes, if◌then◌else◌, Option, Some, None}
 use Rattle.std.specs.declared.io.ErrorKind.{ErrorKind}
 use Rattle.std.specs.declared.io.ErrorKind.TheVariants.{OutOfMemory}

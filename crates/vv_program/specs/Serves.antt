@@ -1,4 +1,4 @@
--- The call with the sync of its devices behind it.
+-- The call with the sync of its devices after it.
 use Rattle.std.specs.Prelude.{ℕ, ◌≡◌, List, min, Option, Some}
 use Rattle.vv_io.specs.Blocks.{Kept}
 use Rattle.vv_io.specs.Lines.{Seen}

@@ -51,7 +51,7 @@ pub fn text_asked(words: &[String]) -> Option<&'static str>
     }
 }
 
-/// The answer where the words can't be had: memory ran out, or one isn't UTF-8.
+/// The answer where the words can't be read: memory ran out, or one isn't UTF-8.
 pub fn words_status(kind: ErrorKind) -> Status
     ensures { result ≡ words_status kind }
 {

@@ -1,4 +1,4 @@
-//! What the program does about its call: texts that words alone ask for, the sync of devices behind the call, and how the
+//! What the program does about its call: texts that words alone ask for, the sync of devices after the call, and how the
 //! program ends.
 #![tactic(auto)]
 

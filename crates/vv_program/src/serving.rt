@@ -34,7 +34,7 @@ fn lower(a: Device, b: Device) -> Device
     }
 }
 
-/// The answer behind the sync, in which a device failed or none did.
+/// The answer after the sync, in which a device failed or none did.
 fn synced_status(answer: Status, failed: Option<Device>) -> Status
     ensures { result ≡ synced_status answer failed }
 {

@@ -1,5 +1,5 @@
 //! A stage for worked examples of the program's call: a shelf, lines, drives and a sink in memory, and what they hold
-//! behind the call.
+//! after the call.
 #![tactic(auto)]
 
 mod props;

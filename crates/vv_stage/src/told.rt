@@ -7,7 +7,7 @@ use vv_base::NoMemory;
 use vv_commands::{NoProgress, status_code, status_text, vvmm_run};
 use vv_io::{Drive, EmptyDrive, Line, MemDrive, MemLine};
 
-/// What a call answered, and what lines, drives and the sink hold behind it.
+/// What a call answered, and what lines, drives and the sink hold after it.
 #[derive(Drop)]
 pub struct Told {
     pub code: u8,
@@ -85,7 +85,7 @@ fn shown_on(alloc: Global, lines: &[Box<dyn Line>]) -> Result<Vec<Vec<u8>>, NoMe
     Ok(shown)
 }
 
-/// The blocks of a drive, one behind the other.
+/// The blocks of a drive, one after the other.
 fn content(alloc: Global, drive: &mut Box<dyn Drive>) -> Result<Vec<u8>, NoMemory> {
     let mut bytes = Vec::new(alloc);
     for block in 0..drive.blocks() {
@@ -107,7 +107,7 @@ fn held_on(alloc: Global, drives: &mut Vec<Box<dyn Drive>>) -> Result<Vec<Vec<u8
     Ok(all)
 }
 
-/// Calls the program with these words over objects in memory, and tells what they hold behind it. It fails where memory
+/// Calls the program with these words over objects in memory, and tells what they hold after it. It fails where memory
 /// runs out, and where the machine hasn't 32,768 pages.
 pub fn run_words<H: Hardware>(
     alloc: Global,

@@ -43,7 +43,7 @@ impl Streams {
 /// Why drives can't be used.
 type Flawed = [Option<FlawedDrive>; 16];
 
-/// The program's words, behind its own name.
+/// The program's words, after its own name.
 fn given_words(rt: &HostRuntime) -> Result<Vec<String>, ErrorKind> {
     let mut words = Vec::new(rt.alloc());
     let args = match env::args(rt) {
@@ -97,7 +97,7 @@ fn line_of(
     Ok(FileLine::cleared(rt.clone()?, path, taken))
 }
 
-/// The drive of a number, where the command has drives and something stands under its name. Its file is taken then, or flawed.
+/// The drive of a number, where the command has drives and something is under its name. Its file is taken then, or flawed.
 fn drive_of(
     rt: &HostRuntime,
     number: u8,

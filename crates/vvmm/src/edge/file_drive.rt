@@ -21,7 +21,7 @@ pub struct FileDrive<R: Files + Drop> {
 }
 
 impl<R: Files + Drop> FileDrive<R> {
-    /// What stands under a name, beside the files that are taken; None where nothing does.
+    /// What is under a name, beside the files that are taken; None where nothing does.
     pub fn look(files: R, path: String, taken: &[Identity]) -> Option<Self> {
         let found = match fs::symlink_metadata(&files, path.as_str()) {
             Ok(metadata) => judged(&found_of(&metadata), taken),
@@ -114,7 +114,7 @@ fn judged(found: &Found, taken: &[Identity]) -> Result<Found, Flaw> {
     }
 }
 
-/// How many blocks the file of a name has, behind all links; none where it is no file.
+/// How many blocks the file of a name has, with all links followed; none where it is no file.
 fn blocks_of(files: &impl Files, path: &str) -> u32 {
     match fs::metadata(files, path) {
         Ok(metadata) if metadata.is_file() => blocks_in(metadata.len()),

@@ -14,7 +14,7 @@ use vv_io::{Line, LineFault};
 pub struct FileLine<R: Files + Drop> {
     files: R,
     path: String,
-    /// Whether something stands under the name that isn't this line's and can't be removed.
+    /// Whether something is under the name that isn't this line's and can't be removed.
     is_blocked: bool,
     file: Option<R::File>,
     /// How many bytes were written.
@@ -53,7 +53,7 @@ impl<R: Files + Drop> FileLine<R> {
         }
     }
 
-    /// Writes all of the bytes behind those of before. The file is new: nothing stood under its name.
+    /// Writes all of the bytes after those of before. The file is new: nothing was under its name.
     fn write(&mut self, bytes: &[u8]) -> io::Result<()>
         ensures { self.new.faults ≡ self.old.faults }
     {
@@ -74,7 +74,7 @@ impl<R: Files + Drop> FileLine<R> {
         Ok(())
     }
 
-    /// Reads what stands in the file from a place on; how many bytes.
+    /// Reads what is in the file from a place on; how many bytes.
     fn read(&mut self, place: u64, into: &mut [u8; 512]) -> io::Result<usize>
         ensures faults { self.new.faults ≡ self.old.faults }
         ensures count { IfOk result (λ n. n ≤ 512) }
@@ -102,7 +102,7 @@ impl<R: Files + Drop> FileLine<R> {
     }
 }
 
-/// Removes what stands under a name, if something does and it may be removed.
+/// Removes what is under a name, if something does and it may be removed.
 fn clear(files: &impl Files, path: &str, taken: &[Identity]) -> io::Result<()> {
     match fs::symlink_metadata(files, path) {
         Ok(metadata) if is_removable(&found_of(&metadata), taken) => fs::remove_file(files, path),
@@ -112,7 +112,7 @@ fn clear(files: &impl Files, path: &str, taken: &[Identity]) -> io::Result<()> {
     }
 }
 
-/// A new file of a name under which nothing stands, not even a link.
+/// A new file of a name under which there is nothing, not even a link.
 fn create<R: Files>(files: &R, path: &str) -> io::Result<R::File> {
     let mut options = OpenOptions::new();
     options.read(true);

@@ -19,7 +19,7 @@ pub fn hold_standard(files: &impl Files<File = File>) -> io::Result<[Option<File
     Ok(held)
 }
 
-/// Which file stands under a name, behind all links.
+/// Which file is under a name, with all links followed.
 pub fn identity_of(files: &impl Files, path: &str) -> Option<Identity> {
     let metadata = fs::metadata(files, path).ok()?;
     Some(found_of(&metadata).identity)

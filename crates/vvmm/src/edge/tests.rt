@@ -101,7 +101,7 @@ fn a_folder_takes_no_line(rt: HostRuntime) -> Result<(), Fail> {
     Ok(())
 }
 
-/// The drive of a path, where something stands there.
+/// The drive of a path, where something is there.
 fn drive_of(rt: &HostRuntime, path: &str) -> Result<Option<FileDrive<HostRuntime>>, Fail> {
     let path = String::from_str(rt.alloc(), path)?;
     Ok(FileDrive::look(rt.clone()?, path, &[]))

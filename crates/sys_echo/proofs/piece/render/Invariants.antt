@@ -2,7 +2,7 @@ use Rattle.std.proofs.Common.{◌≡◌, ◌≤◌, ◌++◌, ◌*◌, length, d
 use Rattle.sys_echo.specs.Pieces.{begun_after, echo_bytes}
 use Rattle.sys_echo.proofs.piece.render.Given as goal
 
--- the text, and what is shown of the bytes that are left, are what is shown of all
+-- the text so far, followed by what is shown of the bytes that are left, is what is shown of all
 abbrev pub invariant-loop-byte : goal.invariant-loop-byte
 invariant-loop-byte l = record {
   piece : l.piece ++ echo_bytes l.name l.is_begun (drop l.byte-index l.bytes) ≡ echo_bytes l.name l.fn.is_begun l.bytes;
