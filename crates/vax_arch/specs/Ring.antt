@@ -1,6 +1,6 @@
 -- Ring compression: virtual kernel and executive mode both run in real executive mode
 -- (Hall and Robinson, Virtualizing the VAX Architecture, ISCA 1991).
-use Rattle.std.specs.Prelude.{◌≡◌, ℕ, ◌<◌, Bool, ◌||◌, List, [], ◌∷◌, slice_index}
+use Rattle.std.specs.Prelude.{◌≡◌, ◌≢◌, ℕ, ◌<◌, Bool, ◌||◌, List, [], ◌∷◌, slice_index}
 use Rattle.vax_arch.specs.declared.mode.Mode.{Mode}
 use Rattle.vax_arch.specs.declared.mode.Mode.TheVariants.{Kernel, Executive, Supervisor, User}
 use Rattle.vax_arch.specs.declared.mode.Intent.{Intent}
@@ -44,7 +44,12 @@ open_of code Executive i = may_of code Executive i || may_of code Kernel i
 open_of code Supervisor i = may_of code Supervisor i
 open_of code User i = may_of code User i
 
--- The law of ring compression: under each code the compressed code allows the real mode exactly what the virtual
--- machine allows the virtual mode.
+-- The law of ring compression. Kernel mode shares real executive mode, and each other mode is itself, so that none runs in
+-- real kernel mode.
+abbrev pub SharesExecutive : Type 0
+SharesExecutive = (ring_of Kernel ≡ Executive) × ((m : Mode) → m ≢ Kernel → ring_of m ≡ m)
+
+-- And under each code the compressed code lets the real mode do exactly what the virtual
+-- machine lets the virtual mode do.
 abbrev pub Compresses : Type 0
 Compresses = (code : ℕ) → code < 16 → (m : Mode) (i : Intent) → may_of (compressed_of code) (ring_of m) i ≡ open_of code m i

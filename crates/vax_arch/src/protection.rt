@@ -1,6 +1,6 @@
 ghost use Rattle.std.specs.Prelude.{◌≡◌, ℕ, ◌<◌};
 ghost use Rattle.vax_arch.specs.Protection.{may_of};
-ghost use Rattle.vax_arch.specs.Ring.{compressed_of, open_of, Compresses};
+ghost use Rattle.vax_arch.specs.Ring.{compressed_of, open_of, Compresses, SharesExecutive};
 
 use crate::{Intent, Mode};
 use std::marker::Model;
@@ -80,9 +80,11 @@ pub fn ring_may(p: Prot, m: Mode, i: Intent) -> bool
     may(p, m, i) || m == Mode::Executive && may(p, Mode::Kernel, i)
 }
 
-/// The law of ring compression, which its contract states: a compressed code is a code, and it
-/// allows a real mode exactly what the guest's code allows the virtual mode.
+/// The law of ring compression, which its contract states: no virtual mode runs in real kernel mode;
+/// a compressed code is a code, and it lets a real mode do exactly what the guest's code lets the
+/// virtual mode do.
 pub fn compression_law()
+    ensures modes { SharesExecutive }
     ensures code { (code : ℕ) → code < 16 → compressed_of code < 16 }
     ensures rights { Compresses }
 {}

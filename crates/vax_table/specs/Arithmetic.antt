@@ -81,7 +81,7 @@ abbrev pub shifted : ℤ → ℤ → ℤ
 shifted x (pos k) = x *ℤ pos (2 ^ k)
 shifted x (negsuc k) = int_div_euclid x (pos (2 ^ (k + 1)))
 
--- the bits of the width rotated left by a count, modulo 32 and so modulo the bits of each width
+-- the bits of the width rotated left by a count, which counts modulo their number
 abbrev pub rotated : Width → ℕ → ℕ → ℕ
 rotated Byte n count = rotate_left w8 n count
 rotated Word n count = rotate_left w16 n count

@@ -1,6 +1,5 @@
 -- What is read of a guest, by the walks of its bytes in the guest's mode.
-use Rattle.std.specs.Prelude.{◌≡◌, ℕ, ◌+◌, ◌/◌, ◌%◌, ◌==◌, ◌&&◌, not, nat_le, if◌then◌else◌, Result, Ok, Err}
-use Rattle.vax_arch.specs.Fields.{current_of, is_on_interrupt_stack, mode_number}
+use Rattle.std.specs.Prelude.{◌≡◌, ℕ, Result, Ok, Err}
 use Rattle.vax_arch.specs.declared.mode.Intent.TheVariants.{Read}
 use Rattle.vax_table.specs.Script.{Cause, Trouble}
 use Rattle.vm_emulate.specs.declared.reading.Unread.{Unread}
@@ -8,7 +7,7 @@ use Rattle.vm_emulate.specs.declared.returns.Popped.{Popped}
 use Rattle.vm_emulate.specs.declared.reading.Unread.TheVariants.{Faulty, PastMemory}
 use Rattle.vm_state.specs.Contexts as contexts
 use Rattle.vm_state.specs.Sensitive.{Faults, LacksMemory, Sensed, fault_of, troubled}
-use Rattle.vm_state.specs.State.{Guest, State, mode_of_state}
+use Rattle.vm_state.specs.State.{Guest, mode_of_state}
 use Rattle.vm_state.specs.Translation.{space_of, walk_of}
 use Rattle.vm_state.specs.declared.exception.Exc.TheVariants.{Memory}
 
@@ -36,7 +35,3 @@ abbrev pub ArePopped : Guest → Result contexts.Popped Trouble → Result Poppe
 ArePopped g (Ok p) (Ok q) = popped_of q ≡ p
 ArePopped g (Err trouble) (Err u) = troubled g trouble ≡ unread u
 ArePopped g _ _ = ⊥
-
--- what a guest that returns to a mode requests: software level 2, where the mode is at least ASTLVL
-abbrev pub requests_behind : State → ℕ → ℕ
-requests_behind s psl = if nat_le s.astlvl (mode_number (current_of psl)) && not (is_on_interrupt_stack psl) && not (s.sisr / 4 % 2 == 1) then s.sisr + 4 else s.sisr

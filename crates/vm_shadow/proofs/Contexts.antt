@@ -10,6 +10,7 @@ use Rattle.vm_slots.specs.declared.context.Context.{Context}
 use Rattle.vm_shadow.specs.Layout.{IsCovered, entry_number, entry_slot}
 use Rattle.vm_shadow.specs.Stands.{CanStand, Fits, IsFirst, Shadowed, context_in, in_context, tables_for}
 use Rattle.vm_shadow.proofs.Places.{number_system, slot_again, split}
+use Rattle.vm_state.specs.Registers.{first_p1_page}
 use Rattle.vm_state.specs.State.{context_of}
 
 pub aligned_of : (t : Tables) → CanStand t → AreAligned t
@@ -51,6 +52,6 @@ tables_own memory s page f small (inr c) =
     let again = slot_again s.slot page small (inr c) (λ r. other c r) in
     tables_high s (entry_number s.slot page) again.0 ∙ ap (λ k. option_map (in_context s.told) (context_in k s.held)) again.1 ∙ ap (option_map (in_context s.told)) (first_in (context_of s.told) s.slot s.held f.first)
   where
-    other : ((region_of page ≡ 0) × (in_region page < 8192)) ⊎ ((region_of page ≡ 1) × (2088960 ≤ in_region page)) → region_of page ≡ 2 → ⊥
+    other : ((region_of page ≡ 0) × (in_region page < 8192)) ⊎ ((region_of page ≡ 1) × (first_p1_page ≤ in_region page)) → region_of page ≡ 2 → ⊥
     other (inl a) r = let z : region_of page ≡ 0 = a.0 in omega arith
     other (inr a) r = let z : region_of page ≡ 1 = a.0 in omega arith

@@ -13,6 +13,7 @@ use Rattle.vm_shadow.specs.Marks.{AreEmpty}
 use Rattle.vm_shadow.specs.StandsFor.{Makes}
 use Rattle.vm_shadow.specs.declared.source.Source.{Source}
 use Rattle.vm_state.specs.Allowed.{AreAllowed}
+use Rattle.vm_state.specs.Registers.{first_p1_page}
 use Rattle.vm_state.specs.State.{State, context_of, state_of, tables_of}
 use Rattle.vm_state.specs.declared.guest_state.GuestState.{GuestState}
 use Rattle.vax_arch.specs.Fields.{is_valid}
@@ -68,7 +69,7 @@ can_stand size s a = record {
   p0br = or_zero s.tables.p0br a.p0br;
   p0lr = leb-true s.tables.p0lr 8192 a.p0lr;
   p1br = eqb-true (s.tables.p1br % 4) 0 a.p1br;
-  p1lr = leb-true 2088960 s.tables.p1lr (and_parts _ _ a.p1lr).0;
+  p1lr = leb-true first_p1_page s.tables.p1lr (and_parts _ _ a.p1lr).0;
   sbr = eqb-true (s.tables.sbr % 4) 0 a.sbr;
   slr = leb-true s.tables.slr 8192 a.slr;
 }

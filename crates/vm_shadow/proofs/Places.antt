@@ -3,6 +3,7 @@ use Rattle.std.proofs.Common.{◌≡◌, ◌≢◌, ℕ, ◌+◌, ◌-◌, ◌*�
 use Rattle.std.proofs.lemmas.Bool.{cases_lt, le-ltb, lt-ltb}
 use Rattle.vax_arch.specs.Walk.{in_region, region_of}
 use Rattle.vm_shadow.specs.Layout.{IsCovered, all_entries, entry_number, entry_page, entry_place, entry_slot}
+use Rattle.vm_state.specs.Registers.{first_p1_page}
 
 pub split : {A B C : Type 0} → A ⊎ B → (A → C) → (B → C) → C
 split (inl a) f g = f a
@@ -53,7 +54,7 @@ number_system slot page r = rw r
 pub number_p0 : (slot page : ℕ) → region_of page ≡ 0 → entry_number slot page ≡ 8192 + 16384 * slot + in_region page
 number_p0 slot page r = rw r
 
-pub number_p1 : (slot page : ℕ) → region_of page ≡ 1 → entry_number slot page ≡ 16384 + 16384 * slot + (in_region page - 2088960)
+pub number_p1 : (slot page : ℕ) → region_of page ≡ 1 → entry_number slot page ≡ 16384 + 16384 * slot + (in_region page - first_p1_page)
 number_p1 slot page r = rw r
 
 pub number_small : (slot page : ℕ) → slot < 4 → IsCovered page → entry_number slot page < all_entries
@@ -73,11 +74,11 @@ page_low n h = rw (lt-ltb n 8192 h)
 page_p0 : (n : ℕ) → 8192 ≤ n → (n - 8192) % 16384 < 8192 → entry_page n ≡ (n - 8192) % 16384
 page_p0 n h k = rw (le-ltb n 8192 h, lt-ltb ((n - 8192) % 16384) 8192 k)
 
-page_p1 : (n : ℕ) → 8192 ≤ n → 8192 ≤ (n - 8192) % 16384 → entry_page n ≡ 4177920 + (n - 8192) % 16384
+page_p1 : (n : ℕ) → 8192 ≤ n → 8192 ≤ (n - 8192) % 16384 → entry_page n ≡ 2 ^ 21 + (first_p1_page + ((n - 8192) % 16384 - 8192))
 page_p1 n h k = rw (le-ltb n 8192 h, le-ltb ((n - 8192) % 16384) 8192 k)
 
 -- and it is for that page
 pub page_again : (slot page : ℕ) → slot < 4 → page < 2 ^ 23 → IsCovered page → entry_page (entry_number slot page) ≡ page
 page_again slot page h small (inl c) = let r = c.0 in let l = c.1 in ap entry_page (number_system slot page r) ∙ page_low (in_region page) l ∙ omega arith
 page_again slot page h small (inr (inl c)) = let r = c.0 in let l = c.1 in ap entry_page (number_p0 slot page r) ∙ page_p0 (8192 + 16384 * slot + in_region page) (omega arith) (omega arith) ∙ omega arith
-page_again slot page h small (inr (inr c)) = let r = c.0 in let l = c.1 in ap entry_page (number_p1 slot page r) ∙ page_p1 (16384 + 16384 * slot + (in_region page - 2088960)) (omega arith) (omega arith) ∙ omega arith
+page_again slot page h small (inr (inr c)) = let r = c.0 in let l = c.1 in ap entry_page (number_p1 slot page r) ∙ page_p1 (16384 + 16384 * slot + (in_region page - first_p1_page)) (omega arith) (omega arith) ∙ omega arith

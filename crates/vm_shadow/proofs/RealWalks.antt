@@ -16,6 +16,7 @@ use Rattle.vax_table.specs.Script.{Cause}
 use Rattle.vax_table.specs.Script as script
 use Rattle.vm_shadow.specs.Layout.{IsCovered, entry_number, entry_place, kernel_entry, p0_base, p1_base, real_tables}
 use Rattle.vm_shadow.specs.Stands.{Fits, Shadowed}
+use Rattle.vm_state.specs.Registers.{first_p1_page}
 use Rattle.vm_shadow.proofs.Places.{number_p0, number_p1, number_system, place_high, place_low, split}
 
 -- no place that is named lies beyond
@@ -51,7 +52,7 @@ p0_address : (slot page : ℕ) → slot < 4 → page < 8192 → (p0_base slot + 
 unfolding slot_address
 p0_address slot page h k = omega arith
 
-p1_address : (slot page : ℕ) → slot < 4 → page < 2 ^ 21 → 2088960 ≤ page → (p1_base slot + 4 * page) % 2 ^ 32 ≡ slot_address slot (8192 + (page - 2088960))
+p1_address : (slot page : ℕ) → slot < 4 → page < 2 ^ 21 → first_p1_page ≤ page → (p1_base slot + 4 * page) % 2 ^ 32 ≡ slot_address slot (8192 + (page - first_p1_page))
 unfolding slot_address
 p1_address slot page h k l = omega arith
 
@@ -59,9 +60,9 @@ p0_found : (memory : List ℕ) (at slot page place table : ℕ) → region_of pa
 unfolding real_look lookup mapped_entry
 p0_found memory at slot page place table r l small e = rw (r, lt-leb 8192 (in_region page) l, p0_address slot (in_region page) small l) e
 
-p1_found : (memory : List ℕ) (at slot page place table : ℕ) → region_of page ≡ 1 → 2088960 ≤ in_region page → slot < 4 → process_entry everywhere memory (real_tables at slot) (slot_address slot (8192 + (in_region page - 2088960))) ≡ Found place (Some table) → real_look memory (real_tables at slot) page ≡ Found place (Some table)
+p1_found : (memory : List ℕ) (at slot page place table : ℕ) → region_of page ≡ 1 → first_p1_page ≤ in_region page → slot < 4 → process_entry everywhere memory (real_tables at slot) (slot_address slot (8192 + (in_region page - first_p1_page))) ≡ Found place (Some table) → real_look memory (real_tables at slot) page ≡ Found place (Some table)
 unfolding real_look lookup mapped_entry
-p1_found memory at slot page place table r l small e = rw (r, le-ltb (in_region page) 2088960 l, p1_address slot (in_region page) small (omega arith) l) e
+p1_found memory at slot page place table r l small e = rw (r, le-ltb (in_region page) first_p1_page l, p1_address slot (in_region page) small (omega arith) l) e
 
 -- the entry of a covered page is found at its place
 pub entry_found : (memory : List ℕ) (s : Shadowed) (page : ℕ) → Fits memory s → s.slot < 4 → IsCovered page → (table : Option ℕ) × (real_look memory (real_tables s.at s.slot) page ≡ Found (entry_place s.at (entry_number s.slot page)) table)
@@ -77,9 +78,9 @@ entry_found memory s page f small (inr (inl c)) =
     (Some p.0, is ∙ ap (λ x. Found x (Some p.0)) (sym (ap (entry_place s.at) (number_p0 s.slot page r) ∙ place_high s.at (8192 + 16384 * s.slot + in_region page) (omega arith) ∙ omega arith)))
 entry_found memory s page f small (inr (inr c)) =
     let r = c.0 in let l = c.1 in
-    let p = process_found memory s (8192 + (in_region page - 2088960)) f small (omega arith) in
-    let is : real_look memory (real_tables s.at s.slot) page ≡ Found (512 * (s.at + 68) + 4 * (16384 * s.slot + (8192 + (in_region page - 2088960)))) (Some p.0) = p1_found memory s.at s.slot page _ p.0 r l small p.1 in
-    (Some p.0, is ∙ ap (λ x. Found x (Some p.0)) (sym (ap (entry_place s.at) (number_p1 s.slot page r) ∙ place_high s.at (16384 + 16384 * s.slot + (in_region page - 2088960)) (omega arith) ∙ omega arith)))
+    let p = process_found memory s (8192 + (in_region page - first_p1_page)) f small (omega arith) in
+    let is : real_look memory (real_tables s.at s.slot) page ≡ Found (512 * (s.at + 68) + 4 * (16384 * s.slot + (8192 + (in_region page - first_p1_page)))) (Some p.0) = p1_found memory s.at s.slot page _ p.0 r l small p.1 in
+    (Some p.0, is ∙ ap (λ x. Found x (Some p.0)) (sym (ap (entry_place s.at) (number_p1 s.slot page r) ∙ place_high s.at (16384 + 16384 * s.slot + (in_region page - first_p1_page)) (omega arith) ∙ omega arith)))
 
 -- a page that isn't covered is refused
 
@@ -97,9 +98,9 @@ past_p0 : (memory : List ℕ) (at slot page : ℕ) → region_of page ≡ 0 → 
 unfolding real_look lookup mapped_entry
 past_p0 memory at slot page r h = rw (r, le-leb 8192 (in_region page) h) refl
 
-before_p1 : (memory : List ℕ) (at slot page : ℕ) → region_of page ≡ 1 → in_region page < 2088960 → real_look memory (real_tables at slot) page ≡ Fails false 1
+before_p1 : (memory : List ℕ) (at slot page : ℕ) → region_of page ≡ 1 → in_region page < first_p1_page → real_look memory (real_tables at slot) page ≡ Fails false 1
 unfolding real_look lookup mapped_entry
-before_p1 memory at slot page r h = rw (r, lt-ltb (in_region page) 2088960 h) refl
+before_p1 memory at slot page r h = rw (r, lt-ltb (in_region page) first_p1_page h) refl
 
 past_system : (memory : List ℕ) (at slot page : ℕ) → region_of page ≡ 2 → 8704 ≤ in_region page → real_look memory (real_tables at slot) page ≡ Fails false 1
 unfolding real_look lookup mapped_entry system_entry
@@ -120,7 +121,7 @@ pub record IsElsewhere (memory : List ℕ) (s : Shadowed) (page : ℕ) : Type 0 
   pub unjudged : (m : Mode) (i : Intent) → judged_at memory (ring_of m) i (real_look memory (real_tables s.at s.slot) page) ≡ None
 
 -- a page that is in none of the regions' parts
-not_covered : (page : ℕ) → (region_of page ≡ 2 → 8192 ≤ in_region page) → (region_of page ≡ 0 → 8192 ≤ in_region page) → (region_of page ≡ 1 → in_region page < 2088960) → IsCovered page → ⊥
+not_covered : (page : ℕ) → (region_of page ≡ 2 → 8192 ≤ in_region page) → (region_of page ≡ 0 → 8192 ≤ in_region page) → (region_of page ≡ 1 → in_region page < first_p1_page) → IsCovered page → ⊥
 not_covered page a b c (inl x) = let h = a x.0 in let k = x.1 in omega arith
 not_covered page a b c (inr (inl x)) = let h = b x.0 in let k = x.1 in omega arith
 not_covered page a b c (inr (inr x)) = let h = c x.0 in let k = x.1 in omega arith
@@ -153,7 +154,7 @@ elsewhere memory s page f =
     (λ n2. split (cases_eq (region_of page) 0)
     (λ r. split (cases_lt (in_region page) 8192) (λ h. inl (inr (inl (r, h)))) (λ h. inr (failing memory s page (not_covered page (λ q. absurd (omega arith)) (λ q. h) (λ q. absurd (omega arith))) (past_p0 memory s.at s.slot page r h))))
     (λ n0. split (cases_eq (region_of page) 1)
-    (λ r. split (cases_lt (in_region page) 2088960) (λ h. inr (failing memory s page (not_covered page (λ q. absurd (omega arith)) (λ q. absurd (omega arith)) (λ q. h)) (before_p1 memory s.at s.slot page r h))) (λ h. inl (inr (inr (r, h)))))
+    (λ r. split (cases_lt (in_region page) first_p1_page) (λ h. inr (failing memory s page (not_covered page (λ q. absurd (omega arith)) (λ q. absurd (omega arith)) (λ q. h)) (before_p1 memory s.at s.slot page r h))) (λ h. inl (inr (inr (r, h)))))
     (λ n1. inr (failing memory s page (not_covered page (λ q. absurd (n2 q)) (λ q. absurd (n0 q)) (λ q. absurd (n1 q))) (no_region memory s.at s.slot page (last n2 n0 n1))))))
   where
     last : region_of page ≢ 2 → region_of page ≢ 0 → region_of page ≢ 1 → region_of page ≡ 3

@@ -6,6 +6,7 @@ use Rattle.std.specs.Prelude.{◌≡◌, ℕ, ◌+◌, ◌-◌, ◌*◌, ◌/◌
 use Rattle.vax_arch.specs.Fields.{frame_of, protection_of}
 use Rattle.vax_arch.specs.Ring.{compressed_of}
 use Rattle.vax_arch.specs.Walk.{Tables, in_region, region_of}
+use Rattle.vm_state.specs.Registers.{first_p1_page}
 
 -- Entries by number: the 8,192 system pages', then for each slot its 8,192 P0 pages' and its 8,192 P1 pages'.
 abbrev pub all_entries : ℕ
@@ -19,9 +20,9 @@ entry_place at n = if nat_lt n 8192 then 512 * at + 4 * n else 512 * (at + 68) +
 abbrev pub entry_slot : ℕ → ℕ
 entry_slot n = (n - 8192) / 16384
 
--- the page that an entry is for; P1 has the last pages of its region
+-- the page that a process entry is for, by its number in its slot; P1, whose pages are from 2^21 on, has its last 8192
 abbrev pub process_entry_page : ℕ → ℕ
-process_entry_page k = if nat_lt k 8192 then k else 4177920 + k
+process_entry_page k = if nat_lt k 8192 then k else 2 ^ 21 + (first_p1_page + (k - 8192))
 
 abbrev pub entry_page : ℕ → ℕ
 entry_page n = if nat_lt n 8192 then 2 ^ 22 + n else process_entry_page ((n - 8192) % 16384)
@@ -31,11 +32,11 @@ abbrev pub entry_number : (slot page : ℕ) → ℕ
 entry_number slot page =
     if region_of page == 2 then in_region page else
     if region_of page == 0 then 8192 + 16384 * slot + in_region page else
-    16384 + 16384 * slot + (in_region page - 2088960)
+    16384 + 16384 * slot + (in_region page - first_p1_page)
 
 -- the pages for which there are entries
 abbrev pub IsCovered : ℕ → Type 0
-IsCovered page = ((region_of page ≡ 2) × (in_region page < 8192)) ⊎ (((region_of page ≡ 0) × (in_region page < 8192)) ⊎ ((region_of page ≡ 1) × (2088960 ≤ in_region page)))
+IsCovered page = ((region_of page ≡ 2) × (in_region page < 8192)) ⊎ (((region_of page ≡ 0) × (in_region page < 8192)) ⊎ ((region_of page ≡ 1) × (first_p1_page ≤ in_region page)))
 
 -- an entry that isn't filled: it isn't valid, and its code (UW) refuses no mode, so that this is what each finds
 abbrev pub empty_entry : ℕ
@@ -58,8 +59,9 @@ real_entry base modify entry = 2 ^ 31 + compressed_of (protection_of entry) * 2 
 abbrev pub p0_base : ℕ → ℕ
 p0_base slot = 2 ^ 31 + 2 ^ 22 + 65536 * slot
 
+-- P1's table comes after P0's 32768 bytes; its base lies before it by the entries of the pages that P1 can't have
 abbrev pub p1_base : ℕ → ℕ
-p1_base slot = 2 ^ 31 + 2 ^ 22 + 65536 * slot + 32768 - 4 * 2088960
+p1_base slot = 2 ^ 31 + 2 ^ 22 + 65536 * slot + 32768 - 4 * first_p1_page
 
 abbrev pub real_tables : (at slot : ℕ) → Tables
-real_tables at slot = record { mapped = true; p0br = p0_base slot; p0lr = 8192; p1br = p1_base slot; p1lr = 2088960; sbr = 512 * at; slr = 8704 }
+real_tables at slot = record { mapped = true; p0br = p0_base slot; p0lr = 8192; p1br = p1_base slot; p1lr = first_p1_page; sbr = 512 * at; slr = 8704 }

@@ -13,6 +13,7 @@ use Rattle.vm_shadow.specs.Layout.{all_entries, empty_entry, entry_page, entry_p
 use Rattle.vm_shadow.specs.declared.source.Source.{Source}
 use Rattle.vm_shadow.specs.declared.source.Source.TheVariants.{Direct, Process, System}
 use Rattle.vm_state.specs.Partition.{part}
+use Rattle.vm_state.specs.Registers.{first_p1_page}
 use Rattle.vm_state.specs.State.{context_of}
 
 -- what the kernel keeps
@@ -110,7 +111,7 @@ pub record CanStand (t : Tables) : Type 0 where
   pub p0br : t.p0br % 4 ≡ 0
   pub p0lr : t.p0lr ≤ 8192
   pub p1br : t.p1br % 4 ≡ 0
-  pub p1lr : 2088960 ≤ t.p1lr
+  pub p1lr : first_p1_page ≤ t.p1lr
   pub sbr : t.sbr % 4 ≡ 0
   pub slr : t.slr ≤ 8192
 
@@ -122,30 +123,37 @@ IsFirst c slot (h ∷ rest) = (h.0 ≡ c) × (h.1 ≡ slot)
 abbrev pub is_flagged : ℕ → List Bool → Bool
 is_flagged frame flags = slice_index_or flags frame false
 
--- sizes and places, the contexts, flags, and the system entries that map the process tables
+-- What is so whatever the entries are: places, registers, and what the kernel notes for itself.
 pub record Fits (memory : List ℕ) (s : Shadowed) : Type 0 where
+  -- The guest's pages and its real tables lie in the machine's memory, apart from each other.
   pub few : length memory ≤ 33554432
   pub small : s.pages ≤ 2048
   pub partition : 512 * (s.base + s.pages) ≤ length memory
   pub room : 512 * (s.at + 580) ≤ length memory
   pub apart : (s.base + s.pages ≤ s.at) ⊎ (s.at + 580 ≤ s.base)
+  -- The tables can stand for the registers that were told last, and for each context that has a slot.
   pub told : CanStand s.told
   pub contexts : All (λ h. CanStand (in_context s.told h.0)) s.held
   pub slots : AreSlots s.held
-  -- the guest's own context is first
+  -- The context under which the guest runs now is the first of them.
   pub first : IsFirst (context_of s.told) s.slot s.held
+  -- The last system entries map the process tables.
   pub system : (j : ℕ) → j < 512 → long_at memory (512 * s.at + 4 * (8192 + j)) ≡ kernel_entry (s.at + 68 + j)
+  -- The notes have a place for each entry, and flags for each frame of the guest.
   pub whole : length s.reads ≡ all_entries
   pub consulted : length s.consulted ≡ s.pages
   pub writable : length s.writable ≡ s.pages
-  -- a frame from which an entry was read is flagged; a flag may be set too often, and never too seldom
+  -- A frame from which an entry was read is flagged; a flag may be set too often, and never too seldom.
   pub consults : (n frame : ℕ) → n < all_entries → is_flagged frame s.consulted ≡ false → is_read_from frame (read_at s n) ≡ false
 
--- The shadow page tables stand for the guest's own, but for the entries that were read from a pending frame, and for the
--- guard of the entries that are opened.
+-- The shadow page tables stand for the guest's own, but for two exceptions, which are none between steps: frames whose
+-- writes are pending, since what was read from them isn't dropped yet, and entries opened for a guarded step.
 pub record Keeps (pending opened : List ℕ) (memory : List ℕ) (s : Shadowed) : Type 0 where
   pub fits : Fits memory s
+  -- Each real entry is empty, or is right for what the guest's tables have now, unless it was read from a pending frame.
   pub entries : (n : ℕ) → n < all_entries → IsKept (512 * s.pages) s.base (own memory s) pending (seen_at memory s n) (real_at memory s n) (read_at s n)
-  -- no entry with a set modify bit maps a frame that another, or it itself, was read from
+  -- No entry with a set modify bit maps a frame that another, or it itself, was read from, unless it is opened: so the
+  -- kernel hears of each write of what was read.
   pub guarded : (n k : ℕ) → n < all_entries → k < all_entries → is_opened k opened ≡ false → is_valid (real_at memory s k) ≡ true → is_modified (real_at memory s k) ≡ true → is_read_from (mapped_frame s (real_at memory s k)) (read_at s n) ≡ false
+  -- The frame that an entry with a set modify bit maps is flagged as one that may be written without an exit.
   pub writes : (k : ℕ) → k < all_entries → is_valid (real_at memory s k) ≡ true → is_modified (real_at memory s k) ≡ true → is_flagged (mapped_frame s (real_at memory s k)) s.writable ≡ true

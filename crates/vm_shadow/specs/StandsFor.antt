@@ -17,6 +17,7 @@ use Rattle.vm_shadow.specs.Stands.{IsSource, Keeps, Shadowed, is_flagged, is_rea
 use Rattle.vm_shadow.specs.declared.source.Source.{Source}
 use Rattle.vm_state.specs.Allowed.{AreAllowed}
 use Rattle.vm_state.specs.Partition.{guest_of, partition_of}
+use Rattle.vm_state.specs.Registers.{first_p1_page}
 use Rattle.vm_state.specs.State.{Guest, context_of, state_of, tables_of}
 use Rattle.vm_state.specs.Touches.{is_remapped}
 use Rattle.vm_state.specs.Translation.{look, marked_by}
@@ -28,6 +29,8 @@ pub record Serves (g : GuestState) (s : Shadowed) : Type 0 where
   pub base : s.base ≡ g.base
   pub told : s.told ≡ tables_of g
 
+-- The shadow page tables stand for a guest's own, with nothing pending and nothing opened; the registers that were told
+-- last are the guest's; and its registers have values that they may have.
 pub record StandsFor (memory : List ℕ) (s : Shadowed) (g : GuestState) : Type 0 where
   pub keeps : Keeps [] [] memory s
   pub serves : Serves g s
@@ -190,7 +193,7 @@ world_of s g = record {
   p0br = p0_base s.slot;
   p0lr = 8192;
   p1br = p1_base s.slot;
-  p1lr = 2088960;
+  p1lr = first_p1_page;
   sbr = 512 * s.at;
   slr = 8704;
 }

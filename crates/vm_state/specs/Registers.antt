@@ -1,6 +1,6 @@
 -- Processor registers, as MTPR writes and MFPR reads them (VAX Architecture Reference Manual: processor registers; the
 -- ranges, and the registers KCALL, MEMSIZE and UPTIME, are profile).
-use Rattle.std.specs.Prelude.{ℕ, ◌+◌, ◌*◌, ◌/◌, ◌%◌, ◌^◌, ◌==◌, ◌&&◌, Bool, true, false, nat_le, nat_lt, if◌then◌else◌, List, [], ◌∷◌, find, Option, Some, None, Result, Ok, Err, slice_set}
+use Rattle.std.specs.Prelude.{ℕ, ◌+◌, ◌-◌, ◌*◌, ◌/◌, ◌%◌, ◌^◌, ◌==◌, ◌&&◌, Bool, true, false, nat_le, nat_lt, if◌then◌else◌, List, [], ◌∷◌, find, Option, Some, None, Result, Ok, Err, slice_set}
 use Rattle.std.specs.Option.{option_map}
 use Rattle.vax_arch.specs.Fields.{ipl_of}
 use Rattle.vm_clock.specs.Clock.{after_iccs_write, after_nicr_write, iccs_of}
@@ -30,6 +30,11 @@ register_of number = option_map (λ line. line.1) (find (λ line. line.0 == numb
 abbrev pub with_pointer : ℕ → ℕ → State → State
 with_pointer stack v s = if stack == stack_in s.psl then record s { r = slice_set s.r 14 v } else record s { stacks = slice_set s.stacks stack v }
 
+-- The first page that P1 may have, and so the least P1LR: of the 2^21 pages of a region a guest may map 8192, the first
+-- of P0 and of system space, and the last of P1.
+abbrev pub first_p1_page : ℕ
+first_p1_page = 2 ^ 21 - 8192
+
 -- the values that a register allows to be written: none for one that is read alone
 abbrev pub allows : Register → ℕ → Bool
 allows Ksp v = true
@@ -40,7 +45,7 @@ allows Isp v = true
 allows P0br v = v % 4 == 0 && v / 2 ^ 30 == 2
 allows P0lr v = nat_le v 8192
 allows P1br v = v % 4 == 0
-allows P1lr v = nat_le 2088960 v && nat_le v 2097152
+allows P1lr v = nat_le first_p1_page v && nat_le v (2 ^ 21)
 allows Sbr v = v % 4 == 0
 allows Slr v = nat_le v 8192
 allows Pcbb v = v % 4 == 0

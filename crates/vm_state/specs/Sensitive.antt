@@ -26,7 +26,7 @@ use Rattle.vm_state.specs.Initiate.{Initiation, KernelStackBad, Stops, Taken, in
 use Rattle.vm_state.specs.Packets.{accepted, after_accept, busy_status, status_place}
 use Rattle.vm_state.specs.Pushes.{Faulty, Homes, PastMemory, Walked, push_walked}
 use Rattle.vm_state.specs.Registers.{Value, Written, read, written}
-use Rattle.vm_state.specs.State.{Guest, State, mode_of_state, pointer_of, with_pointer_kept}
+use Rattle.vm_state.specs.State.{Guest, State, mode_of_state, pointer_of, stack_in, with_pointer_kept}
 use Rattle.vm_state.specs.Stops.{ChangedMode, Halted, Stop, stop_code, stop_text}
 use Rattle.vm_state.specs.Translation.{frame_at, is_clear, long_stored, place_of, space_of, walk_of}
 use Rattle.vm_state.specs.declared.exception.Exc.{Exc}
@@ -87,13 +87,13 @@ halted g t =
 abbrev pub waited : Guest → Trapped → Sensed
 waited g t = let h = guest_behind g t in Does (record h { state = record h.state { waiting = true } }) [] []
 
--- CHM: on the interrupt stack it stops the guest. Its push is walked first where it goes to another stack than the
--- kernel's, and trouble there is its own fault. The outcome of its initiation is its own completion.
+-- CHM. Once it is initiated, it completes: by its own vector, by vector 08 where the kernel stack is bad, or with a stop.
 abbrev pub changed : Initiation → Sensed
 changed (Taken h written) = Does h [] written
 changed (KernelStackBad h written) = Does h [] written
 changed (Stops stop) = StopsThere stop
 
+-- It is initiated where its push was walked without trouble; a fault of that walk is CHM's own, before it does anything.
 abbrev pub chm_walked : Initiation → Walked → Sensed
 chm_walked i (Homes hs) = changed i
 chm_walked i (Faulty f) = Faults (excs.Memory f)
@@ -104,25 +104,35 @@ change_mode g t to =
     let h = guest_behind g t in
     let e = excs.Chm to t.a in
     let m = new_mode g.state e in
+    -- on the interrupt stack: a stop of the guest
     if is_on_interrupt_stack g.state.psl then StopsThere ChangedMode else
+    -- to kernel mode: its initiation, which sees to a bad kernel stack
     if mode_number m == 0 then changed (initiate h e) else
+    -- to another mode: a walk of what it pushes on that mode's stack, and then its initiation
     chm_walked (initiate h e) (push_walked h m (pointer_of h.state (mode_number m)) (g.state.psl ∷ t.next_pc ∷ t.a ∷ []))
 
--- REI: PC and PSL are popped; the pointer after them is kept, and R14 is the new stack's. A mode that is at least ASTLVL
--- requests software level 2.
+-- REI has three parts: what is popped (two_popped), what refuses it (rei_refuses), and what it leaves (returned_to).
+
+-- the software levels that are requested after a return to a PSL: level 2 too, where its mode is at least ASTLVL and not on
+-- the interrupt stack
+abbrev pub requests_behind : State → (psl : ℕ) → ℕ
+requests_behind s psl = if nat_le s.astlvl (mode_number (current_of psl)) && not (is_on_interrupt_stack psl) && not (s.sisr / 4 % 2 == 1) then s.sisr + 4 else s.sisr
+
+-- The pointer after the two longwords is kept in its register, and R14 is the new stack's.
 abbrev pub returned_to : State → Popped → State
 returned_to s p =
     let kept = with_pointer_kept (record s { r = slice_set s.r 14 (plus (slice_index s.r 14) 8) }) in
-    let next = record kept { psl = p.psl } in
-    let asks = nat_le s.astlvl (mode_number (current_of p.psl)) && not (is_on_interrupt_stack p.psl) && not (s.sisr / 4 % 2 == 1) in
-    record next {
-      r = slice_set (slice_set kept.r 14 (slice_index kept.stacks (if is_on_interrupt_stack p.psl then 4 else mode_number (current_of p.psl)))) 15 p.pc;
-      sisr = if asks then s.sisr + 4 else s.sisr;
+    record kept {
+      r = slice_set (slice_set kept.r 14 (slice_index kept.stacks (stack_in p.psl))) 15 p.pc;
+      psl = p.psl;
+      sisr = requests_behind s p.psl;
     }
 
 abbrev pub rei_by : Guest → Trapped → Result Popped Trouble → Sensed
 rei_by g t (Err trouble) = troubled g trouble
-rei_by g t (Ok p) = if rei_refuses g.state.psl p.psl then Faults excs.ReservedOperand else Does (record g { state = returned_to (behind g.state t) p }) [] []
+rei_by g t (Ok p) =
+    if rei_refuses g.state.psl p.psl then Faults excs.ReservedOperand else
+    Does (record g { state = returned_to (behind g.state t) p }) [] []
 
 abbrev pub return_from : Guest → Trapped → Sensed
 return_from g t = rei_by g t (outcome (space_of g) (two_popped (slice_index t.regs 14)))

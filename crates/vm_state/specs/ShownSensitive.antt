@@ -99,7 +99,7 @@ pub probes :
     × (after (step (with_psl 0x03c00000 (with_registers (registers 0 0x800 0 0 0x200) (guest_m (0x0c ∷ 0x00 ∷ 0x01 ∷ 0x61 ∷ []) ((entry_4, 0x80000004) ∷ []))))) ([]) ≡ seen (Plain 0xa24) 0x0 0x800 0x0 0x204 0x3c00004 ([]))
     -- of one whose frame is beyond memory: the code decides
     × (after (step (with_psl 0x00000000 (with_registers (registers 0 0x800 0 0x80000800 0x200) (guest_m (0x0c ∷ 0x00 ∷ 0x01 ∷ 0x61 ∷ []) ((entry_4, 0xa0000008) ∷ []))))) ([]) ≡ seen Sensitive 0x0 0x800 0x80000800 0x204 0x0 ([]))
-    -- of length 0: the base alone
+    -- of length 0 at the last byte of a page: not the next page, which nobody may use
     × (after (step (with_registers (registers 0 0x7ff 0 0x80000800 0x200) (guest_m (0x0c ∷ 0x00 ∷ 0x00 ∷ 0x61 ∷ []) ((entry_4, 0x80000004) ∷ [])))) ([]) ≡ seen (Plain 0x80001223) 0x0 0x7ff 0x80000800 0x204 0x0 ([]))
     -- of two bytes over a page, the second of which nobody may use
     × (after (step (with_registers (registers 0 0x7ff 0 0x80000800 0x200) (guest_m (0x0c ∷ 0x00 ∷ 0x02 ∷ 0x61 ∷ []) ((entry_4, 0x80000004) ∷ [])))) ([]) ≡ seen (Plain 0x80001223) 0x0 0x7ff 0x80000800 0x204 0x4 ([]))

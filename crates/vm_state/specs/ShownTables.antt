@@ -80,7 +80,7 @@ pub touches :
     ((touching_steps 4 (with_registers (registers 0 0x800 0 0x80000800 0x200) (guest_m (0xd0 ∷ 0x61 ∷ 0x50 ∷ 0x11 ∷ 0xfb ∷ []) [])) (record { present = at_first (with_registers (registers 0 0x800 0 0x80000800 0x200) (guest_m (0xd0 ∷ 0x61 ∷ 0x50 ∷ 0x11 ∷ 0xfb ∷ []) [])); count = 0 })).count ≡ 2)
     -- a loop that writes its own page table: the system page that it writes and its code, again after each write
     × ((touching_steps 4 (with_registers (registers 0xa4000004 0x800 0x80000090 0x80000800 0x200) (guest_m (0xd0 ∷ 0x50 ∷ 0x62 ∷ 0x11 ∷ 0xfb ∷ []) [])) (record { present = at_first (with_registers (registers 0xa4000004 0x800 0x80000090 0x80000800 0x200) (guest_m (0xd0 ∷ 0x50 ∷ 0x62 ∷ 0x11 ∷ 0xfb ∷ []) [])); count = 0 })).count ≡ 5)
-    -- a page that is not valid counts at each touch, and its handler is a third
+    -- a touch of a page that is not valid: the page of its code, that one, and the fault's handler
     × ((touching_steps 2 (with_registers (registers 0 0x800 0 0x80000800 0x200) (guest_m (0xd0 ∷ 0x61 ∷ 0x50 ∷ []) ((entry_4, 0x20000004) ∷ []))) (record { present = at_first (with_registers (registers 0 0x800 0 0x80000800 0x200) (guest_m (0xd0 ∷ 0x61 ∷ 0x50 ∷ []) ((entry_4, 0x20000004) ∷ []))); count = 0 })).count ≡ 3)
 unfolding step executed instruction fetched decided decoded_at acted plan_of performed row_of operation_of operands_of operand_of read_operand modified_operand written_operand address_operand branch_operand bits_operand address_of base_address value_size computed alu_of branched trap_operands operand_at specifier_at specifier_by indexed_at lookup mapped_entry process_entry system_entry granted walk_of attempt initiate due push_walked pushed after_tick sensed probe probed_byte loads_context loaded is_block_reserved saves_context register_of read written accepted after_iccs_write
 touches = (refl, refl, refl)
