@@ -5,7 +5,7 @@ use Rattle.std.proofs.Common.{length-append}
 use Rattle.toml.specs.Data.{Data, Items, no_items, item, Members, as_table}
 use Rattle.sys_objects.specs.declared.errors.ConfigFault.{ConfigFault}
 use Rattle.sys_config.specs.Reads as reads
-use Rattle.sys_config.specs.Reads.{if_some, if_any}
+use Rattle.sys_config.specs.Reads.{if_some}
 use Rattle.sys_objects.specs.Faults.{◌>>=◌, by_rule, unless_at}
 use Rattle.sys_config.specs.Answers.{entry_of, entries_from}
 use Rattle.sys_config.specs.Top.{count_of}

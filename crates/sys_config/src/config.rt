@@ -1,4 +1,4 @@
-ghost use Rattle.std.specs.Prelude.{◌≡◌, ℕ, ◌<◌, ◌^◌, List, Ok, option_map, IfOk, IfSome};
+ghost use Rattle.std.specs.Prelude.{◌≡◌, ℕ, ◌<◌, List, Ok, option_map, IfOk};
 ghost use Rattle.toml.specs.View.{table_view};
 ghost use Rattle.sys_objects.specs.Faults.{Reads, by_rule};
 ghost use Rattle.sys_objects.specs.Condition.{IsConfig};

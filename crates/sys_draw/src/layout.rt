@@ -1,11 +1,9 @@
-ghost use Rattle.std.specs.Prelude.{◌≡◌, ◌≤◌, ◌+◌, ◌*◌, ◌==◌, ◌&&◌, nat_lt, max, IfOk, count_by, length, map};
+ghost use Rattle.std.specs.Prelude.{◌≡◌, ◌≤◌, ◌+◌, ◌*◌, ◌==◌, ◌&&◌, nat_lt, max, IfOk, length, map};
 ghost use Rattle.vv_class.specs.Text.{class_text};
-ghost use Rattle.sys_draw.specs.Layout.{column, greatest, letters, quarter, row, spot, spots_of};
-ghost use Rattle.sys_draw.specs.Seats.{classes_of};
+ghost use Rattle.sys_draw.specs.Layout.{column, greatest, letters, row, spot};
 
 use crate::seats::Seat;
 use std::alloc::Global;
-use sys_objects::Config;
 use vv_base::NoMemory;
 use vv_class::{AccessClass, write_class};
 

@@ -6,7 +6,7 @@ ghost use Rattle.sys_objects.specs.Rules.{same_class};
 
 use std::alloc::Global;
 use sys_flow::{Place, count, object_at};
-use sys_objects::Config;
+use sys_objects::{Config, same_class};
 use vv_base::NoMemory;
 use vv_class::AccessClass;
 
@@ -72,15 +72,6 @@ pub fn classes(alloc: Global, c: &Config) -> Result<Vec<AccessClass>, NoMemory>
         classes.push(class_of(c, a))?;
     }
     Ok(classes)
-}
-
-fn same_class(a: &AccessClass, b: &AccessClass) -> bool
-    ensures { result ≡ same_class a.now b.now }
-{
-    a.secrecy == b.secrecy
-        && a.secrecy_cats == b.secrecy_cats
-        && a.integrity == b.integrity
-        && a.integrity_cats == b.integrity_cats
 }
 
 fn place_of(classes: &[AccessClass], class: &AccessClass) -> Option<usize>

@@ -1,7 +1,6 @@
 ghost use Rattle.std.specs.Prelude.{◌≡◌, ◌≤◌, ◌+◌, ◌*◌, ◌++◌, IfOk, OnOk, map};
-ghost use Rattle.sys_draw.specs.Layout.{greatest, letters, quarter, spots_of};
+ghost use Rattle.sys_draw.specs.Layout.{letters};
 ghost use Rattle.sys_draw.specs.Picture.{arrow_of, arrows, box_of, boxes, by_number, drawing_of, edge_to, edges_from, fill, ink, joined, kind, picture, spot_at, start};
-ghost use Rattle.sys_draw.specs.Seats.{numbers};
 ghost use Rattle.sys_flow.specs.Objects.{object_of};
 ghost use Rattle.sys_objects.specs.Condition.{IsConfig};
 

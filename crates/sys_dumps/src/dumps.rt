@@ -1,4 +1,4 @@
-ghost use Rattle.std.specs.Prelude.{◌≡◌, ◌<◌, ◌≤◌, ◌+◌, ◌*◌, ◌++◌, ◌∷◌, ◌^◌, [], codes, drop, is_err, length, take};
+ghost use Rattle.std.specs.Prelude.{◌≡◌, ◌<◌, ◌≤◌, ◌+◌, ◌*◌, ◌∷◌, ◌^◌, [], drop, is_err, length, take};
 ghost use Rattle.vv_io.specs.Lines.{Puts};
 ghost use Rattle.vm_state.specs.Partition.{guest_of, part};
 ghost use Rattle.sys_rounds.specs.Dump.{dump_of, if_shown, register_lines, row_lines, text_of};

@@ -1,7 +1,7 @@
 -- What a sink was shown of a text that is known only where something holds, part by part.
-use Rattle.std.proofs.Common.{ℕ, ◌≡◌, List, [], ◌++◌, sym, ◌∙◌, ap, subst, append_assoc, Bool, true, false}
+use Rattle.std.proofs.Common.{ℕ, ◌≡◌, List, [], ◌++◌, sym, ◌∙◌, ap, subst, Bool, true, false}
 use Rattle.vv_io.specs.Lines.{Seen}
-use Rattle.sys_lines.proofs.Puts.{joined, shows_nothing, still}
+use Rattle.sys_lines.proofs.Puts.{joined, shows_nothing, still, with_more}
 use Rattle.sys_lines.specs.ShownSince.{ShownSince}
 
 -- Since a start all of a text is shown but for a rest.
@@ -15,9 +15,6 @@ pub record IsShown (Told : Type 0) (cut : Bool) (start now : Seen) (whole : List
   pub text : List ℕ
   pub shown : ShownSince cut start now text
   pub exact : Told → text ≡ whole
-
-with_more : (text more left rest whole : List ℕ) → rest ≡ more ++ left → text ++ rest ≡ whole → (text ++ more) ++ left ≡ whole
-with_more text more left rest whole parts is = append_assoc text more left ∙ ap (λ (xs : List ℕ). text ++ xs) (sym parts) ∙ is
 
 pub part_begins : (Told : Type 0) (start : Seen) (rest whole : List ℕ) → (Told → rest ≡ whole) → IsPart Told start start rest whole
 part_begins Told start rest whole is = record { text = []; shown = shows_nothing start; exact = is }

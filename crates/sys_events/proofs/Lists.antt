@@ -7,12 +7,6 @@ use Rattle.std.proofs.lemmas.Iterator.Adapters.{position_from-zero}
 use Rattle.sys_rounds.proofs.Places.{both}
 use Rattle.sys_rounds.specs.Places.{changed, place_of}
 
--- an element that exists
-pub get_at : {X : Type 0} (xs : List X) (k : ℕ) (x : X) → k < length xs → x ≡ slice_index_or xs k x → slice_get xs k ≡ Some x
-get_at [] k x h read = absurd (omega (arith, h))
-get_at (y ∷ xs) zero x h read = ap Some (sym read)
-get_at (y ∷ xs) (suc k) x h read = get_at xs k x (omega (arith, h)) read
-
 pub get_within : {X : Type 0} (xs : List X) (k : ℕ) → k < length xs → (x : X) × (slice_get xs k ≡ Some x)
 get_within [] k h = absurd (omega (arith, h))
 get_within (y ∷ xs) zero h = (y, refl)

@@ -23,7 +23,7 @@ use Rattle.sys_objects.specs.declared.records.GuestRow.{GuestRow}
 use Rattle.sys_objects.specs.declared.records.Terminal.{Terminal}
 use Rattle.sys_rounds.specs.Consoles.{console_of}
 use Rattle.sys_rounds.specs.Events.{after_verdict, audit_puts, commanded, guests_by, message_of, puts_before, puts_behind, reset_by, said_on, stop_puts, taken_puts}
-use Rattle.sys_rounds.specs.Guests.{commanded_to_stop, reset, typed}
+use Rattle.sys_rounds.specs.Guests.{reset, stopped_by_command, typed}
 use Rattle.sys_rounds.specs.Places.{changed}
 use Rattle.sys_rounds.specs.State.{Put, State, bytes_on, is_running, server_of}
 use Rattle.sys_server.specs.Apply.{HasPlaces, applied, taken}
@@ -40,11 +40,11 @@ pub guest_types : (k : Kernel) (guests' : Vec Kept Global) (g : ℕ) (text : Lis
 guest_types k guests' g text turns l m h x = leads_turned m k guests' k.port l x g (typed text) h turns
 
 -- a guest is stopped, and its console is shown that
-pub guest_halts : (k : Kernel) (guests' : Vec Kept Global) (port' : Keeps) (marks' : List Bool) (l l' : List Seen) (g : ℕ) (console : Option ℕ) (bytes : List ℕ) → TakesStateAt g commanded_to_stop k.guests.items guests'.items → StopShows g k.guests.items bytes
+pub guest_halts : (k : Kernel) (guests' : Vec Kept Global) (port' : Keeps) (marks' : List Bool) (l l' : List Seen) (g : ℕ) (console : Option ℕ) (bytes : List ℕ) → TakesStateAt g stopped_by_command k.guests.items guests'.items → StopShows g k.guests.items bytes
     → console ≡ console_of k.config.terminals k.server.at g → Shows k.marks marks' l l' (only_on console bytes) → DoesAnywhere (guest_halted k.config g) k l (record k { guests = guests'; port = port'; marks = marks' }) l'
 guest_halts k guests' port' marks' l l' g console bytes turns said at shows m h x =
     let s : State = state_of m.memory k x in
-    let turned = leads_turned m k guests' port' l x g commanded_to_stop h turns in
+    let turned = leads_turned m k guests' port' l x g stopped_by_command h turns in
     let place : console ≡ console_of k.config.terminals s.connected g = at ∙ sym (console_in_front k.config.terminals k.server.at g) in
     let told = console_told k.marks marks' l l' console (console_of k.config.terminals s.connected g) bytes (message_of (slice_get s.guests g)) place (said m.memory) shows in
     leads_same (guest_halted k.config g s) turned.state (λ line. refl) (leads_then turned (leads_shown m (record k { guests = guests'; port = port' }) marks' l l' x (stop_puts k.config s g) turned.holds told))

@@ -7,7 +7,7 @@ use Rattle.sys_events.proofs.Happening.{connected_at}
 use Rattle.sys_events.proofs.Leading.{Volumes}
 use Rattle.sys_events.proofs.Seats.{same_verdict}
 use Rattle.sys_events.specs.Happens.{Happen, Happens, line_starts_at}
-use Rattle.sys_guests.specs.Kernel.{IsKernel, Leads, state_of}
+use Rattle.sys_guests.specs.Kernel.{state_of}
 use Rattle.sys_guests.specs.Layout.{guests_in}
 use Rattle.sys_guests.specs.Present.{HavePresent, KeepsAll}
 use Rattle.sys_guests.specs.declared.kernel.Kernel.{Kernel}

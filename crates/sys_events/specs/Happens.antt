@@ -8,7 +8,7 @@ use Rattle.sys_objects.specs.declared.records.Config.{Config}
 use Rattle.sys_objects.specs.declared.records.Terminal.{Terminal}
 use Rattle.sys_rounds.specs.Events.{after_verdict, at_row, commanded, events, guests_by, happened, puts_before, stop_puts}
 use Rattle.sys_rounds.specs.FirstTouches.{typing_starts}
-use Rattle.sys_rounds.specs.Guests.{commanded_to_stop, typed}
+use Rattle.sys_rounds.specs.Guests.{stopped_by_command, typed}
 use Rattle.sys_rounds.specs.Places.{changed}
 use Rattle.sys_rounds.specs.State.{Put, State, Went, server_of}
 use Rattle.sys_script.specs.declared.event.Event.{Event}
@@ -79,4 +79,4 @@ abbrev pub guest_typed : ℕ → List ℕ → State → Went State
 guest_typed g text s = record { now = record s { guests = changed (typed text) s.guests g }; puts = [] }
 
 abbrev pub guest_halted : Config → ℕ → State → Went State
-guest_halted c g s = record { now = record s { guests = changed commanded_to_stop s.guests g }; puts = stop_puts c s g }
+guest_halted c g s = record { now = record s { guests = changed stopped_by_command s.guests g }; puts = stop_puts c s g }

@@ -7,7 +7,7 @@ use sys_objects::Terminal;
 use vv_base::Name;
 
 /// Whether it is this place.
-fn is_at(place: Option<u8>, k: u8) -> bool
+pub fn is_at(place: Option<u8>, k: u8) -> bool
     ensures { result ≡ is_at k place }
 {
     place == Some(k)

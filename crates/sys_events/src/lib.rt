@@ -9,5 +9,5 @@ mod guests;
 mod shows;
 mod texts;
 
-pub use consoles::console_of;
+pub use consoles::{console_of, is_at};
 pub use events::happen;

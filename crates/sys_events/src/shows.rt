@@ -1,4 +1,4 @@
-ghost use Rattle.std.specs.Prelude.{◌≡◌, ◌<◌, ◌≤◌, [], ◌∷◌, All, filter, if◌then◌else◌, length, map, slice_get, vec_len};
+ghost use Rattle.std.specs.Prelude.{◌≡◌, ◌<◌, [], ◌∷◌, All, filter, if◌then◌else◌, length, map, slice_get, vec_len};
 ghost use Rattle.vv_class.specs.Class.{does_flow};
 ghost use Rattle.sys_events.specs.Saying.{guest_line, one_put, puts_on, runs, show_lines};
 ghost use Rattle.sys_lines.specs.Shows.{Shows};

@@ -2,20 +2,10 @@ ghost use Rattle.std.specs.List.{list_any};
 ghost use Rattle.std.specs.Prelude.{◌≡◌, slice_get};
 ghost use Rattle.sys_flow.specs.Objects.{object_of};
 ghost use Rattle.sys_flow.specs.Reach.{has_edge, has_terminal, is_edge, is_mount_of, is_written_mount_of, meets, prints_on, read_by, shows_on, written_by};
-ghost use Rattle.sys_objects.specs.Rules.{same_class};
 
 use crate::objects::{Place, object_at};
-use sys_objects::{Config, GuestRow, Mount};
+use sys_objects::{Config, GuestRow, Mount, same_class};
 use vv_class::{AccessClass, flows};
-
-fn same_class(a: &AccessClass, b: &AccessClass) -> bool
-    ensures { result ≡ same_class a.now b.now }
-{
-    a.secrecy == b.secrecy
-        && a.secrecy_cats == b.secrecy_cats
-        && a.integrity == b.integrity
-        && a.integrity_cats == b.integrity_cats
-}
 
 /// Whether a terminal has the class.
 fn has_terminal(c: &Config, class: &AccessClass) -> bool

@@ -1,4 +1,4 @@
-ghost use Rattle.std.specs.Option.{option_map, option_map_or};
+ghost use Rattle.std.specs.Option.{option_map};
 ghost use Rattle.std.specs.Prelude.{◌≡◌, ◌≤◌, [], length, slice_get};
 ghost use Rattle.sys_flow.specs.Objects.{object_of};
 ghost use Rattle.sys_flow.specs.Reach.{all_objects, audit_object};

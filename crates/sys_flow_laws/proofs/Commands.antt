@@ -18,7 +18,7 @@ use Rattle.sys_purge.proofs.Fits.{CommandFits, VerdictFits}
 use Rattle.sys_purge.proofs.Kept.{both}
 use Rattle.sys_purge.proofs.Places.{stand_all}
 use Rattle.sys_rounds.specs.Events.{after_verdict, obeyed, reset_by}
-use Rattle.sys_rounds.specs.Guests.{commanded_to_stop}
+use Rattle.sys_rounds.specs.Guests.{stopped_by_command}
 use Rattle.sys_rounds.specs.Places.{changed}
 use Rattle.sys_rounds.specs.State.{State, server_of}
 use Rattle.sys_server.specs.Apply.{applied, freed}
@@ -89,7 +89,7 @@ module _ (c : Config) (far : Object → Bool) where
     volumes = a.volumes;
   }
   same_obeyed s t a n (Start g) = record { connected = a.connected; mounts = a.mounts; guests = agree_changed (far_guest c far) 0 (reset_by (slice_get c.guests g)) s.guests t.guests a.guests g; volumes = a.volumes }
-  same_obeyed s t a n (Halt g) = record { connected = a.connected; mounts = a.mounts; guests = agree_changed (far_guest c far) 0 commanded_to_stop s.guests t.guests a.guests g; volumes = a.volumes }
+  same_obeyed s t a n (Halt g) = record { connected = a.connected; mounts = a.mounts; guests = agree_changed (far_guest c far) 0 stopped_by_command s.guests t.guests a.guests g; volumes = a.volumes }
   same_obeyed s t a n (MountAt g unit m) = record { connected = a.connected; mounts = mounts_alike g unit (Some m) s.mounts t.mounts a.mounts; guests = a.guests; volumes = a.volumes }
   same_obeyed s t a n (Dismount g unit) = record { connected = a.connected; mounts = mounts_alike g unit None s.mounts t.mounts a.mounts; guests = a.guests; volumes = a.volumes }
   same_obeyed s t a n Show = a
@@ -118,7 +118,7 @@ module _ (c : Config) (far : Object → Bool) where
         record { connected = all.connected; mounts = all.mounts; guests = agree_unchanged (far_guest c far) (reset_by (slice_get c.guests g)) s.guests g (holds_far c far closed n k at g h ∙ near); volumes = all.volumes }
     quiet_obeyed s f n k at near (Halt g) h =
         let all = alike_refl s in
-        record { connected = all.connected; mounts = all.mounts; guests = agree_unchanged (far_guest c far) commanded_to_stop s.guests g (holds_far c far closed n k at g h ∙ near); volumes = all.volumes }
+        record { connected = all.connected; mounts = all.mounts; guests = agree_unchanged (far_guest c far) stopped_by_command s.guests g (holds_far c far closed n k at g h ∙ near); volumes = all.volumes }
     quiet_obeyed s f n k at near (MountAt g unit m) h =
         let all = alike_refl s in
         record { connected = all.connected; mounts = mounts_quiet g unit (Some m) s.mounts (holds_far c far closed n k at g h.0 ∙ near); guests = all.guests; volumes = all.volumes }

@@ -12,6 +12,7 @@ use Rattle.sys_objects.specs.declared.records.Config.{Config}
 use Rattle.sys_objects.specs.declared.records.Terminal.{Terminal}
 use Rattle.sys_objects.specs.declared.records.VolumeRow.{VolumeRow}
 use Rattle.sys_objects.specs.declared.rules.Object.{Object as Named}
+use Rattle.sys_purge.proofs.EventBytes.{known}
 use Rattle.sys_purge.proofs.Judged.{get_map}
 use Rattle.sys_purge.proofs.Kept.{both}
 use Rattle.sys_rounds.specs.Bytes.{drive_blocks, line_bytes}
@@ -62,15 +63,6 @@ same_bytes [] [] h = refl
 same_bytes [] (y ∷ b) h = absurd (false≢true h)
 same_bytes (x ∷ a) [] h = absurd (false≢true h)
 same_bytes (x ∷ a) (y ∷ b) h = let p = and_parts (x == y) (bytes_eq a b) h in let one = eqb-true x y p.0 in let rest = same_bytes a b p.1 in λ i. one i ∷ rest i
-
--- of what passes, what passes a weaker test
-known : {X : Type 0} (p test : X → Bool) (xs : List X) → ((x : X) → p x ≡ true → test x ≡ true) → filter p (filter test xs) ≡ filter p xs
-known p test [] h = refl
-known p test (x ∷ xs) h =
-    let rest = known p test xs h in
-    both (test x)
-    (λ e. both (p x) (λ b. rw (e, b) (ap (λ ys. x ∷ ys) rest)) (λ b. rw (e, b) rest))
-    (λ e. both (p x) (λ b. absurd (true≢false (sym (h x b) ∙ e))) (λ b. rw (e, b) rest))
 
 -- the first that passes is the only one
 place_only : {X : Type 0} (p : X → Bool) (xs : List X) (k : ℕ) (x : X) → slice_get xs k ≡ Some x → p x ≡ true → ((j : ℕ) (y : X) → slice_get xs j ≡ Some y → p y ≡ true → j ≡ k) → place_of p xs ≡ Some k

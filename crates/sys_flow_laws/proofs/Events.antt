@@ -13,6 +13,7 @@ use Rattle.sys_objects.specs.declared.records.Audit.{Audit}
 use Rattle.sys_objects.specs.declared.records.Config.{Config}
 use Rattle.sys_objects.specs.declared.records.GuestRow.{GuestRow}
 use Rattle.sys_objects.specs.declared.records.Terminal.{Terminal}
+use Rattle.sys_purge.proofs.EventBytes.{off_line, off_said}
 use Rattle.sys_purge.proofs.Fits.{ConnectFits, Holds, Pairs, VerdictFits, pairs_at, pairs_set, verdict_fits}
 use Rattle.sys_purge.proofs.Judged.{position_is}
 use Rattle.sys_purge.proofs.Kept.{both}
@@ -33,14 +34,6 @@ use Rattle.sys_server.specs.declared.command.Command.TheVariants.{Connect, Start
 use Rattle.sys_server.specs.declared.command.Verdict.{Verdict}
 use Rattle.sys_server.specs.declared.command.Verdict.TheVariants.{Granted, BadCommand, NoSuchObject, Denied}
 use Rattle.vm_state.specs.State.{Guest}
-
--- what all of one line is shown, on another
-off_line : (own line : ℕ) → (own == line) ≡ false → (texts : List (List ℕ)) → bytes_on line (map (λ text. record { line = own; bytes = text }) texts) ≡ []
-off_line own line off [] = refl
-off_line own line off (text ∷ texts) = let rest = off_line own line off texts in rw off rest
-
-off_said : (own line : ℕ) → (own == line) ≡ false → (text : List ℕ) (puts : List Put) → bytes_on line (said_on own text ∷ puts) ≡ bytes_on line puts
-off_said own line off text puts = rw off refl
 
 module _ (c : Config) (far : Object → Bool) (closed : IsClosed c far) where
   -- SHOW at a far terminal: it knows far guests alone

@@ -12,17 +12,10 @@ use Rattle.sys_objects.specs.declared.records.GuestRow.{GuestRow}
 use Rattle.sys_objects.specs.declared.records.Mount.{Mount}
 use Rattle.sys_objects.specs.declared.records.PrinterRow.{PrinterRow}
 use Rattle.sys_objects.specs.declared.records.Terminal.{Terminal}
+use Rattle.sys_purge.proofs.Accepted.{same_itself}
 use Rattle.sys_purge.proofs.Devices.{flows_itself}
 use Rattle.sys_purge.proofs.Fits.{Each, Holds}
 use Rattle.sys_purge.proofs.Kept.{both}
-
-pub same_itself : (a : AccessClass) → same_class a a ≡ true
-same_itself a =
-    let p = eq-eqb a.secrecy a.secrecy refl in
-    let q = eq-eqb a.secrecy_cats a.secrecy_cats refl in
-    let r = eq-eqb a.integrity a.integrity refl in
-    let s = eq-eqb a.integrity_cats a.integrity_cats refl in
-    rw (p, q, r, s) refl
 
 module _ (c : Config) (far : Object → Bool) where
   abbrev pub far_terminal : ℕ → Bool

@@ -7,7 +7,7 @@ use Rattle.vv_class.specs.Class.{does_flow}
 use Rattle.vv_class.specs.declared.class.AccessClass.{AccessClass}
 use Rattle.sys_flow.specs.Reach.{Object, has_terminal, is_mount_of, is_written_mount_of, read_by, written_by}
 use Rattle.sys_flow_laws.proofs.Agree.{AsLong, long_map, long_set}
-use Rattle.sys_flow_laws.proofs.Far.{MountLeads, MountsLead, same_itself}
+use Rattle.sys_flow_laws.proofs.Far.{MountLeads, MountsLead}
 use Rattle.sys_objects.specs.Condition.{MayHave}
 use Rattle.sys_objects.specs.Rules.{is_mountable, may_mount, same_class}
 use Rattle.sys_objects.specs.declared.records.Config.{Config}
@@ -15,6 +15,7 @@ use Rattle.sys_objects.specs.declared.records.GuestRow.{GuestRow}
 use Rattle.sys_objects.specs.declared.records.Mount.{Mount}
 use Rattle.sys_objects.specs.declared.records.Terminal.{Terminal}
 use Rattle.sys_objects.specs.declared.records.VolumeRow.{VolumeRow}
+use Rattle.sys_purge.proofs.Accepted.{same_itself}
 use Rattle.sys_purge.proofs.Beside.{set_is_changed}
 use Rattle.sys_purge.proofs.Fits.{CommandFits, Each, Fits, Pairs, VerdictFits, all_get, each_set, fits_happened, pairs_changed, verdict_fits}
 use Rattle.sys_purge.proofs.Kept.{both}

@@ -1,5 +1,5 @@
 -- Rounds of two runs from states that agree at far objects.
-use Rattle.std.proofs.Common.{◌≡◌, ◌==◌, ℕ, zero, suc, List, [], ◌∷◌, ◌++◌, filter, Bool, refl, sym, ap, ◌∙◌, subst}
+use Rattle.std.proofs.Common.{◌≡◌, ◌==◌, ℕ, zero, suc, List, ◌++◌, filter, Bool, refl, sym, ap, ◌∙◌, subst}
 use Rattle.sys_flow.specs.Reach.{Object}
 use Rattle.sys_flow_laws.proofs.Agree.{agree_beside}
 use Rattle.sys_flow_laws.proofs.Commands.{Alike}
@@ -10,7 +10,7 @@ use Rattle.sys_flow_laws.proofs.Transfers.{all_alike}
 use Rattle.sys_flow_laws.proofs.Turns.{turns_alike}
 use Rattle.sys_flow_laws.specs.Laws.{IsClosed, is_far_event}
 use Rattle.sys_objects.specs.declared.records.Config.{Config}
-use Rattle.sys_purge.proofs.Kept.{both}
+use Rattle.sys_purge.proofs.Runs.{exchanged}
 use Rattle.sys_purge.proofs.Places.{stand_all}
 use Rattle.sys_rounds.proofs.Consoles.{bytes_append}
 use Rattle.sys_rounds.specs.Events.{events}
@@ -19,15 +19,6 @@ use Rattle.sys_rounds.specs.State.{Put, State, Went, bytes_on}
 use Rattle.sys_rounds.specs.Transfers.{transfers}
 use Rattle.sys_rounds.specs.Turns.{turn, turns}
 use Rattle.sys_script.specs.declared.event.Event.{Event}
-
--- two filters in either order
-exchanged : {X : Type 0} (p q : X → Bool) (xs : List X) → filter p (filter q xs) ≡ filter q (filter p xs)
-exchanged p q [] = refl
-exchanged p q (x ∷ xs) =
-    let rest = exchanged p q xs in
-    both (p x)
-    (λ e. both (q x) (λ f. rw (e, f, e) (ap (λ ys. x ∷ ys) rest)) (λ f. rw (e, f) rest))
-    (λ e. both (q x) (λ f. rw (e, f, e) rest) (λ f. rw (e, f) rest))
 
 module _ (c : Config) (far : Object → Bool) (closed : IsClosed c far) (line : ℕ) (silent : IsFarLine c far line) where
   abbrev far_events : List Event → List Event

@@ -64,7 +64,7 @@ get_map f [] k x h read = absurd (omega (arith, h))
 get_map f (y ∷ xs) zero x h read = ap (λ z. Some (f z)) (sym read)
 get_map f (y ∷ xs) (suc k) x h read = get_map f xs k x (omega (arith, h)) read
 
-none_some : {X : Type 0} (x : X) → (let o : Option X = None in o ≡ Some x) → ⊥
+pub none_some : {X : Type 0} (x : X) → (let o : Option X = None in o ≡ Some x) → ⊥
 none_some x e = cc
 
 same_some : {X : Type 0} (a b : X) → (let o : Option X = Some a in o ≡ Some b) → a ≡ b

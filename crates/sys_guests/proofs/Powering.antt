@@ -1,30 +1,24 @@
 -- How power comes up: which image doesn't fit, and the guests one after another.
-use Rattle.std.proofs.Common.{ℕ, zero, suc, ◌≡◌, ◌<◌, ◌≤◌, ◌+◌, ◌-◌, ◌*◌, ◌⊎◌, inl, inr, List, [], ◌∷◌, ◌++◌, length, map, take, drop, slice_index_or, refl, sym, ◌∙◌, ap, subst, arith, Bool, true, false, if◌then◌else◌, Option, Some, None, option_map, add_assoc, append_assoc, length-append}
+use Rattle.std.proofs.Common.{ℕ, zero, suc, ◌≡◌, ◌<◌, ◌≤◌, ◌+◌, ◌-◌, ◌*◌, ◌⊎◌, inl, inr, List, [], ◌∷◌, ◌++◌, length, map, take, drop, slice_index_or, refl, sym, ◌∙◌, ap, subst, arith, Bool, true, false, if◌then◌else◌, Option, Some, None, option_map, append_assoc, length-append}
 use Rattle.std.proofs.Math.ListN.{drop_of_length-le}
 use Rattle.std.proofs.Math.Seq.{drop-append_seam, take-append_seam}
 use Rattle.std.proofs.lemmas.Bool.Decides.{nat_tests}
-use Rattle.std.proofs.lemmas.Grind.{common_steps}
 use Rattle.std.proofs.lemmas.Bool.{cases_lt}
-use Rattle.std.proofs.lemmas.List.{get_or_append_left, get_or_at, length-drop, length-take-le, map-append, take_all}
-use Rattle.std.proofs.lemmas.List.Elements.{All-nil}
-use Rattle.std.proofs.lemmas.List.Sums.{sum_by-cons}
-use Rattle.std.specs.List.{All, sum_by}
+use Rattle.std.proofs.lemmas.List.{get_or_append_left, get_or_at, length-drop, length-take-le, map-append}
+use Rattle.std.specs.List.{All}
 use Rattle.std.specs.Prelude.{IfOk, OnErr}
 use Rattle.std.specs.declared.result.Result.{Result}
 use Rattle.std.specs.declared.result.Result.TheVariants.{Ok, Err}
 use Rattle.vax_hw.specs.Machine.{Machine}
 use Rattle.vv_base.specs.Bytes.{overwritten}
 use Rattle.sys_guests.proofs.Images.{opening_length}
-use Rattle.sys_guests.proofs.LaidOut.{IsWithin, pages_in, placed_at, placed_more}
-use Rattle.sys_guests.proofs.Lists.{all_same, map_same, one_of_all}
-use Rattle.sys_guests.specs.Layout.{AreInMachine, ArePlaced, IsPlaced, guests_in}
+use Rattle.sys_guests.specs.Layout.{guests_in}
 use Rattle.sys_guests.specs.Loads.{MemoryAlone, OnlyPlaces, PlacesOne, PutsIn, first_misfit, is_misfit}
 use Rattle.sys_lines.proofs.Lists.{found_here, found_later, from_on}
 use Rattle.sys_objects.specs.declared.records.GuestRow.{GuestRow}
 use Rattle.sys_rounds.specs.Guests.{powered}
 use Rattle.sys_rounds.specs.Places.{beside_with, place_of}
-use Rattle.vm_guest.proofs.Sharing.{stands_elsewhere}
-use Rattle.vm_guest.specs.Kept.{IsResumed, Kept, StandsIn, guest_in}
+use Rattle.vm_guest.specs.Kept.{IsResumed, Kept, guest_in}
 use Rattle.vm_shadow.proofs.Filling.{byte_apart}
 use Rattle.vm_shadow.proofs.Writes.{part_same}
 use Rattle.vm_shadow.specs.StandsFor.{StandsFor}

@@ -15,8 +15,8 @@ use Rattle.vm_fitting.specs.Paid.{Pays}
 use Rattle.vm_fitting.specs.Present.{HasPresent}
 use Rattle.vm_guest.specs.Kept.{KeepsPresent, Kept, guest_in}
 use Rattle.vm_shadow.specs.Stands.{Shadowed}
-use Rattle.vm_state.specs.State.{Guest, context_of, tables_of}
-use Rattle.vm_state.specs.Touches.{Present, Touching, no_pages, touching_reset, touching_steps}
+use Rattle.vm_state.specs.State.{Guest}
+use Rattle.vm_state.specs.Touches.{Touching, touching_reset, touching_steps}
 
 -- the guest at a place
 pub set_present : (ks : List Kept) (place : ℕ) (k k' : Kept) (f : Touching → Touching) → place < length ks → k ≡ slice_index_or ks place k → ((t : Touching) → HasPresent k.shadow t.present → HasPresent k'.shadow (f t).present) → (ts : List Touching) → HavePresent ks ts → HavePresent (slice_set ks place k') (changed f ts place)

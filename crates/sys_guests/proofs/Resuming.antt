@@ -1,14 +1,13 @@
 -- Guests that go on with registers and a memory that were kept, one after another.
-use Rattle.std.proofs.Common.{ℕ, zero, suc, ◌≡◌, ◌<◌, ◌≤◌, ◌+◌, ◌-◌, ◌*◌, List, [], ◌∷◌, ◌++◌, length, map, take, drop, replicate, slice_index_or, refl, sym, ◌∙◌, ap, subst, arith, append-nil, Result, IfOk}
+use Rattle.std.proofs.Common.{ℕ, zero, suc, ◌≡◌, ◌<◌, ◌≤◌, ◌+◌, ◌-◌, ◌*◌, List, [], ◌∷◌, ◌++◌, length, map, take, drop, replicate, slice_index_or, refl, sym, ◌∙◌, ap, subst, arith, append-nil}
 use Rattle.std.proofs.lemmas.List.{length-map}
 use Rattle.std.proofs.lemmas.List.Elements.{All-head, All-tail}
 use Rattle.std.proofs.lemmas.List.Sums.{sum_by-cons}
 use Rattle.std.specs.List.{All, AllZip, sum_by}
-use Rattle.vax_hw.specs.Machine.{Machine}
 use Rattle.sys_guests.proofs.Entering.{ArePutIn, one_put_in, pages_next, pages_within}
 use Rattle.sys_guests.proofs.LaidOut.{pages_in}
 use Rattle.sys_guests.proofs.Powering.{map_at, placed_as}
-use Rattle.sys_guests.specs.Loads.{MemoryAlone, PlacesOne, PutsIn}
+use Rattle.sys_guests.specs.Loads.{PlacesOne, PutsIn}
 use Rattle.sys_objects.specs.Condition.{IsGuest}
 use Rattle.sys_objects.specs.declared.records.GuestRow.{GuestRow}
 use Rattle.sys_snap.specs.Held.{ArePlaced, guest_of}
@@ -17,7 +16,7 @@ use Rattle.sys_snap.specs.declared.snap.GuestSnap.{GuestSnap}
 use Rattle.vm_guest.specs.Kept.{Kept}
 use Rattle.vm_state.specs.Allowed.{AreAllowed}
 use Rattle.vm_state.specs.Start.{opening}
-use Rattle.vm_state.specs.State.{Guest, HasPlace, state_of}
+use Rattle.vm_state.specs.State.{HasPlace, state_of}
 
 -- the first of what is left
 pub record IsHead {X : Type 0} (xs : List X) (k : ℕ) (x : X) (rest : List X) : Type 0 where

@@ -1,5 +1,5 @@
 -- A guest's turn in the machine is its own; so are a command and a typed line.
-use Rattle.std.proofs.Common.{ℕ, zero, suc, ◌≡◌, ◌<◌, ◌≤◌, ◌+◌, ◌%◌, ◌^◌, List, [], ◌∷◌, ◌++◌, length, slice_index_or, slice_set, refl, sym, ◌∙◌, ap, subst, arith, Option, None, Some}
+use Rattle.std.proofs.Common.{ℕ, zero, suc, ◌≡◌, ◌<◌, ◌≤◌, ◌+◌, ◌%◌, ◌^◌, List, [], length, slice_index_or, slice_set, refl, sym, ◌∙◌, ap, subst, arith, Option, None, Some}
 use Rattle.std.specs.List.{All, slice_get}
 use Rattle.std.specs.Prelude.{IfSome}
 use Rattle.vax_hw.specs.Machine.{Machine}
@@ -9,16 +9,14 @@ use Rattle.sys_guests.specs.Changes.{AdvancesOne, StopShows, TakesStateAt, shown
 use Rattle.sys_guests.specs.Layout.{guests_in}
 use Rattle.sys_rounds.specs.Counts.{tally_by}
 use Rattle.sys_rounds.specs.Events.{message_of}
-use Rattle.sys_rounds.specs.Guests as rounds
-use Rattle.sys_rounds.specs.Guests.{alone, commanded_to_stop, typed}
+use Rattle.sys_rounds.specs.Guests.{alone, stopped_by_command, typed}
 use Rattle.sys_rounds.specs.Slices.{Slice}
 use Rattle.vm_console.proofs.Kept.{kept_whole}
 use Rattle.vm_console.specs.Appends.{Appends}
-use Rattle.vm_console.specs.Console.{ConsoleState, after_typed}
 use Rattle.vm_console.specs.Kept.{Keeps, MayKeep, empty}
-use Rattle.vm_guest.specs.Kept as kept
-use Rattle.vm_guest.specs.Kept.{Kept, StandsIn, TakesState, guest_in, with_line}
+use Rattle.vm_guest.specs.Kept.{Kept, StandsIn, TakesState, guest_in}
 use Rattle.vm_state.proofs.Steps.{shows_few, steps_keep}
+use Rattle.vm_state.specs.Outside.{commanded_to_stop, stop_message, with_line}
 use Rattle.vm_state.specs.Run.{Run, after_step, after_steps, no_steps}
 use Rattle.vm_state.specs.State.{Guest, State, state_of}
 use Rattle.vm_state.specs.Step.{step}
@@ -61,50 +59,30 @@ advanced ks k k' m m' old new x c there read stand few is_empty a =
 pub of_one : (ks : List Kept) (place : ℕ) (k : Kept) (memory : List ℕ) (P : Guest → Type 0) → place < length ks → k ≡ slice_index_or ks place k → P (guest_in memory k) → IfSome (slice_get (guests_in memory ks) place) P
 of_one ks place k memory P there read holds = subst (λ (o : Option Guest). IfSome o P) (sym (get_map (guest_in memory) ks place k there read)) holds
 
--- one that runs is stopped by a command, and one that has stopped stays so
-stop_by : (g : Guest) → commanded_to_stop g ≡ record g { state = kept.commanded_to_stop g.state }
-stop_by g = by g.state.halt refl
-  where
-    by : (o : Option ℕ) → g.state.halt ≡ o → commanded_to_stop g ≡ record g { state = kept.commanded_to_stop g.state }
-    by None e = rw e refl
-    by (Some code) e = rw e refl
-
-stop_text_by : (g : Guest) → kept.stop_message g.state ≡ rounds.stop_message g
-stop_text_by g = by g.state.halt refl
-  where
-    by : (o : Option ℕ) → g.state.halt ≡ o → kept.stop_message g.state ≡ rounds.stop_message g
-    by None e = rw e refl
-    by (Some code) e = rw e refl
-
-stop_keeps_faults : (s : State) → (kept.commanded_to_stop s).modify_faults ≡ s.modify_faults
+-- a command to stop it leaves its choice of modify faults
+stop_keeps_faults : (s : State) → (commanded_to_stop s).modify_faults ≡ s.modify_faults
 stop_keeps_faults s = by s.halt refl
   where
-    by : (o : Option ℕ) → s.halt ≡ o → (kept.commanded_to_stop s).modify_faults ≡ s.modify_faults
+    by : (o : Option ℕ) → s.halt ≡ o → (commanded_to_stop s).modify_faults ≡ s.modify_faults
     by None e = rw e refl
     by (Some code) e = rw e refl
 
-pub stopped : (ks : List Kept) (place : ℕ) (k k' : Kept) → place < length ks → k ≡ slice_index_or ks place k → TakesState (kept.commanded_to_stop (state_of k.state)) k k' → TakesStateAt place commanded_to_stop ks (slice_set ks place k')
-stopped ks place k k' there read t = one_turns place commanded_to_stop (λ (y : Kept). kept.commanded_to_stop (state_of y.state)) ks k k' there read (λ memory. stop_by (guest_in memory k)) (stop_keeps_faults (state_of k.state)) t
+pub stopped : (ks : List Kept) (place : ℕ) (k k' : Kept) → place < length ks → k ≡ slice_index_or ks place k → TakesState (commanded_to_stop (state_of k.state)) k k' → TakesStateAt place stopped_by_command ks (slice_set ks place k')
+stopped ks place k k' there read t = one_turns place stopped_by_command (λ (y : Kept). commanded_to_stop (state_of y.state)) ks k k' there read (λ memory. refl) (stop_keeps_faults (state_of k.state)) t
 
 -- what it says fits the port
-few_said : (s : State) → length (kept.stop_message s) ≤ 1400000
+few_said : (s : State) → length (stop_message s) ≤ 1400000
 few_said s = by s.halt refl
   where
-    by : (o : Option ℕ) → s.halt ≡ o → length (kept.stop_message s) ≤ 1400000
+    by : (o : Option ℕ) → s.halt ≡ o → length (stop_message s) ≤ 1400000
     by None e = rw e (omega arith)
     by (Some code) e = rw e (omega arith)
 
-pub said : (ks : List Kept) (place : ℕ) (k : Kept) (old new : Keeps) → place < length ks → k ≡ slice_index_or ks place k → old ≡ empty → Appends (MayKeep 1400000) old new (kept.stop_message (state_of k.state)) → StopShows place ks new.bytes
+pub said : (ks : List Kept) (place : ℕ) (k : Kept) (old new : Keeps) → place < length ks → k ≡ slice_index_or ks place k → old ≡ empty → Appends (MayKeep 1400000) old new (stop_message (state_of k.state)) → StopShows place ks new.bytes
 said ks place k old new there read is_empty appends memory =
     let here : slice_get (guests_in memory ks) place ≡ Some (guest_in memory k) = get_map (guest_in memory) ks place k there read in
-    kept_whole 1400000 old new (kept.stop_message (state_of k.state)) is_empty appends (few_said (state_of k.state)) ∙ stop_text_by (guest_in memory k) ∙ ap message_of (sym here)
-
--- the two definitions of a typed line are one
-typed_same : (xs : List ℕ) (c : ConsoleState) → rounds.all_typed xs c ≡ kept.all_typed xs c
-typed_same [] c = refl
-typed_same (x ∷ xs) c = typed_same xs (after_typed c x)
+    kept_whole 1400000 old new (stop_message (state_of k.state)) is_empty appends (few_said (state_of k.state)) ∙ ap message_of (sym here)
 
 pub line_typed : (ks : List Kept) (place : ℕ) (text : List ℕ) (k k' : Kept) → place < length ks → k ≡ slice_index_or ks place k → TakesState (with_line text (state_of k.state)) k k' → TakesStateAt place (typed text) ks (slice_set ks place k')
 line_typed ks place text k k' there read t =
-    one_turns place (typed text) (λ (y : Kept). with_line text (state_of y.state)) ks k k' there read
-    (λ memory i. record (guest_in memory k) { state = record (state_of k.state) { console = typed_same (text ++ 13 ∷ []) (state_of k.state).console i } }) refl t
+    one_turns place (typed text) (λ (y : Kept). with_line text (state_of y.state)) ks k k' there read (λ memory. refl) refl t

@@ -1,5 +1,5 @@
 -- How guests come into the machine: at power-up with their images, and again as they were.
-use Rattle.std.specs.Prelude.{ℕ, ◌≡◌, ◌≤◌, ◌<◌, ◌+◌, ◌*◌, ◌⊎◌, nat_lt, List, [], length, slice_index, Bool, true, false, Option}
+use Rattle.std.specs.Prelude.{ℕ, ◌≡◌, ◌≤◌, ◌<◌, ◌+◌, ◌*◌, ◌⊎◌, nat_lt, List, [], length, slice_index, Bool, Option}
 use Rattle.vax_hw.specs.Machine.{Machine}
 use Rattle.sys_guests.specs.Layout.{IsPlaced}
 use Rattle.sys_objects.specs.declared.records.GuestRow.{GuestRow}

@@ -3,7 +3,7 @@ ghost use Rattle.sys_guests.specs.Changes.{AdvancesOne, StartsOne, StopShows, Ta
 ghost use Rattle.sys_guests.specs.Layout.{guests_in};
 ghost use Rattle.sys_guests.specs.Present.{KeepsAll, PaysAll};
 ghost use Rattle.sys_rounds.specs.FirstTouches.{with_reset};
-ghost use Rattle.sys_rounds.specs.Guests.{commanded_to_stop, typed};
+ghost use Rattle.sys_rounds.specs.Guests.{stopped_by_command, typed};
 ghost use Rattle.sys_rounds.specs.SlicedTouches.{touches_of_slice};
 ghost use Rattle.vm_events.specs.Noted.{note_of};
 ghost use Rattle.vm_guest.specs.Kept.{StandsIn};
@@ -71,7 +71,7 @@ pub fn start_at<H: Hardware>(machine: &mut H, guests: &mut Vec<Guest>, place: u8
 /// A guest is stopped, if it runs, and what it shows is kept.
 pub fn stop_at(port: &mut KeptPort<MOST_SHOWN>, guests: &mut Vec<Guest>, place: u8)
     requires there { place < vec_len guests.old }
-    ensures turns { TakesStateAt place commanded_to_stop guests.old.items guests.new.items }
+    ensures turns { TakesStateAt place stopped_by_command guests.old.items guests.new.items }
     ensures shown { StopShows place guests.old.items port.new.bytes }
     ensures present { KeepsAll (λ ts. ts) guests.old.items guests.new.items }
 {

@@ -63,7 +63,7 @@ pub record IsBut (start now : Seen) (rest whole : List ℕ) : Type 0 where
 pub begun : (start : Seen) (whole : List ℕ) → IsBut start start whole whole
 begun start whole = record { text = []; shows = shows_nothing start; is = refl }
 
-with_more : (text more left rest whole : List ℕ) → rest ≡ more ++ left → text ++ rest ≡ whole → (text ++ more) ++ left ≡ whole
+pub with_more : (text more left rest whole : List ℕ) → rest ≡ more ++ left → text ++ rest ≡ whole → (text ++ more) ++ left ≡ whole
 with_more text more left rest whole parts is = append_assoc text more left ∙ ap (λ (xs : List ℕ). text ++ xs) (sym parts) ∙ is
 
 -- the next part of the rest is shown

@@ -12,7 +12,7 @@ use Rattle.sys_lines.specs.Shows.{Gets, Shows}
 use Rattle.sys_objects.specs.declared.records.Terminal.{Terminal}
 use Rattle.sys_rounds.proofs.Consoles.{bytes_append}
 use Rattle.sys_rounds.specs.Bytes.{shown_from}
-use Rattle.sys_rounds.specs.Run.{Moment, round, rounds, rounds_from}
+use Rattle.sys_rounds.specs.Run.{Moment, round, rounds_from}
 use Rattle.sys_rounds.specs.State.{State, Went, bytes_on}
 use Rattle.sys_runs.proofs.Many.{rounds_more}
 use Rattle.sys_script.specs.declared.event.Event.{Event}

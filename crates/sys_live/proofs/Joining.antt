@@ -10,12 +10,12 @@ use Rattle.sys_objects.specs.declared.records.GuestRow.{GuestRow}
 use Rattle.sys_rounds.proofs.Steps.{as_sum}
 use Rattle.sys_rounds.specs.Counts.{added, round_tally, rounds_tally}
 use Rattle.sys_rounds.specs.Events.{events}
-use Rattle.sys_rounds.specs.FirstTouches.{touches_of_events, touches_of_rounds, touches_of_transfers, touches_of_turns}
+use Rattle.sys_rounds.specs.FirstTouches.{touches_of_rounds}
 use Rattle.sys_rounds.specs.Run.{events_of, round, rounds}
 use Rattle.sys_rounds.specs.State.{State, Went}
 use Rattle.sys_rounds.specs.Transfers.{transfers}
 use Rattle.sys_rounds.specs.Turns.{turns}
-use Rattle.sys_runs.proofs.Many.{more_made}
+use Rattle.sys_runs.proofs.Many.{more_made, tally_in, touched_in}
 use Rattle.sys_runs.specs.Rounds.{MakesRounds}
 use Rattle.sys_script.specs.Events.{AreEvents, IsEvent, NeverFalls}
 use Rattle.sys_script.specs.declared.event.Event.{Event}
@@ -35,16 +35,6 @@ round_by c i s es =
     let turned = turns c begun.now in
     let ended = transfers c turned.now in
     record { now = ended.now; puts = begun.puts ++ turned.puts ++ ended.puts }
-
-abbrev tally_in : Config → ℕ → State → List Event → Tally
-tally_in c i s es = round_tally c.guests (events c i s es).now.guests
-
-abbrev touched_in : Config → ℕ → State → List Touching → List Event → List Touching
-touched_in c i s ts es =
-    let begun = (events c i s es).now in
-    let turned = (turns c begun).now in
-    touches_of_transfers c c.guests turned.mounts turned.guests turned.volumes
-    (touches_of_turns c.guests begun.guests (touches_of_events c i s es ts))
 
 -- each of so many rounds has the same events in both
 abbrev pub AreAlike : ℕ → ℕ → List Event → List Event → Type 0

@@ -1,5 +1,5 @@
--- Rounds that are made as their lines are typed: what holds between two of them.
-use Rattle.std.proofs.Common.{ℕ, suc, ◌≡◌, ◌≢◌, ◌<◌, ◌≤◌, ◌+◌, ◌==◌, List, [], ◌∷◌, ◌++◌, length, slice_index_or, refl, sym, ◌∙◌, ap, subst, arith, append_assoc, append-nil, length-append, All, IfOk, Bool, true, false, true≢false, Option, Some, None, Result, Ok, Err, inl, inr}
+-- Rounds that are made as their lines are typed: what stands between two of them.
+use Rattle.std.proofs.Common.{ℕ, suc, ◌≡◌, ◌≢◌, ◌<◌, ◌≤◌, ◌+◌, ◌==◌, List, [], ◌∷◌, ◌++◌, length, slice_index_or, refl, sym, ◌∙◌, ap, subst, arith, append_assoc, append-nil, length-append, All, IfOk, Bool, true, false, true≢false, Option, Some, None, Result, inl, inr}
 use Rattle.std.proofs.lemmas.Bool.{eqb-true}
 use Rattle.std.proofs.lemmas.List.Elements.{All-append}
 use Rattle.std.specs.Result.{is_err}
@@ -14,6 +14,7 @@ use Rattle.sys_lines.specs.ShownSince.{ShownSince}
 use Rattle.sys_lines.specs.Shows.{Shows}
 use Rattle.sys_rounds.specs.Bytes.{shown_from}
 use Rattle.sys_rounds.specs.Run.{Moment}
+use Rattle.sys_runs.proofs.SavedRuns.{where_whole}
 use Rattle.sys_runs.proofs.Many.{none_made}
 use Rattle.sys_runs.specs.Rounds.{MakesRounds}
 use Rattle.sys_script.specs.Typed.{events_typed, rounds_ended, rounds_typed, told_typed}
@@ -32,11 +33,6 @@ use Rattle.sys_live.specs.declared.typing.Count.{Count}
 use Rattle.sys_live.specs.declared.typing.TypedRound.{TypedRound}
 use Rattle.sys_live.specs.declared.typing.Typing.{Typing}
 use Rattle.sys_live.specs.declared.typing.Typing.TheVariants.{GoesOn, Over, Broken}
-
--- what holds where all was shown
-where_whole : {T E : Type 0} (P : Type 0) (r : Result T E) → IfOk r (λ _. P) → is_err r ≡ false → P
-where_whole P (Ok x) holds whole = holds
-where_whole P (Err e) holds whole = absurd (true≢false whole)
 
 -- the news were put where nothing was cut before
 pub news_shown : {T E : Type 0} (cut cut' : Bool) (lines lines' : List Seen) (screens screens' : List Screen) (out out' : Seen) (r : Result T E) → cut ≡ false → cut' ≡ is_err r → lines' ≡ lines

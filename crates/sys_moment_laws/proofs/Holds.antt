@@ -1,6 +1,6 @@
 -- Events, turns and transfers keep that no guest is at two terminals, and that each runs or has stopped with a stop code.
 use Rattle.std.proofs.Common.{◌≡◌, ℕ, zero, suc, ◌==◌, List, [], ◌∷◌, map, Bool, false, refl, sym, ◌∙◌, arith, ◌<◌, Option, Some, None, slice_get, slice_set, slice_index_or, length}
-use Rattle.std.specs.Prelude.{cond, option_map}
+use Rattle.std.specs.Prelude.{cond, is_some, option_map}
 use Rattle.std.proofs.lemmas.Bool.{cond_both, eqb-true, eqb-false, ne_eqb}
 use Rattle.sys_moment_laws.specs.Holds.{AllHalt, Holds, NoneIs, RoundsKeep, RunsKeep, StandOnce}
 use Rattle.sys_objects.specs.Rules.{same_place}
@@ -9,10 +9,10 @@ use Rattle.sys_objects.specs.declared.records.GuestRow.{GuestRow}
 use Rattle.sys_objects.specs.declared.records.Mount.{Mount}
 use Rattle.sys_objects.specs.declared.records.Terminal.{Terminal}
 use Rattle.sys_rounds.specs.Events.{after_verdict, at_place, at_row, events, happened, is_named, lined, obeyed, reset_by}
-use Rattle.sys_rounds.specs.Guests.{commanded_to_stop, powered, typed, with_no_queue}
+use Rattle.sys_rounds.specs.Guests.{powered, stopped_by_command, typed, with_no_queue}
 use Rattle.sys_rounds.specs.Places.{beside_with, changed, is_at, place_of}
 use Rattle.sys_rounds.specs.Run.{connections, events_of, first_state, round}
-use Rattle.sys_rounds.specs.State.{State, is_running, server_of}
+use Rattle.sys_rounds.specs.State.{State, server_of}
 use Rattle.sys_rounds.specs.Transfers.{Move, Packet, Prints, Reads, Refused, Writes, all_served, moved, move_of, packet_at, served, served_one}
 use Rattle.sys_rounds.specs.Turns.{turn}
 use Rattle.sys_script.specs.declared.event.Event.{Event}
@@ -88,14 +88,14 @@ reset_halts : (row : Option GuestRow) (g : Guest) → IsHalt g.state.halt → Is
 reset_halts None g h = h
 reset_halts (Some row) g h = tt
 
-stop_halts : (g : Guest) → IsHalt g.state.halt → IsHalt (commanded_to_stop g).state.halt
-stop_halts g h = cond_both (is_running g) _ g (λ (x : Guest). IsHalt x.state.halt) (λ t. refl) (λ t. h)
+stop_halts : (g : Guest) → IsHalt g.state.halt → IsHalt (stopped_by_command g).state.halt
+stop_halts g h = cond_both (is_some g.state.halt) g.state _ (λ (x : GuestPart). IsHalt x.halt) (λ t. h) (λ t. refl)
 
 obeyed_holds : (c : Config) (s : State) (n : ℕ) (command : Command) → Holds s → Holds (obeyed c s n command)
 unfolding applied
 obeyed_holds c s n (Connect g) h = record { once = once_set (map (freed g) s.connected) n g (gone g s.connected) (once_freed g s.connected h.once); halts = h.halts }
 obeyed_holds c s n (Start g) h = record { once = h.once; halts = halts_changed (reset_by (slice_get c.guests g)) (reset_halts (slice_get c.guests g)) s.guests g h.halts }
-obeyed_holds c s n (Halt g) h = record { once = h.once; halts = halts_changed commanded_to_stop stop_halts s.guests g h.halts }
+obeyed_holds c s n (Halt g) h = record { once = h.once; halts = halts_changed stopped_by_command stop_halts s.guests g h.halts }
 obeyed_holds c s n (MountAt g unit mount) h = record { once = h.once; halts = h.halts }
 obeyed_holds c s n (Dismount g unit) h = record { once = h.once; halts = h.halts }
 obeyed_holds c s n Show h = record { once = h.once; halts = h.halts }

@@ -1,7 +1,7 @@
 -- Rounds keep the rules of the seats and mounts and that each guest runs or has stopped, and power-up makes it so.
 use Rattle.std.proofs.Common.{◌≡◌, ℕ, zero, suc, ◌+◌, List, [], ◌∷◌, length, true, false, not, ◌&&◌, refl, subst, arith, All, Option, Some, None, slice_get}
 use Rattle.std.specs.List.{AllZip, list_any}
-use Rattle.std.proofs.lemmas.Bool.{and_from, and_parts, eq-eqb, false≢true, not-true, not_from_false, or_from, or_parts}
+use Rattle.std.proofs.lemmas.Bool.{and_from, and_parts, false≢true, not-true, not_from_false, or_from, or_parts}
 use Rattle.std.proofs.lemmas.List.Elements.{All-cons, All-head, All-nil, All-tail}
 use Rattle.vv_class.specs.declared.class.AccessClass.{AccessClass}
 use Rattle.sys_moment_laws.proofs.Holds.{once_first, powered_halts, rounds_keep}
@@ -13,7 +13,7 @@ use Rattle.sys_objects.specs.declared.records.Config.{Config}
 use Rattle.sys_objects.specs.declared.records.GuestRow.{GuestRow}
 use Rattle.sys_objects.specs.declared.records.Mount.{Mount}
 use Rattle.sys_objects.specs.declared.records.Terminal.{Terminal}
-use Rattle.sys_purge.proofs.Accepted.{same_is}
+use Rattle.sys_purge.proofs.Accepted.{same_is, same_itself}
 use Rattle.sys_purge.proofs.Fits.{ConnectFits, Each, Fits, Holds as IsGuestOfClass, MountFits, MountsFit, Pairs, each_of_all, fits_events}
 use Rattle.sys_purge.proofs.Opens.{first_fits}
 use Rattle.sys_rounds.specs.Run.{events_of, first_state, round, rounds}
@@ -24,10 +24,7 @@ use Rattle.sys_snap.specs.Snap.{AreUnitsOf, IsGuestOf}
 use Rattle.vm_state.specs.State.{Guest}
 use Rattle.vm_state.specs.Stops.{IsHalt}
 
-same_itself : (a : AccessClass) → same_class a a ≡ true
-same_itself a = rw (eq-eqb a.secrecy a.secrecy refl, eq-eqb a.secrecy_cats a.secrecy_cats refl, eq-eqb a.integrity a.integrity refl, eq-eqb a.integrity_cats a.integrity_cats refl) refl
-
--- no guest is at two terminals
+-- no guest sits twice
 none_any : (o : Option ℕ) (os : List (Option ℕ)) → NoneIs (same_place o) os → list_any (same_place o) os ≡ false
 none_any o [] none = refl
 none_any o (p ∷ os) none = or_from (same_place o p) (list_any (same_place o) os) none.0 (none_any o os none.1)

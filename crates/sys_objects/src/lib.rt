@@ -9,3 +9,4 @@ mod rules;
 pub use errors::{ConfigError, ConfigFault, fault};
 pub use judging::judge;
 pub use records::{Audit, Config, GuestRow, Mount, PrinterRow, Rows, Terminal, VolumeRow};
+pub use rules::same_class;

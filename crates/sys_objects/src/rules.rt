@@ -1,6 +1,5 @@
-ghost use Rattle.std.specs.Prelude.{◌≡◌, ◌≤◌, ◌<◌, length, IfSome, [], ◌∷◌, ◌++◌, ◌==◌, map, bytes_eq, IfOk, OnOk};
-ghost use Rattle.std.specs.List.{list_any, list_all, filter_map};
-ghost use Rattle.sys_objects.specs.Faults.{Reads};
+ghost use Rattle.std.specs.Prelude.{◌≡◌, ◌≤◌, ◌<◌, length, IfSome, [], ◌++◌, ◌==◌, map, bytes_eq, IfOk, OnOk};
+ghost use Rattle.std.specs.List.{list_any, filter_map};
 ghost use Rattle.sys_objects.specs.Rules.{IsFew, objects_of, lines_of, audit_line, same_class, may_connect, same_place, may_mount, pages_hold, first_broken, bad_line};
 
 use crate::{Audit, Config, GuestRow, Mount, PrinterRow, Terminal, VolumeRow};
@@ -238,7 +237,8 @@ impl Rule<VolumeRow> for NewDrive {
     }
 }
 
-fn same_class(a: &AccessClass, b: &AccessClass) -> bool
+/// Whether two classes are one.
+pub fn same_class(a: &AccessClass, b: &AccessClass) -> bool
     ensures { result ≡ same_class a.now b.now }
 {
     a.secrecy == b.secrecy

@@ -1,7 +1,7 @@
 -- The purge of an accepted configuration is accepted.
 use Rattle.std.proofs.Common.{◌≡◌, ◌≢◌, ◌<◌, ℕ, List, [], ◌∷◌, ◌++◌, length, map, filter, Bool, true, false, ◌==◌, refl, ap, ◌∙◌, get_or, All, Option, Some, None, IfSome, slice_get, inl, inr, arith}
 use Rattle.std.specs.List.{AllPairs, filter_map}
-use Rattle.std.proofs.lemmas.Bool.{eqb-true, and_parts, false≢true}
+use Rattle.std.proofs.lemmas.Bool.{eq-eqb, eqb-true, and_parts, false≢true}
 use Rattle.std.proofs.lemmas.List.{length-map}
 use Rattle.std.proofs.lemmas.List.Elements.{All-filter, All-map, filter_passes}
 use Rattle.std.proofs.lemmas.List.Kept.{AllPairs-filter}
@@ -34,6 +34,14 @@ same_is a b h =
     let integrity = eqb-true a.integrity b.integrity q.1 in
     let integrity_cats = eqb-true a.integrity_cats b.integrity_cats p.1 in
     λ i. record { secrecy = secrecy i; secrecy_cats = secrecy_cats i; integrity = integrity i; integrity_cats = integrity_cats i }
+
+pub same_itself : (a : AccessClass) → same_class a a ≡ true
+same_itself a =
+    let p = eq-eqb a.secrecy a.secrecy refl in
+    let q = eq-eqb a.secrecy_cats a.secrecy_cats refl in
+    let r = eq-eqb a.integrity a.integrity refl in
+    let s = eq-eqb a.integrity_cats a.integrity_cats refl in
+    rw (p, q, r, s) refl
 
 part_dumps : (change : GuestRow → GuestRow) (test : GuestRow → Bool) → ((g : GuestRow) → (change g).dump ≡ g.dump) → (gs : List GuestRow) → Part (filter_map (λ (g : GuestRow). g.dump) (map change (filter test gs))) (filter_map (λ (g : GuestRow). g.dump) gs)
 part_dumps change test same [] = refl

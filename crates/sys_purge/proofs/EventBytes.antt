@@ -41,15 +41,15 @@ use Rattle.sys_server.specs.declared.command.Verdict.{Verdict}
 use Rattle.sys_server.specs.declared.command.Verdict.TheVariants.{Granted, BadCommand, NoSuchObject, Denied}
 
 -- what all of one line is shown, on another
-off_line : (own line : ℕ) → (own == line) ≡ false → (texts : List (List ℕ)) → bytes_on line (map (λ text. record { line = own; bytes = text }) texts) ≡ []
+pub off_line : (own line : ℕ) → (own == line) ≡ false → (texts : List (List ℕ)) → bytes_on line (map (λ text. record { line = own; bytes = text }) texts) ≡ []
 off_line own line off [] = refl
 off_line own line off (text ∷ texts) = let rest = off_line own line off texts in rw off rest
 
-off_said : (own line : ℕ) → (own == line) ≡ false → (text : List ℕ) (puts : List Put) → bytes_on line (said_on own text ∷ puts) ≡ bytes_on line puts
+pub off_said : (own line : ℕ) → (own == line) ≡ false → (text : List ℕ) (puts : List Put) → bytes_on line (said_on own text ∷ puts) ≡ bytes_on line puts
 off_said own line off text puts = rw off refl
 
 -- of what is kept, what a lower class knows is what it knows of all
-known : {X : Type 0} (p test : X → Bool) (xs : List X) → ((x : X) → p x ≡ true → test x ≡ true) → filter p (filter test xs) ≡ filter p xs
+pub known : {X : Type 0} (p test : X → Bool) (xs : List X) → ((x : X) → p x ≡ true → test x ≡ true) → filter p (filter test xs) ≡ filter p xs
 known p test [] h = refl
 known p test (x ∷ xs) h =
     let rest = known p test xs h in

@@ -21,7 +21,7 @@ use Rattle.sys_rounds.specs.Turns.{turns}
 use Rattle.sys_script.specs.declared.event.Event.{Event}
 
 -- two filters in either order
-exchanged : {X : Type 0} (p q : X → Bool) (xs : List X) → filter p (filter q xs) ≡ filter q (filter p xs)
+pub exchanged : {X : Type 0} (p q : X → Bool) (xs : List X) → filter p (filter q xs) ≡ filter q (filter p xs)
 exchanged p q [] = refl
 exchanged p q (x ∷ xs) =
     let rest = exchanged p q xs in

@@ -17,7 +17,7 @@ use Rattle.sys_purge.specs.Input.{beside, is_kept}
 use Rattle.sys_purge.specs.Judged.{guest_rank, moved_command, moved_verdict, purged_state}
 use Rattle.sys_purge.specs.Purge.{mount_place, purge_config, rank}
 use Rattle.sys_rounds.specs.Events.{after_verdict, obeyed, reset_by}
-use Rattle.sys_rounds.specs.Guests.{commanded_to_stop}
+use Rattle.sys_rounds.specs.Guests.{stopped_by_command}
 use Rattle.sys_rounds.specs.Places.{changed}
 use Rattle.sys_rounds.specs.State.{State, is_running, server_of}
 use Rattle.sys_server.specs.Apply.{applied, freed}
@@ -153,7 +153,7 @@ module _ (c : Config) (to : AccessClass) where
       ∙ sym (beside_changed (is_kept to) (reset_by by) c.guests s.guests g (holds_passes class g h ∙ e)) in
       λ i. record (seen s) { guests = guests i }
   seen_obeyed s f n p class e (Halt g) h =
-      let guests = sym (beside_changed (is_kept to) commanded_to_stop c.guests s.guests g (holds_passes class g h ∙ e)) in
+      let guests = sym (beside_changed (is_kept to) stopped_by_command c.guests s.guests g (holds_passes class g h ∙ e)) in
       λ i. record (seen s) { guests = guests i }
   seen_obeyed s f n p class e (MountAt g unit m) h =
       let mounts = mount_seen s.mounts g unit (Some m) (holds_passes class g h.0 ∙ e) in
@@ -174,7 +174,7 @@ module _ (c : Config) (to : AccessClass) where
       let guests = beside_unchanged (is_kept to) (reset_by (slice_get c.guests g)) c.guests s.guests g (holds_passes class g h ∙ e) in
       λ i. record (seen s) { guests = guests i }
   unseen_obeyed s f n p class e (Halt g) h =
-      let guests = beside_unchanged (is_kept to) commanded_to_stop c.guests s.guests g (holds_passes class g h ∙ e) in
+      let guests = beside_unchanged (is_kept to) stopped_by_command c.guests s.guests g (holds_passes class g h ∙ e) in
       λ i. record (seen s) { guests = guests i }
   unseen_obeyed s f n p class e (MountAt g unit m) h =
       let mounts = mount_unseen s.mounts g unit (Some m) (holds_passes class g h.0 ∙ e) in

@@ -18,10 +18,11 @@ use Rattle.sys_purge.proofs.Seen.{seen}
 use Rattle.sys_purge.proofs.SeenTurns.{seen_rows}
 use Rattle.sys_purge.specs.Input.{beside, is_kept}
 use Rattle.sys_purge.specs.Purge.{mount_place, purge_config, rank, renumbered}
-use Rattle.sys_rounds.specs.Guests.{bytes_at, with_no_queue}
+use Rattle.sys_rounds.specs.Guests.{with_no_queue}
 use Rattle.sys_rounds.specs.State.{State}
 use Rattle.sys_rounds.specs.Transfers.{AllServed, Move, Packet, Prints, Reads, Refused, Served, Writes, all_served, move_of, moved, packet_at, refused_block, served, served_one, to_print, to_read, to_write, transfers, unless_refused}
 use Rattle.sys_store.specs.Blocks.{with_block}
+use Rattle.vm_state.specs.Outside.{bytes_at}
 use Rattle.vm_state.specs.State.{Guest}
 
 abbrev pub Volumes : Type 0

@@ -17,10 +17,11 @@ use Rattle.sys_purge.proofs.SeenTurns.{seen_rows}
 use Rattle.sys_purge.specs.Input.{beside, is_kept}
 use Rattle.sys_purge.specs.Purge.{mount_place, place_if, printer_place, purge_config, rank, renumbered}
 use Rattle.sys_rounds.proofs.Consoles.{bytes_append}
-use Rattle.sys_rounds.specs.Guests.{bytes_at, with_no_queue}
+use Rattle.sys_rounds.specs.Guests.{with_no_queue}
 use Rattle.sys_rounds.specs.State.{Put, State, bytes_on}
 use Rattle.sys_rounds.specs.Transfers.{AllServed, Move, Packet, Prints, Reads, Refused, Served, Writes, all_served, move_of, moved, packet_at, printed, printer_of, served, served_one, transfers}
 use Rattle.sys_store.specs.Job.{job_text}
+use Rattle.vm_state.specs.Outside.{bytes_at}
 use Rattle.vm_state.specs.State.{Guest}
 
 -- each printer on the line flows into the class

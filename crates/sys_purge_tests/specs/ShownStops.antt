@@ -2,8 +2,9 @@
 -- stopped stays so.
 use Rattle.std.specs.Prelude.{◌≡◌, [], codes, true, false, refl, Some, None}
 use Rattle.std.specs.Fmt.{digits}
-use Rattle.sys_rounds.specs.Guests.{commanded_to_stop, powered, stop_message}
+use Rattle.sys_rounds.specs.Guests.{powered, stopped_by_command}
 use Rattle.sys_rounds.specs.ShownSetup.{guest}
+use Rattle.vm_state.specs.Outside.{stop_message}
 use Rattle.vm_state.specs.Start.{opening}
 use Rattle.vm_state.specs.State.{Guest}
 
@@ -14,10 +15,10 @@ running = powered (guest (codes "A") 0 1 1 true None) []
 abbrev pub standing : Guest
 standing = powered (guest (codes "A") 0 1 1 false None) []
 
-pub one_that_runs : ((commanded_to_stop running).state.halt ≡ Some 2) × (stop_message running ≡ codes "?02 00000200\r\n")
+pub one_that_runs : ((stopped_by_command running).state.halt ≡ Some 2) × (stop_message running.state ≡ codes "?02 00000200\r\n")
 unfolding opening digits
 one_that_runs = (refl, refl)
 
-pub one_that_stands : ((commanded_to_stop standing).state.halt ≡ Some 0) × (stop_message standing ≡ [])
+pub one_that_stands : ((stopped_by_command standing).state.halt ≡ Some 0) × (stop_message standing.state ≡ [])
 unfolding opening digits
 one_that_stands = (refl, refl)

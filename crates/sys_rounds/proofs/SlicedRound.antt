@@ -6,7 +6,7 @@ use Rattle.sys_rounds.proofs.Consoles.{bytes_append}
 use Rattle.sys_rounds.proofs.Schedules.{any_schedule}
 use Rattle.sys_rounds.proofs.Sums.{same_counts}
 use Rattle.sys_rounds.specs.Events.{after_verdict, at_place, at_row, events, guests_by, happened, is_named, lined, reset_by}
-use Rattle.sys_rounds.specs.Guests.{commanded_to_stop, typed}
+use Rattle.sys_rounds.specs.Guests.{stopped_by_command, typed}
 use Rattle.sys_rounds.specs.Places.{changed, place_of}
 use Rattle.sys_rounds.specs.Run.{events_of}
 use Rattle.sys_rounds.specs.SlicedRound.{AnyRound}
@@ -34,7 +34,7 @@ many s = length s.guests
 
 by_command : (c : Config) (command : Command) (gs : List Guest) → length (guests_by c command gs) ≡ length gs
 by_command c (Start g) gs = length_changed (reset_by (slice_get c.guests g)) gs g
-by_command c (Halt g) gs = length_changed commanded_to_stop gs g
+by_command c (Halt g) gs = length_changed stopped_by_command gs g
 by_command c (Connect g) gs = refl
 by_command c (MountAt g unit mount) gs = refl
 by_command c (Dismount g unit) gs = refl

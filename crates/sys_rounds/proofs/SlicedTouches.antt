@@ -1,5 +1,5 @@
 -- Whatever the schedule, each guest's first touches are those of its own steps.
-use Rattle.std.proofs.Common.{ℕ, ◌≡◌, ◌+◌, ◌<◌, List, [], ◌∷◌, length, refl, sym, ◌∙◌, ap, Bool, true, false, if◌then◌else◌, zero, suc, ◌==◌, arith}
+use Rattle.std.proofs.Common.{ℕ, ◌≡◌, ◌+◌, ◌<◌, List, [], ◌∷◌, length, refl, sym, ◌∙◌, ap, true, false, if◌then◌else◌, zero, suc, ◌==◌, arith}
 use Rattle.std.specs.List.{slice_get}
 use Rattle.std.proofs.lemmas.Bool.{eq-eqb, ne_eqb}
 use Rattle.sys_objects.specs.declared.records.GuestRow.{GuestRow}

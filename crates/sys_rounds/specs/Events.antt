@@ -7,7 +7,7 @@ use Rattle.sys_objects.specs.declared.records.Config.{Config}
 use Rattle.sys_objects.specs.declared.records.GuestRow.{GuestRow}
 use Rattle.sys_objects.specs.declared.records.Terminal.{Terminal}
 use Rattle.sys_rounds.specs.Consoles.{console_of, on_console}
-use Rattle.sys_rounds.specs.Guests.{commanded_to_stop, reset, stop_message, typed}
+use Rattle.sys_rounds.specs.Guests.{reset, stopped_by_command, typed}
 use Rattle.sys_rounds.specs.Places.{changed, place_of}
 use Rattle.sys_rounds.specs.State.{Put, State, Went, server_of}
 use Rattle.sys_script.specs.declared.event.Event.{Event}
@@ -20,6 +20,7 @@ use Rattle.sys_server.specs.declared.command.Command.{Command}
 use Rattle.sys_server.specs.declared.command.Command.TheVariants.{Connect, Start, Halt, MountAt, Dismount, Show}
 use Rattle.sys_server.specs.declared.command.Verdict.{Verdict}
 use Rattle.sys_server.specs.declared.command.Verdict.TheVariants.{Granted, BadCommand, NoSuchObject, Denied}
+use Rattle.vm_state.specs.Outside.{stop_message}
 use Rattle.vm_state.specs.State.{Guest}
 
 -- a text of the server on a line
@@ -34,7 +35,7 @@ reset_by (Some row) g = reset row g
 -- what a granted command makes of the guests; only START and HALT do
 abbrev pub guests_by : Config → Command → List Guest → List Guest
 guests_by c (Start g) gs = changed (reset_by (slice_get c.guests g)) gs g
-guests_by c (Halt g) gs = changed commanded_to_stop gs g
+guests_by c (Halt g) gs = changed stopped_by_command gs g
 guests_by c (Connect g) gs = gs
 guests_by c (MountAt g unit mount) gs = gs
 guests_by c (Dismount g unit) gs = gs
@@ -59,7 +60,7 @@ after_verdict c s n (Denied rule) = s
 -- HALT's message, on the guest's console
 abbrev pub message_of : Option Guest → List ℕ
 message_of None = []
-message_of (Some g) = stop_message g
+message_of (Some g) = stop_message g.state
 
 abbrev pub stop_puts : Config → State → ℕ → List Put
 stop_puts c s g = on_console (console_of c.terminals s.connected g) (message_of (slice_get s.guests g))

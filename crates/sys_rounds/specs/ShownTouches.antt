@@ -13,7 +13,7 @@ use Rattle.vax_table.specs.Reading.{decoded_at, indexed_at, operand_at, specifie
 use Rattle.vax_table.specs.Rows.{row_of}
 use Rattle.vax_table.specs.Spelled.{value_size}
 use Rattle.vax_table.specs.Whole.{acted, instruction}
-use Rattle.vm_clock.specs.Clock.{after_iccs_write, after_tick, initial_state}
+use Rattle.vm_clock.specs.Clock.{after_iccs_write, after_tick}
 use Rattle.vm_state.specs.Contexts.{is_block_reserved, loaded, loads_context, saves_context}
 use Rattle.vm_state.specs.Packets.{accepted}
 use Rattle.vm_state.specs.Probe.{probe, probed_byte}

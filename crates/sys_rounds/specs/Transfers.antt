@@ -7,11 +7,12 @@ use Rattle.sys_objects.specs.declared.records.Config.{Config}
 use Rattle.sys_objects.specs.declared.records.GuestRow.{GuestRow}
 use Rattle.sys_objects.specs.declared.records.Mount.{Mount}
 use Rattle.sys_objects.specs.declared.records.PrinterRow.{PrinterRow}
-use Rattle.sys_rounds.specs.Guests.{answered, bytes_at, with_bytes, with_no_queue}
+use Rattle.sys_rounds.specs.Guests.{answered, with_no_queue}
 use Rattle.sys_rounds.specs.State.{Put, State, Went}
 use Rattle.sys_store.specs.Blocks.{blocks_of, with_block}
 use Rattle.sys_store.specs.Job.{job_text}
 use Rattle.vax_arch.specs.Walk.{is_past}
+use Rattle.vm_state.specs.Outside.{bytes_at, with_bytes}
 use Rattle.vm_state.specs.State.{Guest}
 
 -- a packet's longwords but for the last, which is the status

@@ -8,6 +8,7 @@ use Rattle.sys_guests.specs.Loads.{MemoryAlone}
 use Rattle.sys_guests.specs.Present.{HavePresent, counted_in}
 use Rattle.sys_lines.proofs.Showings.{shows_same, shows_then}
 use Rattle.sys_lines.specs.Shows.{Gets, Shows}
+use Rattle.sys_rounds.proofs.Additions.{added_either}
 use Rattle.sys_rounds.proofs.Steps.{as_sum}
 use Rattle.sys_rounds.specs.Bytes.{dump_on, line_bytes_from, shown_from}
 use Rattle.sys_rounds.specs.Counts.{added, tally_from}
@@ -18,7 +19,6 @@ use Rattle.sys_runs.proofs.Many.{rounds_fit}
 use Rattle.sys_runs.proofs.Stored.{unmarked}
 use Rattle.sys_runs.specs.Rounds.{MakesRounds}
 use Rattle.sys_script.specs.declared.event.Event.{Event}
-use Rattle.sys_system.proofs.Sums.{added_either}
 use Rattle.sys_system.specs.Powers.{IsAt}
 use Rattle.sys_system.specs.System.{IsSystem, System, moment_of, state_of}
 use Rattle.vm_fitting.specs.Paid.{Misses}

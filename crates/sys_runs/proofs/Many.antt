@@ -7,6 +7,7 @@ use Rattle.sys_guests.specs.Layout.{end_of_guests}
 use Rattle.sys_guests.specs.Present.{PaysAll}
 use Rattle.sys_lines.proofs.Showings.{shows_none, shows_same, shows_then}
 use Rattle.sys_objects.specs.declared.records.Config.{Config}
+use Rattle.sys_rounds.proofs.Additions.{added_either, added_twice}
 use Rattle.sys_rounds.proofs.Consoles.{bytes_append}
 use Rattle.sys_rounds.proofs.Steps.{as_sum}
 use Rattle.sys_rounds.specs.Counts.{added, round_tally, rounds_tally}
@@ -21,7 +22,6 @@ use Rattle.sys_script.specs.declared.event.Event.{Event}
 use Rattle.sys_system.proofs.Paying.{pays_as, pays_kept, pays_then}
 use Rattle.sys_system.proofs.Rounding.{all_of}
 use Rattle.sys_system.proofs.Slicing.{retires_then}
-use Rattle.sys_system.proofs.Sums.{added_either, added_twice}
 use Rattle.sys_system.specs.Calls.{AreOf, MakesRound}
 use Rattle.sys_system.specs.System.{StandsIn, System, state_of}
 use Rattle.vm_state.specs.Run.{Tally, no_steps}
@@ -37,11 +37,11 @@ round_by c i s es =
     record { now = ended.now; puts = begun.puts ++ turned.puts ++ ended.puts }
 
 -- the steps of a round
-abbrev tally_in : Config → ℕ → State → List Event → Tally
+abbrev pub tally_in : Config → ℕ → State → List Event → Tally
 tally_in c i s es = round_tally c.guests (events c i s es).now.guests
 
 -- its first touches
-abbrev touched_in : Config → ℕ → State → List Touching → List Event → List Touching
+abbrev pub touched_in : Config → ℕ → State → List Touching → List Event → List Touching
 touched_in c i s ts es =
     let begun = (events c i s es).now in
     let turned = (turns c begun).now in

@@ -29,7 +29,7 @@ use Rattle.sys_system.specs.System.{IsSystem, System, moment_of}
 use Rattle.vm_state.specs.State.{state_of as registers_of}
 
 -- what holds where all was shown
-where_whole : {T E : Type 0} (P : Type 0) (r : Result T E) → IfOk r (λ _. P) → is_err r ≡ false → P
+pub where_whole : {T E : Type 0} (P : Type 0) (r : Result T E) → IfOk r (λ _. P) → is_err r ≡ false → P
 where_whole P (Ok x) holds whole = holds
 where_whole P (Err e) holds whole = absurd (true≢false whole)
 

@@ -1,4 +1,4 @@
-ghost use Rattle.std.specs.Prelude.{ℕ, ◌≡◌, ◌≤◌, ◌*◌, List, length, map, vec_len};
+ghost use Rattle.std.specs.Prelude.{◌≡◌, ◌≤◌, ◌*◌, List, length, map, vec_len};
 ghost use Rattle.sys_objects.specs.Condition.{IsConfig};
 ghost use Rattle.sys_runs.specs.Given.{RunsWith};
 ghost use Rattle.sys_script.specs.Events.{AreEvents};

@@ -1,5 +1,5 @@
 -- The bytes of several, one after another, of which the first are shown.
-use Rattle.std.proofs.Common.{ℕ, ◌≡◌, ◌<◌, ◌≤◌, ◌+◌, ◌*◌, List, [], ◌∷◌, ◌++◌, length, map, take, drop, get_or, sym, ◌∙◌, ap, subst, arith, append-nil, take-append-drop}
+use Rattle.std.proofs.Common.{ℕ, ◌≡◌, ◌<◌, ◌≤◌, ◌+◌, ◌*◌, List, [], ◌++◌, length, map, take, drop, get_or, sym, ◌∙◌, ap, subst, arith, append-nil, take-append-drop}
 use Rattle.std.specs.Prelude.{All, Bool, false, flat_map}
 use Rattle.std.proofs.lemmas.List.{at_drop_all, at_drop_more, drop-drop, get_or-map, length-map, take_all}
 use Rattle.sys_lines.proofs.Puts.{IsBut}

@@ -1,5 +1,5 @@
 -- The blocks that volumes have are read, one after another.
-use Rattle.std.proofs.Common.{ℕ, ◌≡◌, ◌<◌, ◌≤◌, List, [], length, map, get_or, sym, ◌∙◌, ap, arith, Result}
+use Rattle.std.proofs.Common.{ℕ, ◌≡◌, ◌<◌, List, [], length, map, get_or, sym, ◌∙◌, ap, arith, Result}
 use Rattle.std.specs.Prelude.{OnErr, OnOk}
 use Rattle.std.specs.declared.result.Result.TheVariants.{Ok, Err}
 use Rattle.std.proofs.lemmas.List.{get_or-map, length-map}

@@ -2,9 +2,8 @@
 use Rattle.std.specs.Prelude.{ℕ, List, ◌++◌, length, flat_map}
 use Rattle.vv_base.specs.Bytes.{long_bytes}
 use Rattle.sys_objects.specs.declared.records.Mount.{Mount}
-use Rattle.sys_snap.specs.Written.{guest_bytes, mount_bytes, snap_head}
+use Rattle.sys_snap.specs.Written.{mount_bytes, snap_head}
 use Rattle.std.specs.declared.option.Option.{Option}
-use Rattle.vm_state.specs.State.{Guest}
 
 -- what comes before the state: what the bytes are, the configuration's text with its length, and the rounds that were made
 abbrev pub head_bytes : List ℕ → ℕ → List ℕ

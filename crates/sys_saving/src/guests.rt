@@ -1,4 +1,4 @@
-ghost use Rattle.std.specs.Prelude.{◌≡◌, ◌≤◌, ◌*◌, ◌+◌, All, IfOk, flat_map, is_err, length};
+ghost use Rattle.std.specs.Prelude.{◌*◌, All, IfOk, flat_map, is_err};
 ghost use Rattle.sys_guests.specs.Layout.{guests_in};
 ghost use Rattle.sys_lines.specs.ShownSince.{ShownSince};
 ghost use Rattle.sys_snap.specs.Snap.{IsSound};

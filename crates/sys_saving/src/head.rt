@@ -1,4 +1,4 @@
-ghost use Rattle.std.specs.Prelude.{◌≡◌, ◌≤◌, is_err, length};
+ghost use Rattle.std.specs.Prelude.{◌≤◌, is_err, length};
 ghost use Rattle.vv_base.specs.Bytes.{long_bytes};
 ghost use Rattle.sys_lines.specs.ShownSince.{ShownSince};
 ghost use Rattle.sys_saving.specs.Parts.{head_bytes};

@@ -1,5 +1,4 @@
-ghost use Rattle.std.specs.Prelude.{◌≡◌, ◌≤◌, ◌<◌, All, None, IfSome, drop, flat_map, is_err, length, map, take};
-ghost use Rattle.sys_guests.specs.Kernel.{AreUnits};
+ghost use Rattle.std.specs.Prelude.{◌≡◌, ◌≤◌, ◌<◌, All, None, drop, flat_map, is_err, take};
 ghost use Rattle.sys_lines.specs.ShownSince.{ShownSince};
 ghost use Rattle.sys_saving.specs.Parts.{unit_bytes};
 ghost use Rattle.sys_snap.specs.Written.{mount_bytes, place_byte, seat_bytes};

@@ -4,7 +4,7 @@ ghost use Rattle.sys_script.specs.Answers.{Reads};
 ghost use Rattle.sys_script.specs.Asked.{seen_of};
 ghost use Rattle.sys_script.specs.Line.{behind, event_in, front, is_allowed, round_in, what_in};
 ghost use Rattle.sys_script.specs.Script.{at_line, told};
-ghost use Rattle.sys_script.specs.Texts.{is_shown, is_text};
+ghost use Rattle.sys_script.specs.Texts.{is_shown};
 ghost use Rattle.sys_script.specs.Typed.{ReadsTyped, typed_in};
 
 use crate::{Event, LineText, ScriptError, ScriptFault, ScriptKind, Typed, TypedError};

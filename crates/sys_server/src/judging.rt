@@ -1,6 +1,5 @@
 ghost use Rattle.std.specs.Prelude.{◌≡◌, ◌<◌, ◌≤◌, ◌&&◌, IfSome, Some, bytes_eq, length, slice_get};
 ghost use Rattle.vv_class.specs.Class.{does_flow};
-ghost use Rattle.sys_objects.specs.Rules.{same_class};
 ghost use Rattle.sys_server.specs.Apply.{HasPlaces, MayApply};
 ghost use Rattle.sys_server.specs.Line.{IsAsked};
 ghost use Rattle.sys_server.specs.Replies.{reply_of};
@@ -8,18 +7,9 @@ ghost use Rattle.sys_server.specs.Verdict.{guest_place, judged, on_dismount, on_
 
 use crate::line::asked_in;
 use crate::{Asked, Command, Rule, ServerState, Verdict};
-use sys_objects::{Config, GuestRow, Mount, VolumeRow};
+use sys_objects::{Config, GuestRow, Mount, VolumeRow, same_class};
 use vv_base::Name;
 use vv_class::{AccessClass, flows};
-
-fn same_class(a: &AccessClass, b: &AccessClass) -> bool
-    ensures { result ≡ same_class a.now b.now }
-{
-    a.secrecy == b.secrecy
-        && a.secrecy_cats == b.secrecy_cats
-        && a.integrity == b.integrity
-        && a.integrity_cats == b.integrity_cats
-}
 
 fn is_seen_guest(g: &GuestRow, class: &AccessClass, name: &Name) -> bool
     ensures { result ≡ (bytes_eq g.now.name name.now && does_flow g.now.class class.now) }

@@ -1,7 +1,5 @@
-ghost use Rattle.std.specs.List.{slice_split};
-ghost use Rattle.std.specs.Prelude.{◌≡◌, ◌==◌, ◌<◌, ◌↔◌, ◌∷◌, [], IfSome, List, ℕ, Some, bytes_eq, length, position};
+ghost use Rattle.std.specs.Prelude.{◌≡◌, ◌==◌, ◌<◌, ◌∷◌, [], IfSome, List, ℕ, Some, bytes_eq, length, position};
 ghost use Rattle.std.specs.Option.{option_copied};
-ghost use Rattle.vv_base.specs.Names.{is_object_name, tested};
 ghost use Rattle.sys_server.specs.Line.{Asks, access_in, asked_in, asked_of, asked_of_guest, asked_of_mount, behind_guest, behind_unit, rest_words, unit_in, words};
 ghost use Rattle.sys_server.specs.declared.command.Asked.{Asked as Question};
 

@@ -1,5 +1,5 @@
 -- Snapshots are read as what they were written of, and only they are read.
-use Rattle.std.specs.Prelude.{ℕ, ◌≡◌, ◌<◌, List, All, Result, Ok, Err}
+use Rattle.std.specs.Prelude.{ℕ, ◌≡◌, ◌<◌, List, All, Ok, Err}
 use Rattle.sys_rounds.specs.Run.{Moment}
 use Rattle.sys_snap.specs.Reader.{snap_in}
 use Rattle.sys_snap.specs.Snap.{IsSnap}

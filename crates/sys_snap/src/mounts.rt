@@ -1,4 +1,4 @@
-ghost use Rattle.std.specs.Prelude.{◌≡◌, ◌∷◌, [], ◌≤◌, All, IfOk, None, Some, drop, length, replicate, slice_get, take};
+ghost use Rattle.std.specs.Prelude.{◌≡◌, ◌∷◌, [], ◌≤◌, All, IfOk, None, Some, drop, length, replicate, take};
 ghost use Rattle.sys_objects.specs.Rules.{is_mountable};
 ghost use Rattle.sys_snap.specs.Reader.{mount_if, pair_in, units_in};
 ghost use Rattle.sys_snap.specs.Reading.{each, field};
@@ -6,8 +6,7 @@ ghost use Rattle.sys_snap.specs.Reads.{Reads, ReadsSeen};
 
 use crate::cursor::Cursor;
 use crate::fault::SnapFault;
-use crate::seats::same_class;
-use sys_objects::{GuestRow, Mount, VolumeRow};
+use sys_objects::{GuestRow, Mount, VolumeRow, same_class};
 use vv_class::{AccessClass, flows};
 
 /// The byte of a unit on which no volume is mounted.

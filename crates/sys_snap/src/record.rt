@@ -1,13 +1,11 @@
 ghost use Rattle.std.specs.Prelude.{◌≡◌, ◌+◌, ◌-◌, ◌*◌, ◌≤◌, ◌∷◌, [], ◌++◌, length, replicate};
-ghost use Rattle.std.specs.Int.{from_bool};
-ghost use Rattle.vm_clock.specs.Clock.{ClockState};
 ghost use Rattle.vm_clock.specs.Parts.{IsClock, parts_of};
 ghost use Rattle.vm_console.specs.Console.{IsConsole};
 ghost use Rattle.vm_state.specs.State.{state_of};
 ghost use Rattle.vv_base.specs.Bytes.{long_bytes, word_bytes};
 ghost use Rattle.sys_snap.specs.Pieces.{waiting_bytes};
 ghost use Rattle.sys_snap.specs.Snap.{IsSound};
-ghost use Rattle.sys_snap.specs.Written.{base_bytes, clock_bytes, console_bytes, end_bytes, flag_byte, level_bytes, longs, place_byte, queue_bytes, record_of, register_bytes};
+ghost use Rattle.sys_snap.specs.Written.{base_bytes, clock_bytes, console_bytes, end_bytes, flag_byte, level_bytes, longs, queue_bytes, record_of, register_bytes};
 
 use vm_clock::Clock;
 use vm_console::Console;

@@ -1,8 +1,6 @@
-ghost use Rattle.std.specs.Prelude.{◌≡◌};
-ghost use Rattle.vax_arch.specs.Rei.{has_must_be_zero_bit};
 ghost use Rattle.sys_snap.specs.Conditions.{is_p0br, is_psl};
 ghost use Rattle.sys_snap.specs.Parts.{bases_of, levels_of, registers_of};
-ghost use Rattle.sys_snap.specs.Reader.{bases_in, either, levels_in, registers_in};
+ghost use Rattle.sys_snap.specs.Reader.{bases_in, levels_in, registers_in};
 ghost use Rattle.sys_snap.specs.Reading.{four, one, two};
 ghost use Rattle.sys_snap.specs.Reads.{Reads, ReadsSeen};
 ghost use Rattle.vm_state.specs.Registers.{allows};
@@ -42,22 +40,15 @@ pub struct Levels {
     pub mapen: bool,
 }
 
-/// Whether a PSL has a bit that must be 0.
-fn has_must_be_zero_bit(psl: u32) -> bool
-    ensures { result ≡ has_must_be_zero_bit psl }
-{
-    psl / 0x800_0000 != 0 || psl / 0x20_0000 % 2 != 0 || psl / 0x100 % 0x100 != 0
-}
-
 fn psl(r: &mut Cursor) -> Result<Psl, SnapFault>
     ensures { ReadsSeen (λ p. p.0) (four is_psl) r.old r.new result }
 {
     let place = r.place();
-    let bits = long(r)?;
-    if has_must_be_zero_bit(bits) {
+    let psl = Psl(long(r)?);
+    if psl.has_must_be_zero_bit() {
         return Err(SnapFault { place });
     }
-    Ok(Psl(bits))
+    Ok(psl)
 }
 
 /// The registers, 88 bytes.

@@ -1,6 +1,6 @@
 ghost use Rattle.std.specs.Prelude.{◌≡◌, ◌++◌, ◌-◌, ◌==◌, ◌≤◌, All, IfOk, None, drop, length, map, replicate, take};
 ghost use Rattle.std.specs.List.{list_all, list_any};
-ghost use Rattle.sys_objects.specs.Rules.{same_class, same_place};
+ghost use Rattle.sys_objects.specs.Rules.{same_place};
 ghost use Rattle.sys_snap.specs.Conditions.{may_all_sit, may_sit};
 ghost use Rattle.sys_snap.specs.Reader.{seat_of, seats_in};
 ghost use Rattle.sys_snap.specs.Reading.{field};
@@ -8,20 +8,10 @@ ghost use Rattle.sys_snap.specs.Reads.{ReadsSeen};
 
 use crate::cursor::Cursor;
 use crate::fault::SnapFault;
-use sys_objects::{Config, GuestRow, Terminal};
-use vv_class::AccessClass;
+use sys_objects::{Config, GuestRow, Terminal, same_class};
 
 /// The byte of a place that no guest has.
 const NO_GUEST: u8 = 0xff;
-
-pub fn same_class(a: &AccessClass, b: &AccessClass) -> bool
-    ensures { result ≡ same_class a.now b.now }
-{
-    a.secrecy == b.secrecy
-        && a.secrecy_cats == b.secrecy_cats
-        && a.integrity == b.integrity
-        && a.integrity_cats == b.integrity_cats
-}
 
 /// Whether a terminal's guest, if it has one, is of its class.
 fn may_sit(rows: &[GuestRow], terminal: &Terminal, seat: Option<u8>) -> bool

@@ -1,5 +1,5 @@
--- Slices of guests that exist.
-use Rattle.std.proofs.Common.{ℕ, ◌≡◌, ◌<◌, List, length, All, subst, sym}
+-- Slices of guests that there are.
+use Rattle.std.proofs.Common.{ℕ, ◌<◌, List, length, All, subst, sym}
 use Rattle.sys_guests.proofs.LaidOut.{placed_long}
 use Rattle.sys_guests.specs.Layout.{AreInMachine}
 use Rattle.sys_guests.specs.declared.turns.TimeSlice.{TimeSlice}

@@ -16,7 +16,6 @@ use sys_objects::Config;
 use sys_script::{Event, read_script};
 use sys_system::{PowerFault, System, TimeSlice};
 use vax_hw::Hardware;
-use vm_guest::Counts;
 use vv_base::NoMemory;
 use vv_io::{Drive, Line};
 

@@ -1,5 +1,5 @@
 -- The parts of a system, and the system that they stand for.
-use Rattle.std.proofs.Common.{ℕ, zero, suc, ◌≡◌, ◌<◌, ◌≤◌, ◌+◌, ◌-◌, ◌*◌, ◌^◌, List, [], ◌∷◌, length, map, take, drop, slice_index, slice_get, refl, sym, ◌∙◌, ap, subst, arith, true, false, Option, Some, None}
+use Rattle.std.proofs.Common.{ℕ, zero, suc, ◌≡◌, ◌<◌, ◌≤◌, ◌+◌, ◌-◌, ◌*◌, ◌^◌, List, [], ◌∷◌, length, map, sym, ◌∙◌, ap, subst, arith}
 use Rattle.std.proofs.lemmas.List.{length-map, length-take-le}
 use Rattle.std.proofs.lemmas.List.Elements.{All-take}
 use Rattle.std.proofs.lemmas.List.Sums.{sum_by-cons}
@@ -9,22 +9,17 @@ use Rattle.vax_hw.specs.Machine.{Machine}
 use Rattle.vv_io.specs.Lines.{Seen}
 use Rattle.sys_events.specs.Happens.{Happen}
 use Rattle.sys_guests.proofs.LaidOut.{placed_long}
-use Rattle.sys_guests.specs.Changes.{AdvancesOne}
 use Rattle.sys_guests.specs.Kernel as kernels
 use Rattle.sys_guests.specs.Kernel.{AreUnits, IsKernel, Leads}
-use Rattle.sys_guests.specs.Layout.{AreInMachine, guests_in}
-use Rattle.sys_guests.specs.declared.kernel.Kernel.{Kernel}
-use Rattle.sys_guests.specs.declared.turns.TimeSlice.{TimeSlice}
-use Rattle.sys_objects.specs.Condition.{IsConfig, IsGuest}
+use Rattle.sys_guests.specs.Layout.{guests_in}
+use Rattle.sys_objects.specs.Condition.{IsGuest}
 use Rattle.sys_objects.specs.declared.records.Config.{Config}
 use Rattle.sys_objects.specs.declared.records.GuestRow.{GuestRow}
 use Rattle.sys_objects.specs.declared.records.VolumeRow.{VolumeRow}
-use Rattle.sys_system.specs.Calls.{BeginsRound, EndsRound, Goes}
+use Rattle.sys_system.specs.Calls.{BeginsRound, EndsRound}
 use Rattle.sys_system.specs.Held.{IsInside, system_of, turns_of}
-use Rattle.sys_system.specs.System.{IsSystem, StandsIn, System, Turns, all_turns, no_round}
+use Rattle.sys_system.specs.System.{StandsIn, Turns, all_turns, no_round}
 use Rattle.sys_system.specs.declared.parts.Parts.{Parts}
-use Rattle.sys_system.specs.declared.turns.Turns as code
-use Rattle.sys_rounds.specs.Events.{events}
 use Rattle.sys_rounds.specs.State.{State}
 use Rattle.sys_rounds.specs.Transfers.{transfers}
 use Rattle.sys_script.specs.declared.event.Event.{Event}

@@ -11,5 +11,4 @@ pub mod Seating
 pub mod Slices
 pub mod Slicing
 pub mod Snapshot
-pub mod Sums
 pub mod Tellings

@@ -1,12 +1,12 @@
 -- Mounts at power-up, and the parts of a system that begins.
-use Rattle.std.proofs.Common.{ℕ, zero, suc, ◌≡◌, ◌<◌, ◌≤◌, ◌+◌, ◌-◌, ◌*◌, List, [], ◌∷◌, ◌++◌, length, map, take, drop, replicate, slice_set, slice_index_or, refl, sym, ◌∙◌, ap, subst, arith, length-append, Option, None}
+use Rattle.std.proofs.Common.{ℕ, zero, suc, ◌≡◌, ◌<◌, ◌≤◌, ◌+◌, ◌-◌, List, [], ◌∷◌, ◌++◌, length, map, take, drop, replicate, slice_set, slice_index_or, refl, sym, ◌∙◌, ap, subst, arith, length-append, Option, None}
 use Rattle.std.proofs.Math.Seq.{drop-append_seam, take-append_seam}
 use Rattle.std.proofs.lemmas.List.{length-drop, length-map, length-replicate, take-append-drop, take_all}
 use Rattle.std.proofs.lemmas.List.Elements.{All-append, All-drop, All-map, All-replicate}
 use Rattle.std.proofs.lemmas.List.Sums.{sum_by-cons}
 use Rattle.std.specs.List.{All}
 use Rattle.std.specs.Prelude.{IfSome, sum}
-use Rattle.sys_guests.specs.Kernel.{AreUnits, IsKernel}
+use Rattle.sys_guests.specs.Kernel.{AreUnits}
 use Rattle.sys_guests.specs.Layout.{AreInMachine}
 use Rattle.sys_objects.specs.Condition.{IsConfig, IsGuest, NamesObjects}
 use Rattle.sys_objects.specs.declared.records.Config.{Config}
@@ -14,7 +14,7 @@ use Rattle.sys_objects.specs.declared.records.GuestRow.{GuestRow}
 use Rattle.sys_objects.specs.declared.records.Mount.{Mount}
 use Rattle.sys_objects.specs.declared.records.VolumeRow.{VolumeRow}
 use Rattle.sys_server.specs.declared.command.ServerState.{ServerState}
-use Rattle.sys_system.proofs.Insides.{AreCounted, inside_of}
+use Rattle.sys_system.proofs.Insides.{inside_of}
 use Rattle.sys_system.specs.Held.{IsInside, turns_of}
 use Rattle.sys_system.specs.Powers.{no_turns}
 use Rattle.sys_system.specs.Seats.{AreMounted, IsServer, no_units}

@@ -1,5 +1,5 @@
 -- The next slice of a round.
-use Rattle.std.proofs.Common.{ℕ, zero, suc, ◌≡◌, ◌<◌, ◌≤◌, ◌+◌, ◌-◌, List, [], ◌∷◌, length, drop, slice_index, min, refl, sym, ◌∙◌, ap, arith, Bool, true, false, true≢false, if◌then◌else◌, Option, Some, None, option_map}
+use Rattle.std.proofs.Common.{ℕ, ◌≡◌, ◌<◌, ◌≤◌, ◌+◌, ◌-◌, List, length, drop, slice_index, min, refl, sym, ◌∙◌, ap, arith, Bool, true, false, true≢false, if◌then◌else◌, Option, Some, None, option_map}
 use Rattle.std.proofs.lemmas.Bool.{ltb-false, ltb-true}
 use Rattle.std.proofs.lemmas.List.{get_or-drop, get_or_past, length-drop}
 use Rattle.std.proofs.lemmas.List.Quantifiers.{position-Some}

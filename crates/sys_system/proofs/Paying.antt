@@ -1,5 +1,5 @@
 -- Misses of slices one after another, and of a whole round.
-use Rattle.std.proofs.Common.{ℕ, zero, suc, ◌≡◌, ◌≤◌, ◌+◌, ◌%◌, ◌^◌, List, [], ◌∷◌, ◌++◌, length, Option, Some, None, slice_get, refl, sym, ◌∙◌, ap, subst, arith}
+use Rattle.std.proofs.Common.{ℕ, zero, suc, ◌≡◌, ◌+◌, ◌%◌, ◌^◌, List, [], ◌∷◌, ◌++◌, length, Option, Some, None, slice_get, refl, ◌∙◌, ap, subst, arith}
 use Rattle.std.proofs.lemmas.List.Sums.{sum_by-cons}
 use Rattle.vax_hw.specs.Machine.{Machine}
 use Rattle.sys_guests.specs.Present.{HavePresent, KeepsAll, PaysAll, counted_in}
@@ -19,13 +19,6 @@ use Rattle.sys_script.specs.declared.event.Event.{Event}
 use Rattle.vm_guest.specs.Kept.{Kept}
 use Rattle.vm_state.specs.State.{Guest}
 use Rattle.vm_state.specs.Touches.{Touching, touching_write}
-
--- as many states of first touches as guests
-pub present_long : (ks : List Kept) (ts : List Touching) → HavePresent ks ts → length ts ≡ length ks
-present_long [] [] all = refl
-present_long [] (t ∷ ts) all = absurd all
-present_long (k ∷ ks) [] all = absurd all
-present_long (k ∷ ks) (t ∷ ts) all = ap suc (present_long ks ts all.1)
 
 -- payments follow one another
 misses_follow : (a b x y z : ℕ) → y % 2 ^ 64 ≡ (x + a) % 2 ^ 64 → z % 2 ^ 64 ≡ (y + b) % 2 ^ 64 → z % 2 ^ 64 ≡ (x + (a + b)) % 2 ^ 64

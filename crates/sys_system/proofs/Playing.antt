@@ -1,5 +1,5 @@
 -- Slices one after another, up to a whole round.
-use Rattle.std.proofs.Common.{ℕ, ◌≡◌, ◌<◌, ◌≤◌, ◌+◌, ◌-◌, ◌%◌, ◌^◌, List, [], ◌∷◌, ◌++◌, length, map, take, drop, slice_index, slice_index_or, refl, sym, ◌∙◌, ap, subst, arith, take-append-drop, Bool, true, if◌then◌else◌, ◌==◌, Option}
+use Rattle.std.proofs.Common.{ℕ, ◌≡◌, ◌<◌, ◌≤◌, ◌+◌, ◌-◌, List, [], ◌∷◌, ◌++◌, length, map, take, drop, slice_index, slice_index_or, refl, sym, ◌∙◌, ap, subst, arith, take-append-drop, true, if◌then◌else◌}
 use Rattle.std.proofs.lemmas.Bool.{eq-eqb, ltb-false, ltb-true}
 use Rattle.std.proofs.lemmas.List.{get_or_past, length-map, map-append, take_all}
 use Rattle.std.specs.List.{slice_get}
@@ -13,12 +13,11 @@ use Rattle.sys_guests.specs.declared.turns.TimeSlice.{TimeSlice}
 use Rattle.sys_lines.proofs.Showings.{shows_none, shows_same, shows_then}
 use Rattle.sys_objects.specs.declared.records.Config.{Config}
 use Rattle.sys_objects.specs.declared.records.GuestRow.{GuestRow}
-use Rattle.sys_objects.specs.declared.records.Terminal.{Terminal}
 use Rattle.sys_system.proofs.Paying.{pays_more, pays_none}
 use Rattle.sys_system.proofs.Slicing.{falls, front_takes, left_falls, now_more, puts_more, quanta_of, quantum_is, retires_then, taken, tally_more, total_more, slices_more}
-use Rattle.sys_system.proofs.Sums.{added_twice}
 use Rattle.sys_system.specs.Calls.{CanTake, Plays, TakesSlice}
 use Rattle.sys_system.specs.System.{IsSystem, NoneLeft, StandsIn, System, Turns, after_slice, all_turns, slice_of_time}
+use Rattle.sys_rounds.proofs.Additions.{added_twice}
 use Rattle.sys_rounds.proofs.Consoles.{bytes_append}
 use Rattle.sys_rounds.proofs.Places.{both}
 use Rattle.sys_rounds.proofs.Steps.{as_sum}

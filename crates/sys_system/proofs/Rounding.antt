@@ -1,11 +1,12 @@
 -- A whole round: its events, the guests' turns in slices, its transfers.
-use Rattle.std.proofs.Common.{ℕ, suc, ◌≡◌, ◌≤◌, ◌+◌, ◌%◌, ◌^◌, ◌==◌, List, [], ◌∷◌, ◌++◌, length, map, filter, refl, sym, ◌∙◌, ap, subst, arith, Bool, true, Option}
+use Rattle.std.proofs.Common.{ℕ, suc, ◌≡◌, ◌≤◌, ◌+◌, ◌==◌, List, [], ◌∷◌, ◌++◌, length, refl, sym, ◌∙◌, ap, subst, arith, true}
 use Rattle.std.proofs.lemmas.Bool.{eq-eqb}
 use Rattle.std.proofs.lemmas.List.{length-map}
 use Rattle.std.specs.List.{sum_by}
 use Rattle.sys_guests.proofs.LaidOut.{placed_long}
 use Rattle.sys_objects.specs.Condition.{IsConfig}
 use Rattle.sys_objects.specs.declared.records.GuestRow.{GuestRow}
+use Rattle.sys_transfers.proofs.Rounds.{touches_long}
 use Rattle.vax_hw.specs.Machine.{Machine}
 use Rattle.vv_io.specs.Lines.{Seen}
 use Rattle.sys_guests.specs.Changes.{Retires}
@@ -13,8 +14,7 @@ use Rattle.sys_guests.specs.Layout.{end_of_guests, guests_in}
 use Rattle.sys_guests.specs.Present.{HavePresent, KeepsAll, PaysAll}
 use Rattle.sys_lines.proofs.Showings.{shows_same, shows_then}
 use Rattle.sys_objects.specs.declared.records.Config.{Config}
-use Rattle.sys_objects.specs.declared.records.Mount.{Mount}
-use Rattle.sys_system.proofs.Paying.{counted_events, counted_transfers, pays_as, pays_kept, pays_then, present_long}
+use Rattle.sys_system.proofs.Paying.{counted_events, counted_transfers, pays_as, pays_kept, pays_then}
 use Rattle.sys_system.proofs.Playing.{quanta_taken}
 use Rattle.sys_system.specs.Calls.{AreOf, BeginsRound, EndsRound, MakesRound, Plays}
 use Rattle.sys_system.specs.System.{NoneLeft, StandsIn, System, all_turns, state_of}
@@ -26,7 +26,7 @@ use Rattle.sys_rounds.specs.Counts.{added, round_tally, slices_tally}
 use Rattle.sys_rounds.specs.Events.{events}
 use Rattle.sys_rounds.specs.FirstTouches.{touches_of_events, touches_of_round, touches_of_transfers, touches_of_turns}
 use Rattle.sys_rounds.specs.Run.{events_of, round}
-use Rattle.sys_rounds.specs.SlicedRound.{IsTheRound, sliced_round}
+use Rattle.sys_rounds.specs.SlicedRound.{IsTheRound}
 use Rattle.sys_rounds.specs.SlicedTouches.{touches_of_slices}
 use Rattle.sys_rounds.specs.Slices.{AreQuanta, Slice, slices}
 use Rattle.sys_rounds.specs.State.{Put, State, Went, bytes_on}
@@ -161,7 +161,7 @@ module _ (es : List Event) (xs : List Slice) (m m1 m2 m3 : Machine) (s s1 s2 s3 
   touches_same : (ts : List Touching) → HavePresent s.guests ts → touched ts ≡ touches_of_round c i es st ts
   touches_same ts all =
       let us : List Touching = touches_of_events c i st es ts in
-      let long : length us ≡ length begun.now.guests = present_long s1.guests us (keeps ts all) ∙ sym begun_long in
+      let long : length us ≡ length begun.now.guests = touches_long s1.guests us (keeps ts all) ∙ sym begun_long in
       let middle : touches_of_slices xs (guests_in m1.memory s1.guests) us ≡ touches_of_turns c.guests begun.now.guests us = ap (λ (y : State). touches_of_slices xs y.guests us) b.goes.state ∙ same_touches c.guests begun.now.guests xs us rows_long long quanta in
       let last : List Event → List Touching = λ ys. moved c (turns c (events c i st ys).now).now (touches_of_turns c.guests (events c i st ys).now.guests (touches_of_events c i st ys ts)) in
       (λ j. moved (config2 j) (whole_state j) (middle j)) ∙ ap last (sym of)
@@ -173,7 +173,7 @@ module _ (es : List Event) (xs : List Slice) (m m1 m2 m3 : Machine) (s s1 s2 s3 
       let long2 : length gs2 ≡ length s2.guests = length-map s2.guests (λ (k : Kept). _) in
       let rows2 : length s2.guests ≡ length s2.config.guests = placed_long 0 (sum_by (λ (row : GuestRow). row.pages) s2.config.guests) s2.config.guests s2.guests p.stands.laid_out in
       let end : PaysAll (moved s2.config (state_of m2.memory s2)) m2 s2.guests m3 s3.guests = pays_kept (moved s2.config (state_of m2.memory s2)) m2 m3 s2.guests s3.guests (ap (λ (x : Machine). x.misses) e.machine)
-      (λ ts all. counted_transfers s2.config s2.config.guests s2.mounts gs2 s2.volumes ts units (long2 ∙ rows2) (present_long s2.guests ts all ∙ sym long2)) leaves in
+      (λ ts all. counted_transfers s2.config s2.config.guests s2.mounts gs2 s2.volumes ts units (long2 ∙ rows2) (touches_long s2.guests ts all ∙ sym long2)) leaves in
       let begun1 = touches_of_events c i st es in
       let sliced1 = touches_of_slices xs (guests_in m1.memory s1.guests) in
       pays_as touched (touches_of_round c i es st) m m3 s.guests s3.guests touches_same

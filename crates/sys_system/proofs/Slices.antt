@@ -1,5 +1,5 @@
--- The outcome of a slice.
-use Rattle.std.proofs.Common.{ℕ, zero, suc, ◌≡◌, ◌<◌, ◌≤◌, ◌+◌, ◌-◌, ◌*◌, List, [], ◌∷◌, length, map, take, drop, refl, sym, ◌∙◌, ap, subst, arith, Bool, true, false, if◌then◌else◌, Option, Some, None}
+-- What a slice comes to.
+use Rattle.std.proofs.Common.{ℕ, zero, suc, ◌≡◌, ◌<◌, ◌≤◌, ◌+◌, ◌-◌, List, [], ◌∷◌, length, map, take, drop, refl, sym, ◌∙◌, ap, subst, arith, Bool, true, false, if◌then◌else◌, Option, Some, None}
 use Rattle.std.proofs.lemmas.List.Elements.{All-cons}
 use Rattle.std.specs.List.{All, slice_get}
 use Rattle.std.specs.Prelude.{IfSome, sum}
@@ -19,13 +19,13 @@ use Rattle.sys_system.proofs.Insides.{AreCounted, inside_of, kernel_holds}
 use Rattle.sys_system.proofs.Slicing.{falls}
 use Rattle.sys_system.specs.Calls.{CanTake, TakesSlice}
 use Rattle.sys_system.specs.Held.{IsInside, system_of, turns_of}
-use Rattle.sys_system.specs.System.{StandsIn, System, Turns, after_slice, slice_of_time}
+use Rattle.sys_system.specs.System.{StandsIn, Turns, after_slice, slice_of_time}
 use Rattle.sys_system.specs.declared.parts.Parts.{Parts}
 use Rattle.sys_rounds.proofs.Consoles.{bytes_of_console}
 use Rattle.sys_rounds.specs.Consoles.{console_of}
 use Rattle.sys_rounds.specs.Counts.{added, tally_by}
 use Rattle.sys_rounds.specs.Places.{changed, is_at}
-use Rattle.sys_rounds.specs.Slices.{Slice, shown_by, sliced}
+use Rattle.sys_rounds.specs.Slices.{Slice, shown_by}
 use Rattle.sys_rounds.specs.State.{bytes_on}
 use Rattle.sys_server.specs.declared.command.ServerState.{ServerState}
 use Rattle.vm_state.specs.Run.{Tally}

@@ -1,5 +1,5 @@
 -- Slices one after another: what one more adds to them.
-use Rattle.std.proofs.Common.{ℕ, zero, suc, ◌≡◌, ◌<◌, ◌≤◌, ◌+◌, ◌-◌, ◌%◌, ◌^◌, List, [], ◌∷◌, ◌++◌, length, map, take, drop, slice_index, slice_index_or, refl, sym, ◌∙◌, ap, arith, append_assoc, append-nil, take-append-drop, Bool, true, false, true≢false, if◌then◌else◌, ◌==◌, Option, Some}
+use Rattle.std.proofs.Common.{ℕ, zero, suc, ◌≡◌, ◌<◌, ◌≤◌, ◌+◌, ◌-◌, List, [], ◌∷◌, ◌++◌, length, map, take, slice_index, slice_index_or, refl, sym, ◌∙◌, ap, arith, append_assoc, append-nil, Bool, true, false, true≢false, if◌then◌else◌, ◌==◌, Option}
 use Rattle.std.proofs.lemmas.Bool.{eq-eqb, eqb-true, ne_eqb}
 use Rattle.std.proofs.lemmas.List.{map-append, take_more}
 use Rattle.std.proofs.lemmas.List.Sums.{sum_by-cons}
@@ -10,15 +10,15 @@ use Rattle.sys_guests.specs.Changes.{Retires}
 use Rattle.sys_guests.specs.declared.turns.TimeSlice.{TimeSlice}
 use Rattle.sys_objects.specs.declared.records.GuestRow.{GuestRow}
 use Rattle.sys_objects.specs.declared.records.Terminal.{Terminal}
-use Rattle.sys_system.proofs.Sums.{added_either, added_twice}
 use Rattle.sys_system.specs.System.{slice_of_time}
+use Rattle.sys_rounds.proofs.Additions.{added_either, added_twice}
 use Rattle.sys_rounds.proofs.Places.{both}
 use Rattle.sys_rounds.specs.Counts.{added, slices_tally, tally_by}
 use Rattle.sys_rounds.specs.Guests.{alone}
 use Rattle.sys_rounds.specs.Places.{changed}
 use Rattle.sys_rounds.specs.Slices.{AreQuanta, Slice, sliced, slices, total}
 use Rattle.sys_rounds.specs.State.{Put}
-use Rattle.vm_state.specs.Run.{Tally, no_steps}
+use Rattle.vm_state.specs.Run.{Tally}
 use Rattle.vm_state.specs.State.{Guest}
 
 -- one slice more
@@ -101,12 +101,7 @@ front_takes (x ∷ xs) ys i = by (i == x.guest) (total xs i) (total (xs ++ ys) i
 pub slices_more : (pieces : List TimeSlice) (i : ℕ) (piece : TimeSlice) → i < length pieces → piece ≡ slice_index_or pieces i piece → map slice_of_time (take (i + 1) pieces) ≡ map slice_of_time (take i pieces) ++ slice_of_time piece ∷ []
 slices_more pieces i piece h read = ap (map slice_of_time) (take_more pieces i piece h ∙ ap (λ (t : TimeSlice). take i pieces ++ t ∷ []) (sym read)) ∙ map-append slice_of_time (take i pieces) (piece ∷ [])
 
--- numbers of which one gets lower
-changed_long : (f : ℕ → ℕ) (xs : List ℕ) (k : ℕ) → length (changed f xs k) ≡ length xs
-changed_long f [] k = refl
-changed_long f (x ∷ xs) zero = refl
-changed_long f (x ∷ xs) (suc k) = ap suc (changed_long f xs k)
-
+-- numbers of which one falls
 pub falls : (xs : List ℕ) (k n : ℕ) → n ≤ slice_index xs k → sum (changed (λ x. x - n) xs k) + n ≡ sum xs
 falls [] k n h = omega (arith, h)
 falls (x ∷ xs) zero n h = omega (arith, h, sum_by-cons (λ (y : ℕ). y) (x - n) xs, sum_by-cons (λ (y : ℕ). y) x xs)

@@ -1,5 +1,5 @@
 -- What the code's records stand for.
-use Rattle.std.specs.Prelude.{ℕ, ◌≡◌, ◌<◌, length, take, drop, None, IfSome, All}
+use Rattle.std.specs.Prelude.{◌≡◌, ◌<◌, length, take, drop, None, IfSome, All}
 use Rattle.sys_guests.specs.Kernel.{AreUnits}
 use Rattle.sys_system.specs.System.{IsSystem, System}
 use Rattle.sys_system.specs.System as systems

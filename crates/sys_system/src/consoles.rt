@@ -2,14 +2,8 @@ ghost use Rattle.std.specs.Prelude.{◌≡◌, ◌≤◌, length};
 ghost use Rattle.sys_system.specs.Seats.{AreSeated};
 ghost use Rattle.sys_rounds.specs.Places.{is_at, place_of};
 
+use sys_events::is_at;
 use sys_objects::GuestRow;
-
-/// Whether it is this place.
-fn is_at(place: Option<u8>, k: u8) -> bool
-    ensures { result ≡ is_at k place }
-{
-    place == Some(k)
-}
 
 /// The guest whose console is a terminal at power-up.
 fn first_guest(rows: &[GuestRow], terminal: u8) -> Option<u8>

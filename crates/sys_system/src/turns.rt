@@ -1,4 +1,4 @@
-ghost use Rattle.std.specs.Prelude.{◌≡◌, ◌<◌, ◌≤◌, ◌+◌, ◌-◌, ◌*◌, false, nat_lt, IfOk, length, option_map, position, drop, replicate, slice_index, vec_len};
+ghost use Rattle.std.specs.Prelude.{◌≡◌, ◌<◌, ◌≤◌, ◌+◌, ◌-◌, ◌*◌, false, nat_lt, IfOk, length, option_map, position, replicate, slice_index, vec_len};
 ghost use Rattle.sys_system.specs.System.{after_slice, all_turns, next_guest, next_slice, slice_of_time};
 ghost use Rattle.sys_system.specs.Held.{turns_of};
 

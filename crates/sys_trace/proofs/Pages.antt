@@ -20,9 +20,10 @@ use Rattle.vasm_text.specs.Front.{front_text}
 use Rattle.vax_table.specs.Script.{Cause}
 use Rattle.vax_table.specs.Script as script
 use Rattle.vv_base.specs.Bytes.{long_at}
-use Rattle.vm_guest.specs.Kept.{Kept, StandsIn, bytes_at, guest_in}
+use Rattle.vm_guest.specs.Kept.{Kept, StandsIn, guest_in}
 use Rattle.vm_shadow.proofs.Lookups.{IsBy, looks_by}
 use Rattle.vm_state.proofs.Parts.{part_length}
+use Rattle.vm_state.specs.Outside.{bytes_at}
 use Rattle.vm_state.specs.Partition.{guest_of}
 use Rattle.vm_state.specs.State.{Guest, mode_of_state, pc_of}
 use Rattle.vm_state.specs.declared.guest_state.GuestState.{GuestState}

@@ -1,7 +1,8 @@
-ghost use Rattle.std.specs.Prelude.{◌≡◌, ◌≤◌, ◌<◌, ◌+◌, ◌-◌, ◌*◌, ◌%◌, ◌^◌, ◌++◌, length};
+ghost use Rattle.std.specs.Prelude.{◌≡◌, ◌≤◌, ◌<◌, ◌+◌, ◌-◌, ◌*◌, ◌%◌, ◌++◌, length};
 ghost use Rattle.sys_trace.specs.Line.{or_mark, readable, spelled};
 ghost use Rattle.vasm_text.specs.Front.{front_text};
-ghost use Rattle.vm_guest.specs.Kept.{StandsIn, bytes_at, guest_in};
+ghost use Rattle.vm_guest.specs.Kept.{StandsIn, guest_in};
+ghost use Rattle.vm_state.specs.Outside.{bytes_at};
 ghost use Rattle.vm_state.specs.State.{pc_of, state_of};
 
 use vasm_dis::{Line, front};

@@ -5,9 +5,10 @@ use Rattle.vax_hw.specs.Machine.{Machine}
 use Rattle.vm_bursts.specs.Guarded.{OnlyBoth}
 use Rattle.vm_shadow.specs.Stands.{Shadowed}
 use Rattle.vm_shadow.proofs.Covering.{own_is, own_length}
+use Rattle.vm_state.specs.Outside.{with_bytes}
 use Rattle.vm_state.specs.Partition.{part}
 use Rattle.vm_state.specs.State.{Guest, State, state_of}
-use Rattle.vm_guest.specs.Kept.{Becomes, Kept, StandsIn, TakesState, guest_in, with_bytes}
+use Rattle.vm_guest.specs.Kept.{Becomes, Kept, StandsIn, TakesState, guest_in}
 use Rattle.sys_rounds.specs.Guests.{answered}
 
 both_then : (s s1 : Shadowed) (a b c : List ℕ) → s1.base ≡ s.base → s1.pages ≡ s.pages → s1.at ≡ s.at → OnlyBoth s a b → OnlyBoth s1 b c → OnlyBoth s a c

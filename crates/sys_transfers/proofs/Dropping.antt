@@ -1,5 +1,5 @@
 -- The frames from which something is dropped when bytes are written.
-use Rattle.std.proofs.Common.{◌≡◌, ℕ, suc, ◌+◌, ◌/◌, ◌%◌, ◌<◌, ◌⊎◌, inl, inr, true, List, [], ◌∷◌, length, Option, sym, subst, arith}
+use Rattle.std.proofs.Common.{◌≡◌, ℕ, suc, ◌+◌, ◌%◌, ◌<◌, inl, inr, true, List, [], ◌∷◌, length, Option, subst, arith}
 use Rattle.std.proofs.lemmas.Bool.{cases_Bool, cases_lt, false≢true}
 use Rattle.std.specs.Prelude.{◌||◌}
 use Rattle.vax_table.specs.Script.{IsIn}

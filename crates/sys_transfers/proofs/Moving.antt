@@ -10,12 +10,12 @@ use Rattle.vax_arch.specs.Walk.{is_past}
 use Rattle.vax_hw.specs.Machine.{Machine}
 use Rattle.vm_fitting.specs.Moves.{Drops}
 use Rattle.vm_fitting.proofs.Own.{none_dropped}
-use Rattle.vm_guest.specs.Kept.{Becomes, Kept, StandsIn, frames_from, guest_in, with_bytes}
+use Rattle.vm_guest.specs.Kept.{Becomes, Kept, StandsIn, frames_from, guest_in}
+use Rattle.vm_state.specs.Outside.{bytes_at, with_bytes}
 use Rattle.vm_state.specs.Partition.{part}
 use Rattle.vm_state.proofs.Parts.{part_long}
 use Rattle.sys_objects.specs.declared.records.GuestRow.{GuestRow}
 use Rattle.sys_objects.specs.declared.records.Mount.{Mount}
-use Rattle.sys_rounds.specs.Guests.{bytes_at}
 use Rattle.sys_rounds.specs.Transfers.{Move, Packet, Prints, Reads, Refused, Writes, packet_at, to_print, to_read, to_write, unless_refused}
 use Rattle.sys_store.specs.Blocks.{HasBlock, LacksBlock, blocks_of, with_block}
 use Rattle.sys_store.specs.Job.{job_text}

@@ -1,24 +1,22 @@
 -- Elements by their places, and a list of which one element changes.
-use Rattle.std.proofs.Common.{◌≡◌, ℕ, zero, suc, ◌+◌, ◌<◌, List, [], ◌∷◌, ◌++◌, length, drop, take, slice_index_or, Option, Some, None, refl, ap, arith}
+use Rattle.std.proofs.Common.{◌≡◌, ℕ, zero, suc, ◌+◌, ◌<◌, List, [], ◌∷◌, ◌++◌, length, drop, take, slice_index_or, Option, Some, refl, ap, arith}
 use Rattle.std.specs.List.{slice_get}
+use Rattle.sys_guests.proofs.Lists.{none_some}
 use Rattle.sys_rounds.specs.Places.{changed}
-
-none_there : {X : Type 0} (x : X) → (let o : Option X = None in o ≡ Some x) → ⊥
-none_there x e = cc
 
 same_there : {X : Type 0} (x y : X) → (let o : Option X = Some x in o ≡ Some y) → x ≡ y
 same_there x y e = cc
 
 -- what begins at a place
 pub from_here : {X : Type 0} (xs : List X) (i : ℕ) (x : X) → slice_get xs i ≡ Some x → drop i xs ≡ x ∷ drop (i + 1) xs
-from_here [] i x e = absurd (none_there x e)
+from_here [] i x e = absurd (none_some x e)
 from_here (y ∷ xs) zero x e = ap (λ z. z ∷ xs) (same_there y x e)
 from_here (y ∷ xs) (suc i) x e = let n : suc i + 1 ≡ suc (i + 1) = omega arith in rw n (from_here xs i x e)
 
 -- a front of a list has the same elements
 pub got_in_front : {X : Type 0} (n : ℕ) (xs : List X) (i : ℕ) (x : X) → i < n → slice_get xs i ≡ Some x → slice_get (take n xs) i ≡ Some x
 got_in_front zero xs i x h e = absurd (omega (arith, h))
-got_in_front (suc n) [] i x h e = absurd (none_there x e)
+got_in_front (suc n) [] i x h e = absurd (none_some x e)
 got_in_front (suc n) (y ∷ xs) zero x h e = e
 got_in_front (suc n) (y ∷ xs) (suc i) x h e = got_in_front n xs i x (omega (arith, h)) e
 
@@ -28,7 +26,7 @@ changed_long f (x ∷ xs) zero = refl
 changed_long f (x ∷ xs) (suc i) = ap suc (changed_long f xs i)
 
 pub before_changed : {X : Type 0} (f : X → X) (xs : List X) (i : ℕ) (x : X) → slice_get xs i ≡ Some x → take (i + 1) (changed f xs i) ≡ take i xs ++ f x ∷ []
-before_changed f [] i x e = absurd (none_there x e)
+before_changed f [] i x e = absurd (none_some x e)
 before_changed f (y ∷ xs) zero x e = ap (λ z. f z ∷ []) (same_there y x e)
 before_changed f (y ∷ xs) (suc i) x e = let n : suc i + 1 ≡ suc (i + 1) = omega arith in rw n (ap (λ zs. y ∷ zs) (before_changed f xs i x e))
 

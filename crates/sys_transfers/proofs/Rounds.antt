@@ -95,7 +95,7 @@ touch_there (k ∷ ks) [] i h all = absurd all
 touch_there (k ∷ ks) (t ∷ ts) zero h all = (t, refl)
 touch_there (k ∷ ks) (t ∷ ts) (suc i) h all = touch_there ks ts i (omega (arith, h)) all.1
 
-touches_long : (ks : List Kept) (ts : List Touching) → HavePresent ks ts → length ts ≡ length ks
+pub touches_long : (ks : List Kept) (ts : List Touching) → HavePresent ks ts → length ts ≡ length ks
 touches_long [] [] all = refl
 touches_long [] (t ∷ ts) all = absurd all
 touches_long (k ∷ ks) [] all = absurd all

@@ -2,11 +2,12 @@
 use Rattle.std.proofs.Common.{◌≡◌, ℕ, List, [], ◌∷◌, length, map, Option, refl, ap, ◌∙◌, sym}
 use Rattle.std.proofs.lemmas.List.{length-map, length-set}
 use Rattle.std.proofs.Math.Seq.{map-set_same}
+use Rattle.vm_state.specs.Outside.{bytes_at}
 use Rattle.vm_state.specs.State.{Guest}
 use Rattle.sys_objects.specs.declared.records.Config.{Config}
 use Rattle.sys_objects.specs.declared.records.GuestRow.{GuestRow}
 use Rattle.sys_objects.specs.declared.records.Mount.{Mount}
-use Rattle.sys_rounds.specs.Guests.{bytes_at, with_no_queue}
+use Rattle.sys_rounds.specs.Guests.{with_no_queue}
 use Rattle.sys_rounds.specs.Transfers.{Move, Packet, Prints, Reads, Refused, Served, Writes, move_of, moved, packet_at, served, served_one}
 use Rattle.sys_store.specs.Blocks.{blocks_of, with_block}
 use Rattle.sys_transfers.specs.Serves.{one_packet}

@@ -6,7 +6,6 @@ use Rattle.sys_objects.specs.declared.records.GuestRow.{GuestRow}
 use Rattle.sys_objects.specs.declared.records.Mount.{Mount}
 use Rattle.sys_objects.specs.declared.records.PrinterRow.{PrinterRow}
 use Rattle.sys_rounds.specs.FirstTouches.{frames_by}
-use Rattle.sys_rounds.specs.Guests.{bytes_at, with_bytes}
 use Rattle.sys_rounds.specs.State.{Put}
 use Rattle.sys_rounds.specs.Transfers.{Move, Packet, Prints, Reads, Refused, Served, Writes, done_status, move_of, packet_at, printed, printer_of, served_one}
 use Rattle.sys_store.specs.Blocks.{blocks_of, with_block}
@@ -14,6 +13,7 @@ use Rattle.sys_store.specs.Job.{job_text}
 use Rattle.sys_transfers.specs.declared.packets.Request.{Request}
 use Rattle.vm_fitting.specs.Moves.{Drops}
 use Rattle.vm_guest.specs.Kept.{Becomes, Kept, guest_in}
+use Rattle.vm_state.specs.Outside.{bytes_at, with_bytes}
 use Rattle.vm_state.specs.State.{Guest}
 use Rattle.vm_state.specs.Translation.{frame_at}
 

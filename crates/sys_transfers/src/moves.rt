@@ -1,9 +1,9 @@
 ghost use Rattle.std.specs.Prelude.{◌≡◌, ◌+◌, ◌*◌, ◌<◌, ◌≤◌, IfSome, length};
-ghost use Rattle.sys_rounds.specs.Guests.{bytes_at};
 ghost use Rattle.sys_store.specs.Job.{job_text};
 ghost use Rattle.sys_rounds.specs.Transfers.{to_print, to_read, to_write};
 ghost use Rattle.sys_transfers.specs.Serves.{Carries, PrintsOf, packet_of};
 ghost use Rattle.vm_guest.specs.Kept.{StandsIn, guest_in};
+ghost use Rattle.vm_state.specs.Outside.{bytes_at};
 
 use crate::packets::{Request, is_outside};
 use sys_objects::{GuestRow, Mount};

@@ -1,5 +1,4 @@
 ghost use Rattle.std.specs.Prelude.{◌≡◌, [], ◌∷◌, ◌++◌, ◌≤◌, ◌<◌, length, drop, IfOk, OnOk};
-ghost use Rattle.vax_table.specs.Spelling.{view};
 ghost use Rattle.vasm_dis.specs.First.{IsFirst};
 ghost use Rattle.vasm_text.specs.Dis.{and_others, dis_of};
 ghost use Rattle.vasm_text.specs.Front.{front_text};

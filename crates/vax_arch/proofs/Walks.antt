@@ -1,11 +1,11 @@
 -- Laws of address translation, along the tests of its definition.
-use Rattle.std.proofs.Common.{◌≡◌, ℕ, ◌+◌, ◌*◌, ◌/◌, ◌%◌, ◌^◌, ◌<◌, ◌≤◌, Bool, true, false, not, ◌||◌, eqb, ltb, leb, List, Option, Some, None, refl, ap, ◌∙◌, sym, arith}
+use Rattle.std.proofs.Common.{◌≡◌, ℕ, ◌+◌, ◌*◌, ◌%◌, ◌^◌, ◌<◌, ◌≤◌, Bool, true, false, not, ◌||◌, eqb, ltb, leb, List, Option, Some, None, refl, ap, ◌∙◌, sym, arith}
 use Rattle.std.specs.Prelude.{if◌then◌else◌}
 use Rattle.std.proofs.lemmas.Bool.{cond_both}
 use Rattle.std.proofs.lemmas.Bool.Decides.{nat_tests}
 use Rattle.vv_base.specs.Bytes.{long_at}
 use Rattle.vax_arch.specs.Fields.{frame_of, is_valid}
-use Rattle.vax_arch.specs.Walk.{Tables, behind_table, in_memory, in_region, is_past, lookup, mapped_entry, page_of, process_entry, process_page, region_of, system_entry}
+use Rattle.vax_arch.specs.Walk.{Tables, behind_table, in_memory, in_region, is_past, lookup, mapped_entry, page_of, process_entry, region_of, system_entry}
 use Rattle.vax_arch.specs.WalkLaws.{AreAligned, IsAligned, IsInside, LooksAligned, LooksAtOne, LooksInside, OptionAligned, OptionInside, table_at, table_place}
 use Rattle.vax_arch.specs.declared.walk.Lookup.{Lookup}
 use Rattle.vax_arch.specs.declared.walk.Lookup.TheVariants.{Beyond, Direct, Fails, Found}

@@ -1,5 +1,5 @@
 -- Laws of address translation.
-use Rattle.std.specs.Prelude.{◌≡◌, ℕ, ◌+◌, ◌*◌, ◌%◌, ◌^◌, ◌==◌, ◌≤◌, ◌<◌, List, Option, Some, None, if◌then◌else◌, nat_lt}
+use Rattle.std.specs.Prelude.{◌≡◌, ℕ, ◌+◌, ◌*◌, ◌%◌, ◌^◌, ◌==◌, ◌≤◌, ◌<◌, List, Option, Some, None, if◌then◌else◌}
 use Rattle.vv_base.specs.Bytes.{long_at}
 use Rattle.vax_arch.specs.Walk.{Tables, in_region, lookup, page_of, region_of}
 use Rattle.vax_arch.specs.declared.walk.Grant.{Grant}

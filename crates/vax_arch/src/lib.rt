@@ -13,5 +13,5 @@ pub use mode::{Intent, Mode};
 pub use protection::{Prot, compress, compression_law, may, ring_may};
 pub use psl::{Psl, rei_allowed};
 pub use pte::Pte;
-pub use walk::{Grant, Lookup};
+pub use walk::{Grant, Lookup, REGION};
 pub use walk_laws::{lookups_are_aligned, lookups_are_inside, lookups_read_one_longword};

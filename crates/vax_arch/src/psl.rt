@@ -39,7 +39,8 @@ impl Psl {
         self.0 / 0x400_0000 % 2 == 1
     }
 
-    fn has_must_be_zero_bit(&self) -> bool
+    /// Whether a bit is set that must be zero.
+    pub fn has_must_be_zero_bit(&self) -> bool
         ensures { result ≡ has_must_be_zero_bit self.now.0 }
     {
         self.0 / 0x800_0000 != 0 || self.0 / 0x20_0000 % 2 != 0 || self.0 / 0x100 % 0x100 != 0

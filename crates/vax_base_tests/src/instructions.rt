@@ -2,7 +2,6 @@ ghost use Rattle.std.specs.Prelude.{◌≡◌, ◌≤◌, ◌<◌, ◌^◌, ◌%
 ghost use Rattle.vax_table.specs.Plan.{is_planned};
 ghost use Rattle.vax_table.specs.Script.{number_at};
 ghost use Rattle.vax_table.specs.Troubles.{intent_of, told};
-ghost use Rattle.vv_base.specs.Width.{size_of};
 ghost use Rattle.vax_base_tests.specs.TestMemory.{byte_in, memory};
 
 use Trouble::{NotValid, Operand};

@@ -6,7 +6,7 @@ use Rattle.vv_base.specs.declared.width.Width.TheVariants.{Byte, Word, Long, Qua
 use Rattle.vv_base.specs.Width.{size_of}
 use Rattle.vax_table.specs.Branches.{branched, holds}
 use Rattle.vax_table.specs.Claims.{Holds}
-use Rattle.vax_table.specs.Computing.{computed, target_of}
+use Rattle.vax_table.specs.Computing.{computed}
 use Rattle.vax_table.specs.Effects.{Effect, begun, dest_of, put, went_if}
 use Rattle.vax_table.specs.Operand.{behind_bytes, forms_in, indexed_by, no_operands, operand_of, operands_of, with_operand}
 use Rattle.vax_table.specs.Operations.{operation_of}

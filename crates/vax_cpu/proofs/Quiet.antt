@@ -1,14 +1,14 @@
 -- An instruction that traps, and PROBE, claim nothing for writing.
-use Rattle.std.specs.Prelude.{map, replicate, leb, if◌then◌else◌, slice_index}
+use Rattle.std.specs.Prelude.{map, replicate, if◌then◌else◌, slice_index}
 use Rattle.std.specs.List.{range_with_len}
-use Rattle.std.proofs.Common.{◌≡◌, ℕ, zero, suc, ◌+◌, ◌-◌, ◌<◌, ◌≤◌, ◌%◌, ◌&&◌, ◌||◌, Bool, true, false, eqb, ltb, List, [], ◌∷◌, ◌++◌, length, None, Ok, get_or, refl, ap, ◌∙◌, sym, subst, arith, slice_get}
+use Rattle.std.proofs.Common.{◌≡◌, ℕ, zero, suc, ◌+◌, ◌-◌, ◌<◌, ◌%◌, ◌&&◌, ◌||◌, Bool, true, false, eqb, ltb, List, [], ◌∷◌, ◌++◌, Ok, get_or, refl, ap, ◌∙◌, sym, subst, arith}
 use Rattle.std.proofs.lemmas.Bool.Decides.{nat_tests}
 use Rattle.std.proofs.lemmas.List.{get_or-replicate}
 use Rattle.std.proofs.lemmas.List.FromFn.{get_or-map-range_with_len}
 use Rattle.vv_base.specs.declared.width.Width.{Width}
-use Rattle.vv_base.specs.declared.width.Width.TheVariants.{Byte, Word, Long}
 use Rattle.vv_base.specs.Width.{size_of}
 use Rattle.vax_arch.specs.declared.mode.Intent.{Intent}
+use Rattle.vax_table.proofs.Targets.{beyond_all}
 use Rattle.vax_table.specs.declared.act.Sens.{Sens}
 use Rattle.vax_table.specs.declared.decoded.Spec.{Spec}
 use Rattle.vax_table.specs.declared.evaluation.Operands.{Operands}
@@ -20,7 +20,7 @@ use Rattle.vax_table.specs.declared.meaning.Operation.TheVariants as does
 use Rattle.vax_table.specs.Claims.{Holds, claims}
 use Rattle.vax_table.specs.Fetch.{by_answer, decided, fetched}
 use Rattle.vax_table.specs.Operand.{address_of, address_operand, base_address, behind_bytes, bits_operand, branch_operand, by_access, forms_in, operand_length, operand_of, operands_from, operands_of, read_operand, trap_forms, trap_operands, no_operands, with_operand}
-use Rattle.vax_table.specs.Operations.{OperationLine, arithmetic_operations, in_operation_lines, in_operations, move_operations, operation_of, other_operations}
+use Rattle.vax_table.specs.Operations.{operation_of}
 use Rattle.vax_table.specs.Plan.{plan_of}
 use Rattle.vax_table.specs.Reading.{Answer, Whole, Short, Unknown, Reserved, decoded_at}
 use Rattle.vax_table.specs.Rows.{row_of}
@@ -133,39 +133,6 @@ silent_below n below =
     sym (get_or-map-range_with_len (λ k. is_silent (operation_of k) (forms_in (row_of k)) (trap_forms k)) 0 256 n n true below (omega arith))
     ∙ ap (λ (xs : List Bool). get_or xs n true) all_silent
     ∙ get_or-replicate 256 n true true below
-
--- beyond the bytes there is no instruction
-beyond_list : (os : List Operation) (k : ℕ) → length os ≤ k → slice_get os k ≡ None
-beyond_list [] k h = refl
-beyond_list (o ∷ os) zero h = absurd (omega arith)
-beyond_list (o ∷ os) (suc k) h = beyond_list os k (omega arith)
-
-beyond_block : (n first : ℕ) (block : List Operation) (rest : Operation) → first + length block ≤ n → in_operations n first block rest ≡ rest
-beyond_block n first block rest h =
-    let none : slice_get block (n - first) ≡ None = beyond_list block (n - first) (omega arith) in
-    if_both (λ (o : Operation). o ≡ rest) (leb first n) _ _ (λ t. rw none) (λ t. refl)
-
-are_bytes : List OperationLine → Bool
-are_bytes [] = true
-are_bytes (l ∷ ls) = ltb l.opcode 256 && are_bytes ls
-
-beyond_lines : (n : ℕ) (ls : List OperationLine) → 256 ≤ n → are_bytes ls ≡ true → in_operation_lines n ls ≡ does.Other
-unfolding are_bytes
-beyond_lines n [] h e = refl
-beyond_lines n (l ∷ ls) h e =
-    let parts = and_both (ltb l.opcode 256) (are_bytes ls) e in
-    if_both (λ (o : Operation). o ≡ does.Other) (eqb n l.opcode) _ _ (λ t. absurd (grind (arith, nat_tests, parts.0))) (λ t. beyond_lines n ls h parts.1)
-
-beyond_all : (n : ℕ) → 256 ≤ n → operation_of n ≡ does.Other
-unfolding operation_of are_bytes
-beyond_all n h =
-    beyond_block n 0x80 (arithmetic_operations Byte) _ (omega arith)
-    ∙ beyond_block n 0xa0 (arithmetic_operations Word) _ (omega arith)
-    ∙ beyond_block n 0xc0 (arithmetic_operations Long) _ (omega arith)
-    ∙ beyond_block n 0x90 (move_operations Byte) _ (omega arith)
-    ∙ beyond_block n 0xb0 (move_operations Word) _ (omega arith)
-    ∙ beyond_block n 0xd0 (move_operations Long) _ (omega arith)
-    ∙ beyond_lines n other_operations h refl
 
 silent_by : (n : ℕ) (b : Bool) → ltb n 256 ≡ b → is_silent (operation_of n) (forms_in (row_of n)) (trap_forms n) ≡ true
 unfolding is_silent

@@ -4,6 +4,7 @@ use Rattle.std.specs.Prelude.{slice_index}
 use Rattle.std.proofs.Math.Seq.{take-append_seam}
 use Rattle.std.proofs.lemmas.List.{get_or-take, length-take}
 use Rattle.vax_arch.specs.declared.mode.Intent.TheVariants.{Read}
+use Rattle.vax_decode.proofs.RoundTrip.{some_left}
 use Rattle.vax_hw.specs.RealTables.{byte_by}
 use Rattle.vax_hw.specs.declared.world.World.{World}
 use Rattle.vax_table.specs.Fetch.{by_answer, decided, fetched}
@@ -17,9 +18,6 @@ use Rattle.vax_table.proofs.Lengths.{spellings_short}
 use Rattle.vax_table.proofs.OneSpelling.{rest_same}
 use Rattle.vax_paged.specs.Paged.{paged, placed}
 use Rattle.vax_paged.proofs.InPage.{next_place}
-
-some_left : (xs ys : List ℕ) → 0 < length ys → xs ++ ys ≡ [] → ⊥
-some_left xs ys some e = let none = ap (length {A = ℕ}) e in omega (arith, length-append {A = ℕ})
 
 wants_by : (a : Answer) (b tail : List ℕ) (d : Instruction) → 0 < length tail → Spells (b ++ tail) d → Tells b a → a ≡ Short
 wants_by (Whole e rest) b tail d some p t =

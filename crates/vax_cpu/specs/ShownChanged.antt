@@ -1,6 +1,6 @@
 -- Worked examples of the register that an instruction changes, by computation.
 use Rattle.std.specs.Prelude.{◌≡◌, refl, true, false, []}
-use Rattle.vv_base.specs.declared.width.Width.TheVariants.{Byte, Long, Quad}
+use Rattle.vv_base.specs.declared.width.Width.TheVariants.{Byte, Quad}
 use Rattle.vax_table.specs.declared.answer.AluOp.TheVariants.{Add, Move}
 use Rattle.vax_table.specs.declared.meaning.Condition.TheVariants.{NotEqual}
 use Rattle.vax_table.specs.declared.meaning.Inputs.TheVariants.{Both, First}

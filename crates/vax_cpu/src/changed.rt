@@ -1,4 +1,4 @@
-ghost use Rattle.std.specs.Prelude.{◌≡◌, ◌+◌, ◌≤◌, ◌<◌, sum, take};
+ghost use Rattle.std.specs.Prelude.{◌≡◌, ◌+◌, ◌<◌, sum, take};
 ghost use Rattle.vax_cpu.specs.Changed.{AreAlikeBut, all_leave_registers, changed_register, is_still, leaves_registers, register_at, register_of, result_register, target_register};
 
 use vax_operand::{Base, Kind, Operand, Prepared};

@@ -1,6 +1,5 @@
 ghost use Rattle.std.specs.Prelude.{◌≡◌, ◌<◌, Ok, true};
 ghost use Rattle.vax_table.specs.Effects.{effect};
-ghost use Rattle.vax_table.specs.Operand.{trap_operands};
 ghost use Rattle.vax_table.specs.Operations.{operation_of};
 ghost use Rattle.vax_table.specs.Plan.{is_planned};
 ghost use Rattle.vax_table.specs.Script.{outcome};

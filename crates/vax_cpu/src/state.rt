@@ -1,4 +1,4 @@
-ghost use Rattle.std.specs.Prelude.{◌≡◌, true, ◌+◌, ◌*◌, ◌≤◌, ◌<◌, ◌/◌, ◌%◌, ◌^◌, ℕ, length, slice_index, sum, take, IfOk};
+ghost use Rattle.std.specs.Prelude.{◌≡◌, true, ◌+◌, ◌*◌, ◌≤◌, ◌<◌, ◌/◌, ◌^◌, ℕ, length, slice_index, sum, take, IfOk};
 ghost use Rattle.vv_base.specs.Bytes.{long_at, long_bytes, overwritten};
 ghost use Rattle.vax_hw.specs.Machine.{Machine, tables_of, with_psw, zeros};
 ghost use Rattle.vax_hw.specs.Real.{misses_after};

@@ -3,7 +3,7 @@ ghost use Rattle.vax_hw.specs.Real.{exit_of};
 ghost use Rattle.vax_operand.specs.Left.{joined};
 ghost use Rattle.vax_table.specs.Troubles.{trouble_of};
 ghost use Rattle.vax_table.specs.Whole.{trap_of};
-ghost use Rattle.vax_cpu.specs.Fetched.{fault_exit, stop_exit};
+ghost use Rattle.vax_cpu.specs.Fetched.{stop_exit};
 ghost use Rattle.vax_cpu.specs.declared.stop.Fault.TheVariants as faults;
 ghost use Rattle.vax_cpu.specs.declared.stop.Stop.TheVariants as stops;
 

@@ -6,7 +6,7 @@ use Rattle.vax_decode.specs.declared.outcome.Decode.TheVariants.{Done, NeedMore,
 use Rattle.vax_decode.specs.declared.outcome.DecodeFault.TheVariants.{Opcode, Addressing}
 use Rattle.vax_decode.specs.Decoding.{IsRoundTrip, WantsMore}
 
-some_left : (xs ys : List ℕ) → 0 < length ys → xs ++ ys ≡ [] → ⊥
+pub some_left : (xs ys : List ℕ) → 0 < length ys → xs ++ ys ≡ [] → ⊥
 some_left xs ys some e = let none = ap (length {A = ℕ}) e in omega (arith, length-append {A = ℕ})
 
 pub round_trip : IsRoundTrip

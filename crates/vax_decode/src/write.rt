@@ -1,4 +1,4 @@
-ghost use Rattle.std.specs.Prelude.{◌≡◌, ◌+◌, ◌≤◌, ◌<◌, [], ◌∷◌, ◌++◌, length, IfSome};
+ghost use Rattle.std.specs.Prelude.{◌≡◌, ◌+◌, ◌≤◌, ◌<◌, [], ◌∷◌, ◌++◌, length};
 ghost use Rattle.vax_table.specs.Spelling.{bytes_of, view, IsWellFormed, Spells};
 ghost use Rattle.vax_table.specs.Spelled.{spelled_specifier, spelled, spelled_all};
 ghost use Rattle.vax_decode.specs.Encoding.{IsInRange, AllInRange};

@@ -1,7 +1,6 @@
-ghost use Rattle.std.specs.Prelude.{◌≡◌, ◌<◌, ◌^◌, ◌%◌, IfOk};
+ghost use Rattle.std.specs.Prelude.{◌≡◌, ◌<◌, ◌%◌, IfOk};
 ghost use Rattle.arrayvec.specs.ArrayVec.{array_vec_len};
-ghost use Rattle.vv_base.specs.Width.{size_of};
-ghost use Rattle.vax_table.specs.Branches.{bit, bit_in, bit_intent, bit_made, bit_tested, branched_on_bit, byte_of_bit, with_bit};
+ghost use Rattle.vax_table.specs.Branches.{bit, bit_intent, bit_tested, branched_on_bit, byte_of_bit, with_bit};
 ghost use Rattle.vax_table.specs.Effects.{effect};
 ghost use Rattle.vax_table.specs.Script.{number_at, outcome};
 ghost use Rattle.vax_table.specs.Troubles.{told};

@@ -1,9 +1,8 @@
 ghost use Rattle.std.specs.Prelude.{◌≡◌, ◌≢◌, ◌<◌, ◌^◌};
-ghost use Rattle.vax_table.specs.Branches.{bit, bit_in, bit_intent, bit_made, bit_tested, branched, branched_on_bit, branched_on_low_bit, byte_of_bit, called_subroutine, cased, comes_out, holds, left_subroutine, with_bit};
+ghost use Rattle.vax_table.specs.Branches.{bit, branched, branched_on_low_bit, called_subroutine, cased, comes_out, holds, left_subroutine};
 ghost use Rattle.vax_table.specs.Effects.{effect};
 ghost use Rattle.vax_table.specs.Operand.{extended};
-ghost use Rattle.vax_table.specs.Script.{number_at, outcome};
-ghost use Rattle.vax_table.specs.Troubles.{told};
+ghost use Rattle.vax_table.specs.Script.{outcome};
 ghost use Rattle.vax_operand.specs.Left.{joined, left};
 
 use crate::begun::begin;

@@ -6,13 +6,10 @@ ghost use Rattle.vax_hw.specs.RealTables.{everywhere, real_look};
 ghost use Rattle.vax_paged.specs.Paged.{IsLow, IsMapped, entry_of, look_of};
 
 use crate::memory::long_in;
-use vax_arch::Pte;
+use vax_arch::{Pte, REGION};
 use vax_hw::World;
 
-/// The pages of a region. A page's number is its region times this, and its number in the region.
-pub const REGION: u32 = 0x20_0000;
-
-/// The outcome for a page in the machine's own tables: its entry; or it has none, since the system table's entry for its
+/// What a page comes to in the machine's own tables: its entry; or it has none, since the system table's entry for its
 /// table isn't valid, or by a length.
 #[derive(Clone, Copy, Debug, PartialEq, Eq)]
 pub enum Entry {

@@ -16,10 +16,10 @@ ghost use Rattle.vax_paged.specs.InPage.{IsWhole};
 ghost use Rattle.vax_paged.specs.Known.{AreKnown, IsKnownIn, IsLearned, known_space, page_for, place_known, place_told};
 ghost use Rattle.vax_paged.specs.Paged.{is_clear_for};
 
-use crate::entries::{Look, Paged, REGION};
+use crate::entries::{Look, Paged};
 use crate::memory::{byte_in, long_in, number_in};
 use std::cell::Cell;
-use vax_arch::{Intent, Mode, Pte, may};
+use vax_arch::{Intent, Mode, Pte, REGION, may};
 use vax_hw::World;
 use vax_operand::{Space, Trouble};
 use vax_table::effect::Store;

@@ -87,12 +87,12 @@ fit_below n below =
     ∙ get_or-replicate 256 n true true below
 
 -- beyond the bytes there is no instruction
-beyond_list : (os : List Operation) (k : ℕ) → length os ≤ k → slice_get os k ≡ None
+pub beyond_list : (os : List Operation) (k : ℕ) → length os ≤ k → slice_get os k ≡ None
 beyond_list [] k h = refl
 beyond_list (o ∷ os) zero h = absurd (omega arith)
 beyond_list (o ∷ os) (suc k) h = beyond_list os k (omega arith)
 
-beyond_block : (n first : ℕ) (block : List Operation) (rest : Operation) → first + length block ≤ n → in_operations n first block rest ≡ rest
+pub beyond_block : (n first : ℕ) (block : List Operation) (rest : Operation) → first + length block ≤ n → in_operations n first block rest ≡ rest
 beyond_block n first block rest h =
     let none : slice_get block (n - first) ≡ None = beyond_list block (n - first) (omega arith) in
     if_both (λ (o : Operation). o ≡ rest) (leb first n) _ _ (λ t. rw none) (λ t. refl)
@@ -108,7 +108,7 @@ beyond_lines n (l ∷ ls) h e =
     let both = and_both (ltb l.opcode 256) (are_bytes ls) e in
     if_both (λ (o : Operation). o ≡ does.Other) (eqb n l.opcode) _ _ (λ t. absurd (grind (arith, nat_tests, both.0))) (λ t. beyond_lines n ls h both.1)
 
-beyond_all : (n : ℕ) → 256 ≤ n → operation_of n ≡ does.Other
+pub beyond_all : (n : ℕ) → 256 ≤ n → operation_of n ≡ does.Other
 unfolding operation_of are_bytes
 beyond_all n h =
     beyond_block n 0x80 (arithmetic_operations Byte) _ (omega arith)

@@ -18,8 +18,7 @@ use Rattle.vm_simulation.specs.Loaded.{Loads, as_run, frames_opened, guest_try}
 use Rattle.vm_state.specs.Partition.{guest_of, partition_of}
 use Rattle.vm_state.specs.State.{state_of}
 use Rattle.vm_state.specs.Step as steps
-use Rattle.vm_state.specs.Step.{by_try, instruction_of, trapped_in}
-use Rattle.vm_state.specs.Translation.{frame_at, place_of, space_of}
+use Rattle.vm_state.specs.Step.{trapped_in}
 use Rattle.vm_state.specs.declared.guest_state.GuestState.{GuestState}
 use Rattle.vm_touches.specs.Touched.{AreFilled, touches_now}
 

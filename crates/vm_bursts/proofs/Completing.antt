@@ -12,7 +12,6 @@ use Rattle.vax_table.specs.Script.{IsIn}
 use Rattle.vm_fitting.specs.Runs.{Reaches}
 use Rattle.vm_fitting.proofs.Running.{reached_by}
 use Rattle.vm_shadow.specs.Calls.{OnlyTables}
-use Rattle.vm_shadow.specs.Layout.{IsCovered, all_entries}
 use Rattle.vm_shadow.specs.Stands.{Fits, Keeps, Shadowed, is_pending, mapped_frame, read_at, real_at}
 use Rattle.vm_shadow.specs.StandsFor.{Serves, own_number}
 use Rattle.vm_shadow.proofs.Filling.{byte_apart, own_apart}

@@ -25,19 +25,13 @@ use Rattle.vm_simulation.specs.Loaded.{Loads, RunsGuest, as_run}
 use Rattle.vm_simulation.proofs.Bursting.{ends_more, runs_go}
 use Rattle.vm_simulation.proofs.Meeting.{exits_meet}
 use Rattle.vm_simulation.proofs.Retiring.{retires}
+use Rattle.vm_state.proofs.Initiations.{mode_small}
 use Rattle.vm_state.specs.Allowed.{AreAllowed}
 use Rattle.vm_state.specs.Partition.{guest_of}
 use Rattle.vm_state.specs.State.{state_of}
 use Rattle.vm_state.specs.Touches.{Touching}
 use Rattle.vm_state.specs.declared.guest_state.GuestState.{GuestState}
 use Rattle.vm_touches.specs.Touched.{touches_now}
-
--- Fields of the real PSL.
-mode_small : (m : Mode) → mode_number m < 4
-mode_small Kernel = omega arith
-mode_small Executive = omega arith
-mode_small Supervisor = omega arith
-mode_small User = omega arith
 
 mode_again : (m : Mode) → mode_of (mode_number m) ≡ m
 mode_again Kernel = refl

@@ -1,5 +1,5 @@
 -- The instruction is tried again, with one entry more that may be written.
-use Rattle.std.proofs.Common.{◌≡◌, ◌≢◌, ℕ, zero, suc, ◌+◌, ◌/◌, ◌%◌, ◌^◌, ◌<◌, Bool, true, false, not, List, [], ◌∷◌, Option, Some, None, Ok, refl, ap, ◌∙◌, sym, subst, arith, if◌then◌else◌}
+use Rattle.std.proofs.Common.{◌≡◌, ◌≢◌, ℕ, zero, suc, ◌+◌, ◌/◌, ◌%◌, ◌^◌, ◌<◌, Bool, true, false, not, List, [], ◌∷◌, Option, Some, None, refl, ap, ◌∙◌, sym, subst, arith, if◌then◌else◌}
 use Rattle.std.specs.Prelude.{IfSome}
 use Rattle.std.proofs.lemmas.Bool.{cases_eq, eq-eqb, eqb-false}
 use Rattle.vax_arch.specs.Fields.{is_modified}
@@ -15,24 +15,17 @@ use Rattle.vm_bursts.specs.Guarded.{Allows, CanAllow, CanClose, ClosesBehind, Is
 use Rattle.vm_bursts.proofs.Closed.{completed_closed, mapped_in, unfinished_closed}
 use Rattle.vm_bursts.proofs.Completing.{alike, guest_same, maps_same, own_same, runs_again, serves_again, slot_same, split, stops, tried_from, unwritten}
 use Rattle.vm_fitting.specs.Runs.{Reaches}
-use Rattle.vm_shadow.specs.Laws.{guest_place}
 use Rattle.vm_shadow.specs.Layout.{IsCovered, all_entries, entry_number}
 use Rattle.vm_shadow.specs.Stands.{Keeps, Shadowed, mapped_frame, real_at}
 use Rattle.vm_shadow.specs.StandsFor.{Serves, own_number}
 use Rattle.vm_shadow.proofs.Hearing.{number_is_small}
+use Rattle.vm_simulation.proofs.Retiring.{place_found}
 use Rattle.vm_simulation.specs.Laws.{IsUnwritten, frames_claimed}
 use Rattle.vm_simulation.specs.Loaded.{RunsGuest, frames_opened}
 use Rattle.vm_state.specs.Partition.{guest_of, partition_of}
 use Rattle.vm_state.specs.Step.{instruction_of}
-use Rattle.vm_state.specs.Translation.{frame_at, is_clear, place_by, place_of, space_of, walk_of}
-use Rattle.vm_state.specs.declared.walk.Walk.{Walk}
-use Rattle.vm_state.specs.declared.walk.Walk.TheVariants as walks
+use Rattle.vm_state.specs.Translation.{frame_at, is_clear, place_of, space_of, walk_of}
 use Rattle.vm_state.specs.declared.guest_state.GuestState.{GuestState}
-
-place_found : (memory : List ℕ) (w : Walk) (q : ℕ) → guest_place w ≡ Ok q → place_by memory w ≡ q
-place_found memory (walks.Frame pa entry table) q e = cc
-place_found memory (walks.Fault f) q e = cc
-place_found memory walks.Beyond q e = cc
 
 set_now : (x : ℕ) → is_modified x ≡ false → is_modified (with_modify x) ≡ true
 set_now x e = ap (λ b. is_modified (if b then x else x + 2 ^ 26)) e ∙ eq-eqb ((x + 2 ^ 26) / 2 ^ 26 % 2) 1 (bit (eqb-false (x / 2 ^ 26 % 2) 1 e))

@@ -20,7 +20,6 @@ use Rattle.vm_state.specs.Run.{Run}
 use Rattle.vm_simulation.specs.Laws.{IsUnwritten, Leaves, Meets, frames_claimed}
 use Rattle.vm_simulation.specs.Loaded.{Loads, RunsGuest, as_run, frames_opened, guest_try}
 use Rattle.vm_state.specs.Partition.{guest_of, partition_of}
-use Rattle.vm_state.specs.State.{Guest}
 use Rattle.vm_state.specs.Step as steps
 use Rattle.vm_state.specs.Step.{by_try, executed, trapped_in}
 use Rattle.vm_state.specs.Translation.{is_clear}

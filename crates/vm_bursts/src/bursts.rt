@@ -1,5 +1,4 @@
-ghost use Rattle.std.specs.Prelude.{◌≡◌, ◌≤◌, ◌<◌, ◌+◌, ◌*◌, ◌/◌, ◌%◌, ◌^◌, ◌-◌, IsTrue, ℕ};
-ghost use Rattle.vax_hw.specs.Machine.{seen_psl};
+ghost use Rattle.std.specs.Prelude.{◌≡◌, ◌≤◌, ◌<◌, ◌+◌, ◌*◌, ◌/◌, ◌%◌, ◌^◌, ◌-◌, IsTrue};
 ghost use Rattle.vm_bursts.specs.Ran.{IsRun, RunsMachine};
 ghost use Rattle.vm_clock.specs.Ticks.{ticks_to_wrap};
 ghost use Rattle.vm_shadow.specs.StandsFor.{StandsFor};

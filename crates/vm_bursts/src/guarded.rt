@@ -1,6 +1,5 @@
 ghost use Rattle.std.specs.Prelude.{◌≡◌, ◌≤◌, ◌+◌, ◌*◌, ◌/◌, ℕ, List, length, Ok};
 ghost use Rattle.vax_arch.specs.declared.mode.Intent.TheVariants.{Write};
-ghost use Rattle.vax_arch.specs.WalkLaws.{AreAligned};
 ghost use Rattle.vax_arch.specs.Walk.{page_of};
 ghost use Rattle.vm_bursts.specs.Guarded.{Allows, CanAllow, CanClose, ClosesBehind, IsGuarded, IsTried, RunsOne, RunsSome, is_retired};
 ghost use Rattle.vm_shadow.specs.Layout.{IsCovered};

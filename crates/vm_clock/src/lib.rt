@@ -1,7 +1,7 @@
 //! The interval clock of a virtual VAX: its registers ICCS, NICR and ICR, and its request for an interrupt.
 #![tactic(auto)]
 
-ghost use Rattle.std.specs.Prelude.{◌≡◌, ◌+◌, ◌-◌, ◌/◌, ◌%◌, ◌^◌, ◌<◌, ◌==◌, ◌↔◌, false, IsTrue, IsFalse, IsNone, IfSome, MatchOption};
+ghost use Rattle.std.specs.Prelude.{◌≡◌, ◌+◌, ◌-◌, ◌/◌, ◌%◌, ◌<◌, ◌==◌, ◌↔◌, false, IsTrue, IsFalse, IsNone, IfSome, MatchOption};
 ghost use Rattle.vm_clock.specs.Clock.{initial_state, iccs_of, after_count, after_tick, wraps_next, is_at_end, after_error_write, after_interrupt_write, after_step_write, after_enable_write, after_iccs_write, after_nicr_write, after_taken};
 ghost use Rattle.vm_clock.specs.Parts.{parts_of, state_of, IsClock};
 ghost use Rattle.vm_clock.specs.Ticks.{after_ticks, IsNextWrap, NeverWraps, ticks_to_wrap};

@@ -1,11 +1,11 @@
 -- Bytes and longwords of a guest, read.
-use Rattle.std.proofs.Common.{◌≡◌, ℕ, zero, suc, ◌+◌, ◌*◌, ◌%◌, ◌-◌, ◌<◌, List, [], ◌∷◌, length, get_or, Option, Ok, Err, refl, ap, ◌∙◌, sym, subst, arith}
+use Rattle.std.proofs.Common.{◌≡◌, ℕ, ◌+◌, ◌%◌, ◌-◌, ◌<◌, List, [], ◌∷◌, length, get_or, Option, Ok, Err, refl, ap, ◌∙◌, sym, subst, arith}
 use Rattle.std.proofs.lemmas.Nat.{le_bytes_4}
-use Rattle.std.specs.Int.{from_le_bytes, to_le_bytes, w32}
+use Rattle.std.specs.Int.{to_le_bytes, w32}
+use Rattle.vm_shadow.proofs.Storing.{four_at, four_small, long_from}
 use Rattle.vv_base.specs.Bytes.{long_at}
 use Rattle.vax_arch.specs.WalkLaws.{AreAligned}
 use Rattle.vax_arch.specs.declared.mode.Intent.TheVariants.{Read}
-use Rattle.vax_table.specs.Script.{Cause, Trouble, number_at}
 use Rattle.vax_table.specs.Script as script
 use Rattle.vm_emulate.specs.Readings.{IsByte}
 use Rattle.vm_emulate.specs.declared.reading.Unread.TheVariants as reasons
@@ -19,23 +19,6 @@ use Rattle.vm_state.specs.declared.walk.Walk.TheVariants as walks
 -- a byte of a longword
 abbrev four_of : List ℕ → ℕ → List ℕ
 four_of memory at = get_or memory at 0 ∷ get_or memory (at + 1) 0 ∷ get_or memory (at + 2) 0 ∷ get_or memory (at + 3) 0 ∷ []
-
-four_small : (memory : List ℕ) (at : ℕ) → ((p : ℕ) → get_or memory p 0 < 256) → (i : ℕ) → get_or (four_of memory at) i 0 < 256
-four_small memory at small zero = small at
-four_small memory at small (suc zero) = small (at + 1)
-four_small memory at small (suc (suc zero)) = small (at + 2)
-four_small memory at small (suc (suc (suc zero))) = small (at + 3)
-four_small memory at small (suc (suc (suc (suc i)))) = omega arith
-
-four_at : (memory : List ℕ) (at j : ℕ) → j < 4 → get_or (four_of memory at) j 0 ≡ get_or memory (at + j) 0
-four_at memory at zero h = ap (λ x. get_or memory x 0) (omega arith)
-four_at memory at (suc zero) h = refl
-four_at memory at (suc (suc zero)) h = refl
-four_at memory at (suc (suc (suc zero))) h = refl
-four_at memory at (suc (suc (suc (suc j)))) h = absurd (omega arith)
-
-long_from : (b0 b1 b2 b3 : ℕ) → b0 + 256 * b1 + 65536 * b2 + 16777216 * b3 ≡ from_le_bytes w32 (b0 ∷ b1 ∷ b2 ∷ b3 ∷ [])
-long_from b0 b1 b2 b3 = grind arith
 
 pub byte_of_long : (memory : List ℕ) (place : ℕ) → ((p : ℕ) → get_or memory p 0 < 256) → get_or (to_le_bytes w32 (long_at memory (place - place % 4))) (place % 4) 0 ≡ get_or memory place 0
 byte_of_long memory place bytes =

@@ -1,5 +1,5 @@
 -- LDPCTX.
-use Rattle.std.proofs.Common.{◌≡◌, ◌⊎◌, inl, inr, ℕ, zero, suc, ◌+◌, ◌*◌, ◌/◌, ◌%◌, ◌^◌, ◌<◌, Bool, true, false, not, ◌||◌, eqb, get_or, List, [], ◌∷◌, ◌++◌, length, Some, refl, ap, ◌∙◌, sym, subst, arith}
+use Rattle.std.proofs.Common.{◌≡◌, ℕ, zero, suc, ◌+◌, ◌*◌, ◌/◌, ◌%◌, ◌^◌, ◌<◌, Bool, true, false, not, ◌||◌, eqb, get_or, List, [], ◌∷◌, ◌++◌, length, Some, refl, ap, ◌∙◌, sym, subst, arith}
 use Rattle.std.specs.Prelude.{slice_index, slice_set}
 use Rattle.vax_arch.specs.Walk.{is_past}
 use Rattle.vax_arch.specs.declared.mode.Mode.TheVariants.{Kernel}
@@ -17,10 +17,11 @@ use Rattle.vm_emulate.specs.declared.loads.Process.{Process}
 use Rattle.vm_emulate.proofs.MovingTo.{only_guest}
 use Rattle.vm_emulate.proofs.Same.{same_guest}
 use Rattle.vm_emulate.proofs.Sensing.{done_allowed, done_stands, faults, lacks, memory_size}
+use Rattle.vm_exception.proofs.Writing.{only_then}
 use Rattle.vm_exception.specs.Wrote.{AreHomes, DropsAmong, Wrote}
 use Rattle.vm_exception.proofs.Homes.{homes_inside}
 use Rattle.vm_shadow.specs.Stands.{CanStand, Shadowed, own}
-use Rattle.vm_shadow.specs.StandsFor.{OnlyGuest, StandsFor, Switches}
+use Rattle.vm_shadow.specs.StandsFor.{StandsFor, Switches}
 use Rattle.vm_shadow.proofs.Contexts.{aligned_of}
 use Rattle.vm_shadow.proofs.Covering.{own_is}
 use Rattle.vm_shadow.proofs.Filling.{own_apart}
@@ -85,22 +86,6 @@ loads memory g b next_pc isp p k r psl stacks isp_is p0br p0lr p1br p1lr astlvl 
 pub put_back : (g g1 g2 : GuestState) (before process : Process) → with_process before (state_of g) ≡ state_of g → state_of g1 ≡ with_process process (state_of g) → HasPlace g.pages g.base g.start g1 → state_of g2 ≡ with_process before (state_of g1) → HasPlace g1.pages g1.base g1.start g2 → g2 ≡ g
 put_back g g1 g2 before process was one place two place' =
     same_guest g g2 (two ∙ ap (with_process before) one ∙ was) (record { pages = place'.pages ∙ place.pages; base = place'.base ∙ place.base; start = place'.start ∙ place.start })
-
--- writes of the guest's memory, and then of its real tables
-split : {A B C : Type 0} → A ⊎ B → (A → C) → (B → C) → C
-split (inl a) f g = f a
-split (inr b) f g = g b
-
-only_then : (m m1 m2 : Machine) (s s1 : Shadowed) → s1 ≡ record s { reads = s1.reads; consulted = s1.consulted } → OnlyGuest s m m1 → OnlyGuest s1 m1 m2 → OnlyGuest s m m2
-only_then m m1 m2 s s1 e a b =
-    let base : s1.base ≡ s.base = ap (λ (x : Shadowed). x.base) e in
-    let pages : s1.pages ≡ s.pages = ap (λ (x : Shadowed). x.pages) e in
-    let at : s1.at ≡ s.at = ap (λ (x : Shadowed). x.at) e in
-    record {
-      rest = b.rest ∙ ap (λ (x : Machine). record x { memory = m2.memory }) a.rest;
-      size = b.size ∙ a.size;
-      other = λ p h k. b.other p (split h (λ x. inl (omega arith)) (λ x. inr (omega arith))) (split k (λ x. inl (omega arith)) (λ x. inr (omega arith))) ∙ a.other p h k;
-    }
 
 -- two longwords are pushed
 two_pushed : (sp v w : ℕ) → pointer_behind sp (v ∷ w ∷ []) ≡ minus sp 8

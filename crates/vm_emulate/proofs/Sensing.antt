@@ -7,6 +7,7 @@ use Rattle.vm_emulate.specs.Emulated.{IsSensed, Senses}
 use Rattle.vm_emulate.specs.declared.emulated.Emulated.{Emulated}
 use Rattle.vm_emulate.specs.declared.emulated.Emulated.TheVariants as outcomes
 use Rattle.vm_emulate.proofs.Telling.{follows_none}
+use Rattle.vm_exception.proofs.Arriving.{stopped_stands}
 use Rattle.vm_exception.specs.Attempted.{Stays}
 use Rattle.vm_exception.specs.Initiated.{StopsWith}
 use Rattle.vm_shadow.specs.Stands.{Keeps, Shadowed}
@@ -40,17 +41,6 @@ stay m s g = record { machine = refl; shadow = refl; guest = refl }
 
 pub faults : (x : Sensed) (e : Exc) (m : Machine) (s : Shadowed) (g : GuestState) → StandsFor m.memory s g → x ≡ Faults e → Senses x m s g (outcomes.Fault e) m s g
 faults x e m s g stands is = stays x (outcomes.Fault e) m s g stands (rw is (refl, stay m s g))
-
--- the guest stops, and nothing else changes
-stopped_stands : (memory : List ℕ) (s : Shadowed) (g g' : GuestState) (code : ℕ) → StandsFor memory s g → state_of g' ≡ record (state_of g) { halt = Some code } → HasPlace g.pages g.base g.start g' → StandsFor memory s g'
-stopped_stands memory s g g' code stands state place = record {
-  keeps = stands.keeps;
-  serves = record { pages = stands.serves.pages ∙ sym place.pages; base = stands.serves.base ∙ sym place.base; told = stands.serves.told ∙ sym (ap (λ (x : State). x.tables) state) };
-  allowed = subst (λ n. AreAllowed n (state_of g')) (ap (λ n. 512 * n) (sym place.pages)) (subst (AreAllowed (512 * g.pages)) (sym state) (halted stands.allowed));
-}
-  where
-    halted : AreAllowed (512 * g.pages) (state_of g) → AreAllowed (512 * g.pages) (record (state_of g) { halt = Some code })
-    halted a = record { p0br = a.p0br; p0lr = a.p0lr; p1br = a.p1br; p1lr = a.p1lr; sbr = a.sbr; slr = a.slr; pcbb = a.pcbb; scbb = a.scbb; astlvl = a.astlvl; sisr = a.sisr; psl = a.psl; packets = a.packets; few = a.few }
 
 stops_with : (code : ℕ) (m : Machine) (s : Shadowed) (g g' : GuestState) → state_of g' ≡ record (state_of g) { halt = Some code } → StopsWith code m s g m s g'
 stops_with code m s g g' state = record { state = state; machine = refl; shadow = refl }

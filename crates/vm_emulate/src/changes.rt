@@ -18,10 +18,7 @@ use vax_hw::Hardware;
 use vax_table::Trapped;
 use vm_exception::{Initiated, Walked, initiate, walk_pushes};
 use vm_shadow::Shadow;
-use vm_state::{Exc, GuestState, pointer};
-
-/// The stop code of CHM on the interrupt stack.
-const CHANGED_MODE: u8 = 0x0A;
+use vm_state::{CHANGED_MODE, Exc, GuestState, pointer};
 
 /// The more privileged of the mode that CHM names and the current one.
 fn mode_entered(g: &GuestState, to: Mode) -> Mode

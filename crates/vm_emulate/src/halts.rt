@@ -5,12 +5,7 @@ ghost use Rattle.vm_state.specs.State.{HasPlace, state_of};
 
 use crate::Emulated;
 use vax_table::Trapped;
-use vm_state::GuestState;
-
-/// The stop codes of HALT and of a place beyond memory.
-const HALTED: u8 = 0x06;
-
-const PAST_MEMORY: u8 = 0x10;
+use vm_state::{GuestState, HALTED, PAST_MEMORY};
 
 /// R0 to R14 with the operands' side effects, and the next PC.
 pub fn registers_behind(t: &Trapped) -> [u32; 16]

@@ -1,6 +1,5 @@
-ghost use Rattle.std.specs.Prelude.{◌≡◌, ◌≤◌, ◌<◌, ◌+◌, ◌*◌, ◌%◌, ◌^◌, length, true};
+ghost use Rattle.std.specs.Prelude.{◌≡◌, ◌≤◌, ◌<◌, ◌+◌, ◌*◌, ◌%◌, length, true};
 ghost use Rattle.vax_arch.specs.Walk.{page_of};
-ghost use Rattle.vax_arch.specs.WalkLaws.{AreAligned};
 ghost use Rattle.vax_table.specs.Probing.{last_of, probe_mode};
 ghost use Rattle.vm_emulate.specs.Emulated.{FillsTwo, Probes, probe_codes};
 ghost use Rattle.vm_emulate.specs.Probed.{probed_of};

@@ -5,7 +5,7 @@ ghost use Rattle.vm_emulate.specs.Emulated.{SensesAlone};
 ghost use Rattle.vm_emulate.specs.Readings.{ArePopped, popped_of};
 ghost use Rattle.vm_state.specs.Contexts.{two_popped};
 ghost use Rattle.vm_state.specs.Partition.{guest_of};
-ghost use Rattle.vm_state.specs.Sensitive.{behind, requests_behind, return_from, returned_to};
+ghost use Rattle.vm_state.specs.Sensitive.{return_from, returned_to};
 ghost use Rattle.vm_state.specs.State.{HasPlace, state_of, tables_of};
 ghost use Rattle.vm_state.specs.Translation.{space_of};
 

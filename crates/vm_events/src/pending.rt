@@ -1,5 +1,4 @@
 ghost use Rattle.std.specs.Prelude.{◌≡◌, ◌==◌, ◌/◌, ◌%◌, ◌^◌, ◌<◌, option_map};
-ghost use Rattle.vax_arch.specs.Fields.{ipl_of};
 ghost use Rattle.vm_events.specs.Sources.{HasLevel, HasRequest, is_due, software_due, source_of};
 ghost use Rattle.vm_exception.specs.Initiated.{IsProper};
 ghost use Rattle.vm_state.specs.Interrupts.{due, interrupt_of, level_of, requests, taken, vector_of};

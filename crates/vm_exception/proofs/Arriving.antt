@@ -127,10 +127,9 @@ module _ (e : Exc) (m : Machine) (s : Shadowed) (g : GuestState) (stands : Stand
         }
 
 -- An initiation, by its attempts.
-Stopping : GuestState → ℕ → GuestState → Type 0
-Stopping g code g' = state_of g' ≡ record (state_of g) { halt = Some code }
 
-stopped_stands : (memory : List ℕ) (s : Shadowed) (g g' : GuestState) (code : ℕ) → StandsFor memory s g → state_of g' ≡ record (state_of g) { halt = Some code } → HasPlace g.pages g.base g.start g' → StandsFor memory s g'
+-- the guest stops, and nothing else changes
+pub stopped_stands : (memory : List ℕ) (s : Shadowed) (g g' : GuestState) (code : ℕ) → StandsFor memory s g → state_of g' ≡ record (state_of g) { halt = Some code } → HasPlace g.pages g.base g.start g' → StandsFor memory s g'
 stopped_stands memory s g g' code stands state place = record {
   keeps = stands.keeps;
   serves = record { pages = stands.serves.pages ∙ sym place.pages; base = stands.serves.base ∙ sym place.base; told = stands.serves.told ∙ sym (ap (λ (x : State). x.tables) state) };

@@ -10,6 +10,7 @@ use Rattle.vm_exception.specs.Pushed.{home_of}
 use Rattle.vm_exception.specs.Wrote.{AreHomes, IsEntryPlace, IsHome, PutsHomes, Wrote, frames_of}
 use Rattle.vm_exception.specs.declared.pushes.Home.{Home}
 use Rattle.vm_exception.proofs.Writing.{Among, wrote_as, wrote_none, wrote_one, wrote_then}
+use Rattle.vm_shadow.proofs.Writes.{long_by}
 use Rattle.vm_shadow.specs.Stands.{Fits, Keeps, Shadowed, is_pending, is_read_from, own}
 use Rattle.vm_shadow.specs.StandsFor.{Stores}
 use Rattle.vm_shadow.specs.declared.source.Source.{Source}
@@ -58,14 +59,6 @@ four_here memory at v room =
     let e0 : get_or (set c (at + 3) b3) at 0 ≡ b0 = get_or-set_other c (at + 3) at b3 0 (λ e. omega arith) ∙ get_or-set_other b (at + 2) at b2 0 (λ e. omega arith) ∙ get_or-set_other a (at + 1) at b1 0 (λ e. omega arith) ∙ get_or-set_same memory at b0 0 (omega arith) in
     (λ i. e0 i + 256 * e1 i + 65536 * e2 i + 16777216 * e3 i) ∙ omega arith
 
-long_by : (memory after : List ℕ) (there : ℕ) → ((p : ℕ) → there ≤ p → p < there + 4 → slice_index after p ≡ slice_index memory p) → long_at after there ≡ long_at memory there
-long_by memory after there same =
-    let e0 : get_or after there 0 ≡ get_or memory there 0 = same there (omega arith) (omega arith) in
-    let e1 : get_or after (there + 1) 0 ≡ get_or memory (there + 1) 0 = same (there + 1) (omega arith) (omega arith) in
-    let e2 : get_or after (there + 2) 0 ≡ get_or memory (there + 2) 0 = same (there + 2) (omega arith) (omega arith) in
-    let e3 : get_or after (there + 3) 0 ≡ get_or memory (there + 3) 0 = same (there + 3) (omega arith) (omega arith) in
-    λ i. e0 i + 256 * e1 i + 65536 * e2 i + 16777216 * e3 i
-
 -- A modify bit that is set stays set.
 
 modify_set : (v : ℕ) → is_modified (with_modify v % 2 ^ 32) ≡ true
@@ -93,10 +86,6 @@ one_stays memory p q a b room small on = split (cases_eq p q)
 at_size : (x : Option ℕ) (memory : List ℕ) → length (marked_at x memory) ≡ length memory
 at_size None memory = refl
 at_size (Some place) memory = marked_size place memory
-
-all_size : (hs : List pushes.Home) (memory : List ℕ) → length (all_marked hs memory) ≡ length memory
-all_size [] memory = refl
-all_size (h ∷ hs) memory = all_size hs (marked_at h.entry memory) ∙ at_size h.entry memory
 
 at_stays : (x : Option ℕ) (memory : List ℕ) (p : ℕ) → p % 4 ≡ 0 → length memory ≤ 2 ^ 32 → IsEntryPlace (length memory) x → is_modified (long_at memory p) ≡ true → is_modified (long_at (marked_at x memory) p) ≡ true
 at_stays None memory p a few is on = on

@@ -34,7 +34,7 @@ among_then fs gs s s1 s2 among a b = record {
   rest = b.rest ∙ ap (λ (x : Shadowed). record x { reads = s2.reads; consulted = s2.consulted }) a.rest;
 }
 
-only_then : (m m1 m2 : Machine) (s s1 : Shadowed) → s1 ≡ record s { reads = s1.reads; consulted = s1.consulted } → OnlyGuest s m m1 → OnlyGuest s1 m1 m2 → OnlyGuest s m m2
+pub only_then : (m m1 m2 : Machine) (s s1 : Shadowed) → s1 ≡ record s { reads = s1.reads; consulted = s1.consulted } → OnlyGuest s m m1 → OnlyGuest s1 m1 m2 → OnlyGuest s m m2
 only_then m m1 m2 s s1 e a b =
     let base : s1.base ≡ s.base = ap (λ (x : Shadowed). x.base) e in
     let pages : s1.pages ≡ s.pages = ap (λ (x : Shadowed). x.pages) e in

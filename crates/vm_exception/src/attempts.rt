@@ -1,6 +1,6 @@
 ghost use Rattle.std.specs.Prelude.{◌≡◌, ◌≤◌, ◌<◌, ◌+◌, ◌*◌, length};
 ghost use Rattle.vm_exception.specs.Attempted.{Attempts};
-ghost use Rattle.vm_exception.specs.Initiated.{IsProper, StopsWith};
+ghost use Rattle.vm_exception.specs.Initiated.{IsProper};
 ghost use Rattle.vm_shadow.specs.StandsFor.{StandsFor};
 ghost use Rattle.vm_state.specs.Pushes.{pointer_behind};
 
@@ -11,12 +11,7 @@ use crate::pushes::{Walked, walk_pushes};
 use crate::writes::push;
 use vax_hw::Hardware;
 use vm_shadow::Shadow;
-use vm_state::{Exc, GuestState, pointer};
-
-/// The stop codes of a vector whose low bits are reserved, and of a reference beyond memory.
-const BAD_VECTOR: u8 = 0x07;
-
-const PAST_MEMORY: u8 = 0x10;
+use vm_state::{BAD_VECTOR, Exc, GuestState, PAST_MEMORY, pointer};
 
 /// The outcome of an attempt to initiate: the guest is at the handler; or its stack has trouble; or it is to stop with a
 /// code.

@@ -1,5 +1,4 @@
-ghost use Rattle.std.specs.Prelude.{◌≡◌, ◌<◌, ◌≤◌};
-ghost use Rattle.vax_arch.specs.Fields.{mode_number};
+ghost use Rattle.std.specs.Prelude.{◌≡◌, ◌<◌};
 ghost use Rattle.vm_exception.specs.Initiated.{IsProper};
 ghost use Rattle.vm_state.specs.Initiate.{begun_at, is_bad_vector, longwords, more_privileged, new_ipl, new_mode, new_previous, new_psl, new_stack, uses_interrupt_stack, vector_offset};
 ghost use Rattle.vm_state.specs.State.{HasPlace, state_of};

@@ -8,10 +8,7 @@ use crate::Initiated;
 use crate::attempts::{Attempt, take};
 use vax_hw::Hardware;
 use vm_shadow::Shadow;
-use vm_state::{Exc, GuestState};
-
-/// The stop code of an interrupt stack that isn't valid.
-const INTERRUPT_STACK_BAD: u8 = 0x04;
+use vm_state::{Exc, GuestState, INTERRUPT_STACK_BAD};
 
 /// The guest stops with a code.
 fn stop(g: &mut GuestState, code: u8) -> Initiated

@@ -1,4 +1,4 @@
-ghost use Rattle.std.specs.Prelude.{[], ◌≡◌, ◌≤◌, ◌+◌, ◌*◌, ◌%◌, map, Some, length};
+ghost use Rattle.std.specs.Prelude.{[], ◌≡◌, ◌≤◌, ◌+◌, ◌*◌, ◌%◌, map, Some};
 ghost use Rattle.vm_exception.specs.Pushed.{home_of};
 ghost use Rattle.vm_exception.specs.Wrote.{AreHomes, PutsHomes, Wrote};
 ghost use Rattle.vm_shadow.specs.Stands.{Keeps, own};

@@ -23,6 +23,7 @@ use Rattle.vm_state.specs.Translation.{byte_by, space_of, walk_of}
 use Rattle.vm_state.specs.declared.guest_state.GuestState.{GuestState}
 use Rattle.vm_state.specs.declared.walk.Walk.{Walk}
 use Rattle.vm_state.specs.declared.walk.Walk.TheVariants as walks
+use Rattle.vm_touches.proofs.Touching.{each_page}
 use Rattle.vm_touches.specs.Touched.{AreFilled, touches_now}
 use Rattle.vm_touches.proofs.Given.{HasByte, StopsToo, given, given_has, touched_is}
 
@@ -31,11 +32,6 @@ stops_self : {A : Type 0} (s : Space) (r q : Result A Trouble) → AsFar s s r q
 stops_self s (Ok x) q far = tt
 stops_self s (Err (Test k)) q far = tt
 stops_self s (Err (At c i a)) q far = (c, far.0)
-
-each_page : (P : ℕ → Type 0) (xs : List ℕ) → ((x : ℕ) → IsIn x xs → P (page_of x)) → (page : ℕ) → IsIn page (map page_of xs) → P page
-each_page P [] each page h = absurd h
-each_page P (x ∷ xs) each page (inl e) = subst P (sym e) (each x (inl refl))
-each_page P (x ∷ xs) each page (inr h) = each_page P xs (λ y j. each y (inr j)) page h
 
 record IsFrame (w : Walk) : Type 0 where
   pa : ℕ

@@ -1,7 +1,7 @@
 -- Misses and what pays for them, one after the other.
 use Rattle.std.proofs.Common.{◌≡◌, ℕ, zero, suc, ◌+◌, ◌%◌, ◌^◌, ◌<◌, ◌≤◌, [], is_some, ap, ◌∙◌, arith}
 use Rattle.vm_fitting.specs.Laws.{KeepsFilled}
-use Rattle.vm_fitting.specs.Paid.{FillsAreTries, NothingIsPaid, NothingIsTried, PaymentsFollow, StepsArePaid, TouchesFollow, TriesFollow, IsSettled, NothingIsOwed, Owes, StepsSettle, TriesAreOwed}
+use Rattle.vm_fitting.specs.Paid.{FillsAreTries, NothingIsPaid, NothingIsTried, PaymentsFollow, StepsArePaid, TouchesFollow, TriesFollow, NothingIsOwed, StepsSettle, TriesAreOwed}
 use Rattle.vm_fitting.specs.Present.{behind_touches, to_miss}
 use Rattle.vm_fitting.proofs.Fitting.{filled_stay, fills_keep, one_filled, steps_keep, touches_counted}
 use Rattle.vm_shadow.specs.Layout.{all_entries}

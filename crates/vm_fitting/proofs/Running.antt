@@ -1,5 +1,5 @@
 -- A run of the machine, instruction by instruction, with first touches.
-use Rattle.std.proofs.Common.{◌≡◌, ℕ, zero, suc, ◌+◌, ◌/◌, ◌%◌, ◌^◌, ◌<◌, ◌≤◌, false, List, [], Option, Some, None, Result, Ok, Err, refl, ap, ◌∙◌, sym, subst, arith}
+use Rattle.std.proofs.Common.{◌≡◌, ℕ, zero, suc, ◌+◌, ◌%◌, ◌^◌, ◌<◌, ◌≤◌, List, [], Option, Some, None, Result, Ok, Err, refl, ap, ◌∙◌, sym, subst, arith}
 use Rattle.vax_hw.specs.Machine.{Machine}
 use Rattle.vax_hw.specs.Real.{Retired, unless_trapped, going_on, misses_after, one, real}
 use Rattle.vax_hw.specs.declared.world.Exit.{Exit}
@@ -17,52 +17,24 @@ use Rattle.vm_shadow.specs.Stands.{Shadowed}
 use Rattle.vm_simulation.specs.Bursts.{IsQuiet, counted_by, with_count}
 use Rattle.vm_simulation.specs.Laws.{IsRetired, Meets, frames_claimed}
 use Rattle.vm_simulation.specs.Loaded.{RunsGuest, as_run}
-use Rattle.vm_simulation.proofs.Bursting.{due_same}
+use Rattle.vm_simulation.proofs.Bursting.{due_same, more_counted, next_counted, own_world, quiet_next, step_is}
 use Rattle.vm_simulation.proofs.Meeting.{exits_meet}
 use Rattle.vm_simulation.proofs.Retiring.{retires}
-use Rattle.vm_state.specs.Interrupts.{due}
 use Rattle.vm_state.specs.Partition.{guest_of}
 use Rattle.vm_state.specs.State.{Guest, state_of}
 use Rattle.vm_state.specs.Step as steps
-use Rattle.vm_state.specs.Step.{Stepped, Touched, by_interrupt, counted, executed, instruction_of, step, step_by, touched_by, trapped_in, unless_waiting}
+use Rattle.vm_state.specs.Step.{Stepped, Touched, executed, instruction_of, step, touched_by, trapped_in}
 use Rattle.vm_state.specs.Touches.{Touching, touching_step, touching_steps}
 use Rattle.vm_state.specs.declared.guest_state.GuestState.{GuestState}
 use Rattle.vm_touches.specs.Touched.{touches_now}
 use Rattle.vm_touches.proofs.Touching.{misses_touched, retired_filled, stopped_filled}
 
--- a quiet guest's next step reaches its instruction
-step_is : (h : Guest) → h.state.halt ≡ None → h.state.waiting ≡ false → due (counted h.state) ≡ None → step h ≡ executed (record h { state = counted h.state })
-unfolding step
-step_is h runs waits none = ap (step_by h) runs ∙ ap (by_interrupt (record h { state = counted h.state })) none ∙ ap (unless_waiting (record h { state = counted h.state })) waits
-
 abbrev next_of : World → GuestState → GuestState
 next_of w g = with_count 1 (as_run w g)
-
-quiet_next : (n : ℕ) (w : World) (g : GuestState) → (as_run w g).psl.0 / 2 ^ 8 ≡ g.psl.0 / 2 ^ 8 → IsQuiet (suc n) (state_of g) → IsQuiet n (state_of (next_of w g))
-unfolding after_ticks
-quiet_next n w g high q = record {
-  runs = q.runs;
-  waits = q.waits;
-  none = λ k h. due_same (record (state_of g) { clock = after_ticks (suc k) g.clock }) w.r (as_run w g).psl.0 ((g.steps + 1) % 2 ^ 32) high ∙ q.none (suc k) (omega arith);
-}
 
 none_counted : (g : GuestState) → g.steps < 2 ^ 32 → with_count 0 g ≡ g
 unfolding after_ticks
 none_counted g h = let e : (g.steps + 0) % 2 ^ 32 ≡ g.steps = omega arith in λ i. record g { steps = e i }
-
-own_world : (m : Machine) (s : Shadowed) (g : GuestState) → RunsGuest [] m s g → as_run m.world g ≡ g
-own_world m s g k = λ i. record g { r = k.loads.r i; psl = record { 0 = k.loads.psl i } }
-
-more_counted : (c : ℕ) (w v : World) (g : GuestState) → with_count c (as_run w (with_count 1 (as_run v g))) ≡ with_count (suc c) (as_run w g)
-unfolding after_ticks
-more_counted c w v g = let e : ((g.steps + 1) % 2 ^ 32 + c) % 2 ^ 32 ≡ (g.steps + suc c) % 2 ^ 32 = omega arith in λ i. record (as_run w g) { clock = after_ticks c (after_tick g.clock); steps = e i }
-
-next_counted : (m : Machine) (s : Shadowed) (g : GuestState) (x : Retired) → RunsGuest [] m s g → IsRetired [] m s g x → RunsGuest [] x.machine s (next_of x.machine.world g)
-next_counted m s g x k r = record {
-  keeps = r.keeps;
-  serves = record { pages = k.serves.pages; base = k.serves.base; told = k.serves.told };
-  loads = record { r = r.loads.r; psl = r.loads.psl; current = r.loads.current; previous = r.loads.previous; tables = r.loads.tables };
-}
 
 counts_more : (e : Exit) (done : ℕ) → suc (counted_by e done) ≡ counted_by e (suc done) → suc (counted_by e (suc done)) ≡ counted_by e (suc (suc done))
 counts_more Budget done k = omega arith

@@ -1,15 +1,8 @@
 -- The kernel's work by its kinds.
-use Rattle.std.proofs.Common.{◌≡◌, ℕ, ◌+◌, ◌/◌, ◌≤◌, ◌⊎◌, inl, inr, Bool, true, false, ◌||◌, List, [], ◌∷◌, ◌++◌, map, Option, None, Ok, refl, ap, ◌∙◌, sym, subst}
-use Rattle.std.proofs.lemmas.List.{map-append}
-use Rattle.vv_base.specs.Width.{size_of}
+use Rattle.std.proofs.Common.{◌≡◌, ℕ, ◌+◌, ◌/◌, ◌≤◌, ◌⊎◌, inl, inr, Bool, true, false, ◌||◌, [], ◌∷◌, Option, None, Ok, refl, ap, ◌∙◌, sym, subst}
 use Rattle.vax_arch.specs.declared.walk.Lookup.TheVariants.{Beyond, Direct, Fails, Found}
 use Rattle.vax_hw.specs.Machine.{Machine}
 use Rattle.vax_hw.specs.Real.{Retired, one}
-use Rattle.vax_table.specs.Claims.{addresses}
-use Rattle.vax_table.specs.PlanLaws.{bytes_of_stores}
-use Rattle.vax_table.specs.Whole.{is_kernel_mode}
-use Rattle.vax_table.specs.declared.effect.Store.{Store}
-use Rattle.vax_table.proofs.Wholes.{exactly_claimed}
 use Rattle.vm_fitting.specs.Works.{MarksAreDropped, OneFrameIsDropped, RetiredStepsAreCounted, StepIsCounted, SwitchesRetell}
 use Rattle.vm_fitting.specs.Moves.{Drops}
 use Rattle.vm_fitting.specs.Present.{HasPresent, to_miss}
@@ -23,12 +16,10 @@ use Rattle.vm_simulation.specs.Laws.{IsRetired, frames_claimed}
 use Rattle.vm_simulation.specs.Loaded.{RunsGuest, as_run}
 use Rattle.vm_simulation.proofs.Retiring.{retires}
 use Rattle.vm_state.specs.Partition.{guest_of}
-use Rattle.vm_state.specs.State.{Guest, mode_of_state, tables_of}
+use Rattle.vm_state.specs.State.{Guest, tables_of}
 use Rattle.vm_state.specs.Step as steps
-use Rattle.vm_state.specs.Step.{Stepped, by_try, executed, frames_stored, instruction_of, touched_by, trapped_in}
-use Rattle.vm_state.specs.Sensitive.{frames_of_bytes}
+use Rattle.vm_state.specs.Step.{Stepped, executed, instruction_of, touched_by, trapped_in}
 use Rattle.vm_state.specs.Touches.{Touching, touching_step}
-use Rattle.vm_state.specs.Translation.{frame_at, place_of, space_of}
 use Rattle.vm_state.specs.declared.guest_state.GuestState.{GuestState}
 use Rattle.vm_touches.specs.Touched.{touches_now}
 use Rattle.vm_touches.proofs.Touching.{retired_filled}

@@ -7,12 +7,13 @@ use Rattle.vm_fitting.specs.Moves.{Retells}
 use Rattle.vm_fitting.proofs.Fitting.{resets_keep, writes_keep}
 use Rattle.vm_fitting.proofs.Own.{moves_alone, none_dropped}
 use Rattle.vm_fitting.proofs.Working.{switches_retell}
-use Rattle.vm_guest.specs.Kept.{Becomes, IsNew, IsResumed, KeepsPresent, Kept, StandsIn, all_typed, frames_from, guest_in}
+use Rattle.vm_guest.specs.Kept.{Becomes, IsNew, IsResumed, KeepsPresent, Kept, StandsIn, frames_from, guest_in}
 use Rattle.vm_console.specs.Console.{ConsoleState, after_typed}
 use Rattle.vm_guest.specs.Stores.{StoresAll}
 use Rattle.vm_shadow.specs.Stands.{Shadowed}
 use Rattle.vm_shadow.specs.StandsFor.{Makes, Switches}
 use Rattle.vm_state.specs.Allowed.{AreAllowed, IsPacket}
+use Rattle.vm_state.specs.Outside.{all_typed}
 use Rattle.vm_state.specs.Partition.{part, partition_of}
 use Rattle.vm_state.specs.Start.{started, stopped_at_first}
 use Rattle.vm_state.specs.State.{HasPlace, State, state_of, tables_of}

@@ -1,8 +1,7 @@
-ghost use Rattle.std.specs.Prelude.{◌≡◌, ◌+◌, ◌-◌, ◌*◌, ◌%◌, ◌≤◌, ◌<◌, ◌^◌, length, slice_index};
-ghost use Rattle.vm_guest.specs.Kept.{bytes_at, with_bytes};
+ghost use Rattle.std.specs.Prelude.{◌≡◌, ◌+◌, ◌-◌, ◌*◌, ◌%◌, ◌≤◌, ◌<◌, length, slice_index};
 ghost use Rattle.vm_guest.specs.Stores.{StoresAll};
-ghost use Rattle.vm_shadow.specs.Stands.{own};
 ghost use Rattle.vm_shadow.specs.StandsFor.{StandsFor};
+ghost use Rattle.vm_state.specs.Outside.{bytes_at};
 ghost use Rattle.vm_state.specs.Partition.{guest_of};
 
 use vax_hw::Hardware;

@@ -3,8 +3,9 @@ ghost use Rattle.vm_console.specs.Appends.{Appends};
 ghost use Rattle.vm_events.specs.Noted.{note_of};
 ghost use Rattle.vm_fitting.specs.Moves.{Drops};
 ghost use Rattle.vm_fitting.specs.Paid.{Pays};
-ghost use Rattle.vm_guest.specs.Kept.{Becomes, IsNew, IsResumed, KeepsPresent, StandsIn, TakesState, bytes_at, commanded_to_stop, frames_from, guest_in, stop_message, with_bytes, with_line};
+ghost use Rattle.vm_guest.specs.Kept.{Becomes, IsNew, IsResumed, KeepsPresent, StandsIn, TakesState, frames_from, guest_in};
 ghost use Rattle.vm_state.specs.Allowed.{AreAllowed};
+ghost use Rattle.vm_state.specs.Outside.{bytes_at, commanded_to_stop, stop_message, with_bytes, with_line};
 ghost use Rattle.vm_state.specs.Start.{started};
 ghost use Rattle.vm_state.specs.State.{HasPlace, state_of};
 ghost use Rattle.vm_state.specs.Touches.{touching_reset, touching_steps, touching_write};
@@ -20,12 +21,9 @@ use vax_hw::Hardware;
 use vm_console::Port;
 use vm_events::show_stop;
 use vm_shadow::Shadow;
-use vm_state::GuestState;
+use vm_state::{COMMANDED, GuestState};
 use vm_stepping::{Counts, Once, advance, advance_once};
 use vv_base::NoMemory;
-
-/// The stop code of a command.
-const COMMANDED: u8 = 0x02;
 
 /// A guest on its private virtual VAX: what the kernel keeps of it, with its shadow page tables in the machine.
 #[derive(Drop)]

@@ -1,5 +1,5 @@
 ghost use Rattle.std.specs.Prelude.{◌≡◌, ◌++◌, ◌∷◌, []};
-ghost use Rattle.vm_guest.specs.Kept.{all_typed};
+ghost use Rattle.vm_state.specs.Outside.{all_typed};
 
 use vm_console::Console;
 

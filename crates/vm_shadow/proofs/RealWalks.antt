@@ -12,7 +12,6 @@ use Rattle.vax_arch.specs.declared.mode.Mode.TheVariants.{Executive, Kernel, Sup
 use Rattle.vax_arch.specs.declared.walk.Grant.TheVariants.{Refused}
 use Rattle.vax_arch.specs.declared.walk.Lookup.TheVariants.{Fails, Found}
 use Rattle.vax_hw.specs.RealTables.{everywhere, judged_at, judged_by, place_by, placed_by, real_look}
-use Rattle.vax_table.specs.Script.{Cause}
 use Rattle.vax_table.specs.Script as script
 use Rattle.vm_shadow.specs.Layout.{IsCovered, entry_number, entry_place, kernel_entry, p0_base, p1_base, real_tables}
 use Rattle.vm_shadow.specs.Stands.{Fits, Shadowed}

@@ -119,21 +119,21 @@ sets_stored memory pa v h k =
 abbrev four_of : List ℕ → ℕ → List ℕ
 four_of memory at = get_or memory at 0 ∷ get_or memory (at + 1) 0 ∷ get_or memory (at + 2) 0 ∷ get_or memory (at + 3) 0 ∷ []
 
-four_small : (memory : List ℕ) (at : ℕ) → ((p : ℕ) → get_or memory p 0 < 256) → (i : ℕ) → get_or (four_of memory at) i 0 < 256
+pub four_small : (memory : List ℕ) (at : ℕ) → ((p : ℕ) → get_or memory p 0 < 256) → (i : ℕ) → get_or (four_of memory at) i 0 < 256
 four_small memory at small zero = small at
 four_small memory at small (suc zero) = small (at + 1)
 four_small memory at small (suc (suc zero)) = small (at + 2)
 four_small memory at small (suc (suc (suc zero))) = small (at + 3)
 four_small memory at small (suc (suc (suc (suc i)))) = omega arith
 
-four_at : (memory : List ℕ) (at j : ℕ) → j < 4 → get_or (four_of memory at) j 0 ≡ get_or memory (at + j) 0
+pub four_at : (memory : List ℕ) (at j : ℕ) → j < 4 → get_or (four_of memory at) j 0 ≡ get_or memory (at + j) 0
 four_at memory at zero h = ap (λ x. get_or memory x 0) (omega arith)
 four_at memory at (suc zero) h = refl
 four_at memory at (suc (suc zero)) h = refl
 four_at memory at (suc (suc (suc zero))) h = refl
 four_at memory at (suc (suc (suc (suc j)))) h = absurd (omega arith)
 
-long_from : (b0 b1 b2 b3 : ℕ) → b0 + 256 * b1 + 65536 * b2 + 16777216 * b3 ≡ from_le_bytes w32 (b0 ∷ b1 ∷ b2 ∷ b3 ∷ [])
+pub long_from : (b0 b1 b2 b3 : ℕ) → b0 + 256 * b1 + 65536 * b2 + 16777216 * b3 ≡ from_le_bytes w32 (b0 ∷ b1 ∷ b2 ∷ b3 ∷ [])
 long_from b0 b1 b2 b3 = grind arith
 
 set_small : (bs : List ℕ) (k byte : ℕ) → byte < 256 → ((i : ℕ) → get_or bs i 0 < 256) → (i : ℕ) → get_or (set bs k byte) i 0 < 256

@@ -7,7 +7,7 @@ use Rattle.std.specs.Bool.{beq}
 use Rattle.vax_arch.specs.Walk.{Tables, lookup, mapped_entry, region_of, system_entry}
 use Rattle.vax_arch.specs.declared.walk.Lookup.{Lookup}
 use Rattle.vax_hw.specs.Machine.{Machine}
-use Rattle.vm_slots.specs.Held.{AreSlots, Held, LastGoes, beside, is_same, without}
+use Rattle.vm_slots.specs.Held.{AreSlots, Held, beside, is_same, without}
 use Rattle.vm_slots.specs.declared.context.Context.{Context}
 use Rattle.vm_shadow.specs.Calls.{Drops, is_between, remembered, unless_dropped}
 use Rattle.vm_shadow.specs.Layout.{all_entries, entry_page, entry_slot}

@@ -1,24 +1,20 @@
-ghost use Rattle.std.specs.Prelude.{◌≡◌, ◌<◌, ◌≤◌, ◌+◌, ◌*◌, ◌^◌, [], length, false};
+ghost use Rattle.std.specs.Prelude.{◌≡◌, ◌<◌, ◌≤◌, ◌+◌, ◌*◌, [], length, false};
 ghost use Rattle.vax_arch.specs.Walk.{page_of};
 ghost use Rattle.vax_arch.specs.WalkLaws.{IsInside};
-ghost use Rattle.vm_shadow.specs.Calls.{OnlyTables};
 ghost use Rattle.vm_shadow.specs.Layout.{IsCovered, entry_number, real_entry};
-ghost use Rattle.vm_shadow.specs.Stands.{Keeps, own};
+ghost use Rattle.vm_shadow.specs.Stands.{Keeps};
 ghost use Rattle.vm_shadow.specs.StandsFor.{FillsPage, IsEntry, IsPresent, Protects, StandsFor};
 ghost use Rattle.vm_state.specs.Partition.{guest_of, partition_of};
-ghost use Rattle.vm_state.specs.Translation.{look};
 
 use crate::flags::{any_flagged, set_flags};
 use crate::scans::entry_place;
 use crate::{Shadow, Source};
-use vax_arch::{Lookup, Pte, compress};
+use vax_arch::{Lookup, Pte, REGION, compress};
 use vax_hw::Hardware;
 use vm_state::GuestState;
 use vm_walk::look_up;
 
-/// The pages of a region; and the first page of P1 for which there are real entries.
-const REGION: u32 = 0x20_0000;
-
+/// The first page of P1 for which there are real entries.
 const P1_FIRST: u32 = 2_088_960;
 
 /// The number of the real entry of a page, in a slot.

@@ -1,4 +1,3 @@
-ghost use Rattle.std.specs.Prelude.{◌≡◌};
 ghost use Rattle.vm_shadow.specs.Stands.{Fits};
 ghost use Rattle.vm_shadow.specs.StandsFor.{Notes};
 

@@ -1,7 +1,7 @@
-ghost use Rattle.std.specs.Prelude.{◌≡◌, ◌≤◌, ◌<◌, [], length};
+ghost use Rattle.std.specs.Prelude.{◌≡◌, ◌<◌, []};
 ghost use Rattle.vm_shadow.specs.Stands.{CanStand, Keeps};
 ghost use Rattle.vm_shadow.specs.StandsFor.{Switches, Takes, is_full_for, range_that_goes, staying};
-ghost use Rattle.vm_slots.specs.Held.{AreSlots, contexts_of, brought_forward};
+ghost use Rattle.vm_slots.specs.Held.{AreSlots};
 ghost use Rattle.vm_state.specs.State.{context_of, tables_of};
 ghost use Rattle.vm_state.specs.Touches.{is_remapped};
 

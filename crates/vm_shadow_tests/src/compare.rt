@@ -1,4 +1,4 @@
-ghost use Rattle.std.specs.Prelude.{◌≡◌, ◌≤◌, ◌<◌, ◌+◌, ◌*◌, ◌^◌, length};
+ghost use Rattle.std.specs.Prelude.{◌<◌, ◌+◌, ◌*◌, ◌^◌};
 ghost use Rattle.vm_shadow.specs.StandsFor.{StandsFor};
 
 use crate::{BASE, Bench, Event, NoPlace, PAGES, real_entry, real_walk};

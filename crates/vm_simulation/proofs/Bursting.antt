@@ -34,7 +34,7 @@ use Rattle.vm_state.specs.Partition.{guest_of, partition_of}
 use Rattle.vm_state.specs.Run.{Run, after_step, after_steps}
 use Rattle.vm_state.specs.State.{Guest, State, mode_of_state, state_of}
 use Rattle.vm_state.specs.Step as steps
-use Rattle.vm_state.specs.Step.{Stepped, by_interrupt, by_try, counted, executed, initiated_in, step, step_by, trapped_in, unless_waiting}
+use Rattle.vm_state.specs.Step.{Stepped, by_interrupt, counted, executed, initiated_in, step, step_by, trapped_in, unless_waiting}
 use Rattle.vm_state.specs.Translation.{byte_by, is_clear, look, space_of, walk_by, walk_of}
 use Rattle.vm_state.specs.declared.exception.Exc.TheVariants as excs
 use Rattle.vm_state.specs.declared.guest_state.GuestState.{GuestState}
@@ -54,8 +54,8 @@ pub due_same : (s : State) (r : List ℕ) (psl n : ℕ) → psl / 2 ^ 8 ≡ s.ps
 unfolding due
 due_same s r psl n e = λ i. find (λ source. requests_same s r psl n source i && nat_lt (same_level psl s.psl e i) (level_of source)) sources
 
--- a quiet guest's next step reaches its instruction
-step_is : (h : Guest) → h.state.halt ≡ None → h.state.waiting ≡ false → due (counted h.state) ≡ None → step h ≡ executed (record h { state = counted h.state })
+-- a quiet guest's next step comes to its instruction
+pub step_is : (h : Guest) → h.state.halt ≡ None → h.state.waiting ≡ false → due (counted h.state) ≡ None → step h ≡ executed (record h { state = counted h.state })
 unfolding step
 step_is h runs waits none = ap (step_by h) runs ∙ ap (by_interrupt (record h { state = counted h.state })) none ∙ ap (unless_waiting (record h { state = counted h.state })) waits
 
@@ -63,7 +63,7 @@ step_is h runs waits none = ap (step_by h) runs ∙ ap (by_interrupt (record h {
 abbrev next_of : World → GuestState → GuestState
 next_of w g = with_count 1 (as_run w g)
 
-quiet_next : (n : ℕ) (w : World) (g : GuestState) → (as_run w g).psl.0 / 2 ^ 8 ≡ g.psl.0 / 2 ^ 8 → IsQuiet (suc n) (state_of g) → IsQuiet n (state_of (next_of w g))
+pub quiet_next : (n : ℕ) (w : World) (g : GuestState) → (as_run w g).psl.0 / 2 ^ 8 ≡ g.psl.0 / 2 ^ 8 → IsQuiet (suc n) (state_of g) → IsQuiet n (state_of (next_of w g))
 unfolding after_ticks
 quiet_next n w g high q = record {
   runs = q.runs;
@@ -72,10 +72,6 @@ quiet_next n w g high q = record {
 }
 
 -- One step from a counted guest.
-
--- what it shows and counts, by a run
-abbrev step_of : Run → ℕ → List ℕ → Guest → Run
-step_of run term written x = after_step run (steps.stepped x [] (steps.Plain term) written)
 
 -- the step of a plain instruction
 plain_step : (m : Machine) (s : Shadowed) (g : GuestState) (x : Retired) (r : IsRetired [] m s g x) (run : Run) → run.guest ≡ guest_of m.memory g → after_step run (executed run.guest) ≡ after_step run (trapped_in (steps.Plain r.term) (frames_claimed (guest_of m.memory g)) (guest_of x.machine.memory (as_run x.machine.world g)) x.trap)
@@ -93,11 +89,7 @@ sum_mod t a b = grind arith
 same_mod : (n : ℕ) → n % 2 ^ 64 ≡ (n + 0) % 2 ^ 64
 same_mod n = ap (λ k. k % 2 ^ 64) (omega arith)
 
--- a counted guest's steps, and its run
-same_plainly : (run : Run) (h : Guest) (p q t u : ℕ) → run.tally.plain + p ≡ q → (run.tally.trail + t) % 2 ^ 64 ≡ u → plainly run h p t ≡ record { guest = h; shown = run.shown; tally = record run.tally { plain = q; trail = u } }
-same_plainly run h p q t u e f = λ i. record { guest = h; shown = run.shown; tally = record run.tally { plain = e i; trail = f i } }
-
--- the run after one plain step without a trap
+-- the run behind one plain step without a trap
 one_plain : (m : Machine) (s : Shadowed) (g : GuestState) (x : Retired) (r : IsRetired [] m s g x) (run : Run) → x.trap ≡ None → run.guest ≡ guest_of m.memory g → after_step run (executed run.guest) ≡ plainly run (guest_of x.machine.memory (as_run x.machine.world g)) 1 r.term
 one_plain m s g x r run none e =
     let h = guest_of x.machine.memory (as_run x.machine.world g) in
@@ -128,11 +120,11 @@ none_plainly run h =
     λ i. record run { tally = record run.tally { plain = p i; trail = t i } }
 
 -- what was loaded is the guest
-own_world : (m : Machine) (s : Shadowed) (g : GuestState) → RunsGuest [] m s g → as_run m.world g ≡ g
+pub own_world : (m : Machine) (s : Shadowed) (g : GuestState) → RunsGuest [] m s g → as_run m.world g ≡ g
 own_world m s g k = λ i. record g { r = k.loads.r i; psl = record { 0 = k.loads.psl i } }
 
 -- one more counted
-more_counted : (c : ℕ) (w v : World) (g : GuestState) → with_count c (as_run w (with_count 1 (as_run v g))) ≡ with_count (suc c) (as_run w g)
+pub more_counted : (c : ℕ) (w v : World) (g : GuestState) → with_count c (as_run w (with_count 1 (as_run v g))) ≡ with_count (suc c) (as_run w g)
 unfolding after_ticks
 more_counted c w v g = let e : ((g.steps + 1) % 2 ^ 32 + c) % 2 ^ 32 ≡ (g.steps + suc c) % 2 ^ 32 = omega arith in λ i. record (as_run w g) { clock = after_ticks c (after_tick g.clock); steps = e i }
 
@@ -309,7 +301,7 @@ stopped_at n m s g e h small k is =
 next_runs : (m : Machine) (s : Shadowed) (g : GuestState) (x : Retired) → RunsGuest [] m s g → IsRetired [] m s g x → RunsGuest [] x.machine s (as_run x.machine.world g)
 next_runs m s g x k r = record { keeps = r.keeps; serves = record { pages = k.serves.pages; base = k.serves.base; told = k.serves.told }; loads = r.loads }
 
-next_counted : (m : Machine) (s : Shadowed) (g : GuestState) (x : Retired) → RunsGuest [] m s g → IsRetired [] m s g x → RunsGuest [] x.machine s (next_of x.machine.world g)
+pub next_counted : (m : Machine) (s : Shadowed) (g : GuestState) (x : Retired) → RunsGuest [] m s g → IsRetired [] m s g x → RunsGuest [] x.machine s (next_of x.machine.world g)
 next_counted m s g x k r = record {
   keeps = r.keeps;
   serves = record { pages = k.serves.pages; base = k.serves.base; told = k.serves.told };

@@ -64,7 +64,7 @@ has_cause (Err c) h = (c, refl)
 same_low : (va : ℕ) → va < 2 ^ 32 → va ≡ va % 2 ^ 32
 same_low va h = omega arith
 
-intent_again : (i : Intent) → intent_of (is_write i) ≡ i
+pub intent_again : (i : Intent) → intent_of (is_write i) ≡ i
 intent_again intents.Read = refl
 intent_again intents.Write = refl
 

@@ -65,7 +65,7 @@ completed : {A : Type 0} (c : ℕ → Bool) (vas : List ℕ) (r : Result A Troub
 completed c vas (Ok a) b e = let u = completes_unless a b (first_clear c vas) e in (ap Ok u.0, u.1)
 completed c vas (Err t) b e = cc
 
-place_found : (memory : List ℕ) (w : Walk) (q : ℕ) → guest_place w ≡ Ok q → place_by memory w ≡ q
+pub place_found : (memory : List ℕ) (w : Walk) (q : ℕ) → guest_place w ≡ Ok q → place_by memory w ≡ q
 place_found memory (walks.Frame pa entry table) q e = cc
 place_found memory (walks.Fault f) q e = cc
 place_found memory walks.Beyond q e = cc

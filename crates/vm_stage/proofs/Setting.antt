@@ -1,7 +1,6 @@
 -- Registers that pass the tests are allowed.
-use Rattle.std.proofs.Common.{◌≡◌, ℕ, ◌≤◌, ◌==◌, ◌&&◌, ◌||◌, ◌⊎◌, inl, inr, Bool, true, false, not, List, length, All, refl, ap, sym, ◌∙◌}
+use Rattle.std.proofs.Common.{◌≡◌, ℕ, ◌≤◌, ◌==◌, ◌&&◌, ◌||◌, ◌⊎◌, inl, inr, Bool, true, false, not, length, All, refl}
 use Rattle.std.proofs.lemmas.Bool.{eqb-true}
-use Rattle.vax_arch.specs.Rei.{has_must_be_zero_bit}
 use Rattle.vm_state.specs.Allowed.{AreAllowed, IsPacket}
 use Rattle.vm_state.specs.State.{State}
 use Rattle.vm_stage.specs.Allowed.{allows_rest, allows_tables}

@@ -1,5 +1,5 @@
 -- What is asked of a guest's registers before they are set.
-use Rattle.std.specs.Prelude.{◌==◌, ◌&&◌, ◌||◌, ℕ, Bool, not}
+use Rattle.std.specs.Prelude.{◌==◌, ◌&&◌, ◌||◌, Bool, not}
 use Rattle.vax_arch.specs.Rei.{has_must_be_zero_bit}
 use Rattle.vax_arch.specs.Walk.{Tables}
 use Rattle.vm_state.specs.Registers.{allows}

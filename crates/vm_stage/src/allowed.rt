@@ -1,6 +1,5 @@
 ghost use Rattle.std.specs.Bool.{OnTrue};
 ghost use Rattle.std.specs.Prelude.{◌≡◌, ◌*◌, All};
-ghost use Rattle.vax_arch.specs.Rei.{has_must_be_zero_bit};
 ghost use Rattle.vm_stage.specs.Allowed.{allows_rest, allows_tables};
 ghost use Rattle.vm_state.specs.Allowed.{AreAllowed, IsPacket};
 ghost use Rattle.vm_state.specs.State.{state_of, tables_of};
@@ -19,20 +18,13 @@ fn allows_tables(g: &GuestState) -> bool
                     && (g.sbr % 4 == 0 && g.slr <= 8192))))
 }
 
-/// Whether a bit of a PSL is set that must be zero.
-fn has_must_be_zero_bit(psl: u32) -> bool
-    ensures { result ≡ has_must_be_zero_bit psl }
-{
-    psl / 0x800_0000 != 0 || psl / 0x20_0000 % 2 != 0 || psl / 0x100 % 0x100 != 0
-}
-
 /// Whether the other registers have.
 fn allows_rest(g: &GuestState) -> bool
     ensures { result ≡ allows_rest (state_of g.now) }
 {
     g.pcbb % 4 == 0
         && (g.scbb % 512 == 0
-            && (g.astlvl <= 4 && (g.sisr % 2 == 0 && !has_must_be_zero_bit(g.psl.0))))
+            && (g.astlvl <= 4 && (g.sisr % 2 == 0 && !g.psl.has_must_be_zero_bit())))
 }
 
 /// Whether each packet is aligned and lies in memory.

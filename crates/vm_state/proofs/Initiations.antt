@@ -11,7 +11,7 @@ use Rattle.vax_arch.specs.declared.mode.Mode.TheVariants.{Executive, Kernel, Sup
 use Rattle.vm_state.specs.Initiate.{Arrives, Attempt, Halts, Initiation, KernelStackBad, StackFaulty, Stops, Taken, attempt, begun_at, behind_walk, by_vector, in_its_place, initiate, initiated, is_bad_vector, longwords, new_ipl, new_mode, new_previous, new_stack, uses_interrupt_stack, vector_offset}
 use Rattle.vm_state.specs.Pushes.{Faulty, Homes, PastMemory, Walked, pointer_behind, push_walked}
 use Rattle.vm_state.specs.State.{Guest, State, pointer_of}
-use Rattle.vm_state.specs.Stops.{BadVector, Stop}
+use Rattle.vm_state.specs.Stops.{BadVector}
 use Rattle.vm_state.specs.Stops as stops
 use Rattle.vm_state.specs.declared.exception.Exc.{Exc}
 use Rattle.vm_state.specs.declared.exception.Exc.TheVariants.{Arithmetic, Breakpoint, Chm, Customer, Interrupt, KernelStack, Memory, ModifyFault, ReservedAddressing, ReservedInstruction, ReservedOperand}
@@ -42,7 +42,7 @@ LevelFits KernelStack = Unit {0}
 LevelFits (Chm to code) = Unit {0}
 LevelFits (ModifyFault va) = Unit {0}
 
-mode_small : (m : Mode) → mode_number m < 4
+pub mode_small : (m : Mode) → mode_number m < 4
 mode_small Kernel = omega arith
 mode_small Executive = omega arith
 mode_small Supervisor = omega arith

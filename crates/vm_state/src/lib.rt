@@ -7,6 +7,7 @@ mod guest_state;
 mod laws;
 mod register;
 mod stacks;
+mod stops;
 mod transfer;
 mod walk;
 
@@ -18,5 +19,6 @@ pub use laws::{
 };
 pub use register::{Effect, Register, ReservedOperand};
 pub use stacks::{pointer, set_pointer, stack_in};
+pub use stops::{BAD_VECTOR, CHANGED_MODE, COMMANDED, HALTED, INTERRUPT_STACK_BAD, PAST_MEMORY};
 pub use transfer::Accept;
 pub use walk::{MemFault, Walk};

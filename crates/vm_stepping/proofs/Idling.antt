@@ -1,9 +1,9 @@
 -- A guest that waits, in many steps.
-use Rattle.std.proofs.Common.{◌≡◌, ℕ, zero, suc, ◌+◌, ◌-◌, ◌*◌, ◌%◌, ◌^◌, ◌<◌, ◌≤◌, Bool, true, false, ◌&&◌, List, [], Option, Some, None, refl, ap, ◌∙◌, sym, subst, arith}
+use Rattle.std.proofs.Common.{◌≡◌, ℕ, zero, suc, ◌+◌, ◌-◌, ◌%◌, ◌^◌, ◌<◌, ◌≤◌, true, ◌&&◌, List, None, refl, ap, ◌∙◌, sym, subst, arith}
 use Rattle.std.specs.Prelude.{IsTrue, find, nat_lt}
 use Rattle.vax_arch.specs.Fields.{ipl_of}
 use Rattle.vax_hw.specs.Machine.{Machine}
-use Rattle.vm_clock.specs.Clock.{ClockState, after_tick}
+use Rattle.vm_clock.specs.Clock.{after_tick}
 use Rattle.vm_clock.specs.Ticks.{after_ticks, ticks_to_wrap}
 use Rattle.vm_clock.proofs.Counting.{after_ticks-add}
 use Rattle.vm_shadow.specs.Stands.{Shadowed}

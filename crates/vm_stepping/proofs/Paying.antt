@@ -1,27 +1,25 @@
 -- What the kernel's work drops, and the misses that first touches pay for.
-use Rattle.std.proofs.Common.{◌≡◌, ℕ, ◌+◌, ◌%◌, ◌^◌, ◌<◌, ◌≤◌, ◌⊎◌, inl, inr, true, List, [], ◌++◌, Option, None, is_some, refl, ap, ◌∙◌, sym, subst, arith}
+use Rattle.std.proofs.Common.{◌≡◌, ℕ, ◌+◌, ◌%◌, ◌^◌, ◌≤◌, ◌⊎◌, inl, inr, true, List, [], ◌++◌, Option, None, is_some, ap, ◌∙◌, sym, subst, arith}
 use Rattle.vax_arch.specs.Walk.{Tables, page_of}
-use Rattle.vax_arch.specs.declared.mode.Intent.{Intent}
 use Rattle.vax_hw.specs.Machine.{Machine}
-use Rattle.vax_table.specs.Script.{Cause, IsIn}
-use Rattle.vm_bursts.proofs.Completing.{split}
+use Rattle.vax_table.specs.Script.{IsIn}
 use Rattle.vm_emulate.specs.Followed.{Follows}
 use Rattle.vm_events.specs.Made.{Makes}
 use Rattle.vm_exception.specs.Initiated.{StopsWith}
 use Rattle.vm_exception.specs.Wrote.{DropsAmong}
 use Rattle.vm_exception.proofs.Marking.{pending_append}
-use Rattle.vm_fitting.specs.Laws.{KeepsFilled, StillHas}
+use Rattle.vm_fitting.specs.Laws.{KeepsFilled}
 use Rattle.vm_fitting.specs.Moves.{Drops, Moves}
 use Rattle.vm_fitting.specs.Paid.{IsSettled, Misses, Owes}
-use Rattle.vm_fitting.specs.Present.{HasEntry, HasPresent, behind_touches, is_filled, pages_of, to_miss}
+use Rattle.vm_fitting.specs.Present.{HasEntry, behind_touches, is_filled, pages_of, to_miss}
 use Rattle.vm_fitting.specs.Runs.{MissesThere}
 use Rattle.vm_fitting.proofs.Counting.{some_unfilled}
-use Rattle.vm_fitting.proofs.Fitting.{filled_stay, fills_keep, in_pages, one_filled, steps_keep}
+use Rattle.vm_fitting.proofs.Fitting.{filled_stay, in_pages, steps_keep}
 use Rattle.vm_fitting.proofs.Found.{found_entries}
 use Rattle.vm_fitting.proofs.Own.{moves_alone, none_dropped}
 use Rattle.vm_fitting.proofs.Working.{marks_dropped}
-use Rattle.vm_shadow.specs.Stands.{Fits, Shadowed, is_pending, read_at}
-use Rattle.vm_shadow.specs.StandsFor.{Fills, Marks, StandsFor, own_number}
+use Rattle.vm_shadow.specs.Stands.{Shadowed, is_pending, read_at}
+use Rattle.vm_shadow.specs.StandsFor.{Marks, StandsFor}
 use Rattle.vm_shadow.specs.declared.source.Source.{Source}
 use Rattle.vm_state.specs.Partition.{guest_of}
 use Rattle.vm_state.specs.State.{Guest, tables_of}
@@ -30,7 +28,7 @@ use Rattle.vm_state.specs.Touches.{Touching, touching_step}
 use Rattle.vm_state.specs.Translation.{look, marks_by}
 use Rattle.vm_state.specs.declared.guest_state.GuestState.{GuestState}
 use Rattle.vm_stepping.specs.Pays.{OwesStill, Settles}
-use Rattle.vm_touches.specs.Touched.{AreFilled, IsTouched, touches_now}
+use Rattle.vm_touches.specs.Touched.{AreFilled, touches_now}
 
 -- What is dropped.
 

@@ -3,7 +3,7 @@ use Rattle.std.proofs.Common.{◌≡◌, ℕ, zero, suc, ◌+◌, ◌-◌, ◌�
 use Rattle.vax_hw.specs.Machine.{Machine}
 use Rattle.vax_table.specs.Script.{IsIn}
 use Rattle.vm_fitting.specs.Moves.{Moves}
-use Rattle.vm_fitting.specs.Paid.{Owes, Pays, touching_counted}
+use Rattle.vm_fitting.specs.Paid.{Pays, touching_counted}
 use Rattle.vm_fitting.specs.Present.{HasPresent, behind_touches}
 use Rattle.vm_fitting.proofs.Fitting.{steps_keep}
 use Rattle.vm_fitting.proofs.Paying.{nothing_owed}
@@ -13,13 +13,13 @@ use Rattle.vm_state.specs.Initiate.{Initiation, KernelStackBad, Stops, Taken, in
 use Rattle.vm_state.specs.Interrupts.{Source, due, interrupt_of}
 use Rattle.vm_state.specs.Partition.{guest_of}
 use Rattle.vm_state.specs.Run.{Run}
-use Rattle.vm_state.specs.State.{Guest, HasPlace, State, state_of, tables_of}
+use Rattle.vm_state.specs.State.{Guest, HasPlace, State, state_of}
 use Rattle.vm_state.specs.Step as steps
 use Rattle.vm_state.specs.Step.{Stepped, Touched, counted, executed, interrupted, nothing_touched, step, stepped, unless_waiting}
 use Rattle.vm_state.specs.Touches.{Touching, touching_step, touching_steps}
 use Rattle.vm_state.specs.declared.guest_state.GuestState.{GuestState}
 use Rattle.vm_stepping.specs.Advances.{IsBegun}
-use Rattle.vm_stepping.specs.Made.{Made, no_counts}
+use Rattle.vm_stepping.specs.Made.{Made}
 use Rattle.vm_stepping.specs.Pays.{OwesBy, PaysOn, touching_left}
 use Rattle.vm_stepping.specs.declared.counts.Counts.{Counts}
 use Rattle.vm_stepping.specs.declared.turns.Left.{Left}

@@ -1,5 +1,5 @@
--- What pays for the misses of a run of the machine, with what is done after it.
-use Rattle.std.proofs.Common.{◌≡◌, ℕ, zero, suc, ◌+◌, ◌-◌, ◌%◌, ◌^◌, ◌<◌, ◌≤◌, Bool, true, false, List, [], ◌++◌, Some, refl, ap, ◌∙◌, sym, subst, arith}
+-- What pays for the misses of a run of the machine, with what is done behind it.
+use Rattle.std.proofs.Common.{◌≡◌, ℕ, zero, suc, ◌+◌, ◌-◌, ◌%◌, ◌^◌, ◌≤◌, Bool, true, false, List, [], Some, refl, ap, ◌∙◌, sym, subst, arith}
 use Rattle.vax_hw.specs.Machine.{Machine}
 use Rattle.vax_hw.specs.declared.world.Exit.{Exit}
 use Rattle.vax_hw.specs.declared.world.Exit.TheVariants.{Arithmetic, Budget, Denied, Emulate, Modify, NotValid, Refused}
@@ -14,7 +14,6 @@ use Rattle.vm_fitting.proofs.Fitting.{steps_keep}
 use Rattle.vm_fitting.proofs.Own.{none_dropped}
 use Rattle.vm_fitting.proofs.Paying.{touches_follow}
 use Rattle.vm_shadow.specs.Stands.{Shadowed}
-use Rattle.vm_shadow.specs.StandsFor.{StandsFor}
 use Rattle.vm_simulation.specs.Bursts.{Ends, after_counted, goes_on, missed_by, plainly, with_trap}
 use Rattle.vm_simulation.specs.Laws.{frames_claimed}
 use Rattle.vm_state.specs.Initiate.{Initiation, KernelStackBad, Stops, Taken, initiate}
@@ -26,8 +25,7 @@ use Rattle.vm_state.specs.Step.{Idle, Kind, Stepped, executed, initiated_in, tra
 use Rattle.vm_state.specs.Touches.{Touching, touching_step, touching_steps}
 use Rattle.vm_state.specs.declared.exception.Exc.TheVariants as excs
 use Rattle.vm_state.specs.declared.guest_state.GuestState.{GuestState}
-use Rattle.vm_stepping.specs.Advances.{IsDone, Steps}
-use Rattle.vm_stepping.specs.Made.{Refills}
+use Rattle.vm_stepping.specs.Advances.{IsDone}
 use Rattle.vm_stepping.specs.Pays.{OwesStill, PaysFor, PaysOn, Settles}
 use Rattle.vm_stepping.specs.declared.counts.Counts.{Counts}
 use Rattle.vm_stepping.specs.declared.turns.Left.{Left}

@@ -29,7 +29,7 @@ use Rattle.vm_shadow.specs.StandsFor.{OnlyGuest, StandsFor}
 use Rattle.vm_simulation.specs.Laws.{IsTrap, IsTrapped, IsUnfilled}
 use Rattle.vm_simulation.specs.Loaded.{guest_try}
 use Rattle.vm_state.specs.Partition.{guest_of, part, partition_of}
-use Rattle.vm_state.specs.Probe.{Answers, NotValid, Probed, probe}
+use Rattle.vm_state.specs.Probe.{Answers, NotValid, Probed}
 use Rattle.vm_state.specs.Probe as probes
 use Rattle.vm_state.specs.Sensitive.{ClearAt, Does, Faults, LacksMemory, Sensed, StopsThere, sensed}
 use Rattle.vm_state.specs.State.{Guest, HasPlace, State, pc_of, state_of, tables_of}

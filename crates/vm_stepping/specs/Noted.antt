@@ -1,5 +1,5 @@
 -- What the kernel's work tells of a guest's next step.
-use Rattle.std.specs.Prelude.{ℕ, ◌≡◌, Bool, true, false, if◌then◌else◌}
+use Rattle.std.specs.Prelude.{◌≡◌, Bool, true, false, if◌then◌else◌}
 use Rattle.vax_hw.specs.Machine.{Machine}
 use Rattle.vm_events.specs.Noted.{note_of, note_of_instruction}
 use Rattle.vm_events.specs.declared.note.Note.{Note}

@@ -17,10 +17,7 @@ use vax_hw::Hardware;
 use vm_console::Port;
 use vm_events::{Note, Source, begin, interrupt, show_stop};
 use vm_shadow::Shadow;
-use vm_state::{Exc, GuestState};
-
-/// The stop code of a reference beyond memory.
-pub const PAST_MEMORY: u8 = 0x10;
+use vm_state::{Exc, GuestState, PAST_MEMORY};
 
 /// A fault of the instruction is initiated.
 pub fn fault<H: Hardware, T: Port>(

@@ -1,4 +1,4 @@
-ghost use Rattle.std.specs.Prelude.{◌≡◌, ◌+◌, ◌<◌, ◌^◌, true};
+ghost use Rattle.std.specs.Prelude.{◌≡◌, ◌<◌, ◌^◌, true};
 ghost use Rattle.vax_table.specs.Script.{Test};
 ghost use Rattle.vax_table.specs.Tries.{Stopped};
 ghost use Rattle.vax_table.specs.Troubles.{intent_of};

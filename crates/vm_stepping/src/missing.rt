@@ -1,4 +1,4 @@
-ghost use Rattle.std.specs.Prelude.{◌≡◌, ◌+◌, ◌<◌, ◌^◌, ℕ};
+ghost use Rattle.std.specs.Prelude.{◌<◌, ◌^◌, ℕ};
 ghost use Rattle.vm_shadow.specs.StandsFor.{StandsFor};
 ghost use Rattle.vm_simulation.specs.Laws.{IsMissed};
 ghost use Rattle.vm_events.specs.Noted.{note_by_try};

@@ -10,14 +10,14 @@ ghost use Rattle.vm_stepping.specs.Pays.{PaysFor};
 ghost use Rattle.vm_touches.specs.Touched.{AreFilled, touches_now};
 
 use crate::Counts;
-use crate::made::{PAST_MEMORY, fault, page_note};
+use crate::made::{fault, page_note};
 use vax_hw::Hardware;
 use vax_table::Trapped;
 use vm_console::Port;
 use vm_emulate::{Emulated, emulate};
 use vm_events::{Note, show_stop};
 use vm_shadow::Shadow;
-use vm_state::GuestState;
+use vm_state::{GuestState, PAST_MEMORY};
 
 /// A guest has sixteen registers, and a trap has all of them but PC.
 fn have_registers(r: &[u32; 16], t: &Trapped)

@@ -7,7 +7,6 @@ use Rattle.vax_arch.specs.Protection.{may_of}
 use Rattle.vax_arch.specs.Ring.{ring_of}
 use Rattle.vax_arch.specs.Walk.{granted, is_past, page_of}
 use Rattle.vax_arch.specs.declared.mode.Intent.{Intent}
-use Rattle.vax_arch.specs.declared.mode.Intent.TheVariants as intents
 use Rattle.vax_arch.specs.declared.mode.Mode.{Mode}
 use Rattle.vax_arch.specs.declared.walk.Grant.{Grant}
 use Rattle.vax_hw.specs.Machine.{Machine, is_clear as machine_clear, space_of as machine_space, tables_of as machine_tables}
@@ -35,7 +34,7 @@ use Rattle.vm_shadow.proofs.RealWalks.{IsElsewhere, elsewhere}
 use Rattle.vm_simulation.specs.Laws.{Meets, place_here}
 use Rattle.vm_simulation.specs.Loaded.{RunsGuest}
 use Rattle.vm_simulation.proofs.Mapped.{mapped}
-use Rattle.vm_simulation.proofs.Meeting.{byte_ok, exits_meet}
+use Rattle.vm_simulation.proofs.Meeting.{byte_ok, exits_meet, intent_again}
 use Rattle.vm_simulation.proofs.Narrow.{AreAlike, HasLow, narrow, outcome_low, outcome_narrow}
 use Rattle.vm_simulation.proofs.Spaces.{below, guest_byte, machine_byte, machine_instruction, own_mode, same_instruction, whole}
 use Rattle.vm_state.specs.Partition.{partition_of}
@@ -51,17 +50,13 @@ same_low va h = omega arith
 narrow_alike : (s : Space) → AreAlike s (narrow s)
 narrow_alike s i va h = ap (s i) (same_low va h)
 
-intent_again : (i : Intent) → intent_of (is_write i) ≡ i
-intent_again intents.Read = refl
-intent_again intents.Write = refl
-
 -- the pages of a list
 page_in : (va : ℕ) (xs : List ℕ) → IsIn va xs → IsIn (page_of va) (map page_of xs)
 page_in va [] h = absurd h
 page_in va (x ∷ xs) (inl e) = inl (ap page_of e)
 page_in va (x ∷ xs) (inr h) = inr (page_in va xs h)
 
-each_page : (P : ℕ → Type 0) (xs : List ℕ) → ((x : ℕ) → IsIn x xs → P (page_of x)) → (page : ℕ) → IsIn page (map page_of xs) → P page
+pub each_page : (P : ℕ → Type 0) (xs : List ℕ) → ((x : ℕ) → IsIn x xs → P (page_of x)) → (page : ℕ) → IsIn page (map page_of xs) → P page
 each_page P [] each page h = absurd h
 each_page P (x ∷ xs) each page (inl e) = subst P (sym e) (each x (inl refl))
 each_page P (x ∷ xs) each page (inr h) = each_page P xs (λ y j. each y (inr j)) page h

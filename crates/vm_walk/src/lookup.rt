@@ -6,12 +6,9 @@ ghost use Rattle.vm_state.specs.State.{tables_of};
 ghost use Rattle.vm_state.specs.Translation.{look};
 
 use crate::partition::{is_past, read_long};
-use vax_arch::{Lookup, Pte};
+use vax_arch::{Lookup, Pte, REGION};
 use vax_hw::Hardware;
 use vm_state::GuestState;
-
-/// The pages of a region. A page's number is its region times this, and its number in the region.
-const REGION: u32 = 0x20_0000;
 
 /// A length violation of the page itself.
 const TOO_LONG: Lookup = Lookup::Fails {

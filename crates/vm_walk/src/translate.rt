@@ -1,4 +1,4 @@
-ghost use Rattle.std.specs.Prelude.{◌≡◌, ◌≤◌, ◌<◌, ◌+◌, ◌*◌, ◌^◌, length};
+ghost use Rattle.std.specs.Prelude.{◌≡◌, ◌≤◌, ◌<◌, ◌+◌, ◌*◌, length};
 ghost use Rattle.vax_arch.specs.Ring.{open_of};
 ghost use Rattle.vax_arch.specs.Walk.{granted};
 ghost use Rattle.vax_arch.specs.WalkLaws.{HasFrame};

@@ -1,4 +1,4 @@
-ghost use Rattle.std.specs.Prelude.{◌≡◌, ◌≢◌, ◌<◌, List, ℕ, length, map, vec_len, slice_index_or, None, IfOk, OnErr};
+ghost use Rattle.std.specs.Prelude.{◌≡◌, ◌≢◌, ◌<◌, length, map, vec_len, slice_index_or, None, IfOk, OnErr};
 ghost use Rattle.vv_io.specs.Blocks.{unkept};
 ghost use Rattle.vv_io.specs.Causes.{Rose};
 ghost use Rattle.vv_io.specs.Lines.{unseen};

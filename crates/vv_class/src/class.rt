@@ -1,4 +1,4 @@
-ghost use Rattle.std.specs.Prelude.{◌≡◌, ◌<◌, ◌^◌, ◌↔◌, IsTrue};
+ghost use Rattle.std.specs.Prelude.{◌≡◌, ◌<◌, ◌↔◌, IsTrue};
 ghost use Rattle.vv_class.specs.Class.{IsClass, Flows, does_flow, is_subset, is_within, IsJoin, IsLeastUpperBound};
 ghost use Rattle.vv_class.specs.declared.class.AccessClass.{AccessClass};
 

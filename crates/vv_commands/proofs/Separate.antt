@@ -1,5 +1,5 @@
 -- A run's devices are separate, and a run of one guest touches no drive.
-use Rattle.std.proofs.Common.{ℕ, ◌≡◌, List, [], ◌∷◌, Option, Some, None, Result, Ok, Err, refl, subst}
+use Rattle.std.proofs.Common.{ℕ, ◌≡◌, List, [], ◌∷◌, Some, Result, Ok, Err, refl, subst}
 use Rattle.std.specs.List.{slice_get}
 use Rattle.sys_objects.specs.Condition.{IsConfig}
 use Rattle.sys_purge.proofs.Lines.{keeps_devices, keeps_shown}

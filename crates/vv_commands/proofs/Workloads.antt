@@ -20,7 +20,7 @@ use Rattle.sys_system.specs.Given.{first_of_another_size, is_another_size}
 use Rattle.sys_system.specs.declared.power.PowerFault.{PowerFault}
 use Rattle.sys_system.specs.declared.power.PowerFault.TheVariants.{Image, VolumeSize, DriveIn, NoMemory}
 use Rattle.vv_gen.specs.Accepted.{Fits, IsAccepted}
-use Rattle.vv_gen.specs.Workload.{Generated, generated, workload_of}
+use Rattle.vv_gen.specs.Workload.{Generated, workload_of}
 use Rattle.vv_gen.specs.declared.load.Workload.{Workload}
 use Rattle.vv_commands.specs.Answer.{Answers, FollowsLoad, Outside as CallOutside, PlaysLoad, Says, run_of}
 use Rattle.vv_commands.specs.Words.{Wanted, WantsLoad, wanted_by}

@@ -1,5 +1,5 @@
 -- Each answer of the top call, and what it says of the outside.
-use Rattle.std.specs.Prelude.{ℕ, ◌≡◌, ◌⊎◌, List, [], ◌∷◌, All, Bool, true, false, ◌++◌, Option, Some, None, Result, Ok, Err, if◌then◌else◌, codes, pos}
+use Rattle.std.specs.Prelude.{ℕ, ◌≡◌, ◌⊎◌, List, [], ◌∷◌, All, Bool, true, false, ◌++◌, Option, Some, None, Result, Ok, Err, codes, pos}
 use Rattle.vv_io.specs.Blocks.{Kept}
 use Rattle.vv_io.specs.Lines.{Seen}
 use Rattle.vv_io.specs.Shelf.{File}

@@ -1,5 +1,5 @@
 -- The devices that each command has.
-use Rattle.std.specs.Prelude.{Option, Some, None}
+use Rattle.std.specs.Prelude.{Option, Some}
 use Rattle.vv_commands.specs.Words.{Wanted, WantsSolo, WantsTrace, WantsRun, WantsSave, WantsResume, WantsLive, WantsLoad}
 use Rattle.vv_commands.specs.declared.devices.Devices.{Devices}
 use Rattle.vv_commands.specs.declared.devices.Devices.TheVariants.{Nothing, Lines, LinesAndDrives}

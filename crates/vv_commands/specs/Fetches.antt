@@ -24,7 +24,7 @@ use Rattle.vv_commands.specs.declared.fetching.InputsToSave.{InputsToSave}
 use Rattle.vv_commands.specs.declared.fetching.Read.{Read}
 use Rattle.vv_commands.specs.declared.fetching.Recorded.{Recorded}
 use Rattle.vv_commands.specs.declared.stop.Stop.{Stop}
-use Rattle.vv_commands.specs.declared.stop.Stop.TheVariants.{Missing, TooLong, ShelfFault, Config as ConfigRefused, Script as ScriptRefused, Snap as SnapRefused, NoMemory}
+use Rattle.vv_commands.specs.declared.stop.Stop.TheVariants.{Script as ScriptRefused, Snap as SnapRefused, NoMemory}
 
 abbrev pub FetchesFile : Option (List File) → List ℕ → ℕ → ℕ → Result (Vec ℕ Global) Stop → Type 0
 FetchesFile files name before now (Ok bytes) = IsRead files name bytes.items × (now ≡ before)

@@ -1,5 +1,5 @@
 -- The command `solo IMAGE STEPS`: its configuration.
-use Rattle.std.specs.Prelude.{ℕ, List, [], ◌∷◌, true, false, codes, Some, None}
+use Rattle.std.specs.Prelude.{ℕ, [], ◌∷◌, true, false, codes, Some, None}
 use Rattle.vv_class.specs.declared.class.AccessClass.{AccessClass}
 use Rattle.sys_objects.specs.declared.records.Config.{Config}
 use Rattle.sys_objects.specs.declared.records.GuestRow.{GuestRow}

@@ -1,4 +1,4 @@
-ghost use Rattle.std.specs.Prelude.{◌≡◌, ◌≤◌, ◌*◌, List, ℕ, map, string_bytes, length, true, vec_len};
+ghost use Rattle.std.specs.Prelude.{◌≡◌, ◌≤◌, ◌*◌, map, string_bytes, length, true, vec_len};
 ghost use Rattle.sys_flow.specs.Report.{IsReport};
 ghost use Rattle.vv_base.specs.Names.{is_file_name};
 ghost use Rattle.vv_commands.specs.Answer.{AreCounts, FollowsAudit, FollowsConfig, FollowsRun, FollowsSolo, IsDrawing, IsMigrated, Says, status_of};

@@ -1,4 +1,4 @@
-ghost use Rattle.std.specs.Prelude.{◌≡◌, ◌≤◌, ℕ, map, string_bytes, true, IfSome};
+ghost use Rattle.std.specs.Prelude.{◌≡◌, ◌≤◌, map, string_bytes, true, IfSome};
 ghost use Rattle.std.specs.Option.{option_map};
 ghost use Rattle.vv_base.specs.Names.{is_file_name};
 ghost use Rattle.vv_commands.specs.Words.{IsInRange, file_wanted, number_in, resume_asked, run_asked, audit_asked, live_asked, steps_asked, three_wanted, two_wanted, wanted, wanted_by, word_wanted};

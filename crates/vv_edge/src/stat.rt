@@ -1,5 +1,4 @@
-ghost use Rattle.std.specs.Prelude.{◌≡◌, ◌^◌, ◌/◌, ◌-◌, min, IsTrue, ◌↔◌};
-ghost use Rattle.std.specs.List.{list_any};
+ghost use Rattle.std.specs.Prelude.{◌≡◌, ◌^◌, ◌/◌, ◌-◌, min};
 ghost use Rattle.vv_edge.specs.Found.{flaw_of, is_among, is_removable, is_same};
 
 /// What is under a name.

@@ -1,5 +1,4 @@
-ghost use Rattle.std.specs.List.{range_with_len};
-ghost use Rattle.std.specs.Prelude.{◌≡◌, ◌≤◌, ◌<◌, ◌+◌, ◌++◌, ◌∷◌, [], IfOk, length, map};
+ghost use Rattle.std.specs.Prelude.{◌≡◌, ◌≤◌, ◌<◌, ◌+◌, ◌∷◌, IfOk, length, map};
 ghost use Rattle.vv_gen.specs.Config.{all_guests, class_of, config_of, guest_of, numbered, printer_of, shared_volume, terminal_of, top_class, volume_of};
 
 use std::alloc::Global;

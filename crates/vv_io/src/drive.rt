@@ -1,4 +1,4 @@
-ghost use Rattle.std.specs.Prelude.{◌≡◌, ◌<◌, List, ℕ, map, vec_len, slice_index_or};
+ghost use Rattle.std.specs.Prelude.{◌≡◌, ◌<◌, map, vec_len, slice_index_or};
 ghost use Rattle.vv_io.specs.Blocks.{Kept, unkept, IsSized, Gets, Sets, GetsFrom, SetsOn, SyncsDrive, SyncsDriveOn};
 
 /// A drive failed.

@@ -1,4 +1,4 @@
-ghost use Rattle.std.specs.Prelude.{◌≡◌, None, Some, [], IsErr};
+ghost use Rattle.std.specs.Prelude.{◌≡◌, Some, [], IsErr};
 
 use crate::{Drive, DriveFault};
 

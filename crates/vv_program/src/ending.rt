@@ -1,6 +1,5 @@
 ghost use Rattle.std.specs.Prelude.{◌≡◌, ◌≤◌, ◌+◌, ◌++◌, length};
 ghost use Rattle.vv_commands.specs.Texts.{code_of};
-ghost use Rattle.vv_edge.specs.Notes.{notes_of};
 ghost use Rattle.vv_program.specs.Ends.{Tells, end_text, is_of_drives, report_of};
 
 use crate::asked::HELP;

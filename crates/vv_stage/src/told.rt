@@ -1,4 +1,4 @@
-ghost use Rattle.std.specs.Prelude.{◌≡◌, ◌<◌, ◌^◌, ◌*◌, IfOk, length, vec_len};
+ghost use Rattle.std.specs.Prelude.{◌<◌};
 
 use crate::props::{Disk, LineCut, PAGES, Props, calls_of, cuts_of, disk_of, volume_of};
 use std::alloc::Global;

@@ -2,13 +2,12 @@ use Rattle.std.proofs.Common.{◌≡◌, ◌≤◌, ◌∷◌, ◌++◌, [], ◌
 use Rattle.std.proofs.lemmas.List.{length-map}
 use Rattle.std.proofs.lemmas.List.Elements.{All-nil}
 use Rattle.std.specs.List.{All}
-use Rattle.vax_hw.specs.Machine.{Machine}
 use Rattle.sys_guests.proofs.Entering.{ArePutIn, all_put_in, none_put_in}
 use Rattle.sys_guests.proofs.LaidOut.{pages_in}
 use Rattle.sys_guests.proofs.Powering.{all_more, alone_still, alone_then}
 use Rattle.sys_guests.proofs.Present.{first_present}
-use Rattle.sys_guests.proofs.Resuming.{IsNext, are_allowed, as_many_rows, few_pages, first_page, head_of, in_order, next_in, one_more, tables_fit, whole}
-use Rattle.sys_guests.specs.Loads.{HasFirst, MemoryAlone, PutsIn}
+use Rattle.sys_guests.proofs.Resuming.{are_allowed, as_many_rows, few_pages, first_page, head_of, in_order, next_in, one_more, tables_fit, whole}
+use Rattle.sys_guests.specs.Loads.{HasFirst, PutsIn}
 use Rattle.sys_snap.specs.Held.{guest_of}
 use Rattle.vm_guest.specs.Kept.{Kept}
 use Rattle.vm_state.specs.Start.{opening}

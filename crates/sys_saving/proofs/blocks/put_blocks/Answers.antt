@@ -1,4 +1,4 @@
-use Rattle.std.proofs.Common.{◌≡◌, ◌<◌, ◌≤◌, ℕ, List, arith, length, subst}
+use Rattle.std.proofs.Common.{◌≡◌, ◌<◌, ℕ, List, arith, length, subst}
 use Rattle.std.proofs.lemmas.List.Elements.{All-more}
 use Rattle.sys_lines.proofs.Puts.{goes_on, hands_on, stops}
 use Rattle.sys_store.specs.Blocks.{blocks_of}

@@ -1,4 +1,4 @@
-use Rattle.std.proofs.Common.{◌<◌, ◌≤◌, arith, length, subst}
+use Rattle.std.proofs.Common.{◌<◌, arith, length, subst}
 use Rattle.std.proofs.lemmas.List.Elements.{All-more}
 use Rattle.vm_guest.specs.Kept.{Kept, guest_in}
 use Rattle.vm_state.specs.State.{state_of}

@@ -1,7 +1,6 @@
-use Rattle.std.proofs.Common.{ℕ, List, ◌++◌, length, refl}
+use Rattle.std.proofs.Common.{◌++◌, length, refl}
 use Rattle.vv_base.specs.Bytes.{long_bytes}
-use Rattle.vv_io.specs.Lines.{Seen}
-use Rattle.sys_lines.proofs.Puts.{IsBut, begun, ends, goes_on, hands_on, stops}
+use Rattle.sys_lines.proofs.Puts.{begun, ends, goes_on, hands_on, stops}
 use Rattle.sys_snap.specs.Written.{snap_head}
 use Rattle.sys_saving.specs.Parts.{head_bytes}
 use Rattle.sys_saving.proofs.head.put_head.Goals as goal

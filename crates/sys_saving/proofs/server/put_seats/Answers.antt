@@ -1,4 +1,4 @@
-use Rattle.std.proofs.Common.{◌≡◌, ◌+◌, ℕ, List, arith, drop, map, take}
+use Rattle.std.proofs.Common.{arith, drop, map, take}
 use Rattle.std.proofs.lemmas.List.{at_drop_all}
 use Rattle.std.specs.Prelude.{false, is_err}
 use Rattle.sys_lines.proofs.Puts.{goes_on, hands_on, stops}

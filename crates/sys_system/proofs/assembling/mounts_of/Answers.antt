@@ -1,4 +1,4 @@
-use Rattle.std.proofs.Common.{◌≡◌, ◌∙◌, List, Option, length, map, replicate, slice_set, ap, arith}
+use Rattle.std.proofs.Common.{◌∙◌, List, Option, slice_set, ap, arith}
 use Rattle.sys_objects.specs.declared.records.GuestRow.{GuestRow}
 use Rattle.sys_objects.specs.declared.records.Mount.{Mount}
 use Rattle.sys_system.proofs.Mounting.{are_mounted, empty, written_at}

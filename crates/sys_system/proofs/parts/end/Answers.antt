@@ -1,4 +1,4 @@
-use Rattle.std.proofs.Common.{◌≡◌, ◌∙◌, refl, ap}
+use Rattle.std.proofs.Common.{refl, ap}
 use Rattle.sys_system.proofs.Insides.{ended, kernel_holds}
 use Rattle.sys_system.specs.Held.{turns_of}
 use Rattle.sys_system.specs.declared.parts.Parts.{Parts}

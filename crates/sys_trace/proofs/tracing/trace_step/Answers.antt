@@ -5,7 +5,6 @@ use Rattle.sys_trace.proofs.Turns.{given_first, step_made}
 use Rattle.sys_trace.specs.Held.{IsBefore}
 use Rattle.vm_guest.specs.Kept.{guest_in}
 use Rattle.vm_state.specs.State.{Guest, state_of}
-use Rattle.vm_state.specs.Step.{step}
 use Rattle.sys_trace.proofs.tracing.trace_step.Goals as goal
 
 pub returns-clause-line : goal.returns-clause-line

@@ -1,10 +1,10 @@
 use Rattle.std.proofs.Common.{◌≡◌, ◌*◌, ◌∙◌, ap, sym, arith}
-use Rattle.sys_rounds.specs.Guests.{bytes_at}
 use Rattle.sys_store.specs.Blocks.{with_block}
 use Rattle.sys_transfers.specs.Serves.{packet_of}
 use Rattle.sys_transfers.proofs.Moving.{block_within, lie_inside, on_err, on_ok, refuses, surely_written, write_moves, write_no_block, write_no_memory, write_not, write_nothing, writes_block}
 use Rattle.vm_guest.specs.Kept.{guest_in}
 use Rattle.sys_transfers.proofs.moves.write.Goals as goal
+use Rattle.vm_state.specs.Outside.{bytes_at}
 
 pub returns-in_default : goal.returns-in_default
 returns-in_default g c = refuses 3 _ (packet_of c.args.p.now) c.args.volumes.now (g.H.Hardware.machine c.args.machine.now) c.args.guest.now c.requires.stands (write_nothing (512 * c.args.guest.now.state.pages) c.args.volumes.now c.args.unit (packet_of c.args.p.now) c.in_default.is)

@@ -2,7 +2,7 @@ use Rattle.std.proofs.Common.{arith, ◌∙◌, ◌+◌, ap, map, sym}
 use Rattle.vm_exception.specs.Pushed.{home_of, walked_of}
 use Rattle.vm_state.specs.Partition.{guest_of}
 use Rattle.vm_state.specs.Pushes as pushes
-use Rattle.vm_state.specs.Pushes.{frames_pushed, pointer_behind, pushed}
+use Rattle.vm_state.specs.Pushes.{pointer_behind}
 use Rattle.vm_state.specs.State.{pointer_of, state_of}
 use Rattle.vm_exception.proofs.Arriving.{arrives, bad_vector, faulty_stack, homes_proper, past_stack, past_vector, walked_as}
 use Rattle.vm_exception.proofs.attempts.take.Goals as goal

@@ -1,4 +1,3 @@
-use Rattle.std.proofs.Common.{sym}
 use Rattle.vm_shadow.proofs.Remembering.{marks_process}
 use Rattle.vm_shadow.proofs.records.mark_groups.Goals as goal
 

@@ -1,4 +1,3 @@
-use Rattle.std.proofs.Common.{subst, sym}
 use Rattle.vm_stepping.proofs.PayingBegun.{same_left}
 use Rattle.vm_stepping.proofs.turns.proceed.Goals as goal
 

@@ -1,4 +1,4 @@
-use Rattle.std.proofs.Common.{◌≡◌, ◌≤◌, ◌<◌, ℕ, arith, length, subst, sym, ap}
+use Rattle.std.proofs.Common.{◌≡◌, ℕ, arith, subst}
 use Rattle.vm_shadow.proofs.Sets.{AreCleared, cleared, cleared_more, cleared_none}
 use Rattle.vm_shadow.proofs.marks.Marks.clear.Goals as goal
 

@@ -1,4 +1,3 @@
-use Rattle.std.proofs.Common.{◌≤◌, List, ℕ}
 use Rattle.vm_shadow.proofs.Sets.{AreCleared}
 use Rattle.vm_shadow.proofs.marks.Marks.clear.Given as goal
 

@@ -1,4 +1,4 @@
-use Rattle.std.proofs.Common.{◌≡◌, ◌≢◌, ◌<◌, ◌/◌, ◌*◌, ◌%◌, ◌^◌, ◌+◌, ◌≤◌, ℕ, List, arith, length, slice_index, get_or, subst, sym, ap, ◌∙◌}
+use Rattle.std.proofs.Common.{◌≡◌, ◌<◌, ◌/◌, ◌*◌, ◌%◌, ◌^◌, ◌≤◌, ℕ, List, arith, length, slice_index, get_or, subst, ap, ◌∙◌}
 use Rattle.std.proofs.Math.Nat.{div-le_self}
 use Rattle.std.proofs.lemmas.List.{get_or_default}
 use Rattle.vm_shadow.proofs.Sets.{free_more, free_none, next_here, next_none}

@@ -1,4 +1,4 @@
-use Rattle.std.proofs.Common.{arith, ◌≡◌, ◌<◌, ◌≤◌, ◌+◌, ◌*◌, length, sym, ap, ◌∙◌, refl, subst, is_some}
+use Rattle.std.proofs.Common.{arith, ◌≡◌, ◌≤◌, ◌+◌, ◌*◌, length, sym, ap, ◌∙◌, refl, subst, is_some}
 use Rattle.vm_shadow.specs.Calls.{Closes, remembered}
 use Rattle.vm_shadow.specs.Marks.{IsPast}
 use Rattle.vm_shadow.specs.declared.scans.Dropped.TheVariants.{All}

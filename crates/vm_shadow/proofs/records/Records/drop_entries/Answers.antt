@@ -1,6 +1,5 @@
-use Rattle.std.proofs.Common.{arith, ◌≡◌, ◌<◌, ◌≤◌, ◌+◌, ◌*◌, length, sym, ap, ◌∙◌, subst, false}
+use Rattle.std.proofs.Common.{arith, ◌≡◌, ◌≤◌, ◌+◌, ◌*◌, length, sym, ap, ◌∙◌, subst, false}
 use Rattle.vm_shadow.specs.Calls.{Drops, is_dropped, remembered}
-use Rattle.vm_shadow.specs.Marks.{IsPast}
 use Rattle.vm_shadow.proofs.Remembering.{past_both, past_one}
 use Rattle.vm_shadow.proofs.Scanning.{drops_more, drops_none, drops_taken}
 use Rattle.vm_shadow.proofs.records.Records.drop_entries.Goals as goal

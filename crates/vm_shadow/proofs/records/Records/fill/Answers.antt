@@ -1,5 +1,4 @@
 use Rattle.std.proofs.Common.{ap, Some, set}
-use Rattle.vm_shadow.proofs.Remembering.{fills}
 use Rattle.vm_shadow.proofs.records.Records.fill.Goals as goal
 
 pub returns : goal.returns

@@ -1,4 +1,4 @@
-use Rattle.std.proofs.Common.{◌<◌, ◌≤◌, arith, subst}
+use Rattle.std.proofs.Common.{◌≤◌, arith, subst}
 use Rattle.vm_shadow.specs.Marks.{IsPast}
 use Rattle.vm_shadow.proofs.Remembering.{past_both, past_filled, past_less}
 use Rattle.vm_shadow.proofs.records.Records.next.Goals as goal

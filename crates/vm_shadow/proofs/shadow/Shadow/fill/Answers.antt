@@ -1,6 +1,5 @@
 use Rattle.std.proofs.Common.{arith, ◌/◌, ap, ◌∙◌}
 use Rattle.vax_arch.specs.Walk.{page_of}
-use Rattle.vm_shadow.specs.Layout.{IsCovered}
 use Rattle.vm_shadow.proofs.Covering.{present_covered}
 use Rattle.vm_shadow.proofs.Filling.{fill_page}
 use Rattle.vm_shadow.proofs.shadow.Shadow.fill.Goals as goal
