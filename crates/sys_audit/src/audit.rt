@@ -6,23 +6,14 @@ use sys_server::{Verdict, reply};
 use vv_base::{Text, decimal};
 use vv_class::write_class;
 
-/// Appends bytes that fit.
-fn add(text: &mut Text<1536>, bytes: &[u8])
-    requires { length text.old + length bytes.now ≤ 1536 }
-    ensures written { text.new ≡ text.old ++ bytes.now }
-    ensures len { length text.new ≡ length text.old + length bytes.now }
-{
-    let _ = text.push_all(bytes);
-}
-
 /// Appends a word that fits, with a blank.
 fn add_word(text: &mut Text<1536>, word: &[u8])
     requires { length text.old + length word.now + 1 ≤ 1536 }
     ensures written { text.new ≡ text.old ++ word.now ++ 32 ∷ [] }
     ensures len { length text.new ≡ length text.old + length word.now + 1 }
 {
-    add(text, word);
-    add(text, b" ");
+    text.append(word);
+    text.append(b" ");
 }
 
 /// What is audited of a command of at most 1,000 bytes at a terminal in a round.
@@ -36,7 +27,7 @@ pub fn audit_text(round: u32, t: &Terminal, text: &[u8], v: &Verdict) -> Text<15
     add_word(&mut audit, t.name.bytes());
     add_word(&mut audit, write_class(&t.class).bytes());
     add_word(&mut audit, reply(v).as_bytes());
-    add(&mut audit, text);
-    add(&mut audit, b"\r\n");
+    audit.append(text);
+    audit.append(b"\r\n");
     audit
 }

@@ -4,7 +4,7 @@ ghost use Rattle.vm_state.specs.Partition.{guest_of, part};
 ghost use Rattle.sys_rounds.specs.Dump.{dump_of, if_shown, register_lines, row_lines, text_of};
 ghost use Rattle.sys_lines.specs.ShownSince.{ShownSince};
 
-use crate::texts::{append, is_shown, name_text, psl_text, register_text, row_text};
+use crate::texts::{is_shown, name_text, psl_text, register_text, row_text};
 use vax_hw::Hardware;
 use vm_state::GuestState;
 use vv_base::{Name, Text, put_u32};
@@ -22,7 +22,7 @@ fn put_text(line: &mut Box<dyn Line>, mut text: Text<64>) -> Result<(), LineFaul
     requires { length text ≤ 62 }
     ensures { ShownSince (is_err result) (seen line.old) (seen line.new) (text_of (text ∷ [])) }
 {
-    append(&mut text, b"\r\n");
+    text.append(b"\r\n");
     put(line, text.bytes())
 }
 

@@ -4,21 +4,13 @@ ghost use Rattle.sys_rounds.specs.Dump.{register_line, row_line, is_shown};
 
 use vv_base::{Name, Text, decimal, hex};
 
-/// Appends bytes that fit.
-pub fn append(text: &mut Text<64>, bytes: &[u8])
-    requires { length text.old + length bytes.now ≤ 64 }
-    ensures { text.new ≡ text.old ++ bytes.now }
-{
-    let _ = text.push_all(bytes);
-}
-
 /// Appends a blank and the two digits of a byte.
 fn append_byte(text: &mut Text<64>, b: u8)
     requires { length text.old + 3 ≤ 64 }
     ensures { text.new ≡ text.old ++ 32 ∷ hex_text 2 b }
 {
-    append(text, b" ");
-    append(text, hex(u64::from(b), 2).bytes());
+    text.append(b" ");
+    text.append(hex(u64::from(b), 2).bytes());
 }
 
 /// The line of a guest's name.
@@ -27,8 +19,8 @@ pub fn name_text(name: &Name) -> Text<64>
     ensures room { length result ≤ 62 }
 {
     let mut text = Text::new();
-    append(&mut text, b"VM ");
-    append(&mut text, name.bytes());
+    text.append(b"VM ");
+    text.append(name.bytes());
     text
 }
 
@@ -39,10 +31,10 @@ pub fn register_text(number: usize, v: u32) -> Text<64>
     ensures room { length result ≤ 62 }
 {
     let mut text = Text::new();
-    append(&mut text, b"R");
-    append(&mut text, decimal(number as u64).bytes());
-    append(&mut text, b" ");
-    append(&mut text, hex(u64::from(v), 8).bytes());
+    text.append(b"R");
+    text.append(decimal(number as u64).bytes());
+    text.append(b" ");
+    text.append(hex(u64::from(v), 8).bytes());
     text
 }
 
@@ -52,8 +44,8 @@ pub fn psl_text(psl: u32) -> Text<64>
     ensures room { length result ≤ 62 }
 {
     let mut text = Text::new();
-    append(&mut text, b"PSL ");
-    append(&mut text, hex(u64::from(psl), 8).bytes());
+    text.append(b"PSL ");
+    text.append(hex(u64::from(psl), 8).bytes());
     text
 }
 
@@ -64,7 +56,7 @@ pub fn row_text(at: u32, row: &[u8; 16]) -> Text<64>
     ensures room { length result ≤ 62 }
 {
     let mut text = Text::new();
-    append(&mut text, hex(u64::from(at), 8).bytes());
+    text.append(hex(u64::from(at), 8).bytes());
     for b in row {
         append_byte(&mut text, *b);
     }

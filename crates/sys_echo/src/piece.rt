@@ -27,8 +27,8 @@ fn begin(piece: &mut Piece, name: &Name, is_begun: bool)
     ensures short { length piece.new ≤ length piece.old + 10 }
 {
     if !is_begun {
-        let _ = piece.push_all(name.bytes());
-        let _ = piece.push_all(b": ");
+        piece.append(name.bytes());
+        piece.append(b": ");
     }
 }
 
@@ -47,7 +47,7 @@ fn render(name: &Name, is_begun: bool, bytes: &[u8]) -> (Piece, bool)
         begin(&mut piece, name, is_begun);
         is_begun = *byte != b'\n';
         let shown = if is_begun { seen_byte(*byte) } else { b'\n' };
-        let _ = piece.push(shown);
+        piece.append_byte(shown);
     }
     (piece, is_begun)
 }

@@ -22,7 +22,7 @@ fn copied(name: &Name) -> Name
     ensures { result ≡ name.now }
 {
     let mut copy = Name::new();
-    let _ = copy.push_all(name.bytes());
+    copy.append(name.bytes());
     copy
 }
 

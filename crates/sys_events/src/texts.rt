@@ -1,19 +1,10 @@
-ghost use Rattle.std.specs.Prelude.{◌≡◌, ◌+◌, ◌≤◌, ◌++◌, length};
+ghost use Rattle.std.specs.Prelude.{◌≡◌, ◌≤◌, codes, length};
 ghost use Rattle.sys_events.specs.Saying.{guest_text};
 ghost use Rattle.sys_server.specs.Replies.{with_line_end, object_text, printer_line, running_text, volume_line};
 
 use sys_objects::{GuestRow, PrinterRow, VolumeRow};
 use vv_base::{Name, Text};
 use vv_class::{AccessClass, write_class};
-
-/// Appends bytes that fit.
-fn add(text: &mut Text<512>, bytes: &[u8])
-    requires { length text.old + length bytes.now ≤ 512 }
-    ensures written { text.new ≡ text.old ++ bytes.now }
-    ensures len { length text.new ≡ length text.old + length bytes.now }
-{
-    let _ = text.push_all(bytes);
-}
 
 /// An object with its name and class.
 fn object_text(kind: &[u8], name: &Name, class: &AccessClass) -> Text<512>
@@ -22,11 +13,11 @@ fn object_text(kind: &[u8], name: &Name, class: &AccessClass) -> Text<512>
     ensures room { length result ≤ 417 }
 {
     let mut text = Text::new();
-    add(&mut text, kind);
-    add(&mut text, b" ");
-    add(&mut text, name.bytes());
-    add(&mut text, b" ");
-    add(&mut text, write_class(class).bytes());
+    text.append(kind);
+    text.append(b" ");
+    text.append(name.bytes());
+    text.append(b" ");
+    text.append(write_class(class).bytes());
     text
 }
 
@@ -42,8 +33,8 @@ pub fn guest_text(row: &GuestRow, runs: bool) -> Text<512>
     ensures { result ≡ guest_text row.now runs }
 {
     let mut text = object_text(b"VM", &row.name, &row.class);
-    add(&mut text, running_text(runs));
-    add(&mut text, b"\r\n");
+    text.append(running_text(runs));
+    text.append(b"\r\n");
     text
 }
 
@@ -52,7 +43,7 @@ pub fn volume_text(row: &VolumeRow) -> Text<512>
     ensures { result ≡ volume_line row.now }
 {
     let mut text = object_text(b"VOLUME", &row.name, &row.class);
-    add(&mut text, b"\r\n");
+    text.append(b"\r\n");
     text
 }
 
@@ -61,7 +52,7 @@ pub fn printer_text(row: &PrinterRow) -> Text<512>
     ensures { result ≡ printer_line row.now }
 {
     let mut text = object_text(b"PRINTER", &row.name, &row.class);
-    add(&mut text, b"\r\n");
+    text.append(b"\r\n");
     text
 }
 
@@ -71,7 +62,7 @@ pub fn with_line_end(bytes: &[u8]) -> Text<512>
     ensures { result ≡ with_line_end bytes.now }
 {
     let mut text = Text::new();
-    add(&mut text, bytes);
-    add(&mut text, b"\r\n");
+    text.append(bytes);
+    text.append(b"\r\n");
     text
 }

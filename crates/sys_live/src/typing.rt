@@ -39,11 +39,11 @@ fn why_not(number: u32, kind: ScriptKind) -> Text<64>
     ensures { result ≡ why_not number (Err kind) }
 {
     let mut text = Text::new();
-    let _ = text.push_all(b"vvmm: typed line ");
-    let _ = text.push_all(decimal(u64::from(number)).bytes());
-    let _ = text.push_all(b" ");
-    let _ = text.push_all(kind_text(kind));
-    let _ = text.push_all(b"\n");
+    text.append(b"vvmm: typed line ");
+    text.append(decimal(u64::from(number)).bytes());
+    text.append(b" ");
+    text.append(kind_text(kind));
+    text.append(b"\n");
     text
 }
 

@@ -28,7 +28,7 @@ fn copied(name: &Name, class: AccessClass) -> Object
     ensures { result ≡ record { name = name.now; class = class } }
 {
     let mut copy = Text::new();
-    let _ = copy.push_all(name.bytes());
+    copy.append(name.bytes());
     Object { name: copy, class }
 }
 

@@ -24,7 +24,7 @@ pub(crate) fn copied<const N: usize>(text: &Text<N>) -> Text<N>
     ensures { result ≡ text.now }
 {
     let mut copy = Text::new();
-    let _ = copy.push_all(text.bytes());
+    copy.append(text.bytes());
     copy
 }
 

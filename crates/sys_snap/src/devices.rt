@@ -90,7 +90,7 @@ fn text_of(bytes: &[u8]) -> Text<256>
     ensures { result ≡ bytes.now }
 {
     let mut text = Text::new();
-    let _ = text.push_all(bytes);
+    text.append(bytes);
     text
 }
 

@@ -1,4 +1,6 @@
-ghost use Rattle.std.specs.Prelude.{◌≡◌, ◌+◌, ◌-◌, ◌*◌, ◌≤◌, ◌∷◌, [], ◌++◌, length, replicate};
+ghost use Rattle.std.specs.Prelude.{◌≡◌, ◌+◌, ◌-◌, ◌*◌, ◌≤◌, ◌++◌, length, replicate};
+ghost use Rattle.std.specs.Int.{from_bool};
+ghost use Rattle.vm_clock.specs.Clock.{ClockState};
 ghost use Rattle.vm_clock.specs.Parts.{IsClock, parts_of};
 ghost use Rattle.vm_console.specs.Console.{IsConsole};
 ghost use Rattle.vm_state.specs.State.{state_of};
@@ -15,22 +17,13 @@ use vv_base::{Text, put_u16, put_u32};
 /// The byte in place of a stop code where a guest runs.
 const RUNS: u8 = 0xff;
 
-/// Appends a byte that fits.
-fn add_byte(text: &mut Text<439>, b: u8)
-    requires { length text.old + 1 ≤ 439 }
-    ensures written { text.new ≡ text.old ++ b ∷ [] }
-    ensures len { length text.new ≡ length text.old + 1 }
-{
-    let _ = text.push(b);
-}
-
 /// Appends a flag that fits.
 fn add_flag(text: &mut Text<439>, flag: bool)
     requires { length text.old + 1 ≤ 439 }
     ensures written { text.new ≡ text.old ++ flag_byte flag }
     ensures len { length text.new ≡ length text.old + 1 }
 {
-    add_byte(text, u8::from(flag));
+    text.append_byte(u8::from(flag));
 }
 
 /// Appends a word that fits.
@@ -41,7 +34,7 @@ fn add_word(text: &mut Text<439>, v: u16)
 {
     let mut bytes = [0; 2];
     put_u16(&mut bytes, 0, v);
-    let _ = text.push_all(&bytes);
+    text.append(&bytes);
 }
 
 /// Appends a longword that fits.
@@ -52,7 +45,7 @@ fn add_long(text: &mut Text<439>, v: u32)
 {
     let mut bytes = [0; 4];
     put_u32(&mut bytes, 0, v);
-    let _ = text.push_all(&bytes);
+    text.append(&bytes);
 }
 
 /// Appends longwords that fit.
@@ -101,7 +94,7 @@ fn add_levels(text: &mut Text<439>, g: &GuestState)
     ensures written { text.new ≡ text.old ++ level_bytes (state_of g.now) }
     ensures len { length text.new ≡ length text.old + 4 }
 {
-    add_byte(text, g.astlvl);
+    text.append_byte(g.astlvl);
     add_word(text, g.sisr);
     add_flag(text, g.mapen);
 }
@@ -127,7 +120,7 @@ fn add_zeros(text: &mut Text<439>, count: usize)
     ensures len { length text.new ≡ length text.old + count }
 {
     for _left in (0..count).rev() {
-        add_byte(text, 0);
+        text.append_byte(0);
     }
 }
 
@@ -139,7 +132,7 @@ fn add_waiting(text: &mut Text<439>, waiting: &[u8])
     ensures len { length text.new ≡ length text.old + 258 }
 {
     add_word(text, waiting.len() as u16);
-    let _ = text.push_all(waiting);
+    text.append(waiting);
     add_zeros(text, 256 - waiting.len());
 }
 
@@ -167,7 +160,7 @@ fn add_queue(text: &mut Text<439>, g: &GuestState)
 {
     let packets = g.queue.as_slice();
     add_flag(text, g.kcall_due);
-    add_byte(text, packets.len() as u8);
+    text.append_byte(packets.len() as u8);
     add_longs(text, packets);
     add_zeros(text, 4 * (8 - packets.len()));
 }
@@ -179,7 +172,7 @@ fn add_end(text: &mut Text<439>, g: &GuestState)
     ensures len { length text.new ≡ length text.old + 6 }
 {
     add_flag(text, g.waiting);
-    add_byte(text, g.halt.unwrap_or(RUNS));
+    text.append_byte(g.halt.unwrap_or(RUNS));
     add_long(text, g.steps);
 }
 

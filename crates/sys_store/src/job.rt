@@ -10,15 +10,6 @@ fn shown(b: u8) -> u8
     if 0x20 <= b && b <= 0x7E { b } else { b'.' }
 }
 
-/// Appends bytes that fit.
-fn add(text: &mut Text<640>, bytes: &[u8])
-    requires { length text.old + length bytes.now ≤ 640 }
-    ensures written { text.new ≡ text.old ++ bytes.now }
-    ensures len { length text.new ≡ length text.old + length bytes.now }
-{
-    let _ = text.push_all(bytes);
-}
-
 /// Appends bytes as a printer shows them.
 fn add_shown(text: &mut Text<640>, bytes: &[u8])
     requires { length text.old + length bytes.now ≤ 640 }
@@ -26,7 +17,7 @@ fn add_shown(text: &mut Text<640>, bytes: &[u8])
     ensures len { length text.new ≡ length text.old + length bytes.now }
 {
     for b in bytes {
-        let _ = text.push(shown(*b));
+        text.append_byte(shown(*b));
     }
 }
 
@@ -37,11 +28,11 @@ pub fn print_job(class: &AccessClass, guest: &Name, text: &[u8]) -> Text<640>
     ensures { result ≡ job_text class.now guest.now text.now }
 {
     let mut job = Text::new();
-    add(&mut job, write_class(class).bytes());
-    add(&mut job, b" ");
-    add(&mut job, guest.bytes());
-    add(&mut job, b": ");
+    job.append(write_class(class).bytes());
+    job.append(b" ");
+    job.append(guest.bytes());
+    job.append(b": ");
     add_shown(&mut job, text);
-    add(&mut job, b"\r\n");
+    job.append(b"\r\n");
     job
 }

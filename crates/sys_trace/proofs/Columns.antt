@@ -37,14 +37,6 @@ registers_more n v w vs ws inside within is are =
     ∙ at_drop_more (λ ys. register_words n (slice_index vs n ∷ drop (n + 1) vs) ys) ws n 0 within
     ∙ (λ i. changed_word (register_text n) (sym is i) (sym are i) ++ register_words (n + 1) (drop (n + 1) vs) (drop (n + 1) ws))
 
--- three parts of a word
-pub three_long : (l0 l1 l2 l3 name : List ℕ) → l1 ≡ l0 ++ 32 ∷ [] → l2 ≡ l1 ++ name → l3 ≡ l2 ++ 61 ∷ [] → length l3 ≡ length l0 + 2 + length name
-three_long l0 l1 l2 l3 name a b c =
-    let x = ap length a ∙ length-append l0 (32 ∷ []) in
-    let y = ap length b ∙ length-append l1 name in
-    let z = ap length c ∙ length-append l2 (61 ∷ []) in
-    omega (arith, x, y, z)
-
 pub digits_long : (digits v : ℕ) (text bytes : List ℕ) → text ≡ hex_text digits v → bytes ≡ text → length bytes ≡ digits
 digits_long digits v text bytes is same = ap length (same ∙ is) ∙ hex_long digits v
 

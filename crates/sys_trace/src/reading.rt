@@ -91,7 +91,7 @@ fn or_mark(text: Line) -> Line
         return text;
     }
     let mut mark = Text::new();
-    let _ = mark.push(b'-');
+    mark.append_byte(b'-');
     mark
 }
 

@@ -9,7 +9,7 @@ ghost use Rattle.vm_stepping.specs.Made.{tally_of};
 ghost use Rattle.vv_base.specs.Digits.{hex_text};
 
 use crate::before::Before;
-use crate::words::{StepLine, put, put_changed, put_note, put_registers, put_shown};
+use crate::words::{StepLine, put_changed, put_note, put_registers, put_shown};
 use sys_system::Watched;
 use vax_arch::Mode;
 use vm_guest::Counts;
@@ -78,7 +78,7 @@ fn put_blanks(line: &mut StepLine, column: usize)
     ensures size { length line.new ≡ length line.old + (column - length line.old) }
 {
     while line.bytes().len() < column {
-        put(line, b" ");
+        line.append(b" ");
     }
 }
 
@@ -91,7 +91,7 @@ fn number_column(number: u32) -> StepLine
     let digits = decimal(u64::from(number));
     let mut line = Text::new();
     put_blanks(&mut line, NUMBER - digits.bytes().len());
-    put(&mut line, digits.bytes());
+    line.append(digits.bytes());
     line
 }
 
@@ -101,8 +101,8 @@ fn put_part(line: &mut StepLine, bytes: &[u8])
     ensures part { line.new ≡ line.old ++ (32 ∷ bytes.now) }
     ensures size { length line.new ≡ length line.old + 1 + length bytes.now }
 {
-    put(line, b" ");
-    put(line, bytes);
+    line.append(b" ");
+    line.append(bytes);
 }
 
 /// A longword in base 16.
@@ -149,12 +149,12 @@ fn joined(head: StepLine, words: &[u8]) -> StepLine
 {
     let mut line = head;
     if words.is_empty() {
-        put(&mut line, b"\n");
+        line.append(b"\n");
         return line;
     }
     put_blanks(&mut line, WORDS);
-    put(&mut line, words);
-    put(&mut line, b"\n");
+    line.append(words);
+    line.append(b"\n");
     line
 }
 

@@ -35,14 +35,6 @@ fn register_name(n: usize) -> &'static str
     }
 }
 
-/// Appends bytes that fit.
-pub fn put(line: &mut StepLine, bytes: &[u8])
-    requires { length line.old + length bytes.now ≤ 512 }
-    ensures { line.new ≡ line.old ++ bytes.now }
-{
-    let _ = line.push_all(bytes);
-}
-
 /// Appends a word of a name and a value in base 16.
 fn put_word(line: &mut StepLine, name: &[u8], value: u32, digits: u8)
     requires short { length name.now ≤ 8 }
@@ -52,10 +44,10 @@ fn put_word(line: &mut StepLine, name: &[u8], value: u32, digits: u8)
     ensures word { line.new ≡ line.old ++ word name.now (hex_text digits value) }
     ensures grows { length line.new ≡ length line.old + (2 + length name.now + digits) }
 {
-    put(line, b" ");
-    put(line, name);
-    put(line, b"=");
-    put(line, hex(u64::from(value), digits).bytes());
+    line.append(b" ");
+    line.append(name);
+    line.append(b"=");
+    line.append(hex(u64::from(value), digits).bytes());
 }
 
 /// Appends the word of what a step tells.
@@ -104,8 +96,8 @@ pub fn put_shown(line: &mut StepLine, shown: &[u8])
     if shown.is_empty() {
         return;
     }
-    put(line, b" OUT=");
+    line.append(b" OUT=");
     for byte in shown {
-        put(line, hex(u64::from(*byte), 2).bytes());
+        line.append(hex(u64::from(*byte), 2).bytes());
     }
 }

@@ -1,16 +1,12 @@
 -- How many bytes the printed parts have.
 use Rattle.std.specs.List.{range_with_len}
 use Rattle.std.specs.Prelude.{map}
-use Rattle.std.proofs.Common.{◌≡◌, ℕ, ◌+◌, ◌*◌, ◌<◌, ◌≤◌, ◌++◌, true, List, Some, length, nat_le, refl, ap, ◌∙◌, arith, length-append}
+use Rattle.std.proofs.Common.{◌≡◌, ℕ, ◌+◌, ◌*◌, ◌<◌, ◌≤◌, true, List, Some, length, nat_le, refl, ap, ◌∙◌, arith}
 use Rattle.std.proofs.lemmas.Bool.{leb-true}
 use Rattle.vasm_text.specs.Mnemonics.{mnemonic_of}
 use Rattle.vasm_text.specs.Printing.{field_text, name_text}
 use Rattle.vasm_dis.proofs.Fields.{hex_length}
 use Rattle.vasm_dis.proofs.Finite.{everywhere}
-
--- after a text that grew
-pub grown : (old more new : List ℕ) → new ≡ old ++ more → length new ≡ length old + length more
-grown old more new is = ap (length {A = ℕ}) is ∙ length-append old more
 
 pub field_length : (size v : ℕ) → length (field_text size v) ≡ 2 + 2 * size
 unfolding field_text

@@ -7,7 +7,7 @@ ghost use Rattle.vasm_text.specs.Statements.{forms_of};
 ghost use Rattle.vasm_text.specs.Printing.{behind_mark, byte_text, instruction_text, name_text};
 
 use crate::operand::put_operands;
-use crate::put::{Line, put, put_field};
+use crate::put::{Line, put_field};
 use std::alloc::Global;
 use vasm_text::mnemonic;
 use vax_decode::{Decode, decode};
@@ -21,7 +21,7 @@ fn put_name(text: &mut Line, opcode: u8)
     ensures short { length text.new ≤ 6 }
 {
     if let Some(name) = mnemonic(opcode) {
-        put(text, name.as_bytes());
+        text.append(name.as_bytes());
     }
 }
 
@@ -53,7 +53,7 @@ fn single_byte(b: u8) -> Line
     ensures { result ≡ byte_text b }
 {
     let mut text = Text::new();
-    put(&mut text, b".byte ");
+    text.append(b".byte ");
     put_field(&mut text, 1, u64::from(b));
     text
 }

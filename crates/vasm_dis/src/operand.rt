@@ -2,7 +2,7 @@ ghost use Rattle.std.specs.Prelude.{◌≡◌, ◌==◌, ◌%◌, ◌++◌, ◌�
 ghost use Rattle.vv_base.specs.Width.{size_of};
 ghost use Rattle.vasm_text.specs.Printing.{behind_mark, displacement_text, field_text, increment_text, index_text, operand_text, size_letter, specifier_text};
 
-use crate::put::{Line, put, put_around, put_field, put_register};
+use crate::put::{Line, put_around, put_field, put_register};
 use vax_table::{Access, Form, Spec, displacement_width};
 use vv_base::{Width, decimal};
 
@@ -24,7 +24,7 @@ fn put_deferred(text: &mut Line, mode: u8)
     ensures grows { length text.new ≤ length text.old + 1 }
 {
     if mode % 2 == 1 {
-        put(text, b"@")
+        text.append(b"@")
     }
 }
 
@@ -36,7 +36,7 @@ fn put_displacement(text: &mut Line, spec: &Spec)
     ensures grows { length text.new ≤ length text.old + 18 }
 {
     put_deferred(text, spec.mode);
-    put(text, letter(spec.mode));
+    text.append(letter(spec.mode));
     put_field(text, displacement_width(spec.mode).bytes(), spec.value);
     put_around(text, b"(", spec.reg, b")")
 }
@@ -47,7 +47,7 @@ fn put_immediate(text: &mut Line, width: Width, value: u64)
     ensures text { text.new ≡ text.old ++ (codes "I^#" ++ field_text (size_of width) value) }
     ensures grows { length text.new ≤ length text.old + 21 }
 {
-    put(text, b"I^#");
+    text.append(b"I^#");
     put_field(text, width.bytes(), value)
 }
 
@@ -57,7 +57,7 @@ fn put_absolute(text: &mut Line, value: u64)
     ensures text { text.new ≡ text.old ++ (codes "@#" ++ field_text 4 value) }
     ensures grows { length text.new ≤ length text.old + 12 }
 {
-    put(text, b"@#");
+    text.append(b"@#");
     put_field(text, 4, value)
 }
 
@@ -82,8 +82,8 @@ fn put_literal(text: &mut Line, value: u64)
     ensures text { text.new ≡ text.old ++ (codes "S^#" ++ decimal value) }
     ensures grows { length text.new ≤ length text.old + 24 }
 {
-    put(text, b"S^#");
-    put(text, decimal(value).bytes())
+    text.append(b"S^#");
+    text.append(decimal(value).bytes())
 }
 
 /// Appends a specifier without its index.
@@ -138,7 +138,7 @@ pub(crate) fn put_operands(text: &mut Line, mark: u8, forms: &[Form], specs: &[S
     if let [form, other_forms @ ..] = forms
         && let [spec, other_specs @ ..] = specs
     {
-        put(text, &[mark]);
+        text.append_byte(mark);
         put_operand(text, *form, spec);
         put_operands(text, b',', other_forms, other_specs);
     }

@@ -6,14 +6,6 @@ use vv_base::{Text, decimal, hex};
 /// The text of an instruction, without a line end.
 pub type Line = Text<160>;
 
-/// Appends bytes that fit.
-pub(crate) fn put(text: &mut Line, bytes: &[u8])
-    requires { length text.old + length bytes.now ≤ 160 }
-    ensures { text.new ≡ text.old ++ bytes.now }
-{
-    let _ = text.push_all(bytes);
-}
-
 /// Appends the name of a register.
 #[tactic(auto, unfolding(vasm_text::specs::Printing::register_text))]
 pub(crate) fn put_register(text: &mut Line, n: u8)
@@ -23,13 +15,13 @@ pub(crate) fn put_register(text: &mut Line, n: u8)
 {
     match n {
         0..12 => {
-            put(text, b"R");
-            put(text, decimal(u64::from(n)).bytes());
+            text.append(b"R");
+            text.append(decimal(u64::from(n)).bytes());
         }
-        12 => put(text, b"AP"),
-        13 => put(text, b"FP"),
-        14 => put(text, b"SP"),
-        _ => put(text, b"PC"),
+        12 => text.append(b"AP"),
+        13 => text.append(b"FP"),
+        14 => text.append(b"SP"),
+        _ => text.append(b"PC"),
     }
 }
 
@@ -40,9 +32,9 @@ pub(crate) fn put_around(text: &mut Line, before: &[u8], n: u8, behind: &[u8])
     ensures text { text.new ≡ text.old ++ (before.now ++ (register_text n ++ behind.now)) }
     ensures grows { length text.new ≤ length text.old + (length before.now + 3 + length behind.now) }
 {
-    put(text, before);
+    text.append(before);
     put_register(text, n);
-    put(text, behind);
+    text.append(behind);
 }
 
 /// Appends the number in a field of so many bytes.
@@ -54,6 +46,6 @@ pub(crate) fn put_field(text: &mut Line, size: u8, value: u64)
     ensures text { text.new ≡ text.old ++ field_text size value }
     ensures grows { length text.new ≤ length text.old + (2 + 2 * size) }
 {
-    put(text, b"^X");
-    put(text, hex(value, 2 * size).bytes());
+    text.append(b"^X");
+    text.append(hex(value, 2 * size).bytes());
 }

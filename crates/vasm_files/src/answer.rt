@@ -40,9 +40,9 @@ pub fn fault_text(fault: &AsmFault) -> Text<96>
     ensures { result ≡ fault_text fault.now }
 {
     let mut text = Text::new();
-    let _ = text.push_all(b"asm line ");
-    let _ = text.push_all(decimal(u64::from(fault.line)).bytes());
-    let _ = text.push_all(b" ");
-    let _ = text.push_all(kind_text(fault.kind));
+    text.append(b"asm line ");
+    text.append(decimal(u64::from(fault.line)).bytes());
+    text.append(b" ");
+    text.append(kind_text(fault.kind));
     text
 }

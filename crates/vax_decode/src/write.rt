@@ -1,18 +1,10 @@
-ghost use Rattle.std.specs.Prelude.{◌≡◌, ◌+◌, ◌≤◌, ◌<◌, [], ◌∷◌, ◌++◌, length};
+ghost use Rattle.std.specs.Prelude.{◌≡◌, ◌+◌, ◌≤◌, ◌<◌, ◌++◌, length, IfSome};
 ghost use Rattle.vax_table.specs.Spelling.{bytes_of, view, IsWellFormed, Spells};
 ghost use Rattle.vax_table.specs.Spelled.{spelled_specifier, spelled, spelled_all};
 ghost use Rattle.vax_decode.specs.Encoding.{IsInRange, AllInRange};
 
 use vax_table::{Access, Decoded, Form, Spec, row, value_size};
 use vv_base::Text;
-
-/// Appends a byte that fits.
-fn put(text: &mut Text<24>, byte: u8)
-    requires { length text.old < 24 }
-    ensures { text.new ≡ text.old ++ byte ∷ [] }
-{
-    let _ = text.push(byte);
-}
 
 /// Appends the low bytes of a number, the lowest first.
 fn put_number(text: &mut Text<24>, size: usize, value: u64)
@@ -21,7 +13,7 @@ fn put_number(text: &mut Text<24>, size: usize, value: u64)
 {
     let mut rest = value;
     for _left in (0..size).rev() {
-        put(text, (rest % 256) as u8);
+        text.append_byte((rest % 256) as u8);
         rest /= 256;
     }
 }
@@ -36,9 +28,9 @@ fn put_specifier(text: &mut Text<24>, form: Form, spec: &Spec)
     ensures { text.new ≡ text.old ++ spelled_specifier form spec.now }
 {
     if spec.mode == 0 {
-        put(text, spec.value as u8);
+        text.append_byte(spec.value as u8);
     } else {
-        put(text, 16 * spec.mode + spec.reg);
+        text.append_byte(16 * spec.mode + spec.reg);
         put_number(text, usize::from(value_size(form, spec)), spec.value);
     }
 }
@@ -55,7 +47,7 @@ fn put_operand(text: &mut Text<24>, form: Form, spec: &Spec)
         return;
     }
     if let Some(index) = spec.index {
-        put(text, 0x40 + index);
+        text.append_byte(0x40 + index);
     }
     put_specifier(text, form, spec);
 }
@@ -77,9 +69,9 @@ pub fn encode(d: &Decoded) -> Text<24>
     ensures { Spells result (view d.now) }
 {
     let mut text = Text::new();
-    put(&mut text, d.opcode);
+    text.append_byte(d.opcode);
     if d.wait {
-        put(&mut text, 1);
+        text.append_byte(1);
     } else if let Some(row) = row(d.opcode) {
         put_operands(&mut text, row.operands.as_slice(), d.specs.as_slice());
     }

@@ -155,17 +155,18 @@ fn operand_by<S: Space>(
     ensures outcome { left result (evaluated value.new dest.new r.new) ≡ outcome (S.space space.now) (operand_by x.now.kind x.now.form.width x.now.spec r.old) }
     ensures fits { OnOk result (Fits (record { access = access_of x.now.kind; width = x.now.form.width }) value.new dest.new) }
 {
+    let w = x.form.width;
     match x.kind {
         Kind::Constant => {
             *value = x.spec.value;
             *dest = Dest::Nowhere;
         }
         Kind::ReadRegister => {
-            *value = register_value(x.form.width, r, x.spec.reg);
+            *value = register_value(w, r, x.spec.reg);
             *dest = Dest::Nowhere;
         }
         Kind::ModifyRegister => {
-            *value = register_value(x.form.width, r, x.spec.reg);
+            *value = register_value(w, r, x.spec.reg);
             *dest = Dest::Register(x.spec.reg);
         }
         Kind::WriteRegister | Kind::BitsRegister => {
@@ -176,35 +177,11 @@ fn operand_by<S: Space>(
             *value = u64::from(r[15].wrapping_add(displacement));
             *dest = Dest::Nowhere;
         }
-        Kind::Read(base) => return read_operand(space, base, x.form.width, &x.spec, r, value, dest),
-        Kind::Modify(base) => return modified_operand(
-            space,
-            base,
-            x.form.width,
-            &x.spec,
-            r,
-            value,
-            dest,
-        ),
-        Kind::Write(base) => return written_operand(
-            space,
-            base,
-            x.form.width,
-            &x.spec,
-            r,
-            value,
-            dest,
-        ),
-        Kind::Address(base) => return address_operand(
-            space,
-            base,
-            x.form.width,
-            &x.spec,
-            r,
-            value,
-            dest,
-        ),
-        Kind::Bits(base) => return bits_operand(space, base, x.form.width, &x.spec, r, value, dest),
+        Kind::Read(base) => return read_operand(space, base, w, &x.spec, r, value, dest),
+        Kind::Modify(base) => return modified_operand(space, base, w, &x.spec, r, value, dest),
+        Kind::Write(base) => return written_operand(space, base, w, &x.spec, r, value, dest),
+        Kind::Address(base) => return address_operand(space, base, w, &x.spec, r, value, dest),
+        Kind::Bits(base) => return bits_operand(space, base, w, &x.spec, r, value, dest),
     }
     Ok(())
 }

@@ -201,8 +201,7 @@ fn text_of(bytes: &[u8]) -> Text<256>
     ensures { result ≡ bytes.now }
 {
     let mut text = Text::new();
-    let pushed = text.push_all(bytes);
-    prove!(pushed.is_ok());
+    text.append(bytes);
     text
 }
 

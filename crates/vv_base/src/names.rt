@@ -49,7 +49,7 @@ fn text_of<const N: usize>(bytes: &[u8]) -> Text<N>
     ensures { result ≡ bytes.now }
 {
     let mut text = Text::new();
-    let _ = text.push_all(bytes);
+    text.append(bytes);
     text
 }
 

@@ -1,5 +1,4 @@
 ghost use Rattle.std.specs.Prelude.{◌≡◌, ◌+◌, ◌<◌, ◌≤◌, ◌↔◌, [], ◌∷◌, ◌++◌, length, IsOk, OnOk, OnErr};
-ghost use Rattle.arrayvec.specs.ArrayVec.{array_vec_len};
 
 use crate::Full;
 use arrayvec::ArrayVec;
@@ -61,20 +60,27 @@ impl<const N: usize> Text<N> {
         ensures ok { OnOk result (self.new ≡ self.old ++ bytes.now) }
         ensures err { OnErr result (self.new ≡ self.old) }
     {
-        if bytes.len() > N - self.bytes.len() {
-            return Err(Full);
+        match self.bytes.try_extend_from_slice(bytes) {
+            Ok(()) => Ok(()),
+            Err(_) => Err(Full),
         }
-        append(&mut self.bytes, bytes);
-        Ok(())
     }
-}
 
-/// Appends bytes that fit.
-fn append<const N: usize>(text: &mut ArrayVec<u8, N>, bytes: &[u8])
-    requires { array_vec_len text.old + length bytes.now ≤ N }
-    ensures { text.new.items ≡ text.old.items ++ bytes.now }
-{
-    for b in bytes {
-        text.push(*b);
+    /// Appends a byte that fits.
+    pub fn append_byte(&mut self, b: u8)
+        requires { length self.old + 1 ≤ N }
+        ensures written { self.new ≡ self.old ++ b ∷ [] }
+        ensures len { length self.new ≡ length self.old + 1 }
+    {
+        self.bytes.push(b);
+    }
+
+    /// Appends bytes that fit.
+    pub fn append(&mut self, bytes: &[u8])
+        requires { length self.old + length bytes.now ≤ N }
+        ensures written { self.new ≡ self.old ++ bytes.now }
+        ensures len { length self.new ≡ length self.old + length bytes.now }
+    {
+        let _ = self.push_all(bytes);
     }
 }

@@ -93,7 +93,7 @@ pub fn write_class(c: &AccessClass) -> Text<400>
 {
     let mut text = Text::new();
     write_half(&mut text, c.secrecy, c.secrecy_cats);
-    add(&mut text, b";");
+    text.append(b";");
     write_half(&mut text, c.integrity, c.integrity_cats);
     text
 }
@@ -106,9 +106,9 @@ fn write_half(text: &mut Text<400>, level: u8, cats: u64)
     ensures short { length text.new ≤ length text.old + 197 }
 {
     add_number(text, level);
-    add(text, b"{");
+    text.append(b"{");
     write_set(text, cats);
-    add(text, b"}");
+    text.append(b"}");
 }
 
 #[tactic(auto, using(crate::proofs::Sets::lengths))]
@@ -122,7 +122,7 @@ fn write_set(text: &mut Text<400>, cats: u64)
         if !has_category(cats, category) {
             continue;
         }
-        add(text, comma);
+        text.append(comma);
         add_number(text, category);
         comma = b",";
     }
@@ -140,16 +140,7 @@ fn add_number(text: &mut Text<400>, n: u8)
     ensures written { text.new ≡ text.old ++ decimal n }
     ensures len { length text.new ≡ length text.old + length (decimal n) }
 {
-    add(text, decimal(u64::from(n)).bytes());
-}
-
-/// Appends bytes that fit.
-fn add(text: &mut Text<400>, bytes: &[u8])
-    requires { length text.old + length bytes.now ≤ 400 }
-    ensures written { text.new ≡ text.old ++ bytes.now }
-    ensures len { length text.new ≡ length text.old + length bytes.now }
-{
-    let _ = text.push_all(bytes);
+    text.append(decimal(u64::from(n)).bytes());
 }
 
 /// Each class has one text, each text is of one class, `class_of` reads exactly these, and none has over 395 bytes.

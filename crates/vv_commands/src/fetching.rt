@@ -23,7 +23,7 @@ fn copied(name: &FileName) -> FileName
     ensures { result ≡ name.now }
 {
     let mut copy = FileName::new();
-    let _ = copy.push_all(name.bytes());
+    copy.append(name.bytes());
     copy
 }
 

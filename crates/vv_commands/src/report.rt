@@ -1,4 +1,4 @@
-ghost use Rattle.std.specs.Prelude.{◌≡◌, ◌≤◌, ◌+◌, ◌++◌, length, decimal};
+ghost use Rattle.std.specs.Prelude.{◌≡◌, ◌≤◌, ◌+◌, length, decimal};
 ghost use Rattle.vm_stepping.specs.Made.{steps_in, tally_of};
 ghost use Rattle.vv_commands.specs.Summary.{check_line, field, summary, trailer};
 
@@ -9,23 +9,15 @@ use vv_base::{Text, decimal, hex};
 /// A line that is shown.
 pub type Line = Text<512>;
 
-/// Bytes after a text that has room for them.
-fn append(text: &mut Line, bytes: &[u8])
-    requires { length text.old + length bytes.now ≤ 512 }
-    ensures { text.new ≡ text.old ++ bytes.now }
-{
-    let _ = text.push_all(bytes);
-}
-
-/// A word and a number after a text.
+/// A word and a number behind a text.
 #[tactic(auto, unfolding(crate::specs::Summary::field))]
 fn add(text: &mut Line, word: &[u8], number: u64)
     requires { length text.old + length word.now + 20 ≤ 512 }
     ensures text { text.new ≡ field text.old word.now number }
     ensures grows { length text.new ≤ length text.old + length word.now + 20 }
 {
-    append(text, word);
-    append(text, decimal(number).bytes());
+    text.append(word);
+    text.append(decimal(number).bytes());
 }
 
 /// The trail after a text, and the end of the line.
@@ -34,9 +26,9 @@ fn end(text: &mut Line, trail: u64)
     requires { length text.old + 40 ≤ 512 }
     ensures { text.new ≡ trailer text.old trail }
 {
-    append(text, b" trail ");
-    append(text, hex(trail, 16).bytes());
-    append(text, b"\n");
+    text.append(b" trail ");
+    text.append(hex(trail, 16).bytes());
+    text.append(b"\n");
 }
 
 /// The steps of every kind.
@@ -81,6 +73,6 @@ pub fn check_line(config: &Config) -> Line
     add(&mut text, b" volumes ", config.volumes.len() as u64);
     add(&mut text, b" printers ", config.printers.len() as u64);
     add(&mut text, b" guests ", config.guests.len() as u64);
-    append(&mut text, b"\n");
+    text.append(b"\n");
     text
 }

@@ -33,7 +33,7 @@ fn letter(b: u8) -> Name
     ensures { result ≡ b ∷ [] }
 {
     let mut name = Name::new();
-    let _ = name.push(b);
+    name.append_byte(b);
     name
 }
 

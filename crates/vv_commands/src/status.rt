@@ -61,14 +61,6 @@ impl From<NoMemory> for Status {
     }
 }
 
-/// Bytes after a text that has room for them.
-fn append(text: &mut Text<96>, bytes: &[u8])
-    requires { length text.old + length bytes.now ≤ 96 }
-    ensures { text.new ≡ text.old ++ bytes.now }
-{
-    let _ = text.push_all(bytes);
-}
-
 /// A word and a number.
 fn numbered(word: &[u8], number: u64) -> Text<96>
     requires { length word.now ≤ 40 }
@@ -76,8 +68,8 @@ fn numbered(word: &[u8], number: u64) -> Text<96>
     ensures short { length result ≤ length word.now + 20 }
 {
     let mut text = Text::new();
-    append(&mut text, word);
-    append(&mut text, decimal(number).bytes());
+    text.append(word);
+    text.append(decimal(number).bytes());
     text
 }
 
@@ -87,8 +79,8 @@ fn named(word: &[u8], name: &FileName) -> Text<96>
     ensures { result ≡ word.now ++ name.now }
 {
     let mut text = Text::new();
-    append(&mut text, word);
-    append(&mut text, name.bytes());
+    text.append(word);
+    text.append(name.bytes());
     text
 }
 
@@ -98,7 +90,7 @@ fn worded(words: &[u8]) -> Text<96>
     ensures { result ≡ words.now }
 {
     let mut text = Text::new();
-    let _ = text.push_all(words);
+    text.append(words);
     text
 }
 
@@ -115,8 +107,8 @@ fn config_text(fault: ConfigFault) -> Text<96>
     ensures { result ≡ config_text fault }
 {
     let mut text = numbered(b"config rule ", u64::from(fault.rule));
-    append(&mut text, b" at ");
-    append(&mut text, decimal(u64::from(fault.place)).bytes());
+    text.append(b" at ");
+    text.append(decimal(u64::from(fault.place)).bytes());
     text
 }
 
@@ -124,8 +116,8 @@ fn script_text(fault: ScriptFault) -> Text<96>
     ensures { result ≡ script_text fault }
 {
     let mut text = numbered(b"script line ", u64::from(fault.line));
-    append(&mut text, b" ");
-    append(&mut text, kind_text(fault.kind));
+    text.append(b" ");
+    text.append(kind_text(fault.kind));
     text
 }
 

@@ -1,4 +1,4 @@
-ghost use Rattle.std.specs.Prelude.{◌≡◌, ◌≤◌, ◌+◌, ◌++◌, length};
+ghost use Rattle.std.specs.Prelude.{◌≡◌, ◌≤◌, length};
 ghost use Rattle.vv_edge.specs.Notes.{flaw_text, note_if, note_of, notes_of};
 
 use crate::stat::Flaw;
@@ -14,14 +14,7 @@ pub struct FlawedDrive {
 /// Notes on drives, a line each.
 pub type Notes = Text<2048>;
 
-fn append<const N: usize>(text: &mut Text<N>, bytes: &[u8])
-    requires { length text.old + length bytes.now ≤ N }
-    ensures { text.new ≡ text.old ++ bytes.now }
-{
-    let _ = text.push_all(bytes);
-}
-
-/// What a flaw is called after a drive's number.
+/// What a flaw is called behind a drive's number.
 fn flaw_text(flaw: Flaw) -> &'static [u8]
     ensures is { result.now ≡ flaw_text flaw }
     ensures short { length result.now ≤ 64 }
@@ -41,10 +34,10 @@ fn note(drive: FlawedDrive) -> Text<128>
     ensures short { length result ≤ 100 }
 {
     let mut text = Text::new();
-    append(&mut text, b"vvmm: drive ");
-    append(&mut text, decimal(u64::from(drive.number)).bytes());
-    append(&mut text, flaw_text(drive.flaw));
-    append(&mut text, b"\n");
+    text.append(b"vvmm: drive ");
+    text.append(decimal(u64::from(drive.number)).bytes());
+    text.append(flaw_text(drive.flaw));
+    text.append(b"\n");
     text
 }
 
@@ -65,7 +58,7 @@ pub fn notes(drives: &[Option<FlawedDrive>; 16]) -> Notes
 {
     let mut text = Text::new();
     for drive in drives {
-        append(&mut text, note_if(drive).bytes());
+        text.append(note_if(drive).bytes());
     }
     text
 }

@@ -19,8 +19,8 @@ pub fn numbered<const N: usize>(name: &[u8], digit: u8) -> Text<N>
     ensures { result ≡ numbered name.now digit }
 {
     let mut text = Text::new();
-    let _ = text.push_all(name);
-    let _ = text.push(b'0' + digit);
+    text.append(name);
+    text.append_byte(b'0' + digit);
     text
 }
 

@@ -1,8 +1,7 @@
 -- A keyboard in memory, and what is read back of a line.
-use Rattle.std.proofs.Common.{ℕ, suc, ◌≡◌, ◌<◌, ◌≤◌, ◌+◌, ◌-◌, List, [], ◌∷◌, ◌++◌, length, map, take, drop, min, get_or, false, true, Result, refl, sym, ◌∙◌, ap, add-one, arith}
+use Rattle.std.proofs.Common.{ℕ, suc, ◌≡◌, ◌<◌, ◌≤◌, ◌+◌, ◌-◌, List, [], ◌∷◌, ◌++◌, length, map, take, drop, min, get_or, false, refl, sym, ◌∙◌, ap, add-one, arith}
 use Rattle.std.specs.declared.option.Option.TheVariants.{Some}
-use Rattle.std.specs.declared.result.Result.TheVariants.{Ok, Err}
-use Rattle.std.specs.Result.{IsOk, OnOk}
+use Rattle.std.specs.declared.result.Result.TheVariants.{Ok}
 use Rattle.std.proofs.lemmas.List.{drop-map, drop_min, take_all, take_min, length-take, length-drop, take-append-le}
 use Rattle.std.proofs.Math.Seq.{drop-cons}
 use Rattle.vv_io.specs.Causes.{counted}
@@ -29,13 +28,10 @@ pub takes_line : {E : Type 0} (coming rest : List (List ℕ)) (line given failin
 takes_line coming rest line given failing calls faults now same next front = rw (← same, next) (record { gives = (front, refl); cause = record { later = omega arith; kept = refl; failed = tt } })
 
 -- the first bytes of a line, put into an empty text
-pub first_of : {U E : Type 0} (result : Result U E) (begun new line : List ℕ) (n : ℕ) → begun ≡ [] → n ≡ min (length line) 1024 → (length begun + length (take n line) ≤ 1024 → IsOk result) → OnOk result (new ≡ begun ++ take n line) → new ≡ given_of line
-first_of (Ok _) begun new line n empty counts fits put =
+pub first_of : (begun new line : List ℕ) (n : ℕ) → begun ≡ [] → n ≡ min (length line) 1024 → new ≡ begun ++ take n line → new ≡ given_of line
+first_of begun new line n empty counts put =
     let same : n ≡ min 1024 (length line) = omega arith in
     put ∙ ap (λ (b : List ℕ). b ++ take n line) empty ∙ ap (λ (k : ℕ). take k line) same ∙ take_min 1024 line
-first_of (Err _) begun new line n empty counts fits put =
-    let ok : false ≡ true = fits (omega (arith, length-take n line, ap length empty)) in
-    cc
 
 -- bytes copied from a place on
 pub copied : (shown rest new tail : List ℕ) (from place n : ℕ) → from ≡ min place (length shown) → rest ≡ take (length shown - from) (drop from shown) → n ≡ min (length rest) 512 → new ≡ take n rest → ReadsBack (Some shown) place (new ++ tail) n

@@ -50,7 +50,7 @@ fn given_of(line: &[u8]) -> KeyLine
     ensures { result ≡ given_of line.now }
 {
     let mut given = KeyLine::new();
-    let _ = given.push_all(&line[..line.len().min(1024)]);
+    given.append(&line[..line.len().min(1024)]);
     given
 }
 

@@ -1,4 +1,4 @@
-ghost use Rattle.std.specs.Prelude.{◌≡◌, ◌≤◌, ◌+◌, ◌++◌, length};
+ghost use Rattle.std.specs.Prelude.{◌≡◌, ◌≤◌, length};
 ghost use Rattle.vv_commands.specs.Texts.{code_of};
 ghost use Rattle.vv_program.specs.Ends.{Tells, end_text, is_of_drives, report_of};
 
@@ -11,13 +11,6 @@ use vv_io::Sink;
 /// What is told of an end.
 type End = Text<2304>;
 
-fn append(text: &mut End, bytes: &[u8])
-    requires { length text.old + length bytes.now ≤ 2304 }
-    ensures { text.new ≡ text.old ++ bytes.now }
-{
-    let _ = text.push_all(bytes);
-}
-
 /// The line on an answer.
 fn report(status: &Status) -> End
     ensures is { result ≡ report_of status.now }
@@ -27,9 +20,9 @@ fn report(status: &Status) -> End
     if matches!(status, Status::Done) {
         return text;
     }
-    append(&mut text, b"vvmm: ");
-    append(&mut text, status_text(status).bytes());
-    append(&mut text, b"\n");
+    text.append(b"vvmm: ");
+    text.append(status_text(status).bytes());
+    text.append(b"\n");
     text
 }
 
@@ -46,10 +39,10 @@ fn end_text(status: &Status, flawed: &[Option<FlawedDrive>; 16]) -> End
 {
     let mut text = report(status);
     if matches!(status, Status::Words) {
-        append(&mut text, HELP.as_bytes());
+        text.append(HELP.as_bytes());
     }
     if is_of_drives(status) {
-        append(&mut text, notes(flawed).bytes());
+        text.append(notes(flawed).bytes());
     }
     text
 }

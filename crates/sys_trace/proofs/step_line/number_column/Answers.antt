@@ -20,7 +20,7 @@ returns-clause-number c =
     let long : length c.bytes.result.now ≡ length (decimal n) = ap length (c.bytes.ensures.value ∙ c.decimal-digits.ensures ∙ ap decimal same) in
     let digits : c.bytes-2.result.now ≡ decimal n = c.bytes-2.ensures.value ∙ c.decimal-digits.ensures ∙ ap decimal same in
     let blanks : c.put_blanks.new.line ≡ at_left (6 - length (decimal n)) [] = c.put_blanks.ensures.blanks ∙ (λ i. at_left (6 - long i) (c.new-line.ensures i)) in
-    column_is 6 (decimal n) c.put_blanks.new.line c.put.new.line blanks (c.put.ensures ∙ ap (λ (bs : List ℕ). c.put_blanks.new.line ++ bs) digits)
+    column_is 6 (decimal n) c.put_blanks.new.line c.append.new.self blanks (c.append.ensures.written ∙ ap (λ (bs : List ℕ). c.put_blanks.new.line ++ bs) digits)
 
 pub returns-clause-size : goal.returns-clause-size
 returns-clause-size c =

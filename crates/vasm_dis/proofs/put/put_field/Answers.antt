@@ -1,9 +1,8 @@
-use Rattle.std.proofs.Common.{arith, [], ◌∷◌, length, ◌≡◌, ◌*◌, ap, ℕ, ◌∙◌}
+use Rattle.std.proofs.Common.{arith, length, ◌≡◌, ◌*◌, ap, ℕ, ◌∙◌}
 use Rattle.vasm_dis.proofs.Fields.{hex_length}
-use Rattle.vasm_dis.proofs.Lengths.{grown}
 use Rattle.vasm_dis.proofs.put.put_field.Goals as goal
 
 pub returns-clause-grows : goal.returns-clause-grows
 returns-clause-grows c =
     let digits : length c.bytes.result.now ≡ 2 * c.args.size = ap (length {A = ℕ}) (c.bytes.ensures.value ∙ c.hex.ensures) ∙ hex_length (2 * c.args.size) c.args.value in
-    omega (arith, digits, grown c.args.text.now (94 ∷ 88 ∷ []) c.put.new.text c.put.ensures, grown c.put.new.text c.bytes.result.now c.put-2.new.text c.put-2.ensures)
+    omega (arith, digits, c.append.ensures.len, c.append-2.ensures.len)

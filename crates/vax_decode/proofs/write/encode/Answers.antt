@@ -12,9 +12,9 @@ put_operands-requires-clause-range c =
 pub put_operands-requires-clause-room : goal.put_operands-requires-clause-room
 put_operands-requires-clause-room c =
     let formed = ready (view c.args.d.now) c.requires c.if-d.false (row_view c.in-Some.row) (sym c.in-Some.ensures) in
-    rw (c.as_slice.ensures.value, c.as_slice-in-Some.ensures.value, c.put.ensures, c.new-text.ensures) formed.room
+    rw (c.as_slice.ensures.value, c.as_slice-in-Some.ensures.value, c.append_byte.ensures.written, c.new-text.ensures) formed.room
 
 pub returns-in-Some : goal.returns-in-Some
 returns-in-Some c =
     let formed = ready (view c.args.d.now) c.requires c.if-d.false (row_view c.in-Some.row) (sym c.in-Some.ensures) in
-    rw (c.put_operands.ensures, c.as_slice.ensures.value, c.as_slice-in-Some.ensures.value, c.put.ensures, c.new-text.ensures) formed.spelled
+    rw (c.put_operands.ensures, c.as_slice.ensures.value, c.as_slice-in-Some.ensures.value, c.append_byte.ensures.written, c.new-text.ensures) formed.spelled

@@ -17,7 +17,7 @@ loop-category-preserved-then-not-has_category c =
 pub add_number-requires : goal.add_number-requires
 add_number-requires c =
     let digits : length (decimal c.loop-category.category) ≤ 2 = two_digits c.loop-category.category c.loop-category-test.true in
-    omega (arith, digits, c.add.ensures.len, c.loop-category.invariant.short, c.loop-category.invariant.one, c.requires)
+    omega (arith, digits, c.append.ensures.len, c.loop-category.invariant.short, c.loop-category.invariant.one, c.requires)
 
 pub loop-category-preserved : goal.loop-category-preserved
 loop-category-preserved c =
@@ -26,9 +26,9 @@ loop-category-preserved c =
     let is : has_category cats k ≡ true = sym c.has_category.ensures ∙ c.if-not-has_category.false in
     let digits : length (decimal k) ≤ 2 = two_digits k c.loop-category-test.true in
     record {
-      written = c.add_number.ensures.written ∙ ap (λ (xs : List ℕ). xs ++ decimal k) c.add.ensures.written
+      written = c.add_number.ensures.written ∙ ap (λ (xs : List ℕ). xs ++ decimal k) c.append.ensures.written
           ∙ one_more c.args.text.now c.loop-category.text c.loop-category.comma.now cats k is c.loop-category.invariant.written c.loop-category.invariant.comma;
       comma = comma_more cats k is;
-      short = omega (arith, digits, c.add_number.ensures.len, c.add.ensures.len, c.loop-category.invariant.short, c.loop-category.invariant.one);
+      short = omega (arith, digits, c.add_number.ensures.len, c.append.ensures.len, c.loop-category.invariant.short, c.loop-category.invariant.one);
       one = omega arith;
     }
