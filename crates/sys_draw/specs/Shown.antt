@@ -1,5 +1,5 @@
 -- Worked examples of the picture, checked by computation: a terminal and a guest of level 1, a volume above and one below.
-use Rattle.std.specs.Prelude.{◌≡◌, ℕ, false, List, [], ◌∷◌, codes, map, None, refl}
+use Rattle.std.specs.Prelude.{◌≡◌, ℕ, false, List, [], ◌∷◌, ◌++◌, codes, map, None, refl}
 use Rattle.std.specs.Fmt.{digits}
 use Rattle.std.specs.Int.Count.{ones}
 use Rattle.vv_class.specs.Class.{does_flow, is_subset}
@@ -48,7 +48,10 @@ small = record {
 }
 
 -- more categories rank higher in secrecy and lower in integrity
-ranks : (rank (level 0) ≡ 319) × (rank (record { secrecy = 1; secrecy_cats = 5; integrity = 0; integrity_cats = 0 }) ≡ 322) × (rank (record { secrecy = 0; secrecy_cats = 0; integrity = 255; integrity_cats = 7 }) ≡ 61)
+ranks :
+    (rank (level 0) ≡ 319)
+    × (rank (record { secrecy = 1; secrecy_cats = 5; integrity = 0; integrity_cats = 0 }) ≡ 322)
+    × (rank (record { secrecy = 0; secrecy_cats = 0; integrity = 255; integrity_cats = 7 }) ≡ 61)
 unfolding ones
 ranks = (refl, refl, refl)
 
@@ -77,14 +80,20 @@ unfolding does_flow is_subset
 edges = refl
 
 -- up on the right, down on the left
-up : arrow 8 (at 154 266) (at 82 138) (codes "#b07a00") ≡ codes "<line x1=\"202\" y1=\"266\" x2=\"130\" y2=\"186\" stroke=\"#b07a00\" marker-end=\"url(#head)\"/>\n"
+up : arrow 8 (at 154 266) (at 82 138) (codes "#b07a00") ≡
+    codes "<line x1=\"202\" y1=\"266\" x2=\"130\" y2=\"186\" stroke=\"#b07a00\" marker-end=\"url(#head)\"/>\n"
 unfolding segment digits
 up = refl
 
-down : arrow 8 (at 82 138) (at 154 266) (codes "#1f5fa8") ≡ codes "<line x1=\"110\" y1=\"186\" x2=\"182\" y2=\"266\" stroke=\"#1f5fa8\" marker-end=\"url(#head)\"/>\n"
+down : arrow 8 (at 82 138) (at 154 266) (codes "#1f5fa8") ≡
+    codes "<line x1=\"110\" y1=\"186\" x2=\"182\" y2=\"266\" stroke=\"#1f5fa8\" marker-end=\"url(#head)\"/>\n"
 unfolding segment digits
 down = refl
 
-box_of_a : whole_box 8 (at 154 266) (codes "#fff2c4") (codes "guest") (codes "A") (codes "1{};0{}") ≡ codes "<rect x=\"154\" y=\"266\" width=\"76\" height=\"48\" rx=\"4\" fill=\"#fff2c4\" fill-opacity=\"0.8\" stroke=\"black\"/><text x=\"192\" y=\"280\">guest</text><text x=\"192\" y=\"295\">A</text><text x=\"192\" y=\"309\">1{};0{}</text>\n"
+box_of_a : whole_box 8 (at 154 266) (codes "#fff2c4") (codes "guest") (codes "A") (codes "1{};0{}") ≡
+    codes "<rect x=\"154\" y=\"266\" width=\"76\" height=\"48\" rx=\"4\" fill=\"#fff2c4\" fill-opacity=\"0.8\" stroke=\"black\"/>"
+    ++ codes "<text x=\"192\" y=\"280\">guest</text>"
+    ++ codes "<text x=\"192\" y=\"295\">A</text>"
+    ++ codes "<text x=\"192\" y=\"309\">1{};0{}</text>\n"
 unfolding whole_box frame_of_box before_color after_color label digits
 box_of_a = refl

@@ -1,41 +1,20 @@
 -- Worked examples, by computation: a guest of level 1, and terminals below it, of its level and above it. What is done at
 -- the terminal of its level shows above, by SHOW, and not below.
 use Rattle.std.specs.Prelude.{◌≡◌, zero, suc, slice_get, Bool, [], ◌∷◌, codes, false, true, refl, None}
-use Rattle.std.specs.Fmt.{digits}
 use Rattle.vv_class.specs.Class.{does_flow, is_subset}
-use Rattle.vax_arch.specs.Walk.{lookup}
-use Rattle.vax_table.specs.Arithmetic.{alu_of}
-use Rattle.vax_table.specs.Branches.{branched}
-use Rattle.vax_table.specs.Fetch.{decided, fetched}
-use Rattle.vax_table.specs.Operand.{address_of, branch_operand, operand_of, operands_of, read_operand, trap_operands}
-use Rattle.vax_table.specs.Operations.{operation_of}
-use Rattle.vax_table.specs.Plan.{performed, plan_of}
-use Rattle.vax_table.specs.Reading.{decoded_at, operand_at, specifier_at, specifier_by}
-use Rattle.vax_table.specs.Rows.{row_of}
-use Rattle.vax_table.specs.Spelled.{value_size}
-use Rattle.vax_table.specs.Whole.{acted, instruction}
-use Rattle.vm_clock.specs.Clock.{after_tick}
-use Rattle.sys_server.specs.Apply.{applied, taken}
-use Rattle.sys_server.specs.Line.{asked_in}
-use Rattle.sys_server.specs.Verdict.{judged}
-use Rattle.vm_state.specs.Interrupts.{due}
-use Rattle.vm_state.specs.Registers.{register_of, written}
-use Rattle.vm_state.specs.Sensitive.{sensed}
-use Rattle.vm_state.specs.Start.{opening}
-use Rattle.vm_state.specs.Step.{executed, step}
-use Rattle.vm_state.specs.Translation.{walk_of}
-use Rattle.vv_class.specs.Text.{categories_below, class_text}
 use Rattle.sys_flow.specs.Reach.{IsGuestAt, IsTerminalAt, Object, leads}
 use Rattle.sys_flow_laws.specs.Laws.{events_without, is_far_event, line_of_guest}
 use Rattle.sys_objects.specs.declared.records.Config.{Config}
 use Rattle.sys_rounds.specs.Bytes.{line_bytes}
 use Rattle.sys_rounds.specs.Run.{Input}
-use Rattle.sys_rounds.specs.ShownSetup.{config, guest, line_at, terminal}
+use Rattle.sys_rounds.specs.ShownSetup.{config, guest, line_at, terminal, whole_run}
 use Rattle.sys_script.specs.declared.event.Event.{Event}
 
 -- LOW, OWN and HIGH on lines 0, 1 and 2, and the guest A
 abbrev pub three : Config
-three = config None (terminal (codes "LOW") 0 0 ∷ terminal (codes "OWN") 1 1 ∷ terminal (codes "HIGH") 2 2 ∷ []) [] [] (guest (codes "A") 1 2 1 true None ∷ [])
+three =
+    let terminals = terminal (codes "LOW") 0 0 ∷ terminal (codes "OWN") 1 1 ∷ terminal (codes "HIGH") 2 2 ∷ [] in
+    config None terminals [] [] (guest (codes "A") 1 2 1 true None ∷ [])
 
 abbrev pub halts : Event
 halts = line_at 1 (codes "OWN") (codes "HALT A")
@@ -48,7 +27,13 @@ high_shows = line_at 1 (codes "HIGH") (codes "SHOW")
 
 -- the two differ in the events of OWN alone
 abbrev pub halted : Input
-halted = record { config = three; images = (0x11 ∷ 0xfe ∷ []) ∷ []; volumes = []; events = halts ∷ low_shows ∷ high_shows ∷ []; rounds = 1 }
+halted = record {
+  config = three;
+  images = (0x11 ∷ 0xfe ∷ []) ∷ [];
+  volumes = [];
+  events = halts ∷ low_shows ∷ high_shows ∷ [];
+  rounds = 1;
+}
 
 abbrev pub untouched : Input
 untouched = record halted { events = low_shows ∷ high_shows ∷ [] }
@@ -65,7 +50,10 @@ only_low (IsTerminalAt zero) = true
 only_low (IsTerminalAt (suc t)) = false
 only_low p = false
 
-pub far_events : (is_far_event three only_low low_shows ≡ true) × (is_far_event three only_low high_shows ≡ false) × (is_far_event three only_low (line_at 1 (codes "NONE") []) ≡ false)
+pub far_events :
+    (is_far_event three only_low low_shows ≡ true)
+    × (is_far_event three only_low high_shows ≡ false)
+    × (is_far_event three only_low (line_at 1 (codes "NONE") []) ≡ false)
 far_events = (refl, refl, refl)
 
 pub no_dump : line_of_guest (slice_get three.guests 0) ≡ None
@@ -76,10 +64,12 @@ pub reached : (leads three 1 (3 ∷ []) 2 ≡ true) × (leads three 1 (3 ∷ [])
 unfolding does_flow is_subset
 reached = (refl, refl)
 
-pub high_sees : (line_bytes halted 2 ≡ codes "VM A 1{};0{} STOPPED\r\nOK\r\n") × (line_bytes untouched 2 ≡ codes "VM A 1{};0{} RUNNING\r\nOK\r\n")
-unfolding asked_in judged does_flow is_subset applied taken opening step executed instruction fetched decided decoded_at acted plan_of performed row_of operation_of operands_of operand_of read_operand address_of branch_operand branched value_size trap_operands operand_at specifier_at specifier_by after_tick due sensed register_of written walk_of lookup alu_of class_text categories_below digits
+pub high_sees :
+    (line_bytes halted 2 ≡ codes "VM A 1{};0{} STOPPED\r\nOK\r\n")
+    × (line_bytes untouched 2 ≡ codes "VM A 1{};0{} RUNNING\r\nOK\r\n")
+unfolding whole_run
 high_sees = (refl, refl)
 
 pub low_sees : (line_bytes halted 0 ≡ codes "OK\r\n") × (line_bytes untouched 0 ≡ codes "OK\r\n")
-unfolding asked_in judged does_flow is_subset applied taken opening step executed instruction fetched decided decoded_at acted plan_of performed row_of operation_of operands_of operand_of read_operand address_of branch_operand branched value_size trap_operands operand_at specifier_at specifier_by after_tick due sensed register_of written walk_of lookup alu_of class_text categories_below digits
+unfolding whole_run
 low_sees = (refl, refl)

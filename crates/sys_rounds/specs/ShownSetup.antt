@@ -1,6 +1,9 @@
 -- Configurations for the worked examples: guests of a few pages whose code lies at 200 hexadecimal.
 use Rattle.std.specs.Prelude.{ℕ, ◌-◌, List, [], ◌∷◌, ◌++◌, codes, Bool, false, length, replicate, Option, Some, None}
+use Rattle.std.specs.Fmt.{digits}
 use Rattle.vv_base.specs.Bytes.{long_bytes}
+use Rattle.vv_class.specs.Class.{does_flow, is_subset}
+use Rattle.vv_class.specs.Text.{categories_below, class_text}
 use Rattle.vv_class.specs.declared.class.AccessClass.{AccessClass}
 use Rattle.sys_objects.specs.declared.records.Audit.{Audit}
 use Rattle.sys_objects.specs.declared.records.Config.{Config}
@@ -11,6 +14,21 @@ use Rattle.sys_objects.specs.declared.records.Terminal.{Terminal}
 use Rattle.sys_objects.specs.declared.records.VolumeRow.{VolumeRow}
 use Rattle.sys_script.specs.declared.event.Event.{Event}
 use Rattle.sys_script.specs.declared.event.Typed.TheVariants.{Break, Line}
+use Rattle.sys_audit.specs.Audit.{audit_of}
+use Rattle.sys_rounds.specs.Run.{Input, run}
+use Rattle.sys_rounds.specs.State.{State, Went}
+use Rattle.sys_server.specs.Apply.{applied, taken}
+use Rattle.sys_server.specs.Line.{asked_in}
+use Rattle.sys_server.specs.Verdict.{judged}
+use Rattle.sys_store.specs.Job.{job_text}
+use Rattle.vm_state.specs.ShownSetup.{whole_step}
+use Rattle.vm_state.specs.Start.{opening}
+
+-- A run with all that it computes with: an example of runs unfolds this one name.
+unfoldable pub whole_run : Input → Went State
+unfolding
+    whole_step opening asked_in judged does_flow is_subset applied taken audit_of job_text class_text categories_below digits
+whole_run input = run input
 
 abbrev pub level : ℕ → AccessClass
 level n = record { secrecy = n; secrecy_cats = 0; integrity = 0; integrity_cats = 0 }
@@ -66,7 +84,8 @@ kcall packet = 0xda ∷ 0x8f ∷ long_bytes packet ++ 0x8f ∷ 0xc8 ∷ 0 ∷ 0 
 
 -- a packet: function, unit, block, buffer, length, status
 abbrev pub packet : ℕ → ℕ → ℕ → ℕ → ℕ → List ℕ
-packet function unit block buffer size = long_bytes function ++ long_bytes unit ++ long_bytes block ++ long_bytes buffer ++ long_bytes size ++ long_bytes 0
+packet function unit block buffer size =
+    long_bytes function ++ long_bytes unit ++ long_bytes block ++ long_bytes buffer ++ long_bytes size ++ long_bytes 0
 
 -- bytes and zeros after them, so many in all
 abbrev pub filled : ℕ → List ℕ → List ℕ

@@ -1,32 +1,11 @@
 -- Worked examples of transfers, by computation: a shared volume, a full queue, printing, each status.
 use Rattle.std.specs.Prelude.{◌≡◌, ℕ, ◌+◌, List, [], ◌∷◌, ◌++◌, codes, false, true, map, refl, replicate, Option, Some, None}
-use Rattle.std.specs.Fmt.{digits}
 use Rattle.vv_base.specs.Bytes.{long_at}
-use Rattle.vv_class.specs.Text.{categories_below, class_text}
-use Rattle.vax_arch.specs.Walk.{lookup}
-use Rattle.vax_table.specs.Arithmetic.{alu_of}
-use Rattle.vax_table.specs.Fetch.{decided, fetched}
-use Rattle.vax_table.specs.Operand.{address_of, operand_of, operands_of, read_operand, trap_operands}
-use Rattle.vax_table.specs.Operations.{operation_of}
-use Rattle.vax_table.specs.Plan.{performed, plan_of}
-use Rattle.vax_table.specs.Reading.{decoded_at, operand_at, specifier_at, specifier_by}
-use Rattle.vax_table.specs.Rows.{row_of}
-use Rattle.vax_table.specs.Spelled.{value_size}
-use Rattle.vax_table.specs.Whole.{acted, instruction}
-use Rattle.vm_clock.specs.Clock.{after_tick}
 use Rattle.sys_rounds.specs.Run.{Input, run}
-use Rattle.sys_rounds.specs.ShownSetup.{config, filled, guest, kcall, mounted, packet, printer, volume}
+use Rattle.sys_rounds.specs.ShownSetup.{config, filled, guest, kcall, mounted, packet, printer, volume, whole_run}
 use Rattle.sys_rounds.specs.State.{bytes_on}
-use Rattle.sys_rounds.specs.Transfers.{Packet, Prints, Reads, Refused, Writes, move_of}
-use Rattle.sys_store.specs.Job.{job_text}
-use Rattle.vm_state.specs.Interrupts.{due}
-use Rattle.vm_state.specs.Packets.{accepted}
-use Rattle.vm_state.specs.Registers.{register_of, written}
-use Rattle.vm_state.specs.Sensitive.{sensed}
-use Rattle.vm_state.specs.Start.{opening}
+use Rattle.sys_rounds.specs.Transfers.{Move, Packet, Prints, Reads, Refused, Writes, move_of}
 use Rattle.vm_state.specs.State.{Guest}
-use Rattle.vm_state.specs.Step.{executed, step}
-use Rattle.vm_state.specs.Translation.{walk_of}
 
 -- Two guests of one class write block 0 of one volume in one round, each from its buffer at 400: the block is the
 -- second's, and both statuses are 1.
@@ -49,12 +28,9 @@ pub later_writer :
     × (map (λ (g : Guest). long_at g.memory (0x280 + 20)) (run shared).now.guests ≡ 1 ∷ 1 ∷ [])
     × (map (λ (g : Guest). g.state.kcall_due) (run shared).now.guests ≡ true ∷ true ∷ [])
     × (map (λ (g : Guest). g.state.queue) (run shared).now.guests ≡ [] ∷ [] ∷ [])
-unfolding opening step executed instruction fetched decided decoded_at acted plan_of performed row_of operation_of operands_of operand_of read_operand address_of value_size trap_operands operand_at specifier_at specifier_by after_tick due sensed register_of written accepted walk_of lookup alu_of
+unfolding whole_run
 later_writer = (refl, refl, refl, refl)
 
--- Nine packets in one round, at 280 and each 20 after the one before: the ninth's status is 2 at once, the first eight move
--- at the end.
--- They print one byte each, and there is no printer.
 -- a packet is followed by eight bytes
 abbrev long_zeros : List ℕ
 long_zeros = replicate 8 0
@@ -62,19 +38,33 @@ long_zeros = replicate 8 0
 abbrev packets : List ℕ
 packets = packet 3 0 0 0 1 ++ long_zeros
 
+abbrev nine_calls : List ℕ
+nine_calls =
+    kcall 0x280 ++ kcall 0x2a0 ++ kcall 0x2c0 ++ kcall 0x2e0 ++ kcall 0x300
+    ++ kcall 0x320 ++ kcall 0x340 ++ kcall 0x360 ++ kcall 0x380
+
+-- Nine packets in one round, at 280 and each 20 after the one before: the ninth's status is 2 at once, the first eight move
+-- at the end. They print one byte each, and there is no printer.
 abbrev pub nine : Input
 nine = record {
   config = config None [] [] [] (guest (codes "A") 0 3 9 true None ∷ []);
-  images = (filled 0x80 (kcall 0x280 ++ kcall 0x2a0 ++ kcall 0x2c0 ++ kcall 0x2e0 ++ kcall 0x300 ++ kcall 0x320 ++ kcall 0x340 ++ kcall 0x360 ++ kcall 0x380)
-      ++ packets ++ packets ++ packets ++ packets ++ packets ++ packets ++ packets ++ packets ++ packets) ∷ [];
+  images =
+      let four = packets ++ packets ++ packets ++ packets in
+      (filled 0x80 nine_calls ++ four ++ four ++ packets) ∷ [];
   volumes = [];
   events = [];
   rounds = 1;
 }
 
-pub ninth_is_busy :
-    (map (λ (g : Guest). map (λ at. long_at g.memory (at + 20)) (0x280 ∷ 0x2a0 ∷ 0x2c0 ∷ 0x2e0 ∷ 0x300 ∷ 0x320 ∷ 0x340 ∷ 0x360 ∷ 0x380 ∷ [])) (run nine).now.guests ≡ (1 ∷ 1 ∷ 1 ∷ 1 ∷ 1 ∷ 1 ∷ 1 ∷ 1 ∷ 2 ∷ []) ∷ [])
-unfolding opening step executed instruction fetched decided decoded_at acted plan_of performed row_of operation_of operands_of operand_of read_operand address_of value_size trap_operands operand_at specifier_at specifier_by after_tick due sensed register_of written accepted walk_of lookup alu_of
+-- the places of the nine, and the statuses there
+abbrev places : List ℕ
+places = 0x280 ∷ 0x2a0 ∷ 0x2c0 ∷ 0x2e0 ∷ 0x300 ∷ 0x320 ∷ 0x340 ∷ 0x360 ∷ 0x380 ∷ []
+
+abbrev statuses_of : Guest → List ℕ
+statuses_of g = map (λ at. long_at g.memory (at + 20)) places
+
+pub ninth_is_busy : map statuses_of (run nine).now.guests ≡ (1 ∷ 1 ∷ 1 ∷ 1 ∷ 1 ∷ 1 ∷ 1 ∷ 1 ∷ 2 ∷ []) ∷ []
+unfolding whole_run
 ninth_is_busy = refl
 
 -- a text of five bytes, with a printer and without one; its status is 1 both times
@@ -92,17 +82,30 @@ pub prints :
     × (map (λ (g : Guest). long_at g.memory (0x280 + 20)) (run (printing (Some 0))).now.guests ≡ 1 ∷ [])
     × (bytes_on 4 (run (printing None)).puts ≡ [])
     × (map (λ (g : Guest). long_at g.memory (0x280 + 20)) (run (printing None)).now.guests ≡ 1 ∷ [])
-unfolding opening step executed instruction fetched decided decoded_at acted plan_of performed row_of operation_of operands_of operand_of read_operand address_of value_size trap_operands operand_at specifier_at specifier_by after_tick due sensed register_of written accepted walk_of lookup alu_of job_text class_text categories_below digits
+unfolding whole_run
 prints = (refl, refl, refl, refl)
 
 -- Each status, in a memory of 1024 bytes, with a volume of one block mounted for reading at unit 1 and for writing at
--- unit 2. What occurs earlier in the order of the tests counts.
-abbrev asked : ℕ → ℕ → ℕ → ℕ → ℕ → Packet
-asked function unit block buffer size = record { function = function; unit = unit; block = block; buffer = buffer; size = size }
+-- unit 2. What comes earlier in the order of the tests counts.
+abbrev asks : (function unit block buffer size : ℕ) → Move
+asks function unit block buffer size =
+    let p : Packet = record { function = function; unit = unit; block = block; buffer = buffer; size = size } in
+    move_of 1024 (([] ∷ []) ∷ []) (None ∷ mounted 0 false ∷ mounted 0 true ∷ None ∷ []) p
 
 pub statuses :
-    (map (move_of 1024 (([] ∷ []) ∷ []) (None ∷ mounted 0 false ∷ mounted 0 true ∷ None ∷ [])) (
-    asked 0 0 0 0 0 ∷ asked 4 0 0 0 0 ∷ asked 1 3 0 0 0 ∷ asked 1 4 0 0 0 ∷ asked 2 0 9 2000 0 ∷ asked 2 1 9 2000 0 ∷ asked 1 1 1 2000 0 ∷ asked 2 2 1 2000 0 ∷
-    asked 1 1 0 513 0 ∷ asked 1 1 0 512 0 ∷ asked 2 2 0 512 0 ∷ asked 3 9 9 1024 0 ∷ asked 3 0 0 1024 1 ∷ asked 3 0 0 0 133 ∷ asked 3 0 0 892 132 ∷ [])
-    ≡ Refused 7 ∷ Refused 7 ∷ Refused 3 ∷ Refused 3 ∷ Refused 3 ∷ Refused 4 ∷ Refused 5 ∷ Refused 5 ∷ Refused 6 ∷ Reads 0 ∷ Writes 0 ∷ Prints ∷ Refused 6 ∷ Refused 6 ∷ Prints ∷ [])
-statuses = refl
+    (asks 0 0 0 0 0 ≡ Refused 7)
+    × (asks 4 0 0 0 0 ≡ Refused 7)
+    × (asks 1 3 0 0 0 ≡ Refused 3)
+    × (asks 1 4 0 0 0 ≡ Refused 3)
+    × (asks 2 0 9 2000 0 ≡ Refused 3)
+    × (asks 2 1 9 2000 0 ≡ Refused 4)
+    × (asks 1 1 1 2000 0 ≡ Refused 5)
+    × (asks 2 2 1 2000 0 ≡ Refused 5)
+    × (asks 1 1 0 513 0 ≡ Refused 6)
+    × (asks 1 1 0 512 0 ≡ Reads 0)
+    × (asks 2 2 0 512 0 ≡ Writes 0)
+    × (asks 3 9 9 1024 0 ≡ Prints)
+    × (asks 3 0 0 1024 1 ≡ Refused 6)
+    × (asks 3 0 0 0 133 ≡ Refused 6)
+    × (asks 3 0 0 892 132 ≡ Prints)
+statuses = (refl, refl, refl, refl, refl, refl, refl, refl, refl, refl, refl, refl, refl, refl, refl)

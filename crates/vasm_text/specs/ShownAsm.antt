@@ -1,7 +1,9 @@
 -- Worked examples of assembling, by computation.
-use Rattle.std.specs.Prelude.{◌≡◌, refl, ℕ, zero, suc, List, ◌++◌, Ok, Err, [], ◌∷◌, codes}
+use Rattle.std.specs.Prelude.{◌≡◌, refl, ℕ, zero, suc, List, ◌++◌, Result, Ok, Err, [], ◌∷◌, codes}
 use Rattle.vax_table.specs.Rows.{row_of}
 use Rattle.vax_table.specs.Spelled.{value_size, spelled_specifier, spelled}
+use Rattle.vasm_text.specs.declared.fault.AsmFault.{AsmFault}
+use Rattle.vasm_text.specs.declared.fault.AsmKind.{AsmKind}
 use Rattle.vasm_text.specs.declared.fault.AsmKind.TheVariants.{BadLine, TwiceNamed, NoName, OutOfReach}
 use Rattle.vasm_text.specs.Mnemonics.{mnemonic_of, opcode_of}
 use Rattle.vasm_text.specs.Numbers.{number_in, field_in, register_in}
@@ -9,257 +11,186 @@ use Rattle.vasm_text.specs.Operands.{closed_in, literal_in, displaced_in, displa
 use Rattle.vasm_text.specs.Statements.{forms_of, words_in, statement_in, content_in, line_in}
 use Rattle.vasm_text.specs.Asm.{statement_size, resolved, statement_bytes, asm_of}
 
-pub a_loop : asm_of (codes "L: DECL R0\nBNEQ L\n") ≡ Ok (0xd7 ∷ 0x50 ∷ 0x12 ∷ 0xfc ∷ [])
-unfolding asm_of statement_bytes resolved statement_size line_in content_in statement_in words_in forms_of operand_in value_in specifier_in direct_in deferred_in displacement_in displaced_in literal_in closed_in register_in field_in number_in opcode_of mnemonic_of row_of spelled spelled_specifier value_size
-a_loop = refl
+-- Assembling with all that it computes with: the examples unfold this one name.
+whole_asm : List ℕ → Result (List ℕ) AsmFault
+unfolding
+    asm_of statement_bytes resolved statement_size line_in content_in statement_in words_in forms_of
+    operand_in value_in specifier_in direct_in deferred_in displacement_in displaced_in literal_in closed_in
+    register_in field_in number_in opcode_of mnemonic_of row_of spelled spelled_specifier value_size
+whole_asm text = asm_of text
 
-pub a_literal : asm_of (codes "MOVL S^#1,R0\nHALT\n") ≡ Ok (0xd0 ∷ 0x01 ∷ 0x50 ∷ 0x00 ∷ [])
-unfolding asm_of statement_bytes resolved statement_size line_in content_in statement_in words_in forms_of operand_in value_in specifier_in direct_in deferred_in displacement_in displaced_in literal_in closed_in register_in field_in number_in opcode_of mnemonic_of row_of spelled spelled_specifier value_size
-a_literal = refl
+-- a text's bytes
+abbrev pub Gives : (text bytes : List ℕ) → Type 0
+Gives text bytes = asm_of text ≡ Ok bytes
 
-pub no_end_of_the_last_line : asm_of (codes "HALT") ≡ Ok (0x00 ∷ [])
-unfolding asm_of statement_bytes resolved statement_size line_in content_in statement_in words_in forms_of operand_in value_in specifier_in direct_in deferred_in displacement_in displaced_in literal_in closed_in register_in field_in number_in opcode_of mnemonic_of row_of spelled spelled_specifier value_size
-no_end_of_the_last_line = refl
+-- a text is refused for a line, or for the one that it has
+abbrev pub Fails : List ℕ → (line : ℕ) → AsmKind → Type 0
+Fails text line kind = asm_of text ≡ Err (record { line = line; kind = kind })
 
-pub nothing : asm_of (codes "") ≡ Ok ([])
-unfolding asm_of statement_bytes resolved statement_size line_in content_in statement_in words_in forms_of operand_in value_in specifier_in direct_in deferred_in displacement_in displaced_in literal_in closed_in register_in field_in number_in opcode_of mnemonic_of row_of spelled spelled_specifier value_size
-nothing = refl
+abbrev pub IsBad : List ℕ → Type 0
+IsBad text = Fails text 1 BadLine
 
--- blanks (the second is a tab) at both ends don't count, and a comment begins anywhere
-pub empty_lines_and_comments : asm_of (codes "; all\n\n \tNOP \t; one\nA:;two\n") ≡ Ok (0x01 ∷ [])
-unfolding asm_of statement_bytes resolved statement_size line_in content_in statement_in words_in forms_of operand_in value_in specifier_in direct_in deferred_in displacement_in displaced_in literal_in closed_in register_in field_in number_in opcode_of mnemonic_of row_of spelled spelled_specifier value_size
-empty_lines_and_comments = refl
+-- each directive; A's address is 200 and the 11 bytes before it
+abbrev field_text : List ℕ
+field_text = codes ".byte 255\n.word ^X1234\n.long 4294967295\n.long A\nA: .byte ^X00000000000000FE\n"
 
-pub a_carriage_return_goes : asm_of (codes "NOP\r\nNOP\n") ≡ Ok (0x01 ∷ 0x01 ∷ [])
-unfolding asm_of statement_bytes resolved statement_size line_in content_in statement_in words_in forms_of operand_in value_in specifier_in direct_in deferred_in displacement_in displaced_in literal_in closed_in register_in field_in number_in opcode_of mnemonic_of row_of spelled spelled_specifier value_size
-a_carriage_return_goes = refl
+abbrev field_bytes : List ℕ
+field_bytes = 0xff ∷ 0x34 ∷ 0x12 ∷ 0xff ∷ 0xff ∷ 0xff ∷ 0xff ∷ 0x0b ∷ 0x02 ∷ 0x00 ∷ 0x00 ∷ 0xfe ∷ []
 
--- a field, the lowest byte first; the label's address is 200 and the 11 bytes before it
-pub fields : asm_of (codes ".byte 255\n.word ^X1234\n.long 4294967295\n.long A\nA: .byte ^X00000000000000FE\n") ≡ Ok (0xff ∷ 0x34 ∷ 0x12 ∷ 0xff ∷ 0xff ∷ 0xff ∷ 0xff ∷ 0x0b ∷ 0x02 ∷ 0x00 ∷ 0x00 ∷ 0xfe ∷ [])
-unfolding asm_of statement_bytes resolved statement_size line_in content_in statement_in words_in forms_of operand_in value_in specifier_in direct_in deferred_in displacement_in displaced_in literal_in closed_in register_in field_in number_in opcode_of mnemonic_of row_of spelled spelled_specifier value_size
-fields = refl
+-- whole texts
+pub texts :
+    -- a loop
+    Gives (codes "L: DECL R0\nBNEQ L\n") (0xd7 ∷ 0x50 ∷ 0x12 ∷ 0xfc ∷ [])
+    -- no end of the last line
+    × Gives (codes "HALT") (0x00 ∷ [])
+    × Gives (codes "") []
+    -- blanks (the second is a tab) at both ends don't count, and a comment begins anywhere
+    × Gives (codes "; all\n\n \tNOP \t; one\nA:;two\n") (0x01 ∷ [])
+    -- a carriage return goes
+    × Gives (codes "NOP\r\nNOP\n") (0x01 ∷ 0x01 ∷ [])
+    -- a field, the lowest byte first
+    × Gives field_text field_bytes
+    × Gives (codes "WAIT\nXFC\n") (0xfd ∷ 0x01 ∷ 0xfc ∷ [])
+    -- a label with the name of a mnemonic, and one on the last line
+    × Gives (codes "NOP: BRB NOP\n") (0x11 ∷ 0xfe ∷ [])
+    × Gives (codes "BRB Z\nZ:") (0x11 ∷ 0x00 ∷ [])
+    -- a raw branch
+    × Gives (codes "BRB ^XFE\nBRW 65535\n") (0x11 ∷ 0xfe ∷ 0x31 ∷ 0xff ∷ 0xff ∷ [])
+unfolding whole_asm
+texts = (refl, refl, refl, refl, refl, refl, refl, refl, refl, refl)
 
-pub registers : asm_of (codes "MOVL R0,R11\nMOVL R12,AP\nMOVL R13,FP\nMOVL R14,SP\n") ≡ Ok (0xd0 ∷ 0x50 ∷ 0x5b ∷ 0xd0 ∷ 0x5c ∷ 0x5c ∷ 0xd0 ∷ 0x5d ∷ 0x5d ∷ 0xd0 ∷ 0x5e ∷ 0x5e ∷ [])
-unfolding asm_of statement_bytes resolved statement_size line_in content_in statement_in words_in forms_of operand_in value_in specifier_in direct_in deferred_in displacement_in displaced_in literal_in closed_in register_in field_in number_in opcode_of mnemonic_of row_of spelled spelled_specifier value_size
-registers = refl
+-- all register numbers that have a name beside it
+abbrev register_text : List ℕ
+register_text = codes "MOVL R0,R11\nMOVL R12,AP\nMOVL R13,FP\nMOVL R14,SP\n"
 
-pub register_modes : asm_of (codes "ADDL3 (R1),-(R2),(R3)+\nPUSHL @(SP)+\n") ≡ Ok (0xc1 ∷ 0x61 ∷ 0x72 ∷ 0x83 ∷ 0xdd ∷ 0x9e ∷ [])
-unfolding asm_of statement_bytes resolved statement_size line_in content_in statement_in words_in forms_of operand_in value_in specifier_in direct_in deferred_in displacement_in displaced_in literal_in closed_in register_in field_in number_in opcode_of mnemonic_of row_of spelled spelled_specifier value_size
-register_modes = refl
+abbrev register_bytes : List ℕ
+register_bytes = 0xd0 ∷ 0x50 ∷ 0x5b ∷ 0xd0 ∷ 0x5c ∷ 0x5c ∷ 0xd0 ∷ 0x5d ∷ 0x5d ∷ 0xd0 ∷ 0x5e ∷ 0x5e ∷ []
 
-pub immediate_and_absolute : asm_of (codes "MOVW I^#300,@#^X00001000\n") ≡ Ok (0xb0 ∷ 0x8f ∷ 0x2c ∷ 0x01 ∷ 0x9f ∷ 0x00 ∷ 0x10 ∷ 0x00 ∷ 0x00 ∷ [])
-unfolding asm_of statement_bytes resolved statement_size line_in content_in statement_in words_in forms_of operand_in value_in specifier_in direct_in deferred_in displacement_in displaced_in literal_in closed_in register_in field_in number_in opcode_of mnemonic_of row_of spelled spelled_specifier value_size
-immediate_and_absolute = refl
+-- each displacement, and each deferred
+abbrev displacement_text : List ℕ
+displacement_text = codes "ADDL3 B^1(R0),W^2(R1),L^3(AP)\nADDL3 @B^255(R2),@W^^XFFFE(R3),@L^5(PC)\n"
 
--- the displacement is the raw field
-pub displacements : asm_of (codes "ADDL3 B^1(R0),W^2(R1),L^3(AP)\nADDL3 @B^255(R2),@W^^XFFFE(R3),@L^5(PC)\n") ≡ Ok (0xc1 ∷ 0xa0 ∷ 0x01 ∷ 0xc1 ∷ 0x02 ∷ 0x00 ∷ 0xec ∷ 0x03 ∷ 0x00 ∷ 0x00 ∷ 0x00 ∷ 0xc1 ∷ 0xb2 ∷ 0xff ∷ 0xd3 ∷ 0xfe ∷ 0xff ∷ 0xff ∷ 0x05 ∷ 0x00 ∷ 0x00 ∷ 0x00 ∷ [])
-unfolding asm_of statement_bytes resolved statement_size line_in content_in statement_in words_in forms_of operand_in value_in specifier_in direct_in deferred_in displacement_in displaced_in literal_in closed_in register_in field_in number_in opcode_of mnemonic_of row_of spelled spelled_specifier value_size
-displacements = refl
+abbrev displacement_bytes : List ℕ
+displacement_bytes =
+    0xc1 ∷ 0xa0 ∷ 0x01 ∷ 0xc1 ∷ 0x02 ∷ 0x00 ∷ 0xec ∷ 0x03 ∷ 0x00 ∷ 0x00 ∷ 0x00
+    ∷ 0xc1 ∷ 0xb2 ∷ 0xff ∷ 0xd3 ∷ 0xfe ∷ 0xff ∷ 0xff ∷ 0x05 ∷ 0x00 ∷ 0x00 ∷ 0x00 ∷ []
 
-pub indices : asm_of (codes "MOVL (R1)[R2],B^4(R3)[AP]\nMOVAL @#0[R0],-(SP)[R14]\n") ≡ Ok (0xd0 ∷ 0x42 ∷ 0x61 ∷ 0x4c ∷ 0xa3 ∷ 0x04 ∷ 0xde ∷ 0x40 ∷ 0x9f ∷ 0x00 ∷ 0x00 ∷ 0x00 ∷ 0x00 ∷ 0x4e ∷ 0x7e ∷ [])
-unfolding asm_of statement_bytes resolved statement_size line_in content_in statement_in words_in forms_of operand_in value_in specifier_in direct_in deferred_in displacement_in displaced_in literal_in closed_in register_in field_in number_in opcode_of mnemonic_of row_of spelled spelled_specifier value_size
-indices = refl
+abbrev index_text : List ℕ
+index_text = codes "MOVL (R1)[R2],B^4(R3)[AP]\nMOVAL @#0[R0],-(SP)[R14]\n"
+
+abbrev index_bytes : List ℕ
+index_bytes =
+    0xd0 ∷ 0x42 ∷ 0x61 ∷ 0x4c ∷ 0xa3 ∷ 0x04 ∷ 0xde ∷ 0x40 ∷ 0x9f ∷ 0x00 ∷ 0x00 ∷ 0x00 ∷ 0x00 ∷ 0x4e ∷ 0x7e ∷ []
 
 -- 200 minus the address after each specifier: 203, 206 and 20C
-pub relative : asm_of (codes "A: MOVL B^A,W^A\nMOVAL @L^A,R0\n") ≡ Ok (0xd0 ∷ 0xaf ∷ 0xfd ∷ 0xcf ∷ 0xfa ∷ 0xff ∷ 0xde ∷ 0xff ∷ 0xf4 ∷ 0xff ∷ 0xff ∷ 0xff ∷ 0x50 ∷ [])
-unfolding asm_of statement_bytes resolved statement_size line_in content_in statement_in words_in forms_of operand_in value_in specifier_in direct_in deferred_in displacement_in displaced_in literal_in closed_in register_in field_in number_in opcode_of mnemonic_of row_of spelled spelled_specifier value_size
-relative = refl
+abbrev relative_bytes : List ℕ
+relative_bytes = 0xd0 ∷ 0xaf ∷ 0xfd ∷ 0xcf ∷ 0xfa ∷ 0xff ∷ 0xde ∷ 0xff ∷ 0xf4 ∷ 0xff ∷ 0xff ∷ 0xff ∷ 0x50 ∷ []
 
-pub wait : asm_of (codes "WAIT\nXFC\n") ≡ Ok (0xfd ∷ 0x01 ∷ 0xfc ∷ [])
-unfolding asm_of statement_bytes resolved statement_size line_in content_in statement_in words_in forms_of operand_in value_in specifier_in direct_in deferred_in displacement_in displaced_in literal_in closed_in register_in field_in number_in opcode_of mnemonic_of row_of spelled spelled_specifier value_size
-wait = refl
+-- operands
+pub operands :
+    Gives (codes "MOVL S^#1,R0\nHALT\n") (0xd0 ∷ 0x01 ∷ 0x50 ∷ 0x00 ∷ [])
+    × Gives register_text register_bytes
+    × Gives (codes "ADDL3 (R1),-(R2),(R3)+\nPUSHL @(SP)+\n") (0xc1 ∷ 0x61 ∷ 0x72 ∷ 0x83 ∷ 0xdd ∷ 0x9e ∷ [])
+    × Gives (codes "MOVW I^#300,@#^X00001000\n") (0xb0 ∷ 0x8f ∷ 0x2c ∷ 0x01 ∷ 0x9f ∷ 0x00 ∷ 0x10 ∷ 0x00 ∷ 0x00 ∷ [])
+    -- the displacement is the raw field
+    × Gives displacement_text displacement_bytes
+    × Gives index_text index_bytes
+    × Gives (codes "A: MOVL B^A,W^A\nMOVAL @L^A,R0\n") relative_bytes
+unfolding whole_asm
+operands = (refl, refl, refl, refl, refl, refl, refl)
 
-pub the_name_of_a_mnemonic : asm_of (codes "NOP: BRB NOP\n") ≡ Ok (0x11 ∷ 0xfe ∷ [])
-unfolding asm_of statement_bytes resolved statement_size line_in content_in statement_in words_in forms_of operand_in value_in specifier_in direct_in deferred_in displacement_in displaced_in literal_in closed_in register_in field_in number_in opcode_of mnemonic_of row_of spelled spelled_specifier value_size
-the_name_of_a_mnemonic = refl
+-- operands that are refused
+pub bad_operands :
+    -- a literal of 64, and one that is written
+    IsBad (codes "MOVL S^#64,R0")
+    × IsBad (codes "MOVL R0,S^#1")
+    -- the address of a register
+    × IsBad (codes "MOVAL R0,R1")
+    -- a quadword in SP
+    × IsBad (codes "MOVQ SP,R0")
+    -- PC as a register, deferred, decremented, incremented, incremented and deferred, and as an index
+    × IsBad (codes "MOVL PC,R0")
+    × IsBad (codes "MOVL (PC),R0")
+    × IsBad (codes "MOVL -(PC),R0")
+    × IsBad (codes "MOVL (PC)+,R0")
+    × IsBad (codes "MOVL @(PC)+,R0")
+    × IsBad (codes "MOVL (R0)[PC],R0")
+    -- an index over a literal, a register, an immediate and an index
+    × IsBad (codes "MOVL S^#1[R0],R0")
+    × IsBad (codes "MOVL R1[R0],R0")
+    × IsBad (codes "MOVL I^#1[R0],R0")
+    × IsBad (codes "MOVL (R1)[R0][R0],R0")
+unfolding whole_asm
+bad_operands = (refl, refl, refl, refl, refl, refl, refl, refl, refl, refl, refl, refl, refl, refl)
 
-pub a_raw_branch : asm_of (codes "BRB ^XFE\nBRW 65535\n") ≡ Ok (0x11 ∷ 0xfe ∷ 0x31 ∷ 0xff ∷ 0xff ∷ [])
-unfolding asm_of statement_bytes resolved statement_size line_in content_in statement_in words_in forms_of operand_in value_in specifier_in direct_in deferred_in displacement_in displaced_in literal_in closed_in register_in field_in number_in opcode_of mnemonic_of row_of spelled spelled_specifier value_size
-a_raw_branch = refl
+-- fields that are refused
+pub bad_fields :
+    -- too great for a byte
+    Fails (codes "NOP\n.byte 256") 2 BadLine
+    -- too many digits, none, small ones, and a needless zero
+    × IsBad (codes ".byte ^X00000000000000001")
+    × IsBad (codes ".byte ^X")
+    × IsBad (codes ".byte ^Xff")
+    × IsBad (codes ".byte 01")
+    -- a name in a byte
+    × IsBad (codes "A: .byte A")
+unfolding whole_asm
+bad_fields = (refl, refl, refl, refl, refl, refl)
 
-pub a_label_on_the_last_line : asm_of (codes "BRB Z\nZ:") ≡ Ok (0x11 ∷ 0x00 ∷ [])
-unfolding asm_of statement_bytes resolved statement_size line_in content_in statement_in words_in forms_of operand_in value_in specifier_in direct_in deferred_in displacement_in displaced_in literal_in closed_in register_in field_in number_in opcode_of mnemonic_of row_of spelled spelled_specifier value_size
-a_label_on_the_last_line = refl
+-- lines that are refused
+pub bad_lines :
+    -- two blanks, also after a label, or none there, or one after a comma
+    IsBad (codes "MOVL  R0,R1")
+    × IsBad (codes "A:  NOP")
+    × IsBad (codes "A:NOP")
+    × IsBad (codes "MOVL R0, R1")
+    -- a small mnemonic, and an unknown one
+    × IsBad (codes "movl R0,R1")
+    × IsBad (codes "ASHQ R0,R1,R2")
+    -- too few operands, too many, some where there are none, and none
+    × IsBad (codes "MOVL R0")
+    × IsBad (codes "CLRL R0,R1")
+    × IsBad (codes "HALT R0")
+    × IsBad (codes "CLRL")
+    -- a label that is no name, and one of nine
+    × IsBad (codes "1A: NOP")
+    × IsBad (codes "ABCDEFGHI: NOP")
+    -- a carriage return at the end of the last line
+    × Fails (codes "NOP\nNOP\r") 2 BadLine
+unfolding whole_asm
+bad_lines = (refl, refl, refl, refl, refl, refl, refl, refl, refl, refl, refl, refl, refl)
 
-pub a_literal_of_64 : asm_of (codes "MOVL S^#64,R0") ≡ Err (record { line = 1; kind = BadLine })
-unfolding asm_of statement_bytes resolved statement_size line_in content_in statement_in words_in forms_of operand_in value_in specifier_in direct_in deferred_in displacement_in displaced_in literal_in closed_in register_in field_in number_in opcode_of mnemonic_of row_of spelled spelled_specifier value_size
-a_literal_of_64 = refl
+-- names, and which fault comes first
+pub names :
+    Fails (codes "A: NOP\nA: NOP\nA: NOP") 2 TwiceNamed
+    -- a bad line comes before a name, also on a line after it
+    × Fails (codes "A: NOP\nA: NOPE") 2 BadLine
+    × Fails (codes "BRB B\nNOPE") 2 BadLine
+    -- a name of no line
+    × Fails (codes "NOP\nBRB B") 2 NoName
+unfolding whole_asm
+names = (refl, refl, refl, refl)
 
-pub a_literal_written : asm_of (codes "MOVL R0,S^#1") ≡ Err (record { line = 1; kind = BadLine })
-unfolding asm_of statement_bytes resolved statement_size line_in content_in statement_in words_in forms_of operand_in value_in specifier_in direct_in deferred_in displacement_in displaced_in literal_in closed_in register_in field_in number_in opcode_of mnemonic_of row_of spelled spelled_specifier value_size
-a_literal_written = refl
-
-pub an_address_of_a_register : asm_of (codes "MOVAL R0,R1") ≡ Err (record { line = 1; kind = BadLine })
-unfolding asm_of statement_bytes resolved statement_size line_in content_in statement_in words_in forms_of operand_in value_in specifier_in direct_in deferred_in displacement_in displaced_in literal_in closed_in register_in field_in number_in opcode_of mnemonic_of row_of spelled spelled_specifier value_size
-an_address_of_a_register = refl
-
-pub a_quadword_in_sp : asm_of (codes "MOVQ SP,R0") ≡ Err (record { line = 1; kind = BadLine })
-unfolding asm_of statement_bytes resolved statement_size line_in content_in statement_in words_in forms_of operand_in value_in specifier_in direct_in deferred_in displacement_in displaced_in literal_in closed_in register_in field_in number_in opcode_of mnemonic_of row_of spelled spelled_specifier value_size
-a_quadword_in_sp = refl
-
-pub pc_as_register : asm_of (codes "MOVL PC,R0") ≡ Err (record { line = 1; kind = BadLine })
-unfolding asm_of statement_bytes resolved statement_size line_in content_in statement_in words_in forms_of operand_in value_in specifier_in direct_in deferred_in displacement_in displaced_in literal_in closed_in register_in field_in number_in opcode_of mnemonic_of row_of spelled spelled_specifier value_size
-pc_as_register = refl
-
-pub pc_deferred : asm_of (codes "MOVL (PC),R0") ≡ Err (record { line = 1; kind = BadLine })
-unfolding asm_of statement_bytes resolved statement_size line_in content_in statement_in words_in forms_of operand_in value_in specifier_in direct_in deferred_in displacement_in displaced_in literal_in closed_in register_in field_in number_in opcode_of mnemonic_of row_of spelled spelled_specifier value_size
-pc_deferred = refl
-
-pub pc_decremented : asm_of (codes "MOVL -(PC),R0") ≡ Err (record { line = 1; kind = BadLine })
-unfolding asm_of statement_bytes resolved statement_size line_in content_in statement_in words_in forms_of operand_in value_in specifier_in direct_in deferred_in displacement_in displaced_in literal_in closed_in register_in field_in number_in opcode_of mnemonic_of row_of spelled spelled_specifier value_size
-pc_decremented = refl
-
-pub pc_incremented : asm_of (codes "MOVL (PC)+,R0") ≡ Err (record { line = 1; kind = BadLine })
-unfolding asm_of statement_bytes resolved statement_size line_in content_in statement_in words_in forms_of operand_in value_in specifier_in direct_in deferred_in displacement_in displaced_in literal_in closed_in register_in field_in number_in opcode_of mnemonic_of row_of spelled spelled_specifier value_size
-pc_incremented = refl
-
-pub pc_incremented_deferred : asm_of (codes "MOVL @(PC)+,R0") ≡ Err (record { line = 1; kind = BadLine })
-unfolding asm_of statement_bytes resolved statement_size line_in content_in statement_in words_in forms_of operand_in value_in specifier_in direct_in deferred_in displacement_in displaced_in literal_in closed_in register_in field_in number_in opcode_of mnemonic_of row_of spelled spelled_specifier value_size
-pc_incremented_deferred = refl
-
-pub pc_as_index : asm_of (codes "MOVL (R0)[PC],R0") ≡ Err (record { line = 1; kind = BadLine })
-unfolding asm_of statement_bytes resolved statement_size line_in content_in statement_in words_in forms_of operand_in value_in specifier_in direct_in deferred_in displacement_in displaced_in literal_in closed_in register_in field_in number_in opcode_of mnemonic_of row_of spelled spelled_specifier value_size
-pc_as_index = refl
-
-pub an_index_over_a_literal : asm_of (codes "MOVL S^#1[R0],R0") ≡ Err (record { line = 1; kind = BadLine })
-unfolding asm_of statement_bytes resolved statement_size line_in content_in statement_in words_in forms_of operand_in value_in specifier_in direct_in deferred_in displacement_in displaced_in literal_in closed_in register_in field_in number_in opcode_of mnemonic_of row_of spelled spelled_specifier value_size
-an_index_over_a_literal = refl
-
-pub an_index_over_a_register : asm_of (codes "MOVL R1[R0],R0") ≡ Err (record { line = 1; kind = BadLine })
-unfolding asm_of statement_bytes resolved statement_size line_in content_in statement_in words_in forms_of operand_in value_in specifier_in direct_in deferred_in displacement_in displaced_in literal_in closed_in register_in field_in number_in opcode_of mnemonic_of row_of spelled spelled_specifier value_size
-an_index_over_a_register = refl
-
-pub an_index_over_an_immediate : asm_of (codes "MOVL I^#1[R0],R0") ≡ Err (record { line = 1; kind = BadLine })
-unfolding asm_of statement_bytes resolved statement_size line_in content_in statement_in words_in forms_of operand_in value_in specifier_in direct_in deferred_in displacement_in displaced_in literal_in closed_in register_in field_in number_in opcode_of mnemonic_of row_of spelled spelled_specifier value_size
-an_index_over_an_immediate = refl
-
-pub an_index_over_an_index : asm_of (codes "MOVL (R1)[R0][R0],R0") ≡ Err (record { line = 1; kind = BadLine })
-unfolding asm_of statement_bytes resolved statement_size line_in content_in statement_in words_in forms_of operand_in value_in specifier_in direct_in deferred_in displacement_in displaced_in literal_in closed_in register_in field_in number_in opcode_of mnemonic_of row_of spelled spelled_specifier value_size
-an_index_over_an_index = refl
-
-pub too_great_for_a_byte : asm_of (codes "NOP\n.byte 256") ≡ Err (record { line = 2; kind = BadLine })
-unfolding asm_of statement_bytes resolved statement_size line_in content_in statement_in words_in forms_of operand_in value_in specifier_in direct_in deferred_in displacement_in displaced_in literal_in closed_in register_in field_in number_in opcode_of mnemonic_of row_of spelled spelled_specifier value_size
-too_great_for_a_byte = refl
-
-pub too_many_digits : asm_of (codes ".byte ^X00000000000000001") ≡ Err (record { line = 1; kind = BadLine })
-unfolding asm_of statement_bytes resolved statement_size line_in content_in statement_in words_in forms_of operand_in value_in specifier_in direct_in deferred_in displacement_in displaced_in literal_in closed_in register_in field_in number_in opcode_of mnemonic_of row_of spelled spelled_specifier value_size
-too_many_digits = refl
-
-pub no_digits : asm_of (codes ".byte ^X") ≡ Err (record { line = 1; kind = BadLine })
-unfolding asm_of statement_bytes resolved statement_size line_in content_in statement_in words_in forms_of operand_in value_in specifier_in direct_in deferred_in displacement_in displaced_in literal_in closed_in register_in field_in number_in opcode_of mnemonic_of row_of spelled spelled_specifier value_size
-no_digits = refl
-
-pub small_digits : asm_of (codes ".byte ^Xff") ≡ Err (record { line = 1; kind = BadLine })
-unfolding asm_of statement_bytes resolved statement_size line_in content_in statement_in words_in forms_of operand_in value_in specifier_in direct_in deferred_in displacement_in displaced_in literal_in closed_in register_in field_in number_in opcode_of mnemonic_of row_of spelled spelled_specifier value_size
-small_digits = refl
-
-pub a_needless_zero : asm_of (codes ".byte 01") ≡ Err (record { line = 1; kind = BadLine })
-unfolding asm_of statement_bytes resolved statement_size line_in content_in statement_in words_in forms_of operand_in value_in specifier_in direct_in deferred_in displacement_in displaced_in literal_in closed_in register_in field_in number_in opcode_of mnemonic_of row_of spelled spelled_specifier value_size
-a_needless_zero = refl
-
-pub a_name_in_a_byte : asm_of (codes "A: .byte A") ≡ Err (record { line = 1; kind = BadLine })
-unfolding asm_of statement_bytes resolved statement_size line_in content_in statement_in words_in forms_of operand_in value_in specifier_in direct_in deferred_in displacement_in displaced_in literal_in closed_in register_in field_in number_in opcode_of mnemonic_of row_of spelled spelled_specifier value_size
-a_name_in_a_byte = refl
-
-pub two_blanks : asm_of (codes "MOVL  R0,R1") ≡ Err (record { line = 1; kind = BadLine })
-unfolding asm_of statement_bytes resolved statement_size line_in content_in statement_in words_in forms_of operand_in value_in specifier_in direct_in deferred_in displacement_in displaced_in literal_in closed_in register_in field_in number_in opcode_of mnemonic_of row_of spelled spelled_specifier value_size
-two_blanks = refl
-
-pub two_blanks_behind_a_label : asm_of (codes "A:  NOP") ≡ Err (record { line = 1; kind = BadLine })
-unfolding asm_of statement_bytes resolved statement_size line_in content_in statement_in words_in forms_of operand_in value_in specifier_in direct_in deferred_in displacement_in displaced_in literal_in closed_in register_in field_in number_in opcode_of mnemonic_of row_of spelled spelled_specifier value_size
-two_blanks_behind_a_label = refl
-
-pub no_blank_behind_a_label : asm_of (codes "A:NOP") ≡ Err (record { line = 1; kind = BadLine })
-unfolding asm_of statement_bytes resolved statement_size line_in content_in statement_in words_in forms_of operand_in value_in specifier_in direct_in deferred_in displacement_in displaced_in literal_in closed_in register_in field_in number_in opcode_of mnemonic_of row_of spelled spelled_specifier value_size
-no_blank_behind_a_label = refl
-
-pub a_blank_behind_a_comma : asm_of (codes "MOVL R0, R1") ≡ Err (record { line = 1; kind = BadLine })
-unfolding asm_of statement_bytes resolved statement_size line_in content_in statement_in words_in forms_of operand_in value_in specifier_in direct_in deferred_in displacement_in displaced_in literal_in closed_in register_in field_in number_in opcode_of mnemonic_of row_of spelled spelled_specifier value_size
-a_blank_behind_a_comma = refl
-
-pub a_small_mnemonic : asm_of (codes "movl R0,R1") ≡ Err (record { line = 1; kind = BadLine })
-unfolding asm_of statement_bytes resolved statement_size line_in content_in statement_in words_in forms_of operand_in value_in specifier_in direct_in deferred_in displacement_in displaced_in literal_in closed_in register_in field_in number_in opcode_of mnemonic_of row_of spelled spelled_specifier value_size
-a_small_mnemonic = refl
-
-pub an_unknown_mnemonic : asm_of (codes "ASHQ R0,R1,R2") ≡ Err (record { line = 1; kind = BadLine })
-unfolding asm_of statement_bytes resolved statement_size line_in content_in statement_in words_in forms_of operand_in value_in specifier_in direct_in deferred_in displacement_in displaced_in literal_in closed_in register_in field_in number_in opcode_of mnemonic_of row_of spelled spelled_specifier value_size
-an_unknown_mnemonic = refl
-
-pub too_few_operands : asm_of (codes "MOVL R0") ≡ Err (record { line = 1; kind = BadLine })
-unfolding asm_of statement_bytes resolved statement_size line_in content_in statement_in words_in forms_of operand_in value_in specifier_in direct_in deferred_in displacement_in displaced_in literal_in closed_in register_in field_in number_in opcode_of mnemonic_of row_of spelled spelled_specifier value_size
-too_few_operands = refl
-
-pub too_many_operands : asm_of (codes "CLRL R0,R1") ≡ Err (record { line = 1; kind = BadLine })
-unfolding asm_of statement_bytes resolved statement_size line_in content_in statement_in words_in forms_of operand_in value_in specifier_in direct_in deferred_in displacement_in displaced_in literal_in closed_in register_in field_in number_in opcode_of mnemonic_of row_of spelled spelled_specifier value_size
-too_many_operands = refl
-
-pub operands_of_none : asm_of (codes "HALT R0") ≡ Err (record { line = 1; kind = BadLine })
-unfolding asm_of statement_bytes resolved statement_size line_in content_in statement_in words_in forms_of operand_in value_in specifier_in direct_in deferred_in displacement_in displaced_in literal_in closed_in register_in field_in number_in opcode_of mnemonic_of row_of spelled spelled_specifier value_size
-operands_of_none = refl
-
-pub no_operands : asm_of (codes "CLRL") ≡ Err (record { line = 1; kind = BadLine })
-unfolding asm_of statement_bytes resolved statement_size line_in content_in statement_in words_in forms_of operand_in value_in specifier_in direct_in deferred_in displacement_in displaced_in literal_in closed_in register_in field_in number_in opcode_of mnemonic_of row_of spelled spelled_specifier value_size
-no_operands = refl
-
-pub a_label_that_is_no_name : asm_of (codes "1A: NOP") ≡ Err (record { line = 1; kind = BadLine })
-unfolding asm_of statement_bytes resolved statement_size line_in content_in statement_in words_in forms_of operand_in value_in specifier_in direct_in deferred_in displacement_in displaced_in literal_in closed_in register_in field_in number_in opcode_of mnemonic_of row_of spelled spelled_specifier value_size
-a_label_that_is_no_name = refl
-
-pub a_label_of_nine : asm_of (codes "ABCDEFGHI: NOP") ≡ Err (record { line = 1; kind = BadLine })
-unfolding asm_of statement_bytes resolved statement_size line_in content_in statement_in words_in forms_of operand_in value_in specifier_in direct_in deferred_in displacement_in displaced_in literal_in closed_in register_in field_in number_in opcode_of mnemonic_of row_of spelled spelled_specifier value_size
-a_label_of_nine = refl
-
-pub a_return_of_the_last_line : asm_of (codes "NOP\nNOP\r") ≡ Err (record { line = 2; kind = BadLine })
-unfolding asm_of statement_bytes resolved statement_size line_in content_in statement_in words_in forms_of operand_in value_in specifier_in direct_in deferred_in displacement_in displaced_in literal_in closed_in register_in field_in number_in opcode_of mnemonic_of row_of spelled spelled_specifier value_size
-a_return_of_the_last_line = refl
-
-pub a_label_twice : asm_of (codes "A: NOP\nA: NOP\nA: NOP") ≡ Err (record { line = 2; kind = TwiceNamed })
-unfolding asm_of statement_bytes resolved statement_size line_in content_in statement_in words_in forms_of operand_in value_in specifier_in direct_in deferred_in displacement_in displaced_in literal_in closed_in register_in field_in number_in opcode_of mnemonic_of row_of spelled spelled_specifier value_size
-a_label_twice = refl
-
-pub a_bad_line_first : asm_of (codes "A: NOP\nA: NOPE") ≡ Err (record { line = 2; kind = BadLine })
-unfolding asm_of statement_bytes resolved statement_size line_in content_in statement_in words_in forms_of operand_in value_in specifier_in direct_in deferred_in displacement_in displaced_in literal_in closed_in register_in field_in number_in opcode_of mnemonic_of row_of spelled spelled_specifier value_size
-a_bad_line_first = refl
-
-pub a_late_bad_line : asm_of (codes "BRB B\nNOPE") ≡ Err (record { line = 2; kind = BadLine })
-unfolding asm_of statement_bytes resolved statement_size line_in content_in statement_in words_in forms_of operand_in value_in specifier_in direct_in deferred_in displacement_in displaced_in literal_in closed_in register_in field_in number_in opcode_of mnemonic_of row_of spelled spelled_specifier value_size
-a_late_bad_line = refl
-
-pub a_name_of_no_line : asm_of (codes "NOP\nBRB B") ≡ Err (record { line = 2; kind = NoName })
-unfolding asm_of statement_bytes resolved statement_size line_in content_in statement_in words_in forms_of operand_in value_in specifier_in direct_in deferred_in displacement_in displaced_in literal_in closed_in register_in field_in number_in opcode_of mnemonic_of row_of spelled spelled_specifier value_size
-a_name_of_no_line = refl
-
--- ---- a branch over so many NOPs of a byte each
-
+-- a branch over so many NOPs of a byte each
 abbrev nops : ℕ → List ℕ → List ℕ
-nops zero behind = behind
-nops (suc n) behind = codes "NOP\n" ++ nops n behind
+nops zero rest = rest
+nops (suc n) rest = codes "NOP\n" ++ nops n rest
 
 abbrev ones : ℕ → List ℕ
 ones zero = []
 ones (suc n) = 1 ∷ ones n
 
-pub forward_by_127 : asm_of (codes "BRB M\n" ++ nops 127 (codes "M:\n")) ≡ Ok (0x11 ∷ 0x7f ∷ ones 127)
-unfolding asm_of statement_bytes resolved statement_size line_in content_in statement_in words_in forms_of operand_in value_in specifier_in direct_in deferred_in displacement_in displaced_in literal_in closed_in register_in field_in number_in opcode_of mnemonic_of row_of spelled spelled_specifier value_size
-forward_by_127 = refl
-
-pub forward_by_128 : asm_of (codes "BRB M\n" ++ nops 128 (codes "M:\n")) ≡ Err (record { line = 1; kind = OutOfReach })
-unfolding asm_of statement_bytes resolved statement_size line_in content_in statement_in words_in forms_of operand_in value_in specifier_in direct_in deferred_in displacement_in displaced_in literal_in closed_in register_in field_in number_in opcode_of mnemonic_of row_of spelled spelled_specifier value_size
-forward_by_128 = refl
-
-pub back_by_128 : asm_of (codes "M:\n" ++ nops 126 (codes "BRB M")) ≡ Ok (ones 126 ++ (0x11 ∷ 0x80 ∷ []))
-unfolding asm_of statement_bytes resolved statement_size line_in content_in statement_in words_in forms_of operand_in value_in specifier_in direct_in deferred_in displacement_in displaced_in literal_in closed_in register_in field_in number_in opcode_of mnemonic_of row_of spelled spelled_specifier value_size
-back_by_128 = refl
-
-pub back_by_129 : asm_of (codes "M:\n" ++ nops 127 (codes "BRB M")) ≡ Err (record { line = 129; kind = OutOfReach })
-unfolding asm_of statement_bytes resolved statement_size line_in content_in statement_in words_in forms_of operand_in value_in specifier_in direct_in deferred_in displacement_in displaced_in literal_in closed_in register_in field_in number_in opcode_of mnemonic_of row_of spelled spelled_specifier value_size
-back_by_129 = refl
-
-pub a_word_reaches_further : asm_of (codes "BRW M\n" ++ nops 128 (codes "M:\n")) ≡ Ok (0x31 ∷ 0x80 ∷ 0 ∷ ones 128)
-unfolding asm_of statement_bytes resolved statement_size line_in content_in statement_in words_in forms_of operand_in value_in specifier_in direct_in deferred_in displacement_in displaced_in literal_in closed_in register_in field_in number_in opcode_of mnemonic_of row_of spelled spelled_specifier value_size
-a_word_reaches_further = refl
-
--- M is out of reach, and N labels no line
-pub a_name_before_the_reach : asm_of (codes "MOVL B^M,B^N\n" ++ nops 128 (codes "M:\n")) ≡ Err (record { line = 1; kind = NoName })
-unfolding asm_of statement_bytes resolved statement_size line_in content_in statement_in words_in forms_of operand_in value_in specifier_in direct_in deferred_in displacement_in displaced_in literal_in closed_in register_in field_in number_in opcode_of mnemonic_of row_of spelled spelled_specifier value_size
-a_name_before_the_reach = refl
+-- a branch's reach
+pub reach :
+    -- forward by 127 and 128
+    Gives (codes "BRB M\n" ++ nops 127 (codes "M:\n")) (0x11 ∷ 0x7f ∷ ones 127)
+    × Fails (codes "BRB M\n" ++ nops 128 (codes "M:\n")) 1 OutOfReach
+    -- back by 128 and 129
+    × Gives (codes "M:\n" ++ nops 126 (codes "BRB M")) (ones 126 ++ (0x11 ∷ 0x80 ∷ []))
+    × Fails (codes "M:\n" ++ nops 127 (codes "BRB M")) 129 OutOfReach
+    -- a word reaches further
+    × Gives (codes "BRW M\n" ++ nops 128 (codes "M:\n")) (0x31 ∷ 0x80 ∷ 0 ∷ ones 128)
+    -- M is out of reach, and N labels no line: a name comes first
+    × Fails (codes "MOVL B^M,B^N\n" ++ nops 128 (codes "M:\n")) 1 NoName
+unfolding whole_asm
+reach = (refl, refl, refl, refl, refl, refl)

@@ -1,20 +1,12 @@
 -- Worked examples of the places that are read, by computation, on the machine of `ShownReal`: system and P0 tables of 8
 -- entries, at 0 and 80, map each page to the frame of its number; code is at 200. Numbers are hexadecimal.
 use Rattle.std.specs.Prelude.{◌≡◌, refl, ℕ, List, [], ◌∷◌, ◌++◌}
-use Rattle.vax_arch.specs.Walk.{granted, lookup, mapped_entry, process_entry, system_entry}
-use Rattle.vax_hw.specs.Machine.{tables_of}
-use Rattle.vax_hw.specs.RealTables.{place_in, real_look}
-use Rattle.vax_hw.specs.ShownReal.{machine_of, memory_of, probes, reads, with_longs, world_of, writes}
+use Rattle.vax_arch.specs.Walk.{lookup, mapped_entry, process_entry, system_entry}
+use Rattle.vax_hw.specs.Machine.{Machine, tables_of}
+use Rattle.vax_hw.specs.RealTables.{real_look}
+use Rattle.vax_hw.specs.ShownReal.{machine_of, memory_of, probes, reads, whole_run, with_longs, world_of, writes}
 use Rattle.vax_hw.specs.declared.world.World.{World}
 use Rattle.vax_laws.specs.Reads.{longs_walked, mapping_of, places_read}
-use Rattle.vax_table.specs.Fetch.{decided, fetched}
-use Rattle.vax_table.specs.Operand.{address_of, address_operand, base_address, modified_operand, operand_of, operands_of, read_operand, trap_operands, written_operand}
-use Rattle.vax_table.specs.Operations.{operation_of}
-use Rattle.vax_table.specs.Plan.{performed, plan_of}
-use Rattle.vax_table.specs.Reading.{decoded_at, indexed_at, operand_at, specifier_at, specifier_by}
-use Rattle.vax_table.specs.Rows.{row_of}
-use Rattle.vax_table.specs.Spelled.{value_size}
-use Rattle.vax_table.specs.Whole.{acted, instruction}
 
 -- the longwords of a walk, with these longwords put at places
 abbrev pub walked : World → List (ℕ × ℕ) → ℕ → List ℕ
@@ -56,19 +48,37 @@ abbrev pub bytes_by : List ℕ → List ℕ → List ℕ
 bytes_by walk [] = []
 bytes_by walk (place ∷ places) = walk ++ (place ∷ []) ++ bytes_by walk places
 
+-- MOVL (R1),R3, with R1 400 and these longwords in memory
+abbrev reading : List (ℕ × ℕ) → Machine
+reading longs = machine_of reads longs (world_of 7 0x400 0)
+
+-- HALT, MOVL R0,(R1) over the end of page 1, and PROBER #0,#4,(R1)
+abbrev halting : Machine
+halting = machine_of (0 ∷ []) [] (world_of 7 0x400 0)
+
+abbrev over_end : Machine
+over_end = machine_of writes [] (world_of 7 0x3fe 0)
+
+abbrev probing : Machine
+probing = machine_of probes [] (world_of 7 0x400 0)
+
+-- three bytes of code
+abbrev of_code : List ℕ
+of_code = bytes_by by_page_1 (0x200 ∷ 0x201 ∷ 0x202 ∷ [])
+
 pub places :
-    -- MOVL (R1),R3, with R1 400: three bytes of code, and four of the operand
-    (places_read (machine_of reads [] (world_of 7 0x400 0)) ≡ bytes_by by_page_1 (0x200 ∷ 0x201 ∷ 0x202 ∷ []) ++ bytes_by by_page_2 (0x400 ∷ 0x401 ∷ 0x402 ∷ 0x403 ∷ []))
+    -- the code, and four bytes of the operand
+    (places_read (reading []) ≡ of_code ++ bytes_by by_page_2 (0x400 ∷ 0x401 ∷ 0x402 ∷ 0x403 ∷ []))
     -- where page 2 has frame 3
-    × (places_read (machine_of reads ((0x88, 0xa4000003) ∷ []) (world_of 7 0x400 0)) ≡ bytes_by by_page_1 (0x200 ∷ 0x201 ∷ 0x202 ∷ []) ++ bytes_by by_page_2 (0x600 ∷ 0x601 ∷ 0x602 ∷ 0x603 ∷ []))
+    × (places_read (reading ((0x88, 0xa4000003) ∷ [])) ≡ of_code ++ bytes_by by_page_2 (0x600 ∷ 0x601 ∷ 0x602 ∷ 0x603 ∷ []))
     -- up to the first byte that has trouble: the walk found its entry, which gives no place
-    × (places_read (machine_of reads ((0x88, 0x24000002) ∷ []) (world_of 7 0x400 0)) ≡ bytes_by by_page_1 (0x200 ∷ 0x201 ∷ 0x202 ∷ []) ++ by_page_2)
+    × (places_read (reading ((0x88, 0x24000002) ∷ [])) ≡ of_code ++ by_page_2)
     -- no byte of code, and one, which is refused
-    × (places_read (machine_of reads ((0x84, 0x24000001) ∷ []) (world_of 7 0x400 0)) ≡ by_page_1)
-    × (places_read (machine_of (0 ∷ []) [] (world_of 7 0x400 0)) ≡ bytes_by by_page_1 (0x200 ∷ []))
-    -- MOVL R0,(R1) over the end of page 1, with R1 3FE
-    × (places_read (machine_of writes [] (world_of 7 0x3fe 0)) ≡ bytes_by by_page_1 (0x200 ∷ 0x201 ∷ 0x202 ∷ 0x3fe ∷ 0x3ff ∷ []) ++ bytes_by by_page_2 (0x400 ∷ 0x401 ∷ []))
-    -- PROBER #0,#4,(R1): four bytes of code, and the walks of 400 and 403
-    × (places_read (machine_of probes [] (world_of 7 0x400 0)) ≡ bytes_by by_page_1 (0x200 ∷ 0x201 ∷ 0x202 ∷ 0x203 ∷ []) ++ by_page_2 ++ by_page_2)
-unfolding places_read place_in real_look lookup mapped_entry process_entry system_entry mapping_of granted instruction fetched decided decoded_at acted plan_of performed row_of operation_of operands_of operand_of read_operand modified_operand written_operand address_operand address_of base_address value_size trap_operands operand_at specifier_at specifier_by indexed_at
+    × (places_read (reading ((0x84, 0x24000001) ∷ [])) ≡ by_page_1)
+    × (places_read halting ≡ bytes_by by_page_1 (0x200 ∷ []))
+    -- over the end, with R1 3FE
+    × (places_read over_end ≡ of_code ++ bytes_by by_page_1 (0x3fe ∷ 0x3ff ∷ []) ++ bytes_by by_page_2 (0x400 ∷ 0x401 ∷ []))
+    -- four bytes of code, and the walks of 400 and 403
+    × (places_read probing ≡ of_code ++ bytes_by by_page_1 (0x203 ∷ []) ++ by_page_2 ++ by_page_2)
+unfolding places_read mapping_of whole_run
 places = (refl, refl, refl, refl, refl, refl, refl)

@@ -1,83 +1,125 @@
 -- Worked examples of steps with mapping off, by computation. Numbers are hexadecimal in the comments.
-use Rattle.std.specs.Prelude.{Some, [], refl, slice_index, true, ◌∷◌, ◌≡◌}
-use Rattle.vax_arch.specs.Walk.{granted, lookup, mapped_entry, process_entry, system_entry}
-use Rattle.vax_table.specs.Arithmetic.{alu_of}
-use Rattle.vax_table.specs.Branches.{branched}
-use Rattle.vax_table.specs.Computing.{computed, status_set}
-use Rattle.vax_table.specs.Fetch.{decided, fetched}
-use Rattle.vax_table.specs.Operand.{address_of, address_operand, base_address, bits_operand, branch_operand, modified_operand, operand_of, operands_of, read_operand, trap_operands, written_operand}
-use Rattle.vax_table.specs.Operations.{operation_of}
-use Rattle.vax_table.specs.Plan.{performed, plan_of}
-use Rattle.vax_table.specs.Reading.{decoded_at, indexed_at, operand_at, specifier_at, specifier_by}
-use Rattle.vax_table.specs.Rows.{row_of}
-use Rattle.vax_table.specs.Spelled.{value_size}
-use Rattle.vax_table.specs.Whole.{acted, instruction}
-use Rattle.vm_clock.specs.Clock.{after_iccs_write, after_tick, initial_state}
-use Rattle.vm_state.specs.Contexts.{is_block_reserved, loaded, loads_context, saves_context}
-use Rattle.vm_state.specs.Initiate.{attempt, initiate}
-use Rattle.vm_state.specs.Interrupts.{due}
-use Rattle.vm_state.specs.Packets.{accepted}
-use Rattle.vm_state.specs.Probe.{probe, probed_byte}
-use Rattle.vm_state.specs.Pushes.{push_walked, pushed}
-use Rattle.vm_state.specs.Registers.{read, register_of, written}
-use Rattle.vm_state.specs.Sensitive.{sensed}
-use Rattle.vm_state.specs.ShownSetup.{after, behind_steps, guest_u, kinds, registers, seen, with_clock, with_isp, with_memory, with_psl, with_registers}
-use Rattle.vm_state.specs.Step.{Fault, Idle, Interrupt, Sensitive, Stopped, executed, step}
-use Rattle.vm_state.specs.Translation.{walk_of}
+use Rattle.std.specs.Prelude.{ℕ, Some, List, [], codes, refl, slice_index, true, ◌+◌, ◌∷◌, ◌≡◌}
+use Rattle.vm_clock.specs.Clock.{initial_state}
+use Rattle.vm_state.specs.ShownSetup.{Seen, after, behind_steps, below, guest_u, kinds, seen, whole_step, with_clock, with_isp, with_memory, with_psl, with_register}
+use Rattle.vm_state.specs.State.{Guest}
+use Rattle.vm_state.specs.Step.{Fault, Idle, Interrupt, Sensitive, Stopped, step}
+
+-- with this longword at this offset of the system control block, and this code
+abbrev by_vector : (offset vector : ℕ) → List ℕ → Guest
+by_vector offset vector code = with_memory ((0x4400 + offset, vector) ∷ []) (guest_u code)
+
+-- in user mode, with SP 600
+abbrev in_user : Guest → Guest
+in_user g = with_psl 0x03c00000 (with_register 14 0x600 g)
+
+-- BPT and CHMK #5
+abbrev bpt : List ℕ
+bpt = 0x03 ∷ []
+
+abbrev chmk : List ℕ
+chmk = 0xbc ∷ 0x05 ∷ []
+
+abbrev chmk_of_user : Guest
+chmk_of_user = in_user (guest_u chmk)
+
+-- CHMU #-5 in user mode
+abbrev chmu : Guest
+chmu = in_user (by_vector 0x4c 0x1008 (0xbf ∷ 0x8f ∷ 0xfb ∷ 0xff ∷ []))
+
+-- CHMK (R0)+, with R0 600, on the interrupt stack
+abbrev chmk_on_is : Guest
+chmk_on_is = with_isp 0x2000 (with_psl 0x041f0000 (with_register 14 0x2000 (with_register 0 0x600 (guest_u (0xbc ∷ 0x80 ∷ [])))))
+
+-- MTPR #0,#12 in user mode
+abbrev mtpr_of_user : Guest
+mtpr_of_user = in_user (by_vector 0x10 0x1004 (0xda ∷ 0x00 ∷ 0x12 ∷ []))
+
+-- CHMS #5
+abbrev chms : Guest
+chms = by_vector 0x48 0x1004 (0xbe ∷ 0x05 ∷ [])
+
+-- BPT with a vector that leads to the interrupt stack
+abbrev bpt_to_is : Guest
+bpt_to_is = with_isp 0x2000 (by_vector 0x2c 0x1001 bpt)
+
+-- an exception by vector 1004, with PC and PSL on the stack
+abbrev exception : Seen
+exception = seen Fault 0 0 0x2ff8 0x1004 0 (0x200 ∷ 0 ∷ [])
 
 -- exceptions with mapping off
 pub unmapped :
     -- BPT
-    (after (step (with_memory ((0x442c, 0x00001004) ∷ []) (guest_u (0x03 ∷ [])))) (0x2ff8 ∷ 0x2ffc ∷ []) ≡ seen Fault 0x0 0x0 0x2ff8 0x1004 0x0 (0x200 ∷ 0x0 ∷ []))
-    -- CHMS #5 in kernel mode stays there, by its own vector
-    × (after (step (with_memory ((0x4448, 0x00001004) ∷ []) (guest_u (0xbe ∷ 0x05 ∷ [])))) (0x2ff4 ∷ 0x2ff8 ∷ 0x2ffc ∷ []) ≡ seen Sensitive 0x0 0x0 0x2ff4 0x1004 0x0 (0x5 ∷ 0x202 ∷ 0x0 ∷ []))
-    -- CHMK #5 in user mode: USP is kept
-    × (after (step (with_psl 0x03c00000 (with_registers (registers 0 0 0 0x600 0x200) (guest_u (0xbc ∷ 0x05 ∷ []))))) (0x2ff4 ∷ 0x2ff8 ∷ 0x2ffc ∷ []) ≡ seen Sensitive 0x0 0x0 0x2ff4 0x1000 0xc00000 (0x5 ∷ 0x202 ∷ 0x3c00000 ∷ []))
-    × (slice_index (step (with_psl 0x03c00000 (with_registers (registers 0 0 0 0x600 0x200) (guest_u (0xbc ∷ 0x05 ∷ []))))).guest.state.stacks 3 ≡ 0x600)
-    -- CHMU #-5 in user mode stays on its stack, with its code sign-extended
-    × (after (step (with_memory ((0x444c, 0x00001008) ∷ []) (with_psl 0x03c00000 (with_registers (registers 0 0 0 0x600 0x200) (guest_u (0xbf ∷ 0x8f ∷ 0xfb ∷ 0xff ∷ [])))))) (0x5f4 ∷ 0x5f8 ∷ 0x5fc ∷ []) ≡ seen Sensitive 0x0 0x0 0x5f4 0x1008 0x3c00000 (0xfffffffb ∷ 0x204 ∷ 0x3c00000 ∷ []))
+    (after (step (by_vector 0x2c 0x1004 bpt)) (below 2 0x3000) ≡ exception)
+    -- CHMS in kernel mode stays there, by its own vector
+    × (after (step chms) (below 3 0x3000) ≡ seen Sensitive 0 0 0x2ff4 0x1004 0 (5 ∷ 0x202 ∷ 0 ∷ []))
+    -- CHMK in user mode: USP is kept
+    × (after (step chmk_of_user) (below 3 0x3000) ≡ seen Sensitive 0 0 0x2ff4 0x1000 0x00c00000 (5 ∷ 0x202 ∷ 0x03c00000 ∷ []))
+    × (slice_index (step chmk_of_user).guest.state.stacks 3 ≡ 0x600)
+    -- CHMU in user mode stays on its stack, with its code sign-extended
+    × (after (step chmu) (below 3 0x600) ≡ seen Sensitive 0 0 0x5f4 0x1008 0x03c00000 (0xfffffffb ∷ 0x204 ∷ 0x03c00000 ∷ []))
     -- a vector whose low bits are 2 stops the guest with code 07, and all else stays
-    × (after (step (with_memory ((0x442c, 0x00001002) ∷ []) (guest_u (0x03 ∷ [])))) ([]) ≡ seen Fault 0x0 0x0 0x3000 0x200 0x0 ([]))
-    × ((step (with_memory ((0x442c, 0x00001002) ∷ []) (guest_u (0x03 ∷ [])))).shown ≡ (0x3f ∷ 0x30 ∷ 0x37 ∷ 0x20 ∷ 0x30 ∷ 0x30 ∷ 0x30 ∷ 0x30 ∷ 0x30 ∷ 0x32 ∷ 0x30 ∷ 0x30 ∷ 0x0d ∷ 0x0a ∷ []))
+    × (after (step (by_vector 0x2c 0x1002 bpt)) [] ≡ seen Fault 0 0 0x3000 0x200 0 [])
+    × ((step (by_vector 0x2c 0x1002 bpt)).shown ≡ codes "?07 00000200\r\n")
     -- a vector whose low bits are 1: the interrupt stack, at IPL 31
-    × (after (step (with_memory ((0x442c, 0x00001001) ∷ []) (with_isp 0x2000 (guest_u (0x03 ∷ []))))) (0x1ff8 ∷ 0x1ffc ∷ []) ≡ seen Fault 0x0 0x0 0x1ff8 0x1000 0x41f0000 (0x200 ∷ 0x0 ∷ []))
+    × (after (step bpt_to_is) (below 2 0x2000) ≡ seen Fault 0 0 0x1ff8 0x1000 0x041f0000 (0x200 ∷ 0 ∷ []))
     -- which CHM does not have: it stops the guest with code 07, and is of kind sensitive
-    × ((step (with_memory ((0x4440, 0x00001001) ∷ []) (guest_u (0xbc ∷ 0x05 ∷ [])))).guest.state.halt ≡ Some 7)
-    × ((step (with_memory ((0x4440, 0x00001001) ∷ []) (guest_u (0xbc ∷ 0x05 ∷ [])))).kind ≡ Sensitive)
+    × ((step (by_vector 0x40 0x1001 chmk)).guest.state.halt ≡ Some 7)
+    × ((step (by_vector 0x40 0x1001 chmk)).kind ≡ Sensitive)
     -- CHM on the interrupt stack stops the guest with code 0A, and its operand changed nothing
-    × (after (step (with_isp 0x2000 (with_psl 0x041f0000 (with_registers (registers 0x600 0 0 0x2000 0x200) (guest_u (0xbc ∷ 0x80 ∷ [])))))) ([]) ≡ seen Sensitive 0x600 0x0 0x2000 0x200 0x41f0000 ([]))
-    -- an opcode that no instruction has
-    × (after (step (with_memory ((0x4410, 0x00001004) ∷ []) (guest_u (0xff ∷ [])))) (0x2ff8 ∷ 0x2ffc ∷ []) ≡ seen Fault 0x0 0x0 0x2ff8 0x1004 0x0 (0x200 ∷ 0x0 ∷ []))
+    × (after (step chmk_on_is) [] ≡ seen Sensitive 0x600 0 0x2000 0x200 0x041f0000 [])
+    -- an opcode that there is not
+    × (after (step (by_vector 0x10 0x1004 (0xff ∷ []))) (below 2 0x3000) ≡ exception)
     -- XFC
-    × (after (step (with_memory ((0x4414, 0x00001004) ∷ []) (guest_u (0xfc ∷ [])))) (0x2ff8 ∷ 0x2ffc ∷ []) ≡ seen Fault 0x0 0x0 0x2ff8 0x1004 0x0 (0x200 ∷ 0x0 ∷ []))
+    × (after (step (by_vector 0x14 0x1004 (0xfc ∷ []))) (below 2 0x3000) ≡ exception)
     -- a literal that is written
-    × (after (step (with_memory ((0x441c, 0x00001004) ∷ []) (guest_u (0xd0 ∷ 0x01 ∷ 0x01 ∷ [])))) (0x2ff8 ∷ 0x2ffc ∷ []) ≡ seen Fault 0x0 0x0 0x2ff8 0x1004 0x0 (0x200 ∷ 0x0 ∷ []))
+    × (after (step (by_vector 0x1c 0x1004 (0xd0 ∷ 0x01 ∷ 0x01 ∷ []))) (below 2 0x3000) ≡ exception)
     -- BISPSW of a bit above 7
-    × (after (step (with_memory ((0x4418, 0x00001004) ∷ []) (guest_u (0xb8 ∷ 0x8f ∷ 0x00 ∷ 0x01 ∷ [])))) (0x2ff8 ∷ 0x2ffc ∷ []) ≡ seen Fault 0x0 0x0 0x2ff8 0x1004 0x0 (0x200 ∷ 0x0 ∷ []))
-    -- MTPR in user mode
-    × (after (step (with_memory ((0x4410, 0x00001004) ∷ []) (with_psl 0x03c00000 (with_registers (registers 0 0 0 0x600 0x200) (guest_u (0xda ∷ 0x00 ∷ 0x12 ∷ [])))))) (0x2ff8 ∷ 0x2ffc ∷ []) ≡ seen Fault 0x0 0x0 0x2ff8 0x1004 0xc00000 (0x200 ∷ 0x3c00000 ∷ []))
-unfolding step executed instruction fetched decided decoded_at acted plan_of performed row_of operation_of operands_of operand_of read_operand modified_operand written_operand address_operand branch_operand bits_operand address_of base_address value_size computed alu_of branched trap_operands operand_at specifier_at specifier_by indexed_at lookup mapped_entry process_entry system_entry granted walk_of attempt initiate due push_walked pushed after_tick sensed probe probed_byte loads_context loaded is_block_reserved saves_context register_of read written accepted after_iccs_write status_set
+    × (after (step (by_vector 0x18 0x1004 (0xb8 ∷ 0x8f ∷ 0x00 ∷ 0x01 ∷ []))) (below 2 0x3000) ≡ exception)
+    -- a privileged instruction
+    × (after (step mtpr_of_user) (below 2 0x3000) ≡ seen Fault 0 0 0x2ff8 0x1004 0x00c00000 (0x200 ∷ 0x03c00000 ∷ []))
+unfolding whole_step
 unmapped = (refl, refl, refl, refl, refl, refl, refl, refl, refl, refl, refl, refl, refl, refl, refl, refl)
+
+-- WAIT, with a clock that wraps at the tenth step
+abbrev waits : Guest
+waits =
+    let running = record initial_state { run = true; enable = true; nicr = 0xfffffff6; icr = 0xfffffff6 } in
+    with_clock running (guest_u (0xfd ∷ 0x01 ∷ []))
+
+-- MTPR #3,#SIRR
+abbrev requests : Guest
+requests = by_vector 0x8c 0x1004 (0xda ∷ 0x03 ∷ 0x14 ∷ [])
+
+-- MFPR of MEMSIZE to R0; and of UPTIME after a NOP
+abbrev asks_memory : Guest
+asks_memory = guest_u (0xdb ∷ 0x8f ∷ 0xc9 ∷ 0x00 ∷ 0x00 ∷ 0x00 ∷ 0x50 ∷ [])
+
+abbrev asks_time : Guest
+asks_time = guest_u (0x01 ∷ 0xdb ∷ 0x8f ∷ 0xca ∷ 0x00 ∷ 0x00 ∷ 0x00 ∷ 0x50 ∷ [])
+
+-- HALT
+abbrev halts : Guest
+halts = guest_u (0x00 ∷ [])
 
 -- interrupts and processor registers
 pub registers_and_interrupts :
-    -- WAIT, and the clock wraps at the tenth step: its interrupt pushes the PC after WAIT
-    (after (step (behind_steps 9 (with_clock (record initial_state { run = true; enable = true; nicr = 0xfffffff6; icr = 0xfffffff6 }) (guest_u (0xfd ∷ 0x01 ∷ []))))) (0x2ff8 ∷ 0x2ffc ∷ []) ≡ seen Interrupt 0 0 0x2ff8 0x1000 0x00180000 (0x202 ∷ 0x0 ∷ []))
-    × (kinds 10 (with_clock (record initial_state { run = true; enable = true; nicr = 0xfffffff6; icr = 0xfffffff6 }) (guest_u (0xfd ∷ 0x01 ∷ []))) ≡ Sensitive ∷ Idle ∷ Idle ∷ Idle ∷ Idle ∷ Idle ∷ Idle ∷ Idle ∷ Idle ∷ Interrupt ∷ [])
-    -- MTPR #3,#SIRR, and then its interrupt
-    × (after (step (behind_steps 1 (with_memory ((0x448c, 0x00001004) ∷ []) (guest_u (0xda ∷ 0x03 ∷ 0x14 ∷ []))))) (0x2ff8 ∷ 0x2ffc ∷ []) ≡ seen Interrupt 0 0 0x2ff8 0x1004 0x00030000 (0x203 ∷ 0x0 ∷ []))
-    × ((behind_steps 2 (with_memory ((0x448c, 0x00001004) ∷ []) (guest_u (0xda ∷ 0x03 ∷ 0x14 ∷ [])))).state.sisr ≡ 0)
-    × ((behind_steps 1 (with_memory ((0x448c, 0x00001004) ∷ []) (guest_u (0xda ∷ 0x03 ∷ 0x14 ∷ [])))).state.sisr ≡ 8)
-    -- MFPR of MEMSIZE
-    × (slice_index (behind_steps 1 (guest_u (0xdb ∷ 0x8f ∷ 0xc9 ∷ 0x00 ∷ 0x00 ∷ 0x00 ∷ 0x50 ∷ []))).state.r 0 ≡ 0x8000)
-    -- MFPR of UPTIME after a NOP
-    × (slice_index (behind_steps 2 (guest_u (0x01 ∷ 0xdb ∷ 0x8f ∷ 0xca ∷ 0x00 ∷ 0x00 ∷ 0x00 ∷ 0x50 ∷ []))).state.r 0 ≡ 2)
+    -- the clock's interrupt pushes the PC after WAIT
+    (after (step (behind_steps 9 waits)) (below 2 0x3000) ≡ seen Interrupt 0 0 0x2ff8 0x1000 0x00180000 (0x202 ∷ 0 ∷ []))
+    × (kinds 10 waits ≡ Sensitive ∷ Idle ∷ Idle ∷ Idle ∷ Idle ∷ Idle ∷ Idle ∷ Idle ∷ Idle ∷ Interrupt ∷ [])
+    -- the request, and then its interrupt
+    × (after (step (behind_steps 1 requests)) (below 2 0x3000) ≡ seen Interrupt 0 0 0x2ff8 0x1004 0x00030000 (0x203 ∷ 0 ∷ []))
+    × ((behind_steps 2 requests).state.sisr ≡ 0)
+    × ((behind_steps 1 requests).state.sisr ≡ 8)
+    -- its bytes, and the steps so far
+    × (slice_index (behind_steps 1 asks_memory).state.r 0 ≡ 0x8000)
+    × (slice_index (behind_steps 2 asks_time).state.r 0 ≡ 2)
     -- MTPR of 2 to MAPEN: a reserved operand
-    × (after (step (with_memory ((0x4418, 0x00001004) ∷ []) (guest_u (0xda ∷ 0x02 ∷ 0x38 ∷ [])))) (0x2ff8 ∷ 0x2ffc ∷ []) ≡ seen Fault 0x0 0x0 0x2ff8 0x1004 0x0 (0x200 ∷ 0x0 ∷ []))
-    -- HALT stops the guest, with PC after it
-    × (after (step (guest_u (0x00 ∷ []))) ([]) ≡ seen Sensitive 0x0 0x0 0x3000 0x201 0x0 ([]))
-    -- and a guest that has stopped stays as it is
-    × (kinds 2 (guest_u (0x00 ∷ [])) ≡ Sensitive ∷ Stopped ∷ [])
-    × ((behind_steps 2 (guest_u (0x00 ∷ []))).state.steps ≡ 1)
-unfolding step executed instruction fetched decided decoded_at acted plan_of performed row_of operation_of operands_of operand_of read_operand modified_operand written_operand address_operand branch_operand bits_operand address_of base_address value_size computed alu_of branched trap_operands operand_at specifier_at specifier_by indexed_at lookup mapped_entry process_entry system_entry granted walk_of attempt initiate due push_walked pushed after_tick sensed probe probed_byte loads_context loaded is_block_reserved saves_context register_of read written accepted after_iccs_write status_set
+    × (after (step (by_vector 0x18 0x1004 (0xda ∷ 0x02 ∷ 0x38 ∷ []))) (below 2 0x3000) ≡ exception)
+    -- HALT stops after itself
+    × (after (step halts) [] ≡ seen Sensitive 0 0 0x3000 0x201 0 [])
+    -- and a stopped guest stays as it is
+    × (kinds 2 halts ≡ Sensitive ∷ Stopped ∷ [])
+    × ((behind_steps 2 halts).state.steps ≡ 1)
+unfolding whole_step
 registers_and_interrupts = (refl, refl, refl, refl, refl, refl, refl, refl, refl, refl, refl)

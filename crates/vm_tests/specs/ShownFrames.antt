@@ -1,33 +1,12 @@
 -- Worked examples of the frames that a look-up reads and of those that a step writes, by computation, and of what empties
 -- the sets of present pages. Numbers are hexadecimal in the comments.
 use Rattle.std.specs.Prelude.{ℕ, ◌≡◌, List, [], ◌∷◌, refl, replicate, true, false, Some, None}
-use Rattle.vax_arch.specs.Walk.{Tables, granted, lookup, mapped_entry, process_entry, system_entry}
+use Rattle.vax_arch.specs.Walk.{Tables, lookup, mapped_entry, process_entry, system_entry}
 use Rattle.vax_arch.specs.declared.walk.Lookup.TheVariants.{Beyond, Direct, Fails, Found}
-use Rattle.vax_table.specs.Arithmetic.{alu_of}
-use Rattle.vax_table.specs.Branches.{branched}
-use Rattle.vax_table.specs.Computing.{computed}
-use Rattle.vax_table.specs.Fetch.{decided, fetched}
-use Rattle.vax_table.specs.Operand.{address_of, address_operand, base_address, bits_operand, branch_operand, modified_operand, operand_of, operands_of, read_operand, trap_operands, written_operand}
-use Rattle.vax_table.specs.Operations.{operation_of}
-use Rattle.vax_table.specs.Plan.{performed, plan_of}
-use Rattle.vax_table.specs.Reading.{decoded_at, indexed_at, operand_at, specifier_at, specifier_by}
-use Rattle.vax_table.specs.Rows.{row_of}
-use Rattle.vax_table.specs.Spelled.{value_size}
-use Rattle.vax_table.specs.Whole.{acted, instruction}
-use Rattle.vm_clock.specs.Clock.{after_iccs_write, after_tick}
-use Rattle.vm_state.specs.Contexts.{is_block_reserved, loaded, loads_context, saves_context}
-use Rattle.vm_state.specs.Initiate.{attempt, initiate}
-use Rattle.vm_state.specs.Interrupts.{due}
-use Rattle.vm_state.specs.Packets.{accepted}
-use Rattle.vm_state.specs.Probe.{probe, probed_byte}
-use Rattle.vm_state.specs.Pushes.{push_walked, pushed}
-use Rattle.vm_state.specs.Registers.{read, register_of, written}
-use Rattle.vm_state.specs.Sensitive.{sensed}
-use Rattle.vm_state.specs.ShownSetup.{guest_m, registers, tables_m, with_memory, with_registers, with_tables}
+use Rattle.vm_state.specs.ShownSetup.{guest_m, tables_m, whole_step, with_memory, with_register, with_tables}
 use Rattle.vm_state.specs.State.{Guest, context_of}
-use Rattle.vm_state.specs.Step.{executed, step}
+use Rattle.vm_state.specs.Step.{step}
 use Rattle.vm_state.specs.Touches.{Present, Process, emptied, frames_read, is_overwritten, is_remapped, present_after}
-use Rattle.vm_state.specs.Translation.{walk_of}
 
 -- P0's table is at 280, in frame 1; the system's is in frame 0
 abbrev tables : Tables
@@ -39,7 +18,9 @@ entries = (0x284, 0xa4000001) ∷ (0x28c, 0xa4000003) ∷ (0x290, 0xa4000004) �
 
 -- such a guest with this code at 80000200
 abbrev guest : List ℕ → Guest
-guest code = with_memory entries (with_tables tables (with_registers (registers 0 0x800 0x600 0x80000800 0x80000200) (guest_m code [])))
+guest code =
+    let g = with_register 1 0x800 (with_register 2 0x600 (with_register 15 0x80000200 (guest_m code []))) in
+    with_memory entries (with_tables tables g)
 
 -- present pages of the context that has this P0BR
 abbrev with_pages : ℕ → List ℕ → Process
@@ -55,6 +36,13 @@ behind = record { system = []; processes = with_pages 0x80000080 [] ∷ with_pag
 -- the first system page alone
 abbrev of_system : Present
 of_system = record { system = 0x400000 ∷ []; processes = with_pages 0x80000080 [] ∷ [] }
+
+-- with mapping off; and page 4 is present in that context
+abbrev unmapped : Tables
+unmapped = record tables_m { mapped = false }
+
+abbrev in_unmapped : Present
+in_unmapped = record { system = []; processes = record { context = context_of unmapped; pages = 4 ∷ [] } ∷ [] }
 
 -- which frames' entries a look-up reads
 pub entries_read :
@@ -82,7 +70,7 @@ pub overwritten :
     -- of a system page
     × (is_overwritten (guest []) (0 ∷ []) of_system ≡ true)
     -- with mapping off nothing is read by an entry
-    × (is_overwritten (with_tables (record tables_m { mapped = false }) (guest [])) (0 ∷ 1 ∷ 4 ∷ []) (record { system = []; processes = record { context = context_of (record tables_m { mapped = false }); pages = 4 ∷ [] } ∷ [] }) ≡ false)
+    × (is_overwritten (with_tables unmapped (guest [])) (0 ∷ 1 ∷ 4 ∷ []) in_unmapped ≡ false)
 unfolding lookup mapped_entry process_entry system_entry
 overwritten = (refl, refl, refl, refl, refl, refl, refl, refl)
 
@@ -105,19 +93,33 @@ pub left :
 unfolding lookup mapped_entry process_entry system_entry
 left = (refl, refl, refl)
 
+-- MOVL R0,(R1), BPT, and MFPR #12,(R1) at the end of a page
+abbrev stores : Guest
+stores = guest (0xd0 ∷ 0x50 ∷ 0x61 ∷ [])
+
+abbrev breaks : Guest
+breaks = guest (0x03 ∷ [])
+
+abbrev stores_over_end : Guest
+stores_over_end = with_register 1 0x7fe (with_register 2 0 (guest (0xdb ∷ 0x12 ∷ 0x61 ∷ [])))
+
+-- before each byte pushed to page 3, the frame of its entry
+abbrev with_entries : List ℕ
+with_entries = 0 ∷ 3 ∷ 0 ∷ 3 ∷ 0 ∷ 3 ∷ 0 ∷ 3 ∷ 0 ∷ 3 ∷ 0 ∷ 3 ∷ 0 ∷ 3 ∷ 0 ∷ 3 ∷ []
+
 -- frames that a step writes
 pub frames_written :
-    -- MOVL R0,(R1): the page's own
-    ((step (guest (0xd0 ∷ 0x50 ∷ 0x61 ∷ []))).written ≡ replicate 4 4)
+    -- the page's own
+    ((step stores).written ≡ replicate 4 4)
     -- the same where its modify bit is clear: that of its entry, and nothing else
-    × ((step (with_memory ((0x290, 0xa0000004) ∷ []) (guest (0xd0 ∷ 0x50 ∷ 0x61 ∷ [])))).written ≡ 1 ∷ [])
-    -- BPT: those of the pushed bytes
-    × ((step (guest (0x03 ∷ []))).written ≡ replicate 8 3)
-    -- the same where the modify bit of the stack's page is clear: before each byte's that of its entry
-    × ((step (with_memory ((0x0c, 0xa0000003) ∷ []) (guest (0x03 ∷ [])))).written ≡ 0 ∷ 3 ∷ 0 ∷ 3 ∷ 0 ∷ 3 ∷ 0 ∷ 3 ∷ 0 ∷ 3 ∷ 0 ∷ 3 ∷ 0 ∷ 3 ∷ 0 ∷ 3 ∷ [])
-    -- MFPR #12,(R1) at the end of a page: those of the bytes stored
-    × ((step (with_registers (registers 0 0x7fe 0 0x80000800 0x80000200) (guest (0xdb ∷ 0x12 ∷ 0x61 ∷ [])))).written ≡ 3 ∷ 3 ∷ 4 ∷ 4 ∷ [])
-unfolding step executed instruction fetched decided decoded_at acted plan_of performed row_of operation_of operands_of operand_of read_operand modified_operand written_operand address_operand branch_operand bits_operand address_of base_address value_size computed alu_of branched trap_operands operand_at specifier_at specifier_by indexed_at lookup mapped_entry process_entry system_entry granted walk_of attempt initiate due push_walked pushed after_tick sensed probe probed_byte loads_context loaded is_block_reserved saves_context register_of read written accepted after_iccs_write
+    × ((step (with_memory ((0x290, 0xa0000004) ∷ []) stores)).written ≡ 1 ∷ [])
+    -- those of the pushed bytes
+    × ((step breaks).written ≡ replicate 8 3)
+    -- the same where the modify bit of the stack's page is clear
+    × ((step (with_memory ((0x0c, 0xa0000003) ∷ []) breaks)).written ≡ with_entries)
+    -- those of the bytes stored
+    × ((step stores_over_end).written ≡ 3 ∷ 3 ∷ 4 ∷ 4 ∷ [])
+unfolding whole_step
 frames_written = (refl, refl, refl, refl, refl)
 
 -- with these packets waiting
@@ -127,13 +129,23 @@ with_queue queue g = record g { state = record g.state { queue = queue } }
 abbrev with_block : ℕ → Guest → Guest
 with_block pcbb g = record g { state = record g.state { pcbb = pcbb } }
 
+-- MTPR R2,#KCALL of a packet at 3F0, with so many waiting
+abbrev calls : ℕ → Guest
+calls waiting =
+    let code = 0xda ∷ 0x52 ∷ 0x8f ∷ 0xc8 ∷ 0 ∷ 0 ∷ 0 ∷ [] in
+    with_queue (replicate waiting 0x800) (with_register 1 0 (with_register 2 0x3f0 (guest code)))
+
+-- SVPCTX into a block at 7F8
+abbrev saves : Guest
+saves = with_block 0x7f8 (with_register 1 0 (with_register 2 0 (with_register 14 0x80000600 (guest (0x07 ∷ [])))))
+
 -- frames that the kernel writes at physical places
 pub frames_of_places :
-    -- MTPR R2,#KCALL of a packet at 3F0 that finds eight waiting: that of its status, at 404
-    ((step (with_queue (replicate 8 0x800) (with_registers (registers 0 0 0x3f0 0x80000800 0x80000200) (guest (0xda ∷ 0x52 ∷ 0x8f ∷ 0xc8 ∷ 0 ∷ 0 ∷ 0 ∷ []))))).written ≡ 2 ∷ [])
+    -- one that finds eight waiting: that of its status, at 404
+    ((step (calls 8)).written ≡ 2 ∷ [])
     -- where it is taken, and where it is bad, none
-    × ((step (with_queue (replicate 7 0x800) (with_registers (registers 0 0 0x3f0 0x80000800 0x80000200) (guest (0xda ∷ 0x52 ∷ 0x8f ∷ 0xc8 ∷ 0 ∷ 0 ∷ 0 ∷ []))))).written ≡ [])
-    -- SVPCTX into a block at 7F8: those of its first 20 longwords
-    × ((step (with_block 0x7f8 (with_registers (registers 0 0 0 0x80000600 0x80000200) (guest (0x07 ∷ []))))).written ≡ 3 ∷ 3 ∷ replicate 18 4)
-unfolding step executed instruction fetched decided decoded_at acted plan_of performed row_of operation_of operands_of operand_of read_operand modified_operand written_operand address_operand branch_operand bits_operand address_of base_address value_size computed alu_of branched trap_operands operand_at specifier_at specifier_by indexed_at lookup mapped_entry process_entry system_entry granted walk_of attempt initiate due push_walked pushed after_tick sensed probe probed_byte loads_context loaded is_block_reserved saves_context register_of read written accepted after_iccs_write
+    × ((step (calls 7)).written ≡ [])
+    -- those of the block's first 20 longwords
+    × ((step saves).written ≡ 3 ∷ 3 ∷ replicate 18 4)
+unfolding whole_step
 frames_of_places = (refl, refl, refl)

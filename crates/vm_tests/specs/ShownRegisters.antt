@@ -1,7 +1,7 @@
 -- Worked examples of registers of the processor, by computation: what a write asks for, and bits that are set or clear
 -- already. Numbers are hexadecimal in the comments.
 use Rattle.std.specs.Prelude.{ℕ, ◌≡◌, refl, true, false}
-use Rattle.vm_clock.specs.Clock.{after_iccs_write, iccs_of, initial_state, wraps_next}
+use Rattle.vm_clock.specs.Clock.{ClockState, after_iccs_write, iccs_of, initial_state, wraps_next}
 use Rattle.vm_state.specs.Contexts.{off_interrupt_stack, on_interrupt, on_interrupt_stack}
 use Rattle.vm_state.specs.Registers.{effect_of, with_request}
 use Rattle.vm_state.specs.Sensitive.{returned_to}
@@ -63,13 +63,18 @@ pub levels :
     × ((on_interrupt (record state_u { psl = 0x00050000 })).psl ≡ 0x04050000)
 levels = (refl, refl, refl)
 
+-- a clock at such a count, with its interrupt and error bits set, after a write of ICCS that clears the error
+abbrev cleared_at : ℕ → ClockState
+cleared_at icr =
+    after_iccs_write (record initial_state { interrupt = true; error = true; nicr = 0xffffffff; icr = icr }) 0x80000020
+
 -- the clock
 pub clock :
     -- its error, cleared by bit 31 before the step that wraps with the interrupt bit set, is an error again
-    (iccs_of (after_iccs_write (record initial_state { interrupt = true; error = true; nicr = 0xffffffff; icr = 0xffffffff }) 0x80000020) ≡ 0x80000080)
+    (iccs_of (cleared_at 0xffffffff) ≡ 0x80000080)
     -- cleared, where the step doesn't wrap
-    × (iccs_of (after_iccs_write (record initial_state { interrupt = true; error = true; nicr = 0xffffffff; icr = 7 }) 0x80000020) ≡ 0x80)
-    -- one that has stopped doesn't wrap at the next tick, though its count is at its end
+    × (iccs_of (cleared_at 7) ≡ 0x80)
+    -- one that is stopped doesn't wrap at the next tick, though its count is at its end
     × (wraps_next (record initial_state { run = true; icr = 0xffffffff }) ≡ true)
     × (wraps_next (record initial_state { run = false; icr = 0xffffffff }) ≡ false)
 unfolding after_iccs_write

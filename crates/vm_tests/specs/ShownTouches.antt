@@ -1,37 +1,15 @@
 -- Worked examples of the sets of present pages, by computation: what is added, what is counted, and what stays. Numbers
 -- are hexadecimal in the comments.
-use Rattle.std.specs.Prelude.{ℕ, ◌≡◌, List, [], ◌∷◌, refl, true, false, Ok, Err, Some}
-use Rattle.vax_arch.specs.Walk.{granted, lookup, mapped_entry, process_entry, system_entry}
+use Rattle.std.specs.Prelude.{ℕ, ◌≡◌, List, [], ◌∷◌, refl, true, false, Result, Ok, Err, Some}
 use Rattle.vax_arch.specs.declared.mode.Intent.TheVariants.{Read}
-use Rattle.vax_table.specs.Arithmetic.{alu_of}
-use Rattle.vax_table.specs.Branches.{branched}
-use Rattle.vax_table.specs.Computing.{computed}
-use Rattle.vax_table.specs.Fetch.{decided, fetched}
-use Rattle.vax_table.specs.Operand.{address_of, address_operand, base_address, bits_operand, branch_operand, modified_operand, operand_of, operands_of, read_operand, trap_operands, written_operand}
-use Rattle.vax_table.specs.Operations.{operation_of}
-use Rattle.vax_table.specs.Plan.{performed, plan_of}
-use Rattle.vax_table.specs.Reading.{decoded_at, indexed_at, operand_at, specifier_at, specifier_by}
-use Rattle.vax_table.specs.Rows.{row_of}
-use Rattle.vax_table.specs.Script.{Absent, At, Test}
-use Rattle.vax_table.specs.Spelled.{value_size}
-use Rattle.vax_table.specs.Whole.{acted, instruction}
+use Rattle.vax_table.specs.Script.{Absent, At, Test, Trouble}
 use Rattle.vax_table.specs.declared.act.Refusal.TheVariants.{Operand}
-use Rattle.vm_clock.specs.Clock.{after_iccs_write, after_tick}
 use Rattle.vm_slots.specs.Held.{is_same}
 use Rattle.vm_slots.specs.declared.context.Context.{Context}
-use Rattle.vm_state.specs.Contexts.{is_block_reserved, loaded, loads_context, saves_context}
-use Rattle.vm_state.specs.Initiate.{attempt, initiate}
-use Rattle.vm_state.specs.Interrupts.{due}
-use Rattle.vm_state.specs.Packets.{accepted}
-use Rattle.vm_state.specs.Probe.{probe, probed_byte}
-use Rattle.vm_state.specs.Pushes.{push_walked, pushed}
-use Rattle.vm_state.specs.Registers.{read, register_of, written}
-use Rattle.vm_state.specs.Sensitive.{sensed}
-use Rattle.vm_state.specs.ShownSetup.{entry_4, guest_m, guest_u, registers, with_registers}
+use Rattle.vm_state.specs.ShownSetup.{entry_4, guest_m, guest_u, whole_step, with_register}
 use Rattle.vm_state.specs.State.{Guest}
-use Rattle.vm_state.specs.Step.{executed, nothing_touched, pages_touched, step}
-use Rattle.vm_state.specs.Touches.{Process, Touching, at_first, brought, emptied, lacked_all, lacked_one, no_pages, touching_steps}
-use Rattle.vm_state.specs.Translation.{walk_of}
+use Rattle.vm_state.specs.Step.{Touched, nothing_touched, pages_touched, step}
+use Rattle.vm_state.specs.Touches.{Present, Process, Touching, at_first, brought, emptied, lacked_all, lacked_one, no_pages, touching_steps}
 
 -- contexts that differ in P0BR, and one with present pages
 abbrev under : ℕ → Context
@@ -54,14 +32,31 @@ pub alike :
     × (is_same (under 1) (record (under 1) { p1lr = 0x1fffff }) ≡ false)
 alike = (refl, refl, refl, refl, refl, refl)
 
+-- the contexts of P0BRs 1 to 4, each with a page
+abbrev first : Process
+first = with_pages 1 (10 ∷ [])
+
+abbrev second : Process
+second = with_pages 2 (20 ∷ [])
+
+abbrev third : Process
+third = with_pages 3 (30 ∷ [])
+
+abbrev fourth : Process
+fourth = with_pages 4 (40 ∷ [])
+
+-- the first system page, beside two of them
+abbrev two_present : Present
+two_present = record { system = 0x400000 ∷ []; processes = third ∷ first ∷ [] }
+
 -- the list of contexts
 pub contexts :
-    -- a fifth moves to the front: the last goes, and the three others stay
-    (brought (under 5) (with_pages 4 (40 ∷ []) ∷ with_pages 3 (30 ∷ []) ∷ with_pages 2 (20 ∷ []) ∷ with_pages 1 (10 ∷ []) ∷ []) ≡ with_pages 5 [] ∷ with_pages 4 (40 ∷ []) ∷ with_pages 3 (30 ∷ []) ∷ with_pages 2 (20 ∷ []) ∷ [])
-    -- one that is held moves to the front with its pages, and occurs once
-    × (brought (under 2) (with_pages 3 (30 ∷ []) ∷ with_pages 2 (20 ∷ []) ∷ with_pages 1 (10 ∷ []) ∷ []) ≡ with_pages 2 (20 ∷ []) ∷ with_pages 3 (30 ∷ []) ∷ with_pages 1 (10 ∷ []) ∷ [])
+    -- a fifth comes to the front: the last goes, and the three others stay
+    (brought (under 5) (fourth ∷ third ∷ second ∷ first ∷ []) ≡ with_pages 5 [] ∷ fourth ∷ third ∷ second ∷ [])
+    -- one that is held comes to the front with its pages, and is there once
+    × (brought (under 2) (third ∷ second ∷ first ∷ []) ≡ second ∷ third ∷ first ∷ [])
     -- what empties the sets leaves the contexts in their order
-    × (emptied (record { system = 0x400000 ∷ []; processes = with_pages 3 (30 ∷ []) ∷ with_pages 1 (10 ∷ []) ∷ [] }) ≡ record { system = []; processes = no_pages (under 3) ∷ no_pages (under 1) ∷ [] })
+    × (emptied two_present ≡ record { system = []; processes = no_pages (under 3) ∷ no_pages (under 1) ∷ [] })
 contexts = (refl, refl, refl)
 
 -- what a page counts that has no byte
@@ -75,13 +70,17 @@ pub lacking :
     × (lacked_one present_4 0x400000 ≡ present_4)
 lacking = (refl, refl, refl, refl)
 
+-- the pages of an instruction that asked for bytes of pages 1 and 4
+abbrev pages_by : Result ℕ Trouble → Touched
+pages_by outcome = pages_touched {A = ℕ} (0x200 ∷ 0x201 ∷ 0x800 ∷ []) outcome
+
 -- which pages of an instruction are found, and which is lacking
 pub troubles :
     -- with trouble at the last byte of those that it asked for: that one's page is lacking
-    (pages_touched {A = ℕ} (0x200 ∷ 0x201 ∷ 0x800 ∷ []) (Err (At Absent Read 0x800)) ≡ record { found = 1 ∷ 1 ∷ []; lacking = 4 ∷ [] })
+    (pages_by (Err (At Absent Read 0x800)) ≡ record { found = 1 ∷ 1 ∷ []; lacking = 4 ∷ [] })
     -- refused by a test: each byte was found
-    × (pages_touched {A = ℕ} (0x200 ∷ 0x201 ∷ 0x800 ∷ []) (Err (Test Operand)) ≡ record { found = 1 ∷ 1 ∷ 4 ∷ []; lacking = [] })
-    × (pages_touched {A = ℕ} (0x200 ∷ 0x201 ∷ 0x800 ∷ []) (Ok 7) ≡ record { found = 1 ∷ 1 ∷ 4 ∷ []; lacking = [] })
+    × (pages_by (Err (Test Operand)) ≡ record { found = 1 ∷ 1 ∷ 4 ∷ []; lacking = [] })
+    × (pages_by (Ok 7) ≡ record { found = 1 ∷ 1 ∷ 4 ∷ []; lacking = [] })
 troubles = (refl, refl, refl)
 
 -- a guest with NOP at 200
@@ -98,7 +97,7 @@ pub untouched :
     × ((step (record nop { state = record nop.state { waiting = true } })).touched ≡ nothing_touched)
     -- an interrupt of software level 3 is taken
     × ((step (record nop { state = record nop.state { sisr = 8 } })).touched ≡ nothing_touched)
-unfolding step executed instruction fetched decided decoded_at acted plan_of performed row_of operation_of operands_of operand_of read_operand modified_operand written_operand address_operand branch_operand bits_operand address_of base_address value_size computed alu_of branched trap_operands operand_at specifier_at specifier_by indexed_at lookup mapped_entry process_entry system_entry granted walk_of attempt initiate due push_walked pushed after_tick sensed probe probed_byte loads_context loaded is_block_reserved saves_context register_of read written accepted after_iccs_write
+unfolding whole_step
 untouched = (refl, refl, refl, refl)
 
 -- the touches of a guest's first steps
@@ -108,7 +107,7 @@ touched n g = (touching_steps n g (record { present = at_first g; count = 0 })).
 -- with 800 in R1 and this code at 200 of P0, and P0's entry of the page at 800. At 80000A00, where each vector goes, are
 -- ADDL2 #8,SP and REI.
 abbrev returning : List ℕ → ℕ → Guest
-returning code entry = with_registers (registers 0 0x800 0 0x80000800 0x200) (guest_m code ((entry_4, entry) ∷ (0xa00, 0x025e08c0) ∷ []))
+returning code entry = with_register 1 0x800 (guest_m code ((entry_4, entry) ∷ (0xa00, 0x025e08c0) ∷ []))
 
 -- of runs
 pub runs :
@@ -117,5 +116,5 @@ pub runs :
     (touched 4 (returning (0xd0 ∷ 0x61 ∷ 0x50 ∷ []) 0x20000004) ≡ 4)
     -- MOVL (R1),(R1) of a page that may only be read: it was found when it was read, and the write counts nothing
     × (touched 1 (returning (0xd0 ∷ 0x61 ∷ 0x61 ∷ []) 0xfc000004) ≡ 2)
-unfolding step executed instruction fetched decided decoded_at acted plan_of performed row_of operation_of operands_of operand_of read_operand modified_operand written_operand address_operand branch_operand bits_operand address_of base_address value_size computed alu_of branched trap_operands operand_at specifier_at specifier_by indexed_at lookup mapped_entry process_entry system_entry granted walk_of attempt initiate due push_walked pushed after_tick sensed probe probed_byte loads_context loaded is_block_reserved saves_context register_of read written accepted after_iccs_write
+unfolding whole_step
 runs = (refl, refl)

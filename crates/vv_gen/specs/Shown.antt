@@ -1,6 +1,6 @@
 -- Worked examples of the draws and of what is made of them, checked by computation. The values were computed apart.
 use Rattle.std.specs.List.{range_with_len}
-use Rattle.std.specs.Prelude.{◌≡◌, ℕ, ◌+◌, ◌%◌, [], ◌∷◌, codes, drop, map, take, refl}
+use Rattle.std.specs.Prelude.{◌≡◌, ℕ, ◌+◌, ◌%◌, List, [], ◌∷◌, codes, drop, map, take, refl}
 use Rattle.sys_script.specs.declared.event.Event.{Event}
 use Rattle.sys_script.specs.declared.event.Typed.{Typed}
 use Rattle.sys_script.specs.declared.event.Typed.TheVariants.{Break, Line}
@@ -26,7 +26,8 @@ slice_of_7 : (workload_of 7).config.slice ≡ 649
 unfolding workload_of config_of draw behind
 slice_of_7 = refl
 
-periods_of_7 : map (λ g. 600 + draws_behind 1 7 g % 1000) (range_with_len 0 8) ≡ 1466 ∷ 740 ∷ 1350 ∷ 833 ∷ 684 ∷ 1257 ∷ 1080 ∷ 1107 ∷ []
+periods_of_7 : map (λ g. 600 + draws_behind 1 7 g % 1000) (range_with_len 0 8) ≡
+    1466 ∷ 740 ∷ 1350 ∷ 833 ∷ 684 ∷ 1257 ∷ 1080 ∷ 1107 ∷ []
 unfolding draw behind
 periods_of_7 = refl
 
@@ -50,7 +51,30 @@ first_event_of_7 : event_of 1 (draws_behind 4105 7) ≡ event 1 7 (Line (codes "
 unfolding draw behind
 first_event_of_7 = refl
 
-events_of_7 : events_of (draws_behind 4105 7) ≡ event 1 7 (Line (codes "SHOW")) ∷ event 2 3 Break ∷ event 3 4 (Line (codes "HELLO")) ∷ event 4 0 (Line (codes "MOUNT G0 2 V0 READ")) ∷ event 5 5 Break ∷ event 6 3 Break ∷ event 7 3 (Line (codes "HELLO")) ∷ event 8 5 (Line (codes "SHOW")) ∷ event 9 5 Break ∷ event 10 3 (Line (codes "HELLO")) ∷ event 11 5 (Line (codes "SHOW")) ∷ event 12 6 (Line (codes "SHOW")) ∷ event 13 3 (Line (codes "SHOW")) ∷ event 14 5 Break ∷ event 15 0 (Line (codes "SHOW")) ∷ event 16 5 (Line (codes "HELLO")) ∷ event 17 5 Break ∷ event 18 4 Break ∷ event 19 5 (Line (codes "HELLO")) ∷ event 20 1 (Line (codes "HELLO")) ∷ []
+abbrev twenty_events : List Event
+twenty_events =
+    event 1 7 (Line (codes "SHOW"))
+    ∷ event 2 3 Break
+    ∷ event 3 4 (Line (codes "HELLO"))
+    ∷ event 4 0 (Line (codes "MOUNT G0 2 V0 READ"))
+    ∷ event 5 5 Break
+    ∷ event 6 3 Break
+    ∷ event 7 3 (Line (codes "HELLO"))
+    ∷ event 8 5 (Line (codes "SHOW"))
+    ∷ event 9 5 Break
+    ∷ event 10 3 (Line (codes "HELLO"))
+    ∷ event 11 5 (Line (codes "SHOW"))
+    ∷ event 12 6 (Line (codes "SHOW"))
+    ∷ event 13 3 (Line (codes "SHOW"))
+    ∷ event 14 5 Break
+    ∷ event 15 0 (Line (codes "SHOW"))
+    ∷ event 16 5 (Line (codes "HELLO"))
+    ∷ event 17 5 Break
+    ∷ event 18 4 Break
+    ∷ event 19 5 (Line (codes "HELLO"))
+    ∷ event 20 1 (Line (codes "HELLO")) ∷ []
+
+events_of_7 : events_of (draws_behind 4105 7) ≡ twenty_events
 unfolding events_of draw behind
 events_of_7 = refl
 

@@ -3,37 +3,21 @@
 use Rattle.std.specs.Prelude.{ℕ, ◌≡◌, List, [], ◌∷◌, ◌++◌, codes, drop, false, true, length, map, refl, replicate, take, Some, None}
 use Rattle.vv_class.specs.Class.{does_flow, is_subset}
 use Rattle.vax_arch.specs.Walk.{lookup, mapped_entry, process_entry, system_entry}
-use Rattle.vax_table.specs.Arithmetic.{alu_of}
-use Rattle.vax_table.specs.Branches.{branched}
-use Rattle.vax_table.specs.Fetch.{decided, fetched}
-use Rattle.vax_table.specs.Operand.{address_of, branch_operand, operand_of, operands_of, read_operand, trap_operands}
-use Rattle.vax_table.specs.Operations.{operation_of}
-use Rattle.vax_table.specs.Plan.{performed, plan_of}
-use Rattle.vax_table.specs.Reading.{decoded_at, operand_at, specifier_at, specifier_by}
-use Rattle.vax_table.specs.Rows.{row_of}
-use Rattle.vax_table.specs.Spelled.{value_size}
-use Rattle.vax_table.specs.Whole.{acted, instruction}
-use Rattle.vm_clock.specs.Clock.{after_tick}
 use Rattle.sys_objects.specs.declared.records.GuestRow.{GuestRow}
 use Rattle.sys_rounds.specs.FirstTouches.{event_starts, first_touches, frames_by, started_by, touches_of_queue, with_reset}
 use Rattle.sys_rounds.specs.Run.{Input, first_state}
-use Rattle.sys_rounds.specs.ShownSetup.{break_at, config, guest, line_at, mounted, terminal, volume}
+use Rattle.sys_rounds.specs.ShownSetup.{break_at, config, guest, line_at, mounted, terminal, volume, whole_run}
 use Rattle.sys_rounds.specs.State.{State}
 use Rattle.sys_rounds.specs.Transfers.{Packet, Prints, Reads, Refused, Writes}
 use Rattle.sys_script.specs.declared.event.Event.{Event}
-use Rattle.sys_server.specs.Apply.{applied, taken}
 use Rattle.sys_server.specs.Line.{asked_in}
 use Rattle.sys_server.specs.Verdict.{judged}
 use Rattle.sys_server.specs.declared.command.Command.TheVariants.{Connect, Start, Halt, MountAt, Dismount, Show}
 use Rattle.sys_server.specs.declared.command.Rule.TheVariants.{Equal, Write}
 use Rattle.sys_server.specs.declared.command.Verdict.TheVariants.{Granted, BadCommand, NoSuchObject, Denied}
-use Rattle.vm_state.specs.Interrupts.{due}
 use Rattle.vm_state.specs.ShownSetup.{guest_m, with_longs}
-use Rattle.vm_state.specs.Start.{opening}
 use Rattle.vm_state.specs.State.{Guest}
-use Rattle.vm_state.specs.Step.{executed, step}
 use Rattle.vm_state.specs.Touches.{Touching, at_first, found_all}
-use Rattle.vm_state.specs.Translation.{walk_of}
 
 -- A guest that branches to itself at 200 hexadecimal, two steps in each of two rounds, and a terminal at the server.
 abbrev looping : List Event → Input
@@ -52,7 +36,7 @@ pub starts_are_touched_anew :
     × (first_touches (looping (line_at 2 (codes "T") (codes "START A") ∷ [])) ≡ 2)
     -- what isn't granted starts nothing
     × (first_touches (looping (line_at 2 (codes "T") (codes "START B") ∷ [])) ≡ 1)
-unfolding asked_in judged does_flow is_subset applied taken opening step executed instruction fetched decided decoded_at acted plan_of performed row_of operation_of operands_of operand_of read_operand address_of branch_operand branched value_size trap_operands operand_at specifier_at specifier_by after_tick due walk_of lookup alu_of
+unfolding whole_run
 starts_are_touched_anew = (refl, refl, refl)
 
 -- Two guests of one step a round: the first branches to itself, the second to 600 hexadecimal, and there to itself.
@@ -70,15 +54,22 @@ pub rounds_go_on :
     (first_touches (walking 1) ≡ 2)
     × (first_touches (walking 2) ≡ 3)
     × (first_touches (walking 3) ≡ 3)
-unfolding opening step executed instruction fetched decided decoded_at acted plan_of performed row_of operation_of operands_of operand_of read_operand address_of branch_operand branched value_size trap_operands operand_at specifier_at specifier_by after_tick due walk_of lookup alu_of
+unfolding whole_run
 rounds_go_on = (refl, refl, refl)
 
 -- Of all verdicts a START that is granted starts a guest.
 pub start_alone :
     (started_by (Granted (Start 3)) ≡ Some 3)
-    × (map started_by (Granted (Connect 3) ∷ Granted (Halt 3) ∷ Granted (MountAt 3 1 (record { volume = 0; write = true })) ∷ Granted (Dismount 3 1) ∷ Granted Show ∷ BadCommand ∷ NoSuchObject ∷ Denied Equal ∷ Denied Write ∷ [])
-    ≡ None ∷ None ∷ None ∷ None ∷ None ∷ None ∷ None ∷ None ∷ None ∷ [])
-start_alone = (refl, refl)
+    × (started_by (Granted (Connect 3)) ≡ None)
+    × (started_by (Granted (Halt 3)) ≡ None)
+    × (started_by (Granted (MountAt 3 1 (record { volume = 0; write = true }))) ≡ None)
+    × (started_by (Granted (Dismount 3 1)) ≡ None)
+    × (started_by (Granted Show) ≡ None)
+    × (started_by BadCommand ≡ None)
+    × (started_by NoSuchObject ≡ None)
+    × (started_by (Denied Equal) ≡ None)
+    × (started_by (Denied Write) ≡ None)
+start_alone = (refl, refl, refl, refl, refl, refl, refl, refl, refl, refl)
 
 -- with the terminal at the server, and with it at the guest's console
 abbrev at_the_server : State
@@ -144,7 +135,9 @@ abbrev reader : GuestRow
 reader = record (guest (codes "A") 0 8 1 true None) { mounts = None ∷ None ∷ mounted 0 false ∷ None ∷ [] }
 
 abbrev behind_packets : List ℕ → Touching
-behind_packets queue = touches_of_queue (config None [] (volume (codes "V") 0 0 ∷ []) [] (reader ∷ [])) reader reader.mounts asking queue blocks (with_pages (1 ∷ 0x400001 ∷ []))
+behind_packets queue =
+    let c = config None [] (volume (codes "V") 0 0 ∷ []) [] (reader ∷ []) in
+    touches_of_queue c reader reader.mounts asking queue blocks (with_pages (1 ∷ 0x400001 ∷ []))
 
 pub in_the_order_of_the_queue :
     (how_many (behind_packets (0x300 ∷ 0x340 ∷ [])) ≡ 0 ∷ 0 ∷ [])
