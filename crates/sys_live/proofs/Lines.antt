@@ -8,11 +8,12 @@ use Rattle.vv_io.specs.Keys.{Keys, Took, given_of}
 use Rattle.vv_io.specs.Lines.{Seen}
 use Rattle.sys_lines.proofs.Puts.{joined, still}
 use Rattle.sys_lines.specs.ShownSince.{ShownSince}
+use Rattle.sys_lines.specs.Shows.{Gets}
 use Rattle.sys_script.proofs.TypedLines.{says_in_each}
 use Rattle.sys_script.specs.Typed.{events_typed, if_said, rounds_ended, rounds_typed, says_event, told_of, told_typed, typed_in}
 use Rattle.sys_script.specs.declared.event.Event.{Event}
 use Rattle.sys_script.specs.declared.event.ScriptKind.{ScriptKind}
-use Rattle.sys_live.specs.Typing.{BreaksOff, EndsRound, Tells, TookWell}
+use Rattle.sys_live.specs.Typing.{BreaksOff, EndsRound, TookWell}
 
 abbrev pub Texts : Type 0
 Texts = List (List ℕ)
@@ -126,6 +127,6 @@ broke_off xs ys a b c first (inr (inl (took, most))) = inr (inl (took_well xs ys
 broke_off xs ys a b c first (inr (inr (lost, says, took))) = inr (inr (lost, says, subst (λ zs. TookWell zs a c) (sym (append_assoc xs ys (lost ∷ []))) (took_well xs (ys ++ lost ∷ []) a b c first took)))
 
 -- more is told
-pub told_then : (a b : Bool) (l m n : Seen) (x y : List ℕ) → ShownSince a l m x → Tells a b m n y → ShownSince b l n (x ++ y)
+pub told_then : (a b : Bool) (l m n : Seen) (x y : List ℕ) → ShownSince a l m x → Gets a b m n y → ShownSince b l n (x ++ y)
 told_then true b l m n x y first (cut, same) = subst (λ v. ShownSince v l n (x ++ y)) (sym cut) (subst (λ s. ShownSince true l s (x ++ y)) (sym same) (still l m x y first))
 told_then false b l m n x y first second = joined b l m n x y first second

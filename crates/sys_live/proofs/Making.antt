@@ -1,4 +1,4 @@
--- Rounds that are made as their lines are typed: what stands between two of them.
+-- Rounds that are made as their lines are typed: what is between two of them.
 use Rattle.std.proofs.Common.{ℕ, suc, ◌≡◌, ◌≢◌, ◌<◌, ◌≤◌, ◌+◌, ◌==◌, List, [], ◌∷◌, ◌++◌, length, slice_index_or, refl, sym, ◌∙◌, ap, subst, arith, append_assoc, append-nil, length-append, All, IfOk, Bool, true, false, true≢false, Option, Some, None, Result, inl, inr}
 use Rattle.std.proofs.lemmas.Bool.{eqb-true}
 use Rattle.std.proofs.lemmas.List.Elements.{All-append}

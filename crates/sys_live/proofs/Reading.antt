@@ -17,7 +17,8 @@ use Rattle.sys_script.specs.declared.event.Typed.{Typed}
 use Rattle.sys_system.specs.Calls.{AreOf}
 use Rattle.sys_live.proofs.Words.{tells_both, tells_none}
 use Rattle.sys_live.specs.Operator.{Operator}
-use Rattle.sys_live.specs.Typing.{BreaksOff, Stands, Tells, TookWell, TypesRound}
+use Rattle.sys_lines.specs.Shows.{Gets}
+use Rattle.sys_live.specs.Typing.{BreaksOff, Stands, TookWell, TypesRound}
 use Rattle.sys_live.specs.declared.typing.Count.{Count}
 use Rattle.sys_live.specs.declared.typing.TypedRound.{TypedRound}
 use Rattle.sys_live.specs.declared.typing.Typing.TheVariants.{GoesOn, Over, Broken}
@@ -135,7 +136,7 @@ pub record TypesSoFar (round : ℕ) (before now : Count) (events : List Event) (
   pub taken : TookWell lines keys keys'
   pub counts : now.lines ≡ before.lines + length lines
   pub events_are : events ≡ events_typed round lines
-  pub told : Tells before.is_cut now.is_cut errors errors' (told_typed (before.lines + 1) lines)
+  pub told : Gets before.is_cut now.is_cut errors errors' (told_typed (before.lines + 1) lines)
 
 no_line : (keys : Option (List (List ℕ))) → Took [] keys keys
 no_line None = refl
@@ -154,7 +155,7 @@ begins round before keys errors = record {
 -- a line that isn't empty was taken
 pub goes_on : {E : Type 0} (round : ℕ) (before now after : Count) (events more : List Event) (line : List ℕ) (keys keys1 keys2 : Keys) (errors errors1 errors2 : Seen) →
     TypesSoFar round before now events keys keys1 errors errors1 → IsFull line → (let r : Result (Option (List ℕ)) E = Ok (Some line) in Takes keys1 keys2 r) →
-    more ≡ events ++ if_said (typed_in round line) [] → Tells now.is_cut after.is_cut errors1 errors2 (told_of (now.lines + 1) line) → after.lines ≡ now.lines + 1 →
+    more ≡ events ++ if_said (typed_in round line) [] → Gets now.is_cut after.is_cut errors1 errors2 (told_of (now.lines + 1) line) → after.lines ≡ now.lines + 1 →
     TypesSoFar round before after more keys keys2 errors errors2
 goes_on {E} round before now after events more line keys keys1 keys2 errors errors1 errors2 far full takes said tells counts =
     let number : now.lines + 1 ≡ before.lines + 1 + length far.lines = omega (arith, far.counts) in
@@ -166,9 +167,9 @@ goes_on {E} round before now after events more line keys keys1 keys2 errors erro
       counts = omega (arith, counts, far.counts, long);
       events_are = said ∙ ap (λ es. es ++ if_said (typed_in round line) []) far.events_are ∙ sym (events_more round far.lines line far.none_is_empty full);
       told =
-          subst (Tells before.is_cut after.is_cut errors errors2) (sym (told_more (before.lines + 1) far.lines line))
+          subst (Gets before.is_cut after.is_cut errors errors2) (sym (told_more (before.lines + 1) far.lines line))
           (tells_both before.is_cut now.is_cut after.is_cut errors errors1 errors2 (told_typed (before.lines + 1) far.lines) (told_of (before.lines + 1 + length far.lines) line) far.told
-          (subst (λ n. Tells now.is_cut after.is_cut errors1 errors2 (told_of n line)) number tells));
+          (subst (λ n. Gets now.is_cut after.is_cut errors1 errors2 (told_of n line)) number tells));
     }
 
 pub far_each : {round : ℕ} {before now : Count} {events : List Event} {keys keys1 : Keys} {errors errors1 : Seen} → TypesSoFar round before now events keys keys1 errors errors1 → 1 ≤ round → round ≤ 1000000 → All IsEvent events
@@ -193,7 +194,7 @@ is_ended {E} round before now after typed line keys keys1 keys2 errors errors1 e
       taken = subst (λ t. Stands t (before.lines + length far.lines) far.lines keys keys2) (sym typing) (subst (λ l. TookWell (far.lines ++ l ∷ []) keys keys2) empty all);
       counts = λ _. omega (arith, counts, far.counts);
       events = far.events_are;
-      told = subst (λ b. Tells before.is_cut b errors errors2 (told_typed (before.lines + 1) far.lines)) (sym cut) (subst (λ s. Tells before.is_cut now.is_cut errors s (told_typed (before.lines + 1) far.lines)) (sym same) far.told);
+      told = subst (λ b. Gets before.is_cut b errors errors2 (told_typed (before.lines + 1) far.lines)) (sym cut) (subst (λ s. Gets before.is_cut now.is_cut errors s (told_typed (before.lines + 1) far.lines)) (sym same) far.told);
     }
 
 -- no more lines come
@@ -219,7 +220,7 @@ broken round before now after typed keys keys1 keys2 errors errors1 errors2 far 
   taken = subst (λ t. Stands t (before.lines + length far.lines) far.lines keys keys2) (sym typing) breaks;
   counts = λ goes. absurd cc;
   events = far.events_are;
-  told = subst (λ b. Tells before.is_cut b errors errors2 (told_typed (before.lines + 1) far.lines)) (sym cut) (subst (λ s. Tells before.is_cut now.is_cut errors s (told_typed (before.lines + 1) far.lines)) (sym same) far.told);
+  told = subst (λ b. Gets before.is_cut b errors errors2 (told_typed (before.lines + 1) far.lines)) (sym cut) (subst (λ s. Gets before.is_cut now.is_cut errors s (told_typed (before.lines + 1) far.lines)) (sym same) far.told);
 }
 
 -- the keyboard failed

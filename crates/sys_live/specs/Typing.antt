@@ -2,8 +2,7 @@
 use Rattle.std.specs.Prelude.{ℕ, ◌≡◌, ◌≢◌, ◌<◌, ◌+◌, ◌-◌, ◌^◌, ◌⊎◌, List, [], ◌∷◌, ◌++◌, All, Bool, true, false, length}
 use Rattle.vv_io.specs.Causes.{Rose}
 use Rattle.vv_io.specs.Keys.{IsOut, Keys, Took}
-use Rattle.vv_io.specs.Lines.{Seen}
-use Rattle.sys_lines.specs.ShownSince.{ShownSince}
+use Rattle.sys_lines.specs.Shows.{Gets}
 use Rattle.sys_script.specs.Typed.{events_typed, rounds_ended, says_event, told_typed}
 use Rattle.sys_live.specs.Operator.{Operator}
 use Rattle.sys_live.specs.declared.typing.Count.{Count}
@@ -30,20 +29,16 @@ Stands GoesOn count lines before after = TookWell (lines ++ [] ∷ []) before af
 Stands Over count lines before after = TookWell lines before after × IsOut after.coming
 Stands Broken count lines before after = BreaksOff count lines before after
 
--- bytes are told where nothing was cut before
-abbrev pub Tells : (cut cut' : Bool) → Seen → Seen → List ℕ → Type 0
-Tells true cut' before after bytes = (cut' ≡ true) × (after ≡ before)
-Tells false cut' before after bytes = ShownSince cut' before after bytes
-
--- The lines of one round were taken, of which none is empty, and their events are the round's. Those that say none were told, by the
--- numbers that follow those of the rounds before. Where an empty line ended the round it is counted with them.
+-- The lines of one round were taken, of which none is empty, and their events are the round's. Those that say none were told, where
+-- nothing was cut before, by the numbers that follow those of the rounds before. Where an empty line ended the round it is counted
+-- with them.
 pub record TypesRound (round : ℕ) (before after : Count) (typed : TypedRound) (p : Operator) : Type 0 where
   pub lines : List (List ℕ)
   pub none_is_empty : All (λ line. line ≢ []) lines
   pub taken : Stands typed.typing (before.lines + length lines) lines p.keys p.keys'
   pub counts : typed.typing ≡ GoesOn → after.lines ≡ before.lines + length lines + 1
   pub events : typed.events.items ≡ events_typed round lines
-  pub told : Tells before.is_cut after.is_cut p.errors p.errors' (told_typed (before.lines + 1) lines)
+  pub told : Gets before.is_cut after.is_cut p.errors p.errors' (told_typed (before.lines + 1) lines)
 
 -- the last line is empty
 abbrev pub EndsRound : List (List ℕ) → Type 0

@@ -3,6 +3,7 @@ use Rattle.std.proofs.Common.{ℕ, zero, suc, ◌≡◌, ◌≤◌, ◌<◌, ◌
 use Rattle.std.specs.Prelude.{IsTrue, All}
 use Rattle.std.specs.Int.{bit_at, from_bool}
 use Rattle.std.proofs.lemmas.Bool.{and_parts, eqb-true, false≢true, leb-true, ltb-true, not-true, or_cases}
+use Rattle.vv_base.specs.Bits.{is_set}
 use Rattle.vv_base.specs.Bytes.{long_bytes, word_bytes}
 use Rattle.sys_snap.proofs.OnlyFields.{AreSo, By, Gives, IsLong, Passes, gives_flag, gives_four, gives_halt, gives_last, gives_longs, gives_next, gives_one, gives_packets, gives_two, gives_waiting}
 use Rattle.sys_snap.specs.Conditions.{any, is_iccs, is_p0br, is_psl, needs}
@@ -11,7 +12,7 @@ use Rattle.sys_snap.specs.Reading.{field, flag, four, one, two}
 use Rattle.sys_snap.specs.Snap.{IsRecord}
 use Rattle.sys_snap.specs.Written.{clock_bytes, console_bytes, flag_byte, longs, place_byte, record_of}
 use Rattle.vax_arch.specs.Rei.{has_must_be_zero_bit}
-use Rattle.vm_clock.specs.Clock.{ClockState, iccs_of, is_set}
+use Rattle.vm_clock.specs.Clock.{ClockState, iccs_of}
 use Rattle.vm_clock.specs.Parts.{IsClock, parts_of, state_of}
 use Rattle.vm_clock.specs.declared.ClockParts.{ClockParts}
 use Rattle.vm_console.specs.Console.{ConsoleState, IsConsole}

@@ -2,6 +2,7 @@
 use Rattle.std.proofs.Common.{ℕ, ◌≡◌, ◌<◌, ◌-◌, ◌*◌, ◌==◌, nat_le, [], ◌∷◌, ◌++◌, length, replicate, refl, subst, Bool, true, false, inl, inr}
 use Rattle.std.specs.Prelude.{IsTrue}
 use Rattle.std.proofs.lemmas.Bool.{false≢true, le-leb, lt-ltb, or_right}
+use Rattle.vv_base.specs.Bits.{is_set}
 use Rattle.vv_base.specs.Bytes.{long_bytes, word_bytes}
 use Rattle.sys_snap.proofs.Fields.{ReadsAs, reads_flag, reads_four, reads_halt, reads_last, reads_longs, reads_one, reads_packets, reads_then, reads_two, reads_waiting}
 use Rattle.sys_snap.specs.Conditions.{any, is_iccs, is_p0br, is_psl, needs}
@@ -9,7 +10,7 @@ use Rattle.sys_snap.specs.Reader.{bases_in, clock_in, console_in, either, end_in
 use Rattle.sys_snap.specs.Reading.{field, flag, four, one, two}
 use Rattle.sys_snap.specs.Snap.{IsRecord}
 use Rattle.sys_snap.specs.Written.{base_bytes, clock_bytes, console_bytes, end_bytes, flag_byte, level_bytes, longs, place_byte, queue_bytes, record_of, register_bytes}
-use Rattle.vm_clock.specs.Clock.{ClockState, iccs_of, is_set}
+use Rattle.vm_clock.specs.Clock.{ClockState, iccs_of}
 use Rattle.vm_clock.specs.Parts.{parts_of, state_of}
 use Rattle.vm_state.specs.Registers.{allows}
 use Rattle.vm_state.specs.State.{State}

@@ -1,7 +1,8 @@
 -- The same as a reading that computes: field by field, each with what it allows after those before it.
 use Rattle.std.specs.Prelude.{ℕ, zero, suc, ◌*◌, ◌==◌, ◌&&◌, ◌||◌, nat_le, nat_lt, not, Bool, true, false, bytes_eq, if◌then◌else◌, List, [], ◌∷◌, length, map, take, drop, slice_index, Option, Some, None, Result, Ok, Err}
 use Rattle.std.specs.List.{list_all}
-use Rattle.vm_clock.specs.Clock.{ClockState, is_set}
+use Rattle.vv_base.specs.Bits.{is_set}
+use Rattle.vm_clock.specs.Clock.{ClockState}
 use Rattle.vm_clock.specs.Parts as clocks
 use Rattle.vm_console.specs.Console.{ConsoleState}
 use Rattle.vv_class.specs.declared.class.AccessClass.{AccessClass}

@@ -6,7 +6,7 @@ ghost use Rattle.sys_snap.specs.Parts.{end_of, queue_of};
 ghost use Rattle.sys_snap.specs.Reader.{clock_in, console_in, end_in, halt_in, is_count, packets_in, queue_in, waiting_in};
 ghost use Rattle.sys_snap.specs.Reading.{field, flag, four, one, two};
 ghost use Rattle.sys_snap.specs.Reads.{Reads, ReadsSeen};
-ghost use Rattle.vm_clock.specs.Clock.{is_set};
+ghost use Rattle.vv_base.specs.Bits.{is_set};
 
 use crate::cursor::{Cursor, flag, long};
 use crate::fault::SnapFault;

@@ -24,7 +24,7 @@ impl Model for Volumes {
 }
 
 impl Volumes {
-    ghost use Rattle.std.specs.Prelude.{◌≡◌, ◌<◌, IfOk, OnOk, OnErr, length, map};
+    ghost use Rattle.std.specs.Prelude.{◌≡◌, ◌<◌, IfOk, OnOk, OnErr, length, map, nat_lt};
     ghost use Rattle.sys_store.specs.Blocks.{zero_volume, HasBlock, LacksBlock, blocks_of, with_block};
 
     /// Volumes of these sizes in blocks, all bytes zero.
@@ -37,6 +37,14 @@ impl Volumes {
             volumes.push(zero_volume(alloc, *size)?)?;
         }
         Ok(Volumes { volumes })
+    }
+
+    /// Whether the volume has a block of this number.
+    pub fn has_block(&self, v: u8, block: u32) -> bool
+        requires { v < length self.now }
+        ensures { result ≡ nat_lt block (length (blocks_of self.now v)) }
+    {
+        (block as usize) < self.volumes[usize::from(v)].len()
     }
 
     /// The bytes of a block. `NoBlock` exactly where the volume has no such block; then `into` stays.

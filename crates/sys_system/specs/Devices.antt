@@ -4,6 +4,7 @@ use Rattle.sys_system.specs.declared.parts.Device.{Device}
 use Rattle.sys_system.specs.declared.parts.Device.TheVariants as devices
 use Rattle.sys_rounds.specs.Places.{place_of}
 
+-- a line, or else a drive
 abbrev pub device_of : Option ℕ → Option ℕ → Option Device
 device_of (Some line) drive = Some (devices.Line line)
 device_of None drive = option_map (λ d. devices.Drive d) drive

@@ -17,7 +17,7 @@ use Rattle.vax_arch.specs.declared.walk.Grant.TheVariants.{Absent, Granted, Past
 use Rattle.vax_arch.specs.declared.walk.Lookup.{Lookup}
 use Rattle.vax_arch.specs.declared.walk.Lookup.TheVariants.{Beyond, Direct, Fails, Found}
 use Rattle.vasm_text.specs.Front.{front_text}
-use Rattle.vax_table.specs.Script.{Cause}
+use Rattle.vax_table.specs.Script.{Cause, cause_of}
 use Rattle.vax_table.specs.Script as script
 use Rattle.vv_base.specs.Bytes.{long_at}
 use Rattle.vm_guest.specs.Kept.{Kept, StandsIn, guest_in}
@@ -27,7 +27,7 @@ use Rattle.vm_state.specs.Outside.{bytes_at}
 use Rattle.vm_state.specs.Partition.{guest_of}
 use Rattle.vm_state.specs.State.{Guest, mode_of_state, pc_of}
 use Rattle.vm_state.specs.declared.guest_state.GuestState.{GuestState}
-use Rattle.vm_state.specs.Translation.{at_entry, byte_by, cause_of, look, space_of, walk_by, walk_of}
+use Rattle.vm_state.specs.Translation.{at_entry, byte_by, look, space_of, walk_by, walk_of}
 use Rattle.vm_state.specs.declared.walk.MemFault.{MemFault}
 use Rattle.vm_state.specs.declared.walk.Walk.{Walk}
 use Rattle.vm_state.specs.declared.walk.Walk.TheVariants as walks

@@ -138,11 +138,11 @@ pub on_ok : {U E P : Type 0} (r : Result U E) → is_err r ≡ false → OnOk r 
 on_ok (Ok u) e h = h
 on_ok (Err x) e h = absurd (true≢false e)
 
--- a block that exists is written
-pub surely_written : {U E : Type 0} (r : Result U E) (volumes volumes' : List (List (List ℕ))) (v block : ℕ) (old bytes : List ℕ) → HasBlock volumes v block old → OnOk r (volumes' ≡ with_block volumes v block bytes) → OnErr r (LacksBlock volumes v block × (volumes' ≡ volumes))
+-- a block that is there is written
+pub surely_written : {U E : Type 0} (r : Result U E) (volumes volumes' : List (List (List ℕ))) (v block : ℕ) (bytes : List ℕ) → block < length (blocks_of volumes v) → OnOk r (volumes' ≡ with_block volumes v block bytes) → OnErr r (LacksBlock volumes v block × (volumes' ≡ volumes))
     → volumes' ≡ with_block volumes v block bytes
-surely_written (Ok u) volumes volumes' v block old bytes has ok err = ok
-surely_written (Err e) volumes volumes' v block old bytes has ok err = absurd (omega (arith, slice_get_within (blocks_of volumes v) block old has, err.0))
+surely_written (Ok u) volumes volumes' v block bytes within ok err = ok
+surely_written (Err e) volumes volumes' v block bytes within ok err = absurd (omega (arith, within, err.0))
 
 -- a text is refused, or printed
 pub text_refused : (row : GuestRow) (p : Packet) (g : Guest) (move : Move) → move ≡ Refused 6 → PrintsOf row p g move 6 None

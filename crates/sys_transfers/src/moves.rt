@@ -28,7 +28,9 @@ const NO_MEMORY: u32 = 6;
 const MOST_PRINTED: u32 = 132;
 
 /// Room for a block.
-fn empty_block() -> [u8; 512] {
+fn empty_block() -> [u8; 512]
+    ensures { length result ≡ 512 }
+{
     [0; 512]
 }
 
@@ -84,16 +86,13 @@ pub fn write<H: Hardware>(
     if !mount.write {
         return READ_ONLY;
     }
-    let mut bytes = empty_block();
-    if volumes
-        .read_block(mount.volume, p.block, &mut bytes)
-        .is_err()
-    {
+    if !volumes.has_block(mount.volume, p.block) {
         return NO_BLOCK;
     }
     if is_outside(guest, p.buffer, 512) {
         return NO_MEMORY;
     }
+    let mut bytes = empty_block();
     guest.fetch_into(machine, p.buffer, &mut bytes);
     let _ = volumes.write_block(mount.volume, p.block, &bytes);
     MOVED

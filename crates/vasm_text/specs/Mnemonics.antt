@@ -1,7 +1,8 @@
 -- The instructions' names (VAX Architecture Reference Manual, instruction descriptions). WAIT, which is
 -- FD 01, is this project's own choice (profile).
 use Rattle.std.specs.List.{position, range_with_len}
-use Rattle.std.specs.Prelude.{ℕ, ◌-◌, ◌==◌, List, [], ◌∷◌, ◌++◌, codes, map, Option, Some, None, nat_le, if◌then◌else◌, slice_get, bytes_eq, Bool, false}
+use Rattle.std.specs.Prelude.{ℕ, ◌==◌, List, [], ◌∷◌, ◌++◌, codes, map, Option, Some, None, if◌then◌else◌, bytes_eq, Bool, false}
+use Rattle.vax_table.specs.Rows.{first_some, in_block}
 
 -- byte at 80, word at A0, long at C0: the sixteen names of each, by the width's letter
 abbrev pub arithmetic : List ℕ → List (List ℕ)
@@ -133,20 +134,10 @@ others =
     ∷ named 0xfd (codes "WAIT")
     ∷ []
 
--- the name of an opcode in a block of names that begins at first
-abbrev pub in_block : ℕ → ℕ → List (List ℕ) → Option (List ℕ)
-in_block n first block = if nat_le first n then slice_get block (n - first) else None
-
 -- the name of an opcode in a list
 abbrev pub in_list : ℕ → List Named → Option (List ℕ)
 in_list n [] = None
 in_list n (l ∷ ls) = if n == l.opcode then Some l.name else in_list n ls
-
--- the first of these that exists
-abbrev pub first_some : List (Option (List ℕ)) → Option (List ℕ)
-first_some [] = None
-first_some (Some name ∷ more) = Some name
-first_some (None ∷ more) = first_some more
 
 -- the name of the instruction that an opcode begins, None where there is none
 unfoldable pub mnemonic_of : ℕ → Option (List ℕ)

@@ -81,8 +81,8 @@ pub fn ring_may(p: Prot, m: Mode, i: Intent) -> bool
 }
 
 /// The law of ring compression, which its contract states: no virtual mode runs in real kernel mode;
-/// a compressed code is a code, and it lets a real mode do exactly what the guest's code lets the
-/// virtual mode do.
+/// a compressed code is a code, and it allows a real mode exactly what the guest's code allows the
+/// virtual mode.
 pub fn compression_law()
     ensures modes { SharesExecutive }
     ensures code { (code : ℕ) → code < 16 → compressed_of code < 16 }

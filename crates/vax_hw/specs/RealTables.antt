@@ -1,11 +1,11 @@
 -- Translation over the machine's own page tables: the one walk with the manual's table of codes, in the machine's own
 -- modes (VAX Architecture Reference Manual, memory management; Hall and Robinson, Virtualizing the VAX Architecture,
 -- ISCA 1991: shadow page tables). The real tables have no end: beyond the machine a byte is 0, and isn't written.
-use Rattle.std.specs.Prelude.{ℕ, ◌+◌, ◌*◌, ◌%◌, ◌^◌, Bool, true, false, not, ◌&&◌, if◌then◌else◌, List, length, slice_index, Option, Some, None, Result, Ok, Err}
+use Rattle.std.specs.Prelude.{ℕ, ◌+◌, ◌*◌, ◌%◌, ◌^◌, Bool, true, not, ◌&&◌, if◌then◌else◌, List, length, slice_index, Option, Some, None, Result, Ok, Err}
 use Rattle.vv_base.specs.Bytes.{long_at}
-use Rattle.vax_arch.specs.Fields.{is_modified, is_valid, protection_of}
+use Rattle.vax_arch.specs.Fields.{is_valid, protection_of}
 use Rattle.vax_arch.specs.Protection.{may_of}
-use Rattle.vax_arch.specs.Walk.{Tables, granted, lookup, page_of}
+use Rattle.vax_arch.specs.Walk.{Tables, granted, is_clear_at, lookup, page_of}
 use Rattle.vax_arch.specs.declared.mode.Intent.{Intent}
 use Rattle.vax_arch.specs.declared.mode.Intent.TheVariants as intents
 use Rattle.vax_arch.specs.declared.mode.Mode.{Mode}
@@ -15,7 +15,7 @@ use Rattle.vax_arch.specs.declared.walk.Grant.TheVariants.{Absent, Granted, Past
 use Rattle.vax_arch.specs.declared.walk.Lookup.{Lookup}
 use Rattle.vax_arch.specs.declared.walk.Lookup.TheVariants.{Beyond, Direct, Fails, Found}
 use Rattle.vax_table.specs.Probing.{last_of, probe_mode}
-use Rattle.vax_table.specs.Script.{Cause}
+use Rattle.vax_table.specs.Script.{Cause, cause_of}
 use Rattle.vax_table.specs.Script as script
 
 -- more than any place that a walk reaches: a base has 32 bits, a page in its region 21, and so has a frame
@@ -32,10 +32,6 @@ place_by va (Granted frame) = Ok (512 * frame + va % 512)
 place_by va Refused = Err script.Refusing
 place_by va Absent = Err script.Absent
 place_by va Past = Err script.Past
-
-abbrev pub cause_of : Bool → Cause
-cause_of true = script.Absent
-cause_of false = script.Refusing
 
 abbrev pub placed_by : List ℕ → (va : ℕ) → Mode → Intent → Lookup → Result ℕ Cause
 placed_by memory va m i (Found place table) = place_by va (granted may_of everywhere (long_at memory place) m i)
@@ -57,14 +53,7 @@ abbrev pub place_or_end : List ℕ → Result ℕ Cause → ℕ
 place_or_end memory (Ok place) = place
 place_or_end memory (Err cause) = length memory
 
--- whether the modify bit of the entry that a look-up found is clear
-abbrev pub is_clear_at : List ℕ → Lookup → Bool
-is_clear_at memory (Found place table) = not (is_modified (long_at memory place))
-is_clear_at memory (Direct frame) = false
-is_clear_at memory (Fails not_valid parameter) = false
-is_clear_at memory Beyond = false
-
--- of the page of an address
+-- whether the modify bit of the entry of an address's page is clear
 abbrev pub is_clear_in : List ℕ → Tables → ℕ → Bool
 is_clear_in memory t va = is_clear_at memory (real_look memory t (page_of va))
 

@@ -5,7 +5,7 @@ use Rattle.vv_base.specs.Bytes.{long_at}
 use Rattle.vax_arch.specs.Fields.{frame_of, is_modified, is_valid, protection_of}
 use Rattle.vax_arch.specs.Protection.{Rights, allows, line_or_none, lines, may_of, rights_in}
 use Rattle.vax_arch.specs.Protection as rights
-use Rattle.vax_arch.specs.Walk.{Tables, behind_table, granted, in_memory, in_region, is_past, lookup, mapped_entry, page_of, process_entry, region_of, system_entry}
+use Rattle.vax_arch.specs.Walk.{Tables, behind_table, granted, in_memory, in_region, is_clear_at, is_past, lookup, mapped_entry, page_of, process_entry, region_of, system_entry}
 use Rattle.vax_arch.specs.declared.mode.Intent.{Intent}
 use Rattle.vax_arch.specs.declared.mode.Intent.TheVariants.{Read, Write}
 use Rattle.vax_arch.specs.declared.mode.Mode.{Mode}
@@ -13,7 +13,7 @@ use Rattle.vax_arch.specs.declared.walk.Grant.{Grant}
 use Rattle.vax_arch.specs.declared.walk.Grant.TheVariants.{Refused}
 use Rattle.vax_arch.specs.declared.walk.Lookup.{Lookup}
 use Rattle.vax_arch.specs.declared.walk.Lookup.TheVariants.{Beyond, Direct, Fails, Found}
-use Rattle.vax_hw.specs.RealTables.{byte_by, everywhere, is_clear_at, is_clear_in, judged, judged_at, judged_by, place_by, place_in, place_or_end, placed_by, real_look}
+use Rattle.vax_hw.specs.RealTables.{byte_by, everywhere, is_clear_in, judged, judged_at, judged_by, place_by, place_in, place_or_end, placed_by, real_look}
 use Rattle.vax_laws.specs.Laws.{HasTheSame}
 use Rattle.vax_laws.specs.Reads.{all_four, found_by, four_from, mapping_at, mapping_of, place_if, places_walked}
 use Rattle.vax_table.specs.Claims.{AreAmong}

@@ -10,9 +10,9 @@ use Rattle.vax_arch.specs.declared.walk.Lookup.{Lookup}
 use Rattle.vax_arch.specs.declared.walk.Lookup.TheVariants.{Beyond, Direct, Fails, Found}
 use Rattle.vax_arch.specs.Fields.{current_of}
 use Rattle.vax_arch.specs.Protection.{may_of}
-use Rattle.vax_arch.specs.Walk.{granted, page_of}
+use Rattle.vax_arch.specs.Walk.{granted, is_clear_at, page_of}
 use Rattle.vax_hw.specs.Machine.{tables_of}
-use Rattle.vax_hw.specs.RealTables.{byte_by, everywhere, is_clear_at, place_by, place_in, place_or_end, placed_by, real_look}
+use Rattle.vax_hw.specs.RealTables.{byte_by, everywhere, place_by, place_in, place_or_end, placed_by, real_look}
 use Rattle.vax_hw.specs.declared.world.World.{World}
 use Rattle.vv_base.specs.Bytes.{long_at}
 use Rattle.vv_base.specs.Width.{size_of}

@@ -7,7 +7,7 @@ use Rattle.std.proofs.lemmas.Option.{get_or_from_slice_get, slice_get_within}
 use Rattle.vv_base.specs.Bytes.{long_at}
 use Rattle.vax_arch.specs.Fields.{current_of, frame_of, is_modified}
 use Rattle.vax_arch.specs.Protection.{may_of}
-use Rattle.vax_arch.specs.Walk.{granted, page_of}
+use Rattle.vax_arch.specs.Walk.{granted, is_clear_at, page_of}
 use Rattle.vax_arch.specs.WalkLaws.{table_place}
 use Rattle.vax_arch.specs.declared.mode.Intent.{Intent}
 use Rattle.vax_arch.specs.declared.mode.Intent.TheVariants.{Read, Write}
@@ -16,7 +16,7 @@ use Rattle.vax_arch.specs.declared.walk.Lookup.{Lookup}
 use Rattle.vax_arch.specs.declared.walk.Lookup.TheVariants.{Beyond, Direct, Fails, Found}
 use Rattle.vax_arch.proofs.Walks.{looks_at_one}
 use Rattle.vax_hw.specs.Machine.{tables_of}
-use Rattle.vax_hw.specs.RealTables.{byte_by, everywhere, is_clear_at, place_by, place_in, placed_by, real_look}
+use Rattle.vax_hw.specs.RealTables.{byte_by, everywhere, place_by, place_in, placed_by, real_look}
 use Rattle.vax_hw.specs.declared.world.World.{World}
 use Rattle.vax_table.specs.Script.{Below, Cause}
 use Rattle.vax_table.specs.Script as script

@@ -1,10 +1,11 @@
 -- The outcome of a look-up is what the code keeps of it.
 use Rattle.std.proofs.Common.{◌≡◌, ℕ, true, false, List, refl}
+use Rattle.vax_arch.specs.Walk.{is_clear_at}
 use Rattle.vax_arch.specs.declared.mode.Intent.{Intent}
 use Rattle.vax_arch.specs.declared.mode.Mode.{Mode}
 use Rattle.vax_arch.specs.declared.walk.Lookup.{Lookup}
 use Rattle.vax_arch.specs.declared.walk.Lookup.TheVariants.{Beyond, Direct, Fails, Found}
-use Rattle.vax_hw.specs.RealTables.{is_clear_at, judged_at, placed_by}
+use Rattle.vax_hw.specs.RealTables.{judged_at, placed_by}
 use Rattle.vax_paged.specs.Paged.{IsMapped, entry_by, entry_of, is_clear_by, judgement, look_of, place_at}
 
 pub placed_mapped : (memory : List ℕ) (va : ℕ) (m : Mode) (i : Intent) (l : Lookup) → IsMapped l → placed_by memory va m i l ≡ place_at va m i (entry_of memory l)

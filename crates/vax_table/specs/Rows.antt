@@ -168,8 +168,8 @@ others =
     ∷ line 0xfd (sensitive [])  -- WAIT, which is FD 01
     ∷ []
 
--- what a block of opcodes that begins at first says of one
-abbrev pub in_block : ℕ → ℕ → List Entry → Option Entry
+-- what a block of opcodes that begins at first has for one
+abbrev pub in_block : {A : Type 0} → ℕ → ℕ → List A → Option A
 in_block n first block = if nat_le first n then slice_get block (n - first) else None
 
 -- what a list of rows says of an opcode
@@ -178,10 +178,10 @@ in_lines n [] = None
 in_lines n (l ∷ ls) = if n == l.opcode then Some l.entry else in_lines n ls
 
 -- the first of these that exists
-abbrev pub first_some : List (Option Entry) → Option Entry
+abbrev pub first_some : {A : Type 0} → List (Option A) → Option A
 first_some [] = None
-first_some (Some e ∷ os) = Some e
-first_some (None ∷ os) = first_some os
+first_some (Some x ∷ more) = Some x
+first_some (None ∷ more) = first_some more
 
 -- the table: what it says of an opcode, None where no instruction has it
 unfoldable pub row_of : ℕ → Option Entry

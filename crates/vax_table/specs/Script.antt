@@ -1,13 +1,18 @@
 -- What an instruction does in order: accesses and tests, and then a result. An interaction is interpreted over a
 -- space; from the one interaction follow the result, the first trouble, and the bytes that were asked for
 -- (VAX Architecture Reference Manual: instruction execution, and the order of operand accesses).
-use Rattle.std.specs.Prelude.{◌≡◌, ℕ, zero, suc, ◌+◌, ◌*◌, ◌%◌, ◌^◌, List, [], ◌∷◌, ◌++◌, ◌⊎◌, Result, Ok, Err}
+use Rattle.std.specs.Prelude.{◌≡◌, ℕ, zero, suc, ◌+◌, ◌*◌, ◌%◌, ◌^◌, Bool, true, false, List, [], ◌∷◌, ◌++◌, ◌⊎◌, Result, Ok, Err}
 use Rattle.vax_arch.specs.declared.mode.Intent.{Intent}
 use Rattle.vax_table.specs.declared.act.Refusal.{Refusal}
 
 -- why a space has no byte: not valid; refused by its code or by a length; beyond memory
 pub data Cause : Type 0 where
   Absent Refusing Past : Cause
+
+-- the cause of a fault, by whether it is of a page that isn't valid
+abbrev pub cause_of : Bool → Cause
+cause_of true = Absent
+cause_of false = Refusing
 
 -- what an interaction stops at: the first byte of a reference that has trouble, or a test that refuses the instruction
 pub data Trouble : Type 0 where

@@ -1,7 +1,8 @@
 -- The interval clock: its registers, a tick, and what writing a register does
 -- (VAX Architecture Reference Manual, interval clock registers ICCS, NICR and ICR).
-use Rattle.std.specs.Prelude.{ℕ, ◌+◌, ◌*◌, ◌^◌, ◌==◌, Bool, true, false, not, ◌&&◌, ◌||◌, nat_le, if◌then◌else◌}
-use Rattle.std.specs.Int.{bit_at, from_bool}
+use Rattle.std.specs.Prelude.{ℕ, ◌+◌, ◌*◌, ◌^◌, Bool, true, false, not, ◌&&◌, ◌||◌, nat_le, if◌then◌else◌}
+use Rattle.std.specs.Int.{from_bool}
+use Rattle.vv_base.specs.Bits.{is_set}
 
 -- four bits of ICCS, the two counts, and the request for an interrupt
 pub record ClockState : Type 0 where
@@ -45,10 +46,6 @@ wraps_next clock = clock.run && is_at_end clock
 -- what reading ICCS gives
 abbrev pub iccs_of : ClockState → ℕ
 iccs_of clock = from_bool clock.run + 2 ^ 6 * from_bool clock.enable + 2 ^ 7 * from_bool clock.interrupt + 2 ^ 31 * from_bool clock.error
-
--- bit k of a value
-abbrev pub is_set : ℕ → ℕ → Bool
-is_set value k = bit_at value k == 1
 
 -- Writing a value to ICCS does five things, in this order (the order is profile).
 -- 1. Bit 31 clears error.

@@ -1,7 +1,8 @@
 -- A clock as plain numbers, as it is written out and read back.
 use Rattle.std.specs.Prelude.{◌≡◌, ◌/◌, ◌%◌, ◌^◌, IsTrue}
 use Rattle.vm_clock.specs.declared.ClockParts.{ClockParts}
-use Rattle.vm_clock.specs.Clock.{ClockState, iccs_of, is_set}
+use Rattle.vv_base.specs.Bits.{is_set}
+use Rattle.vm_clock.specs.Clock.{ClockState, iccs_of}
 
 -- the parts of a clock
 abbrev pub parts_of : ClockState → ClockParts

@@ -1,7 +1,8 @@
 -- The console's registers RXCS, RXDB, TXCS and TXDB
 -- (VAX Architecture Reference Manual, console terminal registers; all that is said of bytes that wait and of requests is profile).
 use Rattle.std.specs.Prelude.{ℕ, ◌+◌, ◌*◌, ◌^◌, ◌<◌, ◌==◌, Bool, true, false, not, ◌&&◌, ◌||◌, nat_lt, if◌then◌else◌, List, [], ◌∷◌, ◌++◌, length, drop, slice_index, IsTrue}
-use Rattle.std.specs.Int.{bit_at, from_bool}
+use Rattle.std.specs.Int.{from_bool}
+use Rattle.vv_base.specs.Bits.{is_set}
 
 pub record ConsoleState : Type 0 where
   -- the typed bytes that wait, in order
@@ -56,10 +57,6 @@ after_rxdb_read console =
     if not (is_done left) then record left { rx_request = false }
     else if left.rx_enable then record left { rx_request = true }
     else left
-
--- bit k of a value
-abbrev pub is_set : ℕ → ℕ → Bool
-is_set value k = bit_at value k == 1
 
 -- Writing RXCS: enable becomes bit 6. Clearing it ends the request; setting it anew while a byte waits makes one.
 abbrev pub after_rxcs_write : ConsoleState → ℕ → ConsoleState

@@ -5,7 +5,7 @@ use Rattle.std.proofs.lemmas.List.Elements.{All-cons}
 use Rattle.vax_arch.specs.WalkLaws.{AreAligned}
 use Rattle.vax_arch.specs.declared.mode.Intent.TheVariants.{Write}
 use Rattle.vax_table.specs.Claims.{addresses}
-use Rattle.vax_table.specs.Script.{At, number_at, with_byte}
+use Rattle.vax_table.specs.Script.{At, cause_of, number_at, with_byte}
 use Rattle.vax_table.specs.Stores.{bytes_stored}
 use Rattle.vax_table.specs.Tries.{first_clear}
 use Rattle.vax_table.specs.declared.act.Trapped.{Trapped}
@@ -19,7 +19,7 @@ use Rattle.vm_state.specs.Pushes.{all_put}
 use Rattle.vm_state.specs.Registers.{read}
 use Rattle.vm_state.specs.Sensitive.{fault_of, frames_of_bytes, with_codes}
 use Rattle.vm_state.specs.State.{Guest, mode_of_state, state_of}
-use Rattle.vm_state.specs.Translation.{byte_by, cause_of, frame_at, place_by, place_of, space_of, walk_of}
+use Rattle.vm_state.specs.Translation.{byte_by, frame_at, place_by, place_of, space_of, walk_of}
 use Rattle.vm_state.specs.declared.guest_state.GuestState.{GuestState}
 use Rattle.vm_state.specs.declared.register.ReservedOperand.{ReservedOperand}
 use Rattle.vm_state.specs.declared.walk.MemFault.{MemFault}

@@ -6,13 +6,14 @@ use Rattle.vm_shadow.proofs.Storing.{four_at, four_small, long_from}
 use Rattle.vv_base.specs.Bytes.{long_at}
 use Rattle.vax_arch.specs.WalkLaws.{AreAligned}
 use Rattle.vax_arch.specs.declared.mode.Intent.TheVariants.{Read}
+use Rattle.vax_table.specs.Script.{Cause, Trouble, cause_of, number_at}
 use Rattle.vax_table.specs.Script as script
 use Rattle.vm_emulate.specs.Readings.{IsByte}
 use Rattle.vm_emulate.specs.declared.reading.Unread.TheVariants as reasons
 use Rattle.vm_exception.proofs.Homes.{FindsInside, finds_inside}
 use Rattle.vm_state.specs.Sensitive.{fault_of}
 use Rattle.vm_state.specs.State.{Guest, mode_of_state}
-use Rattle.vm_state.specs.Translation.{byte_by, cause_of, walk_of}
+use Rattle.vm_state.specs.Translation.{byte_by, walk_of}
 use Rattle.vm_state.specs.declared.walk.MemFault.{MemFault}
 use Rattle.vm_state.specs.declared.walk.Walk.TheVariants as walks
 

@@ -8,7 +8,6 @@ use Rattle.vax_table.specs.Operand.{minus}
 use Rattle.vax_table.specs.declared.act.Sens.TheVariants.{Ldpctx}
 use Rattle.vax_table.specs.declared.act.Trapped.{Trapped}
 use Rattle.vm_emulate.specs.Emulated.{Senses}
-use Rattle.vm_emulate.specs.Followed.{Retells}
 use Rattle.vm_emulate.specs.Loaded.{IsBlock, has_reserved_bit, refuses_register, with_process}
 use Rattle.vm_emulate.specs.declared.emulated.Emulated.{Emulated}
 use Rattle.vm_emulate.specs.declared.emulated.Emulated.TheVariants as outcomes
@@ -21,7 +20,7 @@ use Rattle.vm_exception.proofs.Writing.{only_then}
 use Rattle.vm_exception.specs.Wrote.{AreHomes, DropsAmong, Wrote}
 use Rattle.vm_exception.proofs.Homes.{homes_inside}
 use Rattle.vm_shadow.specs.Stands.{CanStand, Shadowed, own}
-use Rattle.vm_shadow.specs.StandsFor.{StandsFor, Switches}
+use Rattle.vm_shadow.specs.StandsFor.{OnlyGuest, Retells, StandsFor, Switches}
 use Rattle.vm_shadow.proofs.Contexts.{aligned_of}
 use Rattle.vm_shadow.proofs.Covering.{own_is}
 use Rattle.vm_shadow.proofs.Filling.{own_apart}

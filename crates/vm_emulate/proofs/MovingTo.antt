@@ -4,7 +4,6 @@ use Rattle.vax_hw.specs.Machine.{Machine}
 use Rattle.vax_table.specs.declared.act.Sens.TheVariants.{Mtpr}
 use Rattle.vax_table.specs.declared.act.Trapped.{Trapped}
 use Rattle.vm_emulate.specs.Emulated.{Senses}
-use Rattle.vm_emulate.specs.Followed.{Retells}
 use Rattle.vm_emulate.specs.Moved.{IsWritten}
 use Rattle.vm_emulate.specs.declared.emulated.Emulated.TheVariants as outcomes
 use Rattle.vm_emulate.proofs.Same.{same_guest}
@@ -15,7 +14,7 @@ use Rattle.vm_exception.specs.Wrote.{Wrote}
 use Rattle.vm_exception.proofs.Writing.{wrote_one}
 use Rattle.vm_shadow.specs.Calls.{OnlyTables}
 use Rattle.vm_shadow.specs.Stands.{CanStand, Shadowed, own}
-use Rattle.vm_shadow.specs.StandsFor.{OnlyGuest, Serves, StandsFor, Stores, Switches}
+use Rattle.vm_shadow.specs.StandsFor.{OnlyGuest, Retells, Serves, StandsFor, Stores, Switches}
 use Rattle.vm_shadow.proofs.Covering.{own_is}
 use Rattle.vm_shadow.proofs.Filling.{byte_apart, own_apart}
 use Rattle.vm_shadow.proofs.Making.{can_stand}

@@ -1,5 +1,6 @@
 -- The touched pages of an instruction, counted and added.
-use Rattle.std.proofs.Common.{◌≡◌, ℕ, ◌+◌, ◌≤◌, ◌⊎◌, inl, inr, Bool, true, false, cond, ◌||◌, ◌==◌, List, [], ◌∷◌, ◌++◌, find, Some, is_some, refl, ap, ◌∙◌, sym, arith}
+use Rattle.std.proofs.Common.{◌≡◌, ℕ, ◌+◌, ◌≤◌, ◌⊎◌, inl, inr, Bool, true, false, cond, ◌||◌, ◌==◌, List, [], ◌∷◌, ◌++◌, refl, ap, ◌∙◌, sym, arith}
+use Rattle.std.specs.List.{list_any}
 use Rattle.std.proofs.lemmas.Bool.{cases_Bool, eq-eqb, eqb-true, false≢true}
 use Rattle.vax_table.specs.Script.{IsIn}
 use Rattle.vm_fitting.specs.Present.{unfilled_of}
@@ -8,7 +9,7 @@ use Rattle.vm_shadow.proofs.Places.{split}
 use Rattle.vm_state.specs.Touches.{Present, Process, Touching, added, found_all, found_one, front_pages, holds, is_present, is_system, lacked_all, lacked_one, with_front}
 
 -- what a list holds
-held_later : (b : Bool) (x page : ℕ) (pages : List ℕ) → (x == page) ≡ b → is_some (cond b (Some x) (find (λ p. p == page) pages)) ≡ true → (page ≡ x) ⊎ (holds page pages ≡ true)
+held_later : (b : Bool) (x page : ℕ) (pages : List ℕ) → (x == page) ≡ b → (b || list_any (λ p. p == page) pages) ≡ true → (page ≡ x) ⊎ (holds page pages ≡ true)
 held_later true x page pages e h = inl (sym (eqb-true x page e))
 held_later false x page pages e h = inr h
 

@@ -2,14 +2,14 @@
 use Rattle.std.proofs.Common.{◌≡◌, ◌≢◌, ℕ, suc, ◌<◌, ◌≤◌, inl, inr, Bool, true, false, cond, ◌&&◌, ◌||◌, ◌==◌, nat_le, List, [], ◌∷◌, length, get_or, All, AllPairs, IfSome, Option, Some, is_some, refl, ap, ◌∙◌, sym, subst, arith}
 use Rattle.std.proofs.lemmas.Bool.{and_left, and_right, eq-eqb, eqb-true, false≢true, lt-leb, ne_eqb}
 use Rattle.vax_arch.specs.Walk.{Tables, in_region, region_of}
-use Rattle.vm_fitting.specs.Moves.{Moves, Retells}
+use Rattle.vm_fitting.specs.Moves.{Moves}
 use Rattle.vm_fitting.specs.Present.{HasEntry, HasPresent, HaveEntries, HaveSlots}
 use Rattle.vm_fitting.proofs.Slots.{Stays, brought_forward, emptied_all, not_full, slots_emptied}
 use Rattle.vm_fitting.proofs.Surviving.{all_survive}
 use Rattle.vm_shadow.specs.Calls.{unless_dropped}
 use Rattle.vm_shadow.specs.Layout.{IsCovered, entry_number, entry_slot}
 use Rattle.vm_shadow.specs.Stands.{Keeps, Shadowed, read_at}
-use Rattle.vm_shadow.specs.StandsFor.{Serves, goes, is_full_for, staying}
+use Rattle.vm_shadow.specs.StandsFor.{Retells, Serves, goes, is_full_for, staying}
 use Rattle.vm_shadow.specs.declared.source.Source.{Source}
 use Rattle.vm_shadow.proofs.Places.{number_system, slot_again}
 use Rattle.vm_slots.specs.Held.{AreSlots, Held, beside, slot_of}

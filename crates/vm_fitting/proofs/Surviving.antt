@@ -1,5 +1,6 @@
 -- Real entries of present pages, when frames are written of which none holds an entry by which a present page was found.
-use Rattle.std.proofs.Common.{◌≡◌, ℕ, ◌*◌, ◌^◌, ◌<◌, ◌⊎◌, inl, inr, Bool, true, false, cond, ◌||◌, ◌==◌, List, [], ◌∷◌, length, find, get_or, All, Option, Some, None, is_some, option_map, refl, ap, ◌∙◌, sym, subst, arith}
+use Rattle.std.proofs.Common.{◌≡◌, ℕ, ◌*◌, ◌^◌, ◌<◌, ◌⊎◌, inl, inr, Bool, true, false, ◌||◌, ◌==◌, List, [], ◌∷◌, length, get_or, All, Option, Some, None, is_some, option_map, refl, ap, ◌∙◌, sym, subst, arith}
+use Rattle.std.specs.List.{list_any}
 use Rattle.std.proofs.lemmas.Bool.{eq-eqb, eqb-true, false≢true, ne_eqb, or_from, or_parts, true≢false}
 use Rattle.std.proofs.lemmas.List.{get_or_default}
 use Rattle.std.proofs.lemmas.List.Elements.{All-head, All-tail}
@@ -22,19 +23,19 @@ use Rattle.vm_slots.specs.Held.{AreSlots, Held}
 use Rattle.vm_slots.specs.declared.context.Context.{Context}
 use Rattle.vm_state.specs.Partition.{guest_of}
 use Rattle.vm_state.specs.State.{Guest, tables_of}
-use Rattle.vm_state.specs.Touches.{Present, Process, any, frames_read, have_common, holds, is_overwritten, under, was_read}
+use Rattle.vm_state.specs.Touches.{Present, Process, frames_read, have_common, holds, is_overwritten, under, was_read}
 use Rattle.vm_state.specs.Translation.{frame_at}
 use Rattle.vm_state.specs.declared.guest_state.GuestState.{GuestState}
 
 -- none of a list passes a test
-any_parts : {A : Type 0} (f : A → Bool) (x : A) (xs : List A) → any f (x ∷ xs) ≡ false → (f x ≡ false) × (any f xs ≡ false)
+any_parts : {A : Type 0} (f : A → Bool) (x : A) (xs : List A) → list_any f (x ∷ xs) ≡ false → (f x ≡ false) × (list_any f xs ≡ false)
 any_parts f x xs h = one (f x) refl h
   where
-    one : (b : Bool) → f x ≡ b → is_some (cond b (Some x) (find f xs)) ≡ false → (f x ≡ false) × (any f xs ≡ false)
+    one : (b : Bool) → f x ≡ b → (b || list_any f xs) ≡ false → (f x ≡ false) × (list_any f xs ≡ false)
     one true e k = absurd (true≢false k)
     one false e k = (e, k)
 
-none_passes : (f : ℕ → Bool) (xs : List ℕ) (x : ℕ) → any f xs ≡ false → IsIn x xs → f x ≡ false
+none_passes : (f : ℕ → Bool) (xs : List ℕ) (x : ℕ) → list_any f xs ≡ false → IsIn x xs → f x ≡ false
 none_passes f [] x h j = absurd j
 none_passes f (y ∷ ys) x h (inl e) = ap f e ∙ (any_parts f y ys h).0
 none_passes f (y ∷ ys) x h (inr j) = none_passes f ys x (any_parts f y ys h).1 j
@@ -107,7 +108,7 @@ module _ (memory : List ℕ) (s : Shadowed) (g : GuestState) (k : Keeps [] [] me
       let free : is_pending frames (read_at s n) ≡ false = from_source _ _ _ _ _ (read_at s n) frames (k.entries n (number_small slot page low h.covered)) h.filled apart in
       record { small = h.small; covered = h.covered; filled = stays_filled (read_at s n) (read_at s' n) frames (d.each n) free h.filled }
 
-  system_survives : (pages : List ℕ) → any (was_read whole whole.state.tables frames) pages ≡ false → HaveEntries s true 0 pages → HaveEntries s' true 0 pages
+  system_survives : (pages : List ℕ) → list_any (was_read whole whole.state.tables frames) pages ≡ false → HaveEntries s true 0 pages → HaveEntries s' true 0 pages
   system_survives pages none all page h =
       let one = all page h in
       let region : region_of page ≡ 2 = eqb-true (region_of page) 2 one.0 in
@@ -121,7 +122,7 @@ module _ (memory : List ℕ) (s : Shadowed) (g : GuestState) (k : Keeps [] [] me
       system_low page r (inr (inl c)) = absurd (omega (arith, r, c.0))
       system_low page r (inr (inr c)) = absurd (omega (arith, r, c.0))
 
-  process_survives : (h : Held) (slot : ℕ) (q : Process) → slot < 4 → context_in slot s.held ≡ Some q.context → any (was_read whole (under whole q.context) frames) q.pages ≡ false → HaveEntries s false slot q.pages → HaveEntries s' false slot q.pages
+  process_survives : (h : Held) (slot : ℕ) (q : Process) → slot < 4 → context_in slot s.held ≡ Some q.context → list_any (was_read whole (under whole q.context) frames) q.pages ≡ false → HaveEntries s false slot q.pages → HaveEntries s' false slot q.pages
   process_survives held slot q low is none all page h =
       let one = all page h in
       let other : region_of page ≡ 2 → ⊥ = λ e. false≢true (sym one.0 ∙ eq-eqb (region_of page) 2 e) in
@@ -134,11 +135,11 @@ module _ (memory : List ℕ) (s : Shadowed) (g : GuestState) (k : Keeps [] [] me
   abbrev IsHere : Held → Type 0
   IsHere held = All (λ h. (h.1 < 4) × (context_in h.1 s.held ≡ Some h.0)) held
 
-  slots_survive : (held : Held) (ps : List Process) → IsHere held → any (λ q. any (was_read whole (under whole q.context) frames) q.pages) ps ≡ false → HaveSlots s held ps → HaveSlots s' held ps
+  slots_survive : (held : Held) (ps : List Process) → IsHere held → list_any (λ q. list_any (was_read whole (under whole q.context) frames) q.pages) ps ≡ false → HaveSlots s held ps → HaveSlots s' held ps
   slots_survive [] ps here none all = all
   slots_survive (h ∷ hs) [] here none all = all
   slots_survive (h ∷ hs) (q ∷ qs) here none all =
-      let parts = any_parts (λ q. any (was_read whole (under whole q.context) frames) q.pages) q qs none in
+      let parts = any_parts (λ q. list_any (was_read whole (under whole q.context) frames) q.pages) q qs none in
       let at = All-head (λ x. (x.1 < 4) × (context_in x.1 s.held ≡ Some x.0)) h hs here in
       let context : context_in h.1 s.held ≡ Some q.context = at.1 ∙ ap (λ c. Some c) (sym all.0) in
       (all.0, process_survives hs h.1 q at.0 context parts.0 all.1, slots_survive hs qs (All-tail (λ x. (x.1 < 4) × (context_in x.1 s.held ≡ Some x.0)) h hs here) parts.1 all.2)

@@ -4,10 +4,10 @@ use Rattle.std.specs.Prelude.{◌≡◌, ℕ, ◌+◌, ◌≤◌, [], ◌∷◌,
 use Rattle.vax_arch.specs.declared.walk.Lookup.{Lookup}
 use Rattle.vax_hw.specs.Machine.{Machine}
 use Rattle.vax_hw.specs.Real.{Retired, one}
-use Rattle.vm_fitting.specs.Moves.{Drops, Retells}
+use Rattle.vm_fitting.specs.Moves.{Drops}
 use Rattle.vm_fitting.specs.Present.{HasPresent, to_miss}
 use Rattle.vm_shadow.specs.Stands.{Shadowed}
-use Rattle.vm_shadow.specs.StandsFor.{DropsFrom, DropsMarked, Switches}
+use Rattle.vm_shadow.specs.StandsFor.{DropsFrom, DropsMarked, Retells, Switches}
 use Rattle.vm_simulation.specs.Loaded.{RunsGuest}
 use Rattle.vm_state.specs.Partition.{guest_of}
 use Rattle.vm_state.specs.State.{Guest, tables_of}

@@ -3,7 +3,6 @@ use Rattle.std.proofs.Common.{◌≡◌, ℕ, ◌*◌, inl, Bool, List, [], ◌�
 use Rattle.std.proofs.lemmas.List.Elements.{All-nil}
 use Rattle.vax_hw.specs.Machine.{Machine}
 use Rattle.vm_bursts.proofs.Completing.{only_both, own_same}
-use Rattle.vm_fitting.specs.Moves.{Retells}
 use Rattle.vm_fitting.proofs.Fitting.{resets_keep, writes_keep}
 use Rattle.vm_fitting.proofs.Own.{moves_alone, none_dropped}
 use Rattle.vm_fitting.proofs.Working.{switches_retell}
@@ -11,7 +10,7 @@ use Rattle.vm_guest.specs.Kept.{Becomes, IsNew, IsResumed, KeepsPresent, Kept, S
 use Rattle.vm_console.specs.Console.{ConsoleState, after_typed}
 use Rattle.vm_guest.specs.Stores.{StoresAll}
 use Rattle.vm_shadow.specs.Stands.{Shadowed}
-use Rattle.vm_shadow.specs.StandsFor.{Makes, Switches}
+use Rattle.vm_shadow.specs.StandsFor.{Makes, Retells, Switches}
 use Rattle.vm_state.specs.Allowed.{AreAllowed, IsPacket}
 use Rattle.vm_state.specs.Outside.{all_typed}
 use Rattle.vm_state.specs.Partition.{part, partition_of}

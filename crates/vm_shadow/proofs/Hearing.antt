@@ -6,7 +6,7 @@ use Rattle.vv_base.specs.Bytes.{long_at}
 use Rattle.vax_arch.specs.Fields.{frame_of, is_modified, is_valid, protection_of}
 use Rattle.vax_arch.specs.Protection.{may_of}
 use Rattle.vax_arch.specs.Ring.{compressed_of, open_of, ring_of}
-use Rattle.vax_arch.specs.Walk.{entry_at, granted, page_of}
+use Rattle.vax_arch.specs.Walk.{entry_at, granted, is_clear_at, page_of}
 use Rattle.vax_arch.specs.declared.mode.Intent.{Intent}
 use Rattle.vax_arch.specs.declared.mode.Intent.TheVariants.{Read, Write}
 use Rattle.vax_arch.specs.declared.mode.Mode.{Mode}
@@ -18,7 +18,7 @@ use Rattle.vax_arch.specs.declared.walk.Lookup.{Lookup}
 use Rattle.vax_arch.specs.declared.walk.Lookup.TheVariants.{Beyond, Direct, Fails, Found}
 use Rattle.vax_arch.proofs.Compression.{by_table, compresses}
 use Rattle.vax_arch.proofs.Walks.{looks_inside}
-use Rattle.vax_hw.specs.RealTables.{everywhere, is_clear_at, is_clear_in, is_kernels_alone, judged, judged_at, judged_by, place_by, place_in, placed_by}
+use Rattle.vax_hw.specs.RealTables.{everywhere, is_clear_in, is_kernels_alone, judged, judged_at, judged_by, place_by, place_in, placed_by}
 use Rattle.vax_table.specs.Script.{Absent, Cause, Refusing}
 use Rattle.vm_shadow.specs.Laws.{FindsFilledEntries, HasNone, HearsTheGuest, IsHeard, MarksTheGuest, MissesEmptyEntries, ProbesFilledEntries, ProbesTheGuest, guest_place, moved, own_place, real_place}
 use Rattle.vm_shadow.specs.Layout.{IsCovered, all_entries, empty_entry, real_entry, real_tables}
@@ -34,7 +34,7 @@ use Rattle.vm_shadow.proofs.Rights.{code_of, frame_fits, frame_is, right_modify,
 use Rattle.vm_state.specs.Partition.{guest_of, partition_of}
 use Rattle.vm_state.specs.Probe.{Answers, by_entry, probed_by, probed_byte}
 use Rattle.vm_state.specs.State.{Guest, tables_of}
-use Rattle.vm_state.specs.Translation.{at_entry, is_clear, is_clear_at as guest_clear, look, walk_by, walk_of}
+use Rattle.vm_state.specs.Translation.{at_entry, is_clear, look, walk_by, walk_of}
 use Rattle.vm_state.specs.declared.guest_state.GuestState.{GuestState}
 
 -- what an entry that isn't filled gives
@@ -245,7 +245,7 @@ module _ (opened : List ℕ) (memory : List ℕ) (s : Shadowed) (g : GuestState)
   pub clear_by : (va : ℕ) → IsCovered (page_of va) → is_clear_in memory (real_tables s.at s.slot) va ≡ not (is_modified (real_at memory s (own_number s (page_of va))))
   clear_by va c = ap (is_clear_at memory) (entry_found memory s (page_of va) k.fits (slot_small memory s k.fits) c).1
 
-  own_clear : (x : Lookup) (entry : ℕ) → entry_at (partition_of memory g) x ≡ Some entry → is_modified entry ≡ true → guest_clear (partition_of memory g) x ≡ false
+  own_clear : (x : Lookup) (entry : ℕ) → entry_at (partition_of memory g) x ≡ Some entry → is_modified entry ≡ true → is_clear_at (partition_of memory g) x ≡ false
   own_clear (Found place table) entry has on = let same : long_at (partition_of memory g) place ≡ entry = same_Some _ entry has in ap not (ap is_modified same ∙ on)
   own_clear (Direct frame) entry has on = refl
   own_clear (Fails n p) entry has on = refl
@@ -267,7 +267,7 @@ module _ (opened : List ℕ) (memory : List ℕ) (s : Shadowed) (g : GuestState)
   none_clear : (va : ℕ) → (IsCovered (page_of va) → ⊥) → is_clear (guest_of memory g) va ≡ false
   none_clear va u = by (look (guest_of memory g) (page_of va)) refl
     where
-      by : (x : Lookup) → look (guest_of memory g) (page_of va) ≡ x → guest_clear (partition_of memory g) x ≡ false
+      by : (x : Lookup) → look (guest_of memory g) (page_of va) ≡ x → is_clear_at (partition_of memory g) x ≡ false
       by (Found place table) e = absurd (u (covered (length (partition_of memory g)) (partition_of memory g) (tables_of g) (page_of va) (long_at (partition_of memory g) place) can_serve (omega (arith, size_is, k.fits.small)) (ap (entry_at (partition_of memory g)) e)))
       by (Direct frame) e = refl
       by (Fails n p) e = refl

@@ -6,7 +6,7 @@ use Rattle.std.specs.Bool.{beq}
 use Rattle.vax_arch.specs.Walk.{Tables}
 use Rattle.vm_shadow.specs.Calls.{unless_dropped}
 use Rattle.vm_shadow.specs.Stands.{Fits, IsFirst, Shadowed, read_at}
-use Rattle.vm_shadow.specs.StandsFor.{Takes, goes, is_full_for, staying}
+use Rattle.vm_shadow.specs.StandsFor.{Retells, Takes, goes, is_full_for, staying}
 use Rattle.vm_slots.specs.Held.{AreSlots, Held, beside, contexts_of, is_same, without}
 use Rattle.vm_slots.specs.declared.context.Context.{Context}
 use Rattle.vm_slots.proofs.HeldLaws.{forward_law, is_same-true}
@@ -72,15 +72,12 @@ kept_by : (slot n : ℕ) (remapped full : Bool) → remapped ≡ false → full 
 kept_by slot n remapped full e f = rw (e, f) refl
 
 -- a switch to the own context would change nothing
-pub record IsToldAgain (s : Shadowed) : Type 0 where
-  pub takes : Takes (context_of s.told) (staying (is_remapped s.told s.told) s.held) s.held s.slot
-  pub each : (n : ℕ) → read_at s n ≡ unless_dropped (goes (is_remapped s.told s.told) (is_full_for (context_of s.told) s.held) s.slot n) (read_at s n)
-
-pub told_again : (memory : List ℕ) (s : Shadowed) → Fits memory s → IsToldAgain s
+pub told_again : (memory : List ℕ) (s : Shadowed) → Fits memory s → Retells s.told s s
 told_again memory s f =
     let own = own_front (context_of s.told) s.slot s.held f.first f.slots in
     let e = not_remapped s.told in
     record {
       takes = subst (λ b. Takes (context_of s.told) (staying b s.held) s.held s.slot) (sym e) own.takes;
       each = λ n. ap (λ b. unless_dropped b (read_at s n)) (sym (kept_by s.slot n _ _ e own.full));
+      rest = refl;
     }

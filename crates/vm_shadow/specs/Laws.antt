@@ -5,13 +5,13 @@ use Rattle.vax_arch.specs.Walk.{page_of}
 use Rattle.vax_arch.specs.declared.mode.Intent.{Intent}
 use Rattle.vax_arch.specs.declared.mode.Mode.{Mode}
 use Rattle.vax_hw.specs.RealTables.{is_clear_in, judged, place_in}
-use Rattle.vax_table.specs.Script.{Absent, Cause, Past, Refusing}
+use Rattle.vax_table.specs.Script.{Absent, Cause, Past, Refusing, cause_of}
 use Rattle.vm_shadow.specs.Layout.{real_tables}
 use Rattle.vm_shadow.specs.Stands.{Keeps, Shadowed, read_at}
 use Rattle.vm_shadow.specs.StandsFor.{IsPresent, Serves, own_number}
 use Rattle.vm_state.specs.Partition.{guest_of}
 use Rattle.vm_state.specs.Probe.{Answers, probed_byte}
-use Rattle.vm_state.specs.Translation.{cause_of, is_clear, walk_of}
+use Rattle.vm_state.specs.Translation.{is_clear, walk_of}
 use Rattle.vm_state.specs.declared.guest_state.GuestState.{GuestState}
 use Rattle.vm_state.specs.declared.walk.Walk.{Walk}
 use Rattle.vm_state.specs.declared.walk.Walk.TheVariants as walks

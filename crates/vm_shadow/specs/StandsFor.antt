@@ -2,7 +2,7 @@
 use Rattle.std.specs.Prelude.{◌≡◌, ◌≢◌, ℕ, ◌+◌, ◌*◌, ◌/◌, ◌%◌, ◌^◌, ◌<◌, ◌≤◌, ◌==◌, ◌⊎◌, Bool, true, false, not, ◌&&◌, nat_le, List, [], ◌∷◌, length, IfSome, Option, Some, None, filter, slice_index, slice_set}
 use Rattle.vax_arch.specs.Fields.{current_of, frame_of, is_modified, is_valid, mode_number, previous_of}
 use Rattle.vax_arch.specs.Ring.{ring_of}
-use Rattle.vax_arch.specs.Walk.{entry_at, with_modify}
+use Rattle.vax_arch.specs.Walk.{Tables, entry_at, with_modify}
 use Rattle.vax_arch.specs.declared.walk.Lookup.{Lookup}
 use Rattle.vax_arch.specs.declared.walk.Lookup.TheVariants as looks
 use Rattle.vax_arch.specs.declared.pte.Pte.{Pte}
@@ -160,6 +160,13 @@ pub record Takes (c : Context) (held held' : Held) (slot : ℕ) : Type 0 where
   pub before : AreSlots held
   pub after : AreSlots held'
   pub contexts : contexts_of held' ≡ brought_forward c (contexts_of held)
+
+-- Registers of page tables are told, or told again: their context moves to the front of those that stay, which keep their
+-- slots, and what a switch to it drops is dropped.
+pub record Retells (t : Tables) (s s' : Shadowed) : Type 0 where
+  pub takes : Takes (context_of t) (staying (is_remapped s.told t) s.held) s'.held s'.slot
+  pub each : (n : ℕ) → read_at s' n ≡ unless_dropped (goes (is_remapped s.told t) (is_full_for (context_of t) s.held) s'.slot n) (read_at s n)
+  pub rest : s' ≡ record s { told = s'.told; slot = s'.slot; held = s'.held; reads = s'.reads }
 
 -- the entries that go lie in one range
 abbrev pub range_that_goes : (remapped evicted : Bool) → (slot : ℕ) → ℕ × ℕ

@@ -89,7 +89,7 @@ sum_mod t a b = grind arith
 same_mod : (n : ℕ) → n % 2 ^ 64 ≡ (n + 0) % 2 ^ 64
 same_mod n = ap (λ k. k % 2 ^ 64) (omega arith)
 
--- the run behind one plain step without a trap
+-- the run after one plain step without a trap
 one_plain : (m : Machine) (s : Shadowed) (g : GuestState) (x : Retired) (r : IsRetired [] m s g x) (run : Run) → x.trap ≡ None → run.guest ≡ guest_of m.memory g → after_step run (executed run.guest) ≡ plainly run (guest_of x.machine.memory (as_run x.machine.world g)) 1 r.term
 one_plain m s g x r run none e =
     let h = guest_of x.machine.memory (as_run x.machine.world g) in

@@ -6,7 +6,7 @@ use Rattle.vv_base.specs.Bytes.{long_at}
 use Rattle.vax_arch.specs.Fields.{frame_of, is_modified, is_valid, protection_of}
 use Rattle.vax_arch.specs.Protection.{may_of}
 use Rattle.vax_arch.specs.Ring.{ring_of}
-use Rattle.vax_arch.specs.Walk.{entry_at, granted, is_past, page_of}
+use Rattle.vax_arch.specs.Walk.{entry_at, granted, is_clear_at, is_past, page_of}
 use Rattle.vax_arch.specs.declared.mode.Intent.{Intent}
 use Rattle.vax_arch.specs.declared.mode.Mode.{Mode}
 use Rattle.vax_arch.specs.declared.walk.Grant.{Grant}
@@ -28,7 +28,7 @@ use Rattle.vm_shadow.proofs.Places.{split}
 use Rattle.vm_shadow.proofs.Rights.{right_valid}
 use Rattle.vm_state.specs.Partition.{guest_of, partition_of}
 use Rattle.vm_state.specs.State.{tables_of}
-use Rattle.vm_state.specs.Translation.{is_clear, is_clear_at, look}
+use Rattle.vm_state.specs.Translation.{is_clear, look}
 use Rattle.vm_state.specs.declared.guest_state.GuestState.{GuestState}
 
 -- the frame of a place that an entry gives

@@ -1,8 +1,9 @@
 -- How often a guest touches a page that it hasn't touched since its translation could have changed: the number that
 -- bounds the misses of the real machine. A set of present system pages is kept, and for each of the four contexts used
 -- last, the most recent first, a set of its present other pages (profile).
-use Rattle.std.specs.Prelude.{ℕ, zero, suc, ◌+◌, ◌==◌, ◌||◌, Bool, not, if◌then◌else◌, List, [], ◌∷◌, length, map, filter, find, take, Option, Some, None, is_some}
+use Rattle.std.specs.Prelude.{ℕ, zero, suc, ◌+◌, ◌==◌, ◌||◌, Bool, not, if◌then◌else◌, List, [], ◌∷◌, length, map, filter, find, take, Option, Some, None}
 use Rattle.std.specs.Bool.{beq}
+use Rattle.std.specs.List.{list_any}
 use Rattle.vax_arch.specs.Walk.{Tables, lookup, region_of}
 use Rattle.vax_arch.specs.declared.walk.Lookup.{Lookup}
 use Rattle.vax_arch.specs.declared.walk.Lookup.TheVariants.{Beyond, Direct, Fails, Found}
@@ -26,12 +27,8 @@ pub record Present : Type 0 where
 abbrev pub is_system : ℕ → Bool
 is_system page = region_of page == 2
 
--- whether a list has such a member
-abbrev pub any : {A : Type 0} → (A → Bool) → List A → Bool
-any p xs = is_some (find p xs)
-
 abbrev pub holds : ℕ → List ℕ → Bool
-holds page pages = any (λ p. p == page) pages
+holds page pages = list_any (λ p. p == page) pages
 
 -- the context that is used moves to the front; a fifth drops the last
 abbrev pub no_pages : Context → Process
@@ -95,7 +92,7 @@ frames_read (Fails not_valid parameter) = []
 frames_read Beyond = []
 
 abbrev pub have_common : List ℕ → List ℕ → Bool
-have_common xs ys = any (λ x. holds x ys) xs
+have_common xs ys = list_any (λ x. holds x ys) xs
 
 -- pages of a context, on the guest's system table
 abbrev pub under : Guest → Context → Tables
@@ -107,7 +104,7 @@ was_read g t written page = have_common (frames_read (lookup (length g.memory) g
 -- whether a written frame holds an entry by which a present page was found
 abbrev pub is_overwritten : Guest → List ℕ → Present → Bool
 is_overwritten g written p =
-    any (was_read g g.state.tables written) p.system || any (λ q. any (was_read g (under g q.context) written) q.pages) p.processes
+    list_any (was_read g g.state.tables written) p.system || list_any (λ q. list_any (was_read g (under g q.context) written) q.pages) p.processes
 
 -- SBR, SLR or MAPEN changed
 abbrev pub is_remapped : Tables → Tables → Bool

@@ -1,10 +1,9 @@
 -- Translation over a guest's own page tables (VAX Architecture Reference Manual, memory management). Executive mode may
 -- use what kernel mode may (Hall and Robinson, Virtualizing the VAX Architecture, ISCA 1991: ring compression).
-use Rattle.std.specs.Prelude.{ℕ, ◌+◌, ◌*◌, ◌/◌, ◌%◌, ◌^◌, Bool, true, false, not, List, [], ◌∷◌, length, slice_index, Option, Some, None, Result, Ok, Err}
+use Rattle.std.specs.Prelude.{ℕ, ◌+◌, ◌*◌, ◌/◌, ◌%◌, ◌^◌, Bool, true, false, List, [], ◌∷◌, length, slice_index, Option, Some, None, Result, Ok, Err}
 use Rattle.vv_base.specs.Bytes.{long_at}
-use Rattle.vax_arch.specs.Fields.{is_modified}
 use Rattle.vax_arch.specs.Ring.{open_of}
-use Rattle.vax_arch.specs.Walk.{granted, lookup, page_of, with_modify, write_bit}
+use Rattle.vax_arch.specs.Walk.{granted, is_clear_at, lookup, page_of, with_modify, write_bit}
 use Rattle.vax_arch.specs.declared.mode.Intent.{Intent}
 use Rattle.vax_arch.specs.declared.mode.Intent.TheVariants as intents
 use Rattle.vax_arch.specs.declared.mode.Mode.{Mode}
@@ -12,7 +11,7 @@ use Rattle.vax_arch.specs.declared.walk.Grant.{Grant}
 use Rattle.vax_arch.specs.declared.walk.Grant.TheVariants.{Absent, Granted, Past, Refused}
 use Rattle.vax_arch.specs.declared.walk.Lookup.{Lookup}
 use Rattle.vax_arch.specs.declared.walk.Lookup.TheVariants.{Beyond, Direct, Fails, Found}
-use Rattle.vax_table.specs.Script.{Cause, Space}
+use Rattle.vax_table.specs.Script.{Cause, Space, cause_of}
 use Rattle.vax_table.specs.Script as script
 use Rattle.vax_table.specs.Stores.{bytes_stored}
 use Rattle.vm_state.specs.State.{Guest, mode_of_state}
@@ -46,10 +45,6 @@ unfoldable pub walk_of : Guest → (va : ℕ) → Mode → Intent → Walk
 walk_of g va m i = walk_by g va m i (look g (page_of va))
 
 -- The guest as a space for its instructions, in a mode: the byte at an address, or why there is none.
-abbrev pub cause_of : Bool → Cause
-cause_of true = script.Absent
-cause_of false = script.Refusing
-
 abbrev pub byte_by : List ℕ → Walk → Result ℕ Cause
 byte_by memory (walks.Frame pa entry table) = Ok (slice_index memory pa)
 byte_by memory (walks.Fault f) = Err (cause_of f.not_valid)
@@ -73,14 +68,7 @@ place_of g va = place_by g.memory (walk_of g va (mode_of_state g.state) intents.
 
 -- Modify bits.
 
--- whether the modify bit of the entry that a look-up found is clear; with mapping off none is
-abbrev pub is_clear_at : List ℕ → Lookup → Bool
-is_clear_at memory (Found place table) = not (is_modified (long_at memory place))
-is_clear_at memory (Direct frame) = false
-is_clear_at memory (Fails not_valid parameter) = false
-is_clear_at memory Beyond = false
-
--- of the page of an address
+-- whether the modify bit of the entry of an address's page is clear
 abbrev pub is_clear : Guest → ℕ → Bool
 is_clear g va = is_clear_at g.memory (look g (page_of va))
 

@@ -5,7 +5,7 @@ use Rattle.vax_arch.specs.Fields.{current_of}
 use Rattle.vax_arch.specs.Walk.{page_of}
 use Rattle.vax_arch.specs.declared.mode.Intent.{Intent}
 use Rattle.vax_hw.specs.Machine.{Machine}
-use Rattle.vax_table.specs.Script.{At, Cause}
+use Rattle.vax_table.specs.Script.{At, Cause, cause_of}
 use Rattle.vax_table.specs.Script as script
 use Rattle.vax_table.specs.Tries.{Stopped}
 use Rattle.vm_bursts.proofs.Completing.{only_both as tables_both, own_same}
@@ -25,7 +25,7 @@ use Rattle.vm_state.specs.Sensitive.{fault_of}
 use Rattle.vm_state.specs.State.{Guest}
 use Rattle.vm_state.specs.Step.{Fault, Stepped, by_try, faulted, sensed_as, stopped}
 use Rattle.vm_state.specs.Stops.{PastMemory}
-use Rattle.vm_state.specs.Translation.{cause_of, look, walk_of}
+use Rattle.vm_state.specs.Translation.{look, walk_of}
 use Rattle.vm_state.specs.declared.exception.Exc.TheVariants as excs
 use Rattle.vm_state.specs.declared.guest_state.GuestState.{GuestState}
 use Rattle.vm_state.specs.declared.walk.MemFault.{MemFault}

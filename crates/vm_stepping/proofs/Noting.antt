@@ -4,7 +4,7 @@ use Rattle.vax_arch.specs.Fields.{current_of}
 use Rattle.vax_arch.specs.declared.mode.Intent.{Intent}
 use Rattle.vax_hw.specs.Machine.{Machine}
 use Rattle.vax_table.specs.Script as script
-use Rattle.vax_table.specs.Script.{Test}
+use Rattle.vax_table.specs.Script.{Test, cause_of}
 use Rattle.vax_table.specs.Tries.{Clear, Stopped}
 use Rattle.vax_table.specs.declared.act.Refusal.{Refusal}
 use Rattle.vax_hw.specs.declared.world.Exit.{Exit}
@@ -21,7 +21,7 @@ use Rattle.vm_simulation.specs.Loaded.{guest_try}
 use Rattle.vm_state.specs.Partition.{guest_of}
 use Rattle.vm_state.specs.Sensitive.{fault_of, refused_as}
 use Rattle.vm_state.specs.State.{Guest}
-use Rattle.vm_state.specs.Translation.{cause_of, walk_of}
+use Rattle.vm_state.specs.Translation.{walk_of}
 use Rattle.vm_state.specs.declared.exception.Exc.{Exc}
 use Rattle.vm_state.specs.declared.exception.Exc.TheVariants as excs
 use Rattle.vm_state.specs.declared.guest_state.GuestState.{GuestState}

@@ -56,7 +56,7 @@ pub follows_moves : (frames : List ℕ) (t : Tables) (s s' : Shadowed) → Follo
 follows_moves frames t s s' f = record {
   between = f.between;
   drops = among_dropped frames s f.between f.drops;
-  retells = record { takes = f.retells.takes; each = f.retells.each };
+  retells = f.retells;
 }
 
 pub nothing_moves : (frames memory : List ℕ) (s : Shadowed) (g : GuestState) → StandsFor memory s g → Moves frames (tables_of g) s s

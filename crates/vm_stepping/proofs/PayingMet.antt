@@ -6,6 +6,8 @@ use Rattle.vax_hw.specs.Machine.{Machine}
 use Rattle.vax_hw.specs.declared.world.Exit.{Exit}
 use Rattle.vax_hw.specs.declared.world.Exit.TheVariants.{Denied, Modify, NotValid}
 use Rattle.vax_table.specs.Script as script
+use Rattle.vax_table.specs.Script.{cause_of}
+use Rattle.vax_table.specs.Tries.{Clear}
 use Rattle.vax_table.specs.Troubles.{intent_of}
 use Rattle.vm_bursts.specs.Guarded.{Tells}
 use Rattle.vm_fitting.specs.Laws.{KeepsFilled}
@@ -25,7 +27,7 @@ use Rattle.vm_state.specs.Partition.{guest_of}
 use Rattle.vm_state.specs.Step.{Fault, Stepped, by_try, clear_met, executed, faulted, stopped}
 use Rattle.vm_state.specs.Stops.{PastMemory}
 use Rattle.vm_state.specs.State.{Guest}
-use Rattle.vm_state.specs.Translation.{cause_of, look}
+use Rattle.vm_state.specs.Translation.{look, walk_of}
 use Rattle.vm_state.specs.declared.exception.Exc.TheVariants as excs
 use Rattle.vm_state.specs.declared.guest_state.GuestState.{GuestState}
 use Rattle.vm_state.specs.declared.walk.MemFault.{MemFault}

@@ -9,7 +9,7 @@ use vv_base::{Text, decimal, hex};
 /// A line that is shown.
 pub type Line = Text<512>;
 
-/// A word and a number behind a text.
+/// A word and a number after a text.
 #[tactic(auto, unfolding(crate::specs::Summary::field))]
 fn add(text: &mut Line, word: &[u8], number: u64)
     requires { length text.old + length word.now + 20 ≤ 512 }

@@ -14,7 +14,7 @@ pub struct FlawedDrive {
 /// Notes on drives, a line each.
 pub type Notes = Text<2048>;
 
-/// What a flaw is called behind a drive's number.
+/// What a flaw is called after a drive's number.
 fn flaw_text(flaw: Flaw) -> &'static [u8]
     ensures is { result.now ≡ flaw_text flaw }
     ensures short { length result.now ≤ 64 }

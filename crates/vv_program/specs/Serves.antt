@@ -8,13 +8,9 @@ use Rattle.vv_commands.specs.Words.{Wanted}
 use Rattle.vv_commands.specs.declared.status.Status.{Status}
 use Rattle.vv_commands.specs.declared.status.Status.TheVariants.{Done, OutFault, KeyFault, Device as DeviceFault}
 use Rattle.vv_edge.specs.Syncing.{SyncsDrives, SyncsLines}
-use Rattle.sys_system.specs.Devices.{device_of as first_device}
+use Rattle.sys_system.specs.Devices.{device_of}
 use Rattle.sys_system.specs.declared.parts.Device.{Device}
 use Rattle.sys_system.specs.declared.parts.Device.TheVariants as devices
-
--- a line, or else a drive
-abbrev pub device_of : Option ℕ → Option ℕ → Option Device
-device_of = first_device
 
 -- which of two devices that failed is told: a line before a drive, and the lowest number
 abbrev pub lower : Device → Device → Device

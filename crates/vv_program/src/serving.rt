@@ -1,6 +1,7 @@
 ghost use Rattle.std.specs.Prelude.{◌≡◌, ◌*◌, length, map, string_bytes, vec_len};
+ghost use Rattle.sys_system.specs.Devices.{device_of};
 ghost use Rattle.vv_commands.specs.Words.{wanted};
-ghost use Rattle.vv_program.specs.Serves.{Serves, device_of, lower, synced_status};
+ghost use Rattle.vv_program.specs.Serves.{Serves, lower, synced_status};
 
 use std::alloc::Global;
 use sys_system::Device;
