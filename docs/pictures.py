@@ -58,7 +58,7 @@ def tower():
     p.text(660, 26, "The definition that it is compared with", 15, "middle", True)
     rows = [
         ("vvmm_call", ["`Says", "each answer, and what devices get"], "sys_purge", ["`purged", "a run's input without what may not flow"]),
-        ("sys_runs", ["`Runs, Makes", "a whole run, from power-up to the drives"], "sys_state", ["`line_bytes, drive_blocks", "what each device gets"]),
+        ("sys_runs", ["`Runs, MakesRun", "a whole run, from power-up to the drives"], "sys_state", ["`line_bytes, drive_blocks", "what each device gets"]),
         ("sys_runs", ["`MakesRounds", "many rounds, one after another"], "sys_state", ["`rounds", "each round in the state before"]),
         ("sys_system", ["`MakesRound", "events, slices in any order, transfers"], "sys_state", ["`round", "events, turns, transfers"]),
         ("sys_guests", ["`AdvancesOne", "one slice; the other guests stay"], "sys_state", ["`alone", "a guest by itself"]),
@@ -80,7 +80,7 @@ def tower():
         y += high + gap
     # two ways of a step: the machine makes it, or the kernel
     third = 174
-    for x, lines in ((left, ["vm_bursts", "`IsRun", "the machine ran"]), (left + wide - third, ["vm_emulate, vm_events", "`Emulates, Makes", "the kernel made it"])):
+    for x, lines in ((left, ["vm_bursts", "`IsRun", "the machine ran"]), (left + wide - third, ["vm_emulate, vm_events", "`Emulates, MakesStep", "the kernel made it"])):
         p.labelled(x, y, third, 66, lines, BLUE, 12)
         p.line(x + third / 2, y - gap, x + third / 2, y, True)
     for x, lines in ((right, ["vax_table", "`instruction", "an instruction at PC"]), (right + wide - third, ["vm_state", "`sensed, interrupted", "all other steps"])):

@@ -98,7 +98,7 @@ def check_case_file(folder: str, name: str, part: int, parts: int, program) -> l
 
 def tasks_of(root: str, program) -> list:
     """Names with what is done for them, the longest work first."""
-    folder = os.path.join(root, "crates/vv_cases/data")
+    folder = os.path.join(root, "crates/test_vvmm_cases/data")
     examples = os.path.join(root, "examples")
     tasks = [("examples", check_example, (examples, number, program)) for number in range(len(EXAMPLES))]
     tasks += [("examples", check_parts, (examples, number, program)) for number in range(len(EXAMPLES))]

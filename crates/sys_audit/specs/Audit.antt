@@ -6,6 +6,6 @@ use Rattle.sys_objects.specs.declared.records.Terminal.{Terminal}
 use Rattle.sys_server.specs.declared.command.Verdict.{Verdict}
 use Rattle.sys_server.specs.Replies.{reply_of}
 
-unfoldable pub audit_of : ℕ → Terminal → List ℕ → Verdict → List ℕ
-audit_of round t text v =
+unfoldable pub audit_record : ℕ → Terminal → List ℕ → Verdict → List ℕ
+audit_record round t text v =
     decimal round ++ codes " " ++ t.name ++ codes " " ++ class_text t.class ++ codes " " ++ reply_of v ++ codes " " ++ text ++ 13 ∷ 10 ∷ []

@@ -1,5 +1,5 @@
 ghost use Rattle.std.specs.Prelude.{◌≡◌, ◌+◌, ◌≤◌, ◌∷◌, [], ◌++◌, length};
-ghost use Rattle.sys_audit.specs.Audit.{audit_of};
+ghost use Rattle.sys_audit.specs.Audit.{audit_record};
 
 use sys_objects::Terminal;
 use sys_server::{Verdict, reply};
@@ -17,10 +17,10 @@ fn add_word(text: &mut Text<1536>, word: &[u8])
 }
 
 /// What is audited of a command of at most 1,000 bytes at a terminal in a round.
-#[tactic(auto, unfolding(crate::specs::Audit::audit_of))]
+#[tactic(auto, unfolding(crate::specs::Audit::audit_record))]
 pub fn audit_text(round: u32, t: &Terminal, text: &[u8], v: &Verdict) -> Text<1536>
     requires { length text.now ≤ 1000 }
-    ensures { result ≡ audit_of round t.now text.now v.now }
+    ensures { result ≡ audit_record round t.now text.now v.now }
 {
     let mut audit = Text::new();
     add_word(&mut audit, decimal(u64::from(round)).bytes());

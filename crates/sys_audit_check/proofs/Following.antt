@@ -7,16 +7,16 @@ use Rattle.std.proofs.lemmas.Slice.Eq.{bytes_eq-Decides}
 use Rattle.std.specs.List.{list_all}
 use Rattle.vv_base.specs.Digits.{decimal_from, decimal_of, is_decimal}
 use Rattle.sys_audit_check.proofs.Records.{record_is_line, record_is_read}
-use Rattle.sys_audit_check.specs.Audited.{Entry, IsEntry, record_of, server_behind}
+use Rattle.sys_audit_check.specs.Audited.{Entry, IsEntry, record_of, server_after_entry}
 use Rattle.sys_audit_check.specs.Laws.{OneReading}
-use Rattle.sys_audit_check.specs.Lines.{behind_line, first_line}
-use Rattle.sys_audit_check.specs.Reading.{read_at, read_by, entry_in, read_in_round, followed, followed_by, followed_if, terminal_place}
+use Rattle.sys_audit_check.specs.Lines.{after_first_line, first_line}
+use Rattle.sys_audit_check.specs.Reading.{entry_read_at, entry_read, entry_in, read_in_round, followed, followed_by, followed_if, terminal_place}
 use Rattle.sys_audit_check.specs.declared.replay.Replay.{Replay}
 use Rattle.sys_objects.specs.Condition.{IsConfig}
 use Rattle.sys_objects.specs.declared.records.Config.{Config}
 use Rattle.sys_objects.specs.declared.records.Terminal.{Terminal}
-use Rattle.sys_script.specs.Line.{behind, front}
-use Rattle.sys_script.specs.Texts.{is_shown, is_text}
+use Rattle.sys_script.specs.EventLine.{after_blank, front}
+use Rattle.sys_script.specs.Texts.{is_text, is_text_character}
 
 -- where a choice by a test gives a value, the test passes
 passed : {A : Type 0} (test : Bool) (x y : A) → cond test (Some x) None ≡ Some y → (test ≡ true) × (x ≡ y)
@@ -28,14 +28,14 @@ record Read (c : Config) (e : Entry) : Type 0 where
   few : e.round ≤ 1000000
   there : e.terminal < length c.terminals
 
-at_read : (c : Config) (round n : ℕ) (o : Option Terminal) (bytes : List ℕ) (e : Entry) → round ≤ 1000000 → slice_get c.terminals n ≡ o → read_at round n o bytes ≡ Some e → Read c e
+at_read : (c : Config) (round n : ℕ) (o : Option Terminal) (bytes : List ℕ) (e : Entry) → round ≤ 1000000 → slice_get c.terminals n ≡ o → entry_read_at round n o bytes ≡ Some e → Read c e
 at_read c round n None bytes e few at is = let no : None ≡ Some e = is in cc
 at_read c round n (Some t) bytes e few at is =
     let r : round ≡ e.round = cc in
     let p : n ≡ e.terminal = cc in
     record { few = omega (arith, few, r); there = omega (arith, slice_get_within c.terminals n t at, p) }
 
-by_read : (c : Config) (round : ℕ) (o : Option ℕ) (bytes : List ℕ) (e : Entry) → round ≤ 1000000 → read_by c round o bytes ≡ Some e → Read c e
+by_read : (c : Config) (round : ℕ) (o : Option ℕ) (bytes : List ℕ) (e : Entry) → round ≤ 1000000 → entry_read c round o bytes ≡ Some e → Read c e
 by_read c round None bytes e few is = let no : None ≡ Some e = is in cc
 by_read c round (Some n) bytes e few is = at_read c round n (slice_get c.terminals n) bytes e few refl is
 
@@ -47,25 +47,25 @@ number_few text n is =
 
 round_read : (c : Config) (o : Option ℕ) (bytes : List ℕ) (e : Entry) → ((n : ℕ) → o ≡ Some n → n ≤ 1000000) → read_in_round c o bytes ≡ Some e → Read c e
 round_read c None bytes e few is = let no : None ≡ Some e = is in cc
-round_read c (Some n) bytes e few is = by_read c n (terminal_place c (front bytes)) (behind bytes) e (few n refl) is
+round_read c (Some n) bytes e few is = by_read c n (terminal_place c (front bytes)) (after_blank bytes) e (few n refl) is
 
 is_read : (c : Config) (line : List ℕ) (e : Entry) → entry_in c line ≡ Some e → Read c e
 unfolding entry_in
-is_read c line e is = round_read c (decimal_of (front line) 1000000) (behind line) e (number_few (front line)) is
+is_read c line e is = round_read c (decimal_of (front line) 1000000) (after_blank line) e (number_few (front line)) is
 
 -- texts, as a test and as a fact
-printed : (text : List ℕ) → list_all is_shown text ≡ true → All (λ b. (32 ≤ b) × (b ≤ 126)) text
+printed : (text : List ℕ) → list_all is_text_character text ≡ true → All (λ b. (32 ≤ b) × (b ≤ 126)) text
 printed [] is = All-nil (λ b. (32 ≤ b) × (b ≤ 126))
 printed (b ∷ text) is =
-    let two = and_parts (is_shown b) (list_all is_shown text) is in
+    let two = and_parts (is_text_character b) (list_all is_text_character text) is in
     let own = and_parts (nat_le 32 b) (nat_le b 126) two.0 in
     All-cons (λ x. (32 ≤ x) × (x ≤ 126)) b text (leb-true 32 b own.0, leb-true b 126 own.1) (printed text two.1)
 
-shown : (text : List ℕ) → All (λ b. (32 ≤ b) × (b ≤ 126)) text → list_all is_shown text ≡ true
+shown : (text : List ℕ) → All (λ b. (32 ≤ b) × (b ≤ 126)) text → list_all is_text_character text ≡ true
 shown [] all = refl
 shown (b ∷ text) all =
     let own = All-head (λ x. (32 ≤ x) × (x ≤ 126)) b text all in
-    and_from (is_shown b) (list_all is_shown text) (and_from (nat_le 32 b) (nat_le b 126) (le-leb 32 b own.0) (le-leb b 126 own.1)) (shown text (All-tail (λ x. (32 ≤ x) × (x ≤ 126)) b text all))
+    and_from (is_text_character b) (list_all is_text_character text) (and_from (nat_le 32 b) (nat_le b 126) (le-leb 32 b own.0) (le-leb b 126 own.1)) (shown text (All-tail (λ x. (32 ≤ x) × (x ≤ 126)) b text all))
 
 -- the line is the record of a command that may come next, and this is the replay after it
 pub record Follows (c : Config) (replay : Replay) (line : List ℕ) (next : Replay) : Type 0 where
@@ -74,16 +74,16 @@ pub record Follows (c : Config) (replay : Replay) (line : List ℕ) (next : Repl
   pub rises : replay.round ≤ entry.round
   pub is : line ≡ record_of c replay.server entry
   pub round : next.round ≡ entry.round
-  pub server : next.server ≡ server_behind c replay.server entry
+  pub server : next.server ≡ server_after_entry c replay.server entry
 
 entry_follows : (c : Config) (replay : Replay) (line : List ℕ) (e : Entry) (next : Replay) → 1 ≤ replay.round → Read c e → followed_by c replay line e ≡ Some next → Follows c replay line next
 unfolding followed_by
 entry_follows c replay line e next from read is =
-    let after : Replay = record { round = e.round; server = server_behind c replay.server e } in
+    let after : Replay = record { round = e.round; server = server_after_entry c replay.server e } in
     let all = passed (nat_le replay.round e.round && is_text e.text && bytes_eq (record_of c replay.server e) line) after next is in
     let two = and_parts (nat_le replay.round e.round && is_text e.text) (bytes_eq (record_of c replay.server e) line) all.0 in
     let one = and_parts (nat_le replay.round e.round) (is_text e.text) two.0 in
-    let text = and_parts (nat_le (length e.text) 1000) (list_all is_shown e.text) one.1 in
+    let text = and_parts (nat_le (length e.text) 1000) (list_all is_text_character e.text) one.1 in
     let rises : replay.round ≤ e.round = leb-true replay.round e.round one.0 in
     record {
       entry = e;
@@ -102,14 +102,14 @@ pub follows : (c : Config) (replay : Replay) (line : List ℕ) (next : Replay) �
 follows c replay line next from is = if_follows c replay line (entry_in c line) next from refl is
 
 -- and each such line is followed
-by_record : (c : Config) (replay : Replay) (e : Entry) → IsEntry c e → replay.round ≤ e.round → followed_by c replay (record_of c replay.server e) e ≡ Some (record { round = e.round; server = server_behind c replay.server e })
+by_record : (c : Config) (replay : Replay) (e : Entry) → IsEntry c e → replay.round ≤ e.round → followed_by c replay (record_of c replay.server e) e ≡ Some (record { round = e.round; server = server_after_entry c replay.server e })
 unfolding followed_by
 by_record c replay e fits rises =
     let same : bytes_eq (record_of c replay.server e) (record_of c replay.server e) ≡ true = (bytes_eq-Decides (record_of c replay.server e) (record_of c replay.server e)).1 refl in
     rw (le-leb replay.round e.round rises, le-leb (length e.text) 1000 fits.short, shown e.text fits.printed, same)
 
 pub is_followed : (c : Config) (replay : Replay) (e : Entry) → IsConfig c → IsEntry c e → replay.round ≤ e.round
-    → followed c replay (record_of c replay.server e) ≡ Some (record { round = e.round; server = server_behind c replay.server e })
+    → followed c replay (record_of c replay.server e) ≡ Some (record { round = e.round; server = server_after_entry c replay.server e })
 is_followed c replay e is fits rises = ap (followed_if c replay (record_of c replay.server e)) (record_is_read c replay.server e is fits) ∙ by_record c replay e fits rises
 
 -- a record can be cut in one way
@@ -120,4 +120,4 @@ one_reading c s t e f more other is fits fits' same =
     let line : record_of c s e ≡ record_of c t f = sym mine.0 ∙ ap first_line same ∙ yours.0 in
     let read : Some e ≡ Some f = sym (record_is_read c s e is fits) ∙ ap (entry_in c) line ∙ record_is_read c t f is fits' in
     let entries : e ≡ f = cc in
-    (entries, sym mine.1 ∙ ap behind_line same ∙ yours.1)
+    (entries, sym mine.1 ∙ ap after_first_line same ∙ yours.1)

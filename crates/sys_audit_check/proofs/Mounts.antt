@@ -3,7 +3,7 @@ use Rattle.std.proofs.Common.{◌≡◌, ℕ, ◌<◌, List, [], ◌∷◌, ◌+
 use Rattle.std.proofs.Math.Seq.{take-set-lt}
 use Rattle.std.proofs.lemmas.List.{get_or-take}
 use Rattle.std.proofs.lemmas.Option.{slice_get_within}
-use Rattle.sys_audit_check.specs.Audited.{Entry, after_verdict, audit_bytes, record_at, server_behind, verdict_on}
+use Rattle.sys_audit_check.specs.Audited.{Entry, audit_bytes, record_at, server_after_entry, server_after_verdict, verdict_on}
 use Rattle.sys_audit_check.specs.Laws.{MountsTell, SameMounts}
 use Rattle.sys_objects.specs.Rules.{same_class}
 use Rattle.sys_objects.specs.declared.records.Config.{Config}
@@ -12,8 +12,8 @@ use Rattle.sys_objects.specs.declared.records.Mount.{Mount as Mounted}
 use Rattle.sys_objects.specs.declared.records.Terminal.{Terminal}
 use Rattle.sys_objects.specs.declared.records.VolumeRow.{VolumeRow}
 use Rattle.sys_server.specs.Apply.{applied, with_mount}
-use Rattle.sys_server.specs.Line.{asked_in}
-use Rattle.sys_server.specs.Verdict.{guest_place, judged, judged_at, judged_line, mount_at, on_dismount, on_guest, on_mount, on_row, on_rows, unless_empty, volume_place}
+use Rattle.sys_server.specs.CommandLine.{asked_in}
+use Rattle.sys_server.specs.Verdict.{judged, judged_at, judged_line, mount_at, on_dismount, on_guest, on_mount, on_row, on_rows, unless_empty, visible_guest_place, visible_volume_place}
 use Rattle.sys_server.specs.declared.command.Asked.{Asked}
 use Rattle.sys_server.specs.declared.command.Asked.TheVariants as asks
 use Rattle.sys_server.specs.declared.command.Command.{Command}
@@ -46,7 +46,7 @@ module _ (c : Config) (s t : ServerState) (same : SameMounts c s t) where
   line_same class (Some (asks.Start vm)) = refl
   line_same class (Some (asks.Halt vm)) = refl
   line_same class (Some (asks.Mount vm unit volume write)) = refl
-  line_same class (Some (asks.Dismount vm unit)) = dismount_same class unit (guest_place c.guests class vm)
+  line_same class (Some (asks.Dismount vm unit)) = dismount_same class unit (visible_guest_place c.guests class vm)
   line_same class (Some asks.Show) = refl
 
   at_same : (text : List ℕ) (o : Option Terminal) → judged_at c s o text ≡ judged_at c t o text
@@ -104,11 +104,11 @@ module _ (c : Config) where
   line_on : (s : ServerState) (class : AccessClass) (o : Option Asked) → OnGuest c (judged_line c s class o)
   unfolding judged
   line_on s class None = tt
-  line_on s class (Some (asks.Connect vm)) = guest_on class (guest_place c.guests class vm) Connect (λ n. tt)
-  line_on s class (Some (asks.Start vm)) = guest_on class (guest_place c.guests class vm) Start (λ n. tt)
-  line_on s class (Some (asks.Halt vm)) = guest_on class (guest_place c.guests class vm) Halt (λ n. tt)
-  line_on s class (Some (asks.Mount vm unit volume write)) = mount_on class (guest_place c.guests class vm) unit (volume_place c.volumes class volume) write
-  line_on s class (Some (asks.Dismount vm unit)) = dismount_on s class (guest_place c.guests class vm) unit
+  line_on s class (Some (asks.Connect vm)) = guest_on class (visible_guest_place c.guests class vm) Connect (λ n. tt)
+  line_on s class (Some (asks.Start vm)) = guest_on class (visible_guest_place c.guests class vm) Start (λ n. tt)
+  line_on s class (Some (asks.Halt vm)) = guest_on class (visible_guest_place c.guests class vm) Halt (λ n. tt)
+  line_on s class (Some (asks.Mount vm unit volume write)) = mount_on class (visible_guest_place c.guests class vm) unit (visible_volume_place c.volumes class volume) write
+  line_on s class (Some (asks.Dismount vm unit)) = dismount_on s class (visible_guest_place c.guests class vm) unit
   line_on s class (Some asks.Show) = tt
 
   at_on : (s : ServerState) (o : Option Terminal) (text : List ℕ) → OnGuest c (judged_at c s o text)
@@ -131,7 +131,7 @@ module _ (c : Config) where
       take-set-lt (length c.guests) t.mounts g (slice_set (slice_index_or t.mounts g []) unit mount) there
       ∙ (λ i. slice_set (covers i) g (slice_set (sym (row_covered t s g covers there) i) unit mount))
 
-  verdict_covered : (t s : ServerState) (n : ℕ) (v : Verdict) → Covers c t s → OnGuest c v → Covers c (after_verdict t n v) (after_verdict s n v)
+  verdict_covered : (t s : ServerState) (n : ℕ) (v : Verdict) → Covers c t s → OnGuest c v → Covers c (server_after_verdict t n v) (server_after_verdict s n v)
   unfolding applied
   verdict_covered t s n (Granted (Connect g)) covers on = covers
   verdict_covered t s n (Granted (Start g)) covers on = covers
@@ -148,7 +148,7 @@ module _ (c : Config) where
   bytes_covered t s [] covers = refl
   bytes_covered t s (e ∷ es) covers =
       let same : verdict_on c s e ≡ verdict_on c t e = mounts_tell c s t e.terminal e.text (covered_same t s covers) in
-      let then : Covers c (after_verdict t e.terminal (verdict_on c s e)) (server_behind c s e) =
+      let then : Covers c (server_after_verdict t e.terminal (verdict_on c s e)) (server_after_entry c s e) =
       verdict_covered t s e.terminal (verdict_on c s e) covers (at_on c s (slice_get c.terminals e.terminal) e.text) in
-      let next : Covers c (server_behind c t e) (server_behind c s e) = subst (λ (v : Verdict). Covers c (after_verdict t e.terminal v) (server_behind c s e)) same then in
-      λ i. record_at e.round (slice_get c.terminals e.terminal) e.text (same i) ++ bytes_covered (server_behind c t e) (server_behind c s e) es next i
+      let next : Covers c (server_after_entry c t e) (server_after_entry c s e) = subst (λ (v : Verdict). Covers c (server_after_verdict t e.terminal v) (server_after_entry c s e)) same then in
+      λ i. record_at e.round (slice_get c.terminals e.terminal) e.text (same i) ++ bytes_covered (server_after_entry c t e) (server_after_entry c s e) es next i

@@ -6,8 +6,8 @@ use Rattle.sys_audit_check.proofs.Following.{Follows, follows, is_followed, one_
 use Rattle.sys_audit_check.proofs.Lines.{behind_lines, behind_more, line_of_line, line_some, rest_shorter, through_more, through_whole}
 use Rattle.sys_audit_check.proofs.Mounts.{Covers, bytes_covered}
 use Rattle.sys_audit_check.proofs.Records.{record_is_line, record_is_read}
-use Rattle.sys_audit_check.specs.Audited.{Audited, AuditedFrom, Entry, IsEntry, NeverFalls, audit_bytes, opening_server, record_of, server_behind}
-use Rattle.sys_audit_check.specs.Lines.{IsFirstBad, behind_line, first_line, through}
+use Rattle.sys_audit_check.specs.Audited.{Audited, AuditedFrom, Entry, EntryRoundsNeverFall, IsEntry, audit_bytes, opening_server, record_of, server_after_entry}
+use Rattle.sys_audit_check.specs.Lines.{IsFirstBad, after_first_line, first_line, through}
 use Rattle.sys_audit_check.specs.Reading.{entry_in, followed}
 use Rattle.sys_audit_check.specs.declared.replay.Replay.{Replay}
 use Rattle.sys_objects.specs.Condition.{IsConfig}
@@ -19,7 +19,7 @@ pub none_from : (c : Config) (s : ServerState) (from : ℕ) → AuditedFrom c s 
 none_from c s from = record { entries = []; each = All-nil (IsEntry c); order = tt; is = refl }
 
 -- a record and then others
-pub one_more : (c : Config) (s : ServerState) (from : ℕ) (e : Entry) (bytes : List ℕ) → IsEntry c e → from ≤ e.round → AuditedFrom c (server_behind c s e) e.round bytes → AuditedFrom c s from (record_of c s e ++ bytes)
+pub one_more : (c : Config) (s : ServerState) (from : ℕ) (e : Entry) (bytes : List ℕ) → IsEntry c e → from ≤ e.round → AuditedFrom c (server_after_entry c s e) e.round bytes → AuditedFrom c s from (record_of c s e ++ bytes)
 one_more c s from e bytes fits rises rest = record {
   entries = e ∷ rest.entries;
   each = All-cons (IsEntry c) e rest.entries fits rest.each;
@@ -38,24 +38,24 @@ module _ (c : Config) (is : IsConfig c) where
       let no : Some e ≡ None = sym (record_is_read c s e is fits) ∙ ap (entry_in c) line ∙ no_record c in
       cc
 
-  behind_entries : (s : ServerState) (from : ℕ) (e : Entry) (bytes : List ℕ) → IsEntry c e → (es : List Entry) → All (IsEntry c) es → NeverFalls from es → record_of c s e ++ bytes ≡ audit_bytes c s es → AuditedFrom c (server_behind c s e) e.round bytes
+  behind_entries : (s : ServerState) (from : ℕ) (e : Entry) (bytes : List ℕ) → IsEntry c e → (es : List Entry) → All (IsEntry c) es → EntryRoundsNeverFall from es → record_of c s e ++ bytes ≡ audit_bytes c s es → AuditedFrom c (server_after_entry c s e) e.round bytes
   behind_entries s from e bytes fits [] each order same = absurd (some_bytes s e bytes fits same)
   behind_entries s from e bytes fits (f ∷ fs) each order same =
-      let two = one_reading c s s e f bytes (audit_bytes c (server_behind c s f) fs) is fits (All-head (IsEntry c) f fs each) same in
-      let rest : AuditedFrom c (server_behind c s f) f.round bytes = record { entries = fs; each = All-tail (IsEntry c) f fs each; order = order.1; is = two.1 } in
-      subst (λ (x : Entry). AuditedFrom c (server_behind c s x) x.round bytes) (sym two.0) rest
+      let two = one_reading c s s e f bytes (audit_bytes c (server_after_entry c s f) fs) is fits (All-head (IsEntry c) f fs each) same in
+      let rest : AuditedFrom c (server_after_entry c s f) f.round bytes = record { entries = fs; each = All-tail (IsEntry c) f fs each; order = order.1; is = two.1 } in
+      subst (λ (x : Entry). AuditedFrom c (server_after_entry c s x) x.round bytes) (sym two.0) rest
 
   -- after a record come others
-  pub one_less : (s : ServerState) (from : ℕ) (e : Entry) (bytes : List ℕ) → IsEntry c e → AuditedFrom c s from (record_of c s e ++ bytes) → AuditedFrom c (server_behind c s e) e.round bytes
+  pub one_less : (s : ServerState) (from : ℕ) (e : Entry) (bytes : List ℕ) → IsEntry c e → AuditedFrom c s from (record_of c s e ++ bytes) → AuditedFrom c (server_after_entry c s e) e.round bytes
   one_less s from e bytes fits all = behind_entries s from e bytes fits all.entries all.each all.order all.is
 
   -- where the first line isn't followed, the bytes are no records
-  refused_entries : (replay : Replay) (line bytes : List ℕ) → first_line bytes ≡ line → 0 < length bytes → followed c replay line ≡ None → (es : List Entry) → All (IsEntry c) es → NeverFalls replay.round es → bytes ≡ audit_bytes c replay.server es → ⊥
+  refused_entries : (replay : Replay) (line bytes : List ℕ) → first_line bytes ≡ line → 0 < length bytes → followed c replay line ≡ None → (es : List Entry) → All (IsEntry c) es → EntryRoundsNeverFall replay.round es → bytes ≡ audit_bytes c replay.server es → ⊥
   refused_entries replay line bytes cut some none [] each order same = let no : length bytes ≡ 0 = ap length same in omega (arith, some, no)
   refused_entries replay line bytes cut some none (e ∷ es) each order same =
       let fits : IsEntry c e = All-head (IsEntry c) e es each in
-      let own : line ≡ record_of c replay.server e = sym cut ∙ ap first_line same ∙ (record_is_line c replay.server e is fits (audit_bytes c (server_behind c replay.server e) es)).0 in
-      let next : Replay = record { round = e.round; server = server_behind c replay.server e } in
+      let own : line ≡ record_of c replay.server e = sym cut ∙ ap first_line same ∙ (record_is_line c replay.server e is fits (audit_bytes c (server_after_entry c replay.server e) es)).0 in
+      let next : Replay = record { round = e.round; server = server_after_entry c replay.server e } in
       let no : None ≡ Some next = sym none ∙ ap (followed c replay) own ∙ is_followed c replay e is fits order.0 in
       cc
 
@@ -97,7 +97,7 @@ module _ (c : Config) (is : IsConfig c) (bytes : List ℕ) (line : ℕ) (replay 
   goes_on : (next : Replay) → Follows c replay (first_line rest) next → (more : List ℕ) → AuditedFrom c next.server next.round more → Audited c (through (suc line) bytes ++ more)
   goes_on next h more all =
       let e : Entry = h.entry in
-      let own : AuditedFrom c (server_behind c replay.server e) e.round more = subst (λ n. AuditedFrom c (server_behind c replay.server e) n more) h.round (subst (λ (s : ServerState). AuditedFrom c s next.round more) h.server all) in
+      let own : AuditedFrom c (server_after_entry c replay.server e) e.round more = subst (λ n. AuditedFrom c (server_after_entry c replay.server e) n more) h.round (subst (λ (s : ServerState). AuditedFrom c s next.round more) h.server all) in
       let two : AuditedFrom c replay.server replay.round (record_of c replay.server e ++ more) = one_more c replay.server replay.round e more h.fits h.rises own in
       let here : AuditedFrom c replay.server replay.round (first_line rest ++ more) = subst (λ xs. AuditedFrom c replay.server replay.round (xs ++ more)) (sym h.is) two in
       subst (λ xs. Audited c xs) (sym (more_behind more)) (reached.goes (first_line rest ++ more) here)
@@ -107,8 +107,8 @@ module _ (c : Config) (is : IsConfig c) (bytes : List ℕ) (line : ℕ) (replay 
       let e : Entry = h.entry in
       let here : AuditedFrom c replay.server replay.round (first_line rest ++ more) = reached.only (first_line rest ++ more) (subst (λ xs. Audited c xs) (more_behind more) all) in
       let two : AuditedFrom c replay.server replay.round (record_of c replay.server e ++ more) = subst (λ xs. AuditedFrom c replay.server replay.round (xs ++ more)) h.is here in
-      let own : AuditedFrom c (server_behind c replay.server e) e.round more = one_less c is replay.server replay.round e more h.fits two in
-      subst (λ (s : ServerState). AuditedFrom c s next.round more) (sym h.server) (subst (λ n. AuditedFrom c (server_behind c replay.server e) n more) (sym h.round) own)
+      let own : AuditedFrom c (server_after_entry c replay.server e) e.round more = one_less c is replay.server replay.round e more h.fits two in
+      subst (λ (s : ServerState). AuditedFrom c s next.round more) (sym h.server) (subst (λ n. AuditedFrom c (server_after_entry c replay.server e) n more) (sym h.round) own)
 
   before_next : (next : Replay) → Follows c replay (first_line rest) next → (k : ℕ) → k ≤ suc line → Audited c (through k bytes)
   before_next next h k most = elim (cases_lt line k) [
@@ -119,9 +119,9 @@ module _ (c : Config) (is : IsConfig c) (bytes : List ℕ) (line : ℕ) (replay 
     | inr earlier ↦ reached.before k earlier
   ]
 
-  next_reached : (next : Replay) → Follows c replay (first_line rest) next → Reached c bytes (suc line) next (behind_line rest)
+  next_reached : (next : Replay) → Follows c replay (first_line rest) next → Reached c bytes (suc line) next (after_first_line rest)
   next_reached next h = record {
-    rest_is = ap behind_line reached.rest_is ∙ sym (behind_more line bytes);
+    rest_is = ap after_first_line reached.rest_is ∙ sym (behind_more line bytes);
     from = omega (arith, reached.from, h.rises, h.round);
     goes = goes_on next h;
     only = only_on next h;
@@ -129,7 +129,7 @@ module _ (c : Config) (is : IsConfig c) (bytes : List ℕ) (line : ℕ) (replay 
     few = omega (arith, reached.few, rest_shorter rest some);
   }
 
-  pub goes_further : (next : Replay) → followed c replay (first_line rest) ≡ Some next → Reached c bytes (line + 1) next (behind_line rest)
+  pub goes_further : (next : Replay) → followed c replay (first_line rest) ≡ Some next → Reached c bytes (line + 1) next (after_first_line rest)
   goes_further next is_next = rw add-one (next_reached next (follows c replay (first_line rest) next reached.from is_next))
 
   stops_at : followed c replay (first_line rest) ≡ None → IsFirstBad c bytes (suc line) × (Audited c bytes → ⊥)

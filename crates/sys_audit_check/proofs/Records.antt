@@ -8,18 +8,18 @@ use Rattle.std.proofs.lemmas.Slice.Eq.{bytes_eq-Decides}
 use Rattle.std.specs.List.{list_all, position_or_len}
 use Rattle.vv_class.specs.Text.{class_text}
 use Rattle.vv_class.specs.declared.class.AccessClass.{AccessClass}
-use Rattle.sys_audit.specs.Audit.{audit_of}
+use Rattle.sys_audit.specs.Audit.{audit_record}
 use Rattle.sys_audit_check.proofs.Lines.{line_at}
 use Rattle.sys_audit_check.proofs.Words.{AreFrom, behind_at, class_from, from_test, front_at, joined, lower, name_from, number_from, number_read}
 use Rattle.sys_audit_check.specs.Audited.{Entry, IsEntry, record_at, record_of, verdict_on}
 use Rattle.sys_audit_check.specs.Laws.{IsGranted}
-use Rattle.sys_audit_check.specs.Lines.{behind_line, first_line}
-use Rattle.sys_audit_check.specs.Reading.{behind_reply, command_in, entry_in, terminal_place, without_end}
+use Rattle.sys_audit_check.specs.Lines.{after_first_line, first_line}
+use Rattle.sys_audit_check.specs.Reading.{command_in, entry_in, terminal_place, text_after_reply, without_end}
 use Rattle.sys_objects.proofs.JudgedAgain.{are_apart, texts_differ}
 use Rattle.sys_objects.specs.Condition.{IsConfig, IsTerminal}
 use Rattle.sys_objects.specs.declared.records.Config.{Config}
 use Rattle.sys_objects.specs.declared.records.Terminal.{Terminal}
-use Rattle.sys_script.specs.Line.{behind, front}
+use Rattle.sys_script.specs.EventLine.{after_blank, front}
 use Rattle.sys_server.specs.Replies.{reply_of}
 use Rattle.sys_server.specs.declared.command.Command.{Command}
 use Rattle.sys_server.specs.declared.command.Rule.TheVariants.{Equal, Write}
@@ -34,8 +34,8 @@ said class v text = class ++ 32 ∷ (reply_of v ++ 32 ∷ (text ++ 13 ∷ 10 ∷
 abbrev words : ℕ → Terminal → List ℕ → Verdict → List ℕ
 words round t text v = decimal round ++ 32 ∷ (t.name ++ 32 ∷ said (class_text t.class) v text)
 
-in_words : (round : ℕ) (t : Terminal) (text : List ℕ) (v : Verdict) → audit_of round t text v ≡ words round t text v
-unfolding audit_of
+in_words : (round : ℕ) (t : Terminal) (text : List ℕ) (v : Verdict) → audit_record round t text v ≡ words round t text v
+unfolding audit_record
 in_words round t text v = simp append_assoc
 
 -- without the line feed
@@ -78,7 +78,7 @@ body_from round t text v small is shown =
     )
 
 -- the command after the class and the reply
-after_reply : (v : Verdict) (rest : List ℕ) → behind_reply (reply_of v ++ 32 ∷ rest) ≡ rest
+after_reply : (v : Verdict) (rest : List ℕ) → text_after_reply (reply_of v ++ 32 ∷ rest) ≡ rest
 after_reply (Granted command) rest = refl
 after_reply BadCommand rest = refl
 after_reply NoSuchObject rest = refl
@@ -94,7 +94,7 @@ command_read class v text =
     let apart : said (class_text class) v text ≡ (class_text class ++ 32 ∷ []) ++ (reply_of v ++ 32 ∷ (text ++ 13 ∷ 10 ∷ [])) = sym (append_assoc (class_text class) (32 ∷ []) (reply_of v ++ 32 ∷ (text ++ 13 ∷ 10 ∷ []))) in
     let reply : drop (length (class_text class) + 1) (said (class_text class) v text) ≡ reply_of v ++ 32 ∷ (text ++ 13 ∷ 10 ∷ []) =
     ap (drop (length (class_text class) + 1)) apart ∙ drop_at (class_text class ++ 32 ∷ []) (reply_of v ++ 32 ∷ (text ++ 13 ∷ 10 ∷ [])) (length (class_text class) + 1) (length-append (class_text class) (32 ∷ [])) in
-    ap (λ bytes. without_end (behind_reply bytes)) reply ∙ ap without_end (after_reply v (text ++ 13 ∷ 10 ∷ [])) ∙ end_gone text
+    ap (λ bytes. without_end (text_after_reply bytes)) reply ∙ ap without_end (after_reply v (text ++ 13 ∷ 10 ∷ [])) ∙ end_gone text
 
 -- the place of the first that passes
 first_place : {A : Type 0} (p : A → Bool) (xs : List A) (k : ℕ) (d : A) → k < length xs → p (slice_index_or xs k d) ≡ true → ((i : ℕ) → i < k → p (slice_index_or xs i d) ≡ false) → position_or_len p xs ≡ k
@@ -126,9 +126,9 @@ words_read c n t round text v is from to at named =
     let name : AreFrom 33 t.name = lower 48 33 t.name (lit≤ tt) (name_from t.name named.named) in
     let rest : List ℕ = said (class_text t.class) v text in
     let first : front (words round t text v) ≡ decimal round = front_at (decimal round) (t.name ++ 32 ∷ rest) number in
-    let after : behind (words round t text v) ≡ t.name ++ 32 ∷ rest = behind_at (decimal round) (t.name ++ 32 ∷ rest) number in
+    let after : after_blank (words round t text v) ≡ t.name ++ 32 ∷ rest = behind_at (decimal round) (t.name ++ 32 ∷ rest) number in
     let second : front (t.name ++ 32 ∷ rest) ≡ t.name = front_at t.name rest name in
-    let last : behind (t.name ++ 32 ∷ rest) ≡ rest = behind_at t.name rest name in
+    let last : after_blank (t.name ++ 32 ∷ rest) ≡ rest = behind_at t.name rest name in
     rw (first, after, number_read round from to, second, last, terminal_found c n t is at, at, command_read t.class v text)
 
 -- a terminal that exists
@@ -152,20 +152,20 @@ module _ (c : Config) (is : IsConfig c) (n : ℕ) (t : Terminal) (round : ℕ) (
       let same : one.terminal ≡ t = let both : Some one.terminal ≡ Some t = sym one.at ∙ at in cc in
       subst IsTerminal same one.is
 
-  pub audit_is_read : 1 ≤ round → round ≤ 1000000 → entry_in c (audit_of round t text v) ≡ Some (record { round = round; terminal = n; text = text })
+  pub audit_is_read : 1 ≤ round → round ≤ 1000000 → entry_in c (audit_record round t text v) ≡ Some (record { round = round; terminal = n; text = text })
   audit_is_read from to = ap (entry_in c) (in_words round t text v) ∙ words_read c n t round text v is from to at terminal_is
 
   pub audit_is_line : round ≤ 1000000 → All (λ b. (32 ≤ b) × (b ≤ 126)) text → (more : List ℕ)
-      → (first_line (audit_of round t text v ++ more) ≡ audit_of round t text v) × (behind_line (audit_of round t text v ++ more) ≡ more)
+      → (first_line (audit_record round t text v ++ more) ≡ audit_record round t text v) × (after_first_line (audit_record round t text v ++ more) ≡ more)
   audit_is_line to printed more =
       let own : List ℕ = body round t text v in
-      let ends : audit_of round t text v ≡ own ++ 10 ∷ [] = in_words round t text v ∙ sym (append-nil (words round t text v)) ∙ with_feed round t text v [] in
-      let begins : audit_of round t text v ++ more ≡ own ++ 10 ∷ more = ap (λ bytes. bytes ++ more) (in_words round t text v) ∙ with_feed round t text v more in
+      let ends : audit_record round t text v ≡ own ++ 10 ∷ [] = in_words round t text v ∙ sym (append-nil (words round t text v)) ∙ with_feed round t text v [] in
+      let begins : audit_record round t text v ++ more ≡ own ++ 10 ∷ more = ap (λ bytes. bytes ++ more) (in_words round t text v) ∙ with_feed round t text v more in
       let cut = line_at own more (body_from round t text v (omega (arith, to)) terminal_is (text_from text printed)) in
-      (ap first_line begins ∙ cut.0 ∙ sym ends, ap behind_line begins ∙ cut.1)
+      (ap first_line begins ∙ cut.0 ∙ sym ends, ap after_first_line begins ∙ cut.1)
 
 module _ (c : Config) (s : ServerState) (e : Entry) (is : IsConfig c) (fits : IsEntry c e) where
-  record_audit : (t : Terminal) → slice_get c.terminals e.terminal ≡ Some t → record_of c s e ≡ audit_of e.round t e.text (verdict_on c s e)
+  record_audit : (t : Terminal) → slice_get c.terminals e.terminal ≡ Some t → record_of c s e ≡ audit_record e.round t e.text (verdict_on c s e)
   record_audit t at = ap (λ (o : Option Terminal). record_at e.round o e.text (verdict_on c s e)) at
 
   pub record_is_read : entry_in c (record_of c s e) ≡ Some e
@@ -173,11 +173,11 @@ module _ (c : Config) (s : ServerState) (e : Entry) (is : IsConfig c) (fits : Is
       let one : Stands c e.terminal = stands c e.terminal is fits.there in
       ap (entry_in c) (record_audit one.terminal one.at) ∙ audit_is_read c is e.terminal one.terminal e.round e.text (verdict_on c s e) one.at fits.some fits.few
 
-  pub record_is_line : (more : List ℕ) → (first_line (record_of c s e ++ more) ≡ record_of c s e) × (behind_line (record_of c s e ++ more) ≡ more)
+  pub record_is_line : (more : List ℕ) → (first_line (record_of c s e ++ more) ≡ record_of c s e) × (after_first_line (record_of c s e ++ more) ≡ more)
   record_is_line more =
       let one : Stands c e.terminal = stands c e.terminal is fits.there in
-      let same : audit_of e.round one.terminal e.text (verdict_on c s e) ≡ record_of c s e = sym (record_audit one.terminal one.at) in
-      subst (λ bytes. (first_line (bytes ++ more) ≡ bytes) × (behind_line (bytes ++ more) ≡ more)) same (audit_is_line c is e.terminal one.terminal e.round e.text (verdict_on c s e) one.at fits.few fits.printed more)
+      let same : audit_record e.round one.terminal e.text (verdict_on c s e) ≡ record_of c s e = sym (record_audit one.terminal one.at) in
+      subst (λ bytes. (first_line (bytes ++ more) ≡ bytes) × (after_first_line (bytes ++ more) ≡ more)) same (audit_is_line c is e.terminal one.terminal e.round e.text (verdict_on c s e) one.at fits.few fits.printed more)
 
 -- an answer as long as OK is OK
 granted_by_length : (v : Verdict) → length (reply_of v) ≡ 2 → IsGranted v
@@ -187,8 +187,8 @@ granted_by_length NoSuchObject e = omega (arith, e)
 granted_by_length (Denied Equal) e = omega (arith, e)
 granted_by_length (Denied Write) e = omega (arith, e)
 
-pub granted_by_text : (round : ℕ) (t : Terminal) (text : List ℕ) (command : Command) (v : Verdict) → audit_of round t text (Granted command) ≡ audit_of round t text v → IsGranted v
-unfolding audit_of
+pub granted_by_text : (round : ℕ) (t : Terminal) (text : List ℕ) (command : Command) (v : Verdict) → audit_record round t text (Granted command) ≡ audit_record round t text v → IsGranted v
+unfolding audit_record
 granted_by_text round t text command v same =
     let front : List ℕ = decimal round ++ codes " " ++ t.name ++ codes " " ++ class_text t.class ++ codes " " in
     granted_by_length v (omega (arith, simp length-append at (ap length same)))

@@ -13,7 +13,7 @@ use Rattle.vv_base.specs.Names.{is_letter, is_name_character, is_object_name}
 use Rattle.vv_class.specs.Class.{IsClass, has_category}
 use Rattle.vv_class.specs.Text.{categories_below, class_text, half_text, listed}
 use Rattle.vv_class.specs.declared.class.AccessClass.{AccessClass}
-use Rattle.sys_script.specs.Line.{behind, front}
+use Rattle.sys_script.specs.EventLine.{after_blank, front}
 
 abbrev pub AreFrom : ℕ → List ℕ → Type 0
 AreFrom least bytes = ByRecursion (λ b. least ≤ b) bytes
@@ -46,7 +46,7 @@ position_at least c xs ys below all =
 pub front_at : (xs ys : List ℕ) → AreFrom 33 xs → front (xs ++ 32 ∷ ys) ≡ xs
 front_at xs ys all = ap (λ n. take n (xs ++ 32 ∷ ys)) (position_at 33 32 xs ys (lit< tt) all) ∙ take_at xs (32 ∷ ys) (length xs) refl
 
-pub behind_at : (xs ys : List ℕ) → AreFrom 33 xs → behind (xs ++ 32 ∷ ys) ≡ ys
+pub behind_at : (xs ys : List ℕ) → AreFrom 33 xs → after_blank (xs ++ 32 ∷ ys) ≡ ys
 behind_at xs ys all =
     ap (λ n. drop (n + 1) (xs ++ 32 ∷ ys)) (position_at 33 32 xs ys (lit< tt) all)
     ∙ ap (drop (length xs + 1)) (sym (append_assoc xs (32 ∷ []) ys)) ∙ drop_at (xs ++ 32 ∷ []) ys (length xs + 1) (length_push xs 32)

@@ -1,7 +1,7 @@
 -- Laws of audits.
 use Rattle.std.specs.Prelude.{ℕ, ◌≡◌, ◌<◌, List, [], ◌∷◌, ◌++◌, length, Some, All, slice_get}
-use Rattle.sys_audit.specs.Audit.{audit_of}
-use Rattle.sys_audit_check.specs.Audited.{Audited, Entry, IsEntry, audit_bytes, opening_server, record_of, server_behind, verdict_on}
+use Rattle.sys_audit.specs.Audit.{audit_record}
+use Rattle.sys_audit_check.specs.Audited.{Audited, Entry, IsEntry, audit_bytes, opening_server, record_of, server_after_entry, verdict_on}
 use Rattle.sys_audit_check.specs.Lines.{through}
 use Rattle.sys_objects.specs.Condition.{IsConfig}
 use Rattle.sys_objects.specs.declared.records.Config.{Config}
@@ -24,7 +24,7 @@ AuditsFronts = (c : Config) (bytes : List ℕ) (k : ℕ) → IsConfig c → Audi
 -- the server's state that some commands leave
 abbrev pub server_after : Config → ServerState → List Entry → ServerState
 server_after c s [] = s
-server_after c s (e ∷ es) = server_after c (server_behind c s e) es
+server_after c s (e ∷ es) = server_after c (server_after_entry c s e) es
 
 abbrev pub IsGranted : Verdict → Type 0
 IsGranted (Granted command) = Unit {0}
@@ -37,7 +37,7 @@ IsGranted (Denied rule) = ⊥
 abbrev pub OkIsGranted : Type 0
 OkIsGranted = (c : Config) (before : List Entry) (e : Entry) (t : Terminal) (command : Command) (rest : List ℕ)
     → IsConfig c → All (IsEntry c) before → IsEntry c e → slice_get c.terminals e.terminal ≡ Some t
-    → Audited c (audit_bytes c (opening_server c) before ++ (audit_of e.round t e.text (Granted command) ++ rest))
+    → Audited c (audit_bytes c (opening_server c) before ++ (audit_record e.round t e.text (Granted command) ++ rest))
     → IsGranted (verdict_on c (server_after c (opening_server c) before) e)
 
 -- what is at the units of the configuration's guests is the same

@@ -11,14 +11,14 @@ first_line [] = []
 first_line (b ∷ bytes) = if b == 10 then b ∷ [] else b ∷ first_line bytes
 
 -- what follows it
-abbrev pub behind_line : List ℕ → List ℕ
-behind_line [] = []
-behind_line (b ∷ bytes) = if b == 10 then bytes else behind_line bytes
+abbrev pub after_first_line : List ℕ → List ℕ
+after_first_line [] = []
+after_first_line (b ∷ bytes) = if b == 10 then bytes else after_first_line bytes
 
 -- the bytes through the end of so many lines
 abbrev pub through : ℕ → List ℕ → List ℕ
 through zero bytes = []
-through (suc n) bytes = first_line bytes ++ through n (behind_line bytes)
+through (suc n) bytes = first_line bytes ++ through n (after_first_line bytes)
 
 -- it is the first line such that the bytes through its end are no audit; lines are counted from 1
 pub record IsFirstBad (c : Config) (bytes : List ℕ) (line : ℕ) : Type 0 where

@@ -2,5 +2,5 @@
 use Rattle.sys_audit_check.specs.Audited.{Entry}
 use Rattle.sys_audit_check.specs.declared.reading.Entry.{Entry as Read}
 
-abbrev pub seen : Read → Entry
-seen e = record { round = e.round; terminal = e.terminal; text = e.text.now }
+abbrev pub entry_view : Read → Entry
+entry_view e = record { round = e.round; terminal = e.terminal; text = e.text.now }

@@ -5,7 +5,7 @@ use Rattle.std.specs.Fmt.{digits}
 use Rattle.vv_class.specs.Class.{does_flow, is_subset}
 use Rattle.vv_class.specs.Text.{categories_below, class_text}
 use Rattle.vv_class.specs.declared.class.AccessClass.{AccessClass}
-use Rattle.sys_audit.specs.Audit.{audit_of}
+use Rattle.sys_audit.specs.Audit.{audit_record}
 use Rattle.sys_audit_check.specs.Audited.{Entry, audit_bytes, opening_server}
 use Rattle.sys_audit_check.specs.Lines.{through}
 use Rattle.sys_audit_check.specs.Reading.{command_in, entry_in, followed, followed_by}
@@ -13,7 +13,7 @@ use Rattle.sys_audit_check.specs.declared.replay.Replay.{Replay}
 use Rattle.sys_objects.specs.declared.records.Config.{Config}
 use Rattle.sys_objects.specs.declared.records.VolumeRow.{VolumeRow}
 use Rattle.sys_server.specs.Apply.{applied}
-use Rattle.sys_server.specs.Line.{asked_in}
+use Rattle.sys_server.specs.CommandLine.{asked_in}
 use Rattle.sys_server.specs.Verdict.{judged}
 
 abbrev level : ℕ → AccessClass
@@ -55,7 +55,7 @@ pub records :
     audit_bytes small (opening_server small) (
     said 1 (codes "MOUNT A 0 SEC READ") ∷ said 1 (codes "MOUNT A 0 PUB READ") ∷ said 2 (codes "DISMOUNT A 0") ∷ said 7 (codes "DISMOUNT A 0") ∷ said 7 [] ∷ [])
     ≡ codes "1 T1 1{};0{} NO SUCH OBJECT MOUNT A 0 SEC READ\r\n1 T1 1{};0{} OK MOUNT A 0 PUB READ\r\n2 T1 1{};0{} OK DISMOUNT A 0\r\n7 T1 1{};0{} NO SUCH OBJECT DISMOUNT A 0\r\n7 T1 1{};0{} BAD COMMAND \r\n"
-unfolding asked_in judged does_flow is_subset applied audit_of class_text categories_below digits
+unfolding asked_in judged does_flow is_subset applied audit_record class_text categories_below digits
 records = refl
 
 -- what follows the last line feed is itself a line
@@ -71,37 +71,37 @@ behind round line = followed small (at_round round) line
 
 -- the server doesn't grant the mount of a volume that isn't seen
 pub granted_unseen : (behind 1 (codes "1 T1 1{};0{} OK MOUNT A 0 SEC READ\r\n") ≡ None) × (behind 1 (codes "1 T1 1{};0{} NO SUCH OBJECT MOUNT A 0 SEC READ\r\n") ≡ Some (at_round 1))
-unfolding entry_in command_in followed_by asked_in judged does_flow is_subset applied audit_of class_text categories_below digits
+unfolding entry_in command_in followed_by asked_in judged does_flow is_subset applied audit_record class_text categories_below digits
 granted_unseen = (refl, refl)
 
 -- nothing is mounted at first
 pub granted_empty : (behind 1 (codes "1 T1 1{};0{} OK DISMOUNT A 0\r\n") ≡ None) × (behind 1 (codes "1 T1 1{};0{} NO SUCH OBJECT DISMOUNT A 0\r\n") ≡ Some (at_round 1))
-unfolding entry_in command_in followed_by asked_in judged does_flow is_subset applied audit_of class_text categories_below digits
+unfolding entry_in command_in followed_by asked_in judged does_flow is_subset applied audit_record class_text categories_below digits
 granted_empty = (refl, refl)
 
 -- rounds are 1 to 1,000,000 without a zero in front, and never fall
 pub rounds :
     (behind 2 (codes "1 T1 1{};0{} OK SHOW\r\n") ≡ None) × (behind 2 (codes "3 T1 1{};0{} OK SHOW\r\n") ≡ Some (at_round 3)) × (behind 1 (codes "0 T1 1{};0{} OK SHOW\r\n") ≡ None)
     × (behind 1 (codes "01 T1 1{};0{} OK SHOW\r\n") ≡ None) × (behind 1 (codes "1000000 T1 1{};0{} OK SHOW\r\n") ≡ Some (at_round 1000000)) × (behind 1 (codes "1000001 T1 1{};0{} OK SHOW\r\n") ≡ None)
-unfolding entry_in command_in followed_by asked_in judged does_flow is_subset applied audit_of class_text categories_below digits
+unfolding entry_in command_in followed_by asked_in judged does_flow is_subset applied audit_record class_text categories_below digits
 rounds = (refl, refl, refl, refl, refl, refl)
 
 -- a terminal has its whole name, and its class
 pub terminals :
     (behind 1 (codes "1 T 1{};0{} OK SHOW\r\n") ≡ None) × (behind 1 (codes "1 T10 1{};0{} OK SHOW\r\n") ≡ None) × (behind 1 (codes "1 A 1{};0{} OK SHOW\r\n") ≡ None) × (behind 1 (codes "1 T1 2{};0{} OK SHOW\r\n") ≡ None)
-unfolding entry_in command_in followed_by asked_in judged does_flow is_subset applied audit_of class_text categories_below digits
+unfolding entry_in command_in followed_by asked_in judged does_flow is_subset applied audit_record class_text categories_below digits
 terminals = (refl, refl, refl, refl)
 
 -- a reply goes as far as it can; what follows is the text, also where that looks like a reply, or begins with a blank
 pub replies :
     (behind 1 (codes "1 T1 1{};0{} BAD COMMAND OK\r\n") ≡ Some (at_round 1)) × (behind 1 (codes "1 T1 1{};0{} BAD COMMAND  SHOW\r\n") ≡ Some (at_round 1)) × (behind 1 (codes "1 T1 1{};0{} OK  SHOW\r\n") ≡ None)
     × (behind 1 (codes "1 T1 1{};0{} NO\r\n") ≡ None)
-unfolding entry_in command_in followed_by asked_in judged does_flow is_subset applied audit_of class_text categories_below digits
+unfolding entry_in command_in followed_by asked_in judged does_flow is_subset applied audit_record class_text categories_below digits
 replies = (refl, refl, refl, refl)
 
 -- a line ends with a carriage return and a line feed, and its text has no other
 pub ends :
     (behind 1 (codes "1 T1 1{};0{} OK SHOW") ≡ None) × (behind 1 (codes "1 T1 1{};0{} OK SHOW\r") ≡ None) × (behind 1 (codes "1 T1 1{};0{} OK SHOW\n") ≡ None) × (behind 1 (codes "\r\n") ≡ None) × (behind 1 (codes "\n") ≡ None)
     × (behind 1 (codes "1 T1 1{};0{} BAD COMMAND \t\r\n") ≡ None) × (behind 1 (codes "1 T1 1{};0{} BAD COMMAND \r\r\n") ≡ None)
-unfolding entry_in command_in followed_by asked_in judged does_flow is_subset applied audit_of class_text categories_below digits
+unfolding entry_in command_in followed_by asked_in judged does_flow is_subset applied audit_record class_text categories_below digits
 ends = (refl, refl, refl, refl, refl, refl, refl)

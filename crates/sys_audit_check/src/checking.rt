@@ -1,7 +1,7 @@
 ghost use Rattle.std.specs.Prelude.{◌≡◌, ◌≤◌, ◌<◌, ◌==◌, IfSome, bytes_eq, length, position};
-ghost use Rattle.sys_audit_check.specs.Lines.{Checks, behind_line, first_line};
+ghost use Rattle.sys_audit_check.specs.Lines.{Checks, after_first_line, first_line};
 ghost use Rattle.sys_audit_check.specs.Reading.{followed, followed_by};
-ghost use Rattle.sys_audit_check.specs.Seen.{seen};
+ghost use Rattle.sys_audit_check.specs.Seen.{entry_view};
 ghost use Rattle.sys_objects.specs.Condition.{IsConfig};
 
 use crate::AuditFault;
@@ -22,7 +22,7 @@ fn are_same(a: &[u8], b: &[u8]) -> bool
 fn followed_by(c: &Config, replay: &Replay, line: &[u8], e: Entry) -> Option<Replay>
     requires config { IsConfig c.now }
     requires there { e.terminal < length c.now.terminals }
-    ensures { result ≡ followed_by c.now replay.now line.now (seen e.entry) }
+    ensures { result ≡ followed_by c.now replay.now line.now (entry_view e.entry) }
 {
     if e.round < replay.round || !is_text(e.text) {
         return None;
@@ -57,7 +57,7 @@ fn find_line_feed(bytes: &[u8]) -> Option<usize>
 /// The first line with its line feed, and what follows it.
 fn cut_line(bytes: &[u8]) -> (&[u8], &[u8])
     ensures line { result.0.now ≡ first_line bytes.now }
-    ensures behind { result.1.now ≡ behind_line bytes.now }
+    ensures behind { result.1.now ≡ after_first_line bytes.now }
 {
     match find_line_feed(bytes) {
         Some(at) => (&bytes[..at + 1], &bytes[at + 1..]),

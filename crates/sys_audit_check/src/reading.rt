@@ -1,9 +1,9 @@
 ghost use Rattle.std.specs.List.{list_all};
 ghost use Rattle.std.specs.Prelude.{◌≡◌, ◌≤◌, ◌<◌, ◌-◌, ◌==◌, IfSome, bytes_eq, drop, length, option_map, position};
 ghost use Rattle.sys_audit_check.specs.Reading.{command_in, entry_in, reply_length, terminal_place, without_end};
-ghost use Rattle.sys_audit_check.specs.Seen.{seen};
-ghost use Rattle.sys_script.specs.Line.{behind, front};
-ghost use Rattle.sys_script.specs.Texts.{is_shown, is_text};
+ghost use Rattle.sys_audit_check.specs.Seen.{entry_view};
+ghost use Rattle.sys_script.specs.EventLine.{after_blank, front};
+ghost use Rattle.sys_script.specs.Texts.{is_text, is_text_character};
 
 use sys_objects::{Config, Terminal};
 use vv_base::read_decimal;
@@ -33,7 +33,7 @@ fn find_blank(text: &[u8]) -> Option<usize>
 /// What comes up to the first blank, and after it.
 fn cut(text: &[u8]) -> (&[u8], &[u8])
     ensures before { result.0.now ≡ front text.now }
-    ensures after { result.1.now ≡ behind text.now }
+    ensures after { result.1.now ≡ after_blank text.now }
 {
     match find_blank(text) {
         Some(at) => (&text[..at], &text[at + 1..]),
@@ -99,7 +99,7 @@ fn terminal_place(c: &Config, name: &[u8]) -> Option<usize>
 #[tactic(auto, unfolding(crate::specs::Reading::entry_in))]
 pub fn entry_in<'a>(c: &Config, line: &'a [u8]) -> Option<Entry<'a>>
     requires { length c.now.terminals ≤ 32 }
-    ensures value { option_map seen result ≡ entry_in c.now line.now }
+    ensures value { option_map entry_view result ≡ entry_in c.now line.now }
     ensures within { IfSome result (λ e. e.terminal < length c.now.terminals) }
 {
     let (round, rest) = cut(line);
@@ -115,7 +115,7 @@ pub fn entry_in<'a>(c: &Config, line: &'a [u8]) -> Option<Entry<'a>>
 }
 
 fn are_shown(text: &[u8]) -> bool
-    ensures { result ≡ list_all is_shown text.now }
+    ensures { result ≡ list_all is_text_character text.now }
 {
     text.iter().all(|b| 0x20 <= *b && *b <= 0x7E)
 }

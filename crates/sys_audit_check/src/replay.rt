@@ -1,5 +1,5 @@
 ghost use Rattle.std.specs.Prelude.{◌≡◌, ◌≤◌, ◌<◌, length, map, take};
-ghost use Rattle.sys_audit_check.specs.Audited.{after_verdict};
+ghost use Rattle.sys_audit_check.specs.Audited.{server_after_verdict};
 ghost use Rattle.sys_server.specs.Apply.{MayApply};
 
 use sys_objects::{Config, GuestRow, Mount};
@@ -45,7 +45,7 @@ pub fn opening(c: &Config) -> Replay
 pub fn after_verdict(server: &ServerState, terminal: u8, verdict: &Verdict) -> ServerState
     requires terminal { terminal < 32 }
     requires places { MayApply verdict.now }
-    ensures { result ≡ after_verdict server.now terminal verdict.now }
+    ensures { result ≡ server_after_verdict server.now terminal verdict.now }
 {
     let mut server = *server;
     if let Verdict::Granted(command) = verdict {

@@ -6,8 +6,8 @@ use Rattle.std.proofs.lemmas.List.Elements.{All-cons, All-head, All-nil, All-tai
 use Rattle.sys_audit_laws.proofs.Puts.{Each, IsApart}
 use Rattle.sys_audit_laws.proofs.Tracks.{Tracks, rounds_track}
 use Rattle.sys_audit_laws.proofs.Puts.{no_dump}
-use Rattle.sys_audit_check.specs.Audited.{Entry, IsEntry, NeverFalls, audit_bytes, opening_server}
-use Rattle.sys_audit_laws.specs.Entries.{entries_in, entries_over, entry_at, entry_by, entry_of, entry_placed}
+use Rattle.sys_audit_check.specs.Audited.{Entry, EntryRoundsNeverFall, IsEntry, audit_bytes, opening_server}
+use Rattle.sys_audit_laws.specs.Entries.{entries_in, entries_over, entry_of, entry_of_line, entry_placed, entry_typed}
 use Rattle.sys_audit_laws.specs.Runs.{AuditsRuns}
 use Rattle.sys_objects.specs.Condition.{IsConfig}
 use Rattle.sys_objects.specs.Rules.{audit_line}
@@ -16,12 +16,12 @@ use Rattle.sys_objects.specs.declared.records.Config.{Config}
 use Rattle.sys_objects.specs.declared.records.GuestRow.{GuestRow}
 use Rattle.sys_objects.specs.declared.records.PrinterRow.{PrinterRow}
 use Rattle.sys_objects.specs.declared.records.Terminal.{Terminal}
-use Rattle.sys_rounds.specs.Events.{happened, is_named}
-use Rattle.sys_rounds.specs.Places.{is_at, place_of}
-use Rattle.sys_rounds.specs.Run.{events_of, first_state, round, rounds, run}
-use Rattle.sys_rounds.specs.State.{State}
+use Rattle.sys_state.specs.Events.{happened, is_named}
+use Rattle.sys_state.specs.Places.{is_at, place_of}
+use Rattle.sys_state.specs.Run.{events_of, first_state, round, rounds, run}
+use Rattle.sys_state.specs.State.{SystemState}
 use Rattle.sys_script.specs.Events.{IsEvent}
-use Rattle.sys_script.specs.Line.{is_allowed}
+use Rattle.sys_script.specs.EventLine.{is_allowed}
 use Rattle.sys_script.specs.Texts.{is_text}
 use Rattle.sys_script.specs.declared.event.Event.{Event}
 use Rattle.sys_script.specs.declared.event.Typed.{Typed}
@@ -102,22 +102,22 @@ abbrev Allowed : Typed → Type 0
 Allowed what = is_allowed what ≡ true
 
 module _ (c : Config) (i : ℕ) (some : 1 ≤ i) (few : i ≤ 1000000) where
-  at_fits : (n : ℕ) (text : List ℕ) (o : Option ℕ) → n < length c.terminals → is_text text ≡ true → Each (IsOf c i) (entry_at i n text o)
+  at_fits : (n : ℕ) (text : List ℕ) (o : Option ℕ) → n < length c.terminals → is_text text ≡ true → Each (IsOf c i) (entry_of_line i n text o)
   at_fits n text (Some g) there is = tt
   at_fits n text None there is =
       let two = and_parts (nat_le (length text) 1000) (list_all (λ b. nat_le 32 b && nat_le b 126) text) is in
       ((record { some = some; few = few; there = there; short = leb-true (length text) 1000 two.0; printed = printed text two.1 }, refl), tt)
 
-  by_fits : (s : State) (n : ℕ) (o : Option Terminal) (what : Typed) → n < length c.terminals → Allowed what → Each (IsOf c i) (entry_by i s n o what)
+  by_fits : (s : SystemState) (n : ℕ) (o : Option Terminal) (what : Typed) → n < length c.terminals → Allowed what → Each (IsOf c i) (entry_typed i s n o what)
   by_fits s n None what there is = tt
   by_fits s n (Some t) Break there is = tt
   by_fits s n (Some t) (Line text) there is = at_fits n text (slice_index_or s.connected n None) there is
 
-  placed_fits : (s : State) (o : Option ℕ) (what : Typed) → IfSome o (λ n. n < length c.terminals) → Allowed what → Each (IsOf c i) (entry_placed c i s o what)
+  placed_fits : (s : SystemState) (o : Option ℕ) (what : Typed) → IfSome o (λ n. n < length c.terminals) → Allowed what → Each (IsOf c i) (entry_placed c i s o what)
   placed_fits s None what there is = tt
   placed_fits s (Some n) what there is = by_fits s n (slice_get c.terminals n) what there is
 
-  in_fits : (s : State) (es : List Event) → Each (λ e. Allowed e.what) es → Each (IsOf c i) (entries_in c i s es)
+  in_fits : (s : SystemState) (es : List Event) → Each (λ e. Allowed e.what) es → Each (IsOf c i) (entries_in c i s es)
   in_fits s [] h = tt
   in_fits s (e ∷ es) h =
       each_append (IsOf c i) (entry_of c i s e) (entries_in c i (happened c i s e).now es)
@@ -134,31 +134,31 @@ all_allowed i [] h = tt
 all_allowed i (e ∷ es) h = (h.0.0.what, all_allowed i es h.1)
 
 -- where a round has an event, it is one to 1,000,000
-in_round : (c : Config) (i : ℕ) (s : State) (es : List Event) → Each (λ e. IsEvent e × (e.round ≡ i)) es → Each (IsOf c i) (entries_in c i s es)
+in_round : (c : Config) (i : ℕ) (s : SystemState) (es : List Event) → Each (λ e. IsEvent e × (e.round ≡ i)) es → Each (IsOf c i) (entries_in c i s es)
 in_round c i s [] h = tt
 in_round c i s (e ∷ es) h =
     let some : 1 ≤ i = omega (arith, h.0.0.from, h.0.1) in
     let few : i ≤ 1000000 = omega (arith, h.0.0.to, h.0.1) in
     in_fits c i some few s (e ∷ es) (all_allowed i (e ∷ es) h)
 
-lower : (a b : ℕ) (es : List Entry) → a ≤ b → NeverFalls b es → NeverFalls a es
+lower : (a b : ℕ) (es : List Entry) → a ≤ b → EntryRoundsNeverFall b es → EntryRoundsNeverFall a es
 lower a b [] h order = tt
 lower a b (e ∷ es) h order = (omega (arith, h, order.0), order.1)
 
-order_then : (c : Config) (from i : ℕ) (xs ys : List Entry) → from ≤ i → Each (IsOf c i) xs → NeverFalls i ys → NeverFalls from (xs ++ ys)
+order_then : (c : Config) (from i : ℕ) (xs ys : List Entry) → from ≤ i → Each (IsOf c i) xs → EntryRoundsNeverFall i ys → EntryRoundsNeverFall from (xs ++ ys)
 order_then c from i [] ys h each order = lower from i ys h order
 order_then c from i (x ∷ xs) ys h each order = (omega (arith, h, each.0.1), order_then c x.round i xs ys (omega (arith, each.0.1)) each.1 order)
 
 -- all of them, and in order
 pub record Fit (c : Config) (from : ℕ) (es : List Entry) : Type 0 where
   pub each : Each (IsEntry c) es
-  pub order : NeverFalls from es
+  pub order : EntryRoundsNeverFall from es
 
 are_entries : (c : Config) (i : ℕ) (es : List Entry) → Each (IsOf c i) es → Each (IsEntry c) es
 are_entries c i [] h = tt
 are_entries c i (e ∷ es) h = (h.0.0, are_entries c i es h.1)
 
-rounds_fit : (c : Config) (i n : ℕ) (es : List Event) (s : State) → Each IsEvent es → Fit c i (entries_over c i n es s)
+rounds_fit : (c : Config) (i n : ℕ) (es : List Event) (s : SystemState) → Each IsEvent es → Fit c i (entries_over c i n es s)
 rounds_fit c i zero es s h = record { each = tt; order = tt }
 rounds_fit c i (suc n) es s h =
     let own : List Entry = entries_in c i s (events_of i es) in
@@ -177,7 +177,7 @@ each_of P (x ∷ xs) all = (All-head P x xs all, each_of P xs (All-tail P x xs a
 pub audits_runs : AuditsRuns
 audits_runs x a is events audited =
     let c = x.config in
-    let first : State = first_state c x.images x.volumes in
+    let first : SystemState = first_state c x.images x.volumes in
     let apart : IsApart c a.line = apart_of c a is audited in
     let entries : List Entry = entries_over c 1 x.rounds x.events first in
     let tracks : Tracks c a.line (opening_server c) entries (rounds c 1 x.rounds x.events first) = rounds_track c a audited apart 1 x.rounds (opening_server c) first x.events refl in

@@ -6,14 +6,14 @@ use Rattle.sys_objects.specs.declared.records.GuestRow.{GuestRow}
 use Rattle.sys_objects.specs.declared.records.Mount.{Mount}
 use Rattle.sys_objects.specs.declared.records.PrinterRow.{PrinterRow}
 use Rattle.sys_objects.specs.declared.records.Terminal.{Terminal}
-use Rattle.sys_rounds.specs.Bytes.{dump_on}
-use Rattle.sys_rounds.specs.Consoles.{console_of, on_console}
-use Rattle.sys_rounds.specs.Events.{message_of, puts_before, puts_behind, stop_puts, taken_puts, told}
-use Rattle.sys_rounds.specs.Guests.{alone, with_no_queue}
-use Rattle.sys_rounds.specs.Places.{is_at}
-use Rattle.sys_rounds.specs.State.{Put, State, bytes_on, server_of}
-use Rattle.sys_rounds.specs.Transfers.{Move, Packet, Prints, Reads, Refused, Writes, all_served, moved, move_of, packet_at, printed, printer_of, served, served_one}
-use Rattle.sys_rounds.specs.Turns.{turn_puts}
+use Rattle.sys_state.specs.Bytes.{dump_on}
+use Rattle.sys_state.specs.Consoles.{console_of, on_console}
+use Rattle.sys_state.specs.Events.{message_of, puts_after_verdict, puts_before, stop_puts, taken_notice, taken_puts}
+use Rattle.sys_state.specs.Guests.{alone, with_no_queue}
+use Rattle.sys_state.specs.Places.{is_at}
+use Rattle.sys_state.specs.State.{Put, SystemState, bytes_on, server_of}
+use Rattle.sys_state.specs.Transfers.{Move, Packet, Prints, Reads, Refused, Writes, all_served, moved, move_of, packet_at, printed, printer_of, served, served_one}
+use Rattle.sys_state.specs.Turns.{turn_puts}
 use Rattle.sys_server.specs.Apply.{taken}
 use Rattle.sys_server.specs.declared.command.Command.TheVariants.{Connect, Start, Halt, MountAt, Dismount, Show}
 use Rattle.sys_server.specs.declared.command.Verdict.{Verdict}
@@ -65,7 +65,7 @@ module _ (line : ℕ) where
   lines_elsewhere l h [] = tt
   lines_elsewhere l h (text ∷ texts) = (h, lines_elsewhere l h texts)
 
-  told_far : (ts : List Terminal) (k : ℕ) → Each (λ t. (t.line == line) ≡ false) ts → Elsewhere line (told (slice_get ts k))
+  told_far : (ts : List Terminal) (k : ℕ) → Each (λ t. (t.line == line) ≡ false) ts → Elsewhere line (taken_notice (slice_get ts k))
   told_far [] k h = tt
   told_far (t ∷ ts) zero h = (h.0, tt)
   told_far (t ∷ ts) (suc k) h = told_far ts k h.1
@@ -76,10 +76,10 @@ module _ (line : ℕ) where
   printer_far (p ∷ ps) (suc k) job h = printer_far ps k job h.1
 
   module _ (c : Config) (apart : IsApart c line) where
-    stop_elsewhere : (s : State) (g : ℕ) → Elsewhere line (stop_puts c s g)
+    stop_elsewhere : (s : SystemState) (g : ℕ) → Elsewhere line (stop_puts c s g)
     stop_elsewhere s g = on_far (console_of c.terminals s.connected g) (message_of (slice_get s.guests g)) (console_far c.terminals s.connected g apart.terminals)
 
-    pub before_elsewhere : (s : State) (t : Terminal) (v : Verdict) → (t.line == line) ≡ false → Elsewhere line (puts_before c s t v)
+    pub before_elsewhere : (s : SystemState) (t : Terminal) (v : Verdict) → (t.line == line) ≡ false → Elsewhere line (puts_before c s t v)
     before_elsewhere s t (Granted Show) far = lines_elsewhere t.line far _
     before_elsewhere s t (Granted (Halt g)) far = stop_elsewhere s g
     before_elsewhere s t (Granted (Start g)) far = tt
@@ -94,7 +94,7 @@ module _ (line : ℕ) where
     taken_elsewhere None = tt
     taken_elsewhere (Some k) = told_far c.terminals k apart.terminals
 
-    pub behind_elsewhere : (s : State) (n : ℕ) (v : Verdict) → Elsewhere line (puts_behind c s n v)
+    pub behind_elsewhere : (s : SystemState) (n : ℕ) (v : Verdict) → Elsewhere line (puts_after_verdict c s n v)
     behind_elsewhere s n (Granted command) = taken_elsewhere (taken (server_of s) n command)
     behind_elsewhere s n BadCommand = tt
     behind_elsewhere s n NoSuchObject = tt

@@ -3,9 +3,9 @@ use Rattle.std.specs.Prelude.{◌≡◌, Some}
 use Rattle.sys_audit_check.specs.Audited.{Audited}
 use Rattle.sys_objects.specs.Condition.{IsConfig}
 use Rattle.sys_objects.specs.declared.records.Audit.{Audit}
-use Rattle.sys_rounds.specs.Bytes.{line_bytes}
-use Rattle.sys_rounds.specs.Run.{Input}
 use Rattle.sys_script.specs.Events.{AreEvents}
+use Rattle.sys_state.specs.Bytes.{line_bytes}
+use Rattle.sys_state.specs.Run.{Input}
 
 -- what the audit line of a run is shown is an audit
 abbrev pub AuditsRuns : Type 0

@@ -3,14 +3,14 @@ use Rattle.std.proofs.Common.{◌≡◌, ◌≤◌, ℕ, ℤ, Bool, true, false,
 use Rattle.std.proofs.lemmas.Bool.{leb-true}
 use Rattle.toml.specs.Data.{Data, Items, Members, get_member, as_array}
 use Rattle.toml.specs.Text.{are_tables}
-use Rattle.sys_objects.specs.Faults.{Reads, by_rule, unless_at}
+use Rattle.sys_objects.specs.Faults.{IsConfigAnswer, by_rule, unless_at}
 use Rattle.sys_config.specs.Answers.{entries_from}
 use Rattle.sys_config.specs.Reads.{in_range, if_any}
-use Rattle.sys_config.specs.Entries.{terminal_of, volume_of, printer_of, audit_of}
-use Rattle.sys_config.specs.Guests.{guest_of}
+use Rattle.sys_config.specs.Entries.{terminal_row_in, volume_row_in, printer_row_in, audit_row_in}
+use Rattle.sys_config.specs.Guests.{guest_row_in}
 use Rattle.sys_config.specs.Top.{top_of, audit_table, is_two, quantum_of, most_slice, top_level, most_guests, tables_at, tables_in, count_of, items_if_any}
 use Rattle.sys_objects.specs.Rules.{bad_name, bad_line, bad_drive, bad_printer, bad_console, bad_mount, bad_audit, bad_pages}
-use Rattle.sys_objects.specs.Judged.{judged}
+use Rattle.sys_objects.specs.Judged.{validated}
 use Rattle.sys_config.specs.Config.{document_of, numbers_of, audit_if_any, rows_of, config_in, config_of}
 use Rattle.sys_objects.specs.Condition.{IsConfig, IsTerminal, IsVolume, IsPrinter, IsGuest, IsAudit}
 use Rattle.sys_objects.specs.declared.errors.ConfigError.{ConfigError}
@@ -68,7 +68,7 @@ few_at key most t = listed (if_any (tables_in most) key t) (maybe (λ (ds : Item
 
 audit_read : (top : ℕ) (table : Option Members) → IfSome (audit_if_any top table) (λ a. IfSome a IsAudit)
 audit_read top None = tt
-audit_read top (Some t) = wrapped (audit_of top t) (audit_is top t)
+audit_read top (Some t) = wrapped (audit_row_in top t) (audit_is top t)
   where
     wrapped : (o : Option Audit) → IfSome o IsAudit → IfSome (option_map Some o) (λ a. IfSome a IsAudit)
     wrapped None h = tt
@@ -102,11 +102,11 @@ rows_are n audit t are =
     each_ok (λ (ds : Items). count_of ds ≤ 32) (AreRows n) (by_rule 5 2 (tables_at (codes "printer") 32 t)) _ (by (λ (ds : Items). count_of ds ≤ 32) 5 2 _ (few_at (codes "printer") 32 t)) (λ printer few_p.
     each_ok (λ (ds : Items). count_of ds ≤ most_guests n.quantum) (AreRows n) (by_rule 5 3 (tables_at (codes "guest") (most_guests n.quantum) t)) _
     (by (λ (ds : Items). count_of ds ≤ most_guests n.quantum) 5 3 _ (few_at (codes "guest") (most_guests n.quantum) t)) (λ guest few_g.
-    each_ok (AreRead IsTerminal (0 + count_of terminal)) (AreRows n) (entries_from 6 (terminal_of top) [] terminal) _ (entries IsTerminal 6 (terminal_of top) (terminal_is top) terminal [] (none IsTerminal)) (λ terminals ts.
-    each_ok (AreRead IsVolume (0 + count_of volume)) (AreRows n) (entries_from 7 (volume_of top) [] volume) _ (entries IsVolume 7 (volume_of top) (volume_is top) volume [] (none IsVolume)) (λ volumes vs.
-    each_ok (AreRead IsPrinter (0 + count_of printer)) (AreRows n) (entries_from 8 (printer_of top) [] printer) _ (entries IsPrinter 8 (printer_of top) (printer_is top) printer [] (none IsPrinter)) (λ printers ps.
-    each_ok (AreRead IsGuest (0 + count_of guest)) (AreRows n) (entries_from 9 (guest_of top n.quantum terminals volumes printers) [] guest) _
-    (entries IsGuest 9 (guest_of top n.quantum terminals volumes printers) (λ t. guest_is top n.quantum terminals volumes printers t are.quantum) guest [] (none IsGuest)) (λ guests gs.
+    each_ok (AreRead IsTerminal (0 + count_of terminal)) (AreRows n) (entries_from 6 (terminal_row_in top) [] terminal) _ (entries IsTerminal 6 (terminal_row_in top) (terminal_is top) terminal [] (none IsTerminal)) (λ terminals ts.
+    each_ok (AreRead IsVolume (0 + count_of volume)) (AreRows n) (entries_from 7 (volume_row_in top) [] volume) _ (entries IsVolume 7 (volume_row_in top) (volume_is top) volume [] (none IsVolume)) (λ volumes vs.
+    each_ok (AreRead IsPrinter (0 + count_of printer)) (AreRows n) (entries_from 8 (printer_row_in top) [] printer) _ (entries IsPrinter 8 (printer_row_in top) (printer_is top) printer [] (none IsPrinter)) (λ printers ps.
+    each_ok (AreRead IsGuest (0 + count_of guest)) (AreRows n) (entries_from 9 (guest_row_in top n.quantum terminals volumes printers) [] guest) _
+    (entries IsGuest 9 (guest_row_in top n.quantum terminals volumes printers) (λ t. guest_is top n.quantum terminals volumes printers t are.quantum) guest [] (none IsGuest)) (λ guests gs.
     each_ok (λ (a : Option Audit). IfSome a IsAudit) (AreRows n) (by_rule 10 0 (audit_if_any top audit)) _ (by (λ (a : Option Audit). IfSome a IsAudit) 10 0 _ (audit_read top audit)) (λ read is_audit.
     record {
       slice = refl;
@@ -121,8 +121,8 @@ rows_are n audit t are =
       audit = is_audit;
     })))))))))
 
-unbroken : (c : Config) → IfOk (judged c) (λ _. IsUnbroken c)
-unfolding judged
+unbroken : (c : Config) → IfOk (validated c) (λ _. IsUnbroken c)
+unfolding validated
 unbroken c =
     let P = λ (u : Unit {0}). IsUnbroken c in
     each_ok (λ _. bad_name c ≡ None) P (unless_at 11 (bad_name c)) _ (unless 11 (bad_name c)) (λ _ name.
@@ -167,7 +167,7 @@ table_accepted t =
     each_ok (λ (a : Option Members). Unit {0}) IsConfig (by_rule 1 0 (audit_table t)) _ (by (λ (a : Option Members). Unit {0}) 1 0 (audit_table t) (anything (audit_table t))) (λ audit _.
     each_ok AreLimits IsConfig (numbers_of t) _ (limits_are t) (λ n are.
     each_ok (AreRows n) IsConfig (rows_of n audit t) _ (rows_are n audit t are) (λ c rows.
-    each_ok (λ (u : Unit {0}). IsUnbroken c) IsConfig (judged c) _ (unbroken c) (λ _ is. met n c are rows is))))
+    each_ok (λ (u : Unit {0}). IsUnbroken c) IsConfig (validated c) _ (unbroken c) (λ _ is. met n c are rows is))))
 
 pub accepted : (bytes : List ℕ) → IfOk (config_of bytes) IsConfig
 unfolding config_of
@@ -177,6 +177,6 @@ accepted bytes =
 pub accepted_is : (bytes : List ℕ) (c : Config) → config_of bytes ≡ Ok c → IsConfig c
 accepted_is bytes c e = rw e at (accepted bytes)
 
-pub read_is : (r : Result Config ConfigError) (t : Members) → Reads (λ c. c) r (config_in t) → IfOk r IsConfig
+pub read_is : (r : Result Config ConfigError) (t : Members) → IsConfigAnswer (λ c. c) r (config_in t) → IfOk r IsConfig
 read_is (Ok c) t e = rw e at (table_accepted t)
 read_is (Err e) t h = tt

@@ -7,7 +7,7 @@ use Rattle.sys_objects.specs.declared.errors.ConfigFault.{ConfigFault}
 use Rattle.sys_config.specs.Reads as reads
 use Rattle.sys_config.specs.Reads.{if_some}
 use Rattle.sys_objects.specs.Faults.{◌>>=◌, by_rule, unless_at}
-use Rattle.sys_config.specs.Answers.{entry_of, entries_from}
+use Rattle.sys_config.specs.Answers.{entry_from_table, entries_from}
 use Rattle.sys_config.specs.Top.{count_of}
 
 pub each : {A B : Type 0} (P : A → Type 0) (Q : B → Type 0) (o : Option A) (f : A → Option B) → IfSome o P → ((x : A) → P x → IfSome (f x) Q) → IfSome (reads.◌>>=◌ o f) Q
@@ -42,7 +42,7 @@ pub unless : (rule : ℕ) (o : Option ℕ) → IfOk (unless_at rule o) (λ _. o 
 unless rule None = refl
 unless rule (Some place) = tt
 
-entry : {A : Type 0} (P : A → Type 0) (read : Members → Option A) → ((t : Members) → IfSome (read t) P) → (d : Data) → IfSome (entry_of read d) P
+entry : {A : Type 0} (P : A → Type 0) (read : Members → Option A) → ((t : Members) → IfSome (read t) P) → (d : Data) → IfSome (entry_from_table read d) P
 entry P read h d = each (λ t. Unit {0}) P (as_table d) read (anything (as_table d)) (λ t _. h t)
 
 -- the entries of a list
@@ -54,7 +54,7 @@ pub entries : {A : Type 0} (P : A → Type 0) (rule : ℕ) (read : Members → O
     → (ds : Items) (done : List A) → All P done → IfOk (entries_from rule read done ds) (AreRead P (length done + count_of ds))
 entries P rule read h no_items done all = record { each = all; count = omega arith }
 entries {A} P rule read h (item d ds) done all =
-    each_ok P (AreRead P (length done + suc (count_of ds))) (by_rule rule (length done) (entry_of read d)) _ (by P rule (length done) (entry_of read d) (entry P read h d))
+    each_ok P (AreRead P (length done + suc (count_of ds))) (by_rule rule (length done) (entry_from_table read d)) _ (by P rule (length done) (entry_from_table read d) (entry P read h d))
     (λ x is. moved x (entries P rule read h ds (done ++ x ∷ []) (All-push P done x all is)))
   where
     same : (x : A) → length (done ++ x ∷ []) + count_of ds ≡ length done + suc (count_of ds)

@@ -12,11 +12,11 @@ use Rattle.sys_objects.specs.declared.records.GuestRow.{GuestRow}
 use Rattle.sys_config.specs.Reads.{if_some, are_known}
 use Rattle.sys_config.specs.Answers.{entries_from}
 use Rattle.sys_config.specs.Top.{all_keys, top_of, top_of_two, audit_table, tables_at, count_of}
-use Rattle.sys_config.specs.Entries.{terminal_of, volume_of, printer_of}
-use Rattle.sys_config.specs.Guests.{guest_of}
+use Rattle.sys_config.specs.Entries.{terminal_row_in, volume_row_in, printer_row_in}
+use Rattle.sys_config.specs.Guests.{guest_row_in}
 use Rattle.sys_config.specs.Config.{document_of, numbers_of, audit_if_any, rows_of, config_in, config_of}
 use Rattle.sys_objects.specs.Condition.{IsConfig, IsTerminal, IsVolume, IsPrinter, IsAudit, IsGuest, NamesObjects}
-use Rattle.sys_config.specs.Written.{version_of, with_any, number, written_terminal, written_volume, written_printer, written_audit, audit_value, written_guest, items_by, lists, written}
+use Rattle.sys_config.specs.Written.{version_of, with_any, number, written_terminal, written_volume, written_printer, written_audit, audit_value, written_guest, items_by, lists, written_config}
 use Rattle.sys_config.proofs.ReadAgain.{terminal_back, volume_back, printer_back, audit_back, entries_back, guest_back}
 use Rattle.sys_objects.proofs.JudgedAgain.{judged_back, are_apart}
 
@@ -61,8 +61,8 @@ found_in c = record {
   known = true;
 }
 
-stands : (c : Config) → looked (written c) ≡ found_in c
-unfolding written lists
+stands : (c : Config) → looked (written_config c) ≡ found_in c
+unfolding written_config lists
 stands c = all_found _ _ _ _ _ _ (audit_value c.audit)
 
 are_tables-items_by : {A : Type 0} (f : A → Members) (xs : List A) → are_tables (items_by f xs) ≡ true
@@ -105,11 +105,11 @@ rows_back c met t e =
     let volume : tables_at (codes "volume") 16 t ≡ Some (items_by written_volume c.volumes) = tables_found (codes "volume") t 16 written_volume c.volumes (ap (λ (l : Looked). l.volume) e) met.few_volumes in
     let printer : tables_at (codes "printer") 32 t ≡ Some (items_by written_printer c.printers) = tables_found (codes "printer") t 32 written_printer c.printers (ap (λ (l : Looked). l.printer) e) met.few_printers in
     let guest : tables_at (codes "guest") 16 t ≡ Some (items_by (written_guest c) c.guests) = tables_found (codes "guest") t 16 (written_guest c) c.guests (ap (λ (l : Looked). l.guest) e) met.few_guests in
-    let terminals : entries_from 6 (terminal_of 255) [] (items_by written_terminal c.terminals) ≡ Ok c.terminals = entries_back IsTerminal 6 (terminal_of 255) written_terminal terminal_back c.terminals [] met.terminals in
-    let volumes : entries_from 7 (volume_of 255) [] (items_by written_volume c.volumes) ≡ Ok c.volumes = entries_back IsVolume 7 (volume_of 255) written_volume volume_back c.volumes [] met.volumes in
-    let printers : entries_from 8 (printer_of 255) [] (items_by written_printer c.printers) ≡ Ok c.printers = entries_back IsPrinter 8 (printer_of 255) written_printer printer_back c.printers [] met.printers in
-    let guests : entries_from 9 (guest_of 255 None c.terminals c.volumes c.printers) [] (items_by (written_guest c) c.guests) ≡ Ok c.guests =
-    entries_back (λ (g : GuestRow). IsGuest g × NamesObjects c g) 9 (guest_of 255 None c.terminals c.volumes c.printers) (written_guest c) (guest_back c met apart) c.guests [] (λ k d within. (met.guests k d within, met.numbers k d within)) in
+    let terminals : entries_from 6 (terminal_row_in 255) [] (items_by written_terminal c.terminals) ≡ Ok c.terminals = entries_back IsTerminal 6 (terminal_row_in 255) written_terminal terminal_back c.terminals [] met.terminals in
+    let volumes : entries_from 7 (volume_row_in 255) [] (items_by written_volume c.volumes) ≡ Ok c.volumes = entries_back IsVolume 7 (volume_row_in 255) written_volume volume_back c.volumes [] met.volumes in
+    let printers : entries_from 8 (printer_row_in 255) [] (items_by written_printer c.printers) ≡ Ok c.printers = entries_back IsPrinter 8 (printer_row_in 255) written_printer printer_back c.printers [] met.printers in
+    let guests : entries_from 9 (guest_row_in 255 None c.terminals c.volumes c.printers) [] (items_by (written_guest c) c.guests) ≡ Ok c.guests =
+    entries_back (λ (g : GuestRow). IsGuest g × NamesObjects c g) 9 (guest_row_in 255 None c.terminals c.volumes c.printers) (written_guest c) (guest_back c met apart) c.guests [] (λ k d within. (met.guests k d within, met.numbers k d within)) in
     rw (terminal, volume, printer, guest, terminals, volumes, printers, guests, audit_back_any c.audit met.audit)
 
 table_read : (c : Config) → IsConfig c → (t : Members) → looked t ≡ found_in c → config_in t ≡ Ok c
@@ -118,19 +118,19 @@ table_read c met t e =
     let audit : audit_table t ≡ Some (option_map written_audit c.audit) = rw (ap (λ (l : Looked). l.audit) e) (table_back c.audit) in
     rw (audit, numbers_back c met t e, rows_back c met t e, judged_back c met)
 
-pub written_back : (c : Config) → IsConfig c → config_in (written c) ≡ Ok c
-written_back c met = table_read c met (written c) (stands c)
+pub written_back : (c : Config) → IsConfig c → config_in (written_config c) ≡ Ok c
+written_back c met = table_read c met (written_config c) (stands c)
 
-pub document_back : (c : Config) (bytes : List ℕ) (t : Members) → t ≡ written c → IsUtf8 bytes → (members_depth t ≤ 80 → parse_document bytes ≡ Some t) → members_depth (written c) ≤ 80 → document_of bytes ≡ Some (written c)
+pub document_back : (c : Config) (bytes : List ℕ) (t : Members) → t ≡ written_config c → IsUtf8 bytes → (members_depth t ≤ 80 → parse_document bytes ≡ Some t) → members_depth (written_config c) ≤ 80 → document_of bytes ≡ Some (written_config c)
 document_back c bytes t same utf8 back shallow =
     let low : members_depth t ≤ 80 = rw same shallow in
     rw (is_utf8-from_IsUtf8 bytes utf8, back low, same)
 
-pub config_back : (c : Config) → IsConfig c → (bytes : List ℕ) → document_of bytes ≡ Some (written c) → config_of bytes ≡ Ok c
+pub config_back : (c : Config) → IsConfig c → (bytes : List ℕ) → document_of bytes ≡ Some (written_config c) → config_of bytes ≡ Ok c
 unfolding config_of
 config_back c met bytes e = rw e (written_back c met)
 
-pub version_back : (c : Config) (bytes : List ℕ) → document_of bytes ≡ Some (written c) → version_of bytes ≡ Some (pos 2)
+pub version_back : (c : Config) (bytes : List ℕ) → document_of bytes ≡ Some (written_config c) → version_of bytes ≡ Some (pos 2)
 version_back c bytes e =
-    let version : get_member (codes "version") (written c) ≡ Some (number 2) = ap (λ (l : Looked). l.version) (stands c) in
+    let version : get_member (codes "version") (written_config c) ≡ Some (number 2) = ap (λ (l : Looked). l.version) (stands c) in
     rw (e, version)

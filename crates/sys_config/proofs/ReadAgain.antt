@@ -18,15 +18,15 @@ use Rattle.sys_objects.specs.declared.records.Mount.{Mount}
 use Rattle.sys_objects.specs.declared.records.Terminal.{Terminal}
 use Rattle.sys_objects.specs.declared.records.VolumeRow.{VolumeRow}
 use Rattle.sys_objects.specs.declared.records.PrinterRow.{PrinterRow}
-use Rattle.sys_config.specs.Reads.{number_in, number_at, flag_at, if_any, if_some, are_known}
+use Rattle.sys_config.specs.Reads.{integer_in, bounded_integer_at, flag_at, if_any, if_some, are_known}
 use Rattle.sys_config.specs.Answers.{entries_from}
-use Rattle.sys_config.specs.Entries.{name_in, name_at, class_in, class_at, named_line_of, terminal_of, volume_of, printer_of, audit_of}
-use Rattle.sys_config.specs.Guests.{mount_of, mounts_from, no_mounts, object_in, console_in, printer_in, mounts_in, modify_of, keys_of_guest, image_at, bare_guest_of, guest_of, Units}
+use Rattle.sys_config.specs.Entries.{name_in, name_at, class_in, class_at, named_line_of, terminal_row_in, volume_row_in, printer_row_in, audit_row_in}
+use Rattle.sys_config.specs.Guests.{mount_of, mounts_from, no_mounts, object_in, console_in, printer_in, mounts_in, modify_of, keys_of_guest, image_at, bare_guest_of, guest_row_in, Units}
 use Rattle.sys_objects.specs.Condition.{IsTerminal, IsVolume, IsPrinter, IsAudit, IsGuest, NamesObjects, IsConfig}
 use Rattle.sys_objects.proofs.JudgedAgain.{AreApart, texts_differ}
 use Rattle.sys_config.specs.Written.{with_any, number, written_line, written_terminal, written_volume, written_printer, written_audit, written_mount, mount_items, modify_text, object_value, console_value, printer_value, dump_value, written_guest, items_by}
 
-number_back : (low high n : ℕ) → low ≤ n → n ≤ high → number_in low high (number n) ≡ Some n
+number_back : (low high n : ℕ) → low ≤ n → n ≤ high → integer_in low high (number n) ≡ Some n
 number_back low high n least most = rw (le-leb low n least, le-leb n high most)
 
 name_back : (name : List ℕ) → is_object_name name ≡ true → name_in name ≡ Some name
@@ -36,7 +36,7 @@ class_back : (c : AccessClass) → IsClass c → class_in 255 (class_text c) ≡
 class_back c is = rw (written_is_read c is, le-leb c.secrecy 255 (omega (arith, is.secrecy)), le-leb c.integrity 255 (omega (arith, is.integrity)))
 
 -- at a key of any table
-number_found : (key : List ℕ) (t : Members) (low high n : ℕ) → get_member key t ≡ Some (number n) → low ≤ n → n ≤ high → number_at key low high t ≡ Some n
+number_found : (key : List ℕ) (t : Members) (low high n : ℕ) → get_member key t ≡ Some (number n) → low ≤ n → n ≤ high → bounded_integer_at key low high t ≡ Some n
 number_found key t low high n at least most = rw (at, le-leb low n least, le-leb n high most)
 
 name_found : (key : List ℕ) (t : Members) (name : List ℕ) → get_member key t ≡ Some (string name) → is_object_name name ≡ true → name_at key t ≡ Some name
@@ -57,19 +57,19 @@ unfolding named_line_of written_line
 line_back name line class named low is =
     rw (named, le-leb 0 line (omega arith), le-leb line 31 low, written_is_read class is, le-leb class.secrecy 255 (omega (arith, is.secrecy)), le-leb class.integrity 255 (omega (arith, is.integrity)))
 
-pub terminal_back : (r : Terminal) → IsTerminal r → terminal_of 255 (written_terminal r) ≡ Some r
+pub terminal_back : (r : Terminal) → IsTerminal r → terminal_row_in 255 (written_terminal r) ≡ Some r
 terminal_back r is = rw (line_back r.name r.line r.class is.named is.line is.class)
 
-pub printer_back : (r : PrinterRow) → IsPrinter r → printer_of 255 (written_printer r) ≡ Some r
+pub printer_back : (r : PrinterRow) → IsPrinter r → printer_row_in 255 (written_printer r) ≡ Some r
 printer_back r is = rw (line_back r.name r.line r.class is.named is.line is.class)
 
-pub volume_back : (r : VolumeRow) → IsVolume r → volume_of 255 (written_volume r) ≡ Some r
-unfolding volume_of written_volume
+pub volume_back : (r : VolumeRow) → IsVolume r → volume_row_in 255 (written_volume r) ≡ Some r
+unfolding volume_row_in written_volume
 volume_back r is =
     rw (is.named, le-leb 0 r.drive (omega arith), le-leb r.drive 15 is.drive, le-leb 1 r.blocks is.some_blocks, le-leb r.blocks 2048 is.few_blocks, written_is_read r.class is.class, le-leb r.class.secrecy 255 (omega (arith, is.class.secrecy)), le-leb r.class.integrity 255 (omega (arith, is.class.integrity)))
 
-pub audit_back : (a : Audit) → IsAudit a → audit_of 255 (written_audit a) ≡ Some a
-unfolding audit_of written_audit
+pub audit_back : (a : Audit) → IsAudit a → audit_row_in 255 (written_audit a) ≡ Some a
+unfolding audit_row_in written_audit
 audit_back a is =
     rw (le-leb 0 a.line (omega arith), le-leb a.line 31 is.line, written_is_read a.class is.class, le-leb a.class.secrecy 255 (omega (arith, is.class.secrecy)), le-leb a.class.integrity 255 (omega (arith, is.class.integrity)))
 
@@ -239,12 +239,12 @@ unfolding bare_guest_of
 bare_back c g is t e =
     let name : name_at (codes "name") t ≡ Some g.name = name_found (codes "name") t g.name (ap (λ (l : Looked). l.name) e) is.named in
     let class : class_at 255 t ≡ Some g.class = class_found t g.class (ap (λ (l : Looked). l.class) e) is.class in
-    let pages : number_at (codes "pages") 64 2048 t ≡ Some g.pages = number_found (codes "pages") t 64 2048 g.pages (ap (λ (l : Looked). l.pages) e) is.some_pages is.few_pages in
+    let pages : bounded_integer_at (codes "pages") 64 2048 t ≡ Some g.pages = number_found (codes "pages") t 64 2048 g.pages (ap (λ (l : Looked). l.pages) e) is.some_pages is.few_pages in
     let image : image_at t ≡ Some g.image = image_found t g.image (ap (λ (l : Looked). l.image) e) is.image in
-    let load : number_at (codes "load") 0 4294967295 t ≡ Some g.load = number_found (codes "load") t 0 4294967295 g.load (ap (λ (l : Looked). l.load) e) (omega arith) (omega (arith, is.load)) in
-    let start : number_at (codes "start") 0 4294967295 t ≡ Some g.start = number_found (codes "start") t 0 4294967295 g.start (ap (λ (l : Looked). l.start) e) (omega arith) (omega (arith, is.start)) in
+    let load : bounded_integer_at (codes "load") 0 4294967295 t ≡ Some g.load = number_found (codes "load") t 0 4294967295 g.load (ap (λ (l : Looked). l.load) e) (omega arith) (omega (arith, is.load)) in
+    let start : bounded_integer_at (codes "start") 0 4294967295 t ≡ Some g.start = number_found (codes "start") t 0 4294967295 g.start (ap (λ (l : Looked). l.start) e) (omega arith) (omega (arith, is.start)) in
     let autostart : flag_at (codes "autostart") t ≡ Some g.autostart = flag_found (codes "autostart") t g.autostart (ap (λ (l : Looked). l.autostart) e) in
-    let quantum : number_at (codes "quantum") 1 100000 t ≡ Some g.quantum = number_found (codes "quantum") t 1 100000 g.quantum (ap (λ (l : Looked). l.quantum) e) is.some_steps is.few_steps in
+    let quantum : bounded_integer_at (codes "quantum") 1 100000 t ≡ Some g.quantum = number_found (codes "quantum") t 1 100000 g.quantum (ap (λ (l : Looked). l.quantum) e) is.some_steps is.few_steps in
     rw (name, class, pages, image, load, start, autostart, quantum)
 
 object_back : {A : Type 0} (P : A → Type 0) (name : A → List ℕ) (named : (x : A) → P x → is_object_name (name x) ≡ true) (xs : List A) → All P xs → AllPairs (λ x y. name x ≢ name y) xs
@@ -253,7 +253,7 @@ object_back P name named xs rows apart None there = refl
 object_back P name named xs rows apart (Some k) there =
     let h = held P xs k there rows in rw (h.at, named h.one h.is, place_back name xs k h.one apart h.at)
 
-dump_back : (o : Option ℕ) → IfSome o (λ line. line ≤ 31) → if_some (number_in 0 31) (dump_value o) ≡ Some o
+dump_back : (o : Option ℕ) → IfSome o (λ line. line ≤ 31) → if_some (integer_in 0 31) (dump_value o) ≡ Some o
 dump_back None low = refl
 dump_back (Some line) low = rw (le-leb 0 line (omega arith), le-leb line 31 low)
 
@@ -262,14 +262,14 @@ modify_back true = refl
 modify_back false = refl
 
 guest_from : (c : Config) → IsConfig c → AreApart c → (g : GuestRow) → IsGuest g → NamesObjects c g → (t : Members) → looked t ≡ found_in c g
-    → guest_of 255 None c.terminals c.volumes c.printers t ≡ Some g
-unfolding guest_of
+    → guest_row_in 255 None c.terminals c.volumes c.printers t ≡ Some g
+unfolding guest_row_in
 guest_from c met apart g is numbers t e =
     let known : are_known (keys_of_guest None) t ≡ true = ap (λ (l : Looked). l.known) e in
     let first : bare_guest_of 255 None t ≡ Some (bare g) = bare_back c g is t e in
     let console : if_any (console_in c.terminals) (codes "console") t ≡ Some g.console = rw (ap (λ (l : Looked). l.console) e) (object_back IsTerminal (λ (t : Terminal). t.name) (λ t is. is.named) c.terminals met.terminals apart.terminals g.console numbers.console) in
     let printer : if_any (printer_in c.printers) (codes "printer") t ≡ Some g.printer = rw (ap (λ (l : Looked). l.printer) e) (object_back IsPrinter (λ (p : PrinterRow). p.name) (λ p is. is.named) c.printers met.printers apart.printers g.printer numbers.printer) in
-    let dump : if_any (number_in 0 31) (codes "dump") t ≡ Some g.dump = rw (ap (λ (l : Looked). l.dump) e) (dump_back g.dump is.dump) in
+    let dump : if_any (integer_in 0 31) (codes "dump") t ≡ Some g.dump = rw (ap (λ (l : Looked). l.dump) e) (dump_back g.dump is.dump) in
     let modify : if_any modify_of (codes "modify") t ≡ Some (Some g.modify_faults) = rw (ap (λ (l : Looked). l.modify) e) (modify_back g.modify_faults) in
     let mounts : if_any (mounts_in c.volumes) (codes "mount") t ≡ Some (Some g.mounts) =
     rw (ap (λ (l : Looked). l.mount) e, mounts_read c.volumes met.volumes apart.volumes g.mounts is.units numbers.mounts) in
@@ -279,5 +279,5 @@ stands : (c : Config) (g : GuestRow) → looked (written_guest c g) ≡ found_in
 unfolding written_guest
 stands c g = all_found _ _ _ _ _ _ _ _ _ _ (console_value c.terminals g.console) (dump_value g.dump) (printer_value c.printers g.printer)
 
-pub guest_back : (c : Config) → IsConfig c → AreApart c → (g : GuestRow) → IsGuest g × NamesObjects c g → guest_of 255 None c.terminals c.volumes c.printers (written_guest c g) ≡ Some g
+pub guest_back : (c : Config) → IsConfig c → AreApart c → (g : GuestRow) → IsGuest g × NamesObjects c g → guest_row_in 255 None c.terminals c.volumes c.printers (written_guest c g) ≡ Some g
 guest_back c met apart g is = guest_from c met apart g is.0 is.1 (written_guest c g) (stands c g)

@@ -9,7 +9,7 @@ use Rattle.sys_objects.specs.declared.records.Audit.{Audit}
 use Rattle.sys_objects.specs.declared.records.GuestRow.{GuestRow}
 use Rattle.sys_objects.specs.declared.records.Mount.{Mount}
 use Rattle.sys_objects.specs.declared.records.VolumeRow.{VolumeRow}
-use Rattle.sys_config.specs.Written.{with_member, with_any, number, written_line, written_terminal, written_volume, written_printer, written_audit, written_mount, mount_items, console_value, printer_value, dump_value, audit_value, written_guest, items_by, lists, written}
+use Rattle.sys_config.specs.Written.{with_member, with_any, number, written_line, written_terminal, written_volume, written_printer, written_audit, written_mount, mount_items, console_value, printer_value, dump_value, audit_value, written_guest, items_by, lists, written_config}
 
 -- no deeper than so much, and without dates
 record IsPlain (n : ℕ) (ms : Members) : Type 0 where
@@ -81,8 +81,8 @@ audit-plain : (a : Audit) → IsPlainData 4 (table (written_audit a))
 unfolding written_audit
 audit-plain a = record { shallow = omega arith; dateless = refl }
 
-plain : (c : Config) → IsPlain 4 (written c)
-unfolding written lists
+plain : (c : Config) → IsPlain 4 (written_config c)
+unfolding written_config lists
 plain c =
     let guests = items_by-plain 2 (written_guest c) (guest-plain c) c.guests in
     let printers = items_by-plain 0 written_printer (λ p. line-plain p.name p.line p.class) c.printers in
@@ -91,8 +91,8 @@ plain c =
     with_any-plain 4 (codes "audit") (audit_value c.audit) _ (mapped-plain 4 _ c.audit audit-plain)
     (record { shallow = omega (arith, guests.shallow, printers.shallow, terminals.shallow, volumes.shallow); dateless = rw (guests.dateless, printers.dateless, terminals.dateless, volumes.dateless) })
 
-pub is_shallow : (c : Config) → members_depth (written c) ≤ 80
+pub is_shallow : (c : Config) → members_depth (written_config c) ≤ 80
 is_shallow c = omega (arith, (plain c).shallow)
 
-pub is_dateless : (c : Config) → members_have_valid_dates (written c) ≡ true
+pub is_dateless : (c : Config) → members_have_valid_dates (written_config c) ≡ true
 is_dateless c = (plain c).dateless

@@ -25,10 +25,10 @@ use Rattle.toml.specs.Parse.{parse_document}
 use Rattle.sys_objects.specs.Faults.{◌>>=◌, by_rule}
 use Rattle.sys_config.specs.Answers.{entries_from}
 use Rattle.sys_config.specs.Reads.{in_range}
-use Rattle.sys_config.specs.Entries.{terminal_of, volume_of, printer_of, audit_of}
-use Rattle.sys_config.specs.Guests.{guest_of}
+use Rattle.sys_config.specs.Entries.{terminal_row_in, volume_row_in, printer_row_in, audit_row_in}
+use Rattle.sys_config.specs.Guests.{guest_row_in}
 use Rattle.sys_config.specs.Top.{top_of, audit_table, is_two, quantum_of, most_slice, top_level, most_guests, tables_at}
-use Rattle.sys_objects.specs.Judged.{judged}
+use Rattle.sys_objects.specs.Judged.{validated}
 use Rattle.sys_objects.specs.declared.errors.ConfigFault.{ConfigFault}
 use Rattle.sys_config.specs.declared.numbers.Limits.{Limits}
 use Rattle.sys_objects.specs.declared.records.Config.{Config}
@@ -48,7 +48,7 @@ numbers_of t =
 
 abbrev pub audit_if_any : ℕ → Option Members → Option (Option Audit)
 audit_if_any top None = Some None
-audit_if_any top (Some t) = option_map Some (audit_of top t)
+audit_if_any top (Some t) = option_map Some (audit_row_in top t)
 
 unfoldable pub rows_of : Limits → Option Members → Members → Result Config ConfigFault
 rows_of n audit t =
@@ -56,10 +56,10 @@ rows_of n audit t =
     by_rule 5 1 (tables_at (codes "volume") 16 t) >>= λ volume.
     by_rule 5 2 (tables_at (codes "printer") 32 t) >>= λ printer.
     by_rule 5 3 (tables_at (codes "guest") (most_guests n.quantum) t) >>= λ guest.
-    entries_from 6 (terminal_of (top_level n.quantum)) [] terminal >>= λ terminals.
-    entries_from 7 (volume_of (top_level n.quantum)) [] volume >>= λ volumes.
-    entries_from 8 (printer_of (top_level n.quantum)) [] printer >>= λ printers.
-    entries_from 9 (guest_of (top_level n.quantum) n.quantum terminals volumes printers) [] guest >>= λ guests.
+    entries_from 6 (terminal_row_in (top_level n.quantum)) [] terminal >>= λ terminals.
+    entries_from 7 (volume_row_in (top_level n.quantum)) [] volume >>= λ volumes.
+    entries_from 8 (printer_row_in (top_level n.quantum)) [] printer >>= λ printers.
+    entries_from 9 (guest_row_in (top_level n.quantum) n.quantum terminals volumes printers) [] guest >>= λ guests.
     by_rule 10 0 (audit_if_any (top_level n.quantum) audit) >>= λ read.
     Ok (record { slice = n.slice; audit = read; terminals = terminals; volumes = volumes; printers = printers; guests = guests })
 
@@ -68,7 +68,7 @@ config_in t =
     by_rule 1 0 (audit_table t) >>= λ audit.
     numbers_of t >>= λ numbers.
     rows_of numbers audit t >>= λ c.
-    judged c >>= λ _.
+    validated c >>= λ _.
     Ok c
 
 -- `Config`

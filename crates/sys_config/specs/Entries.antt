@@ -6,7 +6,7 @@ use Rattle.vv_base.specs.Names.{is_object_name, tested}
 use Rattle.vv_class.specs.declared.class.AccessClass.{AccessClass}
 use Rattle.vv_class.specs.declared.text.ClassFault.{ClassFault}
 use Rattle.vv_class.specs.Scan.{class_of}
-use Rattle.sys_config.specs.Reads.{◌>>=◌, number_at, text_at, are_known}
+use Rattle.sys_config.specs.Reads.{◌>>=◌, bounded_integer_at, text_at, are_known}
 use Rattle.sys_config.specs.declared.entries.NamedLine.{NamedLine}
 use Rattle.sys_objects.specs.declared.records.Terminal.{Terminal}
 use Rattle.sys_objects.specs.declared.records.VolumeRow.{VolumeRow}
@@ -32,33 +32,33 @@ abbrev pub class_at : ℕ → Members → Option AccessClass
 class_at top t = text_at (codes "class") t >>= class_in top
 
 -- a line, 0 to 31
-abbrev pub line_at : List ℕ → Members → Option ℕ
-line_at key t = number_at key 0 31 t
+abbrev pub line_number_at : List ℕ → Members → Option ℕ
+line_number_at key t = bounded_integer_at key 0 31 t
 
 -- an entry with a name, a line and a class
 unfoldable pub named_line_of : ℕ → Members → Option NamedLine
 named_line_of top t =
     if are_known (codes "name" ∷ codes "line" ∷ codes "class" ∷ []) t then
-    (name_at (codes "name") t >>= λ name. line_at (codes "line") t >>= λ line. class_at top t >>= λ class.
+    (name_at (codes "name") t >>= λ name. line_number_at (codes "line") t >>= λ line. class_at top t >>= λ class.
     Some (record { name = name; line = line; class = class }))
     else None
 
-abbrev pub terminal_of : ℕ → Members → Option Terminal
-terminal_of top t = named_line_of top t >>= λ e. Some (record { name = e.name; line = e.line; class = e.class })
+abbrev pub terminal_row_in : ℕ → Members → Option Terminal
+terminal_row_in top t = named_line_of top t >>= λ e. Some (record { name = e.name; line = e.line; class = e.class })
 
-abbrev pub printer_of : ℕ → Members → Option PrinterRow
-printer_of top t = named_line_of top t >>= λ e. Some (record { name = e.name; line = e.line; class = e.class })
+abbrev pub printer_row_in : ℕ → Members → Option PrinterRow
+printer_row_in top t = named_line_of top t >>= λ e. Some (record { name = e.name; line = e.line; class = e.class })
 
 -- a drive is 0 to 15, and a volume has 1 to 2,048 blocks
-unfoldable pub volume_of : ℕ → Members → Option VolumeRow
-volume_of top t =
+unfoldable pub volume_row_in : ℕ → Members → Option VolumeRow
+volume_row_in top t =
     if are_known (codes "name" ∷ codes "drive" ∷ codes "blocks" ∷ codes "class" ∷ []) t then
-    (name_at (codes "name") t >>= λ name. number_at (codes "drive") 0 15 t >>= λ drive. number_at (codes "blocks") 1 2048 t >>= λ blocks.
+    (name_at (codes "name") t >>= λ name. bounded_integer_at (codes "drive") 0 15 t >>= λ drive. bounded_integer_at (codes "blocks") 1 2048 t >>= λ blocks.
     class_at top t >>= λ class. Some (record { name = name; drive = drive; blocks = blocks; class = class }))
     else None
 
-unfoldable pub audit_of : ℕ → Members → Option Audit
-audit_of top t =
+unfoldable pub audit_row_in : ℕ → Members → Option Audit
+audit_row_in top t =
     if are_known (codes "line" ∷ codes "class" ∷ []) t then
-    (line_at (codes "line") t >>= λ line. class_at top t >>= λ class. Some (record { line = line; class = class }))
+    (line_number_at (codes "line") t >>= λ line. class_at top t >>= λ class. Some (record { line = line; class = class }))
     else None

@@ -11,14 +11,14 @@ o >>= f = option_and_then f o
 abbrev pub in_range : ℕ → ℕ → ℤ → Option ℕ
 in_range low high z = if int_le (pos low) z && int_le z (pos high) then Some (unsigned_abs z) else None
 
-abbrev pub number_in : ℕ → ℕ → Data → Option ℕ
-number_in low high d = as_integer d >>= in_range low high
+abbrev pub integer_in : ℕ → ℕ → Data → Option ℕ
+integer_in low high d = as_integer d >>= in_range low high
 
 abbrev pub integer_at : List ℕ → Members → Option ℤ
 integer_at key t = get_member key t >>= as_integer
 
-abbrev pub number_at : List ℕ → ℕ → ℕ → Members → Option ℕ
-number_at key low high t = get_member key t >>= number_in low high
+abbrev pub bounded_integer_at : List ℕ → ℕ → ℕ → Members → Option ℕ
+bounded_integer_at key low high t = get_member key t >>= integer_in low high
 
 abbrev pub text_at : List ℕ → Members → Option (List ℕ)
 text_at key t = get_member key t >>= as_str

@@ -106,5 +106,5 @@ lists c =
     (member (codes "slice") (number c.slice) (member (codes "terminal") (array (items_by written_terminal c.terminals)) (member (codes "version") (number 2)
     (member (codes "volume") (array (items_by written_volume c.volumes)) no_members)))))
 
-unfoldable pub written : Config → Members
-written c = with_any (codes "audit") (audit_value c.audit) (lists c)
+unfoldable pub written_config : Config → Members
+written_config c = with_any (codes "audit") (audit_value c.audit) (lists c)

@@ -1,6 +1,6 @@
 ghost use Rattle.std.specs.Prelude.{◌≡◌, ℕ, ◌<◌, List, Ok, option_map, IfOk};
 ghost use Rattle.toml.specs.View.{table_view};
-ghost use Rattle.sys_objects.specs.Faults.{Reads, by_rule};
+ghost use Rattle.sys_objects.specs.Faults.{IsConfigAnswer, by_rule};
 ghost use Rattle.sys_objects.specs.Condition.{IsConfig};
 ghost use Rattle.sys_objects.specs.Rules.{IsFew};
 ghost use Rattle.sys_config.specs.Config.{document_of, rows_of, config_in, config_of};
@@ -25,7 +25,7 @@ fn read_rows(
     table: &Table,
 ) -> Result<Config, ConfigError>
     ensures few { IfOk result (λ c. IsFew c) }
-    ensures value { Reads (λ c. c) result (rows_of limits.now (option_map (λ m. table_view m.now) audit.entry) (table_view table.now)) }
+    ensures value { IsConfigAnswer (λ c. c) result (rows_of limits.now (option_map (λ m. table_view m.now) audit.entry) (table_view table.now)) }
 {
     let Some(terminals) = tables_at(table, "terminal", 32) else {
         return Err(fault(5, 0));
@@ -66,7 +66,7 @@ fn read_rows(
 /// The configuration that a table stands for.
 #[tactic(auto, unfolding(crate::specs::Config::config_in))]
 fn of_table(alloc: Global, table: &Table) -> Result<Config, ConfigError>
-    ensures { Reads (λ c. c) result (config_in (table_view table.now)) }
+    ensures { IsConfigAnswer (λ c. c) result (config_in (table_view table.now)) }
 {
     let Some(audit) = audit_table(table) else {
         return Err(fault(1, 0));
@@ -79,7 +79,7 @@ fn of_table(alloc: Global, table: &Table) -> Result<Config, ConfigError>
 
 /// The table that the bytes are.
 fn document(alloc: Global, b: &[u8]) -> Result<Table, ConfigError>
-    ensures { Reads table_view result (by_rule 0 0 (document_of b.now)) }
+    ensures { IsConfigAnswer table_view result (by_rule 0 0 (document_of b.now)) }
 {
     match toml::table_from_slice(alloc, b) {
         Ok(table) => Ok(table),
@@ -98,7 +98,7 @@ fn document(alloc: Global, b: &[u8]) -> Result<Table, ConfigError>
 /// A `Fault` names the least rule that the bytes break, and the first place at which they break it.
 #[tactic(auto, unfolding(crate::specs::Config::config_of))]
 pub fn read_config(alloc: Global, b: &[u8]) -> Result<Config, ConfigError>
-    ensures read { Reads (λ c. c) result (config_of b.now) }
+    ensures read { IsConfigAnswer (λ c. c) result (config_of b.now) }
     ensures accepted { IfOk result (λ c. IsConfig c) }
 {
     let table = document(alloc, b)?;

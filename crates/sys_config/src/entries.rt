@@ -1,6 +1,6 @@
 ghost use Rattle.std.specs.Prelude.{◌≡◌};
 ghost use Rattle.toml.specs.View.{table_view};
-ghost use Rattle.sys_config.specs.Entries.{class_in, name_at, class_at, line_at, named_line_of, audit_of};
+ghost use Rattle.sys_config.specs.Entries.{class_in, name_at, class_at, line_number_at, named_line_of, audit_row_in};
 
 use crate::lists::Reader;
 use crate::reads::{are_known, number_at, text_at};
@@ -45,7 +45,7 @@ pub fn class_at(table: &Table, top: u8) -> Option<AccessClass>
 }
 
 fn line_at(table: &Table, key: &str) -> Option<u8>
-    ensures { result ≡ line_at key.now (table_view table.now) }
+    ensures { result ≡ line_number_at key.now (table_view table.now) }
 {
     match number_at(table, key, 0, 31) {
         Some(line) => Some(line as u8),
@@ -79,11 +79,11 @@ fn named_line(table: &Table, top: u8) -> Option<NamedLine>
 pub struct UpTo(pub u8);
 
 impl Reader<Terminal> for UpTo {
-    ghost use Rattle.sys_config.specs.Entries.{terminal_of};
+    ghost use Rattle.sys_config.specs.Entries.{terminal_row_in};
 
     ghost can_read = { λ reader. Unit {0} };
 
-    ghost row_of = { λ reader. terminal_of reader.0 };
+    ghost row_of = { λ reader. terminal_row_in reader.0 };
 
     fn read(&self, table: &Table) -> Option<Terminal> {
         let NamedLine { name, line, class } = named_line(table, self.0)?;
@@ -92,11 +92,11 @@ impl Reader<Terminal> for UpTo {
 }
 
 impl Reader<PrinterRow> for UpTo {
-    ghost use Rattle.sys_config.specs.Entries.{printer_of};
+    ghost use Rattle.sys_config.specs.Entries.{printer_row_in};
 
     ghost can_read = { λ reader. Unit {0} };
 
-    ghost row_of = { λ reader. printer_of reader.0 };
+    ghost row_of = { λ reader. printer_row_in reader.0 };
 
     fn read(&self, table: &Table) -> Option<PrinterRow> {
         let NamedLine { name, line, class } = named_line(table, self.0)?;
@@ -105,13 +105,13 @@ impl Reader<PrinterRow> for UpTo {
 }
 
 impl Reader<VolumeRow> for UpTo {
-    ghost use Rattle.sys_config.specs.Entries.{volume_of};
+    ghost use Rattle.sys_config.specs.Entries.{volume_row_in};
 
     ghost can_read = { λ reader. Unit {0} };
 
-    ghost row_of = { λ reader. volume_of reader.0 };
+    ghost row_of = { λ reader. volume_row_in reader.0 };
 
-    #[tactic(auto, unfolding(crate::specs::Entries::volume_of))]
+    #[tactic(auto, unfolding(crate::specs::Entries::volume_row_in))]
     fn read(&self, table: &Table) -> Option<VolumeRow> {
         if !are_known(table, &["name", "drive", "blocks", "class"]) {
             return None;
@@ -130,9 +130,9 @@ impl Reader<VolumeRow> for UpTo {
 }
 
 /// The audit.
-#[tactic(auto, unfolding(crate::specs::Entries::audit_of))]
+#[tactic(auto, unfolding(crate::specs::Entries::audit_row_in))]
 pub fn audit(table: &Table, top: u8) -> Option<Audit>
-    ensures { result ≡ audit_of top (table_view table.now) }
+    ensures { result ≡ audit_row_in top (table_view table.now) }
 {
     if !are_known(table, &["line", "class"]) {
         return None;

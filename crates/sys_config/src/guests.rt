@@ -1,6 +1,6 @@
 ghost use Rattle.std.specs.Prelude.{◌≡◌, ◌≤◌, length, codes, option_map, unwrap_or};
 ghost use Rattle.toml.specs.View.{view, table_view};
-ghost use Rattle.sys_config.specs.Reads.{if_any, number_in};
+ghost use Rattle.sys_config.specs.Reads.{if_any, integer_in};
 ghost use Rattle.sys_config.specs.Guests.{object_in, mounts_in, no_mounts, modify_in, modify_of, own_quantum, image_at, keys_of_guest, bare_guest_of};
 ghost use Rattle.sys_config.specs.Reads.{are_known as are_known_of};
 
@@ -30,7 +30,7 @@ fn object_in<R: Named>(value: &Value, rows: &[R]) -> Option<u8>
 
 /// The line of a dump.
 fn dump_in(value: &Value) -> Option<u8>
-    ensures { result ≡ number_in 0 31 (view value.now) }
+    ensures { result ≡ integer_in 0 31 (view value.now) }
 {
     match number_in(value, 0, 31) {
         Some(line) => Some(line as u8),
@@ -153,14 +153,14 @@ pub struct Guests<'a> {
 }
 
 impl<'a> Reader<GuestRow> for Guests<'a> {
-    ghost use Rattle.sys_config.specs.Guests.{guest_of};
+    ghost use Rattle.sys_config.specs.Guests.{guest_row_in};
     ghost use Rattle.sys_config.specs.Top.{top_level};
 
     ghost can_read = { λ o. (length o.terminals.now ≤ 32) × (length o.volumes.now ≤ 16) × (length o.printers.now ≤ 32) };
 
-    ghost row_of = { λ o. guest_of (top_level o.quantum) o.quantum o.terminals.now o.volumes.now o.printers.now };
+    ghost row_of = { λ o. guest_row_in (top_level o.quantum) o.quantum o.terminals.now o.volumes.now o.printers.now };
 
-    #[tactic(auto, unfolding(crate::specs::Guests::guest_of))]
+    #[tactic(auto, unfolding(crate::specs::Guests::guest_row_in))]
     fn read(&self, table: &Table) -> Option<GuestRow> {
         if !are_known_keys(table, self.quantum) {
             return None;

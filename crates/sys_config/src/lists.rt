@@ -1,7 +1,7 @@
 ghost use Rattle.std.specs.Prelude.{◌≡◌, ◌≤◌, [], length, IfOk};
 ghost use Rattle.toml.specs.View.{view, table_view, items_view};
-ghost use Rattle.sys_objects.specs.Faults.{Reads};
-ghost use Rattle.sys_config.specs.Answers.{entry_of, entries_from};
+ghost use Rattle.sys_objects.specs.Faults.{IsConfigAnswer};
+ghost use Rattle.sys_config.specs.Answers.{entry_from_table, entries_from};
 
 use crate::ConfigError;
 use std::alloc::Global;
@@ -25,7 +25,7 @@ pub trait Reader<R> {
 
 fn entry<R, E: Reader<R>>(reader: &E, value: &Value) -> Option<R>
     requires { E.can_read reader.now }
-    ensures { result ≡ entry_of (E.row_of reader.now) (view value.now) }
+    ensures { result ≡ entry_from_table (E.row_of reader.now) (view value.now) }
 {
     match value.as_table() {
         Some(table) => reader.read(table),
@@ -43,7 +43,7 @@ pub fn rows<R: Drop, E: Reader<R>>(
     requires few { length values.now ≤ 32 }
     requires can_read { E.can_read reader.now }
     ensures count { IfOk result (λ v. length v.items ≡ length values.now) }
-    ensures value { Reads (λ v. v.items) result (entries_from rule (E.row_of reader.now) [] (items_view values.now)) }
+    ensures value { IsConfigAnswer (λ v. v.items) result (entries_from rule (E.row_of reader.now) [] (items_view values.now)) }
 {
     let mut rows = Vec::new(alloc);
     for value in values {

@@ -1,6 +1,6 @@
 ghost use Rattle.std.specs.Prelude.{◌≡◌, ◌≤◌, IfSome, length};
 ghost use Rattle.toml.specs.View.{view, table_view, items_view};
-ghost use Rattle.sys_config.specs.Guests.{volume_place, mount_of, placed, mounts_from, no_mounts, mounts_in};
+ghost use Rattle.sys_config.specs.Guests.{volume_place, mount_of, mounted_at_unit, mounts_from, no_mounts, mounts_in};
 
 use crate::entries::name_at;
 use crate::named::place_by;
@@ -45,7 +45,7 @@ fn mount(table: &Table, volumes: &[VolumeRow]) -> Option<UnitMount>
 /// The units with a mount more; `None` where its unit is taken.
 fn placed(units: [Option<Mount>; 4], m: &UnitMount) -> Option<[Option<Mount>; 4]>
     requires { m.now.unit ≤ 3 }
-    ensures { result ≡ placed units m.now }
+    ensures { result ≡ mounted_at_unit units m.now }
 {
     let unit = usize::from(m.unit);
     let mut units = units;

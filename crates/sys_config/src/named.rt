@@ -1,6 +1,6 @@
 ghost use Rattle.std.specs.Prelude.{◌≡◌, ◌≤◌, ◌<◌, IfSome, length, bytes_eq};
 ghost use Rattle.std.specs.List.{position};
-ghost use Rattle.sys_config.specs.Guests.{place_by};
+ghost use Rattle.sys_config.specs.Guests.{place_named};
 
 use crate::{PrinterRow, Terminal, VolumeRow};
 use vv_base::Name;
@@ -49,7 +49,7 @@ fn position_of<R: Named>(rows: &[R], name: &[u8]) -> Option<usize>
 /// The place of the object that has a name, or the number of the objects.
 pub fn place_by<R: Named>(rows: &[R], name: &[u8]) -> u8
     requires { length rows.now ≤ 32 }
-    ensures { result ≡ place_by R.name_of rows.now name.now }
+    ensures { result ≡ place_named R.name_of rows.now name.now }
 {
     match position_of(rows, name) {
         Some(place) => place as u8,

@@ -1,6 +1,6 @@
 ghost use Rattle.std.specs.Prelude.{◌≡◌, ◌≤◌};
 ghost use Rattle.toml.specs.View.{table_view};
-ghost use Rattle.sys_objects.specs.Faults.{Reads};
+ghost use Rattle.sys_objects.specs.Faults.{IsConfigAnswer};
 ghost use Rattle.sys_config.specs.Top.{is_two, quantum_of, most_slice, top_level, most_guests};
 ghost use Rattle.sys_config.specs.Config.{numbers_of};
 
@@ -77,7 +77,7 @@ pub fn most_guests(quantum: Option<u32>) -> usize
 /// The numbers at the top, by rules 1 to 4.
 #[tactic(auto, unfolding(crate::specs::Config::numbers_of))]
 pub fn read_numbers(table: &Table) -> Result<Limits, ConfigError>
-    ensures { Reads (λ n. n) result (numbers_of (table_view table.now)) }
+    ensures { IsConfigAnswer (λ n. n) result (numbers_of (table_view table.now)) }
 {
     let Some(top) = top_of(table) else {
         return Err(fault(1, 0));

@@ -4,7 +4,7 @@ ghost use Rattle.std.specs.List.{list_all, list_any};
 ghost use Rattle.std.specs.BTreeMap.{keys as entry_keys};
 ghost use Rattle.toml.specs.Data.{get_member};
 ghost use Rattle.toml.specs.View.{view, table_view};
-ghost use Rattle.sys_config.specs.Reads.{in_range, number_in, integer_at, number_at, text_at, flag_at, are_known};
+ghost use Rattle.sys_config.specs.Reads.{in_range, integer_in, integer_at, bounded_integer_at, text_at, flag_at, are_known};
 
 use toml::{Table, Value};
 
@@ -43,7 +43,7 @@ pub fn in_range(n: i64, low: u32, high: u32) -> Option<u32>
 
 /// The value, if it is an integer from `low` to `high`.
 pub fn number_in(value: &Value, low: u32, high: u32) -> Option<u32>
-    ensures value { result ≡ number_in low high (view value.now) }
+    ensures value { result ≡ integer_in low high (view value.now) }
     ensures most { IfSome result (λ n. n ≤ high) }
 {
     match value.as_integer() {
@@ -64,7 +64,7 @@ pub fn integer_at(table: &Table, key: &str) -> Option<i64>
 
 /// The integer at a key, if one from `low` to `high` is there.
 pub fn number_at(table: &Table, key: &str, low: u32, high: u32) -> Option<u32>
-    ensures value { result ≡ number_at key.now low high (table_view table.now) }
+    ensures value { result ≡ bounded_integer_at key.now low high (table_view table.now) }
     ensures most { IfSome result (λ n. n ≤ high) }
 {
     match value_at(table, key) {

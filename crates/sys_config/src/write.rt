@@ -6,7 +6,7 @@ ghost use Rattle.vv_class.specs.Class.{IsClass};
 ghost use Rattle.vv_class.specs.Text.{class_text};
 ghost use Rattle.sys_objects.specs.Condition.{IsConfig, IsTerminal, IsVolume, IsPrinter, IsAudit, IsGuest, NamesObjects};
 ghost use Rattle.sys_config.specs.Config.{config_of};
-ghost use Rattle.sys_config.specs.Written.{version_of, with_member, with_any, written_line, written_terminal, written_volume, written_printer, written_audit, name_there, object_value, written_mount, mount_items, modify_text, fixed_keys, audit_value, written_guest, items_by, lists, written};
+ghost use Rattle.sys_config.specs.Written.{version_of, with_member, with_any, written_line, written_terminal, written_volume, written_printer, written_audit, name_there, object_value, written_mount, mount_items, modify_text, fixed_keys, audit_value, written_guest, items_by, lists, written_config};
 
 use crate::named::Named;
 use crate::{Audit, Config, GuestRow, Mount, PrinterRow, Terminal, VolumeRow};
@@ -323,10 +323,10 @@ fn lists(alloc: Global, c: &Config) -> Result<Table, NoMemory>
     Ok(table)
 }
 
-#[tactic(auto, unfolding(crate::specs::Written::written))]
+#[tactic(auto, unfolding(crate::specs::Written::written_config))]
 fn config_table(alloc: Global, c: &Config) -> Result<Table, NoMemory>
     requires { IsConfig c.now }
-    ensures { IfOk result (λ t. table_view t ≡ written c.now) }
+    ensures { IfOk result (λ t. table_view t ≡ written_config c.now) }
 {
     let mut table = lists(alloc, c)?;
     put_if_any(alloc, &mut table, "audit", audit_value(alloc, &c.audit)?)?;

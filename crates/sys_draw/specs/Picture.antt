@@ -8,7 +8,7 @@ use Rattle.sys_objects.specs.declared.records.Config.{Config}
 use Rattle.sys_flow.specs.Reach.{Object, IsTerminalAt, IsVolumeAt, IsPrinterAt, IsGuestAt, IsTheAudit, all_objects, has_edge}
 use Rattle.sys_flow.specs.Report.{name_of}
 use Rattle.sys_draw.specs.Layout.{greatest, half, letters, quarter, spots_of}
-use Rattle.sys_draw.specs.Seats.{class_of, numbers}
+use Rattle.sys_draw.specs.Seats.{numbers, object_class_at}
 use Rattle.sys_draw.specs.declared.layout.Spot.{Spot}
 
 -- ` name="12"`
@@ -73,8 +73,8 @@ arrow n from to color =
     else segment (from.x + half n - 10) (from.y + 48) (to.x + half n - 10) to.y color
 
 -- how an SVG document begins, letters as they are in every browser, and the head of an arrow
-unfoldable pub opening : List ℕ
-opening = codes "<svg xmlns=\"http://www.w3.org/2000/svg\""
+unfoldable pub document_opening : List ℕ
+document_opening = codes "<svg xmlns=\"http://www.w3.org/2000/svg\""
 
 unfoldable pub style : List ℕ
 style = codes " font-family=\"monospace\" font-size=\"13\" text-anchor=\"middle\">\n"
@@ -84,7 +84,7 @@ marker = codes "<defs><marker id=\"head\" viewBox=\"0 0 8 8\" refX=\"8\" refY=\"
 
 unfoldable pub head : ℕ → ℕ → List ℕ
 head width height =
-    opening ++ attribute (codes "width") width ++ attribute (codes "height") height ++ style ++ marker
+    document_opening ++ attribute (codes "width") width ++ attribute (codes "height") height ++ style ++ marker
 
 abbrev pub nowhere : Spot
 nowhere = record { x = 0; y = 0 }
@@ -94,7 +94,7 @@ abbrev pub spot_at : List Spot → ℕ → Spot
 spot_at spots a = unwrap_or (slice_get spots a) nowhere
 
 abbrev pub box_of : Config → ℕ → List Spot → ℕ → List ℕ
-box_of c n spots a = whole_box n (spot_at spots a) (by_number c fill a) (by_number c kind a) (name_of c a) (class_text (class_of c a))
+box_of c n spots a = whole_box n (spot_at spots a) (by_number c fill a) (by_number c kind a) (name_of c a) (class_text (object_class_at c a))
 
 abbrev pub arrow_of : Config → ℕ → List Spot → ℕ × ℕ → List ℕ
 arrow_of c n spots edge = arrow n (spot_at spots edge.0) (spot_at spots edge.1) (by_number c ink edge.0)

@@ -13,45 +13,45 @@ use Rattle.sys_draw.specs.declared.seats.Seat.{Seat}
 abbrev pub no_class : AccessClass
 no_class = record { secrecy = 0; secrecy_cats = 0; integrity = 0; integrity_cats = 0 }
 
-abbrev pub class_in : Config → Object → AccessClass
-class_in c (IsTerminalAt t) = option_map_or (λ row. row.class) (slice_get c.terminals t) no_class
-class_in c (IsVolumeAt v) = option_map_or (λ row. row.class) (slice_get c.volumes v) no_class
-class_in c (IsPrinterAt p) = option_map_or (λ row. row.class) (slice_get c.printers p) no_class
-class_in c (IsGuestAt g) = option_map_or (λ row. row.class) (slice_get c.guests g) no_class
-class_in c IsTheAudit = option_map_or (λ row. row.class) c.audit no_class
+abbrev pub object_class : Config → Object → AccessClass
+object_class c (IsTerminalAt t) = option_map_or (λ row. row.class) (slice_get c.terminals t) no_class
+object_class c (IsVolumeAt v) = option_map_or (λ row. row.class) (slice_get c.volumes v) no_class
+object_class c (IsPrinterAt p) = option_map_or (λ row. row.class) (slice_get c.printers p) no_class
+object_class c (IsGuestAt g) = option_map_or (λ row. row.class) (slice_get c.guests g) no_class
+object_class c IsTheAudit = option_map_or (λ row. row.class) c.audit no_class
 
 -- of the object of a number
-abbrev pub class_of : Config → ℕ → AccessClass
-class_of c a = option_map_or (class_in c) (slice_get (all_objects c) a) no_class
+abbrev pub object_class_at : Config → ℕ → AccessClass
+object_class_at c a = option_map_or (object_class c) (slice_get (all_objects c) a) no_class
 
 -- more secrecy and less integrity rank higher, so a class that flows into another ranks no higher
-abbrev pub rank : AccessClass → ℕ
-rank class = class.secrecy + count_ones class.secrecy_cats + (255 - class.integrity) + (64 - count_ones class.integrity_cats)
+abbrev pub class_rank : AccessClass → ℕ
+class_rank class = class.secrecy + count_ones class.secrecy_cats + (255 - class.integrity) + (64 - count_ones class.integrity_cats)
 
 -- among objects of one rank volumes are lowest, then guests, then terminals and printers, then the audit
-abbrev pub line : Object → ℕ
-line (IsVolumeAt v) = 0
-line (IsGuestAt g) = 1
-line (IsTerminalAt t) = 2
-line (IsPrinterAt p) = 2
-line IsTheAudit = 3
+abbrev pub order_in_rank : Object → ℕ
+order_in_rank (IsVolumeAt v) = 0
+order_in_rank (IsGuestAt g) = 1
+order_in_rank (IsTerminalAt t) = 2
+order_in_rank (IsPrinterAt p) = 2
+order_in_rank IsTheAudit = 3
 
-abbrev pub line_of : Config → ℕ → ℕ
-line_of c a = option_map_or line (slice_get (all_objects c) a) 0
+abbrev pub order_in_rank_at : Config → ℕ → ℕ
+order_in_rank_at c a = option_map_or order_in_rank (slice_get (all_objects c) a) 0
 
 abbrev pub numbers : Config → List ℕ
 numbers c = range_with_len 0 (length (all_objects c))
 
 abbrev pub classes_of : Config → List AccessClass
-classes_of c = map (class_of c) (numbers c)
+classes_of c = map (object_class_at c) (numbers c)
 
 -- the first object of a class
-abbrev pub first_of : List AccessClass → AccessClass → ℕ
-first_of classes class = unwrap_or (position (same_class class) classes) 0
+abbrev pub first_of_class : List AccessClass → AccessClass → ℕ
+first_of_class classes class = unwrap_or (position (same_class class) classes) 0
 
 -- objects of one class are together, in the order of their numbers; there are fewer than 128
 abbrev pub seat_of : Config → ℕ → Seat
-seat_of c a = record { height = 4 * rank (class_of c a) + line_of c a; order = 128 * first_of (classes_of c) (class_of c a) + a }
+seat_of c a = record { height = 4 * class_rank (object_class_at c a) + order_in_rank_at c a; order = 128 * first_of_class (classes_of c) (object_class_at c a) + a }
 
 abbrev pub seats_of : Config → List Seat
 seats_of c = map (seat_of c) (numbers c)

@@ -10,7 +10,7 @@ use Rattle.sys_objects.specs.declared.records.GuestRow.{GuestRow}
 use Rattle.sys_objects.specs.declared.records.VolumeRow.{VolumeRow}
 use Rattle.sys_draw.specs.Layout.{letters, spot}
 use Rattle.sys_draw.specs.Picture.{arrow, before_color, after_color, edges_of, frame_of_box, label, segment, whole_box}
-use Rattle.sys_draw.specs.Seats.{rank, seats_of}
+use Rattle.sys_draw.specs.Seats.{class_rank, seats_of}
 use Rattle.sys_draw.specs.declared.layout.Spot.{Spot}
 use Rattle.sys_draw.specs.declared.seats.Seat.{Seat}
 
@@ -49,9 +49,9 @@ small = record {
 
 -- more categories rank higher in secrecy and lower in integrity
 ranks :
-    (rank (level 0) ≡ 319)
-    × (rank (record { secrecy = 1; secrecy_cats = 5; integrity = 0; integrity_cats = 0 }) ≡ 322)
-    × (rank (record { secrecy = 0; secrecy_cats = 0; integrity = 255; integrity_cats = 7 }) ≡ 61)
+    (class_rank (level 0) ≡ 319)
+    × (class_rank (record { secrecy = 1; secrecy_cats = 5; integrity = 0; integrity_cats = 0 }) ≡ 322)
+    × (class_rank (record { secrecy = 0; secrecy_cats = 0; integrity = 255; integrity_cats = 7 }) ≡ 61)
 unfolding ones
 ranks = (refl, refl, refl)
 

@@ -1,5 +1,5 @@
 ghost use Rattle.std.specs.Prelude.{◌≡◌, ◌≤◌, ◌++◌, OnOk};
-ghost use Rattle.sys_draw.specs.Picture.{after_color, arrow, attribute, before_color, frame_of_box, head, label, marker, opening, segment, style, whole_box};
+ghost use Rattle.sys_draw.specs.Picture.{after_color, arrow, attribute, before_color, document_opening, frame_of_box, head, label, marker, segment, style, whole_box};
 
 use crate::layout::Spot;
 use vv_base::{NoMemory, decimal};
@@ -127,9 +127,9 @@ pub fn put_arrow(
     }
 }
 
-#[tactic(auto, unfolding(crate::specs::Picture::opening))]
+#[tactic(auto, unfolding(crate::specs::Picture::document_opening))]
 fn opening() -> &'static [u8]
-    ensures { result.now ≡ opening }
+    ensures { result.now ≡ document_opening }
 {
     b"<svg xmlns=\"http://www.w3.org/2000/svg\""
 }

@@ -1,5 +1,5 @@
 ghost use Rattle.std.specs.Prelude.{◌≡◌, ◌<◌, ◌≤◌, IfOk, IfSome, length, position};
-ghost use Rattle.sys_draw.specs.Seats.{class_in, class_of, classes_of, first_of, line, line_of, rank, seat_of, seats_of};
+ghost use Rattle.sys_draw.specs.Seats.{class_rank, classes_of, first_of_class, object_class, object_class_at, order_in_rank, order_in_rank_at, seat_of, seats_of};
 ghost use Rattle.sys_flow.specs.Objects.{object_of};
 ghost use Rattle.sys_objects.specs.Condition.{IsConfig};
 ghost use Rattle.sys_objects.specs.Rules.{same_class};
@@ -25,7 +25,7 @@ const NO_CLASS: AccessClass = AccessClass {
 };
 
 fn class_in(c: &Config, place: Place) -> AccessClass
-    ensures { result ≡ class_in c.now (object_of place) }
+    ensures { result ≡ object_class c.now (object_of place) }
 {
     match place {
         Place::Terminal(t) => match c.terminals.as_slice().get(t) {
@@ -53,7 +53,7 @@ fn class_in(c: &Config, place: Place) -> AccessClass
 
 /// The class of the object of a number.
 pub fn class_of(c: &Config, number: u8) -> AccessClass
-    ensures { result ≡ class_of c.now number }
+    ensures { result ≡ object_class_at c.now number }
 {
     match object_at(c, usize::from(number)) {
         Some(place) => class_in(c, place),
@@ -84,7 +84,7 @@ fn place_of(classes: &[AccessClass], class: &AccessClass) -> Option<usize>
 /// The place of the first object of a class.
 fn first_of(classes: &[AccessClass], class: &AccessClass) -> usize
     ensures within { result ≤ length classes.now }
-    ensures value { result ≡ first_of classes.now class.now }
+    ensures value { result ≡ first_of_class classes.now class.now }
 {
     match place_of(classes, class) {
         Some(place) => place,
@@ -94,7 +94,7 @@ fn first_of(classes: &[AccessClass], class: &AccessClass) -> usize
 
 fn rank(class: &AccessClass) -> u32
     ensures few { result ≤ 638 }
-    ensures value { result ≡ rank class.now }
+    ensures value { result ≡ class_rank class.now }
 {
     let secrecy = u32::from(class.secrecy) + class.secrecy_cats.count_ones();
     let integrity = 255 - u32::from(class.integrity);
@@ -103,7 +103,7 @@ fn rank(class: &AccessClass) -> u32
 
 fn line(place: Place) -> u32
     ensures few { result ≤ 3 }
-    ensures value { result ≡ line (object_of place) }
+    ensures value { result ≡ order_in_rank (object_of place) }
 {
     match place {
         Place::Volume(_) => 0,
@@ -115,7 +115,7 @@ fn line(place: Place) -> u32
 
 fn line_of(c: &Config, number: u8) -> u32
     ensures few { result ≤ 3 }
-    ensures value { result ≡ line_of c.now number }
+    ensures value { result ≡ order_in_rank_at c.now number }
 {
     match object_at(c, usize::from(number)) {
         Some(place) => line(place),

@@ -3,7 +3,7 @@ use Rattle.std.proofs.Common.{ℕ, zero, suc, ◌≡◌, ◌<◌, ◌≤◌, ◌
 use Rattle.std.proofs.lemmas.Bool.{eqb-false, eqb-true}
 use Rattle.std.proofs.lemmas.List.{get_or-map, get_or-take, get_or_default, length-map, length-take-le}
 use Rattle.std.proofs.lemmas.Option.{get_or_from_slice_get, slice_get_read, slice_get_within}
-use Rattle.sys_drives.specs.Rows.{FitRows, StandsAt}
+use Rattle.sys_drives.specs.Rows.{FitRows, IsRowAt}
 use Rattle.sys_objects.specs.declared.records.VolumeRow.{VolumeRow}
 use Rattle.sys_store.specs.Blocks.{blocks_of}
 
@@ -12,11 +12,11 @@ both true f g = f refl
 both false f g = g refl
 
 -- the row that is read at a place is there
-pub stands : (rows : List VolumeRow) (v : ℕ) (row : VolumeRow) → v < length rows → row ≡ slice_index_or rows v row → StandsAt rows v row
+pub stands : (rows : List VolumeRow) (v : ℕ) (row : VolumeRow) → v < length rows → row ≡ slice_index_or rows v row → IsRowAt rows v row
 stands rows v row h read = slice_get_read rows (length rows) v row refl h read
 
 -- what is found where one is read is that one
-pub same_row : (rows : List VolumeRow) (v : ℕ) (row other : VolumeRow) → row ≡ slice_index_or rows v row → StandsAt rows v other → row ≡ other
+pub same_row : (rows : List VolumeRow) (v : ℕ) (row other : VolumeRow) → row ≡ slice_index_or rows v row → IsRowAt rows v other → row ≡ other
 same_row rows v row other read at = read ∙ get_or_from_slice_get rows v other row at
 
 -- what holds of every row holds of the one at a place
@@ -24,7 +24,7 @@ pub at_place : (P : VolumeRow → Type 0) (rows : List VolumeRow) (v : ℕ) (row
 at_place P rows v row h read all = subst P (sym read) (all v row h)
 
 -- that row, as a clause has it
-pub at_stands : (P : VolumeRow → Type 0) (rows : List VolumeRow) (v : ℕ) (row : VolumeRow) → StandsAt rows v row → All P rows → P row
+pub at_stands : (P : VolumeRow → Type 0) (rows : List VolumeRow) (v : ℕ) (row : VolumeRow) → IsRowAt rows v row → All P rows → P row
 at_stands P rows v row at all = subst P (get_or_from_slice_get rows v row row at) (all v row (slice_get_within rows v row at))
 
 get_take : (n v : ℕ) (rows : List VolumeRow) → v < n → slice_get (take n rows) v ≡ slice_get rows v
@@ -34,13 +34,13 @@ get_take (suc n) zero (row ∷ rows) h = refl
 get_take (suc n) (suc v) (row ∷ rows) h = get_take n v rows (omega (arith, h))
 
 -- a row among the first, and among all
-pub within_first : (rows : List VolumeRow) (n v : ℕ) (row : VolumeRow) → n ≤ length rows → StandsAt (take n rows) v row → v < n
+pub within_first : (rows : List VolumeRow) (n v : ℕ) (row : VolumeRow) → n ≤ length rows → IsRowAt (take n rows) v row → v < n
 within_first rows n v row h at = omega (arith, slice_get_within (take n rows) v row at, length-take-le n rows h)
 
-pub of_first : (rows : List VolumeRow) (n v : ℕ) (row : VolumeRow) → v < n → StandsAt (take n rows) v row → StandsAt rows v row
+pub of_first : (rows : List VolumeRow) (n v : ℕ) (row : VolumeRow) → v < n → IsRowAt (take n rows) v row → IsRowAt rows v row
 of_first rows n v row h at = sym (get_take n v rows h) ∙ at
 
-pub to_first : (rows : List VolumeRow) (n v : ℕ) (row : VolumeRow) → v < n → StandsAt rows v row → StandsAt (take n rows) v row
+pub to_first : (rows : List VolumeRow) (n v : ℕ) (row : VolumeRow) → v < n → IsRowAt rows v row → IsRowAt (take n rows) v row
 to_first rows n v row h at = get_take n v rows h ∙ at
 
 -- what holds of the first rows and of the next

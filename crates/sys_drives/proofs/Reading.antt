@@ -6,7 +6,7 @@ use Rattle.std.specs.declared.option.Option.TheVariants.{None, Some}
 use Rattle.std.specs.declared.result.Result.TheVariants.{Ok, Err}
 use Rattle.sys_drives.specs.Rows.{drive_at}
 use Rattle.sys_store.specs.Blocks.{LacksBlock, blocks_of, with_block}
-use Rattle.vv_io.specs.Blocks.{AreSoMany, GetsFrom, IsSized, Kept, Reads, unkept}
+use Rattle.vv_io.specs.Blocks.{AreSoMany, GetsFrom, IsSized, ReadsBlock, SeenDrive, unkept}
 
 -- the first blocks are a drive's, where it tells them
 abbrev pub AreFirst : ℕ → Option (List (List ℕ)) → List (List ℕ) → Type 0
@@ -14,7 +14,7 @@ AreFirst n None blocks = Unit {0}
 AreFirst n (Some told) blocks = take n blocks ≡ take n told
 
 -- So many blocks of a drive are read into the volume at a place.
-pub record IsReadTo (n : ℕ) (volumes volumes' : List (List (List ℕ))) (v : ℕ) (drive : Kept) : Type 0 where
+pub record IsReadTo (n : ℕ) (volumes volumes' : List (List (List ℕ))) (v : ℕ) (drive : SeenDrive) : Type 0 where
   pub others : volumes' ≡ slice_set volumes v (blocks_of volumes' v)
   pub size : length (blocks_of volumes' v) ≡ drive.size
   pub told : AreFirst n drive.blocks (blocks_of volumes' v)
@@ -24,12 +24,12 @@ abbrev pub Gives : Option (List (List ℕ)) → ℕ → List ℕ → Type 0
 Gives None block bytes = Unit {0}
 Gives (Some told) block bytes = bytes ≡ slice_index_or told block []
 
-gives : {U : Type 0} (E : Type 0) (o : Option (List (List ℕ))) (block : ℕ) (into into' : List ℕ) (u : U) → (let r : Result U E = Ok u in Reads o block into into' r) → Gives o block into'
+gives : {U : Type 0} (E : Type 0) (o : Option (List (List ℕ))) (block : ℕ) (into into' : List ℕ) (u : U) → (let r : Result U E = Ok u in ReadsBlock o block into into' r) → Gives o block into'
 gives E None block into into' u reads = tt
 gives E (Some told) block into into' u reads = reads
 
 -- a block is got, and no drive changes
-pub got : {U E : Type 0} (k block : ℕ) (start now after : List Kept) (into into' : List ℕ) (u : U) → now ≡ start → (let r : Result U E = Ok u in GetsFrom k now after block into into' r) → (after ≡ start) × Gives (drive_at start k).blocks block into'
+pub got : {U E : Type 0} (k block : ℕ) (start now after : List SeenDrive) (into into' : List ℕ) (u : U) → now ≡ start → (let r : Result U E = Ok u in GetsFrom k now after block into into' r) → (after ≡ start) × Gives (drive_at start k).blocks block into'
 got {U} {E} k block start now after into into' u before (drive, is, gets) =
     let same : drive ≡ drive_at now k = gets.stays ∙ (λ i. record (drive_at now k) { faults = gets.cause.kept i }) in
     let told : Gives (drive_at now k).blocks block into' = gives E (drive_at now k).blocks block into into' u gets.reads in
@@ -48,7 +48,7 @@ first_more n (Some told) blocks bytes size h long many first is =
     take_more_set blocks n bytes inside ∙ (λ i. first i ++ is i ∷ []) ∙ sym (take_more told n [] within)
 
 -- the next block is read
-pub next_read : (n : ℕ) (volumes now after : List (List (List ℕ))) (v : ℕ) (drive : Kept) (bytes : List ℕ) → v < length volumes → n < drive.size → IsSized drive → IsReadTo n volumes now v drive → Gives drive.blocks n bytes → after ≡ with_block now v n bytes → IsReadTo (n + 1) volumes after v drive
+pub next_read : (n : ℕ) (volumes now after : List (List (List ℕ))) (v : ℕ) (drive : SeenDrive) (bytes : List ℕ) → v < length volumes → n < drive.size → IsSized drive → IsReadTo n volumes now v drive → Gives drive.blocks n bytes → after ≡ with_block now v n bytes → IsReadTo (n + 1) volumes after v drive
 next_read n volumes now after v drive bytes there h sized before is wrote =
     let blocks = blocks_of now v in
     let more = slice_set blocks n bytes in

@@ -6,9 +6,9 @@ use Rattle.std.specs.declared.option.Option.{Option}
 use Rattle.std.specs.declared.option.Option.TheVariants.{None, Some}
 use Rattle.std.specs.declared.result.Result.TheVariants.{Ok, Err}
 use Rattle.sys_drives.specs.Rows.{drive_at}
-use Rattle.sys_drives.specs.Stores.{StoresOn, told_until}
+use Rattle.sys_drives.specs.Stores.{StoresOn, known_until}
 use Rattle.sys_store.specs.Blocks.{HasBlock, LacksBlock, blocks_of}
-use Rattle.vv_io.specs.Blocks.{AreSoMany, IsAsLong, IsSized, Kept, SetsOn, unkept, with_block}
+use Rattle.vv_io.specs.Blocks.{AreSoMany, IsAsLong, IsSized, SeenDrive, SetsOn, drive_with_block, unkept}
 use Rattle.vv_io.specs.Causes.{Rose}
 
 -- so many blocks in place of those that are told
@@ -17,15 +17,15 @@ told_to n None blocks = None
 told_to n (Some old) blocks = Some (take n blocks ++ drop n old)
 
 -- a drive to which so many blocks are stored
-abbrev pub stored_to : ℕ → Kept → List (List ℕ) → Kept
+abbrev pub stored_to : ℕ → SeenDrive → List (List ℕ) → SeenDrive
 stored_to n drive blocks = record drive { blocks = told_to n drive.blocks blocks }
 
 -- so it is with drive k, and every other is as at the start
-abbrev pub IsStoredTo : ℕ → ℕ → List Kept → List Kept → List (List ℕ) → Type 0
+abbrev pub IsStoredTo : ℕ → ℕ → List SeenDrive → List SeenDrive → List (List ℕ) → Type 0
 IsStoredTo n k start now blocks = now ≡ slice_set start k (stored_to n (drive_at start k) blocks)
 
 -- something at the next block
-next_told : (n : ℕ) (o : Option (List (List ℕ))) (blocks : List (List ℕ)) (any : List ℕ) (size : ℕ) → n < size → length blocks ≡ size → AreSoMany size o → with_block (told_to n o blocks) n any ≡ told_until o blocks n any
+next_told : (n : ℕ) (o : Option (List (List ℕ))) (blocks : List (List ℕ)) (any : List ℕ) (size : ℕ) → n < size → length blocks ≡ size → AreSoMany size o → drive_with_block (told_to n o blocks) n any ≡ known_until o blocks n any
 next_told n None blocks any size h long many = refl
 next_told n (Some old) blocks any size h long many =
     let rest : drop n old ≡ slice_index_or old n [] ∷ drop (n + 1) old = drop_more old n [] (omega (arith, h, many)) in
@@ -43,7 +43,7 @@ still_long n (Some old) blocks any size h long many is =
     is ∙ ap length at
 
 -- that is the block that belongs there
-one_more : (n : ℕ) (o : Option (List (List ℕ))) (blocks : List (List ℕ)) (bytes : List ℕ) → n < length blocks → slice_index_or blocks n [] ≡ bytes → told_until o blocks n bytes ≡ told_to (n + 1) o blocks
+one_more : (n : ℕ) (o : Option (List (List ℕ))) (blocks : List (List ℕ)) (bytes : List ℕ) → n < length blocks → slice_index_or blocks n [] ≡ bytes → known_until o blocks n bytes ≡ told_to (n + 1) o blocks
 one_more n None blocks bytes h read = refl
 one_more n (Some old) blocks bytes h read =
     let rest = drop (n + 1) old in
@@ -52,7 +52,7 @@ one_more n (Some old) blocks bytes h read =
     ap Some at
 
 -- What one set makes of a drive to which so many blocks are stored.
-pub record IsSet {U E : Type 0} (n k : ℕ) (start now after : List Kept) (blocks : List (List ℕ)) (bytes : List ℕ) (r : Result U E) : Type 0 where
+pub record IsSet {U E : Type 0} (n k : ℕ) (start now after : List SeenDrive) (blocks : List (List ℕ)) (bytes : List ℕ) (r : Result U E) : Type 0 where
   pub there : k < length start
   pub within : n < length blocks
   pub long : length blocks ≡ (drive_at start k).size
@@ -61,30 +61,30 @@ pub record IsSet {U E : Type 0} (n k : ℕ) (start now after : List Kept) (block
   pub sets : SetsOn k now after n bytes r
 
 -- a drive of a list is one of what is kept
-pub inside : {D : Type 0} (f : D → Kept) (items : List D) (k : ℕ) → k < length items → k < length (map f items)
+pub inside : {D : Type 0} (f : D → SeenDrive) (items : List D) (k : ℕ) → k < length items → k < length (map f items)
 inside f items k h = let long : length (map f items) ≡ length items = length-map items f in omega (arith, h, long)
 
-at_now : (n k : ℕ) (start now : List Kept) (blocks : List (List ℕ)) → k < length start → IsStoredTo n k start now blocks → drive_at now k ≡ stored_to n (drive_at start k) blocks
+at_now : (n k : ℕ) (start now : List SeenDrive) (blocks : List (List ℕ)) → k < length start → IsStoredTo n k start now blocks → drive_at now k ≡ stored_to n (drive_at start k) blocks
 at_now n k start now blocks there before = ap (λ drives. drive_at drives k) before ∙ get_or-set_same start k (stored_to n (drive_at start k) blocks) unkept there
 
-after_set : (n k : ℕ) (start now after : List Kept) (blocks : List (List ℕ)) (drive : Kept) → IsStoredTo n k start now blocks → after ≡ slice_set now k drive → after ≡ slice_set start k drive
+after_set : (n k : ℕ) (start now after : List SeenDrive) (blocks : List (List ℕ)) (drive : SeenDrive) → IsStoredTo n k start now blocks → after ≡ slice_set now k drive → after ≡ slice_set start k drive
 after_set n k start now after blocks drive before is = is ∙ ap (λ drives. slice_set drives k drive) before ∙ set-set start k (stored_to n (drive_at start k) blocks) drive
 
 -- the next block is stored
-pub next_stored : {U E : Type 0} (n k : ℕ) (start now after : List Kept) (blocks : List (List ℕ)) (bytes : List ℕ) (u : U) → (let r : Result U E = Ok u in IsSet n k start now after blocks bytes r) → slice_index_or blocks n [] ≡ bytes → IsStoredTo (n + 1) k start after blocks
+pub next_stored : {U E : Type 0} (n k : ℕ) (start now after : List SeenDrive) (blocks : List (List ℕ)) (bytes : List ℕ) (u : U) → (let r : Result U E = Ok u in IsSet n k start now after blocks bytes r) → slice_index_or blocks n [] ≡ bytes → IsStoredTo (n + 1) k start after blocks
 next_stored n k start now after blocks bytes u h read =
     let old = drive_at start k in
     let (drive, is, sets) = h.sets in
     let at = at_now n k start now blocks h.there h.before in
     let inside : n < old.size = omega (arith, h.within, h.long) in
     let told : drive.blocks ≡ told_to (n + 1) old.blocks blocks =
-    sets.writes ∙ ap (λ d. with_block d.blocks n bytes) at ∙ next_told n old.blocks blocks bytes old.size inside h.long h.sized ∙ one_more n old.blocks blocks bytes h.within read in
+    sets.writes ∙ ap (λ d. drive_with_block d.blocks n bytes) at ∙ next_told n old.blocks blocks bytes old.size inside h.long h.sized ∙ one_more n old.blocks blocks bytes h.within read in
     let size : drive.size ≡ old.size = sets.size ∙ ap (λ d. d.size) at in
     let faults : drive.faults ≡ old.faults = sets.cause.kept ∙ ap (λ d. d.faults) at in
     after_set n k start now after blocks drive h.before is ∙ (λ i. slice_set start k (record { size = size i; blocks = told i; faults = faults i }))
 
 -- that set fails, and no other is made
-pub cut_here : {U E : Type 0} (n k : ℕ) (start now after : List Kept) (blocks : List (List ℕ)) (bytes : List ℕ) (e : E) → (let r : Result U E = Err e in IsSet n k start now after blocks bytes r) → StoresOn k true start after blocks
+pub cut_here : {U E : Type 0} (n k : ℕ) (start now after : List SeenDrive) (blocks : List (List ℕ)) (bytes : List ℕ) (e : E) → (let r : Result U E = Err e in IsSet n k start now after blocks bytes r) → StoresOn k true start after blocks
 cut_here n k start now after blocks bytes e h =
     let old = drive_at start k in
     let (drive, is, sets) = h.sets in
@@ -98,8 +98,8 @@ cut_here n k start now after blocks bytes e h =
         block = n;
         within = h.within;
         any = sets.writes.0;
-        long = still_long n old.blocks blocks sets.writes.0 old.size inside h.long h.sized (subst (λ (d : Kept). IsAsLong d.blocks n sets.writes.0) at sets.writes.2);
-        told = sets.writes.1 ∙ ap (λ d. with_block d.blocks n sets.writes.0) at ∙ next_told n old.blocks blocks sets.writes.0 old.size inside h.long h.sized;
+        long = still_long n old.blocks blocks sets.writes.0 old.size inside h.long h.sized (subst (λ (d : SeenDrive). IsAsLong d.blocks n sets.writes.0) at sets.writes.2);
+        told = sets.writes.1 ∙ ap (λ d. drive_with_block d.blocks n sets.writes.0) at ∙ next_told n old.blocks blocks sets.writes.0 old.size inside h.long h.sized;
       },
     )
 

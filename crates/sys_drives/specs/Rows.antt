@@ -2,18 +2,18 @@
 use Rattle.std.specs.Prelude.{ℕ, ◌≡◌, List, length, map, slice_get, slice_index_or}
 use Rattle.std.specs.declared.option.Option.TheVariants.{Some}
 use Rattle.sys_objects.specs.declared.records.VolumeRow.{VolumeRow}
-use Rattle.vv_io.specs.Blocks.{Kept, unkept}
+use Rattle.vv_io.specs.Blocks.{SeenDrive, unkept}
 
 -- this row is at that place
-abbrev pub StandsAt : List VolumeRow → ℕ → VolumeRow → Type 0
-StandsAt rows v row = slice_get rows v ≡ Some row
+abbrev pub IsRowAt : List VolumeRow → ℕ → VolumeRow → Type 0
+IsRowAt rows v row = slice_get rows v ≡ Some row
 
 -- the drive of a number
-abbrev pub drive_at : List Kept → ℕ → Kept
+abbrev pub drive_at : List SeenDrive → ℕ → SeenDrive
 drive_at drives d = slice_index_or drives d unkept
 
 -- the row's drive has as many blocks as the row says
-abbrev pub FitsDrive : List Kept → VolumeRow → Type 0
+abbrev pub FitsDrive : List SeenDrive → VolumeRow → Type 0
 FitsDrive drives row = (drive_at drives row.drive).size ≡ row.blocks
 
 -- as many volumes as rows, and each has as many blocks as its row says

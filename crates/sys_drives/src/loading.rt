@@ -1,5 +1,5 @@
 ghost use Rattle.std.specs.Prelude.{◌≡◌, ◌≤◌, ◌<◌, All, IfOk, length, map, vec_len};
-ghost use Rattle.sys_drives.specs.Loads.{FirstMisfit, Loads, LoadsOne, ReadsAll};
+ghost use Rattle.sys_drives.specs.Loads.{FirstMisfit, Loads, LoadsVolume, ReadsAll};
 ghost use Rattle.sys_drives.specs.Rows.{FitRows, drive_at};
 ghost use Rattle.sys_objects.specs.Condition.{IsVolume};
 ghost use Rattle.sys_store.specs.Blocks.{blocks_of};
@@ -75,7 +75,7 @@ fn load_one(
     requires volume { v < length volumes.old }
     requires drive { row.now.drive < vec_len drives.old }
     requires size { length (blocks_of volumes.old v) ≡ row.now.blocks }
-    ensures loads { LoadsOne v row.now volumes.old volumes.new (map (λ d. kept d) drives.old.items) (map (λ d. kept d) drives.new.items) result }
+    ensures loads { LoadsVolume v row.now volumes.old volumes.new (map (λ d. kept d) drives.old.items) (map (λ d. kept d) drives.new.items) result }
     ensures len { vec_len drives.new ≡ vec_len drives.old }
 {
     let k = usize::from(row.drive);

@@ -1,7 +1,7 @@
 ghost use Rattle.std.specs.Prelude.{◌≡◌, ◌≢◌, ◌≤◌, ◌<◌, All, is_err, length, map, vec_len};
 ghost use Rattle.std.specs.List.{AllPairs};
 ghost use Rattle.sys_drives.specs.Rows.{FitRows, FitsDrive, drive_at};
-ghost use Rattle.sys_drives.specs.Stores.{StoresAll, StoresAt, StoresOn};
+ghost use Rattle.sys_drives.specs.Stores.{StoresAt, StoresOn, StoresToDrives};
 ghost use Rattle.sys_objects.specs.Condition.{IsVolume};
 ghost use Rattle.sys_store.specs.Blocks.{blocks_of};
 
@@ -67,7 +67,7 @@ pub fn store_volumes(
     requires apart { AllPairs (λ v w. v.drive ≢ w.drive) rows.now }
     requires sizes { FitRows rows.now volumes.now }
     requires fit { All (FitsDrive (map (λ d. kept d) drives.old.items)) rows.now }
-    ensures stores { StoresAll rows.now volumes.now marks.old marks.new (map (λ d. kept d) drives.old.items) (map (λ d. kept d) drives.new.items) }
+    ensures stores { StoresToDrives rows.now volumes.now marks.old marks.new (map (λ d. kept d) drives.old.items) (map (λ d. kept d) drives.new.items) }
     ensures len { vec_len drives.new ≡ vec_len drives.old }
 {
     for (place, row) in rows.iter().enumerate() {

@@ -5,16 +5,16 @@ use Rattle.std.proofs.lemmas.List.{get_or_append_left, get_or-append-add, get_or
 use Rattle.std.proofs.lemmas.List.Elements.{filter_map-append}
 use Rattle.std.specs.List.{AllPairs, cons_option, filter_map}
 use Rattle.vv_io.specs.Lines.{Seen}
-use Rattle.sys_rounds.specs.Dump.{dump_of}
+use Rattle.sys_state.specs.Dump.{dump_of}
 use Rattle.sys_objects.specs.Condition.{IsConfig}
 use Rattle.sys_objects.specs.Rules.{audit_line}
 use Rattle.sys_objects.specs.declared.records.Config.{Config}
 use Rattle.sys_objects.specs.declared.records.GuestRow.{GuestRow}
 use Rattle.sys_objects.specs.declared.records.PrinterRow.{PrinterRow}
 use Rattle.sys_objects.specs.declared.records.Terminal.{Terminal}
-use Rattle.sys_rounds.proofs.Places.{both}
-use Rattle.sys_rounds.specs.Places.{is_at}
-use Rattle.sys_rounds.specs.Bytes.{dump_on}
+use Rattle.sys_state.proofs.Places.{both}
+use Rattle.sys_state.specs.Places.{is_at}
+use Rattle.sys_state.specs.Bytes.{dump_on}
 use Rattle.sys_lines.proofs.Lists.{from_place}
 use Rattle.sys_guests.proofs.Lists.{one_of_all}
 use Rattle.sys_guests.proofs.Powering.{guests_more}
@@ -22,7 +22,7 @@ use Rattle.sys_lines.proofs.Showings.{shows_on, shows_same, shows_then}
 use Rattle.sys_lines.specs.ShownSince.{ShownSinceOn}
 use Rattle.sys_guests.specs.Layout.{guests_in}
 use Rattle.sys_lines.specs.Shows.{Shows, only_on}
-use Rattle.vm_guest.specs.Kept.{Kept, StandsIn, guest_in}
+use Rattle.vm_guest.specs.Kept.{IsShadowedIn, Kept, guest_in}
 use Rattle.vm_state.specs.State.{Guest}
 use Rattle.vm_state.specs.Partition.{guest_of}
 use Rattle.vm_state.specs.declared.guest_state.GuestState.{GuestState}
@@ -111,8 +111,8 @@ dump_shown marks lines lines' place k failed told name g is there unmarked same 
     subst (λ o. Shows marks (slice_set marks k failed) lines lines' (only_on o (dump_of name g))) (sym is) (shows_on marks lines lines' k failed (dump_of name g) there unmarked (dump_some name g) (subst (λ b. ShownSinceOn k b lines lines' (dump_of name g)) (sym same) shows))
 
 -- a guest that is in the machine lies within its memory
-pub lies_within : (memory : List ℕ) (ks : List Kept) (i : ℕ) (k : Kept) → i < length ks → k ≡ slice_index_or ks i k → All (λ (y : Kept). StandsIn memory y) ks → (512 * k.state.base + 512 * k.state.pages ≤ length memory) × (k.state.base + k.state.pages ≤ 65536)
+pub lies_within : (memory : List ℕ) (ks : List Kept) (i : ℕ) (k : Kept) → i < length ks → k ≡ slice_index_or ks i k → All (λ (y : Kept). IsShadowedIn memory y) ks → (512 * k.state.base + 512 * k.state.pages ≤ length memory) × (k.state.base + k.state.pages ≤ 65536)
 lies_within memory ks i k h read all =
-    let stands = one_of_all (λ (y : Kept). StandsIn memory y) ks i k h read all in
+    let stands = one_of_all (λ (y : Kept). IsShadowedIn memory y) ks i k h read all in
     let f = stands.keeps.fits in
     (omega (arith, f.partition, stands.serves.base, stands.serves.pages), omega (arith, f.partition, f.few, stands.serves.base, stands.serves.pages))

@@ -10,52 +10,52 @@ use Rattle.sys_guests.proofs.Images.{one_long}
 use Rattle.vv_io.specs.Lines.{Puts, Seen}
 use Rattle.sys_lines.proofs.Puts.{shows}
 use Rattle.sys_lines.specs.ShownSince.{ShownSince}
-use Rattle.sys_rounds.specs.Dump.{if_shown, is_shown, register_line, register_lines, row_line, row_lines, text_of}
+use Rattle.sys_state.specs.Dump.{if_shown, is_shown, register_line, register_lines, row_line, row_lines, text_of_lines}
 
 -- lines after lines
-pub text_joined : (xs ys : List (List ℕ)) → text_of (xs ++ ys) ≡ text_of xs ++ text_of ys
+pub text_joined : (xs ys : List (List ℕ)) → text_of_lines (xs ++ ys) ≡ text_of_lines xs ++ text_of_lines ys
 text_joined [] ys = refl
-text_joined (x ∷ xs) ys = ap (λ (t : List ℕ). (x ++ 13 ∷ 10 ∷ []) ++ t) (text_joined xs ys) ∙ sym (append_assoc (x ++ 13 ∷ 10 ∷ []) (text_of xs) (text_of ys))
+text_joined (x ∷ xs) ys = ap (λ (t : List ℕ). (x ++ 13 ∷ 10 ∷ []) ++ t) (text_joined xs ys) ∙ sym (append_assoc (x ++ 13 ∷ 10 ∷ []) (text_of_lines xs) (text_of_lines ys))
 
 -- the first line
-pub text_first : (line : List ℕ) (lines : List (List ℕ)) → text_of (line ∷ lines) ≡ text_of (line ∷ []) ++ text_of lines
+pub text_first : (line : List ℕ) (lines : List (List ℕ)) → text_of_lines (line ∷ lines) ≡ text_of_lines (line ∷ []) ++ text_of_lines lines
 text_first line lines = text_joined (line ∷ []) lines
 
 -- the next register
-pub next_register : (r : List ℕ) (n : ℕ) → n < length r → text_of (register_lines n (drop n r)) ≡ text_of (register_line n (get_or r n 0) ∷ []) ++ text_of (register_lines (n + 1) (drop (n + 1) r))
+pub next_register : (r : List ℕ) (n : ℕ) → n < length r → text_of_lines (register_lines n (drop n r)) ≡ text_of_lines (register_line n (get_or r n 0) ∷ []) ++ text_of_lines (register_lines (n + 1) (drop (n + 1) r))
 next_register r n h =
-    ap (λ (xs : List ℕ). text_of (register_lines n xs)) (drop-cons r n 0 h) ∙ text_first (register_line n (get_or r n 0)) (register_lines (n + 1) (drop (suc n) r))
-    ∙ ap (λ (k : ℕ). text_of (register_line n (get_or r n 0) ∷ []) ++ text_of (register_lines (n + 1) (drop k r))) (sym (add-one n))
+    ap (λ (xs : List ℕ). text_of_lines (register_lines n xs)) (drop-cons r n 0 h) ∙ text_first (register_line n (get_or r n 0)) (register_lines (n + 1) (drop (suc n) r))
+    ∙ ap (λ (k : ℕ). text_of_lines (register_line n (get_or r n 0) ∷ []) ++ text_of_lines (register_lines (n + 1) (drop k r))) (sym (add-one n))
 
-pub next_register_of : (r : List ℕ) (n : ℕ) (line : List ℕ) → n < length r → line ≡ register_line n (get_or r n 0) → text_of (register_lines n (drop n r)) ≡ text_of (line ∷ []) ++ text_of (register_lines (n + 1) (drop (n + 1) r))
-next_register_of r n line h is = next_register r n h ∙ ap (λ (xs : List ℕ). text_of (xs ∷ []) ++ text_of (register_lines (n + 1) (drop (n + 1) r))) (sym is)
+pub next_register_of : (r : List ℕ) (n : ℕ) (line : List ℕ) → n < length r → line ≡ register_line n (get_or r n 0) → text_of_lines (register_lines n (drop n r)) ≡ text_of_lines (line ∷ []) ++ text_of_lines (register_lines (n + 1) (drop (n + 1) r))
+next_register_of r n line h is = next_register r n h ∙ ap (λ (xs : List ℕ). text_of_lines (xs ∷ []) ++ text_of_lines (register_lines (n + 1) (drop (n + 1) r))) (sym is)
 
 -- after the last register
-pub no_register : (r : List ℕ) (n : ℕ) → n ≡ length r → text_of (register_lines n (drop n r)) ≡ []
-no_register r n h = ap (λ (k : ℕ). text_of (register_lines n (drop k r))) h ∙ ap (λ (xs : List ℕ). text_of (register_lines n xs)) (drop-length r)
+pub no_register : (r : List ℕ) (n : ℕ) → n ≡ length r → text_of_lines (register_lines n (drop n r)) ≡ []
+no_register r n h = ap (λ (k : ℕ). text_of_lines (register_lines n (drop k r))) h ∙ ap (λ (xs : List ℕ). text_of_lines (register_lines n xs)) (drop-length r)
 
 first_shown : (b : Bool) (line : List ℕ) (more : List (List ℕ)) → (if b then line ∷ more else more) ≡ (if b then line ∷ [] else []) ++ more
 first_shown true line more = refl
 first_shown false line more = refl
 
 -- the next row
-pub next_row : (k at : ℕ) (memory : List ℕ) → text_of (row_lines (suc k) at memory) ≡ text_of (if_shown at (take 16 (drop at memory)) []) ++ text_of (row_lines k (at + 16) memory)
+pub next_row : (k at : ℕ) (memory : List ℕ) → text_of_lines (row_lines (suc k) at memory) ≡ text_of_lines (if_shown at (take 16 (drop at memory)) []) ++ text_of_lines (row_lines k (at + 16) memory)
 next_row k at memory =
     let row = take 16 (drop at memory) in
-    ap text_of (first_shown (is_shown row) (row_line at row) (row_lines k (at + 16) memory)) ∙ text_joined (if_shown at row []) (row_lines k (at + 16) memory)
+    ap text_of_lines (first_shown (is_shown row) (row_line at row) (row_lines k (at + 16) memory)) ∙ text_joined (if_shown at row []) (row_lines k (at + 16) memory)
 
 pub next_row_of : (n i : ℕ) (memory row : List ℕ) → i < n → row ≡ take 16 (drop (16 * i) memory) →
-    text_of (row_lines (n - i) (16 * i) memory) ≡ text_of (if_shown (16 * i) row []) ++ text_of (row_lines (n - (i + 1)) (16 * (i + 1)) memory)
+    text_of_lines (row_lines (n - i) (16 * i) memory) ≡ text_of_lines (if_shown (16 * i) row []) ++ text_of_lines (row_lines (n - (i + 1)) (16 * (i + 1)) memory)
 next_row_of n i memory row h is =
     let count : n - i ≡ suc (n - (i + 1)) = omega arith in
     let place : 16 * i + 16 ≡ 16 * (i + 1) = omega arith in
-    ap (λ (k : ℕ). text_of (row_lines k (16 * i) memory)) count ∙ next_row (n - (i + 1)) (16 * i) memory
-    ∙ ap (λ (k : ℕ). text_of (if_shown (16 * i) (take 16 (drop (16 * i) memory)) []) ++ text_of (row_lines (n - (i + 1)) k memory)) place
-    ∙ ap (λ (xs : List ℕ). text_of (if_shown (16 * i) xs []) ++ text_of (row_lines (n - (i + 1)) (16 * (i + 1)) memory)) (sym is)
+    ap (λ (k : ℕ). text_of_lines (row_lines k (16 * i) memory)) count ∙ next_row (n - (i + 1)) (16 * i) memory
+    ∙ ap (λ (k : ℕ). text_of_lines (if_shown (16 * i) (take 16 (drop (16 * i) memory)) []) ++ text_of_lines (row_lines (n - (i + 1)) k memory)) place
+    ∙ ap (λ (xs : List ℕ). text_of_lines (if_shown (16 * i) xs []) ++ text_of_lines (row_lines (n - (i + 1)) (16 * (i + 1)) memory)) (sym is)
 
 -- after the last row
-pub no_row : (n i : ℕ) (memory : List ℕ) → n ≤ i → text_of (row_lines (n - i) (16 * i) memory) ≡ []
-no_row n i memory h = let none : n - i ≡ 0 = omega arith in ap (λ (k : ℕ). text_of (row_lines k (16 * i) memory)) none
+pub no_row : (n i : ℕ) (memory : List ℕ) → n ≤ i → text_of_lines (row_lines (n - i) (16 * i) memory) ≡ []
+no_row n i memory h = let none : n - i ≡ 0 = omega arith in ap (λ (k : ℕ). text_of_lines (row_lines k (16 * i) memory)) none
 
 -- a row of a part of the memory
 pub row_in : (memory : List ℕ) (base size at : ℕ) → at + 16 ≤ size → take 16 (drop (base + at) memory) ≡ take 16 (drop at (part memory base size))
@@ -130,5 +130,5 @@ row_whole memory at n cleared row inside many few room is =
     is ∙ ap (λ (k : ℕ). overwritten cleared 0 (take k xs)) all ∙ ap (λ (ys : List ℕ). overwritten cleared 0 ys) (take-length xs) ∙ ap (λ (ys : List ℕ). xs ++ ys) (drop_of_length-le cleared past) ∙ append-nil xs
 
 -- a put of a line's text
-pub shows_line : {U E : Type 0} (before after : Seen) (bytes line : List ℕ) (r : Result U E) → bytes ≡ line ++ 13 ∷ 10 ∷ [] → Puts before after bytes r → ShownSince (is_err r) before after (text_of (line ∷ []))
+pub shows_line : {U E : Type 0} (before after : Seen) (bytes line : List ℕ) (r : Result U E) → bytes ≡ line ++ 13 ∷ 10 ∷ [] → Puts before after bytes r → ShownSince (is_err r) before after (text_of_lines (line ∷ []))
 shows_line before after bytes line r is puts = subst (ShownSince (is_err r) before after) (is ∙ sym (append-nil (line ++ 13 ∷ 10 ∷ []))) (shows before after bytes r puts)

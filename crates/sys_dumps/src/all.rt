@@ -4,9 +4,9 @@ ghost use Rattle.sys_guests.specs.Layout.{guests_in};
 ghost use Rattle.sys_lines.specs.ShownSince.{ShownSinceOn};
 ghost use Rattle.sys_lines.specs.Shows.{Shows, only_on};
 ghost use Rattle.sys_objects.specs.Condition.{IsGuest};
-ghost use Rattle.sys_rounds.specs.Bytes.{dump_on};
-ghost use Rattle.sys_rounds.specs.Dump.{dump_of};
-ghost use Rattle.vm_guest.specs.Kept.{StandsIn};
+ghost use Rattle.sys_state.specs.Bytes.{dump_on};
+ghost use Rattle.sys_state.specs.Dump.{dump_of};
+ghost use Rattle.vm_guest.specs.Kept.{IsShadowedIn};
 ghost use Rattle.vm_state.specs.Partition.{guest_of};
 
 use crate::dumps::dump;
@@ -68,7 +68,7 @@ pub fn dump_all<H: Hardware>(
     marks: &mut Marks,
     lines: &mut Vec<Box<dyn Line>>,
 )
-    requires guests { All (λ k. StandsIn (H.machine machine.now).memory k) guests.now }
+    requires guests { All (λ k. IsShadowedIn (H.machine machine.now).memory k) guests.now }
     requires beside { length guests.now ≡ length rows.now }
     requires rows { All IsGuest rows.now }
     requires apart { AllPairs (λ x y. x ≢ y) (filter_map (λ row. row.dump) rows.now) }

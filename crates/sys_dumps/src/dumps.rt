@@ -1,7 +1,7 @@
 ghost use Rattle.std.specs.Prelude.{◌≡◌, ◌<◌, ◌≤◌, ◌+◌, ◌*◌, ◌∷◌, ◌^◌, [], drop, is_err, length, take};
 ghost use Rattle.vv_io.specs.Lines.{Puts};
 ghost use Rattle.vm_state.specs.Partition.{guest_of, part};
-ghost use Rattle.sys_rounds.specs.Dump.{dump_of, if_shown, register_lines, row_lines, text_of};
+ghost use Rattle.sys_state.specs.Dump.{dump_of, if_shown, register_lines, row_lines, text_of_lines};
 ghost use Rattle.sys_lines.specs.ShownSince.{ShownSince};
 
 use crate::texts::{is_shown, name_text, psl_text, register_text, row_text};
@@ -20,7 +20,7 @@ fn put(line: &mut Box<dyn Line>, bytes: &[u8]) -> Result<(), LineFault>
 /// Puts a text on a line, with CR and LF after it.
 fn put_text(line: &mut Box<dyn Line>, mut text: Text<64>) -> Result<(), LineFault>
     requires { length text ≤ 62 }
-    ensures { ShownSince (is_err result) (seen line.old) (seen line.new) (text_of (text ∷ [])) }
+    ensures { ShownSince (is_err result) (seen line.old) (seen line.new) (text_of_lines (text ∷ [])) }
 {
     text.append(b"\r\n");
     put(line, text.bytes())
@@ -28,7 +28,7 @@ fn put_text(line: &mut Box<dyn Line>, mut text: Text<64>) -> Result<(), LineFaul
 
 /// Puts the lines of the registers.
 pub fn put_registers(line: &mut Box<dyn Line>, r: &[u32; 16]) -> Result<(), LineFault>
-    ensures { ShownSince (is_err result) (seen line.old) (seen line.new) (text_of (register_lines 0 r.now)) }
+    ensures { ShownSince (is_err result) (seen line.old) (seen line.new) (text_of_lines (register_lines 0 r.now)) }
 {
     for (number, v) in r.iter().enumerate() {
         put_text(line, register_text(number, *v))?;
@@ -55,7 +55,7 @@ fn row_at<H: Hardware>(machine: &H, at: u32) -> [u8; 16]
 
 /// Puts the line of a row at an address, unless it is all zero.
 pub fn put_row(line: &mut Box<dyn Line>, at: u32, row: &[u8; 16]) -> Result<(), LineFault>
-    ensures { ShownSince (is_err result) (seen line.old) (seen line.new) (text_of (if_shown at row.now [])) }
+    ensures { ShownSince (is_err result) (seen line.old) (seen line.new) (text_of_lines (if_shown at row.now [])) }
 {
     if is_shown(row) {
         put_text(line, row_text(at, row))
@@ -72,7 +72,7 @@ fn put_rows<H: Hardware>(
 ) -> Result<(), LineFault>
     requires place { g.now.base + g.now.pages ≤ 65536 }
     requires inside { 512 * g.now.base + 512 * g.now.pages ≤ length (H.machine machine.now).memory }
-    ensures { ShownSince (is_err result) (seen line.old) (seen line.new) (text_of (row_lines (32 * g.now.pages) 0 (part (H.machine machine.now).memory (512 * g.now.base) (512 * g.now.pages)))) }
+    ensures { ShownSince (is_err result) (seen line.old) (seen line.new) (text_of_lines (row_lines (32 * g.now.pages) 0 (part (H.machine machine.now).memory (512 * g.now.base) (512 * g.now.pages)))) }
 {
     for number in 0..32 * g.pages {
         let at = 16 * number;

@@ -1,6 +1,6 @@
 ghost use Rattle.std.specs.Prelude.{◌≡◌, ◌<◌, ◌≤◌, ◌+◌, ◌++◌, ◌∷◌, codes, length};
 ghost use Rattle.vv_base.specs.Digits.{hex_text};
-ghost use Rattle.sys_rounds.specs.Dump.{register_line, row_line, is_shown};
+ghost use Rattle.sys_state.specs.Dump.{register_line, row_line, is_shown};
 
 use vv_base::{Name, Text, decimal, hex};
 
@@ -25,7 +25,7 @@ pub fn name_text(name: &Name) -> Text<64>
 }
 
 /// The line of a register.
-#[tactic(auto, unfolding(sys_rounds::specs::Dump::register_line))]
+#[tactic(auto, unfolding(sys_state::specs::Dump::register_line))]
 pub fn register_text(number: usize, v: u32) -> Text<64>
     ensures value { result ≡ register_line number v }
     ensures room { length result ≤ 62 }
@@ -50,7 +50,7 @@ pub fn psl_text(psl: u32) -> Text<64>
 }
 
 /// The line of a row of memory at an address.
-#[tactic(auto, unfolding(sys_rounds::specs::Dump::row_line))]
+#[tactic(auto, unfolding(sys_state::specs::Dump::row_line))]
 pub fn row_text(at: u32, row: &[u8; 16]) -> Text<64>
     ensures value { result ≡ row_line at row.now }
     ensures room { length result ≤ 62 }

@@ -3,18 +3,18 @@ use Rattle.std.proofs.Common.{ℕ, zero, suc, ◌≡◌, ◌<◌, ◌≤◌, ◌
 use Rattle.std.proofs.lemmas.List.{append-nil, drop-drop, drop-set-lt, drop_all, drop_more, length-set, take_all, take_at, take_more_set}
 use Rattle.std.proofs.lemmas.List.Elements.{All-cons, All-get_or, All-nil, All-push, All-set}
 use Rattle.vv_io.specs.Lines.{Seen, unseen}
-use Rattle.sys_echo.specs.Screens.{AreSameScreens, AreTold, AreWithin, Echoes, IsSameScreen, IsTold, IsWithin, new_on, news}
+use Rattle.sys_echo.specs.Screens.{AreLinesKnown, AreSameScreens, AreWithin, Echoes, IsLineKnown, IsSameScreen, IsScreenWithin, new_on, news}
 use Rattle.sys_echo.specs.declared.screen.Screen.{Screen}
 use Rattle.sys_echo.proofs.Parts.{IsPart, IsShown, part_begins, part_goes_on, part_stops}
 
 abbrev pub IsSeen : List Seen → Screen → Type 0
-IsSeen lines screen = IsTold (slice_index_or lines screen.line unseen) → new_on lines screen ≡ []
+IsSeen lines screen = IsLineKnown (slice_index_or lines screen.line unseen) → new_on lines screen ≡ []
 
 -- Of some screens so many were looked at.
 pub record AreLooked (lines : List Seen) (first screens : List Screen) (count : ℕ) (start out : Seen) : Type 0 where
   pub same : AreSameScreens first screens
   pub left : drop count screens ≡ drop count first
-  pub put : IsPart (AreTold lines first) start out (news lines (drop count first)) (news lines first)
+  pub put : IsPart (AreLinesKnown lines first) start out (news lines (drop count first)) (news lines first)
   pub seen : All (IsSeen lines) (take count screens)
   pub within : AreWithin lines first → AreWithin lines screens
 
@@ -40,7 +40,7 @@ pub looked_none : (lines : List Seen) (first screens : List Screen) (start : See
 looked_none lines first screens start is = record {
   same = subst (AreSameScreens first) (sym is) (all_same first);
   left = is;
-  put = part_begins (AreTold lines first) start (news lines first) (news lines first) (λ _. refl);
+  put = part_begins (AreLinesKnown lines first) start (news lines first) (news lines first) (λ _. refl);
   seen = All-nil (IsSeen lines);
   within = λ within. subst (AreWithin lines) (sym is) within;
 }
@@ -51,10 +51,10 @@ first_of_two xs ys i x low also left read =
     sym (ap head (drop_more xs i x low)) ∙ sym (ap head left) ∙ ap head (drop_more ys i x also) ∙ sym read
 
 -- the news of the next screen come first
-next_news : (lines : List Seen) (first : List Screen) (i : ℕ) (old : Screen) (bytes : List ℕ) → i < length first → slice_index_or first i old ≡ old → (AreTold lines (old ∷ []) → bytes ≡ news lines (old ∷ [])) → AreTold lines first → news lines (drop i first) ≡ bytes ++ news lines (drop (i + 1) first)
+next_news : (lines : List Seen) (first : List Screen) (i : ℕ) (old : Screen) (bytes : List ℕ) → i < length first → slice_index_or first i old ≡ old → (AreLinesKnown lines (old ∷ []) → bytes ≡ news lines (old ∷ [])) → AreLinesKnown lines first → news lines (drop i first) ≡ bytes ++ news lines (drop (i + 1) first)
 next_news lines first i old bytes low here exact told =
-    let Told : Screen → Type 0 = λ s. IsTold (slice_index_or lines s.line unseen) in
-    let one : AreTold lines (old ∷ []) = All-cons Told old [] (subst Told here (All-get_or Told first i old low told)) (All-nil Told) in
+    let Told : Screen → Type 0 = λ s. IsLineKnown (slice_index_or lines s.line unseen) in
+    let one : AreLinesKnown lines (old ∷ []) = All-cons Told old [] (subst Told here (All-get_or Told first i old low told)) (All-nil Told) in
     let is : bytes ≡ news lines (old ∷ []) = exact one in
     ap (news lines) (drop_more first i old low ∙ ap (λ (s : Screen). s ∷ drop (i + 1) first) here) ∙ ap (λ (xs : List ℕ). xs ++ news lines (drop (i + 1) first)) (sym (is ∙ append-nil _))
 
@@ -67,9 +67,9 @@ pub record IsLooked (cut : Bool) (lines now : List Seen) (old new : Screen) (out
   pub stays : now ≡ lines
   pub echoes : Echoes cut now (old ∷ []) out out'
   pub same : IsSameScreen old new
-  pub within : IsWithin now old → IsWithin now new
+  pub within : IsScreenWithin now old → IsScreenWithin now new
 
-pub was_looked : (cut : Bool) (lines now : List Seen) (old new : Screen) (out out' : Seen) → now ≡ lines → Echoes cut now (old ∷ []) out out' → IsSameScreen old new → (IsWithin now old → IsWithin now new) → IsLooked cut lines now old new out out'
+pub was_looked : (cut : Bool) (lines now : List Seen) (old new : Screen) (out out' : Seen) → now ≡ lines → Echoes cut now (old ∷ []) out out' → IsSameScreen old new → (IsScreenWithin now old → IsScreenWithin now new) → IsLooked cut lines now old new out out'
 was_looked cut lines now old new out out' stays echoes same within = record { stays = stays; echoes = echoes; same = same; within = within }
 
 -- the next screen
@@ -79,19 +79,19 @@ next_of screens i item = slice_index_or screens i item
 next_read : (screens : List Screen) (i : ℕ) (item : Screen) → item ≡ slice_index_or screens i item → next_of screens i item ≡ slice_index_or screens i (next_of screens i item)
 next_read screens i item read = ap (λ (d : Screen). slice_index_or screens i d) read
 
-within_next : (lines now : List Seen) (screens : List Screen) (i : ℕ) (old new : Screen) → now ≡ lines → i < length screens → old ≡ slice_index_or screens i old → (IsWithin now old → IsWithin now new) → AreWithin lines screens → AreWithin lines (slice_set screens i new)
+within_next : (lines now : List Seen) (screens : List Screen) (i : ℕ) (old new : Screen) → now ≡ lines → i < length screens → old ≡ slice_index_or screens i old → (IsScreenWithin now old → IsScreenWithin now new) → AreWithin lines screens → AreWithin lines (slice_set screens i new)
 within_next lines now screens i old new stays low read within all =
-    let kept : IsWithin lines old → IsWithin lines new = subst (λ (xs : List Seen). IsWithin xs old → IsWithin xs new) stays within in
-    All-set (IsWithin lines) screens i new (kept (subst (IsWithin lines) (sym read) (All-get_or (IsWithin lines) screens i old low all))) all
+    let kept : IsScreenWithin lines old → IsScreenWithin lines new = subst (λ (xs : List Seen). IsScreenWithin xs old → IsScreenWithin xs new) stays within in
+    All-set (IsScreenWithin lines) screens i new (kept (subst (IsScreenWithin lines) (sym read) (All-get_or (IsScreenWithin lines) screens i old low all))) all
 
-seen_next : (lines now : List Seen) (screens : List Screen) (i : ℕ) (old new : Screen) → now ≡ lines → i < length screens → new.line ≡ old.line → (IsTold (slice_index_or now old.line unseen) → new_on now new ≡ []) → All (IsSeen lines) (take i screens) → All (IsSeen lines) (take (i + 1) (slice_set screens i new))
+seen_next : (lines now : List Seen) (screens : List Screen) (i : ℕ) (old new : Screen) → now ≡ lines → i < length screens → new.line ≡ old.line → (IsLineKnown (slice_index_or now old.line unseen) → new_on now new ≡ []) → All (IsSeen lines) (take i screens) → All (IsSeen lines) (take (i + 1) (slice_set screens i new))
 seen_next lines now screens i old new stays low line seen before =
-    let Seen_at : ℕ → List Seen → Type 0 = λ k xs. IsTold (slice_index_or xs k unseen) → new_on xs new ≡ [] in
+    let Seen_at : ℕ → List Seen → Type 0 = λ k xs. IsLineKnown (slice_index_or xs k unseen) → new_on xs new ≡ [] in
     let here : IsSeen lines new = subst (λ (k : ℕ). Seen_at k lines) (sym line) (subst (λ (xs : List Seen). Seen_at old.line xs) stays seen) in
     subst (All (IsSeen lines)) (sym (take_more_set screens i new low)) (All-push (IsSeen lines) (take i screens) new before here)
 
 -- one more
-pub looked_next : (lines now : List Seen) (first screens : List Screen) (i : ℕ) (item new : Screen) (start out out' : Seen) → i < length screens → item ≡ slice_index_or screens i item → AreLooked lines first screens i start out → IsLooked false lines now (next_of screens i item) new out out' → (IsTold (slice_index_or now (next_of screens i item).line unseen) → new_on now new ≡ []) → AreLooked lines first (slice_set screens i new) (i + 1) start out'
+pub looked_next : (lines now : List Seen) (first screens : List Screen) (i : ℕ) (item new : Screen) (start out out' : Seen) → i < length screens → item ≡ slice_index_or screens i item → AreLooked lines first screens i start out → IsLooked false lines now (next_of screens i item) new out out' → (IsLineKnown (slice_index_or now (next_of screens i item).line unseen) → new_on now new ≡ []) → AreLooked lines first (slice_set screens i new) (i + 1) start out'
 looked_next lines now first screens i item new start out out' low read before one seen =
     let old : Screen = next_of screens i item in
     let is : old ≡ slice_index_or screens i old = next_read screens i item read in
@@ -101,7 +101,7 @@ looked_next lines now first screens i item new start out out' low read before on
     record {
       same = same_set first screens i old new before.same is one.same;
       left = later_left first screens i new before.left;
-      put = part_goes_on (AreTold lines first) start out out' (news lines (drop i first)) echoes.bytes (news lines (drop (i + 1) first)) (news lines first) (next_news lines first i old echoes.bytes inside here echoes.exact) before.put echoes.shown;
+      put = part_goes_on (AreLinesKnown lines first) start out out' (news lines (drop i first)) echoes.bytes (news lines (drop (i + 1) first)) (news lines first) (next_news lines first i old echoes.bytes inside here echoes.exact) before.put echoes.shown;
       seen = seen_next lines now screens i old new one.stays low one.same.line seen before.seen;
       within = λ all. within_next lines now screens i old new one.stays low is one.within (before.within all);
     }
@@ -114,7 +114,7 @@ looked_stops cut lines now first screens i item new start out out' fault low rea
     let inside : i < length first = omega (arith, low, same_length first screens before.same) in
     let here : slice_index_or first i old ≡ old = first_of_two first screens i old inside low before.left is in
     let echoes : Echoes true lines (old ∷ []) out out' = subst (λ (xs : List Seen). Echoes true xs (old ∷ []) out out') one.stays one.echoes in
-    let shown : IsShown (AreTold lines first) cut start out' (news lines first) = part_stops (AreTold lines first) cut start out out' (news lines (drop i first)) echoes.bytes (news lines (drop (i + 1) first)) (news lines first) fault (next_news lines first i old echoes.bytes inside here echoes.exact) before.put echoes.shown in
+    let shown : IsShown (AreLinesKnown lines first) cut start out' (news lines first) = part_stops (AreLinesKnown lines first) cut start out out' (news lines (drop i first)) echoes.bytes (news lines (drop (i + 1) first)) (news lines first) fault (next_news lines first i old echoes.bytes inside here echoes.exact) before.put echoes.shown in
     record { bytes = shown.text; shown = shown.shown; exact = shown.exact }
 
 -- what a list is after its items were written back

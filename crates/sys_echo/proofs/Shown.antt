@@ -3,14 +3,14 @@ use Rattle.std.proofs.Common.{List, [], ◌∷◌, slice_index_or, sym, ◌∙�
 use Rattle.std.proofs.lemmas.List.{append-nil}
 use Rattle.vv_io.specs.Lines.{Seen, unseen}
 use Rattle.sys_echo.specs.Echo.{echo_of}
-use Rattle.sys_echo.specs.Screens.{AreTold, Echoes, IsTold, new_on}
+use Rattle.sys_echo.specs.Screens.{AreLinesKnown, Echoes, IsLineKnown, new_on}
 use Rattle.sys_echo.specs.declared.screen.Screen.{Screen}
 use Rattle.sys_echo.proofs.Parts.{IsShown}
 
 -- one screen's news
-pub one_echo : (cut : Bool) (lines : List Seen) (screen : Screen) (start now : Seen) → IsShown (IsTold (slice_index_or lines screen.line unseen)) cut start now (echo_of screen.name (new_on lines screen)) → Echoes cut lines (screen ∷ []) start now
+pub one_echo : (cut : Bool) (lines : List Seen) (screen : Screen) (start now : Seen) → IsShown (IsLineKnown (slice_index_or lines screen.line unseen)) cut start now (echo_of screen.name (new_on lines screen)) → Echoes cut lines (screen ∷ []) start now
 one_echo cut lines screen start now shown = record {
   bytes = shown.text;
   shown = shown.shown;
-  exact = λ (told : AreTold lines (screen ∷ [])). shown.exact (told 0 screen (omega arith)) ∙ sym (append-nil (echo_of screen.name (new_on lines screen)));
+  exact = λ (told : AreLinesKnown lines (screen ∷ [])). shown.exact (told 0 screen (omega arith)) ∙ sym (append-nil (echo_of screen.name (new_on lines screen)));
 }

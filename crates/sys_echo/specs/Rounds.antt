@@ -1,8 +1,8 @@
 -- What an operator is shown of rounds: after each one what its terminals were shown in it.
 use Rattle.std.specs.Prelude.{ℕ, zero, suc, List, [], ◌++◌, drop, flat_map, length, take}
 use Rattle.sys_objects.specs.declared.records.Terminal.{Terminal}
-use Rattle.sys_rounds.specs.Bytes.{shown_from}
-use Rattle.sys_rounds.specs.Run.{Moment}
+use Rattle.sys_state.specs.Bytes.{shown_from}
+use Rattle.sys_state.specs.Run.{Moment}
 use Rattle.sys_script.specs.declared.event.Event.{Event}
 use Rattle.sys_echo.specs.Echo.{echo_of}
 

@@ -24,31 +24,31 @@ pub record IsSameScreen (before after : Screen) : Type 0 where
   pub line : after.line ≡ before.line
 
 -- a line that tells what it has shown, of fewer bytes than 64 bits count
-abbrev pub IsTold : Seen → Type 0
-IsTold line = (shown : List ℕ) × (line.shown ≡ Some shown) × (length shown < 2 ^ 64)
+abbrev pub IsLineKnown : Seen → Type 0
+IsLineKnown line = (shown : List ℕ) × (line.shown ≡ Some shown) × (length shown < 2 ^ 64)
 
-abbrev pub AreTold : List Seen → List Screen → Type 0
-AreTold lines screens = All (λ screen. IsTold (slice_index_or lines screen.line unseen)) screens
+abbrev pub AreLinesKnown : List Seen → List Screen → Type 0
+AreLinesKnown lines screens = All (λ screen. IsLineKnown (slice_index_or lines screen.line unseen)) screens
 
 -- what a line was shown, where it is told
-abbrev pub told_of : Option (List ℕ) → List ℕ
-told_of None = []
-told_of (Some shown) = shown
+abbrev pub shown_if_known : Option (List ℕ) → List ℕ
+shown_if_known None = []
+shown_if_known (Some shown) = shown
 
 -- how many bytes more a line has shown, where it is told
 abbrev pub more_on : List Seen → List Seen → ℕ → ℕ
-more_on before after line = length (told_of (slice_index_or after line unseen).shown) - length (told_of (slice_index_or before line unseen).shown)
+more_on before after line = length (shown_if_known (slice_index_or after line unseen).shown) - length (shown_if_known (slice_index_or before line unseen).shown)
 
 -- what a screen's line was shown since it was last seen
 abbrev pub new_on : List Seen → Screen → List ℕ
-new_on lines screen = drop screen.seen (told_of (slice_index_or lines screen.line unseen).shown)
+new_on lines screen = drop screen.seen (shown_if_known (slice_index_or lines screen.line unseen).shown)
 
 -- a screen has seen no more than its line has shown, where that is told
-abbrev pub IsWithin : List Seen → Screen → Type 0
-IsWithin lines screen = IsTold (slice_index_or lines screen.line unseen) → screen.seen ≤ length (told_of (slice_index_or lines screen.line unseen).shown)
+abbrev pub IsScreenWithin : List Seen → Screen → Type 0
+IsScreenWithin lines screen = IsLineKnown (slice_index_or lines screen.line unseen) → screen.seen ≤ length (shown_if_known (slice_index_or lines screen.line unseen).shown)
 
 abbrev pub AreWithin : List Seen → List Screen → Type 0
-AreWithin lines screens = All (IsWithin lines) screens
+AreWithin lines screens = All (IsScreenWithin lines) screens
 
 -- of all screens, one after another
 abbrev pub news : List Seen → List Screen → List ℕ
@@ -58,7 +58,7 @@ news lines screens = flat_map (λ screen. echo_of screen.name (new_on lines scre
 pub record Echoes (cut : Bool) (lines : List Seen) (screens : List Screen) (out out' : Seen) : Type 0 where
   pub bytes : List ℕ
   pub shown : ShownSince cut out out' bytes
-  pub exact : AreTold lines screens → bytes ≡ news lines screens
+  pub exact : AreLinesKnown lines screens → bytes ≡ news lines screens
 
 abbrev pub AreSameScreens : List Screen → List Screen → Type 0
 AreSameScreens [] [] = Unit {0}

@@ -1,5 +1,5 @@
 ghost use Rattle.std.specs.Prelude.{◌≡◌, ◌<◌, [], ◌∷◌, All, IfOk, is_err, map, slice_index_or, vec_len};
-ghost use Rattle.sys_echo.specs.Screens.{AreSameScreens, AreScreens, AreWithin, Echoes, IsSameScreen, IsTold, IsWithin, new_on};
+ghost use Rattle.sys_echo.specs.Screens.{AreSameScreens, AreScreens, AreWithin, Echoes, IsLineKnown, IsSameScreen, IsScreenWithin, new_on};
 ghost use Rattle.vv_io.specs.Lines.{unseen};
 
 use crate::piece::{put_end, put_piece};
@@ -57,8 +57,8 @@ fn echo_one<O: Sink>(
     requires lines { vec_len lines.old ≡ 32 }
     ensures echoes { Echoes (is_err result) (map (λ b. seen b) lines.old.items) (screen.old ∷ []) (O.printed out.old) (O.printed out.new) }
     ensures same { IsSameScreen screen.old screen.new }
-    ensures seen { IfOk result (λ _. IsTold (slice_index_or (map (λ b. seen b) lines.old.items) screen.old.line unseen) → new_on (map (λ b. seen b) lines.old.items) screen.new ≡ []) }
-    ensures within { IsWithin (map (λ b. seen b) lines.old.items) screen.old → IsWithin (map (λ b. seen b) lines.old.items) screen.new }
+    ensures seen { IfOk result (λ _. IsLineKnown (slice_index_or (map (λ b. seen b) lines.old.items) screen.old.line unseen) → new_on (map (λ b. seen b) lines.old.items) screen.new ≡ []) }
+    ensures within { IsScreenWithin (map (λ b. seen b) lines.old.items) screen.old → IsScreenWithin (map (λ b. seen b) lines.old.items) screen.new }
     ensures stays { map (λ b. seen b) lines.new.items ≡ map (λ b. seen b) lines.old.items }
     ensures len { vec_len lines.new ≡ vec_len lines.old }
 {
@@ -87,7 +87,7 @@ pub fn echo<O: Sink>(
     requires lines { vec_len lines.old ≡ 32 }
     ensures echoes { Echoes (is_err result) (map (λ b. seen b) lines.old.items) screens.old.items (O.printed out.old) (O.printed out.new) }
     ensures same { AreSameScreens screens.old.items screens.new.items }
-    ensures seen { IfOk result (λ _. All (λ screen. IsTold (slice_index_or (map (λ b. seen b) lines.old.items) screen.line unseen) → new_on (map (λ b. seen b) lines.old.items) screen ≡ []) screens.new.items) }
+    ensures seen { IfOk result (λ _. All (λ screen. IsLineKnown (slice_index_or (map (λ b. seen b) lines.old.items) screen.line unseen) → new_on (map (λ b. seen b) lines.old.items) screen ≡ []) screens.new.items) }
     ensures within { AreWithin (map (λ b. seen b) lines.old.items) screens.old.items → AreWithin (map (λ b. seen b) lines.old.items) screens.new.items }
     ensures stays { map (λ b. seen b) lines.new.items ≡ map (λ b. seen b) lines.old.items }
     ensures len { vec_len lines.new ≡ vec_len lines.old }

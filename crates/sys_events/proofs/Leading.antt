@@ -3,7 +3,7 @@ use Rattle.std.proofs.Common.{ℕ, ◌≡◌, ◌<◌, ◌≤◌, List, [], ◌+
 use Rattle.std.specs.Prelude.{Vec}
 use Rattle.std.specs.declared.alloc.Global.{Global}
 use Rattle.vax_hw.specs.Machine.{Machine}
-use Rattle.vm_console.specs.Kept.{Keeps}
+use Rattle.vm_console.specs.Kept.{KeptOutput}
 use Rattle.vm_guest.specs.Kept.{Kept}
 use Rattle.vm_state.specs.State.{Guest}
 use Rattle.vv_io.specs.Lines.{Seen}
@@ -12,7 +12,7 @@ use Rattle.sys_events.proofs.Lists.{take_set}
 use Rattle.sys_events.specs.Happens.{server_obeyed}
 use Rattle.sys_events.specs.Seats.{IsServer, Names}
 use Rattle.sys_guests.specs.Changes.{ChangesOne, StartsOne, TakesStateAt}
-use Rattle.sys_guests.specs.Kernel.{IsKernel, Leads, state_of}
+use Rattle.sys_guests.specs.Kernel.{IsKernel, Leads, kernel_state}
 use Rattle.sys_guests.specs.Layout.{AreInMachine, end_of_guests, guests_in}
 use Rattle.sys_guests.specs.declared.kernel.Kernel.{Kernel}
 use Rattle.sys_lines.proofs.Showings.{shows_none, shows_same, shows_then}
@@ -20,10 +20,10 @@ use Rattle.sys_lines.specs.Shows.{Shows}
 use Rattle.sys_objects.specs.Condition.{IsConfig}
 use Rattle.sys_objects.specs.declared.records.Config.{Config}
 use Rattle.sys_objects.specs.declared.records.GuestRow.{GuestRow}
-use Rattle.sys_rounds.proofs.Consoles.{bytes_append}
-use Rattle.sys_rounds.specs.Guests.{reset}
-use Rattle.sys_rounds.specs.Places.{changed}
-use Rattle.sys_rounds.specs.State.{Put, State, Went, bytes_on, is_running}
+use Rattle.sys_state.proofs.Consoles.{bytes_append}
+use Rattle.sys_state.specs.Guests.{reset}
+use Rattle.sys_state.specs.Places.{changed}
+use Rattle.sys_state.specs.State.{Put, SystemState, Went, bytes_on, is_running}
 use Rattle.sys_server.specs.Apply.{HasPlaces, applied}
 use Rattle.sys_server.specs.declared.command.Command.{Command}
 
@@ -39,7 +39,7 @@ pub kernel_holds : (memory : List ℕ) (k : Kernel) → IsConfig k.config → Ar
 kernel_holds memory k accepted placed h = record { accepted = accepted; placed = placed; terminals = h.terminals; guests = h.guests; consoles = h.consoles; beyond = h.beyond; mounts = h.mounts }
 
 -- one after another
-pub leads_then : {v w : Went State} {m n o : Machine} {k k' k'' : Kernel} {l l' l'' : List Seen} {x y : Volumes} → Leads v m k l n k' x l' → Leads w n k' l' o k'' y l'' → Leads (record { now = w.now; puts = v.puts ++ w.puts }) m k l o k'' y l''
+pub leads_then : {v w : Went SystemState} {m n o : Machine} {k k' k'' : Kernel} {l l' l'' : List Seen} {x y : Volumes} → Leads v m k l n k' x l' → Leads w n k' l' o k'' y l'' → Leads (record { now = w.now; puts = v.puts ++ w.puts }) m k l o k'' y l''
 leads_then {v} {w} {m} {n} {o} {k} {k'} {k''} {l} {l'} {l''} {x} {y} a b = record {
   state = b.state;
   shows = shows_same k.marks k''.marks l l'' (λ line. bytes_on line v.puts ++ bytes_on line w.puts) (λ line. bytes_on line (v.puts ++ w.puts)) (λ line. sym (bytes_append line v.puts w.puts)) (shows_then a.shows b.shows);
@@ -51,7 +51,7 @@ leads_then {v} {w} {m} {n} {o} {k} {k'} {k''} {l} {l'} {l''} {x} {y} a b = recor
 }
 
 -- the same, with the definition in another form
-pub leads_same : {v : Went State} {m n : Machine} {k k' : Kernel} {l l' : List Seen} {x : Volumes} (w : Went State) → v.now ≡ w.now → ((line : ℕ) → bytes_on line v.puts ≡ bytes_on line w.puts) → Leads v m k l n k' x l' → Leads w m k l n k' x l'
+pub leads_same : {v : Went SystemState} {m n : Machine} {k k' : Kernel} {l l' : List Seen} {x : Volumes} (w : Went SystemState) → v.now ≡ w.now → ((line : ℕ) → bytes_on line v.puts ≡ bytes_on line w.puts) → Leads v m k l n k' x l' → Leads w m k l n k' x l'
 leads_same {v} {m} {n} {k} {k'} {l} {l'} {x} w now puts a = record {
   state = a.state ∙ now;
   shows = shows_same k.marks k'.marks l l' (λ line. bytes_on line v.puts) (λ line. bytes_on line w.puts) puts a.shows;
@@ -63,7 +63,7 @@ leads_same {v} {m} {n} {k} {k'} {l} {l'} {x} w now puts a = record {
 }
 
 -- nothing happens
-pub leads_none : (m : Machine) (k : Kernel) (l : List Seen) (x : Volumes) → IsKernel m.memory k → Leads (record { now = state_of m.memory k x; puts = [] }) m k l m k x l
+pub leads_none : (m : Machine) (k : Kernel) (l : List Seen) (x : Volumes) → IsKernel m.memory k → Leads (record { now = kernel_state m.memory k x; puts = [] }) m k l m k x l
 leads_none m k l x h = record {
   state = refl;
   shows = shows_none k.marks l;
@@ -75,7 +75,7 @@ leads_none m k l x h = record {
 }
 
 -- something is shown
-pub leads_shown : (m : Machine) (k : Kernel) (marks' : List Bool) (l l' : List Seen) (x : Volumes) (puts : List Put) → IsKernel m.memory k → Shows k.marks marks' l l' (λ line. bytes_on line puts) → Leads (record { now = state_of m.memory k x; puts = puts }) m k l m (record k { marks = marks' }) x l'
+pub leads_shown : (m : Machine) (k : Kernel) (marks' : List Bool) (l l' : List Seen) (x : Volumes) (puts : List Put) → IsKernel m.memory k → Shows k.marks marks' l l' (λ line. bytes_on line puts) → Leads (record { now = kernel_state m.memory k x; puts = puts }) m k l m (record k { marks = marks' }) x l'
 leads_shown m k marks' l l' x puts h shows = record {
   state = refl;
   shows = shows;
@@ -87,10 +87,10 @@ leads_shown m k marks' l l' x puts h shows = record {
 }
 
 -- a guest is changed, in this machine
-changed_guest : (m m' : Machine) (k : Kernel) (guests' : Vec Kept Global) (port' : Keeps) (l : List Seen) (x : Volumes) (place : ℕ) (f : Guest → Guest) → IsKernel m.memory k → ChangesOne k.config.guests place f m k.guests.items m' guests'.items → m' ≡ record m { memory = m'.memory }
-    → Leads (record { now = record (state_of m.memory k x) { guests = changed f (guests_in m.memory k.guests.items) place }; puts = [] }) m k l m' (record k { guests = guests'; port = port' }) x l
+changed_guest : (m m' : Machine) (k : Kernel) (guests' : Vec Kept Global) (port' : KeptOutput) (l : List Seen) (x : Volumes) (place : ℕ) (f : Guest → Guest) → IsKernel m.memory k → ChangesOne k.config.guests place f m k.guests.items m' guests'.items → m' ≡ record m { memory = m'.memory }
+    → Leads (record { now = record (kernel_state m.memory k x) { guests = changed f (guests_in m.memory k.guests.items) place }; puts = [] }) m k l m' (record k { guests = guests'; port = port' }) x l
 changed_guest m m' k guests' port' l x place f h c rest = record {
-  state = λ i. record (state_of m.memory k x) { guests = c.guests i };
+  state = λ i. record (kernel_state m.memory k x) { guests = c.guests i };
   shows = shows_none k.marks l;
   holds = kernel_holds m'.memory (record k { guests = guests'; port = port' }) h.accepted c.stay (server_holds m.memory k h);
   config = refl;
@@ -99,23 +99,23 @@ changed_guest m m' k guests' port' l x place f h c rest = record {
   size = c.size;
 }
 
-pub leads_turned : (m : Machine) (k : Kernel) (guests' : Vec Kept Global) (port' : Keeps) (l : List Seen) (x : Volumes) (place : ℕ) (f : Guest → Guest) → IsKernel m.memory k → TakesStateAt place f k.guests.items guests'.items
-    → Leads (record { now = record (state_of m.memory k x) { guests = changed f (guests_in m.memory k.guests.items) place }; puts = [] }) m k l m (record k { guests = guests'; port = port' }) x l
+pub leads_turned : (m : Machine) (k : Kernel) (guests' : Vec Kept Global) (port' : KeptOutput) (l : List Seen) (x : Volumes) (place : ℕ) (f : Guest → Guest) → IsKernel m.memory k → TakesStateAt place f k.guests.items guests'.items
+    → Leads (record { now = record (kernel_state m.memory k x) { guests = changed f (guests_in m.memory k.guests.items) place }; puts = [] }) m k l m (record k { guests = guests'; port = port' }) x l
 leads_turned m k guests' port' l x place f h turns = changed_guest m m k guests' port' l x place f h (turns k.config.guests m h.placed) refl
 
 pub leads_started : (m m' : Machine) (k : Kernel) (guests' : Vec Kept Global) (l : List Seen) (x : Volumes) (place : ℕ) (row : GuestRow) → IsKernel m.memory k → slice_get k.config.guests place ≡ Some row → StartsOne place m k.guests.items m' guests'.items → m' ≡ record m { memory = m'.memory }
-    → Leads (record { now = record (state_of m.memory k x) { guests = changed (reset row) (guests_in m.memory k.guests.items) place }; puts = [] }) m k l m' (record k { guests = guests' }) x l
+    → Leads (record { now = record (kernel_state m.memory k x) { guests = changed (reset row) (guests_in m.memory k.guests.items) place }; puts = [] }) m k l m' (record k { guests = guests' }) x l
 leads_started m m' k guests' l x place row h is starts rest = changed_guest m m' k guests' k.port l x place (reset row) h (starts k.config.guests row h.placed is) rest
 
 -- the server does what is granted
 pub leads_served : (m : Machine) (k : Kernel) (l : List Seen) (x : Volumes) (n : ℕ) (command : Command) → IsKernel m.memory k → n < length k.config.terminals → HasPlaces command → Names k.config command
-    → Leads (server_obeyed n command (state_of m.memory k x)) m k l m (record k { server = applied k.server n command }) x l
+    → Leads (server_obeyed n command (kernel_state m.memory k x)) m k l m (record k { server = applied k.server n command }) x l
 leads_served m k l x n command h there places names =
     let running : List Bool = map is_running (guests_in m.memory k.guests.items) in
     let connected = same_consoles k.config k.server running n command in
     let mounts = same_units k.config k.server running n command names in
     record {
-      state = λ i. record (state_of m.memory k x) { connected = connected i; mounts = mounts i };
+      state = λ i. record (kernel_state m.memory k x) { connected = connected i; mounts = mounts i };
       shows = shows_none k.marks l;
       holds = kernel_holds m.memory (record k { server = applied k.server n command }) h.accepted h.placed (still_server k.config k.server n command there places names (server_holds m.memory k h));
       config = refl;
@@ -126,11 +126,11 @@ leads_served m k l x n command h there places names =
 
 -- a terminal is disconnected
 pub leads_disconnected : (m : Machine) (k : Kernel) (l : List Seen) (x : Volumes) (n : ℕ) → IsKernel m.memory k → n < length k.config.terminals
-    → Leads (record { now = record (state_of m.memory k x) { connected = slice_set (take (length k.config.terminals) k.server.at) n None }; puts = [] }) m k l m (record k { server = record k.server { at = slice_set k.server.at n None } }) x l
+    → Leads (record { now = record (kernel_state m.memory k x) { connected = slice_set (take (length k.config.terminals) k.server.at) n None }; puts = [] }) m k l m (record k { server = record k.server { at = slice_set k.server.at n None } }) x l
 leads_disconnected m k l x n h there =
     let connected = take_set (length k.config.terminals) k.server.at n None in
     record {
-      state = λ i. record (state_of m.memory k x) { connected = connected i };
+      state = λ i. record (kernel_state m.memory k x) { connected = connected i };
       shows = shows_none k.marks l;
       holds = kernel_holds m.memory (record k { server = record k.server { at = slice_set k.server.at n None } }) h.accepted h.placed (disconnected k.config k.server n there (server_holds m.memory k h));
       config = refl;

@@ -3,7 +3,7 @@ use Rattle.std.proofs.Common.{ℕ, ◌≡◌, ◌<◌, List, [], ◌∷◌, ◌+
 use Rattle.std.specs.Prelude.{Vec}
 use Rattle.std.specs.declared.alloc.Global.{Global}
 use Rattle.vax_hw.specs.Machine.{Machine}
-use Rattle.vm_console.specs.Kept.{Keeps}
+use Rattle.vm_console.specs.Kept.{KeptOutput}
 use Rattle.vm_guest.specs.Kept.{Kept}
 use Rattle.vm_state.specs.State.{Guest}
 use Rattle.vv_io.specs.Lines.{Seen}
@@ -11,21 +11,21 @@ use Rattle.sys_events.proofs.Leading.{kernel_holds, leads_none, leads_same, lead
 use Rattle.sys_events.proofs.Lists.{get_within}
 use Rattle.sys_events.proofs.Seats.{same_took, same_verdict, still_server}
 use Rattle.sys_events.proofs.Telling.{console_in_front, console_told, told_then, who_runs}
-use Rattle.sys_events.specs.Happens.{Does, DoesAnywhere, DoesUnseen, asked_at, asked_at_row, carried_out, guest_halted, guest_typed, guests_obeyed, server_obeyed, shown_before}
+use Rattle.sys_events.specs.Happens.{Does, DoesAnywhere, DoesUnseen, asked_at, asked_at_row, guest_halted, guest_typed, guests_obeyed, server_obeyed, shown_before, verdict_carried_out}
 use Rattle.sys_events.specs.Saying.{answers, audits, puts_on, runs, show_lines}
 use Rattle.sys_events.specs.Seats.{Names, took}
 use Rattle.sys_guests.specs.Changes.{StartsOne, StopShows, TakesStateAt}
-use Rattle.sys_guests.specs.Kernel.{IsKernel, Leads, state_of}
+use Rattle.sys_guests.specs.Kernel.{IsKernel, Leads, kernel_state}
 use Rattle.sys_guests.specs.declared.kernel.Kernel.{Kernel}
 use Rattle.sys_lines.specs.Shows.{Shows, only_on}
 use Rattle.sys_objects.specs.declared.records.Config.{Config}
 use Rattle.sys_objects.specs.declared.records.GuestRow.{GuestRow}
 use Rattle.sys_objects.specs.declared.records.Terminal.{Terminal}
-use Rattle.sys_rounds.specs.Consoles.{console_of}
-use Rattle.sys_rounds.specs.Events.{after_verdict, audit_puts, commanded, guests_by, message_of, puts_before, puts_behind, reset_by, said_on, stop_puts, taken_puts}
-use Rattle.sys_rounds.specs.Guests.{reset, stopped_by_command, typed}
-use Rattle.sys_rounds.specs.Places.{changed}
-use Rattle.sys_rounds.specs.State.{Put, State, bytes_on, is_running, server_of}
+use Rattle.sys_state.specs.Consoles.{console_of}
+use Rattle.sys_state.specs.Events.{after_verdict, audit_puts, commanded, guests_by, message_of, puts_after_verdict, puts_before, reset_by, said_on, stop_puts, taken_puts}
+use Rattle.sys_state.specs.Guests.{reset, stopped_by_command, typed}
+use Rattle.sys_state.specs.Places.{changed}
+use Rattle.sys_state.specs.State.{Put, SystemState, bytes_on, is_running, server_of}
 use Rattle.sys_server.specs.Apply.{HasPlaces, applied, taken}
 use Rattle.sys_server.specs.Replies.{reply_of, shown_lines}
 use Rattle.sys_server.specs.Verdict.{verdict_of}
@@ -40,10 +40,10 @@ pub guest_types : (k : Kernel) (guests' : Vec Kept Global) (g : ℕ) (text : Lis
 guest_types k guests' g text turns l m h x = leads_turned m k guests' k.port l x g (typed text) h turns
 
 -- a guest is stopped, and its console is shown that
-pub guest_halts : (k : Kernel) (guests' : Vec Kept Global) (port' : Keeps) (marks' : List Bool) (l l' : List Seen) (g : ℕ) (console : Option ℕ) (bytes : List ℕ) → TakesStateAt g stopped_by_command k.guests.items guests'.items → StopShows g k.guests.items bytes
+pub guest_halts : (k : Kernel) (guests' : Vec Kept Global) (port' : KeptOutput) (marks' : List Bool) (l l' : List Seen) (g : ℕ) (console : Option ℕ) (bytes : List ℕ) → TakesStateAt g stopped_by_command k.guests.items guests'.items → StopShows g k.guests.items bytes
     → console ≡ console_of k.config.terminals k.server.at g → Shows k.marks marks' l l' (only_on console bytes) → DoesAnywhere (guest_halted k.config g) k l (record k { guests = guests'; port = port'; marks = marks' }) l'
 guest_halts k guests' port' marks' l l' g console bytes turns said at shows m h x =
-    let s : State = state_of m.memory k x in
+    let s : SystemState = kernel_state m.memory k x in
     let turned = leads_turned m k guests' port' l x g stopped_by_command h turns in
     let place : console ≡ console_of k.config.terminals s.connected g = at ∙ sym (console_in_front k.config.terminals k.server.at g) in
     let told = console_told k.marks marks' l l' console (console_of k.config.terminals s.connected g) bytes (message_of (slice_get s.guests g)) place (said m.memory) shows in
@@ -51,9 +51,9 @@ guest_halts k guests' port' marks' l l' g console bytes turns said at shows m h 
 
 -- nothing is shown before the replies of other commands
 abbrev pub IsQuiet : Verdict → Type 0
-IsQuiet v = (c : Config) (s : State) (t : Terminal) → puts_before c s t v ≡ []
+IsQuiet v = (c : Config) (s : SystemState) (t : Terminal) → puts_before c s t v ≡ []
 
-quiet : (c : Config) (s : State) (o : Option Terminal) (v : Verdict) → IsQuiet v → shown_before c s o v ≡ []
+quiet : (c : Config) (s : SystemState) (o : Option Terminal) (v : Verdict) → IsQuiet v → shown_before c s o v ≡ []
 quiet c s None v none = refl
 quiet c s (Some t) v none = none c s t
 
@@ -61,7 +61,7 @@ quiet c s (Some t) v none = none c s t
 pub starts : (m m' : Machine) (k : Kernel) (guests' : Vec Kept Global) (l : List Seen) (n g : ℕ) → IsKernel m.memory k → g < length k.config.guests → StartsOne g m k.guests.items m' guests'.items → m' ≡ record m { memory = m'.memory }
     → Does (guests_obeyed k.config n (Start g)) m k l m' (record k { guests = guests' }) l
 starts m m' k guests' l n g h there start rest x =
-    let s : State = state_of m.memory k x in
+    let s : SystemState = kernel_state m.memory k x in
     let (row, is) = get_within k.config.guests g there in
     let gs : List Guest = s.guests in
     let by_row : changed (reset row) gs g ≡ changed (reset_by (slice_get k.config.guests g)) gs g = ap (λ (o : Option GuestRow). changed (reset_by o) gs g) (sym is) in
@@ -71,19 +71,19 @@ starts m m' k guests' l n g h there start rest x =
 -- HALT
 pub halts : (m : Machine) (k k' : Kernel) (l l' : List Seen) (n g : ℕ) → IsKernel m.memory k → n < length k.config.terminals → DoesAnywhere (guest_halted k.config g) k l k' l' → Does (guests_obeyed k.config n (Halt g)) m k l m k' l'
 halts m k k' l l' n g h there does x =
-    let s : State = state_of m.memory k x in
+    let s : SystemState = kernel_state m.memory k x in
     let (t, is) = get_within k.config.terminals n there in
     leads_same (guests_obeyed k.config n (Halt g) s) refl (λ line. ap (λ (o : Option Terminal). bytes_on line (shown_before k.config s o (Granted (Halt g)))) (sym is)) (does m h x)
 
 -- SHOW
-shown_same : (c : Config) (s : State) (ks : List Kept) (o : Option Terminal) → map is_running s.guests ≡ map runs ks → show_lines c ks o ≡ shown_before c s o (Granted Show)
+shown_same : (c : Config) (s : SystemState) (ks : List Kept) (o : Option Terminal) → map is_running s.guests ≡ map runs ks → show_lines c ks o ≡ shown_before c s o (Granted Show)
 shown_same c s ks None e = refl
 shown_same c s ks (Some t) e = ap (λ (rs : List Bool). puts_on t.line (shown_lines c (record { at = []; mounts = []; running = rs }) t.class)) (sym e)
 
 pub shows_all : (m : Machine) (k : Kernel) (marks' : List Bool) (l l' : List Seen) (n : ℕ) (ks : List Kept) → IsKernel m.memory k → ks ≡ k.guests.items → Shows k.marks marks' l l' (λ line. bytes_on line (show_lines k.config ks (slice_get k.config.terminals n)))
     → Does (guests_obeyed k.config n Show) m k l m (record k { marks = marks' }) l'
 shows_all m k marks' l l' n ks h same shows x =
-    let s : State = state_of m.memory k x in
+    let s : SystemState = kernel_state m.memory k x in
     let o : Option Terminal = slice_get k.config.terminals n in
     leads_same (guests_obeyed k.config n Show s) refl (λ line. ap (λ (ps : List Put). bytes_on line ps) (shown_same k.config s ks o (who_runs m.memory k.guests.items ∙ ap (map runs) (sym same))))
     (leads_shown m k marks' l l' x (show_lines k.config ks o) h shows)
@@ -91,12 +91,12 @@ shows_all m k marks' l l' n ks h same shows x =
 -- the others do nothing to guests
 pub rests : (m : Machine) (k : Kernel) (l : List Seen) (n : ℕ) (command : Command) → IsKernel m.memory k → ((c : Config) (gs : List Guest) → gs ≡ guests_by c command gs) → IsQuiet (Granted command) → Does (guests_obeyed k.config n command) m k l m k l
 rests m k l n command h same none x =
-    let s : State = state_of m.memory k x in
+    let s : SystemState = kernel_state m.memory k x in
     leads_same (guests_obeyed k.config n command s) (λ i. record s { guests = same k.config s.guests i }) (λ line. ap (λ (ps : List Put). bytes_on line ps) (sym (quiet k.config s (slice_get k.config.terminals n) (Granted command) none)))
     (leads_none m k l x h)
 
 -- what is shown before the reply is the same after the server's part
-before_same : (c : Config) (s : State) (n : ℕ) (command : Command) (o : Option Terminal) → shown_before c (server_obeyed n command s).now o (Granted command) ≡ shown_before c s o (Granted command)
+before_same : (c : Config) (s : SystemState) (n : ℕ) (command : Command) (o : Option Terminal) → shown_before c (server_obeyed n command s).now o (Granted command) ≡ shown_before c s o (Granted command)
 unfolding applied
 before_same c s n command None = refl
 before_same c s n (Connect g) (Some t) = refl
@@ -108,30 +108,30 @@ before_same c s n Show (Some t) = refl
 
 -- a granted command: the server's part, and then the guests'
 pub obeys : (m m' : Machine) (k k' : Kernel) (l l' : List Seen) (n : ℕ) (command : Command) → IsKernel m.memory k → n < length k.config.terminals → HasPlaces command → Names k.config command
-    → Does (guests_obeyed k.config n command) m (record k { server = applied k.server n command }) l m' k' l' → Does (carried_out k.config n (Granted command)) m k l m' k' l'
+    → Does (guests_obeyed k.config n command) m (record k { server = applied k.server n command }) l m' k' l' → Does (verdict_carried_out k.config n (Granted command)) m k l m' k' l'
 obeys m m' k k' l l' n command h there places names does x =
     let c : Config = k.config in
-    let s : State = state_of m.memory k x in
+    let s : SystemState = kernel_state m.memory k x in
     let k1 : Kernel = record k { server = applied k.server n command } in
     let served = leads_served m k l x n command h there places names in
-    let acted : Leads (guests_obeyed c n command (server_obeyed n command s).now) m k1 l m' k' x l' = subst (λ (z : State). Leads (guests_obeyed c n command z) m k1 l m' k' x l') served.state (does x) in
-    leads_same (carried_out c n (Granted command) s) refl (λ line. ap (λ (ps : List Put). bytes_on line ps) (before_same c s n command (slice_get c.terminals n))) (leads_then served acted)
+    let acted : Leads (guests_obeyed c n command (server_obeyed n command s).now) m k1 l m' k' x l' = subst (λ (z : SystemState). Leads (guests_obeyed c n command z) m k1 l m' k' x l') served.state (does x) in
+    leads_same (verdict_carried_out c n (Granted command) s) refl (λ line. ap (λ (ps : List Put). bytes_on line ps) (before_same c s n command (slice_get c.terminals n))) (leads_then served acted)
 
 -- any other verdict does nothing
-pub refuses : (m : Machine) (k : Kernel) (l : List Seen) (n : ℕ) (v : Verdict) → IsKernel m.memory k → ((c : Config) (s : State) → s ≡ after_verdict c s n v) → IsQuiet v → Does (carried_out k.config n v) m k l m k l
+pub refuses : (m : Machine) (k : Kernel) (l : List Seen) (n : ℕ) (v : Verdict) → IsKernel m.memory k → ((c : Config) (s : SystemState) → s ≡ after_verdict c s n v) → IsQuiet v → Does (verdict_carried_out k.config n v) m k l m k l
 refuses m k l n v h same none x =
-    let s : State = state_of m.memory k x in
-    leads_same (carried_out k.config n v s) (same k.config s) (λ line. ap (λ (ps : List Put). bytes_on line ps) (sym (quiet k.config s (slice_get k.config.terminals n) v none))) (leads_none m k l x h)
+    let s : SystemState = kernel_state m.memory k x in
+    leads_same (verdict_carried_out k.config n v s) (same k.config s) (λ line. ap (λ (ps : List Put). bytes_on line ps) (sym (quiet k.config s (slice_get k.config.terminals n) v none))) (leads_none m k l x h)
 
 -- whose console a verdict takes
-puts_taken : (c : Config) (s : State) (n : ℕ) (v : Verdict) → taken_puts c (took (server_of s) n v) ≡ puts_behind c s n v
+puts_taken : (c : Config) (s : SystemState) (n : ℕ) (v : Verdict) → taken_puts c (took (server_of s) n v) ≡ puts_after_verdict c s n v
 puts_taken c s n (Granted command) = refl
 puts_taken c s n BadCommand = refl
 puts_taken c s n NoSuchObject = refl
 puts_taken c s n (Denied rule) = refl
 
 -- a command's puts, in order
-order : (c : Config) (round : ℕ) (s : State) (n : ℕ) (t : Terminal) (text : List ℕ) (v : Verdict) (o : Option Terminal) (taken : Option ℕ) → o ≡ Some t → taken_puts c taken ≡ puts_behind c s n v
+order : (c : Config) (round : ℕ) (s : SystemState) (n : ℕ) (t : Terminal) (text : List ℕ) (v : Verdict) (o : Option Terminal) (taken : Option ℕ) → o ≡ Some t → taken_puts c taken ≡ puts_after_verdict c s n v
     → shown_before c s o v ++ (answers c o v taken ++ audits c round o text v) ≡ (commanded c round s n t text v).puts
 order c round s n t text v o taken is behind =
     let before = puts_before c s t v in
@@ -139,24 +139,24 @@ order c round s n t text v o taken is behind =
     let audit = audit_puts c.audit round t text v in
     ap (λ (o : Option Terminal). shown_before c s o v ++ (answers c o v taken ++ audits c round o text v)) is
     ∙ ap (λ (ps : List Put). before ++ ((said ∷ ps) ++ audit)) behind
-    ∙ sym (append_assoc before (said ∷ puts_behind c s n v) audit)
+    ∙ sym (append_assoc before (said ∷ puts_after_verdict c s n v) audit)
 
 -- a command is carried out, replied to, and audited
 pub commands : (m m' : Machine) (k k' : Kernel) (a b : List Bool) (l l' l'' l''' : List Seen) (round n : ℕ) (text : List ℕ) (v : Verdict) (taken : Option ℕ) → IsKernel m.memory k → n < length k.config.terminals → v ≡ verdict_of k.config k.server n text → taken ≡ took k.server n v
-    → Does (carried_out k.config n v) m k l m' k' l'
+    → Does (verdict_carried_out k.config n v) m k l m' k' l'
     → Shows k'.marks a l' l'' (λ line. bytes_on line (answers k'.config (slice_get k'.config.terminals n) v taken))
     → Shows a b l'' l''' (λ line. bytes_on line (audits k'.config round (slice_get k'.config.terminals n) text v))
     → Does (asked_at k.config round n text) m k l m' (record k' { marks = b }) l'''
 commands m m' k k' a b l l' l'' l''' round n text v taken h there judged takes does replies audit x =
     let c : Config = k.config in
-    let s : State = state_of m.memory k x in
+    let s : SystemState = kernel_state m.memory k x in
     let running : List Bool = map is_running s.guests in
     let (t, is) = get_within c.terminals n there in
     let carried = does x in
     let puts : Config → List Put = λ c'. answers c' (slice_get c'.terminals n) v taken ++ audits c' round (slice_get c'.terminals n) text v in
     let told = told_then k'.marks a b l' l'' l''' (answers k'.config (slice_get k'.config.terminals n) v taken) (audits k'.config round (slice_get k'.config.terminals n) text v) (puts k'.config) refl replies audit in
     let whole = leads_then carried (leads_shown m' k' b l' l''' x (puts k'.config) carried.holds told) in
-    let behind : taken_puts c taken ≡ puts_behind c s n v = ap (taken_puts c) (takes ∙ sym (same_took c k.server running (server_holds m.memory k h) n there v)) ∙ puts_taken c s n v in
+    let behind : taken_puts c taken ≡ puts_after_verdict c s n v = ap (taken_puts c) (takes ∙ sym (same_took c k.server running (server_holds m.memory k h) n there v)) ∙ puts_taken c s n v in
     let e : shown_before c s (slice_get c.terminals n) v ++ puts k'.config ≡ (commanded c round s n t text v).puts =
     ap (λ (c' : Config). shown_before c s (slice_get c.terminals n) v ++ puts c') carried.config ∙ order c round s n t text v (slice_get c.terminals n) taken is behind in
     let asked : Leads (commanded c round s n t text v) m k l m' (record k' { marks = b }) x l''' = leads_same (commanded c round s n t text v) carried.state (λ line. ap (λ (ps : List Put). bytes_on line ps) e) whole in
@@ -171,7 +171,7 @@ served_holds memory k server' n command h there places names is =
     subst (λ (s : ServerState). IsKernel memory (record k { server = s })) (sym is) made
 
 pub obeys_by : (m m' : Machine) (k k' : Kernel) (server' : ServerState) (l l' : List Seen) (n : ℕ) (command : Command) → IsKernel m.memory k → n < length k.config.terminals → HasPlaces command → Names k.config command → server' ≡ applied k.server n command
-    → Does (guests_obeyed k.config n command) m (record k { server = server' }) l m' k' l' → Does (carried_out k.config n (Granted command)) m k l m' k' l'
+    → Does (guests_obeyed k.config n command) m (record k { server = server' }) l m' k' l' → Does (verdict_carried_out k.config n (Granted command)) m k l m' k' l'
 obeys_by m m' k k' server' l l' n command h there places names is does =
     obeys m m' k k' l l' n command h there places names (subst (λ (s : ServerState). Does (guests_obeyed k.config n command) m (record k { server = s }) l m' k' l') is does)
 
@@ -179,8 +179,8 @@ obeys_by m m' k k' server' l l' n command h there places names is does =
 pub as_command : (m m' : Machine) (k k' : Kernel) (l l' : List Seen) (n : ℕ) (command known : Command) → command ≡ known → Does (guests_obeyed k.config n known) m k l m' k' l' → Does (guests_obeyed k.config n command) m k l m' k' l'
 as_command m m' k k' l l' n command known is does = subst (λ (d : Command). Does (guests_obeyed k.config n d) m k l m' k' l') (sym is) does
 
-pub as_verdict : (m m' : Machine) (k k' : Kernel) (l l' : List Seen) (n : ℕ) (v known : Verdict) → v ≡ known → Does (carried_out k.config n known) m k l m' k' l' → Does (carried_out k.config n v) m k l m' k' l'
-as_verdict m m' k k' l l' n v known is does = subst (λ (w : Verdict). Does (carried_out k.config n w) m k l m' k' l') (sym is) does
+pub as_verdict : (m m' : Machine) (k k' : Kernel) (l l' : List Seen) (n : ℕ) (v known : Verdict) → v ≡ known → Does (verdict_carried_out k.config n known) m k l m' k' l' → Does (verdict_carried_out k.config n v) m k l m' k' l'
+as_verdict m m' k k' l l' n v known is does = subst (λ (w : Verdict). Does (verdict_carried_out k.config n w) m k l m' k' l') (sym is) does
 
 pub names_known : (c : Config) (command known : Command) → command ≡ known → Names c command → Names c known
 names_known c command known is names = subst (Names c) is names

@@ -17,9 +17,9 @@ use Rattle.sys_objects.specs.declared.records.PrinterRow.{PrinterRow}
 use Rattle.sys_objects.specs.declared.records.Terminal.{Terminal}
 use Rattle.sys_objects.specs.declared.records.VolumeRow.{VolumeRow}
 use Rattle.sys_events.proofs.Telling.{one_told}
-use Rattle.sys_audit.specs.Audit.{audit_of}
-use Rattle.sys_rounds.specs.Events.{audit_puts, said_on, taken_puts, told}
-use Rattle.sys_rounds.specs.State.{Put, bytes_on}
+use Rattle.sys_audit.specs.Audit.{audit_record}
+use Rattle.sys_state.specs.Events.{audit_puts, said_on, taken_notice, taken_puts}
+use Rattle.sys_state.specs.State.{Put, bytes_on}
 use Rattle.sys_server.specs.Replies.{guest_lines, printer_line, reply_of, taken_text, volume_line}
 use Rattle.sys_server.specs.declared.command.Verdict.{Verdict}
 
@@ -36,10 +36,10 @@ line_of ks n t all is = let one = all_get IsTerminal ks n t all is in omega (ari
 
 -- whose console is taken
 pub taken_past : (c : Config) (o : Option ℕ) (k : ℕ) → o ≡ Some k → length c.terminals ≤ k → taken_puts c o ≡ []
-taken_past c o k e past = ap (taken_puts c) e ∙ ap told (get_past c.terminals k past)
+taken_past c o k e past = ap (taken_puts c) e ∙ ap taken_notice (get_past c.terminals k past)
 
 pub taken_there : (c : Config) (o : Option ℕ) (k : ℕ) (t : Terminal) → o ≡ Some k → slice_get c.terminals k ≡ Some t → said_on t.line taken_text ∷ [] ≡ taken_puts c o
-taken_there c o k t e is = sym (ap (taken_puts c) e ∙ ap told is)
+taken_there c o k t e is = sym (ap (taken_puts c) e ∙ ap taken_notice is)
 
 -- a reply, and then what another terminal is told
 pub answered : (a b c : List Bool) (l m n : List Seen) (config : Config) (place : ℕ) (t : Terminal) (v : Verdict) (taken : Option ℕ) (text : List ℕ) → slice_get config.terminals place ≡ Some t → text ≡ reply_of v
@@ -49,12 +49,12 @@ answered a b c l m n config place t v taken text is same first second =
     (ap (λ (xs : List ℕ). said_on t.line xs ∷ taken_puts config taken) same ∙ ap (λ (o : Option Terminal). answers config o v taken) (sym is)) first second
 
 -- an audit
-pub audited : (a b : List Bool) (l m : List Seen) (config : Config) (round place : ℕ) (t : Terminal) (text : List ℕ) (v : Verdict) (audit : Audit) (bytes : List ℕ) → slice_get config.terminals place ≡ Some t → config.audit ≡ Some audit → bytes ≡ audit_of round t text v
+pub audited : (a b : List Bool) (l m : List Seen) (config : Config) (round place : ℕ) (t : Terminal) (text : List ℕ) (v : Verdict) (audit : Audit) (bytes : List ℕ) → slice_get config.terminals place ≡ Some t → config.audit ≡ Some audit → bytes ≡ audit_record round t text v
     → Shows a b l m (only_on (Some audit.line) bytes) → Shows a b l m (λ k. bytes_on k (audits config round (slice_get config.terminals place) text v))
 audited a b l m config round place t text v audit bytes is has same shows =
-    same_puts a b l m (one_put audit.line (audit_of round t text v)) (audits config round (slice_get config.terminals place) text v)
+    same_puts a b l m (one_put audit.line (audit_record round t text v)) (audits config round (slice_get config.terminals place) text v)
     (ap (λ (o : Option Audit). audit_puts o round t text v) (sym has) ∙ ap (λ (o : Option Terminal). audits config round o text v) (sym is))
-    (one_told a b l m audit.line bytes (audit_of round t text v) same shows)
+    (one_told a b l m audit.line bytes (audit_record round t text v) same shows)
 
 pub not_audited : (a : List Bool) (l : List Seen) (config : Config) (round place : ℕ) (t : Terminal) (text : List ℕ) (v : Verdict) → slice_get config.terminals place ≡ Some t → config.audit ≡ None → Shows a a l l (λ k. bytes_on k (audits config round (slice_get config.terminals place) text v))
 not_audited a l config round place t text v is none =

@@ -14,10 +14,10 @@ use Rattle.sys_objects.specs.declared.records.GuestRow.{GuestRow}
 use Rattle.sys_objects.specs.declared.records.Mount.{Mount as Mounted}
 use Rattle.sys_objects.specs.declared.records.Terminal.{Terminal}
 use Rattle.sys_objects.specs.declared.records.VolumeRow.{VolumeRow}
-use Rattle.sys_rounds.proofs.Places.{both}
+use Rattle.sys_state.proofs.Places.{both}
 use Rattle.sys_server.specs.Apply.{HasPlaces, applied, freed, is_guest, taken, with_mount}
-use Rattle.sys_server.specs.Line.{asked_in}
-use Rattle.sys_server.specs.Verdict.{guest_place, judged, judged_at, judged_line, mount_at, on_dismount, on_guest, on_mount, on_row, on_rows, unless_empty, verdict_of, volume_place}
+use Rattle.sys_server.specs.CommandLine.{asked_in}
+use Rattle.sys_server.specs.Verdict.{judged, judged_at, judged_line, mount_at, on_dismount, on_guest, on_mount, on_row, on_rows, unless_empty, verdict_of, visible_guest_place, visible_volume_place}
 use Rattle.sys_server.specs.declared.command.Asked.{Asked}
 use Rattle.sys_server.specs.declared.command.Asked.TheVariants.{Connect, Start, Halt, Mount, Dismount, Show}
 use Rattle.sys_server.specs.declared.command.Command.{Command}
@@ -71,11 +71,11 @@ module _ (c : Config) where
   names_asked : (s : ServerState) (class : AccessClass) (asked : Option Asked) → VerdictNames c (judged_line c s class asked)
   unfolding judged
   names_asked s class None = tt
-  names_asked s class (Some (Connect vm)) = names_guest class to_.Connect (λ g h. h) (guest_place c.guests class vm)
-  names_asked s class (Some (Start vm)) = names_guest class to_.Start (λ g h. h) (guest_place c.guests class vm)
-  names_asked s class (Some (Halt vm)) = names_guest class to_.Halt (λ g h. h) (guest_place c.guests class vm)
-  names_asked s class (Some (Mount vm unit volume write)) = names_mount class unit write (guest_place c.guests class vm) (volume_place c.volumes class volume)
-  names_asked s class (Some (Dismount vm unit)) = names_dismount s class unit (guest_place c.guests class vm)
+  names_asked s class (Some (Connect vm)) = names_guest class to_.Connect (λ g h. h) (visible_guest_place c.guests class vm)
+  names_asked s class (Some (Start vm)) = names_guest class to_.Start (λ g h. h) (visible_guest_place c.guests class vm)
+  names_asked s class (Some (Halt vm)) = names_guest class to_.Halt (λ g h. h) (visible_guest_place c.guests class vm)
+  names_asked s class (Some (Mount vm unit volume write)) = names_mount class unit write (visible_guest_place c.guests class vm) (visible_volume_place c.volumes class volume)
+  names_asked s class (Some (Dismount vm unit)) = names_dismount s class unit (visible_guest_place c.guests class vm)
   names_asked s class (Some Show) = tt
 
   names_at : (s : ServerState) (o : Option Terminal) (text : List ℕ) → VerdictNames c (judged_at c s o text)
@@ -113,7 +113,7 @@ module _ (c : Config) where
     same_line class (Some (Start vm)) = refl
     same_line class (Some (Halt vm)) = refl
     same_line class (Some (Mount vm unit volume write)) = refl
-    same_line class (Some (Dismount vm unit)) = same_dismount class unit (guest_place c.guests class vm)
+    same_line class (Some (Dismount vm unit)) = same_dismount class unit (visible_guest_place c.guests class vm)
     same_line class (Some Show) = refl
 
     same_at : (o : Option Terminal) (text : List ℕ) → judged_at c (seated c s running) o text ≡ judged_at c s o text

@@ -14,11 +14,11 @@ use Rattle.sys_lines.specs.Shows.{Shows, only_on}
 use Rattle.sys_objects.specs.Condition.{IsTerminal}
 use Rattle.sys_objects.specs.declared.records.GuestRow.{GuestRow}
 use Rattle.sys_objects.specs.declared.records.Terminal.{Terminal}
-use Rattle.sys_rounds.proofs.Consoles.{bytes_append, bytes_of_console}
-use Rattle.sys_rounds.proofs.Places.{both}
-use Rattle.sys_rounds.specs.Consoles.{console_of, on_console}
-use Rattle.sys_rounds.specs.Places.{is_at}
-use Rattle.sys_rounds.specs.State.{Put, bytes_on, is_running}
+use Rattle.sys_state.proofs.Consoles.{bytes_append, bytes_of_console}
+use Rattle.sys_state.proofs.Places.{both}
+use Rattle.sys_state.specs.Consoles.{console_of, on_console}
+use Rattle.sys_state.specs.Places.{is_at}
+use Rattle.sys_state.specs.State.{Put, bytes_on, is_running}
 use Rattle.sys_server.specs.Replies.{guest_lines}
 
 -- one put on a line

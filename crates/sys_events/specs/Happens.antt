@@ -2,15 +2,15 @@
 use Rattle.std.specs.Prelude.{ℕ, List, [], Option, Some, None, slice_get}
 use Rattle.vax_hw.specs.Machine.{Machine}
 use Rattle.vv_io.specs.Lines.{Seen}
-use Rattle.sys_guests.specs.Kernel.{IsKernel, Leads, state_of}
+use Rattle.sys_guests.specs.Kernel.{IsKernel, Leads, kernel_state}
 use Rattle.sys_guests.specs.declared.kernel.Kernel.{Kernel}
 use Rattle.sys_objects.specs.declared.records.Config.{Config}
 use Rattle.sys_objects.specs.declared.records.Terminal.{Terminal}
-use Rattle.sys_rounds.specs.Events.{after_verdict, at_row, commanded, events, guests_by, happened, puts_before, stop_puts}
-use Rattle.sys_rounds.specs.FirstTouches.{typing_starts}
-use Rattle.sys_rounds.specs.Guests.{stopped_by_command, typed}
-use Rattle.sys_rounds.specs.Places.{changed}
-use Rattle.sys_rounds.specs.State.{Put, State, Went, server_of}
+use Rattle.sys_state.specs.Events.{after_verdict, at_row, commanded, events, guests_by, happened, puts_before, stop_puts}
+use Rattle.sys_state.specs.FirstTouches.{typing_starts}
+use Rattle.sys_state.specs.Guests.{stopped_by_command, typed}
+use Rattle.sys_state.specs.Places.{changed}
+use Rattle.sys_state.specs.State.{Put, SystemState, Went, server_of}
 use Rattle.sys_script.specs.declared.event.Event.{Event}
 use Rattle.sys_script.specs.declared.event.Typed.TheVariants.{Break, Line}
 use Rattle.sys_server.specs.Apply.{applied}
@@ -20,15 +20,15 @@ use Rattle.sys_server.specs.declared.command.Verdict.{Verdict}
 use Rattle.sys_server.specs.declared.command.Verdict.TheVariants.{Granted}
 
 -- it leads to what f makes of the state
-abbrev pub Does : (f : State → Went State) (m : Machine) (k : Kernel) (lines : List Seen) (m' : Machine) (k' : Kernel) (lines' : List Seen) → Type 0
-Does f m k lines m' k' lines' = (volumes : List (List (List ℕ))) → Leads (f (state_of m.memory k volumes)) m k lines m' k' volumes lines'
+abbrev pub Does : (f : SystemState → Went SystemState) (m : Machine) (k : Kernel) (lines : List Seen) (m' : Machine) (k' : Kernel) (lines' : List Seen) → Type 0
+Does f m k lines m' k' lines' = (volumes : List (List (List ℕ))) → Leads (f (kernel_state m.memory k volumes)) m k lines m' k' volumes lines'
 
 -- it does so in every machine in which the kernel is, and leaves that as it was
-abbrev pub DoesAnywhere : (f : State → Went State) (k : Kernel) (lines : List Seen) (k' : Kernel) (lines' : List Seen) → Type 0
+abbrev pub DoesAnywhere : (f : SystemState → Went SystemState) (k : Kernel) (lines : List Seen) (k' : Kernel) (lines' : List Seen) → Type 0
 DoesAnywhere f k lines k' lines' = (m : Machine) → IsKernel m.memory k → Does f m k lines m k' lines'
 
 -- and the lines too
-abbrev pub DoesUnseen : (f : State → Went State) (k k' : Kernel) → Type 0
+abbrev pub DoesUnseen : (f : SystemState → Went SystemState) (k k' : Kernel) → Type 0
 DoesUnseen f k k' = (lines : List Seen) → DoesAnywhere f k lines k' lines
 
 -- a round's events, one after another, and one of them
@@ -39,44 +39,44 @@ abbrev pub Happens : (round : ℕ) (e : Event) (m : Machine) (k : Kernel) (lines
 Happens round e m k lines m' k' lines' = Does (λ s. happened k.config round s e) m k lines m' k' lines'
 
 -- a break and a line at the terminal of a place
-abbrev pub break_at : Config → ℕ → ℕ → State → Went State
+abbrev pub break_at : Config → ℕ → ℕ → SystemState → Went SystemState
 break_at c round n s = at_row c round s n (slice_get c.terminals n) Break
 
-abbrev pub line_at : Config → ℕ → ℕ → List ℕ → State → Went State
-line_at c round n text s = at_row c round s n (slice_get c.terminals n) (Line text)
+abbrev pub typed_line_at : Config → ℕ → ℕ → List ℕ → SystemState → Went SystemState
+typed_line_at c round n text s = at_row c round s n (slice_get c.terminals n) (Line text)
 
 -- the guest that such a line starts
-abbrev pub line_starts_at : Config → State → ℕ → List ℕ → Option ℕ
+abbrev pub line_starts_at : Config → SystemState → ℕ → List ℕ → Option ℕ
 line_starts_at c s n text = typing_starts c s n (Line text)
 
 -- a line that is a command
-abbrev pub asked_at_row : Config → ℕ → ℕ → List ℕ → State → Option Terminal → Went State
+abbrev pub asked_at_row : Config → ℕ → ℕ → List ℕ → SystemState → Option Terminal → Went SystemState
 asked_at_row c round n text s None = record { now = s; puts = [] }
 asked_at_row c round n text s (Some t) = commanded c round s n t text (verdict_of c (server_of s) n text)
 
-abbrev pub asked_at : Config → ℕ → ℕ → List ℕ → State → Went State
+abbrev pub asked_at : Config → ℕ → ℕ → List ℕ → SystemState → Went SystemState
 asked_at c round n text s = asked_at_row c round n text s (slice_get c.terminals n)
 
 -- what is shown before the reply
-abbrev pub shown_before : Config → State → Option Terminal → Verdict → List Put
+abbrev pub shown_before : Config → SystemState → Option Terminal → Verdict → List Put
 shown_before c s None v = []
 shown_before c s (Some t) v = puts_before c s t v
 
 -- a verdict is carried out, up to its reply
-abbrev pub carried_out : Config → ℕ → Verdict → State → Went State
-carried_out c n v s = record { now = after_verdict c s n v; puts = shown_before c s (slice_get c.terminals n) v }
+abbrev pub verdict_carried_out : Config → ℕ → Verdict → SystemState → Went SystemState
+verdict_carried_out c n v s = record { now = after_verdict c s n v; puts = shown_before c s (slice_get c.terminals n) v }
 
 -- what a granted command makes of the guests, with what is shown before the reply
-abbrev pub guests_obeyed : Config → ℕ → Command → State → Went State
+abbrev pub guests_obeyed : Config → ℕ → Command → SystemState → Went SystemState
 guests_obeyed c n command s = record { now = record s { guests = guests_by c command s.guests }; puts = shown_before c s (slice_get c.terminals n) (Granted command) }
 
 -- what it makes of consoles and mounts
-abbrev pub server_obeyed : ℕ → Command → State → Went State
+abbrev pub server_obeyed : ℕ → Command → SystemState → Went SystemState
 server_obeyed n command s = record { now = record s { connected = (applied (server_of s) n command).at; mounts = (applied (server_of s) n command).mounts }; puts = [] }
 
 -- a line is typed to a guest; a guest is stopped
-abbrev pub guest_typed : ℕ → List ℕ → State → Went State
+abbrev pub guest_typed : ℕ → List ℕ → SystemState → Went SystemState
 guest_typed g text s = record { now = record s { guests = changed (typed text) s.guests g }; puts = [] }
 
-abbrev pub guest_halted : Config → ℕ → State → Went State
+abbrev pub guest_halted : Config → ℕ → SystemState → Went SystemState
 guest_halted c g s = record { now = record s { guests = changed stopped_by_command s.guests g }; puts = stop_puts c s g }

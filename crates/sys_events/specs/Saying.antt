@@ -5,8 +5,8 @@ use Rattle.vv_class.specs.Class.{does_flow}
 use Rattle.sys_objects.specs.declared.records.Config.{Config}
 use Rattle.sys_objects.specs.declared.records.GuestRow.{GuestRow}
 use Rattle.sys_objects.specs.declared.records.Terminal.{Terminal}
-use Rattle.sys_rounds.specs.Events.{audit_puts, said_on, taken_puts}
-use Rattle.sys_rounds.specs.State.{Put}
+use Rattle.sys_state.specs.Events.{audit_puts, said_on, taken_puts}
+use Rattle.sys_state.specs.State.{Put}
 use Rattle.sys_server.specs.Replies.{with_line_end, object_text, reply_of, running_text, shown_lines}
 use Rattle.sys_server.specs.declared.command.Verdict.{Verdict}
 use Rattle.vm_guest.specs.Kept.{Kept}

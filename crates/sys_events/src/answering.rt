@@ -2,8 +2,8 @@ ghost use Rattle.std.specs.Prelude.{◌≡◌, ◌<◌, ◌≤◌, ◌∷◌, []
 ghost use Rattle.sys_events.specs.Saying.{answers, audits};
 ghost use Rattle.sys_lines.specs.Shows.{Shows};
 ghost use Rattle.sys_objects.specs.Condition.{IsAudit, IsTerminal};
-ghost use Rattle.sys_rounds.specs.Events.{said_on, taken_puts};
-ghost use Rattle.sys_rounds.specs.State.{bytes_on};
+ghost use Rattle.sys_state.specs.Events.{said_on, taken_puts};
+ghost use Rattle.sys_state.specs.State.{bytes_on};
 
 use crate::consoles::terminal_at;
 use crate::texts::with_line_end;

@@ -1,14 +1,14 @@
 ghost use Rattle.std.specs.Prelude.{◌≡◌, ◌<◌, ◌≤◌, ℕ, List, length, map, vec_len};
-ghost use Rattle.sys_events.specs.Happens.{Does, asked_at, carried_out};
+ghost use Rattle.sys_events.specs.Happens.{Does, asked_at, verdict_carried_out};
 ghost use Rattle.sys_events.specs.Seats.{Names, VerdictNames, took};
-ghost use Rattle.sys_guests.specs.Kernel.{IsKernel, state_of};
+ghost use Rattle.sys_guests.specs.Kernel.{IsKernel, kernel_state};
 ghost use Rattle.sys_guests.specs.Layout.{guests_in};
 ghost use Rattle.sys_guests.specs.Present.{KeepsAll};
-ghost use Rattle.sys_rounds.specs.FirstTouches.{started_by, with_reset};
-ghost use Rattle.sys_rounds.specs.State.{server_of};
 ghost use Rattle.sys_server.specs.Apply.{HasPlaces, MayApply, taken};
 ghost use Rattle.sys_server.specs.Verdict.{verdict_of};
 ghost use Rattle.sys_server.specs.declared.command.Verdict.TheVariants.{Granted};
+ghost use Rattle.sys_state.specs.FirstTouches.{started_by, with_reset};
+ghost use Rattle.sys_state.specs.State.{server_of};
 
 use crate::answering::{answer, put_audit};
 use crate::guests::act;
@@ -31,7 +31,7 @@ fn obey<H: Hardware>(
     requires places { HasPlaces command.now }
     requires names { Names kernel.old.config command.now }
     requires lines { vec_len lines.old ≡ 32 }
-    ensures does { Does (carried_out kernel.old.config terminal (Granted command.now)) (H.machine machine.old) kernel.old (map (λ b. seen b) lines.old.items) (H.machine machine.new) kernel.new (map (λ b. seen b) lines.new.items) }
+    ensures does { Does (verdict_carried_out kernel.old.config terminal (Granted command.now)) (H.machine machine.old) kernel.old (map (λ b. seen b) lines.old.items) (H.machine machine.new) kernel.new (map (λ b. seen b) lines.new.items) }
     ensures taken { result ≡ taken kernel.old.server terminal command.now }
     ensures present { KeepsAll (with_reset (started_by (Granted command.now)) (guests_in (H.machine machine.new).memory kernel.new.guests.items)) kernel.old.guests.items kernel.new.guests.items }
     ensures len { vec_len lines.new ≡ vec_len lines.old }
@@ -55,7 +55,7 @@ fn carry_out<H: Hardware>(
     requires places { MayApply verdict.now }
     requires names { VerdictNames kernel.old.config verdict.now }
     requires lines { vec_len lines.old ≡ 32 }
-    ensures does { Does (carried_out kernel.old.config terminal verdict.now) (H.machine machine.old) kernel.old (map (λ b. seen b) lines.old.items) (H.machine machine.new) kernel.new (map (λ b. seen b) lines.new.items) }
+    ensures does { Does (verdict_carried_out kernel.old.config terminal verdict.now) (H.machine machine.old) kernel.old (map (λ b. seen b) lines.old.items) (H.machine machine.new) kernel.new (map (λ b. seen b) lines.new.items) }
     ensures took { result ≡ took kernel.old.server terminal verdict.now }
     ensures present { KeepsAll (with_reset (started_by verdict.now) (guests_in (H.machine machine.new).memory kernel.new.guests.items)) kernel.old.guests.items kernel.new.guests.items }
     ensures len { vec_len lines.new ≡ vec_len lines.old }
@@ -82,7 +82,7 @@ pub fn command<H: Hardware>(
     requires short { length text.now ≤ 1000 }
     requires lines { vec_len lines.old ≡ 32 }
     ensures does { Does (asked_at kernel.old.config round terminal text.now) (H.machine machine.old) kernel.old (map (λ b. seen b) lines.old.items) (H.machine machine.new) kernel.new (map (λ b. seen b) lines.new.items) }
-    ensures present { (volumes : List (List (List ℕ))) → KeepsAll (with_reset (started_by (verdict_of kernel.old.config (server_of (state_of (H.machine machine.old).memory kernel.old volumes)) terminal text.now)) (guests_in (H.machine machine.new).memory kernel.new.guests.items)) kernel.old.guests.items kernel.new.guests.items }
+    ensures present { (volumes : List (List (List ℕ))) → KeepsAll (with_reset (started_by (verdict_of kernel.old.config (server_of (kernel_state (H.machine machine.old).memory kernel.old volumes)) terminal text.now)) (guests_in (H.machine machine.new).memory kernel.new.guests.items)) kernel.old.guests.items kernel.new.guests.items }
     ensures len { vec_len lines.new ≡ vec_len lines.old }
 {
     let verdict = verdict(&kernel.config, &kernel.server, terminal, text);

@@ -1,10 +1,10 @@
 ghost use Rattle.std.specs.Prelude.{◌≡◌, ◌<◌, ◌≤◌, ℕ, List, length, map, vec_len};
-ghost use Rattle.sys_events.specs.Happens.{Does, DoesAnywhere, Happen, Happens, break_at, line_at, line_starts_at};
-ghost use Rattle.sys_guests.specs.Kernel.{IsKernel, state_of};
+ghost use Rattle.sys_events.specs.Happens.{Does, DoesAnywhere, Happen, Happens, break_at, line_starts_at, typed_line_at};
+ghost use Rattle.sys_guests.specs.Kernel.{IsKernel, kernel_state};
 ghost use Rattle.sys_guests.specs.Layout.{guests_in};
 ghost use Rattle.sys_guests.specs.Present.{KeepsAll};
 ghost use Rattle.sys_objects.specs.Condition.{IsConfig};
-ghost use Rattle.sys_rounds.specs.FirstTouches.{event_starts, touches_of_events, with_reset};
+ghost use Rattle.sys_state.specs.FirstTouches.{event_starts, touches_of_events, with_reset};
 
 use crate::answering::say;
 use crate::commands::command;
@@ -42,8 +42,8 @@ fn take_line<H: Hardware>(
     requires there { terminal < length kernel.old.config.terminals }
     requires short { length text.now ≤ 1000 }
     requires lines { vec_len lines.old ≡ 32 }
-    ensures does { Does (line_at kernel.old.config round terminal text.now) (H.machine machine.old) kernel.old (map (λ b. seen b) lines.old.items) (H.machine machine.new) kernel.new (map (λ b. seen b) lines.new.items) }
-    ensures present { (volumes : List (List (List ℕ))) → KeepsAll (with_reset (line_starts_at kernel.old.config (state_of (H.machine machine.old).memory kernel.old volumes) terminal text.now) (guests_in (H.machine machine.new).memory kernel.new.guests.items)) kernel.old.guests.items kernel.new.guests.items }
+    ensures does { Does (typed_line_at kernel.old.config round terminal text.now) (H.machine machine.old) kernel.old (map (λ b. seen b) lines.old.items) (H.machine machine.new) kernel.new (map (λ b. seen b) lines.new.items) }
+    ensures present { (volumes : List (List (List ℕ))) → KeepsAll (with_reset (line_starts_at kernel.old.config (kernel_state (H.machine machine.old).memory kernel.old volumes) terminal text.now) (guests_in (H.machine machine.new).memory kernel.new.guests.items)) kernel.old.guests.items kernel.new.guests.items }
     ensures len { vec_len lines.new ≡ vec_len lines.old }
 {
     match kernel.server.at[terminal as usize] {
@@ -63,7 +63,7 @@ fn happen_one<H: Hardware>(
     requires holds { IsKernel (H.machine machine.old).memory kernel.old }
     requires lines { vec_len lines.old ≡ 32 }
     ensures happens { Happens round event.now (H.machine machine.old) kernel.old (map (λ b. seen b) lines.old.items) (H.machine machine.new) kernel.new (map (λ b. seen b) lines.new.items) }
-    ensures present { (volumes : List (List (List ℕ))) → KeepsAll (with_reset (event_starts kernel.old.config (state_of (H.machine machine.old).memory kernel.old volumes) event.now) (guests_in (H.machine machine.new).memory kernel.new.guests.items)) kernel.old.guests.items kernel.new.guests.items }
+    ensures present { (volumes : List (List (List ℕ))) → KeepsAll (with_reset (event_starts kernel.old.config (kernel_state (H.machine machine.old).memory kernel.old volumes) event.now) (guests_in (H.machine machine.new).memory kernel.new.guests.items)) kernel.old.guests.items kernel.new.guests.items }
     ensures len { vec_len lines.new ≡ vec_len lines.old }
 {
     let place = terminal_named(kernel.config.terminals.as_slice(), &event.terminal);
@@ -88,7 +88,7 @@ pub fn happen<H: Hardware>(
     requires holds { IsKernel (H.machine machine.old).memory kernel.old }
     requires lines { vec_len lines.old ≡ 32 }
     ensures happen { Happen round events.now (H.machine machine.old) kernel.old (map (λ b. seen b) lines.old.items) (H.machine machine.new) kernel.new (map (λ b. seen b) lines.new.items) }
-    ensures present { (volumes : List (List (List ℕ))) → KeepsAll (touches_of_events kernel.old.config round (state_of (H.machine machine.old).memory kernel.old volumes) events.now) kernel.old.guests.items kernel.new.guests.items }
+    ensures present { (volumes : List (List (List ℕ))) → KeepsAll (touches_of_events kernel.old.config round (kernel_state (H.machine machine.old).memory kernel.old volumes) events.now) kernel.old.guests.items kernel.new.guests.items }
     ensures len { vec_len lines.new ≡ vec_len lines.old }
 {
     for event in events {

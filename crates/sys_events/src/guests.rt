@@ -5,8 +5,8 @@ ghost use Rattle.sys_guests.specs.Kernel.{IsKernel};
 ghost use Rattle.sys_guests.specs.Layout.{guests_in};
 ghost use Rattle.sys_guests.specs.Present.{KeepsAll};
 ghost use Rattle.sys_objects.specs.Condition.{IsConfig};
-ghost use Rattle.sys_rounds.specs.FirstTouches.{started_by, with_reset};
 ghost use Rattle.sys_server.specs.declared.command.Verdict.TheVariants.{Granted};
+ghost use Rattle.sys_state.specs.FirstTouches.{started_by, with_reset};
 
 use crate::consoles::console_of;
 use crate::shows::show_objects;

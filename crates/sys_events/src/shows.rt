@@ -3,7 +3,7 @@ ghost use Rattle.vv_class.specs.Class.{does_flow};
 ghost use Rattle.sys_events.specs.Saying.{guest_line, one_put, puts_on, runs, show_lines};
 ghost use Rattle.sys_lines.specs.Shows.{Shows};
 ghost use Rattle.sys_objects.specs.Condition.{IsTerminal};
-ghost use Rattle.sys_rounds.specs.State.{bytes_on};
+ghost use Rattle.sys_state.specs.State.{bytes_on};
 ghost use Rattle.sys_server.specs.Replies.{guest_lines, printer_line, volume_line};
 
 use crate::consoles::terminal_at;

@@ -59,9 +59,9 @@ abbrev pub prints_on : Option GuestRow → ℕ → Bool
 prints_on None p = false
 prints_on (Some g) p = is_place p g.printer
 
-abbrev pub read_by : Config → ℕ → Option VolumeRow → Option GuestRow → Bool
-read_by c v (Some row) (Some g) = list_any (is_mount_of v) g.mounts || does_flow row.class g.class && has_terminal c g.class
-read_by c v _ _ = false
+abbrev pub is_read_by : Config → ℕ → Option VolumeRow → Option GuestRow → Bool
+is_read_by c v (Some row) (Some g) = list_any (is_mount_of v) g.mounts || does_flow row.class g.class && has_terminal c g.class
+is_read_by c v _ _ = false
 
 abbrev pub written_by : Config → ℕ → Option GuestRow → Option VolumeRow → Bool
 written_by c v (Some g) (Some row) = list_any (is_written_mount_of v) g.mounts || same_class row.class g.class && has_terminal c g.class
@@ -73,7 +73,7 @@ is_edge c (IsTerminalAt t) (IsGuestAt g) = meets (slice_get c.terminals t) (slic
 is_edge c (IsTerminalAt t) IsTheAudit = true
 is_edge c (IsGuestAt g) (IsTerminalAt t) = shows_on (slice_get c.guests g) (slice_get c.terminals t)
 is_edge c (IsGuestAt g) (IsPrinterAt p) = prints_on (slice_get c.guests g) p
-is_edge c (IsVolumeAt v) (IsGuestAt g) = read_by c v (slice_get c.volumes v) (slice_get c.guests g)
+is_edge c (IsVolumeAt v) (IsGuestAt g) = is_read_by c v (slice_get c.volumes v) (slice_get c.guests g)
 is_edge c (IsGuestAt g) (IsVolumeAt v) = written_by c v (slice_get c.guests g) (slice_get c.volumes v)
 is_edge c _ _ = false
 

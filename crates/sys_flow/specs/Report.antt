@@ -7,16 +7,16 @@ use Rattle.sys_flow.specs.Relation.{IsReach, reads}
 use Rattle.sys_objects.specs.declared.records.Config.{Config}
 
 -- an object's name; the audit has none and is shown as `*`
-abbrev pub name_in : Config → Object → List ℕ
-name_in c (IsTerminalAt t) = option_map_or (λ row. row.name) (slice_get c.terminals t) []
-name_in c (IsVolumeAt v) = option_map_or (λ row. row.name) (slice_get c.volumes v) []
-name_in c (IsPrinterAt p) = option_map_or (λ row. row.name) (slice_get c.printers p) []
-name_in c (IsGuestAt g) = option_map_or (λ row. row.name) (slice_get c.guests g) []
-name_in c IsTheAudit = codes "*"
+abbrev pub object_name : Config → Object → List ℕ
+object_name c (IsTerminalAt t) = option_map_or (λ row. row.name) (slice_get c.terminals t) []
+object_name c (IsVolumeAt v) = option_map_or (λ row. row.name) (slice_get c.volumes v) []
+object_name c (IsPrinterAt p) = option_map_or (λ row. row.name) (slice_get c.printers p) []
+object_name c (IsGuestAt g) = option_map_or (λ row. row.name) (slice_get c.guests g) []
+object_name c IsTheAudit = codes "*"
 
 -- by its number
 abbrev pub name_of : Config → ℕ → List ℕ
-name_of c a = option_map_or (name_in c) (slice_get (all_objects c) a) []
+name_of c a = option_map_or (object_name c) (slice_get (all_objects c) a) []
 
 unfoldable pub flow_line : List ℕ → List ℕ → List ℕ
 flow_line from to = codes "FLOW " ++ from ++ codes " " ++ to ++ codes "\n"

@@ -1,7 +1,7 @@
 ghost use Rattle.std.specs.List.{list_any};
 ghost use Rattle.std.specs.Prelude.{◌≡◌, slice_get};
 ghost use Rattle.sys_flow.specs.Objects.{object_of};
-ghost use Rattle.sys_flow.specs.Reach.{has_edge, has_terminal, is_edge, is_mount_of, is_written_mount_of, meets, prints_on, read_by, shows_on, written_by};
+ghost use Rattle.sys_flow.specs.Reach.{has_edge, has_terminal, is_edge, is_mount_of, is_read_by, is_written_mount_of, meets, prints_on, shows_on, written_by};
 
 use crate::objects::{Place, object_at};
 use sys_objects::{Config, GuestRow, Mount, same_class};
@@ -88,7 +88,7 @@ fn prints_on(c: &Config, guest: usize, printer: usize) -> bool
 }
 
 fn read_by(c: &Config, volume: usize, guest: usize) -> bool
-    ensures { result ≡ read_by c.now volume (slice_get c.now.volumes volume) (slice_get c.now.guests guest) }
+    ensures { result ≡ is_read_by c.now volume (slice_get c.now.volumes volume) (slice_get c.now.guests guest) }
 {
     match (
         c.volumes.as_slice().get(volume),

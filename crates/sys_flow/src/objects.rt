@@ -2,7 +2,7 @@ ghost use Rattle.std.specs.Option.{option_map};
 ghost use Rattle.std.specs.Prelude.{◌≡◌, ◌≤◌, [], length, slice_get};
 ghost use Rattle.sys_flow.specs.Objects.{object_of};
 ghost use Rattle.sys_flow.specs.Reach.{all_objects, audit_object};
-ghost use Rattle.sys_flow.specs.Report.{name_in, name_of};
+ghost use Rattle.sys_flow.specs.Report.{name_of, object_name};
 ghost use Rattle.sys_objects.specs.Condition.{IsConfig};
 
 use sys_objects::Config;
@@ -71,7 +71,7 @@ pub fn count(c: &Config) -> u8
 }
 
 fn name_in(c: &Config, place: Place) -> &[u8]
-    ensures { result.now ≡ name_in c.now (object_of place) }
+    ensures { result.now ≡ object_name c.now (object_of place) }
 {
     match place {
         Place::Terminal(t) => match c.terminals.as_slice().get(t) {

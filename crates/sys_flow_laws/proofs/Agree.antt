@@ -1,6 +1,6 @@
 -- Lists that agree at the places of a set.
 use Rattle.std.proofs.Common.{◌≡◌, ◌+◌, ℕ, zero, suc, List, [], ◌∷◌, length, map, Bool, true, false, refl, sym, ap, ◌∙◌, Some, slice_get, slice_set, slice_index_or, true≢false, arith}
-use Rattle.sys_rounds.specs.Places.{beside_with, changed}
+use Rattle.sys_state.specs.Places.{beside_with, changed}
 
 -- they have one length, and from the i-th place on what is at a place of the set is the same
 abbrev pub AgreeFrom : {X : Type 0} → (ℕ → Bool) → ℕ → List X → List X → Type 0

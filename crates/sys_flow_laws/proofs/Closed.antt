@@ -19,13 +19,13 @@ use Rattle.sys_objects.specs.declared.records.Terminal.{Terminal}
 use Rattle.sys_objects.specs.declared.records.VolumeRow.{VolumeRow}
 use Rattle.sys_purge.proofs.Kept.{both, pairs_map}
 use Rattle.sys_purge.proofs.Places.{StandFrom, StandsAt, first_stands, stand_all}
-use Rattle.sys_rounds.specs.Bytes.{blocks_at, dump_on, is_on_drive}
-use Rattle.sys_rounds.specs.Dump.{dump_of}
-use Rattle.sys_rounds.specs.Guests.{powered}
-use Rattle.sys_rounds.specs.Places.{is_at, place_of}
-use Rattle.sys_rounds.specs.Run.{Input, first_state, rounds}
-use Rattle.sys_rounds.specs.State.{State, Went, bytes_on}
 use Rattle.sys_script.specs.declared.event.Event.{Event}
+use Rattle.sys_state.specs.Bytes.{blocks_at, dump_on, is_on_drive}
+use Rattle.sys_state.specs.Dump.{dump_of}
+use Rattle.sys_state.specs.Guests.{powered}
+use Rattle.sys_state.specs.Places.{is_at, place_of}
+use Rattle.sys_state.specs.Run.{Input, first_state, rounds}
+use Rattle.sys_state.specs.State.{SystemState, Went, bytes_on}
 use Rattle.vm_state.specs.State.{Guest}
 
 abbrev Volumes : Type 0
@@ -62,16 +62,16 @@ module _ (c : Config) (is : IsConfig c) (far : Object → Bool) (closed : IsClos
       (events : filter (is_far_event c far) es ≡ filter (is_far_event c far) fs)
       (same_images : AgreeAt (far_guest c far) images images')
       (same_volumes : AgreeAt (far_volume c far) volumes volumes') where
-    abbrev left : State
+    abbrev left : SystemState
     left = first_state c images volumes
 
-    abbrev right : State
+    abbrev right : SystemState
     right = first_state c images' volumes'
 
-    abbrev one : Went State
+    abbrev one : Went SystemState
     one = rounds c 1 n es left
 
-    abbrev other : Went State
+    abbrev other : Went SystemState
     other = rounds c 1 n fs right
 
     first_alike : Alike c far left right
@@ -88,7 +88,7 @@ module _ (c : Config) (is : IsConfig c) (far : Object → Bool) (closed : IsClos
         let q = first_kept c far is.held images' volumes' in
         let x = rounds_alike c far closed line silent 1 n es left right first_alike p q in
         let y = rounds_alike c far closed line silent 1 n fs right right (alike_refl c far right) q q in
-        let z : Went State = rounds c 1 n (filter (is_far_event c far) fs) right in
+        let z : Went SystemState = rounds c 1 n (filter (is_far_event c far) fs) right in
         let x' : GoesOn c far closed line one z = subst (λ (xs : List Event). GoesOn c far closed line one (rounds c 1 n xs right)) events x in
         record { now = alike_trans c far one.now z.now other.now x'.now (alike_sym c far other.now z.now y.now); bytes = x'.bytes ∙ sym y.bytes }
 

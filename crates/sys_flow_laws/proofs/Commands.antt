@@ -17,13 +17,13 @@ use Rattle.sys_purge.proofs.Beside.{set_is_changed}
 use Rattle.sys_purge.proofs.Fits.{CommandFits, VerdictFits}
 use Rattle.sys_purge.proofs.Kept.{both}
 use Rattle.sys_purge.proofs.Places.{stand_all}
-use Rattle.sys_rounds.specs.Events.{after_verdict, obeyed, reset_by}
-use Rattle.sys_rounds.specs.Guests.{stopped_by_command}
-use Rattle.sys_rounds.specs.Places.{changed}
-use Rattle.sys_rounds.specs.State.{State, server_of}
+use Rattle.sys_state.specs.Events.{after_verdict, obeyed, reset_by}
+use Rattle.sys_state.specs.Guests.{stopped_by_command}
+use Rattle.sys_state.specs.Places.{changed}
+use Rattle.sys_state.specs.State.{SystemState, server_of}
 use Rattle.sys_server.specs.Apply.{applied, freed}
-use Rattle.sys_server.specs.Line.{asked_in}
-use Rattle.sys_server.specs.Verdict.{guest_place, judged, judged_line, mount_at, on_dismount, on_row, unless_empty, verdict_of}
+use Rattle.sys_server.specs.CommandLine.{asked_in}
+use Rattle.sys_server.specs.Verdict.{judged, judged_line, mount_at, on_dismount, on_row, unless_empty, verdict_of, visible_guest_place}
 use Rattle.sys_server.specs.declared.command.Asked.{Asked}
 use Rattle.sys_server.specs.declared.command.Asked.TheVariants as asks
 use Rattle.sys_server.specs.declared.command.Command.{Command}
@@ -34,13 +34,13 @@ use Rattle.sys_server.specs.declared.command.Verdict.TheVariants.{Granted, BadCo
 
 module _ (c : Config) (far : Object → Bool) where
   -- two states agree at far objects
-  pub record Alike (s t : State) : Type 0 where
+  pub record Alike (s t : SystemState) : Type 0 where
     pub connected : AgreeFrom (far_terminal c far) 0 s.connected t.connected
     pub mounts : AgreeFrom (far_guest c far) 0 s.mounts t.mounts
     pub guests : AgreeFrom (far_guest c far) 0 s.guests t.guests
     pub volumes : AgreeFrom (far_volume c far) 0 s.volumes t.volumes
 
-  pub alike_refl : (s : State) → Alike s s
+  pub alike_refl : (s : SystemState) → Alike s s
   alike_refl s = record {
     connected = agree_refl (far_terminal c far) 0 s.connected;
     mounts = agree_refl (far_guest c far) 0 s.mounts;
@@ -48,7 +48,7 @@ module _ (c : Config) (far : Object → Bool) where
     volumes = agree_refl (far_volume c far) 0 s.volumes;
   }
 
-  pub alike_sym : (s t : State) → Alike s t → Alike t s
+  pub alike_sym : (s t : SystemState) → Alike s t → Alike t s
   alike_sym s t a = record {
     connected = agree_sym (far_terminal c far) 0 s.connected t.connected a.connected;
     mounts = agree_sym (far_guest c far) 0 s.mounts t.mounts a.mounts;
@@ -56,7 +56,7 @@ module _ (c : Config) (far : Object → Bool) where
     volumes = agree_sym (far_volume c far) 0 s.volumes t.volumes a.volumes;
   }
 
-  pub alike_trans : (s t u : State) → Alike s t → Alike t u → Alike s u
+  pub alike_trans : (s t u : SystemState) → Alike s t → Alike t u → Alike s u
   alike_trans s t u a b = record {
     connected = agree_trans (far_terminal c far) 0 s.connected t.connected u.connected a.connected b.connected;
     mounts = agree_trans (far_guest c far) 0 s.mounts t.mounts u.mounts a.mounts b.mounts;
@@ -80,7 +80,7 @@ module _ (c : Config) (far : Object → Bool) where
   mounts_quiet g unit m xs n = subst (AgreeFrom (far_guest c far) 0 xs) (sym (set_is_changed (at_unit unit m) xs g [])) (agree_unchanged (far_guest c far) (at_unit unit m) xs g n)
 
   -- a command is obeyed alike
-  same_obeyed : (s t : State) → Alike s t → (n : ℕ) (command : Command) → Alike (obeyed c s n command) (obeyed c t n command)
+  same_obeyed : (s t : SystemState) → Alike s t → (n : ℕ) (command : Command) → Alike (obeyed c s n command) (obeyed c t n command)
   unfolding applied
   same_obeyed s t a n (Connect g) = record {
     connected = agree_set (far_terminal c far) 0 (map (freed g) s.connected) (map (freed g) t.connected) (agree_map (far_terminal c far) 0 (freed g) s.connected t.connected a.connected) n (Some g);
@@ -94,7 +94,7 @@ module _ (c : Config) (far : Object → Bool) where
   same_obeyed s t a n (Dismount g unit) = record { connected = a.connected; mounts = mounts_alike g unit None s.mounts t.mounts a.mounts; guests = a.guests; volumes = a.volumes }
   same_obeyed s t a n Show = a
 
-  pub same_after : (s t : State) → Alike s t → (n : ℕ) (v : Verdict) → Alike (after_verdict c s n v) (after_verdict c t n v)
+  pub same_after : (s t : SystemState) → Alike s t → (n : ℕ) (v : Verdict) → Alike (after_verdict c s n v) (after_verdict c t n v)
   same_after s t a n (Granted command) = same_obeyed s t a n command
   same_after s t a n BadCommand = a
   same_after s t a n NoSuchObject = a
@@ -102,7 +102,7 @@ module _ (c : Config) (far : Object → Bool) where
 
   module _ (closed : IsClosed c far) where
     -- a command at a terminal that isn't far
-    quiet_obeyed : (s : State) → Kept c far s → (n : ℕ) (k : Terminal) → slice_get c.terminals n ≡ Some k → far_terminal c far n ≡ false → (command : Command) → CommandFits c k.class command → Alike s (obeyed c s n command)
+    quiet_obeyed : (s : SystemState) → Kept c far s → (n : ℕ) (k : Terminal) → slice_get c.terminals n ≡ Some k → far_terminal c far n ≡ false → (command : Command) → CommandFits c k.class command → Alike s (obeyed c s n command)
     unfolding applied
     quiet_obeyed s f n k at near (Connect g) h =
         let all = alike_refl s in
@@ -127,7 +127,7 @@ module _ (c : Config) (far : Object → Bool) where
         record { connected = all.connected; mounts = mounts_quiet g unit None s.mounts (holds_far c far closed n k at g h ∙ near); guests = all.guests; volumes = all.volumes }
     quiet_obeyed s f n k at near Show h = alike_refl s
 
-    pub quiet_after : (s : State) → Kept c far s → (n : ℕ) (k : Terminal) → slice_get c.terminals n ≡ Some k → far_terminal c far n ≡ false → (v : Verdict) → VerdictFits c k.class v → Alike s (after_verdict c s n v)
+    pub quiet_after : (s : SystemState) → Kept c far s → (n : ℕ) (k : Terminal) → slice_get c.terminals n ≡ Some k → far_terminal c far n ≡ false → (v : Verdict) → VerdictFits c k.class v → Alike s (after_verdict c s n v)
     quiet_after s f n k at near (Granted command) h = quiet_obeyed s f n k at near command h
     quiet_after s f n k at near BadCommand h = alike_refl s
     quiet_after s f n k at near NoSuchObject h = alike_refl s
@@ -146,7 +146,7 @@ module _ (c : Config) (far : Object → Bool) where
     unless_denied (Some x) None = refl
     unless_denied (Some x) (Some y) = refl
 
-    module _ (s t : State) (a : Alike s t) (n : ℕ) (k : Terminal) (at : slice_get c.terminals n ≡ Some k) (f : far_terminal c far n ≡ true) where
+    module _ (s t : SystemState) (a : Alike s t) (n : ℕ) (k : Terminal) (at : slice_get c.terminals n ≡ Some k) (f : far_terminal c far n ≡ true) where
       mount_alike : (g unit : ℕ) → far_guest c far g ≡ true → mount_at (server_of s) g unit ≡ mount_at (server_of t) g unit
       mount_alike g unit e = ap (λ (ms : List (Option Mounted)). slice_index_or ms unit None) (agree_index (far_guest c far) s.mounts t.mounts a.mounts g [] e)
 
@@ -168,7 +168,7 @@ module _ (c : Config) (far : Object → Bool) where
       judged_alike (Some (asks.Start vm)) = refl
       judged_alike (Some (asks.Halt vm)) = refl
       judged_alike (Some (asks.Mount vm unit volume write)) = refl
-      judged_alike (Some (asks.Dismount vm unit)) = dismount_alike unit (guest_place c.guests k.class vm)
+      judged_alike (Some (asks.Dismount vm unit)) = dismount_alike unit (visible_guest_place c.guests k.class vm)
       judged_alike (Some asks.Show) = refl
 
       pub verdict_alike : (text : List ℕ) → verdict_of c (server_of s) n text ≡ verdict_of c (server_of t) n text

@@ -10,11 +10,11 @@ use Rattle.sys_objects.specs.declared.records.Terminal.{Terminal}
 use Rattle.sys_purge.proofs.Fits.{ConnectFits, Pairs}
 use Rattle.sys_purge.proofs.Kept.{both}
 use Rattle.sys_purge.proofs.Places.{StandFrom}
-use Rattle.sys_rounds.specs.Consoles.{console_of}
-use Rattle.sys_rounds.specs.Events.{taken_puts, told}
-use Rattle.sys_rounds.specs.Places.{is_at, place_of}
-use Rattle.sys_rounds.specs.State.{bytes_on}
 use Rattle.sys_server.specs.Apply.{freed, is_guest}
+use Rattle.sys_state.specs.Consoles.{console_of}
+use Rattle.sys_state.specs.Events.{taken_notice, taken_puts}
+use Rattle.sys_state.specs.Places.{is_at, place_of}
+use Rattle.sys_state.specs.State.{bytes_on}
 
 -- a line with something near is another than one of far objects
 pub other_line : (own line : ℕ) (is : Bool) → (own ≡ line → is ≡ true) → is ≡ false → (own == line) ≡ false
@@ -25,7 +25,7 @@ abbrev pub terminal_at : List Terminal → Option ℕ → Option Terminal
 terminal_at ks None = None
 terminal_at ks (Some n) = slice_get ks n
 
-pub by_terminal : (c : Config) (o : Option ℕ) → taken_puts c o ≡ told (terminal_at c.terminals o)
+pub by_terminal : (c : Config) (o : Option ℕ) → taken_puts c o ≡ taken_notice (terminal_at c.terminals o)
 by_terminal c None = refl
 by_terminal c (Some n) = refl
 
@@ -107,12 +107,12 @@ module _ (c : Config) (far : Object → Bool) (closed : IsClosed c far) where
         (λ e. rw e rest)
 
     -- and no far line is told that its console was taken
-    pub told_near : (g : ℕ) → far_guest c far g ≡ false → (i : ℕ) (ks : List Terminal) (os : List (Option ℕ)) → StandFrom c.terminals i ks → Pairs (ConnectFits c) ks os → bytes_on line (told (terminal_at ks (place_of (is_guest g) os))) ≡ []
-    told_near g near i [] os stand p = ap (λ (o : Option Terminal). bytes_on line (told o)) (nowhere (place_of (is_guest g) os))
+    pub told_near : (g : ℕ) → far_guest c far g ≡ false → (i : ℕ) (ks : List Terminal) (os : List (Option ℕ)) → StandFrom c.terminals i ks → Pairs (ConnectFits c) ks os → bytes_on line (taken_notice (terminal_at ks (place_of (is_guest g) os))) ≡ []
+    told_near g near i [] os stand p = ap (λ (o : Option Terminal). bytes_on line (taken_notice o)) (nowhere (place_of (is_guest g) os))
     told_near g near i (k ∷ ks) [] stand p = refl
     told_near g near i (k ∷ ks) (o ∷ os) stand p =
         let rest = told_near g near (suc i) ks os stand.1 p.1 in
         let behind = one_behind k ks (place_of (is_guest g) os) in
         both (is_guest g o)
         (λ e. let off = terminal_off i k stand.0 (sym (at_far i k stand.0 g o p.0 (sym (as_at g o) ∙ e)) ∙ near) in rw (e, off) refl)
-        (λ e. rw e (ap (λ (x : Option Terminal). bytes_on line (told x)) behind ∙ rest))
+        (λ e. rw e (ap (λ (x : Option Terminal). bytes_on line (taken_notice x)) behind ∙ rest))

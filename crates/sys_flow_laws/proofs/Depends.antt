@@ -5,7 +5,7 @@ use Rattle.std.proofs.lemmas.Bool.{and_parts, cases_order, eq-eqb, eqb-true, fal
 use Rattle.sys_flow.specs.Reach.{IsReached, IsGuestAt, IsPrinterAt, IsTerminalAt, IsTheAudit, IsVolumeAt, Object, all_objects}
 use Rattle.sys_flow_laws.proofs.Closed.{closed_sets_are_apart}
 use Rattle.sys_flow_laws.proofs.Reached.{Decides, apart_closed, apart_from, by_number, decided, get_front, get_within, is_apart}
-use Rattle.sys_flow_laws.specs.Laws.{AgreeAt, AgreeOn, AreAlikeBut, DependsOnlyOnReached, DifferIn, SameDevice, SameDrive, SameOn, UnnamedIsApart, events_without, is_far_event, is_far_place, is_of_another, line_of_audit, line_of_guest, line_of_printer, line_of_terminal}
+use Rattle.sys_flow_laws.specs.Laws.{AgreeAt, AgreeOn, DependsOnlyOnReached, DifferIn, DifferOnlyAt, SameDevice, SameDrive, SameOn, UnnamedIsApart, events_without, is_far_event, is_far_place, is_of_another, line_of_audit, line_of_guest, line_of_printer, line_of_terminal}
 use Rattle.sys_objects.specs.Condition.{IsConfig}
 use Rattle.sys_objects.specs.Rules.{guest_object, objects_of, printer_object, terminal_object, volume_object}
 use Rattle.sys_objects.specs.declared.records.Config.{Config}
@@ -15,10 +15,10 @@ use Rattle.sys_objects.specs.declared.rules.Object.{Object as Named}
 use Rattle.sys_purge.proofs.EventBytes.{known}
 use Rattle.sys_purge.proofs.Judged.{get_map}
 use Rattle.sys_purge.proofs.Kept.{both}
-use Rattle.sys_rounds.specs.Bytes.{drive_blocks, line_bytes}
-use Rattle.sys_rounds.specs.Events.{is_named}
-use Rattle.sys_rounds.specs.Places.{place_of}
-use Rattle.sys_rounds.specs.Run.{Input}
+use Rattle.sys_state.specs.Bytes.{drive_blocks, line_bytes}
+use Rattle.sys_state.specs.Events.{is_named}
+use Rattle.sys_state.specs.Places.{place_of}
+use Rattle.sys_state.specs.Run.{Input}
 use Rattle.sys_script.specs.declared.event.Event.{Event}
 
 -- what can't differ is equal
@@ -135,7 +135,7 @@ module _ (c : Config) (is : IsConfig c) where
 equal_agree : {X : Type 0} (far : ℕ → Bool) (xs ys : List X) → xs ≡ ys → AgreeAt far xs ys
 equal_agree far xs ys e = (ap length e, λ k f. ap (λ zs. slice_get zs k) e)
 
-but_agree : {X : Type 0} (far : ℕ → Bool) (j : ℕ) → far j ≡ false → (xs ys : List X) → AreAlikeBut j xs ys → AgreeAt far xs ys
+but_agree : {X : Type 0} (far : ℕ → Bool) (j : ℕ) → far j ≡ false → (xs ys : List X) → DifferOnlyAt j xs ys → AgreeAt far xs ys
 but_agree far j near xs ys h = (h.0, λ k f. h.1 k (λ same. true≢false (sym f ∙ ap far same ∙ near)))
 
 module _ (x y : Input) (is : IsConfig x.config) (far : Object → Bool) where

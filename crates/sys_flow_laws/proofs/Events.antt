@@ -18,12 +18,12 @@ use Rattle.sys_purge.proofs.Fits.{ConnectFits, Holds, Pairs, VerdictFits, pairs_
 use Rattle.sys_purge.proofs.Judged.{position_is}
 use Rattle.sys_purge.proofs.Kept.{both}
 use Rattle.sys_purge.proofs.Places.{StandFrom, stand_all}
-use Rattle.sys_rounds.proofs.Consoles.{bytes_append, bytes_of_console}
-use Rattle.sys_rounds.specs.Consoles.{console_of, on_console}
-use Rattle.sys_rounds.specs.Events.{acted, at_place, at_row, audit_puts, commanded, events, happened, is_named, lined, message_of, puts_before, puts_behind, said_on, show_puts, stop_puts, taken_puts}
-use Rattle.sys_rounds.specs.Guests.{typed}
-use Rattle.sys_rounds.specs.Places.{place_of}
-use Rattle.sys_rounds.specs.State.{Put, State, Went, bytes_on, is_running, server_of}
+use Rattle.sys_state.proofs.Consoles.{bytes_append, bytes_of_console}
+use Rattle.sys_state.specs.Consoles.{console_of, on_console}
+use Rattle.sys_state.specs.Events.{at_place, at_row, audit_puts, commanded, events, happened, is_named, lined, message_of, puts_after_verdict, puts_before, said_on, show_puts, stop_puts, taken_puts, typed_at_terminal}
+use Rattle.sys_state.specs.Guests.{typed}
+use Rattle.sys_state.specs.Places.{place_of}
+use Rattle.sys_state.specs.State.{Put, SystemState, Went, bytes_on, is_running, server_of}
 use Rattle.sys_script.specs.declared.event.Event.{Event}
 use Rattle.sys_script.specs.declared.event.Typed.{Typed}
 use Rattle.sys_script.specs.declared.event.Typed.TheVariants.{Break, Line}
@@ -51,7 +51,7 @@ module _ (c : Config) (far : Object → Bool) (closed : IsClosed c far) where
       rw d (λ j. with_line_end (object_text (86 ∷ 77 ∷ []) row.name row.class ++ running_text (same j)) ∷ rest j))
       (λ d. rw d rest)
 
-  module _ (s t : State) (a : Alike c far s t) (p : Kept c far s) (q : Kept c far t) (n : ℕ) (k : Terminal) (at : slice_get c.terminals n ≡ Some k) (f : far_terminal c far n ≡ true) where
+  module _ (s t : SystemState) (a : Alike c far s t) (p : Kept c far s) (q : Kept c far t) (n : ℕ) (k : Terminal) (at : slice_get c.terminals n ≡ Some k) (f : far_terminal c far n ≡ true) where
     show_alike : show_puts c s k ≡ show_puts c t k
     show_alike =
         let running = lines_alike n k at f 0 c.guests (stand_all c.guests) s.guests t.guests a.guests in
@@ -76,7 +76,7 @@ module _ (c : Config) (far : Object → Bool) (closed : IsClosed c far) where
     before_alike NoSuchObject h = refl
     before_alike (Denied rule) h = refl
 
-    behind_alike : (v : Verdict) → VerdictFits c k.class v → puts_behind c s n v ≡ puts_behind c t n v
+    behind_alike : (v : Verdict) → VerdictFits c k.class v → puts_after_verdict c s n v ≡ puts_after_verdict c t n v
     unfolding taken
     behind_alike (Granted (Connect g)) h =
         let os : List (Option ℕ) = slice_set s.connected n None in
@@ -104,16 +104,16 @@ module _ (c : Config) (far : Object → Bool) (closed : IsClosed c far) where
 
   -- where two steps lead, and what they show
   module _ (line : ℕ) where
-    pub record GoesOn (x y : Went State) : Type 0 where
+    pub record GoesOn (x y : Went SystemState) : Type 0 where
       pub now : Alike c far x.now y.now
       pub bytes : bytes_on line x.puts ≡ bytes_on line y.puts
 
-    record IsQuiet (s : State) (x : Went State) : Type 0 where
+    record IsQuiet (s : SystemState) (x : Went SystemState) : Type 0 where
       pub now : Alike c far s x.now
       pub bytes : bytes_on line x.puts ≡ []
 
     -- an event at a far terminal
-    module _ (round : ℕ) (s t : State) (a : Alike c far s t) (p : Kept c far s) (q : Kept c far t) where
+    module _ (round : ℕ) (s t : SystemState) (a : Alike c far s t) (p : Kept c far s) (q : Kept c far t) where
       same_lined : (n : ℕ) (k : Terminal) → slice_get c.terminals n ≡ Some k → far_terminal c far n ≡ true → (text : List ℕ) (o : Option ℕ) → GoesOn (lined c round s n k text o) (lined c round t n k text o)
       same_lined n k at f text (Some g) = record {
         now = record { connected = a.connected; mounts = a.mounts; guests = agree_changed (far_guest c far) 0 (typed text) s.guests t.guests a.guests g; volumes = a.volumes };
@@ -127,7 +127,7 @@ module _ (c : Config) (far : Object → Bool) (closed : IsClosed c far) where
           } in
           subst (λ (w : Verdict). GoesOn (commanded c round s n k text v) (commanded c round t n k text w)) (verdict_alike c far closed s t a n k at f text) here
 
-      same_acted : (n : ℕ) (k : Terminal) → slice_get c.terminals n ≡ Some k → far_terminal c far n ≡ true → (what : Typed) → GoesOn (acted c round s n k what) (acted c round t n k what)
+      same_acted : (n : ℕ) (k : Terminal) → slice_get c.terminals n ≡ Some k → far_terminal c far n ≡ true → (what : Typed) → GoesOn (typed_at_terminal c round s n k what) (typed_at_terminal c round t n k what)
       same_acted n k at f Break = record {
         now = record { connected = agree_set (far_terminal c far) 0 s.connected t.connected a.connected n None; mounts = a.mounts; guests = a.guests; volumes = a.volumes };
         bytes = refl;
@@ -148,7 +148,7 @@ module _ (c : Config) (far : Object → Bool) (closed : IsClosed c far) where
       same_event e f = same_place (place_of (is_named e.terminal) c.terminals) f e.what
 
     -- an event at another
-    module _ (silent : IsFarLine c far line) (round : ℕ) (s : State) (p : Kept c far s) where
+    module _ (silent : IsFarLine c far line) (round : ℕ) (s : SystemState) (p : Kept c far s) where
       module _ (n : ℕ) (k : Terminal) (at : slice_get c.terminals n ≡ Some k) (near : far_terminal c far n ≡ false) where
         off : (k.line == line) ≡ false
         off = terminal_off c far closed line silent n k at near
@@ -170,7 +170,7 @@ module _ (c : Config) (far : Object → Bool) (closed : IsClosed c far) where
         near_before NoSuchObject h = refl
         near_before (Denied rule) h = refl
 
-        near_behind : (v : Verdict) → VerdictFits c k.class v → bytes_on line (puts_behind c s n v) ≡ []
+        near_behind : (v : Verdict) → VerdictFits c k.class v → bytes_on line (puts_after_verdict c s n v) ≡ []
         unfolding taken
         near_behind (Granted (Connect g)) h =
             let os : List (Option ℕ) = slice_set s.connected n None in
@@ -194,9 +194,9 @@ module _ (c : Config) (far : Object → Bool) (closed : IsClosed c far) where
         near_command : (text : List ℕ) (v : Verdict) → VerdictFits c k.class v → bytes_on line (commanded c round s n k text v).puts ≡ []
         near_command text v h =
             let before = near_before v h in
-            let behind = off_said k.line line off (reply_of v) (puts_behind c s n v) ∙ near_behind v h in
+            let behind = off_said k.line line off (reply_of v) (puts_after_verdict c s n v) ∙ near_behind v h in
             let audit = near_audit c.audit refl text v in
-            let replies : List Put = said_on k.line (reply_of v) ∷ puts_behind c s n v in
+            let replies : List Put = said_on k.line (reply_of v) ∷ puts_after_verdict c s n v in
             bytes_append line (puts_before c s k v ++ replies) (audit_puts c.audit round k text v)
             ∙ ap (λ (bytes : List ℕ). bytes ++ bytes_on line (audit_puts c.audit round k text v)) (bytes_append line (puts_before c s k v) replies)
             ∙ (λ i. (before i ++ behind i) ++ audit i)
@@ -213,7 +213,7 @@ module _ (c : Config) (far : Object → Bool) (closed : IsClosed c far) where
             let fits = verdict_fits c s n k text at in
             record { now = quiet_after c far closed s p n k at near v fits; bytes = near_command text v fits }
 
-        quiet_acted : (what : Typed) → IsQuiet s (acted c round s n k what)
+        quiet_acted : (what : Typed) → IsQuiet s (typed_at_terminal c round s n k what)
         quiet_acted Break =
             let all = alike_refl c far s in
             record {
@@ -234,11 +234,11 @@ module _ (c : Config) (far : Object → Bool) (closed : IsClosed c far) where
       quiet_event e near = quiet_place (place_of (is_named e.terminal) c.terminals) near e.what
 
     -- all events of one run, and those of far terminals of the other
-    pub events_alike : IsFarLine c far line → (round : ℕ) (s t : State) → Alike c far s t → Kept c far s → Kept c far t → (es : List Event) → GoesOn (events c round s es) (events c round t (filter (is_far_event c far) es))
+    pub events_alike : IsFarLine c far line → (round : ℕ) (s t : SystemState) → Alike c far s t → Kept c far s → Kept c far t → (es : List Event) → GoesOn (events c round s es) (events c round t (filter (is_far_event c far) es))
     events_alike silent round s t a p q [] = record { now = a; bytes = refl }
     events_alike silent round s t a p q (e ∷ es) =
-        let x : Went State = happened c round s e in
-        let y : Went State = happened c round t e in
+        let x : Went SystemState = happened c round s e in
+        let y : Went SystemState = happened c round t e in
         let p' = kept_happened c far round s p e in
         let q' = kept_happened c far round t q e in
         let far_es : List Event = filter (is_far_event c far) es in
@@ -266,6 +266,6 @@ module _ (c : Config) (far : Object → Bool) (closed : IsClosed c far) where
         let list : far_es ≡ filter (is_far_event c far) (e ∷ es) = rw n refl in
         subst (λ (xs : List Event). GoesOn (events c round s (e ∷ es)) (events c round t xs)) list whole)
 
-  pub kept_events : (round : ℕ) (s : State) → Kept c far s → (es : List Event) → Kept c far (events c round s es).now
+  pub kept_events : (round : ℕ) (s : SystemState) → Kept c far s → (es : List Event) → Kept c far (events c round s es).now
   kept_events round s p [] = p
   kept_events round s p (e ∷ es) = kept_events round (happened c round s e).now (kept_happened c far round s p e) es

@@ -3,7 +3,7 @@ use Rattle.std.proofs.Common.{◌≡◌, ℕ, List, Bool, true, false, refl, sym
 use Rattle.std.proofs.lemmas.Bool.{eq-eqb}
 use Rattle.vv_class.specs.Class.{does_flow}
 use Rattle.vv_class.specs.declared.class.AccessClass.{AccessClass}
-use Rattle.sys_flow.specs.Reach.{IsGuestAt, IsPrinterAt, IsTerminalAt, IsTheAudit, IsVolumeAt, Object, read_by, written_by}
+use Rattle.sys_flow.specs.Reach.{IsGuestAt, IsPrinterAt, IsTerminalAt, IsTheAudit, IsVolumeAt, Object, is_read_by, written_by}
 use Rattle.sys_flow_laws.specs.Laws.{IsClosed}
 use Rattle.sys_objects.specs.Rules.{same_class}
 use Rattle.sys_objects.specs.declared.records.Audit.{Audit}
@@ -33,7 +33,7 @@ module _ (c : Config) (far : Object → Bool) where
   -- a mount by which its volume has an edge to the guest, and the guest one to it where it writes
   abbrev pub MountLeads : GuestRow → Option Mount → Type 0
   MountLeads row None = Unit {0}
-  MountLeads row (Some m) = (read_by c m.volume (slice_get c.volumes m.volume) (Some row) ≡ true) × (m.write ≡ true → written_by c m.volume (Some row) (slice_get c.volumes m.volume) ≡ true)
+  MountLeads row (Some m) = (is_read_by c m.volume (slice_get c.volumes m.volume) (Some row) ≡ true) × (m.write ≡ true → written_by c m.volume (Some row) (slice_get c.volumes m.volume) ≡ true)
 
   abbrev pub MountsLead : GuestRow → List (Option Mount) → Type 0
   MountsLead row ms = Each (MountLeads row) ms

@@ -5,7 +5,7 @@ use Rattle.std.proofs.lemmas.Bool.{and_parts, eq-eqb, false≢true}
 use Rattle.std.proofs.lemmas.List.Elements.{All-head, All-tail}
 use Rattle.vv_class.specs.Class.{does_flow}
 use Rattle.vv_class.specs.declared.class.AccessClass.{AccessClass}
-use Rattle.sys_flow.specs.Reach.{Object, has_terminal, is_mount_of, is_written_mount_of, read_by, written_by}
+use Rattle.sys_flow.specs.Reach.{Object, has_terminal, is_mount_of, is_read_by, is_written_mount_of, written_by}
 use Rattle.sys_flow_laws.proofs.Agree.{AsLong, long_map, long_set}
 use Rattle.sys_flow_laws.proofs.Far.{MountLeads, MountsLead}
 use Rattle.sys_objects.specs.Condition.{MayHave}
@@ -20,10 +20,10 @@ use Rattle.sys_purge.proofs.Beside.{set_is_changed}
 use Rattle.sys_purge.proofs.Fits.{CommandFits, Each, Fits, Pairs, VerdictFits, all_get, each_set, fits_happened, pairs_changed, verdict_fits}
 use Rattle.sys_purge.proofs.Kept.{both}
 use Rattle.sys_purge.proofs.Opens.{first_fits}
-use Rattle.sys_rounds.specs.Events.{after_verdict, at_place, at_row, happened, is_named, lined, obeyed}
-use Rattle.sys_rounds.specs.Places.{place_of}
-use Rattle.sys_rounds.specs.Run.{connections, first_state}
-use Rattle.sys_rounds.specs.State.{State, server_of}
+use Rattle.sys_state.specs.Events.{after_verdict, at_place, at_row, happened, is_named, lined, obeyed}
+use Rattle.sys_state.specs.Places.{place_of}
+use Rattle.sys_state.specs.Run.{connections, first_state}
+use Rattle.sys_state.specs.State.{SystemState, server_of}
 use Rattle.sys_script.specs.declared.event.Event.{Event}
 use Rattle.sys_script.specs.declared.event.Typed.{Typed}
 use Rattle.sys_script.specs.declared.event.Typed.TheVariants.{Break, Line}
@@ -45,17 +45,17 @@ each_places P [] h = tt
 each_places P (x ∷ xs) h = (h 0 x refl, each_places P xs (λ k y at. h (suc k) y at))
 
 module _ (c : Config) (far : Object → Bool) where
-  pub record Held (s : State) : Type 0 where
+  pub record Held (s : SystemState) : Type 0 where
     pub long : AsLong c.terminals s.connected
     pub leads : Pairs (MountsLead c far) c.guests s.mounts
 
-  pub record Kept (s : State) : Type 0 where
+  pub record Kept (s : SystemState) : Type 0 where
     pub fits : Fits c s
     pub held : Held s
 
   -- a mount that may be made where a terminal has the guest's class
   lead_of : (row : GuestRow) (class : AccessClass) → row.class ≡ class → has_terminal c class ≡ true → (m : Mount) (o : Option VolumeRow) → is_mountable class m.write o ≡ true
-      → (read_by c m.volume o (Some row) ≡ true) × (m.write ≡ true → written_by c m.volume (Some row) o ≡ true)
+      → (is_read_by c m.volume o (Some row) ≡ true) × (m.write ≡ true → written_by c m.volume (Some row) o ≡ true)
   lead_of row class e has m None h = absurd (false≢true h)
   lead_of row class e has m (Some v) h =
       let p = and_parts (does_flow v.class class) (if m.write then same_class v.class class else true) h in
@@ -72,13 +72,13 @@ module _ (c : Config) (far : Object → Bool) where
       lead_of row k.class e (any_at (λ (t : Terminal). same_class t.class k.class) c.terminals n k at (same_itself k.class)) m (slice_get c.volumes m.volume) h
 
   -- every event keeps it
-  mount_held : (s : State) → Held s → (g unit : ℕ) (row : GuestRow) (m : Option Mount) → slice_get c.guests g ≡ Some row → MountLeads c far row m
+  mount_held : (s : SystemState) → Held s → (g unit : ℕ) (row : GuestRow) (m : Option Mount) → slice_get c.guests g ≡ Some row → MountLeads c far row m
       → Pairs (MountsLead c far) c.guests (slice_set s.mounts g (slice_set (slice_index_or s.mounts g []) unit m))
   mount_held s f g unit row m at lead =
       subst (Pairs (MountsLead c far) c.guests) (sym (set_is_changed (λ (ms : List (Option Mount)). slice_set ms unit m) s.mounts g []))
       (pairs_changed (MountsLead c far) (λ (ms : List (Option Mount)). slice_set ms unit m) c.guests s.mounts g row f.leads at (λ ms each. each_set (MountLeads c far row) ms unit m lead each))
 
-  held_obeyed : (s : State) → Held s → (n : ℕ) (k : Terminal) → slice_get c.terminals n ≡ Some k → (command : Command) → CommandFits c k.class command → Held (obeyed c s n command)
+  held_obeyed : (s : SystemState) → Held s → (n : ℕ) (k : Terminal) → slice_get c.terminals n ≡ Some k → (command : Command) → CommandFits c k.class command → Held (obeyed c s n command)
   unfolding applied
   held_obeyed s f n k at (Connect g) h = record { long = long_set c.terminals (map (freed g) s.connected) (long_map (freed g) c.terminals s.connected f.long) n (Some g); leads = f.leads }
   held_obeyed s f n k at (Start g) h = record { long = f.long; leads = f.leads }
@@ -87,26 +87,26 @@ module _ (c : Config) (far : Object → Bool) where
   held_obeyed s f n k at (Dismount g unit) h = record { long = f.long; leads = mount_held s f g unit h.0 None h.1 tt }
   held_obeyed s f n k at Show h = f
 
-  held_verdict : (s : State) → Held s → (n : ℕ) (k : Terminal) → slice_get c.terminals n ≡ Some k → (v : Verdict) → VerdictFits c k.class v → Held (after_verdict c s n v)
+  held_verdict : (s : SystemState) → Held s → (n : ℕ) (k : Terminal) → slice_get c.terminals n ≡ Some k → (v : Verdict) → VerdictFits c k.class v → Held (after_verdict c s n v)
   held_verdict s f n k at (Granted command) h = held_obeyed s f n k at command h
   held_verdict s f n k at BadCommand h = f
   held_verdict s f n k at NoSuchObject h = f
   held_verdict s f n k at (Denied rule) h = f
 
-  held_lined : (round : ℕ) (s : State) → Held s → (n : ℕ) (k : Terminal) → slice_get c.terminals n ≡ Some k → (text : List ℕ) (o : Option ℕ) → Held (lined c round s n k text o).now
+  held_lined : (round : ℕ) (s : SystemState) → Held s → (n : ℕ) (k : Terminal) → slice_get c.terminals n ≡ Some k → (text : List ℕ) (o : Option ℕ) → Held (lined c round s n k text o).now
   held_lined round s f n k at text None = held_verdict s f n k at (verdict_of c (server_of s) n text) (verdict_fits c s n k text at)
   held_lined round s f n k at text (Some g) = record { long = f.long; leads = f.leads }
 
-  held_acted : (round : ℕ) (s : State) → Held s → (n : ℕ) (o : Option Terminal) → slice_get c.terminals n ≡ o → (what : Typed) → Held (at_row c round s n o what).now
+  held_acted : (round : ℕ) (s : SystemState) → Held s → (n : ℕ) (o : Option Terminal) → slice_get c.terminals n ≡ o → (what : Typed) → Held (at_row c round s n o what).now
   held_acted round s f n None at what = f
   held_acted round s f n (Some k) at Break = record { long = long_set c.terminals s.connected f.long n None; leads = f.leads }
   held_acted round s f n (Some k) at (Line text) = held_lined round s f n k at text (slice_index_or s.connected n None)
 
-  held_place : (round : ℕ) (s : State) → Held s → (o : Option ℕ) (what : Typed) → Held (at_place c round s o what).now
+  held_place : (round : ℕ) (s : SystemState) → Held s → (o : Option ℕ) (what : Typed) → Held (at_place c round s o what).now
   held_place round s f None what = f
   held_place round s f (Some n) what = held_acted round s f n (slice_get c.terminals n) refl what
 
-  pub kept_happened : (round : ℕ) (s : State) → Kept s → (e : Event) → Kept (happened c round s e).now
+  pub kept_happened : (round : ℕ) (s : SystemState) → Kept s → (e : Event) → Kept (happened c round s e).now
   kept_happened round s f e = record { fits = fits_happened c round s f.fits e; held = held_place round s f.held (place_of (is_named e.terminal) c.terminals) e.what }
 
   -- and so does the first state
@@ -115,7 +115,7 @@ module _ (c : Config) (far : Object → Bool) where
   first_long i (k ∷ ks) = first_long (suc i) ks
 
   own_lead : (row : GuestRow) (m : Mount) (o : Option VolumeRow) → is_mountable row.class m.write o ≡ true → list_any (is_mount_of m.volume) row.mounts ≡ true → (m.write ≡ true → list_any (is_written_mount_of m.volume) row.mounts ≡ true)
-      → (read_by c m.volume o (Some row) ≡ true) × (m.write ≡ true → written_by c m.volume (Some row) o ≡ true)
+      → (is_read_by c m.volume o (Some row) ≡ true) × (m.write ≡ true → written_by c m.volume (Some row) o ≡ true)
   own_lead row m None h a b = absurd (false≢true h)
   own_lead row m (Some v) h a b = (rw a refl, (λ w. let e = b w in rw e refl))
 

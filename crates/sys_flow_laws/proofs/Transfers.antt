@@ -15,11 +15,11 @@ use Rattle.sys_purge.proofs.Fits.{Each, Pairs, each_at}
 use Rattle.sys_purge.proofs.Kept.{both}
 use Rattle.sys_purge.proofs.Places.{StandFrom}
 use Rattle.sys_purge.proofs.SeenTransfers.{Volumes}
-use Rattle.sys_rounds.proofs.Consoles.{bytes_append}
-use Rattle.sys_rounds.specs.Guests.{with_no_queue}
-use Rattle.sys_rounds.specs.Places.{changed}
-use Rattle.sys_rounds.specs.State.{bytes_on}
-use Rattle.sys_rounds.specs.Transfers.{AllServed, Move, Packet, Prints, Reads, Refused, Served, Writes, all_served, move_of, moved, packet_at, printed, printer_of, refused_block, served, served_one, to_print, to_read, to_write, unless_refused}
+use Rattle.sys_state.proofs.Consoles.{bytes_append}
+use Rattle.sys_state.specs.Guests.{with_no_queue}
+use Rattle.sys_state.specs.Places.{changed}
+use Rattle.sys_state.specs.State.{bytes_on}
+use Rattle.sys_state.specs.Transfers.{AllServed, Move, Packet, Prints, Reads, Refused, Served, Writes, all_served, move_of, moved, packet_at, printed, printer_of, refused_block, served, served_one, to_print, to_read, to_write, unless_refused}
 use Rattle.sys_store.specs.Blocks.{with_block}
 use Rattle.sys_store.specs.Job.{job_text}
 use Rattle.vax_arch.specs.Walk.{is_past}

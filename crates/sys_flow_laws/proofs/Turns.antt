@@ -10,11 +10,11 @@ use Rattle.sys_objects.specs.declared.records.GuestRow.{GuestRow}
 use Rattle.sys_purge.proofs.Fits.{ConnectFits, Pairs}
 use Rattle.sys_purge.proofs.Kept.{both}
 use Rattle.sys_purge.proofs.Places.{stand_all}
-use Rattle.sys_rounds.proofs.Consoles.{bytes_append, bytes_of_console}
-use Rattle.sys_rounds.specs.Consoles.{console_of, on_console}
-use Rattle.sys_rounds.specs.Guests.{alone}
-use Rattle.sys_rounds.specs.State.{bytes_on}
-use Rattle.sys_rounds.specs.Turns.{turn_puts}
+use Rattle.sys_state.proofs.Consoles.{bytes_append, bytes_of_console}
+use Rattle.sys_state.specs.Consoles.{console_of, on_console}
+use Rattle.sys_state.specs.Guests.{alone}
+use Rattle.sys_state.specs.State.{bytes_on}
+use Rattle.sys_state.specs.Turns.{turn_puts}
 use Rattle.vm_state.specs.State.{Guest}
 
 module _ (c : Config) (far : Object → Bool) (closed : IsClosed c far) (line : ℕ) (silent : IsFarLine c far line) where

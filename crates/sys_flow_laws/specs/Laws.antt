@@ -9,11 +9,11 @@ use Rattle.sys_objects.specs.declared.records.GuestRow.{GuestRow}
 use Rattle.sys_objects.specs.declared.records.PrinterRow.{PrinterRow}
 use Rattle.sys_objects.specs.declared.records.Terminal.{Terminal}
 use Rattle.sys_objects.specs.declared.records.VolumeRow.{VolumeRow}
-use Rattle.sys_rounds.specs.Bytes.{drive_blocks, line_bytes}
-use Rattle.sys_rounds.specs.Events.{is_named}
-use Rattle.sys_rounds.specs.Places.{place_of}
-use Rattle.sys_rounds.specs.Run.{Input}
 use Rattle.sys_script.specs.declared.event.Event.{Event}
+use Rattle.sys_state.specs.Bytes.{drive_blocks, line_bytes}
+use Rattle.sys_state.specs.Events.{is_named}
+use Rattle.sys_state.specs.Places.{place_of}
+use Rattle.sys_state.specs.Run.{Input}
 
 -- what an object's device gets is the same; the device of a guest is its dump, and without one it has none
 abbrev pub SameOn : Option ℕ → Input → Input → Type 0
@@ -88,18 +88,18 @@ events_without c (IsGuestAt g) es = es
 events_without c IsTheAudit es = es
 
 -- what is given to guests or volumes, but for one of a place
-abbrev pub AreAlikeBut : {A : Type 0} → ℕ → List A → List A → Type 0
-AreAlikeBut k xs ys = (length xs ≡ length ys) × ((i : ℕ) → i ≢ k → slice_get xs i ≡ slice_get ys i)
+abbrev pub DifferOnlyAt : {A : Type 0} → ℕ → List A → List A → Type 0
+DifferOnlyAt k xs ys = (length xs ≡ length ys) × ((i : ℕ) → i ≢ k → slice_get xs i ≡ slice_get ys i)
 
 abbrev pub SameImages : Object → List (List ℕ) → List (List ℕ) → Type 0
-SameImages (IsGuestAt g) xs ys = AreAlikeBut g xs ys
+SameImages (IsGuestAt g) xs ys = DifferOnlyAt g xs ys
 SameImages (IsTerminalAt t) xs ys = xs ≡ ys
 SameImages (IsVolumeAt v) xs ys = xs ≡ ys
 SameImages (IsPrinterAt p) xs ys = xs ≡ ys
 SameImages IsTheAudit xs ys = xs ≡ ys
 
 abbrev pub SameVolumes : Object → List (List (List ℕ)) → List (List (List ℕ)) → Type 0
-SameVolumes (IsVolumeAt v) xs ys = AreAlikeBut v xs ys
+SameVolumes (IsVolumeAt v) xs ys = DifferOnlyAt v xs ys
 SameVolumes (IsTerminalAt t) xs ys = xs ≡ ys
 SameVolumes (IsPrinterAt p) xs ys = xs ≡ ys
 SameVolumes (IsGuestAt g) xs ys = xs ≡ ys

@@ -5,9 +5,9 @@ use Rattle.vv_class.specs.Class.{does_flow, is_subset}
 use Rattle.sys_flow.specs.Reach.{IsGuestAt, IsTerminalAt, Object, leads}
 use Rattle.sys_flow_laws.specs.Laws.{events_without, is_far_event, line_of_guest}
 use Rattle.sys_objects.specs.declared.records.Config.{Config}
-use Rattle.sys_rounds.specs.Bytes.{line_bytes}
-use Rattle.sys_rounds.specs.Run.{Input}
-use Rattle.sys_rounds.specs.ShownSetup.{config, guest, line_at, terminal, whole_run}
+use Rattle.sys_state.specs.Bytes.{line_bytes}
+use Rattle.sys_state.specs.Run.{Input}
+use Rattle.sys_state.specs.ShownSetup.{config, guest, line_at, terminal, whole_run}
 use Rattle.sys_script.specs.declared.event.Event.{Event}
 
 -- LOW, OWN and HIGH on lines 0, 1 and 2, and the guest A

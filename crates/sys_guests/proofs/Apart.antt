@@ -5,7 +5,7 @@ use Rattle.std.proofs.lemmas.List.Kept.{AllPairs-cons}
 use Rattle.std.proofs.lemmas.List.Sums.{sum_by-cons}
 use Rattle.std.specs.List.{All, AllPairs, sum_by}
 use Rattle.sys_objects.specs.declared.records.GuestRow.{GuestRow}
-use Rattle.sys_guests.specs.Layout.{ArePlaced, LiesApart, Range, memory_of, ranges, tables_of}
+use Rattle.sys_guests.specs.Layout.{ArePlaced, LiesApart, Range, memory_of, ranges, tables_range}
 use Rattle.vm_guest.specs.Kept.{Kept}
 
 -- pages one after another, from a page on and up to a limit
@@ -30,13 +30,13 @@ earlier : (from to limit : ℕ) (rs : List Range) → from ≤ to → Follow to 
 earlier from to limit [] h f = tt
 earlier from to limit (r ∷ rs) h f = (omega (arith, h, f.0), f.1, f.2)
 
-tables_follow : (base tables limit : ℕ) (rows : List GuestRow) (gs : List Kept) → ArePlaced base tables rows gs → tables + 580 * length rows ≤ limit → Follow tables limit (map tables_of gs)
+tables_follow : (base tables limit : ℕ) (rows : List GuestRow) (gs : List Kept) → ArePlaced base tables rows gs → tables + 580 * length rows ≤ limit → Follow tables limit (map tables_range gs)
 tables_follow base tables limit [] [] p h = tt
 tables_follow base tables limit [] (g ∷ gs) p h = absurd p
 tables_follow base tables limit (row ∷ rows) [] p h = tt
 tables_follow base tables limit (row ∷ rows) (g ∷ gs) p h =
     let rest = tables_follow (base + row.pages) (tables + 580) limit rows gs p.1 (omega (arith, h)) in
-    (omega (arith, p.0.tables), omega (arith, p.0.tables, h), earlier (g.shadow.at + 580) (tables + 580) limit (map tables_of gs) (omega (arith, p.0.tables)) rest)
+    (omega (arith, p.0.tables), omega (arith, p.0.tables, h), earlier (g.shadow.at + 580) (tables + 580) limit (map tables_range gs) (omega (arith, p.0.tables)) rest)
 
 memories_follow : (base tables limit : ℕ) (rows : List GuestRow) (gs : List Kept) (rs : List Range) → ArePlaced base tables rows gs → base + sum_by (λ r. r.pages) rows ≤ limit → Follow (base + sum_by (λ r. r.pages) rows) limit rs → Follow base limit (map memory_of gs ++ rs)
 memories_follow base tables limit [] [] rs p h f = earlier base (base + sum_by (λ (r : GuestRow). r.pages) []) limit rs (omega arith) f
@@ -52,6 +52,6 @@ pub lies_apart : LiesApart
 lies_apart c gs accepted placed =
     let pages : ℕ = sum_by (λ (r : GuestRow). r.pages) c.guests in
     let few : pages ≤ 16384 = accepted.pages in
-    let behind : Follow pages 32768 (map tables_of gs) = tables_follow 0 pages 32768 c.guests gs placed (omega (arith, few, accepted.few_guests)) in
-    let all : Follow 0 32768 (ranges gs) = memories_follow 0 pages 32768 c.guests gs (map tables_of gs) placed (omega (arith, few)) (earlier (0 + pages) pages 32768 (map tables_of gs) (omega arith) behind) in
+    let behind : Follow pages 32768 (map tables_range gs) = tables_follow 0 pages 32768 c.guests gs placed (omega (arith, few, accepted.few_guests)) in
+    let all : Follow 0 32768 (ranges gs) = memories_follow 0 pages 32768 c.guests gs (map tables_range gs) placed (omega (arith, few)) (earlier (0 + pages) pages 32768 (map tables_range gs) (omega arith) behind) in
     (each_before 0 32768 (ranges gs) all, all_inside 0 32768 (ranges gs) all)

@@ -11,7 +11,7 @@ use Rattle.sys_guests.specs.Layout.{AreInMachine, ArePlaced, IsPlaced, guests_in
 use Rattle.sys_guests.specs.Loads.{OnlyPlaces}
 use Rattle.sys_objects.specs.declared.records.GuestRow.{GuestRow}
 use Rattle.vm_guest.proofs.Sharing.{stands_elsewhere}
-use Rattle.vm_guest.specs.Kept.{Kept, StandsIn, guest_in}
+use Rattle.vm_guest.specs.Kept.{IsShadowedIn, Kept, guest_in}
 use Rattle.vm_state.specs.State.{Guest}
 use Rattle.sys_guests.proofs.Powering.{all_more, guests_more}
 use Rattle.sys_guests.specs.Loads.{PlacesOne}
@@ -21,11 +21,11 @@ pub record ArePutIn (rows : List GuestRow) (hs : List Guest) (all k base tables 
   pub at : base ≡ sum_by (λ row. row.pages) (take k rows)
   pub tables_at : tables ≡ all + 580 * k
   pub placed : ArePlaced 0 all (take k rows) ks
-  pub stand : All (λ l. StandsIn memory l) ks
+  pub stand : All (λ l. IsShadowedIn memory l) ks
   pub are : guests_in memory ks ≡ take k hs
 
 pub none_put_in : (rows : List GuestRow) (hs : List Guest) (all : ℕ) (memory : List ℕ) → ArePutIn rows hs all 0 0 all [] memory
-none_put_in rows hs all memory = record { at = refl; tables_at = omega arith; placed = tt; stand = All-nil (λ l. StandsIn memory l); are = refl }
+none_put_in rows hs all memory = record { at = refl; tables_at = omega arith; placed = tt; stand = All-nil (λ l. IsShadowedIn memory l); are = refl }
 
 take_more : {X : Type 0} (xs : List X) (k : ℕ) (x : X) → k < length xs → x ≡ slice_index_or xs k x → take (k + 1) xs ≡ take k xs ++ x ∷ []
 take_more [] k x h read = absurd (omega (arith, h))
@@ -55,9 +55,9 @@ pages_within (row ∷ rows) (suc k) =
 
 -- those that are there stay as they are
 still_there : (rows : List GuestRow) (hs : List Guest) (all i base tables pages : ℕ) (ks : List Kept) (memory memory' : List ℕ) → base + pages ≤ all → i ≤ length rows → ArePutIn rows hs all i base tables ks memory → OnlyPlaces base pages tables memory memory'
-    → (j : ℕ) (l : Kept) → j < length ks → l ≡ slice_index_or ks j l → StandsIn memory' l × (guest_in memory' l ≡ guest_in memory l)
+    → (j : ℕ) (l : Kept) → j < length ks → l ≡ slice_index_or ks j l → IsShadowedIn memory' l × (guest_in memory' l ≡ guest_in memory l)
 still_there rows hs all i base tables pages ks memory memory' few within before only j l h read =
-    let stands = one_of_all (λ (y : Kept). StandsIn memory y) ks j l h read before.stand in
+    let stands = one_of_all (λ (y : Kept). IsShadowedIn memory y) ks j l h read before.stand in
     let s = stands.serves in
     let at : IsWithin 0 all (take i rows) l = placed_at 0 all (take i rows) ks j l h read before.placed in
     let long : length (take i rows) ≡ i = take_long i rows within in
@@ -87,7 +87,7 @@ one_put_in rows hs all i base tables ks memory memory' row h k whole there read 
       at = omega (arith, before.at, next);
       tables_at = omega (arith, before.tables_at);
       placed = subst (λ xs. ArePlaced 0 all xs (ks ++ k ∷ [])) (sym rows') (placed_more 0 all (take i rows) ks row k before.placed here);
-      stand = all_more (λ (l : Kept). StandsIn memory' l) ks k (all_same (λ (l : Kept). StandsIn memory' l) ks (λ j l m e. (stays j l m e).0)) one.stands;
+      stand = all_more (λ (l : Kept). IsShadowedIn memory' l) ks k (all_same (λ (l : Kept). IsShadowedIn memory' l) ks (λ j l m e. (stays j l m e).0)) one.stands;
       are = guests_more memory' ks k ∙ (λ j. (others ∙ before.are) j ++ one.guest j ∷ []) ∙ sym hs';
     }
 

@@ -6,7 +6,7 @@ use Rattle.std.proofs.lemmas.Grind.{common_steps}
 use Rattle.std.proofs.lemmas.Slice.{drop-append-drop}
 use Rattle.vax_hw.specs.Machine.{Machine}
 use Rattle.vv_base.specs.Bytes.{long_at, long_bytes, overwritten}
-use Rattle.vm_state.specs.Start.{opening}
+use Rattle.vm_state.specs.Start.{memory_with_image}
 
 -- the bytes of a longword are those it was read from
 bytes_of_long : (a b c d : ℕ) → a < 256 → b < 256 → c < 256 → d < 256 → long_bytes (a + 256 * b + 65536 * c + 16777216 * d) ≡ a ∷ b ∷ c ∷ d ∷ []
@@ -63,26 +63,26 @@ one_long xs back base n long room bytes within is =
     ∙ ap (λ (ys : List ℕ). ys ++ drop ((base + n) + 4) back) (append_assoc (take base back) (take n xs) cells ∙ ap (λ (ys : List ℕ). take base back ++ ys) (sym (four_more xs n within)))
     ∙ ap (λ (k : ℕ). (take base back ++ take (n + 4) xs) ++ drop k back) (omega (arith, more))
 
-pub opening_length : (size load : ℕ) (image : List ℕ) → load + length image ≤ size → length (opening size load image) ≡ size
-unfolding opening
+pub opening_length : (size load : ℕ) (image : List ℕ) → load + length image ≤ size → length (memory_with_image size load image) ≡ size
+unfolding memory_with_image
 opening_length size load image h = grind (arith, common_steps)
 
-opening_is : (size load : ℕ) (image : List ℕ) → (replicate load 0 ++ image) ++ replicate (size - (load + length image)) 0 ≡ opening size load image
-unfolding opening
+opening_is : (size load : ℕ) (image : List ℕ) → (replicate load 0 ++ image) ++ replicate (size - (load + length image)) 0 ≡ memory_with_image size load image
+unfolding memory_with_image
 opening_is size load image = refl
 
-opening_bytes : (size load : ℕ) (image : List ℕ) → ((i : ℕ) → get_or image i 0 < 256) → (i : ℕ) → get_or (opening size load image) i 0 < 256
+opening_bytes : (size load : ℕ) (image : List ℕ) → ((i : ℕ) → get_or image i 0 < 256) → (i : ℕ) → get_or (memory_with_image size load image) i 0 < 256
 opening_bytes size load image h i =
     subst (λ xs. get_or xs i 0 < 256) (opening_is size load image) (subst (λ x. x < 256) (sym (padded (replicate load 0 ++ image) (size - (load + length image)) i)) (bytes_below load image h i))
 
 -- the machine after one longword more
 pub next_long : (m0 m m' : Machine) (base size load : ℕ) (image : List ℕ) (n long : ℕ) → base ≤ length m0.memory → ((i : ℕ) → get_or image i 0 < 256) → load + length image ≤ size → 4 * n + 4 ≤ size
-    → m ≡ record m0 { memory = overwritten m0.memory base (take (4 * n) (opening size load image)) }
+    → m ≡ record m0 { memory = overwritten m0.memory base (take (4 * n) (memory_with_image size load image)) }
     → long ≡ long_at (replicate load 0 ++ image) (4 * n)
     → m' ≡ record m { memory = overwritten m.memory (base + 4 * n) (long_bytes long) }
-    → m' ≡ record m0 { memory = overwritten m0.memory base (take (4 * (n + 1)) (opening size load image)) }
+    → m' ≡ record m0 { memory = overwritten m0.memory base (take (4 * (n + 1)) (memory_with_image size load image)) }
 next_long m0 m m' base size load image n long inside bytes fits within is told written =
-    let xs = opening size load image in
+    let xs = memory_with_image size load image in
     let at : 4 * n + 4 ≡ 4 * (n + 1) = omega arith in
     let room : 4 * n + 4 ≤ length xs = omega (arith, opening_length size load image fits) in
     let long_is : long ≡ long_at xs (4 * n) = told ∙ same_long (replicate load 0 ++ image) (size - (load + length image)) (4 * n) ∙ ap (λ ys. long_at ys (4 * n)) (opening_is size load image) in
@@ -95,7 +95,7 @@ pub none_long : (memory xs : List ℕ) (base : ℕ) → overwritten memory base 
 none_long memory xs base = ap (λ (ys : List ℕ). ys ++ drop (base + 0) memory) (append-nil (take base memory)) ∙ ap (λ (k : ℕ). take base memory ++ drop k memory) (add-zero base) ∙ take-append-drop base memory
 
 -- all of it is
-pub all_long : (memory : List ℕ) (base size load : ℕ) (image : List ℕ) (n : ℕ) → load + length image ≤ size → 4 * n ≡ size → overwritten memory base (take (4 * n) (opening size load image)) ≡ overwritten memory base (opening size load image)
+pub all_long : (memory : List ℕ) (base size load : ℕ) (image : List ℕ) (n : ℕ) → load + length image ≤ size → 4 * n ≡ size → overwritten memory base (take (4 * n) (memory_with_image size load image)) ≡ overwritten memory base (memory_with_image size load image)
 all_long memory base size load image n fits is =
-    let whole : 4 * n ≡ length (opening size load image) = is ∙ sym (opening_length size load image fits) in
-    ap (overwritten memory base) (ap (λ (k : ℕ). take k (opening size load image)) whole ∙ take-length (opening size load image))
+    let whole : 4 * n ≡ length (memory_with_image size load image) = is ∙ sym (opening_length size load image fits) in
+    ap (overwritten memory base) (ap (λ (k : ℕ). take k (memory_with_image size load image)) whole ∙ take-length (memory_with_image size load image))

@@ -2,7 +2,7 @@
 use Rattle.std.proofs.Common.{ℕ, zero, suc, ◌≡◌, ◌<◌, List, [], ◌∷◌, length, map, slice_set, slice_index_or, refl, sym, ◌∙◌, ap, subst, arith, Option, Some, None}
 use Rattle.std.proofs.lemmas.List.Elements.{All-cons}
 use Rattle.std.specs.List.{All, slice_get}
-use Rattle.sys_rounds.specs.Places.{changed}
+use Rattle.sys_state.specs.Places.{changed}
 
 -- the elements of a list, each with what holds at its place
 pub map_same : {X Y : Type 0} (f h : X → Y) (xs : List X) → ((i : ℕ) (y : X) → i < length xs → y ≡ slice_index_or xs i y → h y ≡ f y) → map h xs ≡ map f xs

@@ -6,11 +6,11 @@ use Rattle.sys_guests.proofs.Lists.{all_set, got, map_set, one_of_all}
 use Rattle.sys_guests.specs.Changes.{ChangesOne, StartsOne, TakesStateAt}
 use Rattle.sys_guests.specs.Layout.{AreInMachine, OnlyGuests}
 use Rattle.sys_objects.specs.declared.records.GuestRow.{GuestRow}
-use Rattle.sys_rounds.specs.Guests.{reset}
+use Rattle.sys_state.specs.Guests.{reset}
 use Rattle.vm_bursts.specs.Guarded.{OnlyBoth}
 use Rattle.vm_guest.proofs.Sharing.{stands_elsewhere}
-use Rattle.vm_guest.specs.Kept.{Becomes, Kept, StandsIn, TakesState, guest_in}
-use Rattle.vm_shadow.specs.Stands.{Shadowed}
+use Rattle.vm_guest.specs.Kept.{Becomes, IsShadowedIn, Kept, TakesState, guest_in}
+use Rattle.vm_shadow.specs.Shadowed.{Shadowed}
 use Rattle.vm_state.specs.Partition.{part}
 use Rattle.vm_state.specs.Start.{started}
 use Rattle.vm_state.specs.State.{Guest, HasPlace, State}
@@ -18,7 +18,7 @@ use Rattle.vm_state.specs.State.{Guest, HasPlace, State}
 -- one guest has become another, in this memory
 pub record Became (h : Guest) (k k' : Kept) (memory memory' : List ℕ) : Type 0 where
   pub guest : guest_in memory' k' ≡ h
-  pub stands : StandsIn memory' k'
+  pub stands : IsShadowedIn memory' k'
   pub only : OnlyBoth k.shadow memory memory'
   pub place : HasPlace k.state.pages k.state.base k.state.start k'.state
   pub tables : k'.shadow.at ≡ k.shadow.at
@@ -28,11 +28,11 @@ became h m k m' k' b = record { guest = b.guest; stands = b.stands; only = b.onl
 
 -- the others are as before, and are in the machine still
 other_stays : (rows : List GuestRow) (ks : List Kept) (place : ℕ) (k : Kept) (memory memory' : List ℕ) → place < length ks → k ≡ slice_index_or ks place k → AreInMachine rows memory ks → OnlyBoth k.shadow memory memory'
-    → (i : ℕ) (l : Kept) → i < length ks → (i ≡ place → ⊥) → l ≡ slice_index_or ks i l → StandsIn memory' l × (guest_in memory' l ≡ guest_in memory l)
+    → (i : ℕ) (l : Kept) → i < length ks → (i ≡ place → ⊥) → l ≡ slice_index_or ks i l → IsShadowedIn memory' l × (guest_in memory' l ≡ guest_in memory l)
 other_stays rows ks place k memory memory' there read a only i l h ne read' =
     let all : ℕ = pages_in rows in
-    let stands = one_of_all (λ (y : Kept). StandsIn memory y) ks place k there read a.stand in
-    let stands' = one_of_all (λ (y : Kept). StandsIn memory y) ks i l h read' a.stand in
+    let stands = one_of_all (λ (y : Kept). IsShadowedIn memory y) ks place k there read a.stand in
+    let stands' = one_of_all (λ (y : Kept). IsShadowedIn memory y) ks i l h read' a.stand in
     let at : IsWithin 0 all rows k = placed_at 0 all rows ks place k there read a.laid_out in
     let at' : IsWithin 0 all rows l = placed_at 0 all rows ks i l h read' a.laid_out in
     let order = one_before 0 all rows ks place i k l (λ q. ne (sym q)) there h read read' a.laid_out in
@@ -42,7 +42,7 @@ other_stays rows ks place k memory memory' there read a only i l h ne read' =
 only_guests : (rows : List GuestRow) (ks : List Kept) (place : ℕ) (k : Kept) (memory memory' : List ℕ) → place < length ks → k ≡ slice_index_or ks place k → AreInMachine rows memory ks → OnlyBoth k.shadow memory memory' → OnlyGuests rows memory memory'
 only_guests rows ks place k memory memory' there read a only p behind =
     let all : ℕ = pages_in rows in
-    let stands = one_of_all (λ (y : Kept). StandsIn memory y) ks place k there read a.stand in
+    let stands = one_of_all (λ (y : Kept). IsShadowedIn memory y) ks place k there read a.stand in
     let at : IsWithin 0 all rows k = placed_at 0 all rows ks place k there read a.laid_out in
     only.other p (inr (omega (arith, behind, at.high, stands.serves.base, stands.serves.pages))) (inr (omega (arith, behind, at.last)))
 
@@ -56,7 +56,7 @@ one_became rows place f ks k k' m m' there read a faults b =
         few = a.few;
         some_pages = a.some_pages;
         laid_out = placed_set 0 (pages_in rows) rows ks place k k' there read b.place kept b.tables a.laid_out;
-        stand = all_set (λ (y : Kept). StandsIn m'.memory y) ks place k' b.stands (λ i l h ne e. (stays i l h ne e).0);
+        stand = all_set (λ (y : Kept). IsShadowedIn m'.memory y) ks place k' b.stands (λ i l h ne e. (stays i l h ne e).0);
       };
       only = only_guests rows ks place k m.memory m'.memory there read a b.only;
       size = b.only.size;
@@ -75,7 +75,7 @@ one_starts place ks k k' m m' there read b rows row a is =
 -- one that has other registers
 pub one_turns : (place : ℕ) (f : Guest → Guest) (x : Kept → State) (ks : List Kept) (k k' : Kept) → place < length ks → k ≡ slice_index_or ks place k → ((memory : List ℕ) → f (guest_in memory k) ≡ record (guest_in memory k) { state = x k }) → (x k).modify_faults ≡ k.state.modify_faults → TakesState (x k) k k' → TakesStateAt place f ks (slice_set ks place k')
 one_turns place f x ks k k' there read same faults t rows m a =
-    let stands = one_of_all (λ (y : Kept). StandsIn m.memory y) ks place k there read a.stand in
+    let stands = one_of_all (λ (y : Kept). IsShadowedIn m.memory y) ks place k there read a.stand in
     one_became rows place f ks k k' m m there read a (ap (λ (g : Guest). g.state.modify_faults) (same m.memory) ∙ faults) (record {
       guest = (λ i. record { memory = memory m.memory i; state = t.state i }) ∙ sym (same m.memory);
       stands = t.stands m.memory stands;

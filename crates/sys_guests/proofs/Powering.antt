@@ -16,14 +16,14 @@ use Rattle.sys_guests.specs.Layout.{guests_in}
 use Rattle.sys_guests.specs.Loads.{MemoryAlone, OnlyPlaces, PlacesOne, PutsIn, first_misfit, is_misfit}
 use Rattle.sys_lines.proofs.Lists.{found_here, found_later, from_on}
 use Rattle.sys_objects.specs.declared.records.GuestRow.{GuestRow}
-use Rattle.sys_rounds.specs.Guests.{powered}
-use Rattle.sys_rounds.specs.Places.{beside_with, place_of}
+use Rattle.sys_state.specs.Guests.{powered}
+use Rattle.sys_state.specs.Places.{beside_with, place_of}
 use Rattle.vm_guest.specs.Kept.{IsResumed, Kept, guest_in}
 use Rattle.vm_shadow.proofs.Filling.{byte_apart}
 use Rattle.vm_shadow.proofs.Writes.{part_same}
 use Rattle.vm_shadow.specs.StandsFor.{StandsFor}
 use Rattle.vm_state.specs.Partition.{IsApart, guest_of, part}
-use Rattle.vm_state.specs.Start.{opening, started, stopped_at_first}
+use Rattle.vm_state.specs.Start.{memory_with_image, started, stopped_at_first}
 use Rattle.vm_state.specs.State.{Guest, HasPlace, state_of}
 use Rattle.vm_state.specs.declared.guest_state.GuestState.{GuestState}
 
@@ -134,15 +134,15 @@ all_more Q xs x all one i d h = by (cases_lt i (length xs))
         last i le h = omega (arith, le, h, length-append xs (x ∷ []))
 
 -- an image lies in a guest's pages, and no other byte changes
-image_part : (pages load : ℕ) (image : List ℕ) (base : ℕ) (before : List ℕ) → load + length image ≤ 512 * pages → 512 * base + 512 * pages ≤ length before → part (overwritten before (512 * base) (opening (512 * pages) load image)) (512 * base) (512 * pages) ≡ opening (512 * pages) load image
+image_part : (pages load : ℕ) (image : List ℕ) (base : ℕ) (before : List ℕ) → load + length image ≤ 512 * pages → 512 * base + 512 * pages ≤ length before → part (overwritten before (512 * base) (memory_with_image (512 * pages) load image)) (512 * base) (512 * pages) ≡ memory_with_image (512 * pages) load image
 image_part pages load image base before fits inside =
-    let xs = opening (512 * pages) load image in
+    let xs = memory_with_image (512 * pages) load image in
     let long : length xs ≡ 512 * pages = opening_length (512 * pages) load image fits in
     ap (λ n. part (overwritten before (512 * base) xs) (512 * base) n) (sym long) ∙ part_overwritten before (512 * base) xs (omega (arith, long, inside))
 
-image_apart : (pages load : ℕ) (image : List ℕ) (base : ℕ) (before : List ℕ) → load + length image ≤ 512 * pages → 512 * base + 512 * pages ≤ length before → IsApart (512 * base) (512 * pages) before (overwritten before (512 * base) (opening (512 * pages) load image))
+image_apart : (pages load : ℕ) (image : List ℕ) (base : ℕ) (before : List ℕ) → load + length image ≤ 512 * pages → 512 * base + 512 * pages ≤ length before → IsApart (512 * base) (512 * pages) before (overwritten before (512 * base) (memory_with_image (512 * pages) load image))
 image_apart pages load image base before fits inside =
-    let xs = opening (512 * pages) load image in
+    let xs = memory_with_image (512 * pages) load image in
     let long : length xs ≡ 512 * pages = opening_length (512 * pages) load image fits in
     subst (λ n. IsApart (512 * base) n before (overwritten before (512 * base) xs)) long (overwritten_apart before (512 * base) xs (omega (arith, long, inside)))
 
@@ -151,10 +151,10 @@ pub record HasImage (base pages load tables : ℕ) (image : List ℕ) (m m' : Ma
   pub fits : load + length image ≤ 512 * pages
   pub order : base + pages ≤ tables
   pub inside : 512 * base + 512 * pages ≤ length m.memory
-  pub loaded : m' ≡ record m { memory = overwritten m.memory (512 * base) (opening (512 * pages) load image) }
+  pub loaded : m' ≡ record m { memory = overwritten m.memory (512 * base) (memory_with_image (512 * pages) load image) }
 
 module _ (state : GuestState) (load tables : ℕ) (image : List ℕ) (m m1 : Machine) (has : HasImage state.base state.pages load tables image m m1) where
-  loaded_memory : m1.memory ≡ overwritten m.memory (512 * state.base) (opening (512 * state.pages) load image)
+  loaded_memory : m1.memory ≡ overwritten m.memory (512 * state.base) (memory_with_image (512 * state.pages) load image)
   loaded_memory = ap (λ (x : Machine). x.memory) has.loaded
 
   apart : IsApart (512 * state.base) (512 * state.pages) m.memory m1.memory
@@ -180,7 +180,7 @@ module _ (state : GuestState) (load tables : ℕ) (image : List ℕ) (m m1 : Mac
         split_first p (inl h) = inl h
         split_first p (inr h) = inr (omega (arith, h))
 
-    pub puts_in : PutsIn state tables (opening (512 * state.pages) load image) m.memory m2.memory k
+    pub puts_in : PutsIn state tables (memory_with_image (512 * state.pages) load image) m.memory m2.memory k
     puts_in =
         let inside : 512 * state.base + 512 * state.pages ≤ length m1.memory = omega (arith, has.inside, apart.size) in
         record {

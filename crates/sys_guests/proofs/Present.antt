@@ -7,14 +7,14 @@ use Rattle.sys_guests.proofs.Lists.{get_map}
 use Rattle.sys_guests.specs.Layout.{guests_in}
 use Rattle.sys_guests.specs.Present.{HavePresent, KeepsAll, PaysAll, counted_in}
 use Rattle.sys_guests.specs.Loads.{HasFirst}
-use Rattle.sys_rounds.specs.FirstTouches.{none_touched, reset_as, with_reset}
-use Rattle.sys_rounds.specs.Places.{changed}
-use Rattle.sys_rounds.specs.SlicedTouches.{touched_as, touches_of_slice}
-use Rattle.sys_rounds.specs.Slices.{Slice}
-use Rattle.vm_fitting.specs.Paid.{Pays}
-use Rattle.vm_fitting.specs.Present.{HasPresent}
+use Rattle.sys_state.specs.FirstTouches.{none_touched, reset_as, with_reset}
+use Rattle.sys_state.specs.Places.{changed}
+use Rattle.sys_state.specs.SlicedTouches.{touched_as, touches_of_slice}
+use Rattle.sys_state.specs.Slices.{Slice}
+use Rattle.vm_miss_laws.specs.Paid.{Pays}
+use Rattle.vm_miss_laws.specs.Present.{HasPresent}
 use Rattle.vm_guest.specs.Kept.{KeepsPresent, Kept, guest_in}
-use Rattle.vm_shadow.specs.Stands.{Shadowed}
+use Rattle.vm_shadow.specs.Shadowed.{Shadowed}
 use Rattle.vm_state.specs.State.{Guest}
 use Rattle.vm_state.specs.Touches.{Touching, touching_reset, touching_steps}
 

@@ -10,12 +10,12 @@ use Rattle.sys_guests.proofs.Powering.{map_at, placed_as}
 use Rattle.sys_guests.specs.Loads.{PlacesOne, PutsIn}
 use Rattle.sys_objects.specs.Condition.{IsGuest}
 use Rattle.sys_objects.specs.declared.records.GuestRow.{GuestRow}
-use Rattle.sys_snap.specs.Held.{ArePlaced, guest_of}
+use Rattle.sys_snap.specs.Held.{ArePlacedSnapshots, snapshot_guest}
 use Rattle.sys_snap.specs.Snap.{IsGuestOf}
 use Rattle.sys_snap.specs.declared.snap.GuestSnap.{GuestSnap}
 use Rattle.vm_guest.specs.Kept.{Kept}
 use Rattle.vm_state.specs.Allowed.{AreAllowed}
-use Rattle.vm_state.specs.Start.{opening}
+use Rattle.vm_state.specs.Start.{memory_with_image}
 use Rattle.vm_state.specs.State.{HasPlace, state_of}
 
 -- the first of what is left
@@ -39,10 +39,10 @@ pub record IsNext (rows : List GuestRow) (base k : ℕ) (snap : GuestSnap) : Typ
   pub there : k < length rows
   pub read : row ≡ slice_index_or rows k row
   pub place : HasPlace row.pages (base + sum_by (λ r. r.pages) (take k rows)) row.start snap.state
-  pub is : IsGuestOf row (guest_of snap)
+  pub is : IsGuestOf row (snapshot_guest snap)
   pub guest : IsGuest row
 
-pub next_of : (rows : List GuestRow) (snaps : List GuestSnap) (base k : ℕ) (snap : GuestSnap) → k < length snaps → snap ≡ slice_index_or snaps k snap → ArePlaced base rows snaps → AllZip IsGuestOf rows (map guest_of snaps) → All IsGuest rows → IsNext rows base k snap
+pub next_of : (rows : List GuestRow) (snaps : List GuestSnap) (base k : ℕ) (snap : GuestSnap) → k < length snaps → snap ≡ slice_index_or snaps k snap → ArePlacedSnapshots base rows snaps → AllZip IsGuestOf rows (map snapshot_guest snaps) → All IsGuest rows → IsNext rows base k snap
 next_of [] [] base k snap there read places are each = absurd (omega (arith, there))
 next_of [] (g ∷ snaps) base k snap there read places are each = absurd places
 next_of (row ∷ rows) [] base k snap there read places are each = absurd places
@@ -53,7 +53,7 @@ next_of (row ∷ rows) (g ∷ snaps) base zero snap there read places are each =
       there = omega arith;
       read = refl;
       place = subst (λ n. HasPlace row.pages n row.start snap.state) none (subst (λ (x : GuestSnap). HasPlace row.pages base row.start x.state) (sym read) places.0);
-      is = subst (λ (x : GuestSnap). IsGuestOf row (guest_of x)) (sym read) are.0;
+      is = subst (λ (x : GuestSnap). IsGuestOf row (snapshot_guest x)) (sym read) are.0;
       guest = All-head IsGuest row rows each;
     }
 next_of (row ∷ rows) (g ∷ snaps) base (suc k) snap there read places are each =
@@ -68,21 +68,21 @@ next_of (row ∷ rows) (g ∷ snaps) base (suc k) snap there read places are eac
       guest = next.guest;
     }
 
-pub next_in : (rows : List GuestRow) (snaps : List GuestSnap) (k : ℕ) (snap : GuestSnap) (rest : List GuestSnap) → drop k snaps ≡ snap ∷ rest → ArePlaced 0 rows snaps → AllZip IsGuestOf rows (map guest_of snaps) → All IsGuest rows → IsNext rows 0 k snap
+pub next_in : (rows : List GuestRow) (snaps : List GuestSnap) (k : ℕ) (snap : GuestSnap) (rest : List GuestSnap) → drop k snaps ≡ snap ∷ rest → ArePlacedSnapshots 0 rows snaps → AllZip IsGuestOf rows (map snapshot_guest snaps) → All IsGuest rows → IsNext rows 0 k snap
 next_in rows snaps k snap rest left places are each =
     let head = head_of snaps k snap rest left in
     next_of rows snaps 0 k snap head.there head.read places are each
 
 -- there is one for each row
-pub as_many_rows : (rows : List GuestRow) (snaps : List GuestSnap) (base : ℕ) → ArePlaced base rows snaps → length snaps ≡ length rows
+pub as_many_rows : (rows : List GuestRow) (snaps : List GuestSnap) (base : ℕ) → ArePlacedSnapshots base rows snaps → length snaps ≡ length rows
 as_many_rows [] [] base places = refl
 as_many_rows [] (g ∷ snaps) base places = absurd places
 as_many_rows (row ∷ rows) [] base places = absurd places
 as_many_rows (row ∷ rows) (g ∷ snaps) base places = ap suc (as_many_rows rows snaps (base + row.pages) places.1)
 
 -- a whole memory is an image from its first byte on
-whole_opening : (size : ℕ) (bytes : List ℕ) → length bytes ≡ size → opening size 0 bytes ≡ bytes
-unfolding opening
+whole_opening : (size : ℕ) (bytes : List ℕ) → length bytes ≡ size → memory_with_image size 0 bytes ≡ bytes
+unfolding memory_with_image
 whole_opening size bytes long =
     let none : size - (0 + length bytes) ≡ 0 = omega (arith, long) in
     ap (λ n. bytes ++ replicate n 0) none ∙ append-nil bytes
@@ -92,7 +92,7 @@ abbrev pub first_page : List GuestRow → ℕ → ℕ
 first_page rows k = sum_by (λ r. r.pages) (take k rows)
 
 module _ (rows : List GuestRow) (snaps : List GuestSnap) (k tables : ℕ) (ks : List Kept) (memory : List ℕ) (snap : GuestSnap) (few : length rows ≤ 16) (some_pages : pages_in rows ≤ 16384)
-    (put : ArePutIn rows (map guest_of snaps) (pages_in rows) k (first_page rows k) tables ks memory) (next : IsNext rows 0 k snap) where
+    (put : ArePutIn rows (map snapshot_guest snaps) (pages_in rows) k (first_page rows k) tables ks memory) (next : IsNext rows 0 k snap) where
   abbrev row : GuestRow
   row = next.row
 
@@ -120,15 +120,15 @@ module _ (rows : List GuestRow) (snaps : List GuestSnap) (k tables : ℕ) (ks : 
   pub are_allowed : AreAllowed (512 * snap.state.pages) (state_of snap.state)
   are_allowed = subst (λ n. AreAllowed (512 * n) (state_of snap.state)) (sym next.place.pages) next.is.is.allowed
 
-  placed : (memory' : List ℕ) (l : Kept) → PutsIn snap.state tables (opening (512 * snap.state.pages) 0 snap.memory.items) memory memory' l → PlacesOne row (guest_of snap) (first_page rows k) tables memory memory' l
+  placed : (memory' : List ℕ) (l : Kept) → PutsIn snap.state tables (memory_with_image (512 * snap.state.pages) 0 snap.memory.items) memory memory' l → PlacesOne row (snapshot_guest snap) (first_page rows k) tables memory memory' l
   placed memory' l is =
-      placed_as row (guest_of snap) (first_page rows k) tables (opening (512 * snap.state.pages) 0 snap.memory.items) memory memory' snap.state l
+      placed_as row (snapshot_guest snap) (first_page rows k) tables (memory_with_image (512 * snap.state.pages) 0 snap.memory.items) memory memory' snap.state l
       here next.is.modify_faults (λ i. record { memory = whole_opening (512 * snap.state.pages) snap.memory.items whole i; state = state_of snap.state }) is
 
   -- one more
-  pub one_more : (memory' : List ℕ) (l : Kept) → k < length snaps → snap ≡ slice_index_or snaps k snap → PutsIn snap.state tables (opening (512 * snap.state.pages) 0 snap.memory.items) memory memory' l
-      → ArePutIn rows (map guest_of snaps) (pages_in rows) (k + 1) (first_page rows (k + 1)) (tables + 580) (ks ++ l ∷ []) memory'
+  pub one_more : (memory' : List ℕ) (l : Kept) → k < length snaps → snap ≡ slice_index_or snaps k snap → PutsIn snap.state tables (memory_with_image (512 * snap.state.pages) 0 snap.memory.items) memory memory' l
+      → ArePutIn rows (map snapshot_guest snaps) (pages_in rows) (k + 1) (first_page rows (k + 1)) (tables + 580) (ks ++ l ∷ []) memory'
   one_more memory' l there read is =
-      let long : length (map guest_of snaps) ≡ length snaps = length-map snaps guest_of in
-      subst (λ b. ArePutIn rows (map guest_of snaps) (pages_in rows) (k + 1) b (tables + 580) (ks ++ l ∷ []) memory') (sym last)
-      (one_put_in rows (map guest_of snaps) (pages_in rows) k (first_page rows k) tables ks memory memory' row (guest_of snap) l refl next.there next.read (omega (arith, there, long)) (map_at guest_of snaps k snap there read) (placed memory' l is) put)
+      let long : length (map snapshot_guest snaps) ≡ length snaps = length-map snaps snapshot_guest in
+      subst (λ b. ArePutIn rows (map snapshot_guest snaps) (pages_in rows) (k + 1) b (tables + 580) (ks ++ l ∷ []) memory') (sym last)
+      (one_put_in rows (map snapshot_guest snaps) (pages_in rows) k (first_page rows k) tables ks memory memory' row (snapshot_guest snap) l refl next.there next.read (omega (arith, there, long)) (map_at snapshot_guest snaps k snap there read) (placed memory' l is) put)

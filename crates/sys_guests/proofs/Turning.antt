@@ -7,14 +7,14 @@ use Rattle.sys_guests.proofs.Lists.{get_map}
 use Rattle.sys_guests.proofs.One.{one_became, one_turns}
 use Rattle.sys_guests.specs.Changes.{AdvancesOne, StopShows, TakesStateAt, shown_in}
 use Rattle.sys_guests.specs.Layout.{guests_in}
-use Rattle.sys_rounds.specs.Counts.{tally_by}
-use Rattle.sys_rounds.specs.Events.{message_of}
-use Rattle.sys_rounds.specs.Guests.{alone, stopped_by_command, typed}
-use Rattle.sys_rounds.specs.Slices.{Slice}
+use Rattle.sys_state.specs.Counts.{tally_by}
+use Rattle.sys_state.specs.Events.{message_of}
+use Rattle.sys_state.specs.Guests.{alone, stopped_by_command, typed}
+use Rattle.sys_state.specs.Slices.{Slice}
 use Rattle.vm_console.proofs.Kept.{kept_whole}
 use Rattle.vm_console.specs.Appends.{Appends}
-use Rattle.vm_console.specs.Kept.{Keeps, MayKeep, empty}
-use Rattle.vm_guest.specs.Kept.{Kept, StandsIn, TakesState, guest_in}
+use Rattle.vm_console.specs.Kept.{KeptOutput, MayKeep, empty}
+use Rattle.vm_guest.specs.Kept.{IsShadowedIn, Kept, TakesState, guest_in}
 use Rattle.vm_state.proofs.Steps.{shows_few, steps_keep}
 use Rattle.vm_state.specs.Outside.{commanded_to_stop, stop_message, with_line}
 use Rattle.vm_state.specs.Run.{Run, after_step, after_steps, no_steps}
@@ -33,7 +33,7 @@ steps_keep_faults : (n : ℕ) (run : Run) → (after_steps n run).guest.state.mo
 steps_keep_faults zero run = refl
 steps_keep_faults (suc n) run = steps_keep_faults n (after_step run (step run.guest)) ∙ (steps_keep run.guest).modify_faults
 
-pub advanced : (ks : List Kept) (k k' : Kept) (m m' : Machine) (old new : Keeps) (x : Slice) (c : Counts) → x.guest < length ks → k ≡ slice_index_or ks x.guest k → All (λ (y : Kept). StandsIn m.memory y) ks → x.steps ≤ 100000 → old ≡ empty
+pub advanced : (ks : List Kept) (k k' : Kept) (m m' : Machine) (old new : KeptOutput) (x : Slice) (c : Counts) → x.guest < length ks → k ≡ slice_index_or ks x.guest k → All (λ (y : Kept). IsShadowedIn m.memory y) ks → x.steps ≤ 100000 → old ≡ empty
     → Advances (MayKeep 1400000) x.steps old new m k.shadow k.state m' k'.shadow k'.state c → AdvancesOne x m ks m' (slice_set ks x.guest k') new.bytes c
 advanced ks k k' m m' old new x c there read stand few is_empty a =
     let n = x.steps in
@@ -78,7 +78,7 @@ few_said s = by s.halt refl
     by None e = rw e (omega arith)
     by (Some code) e = rw e (omega arith)
 
-pub said : (ks : List Kept) (place : ℕ) (k : Kept) (old new : Keeps) → place < length ks → k ≡ slice_index_or ks place k → old ≡ empty → Appends (MayKeep 1400000) old new (stop_message (state_of k.state)) → StopShows place ks new.bytes
+pub said : (ks : List Kept) (place : ℕ) (k : Kept) (old new : KeptOutput) → place < length ks → k ≡ slice_index_or ks place k → old ≡ empty → Appends (MayKeep 1400000) old new (stop_message (state_of k.state)) → StopShows place ks new.bytes
 said ks place k old new there read is_empty appends memory =
     let here : slice_get (guests_in memory ks) place ≡ Some (guest_in memory k) = get_map (guest_in memory) ks place k there read in
     kept_whole 1400000 old new (stop_message (state_of k.state)) is_empty appends (few_said (state_of k.state)) ∙ ap message_of (sym here)

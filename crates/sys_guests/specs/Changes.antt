@@ -4,11 +4,11 @@ use Rattle.std.specs.List.{slice_get}
 use Rattle.vax_hw.specs.Machine.{Machine}
 use Rattle.sys_guests.specs.Layout.{AreInMachine, OnlyGuests, guests_in}
 use Rattle.sys_objects.specs.declared.records.GuestRow.{GuestRow}
-use Rattle.sys_rounds.specs.Counts.{tally_by}
-use Rattle.sys_rounds.specs.Events.{message_of}
-use Rattle.sys_rounds.specs.Guests.{alone, reset}
-use Rattle.sys_rounds.specs.Slices.{Slice}
-use Rattle.sys_rounds.specs.Places.{changed}
+use Rattle.sys_state.specs.Counts.{tally_by}
+use Rattle.sys_state.specs.Events.{message_of}
+use Rattle.sys_state.specs.Guests.{alone, reset}
+use Rattle.sys_state.specs.Slices.{Slice}
+use Rattle.sys_state.specs.Places.{changed}
 use Rattle.vm_guest.specs.Kept.{Kept}
 use Rattle.vm_state.specs.Run.{Tally}
 use Rattle.vm_state.specs.State.{Guest}

@@ -7,12 +7,12 @@ use Rattle.sys_guests.specs.declared.kernel.Kernel.{Kernel}
 use Rattle.sys_lines.specs.Shows.{Shows}
 use Rattle.sys_objects.specs.Condition.{IsConfig}
 use Rattle.sys_objects.specs.declared.records.Mount.{Mount}
-use Rattle.sys_rounds.specs.State.{State, Went, bytes_on}
+use Rattle.sys_state.specs.State.{SystemState, Went, bytes_on}
 
 -- The state that it stands for, with the machine's memory and the volumes: the places of terminals and guests that don't
 -- exist are left out.
-abbrev pub state_of : List ℕ → Kernel → List (List (List ℕ)) → State
-state_of memory k volumes = record {
+abbrev pub kernel_state : List ℕ → Kernel → List (List (List ℕ)) → SystemState
+kernel_state memory k volumes = record {
   connected = take (length k.config.terminals) k.server.at;
   mounts = take (length k.config.guests) k.server.mounts;
   guests = guests_in memory k.guests.items;
@@ -37,8 +37,8 @@ pub record IsKernel (memory : List ℕ) (k : Kernel) : Type 0 where
 
 -- The kernel's work leads to this state and shows these bytes. Nothing else of the machine changes but the guests' memories and
 -- their real tables.
-pub record Leads (w : Went State) (m : Machine) (k : Kernel) (lines : List Seen) (m' : Machine) (k' : Kernel) (volumes' : List (List (List ℕ))) (lines' : List Seen) : Type 0 where
-  pub state : state_of m'.memory k' volumes' ≡ w.now
+pub record Leads (w : Went SystemState) (m : Machine) (k : Kernel) (lines : List Seen) (m' : Machine) (k' : Kernel) (volumes' : List (List (List ℕ))) (lines' : List Seen) : Type 0 where
+  pub state : kernel_state m'.memory k' volumes' ≡ w.now
   pub shows : Shows k.marks k'.marks lines lines' (λ line. bytes_on line w.puts)
   pub holds : IsKernel m'.memory k'
   pub config : k'.config ≡ k.config

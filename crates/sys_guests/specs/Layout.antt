@@ -5,7 +5,7 @@ use Rattle.std.specs.List.{AllPairs, sum_by}
 use Rattle.sys_objects.specs.Condition.{IsConfig}
 use Rattle.sys_objects.specs.declared.records.Config.{Config}
 use Rattle.sys_objects.specs.declared.records.GuestRow.{GuestRow}
-use Rattle.vm_guest.specs.Kept.{Kept, StandsIn, guest_in}
+use Rattle.vm_guest.specs.Kept.{IsShadowedIn, Kept, guest_in}
 use Rattle.vm_state.specs.State.{Guest}
 
 -- the guest of a row, with its memory and its tables from these pages on
@@ -35,7 +35,7 @@ pub record AreInMachine (rows : List GuestRow) (memory : List ℕ) (ks : List Ke
   pub few : length rows ≤ 16
   pub some_pages : sum_by (λ row. row.pages) rows ≤ 16384
   pub laid_out : AreLaidOut rows ks
-  pub stand : All (λ k. StandsIn memory k) ks
+  pub stand : All (λ k. IsShadowedIn memory k) ks
 
 -- pages of the machine
 pub record Range : Type 0 where
@@ -45,11 +45,11 @@ pub record Range : Type 0 where
 abbrev pub memory_of : Kept → Range
 memory_of k = record { from = k.state.base; pages = k.state.pages }
 
-abbrev pub tables_of : Kept → Range
-tables_of k = record { from = k.shadow.at; pages = 580 }
+abbrev pub tables_range : Kept → Range
+tables_range k = record { from = k.shadow.at; pages = 580 }
 
 abbrev pub ranges : List Kept → List Range
-ranges ks = map memory_of ks ++ map tables_of ks
+ranges ks = map memory_of ks ++ map tables_range ks
 
 -- The guests of an accepted configuration that are laid out so have memories and tables of their own, in the machine:
 -- each begins after all before it.

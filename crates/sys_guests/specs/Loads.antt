@@ -3,10 +3,10 @@ use Rattle.std.specs.Prelude.{ℕ, ◌≡◌, ◌≤◌, ◌<◌, ◌+◌, ◌*�
 use Rattle.vax_hw.specs.Machine.{Machine}
 use Rattle.sys_guests.specs.Layout.{IsPlaced}
 use Rattle.sys_objects.specs.declared.records.GuestRow.{GuestRow}
-use Rattle.sys_rounds.specs.Guests.{powered}
-use Rattle.sys_rounds.specs.Places.{beside_with, place_of}
-use Rattle.vm_fitting.specs.Present.{HasPresent}
-use Rattle.vm_guest.specs.Kept.{Kept, StandsIn, guest_in}
+use Rattle.sys_state.specs.Guests.{powered}
+use Rattle.sys_state.specs.Places.{beside_with, place_of}
+use Rattle.vm_miss_laws.specs.Present.{HasPresent}
+use Rattle.vm_guest.specs.Kept.{IsShadowedIn, Kept, guest_in}
 use Rattle.vm_state.specs.Partition.{partition_of}
 use Rattle.vm_state.specs.State.{Guest}
 use Rattle.vm_state.specs.Touches.{at_first}
@@ -35,19 +35,19 @@ pub record PutsIn (given : GuestState) (table : ℕ) (bytes : List ℕ) (memory 
   pub state : k.state ≡ given
   pub tables : k.shadow.at ≡ table
   pub holds : partition_of memory' given ≡ bytes
-  pub stands : StandsIn memory' k
+  pub stands : IsShadowedIn memory' k
   pub only : OnlyPlaces given.base given.pages table memory memory'
 
 -- The guest of a row is this one, and is in the machine at its place.
 pub record PlacesOne (row : GuestRow) (h : Guest) (base tables : ℕ) (memory memory' : List ℕ) (k : Kept) : Type 0 where
   pub placed : IsPlaced row base tables k
   pub guest : guest_in memory' k ≡ h
-  pub stands : StandsIn memory' k
+  pub stands : IsShadowedIn memory' k
   pub only : OnlyPlaces base row.pages tables memory memory'
 
 -- the guest of a row is loaded
-abbrev pub LoadsOne : (row : GuestRow) (image : List ℕ) (base tables : ℕ) (memory memory' : List ℕ) (k : Kept) → Type 0
-LoadsOne row image = PlacesOne row (powered row image)
+abbrev pub LoadsGuest : (row : GuestRow) (image : List ℕ) (base tables : ℕ) (memory memory' : List ℕ) (k : Kept) → Type 0
+LoadsGuest row image = PlacesOne row (powered row image)
 
 -- what is present by first touches at a guest's beginning has entries: nothing is
 abbrev pub HasFirst : Kept → Type 0

@@ -1,12 +1,12 @@
 ghost use Rattle.std.specs.Prelude.{◌≡◌, ◌≤◌, ◌<◌, ◌+◌, ◌*◌, ◌^◌, All, IfOk, None, [], length, map};
 ghost use Rattle.std.specs.List.{sum_by};
 ghost use Rattle.sys_guests.specs.Layout.{AreInMachine, guests_in};
-ghost use Rattle.sys_guests.specs.Loads.{HasFirst, LoadsOne, MemoryAlone, first_misfit, is_misfit};
+ghost use Rattle.sys_guests.specs.Loads.{HasFirst, LoadsGuest, MemoryAlone, first_misfit, is_misfit};
 ghost use Rattle.sys_guests.specs.Present.{HavePresent};
 ghost use Rattle.sys_objects.specs.Condition.{IsGuest};
-ghost use Rattle.sys_rounds.specs.FirstTouches.{none_touched};
-ghost use Rattle.sys_rounds.specs.Guests.{powered};
-ghost use Rattle.sys_rounds.specs.Places.{beside_with};
+ghost use Rattle.sys_state.specs.FirstTouches.{none_touched};
+ghost use Rattle.sys_state.specs.Guests.{powered};
+ghost use Rattle.sys_state.specs.Places.{beside_with};
 ghost use Rattle.vm_state.specs.Allowed.{AreAllowed};
 ghost use Rattle.vm_state.specs.State.{HasPlace, state_of};
 
@@ -71,7 +71,7 @@ fn load_guest<H: Hardware>(
     requires tables { tables + 580 ≤ 32768 }
     requires fits { row.now.load + length image.now ≤ 512 * row.now.pages }
     requires pages { length (H.machine machine.old).memory ≡ 512 * 32768 }
-    ensures ok { IfOk result (LoadsOne row.now image.now base tables (H.machine machine.old).memory (H.machine machine.new).memory) }
+    ensures ok { IfOk result (LoadsGuest row.now image.now base tables (H.machine machine.old).memory (H.machine machine.new).memory) }
     ensures present { IfOk result HasFirst }
     ensures alone { MemoryAlone (H.machine machine.old) (H.machine machine.new) }
 {

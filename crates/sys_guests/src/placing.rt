@@ -4,11 +4,11 @@ ghost use Rattle.sys_guests.specs.Layout.{AreInMachine, guests_in};
 ghost use Rattle.sys_guests.specs.Loads.{HasFirst, MemoryAlone, PutsIn};
 ghost use Rattle.sys_guests.specs.Present.{HavePresent};
 ghost use Rattle.sys_objects.specs.Condition.{IsGuest};
-ghost use Rattle.sys_rounds.specs.FirstTouches.{none_touched};
-ghost use Rattle.sys_snap.specs.Held.{ArePlaced, guest_of};
+ghost use Rattle.sys_state.specs.FirstTouches.{none_touched};
+ghost use Rattle.sys_snap.specs.Held.{ArePlacedSnapshots, snapshot_guest};
 ghost use Rattle.sys_snap.specs.Snap.{IsGuestOf};
 ghost use Rattle.vm_state.specs.Allowed.{AreAllowed};
-ghost use Rattle.vm_state.specs.Start.{opening};
+ghost use Rattle.vm_state.specs.Start.{memory_with_image};
 ghost use Rattle.vm_state.specs.State.{state_of};
 
 use crate::image::load_image;
@@ -47,7 +47,7 @@ pub fn place_guest<H: Hardware>(
     requires fits { load + length image.now ≤ 512 * state.pages }
     requires allowed { AreAllowed (512 * state.pages) (state_of state) }
     requires pages { length (H.machine machine.old).memory ≡ 512 * 32768 }
-    ensures ok { IfOk result (PutsIn state tables (opening (512 * state.pages) load image.now) (H.machine machine.old).memory (H.machine machine.new).memory) }
+    ensures ok { IfOk result (PutsIn state tables (memory_with_image (512 * state.pages) load image.now) (H.machine machine.old).memory (H.machine machine.new).memory) }
     ensures present { IfOk result HasFirst }
     ensures alone { MemoryAlone (H.machine machine.old) (H.machine machine.new) }
 {
@@ -66,11 +66,11 @@ pub fn place_guests<H: Hardware>(
     requires few { length rows.now ≤ 16 }
     requires guests { All IsGuest rows.now }
     requires some_pages { sum_by (λ row. row.pages) rows.now ≤ 16384 }
-    requires are { AllZip IsGuestOf rows.now (map guest_of snaps.items) }
-    requires places { ArePlaced 0 rows.now snaps.items }
+    requires are { AllZip IsGuestOf rows.now (map snapshot_guest snaps.items) }
+    requires places { ArePlacedSnapshots 0 rows.now snaps.items }
     requires pages { length (H.machine machine.old).memory ≡ 512 * 32768 }
     ensures placed { IfOk result (λ guests. AreInMachine rows.now (H.machine machine.new).memory guests.items) }
-    ensures guests { IfOk result (λ guests. guests_in (H.machine machine.new).memory guests.items ≡ map guest_of snaps.items) }
+    ensures guests { IfOk result (λ guests. guests_in (H.machine machine.new).memory guests.items ≡ map snapshot_guest snaps.items) }
     ensures present { IfOk result (λ guests. HavePresent guests.items (map none_touched (guests_in (H.machine machine.new).memory guests.items))) }
     ensures alone { MemoryAlone (H.machine machine.old) (H.machine machine.new) }
 {

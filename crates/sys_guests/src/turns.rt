@@ -2,11 +2,11 @@ ghost use Rattle.std.specs.Prelude.{◌≡◌, ◌≤◌, ◌<◌, All, IfSome, 
 ghost use Rattle.sys_guests.specs.Changes.{AdvancesOne, StartsOne, StopShows, TakesStateAt};
 ghost use Rattle.sys_guests.specs.Layout.{guests_in};
 ghost use Rattle.sys_guests.specs.Present.{KeepsAll, PaysAll};
-ghost use Rattle.sys_rounds.specs.FirstTouches.{with_reset};
-ghost use Rattle.sys_rounds.specs.Guests.{stopped_by_command, typed};
-ghost use Rattle.sys_rounds.specs.SlicedTouches.{touches_of_slice};
+ghost use Rattle.sys_state.specs.FirstTouches.{with_reset};
+ghost use Rattle.sys_state.specs.Guests.{stopped_by_command, typed};
+ghost use Rattle.sys_state.specs.SlicedTouches.{touches_of_slice};
 ghost use Rattle.vm_events.specs.Noted.{note_of};
-ghost use Rattle.vm_guest.specs.Kept.{StandsIn};
+ghost use Rattle.vm_guest.specs.Kept.{IsShadowedIn};
 
 use crate::kernel::MOST_SHOWN;
 use vax_hw::Hardware;
@@ -29,7 +29,7 @@ pub fn advance_at<H: Hardware>(
 ) -> Counts
     requires there { slice.guest < vec_len guests.old }
     requires few { slice.steps ≤ 100000 }
-    requires stand { All (λ k. StandsIn (H.machine machine.old).memory k) guests.old.items }
+    requires stand { All (λ k. IsShadowedIn (H.machine machine.old).memory k) guests.old.items }
     ensures advances { AdvancesOne (record { guest = slice.guest; steps = slice.steps }) (H.machine machine.old) guests.old.items (H.machine machine.new) guests.new.items port.new.bytes result }
     ensures pays { PaysAll (touches_of_slice (record { guest = slice.guest; steps = slice.steps }) (guests_in (H.machine machine.old).memory guests.old.items)) (H.machine machine.old) guests.old.items (H.machine machine.new) guests.new.items }
 {
@@ -46,7 +46,7 @@ pub fn step_at<H: Hardware>(
     place: u8,
 ) -> Once
     requires there { place < vec_len guests.old }
-    requires stand { All (λ k. StandsIn (H.machine machine.old).memory k) guests.old.items }
+    requires stand { All (λ k. IsShadowedIn (H.machine machine.old).memory k) guests.old.items }
     ensures advances { AdvancesOne (record { guest = place; steps = 1 }) (H.machine machine.old) guests.old.items (H.machine machine.new) guests.new.items port.new.bytes result.counts }
     ensures pays { PaysAll (touches_of_slice (record { guest = place; steps = 1 }) (guests_in (H.machine machine.old).memory guests.old.items)) (H.machine machine.old) guests.old.items (H.machine machine.new) guests.new.items }
     ensures note { IfSome (slice_get (guests_in (H.machine machine.old).memory guests.old.items) place) (λ g. result.note ≡ note_of g) }
@@ -59,7 +59,7 @@ pub fn step_at<H: Hardware>(
 /// A guest starts.
 pub fn start_at<H: Hardware>(machine: &mut H, guests: &mut Vec<Guest>, place: u8)
     requires there { place < vec_len guests.old }
-    requires stand { All (λ k. StandsIn (H.machine machine.old).memory k) guests.old.items }
+    requires stand { All (λ k. IsShadowedIn (H.machine machine.old).memory k) guests.old.items }
     ensures starts { StartsOne place (H.machine machine.old) guests.old.items (H.machine machine.new) guests.new.items }
     ensures rest { H.machine machine.new ≡ record (H.machine machine.old) { memory = (H.machine machine.new).memory } }
     ensures present { KeepsAll (with_reset (Some place) (guests_in (H.machine machine.new).memory guests.new.items)) guests.old.items guests.new.items }

@@ -1,6 +1,6 @@
 -- Look-ups that go along a list.
 use Rattle.std.proofs.Common.{ℕ, suc, ◌≡◌, ◌<◌, ◌+◌, List, ◌∷◌, length, drop, slice_index_or, refl, sym, ◌∙◌, ap, arith, Bool, true, false, if◌then◌else◌, Option, Some, None, option_map, add-one, drop-cons}
-use Rattle.sys_rounds.specs.Places.{place_of}
+use Rattle.sys_state.specs.Places.{place_of}
 
 -- what begins at a place
 pub from_place : {X : Type 0} (xs : List X) (k : ℕ) (x : X) → k < length xs → x ≡ slice_index_or xs k x → drop k xs ≡ x ∷ drop (k + 1) xs

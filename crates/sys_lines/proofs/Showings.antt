@@ -1,22 +1,22 @@
 -- What lines are shown, one showing after another.
 use Rattle.std.proofs.Common.{ℕ, ◌≡◌, ◌<◌, List, [], ◌∷◌, ◌++◌, length, slice_index_or, slice_set, refl, sym, ◌∙◌, ap, subst, Bool, true, false, true≢false, if◌then◌else◌, ◌==◌, Some, map, Result, is_err}
 use Rattle.sys_lines.specs.ShownSince.{ShownSinceOn}
-use Rattle.sys_rounds.proofs.Places.{both}
+use Rattle.sys_state.proofs.Places.{both}
 use Rattle.std.proofs.lemmas.Bool.{eq-eqb, eqb-true}
 use Rattle.std.proofs.lemmas.List.{get_or-set_same, get_or-set_other}
 use Rattle.vv_io.specs.Lines.{PutsOn, Seen, unseen}
 use Rattle.sys_lines.proofs.OneLine.{put_once}
 use Rattle.sys_lines.proofs.Puts.{joined, shows_nothing, still}
 use Rattle.sys_lines.specs.ShownSince.{ShownSince}
-use Rattle.sys_lines.specs.Shows.{Gets, Shows, only_on}
+use Rattle.sys_lines.specs.Shows.{Shows, ShowsUnlessMarked, only_on}
 
 -- a line gets nothing
-gets_none : (marked : Bool) (line : Seen) → Gets marked marked line line []
+gets_none : (marked : Bool) (line : Seen) → ShowsUnlessMarked marked marked line line []
 gets_none true line = (refl, refl)
 gets_none false line = shows_nothing line
 
 -- a line gets bytes and then more
-gets_then : (a b c : Bool) (l m n : Seen) (x y : List ℕ) → Gets a b l m x → Gets b c m n y → Gets a c l n (x ++ y)
+gets_then : (a b c : Bool) (l m n : Seen) (x y : List ℕ) → ShowsUnlessMarked a b l m x → ShowsUnlessMarked b c m n y → ShowsUnlessMarked a c l n (x ++ y)
 gets_then true true c l m n x y (marked, same) (still_marked, still_same) = (still_marked, still_same ∙ same)
 gets_then true false c l m n x y (marked, same) second = absurd (true≢false (sym marked))
 gets_then false true c l m n x y first (still_marked, same) =
@@ -43,12 +43,12 @@ shows_then {a} {b} {c} {l} {m} {n} {f} {h} first second = record {
 }
 
 -- a line that isn't marked shows bytes; one that isn't put on is as before
-gets_shown : (a b b' : Bool) (l l' line : Seen) (x y : List ℕ) → a ≡ false → b ≡ b' → l' ≡ line → y ≡ x → ShownSince b' l line x → Gets a b l l' y
+gets_shown : (a b b' : Bool) (l l' line : Seen) (x y : List ℕ) → a ≡ false → b ≡ b' → l' ≡ line → y ≡ x → ShownSince b' l line x → ShowsUnlessMarked a b l l' y
 gets_shown a b b' l l' line x y unmarked mark is same shows =
-    subst (λ v. Gets v b l l' y) (sym unmarked) (subst (λ v. ShownSince v l l' y) (sym mark) (subst (λ s. ShownSince b' l s y) (sym is) (subst (λ bytes. ShownSince b' l line bytes) (sym same) shows)))
+    subst (λ v. ShowsUnlessMarked v b l l' y) (sym unmarked) (subst (λ v. ShownSince v l l' y) (sym mark) (subst (λ s. ShownSince b' l s y) (sym is) (subst (λ bytes. ShownSince b' l line bytes) (sym same) shows)))
 
-gets_nothing : (a b : Bool) (l l' : Seen) (y : List ℕ) → b ≡ a → l' ≡ l → y ≡ [] → Gets a b l l' y
-gets_nothing a b l l' y mark is none = subst (λ v. Gets a v l l' y) (sym mark) (subst (λ s. Gets a a l s y) (sym is) (subst (λ bytes. Gets a a l l bytes) (sym none) (gets_none a l)))
+gets_nothing : (a b : Bool) (l l' : Seen) (y : List ℕ) → b ≡ a → l' ≡ l → y ≡ [] → ShowsUnlessMarked a b l l' y
+gets_nothing a b l l' y mark is none = subst (λ v. ShowsUnlessMarked a v l l' y) (sym mark) (subst (λ s. ShowsUnlessMarked a a l s y) (sym is) (subst (λ bytes. ShowsUnlessMarked a a l l bytes) (sym none) (gets_none a l)))
 
 -- bytes for a line that isn't marked
 pub shows_on : (marks : List Bool) (lines lines' : List Seen) (k : ℕ) (failed : Bool) (bytes : List ℕ) → k < length marks → slice_index_or marks k false ≡ false → (bytes ≡ [] → ⊥) → ShownSinceOn k failed lines lines' bytes → Shows marks (slice_set marks k failed) lines lines' (only_on (Some k) bytes)
@@ -60,7 +60,7 @@ shows_on marks lines lines' k failed bytes there unmarked some (line, is, inside
     let apart : (j : ℕ) → (k == j) ≡ false → j ≡ k → ⊥ = λ j e q. true≢false (sym (eq-eqb k j (sym q)) ∙ e) in
     record {
       line = λ j. both (k == j)
-          (λ e. subst (λ n. Gets (slice_index_or marks n false) (slice_index_or (slice_set marks k failed) n false) (slice_index_or lines n unseen) (slice_index_or lines' n unseen) (only_on (Some k) bytes n)) (eqb-true k j e)
+          (λ e. subst (λ n. ShowsUnlessMarked (slice_index_or marks n false) (slice_index_or (slice_set marks k failed) n false) (slice_index_or lines n unseen) (slice_index_or lines' n unseen) (only_on (Some k) bytes n)) (eqb-true k j e)
           (gets_shown _ _ failed _ _ line bytes _ unmarked mark shown (ap (λ b. if b then bytes else []) (eq-eqb k k refl)) shows))
           (λ e. gets_nothing _ _ _ _ _ (other_mark j (apart j e)) (other_line j (apart j e)) (ap (λ b. if b then bytes else []) e));
       others = λ j none. both (k == j)
@@ -71,7 +71,7 @@ shows_on marks lines lines' k failed bytes there unmarked some (line, is, inside
 -- the same bytes, in another form
 pub shows_same : (marks marks' : List Bool) (lines lines' : List Seen) (f h : ℕ → List ℕ) → ((k : ℕ) → f k ≡ h k) → Shows marks marks' lines lines' f → Shows marks marks' lines lines' h
 shows_same marks marks' lines lines' f h e shows = record {
-  line = λ k. subst (λ bytes. Gets (slice_index_or marks k false) (slice_index_or marks' k false) (slice_index_or lines k unseen) (slice_index_or lines' k unseen) bytes) (e k) (shows.line k);
+  line = λ k. subst (λ bytes. ShowsUnlessMarked (slice_index_or marks k false) (slice_index_or marks' k false) (slice_index_or lines k unseen) (slice_index_or lines' k unseen) bytes) (e k) (shows.line k);
   others = λ k none. shows.others k (e k ∙ none);
 }
 

@@ -1,7 +1,7 @@
 ghost use Rattle.std.specs.Prelude.{◌≡◌, ◌<◌, map, vec_len, is_err, IfSome, Some};
 ghost use Rattle.sys_lines.specs.ShownSince.{ShownSinceOn};
 ghost use Rattle.sys_lines.specs.Shows.{Shows, only_on};
-ghost use Rattle.sys_rounds.specs.Places.{place_of};
+ghost use Rattle.sys_state.specs.Places.{place_of};
 
 use vv_io::{Line, LineFault, put_on};
 

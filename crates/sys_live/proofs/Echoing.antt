@@ -6,14 +6,14 @@ use Rattle.std.proofs.lemmas.List.Elements.{All-cons, All-head, All-tail}
 use Rattle.vv_io.specs.Lines.{Counts, Seen, shown_after, unseen}
 use Rattle.sys_echo.specs.Echo.{echo_of}
 use Rattle.sys_echo.specs.Rounds.{echo_all, echo_rounds, taken_next}
-use Rattle.sys_echo.specs.Screens.{AreSameScreens, AreScreens, AreTold, AreWithin, IsTold, more_on, new_on, news, told_of}
+use Rattle.sys_echo.specs.Screens.{AreLinesKnown, AreSameScreens, AreScreens, AreWithin, IsLineKnown, more_on, new_on, news, shown_if_known}
 use Rattle.sys_echo.specs.declared.screen.Screen.{Screen}
-use Rattle.sys_lines.specs.Shows.{Gets, Shows}
+use Rattle.sys_lines.specs.Shows.{Shows, ShowsUnlessMarked}
 use Rattle.sys_objects.specs.declared.records.Terminal.{Terminal}
-use Rattle.sys_rounds.proofs.Consoles.{bytes_append}
-use Rattle.sys_rounds.specs.Bytes.{shown_from}
-use Rattle.sys_rounds.specs.Run.{Moment, round, rounds_from}
-use Rattle.sys_rounds.specs.State.{State, Went, bytes_on}
+use Rattle.sys_state.proofs.Consoles.{bytes_append}
+use Rattle.sys_state.specs.Bytes.{shown_from}
+use Rattle.sys_state.specs.Run.{Moment, round, rounds_from}
+use Rattle.sys_state.specs.State.{SystemState, Went, bytes_on}
 use Rattle.sys_runs.proofs.Many.{rounds_more}
 use Rattle.sys_script.specs.declared.event.Event.{Event}
 use Rattle.sys_live.proofs.Joining.{AreAlike, rounds_alike}
@@ -24,7 +24,7 @@ at lines k = slice_index_or lines k unseen
 
 -- what a line has shown
 abbrev pub text_of : Seen → List ℕ
-text_of line = told_of line.shown
+text_of line = shown_if_known line.shown
 
 -- how many bytes more
 abbrev pub more : Seen → Seen → ℕ
@@ -32,31 +32,31 @@ more l l' = length (text_of l') - length (text_of l)
 
 -- a line that is told was told before bytes were put on it
 put_told : (o o' : Option (List ℕ)) (y : List ℕ) → o' ≡ shown_after o y → (shown : List ℕ) × (o' ≡ Some shown) × (length shown < 2 ^ 64)
-    → ((before : List ℕ) × (o ≡ Some before) × (length before < 2 ^ 64)) × (told_of o' ≡ told_of o ++ y)
+    → ((before : List ℕ) × (o ≡ Some before) × (length before < 2 ^ 64)) × (shown_if_known o' ≡ shown_if_known o ++ y)
 put_told None o' y is (shown, told, few) = let no : Some shown ≡ None = sym told ∙ is in absurd cc
 put_told (Some before) o' y is (shown, told, few) =
     let same : Some shown ≡ Some (before ++ y) = sym told ∙ is in
-    let text : shown ≡ before ++ y = ap told_of same in
+    let text : shown ≡ before ++ y = ap shown_if_known same in
     let long : length shown ≡ length before + length y = ap length text ∙ length-append before y in
-    ((before, refl, omega (arith, few, long)), ap told_of is)
+    ((before, refl, omega (arith, few, long)), ap shown_if_known is)
 
 -- A line took so many bytes of these.
 pub record HasTaken (l l' : Seen) (x : List ℕ) : Type 0 where
-  pub told : IsTold l
+  pub told : IsLineKnown l
   pub some : ℕ
   pub few : some ≤ length x
   pub is : text_of l' ≡ text_of l ++ take some x
 
-taken_by : (l l' : Seen) (x : List ℕ) (n : ℕ) → n ≤ length x → l'.shown ≡ shown_after l.shown (take n x) → IsTold l' → HasTaken l l' x
+taken_by : (l l' : Seen) (x : List ℕ) (n : ℕ) → n ≤ length x → l'.shown ≡ shown_after l.shown (take n x) → IsLineKnown l' → HasTaken l l' x
 taken_by l l' x n few shown told =
     let (before, is) = put_told l.shown l'.shown (take n x) shown told in
     record { told = before; some = n; few = few; is = is }
 
-all_taken : (l l' : Seen) (x : List ℕ) → l'.shown ≡ shown_after l.shown x → IsTold l' → HasTaken l l' x
+all_taken : (l l' : Seen) (x : List ℕ) → l'.shown ≡ shown_after l.shown x → IsLineKnown l' → HasTaken l l' x
 all_taken l l' x shown told = taken_by l l' x (length x) (omega arith) (shown ∙ ap (shown_after l.shown) (sym (take-length x))) told
 
-has_taken : (b b' : Bool) (l l' : Seen) (x : List ℕ) → Gets b b' l l' x → IsTold l' → HasTaken l l' x
-has_taken true b' l l' x (marked, same) told = record { told = subst IsTold same told; some = 0; few = omega arith; is = ap text_of same ∙ sym (append-nil (text_of l)) }
+has_taken : (b b' : Bool) (l l' : Seen) (x : List ℕ) → ShowsUnlessMarked b b' l l' x → IsLineKnown l' → HasTaken l l' x
+has_taken true b' l l' x (marked, same) told = record { told = subst IsLineKnown same told; some = 0; few = omega arith; is = ap text_of same ∙ sym (append-nil (text_of l)) }
 has_taken false false l l' x (count, shown) told = all_taken l l' x shown told
 has_taken false true l l' x (rose, (n, few, shown)) told = taken_by l l' x n few shown told
 
@@ -72,7 +72,7 @@ taken_more l l' x h =
     h.is ∙ ap (λ k. text_of l ++ take k x) some
 
 -- Of a front of what it was shown it took the same as it has taken later.
-still_taken : (b b1 b2 : Bool) (l l1 l2 : Seen) (x y z : List ℕ) → Gets b b1 l l1 x → Gets b1 b2 l1 l2 y → IsTold l2 → length z ≤ length x → take (more l l2) z ≡ take (more l l1) z
+still_taken : (b b1 b2 : Bool) (l l1 l2 : Seen) (x y z : List ℕ) → ShowsUnlessMarked b b1 l l1 x → ShowsUnlessMarked b1 b2 l1 l2 y → IsLineKnown l2 → length z ≤ length x → take (more l l2) z ≡ take (more l l1) z
 still_taken b true b2 l l1 l2 x y z first (marked, same) told short = ap (λ (s : Seen). take (more l s) z) same
 still_taken true false b2 l l1 l2 x y z (marked, same) second told short = absurd (true≢false (sym marked))
 still_taken false false b2 l l1 l2 x y z (count, shown) second told short =
@@ -86,9 +86,9 @@ still_taken false false b2 l l1 l2 x y z (count, shown) second told short =
 -- more rounds show more
 shown_more : (m : Moment) (es : List Event) (n line : ℕ) → (rest : List ℕ) × (shown_from m es (suc n) line ≡ shown_from m es n line ++ rest)
 shown_more m es n line =
-    let before : Went State = rounds_from m es n in
-    let last : Went State = round m.config ((m.made + 1) + n) es before.now in
-    (bytes_on line last.puts, ap (λ (w : Went State). bytes_on line w.puts) (rounds_more m.config (m.made + 1) n es m.state) ∙ bytes_append line before.puts last.puts)
+    let before : Went SystemState = rounds_from m es n in
+    let last : Went SystemState = round m.config ((m.made + 1) + n) es before.now in
+    (bytes_on line last.puts, ap (λ (w : Went SystemState). bytes_on line w.puts) (rounds_more m.config (m.made + 1) n es m.state) ∙ bytes_append line before.puts last.puts)
 
 shown_longer : (m : Moment) (es : List Event) (line i j : ℕ) → length (shown_from m es i line) ≤ length (shown_from m es (i + j) line)
 shown_longer m es line i zero = let same : i ≡ i + 0 = omega arith in subst (λ k. length (shown_from m es i line) ≤ length (shown_from m es k line)) same (omega arith)
@@ -123,7 +123,7 @@ echo_alike all all' m es fs (suc n) same =
 pub record IsCurrent (lines : List Seen) (t : Terminal) (q : Screen) : Type 0 where
   pub name : q.name ≡ t.name
   pub line : q.line ≡ t.line
-  pub seen : IsTold (at lines t.line) → q.seen ≡ length (text_of (at lines t.line))
+  pub seen : IsLineKnown (at lines t.line) → q.seen ≡ length (text_of (at lines t.line))
 
 abbrev pub AreCurrent : List Seen → List Terminal → List Screen → Type 0
 AreCurrent lines [] [] = Unit {0}
@@ -132,10 +132,10 @@ AreCurrent lines (t ∷ ts) [] = ⊥
 AreCurrent lines (t ∷ ts) (q ∷ qs) = IsCurrent lines t q × AreCurrent lines ts qs
 
 -- it is so at first
-counts_all : (o : Option (List ℕ)) (seen : ℕ) → Counts o seen → (shown : List ℕ) × (o ≡ Some shown) × (length shown < 2 ^ 64) → seen ≡ length (told_of o)
+counts_all : (o : Option (List ℕ)) (seen : ℕ) → Counts o seen → (shown : List ℕ) × (o ≡ Some shown) × (length shown < 2 ^ 64) → seen ≡ length (shown_if_known o)
 counts_all None seen counts (shown, told, few) = absurd cc
 counts_all (Some text) seen counts (shown, told, few) =
-    let same : length text ≡ length shown = ap (λ (o : Option (List ℕ)). length (told_of o)) told in
+    let same : length text ≡ length shown = ap (λ (o : Option (List ℕ)). length (shown_if_known o)) told in
     omega (arith, counts, few, same)
 
 pub current_first : (lines : List Seen) (ts : List Terminal) (qs : List Screen) → AreScreens lines ts qs → AreCurrent lines ts qs
@@ -163,7 +163,7 @@ same_there (q ∷ qs) (q' ∷ qs') same there =
 
 -- Lines were shown what rounds show, and then more.
 module _ (m : Moment) (es fs : List Event) (n : ℕ) (marks marks1 marks2 : List Bool) (lines lines1 lines2 : List Seen) (bytes : ℕ → List ℕ) (alike : AreAlike (m.made + 1) n es fs) (first : Shows marks marks1 lines lines1 (λ k. shown_from m es n k)) (second : Shows marks1 marks2 lines1 lines2 bytes) where
-  told_earlier : (k : ℕ) → IsTold (at lines2 k) → HasTaken (at lines1 k) (at lines2 k) (bytes k)
+  told_earlier : (k : ℕ) → IsLineKnown (at lines2 k) → HasTaken (at lines1 k) (at lines2 k) (bytes k)
   told_earlier k told = has_taken (slice_index_or marks1 k false) (slice_index_or marks2 k false) (at lines1 k) (at lines2 k) (bytes k) (second.line k) told
 
   -- what was told is told before
@@ -177,9 +177,9 @@ module _ (m : Moment) (es fs : List Event) (n : ℕ) (marks marks1 marks2 : List
   later k = more_on lines lines2 k
 
   same_shown : (k j : ℕ) → j ≤ n → shown_from m fs j k ≡ shown_from m es j k
-  same_shown k j low = ap (λ (w : Went State). bytes_on k w.puts) (sym (rounds_alike m.config (m.made + 1) j es fs m.state (λ i from to. alike i from (omega (arith, low, to)))))
+  same_shown k j low = ap (λ (w : Went SystemState). bytes_on k w.puts) (sym (rounds_alike m.config (m.made + 1) j es fs m.state (λ i from to. alike i from (omega (arith, low, to)))))
 
-  same_taken : (k j : ℕ) → IsTold (at lines2 k) → j ≤ n → take (later k) (shown_from m fs j k) ≡ take (now k) (shown_from m es j k)
+  same_taken : (k j : ℕ) → IsLineKnown (at lines2 k) → j ≤ n → take (later k) (shown_from m fs j k) ≡ take (now k) (shown_from m es j k)
   same_taken k j told low =
       ap (take (later k)) (same_shown k j low)
       ∙ still_taken (slice_index_or marks k false) (slice_index_or marks1 k false) (slice_index_or marks2 k false) (at lines k) (at lines1 k) (at lines2 k) (shown_from m es n k) (bytes k) (shown_from m es j k) (first.line k) (second.line k) told (shown_within m es k j n low)
@@ -194,7 +194,7 @@ module _ (m : Moment) (es fs : List Event) (n : ℕ) (marks marks1 marks2 : List
 
   module _ (whole : Shows marks marks2 lines lines2 (λ k. shown_from m fs (suc n) k)) where
     -- the bytes after those that were seen are those of the next round
-    next_is : (k : ℕ) → IsTold (at lines2 k) → drop (length (text_of (at lines1 k))) (text_of (at lines2 k)) ≡ taken_next (later k) m fs n k
+    next_is : (k : ℕ) → IsLineKnown (at lines2 k) → drop (length (text_of (at lines1 k))) (text_of (at lines2 k)) ≡ taken_next (later k) m fs n k
     next_is k told =
         let l = at lines k in
         let l1 = at lines1 k in
@@ -213,20 +213,20 @@ module _ (m : Moment) (es fs : List Event) (n : ℕ) (marks marks1 marks2 : List
     news_are [] (q ∷ qs) current are = absurd current
     news_are (t ∷ ts) [] current are = absurd current
     news_are (t ∷ ts) (q ∷ qs) current are =
-        let told : IsTold (at lines2 t.line) = All-head (λ (x : Terminal). IsTold (at lines2 x.line)) t ts are in
-        let rest = news_are ts qs current.1 (All-tail (λ (x : Terminal). IsTold (at lines2 x.line)) t ts are) in
+        let told : IsLineKnown (at lines2 t.line) = All-head (λ (x : Terminal). IsLineKnown (at lines2 x.line)) t ts are in
+        let rest = news_are ts qs current.1 (All-tail (λ (x : Terminal). IsLineKnown (at lines2 x.line)) t ts are) in
         let seen : q.seen ≡ length (text_of (at lines1 t.line)) = current.0.seen (told_earlier t.line told).told in
         let here : new_on lines2 q ≡ taken_next (later t.line) m fs n t.line = (λ i. drop (seen i) (text_of (at lines2 (current.0.line i)))) ∙ next_is t.line told in
         λ i. echo_of (current.0.name i) (here i) ++ rest i
 
   -- and all of them are told
-  pub screens_told : (ts : List Terminal) (qs : List Screen) → AreCurrent lines1 ts qs → AreSeen ts lines2 → AreTold lines2 qs
+  pub screens_told : (ts : List Terminal) (qs : List Screen) → AreCurrent lines1 ts qs → AreSeen ts lines2 → AreLinesKnown lines2 qs
   screens_told [] [] current are = λ k d within. absurd (omega (arith, within))
   screens_told [] (q ∷ qs) current are = absurd current
   screens_told (t ∷ ts) [] current are = absurd current
   screens_told (t ∷ ts) (q ∷ qs) current are =
-      All-cons (λ (x : Screen). IsTold (at lines2 x.line)) q qs (subst (λ k. IsTold (at lines2 k)) (sym current.0.line) (All-head (λ (x : Terminal). IsTold (at lines2 x.line)) t ts are))
-      (screens_told ts qs current.1 (All-tail (λ (x : Terminal). IsTold (at lines2 x.line)) t ts are))
+      All-cons (λ (x : Screen). IsLineKnown (at lines2 x.line)) q qs (subst (λ k. IsLineKnown (at lines2 k)) (sym current.0.line) (All-head (λ (x : Terminal). IsLineKnown (at lines2 x.line)) t ts are))
+      (screens_told ts qs current.1 (All-tail (λ (x : Terminal). IsLineKnown (at lines2 x.line)) t ts are))
 
   -- no screen has seen more than its line has shown
   pub screens_within : (ts : List Terminal) (qs : List Screen) → AreCurrent lines1 ts qs → AreWithin lines2 qs
@@ -234,9 +234,9 @@ module _ (m : Moment) (es fs : List Event) (n : ℕ) (marks marks1 marks2 : List
   screens_within [] (q ∷ qs) current = absurd current
   screens_within (t ∷ ts) [] current = absurd current
   screens_within (t ∷ ts) (q ∷ qs) current =
-      All-cons (λ (x : Screen). IsTold (at lines2 x.line) → x.seen ≤ length (text_of (at lines2 x.line))) q qs
+      All-cons (λ (x : Screen). IsLineKnown (at lines2 x.line) → x.seen ≤ length (text_of (at lines2 x.line))) q qs
       (λ told.
-      let there : IsTold (at lines2 t.line) = subst (λ k. IsTold (at lines2 k)) current.0.line told in
+      let there : IsLineKnown (at lines2 t.line) = subst (λ k. IsLineKnown (at lines2 k)) current.0.line told in
       let taken : HasTaken (at lines1 t.line) (at lines2 t.line) (bytes t.line) = told_earlier t.line there in
       let seen : q.seen ≡ length (text_of (at lines1 t.line)) = current.0.seen taken.told in
       let long : length (text_of (at lines2 t.line)) ≡ length (text_of (at lines1 t.line)) + taken.some = longer (at lines1 t.line) (at lines2 t.line) (bytes t.line) taken in
@@ -250,7 +250,7 @@ no_rest n xs low none =
     omega (arith, low, rest, length-drop n xs)
 
 -- screens that were looked at have seen all
-pub current_after : (lines lines2 : List Seen) (ts : List Terminal) (qs qs' : List Screen) → AreCurrent lines ts qs → AreSameScreens qs qs' → AreWithin lines2 qs' → All (λ screen. IsTold (at lines2 screen.line) → new_on lines2 screen ≡ []) qs' → AreCurrent lines2 ts qs'
+pub current_after : (lines lines2 : List Seen) (ts : List Terminal) (qs qs' : List Screen) → AreCurrent lines ts qs → AreSameScreens qs qs' → AreWithin lines2 qs' → All (λ screen. IsLineKnown (at lines2 screen.line) → new_on lines2 screen ≡ []) qs' → AreCurrent lines2 ts qs'
 current_after lines lines2 [] [] [] current same within seen = tt
 current_after lines lines2 [] [] (q' ∷ qs') current same within seen = absurd same
 current_after lines lines2 [] (q ∷ qs) qs' current same within seen = absurd current
@@ -262,9 +262,9 @@ current_after lines lines2 (t ∷ ts) (q ∷ qs) (q' ∷ qs') current same withi
         name = same.0.name ∙ current.0.name;
         line = line;
         seen = λ told.
-            let there : IsTold (at lines2 q'.line) = subst (λ k. IsTold (at lines2 k)) (sym line) told in
-            no_rest q'.seen (text_of (at lines2 q'.line)) (All-head (λ (x : Screen). IsTold (at lines2 x.line) → x.seen ≤ length (text_of (at lines2 x.line))) q' qs' within there) (All-head (λ (x : Screen). IsTold (at lines2 x.line) → new_on lines2 x ≡ []) q' qs' seen there)
+            let there : IsLineKnown (at lines2 q'.line) = subst (λ k. IsLineKnown (at lines2 k)) (sym line) told in
+            no_rest q'.seen (text_of (at lines2 q'.line)) (All-head (λ (x : Screen). IsLineKnown (at lines2 x.line) → x.seen ≤ length (text_of (at lines2 x.line))) q' qs' within there) (All-head (λ (x : Screen). IsLineKnown (at lines2 x.line) → new_on lines2 x ≡ []) q' qs' seen there)
             ∙ ap (λ k. length (text_of (at lines2 k))) line;
       },
-      current_after lines lines2 ts qs qs' current.1 same.1 (All-tail (λ (x : Screen). IsTold (at lines2 x.line) → x.seen ≤ length (text_of (at lines2 x.line))) q' qs' within) (All-tail (λ (x : Screen). IsTold (at lines2 x.line) → new_on lines2 x ≡ []) q' qs' seen),
+      current_after lines lines2 ts qs qs' current.1 same.1 (All-tail (λ (x : Screen). IsLineKnown (at lines2 x.line) → x.seen ≤ length (text_of (at lines2 x.line))) q' qs' within) (All-tail (λ (x : Screen). IsLineKnown (at lines2 x.line) → new_on lines2 x ≡ []) q' qs' seen),
     )

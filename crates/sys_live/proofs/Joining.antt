@@ -7,29 +7,29 @@ use Rattle.vv_io.specs.Lines.{Seen}
 use Rattle.sys_guests.specs.Changes.{Retires}
 use Rattle.sys_objects.specs.declared.records.Config.{Config}
 use Rattle.sys_objects.specs.declared.records.GuestRow.{GuestRow}
-use Rattle.sys_rounds.proofs.Steps.{as_sum}
-use Rattle.sys_rounds.specs.Counts.{added, round_tally, rounds_tally}
-use Rattle.sys_rounds.specs.Events.{events}
-use Rattle.sys_rounds.specs.FirstTouches.{touches_of_rounds}
-use Rattle.sys_rounds.specs.Run.{events_of, round, rounds}
-use Rattle.sys_rounds.specs.State.{State, Went}
-use Rattle.sys_rounds.specs.Transfers.{transfers}
-use Rattle.sys_rounds.specs.Turns.{turns}
+use Rattle.sys_state.proofs.Steps.{as_sum}
+use Rattle.sys_state.specs.Counts.{added, round_tally, rounds_tally}
+use Rattle.sys_state.specs.Events.{events}
+use Rattle.sys_state.specs.FirstTouches.{touches_of_rounds}
+use Rattle.sys_state.specs.Run.{events_of, round, rounds}
+use Rattle.sys_state.specs.State.{SystemState, Went}
+use Rattle.sys_state.specs.Transfers.{transfers}
+use Rattle.sys_state.specs.Turns.{turns}
 use Rattle.sys_runs.proofs.Many.{more_made, tally_in, touched_in}
 use Rattle.sys_runs.specs.Rounds.{MakesRounds}
 use Rattle.sys_script.specs.Events.{AreEvents, IsEvent, NeverFalls}
 use Rattle.sys_script.specs.declared.event.Event.{Event}
 use Rattle.sys_system.proofs.Paying.{pays_as}
 use Rattle.sys_system.proofs.Rounding.{all_of}
-use Rattle.sys_system.specs.Calls.{AreOf, Goes, MakesRound}
-use Rattle.sys_system.specs.System.{System, state_of}
+use Rattle.sys_system.specs.Calls.{AreOf, LeadsToState, MakesRound}
+use Rattle.sys_system.specs.System.{System, system_state}
 use Rattle.vm_state.specs.Run.{Tally}
 use Rattle.vm_state.specs.State.{Guest}
 use Rattle.vm_state.specs.Touches.{Touching}
 use Rattle.vm_stepping.specs.Made.{tally_of}
 
 -- a round with these events, which are all its own
-abbrev round_by : Config → ℕ → State → List Event → Went State
+abbrev round_by : Config → ℕ → SystemState → List Event → Went SystemState
 round_by c i s es =
     let begun = events c i s es in
     let turned = turns c begun.now in
@@ -47,22 +47,22 @@ alike_later : (i n : ℕ) (es fs : List Event) → AreAlike i (suc n) es fs → 
 alike_later i n es fs same k from to = same k (omega (arith, from)) (omega (arith, to))
 
 -- only the events of these rounds count
-pub rounds_alike : (c : Config) (i n : ℕ) (es fs : List Event) (s : State) → AreAlike i n es fs → rounds c i n es s ≡ rounds c i n fs s
+pub rounds_alike : (c : Config) (i n : ℕ) (es fs : List Event) (s : SystemState) → AreAlike i n es fs → rounds c i n es s ≡ rounds c i n fs s
 rounds_alike c i zero es fs s same = refl
 rounds_alike c i (suc n) es fs s same =
     let own : events_of i es ≡ events_of i fs = alike_here i n es fs same in
-    let whole : Went State → Went State → Went State = λ a b. record { now = b.now; puts = a.puts ++ b.puts } in
-    let then : List Event → Went State = λ these. whole (round_by c i s these) (rounds c (suc i) n es (round_by c i s these).now) in
+    let whole : Went SystemState → Went SystemState → Went SystemState = λ a b. record { now = b.now; puts = a.puts ++ b.puts } in
+    let then : List Event → Went SystemState = λ these. whole (round_by c i s these) (rounds c (suc i) n es (round_by c i s these).now) in
     ap then own ∙ ap (whole (round c i fs s)) (rounds_alike c (suc i) n es fs (round c i fs s).now (alike_later i n es fs same))
 
-tally_alike : (c : Config) (i n : ℕ) (es fs : List Event) (s : State) → AreAlike i n es fs → rounds_tally c i n es s ≡ rounds_tally c i n fs s
+tally_alike : (c : Config) (i n : ℕ) (es fs : List Event) (s : SystemState) → AreAlike i n es fs → rounds_tally c i n es s ≡ rounds_tally c i n fs s
 tally_alike c i zero es fs s same = refl
 tally_alike c i (suc n) es fs s same =
     let own : events_of i es ≡ events_of i fs = alike_here i n es fs same in
     let then : List Event → Tally = λ these. added (tally_in c i s these) (rounds_tally c (suc i) n es (round_by c i s these).now) in
     ap then own ∙ ap (added (tally_in c i s (events_of i fs))) (tally_alike c (suc i) n es fs (round c i fs s).now (alike_later i n es fs same))
 
-touches_alike : (c : Config) (i n : ℕ) (es fs : List Event) (s : State) (ts : List Touching) → AreAlike i n es fs → touches_of_rounds c i n es s ts ≡ touches_of_rounds c i n fs s ts
+touches_alike : (c : Config) (i n : ℕ) (es fs : List Event) (s : SystemState) (ts : List Touching) → AreAlike i n es fs → touches_of_rounds c i n es s ts ≡ touches_of_rounds c i n fs s ts
 touches_alike c i zero es fs s ts same = refl
 touches_alike c i (suc n) es fs s ts same =
     let own : events_of i es ≡ events_of i fs = alike_here i n es fs same in
@@ -70,8 +70,8 @@ touches_alike c i (suc n) es fs s ts same =
     ap then own ∙ touches_alike c (suc i) n es fs (round c i fs s).now (touched_in c i s ts (events_of i fs)) (alike_later i n es fs same)
 
 module _ (n : ℕ) (es fs : List Event) (m m' : Machine) (s s' : System) (lines lines' : List Seen) (same : AreAlike (s.rounds + 1) n es fs) (r : MakesRounds n es m s lines m' s' lines') where
-  abbrev st : State
-  st = state_of m.memory s
+  abbrev st : SystemState
+  st = system_state m.memory s
 
   went : rounds s.config (s.rounds + 1) n es st ≡ rounds s.config (s.rounds + 1) n fs st
   went = rounds_alike s.config (s.rounds + 1) n es fs st same
@@ -84,7 +84,7 @@ module _ (n : ℕ) (es fs : List Event) (m m' : Machine) (s s' : System) (lines 
   made_alike = record {
     system = r.system;
     ended = r.ended;
-    goes = subst (λ (w : Went State). Goes w m s lines m' s' lines') went r.goes;
+    goes = subst (λ (w : Went SystemState). LeadsToState w m s lines m' s' lines') went r.goes;
     counts = r.counts ∙ ap (added (tally_of s.counts)) tally;
     retires = subst (λ (t : Tally). Retires m m' t) tally r.retires;
     pays = pays_as (touches_of_rounds s.config (s.rounds + 1) n es st) (touches_of_rounds s.config (s.rounds + 1) n fs st) m m' s.guests s'.guests (λ ts all. touches_alike s.config (s.rounds + 1) n es fs st ts same) r.pays;
@@ -97,10 +97,10 @@ round_fits (row ∷ rows) [] = omega arith
 round_fits (row ∷ rows) (g ∷ gs) = omega arith
 
 module _ (es : List Event) (m m' : Machine) (s s' : System) (lines lines' : List Seen) (are : AreOf (s.rounds + 1) es) (r : MakesRounds 1 es m s lines m' s' lines') where
-  abbrev now : State
-  now = state_of m.memory s
+  abbrev now : SystemState
+  now = system_state m.memory s
 
-  abbrev alone : Went State
+  abbrev alone : Went SystemState
   alone = round s.config (s.rounds + 1) es now
 
   whole : rounds s.config (s.rounds + 1) 1 es now ≡ alone
@@ -119,7 +119,7 @@ module _ (es : List Event) (m m' : Machine) (s s' : System) (lines lines' : List
   one_made = record {
     system = r.system;
     ended = r.ended;
-    goes = subst (λ (w : Went State). Goes w m s lines m' s' lines') whole r.goes;
+    goes = subst (λ (w : Went SystemState). LeadsToState w m s lines m' s' lines') whole r.goes;
     counts = r.counts ∙ ap (added (tally_of s.counts)) sum;
     retires = subst (λ (t : Tally). Retires m m' t) sum r.retires;
     pays = r.pays;

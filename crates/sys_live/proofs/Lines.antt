@@ -8,12 +8,12 @@ use Rattle.vv_io.specs.Keys.{Keys, Took, given_of}
 use Rattle.vv_io.specs.Lines.{Seen}
 use Rattle.sys_lines.proofs.Puts.{joined, still}
 use Rattle.sys_lines.specs.ShownSince.{ShownSince}
-use Rattle.sys_lines.specs.Shows.{Gets}
+use Rattle.sys_lines.specs.Shows.{ShowsUnlessMarked}
 use Rattle.sys_script.proofs.TypedLines.{says_in_each}
-use Rattle.sys_script.specs.Typed.{events_typed, if_said, rounds_ended, rounds_typed, says_event, told_of, told_typed, typed_in}
+use Rattle.sys_script.specs.Typed.{events_typed, if_said, refusal_message, refusal_messages, rounds_ended, rounds_typed, says_event, typed_in}
 use Rattle.sys_script.specs.declared.event.Event.{Event}
 use Rattle.sys_script.specs.declared.event.ScriptKind.{ScriptKind}
-use Rattle.sys_live.specs.Typing.{BreaksOff, EndsRound, TookWell}
+use Rattle.sys_live.specs.Typing.{BreaksOff, EndsWithEmptyLine, TookWell}
 
 abbrev pub Texts : Type 0
 Texts = List (List ℕ)
@@ -49,16 +49,16 @@ none_ended [] none = refl
 none_ended ([] ∷ xs) none = absurd (All-head (λ (line : List ℕ). line ≢ []) [] xs none refl)
 none_ended ((b ∷ line) ∷ xs) none = none_ended xs (All-tail (λ (line : List ℕ). line ≢ []) (b ∷ line) xs none)
 
-pub told_append : (n : ℕ) (xs ys : Texts) → told_typed n (xs ++ ys) ≡ told_typed n xs ++ told_typed (n + length xs) ys
-told_append n [] ys = let same : n ≡ n + 0 = omega arith in ap (λ k. told_typed k ys) same
+pub told_append : (n : ℕ) (xs ys : Texts) → refusal_messages n (xs ++ ys) ≡ refusal_messages n xs ++ refusal_messages (n + length xs) ys
+told_append n [] ys = let same : n ≡ n + 0 = omega arith in ap (λ k. refusal_messages k ys) same
 told_append n (line ∷ xs) ys =
     let same : (n + 1) + length xs ≡ n + length (line ∷ xs) = omega arith in
-    ap (λ bytes. told_of n line ++ bytes) (told_append (n + 1) xs ys ∙ ap (λ k. told_typed (n + 1) xs ++ told_typed k ys) same)
-    ∙ sym (append_assoc (told_of n line) (told_typed (n + 1) xs) (told_typed (n + length (line ∷ xs)) ys))
+    ap (λ bytes. refusal_message n line ++ bytes) (told_append (n + 1) xs ys ∙ ap (λ k. refusal_messages (n + 1) xs ++ refusal_messages k ys) same)
+    ∙ sym (append_assoc (refusal_message n line) (refusal_messages (n + 1) xs) (refusal_messages (n + length (line ∷ xs)) ys))
 
 -- nothing is told of an empty line
-pub told_ended : (n : ℕ) (xs : Texts) → told_typed n (xs ++ [] ∷ []) ≡ told_typed n xs
-told_ended n xs = told_append n xs ([] ∷ []) ∙ append-nil (told_typed n xs)
+pub told_ended : (n : ℕ) (xs : Texts) → refusal_messages n (xs ++ [] ∷ []) ≡ refusal_messages n xs
+told_ended n xs = told_append n xs ([] ∷ []) ∙ append-nil (refusal_messages n xs)
 
 -- whether a line says an event is the same in all rounds
 -- lines of one round begin it where they say an event
@@ -97,7 +97,7 @@ some_typed r ((b ∷ line) ∷ xs) none some =
 
 -- lines that end their rounds; or no line yet
 abbrev pub AreWhole : Texts → Type 0
-AreWhole xs = EndsRound xs ⊎ (xs ≡ [])
+AreWhole xs = EndsWithEmptyLine xs ⊎ (xs ≡ [])
 
 after_end : (is_begun : Bool) (before ys : Texts) → rounds_typed is_begun ((before ++ [] ∷ []) ++ ys) ≡ rounds_ended (before ++ [] ∷ []) + rounds_typed false ys
 after_end is_begun [] ys = omega arith
@@ -127,6 +127,6 @@ broke_off xs ys a b c first (inr (inl (took, most))) = inr (inl (took_well xs ys
 broke_off xs ys a b c first (inr (inr (lost, says, took))) = inr (inr (lost, says, subst (λ zs. TookWell zs a c) (sym (append_assoc xs ys (lost ∷ []))) (took_well xs (ys ++ lost ∷ []) a b c first took)))
 
 -- more is told
-pub told_then : (a b : Bool) (l m n : Seen) (x y : List ℕ) → ShownSince a l m x → Gets a b m n y → ShownSince b l n (x ++ y)
+pub told_then : (a b : Bool) (l m n : Seen) (x y : List ℕ) → ShownSince a l m x → ShowsUnlessMarked a b m n y → ShownSince b l n (x ++ y)
 told_then true b l m n x y first (cut, same) = subst (λ v. ShownSince v l n (x ++ y)) (sym cut) (subst (λ s. ShownSince true l s (x ++ y)) (sym same) (still l m x y first))
 told_then false b l m n x y first second = joined b l m n x y first second

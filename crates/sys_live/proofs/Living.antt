@@ -6,10 +6,10 @@ use Rattle.std.proofs.lemmas.List.{get_or-append-add, get_or_default, length-map
 use Rattle.std.proofs.lemmas.List.Elements.{All-head, All-tail}
 use Rattle.std.specs.List.{AllPairs, filter_map}
 use Rattle.vax_hw.specs.Machine.{Machine}
-use Rattle.vv_io.specs.Blocks.{Kept}
+use Rattle.vv_io.specs.Blocks.{SeenDrive}
 use Rattle.vv_io.specs.Lines.{Seen}
 use Rattle.sys_echo.specs.Rounds.{echo_rounds, taken_next}
-use Rattle.sys_echo.specs.Screens.{IsTold, more_on}
+use Rattle.sys_echo.specs.Screens.{IsLineKnown, more_on}
 use Rattle.sys_guests.specs.Layout.{guests_in}
 use Rattle.sys_guests.specs.Loads.{MemoryAlone}
 use Rattle.sys_guests.specs.Present.{HavePresent}
@@ -20,11 +20,11 @@ use Rattle.sys_objects.specs.declared.records.Config.{Config}
 use Rattle.sys_objects.specs.declared.records.GuestRow.{GuestRow}
 use Rattle.sys_objects.specs.declared.records.PrinterRow.{PrinterRow}
 use Rattle.sys_objects.specs.declared.records.Terminal.{Terminal}
-use Rattle.sys_rounds.specs.Bytes.{dump_on}
-use Rattle.sys_rounds.specs.FirstTouches.{none_touched}
-use Rattle.sys_rounds.specs.Run.{Input, Moment, first_moment}
+use Rattle.sys_state.specs.Bytes.{dump_on}
+use Rattle.sys_state.specs.FirstTouches.{none_touched}
+use Rattle.sys_state.specs.Run.{Input, Moment, first_moment}
 use Rattle.sys_runs.proofs.Whole.{run_made}
-use Rattle.sys_runs.specs.Ran.{Outside}
+use Rattle.sys_runs.specs.Ran.{RunOutside}
 use Rattle.sys_runs.specs.declared.running.Ran.{Ran}
 use Rattle.sys_script.specs.Typed.{MeansTyped, events_typed, rounds_typed}
 use Rattle.sys_script.specs.declared.event.Event.{Event}
@@ -97,7 +97,7 @@ module _ (c : Config) (accepted : IsConfig c) (marks marks' : List Bool) (lines 
   kept k d within = (dumps.others (slice_index_or c.terminals k d).line (no_dump c accepted k d within gs)).1
 
   pub seen_before : AreSeen c.terminals lines2 → AreSeen c.terminals lines1
-  seen_before are k d within = subst IsTold (kept k d within) (are k d within)
+  seen_before are k d within = subst IsLineKnown (kept k d within) (are k d within)
 
   pub echo_kept : (m : Moment) (es : List Event) (n : ℕ) → m.config ≡ c → echo_rounds (more_on lines lines1) m es n ≡ echo_rounds (more_on lines lines2) m es n
   echo_kept m es n of =
@@ -107,7 +107,7 @@ module _ (c : Config) (accepted : IsConfig c) (marks marks' : List Bool) (lines 
       ap (λ (s : Seen). taken_next (more (at lines line) s) m es i line) (sym (same k d within)))
 
 -- such a run was made
-pub run_lived : (c : Config) (images : List (List ℕ)) (most : ℕ) (went : Went) (ran : Ran) (rounds : ℕ) (p : Operator) (out out' : Seen) (m0 m1 m2 : Machine) (s0 s1 s2 : System) (lines lines1 lines2 : List Seen) (drives drives1 drives2 : List Kept) → IsConfig c → (power : HasPower c images drives drives1 m1 s0) → MemoryAlone m0 m1
+pub run_lived : (c : Config) (images : List (List ℕ)) (most : ℕ) (went : Went) (ran : Ran) (rounds : ℕ) (p : Operator) (out out' : Seen) (m0 m1 m2 : Machine) (s0 s1 s2 : System) (lines lines1 lines2 : List Seen) (drives drives1 drives2 : List SeenDrive) → IsConfig c → (power : HasPower c images drives drives1 m1 s0) → MemoryAlone m0 m1
     → (t : MakesTyped most went p out out' m1 s0 lines m2 s1 lines1) → PowersDown m2 s1 lines1 drives1 s2 lines2 drives2 → HavePresent s0.guests (map none_touched (guests_in m1.memory s0.guests)) → IsSystem s1 → ran.counts ≡ s2.counts → ran.failed ≡ first_failed s2.marks s2.drives
     → length lines2 ≡ length lines → length drives2 ≡ length drives → rounds ≡ s1.rounds → most ≤ 1000000 → MeansTyped
     → Lives (record { config = c; images = images; volumes = power.volumes; events = events_typed 1 t.typed; rounds = rounds_typed false t.typed }) most (record { ran = ran; rounds = rounds; is_cut = went.is_cut; is_broken = went.is_broken })
@@ -144,5 +144,5 @@ run_lived c images most went ran rounds p out out' m0 m1 m2 s0 s1 s2 lines lines
     }
 
 -- its steps are few
-pub few_steps : (x : Input) (most : ℕ) (lived : Lived) (o : Outside) (p : Operator) (out out' : Seen) → Lives x most lived o p out out' → most ≤ 1000000 → steps_in lived.ran.counts ≤ 3200000000000
+pub few_steps : (x : Input) (most : ℕ) (lived : Lived) (o : RunOutside) (p : Operator) (out out' : Seen) → Lives x most lived o p out out' → most ≤ 1000000 → steps_in lived.ran.counts ≤ 3200000000000
 few_steps x most lived o p out out' l few = omega (arith, l.makes.makes.few, l.few, few)

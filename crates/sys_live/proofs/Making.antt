@@ -7,27 +7,27 @@ use Rattle.vax_hw.specs.Machine.{Machine}
 use Rattle.vv_io.specs.Keys.{Keys, Took}
 use Rattle.vv_io.specs.Lines.{Seen, unseen}
 use Rattle.sys_echo.specs.Rounds.{echo_all, echo_rounds, taken_next}
-use Rattle.sys_echo.specs.Screens.{AreSameScreens, AreScreens, AreWithin, Echoes, IsTold, more_on, new_on}
+use Rattle.sys_echo.specs.Screens.{AreSameScreens, AreScreens, AreWithin, Echoes, IsLineKnown, more_on, new_on}
 use Rattle.sys_echo.specs.declared.screen.Screen.{Screen}
 use Rattle.sys_lines.proofs.Puts.{joined, shows_nothing, still}
 use Rattle.sys_lines.specs.ShownSince.{ShownSince}
 use Rattle.sys_lines.specs.Shows.{Shows}
-use Rattle.sys_rounds.specs.Bytes.{shown_from}
-use Rattle.sys_rounds.specs.Run.{Moment}
+use Rattle.sys_state.specs.Bytes.{shown_from}
+use Rattle.sys_state.specs.Run.{Moment}
 use Rattle.sys_runs.proofs.SavedRuns.{where_whole}
 use Rattle.sys_runs.proofs.Many.{none_made}
 use Rattle.sys_runs.specs.Rounds.{MakesRounds}
-use Rattle.sys_script.specs.Typed.{events_typed, rounds_ended, rounds_typed, told_typed}
+use Rattle.sys_script.specs.Typed.{events_typed, refusal_messages, rounds_ended, rounds_typed}
 use Rattle.sys_script.specs.declared.event.Event.{Event}
 use Rattle.sys_system.specs.Calls.{AreOf}
-use Rattle.sys_system.specs.System.{IsSystem, StandsIn, System, moment_of}
+use Rattle.sys_system.specs.System.{IsInMachine, IsSystem, System, moment_of}
 use Rattle.sys_live.proofs.Echoing.{AreCurrent, current_after, current_first, echo_earlier, news_are, same_there, screens_there, screens_told, screens_within, seen_earlier}
 use Rattle.sys_live.proofs.Joining.{AreAlike, AreUpTo, alike_before, then_made, up_to_later}
 use Rattle.sys_live.proofs.Lines.{AreWhole, Texts, broke_off, ended_append, events_append, events_ended, none_ended, none_typed, rounds_append, some_typed, told_append, told_ended, told_then, took_well}
 use Rattle.sys_live.specs.Lives.{AreSeen}
 use Rattle.sys_live.specs.Made.{GoesOnShowing, MakesTyped, ShowsNews}
 use Rattle.sys_live.specs.Operator.{Operator}
-use Rattle.sys_live.specs.Typing.{Ends, EndsRound, Stands, TookWell, TypesRound}
+use Rattle.sys_live.specs.Typing.{EndsTypedRound, EndsTypedRun, EndsWithEmptyLine, TookWell, TypesRound}
 use Rattle.sys_live.specs.declared.session.Went.{Went}
 use Rattle.sys_live.specs.declared.typing.Count.{Count}
 use Rattle.sys_live.specs.declared.typing.TypedRound.{TypedRound}
@@ -36,13 +36,13 @@ use Rattle.sys_live.specs.declared.typing.Typing.TheVariants.{GoesOn, Over, Brok
 
 -- the news were put where nothing was cut before
 pub news_shown : {T E : Type 0} (cut cut' : Bool) (lines lines' : List Seen) (screens screens' : List Screen) (out out' : Seen) (r : Result T E) → cut ≡ false → cut' ≡ is_err r → lines' ≡ lines
-    → Echoes (is_err r) lines screens out out' → AreSameScreens screens screens' → IfOk r (λ _. All (λ screen. IsTold (slice_index_or lines screen.line unseen) → new_on lines screen ≡ []) screens') → (AreWithin lines screens → AreWithin lines screens')
+    → Echoes (is_err r) lines screens out out' → AreSameScreens screens screens' → IfOk r (λ _. All (λ screen. IsLineKnown (slice_index_or lines screen.line unseen) → new_on lines screen ≡ []) screens') → (AreWithin lines screens → AreWithin lines screens')
     → GoesOnShowing cut cut' lines' screens screens' out out'
 news_shown cut cut' lines lines' screens screens' out out' r whole is stays echoes same seen within =
     let news : ShowsNews (is_err r) lines screens screens' out out' = record {
       echoes = echoes;
       same = same;
-      seen = λ all. where_whole (All (λ screen. IsTold (slice_index_or lines screen.line unseen) → new_on lines screen ≡ []) screens') r seen all;
+      seen = λ all. where_whole (All (λ screen. IsLineKnown (slice_index_or lines screen.line unseen) → new_on lines screen ≡ []) screens') r seen all;
       within = within;
     } in
     subst (λ b. GoesOnShowing b cut' lines' screens screens' out out') (sym whole)
@@ -59,7 +59,7 @@ pub record IsSofar (n : ℕ) (es : List Event) (cut : Bool) (m m1 : Machine) (s 
   pub current : cut ≡ false → AreCurrent lines1 s.config.terminals screens
 
 -- none at first
-pub none_sofar : (m : Machine) (s : System) (lines : List Seen) (screens : List Screen) (out : Seen) → s.turns.is_begun ≡ false → IsSystem s → StandsIn m.memory s → AreScreens lines s.config.terminals screens → IsSofar 0 [] false m m s s lines lines screens out out
+pub none_sofar : (m : Machine) (s : System) (lines : List Seen) (screens : List Screen) (out : Seen) → s.turns.is_begun ≡ false → IsSystem s → IsInMachine m.memory s → AreScreens lines s.config.terminals screens → IsSofar 0 [] false m m s s lines lines screens out out
 none_sofar m s lines screens out rests holds stands are = record {
   makes = none_made [] m s lines rests holds.trail stands;
   up_to = λ k d within. absurd (omega (arith, within));
@@ -141,7 +141,7 @@ next_sofar n es these false cut' m m1 m2 s s1 s2 lines lines1 lines2 screens scr
 pub record IsTyped (n : ℕ) (typed : Texts) (count : Count) (p : Operator) : Type 0 where
   pub took : TookWell typed p.keys p.keys'
   pub lines : count.lines ≡ length typed
-  pub told : ShownSince count.is_cut p.errors p.errors' (told_typed 1 typed)
+  pub told : ShownSince count.is_cut p.errors p.errors' (refusal_messages 1 typed)
   pub ended : rounds_ended typed ≡ n
   pub whole : AreWhole typed
 
@@ -169,8 +169,8 @@ module _ (n : ℕ) (typed : Texts) (before after : Count) (round : TypedRound) (
   now = omega (arith, first.ended)
 
   -- the lines of the round are told after those before
-  told_all : ShownSince after.is_cut errors errors2 (told_typed 1 (typed ++ next.lines))
-  told_all = subst (λ bytes. ShownSince after.is_cut errors errors2 bytes) (ap (λ k. told_typed 1 typed ++ told_typed k next.lines) place ∙ sym (told_append 1 typed next.lines)) (told_then before.is_cut after.is_cut errors errors1 errors2 (told_typed 1 typed) (told_typed (before.lines + 1) next.lines) first.told next.told)
+  told_all : ShownSince after.is_cut errors errors2 (refusal_messages 1 (typed ++ next.lines))
+  told_all = subst (λ bytes. ShownSince after.is_cut errors errors2 bytes) (ap (λ k. refusal_messages 1 typed ++ refusal_messages k next.lines) place ∙ sym (told_append 1 typed next.lines)) (told_then before.is_cut after.is_cut errors errors1 errors2 (refusal_messages 1 typed) (refusal_messages (before.lines + 1) next.lines) first.told next.told)
 
   -- and its events come after those before
   pub events_all : events_typed 1 (typed ++ next.lines) ≡ events_typed 1 typed ++ round.events.items
@@ -185,13 +185,13 @@ module _ (n : ℕ) (typed : Texts) (before after : Count) (round : TypedRound) (
   pub typed_more : round.typing ≡ GoesOn → IsTyped (n + 1) (typed ++ (next.lines ++ [] ∷ [])) after (operator keys keys2 errors errors2)
   typed_more goes_on =
       let lines : Texts = next.lines ++ [] ∷ [] in
-      let taken : TookWell lines keys1 keys2 = subst (λ t. Stands t (before.lines + length next.lines) next.lines keys1 keys2) goes_on next.taken in
+      let taken : TookWell lines keys1 keys2 = subst (λ t. EndsTypedRound t (before.lines + length next.lines) next.lines keys1 keys2) goes_on next.taken in
       let long : length (typed ++ lines) ≡ length typed + (length next.lines + 1) = length-append typed lines ∙ ap (λ k. length typed + k) (length-append next.lines ([] ∷ [])) in
       let own : rounds_ended lines ≡ 1 = ended_append next.lines ([] ∷ []) ∙ ap (λ k. k + 1) (none_ended next.lines next.none_is_empty) in
       record {
         took = took_well typed lines keys keys1 keys2 first.took taken;
         lines = omega (arith, next.counts goes_on, first.lines, long);
-        told = subst (λ bytes. ShownSince after.is_cut errors errors2 bytes) (sym (told_ended 1 (typed ++ next.lines)) ∙ ap (told_typed 1) (append_assoc typed next.lines ([] ∷ []))) told_all;
+        told = subst (λ bytes. ShownSince after.is_cut errors errors2 bytes) (sym (told_ended 1 (typed ++ next.lines)) ∙ ap (refusal_messages 1) (append_assoc typed next.lines ([] ∷ []))) told_all;
         ended = omega (arith, ended_append typed lines, own, first.ended);
         whole = inl (typed ++ next.lines, sym (append_assoc typed next.lines ([] ∷ [])));
       }
@@ -200,7 +200,7 @@ module _ (n : ℕ) (typed : Texts) (before after : Count) (round : TypedRound) (
   ended_all = omega (arith, ended_append typed next.lines, none_ended next.lines next.none_is_empty, first.ended)
 
   -- or it was the last
-  ends_by : (most : ℕ) → n < most → (t : Typing) (broken : Bool) → (t ≡ GoesOn → ⊥) → (broken ≡ true → t ≡ Broken) → (broken ≡ false → t ≡ Broken → ⊥) → Stands t (before.lines + length next.lines) next.lines keys1 keys2 → Ends broken most (typed ++ next.lines) keys keys2
+  ends_by : (most : ℕ) → n < most → (t : Typing) (broken : Bool) → (t ≡ GoesOn → ⊥) → (broken ≡ true → t ≡ Broken) → (broken ≡ false → t ≡ Broken → ⊥) → EndsTypedRound t (before.lines + length next.lines) next.lines keys1 keys2 → EndsTypedRun broken most (typed ++ next.lines) keys keys2
   ends_by most low GoesOn broken over is isnt taken = absurd (over refl)
   ends_by most low Over true over is isnt taken = absurd (over_is_broken (is refl))
     where
@@ -209,10 +209,10 @@ module _ (n : ℕ) (typed : Texts) (before after : Count) (round : TypedRound) (
   ends_by most low Over false over is isnt (taken, out) = (took_well typed next.lines keys keys1 keys2 first.took taken, inr (out, subst (λ k. k < most) (sym ended_all) low))
   ends_by most low Broken true over is isnt taken =
       let count : before.lines + length next.lines ≡ length typed + length next.lines = ap (λ k. k + length next.lines) first.lines in
-      (broke_off typed next.lines keys keys1 keys2 first.took (subst (λ k. Stands Broken k next.lines keys1 keys2) count taken), subst (λ k. k < most) (sym ended_all) low)
+      (broke_off typed next.lines keys keys1 keys2 first.took (subst (λ k. EndsTypedRound Broken k next.lines keys1 keys2) count taken), subst (λ k. k < most) (sym ended_all) low)
   ends_by most low Broken false over is isnt taken = absurd (isnt refl refl)
 
-  pub ends_last : (most : ℕ) → n < most → (broken : Bool) → (round.typing ≡ GoesOn → ⊥) → (broken ≡ true → round.typing ≡ Broken) → (broken ≡ false → round.typing ≡ Broken → ⊥) → Ends broken most (typed ++ next.lines) keys keys2
+  pub ends_last : (most : ℕ) → n < most → (broken : Bool) → (round.typing ≡ GoesOn → ⊥) → (broken ≡ true → round.typing ≡ Broken) → (broken ≡ false → round.typing ≡ Broken → ⊥) → EndsTypedRun broken most (typed ++ next.lines) keys keys2
   ends_last most low broken over is isnt = ends_by most low round.typing broken over is isnt next.taken
 
   -- no round is begun where no event was said
@@ -227,10 +227,10 @@ module _ (n : ℕ) (typed : Texts) (before after : Count) (round : TypedRound) (
       omega (arith, rounds_append typed next.lines first.whole, one, first.ended)
 
 -- all rounds were ended
-pub ends_all : (most : ℕ) (typed : Texts) (count : Count) (p : Operator) → 1 ≤ most → IsTyped most typed count p → Ends false most typed p.keys p.keys'
+pub ends_all : (most : ℕ) (typed : Texts) (count : Count) (p : Operator) → 1 ≤ most → IsTyped most typed count p → EndsTypedRun false most typed p.keys p.keys'
 ends_all most typed count p some t = (t.took, inl (ends t.whole, t.ended))
   where
-    ends : AreWhole typed → EndsRound typed
+    ends : AreWhole typed → EndsWithEmptyLine typed
     ends (inl is) = is
     ends (inr none) = let zero_rounds : most ≡ 0 = sym t.ended ∙ ap rounds_ended none in absurd (omega (arith, some, zero_rounds))
 
@@ -240,7 +240,7 @@ rounds_all n typed count p t =
 
 -- what was typed was made
 pub made_typed : (most n : ℕ) (went : Went) (typed : Texts) (p : Operator) (es : List Event) (m m1 : Machine) (s s1 : System) (lines lines1 : List Seen) (screens : List Screen) (out out1 : Seen) (cut : Bool) → IsSofar n es went.is_cut m m1 s s1 lines lines1 screens out out1
-    → Ends went.is_broken most typed p.keys p.keys' → rounds_typed false typed ≡ n → n ≤ most → events_typed 1 typed ≡ es → ShownSince cut p.errors p.errors' (told_typed 1 typed) → MakesTyped most went p out out1 m s lines m1 s1 lines1
+    → EndsTypedRun went.is_broken most typed p.keys p.keys' → rounds_typed false typed ≡ n → n ≤ most → events_typed 1 typed ≡ es → ShownSince cut p.errors p.errors' (refusal_messages 1 typed) → MakesTyped most went p out out1 m s lines m1 s1 lines1
 made_typed most n went typed p es m m1 s s1 lines lines1 screens out out1 cut sofar ends rounds few events told = record {
   typed = typed;
   ends = ends;
@@ -272,7 +272,7 @@ pub record IsBetween (n : ℕ) (count : Count) (p : Operator) (cut : Bool) (m m1
   pub types : IsTyped n typed count p
   pub sofar : IsSofar n (events_typed 1 typed) cut m m1 s s1 lines lines1 screens out out1
 
-pub between_first : (keys : Keys) (errors : Seen) (m : Machine) (s : System) (lines : List Seen) (screens : List Screen) (out : Seen) → s.turns.is_begun ≡ false → IsSystem s → StandsIn m.memory s → AreScreens lines s.config.terminals screens
+pub between_first : (keys : Keys) (errors : Seen) (m : Machine) (s : System) (lines : List Seen) (screens : List Screen) (out : Seen) → s.turns.is_begun ≡ false → IsSystem s → IsInMachine m.memory s → AreScreens lines s.config.terminals screens
     → IsBetween 0 (record { lines = 0; is_cut = false }) (operator keys keys errors errors) false m m s s lines lines screens out out
 between_first keys errors m s lines screens out rests holds stands are = record {
   typed = [];

@@ -8,8 +8,8 @@ use Rattle.vv_io.specs.Causes.{Rose}
 use Rattle.vv_io.specs.Keys.{Gives, IsOut, Keys, Takes, Took, given_of}
 use Rattle.vv_io.specs.Lines.{Seen}
 use Rattle.sys_script.specs.Events.{IsEvent}
-use Rattle.sys_script.specs.Line.{◌>>=◌, behind, front, is_allowed, or_kind, what_in, when}
-use Rattle.sys_script.specs.Typed.{events_typed, if_said, says_event, told_of, told_typed, typed_in}
+use Rattle.sys_script.specs.EventLine.{◌>>=◌, after_blank, front, is_allowed, or_kind, what_in, when}
+use Rattle.sys_script.specs.Typed.{events_typed, if_said, refusal_message, refusal_messages, says_event, typed_in}
 use Rattle.sys_script.specs.declared.event.Event.{Event}
 use Rattle.sys_script.specs.declared.event.ScriptKind.{ScriptKind}
 use Rattle.sys_script.specs.declared.event.ScriptKind.TheVariants.{BadEvent, BadName, BadText}
@@ -17,8 +17,8 @@ use Rattle.sys_script.specs.declared.event.Typed.{Typed}
 use Rattle.sys_system.specs.Calls.{AreOf}
 use Rattle.sys_live.proofs.Words.{tells_both, tells_none}
 use Rattle.sys_live.specs.Operator.{Operator}
-use Rattle.sys_lines.specs.Shows.{Gets}
-use Rattle.sys_live.specs.Typing.{BreaksOff, Stands, TookWell, TypesRound}
+use Rattle.sys_lines.specs.Shows.{ShowsUnlessMarked}
+use Rattle.sys_live.specs.Typing.{BreaksOff, EndsTypedRound, TookWell, TypesRound}
 use Rattle.sys_live.specs.declared.typing.Count.{Count}
 use Rattle.sys_live.specs.declared.typing.TypedRound.{TypedRound}
 use Rattle.sys_live.specs.declared.typing.Typing.TheVariants.{GoesOn, Over, Broken}
@@ -53,7 +53,7 @@ named_is round name false what event from to named is = absurd cc
 
 is_event_of : (round : ℕ) (line : List ℕ) (event : Event) → 1 ≤ round → round ≤ 1000000 → typed_in round line ≡ Ok event → IsEvent event × (event.round ≡ round)
 unfolding typed_in
-is_event_of round line event from to is = named_is round (front line) (is_object_name (front line)) (what_in (behind line)) event from to refl is
+is_event_of round line event from to is = named_is round (front line) (is_object_name (front line)) (what_in (after_blank line)) event from to refl is
 
 -- The events of lines of which none is empty.
 if_said_all : (P : Event → Type 0) (made : Result Event ScriptKind) (more : List Event) → ((event : Event) → made ≡ Ok event → P event) → All P more → All P (if_said made more)
@@ -85,12 +85,12 @@ events_more round ((b ∷ first) ∷ more) line full some =
     ap (λ events. if_said (typed_in round (b ∷ first)) events) (events_more round more line (All-tail IsFull (b ∷ first) more full) some)
     ∙ said_before (typed_in round (b ∷ first)) (events_typed round more) (if_said (typed_in round line) [])
 
-told_more : (number : ℕ) (lines : List (List ℕ)) (line : List ℕ) → told_typed number (lines ++ line ∷ []) ≡ told_typed number lines ++ told_of (number + length lines) line
-told_more number [] line = append-nil (told_of number line) ∙ ap (λ n. told_of n line) (omega arith)
+told_more : (number : ℕ) (lines : List (List ℕ)) (line : List ℕ) → refusal_messages number (lines ++ line ∷ []) ≡ refusal_messages number lines ++ refusal_message (number + length lines) line
+told_more number [] line = append-nil (refusal_message number line) ∙ ap (λ n. refusal_message n line) (omega arith)
 told_more number (first ∷ more) line =
     let place : number + 1 + length more ≡ number + length (first ∷ more) = omega arith in
-    ap (λ told. told_of number first ++ told) (told_more (number + 1) more line ∙ ap (λ n. told_typed (number + 1) more ++ told_of n line) place)
-    ∙ sym (append_assoc (told_of number first) (told_typed (number + 1) more) (told_of (number + length (first ∷ more)) line))
+    ap (λ told. refusal_message number first ++ told) (told_more (number + 1) more line ∙ ap (λ n. refusal_messages (number + 1) more ++ refusal_message n line) place)
+    ∙ sym (append_assoc (refusal_message number first) (refusal_messages (number + 1) more) (refusal_message (number + length (first ∷ more)) line))
 
 -- One line more is given.
 took_more : (E : Type 0) (lines : List (List ℕ)) (line : List ℕ) (before now after : Option (List (List ℕ))) → Took lines before now → (let r : Result (Option (List ℕ)) E = Ok (Some line) in Gives now after r) → Took (lines ++ line ∷ []) before after
@@ -136,7 +136,7 @@ pub record TypesSoFar (round : ℕ) (before now : Count) (events : List Event) (
   pub taken : TookWell lines keys keys'
   pub counts : now.lines ≡ before.lines + length lines
   pub events_are : events ≡ events_typed round lines
-  pub told : Gets before.is_cut now.is_cut errors errors' (told_typed (before.lines + 1) lines)
+  pub told : ShowsUnlessMarked before.is_cut now.is_cut errors errors' (refusal_messages (before.lines + 1) lines)
 
 no_line : (keys : Option (List (List ℕ))) → Took [] keys keys
 no_line None = refl
@@ -155,7 +155,7 @@ begins round before keys errors = record {
 -- a line that isn't empty was taken
 pub goes_on : {E : Type 0} (round : ℕ) (before now after : Count) (events more : List Event) (line : List ℕ) (keys keys1 keys2 : Keys) (errors errors1 errors2 : Seen) →
     TypesSoFar round before now events keys keys1 errors errors1 → IsFull line → (let r : Result (Option (List ℕ)) E = Ok (Some line) in Takes keys1 keys2 r) →
-    more ≡ events ++ if_said (typed_in round line) [] → Gets now.is_cut after.is_cut errors1 errors2 (told_of (now.lines + 1) line) → after.lines ≡ now.lines + 1 →
+    more ≡ events ++ if_said (typed_in round line) [] → ShowsUnlessMarked now.is_cut after.is_cut errors1 errors2 (refusal_message (now.lines + 1) line) → after.lines ≡ now.lines + 1 →
     TypesSoFar round before after more keys keys2 errors errors2
 goes_on {E} round before now after events more line keys keys1 keys2 errors errors1 errors2 far full takes said tells counts =
     let number : now.lines + 1 ≡ before.lines + 1 + length far.lines = omega (arith, far.counts) in
@@ -167,9 +167,9 @@ goes_on {E} round before now after events more line keys keys1 keys2 errors erro
       counts = omega (arith, counts, far.counts, long);
       events_are = said ∙ ap (λ es. es ++ if_said (typed_in round line) []) far.events_are ∙ sym (events_more round far.lines line far.none_is_empty full);
       told =
-          subst (Gets before.is_cut after.is_cut errors errors2) (sym (told_more (before.lines + 1) far.lines line))
-          (tells_both before.is_cut now.is_cut after.is_cut errors errors1 errors2 (told_typed (before.lines + 1) far.lines) (told_of (before.lines + 1 + length far.lines) line) far.told
-          (subst (λ n. Gets now.is_cut after.is_cut errors1 errors2 (told_of n line)) number tells));
+          subst (ShowsUnlessMarked before.is_cut after.is_cut errors errors2) (sym (told_more (before.lines + 1) far.lines line))
+          (tells_both before.is_cut now.is_cut after.is_cut errors errors1 errors2 (refusal_messages (before.lines + 1) far.lines) (refusal_message (before.lines + 1 + length far.lines) line) far.told
+          (subst (λ n. ShowsUnlessMarked now.is_cut after.is_cut errors1 errors2 (refusal_message n line)) number tells));
     }
 
 pub far_each : {round : ℕ} {before now : Count} {events : List Event} {keys keys1 : Keys} {errors errors1 : Seen} → TypesSoFar round before now events keys keys1 errors errors1 → 1 ≤ round → round ≤ 1000000 → All IsEvent events
@@ -191,10 +191,10 @@ is_ended {E} round before now after typed line keys keys1 keys2 errors errors1 e
     record {
       lines = far.lines;
       none_is_empty = far.none_is_empty;
-      taken = subst (λ t. Stands t (before.lines + length far.lines) far.lines keys keys2) (sym typing) (subst (λ l. TookWell (far.lines ++ l ∷ []) keys keys2) empty all);
+      taken = subst (λ t. EndsTypedRound t (before.lines + length far.lines) far.lines keys keys2) (sym typing) (subst (λ l. TookWell (far.lines ++ l ∷ []) keys keys2) empty all);
       counts = λ _. omega (arith, counts, far.counts);
       events = far.events_are;
-      told = subst (λ b. Gets before.is_cut b errors errors2 (told_typed (before.lines + 1) far.lines)) (sym cut) (subst (λ s. Gets before.is_cut now.is_cut errors s (told_typed (before.lines + 1) far.lines)) (sym same) far.told);
+      told = subst (λ b. ShowsUnlessMarked before.is_cut b errors errors2 (refusal_messages (before.lines + 1) far.lines)) (sym cut) (subst (λ s. ShowsUnlessMarked before.is_cut now.is_cut errors s (refusal_messages (before.lines + 1) far.lines)) (sym same) far.told);
     }
 
 -- no more lines come
@@ -204,7 +204,7 @@ pub is_over : {E : Type 0} (round : ℕ) (before now : Count) (typed : TypedRoun
 is_over {E} round before now typed keys keys1 keys2 errors errors1 far takes typing = record {
   lines = far.lines;
   none_is_empty = far.none_is_empty;
-  taken = subst (λ t. Stands t (before.lines + length far.lines) far.lines keys keys2) (sym typing) (takes_none {E = E} far.lines keys keys1 keys2 far.taken takes);
+  taken = subst (λ t. EndsTypedRound t (before.lines + length far.lines) far.lines keys keys2) (sym typing) (takes_none {E = E} far.lines keys keys1 keys2 far.taken takes);
   counts = λ goes. absurd cc;
   events = far.events_are;
   told = far.told;
@@ -217,10 +217,10 @@ broken : (round : ℕ) (before now after : Count) (typed : TypedRound) (keys key
 broken round before now after typed keys keys1 keys2 errors errors1 errors2 far breaks cut same typing = record {
   lines = far.lines;
   none_is_empty = far.none_is_empty;
-  taken = subst (λ t. Stands t (before.lines + length far.lines) far.lines keys keys2) (sym typing) breaks;
+  taken = subst (λ t. EndsTypedRound t (before.lines + length far.lines) far.lines keys keys2) (sym typing) breaks;
   counts = λ goes. absurd cc;
   events = far.events_are;
-  told = subst (λ b. Gets before.is_cut b errors errors2 (told_typed (before.lines + 1) far.lines)) (sym cut) (subst (λ s. Gets before.is_cut now.is_cut errors s (told_typed (before.lines + 1) far.lines)) (sym same) far.told);
+  told = subst (λ b. ShowsUnlessMarked before.is_cut b errors errors2 (refusal_messages (before.lines + 1) far.lines)) (sym cut) (subst (λ s. ShowsUnlessMarked before.is_cut now.is_cut errors s (refusal_messages (before.lines + 1) far.lines)) (sym same) far.told);
 }
 
 -- the keyboard failed

@@ -3,9 +3,9 @@ use Rattle.std.proofs.Common.{◌≡◌, ℕ, List, [], ◌++◌, Bool, true, fa
 use Rattle.vv_io.specs.Lines.{Puts, Seen}
 use Rattle.sys_lines.specs.ShownSince.{ShownSince}
 use Rattle.sys_lines.proofs.Puts.{joined, shows, shows_nothing, still}
-use Rattle.sys_lines.specs.Shows.{Gets}
+use Rattle.sys_lines.specs.Shows.{ShowsUnlessMarked}
 use Rattle.sys_script.specs.Script.{is_passed_over}
-use Rattle.sys_script.specs.Typed.{if_said, says_event, told_of, typed_in, why_not}
+use Rattle.sys_script.specs.Typed.{if_said, refusal_message, says_event, typed_in, why_not}
 use Rattle.sys_script.specs.declared.event.Event.{Event}
 use Rattle.sys_script.specs.declared.event.ScriptKind.{ScriptKind}
 use Rattle.sys_script.proofs.TypedLines.{passed_over_says_none, refused_in_each, says_in_each}
@@ -24,18 +24,18 @@ off_ok (Ok x) is on = on
 off_ok (Err e) is on = absurd cc
 
 -- nothing is told
-pub tells_none : (cut : Bool) (seen : Seen) → Gets cut cut seen seen []
+pub tells_none : (cut : Bool) (seen : Seen) → ShowsUnlessMarked cut cut seen seen []
 tells_none true seen = (refl, refl)
 tells_none false seen = shows_nothing seen
 
 -- a text is told where nothing was cut before
-pub tells_now : {U E : Type 0} (cut failed : Bool) (before after : Seen) (given bytes : List ℕ) (r : Result U E) → cut ≡ false → failed ≡ is_err r → given ≡ bytes → Puts before after given r → Gets cut failed before after bytes
+pub tells_now : {U E : Type 0} (cut failed : Bool) (before after : Seen) (given bytes : List ℕ) (r : Result U E) → cut ≡ false → failed ≡ is_err r → given ≡ bytes → Puts before after given r → ShowsUnlessMarked cut failed before after bytes
 tells_now true failed before after given bytes r uncut is same puts = absurd cc
 tells_now false failed before after given bytes r uncut is same puts =
     subst (λ b. ShownSince b before after bytes) (sym is) (subst (ShownSince (is_err r) before after) same (shows before after given r puts))
 
 -- one text is told after another
-pub tells_both : (cut middle last : Bool) (a b c : Seen) (x y : List ℕ) → Gets cut middle a b x → Gets middle last b c y → Gets cut last a c (x ++ y)
+pub tells_both : (cut middle last : Bool) (a b c : Seen) (x y : List ℕ) → ShowsUnlessMarked cut middle a b x → ShowsUnlessMarked middle last b c y → ShowsUnlessMarked cut last a c (x ++ y)
 tells_both true true last a b c x y (is, same) (next, after) = (next, after ∙ same)
 tells_both true false last a b c x y (is, same) second = absurd cc
 tells_both false true true a b c x y first (next, after) = subst (λ s. ShownSince true a s (x ++ y)) (sym after) (still a b x y first)
@@ -67,13 +67,13 @@ told_nothing true number made is = refl
 told_nothing false number (Ok event) is = refl
 told_nothing false number (Err kind) is = absurd cc
 
-pub tells_no_event : (cut : Bool) (seen : Seen) (number : ℕ) (line : List ℕ) → says_event line ≡ true → Gets cut cut seen seen (told_of number line)
-tells_no_event cut seen number line is = subst (Gets cut cut seen seen) (sym (told_nothing (is_passed_over line) number (typed_in 1 line) is)) (tells_none cut seen)
+pub tells_no_event : (cut : Bool) (seen : Seen) (number : ℕ) (line : List ℕ) → says_event line ≡ true → ShowsUnlessMarked cut cut seen seen (refusal_message number line)
+tells_no_event cut seen number line is = subst (ShowsUnlessMarked cut cut seen seen) (sym (told_nothing (is_passed_over line) number (typed_in 1 line) is)) (tells_none cut seen)
 
 -- why another says none
 told_why : (passed : Bool) (number : ℕ) (made : Result Event ScriptKind) (kind : ScriptKind) → passed ≡ false → made ≡ Err kind → why_not number (Err kind) ≡ (if passed then [] else why_not number made)
 told_why passed number made kind is refused = rw (is, refused)
 
-pub tells_why : (cut failed : Bool) (before after : Seen) (number round : ℕ) (line : List ℕ) (kind : ScriptKind) → is_passed_over line ≡ false → typed_in round line ≡ Err kind → Gets cut failed before after (why_not number (Err kind)) → Gets cut failed before after (told_of number line)
+pub tells_why : (cut failed : Bool) (before after : Seen) (number round : ℕ) (line : List ℕ) (kind : ScriptKind) → is_passed_over line ≡ false → typed_in round line ≡ Err kind → ShowsUnlessMarked cut failed before after (why_not number (Err kind)) → ShowsUnlessMarked cut failed before after (refusal_message number line)
 tells_why cut failed before after number round line kind is refused tells =
-    subst (Gets cut failed before after) (told_why (is_passed_over line) number (typed_in 1 line) kind is (refused_in_each round line kind refused)) tells
+    subst (ShowsUnlessMarked cut failed before after) (told_why (is_passed_over line) number (typed_in 1 line) kind is (refused_in_each round line kind refused)) tells

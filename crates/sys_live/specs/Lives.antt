@@ -2,31 +2,31 @@
 use Rattle.std.specs.Prelude.{ℕ, ◌≡◌, ◌≤◌, List, All, Bool, false, slice_index_or, Result, Ok, Err}
 use Rattle.vv_io.specs.Lines.{Seen, unseen}
 use Rattle.sys_echo.specs.Rounds.{echo_rounds}
-use Rattle.sys_echo.specs.Screens.{IsTold, more_on}
+use Rattle.sys_echo.specs.Screens.{IsLineKnown, more_on}
 use Rattle.sys_lines.specs.ShownSince.{ShownSince}
 use Rattle.sys_objects.specs.declared.records.Config.{Config}
 use Rattle.sys_objects.specs.declared.records.Terminal.{Terminal}
-use Rattle.sys_rounds.specs.Run.{Input, opening}
-use Rattle.sys_runs.specs.Ran.{Makes, Outside, StaysDown}
+use Rattle.sys_state.specs.Run.{Input, opening}
+use Rattle.sys_runs.specs.Ran.{MakesRun, RunOutside, StaysDown}
 use Rattle.sys_script.specs.Script.{script_of}
-use Rattle.sys_script.specs.Typed.{events_typed, rounds_typed, script_typed, told_typed}
+use Rattle.sys_script.specs.Typed.{events_typed, refusal_messages, rounds_typed, script_typed}
 use Rattle.sys_system.specs.declared.power.PowerFault.{PowerFault}
 use Rattle.sys_live.specs.Operator.{Operator, Untyped}
-use Rattle.sys_live.specs.Typing.{Ends}
+use Rattle.sys_live.specs.Typing.{EndsTypedRun}
 use Rattle.sys_live.specs.declared.session.Lived.{Lived}
 
 -- the terminals' lines tell what they have shown
 abbrev pub AreSeen : List Terminal → List Seen → Type 0
-AreSeen terminals lines = All (λ t. IsTold (slice_index_or lines t.line unseen)) terminals
+AreSeen terminals lines = All (λ t. IsLineKnown (slice_index_or lines t.line unseen)) terminals
 
--- The run was made whose script stands for the lines that were typed, of as many rounds as they make: that is what `Makes` says of
+-- The run was made whose script stands for the lines that were typed, of as many rounds as they make: that is what `MakesRun` says of
 -- it, as of a run with that script. What was told is why lines say no event. After each round was shown what its terminals' lines
 -- took in it.
-pub record Lives (x : Input) (most : ℕ) (lived : Lived) (o : Outside) (p : Operator) (out out' : Seen) : Type 0 where
-  pub makes : Makes x lived.ran o
+pub record Lives (x : Input) (most : ℕ) (lived : Lived) (o : RunOutside) (p : Operator) (out out' : Seen) : Type 0 where
+  pub makes : MakesRun x lived.ran o
   -- the lines that were taken
   pub typed : List (List ℕ)
-  pub ends : Ends lived.is_broken most typed p.keys p.keys'
+  pub ends : EndsTypedRun lived.is_broken most typed p.keys p.keys'
   pub events : x.events ≡ events_typed 1 typed
   pub means : script_of (script_typed 1 typed) ≡ Ok x.events
   pub rounds : x.rounds ≡ rounds_typed false typed
@@ -34,13 +34,13 @@ pub record Lives (x : Input) (most : ℕ) (lived : Lived) (o : Outside) (p : Ope
   pub made : lived.rounds ≡ x.rounds
   -- whether standard error failed
   pub cut : Bool
-  pub told : ShownSince cut p.errors p.errors' (told_typed 1 typed)
+  pub told : ShownSince cut p.errors p.errors' (refusal_messages 1 typed)
   -- what was shown of the rounds
   pub echoed : List ℕ
   pub shown : ShownSince lived.is_cut out out' echoed
   pub exact : AreSeen x.config.terminals o.lines' → echoed ≡ echo_rounds (more_on o.lines o.lines') (opening x) x.events x.rounds
 
 -- such a run by its answer: it was made; or power doesn't come up, and no line is taken
-abbrev pub LivesRun : Config → List (List ℕ) → ℕ → Result Lived PowerFault → Outside → Operator → Seen → Seen → Type 0
+abbrev pub LivesRun : Config → List (List ℕ) → ℕ → Result Lived PowerFault → RunOutside → Operator → Seen → Seen → Type 0
 LivesRun c images most (Ok lived) o p out out' = (x : Input) × (x.config ≡ c) × (x.images ≡ images) × Lives x most lived o p out out'
 LivesRun c images most (Err fault) o p out out' = StaysDown c images fault o × Untyped p × (out' ≡ out)

@@ -3,15 +3,15 @@ use Rattle.std.specs.Prelude.{ℕ, ◌≡◌, ◌≤◌, List, [], All, Bool, tr
 use Rattle.vax_hw.specs.Machine.{Machine}
 use Rattle.vv_io.specs.Lines.{Seen, unseen}
 use Rattle.sys_echo.specs.Rounds.{echo_rounds}
-use Rattle.sys_echo.specs.Screens.{AreSameScreens, AreWithin, Echoes, IsTold, more_on, new_on}
+use Rattle.sys_echo.specs.Screens.{AreSameScreens, AreWithin, Echoes, IsLineKnown, more_on, new_on}
 use Rattle.sys_echo.specs.declared.screen.Screen.{Screen}
 use Rattle.sys_lines.specs.ShownSince.{ShownSince}
 use Rattle.sys_runs.specs.Rounds.{MakesRounds}
-use Rattle.sys_script.specs.Typed.{events_typed, rounds_typed, told_typed}
+use Rattle.sys_script.specs.Typed.{events_typed, refusal_messages, rounds_typed}
 use Rattle.sys_system.specs.System.{System, moment_of}
 use Rattle.sys_live.specs.Lives.{AreSeen}
 use Rattle.sys_live.specs.Operator.{Operator}
-use Rattle.sys_live.specs.Typing.{Ends}
+use Rattle.sys_live.specs.Typing.{EndsTypedRun}
 use Rattle.sys_live.specs.declared.session.Went.{Went}
 
 -- What the terminals' lines were shown since they were last looked at was put on the sink, and the screens were seen up to there
@@ -19,7 +19,7 @@ use Rattle.sys_live.specs.declared.session.Went.{Went}
 pub record ShowsNews (cut : Bool) (lines : List Seen) (screens screens' : List Screen) (out out' : Seen) : Type 0 where
   pub echoes : Echoes cut lines screens out out'
   pub same : AreSameScreens screens screens'
-  pub seen : cut ≡ false → All (λ screen. IsTold (slice_index_or lines screen.line unseen) → new_on lines screen ≡ []) screens'
+  pub seen : cut ≡ false → All (λ screen. IsLineKnown (slice_index_or lines screen.line unseen) → new_on lines screen ≡ []) screens'
   pub within : AreWithin lines screens → AreWithin lines screens'
 
 -- where nothing was cut before; and else nothing is put
@@ -31,11 +31,11 @@ GoesOnShowing false cut' lines screens screens' out out' = ShowsNews cut' lines 
 -- terminals were shown was shown to the operator.
 pub record MakesTyped (most : ℕ) (went : Went) (p : Operator) (out out' : Seen) (m : Machine) (s : System) (lines : List Seen) (m' : Machine) (s' : System) (lines' : List Seen) : Type 0 where
   pub typed : List (List ℕ)
-  pub ends : Ends went.is_broken most typed p.keys p.keys'
+  pub ends : EndsTypedRun went.is_broken most typed p.keys p.keys'
   pub few : rounds_typed false typed ≤ most
   pub makes : MakesRounds (rounds_typed false typed) (events_typed 1 typed) m s lines m' s' lines'
   pub cut : Bool
-  pub told : ShownSince cut p.errors p.errors' (told_typed 1 typed)
+  pub told : ShownSince cut p.errors p.errors' (refusal_messages 1 typed)
   pub echoed : List ℕ
   pub shown : ShownSince went.is_cut out out' echoed
   pub exact : AreSeen s.config.terminals lines' → echoed ≡ echo_rounds (more_on lines lines') (moment_of m.memory s) (events_typed 1 typed) (rounds_typed false typed)

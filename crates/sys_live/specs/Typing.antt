@@ -2,8 +2,8 @@
 use Rattle.std.specs.Prelude.{ℕ, ◌≡◌, ◌≢◌, ◌<◌, ◌+◌, ◌-◌, ◌^◌, ◌⊎◌, List, [], ◌∷◌, ◌++◌, All, Bool, true, false, length}
 use Rattle.vv_io.specs.Causes.{Rose}
 use Rattle.vv_io.specs.Keys.{IsOut, Keys, Took}
-use Rattle.sys_lines.specs.Shows.{Gets}
-use Rattle.sys_script.specs.Typed.{events_typed, rounds_ended, says_event, told_typed}
+use Rattle.sys_lines.specs.Shows.{ShowsUnlessMarked}
+use Rattle.sys_script.specs.Typed.{events_typed, refusal_messages, rounds_ended, says_event}
 use Rattle.sys_live.specs.Operator.{Operator}
 use Rattle.sys_live.specs.declared.typing.Count.{Count}
 use Rattle.sys_live.specs.declared.typing.TypedRound.{TypedRound}
@@ -24,10 +24,10 @@ BreaksOff count lines before after =
 
 -- How the lines of one round ended, `count` with those of the rounds before: an empty line was taken; or no more come; or it broke
 -- off.
-abbrev pub Stands : Typing → ℕ → List (List ℕ) → Keys → Keys → Type 0
-Stands GoesOn count lines before after = TookWell (lines ++ [] ∷ []) before after
-Stands Over count lines before after = TookWell lines before after × IsOut after.coming
-Stands Broken count lines before after = BreaksOff count lines before after
+abbrev pub EndsTypedRound : Typing → ℕ → List (List ℕ) → Keys → Keys → Type 0
+EndsTypedRound GoesOn count lines before after = TookWell (lines ++ [] ∷ []) before after
+EndsTypedRound Over count lines before after = TookWell lines before after × IsOut after.coming
+EndsTypedRound Broken count lines before after = BreaksOff count lines before after
 
 -- The lines of one round were taken, of which none is empty, and their events are the round's. Those that say none were told, where
 -- nothing was cut before, by the numbers that follow those of the rounds before. Where an empty line ended the round it is counted
@@ -35,17 +35,17 @@ Stands Broken count lines before after = BreaksOff count lines before after
 pub record TypesRound (round : ℕ) (before after : Count) (typed : TypedRound) (p : Operator) : Type 0 where
   pub lines : List (List ℕ)
   pub none_is_empty : All (λ line. line ≢ []) lines
-  pub taken : Stands typed.typing (before.lines + length lines) lines p.keys p.keys'
+  pub taken : EndsTypedRound typed.typing (before.lines + length lines) lines p.keys p.keys'
   pub counts : typed.typing ≡ GoesOn → after.lines ≡ before.lines + length lines + 1
   pub events : typed.events.items ≡ events_typed round lines
-  pub told : Gets before.is_cut after.is_cut p.errors p.errors' (told_typed (before.lines + 1) lines)
+  pub told : ShowsUnlessMarked before.is_cut after.is_cut p.errors p.errors' (refusal_messages (before.lines + 1) lines)
 
 -- the last line is empty
-abbrev pub EndsRound : List (List ℕ) → Type 0
-EndsRound lines = (before : List (List ℕ)) × (lines ≡ before ++ [] ∷ [])
+abbrev pub EndsWithEmptyLine : List (List ℕ) → Type 0
+EndsWithEmptyLine lines = (before : List (List ℕ)) × (lines ≡ before ++ [] ∷ [])
 
 -- How the typing of a run of at most so many rounds ended: all rounds were ended, and no line was taken after them; or, with fewer,
 -- no more lines come, or it broke off.
-abbrev pub Ends : Bool → ℕ → List (List ℕ) → Keys → Keys → Type 0
-Ends true most lines before after = BreaksOff (length lines) lines before after × (rounds_ended lines < most)
-Ends false most lines before after = TookWell lines before after × ((EndsRound lines × (rounds_ended lines ≡ most)) ⊎ (IsOut after.coming × (rounds_ended lines < most)))
+abbrev pub EndsTypedRun : Bool → ℕ → List (List ℕ) → Keys → Keys → Type 0
+EndsTypedRun true most lines before after = BreaksOff (length lines) lines before after × (rounds_ended lines < most)
+EndsTypedRun false most lines before after = TookWell lines before after × ((EndsWithEmptyLine lines × (rounds_ended lines ≡ most)) ⊎ (IsOut after.coming × (rounds_ended lines < most)))

@@ -5,7 +5,7 @@ ghost use Rattle.sys_runs.specs.Rounds.{MakesRounds};
 ghost use Rattle.sys_script.specs.Events.{AreEvents};
 ghost use Rattle.sys_echo.specs.Screens.{AreScreens};
 ghost use Rattle.sys_objects.specs.Condition.{IsConfig};
-ghost use Rattle.sys_system.specs.System.{IsSystem, StandsIn};
+ghost use Rattle.sys_system.specs.System.{IsInMachine, IsSystem};
 ghost use Rattle.vm_stepping.specs.Made.{steps_in};
 
 use crate::typing::{Count, Typing, read_round};
@@ -50,7 +50,7 @@ fn make_next<H: Hardware, O: Sink>(
     requires few { system.old.rounds + 1 ≤ 2000000 }
     requires ordered { AreEvents events.now }
     requires holds { IsSystem system.old }
-    requires stands { StandsIn (H.machine machine.old).memory system.old }
+    requires stands { IsInMachine (H.machine machine.old).memory system.old }
     requires lines { vec_len lines.old ≡ 32 }
     requires there { All (λ screen. screen.line < 32) screens.old.items }
     ensures makes { MakesRounds 1 events.now (H.machine machine.old) system.old (map (λ b. seen b) lines.old.items) (H.machine machine.new) system.new (map (λ b. seen b) lines.new.items) }
@@ -83,7 +83,7 @@ fn make_typed<H: Hardware, K: Keyboard, E: Sink, O: Sink>(
     requires some { 1 ≤ most }
     requires few { most ≤ 1000000 }
     requires holds { IsSystem system.old }
-    requires stands { StandsIn (H.machine machine.old).memory system.old }
+    requires stands { IsInMachine (H.machine machine.old).memory system.old }
     requires lines { vec_len lines.old ≡ 32 }
     requires screens { AreScreens (map (λ b. seen b) lines.old.items) system.old.config.terminals screens.old.items }
     ensures makes { MakesTyped most result (record { keys = K.keys keyboard.old; keys' = K.keys keyboard.new; errors = E.printed errors.old; errors' = E.printed errors.new }) (O.printed out.old) (O.printed out.new) (H.machine machine.old) system.old (map (λ b. seen b) lines.old.items) (H.machine machine.new) system.new (map (λ b. seen b) lines.new.items) }

@@ -1,7 +1,7 @@
 ghost use Rattle.std.specs.Prelude.{◌≡◌, ◌≤◌, ◌++◌, [], All, Err, IfOk, OnErr, OnOk, true};
-ghost use Rattle.sys_lines.specs.Shows.{Gets};
+ghost use Rattle.sys_lines.specs.Shows.{ShowsUnlessMarked};
 ghost use Rattle.sys_live.specs.Typing.{TypesRound};
-ghost use Rattle.sys_script.specs.Typed.{if_said, says_event, typed_in, told_of, why_not};
+ghost use Rattle.sys_script.specs.Typed.{if_said, says_event, typed_in, refusal_message, why_not};
 ghost use Rattle.sys_script.specs.Events.{IsEvent};
 ghost use Rattle.sys_system.specs.Calls.{AreOf};
 
@@ -50,7 +50,7 @@ fn why_not(number: u32, kind: ScriptKind) -> Text<64>
 
 /// Tells why the last line says no event, where nothing was cut before.
 fn tell<E: Sink>(count: &mut Count, kind: ScriptKind, errors: &mut E)
-    ensures tells { Gets count.old.is_cut count.new.is_cut (E.printed errors.old) (E.printed errors.new) (why_not count.old.lines (Err kind)) }
+    ensures tells { ShowsUnlessMarked count.old.is_cut count.new.is_cut (E.printed errors.old) (E.printed errors.new) (why_not count.old.lines (Err kind)) }
     ensures lines { count.new.lines ≡ count.old.lines }
 {
     if !count.is_cut {
@@ -69,7 +69,7 @@ fn take_line<E: Sink>(
 ) -> Result<(), NoMemory>
     ensures ok { IfOk result (λ _. events.new.items ≡ events.old.items ++ if_said (typed_in round line.now) []) }
     ensures err { OnErr result ((events.new.items ≡ events.old.items) × (says_event line.now ≡ true)) }
-    ensures tells { OnOk result (Gets count.old.is_cut count.new.is_cut (E.printed errors.old) (E.printed errors.new) (told_of count.old.lines line.now)) }
+    ensures tells { OnOk result (ShowsUnlessMarked count.old.is_cut count.new.is_cut (E.printed errors.old) (E.printed errors.new) (refusal_message count.old.lines line.now)) }
     ensures untold { OnErr result ((E.printed errors.new ≡ E.printed errors.old) × (count.new.is_cut ≡ count.old.is_cut)) }
     ensures lines { count.new.lines ≡ count.old.lines }
 {

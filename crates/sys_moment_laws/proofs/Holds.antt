@@ -2,19 +2,19 @@
 use Rattle.std.proofs.Common.{◌≡◌, ℕ, zero, suc, ◌==◌, List, [], ◌∷◌, map, Bool, false, refl, sym, ◌∙◌, arith, ◌<◌, Option, Some, None, slice_get, slice_set, slice_index_or, length}
 use Rattle.std.specs.Prelude.{cond, is_some, option_map}
 use Rattle.std.proofs.lemmas.Bool.{cond_both, eqb-true, eqb-false, ne_eqb}
-use Rattle.sys_moment_laws.specs.Holds.{AllHalt, Holds, NoneIs, RoundsKeep, RunsKeep, StandOnce}
+use Rattle.sys_moment_laws.specs.Holds.{AllHalt, IsSoundSystem, NoneIs, OccurOnce, RoundsKeep, RunsKeep}
 use Rattle.sys_objects.specs.Rules.{same_place}
 use Rattle.sys_objects.specs.declared.records.Config.{Config}
 use Rattle.sys_objects.specs.declared.records.GuestRow.{GuestRow}
 use Rattle.sys_objects.specs.declared.records.Mount.{Mount}
 use Rattle.sys_objects.specs.declared.records.Terminal.{Terminal}
-use Rattle.sys_rounds.specs.Events.{after_verdict, at_place, at_row, events, happened, is_named, lined, obeyed, reset_by}
-use Rattle.sys_rounds.specs.Guests.{powered, stopped_by_command, typed, with_no_queue}
-use Rattle.sys_rounds.specs.Places.{beside_with, changed, is_at, place_of}
-use Rattle.sys_rounds.specs.Run.{connections, events_of, first_state, round}
-use Rattle.sys_rounds.specs.State.{State, server_of}
-use Rattle.sys_rounds.specs.Transfers.{Move, Packet, Prints, Reads, Refused, Writes, all_served, moved, move_of, packet_at, served, served_one}
-use Rattle.sys_rounds.specs.Turns.{turn}
+use Rattle.sys_state.specs.Events.{after_verdict, at_place, at_row, events, happened, is_named, lined, obeyed, reset_by}
+use Rattle.sys_state.specs.Guests.{powered, stopped_by_command, typed, with_no_queue}
+use Rattle.sys_state.specs.Places.{beside_with, changed, is_at, place_of}
+use Rattle.sys_state.specs.Run.{connections, events_of, first_state, round}
+use Rattle.sys_state.specs.State.{SystemState, server_of}
+use Rattle.sys_state.specs.Transfers.{Move, Packet, Prints, Reads, Refused, Writes, all_served, moved, move_of, packet_at, served, served_one}
+use Rattle.sys_state.specs.Turns.{turn}
 use Rattle.sys_script.specs.declared.event.Event.{Event}
 use Rattle.sys_script.specs.declared.event.Typed.{Typed}
 use Rattle.sys_script.specs.declared.event.Typed.TheVariants.{Break, Line}
@@ -51,7 +51,7 @@ none_set test [] n v k h = tt
 none_set test (o ∷ os) zero v k h = (k, h.1)
 none_set test (o ∷ os) (suc n) v k h = (h.0, none_set test os n v k h.1)
 
-once_none : (os : List (Option ℕ)) (n : ℕ) → StandOnce os → StandOnce (slice_set os n None)
+once_none : (os : List (Option ℕ)) (n : ℕ) → OccurOnce os → OccurOnce (slice_set os n None)
 once_none [] n h = tt
 once_none (o ∷ os) zero h = (none_same os, h.1)
 once_none (o ∷ os) (suc n) h = (none_set (same_place o) os n None (same_none o) h.0, once_none os n h.1)
@@ -60,7 +60,7 @@ none_freed : (test : Option ℕ → Bool) (g : ℕ) (os : List (Option ℕ)) →
 none_freed test g [] k h = tt
 none_freed test g (o ∷ os) k h = (cond_both (is_guest g o) None o (λ x. test x ≡ false) (λ t. k) (λ t. h.0), none_freed test g os k h.1)
 
-once_freed : (g : ℕ) (os : List (Option ℕ)) → StandOnce os → StandOnce (map (freed g) os)
+once_freed : (g : ℕ) (os : List (Option ℕ)) → OccurOnce os → OccurOnce (map (freed g) os)
 once_freed g [] h = tt
 once_freed g (o ∷ os) h = (
   cond_both (is_guest g o) None o (λ x. NoneIs (same_place x) (map (freed g) os)) (λ t. none_same (map (freed g) os)) (λ t. none_freed (same_place o) g os (same_none o) h.0),
@@ -73,7 +73,7 @@ gone g [] = tt
 gone g (None ∷ os) = (refl, gone g os)
 gone g (Some h ∷ os) = (cond_both (h == g) None (Some h) (λ x. same_place (Some g) x ≡ false) (λ t. refl) (λ other. turned h g other), gone g os)
 
-once_set : (os : List (Option ℕ)) (n g : ℕ) → NoneIs (same_place (Some g)) os → StandOnce os → StandOnce (slice_set os n (Some g))
+once_set : (os : List (Option ℕ)) (n g : ℕ) → NoneIs (same_place (Some g)) os → OccurOnce os → OccurOnce (slice_set os n (Some g))
 once_set [] n g none h = tt
 once_set (o ∷ os) zero g none h = (none.1, h.1)
 once_set (o ∷ os) (suc n) g none h = (none_set (same_place o) os n (Some g) (same_turned g o none.0) h.0, once_set os n g none.1 h.1)
@@ -91,7 +91,7 @@ reset_halts (Some row) g h = tt
 stop_halts : (g : Guest) → IsHalt g.state.halt → IsHalt (stopped_by_command g).state.halt
 stop_halts g h = cond_both (is_some g.state.halt) g.state _ (λ (x : GuestPart). IsHalt x.halt) (λ t. h) (λ t. refl)
 
-obeyed_holds : (c : Config) (s : State) (n : ℕ) (command : Command) → Holds s → Holds (obeyed c s n command)
+obeyed_holds : (c : Config) (s : SystemState) (n : ℕ) (command : Command) → IsSoundSystem s → IsSoundSystem (obeyed c s n command)
 unfolding applied
 obeyed_holds c s n (Connect g) h = record { once = once_set (map (freed g) s.connected) n g (gone g s.connected) (once_freed g s.connected h.once); halts = h.halts }
 obeyed_holds c s n (Start g) h = record { once = h.once; halts = halts_changed (reset_by (slice_get c.guests g)) (reset_halts (slice_get c.guests g)) s.guests g h.halts }
@@ -100,26 +100,26 @@ obeyed_holds c s n (MountAt g unit mount) h = record { once = h.once; halts = h.
 obeyed_holds c s n (Dismount g unit) h = record { once = h.once; halts = h.halts }
 obeyed_holds c s n Show h = record { once = h.once; halts = h.halts }
 
-verdict_holds : (c : Config) (s : State) (n : ℕ) (v : Verdict) → Holds s → Holds (after_verdict c s n v)
+verdict_holds : (c : Config) (s : SystemState) (n : ℕ) (v : Verdict) → IsSoundSystem s → IsSoundSystem (after_verdict c s n v)
 verdict_holds c s n (Granted command) h = obeyed_holds c s n command h
 verdict_holds c s n BadCommand h = h
 verdict_holds c s n NoSuchObject h = h
 verdict_holds c s n (Denied rule) h = h
 
-lined_holds : (c : Config) (i : ℕ) (s : State) (n : ℕ) (t : Terminal) (text : List ℕ) (o : Option ℕ) → Holds s → Holds (lined c i s n t text o).now
+lined_holds : (c : Config) (i : ℕ) (s : SystemState) (n : ℕ) (t : Terminal) (text : List ℕ) (o : Option ℕ) → IsSoundSystem s → IsSoundSystem (lined c i s n t text o).now
 lined_holds c i s n t text (Some g) h = record { once = h.once; halts = halts_changed (typed text) (λ k is. is) s.guests g h.halts }
 lined_holds c i s n t text None h = verdict_holds c s n (verdict_of c (server_of s) n text) h
 
-row_holds : (c : Config) (i : ℕ) (s : State) (n : ℕ) (t : Option Terminal) (what : Typed) → Holds s → Holds (at_row c i s n t what).now
+row_holds : (c : Config) (i : ℕ) (s : SystemState) (n : ℕ) (t : Option Terminal) (what : Typed) → IsSoundSystem s → IsSoundSystem (at_row c i s n t what).now
 row_holds c i s n None what h = h
 row_holds c i s n (Some t) Break h = record { once = once_none s.connected n h.once; halts = h.halts }
 row_holds c i s n (Some t) (Line text) h = lined_holds c i s n t text (slice_index_or s.connected n None) h
 
-place_holds : (c : Config) (i : ℕ) (s : State) (o : Option ℕ) (what : Typed) → Holds s → Holds (at_place c i s o what).now
+place_holds : (c : Config) (i : ℕ) (s : SystemState) (o : Option ℕ) (what : Typed) → IsSoundSystem s → IsSoundSystem (at_place c i s o what).now
 place_holds c i s None what h = h
 place_holds c i s (Some n) what h = row_holds c i s n (slice_get c.terminals n) what h
 
-pub events_hold : (c : Config) (i : ℕ) (s : State) (es : List Event) → Holds s → Holds (events c i s es).now
+pub events_hold : (c : Config) (i : ℕ) (s : SystemState) (es : List Event) → IsSoundSystem s → IsSoundSystem (events c i s es).now
 events_hold c i s [] h = h
 events_hold c i s (e ∷ es) h = events_hold c i (happened c i s e).now es (place_holds c i s (place_of (is_named e.terminal) c.terminals) e.what h)
 
@@ -151,10 +151,10 @@ all_halt c (row ∷ rows) (ms ∷ mss) (g ∷ gs) vs h =
     let one = served c row ms (with_no_queue g) g.state.queue vs in
     (served_halts c row ms (with_no_queue g) g.state.queue vs h.0, all_halt c rows mss gs one.volumes h.1)
 
-round_holds : (c : Config) (i : ℕ) (es : List Event) (s : State) → Holds s → Holds (round c i es s).now
+round_holds : (c : Config) (i : ℕ) (es : List Event) (s : SystemState) → IsSoundSystem s → IsSoundSystem (round c i es s).now
 round_holds c i es s h =
     let begun = (events c i s (events_of i es)).now in
-    let k : Holds begun = events_hold c i s (events_of i es) h in
+    let k : IsSoundSystem begun = events_hold c i s (events_of i es) h in
     let gs = beside_with turn c.guests begun.guests in
     record { once = k.once; halts = all_halt c c.guests begun.mounts gs begun.volumes (turns_halt c.guests begun.guests k.halts) }
 
@@ -193,7 +193,7 @@ none_before : (rows : List GuestRow) (i j : ℕ) (ks : List Terminal) → i < j 
 none_before rows i j [] h = tt
 none_before rows i j (k ∷ ks) h = (at_apart rows i j (λ same. omega (arith, same, h)), none_before rows i (suc j) ks (omega (arith, h)))
 
-pub once_first : (rows : List GuestRow) (i : ℕ) (ks : List Terminal) → StandOnce (connections rows i ks)
+pub once_first : (rows : List GuestRow) (i : ℕ) (ks : List Terminal) → OccurOnce (connections rows i ks)
 once_first rows i [] = tt
 once_first rows i (k ∷ ks) = (none_before rows i (suc i) ks (omega arith), once_first rows (suc i) ks)
 

@@ -9,10 +9,10 @@ use Rattle.sys_objects.specs.declared.records.Config.{Config}
 use Rattle.sys_objects.specs.declared.records.GuestRow.{GuestRow}
 use Rattle.sys_objects.specs.declared.records.Mount.{Mount}
 use Rattle.sys_objects.specs.declared.records.Terminal.{Terminal}
-use Rattle.sys_rounds.specs.Events.{after_verdict, at_place, at_row, events, happened, is_named, lined, obeyed}
-use Rattle.sys_rounds.specs.Places.{place_of}
-use Rattle.sys_rounds.specs.Run.{connections, events_of, first_state, round, rounds}
-use Rattle.sys_rounds.specs.State.{State, server_of}
+use Rattle.sys_state.specs.Events.{after_verdict, at_place, at_row, events, happened, is_named, lined, obeyed}
+use Rattle.sys_state.specs.Places.{place_of}
+use Rattle.sys_state.specs.Run.{connections, events_of, first_state, round, rounds}
+use Rattle.sys_state.specs.State.{SystemState, server_of}
 use Rattle.sys_script.specs.declared.event.Event.{Event}
 use Rattle.sys_script.specs.declared.event.Typed.{Typed}
 use Rattle.sys_script.specs.declared.event.Typed.TheVariants.{Break, Line}
@@ -26,7 +26,7 @@ use Rattle.sys_server.specs.declared.command.Verdict.TheVariants.{Granted, BadCo
 abbrev pub HasFour : GuestRow → List (Option Mount) → Type 0
 HasFour row units = length units ≡ 4
 
-pub record Shaped (c : Config) (s : State) : Type 0 where
+pub record Shaped (c : Config) (s : SystemState) : Type 0 where
   pub seats : length s.connected ≡ length c.terminals
   pub units : AllZip HasFour c.guests s.mounts
 
@@ -43,7 +43,7 @@ four_set (row ∷ rows) (ms ∷ mss) zero unit m h = (set_long ms unit m ∙ h.0
 four_set (row ∷ rows) (ms ∷ mss) (suc g) unit m h = (h.0, four_set rows mss g unit m h.1)
 
 module _ (c : Config) where
-  obeyed_shaped : (s : State) (n : ℕ) (command : Command) → Shaped c s → Shaped c (obeyed c s n command)
+  obeyed_shaped : (s : SystemState) (n : ℕ) (command : Command) → Shaped c s → Shaped c (obeyed c s n command)
   unfolding applied
   obeyed_shaped s n (Connect g) h = record { seats = set_long (map (freed g) s.connected) n (Some g) ∙ length-map s.connected (freed g) ∙ h.seats; units = h.units }
   obeyed_shaped s n (Start g) h = record { seats = h.seats; units = h.units }
@@ -52,33 +52,33 @@ module _ (c : Config) where
   obeyed_shaped s n (Dismount g unit) h = record { seats = h.seats; units = four_set c.guests s.mounts g unit None h.units }
   obeyed_shaped s n Show h = record { seats = h.seats; units = h.units }
 
-  verdict_shaped : (s : State) (n : ℕ) (v : Verdict) → Shaped c s → Shaped c (after_verdict c s n v)
+  verdict_shaped : (s : SystemState) (n : ℕ) (v : Verdict) → Shaped c s → Shaped c (after_verdict c s n v)
   verdict_shaped s n (Granted command) h = obeyed_shaped s n command h
   verdict_shaped s n BadCommand h = h
   verdict_shaped s n NoSuchObject h = h
   verdict_shaped s n (Denied rule) h = h
 
-  lined_shaped : (i : ℕ) (s : State) (n : ℕ) (t : Terminal) (text : List ℕ) (o : Option ℕ) → Shaped c s → Shaped c (lined c i s n t text o).now
+  lined_shaped : (i : ℕ) (s : SystemState) (n : ℕ) (t : Terminal) (text : List ℕ) (o : Option ℕ) → Shaped c s → Shaped c (lined c i s n t text o).now
   lined_shaped i s n t text (Some g) h = record { seats = h.seats; units = h.units }
   lined_shaped i s n t text None h = verdict_shaped s n (verdict_of c (server_of s) n text) h
 
-  row_shaped : (i : ℕ) (s : State) (n : ℕ) (t : Option Terminal) (what : Typed) → Shaped c s → Shaped c (at_row c i s n t what).now
+  row_shaped : (i : ℕ) (s : SystemState) (n : ℕ) (t : Option Terminal) (what : Typed) → Shaped c s → Shaped c (at_row c i s n t what).now
   row_shaped i s n None what h = h
   row_shaped i s n (Some t) Break h = record { seats = set_long s.connected n None ∙ h.seats; units = h.units }
   row_shaped i s n (Some t) (Line text) h = lined_shaped i s n t text (slice_index_or s.connected n None) h
 
-  place_shaped : (i : ℕ) (s : State) (o : Option ℕ) (what : Typed) → Shaped c s → Shaped c (at_place c i s o what).now
+  place_shaped : (i : ℕ) (s : SystemState) (o : Option ℕ) (what : Typed) → Shaped c s → Shaped c (at_place c i s o what).now
   place_shaped i s None what h = h
   place_shaped i s (Some n) what h = row_shaped i s n (slice_get c.terminals n) what h
 
-  events_shaped : (i : ℕ) (s : State) (es : List Event) → Shaped c s → Shaped c (events c i s es).now
+  events_shaped : (i : ℕ) (s : SystemState) (es : List Event) → Shaped c s → Shaped c (events c i s es).now
   events_shaped i s [] h = h
   events_shaped i s (e ∷ es) h = events_shaped i (happened c i s e).now es (place_shaped i s (place_of (is_named e.terminal) c.terminals) e.what h)
 
-  round_shaped : (i : ℕ) (es : List Event) (s : State) → Shaped c s → Shaped c (round c i es s).now
+  round_shaped : (i : ℕ) (es : List Event) (s : SystemState) → Shaped c s → Shaped c (round c i es s).now
   round_shaped i es s h = let k = events_shaped i s (events_of i es) h in record { seats = k.seats; units = k.units }
 
-  pub rounds_shaped : (i n : ℕ) (es : List Event) (s : State) → Shaped c s → Shaped c (rounds c i n es s).now
+  pub rounds_shaped : (i n : ℕ) (es : List Event) (s : SystemState) → Shaped c s → Shaped c (rounds c i n es s).now
   rounds_shaped i zero es s h = h
   rounds_shaped i (suc n) es s h = rounds_shaped (suc i) n es (round c i es s).now (round_shaped i es s h)
 

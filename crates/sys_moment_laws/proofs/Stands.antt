@@ -6,8 +6,8 @@ use Rattle.std.proofs.lemmas.List.Elements.{All-cons, All-head, All-nil, All-tai
 use Rattle.vv_class.specs.declared.class.AccessClass.{AccessClass}
 use Rattle.sys_moment_laws.proofs.Holds.{once_first, powered_halts, rounds_keep}
 use Rattle.sys_moment_laws.proofs.Shapes.{HasFour, Shaped, first_shaped, rounds_shaped}
-use Rattle.sys_moment_laws.specs.Holds.{AllHalt, Holds, NoneIs, StandOnce}
-use Rattle.sys_moment_laws.specs.Stands.{MomentsStandRight, OpensRight, RoundsKeepRight, RunsStandRight, StandsRight}
+use Rattle.sys_moment_laws.specs.Holds.{AllHalt, IsSoundSystem, NoneIs, OccurOnce}
+use Rattle.sys_moment_laws.specs.ConsistentState.{IsConsistentState, MomentsAreConsistent, OpeningIsConsistent, RoundsKeepConsistency, RunsAreConsistent}
 use Rattle.sys_objects.specs.Rules.{may_mount, same_class, same_place}
 use Rattle.sys_objects.specs.declared.records.Config.{Config}
 use Rattle.sys_objects.specs.declared.records.GuestRow.{GuestRow}
@@ -16,10 +16,10 @@ use Rattle.sys_objects.specs.declared.records.Terminal.{Terminal}
 use Rattle.sys_purge.proofs.Accepted.{same_is, same_itself}
 use Rattle.sys_purge.proofs.Fits.{ConnectFits, Each, Fits, Holds as IsGuestOfClass, MountFits, MountsFit, Pairs, each_of_all, fits_events}
 use Rattle.sys_purge.proofs.Opens.{first_fits}
-use Rattle.sys_rounds.specs.Run.{events_of, first_state, round, rounds}
-use Rattle.sys_rounds.specs.State.{State}
+use Rattle.sys_state.specs.Run.{events_of, first_state, round, rounds}
+use Rattle.sys_state.specs.State.{SystemState}
 use Rattle.sys_script.specs.declared.event.Event.{Event}
-use Rattle.sys_snap.specs.Conditions.{is_of_class, may_all_sit, may_sit}
+use Rattle.sys_snap.specs.Conditions.{is_guest_of_class, may_all_sit, may_sit}
 use Rattle.sys_snap.specs.Snap.{AreUnitsOf, IsGuestOf}
 use Rattle.vm_state.specs.State.{Guest}
 use Rattle.vm_state.specs.Stops.{IsHalt}
@@ -41,7 +41,7 @@ module _ (c : Config) where
       let same : same_class fits.0.class t.class ≡ true = subst (λ class. same_class fits.0.class class ≡ true) fits.2 (same_itself fits.0.class) in
       rw (fits.1) same
 
-  row_fits : (t : Terminal) (g : ℕ) (o : Option GuestRow) → slice_get c.guests g ≡ o → is_of_class t o ≡ true → IsGuestOfClass c t.class g
+  row_fits : (t : Terminal) (g : ℕ) (o : Option GuestRow) → slice_get c.guests g ≡ o → is_guest_of_class t o ≡ true → IsGuestOfClass c t.class g
   row_fits t g None at is = absurd (false≢true is)
   row_fits t g (Some row) at is = (row, at, same_is row.class t.class is)
 
@@ -49,7 +49,7 @@ module _ (c : Config) where
   seat_fits t None may = tt
   seat_fits t (Some g) may = row_fits t g (slice_get c.guests g) refl may
 
-  all_sit : (ts : List Terminal) (os : List (Option ℕ)) → Pairs (ConnectFits c) ts os → StandOnce os → length os ≡ length ts → may_all_sit c.guests ts os ≡ true
+  all_sit : (ts : List Terminal) (os : List (Option ℕ)) → Pairs (ConnectFits c) ts os → OccurOnce os → length os ≡ length ts → may_all_sit c.guests ts os ≡ true
   all_sit [] [] fit once long = refl
   all_sit [] (o ∷ os) fit once long = absurd (omega (arith, long))
   all_sit (t ∷ ts) [] fit once long = absurd (omega (arith, long))
@@ -60,7 +60,7 @@ module _ (c : Config) where
 
   record Seated (ts : List Terminal) (os : List (Option ℕ)) : Type 0 where
     fit : Pairs (ConnectFits c) ts os
-    once : StandOnce os
+    once : OccurOnce os
     long : length os ≡ length ts
 
   seated : (ts : List Terminal) (os : List (Option ℕ)) → may_all_sit c.guests ts os ≡ true → Seated ts os
@@ -116,40 +116,40 @@ guests_halt (row ∷ rows) [] are = absurd are
 guests_halt (row ∷ rows) (g ∷ gs) are = (are.0.is.halt, guests_halt rows gs are.1)
 
 -- all together
-right_by : (c : Config) (s : State) → Fits c s → Holds s → Shaped c s → StandsRight c s
+right_by : (c : Config) (s : SystemState) → Fits c s → IsSoundSystem s → Shaped c s → IsConsistentState c s
 right_by c s fits holds shaped = record {
   seated = all_sit c c.terminals s.connected fits.connected holds.once shaped.seats;
   mounted = all_mounted c c.guests s.mounts fits.mounts shaped.units;
   halts = all_halts s.guests holds.halts;
 }
 
-round_fits : (c : Config) (i : ℕ) (es : List Event) (s : State) → Fits c s → Fits c (round c i es s).now
+round_fits : (c : Config) (i : ℕ) (es : List Event) (s : SystemState) → Fits c s → Fits c (round c i es s).now
 round_fits c i es s f = let g = fits_events c i s f (events_of i es) in record { connected = g.connected; mounts = g.mounts }
 
-rounds_fit : (c : Config) (i n : ℕ) (es : List Event) (s : State) → Fits c s → Fits c (rounds c i n es s).now
+rounds_fit : (c : Config) (i n : ℕ) (es : List Event) (s : SystemState) → Fits c s → Fits c (rounds c i n es s).now
 rounds_fit c i zero es s f = f
 rounds_fit c i (suc n) es s f = rounds_fit c (suc i) n es (round c i es s).now (round_fits c i es s f)
 
-pub rounds_keep_right : RoundsKeepRight
+pub rounds_keep_right : RoundsKeepConsistency
 rounds_keep_right m es n right =
     let seats = seated m.config m.config.terminals m.state.connected right.seated in
     let mounts = mounted m.config m.config.guests m.state.mounts right.mounted in
     let fits : Fits m.config m.state = record { connected = seats.fit; mounts = mounts.fit } in
-    let holds : Holds m.state = record { once = seats.once; halts = each_halts m.state.guests right.halts } in
+    let holds : IsSoundSystem m.state = record { once = seats.once; halts = each_halts m.state.guests right.halts } in
     let shaped : Shaped m.config m.state = record { seats = seats.long; units = mounts.four } in
     right_by m.config (rounds m.config (m.made + 1) n es m.state).now
     (rounds_fit m.config (m.made + 1) n es m.state fits)
     (rounds_keep m.config (m.made + 1) n es m.state holds)
     (rounds_shaped m.config (m.made + 1) n es m.state shaped)
 
-pub moments_stand_right : MomentsStandRight
+pub moments_stand_right : MomentsAreConsistent
 moments_stand_right m is = record { seated = is.seated; mounted = is.mounted; halts = all_halts m.state.guests (guests_halt m.config.guests m.state.guests is.guests) }
 
-pub opens_right : OpensRight
+pub opens_right : OpeningIsConsistent
 opens_right x c = right_by x.config (first_state x.config x.images x.volumes)
     (first_fits x.config c.held x.images x.volumes)
     (record { once = once_first x.config.guests 0 x.config.terminals; halts = powered_halts x.config.guests x.images })
     (first_shaped x.config c.guests x.images x.volumes)
 
-pub runs_stand_right : RunsStandRight
+pub runs_stand_right : RunsAreConsistent
 runs_stand_right x c = rounds_keep_right (record { config = x.config; made = 0; state = first_state x.config x.images x.volumes }) x.events x.rounds (opens_right x c)

@@ -1,8 +1,8 @@
 //! Laws of what the state between two rounds keeps.
 #![tactic(auto)]
 
+ghost use Rattle.sys_moment_laws.specs.ConsistentState.{MomentsAreConsistent, OpeningIsConsistent, RoundsKeepConsistency, RunsAreConsistent};
 ghost use Rattle.sys_moment_laws.specs.Holds.{RoundsKeep, RunsKeep};
-ghost use Rattle.sys_moment_laws.specs.Stands.{MomentsStandRight, OpensRight, RoundsKeepRight, RunsStandRight};
 
 /// Rounds keep that no guest is at two terminals, and that each runs or has stopped with a stop code.
 pub fn rounds_keep_them()
@@ -12,12 +12,12 @@ pub fn rounds_keep_them()
 
 /// From any moment on, rounds keep the seats' and mounts' rules and that each guest runs or has stopped with a stop code.
 pub fn rounds_keep_a_moment_right()
-    ensures rounds { RoundsKeepRight }
-    ensures moments { MomentsStandRight }
+    ensures rounds { RoundsKeepConsistency }
+    ensures moments { MomentsAreConsistent }
 {}
 
 /// After each run of an accepted configuration they hold.
 pub fn runs_stand_right()
-    ensures opens { OpensRight }
-    ensures runs { RunsStandRight }
+    ensures opens { OpeningIsConsistent }
+    ensures runs { RunsAreConsistent }
 {}

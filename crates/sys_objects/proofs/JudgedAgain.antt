@@ -14,7 +14,7 @@ use Rattle.sys_objects.specs.declared.records.PrinterRow.{PrinterRow}
 use Rattle.sys_objects.specs.declared.rules.Object.{Object}
 use Rattle.sys_objects.specs.Rules.{objects_of, lines_of, terminal_object, volume_object, printer_object, guest_object, first_broken, printer_holds, console_holds, may_mount, mounts_hold, audit_holds, bad_name, bad_line, bad_drive, bad_printer, bad_console, bad_mount, bad_pages}
 use Rattle.sys_objects.specs.Condition.{IsConfig}
-use Rattle.sys_objects.specs.Judged.{judged}
+use Rattle.sys_objects.specs.Judged.{validated}
 use Rattle.sys_objects.proofs.FewLaws.{length-mapped}
 use Rattle.sys_objects.proofs.Firsts.{holds_at, none_broken, is_new, none_twice, pages_pass}
 use Rattle.sys_objects.proofs.Judged.{same_name, same_line, same_drive, same_console}
@@ -70,8 +70,8 @@ module _ (c : Config) (met : IsConfig c) where
   pages_passes : bad_pages c ≡ None
   pages_passes = pages_pass c.guests [] met.pages
 
-  pub judged_back : judged c ≡ Ok tt
-  unfolding judged
+  pub judged_back : validated c ≡ Ok tt
+  unfolding validated
   judged_back = rw (name_passes, line_passes, drive_passes, printer_passes, console_passes, mount_passes, audited_passes c.audit met.audited, pages_passes)
 
 -- elements of a part

@@ -5,10 +5,10 @@ use Rattle.sys_objects.specs.declared.errors.ConfigError.{ConfigError}
 use Rattle.sys_objects.specs.declared.errors.ConfigError.TheVariants.{Fault, NoMemory}
 
 -- the answer is what is defined; `seen` is what a clause sees of a value
-abbrev pub Reads : {A B : Type 0} → (A → B) → Result A ConfigError → Result B ConfigFault → Type 0
-Reads seen (Ok x) defined = defined ≡ Ok (seen x)
-Reads seen (Err (Fault fault)) defined = defined ≡ Err fault
-Reads seen (Err NoMemory) defined = Unit {0}
+abbrev pub IsConfigAnswer : {A B : Type 0} → (A → B) → Result A ConfigError → Result B ConfigFault → Type 0
+IsConfigAnswer seen (Ok x) defined = defined ≡ Ok (seen x)
+IsConfigAnswer seen (Err (Fault fault)) defined = defined ≡ Err fault
+IsConfigAnswer seen (Err NoMemory) defined = Unit {0}
 
 -- the first fault counts
 infixl 10 ◌>>=◌

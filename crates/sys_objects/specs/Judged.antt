@@ -5,8 +5,8 @@ use Rattle.sys_objects.specs.Rules.{bad_name, bad_line, bad_drive, bad_printer, 
 use Rattle.sys_objects.specs.declared.errors.ConfigFault.{ConfigFault}
 use Rattle.sys_objects.specs.declared.records.Config.{Config}
 
-unfoldable pub judged : Config → Result (Unit {0}) ConfigFault
-judged c =
+unfoldable pub validated : Config → Result (Unit {0}) ConfigFault
+validated c =
     unless_at 11 (bad_name c) >>= λ _.
     unless_at 12 (bad_line c) >>= λ _.
     unless_at 13 (bad_drive c) >>= λ _.

@@ -6,7 +6,7 @@ use Rattle.sys_objects.specs.declared.records.GuestRow.{GuestRow}
 use Rattle.sys_objects.specs.declared.records.Terminal.{Terminal}
 use Rattle.sys_objects.specs.Faults.{fault}
 use Rattle.sys_objects.specs.Rules.{lines_of, may_connect, bad_console, bad_line, bad_pages}
-use Rattle.sys_objects.specs.Judged.{judged}
+use Rattle.sys_objects.specs.Judged.{validated}
 
 abbrev level : ℕ → AccessClass
 level n = record { secrecy = n; secrecy_cats = 0; integrity = 0; integrity_cats = 0 }
@@ -52,8 +52,8 @@ line_of_a_dump : bad_line (both guest (record guest { dump = Some 4 })) ≡ Some
 line_of_a_dump = refl
 
 -- both have one name, which the least rule refuses: the second guest is the third object
-one_name_for_two : judged (both guest guest) ≡ Err (fault 11 2)
-unfolding judged
+one_name_for_two : validated (both guest guest) ≡ Err (fault 11 2)
+unfolding validated
 one_name_for_two = refl
 
 eight_times_2048 : bad_pages (record (both guest guest) { guests = guest ∷ guest ∷ guest ∷ guest ∷ guest ∷ guest ∷ guest ∷ guest ∷ [] }) ≡ None

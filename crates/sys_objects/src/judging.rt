@@ -1,6 +1,6 @@
 ghost use Rattle.std.specs.Prelude.{◌<◌, ◌^◌, IfSome};
-ghost use Rattle.sys_objects.specs.Faults.{Reads, unless_at};
-ghost use Rattle.sys_objects.specs.Judged.{judged};
+ghost use Rattle.sys_objects.specs.Faults.{IsConfigAnswer, unless_at};
+ghost use Rattle.sys_objects.specs.Judged.{validated};
 ghost use Rattle.sys_objects.specs.Rules.{IsFew};
 
 use crate::errors::fault;
@@ -14,7 +14,7 @@ use std::alloc::Global;
 /// A rule that looks for a first place at which it fails.
 fn unless_at(rule: u8, place: Option<usize>) -> Result<(), ConfigError>
     requires { IfSome place (λ p. p < 2 ^ 32) }
-    ensures { Reads (λ u. u) result (unless_at rule place) }
+    ensures { IsConfigAnswer (λ u. u) result (unless_at rule place) }
 {
     match place {
         Some(place) => Err(fault(rule, place as u32)),
@@ -23,10 +23,10 @@ fn unless_at(rule: u8, place: Option<usize>) -> Result<(), ConfigError>
 }
 
 /// The rules that speak of several entries, 11 to 18.
-#[tactic(auto, unfolding(crate::specs::Judged::judged))]
+#[tactic(auto, unfolding(crate::specs::Judged::validated))]
 pub fn judge(alloc: Global, c: &Config) -> Result<(), ConfigError>
     requires { IsFew c.now }
-    ensures { Reads (λ u. u) result (judged c.now) }
+    ensures { IsConfigAnswer (λ u. u) result (validated c.now) }
 {
     let objects = objects(alloc, c)?;
     let guests = c.guests.as_slice();

@@ -19,7 +19,7 @@ use Rattle.sys_objects.specs.declared.rules.Object.{Object}
 use Rattle.sys_objects.specs.Rules.{objects_of, lines_of, audit_line, terminal_object, volume_object, printer_object, guest_object, same_class, same_place, flows_into, may_print, is_of_class, may_connect, is_mountable, may_mount}
 use Rattle.sys_objects.specs.Condition.{IsConfig, IsTerminal, IsVolume, IsPrinter, IsGuest, IsAudit, MayHave}
 use Rattle.sys_objects.proofs.Judged.{names_objects}
-use Rattle.sys_purge.specs.Purge.{rank, console_place, place_if, printer_place, mount_place, renumbered, kept_audit, purge_config}
+use Rattle.sys_purge.specs.Purge.{rank, console_place, place_if_kept, printer_place, mount_place, renumbered, kept_audit, purge_config}
 use Rattle.sys_purge.proofs.Kept.{both, Part, part_all, part_pairs, part_append, part_filter, part_changed, pairs_map, sum_kept, few_kept, get_kept}
 use Rattle.sys_purge.proofs.Places.{rank_same}
 
@@ -70,7 +70,7 @@ module _ (c : Config) (to : AccessClass) where
   guest_kept g = does_flow g.class to
 
   -- what a guest has
-  printer_known : (class : AccessClass) (k : ℕ) (o : Option PrinterRow) → slice_get c.printers k ≡ o → flows_into class o ≡ true → may_print (filter printer_kept c.printers) class (place_if to (rank printer_kept c.printers k) o) ≡ true
+  printer_known : (class : AccessClass) (k : ℕ) (o : Option PrinterRow) → slice_get c.printers k ≡ o → flows_into class o ≡ true → may_print (filter printer_kept c.printers) class (place_if_kept to (rank printer_kept c.printers k) o) ≡ true
   printer_known class k None at h = refl
   printer_known class k (Some p) at h = both (does_flow p.class to)
       (λ e. let new = get_kept printer_kept p e c.printers k at in rw (e, new) h)

@@ -9,8 +9,8 @@ use Rattle.sys_purge.proofs.Kept.{both}
 use Rattle.sys_purge.specs.Adding.{GuestsAddNoBlocks, GuestsAddNothing, with_guest}
 use Rattle.sys_purge.specs.Input.{beside, is_kept, purged}
 use Rattle.sys_purge.specs.Purge.{purge_config, renumbered}
-use Rattle.sys_rounds.specs.Bytes.{devices_of}
-use Rattle.sys_rounds.specs.Run.{Input}
+use Rattle.sys_state.specs.Bytes.{devices_of}
+use Rattle.sys_state.specs.Run.{Input}
 
 dropped_last : {X : Type 0} (test : X → Bool) (x : X) → test x ≡ false → (xs : List X) → filter test (xs ++ x ∷ []) ≡ filter test xs
 dropped_last test x e [] = rw e refl

@@ -3,7 +3,7 @@ use Rattle.std.proofs.Common.{◌≡◌, ℕ, zero, suc, List, [], ◌∷◌, ma
 use Rattle.sys_purge.proofs.Kept.{both}
 use Rattle.sys_purge.specs.Input.{beside}
 use Rattle.sys_purge.specs.Purge.{rank}
-use Rattle.sys_rounds.specs.Places.{changed}
+use Rattle.sys_state.specs.Places.{changed}
 
 -- whether the row at a place passes
 abbrev pub passes_at : {X : Type 0} → (X → Bool) → List X → ℕ → Bool

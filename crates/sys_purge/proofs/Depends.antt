@@ -19,8 +19,8 @@ use Rattle.sys_purge.proofs.SeenTurns.{seen_rows}
 use Rattle.sys_purge.specs.Input.{is_kept}
 use Rattle.sys_purge.specs.Laws.{DevicesDependOnPurges, DriveFlowsInto, KeepsVolumes, LineFlowsInto, VolumesDependOnPurges}
 use Rattle.sys_purge.specs.Purge.{kept_audit, purge_config}
-use Rattle.sys_rounds.specs.Bytes.{Device, audit_device, devices_of, drive_blocks, dump_device, line_bytes, printer_device, terminal_device}
-use Rattle.sys_rounds.specs.Run.{Input}
+use Rattle.sys_state.specs.Bytes.{Device, audit_device, devices_of, drive_blocks, dump_device, line_bytes, printer_device, terminal_device}
+use Rattle.sys_state.specs.Run.{Input}
 
 module _ (c : Config) (to : AccessClass) where
   abbrev flows : Device → Bool

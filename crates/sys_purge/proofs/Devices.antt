@@ -22,8 +22,8 @@ use Rattle.sys_purge.proofs.SeenTurns.{TerminalsFlow}
 use Rattle.sys_purge.proofs.TransferBytes.{PrintFits, PrintersFlow}
 use Rattle.sys_purge.specs.Input.{is_kept}
 use Rattle.sys_purge.specs.Laws.{LineFlowsInto}
-use Rattle.sys_rounds.specs.Bytes.{Device, audit_device, devices_of, dump_device, printer_device, terminal_device}
-use Rattle.sys_rounds.specs.Places.{is_at}
+use Rattle.sys_state.specs.Bytes.{Device, audit_device, devices_of, dump_device, printer_device, terminal_device}
+use Rattle.sys_state.specs.Places.{is_at}
 
 -- the elements of a list in front of another, after another, and those that are changed
 all_before : {A : Type 0} (P : A → Type 0) (xs ys : List A) → All P (xs ++ ys) → All P xs

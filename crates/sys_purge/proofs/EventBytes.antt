@@ -4,7 +4,7 @@ use Rattle.std.specs.Prelude.{find, position}
 use Rattle.std.proofs.lemmas.Bool.{false≢true}
 use Rattle.vv_class.specs.Class.{does_flow}
 use Rattle.vv_class.specs.declared.class.AccessClass.{AccessClass}
-use Rattle.sys_audit.specs.Audit.{audit_of}
+use Rattle.sys_audit.specs.Audit.{audit_record}
 use Rattle.sys_objects.specs.declared.records.Audit.{Audit}
 use Rattle.sys_objects.specs.declared.records.Config.{Config}
 use Rattle.sys_objects.specs.declared.records.GuestRow.{GuestRow}
@@ -24,11 +24,11 @@ use Rattle.sys_purge.specs.Events.{is_kept_event, purge_events}
 use Rattle.sys_purge.specs.Input.{beside, is_kept}
 use Rattle.sys_purge.specs.Judged.{guest_rank, moved_verdict}
 use Rattle.sys_purge.specs.Purge.{kept_audit, purge_config, rank}
-use Rattle.sys_rounds.proofs.Consoles.{bytes_append, bytes_of_console}
-use Rattle.sys_rounds.specs.Consoles.{console_of, on_console}
-use Rattle.sys_rounds.specs.Events.{acted, at_place, audit_puts, commanded, events, happened, is_named, lined, message_of, puts_before, puts_behind, said_on, show_puts, stop_puts, taken_puts, told}
-use Rattle.sys_rounds.specs.Places.{place_of}
-use Rattle.sys_rounds.specs.State.{Put, State, bytes_on, is_running, server_of}
+use Rattle.sys_state.proofs.Consoles.{bytes_append, bytes_of_console}
+use Rattle.sys_state.specs.Consoles.{console_of, on_console}
+use Rattle.sys_state.specs.Events.{at_place, audit_puts, commanded, events, happened, is_named, lined, message_of, puts_after_verdict, puts_before, said_on, show_puts, stop_puts, taken_notice, taken_puts, typed_at_terminal}
+use Rattle.sys_state.specs.Places.{place_of}
+use Rattle.sys_state.specs.State.{Put, SystemState, bytes_on, is_running, server_of}
 use Rattle.sys_script.specs.declared.event.Event.{Event}
 use Rattle.sys_script.specs.declared.event.Typed.{Typed}
 use Rattle.sys_script.specs.declared.event.Typed.TheVariants.{Break, Line}
@@ -73,25 +73,25 @@ module _ (c : Config) (to : AccessClass) where
       (λ b. both (does_flow row.class class) (λ d. rw (b, d) (ap (λ ls. line ∷ ls) rest)) (λ d. rw (b, d) rest))
       (λ b. both (does_flow row.class class) (λ d. absurd (true≢false (sym (flows_on row.class class to d e) ∙ b))) (λ d. rw (b, d) rest))
 
-  shown_seen : (s : State) (class : AccessClass) → does_flow class to ≡ true → shown_lines (purge_config c to) (server_of (seen c to s)) class ≡ shown_lines c (server_of s) class
+  shown_seen : (s : SystemState) (class : AccessClass) → does_flow class to ≡ true → shown_lines (purge_config c to) (server_of (seen c to s)) class ≡ shown_lines c (server_of s) class
   shown_seen s class e =
       let running = ap (λ (r : ServerState). guest_lines class (seen_rows c to c.guests) r.running) (server_seen c to s) ∙ lines_seen class e c.guests (map is_running s.guests) in
       let volumes = ap (map volume_line) (known (λ (v : VolumeRow). does_flow v.class class) (volume_kept c to) c.volumes (λ v h. flows_on v.class class to h e)) in
       let printers = ap (map printer_line) (known (λ (q : PrinterRow). does_flow q.class class) (printer_kept c to) c.printers (λ q h. flows_on q.class class to h e)) in
       λ i. running i ++ volumes i ++ printers i
 
-  show_seen : (s : State) (k : Terminal) → sees c to k ≡ true → show_puts (purge_config c to) (seen c to s) k ≡ show_puts c s k
+  show_seen : (s : SystemState) (k : Terminal) → sees c to k ≡ true → show_puts (purge_config c to) (seen c to s) k ≡ show_puts c s k
   show_seen s k e = ap (map (λ text. record { line = k.line; bytes = text })) (shown_seen s k.class e)
 
   -- HALT's message
-  stop_seen : (s : State) → Fits c s → (class : AccessClass) → does_flow class to ≡ true → (g : ℕ) → Holds c class g → stop_puts (purge_config c to) (seen c to s) (guest_rank c to g) ≡ stop_puts c s g
+  stop_seen : (s : SystemState) → Fits c s → (class : AccessClass) → does_flow class to ≡ true → (g : ℕ) → Holds c class g → stop_puts (purge_config c to) (seen c to s) (guest_rank c to g) ≡ stop_puts c s g
   stop_seen s f class e g h =
       let kept : is_kept to h.0 ≡ true = ap (λ d. does_flow d to) h.2 ∙ e in
       let console = console_kept c to g h.0 h.1 kept c.terminals s.connected f.connected in
       let guest = get_beside (is_kept to) c.guests s.guests g (holds_passes c to class g h ∙ e) in
       λ i. on_console (console i) (message_of (guest i))
 
-  before_seen : (s : State) → Fits c s → (k : Terminal) → sees c to k ≡ true → (v : Verdict) → VerdictFits c k.class v → puts_before (purge_config c to) (seen c to s) k (moved_verdict c to v) ≡ puts_before c s k v
+  before_seen : (s : SystemState) → Fits c s → (k : Terminal) → sees c to k ≡ true → (v : Verdict) → VerdictFits c k.class v → puts_before (purge_config c to) (seen c to s) k (moved_verdict c to v) ≡ puts_before c s k v
   before_seen s f k e (Granted Show) h = show_seen s k e
   before_seen s f k e (Granted (Halt g)) h = stop_seen s f k.class e g h
   before_seen s f k e (Granted (Start g)) h = refl
@@ -113,7 +113,7 @@ module _ (c : Config) (to : AccessClass) where
   terminal_at ks None = None
   terminal_at ks (Some n) = slice_get ks n
 
-  by_terminal : (d : Config) (o : Option ℕ) → taken_puts d o ≡ told (terminal_at d.terminals o)
+  by_terminal : (d : Config) (o : Option ℕ) → taken_puts d o ≡ taken_notice (terminal_at d.terminals o)
   by_terminal d None = refl
   by_terminal d (Some n) = refl
 
@@ -146,8 +146,8 @@ module _ (c : Config) (to : AccessClass) where
       alike k None f d = absurd (false≢true d)
       alike k (Some j) f d = kept_alike c to g row at k (Some j) f d
 
-  pub behind_seen : (s : State) → Fits c s → (n : ℕ) (k : Terminal) → slice_get c.terminals n ≡ Some k → sees c to k ≡ true → (v : Verdict) → VerdictFits c k.class v
-      → puts_behind (purge_config c to) (seen c to s) (seen_place c to n) (moved_verdict c to v) ≡ puts_behind c s n v
+  pub behind_seen : (s : SystemState) → Fits c s → (n : ℕ) (k : Terminal) → slice_get c.terminals n ≡ Some k → sees c to k ≡ true → (v : Verdict) → VerdictFits c k.class v
+      → puts_after_verdict (purge_config c to) (seen c to s) (seen_place c to n) (moved_verdict c to v) ≡ puts_after_verdict c s n v
   unfolding taken
   behind_seen s f n k at e (Granted (Connect g)) h =
       let os : List (Option ℕ) = slice_set s.connected n None in
@@ -157,7 +157,7 @@ module _ (c : Config) (to : AccessClass) where
       ap (position (is_guest (guest_rank c to g))) set ∙ position_is (is_guest (guest_rank c to g)) (seen_connected c to c.terminals os) in
       ap (taken_puts (purge_config c to)) place
       ∙ by_terminal (purge_config c to) (place_of (is_guest (guest_rank c to g)) (seen_connected c to c.terminals os))
-      ∙ ap told (taken_seen g h.0 h.1 (ap (λ d. does_flow d to) h.2 ∙ e) c.terminals os fits)
+      ∙ ap taken_notice (taken_seen g h.0 h.1 (ap (λ d. does_flow d to) h.2 ∙ e) c.terminals os fits)
       ∙ sym (by_terminal c (place_of (is_guest g) os))
       ∙ ap (taken_puts c) (sym (position_is (is_guest g) os))
   behind_seen s f n k at e (Granted (Start g)) h = refl
@@ -169,8 +169,8 @@ module _ (c : Config) (to : AccessClass) where
   behind_seen s f n k at e NoSuchObject h = refl
   behind_seen s f n k at e (Denied rule) h = refl
 
-  pub audit_text_seen : (round : ℕ) (k : Terminal) (text : List ℕ) (v : Verdict) → audit_of round k text (moved_verdict c to v) ≡ audit_of round k text v
-  unfolding audit_of
+  pub audit_text_seen : (round : ℕ) (k : Terminal) (text : List ℕ) (v : Verdict) → audit_record round k text (moved_verdict c to v) ≡ audit_record round k text v
+  unfolding audit_record
   audit_text_seen round k text (Granted command) = refl
   audit_text_seen round k text BadCommand = refl
   audit_text_seen round k text NoSuchObject = refl
@@ -204,22 +204,22 @@ module _ (c : Config) (to : AccessClass) where
         rw off refl
 
     -- a command at a terminal that is seen
-    seen_command : (round : ℕ) (s : State) → Fits c s → (n : ℕ) (k : Terminal) → slice_get c.terminals n ≡ Some k → sees c to k ≡ true → (text : List ℕ) (v : Verdict) → VerdictFits c k.class v
+    seen_command : (round : ℕ) (s : SystemState) → Fits c s → (n : ℕ) (k : Terminal) → slice_get c.terminals n ≡ Some k → sees c to k ≡ true → (text : List ℕ) (v : Verdict) → VerdictFits c k.class v
         → bytes_on line (commanded (purge_config c to) round (seen c to s) (seen_place c to n) k text (moved_verdict c to v)).puts ≡ bytes_on line (commanded c round s n k text v).puts
     seen_command round s f n k at e text v h =
         let before = before_seen s f k e v h in
         let reply = reply_seen v in
         let behind = behind_seen s f n k at e v h in
         let audit = audit_seen c.audit audited round k text v in
-        let replies : List Put = puts_before c s k v ++ (said_on k.line (reply_of v) ∷ puts_behind c s n v) in
-        let replies' : List Put = puts_before (purge_config c to) (seen c to s) k (moved_verdict c to v) ++ (said_on k.line (reply_of (moved_verdict c to v)) ∷ puts_behind (purge_config c to) (seen c to s) (seen_place c to n) (moved_verdict c to v)) in
+        let replies : List Put = puts_before c s k v ++ (said_on k.line (reply_of v) ∷ puts_after_verdict c s n v) in
+        let replies' : List Put = puts_before (purge_config c to) (seen c to s) k (moved_verdict c to v) ++ (said_on k.line (reply_of (moved_verdict c to v)) ∷ puts_after_verdict (purge_config c to) (seen c to s) (seen_place c to n) (moved_verdict c to v)) in
         let same : replies' ≡ replies = λ i. before i ++ (said_on k.line (reply i) ∷ behind i) in
         bytes_append line replies' (audit_puts (kept_audit to c.audit) round k text (moved_verdict c to v))
         ∙ (λ i. bytes_on line (same i) ++ audit i)
         ∙ sym (bytes_append line replies (audit_puts c.audit round k text v))
 
     -- a command at one that isn't: nothing of it is shown on the line
-    unseen_before : (s : State) → Fits c s → (n : ℕ) (k : Terminal) → slice_get c.terminals n ≡ Some k → sees c to k ≡ false → (v : Verdict) → VerdictFits c k.class v → bytes_on line (puts_before c s k v) ≡ []
+    unseen_before : (s : SystemState) → Fits c s → (n : ℕ) (k : Terminal) → slice_get c.terminals n ≡ Some k → sees c to k ≡ false → (v : Verdict) → VerdictFits c k.class v → bytes_on line (puts_before c s k v) ≡ []
     unseen_before s f n k at e (Granted Show) h = off_line k.line line (hidden_line n k at e) (shown_lines c (server_of s) k.class)
     unseen_before s f n k at e (Granted (Halt g)) h =
         let hidden : is_kept to h.0 ≡ false = ap (λ d. does_flow d to) h.2 ∙ e in
@@ -235,21 +235,21 @@ module _ (c : Config) (to : AccessClass) where
     unseen_before s f n k at e (Denied rule) h = refl
 
     unseen_told : (g : ℕ) (row : GuestRow) → slice_get c.guests g ≡ Some row → is_kept to row ≡ false → (ks : List Terminal) (os : List (Option ℕ)) → Pairs (ConnectFits c) ks os → ((n : ℕ) (k : Terminal) → slice_get ks n ≡ Some k → k.line ≡ line → does_flow k.class to ≡ true)
-        → bytes_on line (told (terminal_at ks (place_of (is_guest g) os))) ≡ []
-    unseen_told g row at e [] os f flows = ap (λ o. bytes_on line (told o)) (nowhere (place_of (is_guest g) os))
+        → bytes_on line (taken_notice (terminal_at ks (place_of (is_guest g) os))) ≡ []
+    unseen_told g row at e [] os f flows = ap (λ o. bytes_on line (taken_notice o)) (nowhere (place_of (is_guest g) os))
     unseen_told g row at e (k ∷ ks) [] f flows = refl
     unseen_told g row at e (k ∷ ks) (o ∷ os) f flows =
         let rest = unseen_told g row at e ks os f.1 (λ n x h. flows (suc n) x h) in
         let before = one_behind k ks (place_of (is_guest g) os) in
         both (is_guest g o)
         (λ d. let off = other_line k.line line k.class to (flows 0 k refl) (sym (alike k o f.0 d) ∙ e) in rw (d, off) refl)
-        (λ d. rw d (ap (λ x. bytes_on line (told x)) before ∙ rest))
+        (λ d. rw d (ap (λ x. bytes_on line (taken_notice x)) before ∙ rest))
       where
         alike : (k : Terminal) (o : Option ℕ) → ConnectFits c k o → is_guest g o ≡ true → is_kept to row ≡ terminal_kept c to k
         alike k None f d = absurd (false≢true d)
         alike k (Some j) f d = kept_alike c to g row at k (Some j) f d
 
-    unseen_behind : (s : State) → Fits c s → (n : ℕ) (k : Terminal) → slice_get c.terminals n ≡ Some k → sees c to k ≡ false → (v : Verdict) → VerdictFits c k.class v → bytes_on line (puts_behind c s n v) ≡ []
+    unseen_behind : (s : SystemState) → Fits c s → (n : ℕ) (k : Terminal) → slice_get c.terminals n ≡ Some k → sees c to k ≡ false → (v : Verdict) → VerdictFits c k.class v → bytes_on line (puts_after_verdict c s n v) ≡ []
     unfolding taken
     unseen_behind s f n k at e (Granted (Connect g)) h =
         let os : List (Option ℕ) = slice_set s.connected n None in
@@ -266,42 +266,42 @@ module _ (c : Config) (to : AccessClass) where
     unseen_behind s f n k at e NoSuchObject h = refl
     unseen_behind s f n k at e (Denied rule) h = refl
 
-    unseen_command : (round : ℕ) (s : State) → Fits c s → (n : ℕ) (k : Terminal) → slice_get c.terminals n ≡ Some k → sees c to k ≡ false → (text : List ℕ) (v : Verdict) → VerdictFits c k.class v
+    unseen_command : (round : ℕ) (s : SystemState) → Fits c s → (n : ℕ) (k : Terminal) → slice_get c.terminals n ≡ Some k → sees c to k ≡ false → (text : List ℕ) (v : Verdict) → VerdictFits c k.class v
         → bytes_on line (commanded c round s n k text v).puts ≡ []
     unseen_command round s f n k at e text v h =
         let before = unseen_before s f n k at e v h in
-        let behind = off_said k.line line (hidden_line n k at e) (reply_of v) (puts_behind c s n v) ∙ unseen_behind s f n k at e v h in
+        let behind = off_said k.line line (hidden_line n k at e) (reply_of v) (puts_after_verdict c s n v) ∙ unseen_behind s f n k at e v h in
         let audit = audit_hidden c.audit audited round n k at e text v in
-        let replies : List Put = said_on k.line (reply_of v) ∷ puts_behind c s n v in
+        let replies : List Put = said_on k.line (reply_of v) ∷ puts_after_verdict c s n v in
         bytes_append line (puts_before c s k v ++ replies) (audit_puts c.audit round k text v)
         ∙ ap (λ (bytes : List ℕ). bytes ++ bytes_on line (audit_puts c.audit round k text v)) (bytes_append line (puts_before c s k v) replies)
         ∙ (λ i. (before i ++ behind i) ++ audit i)
 
     -- lines and breaks
-    seen_line : (round : ℕ) (s : State) → Fits c s → (n : ℕ) (k : Terminal) → slice_get c.terminals n ≡ Some k → sees c to k ≡ true → (text : List ℕ) (o : Option ℕ)
+    seen_line : (round : ℕ) (s : SystemState) → Fits c s → (n : ℕ) (k : Terminal) → slice_get c.terminals n ≡ Some k → sees c to k ≡ true → (text : List ℕ) (o : Option ℕ)
         → bytes_on line (lined (purge_config c to) round (seen c to s) (seen_place c to n) k text (option_map (guest_rank c to) o)).puts ≡ bytes_on line (lined c round s n k text o).puts
     seen_line round s f n k at e text None =
         ap (λ v. bytes_on line (commanded (purge_config c to) round (seen c to s) (seen_place c to n) k text v).puts) (verdict_seen c to s n k text at e)
         ∙ seen_command round s f n k at e text (verdict_of c (server_of s) n text) (verdict_fits c s n k text at)
     seen_line round s f n k at e text (Some g) = refl
 
-    seen_act : (round : ℕ) (s : State) → Fits c s → (n : ℕ) (k : Terminal) → slice_get c.terminals n ≡ Some k → sees c to k ≡ true → (what : Typed)
-        → bytes_on line (acted (purge_config c to) round (seen c to s) (seen_place c to n) k what).puts ≡ bytes_on line (acted c round s n k what).puts
+    seen_act : (round : ℕ) (s : SystemState) → Fits c s → (n : ℕ) (k : Terminal) → slice_get c.terminals n ≡ Some k → sees c to k ≡ true → (what : Typed)
+        → bytes_on line (typed_at_terminal (purge_config c to) round (seen c to s) (seen_place c to n) k what).puts ≡ bytes_on line (typed_at_terminal c round s n k what).puts
     seen_act round s f n k at e Break = refl
     seen_act round s f n k at e (Line text) =
         ap (λ o. bytes_on line (lined (purge_config c to) round (seen c to s) (seen_place c to n) k text o).puts) (connection_seen c to s n (passes_row (terminal_kept c to) c.terminals n k at ∙ e))
         ∙ seen_line round s f n k at e text (slice_index_or s.connected n None)
 
-    unseen_line : (round : ℕ) (s : State) → Fits c s → (n : ℕ) (k : Terminal) → slice_get c.terminals n ≡ Some k → sees c to k ≡ false → (text : List ℕ) (o : Option ℕ) → bytes_on line (lined c round s n k text o).puts ≡ []
+    unseen_line : (round : ℕ) (s : SystemState) → Fits c s → (n : ℕ) (k : Terminal) → slice_get c.terminals n ≡ Some k → sees c to k ≡ false → (text : List ℕ) (o : Option ℕ) → bytes_on line (lined c round s n k text o).puts ≡ []
     unseen_line round s f n k at e text None = unseen_command round s f n k at e text (verdict_of c (server_of s) n text) (verdict_fits c s n k text at)
     unseen_line round s f n k at e text (Some g) = refl
 
-    unseen_act : (round : ℕ) (s : State) → Fits c s → (n : ℕ) (k : Terminal) → slice_get c.terminals n ≡ Some k → sees c to k ≡ false → (what : Typed) → bytes_on line (acted c round s n k what).puts ≡ []
+    unseen_act : (round : ℕ) (s : SystemState) → Fits c s → (n : ℕ) (k : Terminal) → slice_get c.terminals n ≡ Some k → sees c to k ≡ false → (what : Typed) → bytes_on line (typed_at_terminal c round s n k what).puts ≡ []
     unseen_act round s f n k at e Break = off_said k.line line (hidden_line n k at e) server_text []
     unseen_act round s f n k at e (Line text) = unseen_line round s f n k at e text (slice_index_or s.connected n None)
 
     -- events
-    seen_at_place : (round : ℕ) (s : State) → Fits c s → (name : List ℕ) (o : Option ℕ) → place_of (is_named name) c.terminals ≡ o → Found (is_named name) c.terminals o → is_kept_at c to (find (is_named name) c.terminals) ≡ true → (what : Typed)
+    seen_at_place : (round : ℕ) (s : SystemState) → Fits c s → (name : List ℕ) (o : Option ℕ) → place_of (is_named name) c.terminals ≡ o → Found (is_named name) c.terminals o → is_kept_at c to (find (is_named name) c.terminals) ≡ true → (what : Typed)
         → bytes_on line (at_place (purge_config c to) round (seen c to s) (place_of (is_named name) (filter (sees c to) c.terminals)) what).puts ≡ bytes_on line (at_place c round s o what).puts
     seen_at_place round s f name None q h e what = absurd (true≢false (sym e ∙ ap (is_kept_at c to) h))
     seen_at_place round s f name (Some n) q h e what =
@@ -312,35 +312,35 @@ module _ (c : Config) (to : AccessClass) where
         let new : slice_get (filter (sees c to) c.terminals) (rank (sees c to) c.terminals n) ≡ Some k = get_kept (sees c to) k kept c.terminals n at in
         rw first (rw (at, new) (seen_act round s f n k at kept what))
 
-    kept_bytes : (round : ℕ) (s : State) → Fits c s → (e : Event) → is_kept_event c to e ≡ true → bytes_on line (happened (purge_config c to) round (seen c to s) e).puts ≡ bytes_on line (happened c round s e).puts
+    kept_bytes : (round : ℕ) (s : SystemState) → Fits c s → (e : Event) → is_kept_event c to e ≡ true → bytes_on line (happened (purge_config c to) round (seen c to s) e).puts ≡ bytes_on line (happened c round s e).puts
     kept_bytes round s f e h = seen_at_place round s f e.terminal (place_of (is_named e.terminal) c.terminals) refl (found (is_named e.terminal) c.terminals) h e.what
 
-    unseen_at_place : (round : ℕ) (s : State) → Fits c s → (name : List ℕ) (o : Option ℕ) → Found (is_named name) c.terminals o → is_kept_at c to (find (is_named name) c.terminals) ≡ false → (what : Typed)
+    unseen_at_place : (round : ℕ) (s : SystemState) → Fits c s → (name : List ℕ) (o : Option ℕ) → Found (is_named name) c.terminals o → is_kept_at c to (find (is_named name) c.terminals) ≡ false → (what : Typed)
         → bytes_on line (at_place c round s o what).puts ≡ []
     unseen_at_place round s f name None h e what = refl
     unseen_at_place round s f name (Some n) h e what =
         let at : slice_get c.terminals n ≡ Some h.0 = h.1 in
         rw at (unseen_act round s f n h.0 at (sym (ap (is_kept_at c to) h.2) ∙ e) what)
 
-    dropped_bytes : (round : ℕ) (s : State) → Fits c s → (e : Event) → is_kept_event c to e ≡ false → bytes_on line (happened c round s e).puts ≡ []
+    dropped_bytes : (round : ℕ) (s : SystemState) → Fits c s → (e : Event) → is_kept_event c to e ≡ false → bytes_on line (happened c round s e).puts ≡ []
     dropped_bytes round s f e h = unseen_at_place round s f e.terminal (place_of (is_named e.terminal) c.terminals) (found (is_named e.terminal) c.terminals) h e.what
 
-    pub events_bytes : (round : ℕ) (s : State) → Fits c s → (es : List Event) → bytes_on line (events (purge_config c to) round (seen c to s) (purge_events c es to)).puts ≡ bytes_on line (events c round s es).puts
+    pub events_bytes : (round : ℕ) (s : SystemState) → Fits c s → (es : List Event) → bytes_on line (events (purge_config c to) round (seen c to s) (purge_events c es to)).puts ≡ bytes_on line (events c round s es).puts
     events_bytes round s f [] = refl
     events_bytes round s f (e ∷ es) =
         let first : List Put = (happened c round s e).puts in
-        let now : State = (happened c round s e).now in
+        let now : SystemState = (happened c round s e).now in
         let more : List Put = (events c round now es).puts in
         let rest = events_bytes round now (fits_happened c round s f e) es in
-        let later : State → List Put = λ t. (events (purge_config c to) round t (purge_events c es to)).puts in
+        let later : SystemState → List Put = λ t. (events (purge_config c to) round t (purge_events c es to)).puts in
         both (is_kept_event c to e)
         (λ k.
         let first' : List Put = (happened (purge_config c to) round (seen c to s) e).puts in
-        let now' : State = (happened (purge_config c to) round (seen c to s) e).now in
+        let now' : SystemState = (happened (purge_config c to) round (seen c to s) e).now in
         let one = kept_bytes round s f e k in
-        let behind : bytes_on line (later now') ≡ bytes_on line more = ap (λ (t : State). bytes_on line (later t)) (kept_now c to round s f e k) ∙ rest in
+        let behind : bytes_on line (later now') ≡ bytes_on line more = ap (λ (t : SystemState). bytes_on line (later t)) (kept_now c to round s f e k) ∙ rest in
         rw k (bytes_append line first' (later now') ∙ (λ i. one i ++ behind i) ∙ sym (bytes_append line first more)))
         (λ k.
         let none = dropped_bytes round s f e k in
-        let behind : bytes_on line (later (seen c to s)) ≡ bytes_on line more = ap (λ (t : State). bytes_on line (later t)) (sym (dropped_now c to round s f e k)) ∙ rest in
+        let behind : bytes_on line (later (seen c to s)) ≡ bytes_on line more = ap (λ (t : SystemState). bytes_on line (later t)) (sym (dropped_now c to round s f e k)) ∙ rest in
         rw k (behind ∙ sym (bytes_append line first more ∙ ap (λ (bytes : List ℕ). bytes ++ bytes_on line more) none)))

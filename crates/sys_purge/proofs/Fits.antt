@@ -17,15 +17,15 @@ use Rattle.sys_purge.proofs.Beside.{set_is_changed}
 use Rattle.sys_purge.proofs.Judged.{position_is}
 use Rattle.sys_purge.proofs.Kept.{both}
 use Rattle.sys_purge.proofs.Places.{StandsAt, first_stands}
-use Rattle.sys_rounds.specs.Events.{after_verdict, at_place, at_row, events, happened, is_named, lined, obeyed}
-use Rattle.sys_rounds.specs.Places.{changed, place_of}
-use Rattle.sys_rounds.specs.State.{State, server_of}
+use Rattle.sys_state.specs.Events.{after_verdict, at_place, at_row, events, happened, is_named, lined, obeyed}
+use Rattle.sys_state.specs.Places.{changed, place_of}
+use Rattle.sys_state.specs.State.{SystemState, server_of}
 use Rattle.sys_script.specs.declared.event.Event.{Event}
 use Rattle.sys_script.specs.declared.event.Typed.{Typed}
 use Rattle.sys_script.specs.declared.event.Typed.TheVariants.{Break, Line}
 use Rattle.sys_server.specs.Apply.{applied, freed, is_guest}
-use Rattle.sys_server.specs.Line.{asked_in}
-use Rattle.sys_server.specs.Verdict.{guest_place, judged, judged_line, mount_at, on_dismount, on_guest, on_mount, on_row, on_rows, unless_empty, verdict_of, volume_place}
+use Rattle.sys_server.specs.CommandLine.{asked_in}
+use Rattle.sys_server.specs.Verdict.{judged, judged_line, mount_at, on_dismount, on_guest, on_mount, on_row, on_rows, unless_empty, verdict_of, visible_guest_place, visible_volume_place}
 use Rattle.sys_server.specs.declared.command.Asked.{Asked}
 use Rattle.sys_server.specs.declared.command.Asked.TheVariants.{Connect, Start, Halt, Mount, Dismount, Show}
 use Rattle.sys_server.specs.declared.command.Command.{Command}
@@ -100,7 +100,7 @@ module _ (c : Config) where
   abbrev pub MountsFit : GuestRow → List (Option Mounted) → Type 0
   MountsFit row ms = Each (MountFits row.class) ms
 
-  pub record Fits (s : State) : Type 0 where
+  pub record Fits (s : SystemState) : Type 0 where
     pub connected : Pairs ConnectFits c.terminals s.connected
     pub mounts : Pairs MountsFit c.guests s.mounts
 
@@ -130,7 +130,7 @@ module _ (c : Config) where
   abbrev SeenVolume : AccessClass → Option ℕ → Type 0
   SeenVolume class o = StandsAt (λ (v : VolumeRow). does_flow v.class class ≡ true) c.volumes o
 
-  seen_volume : (class : AccessClass) (name : List ℕ) → SeenVolume class (volume_place c.volumes class name)
+  seen_volume : (class : AccessClass) (name : List ℕ) → SeenVolume class (visible_volume_place c.volumes class name)
   seen_volume class name =
       let found = first_stands (λ (v : VolumeRow). bytes_eq v.name name && does_flow v.class class) (λ (v : VolumeRow). does_flow v.class class ≡ true) c.volumes
       (λ k d within h. (and_parts (bytes_eq (get_or c.volumes k d).name name) (does_flow (get_or c.volumes k d).class class) h).1) in
@@ -167,7 +167,7 @@ module _ (c : Config) where
   fits_unless class (Some m) NoSuchObject f = tt
   fits_unless class (Some m) (Denied rule) f = tt
 
-  module _ (s : State) where
+  module _ (s : SystemState) where
     fits_dismount : (class : AccessClass) (unit : ℕ) (o : Option ℕ) → VerdictFits class (on_dismount c (server_of s) class o unit)
     fits_dismount class unit None = tt
     fits_dismount class unit (Some g) = fits_unless class (mount_at (server_of s) g unit) (on_row class (slice_get c.guests g) (to_.Dismount g unit))
@@ -176,11 +176,11 @@ module _ (c : Config) where
     fits_asked : (class : AccessClass) (asked : Option Asked) → VerdictFits class (judged_line c (server_of s) class asked)
     unfolding judged
     fits_asked class None = tt
-    fits_asked class (Some (Connect vm)) = fits_guest class to_.Connect (λ g h. h) (guest_place c.guests class vm)
-    fits_asked class (Some (Start vm)) = fits_guest class to_.Start (λ g h. h) (guest_place c.guests class vm)
-    fits_asked class (Some (Halt vm)) = fits_guest class to_.Halt (λ g h. h) (guest_place c.guests class vm)
-    fits_asked class (Some (Mount vm unit volume write)) = fits_mount class unit write (guest_place c.guests class vm) (volume_place c.volumes class volume) (seen_volume class volume)
-    fits_asked class (Some (Dismount vm unit)) = fits_dismount class unit (guest_place c.guests class vm)
+    fits_asked class (Some (Connect vm)) = fits_guest class to_.Connect (λ g h. h) (visible_guest_place c.guests class vm)
+    fits_asked class (Some (Start vm)) = fits_guest class to_.Start (λ g h. h) (visible_guest_place c.guests class vm)
+    fits_asked class (Some (Halt vm)) = fits_guest class to_.Halt (λ g h. h) (visible_guest_place c.guests class vm)
+    fits_asked class (Some (Mount vm unit volume write)) = fits_mount class unit write (visible_guest_place c.guests class vm) (visible_volume_place c.volumes class volume) (seen_volume class volume)
+    fits_asked class (Some (Dismount vm unit)) = fits_dismount class unit (visible_guest_place c.guests class vm)
     fits_asked class (Some Show) = tt
 
     pub verdict_fits : (n : ℕ) (t : Terminal) (text : List ℕ) → slice_get c.terminals n ≡ Some t → VerdictFits t.class (verdict_of c (server_of s) n text)
@@ -190,13 +190,13 @@ module _ (c : Config) where
   freed_fits : (g : ℕ) (k : Terminal) (o : Option ℕ) → ConnectFits k o → ConnectFits k (freed g o)
   freed_fits g k o f = both (is_guest g o) (λ e. rw e tt) (λ e. rw e f)
 
-  mount_kept : (s : State) → Fits s → (g unit : ℕ) (row : GuestRow) (m : Option Mounted) → slice_get c.guests g ≡ Some row → MountFits row.class m
+  mount_kept : (s : SystemState) → Fits s → (g unit : ℕ) (row : GuestRow) (m : Option Mounted) → slice_get c.guests g ≡ Some row → MountFits row.class m
       → Pairs MountsFit c.guests (slice_set s.mounts g (slice_set (slice_index_or s.mounts g []) unit m))
   mount_kept s f g unit row m at fm =
       subst (Pairs MountsFit c.guests) (sym (set_is_changed (λ (ms : List (Option Mounted)). slice_set ms unit m) s.mounts g []))
       (pairs_changed MountsFit (λ (ms : List (Option Mounted)). slice_set ms unit m) c.guests s.mounts g row f.mounts at (λ ms each. each_set (MountFits row.class) ms unit m fm each))
 
-  fits_obeyed : (s : State) → Fits s → (n : ℕ) (k : Terminal) → slice_get c.terminals n ≡ Some k → (command : Command) → CommandFits k.class command → Fits (obeyed c s n command)
+  fits_obeyed : (s : SystemState) → Fits s → (n : ℕ) (k : Terminal) → slice_get c.terminals n ≡ Some k → (command : Command) → CommandFits k.class command → Fits (obeyed c s n command)
   unfolding applied
   fits_obeyed s f n k at (to_.Connect g) h = record {
     connected = pairs_set ConnectFits c.terminals (map (freed g) s.connected) n k (Some g) (pairs_map ConnectFits (freed g) (freed_fits g) c.terminals s.connected f.connected) at h;
@@ -208,28 +208,28 @@ module _ (c : Config) where
   fits_obeyed s f n k at (to_.Dismount g unit) h = record { connected = f.connected; mounts = mount_kept s f g unit h.0 None h.1 refl }
   fits_obeyed s f n k at to_.Show h = f
 
-  fits_verdict : (s : State) → Fits s → (n : ℕ) (k : Terminal) → slice_get c.terminals n ≡ Some k → (v : Verdict) → VerdictFits k.class v → Fits (after_verdict c s n v)
+  fits_verdict : (s : SystemState) → Fits s → (n : ℕ) (k : Terminal) → slice_get c.terminals n ≡ Some k → (v : Verdict) → VerdictFits k.class v → Fits (after_verdict c s n v)
   fits_verdict s f n k at (Granted command) h = fits_obeyed s f n k at command h
   fits_verdict s f n k at BadCommand h = f
   fits_verdict s f n k at NoSuchObject h = f
   fits_verdict s f n k at (Denied rule) h = f
 
-  fits_lined : (round : ℕ) (s : State) → Fits s → (n : ℕ) (k : Terminal) → slice_get c.terminals n ≡ Some k → (text : List ℕ) (o : Option ℕ) → Fits (lined c round s n k text o).now
+  fits_lined : (round : ℕ) (s : SystemState) → Fits s → (n : ℕ) (k : Terminal) → slice_get c.terminals n ≡ Some k → (text : List ℕ) (o : Option ℕ) → Fits (lined c round s n k text o).now
   fits_lined round s f n k at text None = fits_verdict s f n k at (verdict_of c (server_of s) n text) (verdict_fits s n k text at)
   fits_lined round s f n k at text (Some g) = record { connected = f.connected; mounts = f.mounts }
 
-  fits_acted : (round : ℕ) (s : State) → Fits s → (n : ℕ) (o : Option Terminal) → slice_get c.terminals n ≡ o → (what : Typed) → Fits (at_row c round s n o what).now
+  fits_acted : (round : ℕ) (s : SystemState) → Fits s → (n : ℕ) (o : Option Terminal) → slice_get c.terminals n ≡ o → (what : Typed) → Fits (at_row c round s n o what).now
   fits_acted round s f n None at what = f
   fits_acted round s f n (Some k) at Break = record { connected = pairs_set ConnectFits c.terminals s.connected n k None f.connected at tt; mounts = f.mounts }
   fits_acted round s f n (Some k) at (Line text) = fits_lined round s f n k at text (slice_index_or s.connected n None)
 
-  fits_place : (round : ℕ) (s : State) → Fits s → (o : Option ℕ) (what : Typed) → Fits (at_place c round s o what).now
+  fits_place : (round : ℕ) (s : SystemState) → Fits s → (o : Option ℕ) (what : Typed) → Fits (at_place c round s o what).now
   fits_place round s f None what = f
   fits_place round s f (Some n) what = fits_acted round s f n (slice_get c.terminals n) refl what
 
-  pub fits_happened : (round : ℕ) (s : State) → Fits s → (e : Event) → Fits (happened c round s e).now
+  pub fits_happened : (round : ℕ) (s : SystemState) → Fits s → (e : Event) → Fits (happened c round s e).now
   fits_happened round s f e = fits_place round s f (place_of (is_named e.terminal) c.terminals) e.what
 
-  pub fits_events : (round : ℕ) (s : State) → Fits s → (es : List Event) → Fits (events c round s es).now
+  pub fits_events : (round : ℕ) (s : SystemState) → Fits s → (es : List Event) → Fits (events c round s es).now
   fits_events round s f [] = f
   fits_events round s f (e ∷ es) = fits_events round (happened c round s e).now (fits_happened round s f e) es

@@ -17,9 +17,9 @@ use Rattle.sys_purge.proofs.Places.{StandsAt, first_stands, place_kept}
 use Rattle.sys_purge.specs.Input.{beside, is_kept}
 use Rattle.sys_purge.specs.Judged.{KeepsVerdicts, guest_rank, is_kept_terminal, moved_command, moved_verdict, purged_state}
 use Rattle.sys_purge.specs.Purge.{mount_place, purge_config, rank, renumbered}
-use Rattle.sys_rounds.specs.Places.{place_of}
-use Rattle.sys_server.specs.Line.{asked_in}
-use Rattle.sys_server.specs.Verdict.{guest_place, judged, judged_at, judged_line, mount_at, on_dismount, on_guest, on_mount, on_row, on_rows, unless_empty, volume_place}
+use Rattle.sys_state.specs.Places.{place_of}
+use Rattle.sys_server.specs.CommandLine.{asked_in}
+use Rattle.sys_server.specs.Verdict.{judged, judged_at, judged_line, mount_at, on_dismount, on_guest, on_mount, on_row, on_rows, unless_empty, visible_guest_place, visible_volume_place}
 use Rattle.sys_server.specs.declared.command.Asked.{Asked}
 use Rattle.sys_server.specs.declared.command.Asked.TheVariants.{Connect, Start, Halt, Mount, Dismount, Show}
 use Rattle.sys_server.specs.declared.command.Command.{Command}
@@ -83,12 +83,12 @@ module _ (c : Config) (to : AccessClass) where
   seen_volume_flows : (class : AccessClass) → does_flow class to ≡ true → (name : List ℕ) (v : VolumeRow) → is_seen_volume class name v ≡ true → keeps_volume v ≡ true
   seen_volume_flows class e name v h = flows_on v.class class to (and_parts (bytes_eq v.name name) (does_flow v.class class) h).1 e
 
-  same_guest : (class : AccessClass) → does_flow class to ≡ true → (name : List ℕ) → guest_place (purge_config c to).guests class name ≡ option_map (guest_rank c to) (place_of (is_seen class name) c.guests)
+  same_guest : (class : AccessClass) → does_flow class to ≡ true → (name : List ℕ) → visible_guest_place (purge_config c to).guests class name ≡ option_map (guest_rank c to) (place_of (is_seen class name) c.guests)
   same_guest class e name =
       position_is (is_seen class name) (map (renumbered to c) (filter (is_kept to) c.guests))
       ∙ place_kept (is_kept to) (is_seen class name) (is_seen class name) (renumbered to c) c.guests (λ k d within kept. refl) (λ k d within h. seen_flows class e name (get_or c.guests k d) h)
 
-  same_volume : (class : AccessClass) → does_flow class to ≡ true → (name : List ℕ) → volume_place (purge_config c to).volumes class name ≡ option_map (rank keeps_volume c.volumes) (place_of (is_seen_volume class name) c.volumes)
+  same_volume : (class : AccessClass) → does_flow class to ≡ true → (name : List ℕ) → visible_volume_place (purge_config c to).volumes class name ≡ option_map (rank keeps_volume c.volumes) (place_of (is_seen_volume class name) c.volumes)
   same_volume class e name =
       position_is (is_seen_volume class name) (filter keeps_volume c.volumes)
       ∙ ap (place_of (is_seen_volume class name)) (sym (as_it_is (filter keeps_volume c.volumes)))
@@ -166,7 +166,7 @@ module _ (c : Config) (to : AccessClass) where
       (λ i. unless_empty (mount i) (row i)) ∙ moved_empty (mount_at s g unit) (on_row class (slice_get c.guests g) (to_.Dismount g unit))
 
   by_guest : (class : AccessClass) → does_flow class to ≡ true → (name : List ℕ) (command : ℕ → Command) → ((g : ℕ) → moved_command c to (command g) ≡ command (guest_rank c to g))
-      → on_guest (purge_config c to).guests class (guest_place (purge_config c to).guests class name) command ≡ moved_verdict c to (on_guest c.guests class (guest_place c.guests class name) command)
+      → on_guest (purge_config c to).guests class (visible_guest_place (purge_config c to).guests class name) command ≡ moved_verdict c to (on_guest c.guests class (visible_guest_place c.guests class name) command)
   by_guest class e name command k =
       ap (λ o. on_guest (purge_config c to).guests class o command) (same_guest class e name)
       ∙ moved_guest class command k (place_of (is_seen class name) c.guests) (stands class e name)

@@ -22,25 +22,25 @@ use Rattle.sys_purge.specs.Events.{purge_events}
 use Rattle.sys_purge.specs.Input.{beside, is_kept, purged}
 use Rattle.sys_purge.specs.Laws.{DriveFlowsInto, KeepsDevices, KeepsDrives, KeepsLines, KeepsShown, LineFlowsInto}
 use Rattle.sys_purge.specs.Purge.{purge_config, rank}
-use Rattle.sys_rounds.specs.Bytes.{blocks_at, devices_of, dump_on, is_on_drive}
-use Rattle.sys_rounds.specs.Places.{is_at, place_of}
-use Rattle.sys_rounds.specs.Run.{Input, first_state, rounds, run}
-use Rattle.sys_rounds.specs.State.{State, bytes_on}
+use Rattle.sys_state.specs.Bytes.{blocks_at, devices_of, dump_on, is_on_drive}
+use Rattle.sys_state.specs.Places.{is_at, place_of}
+use Rattle.sys_state.specs.Run.{Input, first_state, rounds, run}
+use Rattle.sys_state.specs.State.{SystemState, bytes_on}
 use Rattle.vm_state.specs.State.{Guest}
 
 module _ (x : Input) (to : AccessClass) (is : IsConfig x.config) where
-  abbrev first : State
+  abbrev first : SystemState
   first = first_state x.config x.images x.volumes
 
   -- where a run of the purge leads, and what it shows
   pub run_now : (run (purged x to)).now ≡ seen x.config to (run x).now
   run_now =
-      ap (λ (s : State). (rounds (purge_config x.config to) 1 x.rounds (purge_events x.config x.events to) s).now) (first_seen x.config is.held to x.images x.volumes)
+      ap (λ (s : SystemState). (rounds (purge_config x.config to) 1 x.rounds (purge_events x.config x.events to) s).now) (first_seen x.config is.held to x.images x.volumes)
       ∙ rounds_now x.config to 1 x.rounds x.events first (first_fits x.config is.held x.images x.volumes)
 
   run_bytes : (line : ℕ) → LineFlowsInto x.config line to → bytes_on line (run (purged x to)).puts ≡ bytes_on line (run x).puts
   run_bytes line flow =
-      ap (λ (s : State). bytes_on line (rounds (purge_config x.config to) 1 x.rounds (purge_events x.config x.events to) s).puts) (first_seen x.config is.held to x.images x.volumes)
+      ap (λ (s : SystemState). bytes_on line (rounds (purge_config x.config to) 1 x.rounds (purge_events x.config x.events to) s).puts) (first_seen x.config is.held to x.images x.volumes)
       ∙ rounds_bytes x.config to line (heard x.config line to is flow) 1 x.rounds x.events first (first_fits x.config is.held x.images x.volumes)
 
 -- a dump that is seen
@@ -60,7 +60,7 @@ seen_dump c to line (row ∷ rows) h (g ∷ gs) =
 pub keeps_lines : KeepsLines
 keeps_lines x to line is flow =
     let shown = run_bytes x to is line flow in
-    let dump = ap (λ (s : State). dump_on line (seen_rows x.config to x.config.guests) s.guests) (run_now x to is)
+    let dump = ap (λ (s : SystemState). dump_on line (seen_rows x.config to x.config.guests) s.guests) (run_now x to is)
     ∙ seen_dump x.config to line x.config.guests (dumps_flow x.config line to flow) (run x).now.guests in
     λ i. shown i ++ dump i
 
@@ -96,5 +96,5 @@ module _ (c : Config) (to : AccessClass) (drive : ℕ) (flow : DriveFlowsInto c 
 
 pub keeps_drives : KeepsDrives
 keeps_drives x to drive is flow =
-    ap (λ (s : State). blocks_at s.volumes (place_of (is_on_drive drive) (filter (volume_kept x.config to) x.config.volumes))) (run_now x to is)
+    ap (λ (s : SystemState). blocks_at s.volumes (place_of (is_on_drive drive) (filter (volume_kept x.config to) x.config.volumes))) (run_now x to is)
     ∙ drive_kept x.config to drive flow (run x).now.volumes

@@ -4,7 +4,7 @@ use Rattle.std.proofs.lemmas.Bool.{eqb-true, eq-eqb, ne_eqb}
 use Rattle.std.proofs.lemmas.List.Elements.{All-head, All-tail}
 use Rattle.sys_purge.proofs.Kept.{both, rank_apart}
 use Rattle.sys_purge.specs.Purge.{rank}
-use Rattle.sys_rounds.specs.Places.{place_of}
+use Rattle.sys_state.specs.Places.{place_of}
 
 -- the elements are in a list from a place on
 abbrev pub StandFrom : {X : Type 0} → List X → ℕ → List X → Type 0

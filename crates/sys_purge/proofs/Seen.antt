@@ -16,10 +16,10 @@ use Rattle.sys_purge.proofs.Places.{rank_same}
 use Rattle.sys_purge.specs.Input.{beside, is_kept}
 use Rattle.sys_purge.specs.Judged.{guest_rank, moved_command, moved_verdict, purged_state}
 use Rattle.sys_purge.specs.Purge.{mount_place, purge_config, rank}
-use Rattle.sys_rounds.specs.Events.{after_verdict, obeyed, reset_by}
-use Rattle.sys_rounds.specs.Guests.{stopped_by_command}
-use Rattle.sys_rounds.specs.Places.{changed}
-use Rattle.sys_rounds.specs.State.{State, is_running, server_of}
+use Rattle.sys_state.specs.Events.{after_verdict, obeyed, reset_by}
+use Rattle.sys_state.specs.Guests.{stopped_by_command}
+use Rattle.sys_state.specs.Places.{changed}
+use Rattle.sys_state.specs.State.{SystemState, is_running, server_of}
 use Rattle.sys_server.specs.Apply.{applied, freed}
 use Rattle.sys_server.specs.declared.command.Command.{Command}
 use Rattle.sys_server.specs.declared.command.Command.TheVariants.{Connect, Start, Halt, MountAt, Dismount, Show}
@@ -37,7 +37,7 @@ module _ (c : Config) (to : AccessClass) where
   abbrev pub seen_mounts : List GuestRow → List (List (Option Mounted)) → List (List (Option Mounted))
   seen_mounts rows mss = map (map (mount_place to c.volumes)) (beside (is_kept to) rows mss)
 
-  abbrev pub seen : State → State
+  abbrev pub seen : SystemState → SystemState
   seen s = record {
     connected = seen_connected c.terminals s.connected;
     mounts = seen_mounts c.guests s.mounts;
@@ -46,7 +46,7 @@ module _ (c : Config) (to : AccessClass) where
   }
 
   -- the server's part is the server's part of what is seen
-  pub server_seen : (s : State) → server_of (seen s) ≡ purged_state c to (server_of s)
+  pub server_seen : (s : SystemState) → server_of (seen s) ≡ purged_state c to (server_of s)
   server_seen s =
       let running = sym (beside_map (is_kept to) is_running c.guests s.guests) in
       λ i. record { at = seen_connected c.terminals s.connected; mounts = seen_mounts c.guests s.mounts; running = running i }
@@ -99,13 +99,13 @@ module _ (c : Config) (to : AccessClass) where
       ap (map (option_map (guest_rank c to))) (beside_set (terminal_kept c to) c.terminals os n o p)
       ∙ map_set (option_map (guest_rank c to)) (beside (terminal_kept c to) c.terminals os) (rank (terminal_kept c to) c.terminals n) o
 
-  connect_seen : (s : State) → Fits c s → (n : ℕ) → passes_at (terminal_kept c to) c.terminals n ≡ true → (g : ℕ) (row : GuestRow) → slice_get c.guests g ≡ Some row → is_kept to row ≡ true
+  connect_seen : (s : SystemState) → Fits c s → (n : ℕ) → passes_at (terminal_kept c to) c.terminals n ≡ true → (g : ℕ) (row : GuestRow) → slice_get c.guests g ≡ Some row → is_kept to row ≡ true
       → slice_set (map (freed (guest_rank c to g)) (seen_connected c.terminals s.connected)) (rank (terminal_kept c to) c.terminals n) (Some (guest_rank c to g)) ≡ seen_connected c.terminals (slice_set (map (freed g) s.connected) n (Some g))
   connect_seen s f n p g row at e =
       ap (λ os. slice_set os (rank (terminal_kept c to) c.terminals n) (Some (guest_rank c to g))) (sym (all_freed g row at e c.terminals s.connected f.connected))
       ∙ sym (set_seen (map (freed g) s.connected) n (Some g) p)
 
-  connect_unseen : (s : State) → Fits c s → (n : ℕ) → passes_at (terminal_kept c to) c.terminals n ≡ false → (g : ℕ) (row : GuestRow) → slice_get c.guests g ≡ Some row → is_kept to row ≡ false
+  connect_unseen : (s : SystemState) → Fits c s → (n : ℕ) → passes_at (terminal_kept c to) c.terminals n ≡ false → (g : ℕ) (row : GuestRow) → slice_get c.guests g ≡ Some row → is_kept to row ≡ false
       → seen_connected c.terminals (slice_set (map (freed g) s.connected) n (Some g)) ≡ seen_connected c.terminals s.connected
   connect_unseen s f n p g row at e =
       ap (map (option_map (guest_rank c to))) (beside_unset (terminal_kept c to) c.terminals (map (freed g) s.connected) n (Some g) p ∙ none_freed g row at e c.terminals s.connected f.connected)
@@ -139,7 +139,7 @@ module _ (c : Config) (to : AccessClass) where
   same_change f h e (x ∷ xs) (suc k) = ap (λ ys. x ∷ ys) (same_change f h e xs k)
 
   -- a command obeyed at a terminal that is seen
-  seen_obeyed : (s : State) → Fits c s → (n : ℕ) → passes_at (terminal_kept c to) c.terminals n ≡ true → (class : AccessClass) → does_flow class to ≡ true → (command : Command) → CommandFits c class command
+  seen_obeyed : (s : SystemState) → Fits c s → (n : ℕ) → passes_at (terminal_kept c to) c.terminals n ≡ true → (class : AccessClass) → does_flow class to ≡ true → (command : Command) → CommandFits c class command
       → obeyed (purge_config c to) (seen s) (rank (terminal_kept c to) c.terminals n) (moved_command c to command) ≡ seen (obeyed c s n command)
   unfolding applied
   seen_obeyed s f n p class e (Connect g) h =
@@ -164,7 +164,7 @@ module _ (c : Config) (to : AccessClass) where
   seen_obeyed s f n p class e Show h = refl
 
   -- a command obeyed at one that isn't
-  unseen_obeyed : (s : State) → Fits c s → (n : ℕ) → passes_at (terminal_kept c to) c.terminals n ≡ false → (class : AccessClass) → does_flow class to ≡ false → (command : Command) → CommandFits c class command
+  unseen_obeyed : (s : SystemState) → Fits c s → (n : ℕ) → passes_at (terminal_kept c to) c.terminals n ≡ false → (class : AccessClass) → does_flow class to ≡ false → (command : Command) → CommandFits c class command
       → seen (obeyed c s n command) ≡ seen s
   unfolding applied
   unseen_obeyed s f n p class e (Connect g) h =
@@ -185,14 +185,14 @@ module _ (c : Config) (to : AccessClass) where
   unseen_obeyed s f n p class e Show h = refl
 
   -- any verdict
-  pub seen_verdict : (s : State) → Fits c s → (n : ℕ) → passes_at (terminal_kept c to) c.terminals n ≡ true → (class : AccessClass) → does_flow class to ≡ true → (v : Verdict) → VerdictFits c class v
+  pub seen_verdict : (s : SystemState) → Fits c s → (n : ℕ) → passes_at (terminal_kept c to) c.terminals n ≡ true → (class : AccessClass) → does_flow class to ≡ true → (v : Verdict) → VerdictFits c class v
       → after_verdict (purge_config c to) (seen s) (rank (terminal_kept c to) c.terminals n) (moved_verdict c to v) ≡ seen (after_verdict c s n v)
   seen_verdict s f n p class e (Granted command) h = seen_obeyed s f n p class e command h
   seen_verdict s f n p class e BadCommand h = refl
   seen_verdict s f n p class e NoSuchObject h = refl
   seen_verdict s f n p class e (Denied rule) h = refl
 
-  pub unseen_verdict : (s : State) → Fits c s → (n : ℕ) → passes_at (terminal_kept c to) c.terminals n ≡ false → (class : AccessClass) → does_flow class to ≡ false → (v : Verdict) → VerdictFits c class v
+  pub unseen_verdict : (s : SystemState) → Fits c s → (n : ℕ) → passes_at (terminal_kept c to) c.terminals n ≡ false → (class : AccessClass) → does_flow class to ≡ false → (v : Verdict) → VerdictFits c class v
       → seen (after_verdict c s n v) ≡ seen s
   unseen_verdict s f n p class e (Granted command) h = unseen_obeyed s f n p class e command h
   unseen_verdict s f n p class e BadCommand h = refl

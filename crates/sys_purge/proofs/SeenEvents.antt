@@ -16,10 +16,10 @@ use Rattle.sys_purge.specs.Events.{is_kept_event, purge_events}
 use Rattle.sys_purge.specs.Input.{beside, is_kept}
 use Rattle.sys_purge.specs.Judged.{guest_rank, moved_verdict}
 use Rattle.sys_purge.specs.Purge.{purge_config, rank}
-use Rattle.sys_rounds.specs.Events.{acted, after_verdict, at_place, events, happened, is_named, lined}
-use Rattle.sys_rounds.specs.Guests.{typed}
-use Rattle.sys_rounds.specs.Places.{place_of}
-use Rattle.sys_rounds.specs.State.{State, server_of}
+use Rattle.sys_state.specs.Events.{after_verdict, at_place, events, happened, is_named, lined, typed_at_terminal}
+use Rattle.sys_state.specs.Guests.{typed}
+use Rattle.sys_state.specs.Places.{place_of}
+use Rattle.sys_state.specs.State.{SystemState, server_of}
 use Rattle.sys_script.specs.declared.event.Event.{Event}
 use Rattle.sys_script.specs.declared.event.Typed.{Typed}
 use Rattle.sys_script.specs.declared.event.Typed.TheVariants.{Break, Line}
@@ -66,22 +66,22 @@ module _ (c : Config) (to : AccessClass) where
   seen_place n = rank (terminal_kept c to) c.terminals n
 
   -- the verdict at a terminal that is seen
-  pub verdict_seen : (s : State) (n : ℕ) (k : Terminal) (text : List ℕ) → slice_get c.terminals n ≡ Some k → sees k ≡ true
+  pub verdict_seen : (s : SystemState) (n : ℕ) (k : Terminal) (text : List ℕ) → slice_get c.terminals n ≡ Some k → sees k ≡ true
       → verdict_of (purge_config c to) (server_of (seen c to s)) (seen_place n) text ≡ moved_verdict c to (verdict_of c (server_of s) n text)
   verdict_seen s n k text at e =
       ap (λ t. verdict_of (purge_config c to) t (seen_place n) text) (server_seen c to s) ∙ keeps_verdicts c to (server_of s) n k text at e
 
   -- the connection at a terminal that is seen
-  pub connection_seen : (s : State) (n : ℕ) → passes_at (terminal_kept c to) c.terminals n ≡ true → slice_index_or (seen c to s).connected (seen_place n) None ≡ option_map (guest_rank c to) (slice_index_or s.connected n None)
+  pub connection_seen : (s : SystemState) (n : ℕ) → passes_at (terminal_kept c to) c.terminals n ≡ true → slice_index_or (seen c to s).connected (seen_place n) None ≡ option_map (guest_rank c to) (slice_index_or s.connected n None)
   connection_seen s n p =
       index_map (option_map (guest_rank c to)) (beside (terminal_kept c to) c.terminals s.connected) (seen_place n) None None refl
       ∙ ap (option_map (guest_rank c to)) (index_beside (terminal_kept c to) c.terminals s.connected n None p)
 
-  pub connection_fits : (s : State) → Fits c s → (n : ℕ) (k : Terminal) → slice_get c.terminals n ≡ Some k → ConnectFits c k (slice_index_or s.connected n None)
+  pub connection_fits : (s : SystemState) → Fits c s → (n : ℕ) (k : Terminal) → slice_get c.terminals n ≡ Some k → ConnectFits c k (slice_index_or s.connected n None)
   connection_fits s f n k at = pairs_at (ConnectFits c) c.terminals s.connected n k None f.connected at tt
 
   -- a line and a break at a terminal that is seen
-  seen_lined : (round : ℕ) (s : State) → Fits c s → (n : ℕ) (k : Terminal) → slice_get c.terminals n ≡ Some k → sees k ≡ true → (text : List ℕ) (o : Option ℕ) → ConnectFits c k o
+  seen_lined : (round : ℕ) (s : SystemState) → Fits c s → (n : ℕ) (k : Terminal) → slice_get c.terminals n ≡ Some k → sees k ≡ true → (text : List ℕ) (o : Option ℕ) → ConnectFits c k o
       → (lined (purge_config c to) round (seen c to s) (seen_place n) k text (option_map (guest_rank c to) o)).now ≡ seen c to (lined c round s n k text o).now
   seen_lined round s f n k at e text None h =
       let p = passes_row (terminal_kept c to) c.terminals n k at ∙ e in
@@ -91,8 +91,8 @@ module _ (c : Config) (to : AccessClass) where
       let guests = sym (beside_changed (is_kept to) (typed text) c.guests s.guests g (holds_passes c to k.class g h ∙ e)) in
       λ i. record (seen c to s) { guests = guests i }
 
-  seen_acted : (round : ℕ) (s : State) → Fits c s → (n : ℕ) (k : Terminal) → slice_get c.terminals n ≡ Some k → sees k ≡ true → (what : Typed)
-      → (acted (purge_config c to) round (seen c to s) (seen_place n) k what).now ≡ seen c to (acted c round s n k what).now
+  seen_acted : (round : ℕ) (s : SystemState) → Fits c s → (n : ℕ) (k : Terminal) → slice_get c.terminals n ≡ Some k → sees k ≡ true → (what : Typed)
+      → (typed_at_terminal (purge_config c to) round (seen c to s) (seen_place n) k what).now ≡ seen c to (typed_at_terminal c round s n k what).now
   seen_acted round s f n k at e Break =
       let connected = sym (set_seen c to s.connected n None (passes_row (terminal_kept c to) c.terminals n k at ∙ e)) in
       λ i. record (seen c to s) { connected = connected i }
@@ -102,7 +102,7 @@ module _ (c : Config) (to : AccessClass) where
       ∙ seen_lined round s f n k at e text (slice_index_or s.connected n None) (connection_fits s f n k at)
 
   -- at one that isn't
-  unseen_lined : (round : ℕ) (s : State) → Fits c s → (n : ℕ) (k : Terminal) → slice_get c.terminals n ≡ Some k → sees k ≡ false → (text : List ℕ) (o : Option ℕ) → ConnectFits c k o
+  unseen_lined : (round : ℕ) (s : SystemState) → Fits c s → (n : ℕ) (k : Terminal) → slice_get c.terminals n ≡ Some k → sees k ≡ false → (text : List ℕ) (o : Option ℕ) → ConnectFits c k o
       → seen c to (lined c round s n k text o).now ≡ seen c to s
   unseen_lined round s f n k at e text None h =
       unseen_verdict c to s f n (passes_row (terminal_kept c to) c.terminals n k at ∙ e) k.class e (verdict_of c (server_of s) n text) (verdict_fits c s n k text at)
@@ -110,8 +110,8 @@ module _ (c : Config) (to : AccessClass) where
       let guests = beside_unchanged (is_kept to) (typed text) c.guests s.guests g (holds_passes c to k.class g h ∙ e) in
       λ i. record (seen c to s) { guests = guests i }
 
-  unseen_acted : (round : ℕ) (s : State) → Fits c s → (n : ℕ) (k : Terminal) → slice_get c.terminals n ≡ Some k → sees k ≡ false → (what : Typed)
-      → seen c to (acted c round s n k what).now ≡ seen c to s
+  unseen_acted : (round : ℕ) (s : SystemState) → Fits c s → (n : ℕ) (k : Terminal) → slice_get c.terminals n ≡ Some k → sees k ≡ false → (what : Typed)
+      → seen c to (typed_at_terminal c round s n k what).now ≡ seen c to s
   unseen_acted round s f n k at e Break =
       let connected = ap (map (option_map (guest_rank c to))) (beside_unset (terminal_kept c to) c.terminals s.connected n None (passes_row (terminal_kept c to) c.terminals n k at ∙ e)) in
       λ i. record (seen c to s) { connected = connected i }
@@ -121,7 +121,7 @@ module _ (c : Config) (to : AccessClass) where
   abbrev pub is_kept_at : Option Terminal → Bool
   is_kept_at o = option_map_or (λ t. does_flow t.class to) o false
 
-  seen_place_now : (round : ℕ) (s : State) → Fits c s → (name : List ℕ) (o : Option ℕ) → place_of (is_named name) c.terminals ≡ o → Found (is_named name) c.terminals o → is_kept_at (find (is_named name) c.terminals) ≡ true → (what : Typed)
+  seen_place_now : (round : ℕ) (s : SystemState) → Fits c s → (name : List ℕ) (o : Option ℕ) → place_of (is_named name) c.terminals ≡ o → Found (is_named name) c.terminals o → is_kept_at (find (is_named name) c.terminals) ≡ true → (what : Typed)
       → (at_place (purge_config c to) round (seen c to s) (place_of (is_named name) (filter sees c.terminals)) what).now ≡ seen c to (at_place c round s o what).now
   seen_place_now round s f name None q h e what = absurd (true≢false (sym e ∙ ap is_kept_at h))
   seen_place_now round s f name (Some n) q h e what =
@@ -132,26 +132,26 @@ module _ (c : Config) (to : AccessClass) where
       let new : slice_get (filter sees c.terminals) (rank sees c.terminals n) ≡ Some k = get_kept sees k kept c.terminals n at in
       rw first (rw (at, new) (seen_acted round s f n k at kept what))
 
-  pub kept_now : (round : ℕ) (s : State) → Fits c s → (e : Event) → is_kept_event c to e ≡ true → (happened (purge_config c to) round (seen c to s) e).now ≡ seen c to (happened c round s e).now
+  pub kept_now : (round : ℕ) (s : SystemState) → Fits c s → (e : Event) → is_kept_event c to e ≡ true → (happened (purge_config c to) round (seen c to s) e).now ≡ seen c to (happened c round s e).now
   kept_now round s f e h = seen_place_now round s f e.terminal (place_of (is_named e.terminal) c.terminals) refl (found (is_named e.terminal) c.terminals) h e.what
 
-  unseen_place_now : (round : ℕ) (s : State) → Fits c s → (name : List ℕ) (o : Option ℕ) → Found (is_named name) c.terminals o → is_kept_at (find (is_named name) c.terminals) ≡ false → (what : Typed)
+  unseen_place_now : (round : ℕ) (s : SystemState) → Fits c s → (name : List ℕ) (o : Option ℕ) → Found (is_named name) c.terminals o → is_kept_at (find (is_named name) c.terminals) ≡ false → (what : Typed)
       → seen c to (at_place c round s o what).now ≡ seen c to s
   unseen_place_now round s f name None h e what = refl
   unseen_place_now round s f name (Some n) h e what =
       let at : slice_get c.terminals n ≡ Some h.0 = h.1 in
       rw at (unseen_acted round s f n h.0 at (sym (ap is_kept_at h.2) ∙ e) what)
 
-  pub dropped_now : (round : ℕ) (s : State) → Fits c s → (e : Event) → is_kept_event c to e ≡ false → seen c to (happened c round s e).now ≡ seen c to s
+  pub dropped_now : (round : ℕ) (s : SystemState) → Fits c s → (e : Event) → is_kept_event c to e ≡ false → seen c to (happened c round s e).now ≡ seen c to s
   dropped_now round s f e h = unseen_place_now round s f e.terminal (place_of (is_named e.terminal) c.terminals) (found (is_named e.terminal) c.terminals) h e.what
 
   -- one after another
-  pub events_now : (round : ℕ) (s : State) → Fits c s → (es : List Event) → (events (purge_config c to) round (seen c to s) (purge_events c es to)).now ≡ seen c to (events c round s es).now
+  pub events_now : (round : ℕ) (s : SystemState) → Fits c s → (es : List Event) → (events (purge_config c to) round (seen c to s) (purge_events c es to)).now ≡ seen c to (events c round s es).now
   events_now round s f [] = refl
   events_now round s f (e ∷ es) =
       let first = happened c round s e in
       let rest = events_now round first.now (fits_happened c round s f e) es in
-      let later : State → State = λ t. (events (purge_config c to) round t (purge_events c es to)).now in
+      let later : SystemState → SystemState = λ t. (events (purge_config c to) round t (purge_events c es to)).now in
       both (is_kept_event c to e)
       (λ k. rw k (ap later (kept_now round s f e k) ∙ rest))
       (λ k. rw k (ap later (sym (dropped_now round s f e k)) ∙ rest))

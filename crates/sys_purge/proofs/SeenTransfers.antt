@@ -18,9 +18,9 @@ use Rattle.sys_purge.proofs.Seen.{seen}
 use Rattle.sys_purge.proofs.SeenTurns.{seen_rows}
 use Rattle.sys_purge.specs.Input.{beside, is_kept}
 use Rattle.sys_purge.specs.Purge.{mount_place, purge_config, rank, renumbered}
-use Rattle.sys_rounds.specs.Guests.{with_no_queue}
-use Rattle.sys_rounds.specs.State.{State}
-use Rattle.sys_rounds.specs.Transfers.{AllServed, Move, Packet, Prints, Reads, Refused, Served, Writes, all_served, move_of, moved, packet_at, refused_block, served, served_one, to_print, to_read, to_write, transfers, unless_refused}
+use Rattle.sys_state.specs.Guests.{with_no_queue}
+use Rattle.sys_state.specs.State.{SystemState}
+use Rattle.sys_state.specs.Transfers.{AllServed, Move, Packet, Prints, Reads, Refused, Served, Writes, all_served, move_of, moved, packet_at, refused_block, served, served_one, to_print, to_read, to_write, transfers, unless_refused}
 use Rattle.sys_store.specs.Blocks.{with_block}
 use Rattle.vm_state.specs.Outside.{bytes_at}
 use Rattle.vm_state.specs.State.{Guest}
@@ -239,7 +239,7 @@ module _ (c : Config) (to : AccessClass) where
         volumes = rw e (ap (λ us. (later us).volumes) (sym first) ∙ rest.volumes);
       })
 
-  pub transfers_now : (s : State) → Fits c s → (transfers (purge_config c to) (seen c to s)).now ≡ seen c to (transfers c s).now
+  pub transfers_now : (s : SystemState) → Fits c s → (transfers (purge_config c to) (seen c to s)).now ≡ seen c to (transfers c s).now
   transfers_now s f =
       let all = same_all c.guests s.mounts f.mounts s.guests s.volumes in
       λ i. record (seen c to s) { guests = all.guests i; volumes = all.volumes i }

@@ -14,12 +14,12 @@ use Rattle.sys_purge.proofs.Places.{StandFrom, rank_first, rank_next, rank_same,
 use Rattle.sys_purge.proofs.Seen.{seen, seen_connected}
 use Rattle.sys_purge.specs.Input.{beside, is_kept}
 use Rattle.sys_purge.specs.Purge.{purge_config, rank, renumbered}
-use Rattle.sys_rounds.proofs.Consoles.{bytes_append, bytes_of_console}
-use Rattle.sys_rounds.specs.Consoles.{console_of, on_console}
-use Rattle.sys_rounds.specs.Guests.{alone}
-use Rattle.sys_rounds.specs.Places.{beside_with, is_at}
-use Rattle.sys_rounds.specs.State.{Put, State, bytes_on}
-use Rattle.sys_rounds.specs.Turns.{turn, turn_puts, turns}
+use Rattle.sys_state.proofs.Consoles.{bytes_append, bytes_of_console}
+use Rattle.sys_state.specs.Consoles.{console_of, on_console}
+use Rattle.sys_state.specs.Guests.{alone}
+use Rattle.sys_state.specs.Places.{beside_with, is_at}
+use Rattle.sys_state.specs.State.{Put, SystemState, bytes_on}
+use Rattle.sys_state.specs.Turns.{turn, turn_puts, turns}
 use Rattle.vm_state.specs.State.{Guest}
 
 abbrev pub seen_rows : Config → AccessClass → List GuestRow → List GuestRow
@@ -110,10 +110,10 @@ module _ (c : Config) (to : AccessClass) where
       let none : bytes_on line (on_console (console_of ks os i) shown) ≡ [] = bytes_of_console line (console_of ks os i) shown ∙ ap (λ (b : Bool). if b then shown else []) (not_on_line line i row stand.0 e ks os h flow) in
       rw e (ap (λ (n : ℕ). bytes_on line (later n)) (sym place) ∙ rest ∙ sym (whole ∙ ap (λ (bytes : List ℕ). bytes ++ bytes_on line (turn_puts ks os (suc i) rows gs)) none)))
 
-  pub turns_now : (s : State) → (turns (purge_config c to) (seen c to s)).now ≡ seen c to (turns c s).now
+  pub turns_now : (s : SystemState) → (turns (purge_config c to) (seen c to s)).now ≡ seen c to (turns c s).now
   turns_now s = let guests = made_beside c to turn (λ row g. refl) c.guests s.guests in λ i. record (seen c to s) { guests = guests i }
 
-  pub turns_bytes : (line : ℕ) → TerminalsFlow line to c.terminals → (s : State) → Fits c s → bytes_on line (turns (purge_config c to) (seen c to s)).puts ≡ bytes_on line (turns c s).puts
+  pub turns_bytes : (line : ℕ) → TerminalsFlow line to c.terminals → (s : SystemState) → Fits c s → bytes_on line (turns (purge_config c to) (seen c to s)).puts ≡ bytes_on line (turns c s).puts
   turns_bytes line flow s f =
       ap (λ (n : ℕ). bytes_on line (turn_puts (filter (terminal_kept c to) c.terminals) (seen_connected c to c.terminals s.connected) n (seen_rows c to c.guests) (beside (is_kept to) c.guests s.guests))) (sym (rank_first (is_kept to) c.guests))
       ∙ turns_show line c.terminals s.connected f.connected flow 0 c.guests (stand_all c.guests) s.guests

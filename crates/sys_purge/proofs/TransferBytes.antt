@@ -15,11 +15,11 @@ use Rattle.sys_purge.proofs.Seen.{seen}
 use Rattle.sys_purge.proofs.SeenTransfers.{Volumes, moved_move, no_guests, no_mounts, purged_all, same_move, same_one, same_served, seen_mss, seen_volumes, unseen_served}
 use Rattle.sys_purge.proofs.SeenTurns.{seen_rows}
 use Rattle.sys_purge.specs.Input.{beside, is_kept}
-use Rattle.sys_purge.specs.Purge.{mount_place, place_if, printer_place, purge_config, rank, renumbered}
-use Rattle.sys_rounds.proofs.Consoles.{bytes_append}
-use Rattle.sys_rounds.specs.Guests.{with_no_queue}
-use Rattle.sys_rounds.specs.State.{Put, State, bytes_on}
-use Rattle.sys_rounds.specs.Transfers.{AllServed, Move, Packet, Prints, Reads, Refused, Served, Writes, all_served, move_of, moved, packet_at, printed, printer_of, served, served_one, transfers}
+use Rattle.sys_purge.specs.Purge.{mount_place, place_if_kept, printer_place, purge_config, rank, renumbered}
+use Rattle.sys_state.proofs.Consoles.{bytes_append}
+use Rattle.sys_state.specs.Guests.{with_no_queue}
+use Rattle.sys_state.specs.State.{Put, SystemState, bytes_on}
+use Rattle.sys_state.specs.Transfers.{AllServed, Move, Packet, Prints, Reads, Refused, Served, Writes, all_served, move_of, moved, packet_at, printed, printer_of, served, served_one, transfers}
 use Rattle.sys_store.specs.Job.{job_text}
 use Rattle.vm_state.specs.Outside.{bytes_at}
 use Rattle.vm_state.specs.State.{Guest}
@@ -35,7 +35,7 @@ other_line own line class to flow e = ne_eqb own line (λ same. true≢false (sy
 module _ (c : Config) (to : AccessClass) (line : ℕ) (flow : PrintersFlow line to c.printers) where
   -- what a print job shows
   same_job : (class : AccessClass) (job : List ℕ) (k : ℕ) (o : Option PrinterRow) → slice_get c.printers k ≡ o → flows_into class o ≡ true
-      → bytes_on line (printed (printer_of (purge_config c to) (place_if to (rank (printer_kept c to) c.printers k) o)) job) ≡ bytes_on line (printed o job)
+      → bytes_on line (printed (printer_of (purge_config c to) (place_if_kept to (rank (printer_kept c to) c.printers k) o)) job) ≡ bytes_on line (printed o job)
   same_job class job k None at h = refl
   same_job class job k (Some q) at h = both (does_flow q.class to)
       (λ e. let new = get_kept (printer_kept c to) q e c.printers k at in rw (e, new) refl)
@@ -128,5 +128,5 @@ module _ (c : Config) (to : AccessClass) (line : ℕ) (flow : PrintersFlow line 
       let none = served_nothing row h.0 e ms (with_no_queue g) g.state.queue vs in
       rw e (ap (λ us. bytes_on line (later us)) (sym same) ∙ rest ∙ sym (bytes_append line one.puts more ∙ ap (λ (bytes : List ℕ). bytes ++ bytes_on line more) none)))
 
-  pub transfers_bytes : (s : State) → Fits c s → Each PrintFits c.guests → bytes_on line (transfers (purge_config c to) (seen c to s)).puts ≡ bytes_on line (transfers c s).puts
+  pub transfers_bytes : (s : SystemState) → Fits c s → Each PrintFits c.guests → bytes_on line (transfers (purge_config c to) (seen c to s)).puts ≡ bytes_on line (transfers c s).puts
   transfers_bytes s f h = all_bytes c.guests h s.mounts f.mounts s.guests s.volumes

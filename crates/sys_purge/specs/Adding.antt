@@ -3,8 +3,8 @@ use Rattle.std.specs.Prelude.{ℕ, ◌≡◌, List, [], ◌∷◌, ◌++◌, len
 use Rattle.vv_class.specs.Class.{does_flow}
 use Rattle.sys_objects.specs.Condition.{IsConfig}
 use Rattle.sys_objects.specs.declared.records.GuestRow.{GuestRow}
-use Rattle.sys_rounds.specs.Bytes.{devices_of, drive_blocks, line_bytes}
-use Rattle.sys_rounds.specs.Run.{Input}
+use Rattle.sys_state.specs.Bytes.{devices_of, drive_blocks, line_bytes}
+use Rattle.sys_state.specs.Run.{Input}
 
 -- one guest more, after the others, with its image
 abbrev pub with_guest : Input → GuestRow → List ℕ → Input

@@ -6,7 +6,7 @@ use Rattle.sys_objects.specs.declared.records.GuestRow.{GuestRow}
 use Rattle.sys_objects.specs.declared.records.VolumeRow.{VolumeRow}
 use Rattle.sys_purge.specs.Events.{purge_events}
 use Rattle.sys_purge.specs.Purge.{purge_config}
-use Rattle.sys_rounds.specs.Run.{Input}
+use Rattle.sys_state.specs.Run.{Input}
 
 -- what is beside the rows that are kept
 abbrev pub beside : {X Y : Type 0} → (X → Bool) → List X → List Y → List Y

@@ -6,7 +6,7 @@ use Rattle.vv_class.specs.Class.{does_flow}
 use Rattle.sys_objects.specs.declared.records.Config.{Config}
 use Rattle.sys_objects.specs.declared.records.Terminal.{Terminal}
 use Rattle.sys_purge.specs.Input.{beside, is_kept}
-use Rattle.sys_purge.specs.Purge.{mount_place, moved, purge_config, rank}
+use Rattle.sys_purge.specs.Purge.{mount_place, purge_config, rank, renumbered_mount}
 use Rattle.sys_server.specs.Verdict.{verdict_of}
 use Rattle.sys_server.specs.declared.command.Command.{Command}
 use Rattle.sys_server.specs.declared.command.Command.TheVariants.{Connect, Start, Halt, MountAt, Dismount, Show}
@@ -25,7 +25,7 @@ abbrev pub moved_command : Config → AccessClass → Command → Command
 moved_command c to (Connect g) = Connect (guest_rank c to g)
 moved_command c to (Start g) = Start (guest_rank c to g)
 moved_command c to (Halt g) = Halt (guest_rank c to g)
-moved_command c to (MountAt g unit mount) = MountAt (guest_rank c to g) unit (moved to c.volumes mount)
+moved_command c to (MountAt g unit mount) = MountAt (guest_rank c to g) unit (renumbered_mount to c.volumes mount)
 moved_command c to (Dismount g unit) = Dismount (guest_rank c to g) unit
 moved_command c to Show = Show
 

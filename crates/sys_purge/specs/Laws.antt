@@ -6,8 +6,8 @@ use Rattle.vv_class.specs.declared.class.AccessClass.{AccessClass}
 use Rattle.sys_objects.specs.Condition.{IsConfig}
 use Rattle.sys_objects.specs.declared.records.Config.{Config}
 use Rattle.sys_purge.specs.Input.{purged}
-use Rattle.sys_rounds.specs.Bytes.{devices_of, drive_blocks, line_bytes, shown_from}
-use Rattle.sys_rounds.specs.Run.{Input, opening}
+use Rattle.sys_state.specs.Bytes.{devices_of, drive_blocks, line_bytes, shown_from}
+use Rattle.sys_state.specs.Run.{Input, opening}
 
 -- each device on the line flows into the class
 abbrev pub LineFlowsInto : Config → ℕ → AccessClass → Type 0

@@ -23,20 +23,20 @@ abbrev pub console_place : AccessClass → List Terminal → Option ℕ → Opti
 console_place to terminals place = option_map (rank (λ t. does_flow t.class to) terminals) place
 
 -- of a printer among those that are kept, where it is one of them
-abbrev pub place_if : AccessClass → ℕ → Option PrinterRow → Option ℕ
-place_if to place None = None
-place_if to place (Some p) = if does_flow p.class to then Some place else None
+abbrev pub place_if_kept : AccessClass → ℕ → Option PrinterRow → Option ℕ
+place_if_kept to place None = None
+place_if_kept to place (Some p) = if does_flow p.class to then Some place else None
 
 abbrev pub printer_place : AccessClass → List PrinterRow → Option ℕ → Option ℕ
 printer_place to printers None = None
-printer_place to printers (Some k) = place_if to (rank (λ p. does_flow p.class to) printers k) (slice_get printers k)
+printer_place to printers (Some k) = place_if_kept to (rank (λ p. does_flow p.class to) printers k) (slice_get printers k)
 
 -- of a mounted volume among those that are kept
-abbrev pub moved : AccessClass → List VolumeRow → Mount → Mount
-moved to volumes m = record { volume = rank (λ v. does_flow v.class to) volumes m.volume; write = m.write }
+abbrev pub renumbered_mount : AccessClass → List VolumeRow → Mount → Mount
+renumbered_mount to volumes m = record { volume = rank (λ v. does_flow v.class to) volumes m.volume; write = m.write }
 
 abbrev pub mount_place : AccessClass → List VolumeRow → Option Mount → Option Mount
-mount_place to volumes mount = option_map (moved to volumes) mount
+mount_place to volumes mount = option_map (renumbered_mount to volumes) mount
 
 -- a guest with the places of what is kept
 abbrev pub renumbered : AccessClass → Config → GuestRow → GuestRow

@@ -4,17 +4,17 @@ use Rattle.std.specs.Fmt.{digits}
 use Rattle.vv_class.specs.declared.class.AccessClass.{AccessClass}
 use Rattle.vv_class.specs.Class.{does_flow, is_subset}
 use Rattle.vv_class.specs.Text.{categories_below, class_text}
-use Rattle.sys_audit.specs.Audit.{audit_of}
+use Rattle.sys_audit.specs.Audit.{audit_record}
 use Rattle.sys_purge.specs.Input.{beside, purged}
-use Rattle.sys_rounds.specs.Bytes.{drive_blocks, line_bytes}
-use Rattle.sys_rounds.specs.ShownRuns.{both_there, low_alone}
-use Rattle.sys_rounds.specs.ShownServer.{consoles, mounts, stopping}
-use Rattle.sys_rounds.specs.ShownSetup.{config, level, volume}
-use Rattle.sys_rounds.specs.ShownTransfers.{nine, printing, shared}
+use Rattle.sys_state.specs.Bytes.{drive_blocks, line_bytes}
+use Rattle.sys_state.specs.ShownRuns.{both_there, low_alone}
+use Rattle.sys_state.specs.ShownServer.{consoles, mounts, stopping}
+use Rattle.sys_state.specs.ShownSetup.{config, level, volume}
+use Rattle.sys_state.specs.ShownTransfers.{nine, printing, shared}
 use Rattle.sys_server.specs.Apply.{applied, taken}
-use Rattle.sys_server.specs.Line.{asked_in}
+use Rattle.sys_server.specs.CommandLine.{asked_in}
 use Rattle.sys_server.specs.Verdict.{judged}
-use Rattle.vm_state.specs.Start.{opening}
+use Rattle.vm_state.specs.Start.{memory_with_image}
 use Rattle.vm_state.specs.Step.{step}
 
 -- without the high guest, its terminal and that terminal's events
@@ -44,7 +44,7 @@ pub same_replies :
     × (line_bytes (purged mounts (level 1)) 9 ≡ [])
     × (drive_blocks (purged mounts (level 1)) 1 ≡ drive_blocks mounts 1)
     × (drive_blocks (purged mounts (level 1)) 0 ≡ [])
-unfolding asked_in judged does_flow is_subset applied taken audit_of class_text categories_below digits opening step
+unfolding asked_in judged does_flow is_subset applied taken audit_record class_text categories_below digits memory_with_image step
 same_replies = (refl, refl, refl, refl)
 
 -- what is all of one level stays at that level, and nothing of it is kept at a class into which it doesn't flow

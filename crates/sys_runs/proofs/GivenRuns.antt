@@ -2,14 +2,14 @@
 use Rattle.std.proofs.Common.{ℕ, ◌≡◌, ◌≤◌, ◌+◌, ◌*◌, List, length, map, replicate, refl, ◌∙◌, ap, arith, false}
 use Rattle.std.specs.declared.result.Result.TheVariants.{Err}
 use Rattle.vax_hw.specs.Machine.{Machine}
-use Rattle.vv_io.specs.Blocks.{Kept}
+use Rattle.vv_io.specs.Blocks.{SeenDrive}
 use Rattle.vv_io.specs.Lines.{Seen}
 use Rattle.sys_guests.specs.Layout.{guests_in}
 use Rattle.sys_guests.specs.Loads.{MemoryAlone}
 use Rattle.sys_guests.specs.Present.{HavePresent}
 use Rattle.sys_objects.specs.declared.records.Config.{Config}
-use Rattle.sys_rounds.specs.FirstTouches.{none_touched}
-use Rattle.sys_rounds.specs.Run.{Moment, first_moment}
+use Rattle.sys_state.specs.FirstTouches.{none_touched}
+use Rattle.sys_state.specs.Run.{Moment, first_moment}
 use Rattle.sys_runs.proofs.Faults.{outside, unshown}
 use Rattle.sys_runs.proofs.Made.{all_missed, all_touched, counted, no_drives, retired, shown, steps_few}
 use Rattle.sys_runs.specs.Given.{MakesWith, RunsWith}
@@ -25,14 +25,14 @@ use Rattle.sys_system.specs.declared.power.PowerFault.TheVariants.{Image, Volume
 use Rattle.vm_stepping.specs.Made.{steps_in, tally_of}
 
 -- it wasn't made
-pub not_run_with : (c : Config) (images : List (List ℕ)) (volumes : List (List (List ℕ))) (es : List Event) (n : ℕ) (m m' : Machine) (lines : List Seen) (drives : List Kept) (e : PowerFault) → PowersWith c images volumes m' (Err e) → MemoryAlone m m' → RunsWith c images volumes es n (Err e) (outside m m' lines drives drives)
+pub not_run_with : (c : Config) (images : List (List ℕ)) (volumes : List (List (List ℕ))) (es : List Event) (n : ℕ) (m m' : Machine) (lines : List Seen) (drives : List SeenDrive) (e : PowerFault) → PowersWith c images volumes m' (Err e) → MemoryAlone m m' → RunsWith c images volumes es n (Err e) (outside m m' lines drives drives)
 not_run_with c images volumes es n m m' lines drives (Image g) misfit alone = (misfit, record { shown = unshown m m' lines drives drives alone; drives = refl })
 not_run_with c images volumes es n m m' lines drives (VolumeSize v) (fits, other) alone = (fits, other, record { shown = unshown m m' lines drives drives alone; drives = refl })
 not_run_with c images volumes es n m m' lines drives (DriveIn d) never alone = absurd never
 not_run_with c images volumes es n m m' lines drives NoMemory free alone = record { shown = unshown m m' lines drives drives alone; drives = refl }
 
 -- it was made
-pub run_made_with : (c : Config) (images : List (List ℕ)) (volumes : List (List (List ℕ))) (es : List Event) (n : ℕ) (m0 m1 m2 : Machine) (s0 s1 s2 : System) (lines lines1 lines2 : List Seen) (drives : List Kept) (ran : Ran)
+pub run_made_with : (c : Config) (images : List (List ℕ)) (volumes : List (List (List ℕ))) (es : List Event) (n : ℕ) (m0 m1 m2 : Machine) (s0 s1 s2 : System) (lines lines1 lines2 : List Seen) (drives : List SeenDrive) (ran : Ran)
     → HasPowerWith c images volumes m1 s0 → MemoryAlone m0 m1 → MakesRounds n es m1 s0 lines m2 s1 lines1 → ShowsDumps m2 s1 lines1 s2 lines2
     → HavePresent s0.guests (map none_touched (guests_in m1.memory s0.guests)) → IsSystem s1 → ran.counts ≡ s2.counts → ran.failed ≡ first_failed s2.marks s2.drives → length lines2 ≡ length lines
     → MakesWith (record { config = c; images = images; volumes = volumes; events = es; rounds = n }) ran (record { machine = m0; machine' = m2; lines = lines; lines' = lines2; drives = drives; drives' = drives })

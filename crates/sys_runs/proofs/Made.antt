@@ -7,21 +7,21 @@ use Rattle.sys_guests.specs.Layout.{guests_in}
 use Rattle.sys_guests.specs.Loads.{MemoryAlone}
 use Rattle.sys_guests.specs.Present.{HavePresent, counted_in}
 use Rattle.sys_lines.proofs.Showings.{shows_same, shows_then}
-use Rattle.sys_lines.specs.Shows.{Gets, Shows}
-use Rattle.sys_rounds.proofs.Additions.{added_either}
-use Rattle.sys_rounds.proofs.Steps.{as_sum}
-use Rattle.sys_rounds.specs.Bytes.{dump_on, line_bytes_from, shown_from}
-use Rattle.sys_rounds.specs.Counts.{added, tally_from}
-use Rattle.sys_rounds.specs.FirstTouches.{first_touches_from, none_touched, touches_of_rounds}
-use Rattle.sys_rounds.specs.Run.{Moment, moment_after, rounds_from}
-use Rattle.sys_rounds.specs.State.{State, Went, bytes_on}
+use Rattle.sys_lines.specs.Shows.{Shows, ShowsUnlessMarked}
+use Rattle.sys_state.proofs.Additions.{added_either}
+use Rattle.sys_state.proofs.Steps.{as_sum}
+use Rattle.sys_state.specs.Bytes.{dump_on, line_bytes_from, shown_from}
+use Rattle.sys_state.specs.Counts.{added, tally_from}
+use Rattle.sys_state.specs.FirstTouches.{first_touches_from, none_touched, touches_of_rounds}
+use Rattle.sys_state.specs.Run.{Moment, moment_after, rounds_from}
+use Rattle.sys_state.specs.State.{SystemState, Went, bytes_on}
 use Rattle.sys_runs.proofs.Many.{rounds_fit}
 use Rattle.sys_runs.proofs.Stored.{unmarked}
 use Rattle.sys_runs.specs.Rounds.{MakesRounds}
 use Rattle.sys_script.specs.declared.event.Event.{Event}
 use Rattle.sys_system.specs.Powers.{IsAt}
-use Rattle.sys_system.specs.System.{IsSystem, System, moment_of, state_of}
-use Rattle.vm_fitting.specs.Paid.{Misses}
+use Rattle.sys_system.specs.System.{IsSystem, System, moment_of, system_state}
+use Rattle.vm_miss_laws.specs.Paid.{Misses}
 use Rattle.vm_state.specs.Run.{Tally, no_steps}
 use Rattle.vm_state.specs.Touches.{Touching}
 use Rattle.vm_stepping.specs.Made.{steps_in, tally_of}
@@ -30,7 +30,7 @@ use Rattle.vm_stepping.specs.declared.counts.Counts.{Counts}
 -- no line is marked at first
 shows_fresh : (n : ℕ) (marks : List Bool) (lines lines' : List Seen) (f : ℕ → List ℕ) → Shows (replicate n false) marks lines lines' f → Shows [] marks lines lines' f
 shows_fresh n marks lines lines' f shows = record {
-  line = λ k. subst (λ b. Gets b (slice_index_or marks k false) (slice_index_or lines k unseen) (slice_index_or lines' k unseen) (f k)) (unmarked n k) (shows.line k);
+  line = λ k. subst (λ b. ShowsUnlessMarked b (slice_index_or marks k false) (slice_index_or lines k unseen) (slice_index_or lines' k unseen) (f k)) (unmarked n k) (shows.line k);
   others = λ k none. ((shows.others k none).0 ∙ unmarked n k, (shows.others k none).1);
 }
 
@@ -55,8 +55,8 @@ module _ (m : Moment) (es : List Event) (n : ℕ) (m0 m1 m2 : Machine) (s0 s1 : 
   went : rounds_from (moment_of m1.memory s0) es n ≡ rounds_from m es n
   went = ap (λ (k : Moment). rounds_from k es n) begins
 
-  pub last : state_of m2.memory s1 ≡ (rounds_from m es n).now
-  last = r.goes.state ∙ ap (λ (w : Went State). w.now) went
+  pub last : system_state m2.memory s1 ≡ (rounds_from m es n).now
+  last = r.goes.state ∙ ap (λ (w : Went SystemState). w.now) went
 
   rounds1 : s1.rounds ≡ m.made + n
   rounds1 = ap (λ (s : System). s.rounds) r.system ∙ ap (λ k. k + n) rounds0
@@ -71,7 +71,7 @@ module _ (m : Moment) (es : List Event) (n : ℕ) (m0 m1 m2 : Machine) (s0 s1 : 
   -- each line is shown what the rounds show
   pub rounds_shown : Shows [] s1.marks lines lines1 (λ k. shown_from m es n k)
   rounds_shown =
-      let all : Shows s0.marks s1.marks lines lines1 (λ k. shown_from m es n k) = shows_same s0.marks s1.marks lines lines1 _ _ (λ k. ap (λ (w : Went State). bytes_on k w.puts) went) r.goes.shows in
+      let all : Shows s0.marks s1.marks lines lines1 (λ k. shown_from m es n k) = shows_same s0.marks s1.marks lines lines1 _ _ (λ k. ap (λ (w : Went SystemState). bytes_on k w.puts) went) r.goes.shows in
       shows_fresh 32 s1.marks lines lines1 _ (subst (λ before. Shows before s1.marks lines lines1 (λ k. shown_from m es n k)) marks0 all)
 
   bytes : (k : ℕ) → bytes_on k (rounds_from (moment_of m1.memory s0) es n).puts ++ dump_on k s1.config.guests (guests_in m2.memory s1.guests) ≡ line_bytes_from m es n k
@@ -115,8 +115,8 @@ module _ (m : Moment) (es : List Event) (n : ℕ) (m0 m1 m2 : Machine) (s0 s1 : 
   pub all_touched : HavePresent s0.guests (map none_touched (guests_in m1.memory s0.guests)) → r.pays.missed ≤ first_touches_from m es n
   all_touched present =
       let ts : List Touching = map none_touched (guests_in m1.memory s0.guests) in
-      let all : counted_in ts + r.pays.missed ≤ counted_in (touches_of_rounds s0.config (s0.rounds + 1) n es (state_of m1.memory s0) ts) = r.pays.counts ts present in
-      let same : counted_in (touches_of_rounds s0.config (s0.rounds + 1) n es (state_of m1.memory s0) ts) ≡ first_touches_from m es n = ap (λ (k : Moment). first_touches_from k es n) begins in
+      let all : counted_in ts + r.pays.missed ≤ counted_in (touches_of_rounds s0.config (s0.rounds + 1) n es (system_state m1.memory s0) ts) = r.pays.counts ts present in
+      let same : counted_in (touches_of_rounds s0.config (s0.rounds + 1) n es (system_state m1.memory s0) ts) ≡ first_touches_from m es n = ap (λ (k : Moment). first_touches_from k es n) begins in
       omega (arith, all, same)
 
   -- no drive was marked

@@ -3,12 +3,12 @@ use Rattle.std.proofs.Common.{ℕ, ◌≡◌, ◌≤◌, ◌+◌, ◌*◌, List,
 use Rattle.std.proofs.lemmas.List.Elements.{All-head, All-tail}
 use Rattle.std.specs.List.{AllZip, sum_by}
 use Rattle.sys_guests.specs.Layout.{ArePlaced, IsPlaced, guests_in}
-use Rattle.sys_moment_laws.specs.Stands.{StandsRight}
+use Rattle.sys_moment_laws.specs.ConsistentState.{IsConsistentState}
 use Rattle.sys_objects.specs.declared.records.GuestRow.{GuestRow}
 use Rattle.sys_objects.specs.declared.records.VolumeRow.{VolumeRow}
 use Rattle.sys_snap.specs.Snap.{IsGuestOf, IsMoment, IsSound, IsVolumeOf}
-use Rattle.sys_system.specs.System.{IsSystem, StandsIn, System, moment_of, state_of}
-use Rattle.vm_guest.specs.Kept.{Kept, StandsIn as GuestStandsIn, guest_in}
+use Rattle.sys_system.specs.System.{IsInMachine, IsSystem, System, moment_of, system_state}
+use Rattle.vm_guest.specs.Kept.{Kept, IsShadowedIn as GuestStandsIn, guest_in}
 use Rattle.vm_state.proofs.Parts.{part_length}
 use Rattle.vm_state.specs.Allowed.{AreAllowed}
 use Rattle.vm_state.specs.State.{Guest, state_of as registers_of}
@@ -51,7 +51,7 @@ volumes_are (row ∷ rows) (blocks ∷ volumes) sizes long = (
   volumes_are rows volumes (ap (drop 1) sizes) (All-tail HasBlocks blocks volumes long),
 )
 
-pub is_moment : (memory : List ℕ) (s : System) → IsSystem s → StandsIn memory s → StandsRight s.config (state_of memory s) → s.rounds ≤ 1000000 → All (λ k. IsSound (registers_of k.state)) s.guests → All HasBlocks s.volumes → IsMoment (moment_of memory s)
+pub is_moment : (memory : List ℕ) (s : System) → IsSystem s → IsInMachine memory s → IsConsistentState s.config (system_state memory s) → s.rounds ≤ 1000000 → All (λ k. IsSound (registers_of k.state)) s.guests → All HasBlocks s.volumes → IsMoment (moment_of memory s)
 is_moment memory s holds stands right few sound long = record {
   few_rounds = few;
   seated = right.seated;

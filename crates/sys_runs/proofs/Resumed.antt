@@ -2,19 +2,19 @@
 use Rattle.std.proofs.Common.{ℕ, List, refl}
 use Rattle.std.specs.declared.result.Result.TheVariants.{Err}
 use Rattle.vax_hw.specs.Machine.{Machine}
-use Rattle.vv_io.specs.Blocks.{Kept}
+use Rattle.vv_io.specs.Blocks.{SeenDrive}
 use Rattle.vv_io.specs.Lines.{Seen}
 use Rattle.sys_guests.specs.Loads.{MemoryAlone}
-use Rattle.sys_rounds.specs.Run.{Moment}
+use Rattle.sys_state.specs.Run.{Moment}
 use Rattle.sys_runs.proofs.Faults.{outside, unshown}
-use Rattle.sys_runs.specs.Saved.{GoesOn}
+use Rattle.sys_runs.specs.Saved.{ContinuesRun}
 use Rattle.sys_script.specs.declared.event.Event.{Event}
 use Rattle.sys_system.specs.Snaps.{Resumes}
 use Rattle.sys_system.specs.declared.power.PowerFault.{PowerFault}
 use Rattle.sys_system.specs.declared.power.PowerFault.TheVariants.{Image, VolumeSize, DriveIn, NoMemory}
 
 -- it doesn't go on
-pub not_gone_on : (m : Moment) (es : List Event) (n : ℕ) (m0 m1 : Machine) (lines : List Seen) (drives : List Kept) (e : PowerFault) → Resumes m drives m1 (Err e) → MemoryAlone m0 m1 → GoesOn m es n (Err e) (outside m0 m1 lines drives drives)
+pub not_gone_on : (m : Moment) (es : List Event) (n : ℕ) (m0 m1 : Machine) (lines : List Seen) (drives : List SeenDrive) (e : PowerFault) → Resumes m drives m1 (Err e) → MemoryAlone m0 m1 → ContinuesRun m es n (Err e) (outside m0 m1 lines drives drives)
 not_gone_on m es n m0 m1 lines drives (Image g) never alone = absurd never
 not_gone_on m es n m0 m1 lines drives (VolumeSize v) misfit alone = (misfit, record { shown = unshown m0 m1 lines drives drives alone; drives = refl })
 not_gone_on m es n m0 m1 lines drives (DriveIn d) never alone = absurd never

@@ -3,18 +3,18 @@ use Rattle.std.proofs.Common.{ℕ, ◌≡◌, ◌≤◌, ◌+◌, List, length, 
 use Rattle.std.proofs.lemmas.Bool.{true≢false}
 use Rattle.std.specs.Result.{is_err}
 use Rattle.vax_hw.specs.Machine.{Machine}
-use Rattle.vv_io.specs.Blocks.{Kept}
+use Rattle.vv_io.specs.Blocks.{SeenDrive}
 use Rattle.vv_io.specs.Lines.{Seen}
 use Rattle.sys_guests.specs.Layout.{guests_in}
 use Rattle.sys_guests.specs.Loads.{MemoryAlone}
 use Rattle.sys_guests.specs.Present.{HavePresent}
 use Rattle.sys_lines.specs.ShownSince.{ShownSince}
 use Rattle.sys_moment_laws.proofs.Stands.{opens_right, rounds_keep_right}
-use Rattle.sys_moment_laws.specs.Stands.{StandsRight}
+use Rattle.sys_moment_laws.specs.ConsistentState.{IsConsistentState}
 use Rattle.sys_objects.specs.Condition.{IsConfig}
 use Rattle.sys_objects.specs.declared.records.Config.{Config}
-use Rattle.sys_rounds.specs.FirstTouches.{none_touched}
-use Rattle.sys_rounds.specs.Run.{Input, Moment, first_moment, moment_after}
+use Rattle.sys_state.specs.FirstTouches.{none_touched}
+use Rattle.sys_state.specs.Run.{Input, Moment, first_moment, moment_after}
 use Rattle.sys_runs.proofs.Made.{after, all_missed, all_touched, no_drives, retired, rounds_shown}
 use Rattle.sys_runs.proofs.Moments.{HasBlocks, is_moment}
 use Rattle.sys_runs.specs.Rounds.{MakesRounds}
@@ -33,7 +33,7 @@ pub where_whole : {T E : Type 0} (P : Type 0) (r : Result T E) → IfOk r (λ _.
 where_whole P (Ok x) holds whole = holds
 where_whole P (Err e) holds whole = absurd (true≢false whole)
 
-module _ (c : Config) (images : List (List ℕ)) (es : List Event) (n : ℕ) (m0 m1 m2 : Machine) (s0 s1 : System) (lines lines1 : List Seen) (drives drives1 : List Kept) (accepted : IsConfig c) (p : HasPower c images drives drives1 m1 s0) (alone : MemoryAlone m0 m1) (r : MakesRounds n es m1 s0 lines m2 s1 lines1) where
+module _ (c : Config) (images : List (List ℕ)) (es : List Event) (n : ℕ) (m0 m1 m2 : Machine) (s0 s1 : System) (lines lines1 : List Seen) (drives drives1 : List SeenDrive) (accepted : IsConfig c) (p : HasPower c images drives drives1 m1 s0) (alone : MemoryAlone m0 m1) (r : MakesRounds n es m1 s0 lines m2 s1 lines1) where
   abbrev m : Moment
   m = first_moment c images p.volumes
 
@@ -46,7 +46,7 @@ module _ (c : Config) (images : List (List ℕ)) (es : List Event) (n : ℕ) (m0
 
   last_is : IsSystem s1 → n ≤ 1000000 → All (λ k. IsSound (registers_of k.state)) s1.guests → All HasBlocks s1.volumes → IsMoment (moment_after m es n)
   last_is holds few sound long =
-      let right : StandsRight s1.config (moment_of m2.memory s1).state = subst (λ (k : Moment). StandsRight k.config k.state) (sym at) (rounds_keep_right m es n (opens_right x accepted)) in
+      let right : IsConsistentState s1.config (moment_of m2.memory s1).state = subst (λ (k : Moment). IsConsistentState k.config k.state) (sym at) (rounds_keep_right m es n (opens_right x accepted)) in
       let made : s1.rounds ≡ 0 + n = ap (λ (k : Moment). k.made) at in
       subst IsMoment at (is_moment m2.memory s1 holds r.goes.stands right (omega (arith, made, few)) sound long)
 

@@ -5,10 +5,10 @@ use Rattle.std.proofs.lemmas.List.Elements.{All-cons}
 use Rattle.std.proofs.lemmas.List.Folds.{length-prefix_len}
 use Rattle.std.proofs.lemmas.List.Sums.{take_while-cons}
 use Rattle.std.specs.List.{prefix_len, take_while}
-use Rattle.sys_rounds.proofs.Places.{both}
-use Rattle.sys_rounds.specs.Run.{events_of}
 use Rattle.sys_script.specs.Events.{AreEvents, NeverFalls}
 use Rattle.sys_script.specs.declared.event.Event.{Event}
+use Rattle.sys_state.proofs.Places.{both}
+use Rattle.sys_state.specs.Run.{events_of}
 use Rattle.sys_system.specs.Calls.{AreOf}
 
 abbrev pub is_past : ℕ → Event → Bool

@@ -2,15 +2,15 @@
 use Rattle.std.proofs.Common.{ℕ, zero, suc, ◌≡◌, ◌≢◌, ◌<◌, List, [], ◌∷◌, length, replicate, slice_index_or, refl, sym, ◌∙◌, ap, subst, arith, Bool, true, false, All, Some, option_map}
 use Rattle.std.proofs.lemmas.Bool.{eq-eqb, ne_eqb}
 use Rattle.std.proofs.lemmas.List.{ext_get_or, get_or_default}
-use Rattle.vv_io.specs.Blocks.{Kept, unkept}
+use Rattle.vv_io.specs.Blocks.{SeenDrive, unkept}
 use Rattle.sys_drives.proofs.Places.{stands}
 use Rattle.sys_drives.specs.Rows.{drive_at}
-use Rattle.sys_drives.specs.Stores.{Stores, StoresAll, is_marked}
+use Rattle.sys_drives.specs.Stores.{StoresToDrive, StoresToDrives, is_marked}
 use Rattle.sys_objects.specs.Condition.{IsConfig}
 use Rattle.sys_objects.specs.declared.records.VolumeRow.{VolumeRow}
-use Rattle.sys_rounds.specs.Bytes.{blocks_at, drive_blocks_from, is_on_drive}
-use Rattle.sys_rounds.specs.Places.{place_of}
-use Rattle.sys_rounds.specs.Run.{Moment, rounds_from}
+use Rattle.sys_state.specs.Bytes.{blocks_at, drive_blocks_from, is_on_drive}
+use Rattle.sys_state.specs.Places.{place_of}
+use Rattle.sys_state.specs.Run.{Moment, rounds_from}
 use Rattle.sys_runs.specs.Laws.{TouchesNoDrive}
 use Rattle.sys_runs.specs.Ran.{StoresFrom}
 use Rattle.sys_script.specs.declared.event.Event.{Event}
@@ -30,7 +30,7 @@ first_place p (x ∷ xs) (suc k) d h here none =
     let later : p x ≡ false = none 0 (omega arith) in
     rw later (ap (option_map suc) (first_place p xs k d (omega (arith, h)) here (λ j low. none (suc j) (omega (arith, low)))))
 
-module _ (m : Moment) (es : List Event) (n : ℕ) (volumes : List (List (List ℕ))) (marks : List Bool) (drives drives' : List Kept) (accepted : IsConfig m.config) (same : volumes ≡ (rounds_from m es n).now.volumes) (all : StoresAll m.config.volumes volumes (replicate 16 false) marks drives drives') where
+module _ (m : Moment) (es : List Event) (n : ℕ) (volumes : List (List (List ℕ))) (marks : List Bool) (drives drives' : List SeenDrive) (accepted : IsConfig m.config) (same : volumes ≡ (rounds_from m es n).now.volumes) (all : StoresToDrives m.config.volumes volumes (replicate 16 false) marks drives drives') where
   abbrev rows : List VolumeRow
   rows = m.config.volumes
 
@@ -45,7 +45,7 @@ module _ (m : Moment) (es : List Event) (n : ℕ) (volumes : List (List (List �
   stored size = record {
     stores = λ k d h.
         let row = slice_index_or rows k d in
-        subst (λ blocks. Stores (is_marked marks row.drive) (drive_at drives row.drive) (drive_at drives' row.drive) blocks) (sym (here k d h)) (all.stores k row (stands rows k row h (get_or_default rows k d row h)) (unmarked 16 row.drive));
+        subst (λ blocks. StoresToDrive (is_marked marks row.drive) (drive_at drives row.drive) (drive_at drives' row.drive) blocks) (sym (here k d h)) (all.stores k row (stands rows k row h (get_or_default rows k d row h)) (unmarked 16 row.drive));
     others = λ d none. ((all.others d none).0 ∙ unmarked 16 d, (all.others d none).1);
     size = size;
   }

@@ -3,21 +3,21 @@ use Rattle.std.proofs.Common.{ℕ, ◌≡◌, List, length, map, replicate, sym,
 use Rattle.std.proofs.lemmas.List.{length-map}
 use Rattle.std.specs.Global.{Vec}
 use Rattle.vax_hw.specs.Machine.{Machine}
-use Rattle.vv_io.specs.Blocks.{Kept}
+use Rattle.vv_io.specs.Blocks.{SeenDrive}
 use Rattle.vv_io.specs.Lines.{Seen}
 use Rattle.sys_drives.specs.Rows.{FitsDrive}
-use Rattle.sys_drives.specs.Stores.{StoresAll}
+use Rattle.sys_drives.specs.Stores.{StoresToDrives}
 use Rattle.sys_guests.specs.Layout.{guests_in}
 use Rattle.sys_guests.specs.Loads.{MemoryAlone}
 use Rattle.sys_guests.specs.Present.{HavePresent}
 use Rattle.sys_objects.specs.Condition.{IsConfig}
 use Rattle.sys_objects.specs.declared.records.Config.{Config}
-use Rattle.sys_rounds.specs.FirstTouches.{none_touched}
-use Rattle.sys_rounds.specs.Run.{Moment, first_moment}
-use Rattle.sys_rounds.specs.State.{State}
+use Rattle.sys_state.specs.FirstTouches.{none_touched}
+use Rattle.sys_state.specs.Run.{Moment, first_moment}
+use Rattle.sys_state.specs.State.{SystemState}
 use Rattle.sys_runs.proofs.Made.{all_missed, all_touched, config1, counted, last, no_drives, retired, shown, steps_few}
 use Rattle.sys_runs.proofs.Stored.{stored}
-use Rattle.sys_runs.specs.Ran.{Makes, MakesFrom}
+use Rattle.sys_runs.specs.Ran.{MakesFrom, MakesRun}
 use Rattle.sys_runs.specs.Rounds.{MakesRounds}
 use Rattle.sys_runs.specs.declared.running.Ran.{Ran}
 use Rattle.sys_script.specs.declared.event.Event.{Event}
@@ -29,7 +29,7 @@ use Rattle.sys_system.specs.System.{IsSystem, System}
 use Rattle.vm_stepping.specs.Made.{tally_of}
 
 -- the drives still have as many blocks as the volumes
-pub fits_still : (m : Moment) (es : List Event) (n : ℕ) (m1 m2 : Machine) (s0 s1 : System) (lines lines1 : List Seen) (drives : List Kept) → All (FitsDrive drives) m.config.volumes → IsAt m m1 s0 → MakesRounds n es m1 s0 lines m2 s1 lines1 → All (FitsDrive drives) s1.config.volumes
+pub fits_still : (m : Moment) (es : List Event) (n : ℕ) (m1 m2 : Machine) (s0 s1 : System) (lines lines1 : List Seen) (drives : List SeenDrive) → All (FitsDrive drives) m.config.volumes → IsAt m m1 s0 → MakesRounds n es m1 s0 lines m2 s1 lines1 → All (FitsDrive drives) s1.config.volumes
 fits_still m es n m1 m2 s0 s1 lines lines1 drives fit p r =
     let config : s1.config ≡ m.config = ap (λ (s : System). s.config) r.system ∙ ap (λ (s : System). s.config) p.system in
     subst (λ (y : Config). All (FitsDrive drives) y.volumes) (sym config) fit
@@ -40,13 +40,13 @@ as_long f a b e =
     let long : length a.items ≡ length b.items = omega (arith, a.ok.0, b.ok.0, e) in
     length-map a.items f ∙ long ∙ sym (length-map b.items f)
 
-module _ (m : Moment) (es : List Event) (n : ℕ) (m0 m1 m2 : Machine) (s0 s1 s2 : System) (lines lines1 lines2 : List Seen) (drives drives2 : List Kept) (accepted : IsConfig m.config) (fit : All (FitsDrive drives) m.config.volumes) (p : IsAt m m1 s0) (alone : MemoryAlone m0 m1) (r : MakesRounds n es m1 s0 lines m2 s1 lines1) (d : PowersDown m2 s1 lines1 drives s2 lines2 drives2)
+module _ (m : Moment) (es : List Event) (n : ℕ) (m0 m1 m2 : Machine) (s0 s1 s2 : System) (lines lines1 lines2 : List Seen) (drives drives2 : List SeenDrive) (accepted : IsConfig m.config) (fit : All (FitsDrive drives) m.config.volumes) (p : IsAt m m1 s0) (alone : MemoryAlone m0 m1) (r : MakesRounds n es m1 s0 lines m2 s1 lines1) (d : PowersDown m2 s1 lines1 drives s2 lines2 drives2)
     (present : HavePresent s0.guests (map none_touched (guests_in m1.memory s0.guests))) where
   -- no drive was marked before
-  drives_stored : StoresAll m.config.volumes s1.volumes (replicate 16 false) s2.drives drives drives2
+  drives_stored : StoresToDrives m.config.volumes s1.volumes (replicate 16 false) s2.drives drives drives2
   drives_stored =
-      subst (λ (marks : List Bool). StoresAll m.config.volumes s1.volumes marks s2.drives drives drives2) (no_drives m es n m0 m1 m2 s0 s1 lines lines1 p alone r)
-      (subst (λ (y : Config). StoresAll y.volumes s1.volumes s1.drives s2.drives drives drives2) (config1 m es n m0 m1 m2 s0 s1 lines lines1 p alone r) d.stores)
+      subst (λ (marks : List Bool). StoresToDrives m.config.volumes s1.volumes marks s2.drives drives drives2) (no_drives m es n m0 m1 m2 s0 s1 lines lines1 p alone r)
+      (subst (λ (y : Config). StoresToDrives y.volumes s1.volumes s1.drives s2.drives drives drives2) (config1 m es n m0 m1 m2 s0 s1 lines lines1 p alone r) d.stores)
 
   pub rounds_made : (ran : Ran) → IsSystem s1 → ran.counts ≡ s2.counts → ran.failed ≡ first_failed s2.marks s2.drives → length lines2 ≡ length lines → length drives2 ≡ length drives
       → MakesFrom m es n ran (record { machine = m0; machine' = m2; lines = lines; lines' = lines2; drives = drives; drives' = drives2 })
@@ -56,7 +56,7 @@ module _ (m : Moment) (es : List Event) (n : ℕ) (m0 m1 m2 : Machine) (s0 s1 s2
     drive_marks = s2.drives;
     lines = shown m es n m0 m1 m2 s0 s1 lines lines1 p alone r s2.marks lines2 d.shows;
     size = lines_size;
-    drives = stored m es n s1.volumes s2.drives drives drives2 accepted (ap (λ (s : State). s.volumes) (last m es n m0 m1 m2 s0 s1 lines lines1 p alone r)) drives_stored drives_size;
+    drives = stored m es n s1.volumes s2.drives drives drives2 accepted (ap (λ (s : SystemState). s.volumes) (last m es n m0 m1 m2 s0 s1 lines lines1 p alone r)) drives_stored drives_size;
     counts = ap tally_of counts ∙ ap (λ (s : System). tally_of s.counts) d.system ∙ counted m es n m0 m1 m2 s0 s1 lines lines1 p alone r;
     few = steps_few m es n m0 m1 m2 s0 s1 lines lines1 p alone r ran.counts (counts ∙ ap (λ (s : System). s.counts) d.system) holds;
     retires = retired m es n m0 m1 m2 s0 s1 lines lines1 p alone r;
@@ -67,15 +67,15 @@ module _ (m : Moment) (es : List Event) (n : ℕ) (m0 m1 m2 : Machine) (s0 s1 s2
   }
 
 -- the drives that were read are as before
-pub fits_as_read : (c : Config) (images : List (List ℕ)) (m1 : Machine) (s0 : System) (drives drives1 : List Kept) → HasPower c images drives drives1 m1 s0 → All (FitsDrive drives1) c.volumes
-fits_as_read c images m1 s0 drives drives1 p = subst (λ (ds : List Kept). All (FitsDrive ds) c.volumes) (sym p.loaded.1) p.loaded.0.fit
+pub fits_as_read : (c : Config) (images : List (List ℕ)) (m1 : Machine) (s0 : System) (drives drives1 : List SeenDrive) → HasPower c images drives drives1 m1 s0 → All (FitsDrive drives1) c.volumes
+fits_as_read c images m1 s0 drives drives1 p = subst (λ (ds : List SeenDrive). All (FitsDrive ds) c.volumes) (sym p.loaded.1) p.loaded.0.fit
 
 -- power came up before
-pub run_made : (c : Config) (images : List (List ℕ)) (es : List Event) (n : ℕ) (m0 m1 m2 : Machine) (s0 s1 s2 : System) (lines lines1 lines2 : List Seen) (drives drives1 drives2 : List Kept) → IsConfig c → (p : HasPower c images drives drives1 m1 s0) → MemoryAlone m0 m1 → MakesRounds n es m1 s0 lines m2 s1 lines1 → PowersDown m2 s1 lines1 drives1 s2 lines2 drives2
+pub run_made : (c : Config) (images : List (List ℕ)) (es : List Event) (n : ℕ) (m0 m1 m2 : Machine) (s0 s1 s2 : System) (lines lines1 lines2 : List Seen) (drives drives1 drives2 : List SeenDrive) → IsConfig c → (p : HasPower c images drives drives1 m1 s0) → MemoryAlone m0 m1 → MakesRounds n es m1 s0 lines m2 s1 lines1 → PowersDown m2 s1 lines1 drives1 s2 lines2 drives2
     → HavePresent s0.guests (map none_touched (guests_in m1.memory s0.guests)) → (ran : Ran) → IsSystem s1 → ran.counts ≡ s2.counts → ran.failed ≡ first_failed s2.marks s2.drives → length lines2 ≡ length lines → length drives2 ≡ length drives
-    → Makes (record { config = c; images = images; volumes = p.volumes; events = es; rounds = n }) ran (record { machine = m0; machine' = m2; lines = lines; lines' = lines2; drives = drives; drives' = drives2 })
+    → MakesRun (record { config = c; images = images; volumes = p.volumes; events = es; rounds = n }) ran (record { machine = m0; machine' = m2; lines = lines; lines' = lines2; drives = drives; drives' = drives2 })
 run_made c images es n m0 m1 m2 s0 s1 s2 lines lines1 lines2 drives drives1 drives2 accepted p alone r d present ran holds counts failed lines_size drives_size =
-    let down : PowersDown m2 s1 lines1 drives s2 lines2 drives2 = subst (λ (ds : List Kept). PowersDown m2 s1 lines1 ds s2 lines2 drives2) p.loaded.1 d in
+    let down : PowersDown m2 s1 lines1 drives s2 lines2 drives2 = subst (λ (ds : List SeenDrive). PowersDown m2 s1 lines1 ds s2 lines2 drives2) p.loaded.1 d in
     record {
       fits = p.fits;
       loaded = p.loaded.0;

@@ -1,9 +1,9 @@
 -- A law of runs.
 use Rattle.std.specs.Prelude.{◌≡◌, []}
-use Rattle.sys_rounds.specs.Run.{Input}
-use Rattle.sys_runs.specs.Ran.{Makes, Outside}
+use Rattle.sys_runs.specs.Ran.{MakesRun, RunOutside}
 use Rattle.sys_runs.specs.declared.running.Ran.{Ran}
+use Rattle.sys_state.specs.Run.{Input}
 
 -- without volumes every drive is as before
 abbrev pub TouchesNoDrive : Type 0
-TouchesNoDrive = (x : Input) (ran : Ran) (o : Outside) → x.config.volumes ≡ [] → Makes x ran o → o.drives' ≡ o.drives
+TouchesNoDrive = (x : Input) (ran : Ran) (o : RunOutside) → x.config.volumes ≡ [] → MakesRun x ran o → o.drives' ≡ o.drives

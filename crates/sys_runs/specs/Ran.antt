@@ -4,52 +4,52 @@ use Rattle.std.specs.declared.option.Option.TheVariants.{None, Some}
 use Rattle.std.specs.declared.result.Result.{Result}
 use Rattle.std.specs.declared.result.Result.TheVariants.{Ok, Err}
 use Rattle.vax_hw.specs.Machine.{Machine}
-use Rattle.vv_io.specs.Blocks.{Kept}
+use Rattle.vv_io.specs.Blocks.{SeenDrive}
 use Rattle.vv_io.specs.Lines.{Seen}
 use Rattle.sys_drives.specs.Loads.{AreLoaded, HasFailed, IsMisfit}
 use Rattle.sys_drives.specs.Rows.{FitsDrive, drive_at}
-use Rattle.sys_drives.specs.Stores.{Stores, is_marked}
+use Rattle.sys_drives.specs.Stores.{StoresToDrive, is_marked}
 use Rattle.sys_guests.specs.Changes.{Retires}
 use Rattle.sys_guests.specs.Loads.{first_misfit}
 use Rattle.sys_lines.specs.Shows.{Shows}
 use Rattle.sys_objects.specs.declared.records.Config.{Config}
-use Rattle.sys_rounds.specs.Bytes.{drive_blocks_from, line_bytes_from}
-use Rattle.sys_rounds.specs.Counts.{tally_from}
-use Rattle.sys_rounds.specs.FirstTouches.{first_touches_from}
-use Rattle.sys_rounds.specs.Run.{Input, Moment, opening}
+use Rattle.sys_state.specs.Bytes.{drive_blocks_from, line_bytes_from}
+use Rattle.sys_state.specs.Counts.{tally_from}
+use Rattle.sys_state.specs.FirstTouches.{first_touches_from}
+use Rattle.sys_state.specs.Run.{Input, Moment, opening}
 use Rattle.sys_runs.specs.declared.running.Ran.{Ran}
 use Rattle.sys_script.specs.declared.event.Event.{Event}
 use Rattle.sys_system.specs.Devices.{first_failed}
 use Rattle.sys_system.specs.declared.power.PowerFault.{PowerFault}
 use Rattle.sys_system.specs.declared.power.PowerFault.TheVariants.{Image, VolumeSize, DriveIn, NoMemory}
-use Rattle.vm_fitting.specs.Paid.{Misses}
+use Rattle.vm_miss_laws.specs.Paid.{Misses}
 use Rattle.vm_stepping.specs.Made.{steps_in, tally_of}
 
 -- the outside of a run, before it and after it: the machine, the lines and the drives
-pub record Outside : Type 0 where
+pub record RunOutside : Type 0 where
   pub machine : Machine
   pub machine' : Machine
   pub lines : List Seen
   pub lines' : List Seen
-  pub drives : List Kept
-  pub drives' : List Kept
+  pub drives : List SeenDrive
+  pub drives' : List SeenDrive
 
 -- No line got a put, and the machine's counts are as before.
-pub record Unshown (o : Outside) : Type 0 where
+pub record Unshown (o : RunOutside) : Type 0 where
   pub lines : o.lines' ≡ o.lines
   pub retired : o.machine'.retired ≡ o.machine.retired
   pub trail : o.machine'.trail ≡ o.machine.trail
   pub misses : o.machine'.misses ≡ o.machine.misses
 
 -- and every drive is as before
-pub record Untouched (o : Outside) : Type 0 where
+pub record Untouched (o : RunOutside) : Type 0 where
   pub shown : Unshown o
   pub drives : o.drives' ≡ o.drives
 
 -- Each volume's drive has its last blocks after so many rounds from a moment on; one that failed is marked, and cut. A drive
 -- that no volume has is as before, and isn't marked.
-pub record StoresFrom (m : Moment) (es : List Event) (n : ℕ) (marks : List Bool) (drives drives' : List Kept) : Type 0 where
-  pub stores : All (λ row. Stores (is_marked marks row.drive) (drive_at drives row.drive) (drive_at drives' row.drive) (drive_blocks_from m es n row.drive)) m.config.volumes
+pub record StoresFrom (m : Moment) (es : List Event) (n : ℕ) (marks : List Bool) (drives drives' : List SeenDrive) : Type 0 where
+  pub stores : All (λ row. StoresToDrive (is_marked marks row.drive) (drive_at drives row.drive) (drive_at drives' row.drive) (drive_blocks_from m es n row.drive)) m.config.volumes
   pub others : (d : ℕ) → All (λ row. row.drive ≢ d) m.config.volumes → (is_marked marks d ≡ false) × (drive_at drives' d ≡ drive_at drives d)
   pub size : length drives' ≡ length drives
 
@@ -57,7 +57,7 @@ pub record StoresFrom (m : Moment) (es : List Event) (n : ℕ) (marks : List Boo
 -- line has its bytes, or a front of them and a mark where it failed. The steps are those of these rounds, and with those
 -- before at most 1,600,000 in a round, and the machine retired the plain ones. It missed at most as many pages as these
 -- rounds have first touches.
-pub record MakesFrom (m : Moment) (es : List Event) (n : ℕ) (ran : Ran) (o : Outside) : Type 0 where
+pub record MakesFrom (m : Moment) (es : List Event) (n : ℕ) (ran : Ran) (o : RunOutside) : Type 0 where
   pub fit : All (FitsDrive o.drives) m.config.volumes
   -- the lines and the drives that have failed
   pub marks : List Bool
@@ -74,19 +74,19 @@ pub record MakesFrom (m : Moment) (es : List Event) (n : ℕ) (ran : Ran) (o : O
   pub failed : ran.failed ≡ first_failed marks drive_marks
 
 -- The run was made: the images fit, the volumes are those of the drives, and its rounds were made from power-up on.
-pub record Makes (x : Input) (ran : Ran) (o : Outside) : Type 0 where
+pub record MakesRun (x : Input) (ran : Ran) (o : RunOutside) : Type 0 where
   pub fits : first_misfit x.config.guests x.images ≡ None
   pub loaded : AreLoaded x.config.volumes o.drives x.volumes
   pub makes : MakesFrom (opening x) x.events x.rounds ran o
 
 -- Power doesn't come up: the first image doesn't fit; or else the first volume that can't be read; or memory ran out.
-abbrev pub StaysDown : Config → List (List ℕ) → PowerFault → Outside → Type 0
+abbrev pub StaysDown : Config → List (List ℕ) → PowerFault → RunOutside → Type 0
 StaysDown c images (Image g) o = (first_misfit c.guests images ≡ Some g) × Untouched o
 StaysDown c images (VolumeSize v) o = (first_misfit c.guests images ≡ None) × IsMisfit c.volumes o.drives v × Untouched o
 StaysDown c images (DriveIn d) o = (first_misfit c.guests images ≡ None) × HasFailed c.volumes o.drives o.drives' d × Unshown o
 StaysDown c images NoMemory o = Untouched o
 
 -- a run by its answer: it was made; or power doesn't come up
-abbrev pub Runs : Config → List (List ℕ) → List Event → ℕ → Result Ran PowerFault → Outside → Type 0
-Runs c images es n (Ok ran) o = (volumes : List (List (List ℕ))) × Makes (record { config = c; images = images; volumes = volumes; events = es; rounds = n }) ran o
+abbrev pub Runs : Config → List (List ℕ) → List Event → ℕ → Result Ran PowerFault → RunOutside → Type 0
+Runs c images es n (Ok ran) o = (volumes : List (List (List ℕ))) × MakesRun (record { config = c; images = images; volumes = volumes; events = es; rounds = n }) ran o
 Runs c images es n (Err fault) o = StaysDown c images fault o

@@ -10,11 +10,11 @@ use Rattle.sys_guests.specs.Loads.{first_misfit}
 use Rattle.sys_lines.specs.ShownSince.{ShownSince}
 use Rattle.sys_lines.specs.Shows.{Shows}
 use Rattle.sys_objects.specs.declared.records.Config.{Config}
-use Rattle.sys_rounds.specs.Bytes.{shown_from}
-use Rattle.sys_rounds.specs.Counts.{tally_from}
-use Rattle.sys_rounds.specs.FirstTouches.{first_touches}
-use Rattle.sys_rounds.specs.Run.{Input, Moment, moment_after, opening}
-use Rattle.sys_runs.specs.Ran.{MakesFrom, Outside, StaysDown, Untouched}
+use Rattle.sys_state.specs.Bytes.{shown_from}
+use Rattle.sys_state.specs.Counts.{tally_from}
+use Rattle.sys_state.specs.FirstTouches.{first_touches}
+use Rattle.sys_state.specs.Run.{Input, Moment, moment_after, opening}
+use Rattle.sys_runs.specs.Ran.{MakesFrom, RunOutside, StaysDown, Untouched}
 use Rattle.sys_runs.specs.declared.running.Ran.{Ran}
 use Rattle.sys_runs.specs.declared.saving.Saved.{Saved}
 use Rattle.sys_script.specs.declared.event.Event.{Event}
@@ -23,7 +23,7 @@ use Rattle.sys_snap.specs.Written.{snap_bytes}
 use Rattle.sys_system.specs.Devices.{first_failed}
 use Rattle.sys_system.specs.declared.power.PowerFault.{PowerFault}
 use Rattle.sys_system.specs.declared.power.PowerFault.TheVariants.{Image, VolumeSize, DriveIn, NoMemory}
-use Rattle.vm_fitting.specs.Paid.{Misses}
+use Rattle.vm_miss_laws.specs.Paid.{Misses}
 
 -- the moment after a run's last round
 abbrev pub last_moment : Input → Moment
@@ -33,7 +33,7 @@ last_moment x = moment_after (opening x) x.events x.rounds
 -- what these rounds show, or a front of it and a mark where it failed; no dump is shown. The machine retired the plain steps of
 -- these rounds; it missed at most as many pages as they have first touches. Only a line can have failed. On `out` the snapshot
 -- of the moment after them was shown with this text, or a front of it where `out` failed; where it was shown whole, it is one.
-pub record Saves (x : Input) (text : List ℕ) (saved : Saved) (o : Outside) (out out' : Seen) : Type 0 where
+pub record Saves (x : Input) (text : List ℕ) (saved : Saved) (o : RunOutside) (out out' : Seen) : Type 0 where
   pub fits : first_misfit x.config.guests x.images ≡ None
   pub loaded : AreLoaded x.config.volumes o.drives x.volumes
   -- the lines that have failed
@@ -50,15 +50,15 @@ pub record Saves (x : Input) (text : List ℕ) (saved : Saved) (o : Outside) (ou
   pub moment : saved.is_cut ≡ false → IsMoment (last_moment x)
 
 -- a run that is saved, by its answer: its rounds were made; or power doesn't come up, and nothing is shown
-abbrev pub SavesRun : Config → List ℕ → List (List ℕ) → List Event → ℕ → Result Saved PowerFault → Outside → (out out' : Seen) → Type 0
+abbrev pub SavesRun : Config → List ℕ → List (List ℕ) → List Event → ℕ → Result Saved PowerFault → RunOutside → (out out' : Seen) → Type 0
 SavesRun c text images es n (Ok saved) o out out' = (volumes : List (List (List ℕ))) × Saves (record { config = c; images = images; volumes = volumes; events = es; rounds = n }) text saved o out out'
 SavesRun c text images es n (Err fault) o out out' = StaysDown c images fault o × (out' ≡ out)
 
 -- a run that goes on from a moment, by its answer: its rounds were made from there on; or a drive has another size than the first
 -- volume for which that is so; or memory ran out
-abbrev pub GoesOn : Moment → List Event → ℕ → Result Ran PowerFault → Outside → Type 0
-GoesOn m es n (Ok ran) o = MakesFrom m es n ran o
-GoesOn m es n (Err (Image g)) o = ⊥
-GoesOn m es n (Err (VolumeSize v)) o = IsMisfit m.config.volumes o.drives v × Untouched o
-GoesOn m es n (Err (DriveIn d)) o = ⊥
-GoesOn m es n (Err NoMemory) o = Untouched o
+abbrev pub ContinuesRun : Moment → List Event → ℕ → Result Ran PowerFault → RunOutside → Type 0
+ContinuesRun m es n (Ok ran) o = MakesFrom m es n ran o
+ContinuesRun m es n (Err (Image g)) o = ⊥
+ContinuesRun m es n (Err (VolumeSize v)) o = IsMisfit m.config.volumes o.drives v × Untouched o
+ContinuesRun m es n (Err (DriveIn d)) o = ⊥
+ContinuesRun m es n (Err NoMemory) o = Untouched o

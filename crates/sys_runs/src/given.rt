@@ -2,7 +2,7 @@ ghost use Rattle.std.specs.Prelude.{◌≡◌, ◌≤◌, ◌*◌, List, length,
 ghost use Rattle.sys_objects.specs.Condition.{IsConfig};
 ghost use Rattle.sys_runs.specs.Given.{RunsWith};
 ghost use Rattle.sys_script.specs.Events.{AreEvents};
-ghost use Rattle.vv_io.specs.Blocks.{Kept};
+ghost use Rattle.vv_io.specs.Blocks.{SeenDrive};
 
 use crate::progress::Progress;
 use crate::rounds::make_rounds;
@@ -35,7 +35,7 @@ pub fn run_with<H: Hardware, P: Progress>(
     requires few { rounds ≤ 1000000 }
     requires pages { length (H.machine machine.old).memory ≡ 512 * 32768 }
     requires lines { vec_len lines.old ≡ 32 }
-    ensures runs { (drives : List Kept) → RunsWith config (map (λ b. b.items) images.now) (map (λ b. b.items) volumes.now) events.now rounds result (record { machine = H.machine machine.old; machine' = H.machine machine.new; lines = map (λ b. seen b) lines.old.items; lines' = map (λ b. seen b) lines.new.items; drives = drives; drives' = drives }) }
+    ensures runs { (drives : List SeenDrive) → RunsWith config (map (λ b. b.items) images.now) (map (λ b. b.items) volumes.now) events.now rounds result (record { machine = H.machine machine.old; machine' = H.machine machine.new; lines = map (λ b. seen b) lines.old.items; lines' = map (λ b. seen b) lines.new.items; drives = drives; drives' = drives }) }
     ensures len { vec_len lines.new ≡ vec_len lines.old }
 {
     let mut system = System::power_up_with(alloc, config, images, machine, volumes)?;

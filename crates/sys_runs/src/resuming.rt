@@ -1,7 +1,7 @@
 ghost use Rattle.std.specs.Prelude.{◌≡◌, ◌≤◌, ◌*◌, length, map, vec_len};
-ghost use Rattle.sys_runs.specs.Saved.{GoesOn};
+ghost use Rattle.sys_runs.specs.Saved.{ContinuesRun};
 ghost use Rattle.sys_script.specs.Events.{AreEvents};
-ghost use Rattle.sys_snap.specs.Held.{HoldsMoment, moment_of};
+ghost use Rattle.sys_snap.specs.Held.{HoldsMoment, snapshot_moment};
 ghost use Rattle.sys_snap.specs.Snap.{IsMoment};
 
 use crate::progress::Progress;
@@ -28,13 +28,13 @@ pub fn resume<H: Hardware, P: Progress>(
     progress: &mut P,
 ) -> Result<Ran, PowerFault>
     requires held { HoldsMoment snap }
-    requires moment { IsMoment (moment_of snap) }
+    requires moment { IsMoment (snapshot_moment snap) }
     requires ordered { AreEvents events.now }
     requires few { rounds ≤ 1000000 }
     requires pages { length (H.machine machine.old).memory ≡ 512 * 32768 }
     requires lines { vec_len lines.old ≡ 32 }
     requires drives { vec_len drives.old ≡ 16 }
-    ensures goes_on { GoesOn (moment_of snap) events.now rounds result (record { machine = H.machine machine.old; machine' = H.machine machine.new; lines = map (λ b. seen b) lines.old.items; lines' = map (λ b. seen b) lines.new.items; drives = map (λ d. kept d) drives.old.items; drives' = map (λ d. kept d) drives.new.items }) }
+    ensures goes_on { ContinuesRun (snapshot_moment snap) events.now rounds result (record { machine = H.machine machine.old; machine' = H.machine machine.new; lines = map (λ b. seen b) lines.old.items; lines' = map (λ b. seen b) lines.new.items; drives = map (λ d. kept d) drives.old.items; drives' = map (λ d. kept d) drives.new.items }) }
     ensures lines_len { vec_len lines.new ≡ vec_len lines.old }
     ensures drives_len { vec_len drives.new ≡ vec_len drives.old }
 {

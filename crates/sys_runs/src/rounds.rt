@@ -1,7 +1,7 @@
 ghost use Rattle.std.specs.Prelude.{◌≡◌, ◌≤◌, ◌+◌, drop, false, length, map, nat_le, take_while, vec_len};
 ghost use Rattle.sys_runs.specs.Rounds.{MakesRounds};
 ghost use Rattle.sys_script.specs.Events.{AreEvents};
-ghost use Rattle.sys_system.specs.System.{IsSystem, StandsIn};
+ghost use Rattle.sys_system.specs.System.{IsInMachine, IsSystem};
 
 use crate::progress::Progress;
 use sys_script::Event;
@@ -42,7 +42,7 @@ pub fn make_rounds<H: Hardware, P: Progress>(
     requires few { system.old.rounds + rounds ≤ 2000000 }
     requires ordered { AreEvents events.now }
     requires holds { IsSystem system.old }
-    requires stands { StandsIn (H.machine machine.old).memory system.old }
+    requires stands { IsInMachine (H.machine machine.old).memory system.old }
     requires lines { vec_len lines.old ≡ 32 }
     ensures makes { MakesRounds rounds events.now (H.machine machine.old) system.old (map (λ b. seen b) lines.old.items) (H.machine machine.new) system.new (map (λ b. seen b) lines.new.items) }
     ensures len { vec_len lines.new ≡ vec_len lines.old }

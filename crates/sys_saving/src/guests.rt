@@ -3,7 +3,7 @@ ghost use Rattle.sys_guests.specs.Layout.{guests_in};
 ghost use Rattle.sys_lines.specs.ShownSince.{ShownSince};
 ghost use Rattle.sys_snap.specs.Snap.{IsSound};
 ghost use Rattle.sys_snap.specs.Written.{guest_bytes};
-ghost use Rattle.vm_guest.specs.Kept.{StandsIn, guest_in};
+ghost use Rattle.vm_guest.specs.Kept.{IsShadowedIn, guest_in};
 ghost use Rattle.vm_state.specs.State.{state_of};
 
 use crate::head::put;
@@ -18,7 +18,7 @@ fn put_memory<H: Hardware, O: Sink>(
     out: &mut O,
     guest: &Guest,
 ) -> Result<(), SinkFault>
-    requires { StandsIn (H.machine machine.now).memory guest.now }
+    requires { IsShadowedIn (H.machine machine.now).memory guest.now }
     ensures { ShownSince (is_err result) (O.printed out.old) (O.printed out.new) (guest_in (H.machine machine.now).memory guest.now).memory }
 {
     let pages = guest.state().pages;
@@ -32,7 +32,7 @@ fn put_memory<H: Hardware, O: Sink>(
 
 /// Shows a guest: its record and its memory.
 fn put_guest<H: Hardware, O: Sink>(machine: &H, out: &mut O, guest: &Guest) -> Result<(), SinkFault>
-    requires { StandsIn (H.machine machine.now).memory guest.now }
+    requires { IsShadowedIn (H.machine machine.now).memory guest.now }
     ensures shown { ShownSince (is_err result) (O.printed out.old) (O.printed out.new) (guest_bytes (guest_in (H.machine machine.now).memory guest.now)) }
     ensures sound { IsSound (state_of guest.now.state) }
 {
@@ -46,7 +46,7 @@ pub fn put_guests<H: Hardware, O: Sink>(
     out: &mut O,
     guests: &[Guest],
 ) -> Result<(), SinkFault>
-    requires { All (λ k. StandsIn (H.machine machine.now).memory k) guests.now }
+    requires { All (λ k. IsShadowedIn (H.machine machine.now).memory k) guests.now }
     ensures shown { ShownSince (is_err result) (O.printed out.old) (O.printed out.new) (flat_map guest_bytes (guests_in (H.machine machine.now).memory guests.now)) }
     ensures sound { IfOk result (λ _. All (λ k. IsSound (state_of k.state)) guests.now) }
 {

@@ -7,8 +7,8 @@ use Rattle.std.specs.Str.Lines.{lines}
 use Rattle.vv_base.specs.Digits.{decimal_from, decimal_of, is_decimal}
 use Rattle.vv_base.specs.Names.{is_object_name, tested}
 use Rattle.sys_script.specs.Events.{AreEvents, IsEvent, NeverFalls}
-use Rattle.sys_script.specs.Line.{◌>>=◌, at_least_one, behind, event_in, front, is_allowed, or_kind, round_in, what_in, when}
-use Rattle.sys_script.specs.Script.{at_line, events_from, in_front, is_passed_over, script_of}
+use Rattle.sys_script.specs.EventLine.{◌>>=◌, at_least_one, after_blank, event_in, front, is_allowed, or_kind, round_in, what_in, when}
+use Rattle.sys_script.specs.Script.{at_script_line, events_from, in_front, is_passed_over, script_of}
 use Rattle.sys_script.specs.declared.event.Event.{Event}
 use Rattle.sys_script.specs.declared.event.ScriptFault.{ScriptFault}
 use Rattle.sys_script.specs.declared.event.ScriptKind.{ScriptKind}
@@ -69,9 +69,9 @@ is_of last (Some r) (Some n) (Some w) event is =
 event_of_line : (last : ℕ) (line : List ℕ) (event : Event) → event_in last line ≡ Ok event → IsEvent event × (last ≤ event.round)
 unfolding event_in
 event_of_line last line event is =
-    let parts : IsOf last (round_in (front line)) (tested is_object_name (front (behind line))) (what_in (behind (behind line))) event = is_of last _ _ _ event is in
+    let parts : IsOf last (round_in (front line)) (tested is_object_name (front (after_blank line))) (what_in (after_blank (after_blank line))) event = is_of last _ _ _ event is in
     let round : (1 ≤ event.round) × (event.round ≤ 1000000) = round_within (front line) event.round parts.round in
-    (record { from = round.0; to = round.1; terminal = name_passes (front (behind line)) event.terminal parts.terminal; what = parts.allowed }, leb-true _ _ parts.rises)
+    (record { from = round.0; to = round.1; terminal = name_passes (front (after_blank line)) event.terminal parts.terminal; what = parts.allowed }, leb-true _ _ parts.rises)
 
 abbrev Follow : ℕ → List Event → Type 0
 Follow last events = ByRecursion IsEvent events × NeverFalls last events
@@ -95,7 +95,7 @@ line_follows true last read others behind_it events skip first later is = skip i
 line_follows false last (Ok event) others behind_it events skip first later is = first_follows last event (behind_it event) events (first event refl) (later event) is
 line_follows false last (Err fault) others behind_it events skip first later is = absurd cc
 
-of_line : (number : ℕ) (read : Result Event ScriptKind) (event : Event) → at_line number read ≡ Ok event → read ≡ Ok event
+of_line : (number : ℕ) (read : Result Event ScriptKind) (event : Event) → at_script_line number read ≡ Ok event → read ≡ Ok event
 of_line number (Ok x) event is = cc
 of_line number (Err kind) event is = cc
 
@@ -104,7 +104,7 @@ all_follow number last [] events is =
     let none : [] ≡ events = cc in
     subst (Follow last) none (tt, tt)
 all_follow number last (line ∷ more) events is =
-    line_follows (is_passed_over line) last (at_line number (event_in last line)) (events_from (number + 1) last more) (λ event. events_from (number + 1) event.round more) events
+    line_follows (is_passed_over line) last (at_script_line number (event_in last line)) (events_from (number + 1) last more) (λ event. events_from (number + 1) event.round more) events
     (λ rest. all_follow (number + 1) last more events rest)
     (λ event read. event_of_line last line event (of_line number (event_in last line) event read))
     (λ event rest read. all_follow (number + 1) event.round more rest read)

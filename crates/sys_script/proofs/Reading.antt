@@ -1,7 +1,7 @@
 -- The events of the lines that were read, and of those that are left.
 use Rattle.std.proofs.Common.{◌≡◌, ℕ, List, [], ◌++◌, Result, Ok, Err, refl, sym, ◌∙◌, ap, append-nil}
 use Rattle.std.specs.Str.Lines.{lines}
-use Rattle.sys_script.specs.Line.{◌>>=◌}
+use Rattle.sys_script.specs.EventLine.{◌>>=◌}
 use Rattle.sys_script.specs.Script.{events_from, script_of}
 use Rattle.sys_script.specs.declared.event.Event.{Event}
 use Rattle.sys_script.specs.declared.event.ScriptFault.{ScriptFault}

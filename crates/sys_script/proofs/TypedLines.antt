@@ -9,9 +9,9 @@ use Rattle.std.proofs.lemmas.Slice.Eq.{bytes_eq-Decides}
 use Rattle.std.specs.List.{list_all, position_or_len}
 use Rattle.std.specs.Str.Lines.{lines}
 use Rattle.vv_base.specs.Names.{is_object_name, tested}
-use Rattle.sys_script.specs.Line.{◌>>=◌, behind, event_in, front, is_allowed, or_kind, round_in, what_in, when}
+use Rattle.sys_script.specs.EventLine.{◌>>=◌, after_blank, event_in, front, is_allowed, or_kind, round_in, what_in, when}
 use Rattle.sys_script.specs.Script.{events_from, is_passed_over, script_of}
-use Rattle.sys_script.specs.Texts.{is_shown}
+use Rattle.sys_script.specs.Texts.{is_text_character}
 use Rattle.sys_script.specs.Typed.{MeansTyped, SaysWithRound, events_typed, if_said, rounds_typed, says_event, script_typed, typed_in}
 use Rattle.sys_script.specs.declared.event.Event.{Event}
 use Rattle.sys_script.specs.declared.event.ScriptKind.{ScriptKind}
@@ -46,9 +46,9 @@ unfolding event_in typed_in
 with_round last round line from to rises =
     let digits : AreFrom 33 (decimal round) = lower 48 33 (decimal round) (lit≤ tt) (decimal_from_48 round (omega (arith, to))) in
     let number : round_in (front (decimal round ++ 32 ∷ line)) ≡ Some round = rw (front_at (decimal round) line digits, round_read round from to) in
-    let rest : List ℕ = behind (decimal round ++ 32 ∷ line) in
-    after_round last round (round_in (front (decimal round ++ 32 ∷ line))) (tested is_object_name (front rest)) (what_in (behind rest)) number (le-leb last round rises)
-    ∙ ap (λ text. With round (tested is_object_name (front text)) (what_in (behind text))) (behind_at (decimal round) line digits)
+    let rest : List ℕ = after_blank (decimal round ++ 32 ∷ line) in
+    after_round last round (round_in (front (decimal round ++ 32 ∷ line))) (tested is_object_name (front rest)) (what_in (after_blank rest)) number (le-leb last round rises)
+    ∙ ap (λ text. With round (tested is_object_name (front text)) (what_in (after_blank text))) (behind_at (decimal round) line digits)
 
 pub says_with_round : SaysWithRound
 says_with_round round line from to = with_round round round line from to (omega arith)
@@ -65,7 +65,7 @@ all_alike round (Some n) (Some w) = alike round n w (is_allowed w)
 
 pub says_in_each : (round : ℕ) (line : List ℕ) → is_ok (typed_in round line) ≡ is_ok (typed_in 1 line)
 unfolding typed_in
-says_in_each round line = all_alike round (tested is_object_name (front line)) (what_in (behind line))
+says_in_each round line = all_alike round (tested is_object_name (front line)) (what_in (after_blank line))
 
 kind_alike : (round : ℕ) (name : List ℕ) (what : Typed) (allowed : Bool) (kind : ScriptKind) → Allowed round name what allowed ≡ Err kind → Allowed 1 name what allowed ≡ Err kind
 kind_alike round name what true kind is = absurd cc
@@ -78,7 +78,7 @@ kinds_alike round (Some n) (Some w) kind is = kind_alike round n w (is_allowed w
 
 pub refused_in_each : (round : ℕ) (line : List ℕ) (kind : ScriptKind) → typed_in round line ≡ Err kind → typed_in 1 line ≡ Err kind
 unfolding typed_in
-refused_in_each round line kind is = kinds_alike round (tested is_object_name (front line)) (what_in (behind line)) kind is
+refused_in_each round line kind is = kinds_alike round (tested is_object_name (front line)) (what_in (after_blank line)) kind is
 
 -- A line that is passed over says no event.
 unnamed : (round : ℕ) (line : List ℕ) (what : Option Typed) → is_object_name line ≡ false → is_ok (With round (tested is_object_name line) what) ≡ false
@@ -92,7 +92,7 @@ comment b line is =
 pub passed_over_says_none : (round : ℕ) (line : List ℕ) → is_passed_over line ≡ true → is_ok (typed_in round line) ≡ false
 unfolding typed_in
 passed_over_says_none round [] is = refl
-passed_over_says_none round (b ∷ line) is = unnamed round (front (b ∷ line)) (what_in (behind (b ∷ line))) (comment b line is)
+passed_over_says_none round (b ∷ line) is = unnamed round (front (b ∷ line)) (what_in (after_blank (b ∷ line))) (comment b line is)
 
 -- A line that says an event has bytes from 32 on alone.
 record IsSaid (in_round : ℕ) (name : Option (List ℕ)) (asked : Option Typed) (event : Event) : Type 0 where
@@ -125,7 +125,7 @@ of_bytes text same is all = subst (AreFrom 32) (sym ((bytes_eq-Decides text same
 line_bytes : (text : List ℕ) → bytes_eq (take 2 text) (codes "> ") ≡ true → is_allowed (Line (drop 2 text)) ≡ true → AreFrom 32 text
 line_bytes text front allowed =
     subst (AreFrom 32) (take-append-drop 2 text)
-    (joined 32 (take 2 text) (drop 2 text) (of_bytes (take 2 text) (codes "> ") front (lit≤ tt, (lit≤ tt, tt))) (from_test is_shown 32 shown_from (drop 2 text) (both (nat_le (length (drop 2 text)) 1000) (list_all is_shown (drop 2 text)) allowed).1))
+    (joined 32 (take 2 text) (drop 2 text) (of_bytes (take 2 text) (codes "> ") front (lit≤ tt, (lit≤ tt, tt))) (from_test is_text_character 32 shown_from (drop 2 text) (both (nat_le (length (drop 2 text)) 1000) (list_all is_text_character (drop 2 text)) allowed).1))
 
 asked_bytes : (text : List ℕ) (breaks none some : Bool) (what : Typed)
     → (if breaks then Some Break else if none then Some (Line []) else if some then Some (Line (drop 2 text)) else None) ≡ Some what → is_allowed what ≡ true
@@ -145,12 +145,12 @@ what_bytes text what is allowed =
     (λ same. of_bytes text (codes ">") same (lit≤ tt, tt))
     (λ same. line_bytes text same)
 
-cut_bytes : (text : List ℕ) (within : Bool) → nat_lt (position_or_len (λ b. b == 32) text) (length text) ≡ within → AreFrom 32 (front text) → AreFrom 32 (behind text) → AreFrom 32 text
+cut_bytes : (text : List ℕ) (within : Bool) → nat_lt (position_or_len (λ b. b == 32) text) (length text) ≡ within → AreFrom 32 (front text) → AreFrom 32 (after_blank text) → AreFrom 32 text
 cut_bytes text true is first second =
     let within : position_or_len (λ b. b == 32) text < length text = ltb-true _ _ is in
     let blank : (get_or text (position_or_len (λ b. b == 32) text) 0 == 32) ≡ true = passes_at_first (λ b. b == 32) text 0 within in
     let from : 32 ≤ get_or text (position_or_len (λ b. b == 32) text) 0 = grind (arith, nat_tests) in
-    subst (AreFrom 32) (sym (split_at_first (λ b. b == 32) text 0 within)) (joined 32 (front text) (get_or text (position_or_len (λ b. b == 32) text) 0 ∷ behind text) first (from, second))
+    subst (AreFrom 32) (sym (split_at_first (λ b. b == 32) text 0 within)) (joined 32 (front text) (get_or text (position_or_len (λ b. b == 32) text) 0 ∷ after_blank text) first (from, second))
 cut_bytes text false is first second =
     let beyond : length text ≤ position_or_len (λ b. b == 32) text = ltb-false _ _ is in
     subst (AreFrom 32) (take_all (position_or_len (λ b. b == 32) text) text beyond) first
@@ -158,8 +158,8 @@ cut_bytes text false is first second =
 pub said_bytes : (round : ℕ) (line : List ℕ) (event : Event) → typed_in round line ≡ Ok event → AreFrom 32 line × (event.round ≡ round)
 unfolding typed_in
 said_bytes round line event is =
-    let said : IsSaid round (tested is_object_name (front line)) (what_in (behind line)) event = is_said round _ _ event is in
-    (cut_bytes line _ refl (name_bytes (front line) event.terminal said.terminal) (what_bytes (behind line) event.what said.what said.allowed), said.round)
+    let said : IsSaid round (tested is_object_name (front line)) (what_in (after_blank line)) event = is_said round _ _ event is in
+    (cut_bytes line _ refl (name_bytes (front line) event.terminal said.terminal) (what_bytes (after_blank line) event.what said.what said.allowed), said.round)
 
 -- The script of lines.
 or_true : (first second : Bool) → second ≡ true → (first || second) ≡ true

@@ -14,9 +14,9 @@ use Rattle.std.specs.Str.Lines.{lines, strip_carriage_return}
 use Rattle.vv_base.specs.Digits.{decimal_from, is_decimal, is_digit}
 use Rattle.vv_base.specs.Names.{is_letter, is_name_character, is_object_name, tested}
 use Rattle.sys_script.specs.Events.{AreEvents, IsEvent, NeverFalls}
-use Rattle.sys_script.specs.Line.{◌>>=◌, behind, event_in, front, is_allowed, or_kind, round_in, what_in, when}
+use Rattle.sys_script.specs.EventLine.{◌>>=◌, after_blank, event_in, front, is_allowed, or_kind, round_in, what_in, when}
 use Rattle.sys_script.specs.Script.{events_from, is_passed_over, script_of}
-use Rattle.sys_script.specs.Texts.{is_shown}
+use Rattle.sys_script.specs.Texts.{is_text_character}
 use Rattle.sys_script.specs.Written.{line_text, script_text, what_text}
 use Rattle.sys_script.specs.declared.event.Event.{Event}
 use Rattle.sys_script.specs.declared.event.ScriptKind.TheVariants.{BadRound, BadName, BadEvent, BadText, RoundFalls}
@@ -64,7 +64,7 @@ position_at least c xs ys below all =
 pub front_at : (xs ys : List ℕ) → AreFrom 33 xs → front (xs ++ 32 ∷ ys) ≡ xs
 front_at xs ys all = ap (λ n. take n (xs ++ 32 ∷ ys)) (position_at 33 32 xs ys (lit< tt) all) ∙ take_at xs (32 ∷ ys) (length xs) refl
 
-pub behind_at : (xs ys : List ℕ) → AreFrom 33 xs → behind (xs ++ 32 ∷ ys) ≡ ys
+pub behind_at : (xs ys : List ℕ) → AreFrom 33 xs → after_blank (xs ++ 32 ∷ ys) ≡ ys
 behind_at xs ys all =
     ap (λ n. drop (n + 1) (xs ++ 32 ∷ ys)) (position_at 33 32 xs ys (lit< tt) all)
     ∙ ap (drop (length xs + 1)) (sym (append_assoc xs (32 ∷ []) ys)) ∙ drop_at (xs ++ 32 ∷ []) ys (length xs + 1) (length_push xs 32)
@@ -99,7 +99,7 @@ round_read n from to =
 digits_from : (b : ℕ) → is_digit b ≡ true → 48 ≤ b
 digits_from b is = leb-true 48 b (both (nat_le 48 b) (nat_le b 57) is).0
 
-pub shown_from : (b : ℕ) → is_shown b ≡ true → 32 ≤ b
+pub shown_from : (b : ℕ) → is_text_character b ≡ true → 32 ≤ b
 shown_from b is = leb-true 32 b (both (nat_le 32 b) (nat_le b 126) is).0
 
 letters_from : (b : ℕ) → is_letter b ≡ true → 65 ≤ b
@@ -124,7 +124,7 @@ name_from_48 (b ∷ name) is =
 
 what_from_32 : (what : Typed) → is_allowed what ≡ true → AreFrom 32 (what_text what)
 what_from_32 Break is = (lit≤ tt, (lit≤ tt, (lit≤ tt, (lit≤ tt, (lit≤ tt, tt)))))
-what_from_32 (Line text) is = (lit≤ tt, (lit≤ tt, from_test is_shown 32 shown_from text (both (nat_le (length text) 1000) (list_all is_shown text) is).1))
+what_from_32 (Line text) is = (lit≤ tt, (lit≤ tt, from_test is_text_character 32 shown_from text (both (nat_le (length text) 1000) (list_all is_text_character text) is).1))
 
 what_read : (what : Typed) → what_in (what_text what) ≡ Some what
 what_read Break = refl
@@ -150,12 +150,12 @@ line_read last event is rises =
     let small : event.round < 2 ^ 64 = omega (arith, is.to) in
     let number : AreFrom 33 (decimal event.round) = lower 48 33 (decimal event.round) (lit≤ tt) (decimal_from_48 event.round small) in
     let name : AreFrom 33 event.terminal = lower 48 33 event.terminal (lit≤ tt) (name_from_48 event.terminal is.terminal) in
-    let after : behind (line_text event) ≡ event.terminal ++ 32 ∷ what_text event.what = behind_at (decimal event.round) (event.terminal ++ 32 ∷ what_text event.what) number in
+    let after : after_blank (line_text event) ≡ event.terminal ++ 32 ∷ what_text event.what = behind_at (decimal event.round) (event.terminal ++ 32 ∷ what_text event.what) number in
     let round : round_in (front (line_text event)) ≡ Some event.round =
     rw (front_at (decimal event.round) (event.terminal ++ 32 ∷ what_text event.what) number, round_read event.round is.from is.to) in
-    let terminal : tested is_object_name (front (behind (line_text event))) ≡ Some event.terminal =
+    let terminal : tested is_object_name (front (after_blank (line_text event))) ≡ Some event.terminal =
     rw (after, front_at event.terminal (what_text event.what) name, is.terminal) in
-    let what : what_in (behind (behind (line_text event))) ≡ Some event.what =
+    let what : what_in (after_blank (after_blank (line_text event))) ≡ Some event.what =
     rw (after, behind_at event.terminal (what_text event.what) name, what_read event.what) in
     passed last _ _ _ event round terminal what is.what (le-leb last event.round rises)
 

@@ -4,7 +4,7 @@ use Rattle.sys_script.specs.declared.event.ScriptError.{ScriptError}
 use Rattle.sys_script.specs.declared.event.ScriptError.TheVariants.{Fault, NoMemory}
 use Rattle.sys_script.specs.declared.event.ScriptFault.{ScriptFault}
 
-abbrev pub Reads : {A B : Type 0} → (B → A) → Result A ScriptFault → Result B ScriptError → Type 0
-Reads seen defined (Ok x) = defined ≡ Ok (seen x)
-Reads seen defined (Err (Fault fault)) = defined ≡ Err fault
-Reads seen defined (Err NoMemory) = Unit {0}
+abbrev pub IsScriptAnswer : {A B : Type 0} → (B → A) → Result A ScriptFault → Result B ScriptError → Type 0
+IsScriptAnswer seen defined (Ok x) = defined ≡ Ok (seen x)
+IsScriptAnswer seen defined (Err (Fault fault)) = defined ≡ Err fault
+IsScriptAnswer seen defined (Err NoMemory) = Unit {0}

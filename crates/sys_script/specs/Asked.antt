@@ -4,6 +4,6 @@ use Rattle.sys_script.specs.declared.event.Typed.TheVariants as typed
 use Rattle.sys_script.specs.declared.line.Asked.{Asked}
 use Rattle.sys_script.specs.declared.line.Asked.TheVariants.{Break, Line}
 
-abbrev pub seen_of : Asked → Typed
-seen_of Break = typed.Break
-seen_of (Line text) = typed.Line text.now
+abbrev pub typed_as_asked : Asked → Typed
+typed_as_asked Break = typed.Break
+typed_as_asked (Line text) = typed.Line text.now

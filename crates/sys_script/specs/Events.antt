@@ -2,7 +2,7 @@
 use Rattle.std.specs.List.{All}
 use Rattle.std.specs.Prelude.{◌≡◌, ℕ, ◌≤◌, List, [], ◌∷◌, true}
 use Rattle.vv_base.specs.Names.{is_object_name}
-use Rattle.sys_script.specs.Line.{is_allowed}
+use Rattle.sys_script.specs.EventLine.{is_allowed}
 use Rattle.sys_script.specs.declared.event.Event.{Event}
 
 pub record IsEvent (event : Event) : Type 0 where

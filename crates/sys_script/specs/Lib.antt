@@ -2,7 +2,7 @@ pub mod Answers
 pub mod Asked
 pub mod Events
 pub mod Kinds
-pub mod Line
+pub mod EventLine
 pub mod Script
 pub mod Shown
 pub mod Texts

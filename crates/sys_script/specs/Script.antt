@@ -2,7 +2,7 @@
 -- return and a line feed; the last may lack its end, and a carriage return there is part of it.
 use Rattle.std.specs.Prelude.{ℕ, ◌+◌, ◌-◌, ◌^◌, min, List, [], ◌∷◌, Bool, true, ◌==◌, if◌then◌else◌, Result, Ok, Err}
 use Rattle.std.specs.Str.Lines.{lines}
-use Rattle.sys_script.specs.Line.{event_in, ◌>>=◌}
+use Rattle.sys_script.specs.EventLine.{event_in, ◌>>=◌}
 use Rattle.sys_script.specs.declared.event.Event.{Event}
 use Rattle.sys_script.specs.declared.event.ScriptFault.{ScriptFault}
 use Rattle.sys_script.specs.declared.event.ScriptKind.{ScriptKind}
@@ -13,9 +13,9 @@ is_passed_over [] = true
 is_passed_over (b ∷ line) = b == 35
 
 -- a fault's kind with the number of its line
-abbrev pub at_line : {A : Type 0} → ℕ → Result A ScriptKind → Result A ScriptFault
-at_line number (Ok x) = Ok x
-at_line number (Err kind) = Err (record { line = number; kind = kind })
+abbrev pub at_script_line : {A : Type 0} → ℕ → Result A ScriptKind → Result A ScriptFault
+at_script_line number (Ok x) = Ok x
+at_script_line number (Err kind) = Err (record { line = number; kind = kind })
 
 abbrev pub in_front : Event → Result (List Event) ScriptFault → Result (List Event) ScriptFault
 in_front event events = events >>= λ more. Ok (event ∷ more)
@@ -26,13 +26,13 @@ abbrev pub events_from : ℕ → ℕ → List (List ℕ) → Result (List Event)
 events_from number last [] = Ok []
 events_from number last (line ∷ more) =
     if is_passed_over line then events_from (number + 1) last more else
-    (at_line number (event_in last line) >>= λ event. in_front event (events_from (number + 1) event.round more))
+    (at_script_line number (event_in last line) >>= λ event. in_front event (events_from (number + 1) event.round more))
 
 -- the events of a script, in its order
 unfoldable pub script_of : List ℕ → Result (List Event) ScriptFault
 script_of bytes = events_from 1 0 (lines bytes)
 
 -- a fault as it is told: the line's number, or 2 ^ 32 - 1 from there on
-abbrev pub told : {A : Type 0} → Result A ScriptFault → Result A ScriptFault
-told (Ok x) = Ok x
-told (Err fault) = Err (record { line = min fault.line (2 ^ 32 - 1); kind = fault.kind })
+abbrev pub reported_fault : {A : Type 0} → Result A ScriptFault → Result A ScriptFault
+reported_fault (Ok x) = Ok x
+reported_fault (Err fault) = Err (record { line = min fault.line (2 ^ 32 - 1); kind = fault.kind })

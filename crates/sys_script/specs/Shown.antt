@@ -2,9 +2,9 @@
 use Rattle.std.specs.Prelude.{◌≡◌, ℕ, ◌+◌, ◌^◌, [], ◌∷◌, ◌++◌, codes, false, Ok, Err, refl}
 use Rattle.std.specs.Fmt.{digits}
 use Rattle.std.specs.Str.Lines.{lines}
-use Rattle.sys_script.specs.Line.{event_in}
-use Rattle.sys_script.specs.Script.{script_of, told}
-use Rattle.sys_script.specs.Typed.{events_typed, rounds_typed, script_typed, told_typed, typed_in}
+use Rattle.sys_script.specs.EventLine.{event_in}
+use Rattle.sys_script.specs.Script.{reported_fault, script_of}
+use Rattle.sys_script.specs.Typed.{events_typed, refusal_messages, rounds_typed, script_typed, typed_in}
 use Rattle.sys_script.specs.Written.{script_text}
 use Rattle.sys_script.specs.declared.event.ScriptKind.TheVariants.{BadRound, BadName, BadEvent, BadText, RoundFalls}
 use Rattle.sys_script.specs.declared.event.Typed.TheVariants.{Break, Line}
@@ -63,10 +63,10 @@ unfolding script_of event_in
 a_return_is_no_text = refl
 
 -- a line's number as far as 32 bits hold it
-a_number_is_told : told {A = ℕ} (Err (record { line = 70000; kind = BadName })) ≡ Err (record { line = 70000; kind = BadName })
+a_number_is_told : reported_fault {A = ℕ} (Err (record { line = 70000; kind = BadName })) ≡ Err (record { line = 70000; kind = BadName })
 a_number_is_told = refl
 
-the_greatest_number : told {A = ℕ} (Err (record { line = 2 ^ 32 + 5; kind = BadName })) ≡ Err (record { line = 4294967295; kind = BadName })
+the_greatest_number : reported_fault {A = ℕ} (Err (record { line = 2 ^ 32 + 5; kind = BadName })) ≡ Err (record { line = 4294967295; kind = BadName })
 the_greatest_number = refl
 
 pub written : script_text (record { round = 12; terminal = codes "T1"; what = Line (codes "SHOW") } ∷ record { round = 1000000; terminal = codes "T1"; what = Break } ∷ []) ≡ codes "12 T1 > SHOW\n1000000 T1 break\n"
@@ -95,6 +95,6 @@ unfolding typed_in
 typed_events = refl
 
 -- empty lines and comments count
-pub told_of_the_fourth : told_typed 1 ([] ∷ codes "# no" ∷ codes "T1 break" ∷ codes "T1 brake" ∷ []) ≡ codes "vvmm: typed line 4 BadEvent\n"
+pub told_of_the_fourth : refusal_messages 1 ([] ∷ codes "# no" ∷ codes "T1 break" ∷ codes "T1 brake" ∷ []) ≡ codes "vvmm: typed line 4 BadEvent\n"
 unfolding typed_in digits
 told_of_the_fourth = refl

@@ -3,7 +3,7 @@
 use Rattle.std.specs.Prelude.{ℕ, ◌≡◌, ◌+◌, ◌≤◌, List, [], ◌∷◌, ◌++◌, Bool, true, false, ◌||◌, codes, decimal, if◌then◌else◌, is_ok, Result, Ok, Err}
 use Rattle.vv_base.specs.Names.{is_object_name, tested}
 use Rattle.sys_script.specs.Kinds.{kind_text}
-use Rattle.sys_script.specs.Line.{◌>>=◌, behind, event_in, front, is_allowed, or_kind, what_in, when}
+use Rattle.sys_script.specs.EventLine.{◌>>=◌, after_blank, event_in, front, is_allowed, or_kind, what_in, when}
 use Rattle.sys_script.specs.Script.{is_passed_over, script_of}
 use Rattle.sys_script.specs.declared.event.Event.{Event}
 use Rattle.sys_script.specs.declared.event.ScriptKind.{ScriptKind}
@@ -15,7 +15,7 @@ use Rattle.sys_script.specs.declared.event.TypedError.TheVariants.{Refused, NoMe
 unfoldable pub typed_in : ℕ → List ℕ → Result Event ScriptKind
 typed_in round line =
     or_kind BadName (tested is_object_name (front line)) >>= λ name.
-    or_kind BadEvent (what_in (behind line)) >>= λ what.
+    or_kind BadEvent (what_in (after_blank line)) >>= λ what.
     when BadText (is_allowed what) >>= λ _.
     Ok (record { round = round; terminal = name; what = what })
 
@@ -57,13 +57,13 @@ abbrev pub why_not : ℕ → Result Event ScriptKind → List ℕ
 why_not number (Ok event) = []
 why_not number (Err kind) = (codes "vvmm: typed line " ++ decimal number) ++ 32 ∷ (kind_text kind ++ 10 ∷ [])
 
-abbrev pub told_of : ℕ → List ℕ → List ℕ
-told_of number line = if is_passed_over line then [] else why_not number (typed_in 1 line)
+abbrev pub refusal_message : ℕ → List ℕ → List ℕ
+refusal_message number line = if is_passed_over line then [] else why_not number (typed_in 1 line)
 
 -- what is told of lines that are numbered from `number` on
-abbrev pub told_typed : ℕ → List (List ℕ) → List ℕ
-told_typed number [] = []
-told_typed number (line ∷ more) = told_of number line ++ told_typed (number + 1) more
+abbrev pub refusal_messages : ℕ → List (List ℕ) → List ℕ
+refusal_messages number [] = []
+refusal_messages number (line ∷ more) = refusal_message number line ++ refusal_messages (number + 1) more
 
 -- a line says in a round what the script's line says that has the round's number in front
 abbrev pub SaysWithRound : Type 0

@@ -1,10 +1,10 @@
 ghost use Rattle.std.specs.List.{list_all, position};
 ghost use Rattle.std.specs.Prelude.{◌≡◌, ◌<◌, ◌==◌, ◌-◌, ◌^◌, IfErr, IfOk, IfSome, IsTrue, length, min, option_map};
-ghost use Rattle.sys_script.specs.Answers.{Reads};
-ghost use Rattle.sys_script.specs.Asked.{seen_of};
-ghost use Rattle.sys_script.specs.Line.{behind, event_in, front, is_allowed, round_in, what_in};
-ghost use Rattle.sys_script.specs.Script.{at_line, told};
-ghost use Rattle.sys_script.specs.Texts.{is_shown};
+ghost use Rattle.sys_script.specs.Answers.{IsScriptAnswer};
+ghost use Rattle.sys_script.specs.Asked.{typed_as_asked};
+ghost use Rattle.sys_script.specs.EventLine.{after_blank, event_in, front, is_allowed, round_in, what_in};
+ghost use Rattle.sys_script.specs.Script.{at_script_line, reported_fault};
+ghost use Rattle.sys_script.specs.Texts.{is_text_character};
 ghost use Rattle.sys_script.specs.Typed.{ReadsTyped, typed_in};
 
 use crate::{Event, LineText, ScriptError, ScriptFault, ScriptKind, Typed, TypedError};
@@ -34,7 +34,7 @@ fn find_blank(text: &[u8]) -> Option<usize>
 /// What comes up to the first blank, and after it.
 fn cut(text: &[u8]) -> (&[u8], &[u8])
     ensures before { result.0.now ≡ front text.now }
-    ensures after { result.1.now ≡ behind text.now }
+    ensures after { result.1.now ≡ after_blank text.now }
 {
     match find_blank(text) {
         Some(at) => (&text[..at], &text[at + 1..]),
@@ -52,7 +52,7 @@ fn round_in(text: &[u8]) -> Option<u32>
 }
 
 fn what_in(text: &[u8]) -> Option<Asked<'_>>
-    ensures { option_map seen_of result ≡ what_in text.now }
+    ensures { option_map typed_as_asked result ≡ what_in text.now }
 {
     match text {
         b"break" => Some(Asked::Break),
@@ -63,13 +63,13 @@ fn what_in(text: &[u8]) -> Option<Asked<'_>>
 }
 
 fn are_shown(text: &[u8]) -> bool
-    ensures { result ≡ list_all is_shown text.now }
+    ensures { result ≡ list_all is_text_character text.now }
 {
     text.iter().all(|b| 0x20 <= *b && *b <= 0x7E)
 }
 
 fn is_allowed(asked: Asked) -> bool
-    ensures { result ≡ is_allowed (seen_of asked.entry) }
+    ensures { result ≡ is_allowed (typed_as_asked asked.entry) }
 {
     match asked {
         Asked::Break => true,
@@ -79,8 +79,8 @@ fn is_allowed(asked: Asked) -> bool
 
 /// A copy of what is asked for.
 fn kept(alloc: Global, asked: Asked) -> Result<Typed, ScriptError>
-    requires { IsTrue (is_allowed (seen_of asked)) }
-    ensures ok { IfOk result (λ typed. typed ≡ seen_of asked.entry) }
+    requires { IsTrue (is_allowed (typed_as_asked asked)) }
+    ensures ok { IfOk result (λ typed. typed ≡ typed_as_asked asked.entry) }
     ensures err { IfErr result (λ e. e ≡ ScriptError.NoMemory) }
 {
     match asked {
@@ -102,14 +102,14 @@ fn fault(number: usize, kind: ScriptKind) -> ScriptError
 }
 
 /// The event that a line says, where the event before it is of the round `last`.
-#[tactic(auto, unfolding(crate::specs::Line::event_in))]
+#[tactic(auto, unfolding(crate::specs::EventLine::event_in))]
 pub(crate) fn read_event(
     alloc: Global,
     number: usize,
     last: u32,
     line: &[u8],
 ) -> Result<Event, ScriptError>
-    ensures { Reads (λ event. event) (told (at_line number (event_in last line.now))) result }
+    ensures { IsScriptAnswer (λ event. event) (reported_fault (at_script_line number (event_in last line.now))) result }
 {
     let (round, rest) = cut(line);
     let Some(round) = round_in(round) else {

@@ -2,9 +2,9 @@ ghost use Rattle.std.specs.List.{position};
 ghost use Rattle.std.specs.Prelude.{◌≡◌, ◌<◌, ◌==◌, ◌^◌, [], ◌∷◌, IfOk, IfSome, List, length};
 ghost use Rattle.std.specs.Option.{option_map_or};
 ghost use Rattle.std.specs.Str.Lines.{lines, strip_carriage_return};
-ghost use Rattle.sys_script.specs.Answers.{Reads};
+ghost use Rattle.sys_script.specs.Answers.{IsScriptAnswer};
 ghost use Rattle.sys_script.specs.Events.{AreEvents};
-ghost use Rattle.sys_script.specs.Script.{is_passed_over, script_of, told};
+ghost use Rattle.sys_script.specs.Script.{is_passed_over, reported_fault, script_of};
 ghost use Rattle.sys_script.specs.Written.{script_text};
 
 use crate::line::read_event;
@@ -50,8 +50,8 @@ pub fn is_passed_over(line: &[u8]) -> bool
 /// told as 2^32 - 1 where it is greater; a script of fewer than 2^32 bytes has no such line.
 #[tactic(auto, using(crate::proofs::Reading::begins))]
 pub fn read_script(alloc: Global, b: &[u8]) -> Result<Vec<Event>, ScriptError>
-    ensures exact { length b.now < 2 ^ 32 → Reads (λ events. events.items) (script_of b.now) result }
-    ensures any_length { Reads (λ events. events.items) (told (script_of b.now)) result }
+    ensures exact { length b.now < 2 ^ 32 → IsScriptAnswer (λ events. events.items) (script_of b.now) result }
+    ensures any_length { IsScriptAnswer (λ events. events.items) (reported_fault (script_of b.now)) result }
     ensures events { IfOk result (λ events. AreEvents events.items) }
 {
     let mut events = Vec::new(alloc);

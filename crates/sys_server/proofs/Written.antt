@@ -9,7 +9,7 @@ use Rattle.std.proofs.lemmas.Slice.Eq.{bytes_eq-Decides}
 use Rattle.std.specs.List.{join_with_byte}
 use Rattle.vv_base.specs.Names.{is_object_name}
 use Rattle.sys_server.proofs.Reading.{parts}
-use Rattle.sys_server.specs.Line.{Asks, IsAsked, IsName, access_in, access_text, asked_in, asked_of, asked_of_guest, asked_of_mount, behind_guest, behind_unit, unit_in, unit_text, words, words_of}
+use Rattle.sys_server.specs.CommandLine.{Asks, IsAsked, IsName, access_in, access_text, asked_after_guest, asked_after_unit, asked_in, asked_of, asked_of_guest, asked_of_mount, unit_in, unit_text, words, words_of}
 use Rattle.sys_server.specs.declared.command.Asked.{Asked}
 
 both : {A : Type 0} (b : Bool) → (b ≡ true → A) → (b ≡ false → A) → A
@@ -61,12 +61,12 @@ of_access verb vm unit n volume access named is few held = both (bytes_eq access
     (λ f. rw (e, f) (of_mount verb vm unit n volume access false named is few held (same access (codes "READ") f)))
     (λ f. rw (e, f) tt))
 
-of_dismount : (verb vm unit : List ℕ) (n : ℕ) → IsName vm → unit ≡ unit_text n → n < 4 → IfSome (behind_unit verb vm (Some n) []) (Says (verb ∷ vm ∷ unit ∷ []))
+of_dismount : (verb vm unit : List ℕ) (n : ℕ) → IsName vm → unit ≡ unit_text n → n < 4 → IfSome (asked_after_unit verb vm (Some n) []) (Says (verb ∷ vm ∷ unit ∷ []))
 of_dismount verb vm unit n named is few = both (bytes_eq verb (codes "DISMOUNT"))
     (λ e. let v = same verb (codes "DISMOUNT") e in rw e ((named, few), λ i. v i ∷ vm ∷ is i ∷ []))
     (λ e. rw e tt)
 
-of_unit : (verb vm unit : List ℕ) (n : ℕ) (more : List (List ℕ)) → IsName vm → unit ≡ unit_text n → n < 4 → IfSome (behind_unit verb vm (Some n) more) (Says (verb ∷ vm ∷ unit ∷ more))
+of_unit : (verb vm unit : List ℕ) (n : ℕ) (more : List (List ℕ)) → IsName vm → unit ≡ unit_text n → n < 4 → IfSome (asked_after_unit verb vm (Some n) more) (Says (verb ∷ vm ∷ unit ∷ more))
 of_unit verb vm unit n [] named is few = of_dismount verb vm unit n named is few
 of_unit verb vm unit n (volume ∷ []) named is few = tt
 of_unit verb vm unit n (volume ∷ access ∷ []) named is few = both (is_object_name volume)
@@ -74,11 +74,11 @@ of_unit verb vm unit n (volume ∷ access ∷ []) named is few = both (is_object
     (λ e. rw e tt)
 of_unit verb vm unit n (volume ∷ access ∷ next ∷ more) named is few = tt
 
-of_word : (verb vm unit : List ℕ) (more : List (List ℕ)) → IsName vm → (o : Option ℕ) → unit_in unit ≡ o → IfSome (behind_unit verb vm o more) (Says (verb ∷ vm ∷ unit ∷ more))
+of_word : (verb vm unit : List ℕ) (more : List (List ℕ)) → IsName vm → (o : Option ℕ) → unit_in unit ≡ o → IfSome (asked_after_unit verb vm o more) (Says (verb ∷ vm ∷ unit ∷ more))
 of_word verb vm unit more named None h = tt
 of_word verb vm unit more named (Some n) h = let is = unit_is unit n h in of_unit verb vm unit n more named is.0 is.1
 
-behind_name : (verb vm : List ℕ) (more : List (List ℕ)) → IsName vm → IfSome (behind_guest verb (Some vm) more) (Says (verb ∷ vm ∷ more))
+behind_name : (verb vm : List ℕ) (more : List (List ℕ)) → IsName vm → IfSome (asked_after_guest verb (Some vm) more) (Says (verb ∷ vm ∷ more))
 behind_name verb vm [] named = of_guest verb vm named
 behind_name verb vm (unit ∷ more) named = of_word verb vm unit more named (unit_in unit) refl
 

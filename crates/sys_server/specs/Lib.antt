@@ -1,4 +1,4 @@
-pub mod Line
+pub mod CommandLine
 pub mod Verdict
 pub mod Apply
 pub mod Replies

@@ -9,7 +9,7 @@ use Rattle.sys_objects.specs.declared.records.Config.{Config}
 use Rattle.sys_objects.specs.declared.records.GuestRow.{GuestRow}
 use Rattle.sys_objects.specs.declared.records.Mount.{Mount}
 use Rattle.sys_server.specs.Apply.{applied, taken}
-use Rattle.sys_server.specs.Line.{asked_in}
+use Rattle.sys_server.specs.CommandLine.{asked_in}
 use Rattle.sys_server.specs.Replies.{shown_lines}
 use Rattle.sys_server.specs.Verdict.{judged, verdict_of}
 use Rattle.sys_server.specs.declared.command.Command.TheVariants.{Connect, MountAt, Dismount}

@@ -17,14 +17,14 @@ use Rattle.sys_server.specs.declared.command.Rule.TheVariants.{Equal, Write}
 use Rattle.sys_server.specs.declared.command.ServerState.{ServerState}
 use Rattle.sys_server.specs.declared.command.Verdict.{Verdict}
 use Rattle.sys_server.specs.declared.command.Verdict.TheVariants.{Granted, BadCommand, NoSuchObject, Denied}
-use Rattle.sys_server.specs.Line.{asked_in}
+use Rattle.sys_server.specs.CommandLine.{asked_in}
 
 -- the place of the guest of a name that the class sees, and of the volume
-abbrev pub guest_place : List GuestRow → AccessClass → List ℕ → Option ℕ
-guest_place guests class name = position (λ g. bytes_eq g.name name && does_flow g.class class) guests
+abbrev pub visible_guest_place : List GuestRow → AccessClass → List ℕ → Option ℕ
+visible_guest_place guests class name = position (λ g. bytes_eq g.name name && does_flow g.class class) guests
 
-abbrev pub volume_place : List VolumeRow → AccessClass → List ℕ → Option ℕ
-volume_place volumes class name = position (λ v. bytes_eq v.name name && does_flow v.class class) volumes
+abbrev pub visible_volume_place : List VolumeRow → AccessClass → List ℕ → Option ℕ
+visible_volume_place volumes class name = position (λ v. bytes_eq v.name name && does_flow v.class class) volumes
 
 -- a command on a guest is granted where the guest is of the terminal's class
 abbrev pub on_row : AccessClass → Option GuestRow → Command → Verdict
@@ -61,11 +61,11 @@ on_dismount c s class None unit = NoSuchObject
 on_dismount c s class (Some g) unit = unless_empty (mount_at s g unit) (on_row class (slice_get c.guests g) (to.Dismount g unit))
 
 unfoldable pub judged : Config → ServerState → AccessClass → Asked → Verdict
-judged c s class (Connect vm) = on_guest c.guests class (guest_place c.guests class vm) to.Connect
-judged c s class (Start vm) = on_guest c.guests class (guest_place c.guests class vm) to.Start
-judged c s class (Halt vm) = on_guest c.guests class (guest_place c.guests class vm) to.Halt
-judged c s class (Mount vm unit volume write) = on_mount c class (guest_place c.guests class vm) unit (volume_place c.volumes class volume) write
-judged c s class (Dismount vm unit) = on_dismount c s class (guest_place c.guests class vm) unit
+judged c s class (Connect vm) = on_guest c.guests class (visible_guest_place c.guests class vm) to.Connect
+judged c s class (Start vm) = on_guest c.guests class (visible_guest_place c.guests class vm) to.Start
+judged c s class (Halt vm) = on_guest c.guests class (visible_guest_place c.guests class vm) to.Halt
+judged c s class (Mount vm unit volume write) = on_mount c class (visible_guest_place c.guests class vm) unit (visible_volume_place c.volumes class volume) write
+judged c s class (Dismount vm unit) = on_dismount c s class (visible_guest_place c.guests class vm) unit
 judged c s class Show = Granted to.Show
 
 -- a line of another form is no command

@@ -1,9 +1,9 @@
 ghost use Rattle.std.specs.Prelude.{◌≡◌, ◌<◌, ◌≤◌, ◌&&◌, IfSome, Some, bytes_eq, length, slice_get};
 ghost use Rattle.vv_class.specs.Class.{does_flow};
 ghost use Rattle.sys_server.specs.Apply.{HasPlaces, MayApply};
-ghost use Rattle.sys_server.specs.Line.{IsAsked};
+ghost use Rattle.sys_server.specs.CommandLine.{IsAsked};
 ghost use Rattle.sys_server.specs.Replies.{reply_of};
-ghost use Rattle.sys_server.specs.Verdict.{guest_place, judged, on_dismount, on_mount, on_row, on_rows, unless_empty, verdict_of, volume_place};
+ghost use Rattle.sys_server.specs.Verdict.{judged, on_dismount, on_mount, on_row, on_rows, unless_empty, verdict_of, visible_guest_place, visible_volume_place};
 
 use crate::line::asked_in;
 use crate::{Asked, Command, Rule, ServerState, Verdict};
@@ -18,7 +18,7 @@ fn is_seen_guest(g: &GuestRow, class: &AccessClass, name: &Name) -> bool
 }
 
 fn first_guest(guests: &[GuestRow], class: &AccessClass, name: &Name) -> Option<usize>
-    ensures value { result ≡ guest_place guests.now class.now name.now }
+    ensures value { result ≡ visible_guest_place guests.now class.now name.now }
     ensures within { IfSome result (λ i. i < length guests.now) }
 {
     guests.iter().position(|g| is_seen_guest(g, class, name))
@@ -27,7 +27,7 @@ fn first_guest(guests: &[GuestRow], class: &AccessClass, name: &Name) -> Option<
 /// The place of the guest of a name that the class sees.
 fn guest_place(guests: &[GuestRow], class: &AccessClass, name: &Name) -> Option<u8>
     requires { length guests.now ≤ 16 }
-    ensures value { result ≡ guest_place guests.now class.now name.now }
+    ensures value { result ≡ visible_guest_place guests.now class.now name.now }
     ensures within { IfSome result (λ g. g < 16) }
 {
     match first_guest(guests, class, name) {
@@ -43,7 +43,7 @@ fn is_seen_volume(v: &VolumeRow, class: &AccessClass, name: &Name) -> bool
 }
 
 fn first_volume(volumes: &[VolumeRow], class: &AccessClass, name: &Name) -> Option<usize>
-    ensures value { result ≡ volume_place volumes.now class.now name.now }
+    ensures value { result ≡ visible_volume_place volumes.now class.now name.now }
     ensures within { IfSome result (λ i. i < length volumes.now) }
 {
     volumes.iter().position(|v| is_seen_volume(v, class, name))
@@ -52,7 +52,7 @@ fn first_volume(volumes: &[VolumeRow], class: &AccessClass, name: &Name) -> Opti
 /// The place of the volume of a name that the class sees.
 fn volume_place(volumes: &[VolumeRow], class: &AccessClass, name: &Name) -> Option<u8>
     requires { length volumes.now ≤ 16 }
-    ensures { result ≡ volume_place volumes.now class.now name.now }
+    ensures { result ≡ visible_volume_place volumes.now class.now name.now }
 {
     match first_volume(volumes, class, name) {
         Some(place) => Some(place as u8),

@@ -1,6 +1,6 @@
 ghost use Rattle.std.specs.Prelude.{◌≡◌, ◌==◌, ◌<◌, ◌∷◌, [], IfSome, List, ℕ, Some, bytes_eq, length, position};
 ghost use Rattle.std.specs.Option.{option_copied};
-ghost use Rattle.sys_server.specs.Line.{Asks, access_in, asked_in, asked_of, asked_of_guest, asked_of_mount, behind_guest, behind_unit, rest_words, unit_in, words};
+ghost use Rattle.sys_server.specs.CommandLine.{Asks, access_in, asked_after_guest, asked_after_unit, asked_in, asked_of, asked_of_guest, asked_of_mount, rest_words, unit_in, words};
 ghost use Rattle.sys_server.specs.declared.command.Asked.{Asked as Question};
 
 use crate::Asked;
@@ -70,7 +70,7 @@ fn asked_of_mount(
 }
 
 fn asked_of_dismount(verb: &[u8], vm: Name, unit: u8) -> Option<Asked>
-    ensures { result ≡ behind_unit verb.now vm (Some unit) [] }
+    ensures { result ≡ asked_after_unit verb.now vm (Some unit) [] }
 {
     if is_word(verb, b"DISMOUNT") {
         Some(Asked::Dismount(vm, unit))
@@ -81,7 +81,7 @@ fn asked_of_dismount(verb: &[u8], vm: Name, unit: u8) -> Option<Asked>
 
 /// What is asked where a guest and a unit are named, and these words follow.
 fn behind_unit(verb: &[u8], vm: Name, unit: u8, rest: Option<&[u8]>) -> Option<Asked>
-    ensures { result ≡ behind_unit verb.now vm (Some unit) (rest_words (option_copied rest.entry)) }
+    ensures { result ≡ asked_after_unit verb.now vm (Some unit) (rest_words (option_copied rest.entry)) }
 {
     let Some(rest) = rest else {
         return asked_of_dismount(verb, vm, unit);
@@ -110,7 +110,7 @@ fn asked_of_guest(verb: &[u8], vm: Name) -> Option<Asked>
 
 /// What is asked where a guest is named, and these words follow.
 fn behind_guest(verb: &[u8], vm: Name, rest: Option<&[u8]>) -> Option<Asked>
-    ensures { result ≡ behind_guest verb.now (Some vm) (rest_words (option_copied rest.entry)) }
+    ensures { result ≡ asked_after_guest verb.now (Some vm) (rest_words (option_copied rest.entry)) }
 {
     let Some(rest) = rest else {
         return asked_of_guest(verb, vm);
@@ -129,7 +129,7 @@ fn asked_alone(verb: &[u8]) -> Option<Asked>
     }
 }
 
-#[tactic(auto, unfolding(crate::specs::Line::asked_in))]
+#[tactic(auto, unfolding(crate::specs::CommandLine::asked_in))]
 fn read(text: &[u8]) -> Option<Asked>
     ensures { result ≡ asked_in text.now }
 {

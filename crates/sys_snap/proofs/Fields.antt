@@ -6,7 +6,7 @@ use Rattle.std.proofs.lemmas.List.{take_at, drop_at, length-append, length-repli
 use Rattle.std.proofs.lemmas.Bool.{false≢true, le-leb, ne_eqb}
 use Rattle.std.proofs.lemmas.List.Elements.{All-head, All-tail}
 use Rattle.vv_base.specs.Bytes.{long_at, long_bytes, word_at, word_bytes}
-use Rattle.sys_snap.specs.Reading.{Got, Reading, Rest, ◌>>=◌, done, field, flag, flag_if, four, goes_on, number_if, one, times, two}
+use Rattle.sys_snap.specs.Reading.{Got, Reading, Rest, ◌>>=◌, done, field, flag, flag_if, four, continued_by, number_if, one, times, two}
 use Rattle.sys_snap.specs.Conditions.{any, is_packet}
 use Rattle.sys_snap.specs.Reader.{halt_in, longs_in, packets_in, waiting_in}
 use Rattle.sys_snap.specs.Written.{flag_byte, longs, place_byte}
@@ -29,14 +29,14 @@ reads_then p f v w x y first second = record {
   reads = λ at rest.
       let place : (at + length v) + length w ≡ at + length (v ++ w) = omega (arith, length-append v w) in
       ap (λ bytes. (p >>= f) (rest_at at bytes)) (append_assoc v w rest)
-      ∙ ap (goes_on f) (first.reads at (w ++ rest))
+      ∙ ap (continued_by f) (first.reads at (w ++ rest))
       ∙ second.reads (at + length v) rest
       ∙ ap (λ k. got y k rest) place;
 }
 
 -- the last of several
 pub reads_last : {A B : Type 0} (p : Reading A) (f : A → B) (v : List ℕ) (x : A) → ReadsAs p v x → ReadsAs (p >>= λ y. done (f y)) v (f x)
-reads_last p f v x first = record { reads = λ at rest. ap (goes_on (λ y. done (f y))) (first.reads at rest) }
+reads_last p f v x first = record { reads = λ at rest. ap (continued_by (λ y. done (f y))) (first.reads at rest) }
 
 pub reads_field : {A : Type 0} (size : ℕ) (meaning : List ℕ → Option A) (w : List ℕ) (value : A) → length w ≡ size → meaning w ≡ Some value → ReadsAs (field size meaning) w value
 reads_field size meaning w value long means = record {

@@ -8,7 +8,7 @@ use Rattle.std.proofs.lemmas.List.Elements.{All-cons, All-head, All-nil, All-tai
 use Rattle.vv_base.specs.Bytes.{long_at, long_bytes, word_at, word_bytes}
 use Rattle.sys_snap.specs.Conditions.{any, is_packet}
 use Rattle.sys_snap.specs.Reader.{halt_in, longs_in, packets_in, waiting_in}
-use Rattle.sys_snap.specs.Reading.{Got, Reading, Rest, ◌>>=◌, done, each, fault_at, field, flag, flag_if, four, goes_on, meant, number_if, one, times, two}
+use Rattle.sys_snap.specs.Reading.{Got, Reading, Rest, ◌>>=◌, done, each, fault_at, field, flag, flag_if, four, continued_by, field_meaning, number_if, one, times, two}
 use Rattle.sys_snap.specs.Written.{flag_byte, longs, place_byte}
 use Rattle.sys_snap.specs.declared.fault.SnapFault.{SnapFault}
 use Rattle.vm_state.specs.Allowed.{IsPacket}
@@ -40,7 +40,7 @@ further : {A B : Type 0} (V : List ℕ → A → Type 0) (U : List ℕ → B →
 further V U bytes g t (Err e) h = tt
 further V U bytes g t (Ok k) h = record { taken = t.taken ++ h.taken; is = t.is ∙ ap (λ bs. t.taken ++ bs) h.is ∙ sym (append_assoc t.taken h.taken k.rest.bytes); means = h.means }
 
-then_took : {A B : Type 0} (f : A → Reading B) (V : List ℕ → A → Type 0) (U : List ℕ → B → Type 0) (bytes : List ℕ) → AreBytes bytes → ((x : A) (v : List ℕ) → V v x → Gives (f x) (λ w y. U (v ++ w) y)) → (q : Result (Got A) SnapFault) → IfOk q (Took V bytes) → IfOk (goes_on f q) (Took U bytes)
+then_took : {A B : Type 0} (f : A → Reading B) (V : List ℕ → A → Type 0) (U : List ℕ → B → Type 0) (bytes : List ℕ) → AreBytes bytes → ((x : A) (v : List ℕ) → V v x → Gives (f x) (λ w y. U (v ++ w) y)) → (q : Result (Got A) SnapFault) → IfOk q (Took V bytes) → IfOk (continued_by f q) (Took U bytes)
 then_took f V U bytes are next (Err e) t = tt
 then_took f V U bytes are next (Ok g) t =
     let left : AreBytes g.rest.bytes = left_are t.taken g.rest.bytes (subst AreBytes t.is are) in
@@ -56,7 +56,7 @@ pub gives_done : {A : Type 0} (x : A) (U : List ℕ → A → Type 0) → U [] x
 gives_done x U means = record { gives = λ r are. record { taken = []; is = refl; means = means } }
 
 -- the last of several
-last_took : {A B : Type 0} (f : A → B) (V : List ℕ → A → Type 0) (U : List ℕ → B → Type 0) (bytes : List ℕ) → ((x : A) (v : List ℕ) → V v x → U v (f x)) → (q : Result (Got A) SnapFault) → IfOk q (Took V bytes) → IfOk (goes_on (λ y. done (f y)) q) (Took U bytes)
+last_took : {A B : Type 0} (f : A → B) (V : List ℕ → A → Type 0) (U : List ℕ → B → Type 0) (bytes : List ℕ) → ((x : A) (v : List ℕ) → V v x → U v (f x)) → (q : Result (Got A) SnapFault) → IfOk q (Took V bytes) → IfOk (continued_by (λ y. done (f y)) q) (Took U bytes)
 last_took f V U bytes last (Err e) t = tt
 last_took f V U bytes last (Ok g) t = record { taken = t.taken; is = t.is; means = last g.value t.taken t.means }
 
@@ -72,13 +72,13 @@ pub gives_weaker : {A : Type 0} (p : Reading A) (V U : List ℕ → A → Type 0
 gives_weaker p V U first so = record { gives = λ r are. weaker_took V U r.bytes so (p r) (first.gives r are) }
 
 -- a field
-meant_took : {A : Type 0} (size : ℕ) (U : List ℕ → A → Type 0) (r : Rest) (o : Option A) → IfSome o (U (take size r.bytes)) → IfOk (meant size r o) (Took U r.bytes)
+meant_took : {A : Type 0} (size : ℕ) (U : List ℕ → A → Type 0) (r : Rest) (o : Option A) → IfSome o (U (take size r.bytes)) → IfOk (field_meaning size r o) (Took U r.bytes)
 meant_took size U r None means = tt
 meant_took size U r (Some x) means = record { taken = take size r.bytes; is = sym (take-append-drop size r.bytes); means = means }
 
 pub gives_field : {A : Type 0} (size : ℕ) (meaning : List ℕ → Option A) (U : List ℕ → A → Type 0) → ((w : List ℕ) → length w ≡ size → AreBytes w → IfSome (meaning w) (U w)) → Gives (field size meaning) U
 gives_field size meaning U means = record {
-  gives = λ r are. cond_both (nat_le size (length r.bytes)) (meant size r (meaning (take size r.bytes))) (fault_at r.at) (λ q. IfOk q (Took U r.bytes))
+  gives = λ r are. cond_both (nat_le size (length r.bytes)) (field_meaning size r (meaning (take size r.bytes))) (fault_at r.at) (λ q. IfOk q (Took U r.bytes))
       (λ enough.
       let long : length (take size r.bytes) ≡ size = length-take-le size r.bytes (leb-true size (length r.bytes) enough) in
       meant_took size U r (meaning (take size r.bytes)) (means (take size r.bytes) long (All-take (λ b. b < 256) size r.bytes are)))

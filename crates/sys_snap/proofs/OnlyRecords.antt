@@ -7,13 +7,13 @@ use Rattle.vv_base.specs.Bits.{is_set}
 use Rattle.vv_base.specs.Bytes.{long_bytes, word_bytes}
 use Rattle.sys_snap.proofs.OnlyFields.{AreSo, By, Gives, IsLong, Passes, gives_flag, gives_four, gives_halt, gives_last, gives_longs, gives_next, gives_one, gives_packets, gives_two, gives_waiting}
 use Rattle.sys_snap.specs.Conditions.{any, is_iccs, is_p0br, is_psl, needs}
-use Rattle.sys_snap.specs.Reader.{Bases, End, Levels, Queue, Registers, bases_in, clock_in, console_in, either, end_in, halt_in, is_count, levels_in, longs_in, made_of, packets_in, queue_in, record_in, registers_in, waiting_in}
+use Rattle.sys_snap.specs.Reader.{Bases, End, Levels, Queue, Registers, bases_in, clock_in, console_reading, either, end_in, halt_in, is_count, levels_in, longs_in, made_of, packets_in, queue_in, record_in, registers_in, waiting_in}
 use Rattle.sys_snap.specs.Reading.{field, flag, four, one, two}
 use Rattle.sys_snap.specs.Snap.{IsRecord}
-use Rattle.sys_snap.specs.Written.{clock_bytes, console_bytes, flag_byte, longs, place_byte, record_of}
+use Rattle.sys_snap.specs.Written.{clock_bytes, console_bytes, flag_byte, guest_record_bytes, longs, place_byte}
 use Rattle.vax_arch.specs.Rei.{has_must_be_zero_bit}
 use Rattle.vm_clock.specs.Clock.{ClockState, iccs_of}
-use Rattle.vm_clock.specs.Parts.{IsClock, parts_of, state_of}
+use Rattle.vm_clock.specs.Parts.{IsClock, clock_of_parts, parts_of_clock}
 use Rattle.vm_clock.specs.declared.ClockParts.{ClockParts}
 use Rattle.vm_console.specs.Console.{ConsoleState, IsConsole}
 use Rattle.vm_state.specs.Allowed.{Allows, IsPacket}
@@ -93,7 +93,7 @@ set_bit zero short = refl
 set_bit (suc zero) short = refl
 set_bit (suc (suc n)) short = absurd (omega (arith, short))
 
-iccs_back : (parts : ClockParts) → is_iccs parts.iccs ≡ true → parts.iccs < 2 ^ 32 → iccs_of (state_of parts) ≡ parts.iccs
+iccs_back : (parts : ClockParts) → is_iccs parts.iccs ≡ true → parts.iccs < 2 ^ 32 → iccs_of (clock_of_parts parts) ≡ parts.iccs
 iccs_back parts passes short =
     let v : ℕ = parts.iccs in
     let clear : ((parts.iccs / 2 % 2 ^ 5 == 0) ≡ true) × ((parts.iccs / 2 ^ 8 % 2 ^ 23 == 0) ≡ true) = and_parts (parts.iccs / 2 % 2 ^ 5 == 0) (parts.iccs / 2 ^ 8 % 2 ^ 23 == 0) passes in
@@ -114,15 +114,15 @@ is_clock parts passes needed =
       enabled = needs_means (is_set parts.iccs 6) parts.request needed;
     }
 
-gives_clock : Gives clock_in (By clock_bytes (λ c. IsClock (parts_of c)))
+gives_clock : Gives clock_in (By clock_bytes (λ c. IsClock (parts_of_clock c)))
 gives_clock =
     gives_next (four is_iccs) _ long_bytes (IsLong is_iccs) _ (gives_four is_iccs) (λ iccs k0.
     gives_next (four any) _ long_bytes (IsLong any) _ (gives_four any) (λ nicr k1.
     gives_next (four any) _ long_bytes (IsLong any) _ (gives_four any) (λ icr k2.
     gives_last (flag (needs (is_set iccs 6))) _ flag_byte (λ f. needs (is_set iccs 6) f ≡ true) _ (gives_flag (needs (is_set iccs 6))) (λ request k3.
     let parts : ClockParts = record { iccs = iccs; nicr = nicr; icr = icr; request = request } in
-    let back : iccs ≡ iccs_of (state_of parts) = sym (iccs_back parts k0.passes k0.short) in
-    let same : parts ≡ parts_of (state_of parts) = λ i. record { iccs = back i; nicr = nicr; icr = icr; request = request } in
+    let back : iccs ≡ iccs_of (clock_of_parts parts) = sym (iccs_back parts k0.passes k0.short) in
+    let same : parts ≡ parts_of_clock (clock_of_parts parts) = λ i. record { iccs = back i; nicr = nicr; icr = icr; request = request } in
     (ap (λ k. long_bytes k ++ (long_bytes nicr ++ (long_bytes icr ++ flag_byte request))) back, subst IsClock same (is_clock parts k0.passes k3))))))
 
 -- a console
@@ -136,7 +136,7 @@ record IsConsoleOf (console : ConsoleState) : Type 0 where
   is : IsConsole console
   few : length console.waiting ≤ 256
 
-gives_console : Gives console_in (By console_bytes IsConsoleOf)
+gives_console : Gives console_reading (By console_bytes IsConsoleOf)
 gives_console =
     gives_next (flag either) _ flag_byte (λ f. either f ≡ true) _ (gives_flag either) (λ rx_enable k0.
     gives_next (flag either) _ flag_byte (λ f. either f ≡ true) _ (gives_flag either) (λ tx_enable k1.
@@ -192,7 +192,7 @@ pub record IsRecordOf (size : ℕ) (faults : Bool) (s : State) : Type 0 where
   pub is : IsRecord size s
   pub modify_faults : s.modify_faults ≡ faults
 
-is_record : (size : ℕ) (modify_faults : Bool) (a : Registers) (b : Bases) (l : Levels) (clock : ClockState) (console : ConsoleState) (q : Queue) (e : End) → AreRegisters a → AreBases b → AreLevels l → IsClock (parts_of clock) → IsConsoleOf console → IsQueue size q → IsHalt e.halt → IsRecordOf size modify_faults (made_of modify_faults a b l clock console q e)
+is_record : (size : ℕ) (modify_faults : Bool) (a : Registers) (b : Bases) (l : Levels) (clock : ClockState) (console : ConsoleState) (q : Queue) (e : End) → AreRegisters a → AreBases b → AreLevels l → IsClock (parts_of_clock clock) → IsConsoleOf console → IsQueue size q → IsHalt e.halt → IsRecordOf size modify_faults (made_of modify_faults a b l clock console q e)
 is_record size modify_faults a b l clock console q e k0 k1 k2 k3 k4 k5 k6 = record {
   is = record {
     sound = record { sixteen = k0.sixteen; five = k0.five; clock = k3; console = k4.is; few_bytes = k4.few };
@@ -216,14 +216,14 @@ is_record size modify_faults a b l clock console q e k0 k1 k2 k3 k4 k5 k6 = reco
   modify_faults = refl;
 }
 
-pub gives_record : (size : ℕ) (modify_faults : Bool) → Gives (record_in size modify_faults) (By record_of (IsRecordOf size modify_faults))
-unfolding record_in record_of
+pub gives_record : (size : ℕ) (modify_faults : Bool) → Gives (record_in size modify_faults) (By guest_record_bytes (IsRecordOf size modify_faults))
+unfolding record_in guest_record_bytes
 gives_record size modify_faults =
     gives_next registers_in _ registers_written AreRegisters _ gives_registers (λ a k0.
     gives_next bases_in _ bases_written AreBases _ gives_bases (λ b k1.
     gives_next levels_in _ levels_written AreLevels _ gives_levels (λ l k2.
-    gives_next clock_in _ clock_bytes (λ c. IsClock (parts_of c)) _ gives_clock (λ clock k3.
-    gives_next console_in _ console_bytes IsConsoleOf _ gives_console (λ console k4.
+    gives_next clock_in _ clock_bytes (λ c. IsClock (parts_of_clock c)) _ gives_clock (λ clock k3.
+    gives_next console_reading _ console_bytes IsConsoleOf _ gives_console (λ console k4.
     gives_next (queue_in size) _ queue_written (IsQueue size) _ (gives_queue size) (λ q k5.
     gives_last end_in _ end_written (λ e. IsHalt e.halt) _ gives_end (λ e k6.
     (refl, is_record size modify_faults a b l clock console q e k0 k1 k2 k3 k4 k5 k6))))))))

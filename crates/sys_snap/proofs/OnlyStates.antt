@@ -15,24 +15,24 @@ use Rattle.sys_objects.specs.declared.records.Config.{Config}
 use Rattle.sys_objects.specs.declared.records.GuestRow.{GuestRow}
 use Rattle.sys_objects.specs.declared.records.Mount.{Mount}
 use Rattle.sys_objects.specs.declared.records.VolumeRow.{VolumeRow}
-use Rattle.sys_rounds.specs.Run.{Moment}
-use Rattle.sys_rounds.specs.State.{State as SystemState}
+use Rattle.sys_state.specs.Run.{Moment}
+use Rattle.sys_state.specs.State.{SystemState}
 use Rattle.sys_snap.proofs.OnlyFields.{AreBytes, AreSo, By, Gives, IsLong, Took, all_are, gives_each, gives_field, gives_four, gives_last, gives_next, gives_times, gives_weaker, left_are}
 use Rattle.sys_snap.proofs.OnlyRecords.{IsRecordOf, gives_record}
 use Rattle.sys_snap.proofs.States.{reads_each_snapshot}
 use Rattle.sys_snap.specs.Conditions.{may_all_sit}
 use Rattle.sys_snap.specs.Laws.{AreOfOneMoment, ReadsOnlySnaps, RefusedAreNone}
-use Rattle.sys_snap.specs.Reader.{accepted, all_bytes, at_end, cut_blocks, guest_in, head_in, moment_in, mount_if, nothing, pair_in, record_in, seat_of, seats_in, snap_in, state_in, units_in, value_of, volume_in}
-use Rattle.sys_snap.specs.Reading.{Got, Reading, Rest, ◌>>=◌, done, each, field, four, goes_on}
+use Rattle.sys_snap.specs.Reader.{accepted_config, all_bytes, at_end, cut_blocks, guest_reading, head_in, moment_got, moment_in, mount_if, nothing, pair_in, record_in, seated_guest, seats_in, snap_in, state_in, units_in, volume_in}
+use Rattle.sys_snap.specs.Reading.{Got, Reading, Rest, ◌>>=◌, done, each, field, four, continued_by}
 use Rattle.sys_snap.specs.Snap.{AreUnitsOf, IsGuestOf, IsSnap, IsVolumeOf}
-use Rattle.sys_snap.specs.Written.{guest_bytes, mount_bytes, place_byte, record_of, seat_bytes, snap_head, state_bytes}
+use Rattle.sys_snap.specs.Written.{guest_bytes, guest_record_bytes, mount_bytes, place_byte, seat_bytes, snap_head, state_bytes}
 use Rattle.sys_snap.specs.declared.fault.SnapFault.{SnapFault}
 
 -- guests
-gives_guest : (row : GuestRow) → Gives (guest_in row) (By guest_bytes (IsGuestOf row))
-unfolding guest_in
+gives_guest : (row : GuestRow) → Gives (guest_reading row) (By guest_bytes (IsGuestOf row))
+unfolding guest_reading
 gives_guest row =
-    gives_next (record_in (512 * row.pages) row.modify_faults) _ record_of (IsRecordOf (512 * row.pages) row.modify_faults) _ (gives_record (512 * row.pages) row.modify_faults) (λ state k0.
+    gives_next (record_in (512 * row.pages) row.modify_faults) _ guest_record_bytes (IsRecordOf (512 * row.pages) row.modify_faults) _ (gives_record (512 * row.pages) row.modify_faults) (λ state k0.
     gives_last (field (512 * row.pages) all_bytes) _ (λ memory. memory) (λ memory. length memory ≡ 512 * row.pages) _
     (gives_field (512 * row.pages) all_bytes _ (λ w long are. (refl, long))) (λ memory long.
     (refl, record { size = long; modify_faults = k0.modify_faults; is = k0.is })))
@@ -84,11 +84,11 @@ gives_volume row = gives_field (512 * row.blocks) (λ bytes. Some (cut_blocks ro
     let cut = cut_is row.blocks w long in (cut.0, record { many = cut.1; long = cut.2 }))
 
 -- the 32 places
-place_back : (bytes : List ℕ) → bytes ≡ map place_byte (map seat_of bytes)
+place_back : (bytes : List ℕ) → bytes ≡ map place_byte (map seated_guest bytes)
 place_back [] = refl
 place_back (b ∷ bytes) =
-    let own : b ≡ place_byte (seat_of b) = cond_both (b == 255) None (Some b) (λ o. b ≡ place_byte o) (λ is. eqb-true b 255 is) (λ other. refl) in
-    let rest : bytes ≡ map place_byte (map seat_of bytes) = place_back bytes in
+    let own : b ≡ place_byte (seated_guest b) = cond_both (b == 255) None (Some b) (λ o. b ≡ place_byte o) (λ is. eqb-true b 255 is) (λ other. refl) in
+    let rest : bytes ≡ map place_byte (map seated_guest bytes) = place_back bytes in
     λ i. own i ∷ rest i
 
 abbrev MaySit : Config → List (Option ℕ) → Type 0
@@ -99,12 +99,12 @@ gives_seats c = gives_field 32 (seats_in c) (By seat_bytes (MaySit c)) (λ w lon
     let n : ℕ = length c.terminals in
     let front : List ℕ = take (length c.terminals) w in
     let back : List ℕ = drop (length c.terminals) w in
-    let seats : List (Option ℕ) = map seat_of (take (length c.terminals) w) in
+    let seats : List (Option ℕ) = map seated_guest (take (length c.terminals) w) in
     cond_both (may_all_sit c.guests c.terminals seats && list_all (λ b. b == 255) back) (Some seats) None (λ o. IfSome o (By seat_bytes (MaySit c) w))
     (λ passes.
     let parts : (may_all_sit c.guests c.terminals seats ≡ true) × (list_all (λ b. b == 255) back ≡ true) = and_parts (may_all_sit c.guests c.terminals seats) (list_all (λ b. b == 255) back) passes in
     let none : back ≡ replicate (length back) 255 = all_are 255 back parts.1 in
-    let many : length back ≡ 32 - length seats = omega (arith, length-drop (length c.terminals) w, length-take (length c.terminals) w, length-map front seat_of, long) in
+    let many : length back ≡ 32 - length seats = omega (arith, length-drop (length c.terminals) w, length-take (length c.terminals) w, length-map front seated_guest, long) in
     let tail : back ≡ replicate (32 - length seats) 255 = none ∙ ap (λ k. replicate k 255) many in
     let own : front ≡ map place_byte seats = place_back front in
     (sym (take-append-drop (length c.terminals) w) ∙ ap (λ bs. bs ++ back) own ∙ ap (λ bs. map place_byte seats ++ bs) tail, parts.0))
@@ -123,7 +123,7 @@ gives_state c =
     gives_next (field 32 (seats_in c)) _ seat_bytes (MaySit c) _ (gives_seats c) (λ connected k0.
     gives_next (each (units_in c.volumes) c.guests) _ (λ mounts. flat_map (λ units. flat_map mount_bytes units) mounts) (AllZip (AreUnitsOf c.volumes) c.guests) _
     (gives_each (units_in c.volumes) (λ units. flat_map mount_bytes units) (AreUnitsOf c.volumes) (gives_units c.volumes) c.guests) (λ mounts k1.
-    gives_next (each guest_in c.guests) _ (λ guests. flat_map guest_bytes guests) (AllZip IsGuestOf c.guests) _ (gives_each guest_in guest_bytes IsGuestOf gives_guest c.guests) (λ guests k2.
+    gives_next (each guest_reading c.guests) _ (λ guests. flat_map guest_bytes guests) (AllZip IsGuestOf c.guests) _ (gives_each guest_reading guest_bytes IsGuestOf gives_guest c.guests) (λ guests k2.
     gives_last (each volume_in c.volumes) _ (λ volumes. flat_map joined volumes) (AllZip IsVolumeOf c.volumes) _ (gives_each volume_in joined IsVolumeOf gives_volume c.volumes) (λ volumes k3.
     (refl, record { seated = k0; mounted = k1; guests = k2; volumes = k3 })))))
 
@@ -131,7 +131,7 @@ gives_state c =
 record Ends {A : Type 0} (p : Reading A) (U : List ℕ → A → Type 0) : Type 0 where
   ends : (r : Rest) → AreBytes r.bytes → IfOk (p r) (λ g. U r.bytes g.value)
 
-then_ends : {A B : Type 0} (f : A → Reading B) (V : List ℕ → A → Type 0) (U : List ℕ → B → Type 0) (bytes : List ℕ) → AreBytes bytes → ((x : A) (v : List ℕ) → V v x → Ends (f x) (λ w y. U (v ++ w) y)) → (q : Result (Got A) SnapFault) → IfOk q (Took V bytes) → IfOk (goes_on f q) (λ g. U bytes g.value)
+then_ends : {A B : Type 0} (f : A → Reading B) (V : List ℕ → A → Type 0) (U : List ℕ → B → Type 0) (bytes : List ℕ) → AreBytes bytes → ((x : A) (v : List ℕ) → V v x → Ends (f x) (λ w y. U (v ++ w) y)) → (q : Result (Got A) SnapFault) → IfOk q (Took V bytes) → IfOk (continued_by f q) (λ g. U bytes g.value)
 then_ends f V U bytes are next (Err e) t = tt
 then_ends f V U bytes are next (Ok g) t =
     let left : AreBytes g.rest.bytes = left_are t.taken g.rest.bytes (subst AreBytes t.is are) in
@@ -143,11 +143,11 @@ ends_then p f V U first next = record { ends = λ r are. then_ends f V U r.bytes
 ends_next : {A B : Type 0} (p : Reading A) (f : A → Reading B) (write : A → List ℕ) (R : A → Type 0) (U : List ℕ → B → Type 0) → Gives p (By write R) → ((x : A) → R x → Ends (f x) (λ w y. U (write x ++ w) y)) → Ends (p >>= f) U
 ends_next p f write R U first next = ends_then p f (By write R) U first (λ x v h. subst (λ bs. Ends (f x) (λ w y. U (bs ++ w) y)) (sym h.0) (next x h.1))
 
-nothing_left : {B : Type 0} (y : B) (U : List ℕ → B → Type 0) (bytes taken left : List ℕ) (at : ℕ) → bytes ≡ taken ++ left → U taken y → IfOk (goes_on (λ end. done y) (nothing left at)) (λ g. U bytes g.value)
+nothing_left : {B : Type 0} (y : B) (U : List ℕ → B → Type 0) (bytes taken left : List ℕ) (at : ℕ) → bytes ≡ taken ++ left → U taken y → IfOk (continued_by (λ end. done y) (nothing left at)) (λ g. U bytes g.value)
 nothing_left y U bytes taken [] at is means = subst (λ bs. U bs y) (sym (is ∙ append-nil taken)) means
 nothing_left y U bytes taken (b ∷ left) at is means = tt
 
-last_ends : {A B : Type 0} (f : A → B) (V : List ℕ → A → Type 0) (U : List ℕ → B → Type 0) (bytes : List ℕ) → ((x : A) (v : List ℕ) → V v x → U v (f x)) → (q : Result (Got A) SnapFault) → IfOk q (Took V bytes) → IfOk (goes_on (λ y. at_end >>= λ end. done (f y)) q) (λ g. U bytes g.value)
+last_ends : {A B : Type 0} (f : A → B) (V : List ℕ → A → Type 0) (U : List ℕ → B → Type 0) (bytes : List ℕ) → ((x : A) (v : List ℕ) → V v x → U v (f x)) → (q : Result (Got A) SnapFault) → IfOk q (Took V bytes) → IfOk (continued_by (λ y. at_end >>= λ end. done (f y)) q) (λ g. U bytes g.value)
 last_ends f V U bytes last (Err e) t = tt
 last_ends f V U bytes last (Ok g) t = nothing_left (f g.value) U bytes t.taken g.rest.bytes g.rest.at t.is (last g.value t.taken t.means)
 
@@ -163,12 +163,12 @@ record IsTextOf (n : ℕ) (text : List ℕ) (c : Config) : Type 0 where
   long : length text ≡ n
   means : config_of text ≡ Ok c
 
-accepted_means : (n : ℕ) (text : List ℕ) → length text ≡ n → (q : Result Config ConfigFault) → config_of text ≡ q → IfSome (accepted q) (IsTextOf n text)
+accepted_means : (n : ℕ) (text : List ℕ) → length text ≡ n → (q : Result Config ConfigFault) → config_of text ≡ q → IfSome (accepted_config q) (IsTextOf n text)
 accepted_means n text long (Ok c) means = record { long = long; means = means }
 accepted_means n text long (Err fault) means = tt
 
-gives_text : (n : ℕ) → Gives (field n (λ text. accepted (config_of text))) (IsTextOf n)
-gives_text n = gives_field n (λ text. accepted (config_of text)) (IsTextOf n) (λ w long are. accepted_means n w long (config_of w) refl)
+gives_text : (n : ℕ) → Gives (field n (λ text. accepted_config (config_of text))) (IsTextOf n)
+gives_text n = gives_field n (λ text. accepted_config (config_of text)) (IsTextOf n) (λ w long are. accepted_means n w long (config_of w) refl)
 
 -- a snapshot
 ends_moment : Ends moment_in IsSnap
@@ -176,7 +176,7 @@ unfolding moment_in
 ends_moment =
     ends_next (field 8 head_in) _ (λ head. snap_head) (λ head. Unit {0}) _ gives_head (λ head k0.
     ends_next (four (λ n. nat_le n 262144)) _ long_bytes (IsLong (λ n. nat_le n 262144)) _ (gives_four (λ n. nat_le n 262144)) (λ n k1.
-    ends_then (field n (λ text. accepted (config_of text))) _ (IsTextOf n) _ (gives_text n) (λ c text k2.
+    ends_then (field n (λ text. accepted_config (config_of text))) _ (IsTextOf n) _ (gives_text n) (λ c text k2.
     ends_next (four (λ n. nat_le n 1000000)) _ long_bytes (IsLong (λ n. nat_le n 1000000)) _ (gives_four (λ n. nat_le n 1000000)) (λ made k3.
     ends_last (state_in c) _ state_bytes (IsStateOf c) _ (gives_state c) (λ state k4.
     record {
@@ -191,7 +191,7 @@ moment_or : Moment → Result Moment SnapFault → Moment
 moment_or other (Ok m) = m
 moment_or other (Err fault) = other
 
-of_value : (bytes : List ℕ) (m : Moment) (q : Result (Got Moment) SnapFault) → IfOk q (λ g. IsSnap bytes g.value) → value_of q ≡ Ok m → IsSnap bytes m
+of_value : (bytes : List ℕ) (m : Moment) (q : Result (Got Moment) SnapFault) → IfOk q (λ g. IsSnap bytes g.value) → moment_got q ≡ Ok m → IsSnap bytes m
 unfolding moment_or
 of_value bytes m (Ok g) is same = subst (λ n. IsSnap bytes n) (ap (moment_or m) same) is
 of_value bytes m (Err fault) is same = absurd (false≢true (ap is_ok same))

@@ -10,8 +10,8 @@ use Rattle.std.proofs.lemmas.List.Sums.{sum_by_push}
 use Rattle.sys_objects.specs.declared.records.GuestRow.{GuestRow}
 use Rattle.sys_snap.proofs.Loops.{each_fault, each_more, got}
 use Rattle.sys_snap.specs.Fronts.{after_front}
-use Rattle.sys_rounds.specs.State.{is_running}
-use Rattle.sys_snap.specs.Held.{ArePlaced, guest_of}
+use Rattle.sys_state.specs.State.{is_running}
+use Rattle.sys_snap.specs.Held.{ArePlacedSnapshots, snapshot_guest}
 use Rattle.sys_snap.specs.Reader.{cut_blocks}
 use Rattle.sys_snap.specs.Reading.{Reading, Rest, each}
 use Rattle.sys_snap.specs.Reads.{ReadsOrLacks}
@@ -30,13 +30,13 @@ seen_more p seen xs i x cs cs' c r r' inside is pushed read =
 abbrev pages_from : ℕ → List GuestRow → ℕ
 pages_from base rows = fold (λ a (r : GuestRow). a + r.pages) base rows
 
-placed_push : (base : ℕ) (rows : List GuestRow) (gs : List GuestSnap) (row : GuestRow) (g : GuestSnap) → ArePlaced base rows gs → HasPlace row.pages (pages_from base rows) row.start g.state → ArePlaced base (rows ++ row ∷ []) (gs ++ g ∷ [])
+placed_push : (base : ℕ) (rows : List GuestRow) (gs : List GuestSnap) (row : GuestRow) (g : GuestSnap) → ArePlacedSnapshots base rows gs → HasPlace row.pages (pages_from base rows) row.start g.state → ArePlacedSnapshots base (rows ++ row ∷ []) (gs ++ g ∷ [])
 placed_push base [] [] row g are has = (has, tt)
 placed_push base [] (h ∷ gs) row g are has = absurd are
 placed_push base (q ∷ rows) [] row g are has = absurd are
 placed_push base (q ∷ rows) (h ∷ gs) row g are has = (are.0, placed_push (base + q.pages) rows gs row g are.1 has)
 
-pub placed_more : (rows : List GuestRow) (i base : ℕ) (gs gs' : List GuestSnap) (row : GuestRow) (g : GuestSnap) → i < length rows → row ≡ get_or rows i row → base ≡ sum_by (λ r. r.pages) (take i rows) → gs' ≡ gs ++ g ∷ [] → ArePlaced 0 (take i rows) gs → HasPlace row.pages base row.start g.state → ArePlaced 0 (take (i + 1) rows) gs'
+pub placed_more : (rows : List GuestRow) (i base : ℕ) (gs gs' : List GuestSnap) (row : GuestRow) (g : GuestSnap) → i < length rows → row ≡ get_or rows i row → base ≡ sum_by (λ r. r.pages) (take i rows) → gs' ≡ gs ++ g ∷ [] → ArePlacedSnapshots 0 (take i rows) gs → HasPlace row.pages base row.start g.state → ArePlacedSnapshots 0 (take (i + 1) rows) gs'
 placed_more rows i base gs gs' row g inside is sum pushed are has =
     let more : take (i + 1) rows ≡ take i rows ++ row ∷ [] = take_more rows i row inside ∙ ap (λ z. take i rows ++ z ∷ []) (sym is) in
     rw (more, pushed) (placed_push 0 (take i rows) gs row g are (subst (λ b. HasPlace row.pages b row.start g.state) sum has))
@@ -65,7 +65,7 @@ seen_fault all p seen xs i x front start now after after' (Fault fault) inside i
 seen_fault all p seen xs i x front start now after after' NoMemory inside is left read = tt
 
 -- what follows for a whole snapshot
-pub placed_long : (base : ℕ) (rows : List GuestRow) (gs : List GuestSnap) → ArePlaced base rows gs → length gs ≡ length rows
+pub placed_long : (base : ℕ) (rows : List GuestRow) (gs : List GuestSnap) → ArePlacedSnapshots base rows gs → length gs ≡ length rows
 placed_long base [] [] are = refl
 placed_long base [] (g ∷ gs) are = absurd are
 placed_long base (row ∷ rows) [] are = absurd are
@@ -75,12 +75,12 @@ map_twice : {A B C : Type 0} (f : B → C) (g : A → B) (xs : List A) → map (
 map_twice f g [] = refl
 map_twice f g (x ∷ xs) = ap (λ ys. f (g x) ∷ ys) (map_twice f g xs)
 
-pub running_front : (gs : List GuestSnap) (n : ℕ) (running : List Bool) → length gs ≡ n → running ≡ map (λ g. is_running (guest_of g)) gs ++ replicate (16 - length gs) false → take n running ≡ map is_running (map guest_of gs)
+pub running_front : (gs : List GuestSnap) (n : ℕ) (running : List Bool) → length gs ≡ n → running ≡ map (λ g. is_running (snapshot_guest g)) gs ++ replicate (16 - length gs) false → take n running ≡ map is_running (map snapshot_guest gs)
 running_front gs n running long is =
-    let f : GuestSnap → Bool = λ g. is_running (guest_of g) in
-    ap (take n) is ∙ take_at (map f gs) (replicate (16 - length gs) false) n (length-map gs f ∙ long) ∙ map_twice is_running guest_of gs
+    let f : GuestSnap → Bool = λ g. is_running (snapshot_guest g) in
+    ap (take n) is ∙ take_at (map f gs) (replicate (16 - length gs) false) n (length-map gs f ∙ long) ∙ map_twice is_running snapshot_guest gs
 
-pub running_back : (gs : List GuestSnap) (n : ℕ) (running : List Bool) → length gs ≡ n → running ≡ map (λ g. is_running (guest_of g)) gs ++ replicate (16 - length gs) false → All (λ runs. runs ≡ false) (drop n running)
+pub running_back : (gs : List GuestSnap) (n : ℕ) (running : List Bool) → length gs ≡ n → running ≡ map (λ g. is_running (snapshot_guest g)) gs ++ replicate (16 - length gs) false → All (λ runs. runs ≡ false) (drop n running)
 running_back gs n running long is =
-    let f : GuestSnap → Bool = λ g. is_running (guest_of g) in
+    let f : GuestSnap → Bool = λ g. is_running (snapshot_guest g) in
     rw (ap (drop n) is ∙ drop_at (map f gs) (replicate (16 - length gs) false) n (length-map gs f ∙ long)) (All-replicate (λ runs. runs ≡ false) (16 - length gs) false refl)

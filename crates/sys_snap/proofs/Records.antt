@@ -6,18 +6,18 @@ use Rattle.vv_base.specs.Bits.{is_set}
 use Rattle.vv_base.specs.Bytes.{long_bytes, word_bytes}
 use Rattle.sys_snap.proofs.Fields.{ReadsAs, reads_flag, reads_four, reads_halt, reads_last, reads_longs, reads_one, reads_packets, reads_then, reads_two, reads_waiting}
 use Rattle.sys_snap.specs.Conditions.{any, is_iccs, is_p0br, is_psl, needs}
-use Rattle.sys_snap.specs.Reader.{bases_in, clock_in, console_in, either, end_in, halt_in, is_count, levels_in, longs_in, packets_in, queue_in, record_in, registers_in, waiting_in}
+use Rattle.sys_snap.specs.Reader.{bases_in, clock_in, console_reading, either, end_in, halt_in, is_count, levels_in, longs_in, packets_in, queue_in, record_in, registers_in, waiting_in}
 use Rattle.sys_snap.specs.Reading.{field, flag, four, one, two}
 use Rattle.sys_snap.specs.Snap.{IsRecord}
-use Rattle.sys_snap.specs.Written.{base_bytes, clock_bytes, console_bytes, end_bytes, flag_byte, level_bytes, longs, place_byte, queue_bytes, record_of, register_bytes}
+use Rattle.sys_snap.specs.Written.{base_bytes, clock_bytes, console_bytes, end_bytes, flag_byte, guest_record_bytes, level_bytes, longs, place_byte, queue_bytes, register_bytes}
 use Rattle.vm_clock.specs.Clock.{ClockState, iccs_of}
-use Rattle.vm_clock.specs.Parts.{parts_of, state_of}
+use Rattle.vm_clock.specs.Parts.{clock_of_parts, parts_of_clock}
 use Rattle.vm_state.specs.Registers.{allows}
 use Rattle.vm_state.specs.State.{State}
 use Rattle.vm_state.specs.declared.register.Register.TheVariants.{Astlvl, P0lr, P1br, P1lr, Pcbb, Sbr, Scbb, Sisr, Slr}
 
 -- a clock's parts give it back
-clock_by : (run enable interrupt error : Bool) (nicr icr : ℕ) (request : Bool) → state_of (parts_of (record { run = run; enable = enable; interrupt = interrupt; error = error; nicr = nicr; icr = icr; request = request })) ≡ record { run = run; enable = enable; interrupt = interrupt; error = error; nicr = nicr; icr = icr; request = request }
+clock_by : (run enable interrupt error : Bool) (nicr icr : ℕ) (request : Bool) → clock_of_parts (parts_of_clock (record { run = run; enable = enable; interrupt = interrupt; error = error; nicr = nicr; icr = icr; request = request })) ≡ record { run = run; enable = enable; interrupt = interrupt; error = error; nicr = nicr; icr = icr; request = request }
 clock_by true true true true nicr icr request = refl
 clock_by true true true false nicr icr request = refl
 clock_by true true false true nicr icr request = refl
@@ -35,7 +35,7 @@ clock_by false false true false nicr icr request = refl
 clock_by false false false true nicr icr request = refl
 clock_by false false false false nicr icr request = refl
 
-clock_back : (c : ClockState) → state_of (parts_of c) ≡ c
+clock_back : (c : ClockState) → clock_of_parts (parts_of_clock c) ≡ c
 clock_back c = clock_by c.run c.enable c.interrupt c.error c.nicr c.icr c.request
 
 needed : (request enable : Bool) → (IsTrue request → IsTrue enable) → needs enable request ≡ true
@@ -79,7 +79,7 @@ module _ (size : ℕ) (s : State) (is : IsRecord size s) where
   iccs_passes : is_iccs (iccs_of s.clock) ≡ true
   iccs_passes = rw is.sound.clock.low_clear (rw is.sound.clock.high_clear refl)
 
-  pub reads_clock : ReadsAs clock_in (clock_bytes s.clock) (state_of (parts_of s.clock))
+  pub reads_clock : ReadsAs clock_in (clock_bytes s.clock) (clock_of_parts (parts_of_clock s.clock))
   reads_clock =
       reads_then (four is_iccs) _ (long_bytes (iccs_of s.clock)) _ (iccs_of s.clock) _ (reads_four is_iccs (iccs_of s.clock) iccs_passes)
       (reads_then (four any) _ (long_bytes s.clock.nicr) _ s.clock.nicr _ (reads_four any s.clock.nicr refl)
@@ -90,7 +90,7 @@ module _ (size : ℕ) (s : State) (is : IsRecord size s) where
   count_passes false h = rw (le-leb (length s.console.waiting) 256 is.sound.few_bytes) refl
   count_passes true h = rw (le-leb (length s.console.waiting) 256 is.sound.few_bytes) (lt-ltb 0 (length s.console.waiting) (h refl))
 
-  pub reads_console : ReadsAs console_in (console_bytes s.console) s.console
+  pub reads_console : ReadsAs console_reading (console_bytes s.console) s.console
   reads_console =
       reads_then (flag either) _ (flag_byte s.console.rx_enable) _ s.console.rx_enable _ (reads_flag either s.console.rx_enable refl)
       (reads_then (flag either) _ (flag_byte s.console.tx_enable) _ s.console.tx_enable _ (reads_flag either s.console.tx_enable refl)
@@ -112,13 +112,13 @@ module _ (size : ℕ) (s : State) (is : IsRecord size s) where
       (reads_last (four any) _ (long_bytes s.steps) s.steps (reads_four any s.steps refl)))
 
   -- a record
-  pub reads_record : ReadsAs (record_in size s.modify_faults) (record_of s) s
-  unfolding record_in record_of
+  pub reads_record : ReadsAs (record_in size s.modify_faults) (guest_record_bytes s) s
+  unfolding record_in guest_record_bytes
   reads_record =
       reads_then registers_in _ (register_bytes s) _ _ _ reads_registers
       (reads_then bases_in _ (base_bytes s) _ _ _ reads_bases
       (reads_then levels_in _ (level_bytes s) _ _ _ reads_levels
       (reads_then clock_in _ (clock_bytes s.clock) _ s.clock _ (subst (λ c. ReadsAs clock_in (clock_bytes s.clock) c) (clock_back s.clock) reads_clock)
-      (reads_then console_in _ (console_bytes s.console) _ s.console _ reads_console
+      (reads_then console_reading _ (console_bytes s.console) _ s.console _ reads_console
       (reads_then (queue_in size) _ (queue_bytes s) _ _ _ reads_queue
       (reads_last end_in _ (end_bytes s) _ reads_end))))))

@@ -18,13 +18,13 @@ use Rattle.sys_objects.specs.declared.records.Terminal.{Terminal}
 use Rattle.sys_objects.specs.declared.records.VolumeRow.{VolumeRow}
 use Rattle.sys_snap.proofs.Fields.{ReadsAs, got, reads_field, reads_four, reads_last, reads_none, reads_then, rest_at}
 use Rattle.sys_snap.proofs.Records.{reads_record}
-use Rattle.sys_snap.specs.Conditions.{is_of_class, may_all_sit, may_sit}
+use Rattle.sys_snap.specs.Conditions.{is_guest_of_class, may_all_sit, may_sit}
 use Rattle.sys_snap.specs.Laws.{ReadsEach}
-use Rattle.sys_rounds.specs.Run.{Moment}
-use Rattle.sys_snap.specs.Reader.{accepted, all_bytes, at_end, cut_blocks, guest_in, head_in, moment_in, pair_in, record_in, seat_of, seats_in, snap_in, state_in, units_in, value_of, volume_in}
-use Rattle.sys_snap.specs.Reading.{Reading, ◌>>=◌, done, each, field, four, goes_on, times}
+use Rattle.sys_state.specs.Run.{Moment}
+use Rattle.sys_snap.specs.Reader.{accepted_config, all_bytes, at_end, cut_blocks, guest_reading, head_in, moment_got, moment_in, pair_in, record_in, seated_guest, seats_in, snap_in, state_in, units_in, volume_in}
+use Rattle.sys_snap.specs.Reading.{Reading, ◌>>=◌, done, each, field, four, continued_by, times}
 use Rattle.sys_snap.specs.Snap.{AreUnitsOf, IsGuestOf, IsMoment, IsVolumeOf}
-use Rattle.sys_snap.specs.Written.{guest_bytes, mount_bytes, place_byte, record_of, seat_bytes, snap_bytes, snap_head, state_bytes}
+use Rattle.sys_snap.specs.Written.{guest_bytes, guest_record_bytes, mount_bytes, place_byte, seat_bytes, snap_bytes, snap_head, state_bytes}
 use Rattle.vm_state.specs.State.{Guest}
 
 -- bytes of several, one after another
@@ -45,12 +45,12 @@ reads_times p write (suc n) (y ∷ ys) long each =
     (reads_last (times n p) (λ zs. y ∷ zs) (flat_map write ys) ys (reads_times p write n ys (omega (arith, long)) (All-tail (λ z. ReadsAs p (write z) z) y ys each)))
 
 -- guests
-reads_guest : (row : GuestRow) (g : Guest) → IsGuestOf row g → ReadsAs (guest_in row) (guest_bytes g) g
-unfolding guest_in
+reads_guest : (row : GuestRow) (g : Guest) → IsGuestOf row g → ReadsAs (guest_reading row) (guest_bytes g) g
+unfolding guest_reading
 reads_guest row g is =
-    let reads : ReadsAs (record_in (512 * row.pages) row.modify_faults) (record_of g.state) g.state =
-    subst (λ f. ReadsAs (record_in (512 * row.pages) f) (record_of g.state) g.state) is.modify_faults (reads_record (512 * row.pages) g.state is.is) in
-    reads_then (record_in (512 * row.pages) row.modify_faults) _ (record_of g.state) _ g.state _ reads
+    let reads : ReadsAs (record_in (512 * row.pages) row.modify_faults) (guest_record_bytes g.state) g.state =
+    subst (λ f. ReadsAs (record_in (512 * row.pages) f) (guest_record_bytes g.state) g.state) is.modify_faults (reads_record (512 * row.pages) g.state is.is) in
+    reads_then (record_in (512 * row.pages) row.modify_faults) _ (guest_record_bytes g.state) _ g.state _ reads
     (reads_last (field (512 * row.pages) all_bytes) _ g.memory g.memory (reads_field (512 * row.pages) all_bytes g.memory g.memory is.size refl))
 
 -- mounts
@@ -105,22 +105,22 @@ reads_volume row blocks is =
     reads_field (512 * row.blocks) (λ bytes. Some (cut_blocks row.blocks bytes)) (joined blocks) blocks long (ap Some (cut_back row.blocks blocks is.many is.long))
 
 -- the 32 places
-seats_fit : (rows : List GuestRow) (ts : List Terminal) (seats : List (Option ℕ)) → length rows ≤ 16 → may_all_sit rows ts seats ≡ true → (length seats ≡ length ts) × (map seat_of (map place_byte seats) ≡ seats)
+seats_fit : (rows : List GuestRow) (ts : List Terminal) (seats : List (Option ℕ)) → length rows ≤ 16 → may_all_sit rows ts seats ≡ true → (length seats ≡ length ts) × (map seated_guest (map place_byte seats) ≡ seats)
 seats_fit rows [] [] few sit = (refl, refl)
 seats_fit rows [] (seat ∷ seats) few sit = absurd (false≢true sit)
 seats_fit rows (t ∷ ts) [] few sit = absurd (false≢true sit)
 seats_fit rows (t ∷ ts) (seat ∷ seats) few sit =
     let first : (may_sit rows t seat && not (list_any (same_place seat) seats) ≡ true) × (may_all_sit rows ts seats ≡ true) = and_parts (may_sit rows t seat && not (list_any (same_place seat) seats)) (may_all_sit rows ts seats) sit in
     let own : (may_sit rows t seat ≡ true) × (not (list_any (same_place seat) seats) ≡ true) = and_parts (may_sit rows t seat) (not (list_any (same_place seat) seats)) first.0 in
-    let rest : (length seats ≡ length ts) × (map seat_of (map place_byte seats) ≡ seats) = seats_fit rows ts seats few first.1 in
+    let rest : (length seats ≡ length ts) × (map seated_guest (map place_byte seats) ≡ seats) = seats_fit rows ts seats few first.1 in
     (omega (arith, rest.0), λ i. back seat own.0 i ∷ rest.1 i)
   where
-    back : (seat : Option ℕ) → may_sit rows t seat ≡ true → seat_of (place_byte seat) ≡ seat
+    back : (seat : Option ℕ) → may_sit rows t seat ≡ true → seated_guest (place_byte seat) ≡ seat
     back None may = refl
     back (Some g) may =
         let short : (g == 255) ≡ false = ne_eqb g 255 (λ same.
         let none : slice_get rows g ≡ None = get_past rows g (omega (arith, same, few)) in
-        false≢true (ap (is_of_class t) (sym none) ∙ may)) in
+        false≢true (ap (is_guest_of_class t) (sym none) ∙ may)) in
         rw short refl
 
 all_none : (k : ℕ) → list_all (λ b. b == 255) (replicate k 255) ≡ true
@@ -129,7 +129,7 @@ all_none (suc k) = all_none k
 
 seats_mean : (c : Config) (seats : List (Option ℕ)) → length c.guests ≤ 16 → may_all_sit c.guests c.terminals seats ≡ true → seats_in c (seat_bytes seats) ≡ Some seats
 seats_mean c seats few sit =
-    let fit : (length seats ≡ length c.terminals) × (map seat_of (map place_byte seats) ≡ seats) = seats_fit c.guests c.terminals seats few sit in
+    let fit : (length seats ≡ length c.terminals) × (map seated_guest (map place_byte seats) ≡ seats) = seats_fit c.guests c.terminals seats few sit in
     let own : List ℕ = map place_byte seats in
     let none : List ℕ = replicate (32 - length seats) 255 in
     let long : length own ≡ length c.terminals = length-map seats place_byte ∙ fit.0 in
@@ -139,7 +139,7 @@ seats_mean c seats few sit =
 
 reads_seats : (c : Config) (seats : List (Option ℕ)) → length c.guests ≤ 16 → length c.terminals ≤ 32 → may_all_sit c.guests c.terminals seats ≡ true → ReadsAs (field 32 (seats_in c)) (seat_bytes seats) seats
 reads_seats c seats few terminals sit =
-    let fit : (length seats ≡ length c.terminals) × (map seat_of (map place_byte seats) ≡ seats) = seats_fit c.guests c.terminals seats few sit in
+    let fit : (length seats ≡ length c.terminals) × (map seated_guest (map place_byte seats) ≡ seats) = seats_fit c.guests c.terminals seats few sit in
     let long : length (seat_bytes seats) ≡ 32 = omega (arith, length-append (map place_byte seats) (replicate (32 - length seats) 255), length-map seats place_byte, length-replicate {A = ℕ} (32 - length seats) 255, fit.0, terminals) in
     reads_field 32 (seats_in c) (seat_bytes seats) seats long (seats_mean c seats few sit)
 
@@ -150,8 +150,8 @@ reads_state m c is =
     reads_then (field 32 (seats_in m.config)) _ (seat_bytes m.state.connected) _ m.state.connected _ (reads_seats m.config m.state.connected c.few_guests c.few_terminals is.seated)
     (reads_then (each (units_in m.config.volumes) m.config.guests) _ (flat_map (λ units. flat_map mount_bytes units) m.state.mounts) _ m.state.mounts _
     (reads_each (units_in m.config.volumes) (λ units. flat_map mount_bytes units) (AreUnitsOf m.config.volumes) (reads_units m.config.volumes c.few_volumes) m.config.guests m.state.mounts is.mounted)
-    (reads_then (each guest_in m.config.guests) _ (flat_map guest_bytes m.state.guests) _ m.state.guests _
-    (reads_each guest_in guest_bytes IsGuestOf reads_guest m.config.guests m.state.guests is.guests)
+    (reads_then (each guest_reading m.config.guests) _ (flat_map guest_bytes m.state.guests) _ m.state.guests _
+    (reads_each guest_reading guest_bytes IsGuestOf reads_guest m.config.guests m.state.guests is.guests)
     (reads_last (each volume_in m.config.volumes) _ (flat_map (λ blocks. flat_map (λ b. b) blocks) m.state.volumes) m.state.volumes
     (reads_each volume_in (λ blocks. flat_map (λ b. b) blocks) IsVolumeOf reads_volume m.config.volumes m.state.volumes is.volumes))))
 
@@ -163,33 +163,33 @@ ends_then : {A B : Type 0} (p : Reading A) (f : A → Reading B) (v w : List ℕ
 ends_then p f v w x y first second = record {
   reads = λ at.
       let place : (at + length v) + length w ≡ at + length (v ++ w) = omega (arith, length-append v w) in
-      ap (goes_on f) (first.reads at w) ∙ second.reads (at + length v) ∙ ap (λ k. got y k []) place;
+      ap (continued_by f) (first.reads at w) ∙ second.reads (at + length v) ∙ ap (λ k. got y k []) place;
 }
 
 ends_last : {A B : Type 0} (p : Reading A) (f : A → B) (v : List ℕ) (x : A) → ReadsAs p v x → EndsAs (p >>= λ y. at_end >>= λ end. done (f y)) v (f x)
 ends_last p f v x first = record {
-  reads = λ at. ap (λ bytes. (p >>= λ y. at_end >>= λ end. done (f y)) (rest_at at bytes)) (sym (append-nil v)) ∙ ap (goes_on (λ y. at_end >>= λ end. done (f y))) (first.reads at []);
+  reads = λ at. ap (λ bytes. (p >>= λ y. at_end >>= λ end. done (f y)) (rest_at at bytes)) (sym (append-nil v)) ∙ ap (continued_by (λ y. at_end >>= λ end. done (f y))) (first.reads at []);
 }
 
 module _ (text : List ℕ) (m : Moment) (few : length text ≤ 262144) (means : config_of text ≡ Ok m.config) (is : IsMoment m) where
   reads_head : ReadsAs (field 8 head_in) snap_head tt
   reads_head = reads_field 8 head_in snap_head tt refl refl
 
-  reads_text : ReadsAs (field (length text) (λ bytes. accepted (config_of bytes))) text m.config
-  reads_text = reads_field (length text) (λ bytes. accepted (config_of bytes)) text m.config refl (ap accepted means)
+  reads_text : ReadsAs (field (length text) (λ bytes. accepted_config (config_of bytes))) text m.config
+  reads_text = reads_field (length text) (λ bytes. accepted_config (config_of bytes)) text m.config refl (ap accepted_config means)
 
   ends : EndsAs moment_in (snap_bytes text m) m
   unfolding moment_in
   ends =
       ends_then (field 8 head_in) _ snap_head _ tt m reads_head
       (ends_then (four (λ n. nat_le n 262144)) _ (long_bytes (length text)) _ (length text) m (reads_four (λ n. nat_le n 262144) (length text) (le-leb (length text) 262144 few))
-      (ends_then (field (length text) (λ bytes. accepted (config_of bytes))) _ text _ m.config m reads_text
+      (ends_then (field (length text) (λ bytes. accepted_config (config_of bytes))) _ text _ m.config m reads_text
       (ends_then (four (λ n. nat_le n 1000000)) _ (long_bytes m.made) _ m.made m (reads_four (λ n. nat_le n 1000000) m.made (le-leb m.made 1000000 is.few_rounds))
       (ends_last (state_in m.config) _ (state_bytes m.state) m.state (reads_state m (accepted_is text m.config means) is)))))
 
   whole : snap_in (snap_bytes text m) ≡ Ok m
   unfolding snap_in
-  whole = ap value_of (ends.reads 0)
+  whole = ap moment_got (ends.reads 0)
 
 pub reads_each_snapshot : ReadsEach
 reads_each_snapshot bytes m s = ap snap_in s.is ∙ whole s.text m s.few_bytes s.means s.moment

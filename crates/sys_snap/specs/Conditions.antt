@@ -31,13 +31,13 @@ abbrev pub needs : Bool → Bool → Bool
 needs enable request = not request || enable
 
 -- a terminal has no guest, or one of its class
-abbrev pub is_of_class : Terminal → Option GuestRow → Bool
-is_of_class t None = false
-is_of_class t (Some row) = same_class row.class t.class
+abbrev pub is_guest_of_class : Terminal → Option GuestRow → Bool
+is_guest_of_class t None = false
+is_guest_of_class t (Some row) = same_class row.class t.class
 
 abbrev pub may_sit : List GuestRow → Terminal → Option ℕ → Bool
 may_sit rows t None = true
-may_sit rows t (Some g) = is_of_class t (slice_get rows g)
+may_sit rows t (Some g) = is_guest_of_class t (slice_get rows g)
 
 -- each terminal's, and no guest occurs twice
 abbrev pub may_all_sit : List GuestRow → List Terminal → List (Option ℕ) → Bool

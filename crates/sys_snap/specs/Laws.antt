@@ -1,9 +1,9 @@
 -- Snapshots are read as what they were written of, and only they are read.
 use Rattle.std.specs.Prelude.{ℕ, ◌≡◌, ◌<◌, List, All, Ok, Err}
-use Rattle.sys_rounds.specs.Run.{Moment}
 use Rattle.sys_snap.specs.Reader.{snap_in}
 use Rattle.sys_snap.specs.Snap.{IsSnap}
 use Rattle.sys_snap.specs.declared.fault.SnapFault.{SnapFault}
+use Rattle.sys_state.specs.Run.{Moment}
 
 abbrev pub ReadsEach : Type 0
 ReadsEach = (bytes : List ℕ) (m : Moment) → IsSnap bytes m → snap_in bytes ≡ Ok m

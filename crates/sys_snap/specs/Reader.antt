@@ -13,9 +13,9 @@ use Rattle.sys_objects.specs.declared.records.Config.{Config}
 use Rattle.sys_objects.specs.declared.records.GuestRow.{GuestRow}
 use Rattle.sys_objects.specs.declared.records.Mount.{Mount}
 use Rattle.sys_objects.specs.declared.records.VolumeRow.{VolumeRow}
-use Rattle.sys_rounds.specs.State.{State as SystemState}
+use Rattle.sys_state.specs.State.{SystemState}
 use Rattle.sys_snap.specs.Conditions.{any, is_iccs, is_p0br, is_packet, is_psl, may_all_sit, needs}
-use Rattle.sys_rounds.specs.Run.{Moment}
+use Rattle.sys_state.specs.Run.{Moment}
 use Rattle.sys_snap.specs.Reading.{Got, Reading, ◌>>=◌, done, each, fault_at, field, flag, four, one, times, two}
 use Rattle.sys_snap.specs.Written.{snap_head}
 use Rattle.sys_snap.specs.declared.fault.SnapFault.{SnapFault}
@@ -84,7 +84,7 @@ clock_in =
     four any >>= λ nicr.
     four any >>= λ icr.
     flag (needs (is_set iccs 6)) >>= λ request.
-    done (clocks.state_of (record { iccs = iccs; nicr = nicr; icr = icr; request = request }))
+    done (clocks.clock_of_parts (record { iccs = iccs; nicr = nicr; icr = icr; request = request }))
 
 -- a receive request needs a byte that waits; it comes before their count, so the count is refused
 abbrev pub is_count : Bool → ℕ → Bool
@@ -94,8 +94,8 @@ is_count request n = nat_le n 256 && (not request || nat_lt 0 n)
 abbrev pub waiting_in : ℕ → List ℕ → Option (List ℕ)
 waiting_in n bytes = if list_all (λ b. b == 0) (drop n bytes) then Some (take n bytes) else None
 
-abbrev pub console_in : Reading ConsoleState
-console_in =
+abbrev pub console_reading : Reading ConsoleState
+console_reading =
     flag either >>= λ rx_enable.
     flag either >>= λ tx_enable.
     flag (needs rx_enable) >>= λ rx_request.
@@ -164,7 +164,7 @@ record_in size modify_faults =
     bases_in >>= λ b.
     levels_in >>= λ l.
     clock_in >>= λ clock.
-    console_in >>= λ console.
+    console_reading >>= λ console.
     queue_in size >>= λ q.
     end_in >>= λ e.
     done (made_of modify_faults a b l clock console q e)
@@ -173,8 +173,8 @@ record_in size modify_faults =
 abbrev pub all_bytes : List ℕ → Option (List ℕ)
 all_bytes bytes = Some bytes
 
-unfoldable pub guest_in : GuestRow → Reading Guest
-guest_in row =
+unfoldable pub guest_reading : GuestRow → Reading Guest
+guest_reading row =
     record_in (512 * row.pages) row.modify_faults >>= λ state.
     field (512 * row.pages) all_bytes >>= λ memory.
     done (record { memory = memory; state = state })
@@ -193,13 +193,13 @@ pair_in volumes class bytes = None
 abbrev pub units_in : List VolumeRow → GuestRow → Reading (List (Option Mount))
 units_in volumes row = times 4 (field 2 (pair_in volumes row.class))
 
-abbrev pub seat_of : ℕ → Option ℕ
-seat_of b = if b == 255 then None else Some b
+abbrev pub seated_guest : ℕ → Option ℕ
+seated_guest b = if b == 255 then None else Some b
 
 -- the 32 places
 abbrev pub seats_in : Config → List ℕ → Option (List (Option ℕ))
 seats_in c bytes =
-    let seats = map seat_of (take (length c.terminals) bytes) in
+    let seats = map seated_guest (take (length c.terminals) bytes) in
     if may_all_sit c.guests c.terminals seats && list_all (λ b. b == 255) (drop (length c.terminals) bytes) then Some seats else None
 
 -- 512 bytes each
@@ -214,7 +214,7 @@ unfoldable pub state_in : Config → Reading SystemState
 state_in c =
     field 32 (seats_in c) >>= λ connected.
     each (units_in c.volumes) c.guests >>= λ mounts.
-    each guest_in c.guests >>= λ guests.
+    each guest_reading c.guests >>= λ guests.
     each volume_in c.volumes >>= λ volumes.
     done (record { connected = connected; mounts = mounts; guests = guests; volumes = volumes })
 
@@ -226,9 +226,9 @@ nothing (b ∷ bytes) at = fault_at at
 abbrev pub at_end : Reading (Unit {0})
 at_end = λ r. nothing r.bytes r.at
 
-abbrev pub accepted : Result Config ConfigFault → Option Config
-accepted (Ok c) = Some c
-accepted (Err fault) = None
+abbrev pub accepted_config : Result Config ConfigFault → Option Config
+accepted_config (Ok c) = Some c
+accepted_config (Err fault) = None
 
 abbrev pub head_in : List ℕ → Option (Unit {0})
 head_in bytes = if bytes_eq bytes snap_head then Some tt else None
@@ -237,16 +237,16 @@ unfoldable pub moment_in : Reading Moment
 moment_in =
     field 8 head_in >>= λ head.
     four (λ n. nat_le n 262144) >>= λ n.
-    field n (λ text. accepted (config_of text)) >>= λ c.
+    field n (λ text. accepted_config (config_of text)) >>= λ c.
     four (λ n. nat_le n 1000000) >>= λ made.
     state_in c >>= λ state.
     at_end >>= λ end.
     done (record { config = c; made = made; state = state })
 
-abbrev pub value_of : Result (Got Moment) SnapFault → Result Moment SnapFault
-value_of (Ok got) = Ok got.value
-value_of (Err fault) = Err fault
+abbrev pub moment_got : Result (Got Moment) SnapFault → Result Moment SnapFault
+moment_got (Ok got) = Ok got.value
+moment_got (Err fault) = Err fault
 
 -- `Snap`
 unfoldable pub snap_in : List ℕ → Result Moment SnapFault
-snap_in bytes = value_of (moment_in (record { at = 0; bytes = bytes }))
+snap_in bytes = moment_got (moment_in (record { at = 0; bytes = bytes }))

@@ -2,10 +2,10 @@
 use Rattle.std.specs.Prelude.{◌≡◌, ℕ, List, [], ◌∷◌, ◌++◌, codes, length, take, drop, replicate, None, Ok, Err, refl}
 use Rattle.std.specs.Str.{is_utf8, chars}
 use Rattle.toml.proofs.OnLiterals.{toml_on_literals}
-use Rattle.sys_objects.specs.Judged.{judged}
+use Rattle.sys_objects.specs.Judged.{validated}
 use Rattle.sys_config.specs.Top.{tables_at, top_of, top_of_one, top_of_two}
 use Rattle.sys_config.specs.Config.{numbers_of, rows_of, config_in, config_of}
-use Rattle.sys_rounds.specs.Run.{Moment}
+use Rattle.sys_state.specs.Run.{Moment}
 use Rattle.sys_snap.specs.Reader.{moment_in, snap_in, state_in}
 use Rattle.sys_snap.specs.Written.{snap_bytes}
 
@@ -26,10 +26,10 @@ pub written : (length snapshot ≡ 83) × (take 12 snapshot ≡ codes "VVSNAP1\n
 written = (refl, refl, refl)
 
 pub read_back : snap_in snapshot ≡ Ok second
-unfolding toml_on_literals is_utf8 chars top_of top_of_one top_of_two tables_at numbers_of rows_of judged config_in config_of snap_in moment_in state_in
+unfolding toml_on_literals is_utf8 chars top_of top_of_one top_of_two tables_at numbers_of rows_of validated config_in config_of snap_in moment_in state_in
 read_back = refl
 
 -- without its last byte, at the terminals' 32 places; with one byte more, at its own length; another head
 pub refused : (snap_in (take 82 snapshot) ≡ Err (record { place = 51 })) × (snap_in (snapshot ++ 0 ∷ []) ≡ Err (record { place = 83 })) × (snap_in (drop 1 snapshot) ≡ Err (record { place = 0 }))
-unfolding toml_on_literals is_utf8 chars top_of top_of_one top_of_two tables_at numbers_of rows_of judged config_in config_of snap_in moment_in state_in
+unfolding toml_on_literals is_utf8 chars top_of top_of_one top_of_two tables_at numbers_of rows_of validated config_in config_of snap_in moment_in state_in
 refused = (refl, refl, refl)

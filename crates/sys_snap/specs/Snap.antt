@@ -2,14 +2,14 @@
 use Rattle.std.specs.Prelude.{ℕ, ◌≡◌, ◌≤◌, ◌*◌, List, length, true, All, Option, Ok}
 use Rattle.std.specs.List.{AllZip}
 use Rattle.vm_console.specs.Console.{IsConsole}
-use Rattle.vm_clock.specs.Parts.{IsClock, parts_of}
+use Rattle.vm_clock.specs.Parts.{IsClock, parts_of_clock}
 use Rattle.sys_config.specs.Config.{config_of}
 use Rattle.sys_objects.specs.Rules.{may_mount}
 use Rattle.sys_objects.specs.declared.records.GuestRow.{GuestRow}
 use Rattle.sys_objects.specs.declared.records.Mount.{Mount}
 use Rattle.sys_objects.specs.declared.records.VolumeRow.{VolumeRow}
 use Rattle.sys_snap.specs.Conditions.{may_all_sit}
-use Rattle.sys_rounds.specs.Run.{Moment}
+use Rattle.sys_state.specs.Run.{Moment}
 use Rattle.sys_snap.specs.Written.{snap_bytes}
 use Rattle.vm_state.specs.Allowed.{AreAllowed}
 use Rattle.vm_state.specs.State.{Guest, State}
@@ -19,7 +19,7 @@ use Rattle.vm_state.specs.Stops.{IsHalt}
 pub record IsSound (s : State) : Type 0 where
   pub sixteen : length s.r ≡ 16
   pub five : length s.stacks ≡ 5
-  pub clock : IsClock (parts_of s.clock)
+  pub clock : IsClock (parts_of_clock s.clock)
   pub console : IsConsole s.console
   pub few_bytes : length s.console.waiting ≤ 256
 

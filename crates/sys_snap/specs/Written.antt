@@ -5,8 +5,8 @@ use Rattle.vv_base.specs.Bytes.{long_bytes, word_bytes}
 use Rattle.vm_clock.specs.Clock.{ClockState, iccs_of}
 use Rattle.vm_console.specs.Console.{ConsoleState}
 use Rattle.sys_objects.specs.declared.records.Mount.{Mount}
-use Rattle.sys_rounds.specs.State.{State as SystemState}
-use Rattle.sys_rounds.specs.Run.{Moment}
+use Rattle.sys_state.specs.State.{SystemState}
+use Rattle.sys_state.specs.Run.{Moment}
 use Rattle.vm_state.specs.State.{Guest, State}
 
 abbrev pub longs : List ℕ → List ℕ
@@ -53,12 +53,12 @@ abbrev pub end_bytes : State → List ℕ
 end_bytes s = flag_byte s.waiting ++ ((place_byte s.halt ∷ []) ++ long_bytes s.steps)
 
 -- a guest's record: 439 bytes
-unfoldable pub record_of : State → List ℕ
-record_of s = register_bytes s ++ (base_bytes s ++ (level_bytes s ++ (clock_bytes s.clock ++ (console_bytes s.console ++ (queue_bytes s ++ end_bytes s)))))
+unfoldable pub guest_record_bytes : State → List ℕ
+guest_record_bytes s = register_bytes s ++ (base_bytes s ++ (level_bytes s ++ (clock_bytes s.clock ++ (console_bytes s.console ++ (queue_bytes s ++ end_bytes s)))))
 
 -- its record and its memory
 abbrev pub guest_bytes : Guest → List ℕ
-guest_bytes g = record_of g.state ++ g.memory
+guest_bytes g = guest_record_bytes g.state ++ g.memory
 
 -- the volume and whether it may be written, or FF and 0
 abbrev pub mount_bytes : Option Mount → List ℕ

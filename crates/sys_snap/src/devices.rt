@@ -3,7 +3,7 @@ ghost use Rattle.std.specs.List.{list_all};
 ghost use Rattle.sys_snap.specs.Conditions.{is_iccs, is_packet, needs};
 ghost use Rattle.sys_snap.specs.Fronts.{after_front};
 ghost use Rattle.sys_snap.specs.Parts.{end_of, queue_of};
-ghost use Rattle.sys_snap.specs.Reader.{clock_in, console_in, end_in, halt_in, is_count, packets_in, queue_in, waiting_in};
+ghost use Rattle.sys_snap.specs.Reader.{clock_in, console_reading, end_in, halt_in, is_count, packets_in, queue_in, waiting_in};
 ghost use Rattle.sys_snap.specs.Reading.{field, flag, four, one, two};
 ghost use Rattle.sys_snap.specs.Reads.{Reads, ReadsSeen};
 ghost use Rattle.vv_base.specs.Bits.{is_set};
@@ -110,7 +110,7 @@ fn waiting(r: &mut Cursor, count: u16) -> Result<Text<256>, SnapFault>
 
 /// The console, 262 bytes.
 pub fn read_console(r: &mut Cursor) -> Result<Console, SnapFault>
-    ensures { Reads console_in r.old r.new result }
+    ensures { Reads console_reading r.old r.new result }
 {
     let rx_enable = flag(r)?;
     let tx_enable = flag(r)?;

@@ -1,6 +1,6 @@
 ghost use Rattle.std.specs.Prelude.{◌≡◌, ◌*◌, ◌≤◌, All, IfOk, length, map};
-ghost use Rattle.sys_snap.specs.Held.{ArePlaced, guest_of};
-ghost use Rattle.sys_snap.specs.Reader.{cut_blocks, guest_in, record_in, volume_in};
+ghost use Rattle.sys_snap.specs.Held.{ArePlacedSnapshots, snapshot_guest};
+ghost use Rattle.sys_snap.specs.Reader.{cut_blocks, guest_reading, record_in, volume_in};
 ghost use Rattle.sys_snap.specs.Reading.{each};
 ghost use Rattle.sys_snap.specs.Reads.{ReadsOrLacks, ReadsSeen};
 ghost use Rattle.vm_state.specs.State.{HasPlace, state_of};
@@ -61,7 +61,7 @@ fn read_record(r: &mut Cursor, row: &GuestRow, base: u32) -> Result<GuestState, 
 }
 
 /// A guest's record and its memory.
-#[tactic(auto, unfolding(crate::specs::Reader::guest_in))]
+#[tactic(auto, unfolding(crate::specs::Reader::guest_reading))]
 fn read_guest(
     alloc: Global,
     r: &mut Cursor,
@@ -69,7 +69,7 @@ fn read_guest(
     base: u32,
 ) -> Result<GuestSnap, SnapError>
     requires few { row.now.pages ≤ 2048 }
-    ensures reads { ReadsOrLacks guest_of (guest_in row.now) r.old r.new result }
+    ensures reads { ReadsOrLacks snapshot_guest (guest_reading row.now) r.old r.new result }
     ensures place { IfOk result (λ g. HasPlace row.now.pages base row.now.start g.state) }
 {
     let state = read_record(r, row, base)?;
@@ -86,8 +86,8 @@ pub fn read_guests(
 ) -> Result<Vec<GuestSnap>, SnapError>
     requires count { length rows.now ≤ 16 }
     requires few { All (λ row. row.pages ≤ 2048) rows.now }
-    ensures reads { ReadsOrLacks (λ guests. map guest_of guests.items) (each guest_in rows.now) r.old r.new result }
-    ensures places { IfOk result (λ guests. ArePlaced 0 rows.now guests.items) }
+    ensures reads { ReadsOrLacks (λ guests. map snapshot_guest guests.items) (each guest_reading rows.now) r.old r.new result }
+    ensures places { IfOk result (λ guests. ArePlacedSnapshots 0 rows.now guests.items) }
 {
     let mut guests = Vec::new(alloc);
     let mut base = 0;

@@ -1,11 +1,11 @@
 ghost use Rattle.std.specs.Prelude.{◌≡◌, ◌++◌, ◌-◌, ◌≤◌, ◌^◌, IfOk, false, length, map, nat_le, replicate};
 ghost use Rattle.sys_config.specs.Config.{config_of};
 ghost use Rattle.sys_objects.specs.Condition.{IsConfig};
-ghost use Rattle.sys_rounds.specs.State.{is_running};
-ghost use Rattle.sys_snap.specs.Held.{HoldsMoment, ReadsSnap, guest_of, moment_of};
-ghost use Rattle.sys_snap.specs.Reader.{accepted, at_end, head_in, moment_in, state_in};
+ghost use Rattle.sys_snap.specs.Held.{HoldsMoment, ReadsSnap, snapshot_guest, snapshot_moment};
+ghost use Rattle.sys_snap.specs.Reader.{accepted_config, at_end, head_in, moment_in, state_in};
 ghost use Rattle.sys_snap.specs.Reading.{field, four};
 ghost use Rattle.sys_snap.specs.Reads.{Reads, ReadsOrLacks};
+ghost use Rattle.sys_state.specs.State.{is_running};
 
 use crate::cursor::{Cursor, long};
 use crate::fault::{SnapError, SnapFault};
@@ -61,7 +61,7 @@ fn round(r: &mut Cursor) -> Result<u32, SnapFault>
 
 /// The configuration that a text of so many bytes stands for.
 fn configuration(alloc: Global, r: &mut Cursor, length: u32) -> Result<Config, SnapError>
-    ensures reads { ReadsOrLacks (λ c. c) (field length (λ text. accepted (config_of text))) r.old r.new result }
+    ensures reads { ReadsOrLacks (λ c. c) (field length (λ text. accepted_config (config_of text))) r.old r.new result }
     ensures is { IfOk result (λ c. IsConfig c) }
 {
     let place = r.place();
@@ -84,7 +84,7 @@ fn end(r: &mut Cursor) -> Result<(), SnapFault>
 }
 
 fn is_running(guest: &GuestSnap) -> bool
-    ensures { result ≡ is_running (guest_of guest.now) }
+    ensures { result ≡ is_running (snapshot_guest guest.now) }
 {
     guest.state.halt.is_none()
 }
@@ -92,7 +92,7 @@ fn is_running(guest: &GuestSnap) -> bool
 /// By guest whether it runs.
 fn running(guests: &[GuestSnap]) -> [bool; 16]
     requires { length guests.now ≤ 16 }
-    ensures { result ≡ map (λ g. is_running (guest_of g)) guests.now ++ replicate (16 - length guests.now) false }
+    ensures { result ≡ map (λ g. is_running (snapshot_guest g)) guests.now ++ replicate (16 - length guests.now) false }
 {
     let mut running = [false; 16];
     for (i, guest) in guests.iter().enumerate() {
@@ -105,7 +105,7 @@ fn running(guests: &[GuestSnap]) -> [bool; 16]
 #[tactic(auto, unfolding(crate::specs::Reader::state_in))]
 fn read_state(alloc: Global, r: &mut Cursor, config: Config, round: u32) -> Result<Snap, SnapError>
     requires { IsConfig config }
-    ensures reads { ReadsOrLacks (λ s. (moment_of s).state) (state_in config) r.old r.new result }
+    ensures reads { ReadsOrLacks (λ s. (snapshot_moment s).state) (state_in config) r.old r.new result }
     ensures config { IfOk result (λ s. s.config ≡ config) }
     ensures round { IfOk result (λ s. s.round ≡ round) }
     ensures holds { IfOk result (λ s. HoldsMoment s) }
@@ -130,7 +130,7 @@ fn read_state(alloc: Global, r: &mut Cursor, config: Config, round: u32) -> Resu
 
 #[tactic(auto, unfolding(crate::specs::Reader::moment_in))]
 fn read_moment(alloc: Global, r: &mut Cursor) -> Result<Snap, SnapError>
-    ensures reads { ReadsOrLacks moment_of moment_in r.old r.new result }
+    ensures reads { ReadsOrLacks snapshot_moment moment_in r.old r.new result }
     ensures holds { IfOk result (λ s. HoldsMoment s) }
 {
     head(r)?;

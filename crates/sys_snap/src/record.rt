@@ -1,13 +1,13 @@
 ghost use Rattle.std.specs.Prelude.{◌≡◌, ◌+◌, ◌-◌, ◌*◌, ◌≤◌, ◌++◌, length, replicate};
 ghost use Rattle.std.specs.Int.{from_bool};
 ghost use Rattle.vm_clock.specs.Clock.{ClockState};
-ghost use Rattle.vm_clock.specs.Parts.{IsClock, parts_of};
+ghost use Rattle.vm_clock.specs.Parts.{IsClock, parts_of_clock};
 ghost use Rattle.vm_console.specs.Console.{IsConsole};
 ghost use Rattle.vm_state.specs.State.{state_of};
 ghost use Rattle.vv_base.specs.Bytes.{long_bytes, word_bytes};
 ghost use Rattle.sys_snap.specs.Pieces.{waiting_bytes};
 ghost use Rattle.sys_snap.specs.Snap.{IsSound};
-ghost use Rattle.sys_snap.specs.Written.{base_bytes, clock_bytes, console_bytes, end_bytes, flag_byte, level_bytes, longs, queue_bytes, record_of, register_bytes};
+ghost use Rattle.sys_snap.specs.Written.{base_bytes, clock_bytes, console_bytes, end_bytes, flag_byte, guest_record_bytes, level_bytes, longs, queue_bytes, register_bytes};
 
 use vm_clock::Clock;
 use vm_console::Console;
@@ -103,7 +103,7 @@ fn add_levels(text: &mut Text<439>, g: &GuestState)
 fn add_clock(text: &mut Text<439>, clock: &Clock)
     requires { length text.old + 13 ≤ 439 }
     ensures written { text.new ≡ text.old ++ clock_bytes clock.now }
-    ensures is { IsClock (parts_of clock.now) }
+    ensures is { IsClock (parts_of_clock clock.now) }
     ensures len { length text.new ≡ length text.old + 13 }
 {
     let parts = clock.parts();
@@ -178,7 +178,7 @@ fn add_end(text: &mut Text<439>, g: &GuestState)
 
 /// A guest's state as the 439 bytes of its record.
 pub fn guest_record(g: &GuestState) -> [u8; 439]
-    ensures is { result ≡ record_of (state_of g.now) }
+    ensures is { result ≡ guest_record_bytes (state_of g.now) }
     ensures sound { IsSound (state_of g.now) }
 {
     let mut text = Text::new();

@@ -2,7 +2,7 @@ ghost use Rattle.std.specs.Prelude.{◌≡◌, ◌++◌, ◌-◌, ◌==◌, ◌�
 ghost use Rattle.std.specs.List.{list_all, list_any};
 ghost use Rattle.sys_objects.specs.Rules.{same_place};
 ghost use Rattle.sys_snap.specs.Conditions.{may_all_sit, may_sit};
-ghost use Rattle.sys_snap.specs.Reader.{seat_of, seats_in};
+ghost use Rattle.sys_snap.specs.Reader.{seated_guest, seats_in};
 ghost use Rattle.sys_snap.specs.Reading.{field};
 ghost use Rattle.sys_snap.specs.Reads.{ReadsSeen};
 
@@ -55,7 +55,7 @@ fn may_all_sit(rows: &[GuestRow], terminals: &[Terminal], seats: &[Option<u8>]) 
 }
 
 fn seat_of(byte: u8) -> Option<u8>
-    ensures { result ≡ seat_of byte }
+    ensures { result ≡ seated_guest byte }
 {
     if byte == NO_GUEST { None } else { Some(byte) }
 }
@@ -63,7 +63,7 @@ fn seat_of(byte: u8) -> Option<u8>
 /// The guests in the first places, and none beyond.
 fn seats_of(bytes: &[u8]) -> [Option<u8>; 32]
     requires { length bytes.now ≤ 32 }
-    ensures { result ≡ map seat_of bytes.now ++ replicate (32 - length bytes.now) None }
+    ensures { result ≡ map seated_guest bytes.now ++ replicate (32 - length bytes.now) None }
 {
     let mut seats = [None; 32];
     for (i, byte) in bytes.iter().enumerate() {

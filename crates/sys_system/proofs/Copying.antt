@@ -10,10 +10,10 @@ use Rattle.sys_guests.proofs.Powering.{beside_at, beside_long}
 use Rattle.sys_lines.proofs.Lists.{found_here, found_later, from_on}
 use Rattle.sys_objects.specs.Condition.{IsVolume}
 use Rattle.sys_objects.specs.declared.records.VolumeRow.{VolumeRow}
-use Rattle.sys_rounds.specs.Places.{beside_with, place_of}
+use Rattle.sys_state.specs.Places.{beside_with, place_of}
 use Rattle.sys_store.specs.Blocks.{blocks_of, with_block}
 use Rattle.sys_system.specs.Given.{first_of_another_size, is_another_size}
-use Rattle.vv_io.specs.Blocks.{Kept}
+use Rattle.vv_io.specs.Blocks.{SeenDrive}
 
 abbrev others : List VolumeRow → List (List (List ℕ)) → List Bool
 others rows given = beside_with is_another_size rows given
@@ -59,7 +59,7 @@ all_fit (row ∷ rows) (blocks ∷ given) long none =
     λ i. here i ∷ rest i
 
 -- blocks as a drive that tells them has them
-abbrev pub told : List (List ℕ) → Kept
+abbrev pub told : List (List ℕ) → SeenDrive
 told bytes = record { size = length bytes; blocks = Some bytes; faults = 0 }
 
 -- one block more is written

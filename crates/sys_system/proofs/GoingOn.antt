@@ -12,8 +12,8 @@ use Rattle.sys_objects.specs.declared.records.GuestRow.{GuestRow}
 use Rattle.sys_objects.specs.declared.records.Mount.{Mount}
 use Rattle.sys_objects.specs.declared.records.Terminal.{Terminal}
 use Rattle.sys_objects.specs.declared.records.VolumeRow.{VolumeRow}
-use Rattle.sys_snap.specs.Conditions.{is_of_class, may_all_sit, may_sit}
-use Rattle.sys_snap.specs.Held.{HoldsMoment, moment_of}
+use Rattle.sys_snap.specs.Conditions.{is_guest_of_class, may_all_sit, may_sit}
+use Rattle.sys_snap.specs.Held.{HoldsMoment, snapshot_moment}
 use Rattle.sys_snap.specs.Snap.{AreUnitsOf, IsMoment, IsVolumeOf}
 use Rattle.sys_snap.specs.declared.snap.Snap.{Snap}
 use Rattle.sys_system.proofs.Mounting.{IsSeated, none_mounted}
@@ -30,7 +30,7 @@ IsOne rows seat = IfSome seat (λ g. g < length rows)
 
 sits : (rows : List GuestRow) (t : Terminal) (seat : Option ℕ) → may_sit rows t seat ≡ true → IsOne rows seat
 sits rows t None may = tt
-sits rows t (Some g) may = inside (is_of_class t) rows g refl may
+sits rows t (Some g) may = inside (is_guest_of_class t) rows g refl may
 
 all_sit : (rows : List GuestRow) (ts : List Terminal) (seats : List (Option ℕ)) → may_all_sit rows ts seats ≡ true → All (IsOne rows) seats
 all_sit rows [] [] sit = All-nil (IsOne rows)
@@ -60,7 +60,7 @@ all_mount volumes (row ∷ rows) (units ∷ each) are =
 in_both : {X : Type 0} (P : X → Type 0) (n : ℕ) (xs : List X) → All P (take n xs) → All P (drop n xs) → All P xs
 in_both P n xs front back = subst (λ ys. All P ys) (take-append-drop n xs) (All-append P (take n xs) (drop n xs) front back)
 
-pub seated_again : (s : Snap) → HoldsMoment s → IsMoment (moment_of s) → IsSeated s.config s.server
+pub seated_again : (s : Snap) → HoldsMoment s → IsMoment (snapshot_moment s) → IsSeated s.config s.server
 seated_again s held is =
     let rows = s.config.guests in
     let volumes = s.config.volumes in

@@ -17,16 +17,16 @@ use Rattle.sys_objects.specs.declared.records.Config.{Config}
 use Rattle.sys_objects.specs.declared.records.GuestRow.{GuestRow}
 use Rattle.sys_objects.specs.declared.records.VolumeRow.{VolumeRow}
 use Rattle.sys_system.specs.Calls.{BeginsRound, EndsRound}
-use Rattle.sys_system.specs.Held.{IsInside, system_of, turns_of}
-use Rattle.sys_system.specs.System.{StandsIn, Turns, all_turns, no_round}
+use Rattle.sys_system.specs.Held.{AreSystemParts, system_of, turns_of}
+use Rattle.sys_system.specs.System.{IsInMachine, Turns, all_turns, no_round}
 use Rattle.sys_system.specs.declared.parts.Parts.{Parts}
-use Rattle.sys_rounds.specs.State.{State}
-use Rattle.sys_rounds.specs.Transfers.{transfers}
+use Rattle.sys_state.specs.State.{SystemState}
+use Rattle.sys_state.specs.Transfers.{transfers}
 use Rattle.sys_script.specs.declared.event.Event.{Event}
 use Rattle.vm_stepping.specs.Made.{steps_in}
 
 -- the kernel of a system that is in the machine
-pub kernel_holds : (memory : List ℕ) (s : Parts) → IsInside s → StandsIn memory (system_of s) → IsKernel memory s.kernel
+pub kernel_holds : (memory : List ℕ) (s : Parts) → AreSystemParts s → IsInMachine memory (system_of s) → IsKernel memory s.kernel
 kernel_holds memory s h stands = record {
   accepted = h.system.accepted;
   placed = stands;
@@ -50,10 +50,10 @@ pub record AreCounted (s : Parts) : Type 0 where
   pub trail : s.counts.trail < 2 ^ 64
   pub few_rounds : s.rounds ≤ 4000000000
 
-pub counted_in : (s : Parts) → IsInside s → AreCounted s
+pub counted_in : (s : Parts) → AreSystemParts s → AreCounted s
 counted_in s h = record { beside = h.system.beside; from = h.system.from; few = h.system.few; counted = h.system.counted; trail = h.system.trail; few_rounds = h.system.few_rounds }
 
-pub inside_of : (memory : List ℕ) (s : Parts) → IsKernel memory s.kernel → AreSized s.kernel.config s.volumes → AreCounted s → IsInside s
+pub inside_of : (memory : List ℕ) (s : Parts) → IsKernel memory s.kernel → AreSized s.kernel.config s.volumes → AreCounted s → AreSystemParts s
 inside_of memory s k sized c =
     let n : ℕ = length s.kernel.config.terminals in
     let rows = s.kernel.config.guests in
@@ -97,7 +97,7 @@ sum_of_quanta (row ∷ rows) all =
     omega (arith, one.few_steps, rest, sum_by-cons (λ (n : ℕ). n) row.quantum (map (λ r. r.quantum) rows))
 
 -- a round begins with all quanta
-pub counted_begun : (s s' : Parts) → IsInside s → s.rounds < 4000000000 → s'.kernel.config ≡ s.kernel.config → turns_of s'.turns ≡ all_turns s.kernel.config.guests → s'.rounds ≡ s.rounds + 1 → s'.counts ≡ s.counts → AreCounted s'
+pub counted_begun : (s s' : Parts) → AreSystemParts s → s.rounds < 4000000000 → s'.kernel.config ≡ s.kernel.config → turns_of s'.turns ≡ all_turns s.kernel.config.guests → s'.rounds ≡ s.rounds + 1 → s'.counts ≡ s.counts → AreCounted s'
 counted_begun s s' h more config turns rounds counts =
     let rows = s.kernel.config.guests in
     let left : s'.turns.left.items ≡ map (λ row. row.quantum) rows = ap (λ (x : Turns). x.left) turns in
@@ -112,8 +112,8 @@ counted_begun s s' h more config turns rounds counts =
     }
 
 -- its events have happened
-pub begun : (es : List Event) (m m' : Machine) (s s' : Parts) (lines lines' : List Seen) → IsInside s → s.rounds < 4000000000 → turns_of s'.turns ≡ all_turns s.kernel.config.guests → s'.rounds ≡ s.rounds + 1 → s'.counts ≡ s.counts → s'.volumes ≡ s.volumes → s'.drives ≡ s.drives → Happen (s.rounds + 1) es m s.kernel lines m' s'.kernel lines'
-    → BeginsRound es m (system_of s) lines m' (system_of s') lines' × IsInside s'
+pub begun : (es : List Event) (m m' : Machine) (s s' : Parts) (lines lines' : List Seen) → AreSystemParts s → s.rounds < 4000000000 → turns_of s'.turns ≡ all_turns s.kernel.config.guests → s'.rounds ≡ s.rounds + 1 → s'.counts ≡ s.counts → s'.volumes ≡ s.volumes → s'.drives ≡ s.drives → Happen (s.rounds + 1) es m s.kernel lines m' s'.kernel lines'
+    → BeginsRound es m (system_of s) lines m' (system_of s') lines' × AreSystemParts s'
 begun es m m' s s' lines lines' h more turns rounds counts volumes drives happened =
     let l = happened s.volumes in
     let sized : AreSized s'.kernel.config s'.volumes = ap (λ vs. map length vs) volumes ∙ h.system.volumes ∙ ap (λ (c : Config). map (λ (v : VolumeRow). v.blocks) c.volumes) (sym l.config) in (
@@ -132,8 +132,8 @@ begun es m m' s s' lines lines' h more turns rounds counts volumes drives happen
     )
 
 -- its transfers are made
-pub ended : (m m' : Machine) (s s' : Parts) (lines lines' : List Seen) → IsInside s → turns_of s'.turns ≡ no_round (turns_of s.turns) → s'.rounds ≡ s.rounds → s'.counts ≡ s.counts → s'.drives ≡ s.drives → map length s'.volumes ≡ map length s.volumes
-    → Leads (transfers s.kernel.config (kernels.state_of m.memory s.kernel s.volumes)) m s.kernel lines m' s'.kernel s'.volumes lines' → EndsRound m (system_of s) lines m' (system_of s') lines' × IsInside s'
+pub ended : (m m' : Machine) (s s' : Parts) (lines lines' : List Seen) → AreSystemParts s → turns_of s'.turns ≡ no_round (turns_of s.turns) → s'.rounds ≡ s.rounds → s'.counts ≡ s.counts → s'.drives ≡ s.drives → map length s'.volumes ≡ map length s.volumes
+    → Leads (transfers s.kernel.config (kernels.kernel_state m.memory s.kernel s.volumes)) m s.kernel lines m' s'.kernel s'.volumes lines' → EndsRound m (system_of s) lines m' (system_of s') lines' × AreSystemParts s'
 ended m m' s s' lines lines' h turns rounds counts drives sizes l =
     let left : s'.turns.left.items ≡ s.turns.left.items = ap (λ (x : Turns). x.left) turns in
     let sized : AreSized s'.kernel.config s'.volumes = sizes ∙ h.system.volumes ∙ ap (λ (c : Config). map (λ (v : VolumeRow). v.blocks) c.volumes) (sym l.config) in (
@@ -153,7 +153,7 @@ ended m m' s s' lines lines' h turns rounds counts drives sizes l =
     )
   where
     same_connected : (system_of s').connected ≡ (system_of s).connected
-    same_connected = ap (λ (x : State). x.connected) l.state
+    same_connected = ap (λ (x : SystemState). x.connected) l.state
 
     same_mounts : (system_of s').mounts ≡ (system_of s).mounts
-    same_mounts = ap (λ (x : State). x.mounts) l.state
+    same_mounts = ap (λ (x : SystemState). x.mounts) l.state

@@ -1,6 +1,6 @@
 -- Elements of lists by their places.
 use Rattle.std.proofs.Common.{ℕ, zero, suc, ◌≡◌, ◌<◌, ◌+◌, List, [], ◌∷◌, ◌++◌, length, map, take, drop, slice_index_or, slice_set, refl, ap, arith}
-use Rattle.sys_rounds.specs.Places.{changed}
+use Rattle.sys_state.specs.Places.{changed}
 
 -- a change at a place is a write there
 pub set_changed : {X : Type 0} (f : X → X) (xs : List X) (k : ℕ) (x : X) → k < length xs → x ≡ slice_index_or xs k x → slice_set xs k (f x) ≡ changed f xs k

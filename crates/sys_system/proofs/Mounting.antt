@@ -15,9 +15,9 @@ use Rattle.sys_objects.specs.declared.records.Mount.{Mount}
 use Rattle.sys_objects.specs.declared.records.VolumeRow.{VolumeRow}
 use Rattle.sys_server.specs.declared.command.ServerState.{ServerState}
 use Rattle.sys_system.proofs.Insides.{inside_of}
-use Rattle.sys_system.specs.Held.{IsInside, turns_of}
+use Rattle.sys_system.specs.Held.{AreSystemParts, turns_of}
 use Rattle.sys_system.specs.Powers.{no_turns}
-use Rattle.sys_system.specs.Seats.{AreMounted, IsServer, no_units}
+use Rattle.sys_system.specs.Seats.{AreMounted, IsInitialServer, no_units}
 use Rattle.sys_system.specs.System.{Turns}
 use Rattle.sys_system.specs.declared.parts.Parts.{Parts}
 use Rattle.vm_stepping.specs.Made.{no_counts, steps_in}
@@ -77,7 +77,7 @@ pub record IsSeated (c : Config) (server : ServerState) : Type 0 where
   pub beyond : All (λ o. o ≡ None) (drop (length c.terminals) server.at)
   pub mounts : All (AreUnits (length c.volumes)) server.mounts
 
-pub seated_at_first : (c : Config) (server : ServerState) → IsConfig c → IsServer c server → IsSeated c server
+pub seated_at_first : (c : Config) (server : ServerState) → IsConfig c → IsInitialServer c server → IsSeated c server
 seated_at_first c server accepted is = record {
   terminals = is.seated.size;
   guests = is.mounted.size;
@@ -87,7 +87,7 @@ seated_at_first c server accepted is = record {
 }
 
 -- the parts of a system between two rounds
-pub assembled : (memory : List ℕ) (s : Parts) (rows : List GuestRow) → IsConfig s.kernel.config → rows ≡ s.kernel.config.guests → AreInMachine rows memory s.kernel.guests.items → IsSeated s.kernel.config s.kernel.server → map length s.volumes ≡ map (λ (v : VolumeRow). v.blocks) s.kernel.config.volumes → turns_of s.turns ≡ no_turns (length rows) → s.rounds ≤ 4000000000 → s.counts ≡ no_counts → IsInside s
+pub assembled : (memory : List ℕ) (s : Parts) (rows : List GuestRow) → IsConfig s.kernel.config → rows ≡ s.kernel.config.guests → AreInMachine rows memory s.kernel.guests.items → IsSeated s.kernel.config s.kernel.server → map length s.volumes ≡ map (λ (v : VolumeRow). v.blocks) s.kernel.config.volumes → turns_of s.turns ≡ no_turns (length rows) → s.rounds ≤ 4000000000 → s.counts ≡ no_counts → AreSystemParts s
 assembled memory s rows accepted same placed seated sized turns few counts =
     let left : s.turns.left.items ≡ replicate (length rows) 0 = ap (λ (t : Turns). t.left) turns in
     inside_of memory s (record {

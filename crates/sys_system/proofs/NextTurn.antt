@@ -8,8 +8,8 @@ use Rattle.std.specs.List.{position_or_len}
 use Rattle.std.specs.Prelude.{position, nat_lt}
 use Rattle.sys_system.specs.Calls.{CanTake}
 use Rattle.sys_system.specs.System.{IsSystem, NoneLeft, System, first_of, next_guest, next_slice}
-use Rattle.sys_rounds.proofs.Places.{both}
-use Rattle.sys_rounds.specs.Slices.{Slice}
+use Rattle.sys_state.proofs.Places.{both}
+use Rattle.sys_state.specs.Slices.{Slice}
 
 same_some : {X : Type 0} (x y : X) → (let o : Option X = Some x in o ≡ Some y) → x ≡ y
 same_some x y e = cc

@@ -7,14 +7,14 @@ use Rattle.sys_objects.specs.declared.records.Config.{Config}
 use Rattle.sys_objects.specs.declared.records.GuestRow.{GuestRow}
 use Rattle.sys_objects.specs.declared.records.Mount.{Mount}
 use Rattle.sys_objects.specs.declared.records.Terminal.{Terminal}
-use Rattle.sys_rounds.specs.Events.{happened}
-use Rattle.sys_rounds.specs.FirstTouches.{event_starts, frames_by, reset_as, touches_of_events, touches_of_queue, touches_of_transfers, with_reset}
-use Rattle.sys_rounds.specs.Guests.{alone, with_no_queue}
-use Rattle.sys_rounds.specs.Places.{changed}
-use Rattle.sys_rounds.specs.SlicedTouches.{touches_of_slice, touches_of_slices}
-use Rattle.sys_rounds.specs.Slices.{Slice, slices}
-use Rattle.sys_rounds.specs.State.{State}
-use Rattle.sys_rounds.specs.Transfers.{move_of, packet_at, served, served_one}
+use Rattle.sys_state.specs.Events.{happened}
+use Rattle.sys_state.specs.FirstTouches.{event_starts, frames_by, reset_as, touches_of_events, touches_of_queue, touches_of_transfers, with_reset}
+use Rattle.sys_state.specs.Guests.{alone, with_no_queue}
+use Rattle.sys_state.specs.Places.{changed}
+use Rattle.sys_state.specs.SlicedTouches.{touches_of_slice, touches_of_slices}
+use Rattle.sys_state.specs.Slices.{Slice, slices}
+use Rattle.sys_state.specs.State.{SystemState}
+use Rattle.sys_state.specs.Transfers.{move_of, packet_at, served, served_one}
 use Rattle.sys_script.specs.declared.event.Event.{Event}
 use Rattle.vm_guest.specs.Kept.{Kept}
 use Rattle.vm_state.specs.State.{Guest}
@@ -74,10 +74,10 @@ counted_with : (o : Option ℕ) (gs : List Guest) (ts : List Touching) → count
 counted_with None gs ts = refl
 counted_with (Some g) gs ts = counted_set (reset_as (slice_get gs g)) (counted_reset (slice_get gs g)) ts g
 
-pub counted_events : (c : Config) (i : ℕ) (s : State) (es : List Event) (ts : List Touching) → counted_in (touches_of_events c i s es ts) ≡ counted_in ts
+pub counted_events : (c : Config) (i : ℕ) (s : SystemState) (es : List Event) (ts : List Touching) → counted_in (touches_of_events c i s es ts) ≡ counted_in ts
 counted_events c i s [] ts = refl
 counted_events c i s (e ∷ es) ts =
-    let after : State = (happened c i s e).now in
+    let after : SystemState = (happened c i s e).now in
     counted_events c i after es (with_reset (event_starts c s e) after.guests ts) ∙ counted_with (event_starts c s e) after.guests ts
 
 -- and so do transfers

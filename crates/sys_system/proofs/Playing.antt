@@ -16,22 +16,22 @@ use Rattle.sys_objects.specs.declared.records.GuestRow.{GuestRow}
 use Rattle.sys_system.proofs.Paying.{pays_more, pays_none}
 use Rattle.sys_system.proofs.Slicing.{falls, front_takes, left_falls, now_more, puts_more, quanta_of, quantum_is, retires_then, taken, tally_more, total_more, slices_more}
 use Rattle.sys_system.specs.Calls.{CanTake, Plays, TakesSlice}
-use Rattle.sys_system.specs.System.{IsSystem, NoneLeft, StandsIn, System, Turns, after_slice, all_turns, slice_of_time}
-use Rattle.sys_rounds.proofs.Additions.{added_twice}
-use Rattle.sys_rounds.proofs.Consoles.{bytes_append}
-use Rattle.sys_rounds.proofs.Places.{both}
-use Rattle.sys_rounds.proofs.Steps.{as_sum}
-use Rattle.sys_rounds.specs.Counts.{added, slices_tally, tally_by}
-use Rattle.sys_rounds.specs.Places.{changed}
-use Rattle.sys_rounds.specs.SlicedTouches.{touches_of_slice}
-use Rattle.sys_rounds.specs.Slices.{AreQuanta, Slice, sliced, slices, total}
-use Rattle.sys_rounds.specs.State.{Put, State, bytes_on}
+use Rattle.sys_system.specs.System.{IsInMachine, IsSystem, NoneLeft, System, Turns, after_slice, all_turns, slice_of_time}
+use Rattle.sys_state.proofs.Additions.{added_twice}
+use Rattle.sys_state.proofs.Consoles.{bytes_append}
+use Rattle.sys_state.proofs.Places.{both}
+use Rattle.sys_state.proofs.Steps.{as_sum}
+use Rattle.sys_state.specs.Counts.{added, slices_tally, tally_by}
+use Rattle.sys_state.specs.Places.{changed}
+use Rattle.sys_state.specs.SlicedTouches.{touches_of_slice}
+use Rattle.sys_state.specs.Slices.{AreQuanta, Slice, sliced, slices, total}
+use Rattle.sys_state.specs.State.{Put, SystemState, bytes_on}
 use Rattle.vm_state.specs.Run.{Tally}
 use Rattle.vm_state.specs.State.{Guest}
 use Rattle.vm_stepping.specs.Made.{tally_of}
 
 -- no slice yet
-pub plays_none : (s : System) (m : Machine) (lines : List Seen) → IsSystem s → StandsIn m.memory s → s.turns.is_begun ≡ true → Plays [] m s lines m s lines
+pub plays_none : (s : System) (m : Machine) (lines : List Seen) → IsSystem s → IsInMachine m.memory s → s.turns.is_begun ≡ true → Plays [] m s lines m s lines
 plays_none s m lines h stands running = record {
   system = refl;
   guests = refl;
@@ -64,7 +64,7 @@ plays_more xs x m m' m'' s s' s'' lines lines' lines'' p can t pays =
     let tally : added (slices_tally xs gs) (tally_by x.steps (slice_get gs' x.guest)) ≡ slices_tally (xs ++ x ∷ []) gs = ap (λ (hs : List Guest). added (slices_tally xs gs) (tally_by x.steps (slice_get hs x.guest))) p.guests ∙ sym (tally_more ks os xs x gs) in
     record {
       system = t.system ∙ (λ i. record (p.system i) { guests = s''.guests; turns = after_slice s'.turns x; counts = s''.counts; marks = s''.marks }) ∙ (λ i. record s { guests = s''.guests; turns = sym turns i; counts = s''.counts; marks = s''.marks });
-      guests = ap (λ (y : State). y.guests) t.goes.state ∙ (λ i. (sliced (terminals i) (consoles i) x (p.guests i)).now) ∙ sym (now_more ks os xs x gs);
+      guests = ap (λ (y : SystemState). y.guests) t.goes.state ∙ (λ i. (sliced (terminals i) (consoles i) x (p.guests i)).now) ∙ sym (now_more ks os xs x gs);
       shows = shows_same s.marks s''.marks lines lines'' _ _ bytes (shows_then p.shows t.goes.shows);
       counts = t.counts ∙ ap (λ (u : Tally). added u (tally_by x.steps (slice_get gs' x.guest))) p.counts ∙ added_twice (tally_of s.counts) (slices_tally xs gs) (tally_by x.steps (slice_get gs' x.guest)) ∙ ap (added (tally_of s.counts)) tally;
       retires = subst (λ (u : Tally). Retires m m'' u) tally (retires_then m m' m'' (slices_tally xs gs) (tally_by x.steps (slice_get gs' x.guest)) p.retires t.retires);

@@ -17,21 +17,21 @@ use Rattle.sys_objects.specs.declared.records.Config.{Config}
 use Rattle.sys_system.proofs.Paying.{counted_events, counted_transfers, pays_as, pays_kept, pays_then}
 use Rattle.sys_system.proofs.Playing.{quanta_taken}
 use Rattle.sys_system.specs.Calls.{AreOf, BeginsRound, EndsRound, MakesRound, Plays}
-use Rattle.sys_system.specs.System.{NoneLeft, StandsIn, System, all_turns, state_of}
-use Rattle.sys_rounds.proofs.Consoles.{bytes_append}
-use Rattle.sys_rounds.proofs.Schedules.{any_schedule}
-use Rattle.sys_rounds.proofs.SlicedRound.{any_round}
-use Rattle.sys_rounds.proofs.SlicedTouches.{same_touches}
-use Rattle.sys_rounds.specs.Counts.{added, round_tally, slices_tally}
-use Rattle.sys_rounds.specs.Events.{events}
-use Rattle.sys_rounds.specs.FirstTouches.{touches_of_events, touches_of_round, touches_of_transfers, touches_of_turns}
-use Rattle.sys_rounds.specs.Run.{events_of, round}
-use Rattle.sys_rounds.specs.SlicedRound.{IsTheRound}
-use Rattle.sys_rounds.specs.SlicedTouches.{touches_of_slices}
-use Rattle.sys_rounds.specs.Slices.{AreQuanta, Slice, slices}
-use Rattle.sys_rounds.specs.State.{Put, State, Went, bytes_on}
-use Rattle.sys_rounds.specs.Transfers.{transfers}
-use Rattle.sys_rounds.specs.Turns.{turns}
+use Rattle.sys_system.specs.System.{IsInMachine, NoneLeft, System, all_turns, system_state}
+use Rattle.sys_state.proofs.Consoles.{bytes_append}
+use Rattle.sys_state.proofs.Schedules.{any_schedule}
+use Rattle.sys_state.proofs.SlicedRound.{any_round}
+use Rattle.sys_state.proofs.SlicedTouches.{same_touches}
+use Rattle.sys_state.specs.Counts.{added, round_tally, slices_tally}
+use Rattle.sys_state.specs.Events.{events}
+use Rattle.sys_state.specs.FirstTouches.{touches_of_events, touches_of_round, touches_of_transfers, touches_of_turns}
+use Rattle.sys_state.specs.Run.{events_of, round}
+use Rattle.sys_state.specs.SlicedRound.{IsTheRound}
+use Rattle.sys_state.specs.SlicedTouches.{touches_of_slices}
+use Rattle.sys_state.specs.Slices.{AreQuanta, Slice, slices}
+use Rattle.sys_state.specs.State.{Put, SystemState, Went, bytes_on}
+use Rattle.sys_state.specs.Transfers.{transfers}
+use Rattle.sys_state.specs.Turns.{turns}
 use Rattle.sys_script.specs.declared.event.Event.{Event}
 use Rattle.vm_guest.specs.Kept.{Kept}
 use Rattle.vm_state.specs.Run.{Tally}
@@ -47,14 +47,14 @@ all_of i (e ∷ es) are =
     rw here (ap (λ (xs : List Event). e ∷ xs) (all_of i es (λ k d h. are (suc k) d (omega (arith, h)))))
 
 -- slices after events, and transfers after them
-abbrev after_slices : Config → List Slice → Went State → Went State
+abbrev after_slices : Config → List Slice → Went SystemState → Went SystemState
 after_slices c xs begun =
     let turned = slices c.terminals begun.now.connected xs begun.now.guests in
     let ended = transfers c (record begun.now { guests = turned.now }) in
     record { now = ended.now; puts = begun.puts ++ turned.puts ++ ended.puts }
 
-module _ (es : List Event) (xs : List Slice) (m m1 m2 m3 : Machine) (s s1 s2 s3 : System) (lines lines1 lines2 lines3 : List Seen) (accepted : IsConfig s.config) (stands : StandsIn m.memory s) (are : AreOf (s.rounds + 1) es) (b : BeginsRound es m s lines m1 s1 lines1) (p : Plays xs m1 s1 lines1 m2 s2 lines2) (none : NoneLeft s2.turns.left) (e : EndsRound m2 s2 lines2 m3 s3 lines3)
-    (keeps : KeepsAll (touches_of_events s.config (s.rounds + 1) (state_of m.memory s) es) s.guests s1.guests) (units : length s2.mounts ≡ length s2.config.guests)
+module _ (es : List Event) (xs : List Slice) (m m1 m2 m3 : Machine) (s s1 s2 s3 : System) (lines lines1 lines2 lines3 : List Seen) (accepted : IsConfig s.config) (stands : IsInMachine m.memory s) (are : AreOf (s.rounds + 1) es) (b : BeginsRound es m s lines m1 s1 lines1) (p : Plays xs m1 s1 lines1 m2 s2 lines2) (none : NoneLeft s2.turns.left) (e : EndsRound m2 s2 lines2 m3 s3 lines3)
+    (keeps : KeepsAll (touches_of_events s.config (s.rounds + 1) (system_state m.memory s) es) s.guests s1.guests) (units : length s2.mounts ≡ length s2.config.guests)
     (leaves : KeepsAll (touches_of_transfers s2.config s2.config.guests s2.mounts (guests_in m2.memory s2.guests) s2.volumes) s2.guests s3.guests) where
   abbrev c : Config
   c = s.config
@@ -62,10 +62,10 @@ module _ (es : List Event) (xs : List Slice) (m m1 m2 m3 : Machine) (s s1 s2 s3 
   abbrev i : ℕ
   i = s.rounds + 1
 
-  abbrev st : State
-  st = state_of m.memory s
+  abbrev st : SystemState
+  st = system_state m.memory s
 
-  abbrev begun : Went State
+  abbrev begun : Went SystemState
   begun = events c i st es
 
   abbrev turned : Went (List Guest)
@@ -95,18 +95,18 @@ module _ (es : List Event) (xs : List Slice) (m m1 m2 m3 : Machine) (s s1 s2 s3 
   is_turned : slices s1.config.terminals s1.connected xs (guests_in m1.memory s1.guests) ≡ turned
   is_turned = λ j. slices (config1 j).terminals (b.goes.state j).connected xs (b.goes.state j).guests
 
-  state2 : state_of m2.memory s2 ≡ record begun.now { guests = turned.now }
+  state2 : system_state m2.memory s2 ≡ record begun.now { guests = turned.now }
   state2 =
-      let same : state_of m2.memory s2 ≡ record (state_of m1.memory s1) { guests = (slices s1.config.terminals s1.connected xs (guests_in m1.memory s1.guests)).now } = λ j. record { connected = (p.system j).connected; mounts = (p.system j).mounts; guests = p.guests j; volumes = (p.system j).volumes } in
+      let same : system_state m2.memory s2 ≡ record (system_state m1.memory s1) { guests = (slices s1.config.terminals s1.connected xs (guests_in m1.memory s1.guests)).now } = λ j. record { connected = (p.system j).connected; mounts = (p.system j).mounts; guests = p.guests j; volumes = (p.system j).volumes } in
       same ∙ (λ j. record (b.goes.state j) { guests = (is_turned j).now })
 
-  state3 : state_of m3.memory s3 ≡ (after_slices c xs begun).now
+  state3 : system_state m3.memory s3 ≡ (after_slices c xs begun).now
   state3 = e.goes.state ∙ (λ j. (transfers (config2 j) (state2 j)).now)
 
-  ended_puts : (transfers s2.config (state_of m2.memory s2)).puts ≡ (transfers c (record begun.now { guests = turned.now })).puts
+  ended_puts : (transfers s2.config (system_state m2.memory s2)).puts ≡ (transfers c (record begun.now { guests = turned.now })).puts
   ended_puts = λ j. (transfers (config2 j) (state2 j)).puts
 
-  shown : (k : ℕ) → (bytes_on k begun.puts ++ bytes_on k (slices s1.config.terminals s1.connected xs (guests_in m1.memory s1.guests)).puts) ++ bytes_on k (transfers s2.config (state_of m2.memory s2)).puts ≡ bytes_on k (after_slices c xs begun).puts
+  shown : (k : ℕ) → (bytes_on k begun.puts ++ bytes_on k (slices s1.config.terminals s1.connected xs (guests_in m1.memory s1.guests)).puts) ++ bytes_on k (transfers s2.config (system_state m2.memory s2)).puts ≡ bytes_on k (after_slices c xs begun).puts
   shown k =
       let last : List Put = (transfers c (record begun.now { guests = turned.now })).puts in
       (λ j. (bytes_on k begun.puts ++ bytes_on k (is_turned j).puts) ++ bytes_on k (ended_puts j))
@@ -127,7 +127,7 @@ module _ (es : List Event) (xs : List Slice) (m m1 m2 m3 : Machine) (s s1 s2 s3 
 
   tally : slices_tally xs (guests_in m1.memory s1.guests) ≡ round_tally c.guests begun.now.guests
   tally =
-      ap (λ (y : State). slices_tally xs y.guests) b.goes.state
+      ap (λ (y : SystemState). slices_tally xs y.guests) b.goes.state
       ∙ ap (λ (ys : List Event). slices_tally xs (events c i st ys).now.guests) (sym of) ∙ same.counts
       ∙ ap (λ (ys : List Event). round_tally c.guests (events c i st ys).now.guests) of
 
@@ -141,7 +141,7 @@ module _ (es : List Event) (xs : List Slice) (m m1 m2 m3 : Machine) (s s1 s2 s3 
 
   -- first touches pay for what is missed in the slices
   begun_long : length begun.now.guests ≡ length s1.guests
-  begun_long = ap (λ (y : State). length y.guests) (sym b.goes.state) ∙ length-map s1.guests (λ (k : Kept). _)
+  begun_long = ap (λ (y : SystemState). length y.guests) (sym b.goes.state) ∙ length-map s1.guests (λ (k : Kept). _)
 
   rows_long : length begun.now.guests ≡ length c.guests
   rows_long = begun_long ∙ placed_long 0 (sum_by (λ (row : GuestRow). row.pages) s1.config.guests) s1.config.guests s1.guests b.goes.stands.laid_out ∙ ap (λ (y : Config). length y.guests) config1
@@ -149,20 +149,20 @@ module _ (es : List Event) (xs : List Slice) (m m1 m2 m3 : Machine) (s s1 s2 s3 
   turns_same : record begun.now { guests = turned.now } ≡ (turns c begun.now).now
   turns_same = ap (λ (gs : List Guest). record begun.now { guests = gs }) (any_schedule c begun.now xs accepted rows_long quanta).0
 
-  whole_state : state_of m2.memory s2 ≡ (turns c begun.now).now
+  whole_state : system_state m2.memory s2 ≡ (turns c begun.now).now
   whole_state = state2 ∙ turns_same
 
-  abbrev moved : Config → State → List Touching → List Touching
+  abbrev moved : Config → SystemState → List Touching → List Touching
   moved y x ts = touches_of_transfers y y.guests x.mounts x.guests x.volumes ts
 
   abbrev touched : List Touching → List Touching
-  touched ts = moved s2.config (state_of m2.memory s2) (touches_of_slices xs (guests_in m1.memory s1.guests) (touches_of_events c i st es ts))
+  touched ts = moved s2.config (system_state m2.memory s2) (touches_of_slices xs (guests_in m1.memory s1.guests) (touches_of_events c i st es ts))
 
   touches_same : (ts : List Touching) → HavePresent s.guests ts → touched ts ≡ touches_of_round c i es st ts
   touches_same ts all =
       let us : List Touching = touches_of_events c i st es ts in
       let long : length us ≡ length begun.now.guests = touches_long s1.guests us (keeps ts all) ∙ sym begun_long in
-      let middle : touches_of_slices xs (guests_in m1.memory s1.guests) us ≡ touches_of_turns c.guests begun.now.guests us = ap (λ (y : State). touches_of_slices xs y.guests us) b.goes.state ∙ same_touches c.guests begun.now.guests xs us rows_long long quanta in
+      let middle : touches_of_slices xs (guests_in m1.memory s1.guests) us ≡ touches_of_turns c.guests begun.now.guests us = ap (λ (y : SystemState). touches_of_slices xs y.guests us) b.goes.state ∙ same_touches c.guests begun.now.guests xs us rows_long long quanta in
       let last : List Event → List Touching = λ ys. moved c (turns c (events c i st ys).now).now (touches_of_turns c.guests (events c i st ys).now.guests (touches_of_events c i st ys ts)) in
       (λ j. moved (config2 j) (whole_state j) (middle j)) ∙ ap last (sym of)
 
@@ -172,12 +172,12 @@ module _ (es : List Event) (xs : List Slice) (m m1 m2 m3 : Machine) (s s1 s2 s3 
       let gs2 : List Guest = guests_in m2.memory s2.guests in
       let long2 : length gs2 ≡ length s2.guests = length-map s2.guests (λ (k : Kept). _) in
       let rows2 : length s2.guests ≡ length s2.config.guests = placed_long 0 (sum_by (λ (row : GuestRow). row.pages) s2.config.guests) s2.config.guests s2.guests p.stands.laid_out in
-      let end : PaysAll (moved s2.config (state_of m2.memory s2)) m2 s2.guests m3 s3.guests = pays_kept (moved s2.config (state_of m2.memory s2)) m2 m3 s2.guests s3.guests (ap (λ (x : Machine). x.misses) e.machine)
+      let end : PaysAll (moved s2.config (system_state m2.memory s2)) m2 s2.guests m3 s3.guests = pays_kept (moved s2.config (system_state m2.memory s2)) m2 m3 s2.guests s3.guests (ap (λ (x : Machine). x.misses) e.machine)
       (λ ts all. counted_transfers s2.config s2.config.guests s2.mounts gs2 s2.volumes ts units (long2 ∙ rows2) (touches_long s2.guests ts all ∙ sym long2)) leaves in
       let begun1 = touches_of_events c i st es in
       let sliced1 = touches_of_slices xs (guests_in m1.memory s1.guests) in
       pays_as touched (touches_of_round c i es st) m m3 s.guests s3.guests touches_same
-      (pays_then (λ ts. sliced1 (begun1 ts)) (moved s2.config (state_of m2.memory s2)) m m2 m3 s.guests s2.guests s3.guests (pays_then begun1 sliced1 m m1 m2 s.guests s1.guests s2.guests begin p.pays) end)
+      (pays_then (λ ts. sliced1 (begun1 ts)) (moved s2.config (system_state m2.memory s2)) m m2 m3 s.guests s2.guests s3.guests (pays_then begun1 sliced1 m m1 m2 s.guests s1.guests s2.guests begin p.pays) end)
 
   pub round_made : MakesRound es m s lines m3 s3 lines3
   round_made = record {

@@ -18,15 +18,15 @@ use Rattle.sys_objects.specs.declared.records.VolumeRow.{VolumeRow}
 use Rattle.sys_system.proofs.Insides.{AreCounted, inside_of, kernel_holds}
 use Rattle.sys_system.proofs.Slicing.{falls}
 use Rattle.sys_system.specs.Calls.{CanTake, TakesSlice}
-use Rattle.sys_system.specs.Held.{IsInside, system_of, turns_of}
-use Rattle.sys_system.specs.System.{StandsIn, Turns, after_slice, slice_of_time}
+use Rattle.sys_system.specs.Held.{AreSystemParts, system_of, turns_of}
+use Rattle.sys_system.specs.System.{IsInMachine, Turns, after_slice, slice_of_time}
 use Rattle.sys_system.specs.declared.parts.Parts.{Parts}
-use Rattle.sys_rounds.proofs.Consoles.{bytes_of_console}
-use Rattle.sys_rounds.specs.Consoles.{console_of}
-use Rattle.sys_rounds.specs.Counts.{added, tally_by}
-use Rattle.sys_rounds.specs.Places.{changed, is_at}
-use Rattle.sys_rounds.specs.Slices.{Slice, shown_by}
-use Rattle.sys_rounds.specs.State.{bytes_on}
+use Rattle.sys_state.proofs.Consoles.{bytes_of_console}
+use Rattle.sys_state.specs.Consoles.{console_of}
+use Rattle.sys_state.specs.Counts.{added, tally_by}
+use Rattle.sys_state.specs.Places.{changed, is_at}
+use Rattle.sys_state.specs.Slices.{Slice, slice_puts}
+use Rattle.sys_state.specs.State.{bytes_on}
 use Rattle.sys_server.specs.declared.command.ServerState.{ServerState}
 use Rattle.vm_state.specs.Run.{Tally}
 use Rattle.vm_state.specs.State.{Guest}
@@ -52,7 +52,7 @@ small_line (t ∷ ts) (o ∷ os) g all =
     by false line rest small others = others
 
 -- what a slice shows, on the line of its guest's console
-shown_on : (line : ℕ) (console : Option ℕ) (n : ℕ) (o : Option Guest) → only_on console (shown_in n o) line ≡ bytes_on line (shown_by console n o)
+shown_on : (line : ℕ) (console : Option ℕ) (n : ℕ) (o : Option Guest) → only_on console (shown_in n o) line ≡ bytes_on line (slice_puts console n o)
 shown_on line console n None = nothing (is_at line console)
   where
     nothing : (b : Bool) → (let none : List ℕ = [] in if b then none else none) ≡ []
@@ -87,7 +87,7 @@ pub record StaysBeside (s s' : Parts) : Type 0 where
   pub rounds : s'.rounds ≡ s.rounds
   pub drives : s'.drives ≡ s.drives
 
-counted_taken : (piece : TimeSlice) (s s' : Parts) (c : Counts) → IsInside s → CanTake (system_of s) (slice_of_time piece) → StaysBeside s s' → steps_in c ≡ piece.steps → tally_of s'.counts ≡ added (tally_of s.counts) (tally_of c) → turns_of s'.turns ≡ after_slice (turns_of s.turns) (slice_of_time piece) → AreCounted s'
+counted_taken : (piece : TimeSlice) (s s' : Parts) (c : Counts) → AreSystemParts s → CanTake (system_of s) (slice_of_time piece) → StaysBeside s s' → steps_in c ≡ piece.steps → tally_of s'.counts ≡ added (tally_of s.counts) (tally_of c) → turns_of s'.turns ≡ after_slice (turns_of s.turns) (slice_of_time piece) → AreCounted s'
 counted_taken piece s s' c h can stays steps counts turns =
     let k = piece.guest in
     let n = piece.steps in
@@ -102,8 +102,8 @@ counted_taken piece s s' c h can stays steps counts turns =
       few_rounds = omega (arith, h.system.few_rounds, stays.rounds);
     }
 
-pub taken : (piece : TimeSlice) (m m' : Machine) (s s' : Parts) (lines lines' : List Seen) (shown : List ℕ) (c : Counts) (console : Option ℕ) → IsInside s → StandsIn m.memory (system_of s) → CanTake (system_of s) (slice_of_time piece) → StaysBeside s s' → AdvancesOne (slice_of_time piece) m s.kernel.guests.items m' s'.kernel.guests.items shown c
-    → tally_of s'.counts ≡ added (tally_of s.counts) (tally_of c) → console ≡ console_of s.kernel.config.terminals s.kernel.server.at piece.guest → Shows s.kernel.marks s'.kernel.marks lines lines' (only_on console shown) → turns_of s'.turns ≡ after_slice (turns_of s.turns) (slice_of_time piece) → TakesSlice (slice_of_time piece) m (system_of s) lines m' (system_of s') lines' × IsInside s'
+pub taken : (piece : TimeSlice) (m m' : Machine) (s s' : Parts) (lines lines' : List Seen) (shown : List ℕ) (c : Counts) (console : Option ℕ) → AreSystemParts s → IsInMachine m.memory (system_of s) → CanTake (system_of s) (slice_of_time piece) → StaysBeside s s' → AdvancesOne (slice_of_time piece) m s.kernel.guests.items m' s'.kernel.guests.items shown c
+    → tally_of s'.counts ≡ added (tally_of s.counts) (tally_of c) → console ≡ console_of s.kernel.config.terminals s.kernel.server.at piece.guest → Shows s.kernel.marks s'.kernel.marks lines lines' (only_on console shown) → turns_of s'.turns ≡ after_slice (turns_of s.turns) (slice_of_time piece) → TakesSlice (slice_of_time piece) m (system_of s) lines m' (system_of s') lines' × AreSystemParts s'
 taken piece m m' s s' lines lines' shown c console h stands can stays a counts at shows turns =
     let x : Slice = slice_of_time piece in
     let ts = s.kernel.config.terminals in
@@ -112,13 +112,13 @@ taken piece m m' s s' lines lines' shown c console h stands can stays a counts a
     let where_to : console ≡ place = at ∙ sym (console_in ts s.kernel.server.at x.guest) in
     let changes = a.changes s.kernel.config.guests stands in
     let tally : tally_of c ≡ tally_by x.steps (slice_get gs x.guest) = a.counts in
-    let bytes : (line : ℕ) → only_on console shown line ≡ bytes_on line (shown_by place x.steps (slice_get gs x.guest)) = λ line. (λ i. only_on (where_to i) (a.shown i) line) ∙ shown_on line place x.steps (slice_get gs x.guest) in
-    let stands' : StandsIn m'.memory (system_of s') = subst (λ (k : Config). AreInMachine k.guests m'.memory s'.kernel.guests.items) (sym stays.config) changes.stay in (
+    let bytes : (line : ℕ) → only_on console shown line ≡ bytes_on line (slice_puts place x.steps (slice_get gs x.guest)) = λ line. (λ i. only_on (where_to i) (a.shown i) line) ∙ shown_on line place x.steps (slice_get gs x.guest) in
+    let stands' : IsInMachine m'.memory (system_of s') = subst (λ (k : Config). AreInMachine k.guests m'.memory s'.kernel.guests.items) (sym stays.config) changes.stay in (
       record {
         system = λ i. record { config = stays.config i; connected = take (length (stays.config i).terminals) (stays.server i).at; mounts = take (length (stays.config i).guests) (stays.server i).mounts; guests = s'.kernel.guests.items; volumes = stays.volumes i; turns = turns i; rounds = stays.rounds i; counts = s'.counts; marks = s'.kernel.marks; drives = stays.drives i };
         goes = record {
           state = λ i. record { connected = take (length (stays.config i).terminals) (stays.server i).at; mounts = take (length (stays.config i).guests) (stays.server i).mounts; guests = changes.guests i; volumes = stays.volumes i };
-          shows = shows_same s.kernel.marks s'.kernel.marks lines lines' (only_on console shown) (λ line. bytes_on line (shown_by place x.steps (slice_get gs x.guest))) bytes shows;
+          shows = shows_same s.kernel.marks s'.kernel.marks lines lines' (only_on console shown) (λ line. bytes_on line (slice_puts place x.steps (slice_get gs x.guest))) bytes shows;
           stands = stands';
           only = changes.only;
           size = changes.size;
@@ -130,7 +130,7 @@ taken piece m m' s s' lines lines' shown c console h stands can stays a counts a
           (ap (λ vs. map length vs) stays.volumes ∙ h.system.volumes ∙ ap (λ (k : Config). map (λ (v : VolumeRow). v.blocks) k.volumes) (sym stays.config)) (counted_taken piece s s' c h can stays a.steps counts turns),
     )
   where
-    still : (memory : List ℕ) (s s' : Parts) → StaysBeside s s' → IsKernel m.memory s.kernel → StandsIn memory (system_of s') → IsKernel memory s'.kernel
+    still : (memory : List ℕ) (s s' : Parts) → StaysBeside s s' → IsKernel m.memory s.kernel → IsInMachine memory (system_of s') → IsKernel memory s'.kernel
     still memory s s' stays k stands = record {
       accepted = subst (λ (y : Config). IsConfig y) (sym stays.config) k.accepted;
       placed = stands;

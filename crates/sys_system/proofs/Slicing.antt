@@ -11,13 +11,13 @@ use Rattle.sys_guests.specs.declared.turns.TimeSlice.{TimeSlice}
 use Rattle.sys_objects.specs.declared.records.GuestRow.{GuestRow}
 use Rattle.sys_objects.specs.declared.records.Terminal.{Terminal}
 use Rattle.sys_system.specs.System.{slice_of_time}
-use Rattle.sys_rounds.proofs.Additions.{added_either, added_twice}
-use Rattle.sys_rounds.proofs.Places.{both}
-use Rattle.sys_rounds.specs.Counts.{added, slices_tally, tally_by}
-use Rattle.sys_rounds.specs.Guests.{alone}
-use Rattle.sys_rounds.specs.Places.{changed}
-use Rattle.sys_rounds.specs.Slices.{AreQuanta, Slice, sliced, slices, total}
-use Rattle.sys_rounds.specs.State.{Put}
+use Rattle.sys_state.proofs.Additions.{added_either, added_twice}
+use Rattle.sys_state.proofs.Places.{both}
+use Rattle.sys_state.specs.Counts.{added, slices_tally, tally_by}
+use Rattle.sys_state.specs.Guests.{alone}
+use Rattle.sys_state.specs.Places.{changed}
+use Rattle.sys_state.specs.Slices.{AreQuanta, Slice, sliced, slices, total}
+use Rattle.sys_state.specs.State.{Put}
 use Rattle.vm_state.specs.Run.{Tally}
 use Rattle.vm_state.specs.State.{Guest}
 

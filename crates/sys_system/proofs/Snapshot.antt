@@ -5,7 +5,7 @@ use Rattle.vv_base.specs.Bytes.{long_bytes}
 use Rattle.vv_io.specs.Lines.{Seen}
 use Rattle.sys_lines.proofs.Puts.{IsBut, begun, goes_on}
 use Rattle.sys_lines.specs.ShownSince.{ShownSince}
-use Rattle.sys_rounds.specs.Run.{Moment}
+use Rattle.sys_state.specs.Run.{Moment}
 use Rattle.sys_saving.specs.Parts.{head_bytes, unit_bytes, volume_bytes}
 use Rattle.sys_snap.specs.Written.{guest_bytes, seat_bytes, snap_bytes, snap_head, state_bytes}
 

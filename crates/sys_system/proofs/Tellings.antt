@@ -3,8 +3,8 @@ use Rattle.std.proofs.Common.{ℕ, ◌≡◌, ◌≤◌, ◌+◌, List, [], ◌+
 use Rattle.std.proofs.lemmas.Bool.{false≢true}
 use Rattle.std.specs.Prelude.{IfSome, IsOk, OnOk, ◌↔◌}
 use Rattle.sys_guests.specs.Changes.{shown_in}
-use Rattle.sys_rounds.specs.Counts.{tally_by}
-use Rattle.sys_system.specs.Watched.{Tells}
+use Rattle.sys_state.specs.Counts.{tally_by}
+use Rattle.sys_system.specs.Watched.{DescribesStep}
 use Rattle.sys_system.specs.declared.watching.Watched.{Watched}
 use Rattle.vm_events.specs.Noted.{note_of}
 use Rattle.vm_state.proofs.Steps.{shows_few}
@@ -22,7 +22,7 @@ all_there : {U E : Type 0} (r : Result U E) (start text bytes : List ℕ) → st
 all_there (Ok u) start text bytes none few fits ok = ok ∙ ap (λ (xs : List ℕ). xs ++ bytes) none
 all_there (Err e) start text bytes none few fits ok = absurd (false≢true (fits.1 (subst (λ (xs : List ℕ). length xs + length bytes ≤ 14) (sym none) (omega (arith, few)))))
 
-pub tells : {U E : Type 0} (o : Option Guest) (w : Watched) (r : Result U E) (start bytes : List ℕ) → tally_of w.counts ≡ tally_by 1 o → IfSome o (λ g. w.note ≡ note_of g) → bytes ≡ shown_in 1 o → start ≡ [] → IsOk r ↔ (length start + length bytes ≤ 14) → OnOk r (w.shown ≡ start ++ bytes) → IfSome o (λ g. Tells g w)
+pub tells : {U E : Type 0} (o : Option Guest) (w : Watched) (r : Result U E) (start bytes : List ℕ) → tally_of w.counts ≡ tally_by 1 o → IfSome o (λ g. w.note ≡ note_of g) → bytes ≡ shown_in 1 o → start ≡ [] → IsOk r ↔ (length start + length bytes ≤ 14) → OnOk r (w.shown ≡ start ++ bytes) → IfSome o (λ g. DescribesStep g w)
 tells None w r start bytes counts note shown none fits ok = tt
 tells (Some g) w r start bytes counts note shown none fits ok = record {
   kind = counts;

@@ -2,7 +2,7 @@
 use Rattle.std.specs.Prelude.{ℕ, List, Bool, Option, Some, None, option_map}
 use Rattle.sys_system.specs.declared.parts.Device.{Device}
 use Rattle.sys_system.specs.declared.parts.Device.TheVariants as devices
-use Rattle.sys_rounds.specs.Places.{place_of}
+use Rattle.sys_state.specs.Places.{place_of}
 
 -- a line, or else a drive
 abbrev pub device_of : Option ℕ → Option ℕ → Option Device

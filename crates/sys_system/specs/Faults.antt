@@ -4,7 +4,7 @@ use Rattle.std.specs.declared.option.Option.TheVariants.{None, Some}
 use Rattle.std.specs.declared.result.Result.{Result}
 use Rattle.std.specs.declared.result.Result.TheVariants.{Ok, Err}
 use Rattle.vax_hw.specs.Machine.{Machine}
-use Rattle.vv_io.specs.Blocks.{Kept}
+use Rattle.vv_io.specs.Blocks.{SeenDrive}
 use Rattle.sys_drives.specs.Loads.{Loads}
 use Rattle.sys_drives.specs.declared.loading.LoadFault.{LoadFault}
 use Rattle.sys_drives.specs.declared.loading.LoadFault.TheVariants as loads
@@ -15,20 +15,20 @@ use Rattle.sys_system.specs.System.{System}
 use Rattle.sys_system.specs.declared.power.PowerFault.{PowerFault}
 use Rattle.sys_system.specs.declared.power.PowerFault.TheVariants.{Image, VolumeSize, DriveIn, NoMemory}
 
-abbrev pub fault_of : LoadFault → PowerFault
-fault_of (loads.VolumeSize v) = VolumeSize v
-fault_of (loads.DriveIn d) = DriveIn d
-fault_of loads.NoMemory = NoMemory
+abbrev pub power_fault : LoadFault → PowerFault
+power_fault (loads.VolumeSize v) = VolumeSize v
+power_fault (loads.DriveIn d) = DriveIn d
+power_fault loads.NoMemory = NoMemory
 
 -- the volumes were read, and the system has them
-pub record HasPower (c : Config) (images : List (List ℕ)) (drives drives' : List Kept) (m' : Machine) (s : System) : Type 0 where
+pub record HasPower (c : Config) (images : List (List ℕ)) (drives drives' : List SeenDrive) (m' : Machine) (s : System) : Type 0 where
   pub fits : first_misfit c.guests images ≡ None
   pub volumes : List (List (List ℕ))
   pub loaded : Loads c.volumes drives drives' (Ok volumes)
   pub powered : IsPowered c images volumes m' s
 
 -- the first image that doesn't fit; or else the first volume that can't be read; or memory ran out
-abbrev pub Powers : Config → List (List ℕ) → List Kept → List Kept → Machine → Result System PowerFault → Type 0
+abbrev pub Powers : Config → List (List ℕ) → List SeenDrive → List SeenDrive → Machine → Result System PowerFault → Type 0
 Powers c images drives drives' m' (Ok s) = HasPower c images drives drives' m' s
 Powers c images drives drives' m' (Err (Image g)) = (first_misfit c.guests images ≡ Some g) × (drives' ≡ drives)
 Powers c images drives drives' m' (Err (VolumeSize v)) = (first_misfit c.guests images ≡ None) × Loads c.volumes drives drives' (Err (loads.VolumeSize v))

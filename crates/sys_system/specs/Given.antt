@@ -9,7 +9,7 @@ use Rattle.sys_drives.specs.Rows.{FitRows}
 use Rattle.sys_guests.specs.Loads.{first_misfit}
 use Rattle.sys_objects.specs.declared.records.Config.{Config}
 use Rattle.sys_objects.specs.declared.records.VolumeRow.{VolumeRow}
-use Rattle.sys_rounds.specs.Places.{beside_with, place_of}
+use Rattle.sys_state.specs.Places.{beside_with, place_of}
 use Rattle.sys_system.specs.Powers.{IsPowered}
 use Rattle.sys_system.specs.System.{System}
 use Rattle.sys_system.specs.declared.power.PowerFault.{PowerFault}

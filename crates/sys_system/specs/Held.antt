@@ -25,7 +25,7 @@ system_of s = record {
 }
 
 -- beyond the terminals and the guests there is nothing
-pub record IsInside (s : Parts) : Type 0 where
+pub record AreSystemParts (s : Parts) : Type 0 where
   pub system : IsSystem (system_of s)
   pub terminals : length s.kernel.server.at ≡ 32
   pub guests : length s.kernel.server.mounts ≡ 16
@@ -33,8 +33,8 @@ pub record IsInside (s : Parts) : Type 0 where
   pub beyond : All (λ o. o ≡ None) (drop (length s.kernel.config.terminals) s.kernel.server.at)
   pub mounts : All (AreUnits (length s.kernel.config.volumes)) s.kernel.server.mounts
 
-abbrev pub seen_of : Inside → System
-seen_of s = system_of s.parts
+abbrev pub inside_system : Inside → System
+inside_system s = system_of s.parts
 
-abbrev pub IsKept : Inside → Type 0
-IsKept s = IsInside s.parts
+abbrev pub HasSystemParts : Inside → Type 0
+HasSystemParts s = AreSystemParts s.parts

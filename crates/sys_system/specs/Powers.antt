@@ -2,8 +2,8 @@
 use Rattle.std.specs.Prelude.{ℕ, ◌≡◌, List, length, replicate, false}
 use Rattle.vax_hw.specs.Machine.{Machine}
 use Rattle.sys_objects.specs.declared.records.Config.{Config}
-use Rattle.sys_system.specs.System.{StandsIn, System, Turns, state_of}
-use Rattle.sys_rounds.specs.Run.{Moment, first_moment}
+use Rattle.sys_system.specs.System.{IsInMachine, System, Turns, system_state}
+use Rattle.sys_state.specs.Run.{Moment, first_moment}
 use Rattle.vm_stepping.specs.Made.{no_counts}
 
 -- no guest has steps left, and no round is begun
@@ -14,8 +14,8 @@ no_turns guests = record { left = replicate guests 0; from = 0; is_begun = false
 -- marked.
 pub record IsAt (m : Moment) (m' : Machine) (s : System) : Type 0 where
   pub system : s ≡ record { config = m.config; connected = m.state.connected; mounts = m.state.mounts; guests = s.guests; volumes = m.state.volumes; turns = no_turns (length m.config.guests); rounds = m.made; counts = no_counts; marks = replicate 32 false; drives = replicate 16 false }
-  pub state : state_of m'.memory s ≡ m.state
-  pub stands : StandsIn m'.memory s
+  pub state : system_state m'.memory s ≡ m.state
+  pub stands : IsInMachine m'.memory s
 
 -- the first state of a run with these images and volumes
 abbrev pub IsPowered : Config → List (List ℕ) → List (List (List ℕ)) → Machine → System → Type 0

@@ -4,8 +4,8 @@ use Rattle.sys_objects.specs.declared.records.Config.{Config}
 use Rattle.sys_objects.specs.declared.records.GuestRow.{GuestRow}
 use Rattle.sys_objects.specs.declared.records.Mount.{Mount}
 use Rattle.sys_objects.specs.declared.records.Terminal.{Terminal}
-use Rattle.sys_rounds.specs.Run.{connections}
 use Rattle.sys_server.specs.declared.command.ServerState.{ServerState}
+use Rattle.sys_state.specs.Run.{connections}
 
 -- by terminal the guest whose console it is at power-up, and none beyond the terminals
 pub record AreSeated (rows : List GuestRow) (terminals : ℕ) (at : List (Option ℕ)) : Type 0 where
@@ -24,6 +24,6 @@ pub record AreMounted (rows : List GuestRow) (mounts : List (List (Option Mount)
   pub size : length mounts ≡ 16
 
 -- what the server keeps at power-up
-pub record IsServer (c : Config) (server : ServerState) : Type 0 where
+pub record IsInitialServer (c : Config) (server : ServerState) : Type 0 where
   pub seated : AreSeated c.guests (length c.terminals) server.at
   pub mounted : AreMounted c.guests server.mounts

@@ -7,10 +7,10 @@ use Rattle.sys_objects.specs.Condition.{IsConfig}
 use Rattle.sys_objects.specs.declared.records.Config.{Config}
 use Rattle.sys_objects.specs.declared.records.GuestRow.{GuestRow}
 use Rattle.sys_objects.specs.declared.records.Mount.{Mount}
-use Rattle.sys_rounds.specs.Places.{changed}
-use Rattle.sys_rounds.specs.Run.{Moment}
-use Rattle.sys_rounds.specs.Slices.{Slice}
-use Rattle.sys_rounds.specs.State.{State}
+use Rattle.sys_state.specs.Places.{changed}
+use Rattle.sys_state.specs.Run.{Moment}
+use Rattle.sys_state.specs.Slices.{Slice}
+use Rattle.sys_state.specs.State.{SystemState}
 use Rattle.vm_guest.specs.Kept.{Kept}
 use Rattle.vm_stepping.specs.Made.{steps_in}
 use Rattle.vm_stepping.specs.declared.counts.Counts.{Counts}
@@ -41,12 +41,12 @@ pub record System : Type 0 where
   pub drives : List Bool
 
 -- the state that it stands for, with the machine's memory
-abbrev pub state_of : List ℕ → System → State
-state_of memory s = record { connected = s.connected; mounts = s.mounts; guests = guests_in memory s.guests; volumes = s.volumes }
+abbrev pub system_state : List ℕ → System → SystemState
+system_state memory s = record { connected = s.connected; mounts = s.mounts; guests = guests_in memory s.guests; volumes = s.volumes }
 
 -- the moment at which it is, where no round is begun
 abbrev pub moment_of : List ℕ → System → Moment
-moment_of memory s = record { config = s.config; made = s.rounds; state = state_of memory s }
+moment_of memory s = record { config = s.config; made = s.rounds; state = system_state memory s }
 
 -- what holds of it at every moment
 pub record IsSystem (s : System) : Type 0 where
@@ -65,8 +65,8 @@ pub record IsSystem (s : System) : Type 0 where
   pub few_rounds : s.rounds ≤ 4000000000
 
 -- its guests are laid out in the machine, and the real tables of each stand for its own
-abbrev pub StandsIn : List ℕ → System → Type 0
-StandsIn memory s = AreInMachine s.config.guests memory s.guests
+abbrev pub IsInMachine : List ℕ → System → Type 0
+IsInMachine memory s = AreInMachine s.config.guests memory s.guests
 
 -- a round begins with all quanta
 abbrev pub all_turns : List GuestRow → Turns

@@ -8,7 +8,7 @@ use Rattle.vm_state.specs.Step.{step}
 use Rattle.vm_stepping.specs.Made.{tally_of}
 
 -- the kind of a guest's next step, what it tells, and the bytes that it shows
-pub record Tells (g : Guest) (w : Watched) : Type 0 where
+pub record DescribesStep (g : Guest) (w : Watched) : Type 0 where
   pub kind : tally_of w.counts ≡ tallied (step g).kind no_steps
   pub note : w.note ≡ note_of g
   pub shown : w.shown ≡ (step g).shown

@@ -2,13 +2,13 @@ ghost use Rattle.std.specs.Prelude.{◌≡◌, ◌≤◌, ◌*◌, IfOk, None, l
 ghost use Rattle.sys_guests.specs.Layout.{guests_in};
 ghost use Rattle.sys_guests.specs.Loads.{MemoryAlone, first_misfit};
 ghost use Rattle.sys_guests.specs.Present.{HavePresent};
-ghost use Rattle.sys_rounds.specs.FirstTouches.{none_touched};
+ghost use Rattle.sys_state.specs.FirstTouches.{none_touched};
 ghost use Rattle.sys_objects.specs.Condition.{IsConfig};
-ghost use Rattle.sys_system.specs.Held.{IsInside, system_of};
-ghost use Rattle.sys_snap.specs.Held.{HoldsMoment, moment_of};
+ghost use Rattle.sys_system.specs.Held.{AreSystemParts, system_of};
+ghost use Rattle.sys_snap.specs.Held.{HoldsMoment, snapshot_moment};
 ghost use Rattle.sys_snap.specs.Snap.{IsMoment};
 ghost use Rattle.sys_system.specs.Powers.{IsAt, IsPowered};
-ghost use Rattle.sys_system.specs.Seats.{AreMounted, IsServer};
+ghost use Rattle.sys_system.specs.Seats.{AreMounted, IsInitialServer};
 
 use crate::consoles::connections;
 use crate::given::volumes_of;
@@ -40,7 +40,7 @@ fn mounts_of(rows: &[GuestRow]) -> [[Option<Mount>; 4]; 16]
 /// What the server keeps at power-up.
 fn server_of(config: &Config) -> ServerState
     requires { IsConfig config.now }
-    ensures { IsServer config.now result }
+    ensures { IsInitialServer config.now result }
 {
     let rows = config.guests.as_slice();
     ServerState {
@@ -64,7 +64,7 @@ pub fn assemble<H: Hardware>(
     requires fit { first_misfit config.guests (map (λ b. b.items) images.now) ≡ None }
     requires sizes { map length volumes ≡ map (λ v. v.blocks) config.volumes }
     requires pages { length (H.machine machine.old).memory ≡ 512 * 32768 }
-    ensures inside { IfOk result IsInside }
+    ensures inside { IfOk result AreSystemParts }
     ensures powered { IfOk result (λ s. IsPowered config (map (λ b. b.items) images.now) volumes (H.machine machine.new) (system_of s)) }
     ensures present { IfOk result (λ s. HavePresent (system_of s).guests (map none_touched (guests_in (H.machine machine.new).memory (system_of s).guests))) }
     ensures alone { MemoryAlone (H.machine machine.old) (H.machine machine.new) }
@@ -98,10 +98,10 @@ pub fn assemble_again<H: Hardware>(
     machine: &mut H,
 ) -> Result<Parts, NoMemory>
     requires held { HoldsMoment snap }
-    requires moment { IsMoment (moment_of snap) }
+    requires moment { IsMoment (snapshot_moment snap) }
     requires pages { length (H.machine machine.old).memory ≡ 512 * 32768 }
-    ensures inside { IfOk result IsInside }
-    ensures at { IfOk result (λ s. IsAt (moment_of snap) (H.machine machine.new) (system_of s)) }
+    ensures inside { IfOk result AreSystemParts }
+    ensures at { IfOk result (λ s. IsAt (snapshot_moment snap) (H.machine machine.new) (system_of s)) }
     ensures present { IfOk result (λ s. HavePresent (system_of s).guests (map none_touched (guests_in (H.machine machine.new).memory (system_of s).guests))) }
     ensures alone { MemoryAlone (H.machine machine.old) (H.machine machine.new) }
 {

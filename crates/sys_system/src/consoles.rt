@@ -1,6 +1,6 @@
 ghost use Rattle.std.specs.Prelude.{◌≡◌, ◌≤◌, length};
 ghost use Rattle.sys_system.specs.Seats.{AreSeated};
-ghost use Rattle.sys_rounds.specs.Places.{is_at, place_of};
+ghost use Rattle.sys_state.specs.Places.{is_at, place_of};
 
 use sys_events::is_at;
 use sys_objects::GuestRow;

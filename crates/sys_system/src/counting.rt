@@ -1,5 +1,5 @@
 ghost use Rattle.std.specs.Prelude.{◌≡◌, ◌<◌, ◌+◌, ◌^◌};
-ghost use Rattle.sys_rounds.specs.Counts.{added};
+ghost use Rattle.sys_state.specs.Counts.{added};
 ghost use Rattle.vm_stepping.specs.Made.{steps_in, tally_of};
 
 use vm_guest::Counts;

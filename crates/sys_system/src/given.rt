@@ -3,7 +3,7 @@ ghost use Rattle.sys_drives.specs.Rows.{FitRows};
 ghost use Rattle.sys_guests.specs.Layout.{guests_in};
 ghost use Rattle.sys_guests.specs.Loads.{MemoryAlone};
 ghost use Rattle.sys_guests.specs.Present.{HavePresent};
-ghost use Rattle.sys_rounds.specs.FirstTouches.{none_touched};
+ghost use Rattle.sys_state.specs.FirstTouches.{none_touched};
 ghost use Rattle.sys_objects.specs.Condition.{IsConfig, IsVolume};
 ghost use Rattle.sys_store.specs.Blocks.{blocks_of};
 ghost use Rattle.sys_system.specs.Given.{PowersWith, first_of_another_size, is_another_size};

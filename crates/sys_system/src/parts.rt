@@ -4,11 +4,11 @@ ghost use Rattle.sys_guests.specs.Layout.{guests_in};
 ghost use Rattle.sys_guests.specs.Present.{KeepsAll, PaysAll};
 ghost use Rattle.sys_system.specs.Calls.{BeginsRound, CanTake, EndsRound, ShowsDumps, StoresVolumes, TakesSlice};
 ghost use Rattle.sys_system.specs.Devices.{first_failed};
-ghost use Rattle.sys_system.specs.Held.{IsInside, system_of};
-ghost use Rattle.sys_system.specs.System.{NoneLeft, StandsIn, state_of, slice_of_time};
-ghost use Rattle.sys_rounds.specs.FirstTouches.{touches_of_events, touches_of_transfers};
-ghost use Rattle.sys_rounds.specs.Places.{place_of};
-ghost use Rattle.sys_rounds.specs.SlicedTouches.{touches_of_slice};
+ghost use Rattle.sys_system.specs.Held.{AreSystemParts, system_of};
+ghost use Rattle.sys_system.specs.System.{NoneLeft, IsInMachine, system_state, slice_of_time};
+ghost use Rattle.sys_state.specs.FirstTouches.{touches_of_events, touches_of_transfers};
+ghost use Rattle.sys_state.specs.Places.{place_of};
+ghost use Rattle.sys_state.specs.SlicedTouches.{touches_of_slice};
 
 use crate::counting::add;
 use crate::turns::Turns;
@@ -51,13 +51,13 @@ pub fn begin<H: Hardware>(
     s: &mut Parts,
     events: &[Event],
 )
-    requires inside { IsInside s.old }
+    requires inside { AreSystemParts s.old }
     requires few { s.old.rounds < 4000000000 }
-    requires stands { StandsIn (H.machine machine.old).memory (system_of s.old) }
+    requires stands { IsInMachine (H.machine machine.old).memory (system_of s.old) }
     requires lines { vec_len lines.old ≡ 32 }
     ensures begins { BeginsRound events.now (H.machine machine.old) (system_of s.old) (map (λ b. seen b) lines.old.items) (H.machine machine.new) (system_of s.new) (map (λ b. seen b) lines.new.items) }
-    ensures present { KeepsAll (touches_of_events (system_of s.old).config ((system_of s.old).rounds + 1) (state_of (H.machine machine.old).memory (system_of s.old)) events.now) (system_of s.old).guests (system_of s.new).guests }
-    ensures inside { IsInside s.new }
+    ensures present { KeepsAll (touches_of_events (system_of s.old).config ((system_of s.old).rounds + 1) (system_state (H.machine machine.old).memory (system_of s.old)) events.now) (system_of s.old).guests (system_of s.new).guests }
+    ensures inside { AreSystemParts s.new }
     ensures len { vec_len lines.new ≡ vec_len lines.old }
 {
     s.turns.begin(s.kernel.config.guests.as_slice());
@@ -72,13 +72,13 @@ pub fn take<H: Hardware>(
     s: &mut Parts,
     slice: TimeSlice,
 )
-    requires inside { IsInside s.old }
+    requires inside { AreSystemParts s.old }
     requires can { CanTake (system_of s.old) (slice_of_time slice) }
-    requires stands { StandsIn (H.machine machine.old).memory (system_of s.old) }
+    requires stands { IsInMachine (H.machine machine.old).memory (system_of s.old) }
     requires lines { vec_len lines.old ≡ 32 }
     ensures takes { TakesSlice (slice_of_time slice) (H.machine machine.old) (system_of s.old) (map (λ b. seen b) lines.old.items) (H.machine machine.new) (system_of s.new) (map (λ b. seen b) lines.new.items) }
     ensures pays { PaysAll (touches_of_slice (slice_of_time slice) (guests_in (H.machine machine.old).memory (system_of s.old).guests)) (H.machine machine.old) (system_of s.old).guests (H.machine machine.new) (system_of s.new).guests }
-    ensures inside { IsInside s.new }
+    ensures inside { AreSystemParts s.new }
     ensures len { vec_len lines.new ≡ vec_len lines.old }
 {
     s.turns.take(slice);
@@ -92,13 +92,13 @@ pub fn take<H: Hardware>(
 
 /// Ends a round with its transfers.
 pub fn end<H: Hardware>(machine: &mut H, lines: &mut Vec<Box<dyn Line>>, s: &mut Parts)
-    requires inside { IsInside s.old }
+    requires inside { AreSystemParts s.old }
     requires none { NoneLeft (system_of s.old).turns.left }
-    requires stands { StandsIn (H.machine machine.old).memory (system_of s.old) }
+    requires stands { IsInMachine (H.machine machine.old).memory (system_of s.old) }
     requires lines { vec_len lines.old ≡ 32 }
     ensures ends { EndsRound (H.machine machine.old) (system_of s.old) (map (λ b. seen b) lines.old.items) (H.machine machine.new) (system_of s.new) (map (λ b. seen b) lines.new.items) }
     ensures present { KeepsAll (touches_of_transfers (system_of s.old).config (system_of s.old).config.guests (system_of s.old).mounts (guests_in (H.machine machine.old).memory (system_of s.old).guests) (system_of s.old).volumes) (system_of s.old).guests (system_of s.new).guests }
-    ensures inside { IsInside s.new }
+    ensures inside { AreSystemParts s.new }
     ensures len { vec_len lines.new ≡ vec_len lines.old }
 {
     transfer(machine, lines, &mut s.kernel, &mut s.volumes);
@@ -129,11 +129,11 @@ pub fn first_device(marks: &Marks, drives: &[bool; 16]) -> Option<Device>
 
 /// Shows the dumps of all guests that have one, each on its line, in order.
 pub fn dump<H: Hardware>(machine: &H, lines: &mut Vec<Box<dyn Line>>, s: &mut Parts)
-    requires inside { IsInside s.old }
-    requires stands { StandsIn (H.machine machine.now).memory (system_of s.old) }
+    requires inside { AreSystemParts s.old }
+    requires stands { IsInMachine (H.machine machine.now).memory (system_of s.old) }
     requires lines { vec_len lines.old ≡ 32 }
     ensures shows { ShowsDumps (H.machine machine.now) (system_of s.old) (map (λ b. seen b) lines.old.items) (system_of s.new) (map (λ b. seen b) lines.new.items) }
-    ensures inside { IsInside s.new }
+    ensures inside { AreSystemParts s.new }
     ensures len { vec_len lines.new ≡ vec_len lines.old }
 {
     let kernel = &mut s.kernel;
@@ -143,11 +143,11 @@ pub fn dump<H: Hardware>(machine: &H, lines: &mut Vec<Box<dyn Line>>, s: &mut Pa
 
 /// Stores every block of every volume to its drive, in order; a drive that fails is marked and gets no more.
 pub fn store(s: &mut Parts, drives: &mut Vec<Box<dyn Drive>>)
-    requires inside { IsInside s.old }
+    requires inside { AreSystemParts s.old }
     requires drives { vec_len drives.old ≡ 16 }
     requires fit { All (FitsDrive (map (λ d. kept d) drives.old.items)) (system_of s.old).config.volumes }
     ensures stores { StoresVolumes (system_of s.old) (map (λ d. kept d) drives.old.items) (system_of s.new) (map (λ d. kept d) drives.new.items) }
-    ensures inside { IsInside s.new }
+    ensures inside { AreSystemParts s.new }
     ensures len { vec_len drives.new ≡ vec_len drives.old }
 {
     let rows = s.kernel.config.volumes.as_slice();

@@ -2,7 +2,7 @@ ghost use Rattle.std.specs.Prelude.{◌≡◌, ◌*◌, IfOk, length, map, vec_l
 ghost use Rattle.sys_guests.specs.Layout.{guests_in};
 ghost use Rattle.sys_guests.specs.Loads.{MemoryAlone};
 ghost use Rattle.sys_guests.specs.Present.{HavePresent};
-ghost use Rattle.sys_rounds.specs.FirstTouches.{none_touched};
+ghost use Rattle.sys_state.specs.FirstTouches.{none_touched};
 ghost use Rattle.sys_objects.specs.Condition.{IsConfig};
 ghost use Rattle.sys_system.specs.Faults.{Powers};
 ghost use Rattle.sys_system.specs.System.{IsSystem};
@@ -41,9 +41,9 @@ impl From<NoMemory> for PowerFault {
 }
 
 impl From<LoadFault> for PowerFault {
-    ghost use Rattle.sys_system.specs.Faults.{fault_of};
+    ghost use Rattle.sys_system.specs.Faults.{power_fault};
 
-    ghost from_gives = { λ f e. e ≡ fault_of f };
+    ghost from_gives = { λ f e. e ≡ power_fault f };
 
     fn from(fault: LoadFault) -> PowerFault {
         match fault {

@@ -2,9 +2,9 @@ ghost use Rattle.std.specs.Prelude.{◌≡◌, ◌*◌, IfOk, length, map, vec_l
 ghost use Rattle.sys_guests.specs.Layout.{guests_in};
 ghost use Rattle.sys_guests.specs.Loads.{MemoryAlone};
 ghost use Rattle.sys_guests.specs.Present.{HavePresent};
-ghost use Rattle.sys_rounds.specs.FirstTouches.{none_touched};
-ghost use Rattle.sys_snap.specs.Held.{HoldsMoment, moment_of};
+ghost use Rattle.sys_snap.specs.Held.{HoldsMoment, snapshot_moment};
 ghost use Rattle.sys_snap.specs.Snap.{IsMoment};
+ghost use Rattle.sys_state.specs.FirstTouches.{none_touched};
 ghost use Rattle.sys_system.specs.Snaps.{Resumes};
 ghost use Rattle.sys_system.specs.System.{IsSystem};
 
@@ -28,10 +28,10 @@ impl System {
         drives: &Vec<Box<dyn Drive>>,
     ) -> Result<System, PowerFault>
         requires held { HoldsMoment snap }
-        requires moment { IsMoment (moment_of snap) }
+        requires moment { IsMoment (snapshot_moment snap) }
         requires pages { length (H.machine machine.old).memory ≡ 512 * 32768 }
         requires drives { vec_len drives.now ≡ 16 }
-        ensures resumes { Resumes (moment_of snap) (map (λ d. kept d) drives.now.items) (H.machine machine.new) result }
+        ensures resumes { Resumes (snapshot_moment snap) (map (λ d. kept d) drives.now.items) (H.machine machine.new) result }
         ensures present { IfOk result (λ s. HavePresent s.guests (map none_touched (guests_in (H.machine machine.new).memory s.guests))) }
         ensures alone { MemoryAlone (H.machine machine.old) (H.machine machine.new) }
         ensures holds { IfOk result IsSystem }

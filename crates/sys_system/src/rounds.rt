@@ -1,7 +1,7 @@
 ghost use Rattle.std.specs.Prelude.{◌≡◌, ◌<◌, ◌+◌, All, false, length, map, vec_len};
 ghost use Rattle.sys_system.specs.Calls.{AreOf, MakesRound};
-ghost use Rattle.sys_system.specs.System.{IsSystem, StandsIn, slice_of_time};
-ghost use Rattle.sys_rounds.specs.Slices.{AreQuanta};
+ghost use Rattle.sys_system.specs.System.{IsInMachine, IsSystem, slice_of_time};
+ghost use Rattle.sys_state.specs.Slices.{AreQuanta};
 
 use crate::system::System;
 use sys_guests::TimeSlice;
@@ -19,7 +19,7 @@ impl System {
     )
         requires rests { self.old.turns.is_begun ≡ false }
         requires few { self.old.rounds < 4000000000 }
-        requires stands { StandsIn (H.machine machine.old).memory self.old }
+        requires stands { IsInMachine (H.machine machine.old).memory self.old }
         requires lines { vec_len lines.old ≡ 32 }
         requires events { AreOf (self.old.rounds + 1) events.now }
         ensures makes { MakesRound events.now (H.machine machine.old) self.old (map (λ b. seen b) lines.old.items) (H.machine machine.new) self.new (map (λ b. seen b) lines.new.items) }
@@ -43,7 +43,7 @@ impl System {
     )
         requires rests { self.old.turns.is_begun ≡ false }
         requires few { self.old.rounds < 4000000000 }
-        requires stands { StandsIn (H.machine machine.old).memory self.old }
+        requires stands { IsInMachine (H.machine machine.old).memory self.old }
         requires lines { vec_len lines.old ≡ 32 }
         requires events { AreOf (self.old.rounds + 1) events.now }
         requires there { All (λ slice. slice.guest < length self.old.guests) slices.now }

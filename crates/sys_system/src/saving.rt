@@ -3,7 +3,7 @@ ghost use Rattle.sys_config.specs.Config.{config_of};
 ghost use Rattle.sys_lines.specs.ShownSince.{ShownSince};
 ghost use Rattle.sys_snap.specs.Snap.{IsSound};
 ghost use Rattle.sys_snap.specs.Written.{snap_bytes};
-ghost use Rattle.sys_system.specs.System.{StandsIn, moment_of};
+ghost use Rattle.sys_system.specs.System.{IsInMachine, moment_of};
 ghost use Rattle.vm_state.specs.State.{state_of};
 
 use crate::system::System;
@@ -25,7 +25,7 @@ impl System {
         requires few { self.now.rounds ≤ 1000000 }
         requires text { config_of config_text.now ≡ Ok self.now.config }
         requires short { length config_text.now ≤ 262144 }
-        requires stands { StandsIn (H.machine machine.now).memory self.now }
+        requires stands { IsInMachine (H.machine machine.now).memory self.now }
         ensures shown { ShownSince (is_err result) (O.printed out.old) (O.printed out.new) (snap_bytes config_text.now (moment_of (H.machine machine.now).memory self.now)) }
         ensures sound { IfOk result (λ _. All (λ k. IsSound (state_of k.state)) self.now.guests) }
         ensures long { IfOk result (λ _. All (λ blocks. All (λ b. length b ≡ 512) blocks) self.now.volumes) }

@@ -2,11 +2,11 @@ ghost use Rattle.std.specs.Prelude.{◌≡◌, ◌<◌, ◌+◌, All, false, map
 ghost use Rattle.sys_drives.specs.Rows.{FitsDrive};
 ghost use Rattle.sys_guests.specs.Layout.{guests_in};
 ghost use Rattle.sys_guests.specs.Present.{KeepsAll, PaysAll};
-ghost use Rattle.sys_rounds.specs.FirstTouches.{touches_of_events, touches_of_transfers};
-ghost use Rattle.sys_rounds.specs.SlicedTouches.{touches_of_slice};
+ghost use Rattle.sys_state.specs.FirstTouches.{touches_of_events, touches_of_transfers};
+ghost use Rattle.sys_state.specs.SlicedTouches.{touches_of_slice};
 ghost use Rattle.sys_system.specs.Calls.{BeginsRound, CanTake, EndsRound, PowersDown, ShowsDumps, TakesSlice};
 ghost use Rattle.sys_system.specs.Devices.{first_failed};
-ghost use Rattle.sys_system.specs.System.{IsSystem, NoneLeft, StandsIn, next_slice, state_of, slice_of_time};
+ghost use Rattle.sys_system.specs.System.{IsSystem, NoneLeft, IsInMachine, next_slice, system_state, slice_of_time};
 
 use crate::parts::{Device, Parts, begin, dump, end, first_device, store, take};
 use std::marker::Model;
@@ -27,11 +27,11 @@ impl Model for System {
 
     ghost Value = { System };
 
-    ghost use Rattle.sys_system.specs.Held.{IsKept, seen_of};
+    ghost use Rattle.sys_system.specs.Held.{HasSystemParts, inside_system};
 
-    ghost view = { seen_of };
+    ghost view = { inside_system };
 
-    ghost invariant = { IsKept };
+    ghost invariant = { HasSystemParts };
 }
 
 impl System {
@@ -53,10 +53,10 @@ impl System {
     )
         requires rests { self.old.turns.is_begun ≡ false }
         requires few { self.old.rounds < 4000000000 }
-        requires stands { StandsIn (H.machine machine.old).memory self.old }
+        requires stands { IsInMachine (H.machine machine.old).memory self.old }
         requires lines { vec_len lines.old ≡ 32 }
         ensures begins { BeginsRound events.now (H.machine machine.old) self.old (map (λ b. seen b) lines.old.items) (H.machine machine.new) self.new (map (λ b. seen b) lines.new.items) }
-        ensures present { KeepsAll (touches_of_events self.old.config (self.old.rounds + 1) (state_of (H.machine machine.old).memory self.old) events.now) self.old.guests self.new.guests }
+        ensures present { KeepsAll (touches_of_events self.old.config (self.old.rounds + 1) (system_state (H.machine machine.old).memory self.old) events.now) self.old.guests self.new.guests }
         ensures len { vec_len lines.new ≡ vec_len lines.old }
         ensures holds { IsSystem self.new }
     {
@@ -73,7 +73,7 @@ impl System {
         steps: u32,
     )
         requires can { CanTake self.old (record { guest = guest; steps = steps }) }
-        requires stands { StandsIn (H.machine machine.old).memory self.old }
+        requires stands { IsInMachine (H.machine machine.old).memory self.old }
         requires lines { vec_len lines.old ≡ 32 }
         ensures takes { TakesSlice (record { guest = guest; steps = steps }) (H.machine machine.old) self.old (map (λ b. seen b) lines.old.items) (H.machine machine.new) self.new (map (λ b. seen b) lines.new.items) }
         ensures pays { PaysAll (touches_of_slice (record { guest = guest; steps = steps }) (guests_in (H.machine machine.old).memory self.old.guests)) (H.machine machine.old) self.old.guests (H.machine machine.new) self.new.guests }
@@ -86,7 +86,7 @@ impl System {
     /// Ends a round in which no guest has steps left: the transfers that the guests ask for are made.
     pub fn end_round<H: Hardware>(&mut self, machine: &mut H, lines: &mut Vec<Box<dyn Line>>)
         requires none { NoneLeft self.old.turns.left }
-        requires stands { StandsIn (H.machine machine.old).memory self.old }
+        requires stands { IsInMachine (H.machine machine.old).memory self.old }
         requires lines { vec_len lines.old ≡ 32 }
         ensures ends { EndsRound (H.machine machine.old) self.old (map (λ b. seen b) lines.old.items) (H.machine machine.new) self.new (map (λ b. seen b) lines.new.items) }
         ensures present { KeepsAll (touches_of_transfers self.old.config self.old.config.guests self.old.mounts (guests_in (H.machine machine.old).memory self.old.guests) self.old.volumes) self.old.guests self.new.guests }
@@ -119,7 +119,7 @@ impl System {
 
     /// Shows the dumps of all guests that have one, each on its line, in order.
     pub fn show_dumps<H: Hardware>(&mut self, machine: &H, lines: &mut Vec<Box<dyn Line>>)
-        requires stands { StandsIn (H.machine machine.now).memory self.old }
+        requires stands { IsInMachine (H.machine machine.now).memory self.old }
         requires lines { vec_len lines.old ≡ 32 }
         ensures shows { ShowsDumps (H.machine machine.now) self.old (map (λ b. seen b) lines.old.items) self.new (map (λ b. seen b) lines.new.items) }
         ensures len { vec_len lines.new ≡ vec_len lines.old }
@@ -135,7 +135,7 @@ impl System {
         lines: &mut Vec<Box<dyn Line>>,
         drives: &mut Vec<Box<dyn Drive>>,
     )
-        requires stands { StandsIn (H.machine machine.now).memory self.old }
+        requires stands { IsInMachine (H.machine machine.now).memory self.old }
         requires lines { vec_len lines.old ≡ 32 }
         requires drives { vec_len drives.old ≡ 16 }
         requires fit { All (FitsDrive (map (λ d. kept d) drives.old.items)) self.old.config.volumes }

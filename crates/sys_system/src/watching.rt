@@ -1,11 +1,11 @@
 ghost use Rattle.std.specs.Prelude.{◌≡◌, ◌<◌, IfSome, Some, length, map, slice_get, vec_len};
 ghost use Rattle.sys_guests.specs.Layout.{guests_in};
 ghost use Rattle.sys_guests.specs.Present.{PaysAll};
-ghost use Rattle.sys_rounds.specs.SlicedTouches.{touches_of_slice};
+ghost use Rattle.sys_state.specs.SlicedTouches.{touches_of_slice};
 ghost use Rattle.sys_system.specs.Calls.{CanTake, TakesSlice};
-ghost use Rattle.sys_system.specs.Held.{IsInside, system_of};
-ghost use Rattle.sys_system.specs.System.{IsSystem, StandsIn};
-ghost use Rattle.sys_system.specs.Watched.{Tells};
+ghost use Rattle.sys_system.specs.Held.{AreSystemParts, system_of};
+ghost use Rattle.sys_system.specs.System.{IsInMachine, IsSystem};
+ghost use Rattle.sys_system.specs.Watched.{DescribesStep};
 
 use crate::counting::add;
 use crate::parts::Parts;
@@ -33,14 +33,14 @@ fn watch<H: Hardware>(
     s: &mut Parts,
     guest: u8,
 ) -> Watched
-    requires inside { IsInside s.old }
+    requires inside { AreSystemParts s.old }
     requires can { CanTake (system_of s.old) (record { guest = guest; steps = 1 }) }
-    requires stands { StandsIn (H.machine machine.old).memory (system_of s.old) }
+    requires stands { IsInMachine (H.machine machine.old).memory (system_of s.old) }
     requires lines { vec_len lines.old ≡ 32 }
     ensures takes { TakesSlice (record { guest = guest; steps = 1 }) (H.machine machine.old) (system_of s.old) (map (λ b. seen b) lines.old.items) (H.machine machine.new) (system_of s.new) (map (λ b. seen b) lines.new.items) }
     ensures pays { PaysAll (touches_of_slice (record { guest = guest; steps = 1 }) (guests_in (H.machine machine.old).memory (system_of s.old).guests)) (H.machine machine.old) (system_of s.old).guests (H.machine machine.new) (system_of s.new).guests }
-    ensures tells { IfSome (slice_get (guests_in (H.machine machine.old).memory (system_of s.old).guests) guest) (λ g. Tells g result) }
-    ensures inside { IsInside s.new }
+    ensures tells { IfSome (slice_get (guests_in (H.machine machine.old).memory (system_of s.old).guests) guest) (λ g. DescribesStep g result) }
+    ensures inside { AreSystemParts s.new }
     ensures len { vec_len lines.new ≡ vec_len lines.old }
 {
     s.turns.take(TimeSlice { guest, steps: 1 });
@@ -76,11 +76,11 @@ impl System {
         guest: u8,
     ) -> Watched
         requires can { CanTake self.old (record { guest = guest; steps = 1 }) }
-        requires stands { StandsIn (H.machine machine.old).memory self.old }
+        requires stands { IsInMachine (H.machine machine.old).memory self.old }
         requires lines { vec_len lines.old ≡ 32 }
         ensures takes { TakesSlice (record { guest = guest; steps = 1 }) (H.machine machine.old) self.old (map (λ b. seen b) lines.old.items) (H.machine machine.new) self.new (map (λ b. seen b) lines.new.items) }
         ensures pays { PaysAll (touches_of_slice (record { guest = guest; steps = 1 }) (guests_in (H.machine machine.old).memory self.old.guests)) (H.machine machine.old) self.old.guests (H.machine machine.new) self.new.guests }
-        ensures tells { IfSome (slice_get (guests_in (H.machine machine.old).memory self.old.guests) guest) (λ g. Tells g result) }
+        ensures tells { IfSome (slice_get (guests_in (H.machine machine.old).memory self.old.guests) guest) (λ g. DescribesStep g result) }
         ensures len { vec_len lines.new ≡ vec_len lines.old }
         ensures holds { IsSystem self.new }
     {

@@ -2,7 +2,7 @@
 use Rattle.std.proofs.Common.{ℕ, zero, suc, ◌≡◌, ◌<◌, ◌≤◌, ◌+◌, ◌-◌, List, [], ◌∷◌, ◌++◌, length, take, drop, replicate, refl, sym, ◌∙◌, ap, arith, append_assoc, append-nil}
 use Rattle.std.proofs.lemmas.List.{at_drop_more, get_or-take, length-append, length-replicate, length-take-le}
 use Rattle.std.specs.Prelude.{slice_index}
-use Rattle.sys_trace.specs.Line.{at_left, at_right, changed_word, register_words}
+use Rattle.sys_trace.specs.TraceLine.{at_left, at_right, changed_word, register_words}
 use Rattle.vasm_text.specs.Printing.{register_text}
 use Rattle.vv_base.specs.Digits.{hex_text}
 

@@ -3,7 +3,7 @@ use Rattle.std.proofs.Common.{ℕ, zero, suc, ◌≡◌, ◌<◌, ◌≤◌, ◌
 use Rattle.std.proofs.lemmas.Bool.{ltb-false}
 use Rattle.std.proofs.lemmas.List.{at_drop_more, length-append, length-drop, length-take-le}
 use Rattle.std.specs.Prelude.{Option, Ok, Err, slice_index}
-use Rattle.sys_trace.specs.Line.{if_read, readable}
+use Rattle.sys_trace.specs.TraceLine.{if_read, readable}
 use Rattle.vax_arch.proofs.Walks.{looks_inside}
 use Rattle.vax_arch.specs.Fields.{current_of, frame_of, is_valid, protection_of}
 use Rattle.vax_arch.specs.Ring.{open_of}
@@ -17,26 +17,26 @@ use Rattle.vax_arch.specs.declared.walk.Grant.TheVariants.{Absent, Granted, Past
 use Rattle.vax_arch.specs.declared.walk.Lookup.{Lookup}
 use Rattle.vax_arch.specs.declared.walk.Lookup.TheVariants.{Beyond, Direct, Fails, Found}
 use Rattle.vasm_text.specs.Front.{front_text}
-use Rattle.vax_table.specs.Script.{Cause, cause_of}
-use Rattle.vax_table.specs.Script as script
+use Rattle.vax_table.specs.Interaction.{Cause, cause_of}
+use Rattle.vax_table.specs.Interaction as interaction
 use Rattle.vv_base.specs.Bytes.{long_at}
-use Rattle.vm_guest.specs.Kept.{Kept, StandsIn, guest_in}
+use Rattle.vm_guest.specs.Kept.{IsShadowedIn, Kept, guest_in}
 use Rattle.vm_shadow.proofs.Lookups.{IsBy, looks_by}
 use Rattle.vm_state.proofs.Parts.{part_length}
 use Rattle.vm_state.specs.Outside.{bytes_at}
 use Rattle.vm_state.specs.Partition.{guest_of}
 use Rattle.vm_state.specs.State.{Guest, mode_of_state, pc_of}
 use Rattle.vm_state.specs.declared.guest_state.GuestState.{GuestState}
-use Rattle.vm_state.specs.Translation.{at_entry, byte_by, look, space_of, walk_by, walk_of}
+use Rattle.vm_state.specs.Translation.{at_entry, look, space_of, walk_by, walk_of, walked_byte}
 use Rattle.vm_state.specs.declared.walk.MemFault.{MemFault}
 use Rattle.vm_state.specs.declared.walk.Walk.{Walk}
 use Rattle.vm_state.specs.declared.walk.Walk.TheVariants as walks
 
 -- the guest's memory lies in the machine's
-pub partition_in : (memory : List ℕ) (k : Kept) → StandsIn memory k → 512 * (k.state.base + k.state.pages) ≤ length memory
+pub partition_in : (memory : List ℕ) (k : Kept) → IsShadowedIn memory k → 512 * (k.state.base + k.state.pages) ≤ length memory
 partition_in memory k stands = omega (arith, stands.keeps.fits.partition, stands.serves.base, stands.serves.pages)
 
-pub memory_long : (memory : List ℕ) (k : Kept) → StandsIn memory k → length (guest_in memory k).memory ≡ 512 * k.state.pages
+pub memory_long : (memory : List ℕ) (k : Kept) → IsShadowedIn memory k → length (guest_in memory k).memory ≡ 512 * k.state.pages
 memory_long memory k stands = part_length memory (512 * k.state.base) (512 * k.state.pages) (omega (arith, partition_in memory k stands))
 
 -- what a frame that is granted lies in
@@ -58,11 +58,11 @@ granted_fits may size entry m i = granted_at may size entry m i _ _ _ refl refl 
 
 -- Places of one page lie one after another, and all in memory.
 record IsPaged (g : Guest) (m : Mode) (i : Intent) (va pa : ℕ) (x : Lookup) : Type 0 where
-  next : (k : ℕ) → va % 512 + k < 512 → byte_by g.memory (walk_by g (va + k) m i x) ≡ Ok (slice_index g.memory (pa + k))
+  next : (k : ℕ) → va % 512 + k < 512 → walked_byte g.memory (walk_by g (va + k) m i x) ≡ Ok (slice_index g.memory (pa + k))
   inside : (k : ℕ) → va % 512 + k ≤ 512 → pa + k ≤ length g.memory
 
 by_entry : (g : Guest) (m : Mode) (i : Intent) (va pa place : ℕ) (entry table above : Option ℕ) (x : Grant) → Fits (length g.memory) x → at_entry va i place above x ≡ walks.Frame pa entry table
-    → ((k : ℕ) → va % 512 + k < 512 → byte_by g.memory (at_entry (va + k) i place above x) ≡ Ok (slice_index g.memory (pa + k))) × ((k : ℕ) → va % 512 + k ≤ 512 → pa + k ≤ length g.memory)
+    → ((k : ℕ) → va % 512 + k < 512 → walked_byte g.memory (at_entry (va + k) i place above x) ≡ Ok (slice_index g.memory (pa + k))) × ((k : ℕ) → va % 512 + k ≤ 512 → pa + k ≤ length g.memory)
 unfolding Fits
 by_entry g m i va pa place entry table above (Granted frame) fits e =
     let at : 512 * frame + va % 512 ≡ pa = cc in
@@ -95,7 +95,7 @@ reads_on g va pa count entry table small low e =
       next = λ k few.
           let page : page_of ((va + k) % 2 ^ 32) ≡ page_of va = omega (arith, few, low, small) in
           let at : (va + k) % 2 ^ 32 ≡ va + k = omega (arith, few, low, small) in
-          (λ j. byte_by g.memory (walk_by g (at j) m Read (look g (page j)))) ∙ paged.next k (omega (arith, few, low));
+          (λ j. walked_byte g.memory (walk_by g (at j) m Read (look g (page j)))) ∙ paged.next k (omega (arith, few, low));
       inside = paged.inside count low;
     }
 
@@ -171,10 +171,10 @@ ends_by h left bytes c before none =
     sym (before.read ∙ ap (λ bs. bytes ++ bs) (readable_ends h left va c none) ∙ append-nil bytes)
 
 pub none_read : (h : Guest) (left : ℕ) (bytes : List ℕ) (f : MemFault) → IsRead h left bytes → walk_of h ((pc_of h.state + (21 - left)) % 2 ^ 32) (mode_of_state h.state) Read ≡ walks.Fault f → bytes ≡ readable 21 h (pc_of h.state)
-none_read h left bytes f before is = ends_by h left bytes (cause_of f.not_valid) before (ap (byte_by h.memory) is)
+none_read h left bytes f before is = ends_by h left bytes (cause_of f.not_valid) before (ap (walked_byte h.memory) is)
 
 pub none_beyond : (h : Guest) (left : ℕ) (bytes : List ℕ) → IsRead h left bytes → walk_of h ((pc_of h.state + (21 - left)) % 2 ^ 32) (mode_of_state h.state) Read ≡ walks.Beyond → bytes ≡ readable 21 h (pc_of h.state)
-none_beyond h left bytes before is = ends_by h left bytes script.Past before (ap (byte_by h.memory) is)
+none_beyond h left bytes before is = ends_by h left bytes interaction.Past before (ap (walked_byte h.memory) is)
 
 none_more : (h : Guest) (n va : ℕ) → n ≡ 0 → readable n h va ≡ []
 unfolding readable

@@ -14,16 +14,16 @@ use Rattle.sys_objects.specs.declared.records.GuestRow.{GuestRow}
 use Rattle.sys_objects.specs.declared.records.Terminal.{Terminal}
 use Rattle.sys_objects.specs.declared.records.VolumeRow.{VolumeRow}
 use Rattle.sys_drives.specs.Rows.{FitRows}
-use Rattle.sys_rounds.specs.Guests.{alone, powered}
-use Rattle.sys_rounds.specs.Places.{beside_with, changed}
-use Rattle.sys_rounds.specs.FirstTouches.{touches_of_events, touches_of_transfers}
-use Rattle.sys_rounds.specs.Run.{Input}
-use Rattle.sys_rounds.specs.SlicedTouches.{touches_of_slice}
-use Rattle.sys_rounds.specs.Slices.{AreQuanta, Slice, slices, total}
-use Rattle.sys_rounds.specs.State.{State}
+use Rattle.sys_state.specs.Guests.{alone, powered}
+use Rattle.sys_state.specs.Places.{beside_with, changed}
+use Rattle.sys_state.specs.FirstTouches.{touches_of_events, touches_of_transfers}
+use Rattle.sys_state.specs.Run.{Input}
+use Rattle.sys_state.specs.SlicedTouches.{touches_of_slice}
+use Rattle.sys_state.specs.Slices.{AreQuanta, Slice, slices, total}
+use Rattle.sys_state.specs.State.{SystemState}
 use Rattle.sys_runs.proofs.Faults.{outside, stays_down}
 use Rattle.sys_runs.proofs.Many.{more_made, none_made}
-use Rattle.sys_runs.specs.Ran.{Makes, Outside, StaysDown}
+use Rattle.sys_runs.specs.Ran.{MakesRun, RunOutside, StaysDown}
 use Rattle.sys_runs.specs.Rounds.{MakesRounds}
 use Rattle.sys_runs.specs.declared.running.Ran.{Ran}
 use Rattle.sys_script.specs.declared.event.Event.{Event}
@@ -33,8 +33,8 @@ use Rattle.sys_system.specs.Calls.{AreOf, BeginsRound, CanTake, EndsRound, Makes
 use Rattle.sys_system.specs.Faults.{Powers}
 use Rattle.sys_system.specs.Powers.{IsPowered}
 use Rattle.sys_system.specs.declared.power.PowerFault.{PowerFault}
-use Rattle.sys_system.specs.System.{IsSystem, NoneLeft, StandsIn, System, Turns, all_turns, state_of}
-use Rattle.sys_trace.specs.Line.{line_of}
+use Rattle.sys_system.specs.System.{IsInMachine, IsSystem, NoneLeft, System, Turns, all_turns, system_state}
+use Rattle.sys_trace.specs.TraceLine.{trace_line}
 use Rattle.sys_trace.specs.Trace.{trace_from, trace_of}
 use Rattle.sys_trace.specs.Traced.{HasOne, input_of, single_steps}
 use Rattle.vax_hw.specs.Machine.{Machine}
@@ -50,23 +50,23 @@ later zero g = g
 later (suc n) g = later n (step g).guest
 
 -- one line more
-trace_next : (number n : ℕ) (g : Guest) → trace_from number (suc n) g ≡ trace_from number n g ++ line_of (number + n) (later n g) (step (later n g))
+trace_next : (number n : ℕ) (g : Guest) → trace_from number (suc n) g ≡ trace_from number n g ++ trace_line (number + n) (later n g) (step (later n g))
 trace_next number zero g =
     let same : number ≡ number + 0 = omega arith in
-    append-nil (line_of number g (step g)) ∙ ap (λ k. line_of k g (step g)) same
+    append-nil (trace_line number g (step g)) ∙ ap (λ k. trace_line k g (step g)) same
 trace_next number (suc n) g =
     let same : (number + 1) + n ≡ number + suc n = omega arith in
-    let first = line_of number g (step g) in
+    let first = trace_line number g (step g) in
     let rest = trace_from (number + 1) n (step g).guest in
-    let last : ℕ → List ℕ = λ k. line_of k (later n (step g).guest) (step (later n (step g).guest)) in
+    let last : ℕ → List ℕ = λ k. trace_line k (later n (step g).guest) (step (later n (step g).guest)) in
     ap (λ ls. first ++ ls) (trace_next (number + 1) n (step g).guest) ∙ sym (append_assoc first rest (last ((number + 1) + n))) ∙ ap (λ k. (first ++ rest) ++ last k) same
 
-pub trace_more : (n : ℕ) (g : Guest) → trace_of (n + 1) g ≡ trace_of n g ++ line_of (n + 1) (later n g) (step (later n g))
+pub trace_more : (n : ℕ) (g : Guest) → trace_of (n + 1) g ≡ trace_of n g ++ trace_line (n + 1) (later n g) (step (later n g))
 unfolding trace_of
 trace_more n g =
     let next : n + 1 ≡ suc n = omega arith in
     let number : 1 + n ≡ n + 1 = omega arith in
-    ap (λ k. trace_from 1 k g) next ∙ trace_next 1 n g ∙ ap (λ k. trace_from 1 n g ++ line_of k (later n g) (step (later n g))) number
+    ap (λ k. trace_from 1 k g) next ∙ trace_next 1 n g ∙ ap (λ k. trace_from 1 n g ++ trace_line k (later n g) (step (later n g))) number
 
 pub nothing_traced : (g : Guest) (start : Seen) → ShownSince false start start (trace_of 0 g)
 unfolding trace_of
@@ -135,7 +135,7 @@ none_of round = λ k d h. absurd (omega (arith, h))
 -- the guest that begins the round is that of power-up
 pub first_powered : (c : Config) (images : List (List ℕ)) (volumes : List (List (List ℕ))) (row : GuestRow) (image : List ℕ) (m m' : Machine) (s s' : System) (lines lines' : List Seen) → IsPowered c images volumes m s → BeginsRound [] m s lines m' s' lines' → HasOne c row → images ≡ image ∷ [] → slice_get (guests_in m'.memory s'.guests) 0 ≡ Some (powered row image)
 first_powered c images volumes row image m m' s s' lines lines' p b alone is =
-    ap (λ (y : State). slice_get y.guests 0) (b.goes.state ∙ p.state) ∙ (λ i. slice_get (beside_with powered (alone.guests i) (is i)) 0)
+    ap (λ (y : SystemState). slice_get y.guests 0) (b.goes.state ∙ p.state) ∙ (λ i. slice_get (beside_with powered (alone.guests i) (is i)) 0)
 
 -- where there are no volumes none were read
 pub no_volumes : (rows : List VolumeRow) (volumes : List (List (List ℕ))) → rows ≡ [] → FitRows rows volumes → volumes ≡ []
@@ -146,18 +146,18 @@ no_volumes rows (v ∷ vs) none fit =
     absurd (omega (arith, long, short))
 
 -- The turn is a round without events.
-pub one_round : (n : ℕ) (m m1 m2 m3 : Machine) (s s1 s2 s3 : System) (lines lines1 lines2 lines3 : List Seen) → IsSystem s → StandsIn m.memory s → s.turns.is_begun ≡ false → BeginsRound [] m s lines m1 s1 lines1 → Plays (single_steps n) m1 s1 lines1 m2 s2 lines2 → NoneLeft s2.turns.left → EndsRound m2 s2 lines2 m3 s3 lines3
-    → KeepsAll (touches_of_events s.config (s.rounds + 1) (state_of m.memory s) []) s.guests s1.guests → IsSystem s2 → KeepsAll (touches_of_transfers s2.config s2.config.guests s2.mounts (guests_in m2.memory s2.guests) s2.volumes) s2.guests s3.guests → MakesRounds 1 [] m s lines m3 s3 lines3
+pub one_round : (n : ℕ) (m m1 m2 m3 : Machine) (s s1 s2 s3 : System) (lines lines1 lines2 lines3 : List Seen) → IsSystem s → IsInMachine m.memory s → s.turns.is_begun ≡ false → BeginsRound [] m s lines m1 s1 lines1 → Plays (single_steps n) m1 s1 lines1 m2 s2 lines2 → NoneLeft s2.turns.left → EndsRound m2 s2 lines2 m3 s3 lines3
+    → KeepsAll (touches_of_events s.config (s.rounds + 1) (system_state m.memory s) []) s.guests s1.guests → IsSystem s2 → KeepsAll (touches_of_transfers s2.config s2.config.guests s2.mounts (guests_in m2.memory s2.guests) s2.volumes) s2.guests s3.guests → MakesRounds 1 [] m s lines m3 s3 lines3
 one_round n m m1 m2 m3 s s1 s2 s3 lines lines1 lines2 lines3 h stands rests b p none e keeps h2 leaves =
     let made : MakesRound [] m s lines m3 s3 lines3 = round_made [] (single_steps n) m m1 m2 m3 s s1 s2 s3 lines lines1 lines2 lines3 h.accepted stands (none_of (s.rounds + 1)) b p none e keeps h2.units leaves in
     more_made 0 [] [] m m m3 s s s3 lines lines lines3 (none_made [] m s lines rests h.trail stands) refl (none_of ((s.rounds + 0) + 1)) made
 
 -- a run of one guest, without volumes
-pub input_is : (c : Config) (images : List (List ℕ)) (volumes : List (List (List ℕ))) (row : GuestRow) (image : List ℕ) (ran : Ran) (o : Outside) → HasOne c row → images ≡ image ∷ [] → FitRows c.volumes volumes → Makes (record { config = c; images = images; volumes = volumes; events = []; rounds = 1 }) ran o → Makes (input_of c image) ran o
+pub input_is : (c : Config) (images : List (List ℕ)) (volumes : List (List (List ℕ))) (row : GuestRow) (image : List ℕ) (ran : Ran) (o : RunOutside) → HasOne c row → images ≡ image ∷ [] → FitRows c.volumes volumes → MakesRun (record { config = c; images = images; volumes = volumes; events = []; rounds = 1 }) ran o → MakesRun (input_of c image) ran o
 input_is c images volumes row image ran o one is fit made =
     let none : volumes ≡ [] = no_volumes c.volumes volumes one.volumes fit in
     let same : record { config = c; images = images; volumes = volumes; events = []; rounds = 1 } ≡ input_of c image = λ i. record { config = c; images = is i; volumes = none i; events = []; rounds = 1 } in
-    subst (λ (x : Input). Makes x ran o) same made
+    subst (λ (x : Input). MakesRun x ran o) same made
 
 -- the first of the guests with their memories
 pub given_first : (memory : List ℕ) (ks : List Kept) (k : Kept) (h : Guest) → slice_get ks 0 ≡ Some k → slice_get (guests_in memory ks) 0 ≡ Some h → guest_in memory k ≡ h
@@ -176,10 +176,10 @@ first_changed (x ∷ gs) now h here is =
 -- a step of the first guest leads to the definition's
 pub step_made : (m m' : Machine) (s s' : System) (lines lines' : List Seen) (k' : Kept) (h : Guest) → TakesSlice one m s lines m' s' lines' → slice_get (guests_in m.memory s.guests) 0 ≡ Some h → slice_get s'.guests 0 ≡ Some k' → guest_in m'.memory k' ≡ (step h).guest
 step_made m m' s s' lines lines' k' h t here is =
-    given_first m'.memory s'.guests k' (step h).guest is (first_changed (guests_in m.memory s.guests) (guests_in m'.memory s'.guests) h here (ap (λ (y : State). y.guests) t.goes.state))
+    given_first m'.memory s'.guests k' (step h).guest is (first_changed (guests_in m.memory s.guests) (guests_in m'.memory s'.guests) h here (ap (λ (y : SystemState). y.guests) t.goes.state))
 
 -- power stays down
-pub stays_for : (c : Config) (images : List (List ℕ)) (image : List ℕ) (m m' : Machine) (lines : List Seen) (drives drives' : List blocks.Kept) (e : PowerFault) → Powers c images drives drives' m' (Err e) → MemoryAlone m m' → images ≡ image ∷ [] → StaysDown c (image ∷ []) e (outside m m' lines drives drives')
+pub stays_for : (c : Config) (images : List (List ℕ)) (image : List ℕ) (m m' : Machine) (lines : List Seen) (drives drives' : List blocks.SeenDrive) (e : PowerFault) → Powers c images drives drives' m' (Err e) → MemoryAlone m m' → images ≡ image ∷ [] → StaysDown c (image ∷ []) e (outside m m' lines drives drives')
 stays_for c images image m m' lines drives drives' e p alone is = subst (λ (xs : List (List ℕ)). StaysDown c xs e (outside m m' lines drives drives')) is (stays_down c images m m' lines drives drives' e p alone)
 
 -- the only row

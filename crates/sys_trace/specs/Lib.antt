@@ -1,4 +1,4 @@
-pub mod Line
+pub mod TraceLine
 pub mod Trace
 pub mod Held
 pub mod Traced

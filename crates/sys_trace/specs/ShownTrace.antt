@@ -2,13 +2,13 @@
 -- steps.
 use Rattle.std.specs.Fmt.{digits}
 use Rattle.std.specs.Prelude.{List, [], codes, refl, ℕ, ◌++◌, ◌∷◌, ◌≡◌}
-use Rattle.sys_trace.specs.Line.{line_of, readable, spelled}
 use Rattle.sys_trace.specs.Trace.{trace_of}
+use Rattle.sys_trace.specs.TraceLine.{instruction_spelled, readable, trace_line}
 use Rattle.vasm_text.specs.Front.{front_text}
 use Rattle.vasm_text.specs.Mnemonics.{mnemonic_of}
 use Rattle.vasm_text.specs.Printing.{byte_text, displacement_text, field_text, increment_text, instruction_text, operand_text, register_text, specifier_text}
 use Rattle.vasm_text.specs.Statements.{forms_of}
-use Rattle.vax_table.specs.Computing.{pushed as pushed_long}
+use Rattle.vax_table.specs.Computing.{operand_pushed as pushed_long}
 use Rattle.vax_table.specs.Stack.{push}
 use Rattle.vm_events.specs.Noted.{note_of, note_of_instruction}
 use Rattle.vm_state.specs.ShownSetup.{guest_m, guest_u, whole_step, with_isp, with_memory, with_register}
@@ -17,7 +17,7 @@ use Rattle.vm_state.specs.State.{Guest}
 -- A trace with all that it computes with: the examples unfold this one name.
 whole_trace : ℕ → Guest → List ℕ
 unfolding
-    whole_step pushed_long push trace_of line_of spelled readable front_text note_of note_of_instruction
+    whole_step pushed_long push trace_of trace_line instruction_spelled readable front_text note_of note_of_instruction
     digits instruction_text byte_text operand_text specifier_text increment_text displacement_text field_text register_text
     forms_of mnemonic_of
 whole_trace steps g = trace_of steps g

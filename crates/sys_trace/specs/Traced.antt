@@ -6,10 +6,10 @@ use Rattle.vv_io.specs.Lines.{Seen}
 use Rattle.sys_lines.specs.ShownSince.{ShownSince}
 use Rattle.sys_objects.specs.declared.records.Config.{Config}
 use Rattle.sys_objects.specs.declared.records.GuestRow.{GuestRow}
-use Rattle.sys_rounds.specs.Guests.{powered}
-use Rattle.sys_rounds.specs.Run.{Input}
-use Rattle.sys_rounds.specs.Slices.{Slice}
-use Rattle.sys_runs.specs.Ran.{Makes, Outside, StaysDown}
+use Rattle.sys_state.specs.Guests.{powered}
+use Rattle.sys_state.specs.Run.{Input}
+use Rattle.sys_state.specs.Slices.{Slice}
+use Rattle.sys_runs.specs.Ran.{MakesRun, RunOutside, StaysDown}
 use Rattle.sys_system.specs.declared.power.PowerFault.{PowerFault}
 use Rattle.sys_trace.specs.Trace.{trace_of}
 use Rattle.sys_trace.specs.declared.tracing.Traced.{Traced}
@@ -29,11 +29,11 @@ pub record HasOne (c : Config) (row : GuestRow) : Type 0 where
 
 -- The run was made, and is the same as one that isn't watched. On `out` the trace of the guest's turn was shown, or a front of it
 -- where `out` failed.
-pub record Traces (c : Config) (row : GuestRow) (image : List ℕ) (traced : Traced) (o : Outside) (out out' : Seen) : Type 0 where
-  pub makes : Makes (input_of c image) traced.ran o
+pub record Traces (c : Config) (row : GuestRow) (image : List ℕ) (traced : Traced) (o : RunOutside) (out out' : Seen) : Type 0 where
+  pub makes : MakesRun (input_of c image) traced.ran o
   pub shown : ShownSince traced.is_cut out out' (trace_of row.quantum (powered row image))
 
 -- by its answer: the run was made; or power doesn't come up, and nothing is shown
-abbrev pub TracesRun : Config → GuestRow → List ℕ → Result Traced PowerFault → Outside → (out out' : Seen) → Type 0
+abbrev pub TracesRun : Config → GuestRow → List ℕ → Result Traced PowerFault → RunOutside → (out out' : Seen) → Type 0
 TracesRun c row image (Ok traced) o out out' = Traces c row image traced o out out'
 TracesRun c row image (Err fault) o out out' = StaysDown c (image ∷ []) fault o × (out' ≡ out)

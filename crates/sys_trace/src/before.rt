@@ -1,5 +1,5 @@
 ghost use Rattle.sys_trace.specs.Held.{IsBefore};
-ghost use Rattle.vm_guest.specs.Kept.{StandsIn, guest_in};
+ghost use Rattle.vm_guest.specs.Kept.{IsShadowedIn, guest_in};
 
 use crate::reading::spelled;
 use vasm_dis::Line;
@@ -18,7 +18,7 @@ pub struct Before {
 impl Before {
     /// What a guest is now.
     pub fn of<H: Hardware>(machine: &H, guest: &Guest) -> Before
-        requires { StandsIn (H.machine machine.now).memory guest.now }
+        requires { IsShadowedIn (H.machine machine.now).memory guest.now }
         ensures { IsBefore (guest_in (H.machine machine.now).memory guest.now) result }
     {
         let state = guest.state();

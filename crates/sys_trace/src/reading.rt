@@ -1,7 +1,7 @@
 ghost use Rattle.std.specs.Prelude.{◌≡◌, ◌≤◌, ◌<◌, ◌+◌, ◌-◌, ◌*◌, ◌%◌, ◌++◌, length};
-ghost use Rattle.sys_trace.specs.Line.{or_mark, readable, spelled};
+ghost use Rattle.sys_trace.specs.TraceLine.{instruction_spelled, or_mark, readable};
 ghost use Rattle.vasm_text.specs.Front.{front_text};
-ghost use Rattle.vm_guest.specs.Kept.{StandsIn, guest_in};
+ghost use Rattle.vm_guest.specs.Kept.{IsShadowedIn, guest_in};
 ghost use Rattle.vm_state.specs.Outside.{bytes_at};
 ghost use Rattle.vm_state.specs.State.{pc_of, state_of};
 
@@ -21,7 +21,7 @@ type Bytes = Text<21>;
 
 /// Appends so many bytes of a guest's memory from a physical address on.
 fn append<H: Hardware>(machine: &H, guest: &Guest, pa: u32, count: u32, bytes: &mut Bytes)
-    requires stands { StandsIn (H.machine machine.now).memory guest.now }
+    requires stands { IsShadowedIn (H.machine machine.now).memory guest.now }
     requires inside { pa + count ≤ 512 * guest.now.state.pages }
     requires room { length bytes.old + count ≤ 21 }
     ensures { bytes.new ≡ bytes.old ++ bytes_at (guest_in (H.machine machine.now).memory guest.now) pa count }
@@ -51,7 +51,7 @@ fn pc(state: &GuestState) -> u32
 
 /// The bytes that a guest can read from its PC on, up to the first that it can't, and as many as an instruction has at most.
 fn readable<H: Hardware>(machine: &H, guest: &Guest) -> Bytes
-    requires { StandsIn (H.machine machine.now).memory guest.now }
+    requires { IsShadowedIn (H.machine machine.now).memory guest.now }
     ensures { result ≡ readable 21 (guest_in (H.machine machine.now).memory guest.now) (pc_of (guest_in (H.machine machine.now).memory guest.now).state) }
 {
     let state = guest.state();
@@ -96,10 +96,10 @@ fn or_mark(text: Line) -> Line
 }
 
 /// What is at a guest's PC, as the disassembler spells it; a mark where nothing can be read.
-#[tactic(auto, unfolding(crate::specs::Line::spelled))]
+#[tactic(auto, unfolding(crate::specs::TraceLine::instruction_spelled))]
 pub fn spelled<H: Hardware>(machine: &H, guest: &Guest) -> Line
-    requires { StandsIn (H.machine machine.now).memory guest.now }
-    ensures { result ≡ spelled (guest_in (H.machine machine.now).memory guest.now) }
+    requires { IsShadowedIn (H.machine machine.now).memory guest.now }
+    ensures { result ≡ instruction_spelled (guest_in (H.machine machine.now).memory guest.now) }
 {
     or_mark(front_of(readable(machine, guest).bytes()))
 }

@@ -1,7 +1,7 @@
 ghost use Rattle.std.specs.Prelude.{◌≡◌, ◌≤◌, ◌+◌, ◌-◌, ◌++◌, ◌∷◌, decimal, length};
-ghost use Rattle.sys_system.specs.Watched.{Tells};
+ghost use Rattle.sys_system.specs.Watched.{DescribesStep};
 ghost use Rattle.sys_trace.specs.Held.{IsBefore};
-ghost use Rattle.sys_trace.specs.Line.{at_left, at_right, head_of, instruction_in, joined, kind_name, line_of, mode_name, words_of};
+ghost use Rattle.sys_trace.specs.TraceLine.{at_left, at_right, head_and_words, head_of, instruction_or_mark, kind_name, mode_name, step_words, trace_line};
 ghost use Rattle.vm_state.specs.Run.{no_steps, tallied};
 ghost use Rattle.vm_state.specs.State.{Guest, state_of};
 ghost use Rattle.vm_state.specs.Step.{Kind, step};
@@ -48,7 +48,7 @@ fn kind_name(counts: &Counts) -> &'static str
 /// The instruction that the one step that is counted reaches, or a mark.
 fn instruction_in<'a>(counts: &Counts, text: &'a [u8]) -> &'a [u8]
     requires { length text.now ≤ 160 }
-    ensures text { (kind : Kind) → tally_of counts.now ≡ tallied kind no_steps → result.now ≡ instruction_in kind text.now }
+    ensures text { (kind : Kind) → tally_of counts.now ≡ tallied kind no_steps → result.now ≡ instruction_or_mark kind text.now }
     ensures short { length result.now ≤ 160 }
 {
     if counts.interrupts == 1 || counts.idle == 1 || counts.stopped == 1 {
@@ -130,7 +130,7 @@ fn head(number: u32, before: &Before, counts: &Counts) -> StepLine
 
 /// A word for what the step tells, each register and the PSL that are others after it, and what it showed.
 fn words(before: &Before, watched: &Watched, after: &GuestState) -> StepLine
-    ensures words { (g : Guest) → IsBefore g before.now → Tells g watched.now → state_of after.now ≡ (step g).guest.state → result ≡ words_of g (step g) }
+    ensures words { (g : Guest) → IsBefore g before.now → DescribesStep g watched.now → state_of after.now ≡ (step g).guest.state → result ≡ step_words g (step g) }
     ensures short { length result ≤ 260 }
 {
     let mut line = Text::new();
@@ -145,7 +145,7 @@ fn words(before: &Before, watched: &Watched, after: &GuestState) -> StepLine
 fn joined(head: StepLine, words: &[u8]) -> StepLine
     requires short { length head ≤ 190 }
     requires few { length words.now ≤ 260 }
-    ensures { result ≡ joined head words.now }
+    ensures { result ≡ head_and_words head words.now }
 {
     let mut line = head;
     if words.is_empty() {
@@ -159,10 +159,10 @@ fn joined(head: StepLine, words: &[u8]) -> StepLine
 }
 
 /// The line of a guest's step: of what it was before, what the step was, and what it is after it.
-#[tactic(auto, unfolding(crate::specs::Line::line_of))]
+#[tactic(auto, unfolding(crate::specs::TraceLine::trace_line))]
 pub fn step_line(number: u32, before: &Before, watched: &Watched, after: &GuestState) -> StepLine
     requires { number ≤ 100000 }
-    ensures { (g : Guest) → IsBefore g before.now → Tells g watched.now → state_of after.now ≡ (step g).guest.state → result ≡ line_of number g (step g) }
+    ensures { (g : Guest) → IsBefore g before.now → DescribesStep g watched.now → state_of after.now ≡ (step g).guest.state → result ≡ trace_line number g (step g) }
 {
     let words = words(before, watched, after);
     joined(head(number, before, &watched.counts), words.bytes())

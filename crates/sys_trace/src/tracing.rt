@@ -4,11 +4,11 @@ ghost use Rattle.sys_guests.specs.Present.{PaysAll};
 ghost use Rattle.sys_lines.specs.ShownSince.{ShownSince};
 ghost use Rattle.sys_objects.specs.Condition.{IsConfig};
 ghost use Rattle.sys_objects.specs.declared.records.GuestRow.{GuestRow};
-ghost use Rattle.sys_rounds.specs.SlicedTouches.{touches_of_slice};
+ghost use Rattle.sys_state.specs.SlicedTouches.{touches_of_slice};
 ghost use Rattle.sys_system.specs.Calls.{CanTake, Plays, TakesSlice};
-ghost use Rattle.sys_system.specs.System.{IsSystem, StandsIn};
-ghost use Rattle.sys_trace.specs.Line.{line_of};
+ghost use Rattle.sys_system.specs.System.{IsInMachine, IsSystem};
 ghost use Rattle.sys_trace.specs.Trace.{trace_of};
+ghost use Rattle.sys_trace.specs.TraceLine.{trace_line};
 ghost use Rattle.sys_trace.specs.Traced.{HasOne, TracesRun, single_steps};
 ghost use Rattle.vm_state.specs.State.{Guest};
 ghost use Rattle.vm_state.specs.Step.{step};
@@ -58,11 +58,11 @@ fn trace_step<H: Hardware>(
 ) -> StepLine
     requires number { number ≤ 100000 }
     requires can { CanTake system.old (record { guest = 0; steps = 1 }) }
-    requires stands { StandsIn (H.machine machine.old).memory system.old }
+    requires stands { IsInMachine (H.machine machine.old).memory system.old }
     requires lines { vec_len lines.old ≡ 32 }
     ensures takes { TakesSlice (record { guest = 0; steps = 1 }) (H.machine machine.old) system.old (map (λ b. seen b) lines.old.items) (H.machine machine.new) system.new (map (λ b. seen b) lines.new.items) }
     ensures pays { PaysAll (touches_of_slice (record { guest = 0; steps = 1 }) (guests_in (H.machine machine.old).memory system.old.guests)) (H.machine machine.old) system.old.guests (H.machine machine.new) system.new.guests }
-    ensures line { (g : Guest) → slice_get (guests_in (H.machine machine.old).memory system.old.guests) 0 ≡ Some g → result ≡ line_of number g (step g) }
+    ensures line { (g : Guest) → slice_get (guests_in (H.machine machine.old).memory system.old.guests) 0 ≡ Some g → result ≡ trace_line number g (step g) }
     ensures len { vec_len lines.new ≡ vec_len lines.old }
     ensures holds { IsSystem system.new }
 {
@@ -83,7 +83,7 @@ fn trace_turn<H: Hardware, O: Sink>(
     requires few { steps ≤ 100000 }
     requires can { CanTake system.old (record { guest = 0; steps = steps }) }
     requires holds { IsSystem system.old }
-    requires stands { StandsIn (H.machine machine.old).memory system.old }
+    requires stands { IsInMachine (H.machine machine.old).memory system.old }
     requires lines { vec_len lines.old ≡ 32 }
     ensures plays { Plays (single_steps steps) (H.machine machine.old) system.old (map (λ b. seen b) lines.old.items) (H.machine machine.new) system.new (map (λ b. seen b) lines.new.items) }
     ensures shown { (g : Guest) → slice_get (guests_in (H.machine machine.old).memory system.old.guests) 0 ≡ Some g → ShownSince result (O.printed out.old) (O.printed out.new) (trace_of steps g) }

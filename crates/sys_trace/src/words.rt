@@ -1,5 +1,5 @@
 ghost use Rattle.std.specs.Prelude.{◌≡◌, ◌≤◌, ◌+◌, ◌*◌, ◌++◌, ◌<◌, length, take};
-ghost use Rattle.sys_trace.specs.Line.{changed_word, note_word, register_words, shown_word, word};
+ghost use Rattle.sys_trace.specs.TraceLine.{changed_word, note_word, register_words, shown_word, word};
 ghost use Rattle.vasm_text.specs.Printing.{register_text};
 ghost use Rattle.vv_base.specs.Digits.{hex_text};
 

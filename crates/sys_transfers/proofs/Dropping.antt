@@ -2,12 +2,12 @@
 use Rattle.std.proofs.Common.{◌≡◌, ℕ, suc, ◌+◌, ◌%◌, ◌<◌, inl, inr, true, List, [], ◌∷◌, length, Option, subst, arith}
 use Rattle.std.proofs.lemmas.Bool.{cases_Bool, cases_lt, false≢true}
 use Rattle.std.specs.Prelude.{◌||◌}
-use Rattle.vax_table.specs.Script.{IsIn}
+use Rattle.vax_table.specs.Interaction.{IsIn}
 use Rattle.vm_bursts.proofs.Closed.{pending_in}
 use Rattle.vm_bursts.proofs.Completing.{split}
-use Rattle.vm_fitting.specs.Moves.{Drops}
 use Rattle.vm_guest.specs.Kept.{frames_from}
-use Rattle.vm_shadow.specs.Stands.{Shadowed, is_pending, is_read_from, read_at}
+use Rattle.vm_miss_laws.specs.Moves.{Drops}
+use Rattle.vm_shadow.specs.Shadowed.{Shadowed, is_pending, is_read_from, read_at}
 use Rattle.vm_shadow.specs.declared.source.Source.{Source}
 use Rattle.vm_state.specs.Packets.{status_place}
 use Rattle.vm_state.specs.Translation.{frame_at}

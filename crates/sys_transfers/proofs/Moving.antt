@@ -8,15 +8,15 @@ use Rattle.std.proofs.lemmas.Option.{get_or_from_slice_get, slice_get_within}
 use Rattle.vv_base.specs.Bytes.{long_at}
 use Rattle.vax_arch.specs.Walk.{is_past}
 use Rattle.vax_hw.specs.Machine.{Machine}
-use Rattle.vm_fitting.specs.Moves.{Drops}
-use Rattle.vm_fitting.proofs.Own.{none_dropped}
-use Rattle.vm_guest.specs.Kept.{Becomes, Kept, StandsIn, frames_from, guest_in}
+use Rattle.vm_miss_laws.specs.Moves.{Drops}
+use Rattle.vm_miss_laws.proofs.Own.{none_dropped}
+use Rattle.vm_guest.specs.Kept.{Becomes, IsShadowedIn, Kept, frames_from, guest_in}
 use Rattle.vm_state.specs.Outside.{bytes_at, with_bytes}
 use Rattle.vm_state.specs.Partition.{part}
 use Rattle.vm_state.proofs.Parts.{part_long}
 use Rattle.sys_objects.specs.declared.records.GuestRow.{GuestRow}
 use Rattle.sys_objects.specs.declared.records.Mount.{Mount}
-use Rattle.sys_rounds.specs.Transfers.{Move, Packet, Prints, Reads, Refused, Writes, packet_at, to_print, to_read, to_write, unless_refused}
+use Rattle.sys_state.specs.Transfers.{Move, Packet, Prints, Reads, Refused, Writes, packet_at, to_print, to_read, to_write, unless_refused}
 use Rattle.sys_store.specs.Blocks.{HasBlock, LacksBlock, blocks_of, with_block}
 use Rattle.sys_store.specs.Job.{job_text}
 use Rattle.vv_class.specs.declared.class.AccessClass.{AccessClass}
@@ -113,7 +113,7 @@ pub print_moves : (space : ℕ) (p : Packet) → p.size ≤ 132 → is_past spac
 print_moves space p h past = λ i. prints (le-ltb 132 p.size h i) (past i)
 
 -- A move is refused: nothing changes.
-pub refuses : (status : ℕ) (move : Move) (p : Packet) (volumes : List (List (List ℕ))) (m : Machine) (k : Kept) → StandsIn m.memory k → move ≡ Refused status → Carries move p volumes volumes m k status m k
+pub refuses : (status : ℕ) (move : Move) (p : Packet) (volumes : List (List (List ℕ))) (m : Machine) (k : Kept) → IsShadowedIn m.memory k → move ≡ Refused status → Carries move p volumes volumes m k status m k
 refuses status move p volumes m k stands is = subst (λ (x : Move). Carries x p volumes volumes m k status m k) (sym is) (record { status_is = refl; becomes = becomes_same m k stands; volumes_are = refl; drops = none_dropped [] k.shadow })
 
 -- a block is read into memory
@@ -125,7 +125,7 @@ reads_block v move p volumes bytes m k m' k' is has becomes long drops =
     subst (λ (x : Move). Carries x p volumes volumes m k 1 m' k') (sym is) (record { status_is = refl; becomes = read; volumes_are = refl; drops = dropped_within p.buffer bytes (frame_at p.buffer ∷ frame_at (p.buffer + 511) ∷ []) k.shadow k'.shadow (λ i h. block_frames p.buffer i (omega (arith, h, long))) drops })
 
 -- a block is written from memory
-pub writes_block : (v : ℕ) (move : Move) (p : Packet) (volumes volumes' : List (List (List ℕ))) (m : Machine) (k : Kept) → StandsIn m.memory k → move ≡ Writes v → volumes' ≡ with_block volumes v p.block (bytes_at (guest_in m.memory k) p.buffer 512)
+pub writes_block : (v : ℕ) (move : Move) (p : Packet) (volumes volumes' : List (List (List ℕ))) (m : Machine) (k : Kept) → IsShadowedIn m.memory k → move ≡ Writes v → volumes' ≡ with_block volumes v p.block (bytes_at (guest_in m.memory k) p.buffer 512)
     → Carries move p volumes volumes' m k 1 m k
 writes_block v move p volumes volumes' m k stands is written = subst (λ (x : Move). Carries x p volumes volumes' m k 1 m k) (sym is) (record { status_is = refl; becomes = becomes_same m k stands; volumes_are = written; drops = none_dropped [] k.shadow })
 

@@ -2,7 +2,7 @@
 use Rattle.std.proofs.Common.{◌≡◌, ℕ, zero, suc, ◌+◌, ◌<◌, List, [], ◌∷◌, ◌++◌, length, drop, take, slice_index_or, Option, Some, refl, ap, arith}
 use Rattle.std.specs.List.{slice_get}
 use Rattle.sys_guests.proofs.Lists.{none_some}
-use Rattle.sys_rounds.specs.Places.{changed}
+use Rattle.sys_state.specs.Places.{changed}
 
 same_there : {X : Type 0} (x y : X) → (let o : Option X = Some x in o ≡ Some y) → x ≡ y
 same_there x y e = cc

@@ -8,9 +8,9 @@ use Rattle.sys_lines.specs.Shows.{Shows, only_on}
 use Rattle.sys_objects.specs.Condition.{IsPrinter}
 use Rattle.sys_objects.specs.declared.records.Config.{Config}
 use Rattle.sys_objects.specs.declared.records.PrinterRow.{PrinterRow}
-use Rattle.sys_rounds.proofs.Places.{both}
-use Rattle.sys_rounds.specs.State.{bytes_on}
-use Rattle.sys_rounds.specs.Transfers.{printer_of}
+use Rattle.sys_state.proofs.Places.{both}
+use Rattle.sys_state.specs.State.{bytes_on}
+use Rattle.sys_state.specs.Transfers.{printer_of}
 use Rattle.sys_transfers.specs.Serves.{job_on}
 
 -- the line of a printer

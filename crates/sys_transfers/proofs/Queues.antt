@@ -4,10 +4,10 @@ use Rattle.std.specs.Prelude.{IfSome}
 use Rattle.std.proofs.lemmas.List.{at_drop_all, at_drop_more}
 use Rattle.vax_hw.specs.Machine.{Machine}
 use Rattle.vv_io.specs.Lines.{Seen}
-use Rattle.vm_fitting.specs.Present.{HasPresent}
-use Rattle.vm_fitting.proofs.Fitting.{writes_keep}
-use Rattle.vm_fitting.proofs.Own.{moves_alone}
-use Rattle.vm_guest.specs.Kept.{Becomes, Kept, StandsIn, TakesState, guest_in}
+use Rattle.vm_miss_laws.specs.Present.{HasPresent}
+use Rattle.vm_miss_laws.proofs.Fitting.{writes_keep}
+use Rattle.vm_miss_laws.proofs.Own.{moves_alone}
+use Rattle.vm_guest.specs.Kept.{Becomes, IsShadowedIn, Kept, TakesState, guest_in}
 use Rattle.vm_state.specs.Allowed.{IsPacket}
 use Rattle.vm_state.specs.State.{Guest, state_of, tables_of}
 use Rattle.vm_state.specs.Touches.{Present, Touching, touching_write}
@@ -16,18 +16,18 @@ use Rattle.sys_lines.proofs.Showings.{shows_none, shows_same, shows_then}
 use Rattle.sys_objects.specs.declared.records.Config.{Config}
 use Rattle.sys_objects.specs.declared.records.GuestRow.{GuestRow}
 use Rattle.sys_objects.specs.declared.records.Mount.{Mount}
-use Rattle.sys_rounds.proofs.Consoles.{bytes_append}
-use Rattle.sys_rounds.specs.FirstTouches.{touches_of_queue}
-use Rattle.sys_rounds.specs.Guests.{with_no_queue}
-use Rattle.sys_rounds.specs.State.{Put, bytes_on}
-use Rattle.sys_rounds.specs.Transfers.{Served, printer_of, served}
-use Rattle.sys_transfers.specs.Serves.{AreMounted, ServesOne, frames_served, job_on, one_packet}
+use Rattle.sys_state.proofs.Consoles.{bytes_append}
+use Rattle.sys_state.specs.FirstTouches.{touches_of_queue}
+use Rattle.sys_state.specs.Guests.{with_no_queue}
+use Rattle.sys_state.specs.State.{Put, bytes_on}
+use Rattle.sys_state.specs.Transfers.{Served, printer_of, served}
+use Rattle.sys_transfers.specs.Serves.{MountsNameVolumes, ServesOne, frames_served, job_on, one_packet}
 use Rattle.sys_transfers.specs.ServesAll.{ServesGuest, all_packets, all_touched}
 use Rattle.sys_transfers.proofs.Composing.{becomes_as, becomes_then, becomes_turned}
 use Rattle.sys_transfers.proofs.Sizes.{as_many, one_keeps_sizes, sizes}
 
 -- mounts name volumes of as many
-pub mounted_still : (units : List (Option Mount)) (xs ys : List (List (List ℕ))) → sizes ys ≡ sizes xs → AreMounted units xs → AreMounted units ys
+pub mounted_still : (units : List (Option Mount)) (xs ys : List (List (List ℕ))) → sizes ys ≡ sizes xs → MountsNameVolumes units xs → MountsNameVolumes units ys
 mounted_still units xs ys same mounted = subst (λ n. All (λ m. IfSome m (λ (x : Mount). x.volume < n)) units) (sym (as_many ys xs same)) mounted
 
 -- what is served of a queue, packet by packet
@@ -70,7 +70,7 @@ touches_at c row units g at queue n d volumes t h is =
     at_drop_more (λ (q : List ℕ). touches_of_queue c row units g q volumes t) queue n d h ∙ ap (λ (a : ℕ). touches_of_queue c row units g (a ∷ drop (n + 1) queue) volumes t) (sym is) ∙ next_touches c row units g at (drop (n + 1) queue) volumes t
 
 -- what is present after a packet has entries
-one_present : (row : GuestRow) (units : List (Option Mount)) (at : ℕ) (vs vs2 : List (List (List ℕ))) (m1 : Machine) (k1 : Kept) (job : Option (List ℕ)) (m2 : Machine) (k2 : Kept) (p : Present) → StandsIn m1.memory k1 → StandsIn m2.memory k2 → ServesOne row units at vs vs2 m1 k1 job m2 k2 → at % 4 ≡ 0 → HasPresent k1.shadow p
+one_present : (row : GuestRow) (units : List (Option Mount)) (at : ℕ) (vs vs2 : List (List (List ℕ))) (m1 : Machine) (k1 : Kept) (job : Option (List ℕ)) (m2 : Machine) (k2 : Kept) (p : Present) → IsShadowedIn m1.memory k1 → IsShadowedIn m2.memory k2 → ServesOne row units at vs vs2 m1 k1 job m2 k2 → at % 4 ≡ 0 → HasPresent k1.shadow p
     → HasPresent k2.shadow (touching_write (guest_in m1.memory k1) (frames_served units (guest_in m1.memory k1) at vs) p)
 one_present row units at vs vs2 m1 k1 job m2 k2 p before after serves aligned has =
     let frames = frames_served units (guest_in m1.memory k1) at vs in
@@ -109,7 +109,7 @@ module _ (c : Config) (row : GuestRow) (units : List (Option Mount)) (volumes : 
     pub present : (t : Touching) → HasPresent k.shadow t.present → Reaches n vs m1 k1 t
 
   -- the queue is taken
-  pub none_served : (k1 : Kept) → StandsIn m.memory k → TakesState (record (state_of k.state) { queue = [] }) k k1 → SoFar 0 volumes m k1 marks lines
+  pub none_served : (k1 : Kept) → IsShadowedIn m.memory k → TakesState (record (state_of k.state) { queue = [] }) k k1 → SoFar 0 volumes m k1 marks lines
   none_served k1 stands turns =
       let taken : Becomes (with_no_queue g) m k m k1 = becomes_turned m k (record (state_of k.state) { queue = [] }) k1 stands turns in
       let at : (vs : List (List (List ℕ))) → left 0 (guest_in m.memory k1) vs ≡ left 0 (with_no_queue g) vs = λ vs. ap (λ (h : Guest). left 0 h vs) taken.guest in
@@ -129,13 +129,13 @@ module _ (c : Config) (row : GuestRow) (units : List (Option Mount)) (volumes : 
       }
 
   -- the packets that wait lie in memory
-  pub packet_inside : (n : ℕ) (vs : List (List (List ℕ))) (m1 : Machine) (k1 : Kept) (marks1 : List Bool) (lines1 : List Seen) (items : List ℕ) (d : ℕ) → StandsIn m.memory k → items ≡ queue → n < length items → SoFar n vs m1 k1 marks1 lines1 → slice_index_or items n d + 24 ≤ 512 * k1.state.pages
+  pub packet_inside : (n : ℕ) (vs : List (List (List ℕ))) (m1 : Machine) (k1 : Kept) (marks1 : List Bool) (lines1 : List Seen) (items : List ℕ) (d : ℕ) → IsShadowedIn m.memory k → items ≡ queue → n < length items → SoFar n vs m1 k1 marks1 lines1 → slice_index_or items n d + 24 ≤ 512 * k1.state.pages
   packet_inside n vs m1 k1 marks1 lines1 items d stands same h x =
       let packet : IsPacket (512 * k.state.pages) (slice_index_or items n d) = subst (λ (xs : List ℕ). IsPacket (512 * k.state.pages) (slice_index_or xs n d)) (sym same) (stands.allowed.packets n d (subst (λ (xs : List ℕ). n < length xs) same h)) in
       omega (arith, packet.1, x.becomes.place.pages)
 
   -- one packet more
-  pub one_more : (n : ℕ) (vs vs2 : List (List (List ℕ))) (m1 : Machine) (k1 : Kept) (marks1 : List Bool) (lines1 : List Seen) (items : List ℕ) (d at : ℕ) (job : Option (List ℕ)) (m2 : Machine) (k2 : Kept) (marks2 : List Bool) (lines2 : List Seen) → StandsIn m.memory k → items ≡ queue → n < length items → at ≡ slice_index_or items n d → SoFar n vs m1 k1 marks1 lines1
+  pub one_more : (n : ℕ) (vs vs2 : List (List (List ℕ))) (m1 : Machine) (k1 : Kept) (marks1 : List Bool) (lines1 : List Seen) (items : List ℕ) (d at : ℕ) (job : Option (List ℕ)) (m2 : Machine) (k2 : Kept) (marks2 : List Bool) (lines2 : List Seen) → IsShadowedIn m.memory k → items ≡ queue → n < length items → at ≡ slice_index_or items n d → SoFar n vs m1 k1 marks1 lines1
       → ServesOne row units at vs vs2 m1 k1 job m2 k2 → Shows marks1 marks2 lines1 lines2 (λ j. bytes_on j (job_on (printer_of c row.printer) job)) → SoFar (n + 1) vs2 m2 k2 marks2 lines2
   one_more n vs vs2 m1 k1 marks1 lines1 items d at job m2 k2 marks2 lines2 stands same h is x serves shown = record {
     puts = x.puts ++ one.puts;

@@ -4,14 +4,14 @@ use Rattle.std.specs.List.{slice_get}
 use Rattle.std.proofs.lemmas.List.{drop_all, length-map, take_all}
 use Rattle.vax_hw.specs.Machine.{Machine}
 use Rattle.vv_io.specs.Lines.{Seen}
-use Rattle.vm_guest.specs.Kept.{Kept, StandsIn, guest_in}
+use Rattle.vm_guest.specs.Kept.{IsShadowedIn, Kept, guest_in}
 use Rattle.vm_state.specs.State.{Guest}
 use Rattle.vm_state.specs.Touches.{Touching}
 use Rattle.sys_guests.proofs.LaidOut.{placed_long}
 use Rattle.sys_guests.proofs.Lists.{get_at, get_map, one_of_all}
 use Rattle.sys_guests.proofs.One.{one_becomes}
 use Rattle.sys_guests.proofs.Present.{set_present}
-use Rattle.sys_guests.specs.Kernel.{AreUnits, IsKernel, Leads, state_of}
+use Rattle.sys_guests.specs.Kernel.{AreUnits, IsKernel, Leads, kernel_state}
 use Rattle.sys_guests.specs.Layout.{AreInMachine, OnlyGuests, guests_in}
 use Rattle.sys_guests.specs.Present.{HavePresent, KeepsAll}
 use Rattle.sys_guests.specs.declared.kernel.Kernel.{Kernel}
@@ -21,12 +21,12 @@ use Rattle.sys_objects.specs.Condition.{IsConfig}
 use Rattle.sys_objects.specs.declared.records.Config.{Config}
 use Rattle.sys_objects.specs.declared.records.GuestRow.{GuestRow}
 use Rattle.sys_objects.specs.declared.records.Mount.{Mount}
-use Rattle.sys_rounds.proofs.Consoles.{bytes_append}
-use Rattle.sys_rounds.specs.FirstTouches.{touches_of_transfers}
-use Rattle.sys_rounds.specs.Places.{changed}
-use Rattle.sys_rounds.specs.State.{Put, State, bytes_on}
-use Rattle.sys_rounds.specs.Transfers.{AllServed, Served, all_served, transfers}
-use Rattle.sys_transfers.specs.Serves.{AreMounted}
+use Rattle.sys_state.proofs.Consoles.{bytes_append}
+use Rattle.sys_state.specs.FirstTouches.{touches_of_transfers}
+use Rattle.sys_state.specs.Places.{changed}
+use Rattle.sys_state.specs.State.{Put, SystemState, bytes_on}
+use Rattle.sys_state.specs.Transfers.{AllServed, Served, all_served, transfers}
+use Rattle.sys_transfers.specs.Serves.{MountsNameVolumes}
 use Rattle.sys_transfers.specs.ServesAll.{ServesAt, ServesGuest, all_packets, all_touched}
 use Rattle.sys_transfers.proofs.Places.{before_changed, behind_changed, from_here, got_in_front}
 use Rattle.sys_transfers.proofs.Sizes.{as_many, packets_keep_faults, packets_keep_sizes, sizes}
@@ -53,13 +53,13 @@ served_at c mounts place row units volumes m ks k marks lines volumes' m' k' mar
     }
 
 -- it is in the machine
-pub stands_at : (c : Config) (place : ℕ) (memory : List ℕ) (ks : List Kept) (k : Kept) → place < length c.guests → k ≡ slice_index_or ks place k → AreInMachine c.guests memory ks → StandsIn memory k
+pub stands_at : (c : Config) (place : ℕ) (memory : List ℕ) (ks : List Kept) (k : Kept) → place < length c.guests → k ≡ slice_index_or ks place k → AreInMachine c.guests memory ks → IsShadowedIn memory k
 stands_at c place memory ks k there k_is placed =
     let long : length ks ≡ length c.guests = placed_long _ _ c.guests ks placed.laid_out in
-    one_of_all (λ (y : Kept). StandsIn memory y) ks place k (omega (arith, there, long)) k_is placed.stand
+    one_of_all (λ (y : Kept). IsShadowedIn memory y) ks place k (omega (arith, there, long)) k_is placed.stand
 
 -- what is mounted at its units are volumes
-pub units_mounted : (mounts : List (List (Option Mount))) (place : ℕ) (units : List (Option Mount)) (volumes : List (List (List ℕ))) → place < length mounts → units ≡ slice_index_or mounts place units → All (AreUnits (length volumes)) mounts → AreMounted units volumes
+pub units_mounted : (mounts : List (List (Option Mount))) (place : ℕ) (units : List (Option Mount)) (volumes : List (List (List ℕ))) → place < length mounts → units ≡ slice_index_or mounts place units → All (AreUnits (length volumes)) mounts → MountsNameVolumes units volumes
 units_mounted mounts place units volumes there is all = (one_of_all (AreUnits (length volumes)) mounts place units there is all).mounted
 
 -- one guest more, and none
@@ -105,8 +105,8 @@ module _ (k : Kernel) (volumes : List (List (List ℕ))) (m : Machine) (lines : 
   abbrev c : Config
   c = k.config
 
-  abbrev before : State
-  before = state_of m.memory k volumes
+  abbrev before : SystemState
+  before = kernel_state m.memory k volumes
 
   abbrev whole : AllServed
   whole = all_served c c.guests before.mounts before.guests volumes
@@ -221,7 +221,7 @@ module _ (k : Kernel) (volumes : List (List (List ℕ))) (m : Machine) (lines : 
   pub all_guests_served : (i : ℕ) (vs : List (List (List ℕ))) (m1 : Machine) (k1 : Kernel) (lines1 : List Seen) → IsKernel m.memory k → length k.guests.items ≤ i → k1 ≡ record k { guests = k1.guests; marks = k1.marks } → SoFar i vs m1 k1.guests.items k1.marks lines1
       → Leads (transfers c before) m k lines m1 k1 vs lines1
   all_guests_served i vs m1 k1 lines1 holds over is x = record {
-    state = (λ j. state_of m1.memory (is j) vs) ∙ (λ j. record before { guests = all_now j; volumes = (ap (λ (s : AllServed). s.volumes) (sym none) ∙ x.volumes_are) j });
+    state = (λ j. kernel_state m1.memory (is j) vs) ∙ (λ j. record before { guests = all_now j; volumes = (ap (λ (s : AllServed). s.volumes) (sym none) ∙ x.volumes_are) j });
     shows = shows_same k.marks k1.marks lines lines1 (λ j. bytes_on j x.puts) (λ j. bytes_on j whole.puts) (λ j. ap (bytes_on j) (sym (append-nil x.puts) ∙ ap (λ (s : AllServed). x.puts ++ s.puts) (sym none) ∙ x.puts_are)) x.shows;
     holds = subst (λ (y : Kernel). IsKernel m1.memory y) (sym is) (record {
       accepted = holds.accepted;
@@ -258,11 +258,11 @@ module _ (k : Kernel) (volumes : List (List (List ℕ))) (m : Machine) (lines : 
 
 -- what is present after all transfers has entries
 pub all_present : (k : Kernel) (volumes : List (List (List ℕ))) (m : Machine) (lines : List Seen) (i : ℕ) (vs : List (List (List ℕ))) (m1 : Machine) (ks1 : List Kept) (marks1 : List Bool) (lines1 : List Seen) → length k.config.guests ≤ i → SoFar k volumes m lines i vs m1 ks1 marks1 lines1
-    → KeepsAll (touches_of_transfers k.config k.config.guests (state_of m.memory k volumes).mounts (guests_in m.memory k.guests.items) volumes) k.guests.items ks1
+    → KeepsAll (touches_of_transfers k.config k.config.guests (kernel_state m.memory k volumes).mounts (guests_in m.memory k.guests.items) volumes) k.guests.items ks1
 all_present k volumes m lines i vs m1 ks1 marks1 lines1 over x ts all =
     let r = x.present ts all in
     let long : length r.at ≡ length k.config.guests = touches_long ks1 r.at r.has ∙ placed_long _ _ k.config.guests ks1 x.placed.laid_out in
-    let mounts = (state_of m.memory k volumes).mounts in
+    let mounts = (kernel_state m.memory k volumes).mounts in
     let gs1 = guests_in m1.memory ks1 in
     let none : touches_of_transfers k.config (drop i k.config.guests) (drop i mounts) (drop i gs1) vs (drop i r.at) ≡ [] = ap (λ (rows : List GuestRow). touches_of_transfers k.config rows (drop i mounts) (drop i gs1) vs (drop i r.at)) (drop_all i k.config.guests over) in
     subst (λ (us : List Touching). HavePresent ks1 us) (sym (append-nil r.at) ∙ ap (λ (us : List Touching). us ++ []) (sym (take_all i r.at (omega (arith, long, over)))) ∙ ap (λ (us : List Touching). take i r.at ++ us) (sym none) ∙ r.is) r.has

@@ -5,9 +5,9 @@ use Rattle.vax_arch.specs.Walk.{is_past}
 use Rattle.std.proofs.lemmas.Bool.{ne_eqb}
 use Rattle.vax_hw.specs.Machine.{Machine}
 use Rattle.vv_base.specs.Bytes.{long_bytes}
-use Rattle.vm_fitting.specs.Moves.{Drops}
-use Rattle.vm_fitting.proofs.Own.{none_dropped}
-use Rattle.vm_guest.specs.Kept.{Becomes, Kept, StandsIn, TakesState, frames_from, guest_in}
+use Rattle.vm_miss_laws.specs.Moves.{Drops}
+use Rattle.vm_miss_laws.proofs.Own.{none_dropped}
+use Rattle.vm_guest.specs.Kept.{Becomes, IsShadowedIn, Kept, TakesState, frames_from, guest_in}
 use Rattle.vm_state.specs.Packets.{status_place}
 use Rattle.vm_state.specs.State.{Guest, State}
 use Rattle.vm_state.specs.Translation.{frame_at}
@@ -15,15 +15,15 @@ use Rattle.vm_stepping.proofs.Paying.{dropped_then}
 use Rattle.sys_objects.specs.declared.records.Config.{Config}
 use Rattle.sys_objects.specs.declared.records.GuestRow.{GuestRow}
 use Rattle.sys_objects.specs.declared.records.Mount.{Mount}
-use Rattle.sys_rounds.specs.FirstTouches.{frames_by}
-use Rattle.sys_rounds.specs.Guests.{answered}
-use Rattle.sys_rounds.specs.Transfers.{Move, Packet, Prints, Reads, Refused, Served, Writes, move_of, moved, packet_at, printer_of, refused_block, to_print, to_read, to_write, unless_refused}
-use Rattle.sys_transfers.specs.Serves.{AreMounted, Carries, CarriesAll, PrintsOf, ServesOne, carried, carried_volumes, frames_carried, frames_served, job_by, job_on, one_packet, status_of}
+use Rattle.sys_state.specs.FirstTouches.{frames_by}
+use Rattle.sys_state.specs.Guests.{answered}
+use Rattle.sys_state.specs.Transfers.{Move, Packet, Prints, Reads, Refused, Served, Writes, move_of, moved, packet_at, printer_of, refused_block, to_print, to_read, to_write, unless_refused}
+use Rattle.sys_transfers.specs.Serves.{Carries, CarriesAll, MountsNameVolumes, PrintsOf, ServesOne, carried, carried_volumes, frames_carried, frames_served, job_by, job_on, move_status, one_packet}
 use Rattle.sys_transfers.proofs.Composing.{becomes_as, becomes_same, becomes_then, memory_size}
 use Rattle.sys_transfers.proofs.Dropping.{dropped_within, status_frames}
 
 -- the parts of a move that is made
-moved_guest : (c : Config) (row : GuestRow) (g : Guest) (at : ℕ) (p : Packet) (volumes : List (List (List ℕ))) (move : Move) → answered at (status_of move) (carried move p volumes g) ≡ (moved c row g at p volumes move).guest
+moved_guest : (c : Config) (row : GuestRow) (g : Guest) (at : ℕ) (p : Packet) (volumes : List (List (List ℕ))) (move : Move) → answered at (move_status move) (carried move p volumes g) ≡ (moved c row g at p volumes move).guest
 moved_guest c row g at p volumes (Refused status) = refl
 moved_guest c row g at p volumes (Reads v) = refl
 moved_guest c row g at p volumes (Writes v) = refl
@@ -74,7 +74,7 @@ one_is : (c : Config) (row : GuestRow) (units : List (Option Mount)) (g : Guest)
 unfolding one_packet
 one_is c row units g at p volumes space read size = λ i. moved c row g at (read i) volumes (move_of (size i) volumes units (read i))
 
-one_guest : (c : Config) (row : GuestRow) (units : List (Option Mount)) (g : Guest) (at : ℕ) (p : Packet) (volumes : List (List (List ℕ))) (space : ℕ) → p ≡ packet_at g.memory at → space ≡ length g.memory → answered at (status_of (move_of space volumes units p)) (carried (move_of space volumes units p) p volumes g) ≡ (one_packet c row units g at volumes).guest
+one_guest : (c : Config) (row : GuestRow) (units : List (Option Mount)) (g : Guest) (at : ℕ) (p : Packet) (volumes : List (List (List ℕ))) (space : ℕ) → p ≡ packet_at g.memory at → space ≡ length g.memory → answered at (move_status (move_of space volumes units p)) (carried (move_of space volumes units p) p volumes g) ≡ (one_packet c row units g at volumes).guest
 one_guest c row units g at p volumes space read size = moved_guest c row g at p volumes (move_of space volumes units p) ∙ ap (λ (s : Served). s.guest) (one_is c row units g at p volumes space read size)
 
 one_volumes : (c : Config) (row : GuestRow) (units : List (Option Mount)) (g : Guest) (at : ℕ) (p : Packet) (volumes : List (List (List ℕ))) (space : ℕ) → p ≡ packet_at g.memory at → space ≡ length g.memory → carried_volumes (move_of space volumes units p) p volumes g ≡ (one_packet c row units g at volumes).volumes
@@ -100,7 +100,7 @@ status_dropped at status bytes k k1 k2 is drops turns aligned =
     subst (Drops (frame_at (status_place at) ∷ []) k.shadow) (sym turns.shadow) (dropped_within (at + 20) bytes (frame_at (status_place at) ∷ []) k.shadow k1.shadow (λ i h. status_frames at i aligned (omega (arith, h, four))) drops)
 
 -- the whole
-pub serves_one : (row : GuestRow) (mounts : List (Option Mount)) (at : ℕ) (p : Packet) (volumes volumes' : List (List (List ℕ))) (m : Machine) (k : Kept) (status : ℕ) (job : Option (List ℕ)) (m1 : Machine) (k1 : Kept) (m2 : Machine) (k2 : Kept) → StandsIn m.memory k → p ≡ packet_at (guest_in m.memory k).memory at
+pub serves_one : (row : GuestRow) (mounts : List (Option Mount)) (at : ℕ) (p : Packet) (volumes volumes' : List (List (List ℕ))) (m : Machine) (k : Kept) (status : ℕ) (job : Option (List ℕ)) (m1 : Machine) (k1 : Kept) (m2 : Machine) (k2 : Kept) → IsShadowedIn m.memory k → p ≡ packet_at (guest_in m.memory k).memory at
     → CarriesAll row mounts p volumes volumes' m k status job m1 k1 → Becomes (answered at status (guest_in m1.memory k1)) m1 k1 m2 k2 → (at % 4 ≡ 0 → Drops (frame_at (status_place at) ∷ []) k1.shadow k2.shadow) → ServesOne row mounts at volumes volumes' m k job m2 k2
 serves_one row mounts at p volumes volumes' m k status job m1 k1 m2 k2 stands read all answer answered_drops = record {
   becomes = λ c. becomes_as (answered at status (guest_in m1.memory k1)) (one_packet c row mounts (guest_in m.memory k) at volumes).guest m k m2 k2 (same c) whole;
@@ -125,7 +125,7 @@ unit_mounted Q none [] n all = none
 unit_mounted Q none (x ∷ units) zero all = all 0 None (omega arith)
 unit_mounted Q none (x ∷ units) (suc n) all = unit_mounted Q none units n (λ i d h. all (suc i) d (omega (arith, h)))
 
-pub names_volume : (units : List (Option Mount)) (n : ℕ) (mount : Option Mount) (volumes : List (List (List ℕ))) → mount ≡ slice_index_or units n None → AreMounted units volumes → IfSome mount (λ (x : Mount). x.volume < length volumes)
+pub names_volume : (units : List (Option Mount)) (n : ℕ) (mount : Option Mount) (volumes : List (List (List ℕ))) → mount ≡ slice_index_or units n None → MountsNameVolumes units volumes → IfSome mount (λ (x : Mount). x.volume < length volumes)
 names_volume units n mount volumes is all = subst (λ (o : Option Mount). IfSome o (λ (x : Mount). x.volume < length volumes)) (sym is) (unit_mounted (λ (o : Option Mount). IfSome o (λ (x : Mount). x.volume < length volumes)) tt units n all)
 
 -- A block that is read or written is no job.
@@ -150,7 +150,7 @@ print_changes space p volumes g = by (nat_lt 132 p.size) (is_past space p.buffer
     by false true = (refl, refl)
     by false false = (refl, refl)
 
-pub prints_only : (row : GuestRow) (space : ℕ) (p : Packet) (volumes : List (List (List ℕ))) (m : Machine) (k : Kept) (status : ℕ) (job : Option (List ℕ)) → StandsIn m.memory k → PrintsOf row p (guest_in m.memory k) (to_print space p) status job → Carries (to_print space p) p volumes volumes m k status m k
+pub prints_only : (row : GuestRow) (space : ℕ) (p : Packet) (volumes : List (List (List ℕ))) (m : Machine) (k : Kept) (status : ℕ) (job : Option (List ℕ)) → IsShadowedIn m.memory k → PrintsOf row p (guest_in m.memory k) (to_print space p) status job → Carries (to_print space p) p volumes volumes m k status m k
 prints_only row space p volumes m k status job stands printed =
     let same = print_changes space p volumes (guest_in m.memory k) in
     record {

@@ -7,8 +7,8 @@ use Rattle.vm_state.specs.State.{Guest}
 use Rattle.sys_objects.specs.declared.records.Config.{Config}
 use Rattle.sys_objects.specs.declared.records.GuestRow.{GuestRow}
 use Rattle.sys_objects.specs.declared.records.Mount.{Mount}
-use Rattle.sys_rounds.specs.Guests.{with_no_queue}
-use Rattle.sys_rounds.specs.Transfers.{Move, Packet, Prints, Reads, Refused, Served, Writes, move_of, moved, packet_at, served, served_one}
+use Rattle.sys_state.specs.Guests.{with_no_queue}
+use Rattle.sys_state.specs.Transfers.{Move, Packet, Prints, Reads, Refused, Served, Writes, move_of, moved, packet_at, served, served_one}
 use Rattle.sys_store.specs.Blocks.{blocks_of, with_block}
 use Rattle.sys_transfers.specs.Serves.{one_packet}
 use Rattle.sys_transfers.specs.ServesAll.{all_packets}

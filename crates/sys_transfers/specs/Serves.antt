@@ -5,21 +5,21 @@ use Rattle.sys_objects.specs.declared.records.Config.{Config}
 use Rattle.sys_objects.specs.declared.records.GuestRow.{GuestRow}
 use Rattle.sys_objects.specs.declared.records.Mount.{Mount}
 use Rattle.sys_objects.specs.declared.records.PrinterRow.{PrinterRow}
-use Rattle.sys_rounds.specs.FirstTouches.{frames_by}
-use Rattle.sys_rounds.specs.State.{Put}
-use Rattle.sys_rounds.specs.Transfers.{Move, Packet, Prints, Reads, Refused, Served, Writes, done_status, move_of, packet_at, printed, printer_of, served_one}
+use Rattle.sys_state.specs.FirstTouches.{frames_by}
+use Rattle.sys_state.specs.State.{Put}
+use Rattle.sys_state.specs.Transfers.{Move, Packet, Prints, Reads, Refused, Served, Writes, done_status, move_of, packet_at, printed, printer_of, served_one}
 use Rattle.sys_store.specs.Blocks.{blocks_of, with_block}
 use Rattle.sys_store.specs.Job.{job_text}
 use Rattle.sys_transfers.specs.declared.packets.Request.{Request}
-use Rattle.vm_fitting.specs.Moves.{Drops}
+use Rattle.vm_miss_laws.specs.Moves.{Drops}
 use Rattle.vm_guest.specs.Kept.{Becomes, Kept, guest_in}
 use Rattle.vm_state.specs.Outside.{bytes_at, with_bytes}
 use Rattle.vm_state.specs.State.{Guest}
 use Rattle.vm_state.specs.Translation.{frame_at}
 
 -- each mount names a volume
-abbrev pub AreMounted : List (Option Mount) → List (List (List ℕ)) → Type 0
-AreMounted mounts volumes = All (λ m. IfSome m (λ (x : Mount). x.volume < length volumes)) mounts
+abbrev pub MountsNameVolumes : List (Option Mount) → List (List (List ℕ)) → Type 0
+MountsNameVolumes mounts volumes = All (λ m. IfSome m (λ (x : Mount). x.volume < length volumes)) mounts
 
 -- what a move leaves of the guest's memory, before the packet is answered
 abbrev pub carried : Move → Packet → List (List (List ℕ)) → Guest → Guest
@@ -34,11 +34,11 @@ carried_volumes (Reads v) p volumes g = volumes
 carried_volumes (Writes v) p volumes g = with_block volumes v p.block (bytes_at g p.buffer 512)
 carried_volumes Prints p volumes g = volumes
 
-abbrev pub status_of : Move → ℕ
-status_of (Refused status) = status
-status_of (Reads v) = done_status
-status_of (Writes v) = done_status
-status_of Prints = done_status
+abbrev pub move_status : Move → ℕ
+move_status (Refused status) = status
+move_status (Reads v) = done_status
+move_status (Writes v) = done_status
+move_status Prints = done_status
 
 -- the frames that a move writes, before the packet is answered
 abbrev pub frames_carried : Move → Packet → List ℕ
@@ -49,7 +49,7 @@ frames_carried Prints p = []
 
 -- A move is made, but for the answer. What is dropped was read from a frame that it writes.
 pub record Carries (move : Move) (p : Packet) (volumes volumes' : List (List (List ℕ))) (m : Machine) (k : Kept) (status : ℕ) (m' : Machine) (k' : Kept) : Type 0 where
-  pub status_is : status ≡ status_of move
+  pub status_is : status ≡ move_status move
   pub becomes : Becomes (carried move p volumes (guest_in m.memory k)) m k m' k'
   pub volumes_are : volumes' ≡ carried_volumes move p volumes (guest_in m.memory k)
   pub drops : Drops (frames_carried move p) k.shadow k'.shadow
@@ -68,7 +68,7 @@ job_by row p g Prints = Some (job_text row.class row.name (bytes_at g p.buffer p
 
 -- a text is printed, or refused
 pub record PrintsOf (row : GuestRow) (p : Packet) (g : Guest) (move : Move) (status : ℕ) (job : Option (List ℕ)) : Type 0 where
-  pub status_is : status ≡ status_of move
+  pub status_is : status ≡ move_status move
   pub job_is : job ≡ job_by row p g move
 
 -- the move that a packet asks for, with the job that is printed

@@ -9,12 +9,12 @@ use Rattle.sys_lines.specs.Shows.{Shows}
 use Rattle.sys_objects.specs.declared.records.Config.{Config}
 use Rattle.sys_objects.specs.declared.records.GuestRow.{GuestRow}
 use Rattle.sys_objects.specs.declared.records.Mount.{Mount}
-use Rattle.sys_rounds.specs.FirstTouches.{touches_of_queue}
-use Rattle.sys_rounds.specs.Guests.{with_no_queue}
-use Rattle.sys_rounds.specs.Places.{changed}
-use Rattle.sys_rounds.specs.State.{bytes_on}
-use Rattle.sys_rounds.specs.Transfers.{Served, served}
-use Rattle.vm_fitting.specs.Present.{HasPresent}
+use Rattle.sys_state.specs.FirstTouches.{touches_of_queue}
+use Rattle.sys_state.specs.Guests.{with_no_queue}
+use Rattle.sys_state.specs.Places.{changed}
+use Rattle.sys_state.specs.State.{bytes_on}
+use Rattle.sys_state.specs.Transfers.{Served, served}
+use Rattle.vm_miss_laws.specs.Present.{HasPresent}
 use Rattle.vm_guest.specs.Kept.{Becomes, Kept, guest_in}
 use Rattle.vm_state.specs.State.{Guest}
 use Rattle.vm_state.specs.Touches.{Touching}

@@ -2,9 +2,9 @@ ghost use Rattle.std.specs.Prelude.{◌≡◌, ◌<◌, length, map, vec_len, Al
 ghost use Rattle.sys_guests.specs.Kernel.{AreUnits};
 ghost use Rattle.sys_guests.specs.Layout.{AreInMachine};
 ghost use Rattle.sys_objects.specs.Condition.{IsConfig, IsPrinter};
-ghost use Rattle.sys_transfers.specs.Serves.{AreMounted};
+ghost use Rattle.sys_transfers.specs.Serves.{MountsNameVolumes};
 ghost use Rattle.sys_transfers.specs.ServesAll.{ServesAt, ServesGuest};
-ghost use Rattle.vm_guest.specs.Kept.{StandsIn};
+ghost use Rattle.vm_guest.specs.Kept.{IsShadowedIn};
 
 use crate::printing::print_job_on;
 use crate::serving::serve;
@@ -26,8 +26,8 @@ fn serve_guest<H: Hardware>(
     units: &[Option<Mount>; 4],
     volumes: &mut Volumes,
 )
-    requires stands { StandsIn (H.machine machine.old).memory guest.old }
-    requires mounted { AreMounted units.now volumes.old }
+    requires stands { IsShadowedIn (H.machine machine.old).memory guest.old }
+    requires mounted { MountsNameVolumes units.now volumes.old }
     requires printers { All IsPrinter config.now.printers }
     requires lines { vec_len lines.old ≡ 32 }
     ensures serves { ServesGuest config.now row.now units.now volumes.old (H.machine machine.old) guest.old marks.old (map (λ b. seen b) lines.old.items) volumes.new (H.machine machine.new) guest.new marks.new (map (λ b. seen b) lines.new.items) }

@@ -1,8 +1,8 @@
 ghost use Rattle.std.specs.Prelude.{◌≡◌, ◌+◌, ◌*◌, ◌<◌, ◌≤◌, IfSome, length};
 ghost use Rattle.sys_store.specs.Job.{job_text};
-ghost use Rattle.sys_rounds.specs.Transfers.{to_print, to_read, to_write};
+ghost use Rattle.sys_state.specs.Transfers.{to_print, to_read, to_write};
 ghost use Rattle.sys_transfers.specs.Serves.{Carries, PrintsOf, packet_of};
-ghost use Rattle.vm_guest.specs.Kept.{StandsIn, guest_in};
+ghost use Rattle.vm_guest.specs.Kept.{IsShadowedIn, guest_in};
 ghost use Rattle.vm_state.specs.Outside.{bytes_at};
 
 use crate::packets::{Request, is_outside};
@@ -47,7 +47,7 @@ pub fn read<H: Hardware>(
     unit: Option<Mount>,
     p: &Request,
 ) -> u32
-    requires stands { StandsIn (H.machine machine.old).memory guest.old }
+    requires stands { IsShadowedIn (H.machine machine.old).memory guest.old }
     requires mounted { IfSome unit (λ x. x.volume < length volumes.now) }
     ensures { Carries (to_read (512 * guest.old.state.pages) volumes.now unit (packet_of p.now)) (packet_of p.now) volumes.now volumes.now (H.machine machine.old) guest.old result (H.machine machine.new) guest.new }
 {
@@ -76,7 +76,7 @@ pub fn write<H: Hardware>(
     unit: Option<Mount>,
     p: &Request,
 ) -> u32
-    requires stands { StandsIn (H.machine machine.now).memory guest.now }
+    requires stands { IsShadowedIn (H.machine machine.now).memory guest.now }
     requires mounted { IfSome unit (λ x. x.volume < length volumes.old) }
     ensures { Carries (to_write (512 * guest.now.state.pages) volumes.old unit (packet_of p.now)) (packet_of p.now) volumes.old volumes.new (H.machine machine.now) guest.now result (H.machine machine.now) guest.now }
 {
@@ -100,7 +100,7 @@ pub fn write<H: Hardware>(
 
 /// The text of a guest that is printed.
 fn job_of<H: Hardware>(machine: &H, guest: &Guest, row: &GuestRow, p: &Request) -> Text<640>
-    requires stands { StandsIn (H.machine machine.now).memory guest.now }
+    requires stands { IsShadowedIn (H.machine machine.now).memory guest.now }
     requires short { p.now.size ≤ 132 }
     requires inside { p.now.buffer + p.now.size ≤ 512 * guest.now.state.pages }
     ensures { result ≡ job_text row.now.class row.now.name (bytes_at (guest_in (H.machine machine.now).memory guest.now) p.now.buffer p.now.size) }
@@ -118,7 +118,7 @@ pub fn print<H: Hardware>(
     row: &GuestRow,
     p: &Request,
 ) -> (u32, Option<Text<640>>)
-    requires stands { StandsIn (H.machine machine.now).memory guest.now }
+    requires stands { IsShadowedIn (H.machine machine.now).memory guest.now }
     ensures { PrintsOf row.now (packet_of p.now) (guest_in (H.machine machine.now).memory guest.now) (to_print (512 * guest.now.state.pages) (packet_of p.now)) result.0 result.1 }
 {
     if MOST_PRINTED < p.size {

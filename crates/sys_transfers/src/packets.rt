@@ -1,8 +1,8 @@
 ghost use Rattle.std.specs.Prelude.{◌≡◌, ◌+◌, ◌*◌, ◌≤◌, ◌<◌};
-ghost use Rattle.sys_rounds.specs.Transfers.{packet_at};
+ghost use Rattle.sys_state.specs.Transfers.{packet_at};
 ghost use Rattle.sys_transfers.specs.Serves.{packet_of};
 ghost use Rattle.vax_arch.specs.Walk.{is_past};
-ghost use Rattle.vm_guest.specs.Kept.{StandsIn, guest_in};
+ghost use Rattle.vm_guest.specs.Kept.{IsShadowedIn, guest_in};
 
 use vax_hw::Hardware;
 use vm_guest::Guest;
@@ -20,7 +20,7 @@ pub struct Request {
 
 /// The packet at a physical address of a guest.
 pub fn request_at<H: Hardware>(machine: &H, guest: &Guest, at: u32) -> Request
-    requires stands { StandsIn (H.machine machine.now).memory guest.now }
+    requires stands { IsShadowedIn (H.machine machine.now).memory guest.now }
     requires inside { at + 24 ≤ 512 * guest.now.state.pages }
     ensures { packet_of result ≡ packet_at (guest_in (H.machine machine.now).memory guest.now).memory at }
 {

@@ -1,8 +1,8 @@
 ghost use Rattle.std.specs.Prelude.{◌≡◌, ◌<◌, map, option_map, vec_len, All, IfSome};
 ghost use Rattle.sys_lines.specs.Shows.{Shows, only_on};
 ghost use Rattle.sys_objects.specs.Condition.{IsPrinter};
-ghost use Rattle.sys_rounds.specs.State.{bytes_on};
-ghost use Rattle.sys_rounds.specs.Transfers.{printer_of};
+ghost use Rattle.sys_state.specs.State.{bytes_on};
+ghost use Rattle.sys_state.specs.Transfers.{printer_of};
 ghost use Rattle.sys_transfers.specs.Serves.{job_on};
 
 use sys_lines::{Marks, show_whole};

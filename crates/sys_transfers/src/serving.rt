@@ -1,8 +1,8 @@
 ghost use Rattle.std.specs.Prelude.{◌≡◌, ◌+◌, ◌*◌, ◌%◌, ◌≤◌, [], ◌∷◌, None, slice_index_or};
-ghost use Rattle.sys_rounds.specs.Guests.{answered};
-ghost use Rattle.sys_transfers.specs.Serves.{AreMounted, CarriesAll, ServesOne, packet_of};
-ghost use Rattle.vm_fitting.specs.Moves.{Drops};
-ghost use Rattle.vm_guest.specs.Kept.{Becomes, StandsIn, guest_in};
+ghost use Rattle.sys_state.specs.Guests.{answered};
+ghost use Rattle.sys_transfers.specs.Serves.{CarriesAll, MountsNameVolumes, ServesOne, packet_of};
+ghost use Rattle.vm_guest.specs.Kept.{Becomes, IsShadowedIn, guest_in};
+ghost use Rattle.vm_miss_laws.specs.Moves.{Drops};
 ghost use Rattle.vm_state.specs.Packets.{status_place};
 ghost use Rattle.vm_state.specs.Translation.{frame_at};
 
@@ -29,7 +29,7 @@ fn mount_at(mounts: &[Option<Mount>; 4], unit: u32) -> Option<Mount>
 
 /// A packet is answered: its status is stored, and the interrupt of transfers is requested.
 fn answer<H: Hardware>(machine: &mut H, guest: &mut Guest, at: u32, status: u32)
-    requires stands { StandsIn (H.machine machine.old).memory guest.old }
+    requires stands { IsShadowedIn (H.machine machine.old).memory guest.old }
     requires inside { at + 24 ≤ 512 * guest.old.state.pages }
     ensures becomes { Becomes (answered at status (guest_in (H.machine machine.old).memory guest.old)) (H.machine machine.old) guest.old (H.machine machine.new) guest.new }
     ensures drops { at % 4 ≡ 0 → Drops (frame_at (status_place at) ∷ []) guest.old.shadow guest.new.shadow }
@@ -49,8 +49,8 @@ fn carry<H: Hardware>(
     volumes: &mut Volumes,
     p: &Request,
 ) -> (u32, Option<Text<640>>)
-    requires stands { StandsIn (H.machine machine.old).memory guest.old }
-    requires mounted { AreMounted mounts.now volumes.old }
+    requires stands { IsShadowedIn (H.machine machine.old).memory guest.old }
+    requires mounted { MountsNameVolumes mounts.now volumes.old }
     ensures { CarriesAll row.now mounts.now (packet_of p.now) volumes.old volumes.new (H.machine machine.old) guest.old result.0 result.1 (H.machine machine.new) guest.new }
 {
     let mount = mount_at(mounts, p.unit);
@@ -72,9 +72,9 @@ pub fn serve<H: Hardware>(
     volumes: &mut Volumes,
     at: u32,
 ) -> Option<Text<640>>
-    requires stands { StandsIn (H.machine machine.old).memory guest.old }
+    requires stands { IsShadowedIn (H.machine machine.old).memory guest.old }
     requires inside { at + 24 ≤ 512 * guest.old.state.pages }
-    requires mounted { AreMounted mounts.now volumes.old }
+    requires mounted { MountsNameVolumes mounts.now volumes.old }
     ensures { ServesOne row.now mounts.now at volumes.old volumes.new (H.machine machine.old) guest.old result (H.machine machine.new) guest.new }
 {
     let p = request_at(machine, guest, at);

@@ -1,9 +1,9 @@
 ghost use Rattle.std.specs.Prelude.{◌≡◌, length, map, vec_len};
-ghost use Rattle.sys_guests.specs.Kernel.{IsKernel, Leads, state_of};
+ghost use Rattle.sys_guests.specs.Kernel.{IsKernel, Leads, kernel_state};
 ghost use Rattle.sys_guests.specs.Layout.{guests_in};
 ghost use Rattle.sys_guests.specs.Present.{KeepsAll};
-ghost use Rattle.sys_rounds.specs.FirstTouches.{touches_of_transfers};
-ghost use Rattle.sys_rounds.specs.Transfers.{transfers};
+ghost use Rattle.sys_state.specs.FirstTouches.{touches_of_transfers};
+ghost use Rattle.sys_state.specs.Transfers.{transfers};
 
 use crate::guests::serve_at;
 use sys_guests::Kernel;
@@ -21,9 +21,9 @@ pub fn transfer<H: Hardware>(
     requires holds { IsKernel (H.machine machine.old).memory kernel.old }
     requires volumes { length volumes.old ≡ length kernel.old.config.volumes }
     requires lines { vec_len lines.old ≡ 32 }
-    ensures leads { Leads (transfers kernel.old.config (state_of (H.machine machine.old).memory kernel.old volumes.old)) (H.machine machine.old) kernel.old (map (λ b. seen b) lines.old.items) (H.machine machine.new) kernel.new volumes.new (map (λ b. seen b) lines.new.items) }
+    ensures leads { Leads (transfers kernel.old.config (kernel_state (H.machine machine.old).memory kernel.old volumes.old)) (H.machine machine.old) kernel.old (map (λ b. seen b) lines.old.items) (H.machine machine.new) kernel.new volumes.new (map (λ b. seen b) lines.new.items) }
     ensures sizes { map length volumes.new ≡ map length volumes.old }
-    ensures present { KeepsAll (touches_of_transfers kernel.old.config kernel.old.config.guests (state_of (H.machine machine.old).memory kernel.old volumes.old).mounts (guests_in (H.machine machine.old).memory kernel.old.guests.items) volumes.old) kernel.old.guests.items kernel.new.guests.items }
+    ensures present { KeepsAll (touches_of_transfers kernel.old.config kernel.old.config.guests (kernel_state (H.machine machine.old).memory kernel.old volumes.old).mounts (guests_in (H.machine machine.old).memory kernel.old.guests.items) volumes.old) kernel.old.guests.items kernel.new.guests.items }
     ensures len { vec_len lines.new ≡ vec_len lines.old }
 {
     for place in 0..kernel.guests.len() {

@@ -11,9 +11,9 @@ use Rattle.vax_table.proofs.Tests.{if_both}
 use Rattle.vasm_text.specs.Cutting.{◌>>=◌, or_else, Cut, cut, cut_at, is_blank, trimmed}
 use Rattle.vasm_text.specs.Mnemonics.{opcode_of}
 use Rattle.vasm_text.specs.Numbers.{number_in, field_in, if_below, not_pc, register_in}
-use Rattle.vasm_text.specs.Operands.{Operand, plain, with_name, in_mode, with_value, named_in, closed_in, enclosed, literal_in, valued_in, allowed, register_operand_in, based, displaced_in, displacement_in, deferred_in, opened_in, direct_in, specifier_in, indexed, indexed_in, value_in, operand_in, before_comma, behind_comma, following, operands_in, absolute_in, immediate_in}
-use Rattle.vasm_text.specs.Statements.{Statement, Field, Instruct, Line, forms_of, number_field_in, long_field_in, instruction_in, words_in, statement_in, saying, behind_label, unlabelled, content_in, before_comment, line_in}
-use Rattle.vasm.specs.Fits.{IsFit, AreFit, IsStatementFit, IsLineFit}
+use Rattle.vasm_text.specs.Operands.{Operand, unnamed_operand, with_name, in_mode, operand_of_value, named_in, closed_in, enclosed, literal_in, valued_in, allowed, register_operand_in, based, displaced_in, displacement_in, deferred_in, opened_in, direct_in, specifier_in, indexed, indexed_in, value_in, operand_in, before_comma, text_after_comma, following, operands_in, absolute_in, immediate_in}
+use Rattle.vasm_text.specs.Statements.{Statement, Field, Instruct, SourceLine, forms_of, number_field_in, long_field_in, instruction_in, words_in, statement_in, saying, after_label, unlabelled, content_in, before_comment, source_line_in}
+use Rattle.vasm.specs.Fits.{IsFit, AreFit, IsStatementFit, IsSourceLineFit}
 
 -- ---- what holds of an option
 
@@ -73,11 +73,11 @@ abbrev Found : Option Operand → Type 0
 Found None = Unit {0}
 Found (Some o) = IsSpecifier o
 
-plain_found : (mode reg value : ℕ) → mode < 16 → reg < 16 → (mode ≡ 0 → value < 64) → IsSpecifier (plain mode reg value)
+plain_found : (mode reg value : ℕ) → mode < 16 → reg < 16 → (mode ≡ 0 → value < 64) → IsSpecifier (unnamed_operand mode reg value)
 plain_found mode reg value m r l = record { mode = m; reg = r; literal = l; index = tt; named = λ some. cc }
 
 -- another mode than a literal's
-other_found : (mode reg value : ℕ) → 0 < mode → mode < 16 → reg < 16 → IsSpecifier (plain mode reg value)
+other_found : (mode reg value : ℕ) → 0 < mode → mode < 16 → reg < 16 → IsSpecifier (unnamed_operand mode reg value)
 other_found mode reg value some m r = plain_found mode reg value m r (λ e. absurd (omega arith))
 
 enclosed_found : (mode : ℕ) (ending text : List ℕ) → 0 < mode → mode < 16 → Found (enclosed mode ending text)
@@ -86,12 +86,12 @@ enclosed_found mode ending text some m = bound Found tt (not_pc (closed_in 41 en
 literal_found : (form : Form) (text : List ℕ) → Found (literal_in form text)
 unfolding literal_in
 literal_found form text =
-    if_both Found (is_read form.access) (number_in text >>= if_below 64 >>= with_value 0 0) None
-    (λ _. bound Found tt (number_in text >>= if_below 64) (with_value 0 0) (λ n is. plain_found 0 0 n (omega arith) (omega arith) (λ _. below (number_in text) 64 n is)))
+    if_both Found (is_read form.access) (number_in text >>= if_below 64 >>= operand_of_value 0 0) None
+    (λ _. bound Found tt (number_in text >>= if_below 64) (operand_of_value 0 0) (λ n is. plain_found 0 0 n (omega arith) (omega arith) (λ _. below (number_in text) 64 n is)))
     (λ _. tt)
 
 valued_found : (size mode reg : ℕ) (text : List ℕ) → 0 < mode → mode < 16 → reg < 16 → Found (valued_in size mode reg text)
-valued_found size mode reg text some m r = bound Found tt (field_in size text) (with_value mode reg) (λ n is. other_found mode reg n some m r)
+valued_found size mode reg text some m r = bound Found tt (field_in size text) (operand_of_value mode reg) (λ n is. other_found mode reg n some m r)
 
 named_found : (mode reg : ℕ) (text : List ℕ) → 0 < mode → mode < 16 → reg < 16 → Found (named_in mode reg text)
 named_found mode reg text some m r =
@@ -104,8 +104,8 @@ register_operand_found form text =
 
 based_found : (mode size : ℕ) (c : Cut) → 0 < mode → mode < 16 → Found (based mode size c)
 based_found mode size c some m =
-    bound Found tt (field_in size c.before) (λ value. closed_in 41 [] c.behind >>= λ reg. with_value mode reg value) (λ value _.
-    bound Found tt (closed_in 41 [] c.behind) (λ reg. with_value mode reg value) (λ reg is. other_found mode reg value some m (subst Small is (closed_small 41 [] c.behind))))
+    bound Found tt (field_in size c.before) (λ value. closed_in 41 [] c.behind >>= λ reg. operand_of_value mode reg value) (λ value _.
+    bound Found tt (closed_in 41 [] c.behind) (λ reg. operand_of_value mode reg value) (λ reg is. other_found mode reg value some m (subst Small is (closed_small 41 [] c.behind))))
 
 displaced_by : (mode size : ℕ) (text : List ℕ) → 0 < mode → mode < 16 → (o : Option Cut) → Found (elim o [ None ↦ named_in mode 15 text | Some c ↦ based mode size c ])
 displaced_by mode size text some m None = named_found mode 15 text some m (omega arith)
@@ -167,7 +167,7 @@ value_fit : (form : Form) (size : ℕ) (text : List ℕ) → is_branch form.acce
 unfolding value_in
 value_fit form size text is =
     either (FoundFit form) (valued_in size 16 0 text) (named_in 16 0 text)
-    (bound (FoundFit form) tt (field_in size text) (with_value 16 0) (λ n _. branch_fit form (plain 16 0 n) is tt))
+    (bound (FoundFit form) tt (field_in size text) (operand_of_value 16 0) (λ n _. branch_fit form (unnamed_operand 16 0 n) is tt))
     (bound (FoundFit form) tt (tested is_object_name text) (λ name. Some (with_name 16 0 name)) (λ name _. branch_fit form (with_name 16 0 name) is tt))
 
 specifier_fit : (form : Form) (o : Option Operand) → Found o → FoundFit form o
@@ -191,8 +191,8 @@ operands_fit [] None = tt
 operands_fit [] (Some text) = tt
 operands_fit (f ∷ fs) None = tt
 operands_fit (f ∷ fs) (Some text) =
-    bound (FoundAll (f ∷ fs)) tt (operand_in f (before_comma text)) (λ o. following o (operands_in fs (behind_comma text))) (λ o is.
-    bound (FoundAll (f ∷ fs)) tt (operands_in fs (behind_comma text)) (λ os. Some (o ∷ os)) (λ os others. (subst (FoundFit f) is (operand_fit f (before_comma text)), subst (FoundAll fs) others (operands_fit fs (behind_comma text)))))
+    bound (FoundAll (f ∷ fs)) tt (operand_in f (before_comma text)) (λ o. following o (operands_in fs (text_after_comma text))) (λ o is.
+    bound (FoundAll (f ∷ fs)) tt (operands_in fs (text_after_comma text)) (λ os. Some (o ∷ os)) (λ os others. (subst (FoundFit f) is (operand_fit f (before_comma text)), subst (FoundAll fs) others (operands_fit fs (text_after_comma text)))))
 
 -- ---- statements and lines
 
@@ -201,7 +201,7 @@ FoundStatement None = Unit {0}
 FoundStatement (Some s) = IsStatementFit s
 
 number_fit : (size : ℕ) (text : List ℕ) → FoundStatement (number_field_in size text)
-number_fit size text = bound FoundStatement tt (field_in size text) (λ n. Some (Field size (plain 16 0 n))) (λ n _. tt)
+number_fit size text = bound FoundStatement tt (field_in size text) (λ n. Some (Field size (unnamed_operand 16 0 n))) (λ n _. tt)
 
 long_fit : (text : List ℕ) → FoundStatement (long_field_in text)
 long_fit text = bound FoundStatement tt (value_in 4 text) (λ o. Some (Field 4 o)) (λ o _. tt)
@@ -226,9 +226,9 @@ statement_fit : (text : List ℕ) → FoundStatement (statement_in text)
 unfolding statement_in
 statement_fit text = by_blank text (cut is_blank text)
 
-abbrev FoundLine : Option Line → Type 0
+abbrev FoundLine : Option SourceLine → Type 0
 FoundLine None = Unit {0}
-FoundLine (Some l) = IsLineFit l
+FoundLine (Some l) = IsSourceLineFit l
 
 saying_fit : (label : Option (List ℕ)) (text : List ℕ) → FoundLine (saying label text)
 saying_fit label text = bound FoundLine tt (statement_in text) (λ s. Some (record { label = label; statement = Some s })) (λ s is. subst FoundStatement is (statement_fit text))
@@ -237,21 +237,21 @@ unlabelled_fit : (text : List ℕ) → FoundLine (unlabelled text)
 unlabelled_fit [] = tt
 unlabelled_fit (b ∷ text) = saying_fit None (b ∷ text)
 
-label_fit : (name text : List ℕ) → FoundLine (behind_label name text)
+label_fit : (name text : List ℕ) → FoundLine (after_label name text)
 label_fit name [] = tt
 label_fit name (b ∷ text) = if_both FoundLine (is_blank b) (saying (Some name) text) None (λ _. saying_fit (Some name) text) (λ _. tt)
 
-by_colon : (text : List ℕ) (o : Option Cut) → FoundLine (elim o [ None ↦ unlabelled text | Some c ↦ if is_object_name c.before then behind_label c.before c.behind else None ])
+by_colon : (text : List ℕ) (o : Option Cut) → FoundLine (elim o [ None ↦ unlabelled text | Some c ↦ if is_object_name c.before then after_label c.before c.behind else None ])
 by_colon text None = unlabelled_fit text
-by_colon text (Some c) = if_both FoundLine (is_object_name c.before) (behind_label c.before c.behind) None (λ _. label_fit c.before c.behind) (λ _. tt)
+by_colon text (Some c) = if_both FoundLine (is_object_name c.before) (after_label c.before c.behind) None (λ _. label_fit c.before c.behind) (λ _. tt)
 
 content_fit : (text : List ℕ) → FoundLine (content_in text)
 unfolding content_in
 content_fit text = by_colon text (cut_at 58 text)
 
-found_line : (text : List ℕ) → FoundLine (line_in text)
-unfolding line_in
+found_line : (text : List ℕ) → FoundLine (source_line_in text)
+unfolding source_line_in
 found_line text = content_fit (trimmed (before_comment text))
 
-pub line_fit : (text : List ℕ) (l : Line) → line_in text ≡ Some l → IsLineFit l
+pub line_fit : (text : List ℕ) (l : SourceLine) → source_line_in text ≡ Some l → IsSourceLineFit l
 line_fit text l is = subst FoundLine is (found_line text)

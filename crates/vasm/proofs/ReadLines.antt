@@ -10,11 +10,11 @@ use Rattle.std.proofs.lemmas.List.Folds.{list_any-append}
 use Rattle.std.proofs.lemmas.Map.Text.{btree_map_updates_str}
 use Rattle.std.proofs.lemmas.Slice.Eq.{bytes_eq-Decides}
 use Rattle.vasm_text.specs.Cutting.{or_else}
-use Rattle.vasm_text.specs.Statements.{Line, line_in}
-use Rattle.vasm_text.specs.Asm.{is_among, is_labelled, and_label, before_others, read_from, line_size, is_label, address_in}
+use Rattle.vasm_text.specs.Statements.{SourceLine, source_line_in}
+use Rattle.vasm_text.specs.Asm.{is_among, is_labelled, and_label, before_others, read_from, source_line_size, is_label, address_in}
 use Rattle.vasm_text.specs.declared.fault.AsmError.{AsmError}
 use Rattle.vasm_text.specs.declared.fault.AsmFault.{AsmFault}
-use Rattle.vasm.specs.Labels.{Labels, address_of, with_label, is_taken, Adds}
+use Rattle.vasm.specs.Labels.{Labels, label_address, with_label, is_taken, Adds}
 
 turned : (xs ys : List ℕ) → bytes_eq xs ys ≡ bytes_eq ys xs
 turned xs ys =
@@ -22,29 +22,29 @@ turned xs ys =
     let other = bytes_eq-Decides ys xs in
     one_answer (bytes_eq xs ys) (bytes_eq ys xs) one ((λ e. sym (other.0 e)), (λ e. other.1 (sym e)))
 
-pub label_added : (label : List ℕ) (before after : Labels) (at : ℕ) → tree.UpdatesBy (λ x y. slice_cmp nat_cmp x.now y.now) (λ k. slice_cmp nat_cmp label k.now) before after (Some at) → (name : List ℕ) → address_of after name ≡ with_label (address_of before) (Some label) at name
+pub label_added : (label : List ℕ) (before after : Labels) (at : ℕ) → tree.UpdatesBy (λ x y. slice_cmp nat_cmp x.now y.now) (λ k. slice_cmp nat_cmp label k.now) before after (Some at) → (name : List ℕ) → label_address after name ≡ with_label (label_address before) (Some label) at name
 label_added label before after at updates name =
-    btree_map_updates_str label before after (Some at) updates name ∙ ap (λ (t : Bool). if t then Some at else address_of before name) (turned label name)
+    btree_map_updates_str label before after (Some at) updates name ∙ ap (λ (t : Bool). if t then Some at else label_address before name) (turned label name)
 
 -- ---- lines in front
 
-abbrev pub before_all : List Line → Result (List Line) AsmFault → Result (List Line) AsmFault
+abbrev pub before_all : List SourceLine → Result (List SourceLine) AsmFault → Result (List SourceLine) AsmFault
 before_all front (Ok more) = Ok (front ++ more)
 before_all front (Err f) = Err f
 
-abbrev program_size : List Line → ℕ
+abbrev program_size : List SourceLine → ℕ
 program_size [] = 0
-program_size (l ∷ ls) = line_size l + program_size ls
+program_size (l ∷ ls) = source_line_size l + program_size ls
 
-before_none : (r : Result (List Line) AsmFault) → r ≡ before_all [] r
+before_none : (r : Result (List SourceLine) AsmFault) → r ≡ before_all [] r
 before_none (Ok more) = refl
 before_none (Err f) = refl
 
-before_more : (front : List Line) (l : Line) (r : Result (List Line) AsmFault) → before_all front (before_others l r) ≡ before_all (front ++ l ∷ []) r
-before_more front l (Ok more) = ap (λ (ls : List Line). Ok ls) (sym (append_assoc front (l ∷ []) more))
+before_more : (front : List SourceLine) (l : SourceLine) (r : Result (List SourceLine) AsmFault) → before_all front (before_others l r) ≡ before_all (front ++ l ∷ []) r
+before_more front l (Ok more) = ap (λ (ls : List SourceLine). Ok ls) (sym (append_assoc front (l ∷ []) more))
 before_more front l (Err f) = refl
 
-size_more : (front : List Line) (l : Line) → program_size (front ++ l ∷ []) ≡ program_size front + line_size l
+size_more : (front : List SourceLine) (l : SourceLine) → program_size (front ++ l ∷ []) ≡ program_size front + source_line_size l
 size_more [] l = omega arith
 size_more (x ∷ xs) l = omega (arith, size_more xs l)
 
@@ -52,29 +52,29 @@ abbrev address_by : Bool → ℕ → Option ℕ
 address_by true at = Some at
 address_by false at = None
 
-address_more_by : (front : List Line) (l x : Line) (at : ℕ) (name : List ℕ) (t : Bool) → address_in (front ++ l ∷ []) (at + line_size x) name ≡ or_else (address_in front (at + line_size x) name) (address_by (is_label name l.label) (at + line_size x + program_size front))
-    → (if t then Some at else address_in (front ++ l ∷ []) (at + line_size x) name) ≡ or_else (if t then Some at else address_in front (at + line_size x) name) (address_by (is_label name l.label) (at + program_size (x ∷ front)))
+address_more_by : (front : List SourceLine) (l x : SourceLine) (at : ℕ) (name : List ℕ) (t : Bool) → address_in (front ++ l ∷ []) (at + source_line_size x) name ≡ or_else (address_in front (at + source_line_size x) name) (address_by (is_label name l.label) (at + source_line_size x + program_size front))
+    → (if t then Some at else address_in (front ++ l ∷ []) (at + source_line_size x) name) ≡ or_else (if t then Some at else address_in front (at + source_line_size x) name) (address_by (is_label name l.label) (at + program_size (x ∷ front)))
 address_more_by front l x at name true is = refl
 address_more_by front l x at name false is =
-    let same : at + line_size x + program_size front ≡ at + program_size (x ∷ front) = omega arith in
-    is ∙ ap (λ (n : ℕ). or_else (address_in front (at + line_size x) name) (address_by (is_label name l.label) n)) same
+    let same : at + source_line_size x + program_size front ≡ at + program_size (x ∷ front) = omega arith in
+    is ∙ ap (λ (n : ℕ). or_else (address_in front (at + source_line_size x) name) (address_by (is_label name l.label) n)) same
 
 last_by : (at : ℕ) (t : Bool) → (if t then Some at else None) ≡ address_by t (at + 0)
 last_by at true = let same : at ≡ at + 0 = omega arith in ap (λ (n : ℕ). Some n) same
 last_by at false = refl
 
-address_more : (front : List Line) (l : Line) (at : ℕ) (name : List ℕ) → address_in (front ++ l ∷ []) at name ≡ or_else (address_in front at name) (address_by (is_label name l.label) (at + program_size front))
+address_more : (front : List SourceLine) (l : SourceLine) (at : ℕ) (name : List ℕ) → address_in (front ++ l ∷ []) at name ≡ or_else (address_in front at name) (address_by (is_label name l.label) (at + program_size front))
 address_more [] l at name = last_by at (is_label name l.label)
-address_more (x ∷ front) l at name = address_more_by front l x at name (is_label name x.label) (address_more front l (at + line_size x) name)
+address_more (x ∷ front) l at name = address_more_by front l x at name (is_label name x.label) (address_more front l (at + source_line_size x) name)
 
 -- ---- lines read so far
 
 pub record IsRead (text : List ℕ) (number at : ℕ) (labels : Labels) (rest : List ℕ) : Type 0 where
-  pub front : List Line
+  pub front : List SourceLine
   pub known : List (List ℕ)
   pub read : read_from 1 [] (lines text) ≡ before_all front (read_from number known (lines rest))
   pub address : at ≡ 0x200 + program_size front
-  pub held : (name : List ℕ) → address_of labels name ≡ address_in front 0x200 name
+  pub held : (name : List ℕ) → label_address labels name ≡ address_in front 0x200 name
   pub taken : (name : List ℕ) → is_among name known ≡ is_some (address_in front 0x200 name)
 
 pub none_read : (text : List ℕ) (labels : Labels) → labels.entries ≡ [] → IsRead text 1 0x200 labels text
@@ -88,11 +88,11 @@ none_read text labels empty = record {
 }
 
 -- a label that is free, as the names so far tell
-labelled : (text : List ℕ) (number at : ℕ) (labels : Labels) (rest : List ℕ) → (r : IsRead text number at labels rest) (label : Option (List ℕ)) → is_labelled label r.known ≡ is_taken (address_of labels) label
+labelled : (text : List ℕ) (number at : ℕ) (labels : Labels) (rest : List ℕ) → (r : IsRead text number at labels rest) (label : Option (List ℕ)) → is_labelled label r.known ≡ is_taken (label_address labels) label
 labelled text number at labels rest r None = refl
 labelled text number at labels rest r (Some name) = r.taken name ∙ ap is_some (sym (r.held name))
 
-read_one : (number : ℕ) (known : List (List ℕ)) (text : List ℕ) (texts : List (List ℕ)) (l : Line) → line_in text ≡ Some l → is_labelled l.label known ≡ false → read_from number known (text ∷ texts) ≡ before_others l (read_from (number + 1) (and_label known l.label) texts)
+read_one : (number : ℕ) (known : List (List ℕ)) (text : List ℕ) (texts : List (List ℕ)) (l : SourceLine) → source_line_in text ≡ Some l → is_labelled l.label known ≡ false → read_from number known (text ∷ texts) ≡ before_others l (read_from (number + 1) (and_label known l.label) texts)
 read_one number known text texts l is free = rw (is, free)
 
 no_option : {A : Type 0} (x : Option A) → is_some x ≡ false → x ≡ None
@@ -121,8 +121,8 @@ taken_more : (known : List (List ℕ)) (label : Option (List ℕ)) (name : List 
 taken_more known None name y n is = is ∙ ap is_some (else_none y)
 taken_more known (Some label) name y n is = list_any-append (bytes_eq name) known (label ∷ []) ∙ taken_by y n (bytes_eq name label) (is_among name known) is
 
-pub line_read : {U : Type 0} (text : List ℕ) (number at : ℕ) (labels after : Labels) (rest line behind : List ℕ) (l : Line) (u : U) → IsRead text number at labels rest → lines rest ≡ line ∷ lines behind → line_in line ≡ Some l
-    → (let done : Result U AsmError = Ok u in Adds number l.label at labels after done) → IsRead text (number + 1) (at + line_size l) after behind
+pub line_read : {U : Type 0} (text : List ℕ) (number at : ℕ) (labels after : Labels) (rest line behind : List ℕ) (l : SourceLine) (u : U) → IsRead text number at labels rest → lines rest ≡ line ∷ lines behind → source_line_in line ≡ Some l
+    → (let done : Result U AsmError = Ok u in Adds number l.label at labels after done) → IsRead text (number + 1) (at + source_line_size l) after behind
 line_read text number at labels after rest line behind l u r cut is added = record {
   front = r.front ++ l ∷ [];
   known = and_label r.known l.label;
@@ -133,7 +133,7 @@ line_read text number at labels after rest line behind l u r cut is added = reco
   address = omega (arith, r.address, size_more r.front l);
   held = λ name.
       added.1 name
-      ∙ held_by (address_of labels name) (address_in r.front 0x200 name) at (0x200 + program_size r.front) (is_label name l.label) (r.held name) r.address (λ here. sym (r.held name) ∙ free_name (address_of labels) l.label name added.0 here)
+      ∙ held_by (label_address labels name) (address_in r.front 0x200 name) at (0x200 + program_size r.front) (is_label name l.label) (r.held name) r.address (λ here. sym (r.held name) ∙ free_name (label_address labels) l.label name added.0 here)
       ∙ sym (address_more r.front l 0x200 name);
   taken = λ name. taken_more r.known l.label name (address_in r.front 0x200 name) (0x200 + program_size r.front) (r.taken name) ∙ ap is_some (sym (address_more r.front l 0x200 name));
 }

@@ -9,7 +9,7 @@ use Rattle.vax_table.specs.Spelled.{spelled}
 use Rattle.vax_table.specs.Reading.{is_branch}
 use Rattle.vax_decode.specs.Encoding.{IsInRange}
 use Rattle.vasm_text.specs.Operands.{Operand}
-use Rattle.vasm_text.specs.Asm.{◌>>=◌, operand_size, is_within, difference, field_size, target_of, reached, resolved, operands_bytes, at_line}
+use Rattle.vasm_text.specs.Asm.{◌>>=◌, operand_size, is_in_field, difference, field_size, named_target, with_displacement, resolved, operands_bytes, at_line}
 use Rattle.vasm_text.specs.declared.fault.AsmError.{AsmError}
 use Rattle.vasm_text.specs.declared.fault.AsmError.TheVariants.{Fault, NoMemory}
 use Rattle.vasm_text.specs.declared.fault.AsmFault.{AsmFault}
@@ -18,7 +18,7 @@ use Rattle.vasm_text.specs.declared.fault.AsmKind.TheVariants.{OutOfReach}
 use Rattle.vasm_read.specs.declared.operand.Operand.{Operand as Kept}
 use Rattle.vasm_read.specs.Views.{operand_view}
 use Rattle.vasm.specs.Fits.{IsFit, AreFit}
-use Rattle.vasm.specs.Puts.{behind, Puts}
+use Rattle.vasm.specs.Puts.{appended_to, AppendsOrRefuses}
 
 pub number_step : (old want : List ℕ) (left rest : ℕ) → 0 < left → old ++ bytes_of left rest ≡ want → (old ++ rest % 256 ∷ []) ++ bytes_of (left - 1) (rest / 256) ≡ want
 number_step old want zero rest some is = absurd (omega arith)
@@ -36,21 +36,21 @@ first_fit (g ∷ fs) (p ∷ os) f o some more fit = fit.0
 with_value_in_range : (form : Form) (s : Spec) (value : ℕ) → IsInRange form s → (is_branch form.access ≡ false → s.mode ≡ 0 → value < 64) → IsInRange form (record s { value = value })
 with_value_in_range form s value r literal = record { mode = r.mode; reg = r.reg; literal = literal; index = r.index }
 
-reached_in_range : (form : Form) (s t : Spec) (size target behind : ℕ) (within : Bool) → IsInRange form s → (is_branch form.access ≡ false → s.mode ≡ 0 → ⊥)
-    → (let r : Result Spec AsmKind = if within then Ok (record s { value = difference size target behind }) else Err OutOfReach in r ≡ Ok t) → IsInRange form t
-reached_in_range form s t size target behind true r named is =
-    let same : record s { value = difference size target behind } ≡ t = cc in
-    subst (IsInRange form) same (with_value_in_range form s (difference size target behind) r (λ no zero_mode. absurd (named no zero_mode)))
-reached_in_range form s t size target behind false r named is = cc
+reached_in_range : (form : Form) (s t : Spec) (size target appended_to : ℕ) (within : Bool) → IsInRange form s → (is_branch form.access ≡ false → s.mode ≡ 0 → ⊥)
+    → (let r : Result Spec AsmKind = if within then Ok (record s { value = difference size target appended_to }) else Err OutOfReach in r ≡ Ok t) → IsInRange form t
+reached_in_range form s t size target appended_to true r named is =
+    let same : record s { value = difference size target appended_to } ≡ t = cc in
+    subst (IsInRange form) same (with_value_in_range form s (difference size target appended_to) r (λ no zero_mode. absurd (named no zero_mode)))
+reached_in_range form s t size target appended_to false r named is = cc
 
-resolved_by : (names : List ℕ → Option ℕ) (behind : ℕ) (form : Form) (s t : Spec) (name : Option (List ℕ)) → IsInRange form s → (is_branch form.access ≡ false → IsSome name → s.mode ≡ 0 → ⊥)
-    → (let r : Result Spec AsmKind = elim name [ None ↦ Ok s | Some n ↦ reached (field_size form s) s (target_of names n) behind ] in r ≡ Ok t) → IsInRange form t
-resolved_by names behind form s t None r named is = let same : s ≡ t = cc in subst (IsInRange form) same r
-resolved_by names behind form s t (Some n) r named is = reached_in_range form s t (field_size form s) (target_of names n) behind (is_within (field_size form s) (target_of names n) behind) r (λ no. named no refl) is
+resolved_by : (names : List ℕ → Option ℕ) (appended_to : ℕ) (form : Form) (s t : Spec) (name : Option (List ℕ)) → IsInRange form s → (is_branch form.access ≡ false → IsSome name → s.mode ≡ 0 → ⊥)
+    → (let r : Result Spec AsmKind = elim name [ None ↦ Ok s | Some n ↦ with_displacement (field_size form s) s (named_target names n) appended_to ] in r ≡ Ok t) → IsInRange form t
+resolved_by names appended_to form s t None r named is = let same : s ≡ t = cc in subst (IsInRange form) same r
+resolved_by names appended_to form s t (Some n) r named is = reached_in_range form s t (field_size form s) (named_target names n) appended_to (is_in_field (field_size form s) (named_target names n) appended_to) r (λ no. named no refl) is
 
-pub resolved_in_range : (names : List ℕ → Option ℕ) (behind : ℕ) (form : Form) (o : Operand) (s : Spec) → IsFit form o → resolved names behind form o ≡ Ok s → IsInRange form s
+pub resolved_in_range : (names : List ℕ → Option ℕ) (appended_to : ℕ) (form : Form) (o : Operand) (s : Spec) → IsFit form o → resolved names appended_to form o ≡ Ok s → IsInRange form s
 unfolding resolved
-resolved_in_range names behind form o s fit is = resolved_by names behind form o.spec s o.name fit.range fit.named is
+resolved_in_range names appended_to form o s fit is = resolved_by names appended_to form o.spec s o.name fit.range fit.named is
 
 pub other_fit : (fs : List Form) (os : List Kept) → 1 ≤ length fs → 1 ≤ length os → AreFit fs (map operand_view os) → AreFit (drop 1 fs) (map operand_view (drop 1 os))
 other_fit [] os some more fit = absurd (omega arith)
@@ -66,7 +66,7 @@ first_bytes names at (g ∷ fs) (p ∷ os) f o s some more is = rw is
 
 -- ---- bytes after others
 
-behind_front : {E : Type 0} (old front : List ℕ) (wanted : Result (List ℕ) E) → behind old (wanted >>= λ bytes. Ok (front ++ bytes)) ≡ behind (old ++ front) wanted
+behind_front : {E : Type 0} (old front : List ℕ) (wanted : Result (List ℕ) E) → appended_to old (wanted >>= λ bytes. Ok (front ++ bytes)) ≡ appended_to (old ++ front) wanted
 behind_front old front (Ok bytes) = ap (λ (xs : List ℕ). Ok xs) (sym (append_assoc old front bytes))
 behind_front old front (Err e) = refl
 
@@ -74,15 +74,15 @@ refused_front : (number : ℕ) (front : List ℕ) (wanted : Result (List ℕ) As
 refused_front number front (Ok bytes) f is = cc
 refused_front number front (Err kind) f is = is
 
-pub puts_front : {U : Type 0} (number : ℕ) (old front new : List ℕ) (wanted : Result (List ℕ) AsmKind) (r : Result U AsmError) → Puts number (old ++ front) new wanted r → Puts number old new (wanted >>= λ bytes. Ok (front ++ bytes)) r
+pub puts_front : {U : Type 0} (number : ℕ) (old front new : List ℕ) (wanted : Result (List ℕ) AsmKind) (r : Result U AsmError) → AppendsOrRefuses number (old ++ front) new wanted r → AppendsOrRefuses number old new (wanted >>= λ bytes. Ok (front ++ bytes)) r
 puts_front number old front new wanted (Ok u) is = behind_front old front wanted ∙ is
 puts_front number old front new wanted (Err (Fault f)) is = refused_front number front wanted f is
 puts_front number old front new wanted (Err NoMemory) is = tt
 
 pub operand_put : {U : Type 0} (names : List ℕ → Option ℕ) (number at size : ℕ) (fs : List Form) (os : List Kept) (f : Form) (o : Kept) (s : Spec) (old mid new : List ℕ) (r : Result U AsmError) → 1 ≤ length fs → 1 ≤ length os
     → size ≡ operand_size (get_or fs 0 f) (operand_view (get_or os 0 o)) → Ok s ≡ resolved names (at + size) (get_or fs 0 f) (operand_view (get_or os 0 o)) → mid ≡ old ++ spelled (get_or fs 0 f) s
-    → Puts number mid new (operands_bytes names (at + size) (take (length fs - 1) (drop 1 fs)) (map operand_view (take (length os - 1) (drop 1 os)))) r
-    → Puts number old new (operands_bytes names at fs (map operand_view os)) r
+    → AppendsOrRefuses number mid new (operands_bytes names (at + size) (take (length fs - 1) (drop 1 fs)) (map operand_view (take (length os - 1) (drop 1 os)))) r
+    → AppendsOrRefuses number old new (operands_bytes names at fs (map operand_view os)) r
 operand_put names number at size fs os f o s old mid new r some more sized is front put =
     let first : Form = get_or fs 0 f in
     let operand : Operand = operand_view (get_or os 0 o) in
@@ -90,5 +90,5 @@ operand_put names number at size fs os f o s old mid new r some more sized is fr
     let others : Result (List ℕ) AsmKind = operands_bytes names (at + operand_size first operand) (drop 1 fs) (map operand_view (drop 1 os)) in
     let same : operands_bytes names (at + size) (take (length fs - 1) (drop 1 fs)) (map operand_view (take (length os - 1) (drop 1 os))) ≡ others =
     rw (take_rest fs 1, take_rest os 1) (ap (λ (n : ℕ). operands_bytes names (at + n) (drop 1 fs) (map operand_view (drop 1 os))) sized) in
-    let behind_old : Puts number (old ++ spelled first s) new others r = subst (λ (m : List ℕ). Puts number m new others r) front (subst (λ w. Puts number mid new w r) same put) in
-    subst (λ w. Puts number old new w r) (sym (first_bytes names at fs os f o s some more found)) (puts_front number old (spelled first s) new others r behind_old)
+    let behind_old : AppendsOrRefuses number (old ++ spelled first s) new others r = subst (λ (m : List ℕ). AppendsOrRefuses number m new others r) front (subst (λ w. AppendsOrRefuses number mid new w r) same put) in
+    subst (λ w. AppendsOrRefuses number old new w r) (sym (first_bytes names at fs os f o s some more found)) (puts_front number old (spelled first s) new others r behind_old)

@@ -4,7 +4,7 @@ use Rattle.vax_table.specs.declared.forms.Form.{Form}
 use Rattle.vax_table.specs.Reading.{is_branch}
 use Rattle.vax_decode.specs.Encoding.{IsInRange}
 use Rattle.vasm_text.specs.Operands.{Operand}
-use Rattle.vasm_text.specs.Statements.{Statement, Field, Instruct, Line, forms_of}
+use Rattle.vasm_text.specs.Statements.{Statement, Field, Instruct, SourceLine, forms_of}
 
 -- a specifier that can be spelled, and no name for a literal's value
 pub record IsFit (form : Form) (o : Operand) : Type 0 where
@@ -20,5 +20,5 @@ abbrev pub IsStatementFit : Statement → Type 0
 IsStatementFit (Field size o) = Unit {0}
 IsStatementFit (Instruct opcode os) = AreFit (forms_of opcode) os
 
-abbrev pub IsLineFit : Line → Type 0
-IsLineFit line = elim (line.statement) [ None ↦ Unit {0} | Some s ↦ IsStatementFit s ]
+abbrev pub IsSourceLineFit : SourceLine → Type 0
+IsSourceLineFit line = elim (line.statement) [ None ↦ Unit {0} | Some s ↦ IsStatementFit s ]

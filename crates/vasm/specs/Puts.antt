@@ -6,12 +6,12 @@ use Rattle.vasm_text.specs.declared.fault.AsmError.TheVariants.{Fault, NoMemory}
 use Rattle.vasm_text.specs.declared.fault.AsmKind.{AsmKind}
 
 -- bytes after others
-abbrev pub behind : {E : Type 0} → List ℕ → Result (List ℕ) E → Result (List ℕ) E
-behind front (Ok bytes) = Ok (front ++ bytes)
-behind front (Err e) = Err e
+abbrev pub appended_to : {E : Type 0} → List ℕ → Result (List ℕ) E → Result (List ℕ) E
+appended_to front (Ok bytes) = Ok (front ++ bytes)
+appended_to front (Err e) = Err e
 
 -- the wanted bytes come after the old ones, or the line is refused for the reason wanted
-abbrev pub Puts : {U : Type 0} → ℕ → List ℕ → List ℕ → Result (List ℕ) AsmKind → Result U AsmError → Type 0
-Puts number old new wanted (Ok _) = behind old wanted ≡ Ok new
-Puts number old new wanted (Err (Fault f)) = at_line number wanted ≡ Err f
-Puts number old new wanted (Err NoMemory) = Unit {0}
+abbrev pub AppendsOrRefuses : {U : Type 0} → ℕ → List ℕ → List ℕ → Result (List ℕ) AsmKind → Result U AsmError → Type 0
+AppendsOrRefuses number old new wanted (Ok _) = appended_to old wanted ≡ Ok new
+AppendsOrRefuses number old new wanted (Err (Fault f)) = at_line number wanted ≡ Err f
+AppendsOrRefuses number old new wanted (Err NoMemory) = Unit {0}

@@ -1,5 +1,5 @@
 ghost use Rattle.std.specs.Prelude.{◌≡◌, ◌≤◌, length};
-ghost use Rattle.vasm.specs.Labels.{Adds, IsLabelled, address_of};
+ghost use Rattle.vasm.specs.Labels.{Adds, IsLabelled, label_address};
 ghost use Rattle.std.specs.Option.{option_copied};
 
 use crate::size::line_size;
@@ -20,7 +20,7 @@ pub(crate) fn fault(line: u32, kind: AsmKind) -> AsmError
 
 /// The address of the line that a name labels.
 pub(crate) fn address_of(labels: &Labels, name: &[u8]) -> Option<u32>
-    ensures { result ≡ address_of labels.now name.now }
+    ensures { result ≡ label_address labels.now name.now }
 {
     labels.get(name).copied()
 }

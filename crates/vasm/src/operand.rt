@@ -1,10 +1,10 @@
 ghost use Rattle.std.specs.Prelude.{◌≡◌, ◌+◌, ◌*◌, ◌≤◌, length, map};
 ghost use Rattle.std.specs.List.{list_any};
-ghost use Rattle.vasm_text.specs.Asm.{field_value, lacks, operands_bytes, resolved, target_of};
+ghost use Rattle.vasm_text.specs.Asm.{field_value, lacks, named_target, operands_bytes, resolved};
 ghost use Rattle.vasm_read.specs.Views.{operand_view};
 ghost use Rattle.vasm.specs.Fits.{AreFit};
-ghost use Rattle.vasm.specs.Labels.{address_of};
-ghost use Rattle.vasm.specs.Puts.{Puts};
+ghost use Rattle.vasm.specs.Labels.{label_address};
+ghost use Rattle.vasm.specs.Puts.{AppendsOrRefuses};
 
 use crate::labels::{Labels, address_of, fault};
 use crate::put::put_operand;
@@ -16,7 +16,7 @@ use vax_table::{Form, Spec};
 
 /// The value of a name that labels a line, else 0.
 fn target_of(labels: &Labels, name: &[u8]) -> u32
-    ensures { result ≡ target_of (address_of labels.now) name.now }
+    ensures { result ≡ named_target (label_address labels.now) name.now }
 {
     match address_of(labels, name) {
         Some(at) => at,
@@ -27,7 +27,7 @@ fn target_of(labels: &Labels, name: &[u8]) -> u32
 /// The specifier of an operand that ends before an address.
 #[tactic(auto, unfolding(vasm_text::specs::Asm::resolved))]
 fn resolved(labels: &Labels, behind: u32, form: Form, operand: &Operand) -> Result<Spec, AsmKind>
-    ensures { result ≡ resolved (address_of labels.now) behind form (operand_view operand.now) }
+    ensures { result ≡ resolved (label_address labels.now) behind form (operand_view operand.now) }
 {
     match operand.name {
         None => Ok(operand.spec),
@@ -51,7 +51,7 @@ pub(crate) fn put_operands(
 ) -> Result<(), AsmError>
     requires fit { AreFit forms.now (map operand_view operands.now) }
     requires low { at + 16 * length forms.now ≤ 4000000000 }
-    ensures { Puts line bytes.old.items bytes.new.items (operands_bytes (address_of labels.now) at forms.now (map operand_view operands.now)) result }
+    ensures { AppendsOrRefuses line bytes.old.items bytes.new.items (operands_bytes (label_address labels.now) at forms.now (map operand_view operands.now)) result }
 {
     if let [form, other_forms @ ..] = forms
         && let [operand, others @ ..] = operands
@@ -72,7 +72,7 @@ pub(crate) fn put_operands(
 
 /// Whether a name in an operand labels no line.
 pub(crate) fn lacks(labels: &Labels, operand: &Operand) -> bool
-    ensures { result ≡ lacks (address_of labels.now) (operand_view operand.now) }
+    ensures { result ≡ lacks (label_address labels.now) (operand_view operand.now) }
 {
     match operand.name {
         Some(name) => address_of(labels, name).is_none(),
@@ -82,7 +82,7 @@ pub(crate) fn lacks(labels: &Labels, operand: &Operand) -> bool
 
 /// Whether a name in one of the operands labels no line.
 pub(crate) fn lacks_any(labels: &Labels, operands: &[Operand]) -> bool
-    ensures { result ≡ list_any (lacks (address_of labels.now)) (map operand_view operands.now) }
+    ensures { result ≡ list_any (lacks (label_address labels.now)) (map operand_view operands.now) }
 {
     if let [operand, others @ ..] = operands {
         return lacks(labels, operand) || lacks_any(labels, others);
@@ -92,7 +92,7 @@ pub(crate) fn lacks_any(labels: &Labels, operands: &[Operand]) -> bool
 
 /// A number, or the value of a name.
 pub(crate) fn field_value(labels: &Labels, operand: &Operand) -> u64
-    ensures { result ≡ field_value (address_of labels.now) (operand_view operand.now) }
+    ensures { result ≡ field_value (label_address labels.now) (operand_view operand.now) }
 {
     match operand.name {
         None => operand.spec.value,

@@ -1,6 +1,6 @@
 ghost use Rattle.std.specs.Prelude.{◌≡◌, ◌<◌, ◌++◌, [], ◌∷◌, IfSome, OnOk};
 ghost use Rattle.vax_table.specs.Spelling.{bytes_of};
-ghost use Rattle.vax_table.specs.Spelled.{behind_index, spelled, spelled_specifier};
+ghost use Rattle.vax_table.specs.Spelled.{spelled, spelled_specifier, with_index_byte};
 ghost use Rattle.vax_decode.specs.Encoding.{IsInRange};
 ghost use Rattle.vasm_text.specs.Asm.{opcode_bytes};
 
@@ -45,7 +45,7 @@ fn put_specifier(bytes: &mut Vec<u8>, form: Form, spec: &Spec) -> Result<(), NoM
 /// Appends an index, if there is one.
 fn put_index(bytes: &mut Vec<u8>, index: Option<u8>) -> Result<(), NoMemory>
     requires { IfSome index (λ x. x < 15) }
-    ensures { OnOk result (bytes.new.items ≡ bytes.old.items ++ behind_index index []) }
+    ensures { OnOk result (bytes.new.items ≡ bytes.old.items ++ with_index_byte index []) }
 {
     match index {
         Some(x) => put(bytes, 0x40 + x),

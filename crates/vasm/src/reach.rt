@@ -1,6 +1,6 @@
 ghost use Rattle.std.specs.Prelude.{◌≡◌, ◌^◌, pos};
 ghost use Rattle.vv_base.specs.Width.{size_of};
-ghost use Rattle.vasm_text.specs.Asm.{difference, field_size, is_within, reached};
+ghost use Rattle.vasm_text.specs.Asm.{difference, field_size, is_in_field, with_displacement};
 
 use vasm_text::AsmKind;
 use vax_table::{Access, Form, Spec, displacement_width};
@@ -31,7 +31,7 @@ fn span(width: Width) -> i128
 
 /// Whether a difference is in the signed field of a byte or a word; any is in that of a wider one.
 fn is_within(width: Width, target: u32, from: u32) -> bool
-    ensures { result ≡ is_within (size_of width) target from }
+    ensures { result ≡ is_in_field (size_of width) target from }
 {
     let target = u64::from(target);
     let from = u64::from(from);
@@ -51,7 +51,7 @@ fn difference(width: Width, target: u32, from: u32) -> u64
 
 /// The specifier whose field reaches an address from the one after it.
 pub(crate) fn reached(width: Width, spec: Spec, target: u32, behind: u32) -> Result<Spec, AsmKind>
-    ensures { result ≡ reached (size_of width) spec target behind }
+    ensures { result ≡ with_displacement (size_of width) spec target behind }
 {
     if !is_within(width, target, behind) {
         return Err(AsmKind::OutOfReach);

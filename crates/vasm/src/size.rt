@@ -1,7 +1,7 @@
 ghost use Rattle.std.specs.Prelude.{◌≡◌, ◌+◌, ◌*◌, ◌≤◌, length, is_some, map, if◌then◌else◌};
 ghost use Rattle.vax_table.specs.Spelled.{spelled};
-ghost use Rattle.vasm_text.specs.Asm.{line_size, opcode_bytes, operands_size, statement_size};
-ghost use Rattle.vasm_read.specs.Views.{line_view, operand_view, statement_view};
+ghost use Rattle.vasm_text.specs.Asm.{opcode_bytes, operands_size, source_line_size, statement_size};
+ghost use Rattle.vasm_read.specs.Views.{operand_view, source_line_view, statement_view};
 
 use vasm_read::{Line, Operand, Statement, forms_of};
 use vax_table::{Access, Form, Spec, value_size};
@@ -67,7 +67,7 @@ fn statement_size(statement: &Statement) -> u32
 
 /// How many bytes a line has.
 pub(crate) fn line_size(line: &Line) -> u32
-    ensures value { result ≡ line_size (line_view line.now) }
+    ensures value { result ≡ source_line_size (source_line_view line.now) }
     ensures most { result ≤ 64 }
 {
     match &line.statement {

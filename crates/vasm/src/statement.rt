@@ -1,11 +1,11 @@
 ghost use Rattle.std.specs.Prelude.{◌≡◌, ◌≤◌, ◌++◌, map, OnOk};
 ghost use Rattle.vax_table.specs.Spelling.{bytes_of};
-ghost use Rattle.vasm_text.specs.Asm.{bytes_at, field_value, lacks_any, line_bytes, statement_bytes};
+ghost use Rattle.vasm_text.specs.Asm.{field_value, known_statement_bytes, lacks_any, source_line_bytes, statement_bytes};
 ghost use Rattle.vv_base.specs.Width.{size_of};
-ghost use Rattle.vasm_read.specs.Views.{line_view, operand_view, statement_view};
-ghost use Rattle.vasm.specs.Fits.{AreFit, IsLineFit, IsStatementFit};
-ghost use Rattle.vasm.specs.Labels.{address_of};
-ghost use Rattle.vasm.specs.Puts.{Puts};
+ghost use Rattle.vasm_read.specs.Views.{operand_view, source_line_view, statement_view};
+ghost use Rattle.vasm.specs.Fits.{AreFit, IsSourceLineFit, IsStatementFit};
+ghost use Rattle.vasm.specs.Labels.{label_address};
+ghost use Rattle.vasm.specs.Puts.{AppendsOrRefuses};
 ghost use Rattle.vasm_text.specs.Statements.{Instruct, forms_of};
 
 use crate::labels::{Labels, fault};
@@ -18,7 +18,7 @@ use vv_base::{NoMemory, Width};
 
 /// Whether a name in a statement labels no line.
 fn lacks_name(labels: &Labels, statement: &Statement) -> bool
-    ensures { result ≡ lacks_any (address_of labels.now) (statement_view statement.now) }
+    ensures { result ≡ lacks_any (label_address labels.now) (statement_view statement.now) }
 {
     match statement {
         Statement::Field(_, operand) => lacks(labels, operand),
@@ -33,7 +33,7 @@ fn put_field(
     width: Width,
     operand: &Operand,
 ) -> Result<(), NoMemory>
-    ensures { OnOk result (bytes.new.items ≡ bytes.old.items ++ bytes_of (size_of width) (field_value (address_of labels.now) (operand_view operand.now))) }
+    ensures { OnOk result (bytes.new.items ≡ bytes.old.items ++ bytes_of (size_of width) (field_value (label_address labels.now) (operand_view operand.now))) }
 {
     put_number(bytes, width.bytes(), field_value(labels, operand))
 }
@@ -49,7 +49,7 @@ fn put_instruction(
 ) -> Result<(), AsmError>
     requires fit { AreFit (forms_of opcode) (map operand_view operands.now) }
     requires low { at ≤ 3000000000 }
-    ensures { Puts line bytes.old.items bytes.new.items (bytes_at (address_of labels.now) at (Instruct opcode (map operand_view operands.now))) result }
+    ensures { AppendsOrRefuses line bytes.old.items bytes.new.items (known_statement_bytes (label_address labels.now) at (Instruct opcode (map operand_view operands.now))) result }
 {
     put_opcode(bytes, opcode)?;
     put_operands(
@@ -73,7 +73,7 @@ fn put_statement(
 ) -> Result<(), AsmError>
     requires fit { IsStatementFit (statement_view statement.now) }
     requires low { at ≤ 3000000000 }
-    ensures { Puts line bytes.old.items bytes.new.items (statement_bytes (address_of labels.now) at (statement_view statement.now)) result }
+    ensures { AppendsOrRefuses line bytes.old.items bytes.new.items (statement_bytes (label_address labels.now) at (statement_view statement.now)) result }
 {
     if lacks_name(labels, statement) {
         return Err(fault(line, AsmKind::NoName));
@@ -102,9 +102,9 @@ pub(crate) fn put_line(
     at: u32,
     line: &Line,
 ) -> Result<(), AsmError>
-    requires fit { IsLineFit (line_view line.now) }
+    requires fit { IsSourceLineFit (source_line_view line.now) }
     requires low { at ≤ 3000000000 }
-    ensures { Puts number bytes.old.items bytes.new.items (line_bytes (address_of labels.now) at (line_view line.now)) result }
+    ensures { AppendsOrRefuses number bytes.old.items bytes.new.items (source_line_bytes (label_address labels.now) at (source_line_view line.now)) result }
 {
     match &line.statement {
         Some(statement) => put_statement(bytes, labels, number, at, statement),

@@ -1,6 +1,6 @@
 ghost use Rattle.std.specs.Prelude.{◌≤◌, length};
-ghost use Rattle.vasm.specs.Assembled.{IsAssembled, IsWritten};
-ghost use Rattle.vasm.specs.Labels.{address_of};
+ghost use Rattle.vasm.specs.Assembled.{IsAssembled, IsAssembledText};
+ghost use Rattle.vasm.specs.Labels.{label_address};
 
 use crate::labels::{Labels, fault, labels_in};
 use crate::size::line_size;
@@ -12,7 +12,7 @@ use vasm_text::{AsmError, AsmKind};
 /// The bytes of a text whose lines are of some form and whose labels have these addresses.
 fn bytes_of(alloc: Global, text: &[u8], labels: &Labels) -> Result<Vec<u8>, AsmError>
     requires { length text.now ≤ 16777216 }
-    ensures { IsWritten result (address_of labels.now) text.now }
+    ensures { IsAssembledText result (label_address labels.now) text.now }
 {
     let mut bytes = Vec::new(alloc);
     let mut rest = text;

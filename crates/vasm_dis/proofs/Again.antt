@@ -9,18 +9,18 @@ use Rattle.std.proofs.lemmas.List.Elements.{All-from_get_or}
 use Rattle.std.proofs.lemmas.List.Splits.{length-slice_split, slice_split_at}
 use Rattle.vax_table.specs.declared.forms.Form.{Form}
 use Rattle.vax_table.specs.declared.decoded.Spec.{Spec}
-use Rattle.vax_table.specs.Rows.{Entry, row_of, sensitive}
+use Rattle.vax_table.specs.Rows.{OpcodeEntry, row_of, sensitive}
 use Rattle.vax_table.specs.Spelling.{AreBytes, Operands, Instruction, Spells, wait, of_row}
 use Rattle.vax_table.specs.Spelled.{spelled, spelled_all}
-use Rattle.vax_table.specs.Reading.{Answer, Whole, Short, Unknown, Reserved, decoded_at, Tells}
+use Rattle.vax_table.specs.Reading.{Answer, Whole, Short, Unknown, Reserved, decoded_at, IsAnswerFor}
 use Rattle.vax_table.proofs.Bytes.{AreBytes-back}
 use Rattle.vax_table.proofs.Instructions.{reading_exact}
 use Rattle.vax_table.proofs.OneSpelling.{operands_spelled}
-use Rattle.vasm_text.specs.Operands.{plain}
-use Rattle.vasm_text.specs.Statements.{Statement, Field, Instruct, Line, forms_of, line_in}
-use Rattle.vasm_text.specs.Asm.{read_from, bytes_from, lacks, resolved, operands_bytes, statement_bytes, asm_of}
+use Rattle.vasm_text.specs.Operands.{unnamed_operand}
+use Rattle.vasm_text.specs.Statements.{Statement, Field, Instruct, SourceLine, forms_of, source_line_in}
+use Rattle.vasm_text.specs.Asm.{read_from, assembled_bytes, lacks, resolved, operands_bytes, statement_bytes, asm_of}
 use Rattle.vasm_text.specs.Printing.{instruction_text, byte_text}
-use Rattle.vasm_text.specs.Dis.{and_others, shown_by, lines_of, dis_of}
+use Rattle.vasm_text.specs.Dis.{and_others, disassembled_by, disassembled_lines, dis_of}
 use Rattle.vasm_dis.specs.Laws.{exact, IsReadAgain, IsAssembledAgain}
 use Rattle.vasm_dis.proofs.Cuts.{NonePass, free_of}
 use Rattle.vasm_dis.proofs.Lines.{spelled_some}
@@ -44,7 +44,7 @@ record IsLineOf (text : List ℕ) (s : Statement) (bytes : List ℕ) : Type 0 wh
   reads : ReadsAs text s
   made : (names : List ℕ → Option ℕ) (at : ℕ) → statement_bytes names at s ≡ Ok bytes
 
-instruct_made : (opcode : ℕ) (e : Entry) (bytes rest : List ℕ) (ss : List Spec) → opcode ≢ 0xfd → row_of opcode ≡ Some e → Operands e.operands rest ss → bytes ≡ opcode ∷ rest
+instruct_made : (opcode : ℕ) (e : OpcodeEntry) (bytes rest : List ℕ) (ss : List Spec) → opcode ≢ 0xfd → row_of opcode ≡ Some e → Operands e.operands rest ss → bytes ≡ opcode ∷ rest
     → (names : List ℕ → Option ℕ) (at : ℕ) → statement_bytes names at (Instruct opcode (map exact ss)) ≡ Ok bytes
 unfolding statement_bytes forms_of
 instruct_made opcode e bytes rest ss other row m is names at =
@@ -67,11 +67,11 @@ spelled_line bytes d (of_row entry opcode rest specs below other row m e g) =
     let P : Instruction → Type 0 = λ i. IsLineOf (instruction_text i.opcode i.specs) (Instruct i.opcode (map exact i.specs)) bytes in
     subst P (sym g) (record { reads = instruction_line opcode entry rest specs below row m; made = instruct_made opcode entry bytes rest specs other row m e })
 
-byte_made : (b : ℕ) → b < 256 → (names : List ℕ → Option ℕ) (at : ℕ) → statement_bytes names at (Field 1 (plain 16 0 b)) ≡ Ok (b ∷ [])
+byte_made : (b : ℕ) → b < 256 → (names : List ℕ → Option ℕ) (at : ℕ) → statement_bytes names at (Field 1 (unnamed_operand 16 0 b)) ≡ Ok (b ∷ [])
 unfolding statement_bytes
 byte_made b below names at = let e : b % 256 ≡ b = omega arith in rw e
 
-one_byte : (b : ℕ) → b < 256 → IsLineOf (byte_text b) (Field 1 (plain 16 0 b)) (b ∷ [])
+one_byte : (b : ℕ) → b < 256 → IsLineOf (byte_text b) (Field 1 (unnamed_operand 16 0 b)) (b ∷ [])
 one_byte b below = record { reads = byte_line b below; made = byte_made b below }
 
 -- ---- the lines of a text
@@ -97,18 +97,18 @@ lines_at line rest feed return =
 
 -- a text whose lines are those of an image
 record Again (image text : List ℕ) : Type 0 where
-  program : List Line
+  program : List SourceLine
   read : (number : ℕ) → read_from number [] (lines text) ≡ Ok program
-  made : (names : List ℕ → Option ℕ) (number at : ℕ) → bytes_from names number at program ≡ Ok image
+  made : (names : List ℕ → Option ℕ) (number at : ℕ) → assembled_bytes names number at program ≡ Ok image
 
-abbrev line_saying : Statement → Line
+abbrev line_saying : Statement → SourceLine
 line_saying s = record { label = None; statement = Some s }
 
-read_step : (number : ℕ) (text : List ℕ) (texts : List (List ℕ)) (s : Statement) (program : List Line) → line_in text ≡ Some (line_saying s) → read_from (number + 1) [] texts ≡ Ok program → read_from number [] (text ∷ texts) ≡ Ok (line_saying s ∷ program)
+read_step : (number : ℕ) (text : List ℕ) (texts : List (List ℕ)) (s : Statement) (program : List SourceLine) → source_line_in text ≡ Some (line_saying s) → read_from (number + 1) [] texts ≡ Ok program → read_from number [] (text ∷ texts) ≡ Ok (line_saying s ∷ program)
 read_step number text texts s program is rest = rw (is, rest)
 
-made_step : (names : List ℕ → Option ℕ) (number at : ℕ) (s : Statement) (program : List Line) (front image : List ℕ) → ((at : ℕ) → statement_bytes names at s ≡ Ok front) → ((number at : ℕ) → bytes_from names number at program ≡ Ok image)
-    → bytes_from names number at (line_saying s ∷ program) ≡ Ok (front ++ image)
+made_step : (names : List ℕ → Option ℕ) (number at : ℕ) (s : Statement) (program : List SourceLine) (front image : List ℕ) → ((at : ℕ) → statement_bytes names at s ≡ Ok front) → ((number at : ℕ) → assembled_bytes names number at program ≡ Ok image)
+    → assembled_bytes names number at (line_saying s ∷ program) ≡ Ok (front ++ image)
 made_step names number at s program front image is rest = rw (is at, rest (number + 1) _)
 
 one_more : (front image line text : List ℕ) (s : Statement) → IsLineOf line s front → Again image text → Again (front ++ image) (and_others line text)
@@ -126,17 +126,17 @@ nothing = record { program = []; read = λ number. refl; made = λ names number 
 shorter : (b : ℕ) (bs front others : List ℕ) → b ∷ bs ≡ front ++ others → 0 < length front → length others ≤ length bs
 shorter b bs front others is some = let long : length (b ∷ bs) ≡ length (front ++ others) = ap length is in omega (arith, length-append front others)
 
-again_by : (n b : ℕ) (bs : List ℕ) (a : Answer) → AreBytes (b ∷ bs) → decoded_at (b ∷ bs) ≡ a → ((image : List ℕ) → AreBytes image → length image ≤ n → Again image (lines_of n image)) → length bs ≤ n → Again (b ∷ bs) (shown_by (lines_of n) b bs a)
+again_by : (n b : ℕ) (bs : List ℕ) (a : Answer) → AreBytes (b ∷ bs) → decoded_at (b ∷ bs) ≡ a → ((image : List ℕ) → AreBytes image → length image ≤ n → Again image (disassembled_lines n image)) → length bs ≤ n → Again (b ∷ bs) (disassembled_by (disassembled_lines n) b bs a)
 again_by n b bs (Whole d others) all is rest most =
-    let t : (front : List ℕ) × (b ∷ bs ≡ front ++ others) × Spells front d = subst (Tells (b ∷ bs)) is (reading_exact.tells (b ∷ bs) all) in
-    let P : List ℕ → Type 0 = λ image. Again image (and_others (instruction_text d.opcode d.specs) (lines_of n others)) in
+    let t : (front : List ℕ) × (b ∷ bs ≡ front ++ others) × Spells front d = subst (IsAnswerFor (b ∷ bs)) is (reading_exact.tells (b ∷ bs) all) in
+    let P : List ℕ → Type 0 = λ image. Again image (and_others (instruction_text d.opcode d.specs) (disassembled_lines n others)) in
     let left : length others ≤ n = omega (arith, shorter b bs t.0 others t.1 (spelled_some t.0 d t.2).0) in
-    subst P (sym t.1) (one_more t.0 others (instruction_text d.opcode d.specs) (lines_of n others) (Instruct d.opcode (map exact d.specs)) (spelled_line t.0 d t.2) (rest others (AreBytes-back t.0 others (subst AreBytes t.1 all)) left))
-again_by n b bs Short all is rest most = one_more (b ∷ []) bs (byte_text b) (lines_of n bs) (Field 1 (plain 16 0 b)) (one_byte b all.0) (rest bs all.1 most)
-again_by n b bs Unknown all is rest most = one_more (b ∷ []) bs (byte_text b) (lines_of n bs) (Field 1 (plain 16 0 b)) (one_byte b all.0) (rest bs all.1 most)
-again_by n b bs Reserved all is rest most = one_more (b ∷ []) bs (byte_text b) (lines_of n bs) (Field 1 (plain 16 0 b)) (one_byte b all.0) (rest bs all.1 most)
+    subst P (sym t.1) (one_more t.0 others (instruction_text d.opcode d.specs) (disassembled_lines n others) (Instruct d.opcode (map exact d.specs)) (spelled_line t.0 d t.2) (rest others (AreBytes-back t.0 others (subst AreBytes t.1 all)) left))
+again_by n b bs Short all is rest most = one_more (b ∷ []) bs (byte_text b) (disassembled_lines n bs) (Field 1 (unnamed_operand 16 0 b)) (one_byte b all.0) (rest bs all.1 most)
+again_by n b bs Unknown all is rest most = one_more (b ∷ []) bs (byte_text b) (disassembled_lines n bs) (Field 1 (unnamed_operand 16 0 b)) (one_byte b all.0) (rest bs all.1 most)
+again_by n b bs Reserved all is rest most = one_more (b ∷ []) bs (byte_text b) (disassembled_lines n bs) (Field 1 (unnamed_operand 16 0 b)) (one_byte b all.0) (rest bs all.1 most)
 
-again : (n : ℕ) (image : List ℕ) → AreBytes image → length image ≤ n → Again image (lines_of n image)
+again : (n : ℕ) (image : List ℕ) → AreBytes image → length image ≤ n → Again image (disassembled_lines n image)
 again zero [] all most = nothing
 again zero (b ∷ bs) all most = absurd (omega arith)
 again (suc n) [] all most = nothing
@@ -148,10 +148,10 @@ assembled_by image text a = rw (a.read 1) (a.made _ 1 0x200)
 
 pub assembled_again : IsAssembledAgain
 unfolding dis_of
-assembled_again image all = assembled_by image (lines_of (length image) image) (again (length image) image all (omega arith))
+assembled_again image all = assembled_by image (disassembled_lines (length image) image) (again (length image) image all (omega arith))
 
 pub read_again : IsReadAgain
 read_again = record {
   instruction = λ bytes d m. line_back (instruction_text d.opcode d.specs) (Instruct d.opcode (map exact d.specs)) (spelled_line bytes d m).reads;
-  byte = λ b below. line_back (byte_text b) (Field 1 (plain 16 0 b)) (one_byte b below).reads;
+  byte = λ b below. line_back (byte_text b) (Field 1 (unnamed_operand 16 0 b)) (one_byte b below).reads;
 }

@@ -3,7 +3,7 @@ use Rattle.std.proofs.Common.{◌≡◌, ◌==◌, true, ℕ, zero, suc, ◌+◌
 use Rattle.std.proofs.lemmas.List.{drop_at}
 use Rattle.vax_table.specs.declared.decoded.Decoded.{Decoded}
 use Rattle.vax_table.specs.Spelling.{AreBytes, Instruction, view, Spells, wait, of_row}
-use Rattle.vax_table.specs.Reading.{Answer, Whole, Short, Unknown, Reserved, decoded_at, Tells}
+use Rattle.vax_table.specs.Reading.{Answer, Whole, Short, Unknown, Reserved, decoded_at, IsAnswerFor}
 use Rattle.vax_table.proofs.Bytes.{AreBytes-back}
 use Rattle.vax_table.proofs.Instructions.{reading_exact}
 use Rattle.vax_decode.specs.declared.outcome.Decode.TheVariants.{NeedMore, Fault}
@@ -12,7 +12,7 @@ use Rattle.vax_decode.specs.declared.outcome.DecodeFault.TheVariants.{Opcode, Ad
 use Rattle.vax_decode.specs.Decoding.{IsWhole, IsAnswer}
 use Rattle.vasm_dis.specs.First.{IsNone}
 use Rattle.vasm_text.specs.Printing.{instruction_text, byte_text}
-use Rattle.vasm_text.specs.Dis.{and_others, shown_by, lines_of, dis_of}
+use Rattle.vasm_text.specs.Dis.{and_others, disassembled_by, disassembled_lines, dis_of}
 use Rattle.vasm_text.specs.Front.{front_by, front_text}
 
 -- a spelling has at least a byte, and as many as it says
@@ -40,13 +40,13 @@ splits_by b front others d all e p =
 
 pub splits : (b others : List ℕ) (d : Instruction) → AreBytes b → decoded_at b ≡ Whole d others → Splits b d others
 splits b others d all is =
-    let t : Tells b (Whole d others) = subst (Tells b) is (reading_exact.tells b all) in
+    let t : IsAnswerFor b (Whole d others) = subst (IsAnswerFor b) is (reading_exact.tells b all) in
     splits_by b t.0 others d all t.1 t.2
 
 -- how many lines may come doesn't matter where there are enough
 enough_by : (n m : ℕ) (b : ℕ) (bs : List ℕ) (a : Answer) → AreBytes (b ∷ bs) → decoded_at (b ∷ bs) ≡ a → length bs ≤ n → length bs ≤ m
-    → ((image : List ℕ) → AreBytes image → length image ≤ n → length image ≤ m → lines_of n image ≡ lines_of m image)
-    → shown_by (lines_of n) b bs a ≡ shown_by (lines_of m) b bs a
+    → ((image : List ℕ) → AreBytes image → length image ≤ n → length image ≤ m → disassembled_lines n image ≡ disassembled_lines m image)
+    → disassembled_by (disassembled_lines n) b bs a ≡ disassembled_by (disassembled_lines m) b bs a
 enough_by n m b bs (Whole d others) all is low high same =
     let s : Splits (b ∷ bs) d others = splits (b ∷ bs) others d all is in
     ap (and_others (instruction_text d.opcode d.specs)) (same others s.bytes (omega (arith, s.some, s.whole)) (omega (arith, s.some, s.whole)))
@@ -54,7 +54,7 @@ enough_by n m b bs Short all is low high same = ap (and_others (byte_text b)) (s
 enough_by n m b bs Unknown all is low high same = ap (and_others (byte_text b)) (same bs all.1 low high)
 enough_by n m b bs Reserved all is low high same = ap (and_others (byte_text b)) (same bs all.1 low high)
 
-enough : (n m : ℕ) (image : List ℕ) → AreBytes image → length image ≤ n → length image ≤ m → lines_of n image ≡ lines_of m image
+enough : (n m : ℕ) (image : List ℕ) → AreBytes image → length image ≤ n → length image ≤ m → disassembled_lines n image ≡ disassembled_lines m image
 enough zero zero image all low high = refl
 enough zero (suc m) [] all low high = refl
 enough zero (suc m) (b ∷ bs) all low high = absurd (omega arith)
@@ -64,7 +64,7 @@ enough (suc n) (suc m) [] all low high = refl
 enough (suc n) (suc m) (b ∷ bs) all low high = enough_by n m b bs (decoded_at (b ∷ bs)) all refl (omega arith) (omega arith) (λ image. enough n m image)
 
 -- the text of an image by its first line
-all_by : (b : ℕ) (bs : List ℕ) (a : Answer) → AreBytes (b ∷ bs) → decoded_at (b ∷ bs) ≡ a → shown_by (lines_of (length bs)) b bs a ≡ shown_by dis_of b bs a
+all_by : (b : ℕ) (bs : List ℕ) (a : Answer) → AreBytes (b ∷ bs) → decoded_at (b ∷ bs) ≡ a → disassembled_by (disassembled_lines (length bs)) b bs a ≡ disassembled_by dis_of b bs a
 unfolding dis_of
 all_by b bs (Whole d others) all is =
     let s : Splits (b ∷ bs) d others = splits (b ∷ bs) others d all is in
@@ -73,9 +73,9 @@ all_by b bs Short all is = refl
 all_by b bs Unknown all is = refl
 all_by b bs Reserved all is = refl
 
-pub first_line : (b : ℕ) (bs : List ℕ) (a : Answer) → AreBytes (b ∷ bs) → decoded_at (b ∷ bs) ≡ a → dis_of (b ∷ bs) ≡ shown_by dis_of b bs a
+pub first_line : (b : ℕ) (bs : List ℕ) (a : Answer) → AreBytes (b ∷ bs) → decoded_at (b ∷ bs) ≡ a → dis_of (b ∷ bs) ≡ disassembled_by dis_of b bs a
 unfolding dis_of
-first_line b bs a all is = ap (shown_by (lines_of (length bs)) b bs) is ∙ all_by b bs a all is
+first_line b bs a all is = ap (disassembled_by (disassembled_lines (length bs)) b bs) is ∙ all_by b bs a all is
 
 -- the same where it is an instruction's line
 done_by : (b : ℕ) (bs : List ℕ) (d : Decoded) (a : Answer) → AreBytes (b ∷ bs) → decoded_at (b ∷ bs) ≡ a → IsWhole d a

@@ -6,12 +6,12 @@ use Rattle.std.proofs.lemmas.Bool.{lt-ltb, ne_eqb}
 use Rattle.vv_base.specs.Width.{size_of}
 use Rattle.vax_table.specs.declared.forms.Form.{Form}
 use Rattle.vax_table.specs.declared.decoded.Spec.{Spec}
-use Rattle.vax_table.specs.Spelling.{unindexed, Displaces, byte, byte_deferred, word, word_deferred, long, long_deferred, Specifier, literal, register, register_deferred, autodecrement, autoincrement, immediate, autoincrement_deferred, absolute, displacement, Operand as Spelled, specifier, indexed, branch, Operands}
+use Rattle.vax_table.specs.Spelling.{unindexed, Displaces, byte, byte_deferred, word, word_deferred, long, long_deferred, Specifier, literal, register, register_deferred, autodecrement, autoincrement, immediate, autoincrement_deferred, absolute, displacement, SpellsOperand as Spelled, specifier, indexed, branch, Operands}
 use Rattle.vax_table.specs.Reading.{is_branch}
 use Rattle.vax_table.proofs.Tests.{no_branch}
 use Rattle.vasm_text.specs.Cutting.{Cut, cut_at}
-use Rattle.vasm_text.specs.Operands.{specifier_in, value_in, operand_in, indexed_in, indexed as with_index, before_comma, behind_comma, operands_in}
-use Rattle.vasm_text.specs.Printing.{register_text, field_text, displacement_text, increment_text, specifier_text, index_text, operand_text, behind_mark}
+use Rattle.vasm_text.specs.Operands.{specifier_in, value_in, operand_in, indexed_in, indexed as with_index, before_comma, text_after_comma, operands_in}
+use Rattle.vasm_text.specs.Printing.{register_text, field_text, displacement_text, increment_text, specifier_text, index_text, operand_text, text_after_mark}
 use Rattle.vasm_dis.specs.Laws.{exact}
 use Rattle.vasm_dis.proofs.Finite.{is_plain, ArePlain, register_plain, literal_plain}
 use Rattle.vasm_dis.proofs.Cuts.{NonePass, cut_none, cut_here, free_of, all_join, all_wider}
@@ -173,7 +173,7 @@ operand_whole f bytes s (branch a v h e g) =
 abbrev pub text_of : List Form → List Spec → Option (List ℕ)
 text_of [] ss = None
 text_of (f ∷ fs) [] = None
-text_of (f ∷ fs) (s ∷ ss) = Some (operand_text f s ++ behind_mark 44 fs ss)
+text_of (f ∷ fs) (s ∷ ss) = Some (operand_text f s ++ text_after_mark 44 fs ss)
 
 comma_free : (f : Form) (bytes : List ℕ) (s : Spec) → Spelled f bytes s → NonePass (λ c. c == 44) (operand_text f s)
 comma_free f bytes s m = free_of is_whole 44 refl (operand_text f s) (operand_whole f bytes s m)
@@ -189,31 +189,31 @@ left_by (Some c) = Some (c.behind)
 before_is : (text : List ℕ) (o : Option Cut) → cut_at 44 text ≡ o → before_comma text ≡ kept_by text o
 before_is text o is = ap (kept_by text) is
 
-behind_is : (text : List ℕ) (o : Option Cut) → cut_at 44 text ≡ o → behind_comma text ≡ left_by o
+behind_is : (text : List ℕ) (o : Option Cut) → cut_at 44 text ≡ o → text_after_comma text ≡ left_by o
 behind_is text o is = ap left_by is
 
-split_last : (text : List ℕ) → NonePass (λ c. c == 44) text → (before_comma (text ++ []) ≡ text) × (behind_comma (text ++ []) ≡ None)
+split_last : (text : List ℕ) → NonePass (λ c. c == 44) text → (before_comma (text ++ []) ≡ text) × (text_after_comma (text ++ []) ≡ None)
 split_last text free =
     let is : cut_at 44 (text ++ []) ≡ None = ap (cut_at 44) (append-nil text) ∙ cut_none (λ c. c == 44) text free in
     (before_is (text ++ []) None is ∙ append-nil text, behind_is (text ++ []) None is)
 
-split_next : (text rest : List ℕ) → NonePass (λ c. c == 44) text → (before_comma (text ++ 44 ∷ rest) ≡ text) × (behind_comma (text ++ 44 ∷ rest) ≡ Some rest)
+split_next : (text rest : List ℕ) → NonePass (λ c. c == 44) text → (before_comma (text ++ 44 ∷ rest) ≡ text) × (text_after_comma (text ++ 44 ∷ rest) ≡ Some rest)
 split_next text rest free =
     let c : Cut = record { before = text; behind = rest } in
     let is : cut_at 44 (text ++ 44 ∷ rest) ≡ Some c = cut_here (λ b. b == 44) text 44 rest free refl in
     (before_is (text ++ 44 ∷ rest) (Some c) is, behind_is (text ++ 44 ∷ rest) (Some c) is)
 
 split_text : (text : List ℕ) (fs : List Form) (bytes : List ℕ) (ss : List Spec) → NonePass (λ c. c == 44) text → Operands fs bytes ss
-    → (before_comma (text ++ behind_mark 44 fs ss) ≡ text) × (behind_comma (text ++ behind_mark 44 fs ss) ≡ text_of fs ss)
+    → (before_comma (text ++ text_after_mark 44 fs ss) ≡ text) × (text_after_comma (text ++ text_after_mark 44 fs ss) ≡ text_of fs ss)
 split_text text [] bytes ss free m = split_last text free
 split_text text (g ∷ fs) bytes [] free m = absurd m
-split_text text (g ∷ fs) bytes (s ∷ ss) free m = split_next text (operand_text g s ++ behind_mark 44 fs ss) free
+split_text text (g ∷ fs) bytes (s ∷ ss) free m = split_next text (operand_text g s ++ text_after_mark 44 fs ss) free
 
 pub operands_back : (fs : List Form) (bytes : List ℕ) (ss : List Spec) → Operands fs bytes ss → operands_in fs (text_of fs ss) ≡ Some (map exact ss)
 operands_back [] bytes [] m = refl
 operands_back [] bytes (s ∷ ss) m = absurd m
 operands_back (f ∷ fs) bytes [] m = absurd m
 operands_back (f ∷ fs) bytes (s ∷ ss) m =
-    let split : (before_comma (operand_text f s ++ behind_mark 44 fs ss) ≡ operand_text f s) × (behind_comma (operand_text f s ++ behind_mark 44 fs ss) ≡ text_of fs ss) =
+    let split : (before_comma (operand_text f s ++ text_after_mark 44 fs ss) ≡ operand_text f s) × (text_after_comma (operand_text f s ++ text_after_mark 44 fs ss) ≡ text_of fs ss) =
     split_text (operand_text f s) fs m.1 ss (comma_free f m.0 s m.3) m.4 in
     rw (split.0, split.1, operand_back f m.0 s m.3, operands_back fs m.1 ss m.4)

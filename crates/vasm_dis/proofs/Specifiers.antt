@@ -11,7 +11,7 @@ use Rattle.vax_table.specs.Spelling.{unindexed, Displaces, byte, byte_deferred, 
 use Rattle.vax_table.specs.Reading.{is_read}
 use Rattle.vax_table.proofs.Tests.{or_left, or_right, no_address, no_pair}
 use Rattle.vasm_text.specs.Cutting.{Cut, cut_at}
-use Rattle.vasm_text.specs.Operands.{Operand, plain, based, named_in, closed_in, literal_in, displaced_in, displacement_in, deferred_in, direct_in, specifier_in, register_operand_in}
+use Rattle.vasm_text.specs.Operands.{Operand, unnamed_operand, based, named_in, closed_in, literal_in, displaced_in, displacement_in, deferred_in, direct_in, specifier_in, register_operand_in}
 use Rattle.vasm_text.specs.Printing.{register_text, field_text, displacement_text, increment_text, specifier_text}
 use Rattle.vasm_dis.specs.Laws.{exact}
 use Rattle.vasm_dis.proofs.Finite.{is_plain, register_plain, register_back, has_sign, register_bare, register_here, literal_back}
@@ -35,10 +35,10 @@ split_is : (mode size : ℕ) (text : List ℕ) (o : Option Cut) → cut_at 40 te
 unfolding displaced_in
 split_is mode size text o is = ap (split_by mode size text) is
 
-based_back : (mode size n v : ℕ) → IsSize size → v < 256 ^ size → n < 16 → based mode size (record { before = field_text size v; behind = register_text n ++ codes ")" }) ≡ Some (plain mode n v)
+based_back : (mode size n v : ℕ) → IsSize size → v < 256 ^ size → n < 16 → based mode size (record { before = field_text size v; behind = register_text n ++ codes ")" }) ≡ Some (unnamed_operand mode n v)
 based_back mode size n v is below reg = rw (field_back size v is below, closed_back 41 n [] [] refl reg)
 
-displaced_back : (mode size n v : ℕ) → IsSize size → v < 256 ^ size → n < 16 → displaced_in mode size (field_text size v ++ (codes "(" ++ (register_text n ++ codes ")"))) ≡ Some (plain mode n v)
+displaced_back : (mode size n v : ℕ) → IsSize size → v < 256 ^ size → n < 16 → displaced_in mode size (field_text size v ++ (codes "(" ++ (register_text n ++ codes ")"))) ≡ Some (unnamed_operand mode n v)
 displaced_back mode size n v is below reg =
     split_is mode size (field_text size v ++ (codes "(" ++ (register_text n ++ codes ")"))) _ (cut_here (λ b. b == 40) (field_text size v) 40 (register_text n ++ codes ")") (free_of is_plain 40 refl (field_text size v) (field_plain size v)) refl)
     ∙ based_back mode size n v is below reg
@@ -50,7 +50,7 @@ width_size Long = four
 width_size Quad = eight
 
 -- the modes with a displacement
-displacement_back : (f : Form) (mode k n v : ℕ) → Displaces mode k → n < 16 → v < 256 ^ k → specifier_in f (displacement_text (unindexed mode n v)) ≡ Some (plain mode n v)
+displacement_back : (f : Form) (mode k n v : ℕ) → Displaces mode k → n < 16 → v < 256 ^ k → specifier_in f (displacement_text (unindexed mode n v)) ≡ Some (unnamed_operand mode n v)
 unfolding specifier_in direct_in deferred_in displacement_in displacement_text
 displacement_back f mode k n v byte h l = rw (displaced_back 0xa 1 n v one l h)
 displacement_back f mode k n v byte_deferred h l = displaced_back 0xb 1 n v one l h

@@ -4,17 +4,17 @@ use Rattle.std.specs.Prelude.{codes, ◌||◌, map, bytes_eq, is_some, if◌then
 use Rattle.std.proofs.Common.{◌≡◌, ◌==◌, ℕ, ◌<◌, ◌&&◌, Bool, true, false, List, [], ◌∷◌, ◌++◌, Option, Some, None, nat_le, refl, sym, ap, subst, ◌∙◌, append-nil}
 use Rattle.vax_table.specs.declared.forms.Form.{Form}
 use Rattle.vax_table.specs.declared.decoded.Spec.{Spec}
-use Rattle.vax_table.specs.Rows.{Entry, row_of}
-use Rattle.vax_table.specs.Spelling.{Operand as Spelled, Operands}
+use Rattle.vax_table.specs.Rows.{OpcodeEntry, row_of}
+use Rattle.vax_table.specs.Spelling.{SpellsOperand as Spelled, Operands}
 use Rattle.vax_table.specs.Reading.{is_branch}
 use Rattle.vax_table.proofs.Tests.{or_left, or_right}
 use Rattle.vv_base.specs.Names.{is_object_name}
 use Rattle.vasm_text.specs.Cutting.{Cut, cut, cut_at, is_blank, trimmed, unless_blank, without_front, without_back}
 use Rattle.vasm_text.specs.Mnemonics.{mnemonic_of, opcode_of}
-use Rattle.vasm_text.specs.Operands.{Operand, plain, operand_in, value_in, specifier_in, direct_in, displacement_in, operands_in}
+use Rattle.vasm_text.specs.Operands.{Operand, unnamed_operand, operand_in, value_in, specifier_in, direct_in, displacement_in, operands_in}
 use Rattle.vasm_text.specs.Numbers.{number_in, field_in, register_in}
-use Rattle.vasm_text.specs.Statements.{Statement, Field, Instruct, Line, operands_of, forms_of, words_in, statement_in, unlabelled, behind_label, content_in, before_comment, line_in}
-use Rattle.vasm_text.specs.Printing.{operand_text, behind_mark, name_text, instruction_text, byte_text, field_text}
+use Rattle.vasm_text.specs.Statements.{Statement, Field, Instruct, SourceLine, operand_forms, forms_of, words_in, statement_in, unlabelled, after_label, content_in, before_comment, source_line_in}
+use Rattle.vasm_text.specs.Printing.{operand_text, text_after_mark, name_text, instruction_text, byte_text, field_text}
 use Rattle.vasm_text.proofs.Apart.{are_apart}
 use Rattle.vasm_dis.proofs.Finite.{everywhere, is_plain, ArePlain, name_plain}
 use Rattle.vasm_dis.proofs.Cuts.{NonePass, cut_none, cut_here, free_of, no_blanks, all_join, all_wider, back_kept, back_join, front_kept}
@@ -65,7 +65,7 @@ named_by n (Some (c ∷ cs)) below is some filled = (
   },
 )
 
-named : (n : ℕ) (e : Entry) → n < 256 → row_of n ≡ Some e → (c : ℕ) × (cs : List ℕ) × IsNamed n c cs
+named : (n : ℕ) (e : OpcodeEntry) → n < 256 → row_of n ≡ Some e → (c : ℕ) × (cs : List ℕ) × IsNamed n c cs
 named n e below is = named_by n (mnemonic_of n) below refl (are_apart.every n below ∙ ap is_some is) (everywhere (λ k. is_filled (mnemonic_of k)) (λ k. true) 256 names_filled n below)
 
 -- ---- a line
@@ -91,9 +91,9 @@ uncommented_by text (Some c) = c.before
 uncommented : (text : List ℕ) → cut_at 59 text ≡ None → before_comment text ≡ text
 uncommented text is = ap (uncommented_by text) is
 
-abbrev content_by : List ℕ → Option Cut → Option Line
+abbrev content_by : List ℕ → Option Cut → Option SourceLine
 content_by text None = unlabelled text
-content_by text (Some c) = if is_object_name c.before then behind_label c.before c.behind else None
+content_by text (Some c) = if is_object_name c.before then after_label c.before c.behind else None
 
 unlabelled_is : (text : List ℕ) → cut_at 58 text ≡ None → content_in text ≡ unlabelled text
 unfolding content_in
@@ -102,8 +102,8 @@ unlabelled_is text is = ap (content_by text) is
 saying_is : (c : ℕ) (cs : List ℕ) (s : Statement) → statement_in (c ∷ cs) ≡ Some s → unlabelled (c ∷ cs) ≡ Some (record { label = None; statement = Some s })
 saying_is c cs s is = rw is
 
-line_by : (text : List ℕ) (s : Statement) (c : ℕ) (cs : List ℕ) → text ≡ c ∷ cs → is_blank c ≡ false → ReadsAs text s → line_in text ≡ Some (record { label = None; statement = Some s })
-unfolding line_in
+line_by : (text : List ℕ) (s : Statement) (c : ℕ) (cs : List ℕ) → text ≡ c ∷ cs → is_blank c ≡ false → ReadsAs text s → source_line_in text ≡ Some (record { label = None; statement = Some s })
+unfolding source_line_in
 line_by text s c cs is other r =
     let first : without_front text ≡ text = ap without_front is ∙ front_kept c cs other ∙ sym is in
     ap (λ t. content_in (trimmed t)) (uncommented text (cut_none (λ b. b == 59) text (free_of is_line 59 refl text r.chars)))
@@ -111,7 +111,7 @@ line_by text s c cs is other r =
     ∙ unlabelled_is text (cut_none (λ b. b == 58) text (free_of is_line 58 refl text r.chars))
     ∙ ap unlabelled is ∙ saying_is c cs s (sym (ap statement_in is) ∙ r.said)
 
-pub line_back : (text : List ℕ) (s : Statement) → ReadsAs text s → line_in text ≡ Some (record { label = None; statement = Some s })
+pub line_back : (text : List ℕ) (s : Statement) → ReadsAs text s → source_line_in text ≡ Some (record { label = None; statement = Some s })
 line_back text s r = line_by text s r.first.0 r.first.1 r.first.2 r.first.3 r
 
 -- ---- an instruction
@@ -136,14 +136,14 @@ words_back word text opcode os other op is =
 
 -- the name, and its operands after a blank
 said_back : (word : List ℕ) (opcode : ℕ) (fs : List Form) (bytes : List ℕ) (ss : List Spec) → ArePlain word → is_directive word ≡ false → opcode_of word ≡ Some opcode → forms_of opcode ≡ fs → Operands fs bytes ss
-    → statement_in (word ++ behind_mark 32 fs ss) ≡ Some (Instruct opcode (map exact ss))
+    → statement_in (word ++ text_after_mark 32 fs ss) ≡ Some (Instruct opcode (map exact ss))
 said_back word opcode [] bytes [] all other op forms m =
     ap statement_in (append-nil word) ∙ said_is word None (cut_none is_blank word (no_blanks is_plain refl refl word all))
     ∙ words_back word None opcode [] other op (ap (λ fs. operands_in fs None) forms ∙ operands_back [] bytes [] m)
 said_back word opcode [] bytes (s ∷ ss) all other op forms m = absurd m
 said_back word opcode (f ∷ fs) bytes [] all other op forms m = absurd m
 said_back word opcode (f ∷ fs) bytes (s ∷ ss) all other op forms m =
-    let rest : List ℕ = operand_text f s ++ behind_mark 44 fs ss in
+    let rest : List ℕ = operand_text f s ++ text_after_mark 44 fs ss in
     let c : Cut = record { before = word; behind = rest } in
     said_is (word ++ 32 ∷ rest) (Some c) (cut_here is_blank word 32 rest (no_blanks is_plain refl refl word all) refl)
     ∙ words_back word (Some rest) opcode (map exact (s ∷ ss)) other op (ap (λ gs. operands_in gs (Some rest)) forms ∙ operands_back (f ∷ fs) bytes (s ∷ ss) m)
@@ -164,11 +164,11 @@ filled f bytes s [] m is =
 filled f bytes s (c ∷ cs) m is = (c, cs, refl)
 
 -- operands after a comma, and all after the blank
-tail_all : (fs : List Form) (bytes : List ℕ) (ss : List Spec) → Operands fs bytes ss → list_all is_tail (behind_mark 44 fs ss) ≡ true
+tail_all : (fs : List Form) (bytes : List ℕ) (ss : List Spec) → Operands fs bytes ss → list_all is_tail (text_after_mark 44 fs ss) ≡ true
 tail_all [] bytes [] m = refl
 tail_all [] bytes (s ∷ ss) m = absurd m
 tail_all (f ∷ fs) bytes [] m = absurd m
-tail_all (f ∷ fs) bytes (s ∷ ss) m = all_join is_tail (operand_text f s) (behind_mark 44 fs ss) (all_wider is_whole is_tail (λ b is. rw is) (operand_text f s) (operand_whole f m.0 s m.3)) (tail_all fs m.1 ss m.4)
+tail_all (f ∷ fs) bytes (s ∷ ss) m = all_join is_tail (operand_text f s) (text_after_mark 44 fs ss) (all_wider is_whole is_tail (λ b is. rw is) (operand_text f s) (operand_whole f m.0 s m.3)) (tail_all fs m.1 ss m.4)
 
 tail_line : (b : ℕ) (whole comma more : Bool) → (whole || comma) ≡ true → (whole || (comma || more)) ≡ true
 tail_line b true comma more is = refl
@@ -197,7 +197,7 @@ first_of_two xs ys c cs is = ap (λ (zs : List ℕ). zs ++ ys) is
 plain_no_blank : (c : ℕ) (cs : List ℕ) → ArePlain (c ∷ cs) → is_blank c ≡ false
 plain_no_blank c cs all = let none : NonePass is_blank (c ∷ cs) = no_blanks is_plain refl refl (c ∷ cs) all in none.0
 
-instruction_by : (opcode c : ℕ) (cs : List ℕ) (fs : List Form) (bytes : List ℕ) (ss : List Spec) → IsNamed opcode c cs → forms_of opcode ≡ fs → Operands fs bytes ss → ReadsAs ((c ∷ cs) ++ behind_mark 32 fs ss) (Instruct opcode (map exact ss))
+instruction_by : (opcode c : ℕ) (cs : List ℕ) (fs : List Form) (bytes : List ℕ) (ss : List Spec) → IsNamed opcode c cs → forms_of opcode ≡ fs → Operands fs bytes ss → ReadsAs ((c ∷ cs) ++ text_after_mark 32 fs ss) (Instruct opcode (map exact ss))
 instruction_by opcode c cs [] bytes [] n forms m = record {
   chars = ap (list_all is_line) (append-nil (c ∷ cs)) ∙ name_line (c ∷ cs) n.plain;
   first = (c, cs ++ [], refl, plain_no_blank c cs n.plain);
@@ -207,35 +207,35 @@ instruction_by opcode c cs [] bytes [] n forms m = record {
 instruction_by opcode c cs [] bytes (s ∷ ss) n forms m = absurd m
 instruction_by opcode c cs (f ∷ fs) bytes [] n forms m = absurd m
 instruction_by opcode c cs (f ∷ fs) bytes (s ∷ ss) n forms m =
-    let rest : List ℕ = operand_text f s ++ behind_mark 44 fs ss in
+    let rest : List ℕ = operand_text f s ++ text_after_mark 44 fs ss in
     let all : list_all is_tail rest ≡ true = tail_all (f ∷ fs) bytes (s ∷ ss) m in
     let some : (d : ℕ) × (ds : List ℕ) × (operand_text f s ≡ d ∷ ds) = filled f m.0 s (operand_text f s) m.3 refl in
     record {
       chars = all_join is_line (c ∷ cs) (32 ∷ rest) (name_line (c ∷ cs) n.plain) (line_of rest all);
       first = (c, cs ++ 32 ∷ rest, refl, plain_no_blank c cs n.plain);
-      back = back_of (c ∷ cs) rest some.0 (some.1 ++ behind_mark 44 fs ss) (first_of_two (operand_text f s) (behind_mark 44 fs ss) some.0 some.1 some.2) all;
+      back = back_of (c ∷ cs) rest some.0 (some.1 ++ text_after_mark 44 fs ss) (first_of_two (operand_text f s) (text_after_mark 44 fs ss) some.0 some.1 some.2) all;
       said = said_back (c ∷ cs) opcode (f ∷ fs) bytes (s ∷ ss) n.plain n.other n.back forms m;
     }
 
-printed_is : (opcode c : ℕ) (cs : List ℕ) (fs : List Form) (ss : List Spec) → mnemonic_of opcode ≡ Some (c ∷ cs) → forms_of opcode ≡ fs → instruction_text opcode ss ≡ (c ∷ cs) ++ behind_mark 32 fs ss
+printed_is : (opcode c : ℕ) (cs : List ℕ) (fs : List Form) (ss : List Spec) → mnemonic_of opcode ≡ Some (c ∷ cs) → forms_of opcode ≡ fs → instruction_text opcode ss ≡ (c ∷ cs) ++ text_after_mark 32 fs ss
 unfolding instruction_text
-printed_is opcode c cs fs ss name forms = ap (λ o. name_text o ++ behind_mark 32 (forms_of opcode) ss) name ∙ ap (λ gs. (c ∷ cs) ++ behind_mark 32 gs ss) forms
+printed_is opcode c cs fs ss name forms = ap (λ o. name_text o ++ text_after_mark 32 (forms_of opcode) ss) name ∙ ap (λ gs. (c ∷ cs) ++ text_after_mark 32 gs ss) forms
 
-pub instruction_line : (opcode : ℕ) (e : Entry) (bytes : List ℕ) (ss : List Spec) → opcode < 256 → row_of opcode ≡ Some e → Operands e.operands bytes ss → ReadsAs (instruction_text opcode ss) (Instruct opcode (map exact ss))
+pub instruction_line : (opcode : ℕ) (e : OpcodeEntry) (bytes : List ℕ) (ss : List Spec) → opcode < 256 → row_of opcode ≡ Some e → Operands e.operands bytes ss → ReadsAs (instruction_text opcode ss) (Instruct opcode (map exact ss))
 unfolding forms_of
 instruction_line opcode e bytes ss below row m =
     let n : (c : ℕ) × (cs : List ℕ) × IsNamed opcode c cs = named opcode e below row in
-    let forms : forms_of opcode ≡ e.operands = ap operands_of row in
+    let forms : forms_of opcode ≡ e.operands = ap operand_forms row in
     let P : List ℕ → Type 0 = λ text. ReadsAs text (Instruct opcode (map exact ss)) in
     subst P (sym (printed_is opcode n.0 n.1 e.operands ss n.2.name forms)) (instruction_by opcode n.0 n.1 e.operands bytes ss n.2 forms m)
 
 -- ---- a byte by itself
 
-byte_word : (b : ℕ) → b < 256 → words_in (codes ".byte") (Some (field_text 1 b)) ≡ Some (Field 1 (plain 16 0 b))
+byte_word : (b : ℕ) → b < 256 → words_in (codes ".byte") (Some (field_text 1 b)) ≡ Some (Field 1 (unnamed_operand 16 0 b))
 unfolding words_in
 byte_word b below = rw (field_back 1 b one below)
 
-byte_said : (b : ℕ) → b < 256 → statement_in (byte_text b) ≡ Some (Field 1 (plain 16 0 b))
+byte_said : (b : ℕ) → b < 256 → statement_in (byte_text b) ≡ Some (Field 1 (unnamed_operand 16 0 b))
 unfolding byte_text
 byte_said b below =
     let c : Cut = record { before = codes ".byte"; behind = field_text 1 b } in
@@ -244,7 +244,7 @@ byte_said b below =
 field_tail : (b : ℕ) → list_all is_tail (field_text 1 b) ≡ true
 field_tail b = all_wider is_plain is_tail (λ x is. rw is) (field_text 1 b) (field_plain 1 b)
 
-pub byte_line : (b : ℕ) → b < 256 → ReadsAs (byte_text b) (Field 1 (plain 16 0 b))
+pub byte_line : (b : ℕ) → b < 256 → ReadsAs (byte_text b) (Field 1 (unnamed_operand 16 0 b))
 unfolding byte_text field_text
 byte_line b below = record {
   chars = line_of (field_text 1 b) (field_tail b);

@@ -10,6 +10,6 @@ IsNone Short = Unit {0}
 IsNone Unknown = Unit {0}
 IsNone Reserved = Unit {0}
 
-abbrev pub IsFirst : Option Decoded → List ℕ → Type 0
-IsFirst None image = IsNone (decoded_at image)
-IsFirst (Some d) image = IsWhole d (decoded_at image)
+abbrev pub IsFirstDecoded : Option Decoded → List ℕ → Type 0
+IsFirstDecoded None image = IsNone (decoded_at image)
+IsFirstDecoded (Some d) image = IsWhole d (decoded_at image)

@@ -3,8 +3,8 @@
 use Rattle.std.specs.Prelude.{◌≡◌, ℕ, ◌<◌, List, map, Option, Some, None, Ok}
 use Rattle.vax_table.specs.declared.decoded.Spec.{Spec}
 use Rattle.vax_table.specs.Spelling.{AreBytes, Instruction, Spells}
-use Rattle.vasm_text.specs.Operands.{Operand, plain}
-use Rattle.vasm_text.specs.Statements.{Line, Statement, Field, Instruct, line_in}
+use Rattle.vasm_text.specs.Operands.{Operand, unnamed_operand}
+use Rattle.vasm_text.specs.Statements.{SourceLine, Statement, Field, Instruct, source_line_in}
 use Rattle.vasm_text.specs.Printing.{instruction_text, byte_text}
 use Rattle.vasm_text.specs.Asm.{asm_of}
 use Rattle.vasm_text.specs.Dis.{dis_of}
@@ -14,13 +14,13 @@ abbrev pub exact : Spec → Operand
 exact s = record { spec = s; name = None }
 
 -- a line without a label
-abbrev pub saying : Statement → Option Line
-saying s = Some (record { label = None; statement = Some s })
+abbrev pub unlabelled_line : Statement → Option SourceLine
+unlabelled_line s = Some (record { label = None; statement = Some s })
 
 -- what is printed is read
 pub record IsReadAgain : Type 0 where
-  pub instruction : (bytes : List ℕ) (d : Instruction) → Spells bytes d → line_in (instruction_text d.opcode d.specs) ≡ saying (Instruct d.opcode (map exact d.specs))
-  pub byte : (b : ℕ) → b < 256 → line_in (byte_text b) ≡ saying (Field 1 (plain 16 0 b))
+  pub instruction : (bytes : List ℕ) (d : Instruction) → Spells bytes d → source_line_in (instruction_text d.opcode d.specs) ≡ unlabelled_line (Instruct d.opcode (map exact d.specs))
+  pub byte : (b : ℕ) → b < 256 → source_line_in (byte_text b) ≡ unlabelled_line (Field 1 (unnamed_operand 16 0 b))
 
 -- an image's text is assembled to the image
 abbrev pub IsAssembledAgain : Type 0

@@ -1,10 +1,10 @@
 ghost use Rattle.std.specs.Prelude.{◌≡◌, [], ◌∷◌, ◌++◌, ◌≤◌, ◌<◌, length, drop, IfOk, OnOk};
-ghost use Rattle.vasm_dis.specs.First.{IsFirst};
+ghost use Rattle.vasm_dis.specs.First.{IsFirstDecoded};
 ghost use Rattle.vasm_text.specs.Dis.{and_others, dis_of};
 ghost use Rattle.vasm_text.specs.Front.{front_text};
 ghost use Rattle.vasm_text.specs.Mnemonics.{mnemonic_of};
 ghost use Rattle.vasm_text.specs.Statements.{forms_of};
-ghost use Rattle.vasm_text.specs.Printing.{behind_mark, byte_text, instruction_text, name_text};
+ghost use Rattle.vasm_text.specs.Printing.{byte_text, instruction_text, name_text, text_after_mark};
 
 use crate::operand::put_operands;
 use crate::put::{Line, put_field};
@@ -29,7 +29,7 @@ fn put_name(text: &mut Line, opcode: u8)
 #[tactic(auto, unfolding(vasm_text::specs::Statements::forms_of))]
 fn put_all(text: &mut Line, opcode: u8, specs: &[Spec])
     requires { length text.old ≤ 6 }
-    ensures { text.new ≡ text.old ++ behind_mark 32 (forms_of opcode) specs.now }
+    ensures { text.new ≡ text.old ++ text_after_mark 32 (forms_of opcode) specs.now }
 {
     if let Some(row) = row(opcode) {
         put_operands(text, b' ', row.operands.as_slice(), specs);
@@ -60,7 +60,7 @@ fn single_byte(b: u8) -> Line
 
 /// The instruction at the front of an image, if one is there.
 fn first(image: &[u8]) -> Option<Decoded>
-    ensures { IsFirst result image.now }
+    ensures { IsFirstDecoded result image.now }
 {
     match decode(image) {
         Decode::Done(d) => Some(d),

@@ -1,6 +1,6 @@
 ghost use Rattle.std.specs.Prelude.{◌≡◌, ◌==◌, ◌%◌, ◌++◌, ◌≤◌, ◌+◌, ◌*◌, [], codes, decimal, if◌then◌else◌, length};
 ghost use Rattle.vv_base.specs.Width.{size_of};
-ghost use Rattle.vasm_text.specs.Printing.{behind_mark, displacement_text, field_text, increment_text, index_text, operand_text, size_letter, specifier_text};
+ghost use Rattle.vasm_text.specs.Printing.{displacement_text, field_text, increment_text, index_text, operand_text, size_letter, specifier_text, text_after_mark};
 
 use crate::put::{Line, put_around, put_field, put_register};
 use vax_table::{Access, Form, Spec, displacement_width};
@@ -133,7 +133,7 @@ fn put_operand(text: &mut Line, form: Form, spec: &Spec)
 /// Appends operands of the forms, the first after a mark and each other after a comma.
 pub(crate) fn put_operands(text: &mut Line, mark: u8, forms: &[Form], specs: &[Spec])
     requires { length text.old + 30 * length forms.now + 20 ≤ 160 }
-    ensures { text.new ≡ text.old ++ behind_mark mark forms.now specs.now }
+    ensures { text.new ≡ text.old ++ text_after_mark mark forms.now specs.now }
 {
     if let [form, other_forms @ ..] = forms
         && let [spec, other_specs @ ..] = specs

@@ -8,7 +8,7 @@ use Rattle.vasm_files.specs.declared.answer.Answer.{Answer}
 use Rattle.vasm_files.specs.declared.answer.Answer.TheVariants.{Done, Missing, TooLong, ShelfFault, Asm, OutFault, NoMemory}
 
 -- what the shelf holds, where it tells, its count of faults before and after, and the sink
-pub record Outside : Type 0 where
+pub record ShelfAndSink : Type 0 where
   pub files : Option (List File)
   pub shelf : ℕ
   pub shelf' : ℕ
@@ -31,26 +31,26 @@ IsHeld (Some files) name bytes = held files name ≡ Some bytes
 IsHeld None name bytes = Unit {0}
 
 -- the file that was fetched, within the limit; the shelf did not fail
-pub record IsFetched (o : Outside) (name bytes : List ℕ) : Type 0 where
+pub record IsFetched (o : ShelfAndSink) (name bytes : List ℕ) : Type 0 where
   pub held : IsHeld o.files name bytes
   pub within : length bytes ≤ file_limit
   pub shelf : o.shelf' ≡ o.shelf
 
 -- all of the bytes were shown, or a front of them while the sink's count rose
-abbrev pub Closes : Answer → Seen → Seen → List ℕ → Type 0
-Closes Done out out' bytes = (out'.faults ≡ out.faults) × (out'.shown ≡ shown_after out.shown bytes)
-Closes OutFault out out' bytes = Rose out.faults out'.faults × ((n : ℕ) × (out'.shown ≡ shown_after out.shown (take n bytes)))
-Closes _ out out' bytes = ⊥
+abbrev pub ShowsToSink : Answer → Seen → Seen → List ℕ → Type 0
+ShowsToSink Done out out' bytes = (out'.faults ≡ out.faults) × (out'.shown ≡ shown_after out.shown bytes)
+ShowsToSink OutFault out out' bytes = Rose out.faults out'.faults × ((n : ℕ) × (out'.shown ≡ shown_after out.shown (take n bytes)))
+ShowsToSink _ out out' bytes = ⊥
 
 -- a file was fetched for which these bytes are shown, and how that ended
-abbrev pub Ends : (List ℕ → Result (List ℕ) AsmFault) → List ℕ → Answer → Outside → Type 0
-Ends made name answer o = (bytes : List ℕ) × (shown : List ℕ) × IsFetched o name bytes × (made bytes ≡ Ok shown) × Closes answer o.out o.out' shown
+abbrev pub FetchesAndShows : (List ℕ → Result (List ℕ) AsmFault) → List ℕ → Answer → ShelfAndSink → Type 0
+FetchesAndShows made name answer o = (bytes : List ℕ) × (shown : List ℕ) × IsFetched o name bytes × (made bytes ≡ Ok shown) × ShowsToSink answer o.out o.out' shown
 
 -- what an answer says, where `made` tells what a file stands for, or the line that is refused
-abbrev pub Follows : (List ℕ → Result (List ℕ) AsmFault) → List ℕ → Answer → Outside → Type 0
-Follows made name Missing o = Lacks o.files name o.shelf o.shelf' × (o.out' ≡ o.out)
-Follows made name TooLong o = HasTooLong o.files name o.shelf o.shelf' × (o.out' ≡ o.out)
-Follows made name ShelfFault o = Rose o.shelf o.shelf' × (o.out' ≡ o.out)
-Follows made name NoMemory o = o.out' ≡ o.out
-Follows made name (Asm f) o = (bytes : List ℕ) × IsFetched o name bytes × (made bytes ≡ Err f) × (o.out' ≡ o.out)
-Follows made name answer o = Ends made name answer o
+abbrev pub FollowsFile : (List ℕ → Result (List ℕ) AsmFault) → List ℕ → Answer → ShelfAndSink → Type 0
+FollowsFile made name Missing o = Lacks o.files name o.shelf o.shelf' × (o.out' ≡ o.out)
+FollowsFile made name TooLong o = HasTooLong o.files name o.shelf o.shelf' × (o.out' ≡ o.out)
+FollowsFile made name ShelfFault o = Rose o.shelf o.shelf' × (o.out' ≡ o.out)
+FollowsFile made name NoMemory o = o.out' ≡ o.out
+FollowsFile made name (Asm f) o = (bytes : List ℕ) × IsFetched o name bytes × (made bytes ≡ Err f) × (o.out' ≡ o.out)
+FollowsFile made name answer o = FetchesAndShows made name answer o

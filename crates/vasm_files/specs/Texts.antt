@@ -4,11 +4,11 @@ use Rattle.vasm_text.specs.declared.fault.AsmFault.{AsmFault}
 use Rattle.vasm_text.specs.declared.fault.AsmKind.{AsmKind}
 use Rattle.vasm_text.specs.declared.fault.AsmKind.TheVariants.{BadLine, TwiceNamed, NoName, OutOfReach}
 
-abbrev pub kind_text : AsmKind → List ℕ
-kind_text BadLine = codes "BadLine"
-kind_text TwiceNamed = codes "TwiceNamed"
-kind_text NoName = codes "NoName"
-kind_text OutOfReach = codes "OutOfReach"
+abbrev pub asm_kind_text : AsmKind → List ℕ
+asm_kind_text BadLine = codes "BadLine"
+asm_kind_text TwiceNamed = codes "TwiceNamed"
+asm_kind_text NoName = codes "NoName"
+asm_kind_text OutOfReach = codes "OutOfReach"
 
 abbrev pub fault_text : AsmFault → List ℕ
-fault_text f = codes "asm line " ++ decimal f.line ++ codes " " ++ kind_text f.kind
+fault_text f = codes "asm line " ++ decimal f.line ++ codes " " ++ asm_kind_text f.kind

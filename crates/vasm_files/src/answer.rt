@@ -1,5 +1,5 @@
 ghost use Rattle.std.specs.Prelude.{◌≡◌};
-ghost use Rattle.vasm_files.specs.Texts.{fault_text, kind_text};
+ghost use Rattle.vasm_files.specs.Texts.{asm_kind_text, fault_text};
 
 use vasm_text::{AsmFault, AsmKind};
 use vv_base::{Text, decimal};
@@ -25,7 +25,7 @@ pub enum Answer {
 
 /// The name of a kind of refusal.
 fn kind_text(kind: AsmKind) -> &'static [u8]
-    ensures { result.now ≡ kind_text kind }
+    ensures { result.now ≡ asm_kind_text kind }
 {
     match kind {
         AsmKind::BadLine => b"BadLine",

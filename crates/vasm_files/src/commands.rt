@@ -1,7 +1,7 @@
 ghost use Rattle.std.specs.Prelude.{Ok};
 ghost use Rattle.vasm_text.specs.Asm.{asm_of};
 ghost use Rattle.vasm_text.specs.Dis.{dis_of};
-ghost use Rattle.vasm_files.specs.Commands.{Closes, Follows};
+ghost use Rattle.vasm_files.specs.Commands.{FollowsFile, ShowsToSink};
 
 use crate::answer::Answer;
 use std::alloc::Global;
@@ -13,7 +13,7 @@ use vv_io::{Shelf, ShelfFault, Sink, SinkFault};
 
 /// Puts bytes.
 fn show<O: Sink>(out: &mut O, bytes: &[u8]) -> Answer
-    ensures { Closes result (O.printed out.old) (O.printed out.new) bytes.now }
+    ensures { ShowsToSink result (O.printed out.old) (O.printed out.new) bytes.now }
 {
     match out.put(bytes) {
         Ok(()) => Answer::Done,
@@ -29,7 +29,7 @@ pub fn asm<S: Shelf, O: Sink>(
     shelf: &mut S,
     out: &mut O,
 ) -> Answer
-    ensures { Follows asm_of source.now result (record { files = S.files shelf.old; shelf = S.faults shelf.old; shelf' = S.faults shelf.new; out = O.printed out.old; out' = O.printed out.new }) }
+    ensures { FollowsFile asm_of source.now result (record { files = S.files shelf.old; shelf = S.faults shelf.old; shelf' = S.faults shelf.new; out = O.printed out.old; out' = O.printed out.new }) }
 {
     let text = match shelf.fetch(alloc, source) {
         Ok(text) => text,
@@ -47,7 +47,7 @@ pub fn asm<S: Shelf, O: Sink>(
 
 /// Shows the text of an image, which is fetched once and put once.
 pub fn dis<S: Shelf, O: Sink>(alloc: Global, image: &FileName, shelf: &mut S, out: &mut O) -> Answer
-    ensures { Follows (λ bytes. Ok (dis_of bytes)) image.now result (record { files = S.files shelf.old; shelf = S.faults shelf.old; shelf' = S.faults shelf.new; out = O.printed out.old; out' = O.printed out.new }) }
+    ensures { FollowsFile (λ bytes. Ok (dis_of bytes)) image.now result (record { files = S.files shelf.old; shelf = S.faults shelf.old; shelf' = S.faults shelf.new; out = O.printed out.old; out' = O.printed out.new }) }
 {
     let bytes = match shelf.fetch(alloc, image) {
         Ok(bytes) => bytes,

@@ -4,7 +4,7 @@ use Rattle.std.specs.Prelude.{List, map, option_map}
 use Rattle.arrayvec.specs.ArrayVec.{ArrayVec}
 use Rattle.vv_base.specs.Width.{size_of}
 use Rattle.vasm_text.specs.Operands.{Operand}
-use Rattle.vasm_text.specs.Statements.{Line, Statement, Field, Instruct}
+use Rattle.vasm_text.specs.Statements.{SourceLine, Statement, Field, Instruct}
 use Rattle.vasm_read.specs.declared.operand.Operand.{Operand as Kept}
 use Rattle.vasm_read.specs.declared.statement.Statement.{Statement as Said}
 use Rattle.vasm_read.specs.declared.statement.Statement.TheVariants as said
@@ -20,5 +20,5 @@ abbrev pub statement_view : Said → Statement
 statement_view (said.Field w o) = Field (size_of w) (operand_view o)
 statement_view (said.Instruct opcode os) = Instruct opcode (operands_view os)
 
-abbrev pub line_view : Read → Line
-line_view l = record { label = option_copied l.label; statement = option_map statement_view l.statement }
+abbrev pub source_line_view : Read → SourceLine
+source_line_view l = record { label = option_copied l.label; statement = option_map statement_view l.statement }

@@ -1,8 +1,8 @@
 ghost use Rattle.std.specs.Prelude.{◌≡◌, ◌<◌, ◌∷◌, length, option_map};
 ghost use Rattle.std.specs.Option.{option_copied};
 ghost use Rattle.std.specs.Str.Lines.{lines, strip_carriage_return};
-ghost use Rattle.vasm_text.specs.Statements.{before_comment, behind_label, content_in, line_in, saying, unlabelled};
-ghost use Rattle.vasm_read.specs.Views.{line_view};
+ghost use Rattle.vasm_text.specs.Statements.{after_label, before_comment, content_in, saying, source_line_in, unlabelled};
+ghost use Rattle.vasm_read.specs.Views.{source_line_view};
 
 use crate::cutting::{Pieces, cut_at, is_blank, trimmed};
 use crate::statement::{Statement, statement_in};
@@ -19,7 +19,7 @@ pub struct Line<'a> {
 
 /// A line with a statement.
 fn saying<'a>(label: Option<&'a [u8]>, text: &'a [u8]) -> Option<Line<'a>>
-    ensures { option_map line_view result ≡ saying (option_copied label.entry) text.now }
+    ensures { option_map source_line_view result ≡ saying (option_copied label.entry) text.now }
 {
     match statement_in(text) {
         Some(statement) => Some(Line {
@@ -32,7 +32,7 @@ fn saying<'a>(label: Option<&'a [u8]>, text: &'a [u8]) -> Option<Line<'a>>
 
 /// A line with a label, by what follows the colon.
 fn behind_label<'a>(name: &'a [u8], text: &'a [u8]) -> Option<Line<'a>>
-    ensures { option_map line_view result ≡ behind_label name.now text.now }
+    ensures { option_map source_line_view result ≡ after_label name.now text.now }
 {
     match text {
         [] => Some(Line {
@@ -46,7 +46,7 @@ fn behind_label<'a>(name: &'a [u8], text: &'a [u8]) -> Option<Line<'a>>
 
 /// A line without a label.
 fn unlabelled(text: &[u8]) -> Option<Line<'_>>
-    ensures { option_map line_view result ≡ unlabelled text.now }
+    ensures { option_map source_line_view result ≡ unlabelled text.now }
 {
     match text {
         [] => Some(Line {
@@ -60,7 +60,7 @@ fn unlabelled(text: &[u8]) -> Option<Line<'_>>
 /// A line without its comment and the blanks at its ends.
 #[tactic(auto, unfolding(vasm_text::specs::Statements::content_in))]
 fn content_in(text: &[u8]) -> Option<Line<'_>>
-    ensures { option_map line_view result ≡ content_in text.now }
+    ensures { option_map source_line_view result ≡ content_in text.now }
 {
     match cut_at(text, b':') {
         None => unlabelled(text),
@@ -84,9 +84,9 @@ fn before_comment(text: &[u8]) -> &[u8]
 }
 
 /// What a line says; None exactly where it is of no form.
-#[tactic(auto, unfolding(vasm_text::specs::Statements::line_in))]
+#[tactic(auto, unfolding(vasm_text::specs::Statements::source_line_in))]
 pub fn line_in(text: &[u8]) -> Option<Line<'_>>
-    ensures { option_map line_view result ≡ line_in text.now }
+    ensures { option_map source_line_view result ≡ source_line_in text.now }
 {
     content_in(trimmed(before_comment(text)))
 }

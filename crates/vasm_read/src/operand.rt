@@ -1,5 +1,5 @@
 ghost use Rattle.std.specs.Prelude.{◌≡◌};
-ghost use Rattle.vasm_text.specs.Operands.{plain, with_name};
+ghost use Rattle.vasm_text.specs.Operands.{unnamed_operand, with_name};
 ghost use Rattle.vasm_read.specs.Views.{operand_view};
 
 use vax_table::Spec;
@@ -15,7 +15,7 @@ pub struct Operand<'a> {
 
 /// An operand without a name.
 pub(crate) fn plain<'a>(mode: u8, reg: u8, value: u64) -> Operand<'a>
-    ensures { operand_view result ≡ plain mode reg value }
+    ensures { operand_view result ≡ unnamed_operand mode reg value }
 {
     Operand {
         spec: Spec {

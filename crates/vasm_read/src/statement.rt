@@ -1,7 +1,7 @@
 ghost use Rattle.std.specs.Prelude.{◌≡◌, ◌≤◌, length, option_map};
 ghost use Rattle.std.specs.Option.{option_copied};
 ghost use Rattle.vv_base.specs.Width.{size_of};
-ghost use Rattle.vasm_text.specs.Operands.{before_comma, behind_comma, operands_in};
+ghost use Rattle.vasm_text.specs.Operands.{before_comma, operands_in, text_after_comma};
 ghost use Rattle.vasm_text.specs.Statements.{forms_of, instruction_in, long_field_in, number_field_in, statement_in, words_in};
 ghost use Rattle.vasm_read.specs.Views.{operands_view, statement_view};
 
@@ -46,7 +46,7 @@ fn before_comma(text: &[u8]) -> &[u8]
 
 /// What follows the first comma.
 fn behind_comma(text: &[u8]) -> Option<&[u8]>
-    ensures { option_copied result ≡ behind_comma text.now }
+    ensures { option_copied result ≡ text_after_comma text.now }
 {
     match cut_at(text, b',') {
         Some(pieces) => Some(pieces.behind),

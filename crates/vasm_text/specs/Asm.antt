@@ -13,7 +13,7 @@ use Rattle.vax_table.specs.Reading.{is_branch, displacement_size}
 use Rattle.vax_table.specs.Spelling.{bytes_of}
 use Rattle.vax_table.specs.Spelled.{spelled}
 use Rattle.vasm_text.specs.Operands.{Operand}
-use Rattle.vasm_text.specs.Statements.{Statement, Field, Instruct, Line, forms_of, line_in}
+use Rattle.vasm_text.specs.Statements.{Statement, Field, Instruct, SourceLine, forms_of, source_line_in}
 use Rattle.vasm_text.specs.declared.fault.AsmFault.{AsmFault}
 use Rattle.vasm_text.specs.declared.fault.AsmKind.{AsmKind}
 use Rattle.vasm_text.specs.declared.fault.AsmKind.TheVariants.{BadLine, TwiceNamed, NoName, OutOfReach}
@@ -42,18 +42,18 @@ and_label labels None = labels
 and_label labels (Some name) = labels ++ name ∷ []
 
 -- a line after lines with these labels
-abbrev pub read_line : List (List ℕ) → Option Line → Result Line AsmKind
-read_line labels None = Err BadLine
-read_line labels (Some line) = if is_labelled line.label labels then Err TwiceNamed else Ok line
+abbrev pub read_source_line : List (List ℕ) → Option SourceLine → Result SourceLine AsmKind
+read_source_line labels None = Err BadLine
+read_source_line labels (Some line) = if is_labelled line.label labels then Err TwiceNamed else Ok line
 
 abbrev pub before_others : {A : Type 0} → A → Result (List A) AsmFault → Result (List A) AsmFault
 before_others x others = others >>= λ xs. Ok (x ∷ xs)
 
 -- the lines from a number on, after lines with these labels
-abbrev pub read_from : ℕ → List (List ℕ) → List (List ℕ) → Result (List Line) AsmFault
+abbrev pub read_from : ℕ → List (List ℕ) → List (List ℕ) → Result (List SourceLine) AsmFault
 read_from number labels [] = Ok []
 read_from number labels (text ∷ texts) =
-    at_line number (read_line labels (line_in text)) >>= λ line. before_others line (read_from (number + 1) (and_label labels line.label) texts)
+    at_line number (read_source_line labels (source_line_in text)) >>= λ line. before_others line (read_from (number + 1) (and_label labels line.label) texts)
 
 -- ---- sizes and addresses, which the lines' texts alone fix
 
@@ -73,23 +73,23 @@ unfoldable pub statement_size : Statement → ℕ
 statement_size (Field size o) = size
 statement_size (Instruct opcode os) = length (opcode_bytes opcode) + operands_size (forms_of opcode) os
 
-abbrev pub line_size : Line → ℕ
-line_size line = elim (line.statement) [ None ↦ 0 | Some s ↦ statement_size s ]
+abbrev pub source_line_size : SourceLine → ℕ
+source_line_size line = elim (line.statement) [ None ↦ 0 | Some s ↦ statement_size s ]
 
 abbrev pub is_label : List ℕ → Option (List ℕ) → Bool
 is_label name None = false
 is_label name (Some label) = bytes_eq name label
 
 -- the address of the line that a name labels, where the lines begin at an address
-abbrev pub address_in : List Line → ℕ → List ℕ → Option ℕ
+abbrev pub address_in : List SourceLine → ℕ → List ℕ → Option ℕ
 address_in [] at name = None
-address_in (line ∷ more) at name = if is_label name line.label then Some at else address_in more (at + line_size line) name
+address_in (line ∷ more) at name = if is_label name line.label then Some at else address_in more (at + source_line_size line) name
 
 -- ---- bytes
 
 -- whether a difference is in the signed field of a byte or a word; any is in that of a longword
-abbrev pub is_within : ℕ → ℕ → ℕ → Bool
-is_within size target from = size == 4 || (nat_le from (target + 256 ^ size / 2) && nat_lt target (from + 256 ^ size / 2))
+abbrev pub is_in_field : ℕ → ℕ → ℕ → Bool
+is_in_field size target from = size == 4 || (nat_le from (target + 256 ^ size / 2) && nat_lt target (from + 256 ^ size / 2))
 
 -- the field of a difference, in two's complement
 abbrev pub difference : ℕ → ℕ → ℕ → ℕ
@@ -99,19 +99,19 @@ difference size target from = unsigned_abs (int_rem_euclid (pos target -ℤ pos 
 abbrev pub field_size : Form → Spec → ℕ
 field_size form spec = if is_branch form.access then size_of form.width else displacement_size spec.mode
 
-abbrev pub target_of : (List ℕ → Option ℕ) → List ℕ → ℕ
-target_of names name = unwrap_or (names name) 0
+abbrev pub named_target : (List ℕ → Option ℕ) → List ℕ → ℕ
+named_target names name = unwrap_or (names name) 0
 
 -- a name's value minus the address after the field, in the field
-abbrev pub reached : ℕ → Spec → ℕ → ℕ → Result Spec AsmKind
-reached size spec target behind = if is_within size target behind then Ok (record spec { value = difference size target behind }) else Err OutOfReach
+abbrev pub with_displacement : ℕ → Spec → ℕ → ℕ → Result Spec AsmKind
+with_displacement size spec target behind = if is_in_field size target behind then Ok (record spec { value = difference size target behind }) else Err OutOfReach
 
 -- an operand's specifier, where the operand ends before an address. A branch displacement is the last
 -- operand, so the address after it is the next instruction's.
 unfoldable pub resolved : (List ℕ → Option ℕ) → ℕ → Form → Operand → Result Spec AsmKind
 resolved names behind form o = elim (o.name) [
   | None ↦ Ok (o.spec)
-  | Some name ↦ reached (field_size form o.spec) o.spec (target_of names name) behind
+  | Some name ↦ with_displacement (field_size form o.spec) o.spec (named_target names name) behind
 ]
 
 -- the bytes of operands that begin at an address
@@ -123,7 +123,7 @@ operands_bytes names at (f ∷ fs) (o ∷ os) =
 
 -- a number, or the value of a name
 abbrev pub field_value : (List ℕ → Option ℕ) → Operand → ℕ
-field_value names o = elim (o.name) [ None ↦ o.spec.value | Some name ↦ target_of names name ]
+field_value names o = elim (o.name) [ None ↦ o.spec.value | Some name ↦ named_target names name ]
 
 -- whether a name in it labels no line
 abbrev pub lacks : (List ℕ → Option ℕ) → Operand → Bool
@@ -133,27 +133,27 @@ abbrev pub lacks_any : (List ℕ → Option ℕ) → Statement → Bool
 lacks_any names (Field size o) = lacks names o
 lacks_any names (Instruct opcode os) = list_any (lacks names) os
 
-abbrev pub bytes_at : (List ℕ → Option ℕ) → ℕ → Statement → Result (List ℕ) AsmKind
-bytes_at names at (Field size o) = Ok (bytes_of size (field_value names o))
-bytes_at names at (Instruct opcode os) = operands_bytes names (at + length (opcode_bytes opcode)) (forms_of opcode) os >>= λ bytes. Ok (opcode_bytes opcode ++ bytes)
+abbrev pub known_statement_bytes : (List ℕ → Option ℕ) → ℕ → Statement → Result (List ℕ) AsmKind
+known_statement_bytes names at (Field size o) = Ok (bytes_of size (field_value names o))
+known_statement_bytes names at (Instruct opcode os) = operands_bytes names (at + length (opcode_bytes opcode)) (forms_of opcode) os >>= λ bytes. Ok (opcode_bytes opcode ++ bytes)
 
 -- the bytes of a statement at an address; in all of it a name is looked for before a field is filled
 unfoldable pub statement_bytes : (List ℕ → Option ℕ) → ℕ → Statement → Result (List ℕ) AsmKind
-statement_bytes names at s = if lacks_any names s then Err NoName else bytes_at names at s
+statement_bytes names at s = if lacks_any names s then Err NoName else known_statement_bytes names at s
 
-abbrev pub line_bytes : (List ℕ → Option ℕ) → ℕ → Line → Result (List ℕ) AsmKind
-line_bytes names at line = elim (line.statement) [ None ↦ Ok [] | Some s ↦ statement_bytes names at s ]
+abbrev pub source_line_bytes : (List ℕ → Option ℕ) → ℕ → SourceLine → Result (List ℕ) AsmKind
+source_line_bytes names at line = elim (line.statement) [ None ↦ Ok [] | Some s ↦ statement_bytes names at s ]
 
-abbrev pub joined : List ℕ → Result (List ℕ) AsmFault → Result (List ℕ) AsmFault
-joined front others = others >>= λ bytes. Ok (front ++ bytes)
+abbrev pub prepended : List ℕ → Result (List ℕ) AsmFault → Result (List ℕ) AsmFault
+prepended front others = others >>= λ bytes. Ok (front ++ bytes)
 
 -- the bytes of lines from a number and an address on
-abbrev pub bytes_from : (List ℕ → Option ℕ) → ℕ → ℕ → List Line → Result (List ℕ) AsmFault
-bytes_from names number at [] = Ok []
-bytes_from names number at (line ∷ more) =
-    at_line number (line_bytes names at line) >>= λ bytes. joined bytes (bytes_from names (number + 1) (at + line_size line) more)
+abbrev pub assembled_bytes : (List ℕ → Option ℕ) → ℕ → ℕ → List SourceLine → Result (List ℕ) AsmFault
+assembled_bytes names number at [] = Ok []
+assembled_bytes names number at (line ∷ more) =
+    at_line number (source_line_bytes names at line) >>= λ bytes. prepended bytes (assembled_bytes names (number + 1) (at + source_line_size line) more)
 
 -- the bytes of a text, or the first line that is refused: first by what it says alone and the labels
 -- before it, then by the names in it
 unfoldable pub asm_of : List ℕ → Result (List ℕ) AsmFault
-asm_of text = read_from 1 [] (lines text) >>= λ program. bytes_from (address_in program 0x200) 1 0x200 program
+asm_of text = read_from 1 [] (lines text) >>= λ program. assembled_bytes (address_in program 0x200) 1 0x200 program

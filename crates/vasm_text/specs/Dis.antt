@@ -9,18 +9,18 @@ abbrev pub and_others : List ℕ → List ℕ → List ℕ
 and_others line others = line ++ 10 ∷ others
 
 -- what the bytes b and bs show, by what reading them answers, where `rest` shows what is left
-abbrev pub shown_by : (List ℕ → List ℕ) → ℕ → List ℕ → Answer → List ℕ
-shown_by rest b bs (Whole d others) = and_others (instruction_text d.opcode d.specs) (rest others)
-shown_by rest b bs Short = and_others (byte_text b) (rest bs)
-shown_by rest b bs Unknown = and_others (byte_text b) (rest bs)
-shown_by rest b bs Reserved = and_others (byte_text b) (rest bs)
+abbrev pub disassembled_by : (List ℕ → List ℕ) → ℕ → List ℕ → Answer → List ℕ
+disassembled_by rest b bs (Whole d others) = and_others (instruction_text d.opcode d.specs) (rest others)
+disassembled_by rest b bs Short = and_others (byte_text b) (rest bs)
+disassembled_by rest b bs Unknown = and_others (byte_text b) (rest bs)
+disassembled_by rest b bs Reserved = and_others (byte_text b) (rest bs)
 
 -- in at most so many lines
-abbrev pub lines_of : ℕ → List ℕ → List ℕ
-lines_of zero image = []
-lines_of (suc most) [] = []
-lines_of (suc most) (b ∷ bs) = shown_by (lines_of most) b bs (decoded_at (b ∷ bs))
+abbrev pub disassembled_lines : ℕ → List ℕ → List ℕ
+disassembled_lines zero image = []
+disassembled_lines (suc most) [] = []
+disassembled_lines (suc most) (b ∷ bs) = disassembled_by (disassembled_lines most) b bs (decoded_at (b ∷ bs))
 
 -- a line has at least a byte
 unfoldable pub dis_of : List ℕ → List ℕ
-dis_of image = lines_of (length image) image
+dis_of image = disassembled_lines (length image) image

@@ -5,8 +5,8 @@ use Rattle.std.specs.Prelude.{ℕ, ◌==◌, List, [], ◌∷◌, ◌++◌, code
 use Rattle.vax_table.specs.Rows.{first_some, in_block}
 
 -- byte at 80, word at A0, long at C0: the sixteen names of each, by the width's letter
-abbrev pub arithmetic : List ℕ → List (List ℕ)
-arithmetic w =
+abbrev pub arithmetic_names : List ℕ → List (List ℕ)
+arithmetic_names w =
     (codes "ADD" ++ w ++ codes "2")
     ∷ (codes "ADD" ++ w ++ codes "3")
     ∷ (codes "SUB" ++ w ++ codes "2")
@@ -26,8 +26,8 @@ arithmetic w =
     ∷ []
 
 -- byte at 90, word at B0, long at D0: the first eight names of each
-abbrev pub moves : List ℕ → List (List ℕ)
-moves w =
+abbrev pub move_names : List ℕ → List (List ℕ)
+move_names w =
     (codes "MOV" ++ w)
     ∷ (codes "CMP" ++ w)
     ∷ (codes "MCOM" ++ w)
@@ -46,8 +46,8 @@ abbrev pub named : ℕ → List ℕ → Named
 named n name = record { opcode = n; name = name }
 
 -- the other names
-abbrev pub others : List Named
-others =
+abbrev pub other_names : List Named
+other_names =
     named 0x00 (codes "HALT")
     ∷ named 0x01 (codes "NOP")
     ∷ named 0x02 (codes "REI")
@@ -143,13 +143,13 @@ in_list n (l ∷ ls) = if n == l.opcode then Some l.name else in_list n ls
 unfoldable pub mnemonic_of : ℕ → Option (List ℕ)
 mnemonic_of n =
     first_some (
-    in_block n 0x80 (arithmetic (codes "B")) ∷ in_block n 0xa0 (arithmetic (codes "W")) ∷ in_block n 0xc0 (arithmetic (codes "L"))
-    ∷ in_block n 0x90 (moves (codes "B")) ∷ in_block n 0xb0 (moves (codes "W")) ∷ in_block n 0xd0 (moves (codes "L"))
-    ∷ in_list n others ∷ [])
+    in_block n 0x80 (arithmetic_names (codes "B")) ∷ in_block n 0xa0 (arithmetic_names (codes "W")) ∷ in_block n 0xc0 (arithmetic_names (codes "L"))
+    ∷ in_block n 0x90 (move_names (codes "B")) ∷ in_block n 0xb0 (move_names (codes "W")) ∷ in_block n 0xd0 (move_names (codes "L"))
+    ∷ in_list n other_names ∷ [])
 
-abbrev pub is_named : List ℕ → Option (List ℕ) → Bool
-is_named name None = false
-is_named name (Some known) = bytes_eq known name
+abbrev pub has_name : List ℕ → Option (List ℕ) → Bool
+has_name name None = false
+has_name name (Some known) = bytes_eq known name
 
 -- the names of all opcodes in order
 abbrev pub mnemonics : List (Option (List ℕ))
@@ -157,4 +157,4 @@ mnemonics = map mnemonic_of (range_with_len 0 256)
 
 -- the opcode of the instruction that has the name, None where there is none
 unfoldable pub opcode_of : List ℕ → Option ℕ
-opcode_of name = position (is_named name) mnemonics
+opcode_of name = position (has_name name) mnemonics

@@ -19,18 +19,18 @@ pub record Operand : Type 0 where
   pub name : Option (List ℕ)
 
 -- without a name: mode, register, value
-abbrev pub plain : ℕ → ℕ → ℕ → Operand
-plain mode reg value = record { spec = unindexed mode reg value; name = None }
+abbrev pub unnamed_operand : ℕ → ℕ → ℕ → Operand
+unnamed_operand mode reg value = record { spec = unindexed mode reg value; name = None }
 
 -- a name for the value
 abbrev pub with_name : ℕ → ℕ → List ℕ → Operand
 with_name mode reg name = record { spec = unindexed mode reg 0; name = Some name }
 
 abbrev pub in_mode : ℕ → ℕ → Option Operand
-in_mode mode n = Some (plain mode n 0)
+in_mode mode n = Some (unnamed_operand mode n 0)
 
-abbrev pub with_value : ℕ → ℕ → ℕ → Option Operand
-with_value mode reg value = Some (plain mode reg value)
+abbrev pub operand_of_value : ℕ → ℕ → ℕ → Option Operand
+operand_of_value mode reg value = Some (unnamed_operand mode reg value)
 
 abbrev pub named_in : ℕ → ℕ → List ℕ → Option Operand
 named_in mode reg text = tested is_object_name text >>= λ name. Some (with_name mode reg name)
@@ -44,11 +44,11 @@ abbrev pub enclosed : ℕ → List ℕ → List ℕ → Option Operand
 enclosed mode ending text = not_pc (closed_in 41 ending text) >>= in_mode mode
 
 unfoldable pub literal_in : Form → List ℕ → Option Operand
-literal_in form text = if is_read form.access then (number_in text >>= if_below 64 >>= with_value 0 0) else None
+literal_in form text = if is_read form.access then (number_in text >>= if_below 64 >>= operand_of_value 0 0) else None
 
 -- a number in a field of so many bytes, as the value of a mode and a register
 abbrev pub valued_in : ℕ → ℕ → ℕ → List ℕ → Option Operand
-valued_in size mode reg text = field_in size text >>= with_value mode reg
+valued_in size mode reg text = field_in size text >>= operand_of_value mode reg
 
 abbrev pub immediate_in : Form → List ℕ → Option Operand
 immediate_in form text = valued_in (size_of form.width) 8 15 text
@@ -65,7 +65,7 @@ register_operand_in form text = not_pc (register_in text) >>= allowed form
 
 -- N(R), after B^ or the like; any register
 abbrev pub based : ℕ → ℕ → Cut → Option Operand
-based mode size c = field_in size c.before >>= λ value. closed_in 41 [] c.behind >>= λ reg. with_value mode reg value
+based mode size c = field_in size c.before >>= λ value. closed_in 41 [] c.behind >>= λ reg. operand_of_value mode reg value
 
 -- N(R) or NAME, in a mode with so many bytes
 unfoldable pub displaced_in : ℕ → ℕ → List ℕ → Option Operand
@@ -129,8 +129,8 @@ abbrev pub before_comma : List ℕ → List ℕ
 before_comma text = elim (cut_at 44 text) [ None ↦ text | Some c ↦ c.before ]
 
 -- what follows a comma, None where there is none
-abbrev pub behind_comma : List ℕ → Option (List ℕ)
-behind_comma text = elim (cut_at 44 text) [ None ↦ None | Some c ↦ Some (c.behind) ]
+abbrev pub text_after_comma : List ℕ → Option (List ℕ)
+text_after_comma text = elim (cut_at 44 text) [ None ↦ None | Some c ↦ Some (c.behind) ]
 
 abbrev pub following : Operand → Option (List Operand) → Option (List Operand)
 following o others = others >>= λ os. Some (o ∷ os)
@@ -140,4 +140,4 @@ abbrev pub operands_in : List Form → Option (List ℕ) → Option (List Operan
 operands_in [] None = Some []
 operands_in [] (Some text) = None
 operands_in (f ∷ fs) None = None
-operands_in (f ∷ fs) (Some text) = operand_in f (before_comma text) >>= λ o. following o (operands_in fs (behind_comma text))
+operands_in (f ∷ fs) (Some text) = operand_in f (before_comma text) >>= λ o. following o (operands_in fs (text_after_comma text))

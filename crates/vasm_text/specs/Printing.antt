@@ -52,10 +52,10 @@ unfoldable pub operand_text : Form → Spec → List ℕ
 operand_text form s = if is_branch form.access then field_text (size_of form.width) s.value else specifier_text form s ++ index_text s.index
 
 -- operands, the first after a mark and each other after a comma (44)
-abbrev pub behind_mark : ℕ → List Form → List Spec → List ℕ
-behind_mark mark [] ss = []
-behind_mark mark (f ∷ fs) [] = []
-behind_mark mark (f ∷ fs) (s ∷ ss) = mark ∷ (operand_text f s ++ behind_mark 44 fs ss)
+abbrev pub text_after_mark : ℕ → List Form → List Spec → List ℕ
+text_after_mark mark [] ss = []
+text_after_mark mark (f ∷ fs) [] = []
+text_after_mark mark (f ∷ fs) (s ∷ ss) = mark ∷ (operand_text f s ++ text_after_mark 44 fs ss)
 
 abbrev pub name_text : Option (List ℕ) → List ℕ
 name_text None = []
@@ -63,7 +63,7 @@ name_text (Some name) = name
 
 -- its name, and after a blank (32) its operands
 unfoldable pub instruction_text : ℕ → List Spec → List ℕ
-instruction_text opcode ss = name_text (mnemonic_of opcode) ++ behind_mark 32 (forms_of opcode) ss
+instruction_text opcode ss = name_text (mnemonic_of opcode) ++ text_after_mark 32 (forms_of opcode) ss
 
 -- a byte by itself
 unfoldable pub byte_text : ℕ → List ℕ

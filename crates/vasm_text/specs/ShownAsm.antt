@@ -8,13 +8,13 @@ use Rattle.vasm_text.specs.declared.fault.AsmKind.TheVariants.{BadLine, TwiceNam
 use Rattle.vasm_text.specs.Mnemonics.{mnemonic_of, opcode_of}
 use Rattle.vasm_text.specs.Numbers.{number_in, field_in, register_in}
 use Rattle.vasm_text.specs.Operands.{closed_in, literal_in, displaced_in, displacement_in, deferred_in, direct_in, specifier_in, value_in, operand_in}
-use Rattle.vasm_text.specs.Statements.{forms_of, words_in, statement_in, content_in, line_in}
+use Rattle.vasm_text.specs.Statements.{forms_of, words_in, statement_in, content_in, source_line_in}
 use Rattle.vasm_text.specs.Asm.{statement_size, resolved, statement_bytes, asm_of}
 
 -- Assembling with all that it computes with: the examples unfold this one name.
 whole_asm : List ℕ → Result (List ℕ) AsmFault
 unfolding
-    asm_of statement_bytes resolved statement_size line_in content_in statement_in words_in forms_of
+    asm_of statement_bytes resolved statement_size source_line_in content_in statement_in words_in forms_of
     operand_in value_in specifier_in direct_in deferred_in displacement_in displaced_in literal_in closed_in
     register_in field_in number_in opcode_of mnemonic_of row_of spelled spelled_specifier value_size
 whole_asm text = asm_of text

@@ -4,11 +4,11 @@
 use Rattle.std.specs.Prelude.{ℕ, List, [], ◌∷◌, codes, bytes_eq, if◌then◌else◌, Option, Some, None}
 use Rattle.vv_base.specs.Names.{is_object_name}
 use Rattle.vax_table.specs.declared.forms.Form.{Form}
-use Rattle.vax_table.specs.Rows.{Entry, row_of}
+use Rattle.vax_table.specs.Rows.{OpcodeEntry, row_of}
 use Rattle.vasm_text.specs.Cutting.{◌>>=◌, cut, cut_at, is_blank, trimmed}
 use Rattle.vasm_text.specs.Mnemonics.{opcode_of}
 use Rattle.vasm_text.specs.Numbers.{field_in}
-use Rattle.vasm_text.specs.Operands.{Operand, plain, value_in, operands_in}
+use Rattle.vasm_text.specs.Operands.{Operand, unnamed_operand, value_in, operands_in}
 
 -- a value in so many bytes, or an opcode and its operands
 pub data Statement : Type 0 where
@@ -16,21 +16,21 @@ pub data Statement : Type 0 where
   Instruct : ℕ → List Operand → Statement
 
 -- what it labels, and what it says
-pub record Line : Type 0 where
+pub record SourceLine : Type 0 where
   pub label : Option (List ℕ)
   pub statement : Option Statement
 
-abbrev pub operands_of : Option Entry → List Form
-operands_of None = []
-operands_of (Some e) = e.operands
+abbrev pub operand_forms : Option OpcodeEntry → List Form
+operand_forms None = []
+operand_forms (Some e) = e.operands
 
 -- the forms of an instruction's operands
 unfoldable pub forms_of : ℕ → List Form
-forms_of opcode = operands_of (row_of opcode)
+forms_of opcode = operand_forms (row_of opcode)
 
 -- a number in so many bytes
 abbrev pub number_field_in : ℕ → List ℕ → Option Statement
-number_field_in size text = field_in size text >>= λ n. Some (Field size (plain 16 0 n))
+number_field_in size text = field_in size text >>= λ n. Some (Field size (unnamed_operand 16 0 n))
 
 -- a number or a name in four bytes
 abbrev pub long_field_in : List ℕ → Option Statement
@@ -52,23 +52,23 @@ statement_in text = elim (cut is_blank text) [
   | Some c ↦ words_in c.before (Some (c.behind))
 ]
 
-abbrev pub saying : Option (List ℕ) → List ℕ → Option Line
+abbrev pub saying : Option (List ℕ) → List ℕ → Option SourceLine
 saying label text = statement_in text >>= λ s. Some (record { label = label; statement = Some s })
 
 -- exactly one blank comes after a label
-abbrev pub behind_label : List ℕ → List ℕ → Option Line
-behind_label name [] = Some (record { label = Some name; statement = None })
-behind_label name (b ∷ text) = if is_blank b then saying (Some name) text else None
+abbrev pub after_label : List ℕ → List ℕ → Option SourceLine
+after_label name [] = Some (record { label = Some name; statement = None })
+after_label name (b ∷ text) = if is_blank b then saying (Some name) text else None
 
-abbrev pub unlabelled : List ℕ → Option Line
+abbrev pub unlabelled : List ℕ → Option SourceLine
 unlabelled [] = Some (record { label = None; statement = None })
 unlabelled (b ∷ text) = saying None (b ∷ text)
 
 -- 58 is the colon
-unfoldable pub content_in : List ℕ → Option Line
+unfoldable pub content_in : List ℕ → Option SourceLine
 content_in text = elim (cut_at 58 text) [
   | None ↦ unlabelled text
-  | Some c ↦ if is_object_name c.before then behind_label c.before c.behind else None
+  | Some c ↦ if is_object_name c.before then after_label c.before c.behind else None
 ]
 
 -- what comes before the first semicolon (59)
@@ -76,5 +76,5 @@ abbrev pub before_comment : List ℕ → List ℕ
 before_comment text = elim (cut_at 59 text) [ None ↦ text | Some c ↦ c.before ]
 
 -- what a line says; None where it is of no form
-unfoldable pub line_in : List ℕ → Option Line
-line_in text = content_in (trimmed (before_comment text))
+unfoldable pub source_line_in : List ℕ → Option SourceLine
+source_line_in text = content_in (trimmed (before_comment text))

@@ -1,5 +1,5 @@
 ghost use Rattle.std.specs.Prelude.{◌≡◌, option_map};
-ghost use Rattle.vasm_text.specs.Mnemonics.{is_named, mnemonic_of, opcode_of};
+ghost use Rattle.vasm_text.specs.Mnemonics.{has_name, mnemonic_of, opcode_of};
 ghost use Rattle.vasm_text.specs.Table.{AreNames};
 
 use crate::table::NAMES;
@@ -23,7 +23,7 @@ pub fn mnemonic(opcode: u8) -> Option<&'static str>
 
 /// Whether an opcode's instruction has the name.
 fn is_named(opcode: u8, name: &[u8]) -> bool
-    ensures { result ≡ is_named name.now (mnemonic_of opcode) }
+    ensures { result ≡ has_name name.now (mnemonic_of opcode) }
 {
     match mnemonic(opcode) {
         Some(known) => known.as_bytes() == name,

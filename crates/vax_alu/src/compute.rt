@@ -1,6 +1,6 @@
 ghost use Rattle.std.specs.Prelude.{◌≡◌, ◌≢◌, ◌^◌, ◌<◌, ◌*ℤ◌, false};
 ghost use Rattle.vv_base.specs.Width.{bits_of, signed_of};
-ghost use Rattle.vax_table.specs.Arithmetic.{alu_of, answered, carry_of, comparison_of, difference_of, exactly, negation_of, plainly, psw_with, quotient_of, rotated, shifted, sum_of, traps_overflow, valued};
+ghost use Rattle.vax_table.specs.Arithmetic.{alu_of, alu_of_result, carry_of, comparison_of, difference_of, exactly, logical_result, negation_of, psw_with, quotient_of, rotated, shifted, sum_of, traps_overflow, valued};
 
 use crate::exact::{
     borrows, carries, complement, fits, low_bits, minus, negative, plus, power_of_two, quotient,
@@ -37,7 +37,7 @@ fn with_codes(psw: u8, n: bool, z: bool, v: bool, c: bool) -> u8
 #[inline]
 fn valued(value: u32, w: Width, v: bool, c: bool, psw: u8) -> Alu
     requires { w ≢ Width.Quad }
-    ensures { result ≡ answered (valued w value v c) psw }
+    ensures { result ≡ alu_of_result (valued w value v c) psw }
 {
     let n = span(w) / 2 <= i64::from(value);
     Alu {
@@ -55,7 +55,7 @@ fn valued(value: u32, w: Width, v: bool, c: bool, psw: u8) -> Alu
 #[inline]
 fn exact(x: i64, w: Width, c: bool, psw: u8) -> Alu
     requires { w ≢ Width.Quad }
-    ensures { result ≡ answered (exactly w x c) psw }
+    ensures { result ≡ alu_of_result (exactly w x c) psw }
 {
     valued(reduce(x, w), w, !fits(x, w), c, psw)
 }
@@ -64,7 +64,7 @@ fn exact(x: i64, w: Width, c: bool, psw: u8) -> Alu
 #[inline]
 fn plain(value: u32, w: Width, psw: u8) -> Alu
     requires { w ≢ Width.Quad }
-    ensures { result ≡ answered (plainly w value (carry_of psw)) psw }
+    ensures { result ≡ alu_of_result (logical_result w value (carry_of psw)) psw }
 {
     valued(value, w, false, carry_of(psw), psw)
 }
@@ -74,7 +74,7 @@ fn plain(value: u32, w: Width, psw: u8) -> Alu
 #[inline]
 fn sum(a: u32, b: u32, c: bool, w: Width, psw: u8) -> Alu
     requires { w ≢ Width.Quad }
-    ensures { result ≡ answered (sum_of w a b c) psw }
+    ensures { result ≡ alu_of_result (sum_of w a b c) psw }
 {
     let x = plus(signed(b, w), signed(a, w), c);
     exact(x, w, carries(low_bits(b, w), low_bits(a, w), c, w), psw)
@@ -85,7 +85,7 @@ fn sum(a: u32, b: u32, c: bool, w: Width, psw: u8) -> Alu
 #[inline]
 fn difference(a: u32, b: u32, c: bool, w: Width, psw: u8) -> Alu
     requires { w ≢ Width.Quad }
-    ensures { result ≡ answered (difference_of w a b c) psw }
+    ensures { result ≡ alu_of_result (difference_of w a b c) psw }
 {
     let x = minus(signed(b, w), signed(a, w), c);
     exact(x, w, borrows(low_bits(b, w), low_bits(a, w), c), psw)
@@ -96,7 +96,7 @@ fn difference(a: u32, b: u32, c: bool, w: Width, psw: u8) -> Alu
 #[inline]
 fn product(a: u32, b: u32, w: Width, psw: u8) -> Alu
     requires { w ≢ Width.Quad }
-    ensures { result ≡ answered (exactly w (signed_of w b *ℤ signed_of w a) false) psw }
+    ensures { result ≡ alu_of_result (exactly w (signed_of w b *ℤ signed_of w a) false) psw }
 {
     exact(times(signed(b, w), i64::from(signed(a, w))), w, false, psw)
 }
@@ -105,7 +105,7 @@ fn product(a: u32, b: u32, w: Width, psw: u8) -> Alu
 #[tactic(auto, using(crate::proofs::Casts::casts))]
 fn divide(a: u32, b: u32, w: Width, psw: u8) -> Alu
     requires { w ≢ Width.Quad }
-    ensures { result ≡ answered (quotient_of w a b) psw }
+    ensures { result ≡ alu_of_result (quotient_of w a b) psw }
 {
     if low_bits(a, w) == 0 {
         Alu {
@@ -122,7 +122,7 @@ fn divide(a: u32, b: u32, w: Width, psw: u8) -> Alu
 #[inline]
 fn negate(a: u32, w: Width, psw: u8) -> Alu
     requires { w ≢ Width.Quad }
-    ensures { result ≡ answered (negation_of w a) psw }
+    ensures { result ≡ alu_of_result (negation_of w a) psw }
 {
     let x = negative(signed(a, w));
     exact(x, w, reduce(x, w) != 0, psw)
@@ -133,7 +133,7 @@ fn negate(a: u32, w: Width, psw: u8) -> Alu
 #[inline]
 fn compare(a: u32, b: u32, w: Width, psw: u8) -> Alu
     requires { w ≢ Width.Quad }
-    ensures { result ≡ answered (comparison_of w a b) psw }
+    ensures { result ≡ alu_of_result (comparison_of w a b) psw }
 {
     let n = signed(a, w) < signed(b, w);
     let (first, second) = (low_bits(a, w), low_bits(b, w));
@@ -148,7 +148,7 @@ fn compare(a: u32, b: u32, w: Width, psw: u8) -> Alu
 #[tactic(auto, using(crate::proofs::Casts::casts))]
 fn shift(b: u32, count: i32, w: Width, psw: u8) -> Alu
     requires { w ≢ Width.Quad }
-    ensures { result ≡ answered (exactly w (shifted (signed_of w b) count) false) psw }
+    ensures { result ≡ alu_of_result (exactly w (shifted (signed_of w b) count) false) psw }
 {
     let x = signed(b, w);
     let by = count.unsigned_abs();

@@ -5,7 +5,7 @@ use Rattle.std.proofs.lemmas.Bool.{cond_both}
 use Rattle.std.proofs.lemmas.Bool.Decides.{nat_tests}
 use Rattle.vv_base.specs.Bytes.{long_at}
 use Rattle.vax_arch.specs.Fields.{frame_of, is_valid}
-use Rattle.vax_arch.specs.Walk.{Tables, behind_table, in_memory, in_region, is_past, lookup, mapped_entry, page_of, process_entry, region_of, system_entry}
+use Rattle.vax_arch.specs.Walk.{Tables, in_memory, in_region, is_past, lookup, mapped_entry, page_of, process_entry, region_of, system_entry, through_system_entry}
 use Rattle.vax_arch.specs.WalkLaws.{AreAligned, IsAligned, IsInside, LooksAligned, LooksAtOne, LooksInside, OptionAligned, OptionInside, table_at, table_place}
 use Rattle.vax_arch.specs.declared.walk.Lookup.{Lookup}
 use Rattle.vax_arch.specs.declared.walk.Lookup.TheVariants.{Beyond, Direct, Fails, Found}
@@ -27,7 +27,7 @@ table_small = omega arith
 absent_small : 2 < 4
 absent_small = omega arith
 
-behind_inside : (size : ℕ) (memory : List ℕ) (at table : ℕ) → IsInside size (behind_table size memory at table)
+behind_inside : (size : ℕ) (memory : List ℕ) (at table : ℕ) → IsInside size (through_system_entry size memory at table)
 behind_inside size memory at table =
     let P = IsInside size in
     let entry = long_at memory table in
@@ -74,7 +74,7 @@ wrapped a b e = grind arith
 in_frame : (f at : ℕ) → at % 4 ≡ 0 → (512 * f + at % 512) % 4 ≡ 0
 in_frame f at e = grind arith
 
-behind_aligned : (size : ℕ) (memory : List ℕ) (at table : ℕ) → at % 4 ≡ 0 → table % 4 ≡ 0 → IsAligned (behind_table size memory at table)
+behind_aligned : (size : ℕ) (memory : List ℕ) (at table : ℕ) → at % 4 ≡ 0 → table % 4 ≡ 0 → IsAligned (through_system_entry size memory at table)
 behind_aligned size memory at table a h =
     let entry = long_at memory table in
     cond_both (is_past size table 4) Beyond _ IsAligned (λ e. tt) (λ e.
@@ -108,7 +108,7 @@ looks_aligned size memory t page h =
 
 -- One longword decides.
 
-behind_same : (size : ℕ) (memory other : List ℕ) (at table : ℕ) → long_at other table ≡ long_at memory table → behind_table size other at table ≡ behind_table size memory at table
+behind_same : (size : ℕ) (memory other : List ℕ) (at table : ℕ) → long_at other table ≡ long_at memory table → through_system_entry size other at table ≡ through_system_entry size memory at table
 behind_same size memory other at table e =
     let by : ℕ → Lookup = λ entry. if is_past size table 4 then Beyond else if not (is_valid entry) then Fails true 2 else if is_past size (512 * frame_of entry) 512 then Beyond else in_memory size (Some table) (512 * frame_of entry + at % 512) in
     ap by e

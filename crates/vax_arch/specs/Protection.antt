@@ -12,48 +12,48 @@ pub data Rights : Type 0 where
   r : Rights
   rw : Rights
 
-abbrev pub allows : Rights → Intent → Bool
-allows no i = false
-allows r Read = true
-allows r Write = false
-allows rw i = true
+abbrev pub rights_allow : Rights → Intent → Bool
+rights_allow no i = false
+rights_allow r Read = true
+rights_allow r Write = false
+rights_allow rw i = true
 
 -- a row of the table: the rights of each mode
-pub record Line : Type 0 where
+pub record ProtectionRow : Type 0 where
   pub kernel : Rights
   pub executive : Rights
   pub supervisor : Rights
   pub user : Rights
 
-abbrev pub line : Rights → Rights → Rights → Rights → Line
-line k e s u = record { kernel = k; executive = e; supervisor = s; user = u }
+abbrev pub protection_row : Rights → Rights → Rights → Rights → ProtectionRow
+protection_row k e s u = record { kernel = k; executive = e; supervisor = s; user = u }
 
 -- the sixteen codes, from 0 on (profile: code 1, which the manual reserves, gives no rights)
-abbrev pub lines : List Line
-lines =
-    line no no no no  -- 0 NA
-    ∷ line no no no no  -- 1
-    ∷ line rw no no no  -- 2 KW
-    ∷ line r no no no  -- 3 KR
-    ∷ line rw rw rw rw  -- 4 UW
-    ∷ line rw rw no no  -- 5 EW
-    ∷ line rw r no no  -- 6 ERKW
-    ∷ line r r no no  -- 7 ER
-    ∷ line rw rw rw no  -- 8 SW
-    ∷ line rw rw r no  -- 9 SREW
-    ∷ line rw r r no  -- 10 SRKW
-    ∷ line r r r no  -- 11 SR
-    ∷ line rw rw rw r  -- 12 URSW
-    ∷ line rw rw r r  -- 13 UREW
-    ∷ line rw r r r  -- 14 URKW
-    ∷ line r r r r  -- 15 UR
+abbrev pub protection_rows : List ProtectionRow
+protection_rows =
+    protection_row no no no no  -- 0 NA
+    ∷ protection_row no no no no  -- 1
+    ∷ protection_row rw no no no  -- 2 KW
+    ∷ protection_row r no no no  -- 3 KR
+    ∷ protection_row rw rw rw rw  -- 4 UW
+    ∷ protection_row rw rw no no  -- 5 EW
+    ∷ protection_row rw r no no  -- 6 ERKW
+    ∷ protection_row r r no no  -- 7 ER
+    ∷ protection_row rw rw rw no  -- 8 SW
+    ∷ protection_row rw rw r no  -- 9 SREW
+    ∷ protection_row rw r r no  -- 10 SRKW
+    ∷ protection_row r r r no  -- 11 SR
+    ∷ protection_row rw rw rw r  -- 12 URSW
+    ∷ protection_row rw rw r r  -- 13 UREW
+    ∷ protection_row rw r r r  -- 14 URKW
+    ∷ protection_row r r r r  -- 15 UR
     ∷ []
 
-abbrev pub line_or_none : Option Line → Line
-line_or_none None = line no no no no
-line_or_none (Some l) = l
+abbrev pub row_or_none : Option ProtectionRow → ProtectionRow
+row_or_none None = protection_row no no no no
+row_or_none (Some l) = l
 
-abbrev pub rights_in : Line → Mode → Rights
+abbrev pub rights_in : ProtectionRow → Mode → Rights
 rights_in l Kernel = l.kernel
 rights_in l Executive = l.executive
 rights_in l Supervisor = l.supervisor
@@ -61,4 +61,4 @@ rights_in l User = l.user
 
 -- whether the table allows it to a mode
 abbrev pub may_of : ℕ → Mode → Intent → Bool
-may_of code m i = allows (rights_in (line_or_none (slice_get lines code)) m) i
+may_of code m i = rights_allow (rights_in (row_or_none (slice_get protection_rows code)) m) i

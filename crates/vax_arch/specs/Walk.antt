@@ -46,8 +46,8 @@ system_entry size t page =
     in_memory size None (t.sbr + 4 * page)
 
 -- after the system entry of the page that holds a process entry: its protection isn't asked
-abbrev pub behind_table : ℕ → List ℕ → ℕ → ℕ → Lookup
-behind_table size memory at table =
+abbrev pub through_system_entry : ℕ → List ℕ → ℕ → ℕ → Lookup
+through_system_entry size memory at table =
     let entry = long_at memory table in
     if is_past size table 4 then Beyond else
     if not (is_valid entry) then Fails true 2 else
@@ -58,7 +58,7 @@ behind_table size memory at table =
 unfoldable pub process_entry : ℕ → List ℕ → Tables → ℕ → Lookup
 process_entry size memory t at =
     if not (region_of (page_of at) == 2) || nat_le t.slr (in_region (page_of at)) then Fails false 3 else
-    behind_table size memory at (t.sbr + 4 * in_region (page_of at))
+    through_system_entry size memory at (t.sbr + 4 * in_region (page_of at))
 
 -- P0 grows up from its base, and P1 down to its length
 abbrev pub process_page : ℕ → List ℕ → Tables → (base page : ℕ) → Lookup

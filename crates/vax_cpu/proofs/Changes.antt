@@ -8,11 +8,11 @@ use Rattle.vax_table.specs.Branches.{branched, holds}
 use Rattle.vax_table.specs.Claims.{Holds}
 use Rattle.vax_table.specs.Computing.{computed}
 use Rattle.vax_table.specs.Effects.{Effect, begun, dest_of, put, went_if}
-use Rattle.vax_table.specs.Operand.{behind_bytes, forms_in, indexed_by, no_operands, operand_of, operands_of, with_operand}
+use Rattle.vax_table.specs.Operand.{forms_in, indexed_by, no_operands, operand_of, operands_of, past_own_bytes, with_operand}
 use Rattle.vax_table.specs.Operations.{operation_of}
 use Rattle.vax_table.specs.Plan.{performed, planned}
 use Rattle.vax_table.specs.Rows.{row_of}
-use Rattle.vax_table.specs.Script.{Space, outcome}
+use Rattle.vax_table.specs.Interaction.{Space, outcome}
 use Rattle.vax_table.specs.Spelling.{Instruction}
 use Rattle.vax_table.specs.declared.act.Dest.{Dest}
 use Rattle.vax_table.specs.declared.act.Dest.TheVariants.{Nowhere, Register, Memory}
@@ -35,7 +35,7 @@ use Rattle.vax_operand.specs.declared.prepared.Operand.{Operand}
 use Rattle.vax_operand.specs.Prepared.{address_by, base_by, operand_by}
 use Rattle.vax_operand.proofs.Preparing.{prepared_same}
 use Rattle.vax_operand.proofs.Steps.{left_from}
-use Rattle.vax_cpu.specs.Changed.{AreAlikeBut, all_leave_registers, changed_register, is_still, leaves_registers, register_at, register_of, result_register, target_register}
+use Rattle.vax_cpu.specs.Changed.{AreAlikeBut, all_leave_registers, changed_register, is_still, leaves_registers, operand_register, register_at, result_register, target_register}
 
 -- R0 to R14 are alike
 abbrev AreAlike : List ℕ → List ℕ → Type 0
@@ -78,7 +78,7 @@ address_leaves b size s r cs h = holds-bind (PlaceLeaves r) (PlaceLeaves r) cs (
 abbrev IsLeft : List ℕ → ℕ → List ℕ → Evaluated → Type 0
 IsLeft r n cs e = (e.r ≡ r) × IsAt n e.dest
 
-kind_leaves : (k : Kind) (w : Width) (s : Spec) (r cs : List ℕ) → leaves_registers k ≡ true → Holds (IsLeft r (register_of k s.reg)) cs (operand_by k w s r)
+kind_leaves : (k : Kind) (w : Width) (s : Spec) (r cs : List ℕ) → leaves_registers k ≡ true → Holds (IsLeft r (operand_register k s.reg)) cs (operand_by k w s r)
 unfolding operand_by
 kind_leaves Constant w s r cs h = (refl, tt)
 kind_leaves ReadRegister w s r cs h = (refl, tt)
@@ -96,13 +96,13 @@ kind_leaves (Bits b) w s r cs h = holds-bind (PlaceLeaves r) (IsLeft r 0) cs (ad
 abbrev IsBehind : List ℕ → ℕ → List ℕ → Evaluated → Type 0
 IsBehind r n cs e = AreAlike r e.r × IsAt n e.dest
 
-operand_leaves : (x : Operand) (r cs : List ℕ) → leaves_registers x.kind ≡ true → Holds (IsBehind r (register_of x.kind x.spec.reg)) cs (operand_of x.form x.spec r)
+operand_leaves : (x : Operand) (r cs : List ℕ) → leaves_registers x.kind ≡ true → Holds (IsBehind r (operand_register x.kind x.spec.reg)) cs (operand_of x.form x.spec r)
 operand_leaves x r cs h =
-    let n = register_of x.kind x.spec.reg in
-    let m = operand_by x.kind x.form.width x.spec (behind_bytes x.length r) in
-    let left : Holds (IsLeft (behind_bytes x.length r) n) cs m = kind_leaves x.kind x.form.width x.spec (behind_bytes x.length r) cs h in
+    let n = operand_register x.kind x.spec.reg in
+    let m = operand_by x.kind x.form.width x.spec (past_own_bytes x.length r) in
+    let left : Holds (IsLeft (past_own_bytes x.length r) n) cs m = kind_leaves x.kind x.form.width x.spec (past_own_bytes x.length r) cs h in
     subst (Holds (IsBehind r n) cs) (prepared_same x.form x.spec x.kind x.length r x.prepared x.bytes)
-    (holds_then (IsLeft (behind_bytes x.length r) n) (IsBehind r n) cs m left (λ ds e p. (subst (AreAlike r) (sym p.0) (pc_alone r _), p.1)))
+    (holds_then (IsLeft (past_own_bytes x.length r) n) (IsBehind r n) cs m left (λ ds e p. (subst (AreAlike r) (sym p.0) (pc_alone r _), p.1)))
 
 put_at : (ds : List Dest) (i t n : ℕ) (d : Dest) → (i ≡ t → IsAt n d) → IsAt n (slice_index_or ds t Nowhere) → IsAt n (slice_index_or (slice_set ds i d) t Nowhere)
 put_at [] i t n d f h = h
@@ -124,7 +124,7 @@ from_leaves : (r : List ℕ) (t n i : ℕ) (xs : List Operand) (o : Operands) (c
 from_leaves r t n i [] o cs still named h = h
 from_leaves r t n i (x ∷ xs) o cs still named h =
     let parts = and_both (leaves_registers x.kind) (all_leave_registers xs) still in
-    holds-bind (IsBehind o.r (register_of x.kind x.spec.reg)) (AreBehind r t n) cs (operand_of x.form x.spec o.r) _ (operand_leaves x o.r cs parts.0)
+    holds-bind (IsBehind o.r (operand_register x.kind x.spec.reg)) (AreBehind r t n) cs (operand_of x.form x.spec o.r) _ (operand_leaves x o.r cs parts.0)
     (λ ds e p. from_leaves r t n (i + 1) xs (with_operand i o e) ds parts.1 (λ k g. named (suc k) (omega (arith, g)))
     ((λ j low. p.0 j low ∙ h.0 j low), put_at o.dests i t n e.dest (λ g. subst (λ (m : ℕ). IsAt m e.dest) (named 0 (omega (arith, g))) p.1) h.1))
 
@@ -139,7 +139,7 @@ operands_leave : (d : Instruction) (xs : List Operand) (r : List ℕ) (t : ℕ) 
     all_leave_registers xs ≡ true → Holds (AreBehind r t (register_at t xs)) [] (operands_of d r)
 unfolding operands_of
 operands_leave d xs r t f g still =
-    rw (sym f, sym g) (from_leaves r t (register_at t xs) 0 xs (no_operands (behind_bytes (if d.wait then 2 else 1) r)) [] still (λ k e. ap (λ (j : ℕ). register_at j xs) (omega (arith, e))) (pc_alone r _, nowhere t _))
+    rw (sym f, sym g) (from_leaves r t (register_at t xs) 0 xs (no_operands (past_own_bytes (if d.wait then 2 else 1) r)) [] still (λ k e. ap (λ (j : ℕ). register_at j xs) (omega (arith, e))) (pc_alone r _, nowhere t _))
 
 -- a result at such a destination
 put_alike : (r : List ℕ) (n : ℕ) (dest : Dest) (w : Width) (v : ℕ) (e : Effect) → w ≢ Quad → IsAt n dest → AreAlike r e.r → AreAlikeBut n r (put dest w v e).r

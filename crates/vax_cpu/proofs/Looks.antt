@@ -13,11 +13,11 @@ use Rattle.vax_table.specs.declared.act.Refusal.{Refusal}
 use Rattle.vax_table.specs.declared.act.Refusal.TheVariants as refusals
 use Rattle.vax_table.specs.Fetch.{by_answer, decided}
 use Rattle.vax_table.specs.Reading.{Answer, Whole, Short, Unknown, Reserved, decoded_at}
-use Rattle.vax_table.specs.Script.{Script, Space, Done, Refuse, Trouble, outcome, bind_result, number_at, with_byte}
+use Rattle.vax_table.specs.Interaction.{Interaction, Space, Done, Refuse, Trouble, outcome, bind_result, number_at, with_byte}
 use Rattle.vax_table.specs.Spelling.{Instruction, view}
 use Rattle.vax_table.specs.declared.decoded.Decoded.{Decoded}
 
-whole_by : (more : List ℕ → Script Instruction) (at : ℕ) (bytes : List ℕ) (d : Decoded) (a : Answer) → IsWhole d a → by_answer more at bytes a ≡ Done (view d)
+whole_by : (more : List ℕ → Interaction Instruction) (at : ℕ) (bytes : List ℕ) (d : Decoded) (a : Answer) → IsWhole d a → by_answer more at bytes a ≡ Done (view d)
 whole_by more at bytes d (Whole e rest) h = ap Done h
 whole_by more at bytes d Short h = absurd h
 whole_by more at bytes d Unknown h = absurd h
@@ -31,7 +31,7 @@ whole s (suc n) at bytes told r d some same h e =
     let here : by_answer (decided n at) at bytes (decoded_at bytes) ≡ Done (view d) = ap (λ x. by_answer (decided n at) at bytes (decoded_at x)) (sym same) ∙ whole_by (decided n at) at bytes d (decoded_at told) h in
     ap (λ x. exits (outcome s x)) (sym here) ∙ ap exits e
 
-fault_by : (more : List ℕ → Script Instruction) (at : ℕ) (bytes : List ℕ) (f : DecodeFault) (a : Answer) → IsAnswer (Fault f) a → by_answer more at bytes a ≡ Refuse (refusal_of f)
+fault_by : (more : List ℕ → Interaction Instruction) (at : ℕ) (bytes : List ℕ) (f : DecodeFault) (a : Answer) → IsAnswer (Fault f) a → by_answer more at bytes a ≡ Refuse (refusal_of f)
 fault_by more at bytes Opcode a h = ap (by_answer more at bytes) h
 fault_by more at bytes Addressing a h = ap (by_answer more at bytes) h
 

@@ -1,8 +1,8 @@
 -- One instruction, by what was found.
 use Rattle.std.proofs.Common.{◌≡◌, ℕ, suc, ◌%◌, ◌^◌, Bool, true, List, [], Option, Some, None, Result, Ok, Err, refl, ap, sym, ◌∙◌, subst, slice_index}
 use Rattle.vax_arch.specs.declared.mode.Intent.{Intent}
-use Rattle.vax_hw.specs.Machine.{Machine, is_clear, psw_of, retire, seen_psl, space_of, tables_of}
-use Rattle.vax_hw.specs.Real.{by_try, going_on, in_kernel, misses_after, one, probed_as, real}
+use Rattle.vax_hw.specs.Machine.{Machine, is_real_bit_clear, machine_space, machine_tables, psw_of, retire, seen_psl}
+use Rattle.vax_hw.specs.Real.{going_on, in_kernel, machine_step, misses_after, real, retired_by_probe, retired_by_try}
 use Rattle.vax_hw.specs.RealTables.{real_probe}
 use Rattle.vax_hw.specs.declared.world.Exit.{Exit}
 use Rattle.vax_hw.specs.declared.world.Exit.TheVariants.{Arithmetic}
@@ -12,7 +12,7 @@ use Rattle.vax_table.specs.PlanLaws.{bytes_of_stores}
 use Rattle.vax_table.specs.declared.effect.Plan.{Plan}
 use Rattle.vax_table.specs.declared.evaluation.Operands.{Operands}
 use Rattle.vax_table.specs.Fetch.{fetched}
-use Rattle.vax_table.specs.Script.{AsFar, Done, Script, Space, Trouble, bind_result, outcome, ◌>>=◌}
+use Rattle.vax_table.specs.Interaction.{AsFar, Done, Interaction, Space, Trouble, bind_result, outcome, ◌>>=◌}
 use Rattle.vax_table.specs.Spelling.{Instruction}
 use Rattle.vax_table.specs.Operations.{operation_of}
 use Rattle.vax_table.specs.Plan.{is_planned, plan_of, planned}
@@ -21,9 +21,9 @@ use Rattle.vax_table.specs.declared.meaning.Operation.TheVariants as does
 use Rattle.vax_table.proofs.Plans.{plans_planned}
 use Rattle.vax_table.proofs.Scripts.{outcome-bind, outcome_far}
 use Rattle.vax_table.specs.Tries.{first_clear, tried, tried_by, unless_clear}
-use Rattle.vax_table.specs.Whole.{Act, Meant, Plain, Probes, Traps, acted, acted_by, instruction, meant, plainly}
+use Rattle.vax_table.specs.Whole.{Act, Meant, Plain, Probes, Traps, acted, acted_by, instruction, meant, plain_meaning}
 use Rattle.vax_table.proofs.Tries.{tries_stores}
-use Rattle.vax_cpu.specs.Completed.{behind, by_judgement, completed, completed_by, retired_by, retired_from, settled, settled_meaning, unless_modified, with_opcode, with_registers}
+use Rattle.vax_cpu.specs.Completed.{by_judgement, completed, completed_but_registers, completed_by, retired_by, retired_from, settled, settled_meaning, unless_modified, with_opcode, with_registers}
 use Rattle.vax_cpu.specs.Fetched.{exits}
 use Rattle.vax_paged.specs.Known.{AreKnown, known_space}
 use Rattle.vax_paged.specs.Paged.{is_clear_for, paged}
@@ -32,39 +32,39 @@ use Rattle.vax_hw.specs.declared.world.World.{World}
 use Rattle.vax_paged.proofs.Knowing.{known_below}
 use Rattle.vax_cpu.proofs.Quiet.{found_claims}
 
-on_act : (m : Machine) (opcode : ℕ) (a : Act) → outcome (space_of m) (instruction (in_kernel m.world) (seen_psl m.world) m.world.r) ≡ Ok (meant opcode a) →
-    by_try m (tried (space_of m) (is_clear m) (instruction (in_kernel m.world) (seen_psl m.world) m.world.r)) ≡ completed m opcode a
-on_act m opcode (Plain e) h = ap (by_try m) (tries_stores (in_kernel m.world) (seen_psl m.world) m.world.r (space_of m) (is_clear m) opcode e h)
+on_act : (m : Machine) (opcode : ℕ) (a : Act) → outcome (machine_space m) (instruction (in_kernel m.world) (seen_psl m.world) m.world.r) ≡ Ok (meant opcode a) →
+    retired_by_try m (tried (machine_space m) (is_real_bit_clear m) (instruction (in_kernel m.world) (seen_psl m.world) m.world.r)) ≡ completed m opcode a
+on_act m opcode (Plain e) h = ap (retired_by_try m) (tries_stores (in_kernel m.world) (seen_psl m.world) m.world.r (machine_space m) (is_real_bit_clear m) opcode e h)
 on_act m opcode (Traps t) h =
-    let none : claims (space_of m) (instruction (in_kernel m.world) (seen_psl m.world) m.world.r) ≡ [] = found_claims (in_kernel m.world) (seen_psl m.world) m.world.r (space_of m) (meant opcode (Traps t)) h in
-    ap (λ (r : Result Meant Trouble). by_try m (tried_by (is_clear m) (claims (space_of m) (instruction (in_kernel m.world) (seen_psl m.world) m.world.r)) r)) h
-    ∙ ap (λ (vas : List ℕ). by_try m (unless_clear (meant opcode (Traps t)) (first_clear (is_clear m) vas))) none
+    let none : claims (machine_space m) (instruction (in_kernel m.world) (seen_psl m.world) m.world.r) ≡ [] = found_claims (in_kernel m.world) (seen_psl m.world) m.world.r (machine_space m) (meant opcode (Traps t)) h in
+    ap (λ (r : Result Meant Trouble). retired_by_try m (tried_by (is_real_bit_clear m) (claims (machine_space m) (instruction (in_kernel m.world) (seen_psl m.world) m.world.r)) r)) h
+    ∙ ap (λ (vas : List ℕ). retired_by_try m (unless_clear (meant opcode (Traps t)) (first_clear (is_real_bit_clear m) vas))) none
 on_act m opcode (Probes i o) h =
-    let none : claims (space_of m) (instruction (in_kernel m.world) (seen_psl m.world) m.world.r) ≡ [] = found_claims (in_kernel m.world) (seen_psl m.world) m.world.r (space_of m) (meant opcode (Probes i o)) h in
-    ap (λ (r : Result Meant Trouble). by_try m (tried_by (is_clear m) (claims (space_of m) (instruction (in_kernel m.world) (seen_psl m.world) m.world.r)) r)) h
-    ∙ ap (λ (vas : List ℕ). by_try m (unless_clear (meant opcode (Probes i o)) (first_clear (is_clear m) vas))) none
+    let none : claims (machine_space m) (instruction (in_kernel m.world) (seen_psl m.world) m.world.r) ≡ [] = found_claims (in_kernel m.world) (seen_psl m.world) m.world.r (machine_space m) (meant opcode (Probes i o)) h in
+    ap (λ (r : Result Meant Trouble). retired_by_try m (tried_by (is_real_bit_clear m) (claims (machine_space m) (instruction (in_kernel m.world) (seen_psl m.world) m.world.r)) r)) h
+    ∙ ap (λ (vas : List ℕ). retired_by_try m (unless_clear (meant opcode (Probes i o)) (first_clear (is_real_bit_clear m) vas))) none
 
-on_outcome : (m : Machine) (r : Result Meant Trouble) → outcome (space_of m) (instruction (in_kernel m.world) (seen_psl m.world) m.world.r) ≡ r →
-    by_try m (tried (space_of m) (is_clear m) (instruction (in_kernel m.world) (seen_psl m.world) m.world.r)) ≡ completed_by m (exits r)
+on_outcome : (m : Machine) (r : Result Meant Trouble) → outcome (machine_space m) (instruction (in_kernel m.world) (seen_psl m.world) m.world.r) ≡ r →
+    retired_by_try m (tried (machine_space m) (is_real_bit_clear m) (instruction (in_kernel m.world) (seen_psl m.world) m.world.r)) ≡ completed_by m (exits r)
 on_outcome m (Ok x) h = on_act m x.opcode x.act h
-on_outcome m (Err t) h = ap (λ (r : Result Meant Trouble). by_try m (tried_by (is_clear m) (claims (space_of m) (instruction (in_kernel m.world) (seen_psl m.world) m.world.r)) r)) h
+on_outcome m (Err t) h = ap (λ (r : Result Meant Trouble). retired_by_try m (tried_by (is_real_bit_clear m) (claims (machine_space m) (instruction (in_kernel m.world) (seen_psl m.world) m.world.r)) r)) h
 
-pub one_ended : (m : Machine) → one m ≡ completed_by m (exits (outcome (paged m.memory m.world) (instruction (in_kernel m.world) (seen_psl m.world) m.world.r)))
-unfolding one
+pub one_ended : (m : Machine) → machine_step m ≡ completed_by m (exits (outcome (paged m.memory m.world) (instruction (in_kernel m.world) (seen_psl m.world) m.world.r)))
+unfolding machine_step
 one_ended m = on_outcome m _ refl
 
-by_clear : (m : Machine) (opcode : ℕ) (e : Effect) (x : Option ℕ) → by_try m (unless_clear (meant opcode (Plain e)) x) ≡ retired_by m opcode (unless_modified e x)
+by_clear : (m : Machine) (opcode : ℕ) (e : Effect) (x : Option ℕ) → retired_by_try m (unless_clear (meant opcode (Plain e)) x) ≡ retired_by m opcode (unless_modified e x)
 by_clear m opcode e None = refl
 by_clear m opcode e (Some va) = refl
 
-by_probe : (m : Machine) (opcode : ℕ) (i : Intent) (o : Operands) (x : Option Bool) → probed_as m opcode i o x ≡ retired_by m opcode (by_judgement i o (psw_of m.world) x)
+by_probe : (m : Machine) (opcode : ℕ) (i : Intent) (o : Operands) (x : Option Bool) → retired_by_probe m opcode i o x ≡ retired_by m opcode (by_judgement i o (psw_of m.world) x)
 by_probe m opcode i o (Some is_accessible) = refl
 by_probe m opcode i o None = refl
 
 completed_settled : (m : Machine) (opcode : ℕ) (a : Act) → completed m opcode a ≡ retired_by m opcode (settled m.memory m.world a)
 completed_settled m opcode (Plain e) = by_clear m opcode e (first_clear (is_clear_for m.memory m.world) (bytes_of_stores e.writes))
 completed_settled m opcode (Traps t) = refl
-completed_settled m opcode (Probes i o) = by_probe m opcode i o (real_probe m.memory (tables_of m.world) m.world.psl.0 i (long_of o 0) (long_of o 1) (long_of o 2))
+completed_settled m opcode (Probes i o) = by_probe m opcode i o (real_probe m.memory (machine_tables m.world) m.world.psl.0 i (long_of o 0) (long_of o 1) (long_of o 2))
 
 with_opcode_retired : (m : Machine) (opcode : ℕ) (x : Result Effect Exit) → retired_by m opcode x ≡ retired_from m (with_opcode opcode x)
 with_opcode_retired m opcode (Ok e) = refl
@@ -75,29 +75,29 @@ meaning_retired m (Ok meant) = completed_settled m meant.opcode meant.act ∙ wi
 meaning_retired m (Err e) = refl
 
 by_attempt : (m : Machine) (r : List ℕ) →
-    one (with_registers r m) ≡ retired_from (with_registers r m) (settled_meaning m.memory m.world (exits (outcome (paged m.memory m.world) (instruction (in_kernel m.world) (seen_psl m.world) r))))
+    machine_step (with_registers r m) ≡ retired_from (with_registers r m) (settled_meaning m.memory m.world (exits (outcome (paged m.memory m.world) (instruction (in_kernel m.world) (seen_psl m.world) r))))
 by_attempt m r = one_ended (with_registers r m) ∙ meaning_retired (with_registers r m) _
 
 -- an instruction that retires by a plan
 pub attempt_retires : (m after : Machine) (r : List ℕ) (opcode : ℕ) (p : Plan) →
     Ok (opcode, effect p) ≡ settled_meaning m.memory m.world (exits (outcome (paged m.memory m.world) (instruction (in_kernel m.world) (seen_psl m.world) r))) →
-    after ≡ behind (slice_index r 15) opcode (effect p) m → one (with_registers r m) ≡ Ok (record { machine = with_registers p.r after; trap = p.trap })
+    after ≡ completed_but_registers (slice_index r 15) opcode (effect p) m → machine_step (with_registers r m) ≡ Ok (record { machine = with_registers p.r after; trap = p.trap })
 unfolding retire
 attempt_retires m after r opcode p h e = by_attempt m r ∙ ap (retired_from (with_registers r m)) (sym h) ∙ rw e refl
 
 -- and one that doesn't retire
 pub attempt_stops : (m : Machine) (r : List ℕ) (e : Exit) →
-    Err e ≡ settled_meaning m.memory m.world (exits (outcome (paged m.memory m.world) (instruction (in_kernel m.world) (seen_psl m.world) r))) → one (with_registers r m) ≡ Err e
+    Err e ≡ settled_meaning m.memory m.world (exits (outcome (paged m.memory m.world) (instruction (in_kernel m.world) (seen_psl m.world) r))) → machine_step (with_registers r m) ≡ Err e
 attempt_stops m r e h = by_attempt m r ∙ ap (retired_from (with_registers r m)) (sym h)
 
 -- a run, by its first instruction
-pub runs_on : (n : ℕ) (m after : Machine) → one m ≡ Ok (record { machine = after; trap = None }) → real (suc n) m ≡ real n after
+pub runs_on : (n : ℕ) (m after : Machine) → machine_step m ≡ Ok (record { machine = after; trap = None }) → real (suc n) m ≡ real n after
 runs_on n m after h = ap (going_on (real n) m) h
 
-pub runs_to_trap : (n kind : ℕ) (m after : Machine) → one m ≡ Ok (record { machine = after; trap = Some kind }) → real (suc n) m ≡ (after, Arithmetic kind)
+pub runs_to_trap : (n kind : ℕ) (m after : Machine) → machine_step m ≡ Ok (record { machine = after; trap = Some kind }) → real (suc n) m ≡ (after, Arithmetic kind)
 runs_to_trap n kind m after h = ap (going_on (real n) m) h
 
-pub runs_to_stop : (n : ℕ) (m : Machine) (e : Exit) → one m ≡ Err e → real (suc n) m ≡ (record m { misses = misses_after m.misses e }, e)
+pub runs_to_stop : (n : ℕ) (m : Machine) (e : Exit) → machine_step m ≡ Err e → real (suc n) m ≡ (record m { misses = misses_after m.misses e }, e)
 runs_to_stop n m e h = ap (going_on (real n) m) h
 
 -- An instruction whose outcome is a plan over known pages, whose stores are all modified, retires by it.
@@ -109,10 +109,10 @@ ok_is x (Err t) h = cc
 as_far : {A : Type 0} (s t : Space) (x : A) (r q : Result A Trouble) → r ≡ Ok x → AsFar s t r q → q ≡ Ok x
 as_far s t x r q is far = subst (λ (z : Result _ Trouble). AsFar s t z q) is far
 
-found_on : {A B : Type 0} (s : Space) (m : Script A) (f : A → Script B) (x : A) (y : B) → outcome s m ≡ Ok x → outcome s (f x) ≡ Ok y → outcome s (m >>= f) ≡ Ok y
+found_on : {A B : Type 0} (s : Space) (m : Interaction A) (f : A → Interaction B) (x : A) (y : B) → outcome s m ≡ Ok x → outcome s (f x) ≡ Ok y → outcome s (m >>= f) ≡ Ok y
 found_on s m f x y first next = outcome-bind s m f ∙ ap (λ (z : Result _ Trouble). bind_result z (λ v. outcome s (f v))) first ∙ next
 
-plain_acts : (kernel : Bool) (psl : ℕ) (op : Operation) (d : Instruction) (r : List ℕ) → is_planned op ≡ true → acted_by kernel psl op d r ≡ plainly psl d r
+plain_acts : (kernel : Bool) (psl : ℕ) (op : Operation) (d : Instruction) (r : List ℕ) → is_planned op ≡ true → acted_by kernel psl op d r ≡ plain_meaning psl d r
 plain_acts kernel psl (does.Sensitive op) d r h = cc
 plain_acts kernel psl (does.Probe intent) d r h = cc
 plain_acts kernel psl op d r h = refl

@@ -19,14 +19,14 @@ use Rattle.vax_table.specs.declared.meaning.Operation.{Operation}
 use Rattle.vax_table.specs.declared.meaning.Operation.TheVariants as does
 use Rattle.vax_table.specs.Claims.{Holds, claims}
 use Rattle.vax_table.specs.Fetch.{by_answer, decided, fetched}
-use Rattle.vax_table.specs.Operand.{address_of, address_operand, base_address, behind_bytes, bits_operand, branch_operand, by_access, forms_in, operand_length, operand_of, operands_from, operands_of, read_operand, trap_forms, trap_operands, no_operands, with_operand}
+use Rattle.vax_table.specs.Operand.{address_of, address_operand, base_address, past_own_bytes, bits_operand, branch_operand, by_access, forms_in, operand_length, operand_of, operands_from, operands_of, read_operand, trap_forms, trap_operands, no_operands, with_operand}
 use Rattle.vax_table.specs.Operations.{operation_of}
 use Rattle.vax_table.specs.Plan.{plan_of}
 use Rattle.vax_table.specs.Reading.{Answer, Whole, Short, Unknown, Reserved, decoded_at}
 use Rattle.vax_table.specs.Rows.{row_of}
-use Rattle.vax_table.specs.Script.{Script, Space, outcome, ◌>>=◌}
+use Rattle.vax_table.specs.Interaction.{Interaction, Space, outcome, ◌>>=◌}
 use Rattle.vax_table.specs.Spelling.{Instruction}
-use Rattle.vax_table.specs.Whole.{Act, Meant, Plain, Probes, Traps, acted, acted_by, instruction, is_always_done, plainly, probing, trapping}
+use Rattle.vax_table.specs.Whole.{Act, Meant, Plain, Probes, Traps, acted, acted_by, instruction, is_always_done, plain_meaning, probing, trapping}
 use Rattle.vax_table.proofs.Claims.{holds-bind, holds_always, holds_made}
 use Rattle.vax_table.proofs.Tests.{if_both, le_of}
 
@@ -34,11 +34,11 @@ use Rattle.vax_table.proofs.Tests.{if_both, le_of}
 abbrev pub Nothing : {A : Type 0} → List ℕ → A → Type 0
 Nothing cs a = cs ≡ []
 
-at_none : {A : Type 0} (P : List ℕ → A → Type 0) (cs : List ℕ) (script : Script A) → cs ≡ [] → Holds P [] script → Holds P cs script
+at_none : {A : Type 0} (P : List ℕ → A → Type 0) (cs : List ℕ) (script : Interaction A) → cs ≡ [] → Holds P [] script → Holds P cs script
 at_none P cs script e h = subst (λ (zs : List ℕ). Holds P zs script) (sym e) h
 
 -- one interaction and then another
-both : {A B : Type 0} (m : Script A) (g : A → Script B) → Holds Nothing [] m → ((a : A) → Holds Nothing [] (g a)) → Holds Nothing [] (m >>= g)
+both : {A B : Type 0} (m : Interaction A) (g : A → Interaction B) → Holds Nothing [] m → ((a : A) → Holds Nothing [] (g a)) → Holds Nothing [] (m >>= g)
 both m g h k = holds-bind Nothing Nothing [] m g h (λ ds a e. at_none Nothing ds (g a) e (k a))
 
 base_quiet : (size : ℕ) (s : Spec) (r : List ℕ) → Holds Nothing [] (base_address size s r)
@@ -107,7 +107,7 @@ access_quiet Branch w s r e = branch_quiet w s r
 
 operand_quiet : (f : Form) (s : Spec) (r : List ℕ) → is_quiet f.access ≡ true → Holds Nothing [] (operand_of f s r)
 unfolding operand_of
-operand_quiet f s r e = access_quiet f.access f.width s (behind_bytes (operand_length f s) r) e
+operand_quiet f s r e = access_quiet f.access f.width s (past_own_bytes (operand_length f s) r) e
 
 from_quiet : (i : ℕ) (fs : List Form) (ss : List Spec) (o : Operands) → are_quiet fs ≡ true → Holds Nothing [] (operands_from i fs ss o)
 unfolding are_quiet
@@ -153,14 +153,14 @@ MeantClaims cs m = ActClaims cs m.act
 
 trap_holds : (op : Sens) (d : Instruction) (r : List ℕ) → are_quiet (trap_forms d.opcode) ≡ true → Holds MeantClaims [] (trapping op d r)
 unfolding trap_operands
-trap_holds op d r q = holds-bind Nothing MeantClaims [] (trap_operands d r) _ (from_quiet 0 (trap_forms d.opcode) d.specs (no_operands (behind_bytes (if d.wait then 2 else 1) r)) q) (λ ds o h. h)
+trap_holds op d r q = holds-bind Nothing MeantClaims [] (trap_operands d r) _ (from_quiet 0 (trap_forms d.opcode) d.specs (no_operands (past_own_bytes (if d.wait then 2 else 1) r)) q) (λ ds o h. h)
 
-plain_holds : (psl : ℕ) (d : Instruction) (r : List ℕ) → Holds MeantClaims [] (plainly psl d r)
+plain_holds : (psl : ℕ) (d : Instruction) (r : List ℕ) → Holds MeantClaims [] (plain_meaning psl d r)
 plain_holds psl d r = holds-bind (λ cs e. Unit {0}) MeantClaims [] (plan_of psl d r) _ (holds_always (λ cs e. Unit {0}) [] (plan_of psl d r) (λ ds e. tt)) (λ ds e h. tt)
 
 probe_holds : (intent : Intent) (d : Instruction) (r : List ℕ) → are_quiet (forms_in (row_of d.opcode)) ≡ true → Holds MeantClaims [] (probing intent d r)
 unfolding operands_of
-probe_holds intent d r q = holds-bind Nothing MeantClaims [] (operands_of d r) _ (from_quiet 0 (forms_in (row_of d.opcode)) d.specs (no_operands (behind_bytes (if d.wait then 2 else 1) r)) q) (λ ds o h. h)
+probe_holds intent d r q = holds-bind Nothing MeantClaims [] (operands_of d r) _ (from_quiet 0 (forms_in (row_of d.opcode)) d.specs (no_operands (past_own_bytes (if d.wait then 2 else 1) r)) q) (λ ds o h. h)
 
 by_operation : (is_kernel : Bool) (psl : ℕ) (operation : Operation) (d : Instruction) (r : List ℕ) → is_silent operation (forms_in (row_of d.opcode)) (trap_forms d.opcode) ≡ true → Holds MeantClaims [] (acted_by is_kernel psl operation d r)
 unfolding is_silent
@@ -172,7 +172,7 @@ acted_holds : (is_kernel : Bool) (psl : ℕ) (d : Instruction) (r : List ℕ) �
 unfolding acted
 acted_holds is_kernel psl d r = by_operation is_kernel psl (operation_of d.opcode) d r (silent d.opcode)
 
-answer_holds : (more : List ℕ → Script Instruction) (at : ℕ) (bytes : List ℕ) (a : Answer) → ((bs : List ℕ) → Holds Nothing [] (more bs)) → Holds Nothing [] (by_answer more at bytes a)
+answer_holds : (more : List ℕ → Interaction Instruction) (at : ℕ) (bytes : List ℕ) (a : Answer) → ((bs : List ℕ) → Holds Nothing [] (more bs)) → Holds Nothing [] (by_answer more at bytes a)
 answer_holds more at bytes (Whole d rest) h = refl
 answer_holds more at bytes Short h = λ b. h (bytes ++ b ∷ [])
 answer_holds more at bytes Unknown h = tt

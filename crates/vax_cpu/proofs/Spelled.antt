@@ -8,8 +8,8 @@ use Rattle.vax_decode.proofs.RoundTrip.{some_left}
 use Rattle.vax_hw.specs.RealTables.{byte_by}
 use Rattle.vax_hw.specs.declared.world.World.{World}
 use Rattle.vax_table.specs.Fetch.{by_answer, decided, fetched}
-use Rattle.vax_table.specs.Reading.{Answer, Whole, Short, Unknown, Reserved, Tells, decoded_at}
-use Rattle.vax_table.specs.Script.{Cause, Space, Trouble, bind_result, number_at, outcome, with_byte}
+use Rattle.vax_table.specs.Reading.{Answer, Whole, Short, Unknown, Reserved, IsAnswerFor, decoded_at}
+use Rattle.vax_table.specs.Interaction.{Cause, Space, Trouble, bind_result, number_at, outcome, with_byte}
 use Rattle.vax_table.specs.Spelling.{AreBytes, Instruction, IsWellFormed, Spells}
 use Rattle.vax_table.specs.Spelling as spells
 use Rattle.vax_table.proofs.Bytes.{AreBytes-from_index}
@@ -19,7 +19,7 @@ use Rattle.vax_table.proofs.OneSpelling.{rest_same}
 use Rattle.vax_paged.specs.Paged.{paged, placed}
 use Rattle.vax_paged.proofs.InPage.{next_place}
 
-wants_by : (a : Answer) (b tail : List ℕ) (d : Instruction) → 0 < length tail → Spells (b ++ tail) d → Tells b a → a ≡ Short
+wants_by : (a : Answer) (b tail : List ℕ) (d : Instruction) → 0 < length tail → Spells (b ++ tail) d → IsAnswerFor b a → a ≡ Short
 wants_by (Whole e rest) b tail d some p t =
     let same = rest_same t.0 (b ++ tail) (rest ++ tail) [] e d t.2 p (sym (append-nil (b ++ tail) ∙ (ap (λ (ys : List ℕ). ys ++ tail) t.1 ∙ append_assoc t.0 rest tail))) in
     absurd (some_left rest tail some same.1)
@@ -96,7 +96,7 @@ taken_small (suc n) (b ∷ bytes) are (suc i) = taken_small n bytes (λ k. are (
 -- the spelling that reading told of
 spelling_of : (front : List ℕ) (d : Instruction) → AreBytes front → decoded_at front ≡ Whole d [] → Spells front d
 spelling_of front d are e =
-    let t : Tells front (Whole d []) = subst (λ (a : Answer). Tells front a) e (reading_exact.tells front are) in
+    let t : IsAnswerFor front (Whole d []) = subst (λ (a : Answer). IsAnswerFor front a) e (reading_exact.tells front are) in
     subst (λ (xs : List ℕ). Spells xs d) (sym (t.1 ∙ append-nil t.0)) t.2
 
 pub kept_there : (memory : List ℕ) (w : World) (pc p n : ℕ) (bytes : List ℕ) (d : Instruction) → pc < 2 ^ 32 → pc % 512 + n ≤ 512 → n ≤ length bytes → placed memory w Read pc ≡ Ok p →

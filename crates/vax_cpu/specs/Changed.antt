@@ -37,16 +37,16 @@ all_leave_registers [] = true
 all_leave_registers (x ∷ xs) = leaves_registers x.kind && all_leave_registers xs
 
 -- the register that is an operand's place, or R0, where it has none
-abbrev pub register_of : Kind → ℕ → ℕ
-register_of ModifyRegister n = n
-register_of WriteRegister n = n
-register_of BitsRegister n = n
-register_of kind n = 0
+abbrev pub operand_register : Kind → ℕ → ℕ
+operand_register ModifyRegister n = n
+operand_register WriteRegister n = n
+operand_register BitsRegister n = n
+operand_register kind n = 0
 
 -- that of the operand of this number
 abbrev pub register_at : ℕ → List Operand → ℕ
 register_at n [] = 0
-register_at zero (x ∷ xs) = register_of x.kind x.spec.reg
+register_at zero (x ∷ xs) = operand_register x.kind x.spec.reg
 register_at (suc n) (x ∷ xs) = register_at n xs
 
 abbrev pub target_register : Target → List Operand → ℕ

@@ -2,8 +2,8 @@
 -- stores.
 use Rattle.std.specs.Prelude.{ℕ, ◌+◌, ◌%◌, ◌^◌, Bool, List, Option, Some, None, Result, Ok, Err}
 use Rattle.vax_arch.specs.declared.mode.Intent.{Intent}
-use Rattle.vax_hw.specs.Machine.{Machine, psw_of, tables_of, with_psw}
-use Rattle.vax_hw.specs.Real.{Retired, by_try, carried_out, retired_with}
+use Rattle.vax_hw.specs.Machine.{Machine, machine_tables, psl_with_psw, psw_of}
+use Rattle.vax_hw.specs.Real.{Retired, carried_out, retired_by_try, retired_with}
 use Rattle.vax_hw.specs.RealTables.{real_probe}
 use Rattle.vax_hw.specs.declared.world.Exit.{Exit}
 use Rattle.vax_hw.specs.declared.world.Exit.TheVariants.{Emulate, Modify}
@@ -22,7 +22,7 @@ use Rattle.vax_cpu.specs.Fetched.{stop_exit}
 use Rattle.vax_cpu.specs.declared.stop.Stop.{Stop}
 
 abbrev pub completed : Machine → ℕ → Act → Result Retired Exit
-completed m opcode (Plain e) = by_try m (unless_clear (meant opcode (Plain e)) (first_clear (is_clear_for m.memory m.world) (bytes_of_stores e.writes)))
+completed m opcode (Plain e) = retired_by_try m (unless_clear (meant opcode (Plain e)) (first_clear (is_clear_for m.memory m.world) (bytes_of_stores e.writes)))
 completed m opcode (Traps t) = carried_out m opcode (Traps t)
 completed m opcode (Probes i o) = carried_out m opcode (Probes i o)
 
@@ -43,7 +43,7 @@ by_judgement i o psw None = Err (Emulate (trap_of (probe_of i) o))
 abbrev pub settled : List ℕ → World → Act → Result Effect Exit
 settled memory w (Plain e) = unless_modified e (first_clear (is_clear_for memory w) (bytes_of_stores e.writes))
 settled memory w (Traps t) = Err (Emulate t)
-settled memory w (Probes i o) = by_judgement i o (psw_of w) (real_probe memory (tables_of w) w.psl.0 i (long_of o 0) (long_of o 1) (long_of o 2))
+settled memory w (Probes i o) = by_judgement i o (psw_of w) (real_probe memory (machine_tables w) w.psl.0 i (long_of o 0) (long_of o 1) (long_of o 2))
 
 -- what the code's plan is then
 abbrev pub settled_as : {A : Type 0} → Operands → Plan → Result A Stop → Result Effect Exit
@@ -74,10 +74,10 @@ retired_from m (Ok x) = retired_with m x.0 x.1
 retired_from m (Err x) = Err x
 
 -- the machine after an instruction at an address, but for its registers
-abbrev pub behind : (pc opcode : ℕ) → Effect → Machine → Machine
-behind pc opcode e m = record m {
+abbrev pub completed_but_registers : (pc opcode : ℕ) → Effect → Machine → Machine
+completed_but_registers pc opcode e m = record m {
   memory = all_stored (written_place m.memory m.world) e.writes m.memory;
-  world = record m.world { psl = with_psw m.world.psl e.psw };
+  world = record m.world { psl = psl_with_psw m.world.psl e.psw };
   retired = (m.retired + 1) % 2 ^ 64;
   trail = (m.trail + term pc opcode e.r) % 2 ^ 64;
 }

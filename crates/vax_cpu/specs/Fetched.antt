@@ -7,7 +7,7 @@ use Rattle.vax_hw.specs.declared.world.Exit.{Exit}
 use Rattle.vax_hw.specs.declared.world.Exit.TheVariants.{Emulate, Modify, Refused}
 use Rattle.vax_table.specs.Troubles.{trouble_of}
 use Rattle.vax_table.specs.Effects.{effect}
-use Rattle.vax_table.specs.Script.{Trouble}
+use Rattle.vax_table.specs.Interaction.{Trouble}
 use Rattle.vax_table.specs.Spelling.{Instruction, view}
 use Rattle.vax_table.specs.Whole.{Act as Meaning, Meant, Plain, Probes, Traps, meant, trap_of}
 use Rattle.vax_table.specs.declared.act.Refusal.{Refusal}
@@ -50,9 +50,9 @@ kept_view (Ok k) = Ok (view k.prepared.decoded)
 kept_view (Err f) = Err (fault_exit f)
 
 -- what is kept after a fetch, unless that stopped
-abbrev pub taken : {A : Type 0} → Decoded → Result A Fault → Result Instruction Exit
-taken d (Ok u) = Ok (view d)
-taken d (Err f) = Err (fault_exit f)
+abbrev pub decoded_or_exit : {A : Type 0} → Decoded → Result A Fault → Result Instruction Exit
+decoded_or_exit d (Ok u) = Ok (view d)
+decoded_or_exit d (Err f) = Err (fault_exit f)
 
 -- bytes that spell nothing are a reserved instruction, or have a reserved addressing mode
 abbrev pub refusal_of : DecodeFault → Refusal

@@ -8,7 +8,7 @@ use Rattle.vax_table.specs.declared.meaning.Operation.TheVariants.{Branch, Compu
 use Rattle.vax_table.specs.declared.meaning.Target.TheVariants.{Codes, Second}
 use Rattle.vax_operand.specs.declared.kind.Base.TheVariants.{Deferred, Decrement, Increment, IncrementDeferred, Absolute, Displaced, DisplacedDeferred}
 use Rattle.vax_operand.specs.declared.kind.Kind.TheVariants.{Constant, ReadRegister, ModifyRegister, WriteRegister, BitsRegister, Read, Modify, Write}
-use Rattle.vax_cpu.specs.Changed.{changed_register, is_still, leaves_registers, register_of, result_register}
+use Rattle.vax_cpu.specs.Changed.{changed_register, is_still, leaves_registers, operand_register, result_register}
 
 -- the ways -(R), (R)+ and @(R)+ change their register, and no other does
 pub decrement : is_still Decrement ≡ false
@@ -46,16 +46,16 @@ pub literal : leaves_registers Constant ≡ true
 literal = refl
 
 -- the register of a place: R3 where it is modified or written, and none where it is only read
-pub place : register_of (ModifyRegister) 3 ≡ 3
+pub place : operand_register (ModifyRegister) 3 ≡ 3
 place = refl
 
-pub written : register_of (WriteRegister) 14 ≡ 14
+pub written : operand_register (WriteRegister) 14 ≡ 14
 written = refl
 
-pub bits : register_of (BitsRegister) 5 ≡ 5
+pub bits : operand_register (BitsRegister) 5 ≡ 5
 bits = refl
 
-pub read : register_of (ReadRegister) 3 ≡ 0
+pub read : operand_register (ReadRegister) 3 ≡ 0
 read = refl
 
 -- a quadword changes two registers, NOP and all others may change several, and a branch changes none but PC

@@ -1,5 +1,5 @@
 ghost use Rattle.std.specs.Prelude.{◌≡◌, ◌+◌, ◌<◌, sum, take};
-ghost use Rattle.vax_cpu.specs.Changed.{AreAlikeBut, all_leave_registers, changed_register, is_still, leaves_registers, register_at, register_of, result_register, target_register};
+ghost use Rattle.vax_cpu.specs.Changed.{AreAlikeBut, all_leave_registers, changed_register, is_still, leaves_registers, operand_register, register_at, result_register, target_register};
 
 use vax_operand::{Base, Kind, Operand, Prepared};
 use vax_table::{Operation, Target};
@@ -41,7 +41,7 @@ fn all_leave_registers(operands: &[Operand]) -> bool
 
 /// The register that is an operand's place, or R0, where it has none.
 fn register_of(operand: &Operand) -> u8
-    ensures { result ≡ register_of operand.now.kind operand.now.spec.reg }
+    ensures { result ≡ operand_register operand.now.kind operand.now.spec.reg }
 {
     match operand.kind {
         Kind::ModifyRegister | Kind::WriteRegister | Kind::BitsRegister => operand.spec.reg,

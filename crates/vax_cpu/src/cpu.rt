@@ -1,9 +1,9 @@
 ghost use Rattle.std.specs.Prelude.{◌≡◌, ◌*◌, ◌≤◌, length, sum, take, IfOk, OnOk};
 ghost use Rattle.vax_hw.specs.Machine.{Machine, seen_psl, zeros};
 ghost use Rattle.vax_hw.specs.Real.{in_kernel, real};
-ghost use Rattle.vax_operand.specs.Left.{joined};
+ghost use Rattle.vax_operand.specs.Left.{operands_with_registers};
 ghost use Rattle.vax_paged.specs.Paged.{paged};
-ghost use Rattle.vax_table.specs.Script.{outcome};
+ghost use Rattle.vax_table.specs.Interaction.{outcome};
 ghost use Rattle.vax_table.specs.Whole.{instruction};
 ghost use Rattle.vax_cpu.specs.Completed.{attempted, settled_meaning, with_registers};
 ghost use Rattle.vax_cpu.specs.Fetched.{exits};
@@ -90,7 +90,7 @@ fn attempt_walked(
     before: &[u32; 16],
     plan: &mut Plan,
 ) -> Result<u8, Stop>
-    ensures attempted { attempted (joined o.new plan.new.r) plan.new result ≡ settled_meaning state.old.memory state.old.world (exits (outcome (paged state.old.memory state.old.world) (instruction (in_kernel state.old.world) (seen_psl state.old.world) before.now))) }
+    ensures attempted { attempted (operands_with_registers o.new plan.new.r) plan.new result ≡ settled_meaning state.old.memory state.old.world (exits (outcome (paged state.old.memory state.old.world) (instruction (in_kernel state.old.world) (seen_psl state.old.world) before.now))) }
     ensures state { state.new ≡ state.old }
 {
     plan.r = *before;
@@ -111,7 +111,7 @@ fn attempt_next(
     requires plan { plan.old.r ≡ before.now }
     requires sum { total.old ≡ sum (take 15 before.now) }
     ensures sum { OnOk result (total.new ≡ sum (take 15 plan.new.r)) }
-    ensures attempted { attempted (joined o.new plan.new.r) plan.new result ≡ settled_meaning state.old.memory state.old.world (exits (outcome (paged state.old.memory state.old.world) (instruction (in_kernel state.old.world) (seen_psl state.old.world) before.now))) }
+    ensures attempted { attempted (operands_with_registers o.new plan.new.r) plan.new result ≡ settled_meaning state.old.memory state.old.world (exits (outcome (paged state.old.memory state.old.world) (instruction (in_kernel state.old.world) (seen_psl state.old.world) before.now))) }
     ensures state { state.new ≡ state.old }
 {
     if attempt_known(state, missed, kept, o, plan) {

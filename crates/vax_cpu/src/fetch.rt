@@ -5,9 +5,9 @@ ghost use Rattle.vax_table.specs.Fetch.{fetched};
 ghost use Rattle.vax_table.specs.Operations.{operation_of};
 ghost use Rattle.vax_table.specs.Plan.{is_planned};
 ghost use Rattle.vax_table.specs.Reading.{Whole, decoded_at};
-ghost use Rattle.vax_table.specs.Script.{number_at, outcome};
+ghost use Rattle.vax_table.specs.Interaction.{number_at, outcome};
 ghost use Rattle.vax_table.specs.Spelling.{IsWellFormed, view};
-ghost use Rattle.vax_cpu.specs.Fetched.{byte_view, exits, kept_view, refusal_of, taken};
+ghost use Rattle.vax_cpu.specs.Fetched.{byte_view, decoded_or_exit, exits, kept_view, refusal_of};
 ghost use Rattle.vax_paged.specs.Known.{AreKnown};
 ghost use Rattle.vax_paged.specs.Paged.{paged};
 
@@ -169,7 +169,7 @@ fn decoded(space: &Paged, pc: u32) -> Result<Kept, Fault>
 
 /// The instruction at an address, which is kept, and taken where it was kept already.
 pub fn fetch(space: &Paged, pc: u32, kept: &mut Kept) -> Result<(), Fault>
-    ensures fetched { taken kept.new.prepared.decoded result ≡ exits (outcome (paged space.now.memory.now space.now.world.now) (fetched pc)) }
+    ensures fetched { decoded_or_exit kept.new.prepared.decoded result ≡ exits (outcome (paged space.now.memory.now space.now.world.now) (fetched pc)) }
     ensures formed { OnOk result (IsWellFormed (view kept.new.prepared.decoded)) }
 {
     if !has(space, kept, pc) {

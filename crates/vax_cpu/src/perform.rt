@@ -2,13 +2,13 @@ ghost use Rattle.std.specs.Prelude.{◌≡◌, ◌<◌, Ok, true};
 ghost use Rattle.vax_table.specs.Effects.{effect};
 ghost use Rattle.vax_table.specs.Operations.{operation_of};
 ghost use Rattle.vax_table.specs.Plan.{is_planned};
-ghost use Rattle.vax_table.specs.Script.{outcome};
+ghost use Rattle.vax_table.specs.Interaction.{outcome};
 ghost use Rattle.vax_table.specs.Spelling.{IsWellFormed, view};
-ghost use Rattle.vax_table.specs.Whole.{acted, first_operand, instruction, is_always_done, plainly, probe_of, trap_of, trapping};
+ghost use Rattle.vax_table.specs.Whole.{acted, first_operand, instruction, is_always_done, plain_meaning, probe_of, trap_of, trapping};
 ghost use Rattle.vax_table.specs.declared.effect.Plan.{Plan};
 ghost use Rattle.vax_table.specs.declared.evaluation.Operands.{Operands};
 ghost use Rattle.vax_table.specs.declared.meaning.Operation.TheVariants.{MoveStatus};
-ghost use Rattle.vax_operand.specs.Left.{joined};
+ghost use Rattle.vax_operand.specs.Left.{operands_with_registers};
 ghost use Rattle.vax_hw.specs.Machine.{seen_psl};
 ghost use Rattle.vax_hw.specs.Real.{in_kernel};
 ghost use Rattle.vax_cpu.specs.Changed.{AreAlikeBut};
@@ -94,7 +94,7 @@ fn trap<S: Space>(
     plan: &mut Plan,
 ) -> Result<Act, Stop>
     requires { IsWellFormed (view d.now) }
-    ensures { acts_of d.now.opcode (joined o.new plan.new.r) plan.new result ≡ exits (outcome (S.space s.now) (trapping op (view d.now) plan.old.r)) }
+    ensures { acts_of d.now.opcode (operands_with_registers o.new plan.new.r) plan.new result ≡ exits (outcome (S.space s.now) (trapping op (view d.now) plan.old.r)) }
 {
     let Operands { values, dests, r } = evaluate_trap(s, d, &plan.r).map_err(stop_of)?;
     *o = Values { values, dests };
@@ -123,7 +123,7 @@ fn plain<S: Space>(
 ) -> Result<Act, Stop>
     requires formed { IsWellFormed (view kept.now.prepared.decoded) }
     requires planned { is_planned (operation_of kept.now.prepared.decoded.opcode) ≡ true }
-    ensures { acts_of kept.now.prepared.decoded.opcode (joined o.new plan.new.r) plan.new result ≡ exits (outcome (S.space s.now) (plainly psl.0 (view kept.now.prepared.decoded) plan.old.r)) }
+    ensures { acts_of kept.now.prepared.decoded.opcode (operands_with_registers o.new plan.new.r) plan.new result ≡ exits (outcome (S.space s.now) (plain_meaning psl.0 (view kept.now.prepared.decoded) plan.old.r)) }
 {
     plan_into(s, &kept.prepared, psl, o, plan).map_err(stop_of)?;
     Ok(Act::Plain)
@@ -142,7 +142,7 @@ fn move_status<S: Space>(
 ) -> Result<Act, Stop>
     requires formed { IsWellFormed (view kept.now.prepared.decoded) }
     requires moves { operation_of kept.now.prepared.decoded.opcode ≡ MoveStatus }
-    ensures { acts_of kept.now.prepared.decoded.opcode (joined o.new plan.new.r) plan.new result ≡ exits (outcome (S.space s.now) (plainly psl.0 (view kept.now.prepared.decoded) plan.old.r)) }
+    ensures { acts_of kept.now.prepared.decoded.opcode (operands_with_registers o.new plan.new.r) plan.new result ≡ exits (outcome (S.space s.now) (plain_meaning psl.0 (view kept.now.prepared.decoded) plan.old.r)) }
 {
     evaluate_into(s, &kept.prepared, &mut plan.r, o).map_err(stop_of)?;
     begin(plan, (psl.0 % 0x100) as u8);
@@ -163,7 +163,7 @@ pub fn carry_out<S: Space>(
     plan: &mut Plan,
 ) -> Result<Act, Stop>
     requires { IsWellFormed (view kept.now.prepared.decoded) }
-    ensures { acts_of kept.now.prepared.decoded.opcode (joined o.new plan.new.r) plan.new result ≡ exits (outcome (S.space s.now) (acted is_kernel psl.0 (view kept.now.prepared.decoded) plan.old.r)) }
+    ensures { acts_of kept.now.prepared.decoded.opcode (operands_with_registers o.new plan.new.r) plan.new result ≡ exits (outcome (S.space s.now) (acted is_kernel psl.0 (view kept.now.prepared.decoded) plan.old.r)) }
 {
     let d = &kept.prepared.decoded;
     let refusal = match kept.prepared.operation {
@@ -208,7 +208,7 @@ fn find(
     o: &mut Values,
     plan: &mut Plan,
 ) -> Result<Found, Stop>
-    ensures { found (joined o.new plan.new.r) plan.new result ≡ exits (outcome (paged memory.now world.now) (instruction (in_kernel world.now) (seen_psl world.now) plan.old.r)) }
+    ensures { found (operands_with_registers o.new plan.new.r) plan.new result ≡ exits (outcome (paged memory.now world.now) (instruction (in_kernel world.now) (seen_psl world.now) plan.old.r)) }
 {
     let space = Paged { memory, world };
     fetch(&space, plan.r[15], kept).map_err(Stop::Fault)?;
@@ -223,7 +223,7 @@ fn find(
 /// Whether an instruction that was found retires, by its plan: a plain one where the modify bits of all that it stores are
 /// set; PROBE where the machine judges its bytes.
 fn settle(memory: &[u8], world: &World, act: Act, o: &Values, plan: &mut Plan) -> Result<(), Stop>
-    ensures { settled_as (joined o.now plan.new.r) plan.new result ≡ settled memory.now world.now (meaning_of (joined o.now plan.old.r) plan.old act) }
+    ensures { settled_as (operands_with_registers o.now plan.new.r) plan.new result ≡ settled memory.now world.now (meaning_of (operands_with_registers o.now plan.old.r) plan.old act) }
 {
     let space = Paged { memory, world };
     match act {
@@ -276,7 +276,7 @@ pub fn attempt(
     o: &mut Values,
     plan: &mut Plan,
 ) -> Result<u8, Stop>
-    ensures { attempted (joined o.new plan.new.r) plan.new result ≡ settled_meaning memory.now world.now (exits (outcome (paged memory.now world.now) (instruction (in_kernel world.now) (seen_psl world.now) plan.old.r))) }
+    ensures { attempted (operands_with_registers o.new plan.new.r) plan.new result ≡ settled_meaning memory.now world.now (exits (outcome (paged memory.now world.now) (instruction (in_kernel world.now) (seen_psl world.now) plan.old.r))) }
 {
     let found = find(memory, world, kept, o, plan)?;
     settle(memory, world, found.act, o, plan)?;

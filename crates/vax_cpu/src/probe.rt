@@ -1,6 +1,6 @@
 ghost use Rattle.std.specs.Prelude.{◌≡◌, ◌%◌, ◌^◌, [], slice_index};
-ghost use Rattle.vax_hw.specs.Machine.{tables_of};
-ghost use Rattle.vax_hw.specs.RealTables.{both, is_kernels_alone, judged, judged_by, real_probe};
+ghost use Rattle.vax_hw.specs.Machine.{machine_tables};
+ghost use Rattle.vax_hw.specs.RealTables.{access_judged, both_judged, is_kernels_alone, judged_by, real_probe};
 ghost use Rattle.vax_table.specs.Effects.{effect};
 ghost use Rattle.vax_table.specs.Plan.{probed};
 ghost use Rattle.vax_table.specs.Probing.{last_of, probe_mode};
@@ -54,7 +54,7 @@ fn judged_by(entry: Pte, m: Mode, i: Intent) -> Option<bool>
 
 /// Both answers as one.
 fn both(a: Option<bool>, b: Option<bool>) -> Option<bool>
-    ensures { result ≡ both a b }
+    ensures { result ≡ both_judged a b }
 {
     match (a, b) {
         (Some(a), Some(b)) => Some(a && b),
@@ -63,9 +63,9 @@ fn both(a: Option<bool>, b: Option<bool>) -> Option<bool>
 }
 
 /// Whether a mode may use the byte at an address, where the machine judges that.
-#[tactic(auto, unfolding(vax_hw::specs::RealTables::judged), using(vax_paged::proofs::Lookups::mapped))]
+#[tactic(auto, unfolding(vax_hw::specs::RealTables::access_judged), using(vax_paged::proofs::Lookups::mapped))]
 fn judged(space: &Paged, m: Mode, i: Intent, va: u32) -> Option<bool>
-    ensures { result ≡ judged space.now.memory.now (tables_of space.now.world.now) m i va }
+    ensures { result ≡ access_judged space.now.memory.now (machine_tables space.now.world.now) m i va }
 {
     match space.entry(va / 512) {
         Entry::Found(entry) => judged_by(entry, m, i),
@@ -75,7 +75,7 @@ fn judged(space: &Paged, m: Mode, i: Intent, va: u32) -> Option<bool>
 
 /// Whether both bytes that PROBE asks of may be used, where the machine judges that.
 pub fn probe(space: &Paged, i: Intent, o: &Values) -> Option<bool>
-    ensures { result ≡ real_probe space.now.memory.now (tables_of space.now.world.now) space.now.world.now.psl.0 i (slice_index o.now.values 0 % 2 ^ 32) (slice_index o.now.values 1 % 2 ^ 32) (slice_index o.now.values 2 % 2 ^ 32) }
+    ensures { result ≡ real_probe space.now.memory.now (machine_tables space.now.world.now) space.now.world.now.psl.0 i (slice_index o.now.values 0 % 2 ^ 32) (slice_index o.now.values 1 % 2 ^ 32) (slice_index o.now.values 2 % 2 ^ 32) }
 {
     let m = probe_mode(space.world.psl, o.long(0));
     let base = o.long(2);

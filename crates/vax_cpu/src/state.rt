@@ -1,9 +1,9 @@
 ghost use Rattle.std.specs.Prelude.{◌≡◌, true, ◌+◌, ◌*◌, ◌≤◌, ◌<◌, ◌/◌, ◌^◌, ℕ, length, slice_index, sum, take, IfOk};
 ghost use Rattle.vv_base.specs.Bytes.{long_at, long_bytes, overwritten};
-ghost use Rattle.vax_hw.specs.Machine.{Machine, tables_of, with_psw, zeros};
+ghost use Rattle.vax_hw.specs.Machine.{Machine, machine_tables, psl_with_psw, zeros};
 ghost use Rattle.vax_hw.specs.Real.{misses_after};
 ghost use Rattle.vax_table.specs.Effects.{effect};
-ghost use Rattle.vax_cpu.specs.Completed.{behind};
+ghost use Rattle.vax_cpu.specs.Completed.{completed_but_registers};
 ghost use Rattle.vax_paged.specs.Known.{AreKnown};
 
 use std::alloc::Global;
@@ -30,26 +30,26 @@ pub struct State {
 impl Model for State {
     ghost use Rattle.std.specs.Prelude.{◌≡◌, ◌≤◌, ◌*◌, length};
     ghost use Rattle.vax_hw.specs.Machine.{Machine};
-    ghost use Rattle.vax_hw.specs.Machine.{tables_of};
+    ghost use Rattle.vax_hw.specs.Machine.{machine_tables};
     ghost use Rattle.vax_paged.specs.Known.{AreAllKnown};
 
     ghost Value = { Machine };
 
     ghost view = { λ m. record { memory = m.memory.items; world = m.world; retired = m.retired; trail = m.trail; misses = m.misses } };
 
-    ghost invariant = { λ m. (length m.memory.items ≡ 512 * m.pages) × (1 ≤ m.pages) × (m.pages ≤ 65536) × AreAllKnown m.memory.items (tables_of m.world) m.known };
+    ghost invariant = { λ m. (length m.memory.items ≡ 512 * m.pages) × (1 ≤ m.pages) × (m.pages ≤ 65536) × AreAllKnown m.memory.items (machine_tables m.world) m.known };
 }
 
 /// A PSL with another status word.
 fn with_psw(psl: Psl, psw: u8) -> Psl
-    ensures { result ≡ with_psw psl psw }
+    ensures { result ≡ psl_with_psw psl psw }
 {
     Psl(psl.0 / 256 * 256 + u32::from(psw))
 }
 
 /// Whether two worlds have the same page tables.
 fn has_same_tables(a: &World, b: &World) -> bool
-    ensures { result ≡ true → tables_of a.now ≡ tables_of b.now }
+    ensures { result ≡ true → machine_tables a.now ≡ machine_tables b.now }
 {
     a.p0br == b.p0br
         && a.p0lr == b.p0lr
@@ -216,7 +216,7 @@ impl State {
     /// `total` is the sum of R0 to R14 after it.
     pub fn retire(&mut self, pc: u32, opcode: u8, total: u64, plan: &Plan, missed: &Cell<u32>)
         requires { total ≡ sum (take 15 plan.now.r) }
-        ensures { self.new ≡ behind pc opcode (effect plan.now) self.old }
+        ensures { self.new ≡ completed_but_registers pc opcode (effect plan.now) self.old }
     {
         // The PSL is read before the stores, so that it is stored as one longword, which the next instruction reads
         let psl = with_psw(self.world.psl, plan.psw);

@@ -1,6 +1,6 @@
 ghost use Rattle.std.specs.Prelude.{◌≡◌};
 ghost use Rattle.vax_hw.specs.Real.{exit_of};
-ghost use Rattle.vax_operand.specs.Left.{joined};
+ghost use Rattle.vax_operand.specs.Left.{operands_with_registers};
 ghost use Rattle.vax_table.specs.Troubles.{trouble_of};
 ghost use Rattle.vax_table.specs.Whole.{trap_of};
 ghost use Rattle.vax_cpu.specs.Fetched.{stop_exit};
@@ -56,7 +56,7 @@ fn exit_of(trouble: Trouble) -> Exit
 #[cold]
 #[inline(never)]
 pub fn exit_for(stop: Stop, o: &Values, r: &[u32; 16]) -> Exit
-    ensures { result ≡ stop_exit (joined o.now r.now) stop }
+    ensures { result ≡ stop_exit (operands_with_registers o.now r.now) stop }
 {
     match stop {
         Stop::Fault(Fault::Trouble(trouble)) => exit_of(trouble),

@@ -4,7 +4,7 @@ use Rattle.vax_table.specs.declared.forms.Form.{Form}
 use Rattle.vax_table.specs.declared.decoded.Spec.{Spec}
 use Rattle.vax_table.specs.declared.decoded.Decoded.{Decoded}
 use Rattle.vax_table.specs.Spelling.{AreBytes, Operands, view, Spells}
-use Rattle.vax_table.specs.Reading.{operands_at, GotAll, Answer, Whole, Short, Unknown, Reserved, decoded_at, Tells}
+use Rattle.vax_table.specs.Reading.{operands_at, GotAll, Answer, Whole, Short, Unknown, Reserved, decoded_at, IsAnswerFor}
 use Rattle.vax_table.proofs.Operands.{ReadsAll, operands_read}
 use Rattle.vax_table.proofs.Lengths.{operands_nine}
 use Rattle.vax_table.proofs.Instructions.{reading_exact}
@@ -21,7 +21,7 @@ left_over fs bs ss rest h e =
     let short : length m.0 ≤ 9 * length fs = operands_nine fs m.0 ss m.2 in
     (omega (arith, length-append {A = ℕ}), omega (arith, length-append {A = ℕ}))
 
-done_tells : (b : List ℕ) (d : Decoded) (a : Answer) → Tells b a → IsWhole d a → (front : List ℕ) × (rest : List ℕ) × (b ≡ front ++ rest) × Spells front (view d)
+done_tells : (b : List ℕ) (d : Decoded) (a : Answer) → IsAnswerFor b a → IsWhole d a → (front : List ℕ) × (rest : List ℕ) × (b ≡ front ++ rest) × Spells front (view d)
 done_tells b d (Whole e rest) t w = (t.0, rest, t.1, subst (Spells t.0) w t.2)
 done_tells b d Short t w = absurd w
 done_tells b d Unknown t w = absurd w
@@ -30,6 +30,6 @@ done_tells b d Reserved t w = absurd w
 -- who answers what reading does decodes
 pub decodes : (b : List ℕ) (r : Decode) → AreBytes b → IsAnswer r (decoded_at b) → Decodes b r
 decodes b (Done d) h a = done_tells b d (decoded_at b) (reading_exact.tells b h) a
-decodes b NeedMore h a = subst (Tells b) a (reading_exact.tells b h)
-decodes b (Fault Opcode) h a = subst (Tells b) a (reading_exact.tells b h)
-decodes b (Fault Addressing) h a = subst (Tells b) a (reading_exact.tells b h)
+decodes b NeedMore h a = subst (IsAnswerFor b) a (reading_exact.tells b h)
+decodes b (Fault Opcode) h a = subst (IsAnswerFor b) a (reading_exact.tells b h)
+decodes b (Fault Addressing) h a = subst (IsAnswerFor b) a (reading_exact.tells b h)

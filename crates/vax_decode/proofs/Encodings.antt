@@ -4,8 +4,8 @@ use Rattle.std.proofs.lemmas.Bool.{ne_eqb, ltb-true}
 use Rattle.std.proofs.lemmas.List.{nil_from_length}
 use Rattle.vax_table.specs.declared.forms.Form.{Form}
 use Rattle.vax_table.specs.declared.decoded.Spec.{Spec}
-use Rattle.vax_table.specs.Rows.{Entry, row_of}
-use Rattle.vax_table.specs.Spelling.{unindexed, Displaces, byte, byte_deferred, word, word_deferred, long, long_deferred, Specifier, literal, register, register_deferred, autodecrement, autoincrement, immediate, autoincrement_deferred, absolute, displacement, Operand, specifier, indexed, branch, Operands, Instruction, Spells, wait, of_row, IsWellFormed}
+use Rattle.vax_table.specs.Rows.{OpcodeEntry, row_of}
+use Rattle.vax_table.specs.Spelling.{unindexed, Displaces, byte, byte_deferred, word, word_deferred, long, long_deferred, Specifier, literal, register, register_deferred, autodecrement, autoincrement, immediate, autoincrement_deferred, absolute, displacement, SpellsOperand, specifier, indexed, branch, Operands, Instruction, Spells, wait, of_row, IsWellFormed}
 use Rattle.vax_table.specs.Reading.{is_branch}
 use Rattle.vax_table.specs.Spelled.{value_size, spelled_specifier, spelled, spelled_all}
 use Rattle.vax_table.proofs.Tests.{if_both, le_of}
@@ -78,7 +78,7 @@ specifier_in_range f bytes s (autoincrement_deferred n h e g) = in_range f s 9 n
 specifier_in_range f bytes s (absolute v h e g) = in_range f s 9 15 v g (omega arith) (omega arith) (λ z. absurd (omega arith))
 specifier_in_range f bytes s (displacement mode k n v d h l e g) = let m = displaces_half mode k d in in_range f s mode n v g m.0 h (λ z. absurd (m.1 z))
 
-operand_in_range : (f : Form) (bytes : List ℕ) (s : Spec) → Operand f bytes s → IsInRange f s
+operand_in_range : (f : Form) (bytes : List ℕ) (s : Spec) → SpellsOperand f bytes s → IsInRange f s
 operand_in_range f bytes s (specifier n b) = specifier_in_range f bytes s b
 operand_in_range f bytes s (indexed n x h b r t l i m e g) =
     let base : IsInRange f t = specifier_in_range f (b ∷ r) t m in
@@ -96,12 +96,12 @@ operands_in_range (f ∷ fs) bytes (s ∷ ss) h = (operand_in_range f h.0 s h.3,
 -- ---- what encode writes spells the instruction
 
 -- what encode needs of the row that it finds
-pub record IsReady (d : Instruction) (e : Entry) : Type 0 where
+pub record IsReady (d : Instruction) (e : OpcodeEntry) : Type 0 where
   pub range : AllInRange e.operands d.specs
   pub room : 1 + length (spelled_all e.operands d.specs) ≤ 24
   pub spelled : Spells (d.opcode ∷ spelled_all e.operands d.specs) d
 
-ready_by : (d : Instruction) (bytes : List ℕ) (x : Entry) (opcode : ℕ) (rest : List ℕ) → Spells bytes d → row_of opcode ≡ Some x → Operands x.operands rest d.specs → bytes ≡ opcode ∷ rest → d.opcode ≡ opcode → IsReady d x
+ready_by : (d : Instruction) (bytes : List ℕ) (x : OpcodeEntry) (opcode : ℕ) (rest : List ℕ) → Spells bytes d → row_of opcode ≡ Some x → Operands x.operands rest d.specs → bytes ≡ opcode ∷ rest → d.opcode ≡ opcode → IsReady d x
 ready_by d bytes x opcode rest p q m e o =
     let same : rest ≡ spelled_all x.operands d.specs = operands_spelled x.operands rest d.specs m in
     let whole : bytes ≡ d.opcode ∷ spelled_all x.operands d.specs = e ∙ (ap (λ ys. opcode ∷ ys) same ∙ ap (λ c. c ∷ spelled_all x.operands d.specs) (sym o)) in
@@ -109,7 +109,7 @@ ready_by d bytes x opcode rest p q m e o =
     let size : length bytes ≡ length (d.opcode ∷ spelled_all x.operands d.specs) = ap length whole in
     record { range = operands_in_range x.operands rest d.specs m; room = omega arith; spelled = subst (λ ys. Spells ys d) whole p }
 
-pub ready : (d : Instruction) → IsWellFormed d → d.wait ≡ false → (x : Entry) → row_of d.opcode ≡ Some x → IsReady d x
+pub ready : (d : Instruction) → IsWellFormed d → d.wait ≡ false → (x : OpcodeEntry) → row_of d.opcode ≡ Some x → IsReady d x
 ready d (bytes, wait e g) w x found = absurd (both _ (ap (λ (i : Instruction). i.wait) g) w)
 ready d (bytes, of_row y o r s l n q m e g) w x found =
     let op : d.opcode ≡ o = ap (λ (i : Instruction). i.opcode) g in

@@ -29,14 +29,14 @@ IsAnswer (Fault Opcode) a = a ≡ Unknown
 IsAnswer (Fault Addressing) a = a ≡ Reserved
 
 -- a decoder's answer is the whole instruction
-abbrev pub IsDone : Decode → Instruction → Type 0
-IsDone (Done d) e = view d ≡ e
-IsDone NeedMore e = ⊥
-IsDone (Fault f) e = ⊥
+abbrev pub IsDecoded : Decode → Instruction → Type 0
+IsDecoded (Done d) e = view d ≡ e
+IsDecoded NeedMore e = ⊥
+IsDecoded (Fault f) e = ⊥
 
 -- what spells an instruction decodes to it, whatever follows
 abbrev pub IsRoundTrip : Type 0
-IsRoundTrip = (bytes rest : List ℕ) (d : Instruction) (r : Decode) → Spells bytes d → Decodes (bytes ++ rest) r → IsDone r d
+IsRoundTrip = (bytes rest : List ℕ) (d : Instruction) (r : Decode) → Spells bytes d → Decodes (bytes ++ rest) r → IsDecoded r d
 
 -- what begins a spelling wants more bytes
 abbrev pub WantsMore : Type 0

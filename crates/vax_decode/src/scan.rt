@@ -1,6 +1,6 @@
 ghost use Rattle.std.specs.Prelude.{◌≡◌, ◌≤◌, length};
 ghost use Rattle.vax_table.specs.Reading.{operands_at, answer_of, decoded_at};
-ghost use Rattle.vax_decode.specs.Seen.{seen_all};
+ghost use Rattle.vax_decode.specs.Seen.{all_pieces_view};
 ghost use Rattle.vax_decode.specs.Decoding.{IsAnswer, Decodes};
 
 use crate::outcome::{Decode, DecodeFault};
@@ -18,7 +18,7 @@ pub enum Pieces<'a> {
 /// The operands of the forms, in order.
 fn operands<'a>(forms: &[Form], b: &'a [u8]) -> Pieces<'a>
     requires { length forms.now ≤ 4 }
-    ensures { seen_all result ≡ operands_at forms.now b.now }
+    ensures { all_pieces_view result ≡ operands_at forms.now b.now }
 {
     let mut specs: ArrayVec<Spec, 4> = ArrayVec::new();
     let mut rest = b;

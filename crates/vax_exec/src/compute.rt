@@ -6,7 +6,7 @@ ghost use Rattle.vax_table.specs.Operand.{extended};
 ghost use Rattle.vax_table.specs.declared.act.Dest.TheVariants.{Nowhere};
 ghost use Rattle.vax_table.specs.declared.evaluation.Operands.{Operands};
 ghost use Rattle.vv_base.specs.Width.{low, size_of};
-ghost use Rattle.vax_operand.specs.Left.{joined};
+ghost use Rattle.vax_operand.specs.Left.{operands_with_registers};
 
 use vax_alu::{AluOp, alu};
 use vax_flow::begin;
@@ -31,8 +31,8 @@ fn extended(w: Width, v: u32) -> u32
 /// The numbers of an operation: the first, and the second, which is 0 where it has none.
 #[inline(always)]
 fn numbers(inputs: Inputs, o: &Values) -> (u32, u32)
-    ensures first { (r : List ℕ) → result.0 ≡ first_input inputs (joined o.now r) }
-    ensures second { (r : List ℕ) → result.1 ≡ second_input inputs (joined o.now r) }
+    ensures first { (r : List ℕ) → result.0 ≡ first_input inputs (operands_with_registers o.now r) }
+    ensures second { (r : List ℕ) → result.1 ≡ second_input inputs (operands_with_registers o.now r) }
 {
     match inputs {
         Inputs::Zero => (0, 0),
@@ -82,7 +82,7 @@ fn number_of(target: Target) -> usize
 #[inline(always)]
 fn put_result(target: Target, o: &Values, w: Width, value: u32, plan: &mut Plan)
     requires room { array_vec_len plan.old.writes < 20 }
-    ensures { (r : List ℕ) → effect plan.new ≡ put (target_of target (joined o.now r)) w value (effect plan.old) }
+    ensures { (r : List ℕ) → effect plan.new ≡ put (target_of target (operands_with_registers o.now r)) w value (effect plan.old) }
 {
     let number = number_of(target);
     if number > 0 {
@@ -103,7 +103,7 @@ pub fn compute(
     plan: &mut Plan,
 )
     requires { w ≢ Width.Quad }
-    ensures { effect plan.new ≡ computed op w inputs target (joined o.now plan.old.r) psw }
+    ensures { effect plan.new ≡ computed op w inputs target (operands_with_registers o.now plan.old.r) psw }
 {
     let (first, second) = numbers(inputs, o);
     let x = alu(op, first, second, w, psw);
@@ -118,7 +118,7 @@ pub fn compute(
 #[tactic(auto, unfolding(vax_table::specs::Computing::moved_quad, vax_table::specs::Arithmetic::alu_of))]
 pub fn move_quad(v: u64, index: usize, o: &Values, psw: u8, plan: &mut Plan)
     requires { index < 4 }
-    ensures { effect plan.new ≡ moved_quad v (dest_of (joined o.now plan.old.r) index) (joined o.now plan.old.r) psw }
+    ensures { effect plan.new ≡ moved_quad v (dest_of (operands_with_registers o.now plan.old.r) index) (operands_with_registers o.now plan.old.r) psw }
 {
     let negative = if v >= 0x8000_0000_0000_0000 { 8 } else { 0 };
     let zero = if v == 0 { 4 } else { 0 };

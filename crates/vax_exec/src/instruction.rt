@@ -2,9 +2,9 @@ ghost use Rattle.std.specs.Prelude.{◌≡◌, true, ◌%◌, ◌^◌};
 ghost use Rattle.vax_table.specs.Effects.{effect, effects};
 ghost use Rattle.vax_table.specs.Operations.{is_narrow, operation_of};
 ghost use Rattle.vax_table.specs.Plan.{is_planned, performed, planned};
-ghost use Rattle.vax_table.specs.Script.{outcome};
+ghost use Rattle.vax_table.specs.Interaction.{outcome};
 ghost use Rattle.vax_table.specs.Spelling.{IsWellFormed, view};
-ghost use Rattle.vax_operand.specs.Left.{joined, left};
+ghost use Rattle.vax_operand.specs.Left.{left, operands_with_registers};
 ghost use Rattle.vax_exec.specs.Other.{is_other};
 
 use crate::compute::{compute, move_quad};
@@ -29,7 +29,7 @@ fn perform_other<S: Space>(
 ) -> Result<(), Trouble>
     requires other { is_other what ≡ true }
     requires narrow { is_narrow what ≡ true }
-    ensures { left result (effect plan.new) ≡ outcome (S.space s.now) (performed what (joined o.now plan.old.r) psw) }
+    ensures { left result (effect plan.new) ≡ outcome (S.space s.now) (performed what (operands_with_registers o.now plan.old.r) psw) }
 {
     match what {
         Operation::Nothing => {
@@ -62,7 +62,7 @@ fn perform<S: Space>(
 ) -> Result<(), Trouble>
     requires planned { is_planned what.now ≡ true }
     requires narrow { is_narrow what.now ≡ true }
-    ensures { left result (effect plan.new) ≡ outcome (S.space s.now) (performed what.now (joined o.now plan.old.r) (psl.0 % 2 ^ 8)) }
+    ensures { left result (effect plan.new) ≡ outcome (S.space s.now) (performed what.now (operands_with_registers o.now plan.old.r) (psl.0 % 2 ^ 8)) }
 {
     let psw = (psl.0 % 0x100) as u8;
     if let Operation::Compute(op, w, inputs, target) = *what {

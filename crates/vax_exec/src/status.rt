@@ -1,8 +1,8 @@
 ghost use Rattle.std.specs.Prelude.{◌≡◌};
 ghost use Rattle.vax_table.specs.Computing.{status_cleared, status_set};
 ghost use Rattle.vax_table.specs.Effects.{effect};
-ghost use Rattle.vax_table.specs.Script.{Space, outcome};
-ghost use Rattle.vax_operand.specs.Left.{joined, left};
+ghost use Rattle.vax_table.specs.Interaction.{Space, outcome};
+ghost use Rattle.vax_operand.specs.Left.{left, operands_with_registers};
 
 use vax_flow::begin;
 use vax_operand::{Trouble, Values};
@@ -11,7 +11,7 @@ use vax_table::effect::Plan;
 /// BISPSW. A mask with any of bits 15:8 is a reserved operand.
 #[tactic(auto, unfolding(vax_table::specs::Computing::status_set))]
 pub fn set_status(o: &Values, psw: u8, plan: &mut Plan) -> Result<(), Trouble>
-    ensures { (s : Space) → left result (effect plan.new) ≡ outcome s (status_set (joined o.now plan.old.r) psw) }
+    ensures { (s : Space) → left result (effect plan.new) ≡ outcome s (status_set (operands_with_registers o.now plan.old.r) psw) }
 {
     match o.long(0) {
         mask @ 0..=0xFF => {
@@ -25,7 +25,7 @@ pub fn set_status(o: &Values, psw: u8, plan: &mut Plan) -> Result<(), Trouble>
 /// BICPSW. A mask with any of bits 15:8 is a reserved operand.
 #[tactic(auto, unfolding(vax_table::specs::Computing::status_cleared))]
 pub fn clear_status(o: &Values, psw: u8, plan: &mut Plan) -> Result<(), Trouble>
-    ensures { (s : Space) → left result (effect plan.new) ≡ outcome s (status_cleared (joined o.now plan.old.r) psw) }
+    ensures { (s : Space) → left result (effect plan.new) ≡ outcome s (status_cleared (operands_with_registers o.now plan.old.r) psw) }
 {
     match o.long(0) {
         mask @ 0..=0xFF => {

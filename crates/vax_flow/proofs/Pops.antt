@@ -1,7 +1,7 @@
 -- One register more is popped, or passed over.
 use Rattle.std.proofs.Common.{◌≡◌, ℕ, suc, ◌+◌, ◌-◌, ◌<◌, true, false, [], ◌∷◌, Ok, Err, refl, arith}
 use Rattle.vax_table.specs.declared.evaluation.Place.{Place}
-use Rattle.vax_table.specs.Script.{Space, Trouble, outcome}
+use Rattle.vax_table.specs.Interaction.{Space, Trouble, outcome}
 use Rattle.vax_table.specs.Stack.{does_name, named_up, pop, pop_all}
 use Rattle.vax_table.proofs.Scripts.{outcome-bind}
 

@@ -2,9 +2,9 @@ ghost use Rattle.std.specs.Prelude.{◌≡◌, ◌<◌, ◌%◌, IfOk};
 ghost use Rattle.arrayvec.specs.ArrayVec.{array_vec_len};
 ghost use Rattle.vax_table.specs.Branches.{bit, bit_intent, bit_tested, branched_on_bit, byte_of_bit, with_bit};
 ghost use Rattle.vax_table.specs.Effects.{effect};
-ghost use Rattle.vax_table.specs.Script.{number_at, outcome};
-ghost use Rattle.vax_table.specs.Troubles.{told};
-ghost use Rattle.vax_operand.specs.Left.{joined, left};
+ghost use Rattle.vax_table.specs.Interaction.{number_at, outcome};
+ghost use Rattle.vax_table.specs.Troubles.{with_trouble};
+ghost use Rattle.vax_operand.specs.Left.{left, operands_with_registers};
 
 use crate::begun::begin;
 use crate::branches::comes_out;
@@ -58,7 +58,7 @@ fn test_bit(
 
 /// A byte that is read, with write intent where it may change.
 fn read_byte<S: Space>(space: &S, va: u32, becomes: Option<bool>) -> Result<u64, Trouble>
-    ensures number { told result ≡ number_at (S.space space.now) (bit_intent becomes) 1 va }
+    ensures number { with_trouble result ≡ number_at (S.space space.now) (bit_intent becomes) 1 va }
     ensures fits { IfOk result (λ v. v < 256) }
 {
     if becomes.is_some() {
@@ -78,7 +78,7 @@ pub fn branch_on_bit<S: Space>(
     psw: u8,
     plan: &mut Plan,
 ) -> Result<(), Trouble>
-    ensures { left result (effect plan.new) ≡ outcome (S.space space.now) (branched_on_bit on becomes (joined o.now plan.old.r) psw) }
+    ensures { left result (effect plan.new) ≡ outcome (S.space space.now) (branched_on_bit on becomes (operands_with_registers o.now plan.old.r) psw) }
 {
     let position = o.long(0);
     let to = o.long(2);

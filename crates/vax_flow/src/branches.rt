@@ -2,8 +2,8 @@ ghost use Rattle.std.specs.Prelude.{◌≡◌, ◌≢◌, ◌<◌, ◌^◌};
 ghost use Rattle.vax_table.specs.Branches.{bit, branched, branched_on_low_bit, called_subroutine, cased, comes_out, holds, left_subroutine};
 ghost use Rattle.vax_table.specs.Effects.{effect};
 ghost use Rattle.vax_table.specs.Operand.{extended};
-ghost use Rattle.vax_table.specs.Script.{outcome};
-ghost use Rattle.vax_operand.specs.Left.{joined, left};
+ghost use Rattle.vax_table.specs.Interaction.{outcome};
+ghost use Rattle.vax_operand.specs.Left.{left, operands_with_registers};
 
 use crate::begun::begin;
 use crate::stack::push;
@@ -46,7 +46,7 @@ pub fn holds(condition: Condition, psw: u8) -> bool
 #[inline(always)]
 #[tactic(auto, unfolding(vax_table::specs::Branches::branched))]
 pub fn branch(condition: Condition, o: &Values, psw: u8, plan: &mut Plan)
-    ensures { effect plan.new ≡ branched condition (joined o.now plan.old.r) psw }
+    ensures { effect plan.new ≡ branched condition (operands_with_registers o.now plan.old.r) psw }
 {
     begin(plan, psw);
     plan.go_if(holds(condition, psw), o.long(0));
@@ -60,7 +60,7 @@ pub fn call_subroutine<S: Space>(
     psw: u8,
     plan: &mut Plan,
 ) -> Result<(), Trouble>
-    ensures { left result (effect plan.new) ≡ outcome (S.space space.now) (called_subroutine (joined o.now plan.old.r) psw) }
+    ensures { left result (effect plan.new) ≡ outcome (S.space space.now) (called_subroutine (operands_with_registers o.now plan.old.r) psw) }
 {
     begin(plan, psw);
     let next = plan.r[15];
@@ -77,7 +77,7 @@ pub fn leave_subroutine<S: Space>(
     psw: u8,
     plan: &mut Plan,
 ) -> Result<(), Trouble>
-    ensures { left result (effect plan.new) ≡ outcome (S.space space.now) (left_subroutine (joined o.now plan.old.r) psw) }
+    ensures { left result (effect plan.new) ≡ outcome (S.space space.now) (left_subroutine (operands_with_registers o.now plan.old.r) psw) }
 {
     let sp = plan.r[14];
     let pc = space.read(sp, Width::Long)? as u32;
@@ -109,7 +109,7 @@ pub fn case<S: Space>(
     plan: &mut Plan,
 ) -> Result<(), Trouble>
     requires { w ≢ Width.Quad }
-    ensures { left result (effect plan.new) ≡ outcome (S.space space.now) (cased w (joined o.now plan.old.r) psw) }
+    ensures { left result (effect plan.new) ≡ outcome (S.space space.now) (cased w (operands_with_registers o.now plan.old.r) psw) }
 {
     let t = alu(AluOp::Sub, o.long(1), o.long(0), w, psw).value;
     let limit = o.long(2);
@@ -136,7 +136,7 @@ pub fn comes_out(wanted: bool, is: bool) -> bool
 /// BLBS and BLBC.
 #[tactic(auto, unfolding(vax_table::specs::Branches::branched_on_low_bit))]
 pub fn branch_on_low_bit(on: bool, o: &Values, psw: u8, plan: &mut Plan)
-    ensures { effect plan.new ≡ branched_on_low_bit on (joined o.now plan.old.r) psw }
+    ensures { effect plan.new ≡ branched_on_low_bit on (operands_with_registers o.now plan.old.r) psw }
 {
     begin(plan, psw);
     plan.go_if(comes_out(on, o.long(0) % 2 == 1), o.long(1));

@@ -2,10 +2,10 @@ ghost use Rattle.std.specs.Prelude.{◌≡◌, ◌≤◌, [], ◌∷◌, slice_i
 ghost use Rattle.arrayvec.specs.ArrayVec.{array_vec_len};
 ghost use Rattle.vax_table.specs.Calls.{called_general, called_on_stack, entered, entry_mask, frame_popped, frame_word, in_procedure, list_dropped, procedure_status, returned};
 ghost use Rattle.vax_table.specs.Effects.{effect};
-ghost use Rattle.vax_table.specs.Script.{outcome};
+ghost use Rattle.vax_table.specs.Interaction.{outcome};
 ghost use Rattle.vax_table.specs.Stack.{push_all};
-ghost use Rattle.vax_table.specs.Troubles.{told};
-ghost use Rattle.vax_operand.specs.Left.{joined, left};
+ghost use Rattle.vax_table.specs.Troubles.{with_trouble};
+ghost use Rattle.vax_operand.specs.Left.{left, operands_with_registers};
 
 use crate::begun::begin;
 use crate::stack::{pop, pop_named, push, push_named};
@@ -84,7 +84,7 @@ fn enter<S: Space>(
 
 /// The entry mask of a procedure; its bits 13:12 are a reserved operand.
 fn read_mask<S: Space>(space: &S, procedure: u32) -> Result<u32, Trouble>
-    ensures { told result ≡ outcome (S.space space.now) (entry_mask procedure) }
+    ensures { with_trouble result ≡ outcome (S.space space.now) (entry_mask procedure) }
 {
     let mask = space.read(procedure, Width::Word)? as u32;
     if mask / 0x1000 % 4 == 0 {
@@ -102,7 +102,7 @@ pub fn call_general<S: Space>(
     psw: u8,
     plan: &mut Plan,
 ) -> Result<(), Trouble>
-    ensures { left result (effect plan.new) ≡ outcome (S.space space.now) (called_general (joined o.now plan.old.r) psw) }
+    ensures { left result (effect plan.new) ≡ outcome (S.space space.now) (called_general (operands_with_registers o.now plan.old.r) psw) }
 {
     let procedure = o.long(1);
     let mask = read_mask(space, procedure)?;
@@ -119,7 +119,7 @@ pub fn call_on_stack<S: Space>(
     psw: u8,
     plan: &mut Plan,
 ) -> Result<(), Trouble>
-    ensures { left result (effect plan.new) ≡ outcome (S.space space.now) (called_on_stack (joined o.now plan.old.r) psw) }
+    ensures { left result (effect plan.new) ≡ outcome (S.space space.now) (called_on_stack (operands_with_registers o.now plan.old.r) psw) }
 {
     let procedure = o.long(1);
     let mask = read_mask(space, procedure)?;
@@ -132,7 +132,7 @@ pub fn call_on_stack<S: Space>(
 
 /// SP after a frame: where the argument list was on the stack, the count's longword and 4 times its low byte go too.
 fn drop_list<S: Space>(space: &S, is_on_stack: bool, sp: u32) -> Result<u32, Trouble>
-    ensures { told result ≡ outcome (S.space space.now) (list_dropped is_on_stack sp) }
+    ensures { with_trouble result ≡ outcome (S.space space.now) (list_dropped is_on_stack sp) }
 {
     if is_on_stack {
         let count = space.read(sp, Width::Long)? as u32;
@@ -156,7 +156,7 @@ fn pop_frame<S: Space>(space: &S, place: &mut Place, mask: u32) -> Result<(), Tr
 /// RET.
 #[tactic(auto, unfolding(vax_table::specs::Calls::returned), using(vax_table::proofs::Scripts::binds))]
 pub fn ret<S: Space>(space: &S, o: &Values, psw: u8, plan: &mut Plan) -> Result<(), Trouble>
-    ensures { left result (effect plan.new) ≡ outcome (S.space space.now) (returned (joined o.now plan.old.r) psw) }
+    ensures { left result (effect plan.new) ≡ outcome (S.space space.now) (returned (operands_with_registers o.now plan.old.r) psw) }
 {
     let r = plan.r;
     let fp = r[13];

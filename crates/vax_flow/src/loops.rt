@@ -1,7 +1,7 @@
 ghost use Rattle.std.specs.Prelude.{◌≡◌, ◌≢◌, ◌<◌};
 ghost use Rattle.vax_table.specs.Branches.{added_and_compared, added_one, is_at_most, is_less, keeping_c, looped, subtracted_one};
 ghost use Rattle.vax_table.specs.Effects.{dest_of, effect};
-ghost use Rattle.vax_operand.specs.Left.{joined};
+ghost use Rattle.vax_operand.specs.Left.{operands_with_registers};
 
 use crate::begun::begin;
 use vax_alu::{Alu, AluOp, alu};
@@ -28,7 +28,7 @@ fn loop_to(
     plan: &mut Plan,
 )
     requires { index < 4 }
-    ensures { effect plan.new ≡ looped w (dest_of (joined o.now plan.old.r) index) x.now taken to (joined o.now plan.old.r) psw }
+    ensures { effect plan.new ≡ looped w (dest_of (operands_with_registers o.now plan.old.r) index) x.now taken to (operands_with_registers o.now plan.old.r) psw }
 {
     begin(plan, keeping_c(psw, x.psw));
     if let Some(kind) = x.trap {
@@ -58,7 +58,7 @@ fn is_at_most(w: Width, a: u32, b: u32) -> bool
 #[tactic(auto, unfolding(vax_table::specs::Branches::added_and_compared))]
 pub fn add_and_compare(w: Width, o: &Values, psw: u8, plan: &mut Plan)
     requires { w ≢ Width.Quad }
-    ensures { effect plan.new ≡ added_and_compared w (joined o.now plan.old.r) psw }
+    ensures { effect plan.new ≡ added_and_compared w (operands_with_registers o.now plan.old.r) psw }
 {
     let (limit, add) = (o.long(0), o.long(1));
     let x = alu(AluOp::Add, add, o.long(2), w, psw);
@@ -73,7 +73,7 @@ pub fn add_and_compare(w: Width, o: &Values, psw: u8, plan: &mut Plan)
 /// AOBLEQ where it branches at the limit too, else AOBLSS.
 #[tactic(auto, unfolding(vax_table::specs::Branches::added_one))]
 pub fn add_one(at_limit: bool, o: &Values, psw: u8, plan: &mut Plan)
-    ensures { effect plan.new ≡ added_one at_limit (joined o.now plan.old.r) psw }
+    ensures { effect plan.new ≡ added_one at_limit (operands_with_registers o.now plan.old.r) psw }
 {
     let limit = o.long(0);
     let x = alu(AluOp::Add, 1, o.long(1), Width::Long, psw);
@@ -88,7 +88,7 @@ pub fn add_one(at_limit: bool, o: &Values, psw: u8, plan: &mut Plan)
 /// SOBGEQ where it branches at zero too, else SOBGTR.
 #[tactic(auto, unfolding(vax_table::specs::Branches::subtracted_one))]
 pub fn subtract_one(at_zero: bool, o: &Values, psw: u8, plan: &mut Plan)
-    ensures { effect plan.new ≡ subtracted_one at_zero (joined o.now plan.old.r) psw }
+    ensures { effect plan.new ≡ subtracted_one at_zero (operands_with_registers o.now plan.old.r) psw }
 {
     let x = alu(AluOp::Sub, 1, o.long(0), Width::Long, psw);
     let taken = if at_zero {

@@ -2,8 +2,8 @@ ghost use Rattle.std.specs.Prelude.{◌≡◌, true};
 ghost use Rattle.vax_table.specs.Effects.{effect};
 ghost use Rattle.vax_table.specs.Operations.{is_narrow};
 ghost use Rattle.vax_table.specs.Plan.{performed};
-ghost use Rattle.vax_table.specs.Script.{outcome};
-ghost use Rattle.vax_operand.specs.Left.{joined, left};
+ghost use Rattle.vax_table.specs.Interaction.{outcome};
+ghost use Rattle.vax_operand.specs.Left.{left, operands_with_registers};
 ghost use Rattle.vax_flow.specs.Flow.{is_flow};
 
 use crate::bits::branch_on_bit;
@@ -28,7 +28,7 @@ pub fn flow<S: Space>(
 ) -> Result<(), Trouble>
     requires flow { is_flow what ≡ true }
     requires narrow { is_narrow what ≡ true }
-    ensures { left result (effect plan.new) ≡ outcome (S.space s.now) (performed what (joined o.now plan.old.r) psw) }
+    ensures { left result (effect plan.new) ≡ outcome (S.space s.now) (performed what (operands_with_registers o.now plan.old.r) psw) }
 {
     match what {
         Operation::Push => push_operand(s, o, psw, plan),

@@ -1,11 +1,11 @@
 ghost use Rattle.std.specs.Prelude.{◌≡◌, ◌<◌, ◌≤◌, ◌+◌};
 ghost use Rattle.arrayvec.specs.ArrayVec.{array_vec_len};
 ghost use Rattle.vax_table.specs.Calls.{registers_popped, registers_pushed, values_of};
-ghost use Rattle.vax_table.specs.Computing.{pushed};
+ghost use Rattle.vax_table.specs.Computing.{operand_pushed};
 ghost use Rattle.vax_table.specs.Effects.{effect};
-ghost use Rattle.vax_table.specs.Script.{outcome};
+ghost use Rattle.vax_table.specs.Interaction.{outcome};
 ghost use Rattle.vax_table.specs.Stack.{does_name, named_down, named_up, pop, pop_all, push, push_all};
-ghost use Rattle.vax_operand.specs.Left.{joined, left};
+ghost use Rattle.vax_operand.specs.Left.{left, operands_with_registers};
 
 use crate::begun::begin;
 use vax_alu::{AluOp, alu};
@@ -90,14 +90,14 @@ pub fn pop_named<S: Space>(
 }
 
 /// PUSHL and PUSHA.
-#[tactic(auto, unfolding(vax_table::specs::Computing::pushed))]
+#[tactic(auto, unfolding(vax_table::specs::Computing::operand_pushed))]
 pub fn push_operand<S: Space>(
     space: &S,
     o: &Values,
     psw: u8,
     plan: &mut Plan,
 ) -> Result<(), Trouble>
-    ensures { left result (effect plan.new) ≡ outcome (S.space space.now) (pushed (joined o.now plan.old.r) psw) }
+    ensures { left result (effect plan.new) ≡ outcome (S.space space.now) (operand_pushed (operands_with_registers o.now plan.old.r) psw) }
 {
     let v = o.long(0);
     begin(plan, alu(AluOp::Move, v, 0, Width::Long, psw).psw);
@@ -113,7 +113,7 @@ pub fn push_registers<S: Space>(
     psw: u8,
     plan: &mut Plan,
 ) -> Result<(), Trouble>
-    ensures { left result (effect plan.new) ≡ outcome (S.space space.now) (registers_pushed (joined o.now plan.old.r) psw) }
+    ensures { left result (effect plan.new) ≡ outcome (S.space space.now) (registers_pushed (operands_with_registers o.now plan.old.r) psw) }
 {
     let r = plan.r;
     begin(plan, psw);
@@ -129,7 +129,7 @@ pub fn pop_registers<S: Space>(
     psw: u8,
     plan: &mut Plan,
 ) -> Result<(), Trouble>
-    ensures { left result (effect plan.new) ≡ outcome (S.space space.now) (registers_popped (joined o.now plan.old.r) psw) }
+    ensures { left result (effect plan.new) ≡ outcome (S.space space.now) (registers_popped (operands_with_registers o.now plan.old.r) psw) }
 {
     let mask = o.long(0);
     let r = plan.r;

@@ -1,14 +1,14 @@
 -- Runs of the real machine, one after another.
 use Rattle.std.proofs.Common.{◌≡◌, ℕ, zero, suc, ◌+◌, Option, Some, None, Result, Ok, Err, refl, ap, ◌∙◌, sym, arith}
 use Rattle.vax_table.specs.Effects.{long_of}
-use Rattle.vax_table.specs.Script.{Absent, Refusing, Past, Trouble, At, Test}
+use Rattle.vax_table.specs.Interaction.{Absent, Refusing, Past, Trouble, At, Test}
 use Rattle.vax_table.specs.Tries.{Clear, Completes, Stopped, Tried, tried}
 use Rattle.vax_table.specs.Whole.{Act, Meant, Plain, Probes, Traps, instruction}
 use Rattle.vax_arch.specs.declared.mode.Intent.{Intent}
 use Rattle.vax_table.specs.declared.evaluation.Operands.{Operands}
 use Rattle.std.specs.Prelude.{Bool}
-use Rattle.vax_hw.specs.Machine.{Machine, is_clear, seen_psl, space_of, tables_of}
-use Rattle.vax_hw.specs.Real.{Retired, unless_trapped, by_try, exit_of, going_on, in_kernel, carried_out, misses_after, one, probed_as, real}
+use Rattle.vax_hw.specs.Machine.{Machine, is_real_bit_clear, machine_space, machine_tables, seen_psl}
+use Rattle.vax_hw.specs.Real.{Retired, unless_trapped, retired_by_try, exit_of, going_on, in_kernel, carried_out, misses_after, machine_step, retired_by_probe, real}
 use Rattle.vax_hw.specs.RealLaws.{RunsGoOn, continued}
 use Rattle.vax_hw.specs.RealTables.{real_probe}
 use Rattle.vax_hw.specs.declared.world.Exit.{Exit}
@@ -24,23 +24,23 @@ trouble_ends (At Refusing i va) = λ more m. refl
 trouble_ends (At Past i va) = λ more m. refl
 trouble_ends (Test r) = λ more m. refl
 
-probe_ends : (m : Machine) (opcode : ℕ) (i : Intent) (o : Operands) (judged : Option Bool) → Ends (probed_as m opcode i o judged)
+probe_ends : (m : Machine) (opcode : ℕ) (i : Intent) (o : Operands) (judged : Option Bool) → Ends (retired_by_probe m opcode i o judged)
 probe_ends m opcode i o (Some is_accessible) = tt
 probe_ends m opcode i o None = λ more n. refl
 
 act_ends : (m : Machine) (opcode : ℕ) (a : Act) → Ends (carried_out m opcode a)
 act_ends m opcode (Plain e) = tt
 act_ends m opcode (Traps t) = λ more n. refl
-act_ends m opcode (Probes i o) = probe_ends m opcode i o (real_probe m.memory (tables_of m.world) m.world.psl.0 i (long_of o 0) (long_of o 1) (long_of o 2))
+act_ends m opcode (Probes i o) = probe_ends m opcode i o (real_probe m.memory (machine_tables m.world) m.world.psl.0 i (long_of o 0) (long_of o 1) (long_of o 2))
 
-try_ends : (m : Machine) (t : Tried Meant) → Ends (by_try m t)
+try_ends : (m : Machine) (t : Tried Meant) → Ends (retired_by_try m t)
 try_ends m (Completes meant) = act_ends m meant.opcode meant.act
 try_ends m (Clear va) = λ more n. refl
 try_ends m (Stopped trouble) = trouble_ends trouble
 
-one_ends : (m : Machine) → Ends (one m)
-unfolding one
-one_ends m = try_ends m (tried (space_of m) (is_clear m) (instruction (in_kernel m.world) (seen_psl m.world) m.world.r))
+one_ends : (m : Machine) → Ends (machine_step m)
+unfolding machine_step
+one_ends m = try_ends m (tried (machine_space m) (is_real_bit_clear m) (instruction (in_kernel m.world) (seen_psl m.world) m.world.r))
 
 -- after a trap
 trap_goes_on : (n more : ℕ) (m : Machine) (trap : Option ℕ) → real (n + more) m ≡ continued more (real n m).0 (real n m).1 →
@@ -57,4 +57,4 @@ pub goes_on : RunsGoOn
 goes_on zero more m = let same : 0 + more ≡ more = omega arith in ap (λ (k : ℕ). real k m) same
 goes_on (suc n) more m =
     let same : suc n + more ≡ suc (n + more) = omega arith in
-    ap (λ (k : ℕ). real k m) same ∙ step_goes_on n more m (one m) (one_ends m) (λ after. goes_on n more after)
+    ap (λ (k : ℕ). real k m) same ∙ step_goes_on n more m (machine_step m) (one_ends m) (λ after. goes_on n more after)

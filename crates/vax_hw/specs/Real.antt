@@ -4,14 +4,14 @@ use Rattle.std.specs.Prelude.{ℕ, zero, suc, ◌+◌, ◌%◌, ◌^◌, Bool, t
 use Rattle.vax_arch.specs.Fields.{current_of}
 use Rattle.vax_arch.specs.declared.mode.Intent.{Intent}
 use Rattle.vax_arch.specs.declared.mode.Intent.TheVariants.{Read, Write}
-use Rattle.vax_hw.specs.Machine.{Machine, is_clear, psw_of, retire, seen_psl, space_of, tables_of}
+use Rattle.vax_hw.specs.Machine.{Machine, is_real_bit_clear, machine_space, machine_tables, psw_of, retire, seen_psl}
 use Rattle.vax_hw.specs.RealTables.{real_probe}
 use Rattle.vax_hw.specs.declared.world.Exit.{Exit}
 use Rattle.vax_hw.specs.declared.world.Exit.TheVariants.{Arithmetic, Budget, NotValid, Denied, Emulate, Modify, Refused}
 use Rattle.vax_hw.specs.declared.world.World.{World}
 use Rattle.vax_table.specs.Effects.{Effect, long_of}
 use Rattle.vax_table.specs.Plan.{probed}
-use Rattle.vax_table.specs.Script.{Absent, Refusing, Past, Trouble, At, Test}
+use Rattle.vax_table.specs.Interaction.{Absent, Refusing, Past, Trouble, At, Test}
 use Rattle.vax_table.specs.Tries.{Clear, Completes, Stopped, Tried, tried}
 use Rattle.vax_table.specs.Whole.{Act, Meant, Plain, Probes, Traps, instruction, is_kernel_mode, probe_of, trap_of}
 use Rattle.vax_table.specs.declared.evaluation.Operands.{Operands}
@@ -40,26 +40,26 @@ abbrev pub retired_with : Machine → ℕ → Effect → Result Retired Exit
 retired_with m opcode e = Ok (record { machine = retire opcode e m; trap = e.trap })
 
 -- PROBE is executed where the real entries judge both bytes, and traps otherwise
-abbrev pub probed_as : Machine → ℕ → Intent → Operands → Option Bool → Result Retired Exit
-probed_as m opcode i o (Some is_accessible) = retired_with m opcode (probed is_accessible o (psw_of m.world))
-probed_as m opcode i o None = Err (Emulate (trap_of (probe_of i) o))
+abbrev pub retired_by_probe : Machine → ℕ → Intent → Operands → Option Bool → Result Retired Exit
+retired_by_probe m opcode i o (Some is_accessible) = retired_with m opcode (probed is_accessible o (psw_of m.world))
+retired_by_probe m opcode i o None = Err (Emulate (trap_of (probe_of i) o))
 
 -- an instruction that was found to be this retires, or traps
 abbrev pub carried_out : Machine → ℕ → Act → Result Retired Exit
 carried_out m opcode (Plain e) = retired_with m opcode e
 carried_out m opcode (Traps t) = Err (Emulate t)
 carried_out m opcode (Probes i o) =
-    probed_as m opcode i o (real_probe m.memory (tables_of m.world) m.world.psl.0 i (long_of o 0) (long_of o 1) (long_of o 2))
+    retired_by_probe m opcode i o (real_probe m.memory (machine_tables m.world) m.world.psl.0 i (long_of o 0) (long_of o 1) (long_of o 2))
 
 -- by the try of the instruction at PC
-abbrev pub by_try : Machine → Tried Meant → Result Retired Exit
-by_try m (Completes meant) = carried_out m meant.opcode meant.act
-by_try m (Clear va) = Err (Modify va)
-by_try m (Stopped trouble) = Err (exit_of trouble)
+abbrev pub retired_by_try : Machine → Tried Meant → Result Retired Exit
+retired_by_try m (Completes meant) = carried_out m meant.opcode meant.act
+retired_by_try m (Clear va) = Err (Modify va)
+retired_by_try m (Stopped trouble) = Err (exit_of trouble)
 
 -- one instruction: the machine after it, or why it didn't retire
-unfoldable pub one : Machine → Result Retired Exit
-one m = by_try m (tried (space_of m) (is_clear m) (instruction (in_kernel m.world) (seen_psl m.world) m.world.r))
+unfoldable pub machine_step : Machine → Result Retired Exit
+machine_step m = retired_by_try m (tried (machine_space m) (is_real_bit_clear m) (instruction (in_kernel m.world) (seen_psl m.world) m.world.r))
 
 -- an entry that wasn't valid is a miss
 abbrev pub misses_after : ℕ → Exit → ℕ
@@ -79,4 +79,4 @@ going_on rest m (Err e) = (record m { misses = misses_after m.misses e }, e)
 -- a run of at most so many instructions
 abbrev pub real : ℕ → Machine → Machine × Exit
 real zero m = (m, Budget)
-real (suc budget) m = going_on (real budget) m (one m)
+real (suc budget) m = going_on (real budget) m (machine_step m)

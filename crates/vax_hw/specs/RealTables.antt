@@ -15,8 +15,8 @@ use Rattle.vax_arch.specs.declared.walk.Grant.TheVariants.{Absent, Granted, Past
 use Rattle.vax_arch.specs.declared.walk.Lookup.{Lookup}
 use Rattle.vax_arch.specs.declared.walk.Lookup.TheVariants.{Beyond, Direct, Fails, Found}
 use Rattle.vax_table.specs.Probing.{last_of, probe_mode}
-use Rattle.vax_table.specs.Script.{Cause, cause_of}
-use Rattle.vax_table.specs.Script as script
+use Rattle.vax_table.specs.Interaction.{Cause, cause_of}
+use Rattle.vax_table.specs.Interaction as interaction
 
 -- more than any place that a walk reaches: a base has 32 bits, a page in its region 21, and so has a frame
 abbrev pub everywhere : ℕ
@@ -29,15 +29,15 @@ real_look memory t page = lookup everywhere memory (record t { mapped = true }) 
 -- the place that an entry gives an address, or why it gives none
 abbrev pub place_by : (va : ℕ) → Grant → Result ℕ Cause
 place_by va (Granted frame) = Ok (512 * frame + va % 512)
-place_by va Refused = Err script.Refusing
-place_by va Absent = Err script.Absent
-place_by va Past = Err script.Past
+place_by va Refused = Err interaction.Refusing
+place_by va Absent = Err interaction.Absent
+place_by va Past = Err interaction.Past
 
 abbrev pub placed_by : List ℕ → (va : ℕ) → Mode → Intent → Lookup → Result ℕ Cause
 placed_by memory va m i (Found place table) = place_by va (granted may_of everywhere (long_at memory place) m i)
 placed_by memory va m i (Direct frame) = Ok va
 placed_by memory va m i (Fails not_valid parameter) = Err (cause_of not_valid)
-placed_by memory va m i Beyond = Err script.Past
+placed_by memory va m i Beyond = Err interaction.Past
 
 -- an address translated, in a mode, for reading or for writing: its place in the machine, or why there is none
 unfoldable pub place_in : List ℕ → Tables → Mode → Intent → (va : ℕ) → Result ℕ Cause
@@ -68,22 +68,22 @@ is_kernels_alone code = may_of code Kernel intents.Read && not (may_of code Exec
 abbrev pub judged_by : (entry : ℕ) → Mode → Intent → Option Bool
 judged_by entry m i = if is_valid entry && not (is_kernels_alone (protection_of entry)) then Some (may_of (protection_of entry) m i) else None
 
-abbrev pub judged_at : List ℕ → Mode → Intent → Lookup → Option Bool
-judged_at memory m i (Found place table) = judged_by (long_at memory place) m i
-judged_at memory m i (Direct frame) = None
-judged_at memory m i (Fails not_valid parameter) = None
-judged_at memory m i Beyond = None
+abbrev pub access_judged_at : List ℕ → Mode → Intent → Lookup → Option Bool
+access_judged_at memory m i (Found place table) = judged_by (long_at memory place) m i
+access_judged_at memory m i (Direct frame) = None
+access_judged_at memory m i (Fails not_valid parameter) = None
+access_judged_at memory m i Beyond = None
 
-unfoldable pub judged : List ℕ → Tables → Mode → Intent → (va : ℕ) → Option Bool
-judged memory t m i va = judged_at memory m i (real_look memory t (page_of va))
+unfoldable pub access_judged : List ℕ → Tables → Mode → Intent → (va : ℕ) → Option Bool
+access_judged memory t m i va = access_judged_at memory m i (real_look memory t (page_of va))
 
-abbrev pub both : Option Bool → Option Bool → Option Bool
-both (Some a) (Some b) = Some (a && b)
-both (Some a) None = None
-both None other = None
+abbrev pub both_judged : Option Bool → Option Bool → Option Bool
+both_judged (Some a) (Some b) = Some (a && b)
+both_judged (Some a) None = None
+both_judged None other = None
 
 -- for an intent, by the real PSL and the operands: the mode, the length, which is a word, and the base
 abbrev pub real_probe : List ℕ → Tables → (psl : ℕ) → Intent → (mode bytes base : ℕ) → Option Bool
 real_probe memory t psl i mode bytes base =
     let m = probe_mode psl mode in
-    both (judged memory t m i base) (judged memory t m i (last_of base (bytes % 2 ^ 16)))
+    both_judged (access_judged memory t m i base) (access_judged memory t m i (last_of base (bytes % 2 ^ 16)))

@@ -4,8 +4,8 @@ use Rattle.std.specs.Prelude.{◌≡◌, refl, true, false, ℕ, zero, suc, ◌+
 use Rattle.vv_base.specs.Bytes.{long_at, long_bytes, overwritten}
 use Rattle.vax_arch.specs.Walk.{granted, lookup, mapped_entry, process_entry, system_entry}
 use Rattle.vax_hw.specs.Machine.{Machine, retire}
-use Rattle.vax_hw.specs.Real.{one, real}
-use Rattle.vax_hw.specs.RealTables.{judged, place_in, real_look}
+use Rattle.vax_hw.specs.Real.{machine_step, real}
+use Rattle.vax_hw.specs.RealTables.{access_judged, place_in, real_look}
 use Rattle.vax_hw.specs.declared.world.Exit.{Exit}
 use Rattle.vax_hw.specs.declared.world.Exit.TheVariants.{Arithmetic, Budget, Denied, Emulate, Modify, NotValid, Refused}
 use Rattle.vax_hw.specs.declared.world.World.{World}
@@ -26,7 +26,7 @@ use Rattle.vax_table.specs.declared.act.Sens.TheVariants.{Halt, Prober}
 -- A run with all that it computes with: the examples unfold this one name.
 unfoldable pub whole_run : ℕ → Machine → Machine × Exit
 unfolding
-    one retire place_in real_look judged lookup mapped_entry process_entry system_entry granted
+    machine_step retire place_in real_look access_judged lookup mapped_entry process_entry system_entry granted
     instruction fetched decided decoded_at acted plan_of performed row_of operation_of operands_of operand_of
     read_operand modified_operand written_operand address_operand address_of base_address value_size computed alu_of
     trap_operands operand_at specifier_at specifier_by indexed_at moved_quad

@@ -6,17 +6,17 @@ use Rattle.vv_base.specs.Width.{size_of}
 use Rattle.vax_arch.specs.Fields.{current_of}
 use Rattle.vax_arch.specs.declared.mode.Intent.{Intent}
 use Rattle.vax_arch.specs.declared.mode.Intent.TheVariants.{Read, Write}
-use Rattle.vax_hw.specs.Machine.{Machine, is_clear, place_for, place_of, psw_of, retire, space_of, tables_of}
-use Rattle.vax_hw.specs.Real.{Retired, by_try, carried_out, one, probed_as, retired_with}
+use Rattle.vax_hw.specs.Machine.{Machine, is_real_bit_clear, machine_space, machine_tables, machine_write_place, place_for, psw_of, retire}
+use Rattle.vax_hw.specs.Real.{Retired, carried_out, machine_step, retired_by_probe, retired_by_try, retired_with}
 use Rattle.vax_hw.specs.RealTables.{byte_by, place_or_end, real_probe}
 use Rattle.vax_hw.specs.declared.world.Exit.{Exit}
 use Rattle.vax_laws.specs.Laws.{ChangesWhatItReads}
-use Rattle.vax_laws.specs.Reads.{instruction_of, judged_behind, place_if, places_read, places_walked, read_for_all}
+use Rattle.vax_laws.specs.Reads.{place_if, places_judged, places_read, places_walked, read_for_all, world_instruction}
 use Rattle.vax_table.specs.Claims.{addresses, claims}
 use Rattle.vax_table.specs.Effects.{Effect, long_of}
 use Rattle.vax_table.specs.Plan.{probed}
 use Rattle.vax_table.specs.PlanLaws.{bytes_of_stores}
-use Rattle.vax_table.specs.Script.{Cause, IsIn, Trouble, outcome, reached}
+use Rattle.vax_table.specs.Interaction.{Cause, IsIn, Trouble, outcome, reached}
 use Rattle.vax_table.specs.Stores.{all_stored, bytes_stored}
 use Rattle.vax_table.specs.Tries.{first_clear, tried_by, unless_clear}
 use Rattle.vax_table.specs.Whole.{Act, Meant, Plain, Probes, Traps}
@@ -45,16 +45,16 @@ written_place : (memory : List ℕ) (b : ℕ) (x y : Result ℕ Cause) → byte_
 written_place memory b (Ok place) y e reads = subst (λ (z : Result ℕ Cause). IsIn place (place_if z)) (sym (reads place refl)) (inl refl)
 written_place memory b (Err cause) y e reads = absurd (cc)
 
-claimed_read : (m : Machine) (x : Meant) → outcome (space_of m) (instruction_of m.world) ≡ Ok x → (va : ℕ) → IsIn va (claims (space_of m) (instruction_of m.world)) → IsIn (place_of m va) (places_read m)
+claimed_read : (m : Machine) (x : Meant) → outcome (machine_space m) (world_instruction m.world) ≡ Ok x → (va : ℕ) → IsIn va (claims (machine_space m) (world_instruction m.world)) → IsIn (machine_write_place m va) (places_read m)
 unfolding places_read
 claimed_read m x is va claim =
-    let script = instruction_of m.world in
-    let t = tables_of m.world in
-    let answer = claims_answered (space_of m) script x is va claim in
+    let script = world_instruction m.world in
+    let t = machine_tables m.world in
+    let answer = claims_answered (machine_space m) script x is va claim in
     let own = written_place m.memory answer.0 (place_for m Write va) (place_for m Read va) answer.1 (λ place e. place_read m.memory t (current_of m.world.psl.0) Write va place e) in
-    let here = among_back (places_walked m.memory t va) (place_if (place_for m Read va)) (place_of m va) own in
-    let asked = one_among m va (reached (space_of m) script) (claims_reached (space_of m) script x is va claim) (place_of m va) here in
-    among_front (read_for_all m (reached (space_of m) script)) (judged_behind m (outcome (space_of m) script)) (place_of m va) asked
+    let here = among_back (places_walked m.memory t va) (place_if (place_for m Read va)) (machine_write_place m va) own in
+    let asked = one_among m va (reached (machine_space m) script) (claims_reached (machine_space m) script x is va claim) (machine_write_place m va) here in
+    among_front (read_for_all m (reached (machine_space m) script)) (places_judged m (outcome (machine_space m) script)) (machine_write_place m va) asked
 
 -- Memory elsewhere is kept.
 
@@ -62,32 +62,32 @@ abbrev KeepsElsewhere : Machine → Result Retired Exit → Type 0
 KeepsElsewhere m (Ok x) = (place : ℕ) → (IsIn place (places_read m) → ⊥) → slice_index x.machine.memory place ≡ slice_index m.memory place
 KeepsElsewhere m (Err e) = Unit {0}
 
-effect_keeps : (m : Machine) (opcode : ℕ) (e : Effect) → ((va : ℕ) → IsIn va (bytes_of_stores e.writes) → IsIn (place_of m va) (places_read m)) → KeepsElsewhere m (retired_with m opcode e)
+effect_keeps : (m : Machine) (opcode : ℕ) (e : Effect) → ((va : ℕ) → IsIn va (bytes_of_stores e.writes) → IsIn (machine_write_place m va) (places_read m)) → KeepsElsewhere m (retired_with m opcode e)
 unfolding retire
 effect_keeps m opcode e h place out =
-    stored_elsewhere (place_of m) e.writes m.memory place (λ va g same. out (subst (λ (q : ℕ). IsIn q (places_read m)) (sym same) (h va g)))
+    stored_elsewhere (machine_write_place m) e.writes m.memory place (λ va g same. out (subst (λ (q : ℕ). IsIn q (places_read m)) (sym same) (h va g)))
 
-probe_keeps : (m : Machine) (opcode : ℕ) (o : Operands) (i : Intent) (judged : Option Bool) → KeepsElsewhere m (probed_as m opcode i o judged)
+probe_keeps : (m : Machine) (opcode : ℕ) (o : Operands) (i : Intent) (judged : Option Bool) → KeepsElsewhere m (retired_by_probe m opcode i o judged)
 probe_keeps m opcode o i (Some is_accessible) = effect_keeps m opcode (probed is_accessible o (psw_of m.world)) (λ va h. absurd h)
 probe_keeps m opcode o i None = tt
 
-act_keeps : (m : Machine) (opcode : ℕ) (act : Act) → ((e : Effect) → act ≡ Plain e → (va : ℕ) → IsIn va (bytes_of_stores e.writes) → IsIn (place_of m va) (places_read m)) → KeepsElsewhere m (carried_out m opcode act)
+act_keeps : (m : Machine) (opcode : ℕ) (act : Act) → ((e : Effect) → act ≡ Plain e → (va : ℕ) → IsIn va (bytes_of_stores e.writes) → IsIn (machine_write_place m va) (places_read m)) → KeepsElsewhere m (carried_out m opcode act)
 act_keeps m opcode (Plain e) h = effect_keeps m opcode e (h e refl)
 act_keeps m opcode (Traps t) h = tt
-act_keeps m opcode (Probes i o) h = probe_keeps m opcode o i (real_probe m.memory (tables_of m.world) m.world.psl.0 i (long_of o 0) (long_of o 1) (long_of o 2))
+act_keeps m opcode (Probes i o) h = probe_keeps m opcode o i (real_probe m.memory (machine_tables m.world) m.world.psl.0 i (long_of o 0) (long_of o 1) (long_of o 2))
 
-marked_keeps : (m : Machine) (x : Meant) (marked : Option ℕ) → KeepsElsewhere m (carried_out m x.opcode x.act) → KeepsElsewhere m (by_try m (unless_clear x marked))
+marked_keeps : (m : Machine) (x : Meant) (marked : Option ℕ) → KeepsElsewhere m (carried_out m x.opcode x.act) → KeepsElsewhere m (retired_by_try m (unless_clear x marked))
 marked_keeps m x None h = h
 marked_keeps m x (Some va) h = tt
 
-tried_keeps : (m : Machine) (r : Result Meant Trouble) → outcome (space_of m) (instruction_of m.world) ≡ r → (claimed : List ℕ) → KeepsElsewhere m (by_try m (tried_by (is_clear m) claimed r))
+tried_keeps : (m : Machine) (r : Result Meant Trouble) → outcome (machine_space m) (world_instruction m.world) ≡ r → (claimed : List ℕ) → KeepsElsewhere m (retired_by_try m (tried_by (is_real_bit_clear m) claimed r))
 tried_keeps m (Ok x) is claimed =
-    marked_keeps m x (first_clear (is_clear m) claimed) (act_keeps m x.opcode x.act (λ e plain va h. claimed_read m x is va (stored_claimed m x e is plain va h)))
+    marked_keeps m x (first_clear (is_real_bit_clear m) claimed) (act_keeps m x.opcode x.act (λ e plain va h. claimed_read m x is va (stored_claimed m x e is plain va h)))
 tried_keeps m (Err trouble) is claimed = tt
 
-one_keeps : (m : Machine) → KeepsElsewhere m (one m)
-unfolding one
-one_keeps m = tried_keeps m (outcome (space_of m) (instruction_of m.world)) refl (claims (space_of m) (instruction_of m.world))
+one_keeps : (m : Machine) → KeepsElsewhere m (machine_step m)
+unfolding machine_step
+one_keeps m = tried_keeps m (outcome (machine_space m) (world_instruction m.world)) refl (claims (machine_space m) (world_instruction m.world))
 
 pub keeps_elsewhere : ChangesWhatItReads
 keeps_elsewhere m x e = subst (KeepsElsewhere m) e (one_keeps m)

@@ -3,9 +3,9 @@ use Rattle.std.proofs.Common.{◌≡◌, ℕ, ◌+◌, ◌*◌, ◌%◌, ◌^◌
 use Rattle.std.specs.Prelude.{◌==◌, if◌then◌else◌, nat_le, nat_lt, slice_get, slice_index}
 use Rattle.vv_base.specs.Bytes.{long_at}
 use Rattle.vax_arch.specs.Fields.{frame_of, is_modified, is_valid, protection_of}
-use Rattle.vax_arch.specs.Protection.{Rights, allows, line_or_none, lines, may_of, rights_in}
+use Rattle.vax_arch.specs.Protection.{Rights, may_of, protection_rows, rights_allow, rights_in, row_or_none}
 use Rattle.vax_arch.specs.Protection as rights
-use Rattle.vax_arch.specs.Walk.{Tables, behind_table, granted, in_memory, in_region, is_clear_at, is_past, lookup, mapped_entry, page_of, process_entry, region_of, system_entry}
+use Rattle.vax_arch.specs.Walk.{Tables, granted, in_memory, in_region, is_clear_at, is_past, lookup, mapped_entry, page_of, process_entry, region_of, system_entry, through_system_entry}
 use Rattle.vax_arch.specs.declared.mode.Intent.{Intent}
 use Rattle.vax_arch.specs.declared.mode.Intent.TheVariants.{Read, Write}
 use Rattle.vax_arch.specs.declared.mode.Mode.{Mode}
@@ -13,11 +13,11 @@ use Rattle.vax_arch.specs.declared.walk.Grant.{Grant}
 use Rattle.vax_arch.specs.declared.walk.Grant.TheVariants.{Refused}
 use Rattle.vax_arch.specs.declared.walk.Lookup.{Lookup}
 use Rattle.vax_arch.specs.declared.walk.Lookup.TheVariants.{Beyond, Direct, Fails, Found}
-use Rattle.vax_hw.specs.RealTables.{byte_by, everywhere, is_clear_in, judged, judged_at, judged_by, place_by, place_in, place_or_end, placed_by, real_look}
+use Rattle.vax_hw.specs.RealTables.{access_judged, access_judged_at, byte_by, everywhere, is_clear_in, judged_by, place_by, place_in, place_or_end, placed_by, real_look}
 use Rattle.vax_laws.specs.Laws.{HasTheSame}
 use Rattle.vax_laws.specs.Reads.{all_four, found_by, four_from, mapping_at, mapping_of, place_if, places_walked}
 use Rattle.vax_table.specs.Claims.{AreAmong}
-use Rattle.vax_table.specs.Script.{Cause}
+use Rattle.vax_table.specs.Interaction.{Cause}
 use Rattle.vax_table.proofs.Claims.{among_back, among_front}
 
 pub narrowed : (places more memory other : List ℕ) → AreAmong places more → HasTheSame more memory other → HasTheSame places memory other
@@ -33,13 +33,13 @@ long_same memory other place rest h =
 
 -- The look-up.
 
-behind_same : (memory other : List ℕ) (at table : ℕ) → long_at other table ≡ long_at memory table → behind_table everywhere other at table ≡ behind_table everywhere memory at table
+behind_same : (memory other : List ℕ) (at table : ℕ) → long_at other table ≡ long_at memory table → through_system_entry everywhere other at table ≡ through_system_entry everywhere memory at table
 behind_same memory other at table e =
     let by : ℕ → Lookup = λ entry. if is_past everywhere table 4 then Beyond else if not (is_valid entry) then Fails true 2 else if is_past everywhere (512 * frame_of entry) 512 then Beyond else in_memory everywhere (Some table) (512 * frame_of entry + at % 512) in
     ap by e
 
 process_on : (is_refused : Bool) (memory other : List ℕ) (at table : ℕ) → HasTheSame (all_four (if is_refused then [] else table ∷ [])) memory other →
-    (if is_refused then Fails false 3 else behind_table everywhere other at table) ≡ (if is_refused then Fails false 3 else behind_table everywhere memory at table)
+    (if is_refused then Fails false 3 else through_system_entry everywhere other at table) ≡ (if is_refused then Fails false 3 else through_system_entry everywhere memory at table)
 process_on true memory other at table h = refl
 process_on false memory other at table h = behind_same memory other at table (long_same memory other table [] h)
 
@@ -109,19 +109,19 @@ clear_on memory other Beyond h = refl
 pub mark_same : (memory other : List ℕ) (t : Tables) (va : ℕ) → HasTheSame (places_walked memory t va) memory other → is_clear_in other t va ≡ is_clear_in memory t va
 mark_same memory other t va h = ap (is_clear_at other) (walk_looks memory other t va h) ∙ clear_on memory other (real_look memory t (page_of va)) (walk_finds memory other t va h)
 
-judged_on : (memory other : List ℕ) (m : Mode) (i : Intent) (look : Lookup) → HasTheSame (all_four (found_by look)) memory other → judged_at other m i look ≡ judged_at memory m i look
+judged_on : (memory other : List ℕ) (m : Mode) (i : Intent) (look : Lookup) → HasTheSame (all_four (found_by look)) memory other → access_judged_at other m i look ≡ access_judged_at memory m i look
 judged_on memory other m i (Found place table) h = ap (λ entry. judged_by entry m i) (long_same memory other place [] h)
 judged_on memory other m i (Direct frame) h = refl
 judged_on memory other m i (Fails not_valid parameter) h = refl
 judged_on memory other m i Beyond h = refl
 
-pub judged_same : (memory other : List ℕ) (t : Tables) (m : Mode) (i : Intent) (va : ℕ) → HasTheSame (places_walked memory t va) memory other → judged other t m i va ≡ judged memory t m i va
-unfolding judged
-judged_same memory other t m i va h = ap (judged_at other m i) (walk_looks memory other t va h) ∙ judged_on memory other m i (real_look memory t (page_of va)) (walk_finds memory other t va h)
+pub judged_same : (memory other : List ℕ) (t : Tables) (m : Mode) (i : Intent) (va : ℕ) → HasTheSame (places_walked memory t va) memory other → access_judged other t m i va ≡ access_judged memory t m i va
+unfolding access_judged
+judged_same memory other t m i va h = ap (access_judged_at other m i) (walk_looks memory other t va h) ∙ judged_on memory other m i (real_look memory t (page_of va)) (walk_finds memory other t va h)
 
 -- What may be written may be read, at the same place.
 
-right : (x : Rights) → allows x Write ≡ true → allows x Read ≡ true
+right : (x : Rights) → rights_allow x Write ≡ true → rights_allow x Read ≡ true
 right rights.no e = cc
 right rights.r e = refl
 right rights.rw e = refl
@@ -134,7 +134,7 @@ read_on : (memory : List ℕ) (va place : ℕ) (m : Mode) (look : Lookup) → pl
 unfolding granted
 read_on memory va place m (Found at table) e =
     let code = protection_of (long_at memory at) in
-    grant_read (may_of code m Write) (may_of code m Read) _ va place (right (rights_in (line_or_none (slice_get lines code)) m)) e
+    grant_read (may_of code m Write) (may_of code m Read) _ va place (right (rights_in (row_or_none (slice_get protection_rows code)) m)) e
 read_on memory va place m (Direct frame) e = e
 read_on memory va place m (Fails not_valid parameter) e = cc
 read_on memory va place m Beyond e = cc

@@ -6,13 +6,13 @@ use Rattle.vax_arch.specs.Walk.{Tables, in_region, page_of, region_of}
 use Rattle.vax_arch.specs.declared.mode.Intent.TheVariants.{Read}
 use Rattle.vax_arch.specs.declared.walk.Lookup.{Lookup}
 use Rattle.vax_arch.specs.declared.walk.Lookup.TheVariants.{Beyond, Direct, Fails, Found}
-use Rattle.vax_hw.specs.Machine.{Machine, place_for, seen_psl, space_of, tables_of}
+use Rattle.vax_hw.specs.Machine.{Machine, machine_space, machine_tables, place_for, seen_psl}
 use Rattle.vax_hw.specs.Real.{in_kernel}
 use Rattle.vax_hw.specs.RealTables.{real_look}
 use Rattle.vax_hw.specs.declared.world.World.{World}
 use Rattle.vax_table.specs.Effects.{long_of}
 use Rattle.vax_table.specs.Probing.{last_of}
-use Rattle.vax_table.specs.Script.{Cause, Script, Trouble, outcome, reached}
+use Rattle.vax_table.specs.Interaction.{Cause, Interaction, Trouble, outcome, reached}
 use Rattle.vax_table.specs.Whole.{Act, Meant, Plain, Probes, Traps, instruction}
 
 -- the four places of a longword, and those of several
@@ -61,7 +61,7 @@ place_if (Err cause) = []
 
 -- for an address those of its walk, and then the place of its byte; what may be written may be read, at the same place
 abbrev pub read_for : Machine → (va : ℕ) → List ℕ
-read_for m va = places_walked m.memory (tables_of m.world) va ++ place_if (place_for m Read va)
+read_for m va = places_walked m.memory (machine_tables m.world) va ++ place_if (place_for m Read va)
 
 abbrev pub read_for_all : Machine → List ℕ → List ℕ
 read_for_all m [] = []
@@ -72,20 +72,20 @@ abbrev pub judged_for : Machine → Act → List ℕ
 judged_for m (Plain e) = []
 judged_for m (Traps t) = []
 judged_for m (Probes i o) =
-    places_walked m.memory (tables_of m.world) (long_of o 2)
-    ++ places_walked m.memory (tables_of m.world) (last_of (long_of o 2) (long_of o 1 % 2 ^ 16))
+    places_walked m.memory (machine_tables m.world) (long_of o 2)
+    ++ places_walked m.memory (machine_tables m.world) (last_of (long_of o 2) (long_of o 1 % 2 ^ 16))
 
-abbrev pub judged_behind : Machine → Result Meant Trouble → List ℕ
-judged_behind m (Ok meant) = judged_for m meant.act
-judged_behind m (Err trouble) = []
+abbrev pub places_judged : Machine → Result Meant Trouble → List ℕ
+places_judged m (Ok meant) = judged_for m meant.act
+places_judged m (Err trouble) = []
 
 -- the instruction at PC
-abbrev pub instruction_of : World → Script Meant
-instruction_of w = instruction (in_kernel w) (seen_psl w) w.r
+abbrev pub world_instruction : World → Interaction Meant
+world_instruction w = instruction (in_kernel w) (seen_psl w) w.r
 
 -- for each address that it asks for, up to and with the first that has trouble; then those of a PROBE, where it was found
 -- to be one
 unfoldable pub places_read : Machine → List ℕ
 places_read m =
-    read_for_all m (reached (space_of m) (instruction_of m.world))
-    ++ judged_behind m (outcome (space_of m) (instruction_of m.world))
+    read_for_all m (reached (machine_space m) (world_instruction m.world))
+    ++ places_judged m (outcome (machine_space m) (world_instruction m.world))

@@ -2,7 +2,7 @@
 -- entries, at 0 and 80, map each page to the frame of its number; code is at 200. Numbers are hexadecimal.
 use Rattle.std.specs.Prelude.{◌≡◌, refl, ℕ, List, [], ◌∷◌, ◌++◌}
 use Rattle.vax_arch.specs.Walk.{lookup, mapped_entry, process_entry, system_entry}
-use Rattle.vax_hw.specs.Machine.{Machine, tables_of}
+use Rattle.vax_hw.specs.Machine.{Machine, machine_tables}
 use Rattle.vax_hw.specs.RealTables.{real_look}
 use Rattle.vax_hw.specs.ShownReal.{machine_of, memory_of, probes, reads, whole_run, with_longs, world_of, writes}
 use Rattle.vax_hw.specs.declared.world.World.{World}
@@ -10,7 +10,7 @@ use Rattle.vax_laws.specs.Reads.{longs_walked, mapping_of, places_read}
 
 -- the longwords of a walk, with these longwords put at places
 abbrev pub walked : World → List (ℕ × ℕ) → ℕ → List ℕ
-walked w longs va = longs_walked (with_longs longs (memory_of [])) (tables_of w) va
+walked w longs va = longs_walked (with_longs longs (memory_of [])) (machine_tables w) va
 
 pub longwords :
     -- page 2 of P0: the system entry of its table's page, and its own entry

@@ -9,9 +9,9 @@ use Rattle.vax_table.specs.declared.decoded.Spec.{Spec}
 use Rattle.vax_table.specs.declared.forms.Access.{Access}
 use Rattle.vax_table.specs.declared.forms.Access.TheVariants.{Read, Modify, Write, Address, Bits, Branch}
 use Rattle.vax_table.specs.declared.forms.Form.{Form}
-use Rattle.vax_table.specs.Operand.{behind_bytes, operand_length, operand_of, plus, base_address, address_of, read_operand, modified_operand, written_operand, address_operand, bits_operand, branch_operand, by_access}
+use Rattle.vax_table.specs.Operand.{past_own_bytes, operand_length, operand_of, plus, base_address, address_of, read_operand, modified_operand, written_operand, address_operand, bits_operand, branch_operand, by_access}
 use Rattle.vax_table.specs.declared.evaluation.Trouble.{Trouble as Told}
-use Rattle.vax_table.specs.Standing.{Fits, IsFormed, Stands}
+use Rattle.vax_table.specs.LegalOperands.{FitsForm, IsFormed, IsLegalOperand}
 use Rattle.vax_table.proofs.Tests.{if_both, eq_of}
 use Rattle.vax_operand.specs.declared.kind.Kind.{Kind}
 use Rattle.vax_operand.specs.Prepared.{RestsOn, access_of, address_by, base_by, base_of, kind_by, kind_of, operand_by}
@@ -97,7 +97,7 @@ named : (s : Spec) → IsFormed s → eqb s.mode 5 ≡ true → s.reg < 15
 named s f t = let five : s.mode ≡ 5 = eq_of s.mode 5 t in f.named (omega arith)
 
 -- what the kinds of well-formed operands rest on
-pub rests : (a : Access) (w : Width) (s : Spec) → Stands a w s → RestsOn (kind_by a w s) w s
+pub rests : (a : Access) (w : Width) (s : Spec) → IsLegalOperand a w s → RestsOn (kind_by a w s) w s
 unfolding kind_by
 rests Read w s h =
     let P : Kind → Type 0 = λ k. RestsOn k w s in
@@ -111,9 +111,9 @@ rests Bits w s h = if_both (λ (k : Kind). RestsOn k w s) (eqb s.mode 5) _ _ (na
 rests Branch w s h = tt
 
 -- a prepared operand does what the operand does
-pub prepared_same : (f : Form) (s : Spec) (k : Kind) (n : ℕ) (r : List ℕ) → k ≡ kind_of f s → n ≡ operand_length f s → operand_by k f.width s (behind_bytes n r) ≡ operand_of f s r
+pub prepared_same : (f : Form) (s : Spec) (k : Kind) (n : ℕ) (r : List ℕ) → k ≡ kind_of f s → n ≡ operand_length f s → operand_by k f.width s (past_own_bytes n r) ≡ operand_of f s r
 unfolding operand_of
-prepared_same f s k n r e g = rw (e, g) (by_kind f.access f.width s (behind_bytes (operand_length f s) r))
+prepared_same f s k n r e g = rw (e, g) (by_kind f.access f.width s (past_own_bytes (operand_length f s) r))
 
-pub prepared_fits : (f : Form) (s : Spec) (k : Kind) (x : Result (Unit {0}) Told) (value : ℕ) (dest : Dest) → k ≡ kind_of f s → OnOk x (Fits (record { access = access_of k; width = f.width }) value dest) → OnOk x (Fits f value dest)
-prepared_fits f s k x value dest e h = subst (λ (a : Access). OnOk x (Fits (record { access = a; width = f.width }) value dest)) (ap access_of e ∙ kind_access f.access f.width s) h
+pub prepared_fits : (f : Form) (s : Spec) (k : Kind) (x : Result (Unit {0}) Told) (value : ℕ) (dest : Dest) → k ≡ kind_of f s → OnOk x (FitsForm (record { access = access_of k; width = f.width }) value dest) → OnOk x (FitsForm f value dest)
+prepared_fits f s k x value dest e h = subst (λ (a : Access). OnOk x (FitsForm (record { access = a; width = f.width }) value dest)) (ap access_of e ∙ kind_access f.access f.width s) h

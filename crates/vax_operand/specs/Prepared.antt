@@ -15,7 +15,7 @@ use Rattle.vax_table.specs.declared.evaluation.Evaluated.{Evaluated}
 use Rattle.vax_table.specs.declared.evaluation.Place.{Place}
 use Rattle.vax_table.specs.Operand.{evaluated, extended, indexed_by, minus, place, plus, register_value}
 use Rattle.vax_table.specs.Reading.{displacement_size}
-use Rattle.vax_table.specs.Script.{Script, Done, Touch, ◌>>=◌}
+use Rattle.vax_table.specs.Interaction.{Interaction, Done, Touch, ◌>>=◌}
 use Rattle.vax_operand.specs.declared.kind.Base.{Base}
 use Rattle.vax_operand.specs.declared.kind.Base.TheVariants.{Deferred, Decrement, Increment, IncrementDeferred, Absolute, Displaced, DisplacedDeferred}
 use Rattle.vax_operand.specs.declared.kind.Kind.{Kind}
@@ -99,7 +99,7 @@ rests-prop (Address b) w s = addressed-prop s
 rests-prop (Bits b) w s = addressed-prop s
 
 -- the address that a register gives in each way, for an operand of so many bytes
-unfoldable pub base_by : Base → ℕ → ℕ → List ℕ → Script Place
+unfoldable pub base_by : Base → ℕ → ℕ → List ℕ → Interaction Place
 base_by Deferred size n r = Done (place (slice_index r n) r)
 base_by Decrement size n r = Done (place (minus (slice_index r n) size) (slice_set r n (minus (slice_index r n) size)))
 base_by Increment size n r = Done (place (slice_index r n) (slice_set r n (plus (slice_index r n) size)))
@@ -109,11 +109,11 @@ base_by (Displaced d) size n r = Done (place (plus (slice_index r n) d) r)
 base_by (DisplacedDeferred d) size n r = Touch intents.Read (plus (slice_index r n) d) 4 (λ a. Done (place a r))
 
 -- the same, and its index
-unfoldable pub address_by : Base → ℕ → Spec → List ℕ → Script Place
+unfoldable pub address_by : Base → ℕ → Spec → List ℕ → Interaction Place
 address_by b size s r = base_by b size s.reg r >>= λ p. Done (indexed_by size s.index p)
 
 -- what an operand of each kind does after its own bytes
-unfoldable pub operand_by : Kind → Width → Spec → List ℕ → Script Evaluated
+unfoldable pub operand_by : Kind → Width → Spec → List ℕ → Interaction Evaluated
 operand_by Constant w s r = Done (evaluated s.value Nowhere r)
 operand_by ReadRegister w s r = Done (evaluated (register_value w r s.reg) Nowhere r)
 operand_by ModifyRegister w s r = Done (evaluated (register_value w r s.reg) (Register s.reg) r)

@@ -1,9 +1,9 @@
 ghost use Rattle.std.specs.Prelude.{◌≡◌, ◌≤◌, ◌<◌, IfSome};
 ghost use Rattle.vax_arch.specs.declared.mode.Intent.TheVariants.{Read};
 ghost use Rattle.vax_table.specs.Operand.{indexed_by, place};
-ghost use Rattle.vax_table.specs.Script.{number_at, outcome};
-ghost use Rattle.vax_table.specs.Troubles.{told};
-ghost use Rattle.vax_operand.specs.Left.{placed};
+ghost use Rattle.vax_table.specs.Interaction.{number_at, outcome};
+ghost use Rattle.vax_table.specs.Troubles.{with_trouble};
+ghost use Rattle.vax_operand.specs.Left.{place_or_trouble};
 ghost use Rattle.vax_operand.specs.Prepared.{IsAddressed, address_by, base_by};
 
 use crate::kind::Base;
@@ -15,7 +15,7 @@ use vv_base::Width;
 /// The longword from an address, which is an address again.
 #[inline(never)]
 fn pointer<S: Space>(space: &S, va: u32) -> Result<u32, Trouble>
-    ensures { told result ≡ number_at (S.space space.now) Read 4 va }
+    ensures { with_trouble result ≡ number_at (S.space space.now) Read 4 va }
 {
     Ok(space.read(va, Width::Long)? as u32)
 }
@@ -32,7 +32,7 @@ fn base_address<S: Space>(
 ) -> Result<u32, Trouble>
     requires register { n < 16 }
     requires size { size ≤ 8 }
-    ensures { placed result r.new ≡ outcome (S.space space.now) (base_by base size n r.old) }
+    ensures { place_or_trouble result r.new ≡ outcome (S.space space.now) (base_by base size n r.old) }
 {
     let n = usize::from(n);
     let x = r[n];
@@ -84,7 +84,7 @@ pub fn address<S: Space>(
 ) -> Result<u32, Trouble>
     requires registers { IsAddressed spec.now }
     requires size { size ≤ 8 }
-    ensures { placed result r.new ≡ outcome (S.space space.now) (address_by base size spec.now r.old) }
+    ensures { place_or_trouble result r.new ≡ outcome (S.space space.now) (address_by base size spec.now r.old) }
 {
     let at = base_address(space, base, size, spec.reg, r)?;
     Ok(indexed_by(size, spec.index, at, r))

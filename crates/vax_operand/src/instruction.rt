@@ -1,11 +1,11 @@
 ghost use Rattle.std.specs.Prelude.{◌≡◌, ◌≤◌, if◌then◌else◌, length, map, slice_index, IfOk, OnOk};
-ghost use Rattle.vax_table.specs.Operand.{behind_bytes, forms_in, no_operands, operands_by, operands_from, operands_of, plus, trap_operands};
+ghost use Rattle.vax_table.specs.Operand.{forms_in, no_operands, operands_by, operands_from, operands_of, past_own_bytes, plus, trap_operands};
 ghost use Rattle.vax_table.specs.Rows.{row_of};
-ghost use Rattle.vax_table.specs.Script.{outcome};
+ghost use Rattle.vax_table.specs.Interaction.{outcome};
 ghost use Rattle.vax_table.specs.Spelling.{IsWellFormed, view};
-ghost use Rattle.vax_table.specs.Standing.{AllFit, AllStand};
-ghost use Rattle.vax_table.specs.Troubles.{told};
-ghost use Rattle.vax_operand.specs.Left.{joined, left};
+ghost use Rattle.vax_table.specs.LegalOperands.{AllFit, AreLegalOperands};
+ghost use Rattle.vax_table.specs.Troubles.{with_trouble};
+ghost use Rattle.vax_operand.specs.Left.{left, operands_with_registers};
 
 use crate::operand::operand_of;
 use crate::prepared::{Operand, Prepared, forms, prepare};
@@ -25,7 +25,7 @@ const NONE: Values = Values {
 /// No operands yet, and PC after the opcode, which has one byte, or two for WAIT.
 #[inline(always)]
 fn begin(d: &Decoded, r: &mut [u32; 16], v: &mut Values)
-    ensures value { joined v.new r.new ≡ no_operands (behind_bytes (if d.now.wait then 2 else 1) r.old) }
+    ensures value { operands_with_registers v.new r.new ≡ no_operands (past_own_bytes (if d.now.wait then 2 else 1) r.old) }
     ensures registers { length r.old ≡ 16 }
 {
     r[15] = r[15].wrapping_add(if d.wait { 2 } else { 1 });
@@ -42,8 +42,8 @@ fn evaluate_all<S: Space>(
     v: &mut Values,
 ) -> Result<(), Trouble>
     requires { length operands.now ≤ 4 }
-    ensures outcome { left result (joined v.new r.new) ≡ outcome (S.space space.now) (operands_from 0 (map (λ x. x.form) operands.now) (map (λ x. x.spec) operands.now) (joined v.old r.old)) }
-    ensures fits { OnOk result (AllFit (map (λ x. x.form) operands.now) (joined v.new r.new)) }
+    ensures outcome { left result (operands_with_registers v.new r.new) ≡ outcome (S.space space.now) (operands_from 0 (map (λ x. x.form) operands.now) (map (λ x. x.spec) operands.now) (operands_with_registers v.old r.old)) }
+    ensures fits { OnOk result (AllFit (map (λ x. x.form) operands.now) (operands_with_registers v.new r.new)) }
 {
     let n = operands.len();
     if n == 0 {
@@ -68,8 +68,8 @@ pub fn evaluate_into<S: Space>(
     v: &mut Values,
 ) -> Result<(), Trouble>
     requires formed { IsWellFormed (view e.now.decoded) }
-    ensures outcome { left result (joined v.new r.new) ≡ outcome (S.space s.now) (operands_of (view e.now.decoded) r.old) }
-    ensures fits { OnOk result (AllFit (forms_in (row_of e.now.decoded.opcode)) (joined v.new r.new)) }
+    ensures outcome { left result (operands_with_registers v.new r.new) ≡ outcome (S.space s.now) (operands_of (view e.now.decoded) r.old) }
+    ensures fits { OnOk result (AllFit (forms_in (row_of e.now.decoded.opcode)) (operands_with_registers v.new r.new)) }
     ensures next_pc { OnOk result (slice_index r.new 15 ≡ plus (slice_index r.old 15) e.now.decoded.length) }
 {
     begin(&e.decoded, r, v);
@@ -84,8 +84,8 @@ fn evaluate_by<S: Space>(
     r: &[u32; 16],
 ) -> Result<Operands, Trouble>
     requires few { length forms.now ≤ 4 }
-    requires stand { AllStand forms.now d.now.specs.items }
-    ensures outcome { told result ≡ outcome (S.space s.now) (operands_by forms.now (view d.now) r.now) }
+    requires stand { AreLegalOperands forms.now d.now.specs.items }
+    ensures outcome { with_trouble result ≡ outcome (S.space s.now) (operands_by forms.now (view d.now) r.now) }
     ensures fits { IfOk result (λ o. AllFit forms.now o) }
 {
     let mut r = *r;
@@ -100,7 +100,7 @@ fn evaluate_by<S: Space>(
 #[tactic(auto, unfolding(vax_table::specs::Operand::operands_of))]
 pub fn evaluate<S: Space>(s: &S, d: &Decoded, r: &[u32; 16]) -> Result<Operands, Trouble>
     requires { IsWellFormed (view d.now) }
-    ensures outcome { told result ≡ outcome (S.space s.now) (operands_of (view d.now) r.now) }
+    ensures outcome { with_trouble result ≡ outcome (S.space s.now) (operands_of (view d.now) r.now) }
     ensures fits { IfOk result (λ o. AllFit (forms_in (row_of d.now.opcode)) o) }
     ensures next_pc { IfOk result (λ o. slice_index o.r 15 ≡ plus (slice_index r.now 15) d.now.length) }
 {
@@ -124,7 +124,7 @@ const MFPR_FORMS: [Form; 2] = [
 #[tactic(auto, unfolding(vax_table::specs::Operand::trap_operands))]
 pub fn evaluate_trap<S: Space>(s: &S, d: &Decoded, r: &[u32; 16]) -> Result<Operands, Trouble>
     requires { IsWellFormed (view d.now) }
-    ensures { told result ≡ outcome (S.space s.now) (trap_operands (view d.now) r.now) }
+    ensures { with_trouble result ≡ outcome (S.space s.now) (trap_operands (view d.now) r.now) }
 {
     if d.opcode == 0xDB {
         evaluate_by(s, &MFPR_FORMS, d, r)

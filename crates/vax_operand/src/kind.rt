@@ -1,7 +1,7 @@
 ghost use Rattle.std.specs.Prelude.{◌≡◌, ◌≤◌, ◌<◌, ◌%◌, ◌^◌};
 ghost use Rattle.vv_base.specs.Width.{size_of};
 ghost use Rattle.vax_table.specs.Operand.{extended, operand_length};
-ghost use Rattle.vax_table.specs.Standing.{IsFormed, Stands};
+ghost use Rattle.vax_table.specs.LegalOperands.{IsFormed, IsLegalOperand};
 ghost use Rattle.vax_operand.specs.Prepared.{base_of, kind_of};
 
 use vax_table::{Access, Form, Spec, displacement_width, value_size};
@@ -87,7 +87,7 @@ fn base_of(w: Width, spec: &Spec) -> Base
 /// What an operand of a form is.
 #[tactic(auto, unfolding(crate::specs::Prepared::kind_by))]
 pub fn kind_of(form: Form, spec: &Spec) -> Kind
-    requires { Stands form.access form.width spec.now }
+    requires { IsLegalOperand form.access form.width spec.now }
     ensures { result ≡ kind_of form spec.now }
 {
     let w = form.width;

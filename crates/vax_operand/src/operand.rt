@@ -1,8 +1,8 @@
 ghost use Rattle.std.specs.Prelude.{◌≡◌, ◌<◌, ◌^◌, OnOk};
 ghost use Rattle.vv_base.specs.Width.{size_of};
 ghost use Rattle.vax_table.specs.Operand.{evaluated, operand_of, register_value};
-ghost use Rattle.vax_table.specs.Script.{outcome};
-ghost use Rattle.vax_table.specs.Standing.{Fits};
+ghost use Rattle.vax_table.specs.Interaction.{outcome};
+ghost use Rattle.vax_table.specs.LegalOperands.{FitsForm};
 ghost use Rattle.vax_operand.specs.Left.{left};
 ghost use Rattle.vax_operand.specs.Prepared.{IsAddressed, access_of, operand_by};
 
@@ -45,7 +45,7 @@ fn read_operand<S: Space>(
 ) -> Result<(), Trouble>
     requires { IsAddressed spec.now }
     ensures outcome { left result (evaluated value.new dest.new r.new) ≡ outcome (S.space space.now) (operand_by (Kind.Read base) w spec.now r.old) }
-    ensures fits { OnOk result (Fits (record { access = access_of (Kind.Read base); width = w }) value.new dest.new) }
+    ensures fits { OnOk result (FitsForm (record { access = access_of (Kind.Read base); width = w }) value.new dest.new) }
 {
     let at = address(space, base, u32::from(w.bytes()), spec, r)?;
     *value = space.read(at, w)?;
@@ -67,7 +67,7 @@ fn modified_operand<S: Space>(
 ) -> Result<(), Trouble>
     requires { IsAddressed spec.now }
     ensures outcome { left result (evaluated value.new dest.new r.new) ≡ outcome (S.space space.now) (operand_by (Kind.Modify base) w spec.now r.old) }
-    ensures fits { OnOk result (Fits (record { access = access_of (Kind.Modify base); width = w }) value.new dest.new) }
+    ensures fits { OnOk result (FitsForm (record { access = access_of (Kind.Modify base); width = w }) value.new dest.new) }
 {
     let at = address(space, base, u32::from(w.bytes()), spec, r)?;
     *value = space.claim(at, w)?;
@@ -89,7 +89,7 @@ fn written_operand<S: Space>(
 ) -> Result<(), Trouble>
     requires { IsAddressed spec.now }
     ensures outcome { left result (evaluated value.new dest.new r.new) ≡ outcome (S.space space.now) (operand_by (Kind.Write base) w spec.now r.old) }
-    ensures fits { OnOk result (Fits (record { access = access_of (Kind.Write base); width = w }) value.new dest.new) }
+    ensures fits { OnOk result (FitsForm (record { access = access_of (Kind.Write base); width = w }) value.new dest.new) }
 {
     let at = address(space, base, u32::from(w.bytes()), spec, r)?;
     space.claim(at, w)?;
@@ -112,7 +112,7 @@ fn address_operand<S: Space>(
 ) -> Result<(), Trouble>
     requires { IsAddressed spec.now }
     ensures outcome { left result (evaluated value.new dest.new r.new) ≡ outcome (S.space space.now) (operand_by (Kind.Address base) w spec.now r.old) }
-    ensures fits { OnOk result (Fits (record { access = access_of (Kind.Address base); width = w }) value.new dest.new) }
+    ensures fits { OnOk result (FitsForm (record { access = access_of (Kind.Address base); width = w }) value.new dest.new) }
 {
     let at = address(space, base, u32::from(w.bytes()), spec, r)?;
     *value = u64::from(at);
@@ -134,7 +134,7 @@ fn bits_operand<S: Space>(
 ) -> Result<(), Trouble>
     requires { IsAddressed spec.now }
     ensures outcome { left result (evaluated value.new dest.new r.new) ≡ outcome (S.space space.now) (operand_by (Kind.Bits base) w spec.now r.old) }
-    ensures fits { OnOk result (Fits (record { access = access_of (Kind.Bits base); width = w }) value.new dest.new) }
+    ensures fits { OnOk result (FitsForm (record { access = access_of (Kind.Bits base); width = w }) value.new dest.new) }
 {
     let at = address(space, base, u32::from(w.bytes()), spec, r)?;
     *value = 0;
@@ -153,7 +153,7 @@ fn operand_by<S: Space>(
     dest: &mut Dest,
 ) -> Result<(), Trouble>
     ensures outcome { left result (evaluated value.new dest.new r.new) ≡ outcome (S.space space.now) (operand_by x.now.kind x.now.form.width x.now.spec r.old) }
-    ensures fits { OnOk result (Fits (record { access = access_of x.now.kind; width = x.now.form.width }) value.new dest.new) }
+    ensures fits { OnOk result (FitsForm (record { access = access_of x.now.kind; width = x.now.form.width }) value.new dest.new) }
 {
     let w = x.form.width;
     match x.kind {
@@ -196,7 +196,7 @@ pub fn operand_of<S: Space>(
     dest: &mut Dest,
 ) -> Result<(), Trouble>
     ensures outcome { left result (evaluated value.new dest.new r.new) ≡ outcome (S.space space.now) (operand_of x.now.form x.now.spec r.old) }
-    ensures fits { OnOk result (Fits x.now.form value.new dest.new) }
+    ensures fits { OnOk result (FitsForm x.now.form value.new dest.new) }
 {
     r[15] = r[15].wrapping_add(x.length);
     operand_by(space, x, r, value, dest)

@@ -3,7 +3,7 @@ ghost use Rattle.vax_table.specs.Operand.{forms_in, operand_length};
 ghost use Rattle.vax_table.specs.Operations.{is_narrow, operation_of};
 ghost use Rattle.vax_table.specs.Rows.{row_of};
 ghost use Rattle.vax_table.specs.Spelling.{IsWellFormed, view};
-ghost use Rattle.vax_table.specs.Standing.{AllStand, Stands};
+ghost use Rattle.vax_table.specs.LegalOperands.{AreLegalOperands, IsLegalOperand};
 ghost use Rattle.vax_operand.specs.Prepared.{RestsOn, kind_of, rests-prop};
 
 use crate::kind::{Kind, kind_of, operand_length};
@@ -29,7 +29,7 @@ impl Operand {
     /// An operand of a well-formed instruction, prepared.
     #[tactic(auto, using(crate::proofs::Preparing::rests))]
     pub fn new(form: Form, spec: Spec) -> Operand
-        requires { Stands form.access form.width spec }
+        requires { IsLegalOperand form.access form.width spec }
         ensures form { result.form ≡ form }
         ensures spec { result.spec ≡ spec }
     {
@@ -64,7 +64,7 @@ pub struct Prepared {
 /// The operands of some forms, in order, prepared.
 pub fn prepare(forms: &[Form], specs: &[Spec]) -> ArrayVec<Operand, 4>
     requires few { length forms.now ≤ 4 }
-    requires stand { AllStand forms.now specs.now }
+    requires stand { AreLegalOperands forms.now specs.now }
     ensures forms { map (λ x. x.form) result.items ≡ forms.now }
     ensures specs { map (λ x. x.spec) result.items ≡ specs.now }
 {

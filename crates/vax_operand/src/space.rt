@@ -2,8 +2,8 @@ ghost use Rattle.std.specs.Prelude.{◌≡◌, ◌<◌, ◌^◌, ℕ, Result, If
 ghost use Rattle.vv_base.specs.Width.{size_of};
 ghost use Rattle.vax_arch.specs.declared.mode.Intent.{Intent};
 ghost use Rattle.vax_arch.specs.declared.mode.Intent.TheVariants.{Read, Write};
-ghost use Rattle.vax_table.specs.Script.{Cause, number_at};
-ghost use Rattle.vax_table.specs.Troubles.{told};
+ghost use Rattle.vax_table.specs.Interaction.{Cause, number_at};
+ghost use Rattle.vax_table.specs.Troubles.{with_trouble};
 
 use vax_table::evaluation::Trouble;
 use vv_base::Width;
@@ -16,12 +16,12 @@ pub trait Space {
 
     /// The number in the width's bytes from `va`, the lowest first.
     fn read(&self, va: u32, w: Width) -> Result<u64, Trouble>
-        ensures number { told result ≡ number_at (space self.now) Read (size_of w) va }
+        ensures number { with_trouble result ≡ number_at (space self.now) Read (size_of w) va }
         ensures fits { IfOk result (λ v. v < 256 ^ size_of w) };
 
     /// The number in the width's bytes from `va`, the lowest first, each of which has a place for writing: one access with
     /// write intent.
     fn claim(&self, va: u32, w: Width) -> Result<u64, Trouble>
-        ensures number { told result ≡ number_at (space self.now) Write (size_of w) va }
+        ensures number { with_trouble result ≡ number_at (space self.now) Write (size_of w) va }
         ensures fits { IfOk result (λ v. v < 256 ^ size_of w) };
 }

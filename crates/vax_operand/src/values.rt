@@ -1,6 +1,6 @@
 ghost use Rattle.std.specs.Prelude.{◌≡◌, ◌<◌, ◌%◌, ◌^◌, List, ℕ, slice_index};
 ghost use Rattle.vax_table.specs.Operand.{no_operands};
-ghost use Rattle.vax_operand.specs.Left.{joined};
+ghost use Rattle.vax_operand.specs.Left.{operands_with_registers};
 
 use vax_table::Dest;
 use vax_table::evaluation::Operands;
@@ -17,7 +17,7 @@ pub struct Values {
 impl Values {
     /// No operands.
     pub fn none() -> Values
-        ensures { (r : List ℕ) → joined result r ≡ no_operands r }
+        ensures { (r : List ℕ) → operands_with_registers result r ≡ no_operands r }
     {
         Values {
             values: [0; 4],
@@ -35,7 +35,7 @@ impl Values {
 
     /// These operands with the registers after them.
     pub fn joined(&self, r: &[u32; 16]) -> Operands
-        ensures { result ≡ joined self.now r.now }
+        ensures { result ≡ operands_with_registers self.now r.now }
     {
         Operands {
             values: self.values,

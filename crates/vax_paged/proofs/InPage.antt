@@ -11,17 +11,17 @@ use Rattle.vax_arch.specs.declared.walk.Lookup.TheVariants.{Beyond, Direct, Fail
 use Rattle.vax_arch.specs.Fields.{current_of}
 use Rattle.vax_arch.specs.Protection.{may_of}
 use Rattle.vax_arch.specs.Walk.{granted, is_clear_at, page_of}
-use Rattle.vax_hw.specs.Machine.{tables_of}
+use Rattle.vax_hw.specs.Machine.{machine_tables}
 use Rattle.vax_hw.specs.RealTables.{byte_by, everywhere, place_by, place_in, place_or_end, placed_by, real_look}
 use Rattle.vax_hw.specs.declared.world.World.{World}
 use Rattle.vv_base.specs.Bytes.{long_at}
 use Rattle.vv_base.specs.Width.{size_of}
 use Rattle.vax_table.specs.Claims.{addresses}
-use Rattle.vax_table.specs.Script.{At, Cause, Trouble, number_at, with_byte}
+use Rattle.vax_table.specs.Interaction.{At, Cause, Trouble, number_at, with_byte}
 use Rattle.vax_table.specs.Stores.{all_stored, bytes_stored}
 use Rattle.vax_table.specs.Tries.{first_clear}
 use Rattle.vax_table.specs.declared.effect.Store.{Store}
-use Rattle.vax_paged.specs.InPage.{IsWhole, number_from, numbered, stored_from}
+use Rattle.vax_paged.specs.InPage.{IsStoreInPage, number_at_place, number_from, stored_from}
 use Rattle.vax_paged.specs.Known.{known_space, place_known}
 use Rattle.vax_paged.specs.Paged.{at_byte, byte_at, is_clear_for, paged, placed, written_place}
 use Rattle.vax_paged.specs.declared.known.Known.{Known}
@@ -51,8 +51,8 @@ next_in memory va p m i Beyond h e = cc
 pub next_place : (memory : List ℕ) (w : World) (i : Intent) (va p : ℕ) → va % 512 + 1 < 512 → placed memory w i va ≡ Ok p → placed memory w i (va + 1) ≡ Ok (p + 1)
 unfolding place_in
 next_place memory w i va p h e =
-    ap (λ (page : ℕ). placed_by memory (va + 1) (current_of w.psl.0) i (real_look memory (tables_of w) page)) (same_page va h)
-    ∙ next_in memory va p (current_of w.psl.0) i (real_look memory (tables_of w) (page_of va)) h e
+    ap (λ (page : ℕ). placed_by memory (va + 1) (current_of w.psl.0) i (real_look memory (machine_tables w) page)) (same_page va h)
+    ∙ next_in memory va p (current_of w.psl.0) i (real_look memory (machine_tables w) (page_of va)) h e
 
 -- the next byte of a page has the next place, if the first has one
 abbrev GoesOn : (ℕ → Result ℕ Cause) → Type 0
@@ -80,20 +80,20 @@ troubled memory places i (suc k) va c small some e =
     ap (λ (a : ℕ). with_byte i a (byte_at memory places i a) (number_at (byte_at memory places) i k (va + 1))) same
     ∙ ap (λ (x : Result ℕ Cause). with_byte i va (byte_by memory x) (number_at (byte_at memory places) i k (va + 1))) e
 
-by_place : (memory : List ℕ) (places : Intent → ℕ → Result ℕ Cause) (i : Intent) → GoesOn (places i) → (k va : ℕ) (x : Result ℕ Cause) → va < 2 ^ 32 → 0 < k → va % 512 + k ≤ 512 → places i va ≡ x → number_at (byte_at memory places) i k va ≡ numbered memory k (at_byte i va x)
+by_place : (memory : List ℕ) (places : Intent → ℕ → Result ℕ Cause) (i : Intent) → GoesOn (places i) → (k va : ℕ) (x : Result ℕ Cause) → va < 2 ^ 32 → 0 < k → va % 512 + k ≤ 512 → places i va ≡ x → number_at (byte_at memory places) i k va ≡ number_at_place memory k (at_byte i va x)
 by_place memory places i next k va (Ok p) small some h e = there memory places i next k va p small h e
 by_place memory places i next k va (Err c) small some h e = troubled memory places i k va c small some e
 
 -- a number of one page is read at the place of its first byte, whose trouble is the number's
-number_by : (memory : List ℕ) (places : Intent → ℕ → Result ℕ Cause) (i : Intent) → GoesOn (places i) → (k va : ℕ) (r : Result ℕ Trouble) → va < 2 ^ 32 → 0 < k → va % 512 + k ≤ 512 → r ≡ at_byte i va (places i va) → numbered memory k r ≡ number_at (byte_at memory places) i k va
+number_by : (memory : List ℕ) (places : Intent → ℕ → Result ℕ Cause) (i : Intent) → GoesOn (places i) → (k va : ℕ) (r : Result ℕ Trouble) → va < 2 ^ 32 → 0 < k → va % 512 + k ≤ 512 → r ≡ at_byte i va (places i va) → number_at_place memory k r ≡ number_at (byte_at memory places) i k va
 number_by memory places i next k va r small some h e =
-    ap (numbered memory k) e ∙ sym (by_place memory places i next k va (places i va) small some h refl)
+    ap (number_at_place memory k) e ∙ sym (by_place memory places i next k va (places i va) small some h refl)
 
-pub number_there : (memory : List ℕ) (w : World) (i : Intent) (k va : ℕ) (r : Result ℕ Trouble) → va < 2 ^ 32 → 0 < k → va % 512 + k ≤ 512 → r ≡ at_byte i va (placed memory w i va) → numbered memory k r ≡ number_at (paged memory w) i k va
+pub number_there : (memory : List ℕ) (w : World) (i : Intent) (k va : ℕ) (r : Result ℕ Trouble) → va < 2 ^ 32 → 0 < k → va % 512 + k ≤ 512 → r ≡ at_byte i va (placed memory w i va) → number_at_place memory k r ≡ number_at (paged memory w) i k va
 number_there memory w i k va r small some h e = number_by memory (placed memory w) i (next_place memory w i) k va r small some h e
 
 -- and so is one of a known page
-pub number_known : (memory : List ℕ) (ks : List Known) (i : Intent) (k va : ℕ) (r : Result ℕ Trouble) → va < 2 ^ 32 → 0 < k → va % 512 + k ≤ 512 → r ≡ at_byte i va (place_known ks i va) → numbered memory k r ≡ number_at (known_space memory ks) i k va
+pub number_known : (memory : List ℕ) (ks : List Known) (i : Intent) (k va : ℕ) (r : Result ℕ Trouble) → va < 2 ^ 32 → 0 < k → va % 512 + k ≤ 512 → r ≡ at_byte i va (place_known ks i va) → number_at_place memory k r ≡ number_at (known_space memory ks) i k va
 number_known memory ks i k va r small some h e = number_by memory (place_known ks) i (next_known ks i) k va r small some h e
 
 -- an address that has a place has it by the walk
@@ -102,7 +102,7 @@ placed_ok i va p (Ok q) e = let same : q ≡ p = cc in ap (λ (n : ℕ). Ok n) s
 placed_ok i va p (Err c) e = cc
 
 next_clear : (memory : List ℕ) (w : World) (va : ℕ) → va % 512 + 1 < 512 → is_clear_for memory w (va + 1) ≡ is_clear_for memory w va
-next_clear memory w va h = ap (λ (page : ℕ). is_clear_at memory (real_look memory (tables_of w) page)) (same_page va h)
+next_clear memory w va h = ap (λ (page : ℕ). is_clear_at memory (real_look memory (machine_tables w) page)) (same_page va h)
 
 chosen_false : (a : ℕ) (t : Bool) (rest : Option ℕ) → t ≡ false → (if t then Some a else rest) ≡ rest
 chosen_false a true rest e = cc
@@ -166,8 +166,8 @@ frame_in memory va p m i Beyond e = cc
 
 pub placed_frame : (memory : List ℕ) (w : World) (i : Intent) (va p : ℕ) → placed memory w i va ≡ Ok p → p % 512 ≡ va % 512
 unfolding place_in
-placed_frame memory w i va p e = frame_in memory va p (current_of w.psl.0) i (real_look memory (tables_of w) (page_of va)) e
+placed_frame memory w i va p e = frame_in memory va p (current_of w.psl.0) i (real_look memory (machine_tables w) (page_of va)) e
 
 -- a store that lies whole in one page
-pub whole_stored : (memory new : List ℕ) (w : World) (x : Store) (p : ℕ) → IsWhole memory w x p → new ≡ stored_from (size_of x.width) p x.value memory → new ≡ all_stored (written_place memory w) (x ∷ []) memory
+pub whole_stored : (memory new : List ℕ) (w : World) (x : Store) (p : ℕ) → IsStoreInPage memory w x p → new ≡ stored_from (size_of x.width) p x.value memory → new ≡ all_stored (written_place memory w) (x ∷ []) memory
 whole_stored memory new w x p h e = e ∙ sym (stored_there memory w (size_of x.width) x.va p x.value memory h.small h.in_page h.placed_at)

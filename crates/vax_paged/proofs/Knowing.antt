@@ -15,11 +15,11 @@ use Rattle.vax_arch.specs.declared.mode.Mode.{Mode}
 use Rattle.vax_arch.specs.declared.walk.Lookup.{Lookup}
 use Rattle.vax_arch.specs.declared.walk.Lookup.TheVariants.{Beyond, Direct, Fails, Found}
 use Rattle.vax_arch.proofs.Walks.{looks_at_one}
-use Rattle.vax_hw.specs.Machine.{tables_of}
+use Rattle.vax_hw.specs.Machine.{machine_tables}
 use Rattle.vax_hw.specs.RealTables.{byte_by, everywhere, place_by, place_in, placed_by, real_look}
 use Rattle.vax_hw.specs.declared.world.World.{World}
-use Rattle.vax_table.specs.Script.{Below, Cause}
-use Rattle.vax_table.specs.Script as script
+use Rattle.vax_table.specs.Interaction.{Below, Cause}
+use Rattle.vax_table.specs.Interaction as interaction
 use Rattle.vax_table.proofs.Tests.{eq_of}
 use Rattle.vax_paged.specs.Known.{AreKnown, IsKnownIn, known_space, page_for, place_in_known, place_known}
 use Rattle.vax_paged.specs.Paged.{is_clear_for, look_of, paged, placed}
@@ -35,12 +35,12 @@ found_in place (Fails true parameter) e = cc
 found_in place (Fails false parameter) e = cc
 found_in place Beyond e = cc
 
-looked_again : (memory other : List ℕ) (w : World) (page place : ℕ) → looks.Found place ≡ look_of (real_look memory (tables_of w) page) →
-    long_at other (table_place (tables_of w) page) ≡ long_at memory (table_place (tables_of w) page) → (table : Option ℕ) × (real_look other (tables_of w) page ≡ Found place table)
+looked_again : (memory other : List ℕ) (w : World) (page place : ℕ) → looks.Found place ≡ look_of (real_look memory (machine_tables w) page) →
+    long_at other (table_place (machine_tables w) page) ≡ long_at memory (table_place (machine_tables w) page) → (table : Option ℕ) × (real_look other (machine_tables w) page ≡ Found place table)
 unfolding real_look
 looked_again memory other w page place found same =
-    let (table, is) = found_in place (real_look memory (tables_of w) page) found in
-    (table, looks_at_one everywhere memory other (tables_of w) page same ∙ is)
+    let (table, is) = found_in place (real_look memory (machine_tables w) page) found in
+    (table, looks_at_one everywhere memory other (machine_tables w) page same ∙ is)
 
 -- a page that is open
 opened : (t : Bool) (page p : ℕ) → p < 2 ^ 23 → (if t then page else 4294967295) ≡ p → (t ≡ true) × (page ≡ p)
@@ -59,29 +59,29 @@ record Entry (entry : ℕ) (m : Mode) (r x : Bool) : Type 0 where
 
 -- what was found of a page
 record Looked (memory other : List ℕ) (w : World) (page table place entry : ℕ) : Type 0 where
-  found : looks.Found place ≡ look_of (real_look memory (tables_of w) page)
-  at : table ≡ table_place (tables_of w) page
+  found : looks.Found place ≡ look_of (real_look memory (machine_tables w) page)
+  at : table ≡ table_place (machine_tables w) page
   is : entry ≡ long_at memory place
   same_table : long_at other table ≡ long_at memory table
   same_entry : long_at other place ≡ long_at memory place
 
-found_again : (memory other : List ℕ) (w : World) (page table place entry : ℕ) → Looked memory other w page table place entry → (x : Option ℕ) × (real_look other (tables_of w) page ≡ Found place x)
+found_again : (memory other : List ℕ) (w : World) (page table place entry : ℕ) → Looked memory other w page table place entry → (x : Option ℕ) × (real_look other (machine_tables w) page ≡ Found place x)
 found_again memory other w page table place entry l =
     looked_again memory other w page place l.found (ap (long_at other) (sym l.at) ∙ l.same_table ∙ ap (long_at memory) l.at)
 
 entry_again : (memory other : List ℕ) (w : World) (page table place entry : ℕ) → Looked memory other w page table place entry → long_at other place ≡ entry
 entry_again memory other w page table place entry l = l.same_entry ∙ sym l.is
 
-placed_again : (memory other : List ℕ) (w : World) (page table place entry va : ℕ) (m : Mode) (i : Intent) → Looked memory other w page table place entry → page ≡ page_of va → Opens entry m i → place_in other (tables_of w) m i va ≡ Ok (512 * frame_of entry + va % 512)
+placed_again : (memory other : List ℕ) (w : World) (page table place entry va : ℕ) (m : Mode) (i : Intent) → Looked memory other w page table place entry → page ≡ page_of va → Opens entry m i → place_in other (machine_tables w) m i va ≡ Ok (512 * frame_of entry + va % 512)
 unfolding place_in
 placed_again memory other w page table place entry va m i l here opens =
     let (x, is) = found_again memory other w page table place entry l in
-    ap (λ (n : ℕ). placed_by other va m i (real_look other (tables_of w) n)) (sym here)
+    ap (λ (n : ℕ). placed_by other va m i (real_look other (machine_tables w) n)) (sym here)
     ∙ ap (placed_by other va m i) is
     ∙ ap (λ (n : ℕ). place_by va (granted may_of everywhere n m i)) (entry_again memory other w page table place entry l)
     ∙ opens va
 
-placed_open : (memory other : List ℕ) (w : World) (page table place entry va : ℕ) (m : Mode) (i : Intent) (t : Bool) → Looked memory other w page table place entry → va < 2 ^ 32 → (t ≡ true → Opens entry m i) → (if t then page else 4294967295) ≡ page_of va → place_in other (tables_of w) m i va ≡ Ok (512 * frame_of entry + va % 512)
+placed_open : (memory other : List ℕ) (w : World) (page table place entry va : ℕ) (m : Mode) (i : Intent) (t : Bool) → Looked memory other w page table place entry → va < 2 ^ 32 → (t ≡ true → Opens entry m i) → (if t then page else 4294967295) ≡ page_of va → place_in other (machine_tables w) m i va ≡ Ok (512 * frame_of entry + va % 512)
 placed_open memory other w page table place entry va m i t l small opens e =
     let (holds, here) = opened t page (page_of va) (omega arith) e in
     placed_again memory other w page table place entry va m i l here (opens holds)
@@ -90,29 +90,29 @@ clear_open : (memory other : List ℕ) (w : World) (page table place entry va : 
 clear_open memory other w page table place entry va t l small modified e =
     let (holds, here) = opened t page (page_of va) (omega arith) e in
     let (x, is) = found_again memory other w page table place entry l in
-    ap (λ (n : ℕ). is_clear_at other (real_look other (tables_of w) n)) (sym here)
+    ap (λ (n : ℕ). is_clear_at other (real_look other (machine_tables w) n)) (sym here)
     ∙ ap (is_clear_at other) is
     ∙ ap (λ (n : ℕ). not (is_modified n)) (entry_again memory other w page table place entry l)
     ∙ ap not (modified holds)
 
 placed_as : (memory other : List ℕ) (w : World) (page table place entry : ℕ) (m : Mode) (r x : Bool) → Looked memory other w page table place entry → Entry entry m r x →
-    (i : Intent) (va : ℕ) → va < 2 ^ 32 → page_for i (record { read_page = if r then page else 4294967295; write_page = if x then page else 4294967295; base = 512 * frame_of entry }) ≡ page_of va → place_in other (tables_of w) m i va ≡ Ok (512 * frame_of entry + va % 512)
+    (i : Intent) (va : ℕ) → va < 2 ^ 32 → page_for i (record { read_page = if r then page else 4294967295; write_page = if x then page else 4294967295; base = 512 * frame_of entry }) ≡ page_of va → place_in other (machine_tables w) m i va ≡ Ok (512 * frame_of entry + va % 512)
 placed_as memory other w page table place entry m r x l e Read va small here = placed_open memory other w page table place entry va m Read r l small e.reads here
 placed_as memory other w page table place entry m r x l e Write va small here = placed_open memory other w page table place entry va m Write x l small e.writes here
 
 known_as : (memory other : List ℕ) (w : World) (page table place entry : ℕ) (m : Mode) (r x : Bool) → Looked memory other w page table place entry → Entry entry m r x →
-    IsKnownIn other (tables_of w) m (record { read_page = if r then page else 4294967295; write_page = if x then page else 4294967295; base = 512 * frame_of entry })
+    IsKnownIn other (machine_tables w) m (record { read_page = if r then page else 4294967295; write_page = if x then page else 4294967295; base = 512 * frame_of entry })
 known_as memory other w page table place entry m r x l e = record {
   placed = λ i va small here. placed_as memory other w page table place entry m r x l e i va small here;
   modified = λ va small here. clear_open memory other w page table place entry va x l small e.modified here;
 }
 
 pub known_by : (memory : List ℕ) (w : World) (page table place entry read_page write_page base : ℕ) (m : Mode) (r x : Bool) →
-    looks.Found place ≡ look_of (real_look memory (tables_of w) page) → table ≡ table_place (tables_of w) page → entry ≡ long_at memory place → m ≡ current_of w.psl.0 →
+    looks.Found place ≡ look_of (real_look memory (machine_tables w) page) → table ≡ table_place (machine_tables w) page → entry ≡ long_at memory place → m ≡ current_of w.psl.0 →
     (r ≡ true → Opens entry m Read) → (x ≡ true → Opens entry m Write) → (x ≡ true → is_modified entry ≡ true) →
     read_page ≡ (if r then page else 4294967295) → write_page ≡ (if x then page else 4294967295) → base ≡ 512 * frame_of entry →
     (other : List ℕ) → long_at other table ≡ long_at memory table → long_at other place ≡ long_at memory place →
-    IsKnownIn other (tables_of w) (current_of w.psl.0) (record { read_page = read_page; write_page = write_page; base = base })
+    IsKnownIn other (machine_tables w) (current_of w.psl.0) (record { read_page = read_page; write_page = write_page; base = base })
 known_by memory w page table place entry read_page write_page base m r x found at is mode reads writes modified read_is write_is base_is other same_table same_entry =
     let l : Looked memory other w page table place entry = record { found = found; at = at; is = is; same_table = same_table; same_entry = same_entry } in
     let e : Entry entry m r x = record { reads = reads; writes = writes; modified = modified } in
@@ -133,20 +133,20 @@ below_of a b h = grind (arith, nat_tests)
 
 -- a known page by which an address has a place
 record Gives (memory : List ℕ) (w : World) (i : Intent) (va p : ℕ) (k : Known) : Type 0 where
-  known : IsKnownIn memory (tables_of w) (current_of w.psl.0) k
+  known : IsKnownIn memory (machine_tables w) (current_of w.psl.0) k
   page : page_for i k ≡ page_of va
   small : va < 2 ^ 32
   place : k.base + va % 512 ≡ p
 
-given_in : (memory : List ℕ) (w : World) (i : Intent) (va p : ℕ) (o : Option Known) → ((k : Known) → o ≡ Some k → IsKnownIn memory (tables_of w) (current_of w.psl.0) k) → place_in_known i va o ≡ Ok p → (k : Known) × Gives memory w i va p k
+given_in : (memory : List ℕ) (w : World) (i : Intent) (va p : ℕ) (o : Option Known) → ((k : Known) → o ≡ Some k → IsKnownIn memory (machine_tables w) (current_of w.psl.0) k) → place_in_known i va o ≡ Ok p → (k : Known) × Gives memory w i va p k
 given_in memory w i va p None all h = cc
 given_in memory w i va p (Some k) all h =
-    let (holds, place) = chosen ((page_for i k == page_of va) && nat_lt va (2 ^ 32)) (k.base + va % 512) p script.Absent h in
+    let (holds, place) = chosen ((page_for i k == page_of va) && nat_lt va (2 ^ 32)) (k.base + va % 512) p interaction.Absent h in
     let (page, small) = both_are (page_for i k == page_of va) (nat_lt va (2 ^ 32)) holds in
     (k, record { known = all k refl; page = eq_of (page_for i k) (page_of va) page; small = below_of va (2 ^ 32) small; place = place })
 
-is_known : (memory : List ℕ) (w : World) (ks : List Known) (n : ℕ) → AreKnown memory w ks → (k : Known) → slice_get ks n ≡ Some k → IsKnownIn memory (tables_of w) (current_of w.psl.0) k
-is_known memory w ks n all k e = subst (IsKnownIn memory (tables_of w) (current_of w.psl.0)) (get_or_from_slice_get ks n k k e) (all n k (slice_get_within ks n k e))
+is_known : (memory : List ℕ) (w : World) (ks : List Known) (n : ℕ) → AreKnown memory w ks → (k : Known) → slice_get ks n ≡ Some k → IsKnownIn memory (machine_tables w) (current_of w.psl.0) k
+is_known memory w ks n all k e = subst (IsKnownIn memory (machine_tables w) (current_of w.psl.0)) (get_or_from_slice_get ks n k k e) (all n k (slice_get_within ks n k e))
 
 given : (memory : List ℕ) (w : World) (ks : List Known) (i : Intent) (va p : ℕ) → AreKnown memory w ks → place_known ks i va ≡ Ok p → (k : Known) × Gives memory w i va p k
 given memory w ks i va p all h = given_in memory w i va p (slice_get ks (page_of va % 64)) (is_known memory w ks (page_of va % 64) all) h
@@ -192,9 +192,9 @@ next_in i va p (Some k) h e =
     let more : k.base + (va + 1) % 512 ≡ k.base + va % 512 + 1 = omega arith in
     let small : nat_lt (va + 1) (2 ^ 32) ≡ nat_lt va (2 ^ 32) = one_below va h in
     let test : ℕ → Bool = λ page. (page_for i k == page) && nat_lt va (2 ^ 32) in
-    ap (λ (t : Bool). let y : Result ℕ Cause = if (page_for i k == page_of (va + 1)) && t then Ok (k.base + (va + 1) % 512) else Err script.Absent in y) small
-    ∙ ap (λ (page : ℕ). let y : Result ℕ Cause = if test page then Ok (k.base + (va + 1) % 512) else Err script.Absent in y) same
-    ∙ next_on (test (page_of va)) (k.base + va % 512) (k.base + (va + 1) % 512) p script.Absent more e
+    ap (λ (t : Bool). let y : Result ℕ Cause = if (page_for i k == page_of (va + 1)) && t then Ok (k.base + (va + 1) % 512) else Err interaction.Absent in y) small
+    ∙ ap (λ (page : ℕ). let y : Result ℕ Cause = if test page then Ok (k.base + (va + 1) % 512) else Err interaction.Absent in y) same
+    ∙ next_on (test (page_of va)) (k.base + va % 512) (k.base + (va + 1) % 512) p interaction.Absent more e
 
 pub next_known : (ks : List Known) (i : Intent) (va p : ℕ) → va % 512 + 1 < 512 → place_known ks i va ≡ Ok p → place_known ks i (va + 1) ≡ Ok (p + 1)
 next_known ks i va p h e =

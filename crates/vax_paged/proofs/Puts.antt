@@ -6,7 +6,7 @@ use Rattle.vax_table.specs.Claims.{addresses}
 use Rattle.vax_table.specs.Stores.{all_stored, bytes_stored}
 use Rattle.vax_table.specs.Tries.{first_clear}
 use Rattle.vax_table.specs.declared.effect.Store.{Store}
-use Rattle.vax_paged.specs.Puts.{made, put, puts_from, puts_of}
+use Rattle.vax_paged.specs.Puts.{byte_put_at, made, puts_from, puts_of}
 use Rattle.vax_paged.specs.declared.stores.Put.{Put}
 
 made_both : (ps qs : List Put) (memory : List ℕ) → made (ps ++ qs) memory ≡ made qs (made ps memory)
@@ -31,7 +31,7 @@ same_from place (suc k) a b v e =
     rw (e, same_from place k (a + 1) (b + 1) (v / 256) next) refl
 
 -- one byte more of a store
-pub puts_step : (place : ℕ → ℕ) (k a v : ℕ) → 0 < k → a < 2 ^ 32 → puts_from place k a v ≡ put (place a) (v % 256) ∷ puts_from place (k - 1) ((a + 1) % 2 ^ 32) (v / 256)
+pub puts_step : (place : ℕ → ℕ) (k a v : ℕ) → 0 < k → a < 2 ^ 32 → puts_from place k a v ≡ byte_put_at (place a) (v % 256) ∷ puts_from place (k - 1) ((a + 1) % 2 ^ 32) (v / 256)
 puts_step place zero a v h small = absurd (omega arith)
 puts_step place (suc k) a v h small =
     let less : suc k - 1 ≡ k = omega arith in
@@ -40,11 +40,11 @@ puts_step place (suc k) a v h small =
     rw (less, same, same_from place k (a + 1) ((a + 1) % 2 ^ 32) (v / 256) wrap) refl
 
 -- put after others
-pub put_behind : (place : ℕ → ℕ) (k a v p : ℕ) (old new : List Put) → 0 < k → a < 2 ^ 32 → p ≡ place a → new ≡ old ++ put p (v % 256) ∷ [] → new ++ puts_from place (k - 1) ((a + 1) % 2 ^ 32) (v / 256) ≡ old ++ puts_from place k a v
+pub put_behind : (place : ℕ → ℕ) (k a v p : ℕ) (old new : List Put) → 0 < k → a < 2 ^ 32 → p ≡ place a → new ≡ old ++ byte_put_at p (v % 256) ∷ [] → new ++ puts_from place (k - 1) ((a + 1) % 2 ^ 32) (v / 256) ≡ old ++ puts_from place k a v
 put_behind place k a v p old new h small at is =
     let rest = puts_from place (k - 1) ((a + 1) % 2 ^ 32) (v / 256) in
-    ap (λ (ps : List Put). ps ++ rest) (is ∙ ap (λ (z : ℕ). old ++ put z (v % 256) ∷ []) at)
-    ∙ append_assoc old (put (place a) (v % 256) ∷ []) rest
+    ap (λ (ps : List Put). ps ++ rest) (is ∙ ap (λ (z : ℕ). old ++ byte_put_at z (v % 256) ∷ []) at)
+    ∙ append_assoc old (byte_put_at (place a) (v % 256) ∷ []) rest
     ∙ ap (λ (ps : List Put). old ++ ps) (sym (puts_step place k a v h small))
 
 same_addresses : (k a b : ℕ) → a % 2 ^ 32 ≡ b % 2 ^ 32 → addresses k a ≡ addresses k b

@@ -10,7 +10,7 @@ use Rattle.vax_arch.specs.declared.mode.Intent.TheVariants.{Write}
 use Rattle.vax_hw.specs.declared.world.World.{World}
 use Rattle.vax_table.specs.declared.effect.Store.{Store}
 use Rattle.vax_table.proofs.Tests.{eq_of}
-use Rattle.vax_paged.specs.InPage.{IsWhole, stored_from}
+use Rattle.vax_paged.specs.InPage.{IsStoreInPage, stored_from}
 use Rattle.vax_paged.specs.Known.{Agrees, AreAllIn, AreAllKnown, IsSameBut, watches}
 use Rattle.vax_paged.specs.declared.modes.KnownPages.{KnownPages}
 use Rattle.vax_paged.proofs.InPage.{placed_frame}
@@ -26,7 +26,7 @@ elsewhere (suc k) p v memory at h =
 in_frame : (va p size j at : ℕ) → p % 512 ≡ va % 512 → va % 512 + size ≤ 512 → j < size → p + j ≡ at → at / 512 ≡ p / 512
 in_frame va p size j at same fits small here = omega (arith, same, fits, small, here)
 
-pub whole_elsewhere : (memory new : List ℕ) (w : World) (x : Store) (p : ℕ) → IsWhole memory w x p → new ≡ stored_from (size_of x.width) p x.value memory → IsSameBut p p memory new
+pub whole_elsewhere : (memory new : List ℕ) (w : World) (x : Store) (p : ℕ) → IsStoreInPage memory w x p → new ≡ stored_from (size_of x.width) p x.value memory → IsSameBut p p memory new
 whole_elsewhere memory new w x p h e = λ at away again.
     ap (λ (m : List ℕ). slice_index m at) e
     ∙ elsewhere (size_of x.width) p x.value memory at (λ j small here. away (in_frame x.va p (size_of x.width) j at (placed_frame memory w Write x.va p h.placed_at) h.in_page small here))

@@ -3,7 +3,7 @@ use Rattle.std.specs.Prelude.{◌≡◌, ℕ, zero, suc, ◌+◌, ◌*◌, ◌/�
 use Rattle.vv_base.specs.Width.{size_of}
 use Rattle.vax_arch.specs.declared.mode.Intent.TheVariants.{Write}
 use Rattle.vax_hw.specs.declared.world.World.{World}
-use Rattle.vax_table.specs.Script.{Trouble}
+use Rattle.vax_table.specs.Interaction.{Trouble}
 use Rattle.vax_table.specs.declared.effect.Store.{Store}
 use Rattle.vax_paged.specs.Paged.{placed}
 
@@ -13,9 +13,9 @@ number_from memory zero place = 0
 number_from memory (suc k) place = slice_index memory place + 256 * number_from memory k (place + 1)
 
 -- and from the place that an address has
-abbrev pub numbered : List ℕ → (k : ℕ) → Result ℕ Trouble → Result ℕ Trouble
-numbered memory k (Ok place) = Ok (number_from memory k place)
-numbered memory k (Err trouble) = Err trouble
+abbrev pub number_at_place : List ℕ → (k : ℕ) → Result ℕ Trouble → Result ℕ Trouble
+number_at_place memory k (Ok place) = Ok (number_from memory k place)
+number_at_place memory k (Err trouble) = Err trouble
 
 -- k bytes of a number stored from a place
 abbrev pub stored_from : (k place v : ℕ) → List ℕ → List ℕ
@@ -23,7 +23,7 @@ stored_from zero place v memory = memory
 stored_from (suc k) place v memory = stored_from k (place + 1) (v / 256) (slice_set memory place (v % 256))
 
 -- a store in one page, which memory has whole from a place
-pub record IsWhole (memory : List ℕ) (w : World) (x : Store) (place : ℕ) : Type 0 where
+pub record IsStoreInPage (memory : List ℕ) (w : World) (x : Store) (place : ℕ) : Type 0 where
   pub placed_at : placed memory w Write x.va ≡ Ok place
   pub small : x.va < 2 ^ 32
   pub in_page : x.va % 512 + size_of x.width ≤ 512

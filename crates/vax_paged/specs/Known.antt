@@ -8,11 +8,11 @@ use Rattle.vax_arch.specs.declared.mode.Intent.{Intent}
 use Rattle.vax_arch.specs.declared.mode.Intent.TheVariants.{Read, Write}
 use Rattle.vax_arch.specs.declared.mode.Mode.{Mode}
 use Rattle.vax_arch.specs.declared.mode.Mode.TheVariants.{Executive, Kernel, Supervisor, User}
-use Rattle.vax_hw.specs.Machine.{tables_of}
+use Rattle.vax_hw.specs.Machine.{machine_tables}
 use Rattle.vax_hw.specs.RealTables.{byte_by, is_clear_in, place_in}
 use Rattle.vax_hw.specs.declared.world.World.{World}
-use Rattle.vax_table.specs.Script.{Cause, Space}
-use Rattle.vax_table.specs.Script as script
+use Rattle.vax_table.specs.Interaction.{Cause, Space}
+use Rattle.vax_table.specs.Interaction as interaction
 use Rattle.vax_paged.specs.declared.known.Known.{Known}
 use Rattle.vax_paged.specs.declared.known.Learned.{Learned}
 use Rattle.vax_paged.specs.declared.modes.KnownPages.{KnownPages}
@@ -32,7 +32,7 @@ AreKnownIn memory t m ks = All (IsKnownIn memory t m) ks
 
 -- by those of a world, in its mode
 abbrev pub AreKnown : List ℕ → World → List Known → Type 0
-AreKnown memory w ks = AreKnownIn memory (tables_of w) (current_of w.psl.0) ks
+AreKnown memory w ks = AreKnownIn memory (machine_tables w) (current_of w.psl.0) ks
 
 -- as long as two longwords stay as they are
 abbrev pub IsLearned : List ℕ → Tables → Mode → Learned → Type 0
@@ -63,8 +63,8 @@ IsSameBut first last memory other = (at : ℕ) → (at / 512 ≡ first / 512 →
 
 -- the place of an address by what is known of its page
 abbrev pub place_in_known : Intent → ℕ → Option Known → Result ℕ Cause
-place_in_known i va None = Err script.Absent
-place_in_known i va (Some k) = if (page_for i k == page_of va) && nat_lt va (2 ^ 32) then Ok (k.base + va % 512) else Err script.Absent
+place_in_known i va None = Err interaction.Absent
+place_in_known i va (Some k) = if (page_for i k == page_of va) && nat_lt va (2 ^ 32) then Ok (k.base + va % 512) else Err interaction.Absent
 
 abbrev pub place_known : List Known → Intent → ℕ → Result ℕ Cause
 place_known ks i va = place_in_known i va (slice_get ks (page_of va % 64))
@@ -74,6 +74,6 @@ abbrev pub known_space : List ℕ → List Known → Space
 known_space memory ks i va = byte_by memory (place_known ks i va)
 
 -- a place, if there is one
-abbrev pub place_told : Option ℕ → Result ℕ Cause
-place_told None = Err script.Absent
-place_told (Some place) = Ok place
+abbrev pub place_or_absent : Option ℕ → Result ℕ Cause
+place_or_absent None = Err interaction.Absent
+place_or_absent (Some place) = Ok place

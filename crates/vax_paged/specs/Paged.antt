@@ -10,23 +10,23 @@ use Rattle.vax_arch.specs.declared.mode.Intent.TheVariants.{Write}
 use Rattle.vax_arch.specs.declared.mode.Mode.{Mode}
 use Rattle.vax_arch.specs.declared.walk.Lookup.{Lookup}
 use Rattle.vax_arch.specs.declared.walk.Lookup.TheVariants.{Beyond, Direct, Fails, Found}
-use Rattle.vax_hw.specs.Machine.{tables_of}
+use Rattle.vax_hw.specs.Machine.{machine_tables}
 use Rattle.vax_hw.specs.RealTables.{byte_by, everywhere, is_clear_in, judged_by, place_by, place_in, place_or_end}
 use Rattle.vax_hw.specs.declared.world.World.{World}
-use Rattle.vax_table.specs.Script.{At, Cause, Space, Trouble}
-use Rattle.vax_table.specs.Script as script
+use Rattle.vax_table.specs.Interaction.{At, Cause, Space, Trouble}
+use Rattle.vax_table.specs.Interaction as interaction
 use Rattle.vax_paged.specs.declared.entries.Entry.{Entry}
 use Rattle.vax_paged.specs.declared.entries.Entry.TheVariants as entries
 use Rattle.vax_paged.specs.declared.entries.Look.{Look}
 use Rattle.vax_paged.specs.declared.entries.Look.TheVariants as looks
 
 -- what the code keeps of a look-up
-abbrev pub entry_of : List ℕ → Lookup → Entry
-entry_of memory (Found place table) = entries.Found (record { 0 = long_at memory place })
-entry_of memory (Direct frame) = entries.TooFar
-entry_of memory (Fails true parameter) = entries.NotValid
-entry_of memory (Fails false parameter) = entries.TooFar
-entry_of memory Beyond = entries.TooFar
+abbrev pub entry_looked_up : List ℕ → Lookup → Entry
+entry_looked_up memory (Found place table) = entries.Found (record { 0 = long_at memory place })
+entry_looked_up memory (Direct frame) = entries.TooFar
+entry_looked_up memory (Fails true parameter) = entries.NotValid
+entry_looked_up memory (Fails false parameter) = entries.TooFar
+entry_looked_up memory Beyond = entries.TooFar
 
 -- the outcome of a look-up
 abbrev pub look_of : Lookup → Look
@@ -57,8 +57,8 @@ IsMapped Beyond = ⊥
 -- the place that it gives an address
 abbrev pub place_at : (va : ℕ) → Mode → Intent → Entry → Result ℕ Cause
 place_at va m i (entries.Found entry) = place_by va (granted may_of everywhere entry.0 m i)
-place_at va m i entries.NotValid = Err script.Absent
-place_at va m i entries.TooFar = Err script.Refusing
+place_at va m i entries.NotValid = Err interaction.Absent
+place_at va m i entries.TooFar = Err interaction.Refusing
 
 -- whether its modify bit is clear
 abbrev pub is_clear_by : Entry → Bool
@@ -79,7 +79,7 @@ at_byte i va (Err cause) = Err (At cause i va)
 
 -- the place of an address in the real mode
 abbrev pub placed : List ℕ → World → Intent → ℕ → Result ℕ Cause
-placed memory w i va = place_in memory (tables_of w) (current_of w.psl.0) i va
+placed memory w i va = place_in memory (machine_tables w) (current_of w.psl.0) i va
 
 -- a memory as a space, by the places of addresses
 abbrev pub byte_at : List ℕ → (Intent → ℕ → Result ℕ Cause) → Space
@@ -91,7 +91,7 @@ paged memory w i va = byte_by memory (placed memory w i va)
 
 -- whether the modify bit of an address's page is clear
 abbrev pub is_clear_for : List ℕ → World → ℕ → Bool
-is_clear_for memory w va = is_clear_in memory (tables_of w) va
+is_clear_for memory w va = is_clear_in memory (machine_tables w) va
 
 -- where a byte that may be written lies
 abbrev pub written_place : List ℕ → World → ℕ → ℕ

@@ -4,13 +4,13 @@ use Rattle.vv_base.specs.Width.{size_of}
 use Rattle.vax_table.specs.declared.effect.Store.{Store}
 use Rattle.vax_paged.specs.declared.stores.Put.{Put}
 
-abbrev pub put : ℕ → ℕ → Put
-put place byte = record { place = place; byte = byte }
+abbrev pub byte_put_at : ℕ → ℕ → Put
+byte_put_at place byte = record { place = place; byte = byte }
 
 -- of k bytes of a number from an address
 abbrev pub puts_from : (ℕ → ℕ) → (k a v : ℕ) → List Put
 puts_from place zero a v = []
-puts_from place (suc k) a v = put (place (a % 2 ^ 32)) (v % 256) ∷ puts_from place k (a + 1) (v / 256)
+puts_from place (suc k) a v = byte_put_at (place (a % 2 ^ 32)) (v % 256) ∷ puts_from place k (a + 1) (v / 256)
 
 -- of stores in order
 abbrev pub puts_of : (ℕ → ℕ) → List Store → List Put

@@ -1,9 +1,9 @@
 ghost use Rattle.std.specs.Prelude.{◌≡◌, ◌+◌, ◌*◌, ◌≤◌, ◌<◌, ◌^◌};
 ghost use Rattle.vv_base.specs.Bytes.{long_at};
 ghost use Rattle.vax_arch.specs.Walk.{in_region, mapped_entry, process_entry, system_entry};
-ghost use Rattle.vax_hw.specs.Machine.{tables_of};
+ghost use Rattle.vax_hw.specs.Machine.{machine_tables};
 ghost use Rattle.vax_hw.specs.RealTables.{everywhere, real_look};
-ghost use Rattle.vax_paged.specs.Paged.{IsLow, IsMapped, entry_of, look_of};
+ghost use Rattle.vax_paged.specs.Paged.{IsLow, IsMapped, entry_looked_up, look_of};
 
 use crate::memory::long_in;
 use vax_arch::{Pte, REGION};
@@ -55,8 +55,8 @@ impl Paged<'_> {
     #[tactic(auto, unfolding(vax_arch::specs::Walk::system_entry))]
     fn system_look(&self, page: u32) -> Look
         requires { page < 2 ^ 21 }
-        ensures is { result ≡ look_of (system_entry everywhere (tables_of self.now.world.now) page) }
-        ensures mapped { IsMapped (system_entry everywhere (tables_of self.now.world.now) page) }
+        ensures is { result ≡ look_of (system_entry everywhere (machine_tables self.now.world.now) page) }
+        ensures mapped { IsMapped (system_entry everywhere (machine_tables self.now.world.now) page) }
         ensures low { IsLow result }
     {
         if self.world.slr <= page {
@@ -68,8 +68,8 @@ impl Paged<'_> {
     /// Where the process entry at a virtual address lies, which must be a system address that the system table has.
     #[tactic(auto, unfolding(vax_arch::specs::Walk::process_entry))]
     fn process_look(&self, at: u32) -> Look
-        ensures is { result ≡ look_of (process_entry everywhere self.now.memory.now (tables_of self.now.world.now) at) }
-        ensures mapped { IsMapped (process_entry everywhere self.now.memory.now (tables_of self.now.world.now) at) }
+        ensures is { result ≡ look_of (process_entry everywhere self.now.memory.now (machine_tables self.now.world.now) at) }
+        ensures mapped { IsMapped (process_entry everywhere self.now.memory.now (machine_tables self.now.world.now) at) }
         ensures low { IsLow result }
     {
         let page = at / 512;
@@ -87,8 +87,8 @@ impl Paged<'_> {
     #[tactic(auto, unfolding(vax_hw::specs::RealTables::real_look, vax_arch::specs::Walk::lookup, vax_arch::specs::Walk::mapped_entry))]
     pub fn look(&self, page: u32) -> Look
         requires { page < 2 ^ 23 }
-        ensures is { result ≡ look_of (real_look self.now.memory.now (tables_of self.now.world.now) page) }
-        ensures mapped { IsMapped (real_look self.now.memory.now (tables_of self.now.world.now) page) }
+        ensures is { result ≡ look_of (real_look self.now.memory.now (machine_tables self.now.world.now) page) }
+        ensures mapped { IsMapped (real_look self.now.memory.now (machine_tables self.now.world.now) page) }
         ensures low { IsLow result }
     {
         let in_region = page % REGION;
@@ -108,8 +108,8 @@ impl Paged<'_> {
     #[tactic(auto, using(crate::proofs::Lookups::looked))]
     pub fn entry(&self, page: u32) -> Entry
         requires { page < 2 ^ 23 }
-        ensures is { result ≡ entry_of self.now.memory.now (real_look self.now.memory.now (tables_of self.now.world.now) page) }
-        ensures mapped { IsMapped (real_look self.now.memory.now (tables_of self.now.world.now) page) }
+        ensures is { result ≡ entry_looked_up self.now.memory.now (real_look self.now.memory.now (machine_tables self.now.world.now) page) }
+        ensures mapped { IsMapped (real_look self.now.memory.now (machine_tables self.now.world.now) page) }
     {
         match self.look(page) {
             Look::Found(place) => Entry::Found(self.entry_at(place)),

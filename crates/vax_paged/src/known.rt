@@ -6,14 +6,14 @@ ghost use Rattle.vax_arch.specs.Walk.{Tables, granted};
 ghost use Rattle.vax_arch.specs.WalkLaws.{table_place};
 ghost use Rattle.vax_arch.specs.declared.mode.Intent.TheVariants.{Write};
 ghost use Rattle.vax_hw.specs.RealTables.{everywhere, place_by};
-ghost use Rattle.vax_hw.specs.Machine.{tables_of};
+ghost use Rattle.vax_hw.specs.Machine.{machine_tables};
 ghost use Rattle.vax_table.specs.Claims.{addresses};
 ghost use Rattle.vax_table.specs.PlanLaws.{bytes_of_stores};
-ghost use Rattle.vax_table.specs.Script.{number_at};
+ghost use Rattle.vax_table.specs.Interaction.{number_at};
 ghost use Rattle.vax_table.specs.Tries.{first_clear};
-ghost use Rattle.vax_table.specs.Troubles.{intent_of, told};
-ghost use Rattle.vax_paged.specs.InPage.{IsWhole};
-ghost use Rattle.vax_paged.specs.Known.{AreKnown, IsKnownIn, IsLearned, known_space, page_for, place_known, place_told};
+ghost use Rattle.vax_table.specs.Troubles.{intent_of, with_trouble};
+ghost use Rattle.vax_paged.specs.InPage.{IsStoreInPage};
+ghost use Rattle.vax_paged.specs.Known.{AreKnown, IsKnownIn, IsLearned, known_space, page_for, place_known, place_or_absent};
 ghost use Rattle.vax_paged.specs.Paged.{is_clear_for};
 
 use crate::entries::{Look, Paged};
@@ -97,7 +97,7 @@ impl Paged<'_> {
     #[tactic(auto, unfolding(vax_arch::specs::WalkLaws::table_place))]
     fn table_place(&self, page: u32) -> usize
         requires { page < 2 ^ 23 }
-        ensures is { result ≡ table_place (tables_of self.now.world.now) page }
+        ensures is { result ≡ table_place (machine_tables self.now.world.now) page }
         ensures small { result ≤ everywhere }
     {
         let base = if page / REGION == 0 {
@@ -112,7 +112,7 @@ impl Paged<'_> {
     /// What the tables say of a page, if it has an entry.
     pub fn looked_up(&self, page: u32) -> Option<Learned>
         requires { page < 2 ^ 23 }
-        ensures learned { IfSome result (IsLearned self.now.memory.now (tables_of self.now.world.now) (current_of self.now.world.now.psl.0)) }
+        ensures learned { IfSome result (IsLearned self.now.memory.now (machine_tables self.now.world.now) (current_of self.now.world.now.psl.0)) }
         ensures low { IfSome result (λ x. (x.table ≤ everywhere) × (x.place ≤ everywhere)) }
     {
         let Look::Found(place) = self.look(page) else {
@@ -145,7 +145,7 @@ impl Mapped<'_> {
     /// The place of an address, if its page is known and open.
     #[inline(always)]
     pub fn place(&self, va: u32, write: bool) -> Option<usize>
-        ensures is { place_told result ≡ place_known self.now.known.now (intent_of write) va }
+        ensures is { place_or_absent result ≡ place_known self.now.known.now (intent_of write) va }
         ensures small { IfSome result (λ place. place < 2 ^ 32 + 512) }
     {
         let page = va / 512;
@@ -161,7 +161,7 @@ impl Mapped<'_> {
 
     /// The byte at an address.
     fn byte(&self, va: u32, write: bool) -> Result<u8, Trouble>
-        ensures { told result ≡ number_at (known_space self.now.memory.now self.now.known.now) (intent_of write) 1 va }
+        ensures { with_trouble result ≡ number_at (known_space self.now.memory.now self.now.known.now) (intent_of write) 1 va }
     {
         match self.place(va, write) {
             Some(place) => Ok(byte_in(self.memory, place)),
@@ -175,7 +175,7 @@ impl Mapped<'_> {
     #[inline(never)]
     fn number_by_bytes(self, va: u32, bytes: u32, write: bool) -> Result<u64, Trouble>
         requires { bytes ≤ 8 }
-        ensures number { told result ≡ number_at (known_space self.entry.memory.now self.entry.known.now) (intent_of write) bytes va }
+        ensures number { with_trouble result ≡ number_at (known_space self.entry.memory.now self.entry.known.now) (intent_of write) bytes va }
         ensures fits { IfOk result (λ v. v < 256 ^ bytes) }
     {
         if bytes == 0 {
@@ -189,7 +189,7 @@ impl Mapped<'_> {
     /// The number of a width, the lowest byte first: by one look-up where it lies in one page.
     #[inline(always)]
     fn number(&self, va: u32, w: Width, write: bool) -> Result<u64, Trouble>
-        ensures number { told result ≡ number_at (known_space self.now.memory.now self.now.known.now) (intent_of write) (size_of w) va }
+        ensures number { with_trouble result ≡ number_at (known_space self.now.memory.now self.now.known.now) (intent_of write) (size_of w) va }
         ensures fits { IfOk result (λ v. v < 256 ^ size_of w) }
     {
         if va % 512 + u32::from(w.bytes()) > 512 {
@@ -204,7 +204,7 @@ impl Mapped<'_> {
     /// The place of a store that lies in one known page, where memory has it whole.
     pub fn whole_place(&self, world: &World, store: &Store) -> Option<usize>
         requires { AreKnown self.now.memory.now world.now self.now.known.now }
-        ensures whole { IfSome result (λ place. IsWhole self.now.memory.now world.now store.now place) }
+        ensures whole { IfSome result (λ place. IsStoreInPage self.now.memory.now world.now store.now place) }
     {
         let bytes = u32::from(store.width.bytes());
         if store.va % 512 + bytes > 512 {

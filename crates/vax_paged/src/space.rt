@@ -4,8 +4,8 @@ ghost use Rattle.vax_arch.specs.Fields.{current_of};
 ghost use Rattle.vax_arch.specs.Protection.{may_of};
 ghost use Rattle.vax_arch.specs.Walk.{granted};
 ghost use Rattle.vax_hw.specs.RealTables.{everywhere, place_by};
-ghost use Rattle.vax_table.specs.Script.{number_at};
-ghost use Rattle.vax_table.specs.Troubles.{intent_of, told};
+ghost use Rattle.vax_table.specs.Interaction.{number_at};
+ghost use Rattle.vax_table.specs.Troubles.{intent_of, with_trouble};
 ghost use Rattle.vax_paged.specs.Paged.{at_byte, paged, placed};
 
 use crate::entries::{Entry, Paged};
@@ -25,7 +25,7 @@ impl Paged<'_> {
     /// The place that an entry gives an address, in the real mode.
     #[tactic(auto, unfolding(vax_arch::specs::Walk::granted))]
     fn granted(&self, entry: Pte, va: u32, write: bool) -> Result<u32, Trouble>
-        ensures is { told result ≡ at_byte (intent_of write) va (place_by va (granted may_of everywhere entry.0 (current_of self.now.world.now.psl.0) (intent_of write))) }
+        ensures is { with_trouble result ≡ at_byte (intent_of write) va (place_by va (granted may_of everywhere entry.0 (current_of self.now.world.now.psl.0) (intent_of write))) }
         ensures small { IfOk result (λ place. place < 2 ^ 30) }
     {
         if !may(entry.prot(), self.world.psl.current(), intent_of(write)) {
@@ -40,7 +40,7 @@ impl Paged<'_> {
     /// The place of an address in the machine, for reading or for writing in the real mode.
     #[tactic(auto, unfolding(vax_hw::specs::RealTables::place_in), using(crate::proofs::Lookups::mapped))]
     pub fn place(&self, va: u32, write: bool) -> Result<u32, Trouble>
-        ensures is { told result ≡ at_byte (intent_of write) va (placed self.now.memory.now self.now.world.now (intent_of write) va) }
+        ensures is { with_trouble result ≡ at_byte (intent_of write) va (placed self.now.memory.now self.now.world.now (intent_of write) va) }
         ensures small { IfOk result (λ place. place < 2 ^ 30) }
     {
         match self.entry(va / 512) {
@@ -52,7 +52,7 @@ impl Paged<'_> {
 
     /// The byte at an address.
     pub fn byte(&self, va: u32, write: bool) -> Result<u8, Trouble>
-        ensures { told result ≡ number_at (paged self.now.memory.now self.now.world.now) (intent_of write) 1 va }
+        ensures { with_trouble result ≡ number_at (paged self.now.memory.now self.now.world.now) (intent_of write) 1 va }
     {
         let place = self.place(va, write)?;
         Ok(byte_in(self.memory, place as usize))
@@ -64,7 +64,7 @@ impl Paged<'_> {
     #[inline(never)]
     fn number_by_bytes(&self, va: u32, bytes: u32, write: bool) -> Result<u64, Trouble>
         requires { bytes ≤ 8 }
-        ensures number { told result ≡ number_at (paged self.now.memory.now self.now.world.now) (intent_of write) bytes va }
+        ensures number { with_trouble result ≡ number_at (paged self.now.memory.now self.now.world.now) (intent_of write) bytes va }
         ensures fits { IfOk result (λ v. v < 256 ^ bytes) }
     {
         if bytes == 0 {
@@ -77,7 +77,7 @@ impl Paged<'_> {
 
     /// The number of a width, the lowest byte first: by one look-up where it lies in one page.
     fn number(&self, va: u32, w: Width, write: bool) -> Result<u64, Trouble>
-        ensures number { told result ≡ number_at (paged self.now.memory.now self.now.world.now) (intent_of write) (size_of w) va }
+        ensures number { with_trouble result ≡ number_at (paged self.now.memory.now self.now.world.now) (intent_of write) (size_of w) va }
         ensures fits { IfOk result (λ v. v < 256 ^ size_of w) }
     {
         if va % 512 + u32::from(w.bytes()) > 512 {

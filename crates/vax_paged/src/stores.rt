@@ -6,9 +6,9 @@ ghost use Rattle.vax_table.specs.PlanLaws.{bytes_of_stores};
 ghost use Rattle.vax_table.specs.Stores.{all_stored};
 ghost use Rattle.vax_table.specs.Tries.{first_clear};
 ghost use Rattle.vax_paged.specs.Puts.{made, puts_from, puts_of};
-ghost use Rattle.vax_paged.specs.InPage.{IsWhole};
+ghost use Rattle.vax_paged.specs.InPage.{IsStoreInPage};
 ghost use Rattle.vax_arch.specs.Walk.{Tables};
-ghost use Rattle.vax_hw.specs.Machine.{tables_of};
+ghost use Rattle.vax_hw.specs.Machine.{machine_tables};
 ghost use Rattle.vax_paged.specs.Known.{AreAllKnown, AreKnown};
 ghost use Rattle.vax_paged.specs.Paged.{is_clear_for, written_place};
 
@@ -159,7 +159,7 @@ fn store_by_bytes(memory: &mut [u8], world: &World, known: &mut KnownPages, stor
 
 /// The place of a store that lies in one page, where memory has it whole, by the tables.
 fn walked_place(memory: &[u8], world: &World, store: &Store) -> Option<usize>
-    ensures { IfSome result (λ place. IsWhole memory.now world.now store.now place) }
+    ensures { IfSome result (λ place. IsStoreInPage memory.now world.now store.now place) }
 {
     let bytes = u32::from(store.width.bytes());
     if store.va % 512 + bytes > 512 {
@@ -180,7 +180,7 @@ fn whole_place(
     store: &Store,
 ) -> Option<usize>
     requires { AreKnown memory.now world.now known.now }
-    ensures { IfSome result (λ place. IsWhole memory.now world.now store.now place) }
+    ensures { IfSome result (λ place. IsStoreInPage memory.now world.now store.now place) }
 {
     let space = Mapped {
         memory,
@@ -202,9 +202,9 @@ fn store_one(
     store: &Store,
 )
     requires memory { length memory.old < 2 ^ 32 }
-    requires known { AreAllKnown memory.old (tables_of world.now) known.old }
+    requires known { AreAllKnown memory.old (machine_tables world.now) known.old }
     ensures memory { memory.new ≡ all_stored (written_place memory.old world.now) (store.now ∷ []) memory.old }
-    ensures known { AreAllKnown memory.new (tables_of world.now) known.new }
+    ensures known { AreAllKnown memory.new (machine_tables world.now) known.new }
 {
     let pages = known.of(world.psl.current());
     match whole_place(&*memory, world, pages, missed, store) {
@@ -225,10 +225,10 @@ pub fn store_all(
     stores: &[Store],
 )
     requires memory { length memory.old < 2 ^ 32 }
-    requires known { AreAllKnown memory.old (tables_of world.now) known.old }
+    requires known { AreAllKnown memory.old (machine_tables world.now) known.old }
     requires few { length stores.now ≤ 20 }
     ensures memory { memory.new ≡ all_stored (written_place memory.old world.now) stores.now memory.old }
-    ensures known { AreAllKnown memory.new (tables_of world.now) known.new }
+    ensures known { AreAllKnown memory.new (machine_tables world.now) known.new }
 {
     match stores {
         [] => {}

@@ -10,8 +10,8 @@ use Rattle.vv_base.specs.declared.width.Width.TheVariants.{Byte, Word, Long, Qua
 use Rattle.vv_base.specs.Width.{size_of}
 use Rattle.vax_table.specs.declared.forms.Form.{Form}
 use Rattle.vax_table.specs.declared.decoded.Spec.{Spec}
-use Rattle.vax_table.specs.Rows.{Entry, row_of}
-use Rattle.vax_table.specs.Spelling.{bytes_of, Displaces, byte, byte_deferred, word, word_deferred, long, long_deferred, Specifier, literal, register, register_deferred, autodecrement, autoincrement, immediate, autoincrement_deferred, absolute, displacement, Operand, specifier, indexed, branch, Operands, wait, of_row, IsShort}
+use Rattle.vax_table.specs.Rows.{OpcodeEntry, row_of}
+use Rattle.vax_table.specs.Spelling.{bytes_of, Displaces, byte, byte_deferred, word, word_deferred, long, long_deferred, Specifier, literal, register, register_deferred, autodecrement, autoincrement, immediate, autoincrement_deferred, absolute, displacement, SpellsOperand, specifier, indexed, branch, Operands, wait, of_row, IsShort}
 use Rattle.vax_table.specs.Reading.{is_branch}
 use Rattle.vax_table.proofs.Tests.{if_both, no_branch}
 use Rattle.vax_table.proofs.Bytes.{length-bytes_of}
@@ -91,7 +91,7 @@ indexed_most f bytes b rest s w i (autoincrement_deferred n h e g) = rw e (omega
 indexed_most f bytes b rest s w i (absolute v h e g) = rw e (omega (arith, length-bytes_of 4 v))
 indexed_most f bytes b rest s w i (displacement mode k n v d h l e g) = rw e (omega (arith, length-bytes_of k v, displaces_most mode k d))
 
-operand_most : (f : Form) (bytes : List ℕ) (s : Spec) → Operand f bytes s → length bytes ≤ most_of f
+operand_most : (f : Form) (bytes : List ℕ) (s : Spec) → SpellsOperand f bytes s → length bytes ≤ most_of f
 unfolding most_of
 operand_most f bytes s (specifier n b) = rw (no_branch f.access n) (specifier_most f bytes s b)
 operand_most f bytes s (indexed n x h b r t l i m e g) =
@@ -120,7 +120,7 @@ operands_nine [] bytes (s ∷ ss) h = absurd h
 operands_nine (f ∷ fs) bytes [] h = absurd h
 operands_nine (f ∷ fs) bytes (s ∷ ss) h = rw h.2 (omega (arith, length-append {A = ℕ}, operand_most f h.0 s h.3, most_nine f, operands_nine fs h.1 ss h.4))
 
-is_short : Option Entry → Bool
+is_short : Option OpcodeEntry → Bool
 is_short None = true
 is_short (Some e) = leb (most_of_all e.operands) 20
 
@@ -135,7 +135,7 @@ row_is_short n below =
     ∙ ap (λ (xs : List Bool). get_or xs n true) rows_are_short
     ∙ get_or-replicate 256 n true true below
 
-row_most : (n : ℕ) (e : Entry) → n < 256 → row_of n ≡ Some e → most_of_all e.operands ≤ 20
+row_most : (n : ℕ) (e : OpcodeEntry) → n < 256 → row_of n ≡ Some e → most_of_all e.operands ≤ 20
 unfolding is_short
 row_most n e below found =
     let short : is_short (row_of n) ≡ true = row_is_short n below in

@@ -13,12 +13,12 @@ use Rattle.vax_table.specs.declared.forms.Access.{Access}
 use Rattle.vax_table.specs.declared.forms.Access.TheVariants.{Read, Modify, Write, Address, Bits, Branch}
 use Rattle.vax_table.specs.declared.forms.Form.{Form}
 use Rattle.vax_table.specs.Claims.{Holds}
-use Rattle.vax_table.specs.Operand.{plus, base_address, address_of, indexed_by, read_operand, modified_operand, written_operand, address_operand, bits_operand, branch_operand, by_access, behind_bytes, operand_length, operand_of, with_operand, operands_from, no_operands, forms_in, operands_of}
+use Rattle.vax_table.specs.Operand.{plus, base_address, address_of, indexed_by, read_operand, modified_operand, written_operand, address_operand, bits_operand, branch_operand, by_access, past_own_bytes, operand_length, operand_of, with_operand, operands_from, no_operands, forms_in, operands_of}
 use Rattle.vax_table.specs.Reading.{is_branch}
-use Rattle.vax_table.specs.Rows.{Entry, row_of}
+use Rattle.vax_table.specs.Rows.{OpcodeEntry, row_of}
 use Rattle.vax_table.specs.Spelled.{value_size}
-use Rattle.vax_table.specs.Spelling.{bytes_of, unindexed, Displaces, byte, byte_deferred, word, word_deferred, long, long_deferred, Specifier, literal, register, register_deferred, autodecrement, autoincrement, immediate, autoincrement_deferred, absolute, displacement, Operand, specifier, indexed, branch, Operands as SpelledOperands, Instruction, wait, of_row, IsWellFormed}
-use Rattle.vax_table.specs.Standing.{IsFormed, Stands, AllStand}
+use Rattle.vax_table.specs.Spelling.{bytes_of, unindexed, Displaces, byte, byte_deferred, word, word_deferred, long, long_deferred, Specifier, literal, register, register_deferred, autodecrement, autoincrement, immediate, autoincrement_deferred, absolute, displacement, SpellsOperand, specifier, indexed, branch, Operands as SpelledOperands, Instruction, wait, of_row, IsWellFormed}
+use Rattle.vax_table.specs.LegalOperands.{IsFormed, IsLegalOperand, AreLegalOperands}
 use Rattle.vax_table.proofs.Bytes.{length-bytes_of}
 use Rattle.vax_table.proofs.Claims.{holds-bind, holds_then}
 use Rattle.vax_table.proofs.Standings.{well_formed}
@@ -62,7 +62,7 @@ address_kept : (size : ℕ) (s : Spec) (r cs : List ℕ) → IsFormed s → Hold
 unfolding address_of KeepsPlace
 address_kept size s r cs f = holds-bind (KeepsPlace r) (KeepsPlace r) cs (base_address size s r) _ (base_kept size s r cs f) (λ ds p h. indexed_kept r size s.index p h)
 
-access_kept : (a : Access) (w : Width) (s : Spec) (r cs : List ℕ) → Stands a w s → Holds (KeepsOperand r) cs (by_access a w s r)
+access_kept : (a : Access) (w : Width) (s : Spec) (r cs : List ℕ) → IsLegalOperand a w s → Holds (KeepsOperand r) cs (by_access a w s r)
 unfolding read_operand modified_operand written_operand address_operand bits_operand branch_operand KeepsOperand KeepsPlace
 access_kept Read w s r cs h =
     let P = Holds (KeepsOperand r) cs in
@@ -92,15 +92,15 @@ GoesOperand k r cs e = Goes k r e.r
 GoesAll : ℕ → List ℕ → List ℕ → Operands → Type 0
 GoesAll k r cs o = Goes k r o.r
 
-pub behind_goes : (k : ℕ) (r : List ℕ) → 15 < length r → Goes k r (behind_bytes k r)
+pub behind_goes : (k : ℕ) (r : List ℕ) → 15 < length r → Goes k r (past_own_bytes k r)
 behind_goes k r h = (rw get_or-set_same refl, length-set r 15 _)
 
-operand_goes : (f : Form) (s : Spec) (r cs : List ℕ) → 15 < length r → Stands f.access f.width s → Holds (GoesOperand (operand_length f s) r) cs (operand_of f s r)
+operand_goes : (f : Form) (s : Spec) (r cs : List ℕ) → 15 < length r → IsLegalOperand f.access f.width s → Holds (GoesOperand (operand_length f s) r) cs (operand_of f s r)
 unfolding operand_of GoesOperand KeepsOperand
 operand_goes f s r cs h stands =
     let k = operand_length f s in
-    let g : Goes k r (behind_bytes k r) = behind_goes k r h in
-    holds_then (KeepsOperand (behind_bytes k r)) (GoesOperand k r) cs (operand_of f s r) (access_kept f.access f.width s (behind_bytes k r) cs stands)
+    let g : Goes k r (past_own_bytes k r) = behind_goes k r h in
+    holds_then (KeepsOperand (past_own_bytes k r)) (GoesOperand k r) cs (operand_of f s r) (access_kept f.access f.width s (past_own_bytes k r) cs stands)
     (λ ds e kept. (kept.0 ∙ g.0, kept.1 ∙ g.1))
 
 -- the bytes of all operands
@@ -109,7 +109,7 @@ all_length [] ss = 0
 all_length (f ∷ fs) [] = 0
 all_length (f ∷ fs) (s ∷ ss) = operand_length f s + all_length fs ss
 
-from_goes : (i : ℕ) (fs : List Form) (ss : List Spec) (o : Operands) (cs : List ℕ) → AllStand fs ss → 15 < length o.r → slice_index o.r 15 < 2 ^ 32 → Holds (GoesAll (all_length fs ss) o.r) cs (operands_from i fs ss o)
+from_goes : (i : ℕ) (fs : List Form) (ss : List Spec) (o : Operands) (cs : List ℕ) → AreLegalOperands fs ss → 15 < length o.r → slice_index o.r 15 < 2 ^ 32 → Holds (GoesAll (all_length fs ss) o.r) cs (operands_from i fs ss o)
 unfolding GoesAll GoesOperand
 from_goes i [] [] o cs all h low = (omega arith, refl)
 from_goes i [] (s ∷ ss) o cs all h low = absurd all
@@ -147,7 +147,7 @@ specifier_bytes f bytes s (autoincrement_deferred n h e g) = let other : eqb n 1
 specifier_bytes f bytes s (absolute v h e g) = rw (e, g) (omega (arith, length-bytes_of 4 v), refl)
 specifier_bytes f bytes s (displacement mode k n v d h l e g) = rw (e, g) (displacement_bytes f mode k n v d, refl)
 
-operand_bytes : (f : Form) (bytes : List ℕ) (s : Spec) → Operand f bytes s → length bytes ≡ operand_length f s
+operand_bytes : (f : Form) (bytes : List ℕ) (s : Spec) → SpellsOperand f bytes s → length bytes ≡ operand_length f s
 unfolding value_size
 operand_bytes f bytes s (specifier n p) = let h = specifier_bytes f bytes s p in rw (no_branch f.access n, h.1) h.0
 operand_bytes f bytes s (indexed n x h b rest t low i p e g) =
@@ -165,9 +165,9 @@ operands_bytes (f ∷ fs) bytes (s ∷ ss) h =
     let back : length h.1 ≡ all_length fs ss = operands_bytes fs h.1 ss h.4 in
     ap length h.2 ∙ omega (arith, length-append {A = ℕ})
 
-in_row_bytes : (o : Option Entry) (e : Entry) (specs : List Spec) (n : ℕ) → o ≡ Some e → n ≡ all_length e.operands specs → n ≡ all_length (forms_in o) specs
+in_row_bytes : (o : Option OpcodeEntry) (e : OpcodeEntry) (specs : List Spec) (n : ℕ) → o ≡ Some e → n ≡ all_length e.operands specs → n ≡ all_length (forms_in o) specs
 in_row_bytes None e specs n r h = cc
-in_row_bytes (Some g) e specs n r h = let same : e ≡ g = cc in subst (λ (x : Entry). n ≡ all_length x.operands specs) same h
+in_row_bytes (Some g) e specs n r h = let same : e ≡ g = cc in subst (λ (x : OpcodeEntry). n ≡ all_length x.operands specs) same h
 
 abbrev opcode_length : Instruction → ℕ
 opcode_length d = if d.wait then 2 else 1
@@ -188,7 +188,7 @@ unfolding operands_of GoesAll
 operands_go d r h room =
     let k = opcode_length d in
     let n = all_length (forms_in (row_of d.opcode)) d.specs in
-    let q : List ℕ = behind_bytes k r in
+    let q : List ℕ = past_own_bytes k r in
     let g : Goes k r q = behind_goes k r room in
     let there : slice_index q 15 ≡ plus (slice_index r 15) k = g.0 in
     let size : length q ≡ length r = g.1 in

@@ -1,7 +1,7 @@
 -- Numbers read from a space, for those who read them byte by byte.
 use Rattle.std.proofs.Common.{◌≡◌, ℕ, zero, suc, ◌+◌, ◌-◌, ◌%◌, ◌^◌, ◌<◌, Result, Ok, Err, refl, ap, arith}
 use Rattle.vax_arch.specs.declared.mode.Intent.{Intent}
-use Rattle.vax_table.specs.Script.{Cause, Trouble, Test, Space, with_byte, number_at}
+use Rattle.vax_table.specs.Interaction.{Cause, Trouble, Test, Space, with_byte, number_at}
 use Rattle.vax_table.specs.declared.act.Refusal.{Refusal}
 
 -- an address counts modulo 2 ^ 32

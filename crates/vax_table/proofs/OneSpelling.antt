@@ -3,8 +3,8 @@ use Rattle.std.proofs.Common.{◌≡◌, ℕ, ◌+◌, ◌*◌, true, false, eqb
 use Rattle.std.proofs.lemmas.Bool.{ne_eqb}
 use Rattle.vax_table.specs.declared.forms.Form.{Form}
 use Rattle.vax_table.specs.declared.decoded.Spec.{Spec}
-use Rattle.vax_table.specs.Rows.{Entry, row_of}
-use Rattle.vax_table.specs.Spelling.{bytes_of, unindexed, Displaces, byte, byte_deferred, word, word_deferred, long, long_deferred, Specifier, literal, register, register_deferred, autodecrement, autoincrement, immediate, autoincrement_deferred, absolute, displacement, Operand, specifier, indexed, branch, Operands, Instruction, Spells, wait, of_row, IsPrefixFree, HasOneSpelling}
+use Rattle.vax_table.specs.Rows.{OpcodeEntry, row_of}
+use Rattle.vax_table.specs.Spelling.{bytes_of, unindexed, Displaces, byte, byte_deferred, word, word_deferred, long, long_deferred, Specifier, literal, register, register_deferred, autodecrement, autoincrement, immediate, autoincrement_deferred, absolute, displacement, SpellsOperand, specifier, indexed, branch, Operands, Instruction, Spells, wait, of_row, IsPrefixFree, HasOneSpelling}
 use Rattle.vax_table.specs.Reading.{is_branch, decoded_at, Whole}
 use Rattle.vax_table.specs.Spelled.{value_size, spelled_specifier, spelled, spelled_all}
 use Rattle.vax_table.proofs.Tests.{no_branch}
@@ -42,7 +42,7 @@ no_index f bytes s (autoincrement_deferred n h e g) = ap (λ t. t.index) g
 no_index f bytes s (absolute v h e g) = ap (λ t. t.index) g
 no_index f bytes s (displacement mode k n v d h l e g) = ap (λ t. t.index) g
 
-pub operand_spelled : (f : Form) (bytes : List ℕ) (s : Spec) → Operand f bytes s → bytes ≡ spelled f s
+pub operand_spelled : (f : Form) (bytes : List ℕ) (s : Spec) → SpellsOperand f bytes s → bytes ≡ spelled f s
 unfolding spelled spelled_specifier value_size
 operand_spelled f bytes s (specifier n b) = rw (no_branch f.access n, no_index f bytes s b) (specifier_spelled f bytes s b)
 operand_spelled f bytes s (indexed n x h b r t l i m e g) = rw (e, g, no_branch f.access n) (ap (λ xs. (0x40 + x) ∷ xs) (specifier_spelled f (b ∷ r) t m))
@@ -63,7 +63,7 @@ unique a b d (of_row x o r s l n q m e g) (of_row x' o' r' s' l' n' q' m' e' g')
     let sp : s ≡ s' = ap (λ i. i.specs) (sym g ∙ g') in
     let row : Some x ≡ Some x' = sym q ∙ (ap row_of op ∙ q') in
     let en : x ≡ x' = cc in
-    let rest : r ≡ r' = operands_spelled x.operands r s m ∙ (ap (λ (y : Entry). spelled_all y.operands s) en ∙ (ap (spelled_all x'.operands) sp ∙ sym (operands_spelled x'.operands r' s' m'))) in
+    let rest : r ≡ r' = operands_spelled x.operands r s m ∙ (ap (λ (y : OpcodeEntry). spelled_all y.operands s) en ∙ (ap (spelled_all x'.operands) sp ∙ sym (operands_spelled x'.operands r' s' m'))) in
     cc
 
 pub rest_same : (a b x y : List ℕ) (d e : Instruction) → Spells a d → Spells b e → a ++ x ≡ b ++ y → (d ≡ e) × (x ≡ y)

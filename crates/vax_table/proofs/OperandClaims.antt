@@ -14,7 +14,7 @@ use Rattle.vax_table.specs.declared.forms.Access.{Access}
 use Rattle.vax_table.specs.declared.forms.Access.TheVariants.{Read, Modify, Write, Address, Bits, Branch}
 use Rattle.vax_table.specs.declared.forms.Form.{Form}
 use Rattle.vax_table.specs.Claims.{addresses, claims_by, operand_claims, Holds}
-use Rattle.vax_table.specs.Operand.{base_address, address_of, read_operand, modified_operand, written_operand, address_operand, bits_operand, branch_operand, by_access, behind_bytes, operand_length, operand_of, with_operand, operands_from, no_operands, forms_in, operands_of}
+use Rattle.vax_table.specs.Operand.{base_address, address_of, read_operand, modified_operand, written_operand, address_operand, bits_operand, branch_operand, by_access, past_own_bytes, operand_length, operand_of, with_operand, operands_from, no_operands, forms_in, operands_of}
 use Rattle.vax_table.specs.Rows.{row_of}
 use Rattle.vax_table.specs.Spelling.{Instruction}
 use Rattle.vax_table.proofs.Claims.{holds-bind, holds_always, holds_then}
@@ -94,7 +94,7 @@ access_holds Branch w s r cs = branch_holds w s r cs
 
 operand_holds : (f : Form) (s : Spec) (r cs : List ℕ) → Holds (Adds cs f.access f.width) cs (operand_of f s r)
 unfolding operand_of
-operand_holds f s r cs = access_holds f.access f.width s (behind_bytes (operand_length f s) r) cs
+operand_holds f s r cs = access_holds f.access f.width s (past_own_bytes (operand_length f s) r) cs
 
 nowhere : (a : Access) (w : Width) → claims_by a w Nowhere ≡ []
 nowhere Read w = refl
@@ -177,4 +177,4 @@ few_claimed false fs e ss r = holds_always (λ cs o. are_few fs ≡ true → Are
 -- what operands claim
 pub operands_claimed : (d : Instruction) (r : List ℕ) → Holds (λ cs o. are_few (forms_in (row_of d.opcode)) ≡ true → AreClaimed (forms_in (row_of d.opcode)) cs o) [] (operands_of d r)
 unfolding operands_of
-operands_claimed d r = few_claimed (are_few (forms_in (row_of d.opcode))) (forms_in (row_of d.opcode)) refl d.specs (behind_bytes (if d.wait then 2 else 1) r)
+operands_claimed d r = few_claimed (are_few (forms_in (row_of d.opcode))) (forms_in (row_of d.opcode)) refl d.specs (past_own_bytes (if d.wait then 2 else 1) r)

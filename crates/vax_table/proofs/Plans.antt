@@ -9,15 +9,15 @@ use Rattle.vv_base.specs.Width.{size_of}
 use Rattle.vax_table.specs.Arithmetic.{alu_of}
 use Rattle.vax_table.specs.Branches.{added_and_compared, added_one, bit, bit_in, bit_intent, bit_made, branched, branched_on_bit, branched_on_low_bit, byte_of_bit, called_subroutine, cased, comes_out, holds, left_subroutine, looped, subtracted_one}
 use Rattle.vax_table.specs.Calls.{aligned, called_general, called_on_stack, entered, entry_mask, frame_end, frame_left, frame_popped, list_dropped, registers_popped, registers_pushed, returned, values_of}
-use Rattle.vax_table.specs.Claims.{addresses, bytes_at, Holds, claims, if_write}
-use Rattle.vax_table.specs.Computing.{computed, moved_quad, pushed, status_cleared, status_set}
+use Rattle.vax_table.specs.Claims.{addresses, destination_addresses, Holds, claims, if_write}
+use Rattle.vax_table.specs.Computing.{computed, moved_quad, operand_pushed, status_cleared, status_set}
 use Rattle.vax_table.specs.Effects.{Effect, begun, dest_of, long_of, put, put_in_register, quad_of, store, went_if}
 use Rattle.vax_table.specs.Operand.{forms_in, minus, operands_of, place, plus}
 use Rattle.vax_table.specs.Operations.{operation_of}
 use Rattle.vax_table.specs.Plan.{is_planned, performed, performed_with, plan_of, planned}
 use Rattle.vax_table.specs.PlanLaws.{bytes_of_stores}
 use Rattle.vax_table.specs.Rows.{row_of}
-use Rattle.vax_table.specs.Script.{Script, Done, Refuse, Touch, ◌>>=◌, Space, outcome}
+use Rattle.vax_table.specs.Interaction.{Interaction, Done, Refuse, Touch, ◌>>=◌, Space, outcome}
 use Rattle.vax_table.specs.Spelling.{Instruction}
 use Rattle.vax_table.specs.Stack.{does_name, named_down, named_up, pop, pop_all, push, push_all}
 use Rattle.vax_table.specs.declared.act.Dest.{Dest}
@@ -84,12 +84,12 @@ in_register n m cs xs r Long k v s = set n m cs xs r k _ s
 in_register n m cs xs r Quad k v s = set n m cs xs (slice_set r k (v % 2 ^ 32)) (k + 1) _ (set n m cs xs r k _ s)
 
 -- a destination whose bytes are claimed gets the one result
-put_alone : (m : ℕ) (dest : Dest) (w : Width) (v : ℕ) (e : Effect) → Sound 0 m [] e → Sound 1 m (bytes_at w dest) (put dest w v e)
+put_alone : (m : ℕ) (dest : Dest) (w : Width) (v : ℕ) (e : Effect) → Sound 0 m [] e → Sound 1 m (destination_addresses w dest) (put dest w v e)
 put_alone m Nowhere w v e s = fewer 0 1 m [] e.writes e.r (omega arith) s
 put_alone m (Register k) w v e s = fewer 0 1 m [] e.writes (put_in_register w k v e.r) (omega arith) (in_register 0 m [] e.writes e.r w k v s)
 put_alone m (Memory at) w v e s = stored 0 m [] e.writes e.r (store at w v) s
 
-put_sound : (m : ℕ) (cs : List ℕ) (dest : Dest) (w : Width) (v : ℕ) (e : Effect) → cs ≡ bytes_at w dest → Sound 0 m [] e → Sound 1 m cs (put dest w v e)
+put_sound : (m : ℕ) (cs : List ℕ) (dest : Dest) (w : Width) (v : ℕ) (e : Effect) → cs ≡ destination_addresses w dest → Sound 0 m [] e → Sound 1 m cs (put dest w v e)
 put_sound m cs dest w v e c s = subst (λ (zs : List ℕ). Sound 1 m zs (put dest w v e)) (sym c) (put_alone m dest w v e s)
 
 went_sound : (n m : ℕ) (cs : List ℕ) (taken : Bool) (pc : ℕ) (e : Effect) → Sound n m cs e → Sound n m cs (went_if taken pc e)
@@ -107,7 +107,7 @@ push_all_sound n k m cs [] e h s = fewer n k m cs e.writes e.r (omega arith) s
 push_all_sound n k m cs (v ∷ vs) e h s = holds-bind (Sound (suc n) m) (Sound k m) cs (push v e) _ (push_sound n m cs v e s) (λ ds f g. push_all_sound (suc n) k m ds vs f (omega arith) g)
 
 -- where nothing was claimed before
-at_none : {A : Type 0} (P : List ℕ → A → Type 0) (cs : List ℕ) (script : Script A) → cs ≡ [] → Holds P [] script → Holds P cs script
+at_none : {A : Type 0} (P : List ℕ → A → Type 0) (cs : List ℕ) (script : Interaction A) → cs ≡ [] → Holds P [] script → Holds P cs script
 at_none P cs script e h = subst (λ (zs : List ℕ). Holds P zs script) (sym e) h
 
 abbrev ClaimsNone : List ℕ → ℕ → Type 0
@@ -142,12 +142,12 @@ computed_sound fs m cs op w inputs targets.First o psw f c h = put_sound m cs (d
 computed_sound fs m cs op w inputs targets.Second o psw f c h = put_sound m cs (dest_of o 1) w _ _ (target_claimed fs cs o 1 w c f) (none_stored 0 m [] o.r refl h)
 computed_sound fs m cs op w inputs targets.Third o psw f c h = put_sound m cs (dest_of o 2) w _ _ (target_claimed fs cs o 2 w c f) (none_stored 0 m [] o.r refl h)
 
-quad_sound : (m : ℕ) (cs : List ℕ) (v : ℕ) (dest : Dest) (o : Operands) (psw : ℕ) → cs ≡ bytes_at Quad dest → length o.r ≡ m → Sound 1 m cs (moved_quad v dest o psw)
+quad_sound : (m : ℕ) (cs : List ℕ) (v : ℕ) (dest : Dest) (o : Operands) (psw : ℕ) → cs ≡ destination_addresses Quad dest → length o.r ≡ m → Sound 1 m cs (moved_quad v dest o psw)
 unfolding moved_quad
 quad_sound m cs v dest o psw c h = put_sound m cs dest Quad v _ c (none_stored 0 m [] o.r refl h)
 
-pushed_sound : (m : ℕ) (o : Operands) (psw : ℕ) → length o.r ≡ m → Holds (Sound 1 m) [] (pushed o psw)
-unfolding pushed
+pushed_sound : (m : ℕ) (o : Operands) (psw : ℕ) → length o.r ≡ m → Holds (Sound 1 m) [] (operand_pushed o psw)
+unfolding operand_pushed
 pushed_sound m o psw h = push_sound 0 m [] (long_of o 0) _ (none_stored 0 m [] o.r refl h)
 
 status_set_sound : (m : ℕ) (o : Operands) (psw : ℕ) → length o.r ≡ m → Holds (Sound 0 m) [] (status_set o psw)
@@ -170,18 +170,18 @@ left_sound : (m : ℕ) (o : Operands) (psw : ℕ) → length o.r ≡ m → Holds
 unfolding left_subroutine
 left_sound m o psw h = λ pc. none_stored 0 m [] _ refl (set_wide m (slice_set o.r 14 _) 15 pc (set_wide m o.r 14 _ h))
 
-looped_sound : (m : ℕ) (cs : List ℕ) (w : Width) (dest : Dest) (x : Alu) (taken : Bool) (to : ℕ) (o : Operands) (psw : ℕ) → cs ≡ bytes_at w dest → length o.r ≡ m → Sound 1 m cs (looped w dest x taken to o psw)
+looped_sound : (m : ℕ) (cs : List ℕ) (w : Width) (dest : Dest) (x : Alu) (taken : Bool) (to : ℕ) (o : Operands) (psw : ℕ) → cs ≡ destination_addresses w dest → length o.r ≡ m → Sound 1 m cs (looped w dest x taken to o psw)
 looped_sound m cs w dest x taken to o psw c h = went_sound 1 m cs taken to _ (put_sound m cs dest w x.value _ c (none_stored 0 m [] o.r refl h))
 
-acb_sound : (m : ℕ) (cs : List ℕ) (w : Width) (o : Operands) (psw : ℕ) → cs ≡ bytes_at w (dest_of o 2) → length o.r ≡ m → Sound 1 m cs (added_and_compared w o psw)
+acb_sound : (m : ℕ) (cs : List ℕ) (w : Width) (o : Operands) (psw : ℕ) → cs ≡ destination_addresses w (dest_of o 2) → length o.r ≡ m → Sound 1 m cs (added_and_compared w o psw)
 unfolding added_and_compared
 acb_sound m cs w o psw c h = looped_sound m cs w (dest_of o 2) _ _ _ o psw c h
 
-aob_sound : (m : ℕ) (cs : List ℕ) (at_limit : Bool) (o : Operands) (psw : ℕ) → cs ≡ bytes_at Long (dest_of o 1) → length o.r ≡ m → Sound 1 m cs (added_one at_limit o psw)
+aob_sound : (m : ℕ) (cs : List ℕ) (at_limit : Bool) (o : Operands) (psw : ℕ) → cs ≡ destination_addresses Long (dest_of o 1) → length o.r ≡ m → Sound 1 m cs (added_one at_limit o psw)
 unfolding added_one
 aob_sound m cs at_limit o psw c h = looped_sound m cs Long (dest_of o 1) _ _ _ o psw c h
 
-sob_sound : (m : ℕ) (cs : List ℕ) (at_zero : Bool) (o : Operands) (psw : ℕ) → cs ≡ bytes_at Long (dest_of o 0) → length o.r ≡ m → Sound 1 m cs (subtracted_one at_zero o psw)
+sob_sound : (m : ℕ) (cs : List ℕ) (at_zero : Bool) (o : Operands) (psw : ℕ) → cs ≡ destination_addresses Long (dest_of o 0) → length o.r ≡ m → Sound 1 m cs (subtracted_one at_zero o psw)
 unfolding subtracted_one
 sob_sound m cs at_zero o psw c h = looped_sound m cs Long (dest_of o 0) _ _ _ o psw c h
 
@@ -196,7 +196,7 @@ unfolding branched_on_low_bit
 low_bit_sound m on o psw h = went_sound 0 m [] (comes_out on (bit 0 (long_of o 0))) (long_of o 1) (begun o psw) (none_stored 0 m [] o.r refl h)
 
 -- the byte or register of a bit is claimed where the bit is made something
-bit_made_sound : (m : ℕ) (becomes : Option Bool) (dest : Dest) (w : Width) (k n : ℕ) (e : Effect) → Sound 0 m [] e → Sound 1 m (if_write (bit_intent becomes) (bytes_at w dest)) (bit_made becomes dest w k n e)
+bit_made_sound : (m : ℕ) (becomes : Option Bool) (dest : Dest) (w : Width) (k n : ℕ) (e : Effect) → Sound 0 m [] e → Sound 1 m (if_write (bit_intent becomes) (destination_addresses w dest)) (bit_made becomes dest w k n e)
 bit_made_sound m None dest w k n e s = fewer 0 1 m [] e.writes e.r (omega arith) s
 bit_made_sound m (Some b) dest w k n e s = put_alone m dest w _ e s
 
@@ -279,10 +279,10 @@ unfolding returned
 returned_sound m o psw h = λ handler word.
     if_both (Holds (Sound 0 m) []) (eqb (word / 2 ^ 8 % 2 ^ 8) 0) _ _ (λ t. frame_left_sound m (slice_index o.r 13) word o psw h) (λ t. tt)
 
-at_most : (n m : ℕ) (cs : List ℕ) (script : Script Effect) → n ≤ 20 → Holds (Sound n m) cs script → Holds (Sound 20 m) cs script
+at_most : (n m : ℕ) (cs : List ℕ) (script : Interaction Effect) → n ≤ 20 → Holds (Sound n m) cs script → Holds (Sound 20 m) cs script
 at_most n m cs script h s = holds_then (Sound n m) (Sound 20 m) cs script s (λ ds e t. fewer n 20 m ds e.writes e.r h t)
 
-quietly : (n m : ℕ) (cs : List ℕ) (script : Script Effect) → n ≤ 20 → cs ≡ [] → Holds (Sound n m) [] script → Holds (Sound 20 m) cs script
+quietly : (n m : ℕ) (cs : List ℕ) (script : Interaction Effect) → n ≤ 20 → cs ≡ [] → Holds (Sound n m) [] script → Holds (Sound 20 m) cs script
 quietly n m cs script h e s = at_most n m cs script h (at_none (Sound n m) cs script e s)
 
 performed_sound : (psl : ℕ) (fs : List Form) (m : ℕ) (cs : List ℕ) (operation : Operation) (o : Operands) → is_fit operation fs ≡ true → (are_few fs ≡ true → AreClaimed fs cs o) → length o.r ≡ m → Holds (Sound 20 m) cs (performed_with psl operation o)
@@ -296,7 +296,7 @@ performed_sound psl fs m cs does.Nothing o f c h = none_stored 20 m cs o.r (none
 performed_sound psl fs m cs (does.Compute op w inputs target) o f c h = at_most 1 m cs (Done (computed op w inputs target o (psl % 2 ^ 8))) (omega arith) (computed_sound fs m cs op w inputs target o (psl % 2 ^ 8) f c h)
 performed_sound psl fs m cs does.ClearQuad o f c h = at_most 1 m cs (Done (moved_quad 0 (dest_of o 0) o (psl % 2 ^ 8))) (omega arith) (quad_sound m cs 0 (dest_of o 0) o (psl % 2 ^ 8) (target_claimed fs cs o 0 Quad c f) h)
 performed_sound psl fs m cs does.MoveQuad o f c h = at_most 1 m cs (Done (moved_quad (quad_of o 0) (dest_of o 1) o (psl % 2 ^ 8))) (omega arith) (quad_sound m cs (quad_of o 0) (dest_of o 1) o (psl % 2 ^ 8) (target_claimed fs cs o 1 Quad c f) h)
-performed_sound psl fs m cs does.Push o f c h = quietly 1 m cs (pushed o (psl % 2 ^ 8)) (omega arith) (none_claimed fs cs o c f) (pushed_sound m o (psl % 2 ^ 8) h)
+performed_sound psl fs m cs does.Push o f c h = quietly 1 m cs (operand_pushed o (psl % 2 ^ 8)) (omega arith) (none_claimed fs cs o c f) (pushed_sound m o (psl % 2 ^ 8) h)
 performed_sound psl fs m cs does.SetStatus o f c h = quietly 0 m cs (status_set o (psl % 2 ^ 8)) (omega arith) (none_claimed fs cs o c f) (status_set_sound m o (psl % 2 ^ 8) h)
 performed_sound psl fs m cs does.ClearStatus o f c h = quietly 0 m cs (status_cleared o (psl % 2 ^ 8)) (omega arith) (none_claimed fs cs o c f) (status_cleared_sound m o (psl % 2 ^ 8) h)
 performed_sound psl fs m cs (does.Branch condition) o f c h = quietly 0 m cs (Done (branched condition o (psl % 2 ^ 8))) (omega arith) (none_claimed fs cs o c f) (branched_sound m condition o (psl % 2 ^ 8) h)
@@ -315,7 +315,7 @@ performed_sound psl fs m cs does.CallOnStack o f c h = quietly 18 m cs (called_o
 performed_sound psl fs m cs does.Return o f c h = quietly 0 m cs (returned o (psl % 2 ^ 8)) (omega arith) (none_claimed fs cs o c f) (returned_sound m o (psl % 2 ^ 8) h)
 performed_sound psl fs m cs does.MoveStatus o f c h = at_most 1 m cs (Done (put (dest_of o 0) Long psl (begun o (psl % 2 ^ 8)))) (omega arith) (put_sound m cs (dest_of o 0) Long psl (begun o (psl % 2 ^ 8)) (target_claimed fs cs o 0 Long c f) (none_stored 0 m [] o.r refl h))
 
-holds_both : {A : Type 0} (P Q : List ℕ → A → Type 0) (cs : List ℕ) (script : Script A) → Holds P cs script → Holds Q cs script → Holds (λ ds a. P ds a × Q ds a) cs script
+holds_both : {A : Type 0} (P Q : List ℕ → A → Type 0) (cs : List ℕ) (script : Interaction A) → Holds P cs script → Holds Q cs script → Holds (λ ds a. P ds a × Q ds a) cs script
 holds_both P Q cs (Done a) h g = (h, g)
 holds_both P Q cs (Refuse t) h g = tt
 holds_both P Q cs (Touch i a k f) h g = λ v. holds_both P Q (cs ++ if_write i (addresses k a)) (f v) (h v) (g v)
@@ -342,8 +342,8 @@ pub performed_alone : (psl : ℕ) (operation : Operation) (o : Operands) → is_
 performed_alone psl does.MoveStatus o e = absurd (no_yes e)
 performed_alone psl operation o e = refl
 
-same_behind : {A B : Type 0} (m : Script A) (f g : A → Script B) → ((a : A) → f a ≡ g a) → m >>= f ≡ m >>= g
-same_behind {A = A} {B = B} m f g h = ap (λ (k : A → Script B). m >>= k) (fun_ext h)
+same_behind : {A B : Type 0} (m : Interaction A) (f g : A → Interaction B) → ((a : A) → f a ≡ g a) → m >>= f ≡ m >>= g
+same_behind {A = A} {B = B} m f g h = ap (λ (k : A → Interaction B). m >>= k) (fun_ext h)
 
 pub plans_planned : (psl : ℕ) (d : Instruction) (r : List ℕ) → is_planned (operation_of d.opcode) ≡ true → plan_of psl d r ≡ planned d r (psl % 2 ^ 8)
 unfolding plan_of planned

@@ -7,10 +7,10 @@ use Rattle.vax_table.specs.declared.forms.Access.{Access}
 use Rattle.vax_table.specs.declared.forms.Access.TheVariants.{Read, Modify, Write, Address, Bits, Branch}
 use Rattle.vax_table.specs.declared.forms.Form.{Form}
 use Rattle.vax_table.specs.Reading.{displacement_size}
-use Rattle.vax_table.specs.Rows.{Entry, row_of}
-use Rattle.vax_table.specs.Spelling.{unindexed, Displaces, byte, byte_deferred, word, word_deferred, long, long_deferred, Specifier, literal, register, register_deferred, autodecrement, autoincrement, immediate, autoincrement_deferred, absolute, displacement, Operand, specifier, indexed, branch, Operands, Instruction, wait, of_row, IsWellFormed}
+use Rattle.vax_table.specs.Rows.{OpcodeEntry, row_of}
+use Rattle.vax_table.specs.Spelling.{unindexed, Displaces, byte, byte_deferred, word, word_deferred, long, long_deferred, Specifier, literal, register, register_deferred, autodecrement, autoincrement, immediate, autoincrement_deferred, absolute, displacement, SpellsOperand, specifier, indexed, branch, Operands, Instruction, wait, of_row, IsWellFormed}
 use Rattle.vax_table.specs.Operand.{forms_in}
-use Rattle.vax_table.specs.Standing.{IsFormed, Stands, AllStand}
+use Rattle.vax_table.specs.LegalOperands.{IsFormed, IsLegalOperand, AreLegalOperands}
 
 -- a specifier, without its form: neither literal nor index, or a literal that is read
 pub record IsSpecified (f : Form) (s : Spec) : Type 0 where
@@ -114,7 +114,7 @@ not_literal : (a : Access) (s : Spec) → a ≢ Read → (s.mode ≡ 0 → (a �
 not_literal a s n l (inl e) = absurd (n (l e).0)
 not_literal a s n l (inr h) = h
 
-stands_by : (a : Access) (w : Width) (s : Spec) → a ≢ Branch → IsSpecified (record { access = a; width = w }) s → Stands a w s
+stands_by : (a : Access) (w : Width) (s : Spec) → a ≢ Branch → IsSpecified (record { access = a; width = w }) s → IsLegalOperand a w s
 stands_by Read w s n p = record { formed = p.formed; mode = p.mode; literal = λ e. (p.literal e).1; immediate = p.immediate }
 stands_by Modify w s n p = (p.formed, not_literal Modify s (λ e. cc) p.literal p.mode)
 stands_by Write w s n p = (p.formed, not_literal Write s (λ e. cc) p.literal p.mode)
@@ -125,40 +125,40 @@ stands_by Address w s n p =
 stands_by Bits w s n p = (p.formed, not_literal Bits s (λ e. cc) p.literal p.mode)
 stands_by Branch w s n p = absurd (n refl)
 
-branch_stands : (a : Access) (w : Width) (s : Spec) (v : ℕ) → a ≡ Branch → v < 256 ^ size_of w → s ≡ unindexed 16 0 v → Stands a w s
-branch_stands a w s v e h g = subst (λ (b : Access). Stands b w s) (sym e) (subst (λ (t : Spec). t.value < 256 ^ size_of w) (sym g) h)
+branch_stands : (a : Access) (w : Width) (s : Spec) (v : ℕ) → a ≡ Branch → v < 256 ^ size_of w → s ≡ unindexed 16 0 v → IsLegalOperand a w s
+branch_stands a w s v e h g = subst (λ (b : Access). IsLegalOperand b w s) (sym e) (subst (λ (t : Spec). t.value < 256 ^ size_of w) (sym g) h)
 
-operand_stands : (f : Form) (bytes : List ℕ) (s : Spec) → Operand f bytes s → Stands f.access f.width s
+operand_stands : (f : Form) (bytes : List ℕ) (s : Spec) → SpellsOperand f bytes s → IsLegalOperand f.access f.width s
 operand_stands f bytes s (specifier n p) = stands_by f.access f.width s n (specified f bytes s p)
 operand_stands f bytes s (indexed n x h b rest t low i p e g) =
-    subst (Stands f.access f.width) (sym g) (stands_by f.access f.width (record t { index = Some x }) n (with_index f t x h (of_memory f b rest t low p) (specified f (b ∷ rest) t p)))
+    subst (IsLegalOperand f.access f.width) (sym g) (stands_by f.access f.width (record t { index = Some x }) n (with_index f t x h (of_memory f b rest t low p) (specified f (b ∷ rest) t p)))
 operand_stands f bytes s (branch a v h e g) = branch_stands f.access f.width s v a h g
 
-operands_stand : (fs : List Form) (bytes : List ℕ) (ss : List Spec) → Operands fs bytes ss → AllStand fs ss
+operands_stand : (fs : List Form) (bytes : List ℕ) (ss : List Spec) → Operands fs bytes ss → AreLegalOperands fs ss
 operands_stand [] bytes [] h = tt
 operands_stand [] bytes (s ∷ ss) h = absurd h
 operands_stand (f ∷ fs) bytes [] h = absurd h
 operands_stand (f ∷ fs) bytes (s ∷ ss) h = (operand_stands f h.0 s h.3, operands_stand fs h.1 ss h.4)
 
-row_stands : (d : Instruction) (o : Option Entry) (e : Entry) (specs : List Spec) → o ≡ Some e → AllStand e.operands specs → AllStand (forms_in o) specs
+row_stands : (d : Instruction) (o : Option OpcodeEntry) (e : OpcodeEntry) (specs : List Spec) → o ≡ Some e → AreLegalOperands e.operands specs → AreLegalOperands (forms_in o) specs
 row_stands d None e specs r h = cc
-row_stands d (Some g) e specs r h = let same : e ≡ g = cc in subst (λ (x : Entry). AllStand x.operands specs) same h
+row_stands d (Some g) e specs r h = let same : e ≡ g = cc in subst (λ (x : OpcodeEntry). AreLegalOperands x.operands specs) same h
 
 -- the operands of a well-formed instruction are sound, one for each form of its opcode's row
-pub well_formed : (d : Instruction) → IsWellFormed d → AllStand (forms_in (row_of d.opcode)) d.specs
+pub well_formed : (d : Instruction) → IsWellFormed d → AreLegalOperands (forms_in (row_of d.opcode)) d.specs
 unfolding row_of
 well_formed d h = elim h.1 [
-  | wait e g ↦ subst (λ (x : Instruction). AllStand (forms_in (row_of x.opcode)) x.specs) (sym g) tt
-  | of_row e opcode rest specs b n r o f g ↦ subst (λ (x : Instruction). AllStand (forms_in (row_of x.opcode)) x.specs) (sym g) (row_stands d (row_of opcode) e specs r (operands_stand e.operands rest specs o))
+  | wait e g ↦ subst (λ (x : Instruction). AreLegalOperands (forms_in (row_of x.opcode)) x.specs) (sym g) tt
+  | of_row e opcode rest specs b n r o f g ↦ subst (λ (x : Instruction). AreLegalOperands (forms_in (row_of x.opcode)) x.specs) (sym g) (row_stands d (row_of opcode) e specs r (operands_stand e.operands rest specs o))
 ]
 
-pub stand_length : (fs : List Form) (ss : List Spec) → AllStand fs ss → length ss ≡ length fs
+pub stand_length : (fs : List Form) (ss : List Spec) → AreLegalOperands fs ss → length ss ≡ length fs
 stand_length [] [] h = refl
 stand_length [] (s ∷ ss) h = absurd h
 stand_length (f ∷ fs) [] h = absurd h
 stand_length (f ∷ fs) (s ∷ ss) h = ap suc (stand_length fs ss h.1)
 
-pub stand_at : (fs : List Form) (ss : List Spec) (k : ℕ) (f : Form) (s : Spec) → AllStand fs ss → k < length fs → Stands (get_or fs k f).access (get_or fs k f).width (get_or ss k s)
+pub stand_at : (fs : List Form) (ss : List Spec) (k : ℕ) (f : Form) (s : Spec) → AreLegalOperands fs ss → k < length fs → IsLegalOperand (get_or fs k f).access (get_or fs k f).width (get_or ss k s)
 stand_at [] ss k f s h i = absurd (omega arith)
 stand_at (g ∷ fs) [] k f s h i = absurd h
 stand_at (g ∷ fs) (t ∷ ss) zero f s h i = h.0

@@ -10,22 +10,22 @@ use Rattle.vax_table.specs.declared.meanings.TheConstants.{OPERATIONS}
 use Rattle.vax_table.specs.declared.meaning.Operation.{Operation}
 use Rattle.vax_table.specs.declared.meaning.Operation.TheVariants.{Other}
 use Rattle.vax_table.specs.Operations.{is_narrow, operation_of}
-use Rattle.vax_table.specs.Rows.{Entry, row_of}
-use Rattle.vax_table.specs.RowViews.{line_view}
+use Rattle.vax_table.specs.Rows.{OpcodeEntry, row_of}
+use Rattle.vax_table.specs.RowViews.{opcode_entry_view}
 
 -- all 256 at once, by computation
-lines_are : map line_view LINES ≡ map row_of (range_with_len 0 256)
+lines_are : map opcode_entry_view LINES ≡ map row_of (range_with_len 0 256)
 unfolding row_of
 lines_are = refl
 
 lines_length : length LINES ≡ 256
 lines_length = refl
 
-pub line_is : (n : ℕ) → n < 256 → line_view (get_or LINES n Unknown) ≡ row_of n
+pub line_is : (n : ℕ) → n < 256 → opcode_entry_view (get_or LINES n Unknown) ≡ row_of n
 line_is n below =
     let within : n < length LINES = omega (arith, lines_length) in
-    sym (get_or-map line_view LINES n Unknown None within)
-    ∙ ap (λ (xs : List (Option Entry)). get_or xs n None) lines_are
+    sym (get_or-map opcode_entry_view LINES n Unknown None within)
+    ∙ ap (λ (xs : List (Option OpcodeEntry)). get_or xs n None) lines_are
     ∙ get_or-map-range_with_len row_of 0 256 n n None below (omega arith)
 
 -- and what each instruction does

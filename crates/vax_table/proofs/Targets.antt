@@ -17,10 +17,10 @@ use Rattle.vax_table.specs.declared.forms.Form.{Form}
 use Rattle.vax_table.specs.declared.meaning.Operation.{Operation}
 use Rattle.vax_table.specs.declared.meaning.Operation.TheVariants as does
 use Rattle.vax_table.specs.declared.meaning.Target.TheVariants as targets
-use Rattle.vax_table.specs.Claims.{addresses, bytes_at, claims_by, operand_claims}
+use Rattle.vax_table.specs.Claims.{addresses, claims_by, destination_addresses, operand_claims}
 use Rattle.vax_table.specs.Effects.{dest_of}
 use Rattle.vax_table.specs.Operand.{forms_in}
-use Rattle.vax_table.specs.Operations.{OperationLine, arithmetic_operations, move_operations, in_operation_lines, in_operations, operation_of, other_operations}
+use Rattle.vax_table.specs.Operations.{OperationRow, arithmetic_operations, move_operations, operation_in_rows, in_operations, operation_of, other_operations}
 use Rattle.vax_table.specs.Rows.{row_of}
 use Rattle.vax_table.proofs.OperandClaims.{AreClaimed, are_few}
 use Rattle.vax_table.proofs.Tests.{eq_of, if_both, le_of}
@@ -97,11 +97,11 @@ beyond_block n first block rest h =
     let none : slice_get block (n - first) ≡ None = beyond_list block (n - first) (omega arith) in
     if_both (λ (o : Operation). o ≡ rest) (leb first n) _ _ (λ t. rw none) (λ t. refl)
 
-are_bytes : List OperationLine → Bool
+are_bytes : List OperationRow → Bool
 are_bytes [] = true
 are_bytes (l ∷ ls) = ltb l.opcode 256 && are_bytes ls
 
-beyond_lines : (n : ℕ) (ls : List OperationLine) → 256 ≤ n → are_bytes ls ≡ true → in_operation_lines n ls ≡ does.Other
+beyond_lines : (n : ℕ) (ls : List OperationRow) → 256 ≤ n → are_bytes ls ≡ true → operation_in_rows n ls ≡ does.Other
 unfolding are_bytes
 beyond_lines n [] h e = refl
 beyond_lines n (l ∷ ls) h e =
@@ -139,12 +139,12 @@ unkept Address w dest e = refl
 unkept Bits w dest e = refl
 unkept Branch w dest e = refl
 
-bytes_same : (v w : Width) (dest : Dest) → size_of v ≡ size_of w → bytes_at v dest ≡ bytes_at w dest
+bytes_same : (v w : Width) (dest : Dest) → size_of v ≡ size_of w → destination_addresses v dest ≡ destination_addresses w dest
 bytes_same v w Nowhere e = refl
 bytes_same v w (Register n) e = refl
 bytes_same v w (Memory at) e = ap (λ (z : ℕ). addresses z at) e
 
-kept : (a : Access) (v w : Width) (dest : Dest) → is_kept a ≡ true → size_of v ≡ size_of w → claims_by a v dest ≡ bytes_at w dest
+kept : (a : Access) (v w : Width) (dest : Dest) → is_kept a ≡ true → size_of v ≡ size_of w → claims_by a v dest ≡ destination_addresses w dest
 unfolding is_kept
 kept Read v w dest k e = absurd (no_yes k)
 kept Modify v w dest k e = bytes_same v w dest e
@@ -161,7 +161,7 @@ none_kept (f ∷ fs) (d ∷ ds) e =
     let both = and_both (not (is_kept f.access)) (keeps_none fs) e in
     ap (λ (zs : List ℕ). zs ++ operand_claims fs ds) (unkept f.access f.width d both.0) ∙ none_kept fs ds both.1
 
-only_kept : (fs : List Form) (k : ℕ) (w : Width) (dests : List Dest) → keeps_only fs k w ≡ true → operand_claims fs dests ≡ bytes_at w (slice_index_or dests k Nowhere)
+only_kept : (fs : List Form) (k : ℕ) (w : Width) (dests : List Dest) → keeps_only fs k w ≡ true → operand_claims fs dests ≡ destination_addresses w (slice_index_or dests k Nowhere)
 unfolding keeps_only
 only_kept [] k w dests e = absurd (no_yes e)
 only_kept (f ∷ fs) k w [] e = refl
@@ -176,7 +176,7 @@ only_kept (f ∷ fs) (suc k) w (d ∷ ds) e =
     ap (λ (zs : List ℕ). zs ++ operand_claims fs ds) (unkept f.access f.width d both.0) ∙ only_kept fs k w ds both.1
 
 -- what was claimed are the bytes of the operand that gets a result
-pub target_claimed : (fs : List Form) (cs : List ℕ) (o : Operands) (k : ℕ) (w : Width) → (are_few fs ≡ true → AreClaimed fs cs o) → gets fs k w ≡ true → cs ≡ bytes_at w (dest_of o k)
+pub target_claimed : (fs : List Form) (cs : List ℕ) (o : Operands) (k : ℕ) (w : Width) → (are_few fs ≡ true → AreClaimed fs cs o) → gets fs k w ≡ true → cs ≡ destination_addresses w (dest_of o k)
 unfolding gets
 target_claimed fs cs o k w h e =
     let both = and_both (are_few fs) (keeps_only fs k w) e in

@@ -12,9 +12,9 @@ use Rattle.vax_table.specs.Plan.{plan_of}
 use Rattle.vax_table.specs.PlanLaws.{StoresAreClaimed, bytes_of_stores}
 use Rattle.vax_table.specs.Reading.{Answer, Whole, Short, Unknown, Reserved, decoded_at}
 use Rattle.vax_table.specs.Rows.{row_of}
-use Rattle.vax_table.specs.Script.{Script, Space, outcome}
+use Rattle.vax_table.specs.Interaction.{Interaction, Space, outcome}
 use Rattle.vax_table.specs.Spelling.{Instruction}
-use Rattle.vax_table.specs.Whole.{Act, Meant, Plain, Probes, Traps, acted, acted_by, instruction, is_always_done, meant, plainly, probing, trapping}
+use Rattle.vax_table.specs.Whole.{Act, Meant, Plain, Probes, Traps, acted, acted_by, instruction, is_always_done, meant, plain_meaning, probing, trapping}
 use Rattle.vax_table.specs.declared.act.Sens.{Sens}
 use Rattle.vax_table.specs.declared.effect.Store.{Store}
 use Rattle.vax_table.specs.declared.evaluation.Operands.{Operands}
@@ -30,7 +30,7 @@ use Rattle.vax_table.proofs.Tests.{if_both}
 abbrev pub Anything : {A : Type 0} → List ℕ → A → Type 0
 Anything cs a = Unit {0}
 
-any_end : {A : Type 0} (cs : List ℕ) (m : Script A) → Holds Anything cs m
+any_end : {A : Type 0} (cs : List ℕ) (m : Interaction A) → Holds Anything cs m
 any_end cs m = holds_always Anything cs m (λ ds a. tt)
 
 -- what a plain instruction claims is what it stores, and PROBE claims nothing
@@ -45,7 +45,7 @@ MeantClaims cs m = ActClaims cs m.act
 trap_holds : (op : Sens) (d : Instruction) (r : List ℕ) → Holds MeantClaims [] (trapping op d r)
 trap_holds op d r = holds-bind Anything MeantClaims [] (trap_operands d r) _ (any_end [] (trap_operands d r)) (λ ds o h. tt)
 
-plain_holds : (psl : ℕ) (d : Instruction) (r : List ℕ) → Holds MeantClaims [] (plainly psl d r)
+plain_holds : (psl : ℕ) (d : Instruction) (r : List ℕ) → Holds MeantClaims [] (plain_meaning psl d r)
 plain_holds psl d r = holds-bind (Sound 20 (length r)) MeantClaims [] (plan_of psl d r) _ (plans_sound psl d r) (λ ds e h. h.claimed)
 
 probe_gets : (intent : Intent) (opcode : ℕ) → operation_of opcode ≡ does.Probe intent → gets_none (forms_in (row_of opcode)) ≡ true
@@ -70,7 +70,7 @@ acted_holds is_kernel psl d r = by_operation is_kernel psl (operation_of d.opcod
 abbrev FetchClaims : List ℕ → Instruction → Type 0
 FetchClaims cs d = cs ≡ []
 
-answer_holds : (more : List ℕ → Script Instruction) (at : ℕ) (bytes : List ℕ) (a : Answer) → ((bs : List ℕ) → Holds FetchClaims [] (more bs)) → Holds FetchClaims [] (by_answer more at bytes a)
+answer_holds : (more : List ℕ → Interaction Instruction) (at : ℕ) (bytes : List ℕ) (a : Answer) → ((bs : List ℕ) → Holds FetchClaims [] (more bs)) → Holds FetchClaims [] (by_answer more at bytes a)
 answer_holds more at bytes (Whole d rest) h = refl
 answer_holds more at bytes Short h = λ b. h (bytes ++ b ∷ [])
 answer_holds more at bytes Unknown h = tt

@@ -11,7 +11,7 @@ use Rattle.vax_table.specs.declared.forms.Access.{Access}
 use Rattle.vax_table.specs.declared.forms.Access.TheVariants.{Read, Modify, Write, Address, Bits, Branch}
 use Rattle.vax_table.specs.declared.forms.Form.{Form}
 use Rattle.vax_table.specs.Claims.{Holds}
-use Rattle.vax_table.specs.Operand.{base_address, address_of, read_operand, modified_operand, written_operand, address_operand, bits_operand, branch_operand, by_access, behind_bytes, indexed_by, operand_length, operand_of, with_operand, operands_from, no_operands, forms_in, operands_of}
+use Rattle.vax_table.specs.Operand.{base_address, address_of, read_operand, modified_operand, written_operand, address_operand, bits_operand, branch_operand, by_access, past_own_bytes, indexed_by, operand_length, operand_of, with_operand, operands_from, no_operands, forms_in, operands_of}
 use Rattle.vax_table.specs.Rows.{row_of}
 use Rattle.vax_table.specs.Spelling.{Instruction}
 use Rattle.vax_table.proofs.Claims.{holds-bind}
@@ -94,7 +94,7 @@ access_wide m Branch w s r cs h = branch_wide m w s r cs h
 
 operand_wide : (m : ℕ) (f : Form) (s : Spec) (r cs : List ℕ) → length r ≡ m → Holds (EvaluatedIsWide m) cs (operand_of f s r)
 unfolding operand_of
-operand_wide m f s r cs h = access_wide m f.access f.width s (behind_bytes (operand_length f s) r) cs (set_wide m r _ _ h)
+operand_wide m f s r cs h = access_wide m f.access f.width s (past_own_bytes (operand_length f s) r) cs (set_wide m r _ _ h)
 
 from_wide : (m i : ℕ) (fs : List Form) (ss : List Spec) (o : Operands) (cs : List ℕ) → length o.r ≡ m → Holds (OperandsAreWide m) cs (operands_from i fs ss o)
 from_wide m i [] ss o cs h = h
@@ -103,4 +103,4 @@ from_wide m i (f ∷ fs) (s ∷ ss) o cs h = holds-bind (EvaluatedIsWide m) (Ope
 
 pub operands_wide : (d : Instruction) (r cs : List ℕ) → Holds (OperandsAreWide (length r)) cs (operands_of d r)
 unfolding operands_of
-operands_wide d r cs = from_wide (length r) 0 (forms_in (row_of d.opcode)) d.specs (no_operands (behind_bytes (if d.wait then 2 else 1) r)) cs (set_wide (length r) r _ _ refl)
+operands_wide d r cs = from_wide (length r) 0 (forms_in (row_of d.opcode)) d.specs (no_operands (past_own_bytes (if d.wait then 2 else 1) r)) cs (set_wide (length r) r _ _ refl)

@@ -32,44 +32,44 @@ pub record Codes : Type 0 where
   pub c : Bool
 
 -- what an operation gives: a value of the width, the codes, and whether the divisor was 0
-pub record Outcome : Type 0 where
+pub record ArithmeticResult : Type 0 where
   pub value : ℕ
   pub codes : Codes
   pub zero_divisor : Bool
 
 -- a value, with N and Z of it
-abbrev pub valued : Width → ℕ → Bool → Bool → Outcome
+abbrev pub valued : Width → ℕ → Bool → Bool → ArithmeticResult
 valued w n v c = record { value = n; codes = record { n = nat_le (2 ^ (bits_of w - 1)) n; z = n == 0; v = v; c = c }; zero_divisor = false }
 
 -- An exact result: V says that it doesn't fit. C is a carry or borrow (class A), 0 (M), or as before (K).
-abbrev pub exactly : Width → ℤ → Bool → Outcome
+abbrev pub exactly : Width → ℤ → Bool → ArithmeticResult
 exactly w x c = valued w (reduced w x) (not (does_fit w x)) c
 
 -- A result of bits: V is 0. C is as before (class L).
-abbrev pub plainly : Width → ℕ → Bool → Outcome
-plainly w n c = valued w n false c
+abbrev pub logical_result : Width → ℕ → Bool → ArithmeticResult
+logical_result w n c = valued w n false c
 
 -- second plus first plus a carry
-abbrev pub sum_of : Width → ℕ → ℕ → Bool → Outcome
+abbrev pub sum_of : Width → ℕ → ℕ → Bool → ArithmeticResult
 sum_of w a b c = exactly w ((signed_of w b +ℤ signed_of w a) +ℤ pos (bit_of c)) (nat_le (2 ^ bits_of w) (low w b + low w a + bit_of c))
 
 -- second minus first minus a borrow
-abbrev pub difference_of : Width → ℕ → ℕ → Bool → Outcome
+abbrev pub difference_of : Width → ℕ → ℕ → Bool → ArithmeticResult
 difference_of w a b c = exactly w ((signed_of w b -ℤ signed_of w a) -ℤ pos (bit_of c)) (nat_lt (low w b) (low w a + bit_of c))
 
 -- Second by first, toward zero. A zero divisor gives the dividend and sets V. The one quotient that doesn't fit, of
 -- the least number by -1, has the bits of the dividend.
-abbrev pub quotient_of : Width → ℕ → ℕ → Outcome
+abbrev pub quotient_of : Width → ℕ → ℕ → ArithmeticResult
 quotient_of w a b = if low w a == 0
     then record (valued w (low w b) true false) { zero_divisor = true }
     else exactly w (int_div (signed_of w b) (signed_of w a)) false
 
 -- minus a number, where C says that the result isn't 0
-abbrev pub negation_of : Width → ℕ → Outcome
+abbrev pub negation_of : Width → ℕ → ArithmeticResult
 negation_of w a = let x = neg_ℤ (signed_of w a) in exactly w x (not (reduced w x == 0))
 
 -- first against second: N below, signed; Z equal; V 0; C below, unsigned
-abbrev pub comparison_of : Width → ℕ → ℕ → Outcome
+abbrev pub comparison_of : Width → ℕ → ℕ → ArithmeticResult
 comparison_of w a b = record {
   value = 0;
   codes = record { n = int_lt (signed_of w a) (signed_of w b); z = low w a == low w b; v = false; c = nat_lt (low w a) (low w b) };
@@ -89,24 +89,24 @@ rotated Long n count = rotate_left w32 n count
 rotated Quad n count = rotate_left w64 n count
 
 -- a is the first operand, b the second, c the carry before. The values of CMP, BIT and TST are stored nowhere.
-abbrev pub outcome_of : AluOp → Width → ℕ → ℕ → Bool → Outcome
+abbrev pub outcome_of : AluOp → Width → ℕ → ℕ → Bool → ArithmeticResult
 outcome_of Add w a b c = sum_of w a b false
 outcome_of AddCarry w a b c = sum_of w a b c
 outcome_of Sub w a b c = difference_of w a b false
 outcome_of SubBorrow w a b c = difference_of w a b c
 outcome_of Mul w a b c = exactly w (signed_of w b *ℤ signed_of w a) false
 outcome_of Div w a b c = quotient_of w a b
-outcome_of Bis w a b c = plainly w (bit_or (low w b) (low w a)) c
-outcome_of Bic w a b c = plainly w (bit_and (low w b) (complement w a)) c
-outcome_of Xor w a b c = plainly w (bit_xor (low w b) (low w a)) c
+outcome_of Bis w a b c = logical_result w (bit_or (low w b) (low w a)) c
+outcome_of Bic w a b c = logical_result w (bit_and (low w b) (complement w a)) c
+outcome_of Xor w a b c = logical_result w (bit_xor (low w b) (low w a)) c
 outcome_of Mneg w a b c = negation_of w a
-outcome_of Mcom w a b c = plainly w (complement w a) c
-outcome_of Move w a b c = plainly w (low w a) c
+outcome_of Mcom w a b c = logical_result w (complement w a) c
+outcome_of Move w a b c = logical_result w (low w a) c
 outcome_of Cmp w a b c = comparison_of w a b
-outcome_of Bit w a b c = plainly w (bit_and (low w b) (low w a)) c
-outcome_of Tst w a b c = plainly w (low w a) false
+outcome_of Bit w a b c = logical_result w (bit_and (low w b) (low w a)) c
+outcome_of Tst w a b c = logical_result w (low w a) false
 outcome_of Ash w a b c = exactly w (shifted (signed_of w b) (signed_of Byte a)) false
-outcome_of Rot w a b c = plainly w (rotated w (low w b) (low Byte a)) c
+outcome_of Rot w a b c = logical_result w (rotated w (low w b) (low Byte a)) c
 outcome_of Narrow w a b c = exactly w (signed_of Long a) false
 
 -- the PSW: C is bit 0, V 1, Z 2, N 3, IV 5
@@ -120,16 +120,16 @@ abbrev pub psw_with : ℕ → Codes → ℕ
 psw_with psw codes = psw / 16 * 16 + 8 * bit_of codes.n + 4 * bit_of codes.z + 2 * bit_of codes.v + bit_of codes.c
 
 -- a zero divisor is trap 2 whatever IV is; V by overflow is trap 1 where IV is set
-abbrev pub trap_of : ℕ → Outcome → Option ℕ
+abbrev pub trap_of : ℕ → ArithmeticResult → Option ℕ
 trap_of psw o =
     if o.zero_divisor then Some 2
     else if o.codes.v && traps_overflow psw then Some 1
     else None
 
 -- an outcome as an answer, over the PSW of before
-abbrev pub answered : Outcome → ℕ → Alu
-answered o psw = record { value = o.value; psw = psw_with psw o.codes; trap = trap_of psw o }
+abbrev pub alu_of_result : ArithmeticResult → ℕ → Alu
+alu_of_result o psw = record { value = o.value; psw = psw_with psw o.codes; trap = trap_of psw o }
 
 -- an operation's value of the width, the PSW after it, and the type of its arithmetic trap
 unfoldable pub alu_of : AluOp → ℕ → ℕ → Width → ℕ → Alu
-alu_of op a b w psw = answered (outcome_of op w a b (carry_of psw)) psw
+alu_of op a b w psw = alu_of_result (outcome_of op w a b (carry_of psw)) psw

@@ -9,7 +9,7 @@ use Rattle.vax_arch.specs.declared.mode.Intent.TheVariants.{Read, Write}
 use Rattle.vax_table.specs.Arithmetic.{alu_of, reduced}
 use Rattle.vax_table.specs.Effects.{Effect, begun, dest_of, long_of, put, went_if, went_to}
 use Rattle.vax_table.specs.Operand.{extended, plus}
-use Rattle.vax_table.specs.Script.{Script, Done, Refuse, Touch, ◌>>=◌}
+use Rattle.vax_table.specs.Interaction.{Interaction, Done, Refuse, Touch, ◌>>=◌}
 use Rattle.vax_table.specs.Stack.{push}
 use Rattle.vax_table.specs.declared.act.Dest.{Dest}
 use Rattle.vax_table.specs.declared.act.Dest.TheVariants.{Nowhere, Register, Memory}
@@ -57,10 +57,10 @@ unfoldable pub branched : Condition → Operands → ℕ → Effect
 branched condition o psw = went_if (holds condition psw) (long_of o 0) (begun o psw)
 
 -- BSB and JSB push the next PC and go to their operand; RSB pops the PC
-unfoldable pub called_subroutine : Operands → ℕ → Script Effect
+unfoldable pub called_subroutine : Operands → ℕ → Interaction Effect
 called_subroutine o psw = push (slice_index o.r 15) (begun o psw) >>= λ e. Done (went_to (long_of o 0) e)
 
-unfoldable pub left_subroutine : Operands → ℕ → Script Effect
+unfoldable pub left_subroutine : Operands → ℕ → Interaction Effect
 left_subroutine o psw =
     let sp = slice_index o.r 14 in
     Touch Read sp 4 (λ pc. Done (went_to pc (record (begun o psw) { r = slice_set o.r 14 (plus sp 4) })))
@@ -102,7 +102,7 @@ subtracted_one at_zero o psw =
     looped Long (dest_of o 0) x taken (long_of o 1) o psw
 
 -- CASE: selector, base, limit. The table of words begins at the PC after the operands.
-unfoldable pub cased : Width → Operands → ℕ → Script Effect
+unfoldable pub cased : Width → Operands → ℕ → Interaction Effect
 cased w o psw =
     let t = (alu_of Sub (long_of o 1) (long_of o 0) w psw).value in
     let limit = long_of o 2 in
@@ -143,7 +143,7 @@ abbrev pub byte_of_bit : ℕ → ℕ → ℕ
 byte_of_bit base position = plus base (reduced Long (int_div_euclid (signed_of Long position) (pos 8)))
 
 -- in a register the position must be 0 to 31
-abbrev pub bit_in : Bool → Option Bool → Dest → ℕ → ℕ → Effect → Script Effect
+abbrev pub bit_in : Bool → Option Bool → Dest → ℕ → ℕ → Effect → Interaction Effect
 bit_in on becomes Nowhere position to e = Done e
 bit_in on becomes (Register n) position to e =
     if nat_lt position 32 then Done (bit_tested on becomes (Register n) Long position (slice_index e.r n) to e) else Refuse Operand
@@ -152,5 +152,5 @@ bit_in on becomes (Memory base) position to e =
     Touch (bit_intent becomes) at 1 (λ n. Done (bit_tested on becomes (Memory at) Byte (position % 8) n to e))
 
 -- BBS, BBC and those that change the bit: position, base, branch
-unfoldable pub branched_on_bit : Bool → Option Bool → Operands → ℕ → Script Effect
+unfoldable pub branched_on_bit : Bool → Option Bool → Operands → ℕ → Interaction Effect
 branched_on_bit on becomes o psw = bit_in on becomes (dest_of o 1) (long_of o 0) (long_of o 2) (begun o psw)

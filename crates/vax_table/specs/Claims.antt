@@ -9,7 +9,7 @@ use Rattle.vax_table.specs.declared.act.Dest.TheVariants.{Nowhere, Register, Mem
 use Rattle.vax_table.specs.declared.forms.Access.{Access}
 use Rattle.vax_table.specs.declared.forms.Access.TheVariants.{Read, Modify, Write, Address, Bits, Branch}
 use Rattle.vax_table.specs.declared.forms.Form.{Form}
-use Rattle.vax_table.specs.Script.{Space, number_at, Script, Done, Refuse, Touch, on_ok, IsIn}
+use Rattle.vax_table.specs.Interaction.{Space, number_at, Interaction, Done, Refuse, Touch, on_ok, IsIn}
 
 -- the addresses of k bytes
 abbrev pub addresses : ℕ → ℕ → List ℕ
@@ -21,13 +21,13 @@ if_write intents.Read xs = []
 if_write intents.Write xs = xs
 
 -- the bytes that are claimed for writing, in access order
-abbrev pub claims : {A : Type 0} → Space → Script A → List ℕ
+abbrev pub claims : {A : Type 0} → Space → Interaction A → List ℕ
 claims s (Done a) = []
 claims s (Refuse t) = []
 claims s (Touch i a k f) = if_write i (addresses k a) ++ on_ok (number_at s i k a) (λ v. claims s (f v))
 
 -- a relation between what was claimed so far and the result, at each end that an interaction can reach
-abbrev pub Holds : {A : Type 0} → (List ℕ → A → Type 0) → List ℕ → Script A → Type 0
+abbrev pub Holds : {A : Type 0} → (List ℕ → A → Type 0) → List ℕ → Interaction A → Type 0
 Holds P cs (Done a) = P cs a
 Holds P cs (Refuse t) = Unit {0}
 Holds P cs (Touch i a k f) = (v : ℕ) → Holds P (cs ++ if_write i (addresses k a)) (f v)
@@ -37,16 +37,16 @@ abbrev pub AreAmong : List ℕ → List ℕ → Type 0
 AreAmong xs ys = (x : ℕ) → IsIn x xs → IsIn x ys
 
 -- the bytes of a destination in memory, of a width
-abbrev pub bytes_at : Width → Dest → List ℕ
-bytes_at w Nowhere = []
-bytes_at w (Register n) = []
-bytes_at w (Memory at) = addresses (size_of w) at
+abbrev pub destination_addresses : Width → Dest → List ℕ
+destination_addresses w Nowhere = []
+destination_addresses w (Register n) = []
+destination_addresses w (Memory at) = addresses (size_of w) at
 
 -- what an operand claims: its bytes, where it is modified or written in memory
 abbrev pub claims_by : Access → Width → Dest → List ℕ
 claims_by Read w dest = []
-claims_by Modify w dest = bytes_at w dest
-claims_by Write w dest = bytes_at w dest
+claims_by Modify w dest = destination_addresses w dest
+claims_by Write w dest = destination_addresses w dest
 claims_by Address w dest = []
 claims_by Bits w dest = []
 claims_by Branch w dest = []

@@ -7,7 +7,7 @@ use Rattle.vv_base.specs.Width.{low, size_of}
 use Rattle.vax_table.specs.Arithmetic.{alu_of}
 use Rattle.vax_table.specs.Effects.{Effect, begun, dest_of, long_of, put}
 use Rattle.vax_table.specs.Operand.{extended}
-use Rattle.vax_table.specs.Script.{Script, Done, Refuse}
+use Rattle.vax_table.specs.Interaction.{Interaction, Done, Refuse}
 use Rattle.vax_table.specs.Stack.{push}
 use Rattle.vax_table.specs.declared.act.Dest.{Dest}
 use Rattle.vax_table.specs.declared.act.Dest.TheVariants.{Nowhere}
@@ -54,14 +54,14 @@ unfoldable pub moved_quad : ℕ → Dest → Operands → ℕ → Effect
 moved_quad v dest o psw = put dest Quad v (record (begun o psw) { psw = (alu_of Move v 0 Quad psw).psw })
 
 -- PUSHL and PUSHA: the codes are those of the longword
-unfoldable pub pushed : Operands → ℕ → Script Effect
-pushed o psw = push (long_of o 0) (record (begun o psw) { psw = (alu_of Move (long_of o 0) 0 Long psw).psw })
+unfoldable pub operand_pushed : Operands → ℕ → Interaction Effect
+operand_pushed o psw = push (long_of o 0) (record (begun o psw) { psw = (alu_of Move (long_of o 0) 0 Long psw).psw })
 
 -- BISPSW and BICPSW: a mask with any of bits 15:8 is a reserved operand
-unfoldable pub status_set : Operands → ℕ → Script Effect
+unfoldable pub status_set : Operands → ℕ → Interaction Effect
 status_set o psw =
     if long_of o 0 / 2 ^ 8 == 0 then Done (record (begun o psw) { psw = bit_or psw (long_of o 0) }) else Refuse Operand
 
-unfoldable pub status_cleared : Operands → ℕ → Script Effect
+unfoldable pub status_cleared : Operands → ℕ → Interaction Effect
 status_cleared o psw =
     if long_of o 0 / 2 ^ 8 == 0 then Done (record (begun o psw) { psw = bit_and psw (255 - long_of o 0) }) else Refuse Operand

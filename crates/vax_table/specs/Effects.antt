@@ -9,7 +9,7 @@ use Rattle.vax_table.specs.declared.effect.Plan.{Plan}
 use Rattle.vax_table.specs.declared.effect.Store.{Store}
 use Rattle.vax_table.specs.declared.evaluation.Operands.{Operands}
 use Rattle.vax_table.specs.declared.evaluation.Trouble.{Trouble as Told}
-use Rattle.vax_table.specs.Script.{Trouble}
+use Rattle.vax_table.specs.Interaction.{Trouble}
 use Rattle.vax_table.specs.Troubles.{trouble_of}
 
 pub record Effect : Type 0 where

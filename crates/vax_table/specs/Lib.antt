@@ -7,7 +7,7 @@ pub mod ShownRows
 pub mod ShownSpelling
 pub mod Arithmetic
 pub mod ShownArithmetic
-pub mod Script
+pub mod Interaction
 pub mod Fetch
 pub mod Trail
 pub mod Stores
@@ -17,7 +17,7 @@ pub mod Tries
 pub mod ShownTries
 pub mod Troubles
 pub mod ShownOperand
-pub mod Standing
+pub mod LegalOperands
 pub mod Claims
 pub mod Operations
 pub mod Effects

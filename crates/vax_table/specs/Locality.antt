@@ -3,9 +3,9 @@ use Rattle.std.specs.Prelude.{◌≡◌, ℕ, Bool, List, Ok, Err}
 use Rattle.vax_arch.specs.declared.mode.Intent.{Intent}
 use Rattle.vax_table.specs.Claims.{claims}
 use Rattle.vax_table.specs.Effects.{Effect}
+use Rattle.vax_table.specs.Interaction.{AsFar, At, Below, Cause, IsIn, Space, outcome, reached}
 use Rattle.vax_table.specs.PlanLaws.{StoresAreClaimed, bytes_of_stores}
-use Rattle.vax_table.specs.Script.{AsFar, At, Below, Cause, IsIn, Space, outcome, reached}
-use Rattle.vax_table.specs.Tries.{IsMarked, TriedFar, first_clear, tried, unless_clear}
+use Rattle.vax_table.specs.Tries.{IsMarkedAtLeast, TriedFar, first_clear, tried, unless_clear}
 use Rattle.vax_table.specs.Whole.{Plain, instruction, meant}
 
 -- an instruction depends on its space only at the bytes that it asks for, in order
@@ -29,7 +29,7 @@ ClaimsWhatItStores = (is_kernel : Bool) (psl : ℕ) (r : List ℕ) (s : Space) (
 
 -- a try depends on its space and modify bits only at the bytes that are asked for, in order
 abbrev pub TriesLocally : Type 0
-TriesLocally = (is_kernel : Bool) (psl : ℕ) (r : List ℕ) (s t : Space) (below above : ℕ → Bool) → Below s t → IsMarked below above →
+TriesLocally = (is_kernel : Bool) (psl : ℕ) (r : List ℕ) (s t : Space) (below above : ℕ → Bool) → Below s t → IsMarkedAtLeast below above →
     TriedFar s t below above (tried s below (instruction is_kernel psl r)) (tried t above (instruction is_kernel psl r))
 
 -- a try of a plain instruction that would complete looks for a clear modify bit at the bytes that it stores, in order

@@ -18,8 +18,8 @@ use Rattle.vax_table.specs.declared.evaluation.Evaluated.{Evaluated}
 use Rattle.vax_table.specs.declared.evaluation.Operands.{Operands}
 use Rattle.vax_table.specs.declared.evaluation.Place.{Place}
 use Rattle.vax_table.specs.Reading.{displacement_size, is_branch}
-use Rattle.vax_table.specs.Rows.{Entry, row_of}
-use Rattle.vax_table.specs.Script.{Script, Done, Touch, ◌>>=◌}
+use Rattle.vax_table.specs.Rows.{OpcodeEntry, row_of}
+use Rattle.vax_table.specs.Interaction.{Interaction, Done, Touch, ◌>>=◌}
 use Rattle.vax_table.specs.Spelled.{value_size}
 use Rattle.vax_table.specs.Spelling.{Instruction}
 
@@ -39,7 +39,7 @@ place at r = record { at = at; r = r }
 
 -- The address that a specifier without index gives for an operand of so many bytes. R15 is after the specifier, so
 -- an immediate is the operand's bytes in front of R15.
-unfoldable pub base_address : ℕ → Spec → List ℕ → Script Place
+unfoldable pub base_address : ℕ → Spec → List ℕ → Interaction Place
 base_address size s r =
     let x = slice_index r s.reg in
     if s.mode == 6 then Done (place x r) else  -- register deferred
@@ -57,7 +57,7 @@ abbrev pub indexed_by : ℕ → Option ℕ → Place → Place
 indexed_by size None p = p
 indexed_by size (Some x) p = place (plus p.at (size * slice_index p.r x)) p.r
 
-unfoldable pub address_of : ℕ → Spec → List ℕ → Script Place
+unfoldable pub address_of : ℕ → Spec → List ℕ → Interaction Place
 address_of size s r = base_address size s r >>= λ p. Done (indexed_by size s.index p)
 
 -- the value of a register: its low bits; a quadword is Rn and Rn+1
@@ -71,7 +71,7 @@ abbrev pub evaluated : ℕ → Dest → List ℕ → Evaluated
 evaluated value dest r = record { value = value; dest = dest; r = r }
 
 -- read: a literal, a register, an immediate, or memory
-unfoldable pub read_operand : Width → Spec → List ℕ → Script Evaluated
+unfoldable pub read_operand : Width → Spec → List ℕ → Interaction Evaluated
 read_operand w s r =
     if s.mode == 0 then Done (evaluated s.value Nowhere r) else
     if s.mode == 5 then Done (evaluated (register_value w r s.reg) Nowhere r) else
@@ -79,33 +79,33 @@ read_operand w s r =
     (address_of (size_of w) s r >>= λ p. Touch intents.Read p.at (size_of w) (λ v. Done (evaluated v Nowhere p.r)))
 
 -- modify: a register, or memory by one access with write intent
-unfoldable pub modified_operand : Width → Spec → List ℕ → Script Evaluated
+unfoldable pub modified_operand : Width → Spec → List ℕ → Interaction Evaluated
 modified_operand w s r =
     if s.mode == 5 then Done (evaluated (register_value w r s.reg) (Register s.reg) r) else
     (address_of (size_of w) s r >>= λ p. Touch intents.Write p.at (size_of w) (λ v. Done (evaluated v (Memory p.at) p.r)))
 
 -- write: a register, or memory, which is translated for writing here
-unfoldable pub written_operand : Width → Spec → List ℕ → Script Evaluated
+unfoldable pub written_operand : Width → Spec → List ℕ → Interaction Evaluated
 written_operand w s r =
     if s.mode == 5 then Done (evaluated 0 (Register s.reg) r) else
     (address_of (size_of w) s r >>= λ p. Touch intents.Write p.at (size_of w) (λ v. Done (evaluated 0 (Memory p.at) p.r)))
 
 -- address: the value is the address
-unfoldable pub address_operand : Width → Spec → List ℕ → Script Evaluated
+unfoldable pub address_operand : Width → Spec → List ℕ → Interaction Evaluated
 address_operand w s r = address_of (size_of w) s r >>= λ p. Done (evaluated p.at Nowhere p.r)
 
 -- bits: the register or the address from which they are counted; their width is a byte
-unfoldable pub bits_operand : Width → Spec → List ℕ → Script Evaluated
+unfoldable pub bits_operand : Width → Spec → List ℕ → Interaction Evaluated
 bits_operand w s r =
     if s.mode == 5 then Done (evaluated 0 (Register s.reg) r) else
     (address_of (size_of w) s r >>= λ p. Done (evaluated 0 (Memory p.at) p.r))
 
 -- branch: the value is the target, the displacement from the next PC
-unfoldable pub branch_operand : Width → Spec → List ℕ → Script Evaluated
+unfoldable pub branch_operand : Width → Spec → List ℕ → Interaction Evaluated
 branch_operand w s r = Done (evaluated (plus (slice_index r 15) (extended (size_of w) s.value)) Nowhere r)
 
 -- by the access
-abbrev pub by_access : Access → Width → Spec → List ℕ → Script Evaluated
+abbrev pub by_access : Access → Width → Spec → List ℕ → Interaction Evaluated
 by_access Read w s r = read_operand w s r
 by_access Modify w s r = modified_operand w s r
 by_access Write w s r = written_operand w s r
@@ -120,19 +120,19 @@ operand_length f s =
     if is_some s.index then 2 + value_size f s else 1 + value_size f s
 
 -- PC goes on by so many bytes
-abbrev pub behind_bytes : ℕ → List ℕ → List ℕ
-behind_bytes k r = slice_set r 15 (plus (slice_index r 15) k)
+abbrev pub past_own_bytes : ℕ → List ℕ → List ℕ
+past_own_bytes k r = slice_set r 15 (plus (slice_index r 15) k)
 
 -- an operand, which sees PC after its own bytes
-unfoldable pub operand_of : Form → Spec → List ℕ → Script Evaluated
-operand_of f s r = by_access f.access f.width s (behind_bytes (operand_length f s) r)
+unfoldable pub operand_of : Form → Spec → List ℕ → Interaction Evaluated
+operand_of f s r = by_access f.access f.width s (past_own_bytes (operand_length f s) r)
 
 -- an operand put at its number, with the registers after it
 abbrev pub with_operand : ℕ → Operands → Evaluated → Operands
 with_operand i o e = record { values = slice_set o.values i e.value; dests = slice_set o.dests i e.dest; r = e.r }
 
 -- the operands from number i on, in order
-abbrev pub operands_from : ℕ → List Form → List Spec → Operands → Script Operands
+abbrev pub operands_from : ℕ → List Form → List Spec → Operands → Interaction Operands
 operands_from i [] ss o = Done o
 operands_from i (f ∷ fs) [] o = Done o
 operands_from i (f ∷ fs) (s ∷ ss) o = operand_of f s o.r >>= λ e. operands_from (i + 1) fs ss (with_operand i o e)
@@ -140,16 +140,16 @@ operands_from i (f ∷ fs) (s ∷ ss) o = operand_of f s o.r >>= λ e. operands_
 abbrev pub no_operands : List ℕ → Operands
 no_operands r = record { values = 0 ∷ 0 ∷ 0 ∷ 0 ∷ []; dests = Nowhere ∷ Nowhere ∷ Nowhere ∷ Nowhere ∷ []; r = r }
 
-abbrev pub forms_in : Option Entry → List Form
+abbrev pub forms_in : Option OpcodeEntry → List Form
 forms_in None = []
 forms_in (Some e) = e.operands
 
 -- operands of these forms, after an opcode of one byte, or of two for WAIT
-abbrev pub operands_by : List Form → Instruction → List ℕ → Script Operands
-operands_by forms d r = operands_from 0 forms d.specs (no_operands (behind_bytes (if d.wait then 2 else 1) r))
+abbrev pub operands_by : List Form → Instruction → List ℕ → Interaction Operands
+operands_by forms d r = operands_from 0 forms d.specs (no_operands (past_own_bytes (if d.wait then 2 else 1) r))
 
 -- the operands of an instruction
-unfoldable pub operands_of : Instruction → List ℕ → Script Operands
+unfoldable pub operands_of : Instruction → List ℕ → Interaction Operands
 operands_of d r = operands_by (forms_in (row_of d.opcode)) d r
 
 -- The forms of an instruction that traps. MFPR's destination is not translated then, so it is located as bits are.
@@ -157,5 +157,5 @@ abbrev pub trap_forms : ℕ → List Form
 trap_forms opcode = if opcode == 0xdb then record { access = Read; width = Long } ∷ record { access = Bits; width = Long } ∷ [] else forms_in (row_of opcode)
 
 -- the operands of an instruction that traps
-unfoldable pub trap_operands : Instruction → List ℕ → Script Operands
+unfoldable pub trap_operands : Instruction → List ℕ → Interaction Operands
 trap_operands d r = operands_by (trap_forms d.opcode) d r

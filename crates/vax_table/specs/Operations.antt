@@ -48,15 +48,15 @@ move_operations x =
     ∷ Compute Sub x inputs.OneAndFirst targets.First  -- 7 DEC
     ∷ []
 
-pub record OperationLine : Type 0 where
+pub record OperationRow : Type 0 where
   pub opcode : ℕ
   pub operation : Operation
 
-abbrev pub does : ℕ → Operation → OperationLine
+abbrev pub does : ℕ → Operation → OperationRow
 does n o = record { opcode = n; operation = o }
 
 -- the other opcodes
-abbrev pub other_operations : List OperationLine
+abbrev pub other_operations : List OperationRow
 other_operations =
     does 0x00 (Sensitive Halt)  -- HALT
     ∷ does 0x01 Nothing  -- NOP
@@ -153,16 +153,16 @@ in_operations n first block rest = if nat_le first n then given_or (slice_get bl
     given_or (Some o) rest = o
 
 -- what a list of rows says of an opcode
-abbrev pub in_operation_lines : ℕ → List OperationLine → Operation
-in_operation_lines n [] = Other
-in_operation_lines n (l ∷ ls) = if n == l.opcode then l.operation else in_operation_lines n ls
+abbrev pub operation_in_rows : ℕ → List OperationRow → Operation
+operation_in_rows n [] = Other
+operation_in_rows n (l ∷ ls) = if n == l.opcode then l.operation else operation_in_rows n ls
 
 -- what the instruction of an opcode does
 unfoldable pub operation_of : ℕ → Operation
 operation_of n =
     in_operations n 0x80 (arithmetic_operations Byte) (in_operations n 0xa0 (arithmetic_operations Word) (in_operations n 0xc0 (arithmetic_operations Long)
     (in_operations n 0x90 (move_operations Byte) (in_operations n 0xb0 (move_operations Word) (in_operations n 0xd0 (move_operations Long)
-    (in_operation_lines n other_operations))))))
+    (operation_in_rows n other_operations))))))
 
 -- operations of the arithmetic work in a byte, a word or a longword
 abbrev pub is_narrow_width : Width → Bool

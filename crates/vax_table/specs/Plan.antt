@@ -7,11 +7,11 @@ use Rattle.vv_base.specs.declared.width.Width.TheVariants.{Long}
 use Rattle.vax_table.specs.Arithmetic.{bit_of}
 use Rattle.vax_table.specs.Branches.{added_and_compared, added_one, branched, branched_on_bit, branched_on_low_bit, called_subroutine, cased, left_subroutine, subtracted_one}
 use Rattle.vax_table.specs.Calls.{called_general, called_on_stack, registers_popped, registers_pushed, returned}
-use Rattle.vax_table.specs.Computing.{computed, moved_quad, pushed, status_cleared, status_set}
+use Rattle.vax_table.specs.Computing.{computed, moved_quad, operand_pushed, status_cleared, status_set}
 use Rattle.vax_table.specs.Effects.{Effect, begun, dest_of, put, quad_of}
 use Rattle.vax_table.specs.Operand.{operands_of}
 use Rattle.vax_table.specs.Operations.{operation_of}
-use Rattle.vax_table.specs.Script.{Script, Done, Refuse, ◌>>=◌}
+use Rattle.vax_table.specs.Interaction.{Interaction, Done, Refuse, ◌>>=◌}
 use Rattle.vax_table.specs.Spelling.{Instruction}
 use Rattle.vax_table.specs.declared.act.Refusal.TheVariants as refusals
 use Rattle.vax_table.specs.declared.evaluation.Operands.{Operands}
@@ -20,12 +20,12 @@ use Rattle.vax_table.specs.declared.meaning.Operation.TheVariants.{Other, Sensit
 
 -- The operations that depend on registers, status word and space alone. The others refuse, as
 -- instructions that don't exist.
-unfoldable pub performed : Operation → Operands → ℕ → Script Effect
+unfoldable pub performed : Operation → Operands → ℕ → Interaction Effect
 performed Nothing o psw = Done (begun o psw)
 performed (Compute op w inputs target) o psw = Done (computed op w inputs target o psw)
 performed ClearQuad o psw = Done (moved_quad 0 (dest_of o 0) o psw)
 performed MoveQuad o psw = Done (moved_quad (quad_of o 0) (dest_of o 1) o psw)
-performed Push o psw = pushed o psw
+performed Push o psw = operand_pushed o psw
 performed SetStatus o psw = status_set o psw
 performed ClearStatus o psw = status_cleared o psw
 performed (Branch condition) o psw = Done (branched condition o psw)
@@ -80,7 +80,7 @@ is_planned CallOnStack = true
 is_planned Return = true
 
 -- one of these: operands and operation, from the registers and the status word
-unfoldable pub planned : Instruction → List ℕ → ℕ → Script Effect
+unfoldable pub planned : Instruction → List ℕ → ℕ → Interaction Effect
 planned d r psw = operands_of d r >>= λ o. performed (operation_of d.opcode) o psw
 
 -- PROBE after its operands: N 0, Z where not both bytes are accessible, V 0, C as before
@@ -89,10 +89,10 @@ probed is_accessible o psw = record (begun o psw) { psw = psw / 16 * 16 + 4 * bi
 
 -- MOVPSL stores the PSL; the other operations depend on its status word alone. PROBE is no plan: whether bytes are
 -- accessible is judged after it.
-abbrev pub performed_with : ℕ → Operation → Operands → Script Effect
+abbrev pub performed_with : ℕ → Operation → Operands → Interaction Effect
 performed_with psl MoveStatus o = Done (put (dest_of o 0) Long psl (begun o (psl % 2 ^ 8)))
 performed_with psl operation o = performed operation o (psl % 2 ^ 8)
 
 -- any plain instruction but PROBE, from the registers and the PSL
-unfoldable pub plan_of : ℕ → Instruction → List ℕ → Script Effect
+unfoldable pub plan_of : ℕ → Instruction → List ℕ → Interaction Effect
 plan_of psl d r = operands_of d r >>= λ o. performed_with psl (operation_of d.opcode) o

@@ -6,7 +6,7 @@ use Rattle.vax_table.specs.Claims.{addresses, claims, AreAmong}
 use Rattle.vax_table.specs.Effects.{Effect}
 use Rattle.vax_table.specs.Operations.{operation_of}
 use Rattle.vax_table.specs.Plan.{is_planned, plan_of, planned}
-use Rattle.vax_table.specs.Script.{AsFar, At, Below, Cause, IsIn, Space, outcome, reached}
+use Rattle.vax_table.specs.Interaction.{AsFar, At, Below, Cause, IsIn, Space, outcome, reached}
 use Rattle.vax_table.specs.Spelling.{Instruction}
 use Rattle.vax_table.specs.declared.effect.Store.{Store}
 

@@ -8,7 +8,7 @@ use Rattle.vax_table.specs.declared.forms.Access.{Access}
 use Rattle.vax_table.specs.declared.forms.Access.TheVariants.{Read, Address, Branch}
 use Rattle.vax_table.specs.declared.forms.Form.{Form}
 use Rattle.vax_table.specs.declared.decoded.Spec.{Spec}
-use Rattle.vax_table.specs.Rows.{Entry, row_of}
+use Rattle.vax_table.specs.Rows.{OpcodeEntry, row_of}
 use Rattle.vax_table.specs.Spelling.{unindexed, Instruction, Spells, SpellsNone, HasOpcode, AreBytes}
 
 -- the number that bytes are, the lowest first
@@ -33,17 +33,17 @@ is_quad Quad = true
 is_quad _ = false
 
 -- an operand and the bytes after it, more bytes wanted, or a reserved form
-pub data Seen : Type 0 where
-  Got : Spec → List ℕ → Seen
-  More : Seen
-  Bad : Seen
+pub data OperandReading : Type 0 where
+  Got : Spec → List ℕ → OperandReading
+  More : OperandReading
+  Bad : OperandReading
 
 -- a value of k bytes
-abbrev pub valued_at : ℕ → ℕ → ℕ → List ℕ → Seen
+abbrev pub valued_at : ℕ → ℕ → ℕ → List ℕ → OperandReading
 valued_at mode reg k bytes = if nat_lt (length bytes) k then More else Got (unindexed mode reg (number_of (take k bytes))) (drop k bytes)
 
 -- a register other than PC
-abbrev pub named_at : ℕ → ℕ → List ℕ → Seen
+abbrev pub named_at : ℕ → ℕ → List ℕ → OperandReading
 named_at mode reg bytes = if reg == 15 then Bad else Got (unindexed mode reg 0) bytes
 
 -- the bytes of a displacement in the modes A to F
@@ -51,7 +51,7 @@ abbrev pub displacement_size : ℕ → ℕ
 displacement_size mode = if nat_lt mode 12 then 1 else (if nat_lt mode 14 then 2 else 4)
 
 -- a specifier of the modes 5 to F: form, mode, register, and the bytes after the first
-unfoldable pub specifier_by : Form → ℕ → ℕ → List ℕ → Seen
+unfoldable pub specifier_by : Form → ℕ → ℕ → List ℕ → OperandReading
 specifier_by form mode reg bytes =
     if mode == 5 then (if is_address form.access || (is_quad form.width && reg == 14) then Bad else named_at 5 reg bytes) else
     if mode == 6 then named_at 6 reg bytes else
@@ -61,22 +61,22 @@ specifier_by form mode reg bytes =
     valued_at mode reg (displacement_size mode) bytes
 
 -- a specifier without index, by its first byte
-unfoldable pub specifier_at : Form → ℕ → List ℕ → Seen
+unfoldable pub specifier_at : Form → ℕ → List ℕ → OperandReading
 specifier_at form b bytes =
     if nat_lt (b / 16) 4 then (if is_read form.access then Got (unindexed 0 0 b) bytes else Bad) else
     if b / 16 == 4 then Bad else specifier_by form (b / 16) (b % 16) bytes
 
-abbrev pub with_index : ℕ → Seen → Seen
+abbrev pub with_index : ℕ → OperandReading → OperandReading
 with_index x (Got s rest) = Got (record s { index = Some x }) rest
 with_index x More = More
 with_index x Bad = Bad
 
 -- a specifier after an index of register x
-unfoldable pub indexed_at : Form → ℕ → List ℕ → Seen
+unfoldable pub indexed_at : Form → ℕ → List ℕ → OperandReading
 indexed_at form x [] = More
 indexed_at form x (b ∷ bytes) = if nat_lt (b / 16) 6 then Bad else if b == 0x8f then Bad else with_index x (specifier_at form b bytes)
 
-unfoldable pub operand_at : Form → List ℕ → Seen
+unfoldable pub operand_at : Form → List ℕ → OperandReading
 operand_at form [] = More
 operand_at form (b ∷ bytes) =
     if is_branch form.access then valued_at 16 0 (size_of form.width) (b ∷ bytes) else
@@ -84,21 +84,21 @@ operand_at form (b ∷ bytes) =
     specifier_at form b bytes
 
 -- operands and the bytes after them, more bytes wanted, or a reserved form
-pub data SeenAll : Type 0 where
-  GotAll : List Spec → List ℕ → SeenAll
-  MoreAll : SeenAll
-  BadAll : SeenAll
+pub data OperandsReading : Type 0 where
+  GotAll : List Spec → List ℕ → OperandsReading
+  MoreAll : OperandsReading
+  BadAll : OperandsReading
 
 -- these, and then those
-abbrev pub behind : List Spec → SeenAll → SeenAll
-behind front (GotAll ss rest) = GotAll (front ++ ss) rest
-behind front MoreAll = MoreAll
-behind front BadAll = BadAll
+abbrev pub with_operands_before : List Spec → OperandsReading → OperandsReading
+with_operands_before front (GotAll ss rest) = GotAll (front ++ ss) rest
+with_operands_before front MoreAll = MoreAll
+with_operands_before front BadAll = BadAll
 
-abbrev pub operands_at : List Form → List ℕ → SeenAll
+abbrev pub operands_at : List Form → List ℕ → OperandsReading
 operands_at [] bytes = GotAll [] bytes
 operands_at (f ∷ fs) bytes = elim (operand_at f bytes) [
-  | Got s rest ↦ behind (s ∷ []) (operands_at fs rest)
+  | Got s rest ↦ with_operands_before (s ∷ []) (operands_at fs rest)
   | More ↦ MoreAll
   | Bad ↦ BadAll
 ]
@@ -111,12 +111,12 @@ pub data Answer : Type 0 where
   Unknown : Answer
   Reserved : Answer
 
-abbrev pub answer_of : ℕ → List ℕ → SeenAll → Answer
+abbrev pub answer_of : ℕ → List ℕ → OperandsReading → Answer
 answer_of opcode bytes (GotAll ss rest) = Whole (record { opcode = opcode; wait = false; length = 1 + (length bytes - length rest); specs = ss }) rest
 answer_of opcode bytes MoreAll = Short
 answer_of opcode bytes BadAll = Reserved
 
-abbrev pub by_row : ℕ → List ℕ → Option Entry → Answer
+abbrev pub by_row : ℕ → List ℕ → Option OpcodeEntry → Answer
 by_row opcode bytes None = Unknown
 by_row opcode bytes (Some e) = answer_of opcode bytes (operands_at e.operands bytes)
 
@@ -130,13 +130,13 @@ decoded_at [] = Short
 decoded_at (b ∷ bs) = if b == 0xfd then wait_at bs else by_row b bs (row_of b)
 
 -- what an answer says of the bytes, in terms of spelling alone
-abbrev pub Tells : List ℕ → Answer → Type 0
-Tells b (Whole d rest) = (front : List ℕ) × (b ≡ front ++ rest) × Spells front d
-Tells b Short = (tail : List ℕ) × (d : Instruction) × (0 < length tail) × Spells (b ++ tail) d
-Tells b Unknown = SpellsNone b × (HasOpcode b → ⊥)
-Tells b Reserved = SpellsNone b × HasOpcode b
+abbrev pub IsAnswerFor : List ℕ → Answer → Type 0
+IsAnswerFor b (Whole d rest) = (front : List ℕ) × (b ≡ front ++ rest) × Spells front d
+IsAnswerFor b Short = (tail : List ℕ) × (d : Instruction) × (0 < length tail) × Spells (b ++ tail) d
+IsAnswerFor b Unknown = SpellsNone b × (HasOpcode b → ⊥)
+IsAnswerFor b Reserved = SpellsNone b × HasOpcode b
 
 -- reading is exact: each answer is so, and what is spelled is read, whatever follows
 pub record IsExact : Type 0 where
-  pub tells : (b : List ℕ) → AreBytes b → Tells b (decoded_at b)
+  pub tells : (b : List ℕ) → AreBytes b → IsAnswerFor b (decoded_at b)
   pub reads : (front rest : List ℕ) (d : Instruction) → Spells front d → decoded_at (front ++ rest) ≡ Whole d rest

@@ -4,20 +4,20 @@ use Rattle.vax_table.specs.declared.forms.Row.{Row}
 use Rattle.vax_table.specs.declared.lines.Line.{Line}
 use Rattle.vax_table.specs.declared.lines.Line.TheVariants.{Unknown, One, Two, Three, Four}
 use Rattle.vax_table.specs.declared.lines.Line.TheVariants as lines
-use Rattle.vax_table.specs.Rows.{Entry}
+use Rattle.vax_table.specs.Rows.{OpcodeEntry}
 
 -- a row without where its operands lie in memory
-abbrev pub row_view : Row → Entry
+abbrev pub row_view : Row → OpcodeEntry
 row_view row = record { operands = row.operands.items; sensitive = row.sensitive }
 
-abbrev pub row_views : Option Row → Option Entry
+abbrev pub row_views : Option Row → Option OpcodeEntry
 row_views None = None
 row_views (Some row) = Some (row_view row)
 
-abbrev pub line_view : Line → Option Entry
-line_view Unknown = None
-line_view (lines.None s) = Some (record { operands = []; sensitive = s })
-line_view (One s a) = Some (record { operands = a ∷ []; sensitive = s })
-line_view (Two s a b) = Some (record { operands = a ∷ b ∷ []; sensitive = s })
-line_view (Three s a b c) = Some (record { operands = a ∷ b ∷ c ∷ []; sensitive = s })
-line_view (Four s a b c d) = Some (record { operands = a ∷ b ∷ c ∷ d ∷ []; sensitive = s })
+abbrev pub opcode_entry_view : Line → Option OpcodeEntry
+opcode_entry_view Unknown = None
+opcode_entry_view (lines.None s) = Some (record { operands = []; sensitive = s })
+opcode_entry_view (One s a) = Some (record { operands = a ∷ []; sensitive = s })
+opcode_entry_view (Two s a b) = Some (record { operands = a ∷ b ∷ []; sensitive = s })
+opcode_entry_view (Three s a b c) = Some (record { operands = a ∷ b ∷ c ∷ []; sensitive = s })
+opcode_entry_view (Four s a b c d) = Some (record { operands = a ∷ b ∷ c ∷ d ∷ []; sensitive = s })

@@ -8,7 +8,7 @@ use Rattle.vax_table.specs.declared.forms.Access.TheVariants.{Read, Modify, Writ
 use Rattle.vax_table.specs.declared.forms.Form.{Form}
 
 -- what the table says of an opcode
-pub record Entry : Type 0 where
+pub record OpcodeEntry : Type 0 where
   pub operands : List Form
   pub sensitive : Bool
 
@@ -32,14 +32,14 @@ v x = record { access = Bits; width = x }
 abbrev pub b : Width → Form
 b x = record { access = Branch; width = x }
 
-abbrev pub plain : List Form → Entry
+abbrev pub plain : List Form → OpcodeEntry
 plain forms = record { operands = forms; sensitive = false }
 
-abbrev pub sensitive : List Form → Entry
+abbrev pub sensitive : List Form → OpcodeEntry
 sensitive forms = record { operands = forms; sensitive = true }
 
 -- byte at 80, word at A0, long at C0: the sixteen of each
-abbrev pub arithmetic : Width → List Entry
+abbrev pub arithmetic : Width → List OpcodeEntry
 arithmetic x =
     plain (r x ∷ m x ∷ [])  -- 0 ADD2
     ∷ plain (r x ∷ r x ∷ w x ∷ [])  -- 1 ADD3
@@ -60,7 +60,7 @@ arithmetic x =
     ∷ []
 
 -- byte at 90, word at B0, long at D0: the first eight of each
-abbrev pub moves : Width → List Entry
+abbrev pub moves : Width → List OpcodeEntry
 moves x =
     plain (r x ∷ w x ∷ [])  -- 0 MOV
     ∷ plain (r x ∷ r x ∷ [])  -- 1 CMP
@@ -72,100 +72,100 @@ moves x =
     ∷ plain (m x ∷ [])  -- 7 DEC
     ∷ []
 
-pub record Line : Type 0 where
+pub record OpcodeRow : Type 0 where
   pub opcode : ℕ
-  pub entry : Entry
+  pub entry : OpcodeEntry
 
-abbrev pub line : ℕ → Entry → Line
-line n e = record { opcode = n; entry = e }
+abbrev pub opcode_row : ℕ → OpcodeEntry → OpcodeRow
+opcode_row n e = record { opcode = n; entry = e }
 
 -- the other opcodes
-abbrev pub others : List Line
+abbrev pub others : List OpcodeRow
 others =
-    line 0x00 (sensitive [])  -- HALT
-    ∷ line 0x01 (plain [])  -- NOP
-    ∷ line 0x02 (sensitive [])  -- REI
-    ∷ line 0x03 (plain [])  -- BPT
-    ∷ line 0x04 (plain [])  -- RET
-    ∷ line 0x05 (plain [])  -- RSB
-    ∷ line 0x06 (sensitive [])  -- LDPCTX
-    ∷ line 0x07 (sensitive [])  -- SVPCTX
-    ∷ line 0x0c (plain (r Byte ∷ r Word ∷ a Byte ∷ []))  -- PROBER
-    ∷ line 0x0d (plain (r Byte ∷ r Word ∷ a Byte ∷ []))  -- PROBEW
-    ∷ line 0x10 (plain (b Byte ∷ []))  -- BSBB
-    ∷ line 0x30 (plain (b Word ∷ []))  -- BSBW
-    ∷ line 0x11 (plain (b Byte ∷ []))  -- BRB
-    ∷ line 0x31 (plain (b Word ∷ []))  -- BRW
-    ∷ line 0x12 (plain (b Byte ∷ []))  -- BNEQ
-    ∷ line 0x13 (plain (b Byte ∷ []))  -- BEQL
-    ∷ line 0x14 (plain (b Byte ∷ []))  -- BGTR
-    ∷ line 0x15 (plain (b Byte ∷ []))  -- BLEQ
-    ∷ line 0x18 (plain (b Byte ∷ []))  -- BGEQ
-    ∷ line 0x19 (plain (b Byte ∷ []))  -- BLSS
-    ∷ line 0x1a (plain (b Byte ∷ []))  -- BGTRU
-    ∷ line 0x1b (plain (b Byte ∷ []))  -- BLEQU
-    ∷ line 0x1c (plain (b Byte ∷ []))  -- BVC
-    ∷ line 0x1d (plain (b Byte ∷ []))  -- BVS
-    ∷ line 0x1e (plain (b Byte ∷ []))  -- BCC
-    ∷ line 0x1f (plain (b Byte ∷ []))  -- BCS
-    ∷ line 0x16 (plain (a Byte ∷ []))  -- JSB
-    ∷ line 0x17 (plain (a Byte ∷ []))  -- JMP
-    ∷ line 0x32 (plain (r Word ∷ w Long ∷ []))  -- CVTWL
-    ∷ line 0x33 (plain (r Word ∷ w Byte ∷ []))  -- CVTWB
-    ∷ line 0x98 (plain (r Byte ∷ w Long ∷ []))  -- CVTBL
-    ∷ line 0x99 (plain (r Byte ∷ w Word ∷ []))  -- CVTBW
-    ∷ line 0xf6 (plain (r Long ∷ w Byte ∷ []))  -- CVTLB
-    ∷ line 0xf7 (plain (r Long ∷ w Word ∷ []))  -- CVTLW
-    ∷ line 0x3c (plain (r Word ∷ w Long ∷ []))  -- MOVZWL
-    ∷ line 0x9a (plain (r Byte ∷ w Long ∷ []))  -- MOVZBL
-    ∷ line 0x9b (plain (r Byte ∷ w Word ∷ []))  -- MOVZBW
-    ∷ line 0x3d (plain (r Word ∷ r Word ∷ m Word ∷ b Word ∷ []))  -- ACBW
-    ∷ line 0x9d (plain (r Byte ∷ r Byte ∷ m Byte ∷ b Word ∷ []))  -- ACBB
-    ∷ line 0xf1 (plain (r Long ∷ r Long ∷ m Long ∷ b Word ∷ []))  -- ACBL
-    ∷ line 0xf2 (plain (r Long ∷ m Long ∷ b Byte ∷ []))  -- AOBLSS
-    ∷ line 0xf3 (plain (r Long ∷ m Long ∷ b Byte ∷ []))  -- AOBLEQ
-    ∷ line 0xf4 (plain (m Long ∷ b Byte ∷ []))  -- SOBGEQ
-    ∷ line 0xf5 (plain (m Long ∷ b Byte ∷ []))  -- SOBGTR
-    ∷ line 0x9e (plain (a Byte ∷ w Long ∷ []))  -- MOVAB
-    ∷ line 0x3e (plain (a Word ∷ w Long ∷ []))  -- MOVAW
-    ∷ line 0xde (plain (a Long ∷ w Long ∷ []))  -- MOVAL
-    ∷ line 0x7e (plain (a Quad ∷ w Long ∷ []))  -- MOVAQ
-    ∷ line 0x9f (plain (a Byte ∷ []))  -- PUSHAB
-    ∷ line 0x3f (plain (a Word ∷ []))  -- PUSHAW
-    ∷ line 0xdf (plain (a Long ∷ []))  -- PUSHAL
-    ∷ line 0x7f (plain (a Quad ∷ []))  -- PUSHAQ
-    ∷ line 0x78 (plain (r Byte ∷ r Long ∷ w Long ∷ []))  -- ASHL
-    ∷ line 0x9c (plain (r Byte ∷ r Long ∷ w Long ∷ []))  -- ROTL
-    ∷ line 0x7c (plain (w Quad ∷ []))  -- CLRQ
-    ∷ line 0x7d (plain (r Quad ∷ w Quad ∷ []))  -- MOVQ
-    ∷ line 0xb8 (plain (r Word ∷ []))  -- BISPSW
-    ∷ line 0xb9 (plain (r Word ∷ []))  -- BICPSW
-    ∷ line 0xba (plain (r Word ∷ []))  -- POPR
-    ∷ line 0xbb (plain (r Word ∷ []))  -- PUSHR
-    ∷ line 0xbc (sensitive (r Word ∷ []))  -- CHMK
-    ∷ line 0xbd (sensitive (r Word ∷ []))  -- CHME
-    ∷ line 0xbe (sensitive (r Word ∷ []))  -- CHMS
-    ∷ line 0xbf (sensitive (r Word ∷ []))  -- CHMU
-    ∷ line 0xd8 (plain (r Long ∷ m Long ∷ []))  -- ADWC
-    ∷ line 0xd9 (plain (r Long ∷ m Long ∷ []))  -- SBWC
-    ∷ line 0xda (sensitive (r Long ∷ r Long ∷ []))  -- MTPR
-    ∷ line 0xdb (sensitive (r Long ∷ w Long ∷ []))  -- MFPR
-    ∷ line 0xdc (plain (w Long ∷ []))  -- MOVPSL
-    ∷ line 0xdd (plain (r Long ∷ []))  -- PUSHL
-    ∷ line 0xe0 (plain (r Long ∷ v Byte ∷ b Byte ∷ []))  -- BBS
-    ∷ line 0xe1 (plain (r Long ∷ v Byte ∷ b Byte ∷ []))  -- BBC
-    ∷ line 0xe2 (plain (r Long ∷ v Byte ∷ b Byte ∷ []))  -- BBSS
-    ∷ line 0xe3 (plain (r Long ∷ v Byte ∷ b Byte ∷ []))  -- BBCS
-    ∷ line 0xe4 (plain (r Long ∷ v Byte ∷ b Byte ∷ []))  -- BBSC
-    ∷ line 0xe5 (plain (r Long ∷ v Byte ∷ b Byte ∷ []))  -- BBCC
-    ∷ line 0xe6 (plain (r Long ∷ v Byte ∷ b Byte ∷ []))  -- BBSSI
-    ∷ line 0xe7 (plain (r Long ∷ v Byte ∷ b Byte ∷ []))  -- BBCCI
-    ∷ line 0xe8 (plain (r Long ∷ b Byte ∷ []))  -- BLBS
-    ∷ line 0xe9 (plain (r Long ∷ b Byte ∷ []))  -- BLBC
-    ∷ line 0xfa (plain (a Byte ∷ a Byte ∷ []))  -- CALLG
-    ∷ line 0xfb (plain (r Long ∷ a Byte ∷ []))  -- CALLS
-    ∷ line 0xfc (plain [])  -- XFC
-    ∷ line 0xfd (sensitive [])  -- WAIT, which is FD 01
+    opcode_row 0x00 (sensitive [])  -- HALT
+    ∷ opcode_row 0x01 (plain [])  -- NOP
+    ∷ opcode_row 0x02 (sensitive [])  -- REI
+    ∷ opcode_row 0x03 (plain [])  -- BPT
+    ∷ opcode_row 0x04 (plain [])  -- RET
+    ∷ opcode_row 0x05 (plain [])  -- RSB
+    ∷ opcode_row 0x06 (sensitive [])  -- LDPCTX
+    ∷ opcode_row 0x07 (sensitive [])  -- SVPCTX
+    ∷ opcode_row 0x0c (plain (r Byte ∷ r Word ∷ a Byte ∷ []))  -- PROBER
+    ∷ opcode_row 0x0d (plain (r Byte ∷ r Word ∷ a Byte ∷ []))  -- PROBEW
+    ∷ opcode_row 0x10 (plain (b Byte ∷ []))  -- BSBB
+    ∷ opcode_row 0x30 (plain (b Word ∷ []))  -- BSBW
+    ∷ opcode_row 0x11 (plain (b Byte ∷ []))  -- BRB
+    ∷ opcode_row 0x31 (plain (b Word ∷ []))  -- BRW
+    ∷ opcode_row 0x12 (plain (b Byte ∷ []))  -- BNEQ
+    ∷ opcode_row 0x13 (plain (b Byte ∷ []))  -- BEQL
+    ∷ opcode_row 0x14 (plain (b Byte ∷ []))  -- BGTR
+    ∷ opcode_row 0x15 (plain (b Byte ∷ []))  -- BLEQ
+    ∷ opcode_row 0x18 (plain (b Byte ∷ []))  -- BGEQ
+    ∷ opcode_row 0x19 (plain (b Byte ∷ []))  -- BLSS
+    ∷ opcode_row 0x1a (plain (b Byte ∷ []))  -- BGTRU
+    ∷ opcode_row 0x1b (plain (b Byte ∷ []))  -- BLEQU
+    ∷ opcode_row 0x1c (plain (b Byte ∷ []))  -- BVC
+    ∷ opcode_row 0x1d (plain (b Byte ∷ []))  -- BVS
+    ∷ opcode_row 0x1e (plain (b Byte ∷ []))  -- BCC
+    ∷ opcode_row 0x1f (plain (b Byte ∷ []))  -- BCS
+    ∷ opcode_row 0x16 (plain (a Byte ∷ []))  -- JSB
+    ∷ opcode_row 0x17 (plain (a Byte ∷ []))  -- JMP
+    ∷ opcode_row 0x32 (plain (r Word ∷ w Long ∷ []))  -- CVTWL
+    ∷ opcode_row 0x33 (plain (r Word ∷ w Byte ∷ []))  -- CVTWB
+    ∷ opcode_row 0x98 (plain (r Byte ∷ w Long ∷ []))  -- CVTBL
+    ∷ opcode_row 0x99 (plain (r Byte ∷ w Word ∷ []))  -- CVTBW
+    ∷ opcode_row 0xf6 (plain (r Long ∷ w Byte ∷ []))  -- CVTLB
+    ∷ opcode_row 0xf7 (plain (r Long ∷ w Word ∷ []))  -- CVTLW
+    ∷ opcode_row 0x3c (plain (r Word ∷ w Long ∷ []))  -- MOVZWL
+    ∷ opcode_row 0x9a (plain (r Byte ∷ w Long ∷ []))  -- MOVZBL
+    ∷ opcode_row 0x9b (plain (r Byte ∷ w Word ∷ []))  -- MOVZBW
+    ∷ opcode_row 0x3d (plain (r Word ∷ r Word ∷ m Word ∷ b Word ∷ []))  -- ACBW
+    ∷ opcode_row 0x9d (plain (r Byte ∷ r Byte ∷ m Byte ∷ b Word ∷ []))  -- ACBB
+    ∷ opcode_row 0xf1 (plain (r Long ∷ r Long ∷ m Long ∷ b Word ∷ []))  -- ACBL
+    ∷ opcode_row 0xf2 (plain (r Long ∷ m Long ∷ b Byte ∷ []))  -- AOBLSS
+    ∷ opcode_row 0xf3 (plain (r Long ∷ m Long ∷ b Byte ∷ []))  -- AOBLEQ
+    ∷ opcode_row 0xf4 (plain (m Long ∷ b Byte ∷ []))  -- SOBGEQ
+    ∷ opcode_row 0xf5 (plain (m Long ∷ b Byte ∷ []))  -- SOBGTR
+    ∷ opcode_row 0x9e (plain (a Byte ∷ w Long ∷ []))  -- MOVAB
+    ∷ opcode_row 0x3e (plain (a Word ∷ w Long ∷ []))  -- MOVAW
+    ∷ opcode_row 0xde (plain (a Long ∷ w Long ∷ []))  -- MOVAL
+    ∷ opcode_row 0x7e (plain (a Quad ∷ w Long ∷ []))  -- MOVAQ
+    ∷ opcode_row 0x9f (plain (a Byte ∷ []))  -- PUSHAB
+    ∷ opcode_row 0x3f (plain (a Word ∷ []))  -- PUSHAW
+    ∷ opcode_row 0xdf (plain (a Long ∷ []))  -- PUSHAL
+    ∷ opcode_row 0x7f (plain (a Quad ∷ []))  -- PUSHAQ
+    ∷ opcode_row 0x78 (plain (r Byte ∷ r Long ∷ w Long ∷ []))  -- ASHL
+    ∷ opcode_row 0x9c (plain (r Byte ∷ r Long ∷ w Long ∷ []))  -- ROTL
+    ∷ opcode_row 0x7c (plain (w Quad ∷ []))  -- CLRQ
+    ∷ opcode_row 0x7d (plain (r Quad ∷ w Quad ∷ []))  -- MOVQ
+    ∷ opcode_row 0xb8 (plain (r Word ∷ []))  -- BISPSW
+    ∷ opcode_row 0xb9 (plain (r Word ∷ []))  -- BICPSW
+    ∷ opcode_row 0xba (plain (r Word ∷ []))  -- POPR
+    ∷ opcode_row 0xbb (plain (r Word ∷ []))  -- PUSHR
+    ∷ opcode_row 0xbc (sensitive (r Word ∷ []))  -- CHMK
+    ∷ opcode_row 0xbd (sensitive (r Word ∷ []))  -- CHME
+    ∷ opcode_row 0xbe (sensitive (r Word ∷ []))  -- CHMS
+    ∷ opcode_row 0xbf (sensitive (r Word ∷ []))  -- CHMU
+    ∷ opcode_row 0xd8 (plain (r Long ∷ m Long ∷ []))  -- ADWC
+    ∷ opcode_row 0xd9 (plain (r Long ∷ m Long ∷ []))  -- SBWC
+    ∷ opcode_row 0xda (sensitive (r Long ∷ r Long ∷ []))  -- MTPR
+    ∷ opcode_row 0xdb (sensitive (r Long ∷ w Long ∷ []))  -- MFPR
+    ∷ opcode_row 0xdc (plain (w Long ∷ []))  -- MOVPSL
+    ∷ opcode_row 0xdd (plain (r Long ∷ []))  -- PUSHL
+    ∷ opcode_row 0xe0 (plain (r Long ∷ v Byte ∷ b Byte ∷ []))  -- BBS
+    ∷ opcode_row 0xe1 (plain (r Long ∷ v Byte ∷ b Byte ∷ []))  -- BBC
+    ∷ opcode_row 0xe2 (plain (r Long ∷ v Byte ∷ b Byte ∷ []))  -- BBSS
+    ∷ opcode_row 0xe3 (plain (r Long ∷ v Byte ∷ b Byte ∷ []))  -- BBCS
+    ∷ opcode_row 0xe4 (plain (r Long ∷ v Byte ∷ b Byte ∷ []))  -- BBSC
+    ∷ opcode_row 0xe5 (plain (r Long ∷ v Byte ∷ b Byte ∷ []))  -- BBCC
+    ∷ opcode_row 0xe6 (plain (r Long ∷ v Byte ∷ b Byte ∷ []))  -- BBSSI
+    ∷ opcode_row 0xe7 (plain (r Long ∷ v Byte ∷ b Byte ∷ []))  -- BBCCI
+    ∷ opcode_row 0xe8 (plain (r Long ∷ b Byte ∷ []))  -- BLBS
+    ∷ opcode_row 0xe9 (plain (r Long ∷ b Byte ∷ []))  -- BLBC
+    ∷ opcode_row 0xfa (plain (a Byte ∷ a Byte ∷ []))  -- CALLG
+    ∷ opcode_row 0xfb (plain (r Long ∷ a Byte ∷ []))  -- CALLS
+    ∷ opcode_row 0xfc (plain [])  -- XFC
+    ∷ opcode_row 0xfd (sensitive [])  -- WAIT, which is FD 01
     ∷ []
 
 -- what a block of opcodes that begins at first has for one
@@ -173,9 +173,9 @@ abbrev pub in_block : {A : Type 0} → ℕ → ℕ → List A → Option A
 in_block n first block = if nat_le first n then slice_get block (n - first) else None
 
 -- what a list of rows says of an opcode
-abbrev pub in_lines : ℕ → List Line → Option Entry
-in_lines n [] = None
-in_lines n (l ∷ ls) = if n == l.opcode then Some l.entry else in_lines n ls
+abbrev pub entry_in_rows : ℕ → List OpcodeRow → Option OpcodeEntry
+entry_in_rows n [] = None
+entry_in_rows n (l ∷ ls) = if n == l.opcode then Some l.entry else entry_in_rows n ls
 
 -- the first of these that exists
 abbrev pub first_some : {A : Type 0} → List (Option A) → Option A
@@ -184,9 +184,9 @@ first_some (Some x ∷ more) = Some x
 first_some (None ∷ more) = first_some more
 
 -- the table: what it says of an opcode, None where no instruction has it
-unfoldable pub row_of : ℕ → Option Entry
+unfoldable pub row_of : ℕ → Option OpcodeEntry
 row_of n =
     first_some (
     in_block n 0x80 (arithmetic Byte) ∷ in_block n 0xa0 (arithmetic Word) ∷ in_block n 0xc0 (arithmetic Long)
     ∷ in_block n 0x90 (moves Byte) ∷ in_block n 0xb0 (moves Word) ∷ in_block n 0xd0 (moves Long)
-    ∷ in_lines n others ∷ [])
+    ∷ entry_in_rows n others ∷ [])

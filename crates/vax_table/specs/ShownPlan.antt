@@ -12,7 +12,7 @@ use Rattle.vax_table.specs.Operand.{address_of, address_operand, base_address, b
 use Rattle.vax_table.specs.Operations.{operation_of}
 use Rattle.vax_table.specs.Plan.{performed, plan_of, probed}
 use Rattle.vax_table.specs.Rows.{row_of}
-use Rattle.vax_table.specs.Script.{Absent, At, Refusing, Script, Space, Test, outcome, reached}
+use Rattle.vax_table.specs.Interaction.{Absent, At, Interaction, Refusing, Space, Test, outcome, reached}
 use Rattle.vax_table.specs.ShownOperand.{instruction}
 use Rattle.vax_table.specs.Spelled.{value_size}
 use Rattle.vax_table.specs.Spelling.{Instruction, unindexed}
@@ -23,7 +23,7 @@ use Rattle.vax_table.specs.declared.act.Refusal.TheVariants as refusals
 use Rattle.vax_table.specs.declared.evaluation.Operands.{Operands}
 
 -- with the PSL 041F0000 and a status word
-abbrev pub doing : Instruction → List ℕ → ℕ → Script Effect
+abbrev pub doing : Instruction → List ℕ → ℕ → Interaction Effect
 doing d r psw = plan_of (0x041f0000 + psw) d r
 
 -- no memory; and all of it zero
@@ -76,7 +76,7 @@ divides_by_zero = refl
 abbrev pub below_1000 : Space
 below_1000 i at = if nat_lt at 0x1000 then Ok 0 else Err Absent
 
-abbrev pub moves_up : Script Effect
+abbrev pub moves_up : Interaction Effect
 moves_up = doing (instruction 0xd0 (unindexed 8 0 0 ∷ unindexed 6 1 0 ∷ [])) (registers 0x300 0x1000 0 0 0 0x200) 0
 
 pub no_destination : outcome below_1000 moves_up ≡ Err (At Absent Write 0x1000)
@@ -94,10 +94,10 @@ short i at =
     if nat_le 0x7ffff000 at && nat_lt at 0x80000000 then Ok 0 else Err Refusing
 
 -- MOVL R0,(R1) and MOVL (R1),R0
-abbrev pub moves_to : ℕ → Script Effect
+abbrev pub moves_to : ℕ → Interaction Effect
 moves_to r1 = doing (instruction 0xd0 (unindexed 5 0 0 ∷ unindexed 6 1 0 ∷ [])) (registers 0 r1 0 0 0 0x200) 0
 
-abbrev pub moves_from : ℕ → Script Effect
+abbrev pub moves_from : ℕ → Interaction Effect
 moves_from r1 = doing (instruction 0xd0 (unindexed 6 1 0 ∷ unindexed 5 0 0 ∷ [])) (registers 0 r1 0 0 0 0x200) 0
 
 pub behind_p0 : outcome short (moves_to 0x1000) ≡ Err (At Refusing Write 0x1000)
@@ -134,7 +134,7 @@ unfolding plan_of performed operation_of row_of operands_of operand_of read_oper
 before_p1_reached = refl
 
 -- PROBER #0,#4,(R1) and PROBEW #0,#4,(R1): the operands are the mode, the length and the base
-abbrev pub probe : ℕ → Script Meant
+abbrev pub probe : ℕ → Interaction Meant
 probe opcode = acted false 0x2f (instruction opcode (unindexed 0 0 0 ∷ unindexed 0 0 4 ∷ unindexed 6 1 0 ∷ [])) (registers 0 0x1000 0 0 0 0x200)
 
 abbrev pub probed_operands : Operands

@@ -12,7 +12,7 @@ use Rattle.vax_table.specs.Operations.{operation_of}
 use Rattle.vax_table.specs.Plan.{performed, plan_of}
 use Rattle.vax_table.specs.PlanLaws.{bytes_of_stores}
 use Rattle.vax_table.specs.Rows.{m, r, row_of, w}
-use Rattle.vax_table.specs.Script.{Absent, At, Script, Space}
+use Rattle.vax_table.specs.Interaction.{Absent, At, Interaction, Space}
 use Rattle.vax_table.specs.ShownOperand.{instruction}
 use Rattle.vax_table.specs.ShownPlan.{doing, registers, zeros}
 use Rattle.vax_table.specs.Spelled.{value_size}
@@ -50,7 +50,7 @@ pub of_three : operand_claims (r Long ∷ m Word ∷ w Long ∷ []) (Nowhere ∷
 of_three = refl
 
 -- INCL (R1), with R1 1FF
-abbrev pub increments : Script Effect
+abbrev pub increments : Interaction Effect
 increments = doing (instruction 0xd6 (unindexed 6 1 0 ∷ [])) (registers 0 0x1ff 0 0 0 0x300) 0
 
 abbrev pub incremented : Effect
@@ -69,7 +69,7 @@ unfolding plan_of performed operation_of row_of operands_of operand_of modified_
 clear_at_the_second = refl
 
 -- PUSHR #3 with SP 204: R1 goes to 200, and R0 to 1FC
-abbrev pub pushes : Script Effect
+abbrev pub pushes : Interaction Effect
 pushes = doing (instruction 0xbb (unindexed 0 0 3 ∷ [])) (registers 7 8 0 0 0x204 0x300) 0
 
 pub claims_eight : claims zeros pushes ≡ 0x200 ∷ 0x201 ∷ 0x202 ∷ 0x203 ∷ 0x1fc ∷ 0x1fd ∷ 0x1fe ∷ 0x1ff ∷ []

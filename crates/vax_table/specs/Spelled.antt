@@ -18,12 +18,12 @@ value_size f s =
 unfoldable pub spelled_specifier : Form → Spec → List ℕ
 spelled_specifier f s = if s.mode == 0 then s.value ∷ [] else (16 * s.mode + s.reg) ∷ bytes_of (value_size f s) s.value
 
-abbrev pub behind_index : Option ℕ → List ℕ → List ℕ
-behind_index None bytes = bytes
-behind_index (Some x) bytes = (0x40 + x) ∷ bytes
+abbrev pub with_index_byte : Option ℕ → List ℕ → List ℕ
+with_index_byte None bytes = bytes
+with_index_byte (Some x) bytes = (0x40 + x) ∷ bytes
 
 unfoldable pub spelled : Form → Spec → List ℕ
-spelled f s = if is_branch f.access then bytes_of (size_of f.width) s.value else behind_index s.index (spelled_specifier f s)
+spelled f s = if is_branch f.access then bytes_of (size_of f.width) s.value else with_index_byte s.index (spelled_specifier f s)
 
 abbrev pub spelled_all : List Form → List Spec → List ℕ
 spelled_all [] ss = []

@@ -10,7 +10,7 @@ use Rattle.vax_table.specs.declared.forms.Access.TheVariants.{Read, Address, Bra
 use Rattle.vax_table.specs.declared.forms.Form.{Form}
 use Rattle.vax_table.specs.declared.decoded.Spec.{Spec}
 use Rattle.vax_table.specs.declared.decoded.Decoded.{Decoded}
-use Rattle.vax_table.specs.Rows.{Entry, row_of}
+use Rattle.vax_table.specs.Rows.{OpcodeEntry, row_of}
 
 -- k bytes of a number, the lowest first
 abbrev pub bytes_of : ℕ → ℕ → List ℕ
@@ -44,16 +44,16 @@ pub data Specifier (form : Form) (bytes : List ℕ) (s : Spec) : Type 0 where
 
 -- An operand of the form: a specifier, one after an index, or a branch displacement. After an index
 -- comes neither a literal, an index nor a register (all below 60), nor an immediate (8F).
-pub data Operand (form : Form) (bytes : List ℕ) (s : Spec) : Type 0 where
-  specifier : form.access ≢ Branch → Specifier form bytes s → Operand form bytes s
+pub data SpellsOperand (form : Form) (bytes : List ℕ) (s : Spec) : Type 0 where
+  specifier : form.access ≢ Branch → Specifier form bytes s → SpellsOperand form bytes s
   indexed : form.access ≢ Branch → (x : ℕ) → x < 15 → (b : ℕ) (rest : List ℕ) (t : Spec) → 0x60 ≤ b → b ≢ 0x8f → Specifier form (b ∷ rest) t →
-      bytes ≡ (0x40 + x) ∷ (b ∷ rest) → s ≡ record t { index = Some x } → Operand form bytes s
-  branch : form.access ≡ Branch → (v : ℕ) → v < 256 ^ size_of form.width → bytes ≡ bytes_of (size_of form.width) v → s ≡ unindexed 16 0 v → Operand form bytes s
+      bytes ≡ (0x40 + x) ∷ (b ∷ rest) → s ≡ record t { index = Some x } → SpellsOperand form bytes s
+  branch : form.access ≡ Branch → (v : ℕ) → v < 256 ^ size_of form.width → bytes ≡ bytes_of (size_of form.width) v → s ≡ unindexed 16 0 v → SpellsOperand form bytes s
 
 -- operands of the forms, one after the other
 abbrev pub Operands : List Form → List ℕ → List Spec → Type 0
 Operands [] bytes [] = bytes ≡ []
-Operands (f ∷ fs) bytes (s ∷ ss) = (front : List ℕ) × (back : List ℕ) × (bytes ≡ front ++ back) × Operand f front s × Operands fs back ss
+Operands (f ∷ fs) bytes (s ∷ ss) = (front : List ℕ) × (back : List ℕ) × (bytes ≡ front ++ back) × SpellsOperand f front s × Operands fs back ss
 Operands [] bytes (s ∷ ss) = ⊥
 Operands (f ∷ fs) bytes [] = ⊥
 
@@ -71,7 +71,7 @@ view d = record { opcode = d.opcode; wait = d.wait; length = d.length; specs = d
 -- Bytes spell an instruction: WAIT by FD 01, every other one by its opcode and its operands.
 pub data Spells (bytes : List ℕ) (d : Instruction) : Type 0 where
   wait : bytes ≡ 0xfd ∷ (1 ∷ []) → d ≡ record { opcode = 0xfd; wait = true; length = 2; specs = [] } → Spells bytes d
-  of_row : (e : Entry) (opcode : ℕ) (rest : List ℕ) (specs : List Spec) → opcode < 256 → opcode ≢ 0xfd → row_of opcode ≡ Some e → Operands e.operands rest specs →
+  of_row : (e : OpcodeEntry) (opcode : ℕ) (rest : List ℕ) (specs : List Spec) → opcode < 256 → opcode ≢ 0xfd → row_of opcode ≡ Some e → Operands e.operands rest specs →
       bytes ≡ opcode ∷ rest → d ≡ record { opcode = opcode; wait = false; length = length bytes; specs = specs } → Spells bytes d
 
 -- some bytes spell it

@@ -3,7 +3,7 @@
 -- Architecture, ISCA 1991: modify fault).
 use Rattle.std.specs.Prelude.{◌≡◌, ℕ, Bool, true, false, if◌then◌else◌, List, [], ◌∷◌, Option, Some, None, Result, Ok, Err}
 use Rattle.vax_table.specs.Claims.{claims}
-use Rattle.vax_table.specs.Script.{Script, Space, Trouble, At, Test, Cause, outcome}
+use Rattle.vax_table.specs.Interaction.{Interaction, Space, Trouble, At, Test, Cause, outcome}
 
 pub data Tried (A : Type 0) : Type 0 where
   Completes : A → Tried A
@@ -25,12 +25,12 @@ abbrev pub tried_by : {A : Type 0} → (ℕ → Bool) → List ℕ → Result A 
 tried_by is_clear claimed (Ok a) = unless_clear a (first_clear is_clear claimed)
 tried_by is_clear claimed (Err t) = Stopped t
 
-abbrev pub tried : {A : Type 0} → Space → (ℕ → Bool) → Script A → Tried A
+abbrev pub tried : {A : Type 0} → Space → (ℕ → Bool) → Interaction A → Tried A
 tried s is_clear m = tried_by is_clear (claims s m) (outcome s m)
 
 -- Of two spaces the second answers wherever the first does, and its modify bits are set wherever those of the first are.
-abbrev pub IsMarked : (ℕ → Bool) → (ℕ → Bool) → Type 0
-IsMarked below above = (va : ℕ) → below va ≡ false → above va ≡ false
+abbrev pub IsMarkedAtLeast : (ℕ → Bool) → (ℕ → Bool) → Type 0
+IsMarkedAtLeast below above = (va : ℕ) → below va ≡ false → above va ≡ false
 
 -- A try over the second, given one over the first: the same, but where the first stopped at an access at which it is
 -- silent, or at a clear bit that is set above; there the second stops at its own trouble or clear bit, or goes on.

@@ -5,7 +5,7 @@ use Rattle.vax_arch.specs.declared.mode.Intent.TheVariants.{Read, Write}
 use Rattle.vax_table.specs.declared.act.Refusal.TheVariants as refusals
 use Rattle.vax_table.specs.declared.evaluation.Trouble.{Trouble as Told}
 use Rattle.vax_table.specs.declared.evaluation.Trouble.TheVariants.{NotValid, Denied, Operand}
-use Rattle.vax_table.specs.Script.{Trouble, At, Test, Absent, Refusing}
+use Rattle.vax_table.specs.Interaction.{Trouble, At, Test, Absent, Refusing}
 
 abbrev pub intent_of : Bool → Intent
 intent_of true = Write
@@ -16,6 +16,6 @@ trouble_of (NotValid va write) = At Absent (intent_of write) va
 trouble_of (Denied va write) = At Refusing (intent_of write) va
 trouble_of Operand = Test refusals.Operand
 
-abbrev pub told : {A : Type 0} → Result A Told → Result A Trouble
-told (Ok x) = Ok x
-told (Err t) = Err (trouble_of t)
+abbrev pub with_trouble : {A : Type 0} → Result A Told → Result A Trouble
+with_trouble (Ok x) = Ok x
+with_trouble (Err t) = Err (trouble_of t)

@@ -13,7 +13,7 @@ use Rattle.vax_table.specs.Fetch.{fetched}
 use Rattle.vax_table.specs.Operand.{extended, operands_of, trap_operands}
 use Rattle.vax_table.specs.Operations.{operation_of}
 use Rattle.vax_table.specs.Plan.{plan_of}
-use Rattle.vax_table.specs.Script.{Script, Done, Refuse, ◌>>=◌}
+use Rattle.vax_table.specs.Interaction.{Interaction, Done, Refuse, ◌>>=◌}
 use Rattle.vax_table.specs.Spelling.{Instruction}
 use Rattle.vax_table.specs.declared.act.Refusal.TheVariants as refusals
 use Rattle.vax_table.specs.declared.act.Sens.{Sens}
@@ -65,7 +65,7 @@ trap_of op o = record {
   regs = take 15 o.r;
 }
 
-abbrev pub trapping : Sens → Instruction → List ℕ → Script Meant
+abbrev pub trapping : Sens → Instruction → List ℕ → Interaction Meant
 trapping op d r = trap_operands d r >>= λ o. Done (meant d.opcode (Traps (trap_of op o)))
 
 abbrev pub probe_of : Intent → Sens
@@ -73,22 +73,22 @@ probe_of intents.Read = Prober
 probe_of intents.Write = Probew
 
 -- a plain instruction
-abbrev pub plainly : ℕ → Instruction → List ℕ → Script Meant
-plainly psl d r = plan_of psl d r >>= λ e. Done (meant d.opcode (Plain e))
+abbrev pub plain_meaning : ℕ → Instruction → List ℕ → Interaction Meant
+plain_meaning psl d r = plan_of psl d r >>= λ e. Done (meant d.opcode (Plain e))
 
-abbrev pub probing : Intent → Instruction → List ℕ → Script Meant
+abbrev pub probing : Intent → Instruction → List ℕ → Interaction Meant
 probing intent d r = operands_of d r >>= λ o. Done (meant d.opcode (Probes intent o))
 
 -- by what an instruction does
-abbrev pub acted_by : Bool → ℕ → Operation → Instruction → List ℕ → Script Meant
+abbrev pub acted_by : Bool → ℕ → Operation → Instruction → List ℕ → Interaction Meant
 acted_by kernel psl (Sensitive op) d r = if is_always_done op || kernel then trapping op d r else Refuse refusals.Instruction
 acted_by kernel psl (Probe intent) d r = probing intent d r
-acted_by kernel psl operation d r = plainly psl d r
+acted_by kernel psl operation d r = plain_meaning psl d r
 
 -- an instruction whose bytes are fetched, in kernel mode or not, with the PSL that MOVPSL gives
-unfoldable pub acted : Bool → ℕ → Instruction → List ℕ → Script Meant
+unfoldable pub acted : Bool → ℕ → Instruction → List ℕ → Interaction Meant
 acted kernel psl d r = acted_by kernel psl (operation_of d.opcode) d r
 
 -- the instruction at PC
-unfoldable pub instruction : Bool → ℕ → List ℕ → Script Meant
+unfoldable pub instruction : Bool → ℕ → List ℕ → Interaction Meant
 instruction kernel psl r = fetched (slice_index r 15) >>= λ d. acted kernel psl d r

@@ -1,6 +1,6 @@
 ghost use Rattle.std.specs.Prelude.{◌≡◌, true};
 ghost use Rattle.vax_table.specs.Operations.{is_narrow, operation_of};
-ghost use Rattle.vax_table.specs.RowViews.{line_view, row_views};
+ghost use Rattle.vax_table.specs.RowViews.{opcode_entry_view, row_views};
 ghost use Rattle.vax_table.specs.Rows.{row_of};
 
 use crate::forms::{Form, Row};
@@ -10,7 +10,7 @@ use crate::meanings::OPERATIONS;
 use arrayvec::ArrayVec;
 
 fn line_at(opcode: u8) -> Line
-    ensures { line_view result ≡ row_of opcode }
+    ensures { opcode_entry_view result ≡ row_of opcode }
 {
     LINES[usize::from(opcode)]
 }

@@ -4,23 +4,23 @@ use Rattle.std.proofs.lemmas.Bool.{eq-eqb, or_from, or_parts}
 use Rattle.vax_hw.specs.Machine.{Machine}
 use Rattle.vax_hw.specs.declared.world.Exit.{Exit}
 use Rattle.vax_hw.specs.declared.world.Exit.TheVariants.{Arithmetic, Budget, Denied, Emulate, Modify, NotValid, Refused}
-use Rattle.vax_table.specs.Script.{IsIn}
+use Rattle.vax_table.specs.Interaction.{IsIn}
 use Rattle.vax_table.specs.Whole.{Act, Plain, Probes, Traps}
-use Rattle.vm_bursts.specs.Guarded.{ClosesOne, IsCompleted, IsUnfinished, OnlyBoth, Tells}
+use Rattle.vm_bursts.specs.Guarded.{ClosesOne, ExitIsMet, IsCompleted, IsUnfinished, OnlyBoth}
 use Rattle.vm_bursts.proofs.Completing.{guest_same, only_both, own_same}
-use Rattle.vm_fitting.specs.Runs.{MissesThere, Reaches}
+use Rattle.vm_miss_laws.specs.Runs.{MissesThere, Reaches}
 use Rattle.vm_shadow.specs.Calls.{OnlyTables, unless_dropped}
-use Rattle.vm_shadow.specs.Stands.{Keeps, Shadowed, is_opened, is_pending, is_read_from, mapped_frame, read_at, real_at}
+use Rattle.vm_shadow.specs.Shadowed.{Keeps, Shadowed, is_opened, is_pending, is_read_from, mapped_frame, read_at, real_at}
 use Rattle.vm_shadow.specs.StandsFor.{IsPresent, Serves, closed_for}
 use Rattle.vm_shadow.specs.declared.source.Source.{Source}
-use Rattle.vm_simulation.specs.Laws.{IsUnfilled, Leaves, frames_claimed}
-use Rattle.vm_simulation.specs.Loaded.{Loads, as_run, frames_opened, guest_try}
+use Rattle.vm_simulation_laws.specs.Laws.{IsUnfilled, Leaves, frames_claimed}
+use Rattle.vm_simulation_laws.specs.Loaded.{HasGuestLoaded, as_run, frames_opened, guest_try}
 use Rattle.vm_state.specs.Partition.{guest_of, partition_of}
 use Rattle.vm_state.specs.State.{state_of}
 use Rattle.vm_state.specs.Step as steps
 use Rattle.vm_state.specs.Step.{trapped_in}
 use Rattle.vm_state.specs.declared.guest_state.GuestState.{GuestState}
-use Rattle.vm_touches.specs.Touched.{AreFilled, touches_now}
+use Rattle.vm_touch_laws.specs.Touched.{AreFilled, touches_now}
 
 -- fewer are opened
 less_by : (q : ℕ → Bool) (k x : ℕ) (xs : List ℕ) (t : Bool) → q x ≡ t → (x == k) ≡ false → is_opened k (filter q xs) ≡ false → is_opened k (if t then x ∷ filter q xs else filter q xs) ≡ false
@@ -63,7 +63,7 @@ unfilled_same (Plain f) memory after s g e k = tt
 unfilled_same (Traps t) memory after s g e k = tt
 unfilled_same (Probes i o) memory after s g e k = λ p q. k (present_same memory after g _ e p) (present_same memory after g _ e q)
 
-tells_same : (x : Exit) (memory after : List ℕ) (s : Shadowed) (g : GuestState) → guest_of after g ≡ guest_of memory g → Tells x memory s g → Tells x after s g
+tells_same : (x : Exit) (memory after : List ℕ) (s : Shadowed) (g : GuestState) → guest_of after g ≡ guest_of memory g → ExitIsMet x memory s g → ExitIsMet x after s g
 tells_same Budget memory after s g e k = k
 tells_same (Arithmetic kind) memory after s g e k = k
 tells_same (NotValid va write) memory after s g e k = record {
@@ -123,7 +123,7 @@ module _ (n f : ℕ) (opened : List ℕ) (m m3 m4 : Machine) (s s3 s4 : Shadowed
         plain = k.plain ∙ ap (λ h. trapped_in (steps.Plain k.term) (frames_claimed (guest_of m.memory g)) h trap) (sym guest);
         leaves = subst (λ h. Leaves (guest_of m.memory g) h trap) (sym guest) k.leaves;
         keeps = keeps_fewer (frames_opened m.memory s opened) n opened m4.memory s4 (c.keeps (frames_opened m.memory s opened) (n ∷ opened) (subst (λ x. Keeps (x ∷ frames_opened m.memory s opened) (n ∷ opened) m3.memory s3) (sym is) k.keeps));
-        loads = subst (λ x. Loads x s4 (as_run x g)) (sym world) (record { r = k.loads.r; psl = k.loads.psl; current = k.loads.current; previous = k.loads.previous; tables = k.loads.tables ∙ (λ i. Rattle.vm_shadow.specs.Layout.real_tables (sym at i) (sym slot i)) });
+        loads = subst (λ x. HasGuestLoaded x s4 (as_run x g)) (sym world) (record { r = k.loads.r; psl = k.loads.psl; current = k.loads.current; previous = k.loads.previous; tables = k.loads.tables ∙ (λ i. Rattle.vm_shadow.specs.Layout.real_tables (sym at i) (sym slot i)) });
         high = ap (λ x. (as_run x g).psl.0 / 2 ^ 8) world ∙ k.high;
         each = λ j. dropped_by j (frames_claimed (guest_of m.memory g)) claimed (is_read_from f (read_at s3 j)) refl (c.drops.each j) (k.each j);
         rest = c.drops.rest ∙ ap (λ (x : Shadowed). record x { reads = s4.reads; consulted = s4.consulted }) k.rest ∙ (λ i. record s { reads = s4.reads; consulted = s4.consulted; writable = (sym c.drops.rest i).writable });
@@ -146,6 +146,6 @@ module _ (n f : ℕ) (opened : List ℕ) (m m3 m4 : Machine) (s s3 s4 : Shadowed
         machine = c.only.rest ∙ ap (λ (x : Machine). record x { memory = m4.memory }) k.machine;
         rest = c.drops ∙ k.rest ∙ (λ i. record s { writable = (sym c.drops i).writable });
         only = tables_both (ap (λ (x : Shadowed). x.at) k.rest) c.only k.only;
-        tells = subst (λ x. Tells e m4.memory x g) (sym c.drops) (tells_same e m3.memory m4.memory s3 g whole k.tells);
+        tells = subst (λ x. ExitIsMet e m4.memory x g) (sym c.drops) (tells_same e m3.memory m4.memory s3 g whole k.tells);
         reaches = subst (λ x. Reaches e m4.memory x g) (sym c.drops) (reaches_same e m3.memory m4.memory s3 g whole k.reaches);
       }

@@ -4,28 +4,28 @@ use Rattle.std.proofs.lemmas.Bool.{cases_eq}
 use Rattle.vax_arch.specs.Fields.{frame_of, is_modified}
 use Rattle.vax_arch.specs.Walk.{page_of, with_modify}
 use Rattle.vax_hw.specs.Machine.{Machine}
-use Rattle.vax_hw.specs.Real.{Retired, unless_trapped, going_on, misses_after, one, real}
+use Rattle.vax_hw.specs.Real.{Retired, unless_trapped, going_on, misses_after, machine_step, real}
 use Rattle.vax_hw.specs.declared.world.Exit.{Exit}
 use Rattle.vax_hw.specs.declared.world.Exit.TheVariants.{Arithmetic, Budget, Denied, Emulate, Modify, NotValid, Refused}
-use Rattle.vm_bursts.specs.Guarded.{Allows, IsCompleted, IsTried, IsUnfinished, OnlyBoth, Tells, opened_by}
-use Rattle.vax_table.specs.Script.{IsIn}
-use Rattle.vm_fitting.specs.Runs.{Reaches}
-use Rattle.vm_fitting.proofs.Running.{reached_by}
+use Rattle.vm_bursts.specs.Guarded.{ExitIsMet, GrantsOrOpens, IsCompleted, IsTried, IsUnfinished, OnlyBoth, opened_by}
+use Rattle.vax_table.specs.Interaction.{IsIn}
+use Rattle.vm_miss_laws.specs.Runs.{Reaches}
+use Rattle.vm_miss_laws.proofs.Running.{reached_by}
 use Rattle.vm_shadow.specs.Calls.{OnlyTables}
-use Rattle.vm_shadow.specs.Stands.{Fits, Keeps, Shadowed, is_pending, mapped_frame, read_at, real_at}
+use Rattle.vm_shadow.specs.Shadowed.{Fits, Keeps, Shadowed, is_pending, mapped_frame, read_at, real_at}
 use Rattle.vm_shadow.specs.StandsFor.{Serves, own_number}
 use Rattle.vm_shadow.proofs.Filling.{byte_apart, own_apart}
-use Rattle.vm_simulation.specs.Laws.{IsRetired, IsUnwritten, Leaves, Meets, frames_claimed}
-use Rattle.vm_simulation.specs.Loaded.{Loads, RunsGuest, as_run, frames_opened, guest_try}
-use Rattle.vm_simulation.proofs.Meeting.{exits_meet}
-use Rattle.vm_simulation.proofs.Retiring.{retires}
+use Rattle.vm_simulation_laws.specs.Laws.{IsRetired, IsUnwritten, Leaves, Meets, frames_claimed}
+use Rattle.vm_simulation_laws.specs.Loaded.{HasGuestLoaded, RunsGuest, as_run, frames_opened, guest_try}
+use Rattle.vm_simulation_laws.proofs.Meeting.{exits_meet}
+use Rattle.vm_simulation_laws.proofs.Retiring.{retires}
 use Rattle.vm_state.specs.Partition.{guest_of, part, partition_of}
 use Rattle.vm_state.specs.State.{state_of}
 use Rattle.vm_state.specs.Step as steps
 use Rattle.vm_state.specs.Step.{by_try, trapped_in}
 use Rattle.vm_state.specs.declared.guest_state.GuestState.{GuestState}
-use Rattle.vm_touches.specs.Touched.{touches_now}
-use Rattle.vm_touches.proofs.Touching.{retired_filled}
+use Rattle.vm_touch_laws.specs.Touched.{touches_now}
+use Rattle.vm_touch_laws.proofs.Touching.{retired_filled}
 
 pub split : {A B C : Type 0} → A ⊎ B → (A → C) → (B → C) → C
 split (inl a) f g = f a
@@ -37,7 +37,7 @@ both_same : (s : Shadowed) (memory : List ℕ) → OnlyBoth s memory memory
 both_same s memory = record { size = refl; other = λ p h k. refl }
 
 module _ (opened : List ℕ) (m : Machine) (s : Shadowed) (g : GuestState) (k : RunsGuest opened m s g) where
-  completes : (x : Retired) → IsRetired opened m s g x → one m ≡ Ok x → IsCompleted opened m s g x.trap x.machine s
+  completes : (x : Retired) → IsRetired opened m s g x → machine_step m ≡ Ok x → IsCompleted opened m s g x.trap x.machine s
   completes x r e = record {
     term = r.term;
     plain = r.plain;
@@ -58,14 +58,14 @@ module _ (opened : List ℕ) (m : Machine) (s : Shadowed) (g : GuestState) (k : 
       here p (inl h) = inl (omega (arith, h, k.serves.base))
       here p (inr h) = inr (omega (arith, h, k.serves.base, k.serves.pages))
 
-  pub stops : (e : Exit) → Tells e m.memory s g → Reaches e m.memory s g → IsUnfinished opened m s g e (record m { misses = misses_after m.misses e }) s
+  pub stops : (e : Exit) → ExitIsMet e m.memory s g → Reaches e m.memory s g → IsUnfinished opened m s g e (record m { misses = misses_after m.misses e }) s
   stops e t reaches = record { keeps = k.keeps; own = refl; machine = refl; rest = refl; only = both_same s m.memory; tells = t; reaches = reaches }
 
   -- of an exit but Modify
   abbrev First : Machine × Exit → Type 0
   First z = ((va : ℕ) → z.1 ≡ Modify va → ⊥) → IsTried z.1 opened m s g z.0 s
 
-  by_exit : (e : Exit) → one m ≡ Err e → Meets e m.memory s g → First (record m { misses = misses_after m.misses e }, e)
+  by_exit : (e : Exit) → machine_step m ≡ Err e → Meets e m.memory s g → First (record m { misses = misses_after m.misses e }, e)
   by_exit Budget is t other = absurd t
   by_exit (Arithmetic kind) is t other = absurd t
   by_exit (NotValid va write) is t other = stops (NotValid va write) t (reached_by opened (NotValid va write) m s g k is t)
@@ -78,18 +78,18 @@ module _ (opened : List ℕ) (m : Machine) (s : Shadowed) (g : GuestState) (k : 
   by_trap x None c other = c
   by_trap x (Some kind) c other = c
 
-  first_by : (y : Result Retired Exit) → one m ≡ y → First (going_on (real 0) m y)
+  first_by : (y : Result Retired Exit) → machine_step m ≡ y → First (going_on (real 0) m y)
   first_by (Ok x) e = by_trap x x.trap (completes x (retires opened m s g x k e) e)
   first_by (Err e) is = by_exit e is (exits_meet opened m s g e k is)
 
   pub first_try : (m1 : Machine) (e : Exit) → (m1, e) ≡ real 1 m → ((va : ℕ) → e ≡ Modify va → ⊥) → IsTried e opened m s g m1 s
-  first_try m1 e is other = subst First (sym is) (first_by (one m) refl) other
+  first_try m1 e is other = subst First (sym is) (first_by (machine_step m) refl) other
 
   -- of Modify
   abbrev Met : Machine × Exit → Type 0
   Met z = (va : ℕ) → z.1 ≡ Modify va → (z.0 ≡ m) × IsUnwritten va m.memory s g × Reaches (Modify va) m.memory s g
 
-  met_exit : (e : Exit) → one m ≡ Err e → Meets e m.memory s g → Met (record m { misses = misses_after m.misses e }, e)
+  met_exit : (e : Exit) → machine_step m ≡ Err e → Meets e m.memory s g → Met (record m { misses = misses_after m.misses e }, e)
   met_exit Budget o t va is = absurd t
   met_exit (Arithmetic kind) o t va is = absurd t
   met_exit (NotValid a write) o t va is = cc
@@ -102,12 +102,12 @@ module _ (opened : List ℕ) (m : Machine) (s : Shadowed) (g : GuestState) (k : 
   met_trap x None va is = cc
   met_trap x (Some kind) va is = cc
 
-  met_by : (y : Result Retired Exit) → one m ≡ y → Met (going_on (real 0) m y)
+  met_by : (y : Result Retired Exit) → machine_step m ≡ y → Met (going_on (real 0) m y)
   met_by (Ok x) e = met_trap x x.trap
   met_by (Err e) is = met_exit e is (exits_meet opened m s g e k is)
 
   pub unwritten : (m1 : Machine) (e : Exit) (va : ℕ) → (m1, e) ≡ real 1 m → e ≡ Modify va → (m1 ≡ m) × IsUnwritten va m.memory s g × Reaches (Modify va) m.memory s g
-  unwritten m1 e va is modify = subst Met (sym is) (met_by (one m) refl) va modify
+  unwritten m1 e va is modify = subst Met (sym is) (met_by (machine_step m) refl) va modify
 
 -- A page that is made writable, or closed, changes the real tables alone.
 pub only_both : (s : Shadowed) (m m2 : Machine) → OnlyTables s.at m m2 → OnlyBoth s m.memory m2.memory
@@ -138,7 +138,7 @@ frame_modify x = by (is_modified x) refl
     by true e = refl
     by false e = more x
 
-module _ (va : ℕ) (m m2 : Machine) (s s2 : Shadowed) (g : GuestState) (frame : Option ℕ) (f : Fits m.memory s) (v : Serves g s) (a : Allows va m s frame m2 s2) where
+module _ (va : ℕ) (m m2 : Machine) (s s2 : Shadowed) (g : GuestState) (frame : Option ℕ) (f : Fits m.memory s) (v : Serves g s) (a : GrantsOrOpens va m s frame m2 s2) where
   abbrev entry_here : ℕ
   entry_here = own_number s (page_of va)
 
@@ -186,7 +186,7 @@ module _ (va : ℕ) (m m2 : Machine) (s s2 : Shadowed) (g : GuestState) (frame :
       record {
         keeps = a.keeps opened k.keeps;
         serves = serves_again;
-        loads = subst (λ x. Loads x s2 g) (sym w) (record { r = l.r; psl = l.psl; current = l.current; previous = l.previous; tables = l.tables ∙ (λ i. Rattle.vm_shadow.specs.Layout.real_tables (sym at_same i) (sym slot_same i)) });
+        loads = subst (λ x. HasGuestLoaded x s2 g) (sym w) (record { r = l.r; psl = l.psl; current = l.current; previous = l.previous; tables = l.tables ∙ (λ i. Rattle.vm_shadow.specs.Layout.real_tables (sym at_same i) (sym slot_same i)) });
       }
 
 -- An instruction is tried after that: its outcome is the one from before.

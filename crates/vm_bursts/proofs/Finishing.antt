@@ -8,12 +8,12 @@ use Rattle.vax_hw.specs.declared.world.World.{World}
 use Rattle.vm_bursts.specs.Guarded.{IsCompleted, IsGuarded, IsTried, IsUnfinished, RunsOne, StaysGuarded, StepsGuarded, with_trap_of}
 use Rattle.vm_bursts.specs.declared.bursts.Ended.{Ended}
 use Rattle.vm_bursts.proofs.Running.{loaded, loads_world, rise_is, zero_bits}
-use Rattle.vm_shadow.specs.Stands.{Shadowed}
+use Rattle.vm_shadow.specs.Shadowed.{Shadowed}
 use Rattle.vm_shadow.specs.StandsFor.{Serves, StandsFor, world_of}
 use Rattle.vm_shadow.specs.declared.source.Source.{Source}
-use Rattle.vm_simulation.specs.Bursts.{plainly}
-use Rattle.vm_simulation.specs.Laws.{Leaves, frames_claimed}
-use Rattle.vm_simulation.specs.Loaded.{RunsGuest, as_run, guest_try}
+use Rattle.vm_simulation_laws.specs.Bursts.{with_plain_steps}
+use Rattle.vm_simulation_laws.specs.Laws.{Leaves, frames_claimed}
+use Rattle.vm_simulation_laws.specs.Loaded.{RunsGuest, as_run, guest_try}
 use Rattle.vm_state.specs.Allowed.{AreAllowed}
 use Rattle.vm_state.specs.Initiate.{Initiation, KernelStackBad, Stops, Taken, initiate}
 use Rattle.vm_state.specs.Partition.{guest_of}
@@ -23,7 +23,7 @@ use Rattle.vm_state.specs.Step as steps
 use Rattle.vm_state.specs.Step.{Stepped, by_try, executed, initiated_in, trapped_in}
 use Rattle.vm_state.specs.declared.exception.Exc.TheVariants as excs
 use Rattle.vm_state.specs.declared.guest_state.GuestState.{GuestState}
-use Rattle.vm_touches.specs.Touched.{touches_now}
+use Rattle.vm_touch_laws.specs.Touched.{touches_now}
 
 -- the run after one plain step
 executed_as : (h : Guest) (run : Run) (x : Stepped) → run.guest ≡ h → by_try h (guest_try h) ≡ x → after_step run (executed run.guest) ≡ after_step run x
@@ -35,12 +35,12 @@ executed_is : (h : Guest) (x : Stepped) → by_try h (guest_try h) ≡ x → exe
 unfolding executed
 executed_is h x e = ap (λ (y : Stepped). record y { touched = touches_now h }) e
 
-trap_by : (run : Run) (h : Guest) (term kind : ℕ) (i : Initiation) → i ≡ initiate h (excs.Arithmetic kind) → after_step run (initiated_in (steps.Plain term) h i) ≡ record (plainly run h 1 term) { guest = (initiated_in steps.Idle h i).guest; shown = run.shown ++ (initiated_in steps.Idle h i).shown }
+trap_by : (run : Run) (h : Guest) (term kind : ℕ) (i : Initiation) → i ≡ initiate h (excs.Arithmetic kind) → after_step run (initiated_in (steps.Plain term) h i) ≡ record (with_plain_steps run h 1 term) { guest = (initiated_in steps.Idle h i).guest; shown = run.shown ++ (initiated_in steps.Idle h i).shown }
 trap_by run h term kind (Taken x w) e = refl
 trap_by run h term kind (KernelStackBad x w) e = refl
 trap_by run h term kind (Stops stop) e = refl
 
-behind : (run : Run) (h : Guest) (term : ℕ) (written : List ℕ) (trap : Option ℕ) → after_step run (trapped_in (steps.Plain term) written h trap) ≡ with_trap_of trap (plainly run h 1 term)
+behind : (run : Run) (h : Guest) (term : ℕ) (written : List ℕ) (trap : Option ℕ) → after_step run (trapped_in (steps.Plain term) written h trap) ≡ with_trap_of trap (with_plain_steps run h 1 term)
 behind run h term written None = λ i. record { guest = h; shown = append-nil run.shown i; tally = record run.tally { plain = run.tally.plain + 1; trail = (run.tally.trail + term) % 2 ^ 64 } }
 behind run h term written (Some kind) = trap_by run h term kind (initiate h (excs.Arithmetic kind)) refl
 

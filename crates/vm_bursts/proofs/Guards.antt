@@ -3,11 +3,11 @@ use Rattle.std.proofs.Common.{◌≡◌, ℕ, ◌*◌, ◌/◌, Bool, true, fals
 use Rattle.vax_arch.specs.Walk.{page_of}
 use Rattle.vax_arch.specs.declared.mode.Intent.TheVariants.{Write}
 use Rattle.vax_hw.specs.Machine.{Machine}
-use Rattle.vm_bursts.specs.Guarded.{Allows, CanAllow, CanClose, ClosesBehind, ClosesOne}
+use Rattle.vm_bursts.specs.Guarded.{CanAllow, CanClose, ClosesAfter, ClosesOne, GrantsOrOpens}
 use Rattle.vm_shadow.specs.Calls.{OnlyTables}
-use Rattle.vm_shadow.specs.Stands.{Fits, Shadowed}
-use Rattle.vm_shadow.specs.StandsFor.{ClosesPage, IsGranted, Notes, OpensPage, own_number}
-use Rattle.vm_simulation.specs.Laws.{place_here}
+use Rattle.vm_shadow.specs.Shadowed.{Fits, Shadowed}
+use Rattle.vm_shadow.specs.StandsFor.{ClosesPage, GrantsOrLeaves, Notes, OpensPage, own_number}
+use Rattle.vm_simulation_laws.specs.Laws.{place_here}
 use Rattle.vm_state.specs.Partition.{IsApart}
 use Rattle.vm_state.specs.declared.guest_state.GuestState.{GuestState}
 
@@ -22,15 +22,15 @@ module _ (va : ℕ) (m : Machine) (s : Shadowed) (g : GuestState) (can : CanAllo
   abbrev pub entry_of : ℕ
   entry_of = own_number s (page_of va)
 
-  pub is_granted : (b : Bool) (m' : Machine) (s' : Shadowed) → b ≡ true → IsGranted b entry_of m s m' s' → Allows va m s None m' s'
+  pub is_granted : (b : Bool) (m' : Machine) (s' : Shadowed) → b ≡ true → GrantsOrLeaves b entry_of m s m' s' → GrantsOrOpens va m s None m' s'
   is_granted true m' s' e k = record { keeps = k.keeps; told = tt; entry = k.entry; others = k.others; rest = k.rest; only = k.only }
   is_granted false m' s' e k = cc
 
-  pub not_granted : (b : Bool) (m' : Machine) (s' : Shadowed) → b ≡ false → IsGranted b entry_of m s m' s' → (m' ≡ m) × (s' ≡ s)
+  pub not_granted : (b : Bool) (m' : Machine) (s' : Shadowed) → b ≡ false → GrantsOrLeaves b entry_of m s m' s' → (m' ≡ m) × (s' ≡ s)
   not_granted true m' s' e k = cc
   not_granted false m' s' e k = k
 
-  pub is_opened : (b : Bool) (m1 m' : Machine) (s1 s' : Shadowed) (frame : ℕ) → b ≡ false → IsGranted b entry_of m s m1 s1 → ((pa : ℕ) → place_here m1.memory g Write va ≡ Ok pa → frame ≡ pa / 512) → OpensPage (own_number s1 (page_of va)) m1 s1 m' s' → Allows va m s (Some frame) m' s'
+  pub is_opened : (b : Bool) (m1 m' : Machine) (s1 s' : Shadowed) (frame : ℕ) → b ≡ false → GrantsOrLeaves b entry_of m s m1 s1 → ((pa : ℕ) → place_here m1.memory g Write va ≡ Ok pa → frame ≡ pa / 512) → OpensPage (own_number s1 (page_of va)) m1 s1 m' s' → GrantsOrOpens va m s (Some frame) m' s'
   is_opened b m1 m' s1 s' frame e granted at opens =
       let same = not_granted b m1 s1 e granted in
       let k : OpensPage entry_of m s m' s' = (subst (λ x. OpensPage (own_number x (page_of va)) m x m' s') same.1 (subst (λ x. OpensPage (own_number s1 (page_of va)) x s1 m' s') same.0 opens)) in
@@ -52,16 +52,16 @@ pub closes_plain : (n frame : ℕ) (m m2 : Machine) (s : Shadowed) → ClosesPag
 closes_plain n frame m m2 s c = record { keeps = c.keeps; drops = refl; only = c.only }
 
 module _ (va : ℕ) (frame : Option ℕ) (f : ℕ) (retired : Bool) (m : Machine) (s : Shadowed) (is : frame ≡ Some f) where
-  closes_as : (r : Bool) (m' : Machine) (s' : Shadowed) → retired ≡ r → ClosesOne (own_number s (page_of va)) f r m s m' s' → ClosesBehind (own_number s (page_of va)) frame retired m s m' s'
-  closes_as r m' s' e k = subst (λ (x : Option ℕ). ClosesBehind (own_number s (page_of va)) x retired m s m' s') (sym is) (subst (λ x. ClosesOne (own_number s (page_of va)) f x m s m' s') (sym e) k)
+  closes_as : (r : Bool) (m' : Machine) (s' : Shadowed) → retired ≡ r → ClosesOne (own_number s (page_of va)) f r m s m' s' → ClosesAfter (own_number s (page_of va)) frame retired m s m' s'
+  closes_as r m' s' e k = subst (λ (x : Option ℕ). ClosesAfter (own_number s (page_of va)) x retired m s m' s') (sym is) (subst (λ x. ClosesOne (own_number s (page_of va)) f x m s m' s') (sym e) k)
 
-  pub unretired : (m' : Machine) → retired ≡ false → ClosesPage (own_number s (page_of va)) m s m' → ClosesBehind (own_number s (page_of va)) frame retired m s m' s
+  pub unretired : (m' : Machine) → retired ≡ false → ClosesPage (own_number s (page_of va)) m s m' → ClosesAfter (own_number s (page_of va)) frame retired m s m' s
   unretired m' e c = closes_as false m' s e (closes_plain (own_number s (page_of va)) f m m' s c)
 
   pub noted_fits : (m1 : Machine) (s1 : Shadowed) → retired ≡ true → CanClose frame retired m s → Notes f m s m1 s1 → Fits m1.memory s1
   noted_fits m1 s1 e can k = fits_noted f m m1 s s1 (subst (λ (x : Option ℕ). CanClose x true m s) is (subst (λ x. CanClose frame x m s) e can)) k
 
-  pub retired_too : (m1 m' : Machine) (s1 : Shadowed) → retired ≡ true → Notes f m s m1 s1 → ClosesPage (own_number s1 (page_of va)) m1 s1 m' → ClosesBehind (own_number s (page_of va)) frame retired m s m' s1
+  pub retired_too : (m1 m' : Machine) (s1 : Shadowed) → retired ≡ true → Notes f m s m1 s1 → ClosesPage (own_number s1 (page_of va)) m1 s1 m' → ClosesAfter (own_number s (page_of va)) frame retired m s m' s1
   retired_too m1 m' s1 e k c =
       let slot : s1.slot ≡ s.slot = ap (λ (x : Shadowed). x.slot) k.drops.rest in
       let at : s1.at ≡ s.at = ap (λ (x : Shadowed). x.at) k.drops.rest in

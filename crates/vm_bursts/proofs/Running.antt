@@ -7,31 +7,31 @@ use Rattle.vax_arch.specs.Ring.{ring_of}
 use Rattle.vax_arch.specs.declared.mode.Mode.{Mode}
 use Rattle.vax_arch.specs.declared.mode.Mode.TheVariants.{Executive, Kernel, Supervisor, User}
 use Rattle.vax_hw.specs.Machine.{Machine}
-use Rattle.vax_hw.specs.Real.{Retired, going_on, misses_after, one, real, unless_trapped}
+use Rattle.vax_hw.specs.Real.{Retired, going_on, machine_step, misses_after, real, unless_trapped}
 use Rattle.vax_hw.specs.declared.world.Exit.{Exit}
 use Rattle.vax_hw.specs.declared.world.Exit.TheVariants.{Arithmetic, Budget, Denied, Emulate, Modify, NotValid, Refused}
 use Rattle.vax_hw.specs.declared.world.World.{World}
 use Rattle.vm_bursts.specs.Ran.{IsAlone, IsRun, RunsMachine, rise}
 use Rattle.vm_bursts.specs.declared.bursts.Ended.{Ended}
-use Rattle.vm_fitting.specs.Paid.{Owes, touching_counted}
-use Rattle.vm_fitting.specs.Runs.{EndsAt, IsPaidRun, Reaches}
-use Rattle.vm_fitting.proofs.Running.{runs_paid}
-use Rattle.vm_shadow.specs.Stands.{Shadowed}
+use Rattle.vm_miss_laws.specs.Paid.{Owes, touching_counted}
+use Rattle.vm_miss_laws.specs.Runs.{EndsAt, IsPaidRun, Reaches}
+use Rattle.vm_miss_laws.proofs.Running.{runs_paid}
+use Rattle.vm_shadow.specs.Shadowed.{Shadowed}
 use Rattle.vm_shadow.specs.StandsFor.{StandsFor, real_psl, world_of}
 use Rattle.vm_clock.specs.Ticks.{after_ticks}
-use Rattle.vm_simulation.specs.Bursts.{Ends, IsBurst, IsQuiet, counted_by, goes_on, with_count}
-use Rattle.vm_simulation.specs.Laws.{Leaves, Meets}
-use Rattle.vm_simulation.specs.Loaded.{Loads, RunsGuest, as_run}
-use Rattle.vm_simulation.proofs.Bursting.{ends_more, runs_go}
-use Rattle.vm_simulation.proofs.Meeting.{exits_meet}
-use Rattle.vm_simulation.proofs.Retiring.{retires}
+use Rattle.vm_simulation_laws.specs.Bursts.{EndsBurst, IsBurst, IsQuiet, counted_by, goes_on, with_count}
+use Rattle.vm_simulation_laws.specs.Laws.{Leaves, Meets}
+use Rattle.vm_simulation_laws.specs.Loaded.{HasGuestLoaded, RunsGuest, as_run}
+use Rattle.vm_simulation_laws.proofs.Bursting.{ends_more, runs_go}
+use Rattle.vm_simulation_laws.proofs.Meeting.{exits_meet}
+use Rattle.vm_simulation_laws.proofs.Retiring.{retires}
 use Rattle.vm_state.proofs.Initiations.{mode_small}
 use Rattle.vm_state.specs.Allowed.{AreAllowed}
 use Rattle.vm_state.specs.Partition.{guest_of}
 use Rattle.vm_state.specs.State.{state_of}
 use Rattle.vm_state.specs.Touches.{Touching}
 use Rattle.vm_state.specs.declared.guest_state.GuestState.{GuestState}
-use Rattle.vm_touches.specs.Touched.{touches_now}
+use Rattle.vm_touch_laws.specs.Touched.{touches_now}
 
 mode_again : (m : Mode) → mode_of (mode_number m) ≡ m
 mode_again Kernel = refl
@@ -54,7 +54,7 @@ low_field c p l = omega arith
 whole_psl : (v l : ℕ) → l % 256 ≡ v % 256 → v / 256 * 256 + l % 256 ≡ v
 whole_psl v l e = omega (arith, e)
 
-pub loads_world : (s : Shadowed) (g : GuestState) → Loads (world_of s g) s g
+pub loads_world : (s : Shadowed) (g : GuestState) → HasGuestLoaded (world_of s g) s g
 loads_world s g =
     let c = mode_number (ring_of (current_of g.psl.0)) in
     let p = mode_number (ring_of (previous_of g.psl.0)) in
@@ -133,7 +133,7 @@ module _ (n : ℕ) (m : Machine) (s : Shadowed) (g : GuestState) (w : World) (x 
   terms_are = r.terms ∙ rise_is m.trail m'.trail the_burst.terms r.trail the_burst.trail
 
   -- fewer steps are counted besides the first than there were
-  counted_few : (e : Exit) (done left : ℕ) (memory : List ℕ) (h : GuestState) → Ends e done left memory s h → done + left ≡ n → counted_by e done < n
+  counted_few : (e : Exit) (done left : ℕ) (memory : List ℕ) (h : GuestState) → EndsBurst e done left memory s h → done + left ≡ n → counted_by e done < n
   counted_few Budget done left memory h ends b = omega (arith, ends.1)
   counted_few (Arithmetic kind) done left memory h ends b = omega (arith, ends)
   counted_few (NotValid va write) done left memory h ends b = omega (arith, ends.0)
@@ -175,20 +175,20 @@ module _ (n : ℕ) (m : Machine) (s : Shadowed) (g : GuestState) (w : World) (x 
   alone_exit (Emulate t) k = as_before
   alone_exit (Refused refusal) k = as_before
 
-  alone_by : (y : Result Retired Exit) → one first ≡ y → AloneAt (going_on (real 0) first y)
+  alone_by : (y : Result Retired Exit) → machine_step first ≡ y → AloneAt (going_on (real 0) first y)
   alone_by (Ok y) e = alone_trap y y.trap (retires [] first s g y (loaded m s g k) e).leaves
   alone_by (Err y) e = alone_exit y (exits_meet [] first s g y (loaded m s g k) e)
 
   alone_ran : n ≡ 1 → IsAlone x.exit (guest_of m.memory g) (guest_of m'.memory (as_run m'.world g))
   alone_ran single =
       let same : (m', x.exit) ≡ real n first = r.ran ∙ ap (λ v. real n (record m { world = v })) is in
-      subst AloneAt (sym (same ∙ ap (λ j. real j first) single)) (alone_by (one first) refl)
+      subst AloneAt (sym (same ∙ ap (λ j. real j first) single)) (alone_by (machine_step first) refl)
 
   pub is_run : (done : ℕ) (g1 g2 : GuestState) (v : World) → done ≡ x.done → v ≡ m'.world → g1 ≡ as_run v g → g2 ≡ with_count (counted_by x.exit done) g1 → IsRun n m s g (record { done = done; terms = x.terms; exit = x.exit }) m' g2
-  is_run done g1 g2 v d vm one two =
+  is_run done g1 g2 v d vm machine_step two =
       let b = the_burst in
       let same : done ≡ b.done = d ∙ done_is in
-      let g1_is : g1 ≡ as_run m'.world g = one ∙ ap (λ y. as_run y g) vm in
+      let g1_is : g1 ≡ as_run m'.world g = machine_step ∙ ap (λ y. as_run y g) vm in
       let is : g2 ≡ with_count (counted_by x.exit done) (as_run m'.world g) = two ∙ ap (with_count (counted_by x.exit done)) g1_is in
       let there : g2 ≡ with_count (counted_by x.exit b.done) (as_run m'.world g) = is ∙ ap (λ c. with_count (counted_by x.exit c) (as_run m'.world g)) same in
       record {
@@ -212,7 +212,7 @@ module _ (n : ℕ) (m : Machine) (s : Shadowed) (g : GuestState) (w : World) (x 
         });
         high = ap (λ (h : GuestState). h.psl.0 / 2 ^ 8) there ∙ b.high;
         only = b.only;
-        ends = subst (λ z. Ends x.exit z b.left m'.memory s g2) (sym same) (subst (Ends x.exit b.done b.left m'.memory s) (sym there) (ends_more x.exit b.done b.left m'.memory s (as_run m'.world g) (after_ticks (counted_by x.exit b.done) g.clock) ((g.steps + counted_by x.exit b.done) % 2 ^ 32) b.ends));
+        ends = subst (λ z. EndsBurst x.exit z b.left m'.memory s g2) (sym same) (subst (EndsBurst x.exit b.done b.left m'.memory s) (sym there) (ends_more x.exit b.done b.left m'.memory s (as_run m'.world g) (after_ticks (counted_by x.exit b.done) g.clock) ((g.steps + counted_by x.exit b.done) % 2 ^ 32) b.ends));
         retired = b.retired ∙ ap (λ z. (m.retired + z) % 2 ^ 64) (sym same);
         trail = b.trail ∙ same_trail m.trail x.terms b.terms terms_are;
         misses = b.misses;

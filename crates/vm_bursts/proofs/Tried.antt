@@ -10,21 +10,21 @@ use Rattle.vax_hw.specs.Real.{real}
 use Rattle.vax_hw.specs.declared.world.Exit.{Exit}
 use Rattle.vax_hw.specs.declared.world.Exit.TheVariants.{Arithmetic, Budget, Denied, Emulate, Modify, NotValid, Refused}
 use Rattle.vax_table.specs.Claims.{claims}
-use Rattle.vax_table.specs.Script.{IsIn}
-use Rattle.vm_bursts.specs.Guarded.{Allows, CanAllow, CanClose, ClosesBehind, IsTried, IsUnfinished, RunsSome, clear_bits, count_below, is_retired, opened_by}
+use Rattle.vax_table.specs.Interaction.{IsIn}
+use Rattle.vm_bursts.specs.Guarded.{CanAllow, CanClose, ClosesAfter, GrantsOrOpens, IsTried, IsUnfinished, RunsSome, clear_bits, count_below, is_retired, opened_by}
 use Rattle.vm_bursts.proofs.Closed.{completed_closed, mapped_in, unfinished_closed}
 use Rattle.vm_bursts.proofs.Completing.{alike, guest_same, maps_same, own_same, runs_again, serves_again, slot_same, split, stops, tried_from, unwritten}
-use Rattle.vm_fitting.specs.Runs.{Reaches}
+use Rattle.vm_miss_laws.specs.Runs.{Reaches}
 use Rattle.vm_shadow.specs.Layout.{IsCovered, all_entries, entry_number}
-use Rattle.vm_shadow.specs.Stands.{Keeps, Shadowed, mapped_frame, real_at}
+use Rattle.vm_shadow.specs.Shadowed.{Keeps, Shadowed, mapped_frame, real_at}
 use Rattle.vm_shadow.specs.StandsFor.{Serves, own_number}
 use Rattle.vm_shadow.proofs.Hearing.{number_is_small}
-use Rattle.vm_simulation.proofs.Retiring.{place_found}
-use Rattle.vm_simulation.specs.Laws.{IsUnwritten, frames_claimed}
-use Rattle.vm_simulation.specs.Loaded.{RunsGuest, frames_opened}
+use Rattle.vm_simulation_laws.proofs.Retiring.{place_found}
+use Rattle.vm_simulation_laws.specs.Laws.{IsUnwritten, frames_claimed}
+use Rattle.vm_simulation_laws.specs.Loaded.{RunsGuest, frames_opened}
 use Rattle.vm_state.specs.Partition.{guest_of, partition_of}
 use Rattle.vm_state.specs.Step.{instruction_of}
-use Rattle.vm_state.specs.Translation.{frame_at, is_clear, place_of, space_of, walk_of}
+use Rattle.vm_state.specs.Translation.{frame_at, guest_write_place, is_clear, space_of, walk_of}
 use Rattle.vm_state.specs.declared.guest_state.GuestState.{GuestState}
 
 set_now : (x : ℕ) → is_modified x ≡ false → is_modified (with_modify x) ≡ true
@@ -59,10 +59,10 @@ module _ (opened : List ℕ) (m : Machine) (s : Shadowed) (g : GuestState) (va :
   claimed_frame : IsIn (u.home / 512) (frames_claimed (guest_of m.memory g))
   claimed_frame =
       let whole = guest_of m.memory g in
-      let home : place_of whole va ≡ u.home = place_found (partition_of m.memory g) (walk_of whole va (Rattle.vax_arch.specs.Fields.current_of g.psl.0) Write) u.home u.place in
-      subst (λ x. IsIn (x / 512) (frames_claimed whole)) home (mapped_in (λ a. frame_at (place_of whole a)) va (claims (space_of whole) (instruction_of whole.state)) u.claimed)
+      let home : guest_write_place whole va ≡ u.home = place_found (partition_of m.memory g) (walk_of whole va (Rattle.vax_arch.specs.Fields.current_of g.psl.0) Write) u.home u.place in
+      subst (λ x. IsIn (x / 512) (frames_claimed whole)) home (mapped_in (λ a. frame_at (guest_write_place whole a)) va (claims (space_of whole) (instruction_of whole.state)) u.claimed)
 
-  module _ (m2 : Machine) (s2 : Shadowed) (frame : Option ℕ) (a : Allows va m s frame m2 s2) where
+  module _ (m2 : Machine) (s2 : Shadowed) (frame : Option ℕ) (a : GrantsOrOpens va m s frame m2 s2) where
     abbrev n : ℕ
     n = own_number s (page_of va)
 
@@ -138,7 +138,7 @@ module _ (opened : List ℕ) (m : Machine) (s : Shadowed) (g : GuestState) (va :
         serves2 : Serves g s2
         serves2 = serves_again va m m2 s s2 g frame k.keeps.fits k.serves a
 
-        closed_by : (x : Option ℕ) → frame ≡ x → (r : Exit) → IsTried r (opened_by x n opened) m2 s2 g m3 s3 → ClosesBehind n x (is_retired r) m3 s3 m4 s4 → IsTried r opened m2 s2 g m4 s4
+        closed_by : (x : Option ℕ) → frame ≡ x → (r : Exit) → IsTried r (opened_by x n opened) m2 s2 g m3 s3 → ClosesAfter n x (is_retired r) m3 s3 m4 s4 → IsTried r opened m2 s2 g m4 s4
         closed_by None is r x c = subst (λ y. IsTried r opened m2 s2 g y s4) (sym c.0) (subst (IsTried r opened m2 s2 g m3) (sym c.1) x)
         closed_by (Some f) is Budget x c = completed_closed n f opened m2 m3 m4 s2 s3 s4 g serves2 None (told_now f is) (claimed_now f is) x c
         closed_by (Some f) is (Arithmetic kind) x c = completed_closed n f opened m2 m3 m4 s2 s3 s4 g serves2 (Some kind) (told_now f is) (claimed_now f is) x c
@@ -148,8 +148,8 @@ module _ (opened : List ℕ) (m : Machine) (s : Shadowed) (g : GuestState) (va :
         closed_by (Some f) is (Emulate t) x c = unfinished_closed n f opened m2 m3 m4 s2 s3 s4 g serves2 (Emulate t) x c
         closed_by (Some f) is (Refused r) x c = unfinished_closed n f opened m2 m3 m4 s2 s3 s4 g serves2 (Refused r) x c
 
-        pub tried_again : ClosesBehind (own_number s3 (page_of va)) frame (is_retired e) m3 s3 m4 s4 → IsTried e opened m s g m4 s4
-        tried_again c = tried_from m s g m2 s2 (alike va m m2 s s2 g frame k.keeps.fits k.serves a) m4 s4 opened e (closed_by frame refl e again (subst (λ x. ClosesBehind x frame (is_retired e) m3 s3 m4 s4) number_now c))
+        pub tried_again : ClosesAfter (own_number s3 (page_of va)) frame (is_retired e) m3 s3 m4 s4 → IsTried e opened m s g m4 s4
+        tried_again c = tried_from m s g m2 s2 (alike va m m2 s s2 g frame k.keeps.fits k.serves a) m4 s4 opened e (closed_by frame refl e again (subst (λ x. ClosesAfter x frame (is_retired e) m3 s3 m4 s4) number_now c))
 
 -- The same after the machine's first try, which leaves it as it was.
 module _ (opened : List ℕ) (m : Machine) (s : Shadowed) (g : GuestState) (k : RunsGuest opened m s g) (m1 : Machine) (first : Exit) (va : ℕ) (ran : (m1, first) ≡ real 1 m) (is : first ≡ Modify va) where
@@ -173,9 +173,9 @@ module _ (opened : List ℕ) (m : Machine) (s : Shadowed) (g : GuestState) (k : 
   pub covers : IsCovered (page_of va)
   covers = met.covered
 
-  module _ (m2 : Machine) (s2 : Shadowed) (frame : Option ℕ) (a : Allows va m1 s frame m2 s2) where
-    allowed : Allows va m s frame m2 s2
-    allowed = subst (λ x. Allows va x s frame m2 s2) here a
+  module _ (m2 : Machine) (s2 : Shadowed) (frame : Option ℕ) (a : GrantsOrOpens va m1 s frame m2 s2) where
+    allowed : GrantsOrOpens va m s frame m2 s2
+    allowed = subst (λ x. GrantsOrOpens va x s frame m2 s2) here a
 
     pub then_runs : RunsSome m2 s2 g
     then_runs = runs_some opened m s g va k met m2 s2 frame allowed
@@ -187,5 +187,5 @@ module _ (opened : List ℕ) (m : Machine) (s : Shadowed) (g : GuestState) (k : 
       pub then_close : CanClose frame (is_retired e) m3 s3
       then_close = can_close opened m s g va k met m2 s2 frame allowed m3 s3 e ih
 
-      pub then_tried : (m4 : Machine) (s4 : Shadowed) → ClosesBehind (own_number s3 (page_of va)) frame (is_retired e) m3 s3 m4 s4 → IsTried e opened m s g m4 s4
+      pub then_tried : (m4 : Machine) (s4 : Shadowed) → ClosesAfter (own_number s3 (page_of va)) frame (is_retired e) m3 s3 m4 s4 → IsTried e opened m s g m4 s4
       then_tried m4 s4 c = tried_again opened m s g va k met m2 s2 frame allowed m3 s3 e ih m4 s4 c

@@ -10,21 +10,21 @@ use Rattle.vm_bursts.specs.Ran.{rise}
 use Rattle.vm_bursts.specs.declared.bursts.Ended.{Ended}
 use Rattle.vax_hw.specs.declared.world.Exit.TheVariants.{Arithmetic, Budget, Denied, Emulate, Modify, NotValid, Refused}
 use Rattle.vax_table.specs.Tries.{Clear}
-use Rattle.vm_fitting.specs.Runs.{Reaches}
+use Rattle.vm_miss_laws.specs.Runs.{Reaches}
 use Rattle.vm_shadow.specs.Layout.{all_entries}
 use Rattle.vm_shadow.specs.Calls.{OnlyTables}
-use Rattle.vm_shadow.specs.Stands.{Fits, Keeps, Shadowed, is_pending, mapped_frame, read_at, real_at}
+use Rattle.vm_shadow.specs.Shadowed.{Fits, Keeps, Shadowed, is_pending, mapped_frame, read_at, real_at}
 use Rattle.vm_shadow.specs.StandsFor.{DropsFrom, StandsFor, closed_for, own_number}
-use Rattle.vm_simulation.specs.Bursts.{after_counted, plainly, with_trap}
+use Rattle.vm_simulation_laws.specs.Bursts.{after_counted, with_plain_steps, with_trap}
 use Rattle.vm_state.specs.Run.{Run}
-use Rattle.vm_simulation.specs.Laws.{IsUnwritten, Leaves, Meets, frames_claimed}
-use Rattle.vm_simulation.specs.Loaded.{Loads, RunsGuest, as_run, frames_opened, guest_try}
+use Rattle.vm_simulation_laws.specs.Laws.{IsUnwritten, Leaves, Meets, frames_claimed}
+use Rattle.vm_simulation_laws.specs.Loaded.{HasGuestLoaded, RunsGuest, as_run, frames_opened, guest_try}
 use Rattle.vm_state.specs.Partition.{guest_of, partition_of}
 use Rattle.vm_state.specs.Step as steps
 use Rattle.vm_state.specs.Step.{by_try, executed, trapped_in}
 use Rattle.vm_state.specs.Translation.{is_clear}
 use Rattle.vm_state.specs.declared.guest_state.GuestState.{GuestState}
-use Rattle.vm_touches.specs.Touched.{AreFilled, touches_now}
+use Rattle.vm_touch_laws.specs.Touched.{AreFilled, touches_now}
 
 -- of the machine's memory the guest's own and its real tables alone change
 pub record OnlyBoth (s : Shadowed) (before after : List ℕ) : Type 0 where
@@ -37,14 +37,14 @@ pub record RunsSome (m : Machine) (s : Shadowed) (g : GuestState) : Type 0 where
   pub runs : RunsGuest opened m s g
 
 -- what an exit says: of a clear modify bit, that the guest's instruction meets it
-abbrev pub Tells : Exit → List ℕ → Shadowed → GuestState → Type 0
-Tells (Modify va) memory s g = (va < 2 ^ 32) × (guest_try (guest_of memory g) ≡ Clear va)
-Tells Budget memory s g = ⊥
-Tells (Arithmetic kind) memory s g = ⊥
-Tells (NotValid va write) memory s g = Meets (NotValid va write) memory s g
-Tells (Denied va write) memory s g = Meets (Denied va write) memory s g
-Tells (Emulate t) memory s g = Meets (Emulate t) memory s g
-Tells (Refused r) memory s g = Meets (Refused r) memory s g
+abbrev pub ExitIsMet : Exit → List ℕ → Shadowed → GuestState → Type 0
+ExitIsMet (Modify va) memory s g = (va < 2 ^ 32) × (guest_try (guest_of memory g) ≡ Clear va)
+ExitIsMet Budget memory s g = ⊥
+ExitIsMet (Arithmetic kind) memory s g = ⊥
+ExitIsMet (NotValid va write) memory s g = Meets (NotValid va write) memory s g
+ExitIsMet (Denied va write) memory s g = Meets (Denied va write) memory s g
+ExitIsMet (Emulate t) memory s g = Meets (Emulate t) memory s g
+ExitIsMet (Refused r) memory s g = Meets (Refused r) memory s g
 
 -- The instruction retired, and is plain. What was read from a frame that it wrote may be dropped; the pages that it touched
 -- are filled.
@@ -53,7 +53,7 @@ pub record IsCompleted (opened : List ℕ) (m : Machine) (s : Shadowed) (g : Gue
   pub plain : by_try (guest_of m.memory g) (guest_try (guest_of m.memory g)) ≡ trapped_in (steps.Plain term) (frames_claimed (guest_of m.memory g)) (guest_of m'.memory (as_run m'.world g)) trap
   pub leaves : Leaves (guest_of m.memory g) (guest_of m'.memory (as_run m'.world g)) trap
   pub keeps : Keeps (frames_opened m.memory s opened) opened m'.memory s'
-  pub loads : Loads m'.world s' (as_run m'.world g)
+  pub loads : HasGuestLoaded m'.world s' (as_run m'.world g)
   pub high : (as_run m'.world g).psl.0 / 2 ^ 8 ≡ g.psl.0 / 2 ^ 8
   pub each : (n : ℕ) → (read_at s' n ≡ read_at s n) ⊎ ((read_at s' n ≡ None) × (is_pending (frames_claimed (guest_of m.memory g)) (read_at s n) ≡ true))
   pub rest : s' ≡ record s { reads = s'.reads; consulted = s'.consulted; writable = s'.writable }
@@ -70,7 +70,7 @@ pub record IsUnfinished (opened : List ℕ) (m : Machine) (s : Shadowed) (g : Gu
   pub machine : m' ≡ record m { memory = m'.memory; misses = misses_after m.misses e }
   pub rest : s' ≡ record s { writable = s'.writable }
   pub only : OnlyBoth s m.memory m'.memory
-  pub tells : Tells e m'.memory s' g
+  pub tells : ExitIsMet e m'.memory s' g
   pub reaches : Reaches e m'.memory s' g
 
 abbrev pub IsTried : Exit → List ℕ → Machine → Shadowed → GuestState → Machine → Shadowed → Type 0
@@ -100,7 +100,7 @@ opened_by None n opened = opened
 opened_by (Some frame) n opened = n ∷ opened
 
 -- It is granted, or opened, and then its frame is told; nothing else changes.
-pub record Allows (va : ℕ) (m : Machine) (s : Shadowed) (frame : Option ℕ) (m' : Machine) (s' : Shadowed) : Type 0 where
+pub record GrantsOrOpens (va : ℕ) (m : Machine) (s : Shadowed) (frame : Option ℕ) (m' : Machine) (s' : Shadowed) : Type 0 where
   pub keeps : (opened : List ℕ) → Keeps [] opened m.memory s → Keeps [] (opened_by frame (own_number s (page_of va)) opened) m'.memory s'
   pub told : IfSome frame (λ f. f ≡ mapped_frame s (real_at m.memory s (own_number s (page_of va))))
   pub entry : real_at m'.memory s (own_number s (page_of va)) ≡ with_modify (real_at m.memory s (own_number s (page_of va)))
@@ -131,9 +131,9 @@ pub record ClosesOne (n frame : ℕ) (retired : Bool) (m : Machine) (s : Shadowe
   pub drops : drops_by retired frame s s'
   pub only : OnlyTables s.at m m'
 
-abbrev pub ClosesBehind : (n : ℕ) → Option ℕ → Bool → Machine → Shadowed → Machine → Shadowed → Type 0
-ClosesBehind n None retired m s m' s' = (m' ≡ m) × (s' ≡ s)
-ClosesBehind n (Some frame) retired m s m' s' = ClosesOne n frame retired m s m' s'
+abbrev pub ClosesAfter : (n : ℕ) → Option ℕ → Bool → Machine → Shadowed → Machine → Shadowed → Type 0
+ClosesAfter n None retired m s m' s' = (m' ≡ m) × (s' ≡ s)
+ClosesAfter n (Some frame) retired m s m' s' = ClosesOne n frame retired m s m' s'
 
 -- how many real entries have a clear modify bit
 abbrev pub count_below : (ℕ → Bool) → ℕ → ℕ
@@ -152,7 +152,7 @@ pub record StepsGuarded (m : Machine) (s : Shadowed) (g : GuestState) (terms : �
   pub term : ℕ
   pub step : executed (guest_of m.memory g) ≡ record (trapped_in (steps.Plain term) (frames_claimed (guest_of m.memory g)) (guest_of m'.memory g') trap) { touched = touches_now (guest_of m.memory g) }
   pub leaves : Leaves (guest_of m.memory g) (guest_of m'.memory g') trap
-  pub steps : (run : Run) → run.guest ≡ guest_of m.memory g → run.tally.trail < 2 ^ 64 → after_counted 1 run ≡ with_trap_of trap (plainly run (guest_of m'.memory g') 1 terms)
+  pub steps : (run : Run) → run.guest ≡ guest_of m.memory g → run.tally.trail < 2 ^ 64 → after_counted 1 run ≡ with_trap_of trap (with_plain_steps run (guest_of m'.memory g') 1 terms)
   pub is : g' ≡ as_run m'.world g
   pub stands : StandsFor m'.memory s' g'
   pub high : g'.psl.0 / 2 ^ 8 ≡ g.psl.0 / 2 ^ 8
@@ -172,7 +172,7 @@ pub record StaysGuarded (m : Machine) (s : Shadowed) (g : GuestState) (e : Exit)
   pub machine : m' ≡ record m { memory = m'.memory; world = m'.world; misses = misses_after m.misses e }
   pub rest : s' ≡ record s { writable = s'.writable }
   pub only : OnlyBoth s m.memory m'.memory
-  pub tells : Tells e m'.memory s' g
+  pub tells : ExitIsMet e m'.memory s' g
   pub reaches : Reaches e m'.memory s' g
 
 abbrev pub IsGuarded : Exit → Machine → Shadowed → GuestState → (terms : ℕ) → Machine → Shadowed → GuestState → Type 0

@@ -7,19 +7,19 @@ use Rattle.vax_hw.specs.declared.world.Exit.TheVariants.{Arithmetic, Budget}
 use Rattle.vax_hw.specs.declared.world.World.{World}
 use Rattle.vm_bursts.specs.declared.bursts.Ended.{Ended}
 use Rattle.vm_bursts.specs.declared.bursts.Ran.{Ran}
-use Rattle.vm_fitting.specs.Paid.{Owes, touching_counted}
-use Rattle.vm_fitting.specs.Runs.{EndsAt, Reaches}
-use Rattle.vm_shadow.specs.Stands.{Shadowed}
+use Rattle.vm_miss_laws.specs.Paid.{Owes, touching_counted}
+use Rattle.vm_miss_laws.specs.Runs.{EndsAt, Reaches}
+use Rattle.vm_shadow.specs.Shadowed.{Shadowed}
 use Rattle.vm_shadow.specs.StandsFor.{StandsFor}
-use Rattle.vm_simulation.specs.Bursts.{Ends, after_counted, counted_by, goes_on, missed_by, plainly, with_count}
-use Rattle.vm_simulation.specs.Laws.{Leaves}
-use Rattle.vm_simulation.specs.Loaded.{OnlyPartition, as_run}
+use Rattle.vm_simulation_laws.specs.Bursts.{EndsBurst, after_counted, counted_by, goes_on, missed_by, with_count, with_plain_steps}
+use Rattle.vm_simulation_laws.specs.Laws.{Leaves}
+use Rattle.vm_simulation_laws.specs.Loaded.{OnlyPartition, as_run}
 use Rattle.vm_state.specs.Partition.{guest_of}
 use Rattle.vm_state.specs.Run.{Run}
 use Rattle.vm_state.specs.State.{Guest}
 use Rattle.vm_state.specs.Touches.{Touching}
 use Rattle.vm_state.specs.declared.guest_state.GuestState.{GuestState}
-use Rattle.vm_touches.specs.Touched.{touches_now}
+use Rattle.vm_touch_laws.specs.Touched.{touches_now}
 
 -- how much a count of 64 bits rose
 abbrev pub rise : ℕ → ℕ → ℕ
@@ -46,13 +46,13 @@ IsAlone e h after = after ≡ h
 pub record IsRun (n : ℕ) (m : Machine) (s : Shadowed) (g : GuestState) (ran : Ran) (m' : Machine) (g' : GuestState) : Type 0 where
   pub left : ℕ
   pub budget : ran.done + left ≡ n
-  pub steps : (run : Run) → run.guest ≡ guest_of m.memory g → run.tally.trail < 2 ^ 64 → after_counted n run ≡ goes_on ran.exit left (plainly run (guest_of m'.memory g') ran.done ran.terms)
+  pub steps : (run : Run) → run.guest ≡ guest_of m.memory g → run.tally.trail < 2 ^ 64 → after_counted n run ≡ goes_on ran.exit left (with_plain_steps run (guest_of m'.memory g') ran.done ran.terms)
   pub alone : n ≡ 1 → IsAlone ran.exit (guest_of m.memory g) (guest_of m'.memory g')
   pub is : g' ≡ with_count (counted_by ran.exit ran.done) (as_run m'.world g)
   pub stands : StandsFor m'.memory s g'
   pub high : g'.psl.0 / 2 ^ 8 ≡ g.psl.0 / 2 ^ 8
   pub only : OnlyPartition g m.memory m'.memory
-  pub ends : Ends ran.exit ran.done left m'.memory s g'
+  pub ends : EndsBurst ran.exit ran.done left m'.memory s g'
   pub retired : m'.retired % 2 ^ 64 ≡ (m.retired + ran.done) % 2 ^ 64
   pub trail : m'.trail % 2 ^ 64 ≡ (m.trail + ran.terms) % 2 ^ 64
   pub misses : m'.misses % 2 ^ 64 ≡ (m.misses + missed_by ran.exit) % 2 ^ 64

@@ -2,8 +2,8 @@ ghost use Rattle.std.specs.Prelude.{◌≡◌, ◌≤◌, ◌<◌, ◌+◌, ◌*
 ghost use Rattle.vm_bursts.specs.Ran.{IsRun, RunsMachine};
 ghost use Rattle.vm_clock.specs.Ticks.{ticks_to_wrap};
 ghost use Rattle.vm_shadow.specs.StandsFor.{StandsFor};
-ghost use Rattle.vm_simulation.specs.Bursts.{IsQuiet, counted_by, with_count};
-ghost use Rattle.vm_simulation.specs.Loaded.{as_run};
+ghost use Rattle.vm_simulation_laws.specs.Bursts.{IsQuiet, counted_by, with_count};
+ghost use Rattle.vm_simulation_laws.specs.Loaded.{as_run};
 ghost use Rattle.vm_state.specs.State.{state_of};
 
 use vax_arch::Psl;

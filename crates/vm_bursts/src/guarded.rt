@@ -1,11 +1,11 @@
 ghost use Rattle.std.specs.Prelude.{◌≡◌, ◌≤◌, ◌+◌, ◌*◌, ◌/◌, ℕ, List, length, Ok};
 ghost use Rattle.vax_arch.specs.declared.mode.Intent.TheVariants.{Write};
 ghost use Rattle.vax_arch.specs.Walk.{page_of};
-ghost use Rattle.vm_bursts.specs.Guarded.{Allows, CanAllow, CanClose, ClosesBehind, IsGuarded, IsTried, RunsOne, RunsSome, is_retired};
+ghost use Rattle.vm_bursts.specs.Guarded.{CanAllow, CanClose, ClosesAfter, GrantsOrOpens, IsGuarded, IsTried, RunsOne, RunsSome, is_retired};
 ghost use Rattle.vm_shadow.specs.Layout.{IsCovered};
 ghost use Rattle.vm_shadow.specs.StandsFor.{StandsFor, own_number};
-ghost use Rattle.vm_simulation.specs.Laws.{place_here};
-ghost use Rattle.vm_simulation.specs.Loaded.{RunsGuest};
+ghost use Rattle.vm_simulation_laws.specs.Laws.{place_here};
+ghost use Rattle.vm_simulation_laws.specs.Loaded.{RunsGuest};
 ghost use Rattle.vm_state.specs.Partition.{guest_of};
 ghost use Rattle.vm_state.specs.Translation.{is_clear};
 
@@ -51,7 +51,7 @@ fn is_retired(exit: &Exit) -> bool
 /// from its frame; else it is opened for one instruction, and the answer is its frame.
 fn allow<H: Hardware>(machine: &mut H, s: &mut Shadow, g: &GuestState, va: u32) -> Option<u32>
     requires { CanAllow va (H.machine machine.old) s.old g.now }
-    ensures { Allows va (H.machine machine.old) s.old result (H.machine machine.new) s.new }
+    ensures { GrantsOrOpens va (H.machine machine.old) s.old result (H.machine machine.new) s.new }
 {
     if s.grant_write(machine, va) {
         return None;
@@ -71,7 +71,7 @@ fn close_behind<H: Hardware>(
 )
     requires keeps { CanClose frame (is_retired exit.now) (H.machine machine.old) s.old }
     requires covered { IsCovered (page_of va) }
-    ensures { ClosesBehind (own_number s.old (page_of va)) frame (is_retired exit.now) (H.machine machine.old) s.old (H.machine machine.new) s.new }
+    ensures { ClosesAfter (own_number s.old (page_of va)) frame (is_retired exit.now) (H.machine machine.old) s.old (H.machine machine.new) s.new }
 {
     let Some(frame) = frame else {
         return;

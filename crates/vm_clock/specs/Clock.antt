@@ -21,8 +21,8 @@ pub record ClockState : Type 0 where
   pub request : Bool
 
 -- stopped, with all registers 0
-abbrev pub initial_state : ClockState
-initial_state = record { run = false; enable = false; interrupt = false; error = false; nicr = 0; icr = 0; request = false }
+abbrev pub initial_clock : ClockState
+initial_clock = record { run = false; enable = false; interrupt = false; error = false; nicr = 0; icr = 0; request = false }
 
 -- adding 1 to the counter wraps it
 abbrev pub is_at_end : ClockState → Bool

@@ -5,12 +5,12 @@ use Rattle.vv_base.specs.Bits.{is_set}
 use Rattle.vm_clock.specs.Clock.{ClockState, iccs_of}
 
 -- the parts of a clock
-abbrev pub parts_of : ClockState → ClockParts
-parts_of clock = record { iccs = iccs_of clock; nicr = clock.nicr; icr = clock.icr; request = clock.request }
+abbrev pub parts_of_clock : ClockState → ClockParts
+parts_of_clock clock = record { iccs = iccs_of clock; nicr = clock.nicr; icr = clock.icr; request = clock.request }
 
 -- the clock that has these parts
-abbrev pub state_of : ClockParts → ClockState
-state_of parts =
+abbrev pub clock_of_parts : ClockParts → ClockState
+clock_of_parts parts =
     record { run = is_set parts.iccs 0; enable = is_set parts.iccs 6; interrupt = is_set parts.iccs 7; error = is_set parts.iccs 31; nicr = parts.nicr; icr = parts.icr; request = parts.request }
 
 -- parts that a clock can have: ICCS has no bit but 0, 6, 7 and 31, and a request needs its enable

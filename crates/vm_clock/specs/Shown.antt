@@ -1,13 +1,13 @@
 -- Worked examples, by computation.
 use Rattle.std.specs.Prelude.{◌≡◌, refl, true, false}
-use Rattle.vm_clock.specs.Clock.{ClockState, initial_state, iccs_of, wraps_next, after_tick, after_iccs_write, after_nicr_write}
+use Rattle.vm_clock.specs.Clock.{ClockState, initial_clock, iccs_of, wraps_next, after_tick, after_iccs_write, after_nicr_write}
 use Rattle.vm_clock.specs.Ticks.{after_ticks, ticks_to_wrap}
 
 -- NICR FFFFFFFE, then 51 written to ICCS: the counter is loaded, the clock runs and requests
 abbrev started : ClockState
 started = record { run = true; enable = true; interrupt = false; error = false; nicr = 0xffff_fffe; icr = 0xffff_fffe; request = false }
 
-pub starts : after_iccs_write (after_nicr_write initial_state 0xffff_fffe) 0x51 ≡ started
+pub starts : after_iccs_write (after_nicr_write initial_clock 0xffff_fffe) 0x51 ≡ started
 unfolding after_iccs_write
 starts = refl
 
@@ -36,7 +36,7 @@ second_wrap_reads = refl
 
 -- NICR 7, and a counter that is at its end
 abbrev full : ClockState
-full = record initial_state { nicr = 7; icr = 0xffff_ffff }
+full = record initial_clock { nicr = 7; icr = 0xffff_ffff }
 
 -- bit 6 set anew after a single step that wraps: the request is made
 pub step_then_enable : after_iccs_write full 0x60 ≡ record full { icr = 7; enable = true; interrupt = true; request = true }

@@ -2,8 +2,8 @@
 #![tactic(auto)]
 
 ghost use Rattle.std.specs.Prelude.{◌≡◌, ◌+◌, ◌-◌, ◌/◌, ◌%◌, ◌<◌, ◌==◌, ◌↔◌, false, IsTrue, IsFalse, IsNone, IfSome, MatchOption};
-ghost use Rattle.vm_clock.specs.Clock.{initial_state, iccs_of, after_count, after_tick, wraps_next, is_at_end, after_error_write, after_interrupt_write, after_step_write, after_enable_write, after_iccs_write, after_nicr_write, after_taken};
-ghost use Rattle.vm_clock.specs.Parts.{parts_of, state_of, IsClock};
+ghost use Rattle.vm_clock.specs.Clock.{initial_clock, iccs_of, after_count, after_tick, wraps_next, is_at_end, after_error_write, after_interrupt_write, after_step_write, after_enable_write, after_iccs_write, after_nicr_write, after_taken};
+ghost use Rattle.vm_clock.specs.Parts.{parts_of_clock, clock_of_parts, IsClock};
 ghost use Rattle.vm_clock.specs.Ticks.{after_ticks, IsNextWrap, NeverWraps, ticks_to_wrap};
 
 use std::marker::Model;
@@ -61,7 +61,7 @@ impl Model for Clock {
 impl Clock {
     /// A stopped clock with all registers 0.
     pub fn new() -> Self
-        ensures { result ≡ initial_state }
+        ensures { result ≡ initial_clock }
     {
         Clock {
             run: false,
@@ -159,8 +159,8 @@ impl Clock {
 
     /// The clock as plain numbers.
     pub fn parts(&self) -> ClockParts
-        ensures value { result ≡ parts_of self.now }
-        ensures back { state_of result ≡ self.now }
+        ensures value { result ≡ parts_of_clock self.now }
+        ensures back { clock_of_parts result ≡ self.now }
         ensures fits { IsClock result }
     {
         ClockParts {
@@ -174,8 +174,8 @@ impl Clock {
     /// The clock with these parts.
     pub fn of_parts(p: &ClockParts) -> Clock
         requires { IsClock p.now }
-        ensures value { result ≡ state_of p.now }
-        ensures back { parts_of result ≡ p.now }
+        ensures value { result ≡ clock_of_parts p.now }
+        ensures back { parts_of_clock result ≡ p.now }
     {
         Clock {
             run: is_set(p.iccs, RUN),

@@ -15,8 +15,8 @@ pub record ConsoleState : Type 0 where
   pub tx_request : Bool
 
 -- nothing waits, nothing is enabled or requested
-abbrev pub initial_state : ConsoleState
-initial_state = record { waiting = []; rx_enable = false; rx_request = false; tx_enable = false; tx_request = false }
+abbrev pub initial_console : ConsoleState
+initial_console = record { waiting = []; rx_enable = false; rx_request = false; tx_enable = false; tx_request = false }
 
 -- a request needs its enable, and a receive request needs a waiting byte
 pub record IsConsole (console : ConsoleState) : Type 0 where
@@ -25,8 +25,8 @@ pub record IsConsole (console : ConsoleState) : Type 0 where
   pub tx_enabled : IsTrue console.tx_request → IsTrue console.tx_enable
 
 -- done: a byte waits
-abbrev pub is_done : ConsoleState → Bool
-is_done console = not (length console.waiting == 0)
+abbrev pub is_receiver_done : ConsoleState → Bool
+is_receiver_done console = not (length console.waiting == 0)
 
 -- at most so many bytes wait
 abbrev pub most_waiting : ℕ
@@ -39,12 +39,12 @@ has_room console = nat_lt (length console.waiting) most_waiting
 abbrev pub after_typed : ConsoleState → ℕ → ConsoleState
 after_typed console byte =
     if has_room console
-    then record console { waiting = console.waiting ++ byte ∷ []; rx_request = console.rx_request || not (is_done console) && console.rx_enable }
+    then record console { waiting = console.waiting ++ byte ∷ []; rx_request = console.rx_request || not (is_receiver_done console) && console.rx_enable }
     else console
 
 -- what reading RXCS gives: done and enable
 abbrev pub rxcs_of : ConsoleState → ℕ
-rxcs_of console = 2 ^ 7 * from_bool (is_done console) + 2 ^ 6 * from_bool console.rx_enable
+rxcs_of console = 2 ^ 7 * from_bool (is_receiver_done console) + 2 ^ 6 * from_bool console.rx_enable
 
 -- what reading RXDB gives: the first waiting byte, or 0
 abbrev pub rxdb_of : ConsoleState → ℕ
@@ -54,7 +54,7 @@ rxdb_of console = slice_index console.waiting 0
 abbrev pub after_rxdb_read : ConsoleState → ConsoleState
 after_rxdb_read console =
     let left = record console { waiting = drop 1 console.waiting } in
-    if not (is_done left) then record left { rx_request = false }
+    if not (is_receiver_done left) then record left { rx_request = false }
     else if left.rx_enable then record left { rx_request = true }
     else left
 
@@ -62,7 +62,7 @@ after_rxdb_read console =
 abbrev pub after_rxcs_write : ConsoleState → ℕ → ConsoleState
 after_rxcs_write console value =
     if not (is_set value 6) then record console { rx_enable = false; rx_request = false }
-    else if not console.rx_enable && is_done console then record console { rx_enable = true; rx_request = true }
+    else if not console.rx_enable && is_receiver_done console then record console { rx_enable = true; rx_request = true }
     else record console { rx_enable = true }
 
 -- what reading TXCS gives: ready, which is always 1, and enable

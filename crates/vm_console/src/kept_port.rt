@@ -16,9 +16,9 @@ pub struct KeptPort<const N: usize> {
 
 impl<const N: usize> Model for KeptPort<N> {
     ghost use Rattle.std.specs.Prelude.{◌≤◌, vec_capacity, vec_len};
-    ghost use Rattle.vm_console.specs.Kept.{Keeps};
+    ghost use Rattle.vm_console.specs.Kept.{KeptOutput};
 
-    ghost Value = { Keeps };
+    ghost Value = { KeptOutput };
 
     ghost view = { λ port. record { bytes = port.kept.items; is_cut = port.is_cut } };
 

@@ -2,8 +2,8 @@
 #![tactic(auto)]
 
 ghost use Rattle.std.specs.Prelude.{◌≡◌, ◌≤◌, ◌/◌, ◌%◌, ◌==◌, length};
-ghost use Rattle.vm_console.specs.Console.{initial_state, IsConsole, has_room, after_typed, rxcs_of, rxdb_of, after_rxdb_read, after_rxcs_write, txcs_of, after_txcs_write, after_sent, after_rx_taken, after_tx_taken};
-ghost use Rattle.vm_console.specs.Parts.{parts_of, state_of};
+ghost use Rattle.vm_console.specs.Console.{initial_console, IsConsole, has_room, after_typed, rxcs_of, rxdb_of, after_rxdb_read, after_rxcs_write, txcs_of, after_txcs_write, after_sent, after_rx_taken, after_tx_taken};
+ghost use Rattle.vm_console.specs.Parts.{console_of_parts, parts_of_console};
 
 mod kept_port;
 mod port;
@@ -56,7 +56,7 @@ impl Model for Console {
 impl Console {
     /// A console with no waiting byte, nothing enabled and nothing requested.
     pub fn new() -> Self
-        ensures { result ≡ initial_state }
+        ensures { result ≡ initial_console }
     {
         Console {
             waiting: ArrayVec::new(),
@@ -160,9 +160,9 @@ impl Console {
 
     /// The console as plain data.
     pub fn parts(&self) -> ConsoleParts
-        ensures value { result ≡ parts_of self.now }
-        ensures back { state_of result ≡ self.now }
-        ensures fits { IsConsole (state_of result) }
+        ensures value { result ≡ parts_of_console self.now }
+        ensures back { console_of_parts result ≡ self.now }
+        ensures fits { IsConsole (console_of_parts result) }
     {
         ConsoleParts {
             rx_enable: self.rx_enable,
@@ -175,9 +175,9 @@ impl Console {
 
     /// The console with these parts.
     pub fn of_parts(p: &ConsoleParts) -> Console
-        requires { IsConsole (state_of p.now) }
-        ensures value { result ≡ state_of p.now }
-        ensures back { parts_of result ≡ p.now }
+        requires { IsConsole (console_of_parts p.now) }
+        ensures value { result ≡ console_of_parts p.now }
+        ensures back { parts_of_console result ≡ p.now }
     {
         Console {
             waiting: waiting_of(p.waiting.bytes()),

@@ -6,54 +6,54 @@ use Rattle.vax_arch.specs.Fields.{is_on_interrupt_stack, mode_number}
 use Rattle.vax_arch.specs.declared.mode.Mode.{Mode}
 use Rattle.vax_hw.specs.Machine.{Machine}
 use Rattle.vax_table.specs.declared.act.Trapped.{Trapped}
-use Rattle.vm_emulate.specs.Changed.{entered, is_done}
-use Rattle.vm_emulate.specs.Emulated.{Goes, IsSensed, Senses, past_memory}
+use Rattle.vm_emulate.specs.Changed.{is_done, mode_change_sensed}
+use Rattle.vm_emulate.specs.Emulated.{EmulatesTo, IsSensed, Senses, past_memory}
 use Rattle.vm_emulate.specs.declared.emulated.Emulated.{Emulated}
 use Rattle.vm_emulate.specs.declared.emulated.Emulated.TheVariants as outcomes
 use Rattle.vm_emulate.proofs.Telling.{follows_drops}
 use Rattle.vm_exception.specs.Attempted.{Stays}
-use Rattle.vm_exception.specs.Initiated.{Becomes, Initiates, IsInitiated, StopsWith}
+use Rattle.vm_exception.specs.Initiated.{Initiates, InitiatesTo, IsInitiated, StopsWith}
 use Rattle.vm_exception.specs.declared.initiated.Initiated.TheVariants as starts
-use Rattle.vm_shadow.specs.Stands.{Shadowed}
+use Rattle.vm_shadow.specs.Shadowed.{Shadowed}
 use Rattle.vm_shadow.specs.StandsFor.{OnlyGuest, StandsFor}
 use Rattle.vm_state.specs.Initiate.{Initiation, KernelStackBad, Stops, Taken, initiate, new_mode}
 use Rattle.vm_state.specs.Partition.{guest_of, partition_of}
 use Rattle.vm_state.specs.Pushes.{Faulty, Homes, PastMemory, Walked, push_walked}
-use Rattle.vm_state.specs.Sensitive.{ClearAt, Does, Faults, LacksMemory, Sensed, StopsThere, change_mode, changed, chm_walked, guest_behind}
+use Rattle.vm_state.specs.Sensitive.{ClearAt, Does, Faults, LacksMemory, Sensed, StopsThere, change_mode, chm_walked, guest_past_instruction, mode_changed}
 use Rattle.vm_state.specs.State.{Guest, HasPlace, State, pc_of, pointer_of, state_of}
 use Rattle.vm_state.specs.declared.exception.Exc.{Exc}
 use Rattle.vm_state.specs.declared.exception.Exc.TheVariants.{Chm}
 use Rattle.vm_state.specs.declared.guest_state.GuestState.{GuestState}
 
-pub goes_on : (h : Guest) (frames : List ℕ) (m' : Machine) (s s' : Shadowed) (g' : GuestState) → StandsFor m'.memory s' g' → Becomes h frames s m' s' g' → Goes h frames s m' s' g'
+pub goes_on : (h : Guest) (frames : List ℕ) (m' : Machine) (s s' : Shadowed) (g' : GuestState) → StandsFor m'.memory s' g' → InitiatesTo h frames s m' s' g' → EmulatesTo h frames s m' s' g'
 goes_on h frames m' s s' g' stands b = record {
   guest = b.guest;
   follows = follows_drops frames m'.memory s s' h.state.tables stands.keeps.fits (stands.serves.told ∙ ap (λ (x : Guest). x.state.tables) b.guest) b.drops;
 }
 
 module _ (e : Exc) (m m' : Machine) (s s' : Shadowed) (g g' : GuestState) where
-  begun : (i : Initiation) → i ≡ initiate (guest_of m.memory g) e → IsInitiated i starts.Taken m s g m' s' g' → StandsFor m'.memory s' g' → HasPlace g.pages g.base g.start g' → OnlyGuest s m m' → Senses (changed (initiate (guest_of m.memory g) e)) m s g outcomes.Done m' s' g'
-  begun (Taken h frames) is b stands place only = subst (λ x. Senses (changed x) m s g outcomes.Done m' s' g') is (record { is = goes_on h frames m' s s' g' stands b; stands = stands; place = place; only = only })
+  begun : (i : Initiation) → i ≡ initiate (guest_of m.memory g) e → IsInitiated i starts.Taken m s g m' s' g' → StandsFor m'.memory s' g' → HasPlace g.pages g.base g.start g' → OnlyGuest s m m' → Senses (mode_changed (initiate (guest_of m.memory g) e)) m s g outcomes.Done m' s' g'
+  begun (Taken h frames) is b stands place only = subst (λ x. Senses (mode_changed x) m s g outcomes.Done m' s' g') is (record { is = goes_on h frames m' s s' g' stands b; stands = stands; place = place; only = only })
   begun (KernelStackBad h frames) is b stands place only = absurd b
   begun (Stops stop) is b stands place only = absurd b
 
-  begun_bad : (i : Initiation) → i ≡ initiate (guest_of m.memory g) e → IsInitiated i starts.KernelStackBad m s g m' s' g' → StandsFor m'.memory s' g' → HasPlace g.pages g.base g.start g' → OnlyGuest s m m' → Senses (changed (initiate (guest_of m.memory g) e)) m s g outcomes.Done m' s' g'
-  begun_bad (KernelStackBad h frames) is b stands place only = subst (λ x. Senses (changed x) m s g outcomes.Done m' s' g') is (record { is = goes_on h frames m' s s' g' stands b; stands = stands; place = place; only = only })
+  begun_bad : (i : Initiation) → i ≡ initiate (guest_of m.memory g) e → IsInitiated i starts.KernelStackBad m s g m' s' g' → StandsFor m'.memory s' g' → HasPlace g.pages g.base g.start g' → OnlyGuest s m m' → Senses (mode_changed (initiate (guest_of m.memory g) e)) m s g outcomes.Done m' s' g'
+  begun_bad (KernelStackBad h frames) is b stands place only = subst (λ x. Senses (mode_changed x) m s g outcomes.Done m' s' g') is (record { is = goes_on h frames m' s s' g' stands b; stands = stands; place = place; only = only })
   begun_bad (Taken h frames) is b stands place only = absurd b
   begun_bad (Stops stop) is b stands place only = absurd b
 
-  stopped : (code : ℕ) (i : Initiation) → i ≡ initiate (guest_of m.memory g) e → IsInitiated i (starts.Stopped code) m s g m' s' g' → StandsFor m'.memory s' g' → HasPlace g.pages g.base g.start g' → OnlyGuest s m m' → Senses (changed (initiate (guest_of m.memory g) e)) m s g (outcomes.Stopped code) m' s' g'
-  stopped code (Stops stop) is b stands place only = subst (λ x. Senses (changed x) m s g (outcomes.Stopped code) m' s' g') is (record { is = b; stands = stands; place = place; only = only })
+  stopped : (code : ℕ) (i : Initiation) → i ≡ initiate (guest_of m.memory g) e → IsInitiated i (starts.Stopped code) m s g m' s' g' → StandsFor m'.memory s' g' → HasPlace g.pages g.base g.start g' → OnlyGuest s m m' → Senses (mode_changed (initiate (guest_of m.memory g) e)) m s g (outcomes.Stopped code) m' s' g'
+  stopped code (Stops stop) is b stands place only = subst (λ x. Senses (mode_changed x) m s g (outcomes.Stopped code) m' s' g') is (record { is = b; stands = stands; place = place; only = only })
   stopped code (Taken h frames) is b stands place only = absurd b
   stopped code (KernelStackBad h frames) is b stands place only = absurd b
 
-  pub is_taken : Initiates e m s g starts.Taken m' s' g' → Senses (changed (initiate (guest_of m.memory g) e)) m s g outcomes.Done m' s' g'
+  pub is_taken : Initiates e m s g starts.Taken m' s' g' → Senses (mode_changed (initiate (guest_of m.memory g) e)) m s g outcomes.Done m' s' g'
   is_taken i = begun (initiate (guest_of m.memory g) e) refl i.is i.stands i.place i.only
 
-  pub is_bad : Initiates e m s g starts.KernelStackBad m' s' g' → Senses (changed (initiate (guest_of m.memory g) e)) m s g outcomes.Done m' s' g'
+  pub is_bad : Initiates e m s g starts.KernelStackBad m' s' g' → Senses (mode_changed (initiate (guest_of m.memory g) e)) m s g outcomes.Done m' s' g'
   is_bad i = begun_bad (initiate (guest_of m.memory g) e) refl i.is i.stands i.place i.only
 
-  pub is_stopped : (code : ℕ) → Initiates e m s g (starts.Stopped code) m' s' g' → Senses (changed (initiate (guest_of m.memory g) e)) m s g (outcomes.Stopped code) m' s' g'
+  pub is_stopped : (code : ℕ) → Initiates e m s g (starts.Stopped code) m' s' g' → Senses (mode_changed (initiate (guest_of m.memory g) e)) m s g (outcomes.Stopped code) m' s' g'
   is_stopped code i = stopped code (initiate (guest_of m.memory g) e) refl i.is i.stands i.place i.only
 
 -- A guest that is past an instruction, and the guest as it was before.
@@ -63,7 +63,7 @@ abbrev IsUnmarked : Sensed → Type 0
 IsUnmarked (ClearAt va) = ⊥
 IsUnmarked _ = Unit {0}
 
-changed_unmarked : (i : Initiation) → IsUnmarked (changed i)
+changed_unmarked : (i : Initiation) → IsUnmarked (mode_changed i)
 changed_unmarked (Taken h frames) = tt
 changed_unmarked (KernelStackBad h frames) = tt
 changed_unmarked (Stops stop) = tt
@@ -73,7 +73,7 @@ walked_unmarked i (Homes hs) = changed_unmarked i
 walked_unmarked i (Faulty f) = tt
 walked_unmarked i PastMemory = tt
 
-entered_unmarked : (h : Guest) (to : Mode) (code : ℕ) → IsUnmarked (entered h to code)
+entered_unmarked : (h : Guest) (to : Mode) (code : ℕ) → IsUnmarked (mode_change_sensed h to code)
 entered_unmarked h to code =
     let e = Chm to code in
     let n = new_mode h.state e in
@@ -172,12 +172,12 @@ module _ (m m' : Machine) (s s' : Shadowed) (r : List ℕ) (g g2 : GuestState) w
       by LacksMemory outcomes.Filled u e is = absurd is
 
 -- CHM from the guest that is past it
-by_entering : (g : Guest) (t : Trapped) (to : Mode) → is_on_interrupt_stack g.state.psl ≡ false → slice_index (t.regs ++ t.next_pc ∷ []) 15 ≡ t.next_pc → change_mode g t to ≡ entered (guest_behind g t) to t.a
+by_entering : (g : Guest) (t : Trapped) (to : Mode) → is_on_interrupt_stack g.state.psl ≡ false → slice_index (t.regs ++ t.next_pc ∷ []) 15 ≡ t.next_pc → change_mode g t to ≡ mode_change_sensed (guest_past_instruction g t) to t.a
 by_entering g t to off pc = rw (off, pc) refl
 
 module _ (m m' : Machine) (s s' : Shadowed) (r : List ℕ) (g g2 : GuestState) (t : Trapped) (to : Mode) (result : Emulated) (off : is_on_interrupt_stack g.psl.0 ≡ false) (is : r ≡ t.regs ++ t.next_pc ∷ []) (pc : slice_index r 15 ≡ t.next_pc) where
   abbrev entered_by : List ℕ → Sensed
-  entered_by x = entered (record { memory = partition_of m.memory g; state = record (state_of g) { r = x } }) to t.a
+  entered_by x = mode_change_sensed (record { memory = partition_of m.memory g; state = record (state_of g) { r = x } }) to t.a
 
   same_change : entered_by r ≡ change_mode (guest_of m.memory g) t to
   same_change = ap entered_by is ∙ sym (by_entering (guest_of m.memory g) t to off (sym (ap (λ x. slice_index x 15) is) ∙ pc))

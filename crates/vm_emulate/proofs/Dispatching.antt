@@ -6,7 +6,7 @@ use Rattle.vax_arch.specs.Fields.{is_on_interrupt_stack, mode_number}
 use Rattle.vax_arch.specs.Rei.{rei_refuses}
 use Rattle.vax_arch.specs.declared.mode.Mode.{Mode}
 use Rattle.vax_hw.specs.Machine.{Machine}
-use Rattle.vax_table.specs.Script.{At, Test, Trouble, outcome}
+use Rattle.vax_table.specs.Interaction.{At, Test, Trouble, outcome}
 use Rattle.vax_table.specs.Tries.{Clear, Completes, Stopped, Tried, tried}
 use Rattle.vax_table.specs.declared.act.Dest.{Dest}
 use Rattle.vax_table.specs.declared.act.Dest.TheVariants.{Memory, Nowhere, Register}
@@ -18,7 +18,7 @@ use Rattle.vm_emulate.specs.Emulated.{Emulates, IsEmulated, Senses, shown_by, sh
 use Rattle.vm_emulate.specs.declared.emulated.Emulated.{Emulated}
 use Rattle.vm_emulate.specs.declared.emulated.Emulated.TheVariants as outcomes
 use Rattle.vm_emulate.proofs.Sensing.{alone}
-use Rattle.vm_shadow.specs.Stands.{Shadowed}
+use Rattle.vm_shadow.specs.Shadowed.{Shadowed}
 use Rattle.vm_shadow.specs.StandsFor.{OnlyGuest, StandsFor}
 use Rattle.vm_state.specs.Contexts as contexts
 use Rattle.vm_state.specs.Contexts.{BlockPast, PopTrouble, Reserved, StackTrouble, Switched, Switches, loads_context, saves_context, two_popped}
@@ -26,7 +26,7 @@ use Rattle.vm_state.specs.Initiate.{Initiation, KernelStackBad, Stops, Taken, in
 use Rattle.vm_state.specs.Partition.{guest_of}
 use Rattle.vm_state.specs.Pushes.{Faulty, Homes, PastMemory, Walked, push_walked}
 use Rattle.vm_state.specs.Registers.{Value, read}
-use Rattle.vm_state.specs.Sensitive.{ClearAt, Does, Faults, LacksMemory, Sensed, StopsThere, behind, behind_read, change_mode, changed, chm_walked, destination_walked, fault_of, guest_behind, mfpr_by, move_from_register, move_to_register, put_at, rei_by, return_from, sensed, switched, troubled}
+use Rattle.vm_state.specs.Sensitive.{ClearAt, Does, Faults, LacksMemory, Sensed, StopsThere, after_register_read, change_mode, chm_walked, destination_walked, fault_of, guest_past_instruction, mfpr_by, mode_changed, move_from_register, move_to_register, past_instruction, put_at, rei_by, return_from, sensed, switched, troubled}
 use Rattle.vm_state.specs.State.{Guest, HasPlace, mode_of_state, pointer_of, state_of}
 use Rattle.vm_state.specs.Translation.{is_clear, space_of, walk_of}
 use Rattle.vm_state.specs.declared.exception.Exc.TheVariants as excs
@@ -75,7 +75,7 @@ silent_shows (outcomes.Stopped code) LacksMemory k = refl
 silent_shows outcomes.PastMemory LacksMemory k = refl
 silent_shows outcomes.Filled LacksMemory k = refl
 
-silent_changed : (i : Initiation) → IsSilent (changed i)
+silent_changed : (i : Initiation) → IsSilent (mode_changed i)
 silent_changed (Taken h written) = refl
 silent_changed (KernelStackBad h written) = refl
 silent_changed (Stops stop) = tt
@@ -87,7 +87,7 @@ silent_walked i PastMemory = tt
 
 silent_chm : (g : Guest) (t : Trapped) (to : Mode) → IsSilent (change_mode g t to)
 silent_chm g t to =
-    let h = guest_behind g t in
+    let h = guest_past_instruction g t in
     let e = excs.Chm to t.a in
     let m = new_mode g.state e in
     cond_both (is_on_interrupt_stack g.state.psl) _ _ IsSilent (λ k. tt) (λ k.
@@ -112,15 +112,15 @@ silent_put g Nowhere v = refl
 silent_put g (Register n) v = refl
 silent_put g (Memory at) v = refl
 
-silent_read : (g : Guest) (dest : Dest) (clear : Option ℕ) (v : Result Value ReservedOperand) → IsSilent (behind_read g dest clear v)
+silent_read : (g : Guest) (dest : Dest) (clear : Option ℕ) (v : Result Value ReservedOperand) → IsSilent (after_register_read g dest clear v)
 silent_read g dest clear (Err refused) = tt
 silent_read g dest (Some va) (Ok v) = tt
 silent_read g dest None (Ok v) = silent_put g dest v
 
 silent_mfpr : (g : Guest) (t : Trapped) (x : Tried ℕ) → IsSilent (mfpr_by g t x)
 silent_mfpr g t (Stopped trouble) = silent_trouble g trouble
-silent_mfpr g t (Clear va) = silent_read g t.dest (Some va) (read (length g.memory) (behind g.state t) t.a)
-silent_mfpr g t (Completes old) = silent_read g t.dest None (read (length g.memory) (behind g.state t) t.a)
+silent_mfpr g t (Clear va) = silent_read g t.dest (Some va) (read (length g.memory) (past_instruction g.state t) t.a)
+silent_mfpr g t (Completes old) = silent_read g t.dest None (read (length g.memory) (past_instruction g.state t) t.a)
 
 silent_switched : (g : Guest) (x : Switched) → IsSilent (switched g x)
 silent_switched g (Switches h written) = refl
@@ -186,14 +186,14 @@ module _ (t : Trapped) (m : Machine) (s : Shadowed) (g : GuestState) (result : E
   rei e k = by_op Rei e k.is k.stands k.place k.only
 
 module _ (t : Trapped) (m : Machine) (s : Shadowed) (g g' : GuestState) (stands : StandsFor m.memory s g) where
-  pub halts : (result : Emulated) → t.op ≡ Halt → result ≡ outcomes.Stopped 6 → state_of g' ≡ record (behind (state_of g) t) { halt = Some 6 } → HasPlace g.pages g.base g.start g' → Emulates t m s g result m s g'
+  pub halts : (result : Emulated) → t.op ≡ Halt → result ≡ outcomes.Stopped 6 → state_of g' ≡ record (past_instruction (state_of g) t) { halt = Some 6 } → HasPlace g.pages g.base g.start g' → Emulates t m s g result m s g'
   unfolding sensed
   halts result e is state place =
-      let k = alone t Halt (record (behind (state_of g) t) { halt = Some 6 }) _ m s g g' stands refl state place refl in
+      let k = alone t Halt (record (past_instruction (state_of g) t) { halt = Some 6 }) _ m s g g' stands refl state place refl in
       subst (λ x. Emulates t m s g x m s g') (sym is) (by_op t m s g (outcomes.Stopped 6) m s g' Halt e (refl, k.is) k.stands k.place k.only)
 
-  pub waits : (result : Emulated) → t.op ≡ Wait → result ≡ outcomes.Done → state_of g' ≡ record (behind (state_of g) t) { waiting = true } → HasPlace g.pages g.base g.start g' → Emulates t m s g result m s g'
+  pub waits : (result : Emulated) → t.op ≡ Wait → result ≡ outcomes.Done → state_of g' ≡ record (past_instruction (state_of g) t) { waiting = true } → HasPlace g.pages g.base g.start g' → Emulates t m s g result m s g'
   unfolding sensed
   waits result e is state place =
-      let k = alone t Wait (record (behind (state_of g) t) { waiting = true }) [] m s g g' stands refl state place refl in
+      let k = alone t Wait (record (past_instruction (state_of g) t) { waiting = true }) [] m s g g' stands refl state place refl in
       subst (λ x. Emulates t m s g x m s g') (sym is) (by_op t m s g outcomes.Done m s g' Wait e k.is k.stands k.place k.only)

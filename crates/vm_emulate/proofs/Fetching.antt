@@ -5,21 +5,21 @@ use Rattle.std.proofs.lemmas.List.Elements.{All-cons}
 use Rattle.vax_arch.specs.WalkLaws.{AreAligned}
 use Rattle.vax_arch.specs.declared.mode.Intent.TheVariants.{Write}
 use Rattle.vax_table.specs.Claims.{addresses}
-use Rattle.vax_table.specs.Script.{At, cause_of, number_at, with_byte}
+use Rattle.vax_table.specs.Interaction.{At, cause_of, number_at, with_byte}
 use Rattle.vax_table.specs.Stores.{bytes_stored}
 use Rattle.vax_table.specs.Tries.{first_clear}
 use Rattle.vax_table.specs.declared.act.Trapped.{Trapped}
-use Rattle.vm_emulate.specs.Fetched.{ArePlaces, IsFetched, IsPlace, bytes_placed}
+use Rattle.vm_emulate.specs.Fetched.{ArePlaces, IsPlace, MovesFromRegister, bytes_placed}
 use Rattle.vm_emulate.specs.declared.reading.Unread.{Unread}
 use Rattle.vm_emulate.specs.declared.reading.Unread.TheVariants as reasons
 use Rattle.vm_exception.specs.Wrote.{AreHomes, frames_of}
 use Rattle.vm_exception.proofs.Homes.{FindsInside, finds_inside}
-use Rattle.vm_ipr.specs.Outcomes.{Reads}
+use Rattle.vm_ipr.specs.Outcomes.{ReadsRegister}
 use Rattle.vm_state.specs.Pushes.{all_put}
 use Rattle.vm_state.specs.Registers.{read}
 use Rattle.vm_state.specs.Sensitive.{fault_of, frames_of_bytes, with_codes}
 use Rattle.vm_state.specs.State.{Guest, mode_of_state, state_of}
-use Rattle.vm_state.specs.Translation.{byte_by, frame_at, place_by, place_of, space_of, walk_of}
+use Rattle.vm_state.specs.Translation.{frame_at, guest_write_place, space_of, walk_of, walked_byte, walked_place}
 use Rattle.vm_state.specs.declared.guest_state.GuestState.{GuestState}
 use Rattle.vm_state.specs.declared.register.ReservedOperand.{ReservedOperand}
 use Rattle.vm_state.specs.declared.walk.MemFault.{MemFault}
@@ -28,10 +28,10 @@ use Rattle.vm_state.specs.declared.walk.Walk.TheVariants as walks
 -- what a walk finds
 pub found_place : (g : Guest) (va pa : ℕ) (entry table : Option ℕ) → AreAligned g.state.tables → walks.Frame pa entry table ≡ walk_of g va (mode_of_state g.state) Write → IsPlace g va (Ok pa)
 found_place g va pa entry table a e =
-    ((slice_index g.memory pa, ap (byte_by g.memory) (sym e)), ap (place_by g.memory) e, (subst (FindsInside (length g.memory)) (sym e) (finds_inside g va (mode_of_state g.state) Write a)).0)
+    ((slice_index g.memory pa, ap (walked_byte g.memory) (sym e)), ap (walked_place g.memory) e, (subst (FindsInside (length g.memory)) (sym e) (finds_inside g va (mode_of_state g.state) Write a)).0)
 
 pub faulty_place : (g : Guest) (va : ℕ) (f : MemFault) → walks.Fault f ≡ walk_of g va (mode_of_state g.state) Write → IsPlace g va (Err (reasons.Faulty f))
-faulty_place g va f e = ((cause_of f.not_valid, ap (byte_by g.memory) (sym e)), ap fault_of (sym e))
+faulty_place g va f e = ((cause_of f.not_valid, ap (walked_byte g.memory) (sym e)), ap fault_of (sym e))
 
 -- the places of no bytes, and of one byte before others
 pub places_none : (g : Guest) (at : ℕ) → ArePlaces g 0 at (Ok [])
@@ -85,11 +85,11 @@ pub bytes_put : (place : ℕ → ℕ) (k at v : ℕ) (memory : List ℕ) → all
 bytes_put place zero at v memory = refl
 bytes_put place (suc k) at v memory = bytes_put place k (at + 1) (v / 256) _
 
-pub frames_put : (g : Guest) (vas : List ℕ) (v : ℕ) → frames_of (bytes_placed (map (place_of g) vas) v) ≡ frames_of_bytes g vas
+pub frames_put : (g : Guest) (vas : List ℕ) (v : ℕ) → frames_of (bytes_placed (map (guest_write_place g) vas) v) ≡ frames_of_bytes g vas
 frames_put g [] v = refl
-frames_put g (va ∷ vas) v = ap (λ fs. frame_at (place_of g va) ∷ fs) (frames_put g vas (v / 256))
+frames_put g (va ∷ vas) v = ap (λ fs. frame_at (guest_write_place g va) ∷ fs) (frames_put g vas (v / 256))
 
 -- the read of a register
-pub is_fetched : (g g2 g3 : GuestState) (t : Trapped) (r : List ℕ) (x : Result ℕ ReservedOperand) (v : ℕ) → r ≡ t.regs ++ t.next_pc ∷ [] → x ≡ Ok v → Reads (record g { r = r }) g2 t.a x → state_of g3 ≡ with_codes v (state_of g2) → IsFetched g t (Ok v) g3
+pub is_fetched : (g g2 g3 : GuestState) (t : Trapped) (r : List ℕ) (x : Result ℕ ReservedOperand) (v : ℕ) → r ≡ t.regs ++ t.next_pc ∷ [] → x ≡ Ok v → ReadsRegister (record g { r = r }) g2 t.a x → state_of g3 ≡ with_codes v (state_of g2) → MovesFromRegister g t (Ok v) g3
 is_fetched g g2 g3 t r x v is e w codes =
-    (state_of g2, ap (λ (y : List ℕ). read (512 * g.pages) (record (state_of g) { r = y }) t.a) (sym is) ∙ subst (Reads (record g { r = r }) g2 t.a) e w, codes)
+    (state_of g2, ap (λ (y : List ℕ). read (512 * g.pages) (record (state_of g) { r = y }) t.a) (sym is) ∙ subst (ReadsRegister (record g { r = r }) g2 t.a) e w, codes)

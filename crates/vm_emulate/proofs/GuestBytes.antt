@@ -6,14 +6,14 @@ use Rattle.vm_shadow.proofs.Storing.{four_at, four_small, long_from}
 use Rattle.vv_base.specs.Bytes.{long_at}
 use Rattle.vax_arch.specs.WalkLaws.{AreAligned}
 use Rattle.vax_arch.specs.declared.mode.Intent.TheVariants.{Read}
-use Rattle.vax_table.specs.Script.{Cause, Trouble, cause_of, number_at}
-use Rattle.vax_table.specs.Script as script
+use Rattle.vax_table.specs.Interaction.{Cause, Trouble, cause_of, number_at}
+use Rattle.vax_table.specs.Interaction as interaction
 use Rattle.vm_emulate.specs.Readings.{IsByte}
 use Rattle.vm_emulate.specs.declared.reading.Unread.TheVariants as reasons
 use Rattle.vm_exception.proofs.Homes.{FindsInside, finds_inside}
 use Rattle.vm_state.specs.Sensitive.{fault_of}
 use Rattle.vm_state.specs.State.{Guest, mode_of_state}
-use Rattle.vm_state.specs.Translation.{byte_by, walk_of}
+use Rattle.vm_state.specs.Translation.{walk_of, walked_byte}
 use Rattle.vm_state.specs.declared.walk.MemFault.{MemFault}
 use Rattle.vm_state.specs.declared.walk.Walk.TheVariants as walks
 
@@ -33,10 +33,10 @@ pub found_inside : (g : Guest) (va pa : ℕ) (entry table : Option ℕ) → AreA
 found_inside g va pa entry table a e = (subst (FindsInside (length g.memory)) (sym e) (finds_inside g va (mode_of_state g.state) Read a)).0
 
 pub found_byte : (g : Guest) (va pa byte : ℕ) (entry table : Option ℕ) → walks.Frame pa entry table ≡ walk_of g va (mode_of_state g.state) Read → byte ≡ get_or g.memory pa 0 → IsByte g va (Ok byte)
-found_byte g va pa byte entry table e b = ap (byte_by g.memory) (sym e) ∙ ap Ok (sym b)
+found_byte g va pa byte entry table e b = ap (walked_byte g.memory) (sym e) ∙ ap Ok (sym b)
 
 pub faulty_byte : (g : Guest) (va : ℕ) (f : MemFault) → walks.Fault f ≡ walk_of g va (mode_of_state g.state) Read → IsByte g va (Err (reasons.Faulty f))
-faulty_byte g va f e = ((cause_of f.not_valid, ap (byte_by g.memory) (sym e)), ap fault_of (sym e))
+faulty_byte g va f e = ((cause_of f.not_valid, ap (walked_byte g.memory) (sym e)), ap fault_of (sym e))
 
 pub past_byte : (g : Guest) (va : ℕ) → walks.Beyond ≡ walk_of g va (mode_of_state g.state) Read → IsByte g va (Err reasons.PastMemory)
-past_byte g va e = ((script.Past, ap (byte_by g.memory) (sym e)), ap fault_of (sym e))
+past_byte g va e = ((interaction.Past, ap (walked_byte g.memory) (sym e)), ap fault_of (sym e))

@@ -19,15 +19,15 @@ use Rattle.vm_emulate.proofs.Sensing.{done_allowed, done_stands, faults, lacks, 
 use Rattle.vm_exception.proofs.Writing.{only_then}
 use Rattle.vm_exception.specs.Wrote.{AreHomes, DropsAmong, Wrote}
 use Rattle.vm_exception.proofs.Homes.{homes_inside}
-use Rattle.vm_shadow.specs.Stands.{CanStand, Shadowed, own}
+use Rattle.vm_shadow.specs.Shadowed.{CanBeShadowed, Shadowed, own}
 use Rattle.vm_shadow.specs.StandsFor.{OnlyGuest, Retells, StandsFor, Switches}
 use Rattle.vm_shadow.proofs.Contexts.{aligned_of}
 use Rattle.vm_shadow.proofs.Covering.{own_is}
 use Rattle.vm_shadow.proofs.Filling.{own_apart}
 use Rattle.vm_shadow.proofs.Making.{can_stand}
-use Rattle.vm_state.specs.Contexts.{BlockPast, Reserved, behind_push, in_block, is_block_past, is_block_reserved, loaded, loads_context, longs_in_block, off_interrupt_stack}
+use Rattle.vm_state.specs.Contexts.{BlockPast, Reserved, after_push, control_block_long, is_block_past, is_block_reserved, loaded, loads_context, longs_in_block, off_interrupt_stack}
 use Rattle.vm_state.specs.Partition.{guest_of, part, partition_of}
-use Rattle.vm_state.specs.Pushes.{Faulty, Home, Homes, PastMemory, Walked, frames_pushed, pointer_behind, push_walked, pushed}
+use Rattle.vm_state.specs.Pushes.{Faulty, Home, Homes, PastMemory, Walked, frames_pushed, pointer_after, push_walked, pushed}
 use Rattle.vm_state.specs.Sensitive.{Does, sensed, switched}
 use Rattle.vm_state.specs.State.{Guest, HasPlace, State, pointer_of, state_of, tables_of}
 use Rattle.vm_state.specs.declared.exception.Exc.TheVariants as excs
@@ -52,13 +52,13 @@ pub bits_are : (g : Guest) (b : Block) (r x : Bool) → IsBlock g b → r ≡ re
 bits_are g b r x k e lets is = is ∙ ap (λ y. y || has_reserved_bit b) (sym lets ∙ e) ∙ reserved_is g b k
 
 -- longwords of the block
-pub longs_are : (g : Guest) (n offset : ℕ) (xs : List ℕ) → length xs ≡ n → ((k : ℕ) → k < n → get_or xs k 0 ≡ in_block g (offset + 4 * k)) → xs ≡ longs_in_block g n offset
+pub longs_are : (g : Guest) (n offset : ℕ) (xs : List ℕ) → length xs ≡ n → ((k : ℕ) → k < n → get_or xs k 0 ≡ control_block_long g (offset + 4 * k)) → xs ≡ longs_in_block g n offset
 longs_are g zero offset [] e h = refl
 longs_are g zero offset (x ∷ xs) e h = absurd (omega arith)
 longs_are g (suc n) offset [] e h = absurd (omega arith)
 longs_are g (suc n) offset (x ∷ xs) e h =
-    let here : x ≡ in_block g offset = h 0 (omega arith) ∙ ap (in_block g) (omega arith) in
-    let rest : xs ≡ longs_in_block g n (offset + 4) = longs_are g n (offset + 4) xs (omega arith) (λ k l. h (suc k) (omega arith) ∙ ap (in_block g) (omega arith)) in
+    let here : x ≡ control_block_long g offset = h 0 (omega arith) ∙ ap (control_block_long g) (omega arith) in
+    let rest : xs ≡ longs_in_block g n (offset + 4) = longs_are g n (offset + 4) xs (omega arith) (λ k l. h (suc k) (omega arith) ∙ ap (control_block_long g) (omega arith)) in
     λ i. here i ∷ rest i
 
 -- what a block loads
@@ -87,7 +87,7 @@ put_back g g1 g2 before process was one place two place' =
     same_guest g g2 (two ∙ ap (with_process before) one ∙ was) (record { pages = place'.pages ∙ place.pages; base = place'.base ∙ place.base; start = place'.start ∙ place.start })
 
 -- two longwords are pushed
-two_pushed : (sp v w : ℕ) → pointer_behind sp (v ∷ w ∷ []) ≡ minus sp 8
+two_pushed : (sp v w : ℕ) → pointer_after sp (v ∷ w ∷ []) ≡ minus sp 8
 two_pushed sp v w = omega arith
 
 module _ (m : Machine) (s : Shadowed) (g : GuestState) (t : Trapped) (stands : StandsFor m.memory s g) where
@@ -116,9 +116,9 @@ module _ (m : Machine) (s : Shadowed) (g : GuestState) (t : Trapped) (stands : S
     next = loaded whole t.next_pc
 
     abbrev two : List ℕ
-    two = in_block whole 76 ∷ in_block whole 72 ∷ []
+    two = control_block_long whole 76 ∷ control_block_long whole 72 ∷ []
 
-    comes : loads_context whole t.next_pc ≡ behind_push whole next (push_walked (record whole { state = next }) Kernel (slice_index next.r 14) two)
+    comes : loads_context whole t.next_pc ≡ after_push whole next (push_walked (record whole { state = next }) Kernel (slice_index next.r 14) two)
     unfolding loads_context
     comes = rw (inside, allowed) refl
 
@@ -128,8 +128,8 @@ module _ (m : Machine) (s : Shadowed) (g : GuestState) (t : Trapped) (stands : S
         let longs2 : longs ≡ two = longs_are ∙ (λ i. block.psl i ∷ block.pc i ∷ []) in
         λ i. push_walked (guest i) Kernel (slice_index (state1 i).r 14) (longs2 i)
 
-    by_walk : (w : Walked) → w ≡ push_walked (guest_of m.memory g1) Kernel (slice_index g1.r 14) longs → switched whole (loads_context whole t.next_pc) ≡ switched whole (behind_push whole next w)
-    by_walk w e = ap (switched whole) (comes ∙ ap (behind_push whole next) (sym (e ∙ same_walk)))
+    by_walk : (w : Walked) → w ≡ push_walked (guest_of m.memory g1) Kernel (slice_index g1.r 14) longs → switched whole (loads_context whole t.next_pc) ≡ switched whole (after_push whole next w)
+    by_walk w e = ap (switched whole) (comes ∙ ap (after_push whole next) (sym (e ∙ same_walk)))
 
     -- trouble of the push
     pub is_faulty : (f : MemFault) (g2 : GuestState) → Faulty f ≡ push_walked (guest_of m.memory g1) Kernel (slice_index g1.r 14) longs → g2 ≡ g → Senses (switched whole (loads_context whole t.next_pc)) m s g (outcomes.Fault excs.KernelStack) m s g2
@@ -147,7 +147,7 @@ module _ (m : Machine) (s : Shadowed) (g : GuestState) (t : Trapped) (stands : S
     -- all bytes have homes
     module _ (hs : List Home) (walk : Homes hs ≡ push_walked (guest_of m.memory g1) Kernel (slice_index g1.r 14) longs) where
       becomes : Guest
-      becomes = record { memory = pushed hs (partition_of m.memory g); state = record next { r = slice_set next.r 14 (pointer_behind (slice_index next.r 14) two) } }
+      becomes = record { memory = pushed hs (partition_of m.memory g); state = record next { r = slice_set next.r 14 (pointer_after (slice_index next.r 14) two) } }
 
       frames : List ℕ
       frames = frames_pushed (partition_of m.memory g) hs
@@ -163,14 +163,14 @@ module _ (m : Machine) (s : Shadowed) (g : GuestState) (t : Trapped) (stands : S
       behind_is : state_of behind ≡ becomes.state
       unfolding becomes
       behind_is =
-          let after : (x : State) → minus (slice_index x.r 14) 8 ≡ pointer_behind (slice_index x.r 14) two = λ x. sym (two_pushed (slice_index x.r 14) (in_block whole 76) (in_block whole 72)) in
+          let after : (x : State) → minus (slice_index x.r 14) 8 ≡ pointer_after (slice_index x.r 14) two = λ x. sym (two_pushed (slice_index x.r 14) (control_block_long whole 76) (control_block_long whole 72)) in
           ap (λ (x : State). record x { r = slice_set x.r 14 (minus (slice_index x.r 14) 8) }) state1 ∙ ap (λ n. record next { r = slice_set next.r 14 n }) (after next)
 
       there : HasPlace g.pages g.base g.start behind
       there = record { pages = place1.pages; base = place1.base; start = place1.start }
 
       -- the tables' registers have allowed values
-      pub can_switch : CanStand (tables_of behind)
+      pub can_switch : CanBeShadowed (tables_of behind)
       can_switch = can_stand (512 * behind.pages) (state_of behind) (done_allowed t Ldpctx becomes [] frames m s g stands does behind behind_is there)
 
       pub homes_proper : AreHomes (512 * s.pages) hs

@@ -4,7 +4,7 @@ use Rattle.vax_hw.specs.Machine.{Machine}
 use Rattle.vax_table.specs.declared.act.Sens.TheVariants.{Mtpr}
 use Rattle.vax_table.specs.declared.act.Trapped.{Trapped}
 use Rattle.vm_emulate.specs.Emulated.{Senses}
-use Rattle.vm_emulate.specs.Moved.{IsWritten}
+use Rattle.vm_emulate.specs.Moved.{MovesToRegister}
 use Rattle.vm_emulate.specs.declared.emulated.Emulated.TheVariants as outcomes
 use Rattle.vm_emulate.proofs.Same.{same_guest}
 use Rattle.vm_emulate.proofs.Sensing.{alone, done_stands, faults, memory_size}
@@ -13,7 +13,7 @@ use Rattle.vm_emulate.proofs.Writing.{Leaves, leaves}
 use Rattle.vm_exception.specs.Wrote.{Wrote}
 use Rattle.vm_exception.proofs.Writing.{wrote_one}
 use Rattle.vm_shadow.specs.Calls.{OnlyTables}
-use Rattle.vm_shadow.specs.Stands.{CanStand, Shadowed, own}
+use Rattle.vm_shadow.specs.Shadowed.{CanBeShadowed, Shadowed, own}
 use Rattle.vm_shadow.specs.StandsFor.{OnlyGuest, Retells, Serves, StandsFor, Stores, Switches}
 use Rattle.vm_shadow.proofs.Covering.{own_is}
 use Rattle.vm_shadow.proofs.Filling.{byte_apart, own_apart}
@@ -21,7 +21,7 @@ use Rattle.vm_shadow.proofs.Making.{can_stand}
 use Rattle.vm_state.specs.Packets.{accepted, after_accept, busy_status, status_place}
 use Rattle.vm_state.specs.Partition.{guest_of, partition_of}
 use Rattle.vm_state.specs.Registers.{written}
-use Rattle.vm_state.specs.Sensitive.{Does, behind, move_to_register, mtpr_by, packet_taken, sensed, with_codes, with_register_effect}
+use Rattle.vm_state.specs.Sensitive.{Does, move_to_register, mtpr_by, packet_taken, past_instruction, sensed, with_codes, with_register_effect}
 use Rattle.vm_state.specs.State.{Guest, HasPlace, State, state_of, tables_of}
 use Rattle.vm_state.specs.Translation.{frame_at, long_stored}
 use Rattle.vm_state.specs.declared.exception.Exc.TheVariants as excs
@@ -52,33 +52,33 @@ module _ (m : Machine) (s : Shadowed) (g : GuestState) (t : Trapped) (stands : S
   whole = guest_of m.memory g
 
   -- the write was refused
-  pub is_refused : (refused : ReservedOperand) → written (behind (state_of g) t) t.b t.a ≡ Err refused → Senses (move_to_register whole t) m s g (outcomes.Fault excs.ReservedOperand) m s g
+  pub is_refused : (refused : ReservedOperand) → written (past_instruction (state_of g) t) t.b t.a ≡ Err refused → Senses (move_to_register whole t) m s g (outcomes.Fault excs.ReservedOperand) m s g
   is_refused refused e = faults (move_to_register whole t) excs.ReservedOperand m s g stands (ap (mtpr_by whole t.a) e)
 
-  module _ (g1 : GuestState) (effect : Effect) (w : IsWritten g t (Ok effect) g1) (place : HasPlace g.pages g.base g.start g1) where
+  module _ (g1 : GuestState) (effect : Effect) (w : MovesToRegister g t (Ok effect) g1) (place : HasPlace g.pages g.base g.start g1) where
     -- the tables' registers have allowed values
-    pub can_switch : CanStand (tables_of g1)
+    pub can_switch : CanBeShadowed (tables_of g1)
     can_switch =
         let size = 512 * g.pages in
-        let k = subst (WritesKept size (behind (state_of g) t)) w.1 (written_keeps size (behind (state_of g) t) t.b t.a) in
-        let all = chained size (state_of g) (behind (state_of g) t) (with_codes t.a w.0) (behind_keeps size (state_of g) t) (chained size (behind (state_of g) t) w.0 (with_codes t.a w.0) k (codes_keep size t.a w.0)) in
-        subst (λ (x : State). CanStand x.tables) (sym w.2) (can_stand size (with_codes t.a w.0) (all.allowed stands.allowed))
+        let k = subst (WritesKept size (past_instruction (state_of g) t)) w.1 (written_keeps size (past_instruction (state_of g) t) t.b t.a) in
+        let all = chained size (state_of g) (past_instruction (state_of g) t) (with_codes t.a w.0) (behind_keeps size (state_of g) t) (chained size (past_instruction (state_of g) t) w.0 (with_codes t.a w.0) k (codes_keep size t.a w.0)) in
+        subst (λ (x : State). CanBeShadowed x.tables) (sym w.2) (can_stand size (with_codes t.a w.0) (all.allowed stands.allowed))
 
     comes : move_to_register whole t ≡ with_register_effect whole (with_codes t.a w.0) effect
     comes = ap (mtpr_by whole t.a) w.1
 
-    left : Leaves effect (behind (state_of g) t) w.0
-    left = leaves (behind (state_of g) t) w.0 t.b t.a effect w.1
+    left : Leaves effect (past_instruction (state_of g) t) w.0
+    left = leaves (past_instruction (state_of g) t) w.0 t.b t.a effect w.1
 
-  pub is_done : (g1 : GuestState) → IsWritten g t (Ok effects.Done) g1 → HasPlace g.pages g.base g.start g1 → Senses (move_to_register whole t) m s g outcomes.Done m s g1
+  pub is_done : (g1 : GuestState) → MovesToRegister g t (Ok effects.Done) g1 → HasPlace g.pages g.base g.start g1 → Senses (move_to_register whole t) m s g outcomes.Done m s g1
   unfolding sensed
   is_done g1 w place = alone t Mtpr (with_codes t.a w.0) [] m s g g1 stands (comes g1 effects.Done w place) w.2 place (left g1 effects.Done w place)
 
-  pub is_shown : (byte : ℕ) (g1 : GuestState) → IsWritten g t (Ok (effects.Show byte)) g1 → HasPlace g.pages g.base g.start g1 → Senses (move_to_register whole t) m s g outcomes.Done m s g1
+  pub is_shown : (byte : ℕ) (g1 : GuestState) → MovesToRegister g t (Ok (effects.Show byte)) g1 → HasPlace g.pages g.base g.start g1 → Senses (move_to_register whole t) m s g outcomes.Done m s g1
   unfolding sensed
   is_shown byte g1 w place = alone t Mtpr (with_codes t.a w.0) (byte ∷ []) m s g g1 stands (comes g1 (effects.Show byte) w place) w.2 place (left g1 (effects.Show byte) w place)
 
-  pub is_queued : (packet : ℕ) (g1 g2 : GuestState) (m2 : Machine) (s2 : Shadowed) → IsWritten g t (Ok (effects.Kcall packet)) g1 → HasPlace g.pages g.base g.start g1 → Queued ≡ accepted (512 * g1.pages) (state_of g1) packet → state_of g2 ≡ after_accept Queued packet (state_of g1)
+  pub is_queued : (packet : ℕ) (g1 g2 : GuestState) (m2 : Machine) (s2 : Shadowed) → MovesToRegister g t (Ok (effects.Kcall packet)) g1 → HasPlace g.pages g.base g.start g1 → Queued ≡ accepted (512 * g1.pages) (state_of g1) packet → state_of g2 ≡ after_accept Queued packet (state_of g1)
       → HasPlace g1.pages g1.base g1.start g2 → m2 ≡ m → s2 ≡ s → Senses (move_to_register whole t) m s g outcomes.Done m2 s2 g2
   unfolding sensed
   is_queued packet g1 g2 m2 s2 w place a state place' me se =
@@ -87,12 +87,12 @@ module _ (m : Machine) (s : Shadowed) (g : GuestState) (t : Trapped) (stands : S
       let accepts : Queued ≡ accepted (length (partition_of m.memory g)) u packet = a ∙ (λ i. accepted (size i) (w.2 i) packet) in
       let is : move_to_register whole t ≡ Does (record whole { state = after_accept Queued packet u }) [] [] = comes g1 (effects.Kcall packet) w place ∙ ap (packet_taken whole u packet) (sym accepts) in
       let there : HasPlace g.pages g.base g.start g2 = record { pages = place'.pages ∙ place.pages; base = place'.base ∙ place.base; start = place'.start ∙ place.start } in
-      let k : w.0 ≡ behind (state_of g) t = left g1 (effects.Kcall packet) w place in
+      let k : w.0 ≡ past_instruction (state_of g) t = left g1 (effects.Kcall packet) w place in
       let one = alone t Mtpr (after_accept Queued packet u) [] m s g g2 stands is (state ∙ ap (after_accept Queued packet) w.2) there (ap (λ (x : State). x.tables) k) in
       subst (λ x. Senses (move_to_register whole t) m s g outcomes.Done x s2 g2) (sym me) (subst (λ x. Senses (move_to_register whole t) m s g outcomes.Done m x g2) (sym se) one)
 
   -- registers of page tables
-  pub is_remapped_by : (g1 : GuestState) (m' : Machine) (s' : Shadowed) → IsWritten g t (Ok effects.Remap) g1 → HasPlace g.pages g.base g.start g1 → Switches g1 m s m' s' → Senses (move_to_register whole t) m s g outcomes.Done m' s' g1
+  pub is_remapped_by : (g1 : GuestState) (m' : Machine) (s' : Shadowed) → MovesToRegister g t (Ok effects.Remap) g1 → HasPlace g.pages g.base g.start g1 → Switches g1 m s m' s' → Senses (move_to_register whole t) m s g outcomes.Done m' s' g1
   unfolding sensed
   is_remapped_by g1 m' s' w place sw =
       let u = with_codes t.a w.0 in
@@ -110,11 +110,11 @@ module _ (m : Machine) (s : Shadowed) (g : GuestState) (t : Trapped) (stands : S
         only = only_guest s m m' sw.only;
       }
 
-  module _ (packet : ℕ) (g1 g2 : GuestState) (m2 : Machine) (s2 : Shadowed) (w : IsWritten g t (Ok (effects.Kcall packet)) g1) (place : HasPlace g.pages g.base g.start g1) (place' : HasPlace g1.pages g1.base g1.start g2) where
+  module _ (packet : ℕ) (g1 g2 : GuestState) (m2 : Machine) (s2 : Shadowed) (w : MovesToRegister g t (Ok (effects.Kcall packet)) g1) (place : HasPlace g.pages g.base g.start g1) (place' : HasPlace g1.pages g1.base g1.start g2) where
     there : HasPlace g.pages g.base g.start g2
     there = record { pages = place'.pages ∙ place.pages; base = place'.base ∙ place.base; start = place'.start ∙ place.start }
 
-    unchanged : w.0 ≡ behind (state_of g) t
+    unchanged : w.0 ≡ past_instruction (state_of g) t
     unchanged = left g1 (effects.Kcall packet) w place
 
     takes : (a : Accept) → a ≡ accepted (512 * g1.pages) (state_of g1) packet → move_to_register whole t ≡ packet_taken whole (with_codes t.a w.0) packet a

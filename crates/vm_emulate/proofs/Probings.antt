@@ -24,7 +24,7 @@ use Rattle.vm_emulate.proofs.Sensing.{memory_size, nothing_else, same_place}
 use Rattle.vm_emulate.proofs.Telling.{follows_none}
 use Rattle.vm_shadow.specs.Calls.{OnlyTables}
 use Rattle.vm_shadow.specs.Layout.{all_entries, entry_number}
-use Rattle.vm_shadow.specs.Stands.{IsKept, Keeps, Shadowed, own, read_at, real_at, seen_at}
+use Rattle.vm_shadow.specs.Shadowed.{IsKept, Keeps, Shadowed, own, read_at, real_at, seen_at}
 use Rattle.vm_shadow.specs.StandsFor.{FillsPage, IsPresent, StandsFor, own_number}
 use Rattle.vm_shadow.specs.declared.source.Source.{Source}
 use Rattle.vm_shadow.proofs.Covering.{own_is, present_covered, slot_small}
@@ -33,7 +33,7 @@ use Rattle.vm_shadow.proofs.Places.{number_small}
 use Rattle.vm_shadow.proofs.Scanning.{apart_again}
 use Rattle.vm_state.specs.Allowed.{AreAllowed}
 use Rattle.vm_state.specs.Partition.{guest_of, part, partition_of}
-use Rattle.vm_state.specs.Sensitive.{behind}
+use Rattle.vm_state.specs.Sensitive.{past_instruction}
 use Rattle.vm_state.proofs.Keeps.{Keeps as StateKeeps, low_changed, moved}
 use Rattle.vm_state.specs.Probe.{Answers, NotValid, PastMemory, Probed, both, probe, probed_by, probed_byte}
 use Rattle.vm_state.specs.State.{Guest, HasPlace, State, state_of, tables_of}
@@ -188,11 +188,11 @@ module _ (i : Intent) (t : Trapped) (m : Machine) (s : Shadowed) (g : GuestState
         only = only_guest s m m' two.only;
       }
 
-  pub probe_done : (a b : Bool) (g1 g2 : GuestState) → Answers a b ≡ found → b ≡ false → state_of g1 ≡ behind (state_of g) t → HasPlace g.pages g.base g.start g1 → state_of g2 ≡ record (state_of g1) { psl = probe_codes a g1.psl.0 } → HasPlace g1.pages g1.base g1.start g2 → Probes i t m s g outcomes.Done m s g2
+  pub probe_done : (a b : Bool) (g1 g2 : GuestState) → Answers a b ≡ found → b ≡ false → state_of g1 ≡ past_instruction (state_of g) t → HasPlace g.pages g.base g.start g1 → state_of g2 ≡ record (state_of g1) { psl = probe_codes a g1.psl.0 } → HasPlace g1.pages g1.base g1.start g2 → Probes i t m s g outcomes.Done m s g2
   probe_done a b g1 g2 e plain one place two place' =
       let is : found ≡ Answers a false = sym e ∙ ap (Answers a) plain in
       let there : HasPlace g.pages g.base g.start g2 = record { pages = place'.pages ∙ place.pages; base = place'.base ∙ place.base; start = place'.start ∙ place.start } in
-      let u : State = record (behind (state_of g) t) { psl = probe_codes a g.psl.0 } in
+      let u : State = record (past_instruction (state_of g) t) { psl = probe_codes a g.psl.0 } in
       let state : state_of g2 ≡ u = two ∙ ap (λ (x : State). record x { psl = probe_codes a x.psl }) one in
       let memory : partition_of m.memory g2 ≡ partition_of m.memory g = λ k. part m.memory (512 * there.base k) (512 * there.pages k) in
       let keeps : StateKeeps (512 * g.pages) (state_of g) u = moved (512 * g.pages) (state_of g) u refl refl refl refl refl refl refl refl (λ k. low_changed g.psl.0 ((g.psl.0 % 2 ^ 8 / 16 * 16 + 4 * bit_of (not a) + g.psl.0 % 2 ^ 8 % 2) % 2 ^ 8) (code_low (g.psl.0 % 2 ^ 8 / 16 * 16 + 4 * bit_of (not a) + g.psl.0 % 2 ^ 8 % 2)) k) in

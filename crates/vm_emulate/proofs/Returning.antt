@@ -4,7 +4,7 @@ use Rattle.std.proofs.lemmas.Bool.{not-true}
 use Rattle.std.specs.Prelude.{slice_index, if◌then◌else◌}
 use Rattle.vax_arch.specs.Rei.{rei_refuses}
 use Rattle.vax_hw.specs.Machine.{Machine}
-use Rattle.vax_table.specs.Script.{Trouble, outcome}
+use Rattle.vax_table.specs.Interaction.{Trouble, outcome}
 use Rattle.vax_table.specs.declared.act.Sens.TheVariants.{Rei}
 use Rattle.vax_table.specs.declared.act.Trapped.{Trapped}
 use Rattle.vm_emulate.specs.Emulated.{SensesAlone}
@@ -17,7 +17,7 @@ use Rattle.vm_emulate.proofs.Sensing.{alone, faults, lacks}
 use Rattle.vm_state.specs.Contexts as contexts
 use Rattle.vm_state.specs.Contexts.{two_popped}
 use Rattle.vm_state.specs.Partition.{guest_of}
-use Rattle.vm_state.specs.Sensitive.{Does, Faults, behind, rei_by, return_from, returned_to, sensed, troubled}
+use Rattle.vm_state.specs.Sensitive.{Does, Faults, past_instruction, rei_by, return_from, returned_to, sensed, troubled}
 use Rattle.vm_state.specs.State.{Guest, HasPlace, state_of}
 use Rattle.vm_state.specs.Translation.{space_of}
 use Rattle.vm_state.specs.declared.exception.Exc.TheVariants as excs
@@ -39,19 +39,19 @@ module _ (m : Machine) (g : GuestState) (t : Trapped) where
   abbrev pub pops : Result contexts.Popped Trouble
   pops = outcome (space_of whole) (two_popped (slice_index t.regs 14))
 
-  pub returns_done : (g1 g' : GuestState) (q : Popped) → ArePopped whole pops (Ok q) → not (rei_refuses g.psl.0 q.psl) ≡ true → state_of g1 ≡ behind (state_of g) t → HasPlace g.pages g.base g.start g1
+  pub returns_done : (g1 g' : GuestState) (q : Popped) → ArePopped whole pops (Ok q) → not (rei_refuses g.psl.0 q.psl) ≡ true → state_of g1 ≡ past_instruction (state_of g) t → HasPlace g.pages g.base g.start g1
       → state_of g' ≡ returned_to (state_of g1) (popped_of q) → HasPlace g1.pages g1.base g1.start g' → SensesAlone (return_from whole t) m g outcomes.Done g'
   unfolding sensed
   returns_done g1 g' q pop lets one place state place' =
       let p = popped_of q in
-      let u = returned_to (behind (state_of g) t) p in
+      let u = returned_to (past_instruction (state_of g) t) p in
       let place : HasPlace g.pages g.base g.start g' = record { pages = place'.pages ∙ place.pages; base = place'.base ∙ place.base; start = place'.start ∙ place.start } in
       let is : return_from whole t ≡ Does (record whole { state = u }) [] [] = ap (rei_by whole t) (popped_ok whole pops q pop) ∙ ap (λ b. if b then Faults excs.ReservedOperand else Does (record whole { state = u }) [] []) (not-true _ lets) in
       record { senses = λ s stands. alone t Rei u [] m s g g' stands is (state ∙ ap (λ x. returned_to x p) one) place refl }
 
   pub returns_refused : (q : Popped) → ArePopped whole pops (Ok q) → not (rei_refuses g.psl.0 q.psl) ≡ false → SensesAlone (return_from whole t) m g (outcomes.Fault excs.ReservedOperand) g
   returns_refused q pop lets =
-      let is : return_from whole t ≡ Faults excs.ReservedOperand = ap (rei_by whole t) (popped_ok whole pops q pop) ∙ ap (λ b. if b then Faults excs.ReservedOperand else Does (record whole { state = returned_to (behind (state_of g) t) (popped_of q) }) [] []) (Rattle.std.proofs.lemmas.Bool.not-false _ lets) in
+      let is : return_from whole t ≡ Faults excs.ReservedOperand = ap (rei_by whole t) (popped_ok whole pops q pop) ∙ ap (λ b. if b then Faults excs.ReservedOperand else Does (record whole { state = returned_to (past_instruction (state_of g) t) (popped_of q) }) [] []) (Rattle.std.proofs.lemmas.Bool.not-false _ lets) in
       record { senses = λ s stands. faults (return_from whole t) excs.ReservedOperand m s g stands is }
 
   pub returns_faulty : (f : MemFault) → ArePopped whole pops (Err (reasons.Faulty f)) → SensesAlone (return_from whole t) m g (outcomes.Fault (excs.Memory f)) g

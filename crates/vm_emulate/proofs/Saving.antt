@@ -5,7 +5,7 @@ use Rattle.std.proofs.lemmas.List.{length-take, take_all, take_more}
 use Rattle.vax_hw.specs.Machine.{Machine}
 use Rattle.vm_exception.specs.Wrote.{Wrote}
 use Rattle.vm_exception.proofs.Writing.{Among, wrote_as, wrote_none, wrote_one, wrote_then}
-use Rattle.vm_shadow.specs.Stands.{Shadowed, is_pending, is_read_from, own}
+use Rattle.vm_shadow.specs.Shadowed.{Shadowed, is_pending, is_read_from, own}
 use Rattle.vm_shadow.specs.StandsFor.{Stores}
 use Rattle.vm_shadow.specs.declared.source.Source.{Source}
 use Rattle.vm_state.specs.Contexts.{long_frames, longs_stored}

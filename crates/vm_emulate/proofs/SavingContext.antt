@@ -5,7 +5,7 @@ use Rattle.std.specs.Prelude.{slice_index}
 use Rattle.vax_arch.specs.Fields.{is_on_interrupt_stack}
 use Rattle.vax_arch.specs.Walk.{is_past}
 use Rattle.vax_hw.specs.Machine.{Machine}
-use Rattle.vax_table.specs.Script.{Trouble, outcome}
+use Rattle.vax_table.specs.Interaction.{Trouble, outcome}
 use Rattle.vax_table.specs.declared.act.Sens.TheVariants.{Svpctx}
 use Rattle.vax_table.specs.declared.act.Trapped.{Trapped}
 use Rattle.vm_emulate.specs.Emulated.{Senses}
@@ -19,11 +19,11 @@ use Rattle.vm_emulate.proofs.Returning.{popped_err, popped_ok}
 use Rattle.vm_emulate.proofs.Sensing.{done_stands, faults, lacks, memory_size}
 use Rattle.vm_emulate.proofs.Telling.{follows_drops}
 use Rattle.vm_exception.specs.Wrote.{Wrote}
-use Rattle.vm_shadow.specs.Stands.{Shadowed, own}
+use Rattle.vm_shadow.specs.Shadowed.{Shadowed, own}
 use Rattle.vm_shadow.specs.StandsFor.{Serves, StandsFor}
 use Rattle.vm_shadow.proofs.Covering.{own_is}
 use Rattle.vm_state.specs.Contexts as contexts
-use Rattle.vm_state.specs.Contexts.{BlockPast, Switched, Switches, behind_pops, behind_reads, block_size, is_block_past, long_frames, longs_stored, on_interrupt, saved, saved_longs, saves_context, two_popped}
+use Rattle.vm_state.specs.Contexts.{BlockPast, Switched, Switches, after_pops, after_reads, block_size, is_block_past, long_frames, longs_stored, on_interrupt, saved, saved_longs, saves_context, two_popped}
 use Rattle.vm_state.specs.Partition.{guest_of, partition_of}
 use Rattle.vm_state.specs.Sensitive.{Does, LacksMemory, sensed, switched}
 use Rattle.vm_state.specs.State.{Guest, HasPlace, State, state_of, tables_of}
@@ -46,9 +46,9 @@ module _ (m : Machine) (s : Shadowed) (g : GuestState) (t : Trapped) (stands : S
   abbrev pub comes : Switched
   comes = saves_context whole t.next_pc
 
-  by_pops : (r : Result contexts.Popped Trouble) → pops ≡ r → switched whole comes ≡ switched whole (behind_reads whole t.next_pc r)
+  by_pops : (r : Result contexts.Popped Trouble) → pops ≡ r → switched whole comes ≡ switched whole (after_reads whole t.next_pc r)
   unfolding saves_context
-  by_pops r e = ap (λ (x : Result contexts.Popped Trouble). switched whole (behind_reads whole t.next_pc x)) e
+  by_pops r e = ap (λ (x : Result contexts.Popped Trouble). switched whole (after_reads whole t.next_pc x)) e
 
   past_by : (b : Bool) → is_past (512 * g.pages) g.pcbb block_size ≡ b → is_block_past whole ≡ b
   past_by b e = ap (λ n. is_past n g.pcbb block_size) (memory_size m s g stands) ∙ e
@@ -65,7 +65,7 @@ module _ (m : Machine) (s : Shadowed) (g : GuestState) (t : Trapped) (stands : S
 
   module _ (r : Result Popped Unread) (q : Popped) (pop : ArePopped whole pops r) (has : r ≡ Ok q) where
     abbrev behind_them : State
-    behind_them = behind_pops (state_of g) t.next_pc
+    behind_them = after_pops (state_of g) t.next_pc
 
     by_block : switched whole comes ≡ switched whole (saved whole behind_them (popped_of q))
     by_block = by_pops (Ok (popped_of q)) (popped_ok whole pops q (subst (ArePopped whole pops) has pop))
@@ -78,7 +78,7 @@ module _ (m : Machine) (s : Shadowed) (g : GuestState) (t : Trapped) (stands : S
         let is : switched whole comes ≡ LacksMemory = by_block ∙ ap (λ b. switched whole (if b then BlockPast else Switches stored (long_frames g.pcbb 20))) (past_by true past) in
         subst (λ y. Senses (switched whole comes) m s g y m s g') (sym result) (lacks (switched whole comes) m s g g' stands is state place)
 
-    pub saves_done : (g1 g2 : GuestState) (longs : List ℕ) (m2 : Machine) (s2 : Shadowed) → is_past (512 * g.pages) g.pcbb block_size ≡ false → state_of g1 ≡ behind_pops (state_of g) t.next_pc → HasPlace g.pages g.base g.start g1
+    pub saves_done : (g1 g2 : GuestState) (longs : List ℕ) (m2 : Machine) (s2 : Shadowed) → is_past (512 * g.pages) g.pcbb block_size ≡ false → state_of g1 ≡ after_pops (state_of g) t.next_pc → HasPlace g.pages g.base g.start g1
         → longs ≡ saved_longs (state_of g1) (popped_of q) → length longs ≡ 20 → Wrote (long_frames g1.pcbb (length longs)) (longs_stored g1.pcbb longs (own m.memory s)) m s m2 s2
         → state_of g2 ≡ on_interrupt (state_of g1) → HasPlace g1.pages g1.base g1.start g2 → Senses (switched whole comes) m s g outcomes.Done m2 s2 g2
     unfolding sensed

@@ -10,7 +10,7 @@ use Rattle.vm_emulate.proofs.Telling.{follows_none}
 use Rattle.vm_exception.proofs.Arriving.{stopped_stands}
 use Rattle.vm_exception.specs.Attempted.{Stays}
 use Rattle.vm_exception.specs.Initiated.{StopsWith}
-use Rattle.vm_shadow.specs.Stands.{Keeps, Shadowed}
+use Rattle.vm_shadow.specs.Shadowed.{Keeps, Shadowed}
 use Rattle.vm_shadow.specs.StandsFor.{OnlyGuest, StandsFor}
 use Rattle.vm_shadow.proofs.Covering.{own_is, own_length}
 use Rattle.vm_state.specs.Allowed.{AreAllowed}

@@ -3,7 +3,7 @@ use Rattle.std.proofs.Common.{◌≡◌, ℕ, inl, List, [], refl, subst}
 use Rattle.vax_arch.specs.Walk.{Tables}
 use Rattle.vm_emulate.specs.Followed.{Follows}
 use Rattle.vm_exception.specs.Wrote.{DropsAmong}
-use Rattle.vm_shadow.specs.Stands.{Fits, Shadowed}
+use Rattle.vm_shadow.specs.Shadowed.{Fits, Shadowed}
 use Rattle.vm_shadow.specs.StandsFor.{Retells}
 use Rattle.vm_shadow.proofs.OwnContext.{told_again}
 

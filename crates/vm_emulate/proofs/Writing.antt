@@ -4,8 +4,8 @@ use Rattle.std.proofs.lemmas.Bool.{cond_both}
 use Rattle.std.proofs.lemmas.Bool.Decides.{nat_tests}
 use Rattle.vax_arch.specs.Walk.{is_past}
 use Rattle.vax_table.specs.declared.act.Trapped.{Trapped}
-use Rattle.vm_emulate.specs.Moved.{IsWritten}
-use Rattle.vm_ipr.specs.Outcomes.{Writes}
+use Rattle.vm_emulate.specs.Moved.{MovesToRegister}
+use Rattle.vm_ipr.specs.Outcomes.{WritesRegister}
 use Rattle.vm_state.specs.Packets.{accepted}
 use Rattle.vm_state.specs.Registers.{Written, after_write, allows, effect_of, register_of, with_pointer, write_by, written}
 use Rattle.vm_state.specs.Sensitive.{with_codes}
@@ -19,9 +19,9 @@ use Rattle.vm_state.specs.declared.register.ReservedOperand.{ReservedOperand}
 use Rattle.vm_state.specs.declared.transfer.Accept.{Accept}
 use Rattle.vm_state.specs.declared.transfer.Accept.TheVariants.{BadPacket, Busy, Queued}
 
-pub is_written : (g g2 g3 : GuestState) (t : Trapped) (r : List ℕ) (x : Result Effect ReservedOperand) (effect : Effect) → r ≡ t.regs ++ t.next_pc ∷ [] → x ≡ Ok effect → Writes (record g { r = r }) g2 t.b t.a x → state_of g3 ≡ with_codes t.a (state_of g2) → IsWritten g t (Ok effect) g3
+pub is_written : (g g2 g3 : GuestState) (t : Trapped) (r : List ℕ) (x : Result Effect ReservedOperand) (effect : Effect) → r ≡ t.regs ++ t.next_pc ∷ [] → x ≡ Ok effect → WritesRegister (record g { r = r }) g2 t.b t.a x → state_of g3 ≡ with_codes t.a (state_of g2) → MovesToRegister g t (Ok effect) g3
 is_written g g2 g3 t r x effect is e w codes =
-    (state_of g2, ap (λ (y : List ℕ). written (record (state_of g) { r = y }) t.b t.a) (sym is) ∙ subst (Writes (record g { r = r }) g2 t.b t.a) e w, codes)
+    (state_of g2, ap (λ (y : List ℕ). written (record (state_of g) { r = y }) t.b t.a) (sym is) ∙ subst (WritesRegister (record g { r = r }) g2 t.b t.a) e w, codes)
 
 -- what a write leaves, by what it asks for
 abbrev pub Leaves : Effect → State → State → Type 0

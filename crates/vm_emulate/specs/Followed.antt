@@ -3,7 +3,7 @@
 use Rattle.std.specs.Prelude.{ℕ, List}
 use Rattle.vax_arch.specs.Walk.{Tables}
 use Rattle.vm_exception.specs.Wrote.{DropsAmong}
-use Rattle.vm_shadow.specs.Stands.{Shadowed}
+use Rattle.vm_shadow.specs.Shadowed.{Shadowed}
 use Rattle.vm_shadow.specs.StandsFor.{Retells}
 
 pub record Follows (frames : List ℕ) (t : Tables) (s s' : Shadowed) : Type 0 where

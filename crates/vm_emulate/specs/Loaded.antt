@@ -2,7 +2,7 @@
 use Rattle.std.specs.Prelude.{◌≡◌, ◌/◌, ◌%◌, ◌^◌, ◌==◌, ◌||◌, Bool, not}
 use Rattle.vm_emulate.specs.declared.loads.Block.{Block}
 use Rattle.vm_emulate.specs.declared.loads.Process.{Process}
-use Rattle.vm_state.specs.Contexts.{in_block, longs_in_block}
+use Rattle.vm_state.specs.Contexts.{control_block_long, longs_in_block}
 use Rattle.vm_state.specs.Registers.{allows}
 use Rattle.vm_state.specs.State.{Guest, State}
 use Rattle.vm_state.specs.declared.register.Register.TheVariants.{Astlvl, P0br, P0lr, P1br, P1lr}
@@ -11,12 +11,12 @@ use Rattle.vm_state.specs.declared.register.Register.TheVariants.{Astlvl, P0br, 
 pub record IsBlock (g : Guest) (b : Block) : Type 0 where
   pub stacks : b.stacks ≡ longs_in_block g 4 0
   pub general : b.general ≡ longs_in_block g 14 16
-  pub pc : b.pc ≡ in_block g 72
-  pub psl : b.psl ≡ in_block g 76
-  pub p0br : b.p0br ≡ in_block g 80
-  pub p0_length : b.p0_length ≡ in_block g 84
-  pub p1br : b.p1br ≡ in_block g 88
-  pub p1_length : b.p1_length ≡ in_block g 92
+  pub pc : b.pc ≡ control_block_long g 72
+  pub psl : b.psl ≡ control_block_long g 76
+  pub p0br : b.p0br ≡ control_block_long g 80
+  pub p0_length : b.p0_length ≡ control_block_long g 84
+  pub p1br : b.p1br ≡ control_block_long g 88
+  pub p1_length : b.p1_length ≡ control_block_long g 92
 
 -- a register refuses what it would be loaded with
 abbrev pub refuses_register : Block → Bool

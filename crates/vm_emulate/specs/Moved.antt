@@ -2,11 +2,11 @@
 use Rattle.std.specs.Prelude.{◌≡◌, ℕ, Result, Ok, Err}
 use Rattle.vax_table.specs.declared.act.Trapped.{Trapped}
 use Rattle.vax_hw.specs.Machine.{Machine}
-use Rattle.vm_shadow.specs.Stands.{Shadowed, own}
+use Rattle.vm_shadow.specs.Shadowed.{Shadowed, own}
 use Rattle.vm_shadow.specs.StandsFor.{Stores}
 use Rattle.vm_state.specs.Packets.{busy_status, status_place}
 use Rattle.vm_state.specs.Registers.{written}
-use Rattle.vm_state.specs.Sensitive.{behind, with_codes}
+use Rattle.vm_state.specs.Sensitive.{past_instruction, with_codes}
 use Rattle.vm_state.specs.State.{State, state_of}
 use Rattle.vm_state.specs.Translation.{long_stored}
 use Rattle.vm_state.specs.declared.guest_state.GuestState.{GuestState}
@@ -16,9 +16,9 @@ use Rattle.vm_state.specs.declared.transfer.Accept.{Accept}
 use Rattle.vm_state.specs.declared.transfer.Accept.TheVariants.{BadPacket, Busy, Queued}
 
 -- the register is written and the codes are set; a refused write leaves the guest as it was
-abbrev pub IsWritten : GuestState → Trapped → Result Effect ReservedOperand → GuestState → Type 0
-IsWritten g t (Ok effect) g' = (u : State) × (written (behind (state_of g) t) t.b t.a ≡ Ok (record { state = u; effect = effect })) × (state_of g' ≡ with_codes t.a u)
-IsWritten g t (Err refused) g' = (written (behind (state_of g) t) t.b t.a ≡ Err refused) × (g' ≡ g)
+abbrev pub MovesToRegister : GuestState → Trapped → Result Effect ReservedOperand → GuestState → Type 0
+MovesToRegister g t (Ok effect) g' = (u : State) × (written (past_instruction (state_of g) t) t.b t.a ≡ Ok (record { state = u; effect = effect })) × (state_of g' ≡ with_codes t.a u)
+MovesToRegister g t (Err refused) g' = (written (past_instruction (state_of g) t) t.b t.a ≡ Err refused) × (g' ≡ g)
 
 -- a packet that finds the queue full has its status, and else nothing is written
 abbrev pub IsStatusSet : Accept → (packet : ℕ) → Machine → Shadowed → Machine → Shadowed → Type 0

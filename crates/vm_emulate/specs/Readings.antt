@@ -1,7 +1,7 @@
 -- What is read of a guest, by the walks of its bytes in the guest's mode.
 use Rattle.std.specs.Prelude.{◌≡◌, ℕ, Result, Ok, Err}
 use Rattle.vax_arch.specs.declared.mode.Intent.TheVariants.{Read}
-use Rattle.vax_table.specs.Script.{Cause, Trouble}
+use Rattle.vax_table.specs.Interaction.{Cause, Trouble}
 use Rattle.vm_emulate.specs.declared.reading.Unread.{Unread}
 use Rattle.vm_emulate.specs.declared.returns.Popped.{Popped}
 use Rattle.vm_emulate.specs.declared.reading.Unread.TheVariants.{Faulty, PastMemory}
@@ -22,10 +22,10 @@ IsByte g va (Ok b) = space_of g Read va ≡ Ok b
 IsByte g va (Err u) = ((cause : Cause) × (space_of g Read va ≡ Err cause)) × (fault_of (walk_of g va (mode_of_state g.state) Read) ≡ unread u)
 
 -- the number, or the trouble of the first of its bytes that has one
-abbrev pub IsRead : Guest → Result ℕ Trouble → Result ℕ Unread → Type 0
-IsRead g (Ok v) (Ok w) = w ≡ v
-IsRead g (Err trouble) (Err u) = troubled g trouble ≡ unread u
-IsRead g _ _ = ⊥
+abbrev pub AnswersReading : Guest → Result ℕ Trouble → Result ℕ Unread → Type 0
+AnswersReading g (Ok v) (Ok w) = w ≡ v
+AnswersReading g (Err trouble) (Err u) = troubled g trouble ≡ unread u
+AnswersReading g _ _ = ⊥
 
 -- a PC and a PSL, or the first trouble
 abbrev pub popped_of : Popped → contexts.Popped

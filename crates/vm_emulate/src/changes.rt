@@ -1,13 +1,13 @@
 ghost use Rattle.std.specs.Prelude.{◌≡◌, ◌≤◌, ◌+◌, ◌*◌, ◌∷◌, [], length};
 ghost use Rattle.vax_arch.specs.Fields.{current_of, mode_number};
-ghost use Rattle.vm_emulate.specs.Changed.{entered, is_done};
+ghost use Rattle.vm_emulate.specs.Changed.{is_done, mode_change_sensed};
 ghost use Rattle.vm_emulate.specs.Emulated.{Senses};
 ghost use Rattle.vm_exception.specs.Pushed.{walked_of};
 ghost use Rattle.vm_shadow.specs.StandsFor.{StandsFor};
 ghost use Rattle.vm_state.specs.Initiate.{initiate, more_privileged};
 ghost use Rattle.vm_state.specs.Partition.{guest_of};
 ghost use Rattle.vm_state.specs.Pushes.{push_walked};
-ghost use Rattle.vm_state.specs.Sensitive.{change_mode, changed};
+ghost use Rattle.vm_state.specs.Sensitive.{change_mode, mode_changed};
 ghost use Rattle.vm_state.specs.declared.exception.Exc.TheVariants.{Chm};
 ghost use Rattle.vm_state.specs.State.{pc_of, pointer_of, state_of};
 
@@ -50,7 +50,7 @@ fn begin<H: Hardware>(
     code: u32,
 ) -> Emulated
     requires { StandsFor (H.machine machine.old).memory s.old g.old }
-    ensures { Senses (changed (initiate (guest_of (H.machine machine.old).memory g.old) (Chm to code))) (H.machine machine.old) s.old g.old result (H.machine machine.new) s.new g.new }
+    ensures { Senses (mode_changed (initiate (guest_of (H.machine machine.old).memory g.old) (Chm to code))) (H.machine machine.old) s.old g.old result (H.machine machine.new) s.new g.new }
 {
     match initiate(machine, s, g, Exc::Chm { to, code }) {
         Initiated::Taken | Initiated::KernelStackBad => Emulated::Done,
@@ -68,7 +68,7 @@ fn enter<H: Hardware>(
     code: u32,
 ) -> Emulated
     requires { StandsFor (H.machine machine.old).memory s.old g.old }
-    ensures { Senses (entered (guest_of (H.machine machine.old).memory g.old) to code) (H.machine machine.old) s.old g.old result (H.machine machine.new) s.new g.new }
+    ensures { Senses (mode_change_sensed (guest_of (H.machine machine.old).memory g.old) to code) (H.machine machine.old) s.old g.old result (H.machine machine.new) s.new g.new }
 {
     let m = mode_entered(g, to);
     if m == Mode::Kernel {

@@ -4,10 +4,10 @@ ghost use Rattle.vax_table.specs.Claims.{addresses};
 ghost use Rattle.vax_table.specs.Tries.{first_clear};
 ghost use Rattle.vax_table.specs.declared.act.Dest.TheVariants.{Memory};
 ghost use Rattle.vm_emulate.specs.Emulated.{Senses};
-ghost use Rattle.vm_emulate.specs.Fetched.{ArePlaces, IsFetched, IsPlace, bytes_placed, with_value};
+ghost use Rattle.vm_emulate.specs.Fetched.{ArePlaces, IsPlace, MovesFromRegister, bytes_placed, with_value};
 ghost use Rattle.vm_exception.specs.Pushed.{home_of};
 ghost use Rattle.vm_exception.specs.Wrote.{PutsHomes};
-ghost use Rattle.vm_shadow.specs.Stands.{Keeps};
+ghost use Rattle.vm_shadow.specs.Shadowed.{Keeps};
 ghost use Rattle.vm_shadow.specs.StandsFor.{StandsFor};
 ghost use Rattle.vm_state.specs.Partition.{guest_of};
 ghost use Rattle.vm_state.specs.Sensitive.{ClearAt, move_from_register};
@@ -130,7 +130,7 @@ fn put_long<H: Hardware>(machine: &mut H, s: &mut Shadow, places: [u32; 4], long
 /// Reads the register that MFPR names, and goes after it with the codes of the value. A refused read changes nothing.
 fn read_register(g: &mut GuestState, t: &Trapped) -> Result<u32, ReservedOperand>
     requires { g.old.pages ≤ 65536 }
-    ensures is { IsFetched g.old t.now result g.new }
+    ensures is { MovesFromRegister g.old t.now result g.new }
     ensures place { HasPlace g.old.pages g.old.base g.old.start g.new }
 {
     let before = g.r;

@@ -1,6 +1,6 @@
 ghost use Rattle.std.specs.Prelude.{◌≡◌, ◌∷◌, ◌++◌, [], Some, slice_index, true};
 ghost use Rattle.vm_emulate.specs.declared.emulated.Emulated.TheVariants.{Done, PastMemory, Stopped};
-ghost use Rattle.vm_state.specs.Sensitive.{behind};
+ghost use Rattle.vm_state.specs.Sensitive.{past_instruction};
 ghost use Rattle.vm_state.specs.State.{HasPlace, state_of};
 
 use crate::Emulated;
@@ -20,7 +20,7 @@ pub fn registers_behind(t: &Trapped) -> [u32; 16]
 
 /// The guest goes on after an instruction.
 pub fn go_behind(g: &mut GuestState, t: &Trapped)
-    ensures state { state_of g.new ≡ behind (state_of g.old) t.now }
+    ensures state { state_of g.new ≡ past_instruction (state_of g.old) t.now }
     ensures place { HasPlace g.old.pages g.old.base g.old.start g.new }
 {
     g.r = registers_behind(t);
@@ -49,7 +49,7 @@ pub fn stop_past_memory(g: &mut GuestState) -> Emulated
 /// HALT: the guest stops after it.
 pub fn halt(g: &mut GuestState, t: &Trapped) -> Emulated
     ensures result { result ≡ Stopped 6 }
-    ensures state { state_of g.new ≡ record (behind (state_of g.old) t.now) { halt = Some 6 } }
+    ensures state { state_of g.new ≡ record (past_instruction (state_of g.old) t.now) { halt = Some 6 } }
     ensures place { HasPlace g.old.pages g.old.base g.old.start g.new }
 {
     go_behind(g, t);
@@ -59,7 +59,7 @@ pub fn halt(g: &mut GuestState, t: &Trapped) -> Emulated
 /// WAIT: the guest waits for an interrupt.
 pub fn wait(g: &mut GuestState, t: &Trapped) -> Emulated
     ensures result { result ≡ Done }
-    ensures state { state_of g.new ≡ record (behind (state_of g.old) t.now) { waiting = true } }
+    ensures state { state_of g.new ≡ record (past_instruction (state_of g.old) t.now) { waiting = true } }
     ensures place { HasPlace g.old.pages g.old.base g.old.start g.new }
 {
     go_behind(g, t);

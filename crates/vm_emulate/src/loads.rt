@@ -3,7 +3,7 @@ ghost use Rattle.vax_arch.specs.Walk.{is_past};
 ghost use Rattle.vm_emulate.specs.Emulated.{Senses};
 ghost use Rattle.vm_emulate.specs.Loaded.{IsBlock, has_reserved_bit, refuses_register, with_process};
 ghost use Rattle.vm_shadow.specs.StandsFor.{StandsFor};
-ghost use Rattle.vm_state.specs.Contexts.{block_size, in_block, is_block_past, is_block_reserved, loaded, loads_context, longs_in_block, off_interrupt_stack};
+ghost use Rattle.vm_state.specs.Contexts.{block_size, control_block_long, is_block_past, is_block_reserved, loaded, loads_context, longs_in_block, off_interrupt_stack};
 ghost use Rattle.vm_state.specs.Partition.{guest_of};
 ghost use Rattle.vm_state.specs.Sensitive.{switched};
 ghost use Rattle.vm_state.specs.State.{Guest, HasPlace, state_of};
@@ -134,7 +134,7 @@ pub fn is_block_past(g: &GuestState) -> bool
 fn long_in_block<H: Hardware>(machine: &H, g: &GuestState, offset: u32) -> u32
     requires partition { 512 * (g.now.base + g.now.pages) ≤ length (H.machine machine.now).memory }
     requires inside { g.now.pcbb + offset + 4 ≤ 512 * g.now.pages }
-    ensures { result ≡ in_block (guest_of (H.machine machine.now).memory g.now) offset }
+    ensures { result ≡ control_block_long (guest_of (H.machine machine.now).memory g.now) offset }
 {
     let _all = machine.pages();
     machine.read_long(512 * g.base + (g.pcbb + offset))

@@ -1,8 +1,8 @@
 ghost use Rattle.std.specs.Prelude.{[], ◌≡◌, ◌*◌};
 ghost use Rattle.vm_console.specs.Appends.{Appends};
 ghost use Rattle.vm_emulate.specs.Emulated.{Senses, shown_by};
-ghost use Rattle.vm_emulate.specs.Moved.{IsStatusSet, IsWritten};
-ghost use Rattle.vm_shadow.specs.Stands.{Keeps};
+ghost use Rattle.vm_emulate.specs.Moved.{IsStatusSet, MovesToRegister};
+ghost use Rattle.vm_shadow.specs.Shadowed.{Keeps};
 ghost use Rattle.vm_shadow.specs.StandsFor.{StandsFor};
 ghost use Rattle.vm_state.specs.Packets.{accepted, after_accept};
 ghost use Rattle.vm_state.specs.Partition.{guest_of};
@@ -40,7 +40,7 @@ pub fn set_codes(g: &mut GuestState, v: u32)
 
 /// Writes the register that MTPR names, and goes after it with the codes of the value. A refused write changes nothing.
 fn write_register(g: &mut GuestState, t: &Trapped) -> Result<Effect, ReservedOperand>
-    ensures is { IsWritten g.old t.now result g.new }
+    ensures is { MovesToRegister g.old t.now result g.new }
     ensures place { HasPlace g.old.pages g.old.base g.old.start g.new }
 {
     let before = g.r;

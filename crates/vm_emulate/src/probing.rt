@@ -7,7 +7,7 @@ ghost use Rattle.vm_shadow.specs.StandsFor.{IsPresent, StandsFor};
 ghost use Rattle.vm_state.specs.Partition.{guest_of};
 ghost use Rattle.vm_state.specs.Probe.{both, by_entry, probe, probed_byte};
 ghost use Rattle.vm_state.specs.State.{HasPlace, state_of};
-ghost use Rattle.vm_state.specs.Translation.{fault};
+ghost use Rattle.vm_state.specs.Translation.{memory_fault};
 
 use crate::Emulated;
 use crate::halts::{go_behind, stop_past_memory};
@@ -95,7 +95,7 @@ fn by_entry(g: &GuestState, entry: Pte, m: Mode, i: Intent) -> Probed
 /// A fault of a translation that isn't valid, at an address; bit 2 of its parameter says that the byte was to be written.
 fn not_valid(va: u32, parameter: u8, i: Intent) -> MemFault
     requires { parameter < 4 }
-    ensures { result ≡ fault true va parameter i }
+    ensures { result ≡ memory_fault true va parameter i }
 {
     let write = match i {
         Intent::Read => 0,

@@ -1,8 +1,8 @@
 ghost use Rattle.std.specs.Prelude.{◌≡◌, ◌≤◌, ◌<◌, ◌+◌, ◌*◌, length, slice_index};
 ghost use Rattle.vax_arch.specs.WalkLaws.{AreAligned};
 ghost use Rattle.vax_arch.specs.declared.mode.Intent.TheVariants.{Read};
-ghost use Rattle.vax_table.specs.Script.{number_at};
-ghost use Rattle.vm_emulate.specs.Readings.{IsByte, IsRead};
+ghost use Rattle.vax_table.specs.Interaction.{number_at};
+ghost use Rattle.vm_emulate.specs.Readings.{AnswersReading, IsByte};
 ghost use Rattle.vm_state.specs.Partition.{guest_of, partition_of};
 ghost use Rattle.vm_state.specs.State.{tables_of};
 ghost use Rattle.vm_state.specs.Translation.{space_of};
@@ -47,7 +47,7 @@ fn read_byte<H: Hardware>(machine: &H, g: &GuestState, va: u32) -> Result<u8, Un
 pub fn read_walked<H: Hardware>(machine: &H, g: &GuestState, va: u32) -> Result<u32, Unread>
     requires partition { 512 * (g.now.base + g.now.pages) ≤ length (H.machine machine.now).memory }
     requires tables { AreAligned (tables_of g.now) }
-    ensures { IsRead (guest_of (H.machine machine.now).memory g.now) (number_at (space_of (guest_of (H.machine machine.now).memory g.now)) Read 4 va) result }
+    ensures { AnswersReading (guest_of (H.machine machine.now).memory g.now) (number_at (space_of (guest_of (H.machine machine.now).memory g.now)) Read 4 va) result }
 {
     let first = read_byte(machine, g, va)?;
     let second = read_byte(machine, g, va.wrapping_add(1))?;

@@ -1,11 +1,11 @@
 ghost use Rattle.std.specs.Prelude.{◌≡◌, ◌≤◌, ◌+◌, ◌*◌, length};
 ghost use Rattle.vax_arch.specs.WalkLaws.{AreAligned};
-ghost use Rattle.vax_table.specs.Script.{outcome};
+ghost use Rattle.vax_table.specs.Interaction.{outcome};
 ghost use Rattle.vm_emulate.specs.Emulated.{SensesAlone};
 ghost use Rattle.vm_emulate.specs.Readings.{ArePopped, popped_of};
 ghost use Rattle.vm_state.specs.Contexts.{two_popped};
 ghost use Rattle.vm_state.specs.Partition.{guest_of};
-ghost use Rattle.vm_state.specs.Sensitive.{return_from, returned_to};
+ghost use Rattle.vm_state.specs.Sensitive.{requests_after, return_from, returned_to};
 ghost use Rattle.vm_state.specs.State.{HasPlace, state_of, tables_of};
 ghost use Rattle.vm_state.specs.Translation.{space_of};
 
@@ -40,7 +40,7 @@ const AST_REQUEST: u16 = 4;
 
 /// The requests of a guest that returns to a mode: a mode that is at least ASTLVL requests software level 2.
 fn requests_behind(g: &GuestState, psl: Psl) -> u16
-    ensures { result ≡ requests_behind (state_of g.now) psl.0 }
+    ensures { result ≡ requests_after (state_of g.now) psl.0 }
 {
     let asks = g.astlvl <= psl.current().number() && !psl.on_interrupt_stack();
     if asks && g.sisr / AST_REQUEST % 2 == 0 {

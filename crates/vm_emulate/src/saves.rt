@@ -3,9 +3,9 @@ ghost use Rattle.vax_arch.specs.Fields.{ipl_of, is_on_interrupt_stack};
 ghost use Rattle.vm_emulate.specs.Emulated.{Senses};
 ghost use Rattle.vm_emulate.specs.Readings.{popped_of};
 ghost use Rattle.vm_exception.specs.Wrote.{Wrote};
-ghost use Rattle.vm_shadow.specs.Stands.{Keeps, own};
+ghost use Rattle.vm_shadow.specs.Shadowed.{Keeps, own};
 ghost use Rattle.vm_shadow.specs.StandsFor.{StandsFor};
-ghost use Rattle.vm_state.specs.Contexts.{behind_pops, long_frames, longs_stored, on_interrupt, on_interrupt_stack, saved_longs, saves_context};
+ghost use Rattle.vm_state.specs.Contexts.{after_pops, long_frames, longs_stored, on_interrupt, on_interrupt_stack, saved_longs, saves_context};
 ghost use Rattle.vm_state.specs.Partition.{guest_of};
 ghost use Rattle.vm_state.specs.Registers.{with_ipl};
 ghost use Rattle.vm_state.specs.Sensitive.{switched};
@@ -63,7 +63,7 @@ fn store_longs<H: Hardware>(machine: &mut H, s: &mut Shadow, at: u32, longs: &[u
 
 /// R14 is after the PC and the PSL that were popped, and PC is the next instruction's.
 fn go_behind_pops(g: &mut GuestState, next_pc: u32)
-    ensures state { state_of g.new ≡ behind_pops (state_of g.old) next_pc }
+    ensures state { state_of g.new ≡ after_pops (state_of g.old) next_pc }
     ensures place { HasPlace g.old.pages g.old.base g.old.start g.new }
 {
     g.r[14] = g.r[14].wrapping_add(8);

@@ -1,17 +1,17 @@
 -- What an initiation makes of a guest in a step.
 use Rattle.std.proofs.Common.{◌≡◌, ◌≢◌, ℕ, ◌*◌, List, [], Some, refl, ap, ◌∙◌, sym, subst, arith, ◌<◌}
 use Rattle.vax_hw.specs.Machine.{Machine}
-use Rattle.vm_events.specs.Made.{Makes}
+use Rattle.vm_events.specs.Made.{MakesStep}
 use Rattle.vm_events.specs.Sources.{HasLevel, HasRequest}
 use Rattle.vm_events.proofs.Requests.{has_level, has_request, taken_keeps}
-use Rattle.vm_exception.specs.Initiated.{Becomes, Initiates, IsInitiated}
+use Rattle.vm_exception.specs.Initiated.{Initiates, InitiatesTo, IsInitiated}
 use Rattle.vm_exception.specs.declared.initiated.Initiated.{Initiated}
 use Rattle.vm_exception.specs.declared.initiated.Initiated.TheVariants as outcomes
-use Rattle.vm_shadow.specs.Stands.{Shadowed}
+use Rattle.vm_shadow.specs.Shadowed.{Shadowed}
 use Rattle.vm_shadow.specs.StandsFor.{OnlyGuest, StandsFor}
 use Rattle.vm_state.specs.Allowed.{AreAllowed}
 use Rattle.vm_state.specs.Initiate.{Initiation, KernelStackBad, Stops, Taken, initiate}
-use Rattle.vm_state.specs.Interrupts.{IntervalClock, Kcall, Receiver, Software, Source, Transmitter, due, interrupt_of, taken}
+use Rattle.vm_state.specs.Interrupts.{IntervalClock, Kcall, Receiver, Software, Source, Transmitter, after_interrupt_taken, due, interrupt_of}
 use Rattle.vm_state.specs.Partition.{guest_of, part, partition_of}
 use Rattle.vm_state.specs.State.{Guest, HasPlace, State, pc_of, state_of}
 use Rattle.vm_state.specs.Step.{Interrupt, Kind, initiated_in, interrupted}
@@ -44,7 +44,7 @@ module _ (code : ℕ) (m m' : Machine) (s s' : Shadowed) (g g' : GuestState) whe
 -- Where the guest goes on, nothing is shown.
 module _ (kind : Kind) (m m' : Machine) (s s' : Shadowed) (g g' : GuestState) where
   pub record GoesOn (x : Initiation) : Type 0 where
-    pub makes : Makes (initiated_in kind (guest_of m.memory g) x) m s g m' s' g'
+    pub makes : MakesStep (initiated_in kind (guest_of m.memory g) x) m s g m' s' g'
     pub shown : [] ≡ (initiated_in kind (guest_of m.memory g) x).shown
 
   goes_on : (x : Initiation) (r : Initiated) → ((code : ℕ) → r ≢ outcomes.Stopped code) → IsInitiated x r m s g m' s' g' → StandsFor m'.memory s' g' → HasPlace g.pages g.base g.start g' → OnlyGuest s m m' → GoesOn x
@@ -67,12 +67,12 @@ fits Receiver h = omega arith
 fits Transmitter h = omega arith
 fits (Software level) h = let small : level < 16 = h in omega arith
 
-by_taken : (x : Initiation) (m m' : Machine) (s s' : Shadowed) (g g' : GuestState) → IsInitiated x outcomes.Taken m s g m' s' g' → (h : Guest) × (frames : List ℕ) × (x ≡ Taken h frames) × Becomes h frames s m' s' g'
+by_taken : (x : Initiation) (m m' : Machine) (s s' : Shadowed) (g g' : GuestState) → IsInitiated x outcomes.Taken m s g m' s' g' → (h : Guest) × (frames : List ℕ) × (x ≡ Taken h frames) × InitiatesTo h frames s m' s' g'
 by_taken (Taken h frames) m m' s s' g g' b = (h, frames, refl, b)
 by_taken (KernelStackBad h frames) m m' s s' g g' b = absurd b
 by_taken (Stops stop) m m' s s' g g' b = absurd b
 
-tables_stay : (x : Source) (s : State) → (taken x s).tables ≡ s.tables
+tables_stay : (x : Source) (s : State) → (after_interrupt_taken x s).tables ≡ s.tables
 tables_stay IntervalClock s = refl
 tables_stay Kcall s = refl
 tables_stay Receiver s = refl
@@ -96,7 +96,7 @@ module _ (x : Source) (e : Exc) (m m' : Machine) (s s' : Shadowed) (g g' : Guest
   pub request_stays : HasRequest (state_of g') x
   request_stays = has_request x (state_of g) (state_of g') is_due requests_stay
 
-  module _ (g2 : GuestState) (state : state_of g2 ≡ taken x (state_of g')) (place : HasPlace g'.pages g'.base g'.start g2) where
+  module _ (g2 : GuestState) (state : state_of g2 ≡ after_interrupt_taken x (state_of g')) (place : HasPlace g'.pages g'.base g'.start g2) where
     ended_stands : StandsFor m'.memory s' g2
     ended_stands =
         let v = start.stands.serves in
@@ -111,13 +111,13 @@ module _ (x : Source) (e : Exc) (m m' : Machine) (s s' : Shadowed) (g g' : Guest
     ended_place : HasPlace g.pages g.base g.start g2
     ended_place = record { pages = place.pages ∙ start.place.pages; base = place.base ∙ start.place.base; start = place.start ∙ start.place.start }
 
-    ended : (y : Initiation) → IsInitiated y outcomes.Taken m s g m' s' g' → Makes (interrupted (guest_of m.memory g) x y) m s g m' s' g2
+    ended : (y : Initiation) → IsInitiated y outcomes.Taken m s g m' s' g' → MakesStep (interrupted (guest_of m.memory g) x y) m s g m' s' g2
     ended (Taken h frames) b =
         let memory : partition_of m'.memory g2 ≡ h.memory = (λ i. part m'.memory (512 * place.base i) (512 * place.pages i)) ∙ ap (λ (y : Guest). y.memory) b.guest in
-        let behind : state_of g2 ≡ taken x h.state = state ∙ ap (λ (y : Guest). taken x y.state) b.guest in
+        let behind : state_of g2 ≡ after_interrupt_taken x h.state = state ∙ ap (λ (y : Guest). after_interrupt_taken x y.state) b.guest in
         record { guest = λ i. record { memory = memory i; state = behind i }; drops = b.drops; stands = ended_stands; place = ended_place; only = start.only }
     ended (KernelStackBad h frames) b = absurd b
     ended (Stops stop) b = absurd b
 
-    pub interrupt_taken : Makes (interrupted (guest_of m.memory g) x whole) m s g m' s' g2
+    pub interrupt_taken : MakesStep (interrupted (guest_of m.memory g) x whole) m s g m' s' g2
     interrupt_taken = ended whole taken_now

@@ -5,7 +5,7 @@ use Rattle.std.proofs.lemmas.Bool.Decides.{nat_tests}
 use Rattle.std.proofs.lemmas.Grind.{common_steps}
 use Rattle.vax_arch.specs.Fields.{ipl_of}
 use Rattle.vm_events.specs.Sources.{HasLevel, HasRequest, is_due, software_due}
-use Rattle.vm_state.specs.Interrupts.{IntervalClock, Kcall, Receiver, Software, Source, Transmitter, due, level_of, requests, sources, taken}
+use Rattle.vm_state.specs.Interrupts.{IntervalClock, Kcall, Receiver, Software, Source, Transmitter, after_interrupt_taken, due, level_of, requests, sources}
 use Rattle.vm_state.specs.State.{State}
 use Rattle.vm_state.proofs.Keeps.{Keeps, moved}
 use Rattle.vm_state.proofs.Registers.{clear_at, even_of, small_of, with_sisr}
@@ -139,7 +139,7 @@ pub has_request : (x : Source) (s t : State) → due s ≡ Some x → t.sisr ≡
 has_request x s t d e = let p = pends s x d in request_there x s t p.level p.request e
 
 -- A request ends; initiation leaves the requests of software levels.
-ended_keeps : (size : ℕ) (x : Source) (s t : State) → IsLevel x → requests s x ≡ true → t.sisr ≡ s.sisr → Keeps size t (taken x t)
+ended_keeps : (size : ℕ) (x : Source) (s t : State) → IsLevel x → requests s x ≡ true → t.sisr ≡ s.sisr → Keeps size t (after_interrupt_taken x t)
 unfolding IsLevel
 ended_keeps size IntervalClock s t h r e = moved size t _ refl refl refl refl refl refl refl refl (λ k. k)
 ended_keeps size Kcall s t h r e = moved size t _ refl refl refl refl refl refl refl refl (λ k. k)
@@ -149,7 +149,7 @@ ended_keeps size (Software level) s t h r e =
     let asked : t.sisr / 2 ^ level % 2 ≡ 1 = rw e (grind (arith, nat_tests)) in
     with_sisr size t (t.sisr - 2 ^ level) (λ k. clear_at level t.sisr h.0 h.1 (even_of t.sisr k.sisr) (small_of t.sisr k.sisr) asked)
 
-pub taken_keeps : (size : ℕ) (x : Source) (s t : State) → due s ≡ Some x → t.sisr ≡ s.sisr → Keeps size t (taken x t)
+pub taken_keeps : (size : ℕ) (x : Source) (s t : State) → due s ≡ Some x → t.sisr ≡ s.sisr → Keeps size t (after_interrupt_taken x t)
 taken_keeps size x s t d e = let p = pends s x d in ended_keeps size x s t p.level p.request e
 
 -- where no level is requested, none is due

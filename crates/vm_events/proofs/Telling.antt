@@ -6,7 +6,7 @@ use Rattle.vm_events.specs.declared.note.Note.{Note}
 use Rattle.vm_exception.specs.Initiated.{Initiates, IsInitiated}
 use Rattle.vm_exception.specs.declared.initiated.Initiated.{Initiated}
 use Rattle.vm_exception.specs.declared.initiated.Initiated.TheVariants as outcomes
-use Rattle.vm_shadow.specs.Stands.{Shadowed}
+use Rattle.vm_shadow.specs.Shadowed.{Shadowed}
 use Rattle.vm_state.specs.Initiate.{Initiation, KernelStackBad, Stops, Taken, initiate, vector_offset}
 use Rattle.vm_state.specs.Partition.{guest_of}
 use Rattle.vm_state.specs.declared.exception.Exc.{Exc}

@@ -2,7 +2,7 @@
 use Rattle.std.specs.Prelude.{◌≡◌}
 use Rattle.vax_hw.specs.Machine.{Machine}
 use Rattle.vm_exception.specs.Wrote.{DropsAmong}
-use Rattle.vm_shadow.specs.Stands.{Shadowed}
+use Rattle.vm_shadow.specs.Shadowed.{Shadowed}
 use Rattle.vm_shadow.specs.StandsFor.{OnlyGuest, StandsFor}
 use Rattle.vm_state.specs.Partition.{guest_of}
 use Rattle.vm_state.specs.State.{HasPlace}
@@ -11,7 +11,7 @@ use Rattle.vm_state.specs.declared.guest_state.GuestState.{GuestState}
 
 -- The guest is the step's then, and what is dropped was read from a frame that the step wrote; its shadow page tables stand
 -- for its own, and nothing else of the machine changes.
-pub record Makes (x : Stepped) (m : Machine) (s : Shadowed) (g : GuestState) (m' : Machine) (s' : Shadowed) (g' : GuestState) : Type 0 where
+pub record MakesStep (x : Stepped) (m : Machine) (s : Shadowed) (g : GuestState) (m' : Machine) (s' : Shadowed) (g' : GuestState) : Type 0 where
   pub guest : guest_of m'.memory g' ≡ x.guest
   pub drops : DropsAmong x.written s s'
   pub stands : StandsFor m'.memory s' g'

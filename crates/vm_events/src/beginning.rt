@@ -1,6 +1,6 @@
 ghost use Rattle.std.specs.Prelude.{◌≡◌, Some};
 ghost use Rattle.vm_console.specs.Appends.{Appends};
-ghost use Rattle.vm_events.specs.Made.{Makes};
+ghost use Rattle.vm_events.specs.Made.{MakesStep};
 ghost use Rattle.vm_events.specs.Noted.{taken_by};
 ghost use Rattle.vm_events.specs.Sources.{source_of};
 ghost use Rattle.vm_exception.specs.Initiated.{IsProper};
@@ -34,7 +34,7 @@ pub fn begin<H: Hardware, T: Port>(
 ) -> Note
     requires stands { StandsFor (H.machine machine.old).memory s.old g.old }
     requires proper { IsProper e }
-    ensures makes { (kind : Kind) → Makes (initiated_in kind (guest_of (H.machine machine.old).memory g.old) (initiate (guest_of (H.machine machine.old).memory g.old) e)) (H.machine machine.old) s.old g.old (H.machine machine.new) s.new g.new }
+    ensures makes { (kind : Kind) → MakesStep (initiated_in kind (guest_of (H.machine machine.old).memory g.old) (initiate (guest_of (H.machine machine.old).memory g.old) e)) (H.machine machine.old) s.old g.old (H.machine machine.new) s.new g.new }
     ensures shown { (kind : Kind) → Appends T.may port.old port.new (initiated_in kind (guest_of (H.machine machine.old).memory g.old) (initiate (guest_of (H.machine machine.old).memory g.old) e)).shown }
     ensures note { result ≡ taken_by (guest_of (H.machine machine.old).memory g.old) e }
 {
@@ -60,7 +60,7 @@ pub fn interrupt<H: Hardware, T: Port>(
 ) -> Note
     requires stands { StandsFor (H.machine machine.old).memory s.old g.old }
     requires due { due (state_of g.old) ≡ Some (source_of source) }
-    ensures makes { Makes (interrupted (guest_of (H.machine machine.old).memory g.old) (source_of source) (initiate (guest_of (H.machine machine.old).memory g.old) (interrupt_of (source_of source)))) (H.machine machine.old) s.old g.old (H.machine machine.new) s.new g.new }
+    ensures makes { MakesStep (interrupted (guest_of (H.machine machine.old).memory g.old) (source_of source) (initiate (guest_of (H.machine machine.old).memory g.old) (interrupt_of (source_of source)))) (H.machine machine.old) s.old g.old (H.machine machine.new) s.new g.new }
     ensures shown { Appends T.may port.old port.new (interrupted (guest_of (H.machine machine.old).memory g.old) (source_of source) (initiate (guest_of (H.machine machine.old).memory g.old) (interrupt_of (source_of source)))).shown }
     ensures note { result ≡ taken_by (guest_of (H.machine machine.old).memory g.old) (interrupt_of (source_of source)) }
 {

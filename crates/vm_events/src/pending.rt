@@ -1,7 +1,7 @@
 ghost use Rattle.std.specs.Prelude.{◌≡◌, ◌==◌, ◌/◌, ◌%◌, ◌^◌, ◌<◌, option_map};
 ghost use Rattle.vm_events.specs.Sources.{HasLevel, HasRequest, is_due, software_due, source_of};
 ghost use Rattle.vm_exception.specs.Initiated.{IsProper};
-ghost use Rattle.vm_state.specs.Interrupts.{due, interrupt_of, level_of, requests, taken, vector_of};
+ghost use Rattle.vm_state.specs.Interrupts.{after_interrupt_taken, due, interrupt_of, level_of, requests, vector_of};
 ghost use Rattle.vm_state.specs.State.{HasPlace, state_of};
 
 use vm_exception::Exc;
@@ -124,7 +124,7 @@ pub fn due(g: &GuestState) -> Option<Source>
 /// Ends the request of a source, whose interrupt was taken.
 pub fn end_request(g: &mut GuestState, source: Source)
     requires { HasRequest (state_of g.old) (source_of source) }
-    ensures state { state_of g.new ≡ taken (source_of source) (state_of g.old) }
+    ensures state { state_of g.new ≡ after_interrupt_taken (source_of source) (state_of g.old) }
     ensures place { HasPlace g.old.pages g.old.base g.old.start g.new }
 {
     match source {

@@ -7,21 +7,21 @@ use Rattle.vax_arch.specs.WalkLaws.{AreAligned}
 use Rattle.vax_arch.specs.declared.mode.Mode.{Mode}
 use Rattle.vax_hw.specs.Machine.{Machine}
 use Rattle.vm_exception.specs.Attempted.{Attempts, IsAttempted, Stays}
-use Rattle.vm_exception.specs.Initiated.{Becomes, Initiates, IsProper}
+use Rattle.vm_exception.specs.Initiated.{Initiates, InitiatesTo, IsProper}
 use Rattle.vm_exception.specs.Wrote.{AreHomes, DropsAmong, Wrote}
 use Rattle.vm_exception.specs.declared.attempts.Attempt.{Attempt}
 use Rattle.vm_exception.specs.declared.attempts.Attempt.TheVariants as attempts
 use Rattle.vm_exception.specs.declared.initiated.Initiated.TheVariants as outcomes
 use Rattle.vm_exception.proofs.Homes.{homes_inside}
-use Rattle.vm_shadow.specs.Stands.{CanStand, Shadowed, own}
+use Rattle.vm_shadow.specs.Shadowed.{CanBeShadowed, Shadowed, own}
 use Rattle.vm_shadow.specs.StandsFor.{OnlyGuest, Serves, StandsFor}
 use Rattle.vm_shadow.proofs.Contexts.{aligned_of}
 use Rattle.vm_shadow.proofs.Covering.{own_is, own_length}
 use Rattle.vm_state.specs.Allowed.{AreAllowed}
 use Rattle.vm_state.specs.Initiate as initiations
-use Rattle.vm_state.specs.Initiate.{Arrives, Halts, StackFaulty, Stops, attempt, in_its_place, initiate, initiated, begun_at, behind_walk, by_vector, is_bad_vector, longwords, new_mode, new_stack, uses_interrupt_stack, vector_offset}
+use Rattle.vm_state.specs.Initiate.{Arrives, Halts, StackFaulty, Stops, attempt, in_its_place, initiate, initiated, begun_at, after_walk, by_vector, is_bad_vector, longwords, new_mode, new_stack, uses_interrupt_stack, vector_offset}
 use Rattle.vm_state.specs.Partition.{guest_of, partition_of}
-use Rattle.vm_state.specs.Pushes.{Faulty, Home, Homes, PastMemory, Walked, frames_pushed, pointer_behind, push_walked, pushed}
+use Rattle.vm_state.specs.Pushes.{Faulty, Home, Homes, PastMemory, Walked, frames_pushed, pointer_after, push_walked, pushed}
 use Rattle.vm_state.specs.State.{Guest, HasPlace, State, pointer_of, state_of, tables_of}
 use Rattle.vm_state.specs.Stops.{BadVector, stop_code}
 use Rattle.vm_state.specs.Stops as stops
@@ -50,7 +50,7 @@ module _ (e : Exc) (m : Machine) (s : Shadowed) (g : GuestState) (stands : Stand
   memory_size = ap length (sym (own_is m.memory s g stands.serves)) ∙ own_length m.memory s stands.keeps.fits ∙ ap (λ n. 512 * n) stands.serves.pages
 
   pub tables_aligned : AreAligned (tables_of g)
-  tables_aligned = aligned_of (tables_of g) (subst CanStand stands.serves.told stands.keeps.fits.told)
+  tables_aligned = aligned_of (tables_of g) (subst CanBeShadowed stands.serves.told stands.keeps.fits.told)
 
   nothing_else : OnlyGuest s m m
   nothing_else = record { rest = refl; size = refl; other = λ p h k. refl }
@@ -82,28 +82,28 @@ module _ (e : Exc) (m : Machine) (s : Shadowed) (g : GuestState) (stands : Stand
     sp_is : ℕ
     sp_is = pointer_of (state_of g) (new_stack (state_of g) e vector)
 
-    by_walk : is_bad_vector e vector ≡ false → (sp : ℕ) → sp ≡ pointer_of (state_of g) (new_stack (state_of g) e vector) → attempt (guest_of m.memory g) e ≡ behind_walk (guest_of m.memory g) e vector sp (push_walked (guest_of m.memory g) (new_mode (state_of g) e) sp (longwords (state_of g) e))
-    by_walk good sp is = by_its_vector ∙ ap (λ b. cond b (Halts BadVector) (behind_walk (guest_of m.memory g) e vector (pointer_of (state_of g) (new_stack (state_of g) e vector)) (push_walked (guest_of m.memory g) (new_mode (state_of g) e) (pointer_of (state_of g) (new_stack (state_of g) e vector)) (longwords (state_of g) e)))) good
-        ∙ ap (λ x. behind_walk (guest_of m.memory g) e vector x (push_walked (guest_of m.memory g) (new_mode (state_of g) e) x (longwords (state_of g) e))) (sym is)
+    by_walk : is_bad_vector e vector ≡ false → (sp : ℕ) → sp ≡ pointer_of (state_of g) (new_stack (state_of g) e vector) → attempt (guest_of m.memory g) e ≡ after_walk (guest_of m.memory g) e vector sp (push_walked (guest_of m.memory g) (new_mode (state_of g) e) sp (longwords (state_of g) e))
+    by_walk good sp is = by_its_vector ∙ ap (λ b. cond b (Halts BadVector) (after_walk (guest_of m.memory g) e vector (pointer_of (state_of g) (new_stack (state_of g) e vector)) (push_walked (guest_of m.memory g) (new_mode (state_of g) e) (pointer_of (state_of g) (new_stack (state_of g) e vector)) (longwords (state_of g) e)))) good
+        ∙ ap (λ x. after_walk (guest_of m.memory g) e vector x (push_walked (guest_of m.memory g) (new_mode (state_of g) e) x (longwords (state_of g) e))) (sym is)
 
     pub faulty_stack : (sp : ℕ) (f : MemFault) (longs : List ℕ) (stack : Bool) → is_bad_vector e vector ≡ false → sp ≡ pointer_of (state_of g) (new_stack (state_of g) e vector) → longs ≡ longwords (state_of g) e → Faulty f ≡ push_walked (guest_of m.memory g) (new_mode (state_of g) e) sp longs → stack ≡ uses_interrupt_stack (state_of g) e vector → Attempts e m s g (attempts.StackFaulty stack) m s g
     faulty_stack sp f longs stack good sp_is longs_are walk is =
-        let all : attempt (guest_of m.memory g) e ≡ StackFaulty (uses_interrupt_stack (state_of g) e vector) = by_walk good sp sp_is ∙ ap (λ w. behind_walk (guest_of m.memory g) e vector sp w) (sym (walk ∙ ap (push_walked (guest_of m.memory g) (new_mode (state_of g) e) sp) longs_are)) in
+        let all : attempt (guest_of m.memory g) e ≡ StackFaulty (uses_interrupt_stack (state_of g) e vector) = by_walk good sp sp_is ∙ ap (λ w. after_walk (guest_of m.memory g) e vector sp w) (sym (walk ∙ ap (push_walked (guest_of m.memory g) (new_mode (state_of g) e) sp) longs_are)) in
         record { is = rw all (is, stays); stands = stands; place = same_place; only = nothing_else }
 
     pub past_stack : (sp : ℕ) (longs : List ℕ) → is_bad_vector e vector ≡ false → sp ≡ pointer_of (state_of g) (new_stack (state_of g) e vector) → longs ≡ longwords (state_of g) e → PastMemory ≡ push_walked (guest_of m.memory g) (new_mode (state_of g) e) sp longs → Attempts e m s g (attempts.Halts 0x10) m s g
     past_stack sp longs good sp_is longs_are walk =
-        let all : attempt (guest_of m.memory g) e ≡ Halts stops.PastMemory = by_walk good sp sp_is ∙ ap (λ w. behind_walk (guest_of m.memory g) e vector sp w) (sym (walk ∙ ap (push_walked (guest_of m.memory g) (new_mode (state_of g) e) sp) longs_are)) in
+        let all : attempt (guest_of m.memory g) e ≡ Halts stops.PastMemory = by_walk good sp sp_is ∙ ap (λ w. after_walk (guest_of m.memory g) e vector sp w) (sym (walk ∙ ap (push_walked (guest_of m.memory g) (new_mode (state_of g) e) sp) longs_are)) in
         record { is = rw all (refl, stays); stands = stands; place = same_place; only = nothing_else }
 
     pub homes_proper : (sp : ℕ) (longs : List ℕ) (hs : List Home) → Homes hs ≡ push_walked (guest_of m.memory g) (new_mode (state_of g) e) sp longs → AreHomes (512 * s.pages) hs
     homes_proper sp longs hs walk = subst (λ n. AreHomes n hs) (memory_size ∙ ap (λ n. 512 * n) (sym stands.serves.pages)) (homes_inside (guest_of m.memory g) (new_mode (state_of g) e) sp longs hs tables_aligned walk)
 
     pub arrives : (sp : ℕ) (longs : List ℕ) (hs : List Home) (m' : Machine) (s' : Shadowed) (g' : GuestState) (behind : ℕ) → IsProper e → is_bad_vector e vector ≡ false → sp ≡ pointer_of (state_of g) (new_stack (state_of g) e vector) → longs ≡ longwords (state_of g) e → Homes hs ≡ push_walked (guest_of m.memory g) (new_mode (state_of g) e) sp longs →
-        Wrote (frames_pushed (own m.memory s) hs) (pushed hs (own m.memory s)) m s m' s' → behind ≡ pointer_behind sp longs → state_of g' ≡ begun_at (state_of g) e vector behind → HasPlace g.pages g.base g.start g' → Attempts e m s g attempts.Arrives m' s' g'
+        Wrote (frames_pushed (own m.memory s) hs) (pushed hs (own m.memory s)) m s m' s' → behind ≡ pointer_after sp longs → state_of g' ≡ begun_at (state_of g) e vector behind → HasPlace g.pages g.base g.start g' → Attempts e m s g attempts.Arrives m' s' g'
     arrives sp longs hs m' s' g' behind proper good sp_is longs_are walk w behind_is state place =
         let v = stands.serves in
-        let all : attempt (guest_of m.memory g) e ≡ behind_walk (guest_of m.memory g) e vector sp (Homes hs) = by_walk good sp sp_is ∙ ap (λ x. behind_walk (guest_of m.memory g) e vector sp x) (sym (walk ∙ ap (push_walked (guest_of m.memory g) (new_mode (state_of g) e) sp) longs_are)) in
+        let all : attempt (guest_of m.memory g) e ≡ after_walk (guest_of m.memory g) e vector sp (Homes hs) = by_walk good sp sp_is ∙ ap (λ x. after_walk (guest_of m.memory g) e vector sp x) (sym (walk ∙ ap (push_walked (guest_of m.memory g) (new_mode (state_of g) e) sp) longs_are)) in
         let tables : tables_of g' ≡ tables_of g = ap (λ (x : State). x.tables) state in
         let serves : Serves g' s' = record {
           pages = ap (λ (x : Shadowed). x.pages) w.drops.rest ∙ v.pages ∙ sym place.pages;
@@ -112,8 +112,8 @@ module _ (e : Exc) (m : Machine) (s : Shadowed) (g : GuestState) (stands : Stand
         } in
         let mine = own_is m.memory s g v in
         let memory : partition_of m'.memory g' ≡ pushed hs (partition_of m.memory g) = sym (own_is m'.memory s' g' serves) ∙ w.own ∙ ap (pushed hs) mine in
-        let begun : state_of g' ≡ begun_at (state_of g) e vector (pointer_behind sp (longwords (state_of g) e)) = state ∙ ap (begun_at (state_of g) e vector) (behind_is ∙ ap (pointer_behind sp) longs_are) in
-        let guest : guest_of m'.memory g' ≡ record { memory = pushed hs (partition_of m.memory g); state = begun_at (state_of g) e vector (pointer_behind sp (longwords (state_of g) e)) } = λ i. record { memory = memory i; state = begun i } in
+        let begun : state_of g' ≡ begun_at (state_of g) e vector (pointer_after sp (longwords (state_of g) e)) = state ∙ ap (begun_at (state_of g) e vector) (behind_is ∙ ap (pointer_after sp) longs_are) in
+        let guest : guest_of m'.memory g' ≡ record { memory = pushed hs (partition_of m.memory g); state = begun_at (state_of g) e vector (pointer_after sp (longwords (state_of g) e)) } = λ i. record { memory = memory i; state = begun i } in
         let size : 512 * g.pages ≡ 512 * g'.pages = ap (λ n. 512 * n) (sym place.pages) in
         record {
           is = rw all (record { guest = guest; drops = subst (λ x. DropsAmong (frames_pushed x hs) s s') mine w.drops });
@@ -140,7 +140,7 @@ stopped_stands memory s g g' code stands state place = record {
     halted a = record { p0br = a.p0br; p0lr = a.p0lr; p1br = a.p1br; p1lr = a.p1lr; sbr = a.sbr; slr = a.slr; pcbb = a.pcbb; scbb = a.scbb; astlvl = a.astlvl; sisr = a.sisr; psl = a.psl; packets = a.packets; few = a.few }
 
 -- the outcome of an attempt, by the definition's
-pub by_arrival : (a : initiations.Attempt) (m : Machine) (s : Shadowed) (g : GuestState) (m' : Machine) (s' : Shadowed) (g' : GuestState) → IsAttempted a attempts.Arrives m s g m' s' g' → (h : Guest) × (frames : List ℕ) × (a ≡ Arrives h frames) × Becomes h frames s m' s' g'
+pub by_arrival : (a : initiations.Attempt) (m : Machine) (s : Shadowed) (g : GuestState) (m' : Machine) (s' : Shadowed) (g' : GuestState) → IsAttempted a attempts.Arrives m s g m' s' g' → (h : Guest) × (frames : List ℕ) × (a ≡ Arrives h frames) × InitiatesTo h frames s m' s' g'
 by_arrival (Arrives h frames) m s g m' s' g' b = (h, frames, refl, b)
 by_arrival (StackFaulty stack) m s g m' s' g' b = absurd b
 by_arrival (Halts stop) m s g m' s' g' b = absurd b

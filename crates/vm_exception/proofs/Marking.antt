@@ -11,7 +11,7 @@ use Rattle.vm_exception.specs.Wrote.{AreHomes, IsEntryPlace, IsHome, PutsHomes, 
 use Rattle.vm_exception.specs.declared.pushes.Home.{Home}
 use Rattle.vm_exception.proofs.Writing.{Among, wrote_as, wrote_none, wrote_one, wrote_then}
 use Rattle.vm_shadow.proofs.Writes.{long_by}
-use Rattle.vm_shadow.specs.Stands.{Fits, Keeps, Shadowed, is_pending, is_read_from, own}
+use Rattle.vm_shadow.specs.Shadowed.{Fits, Keeps, Shadowed, is_pending, is_read_from, own}
 use Rattle.vm_shadow.specs.StandsFor.{Stores}
 use Rattle.vm_shadow.specs.declared.source.Source.{Source}
 use Rattle.vm_shadow.proofs.Covering.{own_length}

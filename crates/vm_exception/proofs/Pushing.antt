@@ -6,7 +6,7 @@ use Rattle.vax_arch.specs.declared.mode.Mode.{Mode}
 use Rattle.vax_arch.specs.declared.mode.Intent.TheVariants.{Write}
 use Rattle.vax_table.specs.Operand.{minus}
 use Rattle.vm_state.specs.Pushes as pushes
-use Rattle.vm_state.specs.Pushes.{Faulty, Homes, PastMemory, Walked, bytes_from, pointer_behind, pushed_bytes, walked, with_home}
+use Rattle.vm_state.specs.Pushes.{Faulty, Homes, PastMemory, Walked, bytes_from, pointer_after, pushed_bytes, walked, with_home}
 use Rattle.vm_state.specs.State.{Guest}
 use Rattle.vm_state.specs.Translation.{walk_of}
 use Rattle.vm_state.specs.declared.walk.Walk.TheVariants as walks
@@ -16,18 +16,18 @@ use Rattle.vm_exception.specs.declared.pushes.Home.{Home}
 use Rattle.vm_exception.specs.Pushed.{byte_of, home_of}
 
 -- one longword more
-pub pushed_more : (sp : ℕ) (xs : List ℕ) (x : ℕ) → pushed_bytes sp (xs ++ x ∷ []) ≡ pushed_bytes sp xs ++ bytes_from 4 (minus (pointer_behind sp xs) 4) x
+pub pushed_more : (sp : ℕ) (xs : List ℕ) (x : ℕ) → pushed_bytes sp (xs ++ x ∷ []) ≡ pushed_bytes sp xs ++ bytes_from 4 (minus (pointer_after sp xs) 4) x
 pushed_more sp [] x = append-nil (bytes_from 4 (minus sp 4) x)
-pushed_more sp (y ∷ ys) x = ap (λ b. bytes_from 4 (minus sp 4) y ++ b) (pushed_more (minus sp 4) ys x) ∙ sym (append_assoc (bytes_from 4 (minus sp 4) y) (pushed_bytes (minus sp 4) ys) (bytes_from 4 (minus (pointer_behind (minus sp 4) ys) 4) x))
+pushed_more sp (y ∷ ys) x = ap (λ b. bytes_from 4 (minus sp 4) y ++ b) (pushed_more (minus sp 4) ys x) ∙ sym (append_assoc (bytes_from 4 (minus sp 4) y) (pushed_bytes (minus sp 4) ys) (bytes_from 4 (minus (pointer_after (minus sp 4) ys) 4) x))
 
-pub pointer_more : (sp : ℕ) (xs : List ℕ) (x : ℕ) → pointer_behind sp (xs ++ x ∷ []) ≡ minus (pointer_behind sp xs) 4
+pub pointer_more : (sp : ℕ) (xs : List ℕ) (x : ℕ) → pointer_after sp (xs ++ x ∷ []) ≡ minus (pointer_after sp xs) 4
 pointer_more sp [] x = refl
 pointer_more sp (y ∷ ys) x = pointer_more (minus sp 4) ys x
 
 -- what has been pushed so far
 pub record Pushing (sp : ℕ) (longs : List ℕ) (n at : ℕ) (bytes : List Byte) : Type 0 where
   pub bytes_are : map byte_of bytes ≡ pushed_bytes sp (take n longs)
-  pub pointer : at ≡ pointer_behind sp (take n longs)
+  pub pointer : at ≡ pointer_after sp (take n longs)
   pub size : length bytes ≡ 4 * n
 
 pub pushing_none : (sp : ℕ) (longs : List ℕ) → Pushing sp longs 0 sp []
@@ -38,11 +38,11 @@ pushing_next sp longs n at at' long bytes bytes' h is next more size p =
     let all : take (n + 1) longs ≡ take n longs ++ long ∷ [] = take_more longs n 0 h ∙ ap (λ x. take n longs ++ x ∷ []) (sym is) in
     record {
       bytes_are = more ∙ (λ i. p.bytes_are i ++ bytes_from 4 (at_is i) long) ∙ sym (ap (pushed_bytes sp) all ∙ pushed_more sp (take n longs) long);
-      pointer = at_is ∙ sym (ap (pointer_behind sp) all ∙ pointer_more sp (take n longs) long);
+      pointer = at_is ∙ sym (ap (pointer_after sp) all ∙ pointer_more sp (take n longs) long);
       size = size ∙ ap (λ x. x + 4) p.size ∙ omega arith;
     }
   where
-    at_is : at' ≡ minus (pointer_behind sp (take n longs)) 4
+    at_is : at' ≡ minus (pointer_after sp (take n longs)) 4
     at_is = next ∙ ap (λ x. minus x 4) p.pointer
 
 -- homes before others

@@ -4,7 +4,7 @@ use Rattle.std.proofs.lemmas.Bool.{or_left}
 use Rattle.vax_hw.specs.Machine.{Machine}
 use Rattle.vm_exception.specs.Wrote.{DropsAmong, Wrote}
 use Rattle.vm_shadow.specs.Calls.{unless_dropped}
-use Rattle.vm_shadow.specs.Stands.{Shadowed, is_pending, is_read_from, own, read_at}
+use Rattle.vm_shadow.specs.Shadowed.{Shadowed, is_pending, is_read_from, own, read_at}
 use Rattle.vm_shadow.specs.StandsFor.{OnlyGuest, Stores}
 use Rattle.vm_shadow.specs.declared.source.Source.{Source}
 

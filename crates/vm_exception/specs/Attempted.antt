@@ -1,10 +1,10 @@
 -- An attempt to initiate an exception, over a machine and a guest's shadow page tables.
 use Rattle.std.specs.Prelude.{◌≡◌}
 use Rattle.vax_hw.specs.Machine.{Machine}
-use Rattle.vm_exception.specs.Initiated.{Becomes}
+use Rattle.vm_exception.specs.Initiated.{InitiatesTo}
 use Rattle.vm_exception.specs.declared.attempts.Attempt.{Attempt}
 use Rattle.vm_exception.specs.declared.attempts.Attempt.TheVariants as attempts
-use Rattle.vm_shadow.specs.Stands.{Shadowed}
+use Rattle.vm_shadow.specs.Shadowed.{Shadowed}
 use Rattle.vm_shadow.specs.StandsFor.{OnlyGuest, StandsFor}
 use Rattle.vm_state.specs.Initiate as initiations
 use Rattle.vm_state.specs.Initiate.{Arrives, Halts, StackFaulty, attempt}
@@ -22,7 +22,7 @@ pub record Stays (m : Machine) (s : Shadowed) (g : GuestState) (m' : Machine) (s
 
 -- by the definition
 abbrev pub IsAttempted : initiations.Attempt → Attempt → Machine → Shadowed → GuestState → Machine → Shadowed → GuestState → Type 0
-IsAttempted (Arrives h frames) attempts.Arrives m s g m' s' g' = Becomes h frames s m' s' g'
+IsAttempted (Arrives h frames) attempts.Arrives m s g m' s' g' = InitiatesTo h frames s m' s' g'
 IsAttempted (StackFaulty stack) (attempts.StackFaulty is_interrupt_stack) m s g m' s' g' = (is_interrupt_stack ≡ stack) × Stays m s g m' s' g'
 IsAttempted (Halts stop) (attempts.Halts code) m s g m' s' g' = (code ≡ stop_code stop) × Stays m s g m' s' g'
 IsAttempted _ _ m s g m' s' g' = ⊥

@@ -4,7 +4,7 @@ use Rattle.vax_hw.specs.Machine.{Machine}
 use Rattle.vm_exception.specs.Wrote.{DropsAmong}
 use Rattle.vm_exception.specs.declared.initiated.Initiated.{Initiated}
 use Rattle.vm_exception.specs.declared.initiated.Initiated.TheVariants as outcomes
-use Rattle.vm_shadow.specs.Stands.{Shadowed}
+use Rattle.vm_shadow.specs.Shadowed.{Shadowed}
 use Rattle.vm_shadow.specs.StandsFor.{OnlyGuest, StandsFor}
 use Rattle.vm_state.specs.Initiate.{Initiation, KernelStackBad, Stops, Taken, initiate}
 use Rattle.vm_state.specs.Partition.{guest_of}
@@ -15,7 +15,7 @@ use Rattle.vm_state.specs.declared.exception.Exc.TheVariants.{Interrupt}
 use Rattle.vm_state.specs.declared.guest_state.GuestState.{GuestState}
 
 -- the guest is this one then, and what is dropped was read from one of the frames
-pub record Becomes (h : Guest) (frames : List ℕ) (s : Shadowed) (m' : Machine) (s' : Shadowed) (g' : GuestState) : Type 0 where
+pub record InitiatesTo (h : Guest) (frames : List ℕ) (s : Shadowed) (m' : Machine) (s' : Shadowed) (g' : GuestState) : Type 0 where
   pub guest : guest_of m'.memory g' ≡ h
   pub drops : DropsAmong frames s s'
 
@@ -27,8 +27,8 @@ pub record StopsWith (code : ℕ) (m : Machine) (s : Shadowed) (g : GuestState) 
 
 -- by the definition
 abbrev pub IsInitiated : Initiation → Initiated → Machine → Shadowed → GuestState → Machine → Shadowed → GuestState → Type 0
-IsInitiated (Taken h frames) outcomes.Taken m s g m' s' g' = Becomes h frames s m' s' g'
-IsInitiated (KernelStackBad h frames) outcomes.KernelStackBad m s g m' s' g' = Becomes h frames s m' s' g'
+IsInitiated (Taken h frames) outcomes.Taken m s g m' s' g' = InitiatesTo h frames s m' s' g'
+IsInitiated (KernelStackBad h frames) outcomes.KernelStackBad m s g m' s' g' = InitiatesTo h frames s m' s' g'
 IsInitiated (Stops stop) (outcomes.Stopped code) m s g m' s' g' = (code ≡ stop_code stop) × StopsWith code m s g m' s' g'
 IsInitiated _ _ m s g m' s' g' = ⊥
 

@@ -1,7 +1,7 @@
 -- What writes of the kernel into a guest's memory leave.
 use Rattle.std.specs.Prelude.{◌≡◌, ◌⊎◌, ℕ, ◌+◌, ◌%◌, ◌<◌, ◌≤◌, true, List, [], ◌∷◌, Option, Some, None}
 use Rattle.vax_hw.specs.Machine.{Machine}
-use Rattle.vm_shadow.specs.Stands.{Keeps, Shadowed, is_pending, own, read_at}
+use Rattle.vm_shadow.specs.Shadowed.{Keeps, Shadowed, is_pending, own, read_at}
 use Rattle.vm_shadow.specs.StandsFor.{OnlyGuest}
 use Rattle.vm_state.specs.Pushes.{Home, all_put}
 use Rattle.vm_state.specs.Translation.{frame_at}

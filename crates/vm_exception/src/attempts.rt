@@ -2,7 +2,7 @@ ghost use Rattle.std.specs.Prelude.{◌≡◌, ◌≤◌, ◌<◌, ◌+◌, ◌*
 ghost use Rattle.vm_exception.specs.Attempted.{Attempts};
 ghost use Rattle.vm_exception.specs.Initiated.{IsProper};
 ghost use Rattle.vm_shadow.specs.StandsFor.{StandsFor};
-ghost use Rattle.vm_state.specs.Pushes.{pointer_behind};
+ghost use Rattle.vm_state.specs.Pushes.{pointer_after};
 
 use crate::entry::{
     begin, is_bad_vector, longwords, new_mode, new_stack, uses_interrupt_stack, vector_offset,
@@ -25,7 +25,7 @@ pub enum Attempt {
 /// The stack pointer after so many longwords.
 fn pointer_behind(sp: u32, longs: &[u32]) -> u32
     requires { length longs.now ≤ 4 }
-    ensures { result ≡ pointer_behind sp longs.now }
+    ensures { result ≡ pointer_after sp longs.now }
 {
     let mut at = sp;
     for _ in longs {

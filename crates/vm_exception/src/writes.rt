@@ -1,7 +1,7 @@
 ghost use Rattle.std.specs.Prelude.{[], ◌≡◌, ◌≤◌, ◌+◌, ◌*◌, ◌%◌, map, Some};
 ghost use Rattle.vm_exception.specs.Pushed.{home_of};
 ghost use Rattle.vm_exception.specs.Wrote.{AreHomes, PutsHomes, Wrote};
-ghost use Rattle.vm_shadow.specs.Stands.{Keeps, own};
+ghost use Rattle.vm_shadow.specs.Shadowed.{Keeps, own};
 ghost use Rattle.vm_state.specs.Pushes.{all_marked, frames_pushed, mark_written, pushed};
 ghost use Rattle.vm_state.specs.Translation.{marked};
 

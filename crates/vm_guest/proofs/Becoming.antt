@@ -3,14 +3,14 @@ use Rattle.std.proofs.Common.{◌≡◌, ℕ, ◌*◌, inl, Bool, List, [], ◌�
 use Rattle.std.proofs.lemmas.List.Elements.{All-nil}
 use Rattle.vax_hw.specs.Machine.{Machine}
 use Rattle.vm_bursts.proofs.Completing.{only_both, own_same}
-use Rattle.vm_fitting.proofs.Fitting.{resets_keep, writes_keep}
-use Rattle.vm_fitting.proofs.Own.{moves_alone, none_dropped}
-use Rattle.vm_fitting.proofs.Working.{switches_retell}
-use Rattle.vm_guest.specs.Kept.{Becomes, IsNew, IsResumed, KeepsPresent, Kept, StandsIn, frames_from, guest_in}
+use Rattle.vm_miss_laws.proofs.Fitting.{resets_keep, writes_keep}
+use Rattle.vm_miss_laws.proofs.Own.{moves_alone, none_dropped}
+use Rattle.vm_miss_laws.proofs.Working.{switches_retell}
+use Rattle.vm_guest.specs.Kept.{Becomes, IsNew, IsResumed, IsShadowedIn, KeepsPresent, Kept, frames_from, guest_in}
 use Rattle.vm_console.specs.Console.{ConsoleState, after_typed}
-use Rattle.vm_guest.specs.Stores.{StoresAll}
-use Rattle.vm_shadow.specs.Stands.{Shadowed}
-use Rattle.vm_shadow.specs.StandsFor.{Makes, Retells, Switches}
+use Rattle.vm_guest.specs.Stores.{StoresBytes}
+use Rattle.vm_shadow.specs.Shadowed.{Shadowed}
+use Rattle.vm_shadow.specs.StandsFor.{MakesTables, Retells, Switches}
 use Rattle.vm_state.specs.Allowed.{AreAllowed, IsPacket}
 use Rattle.vm_state.specs.Outside.{all_typed}
 use Rattle.vm_state.specs.Partition.{part, partition_of}
@@ -24,7 +24,7 @@ pub resumed_new : (pages base tables start : ℕ) (faults : Bool) (given : Guest
 resumed_new pages base tables start faults given m m' k is place resumed = record {
   state = ap state_of resumed.state ∙ is;
   place = subst (HasPlace pages base start) (sym resumed.state) place;
-  made = subst (λ g. Makes g tables m m' k.shadow) (sym resumed.state) resumed.made;
+  made = subst (λ g. MakesTables g tables m m' k.shadow) (sym resumed.state) resumed.made;
   present = resumed.present;
 }
 
@@ -47,7 +47,7 @@ start_allowed size start faults = record {
 }
 
 -- with other registers, and its shadow page tables told of them
-pub becomes_switched : (m : Machine) (k : Kept) (x : State) (g : GuestState) (m' : Machine) (s' : Shadowed) → StandsIn m.memory k → HasPlace k.state.pages k.state.base k.state.start g → state_of g ≡ x → AreAllowed (512 * g.pages) x → Switches g m k.shadow m' s' →
+pub becomes_switched : (m : Machine) (k : Kept) (x : State) (g : GuestState) (m' : Machine) (s' : Shadowed) → IsShadowedIn m.memory k → HasPlace k.state.pages k.state.base k.state.start g → state_of g ≡ x → AreAllowed (512 * g.pages) x → Switches g m k.shadow m' s' →
     Becomes (record (guest_in m.memory k) { state = x }) m k m' (record { state = g; shadow = s' })
 becomes_switched m k x g m' s' stands place state allowed w = record {
   guest = λ i. record { memory = memory i; state = state i };
@@ -72,7 +72,7 @@ reset_present m k x g m' s' is w p all =
     }) all
 
 -- and so has what is present after a write
-pub stored_present : (m : Machine) (k : Kept) (pa : ℕ) (bytes : List ℕ) (m' : Machine) (s' : Shadowed) → StandsIn m.memory k → StoresAll pa bytes m k.shadow k.state m' s' → KeepsPresent (touching_write (guest_in m.memory k) (frames_from pa bytes)) k (record { state = k.state; shadow = s' })
+pub stored_present : (m : Machine) (k : Kept) (pa : ℕ) (bytes : List ℕ) (m' : Machine) (s' : Shadowed) → IsShadowedIn m.memory k → StoresBytes pa bytes m k.shadow k.state m' s' → KeepsPresent (touching_write (guest_in m.memory k) (frames_from pa bytes)) k (record { state = k.state; shadow = s' })
 stored_present m k pa bytes m' s' stands w p all =
     writes_keep m.memory k.shadow k.state (frames_from pa bytes) p s' stands.keeps stands.serves (moves_alone (frames_from pa bytes) m'.memory k.shadow s' (tables_of k.state) w.stands.keeps.fits w.stands.serves.told w.drops) all
 

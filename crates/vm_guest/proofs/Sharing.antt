@@ -4,16 +4,16 @@ use Rattle.vv_base.specs.Bytes.{long_at}
 use Rattle.vax_arch.specs.Fields.{is_modified, is_valid}
 use Rattle.vax_arch.specs.declared.walk.Lookup.{Lookup}
 use Rattle.vm_shadow.specs.Layout.{all_entries, entry_page, entry_place}
-use Rattle.vm_shadow.specs.Stands.{Fits, IsKept, is_flagged, Keeps, Shadowed, look_under, mapped_frame, own, read_at, real_at, seen_at, tables_for, is_read_from}
+use Rattle.vm_shadow.specs.Shadowed.{Fits, IsKept, is_flagged, Keeps, Shadowed, look_under, mapped_frame, own, read_at, real_at, seen_at, tables_for, is_read_from}
 use Rattle.vm_shadow.proofs.Covering.{own_is}
 use Rattle.vm_shadow.proofs.Places.{place_within}
 use Rattle.vm_shadow.proofs.Writes.{long_by, part_same}
 use Rattle.vm_state.specs.Partition.{partition_of}
 use Rattle.vm_state.specs.State.{state_of}
-use Rattle.vm_guest.specs.Kept.{Kept, StandsIn, guest_in}
-use Rattle.vm_guest.specs.Laws.{SharesPart, StandsElsewhere}
+use Rattle.vm_guest.specs.Kept.{IsShadowedIn, Kept, guest_in}
+use Rattle.vm_guest.specs.Laws.{IsIsolated, SharesPart}
 
-module _ (k : Kept) (memory other : List ℕ) (stands : StandsIn memory k) (x : SharesPart k memory other) where
+module _ (k : Kept) (memory other : List ℕ) (stands : IsShadowedIn memory k) (x : SharesPart k memory other) where
   abbrev s : Shadowed
   s = k.shadow
 
@@ -65,7 +65,7 @@ module _ (k : Kept) (memory other : List ℕ) (stands : StandsIn memory k) (x : 
         ap (λ y. is_flagged (mapped_frame s y) s.writable) same ∙ stands.keeps.writes j h (ap is_valid (sym same) ∙ valid) (ap is_modified (sym same) ∙ modified);
   }
 
-  shared : StandsIn other k × (guest_in other k ≡ guest_in memory k)
+  shared : IsShadowedIn other k × (guest_in other k ≡ guest_in memory k)
   shared = (
     record { keeps = keeps_shared; serves = stands.serves; allowed = stands.allowed },
     (λ i. record { memory = same i; state = state_of k.state }),
@@ -74,5 +74,5 @@ module _ (k : Kept) (memory other : List ℕ) (stands : StandsIn memory k) (x : 
       same : partition_of other k.state ≡ partition_of memory k.state
       same = sym (own_is other s k.state stands.serves) ∙ own_shared ∙ own_is memory s k.state stands.serves
 
-pub stands_elsewhere : StandsElsewhere
+pub stands_elsewhere : IsIsolated
 stands_elsewhere k memory other stands x = shared k memory other stands x

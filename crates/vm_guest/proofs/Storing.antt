@@ -4,11 +4,11 @@ use Rattle.std.specs.Prelude.{slice_index}
 use Rattle.std.proofs.lemmas.List.{append-nil, append_assoc, drop_all, drop_more, drop-set-lt, get_or-drop, length-drop, length-set, take-append-drop, take_more, take_more_set}
 use Rattle.vv_base.specs.Bytes.{overwritten}
 use Rattle.vax_hw.specs.Machine.{Machine}
-use Rattle.vm_fitting.specs.Moves.{Drops}
-use Rattle.vm_fitting.proofs.Own.{none_dropped}
-use Rattle.vm_fitting.proofs.Working.{one_dropped}
+use Rattle.vm_miss_laws.specs.Moves.{Drops}
+use Rattle.vm_miss_laws.proofs.Own.{none_dropped}
+use Rattle.vm_miss_laws.proofs.Working.{one_dropped}
 use Rattle.vm_guest.specs.Kept.{frames_from}
-use Rattle.vm_shadow.specs.Stands.{Fits, Shadowed, own}
+use Rattle.vm_shadow.specs.Shadowed.{Fits, Shadowed, own}
 use Rattle.vm_shadow.specs.StandsFor.{OnlyGuest, Serves, StandsFor, Stores}
 use Rattle.vm_shadow.proofs.Covering.{own_is, own_length}
 use Rattle.vm_state.specs.Partition.{partition_of}
@@ -16,7 +16,7 @@ use Rattle.vm_state.specs.Translation.{frame_at}
 use Rattle.vm_stepping.proofs.Paying.{dropped_then}
 use Rattle.vm_state.specs.declared.guest_state.GuestState.{GuestState}
 use Rattle.vm_state.proofs.Parts.{part_byte, part_length}
-use Rattle.vm_guest.specs.Stores.{StoresAll}
+use Rattle.vm_guest.specs.Stores.{StoresBytes}
 
 -- bytes stored in order
 abbrev pub all_set : ℕ → List ℕ → List ℕ → List ℕ
@@ -88,7 +88,7 @@ module _ (pa : ℕ) (bytes : List ℕ) (place k : ℕ) (m : Machine) (s : Shadow
   none_left : k ≡ length bytes → drop k bytes ≡ []
   none_left e = ap (λ n. drop n bytes) e ∙ drop_all (length bytes) bytes (omega arith)
 
-  pub all_stored : k ≡ length bytes → StoresAll pa bytes m s g m1 s1
+  pub all_stored : k ≡ length bytes → StoresBytes pa bytes m s g m1 s1
   all_stored e =
       let size : length (partition_of m.memory g) ≡ 512 * g.pages = ap length (sym (own_is m.memory s g stands.serves)) ∙ own_length m.memory s stands.keeps.fits ∙ ap (λ n. 512 * n) stands.serves.pages in
       record {

@@ -1,5 +1,5 @@
 ghost use Rattle.std.specs.Prelude.{◌≡◌, ◌+◌, ◌-◌, ◌*◌, ◌%◌, ◌≤◌, ◌<◌, length, slice_index};
-ghost use Rattle.vm_guest.specs.Stores.{StoresAll};
+ghost use Rattle.vm_guest.specs.Stores.{StoresBytes};
 ghost use Rattle.vm_shadow.specs.StandsFor.{StandsFor};
 ghost use Rattle.vm_state.specs.Outside.{bytes_at};
 ghost use Rattle.vm_state.specs.Partition.{guest_of};
@@ -27,7 +27,7 @@ pub fn store_all<H: Hardware>(
 )
     requires stands { StandsFor (H.machine machine.old).memory s.old g.now }
     requires inside { pa + length bytes.now ≤ 512 * g.now.pages }
-    ensures { StoresAll pa bytes.now (H.machine machine.old) s.old g.now (H.machine machine.new) s.new }
+    ensures { StoresBytes pa bytes.now (H.machine machine.old) s.old g.now (H.machine machine.new) s.new }
 {
     let mut place = pa;
     for byte in bytes {

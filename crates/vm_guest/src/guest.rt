@@ -1,9 +1,9 @@
 ghost use Rattle.std.specs.Prelude.{◌≡◌, ◌≤◌, ◌+◌, ◌*◌, ◌⊎◌, [], IfOk, OnErr, true, length};
 ghost use Rattle.vm_console.specs.Appends.{Appends};
 ghost use Rattle.vm_events.specs.Noted.{note_of};
-ghost use Rattle.vm_fitting.specs.Moves.{Drops};
-ghost use Rattle.vm_fitting.specs.Paid.{Pays};
-ghost use Rattle.vm_guest.specs.Kept.{Becomes, IsNew, IsResumed, KeepsPresent, StandsIn, TakesState, frames_from, guest_in};
+ghost use Rattle.vm_guest.specs.Kept.{Becomes, IsNew, IsResumed, IsShadowedIn, KeepsPresent, TakesState, frames_from, guest_in};
+ghost use Rattle.vm_miss_laws.specs.Moves.{Drops};
+ghost use Rattle.vm_miss_laws.specs.Paid.{Pays};
 ghost use Rattle.vm_state.specs.Allowed.{AreAllowed};
 ghost use Rattle.vm_state.specs.Outside.{bytes_at, commanded_to_stop, stop_message, with_bytes, with_line};
 ghost use Rattle.vm_state.specs.Start.{started};
@@ -94,7 +94,7 @@ impl Guest {
 
     /// It has other registers, each with a value that it may have, and the memory that it has.
     pub fn set_state<H: Hardware>(&mut self, machine: &mut H, state: GuestState)
-        requires stands { StandsIn (H.machine machine.old).memory self.old }
+        requires stands { IsShadowedIn (H.machine machine.old).memory self.old }
         requires allowed { AreAllowed (512 * state.pages) (state_of state) }
         requires place { HasPlace self.old.state.pages self.old.state.base self.old.state.start state }
         ensures { Becomes (record (guest_in (H.machine machine.old).memory self.old) { state = state_of state }) (H.machine machine.old) self.old (H.machine machine.new) self.new }
@@ -104,7 +104,7 @@ impl Guest {
 
     /// It runs from its start address on, as one that starts. Its memory stays; packets that wait are forgotten.
     pub fn start<H: Hardware>(&mut self, machine: &mut H)
-        requires { StandsIn (H.machine machine.old).memory self.old }
+        requires { IsShadowedIn (H.machine machine.old).memory self.old }
         ensures becomes { Becomes (record (guest_in (H.machine machine.old).memory self.old) { state = started self.old.state.start self.old.state.modify_faults }) (H.machine machine.old) self.old (H.machine machine.new) self.new }
         ensures present { KeepsPresent (touching_reset (record (guest_in (H.machine machine.old).memory self.old) { state = started self.old.state.start self.old.state.modify_faults })) self.old self.new }
     {
@@ -133,7 +133,7 @@ impl Guest {
         port: &mut T,
         steps: u32,
     ) -> Counts
-        requires { StandsIn (H.machine machine.old).memory self.old }
+        requires { IsShadowedIn (H.machine machine.old).memory self.old }
         ensures advances { Advances T.may steps port.old port.new (H.machine machine.old) self.old.shadow self.old.state (H.machine machine.new) self.new.shadow self.new.state result }
         ensures pays { Pays (touching_steps steps (guest_in (H.machine machine.old).memory self.old)) (H.machine machine.old) self.old.shadow (H.machine machine.new) self.new.shadow }
     {
@@ -142,7 +142,7 @@ impl Guest {
 
     /// It takes one step as `advance` does; what the step tells is answered besides.
     pub fn step<H: Hardware, T: Port>(&mut self, machine: &mut H, port: &mut T) -> Once
-        requires { StandsIn (H.machine machine.old).memory self.old }
+        requires { IsShadowedIn (H.machine machine.old).memory self.old }
         ensures advances { Advances T.may 1 port.old port.new (H.machine machine.old) self.old.shadow self.old.state (H.machine machine.new) self.new.shadow self.new.state result.counts }
         ensures pays { Pays (touching_steps 1 (guest_in (H.machine machine.old).memory self.old)) (H.machine machine.old) self.old.shadow (H.machine machine.new) self.new.shadow }
         ensures note { result.note ≡ note_of (guest_in (H.machine machine.old).memory self.old) }
@@ -159,7 +159,7 @@ impl Guest {
 
     /// Writes bytes of its memory from a physical address on.
     pub fn store<H: Hardware>(&mut self, machine: &mut H, pa: u32, bytes: &[u8])
-        requires stands { StandsIn (H.machine machine.old).memory self.old }
+        requires stands { IsShadowedIn (H.machine machine.old).memory self.old }
         requires inside { pa + length bytes.now ≤ 512 * self.old.state.pages }
         ensures becomes { Becomes (with_bytes pa bytes.now (guest_in (H.machine machine.old).memory self.old)) (H.machine machine.old) self.old (H.machine machine.new) self.new }
         ensures drops { Drops (frames_from pa bytes.now) self.old.shadow self.new.shadow }
@@ -170,7 +170,7 @@ impl Guest {
 
     /// Reads bytes of its memory from a physical address on.
     pub fn fetch_into<H: Hardware>(&self, machine: &H, pa: u32, bytes: &mut [u8])
-        requires stands { StandsIn (H.machine machine.now).memory self.now }
+        requires stands { IsShadowedIn (H.machine machine.now).memory self.now }
         requires inside { pa + length bytes.old ≤ 512 * self.now.state.pages }
         ensures { bytes.new ≡ bytes_at (guest_in (H.machine machine.now).memory self.now) pa (length bytes.old) }
     {

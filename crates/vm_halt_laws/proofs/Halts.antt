@@ -9,7 +9,7 @@ use Rattle.vax_arch.specs.Walk.{is_past}
 use Rattle.vax_arch.specs.declared.mode.Mode.{Mode}
 use Rattle.vax_arch.specs.declared.mode.Mode.TheVariants.{Kernel}
 use Rattle.vax_table.specs.Effects.{long_of}
-use Rattle.vax_table.specs.Script.{At, Test, Trouble, outcome}
+use Rattle.vax_table.specs.Interaction.{At, Test, Trouble, outcome}
 use Rattle.vax_table.specs.Tries.{Clear, Completes, Tried, tried}
 use Rattle.vax_table.specs.Tries as tries
 use Rattle.vax_table.specs.Whole.{Act, Meant, Probes, Traps}
@@ -21,16 +21,16 @@ use Rattle.vax_table.specs.declared.act.Sens.TheVariants.{Chm, Halt, Ldpctx, Mfp
 use Rattle.vax_table.specs.declared.act.Trapped.{Trapped}
 use Rattle.vax_table.specs.declared.evaluation.Operands.{Operands}
 use Rattle.vm_halt_laws.specs.Halts.{StopsWithCodes}
-use Rattle.vm_state.specs.Contexts.{BlockPast, PopTrouble, Popped, Reserved, StackTrouble, Switched, Switches, behind_pops, behind_push, behind_reads, in_block, is_block_past, is_block_reserved, loaded, loads_context, on_interrupt, saved, saves_context, two_popped}
-use Rattle.vm_state.specs.Initiate.{Arrives, Attempt, Halts, Initiation, KernelStackBad, StackFaulty, Stops, Taken, attempt, behind_walk, by_vector, in_its_place, initiate, initiated, is_bad_vector, longwords, new_mode, new_stack, vector_offset}
-use Rattle.vm_state.specs.Interrupts.{IntervalClock, Kcall, Receiver, Software, Source, Transmitter, due, interrupt_of, taken}
+use Rattle.vm_state.specs.Contexts.{BlockPast, PopTrouble, Popped, Reserved, StackTrouble, Switched, Switches, after_pops, after_push, after_reads, control_block_long, is_block_past, is_block_reserved, loaded, loads_context, on_interrupt, saved, saves_context, two_popped}
+use Rattle.vm_state.specs.Initiate.{Arrives, Attempt, Halts, Initiation, KernelStackBad, StackFaulty, Stops, Taken, after_walk, attempt, by_vector, in_its_place, initiate, initiated, is_bad_vector, longwords, new_mode, new_stack, vector_offset}
+use Rattle.vm_state.specs.Interrupts.{IntervalClock, Kcall, Receiver, Software, Source, Transmitter, after_interrupt_taken, due, interrupt_of}
 use Rattle.vm_state.specs.Packets.{accepted}
 use Rattle.vm_state.specs.Probe.{Answers, NotValid, Probed, probe}
 use Rattle.vm_state.specs.Probe as probes
 use Rattle.vm_state.specs.Pushes.{Faulty, Homes, PastMemory, Walked, push_walked}
-use Rattle.vm_state.specs.Registers.{Value, Written, after_read, after_write, allows, read, read_by, read_to, register_of, value_of, with_pointer, write_by, written}
+use Rattle.vm_state.specs.Registers.{Value, Written, after_read, after_write, allows, read, read_or_refused, read_to, register_of, value_of, with_pointer, write_by, written}
 use Rattle.vm_state.specs.Run.{after_step}
-use Rattle.vm_state.specs.Sensitive.{ClearAt, Does, Faults, LacksMemory, Sensed, StopsThere, behind, behind_read, change_mode, changed, chm_walked, destination_walked, fault_of, guest_behind, mfpr_by, mtpr_by, packet_taken, put_at, rei_by, sensed, switched, troubled, with_codes, with_register_effect}
+use Rattle.vm_state.specs.Sensitive.{ClearAt, Does, Faults, LacksMemory, Sensed, StopsThere, after_register_read, change_mode, chm_walked, destination_walked, fault_of, guest_past_instruction, mfpr_by, mode_changed, mtpr_by, packet_taken, past_instruction, put_at, rei_by, sensed, switched, troubled, with_codes, with_register_effect}
 use Rattle.vm_state.specs.State.{Guest, State, mode_of_state, pointer_of, stack_in}
 use Rattle.vm_state.specs.Step.{Fault, Kind, Stepped, by_interrupt, by_try, clear_met, counted, did, executed, faulted, frames_stored, initiated_in, instruction_of, interrupted, probed_as, sensed_as, step, step_by, trapped_in, unless_waiting, with_effect}
 use Rattle.vm_state.specs.Stops.{BadVector, ChangedMode, Commanded, Halted, InterruptStackBad, IsHalt, Stop, is_stop_code, stop_code}
@@ -68,7 +68,7 @@ Arrived (Arrives h written) = Fine h
 Arrived (StackFaulty is_interrupt_stack) = Unit {0}
 Arrived (Halts stop) = Unit {0}
 
-walk_fine : (g : Guest) (e : Exc) (vector sp : ℕ) (w : Walked) → Fine g → Arrived (behind_walk g e vector sp w)
+walk_fine : (g : Guest) (e : Exc) (vector sp : ℕ) (w : Walked) → Fine g → Arrived (after_walk g e vector sp w)
 walk_fine g e vector sp (Homes hs) h = h
 walk_fine g e vector sp (Faulty f) h = tt
 walk_fine g e vector sp PastMemory h = tt
@@ -139,7 +139,7 @@ trouble_did : (g : Guest) (t : Trouble) → Did (troubled g t)
 trouble_did g (At cause i va) = fault_did (walk_of g va (mode_of_state g.state) i)
 trouble_did g (Test refusal) = tt
 
-changed_did : (i : Initiation) → Began i → Did (changed i)
+changed_did : (i : Initiation) → Began i → Did (mode_changed i)
 changed_did (Taken h written) k = k
 changed_did (KernelStackBad h written) k = k
 changed_did (Stops stop) k = tt
@@ -151,12 +151,12 @@ walked_did i PastMemory k = tt
 
 mode_did : (g : Guest) (t : Trapped) (to : Mode) → Fine g → Did (change_mode g t to)
 mode_did g t to h =
-    let g' = guest_behind g t in
+    let g' = guest_past_instruction g t in
     let e = excs.Chm to t.a in
     let m = new_mode g.state e in
     let began : Began (initiate g' e) = initiate_fine g' e h in
     cond_both (is_on_interrupt_stack g.state.psl) (StopsThere ChangedMode) _ Did (λ t'. tt)
-    (λ t'. cond_both (mode_number m == 0) (changed (initiate g' e)) _ Did (λ u. changed_did (initiate g' e) began)
+    (λ t'. cond_both (mode_number m == 0) (mode_changed (initiate g' e)) _ Did (λ u. changed_did (initiate g' e) began)
     (λ u. walked_did (initiate g' e) (push_walked g' m (pointer_of g'.state (mode_number m)) (g.state.psl ∷ t.next_pc ∷ t.a ∷ [])) began))
 
 rei_did : (g : Guest) (t : Trapped) (p : Result Popped Trouble) → Fine g → Did (rei_by g t p)
@@ -267,7 +267,7 @@ value_fine : (s : State) (register : Named) (v : Option ℕ) → IsHalt s.halt �
 value_fine s register None h = tt
 value_fine s register (Some v) h = read_fine register s h
 
-register_read : (size : ℕ) (s : State) (register : Option Named) → IsHalt s.halt → Read (read_by size s register)
+register_read : (size : ℕ) (s : State) (register : Option Named) → IsHalt s.halt → Read (read_or_refused size s register)
 register_read size s None h = tt
 register_read size s (Some register) h = value_fine s register (value_of size s register) h
 
@@ -280,10 +280,10 @@ put_did g Nowhere v h = h
 put_did g (Register n) v h = h
 put_did g (Memory at) v h = h
 
-behind_did : (g : Guest) (dest : Dest) (clear : Option ℕ) (v : Result Value ReservedOperand) → Read v → Did (behind_read g dest clear v)
+behind_did : (g : Guest) (dest : Dest) (clear : Option ℕ) (v : Result Value ReservedOperand) → Read v → Did (after_register_read g dest clear v)
 behind_did g dest clear (Err refused) h = refused_did clear
   where
-    refused_did : (clear : Option ℕ) → Did (behind_read g dest clear (Err refused))
+    refused_did : (clear : Option ℕ) → Did (after_register_read g dest clear (Err refused))
     refused_did None = tt
     refused_did (Some va) = tt
 behind_did g dest (Some va) (Ok v) h = tt
@@ -291,8 +291,8 @@ behind_did g dest None (Ok v) h = put_did g dest v h
 
 mfpr_did : (g : Guest) (t : Trapped) (tries_ : Tried ℕ) → Fine g → Did (mfpr_by g t tries_)
 mfpr_did g t (tries.Stopped trouble) h = trouble_did g trouble
-mfpr_did g t (Clear va) h = behind_did g t.dest (Some va) (read (length g.memory) (behind g.state t) t.a) (reads_fine (length g.memory) (behind g.state t) t.a h)
-mfpr_did g t (Completes old) h = behind_did g t.dest None (read (length g.memory) (behind g.state t) t.a) (reads_fine (length g.memory) (behind g.state t) t.a h)
+mfpr_did g t (Clear va) h = behind_did g t.dest (Some va) (read (length g.memory) (past_instruction g.state t) t.a) (reads_fine (length g.memory) (past_instruction g.state t) t.a h)
+mfpr_did g t (Completes old) h = behind_did g t.dest None (read (length g.memory) (past_instruction g.state t) t.a) (reads_fine (length g.memory) (past_instruction g.state t) t.a h)
 
 -- contexts
 abbrev Switched_ : Switched → Type 0
@@ -309,7 +309,7 @@ switched_did g (PopTrouble trouble) k = trouble_did g trouble
 switched_did g StackTrouble k = tt
 switched_did g BlockPast k = tt
 
-push_fine : (g : Guest) (s : State) (w : Walked) → IsHalt s.halt → Switched_ (behind_push g s w)
+push_fine : (g : Guest) (s : State) (w : Walked) → IsHalt s.halt → Switched_ (after_push g s w)
 push_fine g s (Homes hs) h = h
 push_fine g s (Faulty f) h = tt
 push_fine g s PastMemory h = tt
@@ -320,7 +320,7 @@ loads_fine g next_pc h =
     let s = loaded g next_pc in
     cond_both (is_block_past g) BlockPast _ Switched_ (λ t. tt)
     (λ t. cond_both (is_block_reserved g) Reserved _ Switched_ (λ u. tt)
-    (λ u. push_fine g s (push_walked (record g { state = s }) Kernel (slice_index s.r 14) (in_block g 76 ∷ in_block g 72 ∷ [])) h))
+    (λ u. push_fine g s (push_walked (record g { state = s }) Kernel (slice_index s.r 14) (control_block_long g 76 ∷ control_block_long g 72 ∷ [])) h))
 
 interrupt_fine : (s : State) → IsHalt s.halt → IsHalt (on_interrupt s).halt
 interrupt_fine s h = cond_both (is_on_interrupt_stack s.psl) s _ (λ (x : State). IsHalt x.halt) (λ t. h) (λ t. h)
@@ -328,8 +328,8 @@ interrupt_fine s h = cond_both (is_on_interrupt_stack s.psl) s _ (λ (x : State)
 saved_fine : (g : Guest) (s : State) (p : Popped) → IsHalt s.halt → Switched_ (saved g s p)
 saved_fine g s p h = cond_both (is_block_past g) BlockPast _ Switched_ (λ t. tt) (λ t. interrupt_fine s h)
 
-reads_context : (g : Guest) (next_pc : ℕ) (p : Result Popped Trouble) → Fine g → Switched_ (behind_reads g next_pc p)
-reads_context g next_pc (Ok p) h = saved_fine g (behind_pops g.state next_pc) p h
+reads_context : (g : Guest) (next_pc : ℕ) (p : Result Popped Trouble) → Fine g → Switched_ (after_reads g next_pc p)
+reads_context g next_pc (Ok p) h = saved_fine g (after_pops g.state next_pc) p h
 reads_context g next_pc (Err t) h = tt
 
 saves_fine : (g : Guest) (next_pc : ℕ) → Fine g → Switched_ (saves_context g next_pc)
@@ -342,7 +342,7 @@ did_sensed g t Halt h = refl
 did_sensed g t Wait h = h
 did_sensed g t (Chm to) h = mode_did g t to h
 did_sensed g t Rei h = rei_did g t (outcome (space_of g) (two_popped (slice_index t.regs 14))) h
-did_sensed g t Mtpr h = mtpr_did g t.a (written (behind g.state t) t.b t.a) (written_fine (behind g.state t) t.b t.a h)
+did_sensed g t Mtpr h = mtpr_did g t.a (written (past_instruction g.state t) t.b t.a) (written_fine (past_instruction g.state t) t.b t.a h)
 did_sensed g t Mfpr h = mfpr_did g t (tried (space_of g) (is_clear g) (destination_walked t.dest)) h
 did_sensed g t Ldpctx h = switched_did g (loads_context g t.next_pc) (loads_fine g t.next_pc h)
 did_sensed g t Svpctx h = switched_did g (saves_context g t.next_pc) (saves_fine g t.next_pc h)
@@ -373,7 +373,7 @@ executed_fine : (g : Guest) → Fine g → Ends (executed g)
 unfolding executed
 executed_fine g h = try_fine g (tried (space_of g) (is_clear g) (instruction_of g.state)) h
 
-taken_fine : (source : Source) (s : State) → IsHalt s.halt → IsHalt (taken source s).halt
+taken_fine : (source : Source) (s : State) → IsHalt s.halt → IsHalt (after_interrupt_taken source s).halt
 taken_fine IntervalClock s h = h
 taken_fine Kcall s h = h
 taken_fine Receiver s h = h

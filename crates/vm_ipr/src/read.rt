@@ -1,7 +1,7 @@
 ghost use Rattle.std.specs.Prelude.{◌≡◌, ◌≤◌, ◌*◌, ℕ, IsNone, is_ok, is_some};
 ghost use Rattle.vm_state.specs.Registers.{after_read, read, value_of};
 ghost use Rattle.vm_state.specs.State.{HasPlace, State, state_of};
-ghost use Rattle.vm_ipr.specs.Outcomes.{Reads};
+ghost use Rattle.vm_ipr.specs.Outcomes.{ReadsRegister};
 
 use vm_state::{GuestState, Register, ReservedOperand, pointer};
 
@@ -54,7 +54,7 @@ fn read(g: &mut GuestState, register: Register) -> Option<u32>
 #[tactic(auto, unfolding(vm_state::specs::Registers::read))]
 pub fn mfpr(g: &mut GuestState, number: u32) -> Result<u32, ReservedOperand>
     requires { g.old.pages ≤ 65536 }
-    ensures reads { Reads g.old g.new number result }
+    ensures reads { ReadsRegister g.old g.new number result }
     ensures place { HasPlace g.old.pages g.old.base g.old.start g.new }
 {
     let Some(register) = Register::from_number(number) else {

@@ -1,7 +1,7 @@
 ghost use Rattle.std.specs.Prelude.{◌≡◌, ◌<◌, true};
 ghost use Rattle.vm_state.specs.Registers.{after_write, allows, effect_of, with_ipl, with_request};
 ghost use Rattle.vm_state.specs.State.{HasPlace, state_of};
-ghost use Rattle.vm_ipr.specs.Outcomes.{Writes};
+ghost use Rattle.vm_ipr.specs.Outcomes.{WritesRegister};
 
 use vax_arch::Psl;
 use vm_state::{Effect, GuestState, Register, ReservedOperand, set_pointer};
@@ -107,7 +107,7 @@ fn write(g: &mut GuestState, register: Register, v: u32)
 /// itself, `Remap` exactly for the registers of page tables and MAPEN, and `Done` for all others.
 #[tactic(auto, unfolding(vm_state::specs::Registers::written))]
 pub fn mtpr(g: &mut GuestState, number: u32, v: u32) -> Result<Effect, ReservedOperand>
-    ensures writes { Writes g.old g.new number v result }
+    ensures writes { WritesRegister g.old g.new number v result }
     ensures place { HasPlace g.old.pages g.old.base g.old.start g.new }
 {
     let Some(register) = Register::from_number(number) else {

@@ -6,7 +6,7 @@ use Rattle.vax_arch.specs.Fields.{frame_of, is_modified, is_valid}
 use Rattle.vax_arch.specs.Walk.{entry_at}
 use Rattle.vax_arch.specs.declared.walk.Lookup.{Lookup}
 use Rattle.vm_shadow.specs.Layout.{all_entries, empty_entry, entry_place, real_entry}
-use Rattle.vm_shadow.specs.Stands.{Fits, IsKept, IsRight, IsSource, Keeps, Shadowed, is_flagged, is_opened, is_read_from, mapped_frame, own, read_at, real_at, seen_at}
+use Rattle.vm_shadow.specs.Shadowed.{Fits, IsKept, IsRight, IsSource, Keeps, Shadowed, is_flagged, is_opened, is_read_from, mapped_frame, own, read_at, real_at, seen_at}
 use Rattle.vm_shadow.specs.declared.source.Source.{Source}
 use Rattle.vm_shadow.proofs.Writes.{IsWritten}
 use Rattle.vm_shadow.proofs.Entries.{IsSet, remembers, set_entry}

@@ -5,7 +5,7 @@ use Rattle.vv_base.specs.Bytes.{long_at}
 use Rattle.vax_arch.specs.Fields.{is_modified, is_valid}
 use Rattle.vax_hw.specs.Machine.{Machine}
 use Rattle.vm_shadow.specs.Layout.{all_entries, entry_place}
-use Rattle.vm_shadow.specs.Stands.{Keeps, Shadowed, own, read_at, real_at, seen_at}
+use Rattle.vm_shadow.specs.Shadowed.{Keeps, Shadowed, own, read_at, real_at, seen_at}
 use Rattle.vm_shadow.specs.Calls.{Closes, OnlyTables, closed_at, maps_open, remembered}
 use Rattle.vm_shadow.specs.Marks.{IsPast}
 use Rattle.vm_shadow.specs.declared.source.Source.{Source}

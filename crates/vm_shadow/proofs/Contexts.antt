@@ -8,12 +8,12 @@ use Rattle.vax_arch.specs.WalkLaws.{AreAligned}
 use Rattle.vm_slots.specs.Held.{Held}
 use Rattle.vm_slots.specs.declared.context.Context.{Context}
 use Rattle.vm_shadow.specs.Layout.{IsCovered, entry_number, entry_slot}
-use Rattle.vm_shadow.specs.Stands.{CanStand, Fits, IsFirst, Shadowed, context_in, in_context, tables_for}
+use Rattle.vm_shadow.specs.Shadowed.{CanBeShadowed, Fits, IsFirst, Shadowed, context_in, in_context, tables_for}
 use Rattle.vm_shadow.proofs.Places.{number_system, slot_again, split}
 use Rattle.vm_state.specs.Registers.{first_p1_page}
 use Rattle.vm_state.specs.State.{context_of}
 
-pub aligned_of : (t : Tables) → CanStand t → AreAligned t
+pub aligned_of : (t : Tables) → CanBeShadowed t → AreAligned t
 aligned_of t c = record { p0br = c.p0br; p1br = c.p1br; sbr = c.sbr }
 
 found_at : (P : Context → Type 0) (h : Context × ℕ) (x : Option (Context × ℕ)) (b : Bool) (u : Context) → option_map (λ k. k.0) (cond b (Some h) x) ≡ Some u → P h.0 → ((option_map (λ k. k.0) x ≡ Some u) → P u) → P u
@@ -35,10 +35,10 @@ tables_low s n h = rw (lt-ltb n 8192 h)
 pub tables_high : (s : Shadowed) (n : ℕ) → 8192 ≤ n → tables_for s n ≡ option_map (in_context s.told) (context_in (entry_slot n) s.held)
 tables_high s n h = rw (le-ltb n 8192 h)
 
-pub stand_for : (memory : List ℕ) (s : Shadowed) (n : ℕ) (u : Tables) → Fits memory s → tables_for s n ≡ Some u → CanStand u
+pub stand_for : (memory : List ℕ) (s : Shadowed) (n : ℕ) (u : Tables) → Fits memory s → tables_for s n ≡ Some u → CanBeShadowed u
 stand_for memory s n u f e = split (cases_lt n 8192)
-    (λ h. subst CanStand (same_Some s.told u (sym (tables_low s n h) ∙ e)) f.told)
-    (λ h. mapped_by CanStand s.told (context_in (entry_slot n) s.held) (λ c k. of_held (λ d. CanStand (in_context s.told d)) (entry_slot n) s.held f.contexts c k) u (sym (tables_high s n h) ∙ e))
+    (λ h. subst CanBeShadowed (same_Some s.told u (sym (tables_low s n h) ∙ e)) f.told)
+    (λ h. mapped_by CanBeShadowed s.told (context_in (entry_slot n) s.held) (λ c k. of_held (λ d. CanBeShadowed (in_context s.told d)) (entry_slot n) s.held f.contexts c k) u (sym (tables_high s n h) ∙ e))
 
 -- the first context has its slot
 first_in : (c : Context) (slot : ℕ) (held : Held) → IsFirst c slot held → context_in slot held ≡ Some c

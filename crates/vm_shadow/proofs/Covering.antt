@@ -6,7 +6,7 @@ use Rattle.vax_arch.specs.Walk.{Tables, entry_at, in_region, is_past, lookup, ma
 use Rattle.vax_arch.specs.declared.walk.Lookup.{Lookup}
 use Rattle.vm_slots.specs.Held.{Held}
 use Rattle.vm_shadow.specs.Layout.{IsCovered, entry_number}
-use Rattle.vm_shadow.specs.Stands.{CanStand, Fits, IsFirst, Shadowed, look_under, own, seen_at, tables_for}
+use Rattle.vm_shadow.specs.Shadowed.{CanBeShadowed, Fits, IsFirst, Shadowed, look_under, own, seen_at, tables_for}
 use Rattle.vm_shadow.specs.StandsFor.{IsPresent, Serves}
 use Rattle.vm_shadow.proofs.Contexts.{tables_own}
 use Rattle.vm_shadow.proofs.Places.{page_again}
@@ -16,12 +16,12 @@ use Rattle.vm_state.specs.Translation.{look}
 use Rattle.vm_state.specs.declared.guest_state.GuestState.{GuestState}
 use Rattle.vm_state.proofs.Parts.{part_length}
 
-system_covered : (size : ℕ) (memory : List ℕ) (t : Tables) (page entry : ℕ) → CanStand t → region_of page ≡ 2 → entry_at memory (system_entry size t (in_region page)) ≡ Some entry → IsCovered page
+system_covered : (size : ℕ) (memory : List ℕ) (t : Tables) (page entry : ℕ) → CanBeShadowed t → region_of page ≡ 2 → entry_at memory (system_entry size t (in_region page)) ≡ Some entry → IsCovered page
 unfolding system_entry
 system_covered size memory t page entry can r = cond_both (nat_le t.slr (in_region page)) _ _ (λ x. entry_at memory x ≡ Some entry → IsCovered page) (λ h e. cc) (λ h e. inl (r, omega (arith, leb-false t.slr (in_region page) h, can.slr)))
 
 -- a page whose entry is found has a real entry
-pub covered : (size : ℕ) (memory : List ℕ) (t : Tables) (page entry : ℕ) → CanStand t → size ≤ 512 * 2048 → entry_at memory (lookup size memory t page) ≡ Some entry → IsCovered page
+pub covered : (size : ℕ) (memory : List ℕ) (t : Tables) (page entry : ℕ) → CanBeShadowed t → size ≤ 512 * 2048 → entry_at memory (lookup size memory t page) ≡ Some entry → IsCovered page
 unfolding lookup mapped_entry
 covered size memory t page entry can small =
     let P : Lookup → Type 0 = λ x. entry_at memory x ≡ Some entry → IsCovered page in
@@ -65,4 +65,4 @@ seen_own memory s g page f v small c =
 -- a present page
 pub present_covered : (memory : List ℕ) (s : Shadowed) (g : GuestState) (page : ℕ) → Fits memory s → Serves g s → IsPresent (guest_of memory g) page → IsCovered page
 present_covered memory s g page f v p =
-    covered (length (partition_of memory g)) (partition_of memory g) (tables_of g) page p.entry (subst CanStand v.told f.told) (omega (arith, own_length memory s f, ap length (own_is memory s g v), f.small)) p.has
+    covered (length (partition_of memory g)) (partition_of memory g) (tables_of g) page p.entry (subst CanBeShadowed v.told f.told) (omega (arith, own_length memory s f, ap length (own_is memory s g v), f.small)) p.has

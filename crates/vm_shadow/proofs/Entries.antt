@@ -4,7 +4,7 @@ use Rattle.std.proofs.lemmas.Bool.{cases_eq}
 use Rattle.std.proofs.lemmas.List.{get_or-set_other, get_or-set_same, length-set}
 use Rattle.vax_arch.specs.Fields.{is_modified, is_valid}
 use Rattle.vm_shadow.specs.Layout.{all_entries, entry_page, entry_place}
-use Rattle.vm_shadow.specs.Stands.{Fits, IsKept, Keeps, Shadowed, is_flagged, is_opened, is_read_from, look_under, mapped_frame, own, read_at, real_at, seen_at, tables_for}
+use Rattle.vm_shadow.specs.Shadowed.{Fits, IsKept, Keeps, Shadowed, is_flagged, is_opened, is_read_from, look_under, mapped_frame, own, read_at, real_at, seen_at, tables_for}
 use Rattle.vm_shadow.specs.declared.source.Source.{Source}
 use Rattle.vm_shadow.proofs.Places.{LiesWithin, place_within, places_apart, split, system_apart}
 use Rattle.vm_shadow.proofs.Writes.{IsWritten, long_kept, part_same}

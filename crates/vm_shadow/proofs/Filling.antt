@@ -9,8 +9,8 @@ use Rattle.vax_arch.specs.declared.walk.Lookup.{Lookup}
 use Rattle.vax_hw.specs.Machine.{Machine}
 use Rattle.vm_shadow.specs.Flags.{IsWithin, with_flags}
 use Rattle.vm_shadow.specs.Layout.{all_entries, entry_number, entry_place, real_entry}
-use Rattle.vm_shadow.specs.Stands.{Fits, IsSource, Shadowed, own, seen_at}
-use Rattle.vm_shadow.specs.StandsFor.{FillsPage, IsEntry, IsPresent, Protects, StandsFor}
+use Rattle.vm_shadow.specs.Shadowed.{Fits, IsSource, Shadowed, own, seen_at}
+use Rattle.vm_shadow.specs.StandsFor.{FillsPage, IsPageEntry, IsPresent, Protects, StandsFor}
 use Rattle.vm_shadow.specs.declared.source.Source.{Source}
 use Rattle.vm_shadow.proofs.Changes.{filled}
 use Rattle.vm_shadow.proofs.Covering.{own_is, own_length, present_covered, seen_own, slot_small}
@@ -32,7 +32,7 @@ byte_apart at n before after p a (inr h) = let e : at + n + (p - (at + n)) ≡ p
 pub own_apart : (before after : List ℕ) (s : Shadowed) → Fits before s → IsApart (512 * s.at) (512 * 580) before after → own after s ≡ own before s
 own_apart before after s f a = part_same before after (512 * s.base) (512 * s.pages) a.size (omega (arith, f.partition)) (λ p h k. byte_apart (512 * s.at) (512 * 580) before after p a (split f.apart (λ q. inl (omega arith)) (λ q. inr (omega arith))))
 
-fill_by : (page : ℕ) (g : GuestState) (m m1 : Machine) (s : Shadowed) (w : List Bool) (entry : Pte) (source : Source) (seen : Lookup) (n : ℕ) → page < 2 ^ 23 → StandsFor m.memory s g → IsPresent (guest_of m.memory g) page → seen ≡ look (guest_of m.memory g) page → IsEntry g.pages (partition_of m.memory g) seen (Some (entry, source)) → Protects source m s m1 (record s { writable = w }) →
+fill_by : (page : ℕ) (g : GuestState) (m m1 : Machine) (s : Shadowed) (w : List Bool) (entry : Pte) (source : Source) (seen : Lookup) (n : ℕ) → page < 2 ^ 23 → StandsFor m.memory s g → IsPresent (guest_of m.memory g) page → seen ≡ look (guest_of m.memory g) page → IsPageEntry g.pages (partition_of m.memory g) seen (Some (entry, source)) → Protects source m s m1 (record s { writable = w }) →
     n ≡ entry_number s.slot page → FillsPage page g m s (with_long m1 (entry_place s.at n) (real_entry s.base false entry.0)) (record s { reads = set s.reads n (Some source); consulted = with_flags true source s.consulted; writable = w })
 fill_by page g m m1 s w entry source seen n small stands p is e protects at =
     let v = stands.serves in
@@ -59,7 +59,7 @@ fill_by page g m m1 s w entry source seen n small stands p is e protects at =
       only = only_more s.at m m1 place _ f1.room (place_within s.at n h) protects.only;
     }
 
-pub fill_page : (page : ℕ) (g : GuestState) (m m1 m2 : Machine) (s s1 inside : Shadowed) (entry : Pte) (source : Source) (seen : Lookup) (n place real : ℕ) (consulted : List Bool) → page < 2 ^ 23 → StandsFor m.memory s g → IsPresent (guest_of m.memory g) page → seen ≡ look (guest_of m.memory g) page → IsEntry g.pages (partition_of m.memory g) seen (Some (entry, source)) → Protects source m s m1 s1 → inside ≡ s1 →
+pub fill_page : (page : ℕ) (g : GuestState) (m m1 m2 : Machine) (s s1 inside : Shadowed) (entry : Pte) (source : Source) (seen : Lookup) (n place real : ℕ) (consulted : List Bool) → page < 2 ^ 23 → StandsFor m.memory s g → IsPresent (guest_of m.memory g) page → seen ≡ look (guest_of m.memory g) page → IsPageEntry g.pages (partition_of m.memory g) seen (Some (entry, source)) → Protects source m s m1 s1 → inside ≡ s1 →
     n ≡ entry_number inside.slot page → place ≡ entry_place inside.at n → real ≡ real_entry inside.base false entry.0 → m2 ≡ with_long m1 place real → consulted ≡ with_flags true source inside.consulted →
     FillsPage page g m s m2 (record inside { reads = set inside.reads n (Some source); consulted = consulted })
 fill_page page g m m1 m2 s s1 inside entry source seen n place real consulted small stands p is e protects view at place_is real_is write flags =

@@ -3,7 +3,7 @@ use Rattle.std.proofs.Common.{◌≡◌, ℕ, ◌<◌, ◌≤◌, Bool, true, fa
 use Rattle.std.proofs.lemmas.Bool.{cases_eq, eqb-false, ne_eqb, or_from, or_parts, true≢false}
 use Rattle.std.proofs.lemmas.List.{get_or-set_other, get_or-set_same, length-set, set_past}
 use Rattle.vm_shadow.specs.Flags.{IsWithin, any_flagged, with_flags}
-use Rattle.vm_shadow.specs.Stands.{is_flagged, is_read_from}
+use Rattle.vm_shadow.specs.Shadowed.{is_flagged, is_read_from}
 use Rattle.vm_shadow.specs.declared.source.Source.{Source}
 use Rattle.vm_shadow.specs.declared.source.Source.TheVariants.{Direct, Process, System}
 use Rattle.vm_shadow.proofs.Places.{split}

@@ -9,8 +9,8 @@ use Rattle.std.specs.Prelude.{if◌then◌else◌}
 use Rattle.vax_arch.specs.Walk.{with_modify}
 use Rattle.vax_hw.specs.Machine.{Machine}
 use Rattle.vm_shadow.specs.Layout.{IsCovered, all_entries, entry_place}
-use Rattle.vm_shadow.specs.Stands.{Fits, Keeps, Shadowed, is_flagged, is_opened, mapped_frame, own, real_at, seen_at}
-use Rattle.vm_shadow.specs.StandsFor.{ClosesPage, GrantsPage, IsMarked, OpensPage, closed_for, own_number}
+use Rattle.vm_shadow.specs.Shadowed.{Fits, Keeps, Shadowed, is_flagged, is_opened, mapped_frame, own, real_at, seen_at}
+use Rattle.vm_shadow.specs.StandsFor.{ClosesPage, GrantsPage, HasModifiedPage, OpensPage, closed_for, own_number}
 use Rattle.vm_shadow.proofs.Changes.{IsFilled, closed, filled_of, grants, one_clear, opens}
 use Rattle.vm_shadow.proofs.Covering.{slot_small}
 use Rattle.vm_shadow.proofs.Places.{number_small, place_within, places_apart, split}
@@ -30,7 +30,7 @@ flag_more flags at frame e = split (cases_eq frame at)
     (λ differ. get_or-set_other flags at frame true false differ ∙ e)
 
 -- the guest's entry that a filled real one stands for has its bit set
-marked_right : (memory : List ℕ) (s : Shadowed) (n : ℕ) → IsMarked memory s n → (r : IsFilled memory s n) → is_modified (r.right.entry) ≡ true
+marked_right : (memory : List ℕ) (s : Shadowed) (n : ℕ) → HasModifiedPage memory s n → (r : IsFilled memory s n) → is_modified (r.right.entry) ≡ true
 marked_right memory s n mark r = let same : r.right.entry ≡ mark.entry = same_Some (r.right.entry) mark.entry (sym r.right.has ∙ mark.has) in subst (λ x. is_modified x ≡ true) (sym same) mark.modified
 
 set_bit : (real : ℕ) → is_modified real ≡ false → is_modified (real + 2 ^ 26) ≡ true
@@ -48,7 +48,7 @@ clear_rises real e = ap (λ b. if b then real else real + 2 ^ 26) e
 opened_more : (opened : List ℕ) (n : ℕ) (memory : List ℕ) (s : Shadowed) → Keeps [] opened memory s → Keeps [] (n ∷ opened) memory s
 opened_more opened n memory s k = record { fits = k.fits; entries = k.entries; writes = k.writes; guarded = λ i j h c o v x. k.guarded i j h c (or_parts (n == j) (is_opened j opened) o).1 v x }
 
-module _ (m : Machine) (s : Shadowed) (n : ℕ) (f : Fits m.memory s) (h : n < all_entries) (mark : IsMarked m.memory s n) where
+module _ (m : Machine) (s : Shadowed) (n : ℕ) (f : Fits m.memory s) (h : n < all_entries) (mark : HasModifiedPage m.memory s n) where
   -- a page that is open is opened
   pub opens_same : is_modified (real_at m.memory s n) ≡ true → OpensPage n m s m s
   opens_same on = record { keeps = λ opened k. opened_more opened n m.memory s k; opens = on; entry = sym (modified_stays (real_at m.memory s n) on); others = λ k differ. refl; rest = refl; only = only_none s.at m }
@@ -148,7 +148,7 @@ closes_then m m2 s page place real f c is read on write =
 pub closes_else : (m : Machine) (s : Shadowed) (page place real : ℕ) → place ≡ entry_place s.at (own_number s page) → real ≡ long_at m.memory place → is_modified real ≡ false → ClosesPage (own_number s page) m s m
 closes_else m s page place real is read off = closes_same m s (own_number s page) (subst (λ x. is_modified x ≡ false) (read ∙ ap (long_at m.memory) is) off)
 
-module _ (m m2 : Machine) (s inside : Shadowed) (page place real frame : ℕ) (flags : List Bool) (view : inside ≡ s) (f : Fits m.memory s) (c : IsCovered page) (mark : IsMarked m.memory s (own_number s page)) (is : place ≡ entry_place s.at (own_number s page)) (read : real ≡ long_at m.memory place) where
+module _ (m m2 : Machine) (s inside : Shadowed) (page place real frame : ℕ) (flags : List Bool) (view : inside ≡ s) (f : Fits m.memory s) (c : IsCovered page) (mark : HasModifiedPage m.memory s (own_number s page)) (is : place ≡ entry_place s.at (own_number s page)) (read : real ≡ long_at m.memory place) where
   real_is : real ≡ real_at m.memory s (own_number s page)
   real_is = read ∙ ap (long_at m.memory) is
 

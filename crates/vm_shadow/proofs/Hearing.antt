@@ -18,11 +18,11 @@ use Rattle.vax_arch.specs.declared.walk.Lookup.{Lookup}
 use Rattle.vax_arch.specs.declared.walk.Lookup.TheVariants.{Beyond, Direct, Fails, Found}
 use Rattle.vax_arch.proofs.Compression.{by_table, compresses}
 use Rattle.vax_arch.proofs.Walks.{looks_inside}
-use Rattle.vax_hw.specs.RealTables.{everywhere, is_clear_in, is_kernels_alone, judged, judged_at, judged_by, place_by, place_in, placed_by}
-use Rattle.vax_table.specs.Script.{Absent, Cause, Refusing}
-use Rattle.vm_shadow.specs.Laws.{FindsFilledEntries, HasNone, HearsTheGuest, IsHeard, MarksTheGuest, MissesEmptyEntries, ProbesFilledEntries, ProbesTheGuest, guest_place, moved, own_place, real_place}
+use Rattle.vax_hw.specs.RealTables.{access_judged, access_judged_at, everywhere, is_clear_in, is_kernels_alone, judged_by, place_by, place_in, placed_by}
+use Rattle.vax_table.specs.Interaction.{Absent, Cause, Refusing}
+use Rattle.vm_shadow.specs.Laws.{FindsFilledEntries, HasNone, HearsTheGuest, IsHeard, MarksTheGuest, MissesEmptyEntries, ProbesFilledEntries, ProbesTheGuest, guest_place, own_place, real_place, relocated}
 use Rattle.vm_shadow.specs.Layout.{IsCovered, all_entries, empty_entry, real_entry, real_tables}
-use Rattle.vm_shadow.specs.Stands.{CanStand, IsKept, Keeps, Shadowed, own, read_at, real_at, seen_at}
+use Rattle.vm_shadow.specs.Shadowed.{CanBeShadowed, IsKept, Keeps, Shadowed, own, read_at, real_at, seen_at}
 use Rattle.vm_shadow.specs.StandsFor.{Serves, own_number}
 use Rattle.vm_shadow.specs.declared.source.Source.{Source}
 use Rattle.vm_shadow.proofs.Changes.{IsFilled, filled_of, kept_valid}
@@ -90,7 +90,7 @@ unfolding given answer
 given_own true frame va place table i = refl
 given_own false frame va place table i = refl
 
-answer_moved : (base : ℕ) (b : Bool) (frame va : ℕ) → answer b (base + frame) va ≡ moved (512 * base) (answer b frame va)
+answer_moved : (base : ℕ) (b : Bool) (frame va : ℕ) → answer b (base + frame) va ≡ relocated (512 * base) (answer b frame va)
 unfolding answer
 answer_moved base true frame va = ap Ok (omega arith)
 answer_moved base false frame va = refl
@@ -163,8 +163,8 @@ module _ (opened : List ℕ) (memory : List ℕ) (s : Shadowed) (g : GuestState)
   pub size_is : length (partition_of memory g) ≡ 512 * s.pages
   size_is = ap length (sym (own_is memory s g v)) ∙ own_length memory s k.fits
 
-  pub can_serve : CanStand (tables_of g)
-  can_serve = subst CanStand v.told k.fits.told
+  pub can_serve : CanBeShadowed (tables_of g)
+  can_serve = subst CanBeShadowed v.told k.fits.told
 
   -- a page at which the guest has a place is covered
   pub place_covered : (m : Mode) (i : Intent) (va pa : ℕ) → own_place memory g m i va ≡ Ok pa → IsCovered (page_of va)
@@ -179,7 +179,7 @@ module _ (opened : List ℕ) (memory : List ℕ) (s : Shadowed) (g : GuestState)
   real_by m i va c = let e = entry_found memory s (page_of va) k.fits (slot_small memory s k.fits) c in ap (placed_by memory va (ring_of m) i) e.1
 
   -- a page that is filled answers as the guest's
-  pub filled_answers : (m : Mode) (i : Intent) (va : ℕ) → va < 2 ^ 32 → IsCovered (page_of va) → IsFilled memory s (own_number s (page_of va)) → real_place memory s m i va ≡ moved (512 * s.base) (own_place memory g m i va)
+  pub filled_answers : (m : Mode) (i : Intent) (va : ℕ) → va < 2 ^ 32 → IsCovered (page_of va) → IsFilled memory s (own_number s (page_of va)) → real_place memory s m i va ≡ relocated (512 * s.base) (own_place memory g m i va)
   unfolding walk_of
   filled_answers m i va small c r =
       let page = page_of va in
@@ -191,7 +191,7 @@ module _ (opened : List ℕ) (memory : List ℕ) (s : Shadowed) (g : GuestState)
       let has : entry_at (partition_of memory g) (look (guest_of memory g) page) ≡ Some entry = entry_there (own memory s) (partition_of memory g) (seen_at memory s (own_number s page)) (look (guest_of memory g) page) entry (own_is memory s g v) seen r.right.has in
       let real : real_place memory s m i va ≡ answer lets (s.base + frame_of entry) va = real_by m i va c ∙ ap (λ x. place_by va (granted may_of everywhere x (ring_of m) i)) r.right.is ∙ ap (place_by va) (real_gives s.base r.right.modify entry m i fits) ∙ given_real lets (s.base + frame_of entry) va in
       let mine : own_place memory g m i va ≡ answer lets (frame_of entry) va = own_by (guest_of memory g) va entry m i (look (guest_of memory g) page) has r.right.valid (omega (arith, size_is, r.right.inside)) (omega (arith, size_is, f.small)) (looks_inside (length (partition_of memory g)) (partition_of memory g) (tables_of g) page) (looks_by (length (partition_of memory g)) (partition_of memory g) (tables_of g) page) in
-      real ∙ answer_moved s.base lets (frame_of entry) va ∙ ap (moved (512 * s.base)) (sym mine)
+      real ∙ answer_moved s.base lets (frame_of entry) va ∙ ap (relocated (512 * s.base)) (sym mine)
 
   pub number_is_small : (va : ℕ) → IsCovered (page_of va) → own_number s (page_of va) < all_entries
   number_is_small va c = number_small s.slot (page_of va) (slot_small memory s k.fits) c
@@ -231,7 +231,7 @@ module _ (opened : List ℕ) (memory : List ℕ) (s : Shadowed) (g : GuestState)
   empty_by m i va pa small miss e None is = refl
   empty_by m i va pa small miss e (Some source) is =
       let c = place_covered m i va pa e in
-      let has : real_place memory s m i va ≡ Ok (512 * s.base + pa) = filled_answers m i va small c (filled_there va source c is) ∙ ap (moved (512 * s.base)) e in
+      let has : real_place memory s m i va ≡ Ok (512 * s.base + pa) = filled_answers m i va small c (filled_there va source c is) ∙ ap (relocated (512 * s.base)) e in
       cc
 
   pub missing : (m : Mode) (i : Intent) (va pa : ℕ) → va < 2 ^ 32 → real_place memory s m i va ≡ Err Absent → own_place memory g m i va ≡ Ok pa → read_at s (own_number s (page_of va)) ≡ None
@@ -239,7 +239,7 @@ module _ (opened : List ℕ) (memory : List ℕ) (s : Shadowed) (g : GuestState)
 
   found_by : (m : Mode) (i : Intent) (va pa : ℕ) → va < 2 ^ 32 → own_place memory g m i va ≡ Ok pa → (x : Option Source) → read_at s (own_number s (page_of va)) ≡ x → is_some x ≡ true → real_place memory s m i va ≡ Ok (512 * s.base + pa)
   found_by m i va pa small e None is some = absurd (false≢true some)
-  found_by m i va pa small e (Some source) is some = let c = place_covered m i va pa e in filled_answers m i va small c (filled_there va source c is) ∙ ap (moved (512 * s.base)) e
+  found_by m i va pa small e (Some source) is some = let c = place_covered m i va pa e in filled_answers m i va small c (filled_there va source c is) ∙ ap (relocated (512 * s.base)) e
 
   -- modify bits
   pub clear_by : (va : ℕ) → IsCovered (page_of va) → is_clear_in memory (real_tables s.at s.slot) va ≡ not (is_modified (real_at memory s (own_number s (page_of va))))
@@ -279,24 +279,24 @@ module _ (opened : List ℕ) (memory : List ℕ) (s : Shadowed) (g : GuestState)
       (λ w. none_clear va w.uncovered)
 
   -- PROBE
-  pub judged_on : (m : Mode) (i : Intent) (va : ℕ) → IsCovered (page_of va) → judged memory (real_tables s.at s.slot) (ring_of m) i va ≡ judged_by (real_at memory s (own_number s (page_of va))) (ring_of m) i
-  unfolding judged
-  judged_on m i va c = ap (judged_at memory (ring_of m) i) (entry_found memory s (page_of va) k.fits (slot_small memory s k.fits) c).1
+  pub judged_on : (m : Mode) (i : Intent) (va : ℕ) → IsCovered (page_of va) → access_judged memory (real_tables s.at s.slot) (ring_of m) i va ≡ judged_by (real_at memory s (own_number s (page_of va))) (ring_of m) i
+  unfolding access_judged
+  judged_on m i va c = ap (access_judged_at memory (ring_of m) i) (entry_found memory s (page_of va) k.fits (slot_small memory s k.fits) c).1
 
-  elsewhere_unjudged : (m : Mode) (i : Intent) (va : ℕ) → IsElsewhere memory s (page_of va) → judged memory (real_tables s.at s.slot) (ring_of m) i va ≡ None
-  unfolding judged
+  elsewhere_unjudged : (m : Mode) (i : Intent) (va : ℕ) → IsElsewhere memory s (page_of va) → access_judged memory (real_tables s.at s.slot) (ring_of m) i va ≡ None
+  unfolding access_judged
   elsewhere_unjudged m i va e = e.unjudged m i
 
   -- what is filled is judged, as the guest's code allows
-  filled_judged : (m : Mode) (i : Intent) (va : ℕ) → IsCovered (page_of va) → (r : IsFilled memory s (own_number s (page_of va))) → judged memory (real_tables s.at s.slot) (ring_of m) i va ≡ Some (open_of (protection_of (r.right.entry)) m i)
+  filled_judged : (m : Mode) (i : Intent) (va : ℕ) → IsCovered (page_of va) → (r : IsFilled memory s (own_number s (page_of va))) → access_judged memory (real_tables s.at s.slot) (ring_of m) i va ≡ Some (open_of (protection_of (r.right.entry)) m i)
   filled_judged m i va c r = judged_on m i va c ∙ ap (λ x. judged_by x (ring_of m) i) r.right.is ∙ judged_real s.base r.right.modify (r.right.entry) m i (frame_fits memory s (r.right.entry) k.fits r.right.inside)
 
-  probed_by_source : (m : Mode) (i : Intent) (va : ℕ) (b : Bool) → va < 2 ^ 32 → IsCovered (page_of va) → judged memory (real_tables s.at s.slot) (ring_of m) i va ≡ Some b → (x : Option Source) → read_at s (own_number s (page_of va)) ≡ x → probed_byte (guest_of memory g) va m i ≡ Answers b true
+  probed_by_source : (m : Mode) (i : Intent) (va : ℕ) (b : Bool) → va < 2 ^ 32 → IsCovered (page_of va) → access_judged memory (real_tables s.at s.slot) (ring_of m) i va ≡ Some b → (x : Option Source) → read_at s (own_number s (page_of va)) ≡ x → probed_byte (guest_of memory g) va m i ≡ Answers b true
   unfolding probed_byte
   probed_by_source m i va b small c e None is =
       let n = own_number s (page_of va) in
       let empty : real_at memory s n ≡ empty_entry = subst (IsKept (512 * s.pages) s.base (own memory s) [] (seen_at memory s n) (real_at memory s n)) is (k.entries n (number_is_small va c)) in
-      let none : judged memory (real_tables s.at s.slot) (ring_of m) i va ≡ None = judged_on m i va c ∙ ap (λ x. judged_by x (ring_of m) i) empty ∙ empty_unjudged m i in
+      let none : access_judged memory (real_tables s.at s.slot) (ring_of m) i va ≡ None = judged_on m i va c ∙ ap (λ x. judged_by x (ring_of m) i) empty ∙ empty_unjudged m i in
       cc
   probed_by_source m i va b small c e (Some source) is =
       let r = filled_there va source c is in
@@ -306,12 +306,12 @@ module _ (opened : List ℕ) (memory : List ℕ) (s : Shadowed) (g : GuestState)
       let same : open_of (protection_of (r.right.entry)) m i ≡ b = same_Some _ b (sym (filled_judged m i va c r) ∙ e) in
       probed_entry (guest_of memory g) va (r.right.entry) m i (look (guest_of memory g) page) has r.right.valid (omega (arith, size_is, r.right.inside)) (omega (arith, size_is, k.fits.small)) (looks_inside (length (partition_of memory g)) (partition_of memory g) (tables_of g) page) ∙ ap (λ x. Answers x true) same
 
-  pub probes : (m : Mode) (i : Intent) (va : ℕ) (b : Bool) → va < 2 ^ 32 → judged memory (real_tables s.at s.slot) (ring_of m) i va ≡ Some b → probed_byte (guest_of memory g) va m i ≡ Answers b true
+  pub probes : (m : Mode) (i : Intent) (va : ℕ) (b : Bool) → va < 2 ^ 32 → access_judged memory (real_tables s.at s.slot) (ring_of m) i va ≡ Some b → probed_byte (guest_of memory g) va m i ≡ Answers b true
   probes m i va b small e = split (elsewhere memory s (page_of va) k.fits)
       (λ c. probed_by_source m i va b small c e (read_at s (own_number s (page_of va))) refl)
-      (λ w. let none : judged memory (real_tables s.at s.slot) (ring_of m) i va ≡ None = elsewhere_unjudged m i va w in cc)
+      (λ w. let none : access_judged memory (real_tables s.at s.slot) (ring_of m) i va ≡ None = elsewhere_unjudged m i va w in cc)
 
-  judged_by_source : (m : Mode) (i : Intent) (va : ℕ) → IsCovered (page_of va) → (x : Option Source) → read_at s (own_number s (page_of va)) ≡ x → is_some x ≡ true → is_some (judged memory (real_tables s.at s.slot) (ring_of m) i va) ≡ true
+  judged_by_source : (m : Mode) (i : Intent) (va : ℕ) → IsCovered (page_of va) → (x : Option Source) → read_at s (own_number s (page_of va)) ≡ x → is_some x ≡ true → is_some (access_judged memory (real_tables s.at s.slot) (ring_of m) i va) ≡ true
   judged_by_source m i va c None is some = absurd (false≢true some)
   judged_by_source m i va c (Some source) is some = ap is_some (filled_judged m i va c (filled_there va source c is))
 

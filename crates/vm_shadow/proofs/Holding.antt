@@ -5,11 +5,11 @@ use Rattle.std.proofs.lemmas.List.{take_all}
 use Rattle.std.proofs.lemmas.List.Elements.{Contains-push_cases}
 use Rattle.std.proofs.lemmas.List.Filters.{length-filter_both}
 use Rattle.std.proofs.lemmas.Option.{none-some, same_Some}
-use Rattle.vm_slots.specs.Held.{Held, beside, is_same, slot_of, without}
+use Rattle.vm_slots.specs.Held.{Held, is_same, others_held, slot_of, without}
 use Rattle.vm_slots.specs.declared.context.Context.{Context}
 use Rattle.vm_slots.proofs.HeldLaws.{is_same-true, its_slot}
-use Rattle.vm_shadow.specs.Stands.{context_in}
-use Rattle.vm_shadow.specs.StandsFor.{Takes}
+use Rattle.vm_shadow.specs.Shadowed.{context_in}
+use Rattle.vm_shadow.specs.StandsFor.{TakesSlot}
 use Rattle.vm_shadow.proofs.Places.{split}
 
 -- the context that has a slot is in the list with it
@@ -61,30 +61,30 @@ if_some P None n e h = absurd (none-some n e)
 if_some P (Some m) n e h = subst P (same_Some m n e) h
 
 -- A context keeps its slot, unless it is the last and another takes that.
-pub still_has : (c d : Context) (held held' : Held) (slot own : ℕ) → Takes c held held' slot → (length (without c held) ≡ 4 → own ≢ slot) → context_in own held ≡ Some d → context_in own held' ≡ Some d
+pub still_has : (c d : Context) (held held' : Held) (slot own : ℕ) → TakesSlot c held held' slot → (length (without c held) ≡ 4 → own ≢ slot) → context_in own held ≡ Some d → context_in own held' ≡ Some d
 still_has c d held held' slot own t apart e = its_context d own held' t.after.slots (subst (λ x. Contains x (d, own)) (sym t.front) (split (cases_Bool (is_same c d)) (λ same. front same) (λ other. later other)))
   where
     in_old : Contains held (d, own)
     in_old = in_held d own held e
 
-    push : Contains (beside c held) (d, own) → Contains ((c, slot) ∷ beside c held) (d, own)
+    push : Contains (others_held c held) (d, own) → Contains ((c, slot) ∷ others_held c held) (d, own)
     push x = (suc x.0, omega (arith, x.1), x.2)
 
-    front : is_same c d ≡ true → Contains ((c, slot) ∷ beside c held) (d, own)
+    front : is_same c d ≡ true → Contains ((c, slot) ∷ others_held c held) (d, own)
     front same =
         let one : c ≡ d = is_same-true c d same in
         let has : slot_of c held ≡ Some own = its_slot c held own t.before.contexts (subst (λ x. Contains held (x, own)) (sym one) in_old) in
         let is : slot ≡ own = if_some (λ n. slot ≡ n) (slot_of c held) own has t.kept in
         (0, omega arith, λ i. (one i, is i))
 
-    last : length (without c held) ≡ 4 → Contains ((c, slot) ∷ beside c held) (d, own)
+    last : length (without c held) ≡ 4 → Contains ((c, slot) ∷ others_held c held) (d, own)
     last four =
         let g = t.gone four in
-        split (Contains-push_cases (beside c held) (g.0, slot) (d, own) (subst (λ x. Contains x (d, own)) g.1 in_old))
+        split (Contains-push_cases (others_held c held) (g.0, slot) (d, own) (subst (λ x. Contains x (d, own)) g.1 in_old))
         (λ x. push x)
         (λ same. absurd (apart four (sym (ap (λ j. j.1) same))))
 
-    later : is_same c d ≡ false → Contains ((c, slot) ∷ beside c held) (d, own)
+    later : is_same c d ≡ false → Contains ((c, slot) ∷ others_held c held) (d, own)
     later other = split (cases_lt (length (without c held)) 4)
         (λ few. push (subst (λ x. Contains x (d, own)) (sym (take_all 3 (without c held) (omega arith))) (stays (λ h. not (is_same c h.0)) held (d, own) in_old (ap not other))))
         (λ many. last (omega (arith, t.before.few, length-filter_both (λ h. not (is_same c h.0)) (λ h. not (not (is_same c h.0))) (λ h. refl) held)))

@@ -8,7 +8,7 @@ use Rattle.vax_arch.specs.WalkLaws.{AreAligned, IsAligned, table_at, table_place
 use Rattle.vax_arch.specs.declared.walk.Lookup.{Lookup}
 use Rattle.vax_arch.specs.declared.walk.Lookup.TheVariants.{Beyond, Direct, Fails, Found}
 use Rattle.vax_arch.proofs.Walks.{looks_aligned, looks_at_one}
-use Rattle.vm_shadow.specs.Stands.{IsSource, is_read_from, look_under}
+use Rattle.vm_shadow.specs.Shadowed.{IsSource, is_read_from, look_under}
 use Rattle.vm_shadow.specs.declared.source.Source.{Source}
 use Rattle.vm_shadow.specs.declared.source.Source.TheVariants as sources
 use Rattle.vm_shadow.proofs.Writes.{long_by}

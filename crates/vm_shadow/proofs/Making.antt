@@ -8,9 +8,9 @@ use Rattle.vm_slots.specs.Held.{AreSlots, Held, contexts_of}
 use Rattle.vm_slots.specs.declared.context.Context.{Context}
 use Rattle.vm_shadow.specs.Calls.{Clears, Maps, OnlyTables}
 use Rattle.vm_shadow.specs.Layout.{all_entries, empty_entry, entry_place, kernel_entry}
-use Rattle.vm_shadow.specs.Stands.{CanStand, Fits, IsFirst, IsKept, Shadowed, in_context, is_read_from, own, read_at, real_at, seen_at}
+use Rattle.vm_shadow.specs.Shadowed.{CanBeShadowed, Fits, IsFirst, IsKept, Shadowed, in_context, is_read_from, own, read_at, real_at, seen_at}
 use Rattle.vm_shadow.specs.Marks.{AreEmpty}
-use Rattle.vm_shadow.specs.StandsFor.{Makes}
+use Rattle.vm_shadow.specs.StandsFor.{MakesTables}
 use Rattle.vm_shadow.specs.declared.source.Source.{Source}
 use Rattle.vm_state.specs.Allowed.{AreAllowed}
 use Rattle.vm_state.specs.Registers.{first_p1_page}
@@ -64,7 +64,7 @@ or_zero : (v : ℕ) → (v ≡ 0) ⊎ (((v % 4 == 0) && (v / 2 ^ 30 == 2)) ≡ t
 or_zero v (inl e) = omega arith
 or_zero v (inr e) = eqb-true (v % 4) 0 (and_parts (v % 4 == 0) (v / 2 ^ 30 == 2) e).0
 
-pub can_stand : (size : ℕ) (s : State) → AreAllowed size s → CanStand s.tables
+pub can_stand : (size : ℕ) (s : State) → AreAllowed size s → CanBeShadowed s.tables
 can_stand size s a = record {
   p0br = or_zero s.tables.p0br a.p0br;
   p0lr = leb-true s.tables.p0lr 8192 a.p0lr;
@@ -77,7 +77,7 @@ can_stand size s a = record {
 -- what was written for a guest is its shadow's
 pub makes : (g : GuestState) (at slot : ℕ) (held : Held) (reads : List (Option Source)) (consulted writable : List Bool) (m m1 m2 : Machine) → length m.memory ≤ 33554432 → 512 * (g.base + g.pages) ≤ length m.memory → 512 * (at + 580) ≤ length m.memory → (g.base + g.pages ≤ at) ⊎ (at + 580 ≤ g.base) → g.pages ≤ 2048 → AreAllowed (512 * g.pages) (state_of g) →
     AreEmpty reads → consulted ≡ replicate g.pages false → writable ≡ replicate g.pages false → held ≡ (context_of (tables_of g), slot) ∷ [] → AreSlots held → Maps at 512 m m1 → Clears at all_entries m1 m2 →
-    Makes g at m m2 (record { pages = g.pages; base = g.base; at = at; told = tables_of g; slot = slot; held = held; reads = reads; consulted = consulted; writable = writable })
+    MakesTables g at m m2 (record { pages = g.pages; base = g.base; at = at; told = tables_of g; slot = slot; held = held; reads = reads; consulted = consulted; writable = writable })
 makes g at slot held reads consulted writable m m1 m2 few partition room apart small allowed reads_is consulted_is writable_is held_is slots maps clears =
     let s : Shadowed = record { pages = g.pages; base = g.base; at = at; told = tables_of g; slot = slot; held = held; reads = reads; consulted = consulted; writable = writable } in
     let size : length m2.memory ≡ length m.memory = clears.only.tables.size ∙ maps.only.tables.size in
@@ -91,7 +91,7 @@ makes g at slot held reads consulted writable m m1 m2 few partition room apart s
       room = omega (arith, size);
       apart = apart;
       told = can;
-      contexts = subst (All (λ h. CanStand (in_context (tables_of g) h.0))) (sym held_is) (All-cons (λ h. CanStand (in_context (tables_of g) h.0)) (context_of (tables_of g), slot) [] can (All-nil (λ h. CanStand (in_context (tables_of g) h.0))));
+      contexts = subst (All (λ h. CanBeShadowed (in_context (tables_of g) h.0))) (sym held_is) (All-cons (λ h. CanBeShadowed (in_context (tables_of g) h.0)) (context_of (tables_of g), slot) [] can (All-nil (λ h. CanBeShadowed (in_context (tables_of g) h.0))));
       slots = slots;
       first = subst (IsFirst (context_of (tables_of g)) slot) (sym held_is) (refl, refl);
       system = λ j h. clears.stay j h ∙ maps.mapped j h;
@@ -125,6 +125,6 @@ makes g at slot held reads consulted writable m m1 m2 few partition room apart s
 
 -- the registers as the code has them
 pub makes_told : (g : GuestState) (at slot : ℕ) (c : Context) (held : Held) (reads : List (Option Source)) (consulted writable : List Bool) (m m' : Machine) → c ≡ context_of (tables_of g) →
-    Makes g at m m' (record { pages = g.pages; base = g.base; at = at; told = tables_of g; slot = slot; held = held; reads = reads; consulted = consulted; writable = writable }) →
-    Makes g at m m' (record { pages = g.pages; base = g.base; at = at; told = record { mapped = c.mapped; p0br = c.p0br; p0lr = c.p0lr; p1br = c.p1br; p1lr = c.p1lr; sbr = g.sbr; slr = g.slr }; slot = slot; held = held; reads = reads; consulted = consulted; writable = writable })
-makes_told g at slot c held reads consulted writable m m' e w = subst (λ (x : Context). Makes g at m m' (record { pages = g.pages; base = g.base; at = at; told = record { mapped = x.mapped; p0br = x.p0br; p0lr = x.p0lr; p1br = x.p1br; p1lr = x.p1lr; sbr = g.sbr; slr = g.slr }; slot = slot; held = held; reads = reads; consulted = consulted; writable = writable })) (sym e) w
+    MakesTables g at m m' (record { pages = g.pages; base = g.base; at = at; told = tables_of g; slot = slot; held = held; reads = reads; consulted = consulted; writable = writable }) →
+    MakesTables g at m m' (record { pages = g.pages; base = g.base; at = at; told = record { mapped = c.mapped; p0br = c.p0br; p0lr = c.p0lr; p1br = c.p1br; p1lr = c.p1lr; sbr = g.sbr; slr = g.slr }; slot = slot; held = held; reads = reads; consulted = consulted; writable = writable })
+makes_told g at slot c held reads consulted writable m m' e w = subst (λ (x : Context). MakesTables g at m m' (record { pages = g.pages; base = g.base; at = at; told = record { mapped = x.mapped; p0br = x.p0br; p0lr = x.p0lr; p1br = x.p1br; p1lr = x.p1lr; sbr = g.sbr; slr = g.slr }; slot = slot; held = held; reads = reads; consulted = consulted; writable = writable })) (sym e) w

@@ -7,7 +7,7 @@ use Rattle.vax_arch.specs.declared.walk.Lookup.{Lookup}
 use Rattle.vax_arch.specs.declared.walk.Lookup.TheVariants.{Beyond, Direct, Fails, Found}
 use Rattle.vax_arch.proofs.Walks.{looks_aligned}
 use Rattle.vax_hw.specs.Machine.{Machine}
-use Rattle.vm_shadow.specs.Stands.{CanStand, Shadowed, own}
+use Rattle.vm_shadow.specs.Shadowed.{CanBeShadowed, Shadowed, own}
 use Rattle.vm_shadow.specs.StandsFor.{DropsMarked, Marks, Serves, StandsFor, Stores}
 use Rattle.vm_shadow.proofs.Contexts.{aligned_of}
 use Rattle.vm_shadow.proofs.Covering.{own_is}
@@ -20,7 +20,7 @@ use Rattle.vm_state.proofs.Parts.{part_long}
 -- an entry that is found is at a multiple of 4
 pub found_aligned : (memory : List ℕ) (s : Shadowed) (g : GuestState) (page place : ℕ) (table : Option ℕ) → StandsFor memory s g → Found place table ≡ look (guest_of memory g) page → place % 4 ≡ 0
 found_aligned memory s g page place table stands e =
-    let can : CanStand (tables_of g) = subst CanStand stands.serves.told stands.keeps.fits.told in
+    let can : CanBeShadowed (tables_of g) = subst CanBeShadowed stands.serves.told stands.keeps.fits.told in
     let a : IsAligned (Found place table) = subst IsAligned (sym e) (looks_aligned (length (partition_of memory g)) (partition_of memory g) (tables_of g) page (aligned_of (tables_of g) can)) in
     a.0
 

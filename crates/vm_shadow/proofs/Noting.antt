@@ -3,9 +3,9 @@ use Rattle.std.proofs.Common.{◌≡◌, ℕ, zero, suc, ◌*◌, ◌<◌, ◌�
 use Rattle.std.proofs.lemmas.Bool.{and_right, cases_lt, le-leb, lt-ltb}
 use Rattle.std.proofs.lemmas.List.{length-set}
 use Rattle.vax_hw.specs.Machine.{Machine}
-use Rattle.vm_shadow.specs.Calls.{Drops, is_between, remembered, unless_dropped}
+use Rattle.vm_shadow.specs.Calls.{DropsEntries, is_between, remembered, unless_dropped}
 use Rattle.vm_shadow.specs.Layout.{all_entries}
-use Rattle.vm_shadow.specs.Stands.{Fits, IsKept, Keeps, Shadowed, is_flagged, is_read_from, own, read_at, real_at, seen_at}
+use Rattle.vm_shadow.specs.Shadowed.{Fits, IsKept, Keeps, Shadowed, is_flagged, is_read_from, own, read_at, real_at, seen_at}
 use Rattle.vm_shadow.specs.StandsFor.{Notes}
 use Rattle.vm_shadow.specs.declared.source.Source.{Source}
 use Rattle.vm_shadow.specs.declared.scans.Dropped.TheVariants.{ReadFrom}
@@ -46,7 +46,7 @@ dropped_none false frame x e = sym e
 all_between : (n : ℕ) → n < all_entries → is_between 0 all_entries n ≡ true
 all_between n h = rw (le-leb 0 n (omega arith), lt-ltb n all_entries h) refl
 
-each_from : (frame at : ℕ) (m m' : Machine) (reads reads' : List (Option Source)) → length reads ≡ all_entries → Drops at 0 all_entries (ReadFrom frame) m reads m' reads' → (n : ℕ) → remembered reads' n ≡ unless_dropped (is_read_from frame (remembered reads n)) (remembered reads n)
+each_from : (frame at : ℕ) (m m' : Machine) (reads reads' : List (Option Source)) → length reads ≡ all_entries → DropsEntries at 0 all_entries (ReadFrom frame) m reads m' reads' → (n : ℕ) → remembered reads' n ≡ unless_dropped (is_read_from frame (remembered reads n)) (remembered reads n)
 each_from frame at m m' reads reads' whole d n = split (cases_lt n all_entries)
     (λ h. d.each n ∙ ap (λ b. unless_dropped (b && is_read_from frame (remembered reads n)) (remembered reads n)) (all_between n h))
     (λ h.
@@ -57,7 +57,7 @@ each_from frame at m m' reads reads' whole d n = split (cases_lt n all_entries)
 abbrev pub unflag : Shadowed → List (Option Source) → ℕ → Shadowed
 unflag s reads frame = record s { reads = reads; consulted = set s.consulted frame false }
 
-unread_all : (frame : ℕ) (m m' : Machine) (s : Shadowed) (reads' : List (Option Source)) → length s.reads ≡ all_entries → Drops s.at 0 all_entries (ReadFrom frame) m s.reads m' reads' → (n : ℕ) → is_read_from frame (remembered reads' n) ≡ false
+unread_all : (frame : ℕ) (m m' : Machine) (s : Shadowed) (reads' : List (Option Source)) → length s.reads ≡ all_entries → DropsEntries s.at 0 all_entries (ReadFrom frame) m s.reads m' reads' → (n : ℕ) → is_read_from frame (remembered reads' n) ≡ false
 unread_all frame m m' s reads' whole d n = subst (λ x. is_read_from frame x ≡ false) (sym (each_from frame s.at m m' s.reads reads' whole d n)) (dropped_none (is_read_from frame (read_at s n)) frame (read_at s n) refl)
 
 unflag_keeps : (frame : ℕ) (pending opened : List ℕ) (memory : List ℕ) (s : Shadowed) → Keeps pending opened memory s → ((n : ℕ) → is_read_from frame (read_at s n) ≡ false) → Keeps pending opened memory (record s { consulted = set s.consulted frame false })
@@ -86,7 +86,7 @@ unflag_keeps frame pending opened memory s k none = let f = k.fits in record {
     entries_kept : ((n : ℕ) → n < all_entries → IsKept (512 * s.pages) s.base (own memory s) pending (seen_at memory s n) (real_at memory s n) (read_at s n)) → (n : ℕ) → n < all_entries → IsKept (512 * s.pages) s.base (own memory s) pending (seen_at memory (record s { consulted = set s.consulted frame false }) n) (real_at memory s n) (read_at s n)
     entries_kept h n l = rw (seen_kept memory memory s s.reads (set s.consulted frame false) s.writable n refl) (h n l)
 
-pub note_all : (m m' : Machine) (s : Shadowed) (reads' : List (Option Source)) (frame : ℕ) → Fits m.memory s → Drops s.at 0 all_entries (ReadFrom frame) m s.reads m' reads' → Notes frame m s m' (unflag s reads' frame)
+pub note_all : (m m' : Machine) (s : Shadowed) (reads' : List (Option Source)) (frame : ℕ) → Fits m.memory s → DropsEntries s.at 0 all_entries (ReadFrom frame) m s.reads m' reads' → Notes frame m s m' (unflag s reads' frame)
 note_all m m' s reads' frame f d = record {
   keeps = λ pending opened k.
       let after = d.keeps (frame ∷ pending) opened s refl refl k in

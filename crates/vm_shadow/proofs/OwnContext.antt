@@ -5,9 +5,9 @@ use Rattle.std.proofs.lemmas.List.{take_all}
 use Rattle.std.specs.Bool.{beq}
 use Rattle.vax_arch.specs.Walk.{Tables}
 use Rattle.vm_shadow.specs.Calls.{unless_dropped}
-use Rattle.vm_shadow.specs.Stands.{Fits, IsFirst, Shadowed, read_at}
-use Rattle.vm_shadow.specs.StandsFor.{Retells, Takes, goes, is_full_for, staying}
-use Rattle.vm_slots.specs.Held.{AreSlots, Held, beside, contexts_of, is_same, without}
+use Rattle.vm_shadow.specs.Shadowed.{Fits, IsFirst, Shadowed, read_at}
+use Rattle.vm_shadow.specs.StandsFor.{Retells, TakesSlot, goes, is_full_for, staying}
+use Rattle.vm_slots.specs.Held.{AreSlots, Held, contexts_of, is_same, others_held, without}
 use Rattle.vm_slots.specs.declared.context.Context.{Context}
 use Rattle.vm_slots.proofs.HeldLaws.{forward_law, is_same-true}
 use Rattle.vm_state.specs.State.{context_of}
@@ -32,7 +32,7 @@ all_stay p (x ∷ xs) h = rw (h 0 x (omega arith)) (ap (λ (ys : Held). x ∷ ys
 
 -- the context in front is brought to the front
 record IsOwn (c : Context) (slot : ℕ) (held : Held) : Type 0 where
-  takes : Takes c held held slot
+  takes : TakesSlot c held held slot
   full : is_full_for c held ≡ false
 
 own_slot : (d : Context) (n : ℕ) (rest : Held) (b : Bool) → b ≡ true → IfSome (option_map (λ (y : Context × ℕ). y.1) (cond b (Some (d, n)) (find (λ y. is_same d y.0) rest))) (λ own. n ≡ own)
@@ -49,7 +49,7 @@ own_front c slot ((d, n) ∷ rest) first a = subst (λ x. IsOwn x slot ((d, n) �
     stay : without d ((d, n) ∷ rest) ≡ rest
     stay = rw (is_same_self d) (all_stay (λ h. not (is_same d h.0)) rest (λ k e l. others d n rest a.contexts k e l))
 
-    same : (d, n) ∷ beside d ((d, n) ∷ rest) ≡ (d, n) ∷ rest
+    same : (d, n) ∷ others_held d ((d, n) ∷ rest) ≡ (d, n) ∷ rest
     same = ap (λ (x : Held). (d, n) ∷ take 3 x) stay ∙ ap (λ (x : Held). (d, n) ∷ x) (take_all 3 rest few)
 
     size : length (without d ((d, n) ∷ rest)) ≡ length rest
@@ -77,7 +77,7 @@ told_again memory s f =
     let own = own_front (context_of s.told) s.slot s.held f.first f.slots in
     let e = not_remapped s.told in
     record {
-      takes = subst (λ b. Takes (context_of s.told) (staying b s.held) s.held s.slot) (sym e) own.takes;
+      takes = subst (λ b. TakesSlot (context_of s.told) (staying b s.held) s.held s.slot) (sym e) own.takes;
       each = λ n. ap (λ b. unless_dropped b (read_at s n)) (sym (kept_by s.slot n _ _ e own.full));
       rest = refl;
     }

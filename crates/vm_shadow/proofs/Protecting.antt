@@ -6,7 +6,7 @@ use Rattle.vax_hw.specs.Machine.{Machine}
 use Rattle.vm_shadow.specs.Calls.{Closes, maps_open}
 use Rattle.vm_shadow.specs.Flags.{any_flagged, with_flags}
 use Rattle.vm_shadow.specs.Layout.{all_entries}
-use Rattle.vm_shadow.specs.Stands.{IsKept, Keeps, Shadowed, is_read_from, mapped_frame, own, read_at, real_at, seen_at}
+use Rattle.vm_shadow.specs.Shadowed.{IsKept, Keeps, Shadowed, is_read_from, mapped_frame, own, read_at, real_at, seen_at}
 use Rattle.vm_shadow.specs.StandsFor.{Protects}
 use Rattle.vm_shadow.specs.declared.source.Source.{Source}
 use Rattle.vm_shadow.proofs.Entries.{seen_kept}

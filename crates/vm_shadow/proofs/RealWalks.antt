@@ -5,16 +5,16 @@ use Rattle.vv_base.specs.Bytes.{long_at}
 use Rattle.vax_arch.specs.Fields.{protection_of}
 use Rattle.vax_arch.specs.Protection.{may_of}
 use Rattle.vax_arch.specs.Ring.{ring_of}
-use Rattle.vax_arch.specs.Walk.{behind_table, granted, in_memory, in_region, lookup, mapped_entry, page_of, process_entry, region_of, system_entry}
+use Rattle.vax_arch.specs.Walk.{granted, in_memory, in_region, lookup, mapped_entry, page_of, process_entry, region_of, system_entry, through_system_entry}
 use Rattle.vax_arch.specs.declared.mode.Intent.{Intent}
 use Rattle.vax_arch.specs.declared.mode.Mode.{Mode}
 use Rattle.vax_arch.specs.declared.mode.Mode.TheVariants.{Executive, Kernel, Supervisor, User}
 use Rattle.vax_arch.specs.declared.walk.Grant.TheVariants.{Refused}
 use Rattle.vax_arch.specs.declared.walk.Lookup.TheVariants.{Fails, Found}
-use Rattle.vax_hw.specs.RealTables.{everywhere, judged_at, judged_by, place_by, placed_by, real_look}
-use Rattle.vax_table.specs.Script as script
+use Rattle.vax_hw.specs.RealTables.{access_judged_at, everywhere, judged_by, place_by, placed_by, real_look}
+use Rattle.vax_table.specs.Interaction as interaction
 use Rattle.vm_shadow.specs.Layout.{IsCovered, entry_number, entry_place, kernel_entry, p0_base, p1_base, real_tables}
-use Rattle.vm_shadow.specs.Stands.{Fits, Shadowed}
+use Rattle.vm_shadow.specs.Shadowed.{Fits, Shadowed}
 use Rattle.vm_state.specs.Registers.{first_p1_page}
 use Rattle.vm_shadow.proofs.Places.{number_p0, number_p1, number_system, place_high, place_low, split}
 
@@ -26,7 +26,7 @@ system_found : (at slot page : ℕ) → page < 8704 → 512 * at + 4 * page + 4 
 unfolding system_entry
 system_found at slot page h k = rw (lt-leb 8704 page h) (in_all None (512 * at + 4 * page) k)
 
-behind_found : (memory : List ℕ) (at table frame : ℕ) → table + 4 ≤ 2 ^ 33 → long_at memory table ≡ kernel_entry frame → frame < 2 ^ 20 → behind_table everywhere memory at table ≡ Found (512 * frame + at % 512) (Some table)
+behind_found : (memory : List ℕ) (at table frame : ℕ) → table + 4 ≤ 2 ^ 33 → long_at memory table ≡ kernel_entry frame → frame < 2 ^ 20 → through_system_entry everywhere memory at table ≡ Found (512 * frame + at % 512) (Some table)
 behind_found memory at table frame room entry small =
     let valid : kernel_entry frame / 2 ^ 31 % 2 ≡ 1 = omega arith in
     let same : kernel_entry frame % 2 ^ 21 ≡ frame = omega arith in
@@ -116,8 +116,8 @@ shared memory s page f r h = rw r (system_found s.at s.slot (in_region page) h (
 -- What holds of a page that isn't covered: the machine refuses it, and PROBE doesn't judge by its entry.
 pub record IsElsewhere (memory : List ℕ) (s : Shadowed) (page : ℕ) : Type 0 where
   pub uncovered : IsCovered page → ⊥
-  pub refuses : (m : Mode) (i : Intent) (va : ℕ) → placed_by memory va (ring_of m) i (real_look memory (real_tables s.at s.slot) page) ≡ Err script.Refusing
-  pub unjudged : (m : Mode) (i : Intent) → judged_at memory (ring_of m) i (real_look memory (real_tables s.at s.slot) page) ≡ None
+  pub refuses : (m : Mode) (i : Intent) (va : ℕ) → placed_by memory va (ring_of m) i (real_look memory (real_tables s.at s.slot) page) ≡ Err interaction.Refusing
+  pub unjudged : (m : Mode) (i : Intent) → access_judged_at memory (ring_of m) i (real_look memory (real_tables s.at s.slot) page) ≡ None
 
 -- a page that is in none of the regions' parts
 not_covered : (page : ℕ) → (region_of page ≡ 2 → 8192 ≤ in_region page) → (region_of page ≡ 0 → 8192 ≤ in_region page) → (region_of page ≡ 1 → in_region page < first_p1_page) → IsCovered page → ⊥
@@ -126,7 +126,7 @@ not_covered page a b c (inr (inl x)) = let h = b x.0 in let k = x.1 in omega ari
 not_covered page a b c (inr (inr x)) = let h = c x.0 in let k = x.1 in omega arith
 
 failing : (memory : List ℕ) (s : Shadowed) (page : ℕ) → (IsCovered page → ⊥) → real_look memory (real_tables s.at s.slot) page ≡ Fails false 1 → IsElsewhere memory s page
-failing memory s page u e = record { uncovered = u; refuses = λ m i va. ap (placed_by memory va (ring_of m) i) e; unjudged = λ m i. ap (judged_at memory (ring_of m) i) e }
+failing memory s page u e = record { uncovered = u; refuses = λ m i va. ap (placed_by memory va (ring_of m) i) e; unjudged = λ m i. ap (access_judged_at memory (ring_of m) i) e }
 
 kernel_unjudged : (frame : ℕ) (m : Mode) (i : Intent) → frame < 2 ^ 20 → judged_by (kernel_entry frame) (ring_of m) i ≡ None
 kernel_unjudged frame m i h = let valid : kernel_entry frame / 2 ^ 31 % 2 ≡ 1 = omega arith in rw (valid, kernel_code frame h) refl
@@ -141,7 +141,7 @@ sharing memory s page f r low high =
     record {
       uncovered = not_covered page (λ h. low) (λ h. absurd (omega arith)) (λ h. absurd (omega arith));
       refuses = λ m i va. ap (placed_by memory va (ring_of m) i) at ∙ ap (λ x. place_by va (granted may_of everywhere x (ring_of m) i)) entry ∙ ap (place_by va) (kernel_refused (s.at + 68 + j) m i small);
-      unjudged = λ m i. ap (judged_at memory (ring_of m) i) at ∙ ap (λ x. judged_by x (ring_of m) i) entry ∙ kernel_unjudged (s.at + 68 + j) m i small;
+      unjudged = λ m i. ap (access_judged_at memory (ring_of m) i) at ∙ ap (λ x. judged_by x (ring_of m) i) entry ∙ kernel_unjudged (s.at + 68 + j) m i small;
     }
 
 pub elsewhere : (memory : List ℕ) (s : Shadowed) (page : ℕ) → Fits memory s → IsCovered page ⊎ IsElsewhere memory s page

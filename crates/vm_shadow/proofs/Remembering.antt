@@ -5,8 +5,8 @@ use Rattle.std.proofs.lemmas.List.{get_or-replicate, get_or-set_other, get_or-se
 use Rattle.std.specs.Prelude.{if◌then◌else◌}
 use Rattle.vm_shadow.specs.Calls.{is_dropped, remembered}
 use Rattle.vm_shadow.specs.Layout.{all_entries}
-use Rattle.vm_shadow.specs.Marks.{AreEmpty, AreMarked, IsCleared, IsNext, IsPast, MarksGroups, Sets, is_in, row_of}
-use Rattle.vm_shadow.specs.Stands.{is_read_from}
+use Rattle.vm_shadow.specs.Marks.{AreEmpty, AreMarked, IsCleared, IsNextMember, IsPast, MarksGroups, SetsMember, is_in, row_start}
+use Rattle.vm_shadow.specs.Shadowed.{is_read_from}
 use Rattle.vm_shadow.specs.declared.source.Source.{Source}
 use Rattle.vm_shadow.specs.declared.scans.Dropped.{Dropped}
 use Rattle.vm_shadow.specs.declared.scans.Dropped.TheVariants.{All, ReadFrom}
@@ -59,17 +59,17 @@ none_marked frames reads filled groups e few entries rows = record {
 
 -- The rows of groups.
 
-row_within : (frames frame : ℕ) → frame < frames → row_of frames (ReadFrom frame) ≡ 576 * (frame + 1)
+row_within : (frames frame : ℕ) → frame < frames → row_start frames (ReadFrom frame) ≡ 576 * (frame + 1)
 row_within frames frame h = ap (λ b. if b then 576 * (frame + 1) else 0) (lt-ltb frame frames h)
 
-row_beyond : (frames frame : ℕ) → frames ≤ frame → row_of frames (ReadFrom frame) ≡ 0
+row_beyond : (frames frame : ℕ) → frames ≤ frame → row_start frames (ReadFrom frame) ≡ 0
 row_beyond frames frame h = ap (λ b. if b then 576 * (frame + 1) else 0) (le-ltb frame frames h)
 
-pub row_small : (frames : ℕ) (which : Dropped) → row_of frames which ≤ 576 * frames
+pub row_small : (frames : ℕ) (which : Dropped) → row_start frames which ≤ 576 * frames
 row_small frames All = omega arith
 row_small frames (ReadFrom frame) = split (cases_lt frame frames)
-    (λ h. let e : row_of frames (ReadFrom frame) ≡ 576 * (frame + 1) = row_within frames frame h in omega arith)
-    (λ h. let e : row_of frames (ReadFrom frame) ≡ 0 = row_beyond frames frame h in omega arith)
+    (λ h. let e : row_start frames (ReadFrom frame) ≡ 576 * (frame + 1) = row_within frames frame h in omega arith)
+    (λ h. let e : row_start frames (ReadFrom frame) ≡ 0 = row_beyond frames frame h in omega arith)
 
 -- What isn't looked at.
 
@@ -92,20 +92,20 @@ module _ (frames : ℕ) (reads : List (Option Source)) (filled groups : List ℕ
   dropped_small : (which : Dropped) (n : ℕ) → is_dropped which (remembered reads n) ≡ true → n < all_entries
   dropped_small which n e = let h : n < length reads = some_within reads n (dropped_some which (remembered reads n) e) in omega (arith, m.whole)
 
-  pub past_groups : (which : Dropped) (from row found : ℕ) → row ≡ row_of frames which → IsNext (row + from / 128) (row + 576) groups found → from % 128 ≡ 0 → IsPast which reads from (128 * (found - row))
+  pub past_groups : (which : Dropped) (from row found : ℕ) → row ≡ row_start frames which → IsNextMember (row + from / 128) (row + 576) groups found → from % 128 ≡ 0 → IsPast which reads from (128 * (found - row))
   past_groups which from row found is n start = record {
     order = omega (arith, n.order);
     free = λ k a b. false_from_ne_true (is_dropped which (remembered reads k)) (λ e. both_ways (is_in (row + k / 128) groups) (n.free (row + k / 128) (omega arith) (omega (arith, n.order))) (subst (λ x. is_in (x + k / 128) groups ≡ true) (sym is) (m.group which k e)));
   }
 
-  pub past_filled : (which : Dropped) (from n end found : ℕ) → IsNext n end filled found → IsPast which reads from n → IsPast which reads from found
+  pub past_filled : (which : Dropped) (from n end found : ℕ) → IsNextMember n end filled found → IsPast which reads from n → IsPast which reads from found
   past_filled which from n end found next p = record {
     order = omega (arith, next.order, p.order);
     free = λ k a b. split (cases_lt k n) (λ h. p.free k a h) (λ h. false_from_ne_true (is_dropped which (remembered reads k)) (λ e. both_ways (is_in k filled) (next.free k h b) (m.each k (dropped_some which (remembered reads k) e))));
   }
 
   -- An entry is filled.
-  pub fills : (n : ℕ) (source : Source) (filled' groups' : List ℕ) → n < all_entries → Sets true n filled filled' → MarksGroups frames n source groups groups' → AreMarked frames (set reads n (Some source)) filled' groups'
+  pub fills : (n : ℕ) (source : Source) (filled' groups' : List ℕ) → n < all_entries → SetsMember true n filled filled' → MarksGroups frames n source groups groups' → AreMarked frames (set reads n (Some source)) filled' groups'
   fills n source filled' groups' h s g =
       let here : remembered (set reads n (Some source)) n ≡ Some source = get_or-set_same reads n (Some source) None (omega (arith, m.whole)) in
       let other : (k : ℕ) → k ≢ n → remembered (set reads n (Some source)) k ≡ remembered reads k = λ k differ. get_or-set_other reads n k (Some source) None differ in
@@ -118,8 +118,8 @@ module _ (frames : ℕ) (reads : List (Option Source)) (filled groups : List ℕ
             (λ same. subst (λ x. is_in x filled' ≡ true) (sym same) s.here)
             (λ differ. s.others k differ ∙ m.each k (subst (λ x. is_some x ≡ true) (other k differ) e));
         group = λ which k e. split (cases_eq k n)
-            (λ same. subst (λ x. is_in (row_of frames which + x / 128) groups' ≡ true) (sym same) (g.group which (subst (λ x. is_dropped which x ≡ true) (ap (remembered (set reads n (Some source))) same ∙ here) e)))
-            (λ differ. g.more (row_of frames which + k / 128) (m.group which k (subst (λ x. is_dropped which x ≡ true) (other k differ) e)));
+            (λ same. subst (λ x. is_in (row_start frames which + x / 128) groups' ≡ true) (sym same) (g.group which (subst (λ x. is_dropped which x ≡ true) (ap (remembered (set reads n (Some source))) same ∙ here) e)))
+            (λ differ. g.more (row_start frames which + k / 128) (m.group which k (subst (λ x. is_dropped which x ≡ true) (other k differ) e)));
       }
 
   -- An entry isn't filled any longer: what is then still filled was before.
@@ -133,7 +133,7 @@ module _ (frames : ℕ) (reads : List (Option Source)) (filled groups : List ℕ
       let differ : k ≢ n = λ same. false≢true (sym (ap is_some (ap (remembered (set reads n None)) same ∙ here)) ∙ e) in
       record { differ = differ; same = get_or-set_other reads n k None None differ }
 
-  pub removes : (n : ℕ) (filled' groups' : List ℕ) → n < all_entries → Sets false n filled filled' → length groups' ≡ length groups → ((which : Dropped) (k : ℕ) → is_dropped which (remembered reads k) ≡ true → is_in k filled' ≡ true → is_in (row_of frames which + k / 128) groups' ≡ true) → AreMarked frames (set reads n None) filled' groups'
+  pub removes : (n : ℕ) (filled' groups' : List ℕ) → n < all_entries → SetsMember false n filled filled' → length groups' ≡ length groups → ((which : Dropped) (k : ℕ) → is_dropped which (remembered reads k) ≡ true → is_in k filled' ≡ true → is_in (row_start frames which + k / 128) groups' ≡ true) → AreMarked frames (set reads n None) filled' groups'
   removes n filled' groups' h s size group = record {
     few = m.few;
     whole = length-set reads n None ∙ m.whole;
@@ -147,24 +147,24 @@ module _ (frames : ℕ) (reads : List (Option Source)) (filled groups : List ℕ
   }
 
   -- its group has others
-  pub removes_one : (n : ℕ) (filled' : List ℕ) → n < all_entries → Sets false n filled filled' → AreMarked frames (set reads n None) filled' groups
+  pub removes_one : (n : ℕ) (filled' : List ℕ) → n < all_entries → SetsMember false n filled filled' → AreMarked frames (set reads n None) filled' groups
   removes_one n filled' h s = removes n filled' groups h s refl (λ which k e i. m.group which k e)
 
   -- it was the last of its group
-  pub removes_last : (n found : ℕ) (filled' groups' : List ℕ) → n < all_entries → Sets false n filled filled' → IsNext (n / 128 * 128) (n / 128 * 128 + 128) filled' found → found ≡ n / 128 * 128 + 128 → Sets false (n / 128) groups groups' → AreMarked frames (set reads n None) filled' groups'
-  removes_last n found filled' groups' h s next none g = removes n filled' groups' h s g.size (λ which k e i. g.others (row_of frames which + k / 128) (λ same. apart which k e i same) ∙ m.group which k e)
+  pub removes_last : (n found : ℕ) (filled' groups' : List ℕ) → n < all_entries → SetsMember false n filled filled' → IsNextMember (n / 128 * 128) (n / 128 * 128 + 128) filled' found → found ≡ n / 128 * 128 + 128 → SetsMember false (n / 128) groups groups' → AreMarked frames (set reads n None) filled' groups'
+  removes_last n found filled' groups' h s next none g = removes n filled' groups' h s g.size (λ which k e i. g.others (row_start frames which + k / 128) (λ same. apart which k e i same) ∙ m.group which k e)
     where
-      apart : (which : Dropped) (k : ℕ) → is_dropped which (remembered reads k) ≡ true → is_in k filled' ≡ true → row_of frames which + k / 128 ≡ n / 128 → ⊥
+      apart : (which : Dropped) (k : ℕ) → is_dropped which (remembered reads k) ≡ true → is_in k filled' ≡ true → row_start frames which + k / 128 ≡ n / 128 → ⊥
       apart which k e i same =
           let small : k < all_entries = dropped_small which k e in
           let q : k / 128 ≡ n / 128 = first_row which k small same in
           both_ways (is_in k filled') (next.free k (omega arith) (omega arith)) i
         where
-          first_row : (which : Dropped) (k : ℕ) → k < all_entries → row_of frames which + k / 128 ≡ n / 128 → k / 128 ≡ n / 128
+          first_row : (which : Dropped) (k : ℕ) → k < all_entries → row_start frames which + k / 128 ≡ n / 128 → k / 128 ≡ n / 128
           first_row All k small same = omega arith
           first_row (ReadFrom frame) k small same = split (cases_lt frame frames)
-              (λ l. let r : row_of frames (ReadFrom frame) ≡ 576 * (frame + 1) = row_within frames frame l in omega arith)
-              (λ l. let r : row_of frames (ReadFrom frame) ≡ 0 = row_beyond frames frame l in omega arith)
+              (λ l. let r : row_start frames (ReadFrom frame) ≡ 576 * (frame + 1) = row_within frames frame l in omega arith)
+              (λ l. let r : row_start frames (ReadFrom frame) ≡ 0 = row_beyond frames frame l in omega arith)
 
   -- A frame from which no entry was read is forgotten.
   pub forgets : (frame : ℕ) (groups' : List ℕ) → frame < frames → ((n : ℕ) → is_read_from frame (remembered reads n) ≡ false) → IsCleared (64 * (9 * (frame + 1))) (64 * (9 * (frame + 2))) groups groups' → AreMarked frames reads filled groups'
@@ -177,56 +177,56 @@ module _ (frames : ℕ) (reads : List (Option Source)) (filled groups : List ℕ
     group = λ which k e. kept which k (dropped_small which k e) e ∙ m.group which k e;
   }
     where
-      kept : (which : Dropped) (k : ℕ) → k < all_entries → is_dropped which (remembered reads k) ≡ true → is_in (row_of frames which + k / 128) groups' ≡ is_in (row_of frames which + k / 128) groups
-      kept All k small e = c.others (row_of frames All + k / 128) (inl (omega arith))
+      kept : (which : Dropped) (k : ℕ) → k < all_entries → is_dropped which (remembered reads k) ≡ true → is_in (row_start frames which + k / 128) groups' ≡ is_in (row_start frames which + k / 128) groups
+      kept All k small e = c.others (row_start frames All + k / 128) (inl (omega arith))
       kept (ReadFrom other) k small e = split (cases_lt other frames)
           (λ l.
-          let r : row_of frames (ReadFrom other) ≡ 576 * (other + 1) = row_within frames other l in
+          let r : row_start frames (ReadFrom other) ≡ 576 * (other + 1) = row_within frames other l in
           split (cases_eq other frame)
           (λ same. absurd (both_ways (is_read_from other (remembered reads k)) (ap (λ x. is_read_from x (remembered reads k)) same ∙ none k) e))
           (λ differ. split (cases_lt other frame)
-          (λ less. c.others (row_of frames (ReadFrom other) + k / 128) (inl (omega arith)))
-          (λ more. c.others (row_of frames (ReadFrom other) + k / 128) (inr (above other k differ more r)))))
-          (λ l. let r : row_of frames (ReadFrom other) ≡ 0 = row_beyond frames other l in c.others (row_of frames (ReadFrom other) + k / 128) (inl (omega arith)))
+          (λ less. c.others (row_start frames (ReadFrom other) + k / 128) (inl (omega arith)))
+          (λ more. c.others (row_start frames (ReadFrom other) + k / 128) (inr (above other k differ more r)))))
+          (λ l. let r : row_start frames (ReadFrom other) ≡ 0 = row_beyond frames other l in c.others (row_start frames (ReadFrom other) + k / 128) (inl (omega arith)))
         where
-          above : (other k : ℕ) → other ≢ frame → frame ≤ other → row_of frames (ReadFrom other) ≡ 576 * (other + 1) → 64 * (9 * (frame + 2)) ≤ row_of frames (ReadFrom other) + k / 128
+          above : (other k : ℕ) → other ≢ frame → frame ≤ other → row_start frames (ReadFrom other) ≡ 576 * (other + 1) → 64 * (9 * (frame + 2)) ≤ row_start frames (ReadFrom other) + k / 128
           above other k differ more r = split (cases_lt frame other) (λ l. omega arith) (λ l. absurd (differ (omega arith)))
 
 -- Groups are marked for a source.
 
-keeps_marks : (n : ℕ) (groups groups' : List ℕ) → Sets true n groups groups' → (k : ℕ) → is_in k groups ≡ true → is_in k groups' ≡ true
+keeps_marks : (n : ℕ) (groups groups' : List ℕ) → SetsMember true n groups groups' → (k : ℕ) → is_in k groups ≡ true → is_in k groups' ≡ true
 keeps_marks n groups groups' s k e = split (cases_eq k n) (λ same. subst (λ x. is_in x groups' ≡ true) (sym same) s.here) (λ differ. s.others k differ ∙ e)
 
-pub marks_direct : (frames n : ℕ) (g g1 : List ℕ) → Sets true (row_of frames All + n / 128) g g1 → MarksGroups frames n Direct g g1
-marks_direct frames n g g1 s = record { size = s.size; more = keeps_marks (row_of frames All + n / 128) g g1 s; group = groups }
+pub marks_direct : (frames n : ℕ) (g g1 : List ℕ) → SetsMember true (row_start frames All + n / 128) g g1 → MarksGroups frames n Direct g g1
+marks_direct frames n g g1 s = record { size = s.size; more = keeps_marks (row_start frames All + n / 128) g g1 s; group = groups }
   where
-    groups : (which : Dropped) → is_dropped which (Some Direct) ≡ true → is_in (row_of frames which + n / 128) g1 ≡ true
+    groups : (which : Dropped) → is_dropped which (Some Direct) ≡ true → is_in (row_start frames which + n / 128) g1 ≡ true
     groups All e = s.here
     groups (ReadFrom frame) e = absurd (false≢true e)
 
 -- a group is marked for one frame more
-marked_more : (frames n frame entry : ℕ) (g g' : List ℕ) → Sets true (row_of frames (ReadFrom entry) + n / 128) g g' → (entry == frame) ≡ true → is_in (row_of frames (ReadFrom frame) + n / 128) g' ≡ true
-marked_more frames n frame entry g g' s e = subst (λ x. is_in (row_of frames (ReadFrom x) + n / 128) g' ≡ true) (eqb-true entry frame e) s.here
+marked_more : (frames n frame entry : ℕ) (g g' : List ℕ) → SetsMember true (row_start frames (ReadFrom entry) + n / 128) g g' → (entry == frame) ≡ true → is_in (row_start frames (ReadFrom frame) + n / 128) g' ≡ true
+marked_more frames n frame entry g g' s e = subst (λ x. is_in (row_start frames (ReadFrom x) + n / 128) g' ≡ true) (eqb-true entry frame e) s.here
 
-pub marks_system : (frames n entry : ℕ) (g g1 g2 : List ℕ) → Sets true (row_of frames All + n / 128) g g1 → Sets true (row_of frames (ReadFrom entry) + n / 128) g1 g2 → MarksGroups frames n (System entry) g g2
+pub marks_system : (frames n entry : ℕ) (g g1 g2 : List ℕ) → SetsMember true (row_start frames All + n / 128) g g1 → SetsMember true (row_start frames (ReadFrom entry) + n / 128) g1 g2 → MarksGroups frames n (System entry) g g2
 marks_system frames n entry g g1 g2 s t = record {
   size = t.size ∙ s.size;
-  more = λ k e. keeps_marks (row_of frames (ReadFrom entry) + n / 128) g1 g2 t k (keeps_marks (row_of frames All + n / 128) g g1 s k e);
+  more = λ k e. keeps_marks (row_start frames (ReadFrom entry) + n / 128) g1 g2 t k (keeps_marks (row_start frames All + n / 128) g g1 s k e);
   group = groups;
 }
   where
-    groups : (which : Dropped) → is_dropped which (Some (System entry)) ≡ true → is_in (row_of frames which + n / 128) g2 ≡ true
-    groups All e = keeps_marks (row_of frames (ReadFrom entry) + n / 128) g1 g2 t (row_of frames All + n / 128) s.here
+    groups : (which : Dropped) → is_dropped which (Some (System entry)) ≡ true → is_in (row_start frames which + n / 128) g2 ≡ true
+    groups All e = keeps_marks (row_start frames (ReadFrom entry) + n / 128) g1 g2 t (row_start frames All + n / 128) s.here
     groups (ReadFrom frame) e = marked_more frames n frame entry g1 g2 t e
 
-pub marks_process : (frames n entry table : ℕ) (g g1 g2 g3 : List ℕ) → Sets true (row_of frames All + n / 128) g g1 → Sets true (row_of frames (ReadFrom entry) + n / 128) g1 g2 → Sets true (row_of frames (ReadFrom table) + n / 128) g2 g3 → MarksGroups frames n (Process entry table) g g3
+pub marks_process : (frames n entry table : ℕ) (g g1 g2 g3 : List ℕ) → SetsMember true (row_start frames All + n / 128) g g1 → SetsMember true (row_start frames (ReadFrom entry) + n / 128) g1 g2 → SetsMember true (row_start frames (ReadFrom table) + n / 128) g2 g3 → MarksGroups frames n (Process entry table) g g3
 marks_process frames n entry table g g1 g2 g3 s t u =
     let m = marks_system frames n entry g g1 g2 s t in
-    let kept = keeps_marks (row_of frames (ReadFrom table) + n / 128) g2 g3 u in
+    let kept = keeps_marks (row_start frames (ReadFrom table) + n / 128) g2 g3 u in
     record { size = u.size ∙ m.size; more = λ k e. kept k (m.more k e); group = groups m kept }
   where
-    groups : MarksGroups frames n (System entry) g g2 → ((k : ℕ) → is_in k g2 ≡ true → is_in k g3 ≡ true) → (which : Dropped) → is_dropped which (Some (Process entry table)) ≡ true → is_in (row_of frames which + n / 128) g3 ≡ true
-    groups m kept All e = kept (row_of frames All + n / 128) (m.group All refl)
+    groups : MarksGroups frames n (System entry) g g2 → ((k : ℕ) → is_in k g2 ≡ true → is_in k g3 ≡ true) → (which : Dropped) → is_dropped which (Some (Process entry table)) ≡ true → is_in (row_start frames which + n / 128) g3 ≡ true
+    groups m kept All e = kept (row_start frames All + n / 128) (m.group All refl)
     groups m kept (ReadFrom frame) e = split (or_cases (entry == frame) (table == frame) e)
-        (λ a. kept (row_of frames (ReadFrom frame) + n / 128) (m.group (ReadFrom frame) a))
+        (λ a. kept (row_start frames (ReadFrom frame) + n / 128) (m.group (ReadFrom frame) a))
         (λ b. marked_more frames n frame table g2 g3 u b)

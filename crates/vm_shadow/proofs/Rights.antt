@@ -5,11 +5,11 @@ use Rattle.vax_arch.specs.Fields.{frame_of, is_modified, is_valid, protection_of
 use Rattle.vax_arch.specs.Ring.{compressed_of}
 use Rattle.vax_arch.specs.declared.walk.Lookup.{Lookup}
 use Rattle.vax_arch.proofs.Compression.{compressed_code}
-use Rattle.vm_shadow.specs.Layout.{bit, real_entry}
-use Rattle.vm_shadow.specs.Stands.{Fits, IsRight, Shadowed, mapped_frame}
+use Rattle.vm_shadow.specs.Layout.{bool_as_bit, real_entry}
+use Rattle.vm_shadow.specs.Shadowed.{Fits, IsRight, Shadowed, mapped_frame}
 use Rattle.vm_shadow.specs.declared.source.Source.{Source}
 
-bit_small : (b : Bool) → bit b < 2
+bit_small : (b : Bool) → bool_as_bit b < 2
 bit_small true = omega arith
 bit_small false = omega arith
 
@@ -29,20 +29,20 @@ code_small : (entry : ℕ) → protection_of entry < 16
 code_small entry = omega arith
 
 pub valid_of : (base : ℕ) (b : Bool) (entry : ℕ) → base + frame_of entry < 2 ^ 21 → is_valid (real_entry base b entry) ≡ true
-valid_of base b entry h = ap (λ x. eqb x 1) (real_valid (compressed_of (protection_of entry)) (bit b) (base + frame_of entry) (compressed_code (protection_of entry) (code_small entry)) (bit_small b) h)
+valid_of base b entry h = ap (λ x. eqb x 1) (real_valid (compressed_of (protection_of entry)) (bool_as_bit b) (base + frame_of entry) (compressed_code (protection_of entry) (code_small entry)) (bit_small b) h)
 
 pub code_of : (base : ℕ) (b : Bool) (entry : ℕ) → base + frame_of entry < 2 ^ 21 → protection_of (real_entry base b entry) ≡ compressed_of (protection_of entry)
-code_of base b entry h = real_protection (compressed_of (protection_of entry)) (bit b) (base + frame_of entry) (compressed_code (protection_of entry) (code_small entry)) (bit_small b) h
+code_of base b entry h = real_protection (compressed_of (protection_of entry)) (bool_as_bit b) (base + frame_of entry) (compressed_code (protection_of entry) (code_small entry)) (bit_small b) h
 
 pub frame_is : (base : ℕ) (b : Bool) (entry : ℕ) → base + frame_of entry < 2 ^ 21 → frame_of (real_entry base b entry) ≡ base + frame_of entry
-frame_is base b entry h = real_frame (compressed_of (protection_of entry)) (bit b) (base + frame_of entry) (compressed_code (protection_of entry) (code_small entry)) (bit_small b) h
+frame_is base b entry h = real_frame (compressed_of (protection_of entry)) (bool_as_bit b) (base + frame_of entry) (compressed_code (protection_of entry) (code_small entry)) (bit_small b) h
 
-bit_back : (b : Bool) → eqb (bit b) 1 ≡ b
+bit_back : (b : Bool) → eqb (bool_as_bit b) 1 ≡ b
 bit_back true = refl
 bit_back false = refl
 
 pub modify_of : (base : ℕ) (b : Bool) (entry : ℕ) → base + frame_of entry < 2 ^ 21 → is_modified (real_entry base b entry) ≡ b
-modify_of base b entry h = ap (λ x. eqb x 1) (real_modified (compressed_of (protection_of entry)) (bit b) (base + frame_of entry) (compressed_code (protection_of entry) (code_small entry)) (bit_small b) h) ∙ bit_back b
+modify_of base b entry h = ap (λ x. eqb x 1) (real_modified (compressed_of (protection_of entry)) (bool_as_bit b) (base + frame_of entry) (compressed_code (protection_of entry) (code_small entry)) (bit_small b) h) ∙ bit_back b
 
 pub frame_fits : (memory : List ℕ) (s : Shadowed) (entry : ℕ) → Fits memory s → 512 * frame_of entry + 512 ≤ 512 * s.pages → s.base + frame_of entry < 2 ^ 21
 frame_fits memory s entry f h = omega (arith, f.partition, f.few)

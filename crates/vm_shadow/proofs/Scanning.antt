@@ -5,8 +5,8 @@ use Rattle.std.proofs.lemmas.List.{ext_get_or, get_or-drop, get_or-set_other, ge
 use Rattle.vv_base.specs.Bytes.{long_bytes, overwritten}
 use Rattle.vax_hw.specs.Machine.{Machine}
 use Rattle.vm_shadow.specs.Layout.{all_entries, empty_entry, entry_place}
-use Rattle.vm_shadow.specs.Stands.{Keeps, Shadowed}
-use Rattle.vm_shadow.specs.Calls.{Drops, OnlyTables, is_between, is_dropped, remembered, unless_dropped}
+use Rattle.vm_shadow.specs.Shadowed.{Keeps, Shadowed}
+use Rattle.vm_shadow.specs.Calls.{DropsEntries, OnlyTables, is_between, is_dropped, remembered, unless_dropped}
 use Rattle.vm_shadow.specs.Marks.{IsPast}
 use Rattle.vm_shadow.specs.declared.source.Source.{Source}
 use Rattle.vm_shadow.specs.declared.scans.Dropped.{Dropped}
@@ -53,7 +53,7 @@ only_more at m n place long room l o =
 between_none : (first n : ℕ) → is_between first first n ≡ false
 between_none first n = split (cases_lt n first) (λ h. and_left _ _ (lt-leb first n h)) (λ h. and_right _ _ (le-ltb n first h))
 
-pub drops_none : (at first : ℕ) (which : Dropped) (m : Machine) (reads : List (Option Source)) → Drops at first first which m reads m reads
+pub drops_none : (at first : ℕ) (which : Dropped) (m : Machine) (reads : List (Option Source)) → DropsEntries at first first which m reads m reads
 drops_none at first which m reads = record {
   only = only_none at m;
   whole = refl;
@@ -76,11 +76,11 @@ between_other first n k differ = ap (λ b. nat_le first k && b) (split (cases_lt
     more h = split (cases_lt n k) (λ q. omega arith) (λ q. absurd (differ (omega arith)))
 
 -- the outcome of a scan is still what was remembered
-still : (at first n : ℕ) (which : Dropped) (m m' : Machine) (reads reads' : List (Option Source)) → Drops at first n which m reads m' reads' → remembered reads' n ≡ remembered reads n
+still : (at first n : ℕ) (which : Dropped) (m m' : Machine) (reads reads' : List (Option Source)) → DropsEntries at first n which m reads m' reads' → remembered reads' n ≡ remembered reads n
 still at first n which m m' reads reads' d = d.each n ∙ ap (λ b. unless_dropped (b && is_dropped which (remembered reads n)) (remembered reads n)) (between_here first n)
 
 -- entries that aren't to be dropped are passed
-pub drops_more : (at first n end : ℕ) (which : Dropped) (m m' : Machine) (reads reads' : List (Option Source)) → IsPast which reads' n end → Drops at first n which m reads m' reads' → Drops at first end which m reads m' reads'
+pub drops_more : (at first n end : ℕ) (which : Dropped) (m m' : Machine) (reads reads' : List (Option Source)) → IsPast which reads' n end → DropsEntries at first n which m reads m' reads' → DropsEntries at first end which m reads m' reads'
 drops_more at first n end which m m' reads reads' past d = record {
   only = d.only;
   whole = d.whole;
@@ -94,7 +94,7 @@ drops_more at first n end which m m' reads reads' past d = record {
       (λ l. same ∙ sym (ap (λ b. unless_dropped (b && is_dropped which (remembered reads k)) (remembered reads k)) (and_right (nat_le first k) _ (le-ltb k end l)))));
 }
 
-pub drops_taken : (at first n place : ℕ) (which : Dropped) (m m' : Machine) (reads reads' : List (Option Source)) → first ≤ n → n < all_entries → length reads ≡ all_entries → 512 * (at + 580) ≤ length m'.memory → place ≡ entry_place at n → is_dropped which (remembered reads' n) ≡ true → Drops at first n which m reads m' reads' → Drops at first (n + 1) which m reads (with_long m' place empty_entry) (set reads' n None)
+pub drops_taken : (at first n place : ℕ) (which : Dropped) (m m' : Machine) (reads reads' : List (Option Source)) → first ≤ n → n < all_entries → length reads ≡ all_entries → 512 * (at + 580) ≤ length m'.memory → place ≡ entry_place at n → is_dropped which (remembered reads' n) ≡ true → DropsEntries at first n which m reads m' reads' → DropsEntries at first (n + 1) which m reads (with_long m' place empty_entry) (set reads' n None)
 drops_taken at first n place which m m' reads reads' order h whole room is takes d =
     let l = place_within at n h in
     let w = written m'.memory (entry_place at n) empty_entry (omega (arith, l.back)) in

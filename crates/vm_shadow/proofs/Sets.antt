@@ -5,11 +5,11 @@ use Rattle.std.proofs.lemmas.List.{get_or-set_other, get_or-set_same, length-set
 use Rattle.std.proofs.lemmas.Nat.{shr-shr}
 use Rattle.std.proofs.lemmas.Nat.Bits.{bit_at-trailing_zeros, bit_at-zero, bit_at_above, bit_at_clear_other, bit_at_clear_same, bit_at_set_other, bit_at_set_same}
 use Rattle.std.specs.Int.{bit_at, bit_not, trailing_zeros}
-use Rattle.vm_shadow.specs.Marks.{IsCleared, IsNext, Sets, is_in}
+use Rattle.vm_shadow.specs.Marks.{IsCleared, IsNextMember, SetsMember, is_in}
 use Rattle.vm_shadow.proofs.Places.{split}
 
 -- a word of a set is written, in which another bit stands for one number
-changes : (value : Bool) (words : List ℕ) (n w : ℕ) → n < 64 * length words → (bit_at w (n % 64) == 1) ≡ value → ((i : ℕ) → i < 64 → i ≢ n % 64 → bit_at w i ≡ bit_at (slice_index words (n / 64)) i) → Sets value n words (set words (n / 64) w)
+changes : (value : Bool) (words : List ℕ) (n w : ℕ) → n < 64 * length words → (bit_at w (n % 64) == 1) ≡ value → ((i : ℕ) → i < 64 → i ≢ n % 64 → bit_at w i ≡ bit_at (slice_index words (n / 64)) i) → SetsMember value n words (set words (n / 64) w)
 changes value words n w h here others = record {
   size = length-set words (n / 64) w;
   here = ap (λ x. bit_at x (n % 64) == 1) (get_or-set_same words (n / 64) w 0 (omega arith)) ∙ here;
@@ -21,10 +21,10 @@ changes value words n w h here others = record {
       (λ apart. ap (λ x. bit_at x (k % 64) == 1) (get_or-set_other words (n / 64) (k / 64) w 0 apart));
 }
 
-pub marks : (words : List ℕ) (n word : ℕ) → n < 64 * length words → word ≡ slice_index words (n / 64) → Sets true n words (set words (n / 64) (bit_or word (1 * 2 ^ (n % 64) % 2 ^ 64)))
+pub marks : (words : List ℕ) (n word : ℕ) → n < 64 * length words → word ≡ slice_index words (n / 64) → SetsMember true n words (set words (n / 64) (bit_or word (1 * 2 ^ (n % 64) % 2 ^ 64)))
 marks words n word h is = changes true words n _ h (ap (λ b. b == 1) (bit_at_set_same w64 word (n % 64) (omega arith))) (λ i b differ. bit_at_set_other w64 word (n % 64) (omega arith) i differ ∙ ap (λ x. bit_at x i) is)
 
-pub unmarks : (words : List ℕ) (n word : ℕ) → n < 64 * length words → word ≡ slice_index words (n / 64) → Sets false n words (set words (n / 64) (bit_and word (bit_not w64 (1 * 2 ^ (n % 64) % 2 ^ 64))))
+pub unmarks : (words : List ℕ) (n word : ℕ) → n < 64 * length words → word ≡ slice_index words (n / 64) → SetsMember false n words (set words (n / 64) (bit_and word (bit_not w64 (1 * 2 ^ (n % 64) % 2 ^ 64))))
 unmarks words n word h is = changes false words n _ h (ap (λ b. b == 1) (bit_at_clear_same w64 word (n % 64) (omega arith))) (λ i b differ. bit_at_clear_other w64 word (n % 64) (omega arith) i b differ ∙ ap (λ x. bit_at x i) is)
 
 -- words of a set are cleared, from one up to another
@@ -110,7 +110,7 @@ free_more from at rest words is zero_is f = record {
   free = λ k a b. split (cases_lt k at) (λ h. f.free k a h) (λ h. none_in_word words at rest k is zero_is h b);
 }
 
-pub next_here : (from at end rest n : ℕ) (words : List ℕ) → rest ≡ slice_index words (at / 64) / 2 ^ (at % 64) → rest ≢ 0 → rest < 2 ^ 64 → slice_index words (at / 64) < 2 ^ 64 → at < end → n ≡ min end (at + trailing_zeros w64 rest) → IsFree from at words → IsNext from end words n
+pub next_here : (from at end rest n : ℕ) (words : List ℕ) → rest ≡ slice_index words (at / 64) / 2 ^ (at % 64) → rest ≢ 0 → rest < 2 ^ 64 → slice_index words (at / 64) < 2 ^ 64 → at < end → n ≡ min end (at + trailing_zeros w64 rest) → IsFree from at words → IsNextMember from end words n
 next_here from at end rest n words is some small below h n_is f =
     let w = first_in_word words at rest is (omega arith) small below in
     let t = trailing_zeros w64 rest in
@@ -122,5 +122,5 @@ next_here from at end rest n words is some small below h n_is f =
       is = λ l. let e : n ≡ at + t = omega arith in subst (λ x. is_in x words ≡ true) (sym e) w.is;
     }
 
-pub next_none : (from at end : ℕ) (words : List ℕ) → from ≤ end → end ≤ at → IsFree from at words → IsNext from end words end
+pub next_none : (from at end : ℕ) (words : List ℕ) → from ≤ end → end ≤ at → IsFree from at words → IsNextMember from end words end
 next_none from at end words order h f = record { order = order; within = omega arith; free = λ k a b. f.free k a (omega arith); is = λ l. absurd (omega arith) }

@@ -5,7 +5,7 @@ use Rattle.vv_base.specs.Bytes.{long_at}
 use Rattle.vax_arch.specs.Fields.{is_modified, is_valid}
 use Rattle.vax_arch.specs.declared.walk.Lookup.{Lookup}
 use Rattle.vm_shadow.specs.Layout.{all_entries, entry_page, entry_place}
-use Rattle.vm_shadow.specs.Stands.{Fits, IsKept, IsRight, Keeps, Shadowed, is_flagged, is_pending, is_read_from, mapped_frame, own, read_at, real_at, seen_at, tables_for}
+use Rattle.vm_shadow.specs.Shadowed.{Fits, IsKept, IsRight, Keeps, Shadowed, is_flagged, is_pending, is_read_from, mapped_frame, own, read_at, real_at, seen_at, tables_for}
 use Rattle.vm_shadow.specs.declared.source.Source.{Source}
 use Rattle.vm_shadow.proofs.Contexts.{aligned_of, stand_for}
 use Rattle.vm_shadow.proofs.Lookups.{DifferIn, IsSame, same_under}

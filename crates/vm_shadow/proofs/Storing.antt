@@ -7,7 +7,7 @@ use Rattle.std.specs.Int.{from_le_bytes, to_le_bytes, w32}
 use Rattle.std.proofs.lemmas.List.{append_assoc, ext_get_or, get_or-append_right, get_or-set_other, get_or-set_same, get_or_append_left, length-set, length-take-le}
 use Rattle.vv_base.specs.Bytes.{long_at, long_bytes, overwritten}
 use Rattle.vax_hw.specs.Machine.{Machine}
-use Rattle.vm_shadow.specs.Stands.{Fits, Shadowed, is_read_from, own, read_at}
+use Rattle.vm_shadow.specs.Shadowed.{Fits, Shadowed, is_read_from, own, read_at}
 use Rattle.vm_shadow.specs.StandsFor.{Notes, Stores}
 use Rattle.vm_shadow.specs.Calls.{unless_dropped}
 use Rattle.vm_shadow.proofs.Places.{split}

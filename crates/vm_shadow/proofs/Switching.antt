@@ -7,12 +7,12 @@ use Rattle.std.specs.Bool.{beq}
 use Rattle.vax_arch.specs.Walk.{Tables, lookup, mapped_entry, region_of, system_entry}
 use Rattle.vax_arch.specs.declared.walk.Lookup.{Lookup}
 use Rattle.vax_hw.specs.Machine.{Machine}
-use Rattle.vm_slots.specs.Held.{AreSlots, Held, beside, is_same, without}
+use Rattle.vm_slots.specs.Held.{AreSlots, Held, is_same, others_held, without}
 use Rattle.vm_slots.specs.declared.context.Context.{Context}
-use Rattle.vm_shadow.specs.Calls.{Drops, is_between, remembered, unless_dropped}
+use Rattle.vm_shadow.specs.Calls.{DropsEntries, is_between, remembered, unless_dropped}
 use Rattle.vm_shadow.specs.Layout.{all_entries, entry_page, entry_slot}
-use Rattle.vm_shadow.specs.Stands.{CanStand, IsFirst, IsKept, IsSource, Keeps, Shadowed, context_in, in_context, look_under, own, read_at, real_at, seen_at}
-use Rattle.vm_shadow.specs.StandsFor.{Switches, Takes, goes, is_full_for, range_that_goes, staying}
+use Rattle.vm_shadow.specs.Shadowed.{CanBeShadowed, IsFirst, IsKept, IsSource, Keeps, Shadowed, context_in, in_context, look_under, own, read_at, real_at, seen_at}
+use Rattle.vm_shadow.specs.StandsFor.{Switches, TakesSlot, goes, is_full_for, range_that_goes, staying}
 use Rattle.vm_shadow.specs.declared.source.Source.{Source}
 use Rattle.vm_shadow.specs.declared.scans.Dropped.TheVariants as drops
 use Rattle.vm_shadow.proofs.Contexts.{tables_high, tables_low}
@@ -61,8 +61,8 @@ seen_process memory s told slot held n h b c e =
 
 -- What has to hold of the registers, the slot and the contexts that are taken.
 pub record CanSwitch (memory : List ℕ) (s : Shadowed) (now : Tables) (used : ℕ) (have : Held) : Type 0 where
-  pub told : CanStand now
-  pub contexts : All (λ h. CanStand (in_context now h.0)) have
+  pub told : CanBeShadowed now
+  pub contexts : All (λ h. CanBeShadowed (in_context now h.0)) have
   pub slots : AreSlots have
   pub first : IsFirst (context_of now) used have
   pub same : (n : ℕ) → n < all_entries → is_some (read_at s n) ≡ true → seen_at memory (with_told s now used have) n ≡ seen_at memory s n
@@ -159,12 +159,12 @@ same_goes true evicted c held slot n e = refl
 same_goes false evicted c held slot n e = ap (λ b. goes false b slot n) e
 
 -- registers for the contexts that stay
-can_in : (t u : Tables) (c : Context) → CanStand u → CanStand (in_context t c) → CanStand (in_context u c)
+can_in : (t u : Tables) (c : Context) → CanBeShadowed u → CanBeShadowed (in_context t c) → CanBeShadowed (in_context u c)
 can_in t u c a b = record { p0br = b.p0br; p0lr = b.p0lr; p1br = b.p1br; p1lr = b.p1lr; sbr = a.sbr; slr = a.slr }
 
-all_staying : (remapped : Bool) (t u : Tables) (held : Held) → CanStand u → All (λ h. CanStand (in_context t h.0)) held → All (λ h. CanStand (in_context u h.0)) (staying remapped held)
-all_staying true t u held a all = All-nil (λ h. CanStand (in_context u h.0))
-all_staying false t u held a all = All-weaker (λ h. CanStand (in_context t h.0)) (λ h. CanStand (in_context u h.0)) (λ h b. can_in t u h.0 a b) held all
+all_staying : (remapped : Bool) (t u : Tables) (held : Held) → CanBeShadowed u → All (λ h. CanBeShadowed (in_context t h.0)) held → All (λ h. CanBeShadowed (in_context u h.0)) (staying remapped held)
+all_staying true t u held a all = All-nil (λ h. CanBeShadowed (in_context u h.0))
+all_staying false t u held a all = All-weaker (λ h. CanBeShadowed (in_context t h.0)) (λ h. CanBeShadowed (in_context u h.0)) (λ h b. can_in t u h.0 a b) held all
 
 unmapped_parts : (t u : Tables) → is_remapped t u ≡ false → (t.sbr ≡ u.sbr) × (t.slr ≡ u.slr) × (t.mapped ≡ u.mapped)
 unmapped_parts t u e =
@@ -187,7 +187,7 @@ some_source true x h = absurd (false≢true h)
 some_source false None h = absurd (false≢true h)
 some_source false (Some source) h = (source, refl)
 
-module _ (g : GuestState) (m m' : Machine) (s : Shadowed) (held' : Held) (slot : ℕ) (evicted remapped : Bool) (reads' : List (Option Source)) (k : Keeps [] [] m.memory s) (tables : CanStand (tables_of g)) (t : Takes (context_of (tables_of g)) (staying remapped s.held) held' slot) (full : evicted ≡ is_full_for (context_of (tables_of g)) (staying remapped s.held)) (d : Drops s.at (range_that_goes remapped evicted slot).0 (range_that_goes remapped evicted slot).1 drops.All m s.reads m' reads') where
+module _ (g : GuestState) (m m' : Machine) (s : Shadowed) (held' : Held) (slot : ℕ) (evicted remapped : Bool) (reads' : List (Option Source)) (k : Keeps [] [] m.memory s) (tables : CanBeShadowed (tables_of g)) (t : TakesSlot (context_of (tables_of g)) (staying remapped s.held) held' slot) (full : evicted ≡ is_full_for (context_of (tables_of g)) (staying remapped s.held)) (d : DropsEntries s.at (range_that_goes remapped evicted slot).0 (range_that_goes remapped evicted slot).1 drops.All m s.reads m' reads') where
   now : Tables
   now = tables_of g
 
@@ -201,11 +201,11 @@ module _ (g : GuestState) (m m' : Machine) (s : Shadowed) (held' : Held) (slot :
   each_goes : (n : ℕ) → remembered reads' n ≡ unless_dropped (goes remapped evicted slot n) (read_at s n)
   each_goes n = d.each n ∙ some_dropped _ (read_at s n) ∙ range_is remapped evicted slot n s.reads k.fits.whole
 
-  contexts_stay : All (λ h. CanStand (in_context (tables_of g) h.0)) held'
-  contexts_stay = subst (All (λ h. CanStand (in_context (tables_of g) h.0))) (sym t.front)
-      (All-cons (λ h. CanStand (in_context (tables_of g) h.0)) (context_of (tables_of g), slot) (beside (context_of (tables_of g)) (staying remapped s.held)) tables
-      (All-take (λ h. CanStand (in_context (tables_of g) h.0)) 3 (without (context_of (tables_of g)) (staying remapped s.held))
-      (All-filter (λ h. not (is_same (context_of (tables_of g)) h.0)) (λ h. CanStand (in_context (tables_of g) h.0)) (staying remapped s.held) (all_staying remapped s.told (tables_of g) s.held tables k.fits.contexts))))
+  contexts_stay : All (λ h. CanBeShadowed (in_context (tables_of g) h.0)) held'
+  contexts_stay = subst (All (λ h. CanBeShadowed (in_context (tables_of g) h.0))) (sym t.front)
+      (All-cons (λ h. CanBeShadowed (in_context (tables_of g) h.0)) (context_of (tables_of g), slot) (others_held (context_of (tables_of g)) (staying remapped s.held)) tables
+      (All-take (λ h. CanBeShadowed (in_context (tables_of g) h.0)) 3 (without (context_of (tables_of g)) (staying remapped s.held))
+      (All-filter (λ h. not (is_same (context_of (tables_of g)) h.0)) (λ h. CanBeShadowed (in_context (tables_of g) h.0)) (staying remapped s.held) (all_staying remapped s.told (tables_of g) s.held tables k.fits.contexts))))
 
   first_is : IsFirst (context_of (tables_of g)) slot held'
   first_is = subst (IsFirst (context_of (tables_of g)) slot) (sym t.front) (refl, refl)
@@ -213,8 +213,8 @@ module _ (g : GuestState) (m m' : Machine) (s : Shadowed) (held' : Held) (slot :
   some_goes : (n : ℕ) → is_some (remembered reads' n) ≡ true → is_some (unless_dropped (goes remapped evicted slot n) (read_at s n)) ≡ true
   some_goes n e = subst (λ x. is_some x ≡ true) (each_goes n) e
 
-same_seen : (remapped evicted : Bool) (g : GuestState) (m m' : Machine) (s : Shadowed) (held' : Held) (slot : ℕ) (reads' : List (Option Source)) (k : Keeps [] [] m.memory s) → (tables : CanStand (tables_of g)) → remapped ≡ is_remapped s.told (tables_of g) → (t : Takes (context_of (tables_of g)) (staying remapped s.held) held' slot) → (full : evicted ≡ is_full_for (context_of (tables_of g)) (staying remapped s.held)) →
-    (d : Drops s.at (range_that_goes remapped evicted slot).0 (range_that_goes remapped evicted slot).1 drops.All m s.reads m' reads') → (n : ℕ) → n < all_entries → is_some (remembered reads' n) ≡ true → seen_at m'.memory (with_told (record s { reads = reads' }) (tables_of g) slot held') n ≡ seen_at m'.memory (record s { reads = reads' }) n
+same_seen : (remapped evicted : Bool) (g : GuestState) (m m' : Machine) (s : Shadowed) (held' : Held) (slot : ℕ) (reads' : List (Option Source)) (k : Keeps [] [] m.memory s) → (tables : CanBeShadowed (tables_of g)) → remapped ≡ is_remapped s.told (tables_of g) → (t : TakesSlot (context_of (tables_of g)) (staying remapped s.held) held' slot) → (full : evicted ≡ is_full_for (context_of (tables_of g)) (staying remapped s.held)) →
+    (d : DropsEntries s.at (range_that_goes remapped evicted slot).0 (range_that_goes remapped evicted slot).1 drops.All m s.reads m' reads') → (n : ℕ) → n < all_entries → is_some (remembered reads' n) ≡ true → seen_at m'.memory (with_told (record s { reads = reads' }) (tables_of g) slot held') n ≡ seen_at m'.memory (record s { reads = reads' }) n
 same_seen true evicted g m m' s held' slot reads' k tables is t full d n h filled =
     gone_some _ true (read_at s n) refl (some_goes g m m' s held' slot evicted true reads' k tables t full d n filled)
 same_seen false evicted g m m' s held' slot reads' k tables is t full d n h filled =
@@ -243,10 +243,10 @@ same_seen false evicted g m m' s held' slot reads' k tables is t full d n h fill
     taken : length (without (context_of (tables_of g)) s.held) ≡ 4 → entry_slot n ≡ slot → 8192 ≤ n → goes false evicted slot n ≡ true
     taken four same high = ap (λ b. goes false b slot n) (full ∙ eq-eqb (length (without (context_of (tables_of g)) s.held)) 4 four) ∙ rw (le-leb 8192 n high, eq-eqb (entry_slot n) slot same) refl
 
-pub switch_all : (g : GuestState) (m m' : Machine) (s : Shadowed) (held' : Held) (slot first end : ℕ) (evicted remapped : Bool) (reads' : List (Option Source)) → Keeps [] [] m.memory s → s.pages ≡ g.pages → s.base ≡ g.base → CanStand (tables_of g) → remapped ≡ is_remapped s.told (tables_of g) → Takes (context_of (tables_of g)) (staying remapped s.held) held' slot → evicted ≡ is_full_for (context_of (tables_of g)) (staying remapped s.held) →
-    (first, end) ≡ range_that_goes remapped evicted slot → Drops s.at first end drops.All m s.reads m' reads' → Switches g m s m' (record s { told = tables_of g; slot = slot; held = held'; reads = reads' })
+pub switch_all : (g : GuestState) (m m' : Machine) (s : Shadowed) (held' : Held) (slot first end : ℕ) (evicted remapped : Bool) (reads' : List (Option Source)) → Keeps [] [] m.memory s → s.pages ≡ g.pages → s.base ≡ g.base → CanBeShadowed (tables_of g) → remapped ≡ is_remapped s.told (tables_of g) → TakesSlot (context_of (tables_of g)) (staying remapped s.held) held' slot → evicted ≡ is_full_for (context_of (tables_of g)) (staying remapped s.held) →
+    (first, end) ≡ range_that_goes remapped evicted slot → DropsEntries s.at first end drops.All m s.reads m' reads' → Switches g m s m' (record s { told = tables_of g; slot = slot; held = held'; reads = reads' })
 switch_all g m m' s held' slot first end evicted remapped reads' k pages base tables is t full range drop =
-    let d : Drops s.at (range_that_goes remapped evicted slot).0 (range_that_goes remapped evicted slot).1 drops.All m s.reads m' reads' = subst (λ (r : ℕ × ℕ). Drops s.at r.0 r.1 drops.All m s.reads m' reads') range drop in
+    let d : DropsEntries s.at (range_that_goes remapped evicted slot).0 (range_that_goes remapped evicted slot).1 drops.All m s.reads m' reads' = subst (λ (r : ℕ × ℕ). DropsEntries s.at r.0 r.1 drops.All m s.reads m' reads') range drop in
     let left : Shadowed = record s { reads = reads' } in
     let kept = d.keeps [] [] s refl refl k in
     record {
@@ -258,7 +258,7 @@ switch_all g m m' s held' slot first end evicted remapped reads' k pages base ta
         same = λ n h f. same_seen remapped evicted g m m' s held' slot reads' k tables is t full d n h f;
       });
       serves = record { pages = pages; base = base; told = refl };
-      takes = subst (λ r. Takes (context_of (tables_of g)) (staying r s.held) held' slot) is t;
+      takes = subst (λ r. TakesSlot (context_of (tables_of g)) (staying r s.held) held' slot) is t;
       each = λ n. each_goes g m m' s held' slot evicted remapped reads' k tables t full d n ∙ ap (λ b. unless_dropped b (read_at s n)) (same_goes remapped evicted (context_of (tables_of g)) s.held slot n full ∙ ap (λ r. goes r (is_full_for (context_of (tables_of g)) s.held) slot n) is);
       rest = refl;
       only = d.only;

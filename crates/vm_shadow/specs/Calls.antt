@@ -4,7 +4,7 @@ use Rattle.vv_base.specs.Bytes.{long_at, long_bytes, overwritten}
 use Rattle.vax_arch.specs.Fields.{is_modified, is_valid}
 use Rattle.vax_hw.specs.Machine.{Machine}
 use Rattle.vm_shadow.specs.Layout.{empty_entry, entry_place, kernel_entry}
-use Rattle.vm_shadow.specs.Stands.{Keeps, Shadowed, is_read_from, real_at}
+use Rattle.vm_shadow.specs.Shadowed.{Keeps, Shadowed, is_read_from, real_at}
 use Rattle.vm_shadow.specs.declared.source.Source.{Source}
 use Rattle.vm_shadow.specs.declared.scans.Dropped.{Dropped}
 use Rattle.vm_shadow.specs.declared.scans.Dropped.TheVariants.{All, ReadFrom}
@@ -33,7 +33,7 @@ abbrev pub is_between : (first end n : ℕ) → Bool
 is_between first end n = nat_le first n && nat_lt n end
 
 -- the entries from a number up to another that are to be dropped are empty, and nothing else changed
-pub record Drops (at first end : ℕ) (which : Dropped) (before : Machine) (reads : List (Option Source)) (after : Machine) (reads' : List (Option Source)) : Type 0 where
+pub record DropsEntries (at first end : ℕ) (which : Dropped) (before : Machine) (reads : List (Option Source)) (after : Machine) (reads' : List (Option Source)) : Type 0 where
   pub only : OnlyTables at before after
   pub whole : length reads' ≡ length reads
   pub each : (n : ℕ) → remembered reads' n ≡ unless_dropped (is_between first end n && is_dropped which (remembered reads n)) (remembered reads n)

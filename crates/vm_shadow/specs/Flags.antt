@@ -1,6 +1,6 @@
 -- Flags by frame of the guest.
 use Rattle.std.specs.Prelude.{Bool, false, ◌||◌, ◌<◌, ℕ, List, slice_set}
-use Rattle.vm_shadow.specs.Stands.{is_flagged}
+use Rattle.vm_shadow.specs.Shadowed.{is_flagged}
 use Rattle.vm_shadow.specs.declared.source.Source.{Source}
 use Rattle.vm_shadow.specs.declared.source.Source.TheVariants.{Direct, Process, System}
 

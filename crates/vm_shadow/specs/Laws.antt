@@ -4,10 +4,10 @@ use Rattle.vax_arch.specs.Ring.{ring_of}
 use Rattle.vax_arch.specs.Walk.{page_of}
 use Rattle.vax_arch.specs.declared.mode.Intent.{Intent}
 use Rattle.vax_arch.specs.declared.mode.Mode.{Mode}
-use Rattle.vax_hw.specs.RealTables.{is_clear_in, judged, place_in}
-use Rattle.vax_table.specs.Script.{Absent, Cause, Past, Refusing, cause_of}
+use Rattle.vax_hw.specs.RealTables.{access_judged, is_clear_in, place_in}
+use Rattle.vax_table.specs.Interaction.{Absent, Cause, Past, Refusing, cause_of}
 use Rattle.vm_shadow.specs.Layout.{real_tables}
-use Rattle.vm_shadow.specs.Stands.{Keeps, Shadowed, read_at}
+use Rattle.vm_shadow.specs.Shadowed.{Keeps, Shadowed, read_at}
 use Rattle.vm_shadow.specs.StandsFor.{IsPresent, Serves, own_number}
 use Rattle.vm_state.specs.Partition.{guest_of}
 use Rattle.vm_state.specs.Probe.{Answers, probed_byte}
@@ -23,9 +23,9 @@ guest_place (walks.Fault f) = Err (cause_of f.not_valid)
 guest_place walks.Beyond = Err Past
 
 -- a place of the guest, in the machine
-abbrev pub moved : ℕ → Result ℕ Cause → Result ℕ Cause
-moved by (Ok place) = Ok (by + place)
-moved by (Err cause) = Err cause
+abbrev pub relocated : ℕ → Result ℕ Cause → Result ℕ Cause
+relocated by (Ok place) = Ok (by + place)
+relocated by (Err cause) = Err cause
 
 abbrev pub HasNone : Result ℕ Cause → Type 0
 HasNone (Ok place) = ⊥
@@ -34,7 +34,7 @@ HasNone (Err cause) = Unit {0}
 -- The machine has the guest's answer, at a place moved by the guest's base; or it misses; or it refuses where the guest
 -- has no place.
 abbrev pub IsHeard : (base : ℕ) → (real own : Result ℕ Cause) → Type 0
-IsHeard base real own = (real ≡ moved (512 * base) own) ⊎ ((real ≡ Err Absent) ⊎ ((real ≡ Err Refusing) × HasNone own))
+IsHeard base real own = (real ≡ relocated (512 * base) own) ⊎ ((real ≡ Err Absent) ⊎ ((real ≡ Err Refusing) × HasNone own))
 
 abbrev pub real_place : List ℕ → Shadowed → Mode → Intent → ℕ → Result ℕ Cause
 real_place memory s m i va = place_in memory (real_tables s.at s.slot) (ring_of m) i va
@@ -65,9 +65,9 @@ MarksTheGuest = (opened : List ℕ) (memory : List ℕ) (s : Shadowed) (g : Gues
 -- What PROBE finds in the real tables is what it finds in the guest's, and is plain.
 abbrev pub ProbesTheGuest : Type 0
 ProbesTheGuest = (opened : List ℕ) (memory : List ℕ) (s : Shadowed) (g : GuestState) (m : Mode) (i : Intent) (va : ℕ) (is_accessible : Bool) → Keeps [] opened memory s → Serves g s → va < 2 ^ 32 →
-    judged memory (real_tables s.at s.slot) (ring_of m) i va ≡ Some is_accessible → probed_byte (guest_of memory g) va m i ≡ Answers is_accessible true
+    access_judged memory (real_tables s.at s.slot) (ring_of m) i va ≡ Some is_accessible → probed_byte (guest_of memory g) va m i ≡ Answers is_accessible true
 
 -- PROBE finds a page that is filled.
 abbrev pub ProbesFilledEntries : Type 0
 ProbesFilledEntries = (opened : List ℕ) (memory : List ℕ) (s : Shadowed) (g : GuestState) (m : Mode) (i : Intent) (va : ℕ) → Keeps [] opened memory s → Serves g s → va < 2 ^ 32 →
-    is_some (read_at s (own_number s (page_of va))) ≡ true → IsPresent (guest_of memory g) (page_of va) → is_some (judged memory (real_tables s.at s.slot) (ring_of m) i va) ≡ true
+    is_some (read_at s (own_number s (page_of va))) ≡ true → IsPresent (guest_of memory g) (page_of va) → is_some (access_judged memory (real_tables s.at s.slot) (ring_of m) i va) ≡ true

@@ -46,14 +46,14 @@ empty_entry = 4 * 2 ^ 27
 abbrev pub kernel_entry : ℕ → ℕ
 kernel_entry frame = 2 ^ 31 + 2 * 2 ^ 27 + frame
 
-abbrev pub bit : Bool → ℕ
-bit false = 0
-bit true = 1
+abbrev pub bool_as_bit : Bool → ℕ
+bool_as_bit false = 0
+bool_as_bit true = 1
 
 -- The real entry that stands for an entry of a guest whose pages begin at a page of the machine: its frame, moved; its
 -- code, compressed.
 abbrev pub real_entry : (base : ℕ) → (modify : Bool) → (entry : ℕ) → ℕ
-real_entry base modify entry = 2 ^ 31 + compressed_of (protection_of entry) * 2 ^ 27 + bit modify * 2 ^ 26 + (base + frame_of entry)
+real_entry base modify entry = 2 ^ 31 + compressed_of (protection_of entry) * 2 ^ 27 + bool_as_bit modify * 2 ^ 26 + (base + frame_of entry)
 
 -- the table registers of the machine with a slot in use: the whole system table, and the slot's whole P0 and P1 tables
 abbrev pub p0_base : ℕ → ℕ

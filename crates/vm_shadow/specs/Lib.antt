@@ -1,5 +1,5 @@
 pub mod Layout
-pub mod Stands
+pub mod Shadowed
 pub mod Calls
 pub mod Flags
 pub mod Marks

@@ -12,7 +12,7 @@ abbrev pub is_in : ℕ → List ℕ → Bool
 is_in n words = bit_at (slice_index words (n / 64)) (n % 64) == 1
 
 -- a number comes into a set, or goes from it
-pub record Sets (value : Bool) (n : ℕ) (words words' : List ℕ) : Type 0 where
+pub record SetsMember (value : Bool) (n : ℕ) (words words' : List ℕ) : Type 0 where
   pub size : length words' ≡ length words
   pub here : is_in n words' ≡ value
   pub others : (k : ℕ) → k ≢ n → is_in k words' ≡ is_in k words
@@ -24,7 +24,7 @@ pub record IsCleared (first end : ℕ) (words words' : List ℕ) : Type 0 where
   pub others : (k : ℕ) → (k < first) ⊎ (end ≤ k) → is_in k words' ≡ is_in k words
 
 -- the first number of a set from one up to another; that other, where there is none
-pub record IsNext (from end : ℕ) (words : List ℕ) (n : ℕ) : Type 0 where
+pub record IsNextMember (from end : ℕ) (words : List ℕ) (n : ℕ) : Type 0 where
   pub order : from ≤ n
   pub within : n ≤ end
   pub free : (k : ℕ) → from ≤ k → k < n → is_in k words ≡ false
@@ -32,9 +32,9 @@ pub record IsNext (from end : ℕ) (words : List ℕ) (n : ℕ) : Type 0 where
 
 -- The groups of entries in which one may be dropped, by 576 numbers for each way: first for all that are filled, then for
 -- those that were read from each frame of the guest.
-abbrev pub row_of : (frames : ℕ) → Dropped → ℕ
-row_of frames All = 0
-row_of frames (ReadFrom frame) = if nat_lt frame frames then 576 * (frame + 1) else 0
+abbrev pub row_start : (frames : ℕ) → Dropped → ℕ
+row_start frames All = 0
+row_start frames (ReadFrom frame) = if nat_lt frame frames then 576 * (frame + 1) else 0
 
 -- Each entry that is filled is marked, and so is its group of 128, in each row by which it may be dropped. More may be marked.
 pub record AreMarked (frames : ℕ) (reads : List (Option Source)) (filled groups : List ℕ) : Type 0 where
@@ -43,13 +43,13 @@ pub record AreMarked (frames : ℕ) (reads : List (Option Source)) (filled group
   pub entries : 64 * length filled ≡ all_entries
   pub rows : 64 * length groups ≡ 576 * (frames + 1)
   pub each : (n : ℕ) → is_some (remembered reads n) ≡ true → is_in n filled ≡ true
-  pub group : (which : Dropped) (n : ℕ) → is_dropped which (remembered reads n) ≡ true → is_in (row_of frames which + n / 128) groups ≡ true
+  pub group : (which : Dropped) (n : ℕ) → is_dropped which (remembered reads n) ≡ true → is_in (row_start frames which + n / 128) groups ≡ true
 
 -- an entry's group is marked for each way by which it may be dropped when it has this source
 pub record MarksGroups (frames n : ℕ) (source : Source) (groups groups' : List ℕ) : Type 0 where
   pub size : length groups' ≡ length groups
   pub more : (k : ℕ) → is_in k groups ≡ true → is_in k groups' ≡ true
-  pub group : (which : Dropped) → is_dropped which (Some source) ≡ true → is_in (row_of frames which + n / 128) groups' ≡ true
+  pub group : (which : Dropped) → is_dropped which (Some source) ≡ true → is_in (row_start frames which + n / 128) groups' ≡ true
 
 -- no entry from a number up to another is one that is dropped so
 pub record IsPast (which : Dropped) (reads : List (Option Source)) (from n : ℕ) : Type 0 where

@@ -1,7 +1,7 @@
 -- Worked examples of where shadow page tables lie, and of what is in them, by computation.
 use Rattle.std.specs.Prelude.{◌≡◌, refl, ◌+◌, ◌*◌, true, false, [], ◌∷◌, map, Some, None}
 use Rattle.vm_shadow.specs.Layout.{empty_entry, entry_number, entry_page, entry_place, entry_slot, kernel_entry, p0_base, p1_base, real_entry}
-use Rattle.vm_shadow.specs.Stands.{is_read_from}
+use Rattle.vm_shadow.specs.Shadowed.{is_read_from}
 use Rattle.vm_shadow.specs.StandsFor.{goes, range_that_goes, real_psl}
 use Rattle.vm_shadow.specs.declared.source.Source.TheVariants.{Direct, Process, System}
 

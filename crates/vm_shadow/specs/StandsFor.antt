@@ -10,10 +10,10 @@ use Rattle.vax_hw.specs.Machine.{Machine}
 use Rattle.vax_hw.specs.declared.world.World.{World}
 use Rattle.vm_shadow.specs.Calls.{OnlyTables, unless_dropped}
 use Rattle.vm_shadow.specs.Flags.{IsWithin}
-use Rattle.vm_slots.specs.Held.{AreSlots, Held, LastGoes, beside, brought_forward, contexts_of, slot_of, without}
+use Rattle.vm_slots.specs.Held.{AreSlots, Held, LastGoes, brought_forward, contexts_of, others_held, slot_of, without}
 use Rattle.vm_slots.specs.declared.context.Context.{Context}
 use Rattle.vm_shadow.specs.Layout.{all_entries, entry_number, entry_slot, p0_base, p1_base}
-use Rattle.vm_shadow.specs.Stands.{IsSource, Keeps, Shadowed, is_flagged, is_read_from, mapped_frame, own, read_at, real_at, seen_at}
+use Rattle.vm_shadow.specs.Shadowed.{IsSource, Keeps, Shadowed, is_flagged, is_read_from, mapped_frame, own, read_at, real_at, seen_at}
 use Rattle.vm_shadow.specs.declared.source.Source.{Source}
 use Rattle.vm_state.specs.Allowed.{AreAllowed}
 use Rattle.vm_state.specs.Partition.{guest_of, partition_of}
@@ -80,9 +80,9 @@ abbrev pub real_psl : ℕ → ℕ
 real_psl psl = 2 ^ 29 + mode_number (ring_of (current_of psl)) * 2 ^ 24 + mode_number (ring_of (previous_of psl)) * 2 ^ 22 + psl % 2 ^ 8
 
 -- what a page's entry is, by its look-up, and where it was read from
-abbrev pub IsEntry : (pages : ℕ) → (memory : List ℕ) → Lookup → Option (Pte × Source) → Type 0
-IsEntry pages memory seen None = entry_at memory seen ≡ None
-IsEntry pages memory seen (Some (entry, source)) = (entry_at memory seen ≡ Some entry.0) × IsSource seen source × IsWithin pages source
+abbrev pub IsPageEntry : (pages : ℕ) → (memory : List ℕ) → Lookup → Option (Pte × Source) → Type 0
+IsPageEntry pages memory seen None = entry_at memory seen ≡ None
+IsPageEntry pages memory seen (Some (entry, source)) = (entry_at memory seen ≡ Some entry.0) × IsSource seen source × IsWithin pages source
 
 -- no page with a set modify bit maps a frame that a source has, and no more changed than modify bits
 pub record Protects (source : Source) (m : Machine) (s : Shadowed) (m' : Machine) (s' : Shadowed) : Type 0 where
@@ -98,7 +98,7 @@ pub record FillsPage (page : ℕ) (g : GuestState) (m : Machine) (s : Shadowed) 
   pub only : OnlyTables s.at m m'
 
 -- An entry of the guest whose page was modified, and for which a real entry stands.
-pub record IsMarked (memory : List ℕ) (s : Shadowed) (n : ℕ) : Type 0 where
+pub record HasModifiedPage (memory : List ℕ) (s : Shadowed) (n : ℕ) : Type 0 where
   pub filled : is_valid (real_at memory s n) ≡ true
   pub entry : ℕ
   pub has : entry_at (own memory s) (seen_at memory s n) ≡ Some entry
@@ -127,9 +127,9 @@ abbrev pub can_grant : List ℕ → Shadowed → ℕ → Bool
 can_grant memory s n = not (is_flagged (mapped_frame s (real_at memory s n)) s.consulted)
 
 -- granted, or left as it was
-abbrev pub IsGranted : Bool → (n : ℕ) → (m : Machine) → (s : Shadowed) → (m' : Machine) → (s' : Shadowed) → Type 0
-IsGranted true n m s m' s' = GrantsPage n m s m' s'
-IsGranted false n m s m' s' = (m' ≡ m) × (s' ≡ s)
+abbrev pub GrantsOrLeaves : Bool → (n : ℕ) → (m : Machine) → (s : Shadowed) → (m' : Machine) → (s' : Shadowed) → Type 0
+GrantsOrLeaves true n m s m' s' = GrantsPage n m s m' s'
+GrantsOrLeaves false n m s m' s' = (m' ≡ m) × (s' ≡ s)
 
 -- a page is closed after a guarded step
 pub record ClosesPage (n : ℕ) (m : Machine) (s : Shadowed) (m' : Machine) : Type 0 where
@@ -153,10 +153,10 @@ abbrev pub is_full_for : Context → Held → Bool
 is_full_for c held = length (without c held) == 4
 
 -- what the list of contexts becomes, when one moves to the front and has this slot
-pub record Takes (c : Context) (held held' : Held) (slot : ℕ) : Type 0 where
-  pub front : held' ≡ (c, slot) ∷ beside c held
+pub record TakesSlot (c : Context) (held held' : Held) (slot : ℕ) : Type 0 where
+  pub front : held' ≡ (c, slot) ∷ others_held c held
   pub kept : IfSome (slot_of c held) (λ own. slot ≡ own)
-  pub gone : length (without c held) ≡ 4 → LastGoes held (beside c held) slot
+  pub gone : length (without c held) ≡ 4 → LastGoes held (others_held c held) slot
   pub before : AreSlots held
   pub after : AreSlots held'
   pub contexts : contexts_of held' ≡ brought_forward c (contexts_of held)
@@ -164,7 +164,7 @@ pub record Takes (c : Context) (held held' : Held) (slot : ℕ) : Type 0 where
 -- Registers of page tables are told, or told again: their context moves to the front of those that stay, which keep their
 -- slots, and what a switch to it drops is dropped.
 pub record Retells (t : Tables) (s s' : Shadowed) : Type 0 where
-  pub takes : Takes (context_of t) (staying (is_remapped s.told t) s.held) s'.held s'.slot
+  pub takes : TakesSlot (context_of t) (staying (is_remapped s.told t) s.held) s'.held s'.slot
   pub each : (n : ℕ) → read_at s' n ≡ unless_dropped (goes (is_remapped s.told t) (is_full_for (context_of t) s.held) s'.slot n) (read_at s n)
   pub rest : s' ≡ record s { told = s'.told; slot = s'.slot; held = s'.held; reads = s'.reads }
 
@@ -178,13 +178,13 @@ pub record Switches (g : GuestState) (m : Machine) (s : Shadowed) (m' : Machine)
   pub keeps : Keeps [] [] m'.memory s'
   pub serves : Serves g s'
   -- the guest's context moves to the front of those that stay, which keep their slots
-  pub takes : Takes (context_of (tables_of g)) (staying (is_remapped s.told (tables_of g)) s.held) s'.held s'.slot
+  pub takes : TakesSlot (context_of (tables_of g)) (staying (is_remapped s.told (tables_of g)) s.held) s'.held s'.slot
   pub each : (n : ℕ) → read_at s' n ≡ unless_dropped (goes (is_remapped s.told (tables_of g)) (is_full_for (context_of (tables_of g)) s.held) s'.slot n) (read_at s n)
   pub rest : s' ≡ record s { told = s'.told; slot = s'.slot; held = s'.held; reads = s'.reads }
   pub only : OnlyTables s.at m m'
 
 -- new shadow page tables: no entry is filled, and the guest's context alone is held
-pub record Makes (g : GuestState) (at : ℕ) (m m' : Machine) (s : Shadowed) : Type 0 where
+pub record MakesTables (g : GuestState) (at : ℕ) (m m' : Machine) (s : Shadowed) : Type 0 where
   pub stands : StandsFor m'.memory s g
   pub place : s.at ≡ at
   pub empty : (n : ℕ) → read_at s n ≡ None

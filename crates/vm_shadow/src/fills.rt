@@ -2,8 +2,8 @@ ghost use Rattle.std.specs.Prelude.{◌≡◌, ◌<◌, ◌≤◌, ◌+◌, ◌*
 ghost use Rattle.vax_arch.specs.Walk.{page_of};
 ghost use Rattle.vax_arch.specs.WalkLaws.{IsInside};
 ghost use Rattle.vm_shadow.specs.Layout.{IsCovered, entry_number, real_entry};
-ghost use Rattle.vm_shadow.specs.Stands.{Keeps};
-ghost use Rattle.vm_shadow.specs.StandsFor.{FillsPage, IsEntry, IsPresent, Protects, StandsFor};
+ghost use Rattle.vm_shadow.specs.Shadowed.{Keeps};
+ghost use Rattle.vm_shadow.specs.StandsFor.{FillsPage, IsPageEntry, IsPresent, Protects, StandsFor};
 ghost use Rattle.vm_state.specs.Partition.{guest_of, partition_of};
 
 use crate::flags::{any_flagged, set_flags};
@@ -45,7 +45,7 @@ fn real_entry(base: u32, entry: Pte) -> u32
 fn entry_of<H: Hardware>(machine: &H, g: &GuestState, seen: Lookup) -> Option<(Pte, Source)>
     requires partition { 512 * (g.now.base + g.now.pages) ≤ length (H.machine machine.now).memory }
     requires inside { IsInside (512 * g.now.pages) seen }
-    ensures { IsEntry g.now.pages (partition_of (H.machine machine.now).memory g.now) seen result }
+    ensures { IsPageEntry g.now.pages (partition_of (H.machine machine.now).memory g.now) seen result }
 {
     let _all = machine.pages();
     match seen {

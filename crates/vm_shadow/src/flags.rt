@@ -1,6 +1,6 @@
 ghost use Rattle.std.specs.Prelude.{◌≡◌, slice_set};
 ghost use Rattle.vm_shadow.specs.Flags.{any_flagged, with_flags};
-ghost use Rattle.vm_shadow.specs.Stands.{is_flagged};
+ghost use Rattle.vm_shadow.specs.Shadowed.{is_flagged};
 
 use crate::Source;
 

@@ -1,8 +1,8 @@
 ghost use Rattle.std.specs.Prelude.{◌≡◌, ◌≤◌, ◌+◌, length};
 ghost use Rattle.vax_arch.specs.Walk.{page_of};
 ghost use Rattle.vm_shadow.specs.Layout.{IsCovered, entry_place};
-ghost use Rattle.vm_shadow.specs.Stands.{Fits};
-ghost use Rattle.vm_shadow.specs.StandsFor.{ClosesPage, IsGranted, IsMarked, OpensPage, can_grant, own_number};
+ghost use Rattle.vm_shadow.specs.Shadowed.{Fits};
+ghost use Rattle.vm_shadow.specs.StandsFor.{ClosesPage, GrantsOrLeaves, HasModifiedPage, OpensPage, can_grant, own_number};
 
 use crate::Shadow;
 use crate::fills::entry_number;
@@ -29,7 +29,7 @@ impl Shadow {
     pub fn open_write<H: Hardware>(&mut self, machine: &mut H, va: u32)
         requires fits { Fits (H.machine machine.old).memory self.old }
         requires covered { IsCovered (page_of va) }
-        requires marked { IsMarked (H.machine machine.old).memory self.old (own_number self.old (page_of va)) }
+        requires marked { HasModifiedPage (H.machine machine.old).memory self.old (own_number self.old (page_of va)) }
         ensures { OpensPage (own_number self.old (page_of va)) (H.machine machine.old) self.old (H.machine machine.new) self.new }
     {
         let place = self.place(machine, va / 512);
@@ -49,9 +49,9 @@ impl Shadow {
     pub fn grant_write<H: Hardware>(&mut self, machine: &mut H, va: u32) -> bool
         requires fits { Fits (H.machine machine.old).memory self.old }
         requires covered { IsCovered (page_of va) }
-        requires marked { IsMarked (H.machine machine.old).memory self.old (own_number self.old (page_of va)) }
+        requires marked { HasModifiedPage (H.machine machine.old).memory self.old (own_number self.old (page_of va)) }
         ensures when { result ≡ can_grant (H.machine machine.old).memory self.old (own_number self.old (page_of va)) }
-        ensures is { IsGranted result (own_number self.old (page_of va)) (H.machine machine.old) self.old (H.machine machine.new) self.new }
+        ensures is { GrantsOrLeaves result (own_number self.old (page_of va)) (H.machine machine.old) self.old (H.machine machine.new) self.new }
     {
         let place = self.place(machine, va / 512);
         let entry = Pte(machine.read_long(place));

@@ -1,6 +1,6 @@
 ghost use Rattle.std.specs.Prelude.{◌≡◌, ◌≤◌, ◌<◌, ◌+◌, ◌*◌, ◌⊎◌, IfOk, OnErr, length};
 ghost use Rattle.vm_shadow.specs.Calls.{Clears, Maps};
-ghost use Rattle.vm_shadow.specs.StandsFor.{Makes, Serves, real_psl, world_of};
+ghost use Rattle.vm_shadow.specs.StandsFor.{MakesTables, Serves, real_psl, world_of};
 ghost use Rattle.vm_state.specs.Allowed.{AreAllowed};
 ghost use Rattle.vm_state.specs.State.{state_of};
 
@@ -88,7 +88,7 @@ impl Shadow {
         requires apart { (g.now.base + g.now.pages ≤ tables) ⊎ (tables + 580 ≤ g.now.base) }
         requires few { g.now.pages ≤ 2048 }
         requires allowed { AreAllowed (512 * g.now.pages) (state_of g.now) }
-        ensures ok { IfOk result (λ s. Makes g.now tables (H.machine machine.old) (H.machine machine.new) s) }
+        ensures ok { IfOk result (λ s. MakesTables g.now tables (H.machine machine.old) (H.machine machine.new) s) }
         ensures err { OnErr result (H.machine machine.new ≡ H.machine machine.old) }
     {
         let reads = Records::new(alloc, g.pages)?;

@@ -1,5 +1,5 @@
 ghost use Rattle.std.specs.Prelude.{◌≡◌, ◌≤◌, ◌<◌, ◌+◌, ◌*◌, ◌^◌, true, false, IfOk, length};
-ghost use Rattle.vm_shadow.specs.Marks.{IsCleared, IsNext, Sets};
+ghost use Rattle.vm_shadow.specs.Marks.{IsCleared, IsNextMember, SetsMember};
 
 use std::alloc::Global;
 use std::marker::Model;
@@ -31,7 +31,7 @@ impl Marks {
     /// Puts a number into the set.
     pub fn mark(&mut self, n: u32)
         requires { n < 64 * length self.old }
-        ensures { Sets true n self.old self.new }
+        ensures { SetsMember true n self.old self.new }
     {
         let at = (n / 64) as usize;
         let word = self.words[at];
@@ -41,7 +41,7 @@ impl Marks {
     /// Takes a number from the set.
     pub fn unmark(&mut self, n: u32)
         requires { n < 64 * length self.old }
-        ensures { Sets false n self.old self.new }
+        ensures { SetsMember false n self.old self.new }
     {
         let at = (n / 64) as usize;
         let word = self.words[at];
@@ -64,7 +64,7 @@ impl Marks {
         requires order { from ≤ end }
         requires within { end ≤ 64 * length self.now }
         requires small { end ≤ 2 ^ 24 }
-        ensures { IsNext from end self.now result }
+        ensures { IsNextMember from end self.now result }
     {
         let mut at = from;
         while at < end {

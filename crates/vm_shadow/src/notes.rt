@@ -1,4 +1,4 @@
-ghost use Rattle.vm_shadow.specs.Stands.{Fits};
+ghost use Rattle.vm_shadow.specs.Shadowed.{Fits};
 ghost use Rattle.vm_shadow.specs.StandsFor.{Notes};
 
 use crate::Shadow;

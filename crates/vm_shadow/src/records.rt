@@ -1,7 +1,7 @@
 ghost use Rattle.std.specs.Prelude.{◌≡◌, ◌≤◌, ◌<◌, ◌+◌, ◌*◌, ◌/◌, ℕ, true, false, IfOk, Some, None, length, slice_set};
-ghost use Rattle.vm_shadow.specs.Calls.{Closes, Drops, remembered};
-ghost use Rattle.vm_shadow.specs.Stands.{is_read_from};
-ghost use Rattle.vm_shadow.specs.Marks.{AreEmpty, IsPast, MarksGroups, Sets, row_of};
+ghost use Rattle.vm_shadow.specs.Calls.{Closes, DropsEntries, remembered};
+ghost use Rattle.vm_shadow.specs.Shadowed.{is_read_from};
+ghost use Rattle.vm_shadow.specs.Marks.{AreEmpty, IsPast, MarksGroups, SetsMember, row_start};
 ghost use Rattle.vm_shadow.specs.declared.scans.Dropped.TheVariants.{ReadFrom};
 
 use crate::Source;
@@ -47,7 +47,7 @@ impl Model for Records {
 /// The first of the numbers by which a way to drop entries has its groups marked.
 fn row_of(frames: u32, which: Dropped) -> u32
     requires { frames ≤ 2048 }
-    ensures { result ≡ row_of frames which }
+    ensures { result ≡ row_start frames which }
 {
     match which {
         Dropped::ReadFrom(frame) if frame < frames => GROUPS * (frame + 1),
@@ -60,7 +60,7 @@ fn mark_group(groups: &mut Marks, frames: u32, n: u32, which: Dropped)
     requires few { frames ≤ 2048 }
     requires number { n < 73728 }
     requires rows { 64 * length groups.old ≡ 576 * (frames + 1) }
-    ensures { Sets true (row_of frames which + n / 128) groups.old groups.new }
+    ensures { SetsMember true (row_start frames which + n / 128) groups.old groups.new }
 {
     groups.mark(row_of(frames, which) + n / GROUP);
 }
@@ -195,7 +195,7 @@ impl Records {
         requires order { first ≤ end }
         requires few { end ≤ 73728 }
         requires room { 512 * (at + 580) ≤ length (H.machine machine.old).memory }
-        ensures { Drops at first end which (H.machine machine.old) self.old (H.machine machine.new) self.new }
+        ensures { DropsEntries at first end which (H.machine machine.old) self.old (H.machine machine.new) self.new }
     {
         let _all = machine.pages();
         let mut n = self.next(first, end, which);
@@ -212,7 +212,7 @@ impl Records {
     pub fn drop_read_from<H: Hardware>(&mut self, machine: &mut H, at: u32, frame: u32)
         requires whole { length self.old ≡ 73728 }
         requires room { 512 * (at + 580) ≤ length (H.machine machine.old).memory }
-        ensures { Drops at 0 73728 (ReadFrom frame) (H.machine machine.old) self.old (H.machine machine.new) self.new }
+        ensures { DropsEntries at 0 73728 (ReadFrom frame) (H.machine machine.old) self.old (H.machine machine.new) self.new }
     {
         self.drop_entries(machine, at, 0, ALL_ENTRIES, Dropped::ReadFrom(frame));
         self.forget(frame);

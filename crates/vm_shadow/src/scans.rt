@@ -1,7 +1,7 @@
 ghost use Rattle.std.specs.Prelude.{◌≡◌, ◌≤◌, ◌<◌, ◌+◌, ◌*◌, length};
 ghost use Rattle.vv_base.specs.Bytes.{long_at};
 ghost use Rattle.vm_shadow.specs.Layout.{entry_place};
-ghost use Rattle.vm_shadow.specs.Stands.{is_read_from};
+ghost use Rattle.vm_shadow.specs.Shadowed.{is_read_from};
 ghost use Rattle.vm_shadow.specs.Calls.{closed_at, is_dropped, maps_open};
 
 use crate::Source;

@@ -23,7 +23,7 @@ pub struct Shadow {
 }
 
 impl Model for Shadow {
-    ghost use Rattle.vm_shadow.specs.Stands.{Shadowed};
+    ghost use Rattle.vm_shadow.specs.Shadowed.{Shadowed};
 
     ghost Value = { Shadowed };
 

@@ -1,6 +1,6 @@
 ghost use Rattle.std.specs.Prelude.{◌≡◌, ◌≤◌, ◌<◌, ◌+◌, ◌*◌, ◌%◌, ◌-◌, length, slice_set};
 ghost use Rattle.vax_arch.specs.Walk.{page_of, with_modify};
-ghost use Rattle.vm_shadow.specs.Stands.{Fits, own};
+ghost use Rattle.vm_shadow.specs.Shadowed.{Fits, own};
 ghost use Rattle.vm_shadow.specs.StandsFor.{Marks, StandsFor, Stores};
 ghost use Rattle.vm_state.specs.Translation.{long_stored};
 

@@ -1,6 +1,6 @@
 ghost use Rattle.std.specs.Prelude.{◌≡◌, ◌<◌, []};
-ghost use Rattle.vm_shadow.specs.Stands.{CanStand, Keeps};
-ghost use Rattle.vm_shadow.specs.StandsFor.{Switches, Takes, is_full_for, range_that_goes, staying};
+ghost use Rattle.vm_shadow.specs.Shadowed.{CanBeShadowed, Keeps};
+ghost use Rattle.vm_shadow.specs.StandsFor.{Switches, TakesSlot, is_full_for, range_that_goes, staying};
 ghost use Rattle.vm_slots.specs.Held.{AreSlots};
 ghost use Rattle.vm_state.specs.State.{context_of, tables_of};
 ghost use Rattle.vm_state.specs.Touches.{is_remapped};
@@ -58,7 +58,7 @@ fn forget(held: &mut Slots, remapped: bool)
 #[tactic(auto, using(crate::proofs::Taking::takes, crate::proofs::Taking::slot_first))]
 fn take_slot(held: &mut Slots, remapped: bool, c: &Context) -> Taken
     requires { AreSlots held.old }
-    ensures takes { Takes c.now (staying remapped held.old) held.new result.slot }
+    ensures takes { TakesSlot c.now (staying remapped held.old) held.new result.slot }
     ensures evicted { result.evicted ≡ is_full_for c.now (staying remapped held.old) }
     ensures small { result.slot < 4 }
 {
@@ -80,7 +80,7 @@ impl Shadow {
         requires keeps { Keeps [] [] (H.machine machine.old).memory self.old }
         requires pages { self.old.pages ≡ g.now.pages }
         requires base { self.old.base ≡ g.now.base }
-        requires tables { CanStand (tables_of g.now) }
+        requires tables { CanBeShadowed (tables_of g.now) }
         ensures { Switches g.now (H.machine machine.old) self.old (H.machine machine.new) self.new }
     {
         let context = context_of(g);

@@ -7,7 +7,7 @@ use Rattle.std.proofs.lemmas.List.Kept.{AllPairs-cons, AllPairs-filter}
 use Rattle.std.proofs.lemmas.Option.{none-some, same_Some}
 use Rattle.std.specs.Bool.{beq}
 use Rattle.vm_slots.specs.declared.context.Context.{Context}
-use Rattle.vm_slots.specs.Held.{Held, is_same, AreSlots, slot_of, without, beside, IsLeastFree, LastGoes, contexts_of, brought_forward}
+use Rattle.vm_slots.specs.Held.{Held, is_same, AreSlots, slot_of, without, others_held, IsLeastFree, LastGoes, contexts_of, brought_forward}
 
 beq_self : (b : Bool) → beq b b ≡ true
 beq_self true = refl
@@ -113,35 +113,35 @@ apart c (h ∷ held) slot pairs e =
     ]
 
 -- what is put in front of the others keeps the facts
-fronted : (c : Context) (slot : ℕ) (held : Held) → AreSlots held → slot < 4 → All (λ h. slot ≢ h.1) (beside c held) → AreSlots ((c, slot) ∷ beside c held)
+fronted : (c : Context) (slot : ℕ) (held : Held) → AreSlots held → slot < 4 → All (λ h. slot ≢ h.1) (others_held c held) → AreSlots ((c, slot) ∷ others_held c held)
 fronted c slot held are small free =
     let others : Held = without c held in
     let passed : All (λ h. not (is_same c h.0) ≡ true) others = filter_passes (λ h. not (is_same c h.0)) held in
     let new : All (λ h. c ≢ h.0) others = All-weaker (λ h. not (is_same c h.0) ≡ true) (λ h. c ≢ h.0) (λ h other same. false≢true (sym (ap not (subst (λ d. is_same c d ≡ true) same (is_same_self c))) ∙ other)) others passed in
     record {
       few = omega (arith, length-take 3 others);
-      contexts = AllPairs-cons (λ h k. h.0 ≢ k.0) (c, slot) (beside c held) (All-take (λ h. c ≢ h.0) 3 others new)
+      contexts = AllPairs-cons (λ h k. h.0 ≢ k.0) (c, slot) (others_held c held) (All-take (λ h. c ≢ h.0) 3 others new)
           (AllPairs-take (λ h k. h.0 ≢ k.0) 3 others (AllPairs-filter (λ h k. h.0 ≢ k.0) (λ h. not (is_same c h.0)) held are.contexts));
-      slots = AllPairs-cons (λ h k. h.1 ≢ k.1) (c, slot) (beside c held) free
+      slots = AllPairs-cons (λ h k. h.1 ≢ k.1) (c, slot) (others_held c held) free
           (AllPairs-take (λ h k. h.1 ≢ k.1) 3 others (AllPairs-filter (λ h k. h.1 ≢ k.1) (λ h. not (is_same c h.0)) held are.slots));
-      small = All-cons (λ h. h.1 < 4) (c, slot) (beside c held) small (All-take (λ h. h.1 < 4) 3 others (All-filter (λ h. not (is_same c h.0)) (λ h. h.1 < 4) held are.small));
+      small = All-cons (λ h. h.1 < 4) (c, slot) (others_held c held) small (All-take (λ h. h.1 < 4) 3 others (All-filter (λ h. not (is_same c h.0)) (λ h. h.1 < 4) held are.small));
     }
 
 -- the slot of a context that moves to the front: its own, or else the least that is free
 abbrev pub IsSlotFor : Context → Held → ℕ → Type 0
-IsSlotFor c held slot = MatchOption (slot_of c held) (IsLeastFree slot (beside c held)) (λ own. slot ≡ own)
+IsSlotFor c held slot = MatchOption (slot_of c held) (IsLeastFree slot (others_held c held)) (λ own. slot ≡ own)
 
 -- such a slot is none of the others'
-its_own : (c : Context) (slot : ℕ) (held : Held) → AreSlots held → IsSlotFor c held slot → (slot < 4) × All (λ h. slot ≢ h.1) (beside c held)
+its_own : (c : Context) (slot : ℕ) (held : Held) → AreSlots held → IsSlotFor c held slot → (slot < 4) × All (λ h. slot ≢ h.1) (others_held c held)
 its_own c slot held are is = by_case (slot_of c held) refl is
   where
-    by_case : (o : Option ℕ) → slot_of c held ≡ o → MatchOption o (IsLeastFree slot (beside c held)) (λ own. slot ≡ own) → (slot < 4) × All (λ h. slot ≢ h.1) (beside c held)
-    by_case None found least = (least.small, All-weaker (λ h. h.1 ≢ slot) (λ h. slot ≢ h.1) (λ h ne same. ne (sym same)) (beside c held) least.free)
+    by_case : (o : Option ℕ) → slot_of c held ≡ o → MatchOption o (IsLeastFree slot (others_held c held)) (λ own. slot ≡ own) → (slot < 4) × All (λ h. slot ≢ h.1) (others_held c held)
+    by_case None found least = (least.small, All-weaker (λ h. h.1 ≢ slot) (λ h. slot ≢ h.1) (λ h ne same. ne (sym same)) (others_held c held) least.free)
     by_case (Some own) found same =
         let here : slot_of c held ≡ Some slot = found ∙ ap (λ (n : ℕ). Some n) (sym same) in
         (at_found (λ s. s < 4) c held slot are.small here, All-take (λ h. slot ≢ h.1) 3 (without c held) (apart c held slot are.slots here))
 
-pub front_law : (c : Context) (slot : ℕ) (held : Held) → AreSlots held → IsSlotFor c held slot → AreSlots ((c, slot) ∷ beside c held)
+pub front_law : (c : Context) (slot : ℕ) (held : Held) → AreSlots held → IsSlotFor c held slot → AreSlots ((c, slot) ∷ others_held c held)
 front_law c slot held are is = let own = its_own c slot held are is in fronted c slot held are own.0 own.1
 
 -- the contexts of the others are the other contexts
@@ -153,7 +153,7 @@ map-without c (h ∷ held) = map_cond (not (is_same c h.0)) h (without c held) _
     map_cond true h held rest e = ap (λ xs. h.0 ∷ xs) e
     map_cond false h held rest e = e
 
-pub forward_law : (c : Context) (slot : ℕ) (held : Held) → contexts_of ((c, slot) ∷ beside c held) ≡ brought_forward c (contexts_of held)
+pub forward_law : (c : Context) (slot : ℕ) (held : Held) → contexts_of ((c, slot) ∷ others_held c held) ≡ brought_forward c (contexts_of held)
 forward_law c slot held =
     ap (λ (xs : List Context). c ∷ xs) (sym (take-map (λ h. h.0) 3 (without c held)) ∙ ap (take 3) (map-without c held))
 
@@ -223,16 +223,16 @@ last_is_free held few taken =
     four_places (λ n. (get_or held n d).1) (length held) k x.0 y.0 z.0 few within x.2 y.2 z.2 (ap (λ h. h.1) at_x ∙ x.4) (ap (λ h. h.1) at_y ∙ y.4) (ap (λ h. h.1) at_z ∙ z.4) same in
     record { small = omega arith; free = none; least = taken }
 
-pub gone_law : (c : Context) (slot : ℕ) (held : Held) → AreSlots held → IsSlotFor c held slot → length (without c held) ≡ 4 → LastGoes held (beside c held) slot
+pub gone_law : (c : Context) (slot : ℕ) (held : Held) → AreSlots held → IsSlotFor c held slot → length (without c held) ≡ 4 → LastGoes held (others_held c held) slot
 gone_law c slot held are is four =
     let own = its_own c slot held are is in
     let whole : without c held ≡ held = filter_whole (λ h. not (is_same c h.0)) held (omega (arith, are.few)) in
-    last_of_four held (beside c held) slot are (ap length (sym whole) ∙ four) (ap (take 3) whole) own.0 own.1
+    last_of_four held (others_held c held) slot are (ap length (sym whole) ∙ four) (ap (take 3) whole) own.0 own.1
 
-pub slot_is : (c : Context) (held stay : Held) (found : Option ℕ) (slot : ℕ) → found ≡ slot_of c held → stay ≡ beside c held → MatchOption found (IsLeastFree slot stay) (λ own. slot ≡ own) → IsSlotFor c held slot
+pub slot_is : (c : Context) (held stay : Held) (found : Option ℕ) (slot : ℕ) → found ≡ slot_of c held → stay ≡ others_held c held → MatchOption found (IsLeastFree slot stay) (λ own. slot ≡ own) → IsSlotFor c held slot
 slot_is c held stay found slot is others chosen =
     let P : Held → Type 0 = λ hs. MatchOption found (IsLeastFree slot hs) (λ own. slot ≡ own) in
-    let Q : Option ℕ → Type 0 = λ o. MatchOption o (IsLeastFree slot (beside c held)) (λ own. slot ≡ own) in
+    let Q : Option ℕ → Type 0 = λ o. MatchOption o (IsLeastFree slot (others_held c held)) (λ own. slot ≡ own) in
     subst Q is (subst P others chosen)
 
 -- what a look-up says of each slot

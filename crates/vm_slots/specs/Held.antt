@@ -30,8 +30,8 @@ abbrev pub without : Context → Held → Held
 without c held = filter (λ h. not (is_same c h.0)) held
 
 -- the others that stay when a context moves to the front: the three most recent
-abbrev pub beside : Context → Held → Held
-beside c held = take 3 (without c held)
+abbrev pub others_held : Context → Held → Held
+others_held c held = take 3 (without c held)
 
 -- the least slot from 0 to 3 that none of the held contexts has
 pub record IsLeastFree (slot : ℕ) (held : Held) : Type 0 where

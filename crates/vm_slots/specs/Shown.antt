@@ -1,7 +1,7 @@
 -- Worked examples: a context that comes back, and a fifth context.
 use Rattle.std.specs.Prelude.{◌≡◌, ℕ, true, [], ◌∷◌, Some, None, refl}
 use Rattle.vm_slots.specs.declared.context.Context.{Context}
-use Rattle.vm_slots.specs.Held.{Held, slot_of, without, beside, brought_forward}
+use Rattle.vm_slots.specs.Held.{Held, slot_of, without, others_held, brought_forward}
 
 abbrev under : ℕ → Context
 under p0br = record { mapped = true; p0br = p0br; p0lr = 8; p1br = 0; p1lr = 0 }
@@ -19,7 +19,7 @@ the_others = refl
 pub a_fifth : slot_of (under 5) four ≡ None
 a_fifth = refl
 
-pub beside_a_fifth : beside (under 5) four ≡ (under 4, 3) ∷ (under 3, 2) ∷ (under 2, 1) ∷ []
+pub beside_a_fifth : others_held (under 5) four ≡ (under 4, 3) ∷ (under 3, 2) ∷ (under 2, 1) ∷ []
 beside_a_fifth = refl
 
 pub comes_back : brought_forward (under 2) (under 4 ∷ under 3 ∷ under 2 ∷ under 1 ∷ []) ≡ under 2 ∷ under 4 ∷ under 3 ∷ under 1 ∷ []

@@ -1,6 +1,6 @@
 ghost use Rattle.std.specs.Prelude.{◌≡◌, ◌==◌, ◌≢◌, ◌≤◌, ◌<◌, ◌↔◌, ◌∷◌, [], length, IsTrue, IfSome, is_none, MatchBool, MatchOption, All, Any, Contains, ℕ};
 ghost use Rattle.std.specs.Bool.{OnTrue};
-ghost use Rattle.vm_slots.specs.Held.{AreSlots, slot_of, without, beside, IsLeastFree, LastGoes, contexts_of, brought_forward};
+ghost use Rattle.vm_slots.specs.Held.{AreSlots, slot_of, without, others_held, IsLeastFree, LastGoes, contexts_of, brought_forward};
 
 use crate::{Context, Taken};
 use arrayvec::ArrayVec;
@@ -47,12 +47,12 @@ impl Slots {
     /// Brings a context to the front. One that is held keeps its slot. Another gets the least slot
     /// that is free, and where four others are held the last of them goes first.
     pub fn take(&mut self, c: &Context) -> Taken
-        ensures front { self.new ≡ (c.now, result.slot) ∷ beside c.now self.old }
+        ensures front { self.new ≡ (c.now, result.slot) ∷ others_held c.now self.old }
         ensures kept { IfSome (slot_of c.now self.old) (λ slot. result.slot ≡ slot) }
         ensures fresh { result.fresh ≡ is_none (slot_of c.now self.old) }
-        ensures least { OnTrue result.fresh (IsLeastFree result.slot (beside c.now self.old)) }
+        ensures least { OnTrue result.fresh (IsLeastFree result.slot (others_held c.now self.old)) }
         ensures evicted { IsTrue result.evicted ↔ (length (without c.now self.old) ≡ 4) }
-        ensures gone { OnTrue result.evicted (LastGoes self.old (beside c.now self.old) result.slot) }
+        ensures gone { OnTrue result.evicted (LastGoes self.old (others_held c.now self.old) result.slot) }
 
         ensures facts { AreSlots self.new }
         ensures contexts { contexts_of self.new ≡ brought_forward c.now (contexts_of self.old) }
@@ -86,7 +86,7 @@ fn slot_among(held: &[(Context, u8)], c: &Context) -> Option<u8>
 
 /// Leaves the three most recent others; true where there was a fourth.
 fn keep_others(held: &mut ArrayVec<(Context, u8), 4>, c: &Context) -> bool
-    ensures stay { held.new.items ≡ beside c.now held.old.items }
+    ensures stay { held.new.items ≡ others_held c.now held.old.items }
     ensures four { result ≡ (length (without c.now held.old.items) == 4) }
 {
     held.retain(|entry| entry.0 != *c);

@@ -8,8 +8,8 @@ use Rattle.vax_arch.specs.Fields.{ipl_of, mode_number}
 use Rattle.vax_arch.specs.Walk.{is_past}
 use Rattle.vax_arch.specs.declared.mode.Mode.{Mode}
 use Rattle.vax_arch.specs.declared.mode.Mode.TheVariants.{Executive, Kernel, Supervisor, User}
-use Rattle.vm_state.specs.Initiate.{Arrives, Attempt, Halts, Initiation, KernelStackBad, StackFaulty, Stops, Taken, attempt, begun_at, behind_walk, by_vector, in_its_place, initiate, initiated, is_bad_vector, longwords, new_ipl, new_mode, new_previous, new_stack, uses_interrupt_stack, vector_offset}
-use Rattle.vm_state.specs.Pushes.{Faulty, Homes, PastMemory, Walked, pointer_behind, push_walked}
+use Rattle.vm_state.specs.Initiate.{Arrives, Attempt, Halts, Initiation, KernelStackBad, StackFaulty, Stops, Taken, after_walk, attempt, begun_at, by_vector, in_its_place, initiate, initiated, is_bad_vector, longwords, new_ipl, new_mode, new_previous, new_stack, uses_interrupt_stack, vector_offset}
+use Rattle.vm_state.specs.Pushes.{Faulty, Homes, PastMemory, Walked, pointer_after, push_walked}
 use Rattle.vm_state.specs.State.{Guest, State, pointer_of}
 use Rattle.vm_state.specs.Stops.{BadVector}
 use Rattle.vm_state.specs.Stops as stops
@@ -82,8 +82,8 @@ Attempted g (Arrives h written) = Began g h
 Attempted g (StackFaulty is_interrupt_stack) = Unit {0}
 Attempted g (Halts stop) = Unit {0}
 
-walk_keeps : (g : Guest) (e : Exc) (vector sp : ℕ) (w : Walked) → LevelFits e → Attempted g (behind_walk g e vector sp w)
-walk_keeps g e vector sp (Homes hs) h = record { holds = record { size = pushed_size hs g.memory; keeps = begun_keeps (length g.memory) g.state e vector (pointer_behind sp (longwords g.state e)) h }; sisr = refl }
+walk_keeps : (g : Guest) (e : Exc) (vector sp : ℕ) (w : Walked) → LevelFits e → Attempted g (after_walk g e vector sp w)
+walk_keeps g e vector sp (Homes hs) h = record { holds = record { size = pushed_size hs g.memory; keeps = begun_keeps (length g.memory) g.state e vector (pointer_after sp (longwords g.state e)) h }; sisr = refl }
 walk_keeps g e vector sp (Faulty f) h = tt
 walk_keeps g e vector sp PastMemory h = tt
 

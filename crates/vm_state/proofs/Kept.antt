@@ -9,7 +9,7 @@ use Rattle.vax_arch.specs.Rei.{has_must_be_zero_bit, rei_refuses}
 use Rattle.vax_arch.specs.Walk.{is_past}
 use Rattle.vax_arch.specs.declared.mode.Mode.{Mode}
 use Rattle.vax_table.specs.Arithmetic.{alu_of}
-use Rattle.vax_table.specs.Script.{At, Test, Trouble, outcome}
+use Rattle.vax_table.specs.Interaction.{At, Test, Trouble, outcome}
 use Rattle.vax_table.specs.Tries.{Clear, Completes, Stopped, Tried, tried}
 use Rattle.vax_table.specs.declared.act.Dest.{Dest}
 use Rattle.vax_table.specs.declared.act.Dest.TheVariants.{Memory, Nowhere, Register}
@@ -18,15 +18,15 @@ use Rattle.vax_table.specs.declared.act.Sens.TheVariants.{Chm, Halt, Ldpctx, Mfp
 use Rattle.vax_table.specs.declared.act.Trapped.{Trapped}
 use Rattle.vax_table.specs.declared.answer.AluOp.TheVariants.{Move}
 use Rattle.vm_state.specs.Allowed.{Allows, AreAllowed, IsPacket}
-use Rattle.vm_state.specs.Contexts.{BlockPast, PopTrouble, Popped, Reserved, StackTrouble, Switched, Switches, behind_pops, behind_push, behind_reads, is_block_past, is_block_reserved, loaded, loaded_astlvl, loaded_tables, loads_context, on_interrupt, on_interrupt_stack, saved, saved_longs, saves_context, two_popped}
+use Rattle.vm_state.specs.Contexts.{BlockPast, PopTrouble, Popped, Reserved, StackTrouble, Switched, Switches, after_pops, after_push, after_reads, is_block_past, is_block_reserved, loaded, loaded_astlvl, loaded_tables, loads_context, on_interrupt, on_interrupt_stack, saved, saved_longs, saves_context, two_popped}
 use Rattle.vm_state.specs.Initiate.{Initiation, KernelStackBad, Stops, Taken, initiate, new_mode}
 use Rattle.vm_state.specs.Packets.{accepted, busy_status, status_place}
 use Rattle.vm_state.specs.Pushes.{Faulty, Homes, PastMemory, Walked, push_walked}
 use Rattle.vm_state.specs.Registers.{Value, Written, written}
-use Rattle.vm_state.specs.Sensitive.{ClearAt, Does, Faults, LacksMemory, Sensed, StopsThere, behind, behind_read, change_mode, changed, chm_walked, destination_walked, fault_of, guest_behind, halted, mfpr_by, mtpr_by, packet_taken, put_at, refused_as, rei_by, returned_to, sensed, switched, troubled, waited, with_codes, with_register_effect}
+use Rattle.vm_state.specs.Sensitive.{ClearAt, Does, Faults, LacksMemory, Sensed, StopsThere, after_register_read, change_mode, chm_walked, destination_walked, fault_of, guest_past_instruction, halted, mfpr_by, mode_changed, mtpr_by, packet_taken, past_instruction, put_at, refused_as, rei_by, returned_to, sensed, switched, troubled, waited, with_codes, with_register_effect}
 use Rattle.vm_state.specs.State.{Guest, State, mode_of_state, pointer_of}
 use Rattle.vm_state.specs.Stops.{ChangedMode}
-use Rattle.vm_state.specs.Translation.{is_clear, place_of, space_of, walk_of}
+use Rattle.vm_state.specs.Translation.{guest_write_place, is_clear, space_of, walk_of}
 use Rattle.vm_state.specs.declared.exception.Exc.TheVariants as excs
 use Rattle.vm_state.specs.declared.register.Effect.{Effect}
 use Rattle.vm_state.specs.declared.register.Effect.TheVariants as effects
@@ -65,8 +65,8 @@ Sensible g LacksMemory = Unit {0}
 none_shown : length {A = ℕ} [] ≤ 14
 none_shown = omega arith
 
-pub behind_keeps : (size : ℕ) (s : State) (t : Trapped) → Keeps size s (behind s t)
-behind_keeps size s t = moved size s (behind s t) refl refl refl refl refl refl refl refl (λ k. k)
+pub behind_keeps : (size : ℕ) (s : State) (t : Trapped) → Keeps size s (past_instruction s t)
+behind_keeps size s t = moved size s (past_instruction s t) refl refl refl refl refl refl refl refl (λ k. k)
 
 code_low : (p : ℕ) → p % 2 ^ 8 < 2 ^ 8
 code_low p = grind arith
@@ -98,7 +98,7 @@ halt_sensible g t = (with_state g _ (moved (length g.memory) g.state _ refl refl
 wait_sensible : (g : Guest) (t : Trapped) → Sensible g (waited g t)
 wait_sensible g t = (with_state g _ (moved (length g.memory) g.state _ refl refl refl refl refl refl refl refl (λ k. k)), none_shown)
 
-changed_sensible : (g h : Guest) (i : Initiation) → Holds g h → Initiates h i → Sensible g (changed i)
+changed_sensible : (g h : Guest) (i : Initiation) → Holds g h → Initiates h i → Sensible g (mode_changed i)
 changed_sensible g h (Taken k written) a b = (holds_then g h k a b.holds, none_shown)
 changed_sensible g h (KernelStackBad k written) a b = (holds_then g h k a b.holds, none_shown)
 changed_sensible g h (Stops stop) a b = tt
@@ -110,10 +110,10 @@ walked_sensible g h i PastMemory a b = tt
 
 chm_sensible : (g : Guest) (t : Trapped) (to : Mode) → Sensible g (change_mode g t to)
 chm_sensible g t to =
-    let h = guest_behind g t in
+    let h = guest_past_instruction g t in
     let e = excs.Chm to t.a in
     let m = new_mode g.state e in
-    let hold : Holds g h = with_state g (behind g.state t) (behind_keeps (length g.memory) g.state t) in
+    let hold : Holds g h = with_state g (past_instruction g.state t) (behind_keeps (length g.memory) g.state t) in
     let start : Initiates h (initiate h e) = initiate_keeps h e tt in
     let P = Sensible g in
     cond_both (is_on_interrupt_stack g.state.psl) (StopsThere ChangedMode) _ P (λ k. tt) (λ k.
@@ -156,7 +156,7 @@ rei_sensible : (g : Guest) (t : Trapped) (r : Result Popped Trouble) → Sensibl
 rei_sensible g t (Err trouble) = trouble_sensible g trouble
 rei_sensible g t (Ok p) =
     cond_both (rei_refuses g.state.psl p.psl) (Faults excs.ReservedOperand) _ (Sensible g) (λ e. tt)
-    (λ e. (with_state g _ (chained (length g.memory) g.state (behind g.state t) _ (behind_keeps (length g.memory) g.state t) (returned_keeps (length g.memory) (behind g.state t) p (accepted_psl g.state.psl p.psl e))), none_shown))
+    (λ e. (with_state g _ (chained (length g.memory) g.state (past_instruction g.state t) _ (behind_keeps (length g.memory) g.state t) (returned_keeps (length g.memory) (past_instruction g.state t) p (accepted_psl g.state.psl p.psl e))), none_shown))
 
 -- MTPR
 one_packet : (size packet : ℕ) → IsPacket size packet → All (IsPacket size) (packet ∷ [])
@@ -220,12 +220,12 @@ effect_sensible g s effects.Remap k = (with_state g s k, none_shown)
 effect_sensible g s (effects.Show byte) k = (with_state g s k, omega arith)
 effect_sensible g s (effects.Kcall packet) k = taken_sensible g s packet (accepted (length g.memory) s packet) k (accepted_fits (length g.memory) s packet)
 
-mtpr_sensible : (g : Guest) (t : Trapped) (v : ℕ) (w : Result Written ReservedOperand) → WritesKept (length g.memory) (behind g.state t) w → Sensible g (mtpr_by g v w)
+mtpr_sensible : (g : Guest) (t : Trapped) (v : ℕ) (w : Result Written ReservedOperand) → WritesKept (length g.memory) (past_instruction g.state t) w → Sensible g (mtpr_by g v w)
 mtpr_sensible g t v (Err refused) h = tt
 mtpr_sensible g t v (Ok w) h =
     let size = length g.memory in
     effect_sensible g (with_codes v w.state) w.effect
-    (chained size g.state (behind g.state t) _ (behind_keeps size g.state t) (chained size (behind g.state t) w.state _ h (codes_keep size v w.state)))
+    (chained size g.state (past_instruction g.state t) _ (behind_keeps size g.state t) (chained size (past_instruction g.state t) w.state _ h (codes_keep size v w.state)))
 
 -- MFPR
 by_dest : (g : Guest) (dest : Dest) (v : Value) → Keeps (length g.memory) g.state v.state → Sensible g (put_at g dest v)
@@ -235,23 +235,23 @@ by_dest g (Register n) v k =
     let s : State = record v.state { r = slice_set v.state.r n v.value } in
     (with_state g _ (chained size g.state v.state _ k (chained size v.state s _ (moved size v.state s refl refl refl refl refl refl refl refl (λ j. j)) (codes_keep size v.value s))), none_shown)
 by_dest g (Memory at) v k =
-    (record { size = bytes_size (place_of g) 4 at v.value g.memory; keeps = chained (length g.memory) g.state v.state _ k (codes_keep (length g.memory) v.value v.state) }, none_shown)
+    (record { size = bytes_size (guest_write_place g) 4 at v.value g.memory; keeps = chained (length g.memory) g.state v.state _ k (codes_keep (length g.memory) v.value v.state) }, none_shown)
 
-put_sensible : (g : Guest) (t : Trapped) (dest : Dest) (v : Value) → Keeps (length g.memory) (behind g.state t) v.state → Sensible g (put_at g dest v)
+put_sensible : (g : Guest) (t : Trapped) (dest : Dest) (v : Value) → Keeps (length g.memory) (past_instruction g.state t) v.state → Sensible g (put_at g dest v)
 put_sensible g t dest v k =
     let size = length g.memory in
-    let come : Keeps size g.state v.state = chained size g.state (behind g.state t) v.state (behind_keeps size g.state t) k in
+    let come : Keeps size g.state v.state = chained size g.state (past_instruction g.state t) v.state (behind_keeps size g.state t) k in
     by_dest g dest v come
 
-read_sensible : (g : Guest) (t : Trapped) (dest : Dest) (clear : Option ℕ) (r : Result Value ReservedOperand) → ReadsKept (length g.memory) (behind g.state t) r → Sensible g (behind_read g dest clear r)
+read_sensible : (g : Guest) (t : Trapped) (dest : Dest) (clear : Option ℕ) (r : Result Value ReservedOperand) → ReadsKept (length g.memory) (past_instruction g.state t) r → Sensible g (after_register_read g dest clear r)
 read_sensible g t dest clear (Err refused) k = tt
 read_sensible g t dest (Some va) (Ok v) k = tt
 read_sensible g t dest None (Ok v) k = put_sensible g t dest v k
 
 mfpr_sensible : (g : Guest) (t : Trapped) (x : Tried ℕ) → Sensible g (mfpr_by g t x)
 mfpr_sensible g t (Stopped trouble) = trouble_sensible g trouble
-mfpr_sensible g t (Clear va) = read_sensible g t t.dest (Some va) _ (reads_keep (length g.memory) (length g.memory) (behind g.state t) t.a)
-mfpr_sensible g t (Completes old) = read_sensible g t t.dest None _ (reads_keep (length g.memory) (length g.memory) (behind g.state t) t.a)
+mfpr_sensible g t (Clear va) = read_sensible g t t.dest (Some va) _ (reads_keep (length g.memory) (length g.memory) (past_instruction g.state t) t.a)
+mfpr_sensible g t (Completes old) = read_sensible g t t.dest None _ (reads_keep (length g.memory) (length g.memory) (past_instruction g.state t) t.a)
 
 -- LDPCTX and SVPCTX
 Switching : Guest → Switched → Type 0
@@ -313,7 +313,7 @@ loaded_keeps g next_pc e =
       };
     }
 
-push_switching : (g : Guest) (s : State) (w : Walked) → Keeps (length g.memory) g.state s → Switching g (behind_push g s w)
+push_switching : (g : Guest) (s : State) (w : Walked) → Keeps (length g.memory) g.state s → Switching g (after_push g s w)
 unfolding Switching
 push_switching g s (Homes hs) k = record {
   size = pushed_size hs g.memory;
@@ -343,10 +343,10 @@ saved_switching g s p k =
     cond_both (is_block_past g) BlockPast _ (Switching g) (λ e. tt)
     (λ e. record { size = longs_size g.state.pcbb (saved_longs s p) g.memory; keeps = chained (length g.memory) g.state s _ k (interrupt_keeps (length g.memory) s) })
 
-reads_switching : (g : Guest) (next_pc : ℕ) (r : Result Popped Trouble) → Switching g (behind_reads g next_pc r)
+reads_switching : (g : Guest) (next_pc : ℕ) (r : Result Popped Trouble) → Switching g (after_reads g next_pc r)
 unfolding Switching
 reads_switching g next_pc (Err t) = tt
-reads_switching g next_pc (Ok p) = saved_switching g (behind_pops g.state next_pc) p (moved (length g.memory) g.state _ refl refl refl refl refl refl refl refl (λ k. k))
+reads_switching g next_pc (Ok p) = saved_switching g (after_pops g.state next_pc) p (moved (length g.memory) g.state _ refl refl refl refl refl refl refl refl (λ k. k))
 
 saves_switching : (g : Guest) (next_pc : ℕ) → Switching g (saves_context g next_pc)
 unfolding saves_context
@@ -359,7 +359,7 @@ sensed_sensible g t Halt = halt_sensible g t
 sensed_sensible g t Wait = wait_sensible g t
 sensed_sensible g t (Chm to) = chm_sensible g t to
 sensed_sensible g t Rei = rei_sensible g t (outcome (space_of g) (two_popped (slice_index t.regs 14)))
-sensed_sensible g t Mtpr = mtpr_sensible g t t.a (written (behind g.state t) t.b t.a) (written_keeps (length g.memory) (behind g.state t) t.b t.a)
+sensed_sensible g t Mtpr = mtpr_sensible g t t.a (written (past_instruction g.state t) t.b t.a) (written_keeps (length g.memory) (past_instruction g.state t) t.b t.a)
 sensed_sensible g t Mfpr = mfpr_sensible g t (tried (space_of g) (is_clear g) (destination_walked t.dest))
 sensed_sensible g t Ldpctx = switch_sensible g (loads_context g t.next_pc) (loads_switching g t.next_pc)
 sensed_sensible g t Svpctx = switch_sensible g (saves_context g t.next_pc) (saves_switching g t.next_pc)

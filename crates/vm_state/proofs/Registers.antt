@@ -5,7 +5,7 @@ use Rattle.std.proofs.lemmas.Bool.Decides.{nat_tests}
 use Rattle.vax_arch.specs.Rei.{has_must_be_zero_bit}
 use Rattle.vax_arch.specs.Walk.{Tables}
 use Rattle.vm_state.specs.Allowed.{Allows, AreAllowed}
-use Rattle.vm_state.specs.Registers.{Value, Written, after_read, after_write, allows, read, read_by, read_to, register_of, value_of, with_pointer, with_request, write_by, written}
+use Rattle.vm_state.specs.Registers.{Value, Written, after_read, after_write, allows, read, read_or_refused, read_to, register_of, value_of, with_pointer, with_request, write_by, written}
 use Rattle.vm_state.specs.State.{State, stack_in}
 use Rattle.vm_state.specs.declared.register.Register.{Register}
 use Rattle.vm_state.specs.declared.register.Register.TheVariants.{Ksp, Esp, Ssp, Usp, Isp, P0br, P0lr, P1br, P1lr, Sbr, Slr, Pcbb, Scbb, Ipl, Astlvl, Sirr, Sisr, Iccs, Nicr, Icr, Rxcs, Rxdb, Txcs, Txdb, Mapen, Tbia, Tbis, Sid, Kcall, Memsize, Uptime}
@@ -175,7 +175,7 @@ read_one : (size : ℕ) (s : State) (r : Register) (v : Option ℕ) → ReadsKep
 read_one size s r None = tt
 read_one size s r (Some v) = read_keeps size r s
 
-read_any : (size bytes : ℕ) (s : State) (r : Option Register) → ReadsKept size s (read_by bytes s r)
+read_any : (size bytes : ℕ) (s : State) (r : Option Register) → ReadsKept size s (read_or_refused bytes s r)
 read_any size bytes s None = tt
 read_any size bytes s (Some r) = read_one size s r (value_of bytes s r)
 

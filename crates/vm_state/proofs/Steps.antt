@@ -13,8 +13,8 @@ use Rattle.vax_table.specs.Whole.{Act, Meant, Probes, Traps}
 use Rattle.vax_table.specs.Whole as whole
 use Rattle.vax_table.specs.declared.evaluation.Operands.{Operands}
 use Rattle.vm_state.specs.Initiate.{Initiation, KernelStackBad, Stops, Taken, initiate}
-use Rattle.vm_state.specs.Interrupts.{IntervalClock, Kcall, Receiver, Software, Source, Transmitter, due, interrupt_of, level_of, requests, sources, taken}
-use Rattle.vm_state.specs.Laws.{IsKept, ShowsFew, StaysStopped, StepsCount, StepsKeep}
+use Rattle.vm_state.specs.Interrupts.{IntervalClock, Kcall, Receiver, Software, Source, Transmitter, after_interrupt_taken, due, interrupt_of, level_of, requests, sources}
+use Rattle.vm_state.specs.Laws.{ShowsFew, StaysStopped, StepKeeps, StepsCount, StepsKeep}
 use Rattle.vm_state.specs.Probe.{Answers, NotValid, Probed, probe}
 use Rattle.vm_state.specs.Probe as probes
 use Rattle.vm_state.specs.Run.{Run, after_step, after_steps}
@@ -22,7 +22,7 @@ use Rattle.vm_state.specs.Sensitive.{ClearAt, Does, Faults, LacksMemory, Sensed,
 use Rattle.vm_state.specs.State.{Guest, State, pc_of}
 use Rattle.vm_state.specs.Step.{Fault, Interrupt, Kind, Sensitive, SetModify, Stepped, active, by_interrupt, by_try, clear_met, counted, did, executed, faulted, frames_stored, initiated_in, instruction_of, interrupted, probe_kind, probed_as, sensed_as, step, step_by, stepped, stopped, trapped_in, unless_waiting, with_effect}
 use Rattle.vm_state.specs.Stops.{PastMemory, Stop, stop_code, stop_text}
-use Rattle.vm_state.specs.Translation.{is_clear, look, place_of, space_of}
+use Rattle.vm_state.specs.Translation.{guest_write_place, is_clear, look, space_of}
 use Rattle.vm_state.specs.declared.exception.Exc.{Exc}
 use Rattle.vm_state.specs.declared.exception.Exc.TheVariants as excs
 use Rattle.vm_state.proofs.Initiations.{Holds, Initiates, LevelFits, initiate_keeps}
@@ -76,7 +76,7 @@ low_of p = grind arith
 
 effect_holds : (g : Guest) (e : Effect) → Holds g (with_effect g e)
 effect_holds g e = record {
-  size = stores_size (place_of g) e.writes g.memory;
+  size = stores_size (guest_write_place g) e.writes g.memory;
   keeps = moved (length g.memory) g.state _ refl refl refl refl refl refl refl refl (λ k. low_changed g.state.psl (e.psw % 2 ^ 8) (low_of e.psw) k);
 }
 
@@ -151,7 +151,7 @@ first_true true b e = refl
 first_true false b e = cc
 
 -- a request ends; of a software level the bit is there, since initiation leaves the requests
-taken_keeps : (size : ℕ) (x : Source) (s t : State) → HasLevel x → requests s x ≡ true → t.sisr ≡ s.sisr → Keeps size t (taken x t)
+taken_keeps : (size : ℕ) (x : Source) (s t : State) → HasLevel x → requests s x ≡ true → t.sisr ≡ s.sisr → Keeps size t (after_interrupt_taken x t)
 unfolding HasLevel
 taken_keeps size IntervalClock s t h r e = moved size t _ refl refl refl refl refl refl refl refl (λ k. k)
 taken_keeps size Kcall s t h r e = moved size t _ refl refl refl refl refl refl refl refl (λ k. k)
@@ -184,7 +184,7 @@ active_fine g = by_source g (due g.state) refl
 counting : Guest → Guest
 counting g = record g { state = counted g.state }
 
-kept_by : (g h : Guest) → Holds (counting g) h → IsKept g h
+kept_by : (g h : Guest) → Holds (counting g) h → StepKeeps g h
 unfolding counting
 kept_by g h k = record {
   size = k.size;
@@ -192,7 +192,7 @@ kept_by g h k = record {
   allowed = λ a. k.keeps.allowed (record { p0br = a.p0br; p0lr = a.p0lr; p1br = a.p1br; p1lr = a.p1lr; sbr = a.sbr; slr = a.slr; pcbb = a.pcbb; scbb = a.scbb; astlvl = a.astlvl; sisr = a.sisr; psl = a.psl; packets = a.packets; few = a.few });
 }
 
-step_keeps_by : (g : Guest) (x : Option ℕ) → IsKept g (step_by g x).guest
+step_keeps_by : (g : Guest) (x : Option ℕ) → StepKeeps g (step_by g x).guest
 unfolding counting
 step_keeps_by g (Some code) = record { size = refl; modify_faults = refl; allowed = λ h. h }
 step_keeps_by g None = kept_by g _ (active_fine (counting g)).holds

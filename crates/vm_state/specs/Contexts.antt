@@ -7,8 +7,8 @@ use Rattle.vax_arch.specs.Walk.{Tables, is_past}
 use Rattle.vax_arch.specs.declared.mode.Intent.TheVariants.{Read}
 use Rattle.vax_arch.specs.declared.mode.Mode.TheVariants.{Kernel}
 use Rattle.vax_table.specs.Operand.{plus}
-use Rattle.vax_table.specs.Script.{Done, Script, Touch, Trouble, outcome}
-use Rattle.vm_state.specs.Pushes.{Faulty, Homes, PastMemory, Walked, frames_pushed, pointer_behind, push_walked, pushed}
+use Rattle.vax_table.specs.Interaction.{Done, Interaction, Touch, Trouble, outcome}
+use Rattle.vm_state.specs.Pushes.{Faulty, Homes, PastMemory, Walked, frames_pushed, pointer_after, push_walked, pushed}
 use Rattle.vm_state.specs.Registers.{allows, with_ipl}
 use Rattle.vm_state.specs.State.{Guest, State, pointer_of, with_pointer_kept}
 use Rattle.vm_state.specs.Translation.{frame_at, long_stored, space_of}
@@ -19,30 +19,30 @@ use Rattle.vm_state.specs.declared.register.Register.TheVariants.{Astlvl, P0br, 
 abbrev pub block_size : ℕ
 block_size = 96
 
-abbrev pub in_block : Guest → ℕ → ℕ
-in_block g k = long_at g.memory (g.state.pcbb + k)
+abbrev pub control_block_long : Guest → ℕ → ℕ
+control_block_long g k = long_at g.memory (g.state.pcbb + k)
 
 -- so many longwords of it from an offset
 abbrev pub longs_in_block : Guest → (count offset : ℕ) → List ℕ
 longs_in_block g zero offset = []
-longs_in_block g (suc n) offset = in_block g offset ∷ longs_in_block g n (offset + 4)
+longs_in_block g (suc n) offset = control_block_long g offset ∷ longs_in_block g n (offset + 4)
 
 abbrev pub is_block_past : Guest → Bool
 is_block_past g = is_past (length g.memory) g.state.pcbb block_size
 
 -- its tables, on the system's table of before
 abbrev pub loaded_tables : Guest → Tables
-loaded_tables g = record g.state.tables { p0br = in_block g 80; p0lr = in_block g 84 % 2 ^ 22; p1br = in_block g 88; p1lr = in_block g 92 % 2 ^ 22 }
+loaded_tables g = record g.state.tables { p0br = control_block_long g 80; p0lr = control_block_long g 84 % 2 ^ 22; p1br = control_block_long g 88; p1lr = control_block_long g 92 % 2 ^ 22 }
 
 abbrev pub loaded_astlvl : Guest → ℕ
-loaded_astlvl g = in_block g 84 / 2 ^ 24 % 8
+loaded_astlvl g = control_block_long g 84 / 2 ^ 24 % 8
 
 -- a base, length or level that its register doesn't allow, or a reserved bit; bit 31 of P1LR's longword is ignored
 unfoldable pub is_block_reserved : Guest → Bool
 is_block_reserved g =
     let t = loaded_tables g in
     not (allows P0br t.p0br) || not (allows P0lr t.p0lr) || not (allows P1br t.p1br) || not (allows P1lr t.p1lr) || not (allows Astlvl (loaded_astlvl g))
-    || not (in_block g 84 / 2 ^ 27 == 0) || not (in_block g 84 / 2 ^ 22 % 4 == 0) || not (in_block g 92 / 2 ^ 22 % 2 ^ 9 == 0)
+    || not (control_block_long g 84 / 2 ^ 27 == 0) || not (control_block_long g 84 / 2 ^ 22 % 4 == 0) || not (control_block_long g 92 / 2 ^ 22 % 2 ^ 9 == 0)
 
 -- a PSL off the interrupt stack, and on it
 abbrev pub off_interrupt_stack : ℕ → ℕ
@@ -58,7 +58,7 @@ isp_kept s = pointer_of s 4
 -- the state that is loaded, before the push: R14 is KSP, and PC the next instruction's
 unfoldable pub loaded : Guest → (next_pc : ℕ) → State
 loaded g next_pc = record g.state {
-  r = longs_in_block g 14 16 ++ in_block g 0 ∷ next_pc ∷ [];
+  r = longs_in_block g 14 16 ++ control_block_long g 0 ∷ next_pc ∷ [];
   psl = off_interrupt_stack g.state.psl;
   stacks = longs_in_block g 4 0 ++ isp_kept g.state ∷ [];
   tables = loaded_tables g;
@@ -75,18 +75,18 @@ pub data Switched : Type 0 where
   BlockPast : Switched
 
 -- PC and PSL of the block are pushed on the kernel stack under the new tables
-abbrev pub behind_push : Guest → State → Walked → Switched
-behind_push g s (Homes hs) =
-    Switches (record { memory = pushed hs g.memory; state = record s { r = slice_set s.r 14 (pointer_behind (slice_index s.r 14) (in_block g 76 ∷ in_block g 72 ∷ [])) } }) (frames_pushed g.memory hs)
-behind_push g s (Faulty f) = StackTrouble
-behind_push g s PastMemory = BlockPast
+abbrev pub after_push : Guest → State → Walked → Switched
+after_push g s (Homes hs) =
+    Switches (record { memory = pushed hs g.memory; state = record s { r = slice_set s.r 14 (pointer_after (slice_index s.r 14) (control_block_long g 76 ∷ control_block_long g 72 ∷ [])) } }) (frames_pushed g.memory hs)
+after_push g s (Faulty f) = StackTrouble
+after_push g s PastMemory = BlockPast
 
 unfoldable pub loads_context : Guest → (next_pc : ℕ) → Switched
 loads_context g next_pc =
     if is_block_past g then BlockPast else
     if is_block_reserved g then Reserved else
     let s = loaded g next_pc in
-    behind_push g s (push_walked (record g { state = s }) Kernel (slice_index s.r 14) (in_block g 76 ∷ in_block g 72 ∷ []))
+    after_push g s (push_walked (record g { state = s }) Kernel (slice_index s.r 14) (control_block_long g 76 ∷ control_block_long g 72 ∷ []))
 
 -- SVPCTX: PC and PSL are popped from the stack in use
 
@@ -94,7 +94,7 @@ pub record Popped : Type 0 where
   pub pc : ℕ
   pub psl : ℕ
 
-abbrev pub two_popped : ℕ → Script Popped
+abbrev pub two_popped : ℕ → Interaction Popped
 two_popped sp = Touch Read sp 4 (λ pc. Touch Read (plus sp 4) 4 (λ psl. Done (record { pc = pc; psl = psl })))
 
 abbrev pub longs_stored : (at : ℕ) → List ℕ → List ℕ → List ℕ
@@ -119,17 +119,17 @@ on_interrupt s =
     }
 
 -- R14 after the pops, and PC the next instruction's
-abbrev pub behind_pops : State → (next_pc : ℕ) → State
-behind_pops s next_pc = record s { r = slice_set (slice_set s.r 14 (plus (slice_index s.r 14) 8)) 15 next_pc }
+abbrev pub after_pops : State → (next_pc : ℕ) → State
+after_pops s next_pc = record s { r = slice_set (slice_set s.r 14 (plus (slice_index s.r 14) 8)) 15 next_pc }
 
 abbrev pub saved : Guest → State → Popped → Switched
 saved g s p =
     if is_block_past g then BlockPast else
     Switches (record { memory = longs_stored g.state.pcbb (saved_longs s p) g.memory; state = on_interrupt s }) (long_frames g.state.pcbb 20)
 
-abbrev pub behind_reads : Guest → (next_pc : ℕ) → Result Popped Trouble → Switched
-behind_reads g next_pc (Ok p) = saved g (behind_pops g.state next_pc) p
-behind_reads g next_pc (Err t) = PopTrouble t
+abbrev pub after_reads : Guest → (next_pc : ℕ) → Result Popped Trouble → Switched
+after_reads g next_pc (Ok p) = saved g (after_pops g.state next_pc) p
+after_reads g next_pc (Err t) = PopTrouble t
 
 unfoldable pub saves_context : Guest → (next_pc : ℕ) → Switched
-saves_context g next_pc = behind_reads g next_pc (outcome (space_of g) (two_popped (slice_index g.state.r 14)))
+saves_context g next_pc = after_reads g next_pc (outcome (space_of g) (two_popped (slice_index g.state.r 14)))

@@ -8,7 +8,7 @@ use Rattle.vax_arch.specs.Fields.{ipl_of, is_on_interrupt_stack, mode_number}
 use Rattle.vax_arch.specs.Walk.{is_past}
 use Rattle.vax_arch.specs.declared.mode.Mode.{Mode}
 use Rattle.vax_arch.specs.declared.mode.Mode.TheVariants.{Kernel}
-use Rattle.vm_state.specs.Pushes.{Faulty, Homes, PastMemory, Walked, frames_pushed, pointer_behind, push_walked, pushed}
+use Rattle.vm_state.specs.Pushes.{Faulty, Homes, PastMemory, Walked, frames_pushed, pointer_after, push_walked, pushed}
 use Rattle.vm_state.specs.State.{Guest, State, mode_of_state, pc_of, pointer_of, with_pointer_kept}
 use Rattle.vm_state.specs.Stops.{BadVector, InterruptStackBad, Stop}
 use Rattle.vm_state.specs.Stops as stops
@@ -92,17 +92,17 @@ pub data Attempt : Type 0 where
 abbrev pub begun_at : State → Exc → (vector sp : ℕ) → State
 begun_at s e vector sp = record (with_pointer_kept s) { r = slice_set (slice_set s.r 14 sp) 15 (vector / 4 * 4); psl = new_psl s e vector; waiting = false }
 
-abbrev pub behind_walk : Guest → Exc → (vector sp : ℕ) → Walked → Attempt
-behind_walk g e vector sp (Homes hs) =
-    Arrives (record { memory = pushed hs g.memory; state = begun_at g.state e vector (pointer_behind sp (longwords g.state e)) }) (frames_pushed g.memory hs)
-behind_walk g e vector sp (Faulty f) = StackFaulty (uses_interrupt_stack g.state e vector)
-behind_walk g e vector sp PastMemory = Halts stops.PastMemory
+abbrev pub after_walk : Guest → Exc → (vector sp : ℕ) → Walked → Attempt
+after_walk g e vector sp (Homes hs) =
+    Arrives (record { memory = pushed hs g.memory; state = begun_at g.state e vector (pointer_after sp (longwords g.state e)) }) (frames_pushed g.memory hs)
+after_walk g e vector sp (Faulty f) = StackFaulty (uses_interrupt_stack g.state e vector)
+after_walk g e vector sp PastMemory = Halts stops.PastMemory
 
 abbrev pub by_vector : Guest → Exc → ℕ → Attempt
 by_vector g e vector =
     if is_bad_vector e vector then Halts BadVector else
     let sp = pointer_of g.state (new_stack g.state e vector) in
-    behind_walk g e vector sp (push_walked g (new_mode g.state e) sp (longwords g.state e))
+    after_walk g e vector sp (push_walked g (new_mode g.state e) sp (longwords g.state e))
 
 unfoldable pub attempt : Guest → Exc → Attempt
 attempt g e =

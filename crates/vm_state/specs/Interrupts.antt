@@ -43,12 +43,12 @@ unfoldable pub due : State → Option Source
 due s = find (λ source. requests s source && nat_lt (ipl_of s.psl) (level_of source)) sources
 
 -- a request ends where its interrupt is taken
-abbrev pub taken : Source → State → State
-taken IntervalClock s = record s { clock = after_taken s.clock }
-taken Kcall s = record s { kcall_due = false }
-taken Receiver s = record s { console = after_rx_taken s.console }
-taken Transmitter s = record s { console = after_tx_taken s.console }
-taken (Software level) s = record s { sisr = s.sisr - 2 ^ level }
+abbrev pub after_interrupt_taken : Source → State → State
+after_interrupt_taken IntervalClock s = record s { clock = after_taken s.clock }
+after_interrupt_taken Kcall s = record s { kcall_due = false }
+after_interrupt_taken Receiver s = record s { console = after_rx_taken s.console }
+after_interrupt_taken Transmitter s = record s { console = after_tx_taken s.console }
+after_interrupt_taken (Software level) s = record s { sisr = s.sisr - 2 ^ level }
 
 abbrev pub interrupt_of : Source → Exc
 interrupt_of source = Interrupt (level_of source) (vector_of source)

@@ -19,13 +19,13 @@ StaysStopped = (g : Guest) (code : ℕ) → g.state.halt ≡ Some code → step 
 
 -- What a step keeps: the size of memory, whether there are modify faults, and that registers have allowed values; it
 -- counts itself, whatever it is, where the guest runs.
-pub record IsKept (g h : Guest) : Type 0 where
+pub record StepKeeps (g h : Guest) : Type 0 where
   pub size : length h.memory ≡ length g.memory
   pub modify_faults : h.state.modify_faults ≡ g.state.modify_faults
   pub allowed : AreAllowed (length g.memory) g.state → AreAllowed (length g.memory) h.state
 
 abbrev pub StepsKeep : Type 0
-StepsKeep = (g : Guest) → IsKept g (step g).guest
+StepsKeep = (g : Guest) → StepKeeps g (step g).guest
 
 abbrev pub StepsCount : Type 0
 StepsCount = (g : Guest) → g.state.halt ≡ None → (step g).guest.state.steps ≡ (g.state.steps + 1) % 2 ^ 32

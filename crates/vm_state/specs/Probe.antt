@@ -11,7 +11,7 @@ use Rattle.vax_arch.specs.declared.walk.Lookup.{Lookup}
 use Rattle.vax_arch.specs.declared.walk.Lookup.TheVariants.{Beyond, Direct, Fails, Found}
 use Rattle.vax_table.specs.Probing.{last_of, probe_mode}
 use Rattle.vm_state.specs.State.{Guest}
-use Rattle.vm_state.specs.Translation.{fault, look}
+use Rattle.vm_state.specs.Translation.{look, memory_fault}
 use Rattle.vm_state.specs.declared.walk.MemFault.{MemFault}
 
 -- Whether the byte, or both, are accessible, and whether that is plain: found, valid and with a frame in memory. Or a
@@ -29,7 +29,7 @@ by_entry size entry m i = Answers (open_of (protection_of entry) m i) (is_valid 
 abbrev pub probed_by : Guest → (va : ℕ) → Mode → Intent → Lookup → Probed
 probed_by g va m i (Found place table) = by_entry (length g.memory) (long_at g.memory place) m i
 probed_by g va m i (Direct frame) = Answers true true
-probed_by g va m i (Fails true parameter) = NotValid (fault true va parameter i)
+probed_by g va m i (Fails true parameter) = NotValid (memory_fault true va parameter i)
 probed_by g va m i (Fails false parameter) = Answers false false
 probed_by g va m i Beyond = if g.state.tables.mapped then PastMemory else Answers false false
 

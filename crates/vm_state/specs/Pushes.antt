@@ -29,9 +29,9 @@ pushed_bytes sp [] = []
 pushed_bytes sp (v ∷ vs) = bytes_from 4 (minus sp 4) v ++ pushed_bytes (minus sp 4) vs
 
 -- the stack pointer after the pushes
-abbrev pub pointer_behind : ℕ → List ℕ → ℕ
-pointer_behind sp [] = sp
-pointer_behind sp (v ∷ vs) = pointer_behind (minus sp 4) vs
+abbrev pub pointer_after : ℕ → List ℕ → ℕ
+pointer_after sp [] = sp
+pointer_after sp (v ∷ vs) = pointer_after (minus sp 4) vs
 
 -- where a byte goes: its place, and that of its page's entry, of which there is none with mapping off
 pub record Home : Type 0 where

@@ -13,8 +13,8 @@ use Rattle.vm_state.specs.declared.register.Register.TheVariants.{Ksp, Esp, Ssp,
 use Rattle.vm_state.specs.declared.register.ReservedOperand.{ReservedOperand}
 
 -- the registers by their numbers
-abbrev pub numbered : List (ℕ × Register)
-numbered =
+abbrev pub numbered_registers : List (ℕ × Register)
+numbered_registers =
     (0, Ksp) ∷ (1, Esp) ∷ (2, Ssp) ∷ (3, Usp) ∷ (4, Isp)
     ∷ (8, P0br) ∷ (9, P0lr) ∷ (10, P1br) ∷ (11, P1lr) ∷ (12, Sbr) ∷ (13, Slr)
     ∷ (16, Pcbb) ∷ (17, Scbb) ∷ (18, Ipl) ∷ (19, Astlvl) ∷ (20, Sirr) ∷ (21, Sisr)
@@ -24,7 +24,7 @@ numbered =
     ∷ (200, Kcall) ∷ (201, Memsize) ∷ (202, Uptime) ∷ []
 
 unfoldable pub register_of : ℕ → Option Register
-register_of number = option_map (λ line. line.1) (find (λ line. line.0 == number) numbered)
+register_of number = option_map (λ line. line.1) (find (λ line. line.0 == number) numbered_registers)
 
 -- the stack of a stack pointer's register
 abbrev pub with_pointer : ℕ → ℕ → State → State
@@ -184,9 +184,9 @@ abbrev pub read_to : State → Register → Option ℕ → Result Value Reserved
 read_to s register None = Err (record {})
 read_to s register (Some v) = Ok (record { value = v; state = after_read register s })
 
-abbrev pub read_by : ℕ → State → Option Register → Result Value ReservedOperand
-read_by size s None = Err (record {})
-read_by size s (Some register) = read_to s register (value_of size s register)
+abbrev pub read_or_refused : ℕ → State → Option Register → Result Value ReservedOperand
+read_or_refused size s None = Err (record {})
+read_or_refused size s (Some register) = read_to s register (value_of size s register)
 
 unfoldable pub read : (size : ℕ) → State → (number : ℕ) → Result Value ReservedOperand
-read size s number = read_by size s (register_of number)
+read size s number = read_or_refused size s (register_of number)

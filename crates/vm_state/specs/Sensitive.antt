@@ -10,7 +10,7 @@ use Rattle.vax_arch.specs.declared.mode.Mode.{Mode}
 use Rattle.vax_table.specs.Arithmetic.{alu_of}
 use Rattle.vax_table.specs.Claims.{addresses}
 use Rattle.vax_table.specs.Operand.{plus}
-use Rattle.vax_table.specs.Script.{At, Done, Script, Test, Touch, Trouble, outcome}
+use Rattle.vax_table.specs.Interaction.{At, Done, Interaction, Test, Touch, Trouble, outcome}
 use Rattle.vax_table.specs.Stores.{bytes_stored}
 use Rattle.vax_table.specs.Tries.{Clear, Completes, Stopped, Tried, tried}
 use Rattle.vax_table.specs.declared.act.Dest.{Dest}
@@ -28,7 +28,7 @@ use Rattle.vm_state.specs.Pushes.{Faulty, Homes, PastMemory, Walked, push_walked
 use Rattle.vm_state.specs.Registers.{Value, Written, read, written}
 use Rattle.vm_state.specs.State.{Guest, State, mode_of_state, pointer_of, stack_in, with_pointer_kept}
 use Rattle.vm_state.specs.Stops.{ChangedMode, Halted, Stop, stop_code, stop_text}
-use Rattle.vm_state.specs.Translation.{frame_at, is_clear, long_stored, place_of, space_of, walk_of}
+use Rattle.vm_state.specs.Translation.{frame_at, guest_write_place, is_clear, long_stored, space_of, walk_of}
 use Rattle.vm_state.specs.declared.exception.Exc.{Exc}
 use Rattle.vm_state.specs.declared.exception.Exc.TheVariants as excs
 use Rattle.vm_state.specs.declared.register.Effect.{Effect}
@@ -50,11 +50,11 @@ pub data Sensed : Type 0 where
   LacksMemory : Sensed
 
 -- the registers with the operands' side effects, and PC after the instruction
-abbrev pub behind : State → Trapped → State
-behind s t = record s { r = t.regs ++ t.next_pc ∷ [] }
+abbrev pub past_instruction : State → Trapped → State
+past_instruction s t = record s { r = t.regs ++ t.next_pc ∷ [] }
 
-abbrev pub guest_behind : Guest → Trapped → Guest
-guest_behind g t = record g { state = behind g.state t }
+abbrev pub guest_past_instruction : Guest → Trapped → Guest
+guest_past_instruction g t = record g { state = past_instruction g.state t }
 
 -- the fault that a trouble is: of a byte, what the guest's walk says there
 abbrev pub fault_of : Walk → Sensed
@@ -80,34 +80,34 @@ moved_psl psl v = psl / 2 ^ 8 * 2 ^ 8 + (alu_of Move v 0 Long (psl % 2 ^ 8)).psw
 -- HALT stops the guest, with PC after it
 abbrev pub halted : Guest → Trapped → Sensed
 halted g t =
-    let h = guest_behind g t in
+    let h = guest_past_instruction g t in
     Does (record h { state = record h.state { halt = Some (stop_code Halted) } }) (stop_text (stop_code Halted) t.next_pc) []
 
 -- WAIT: the guest waits for an interrupt
 abbrev pub waited : Guest → Trapped → Sensed
-waited g t = let h = guest_behind g t in Does (record h { state = record h.state { waiting = true } }) [] []
+waited g t = let h = guest_past_instruction g t in Does (record h { state = record h.state { waiting = true } }) [] []
 
 -- CHM. Once it is initiated, it completes: by its own vector, by vector 08 where the kernel stack is bad, or with a stop.
-abbrev pub changed : Initiation → Sensed
-changed (Taken h written) = Does h [] written
-changed (KernelStackBad h written) = Does h [] written
-changed (Stops stop) = StopsThere stop
+abbrev pub mode_changed : Initiation → Sensed
+mode_changed (Taken h written) = Does h [] written
+mode_changed (KernelStackBad h written) = Does h [] written
+mode_changed (Stops stop) = StopsThere stop
 
 -- It is initiated where its push was walked without trouble; a fault of that walk is CHM's own, before it does anything.
 abbrev pub chm_walked : Initiation → Walked → Sensed
-chm_walked i (Homes hs) = changed i
+chm_walked i (Homes hs) = mode_changed i
 chm_walked i (Faulty f) = Faults (excs.Memory f)
 chm_walked i PastMemory = LacksMemory
 
 abbrev pub change_mode : Guest → Trapped → Mode → Sensed
 change_mode g t to =
-    let h = guest_behind g t in
+    let h = guest_past_instruction g t in
     let e = excs.Chm to t.a in
     let m = new_mode g.state e in
     -- on the interrupt stack: a stop of the guest
     if is_on_interrupt_stack g.state.psl then StopsThere ChangedMode else
     -- to kernel mode: its initiation, which sees to a bad kernel stack
-    if mode_number m == 0 then changed (initiate h e) else
+    if mode_number m == 0 then mode_changed (initiate h e) else
     -- to another mode: a walk of what it pushes on that mode's stack, and then its initiation
     chm_walked (initiate h e) (push_walked h m (pointer_of h.state (mode_number m)) (g.state.psl ∷ t.next_pc ∷ t.a ∷ []))
 
@@ -115,8 +115,8 @@ change_mode g t to =
 
 -- the software levels that are requested after a return to a PSL: level 2 too, where its mode is at least ASTLVL and not on
 -- the interrupt stack
-abbrev pub requests_behind : State → (psl : ℕ) → ℕ
-requests_behind s psl = if nat_le s.astlvl (mode_number (current_of psl)) && not (is_on_interrupt_stack psl) && not (s.sisr / 4 % 2 == 1) then s.sisr + 4 else s.sisr
+abbrev pub requests_after : State → (psl : ℕ) → ℕ
+requests_after s psl = if nat_le s.astlvl (mode_number (current_of psl)) && not (is_on_interrupt_stack psl) && not (s.sisr / 4 % 2 == 1) then s.sisr + 4 else s.sisr
 
 -- The pointer after the two longwords is kept in its register, and R14 is the new stack's.
 abbrev pub returned_to : State → Popped → State
@@ -125,14 +125,14 @@ returned_to s p =
     record kept {
       r = slice_set (slice_set kept.r 14 (slice_index kept.stacks (stack_in p.psl))) 15 p.pc;
       psl = p.psl;
-      sisr = requests_behind s p.psl;
+      sisr = requests_after s p.psl;
     }
 
 abbrev pub rei_by : Guest → Trapped → Result Popped Trouble → Sensed
 rei_by g t (Err trouble) = troubled g trouble
 rei_by g t (Ok p) =
     if rei_refuses g.state.psl p.psl then Faults excs.ReservedOperand else
-    Does (record g { state = returned_to (behind g.state t) p }) [] []
+    Does (record g { state = returned_to (past_instruction g.state t) p }) [] []
 
 abbrev pub return_from : Guest → Trapped → Sensed
 return_from g t = rei_by g t (outcome (space_of g) (two_popped (slice_index t.regs 14)))
@@ -158,33 +158,33 @@ mtpr_by g v (Err refused) = Faults excs.ReservedOperand
 mtpr_by g v (Ok w) = with_register_effect g (with_codes v w.state) w.effect
 
 abbrev pub move_to_register : Guest → Trapped → Sensed
-move_to_register g t = mtpr_by g t.a (written (behind g.state t) t.b t.a)
+move_to_register g t = mtpr_by g t.a (written (past_instruction g.state t) t.b t.a)
 
 -- MFPR: the register's number, and a destination, which is walked for writing before the number is tested
-abbrev pub destination_walked : Dest → Script ℕ
+abbrev pub destination_walked : Dest → Interaction ℕ
 destination_walked Nowhere = Done 0
 destination_walked (Register n) = Done 0
 destination_walked (Memory at) = Touch Write at 4 (λ old. Done old)
 
 abbrev pub frames_of_bytes : Guest → List ℕ → List ℕ
 frames_of_bytes g [] = []
-frames_of_bytes g (va ∷ vas) = frame_at (place_of g va) ∷ frames_of_bytes g vas
+frames_of_bytes g (va ∷ vas) = frame_at (guest_write_place g va) ∷ frames_of_bytes g vas
 
 abbrev pub put_at : Guest → Dest → Value → Sensed
 put_at g Nowhere v = Does (record g { state = with_codes v.value v.state }) [] []
 put_at g (Register n) v = Does (record g { state = with_codes v.value (record v.state { r = slice_set v.state.r n v.value }) }) [] []
 put_at g (Memory at) v =
-    Does (record { memory = bytes_stored (place_of g) 4 at v.value g.memory; state = with_codes v.value v.state }) [] (frames_of_bytes g (addresses 4 at))
+    Does (record { memory = bytes_stored (guest_write_place g) 4 at v.value g.memory; state = with_codes v.value v.state }) [] (frames_of_bytes g (addresses 4 at))
 
-abbrev pub behind_read : Guest → Dest → Option ℕ → Result Value ReservedOperand → Sensed
-behind_read g dest clear (Err refused) = Faults excs.ReservedOperand
-behind_read g dest (Some va) (Ok v) = ClearAt va
-behind_read g dest None (Ok v) = put_at g dest v
+abbrev pub after_register_read : Guest → Dest → Option ℕ → Result Value ReservedOperand → Sensed
+after_register_read g dest clear (Err refused) = Faults excs.ReservedOperand
+after_register_read g dest (Some va) (Ok v) = ClearAt va
+after_register_read g dest None (Ok v) = put_at g dest v
 
 abbrev pub mfpr_by : Guest → Trapped → Tried ℕ → Sensed
 mfpr_by g t (Stopped trouble) = troubled g trouble
-mfpr_by g t (Clear va) = behind_read g t.dest (Some va) (read (length g.memory) (behind g.state t) t.a)
-mfpr_by g t (Completes old) = behind_read g t.dest None (read (length g.memory) (behind g.state t) t.a)
+mfpr_by g t (Clear va) = after_register_read g t.dest (Some va) (read (length g.memory) (past_instruction g.state t) t.a)
+mfpr_by g t (Completes old) = after_register_read g t.dest None (read (length g.memory) (past_instruction g.state t) t.a)
 
 abbrev pub move_from_register : Guest → Trapped → Sensed
 move_from_register g t = mfpr_by g t (tried (space_of g) (is_clear g) (destination_walked t.dest))

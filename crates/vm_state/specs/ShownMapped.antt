@@ -1,7 +1,7 @@
 -- Worked examples of steps over page tables, by computation. Numbers are hexadecimal in the comments.
 use Rattle.std.specs.Prelude.{ℕ, Some, List, [], codes, refl, slice_index, true, ◌∷◌, ◌≡◌}
 use Rattle.vax_arch.specs.Walk.{Tables}
-use Rattle.vm_clock.specs.Clock.{initial_state}
+use Rattle.vm_clock.specs.Clock.{initial_clock}
 use Rattle.vm_state.specs.ShownSetup.{Seen, after, behind_steps, below, entry_4, guest_m, kinds, longs_at, seen, tables_m, whole_step, with_clock, with_isp, with_memory, with_register, with_tables}
 use Rattle.vm_state.specs.State.{Guest}
 use Rattle.vm_state.specs.Step.{Fault, Plain, SetModify, Stepped, step}
@@ -107,7 +107,7 @@ stores_twice =
 
 -- and the clock runs
 abbrev stores_and_counts : Guest
-stores_and_counts = with_clock (record initial_state { run = true }) stores_twice
+stores_and_counts = with_clock (record initial_clock { run = true }) stores_twice
 
 -- and the guest has modify faults, by a vector of their own
 abbrev stores_with_faults : Guest

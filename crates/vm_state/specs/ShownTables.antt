@@ -2,7 +2,7 @@
 -- comments.
 use Rattle.std.specs.Prelude.{Bool, None, Some, [], false, refl, true, ℕ, ◌∷◌, ◌≡◌}
 use Rattle.vax_arch.specs.declared.mode.Mode.TheVariants.{Executive, Kernel, Supervisor, User}
-use Rattle.vm_clock.specs.Clock.{ClockState, initial_state}
+use Rattle.vm_clock.specs.Clock.{ClockState, initial_clock}
 use Rattle.vm_console.specs.Console.{ConsoleState}
 use Rattle.vm_state.specs.Initiate.{parameters, vector_offset}
 use Rattle.vm_state.specs.Interrupts.{IntervalClock, Kcall, Receiver, Software, Transmitter, due}
@@ -38,7 +38,7 @@ console rx_request = record { waiting = 65 ∷ []; rx_enable = true; rx_request 
 
 -- a clock that requests an interrupt
 abbrev due_clock : ClockState
-due_clock = record initial_state { enable = true; request = true }
+due_clock = record initial_clock { enable = true; request = true }
 
 -- what is pending
 pub pending :
@@ -59,10 +59,10 @@ pending = (refl, refl, refl, refl, refl, refl, refl, refl)
 
 -- a running clock whose interrupt bit is set still, at its last count
 abbrev wrapping : ClockState
-wrapping = record initial_state { run = true; enable = true; interrupt = true; nicr = 5; icr = 0xffffffff }
+wrapping = record initial_clock { run = true; enable = true; interrupt = true; nicr = 5; icr = 0xffffffff }
 
 abbrev wrapped : ClockState
-wrapped = record initial_state { run = true; enable = true; interrupt = true; error = true; request = true; nicr = 5; icr = 5 }
+wrapped = record initial_clock { run = true; enable = true; interrupt = true; error = true; request = true; nicr = 5; icr = 5 }
 
 -- the clock of a step: it wraps, which is an error, and requests an interrupt, which IPL 31 holds
 pub clock : (behind_steps 1 (with_clock wrapping (with_psl 0x001f0000 (guest_u (0x01 ∷ 0x01 ∷ []))))).state.clock ≡ wrapped

@@ -1,6 +1,6 @@
 -- Worked examples of steps with mapping off, by computation. Numbers are hexadecimal in the comments.
 use Rattle.std.specs.Prelude.{ℕ, Some, List, [], codes, refl, slice_index, true, ◌+◌, ◌∷◌, ◌≡◌}
-use Rattle.vm_clock.specs.Clock.{initial_state}
+use Rattle.vm_clock.specs.Clock.{initial_clock}
 use Rattle.vm_state.specs.ShownSetup.{Seen, after, behind_steps, below, guest_u, kinds, seen, whole_step, with_clock, with_isp, with_memory, with_psl, with_register}
 use Rattle.vm_state.specs.State.{Guest}
 use Rattle.vm_state.specs.Step.{Fault, Idle, Interrupt, Sensitive, Stopped, step}
@@ -84,7 +84,7 @@ unmapped = (refl, refl, refl, refl, refl, refl, refl, refl, refl, refl, refl, re
 -- WAIT, with a clock that wraps at the tenth step
 abbrev waits : Guest
 waits =
-    let running = record initial_state { run = true; enable = true; nicr = 0xfffffff6; icr = 0xfffffff6 } in
+    let running = record initial_clock { run = true; enable = true; nicr = 0xfffffff6; icr = 0xfffffff6 } in
     with_clock running (guest_u (0xfd ∷ 0x01 ∷ []))
 
 -- MTPR #3,#SIRR

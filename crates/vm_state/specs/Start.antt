@@ -7,8 +7,8 @@ use Rattle.vm_console.specs.Console as console
 use Rattle.vm_state.specs.State.{State}
 
 -- memory of a size, zero but for an image
-unfoldable pub opening : ℕ → ℕ → List ℕ → List ℕ
-opening size load image = replicate load 0 ++ image ++ replicate (size - (load + length image)) 0
+unfoldable pub memory_with_image : ℕ → ℕ → List ℕ → List ℕ
+memory_with_image size load image = replicate load 0 ++ image ++ replicate (size - (load + length image)) 0
 
 -- R0 to R14 are 0, and PC is the start address
 abbrev pub start_registers : ℕ → List ℕ
@@ -29,8 +29,8 @@ started start modify_faults = record {
   scbb = 0;
   astlvl = 4;
   sisr = 0;
-  clock = clock.initial_state;
-  console = console.initial_state;
+  clock = clock.initial_clock;
+  console = console.initial_console;
   kcall_due = false;
   queue = [];
   waiting = false;

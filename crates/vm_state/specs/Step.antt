@@ -7,7 +7,7 @@ use Rattle.vax_arch.specs.Walk.{page_of}
 use Rattle.vax_table.specs.Claims.{addresses}
 use Rattle.vax_table.specs.Effects.{Effect, long_of}
 use Rattle.vax_table.specs.Plan.{probed}
-use Rattle.vax_table.specs.Script.{At, Script, Test, Trouble, outcome, reached}
+use Rattle.vax_table.specs.Interaction.{At, Interaction, Test, Trouble, outcome, reached}
 use Rattle.vax_table.specs.Stores.{all_stored}
 use Rattle.vax_table.specs.Trail.{term}
 use Rattle.vax_table.specs.Tries.{Clear, Completes, Tried, tried}
@@ -18,13 +18,13 @@ use Rattle.vax_table.specs.declared.effect.Store.{Store}
 use Rattle.vax_table.specs.declared.evaluation.Operands.{Operands}
 use Rattle.vm_clock.specs.Clock.{after_tick}
 use Rattle.vm_state.specs.Initiate.{Initiation, KernelStackBad, Stops, Taken, initiate}
-use Rattle.vm_state.specs.Interrupts.{Source, due, interrupt_of, taken}
+use Rattle.vm_state.specs.Interrupts.{Source, after_interrupt_taken, due, interrupt_of}
 use Rattle.vm_state.specs.Probe.{Answers, NotValid, Probed, probe}
 use Rattle.vm_state.specs.Probe as probes
 use Rattle.vm_state.specs.Sensitive.{ClearAt, Does, Faults, LacksMemory, Sensed, StopsThere, frames_of_bytes, sensed, troubled}
 use Rattle.vm_state.specs.State.{Guest, State, mode_of_state, pc_of}
 use Rattle.vm_state.specs.Stops.{PastMemory, Stop, stop_code, stop_text}
-use Rattle.vm_state.specs.Translation.{is_clear, look, marked_by, marks_by, place_of, space_of}
+use Rattle.vm_state.specs.Translation.{guest_write_place, is_clear, look, marked_by, marks_by, space_of}
 use Rattle.vm_state.specs.declared.exception.Exc.{Exc}
 use Rattle.vm_state.specs.declared.exception.Exc.TheVariants as excs
 
@@ -95,7 +95,7 @@ frames_stored g (x ∷ xs) = frames_of_bytes g (addresses (size_of x.width) x.va
 
 -- the guest after a plain instruction: its stores are made in order, at the places of before the first
 abbrev pub with_effect : Guest → Effect → Guest
-with_effect g e = record { memory = all_stored (place_of g) e.writes g.memory; state = record g.state { r = e.r; psl = with_psw g.state.psl e.psw } }
+with_effect g e = record { memory = all_stored (guest_write_place g) e.writes g.memory; state = record g.state { r = e.r; psl = with_psw g.state.psl e.psw } }
 
 -- its arithmetic trap is initiated after it, in the same step
 abbrev pub trapped_in : Kind → List ℕ → Guest → Option ℕ → Stepped
@@ -131,7 +131,7 @@ by_try g (Clear va) = clear_met g va
 by_try g (tries.Stopped trouble) = sensed_as g (troubled g trouble)
 
 -- the instruction at PC, in the guest's mode and with its PSL
-abbrev pub instruction_of : State → Script Meant
+abbrev pub instruction_of : State → Interaction Meant
 instruction_of s = instruction (is_kernel_mode (mode_of_state s)) s.psl s.r
 
 -- the pages of the bytes that were asked for, of which the last has trouble where an access does
@@ -140,7 +140,7 @@ pages_touched vas (Err (At cause i va)) = record { found = map page_of (take (le
 pages_touched vas (Err (Test refusal)) = record { found = map page_of vas; lacking = [] }
 pages_touched vas (Ok a) = record { found = map page_of vas; lacking = [] }
 
-abbrev pub touched_by : Guest → Script Meant → Touched
+abbrev pub touched_by : Guest → Interaction Meant → Touched
 touched_by g m = pages_touched (reached (space_of g) m) (outcome (space_of g) m)
 
 -- the instruction at PC completes, or its first trouble counts
@@ -151,7 +151,7 @@ executed g =
 
 -- an interrupt is taken, and its request ends; where it isn't taken itself, the request stays
 abbrev pub interrupted : Guest → Source → Initiation → Stepped
-interrupted g source (Taken h written) = stepped (record h { state = taken source h.state }) [] Interrupt written
+interrupted g source (Taken h written) = stepped (record h { state = after_interrupt_taken source h.state }) [] Interrupt written
 interrupted g source (KernelStackBad h written) = stepped h [] Interrupt written
 interrupted g source (Stops stop) = stopped g stop Interrupt
 

@@ -27,8 +27,8 @@ pub record Present : Type 0 where
 abbrev pub is_system : ℕ → Bool
 is_system page = region_of page == 2
 
-abbrev pub holds : ℕ → List ℕ → Bool
-holds page pages = list_any (λ p. p == page) pages
+abbrev pub has_page : ℕ → List ℕ → Bool
+has_page page pages = list_any (λ p. p == page) pages
 
 -- the context that is used moves to the front; a fifth drops the last
 abbrev pub no_pages : Context → Process
@@ -54,14 +54,14 @@ front_pages [] = []
 front_pages (p ∷ ps) = p.pages
 
 abbrev pub is_present : ℕ → Present → Bool
-is_present page p = if is_system page then holds page p.system else holds page (front_pages p.processes)
+is_present page p = if is_system page then has_page page p.system else has_page page (front_pages p.processes)
 
 abbrev pub with_front : ℕ → List Process → List Process
 with_front page [] = []
 with_front page (p ∷ ps) = record p { pages = page ∷ p.pages } ∷ ps
 
-abbrev pub added : ℕ → Present → Present
-added page p = if is_system page then record p { system = page ∷ p.system } else record p { processes = with_front page p.processes }
+abbrev pub with_present_page : ℕ → Present → Present
+with_present_page page p = if is_system page then record p { system = page ∷ p.system } else record p { processes = with_front page p.processes }
 
 -- what is present, and the count
 pub record Touching : Type 0 where
@@ -70,7 +70,7 @@ pub record Touching : Type 0 where
 
 -- a touched page that isn't present counts 1, and is added where it has a frame
 abbrev pub found_one : Touching → ℕ → Touching
-found_one t page = if is_present page t.present then t else record { present = added page t.present; count = t.count + 1 }
+found_one t page = if is_present page t.present then t else record { present = with_present_page page t.present; count = t.count + 1 }
 
 abbrev pub found_all : List ℕ → Touching → Touching
 found_all [] t = t
@@ -92,7 +92,7 @@ frames_read (Fails not_valid parameter) = []
 frames_read Beyond = []
 
 abbrev pub have_common : List ℕ → List ℕ → Bool
-have_common xs ys = list_any (λ x. holds x ys) xs
+have_common xs ys = list_any (λ x. has_page x ys) xs
 
 -- pages of a context, on the guest's system table
 abbrev pub under : Guest → Context → Tables

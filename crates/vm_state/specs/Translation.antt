@@ -11,8 +11,8 @@ use Rattle.vax_arch.specs.declared.walk.Grant.{Grant}
 use Rattle.vax_arch.specs.declared.walk.Grant.TheVariants.{Absent, Granted, Past, Refused}
 use Rattle.vax_arch.specs.declared.walk.Lookup.{Lookup}
 use Rattle.vax_arch.specs.declared.walk.Lookup.TheVariants.{Beyond, Direct, Fails, Found}
-use Rattle.vax_table.specs.Script.{Cause, Space, cause_of}
-use Rattle.vax_table.specs.Script as script
+use Rattle.vax_table.specs.Interaction.{Cause, Space, cause_of}
+use Rattle.vax_table.specs.Interaction as interaction
 use Rattle.vax_table.specs.Stores.{bytes_stored}
 use Rattle.vm_state.specs.State.{Guest, mode_of_state}
 use Rattle.vm_state.specs.declared.walk.MemFault.{MemFault}
@@ -23,21 +23,21 @@ use Rattle.vm_state.specs.declared.walk.Walk.TheVariants as walks
 abbrev pub look : Guest → ℕ → Lookup
 look g page = lookup (length g.memory) g.memory g.state.tables page
 
-abbrev pub fault : Bool → ℕ → ℕ → Intent → MemFault
-fault not_valid va parameter i = record { not_valid = not_valid; va = va; param = parameter + write_bit i }
+abbrev pub memory_fault : Bool → ℕ → ℕ → Intent → MemFault
+memory_fault not_valid va parameter i = record { not_valid = not_valid; va = va; param = parameter + write_bit i }
 
 -- what the entry at a place gives for an address
 abbrev pub at_entry : (va : ℕ) → Intent → (place : ℕ) → (table : Option ℕ) → Grant → Walk
 at_entry va i place table (Granted frame) = walks.Frame (512 * frame + va % 512) (Some place) table
-at_entry va i place table Refused = walks.Fault (fault false va 0 i)
-at_entry va i place table Absent = walks.Fault (fault true va 0 i)
+at_entry va i place table Refused = walks.Fault (memory_fault false va 0 i)
+at_entry va i place table Absent = walks.Fault (memory_fault true va 0 i)
 at_entry va i place table Past = walks.Beyond
 
 -- what a look-up gives for an address
 abbrev pub walk_by : Guest → (va : ℕ) → Mode → Intent → Lookup → Walk
 walk_by g va m i (Found place table) = at_entry va i place table (granted open_of (length g.memory) (long_at g.memory place) m i)
 walk_by g va m i (Direct frame) = walks.Frame va None None
-walk_by g va m i (Fails not_valid parameter) = walks.Fault (fault not_valid va parameter i)
+walk_by g va m i (Fails not_valid parameter) = walks.Fault (memory_fault not_valid va parameter i)
 walk_by g va m i Beyond = walks.Beyond
 
 -- an address translated, in a mode, for reading or for writing
@@ -45,26 +45,26 @@ unfoldable pub walk_of : Guest → (va : ℕ) → Mode → Intent → Walk
 walk_of g va m i = walk_by g va m i (look g (page_of va))
 
 -- The guest as a space for its instructions, in a mode: the byte at an address, or why there is none.
-abbrev pub byte_by : List ℕ → Walk → Result ℕ Cause
-byte_by memory (walks.Frame pa entry table) = Ok (slice_index memory pa)
-byte_by memory (walks.Fault f) = Err (cause_of f.not_valid)
-byte_by memory walks.Beyond = Err script.Past
+abbrev pub walked_byte : List ℕ → Walk → Result ℕ Cause
+walked_byte memory (walks.Frame pa entry table) = Ok (slice_index memory pa)
+walked_byte memory (walks.Fault f) = Err (cause_of f.not_valid)
+walked_byte memory walks.Beyond = Err interaction.Past
 
 abbrev pub space_in : Guest → Mode → Space
-space_in g m i va = byte_by g.memory (walk_of g va m i)
+space_in g m i va = walked_byte g.memory (walk_of g va m i)
 
 -- in its own mode
 abbrev pub space_of : Guest → Space
 space_of g = space_in g (mode_of_state g.state)
 
 -- where a byte that may be written lies; another one lies nowhere in memory
-abbrev pub place_by : List ℕ → Walk → ℕ
-place_by memory (walks.Frame pa entry table) = pa
-place_by memory (walks.Fault f) = length memory
-place_by memory walks.Beyond = length memory
+abbrev pub walked_place : List ℕ → Walk → ℕ
+walked_place memory (walks.Frame pa entry table) = pa
+walked_place memory (walks.Fault f) = length memory
+walked_place memory walks.Beyond = length memory
 
-abbrev pub place_of : Guest → ℕ → ℕ
-place_of g va = place_by g.memory (walk_of g va (mode_of_state g.state) intents.Write)
+abbrev pub guest_write_place : Guest → ℕ → ℕ
+guest_write_place g va = walked_place g.memory (walk_of g va (mode_of_state g.state) intents.Write)
 
 -- Modify bits.
 

@@ -3,12 +3,12 @@ use Rattle.std.proofs.Common.{◌≡◌, ℕ, Bool, true, false, List, [], ◌++
 use Rattle.std.specs.Prelude.{if◌then◌else◌}
 use Rattle.vax_hw.specs.Machine.{Machine}
 use Rattle.vm_console.proofs.Composes.{Appends-append, Appends-nil}
-use Rattle.vm_shadow.specs.Stands.{Shadowed}
+use Rattle.vm_shadow.specs.Shadowed.{Shadowed}
 use Rattle.vm_shadow.specs.StandsFor.{StandsFor}
-use Rattle.vm_simulation.specs.Bursts.{after_counted}
+use Rattle.vm_simulation_laws.specs.Bursts.{after_counted}
 use Rattle.vm_state.specs.Run.{Run, after_steps}
 use Rattle.vm_state.specs.declared.guest_state.GuestState.{GuestState}
-use Rattle.vm_stepping.specs.Advances.{Advances, Proceeds, behind}
+use Rattle.vm_stepping.specs.Advances.{Advances, Proceeds, after_left_steps}
 use Rattle.vm_stepping.specs.Made.{no_counts, run_of}
 use Rattle.vm_stepping.specs.declared.counts.Counts.{Counts}
 use Rattle.vm_stepping.specs.declared.turns.Left.{Left}
@@ -36,7 +36,7 @@ then_more may l l1 l2 p p1 p2 m s g c m1 s1 g1 c1 m2 s2 g2 c2 stands x y =
     let fewer_two = y.fewer in
     record {
       text = x.text ++ y.text;
-      run = λ shown. x.run shown ∙ y.run (shown ++ x.text) ∙ ap (λ z. behind l2 (run_of m2.memory g2 c2 z)) (append_assoc shown x.text y.text);
+      run = λ shown. x.run shown ∙ y.run (shown ++ x.text) ∙ ap (λ z. after_left_steps l2 (run_of m2.memory g2 c2 z)) (append_assoc shown x.text y.text);
       shows = Appends-append may p p1 p2 x.text y.text x.shows y.shows;
       goes = goes_then m s g m1 s1 g1 m2 s2 g2 stands x.goes y.goes;
       kinds = omega (arith, one, two);

@@ -7,9 +7,9 @@ use Rattle.vm_clock.specs.Clock.{ClockState}
 use Rattle.vm_clock.specs.Ticks.{after_ticks, ticks_to_wrap}
 use Rattle.vm_clock.proofs.Counting.{after_ticks-count, after_ticks-stopped}
 use Rattle.vm_console.proofs.Composes.{Appends-nil}
-use Rattle.vm_shadow.specs.Stands.{Shadowed}
+use Rattle.vm_shadow.specs.Shadowed.{Shadowed}
 use Rattle.vm_shadow.specs.StandsFor.{StandsFor}
-use Rattle.vm_simulation.specs.Bursts.{IsQuiet, after_counted}
+use Rattle.vm_simulation_laws.specs.Bursts.{IsQuiet, after_counted}
 use Rattle.vm_state.specs.Allowed.{AreAllowed}
 use Rattle.vm_state.specs.Initiate.{initiate}
 use Rattle.vm_state.specs.Interrupts.{IntervalClock, Kcall, Receiver, Software, Source, Transmitter, due, interrupt_of, level_of, requests, sources}
@@ -20,7 +20,7 @@ use Rattle.vm_state.specs.Step as steps
 use Rattle.vm_state.specs.Step.{Stepped, by_interrupt, counted, interrupted, step, step_by, stepped, unless_waiting}
 use Rattle.vm_state.specs.declared.guest_state.GuestState.{GuestState}
 use Rattle.vm_stepping.specs.Advances.{Proceeds, to_do}
-use Rattle.vm_stepping.specs.Made.{Goes, Made, Retired, run_of, tally_of}
+use Rattle.vm_stepping.specs.Made.{CountsRetired, KeepsRefinement, Made, run_of, tally_of}
 use Rattle.vm_stepping.specs.declared.counts.Counts.{Counts}
 use Rattle.vm_stepping.specs.declared.turns.Left.{Left}
 use Rattle.vm_stepping.proofs.Going.{few_unfilled, goes_then}
@@ -65,10 +65,10 @@ rests (suc n) run is =
     let here : after_step run (step run.guest) ≡ next = ap (after_step run) is ∙ ap (λ x. record next { shown = x }) (append-nil run.shown) in
     ap (after_steps n) here ∙ rests n next is ∙ ap (λ x. record run { tally = record run.tally { stopped = x } }) (omega arith)
 
-nothing_goes : (m : Machine) (s : Shadowed) (g : GuestState) → StandsFor m.memory s g → Goes m s g m s g
+nothing_goes : (m : Machine) (s : Shadowed) (g : GuestState) → StandsFor m.memory s g → KeepsRefinement m s g m s g
 nothing_goes m s g stands = record { stands = stands; only = record { size = refl; other = λ p own tables. refl }; place = record { pages = refl; base = refl; start = refl }; tables = refl }
 
-nothing_retired : (m : Machine) (c c' : Counts) → c'.plain ≡ c.plain → c'.trail ≡ c.trail → Retired m c m c'
+nothing_retired : (m : Machine) (c c' : Counts) → c'.plain ≡ c.plain → c'.trail ≡ c.trail → CountsRetired m c m c'
 nothing_retired m c c' p t = record { retired = (λ i. (m.retired + sym p i) % 2 ^ 64); trail = (λ i. (m.trail + sym t i) % 2 ^ 64) }
 
 pub stands_on : {Port : Type 0} (may : Port → List ℕ → Type 0) (port : Port) (m : Machine) (s : Shadowed) (g : GuestState) (c : Counts) (n code : ℕ) (left : Left) → StandsFor m.memory s g → g.halt ≡ Some code → left ≡ plain_left 0 → Proceeds may (plain_left n) left port port m s g c m s g (record c { stopped = c.stopped + n })
@@ -111,7 +111,7 @@ module _ (m : Machine) (s : Shadowed) (g : GuestState) (g1 : GuestState) (stands
         (record { p0br = a.p0br; p0lr = a.p0lr; p1br = a.p1br; p1lr = a.p1lr; sbr = a.sbr; slr = a.slr; pcbb = a.pcbb; scbb = a.scbb; astlvl = a.astlvl; sisr = a.sisr; psl = a.psl; packets = a.packets; few = a.few }));
   }
 
-  count_goes : Goes m s g m s g1
+  count_goes : KeepsRefinement m s g m s g1
   count_goes = record { stands = counted_stands; only = record { size = refl; other = λ p own tables. refl }; place = place; tables = refl }
 
   -- its outcome, by what is due

@@ -4,13 +4,13 @@ use Rattle.std.specs.Prelude.{if◌then◌else◌, is_some}
 use Rattle.vax_hw.specs.Machine.{Machine}
 use Rattle.vm_bursts.specs.Guarded.{OnlyBoth, count_below}
 use Rattle.vm_shadow.specs.Layout.{all_entries}
-use Rattle.vm_shadow.specs.Stands.{Shadowed, read_at}
+use Rattle.vm_shadow.specs.Shadowed.{Shadowed, read_at}
 use Rattle.vm_shadow.specs.StandsFor.{StandsFor}
-use Rattle.vm_simulation.specs.Bursts.{after_counted}
+use Rattle.vm_simulation_laws.specs.Bursts.{after_counted}
 use Rattle.vm_state.specs.Run.{Run, after_step, after_steps}
 use Rattle.vm_state.specs.Step.{executed, step}
 use Rattle.vm_state.specs.declared.guest_state.GuestState.{GuestState}
-use Rattle.vm_stepping.specs.Made.{Goes, Retired, unfilled}
+use Rattle.vm_stepping.specs.Made.{CountsRetired, KeepsRefinement, unfilled}
 use Rattle.vm_stepping.specs.declared.counts.Counts.{Counts}
 
 both_then : (s s1 : Shadowed) (a b c : List ℕ) → s1.base ≡ s.base → s1.pages ≡ s.pages → s1.at ≡ s.at → OnlyBoth s a b → OnlyBoth s1 b c → OnlyBoth s a c
@@ -19,7 +19,7 @@ both_then s s1 a b c base pages at x y = record {
   other = λ p own tables. y.other p (subst (λ n. (p < 512 * n) ⊎ (512 * (n + s1.pages) ≤ p)) (sym base) (subst (λ n. (p < 512 * s.base) ⊎ (512 * (s.base + n) ≤ p)) (sym pages) own)) (subst (λ n. (p < 512 * n) ⊎ (512 * (n + 580) ≤ p)) (sym at) tables) ∙ x.other p own tables;
 }
 
-pub goes_then : (m : Machine) (s : Shadowed) (g : GuestState) (m1 : Machine) (s1 : Shadowed) (g1 : GuestState) (m2 : Machine) (s2 : Shadowed) (g2 : GuestState) → StandsFor m.memory s g → Goes m s g m1 s1 g1 → Goes m1 s1 g1 m2 s2 g2 → Goes m s g m2 s2 g2
+pub goes_then : (m : Machine) (s : Shadowed) (g : GuestState) (m1 : Machine) (s1 : Shadowed) (g1 : GuestState) (m2 : Machine) (s2 : Shadowed) (g2 : GuestState) → StandsFor m.memory s g → KeepsRefinement m s g m1 s1 g1 → KeepsRefinement m1 s1 g1 m2 s2 g2 → KeepsRefinement m s g m2 s2 g2
 goes_then m s g m1 s1 g1 m2 s2 g2 k x y = record {
   stands = y.stands;
   only = both_then s s1 m.memory m1.memory m2.memory (x.stands.serves.base ∙ x.place.base ∙ sym k.serves.base) (x.stands.serves.pages ∙ x.place.pages ∙ sym k.serves.pages) x.tables x.only y.only;
@@ -27,7 +27,7 @@ goes_then m s g m1 s1 g1 m2 s2 g2 k x y = record {
   tables = y.tables ∙ x.tables;
 }
 
-pub retired_then : (m : Machine) (c : Counts) (m1 : Machine) (c1 : Counts) (m2 : Machine) (c2 : Counts) → Retired m c m1 c1 → Retired m1 c1 m2 c2 → Retired m c m2 c2
+pub retired_then : (m : Machine) (c : Counts) (m1 : Machine) (c1 : Counts) (m2 : Machine) (c2 : Counts) → CountsRetired m c m1 c1 → CountsRetired m1 c1 m2 c2 → CountsRetired m c m2 c2
 retired_then m c m1 c1 m2 c2 x y = record {
   retired = through m.retired c.plain m1.retired c1.plain m2.retired c2.plain x.retired y.retired;
   trail = through m.trail c.trail m1.trail c1.trail m2.trail c2.trail x.trail y.trail;

@@ -6,9 +6,9 @@ use Rattle.vax_hw.specs.Machine.{Machine}
 use Rattle.vm_clock.specs.Clock.{after_tick}
 use Rattle.vm_clock.specs.Ticks.{after_ticks, ticks_to_wrap}
 use Rattle.vm_clock.proofs.Counting.{after_ticks-add}
-use Rattle.vm_shadow.specs.Stands.{Shadowed}
+use Rattle.vm_shadow.specs.Shadowed.{Shadowed}
 use Rattle.vm_shadow.specs.StandsFor.{StandsFor}
-use Rattle.vm_simulation.specs.Bursts.{with_count}
+use Rattle.vm_simulation_laws.specs.Bursts.{with_count}
 use Rattle.vm_state.specs.Interrupts.{IntervalClock, Kcall, Receiver, Software, Source, Transmitter, due, level_of, requests, sources}
 use Rattle.vm_state.specs.State.{HasPlace, State, state_of}
 use Rattle.vm_state.specs.Step.{counted}

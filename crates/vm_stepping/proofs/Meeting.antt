@@ -8,19 +8,19 @@ use Rattle.vm_bursts.specs.Guarded.{IsGuarded, StaysGuarded, StepsGuarded, count
 use Rattle.vm_bursts.proofs.Completing.{guest_same}
 use Rattle.vm_console.specs.Appends.{Appends}
 use Rattle.vm_console.proofs.Composes.{Appends-nil}
-use Rattle.vm_events.specs.Made.{Makes}
+use Rattle.vm_events.specs.Made.{MakesStep}
 use Rattle.vm_shadow.specs.Layout.{all_entries}
-use Rattle.vm_shadow.specs.Stands.{Shadowed, read_at}
+use Rattle.vm_shadow.specs.Shadowed.{Shadowed, read_at}
 use Rattle.vm_shadow.specs.StandsFor.{StandsFor}
-use Rattle.vm_simulation.specs.Bursts.{after_counted}
-use Rattle.vm_simulation.specs.Loaded.{guest_try}
+use Rattle.vm_simulation_laws.specs.Bursts.{after_counted}
+use Rattle.vm_simulation_laws.specs.Loaded.{guest_try}
 use Rattle.vm_state.specs.Initiate.{initiate}
 use Rattle.vm_state.specs.Partition.{guest_of}
 use Rattle.vm_state.specs.Step.{Idle, Stepped, by_try, executed, initiated_in}
 use Rattle.vm_state.specs.declared.exception.Exc.TheVariants as excs
 use Rattle.vm_state.specs.declared.guest_state.GuestState.{GuestState}
-use Rattle.vm_stepping.specs.Advances.{IsDone, Steps}
-use Rattle.vm_stepping.specs.Made.{Goes, IsMet, Made, Refills, Retired, run_of, tally_of, unfilled}
+use Rattle.vm_stepping.specs.Advances.{Steps, StepsOrRefills}
+use Rattle.vm_stepping.specs.Made.{CountsRetired, IsMet, KeepsRefinement, Made, Refills, run_of, tally_of, unfilled}
 use Rattle.vm_stepping.specs.declared.counts.Counts.{Counts}
 use Rattle.vm_stepping.proofs.Going.{goes_then, retired_then}
 use Rattle.vm_stepping.proofs.Making.{makes_goes, same_counts}
@@ -32,7 +32,7 @@ unfolding executed
 made_steps may port port' m s g c m' s' g' c' k = record { text = (by_try (guest_of m.memory g) (guest_try (guest_of m.memory g))).shown; run = k.run; shows = k.shows; goes = k.goes; one = k.one; retired = k.retired }
 
 pub met_done : {Port : Type 0} (may : Port → List ℕ → Type 0) (b : Bool) (port port' : Port) (m : Machine) (s : Shadowed) (g : GuestState) (c : Counts) (m' : Machine) (s' : Shadowed) (g' : GuestState) (c' : Counts) →
-    IsMet may b port port' m s g c m' s' g' c' → IsDone may b port port' m s g c m' s' g' c'
+    IsMet may b port port' m s g c m' s' g' c' → StepsOrRefills may b port port' m s g c m' s' g' c'
 met_done may true port port' m s g c m' s' g' c' k = made_steps may port port' m s g c m' s' g' c' k
 met_done may false port port' m s g c m' s' g' c' k = k
 
@@ -45,7 +45,7 @@ module _ (m : Machine) (s : Shadowed) (g : GuestState) (c : Counts) (terms : ℕ
   abbrev counted : Counts
   counted = more_plain c 1 terms
 
-  guarded_goes : (trap : Option ℕ) → StepsGuarded m s g terms trap m1 s1 g1 → Goes m s g m1 s1 g1
+  guarded_goes : (trap : Option ℕ) → StepsGuarded m s g terms trap m1 s1 g1 → KeepsRefinement m s g m1 s1 g1
   guarded_goes trap k = record {
     stands = k.stands;
     only = k.only;
@@ -53,7 +53,7 @@ module _ (m : Machine) (s : Shadowed) (g : GuestState) (c : Counts) (terms : ℕ
     tables = ap (λ (x : Shadowed). x.at) k.rest;
   }
 
-  guarded_retired : (trap : Option ℕ) → StepsGuarded m s g terms trap m1 s1 g1 → Retired m c m1 counted
+  guarded_retired : (trap : Option ℕ) → StepsGuarded m s g terms trap m1 s1 g1 → CountsRetired m c m1 counted
   guarded_retired trap k = let e = k.retired in let f = k.trail in record { retired = omega (arith, e); trail = omega (arith, f) }
 
   pub guarded_steps : {Port : Type 0} (may : Port → List ℕ → Type 0) (port : Port) → StepsGuarded m s g terms None m1 s1 g1 → Steps may port port m s g c m1 s1 g1 counted
@@ -71,7 +71,7 @@ module _ (m : Machine) (s : Shadowed) (g : GuestState) (c : Counts) (terms : ℕ
     abbrev trap : Stepped
     trap = initiated_in Idle (guest_of m1.memory g1) (initiate (guest_of m1.memory g1) (excs.Arithmetic kind))
 
-    pub trapped_steps : {Port : Type 0} (may : Port → List ℕ → Type 0) (port port' : Port) → Makes trap m1 s1 g1 m2 s2 g2 → Appends may port port' trap.shown → Steps may port port' m s g c m2 s2 g2 counted
+    pub trapped_steps : {Port : Type 0} (may : Port → List ℕ → Type 0) (port port' : Port) → MakesStep trap m1 s1 g1 m2 s2 g2 → Appends may port port' trap.shown → Steps may port port' m s g c m2 s2 g2 counted
     trapped_steps may port port' makes shows = record {
       text = trap.shown;
       run = λ shown. k.steps (run_of m.memory g c shown) refl small ∙ (λ i. record { guest = sym makes.guest i; shown = shown ++ trap.shown; tally = tally_of counted });
@@ -83,10 +83,10 @@ module _ (m : Machine) (s : Shadowed) (g : GuestState) (c : Counts) (terms : ℕ
 
 -- It didn't retire, and what it ended before is done.
 module _ (m : Machine) (s : Shadowed) (g : GuestState) (c : Counts) (e : Exit) (m1 : Machine) (s1 : Shadowed) (k : StaysGuarded m s g e m1 s1 g) (stands : StandsFor m.memory s g) where
-  stays_goes : Goes m s g m1 s1 g
+  stays_goes : KeepsRefinement m s g m1 s1 g
   stays_goes = record { stands = k.stands; only = k.only; place = record { pages = refl; base = refl; start = refl }; tables = ap (λ (x : Shadowed). x.at) k.rest }
 
-  stays_retired : Retired m c m1 c
+  stays_retired : CountsRetired m c m1 c
   stays_retired = record { retired = (λ i. (ap (λ (x : Machine). x.retired) k.machine i + c.plain) % 2 ^ 64); trail = (λ i. (ap (λ (x : Machine). x.trail) k.machine i + c.trail) % 2 ^ 64) }
 
   as_many : unfilled s1 ≡ unfilled s
@@ -115,7 +115,7 @@ module _ (m : Machine) (s : Shadowed) (g : GuestState) (c : Counts) (e : Exit) (
       fewer = subst (λ n. unfilled s2 < n) as_many x.fewer;
     }
 
-    pub done_behind : (b : Bool) → IsDone may b port port' m1 s1 g c m2 s2 g2 c2 → IsDone may b port port' m s g c m2 s2 g2 c2
+    pub done_behind : (b : Bool) → StepsOrRefills may b port port' m1 s1 g c m2 s2 g2 c2 → StepsOrRefills may b port port' m s g c m2 s2 g2 c2
     done_behind true x = steps_behind x
     done_behind false x = (refills_behind x.0, x.1, x.2)
 
@@ -137,10 +137,10 @@ module _ {Port : Type 0} (may : Port → List ℕ → Type 0) (port port' : Port
   module _ (m2 : Machine) (s2 : Shadowed) (g2 : GuestState) where
     pub guarded_trap : (e : Exit) (kind : ℕ) (c1 : Counts) → e ≡ Arithmetic kind → IsGuarded e m s g terms m1 s1 g1 → c.trail < 2 ^ 64 → c1 ≡ more_plain c 1 terms →
         let trap = initiated_in Idle (guest_of m1.memory g1) (initiate (guest_of m1.memory g1) (excs.Arithmetic kind)) in
-        Makes trap m1 s1 g1 m2 s2 g2 → Appends may port port' trap.shown → Steps may port port' m s g c m2 s2 g2 c1
+        MakesStep trap m1 s1 g1 m2 s2 g2 → Appends may port port' trap.shown → Steps may port port' m s g c m2 s2 g2 c1
     guarded_trap e kind c1 is k small same makes shows = subst (λ x. Steps may port port' m s g c m2 s2 g2 x) (sym same) (trapped_steps m s g c terms m1 s1 g1 small kind m2 s2 g2 stands (subst (λ x. IsGuarded x m s g terms m1 s1 g1) is k) may port port' makes shows)
 
-    pub guarded_other : (e : Exit) (b : Bool) (c2 : Counts) → (e ≡ Budget → ⊥) → ((kind : ℕ) → e ≡ Arithmetic kind → ⊥) → IsGuarded e m s g terms m1 s1 g1 → IsMet may b port port' m1 s1 g1 c m2 s2 g2 c2 → IsDone may b port port' m s g c m2 s2 g2 c2
+    pub guarded_other : (e : Exit) (b : Bool) (c2 : Counts) → (e ≡ Budget → ⊥) → ((kind : ℕ) → e ≡ Arithmetic kind → ⊥) → IsGuarded e m s g terms m1 s1 g1 → IsMet may b port port' m1 s1 g1 c m2 s2 g2 c2 → StepsOrRefills may b port port' m s g c m2 s2 g2 c2
     guarded_other e b c2 not_budget not_arithmetic k met =
         let stays = stays_by m s g terms m1 s1 g1 e not_budget not_arithmetic k in
         let own : g1 ≡ g = stays.guest in

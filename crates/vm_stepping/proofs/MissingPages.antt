@@ -5,21 +5,21 @@ use Rattle.vax_arch.specs.Fields.{current_of}
 use Rattle.vax_arch.specs.Walk.{page_of}
 use Rattle.vax_arch.specs.declared.mode.Intent.{Intent}
 use Rattle.vax_hw.specs.Machine.{Machine}
-use Rattle.vax_table.specs.Script.{At, Cause, cause_of}
-use Rattle.vax_table.specs.Script as script
+use Rattle.vax_table.specs.Interaction.{At, Cause, cause_of}
+use Rattle.vax_table.specs.Interaction as interaction
 use Rattle.vax_table.specs.Tries.{Stopped}
 use Rattle.vm_bursts.proofs.Completing.{only_both as tables_both, own_same}
 use Rattle.vm_bursts.proofs.Tried.{count_less}
 use Rattle.vm_shadow.specs.Layout.{all_entries}
 use Rattle.vm_shadow.specs.Laws.{guest_place}
-use Rattle.vm_shadow.specs.Stands.{Shadowed, read_at}
+use Rattle.vm_shadow.specs.Shadowed.{Shadowed, read_at}
 use Rattle.vm_shadow.specs.StandsFor.{Fills, FillsPage, IsPresent, StandsFor, own_number}
 use Rattle.vm_shadow.proofs.Covering.{present_covered}
 use Rattle.vm_shadow.proofs.Entries.{read_here, read_other}
 use Rattle.vm_shadow.proofs.Hearing.{number_is_small, size_is}
 use Rattle.vm_shadow.proofs.Present.{walk_present}
-use Rattle.vm_simulation.specs.Laws.{IsDenied, IsMissed, place_here}
-use Rattle.vm_simulation.specs.Loaded.{guest_try}
+use Rattle.vm_simulation_laws.specs.Laws.{IsDenied, IsMissed, place_here}
+use Rattle.vm_simulation_laws.specs.Loaded.{guest_try}
 use Rattle.vm_state.specs.Partition.{guest_of}
 use Rattle.vm_state.specs.Sensitive.{fault_of}
 use Rattle.vm_state.specs.State.{Guest}
@@ -96,7 +96,7 @@ module _ (m : Machine) (s : Shadowed) (g : GuestState) (va : ℕ) (i : Intent) (
   faults f e = faults_by (cause_of f.not_valid) (ap guest_place (sym e)) ∙ ap (λ w. sensed_as here (fault_of w)) (sym e)
 
   pub stops : walks.Beyond ≡ walked → by_try here (guest_try here) ≡ stopped here PastMemory Fault
-  stops e = faults_by script.Past (ap guest_place (sym e)) ∙ ap (λ w. sensed_as here (fault_of w)) (sym e)
+  stops e = faults_by interaction.Past (ap guest_place (sym e)) ∙ ap (λ w. sensed_as here (fault_of w)) (sym e)
 
 -- the step that is made is the instruction's
 pub made_as : {Port : Type 0} (may : Port → List ℕ → Type 0) (x y : Stepped) (port port' : Port) (m : Machine) (s : Shadowed) (g : GuestState) (c : Counts) (m' : Machine) (s' : Shadowed) (g' : GuestState) (c' : Counts) → x ≡ y → Made may y port port' m s g c m' s' g' c' → Made may x port port' m s g c m' s' g' c'

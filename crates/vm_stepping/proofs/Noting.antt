@@ -3,8 +3,8 @@ use Rattle.std.proofs.Common.{◌≡◌, ℕ, Bool, true, false, refl, ap, ◌�
 use Rattle.vax_arch.specs.Fields.{current_of}
 use Rattle.vax_arch.specs.declared.mode.Intent.{Intent}
 use Rattle.vax_hw.specs.Machine.{Machine}
-use Rattle.vax_table.specs.Script as script
-use Rattle.vax_table.specs.Script.{Test, cause_of}
+use Rattle.vax_table.specs.Interaction as interaction
+use Rattle.vax_table.specs.Interaction.{Test, cause_of}
 use Rattle.vax_table.specs.Tries.{Clear, Stopped}
 use Rattle.vax_table.specs.declared.act.Refusal.{Refusal}
 use Rattle.vax_hw.specs.declared.world.Exit.{Exit}
@@ -15,9 +15,9 @@ use Rattle.vm_events.specs.Noted.{note_by_try, note_of_clear, note_of_instructio
 use Rattle.vm_events.specs.declared.note.Note.{Note}
 use Rattle.vm_events.specs.declared.note.Note.TheVariants.{Nothing}
 use Rattle.vm_shadow.specs.Laws.{guest_place}
-use Rattle.vm_shadow.specs.Stands.{Shadowed}
-use Rattle.vm_simulation.specs.Laws.{IsMissed}
-use Rattle.vm_simulation.specs.Loaded.{guest_try}
+use Rattle.vm_shadow.specs.Shadowed.{Shadowed}
+use Rattle.vm_simulation_laws.specs.Laws.{IsMissed}
+use Rattle.vm_simulation_laws.specs.Loaded.{guest_try}
 use Rattle.vm_state.specs.Partition.{guest_of}
 use Rattle.vm_state.specs.Sensitive.{fault_of, refused_as}
 use Rattle.vm_state.specs.State.{Guest}
@@ -58,7 +58,7 @@ module _ (m : Machine) (s : Shadowed) (g : GuestState) (va : ℕ) (i : Intent) (
 
   pub missing_stop : (note : Note) → walks.Beyond ≡ walked → note ≡ Nothing → note ≡ note_here here
   missing_stop note e is =
-      is ∙ ap (λ w. note_of_sensed here (fault_of w)) e ∙ sym (ap (note_by_try here) (k.fault script.Past (ap guest_place (sym e))))
+      is ∙ ap (λ w. note_of_sensed here (fault_of w)) e ∙ sym (ap (note_by_try here) (k.fault interaction.Past (ap guest_place (sym e))))
 
 -- a clear modify bit
 pub notes_clear : (h : Guest) (va : ℕ) (note : Note) → guest_try h ≡ Clear va → note ≡ note_of_clear h va → note ≡ note_here h

@@ -11,14 +11,14 @@ use Rattle.vm_bursts.proofs.Completing.{guest_same}
 use Rattle.vm_events.specs.Noted.{note_by_try, note_of_act, note_of_instruction, note_of_probed, note_of_trap, taken_by}
 use Rattle.vm_events.specs.declared.note.Note.{Note}
 use Rattle.vm_events.specs.declared.note.Note.TheVariants.{Nothing}
-use Rattle.vm_shadow.specs.Stands.{Shadowed}
-use Rattle.vm_simulation.specs.Bursts.{Ends}
-use Rattle.vm_simulation.specs.Laws.{Leaves, LeavesBehind}
+use Rattle.vm_shadow.specs.Shadowed.{Shadowed}
+use Rattle.vm_simulation_laws.specs.Bursts.{EndsBurst}
+use Rattle.vm_simulation_laws.specs.Laws.{Leaves, LeavesByAct}
 use Rattle.vm_state.specs.Partition.{guest_of}
 use Rattle.vm_state.specs.State.{Guest}
 use Rattle.vm_state.specs.declared.exception.Exc.TheVariants as excs
 use Rattle.vm_state.specs.declared.guest_state.GuestState.{GuestState}
-use Rattle.vm_stepping.specs.Advances.{IsDone}
+use Rattle.vm_stepping.specs.Advances.{StepsOrRefills}
 use Rattle.vm_stepping.specs.Made.{Refills}
 use Rattle.vm_stepping.specs.Noted.{NotesMet, NotesOne}
 use Rattle.vm_stepping.specs.declared.counts.Counts.{Counts}
@@ -27,7 +27,7 @@ use Rattle.vm_stepping.proofs.Noting.{note_is}
 use Rattle.vm_stepping.proofs.Running.{IsBefore, before_ends, counted_left, is_before, plain_left}
 
 -- a plain instruction tells of its trap alone
-by_act : (h after : Guest) (trap : Option ℕ) (act : Act) → LeavesBehind act h after trap → note_of_act h act ≡ note_of_trap after trap
+by_act : (h after : Guest) (trap : Option ℕ) (act : Act) → LeavesByAct act h after trap → note_of_act h act ≡ note_of_trap after trap
 by_act h after trap (Plain e) k = λ i. note_of_trap (sym k.0 i) (sym k.1 i)
 by_act h after trap (Traps t) k = absurd k
 by_act h after trap (Probes i o) k = ap (note_of_probed h) k.1 ∙ ap (note_of_trap after) (sym k.3)
@@ -70,8 +70,8 @@ module _ (all n : ℕ) (m : Machine) (s : Shadowed) (g : GuestState) (ran : Ran)
   alone_as : (e : Exit) → ran.exit ≡ e → all ≡ 1 → IsAlone e own later
   alone_as e is one = subst (λ x. IsAlone x own later) is (k.alone (single one))
 
-  ends_as : (e : Exit) → ran.exit ≡ e → Ends e ran.done k.left m1.memory s g1
-  ends_as e is = subst (λ x. Ends x ran.done k.left m1.memory s g1) is k.ends
+  ends_as : (e : Exit) → ran.exit ≡ e → EndsBurst e ran.done k.left m1.memory s g1
+  ends_as e is = subst (λ x. EndsBurst x ran.done k.left m1.memory s g1) is k.ends
 
   pub notes_budget : (note : Note) → ran.exit ≡ Budget → left ≡ plain_left (all - ran.done) → note ≡ Nothing → NotesOne (counted_left all) left m g m1 g1 note
   notes_budget note is e silent =
@@ -112,9 +112,9 @@ module _ (all n : ℕ) (m : Machine) (s : Shadowed) (g : GuestState) (ran : Ran)
             stays = λ one still. absurd (omega (arith, one, still));
           })
 
-      pub notes_fills : {Port : Type 0} (may : Port → List ℕ → Type 0) (port port' : Port) (c c2 : Counts) → b ≡ false → left ≡ counted_left (all - ran.done) → IsDone may b port port' m1 s g1 c m2 s2 g2 c2 → NotesOne (counted_left all) left m g m2 g2 note
+      pub notes_fills : {Port : Type 0} (may : Port → List ℕ → Type 0) (port port' : Port) (c c2 : Counts) → b ≡ false → left ≡ counted_left (all - ran.done) → StepsOrRefills may b port port' m1 s g1 c m2 s2 g2 c2 → NotesOne (counted_left all) left m g m2 g2 note
       notes_fills may port port' c c2 not_made e done =
-          let fills : Refills m1 s g1 m2 s2 g2 = (subst (λ x. IsDone may x port port' m1 s g1 c m2 s2 g2 c2) not_made done).0 in
+          let fills : Refills m1 s g1 m2 s2 g2 = (subst (λ x. StepsOrRefills may x port port' m1 s g1 c m2 s2 g2 c2) not_made done).0 in
           let still_same : guest_of m2.memory g2 ≡ later = ap (guest_of m2.memory) fills.guest ∙ guest_same m1 m2 g1 fills.own in
           subst (λ l. NotesOne (counted_left all) l m g m2 g2 note) (sym e) (record {
             made = λ one none. let nothing = none_done one in absurd (omega (arith, one, none, nothing));

@@ -5,7 +5,7 @@ use Rattle.vax_hw.specs.Machine.{Machine}
 use Rattle.vm_events.specs.Noted.{note_by_halt, note_by_interrupt, note_of, note_of_instruction, note_unless_waiting, taken_by}
 use Rattle.vm_events.specs.declared.note.Note.{Note}
 use Rattle.vm_events.specs.declared.note.Note.TheVariants.{Nothing}
-use Rattle.vm_shadow.specs.Stands.{Shadowed}
+use Rattle.vm_shadow.specs.Shadowed.{Shadowed}
 use Rattle.vm_shadow.specs.StandsFor.{StandsFor}
 use Rattle.vm_state.specs.Interrupts.{Source, due, interrupt_of}
 use Rattle.vm_state.specs.Partition.{guest_of}

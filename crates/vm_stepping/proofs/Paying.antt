@@ -2,23 +2,23 @@
 use Rattle.std.proofs.Common.{◌≡◌, ℕ, ◌+◌, ◌%◌, ◌^◌, ◌≤◌, ◌⊎◌, inl, inr, true, List, [], ◌++◌, Option, None, is_some, ap, ◌∙◌, sym, subst, arith}
 use Rattle.vax_arch.specs.Walk.{Tables, page_of}
 use Rattle.vax_hw.specs.Machine.{Machine}
-use Rattle.vax_table.specs.Script.{IsIn}
+use Rattle.vax_table.specs.Interaction.{IsIn}
 use Rattle.vm_emulate.specs.Followed.{Follows}
-use Rattle.vm_events.specs.Made.{Makes}
+use Rattle.vm_events.specs.Made.{MakesStep}
 use Rattle.vm_exception.specs.Initiated.{StopsWith}
 use Rattle.vm_exception.specs.Wrote.{DropsAmong}
 use Rattle.vm_exception.proofs.Marking.{pending_append}
-use Rattle.vm_fitting.specs.Laws.{KeepsFilled}
-use Rattle.vm_fitting.specs.Moves.{Drops, Moves}
-use Rattle.vm_fitting.specs.Paid.{IsSettled, Misses, Owes}
-use Rattle.vm_fitting.specs.Present.{HasEntry, behind_touches, is_filled, pages_of, to_miss}
-use Rattle.vm_fitting.specs.Runs.{MissesThere}
-use Rattle.vm_fitting.proofs.Counting.{some_unfilled}
-use Rattle.vm_fitting.proofs.Fitting.{filled_stay, in_pages, steps_keep}
-use Rattle.vm_fitting.proofs.Found.{found_entries}
-use Rattle.vm_fitting.proofs.Own.{moves_alone, none_dropped}
-use Rattle.vm_fitting.proofs.Working.{marks_dropped}
-use Rattle.vm_shadow.specs.Stands.{Shadowed, is_pending, read_at}
+use Rattle.vm_miss_laws.specs.Laws.{KeepsFilled}
+use Rattle.vm_miss_laws.specs.Moves.{Drops, Moves}
+use Rattle.vm_miss_laws.specs.Paid.{IsSettled, Misses, Owes}
+use Rattle.vm_miss_laws.specs.Present.{HasEntry, after_touches, is_filled, pages_of, to_miss}
+use Rattle.vm_miss_laws.specs.Runs.{MissesThere}
+use Rattle.vm_miss_laws.proofs.Counting.{some_unfilled}
+use Rattle.vm_miss_laws.proofs.Fitting.{filled_stay, in_pages, steps_keep}
+use Rattle.vm_miss_laws.proofs.Found.{found_entries}
+use Rattle.vm_miss_laws.proofs.Own.{moves_alone, none_dropped}
+use Rattle.vm_miss_laws.proofs.Working.{marks_dropped}
+use Rattle.vm_shadow.specs.Shadowed.{Shadowed, is_pending, read_at}
 use Rattle.vm_shadow.specs.StandsFor.{Marks, StandsFor}
 use Rattle.vm_shadow.specs.declared.source.Source.{Source}
 use Rattle.vm_state.specs.Partition.{guest_of}
@@ -28,7 +28,7 @@ use Rattle.vm_state.specs.Touches.{Touching, touching_step}
 use Rattle.vm_state.specs.Translation.{look, marks_by}
 use Rattle.vm_state.specs.declared.guest_state.GuestState.{GuestState}
 use Rattle.vm_stepping.specs.Pays.{OwesStill, Settles}
-use Rattle.vm_touches.specs.Touched.{AreFilled, touches_now}
+use Rattle.vm_touch_laws.specs.Touched.{AreFilled, touches_now}
 
 -- What is dropped.
 
@@ -49,7 +49,7 @@ dropped_then a b s s1 s2 x y = record {
   held = y.held ∙ x.held;
 }
 
-pub makes_moves : (x : Stepped) (m : Machine) (s : Shadowed) (g : GuestState) (m' : Machine) (s' : Shadowed) (g' : GuestState) → Makes x m s g m' s' g' → Moves x.written x.guest.state.tables s s'
+pub makes_moves : (x : Stepped) (m : Machine) (s : Shadowed) (g : GuestState) (m' : Machine) (s' : Shadowed) (g' : GuestState) → MakesStep x m s g m' s' g' → Moves x.written x.guest.state.tables s s'
 makes_moves x m s g m' s' g' k = moves_alone x.written m'.memory s s' x.guest.state.tables k.stands.keeps.fits (k.stands.serves.told ∙ ap (λ (h : Guest). h.state.tables) k.guest) (among_dropped x.written s s' k.drops)
 
 pub follows_moves : (frames : List ℕ) (t : Tables) (s s' : Shadowed) → Follows frames t s s' → Moves frames t s s'
@@ -88,10 +88,10 @@ module _ (missed : ℕ) (m : Machine) (s : Shadowed) (g : GuestState) (m' : Mach
 
   settled : (owed : ℕ) (t : Touching) → Owes owed (touches_now h) s t → IsSettled owed (missed + 0) t (touching_step h (executed h) t) s'
   settled owed t o =
-      let counted : t.count + owed + to_miss s (touches_now h) ≤ (behind_touches (touches_now h) t).count = o.within in
+      let counted : t.count + owed + to_miss s (touches_now h) ≤ (after_touches (touches_now h) t).count = o.within in
       subst (λ (y : Stepped). IsSettled owed (missed + 0) t (touching_step h y t) s') (sym is) (record {
         has = steps_keep m.memory s g x t s' stands.keeps stands.serves found moves o.has;
-        counts = subst (λ (y : Touched). t.count + owed + (missed + 0) ≤ (behind_touches y t).count) (sym touched) (omega (arith, counted, within));
+        counts = subst (λ (y : Touched). t.count + owed + (missed + 0) ≤ (after_touches y t).count) (sym touched) (omega (arith, counted, within));
       })
 
   pub step_settles : m'.misses ≡ m.misses → Settles missed m s g m' s'
@@ -103,7 +103,7 @@ fills_owe missed m s g m' s' kept fewer same = record {
   more = 0;
   misses = no_more m m' same;
   owes = λ owed t o.
-      let within : t.count + owed + to_miss s (touches_now (guest_of m.memory g)) ≤ (behind_touches (touches_now (guest_of m.memory g)) t).count = o.within in
+      let within : t.count + owed + to_miss s (touches_now (guest_of m.memory g)) ≤ (after_touches (touches_now (guest_of m.memory g)) t).count = o.within in
       record { has = (filled_stay s s' t.present kept).has o.has; within = omega (arith, within, fewer) };
 }
 

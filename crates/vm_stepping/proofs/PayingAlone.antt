@@ -6,17 +6,17 @@ use Rattle.vax_hw.specs.declared.world.Exit.{Exit}
 use Rattle.vax_hw.specs.declared.world.Exit.TheVariants.{Arithmetic, Budget, Denied, Emulate, Modify, NotValid, Refused}
 use Rattle.vm_bursts.specs.Guarded.{IsGuarded, StaysGuarded, StepsGuarded}
 use Rattle.vm_bursts.proofs.Completing.{guest_same}
-use Rattle.vm_events.specs.Made.{Makes}
-use Rattle.vm_fitting.specs.Laws.{KeepsFilled}
-use Rattle.vm_fitting.specs.Moves.{Drops, Moves}
-use Rattle.vm_fitting.specs.Paid.{IsSettled, Misses, Owes}
-use Rattle.vm_fitting.specs.Present.{to_miss}
-use Rattle.vm_fitting.proofs.Fitting.{filled_stay}
-use Rattle.vm_fitting.proofs.Own.{moves_alone}
-use Rattle.vm_shadow.specs.Stands.{Shadowed, read_at}
+use Rattle.vm_events.specs.Made.{MakesStep}
+use Rattle.vm_miss_laws.specs.Laws.{KeepsFilled}
+use Rattle.vm_miss_laws.specs.Moves.{Drops, Moves}
+use Rattle.vm_miss_laws.specs.Paid.{IsSettled, Misses, Owes}
+use Rattle.vm_miss_laws.specs.Present.{to_miss}
+use Rattle.vm_miss_laws.proofs.Fitting.{filled_stay}
+use Rattle.vm_miss_laws.proofs.Own.{moves_alone}
+use Rattle.vm_shadow.specs.Shadowed.{Shadowed, read_at}
 use Rattle.vm_shadow.specs.StandsFor.{StandsFor}
-use Rattle.vm_simulation.specs.Bursts.{missed_by}
-use Rattle.vm_simulation.specs.Laws.{frames_claimed}
+use Rattle.vm_simulation_laws.specs.Bursts.{missed_by}
+use Rattle.vm_simulation_laws.specs.Laws.{frames_claimed}
 use Rattle.vm_state.specs.Initiate.{initiate}
 use Rattle.vm_state.specs.Partition.{guest_of}
 use Rattle.vm_state.specs.State.{Guest, tables_of}
@@ -29,10 +29,10 @@ use Rattle.vm_stepping.specs.Pays.{OwesStill, PaysFor, Settles}
 use Rattle.vm_stepping.proofs.Meeting.{stays_by}
 use Rattle.vm_stepping.proofs.Paying.{among_dropped, dropped_then, step_settles}
 use Rattle.vm_stepping.proofs.PayingMet.{none_within}
-use Rattle.vm_touches.specs.Touched.{touches_now}
+use Rattle.vm_touch_laws.specs.Touched.{touches_now}
 
 -- what a trap that is initiated after an instruction drops is beside what that wrote
-pub trap_moves : (frames : List ℕ) (s s1 : Shadowed) (x : Stepped) (m1 : Machine) (g1 : GuestState) (m2 : Machine) (s2 : Shadowed) (g2 : GuestState) → Drops frames s s1 → Makes x m1 s1 g1 m2 s2 g2 → Moves (frames ++ x.written) x.guest.state.tables s s2
+pub trap_moves : (frames : List ℕ) (s s1 : Shadowed) (x : Stepped) (m1 : Machine) (g1 : GuestState) (m2 : Machine) (s2 : Shadowed) (g2 : GuestState) → Drops frames s s1 → MakesStep x m1 s1 g1 m2 s2 g2 → Moves (frames ++ x.written) x.guest.state.tables s s2
 trap_moves frames s s1 x m1 g1 m2 s2 g2 d k =
     moves_alone (frames ++ x.written) m2.memory s s2 x.guest.state.tables k.stands.keeps.fits (k.stands.serves.told ∙ ap (λ (h : Guest). h.state.tables) k.guest) (dropped_then frames x.written s s1 s2 d (among_dropped x.written s1 s2 k.drops))
 
@@ -49,7 +49,7 @@ module _ (m : Machine) (s : Shadowed) (g : GuestState) (terms : ℕ) (m1 : Machi
       (moves_alone (frames_claimed here) m1.memory s s1 (tables_of g1) k.stands.keeps.fits k.stands.serves.told (steps_drop None k)) (none_within s here) k.misses
 
   -- with its trap after it
-  pub trapped_pays : (kind : ℕ) (m2 : Machine) (s2 : Shadowed) (g2 : GuestState) → StepsGuarded m s g terms (Some kind) m1 s1 g1 → ((k : Kind) → Makes (initiated_in k (guest_of m1.memory g1) (initiate (guest_of m1.memory g1) (excs.Arithmetic kind))) m1 s1 g1 m2 s2 g2) → Settles 0 m s g m2 s2
+  pub trapped_pays : (kind : ℕ) (m2 : Machine) (s2 : Shadowed) (g2 : GuestState) → StepsGuarded m s g terms (Some kind) m1 s1 g1 → ((k : Kind) → MakesStep (initiated_in k (guest_of m1.memory g1) (initiate (guest_of m1.memory g1) (excs.Arithmetic kind))) m1 s1 g1 m2 s2 g2) → Settles 0 m s g m2 s2
   trapped_pays kind m2 s2 g2 k makes =
       let x = initiated_in (steps.Plain k.term) (guest_of m1.memory g1) (initiate (guest_of m1.memory g1) (excs.Arithmetic kind)) in
       step_settles 0 m s g m2 s2 (record (trapped_in (steps.Plain k.term) (frames_claimed here) (guest_of m1.memory g1) (Some kind)) { touched = touches_now here }) stands k.step refl k.found
@@ -114,7 +114,7 @@ module _ (m : Machine) (s : Shadowed) (g : GuestState) (terms : ℕ) (m1 : Machi
   budget_pays is = guarded_pays m s g terms m1 s1 g1 stands (subst (λ x. IsGuarded x m s g terms m1 s1 g1) is k)
 
   module _ (m2 : Machine) (s2 : Shadowed) (g2 : GuestState) where
-    pub trap_pays : (kind : ℕ) → e ≡ Arithmetic kind → ((k : Kind) → Makes (initiated_in k (guest_of m1.memory g1) (initiate (guest_of m1.memory g1) (excs.Arithmetic kind))) m1 s1 g1 m2 s2 g2) → Settles 0 m s g m2 s2
+    pub trap_pays : (kind : ℕ) → e ≡ Arithmetic kind → ((k : Kind) → MakesStep (initiated_in k (guest_of m1.memory g1) (initiate (guest_of m1.memory g1) (excs.Arithmetic kind))) m1 s1 g1 m2 s2 g2) → Settles 0 m s g m2 s2
     trap_pays kind is makes = trapped_pays m s g terms m1 s1 g1 stands kind m2 s2 g2 (subst (λ x. IsGuarded x m s g terms m1 s1 g1) is k) makes
 
     pub other_pays : (b : Bool) → (e ≡ Budget → ⊥) → ((kind : ℕ) → e ≡ Arithmetic kind → ⊥) → PaysFor b (missed_by e) m1 s1 g1 m2 s2 → PaysFor b 0 m s g m2 s2

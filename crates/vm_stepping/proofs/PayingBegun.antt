@@ -1,13 +1,13 @@
 -- What pays for the misses of steps that reach no instruction: there are none; and all steps, one part after another.
 use Rattle.std.proofs.Common.{◌≡◌, ℕ, zero, suc, ◌+◌, ◌-◌, ◌≤◌, Bool, true, false, [], List, Option, Some, None, is_some, refl, ap, ◌∙◌, sym, subst, arith}
 use Rattle.vax_hw.specs.Machine.{Machine}
-use Rattle.vax_table.specs.Script.{IsIn}
-use Rattle.vm_fitting.specs.Moves.{Moves}
-use Rattle.vm_fitting.specs.Paid.{Pays, touching_counted}
-use Rattle.vm_fitting.specs.Present.{HasPresent, behind_touches}
-use Rattle.vm_fitting.proofs.Fitting.{steps_keep}
-use Rattle.vm_fitting.proofs.Paying.{nothing_owed}
-use Rattle.vm_shadow.specs.Stands.{Shadowed}
+use Rattle.vax_table.specs.Interaction.{IsIn}
+use Rattle.vm_miss_laws.specs.Moves.{Moves}
+use Rattle.vm_miss_laws.specs.Paid.{Pays, touching_counted}
+use Rattle.vm_miss_laws.specs.Present.{HasPresent, after_touches}
+use Rattle.vm_miss_laws.proofs.Fitting.{steps_keep}
+use Rattle.vm_miss_laws.proofs.Paying.{nothing_owed}
+use Rattle.vm_shadow.specs.Shadowed.{Shadowed}
 use Rattle.vm_shadow.specs.StandsFor.{StandsFor}
 use Rattle.vm_state.specs.Initiate.{Initiation, KernelStackBad, Stops, Taken, initiate}
 use Rattle.vm_state.specs.Interrupts.{Source, due, interrupt_of}
@@ -27,7 +27,7 @@ use Rattle.vm_stepping.proofs.Beginning.{counted_is, now, stands_still, step_is}
 use Rattle.vm_stepping.proofs.Paying.{no_more, nothing_moves}
 use Rattle.vm_stepping.proofs.PayingAlone.{misses_then}
 use Rattle.vm_stepping.proofs.Running.{counted_left, not_counted, plain_left}
-use Rattle.vm_touches.specs.Touched.{touches_now}
+use Rattle.vm_touch_laws.specs.Touched.{touches_now}
 
 -- first touches of one step, and of those after it
 one_touching : (n : ℕ) (h : Guest) (x : Stepped) (t : Touching) → 1 ≤ n → step h ≡ x → touching_steps n h t ≡ touching_steps (n - 1) x.guest (touching_step h x t)
@@ -60,7 +60,7 @@ module _ (m : Machine) (s : Shadowed) (g : GuestState) (stands : StandsFor m.mem
     missed = 0;
     misses = no_more m m2 same;
     goes_on = λ owed t o.
-        let as_many : t.count ≤ (behind_touches x.touched t).count = subst (λ (y : Touched). t.count ≤ (behind_touches y t).count) (sym none) (omega arith) in
+        let as_many : t.count ≤ (after_touches x.touched t).count = subst (λ (y : Touched). t.count ≤ (after_touches y t).count) (sym none) (omega arith) in
         record {
           at = touching_step h x t;
           still = 0;

@@ -5,24 +5,24 @@ use Rattle.vax_arch.specs.declared.mode.Intent.{Intent}
 use Rattle.vax_hw.specs.Machine.{Machine}
 use Rattle.vax_hw.specs.declared.world.Exit.{Exit}
 use Rattle.vax_hw.specs.declared.world.Exit.TheVariants.{Denied, Modify, NotValid}
-use Rattle.vax_table.specs.Script as script
-use Rattle.vax_table.specs.Script.{cause_of}
+use Rattle.vax_table.specs.Interaction as interaction
+use Rattle.vax_table.specs.Interaction.{cause_of}
 use Rattle.vax_table.specs.Tries.{Clear}
 use Rattle.vax_table.specs.Troubles.{intent_of}
-use Rattle.vm_bursts.specs.Guarded.{Tells}
-use Rattle.vm_fitting.specs.Laws.{KeepsFilled}
-use Rattle.vm_fitting.specs.Present.{to_miss}
-use Rattle.vm_fitting.specs.Runs.{MissesThere, Reaches}
-use Rattle.vm_fitting.proofs.Fitting.{fills_keep, one_filled}
+use Rattle.vm_bursts.specs.Guarded.{ExitIsMet}
+use Rattle.vm_miss_laws.specs.Laws.{KeepsFilled}
+use Rattle.vm_miss_laws.specs.Present.{to_miss}
+use Rattle.vm_miss_laws.specs.Runs.{MissesThere, Reaches}
+use Rattle.vm_miss_laws.proofs.Fitting.{fills_keep, one_filled}
 use Rattle.vm_shadow.specs.Layout.{all_entries}
 use Rattle.vm_shadow.specs.Laws.{guest_place}
-use Rattle.vm_shadow.specs.Stands.{Shadowed}
+use Rattle.vm_shadow.specs.Shadowed.{Shadowed}
 use Rattle.vm_shadow.specs.StandsFor.{FillsPage, StandsFor, own_number}
 use Rattle.vm_shadow.proofs.Covering.{present_covered}
 use Rattle.vm_shadow.proofs.Hearing.{number_is_small}
-use Rattle.vm_simulation.specs.Bursts.{missed_by}
-use Rattle.vm_simulation.specs.Laws.{IsMissed}
-use Rattle.vm_simulation.specs.Loaded.{guest_try}
+use Rattle.vm_simulation_laws.specs.Bursts.{missed_by}
+use Rattle.vm_simulation_laws.specs.Laws.{IsMissed}
+use Rattle.vm_simulation_laws.specs.Loaded.{guest_try}
 use Rattle.vm_state.specs.Partition.{guest_of}
 use Rattle.vm_state.specs.Step.{Fault, Stepped, by_try, clear_met, executed, faulted, stopped}
 use Rattle.vm_state.specs.Stops.{PastMemory}
@@ -37,7 +37,7 @@ use Rattle.vm_stepping.specs.Pays.{OwesStill, PaysFor, Settles, WereMissed}
 use Rattle.vm_stepping.specs.declared.counts.Counts.{Counts}
 use Rattle.vm_stepping.proofs.MissingPages.{faults, present, stops, walked}
 use Rattle.vm_stepping.proofs.Paying.{fills_owe, kept_owe, missed_there, step_settles}
-use Rattle.vm_touches.specs.Touched.{AreFilled, touches_now}
+use Rattle.vm_touch_laws.specs.Touched.{AreFilled, touches_now}
 
 -- the step that is made is the instruction's
 pub made_settles : {Port : Type 0} {may : Port → List ℕ → Type 0} {x : Stepped} {port port' : Port} {m : Machine} {s : Shadowed} {g : GuestState} {c : Counts} {m' : Machine} {s' : Shadowed} {g' : GuestState} {c' : Counts} → (missed : ℕ) →
@@ -85,7 +85,7 @@ module _ (m : Machine) (s : Shadowed) (g : GuestState) (va : ℕ) (i : Intent) (
     fault_pays f e made = made_settles missed stands (faults m s g va i stands k f e) (w.filled (cause_of f.not_valid) (ap guest_place (sym e))) (were_few missed va s here w.there) made
 
     pub stop_pays : walks.Beyond ≡ walked m s g va i stands k → Made may (stopped here PastMemory Fault) port port' m s g c m' s' g' c' → Settles missed m s g m' s'
-    stop_pays e made = made_settles missed stands (stops m s g va i stands k e) (w.filled script.Past (ap guest_place (sym e))) (were_few missed va s here w.there) made
+    stop_pays e made = made_settles missed stands (stops m s g va i stands k e) (w.filled interaction.Past (ap guest_place (sym e))) (were_few missed va s here w.there) made
 
 -- By the exit.
 module _ (b : Bool) (m : Machine) (s : Shadowed) (g : GuestState) (m' : Machine) (s' : Shadowed) (exit : Exit) where
@@ -106,8 +106,8 @@ module _ (b : Bool) (m : Machine) (s : Shadowed) (g : GuestState) (m' : Machine)
   none_missed e is none pays = subst (λ c. PaysFor b c m s g m' s') (sym (ap missed_by is ∙ none)) pays
 
 module _ {Port : Type 0} (may : Port → List ℕ → Type 0) (port port' : Port) (m : Machine) (s : Shadowed) (g : GuestState) (c : Counts) (m' : Machine) (s' : Shadowed) (g' : GuestState) (c' : Counts) (stands : StandsFor m.memory s g) (exit : Exit) (reaches : Reaches exit m.memory s g) where
-  pub clear_pays : (va : ℕ) → exit ≡ Modify va → Tells exit m.memory s g → Made may (clear_met (guest_of m.memory g) va) port port' m s g c m' s' g' c' → Settles (missed_by exit) m s g m' s'
+  pub clear_pays : (va : ℕ) → exit ≡ Modify va → ExitIsMet exit m.memory s g → Made may (clear_met (guest_of m.memory g) va) port port' m s g c m' s' g' c' → Settles (missed_by exit) m s g m' s'
   clear_pays va is told made =
-      let t = subst (λ e. Tells e m.memory s g) is told in
+      let t = subst (λ e. ExitIsMet e m.memory s g) is told in
       subst (λ e. Settles (missed_by e) m s g m' s') (sym is)
       (made_settles 0 stands (ap (by_try (guest_of m.memory g)) t.1) (subst (λ e. Reaches e m.memory s g) is reaches) (none_within s (guest_of m.memory g)) made)

@@ -5,17 +5,17 @@ use Rattle.vax_hw.specs.declared.world.Exit.{Exit}
 use Rattle.vax_hw.specs.declared.world.Exit.TheVariants.{Arithmetic, Budget, Denied, Emulate, Modify, NotValid, Refused}
 use Rattle.vm_bursts.specs.Ran.{IsRun}
 use Rattle.vm_bursts.specs.declared.bursts.Ran.{Ran}
-use Rattle.vm_events.specs.Made.{Makes}
-use Rattle.vm_fitting.specs.Moves.{Moves}
-use Rattle.vm_fitting.specs.Paid.{Owes, touching_counted}
-use Rattle.vm_fitting.specs.Present.{HasPresent, behind_touches, to_miss}
-use Rattle.vm_fitting.specs.Runs.{EndsAt, StopsBefore}
-use Rattle.vm_fitting.proofs.Fitting.{steps_keep}
-use Rattle.vm_fitting.proofs.Own.{none_dropped}
-use Rattle.vm_fitting.proofs.Paying.{touches_follow}
-use Rattle.vm_shadow.specs.Stands.{Shadowed}
-use Rattle.vm_simulation.specs.Bursts.{Ends, after_counted, goes_on, missed_by, plainly, with_trap}
-use Rattle.vm_simulation.specs.Laws.{frames_claimed}
+use Rattle.vm_events.specs.Made.{MakesStep}
+use Rattle.vm_miss_laws.specs.Moves.{Moves}
+use Rattle.vm_miss_laws.specs.Paid.{Owes, touching_counted}
+use Rattle.vm_miss_laws.specs.Present.{HasPresent, after_touches, to_miss}
+use Rattle.vm_miss_laws.specs.Runs.{EndsAt, StopsBefore}
+use Rattle.vm_miss_laws.proofs.Fitting.{steps_keep}
+use Rattle.vm_miss_laws.proofs.Own.{none_dropped}
+use Rattle.vm_miss_laws.proofs.Paying.{touches_follow}
+use Rattle.vm_shadow.specs.Shadowed.{Shadowed}
+use Rattle.vm_simulation_laws.specs.Bursts.{EndsBurst, after_counted, goes_on, missed_by, with_plain_steps, with_trap}
+use Rattle.vm_simulation_laws.specs.Laws.{frames_claimed}
 use Rattle.vm_state.specs.Initiate.{Initiation, KernelStackBad, Stops, Taken, initiate}
 use Rattle.vm_state.specs.Partition.{guest_of}
 use Rattle.vm_state.specs.Run.{Run, after_step, after_steps, no_steps}
@@ -25,13 +25,13 @@ use Rattle.vm_state.specs.Step.{Idle, Kind, Stepped, executed, initiated_in, tra
 use Rattle.vm_state.specs.Touches.{Touching, touching_step, touching_steps}
 use Rattle.vm_state.specs.declared.exception.Exc.TheVariants as excs
 use Rattle.vm_state.specs.declared.guest_state.GuestState.{GuestState}
-use Rattle.vm_stepping.specs.Advances.{IsDone}
+use Rattle.vm_stepping.specs.Advances.{StepsOrRefills}
 use Rattle.vm_stepping.specs.Pays.{OwesStill, PaysFor, PaysOn, Settles}
 use Rattle.vm_stepping.specs.declared.counts.Counts.{Counts}
 use Rattle.vm_stepping.specs.declared.turns.Left.{Left}
 use Rattle.vm_stepping.proofs.PayingAlone.{misses_then, trap_moves}
 use Rattle.vm_stepping.proofs.Running.{IsBefore, before_goes, counted_left, is_before, plain_left}
-use Rattle.vm_touches.specs.Touched.{touches_now}
+use Rattle.vm_touch_laws.specs.Touched.{touches_now}
 
 -- first touches in two parts
 counted_touches : (all n : ℕ) (run : Run) (h : Guest) (t : Touching) → run.guest ≡ h → 1 ≤ n → n ≤ all → touching_counted all h t ≡ touching_steps (all - n) (after_counted n run).guest (touching_counted n h t)
@@ -56,7 +56,7 @@ ends_before (Modify va) left least all s h b k = k
 ends_before (Emulate t) left least all s h b k = k
 ends_before (Refused r) left least all s h b k = k
 
-some_left : (e : Exit) (done left : ℕ) (memory : List ℕ) (s : Shadowed) (g : GuestState) → IsBefore e → Ends e done left memory s g → 1 ≤ left
+some_left : (e : Exit) (done left : ℕ) (memory : List ℕ) (s : Shadowed) (g : GuestState) → IsBefore e → EndsBurst e done left memory s g → 1 ≤ left
 some_left Budget done left memory s g b k = absurd b
 some_left (Arithmetic kind) done left memory s g b k = absurd b
 some_left (NotValid va write) done left memory s g b k = k.0
@@ -76,7 +76,7 @@ module _ (all n : ℕ) (m : Machine) (s : Shadowed) (g : GuestState) (ran : Ran)
   run0 = record { guest = h; shown = []; tally = no_steps }
 
   abbrev run1 : Run
-  run1 = plainly run0 h1 ran.done ran.terms
+  run1 = with_plain_steps run0 h1 ran.done ran.terms
 
   all_touches : (t : Touching) → touching_counted all h t ≡ touching_steps (all - n) (goes_on ran.exit k.left run1).guest (touching_counted n h t)
   all_touches t = counted_touches all n run0 h t refl some most ∙ ap (λ (r : Run). touching_steps (all - n) r.guest (touching_counted n h t)) (k.steps run0 refl (omega arith))
@@ -84,7 +84,7 @@ module _ (all n : ℕ) (m : Machine) (s : Shadowed) (g : GuestState) (ran : Ran)
   -- the budget is used
   pub budget_on : ran.exit ≡ Budget → PaysOn (counted_left all) (plain_left (all - ran.done)) m s g m1 s g1
   budget_on is =
-      let used = subst (λ e. Ends e ran.done k.left m1.memory s g1) is k.ends in
+      let used = subst (λ e. EndsBurst e ran.done k.left m1.memory s g1) is k.ends in
       let none : missed_by ran.exit ≡ 0 = ap missed_by is in
       let rest : all - n ≡ all - ran.done = omega (arith, used.0, k.budget) in
       record {
@@ -165,7 +165,7 @@ same_guest a b h (Stops stop) = refl
 
 -- it retired with a trap
 module _ (all n : ℕ) (m : Machine) (s : Shadowed) (g : GuestState) (ran : Ran) (m1 : Machine) (g1 : GuestState) (some : 1 ≤ n) (most : n ≤ all) (k : IsRun n m s g ran m1 g1) (kind : ℕ) (is : ran.exit ≡ Arithmetic kind) (m2 : Machine) (s2 : Shadowed) (g2 : GuestState)
-    (makes : (j : Kind) → Makes (initiated_in j (guest_of m1.memory g1) (initiate (guest_of m1.memory g1) (excs.Arithmetic kind))) m1 s g1 m2 s2 g2) where
+    (makes : (j : Kind) → MakesStep (initiated_in j (guest_of m1.memory g1) (initiate (guest_of m1.memory g1) (excs.Arithmetic kind))) m1 s g1 m2 s2 g2) where
   abbrev start : Guest
   start = guest_of m.memory g
 
@@ -188,7 +188,7 @@ module _ (all n : ℕ) (m : Machine) (s : Shadowed) (g : GuestState) (ran : Ran)
         let x : Stepped = record (trapped_in (steps.Plain w.term) (frames_claimed before) stop (Some kind)) { touched = touches_now before } in
         let u : Touching = touching_step before (executed before) w.at in
         let moves : Moves x.written x.guest.state.tables s s2 = trap_moves (frames_claimed before) s s (trap_in (steps.Plain w.term)) m1 g1 m2 s2 g2 (none_dropped (frames_claimed before) s) (makes (steps.Plain w.term)) in
-        let within : w.at.count + w.comes.owed + to_miss s (touches_now before) ≤ (behind_touches (touches_now before) w.at).count = w.comes.owes.within in
+        let within : w.at.count + w.comes.owed + to_miss s (touches_now before) ≤ (after_touches (touches_now before) w.at).count = w.comes.owes.within in
         let counted : (touching_step before x w.at).count ≡ u.count = ap (λ (y : Stepped). (touching_step before y w.at).count) (sym w.step) in
         let least : t.count + owed ≤ w.at.count + w.comes.owed = w.comes.count in
         let none : missed_by ran.exit ≡ 0 = ap missed_by is in
@@ -211,19 +211,19 @@ module _ (all n : ℕ) (m : Machine) (s : Shadowed) (g : GuestState) (ran : Ran)
   pays_budget is e = subst (λ x. PaysOn (counted_left all) x m s g m1 s g1) (sym e) (budget_on all n m s g ran m1 g1 some most k is)
 
   module _ (m2 : Machine) (s2 : Shadowed) (g2 : GuestState) where
-    pub pays_trap : (kind : ℕ) → ran.exit ≡ Arithmetic kind → left ≡ plain_left (all - ran.done) → ((j : Kind) → Makes (initiated_in j (guest_of m1.memory g1) (initiate (guest_of m1.memory g1) (excs.Arithmetic kind))) m1 s g1 m2 s2 g2) → PaysOn (counted_left all) left m s g m2 s2 g2
+    pub pays_trap : (kind : ℕ) → ran.exit ≡ Arithmetic kind → left ≡ plain_left (all - ran.done) → ((j : Kind) → MakesStep (initiated_in j (guest_of m1.memory g1) (initiate (guest_of m1.memory g1) (excs.Arithmetic kind))) m1 s g1 m2 s2 g2) → PaysOn (counted_left all) left m s g m2 s2 g2
     pays_trap kind is e makes = subst (λ x. PaysOn (counted_left all) x m s g m2 s2 g2) (sym e) (trap_on all n m s g ran m1 g1 some most k kind is m2 s2 g2 makes)
 
-    module _ {Port : Type 0} (may : Port → List ℕ → Type 0) (port port' : Port) (c1 c2 : Counts) (not_budget : ran.exit ≡ Budget → ⊥) (not_arithmetic : (kind : ℕ) → ran.exit ≡ Arithmetic kind → ⊥) (b : Bool) (done : IsDone may b port port' m1 s g1 c1 m2 s2 g2 c2) (pays : PaysFor b (missed_by ran.exit) m1 s g1 m2 s2) where
+    module _ {Port : Type 0} (may : Port → List ℕ → Type 0) (port port' : Port) (c1 c2 : Counts) (not_budget : ran.exit ≡ Budget → ⊥) (not_arithmetic : (kind : ℕ) → ran.exit ≡ Arithmetic kind → ⊥) (b : Bool) (done : StepsOrRefills may b port port' m1 s g1 c1 m2 s2 g2 c2) (pays : PaysFor b (missed_by ran.exit) m1 s g1 m2 s2) where
       pub pays_step : b ≡ true → left ≡ plain_left (all - ran.done - 1) → PaysOn (counted_left all) left m s g m2 s2 g2
       pays_step is e =
-          let x = subst (λ y. IsDone may y port port' m1 s g1 c1 m2 s2 g2 c2) is done in
+          let x = subst (λ y. StepsOrRefills may y port port' m1 s g1 c1 m2 s2 g2 c2) is done in
           subst (λ y. PaysOn (counted_left all) y m s g m2 s2 g2) (sym e)
           (step_on all n m s g ran m1 g1 some most k (is_before ran.exit not_budget not_arithmetic) m2 s2 g2 (subst (λ y. PaysFor y (missed_by ran.exit) m1 s g1 m2 s2) is pays) (ap (λ (r : Run). r.guest) (x.run [])))
 
       pub pays_fills : b ≡ false → left ≡ counted_left (all - ran.done) → PaysOn (counted_left all) left m s g m2 s2 g2
       pays_fills is e =
-          let x = (subst (λ y. IsDone may y port port' m1 s g1 c1 m2 s2 g2 c2) is done).0 in
+          let x = (subst (λ y. StepsOrRefills may y port port' m1 s g1 c1 m2 s2 g2 c2) is done).0 in
           let guest : guest_of m2.memory g2 ≡ guest_of m1.memory g1 = ap (guest_of m2.memory) x.guest ∙ (λ i. record { memory = x.own i; state = state_of g1 }) in
           subst (λ y. PaysOn (counted_left all) y m s g m2 s2 g2) (sym e)
           (fills_on all n m s g ran m1 g1 some most k (is_before ran.exit not_budget not_arithmetic) m2 s2 g2 (subst (λ y. PaysFor y (missed_by ran.exit) m1 s g1 m2 s2) is pays) guest)

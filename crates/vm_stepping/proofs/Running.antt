@@ -8,13 +8,13 @@ use Rattle.vm_bursts.specs.declared.bursts.Ran.{Ran}
 use Rattle.vm_clock.specs.Ticks.{after_ticks}
 use Rattle.vm_console.specs.Appends.{Appends}
 use Rattle.vm_console.proofs.Composes.{Appends-nil}
-use Rattle.vm_events.specs.Made.{Makes}
-use Rattle.vm_shadow.specs.Stands.{Shadowed}
+use Rattle.vm_events.specs.Made.{MakesStep}
+use Rattle.vm_shadow.specs.Shadowed.{Shadowed}
 use Rattle.vm_shadow.specs.StandsFor.{StandsFor}
-use Rattle.vm_simulation.specs.Bursts.{Ends, IsQuiet, after_counted, counted_by, goes_on, with_count, with_trap}
-use Rattle.vm_simulation.specs.Laws.{Meets}
-use Rattle.vm_simulation.specs.Loaded.{as_run}
-use Rattle.vm_simulation.proofs.Bursting.{due_same}
+use Rattle.vm_simulation_laws.specs.Bursts.{EndsBurst, IsQuiet, after_counted, counted_by, goes_on, with_count, with_trap}
+use Rattle.vm_simulation_laws.specs.Laws.{Meets}
+use Rattle.vm_simulation_laws.specs.Loaded.{as_run}
+use Rattle.vm_simulation_laws.proofs.Bursting.{due_same}
 use Rattle.vm_state.specs.Initiate.{initiate}
 use Rattle.vm_state.specs.Interrupts.{due}
 use Rattle.vm_state.specs.Partition.{guest_of}
@@ -23,8 +23,8 @@ use Rattle.vm_state.specs.State.{state_of}
 use Rattle.vm_state.specs.Step.{Idle, Stepped, initiated_in}
 use Rattle.vm_state.specs.declared.exception.Exc.TheVariants as excs
 use Rattle.vm_state.specs.declared.guest_state.GuestState.{GuestState}
-use Rattle.vm_stepping.specs.Advances.{IsDone, Proceeds, Steps, to_do}
-use Rattle.vm_stepping.specs.Made.{Goes, Refills, Retired, run_of, tally_of}
+use Rattle.vm_stepping.specs.Advances.{Proceeds, Steps, StepsOrRefills, to_do}
+use Rattle.vm_stepping.specs.Made.{CountsRetired, KeepsRefinement, Refills, run_of, tally_of}
 use Rattle.vm_stepping.specs.declared.counts.Counts.{Counts}
 use Rattle.vm_stepping.specs.declared.turns.Left.{Left}
 use Rattle.vm_stepping.proofs.Going.{counted_sum, few_unfilled, goes_then, retired_then, steps_sum}
@@ -64,7 +64,7 @@ before_goes (Modify va) left run k = refl
 before_goes (Emulate t) left run k = refl
 before_goes (Refused r) left run k = refl
 
-pub before_ends : (e : Exit) (done left : ℕ) (memory : List ℕ) (s : Shadowed) (g : GuestState) → IsBefore e → Ends e done left memory s g → (1 ≤ left) × Meets e memory s g
+pub before_ends : (e : Exit) (done left : ℕ) (memory : List ℕ) (s : Shadowed) (g : GuestState) → IsBefore e → EndsBurst e done left memory s g → (1 ≤ left) × Meets e memory s g
 before_ends Budget done left memory s g k ends = absurd k
 before_ends (Arithmetic kind) done left memory s g k ends = absurd k
 before_ends (NotValid va write) done left memory s g k ends = ends
@@ -92,7 +92,7 @@ module _ (all n : ℕ) (m : Machine) (s : Shadowed) (g : GuestState) (c : Counts
       let is : all ≡ n + (all - n) = omega (arith, most) in
       ap (λ x. after_counted x (run_of m.memory g c shown)) is ∙ counted_sum n (all - n) (run_of m.memory g c shown) some ∙ ap (after_steps (all - n)) (k.steps (run_of m.memory g c shown) refl small)
 
-  run_goes : Goes m s g m1 s g1
+  run_goes : KeepsRefinement m s g m1 s g1
   run_goes = record {
     stands = k.stands;
     only = record { size = k.only.size; other = λ p own tables. k.only.other p (subst (λ x. (p < 512 * x) ⊎ (512 * (x + g.pages) ≤ p)) stands.serves.base (subst (λ x. (p < 512 * s.base) ⊎ (512 * (s.base + x) ≤ p)) stands.serves.pages own)) };
@@ -100,13 +100,13 @@ module _ (all n : ℕ) (m : Machine) (s : Shadowed) (g : GuestState) (c : Counts
     tables = refl;
   }
 
-  run_retired : Retired m c m1 c1
+  run_retired : CountsRetired m c m1 c1
   run_retired = let e = k.retired in let f = k.trail in record { retired = omega (arith, e); trail = omega (arith, f) }
 
   -- the budget is used
   module _ (is : ran.exit ≡ Budget) where
     used : (k.left ≡ 0) × (1 ≤ ran.done)
-    used = subst (λ e. Ends e ran.done k.left m1.memory s g1) is k.ends
+    used = subst (λ e. EndsBurst e ran.done k.left m1.memory s g1) is k.ends
 
     pub ends_budget : {Port : Type 0} (may : Port → List ℕ → Type 0) (port : Port) → Proceeds may (counted_left all) (plain_left (all - ran.done)) port port m s g c m1 s g1 c1
     ends_budget may port =
@@ -130,9 +130,9 @@ module _ (all n : ℕ) (m : Machine) (s : Shadowed) (g : GuestState) (c : Counts
     trap = initiated_in Idle (guest_of m1.memory g1) (initiate (guest_of m1.memory g1) (excs.Arithmetic kind))
 
     one_done : 1 ≤ ran.done
-    one_done = subst (λ e. Ends e ran.done k.left m1.memory s g1) is k.ends
+    one_done = subst (λ e. EndsBurst e ran.done k.left m1.memory s g1) is k.ends
 
-    pub ends_trap : {Port : Type 0} (may : Port → List ℕ → Type 0) (port port' : Port) → Makes trap m1 s g1 m2 s2 g2 → Appends may port port' trap.shown → Proceeds may (counted_left all) (plain_left (all - ran.done)) port port' m s g c m2 s2 g2 c1
+    pub ends_trap : {Port : Type 0} (may : Port → List ℕ → Type 0) (port port' : Port) → MakesStep trap m1 s g1 m2 s2 g2 → Appends may port port' trap.shown → Proceeds may (counted_left all) (plain_left (all - ran.done)) port port' m s g c m2 s2 g2 c1
     ends_trap may port port' makes shows =
         let whole = k.budget in
         let rest : k.left + (all - n) ≡ all - ran.done = omega (arith, whole, most) in
@@ -237,7 +237,7 @@ module _ (all n : ℕ) (m : Machine) (s : Shadowed) (g : GuestState) (c c1 : Cou
   module _ (m2 : Machine) (s2 : Shadowed) (g2 : GuestState) where
     pub with_trap_behind : (kind : ℕ) → ran.exit ≡ Arithmetic kind → left ≡ plain_left (all - ran.done) →
         let trap = initiated_in Idle (guest_of m1.memory g1) (initiate (guest_of m1.memory g1) (excs.Arithmetic kind)) in
-        Makes trap m1 s g1 m2 s2 g2 → Appends may port port' trap.shown → Proceeds may (counted_left all) left port port' m s g c m2 s2 g2 c1
+        MakesStep trap m1 s g1 m2 s2 g2 → Appends may port port' trap.shown → Proceeds may (counted_left all) left port port' m s g c m2 s2 g2 c1
     with_trap_behind kind is e makes shows = subst (λ x. Proceeds may (counted_left all) x port port' m s g c m2 s2 g2 c1) (sym e) (subst (λ x. Proceeds may (counted_left all) (plain_left (all - ran.done)) port port' m s g c m2 s2 g2 x) (sym same) (ends_trap all n m s g c ran m1 g1 stands some most small k kind is m2 s2 g2 may port port' makes shows))
 
     pub trap_falls_so : (kind : ℕ) → ran.exit ≡ Arithmetic kind → left ≡ plain_left (all - ran.done) → to_do left s2 < to_do (counted_left all) s
@@ -254,15 +254,15 @@ module _ (all n : ℕ) (m : Machine) (s : Shadowed) (g : GuestState) (c c1 : Cou
       pub one_is_left : 1 ≤ all - ran.done
       one_is_left = one_left all n m s g c ran m1 g1 stands some most small k before
 
-      pub with_step : (b : Bool) → b ≡ true → left ≡ plain_left (all - ran.done - 1) → IsDone may b port port' m1 s g1 c1 m2 s2 g2 c2 → Proceeds may (counted_left all) left port port' m s g c m2 s2 g2 c2 × (to_do left s2 < to_do (counted_left all) s)
+      pub with_step : (b : Bool) → b ≡ true → left ≡ plain_left (all - ran.done - 1) → StepsOrRefills may b port port' m1 s g1 c1 m2 s2 g2 c2 → Proceeds may (counted_left all) left port port' m s g c m2 s2 g2 c2 × (to_do left s2 < to_do (counted_left all) s)
       with_step b is e done =
-          let x = subst (λ y. Steps may port port' m1 s g1 y m2 s2 g2 c2) same (subst (λ y. IsDone may y port port' m1 s g1 c1 m2 s2 g2 c2) is done) in
+          let x = subst (λ y. Steps may port port' m1 s g1 y m2 s2 g2 c2) same (subst (λ y. StepsOrRefills may y port port' m1 s g1 c1 m2 s2 g2 c2) is done) in
           subst (λ y. Proceeds may (counted_left all) y port port' m s g c m2 s2 g2 c2 × (to_do y s2 < to_do (counted_left all) s)) (sym e)
           (met_steps all n m s g c ran m1 g1 stands some most small k before may port port' m2 s2 g2 c2 x, met_falls all n m s g c ran m1 g1 stands some most small k before may port port' m2 s2 g2 c2 x)
 
-      pub with_fills : (b : Bool) → b ≡ false → left ≡ counted_left (all - ran.done) → IsQuiet n (state_of g) → IsDone may b port port' m1 s g1 c1 m2 s2 g2 c2 → Proceeds may (counted_left all) left port port' m s g c m2 s2 g2 c2 × (to_do left s2 < to_do (counted_left all) s)
+      pub with_fills : (b : Bool) → b ≡ false → left ≡ counted_left (all - ran.done) → IsQuiet n (state_of g) → StepsOrRefills may b port port' m1 s g1 c1 m2 s2 g2 c2 → Proceeds may (counted_left all) left port port' m s g c m2 s2 g2 c2 × (to_do left s2 < to_do (counted_left all) s)
       with_fills b is e q done =
-          let x = subst (λ y. IsDone may y port port' m1 s g1 c1 m2 s2 g2 c2) is done in
+          let x = subst (λ y. StepsOrRefills may y port port' m1 s g1 c1 m2 s2 g2 c2) is done in
           let r : Refills m1 s g1 m2 s2 g2 = x.0 in
           let own : g2 ≡ g1 = r.guest in
           let refills = subst (λ y. Refills m1 s g1 m2 s2 y) own r in

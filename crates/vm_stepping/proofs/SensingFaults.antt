@@ -5,7 +5,7 @@ use Rattle.std.proofs.lemmas.Bool.{cond_both}
 use Rattle.vax_arch.specs.Fields.{is_on_interrupt_stack, mode_number}
 use Rattle.vax_arch.specs.Rei.{rei_refuses}
 use Rattle.vax_arch.specs.declared.mode.Mode.{Mode}
-use Rattle.vax_table.specs.Script.{At, Test, Trouble, outcome}
+use Rattle.vax_table.specs.Interaction.{At, Test, Trouble, outcome}
 use Rattle.vax_table.specs.Tries.{Clear, Completes, Stopped, Tried, tried}
 use Rattle.vax_table.specs.declared.act.Dest.{Dest}
 use Rattle.vax_table.specs.declared.act.Dest.TheVariants.{Memory, Nowhere, Register}
@@ -21,7 +21,7 @@ use Rattle.vm_state.specs.Initiate.{Initiation, KernelStackBad, Stops, Taken, in
 use Rattle.vm_state.specs.Packets.{accepted}
 use Rattle.vm_state.specs.Pushes.{Faulty, Homes, PastMemory, Walked, push_walked}
 use Rattle.vm_state.specs.Registers.{Value, Written, read, written}
-use Rattle.vm_state.specs.Sensitive.{ClearAt, Does, Faults, LacksMemory, Sensed, StopsThere, behind, behind_read, change_mode, changed, chm_walked, destination_walked, fault_of, guest_behind, mfpr_by, mtpr_by, packet_taken, put_at, rei_by, sensed, switched, troubled, with_codes, with_register_effect}
+use Rattle.vm_state.specs.Sensitive.{ClearAt, Does, Faults, LacksMemory, Sensed, StopsThere, after_register_read, change_mode, chm_walked, destination_walked, fault_of, guest_past_instruction, mfpr_by, mode_changed, mtpr_by, packet_taken, past_instruction, put_at, rei_by, sensed, switched, troubled, with_codes, with_register_effect}
 use Rattle.vm_state.specs.State.{Guest, State, mode_of_state, pointer_of}
 use Rattle.vm_state.specs.Translation.{is_clear, space_of, walk_of}
 use Rattle.vm_state.specs.declared.exception.Exc.TheVariants as excs
@@ -41,7 +41,7 @@ HasProperFault (ClearAt va) = Unit {0}
 HasProperFault (StopsThere stop) = Unit {0}
 HasProperFault LacksMemory = Unit {0}
 
-proper_changed : (i : Initiation) → HasProperFault (changed i)
+proper_changed : (i : Initiation) → HasProperFault (mode_changed i)
 proper_changed (Taken h written) = tt
 proper_changed (KernelStackBad h written) = tt
 proper_changed (Stops stop) = tt
@@ -53,7 +53,7 @@ proper_walked i PastMemory = tt
 
 proper_chm : (g : Guest) (t : Trapped) (to : Mode) → HasProperFault (change_mode g t to)
 proper_chm g t to =
-    let h = guest_behind g t in
+    let h = guest_past_instruction g t in
     let e = excs.Chm to t.a in
     let m = new_mode g.state e in
     cond_both (is_on_interrupt_stack g.state.psl) _ _ HasProperFault (λ k. tt) (λ k.
@@ -100,15 +100,15 @@ proper_put g Nowhere v = tt
 proper_put g (Register n) v = tt
 proper_put g (Memory at) v = tt
 
-proper_read : (g : Guest) (dest : Dest) (clear : Option ℕ) (v : Result Value ReservedOperand) → HasProperFault (behind_read g dest clear v)
+proper_read : (g : Guest) (dest : Dest) (clear : Option ℕ) (v : Result Value ReservedOperand) → HasProperFault (after_register_read g dest clear v)
 proper_read g dest clear (Err refused) = tt
 proper_read g dest (Some va) (Ok v) = tt
 proper_read g dest None (Ok v) = proper_put g dest v
 
 proper_mfpr : (g : Guest) (t : Trapped) (x : Tried ℕ) → HasProperFault (mfpr_by g t x)
 proper_mfpr g t (Stopped trouble) = proper_trouble g trouble
-proper_mfpr g t (Clear va) = proper_read g t.dest (Some va) (read (length g.memory) (behind g.state t) t.a)
-proper_mfpr g t (Completes old) = proper_read g t.dest None (read (length g.memory) (behind g.state t) t.a)
+proper_mfpr g t (Clear va) = proper_read g t.dest (Some va) (read (length g.memory) (past_instruction g.state t) t.a)
+proper_mfpr g t (Completes old) = proper_read g t.dest None (read (length g.memory) (past_instruction g.state t) t.a)
 
 proper_switched : (g : Guest) (x : Switched) → HasProperFault (switched g x)
 proper_switched g (Switches h written) = tt
@@ -123,7 +123,7 @@ proper_fault g t Halt = tt
 proper_fault g t Wait = tt
 proper_fault g t (Chm to) = proper_chm g t to
 proper_fault g t Rei = proper_rei g t (outcome (space_of g) (two_popped (slice_index t.regs 14)))
-proper_fault g t Mtpr = proper_mtpr g t.a (written (behind g.state t) t.b t.a)
+proper_fault g t Mtpr = proper_mtpr g t.a (written (past_instruction g.state t) t.b t.a)
 proper_fault g t Mfpr = proper_mfpr g t (tried (space_of g) (is_clear g) (destination_walked t.dest))
 proper_fault g t Ldpctx = proper_switched g (loads_context g t.next_pc)
 proper_fault g t Svpctx = proper_switched g (saves_context g t.next_pc)

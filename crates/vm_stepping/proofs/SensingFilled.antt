@@ -5,10 +5,10 @@ use Rattle.vax_arch.specs.Fields.{is_valid}
 use Rattle.vax_hw.specs.Machine.{Machine}
 use Rattle.vm_bursts.specs.Guarded.{count_below}
 use Rattle.vm_bursts.proofs.Completing.{split}
-use Rattle.vm_emulate.specs.Emulated.{FillsTwo, IsFilled}
-use Rattle.vm_fitting.specs.Laws.{KeepsFilled}
+use Rattle.vm_emulate.specs.Emulated.{FillsTwo, HasValidEntry}
+use Rattle.vm_miss_laws.specs.Laws.{KeepsFilled}
 use Rattle.vm_shadow.specs.Layout.{all_entries, entry_number}
-use Rattle.vm_shadow.specs.Stands.{Shadowed, read_at, real_at}
+use Rattle.vm_shadow.specs.Shadowed.{Shadowed, read_at, real_at}
 use Rattle.vm_shadow.specs.StandsFor.{IsPresent, OnlyGuest, StandsFor, own_number}
 use Rattle.vm_shadow.proofs.Changes.{filled_of}
 use Rattle.vm_shadow.proofs.Covering.{present_covered, slot_small}
@@ -51,20 +51,20 @@ module _ (p q : ℕ) (g : GuestState) (m : Machine) (s : Shadowed) (m' : Machine
   number : (page : ℕ) → IsPresent (guest_of m.memory g) page → own_number s page < all_entries
   number page k = number_small s.slot page (slot_small m.memory s stands.keeps.fits) (present_covered m.memory s g page stands.keeps.fits stands.serves k)
 
-  now_filled : (page : ℕ) → own_number s page < all_entries → IsFilled page m' s' → is_empty s' (own_number s page) ≡ false
+  now_filled : (page : ℕ) → own_number s page < all_entries → HasValidEntry page m' s' → is_empty s' (own_number s page) ≡ false
   now_filled page h k =
       let same : own_number s' page ≡ own_number s page = ap (λ (x : Shadowed). entry_number x.slot page) two.rest in
       let valid : is_valid (real_at m'.memory s' (own_number s page)) ≡ true = subst (λ n. is_valid (real_at m'.memory s' n) ≡ true) same k in
       let r = filled_of [] m'.memory s' (own_number s page) two.stands.keeps h valid in
       ap (λ x. not (is_some x)) r.read
 
-  none_else : (page n : ℕ) → IsPresent (guest_of m.memory g) page → IsFilled page m' s' → n ≡ own_number s page → is_empty s' n ≡ true → is_empty s n ≡ true
+  none_else : (page n : ℕ) → IsPresent (guest_of m.memory g) page → HasValidEntry page m' s' → n ≡ own_number s page → is_empty s' n ≡ true → is_empty s n ≡ true
   none_else page n k f e h = absurd (false≢true (sym (now_filled page (number page k) f) ∙ subst (λ x. is_empty s' x ≡ true) e h))
 
   was_empty : (n : ℕ) → is_empty s' n ≡ true → is_empty s n ≡ true
   was_empty n h = split (two.stay n) (λ e. ap (λ x. not (is_some x)) (sym e) ∙ h) (λ one. split one (λ e. none_else p n here two.first e h) (λ e. none_else q n there two.second e h))
 
-  filled_at : (page n : ℕ) → IsPresent (guest_of m.memory g) page → IsFilled page m' s' → n ≡ own_number s page → is_some (read_at s' n) ≡ true
+  filled_at : (page n : ℕ) → IsPresent (guest_of m.memory g) page → HasValidEntry page m' s' → n ≡ own_number s page → is_some (read_at s' n) ≡ true
   filled_at page n k f e = not-false (is_some (read_at s' n)) (subst (λ x. is_empty s' x ≡ false) (sym e) (now_filled page (number page k) f))
 
   -- what is filled stays so
@@ -75,7 +75,7 @@ module _ (p q : ℕ) (g : GuestState) (m : Machine) (s : Shadowed) (m' : Machine
     held = ap (λ (x : Shadowed). x.held) two.rest;
   }
 
-  one_fewer : (page : ℕ) → IsPresent (guest_of m.memory g) page → IsFilled page m' s' → read_at s (own_number s page) ≡ None → unfilled s' < unfilled s
+  one_fewer : (page : ℕ) → IsPresent (guest_of m.memory g) page → HasValidEntry page m' s' → read_at s (own_number s page) ≡ None → unfilled s' < unfilled s
   unfolding unfilled
   one_fewer page k f e = count_fewer (is_empty s) (is_empty s') (own_number s page) all_entries was_empty (number page k) (ap (λ x. not (is_some x)) e) (now_filled page (number page k) f)
 

@@ -8,11 +8,11 @@ use Rattle.vm_emulate.specs.declared.emulated.Emulated.{Emulated}
 use Rattle.vm_emulate.specs.declared.emulated.Emulated.TheVariants as outcomes
 use Rattle.vm_exception.specs.Attempted.{Stays}
 use Rattle.vm_exception.specs.Initiated.{IsProper}
-use Rattle.vm_fitting.specs.Laws.{KeepsFilled}
-use Rattle.vm_shadow.specs.Stands.{Shadowed}
+use Rattle.vm_miss_laws.specs.Laws.{KeepsFilled}
+use Rattle.vm_shadow.specs.Shadowed.{Shadowed}
 use Rattle.vm_shadow.specs.StandsFor.{StandsFor}
-use Rattle.vm_simulation.specs.Laws.{IsTrapped}
-use Rattle.vm_simulation.specs.Loaded.{guest_try}
+use Rattle.vm_simulation_laws.specs.Laws.{IsTrapped}
+use Rattle.vm_simulation_laws.specs.Loaded.{guest_try}
 use Rattle.vm_state.specs.Partition.{guest_of}
 use Rattle.vm_state.specs.Run.{tallied}
 use Rattle.vm_state.specs.Step.{Stepped, by_try, faulted}

@@ -16,8 +16,8 @@ use Rattle.vm_events.specs.Noted.{note_by_try, note_of_act, note_of_probed, note
 use Rattle.vm_events.specs.declared.note.Note.{Note}
 use Rattle.vm_events.specs.declared.note.Note.TheVariants.{Nothing, Page}
 use Rattle.vm_exception.specs.Attempted.{Stays}
-use Rattle.vm_shadow.specs.Stands.{Shadowed}
-use Rattle.vm_simulation.specs.Laws.{IsTrap, IsTrapped}
+use Rattle.vm_shadow.specs.Shadowed.{Shadowed}
+use Rattle.vm_simulation_laws.specs.Laws.{IsTrap, IsTrapped}
 use Rattle.vm_state.specs.Partition.{guest_of}
 use Rattle.vm_state.specs.Probe.{Answers, NotValid, Probed}
 use Rattle.vm_state.specs.Probe as probes

@@ -7,12 +7,12 @@ use Rattle.vax_arch.specs.declared.mode.Intent.{Intent}
 use Rattle.vax_table.specs.Claims.{Holds, claims}
 use Rattle.vax_table.specs.Fetch.{fetched}
 use Rattle.vax_table.specs.Operand.{operands_of, trap_operands}
-use Rattle.vax_table.specs.Operations.{OperationLine, arithmetic_operations, in_operation_lines, in_operations, move_operations, operation_of, other_operations}
+use Rattle.vax_table.specs.Operations.{OperationRow, arithmetic_operations, in_operations, move_operations, operation_in_rows, operation_of, other_operations}
 use Rattle.vax_table.specs.Plan.{plan_of}
-use Rattle.vax_table.specs.Script.{Script, Trouble, outcome}
+use Rattle.vax_table.specs.Interaction.{Interaction, Trouble, outcome}
 use Rattle.vax_table.specs.Spelling.{Instruction}
 use Rattle.vax_table.specs.Tries.{Completes, first_clear, tried_by, unless_clear}
-use Rattle.vax_table.specs.Whole.{Act, Meant, Plain, Probes, Traps, acted, acted_by, instruction, is_always_done, is_kernel_mode, meant, plainly, probing, trapping}
+use Rattle.vax_table.specs.Whole.{Act, Meant, Plain, Probes, Traps, acted, acted_by, instruction, is_always_done, is_kernel_mode, meant, plain_meaning, probing, trapping}
 use Rattle.vax_table.specs.declared.act.Sens.{Sens}
 use Rattle.vax_table.specs.declared.act.Sens.TheVariants.{Prober, Probew}
 use Rattle.vax_table.specs.declared.meaning.Operation.{Operation}
@@ -20,7 +20,7 @@ use Rattle.vax_table.specs.declared.meaning.Operation.TheVariants as does
 use Rattle.vax_table.proofs.Claims.{holds-bind, holds_always, holds_made}
 use Rattle.vax_table.proofs.Tests.{if_both}
 use Rattle.vax_table.proofs.Widths.{OperandsAreWide, operands_wide}
-use Rattle.vm_simulation.specs.Loaded.{guest_try}
+use Rattle.vm_simulation_laws.specs.Loaded.{guest_try}
 use Rattle.vm_state.specs.State.{Guest, mode_of_state}
 use Rattle.vm_state.specs.Step.{instruction_of}
 use Rattle.vm_state.specs.Translation.{is_clear, space_of}
@@ -41,7 +41,7 @@ abbrev are_no_probes : List Operation → Bool
 are_no_probes [] = true
 are_no_probes (o ∷ os) = is_no_probe o && are_no_probes os
 
-abbrev are_no_probe_lines : List OperationLine → Bool
+abbrev are_no_probe_lines : List OperationRow → Bool
 are_no_probe_lines [] = true
 are_no_probe_lines (l ∷ ls) = is_no_probe l.operation && are_no_probe_lines ls
 
@@ -57,7 +57,7 @@ in_block n first block rest e r =
     (λ t. elim (at_place block (n - first) e) [ inl none ↦ rw none r | inr some ↦ rw some.1 some.2 ])
     (λ t. r)
 
-in_lines : (n : ℕ) (ls : List OperationLine) → are_no_probe_lines ls ≡ true → is_no_probe (in_operation_lines n ls) ≡ true
+in_lines : (n : ℕ) (ls : List OperationRow) → are_no_probe_lines ls ≡ true → is_no_probe (operation_in_rows n ls) ≡ true
 in_lines n [] e = refl
 in_lines n (l ∷ ls) e =
     let parts = and_parts (is_no_probe l.operation) (are_no_probe_lines ls) e in
@@ -92,13 +92,13 @@ MeantIsProper n cs m = ActIsProper n m.act
 abbrev Anything : {A : Type 0} → List ℕ → A → Type 0
 Anything cs a = Unit {0}
 
-any_end : {A : Type 0} (cs : List ℕ) (m : Script A) → Holds Anything cs m
+any_end : {A : Type 0} (cs : List ℕ) (m : Interaction A) → Holds Anything cs m
 any_end cs m = holds_always Anything cs m (λ ds a. tt)
 
 trap_holds : (n : ℕ) (op : Sens) (d : Instruction) (r cs : List ℕ) → IsNoProbe op → Holds (MeantIsProper n) cs (trapping op d r)
 trap_holds n op d r cs k = holds-bind Anything (MeantIsProper n) cs (trap_operands d r) _ (any_end cs (trap_operands d r)) (λ ds o h. k)
 
-plain_holds : (n psl : ℕ) (d : Instruction) (r cs : List ℕ) → Holds (MeantIsProper n) cs (plainly psl d r)
+plain_holds : (n psl : ℕ) (d : Instruction) (r cs : List ℕ) → Holds (MeantIsProper n) cs (plain_meaning psl d r)
 plain_holds n psl d r cs = holds-bind Anything (MeantIsProper n) cs (plan_of psl d r) _ (any_end cs (plan_of psl d r)) (λ ds e h. tt)
 
 probe_holds : (i : Intent) (d : Instruction) (r cs : List ℕ) → Holds (MeantIsProper (length r)) cs (probing i d r)

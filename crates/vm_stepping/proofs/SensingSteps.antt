@@ -20,14 +20,14 @@ use Rattle.vm_emulate.specs.declared.emulated.Emulated.{Emulated}
 use Rattle.vm_emulate.specs.declared.emulated.Emulated.TheVariants as outcomes
 use Rattle.vm_emulate.proofs.Probings.{plain_then}
 use Rattle.vm_exception.specs.Attempted.{Stays}
-use Rattle.vm_exception.specs.Initiated.{Becomes, IsProper, StopsWith}
-use Rattle.vm_fitting.specs.Laws.{KeepsFilled}
-use Rattle.vm_fitting.specs.Moves.{Moves}
-use Rattle.vm_fitting.proofs.Own.{moves_alone}
-use Rattle.vm_shadow.specs.Stands.{Shadowed}
+use Rattle.vm_exception.specs.Initiated.{InitiatesTo, IsProper, StopsWith}
+use Rattle.vm_miss_laws.specs.Laws.{KeepsFilled}
+use Rattle.vm_miss_laws.specs.Moves.{Moves}
+use Rattle.vm_miss_laws.proofs.Own.{moves_alone}
+use Rattle.vm_shadow.specs.Shadowed.{Shadowed}
 use Rattle.vm_shadow.specs.StandsFor.{OnlyGuest, StandsFor}
-use Rattle.vm_simulation.specs.Laws.{IsTrap, IsTrapped, IsUnfilled}
-use Rattle.vm_simulation.specs.Loaded.{guest_try}
+use Rattle.vm_simulation_laws.specs.Laws.{IsTrap, IsTrapped, IsUnfilled}
+use Rattle.vm_simulation_laws.specs.Loaded.{guest_try}
 use Rattle.vm_state.specs.Partition.{guest_of, part, partition_of}
 use Rattle.vm_state.specs.Probe.{Answers, NotValid, Probed}
 use Rattle.vm_state.specs.Probe as probes
@@ -106,7 +106,7 @@ module _ (m : Machine) (s : Shadowed) (g : GuestState) (m' : Machine) (s' : Shad
   clear_set : (va : ℕ) → g.modify_faults ≡ false → sensed_as own (ClearAt va) ≡ stepped (marked_guest own va) [] SetModify (marks_by (look own (page_of va)))
   clear_set va e = ap (λ b. if b then faulted own (excs.ModifyFault va) else stepped (marked_guest own va) [] SetModify (marks_by (look own (page_of va)))) e
 
-  clear_moves : (va : ℕ) → Becomes (marked_guest own va) (marks_by (look own (page_of va))) s m' s' g' → Moves (marks_by (look own (page_of va))) (tables_of g) s s'
+  clear_moves : (va : ℕ) → InitiatesTo (marked_guest own va) (marks_by (look own (page_of va))) s m' s' g' → Moves (marks_by (look own (page_of va))) (tables_of g) s s'
   clear_moves va k = moves_alone (marks_by (look own (page_of va))) m'.memory s s' (tables_of g) still.keeps.fits (ap (λ (x : Shadowed). x.told) k.drops.rest ∙ stands.serves.told) (among_dropped (marks_by (look own (page_of va))) s s' k.drops)
 
   -- a sensitive instruction but HALT

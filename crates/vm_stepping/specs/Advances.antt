@@ -4,12 +4,12 @@ use Rattle.vax_hw.specs.Machine.{Machine}
 use Rattle.vm_clock.specs.Ticks.{ticks_to_wrap}
 use Rattle.vm_console.specs.Appends.{Appends}
 use Rattle.vm_shadow.specs.Layout.{all_entries}
-use Rattle.vm_shadow.specs.Stands.{Shadowed}
-use Rattle.vm_simulation.specs.Bursts.{IsQuiet, after_counted, with_count}
+use Rattle.vm_shadow.specs.Shadowed.{Shadowed}
+use Rattle.vm_simulation_laws.specs.Bursts.{IsQuiet, after_counted, with_count}
 use Rattle.vm_state.specs.Run.{Run, after_steps}
 use Rattle.vm_state.specs.State.{state_of}
 use Rattle.vm_state.specs.declared.guest_state.GuestState.{GuestState}
-use Rattle.vm_stepping.specs.Made.{Goes, Refills, Retired, no_counts, run_of, steps_in, unfilled}
+use Rattle.vm_stepping.specs.Made.{CountsRetired, KeepsRefinement, Refills, no_counts, run_of, steps_in, unfilled}
 use Rattle.vm_stepping.specs.declared.counts.Counts.{Counts}
 use Rattle.vm_stepping.specs.declared.turns.Left.{Left}
 
@@ -18,18 +18,18 @@ pub record Steps {Port : Type 0} (may : Port → List ℕ → Type 0) (port port
   pub text : List ℕ
   pub run : (shown : List ℕ) → after_counted 1 (run_of m.memory g c shown) ≡ run_of m'.memory g' c' (shown ++ text)
   pub shows : Appends may port port' text
-  pub goes : Goes m s g m' s' g'
+  pub goes : KeepsRefinement m s g m' s' g'
   pub one : steps_in c' ≡ steps_in c + 1
-  pub retired : Retired m c m' c'
+  pub retired : CountsRetired m c m' c'
 
 -- the step is made; or pages are filled, and the instruction is tried again
-abbrev pub IsDone : {Port : Type 0} → (Port → List ℕ → Type 0) → Bool → Port → Port → Machine → Shadowed → GuestState → Counts → Machine → Shadowed → GuestState → Counts → Type 0
-IsDone may true port port' m s g c m' s' g' c' = Steps may port port' m s g c m' s' g' c'
-IsDone may false port port' m s g c m' s' g' c' = Refills m s g m' s' g' × (c' ≡ c) × Appends may port port' []
+abbrev pub StepsOrRefills : {Port : Type 0} → (Port → List ℕ → Type 0) → Bool → Port → Port → Machine → Shadowed → GuestState → Counts → Machine → Shadowed → GuestState → Counts → Type 0
+StepsOrRefills may true port port' m s g c m' s' g' c' = Steps may port port' m s g c m' s' g' c'
+StepsOrRefills may false port port' m s g c m' s' g' c' = Refills m s g m' s' g' × (c' ≡ c) × Appends may port port' []
 
 -- so many steps, of which the first may be counted already
-abbrev pub behind : Left → Run → Run
-behind left run = if left.counted then after_counted left.steps run else after_steps left.steps run
+abbrev pub after_left_steps : Left → Run → Run
+after_left_steps left run = if left.counted then after_counted left.steps run else after_steps left.steps run
 
 -- a guest whose next step is counted reaches its instruction in it
 abbrev pub IsBegun : Left → GuestState → Type 0
@@ -38,12 +38,12 @@ IsBegun left g = left.counted ≡ true → (1 ≤ left.steps) × IsQuiet 1 (stat
 -- Some of the steps that are left are made, or the next is begun, or pages are filled for it.
 pub record Proceeds {Port : Type 0} (may : Port → List ℕ → Type 0) (left left' : Left) (port port' : Port) (m : Machine) (s : Shadowed) (g : GuestState) (c : Counts) (m' : Machine) (s' : Shadowed) (g' : GuestState) (c' : Counts) : Type 0 where
   pub text : List ℕ
-  pub run : (shown : List ℕ) → behind left (run_of m.memory g c shown) ≡ behind left' (run_of m'.memory g' c' (shown ++ text))
+  pub run : (shown : List ℕ) → after_left_steps left (run_of m.memory g c shown) ≡ after_left_steps left' (run_of m'.memory g' c' (shown ++ text))
   pub shows : Appends may port port' text
-  pub goes : Goes m s g m' s' g'
+  pub goes : KeepsRefinement m s g m' s' g'
   pub kinds : steps_in c' + left'.steps ≡ steps_in c + left.steps
   pub fewer : left'.steps ≤ left.steps
-  pub retired : Retired m c m' c'
+  pub retired : CountsRetired m c m' c'
   pub begun : IsBegun left' g'
 
 -- A guest whose next step is counted is idle in it and in some that follow, in none of which its clock wraps.
@@ -65,6 +65,6 @@ pub record Advances {Port : Type 0} (may : Port → List ℕ → Type 0) (steps 
   pub text : List ℕ
   pub run : after_steps steps (run_of m.memory g no_counts []) ≡ run_of m'.memory g' c text
   pub shows : Appends may port port' text
-  pub goes : Goes m s g m' s' g'
+  pub goes : KeepsRefinement m s g m' s' g'
   pub kinds : steps_in c ≡ steps
-  pub retired : Retired m no_counts m' c
+  pub retired : CountsRetired m no_counts m' c

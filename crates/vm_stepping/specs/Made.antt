@@ -3,11 +3,11 @@ use Rattle.std.specs.Prelude.{◌≡◌, ℕ, ◌+◌, ◌%◌, ◌^◌, ◌<◌
 use Rattle.vax_hw.specs.Machine.{Machine}
 use Rattle.vm_bursts.specs.Guarded.{OnlyBoth, count_below}
 use Rattle.vm_console.specs.Appends.{Appends}
-use Rattle.vm_fitting.specs.Moves.{Moves}
+use Rattle.vm_miss_laws.specs.Moves.{Moves}
 use Rattle.vm_shadow.specs.Layout.{all_entries}
-use Rattle.vm_shadow.specs.Stands.{Shadowed, read_at}
+use Rattle.vm_shadow.specs.Shadowed.{Shadowed, read_at}
 use Rattle.vm_shadow.specs.StandsFor.{StandsFor}
-use Rattle.vm_simulation.specs.Loaded.{guest_try}
+use Rattle.vm_simulation_laws.specs.Loaded.{guest_try}
 use Rattle.vm_state.specs.Partition.{guest_of, partition_of}
 use Rattle.vm_state.specs.Run.{Run, Tally, after_step}
 use Rattle.vm_state.specs.State.{HasPlace}
@@ -32,14 +32,14 @@ abbrev pub steps_in : Counts → ℕ
 steps_in c = c.plain + c.sensitive + c.faults + c.interrupts + c.modify + c.idle + c.stopped
 
 -- what stays while a guest goes on: its shadow page tables stand for its own, and no byte beyond both changes
-pub record Goes (m : Machine) (s : Shadowed) (g : GuestState) (m' : Machine) (s' : Shadowed) (g' : GuestState) : Type 0 where
+pub record KeepsRefinement (m : Machine) (s : Shadowed) (g : GuestState) (m' : Machine) (s' : Shadowed) (g' : GuestState) : Type 0 where
   pub stands : StandsFor m'.memory s' g'
   pub only : OnlyBoth s m.memory m'.memory
   pub place : HasPlace g.pages g.base g.start g'
   pub tables : s'.at ≡ s.at
 
 -- the machine retired what is counted as plain
-pub record Retired (m : Machine) (c : Counts) (m' : Machine) (c' : Counts) : Type 0 where
+pub record CountsRetired (m : Machine) (c : Counts) (m' : Machine) (c' : Counts) : Type 0 where
   pub retired : (m'.retired + c.plain) % 2 ^ 64 ≡ (m.retired + c'.plain) % 2 ^ 64
   pub trail : (m'.trail + c.trail) % 2 ^ 64 ≡ (m.trail + c'.trail) % 2 ^ 64
 
@@ -47,9 +47,9 @@ pub record Retired (m : Machine) (c : Counts) (m' : Machine) (c' : Counts) : Typ
 pub record Made {Port : Type 0} (may : Port → List ℕ → Type 0) (x : Stepped) (port port' : Port) (m : Machine) (s : Shadowed) (g : GuestState) (c : Counts) (m' : Machine) (s' : Shadowed) (g' : GuestState) (c' : Counts) : Type 0 where
   pub run : (shown : List ℕ) → after_step (run_of m.memory g c shown) x ≡ run_of m'.memory g' c' (shown ++ x.shown)
   pub shows : Appends may port port' x.shown
-  pub goes : Goes m s g m' s' g'
+  pub goes : KeepsRefinement m s g m' s' g'
   pub one : steps_in c' ≡ steps_in c + 1
-  pub retired : Retired m c m' c'
+  pub retired : CountsRetired m c m' c'
   pub misses : m'.misses ≡ m.misses
   pub moves : Moves x.written x.guest.state.tables s s'
 

@@ -14,10 +14,10 @@ NotesMet true told note = note ≡ told
 NotesMet false told note = Unit {0}
 
 -- of a guest whose next step may be counted already
-abbrev pub note_behind : Left → Guest → Note
-note_behind left g = if left.counted then note_of_instruction g else note_of g
+abbrev pub note_of_left : Left → Guest → Note
+note_of_left left g = if left.counted then note_of_instruction g else note_of g
 
 -- One step was left: it was made, and this is told of it; or it is left still, and the same is to be told of it.
 pub record NotesOne (left left' : Left) (m : Machine) (g : GuestState) (m' : Machine) (g' : GuestState) (note : Note) : Type 0 where
-  pub made : left.steps ≡ 1 → left'.steps ≡ 0 → note ≡ note_behind left (guest_of m.memory g)
-  pub stays : left.steps ≡ 1 → left'.steps ≡ 1 → note_behind left' (guest_of m'.memory g') ≡ note_behind left (guest_of m.memory g)
+  pub made : left.steps ≡ 1 → left'.steps ≡ 0 → note ≡ note_of_left left (guest_of m.memory g)
+  pub stays : left.steps ≡ 1 → left'.steps ≡ 1 → note_of_left left' (guest_of m'.memory g') ≡ note_of_left left (guest_of m.memory g)

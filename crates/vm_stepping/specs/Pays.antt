@@ -2,19 +2,19 @@
 use Rattle.std.specs.Prelude.{◌≡◌, ◌⊎◌, ℕ, ◌+◌, ◌≤◌, Bool, true, false, List, Err}
 use Rattle.vax_arch.specs.declared.mode.Intent.{Intent}
 use Rattle.vax_hw.specs.Machine.{Machine}
-use Rattle.vax_table.specs.Script.{Cause}
-use Rattle.vm_fitting.specs.Paid.{IsSettled, Misses, Owes, touching_counted}
-use Rattle.vm_fitting.specs.Present.{HasPresent}
-use Rattle.vm_fitting.specs.Runs.{MissesThere}
-use Rattle.vm_shadow.specs.Stands.{Shadowed}
-use Rattle.vm_simulation.specs.Laws.{place_here}
+use Rattle.vax_table.specs.Interaction.{Cause}
+use Rattle.vm_miss_laws.specs.Paid.{IsSettled, Misses, Owes, touching_counted}
+use Rattle.vm_miss_laws.specs.Present.{HasPresent}
+use Rattle.vm_miss_laws.specs.Runs.{MissesThere}
+use Rattle.vm_shadow.specs.Shadowed.{Shadowed}
+use Rattle.vm_simulation_laws.specs.Laws.{place_here}
 use Rattle.vm_state.specs.Partition.{guest_of}
 use Rattle.vm_state.specs.State.{Guest}
 use Rattle.vm_state.specs.Step.{executed}
 use Rattle.vm_state.specs.Touches.{Touching, touching_step, touching_steps}
 use Rattle.vm_state.specs.declared.guest_state.GuestState.{GuestState}
 use Rattle.vm_stepping.specs.declared.turns.Left.{Left}
-use Rattle.vm_touches.specs.Touched.{AreFilled, touches_now}
+use Rattle.vm_touch_laws.specs.Touched.{AreFilled, touches_now}
 
 -- The pages that were missed just now: none, or one that the guest's instruction touches and that isn't filled. Where the
 -- guest has no place for the byte, the pages that gave bytes are filled.
@@ -49,7 +49,7 @@ OwesBy true owed h s t = Owes owed (touches_now h) s t
 OwesBy false owed h s t = HasPresent s t.present × (owed ≡ 0)
 
 -- First touches go on to where these steps are left: what is missed in between is counted, or owed there.
-pub record GoesOn (left left' : Left) (owed missed : ℕ) (t : Touching) (h h' : Guest) (s' : Shadowed) : Type 0 where
+pub record TouchesGoOn (left left' : Left) (owed missed : ℕ) (t : Touching) (h h' : Guest) (s' : Shadowed) : Type 0 where
   pub at : Touching
   pub still : ℕ
   pub owes : OwesBy left'.counted still h' s' at
@@ -59,4 +59,4 @@ pub record GoesOn (left left' : Left) (owed missed : ℕ) (t : Touching) (h h' :
 pub record PaysOn (left left' : Left) (m : Machine) (s : Shadowed) (g : GuestState) (m' : Machine) (s' : Shadowed) (g' : GuestState) : Type 0 where
   pub missed : ℕ
   pub misses : Misses missed m m'
-  pub goes_on : (owed : ℕ) (t : Touching) → OwesBy left.counted owed (guest_of m.memory g) s t → GoesOn left left' owed missed t (guest_of m.memory g) (guest_of m'.memory g') s'
+  pub goes_on : (owed : ℕ) (t : Touching) → OwesBy left.counted owed (guest_of m.memory g) s t → TouchesGoOn left left' owed missed t (guest_of m.memory g) (guest_of m'.memory g') s'

@@ -1,22 +1,22 @@
 ghost use Rattle.std.specs.Prelude.{◌≡◌, ◌<◌, ◌^◌, true};
-ghost use Rattle.vax_table.specs.Script.{Test};
+ghost use Rattle.vax_table.specs.Interaction.{Test};
 ghost use Rattle.vax_table.specs.Tries.{Stopped};
 ghost use Rattle.vax_table.specs.Troubles.{intent_of};
-ghost use Rattle.vm_bursts.specs.Guarded.{Tells};
+ghost use Rattle.vm_bursts.specs.Guarded.{ExitIsMet};
 ghost use Rattle.vm_events.specs.Noted.{note_by_try, note_of_instruction};
 ghost use Rattle.vm_exception.specs.Initiated.{IsProper};
-ghost use Rattle.vm_fitting.specs.Runs.{Reaches};
+ghost use Rattle.vm_miss_laws.specs.Runs.{Reaches};
 ghost use Rattle.vm_shadow.specs.StandsFor.{StandsFor};
-ghost use Rattle.vm_simulation.specs.Bursts.{missed_by};
-ghost use Rattle.vm_simulation.specs.Laws.{Meets};
-ghost use Rattle.vm_simulation.specs.Loaded.{guest_try};
+ghost use Rattle.vm_simulation_laws.specs.Bursts.{missed_by};
+ghost use Rattle.vm_simulation_laws.specs.Laws.{Meets};
+ghost use Rattle.vm_simulation_laws.specs.Loaded.{guest_try};
 ghost use Rattle.vm_state.specs.Partition.{guest_of};
 ghost use Rattle.vm_state.specs.Sensitive.{refused_as};
-ghost use Rattle.vm_stepping.specs.Advances.{IsDone};
+ghost use Rattle.vm_stepping.specs.Advances.{StepsOrRefills};
 ghost use Rattle.vm_stepping.specs.Made.{IsMet, steps_in};
 ghost use Rattle.vm_stepping.specs.Noted.{NotesMet};
 ghost use Rattle.vm_stepping.specs.Pays.{PaysFor};
-ghost use Rattle.vm_touches.specs.Touched.{AreFilled, touches_now};
+ghost use Rattle.vm_touch_laws.specs.Touched.{AreFilled, touches_now};
 
 use crate::Counts;
 use crate::made::{fault, meet_clear};
@@ -86,7 +86,7 @@ fn meet_told<H: Hardware, T: Port>(
 ) -> bool
     requires stands { StandsFor (H.machine machine.old).memory s.old g.old }
     requires room { steps_in counts.old < 2 ^ 32 }
-    requires told { Tells exit (H.machine machine.old).memory s.old g.old }
+    requires told { ExitIsMet exit (H.machine machine.old).memory s.old g.old }
     requires reaches { Reaches exit (H.machine machine.old).memory s.old g.old }
     ensures met { IsMet T.may result port.old port.new (H.machine machine.old) s.old g.old counts.old (H.machine machine.new) s.new g.new counts.new }
     ensures pays { PaysFor result (missed_by exit) (H.machine machine.old) s.old g.old (H.machine machine.new) s.new }
@@ -138,7 +138,7 @@ fn run_alone<H: Hardware, T: Port>(
 ) -> bool
     requires stands { StandsFor (H.machine machine.old).memory s.old g.old }
     requires room { steps_in counts.old < 2 ^ 32 }
-    ensures is { IsDone T.may result port.old port.new (H.machine machine.old) s.old g.old counts.old (H.machine machine.new) s.new g.new counts.new }
+    ensures is { StepsOrRefills T.may result port.old port.new (H.machine machine.old) s.old g.old counts.old (H.machine machine.new) s.new g.new counts.new }
     ensures pays { PaysFor result 0 (H.machine machine.old) s.old g.old (H.machine machine.new) s.new }
     ensures note { NotesMet result (note_of_instruction (guest_of (H.machine machine.old).memory g.old)) note.new }
 {
@@ -172,7 +172,7 @@ pub fn meet<H: Hardware, T: Port>(
     requires room { steps_in counts.old < 2 ^ 32 }
     requires meets { Meets exit (H.machine machine.old).memory s.old g.old }
     requires reaches { Reaches exit (H.machine machine.old).memory s.old g.old }
-    ensures is { IsDone T.may result port.old port.new (H.machine machine.old) s.old g.old counts.old (H.machine machine.new) s.new g.new counts.new }
+    ensures is { StepsOrRefills T.may result port.old port.new (H.machine machine.old) s.old g.old counts.old (H.machine machine.new) s.new g.new counts.new }
     ensures pays { PaysFor result (missed_by exit) (H.machine machine.old) s.old g.old (H.machine machine.new) s.new }
     ensures note { NotesMet result (note_of_instruction (guest_of (H.machine machine.old).memory g.old)) note.new }
 {

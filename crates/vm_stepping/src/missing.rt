@@ -1,8 +1,8 @@
 ghost use Rattle.std.specs.Prelude.{◌<◌, ◌^◌, ℕ};
 ghost use Rattle.vm_shadow.specs.StandsFor.{StandsFor};
-ghost use Rattle.vm_simulation.specs.Laws.{IsMissed};
+ghost use Rattle.vm_simulation_laws.specs.Laws.{IsMissed};
 ghost use Rattle.vm_events.specs.Noted.{note_by_try};
-ghost use Rattle.vm_simulation.specs.Loaded.{guest_try};
+ghost use Rattle.vm_simulation_laws.specs.Loaded.{guest_try};
 ghost use Rattle.vm_state.specs.Partition.{guest_of};
 ghost use Rattle.vm_stepping.specs.Noted.{NotesMet};
 ghost use Rattle.vm_stepping.specs.Made.{IsMet, steps_in};

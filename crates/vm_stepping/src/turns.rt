@@ -1,9 +1,9 @@
 ghost use Rattle.std.specs.Prelude.{◌≡◌, ◌+◌, ◌<◌, ◌≤◌, ◌^◌, IsTrue, false, true, None};
 ghost use Rattle.vm_clock.specs.Ticks.{ticks_to_wrap};
 ghost use Rattle.vm_events.specs.Noted.{note_of};
-ghost use Rattle.vm_fitting.specs.Paid.{Pays};
+ghost use Rattle.vm_miss_laws.specs.Paid.{Pays};
 ghost use Rattle.vm_shadow.specs.StandsFor.{StandsFor};
-ghost use Rattle.vm_simulation.specs.Bursts.{IsQuiet};
+ghost use Rattle.vm_simulation_laws.specs.Bursts.{IsQuiet};
 ghost use Rattle.vm_state.specs.Partition.{guest_of};
 ghost use Rattle.vm_state.specs.State.{state_of};
 ghost use Rattle.vm_state.specs.Touches.{touching_steps};

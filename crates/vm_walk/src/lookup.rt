@@ -1,5 +1,5 @@
 ghost use Rattle.std.specs.Prelude.{◌≡◌, ◌≤◌, ◌<◌, ◌+◌, ◌*◌, ◌^◌, length};
-ghost use Rattle.vax_arch.specs.Walk.{behind_table, in_memory, mapped_entry, process_entry, process_page, system_entry};
+ghost use Rattle.vax_arch.specs.Walk.{in_memory, mapped_entry, process_entry, process_page, system_entry, through_system_entry};
 ghost use Rattle.vax_arch.specs.WalkLaws.{IsInside};
 ghost use Rattle.vm_state.specs.Partition.{guest_of, partition_of};
 ghost use Rattle.vm_state.specs.State.{tables_of};
@@ -71,7 +71,7 @@ fn behind_table<H: Hardware>(machine: &H, g: &GuestState, at: u32, table: u64) -
     requires partition { 512 * (g.now.base + g.now.pages) ≤ length (H.machine machine.now).memory }
     requires small { table < 2 ^ 60 }
     requires few { g.now.pages ≤ 65536 }
-    ensures { result ≡ behind_table (512 * g.now.pages) (partition_of (H.machine machine.now).memory g.now) at table }
+    ensures { result ≡ through_system_entry (512 * g.now.pages) (partition_of (H.machine machine.now).memory g.now) at table }
 {
     if is_past(g, table, 4) {
         return Lookup::Beyond;

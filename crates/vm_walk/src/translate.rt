@@ -3,7 +3,7 @@ ghost use Rattle.vax_arch.specs.Ring.{open_of};
 ghost use Rattle.vax_arch.specs.Walk.{granted};
 ghost use Rattle.vax_arch.specs.WalkLaws.{HasFrame};
 ghost use Rattle.vm_state.specs.Partition.{guest_of};
-ghost use Rattle.vm_state.specs.Translation.{at_entry, fault, walk_of};
+ghost use Rattle.vm_state.specs.Translation.{at_entry, memory_fault, walk_of};
 
 use crate::lookup::look_up;
 use crate::partition::{is_past, read_long};
@@ -32,7 +32,7 @@ fn granted(g: &GuestState, entry: Pte, m: Mode, i: Intent) -> Grant
 /// A fault at an address; bit 2 of its parameter says that the byte was to be written.
 fn fault(not_valid: bool, va: u32, parameter: u8, i: Intent) -> MemFault
     requires { parameter < 4 }
-    ensures { result ≡ fault not_valid va parameter i }
+    ensures { result ≡ memory_fault not_valid va parameter i }
 {
     let write = match i {
         Intent::Read => 0,

@@ -7,7 +7,7 @@ use Rattle.vv_class.specs.declared.class.AccessClass.{AccessClass}
 use Rattle.vv_class.specs.declared.text.ClassFault.{ClassFault}
 use Rattle.vv_class.specs.declared.scan.Half.{Half}
 use Rattle.vv_class.specs.Class.{IsClass}
-use Rattle.vv_class.specs.Scan.{Part, start_of, step_of, part_of, is_whole, fault_before, class_in, at_the_end, second_of, class_of}
+use Rattle.vv_class.specs.Scan.{Part, start_of, step_of, part_of, is_whole, fault_before, class_of_halves, at_the_end, second_of, class_of}
 use Rattle.vv_class.specs.Text.{categories_below, listed, half_text, class_text, BeginsText, IsLongestStart}
 use Rattle.vv_class.proofs.Sets.{length-listed}
 use Rattle.vv_class.proofs.Runs.{runs, runs_on, half_runs, end_of, Stuck, ends, part_on, read_to, stops_at}
@@ -130,7 +130,7 @@ ended_tells : (bytes rest : List ℕ) (one two : Half) → Fits one → is_whole
     → Fits two → runs start_of (written two) ≡ Some two → Stuck two rest → bytes ≡ (written one ++ 59 ∷ written two) ++ rest → Tells bytes (at_the_end bytes one two rest)
 unfolding class_text
 ended_tells bytes [] one two fits whole ran stuck fits_two ran_two end split =
-    cond_both (is_whole two) (Ok (class_in one two)) (fault_before bytes []) (Tells bytes)
+    cond_both (is_whole two) (Ok (class_of_halves one two)) (fault_before bytes []) (Tells bytes)
     (λ is.
     let half = whole_half one fits whole in
     let last = whole_half two fits_two is in (

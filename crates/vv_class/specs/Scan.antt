@@ -12,8 +12,8 @@ unfoldable pub start_of : Half
 start_of = record { next = Level; number = 0; least = 0; level = 0; cats = 0 }
 
 -- a digit goes on with a number that is not `0`
-abbrev pub goes_on : Half → ℕ → Bool
-goes_on s b = is_digit b && nat_le 1 s.number
+abbrev pub continues_number : Half → ℕ → Bool
+continues_number s b = is_digit b && nat_le 1 s.number
 
 -- a level begins or goes on
 abbrev pub with_level : Half → ℕ → Option Half
@@ -39,7 +39,7 @@ closed s = record s { next = End }
 unfoldable pub more_level : Half → ℕ → Option Half
 more_level s b =
     if b == 123 then Some (record s { next = FirstCategory; level = s.number; number = 0 })
-    else if goes_on s b then with_level s (10 * s.number + (b - 48)) else None
+    else if continues_number s b then with_level s (10 * s.number + (b - 48)) else None
 
 -- what follows digits of a category: a brace (125), a comma (44) if a category above is left, or a
 -- further digit unless they are `0`
@@ -47,7 +47,7 @@ unfoldable pub more_category : Half → ℕ → Option Half
 more_category s b =
     if b == 125 then (if nat_le s.least s.number && nat_le s.number 63 then Some (closed (kept s)) else None)
     else if b == 44 then (if nat_le s.least s.number && nat_lt s.number 63 then Some (kept s) else None)
-    else if goes_on s b then with_category s (10 * s.number + (b - 48)) else None
+    else if continues_number s b then with_category s (10 * s.number + (b - 48)) else None
 
 -- a byte more of a half
 unfoldable pub step_of : Half → ℕ → Option Half
@@ -78,12 +78,12 @@ is_whole s = elim s.next [ End ↦ true | _ ↦ false ]
 abbrev pub fault_before : List ℕ → List ℕ → Result AccessClass ClassFault
 fault_before bytes rest = Err (record { place = length bytes - length rest })
 
-abbrev pub class_in : Half → Half → AccessClass
-class_in one two = record { secrecy = one.level; secrecy_cats = one.cats; integrity = two.level; integrity_cats = two.cats }
+abbrev pub class_of_halves : Half → Half → AccessClass
+class_of_halves one two = record { secrecy = one.level; secrecy_cats = one.cats; integrity = two.level; integrity_cats = two.cats }
 
 -- after the second half comes nothing
 abbrev pub at_the_end : List ℕ → Half → Half → List ℕ → Result AccessClass ClassFault
-at_the_end bytes one two [] = if is_whole two then Ok (class_in one two) else fault_before bytes []
+at_the_end bytes one two [] = if is_whole two then Ok (class_of_halves one two) else fault_before bytes []
 at_the_end bytes one two (b ∷ rest) = fault_before bytes (b ∷ rest)
 
 -- after the first half come a semicolon (59) and the second

@@ -1,5 +1,5 @@
 ghost use Rattle.std.specs.Prelude.{◌≡◌, ◌<◌, ◌≤◌, ◌^◌, IfSome};
-ghost use Rattle.vv_class.specs.Scan.{start_of, goes_on, with_level, with_category, kept, closed, more_level, more_category, step_of, is_whole};
+ghost use Rattle.vv_class.specs.Scan.{start_of, continues_number, with_level, with_category, kept, closed, more_level, more_category, step_of, is_whole};
 
 /// What may come next in a half of the text of a class.
 #[derive(Clone, Copy, Debug, PartialEq, Eq)]
@@ -120,7 +120,7 @@ impl Half {
 
     /// A digit goes on with a number that is not `0`.
     fn goes_on(&self, b: u8) -> bool
-        ensures { result ≡ goes_on self.now b }
+        ensures { result ≡ continues_number self.now b }
     {
         b.is_ascii_digit() && 1 <= self.number
     }

@@ -2,7 +2,7 @@
 use Rattle.std.proofs.Common.{ℕ, ◌≡◌, ◌<◌, ◌≤◌, List, length, map, slice_index_or, ◌∙◌, ap, subst, arith, is_err, Result, Option, Some, None}
 use Rattle.std.proofs.lemmas.List.{length-map}
 use Rattle.std.specs.declared.result.Result.TheVariants.{Ok, Err}
-use Rattle.vv_io.specs.Blocks.{Kept, SyncsDriveOn, unkept}
+use Rattle.vv_io.specs.Blocks.{SeenDrive, SyncsDriveOn, unkept}
 use Rattle.vv_io.specs.Lines.{Seen, SyncsOn, unseen}
 use Rattle.vv_edge.proofs.Synced.{AreSynced, IsOne}
 use Rattle.vv_edge.specs.Syncing.{FailedFirst, IsStillDrive, IsStillLine, SyncsDrives, SyncsLines}
@@ -43,7 +43,7 @@ at_line n now after (Err e) there (line, is, syncs) = record {
   rose = λ _. syncs.cause.failed;
 }
 
-at_drive : {U E : Type 0} (n : ℕ) (now after : List Kept) (r : Result U E) → n < length now → SyncsDriveOn n now after r → IsOne unkept (λ drive. drive.faults) IsStillDrive n now after (is_err r)
+at_drive : {U E : Type 0} (n : ℕ) (now after : List SeenDrive) (r : Result U E) → n < length now → SyncsDriveOn n now after r → IsOne unkept (λ drive. drive.faults) IsStillDrive n now after (is_err r)
 at_drive n now after (Ok u) there (drive, is, syncs) = record {
   new = drive;
   is = is;
@@ -64,7 +64,7 @@ at_drive n now after (Err e) there (drive, is, syncs) = record {
 pub all_lines : (n : ℕ) (start now : List Seen) (failed : Option ℕ) → n ≤ length start → AreSynced unseen (λ line. line.faults) IsStillLine n start now failed → SyncsLines start now failed
 all_lines n start now failed few synced = record { still = synced.still; first = among n (length start) unseen (λ line. line.faults) start now failed few synced.first }
 
-pub all_drives : (n : ℕ) (start now : List Kept) (failed : Option ℕ) → n ≤ length start → AreSynced unkept (λ drive. drive.faults) IsStillDrive n start now failed → SyncsDrives start now failed
+pub all_drives : (n : ℕ) (start now : List SeenDrive) (failed : Option ℕ) → n ≤ length start → AreSynced unkept (λ drive. drive.faults) IsStillDrive n start now failed → SyncsDrives start now failed
 all_drives n start now failed few synced = record { still = synced.still; first = among n (length start) unkept (λ drive. drive.faults) start now failed few synced.first }
 
 -- what one sync does, at a place that is known under another name
@@ -72,5 +72,5 @@ pub one_line : {U E : Type 0} (n i : ℕ) (now after : List Seen) (r : Result U 
 one_line n i now after r same there syncs = at_line n now after r there (subst (λ j. SyncsOn j now after r) same syncs)
 
 -- what one sync does, at a place that is known under another name
-pub one_drive : {U E : Type 0} (n i : ℕ) (now after : List Kept) (r : Result U E) → i ≡ n → n < length now → SyncsDriveOn i now after r → IsOne unkept (λ drive. drive.faults) IsStillDrive n now after (is_err r)
+pub one_drive : {U E : Type 0} (n i : ℕ) (now after : List SeenDrive) (r : Result U E) → i ≡ n → n < length now → SyncsDriveOn i now after r → IsOne unkept (λ drive. drive.faults) IsStillDrive n now after (is_err r)
 one_drive n i now after r same there syncs = at_drive n now after r there (subst (λ j. SyncsDriveOn j now after r) same syncs)

@@ -15,22 +15,22 @@ is_file Link = false
 is_file Other = false
 
 -- one file: the same number on the same device
-abbrev pub is_same : Identity → Identity → Bool
-is_same a b = (a.device == b.device) && (a.number == b.number)
+abbrev pub is_same_file : Identity → Identity → Bool
+is_same_file a b = (a.device == b.device) && (a.number == b.number)
 
-abbrev pub is_among : Identity → List Identity → Bool
-is_among identity taken = list_any (is_same identity) taken
+abbrev pub is_identity_taken : Identity → List Identity → Bool
+is_identity_taken identity taken = list_any (is_same_file identity) taken
 
 -- what a line's name may be cleared of: a file that is no link, has one name, and isn't taken
 abbrev pub is_removable : Found → List Identity → Bool
-is_removable found taken = is_file found.kind && (found.names == 1) && not (is_among found.identity taken)
+is_removable found taken = is_file found.kind && (found.names == 1) && not (is_identity_taken found.identity taken)
 
 -- what is wrong with a file, by the first test that fails: one name, whole blocks, nobody else's
 abbrev pub file_flaw : Found → List Identity → Option Flaw
 file_flaw found taken =
     if found.names == 1 then
     (if found.length % 512 == 0 then
-    (if is_among found.identity taken then Some flaws.Shared else None)
+    (if is_identity_taken found.identity taken then Some flaws.Shared else None)
     else Some flaws.Ragged)
     else Some flaws.OtherName
 

@@ -14,13 +14,13 @@ flaw_text Ragged = codes " is no whole number of blocks"
 flaw_text Shared = codes " is a file that is used otherwise"
 
 -- a line on one drive, with its end
-abbrev pub note_of : FlawedDrive → List ℕ
-note_of drive = ((codes "vvmm: drive " ++ decimal drive.number) ++ flaw_text drive.flaw) ++ 10 ∷ []
+abbrev pub drive_note : FlawedDrive → List ℕ
+drive_note drive = ((codes "vvmm: drive " ++ decimal drive.number) ++ flaw_text drive.flaw) ++ 10 ∷ []
 
 -- nothing on one that can be used
 abbrev pub note_if : Option FlawedDrive → List ℕ
 note_if None = []
-note_if (Some drive) = note_of drive
+note_if (Some drive) = drive_note drive
 
 abbrev pub notes_of : List (Option FlawedDrive) → List ℕ
 notes_of drives = flat_map note_if drives

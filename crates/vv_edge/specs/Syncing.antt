@@ -1,6 +1,6 @@
 -- The sync of all lines, or of all drives: each in its turn.
 use Rattle.std.specs.Prelude.{ℕ, ◌≡◌, ◌<◌, ◌≤◌, List, length, slice_index_or, Bool, true, false, Option, Some, None}
-use Rattle.vv_io.specs.Blocks.{Kept, unkept}
+use Rattle.vv_io.specs.Blocks.{SeenDrive, unkept}
 use Rattle.vv_io.specs.Causes.{Rose}
 use Rattle.vv_io.specs.Lines.{Seen, unseen}
 
@@ -10,7 +10,7 @@ pub record IsStillLine (before after : Seen) : Type 0 where
   pub later : before.faults ≤ after.faults
 
 -- size and blocks are the drive's, and its count has not fallen
-pub record IsStillDrive (before after : Kept) : Type 0 where
+pub record IsStillDrive (before after : SeenDrive) : Type 0 where
   pub stays : after ≡ record before { faults = after.faults }
   pub later : before.faults ≤ after.faults
 
@@ -26,7 +26,7 @@ pub record SyncsLines (before after : List Seen) (failed : Option ℕ) : Type 0 
   pub first : FailedFirst (length before) unseen (λ line. line.faults) before after failed
 
 -- all drives are synced
-pub record SyncsDrives (before after : List Kept) (failed : Option ℕ) : Type 0 where
+pub record SyncsDrives (before after : List SeenDrive) (failed : Option ℕ) : Type 0 where
   pub still : (j : ℕ) → IsStillDrive (slice_index_or before j unkept) (slice_index_or after j unkept)
   pub first : FailedFirst (length before) unkept (λ drive. drive.faults) before after failed
 

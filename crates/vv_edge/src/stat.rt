@@ -1,5 +1,5 @@
 ghost use Rattle.std.specs.Prelude.{◌≡◌, ◌^◌, ◌/◌, ◌-◌, min};
-ghost use Rattle.vv_edge.specs.Found.{flaw_of, is_among, is_removable, is_same};
+ghost use Rattle.vv_edge.specs.Found.{flaw_of, is_identity_taken, is_removable, is_same_file};
 
 /// What is under a name.
 #[derive(Clone, Copy, Debug, PartialEq, Eq)]
@@ -48,13 +48,13 @@ pub enum Flaw {
 }
 
 fn is_same(a: &Identity, b: &Identity) -> bool
-    ensures { result ≡ is_same a.now b.now }
+    ensures { result ≡ is_same_file a.now b.now }
 {
     a.device == b.device && a.number == b.number
 }
 
 fn is_among(identity: &Identity, taken: &[Identity]) -> bool
-    ensures { result ≡ is_among identity.now taken.now }
+    ensures { result ≡ is_identity_taken identity.now taken.now }
 {
     taken.iter().any(|other| is_same(identity, other))
 }

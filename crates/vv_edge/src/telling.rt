@@ -1,5 +1,5 @@
 ghost use Rattle.std.specs.Prelude.{◌≡◌, ◌≤◌, length};
-ghost use Rattle.vv_edge.specs.Notes.{flaw_text, note_if, note_of, notes_of};
+ghost use Rattle.vv_edge.specs.Notes.{drive_note, flaw_text, note_if, notes_of};
 
 use crate::stat::Flaw;
 use vv_base::{Text, decimal};
@@ -30,7 +30,7 @@ fn flaw_text(flaw: Flaw) -> &'static [u8]
 }
 
 fn note(drive: FlawedDrive) -> Text<128>
-    ensures is { result ≡ note_of drive }
+    ensures is { result ≡ drive_note drive }
     ensures short { length result ≤ 100 }
 {
     let mut text = Text::new();

@@ -4,16 +4,16 @@ use Rattle.std.specs.List.{range_with_len}
 use Rattle.std.proofs.lemmas.List.Elements.{All-map}
 use Rattle.vv_base.specs.Names.{is_object_name}
 use Rattle.sys_script.specs.Events.{AreEvents, IsEvent, NeverFalls}
-use Rattle.sys_script.specs.Line.{is_allowed}
+use Rattle.sys_script.specs.EventLine.{is_allowed}
 use Rattle.sys_script.specs.Texts.{is_text}
 use Rattle.sys_script.specs.declared.event.Event.{Event}
 use Rattle.sys_script.specs.declared.event.Typed.TheVariants.{Break, Line}
-use Rattle.vv_gen.specs.Config.{numbered}
-use Rattle.vv_gen.specs.Events.{event_of, events_of, mount_text, typed_of}
+use Rattle.vv_gen.specs.Config.{with_digit}
+use Rattle.vv_gen.specs.Events.{event_of, events_drawn, mount_text, typed_of}
 use Rattle.vv_gen.proofs.Ranges.{each_below, passed}
 
-terminal_named : (k : ℕ) → k < 8 → is_object_name (numbered (codes "T") k) ≡ true
-terminal_named k below = passed (λ k. is_object_name (numbered (codes "T") k)) 8 refl k below
+terminal_named : (k : ℕ) → k < 8 → is_object_name (with_digit (codes "T") k) ≡ true
+terminal_named k below = passed (λ k. is_object_name (with_digit (codes "T") k)) 8 refl k below
 
 pub mount_is_text : (k : ℕ) → k < 8 → is_text (mount_text k) ≡ true
 mount_is_text k below = passed (λ k. is_text (mount_text k)) 8 refl k below
@@ -41,8 +41,8 @@ rising : (draws : ℕ → ℕ → ℕ) (a n last : ℕ) → last ≤ a + 1 → N
 rising draws a zero last low = tt
 rising draws a (suc n) last low = (low, rising draws (a + 1) n (a + 1) (omega arith))
 
-pub are_events : (draws : ℕ → ℕ) → AreEvents (events_of draws)
-unfolding events_of
+pub are_events : (draws : ℕ → ℕ) → AreEvents (events_drawn draws)
+unfolding events_drawn
 are_events draws =
     let of : ℕ → ℕ → ℕ = λ before k. draws (2 * before + k) in
     let event : ℕ → Event = λ before. event_of (before + 1) (of before) in

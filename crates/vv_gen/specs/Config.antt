@@ -13,12 +13,12 @@ unfoldable pub all_guests : List ℕ
 all_guests = range_with_len 0 8
 
 -- a name with a digit after it
-abbrev pub numbered : List ℕ → ℕ → List ℕ
-numbered name digit = name ++ (48 + digit) ∷ []
+abbrev pub with_digit : List ℕ → ℕ → List ℕ
+with_digit name digit = name ++ (48 + digit) ∷ []
 
 -- one of four secrecy levels, one of three secrecy categories, and no integrity
-abbrev pub class_of : ℕ → AccessClass
-class_of g = record { secrecy = g % 4; secrecy_cats = 2 ^ (g % 3); integrity = 0; integrity_cats = 0 }
+abbrev pub generated_class : ℕ → AccessClass
+generated_class g = record { secrecy = g % 4; secrecy_cats = 2 ^ (g % 3); integrity = 0; integrity_cats = 0 }
 
 -- `0{};0{}`, which flows into the class of every guest
 abbrev pub bottom_class : AccessClass
@@ -28,25 +28,25 @@ bottom_class = record { secrecy = 0; secrecy_cats = 0; integrity = 0; integrity_
 abbrev pub top_class : AccessClass
 top_class = record { secrecy = 15; secrecy_cats = 7; integrity = 0; integrity_cats = 0 }
 
-abbrev pub terminal_of : ℕ → Terminal
-terminal_of g = record { name = numbered (codes "T") g; line = g; class = class_of g }
+abbrev pub generated_terminal : ℕ → Terminal
+generated_terminal g = record { name = with_digit (codes "T") g; line = g; class = generated_class g }
 
 abbrev pub shared_volume : VolumeRow
 shared_volume = record { name = codes "V0"; drive = 0; blocks = 8; class = bottom_class }
 
-abbrev pub volume_of : ℕ → VolumeRow
-volume_of g = record { name = numbered (codes "W") g; drive = 1 + g; blocks = 8; class = class_of g }
+abbrev pub generated_volume : ℕ → VolumeRow
+generated_volume g = record { name = with_digit (codes "W") g; drive = 1 + g; blocks = 8; class = generated_class g }
 
-abbrev pub printer_of : ℕ → PrinterRow
-printer_of g = record { name = numbered (codes "P") g; line = 8 + g; class = class_of g }
+abbrev pub generated_printer : ℕ → PrinterRow
+generated_printer g = record { name = with_digit (codes "P") g; line = 8 + g; class = generated_class g }
 
 -- it reads the shared volume at unit 0, and writes its own at unit 1
-abbrev pub guest_of : ℕ → GuestRow
-guest_of g = record {
-  name = numbered (codes "G") g;
-  class = class_of g;
+abbrev pub generated_guest : ℕ → GuestRow
+generated_guest g = record {
+  name = with_digit (codes "G") g;
+  class = generated_class g;
   pages = 128;
-  image = numbered (codes "IMAGE") g;
+  image = with_digit (codes "IMAGE") g;
   load = 0x200;
   start = 0x200;
   autostart = true;
@@ -58,12 +58,12 @@ guest_of g = record {
   quantum = 5000;
 }
 
-unfoldable pub config_of : ℕ → Config
-config_of slice = record {
+unfoldable pub generated_config : ℕ → Config
+generated_config slice = record {
   slice = slice;
   audit = Some (record { line = 24; class = top_class });
-  terminals = map terminal_of all_guests;
-  volumes = shared_volume ∷ map volume_of all_guests;
-  printers = map printer_of all_guests;
-  guests = map guest_of all_guests;
+  terminals = map generated_terminal all_guests;
+  volumes = shared_volume ∷ map generated_volume all_guests;
+  printers = map generated_printer all_guests;
+  guests = map generated_guest all_guests;
 }

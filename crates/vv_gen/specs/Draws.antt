@@ -7,14 +7,14 @@ abbrev pub next : ℕ → ℕ
 next x = (x * 1664525 + 1013904223) % 2 ^ 32
 
 -- the state after so many draws, which begins with x
-unfoldable pub behind : ℕ → ℕ → ℕ
-behind x zero = x
-behind x (suc k) = next (behind x k)
+unfoldable pub after_draws : ℕ → ℕ → ℕ
+after_draws x zero = x
+after_draws x (suc k) = next (after_draws x k)
 
 -- the draw after k others
 unfoldable pub draw : ℕ → ℕ → ℕ
-draw x k = behind x (k + 1) / 2 ^ 16
+draw x k = after_draws x (k + 1) / 2 ^ 16
 
 -- the draws after so many others
-abbrev pub draws_behind : ℕ → ℕ → ℕ → ℕ
-draws_behind others x k = draw x (others + k)
+abbrev pub draws_after : ℕ → ℕ → ℕ → ℕ
+draws_after others x k = draw x (others + k)

@@ -4,7 +4,7 @@ use Rattle.std.specs.Prelude.{ℕ, ◌+◌, ◌*◌, ◌%◌, ◌==◌, List, �
 use Rattle.sys_script.specs.declared.event.Event.{Event}
 use Rattle.sys_script.specs.declared.event.Typed.{Typed}
 use Rattle.sys_script.specs.declared.event.Typed.TheVariants.{Break, Line}
-use Rattle.vv_gen.specs.Config.{numbered}
+use Rattle.vv_gen.specs.Config.{with_digit}
 
 -- a guest is to read the shared volume at its unit 2
 abbrev pub mount_text : ℕ → List ℕ
@@ -18,8 +18,8 @@ typed_of digit which =
 
 -- the first draw tells the terminal, the second what is typed
 abbrev pub event_of : ℕ → (ℕ → ℕ) → Event
-event_of round draws = record { round = round; terminal = numbered (codes "T") (draws 0 % 8); what = typed_of (draws 0 % 8) (draws 1 % 4) }
+event_of round draws = record { round = round; terminal = with_digit (codes "T") (draws 0 % 8); what = typed_of (draws 0 % 8) (draws 1 % 4) }
 
 -- two draws for each round
-unfoldable pub events_of : (ℕ → ℕ) → List Event
-events_of draws = map (λ before. event_of (before + 1) (λ k. draws (2 * before + k))) (range_with_len 0 20)
+unfoldable pub events_drawn : (ℕ → ℕ) → List Event
+events_drawn draws = map (λ before. event_of (before + 1) (λ k. draws (2 * before + k))) (range_with_len 0 20)

@@ -3,9 +3,9 @@
 use Rattle.std.specs.Prelude.{ℕ, ◌+◌, ◌%◌, List, map}
 use Rattle.sys_objects.specs.declared.records.Config.{Config}
 use Rattle.sys_script.specs.declared.event.Event.{Event}
-use Rattle.vv_gen.specs.Config.{config_of}
-use Rattle.vv_gen.specs.Draws.{draw, draws_behind}
-use Rattle.vv_gen.specs.Events.{events_of}
+use Rattle.vv_gen.specs.Config.{generated_config}
+use Rattle.vv_gen.specs.Draws.{draw, draws_after}
+use Rattle.vv_gen.specs.Events.{events_drawn}
 use Rattle.vv_gen.specs.Image.{images_of}
 use Rattle.vv_gen.specs.Volumes.{volumes_of}
 use Rattle.vv_gen.specs.declared.load.Workload.{Workload}
@@ -29,9 +29,9 @@ generated w = record {
 
 unfoldable pub workload_of : ℕ → Generated
 workload_of number = record {
-  config = config_of (1 + draw number 0 % 1000);
-  images = images_of (draws_behind 1 number);
-  volumes = volumes_of (draws_behind 9 number);
-  events = events_of (draws_behind 4105 number);
+  config = generated_config (1 + draw number 0 % 1000);
+  images = images_of (draws_after 1 number);
+  volumes = volumes_of (draws_after 9 number);
+  events = events_drawn (draws_after 4105 number);
   rounds = 20;
 }

@@ -1,5 +1,5 @@
 ghost use Rattle.std.specs.Prelude.{◌≡◌, ◌≤◌, ◌<◌, ◌+◌, ◌∷◌, IfOk, length, map};
-ghost use Rattle.vv_gen.specs.Config.{all_guests, class_of, config_of, guest_of, numbered, printer_of, shared_volume, terminal_of, top_class, volume_of};
+ghost use Rattle.vv_gen.specs.Config.{all_guests, generated_class, generated_config, generated_guest, generated_printer, generated_terminal, generated_volume, shared_volume, top_class, with_digit};
 
 use std::alloc::Global;
 use sys_objects::{Audit, Config, GuestRow, Mount, PrinterRow, Rows, Terminal, VolumeRow};
@@ -16,7 +16,7 @@ pub const BLOCKS: u32 = 8;
 pub fn numbered<const N: usize>(name: &[u8], digit: u8) -> Text<N>
     requires fits { length name.now + 1 ≤ N }
     requires digit { digit ≤ 9 }
-    ensures { result ≡ numbered name.now digit }
+    ensures { result ≡ with_digit name.now digit }
 {
     let mut text = Text::new();
     text.append(name);
@@ -26,7 +26,7 @@ pub fn numbered<const N: usize>(name: &[u8], digit: u8) -> Text<N>
 
 /// The class of what belongs to a guest.
 fn class_of(g: u8) -> AccessClass
-    ensures { result ≡ class_of g }
+    ensures { result ≡ generated_class g }
 {
     AccessClass {
         secrecy: g % 4,
@@ -38,7 +38,7 @@ fn class_of(g: u8) -> AccessClass
 
 fn terminal_of(g: u8) -> Terminal
     requires { g < 8 }
-    ensures { result ≡ terminal_of g }
+    ensures { result ≡ generated_terminal g }
 {
     Terminal {
         name: numbered(b"T", g),
@@ -66,7 +66,7 @@ fn shared_volume() -> VolumeRow
 
 fn volume_of(g: u8) -> VolumeRow
     requires { g < 8 }
-    ensures { result ≡ volume_of g }
+    ensures { result ≡ generated_volume g }
 {
     VolumeRow {
         name: numbered(b"W", g),
@@ -78,7 +78,7 @@ fn volume_of(g: u8) -> VolumeRow
 
 fn printer_of(g: u8) -> PrinterRow
     requires { g < 8 }
-    ensures { result ≡ printer_of g }
+    ensures { result ≡ generated_printer g }
 {
     PrinterRow {
         name: numbered(b"P", g),
@@ -95,7 +95,7 @@ fn mount(volume: u8, write: bool) -> Option<Mount>
 
 fn guest_of(g: u8) -> GuestRow
     requires { g < 8 }
-    ensures { result ≡ guest_of g }
+    ensures { result ≡ generated_guest g }
 {
     GuestRow {
         name: numbered(b"G", g),
@@ -116,7 +116,7 @@ fn guest_of(g: u8) -> GuestRow
 
 #[tactic(auto, using(crate::proofs::Ranges::eight_guests))]
 fn terminals(alloc: Global) -> Result<Vec<Terminal>, NoMemory>
-    ensures { IfOk result (λ v. v.items ≡ map terminal_of all_guests) }
+    ensures { IfOk result (λ v. v.items ≡ map generated_terminal all_guests) }
 {
     let mut rows = Vec::new(alloc);
     for g in 0..GUESTS {
@@ -128,7 +128,7 @@ fn terminals(alloc: Global) -> Result<Vec<Terminal>, NoMemory>
 /// The volume of all guests, and after it one of each guest.
 #[tactic(auto, using(crate::proofs::Ranges::eight_guests))]
 fn volumes(alloc: Global) -> Result<Vec<VolumeRow>, NoMemory>
-    ensures { IfOk result (λ v. v.items ≡ shared_volume ∷ map volume_of all_guests) }
+    ensures { IfOk result (λ v. v.items ≡ shared_volume ∷ map generated_volume all_guests) }
 {
     let mut rows = Vec::new(alloc);
     rows.push(shared_volume())?;
@@ -140,7 +140,7 @@ fn volumes(alloc: Global) -> Result<Vec<VolumeRow>, NoMemory>
 
 #[tactic(auto, using(crate::proofs::Ranges::eight_guests))]
 fn printers(alloc: Global) -> Result<Vec<PrinterRow>, NoMemory>
-    ensures { IfOk result (λ v. v.items ≡ map printer_of all_guests) }
+    ensures { IfOk result (λ v. v.items ≡ map generated_printer all_guests) }
 {
     let mut rows = Vec::new(alloc);
     for g in 0..GUESTS {
@@ -151,7 +151,7 @@ fn printers(alloc: Global) -> Result<Vec<PrinterRow>, NoMemory>
 
 #[tactic(auto, using(crate::proofs::Ranges::eight_guests))]
 fn guests(alloc: Global) -> Result<Vec<GuestRow>, NoMemory>
-    ensures { IfOk result (λ v. v.items ≡ map guest_of all_guests) }
+    ensures { IfOk result (λ v. v.items ≡ map generated_guest all_guests) }
 {
     let mut rows = Vec::new(alloc);
     for g in 0..GUESTS {
@@ -175,9 +175,9 @@ fn audit() -> Audit
 }
 
 /// The configuration with this slice.
-#[tactic(auto, unfolding(crate::specs::Config::config_of))]
+#[tactic(auto, unfolding(crate::specs::Config::generated_config))]
 pub fn configuration(alloc: Global, slice: u32) -> Result<Config, NoMemory>
-    ensures { IfOk result (λ c. c ≡ config_of slice) }
+    ensures { IfOk result (λ c. c ≡ generated_config slice) }
 {
     Ok(Config {
         slice,

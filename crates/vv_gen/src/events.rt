@@ -1,8 +1,8 @@
 ghost use Rattle.std.specs.Prelude.{◌≡◌, ◌<◌, IfOk, IsTrue, OnOk};
 ghost use Rattle.sys_script.specs.Texts.{is_text};
 ghost use Rattle.sys_script.specs.declared.event.Typed.TheVariants.{Line};
-ghost use Rattle.vv_gen.specs.Draws.{behind, draw};
-ghost use Rattle.vv_gen.specs.Events.{event_of, events_of, mount_text, typed_of};
+ghost use Rattle.vv_gen.specs.Draws.{after_draws, draw};
+ghost use Rattle.vv_gen.specs.Events.{event_of, events_drawn, mount_text, typed_of};
 
 use crate::config::numbered;
 use crate::draws::{Draws, drawn};
@@ -49,7 +49,7 @@ fn typed(alloc: Global, digit: u8, which: u8) -> Result<Typed, NoMemory>
 #[tactic(auto, using(crate::proofs::Drawing::second_draw, crate::proofs::Drawing::behind_two))]
 fn drawn_event(alloc: Global, draws: &mut Draws, round: u32) -> Result<Event, NoMemory>
     ensures event { IfOk result (λ e. e ≡ event_of round (draw draws.old.state)) }
-    ensures goes { OnOk result (draws.new.state ≡ behind draws.old.state 2) }
+    ensures goes { OnOk result (draws.new.state ≡ after_draws draws.old.state 2) }
 {
     let digit = (drawn(draws) % 8) as u8;
     let which = (drawn(draws) % 4) as u8;
@@ -63,7 +63,7 @@ fn drawn_event(alloc: Global, draws: &mut Draws, round: u32) -> Result<Event, No
 /// One event in each round.
 #[tactic(auto, using(crate::proofs::Drawing::behind_none))]
 pub fn drawn_events(alloc: Global, draws: &mut Draws) -> Result<Vec<Event>, NoMemory>
-    ensures { IfOk result (λ v. v.items ≡ events_of (draw draws.old.state)) }
+    ensures { IfOk result (λ v. v.items ≡ events_drawn (draw draws.old.state)) }
 {
     let mut events = Vec::new(alloc);
     for before in 0..ROUNDS {

@@ -1,6 +1,6 @@
 ghost use Rattle.std.specs.Prelude.{◌≡◌, IfOk, OnOk, map};
 ghost use Rattle.vv_gen.specs.Accepted.{IsAccepted};
-ghost use Rattle.vv_gen.specs.Draws.{behind, draw};
+ghost use Rattle.vv_gen.specs.Draws.{after_draws, draw};
 ghost use Rattle.vv_gen.specs.Image.{images_of};
 ghost use Rattle.vv_gen.specs.Workload.{generated, workload_of};
 
@@ -17,7 +17,7 @@ use vv_base::NoMemory;
 #[tactic(auto, using(crate::proofs::Drawing::behind_none))]
 fn drawn_images(alloc: Global, draws: &mut Draws) -> Result<Vec<Vec<u8>>, NoMemory>
     ensures images { IfOk result (λ v. map (λ b. b.items) v.items ≡ images_of (draw draws.old.state)) }
-    ensures goes { OnOk result (draws.new.state ≡ behind draws.old.state 8) }
+    ensures goes { OnOk result (draws.new.state ≡ after_draws draws.old.state 8) }
 {
     let mut images = Vec::new(alloc);
     for _ in 0..GUESTS {

@@ -1,8 +1,8 @@
 ghost use Rattle.std.specs.List.{range_with_len};
 ghost use Rattle.std.specs.Prelude.{◌≡◌, ◌%◌, IfOk, OnOk, length, map};
 ghost use Rattle.sys_store.specs.Blocks.{zero_block, zero_volume};
-ghost use Rattle.vv_gen.specs.Draws.{behind, draw};
-ghost use Rattle.vv_gen.specs.Volumes.{block_of, blocks_of, volumes_of};
+ghost use Rattle.vv_gen.specs.Draws.{after_draws, draw};
+ghost use Rattle.vv_gen.specs.Volumes.{block_of, blocks_drawn, volumes_of};
 
 use crate::config::{BLOCKS, GUESTS};
 use crate::draws::{Draws, drawn};
@@ -13,7 +13,7 @@ use vv_base::NoMemory;
 #[tactic(auto, using(crate::proofs::Drawing::behind_none))]
 fn fill(block: &mut [u8], draws: &mut Draws)
     ensures block { block.new ≡ map (λ i. draw draws.old.state i % 256) (range_with_len 0 (length block.old)) }
-    ensures goes { draws.new.state ≡ behind draws.old.state (length block.old) }
+    ensures goes { draws.new.state ≡ after_draws draws.old.state (length block.old) }
 {
     for byte in block.iter_mut() {
         *byte = (drawn(draws) % 256) as u8;
@@ -24,7 +24,7 @@ fn fill(block: &mut [u8], draws: &mut Draws)
 #[tactic(auto, using(crate::proofs::Making::block_made))]
 fn drawn_block(draws: &mut Draws) -> [u8; 512]
     ensures block { result ≡ block_of (draw draws.old.state) }
-    ensures goes { draws.new.state ≡ behind draws.old.state 512 }
+    ensures goes { draws.new.state ≡ after_draws draws.old.state 512 }
 {
     let mut block = [0; 512];
     fill(&mut block, draws);
@@ -34,8 +34,8 @@ fn drawn_block(draws: &mut Draws) -> [u8; 512]
 /// A volume whose bytes are drawn in order.
 #[tactic(auto, using(crate::proofs::Drawing::behind_none))]
 fn drawn_blocks(alloc: Global, draws: &mut Draws) -> Result<Vec<[u8; 512]>, NoMemory>
-    ensures blocks { IfOk result (λ blocks. blocks.items ≡ blocks_of (draw draws.old.state)) }
-    ensures goes { OnOk result (draws.new.state ≡ behind draws.old.state 4096) }
+    ensures blocks { IfOk result (λ blocks. blocks.items ≡ blocks_drawn (draw draws.old.state)) }
+    ensures goes { OnOk result (draws.new.state ≡ after_draws draws.old.state 4096) }
 {
     let mut blocks = Vec::new(alloc);
     for _ in 0..BLOCKS {
@@ -65,7 +65,7 @@ fn zero_blocks(alloc: Global) -> Result<Vec<[u8; 512]>, NoMemory>
 /// The volume whose bytes are drawn, and after it one of zeros for each guest.
 pub fn drawn_volumes(alloc: Global, draws: &mut Draws) -> Result<Vec<Vec<[u8; 512]>>, NoMemory>
     ensures volumes { IfOk result (λ v. map (λ blocks. blocks.items) v.items ≡ volumes_of (draw draws.old.state)) }
-    ensures goes { OnOk result (draws.new.state ≡ behind draws.old.state 4096) }
+    ensures goes { OnOk result (draws.new.state ≡ after_draws draws.old.state 4096) }
 {
     let mut volumes = Vec::new(alloc);
     volumes.push(drawn_blocks(alloc, draws)?)?;

@@ -4,7 +4,7 @@ use Rattle.std.specs.declared.option.Option.TheVariants.{Some}
 use Rattle.std.specs.declared.result.Result.TheVariants.{Ok}
 use Rattle.std.proofs.lemmas.List.{drop-map, drop_min, take_all, take_min, length-take, length-drop, take-append-le}
 use Rattle.std.proofs.Math.Seq.{drop-cons}
-use Rattle.vv_io.specs.Causes.{counted}
+use Rattle.vv_io.specs.Causes.{saturated_successor}
 use Rattle.vv_io.specs.Keys.{Takes, given_of}
 use Rattle.vv_io.specs.Lines.{ReadsBack}
 use Rattle.vv_io.specs.Memory.{MemoryKeyboard, after_next, is_next_named, keys_of}
@@ -18,7 +18,7 @@ next_of f lines given line within read =
     drop-map f given lines ∙ front ∙ cc
 
 -- the keyboard after a call that gave a line
-pub after_line : (coming rest : List (List ℕ)) (line failing : List ℕ) (calls calls' faults : ℕ) (now : MemoryKeyboard) → record { coming = coming; failing = failing; calls = calls; faults = faults } ≡ now → coming ≡ line ∷ rest → calls' ≡ counted calls → is_next_named failing calls ≡ false
+pub after_line : (coming rest : List (List ℕ)) (line failing : List ℕ) (calls calls' faults : ℕ) (now : MemoryKeyboard) → record { coming = coming; failing = failing; calls = calls; faults = faults } ≡ now → coming ≡ line ∷ rest → calls' ≡ saturated_successor calls → is_next_named failing calls ≡ false
     → record { coming = rest; failing = failing; calls = calls'; faults = faults } ≡ after_next now
 after_line coming rest line failing calls calls' faults now same next counts passes = rw (← same, next, counts, passes) refl
 

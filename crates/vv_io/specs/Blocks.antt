@@ -7,13 +7,13 @@ use Rattle.std.specs.declared.result.Result.TheVariants.{Ok, Err}
 use Rattle.vv_io.specs.Causes.{HasCause}
 
 -- A drive as the outside knows it: its number of blocks, the blocks, where it tells them, and its count of faults.
-pub record Kept : Type 0 where
+pub record SeenDrive : Type 0 where
   pub size : ℕ
   pub blocks : Option (List (List ℕ))
   pub faults : ℕ
 
 -- a drive that doesn't exist
-abbrev pub unkept : Kept
+abbrev pub unkept : SeenDrive
 unkept = record { size = 0; blocks = None; faults = 0 }
 
 -- the blocks that are told are so many
@@ -22,7 +22,7 @@ AreSoMany size None = Unit {0}
 AreSoMany size (Some blocks) = length blocks ≡ size
 
 -- the blocks that are told are as many as the drive has
-abbrev pub IsSized : Kept → Type 0
+abbrev pub IsSized : SeenDrive → Type 0
 IsSized drive = AreSoMany drive.size drive.blocks
 
 -- bytes are as many as those of the block that they replace, where blocks are told
@@ -31,46 +31,46 @@ IsAsLong None block bytes = Unit {0}
 IsAsLong (Some blocks) block bytes = length bytes ≡ length (slice_index_or blocks block [])
 
 -- the bytes that a get puts into its buffer: the block's, where the blocks are told, and none where it failed
-abbrev pub Reads : {U E : Type 0} → Option (List (List ℕ)) → ℕ → List ℕ → List ℕ → Result U E → Type 0
-Reads None block before after (Ok _) = Unit {0}
-Reads (Some blocks) block before after (Ok _) = after ≡ slice_index_or blocks block []
-Reads told block before after (Err _) = after ≡ before
+abbrev pub ReadsBlock : {U E : Type 0} → Option (List (List ℕ)) → ℕ → List ℕ → List ℕ → Result U E → Type 0
+ReadsBlock None block before after (Ok _) = Unit {0}
+ReadsBlock (Some blocks) block before after (Ok _) = after ≡ slice_index_or blocks block []
+ReadsBlock told block before after (Err _) = after ≡ before
 
 -- one get; all blocks stay
-pub record Gets {U E : Type 0} (before after : Kept) (block : ℕ) (into into' : List ℕ) (result : Result U E) : Type 0 where
+pub record Gets {U E : Type 0} (before after : SeenDrive) (block : ℕ) (into into' : List ℕ) (result : Result U E) : Type 0 where
   pub stays : after ≡ record before { faults = after.faults }
-  pub reads : Reads before.blocks block into into' result
+  pub reads : ReadsBlock before.blocks block into into' result
   pub cause : HasCause before.faults after.faults result
 
 -- these bytes in the place of one block
-abbrev pub with_block : Option (List (List ℕ)) → ℕ → List ℕ → Option (List (List ℕ))
-with_block None block bytes = None
-with_block (Some blocks) block bytes = Some (slice_set blocks block bytes)
+abbrev pub drive_with_block : Option (List (List ℕ)) → ℕ → List ℕ → Option (List (List ℕ))
+drive_with_block None block bytes = None
+drive_with_block (Some blocks) block bytes = Some (slice_set blocks block bytes)
 
 -- the block has the bytes; where the call failed it may hold any, as many as before
-abbrev pub Writes : {U E : Type 0} → Option (List (List ℕ)) → Option (List (List ℕ)) → ℕ → List ℕ → Result U E → Type 0
-Writes before after block bytes (Ok _) = after ≡ with_block before block bytes
-Writes before after block bytes (Err _) = (any : List ℕ) × (after ≡ with_block before block any) × IsAsLong before block any
+abbrev pub WritesBlock : {U E : Type 0} → Option (List (List ℕ)) → Option (List (List ℕ)) → ℕ → List ℕ → Result U E → Type 0
+WritesBlock before after block bytes (Ok _) = after ≡ drive_with_block before block bytes
+WritesBlock before after block bytes (Err _) = (any : List ℕ) × (after ≡ drive_with_block before block any) × IsAsLong before block any
 
 -- one set; all other blocks stay
-pub record Sets {U E : Type 0} (before after : Kept) (block : ℕ) (bytes : List ℕ) (result : Result U E) : Type 0 where
+pub record Sets {U E : Type 0} (before after : SeenDrive) (block : ℕ) (bytes : List ℕ) (result : Result U E) : Type 0 where
   pub size : after.size ≡ before.size
-  pub writes : Writes before.blocks after.blocks block bytes result
+  pub writes : WritesBlock before.blocks after.blocks block bytes result
   pub cause : HasCause before.faults after.faults result
 
 -- one set on drive k of several; every other drive is as before
-abbrev pub SetsOn : {U E : Type 0} → ℕ → List Kept → List Kept → ℕ → List ℕ → Result U E → Type 0
-SetsOn k before after block bytes result = (drive : Kept) × (after ≡ slice_set before k drive) × Sets (slice_index_or before k unkept) drive block bytes result
+abbrev pub SetsOn : {U E : Type 0} → ℕ → List SeenDrive → List SeenDrive → ℕ → List ℕ → Result U E → Type 0
+SetsOn k before after block bytes result = (drive : SeenDrive) × (after ≡ slice_set before k drive) × Sets (slice_index_or before k unkept) drive block bytes result
 
 -- one get from drive k of several; every other drive is as before
-abbrev pub GetsFrom : {U E : Type 0} → ℕ → List Kept → List Kept → ℕ → List ℕ → List ℕ → Result U E → Type 0
-GetsFrom k before after block into into' result = (drive : Kept) × (after ≡ slice_set before k drive) × Gets (slice_index_or before k unkept) drive block into into' result
+abbrev pub GetsFrom : {U E : Type 0} → ℕ → List SeenDrive → List SeenDrive → ℕ → List ℕ → List ℕ → Result U E → Type 0
+GetsFrom k before after block into into' result = (drive : SeenDrive) × (after ≡ slice_set before k drive) × Gets (slice_index_or before k unkept) drive block into into' result
 
 -- One sync: size and blocks stay.
-pub record SyncsDrive {U E : Type 0} (before after : Kept) (result : Result U E) : Type 0 where
+pub record SyncsDrive {U E : Type 0} (before after : SeenDrive) (result : Result U E) : Type 0 where
   pub stays : after ≡ record before { faults = after.faults }
   pub cause : HasCause before.faults after.faults result
 
 -- one sync of drive k of several; every other drive is as before
-abbrev pub SyncsDriveOn : {U E : Type 0} → ℕ → List Kept → List Kept → Result U E → Type 0
-SyncsDriveOn k before after result = (drive : Kept) × (after ≡ slice_set before k drive) × SyncsDrive (slice_index_or before k unkept) drive result
+abbrev pub SyncsDriveOn : {U E : Type 0} → ℕ → List SeenDrive → List SeenDrive → Result U E → Type 0
+SyncsDriveOn k before after result = (drive : SeenDrive) × (after ≡ slice_set before k drive) × SyncsDrive (slice_index_or before k unkept) drive result

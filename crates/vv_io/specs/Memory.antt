@@ -6,8 +6,8 @@ use Rattle.std.specs.declared.option.Option.{Option}
 use Rattle.std.specs.declared.option.Option.TheVariants.{None, Some}
 use Rattle.std.specs.declared.result.Result.{Result}
 use Rattle.std.specs.declared.result.Result.TheVariants.{Ok, Err}
-use Rattle.vv_io.specs.Blocks.{Kept}
-use Rattle.vv_io.specs.Causes.{counted}
+use Rattle.vv_io.specs.Blocks.{SeenDrive}
+use Rattle.vv_io.specs.Causes.{saturated_successor}
 use Rattle.vv_io.specs.Shelf.{File, file_limit, held}
 use Rattle.vv_io.specs.Keys.{Keys}
 use Rattle.vv_io.specs.Lines.{Seen}
@@ -17,7 +17,7 @@ use Rattle.vv_io.specs.declared.shelf.ShelfFault.TheVariants.{Missing, TooLong, 
 
 -- the call after so many is one that a list names
 abbrev pub is_next_named : List ℕ → ℕ → Bool
-is_next_named failing calls = list_any (λ number. number == counted calls) failing
+is_next_named failing calls = list_any (λ number. number == saturated_successor calls) failing
 
 -- a line: what it has shown, its room in bytes, its cuts
 pub record MemoryLine : Type 0 where
@@ -33,19 +33,19 @@ cut_of [] call = None
 cut_of (c ∷ cuts) call = if c.call == call then Some c.after else cut_of cuts call
 
 -- how many of these bytes the next put shows
-abbrev pub shown_of : MemoryLine → List ℕ → ℕ
-shown_of line bytes = min (min (unwrap_or (cut_of line.cuts (counted line.calls)) (length bytes)) (length bytes)) (line.room - length line.shown)
+abbrev pub count_shown : MemoryLine → List ℕ → ℕ
+count_shown line bytes = min (min (unwrap_or (cut_of line.cuts (saturated_successor line.calls)) (length bytes)) (length bytes)) (line.room - length line.shown)
 
 -- the next put of these bytes fails: it is cut, or they don't fit
 abbrev pub fails_at : MemoryLine → List ℕ → Bool
-fails_at line bytes = is_some (cut_of line.cuts (counted line.calls)) || nat_lt (shown_of line bytes) (length bytes)
+fails_at line bytes = is_some (cut_of line.cuts (saturated_successor line.calls)) || nat_lt (count_shown line bytes) (length bytes)
 
 -- the line after the next put
 abbrev pub after_put : MemoryLine → List ℕ → MemoryLine
 after_put line bytes = record line {
-  shown = line.shown ++ take (shown_of line bytes) bytes;
-  calls = counted line.calls;
-  faults = if fails_at line bytes then counted line.faults else line.faults;
+  shown = line.shown ++ take (count_shown line bytes) bytes;
+  calls = saturated_successor line.calls;
+  faults = if fails_at line bytes then saturated_successor line.faults else line.faults;
 }
 
 -- what the outside knows of it
@@ -65,8 +65,8 @@ files_of files = map (λ f. (f.0, f.1.items)) files
 -- the shelf after the next fetch
 abbrev pub after_fetch : MemoryShelf → MemoryShelf
 after_fetch shelf = record shelf {
-  calls = counted shelf.calls;
-  faults = if is_next_named shelf.failing shelf.calls then counted shelf.faults else shelf.faults;
+  calls = saturated_successor shelf.calls;
+  faults = if is_next_named shelf.failing shelf.calls then saturated_successor shelf.faults else shelf.faults;
 }
 
 -- the answer of a call that isn't one of the failing ones, given what the shelf holds of the name
@@ -97,8 +97,8 @@ pub record MemoryDrive : Type 0 where
 -- the drive after the next get, or after a set that fails
 abbrev pub after_call : MemoryDrive → MemoryDrive
 after_call drive = record drive {
-  calls = counted drive.calls;
-  faults = if is_next_named drive.failing drive.calls then counted drive.faults else drive.faults;
+  calls = saturated_successor drive.calls;
+  faults = if is_next_named drive.failing drive.calls then saturated_successor drive.faults else drive.faults;
 }
 
 -- the drive after the next set
@@ -106,7 +106,7 @@ abbrev pub after_set : MemoryDrive → ℕ → List ℕ → MemoryDrive
 after_set drive block bytes = record (after_call drive) { blocks = if is_next_named drive.failing drive.calls then drive.blocks else slice_set drive.blocks block bytes }
 
 -- what the outside knows of it
-abbrev pub kept_of : MemoryDrive → Kept
+abbrev pub kept_of : MemoryDrive → SeenDrive
 kept_of drive = record { size = length drive.blocks; blocks = Some drive.blocks; faults = drive.faults }
 
 -- a keyboard: the lines that are still to come
@@ -120,8 +120,8 @@ pub record MemoryKeyboard : Type 0 where
 abbrev pub after_next : MemoryKeyboard → MemoryKeyboard
 after_next keyboard = record keyboard {
   coming = if is_next_named keyboard.failing keyboard.calls then keyboard.coming else drop 1 keyboard.coming;
-  calls = counted keyboard.calls;
-  faults = if is_next_named keyboard.failing keyboard.calls then counted keyboard.faults else keyboard.faults;
+  calls = saturated_successor keyboard.calls;
+  faults = if is_next_named keyboard.failing keyboard.calls then saturated_successor keyboard.faults else keyboard.faults;
 }
 
 -- what the outside knows of it

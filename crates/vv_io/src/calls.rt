@@ -1,12 +1,12 @@
 ghost use Rattle.std.specs.Prelude.{◌≡◌};
 ghost use Rattle.std.specs.Prelude.{◌==◌, Some};
 ghost use Rattle.std.specs.List.{list_any};
-ghost use Rattle.vv_io.specs.Causes.{counted};
+ghost use Rattle.vv_io.specs.Causes.{saturated_successor};
 ghost use Rattle.vv_io.specs.Lines.{ReadsBack};
 
 /// One more, where a u64 holds it.
 pub fn counted(n: u64) -> u64
-    ensures { result ≡ counted n }
+    ensures { result ≡ saturated_successor n }
 {
     n.saturating_add(1)
 }

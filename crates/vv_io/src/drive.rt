@@ -1,5 +1,5 @@
 ghost use Rattle.std.specs.Prelude.{◌≡◌, ◌<◌, map, vec_len, slice_index_or};
-ghost use Rattle.vv_io.specs.Blocks.{Kept, unkept, IsSized, Gets, Sets, GetsFrom, SetsOn, SyncsDrive, SyncsDriveOn};
+ghost use Rattle.vv_io.specs.Blocks.{SeenDrive, unkept, IsSized, Gets, Sets, GetsFrom, SetsOn, SyncsDrive, SyncsDriveOn};
 
 /// A drive failed.
 #[derive(Clone, Copy, Debug, PartialEq, Eq)]
@@ -9,7 +9,7 @@ pub struct DriveFault;
 pub trait Drive: Drop {
     /// Its number of blocks, which never changes, the blocks, where it tells them, and how often it has
     /// failed.
-    ghost kept: { Self → Kept };
+    ghost kept: { Self → SeenDrive };
 
     /// The number of blocks.
     fn blocks(&self) -> u32

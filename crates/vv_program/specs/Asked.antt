@@ -2,9 +2,9 @@
 use Rattle.std.specs.Prelude.{ℕ, List, [], ◌∷◌, codes, if◌then◌else◌, Option, Some, None}
 use Rattle.std.specs.declared.io.ErrorKind.{ErrorKind}
 use Rattle.std.specs.declared.io.ErrorKind.TheVariants.{OutOfMemory}
-use Rattle.vv_commands.specs.Words.{is_word}
-use Rattle.vv_commands.specs.declared.status.Status.{Status}
-use Rattle.vv_commands.specs.declared.status.Status.TheVariants.{Words, NoMemory}
+use Rattle.vvmm_call.specs.Words.{is_word}
+use Rattle.vvmm_call.specs.declared.status.Status.{Status}
+use Rattle.vvmm_call.specs.declared.status.Status.TheVariants.{Words, NoMemory}
 use Rattle.vv_program.specs.declared.asked.TheConstants.{HELP, VERSION}
 
 -- `--help` and `--version`, each by itself

@@ -1,8 +1,8 @@
 -- How the program ends: what is told on standard error.
 use Rattle.std.specs.Prelude.{ℕ, ◌≡◌, List, [], ◌∷◌, ◌++◌, Bool, true, false, codes, if◌then◌else◌, Option}
-use Rattle.vv_commands.specs.Texts.{text_of}
-use Rattle.vv_commands.specs.declared.status.Status.{Status}
-use Rattle.vv_commands.specs.declared.status.Status.TheVariants.{Done, Words, VolumeSize, DriveIn}
+use Rattle.vvmm_call.specs.Texts.{text_of}
+use Rattle.vvmm_call.specs.declared.status.Status.{Status}
+use Rattle.vvmm_call.specs.declared.status.Status.TheVariants.{Done, Words, VolumeSize, DriveIn}
 use Rattle.vv_edge.specs.Notes.{notes_of}
 use Rattle.vv_edge.specs.declared.telling.FlawedDrive.{FlawedDrive}
 use Rattle.vv_io.specs.Lines.{Seen}
@@ -26,6 +26,6 @@ end_text Words flawed = report_of Words ++ HELP.now
 end_text status flawed = if is_of_drives status then report_of status ++ notes_of flawed else report_of status
 
 -- some bytes are put once, whole or cut; none are no put
-abbrev pub Tells : List ℕ → Seen → Seen → Type 0
-Tells [] before after = after ≡ before
-Tells (byte ∷ bytes) before after = (cut : Bool) × ShownSince cut before after (byte ∷ bytes)
+abbrev pub PutsIfAny : List ℕ → Seen → Seen → Type 0
+PutsIfAny [] before after = after ≡ before
+PutsIfAny (byte ∷ bytes) before after = (cut : Bool) × ShownSince cut before after (byte ∷ bytes)

@@ -1,12 +1,12 @@
 -- A command leaves the devices that it doesn't have.
 use Rattle.std.specs.Prelude.{◌≡◌, Option}
 use Rattle.sys_live.specs.Operator.{Operator}
-use Rattle.vv_commands.specs.Answer.{Outside, Says}
-use Rattle.vv_commands.specs.Devices.{devices_of}
-use Rattle.vv_commands.specs.Words.{Wanted}
-use Rattle.vv_commands.specs.declared.devices.Devices.{Devices}
-use Rattle.vv_commands.specs.declared.devices.Devices.TheVariants.{Nothing, Lines, LinesAndDrives}
-use Rattle.vv_commands.specs.declared.status.Status.{Status}
+use Rattle.vvmm_call.specs.Answer.{Outside, Says}
+use Rattle.vvmm_call.specs.Devices.{devices_needed}
+use Rattle.vvmm_call.specs.Words.{Wanted}
+use Rattle.vvmm_call.specs.declared.devices.Devices.{Devices}
+use Rattle.vvmm_call.specs.declared.devices.Devices.TheVariants.{Nothing, Lines, LinesAndDrives}
+use Rattle.vvmm_call.specs.declared.status.Status.{Status}
 
 -- the devices that aren't among these are as before
 abbrev pub LeavesAllBut : Devices → Outside → Type 0
@@ -15,4 +15,4 @@ LeavesAllBut Lines o = o.drives' ≡ o.drives
 LeavesAllBut LinesAndDrives o = Unit {0}
 
 abbrev pub LeavesOthers : Type 0
-LeavesOthers = (words : Option Wanted) (status : Status) (o : Outside) (p : Operator) → Says words status o p → LeavesAllBut (devices_of words) o
+LeavesOthers = (words : Option Wanted) (status : Status) (o : Outside) (p : Operator) → Says words status o p → LeavesAllBut (devices_needed words) o

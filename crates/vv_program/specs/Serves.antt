@@ -1,12 +1,12 @@
 -- The call with the sync of its devices after it.
 use Rattle.std.specs.Prelude.{ℕ, ◌≡◌, List, min, Option, Some}
-use Rattle.vv_io.specs.Blocks.{Kept}
+use Rattle.vv_io.specs.Blocks.{SeenDrive}
 use Rattle.vv_io.specs.Lines.{Seen}
 use Rattle.sys_live.specs.Operator.{Operator}
-use Rattle.vv_commands.specs.Answer.{Outside, Says}
-use Rattle.vv_commands.specs.Words.{Wanted}
-use Rattle.vv_commands.specs.declared.status.Status.{Status}
-use Rattle.vv_commands.specs.declared.status.Status.TheVariants.{Done, OutFault, KeyFault, Device as DeviceFault}
+use Rattle.vvmm_call.specs.Answer.{Outside, Says}
+use Rattle.vvmm_call.specs.Words.{Wanted}
+use Rattle.vvmm_call.specs.declared.status.Status.{Status}
+use Rattle.vvmm_call.specs.declared.status.Status.TheVariants.{Done, OutFault, KeyFault, Device as DeviceFault}
 use Rattle.vv_edge.specs.Syncing.{SyncsDrives, SyncsLines}
 use Rattle.sys_system.specs.Devices.{device_of}
 use Rattle.sys_system.specs.declared.parts.Device.{Device}
@@ -28,10 +28,10 @@ synced_status (DeviceFault first) (Some device) = DeviceFault (lower first devic
 synced_status answer failed = answer
 
 -- The call left lines and drives so, and answered so; then they were synced.
-pub record Serves (words : Option Wanted) (status : Status) (o : Outside) (p : Operator) : Type 0 where
+pub record ServesCall (words : Option Wanted) (status : Status) (o : Outside) (p : Operator) : Type 0 where
   pub answer : Status
   pub lines : List Seen
-  pub drives : List Kept
+  pub drives : List SeenDrive
   pub says : Says words answer (record o { lines' = lines; drives' = drives }) p
   pub line : Option ℕ
   pub drive : Option ℕ

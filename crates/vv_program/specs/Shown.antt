@@ -2,13 +2,13 @@
 use Rattle.std.specs.Prelude.{◌≡◌, refl, [], ◌∷◌, ◌++◌, codes, decimal, Some, None}
 use Rattle.std.specs.declared.io.ErrorKind.TheVariants.{InvalidData, OutOfMemory}
 use Rattle.sys_system.specs.declared.parts.Device.TheVariants as devices
-use Rattle.vv_commands.specs.declared.status.Status.TheVariants.{Done, Words, OutFault, NoMemory, DriveIn, Device as DeviceFault}
-use Rattle.vv_edge.specs.Notes.{note_of}
+use Rattle.vv_edge.specs.Notes.{drive_note}
 use Rattle.vv_edge.specs.declared.stat.Flaw.TheVariants.{Link}
 use Rattle.vv_program.specs.Asked.{text_asked, words_status}
 use Rattle.vv_program.specs.Ends.{end_text}
 use Rattle.vv_program.specs.Serves.{synced_status}
 use Rattle.vv_program.specs.declared.asked.TheConstants.{HELP}
+use Rattle.vvmm_call.specs.declared.status.Status.TheVariants.{Done, Words, OutFault, NoMemory, DriveIn, Device as DeviceFault}
 
 two_words_are_no_text : text_asked (codes "--help" ∷ codes "--version" ∷ []) ≡ None
 two_words_are_no_text = refl
@@ -31,7 +31,7 @@ the_forms = refl
 no_notes : end_text OutFault (None ∷ Some (record { number = 3; flaw = Link }) ∷ []) ≡ (codes "vvmm: " ++ codes "output fault") ++ 10 ∷ []
 no_notes = refl
 
-a_drive_and_its_note : end_text (DriveIn 3) (None ∷ Some (record { number = 3; flaw = Link }) ∷ []) ≡ ((codes "vvmm: " ++ (codes "drive " ++ decimal 3)) ++ 10 ∷ []) ++ (note_of (record { number = 3; flaw = Link }) ++ [])
+a_drive_and_its_note : end_text (DriveIn 3) (None ∷ Some (record { number = 3; flaw = Link }) ∷ []) ≡ ((codes "vvmm: " ++ (codes "drive " ++ decimal 3)) ++ 10 ∷ []) ++ (drive_note (record { number = 3; flaw = Link }) ++ [])
 a_drive_and_its_note = refl
 
 a_line_that_is_not_synced : synced_status Done (Some (devices.Line 4)) ≡ DeviceFault (devices.Line 4)

@@ -3,7 +3,7 @@ ghost use Rattle.std.specs.Option.{option_map};
 ghost use Rattle.vv_program.specs.Asked.{text_asked, words_status};
 
 use std::io::ErrorKind;
-use vv_commands::Status;
+use vvmm_call::Status;
 
 /// What `--help` shows.
 pub const HELP: &str =

@@ -1,12 +1,12 @@
 ghost use Rattle.std.specs.Prelude.{◌≡◌, ◌≤◌, length};
-ghost use Rattle.vv_commands.specs.Texts.{code_of};
-ghost use Rattle.vv_program.specs.Ends.{Tells, end_text, is_of_drives, report_of};
+ghost use Rattle.vv_program.specs.Ends.{PutsIfAny, end_text, is_of_drives, report_of};
+ghost use Rattle.vvmm_call.specs.Texts.{code_of};
 
 use crate::asked::HELP;
 use vv_base::Text;
-use vv_commands::{Status, close, status_code, status_text};
 use vv_edge::{FlawedDrive, notes};
 use vv_io::Sink;
+use vvmm_call::{Status, close, status_code, status_text};
 
 /// What is told of an end.
 type End = Text<2304>;
@@ -49,7 +49,7 @@ fn end_text(status: &Status, flawed: &[Option<FlawedDrive>; 16]) -> End
 
 /// Puts bytes once, if there are some.
 fn tell<E: Sink>(bytes: &[u8], errors: &mut E)
-    ensures { Tells bytes.now (E.printed errors.old) (E.printed errors.new) }
+    ensures { PutsIfAny bytes.now (E.printed errors.old) (E.printed errors.new) }
 {
     if bytes.is_empty() {
         return;
@@ -60,7 +60,7 @@ fn tell<E: Sink>(bytes: &[u8], errors: &mut E)
 /// Tells on `errors` how the program ends, all in one put, and gives its exit code. A fault of `errors` changes nothing.
 pub fn conclude<E: Sink>(status: &Status, flawed: &[Option<FlawedDrive>; 16], errors: &mut E) -> u8
     ensures code { result ≡ code_of status.now }
-    ensures tells { Tells (end_text status.now flawed.now) (E.printed errors.old) (E.printed errors.new) }
+    ensures tells { PutsIfAny (end_text status.now flawed.now) (E.printed errors.old) (E.printed errors.new) }
 {
     tell(end_text(status, flawed).bytes(), errors);
     status_code(status)

@@ -1,14 +1,14 @@
 ghost use Rattle.std.specs.Prelude.{◌≡◌, ◌*◌, length, map, string_bytes, vec_len};
 ghost use Rattle.sys_system.specs.Devices.{device_of};
-ghost use Rattle.vv_commands.specs.Words.{wanted};
-ghost use Rattle.vv_program.specs.Serves.{Serves, lower, synced_status};
+ghost use Rattle.vv_program.specs.Serves.{ServesCall, lower, synced_status};
+ghost use Rattle.vvmm_call.specs.Words.{wanted};
 
 use std::alloc::Global;
 use sys_system::Device;
 use vax_hw::Hardware;
-use vv_commands::{Progress, Status, vvmm_run};
 use vv_edge::{sync_drives, sync_lines};
 use vv_io::{Drive, Keyboard, Line, Shelf, Sink};
+use vvmm_call::{Progress, Status, vvmm_run};
 
 /// A line, or else a drive.
 fn device_of(line: Option<u8>, drive: Option<u8>) -> Option<Device>
@@ -64,7 +64,7 @@ pub fn serve<H: Hardware, S: Shelf, O: Sink, K: Keyboard, E: Sink, P: Progress>(
     requires pages { length (H.machine machine.old).memory ≡ 512 * 32768 }
     requires lines { vec_len lines.old ≡ 32 }
     requires drives { vec_len drives.old ≡ 16 }
-    ensures { Serves (wanted (map (λ w. string_bytes w) words.now)) result (record { files = S.files shelf.old; shelf = S.faults shelf.old; shelf' = S.faults shelf.new; machine = H.machine machine.old; machine' = H.machine machine.new; lines = map (λ b. seen b) lines.old.items; lines' = map (λ b. seen b) lines.new.items; drives = map (λ d. kept d) drives.old.items; drives' = map (λ d. kept d) drives.new.items; out = O.printed out.old; out' = O.printed out.new }) (record { keys = K.keys keyboard.old; keys' = K.keys keyboard.new; errors = E.printed errors.old; errors' = E.printed errors.new }) }
+    ensures { ServesCall (wanted (map (λ w. string_bytes w) words.now)) result (record { files = S.files shelf.old; shelf = S.faults shelf.old; shelf' = S.faults shelf.new; machine = H.machine machine.old; machine' = H.machine machine.new; lines = map (λ b. seen b) lines.old.items; lines' = map (λ b. seen b) lines.new.items; drives = map (λ d. kept d) drives.old.items; drives' = map (λ d. kept d) drives.new.items; out = O.printed out.old; out' = O.printed out.new }) (record { keys = K.keys keyboard.old; keys' = K.keys keyboard.new; errors = E.printed errors.old; errors' = E.printed errors.new }) }
 {
     let answer = vvmm_run(
         alloc, words, shelf, machine, lines, drives, out, keyboard, errors, progress,

@@ -16,11 +16,11 @@ use std::process::ExitCode;
 use std::rt::{Stderr, Stdout};
 use vax_cpu::Cpu;
 use vv_base::NoMemory;
-pub use vv_commands::vvmm_run;
-use vv_commands::{Devices, Status, close, devices_of};
 use vv_edge::{FlawedDrive, Identity};
 use vv_io::{Drive, EmptyDrive, Line};
 use vv_program::{conclude, serve, text_asked, words_status};
+pub use vvmm_call::vvmm_run;
+use vvmm_call::{Devices, Status, close, devices_of};
 
 /// The machine has 32,768 pages of 512 bytes: 16 megabytes.
 const PAGES: u32 = 32_768;

@@ -5,8 +5,8 @@ use std::alloc::Global;
 use std::fs;
 use std::process::Abort;
 use std::test::Fail;
-use vv_commands::status_code;
 use vv_program::HELP;
+use vvmm_call::status_code;
 
 /// A configuration with a terminal on each line and a volume on each drive; drive k has k + 1 blocks.
 fn config_of(alloc: Global) -> Result<String, NoMemory> {

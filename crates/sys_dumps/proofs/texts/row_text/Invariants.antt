@@ -1,5 +1,5 @@
 use Rattle.std.proofs.Common.{◌≡◌, ◌+◌, ◌*◌, ◌++◌, drop, length}
-use Rattle.sys_rounds.specs.Dump.{byte_texts, row_line}
+use Rattle.sys_state.specs.Dump.{byte_texts, row_line}
 use Rattle.sys_dumps.proofs.texts.row_text.Given as goal
 
 -- all is there but for the bytes that are left

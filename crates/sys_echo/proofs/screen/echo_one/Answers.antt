@@ -1,7 +1,7 @@
 use Rattle.std.proofs.Common.{◌∙◌, drop, map, refl, slice_index_or}
 use Rattle.vv_io.specs.Lines.{unseen}
 use Rattle.sys_lines.proofs.Puts.{hands_on}
-use Rattle.sys_echo.specs.Screens.{told_of}
+use Rattle.sys_echo.specs.Screens.{shown_if_known}
 use Rattle.sys_echo.proofs.Parts.{part_begins, part_ends, part_goes_on, part_stops}
 use Rattle.sys_echo.proofs.Reading.{all_seen, nothing_read, piece_shown, piece_within, was_read}
 use Rattle.sys_echo.proofs.Shown.{one_echo}
@@ -15,7 +15,7 @@ loop-screen-init g c =
     let line = slice_index_or (map (λ b. (goal.Line-dyn g (b.vtable, b.value)).seen b.value) c.args.lines.now.items) screen.line unseen in
     record {
       same = record { name = refl; line = refl };
-      put = part_begins _ _ _ _ (λ told. all_pieces screen.name (drop screen.seen (told_of line.shown)));
+      put = part_begins _ _ _ _ (λ told. all_pieces screen.name (drop screen.seen (shown_if_known line.shown)));
       within = λ within. within;
       stays = refl;
       len = refl;

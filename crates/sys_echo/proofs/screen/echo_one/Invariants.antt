@@ -1,7 +1,7 @@
 use Rattle.std.proofs.Common.{◌≡◌, ◌-◌, drop, map, vec_len, slice_index_or}
 use Rattle.vv_io.specs.Lines.{unseen}
 use Rattle.sys_echo.specs.Echo.{echo_of}
-use Rattle.sys_echo.specs.Screens.{IsSameScreen, IsTold, IsWithin, told_of}
+use Rattle.sys_echo.specs.Screens.{IsLineKnown, IsSameScreen, IsScreenWithin, shown_if_known}
 use Rattle.sys_echo.proofs.Endings.{ending}
 use Rattle.sys_echo.proofs.Parts.{IsPart}
 use Rattle.sys_echo.proofs.screen.echo_one.Given as goal
@@ -13,8 +13,8 @@ invariant-loop-screen g l =
     let line = slice_index_or lines l.fn.screen.line unseen in
     record {
       same : IsSameScreen l.fn.screen l.screen;
-      put : IsPart (IsTold line) (g.O.Sink.printed l.fn.out) (g.O.Sink.printed l.out) (ending l.fn.screen.name l.is_begun (drop l.screen.seen (told_of line.shown))) (echo_of l.fn.screen.name (drop l.fn.screen.seen (told_of line.shown)));
-      within : IsWithin lines l.fn.screen → IsWithin lines l.screen;
+      put : IsPart (IsLineKnown line) (g.O.Sink.printed l.fn.out) (g.O.Sink.printed l.out) (ending l.fn.screen.name l.is_begun (drop l.screen.seen (shown_if_known line.shown))) (echo_of l.fn.screen.name (drop l.fn.screen.seen (shown_if_known line.shown)));
+      within : IsScreenWithin lines l.fn.screen → IsScreenWithin lines l.screen;
       stays : map (λ b. (goal.Line-dyn g (b.vtable, b.value)).seen b.value) l.lines.items ≡ lines;
       len : vec_len l.lines ≡ vec_len l.fn.lines;
     }

@@ -1,5 +1,5 @@
 use Rattle.std.proofs.Common.{◌≡◌, drop}
-use Rattle.sys_rounds.specs.Consoles.{console_of}
+use Rattle.sys_state.specs.Consoles.{console_of}
 use Rattle.sys_events.proofs.consoles.console_of.Given as goal
 
 abbrev pub invariant-loop-k : goal.invariant-loop-k

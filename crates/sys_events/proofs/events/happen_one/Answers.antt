@@ -2,8 +2,8 @@ use Rattle.std.proofs.Common.{ℕ, ◌≡◌, ◌∙◌, List, Some, sym, ap}
 use Rattle.sys_events.proofs.Happening.{somewhere}
 use Rattle.sys_events.proofs.Lists.{found_within}
 use Rattle.sys_objects.specs.declared.records.Terminal.{Terminal}
-use Rattle.sys_rounds.specs.Events.{is_named}
-use Rattle.sys_rounds.specs.Places.{place_of}
+use Rattle.sys_state.specs.Events.{is_named}
+use Rattle.sys_state.specs.Places.{place_of}
 use Rattle.sys_script.specs.declared.event.Typed.TheVariants.{Break, Line}
 use Rattle.sys_events.proofs.Touching.{somewhere_so}
 use Rattle.sys_events.proofs.events.happen_one.Goals as goal

@@ -2,7 +2,7 @@ use Rattle.std.proofs.Common.{◌≡◌, map, take, vec_len}
 use Rattle.std.specs.Prelude.{filter}
 use Rattle.sys_events.specs.Saying.{puts_on}
 use Rattle.sys_lines.specs.Shows.{Shows}
-use Rattle.sys_rounds.specs.State.{bytes_on}
+use Rattle.sys_state.specs.State.{bytes_on}
 use Rattle.sys_server.specs.Replies.{volume_line}
 use Rattle.vv_class.specs.Class.{does_flow}
 use Rattle.sys_events.proofs.shows.show_volumes.Given as goal

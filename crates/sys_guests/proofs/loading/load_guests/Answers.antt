@@ -4,9 +4,9 @@ use Rattle.std.specs.List.{All, sum_by}
 use Rattle.sys_guests.proofs.Present.{first_present}
 use Rattle.sys_guests.proofs.Entering.{ArePutIn, all_put_in, one_put_in}
 use Rattle.sys_guests.proofs.Powering.{all_more, alone_then, beside_at, beside_long, each_fits, map_at}
-use Rattle.sys_guests.specs.Loads.{HasFirst, LoadsOne}
-use Rattle.sys_rounds.specs.Guests.{powered}
-use Rattle.sys_rounds.specs.Places.{beside_with}
+use Rattle.sys_guests.specs.Loads.{HasFirst, LoadsGuest}
+use Rattle.sys_state.specs.Guests.{powered}
+use Rattle.sys_state.specs.Places.{beside_with}
 use Rattle.vm_state.specs.State.{Guest}
 use Rattle.sys_guests.proofs.loading.load_guests.Goals as goal
 
@@ -30,7 +30,7 @@ loop-place-preserved g c =
     let before = (g.H.Hardware.machine c.loop-place.machine).memory in
     let after = (g.H.Hardware.machine c.load_guest.new.machine).memory in
     let all = sum_by (λ r. r.pages) c.args.rows.now in
-    let one : LoadsOne row image.items c.loop-place.base c.loop-place.tables before after c.in_ok-load_guest.field-0 = subst (λ (bytes : List ℕ). LoadsOne row bytes c.loop-place.base c.loop-place.tables before after c.in_ok-load_guest.field-0) c.deref.ensures.value c.in_ok-load_guest.ensures.ok in
+    let one : LoadsGuest row image.items c.loop-place.base c.loop-place.tables before after c.in_ok-load_guest.field-0 = subst (λ (bytes : List ℕ). LoadsGuest row bytes c.loop-place.base c.loop-place.tables before after c.in_ok-load_guest.field-0) c.deref.ensures.value c.in_ok-load_guest.ensures.ok in
     let read' = map_at (λ b. b.items) c.args.images.now k image (omega (arith, c.requires.images)) c.index-images-place.is in
     let hs : List Guest = beside_with powered c.args.rows.now images in
     let many : length hs ≡ length c.args.rows.now = beside_long powered c.args.rows.now images (sym long) in

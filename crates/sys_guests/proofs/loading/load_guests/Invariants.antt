@@ -2,8 +2,8 @@ use Rattle.std.proofs.Common.{map}
 use Rattle.std.specs.List.{All, sum_by}
 use Rattle.sys_guests.proofs.Entering.{ArePutIn}
 use Rattle.sys_guests.specs.Loads.{HasFirst, MemoryAlone}
-use Rattle.sys_rounds.specs.Guests.{powered}
-use Rattle.sys_rounds.specs.Places.{beside_with}
+use Rattle.sys_state.specs.Guests.{powered}
+use Rattle.sys_state.specs.Places.{beside_with}
 use Rattle.sys_guests.proofs.loading.load_guests.Given as goal
 
 abbrev pub invariant-loop-place : goal.invariant-loop-place

@@ -8,9 +8,9 @@ use Rattle.sys_guests.proofs.Powering.{all_more, alone_still, alone_then}
 use Rattle.sys_guests.proofs.Present.{first_present}
 use Rattle.sys_guests.proofs.Resuming.{are_allowed, as_many_rows, few_pages, first_page, head_of, in_order, next_in, one_more, tables_fit, whole}
 use Rattle.sys_guests.specs.Loads.{HasFirst, PutsIn}
-use Rattle.sys_snap.specs.Held.{guest_of}
+use Rattle.sys_snap.specs.Held.{snapshot_guest}
 use Rattle.vm_guest.specs.Kept.{Kept}
-use Rattle.vm_state.specs.Start.{opening}
+use Rattle.vm_state.specs.Start.{memory_with_image}
 use Rattle.sys_guests.proofs.placing.place_guests.Goals as goal
 
 pub place_guest-requires-clause-few : goal.place_guest-requires-clause-few
@@ -57,7 +57,7 @@ loop-snap-init g c =
     let rows = c.args.rows.now in
     let snaps = c.args.snaps.items in
     let memory = (g.H.Hardware.machine c.args.machine.now).memory in
-    let hs = map guest_of snaps in
+    let hs = map snapshot_guest snaps in
     let none = c.in_ok-guests.ensures.items in
     let first : ArePutIn rows hs (pages_in rows) 0 0 c.all_pages-tables.result [] memory = subst (λ t. ArePutIn rows hs (pages_in rows) 0 0 t [] memory) (sym c.all_pages-tables.ensures) (none_put_in rows hs (pages_in rows) memory) in
     record {
@@ -77,13 +77,13 @@ loop-snap-preserved g c =
     let snap = c.in-Some.snap in
     let head = head_of c.args.snaps.items k snap c.next.new.self.rest.items (sym c.loop-snap.invariant.left ∙ c.in-Some.ensures.steps.0) in
     let l = c.in_ok-place_guest.field-0 in
-    let one : PutsIn snap.state c.loop-snap.tables (opening (512 * snap.state.pages) 0 snap.memory.items) memory after l = subst (λ (bytes : List ℕ). PutsIn snap.state c.loop-snap.tables (opening (512 * snap.state.pages) 0 bytes) memory after l) c.deref.ensures.value c.in_ok-place_guest.ensures.ok in
+    let one : PutsIn snap.state c.loop-snap.tables (memory_with_image (512 * snap.state.pages) 0 snap.memory.items) memory after l = subst (λ (bytes : List ℕ). PutsIn snap.state c.loop-snap.tables (memory_with_image (512 * snap.state.pages) 0 bytes) memory after l) c.deref.ensures.value c.in_ok-place_guest.ensures.ok in
     let pushed = c.in_ok-push.ensures.items in
     let more : length c.push.new.self.items ≡ k + 1 = ap (λ (xs : List Kept). length xs) pushed ∙ length-append c.loop-snap.guests.items (l ∷ []) in
     let put = one_more c.args.rows.now c.args.snaps.items k c.loop-snap.tables c.loop-snap.guests.items memory snap c.requires.few c.requires.some_pages c.loop-snap.invariant.put next after l head.there head.read one in
     record {
-      put = subst (λ (ks : List Kept). ArePutIn c.args.rows.now (map guest_of c.args.snaps.items) (pages_in c.args.rows.now) (length c.push.new.self.items) (first_page c.args.rows.now (length c.push.new.self.items)) (c.loop-snap.tables + 580) ks after) (sym pushed)
-          (subst (λ n. ArePutIn c.args.rows.now (map guest_of c.args.snaps.items) (pages_in c.args.rows.now) n (first_page c.args.rows.now n) (c.loop-snap.tables + 580) (c.loop-snap.guests.items ++ l ∷ []) after) (sym more) put);
+      put = subst (λ (ks : List Kept). ArePutIn c.args.rows.now (map snapshot_guest c.args.snaps.items) (pages_in c.args.rows.now) (length c.push.new.self.items) (first_page c.args.rows.now (length c.push.new.self.items)) (c.loop-snap.tables + 580) ks after) (sym pushed)
+          (subst (λ n. ArePutIn c.args.rows.now (map snapshot_guest c.args.snaps.items) (pages_in c.args.rows.now) n (first_page c.args.rows.now n) (c.loop-snap.tables + 580) (c.loop-snap.guests.items ++ l ∷ []) after) (sym more) put);
       left = head.left ∙ ap (λ n. drop n c.args.snaps.items) (sym more);
       many = omega (arith, more, c.loop-snap.invariant.many, c.in-Some.ensures.steps.1);
       first = subst (λ (ks : List Kept). All HasFirst ks) (sym pushed) (all_more HasFirst c.loop-snap.guests.items l c.loop-snap.invariant.first c.in_ok-place_guest.ensures.present);
@@ -102,7 +102,7 @@ returns-clause-placed g c =
     let snaps = c.args.snaps.items in
     let same : length snaps ≡ length rows = as_many_rows rows snaps 0 c.requires.places in
     let ends : length rows ≤ length c.loop-snap.guests.items = omega (arith, same, c.loop-snap.invariant.many, c.in-None.ensures.steps.0) in
-    (all_put_in rows (map guest_of snaps) (pages_in rows) (length c.loop-snap.guests.items) (first_page rows (length c.loop-snap.guests.items)) c.loop-snap.tables c.loop-snap.guests.items (g.H.Hardware.machine c.loop-snap.machine).memory refl ends (length-map snaps guest_of ∙ same) c.requires.few c.requires.some_pages c.loop-snap.invariant.put).0
+    (all_put_in rows (map snapshot_guest snaps) (pages_in rows) (length c.loop-snap.guests.items) (first_page rows (length c.loop-snap.guests.items)) c.loop-snap.tables c.loop-snap.guests.items (g.H.Hardware.machine c.loop-snap.machine).memory refl ends (length-map snaps snapshot_guest ∙ same) c.requires.few c.requires.some_pages c.loop-snap.invariant.put).0
 
 pub returns-clause-guests : goal.returns-clause-guests
 returns-clause-guests g c =
@@ -110,7 +110,7 @@ returns-clause-guests g c =
     let snaps = c.args.snaps.items in
     let same : length snaps ≡ length rows = as_many_rows rows snaps 0 c.requires.places in
     let ends : length rows ≤ length c.loop-snap.guests.items = omega (arith, same, c.loop-snap.invariant.many, c.in-None.ensures.steps.0) in
-    (all_put_in rows (map guest_of snaps) (pages_in rows) (length c.loop-snap.guests.items) (first_page rows (length c.loop-snap.guests.items)) c.loop-snap.tables c.loop-snap.guests.items (g.H.Hardware.machine c.loop-snap.machine).memory refl ends (length-map snaps guest_of ∙ same) c.requires.few c.requires.some_pages c.loop-snap.invariant.put).1
+    (all_put_in rows (map snapshot_guest snaps) (pages_in rows) (length c.loop-snap.guests.items) (first_page rows (length c.loop-snap.guests.items)) c.loop-snap.tables c.loop-snap.guests.items (g.H.Hardware.machine c.loop-snap.machine).memory refl ends (length-map snaps snapshot_guest ∙ same) c.requires.few c.requires.some_pages c.loop-snap.invariant.put).1
 
 pub returns-clause-present : goal.returns-clause-present
 returns-clause-present g c = first_present c.loop-snap.guests.items c.loop-snap.invariant.first (g.H.Hardware.machine c.loop-snap.machine).memory

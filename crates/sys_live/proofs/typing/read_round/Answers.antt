@@ -1,9 +1,9 @@
 use Rattle.std.proofs.Common.{◌≡◌, ◌+◌, ◌-◌, ◌^◌, ◌==◌, ℕ, List, [], length, All, Some, Ok, true, false, is_err, refl, sym, ◌∙◌, ap, subst, arith}
 use Rattle.vv_io.specs.Keys.{Takes}
 use Rattle.sys_script.specs.Events.{IsEvent}
-use Rattle.sys_script.specs.Typed.{says_event, told_of}
+use Rattle.sys_script.specs.Typed.{refusal_message, says_event}
 use Rattle.sys_system.specs.Calls.{AreOf}
-use Rattle.sys_lines.specs.Shows.{Gets}
+use Rattle.sys_lines.specs.Shows.{ShowsUnlessMarked}
 use Rattle.sys_live.specs.Typing.{TypesRound}
 use Rattle.sys_live.specs.declared.typing.Typing.TheVariants.{GoesOn, Over, Broken}
 use Rattle.sys_live.specs.declared.typing.TypedRound.{TypedRound}
@@ -132,8 +132,8 @@ loop-lines-preserved g c =
     let some : (length line == 0) ≡ false = subst (λ (l : List ℕ). (length l == 0) ≡ false) same (sym c.is_empty.ensures ∙ c.if-is_empty.false) in
     let went : is_err c.take_line.result ≡ false = sym c.is_err.ensures.value ∙ c.if-is_err.false in
     let counted : c.take_line.new.count.lines ≡ c.loop-lines.count.lines + 1 = c.take_line.ensures.lines ∙ ap (λ n. n + 1) (sym c.loop-lines.invariant.lines) in
-    let tells : Gets c.loop-lines.count.is_cut c.take_line.new.count.is_cut errors1 errors2 (told_of (c.loop-lines.count.lines + 1) line) =
-    subst (λ n. Gets c.loop-lines.count.is_cut c.take_line.new.count.is_cut errors1 errors2 (told_of (n + 1) line)) (sym c.loop-lines.invariant.lines) (off_ok c.take_line.result went c.take_line.ensures.tells) in
+    let tells : ShowsUnlessMarked c.loop-lines.count.is_cut c.take_line.new.count.is_cut errors1 errors2 (refusal_message (c.loop-lines.count.lines + 1) line) =
+    subst (λ n. ShowsUnlessMarked c.loop-lines.count.is_cut c.take_line.new.count.is_cut errors1 errors2 (refusal_message (n + 1) line)) (sym c.loop-lines.invariant.lines) (off_ok c.take_line.result went c.take_line.ensures.tells) in
     let far = goes_on c.args.round c.args.count.now c.loop-lines.count c.take_line.new.count c.loop-lines.events.items c.take_line.new.events.items line keys keys1 keys2 errors errors1 errors2 c.loop-lines.invariant.far (full_line line some) (subst (Takes keys1 keys2) given c.next.ensures)
     (off_ok c.take_line.result went c.take_line.ensures.ok) tells counted in
     record { far = far; lines = c.take_line.ensures.lines }

@@ -1,7 +1,7 @@
 use Rattle.std.proofs.Common.{◌∙◌, ◌≡◌, ◌+◌, ap, subst, refl, arith}
 use Rattle.sys_runs.proofs.Many.{more_made, none_made}
 use Rattle.sys_runs.proofs.Splitting.{Spent, spent_next, spent_up_to, these_are, these_of}
-use Rattle.sys_rounds.specs.Run.{events_of}
+use Rattle.sys_state.specs.Run.{events_of}
 use Rattle.sys_system.specs.Calls.{AreOf}
 use Rattle.sys_system.specs.System.{System}
 use Rattle.sys_runs.proofs.rounds.make_rounds.Goals as goal

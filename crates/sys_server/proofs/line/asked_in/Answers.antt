@@ -1,6 +1,6 @@
 use Rattle.std.proofs.Common.{Option, subst, sym}
 use Rattle.std.specs.Option.{IfSome}
-use Rattle.sys_server.specs.Line.{Asks}
+use Rattle.sys_server.specs.CommandLine.{Asks}
 use Rattle.sys_server.specs.declared.command.Asked.{Asked}
 use Rattle.sys_server.proofs.Written.{lines_are_written}
 use Rattle.sys_server.proofs.line.asked_in.Goals as goal

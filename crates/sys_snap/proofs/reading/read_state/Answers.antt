@@ -1,6 +1,6 @@
 use Rattle.std.proofs.Common.{◌≡◌, ◌∙◌, ℕ, ap, arith, drop, length, replicate, subst, None}
 use Rattle.std.specs.Prelude.{All}
-use Rattle.sys_snap.specs.Held.{ArePlaced}
+use Rattle.sys_snap.specs.Held.{ArePlacedSnapshots}
 use Rattle.sys_snap.proofs.Placing.{placed_long, running_back, running_front}
 use Rattle.sys_snap.proofs.reading.read_state.Goals as goal
 
@@ -24,5 +24,5 @@ returns-clause-holds c =
       unmounted = subst (λ (n : ℕ). All (λ units. units ≡ replicate 4 None) (drop n c.in_ok-mounts.mounts)) (ap length c.as_slice-2.ensures) c.in_ok-mounts.ensures.beyond;
       running = running_front guests (length rows) c.running-running.result long runs;
       stopped = running_back guests (length rows) c.running-running.result long runs;
-      places = subst (λ rows. ArePlaced 0 rows guests) c.as_slice-3.ensures c.in_ok-guests.ensures.places;
+      places = subst (λ rows. ArePlacedSnapshots 0 rows guests) c.as_slice-3.ensures c.in_ok-guests.ensures.places;
     }

@@ -1,11 +1,11 @@
 use Rattle.std.proofs.Common.{◌∙◌, ap, ◌++◌}
 use Rattle.vm_state.specs.State.{State, state_of}
-use Rattle.sys_snap.specs.Written.{base_bytes, clock_bytes, console_bytes, end_bytes, level_bytes, queue_bytes, record_of, register_bytes}
+use Rattle.sys_snap.specs.Written.{base_bytes, clock_bytes, console_bytes, end_bytes, guest_record_bytes, level_bytes, queue_bytes, register_bytes}
 use Rattle.sys_snap.proofs.Pieces.{seven_pieces}
 use Rattle.sys_snap.proofs.record.guest_record.Goals as goal
 
 pub returns-clause-is : goal.returns-clause-is
-unfolding record_of
+unfolding guest_record_bytes
 returns-clause-is c =
     let s : State = state_of c.args.g.now in
     let rest = base_bytes s ++ (level_bytes s ++ (clock_bytes s.clock ++ (console_bytes s.console ++ (queue_bytes s ++ end_bytes s)))) in

@@ -1,6 +1,6 @@
 use Rattle.std.proofs.Common.{◌≡◌}
 use Rattle.sys_lines.proofs.Lists.{from_on}
-use Rattle.sys_rounds.specs.Places.{is_at, place_of}
+use Rattle.sys_state.specs.Places.{is_at, place_of}
 use Rattle.sys_system.proofs.consoles.first_guest.Given as goal
 
 abbrev pub invariant-loop-place : goal.invariant-loop-place

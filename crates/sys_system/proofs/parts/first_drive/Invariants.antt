@@ -1,6 +1,6 @@
 use Rattle.std.proofs.Common.{◌≡◌}
 use Rattle.sys_lines.proofs.Lists.{from_on}
-use Rattle.sys_rounds.specs.Places.{place_of}
+use Rattle.sys_state.specs.Places.{place_of}
 use Rattle.sys_system.proofs.parts.first_drive.Given as goal
 
 abbrev pub invariant-loop-drive : goal.invariant-loop-drive

@@ -5,7 +5,7 @@ use Rattle.sys_lines.specs.Shows.{only_on}
 use Rattle.sys_objects.specs.declared.records.Terminal.{Terminal}
 use Rattle.sys_system.proofs.Slices.{small_line, taken}
 use Rattle.sys_system.specs.declared.parts.Parts.{Parts}
-use Rattle.sys_rounds.specs.Consoles.{console_of}
+use Rattle.sys_state.specs.Consoles.{console_of}
 use Rattle.sys_system.proofs.parts.take.Goals as goal
 
 pub show_each-requires-clause-there : goal.show_each-requires-clause-there

@@ -6,7 +6,7 @@ use Rattle.sys_guests.specs.declared.turns.TimeSlice.{TimeSlice}
 use Rattle.sys_lines.proofs.Showings.{shows_same}
 use Rattle.sys_lines.specs.Shows.{only_on}
 use Rattle.sys_objects.specs.declared.records.Terminal.{Terminal}
-use Rattle.sys_rounds.specs.Consoles.{console_of}
+use Rattle.sys_state.specs.Consoles.{console_of}
 use Rattle.sys_system.proofs.Slices.{small_line, taken}
 use Rattle.sys_system.proofs.Tellings.{tells}
 use Rattle.sys_system.specs.declared.parts.Parts.{Parts}

@@ -2,7 +2,7 @@ use Rattle.std.proofs.Common.{◌≡◌, ◌∙◌, ◌++◌, ◌∷◌, List, �
 use Rattle.std.specs.Prelude.{decimal, slice_index}
 use Rattle.sys_trace.proofs.Columns.{head_by}
 use Rattle.sys_trace.proofs.Lines.{head_for}
-use Rattle.sys_trace.specs.Line.{at_right, instruction_in, kind_name, mode_name}
+use Rattle.sys_trace.specs.TraceLine.{at_right, instruction_or_mark, kind_name, mode_name}
 use Rattle.vax_arch.specs.Fields.{current_of}
 use Rattle.vv_base.specs.Digits.{hex_text}
 use Rattle.sys_trace.proofs.step_line.head.Goals as goal
@@ -17,8 +17,8 @@ returns-clause-head c h kind before tally =
     let name : c.as_bytes.result.now ≡ kind_name kind = c.as_bytes.ensures.value ∙ c.kind_name.ensures.name kind tally in
     let mode : c.mode_name.result.now ≡ mode_name (current_of b.psl.0) = c.mode_name.ensures.name ∙ ap mode_name c.current.ensures in
     let pc : c.bytes.result.now ≡ hex_text 8 (slice_index b.r 15) = c.bytes.ensures.value ∙ c.address.ensures.text in
-    let text : c.instruction_in.result.now ≡ instruction_in kind b.text = c.instruction_in.ensures.text kind tally ∙ ap (instruction_in kind) c.bytes-2.ensures.value in
-    let whole = head_by (at_right 6 (decimal c.args.number)) (kind_name kind) (mode_name (current_of b.psl.0)) (hex_text 8 (slice_index b.r 15)) (instruction_in kind b.text) l0 c.put_part.new.line l2 l3 l4 c.put_part-4.new.line
+    let text : c.instruction_in.result.now ≡ instruction_or_mark kind b.text = c.instruction_in.ensures.text kind tally ∙ ap (instruction_or_mark kind) c.bytes-2.ensures.value in
+    let whole = head_by (at_right 6 (decimal c.args.number)) (kind_name kind) (mode_name (current_of b.psl.0)) (hex_text 8 (slice_index b.r 15)) (instruction_or_mark kind b.text) l0 c.put_part.new.line l2 l3 l4 c.put_part-4.new.line
     c.number_column-line.ensures.number c.number_column-line.ensures.size
     (c.put_part.ensures.part ∙ ap (λ (bs : List ℕ). l0 ++ (32 ∷ bs)) name)
     c.put_blanks.ensures.blanks

@@ -2,7 +2,7 @@ use Rattle.std.proofs.Common.{◌≡◌, ◌≤◌, ◌∙◌, ◌-◌, ◌++◌
 use Rattle.std.specs.Prelude.{decimal}
 use Rattle.std.proofs.lemmas.Fmt.{length-decimal-le}
 use Rattle.sys_trace.proofs.Columns.{column_is, right_long}
-use Rattle.sys_trace.specs.Line.{at_left}
+use Rattle.sys_trace.specs.TraceLine.{at_left}
 use Rattle.sys_trace.proofs.step_line.number_column.Goals as goal
 
 pub overflow_sub-bytes : goal.overflow_sub-bytes

@@ -1,5 +1,5 @@
 use Rattle.std.proofs.Common.{◌≡◌, ◌-◌, length}
-use Rattle.sys_trace.specs.Line.{at_left}
+use Rattle.sys_trace.specs.TraceLine.{at_left}
 use Rattle.sys_trace.proofs.step_line.put_blanks.Given as goal
 
 abbrev pub invariant-loop-line : goal.invariant-loop-line

@@ -1,7 +1,7 @@
 use Rattle.std.proofs.Common.{◌∙◌, ◌++◌, List, ℕ, ap}
 use Rattle.sys_trace.proofs.Columns.{words_by}
 use Rattle.sys_trace.proofs.Lines.{words_for}
-use Rattle.sys_trace.specs.Line.{shown_word}
+use Rattle.sys_trace.specs.TraceLine.{shown_word}
 use Rattle.sys_trace.proofs.step_line.words.Goals as goal
 
 pub returns-clause-words : goal.returns-clause-words

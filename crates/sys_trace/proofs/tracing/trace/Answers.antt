@@ -1,7 +1,7 @@
 use Rattle.std.proofs.Common.{◌≡◌, ◌∙◌, [], ap, subst, refl}
 use Rattle.std.proofs.lemmas.Result.{err_from_is_err_and}
 use Rattle.sys_lines.specs.ShownSince.{ShownSince}
-use Rattle.sys_rounds.specs.Guests.{powered}
+use Rattle.sys_state.specs.Guests.{powered}
 use Rattle.sys_runs.proofs.Whole.{as_long, run_made}
 use Rattle.sys_system.specs.System.{System}
 use Rattle.sys_trace.proofs.Turns.{first_powered, input_is, none_left, one_round, only_row, quantum_few, quantum_of, same_quantum, stays_for, takes_turn}

@@ -2,7 +2,7 @@ use Rattle.std.proofs.Common.{◌≡◌, ◌∙◌, ◌+◌, ◌++◌, List, ℕ
 use Rattle.sys_lines.specs.ShownSince.{ShownSince}
 use Rattle.sys_system.proofs.Playing.{plays_none}
 use Rattle.sys_trace.proofs.Turns.{first_later, later, nothing_traced, single_more, step_can, trace_more}
-use Rattle.sys_trace.specs.Line.{line_of}
+use Rattle.sys_trace.specs.TraceLine.{trace_line}
 use Rattle.sys_trace.specs.Trace.{trace_of}
 use Rattle.vm_state.specs.Step.{step}
 use Rattle.sys_trace.proofs.tracing.trace_turn.Goals as goal
@@ -32,7 +32,7 @@ loop-made-preserved g c =
           let system = c.args.system.now in
           let now = later made h in
           let at = first_later system.config.terminals system.connected made _ _ h here before.plays.guests in
-          let line : c.bytes.result.now ≡ line_of (made + 1) now (step now) = c.bytes.ensures.value ∙ c.trace_step-line.ensures.line now at in
+          let line : c.bytes.result.now ≡ trace_line (made + 1) now (step now) = c.bytes.ensures.value ∙ c.trace_step-line.ensures.line now at in
           let text : trace_of made h ++ c.bytes.result.now ≡ trace_of (made + 1) h = ap (λ (bs : List ℕ). trace_of made h ++ bs) line ∙ sym (trace_more made h) in
           subst (λ (bs : List ℕ). ShownSince c.put_next-is_cut.result (g.O.Sink.printed c.args.out.now) (g.O.Sink.printed c.put_next-is_cut.new.out) bs) text (c.put_next-is_cut.ensures (g.O.Sink.printed c.args.out.now) (trace_of made h) (before.shown h here));
       holds = c.trace_step-line.ensures.holds;

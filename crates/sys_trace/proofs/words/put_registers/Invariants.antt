@@ -1,5 +1,5 @@
 use Rattle.std.proofs.Common.{◌≡◌, ◌≤◌, ◌+◌, ◌*◌, ◌++◌, drop, length, take}
-use Rattle.sys_trace.specs.Line.{register_words}
+use Rattle.sys_trace.specs.TraceLine.{register_words}
 use Rattle.sys_trace.proofs.words.put_registers.Given as goal
 
 abbrev pub invariant-loop-n : goal.invariant-loop-n

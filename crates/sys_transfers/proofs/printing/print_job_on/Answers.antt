@@ -1,6 +1,6 @@
 use Rattle.std.proofs.Common.{ℕ, ◌<◌, Option, subst, sym}
 use Rattle.std.specs.Prelude.{IfSome}
-use Rattle.sys_rounds.specs.Transfers.{printer_of}
+use Rattle.sys_state.specs.Transfers.{printer_of}
 use Rattle.sys_transfers.proofs.Printed.{job_shown, nothing_shown, small_line}
 use Rattle.sys_transfers.proofs.printing.print_job_on.Goals as goal
 

@@ -1,6 +1,6 @@
 use Rattle.std.proofs.Common.{◌*◌, ◌∙◌, None, Option, ap, arith, refl, sym}
 use Rattle.sys_objects.specs.declared.records.Mount.{Mount}
-use Rattle.sys_rounds.specs.Transfers.{Refused, to_print, to_read, to_write}
+use Rattle.sys_state.specs.Transfers.{Refused, to_print, to_read, to_write}
 use Rattle.sys_transfers.specs.Serves.{packet_of}
 use Rattle.sys_transfers.proofs.Moving.{refuses}
 use Rattle.sys_transfers.proofs.Served.{asks_nothing, asks_to_print, asks_to_read, asks_to_write, carries_all, names_volume, no_job_read, no_job_written, prints_only}

@@ -2,7 +2,7 @@ use Rattle.std.proofs.Common.{length, arith, ap, sym, subst, ◌∙◌, List, �
 use Rattle.vax_cpu.specs.Fetched.{fault_exit}
 use Rattle.vax_paged.specs.Paged.{paged}
 use Rattle.vax_table.specs.Fetch.{decided, fetched}
-use Rattle.vax_table.specs.Script.{outcome}
+use Rattle.vax_table.specs.Interaction.{outcome}
 use Rattle.vax_table.specs.Spelling.{Spells, view}
 use Rattle.vax_table.specs.declared.decoded.Decoded.{Decoded}
 use Rattle.vax_cpu.proofs.Spelled.{spelled_front}

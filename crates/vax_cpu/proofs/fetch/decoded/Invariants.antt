@@ -2,7 +2,7 @@ use Rattle.std.proofs.Common.{◌≡◌, ◌+◌}
 use Rattle.arrayvec.specs.ArrayVec.{array_vec_len}
 use Rattle.vax_paged.specs.Paged.{paged}
 use Rattle.vax_table.specs.Fetch.{decided, fetched}
-use Rattle.vax_table.specs.Script.{outcome}
+use Rattle.vax_table.specs.Interaction.{outcome}
 use Rattle.vax_cpu.proofs.fetch.decoded.Given as goal
 
 abbrev pub invariant-loop-looks : goal.invariant-loop-looks

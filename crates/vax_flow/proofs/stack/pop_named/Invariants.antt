@@ -1,5 +1,5 @@
 use Rattle.std.proofs.Common.{◌≡◌, ◌-◌}
-use Rattle.vax_table.specs.Script.{outcome}
+use Rattle.vax_table.specs.Interaction.{outcome}
 use Rattle.vax_table.specs.Stack.{named_up, pop_all}
 use Rattle.vax_flow.proofs.stack.pop_named.Given as goal
 

@@ -2,7 +2,7 @@ use Rattle.std.proofs.Common.{◌≡◌, ◌≤◌, ◌+◌}
 use Rattle.arrayvec.specs.ArrayVec.{array_vec_len}
 use Rattle.vax_table.specs.Calls.{values_of}
 use Rattle.vax_table.specs.Effects.{effect}
-use Rattle.vax_table.specs.Script.{outcome}
+use Rattle.vax_table.specs.Interaction.{outcome}
 use Rattle.vax_table.specs.Stack.{named_down, push_all}
 use Rattle.vax_flow.proofs.stack.push_named.Given as goal
 

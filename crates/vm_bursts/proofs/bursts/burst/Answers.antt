@@ -3,7 +3,7 @@ use Rattle.vm_bursts.proofs.Running.{few_counted, few_done, is_run}
 use Rattle.std.specs.Bool.{IsTrue}
 use Rattle.vm_state.specs.declared.guest_state.GuestState.{GuestState}
 use Rattle.vm_clock.specs.Ticks.{ticks_to_wrap}
-use Rattle.vm_simulation.specs.Bursts.{with_count}
+use Rattle.vm_simulation_laws.specs.Bursts.{with_count}
 use Rattle.vm_shadow.proofs.Covering.{slot_small}
 use Rattle.vm_bursts.proofs.bursts.burst.Goals as goal
 

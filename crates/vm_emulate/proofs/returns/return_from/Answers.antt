@@ -1,6 +1,6 @@
 use Rattle.std.proofs.Common.{◌∙◌, subst, sym}
 use Rattle.std.specs.Prelude.{slice_index}
-use Rattle.vax_table.specs.Script.{outcome}
+use Rattle.vax_table.specs.Interaction.{outcome}
 use Rattle.vm_emulate.specs.Readings.{ArePopped}
 use Rattle.vm_emulate.proofs.Returning.{returns_done, returns_refused}
 use Rattle.vm_state.specs.Contexts.{two_popped}

@@ -1,6 +1,6 @@
 use Rattle.std.proofs.Common.{subst, sym}
-use Rattle.vm_bursts.specs.Guarded.{Tells}
-use Rattle.vm_fitting.specs.Runs.{Reaches}
+use Rattle.vm_bursts.specs.Guarded.{ExitIsMet}
+use Rattle.vm_miss_laws.specs.Runs.{Reaches}
 use Rattle.vm_shadow.specs.StandsFor.{StandsFor}
 use Rattle.vm_stepping.proofs.Meeting.{guarded_budget, guarded_other, guarded_trap, stays_by}
 use Rattle.vm_stepping.proofs.Noting.{guarded_notes}
@@ -45,7 +45,7 @@ meet_told-requires g c =
     record {
       stands = subst (StandsFor after.memory c.run_guarded-ran.new.s) (sym stays.guest) stays.stands;
       room = c.requires.room;
-      told = subst (Tells c.run_guarded-ran.result.exit after.memory c.run_guarded-ran.new.s) (sym stays.guest) stays.tells;
+      told = subst (ExitIsMet c.run_guarded-ran.result.exit after.memory c.run_guarded-ran.new.s) (sym stays.guest) stays.tells;
       reaches = subst (Reaches c.run_guarded-ran.result.exit after.memory c.run_guarded-ran.new.s) (sym stays.guest) stays.reaches;
     }
 

@@ -5,7 +5,7 @@ use Rattle.vm_state.specs.Step.{Fault, by_try, faulted, stopped}
 use Rattle.vm_state.specs.Stops.{PastMemory}
 use Rattle.vm_state.specs.Translation.{walk_of}
 use Rattle.vm_state.specs.declared.exception.Exc.TheVariants as excs
-use Rattle.vm_simulation.specs.Loaded.{guest_try}
+use Rattle.vm_simulation_laws.specs.Loaded.{guest_try}
 use Rattle.vm_stepping.proofs.MissingPages.{faults, made_as, present, refilled, stops}
 use Rattle.vm_stepping.proofs.Noting.{missing_fault, missing_stop}
 use Rattle.vm_stepping.proofs.PayingMet.{fault_pays, fill_pays, stop_pays}

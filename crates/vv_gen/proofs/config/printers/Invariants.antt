@@ -1,7 +1,7 @@
 use Rattle.std.proofs.Common.{◌≡◌, map}
 use Rattle.std.specs.List.{range_with_len}
-use Rattle.vv_gen.specs.Config.{printer_of}
+use Rattle.vv_gen.specs.Config.{generated_printer}
 use Rattle.vv_gen.proofs.config.printers.Given as goal
 
 abbrev pub invariant-loop-g : goal.invariant-loop-g
-invariant-loop-g l = l.rows.items ≡ map printer_of (range_with_len 0 l.g)
+invariant-loop-g l = l.rows.items ≡ map generated_printer (range_with_len 0 l.g)

@@ -1,7 +1,7 @@
 use Rattle.std.proofs.Common.{◌≡◌, ◌∷◌, map}
 use Rattle.std.specs.List.{range_with_len}
-use Rattle.vv_gen.specs.Config.{shared_volume, volume_of}
+use Rattle.vv_gen.specs.Config.{generated_volume, shared_volume}
 use Rattle.vv_gen.proofs.config.volumes.Given as goal
 
 abbrev pub invariant-loop-g : goal.invariant-loop-g
-invariant-loop-g l = l.rows.items ≡ shared_volume ∷ map volume_of (range_with_len 0 l.g)
+invariant-loop-g l = l.rows.items ≡ shared_volume ∷ map generated_volume (range_with_len 0 l.g)

@@ -1,6 +1,6 @@
 use Rattle.std.proofs.Common.{ℕ, ◌≡◌, ◌+◌, ◌*◌, ◌∙◌, ap, arith}
 use Rattle.sys_script.specs.declared.event.Event.{Event}
-use Rattle.vv_gen.specs.Draws.{draws_behind}
+use Rattle.vv_gen.specs.Draws.{draws_after}
 use Rattle.vv_gen.specs.Events.{event_of}
 use Rattle.vv_gen.proofs.Drawing.{next_draws, state_behind}
 use Rattle.vv_gen.proofs.Making.{events_made}
@@ -14,7 +14,7 @@ loop-before-preserved c =
     let f : (ℕ → ℕ) → Event = λ draws. event_of (n + 1) draws in
     let sum : 2 * n + 2 ≡ 2 * (n + 1) = omega arith in
     record {
-      made = pushed (λ before. event_of (before + 1) (draws_behind (2 * before) x)) n _ _ _ c.loop-before.invariant.made c.in_ok-push.ensures.items (c.in_ok-drawn_event.ensures.event ∙ ap f (next_draws x (2 * n) _ c.loop-before.invariant.state));
+      made = pushed (λ before. event_of (before + 1) (draws_after (2 * before) x)) n _ _ _ c.loop-before.invariant.made c.in_ok-push.ensures.items (c.in_ok-drawn_event.ensures.event ∙ ap f (next_draws x (2 * n) _ c.loop-before.invariant.state));
       state = state_behind x (2 * n) 2 (2 * (n + 1)) _ _ c.loop-before.invariant.state c.in_ok-drawn_event.ensures.goes sum;
     }
 

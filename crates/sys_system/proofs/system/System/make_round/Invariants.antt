@@ -1,7 +1,7 @@
 use Rattle.std.proofs.Common.{◌≡◌, List, map, vec_len, sum}
 use Rattle.sys_system.specs.Calls.{Plays}
 use Rattle.sys_system.specs.System.{IsSystem}
-use Rattle.sys_rounds.specs.Slices.{Slice}
+use Rattle.sys_state.specs.Slices.{Slice}
 use Rattle.sys_system.proofs.system.System.make_round.Given as goal
 
 abbrev pub invariant-loop-one : goal.invariant-loop-one

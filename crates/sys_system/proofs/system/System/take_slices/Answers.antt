@@ -5,7 +5,7 @@ use Rattle.sys_guests.specs.declared.turns.TimeSlice.{TimeSlice}
 use Rattle.sys_objects.specs.Condition.{IsConfig}
 use Rattle.sys_objects.specs.declared.records.Config.{Config}
 use Rattle.sys_objects.specs.declared.records.GuestRow.{GuestRow}
-use Rattle.sys_rounds.specs.Slices.{AreQuanta}
+use Rattle.sys_state.specs.Slices.{AreQuanta}
 use Rattle.sys_system.proofs.Playing.{all_played, all_taken, plays_next, plays_none, slice_can}
 use Rattle.sys_system.proofs.Rounding.{round_made}
 use Rattle.sys_system.proofs.Slicing.{same_default}

@@ -1,6 +1,6 @@
 use Rattle.std.proofs.Common.{refl, subst}
 use Rattle.vax_arch.specs.Walk.{Tables}
-use Rattle.vax_hw.specs.Machine.{tables_of}
+use Rattle.vax_hw.specs.Machine.{machine_tables}
 use Rattle.vax_paged.specs.Known.{AreAllKnown}
 use Rattle.vax_cpu.proofs.state.State.load.Goals as goal
 
@@ -12,4 +12,4 @@ invariant_of-self c =
 pub invariant_of-self-2 : goal.invariant_of-self-2
 invariant_of-self-2 c =
     let (size, some, most, known) = c.self.invariant in
-    (size, some, most, c.forget.ensures c.self.inside.memory.items (tables_of c.args.w.now))
+    (size, some, most, c.forget.ensures c.self.inside.memory.items (machine_tables c.args.w.now))

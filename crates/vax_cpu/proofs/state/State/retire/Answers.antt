@@ -1,6 +1,6 @@
 use Rattle.std.proofs.Common.{◌≡◌, ◌+◌, ◌*◌, ◌%◌, ◌^◌, ℕ, List, length, refl, sym, ◌∙◌, subst, ap, arith}
 use Rattle.std.proofs.lemmas.List.{with_items_is}
-use Rattle.vax_hw.specs.Machine.{tables_of}
+use Rattle.vax_hw.specs.Machine.{machine_tables}
 use Rattle.vax_paged.specs.Known.{AreAllKnown}
 use Rattle.vax_cpu.proofs.state.State.retire.Goals as goal
 
@@ -16,7 +16,7 @@ returns c =
 pub store_all-requires-clause-known : goal.store_all-requires-clause-known
 store_all-requires-clause-known c =
     let (size, some, most, known) = c.self.invariant in
-    subst (λ (xs : List ℕ). AreAllKnown xs (tables_of c.self.inside.world) c.self.inside.known) (sym c.deref_mut.ensures.value) known
+    subst (λ (xs : List ℕ). AreAllKnown xs (machine_tables c.self.inside.world) c.self.inside.known) (sym c.deref_mut.ensures.value) known
 
 pub invariant_of-self : goal.invariant_of-self
 invariant_of-self c =

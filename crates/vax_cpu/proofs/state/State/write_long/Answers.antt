@@ -1,7 +1,7 @@
 use Rattle.std.proofs.Common.{◌≡◌, ◌+◌, ◌*◌, ◌≤◌, ℕ, List, length, sym, ◌∙◌, subst, ap, arith}
 use Rattle.std.proofs.lemmas.List.{with_items_is}
 use Rattle.vv_base.specs.Bytes.{long_bytes, overwritten}
-use Rattle.vax_hw.specs.Machine.{Machine, tables_of}
+use Rattle.vax_hw.specs.Machine.{Machine, machine_tables}
 use Rattle.vax_paged.specs.Known.{AreAllKnown, IsSameBut}
 use Rattle.vax_paged.proofs.Watching.{written_elsewhere}
 use Rattle.vax_cpu.proofs.state.State.write_long.Goals as goal
@@ -12,7 +12,7 @@ invariant_of-self c =
     let before = c.self.inside.memory.items in
     let after = c.put_u32.new.b in
     let place = c.args.place in
-    let t = tables_of c.self.inside.world in
+    let t = machine_tables c.self.inside.world in
     let long : length after ≡ c.self.inside.memory.len = c.put_u32.auto.b ∙ c.deref_mut.ensures.len in
     let seen : length before ≡ length c.args.self.now.memory = ap (λ (m : Machine). length m.memory) c.self.view_is in
     let room : place + 4 ≤ length before = omega (arith, seen, c.requires) in

@@ -1,6 +1,6 @@
 use Rattle.std.proofs.Common.{◌<◌, ◌≤◌, ◌+◌, ◌%◌, ℕ, Result, Ok, ap, ◌∙◌, arith}
 use Rattle.vv_base.specs.Width.{size_of}
-use Rattle.vax_table.specs.Script.{Trouble}
+use Rattle.vax_table.specs.Interaction.{Trouble}
 use Rattle.vax_table.specs.Troubles.{intent_of}
 use Rattle.vax_paged.proofs.InPage.{number_there}
 use Rattle.vax_paged.proofs.entries.Paged.number.Goals as goal

@@ -1,5 +1,5 @@
 use Rattle.std.proofs.Common.{arith, ◌≡◌, ◌≤◌, ◌+◌, ◌*◌, length, sym, ap, ◌∙◌, subst, false}
-use Rattle.vm_shadow.specs.Calls.{Drops, is_dropped, remembered}
+use Rattle.vm_shadow.specs.Calls.{DropsEntries, is_dropped, remembered}
 use Rattle.vm_shadow.proofs.Remembering.{past_both, past_one}
 use Rattle.vm_shadow.proofs.Scanning.{drops_more, drops_none, drops_taken}
 use Rattle.vm_shadow.proofs.records.Records.drop_entries.Goals as goal
@@ -41,4 +41,4 @@ loop-n-smaller g c = omega (arith, c.next-n-in-loop-n.ensures.past.order, c.loop
 pub returns : goal.returns
 returns g c =
     let end : c.loop-n.n ≡ c.args.end = omega (arith, c.loop-n.invariant.within, c.loop-n-test.false) in
-    subst (λ n. Drops c.args.at c.args.first n c.args.which (g.H.Hardware.machine c.args.machine.now) c.args.self.now (g.H.Hardware.machine c.loop-n.machine) c.loop-n.self) end c.loop-n.invariant.drops
+    subst (λ n. DropsEntries c.args.at c.args.first n c.args.which (g.H.Hardware.machine c.args.machine.now) c.args.self.now (g.H.Hardware.machine c.loop-n.machine) c.loop-n.self) end c.loop-n.invariant.drops

@@ -1,6 +1,6 @@
 use Rattle.std.proofs.Common.{◌∙◌, ◌-◌, ap, sym}
 use Rattle.vax_arch.specs.Walk.{page_of}
-use Rattle.vm_shadow.specs.Stands.{is_flagged}
+use Rattle.vm_shadow.specs.Shadowed.{is_flagged}
 use Rattle.vm_shadow.proofs.Guarding.{grants_then}
 use Rattle.vm_shadow.proofs.shadow.Shadow.grant_write.Goals as goal
 

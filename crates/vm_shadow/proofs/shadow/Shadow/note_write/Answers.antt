@@ -1,5 +1,5 @@
 use Rattle.std.proofs.Common.{◌≡◌, ap, sym, ◌∙◌, subst, false, set}
-use Rattle.vm_shadow.specs.Stands.{Fits, Shadowed, is_flagged}
+use Rattle.vm_shadow.specs.Shadowed.{Fits, Shadowed, is_flagged}
 use Rattle.vm_shadow.proofs.Noting.{note_all, note_none, notes_seen}
 use Rattle.vm_shadow.proofs.shadow.Shadow.note_write.Goals as goal
 

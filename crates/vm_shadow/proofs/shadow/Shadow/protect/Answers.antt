@@ -1,6 +1,6 @@
 use Rattle.std.proofs.Common.{◌≡◌, ap, sym, ◌∙◌, subst, false, []}
 use Rattle.vm_shadow.specs.Flags.{any_flagged, with_flags}
-use Rattle.vm_shadow.specs.Stands.{Keeps, Shadowed}
+use Rattle.vm_shadow.specs.Shadowed.{Keeps, Shadowed}
 use Rattle.vm_shadow.proofs.Protecting.{protects_all, protects_none, protects_seen}
 use Rattle.vm_shadow.proofs.shadow.Shadow.protect.Goals as goal
 

@@ -1,6 +1,6 @@
 use Rattle.std.proofs.Common.{◌∙◌, ap, sym, subst, []}
-use Rattle.vm_shadow.specs.Stands.{Keeps, Shadowed}
-use Rattle.vm_shadow.specs.StandsFor.{Takes, is_full_for, staying}
+use Rattle.vm_shadow.specs.Shadowed.{Keeps, Shadowed}
+use Rattle.vm_shadow.specs.StandsFor.{TakesSlot, is_full_for, staying}
 use Rattle.vm_shadow.proofs.Switching.{switch_all, switch_seen, switch_told}
 use Rattle.vm_state.specs.State.{tables_of}
 use Rattle.vm_state.specs.Touches.{is_remapped}
@@ -16,6 +16,6 @@ returns g c =
     (subst (Keeps [] [] before.memory) (sym c.self.view_is) c.requires.keeps)
     (ap (λ (s : Shadowed). s.pages) c.self.view_is ∙ c.requires.pages) (ap (λ (s : Shadowed). s.base) c.self.view_is ∙ c.requires.base) c.requires.tables
     (c.is_remapped-remapped.ensures ∙ ap (λ (s : Shadowed). is_remapped s.told (tables_of c.args.g.now)) (sym c.self.view_is))
-    (subst (λ x. Takes x (staying c.is_remapped-remapped.result c.self.inside.held) c.take_slot-taken.new.held c.take_slot-taken.result.slot) own_context c.take_slot-taken.ensures.takes)
+    (subst (λ x. TakesSlot x (staying c.is_remapped-remapped.result c.self.inside.held) c.take_slot-taken.new.held c.take_slot-taken.result.slot) own_context c.take_slot-taken.ensures.takes)
     (c.take_slot-taken.ensures.evicted ∙ ap (λ x. is_full_for x (staying c.is_remapped-remapped.result c.self.inside.held)) own_context)
     c.entries_that_go-first.ensures c.drop_entries.ensures))

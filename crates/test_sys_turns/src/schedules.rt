@@ -1,0 +1,284 @@
+//! Slices of any guests, in any order, have the same outcome.
+
+use std::alloc::Global;
+use std::test::Fail;
+use test_sys_stage::Piece::{Bytes, Longs};
+use test_sys_stage::Shown::{Each, Exactly};
+use test_sys_stage::{CASE, Case, Content, HOW, How, Outcome, Trouble, new_machine};
+use vax_cpu::Cpu;
+
+/// A script of all forms, with transfers: by slices of the three guests in each order, of one step, of seven, of whole quanta, and of different sizes.
+#[test]
+fn slices_in_any_order(rt: HostRuntime) -> Result<(), Fail> {
+    let alloc = rt.alloc();
+    let mut machine = new_machine(alloc)?;
+    let (whole, difference) = ALL.played(alloc, &mut machine, &HOW)?;
+    assert_eq!(rt; difference, None);
+    let sizes = [[1, 1, 1], [7, 7, 7], [30, 30, 30], [30, 1, 7]];
+    let other = other_order(alloc, &mut machine, &ALL, &whole, &sizes)?;
+    assert_eq!(rt; other, None);
+    Ok(())
+}
+
+/// Three guests that count down a thousand steps, by slices in each order.
+#[test]
+fn three_guests_count_down(rt: HostRuntime) -> Result<(), Fail> {
+    let alloc = rt.alloc();
+    let mut machine = new_machine(alloc)?;
+    let (whole, difference) = COUNTING.played(alloc, &mut machine, &HOW)?;
+    assert_eq!(rt; difference, None);
+    assert_eq!(rt; whole.ending.counts.trail, 0x0BB8_001B_F24C);
+    let sizes = [[1, 7, 1000]];
+    let order = other_order(alloc, &mut machine, &COUNTING, &whole, &sizes)?;
+    assert_eq!(rt; order, None);
+    Ok(())
+}
+
+/// Whether a case that is played so has the outcome that it states, and all counts and bytes of another run of it.
+fn is_same(
+    alloc: Global,
+    machine: &mut Cpu,
+    case: &Case,
+    whole: &Outcome,
+    how: &How<'_>,
+) -> Result<bool, Trouble> {
+    let (outcome, difference) = case.played(alloc, machine, how)?;
+    Ok(difference.is_none() && outcome.is_same(whole))
+}
+
+/// Guests in an order, each with its steps in a slice at most.
+type Order = [(u8, u32); 3];
+
+/// The first order of slices of these sizes by which a case doesn't have the same outcome.
+fn other_order_of(
+    alloc: Global,
+    machine: &mut Cpu,
+    case: &Case,
+    whole: &Outcome,
+    sizes: [u32; 3],
+) -> Result<Option<Order>, Trouble> {
+    let [x, y, z] = sizes;
+    for [a, b, c] in ORDERS {
+        let order = [(a, x), (b, y), (c, z)];
+        let how = How {
+            order: &order,
+            ..HOW
+        };
+        if !is_same(alloc, machine, case, whole, &how)? {
+            return Ok(Some(order));
+        }
+    }
+    Ok(None)
+}
+
+/// The first of these sizes, and the first order, by which a case doesn't have the same outcome.
+fn other_order(
+    alloc: Global,
+    machine: &mut Cpu,
+    case: &Case,
+    whole: &Outcome,
+    sizes: &[[u32; 3]],
+) -> Result<Option<Order>, Trouble> {
+    for these in sizes {
+        let other = other_order_of(alloc, machine, case, whole, *these)?;
+        if other.is_some() {
+            return Ok(other);
+        }
+    }
+    Ok(None)
+}
+
+const ORDERS: [[u8; 3]; 6] = [
+    [0, 1, 2],
+    [0, 2, 1],
+    [1, 0, 2],
+    [1, 2, 0],
+    [2, 0, 1],
+    [2, 1, 0],
+];
+
+/// Three guests without consoles.
+const COUNTERS: &str =
+    "[[guest]]\nname = \"A\"\nclass = \"0{};0{}\"\npages = 64\nimage = \"a\"\nload = 0\nstart = 512\nautostart = true
+dump = 0\nquantum = 1000
+[[guest]]\nname = \"B\"\nclass = \"0{};0{}\"\npages = 64\nimage = \"b\"\nload = 0\nstart = 512\nautostart = true
+dump = 1\nquantum = 1000
+[[guest]]\nname = \"C\"\nclass = \"0{};0{}\"\npages = 64\nimage = \"c\"\nload = 0\nstart = 512\nautostart = true
+dump = 2\nquantum = 1000\n";
+
+/// L: DECL R0; BRB L
+const DOWN: Content = &[(0x200, Bytes(&[0xD7, 0x50, 0x11, 0xFC]))];
+
+/// Each goes 500 times through its loop, so that R0 is -500 at the end.
+const COUNTING: Case = Case {
+    name: "three guests count down",
+    config: COUNTERS,
+    images: &[DOWN, DOWN, DOWN],
+    rounds: 1,
+    lines: &[
+        (0, Each(&["VM A\r\nR0 FFFFFE0C\r\n", "R15 00000200\r\n"])),
+        (1, Each(&["VM B\r\nR0 FFFFFE0C\r\n", "R15 00000200\r\n"])),
+        (2, Each(&["VM C\r\nR0 FFFFFE0C\r\n", "R15 00000200\r\n"])),
+    ],
+    kinds: [3000, 0, 0, 0, 0, 0, 0],
+    ..CASE
+};
+
+/// A guest of the lowest class, and two of class 1 that share a volume, with terminals, a printer, an audit and dumps.
+const SYSTEM: &str = "[audit]\nline = 9\nclass = \"15{};0{}\"
+[[terminal]]\nname = \"T0\"\nline = 0\nclass = \"0{};0{}\"
+[[terminal]]\nname = \"T1\"\nline = 1\nclass = \"1{};0{}\"
+[[terminal]]\nname = \"T2\"\nline = 2\nclass = \"1{};0{}\"
+[[volume]]\nname = \"V\"\ndrive = 0\nblocks = 1\nclass = \"0{};0{}\"
+[[volume]]\nname = \"W\"\ndrive = 1\nblocks = 2\nclass = \"1{};0{}\"
+[[printer]]\nname = \"P\"\nline = 3\nclass = \"1{};0{}\"
+[[guest]]\nname = \"A\"\nclass = \"0{};0{}\"\npages = 64\nimage = \"a\"\nload = 0\nstart = 512\nautostart = true
+console = \"T0\"\ndump = 10\nquantum = 30
+[[guest]]\nname = \"B\"\nclass = \"1{};0{}\"\npages = 64\nimage = \"b\"\nload = 0\nstart = 512\nautostart = true
+console = \"T1\"\nprinter = \"P\"\ndump = 11\nquantum = 20\nmount = [{unit = 0, volume = \"W\", write = true}]
+[[guest]]\nname = \"C\"\nclass = \"1{};0{}\"\npages = 64\nimage = \"c\"\nload = 0\nstart = 512\nautostart = false
+dump = 12\nquantum = 14\nmount = [{unit = 1, volume = \"W\", write = true}]\n";
+
+/// P: MFPR #RXDB, R0; BEQL P; MTPR R0, #TXDB; BRB P
+const ECHO: Content = &[(
+    0x200,
+    Bytes(&[0xDB, 0x21, 0x50, 0x13, 0xFB, 0xDA, 0x50, 0x23, 0x11, 0xF6]),
+)];
+
+/// L: INCB @#1000; MTPR #280, #KCALL; MTPR #2A0, #KCALL; MTPR #62, #TXDB; BRB L. The packets write the block from 1000 and print five bytes
+/// from there.
+const WRITER: Content = &[
+    (
+        0x200,
+        Bytes(&[
+            0x96, 0x9F, 0x00, 0x10, 0x00, 0x00, // 200
+            0xDA, 0x8F, 0x80, 0x02, 0x00, 0x00, 0x8F, 0xC8, 0x00, 0x00, 0x00, // 206
+            0xDA, 0x8F, 0xA0, 0x02, 0x00, 0x00, 0x8F, 0xC8, 0x00, 0x00, 0x00, // 211
+            0xDA, 0x8F, 0x62, 0x00, 0x00, 0x00, 0x23, // 21C
+            0x11, 0xDB, // 223, to 200
+        ]),
+    ),
+    (0x280, Longs(&[2, 0, 0, 0x1000, 0, 0])),
+    (0x2A0, Longs(&[3, 0, 0, 0x1000, 5, 0])),
+    (0x1000, Bytes(b"0 job")),
+];
+
+/// MTPR #280, #KCALL; MTPR #2A0, #KCALL; MTPR #2C0, #KCALL; MTPR #63, #TXDB; L: BRB L. The packets read block 0 of unit 1 to 1000 and of
+/// unit 2 to 1200, and write block 1 of unit 1 from 1000.
+const COPIER: Content = &[
+    (
+        0x200,
+        Bytes(&[
+            0xDA, 0x8F, 0x80, 0x02, 0x00, 0x00, 0x8F, 0xC8, 0x00, 0x00, 0x00, // 200
+            0xDA, 0x8F, 0xA0, 0x02, 0x00, 0x00, 0x8F, 0xC8, 0x00, 0x00, 0x00, // 20B
+            0xDA, 0x8F, 0xC0, 0x02, 0x00, 0x00, 0x8F, 0xC8, 0x00, 0x00, 0x00, // 216
+            0xDA, 0x8F, 0x63, 0x00, 0x00, 0x00, 0x23, // 221
+            0x11, 0xFE, // 228
+        ]),
+    ),
+    (0x280, Longs(&[1, 1, 0, 0x1000, 0, 0])),
+    (0x2A0, Longs(&[1, 2, 0, 0x1200, 0, 0])),
+    (0x2C0, Longs(&[2, 1, 1, 0x1000, 0, 0])),
+];
+
+/// Six rounds. The first guest looks for typed bytes in every step: 90 plain steps and 90 sensitive ones. The second goes round four times in
+/// each round, and each time counts its byte, writes, prints and shows a letter: 48 plain and 72 sensitive steps. The third runs from the
+/// second round to the fifth: four sensitive steps, 52 plain ones, and 28 in which it has stopped.
+const ALL: Case = Case {
+    name: "all forms of events",
+    config: SYSTEM,
+    images: &[ECHO, WRITER, COPIER],
+    drives: &[
+        (0, &[&[(0, Bytes(b"low"))]]),
+        (1, &[&[(0, Bytes(b"old"))], &[(0, Bytes(b"older"))]]),
+    ],
+    script: "# all forms
+1 T0 > HI
+1 T1 break
+1 T1 > SHOW
+
+2 T2 > MOUNT C 2 V READ
+2 T2 > START C
+2 T2 > CONNECT C\r
+3 T1 > CONNECT B
+3 T0 > A
+4 T1 break
+4 T2 break
+4 T2 > CONNECT B
+4 T1 > CONNECT B
+4 T2 > DISMOUNT C 1
+4 T2 > MOUNT C 1 W WRITE
+5 T2 > HALT B
+5 T2 > START B
+5 T2 > MOUNT B 3 V WRITE
+5 T2 > HALT A
+5 T0 > ZZ
+6 T2 > HALT C
+6 T0 break
+6 T0 > HALT C
+6 T9 > SHOW
+6 T1 > X
+6 T0 > START A
+7 T0 > SHOW",
+    rounds: 6,
+    lines: &[
+        (0, Exactly("HI\rA\rZZ\rSERVER\r\nNO SUCH OBJECT\r\nOK\r\n")),
+        (
+            1,
+            Exactly(
+                "SERVER\r\nVM A 0{};0{} RUNNING\r\nVM B 1{};0{} RUNNING\r\nVM C 1{};0{} STOPPED\r\nVOLUME V 0{};0{}\r\n\
+                 VOLUME W 1{};0{}\r\nPRINTER P 1{};0{}\r\nOK\r\nOK\r\nbbbbSERVER\r\nOK\r\nbbbb?02 00000200\r\nbbbbbbbb",
+            ),
+        ),
+        (
+            2,
+            Exactly(
+                "OK\r\nOK\r\nOK\r\ncSERVER\r\nOK\r\nCONSOLE TAKEN\r\nOK\r\nOK\r\nOK\r\nOK\r\nDENIED WRITE\r\n\
+                 DENIED EQUAL\r\nOK\r\n",
+            ),
+        ),
+        (
+            3,
+            Exactly(
+                "1{};0{} B: 4 job\r\n1{};0{} B: 4 job\r\n1{};0{} B: 4 job\r\n1{};0{} B: 4 job\r\n\
+                 1{};0{} B: 8 job\r\n1{};0{} B: 8 job\r\n1{};0{} B: 8 job\r\n1{};0{} B: 8 job\r\n\
+                 1{};0{} B: < job\r\n1{};0{} B: < job\r\n1{};0{} B: < job\r\n1{};0{} B: < job\r\n\
+                 1{};0{} B: @ job\r\n1{};0{} B: @ job\r\n1{};0{} B: @ job\r\n1{};0{} B: @ job\r\n\
+                 1{};0{} B: D job\r\n1{};0{} B: D job\r\n1{};0{} B: D job\r\n1{};0{} B: D job\r\n\
+                 1{};0{} B: H job\r\n1{};0{} B: H job\r\n1{};0{} B: H job\r\n1{};0{} B: H job\r\n",
+            ),
+        ),
+        (
+            9,
+            Exactly(
+                "1 T1 1{};0{} OK SHOW\r\n2 T2 1{};0{} OK MOUNT C 2 V READ\r\n2 T2 1{};0{} OK START C\r\n\
+                 2 T2 1{};0{} OK CONNECT C\r\n3 T1 1{};0{} OK CONNECT B\r\n4 T2 1{};0{} OK CONNECT B\r\n\
+                 4 T1 1{};0{} OK CONNECT B\r\n4 T2 1{};0{} OK DISMOUNT C 1\r\n4 T2 1{};0{} OK MOUNT C 1 W WRITE\r\n\
+                 5 T2 1{};0{} OK HALT B\r\n5 T2 1{};0{} OK START B\r\n5 T2 1{};0{} DENIED WRITE MOUNT B 3 V WRITE\r\n\
+                 5 T2 1{};0{} DENIED EQUAL HALT A\r\n6 T2 1{};0{} OK HALT C\r\n\
+                 6 T0 0{};0{} NO SUCH OBJECT HALT C\r\n6 T0 0{};0{} OK START A\r\n",
+            ),
+        ),
+        (10, Each(&["VM A\r\n", "R15 00000200\r\nPSL 041F0004\r\n"])),
+        (
+            11,
+            Each(&[
+                "VM B\r\n",
+                "R15 00000200\r\n",
+                "00001000 48 20 6A 6F 62 00 00 00 00 00 00 00 00 00 00 00\r\n",
+            ]),
+        ),
+        (
+            12,
+            Each(&[
+                "VM C\r\n",
+                "R15 00000228\r\n",
+                "00001000 38 20 6A 6F 62 00 00 00 00 00 00 00 00 00 00 00\r\n\
+                 00001200 6C 6F 77 00 00 00 00 00 00 00 00 00 00 00 00 00\r\n",
+            ]),
+        ),
+    ],
+    stored: &[(1, &[&[(0, Bytes(b"H job"))], &[(0, Bytes(b"8 job"))]])],
+    kinds: [190, 166, 0, 0, 0, 0, 28],
+    ..CASE
+};

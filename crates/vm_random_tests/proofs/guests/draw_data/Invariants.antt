@@ -1,5 +1,0 @@
-use Rattle.vm_guest.specs.Kept.{StandsIn}
-use Rattle.vm_random_tests.proofs.guests.draw_data.Given as goal
-
-abbrev pub invariant-loop : goal.invariant-loop
-invariant-loop l = StandsIn l.stage.machine.memory l.stage.guest

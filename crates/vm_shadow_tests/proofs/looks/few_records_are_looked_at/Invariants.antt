@@ -1,5 +1,0 @@
-use Rattle.vm_shadow.specs.StandsFor.{StandsFor}
-use Rattle.vm_shadow_tests.proofs.looks.few_records_are_looked_at.Given as goal
-
-abbrev pub invariant-loop-row : goal.invariant-loop-row
-invariant-loop-row g l = StandsFor l.bench.machine.memory l.bench.shadow l.bench.guest

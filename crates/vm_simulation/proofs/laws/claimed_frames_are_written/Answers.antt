@@ -1,5 +1,0 @@
-use Rattle.vm_simulation.proofs.Claimed.{claimed_written}
-use Rattle.vm_simulation.proofs.laws.claimed_frames_are_written.Goals as goal
-
-pub returns : goal.returns
-returns c = claimed_written

@@ -1,5 +1,0 @@
-use Rattle.vm_simulation.proofs.Meeting.{exits_meet}
-use Rattle.vm_simulation.proofs.laws.exits_meet_the_guest.Goals as goal
-
-pub returns : goal.returns
-returns c = exits_meet

@@ -1,5 +1,0 @@
-use Rattle.vm_simulation.proofs.Retiring.{retires}
-use Rattle.vm_simulation.proofs.laws.instructions_retire_as_the_guests.Goals as goal
-
-pub returns : goal.returns
-returns c = retires

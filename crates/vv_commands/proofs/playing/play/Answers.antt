@@ -1,5 +1,0 @@
-use Rattle.vv_commands.proofs.Counted.{few_in_run}
-use Rattle.vv_commands.proofs.playing.play.Goals as goal
-
-pub answer-requires : goal.answer-requires
-answer-requires g c = few_in_run _ _ _ c.args.rounds c.run-ran.result _ c.requires.few c.run-ran.ensures.runs

@@ -1,5 +1,0 @@
-use Rattle.vv_laws.proofs.Shown.{completes_file}
-use Rattle.vv_laws.proofs.laws.a_file_is_shown.Goals as goal
-
-pub returns : goal.returns
-returns c = completes_file

@@ -1,5 +1,0 @@
-use Rattle.vv_laws.proofs.Audits.{tells_audit_line}
-use Rattle.vv_laws.proofs.laws.a_line_of_no_audit_is_told.Goals as goal
-
-pub returns : goal.returns
-returns c = tells_audit_line

@@ -1,5 +1,0 @@
-use Rattle.vv_laws.proofs.Loads.{tells_load_line_fault}
-use Rattle.vv_laws.proofs.laws.a_load_names_a_failed_line.Goals as goal
-
-pub returns : goal.returns
-returns c = tells_load_line_fault

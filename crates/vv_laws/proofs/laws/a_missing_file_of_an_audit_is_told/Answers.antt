@@ -1,5 +1,0 @@
-use Rattle.vv_laws.proofs.Audits.{tells_audit_missing}
-use Rattle.vv_laws.proofs.laws.a_missing_file_of_an_audit_is_told.Goals as goal
-
-pub returns : goal.returns
-returns c = tells_audit_missing

@@ -1,5 +1,0 @@
-use Rattle.vv_laws.proofs.Chosen.{tells_run_rule}
-use Rattle.vv_laws.proofs.laws.a_refused_configuration_is_told.Goals as goal
-
-pub returns : goal.returns
-returns c = tells_run_rule

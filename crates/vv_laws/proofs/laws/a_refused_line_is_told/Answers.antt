@@ -1,5 +1,0 @@
-use Rattle.vv_laws.proofs.Shown.{tells_file_refused}
-use Rattle.vv_laws.proofs.laws.a_refused_line_is_told.Goals as goal
-
-pub returns : goal.returns
-returns c = tells_file_refused

@@ -1,5 +1,0 @@
-use Rattle.vv_laws.proofs.Chosen.{tells_run_line}
-use Rattle.vv_laws.proofs.laws.a_refused_script_is_told.Goals as goal
-
-pub returns : goal.returns
-returns c = tells_run_line

@@ -1,5 +1,0 @@
-use Rattle.vv_laws.proofs.Chosen.{tells_run_line_fault}
-use Rattle.vv_laws.proofs.laws.a_run_names_a_failed_line.Goals as goal
-
-pub returns : goal.returns
-returns c = tells_run_line_fault

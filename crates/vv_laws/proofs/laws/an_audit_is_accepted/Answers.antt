@@ -1,5 +1,0 @@
-use Rattle.vv_laws.proofs.Audits.{completes_audit}
-use Rattle.vv_laws.proofs.laws.an_audit_is_accepted.Goals as goal
-
-pub returns : goal.returns
-returns c = completes_audit

@@ -1,5 +1,0 @@
-use Rattle.vv_laws.proofs.Loads.{limits_load}
-use Rattle.vv_laws.proofs.laws.load_has_few_answers.Goals as goal
-
-pub returns : goal.returns
-returns c = limits_load

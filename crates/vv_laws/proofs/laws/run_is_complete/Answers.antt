@@ -1,5 +1,0 @@
-use Rattle.vv_laws.proofs.Chosen.{completes_run}
-use Rattle.vv_laws.proofs.laws.run_is_complete.Goals as goal
-
-pub returns : goal.returns
-returns c = completes_run

@@ -1,5 +1,0 @@
-use Rattle.vv_laws.proofs.Chosen.{tells_run_image}
-use Rattle.vv_laws.proofs.laws.the_first_image_that_does_not_fit_is_told.Goals as goal
-
-pub returns : goal.returns
-returns c = tells_run_image

@@ -1,5 +1,0 @@
-use Rattle.vv_laws.proofs.Chosen.{tells_run_size}
-use Rattle.vv_laws.proofs.laws.the_first_volume_of_another_size_is_told.Goals as goal
-
-pub returns : goal.returns
-returns c = tells_run_size

@@ -1,5 +1,0 @@
-use Rattle.vv_laws.proofs.Lives.{tells_live_drive_fault}
-use Rattle.vv_laws.proofs.live.a_live_run_names_a_failed_drive.Goals as goal
-
-pub returns : goal.returns
-returns c = tells_live_drive_fault

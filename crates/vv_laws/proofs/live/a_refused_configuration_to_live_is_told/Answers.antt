@@ -1,5 +1,0 @@
-use Rattle.vv_laws.proofs.Lives.{tells_live_rule}
-use Rattle.vv_laws.proofs.live.a_refused_configuration_to_live_is_told.Goals as goal
-
-pub returns : goal.returns
-returns c = tells_live_rule

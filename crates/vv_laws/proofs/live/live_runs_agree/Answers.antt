@@ -1,5 +1,0 @@
-use Rattle.vv_laws.proofs.Agreed.{lives_agree}
-use Rattle.vv_laws.proofs.live.live_runs_agree.Goals as goal
-
-pub returns : goal.returns
-returns c = lives_agree

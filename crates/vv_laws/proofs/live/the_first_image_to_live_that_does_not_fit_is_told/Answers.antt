@@ -1,5 +1,0 @@
-use Rattle.vv_laws.proofs.Lives.{tells_live_image}
-use Rattle.vv_laws.proofs.live.the_first_image_to_live_that_does_not_fit_is_told.Goals as goal
-
-pub returns : goal.returns
-returns c = tells_live_image

@@ -1,5 +1,0 @@
-use Rattle.vv_laws.proofs.Typed.{typing_keeps_drives}
-use Rattle.vv_laws.proofs.live.typing_keeps_drives.Goals as goal
-
-pub returns : goal.returns
-returns c = typing_keeps_drives

@@ -1,5 +1,0 @@
-use Rattle.vv_laws.proofs.Typed.{typing_keeps_lines}
-use Rattle.vv_laws.proofs.live.typing_keeps_lines.Goals as goal
-
-pub returns : goal.returns
-returns c = typing_keeps_lines

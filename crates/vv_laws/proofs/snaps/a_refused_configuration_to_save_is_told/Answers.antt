@@ -1,5 +1,0 @@
-use Rattle.vv_laws.proofs.Saves.{tells_save_rule}
-use Rattle.vv_laws.proofs.snaps.a_refused_configuration_to_save_is_told.Goals as goal
-
-pub returns : goal.returns
-returns c = tells_save_rule

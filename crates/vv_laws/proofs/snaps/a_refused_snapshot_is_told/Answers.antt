@@ -1,5 +1,0 @@
-use Rattle.vv_laws.proofs.Resumes.{tells_snap}
-use Rattle.vv_laws.proofs.snaps.a_refused_snapshot_is_told.Goals as goal
-
-pub returns : goal.returns
-returns c = tells_snap

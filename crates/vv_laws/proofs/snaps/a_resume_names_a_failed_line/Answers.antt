@@ -1,5 +1,0 @@
-use Rattle.vv_laws.proofs.Resumes.{tells_resume_line_fault}
-use Rattle.vv_laws.proofs.snaps.a_resume_names_a_failed_line.Goals as goal
-
-pub returns : goal.returns
-returns c = tells_resume_line_fault

@@ -1,5 +1,0 @@
-use Rattle.vv_laws.proofs.Saves.{tells_save_line_fault}
-use Rattle.vv_laws.proofs.snaps.a_save_names_a_failed_line.Goals as goal
-
-pub returns : goal.returns
-returns c = tells_save_line_fault

@@ -1,5 +1,0 @@
-use Rattle.vv_laws.proofs.Saves.{tells_snap_size}
-use Rattle.vv_laws.proofs.snaps.a_too_large_snapshot_is_told.Goals as goal
-
-pub returns : goal.returns
-returns c = tells_snap_size

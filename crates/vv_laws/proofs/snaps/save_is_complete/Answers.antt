@@ -1,5 +1,0 @@
-use Rattle.vv_laws.proofs.Saves.{completes_save}
-use Rattle.vv_laws.proofs.snaps.save_is_complete.Goals as goal
-
-pub returns : goal.returns
-returns c = completes_save

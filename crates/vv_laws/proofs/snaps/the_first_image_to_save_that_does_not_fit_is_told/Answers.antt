@@ -1,5 +1,0 @@
-use Rattle.vv_laws.proofs.Saves.{tells_save_image}
-use Rattle.vv_laws.proofs.snaps.the_first_image_to_save_that_does_not_fit_is_told.Goals as goal
-
-pub returns : goal.returns
-returns c = tells_save_image

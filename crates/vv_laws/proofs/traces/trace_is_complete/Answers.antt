@@ -1,5 +1,0 @@
-use Rattle.vv_laws.proofs.Traced.{completes_trace}
-use Rattle.vv_laws.proofs.traces.trace_is_complete.Goals as goal
-
-pub returns : goal.returns
-returns c = completes_trace

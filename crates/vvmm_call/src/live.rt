@@ -1,0 +1,80 @@
+ghost use Rattle.std.specs.Prelude.{◌≡◌, ◌≤◌, ◌*◌, IfOk, length, map, vec_len};
+ghost use Rattle.vm_stepping.specs.Made.{steps_in};
+ghost use Rattle.vvmm_call.specs.Answer.{AnswersLive, FollowsLive, live_status};
+
+use crate::fetching::fetch_to_live;
+use crate::playing::put_once;
+use crate::report::summary;
+use crate::status::Status;
+use crate::stop::{power_status, stopped_status};
+use crate::words::LiveOrder;
+use std::alloc::Global;
+use sys_live::Lived;
+use sys_system::{Device, PowerFault};
+use vax_hw::Hardware;
+use vv_io::{Drive, Keyboard, Line, Shelf, Sink};
+
+/// The answer where all was done.
+fn live_status(failed: Option<Device>, is_cut: bool, is_broken: bool) -> Status
+    ensures { result ≡ live_status failed is_cut is_broken }
+{
+    match failed {
+        Some(device) => Status::Device(device),
+        None if is_cut => Status::OutFault,
+        None if is_broken => Status::KeyFault,
+        None => Status::Done,
+    }
+}
+
+/// Puts the summary of a run that was typed, if it was made and nothing was cut before, and answers.
+fn lived_status<O: Sink>(lived: Result<Lived, PowerFault>, out: &mut O) -> Status
+    requires { IfOk lived (λ l. steps_in l.ran.counts ≤ 3200000000000) }
+    ensures { AnswersLive lived result (O.printed out.old) (O.printed out.new) }
+{
+    let lived = match lived {
+        Ok(lived) => lived,
+        Err(fault) => return power_status(fault),
+    };
+    let summary = summary(lived.rounds, &lived.ran.counts);
+    let is_cut = lived.is_cut || put_once(out, summary.bytes()).is_err();
+    live_status(lived.ran.failed, is_cut, lived.is_broken)
+}
+
+/// `live`: fetches the configuration and the images, makes rounds as their lines are typed, and shows each one's terminals on
+/// `out`; then its summary.
+pub fn live<H: Hardware, S: Shelf, O: Sink, K: Keyboard, E: Sink>(
+    alloc: Global,
+    order: LiveOrder,
+    shelf: &mut S,
+    machine: &mut H,
+    lines: &mut Vec<Box<dyn Line>>,
+    drives: &mut Vec<Box<dyn Drive>>,
+    out: &mut O,
+    keyboard: &mut K,
+    errors: &mut E,
+) -> Status
+    requires pages { length (H.machine machine.old).memory ≡ 512 * 32768 }
+    requires lines { vec_len lines.old ≡ 32 }
+    requires drives { vec_len drives.old ≡ 16 }
+    requires some { 1 ≤ order.rounds }
+    requires few { order.rounds ≤ 1000000 }
+    ensures { FollowsLive (record { config = order.config; rounds = order.rounds }) result (record { files = S.files shelf.old; shelf = S.faults shelf.old; shelf' = S.faults shelf.new; machine = H.machine machine.old; machine' = H.machine machine.new; lines = map (λ b. seen b) lines.old.items; lines' = map (λ b. seen b) lines.new.items; drives = map (λ d. kept d) drives.old.items; drives' = map (λ d. kept d) drives.new.items; out = O.printed out.old; out' = O.printed out.new }) (record { keys = K.keys keyboard.old; keys' = K.keys keyboard.new; errors = E.printed errors.old; errors' = E.printed errors.new }) }
+{
+    let inputs = match fetch_to_live(alloc, shelf, &order) {
+        Ok(inputs) => inputs,
+        Err(stop) => return stopped_status(stop),
+    };
+    let lived = sys_live::live(
+        alloc,
+        inputs.config,
+        inputs.images.as_slice(),
+        order.rounds,
+        machine,
+        lines,
+        drives,
+        keyboard,
+        errors,
+        out,
+    );
+    lived_status(lived, out)
+}

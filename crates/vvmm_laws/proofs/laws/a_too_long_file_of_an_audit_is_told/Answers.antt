@@ -1,0 +1,5 @@
+use Rattle.vvmm_laws.proofs.Audits.{tells_audit_too_long}
+use Rattle.vvmm_laws.proofs.laws.a_too_long_file_of_an_audit_is_told.Goals as goal
+
+pub returns : goal.returns
+returns c = tells_audit_too_long

@@ -1,0 +1,5 @@
+use Rattle.vvmm_laws.proofs.Saves.{tells_save_missing}
+use Rattle.vvmm_laws.proofs.snaps.the_first_missing_file_to_save_is_told.Goals as goal
+
+pub returns : goal.returns
+returns c = tells_save_missing
