@@ -1,4 +1,4 @@
-pub mod TableLines
+pub mod TableRows
 pub mod Tests
 pub mod Bytes
 pub mod Specifiers

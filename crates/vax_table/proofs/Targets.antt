@@ -1,7 +1,7 @@
 -- What an operation stores through is the one operand that its row has as modified or written, in the same width.
 use Rattle.std.specs.Prelude.{map, replicate, leb, not}
 use Rattle.std.specs.List.{range_with_len}
-use Rattle.std.proofs.Common.{◌≡◌, ℕ, zero, suc, ◌+◌, ◌-◌, ◌<◌, ◌≤◌, ◌&&◌, Bool, true, false, eqb, ltb, List, [], ◌∷◌, ◌++◌, length, None, append-nil, get_or, refl, ap, ◌∙◌, sym, arith, slice_get, slice_index_or}
+use Rattle.std.proofs.Common.{◌≡◌, ℕ, zero, suc, ◌+◌, ◌-◌, ◌<◌, ◌≤◌, ◌&&◌, Bool, true, false, eqb, ltb, List, [], ◌∷◌, ◌++◌, length, None, append-nil, get_or, refl, ap, ◌∙◌, sym, arith, slice_get, slice_index_or, Option}
 use Rattle.std.proofs.lemmas.Bool.Decides.{nat_tests}
 use Rattle.std.proofs.lemmas.List.{get_or-replicate}
 use Rattle.std.proofs.lemmas.List.FromFn.{get_or-map-range_with_len}
@@ -20,7 +20,8 @@ use Rattle.vax_table.specs.declared.meaning.Target.TheVariants as targets
 use Rattle.vax_table.specs.Claims.{addresses, claims_by, destination_addresses, operand_claims}
 use Rattle.vax_table.specs.Effects.{dest_of}
 use Rattle.vax_table.specs.Operand.{forms_in}
-use Rattle.vax_table.specs.Operations.{OperationRow, arithmetic_operations, move_operations, operation_in_rows, in_operations, operation_of, other_operations}
+use Rattle.vax_table.specs.InstructionSet.{InstructionEntry, OpcodeRow, arithmetic, entry_in_rows, in_block, moves, others}
+use Rattle.vax_table.specs.Operations.{operation_of}
 use Rattle.vax_table.specs.Rows.{row_of}
 use Rattle.vax_table.proofs.OperandClaims.{AreClaimed, are_few}
 use Rattle.vax_table.proofs.Tests.{eq_of, if_both, le_of}
@@ -87,37 +88,50 @@ fit_below n below =
     ∙ get_or-replicate 256 n true true below
 
 -- beyond the bytes there is no instruction
-pub beyond_list : (os : List Operation) (k : ℕ) → length os ≤ k → slice_get os k ≡ None
+beyond_list : (es : List InstructionEntry) (k : ℕ) → length es ≤ k → slice_get es k ≡ None
 beyond_list [] k h = refl
-beyond_list (o ∷ os) zero h = absurd (omega arith)
-beyond_list (o ∷ os) (suc k) h = beyond_list os k (omega arith)
+beyond_list (e ∷ es) zero h = absurd (omega arith)
+beyond_list (e ∷ es) (suc k) h = beyond_list es k (omega arith)
 
-pub beyond_block : (n first : ℕ) (block : List Operation) (rest : Operation) → first + length block ≤ n → in_operations n first block rest ≡ rest
-beyond_block n first block rest h =
-    let none : slice_get block (n - first) ≡ None = beyond_list block (n - first) (omega arith) in
-    if_both (λ (o : Operation). o ≡ rest) (leb first n) _ _ (λ t. rw none) (λ t. refl)
+beyond_block : (n first : ℕ) (block : List InstructionEntry) → first + length block ≤ n → in_block n first block ≡ None
+beyond_block n first block h =
+    if_both (λ (o : Option InstructionEntry). o ≡ None) (leb first n) _ _ (λ t. beyond_list block (n - first) (omega arith)) (λ t. refl)
 
-are_bytes : List OperationRow → Bool
+are_bytes : List OpcodeRow → Bool
 are_bytes [] = true
 are_bytes (l ∷ ls) = ltb l.opcode 256 && are_bytes ls
 
-beyond_lines : (n : ℕ) (ls : List OperationRow) → 256 ≤ n → are_bytes ls ≡ true → operation_in_rows n ls ≡ does.Other
+beyond_rows : (n : ℕ) (ls : List OpcodeRow) → 256 ≤ n → are_bytes ls ≡ true → entry_in_rows n ls ≡ None
 unfolding are_bytes
-beyond_lines n [] h e = refl
-beyond_lines n (l ∷ ls) h e =
+beyond_rows n [] h e = refl
+beyond_rows n (l ∷ ls) h e =
     let both = and_both (ltb l.opcode 256) (are_bytes ls) e in
-    if_both (λ (o : Operation). o ≡ does.Other) (eqb n l.opcode) _ _ (λ t. absurd (grind (arith, nat_tests, both.0))) (λ t. beyond_lines n ls h both.1)
+    if_both (λ (o : Option InstructionEntry). o ≡ None) (eqb n l.opcode) _ _ (λ t. absurd (grind (arith, nat_tests, both.0))) (λ t. beyond_rows n ls h both.1)
 
-pub beyond_all : (n : ℕ) → 256 ≤ n → operation_of n ≡ does.Other
+beyond_all : (n : ℕ) → 256 ≤ n → operation_of n ≡ does.Other
 unfolding operation_of are_bytes
 beyond_all n h =
-    beyond_block n 0x80 (arithmetic_operations Byte) _ (omega arith)
-    ∙ beyond_block n 0xa0 (arithmetic_operations Word) _ (omega arith)
-    ∙ beyond_block n 0xc0 (arithmetic_operations Long) _ (omega arith)
-    ∙ beyond_block n 0x90 (move_operations Byte) _ (omega arith)
-    ∙ beyond_block n 0xb0 (move_operations Word) _ (omega arith)
-    ∙ beyond_block n 0xd0 (move_operations Long) _ (omega arith)
-    ∙ beyond_lines n other_operations h refl
+    rw (
+      beyond_block n 0x80 (arithmetic Byte) (omega arith),
+      beyond_block n 0xa0 (arithmetic Word) (omega arith),
+      beyond_block n 0xc0 (arithmetic Long) (omega arith),
+      beyond_block n 0x90 (moves Byte) (omega arith),
+      beyond_block n 0xb0 (moves Word) (omega arith),
+      beyond_block n 0xd0 (moves Long) (omega arith),
+      beyond_rows n others h refl,
+    ) refl
+
+-- a test that the operation of each of the 256 passes, and no operation at all
+pub of_each_opcode : (passes : Operation → Bool) → map (λ n. passes (operation_of n)) (range_with_len 0 256) ≡ replicate 256 true → passes does.Other ≡ true → (n : ℕ) → passes (operation_of n) ≡ true
+of_each_opcode passes all other n = by (ltb n 256) refl
+  where
+    by : (b : Bool) → ltb n 256 ≡ b → passes (operation_of n) ≡ true
+    by true e =
+        let below : n < 256 = grind (arith, nat_tests) in
+        sym (get_or-map-range_with_len (λ k. passes (operation_of k)) 0 256 n n true below (omega arith))
+        ∙ ap (λ (xs : List Bool). get_or xs n true) all
+        ∙ get_or-replicate 256 n true true below
+    by false e = rw (beyond_all n (le_of n 256 e)) other
 
 fit_by : (n : ℕ) (b : Bool) → ltb n 256 ≡ b → is_fit (operation_of n) (forms_in (row_of n)) ≡ true
 unfolding is_fit

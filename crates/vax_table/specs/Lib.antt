@@ -1,3 +1,4 @@
+pub mod InstructionSet
 pub mod Rows
 pub mod RowViews
 pub mod Spelling

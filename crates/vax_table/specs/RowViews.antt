@@ -1,9 +1,9 @@
 -- What the code's rows say, in both of their forms, in the table's words.
 use Rattle.std.specs.Prelude.{[], ◌∷◌, Option, Some, None}
 use Rattle.vax_table.specs.declared.forms.Row.{Row}
-use Rattle.vax_table.specs.declared.lines.Line.{Line}
-use Rattle.vax_table.specs.declared.lines.Line.TheVariants.{Unknown, One, Two, Three, Four}
-use Rattle.vax_table.specs.declared.lines.Line.TheVariants as lines
+use Rattle.vax_table.specs.declared.packed_rows.PackedRow.{PackedRow}
+use Rattle.vax_table.specs.declared.packed_rows.PackedRow.TheVariants.{Unknown, One, Two, Three, Four}
+use Rattle.vax_table.specs.declared.packed_rows.PackedRow.TheVariants as packed
 use Rattle.vax_table.specs.Rows.{OpcodeEntry}
 
 -- a row without where its operands lie in memory
@@ -14,9 +14,9 @@ abbrev pub row_views : Option Row → Option OpcodeEntry
 row_views None = None
 row_views (Some row) = Some (row_view row)
 
-abbrev pub opcode_entry_view : Line → Option OpcodeEntry
+abbrev pub opcode_entry_view : PackedRow → Option OpcodeEntry
 opcode_entry_view Unknown = None
-opcode_entry_view (lines.None s) = Some (record { operands = []; sensitive = s })
+opcode_entry_view (packed.None s) = Some (record { operands = []; sensitive = s })
 opcode_entry_view (One s a) = Some (record { operands = a ∷ []; sensitive = s })
 opcode_entry_view (Two s a b) = Some (record { operands = a ∷ b ∷ []; sensitive = s })
 opcode_entry_view (Three s a b c) = Some (record { operands = a ∷ b ∷ c ∷ []; sensitive = s })

@@ -7,7 +7,8 @@ use Rattle.vax_table.specs.declared.decoded.Spec.{Spec}
 use Rattle.vax_table.specs.declared.evaluation.Evaluated.{Evaluated}
 use Rattle.vax_table.specs.declared.forms.Form.{Form}
 use Rattle.vax_table.specs.Operand.{evaluated, base_address, address_of, read_operand, modified_operand, written_operand, address_operand, bits_operand, branch_operand, operand_of, operands_of}
-use Rattle.vax_table.specs.Rows.{r, m, w, a, v, b, row_of}
+use Rattle.vax_table.specs.InstructionSet.{r, m, w, a, v, b}
+use Rattle.vax_table.specs.Rows.{row_of}
 use Rattle.vax_table.specs.Interaction.{Space, Trouble, At, Absent, outcome, reached}
 use Rattle.vax_table.specs.Spelled.{value_size}
 use Rattle.vax_table.specs.Spelling.{Instruction, unindexed}

@@ -1,7 +1,8 @@
 -- Worked examples of the table, by computation.
 use Rattle.std.specs.Prelude.{◌≡◌, refl, Some, None, [], ◌∷◌}
 use Rattle.vv_base.specs.declared.width.Width.TheVariants.{Byte, Word, Long, Quad}
-use Rattle.vax_table.specs.Rows.{row_of, plain, sensitive, r, m, w, a, v, b}
+use Rattle.vax_table.specs.InstructionSet.{r, m, w, a, v, b}
+use Rattle.vax_table.specs.Rows.{row_of, plain, sensitive}
 
 pub addl3 : row_of 0xc1 ≡ Some (plain (r Long ∷ r Long ∷ w Long ∷ []))
 unfolding row_of

@@ -11,7 +11,8 @@ use Rattle.vax_table.specs.Operand.{address_of, base_address, modified_operand, 
 use Rattle.vax_table.specs.Operations.{operation_of}
 use Rattle.vax_table.specs.Plan.{performed, plan_of}
 use Rattle.vax_table.specs.PlanLaws.{bytes_of_stores}
-use Rattle.vax_table.specs.Rows.{m, r, row_of, w}
+use Rattle.vax_table.specs.InstructionSet.{m, r, w}
+use Rattle.vax_table.specs.Rows.{row_of}
 use Rattle.vax_table.specs.Interaction.{Absent, At, Interaction, Space}
 use Rattle.vax_table.specs.ShownOperand.{instruction}
 use Rattle.vax_table.specs.ShownPlan.{doing, registers, zeros}

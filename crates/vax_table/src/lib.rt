@@ -8,10 +8,10 @@ pub mod effect;
 pub mod evaluation;
 mod forms;
 mod laws;
-mod lines;
 mod lookup;
 mod meaning;
 mod meanings;
+mod packed_rows;
 mod plan_laws;
 mod sizes;
 

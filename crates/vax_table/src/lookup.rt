@@ -4,15 +4,15 @@ ghost use Rattle.vax_table.specs.RowViews.{opcode_entry_view, row_views};
 ghost use Rattle.vax_table.specs.Rows.{row_of};
 
 use crate::forms::{Form, Row};
-use crate::lines::{LINES, Line};
 use crate::meaning::Operation;
 use crate::meanings::OPERATIONS;
+use crate::packed_rows::{PACKED_ROWS, PackedRow};
 use arrayvec::ArrayVec;
 
-fn line_at(opcode: u8) -> Line
+fn packed_row(opcode: u8) -> PackedRow
     ensures { opcode_entry_view result ≡ row_of opcode }
 {
-    LINES[usize::from(opcode)]
+    PACKED_ROWS[usize::from(opcode)]
 }
 
 /// The row of an opcode; None exactly where the table has none. The row of FD is that of WAIT,
@@ -21,27 +21,27 @@ pub fn row(opcode: u8) -> Option<Row>
     ensures { row_views result ≡ row_of opcode }
 {
     let mut operands: ArrayVec<Form, 4> = ArrayVec::new();
-    let sensitive = match line_at(opcode) {
-        Line::Unknown => {
+    let sensitive = match packed_row(opcode) {
+        PackedRow::Unknown => {
             return None;
         }
-        Line::None(sensitive) => sensitive,
-        Line::One(sensitive, first) => {
+        PackedRow::None(sensitive) => sensitive,
+        PackedRow::One(sensitive, first) => {
             operands.push(first);
             sensitive
         }
-        Line::Two(sensitive, first, second) => {
+        PackedRow::Two(sensitive, first, second) => {
             operands.push(first);
             operands.push(second);
             sensitive
         }
-        Line::Three(sensitive, first, second, third) => {
+        PackedRow::Three(sensitive, first, second, third) => {
             operands.push(first);
             operands.push(second);
             operands.push(third);
             sensitive
         }
-        Line::Four(sensitive, first, second, third, fourth) => {
+        PackedRow::Four(sensitive, first, second, third, fourth) => {
             operands.push(first);
             operands.push(second);
             operands.push(third);

@@ -1,5 +1,5 @@
 use Rattle.std.proofs.Common.{◌<◌, arith}
-use Rattle.vax_table.proofs.TableLines.{operation_is, operation_narrow}
+use Rattle.vax_table.proofs.TableRows.{operation_is, operation_narrow}
 use Rattle.vax_table.proofs.lookup.operation.Goals as goal
 
 pub returns-clause-value : goal.returns-clause-value

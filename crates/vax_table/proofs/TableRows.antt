@@ -4,8 +4,8 @@ use Rattle.std.specs.List.{range_with_len}
 use Rattle.std.proofs.Common.{◌≡◌, ℕ, ◌<◌, Bool, true, List, Option, None, get_or, length, refl, sym, ap, ◌∙◌, arith}
 use Rattle.std.proofs.lemmas.List.{get_or-map}
 use Rattle.std.proofs.lemmas.List.FromFn.{get_or-map-range_with_len}
-use Rattle.vax_table.specs.declared.lines.TheConstants.{LINES}
-use Rattle.vax_table.specs.declared.lines.Line.TheVariants.{Unknown}
+use Rattle.vax_table.specs.declared.packed_rows.TheConstants.{PACKED_ROWS}
+use Rattle.vax_table.specs.declared.packed_rows.PackedRow.TheVariants.{Unknown}
 use Rattle.vax_table.specs.declared.meanings.TheConstants.{OPERATIONS}
 use Rattle.vax_table.specs.declared.meaning.Operation.{Operation}
 use Rattle.vax_table.specs.declared.meaning.Operation.TheVariants.{Other}
@@ -14,18 +14,18 @@ use Rattle.vax_table.specs.Rows.{OpcodeEntry, row_of}
 use Rattle.vax_table.specs.RowViews.{opcode_entry_view}
 
 -- all 256 at once, by computation
-lines_are : map opcode_entry_view LINES ≡ map row_of (range_with_len 0 256)
+rows_are : map opcode_entry_view PACKED_ROWS ≡ map row_of (range_with_len 0 256)
 unfolding row_of
-lines_are = refl
+rows_are = refl
 
-lines_length : length LINES ≡ 256
-lines_length = refl
+rows_length : length PACKED_ROWS ≡ 256
+rows_length = refl
 
-pub line_is : (n : ℕ) → n < 256 → opcode_entry_view (get_or LINES n Unknown) ≡ row_of n
-line_is n below =
-    let within : n < length LINES = omega (arith, lines_length) in
-    sym (get_or-map opcode_entry_view LINES n Unknown None within)
-    ∙ ap (λ (xs : List (Option OpcodeEntry)). get_or xs n None) lines_are
+pub row_is : (n : ℕ) → n < 256 → opcode_entry_view (get_or PACKED_ROWS n Unknown) ≡ row_of n
+row_is n below =
+    let within : n < length PACKED_ROWS = omega (arith, rows_length) in
+    sym (get_or-map opcode_entry_view PACKED_ROWS n Unknown None within)
+    ∙ ap (λ (xs : List (Option OpcodeEntry)). get_or xs n None) rows_are
     ∙ get_or-map-range_with_len row_of 0 256 n n None below (omega arith)
 
 -- and what each instruction does

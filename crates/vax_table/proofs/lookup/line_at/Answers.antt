@@ -1,6 +1,0 @@
-use Rattle.std.proofs.Common.{◌<◌, arith}
-use Rattle.vax_table.proofs.TableLines.{line_is}
-use Rattle.vax_table.proofs.lookup.line_at.Goals as goal
-
-pub returns : goal.returns
-returns c = let below : c.args.opcode < 256 = omega arith in rw c.from.ensures (line_is c.args.opcode below)
