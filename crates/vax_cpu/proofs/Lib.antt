@@ -1,6 +1,7 @@
+pub mod Beyond
+pub mod Traps
 pub mod Spelled
 pub mod Looks
 pub mod One
 pub mod Quiet
 pub mod Changes
-pub mod Sums

@@ -1,5 +1,5 @@
 -- One instruction, by what was found.
-use Rattle.std.proofs.Common.{◌≡◌, ℕ, suc, ◌%◌, ◌^◌, Bool, true, List, [], Option, Some, None, Result, Ok, Err, refl, ap, sym, ◌∙◌, subst, slice_index}
+use Rattle.std.proofs.Common.{◌≡◌, ℕ, suc, ◌%◌, ◌^◌, Bool, true, List, [], length, Option, Some, None, Result, Ok, Err, refl, ap, sym, ◌∙◌, subst, arith, slice_index}
 use Rattle.vax_arch.specs.declared.mode.Intent.{Intent}
 use Rattle.vax_hw.specs.Machine.{Machine, is_real_bit_clear, machine_space, machine_tables, psw_of, retire, seen_psl}
 use Rattle.vax_hw.specs.Real.{going_on, in_kernel, machine_step, misses_after, real, retired_by_probe, retired_by_try}
@@ -7,11 +7,12 @@ use Rattle.vax_hw.specs.RealTables.{real_probe}
 use Rattle.vax_hw.specs.declared.world.Exit.{Exit}
 use Rattle.vax_hw.specs.declared.world.Exit.TheVariants.{Arithmetic}
 use Rattle.vax_table.specs.Claims.{claims}
-use Rattle.vax_table.specs.Effects.{Effect, effect, long_of}
+use Rattle.vax_table.specs.Effects.{Effect, long_of}
 use Rattle.vax_table.specs.PlanLaws.{bytes_of_stores}
-use Rattle.vax_table.specs.declared.effect.Plan.{Plan}
 use Rattle.vax_table.specs.declared.evaluation.Operands.{Operands}
 use Rattle.vax_table.specs.Fetch.{fetched}
+use Rattle.vax_normal.specs.Normal.{IsNormal, done_at_once, quietly}
+use Rattle.vax_normal.specs.declared.shape.Normal.{Normal}
 use Rattle.vax_table.specs.Interaction.{AsFar, Done, Interaction, Space, Trouble, bind_result, outcome, ◌>>=◌}
 use Rattle.vax_table.specs.Spelling.{Instruction}
 use Rattle.vax_table.specs.Operations.{operation_of}
@@ -78,12 +79,12 @@ by_attempt : (m : Machine) (r : List ℕ) →
     machine_step (with_registers r m) ≡ retired_from (with_registers r m) (settled_meaning m.memory m.world (exits (outcome (paged m.memory m.world) (instruction (in_kernel m.world) (seen_psl m.world) r))))
 by_attempt m r = one_ended (with_registers r m) ∙ meaning_retired (with_registers r m) _
 
--- an instruction that retires by a plan
-pub attempt_retires : (m after : Machine) (r : List ℕ) (opcode : ℕ) (p : Plan) →
-    Ok (opcode, effect p) ≡ settled_meaning m.memory m.world (exits (outcome (paged m.memory m.world) (instruction (in_kernel m.world) (seen_psl m.world) r))) →
-    after ≡ completed_but_registers (slice_index r 15) opcode (effect p) m → machine_step (with_registers r m) ≡ Ok (record { machine = with_registers p.r after; trap = p.trap })
+-- an instruction that retires by an effect
+pub attempt_retires : (m after : Machine) (r : List ℕ) (opcode : ℕ) (x : Effect) →
+    Ok (opcode, x) ≡ settled_meaning m.memory m.world (exits (outcome (paged m.memory m.world) (instruction (in_kernel m.world) (seen_psl m.world) r))) →
+    after ≡ completed_but_registers (slice_index r 15) opcode x m → machine_step (with_registers r m) ≡ Ok (record { machine = with_registers x.r after; trap = x.trap })
 unfolding retire
-attempt_retires m after r opcode p h e = by_attempt m r ∙ ap (retired_from (with_registers r m)) (sym h) ∙ rw e refl
+attempt_retires m after r opcode x h e = by_attempt m r ∙ ap (retired_from (with_registers r m)) (sym h) ∙ rw e refl
 
 -- and one that doesn't retire
 pub attempt_stops : (m : Machine) (r : List ℕ) (e : Exit) →
@@ -138,3 +139,16 @@ known_settled memory w ks kernel psl r d e all plain fetch plans clear =
     let whole : outcome t (instruction kernel psl r) ≡ Ok found =
     found_on t (fetched (slice_index r 15)) (λ x. acted kernel psl x r) d found (ok_is d (outcome t (fetched (slice_index r 15))) fetch) act in
     sym (ap (λ (z : Result Meant Trouble). settled_meaning memory w (exits z)) whole ∙ ap (λ (z : Option ℕ). with_opcode d.opcode (unless_modified e z)) (sym clear))
+
+seen_low : (w : World) → seen_psl w % 2 ^ 8 ≡ psw_of w
+seen_low w = omega arith
+
+-- an instruction in normal form, in a page that is known
+pub at_once_steps : (m after : Machine) (ks : List Known) (r q : List ℕ) (psw : ℕ) (n : Normal) (d : Instruction) → AreKnown m.memory m.world ks → is_planned (operation_of d.opcode) ≡ true →
+    Ok d ≡ exits (outcome (paged m.memory m.world) (fetched (slice_index r 15))) → IsNormal n d → length r ≡ 16 → done_at_once n r (psw_of m.world) ≡ quietly q psw →
+    after ≡ completed_but_registers (slice_index r 15) d.opcode (quietly q psw) m → machine_step (with_registers r m) ≡ Ok (record { machine = with_registers q after; trap = None })
+at_once_steps m after ks r q psw n d all plain fetch normal sixteen done e =
+    let s : Space = known_space m.memory ks in
+    let plans : outcome s (planned d r (seen_psl m.world % 2 ^ 8)) ≡ Ok (quietly q psw) =
+    normal s r (seen_psl m.world % 2 ^ 8) sixteen ∙ ap (λ (k : ℕ). Ok (done_at_once n r k)) (seen_low m.world) ∙ ap (λ (x : Effect). Ok x) done in
+    attempt_retires m after r d.opcode (quietly q psw) (known_settled m.memory m.world ks (in_kernel m.world) (seen_psl m.world) r d (quietly q psw) all plain fetch (sym plans) refl) e

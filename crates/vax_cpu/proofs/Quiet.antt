@@ -8,7 +8,7 @@ use Rattle.std.proofs.lemmas.List.FromFn.{get_or-map-range_with_len}
 use Rattle.vv_base.specs.declared.width.Width.{Width}
 use Rattle.vv_base.specs.Width.{size_of}
 use Rattle.vax_arch.specs.declared.mode.Intent.{Intent}
-use Rattle.vax_table.proofs.Targets.{beyond_all}
+use Rattle.vax_cpu.proofs.Beyond.{beyond_all}
 use Rattle.vax_table.specs.declared.act.Sens.{Sens}
 use Rattle.vax_table.specs.declared.decoded.Spec.{Spec}
 use Rattle.vax_table.specs.declared.evaluation.Operands.{Operands}

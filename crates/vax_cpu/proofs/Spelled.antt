@@ -1,8 +1,8 @@
 -- Kept bytes that are at an address spell the instruction there.
-use Rattle.std.proofs.Common.{◌≡◌, ℕ, zero, suc, ◌+◌, ◌%◌, ◌^◌, ◌*◌, ◌<◌, ◌≤◌, arith, List, [], ◌∷◌, ◌++◌, length, take, Result, Ok, refl, ap, sym, ◌∙◌, subst, append_assoc, append-nil, length-append}
+use Rattle.std.proofs.Common.{◌≡◌, ◌⊎◌, inl, inr, ℕ, zero, suc, ◌+◌, ◌%◌, ◌^◌, ◌*◌, ◌<◌, ◌≤◌, arith, List, [], ◌∷◌, ◌++◌, length, take, drop, Result, Ok, refl, ap, sym, ◌∙◌, subst, append_assoc, append-nil, length-append}
 use Rattle.std.specs.Prelude.{slice_index}
 use Rattle.std.proofs.Math.Seq.{take-append_seam}
-use Rattle.std.proofs.lemmas.List.{get_or-take, length-take}
+use Rattle.std.proofs.lemmas.List.{get_or-drop, get_or-take, length-take}
 use Rattle.vax_arch.specs.declared.mode.Intent.TheVariants.{Read}
 use Rattle.vax_decode.proofs.RoundTrip.{some_left}
 use Rattle.vax_hw.specs.RealTables.{byte_by}
@@ -79,12 +79,12 @@ later_place memory w va p (suc i) h e =
     let b : p + i + 1 ≡ p + suc i = omega arith in
     ap (placed memory w Read) a ∙ next_place memory w Read (va + i) (p + i) (omega arith) (later_place memory w va p i (omega arith) e) ∙ ap (λ (n : ℕ). Ok n) b
 
-has_byte : (memory : List ℕ) (w : World) (pc p i : ℕ) (front : List ℕ) → pc < 2 ^ 32 → pc % 512 + length front ≤ 512 → placed memory w Read pc ≡ Ok p →
-    slice_index memory (p + i) ≡ slice_index front i → i < length front → paged memory w Read ((pc + i) % 2 ^ 32) ≡ Ok (slice_index front i)
-has_byte memory w pc p i front small h e stands low =
-    let same : (pc + i) % 2 ^ 32 ≡ pc + i = omega arith in
+-- a byte of the page of an address that has a place
+byte_there : (memory : List ℕ) (w : World) (va p i b : ℕ) → va < 2 ^ 32 → va % 512 + i < 512 → placed memory w Read va ≡ Ok p → slice_index memory (p + i) ≡ b → paged memory w Read ((va + i) % 2 ^ 32) ≡ Ok b
+byte_there memory w va p i b small h e stands =
+    let same : (va + i) % 2 ^ 32 ≡ va + i = omega arith in
     ap (paged memory w Read) same
-    ∙ ap (byte_by memory) (later_place memory w pc p i (omega arith) e)
+    ∙ ap (byte_by memory) (later_place memory w va p i h e)
     ∙ ap (λ (n : ℕ). Ok n) stands
 
 taken_small : (n : ℕ) (bytes : List ℕ) → ((i : ℕ) → slice_index bytes i < 256) → (i : ℕ) → slice_index (take n bytes) i < 256
@@ -99,15 +99,50 @@ spelling_of front d are e =
     let t : IsAnswerFor front (Whole d []) = subst (λ (a : Answer). IsAnswerFor front a) e (reading_exact.tells front are) in
     subst (λ (xs : List ℕ). Spells xs d) (sym (t.1 ∙ append-nil t.0)) t.2
 
+-- kept bytes that a space has at an address spell the instruction there
+kept_in : (s : Space) (pc n : ℕ) (bytes : List ℕ) (d : Instruction) → n ≤ length bytes → ((i : ℕ) → i < n → s Read ((pc + i) % 2 ^ 32) ≡ Ok (slice_index bytes i)) →
+    ((i : ℕ) → slice_index bytes i < 256) → decoded_at (take n bytes) ≡ Whole d [] → outcome s (fetched pc) ≡ Ok d
+kept_in s pc n bytes d few has are spelled =
+    let size : length (take n bytes) ≡ n = omega (arith, length-take n bytes) in
+    let bytes_are : AreBytes (take n bytes) = AreBytes-from_index (take n bytes) (taken_small n bytes are) in
+    spelled_there s pc (take n bytes) d bytes_are (spelling_of (take n bytes) d bytes_are spelled)
+    (λ i low.
+    let here : i < n = omega (arith, size, low) in
+    has i here ∙ ap (λ (b : ℕ). Ok b) (sym (get_or-take n bytes i 0 here)))
+
 pub kept_there : (memory : List ℕ) (w : World) (pc p n : ℕ) (bytes : List ℕ) (d : Instruction) → pc < 2 ^ 32 → pc % 512 + n ≤ 512 → n ≤ length bytes → placed memory w Read pc ≡ Ok p →
     ((i : ℕ) → i < n → slice_index memory (p + i) ≡ slice_index bytes i) → ((i : ℕ) → slice_index bytes i < 256) → decoded_at (take n bytes) ≡ Whole d [] → outcome (paged memory w) (fetched pc) ≡ Ok d
 kept_there memory w pc p n bytes d small h few e stand are spelled =
-    let size : length (take n bytes) ≡ n = omega (arith, length-take n bytes) in
-    let bytes_are : AreBytes (take n bytes) = AreBytes-from_index (take n bytes) (taken_small n bytes are) in
-    spelled_there (paged memory w) pc (take n bytes) d bytes_are (spelling_of (take n bytes) d bytes_are spelled)
-    (λ i low.
-    let here : i < n = omega (arith, size, low) in
-    has_byte memory w pc p i (take n bytes) small (omega (arith, size)) e (stand i here ∙ sym (get_or-take n bytes i 0 here)) low)
+    kept_in (paged memory w) pc n bytes d few (λ i low. byte_there memory w pc p i (slice_index bytes i) small (omega arith) e (stand i low)) are spelled
+
+-- a number is below another one, or so much above it
+below_or_from : (i n : ℕ) → (i < n) ⊎ ((k : ℕ) × (n + k ≡ i))
+below_or_from i zero = inr (i, omega arith)
+below_or_from zero (suc n) = inl (omega arith)
+below_or_from (suc i) (suc n) = elim (below_or_from i n) [ inl low ↦ inl (omega arith) | inr more ↦ inr (more.0, omega (arith, more.1)) ]
+
+-- the same of an instruction over its page's end, whose first bytes lie in one page and the others in the next
+pub kept_over : (memory : List ℕ) (w : World) (pc p q first n : ℕ) (bytes : List ℕ) (d : Instruction) → pc < 2 ^ 32 → pc % 512 + first ≡ 512 → n ≤ 24 → n ≤ length bytes →
+    placed memory w Read pc ≡ Ok p → placed memory w Read ((pc + first) % 2 ^ 32) ≡ Ok q →
+    ((i : ℕ) → i < first → slice_index memory (p + i) ≡ slice_index bytes i) → ((i : ℕ) → first + i < n → slice_index memory (q + i) ≡ slice_index bytes (first + i)) →
+    ((i : ℕ) → slice_index bytes i < 256) → decoded_at (take n bytes) ≡ Whole d [] → outcome (paged memory w) (fetched pc) ≡ Ok d
+kept_over memory w pc p q first n bytes d small page short few e f low high are spelled =
+    kept_in (paged memory w) pc n bytes d few (λ i below. byte i below (below_or_from i first)) are spelled
+  where
+    byte : (i : ℕ) → i < n → (i < first) ⊎ ((k : ℕ) × (first + k ≡ i)) → paged memory w Read ((pc + i) % 2 ^ 32) ≡ Ok (slice_index bytes i)
+    byte i below (inl here) = byte_there memory w pc p i (slice_index bytes i) small (omega arith) e (low i here)
+    byte i below (inr above) =
+        let k : ℕ = above.0 in
+        let is : first + k ≡ i = above.1 in
+        let next : ((pc + first) % 2 ^ 32 + k) % 2 ^ 32 ≡ (pc + i) % 2 ^ 32 = omega (arith, is) in
+        let start : (pc + first) % 2 ^ 32 % 512 ≡ 0 = omega (arith, page) in
+        let all : paged memory w Read (((pc + first) % 2 ^ 32 + k) % 2 ^ 32) ≡ Ok (slice_index bytes (first + k)) =
+        byte_there memory w ((pc + first) % 2 ^ 32) q k (slice_index bytes (first + k)) (omega arith) (omega (arith, start, is)) f (high k (omega (arith, is))) in
+        sym (ap (paged memory w Read) next) ∙ all ∙ ap (λ (m : ℕ). Ok (slice_index bytes m)) is
+
+-- bytes of a memory that are the same as some are so one by one
+pub stands : (n p : ℕ) (memory front : List ℕ) → take n (drop p memory) ≡ front → (i : ℕ) → i < n → slice_index memory (p + i) ≡ slice_index front i
+stands n p memory front e i h = sym (get_or-drop p memory i 0) ∙ sym (get_or-take n (drop p memory) i 0 h) ∙ ap (λ (xs : List ℕ). slice_index xs i) e
 
 pub kept_formed : (n : ℕ) (bytes : List ℕ) (d : Instruction) → ((i : ℕ) → slice_index bytes i < 256) → decoded_at (take n bytes) ≡ Whole d [] → IsWellFormed d
 kept_formed n bytes d are spelled = (take n bytes, spelling_of (take n bytes) d (AreBytes-from_index (take n bytes) (taken_small n bytes are)) spelled)

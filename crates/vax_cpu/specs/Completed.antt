@@ -1,9 +1,9 @@
 -- What the machine does with what it found, by the troubles' exits: a plain instruction looks at the bytes that it
 -- stores.
-use Rattle.std.specs.Prelude.{ℕ, ◌+◌, ◌%◌, ◌^◌, Bool, List, Option, Some, None, Result, Ok, Err}
+use Rattle.std.specs.Prelude.{◌≡◌, ℕ, suc, ◌+◌, ◌%◌, ◌^◌, Bool, List, Option, Some, None, Result, Ok, Err}
 use Rattle.vax_arch.specs.declared.mode.Intent.{Intent}
 use Rattle.vax_hw.specs.Machine.{Machine, machine_tables, psl_with_psw, psw_of}
-use Rattle.vax_hw.specs.Real.{Retired, carried_out, retired_by_try, retired_with}
+use Rattle.vax_hw.specs.Real.{Retired, carried_out, real, retired_by_try, retired_with}
 use Rattle.vax_hw.specs.RealTables.{real_probe}
 use Rattle.vax_hw.specs.declared.world.Exit.{Exit}
 use Rattle.vax_hw.specs.declared.world.Exit.TheVariants.{Emulate, Modify}
@@ -85,3 +85,10 @@ completed_but_registers pc opcode e m = record m {
 -- with these registers
 abbrev pub with_registers : List ℕ → Machine → Machine
 with_registers r m = record m { world = record m.world { r = r } }
+
+-- the first instruction of a run retires, and the run goes on; or the run ends at it
+abbrev pub RunsOn : (before after : Machine) → Type 0
+RunsOn before after = (n : ℕ) → real (suc n) before ≡ real n after
+
+abbrev pub EndsWith : Exit → (before after : Machine) → Type 0
+EndsWith exit before after = (n : ℕ) → real (suc n) before ≡ (after, exit)

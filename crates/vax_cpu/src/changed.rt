@@ -1,6 +1,7 @@
 ghost use Rattle.std.specs.Prelude.{◌≡◌, ◌+◌, ◌<◌, sum, take};
 ghost use Rattle.vax_cpu.specs.Changed.{AreAlikeBut, all_leave_registers, changed_register, is_still, leaves_registers, operand_register, register_at, result_register, target_register};
 
+use vax_normal::sum_of;
 use vax_operand::{Base, Kind, Operand, Prepared};
 use vax_table::{Operation, Target};
 use vv_base::Width;
@@ -96,17 +97,6 @@ pub fn changed_register(prepared: &Prepared) -> u8
     } else {
         15
     }
-}
-
-/// The sum of R0 to R14.
-pub fn sum_of(r: &[u32; 16]) -> u64
-    ensures { result ≡ sum (take 15 r.now) }
-{
-    let mut total = 0;
-    for register in &r[..15] {
-        total += u64::from(*register);
-    }
-    total
 }
 
 /// The sum of R0 to R14, by that of before one of them changed; or, where this is register 15, anew.

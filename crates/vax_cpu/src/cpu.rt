@@ -1,14 +1,18 @@
-ghost use Rattle.std.specs.Prelude.{◌≡◌, ◌*◌, ◌≤◌, length, sum, take, IfOk, OnOk};
+ghost use Rattle.std.specs.Prelude.{◌≡◌, ◌*◌, ◌≤◌, length, sum, take, IfOk, MatchOption, OnOk};
 ghost use Rattle.vax_hw.specs.Machine.{Machine, seen_psl, zeros};
 ghost use Rattle.vax_hw.specs.Real.{in_kernel, real};
 ghost use Rattle.vax_operand.specs.Left.{operands_with_registers};
 ghost use Rattle.vax_paged.specs.Paged.{paged};
 ghost use Rattle.vax_table.specs.Interaction.{outcome};
+ghost use Rattle.vax_table.specs.Spelling.{view};
 ghost use Rattle.vax_table.specs.Whole.{instruction};
-ghost use Rattle.vax_cpu.specs.Completed.{attempted, settled_meaning, with_registers};
+ghost use Rattle.vax_normal.specs.Normal.{IsNormal};
+ghost use Rattle.vax_cpu.specs.Completed.{EndsWith, RunsOn, attempted, settled_meaning, with_registers};
 ghost use Rattle.vax_cpu.specs.Fetched.{exits};
 
-use crate::changed::{sum_behind, sum_of};
+use crate::changed::sum_behind;
+use crate::code::Code;
+use crate::fetch::has_known;
 use crate::kept::Kept;
 use crate::perform::{attempt, attempt_known};
 use crate::state::State;
@@ -19,6 +23,7 @@ use std::cell::Cell;
 use std::marker::Model;
 use vax_exec::Plan;
 use vax_hw::{Exit, Hardware, World};
+use vax_normal::{Normal, sum_of};
 use vax_operand::Values;
 use vv_base::NoMemory;
 
@@ -26,33 +31,19 @@ use vv_base::NoMemory;
 #[derive(Drop)]
 pub struct Cpu {
     state: State,
-    kept: Vec<Kept>,
+    code: Code,
     operands: Values,
     /// The last instruction's plan; its registers are the machine's.
     plan: Plan,
 }
 
 impl Model for Cpu {
-    ghost use Rattle.std.specs.Prelude.{◌≡◌, length};
     ghost use Rattle.vax_cpu.specs.Completed.{with_registers};
     ghost use Rattle.vax_hw.specs.Machine.{Machine};
 
     ghost Value = { Machine };
 
     ghost view = { λ m. with_registers m.plan.r m.state };
-
-    ghost invariant = { λ m. length m.kept.items ≡ 2048 };
-}
-
-/// A place for each instruction that is kept.
-fn nothing_kept(alloc: Global) -> Result<Vec<Kept>, NoMemory>
-    ensures { IfOk result (λ kept. length kept.items ≡ 2048) }
-{
-    let mut kept = Vec::with_capacity(alloc, 2048)?;
-    for _n in 0..2048u32 {
-        kept.push(Kept::wait())?;
-    }
-    Ok(kept)
 }
 
 impl Cpu {
@@ -66,7 +57,7 @@ impl Cpu {
     {
         Ok(Cpu {
             state: State::new(alloc, pages)?,
-            kept: nothing_kept(alloc)?,
+            code: Code::nothing(alloc)?,
             operands: Values::none(),
             plan: Plan {
                 r: [0; 16],
@@ -85,7 +76,7 @@ impl Cpu {
 fn attempt_walked(
     state: &mut State,
     missed: &Cell<u32>,
-    kept: &mut Kept,
+    code: &mut Code,
     o: &mut Values,
     before: &[u32; 16],
     plan: &mut Plan,
@@ -95,14 +86,21 @@ fn attempt_walked(
 {
     plan.r = *before;
     state.learn(missed);
-    attempt(state.memory(), state.world(), kept, o, plan)
+    let place = code.place_for(before[15]);
+    attempt(
+        state.memory(),
+        state.world(),
+        &mut code.places[place],
+        o,
+        plan,
+    )
 }
 
 /// The same by the pages that are known, or else by the page tables. `total` is the sum of R0 to R14, before and after it.
 fn attempt_next(
     state: &mut State,
     missed: &Cell<u32>,
-    kept: &mut Kept,
+    code: &mut Code,
     o: &mut Values,
     before: &[u32; 16],
     plan: &mut Plan,
@@ -114,55 +112,124 @@ fn attempt_next(
     ensures attempted { attempted (operands_with_registers o.new plan.new.r) plan.new result ≡ settled_meaning state.old.memory state.old.world (exits (outcome (paged state.old.memory state.old.world) (instruction (in_kernel state.old.world) (seen_psl state.old.world) before.now))) }
     ensures state { state.new ≡ state.old }
 {
+    let kept = code.at(plan.r[15]);
     if attempt_known(state, missed, kept, o, plan) {
         *total = sum_behind(*total, kept.changed, before, &plan.r);
         return Ok(kept.prepared.decoded.opcode);
     }
-    let opcode = attempt_walked(state, missed, kept, o, before, plan)?;
+    let opcode = attempt_walked(state, missed, code, o, before, plan)?;
     *total = sum_of(&plan.r);
     Ok(opcode)
+}
+
+/// The instruction at PC at once, of which this is the normal form: the sum of R0 to R14 after it, if it is done.
+#[inline(always)]
+fn step_by(
+    state: &mut State,
+    missed: &Cell<u32>,
+    kept: &Kept,
+    normal: &Normal,
+    r: &mut [u32; 16],
+    total: u64,
+) -> Option<u64>
+    requires normal { IsNormal normal.now (view kept.now.prepared.decoded) }
+    requires sum { total ≡ sum (take 15 r.old) }
+    ensures { MatchOption result ((state.new ≡ state.old) × (r.new ≡ r.old)) (λ t. (t ≡ sum (take 15 r.new)) × RunsOn (with_registers r.old state.old) (with_registers r.new state.new)) }
+{
+    let pc = r[15];
+    if !has_known(&state.mapped(missed), state.world(), kept, pc) {
+        return None;
+    }
+    match normal.carry_out(r, state.psw(), total) {
+        Some(after) => {
+            state.retire_at_once(pc, kept.prepared.decoded.opcode, after.total, after.psw, r);
+            Some(after.total)
+        }
+        None => None,
+    }
+}
+
+/// The instruction at PC at once, if it is kept in normal form.
+#[inline(always)]
+fn step_at_once(
+    state: &mut State,
+    missed: &Cell<u32>,
+    kept: &Kept,
+    r: &mut [u32; 16],
+    total: u64,
+) -> Option<u64>
+    requires { total ≡ sum (take 15 r.old) }
+    ensures { MatchOption result ((state.new ≡ state.old) × (r.new ≡ r.old)) (λ t. (t ≡ sum (take 15 r.new)) × RunsOn (with_registers r.old state.old) (with_registers r.new state.new)) }
+{
+    match &kept.normal {
+        Some(normal) => step_by(state, missed, kept, normal, r, total),
+        None => None,
+    }
+}
+
+/// The instruction at PC by its operands, one by one: the sum of R0 to R14 after it, or with what the run ends, in `exit`. `total`
+/// is that sum before it.
+#[inline(always)]
+fn step_whole(
+    state: &mut State,
+    missed: &Cell<u32>,
+    code: &mut Code,
+    o: &mut Values,
+    plan: &mut Plan,
+    total: u64,
+    exit: &mut Exit,
+) -> Option<u64>
+    requires { total ≡ sum (take 15 plan.old.r) }
+    ensures { MatchOption result (EndsWith exit.new (with_registers plan.old.r state.old) (with_registers plan.new.r state.new)) (λ t. (t ≡ sum (take 15 plan.new.r)) × RunsOn (with_registers plan.old.r state.old) (with_registers plan.new.r state.new)) }
+{
+    let pc = plan.r[15];
+    let before = plan.r;
+    let mut total = total;
+    match attempt_next(state, missed, code, o, &before, plan, &mut total) {
+        Ok(opcode) => {
+            state.retire(pc, opcode, total, plan, missed);
+            match plan.trap {
+                Some(kind) => {
+                    *exit = Exit::Arithmetic { kind };
+                    None
+                }
+                None => Some(total),
+            }
+        }
+        Err(stop) => {
+            let ended = exit_for(stop, o, &plan.r);
+            plan.r = before;
+            state.stop(&ended);
+            *exit = ended;
+            None
+        }
+    }
 }
 
 /// A run of at most so many instructions. The plan's registers are the machine's, in place of the world's.
 fn run_parts(
     state: &mut State,
-    kept: &mut [Kept],
+    code: &mut Code,
     o: &mut Values,
     plan: &mut Plan,
     budget: u32,
 ) -> Exit
-    requires { length kept.old ≡ 2048 }
     ensures { (with_registers plan.new.r state.new, result) ≡ real budget (with_registers plan.old.r state.old) }
 {
     let missed = Cell::new(u32::MAX);
     let mut total = sum_of(&plan.r);
+    let mut exit = Exit::Budget;
     for _left in (0..budget).rev() {
-        // PC is read by itself, since it is needed at once, and the copy isn't
-        let pc = plan.r[15];
-        let before = plan.r;
-        let slot = pc as usize / 2 % 2048;
-        match attempt_next(
-            state,
-            &missed,
-            &mut kept[slot],
-            o,
-            &before,
-            plan,
-            &mut total,
-        ) {
-            Ok(opcode) => {
-                state.retire(pc, opcode, total, plan, &missed);
-                match plan.trap {
-                    Some(kind) => {
-                        return Exit::Arithmetic { kind };
-                    }
-                    None => {}
-                }
+        let kept = code.at(plan.r[15]);
+        if let Some(sum) = step_at_once(state, &missed, kept, &mut plan.r, total) {
+            total = sum;
+            continue;
+        }
+        match step_whole(state, &missed, code, o, plan, total, &mut exit) {
+            Some(sum) => {
+                total = sum;
             }
-            Err(stop) => {
-                let exit = exit_for(stop, o, &plan.r);
-                plan.r = before;
-                state.stop(&exit);
+            None => {
                 return exit;
             }
         }
@@ -214,7 +281,7 @@ impl Hardware for Cpu {
     fn run(&mut self, budget: u32) -> Exit {
         run_parts(
             &mut self.state,
-            &mut self.kept,
+            &mut self.code,
             &mut self.operands,
             &mut self.plan,
             budget,

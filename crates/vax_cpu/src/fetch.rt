@@ -1,4 +1,4 @@
-ghost use Rattle.std.specs.Prelude.{◌≡◌, ◌%◌, ◌+◌, ◌≤◌, ◌<◌, ℕ, [], true, drop, length, slice_index, take, IfOk, OnOk};
+ghost use Rattle.std.specs.Prelude.{◌≡◌, ◌%◌, ◌+◌, ◌≤◌, ◌<◌, ◌^◌, ℕ, [], true, drop, length, slice_index, take, IfOk, OnOk};
 ghost use Rattle.vax_arch.specs.declared.mode.Intent.TheVariants.{Read};
 ghost use Rattle.vax_hw.specs.RealTables.{everywhere};
 ghost use Rattle.vax_table.specs.Fetch.{fetched};
@@ -9,14 +9,15 @@ ghost use Rattle.vax_table.specs.Interaction.{number_at, outcome};
 ghost use Rattle.vax_table.specs.Spelling.{IsWellFormed, view};
 ghost use Rattle.vax_cpu.specs.Fetched.{byte_view, decoded_or_exit, exits, kept_view, refusal_of};
 ghost use Rattle.vax_paged.specs.Known.{AreKnown};
-ghost use Rattle.vax_paged.specs.Paged.{paged};
+ghost use Rattle.vax_paged.specs.Paged.{at_byte, paged, placed};
 
 use crate::changed::changed_register;
-use crate::kept::{Kept, reach_of};
+use crate::kept::{Kept, end_of};
 use crate::stop::{Fault, fault_of};
 use arrayvec::ArrayVec;
 use vax_decode::{Decode, DecodeFault, Decoded, decode};
 use vax_hw::{Refusal, World};
+use vax_normal::normal_of;
 use vax_operand::Prepared;
 use vax_paged::{Mapped, Paged, number_in};
 use vv_base::Width;
@@ -56,11 +57,10 @@ fn stands_at(memory: &[u8], place: usize, kept: &Kept) -> bool
     ensures { result ≡ true → (i : ℕ) → i < kept.now.prepared.decoded.length → slice_index memory.now (place + i) ≡ slice_index kept.now.bytes i }
 {
     let length = usize::from(kept.prepared.decoded.length);
-    if length <= 8 {
-        has_eight(memory, place, &kept.bytes)
-    } else {
-        has_all(memory, place, &kept.bytes[..length])
+    if length <= 8 && has_eight(memory, place, &kept.bytes) {
+        return true;
     }
+    has_all(memory, place, &kept.bytes[..length])
 }
 
 /// Whether an instruction of so many bytes at an address lies in one page.
@@ -70,29 +70,95 @@ fn is_in_page(pc: u32, length: u8) -> bool
     length <= 24 && pc % 512 + u32::from(length) <= 512
 }
 
-/// Whether kept bytes are at an address, all in one page, so that the instruction there is the kept one.
-fn has(space: &Paged, kept: &Kept, pc: u32) -> bool
+/// Whether the bytes that spell a kept instruction are in a memory, so many of them at one place and the others at another.
+#[cold]
+#[inline(never)]
+fn stands_in_two(memory: &[u8], places: (usize, usize), first: usize, kept: &Kept) -> bool
+    requires low { places.0 ≤ everywhere }
+    requires high { places.1 ≤ everywhere }
+    requires parts { first ≤ kept.now.prepared.decoded.length }
+    requires length { kept.now.prepared.decoded.length ≤ 24 }
+    ensures first { result ≡ true → (i : ℕ) → i < first → slice_index memory.now (places.0 + i) ≡ slice_index kept.now.bytes i }
+    ensures others { result ≡ true → (i : ℕ) → first + i < kept.now.prepared.decoded.length → slice_index memory.now (places.1 + i) ≡ slice_index kept.now.bytes (first + i) }
+{
+    let length = usize::from(kept.prepared.decoded.length);
+    has_all(memory, places.0, &kept.bytes[..first])
+        && has_all(memory, places.1, &kept.bytes[first..length])
+}
+
+/// Whether kept bytes are at an address, whose place this is, over its page's end, so that the instruction there is the kept
+/// one.
+#[cold]
+#[inline(never)]
+fn has_over(space: &Paged, kept: &Kept, pc: u32, place: u32) -> bool
+    requires there { Ok place ≡ at_byte Read pc (placed space.now.memory.now space.now.world.now Read pc) }
+    requires small { place < 2 ^ 30 }
     ensures fetched { result ≡ true → Ok (view kept.now.prepared.decoded) ≡ exits (outcome (paged space.now.memory.now space.now.world.now) (fetched pc)) }
     ensures formed { result ≡ true → IsWellFormed (view kept.now.prepared.decoded) }
 {
-    if !is_in_page(pc, kept.prepared.decoded.length) {
+    let first = 512 - pc % 512;
+    let length = u32::from(kept.prepared.decoded.length);
+    if length < first || length > 24 {
         return false;
     }
-    match space.place(pc, false) {
-        Ok(place) => stands_at(space.memory, place as usize, kept),
+    match space.place(pc.wrapping_add(first), false) {
+        Ok(next) => {
+            let places = (place as usize, next as usize);
+            stands_in_two(space.memory, places, first as usize, kept)
+        }
         Err(_) => false,
     }
 }
 
-/// The same of an instruction that `plan_into` plans, by a page that is known.
+/// Whether kept bytes are at an address, whose place this is, so that the instruction there is the kept one.
+fn has(space: &Paged, kept: &Kept, pc: u32, place: u32) -> bool
+    requires there { Ok place ≡ at_byte Read pc (placed space.now.memory.now space.now.world.now Read pc) }
+    requires small { place < 2 ^ 30 }
+    ensures fetched { result ≡ true → Ok (view kept.now.prepared.decoded) ≡ exits (outcome (paged space.now.memory.now space.now.world.now) (fetched pc)) }
+    ensures formed { result ≡ true → IsWellFormed (view kept.now.prepared.decoded) }
+{
+    if !is_in_page(pc, kept.prepared.decoded.length) {
+        return has_over(space, kept, pc, place);
+    }
+    stands_at(space.memory, place as usize, kept)
+}
+
+/// Whether kept bytes are at an address over its page's end, by two pages that are known, and the instruction is one that
+/// `plan_into` plans.
+#[cold]
+#[inline(never)]
+fn has_known_over(space: Mapped, world: &World, kept: &Kept, pc: u32) -> bool
+    requires { AreKnown space.memory.now world.now space.known.now }
+    ensures fetched { result ≡ true → Ok (view kept.now.prepared.decoded) ≡ exits (outcome (paged space.entry.memory.now world.now) (fetched pc)) }
+    ensures formed { result ≡ true → IsWellFormed (view kept.now.prepared.decoded) }
+    ensures planned { result ≡ true → is_planned (operation_of kept.now.prepared.decoded.opcode) ≡ true }
+{
+    let first = 512 - pc % 512;
+    if kept.end == 0 || u32::from(kept.prepared.decoded.length) < first {
+        return false;
+    }
+    let Some(place) = space.place(pc, false) else {
+        return false;
+    };
+    match space.place(pc.wrapping_add(first), false) {
+        Some(next) => {
+            let places = (place, next);
+            stands_in_two(space.memory, places, first as usize, kept)
+        }
+        None => false,
+    }
+}
+
+/// Whether kept bytes are at an address, by what is known, and the instruction is one that `plan_into` plans.
+#[inline(always)]
 pub fn has_known(space: &Mapped, world: &World, kept: &Kept, pc: u32) -> bool
     requires { AreKnown space.now.memory.now world.now space.now.known.now }
     ensures fetched { result ≡ true → Ok (view kept.now.prepared.decoded) ≡ exits (outcome (paged space.now.memory.now world.now) (fetched pc)) }
     ensures formed { result ≡ true → IsWellFormed (view kept.now.prepared.decoded) }
     ensures planned { result ≡ true → is_planned (operation_of kept.now.prepared.decoded.opcode) ≡ true }
 {
-    if 512 - pc % 512 < kept.reach {
-        return false;
+    if kept.end <= pc % 512 {
+        return has_known_over(*space, world, kept, pc);
     }
     match space.place(pc, false) {
         Some(place) => stands_at(space.memory, place, kept),
@@ -100,13 +166,26 @@ pub fn has_known(space: &Mapped, world: &World, kept: &Kept, pc: u32) -> bool
     }
 }
 
-/// The bytes from the place of an address on, or zeros: what they are doesn't matter.
-fn window(space: &Paged, pc: u32) -> [u8; 24] {
+/// Copies the bytes of a memory from a place on, as far as it has them.
+fn copy_from(memory: &[u8], place: usize, bytes: &mut [u8])
+    requires { place ≤ everywhere }
+{
+    let end = memory.len().min(place + bytes.len());
+    if place < end {
+        bytes[..end - place].copy_from_slice(&memory[place..end]);
+    }
+}
+
+/// The bytes from an address on, whose place this is, and zeros where they can't be read.
+fn window(space: &Paged, pc: u32, place: u32) -> [u8; 24]
+    requires { place < 2 ^ 30 }
+{
     let mut bytes = [0; 24];
-    if let Ok(place) = space.place(pc, false) {
-        let place = place as usize;
-        if place + 24 <= space.memory.len() {
-            bytes.copy_from_slice(&space.memory[place..place + 24]);
+    let first = (512 - pc % 512).min(24);
+    copy_from(space.memory, place as usize, &mut bytes[..first as usize]);
+    if first < 24 {
+        if let Ok(next) = space.place(pc.wrapping_add(first), false) {
+            copy_from(space.memory, next as usize, &mut bytes[first as usize..]);
         }
     }
     bytes
@@ -122,12 +201,13 @@ fn keep(bytes: &[u8], window: &[u8; 24], decoded: Decoded) -> Kept
 {
     let mut kept = *window;
     kept[..bytes.len()].copy_from_slice(bytes);
-    let reach = reach_of(&decoded);
+    let end = end_of(&decoded);
     let prepared = Prepared::new(decoded);
     Kept {
         bytes: kept,
-        reach,
+        end,
         changed: changed_register(&prepared),
+        normal: normal_of(&prepared),
         prepared,
     }
 }
@@ -151,7 +231,7 @@ fn decoded(space: &Paged, pc: u32) -> Result<Kept, Fault>
     for _looks in (0..22u32).rev() {
         match decode(bytes.as_slice()) {
             Decode::Done(decoded) => {
-                return Ok(keep(bytes.as_slice(), &window(space, pc), decoded));
+                return Ok(keep(bytes.as_slice(), &[0; 24], decoded));
             }
             Decode::NeedMore => match fetch_byte(space, pc.wrapping_add(bytes.len() as u32)) {
                 Ok(byte) => bytes.push(byte),
@@ -167,13 +247,31 @@ fn decoded(space: &Paged, pc: u32) -> Result<Kept, Fault>
     Err(Fault::Refused(Refusal::Instruction))
 }
 
-/// The instruction at an address, which is kept, and taken where it was kept already.
+/// What the bytes from an address on spell, whose place this is, is kept, if they spell something.
+fn respell(space: &Paged, pc: u32, place: u32, kept: &mut Kept)
+    requires { place < 2 ^ 30 }
+{
+    let bytes = window(space, pc, place);
+    if let Decode::Done(decoded) = decode(&bytes) {
+        *kept = keep(&bytes, &bytes, decoded);
+    }
+}
+
+/// The instruction at an address, which is kept, and taken where it was kept already. It is decoded once where all its bytes
+/// can be read, and else byte by byte.
 pub fn fetch(space: &Paged, pc: u32, kept: &mut Kept) -> Result<(), Fault>
     ensures fetched { decoded_or_exit kept.new.prepared.decoded result ≡ exits (outcome (paged space.now.memory.now space.now.world.now) (fetched pc)) }
     ensures formed { OnOk result (IsWellFormed (view kept.new.prepared.decoded)) }
 {
-    if !has(space, kept, pc) {
-        *kept = decoded(space, pc)?;
+    if let Ok(place) = space.place(pc, false) {
+        if has(space, kept, pc, place) {
+            return Ok(());
+        }
+        respell(space, pc, place, kept);
+        if has(space, kept, pc, place) {
+            return Ok(());
+        }
     }
+    *kept = decoded(space, pc)?;
     Ok(())
 }

@@ -1,13 +1,15 @@
-ghost use Rattle.std.specs.Prelude.{◌≡◌, ◌≤◌, ◌<◌, true, ℕ, [], length, slice_index, take};
+ghost use Rattle.std.specs.Prelude.{◌≡◌, ◌+◌, ◌≤◌, ◌<◌, true, ℕ, [], length, slice_index, take, IfSome};
 ghost use Rattle.vax_table.specs.Operations.{operation_of};
 ghost use Rattle.vax_table.specs.Plan.{is_planned};
 ghost use Rattle.vax_table.specs.Reading.{Whole, decoded_at};
 ghost use Rattle.vax_table.specs.Spelling.{view};
+ghost use Rattle.vax_normal.specs.Normal.{IsNormal, normal-prop};
 ghost use Rattle.vax_cpu.specs.Changed.{changed_register};
 
 use crate::changed::changed_register;
 use arrayvec::ArrayVec;
 use vax_decode::Decoded;
+use vax_normal::Normal;
 use vax_operand::Prepared;
 use vax_table::{Operation, operation};
 
@@ -16,17 +18,21 @@ use vax_table::{Operation, operation};
 pub struct Kept {
     pub bytes: [u8; 24],
     pub prepared: Prepared,
-    /// How many bytes it has, if it is one of the instructions that `plan_into` plans; else more than a page has.
-    pub reach: u32,
+    /// The first place in a page from which on it lies over the page's end, if it is one of the instructions that `plan_into`
+    /// plans; else 0.
+    pub end: u32,
     /// The register that it changes, if it changes one of R0 to R14 at most; else 15.
     pub changed: u8,
+    /// Its normal form, if it has one.
+    pub normal: Option<Normal>,
     ghost sized: { length bytes ≡ 24 },
     ghost small: { (i : ℕ) → slice_index bytes i < 256 },
     ghost spelled: { decoded_at (take prepared.decoded.length bytes) ≡ Whole (view prepared.decoded) [] },
-    ghost whole: { reach ≤ 512 → reach ≡ prepared.decoded.length },
-    ghost short: { reach ≤ 512 → reach ≤ 24 },
+    ghost whole: { 0 < end → end + prepared.decoded.length ≡ 513 },
+    ghost short: { 0 < end → prepared.decoded.length ≤ 24 },
     ghost changes: { changed ≡ changed_register prepared.operation prepared.operands.items },
-    ghost planned: { reach ≤ 512 → is_planned (operation_of prepared.decoded.opcode) ≡ true },
+    ghost normal_form: { IfSome normal (λ n. IsNormal n (view prepared.decoded)) } by { normal-prop normal (view prepared.decoded) },
+    ghost planned: { 0 < end → is_planned (operation_of prepared.decoded.opcode) ≡ true },
 }
 
 /// Whether an operation is one of those that `plan_into` plans.
@@ -44,16 +50,16 @@ pub fn is_planned(what: Operation) -> bool
     }
 }
 
-/// How many bytes an instruction has that is kept, as far as that is asked.
-pub fn reach_of(decoded: &Decoded) -> u32
-    ensures whole { result ≤ 512 → result ≡ decoded.now.length }
-    ensures short { result ≤ 512 → result ≤ 24 }
-    ensures planned { result ≤ 512 → is_planned (operation_of decoded.now.opcode) ≡ true }
+/// From which place in a page on an instruction that is kept lies over the page's end, as far as that is asked.
+pub fn end_of(decoded: &Decoded) -> u32
+    ensures whole { 0 < result → result + decoded.now.length ≡ 513 }
+    ensures short { 0 < result → decoded.now.length ≤ 24 }
+    ensures planned { 0 < result → is_planned (operation_of decoded.now.opcode) ≡ true }
 {
     if is_planned(operation(decoded.opcode)) && decoded.length <= 24 {
-        u32::from(decoded.length)
+        513 - u32::from(decoded.length)
     } else {
-        1024
+        0
     }
 }
 
@@ -73,8 +79,9 @@ impl Kept {
         Kept {
             bytes,
             changed: changed_register(&prepared),
+            normal: None,
             prepared,
-            reach: 1024,
+            end: 0,
         }
     }
 }

@@ -1,5 +1,6 @@
-ghost use Rattle.std.specs.Prelude.{◌≡◌, ◌<◌, Ok, true};
+ghost use Rattle.std.specs.Prelude.{◌≡◌, ◌<◌, ℕ, List, Ok, true};
 ghost use Rattle.vax_table.specs.Effects.{effect};
+ghost use Rattle.vax_table.specs.Operand.{operands_of, trap_operands};
 ghost use Rattle.vax_table.specs.Operations.{operation_of};
 ghost use Rattle.vax_table.specs.Plan.{is_planned};
 ghost use Rattle.vax_table.specs.Interaction.{outcome};
@@ -8,7 +9,7 @@ ghost use Rattle.vax_table.specs.Whole.{acted, first_operand, instruction, is_al
 ghost use Rattle.vax_table.specs.declared.effect.Plan.{Plan};
 ghost use Rattle.vax_table.specs.declared.evaluation.Operands.{Operands};
 ghost use Rattle.vax_table.specs.declared.meaning.Operation.TheVariants.{MoveStatus};
-ghost use Rattle.vax_operand.specs.Left.{operands_with_registers};
+ghost use Rattle.vax_operand.specs.Left.{left, operands_with_registers};
 ghost use Rattle.vax_hw.specs.Machine.{seen_psl};
 ghost use Rattle.vax_hw.specs.Real.{in_kernel};
 ghost use Rattle.vax_cpu.specs.Changed.{AreAlikeBut};
@@ -26,7 +27,9 @@ use vax_arch::Intent;
 use vax_decode::Decoded;
 use vax_exec::{Plan, begin, plan_into};
 use vax_hw::{Mode, Psl, Refusal, Sens, Trapped, World};
-use vax_operand::{Operands, Space, Values, evaluate, evaluate_into, evaluate_trap};
+use vax_operand::{
+    Operands, Prepared, Space, Trouble, Values, evaluate, evaluate_into, evaluate_trap,
+};
 use vax_paged::Paged;
 use vax_table::Operation;
 use vv_base::Width;
@@ -46,6 +49,11 @@ struct Found {
     act: Act,
 }
 
+/// MFPR's opcode, and the mode of an operand that is a register.
+const MFPR: u8 = 0xDB;
+
+const REGISTER: u8 = 5;
+
 /// CHM and REI are done in every mode.
 fn is_always_done(op: Sens) -> bool
     ensures { result ≡ is_always_done op }
@@ -54,8 +62,8 @@ fn is_always_done(op: Sens) -> bool
 }
 
 /// The first operand of a trap: CHM's code is sign-extended.
-fn first_operand(op: Sens, o: &Operands) -> u32
-    ensures { result ≡ first_operand op o.now }
+fn first_operand(op: Sens, o: &Values, r: &[u32; 16]) -> u32
+    ensures { result ≡ first_operand op (operands_with_registers o.now r.now) }
 {
     let a = o.long(0);
     match op {
@@ -65,21 +73,59 @@ fn first_operand(op: Sens, o: &Operands) -> u32
     }
 }
 
-/// A trap with these operands.
-pub fn trap_of(op: Sens, o: &Operands) -> Trapped
-    ensures { result ≡ trap_of op o.now }
+/// A trap with these operands, and the registers after them.
+pub fn trap_of(op: Sens, o: &Values, r: &[u32; 16]) -> Trapped
+    ensures { result ≡ trap_of op (operands_with_registers o.now r.now) }
 {
     let mut regs = [0; 15];
-    regs.copy_from_slice(&o.r[..15]);
+    regs.copy_from_slice(&r[..15]);
     Trapped {
         op,
-        a: first_operand(op, o),
+        a: first_operand(op, o, r),
         b: o.long(1),
         c: o.long(2),
         dest: o.dests[1],
-        next_pc: o.r[15],
+        next_pc: r[15],
         regs,
     }
+}
+
+/// Whether an instruction that traps has the operands that are prepared: each has but MFPR to memory, whose destination is
+/// not translated then.
+fn traps_as_prepared(d: &Decoded) -> bool
+    ensures { result ≡ true → (r : List ℕ) → trap_operands (view d.now) r ≡ operands_of (view d.now) r }
+{
+    if d.opcode != MFPR {
+        return true;
+    }
+    match d.specs.as_slice() {
+        [_, to] => to.mode == REGISTER,
+        _ => false,
+    }
+}
+
+/// The operands of an instruction that traps: `r` is R0 to R15 before it, and after it with the side effects. After an error it
+/// doesn't matter what `r` and `v` are.
+fn evaluate_trapped<S: Space>(
+    s: &S,
+    e: &Prepared,
+    r: &mut [u32; 16],
+    v: &mut Values,
+) -> Result<(), Trouble>
+    requires { IsWellFormed (view e.now.decoded) }
+    ensures { left result (operands_with_registers v.new r.new) ≡ outcome (S.space s.now) (trap_operands (view e.now.decoded) r.old) }
+{
+    if traps_as_prepared(&e.decoded) {
+        return evaluate_into(s, e, r, v);
+    }
+    let Operands {
+        values,
+        dests,
+        r: behind,
+    } = evaluate_trap(s, &e.decoded, r)?;
+    *v = Values { values, dests };
+    *r = behind;
+    Ok(())
 }
 
 /// A sensitive instruction that traps; its operands go to `o` and the plan's registers.
@@ -89,16 +135,14 @@ pub fn trap_of(op: Sens, o: &Operands) -> Trapped
 fn trap<S: Space>(
     s: &S,
     op: Sens,
-    d: &Decoded,
+    kept: &Kept,
     o: &mut Values,
     plan: &mut Plan,
 ) -> Result<Act, Stop>
-    requires { IsWellFormed (view d.now) }
-    ensures { acts_of d.now.opcode (operands_with_registers o.new plan.new.r) plan.new result ≡ exits (outcome (S.space s.now) (trapping op (view d.now) plan.old.r)) }
+    requires { IsWellFormed (view kept.now.prepared.decoded) }
+    ensures { acts_of kept.now.prepared.decoded.opcode (operands_with_registers o.new plan.new.r) plan.new result ≡ exits (outcome (S.space s.now) (trapping op (view kept.now.prepared.decoded) plan.old.r)) }
 {
-    let Operands { values, dests, r } = evaluate_trap(s, d, &plan.r).map_err(stop_of)?;
-    *o = Values { values, dests };
-    plan.r = r;
+    evaluate_trapped(s, &kept.prepared, &mut plan.r, o).map_err(stop_of)?;
     Ok(Act::Traps(op))
 }
 
@@ -169,7 +213,7 @@ pub fn carry_out<S: Space>(
     let refusal = match kept.prepared.operation {
         Operation::Sensitive(op) => {
             if is_always_done(op) || is_kernel {
-                return trap(s, op, d, o, plan);
+                return trap(s, op, kept, o, plan);
             }
             return Err(Stop::Fault(Fault::Refused(Refusal::Instruction)));
         }

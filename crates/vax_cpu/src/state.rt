@@ -1,8 +1,9 @@
 ghost use Rattle.std.specs.Prelude.{◌≡◌, true, ◌+◌, ◌*◌, ◌≤◌, ◌<◌, ◌/◌, ◌^◌, ℕ, length, slice_index, sum, take, IfOk};
 ghost use Rattle.vv_base.specs.Bytes.{long_at, long_bytes, overwritten};
-ghost use Rattle.vax_hw.specs.Machine.{Machine, machine_tables, psl_with_psw, zeros};
+ghost use Rattle.vax_hw.specs.Machine.{Machine, machine_tables, psl_with_psw, psw_of, zeros};
 ghost use Rattle.vax_hw.specs.Real.{misses_after};
 ghost use Rattle.vax_table.specs.Effects.{effect};
+ghost use Rattle.vax_normal.specs.Normal.{quietly};
 ghost use Rattle.vax_cpu.specs.Completed.{completed_but_registers};
 ghost use Rattle.vax_paged.specs.Known.{AreKnown};
 
@@ -232,6 +233,27 @@ impl State {
             stores,
         );
         self.world.psl = psl;
+    }
+
+    /// The status word.
+    #[inline(always)]
+    pub fn psw(&self) -> u8
+        ensures { result ≡ psw_of self.now.world }
+    {
+        (self.world.psl.0 % 0x100) as u8
+    }
+
+    /// An instruction at an address has retired, which stores nothing: the status word is this after it, and it is counted.
+    /// `total` is the sum of R0 to R14 after it, and `r` are the registers.
+    #[inline(always)]
+    pub fn retire_at_once(&mut self, pc: u32, opcode: u8, total: u64, psw: u8, r: &[u32; 16])
+        requires { total ≡ sum (take 15 r.now) }
+        ensures { self.new ≡ completed_but_registers pc opcode (quietly r.now psw) self.old }
+    {
+        let own = u64::from(pc) + 3 * u64::from(opcode);
+        self.trail = self.trail.wrapping_add(own).wrapping_add(total);
+        self.retired = self.retired.wrapping_add(1);
+        self.world.psl = with_psw(self.world.psl, psw);
     }
 
     /// An instruction didn't retire: an entry that wasn't valid is counted.

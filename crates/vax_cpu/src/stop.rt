@@ -62,6 +62,6 @@ pub fn exit_for(stop: Stop, o: &Values, r: &[u32; 16]) -> Exit
         Stop::Fault(Fault::Trouble(trouble)) => exit_of(trouble),
         Stop::Fault(Fault::Refused(refusal)) => Exit::Refused(refusal),
         Stop::Modify(va) => Exit::Modify { va },
-        Stop::Emulate(op) => Exit::Emulate(trap_of(op, &o.joined(r))),
+        Stop::Emulate(op) => Exit::Emulate(trap_of(op, o, r)),
     }
 }

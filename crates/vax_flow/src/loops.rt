@@ -10,7 +10,7 @@ use vax_table::effect::Plan;
 use vv_base::{Width, signed};
 
 /// A status word's new codes, with C as it was.
-fn keeping_c(psw: u8, new: u8) -> u8
+pub fn keeping_c(psw: u8, new: u8) -> u8
     ensures { result ≡ keeping_c psw new }
 {
     new / 2 * 2 + psw % 2
@@ -39,7 +39,7 @@ fn loop_to(
 }
 
 /// Signed, in a width: less.
-fn is_less(w: Width, a: u32, b: u32) -> bool
+pub fn is_less(w: Width, a: u32, b: u32) -> bool
     requires { w ≢ Width.Quad }
     ensures { result ≡ is_less w a b }
 {
@@ -47,7 +47,7 @@ fn is_less(w: Width, a: u32, b: u32) -> bool
 }
 
 /// Signed, in a width: at most.
-fn is_at_most(w: Width, a: u32, b: u32) -> bool
+pub fn is_at_most(w: Width, a: u32, b: u32) -> bool
     requires { w ≢ Width.Quad }
     ensures { result ≡ is_at_most w a b }
 {

@@ -1,5 +1,5 @@
 -- Bytes of one page: their places are one after the other, and one test is that of all.
-use Rattle.std.proofs.Common.{◌≡◌, ℕ, zero, suc, ◌+◌, ◌*◌, ◌/◌, ◌%◌, ◌^◌, ◌<◌, ◌≤◌, Bool, true, false, List, [], ◌∷◌, Option, Some, None, Result, Ok, Err, refl, ap, sym, ◌∙◌, arith, slice_set}
+use Rattle.std.proofs.Common.{◌≡◌, ℕ, zero, suc, ◌+◌, ◌*◌, ◌/◌, ◌%◌, ◌^◌, ◌<◌, ◌≤◌, Bool, true, false, List, [], ◌∷◌, ◌++◌, Option, Some, None, Result, Ok, Err, refl, ap, sym, ◌∙◌, arith, slice_set}
 use Rattle.std.specs.Prelude.{if◌then◌else◌, slice_index}
 use Rattle.vax_arch.specs.declared.mode.Intent.{Intent}
 use Rattle.vax_arch.specs.declared.mode.Intent.TheVariants.{Write}
@@ -26,6 +26,7 @@ use Rattle.vax_paged.specs.Known.{known_space, place_known}
 use Rattle.vax_paged.specs.Paged.{at_byte, byte_at, is_clear_for, paged, placed, written_place}
 use Rattle.vax_paged.specs.declared.known.Known.{Known}
 use Rattle.vax_paged.proofs.Knowing.{next_known}
+use Rattle.vax_paged.proofs.Puts.{last_stored}
 
 same_page : (va : ℕ) → va % 512 + 1 < 512 → page_of (va + 1) ≡ page_of va
 same_page va h = omega arith
@@ -167,6 +168,16 @@ frame_in memory va p m i Beyond e = cc
 pub placed_frame : (memory : List ℕ) (w : World) (i : Intent) (va p : ℕ) → placed memory w i va ≡ Ok p → p % 512 ≡ va % 512
 unfolding place_in
 placed_frame memory w i va p e = frame_in memory va p (current_of w.psl.0) i (real_look memory (machine_tables w) (page_of va)) e
+
+-- a store of one page that is made after others, by the places of before
+pub stored_after : (before middle new : List ℕ) (w : World) (x : Store) (p : ℕ) (xs all : List Store) → IsStoreInPage before w x p → all ≡ xs ++ x ∷ [] →
+    middle ≡ all_stored (written_place before w) xs before → new ≡ stored_from (size_of x.width) p x.value middle → new ≡ all_stored (written_place before w) all before
+stored_after before middle new w x p xs all h is others e =
+    e
+    ∙ sym (stored_there before w (size_of x.width) x.va p x.value middle h.small h.in_page h.placed_at)
+    ∙ ap (λ (m : List ℕ). all_stored (written_place before w) (x ∷ []) m) others
+    ∙ sym (last_stored (written_place before w) xs x before)
+    ∙ ap (λ (ys : List Store). all_stored (written_place before w) ys before) (sym is)
 
 -- a store that lies whole in one page
 pub whole_stored : (memory new : List ℕ) (w : World) (x : Store) (p : ℕ) → IsStoreInPage memory w x p → new ≡ stored_from (size_of x.width) p x.value memory → new ≡ all_stored (written_place memory w) (x ∷ []) memory

@@ -149,7 +149,7 @@ is_known : (memory : List ℕ) (w : World) (ks : List Known) (n : ℕ) → AreKn
 is_known memory w ks n all k e = subst (IsKnownIn memory (machine_tables w) (current_of w.psl.0)) (get_or_from_slice_get ks n k k e) (all n k (slice_get_within ks n k e))
 
 given : (memory : List ℕ) (w : World) (ks : List Known) (i : Intent) (va p : ℕ) → AreKnown memory w ks → place_known ks i va ≡ Ok p → (k : Known) × Gives memory w i va p k
-given memory w ks i va p all h = given_in memory w i va p (slice_get ks (page_of va % 64)) (is_known memory w ks (page_of va % 64) all) h
+given memory w ks i va p all h = given_in memory w i va p (slice_get ks (page_of va % 256)) (is_known memory w ks (page_of va % 256) all) h
 
 pub known_placed : (memory : List ℕ) (w : World) (ks : List Known) (i : Intent) (va p : ℕ) → AreKnown memory w ks → place_known ks i va ≡ Ok p → placed memory w i va ≡ Ok p
 known_placed memory w ks i va p all h =
@@ -199,5 +199,5 @@ next_in i va p (Some k) h e =
 pub next_known : (ks : List Known) (i : Intent) (va p : ℕ) → va % 512 + 1 < 512 → place_known ks i va ≡ Ok p → place_known ks i (va + 1) ≡ Ok (p + 1)
 next_known ks i va p h e =
     let same : page_of (va + 1) ≡ page_of va = omega arith in
-    ap (λ (page : ℕ). place_in_known i (va + 1) (slice_get ks (page % 64))) same
-    ∙ next_in i va p (slice_get ks (page_of va % 64)) h e
+    ap (λ (page : ℕ). place_in_known i (va + 1) (slice_get ks (page % 256))) same
+    ∙ next_in i va p (slice_get ks (page_of va % 256)) h e

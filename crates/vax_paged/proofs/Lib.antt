@@ -1,6 +1,8 @@
+pub mod Crossing
 pub mod InPage
 pub mod Knowing
 pub mod Lookups
 pub mod Puts
+pub mod Tagging
 pub mod Watching
 pub mod Widths

@@ -1,5 +1,5 @@
 -- Stores as bytes at places.
-use Rattle.std.proofs.Common.{◌≡◌, ℕ, zero, suc, ◌+◌, ◌-◌, ◌/◌, ◌%◌, ◌^◌, ◌<◌, List, [], ◌∷◌, ◌++◌, slice_set, refl, ap, ◌∙◌, sym, arith, Option, Some, None, Bool, true, false, append_assoc}
+use Rattle.std.proofs.Common.{◌≡◌, ℕ, zero, suc, ◌+◌, ◌-◌, ◌/◌, ◌%◌, ◌^◌, ◌<◌, ◌≤◌, length, take, get_or, List, [], ◌∷◌, ◌++◌, slice_set, refl, ap, ◌∙◌, sym, arith, Option, Some, None, Bool, true, false, append_assoc}
 use Rattle.std.specs.Prelude.{if◌then◌else◌}
 use Rattle.vv_base.specs.Width.{size_of}
 use Rattle.vax_table.specs.Claims.{addresses}
@@ -47,7 +47,7 @@ put_behind place k a v p old new h small at is =
     ∙ append_assoc old (byte_put_at (place a) (v % 256) ∷ []) rest
     ∙ ap (λ (ps : List Put). old ++ ps) (sym (puts_step place k a v h small))
 
-same_addresses : (k a b : ℕ) → a % 2 ^ 32 ≡ b % 2 ^ 32 → addresses k a ≡ addresses k b
+pub same_addresses : (k a b : ℕ) → a % 2 ^ 32 ≡ b % 2 ^ 32 → addresses k a ≡ addresses k b
 same_addresses zero a b e = refl
 same_addresses (suc k) a b e =
     let next : (a + 1) % 2 ^ 32 ≡ (b + 1) % 2 ^ 32 = omega arith in
@@ -75,6 +75,22 @@ pub clear_both : (is_clear : ℕ → Bool) (xs ys : List ℕ) → first_clear is
 clear_both is_clear [] ys = refl
 clear_both is_clear (a ∷ xs) ys =
     ap (λ (z : Option ℕ). if is_clear a then Some a else z) (clear_both is_clear xs ys) ∙ clear_on a (first_clear is_clear xs) (first_clear is_clear ys) (is_clear a)
+
+last_of : {A : Type 0} (xs : List A) (d : A) → 1 ≤ length xs → xs ≡ take (length xs - 1) xs ++ get_or xs (length xs - 1) d ∷ []
+last_of [] d h = absurd (omega arith)
+last_of (x ∷ []) d h = refl
+last_of {A} (x ∷ y ∷ ys) d h =
+    let more : length (x ∷ y ∷ ys) - 1 ≡ suc (length (y ∷ ys) - 1) = omega arith in
+    ap (λ (zs : List A). x ∷ zs) (last_of (y ∷ ys) d (omega arith)) ∙ ap (λ (n : ℕ). take n (x ∷ y ∷ ys) ++ get_or (x ∷ y ∷ ys) n d ∷ []) (sym more)
+
+-- a list by its last element
+pub before_last : (xs : List Store) (d : Store) → 1 ≤ length xs → xs ≡ take (length xs - 1) xs ++ get_or xs (length xs - 1) d ∷ []
+before_last xs d h = last_of xs d h
+
+-- stores before a last one
+pub last_stored : (place : ℕ → ℕ) (xs : List Store) (x : Store) (memory : List ℕ) → all_stored place (xs ++ x ∷ []) memory ≡ all_stored place (x ∷ []) (all_stored place xs memory)
+last_stored place [] x memory = refl
+last_stored place (y ∷ ys) x memory = last_stored place ys x (bytes_stored place (size_of y.width) y.va y.value memory)
 
 pub ruleset byte_by_byte = (addresses_step)
 

@@ -1,5 +1,5 @@
 -- What is known stays so where no watched frame is stored to.
-use Rattle.std.proofs.Common.{◌≡◌, ℕ, zero, suc, ◌+◌, ◌/◌, ◌%◌, ◌^◌, ◌<◌, ◌≤◌, ◌==◌, Bool, true, false, List, [], ◌∷◌, length, get_or, set, slice_set, refl, ap, sym, ◌∙◌, subst, arith}
+use Rattle.std.proofs.Common.{◌≡◌, ℕ, zero, suc, ◌+◌, ◌/◌, ◌%◌, ◌^◌, ◌<◌, ◌≤◌, ◌==◌, Bool, true, false, List, [], ◌∷◌, length, get_or, set, slice_set, Ok, refl, ap, sym, ◌∙◌, subst, arith}
 use Rattle.std.specs.Prelude.{slice_index}
 use Rattle.std.proofs.lemmas.List.{get_or-set_other}
 use Rattle.std.proofs.lemmas.Bool.Decides.{nat_tests}
@@ -12,6 +12,7 @@ use Rattle.vax_table.specs.declared.effect.Store.{Store}
 use Rattle.vax_table.proofs.Tests.{eq_of}
 use Rattle.vax_paged.specs.InPage.{IsStoreInPage, stored_from}
 use Rattle.vax_paged.specs.Known.{Agrees, AreAllIn, AreAllKnown, IsSameBut, watches}
+use Rattle.vax_paged.specs.Paged.{placed}
 use Rattle.vax_paged.specs.declared.modes.KnownPages.{KnownPages}
 use Rattle.vax_paged.proofs.InPage.{placed_frame}
 use Rattle.vax_paged.proofs.Widths.{long_over}
@@ -26,10 +27,22 @@ elsewhere (suc k) p v memory at h =
 in_frame : (va p size j at : ℕ) → p % 512 ≡ va % 512 → va % 512 + size ≤ 512 → j < size → p + j ≡ at → at / 512 ≡ p / 512
 in_frame va p size j at same fits small here = omega (arith, same, fits, small, here)
 
-pub whole_elsewhere : (memory new : List ℕ) (w : World) (x : Store) (p : ℕ) → IsStoreInPage memory w x p → new ≡ stored_from (size_of x.width) p x.value memory → IsSameBut p p memory new
-whole_elsewhere memory new w x p h e = λ at away again.
+pub stored_elsewhere : (before memory new : List ℕ) (w : World) (x : Store) (p : ℕ) → IsStoreInPage before w x p → new ≡ stored_from (size_of x.width) p x.value memory → IsSameBut p p memory new
+stored_elsewhere before memory new w x p h e = λ at away again.
     ap (λ (m : List ℕ). slice_index m at) e
-    ∙ elsewhere (size_of x.width) p x.value memory at (λ j small here. away (in_frame x.va p (size_of x.width) j at (placed_frame memory w Write x.va p h.placed_at) h.in_page small here))
+    ∙ elsewhere (size_of x.width) p x.value memory at (λ j small here. away (in_frame x.va p (size_of x.width) j at (placed_frame before w Write x.va p h.placed_at) h.in_page small here))
+
+pub whole_elsewhere : (memory new : List ℕ) (w : World) (x : Store) (p : ℕ) → IsStoreInPage memory w x p → new ≡ stored_from (size_of x.width) p x.value memory → IsSameBut p p memory new
+whole_elsewhere memory new w x p h e = stored_elsewhere memory memory new w x p h e
+
+-- nor those that are beside a store's two parts
+pub parts_elsewhere : (memory middle new : List ℕ) (w : World) (va next low high a b v rest : ℕ) → placed memory w Write va ≡ Ok low → placed memory w Write next ≡ Ok high → va % 512 + a ≤ 512 → next % 512 + b ≤ 512 →
+    middle ≡ stored_from a low v memory → new ≡ stored_from b high rest middle → IsSameBut low high memory new
+parts_elsewhere memory middle new w va next low high a b v rest low_at high_at low_fits high_fits one two = λ at away again.
+    ap (λ (m : List ℕ). slice_index m at) two
+    ∙ elsewhere b high rest middle at (λ j small here. again (in_frame next high b j at (placed_frame memory w Write next high high_at) high_fits small here))
+    ∙ ap (λ (m : List ℕ). slice_index m at) one
+    ∙ elsewhere a low v memory at (λ j small here. away (in_frame va low a j at (placed_frame memory w Write va low low_at) low_fits small here))
 
 -- one of two frames has each byte of a longword
 one_of_two : (p j at : ℕ) (b : Bool) → (at / 512 == p / 512) ≡ b → j < 4 → p + j ≡ at → (at / 512 ≡ p / 512 → ⊥) → (at / 512 ≡ (p + 3) / 512 → ⊥) → ⊥
@@ -48,7 +61,7 @@ apart marks mark at place holds lacks e =
     let same : watches marks mark at ≡ watches marks mark place = ap (λ (n : ℕ). get_or marks n mark == mark) e in
     cc
 
-still : (memory other : List ℕ) (t : Tables) (p : KnownPages) (first last : ℕ) → watches p.marks.items p.mark first ≡ false → watches p.marks.items p.mark last ≡ false → AreAllKnown memory t p → IsSameBut first last memory other → AreAllKnown other t p
+pub still : (memory other : List ℕ) (t : Tables) (p : KnownPages) (first last : ℕ) → watches p.marks.items p.mark first ≡ false → watches p.marks.items p.mark last ≡ false → AreAllKnown memory t p → IsSameBut first last memory other → AreAllKnown other t p
 still memory other t p first last one two all same = λ third agrees. all third (λ at holds. agrees at holds ∙ same at (apart p.marks.items p.mark at first holds one) (apart p.marks.items p.mark at last holds two))
 
 pub still_known : (memory other : List ℕ) (t : Tables) (old new : KnownPages) (first last : ℕ) → new ≡ old → watches old.marks.items old.mark first ≡ false → watches old.marks.items old.mark last ≡ false → AreAllKnown memory t old → IsSameBut first last memory other → AreAllKnown other t new

@@ -1,5 +1,5 @@
 -- Numbers in one page: their bytes lie one after the other in the machine.
-use Rattle.std.specs.Prelude.{◌≡◌, ℕ, zero, suc, ◌+◌, ◌*◌, ◌/◌, ◌%◌, ◌≤◌, ◌<◌, ◌^◌, List, length, slice_index, slice_set, Result, Ok, Err}
+use Rattle.std.specs.Prelude.{◌≡◌, ℕ, zero, suc, ◌+◌, ◌-◌, ◌*◌, ◌/◌, ◌%◌, ◌≤◌, ◌<◌, ◌^◌, List, length, slice_index, slice_set, Result, Ok, Err}
 use Rattle.vv_base.specs.Width.{size_of}
 use Rattle.vax_arch.specs.declared.mode.Intent.TheVariants.{Write}
 use Rattle.vax_hw.specs.declared.world.World.{World}
@@ -22,9 +22,23 @@ abbrev pub stored_from : (k place v : ℕ) → List ℕ → List ℕ
 stored_from zero place v memory = memory
 stored_from (suc k) place v memory = stored_from k (place + 1) (v / 256) (slice_set memory place (v % 256))
 
+-- what of a number is above its lowest k bytes
+abbrev pub above_bytes : (k v : ℕ) → ℕ
+above_bytes zero v = v
+above_bytes (suc k) v = above_bytes k (v / 256)
+
 -- a store in one page, which memory has whole from a place
 pub record IsStoreInPage (memory : List ℕ) (w : World) (x : Store) (place : ℕ) : Type 0 where
   pub placed_at : placed memory w Write x.va ≡ Ok place
   pub small : x.va < 2 ^ 32
   pub in_page : x.va % 512 + size_of x.width ≤ 512
   pub in_memory : place + size_of x.width ≤ length memory
+
+-- a store over a page's end, whose parts memory has whole from two places
+pub record IsStoreOverEnd (memory : List ℕ) (w : World) (x : Store) (low high : ℕ) : Type 0 where
+  pub placed_at : placed memory w Write x.va ≡ Ok low
+  pub next_at : placed memory w Write ((x.va + (512 - x.va % 512)) % 2 ^ 32) ≡ Ok high
+  pub small : x.va < 2 ^ 32
+  pub over_end : 512 < x.va % 512 + size_of x.width
+  pub low_in_memory : low + (512 - x.va % 512) ≤ length memory
+  pub high_in_memory : high + (size_of x.width - (512 - x.va % 512)) ≤ length memory

@@ -67,7 +67,7 @@ place_in_known i va None = Err interaction.Absent
 place_in_known i va (Some k) = if (page_for i k == page_of va) && nat_lt va (2 ^ 32) then Ok (k.base + va % 512) else Err interaction.Absent
 
 abbrev pub place_known : List Known → Intent → ℕ → Result ℕ Cause
-place_known ks i va = place_in_known i va (slice_get ks (page_of va % 64))
+place_known ks i va = place_in_known i va (slice_get ks (page_of va % 256))
 
 -- known pages as a space for instructions: what isn't known isn't there
 abbrev pub known_space : List ℕ → List Known → Space

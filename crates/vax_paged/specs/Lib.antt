@@ -2,3 +2,4 @@ pub mod InPage
 pub mod Known
 pub mod Paged
 pub mod Puts
+pub mod Tagged

@@ -12,12 +12,13 @@ ghost use Rattle.vax_table.specs.PlanLaws.{bytes_of_stores};
 ghost use Rattle.vax_table.specs.Interaction.{number_at};
 ghost use Rattle.vax_table.specs.Tries.{first_clear};
 ghost use Rattle.vax_table.specs.Troubles.{intent_of, with_trouble};
-ghost use Rattle.vax_paged.specs.InPage.{IsStoreInPage};
+ghost use Rattle.vax_paged.specs.InPage.{IsStoreInPage, IsStoreOverEnd};
 ghost use Rattle.vax_paged.specs.Known.{AreKnown, IsKnownIn, IsLearned, known_space, page_for, place_known, place_or_absent};
 ghost use Rattle.vax_paged.specs.Paged.{is_clear_for};
 
 use crate::entries::{Look, Paged};
 use crate::memory::{byte_in, long_in, number_in};
+use crate::pages::ModePages;
 use std::cell::Cell;
 use vax_arch::{Intent, Mode, Pte, REGION, may};
 use vax_hw::World;
@@ -44,29 +45,6 @@ pub struct Learned {
     pub table: usize,
     /// The place of the page's entry.
     pub place: usize,
-}
-
-impl Known {
-    /// Nothing is known.
-    pub fn nothing() -> Known
-        ensures { (memory : List ℕ) (t : Tables) (m : Mode) → IsKnownIn memory t m result }
-    {
-        Known {
-            read_page: 0xFFFF_FFFF,
-            write_page: 0xFFFF_FFFF,
-            base: 0,
-        }
-    }
-
-    fn page_for(&self, write: bool) -> u32
-        ensures { result ≡ page_for (intent_of write) self.now }
-    {
-        if write {
-            self.write_page
-        } else {
-            self.read_page
-        }
-    }
 }
 
 /// The number of a page that is open.
@@ -137,7 +115,7 @@ impl Paged<'_> {
 #[derive(Clone, Copy)]
 pub struct Mapped<'a> {
     pub memory: &'a [u8],
-    pub known: &'a [Known; 64],
+    pub known: &'a ModePages,
     pub missed: &'a Cell<u32>,
 }
 
@@ -148,14 +126,10 @@ impl Mapped<'_> {
         ensures is { place_or_absent result ≡ place_known self.now.known.now (intent_of write) va }
         ensures small { IfSome result (λ place. place < 2 ^ 32 + 512) }
     {
-        let page = va / 512;
-        let pages = self.known;
-        if let Some(known) = pages.get((page % 64) as usize) {
-            if known.page_for(write) == page {
-                return Some(known.base as usize + va as usize % 512);
-            }
+        if let Some(place) = self.known.place(va, write) {
+            return Some(place);
         }
-        self.missed.set(page);
+        self.missed.set(va / 512);
         None
     }
 
@@ -216,13 +190,48 @@ impl Mapped<'_> {
         }
     }
 
-    /// Whether a store lies in one known page, so that its modify bit is set.
+    /// The places of both parts of a store over a page's end, where both pages are known and memory has them whole.
+    pub fn places_over_end(&self, world: &World, store: &Store) -> Option<(usize, usize)>
+        requires { AreKnown self.now.memory.now world.now self.now.known.now }
+        ensures { IfSome result (λ places. IsStoreOverEnd self.now.memory.now world.now store.now places.0 places.1) }
+    {
+        let first = 512 - store.va % 512;
+        let bytes = u32::from(store.width.bytes());
+        if bytes <= first {
+            return None;
+        }
+        let low = self.place(store.va, true)?;
+        let high = self.place(store.va.wrapping_add(first), true)?;
+        let size = self.memory.len();
+        if low + first as usize <= size && high + (bytes - first) as usize <= size {
+            Some((low, high))
+        } else {
+            None
+        }
+    }
+
+    /// Whether both pages of bytes over a page's end are known for writing, so that their modify bits are set.
+    fn is_modified_over_end(&self, world: &World, va: u32, bytes: u32) -> bool
+        requires known { AreKnown self.now.memory.now world.now self.now.known.now }
+        requires over_end { 512 < va % 512 + bytes }
+        requires few { bytes ≤ 8 }
+        ensures { result ≡ true → first_clear (is_clear_for self.now.memory.now world.now) (addresses bytes va) ≡ None }
+    {
+        let next = va.wrapping_add(512 - va % 512);
+        match (self.place(va, true), self.place(next, true)) {
+            (Some(_), Some(_)) => true,
+            _ => false,
+        }
+    }
+
+    /// Whether the pages of a store are known for writing, so that their modify bits are set.
     fn is_modified(&self, world: &World, store: &Store) -> bool
         requires { AreKnown self.now.memory.now world.now self.now.known.now }
         ensures { result ≡ true → first_clear (is_clear_for self.now.memory.now world.now) (addresses (size_of store.now.width) store.now.va) ≡ None }
     {
-        if store.va % 512 + u32::from(store.width.bytes()) > 512 {
-            return false;
+        let bytes = u32::from(store.width.bytes());
+        if store.va % 512 + bytes > 512 {
+            return self.is_modified_over_end(world, store.va, bytes);
         }
         match self.place(store.va, true) {
             Some(_) => true,
@@ -230,7 +239,7 @@ impl Mapped<'_> {
         }
     }
 
-    /// Whether each store lies in one known page, so that no modify bit of theirs is clear.
+    /// Whether the pages of each store are known for writing, so that no modify bit of theirs is clear.
     #[tactic(auto, using(crate::proofs::Puts::store_by_store))]
     pub fn may_store(&self, world: &World, stores: &[Store]) -> bool
         requires { AreKnown self.now.memory.now world.now self.now.known.now }

@@ -5,6 +5,7 @@ mod entries;
 mod known;
 mod memory;
 mod modes;
+mod pages;
 mod space;
 mod stores;
 
@@ -12,4 +13,5 @@ pub use entries::{Entry, Paged};
 pub use known::{Known, Learned, Mapped};
 pub use memory::{byte_in, number_in};
 pub use modes::KnownPages;
+pub use pages::ModePages;
 pub use stores::store_all;

@@ -2,7 +2,7 @@ ghost use Rattle.std.specs.Prelude.{◌≡◌, ◌+◌, ◌*◌, ◌≤◌, ◌<
 ghost use Rattle.vv_base.specs.Bytes.{long_at};
 ghost use Rattle.vv_base.specs.Width.{size_of};
 ghost use Rattle.vax_hw.specs.RealTables.{everywhere};
-ghost use Rattle.vax_paged.specs.InPage.{number_from, stored_from};
+ghost use Rattle.vax_paged.specs.InPage.{above_bytes, number_from, stored_from};
 
 use vv_base::{Width, get_u16, get_u32, put_u16, put_u32};
 
@@ -125,4 +125,17 @@ pub fn store_in(memory: &mut [u8], place: usize, w: Width, value: u64)
             );
         }
     }
+}
+
+/// Stores so many low bytes of a number from a place on, the lowest first. Answers the number above them.
+pub fn store_bytes(memory: &mut [u8], place: usize, bytes: u32, value: u64) -> u64
+    requires { place + bytes ≤ length memory.old }
+    ensures memory { memory.new ≡ stored_from bytes place value memory.old }
+    ensures above { result ≡ above_bytes bytes value }
+{
+    if bytes == 0 {
+        return value;
+    }
+    memory[place] = (value % 0x100) as u8;
+    store_bytes(memory, place + 1, bytes - 1, value / 0x100)
 }

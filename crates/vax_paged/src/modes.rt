@@ -4,18 +4,19 @@ ghost use Rattle.vax_hw.specs.RealTables.{everywhere};
 ghost use Rattle.vax_paged.specs.Known.{AreAllIn, AreAllKnown, AreKnownIn, IsKnownIn, IsLearned, IsSameBut, watches};
 
 use crate::known::{Known, Learned};
+use crate::pages::ModePages;
 use std::alloc::Global;
 use vax_arch::Mode;
 use vv_base::NoMemory;
 
-/// The pages that are known in each mode, each at its number modulo 64, and the frames of memory whose stores are watched,
+/// The pages that are known in each mode, and the frames of memory whose stores are watched,
 /// since what is known rests on them: those that have the present mark.
 #[derive(Drop)]
 pub struct KnownPages {
-    pub kernel: [Known; 64],
-    pub executive: [Known; 64],
-    pub supervisor: [Known; 64],
-    pub user: [Known; 64],
+    pub kernel: ModePages,
+    pub executive: ModePages,
+    pub supervisor: ModePages,
+    pub user: ModePages,
     pub marks: Vec<u32>,
     pub mark: u32,
 }
@@ -26,30 +27,29 @@ impl KnownPages {
         ensures { IfOk result (λ p. (memory : List ℕ) (t : Tables) → AreAllKnown memory t p) }
     {
         Ok(KnownPages {
-            kernel: [Known::nothing(); 64],
-            executive: [Known::nothing(); 64],
-            supervisor: [Known::nothing(); 64],
-            user: [Known::nothing(); 64],
+            kernel: ModePages::nothing(),
+            executive: ModePages::nothing(),
+            supervisor: ModePages::nothing(),
+            user: ModePages::nothing(),
             marks: vec![in alloc; 0; pages as usize]?,
             mark: 1,
         })
     }
 
     /// None is known any more, and no store is watched.
-    #[cold]
     #[inline(never)]
     pub fn forget(&mut self)
         ensures { (memory : List ℕ) (t : Tables) → AreAllKnown memory t self.new }
     {
-        self.kernel = [Known::nothing(); 64];
-        self.executive = [Known::nothing(); 64];
-        self.supervisor = [Known::nothing(); 64];
-        self.user = [Known::nothing(); 64];
+        self.kernel.forget();
+        self.executive.forget();
+        self.supervisor.forget();
+        self.user.forget();
         self.mark = self.mark.wrapping_add(1);
     }
 
     /// Those of a mode.
-    pub fn of(&self, m: Mode) -> &[Known; 64]
+    pub fn of(&self, m: Mode) -> &ModePages
         ensures { (memory : List ℕ) (t : Tables) → AreAllKnown memory t self.now → AreKnownIn memory t m result.now }
     {
         match m {
@@ -61,7 +61,7 @@ impl KnownPages {
     }
 
     /// Whether stores to the frame of a place are watched.
-    fn watches(&self, place: usize) -> bool
+    pub fn watches(&self, place: usize) -> bool
         ensures { result ≡ watches self.now.marks.items self.now.mark place }
     {
         match self.marks.get(place / 512) {
@@ -103,16 +103,16 @@ impl KnownPages {
 
     /// A page is known in a mode.
     fn put(&mut self, m: Mode, at: usize, known: Known)
-        requires { at < 64 }
+        requires { at < 256 }
         ensures marks { self.new.marks ≡ self.old.marks }
         ensures mark { self.new.mark ≡ self.old.mark }
         ensures known { (memory : List ℕ) (t : Tables) → AreAllIn memory t self.old → IsKnownIn memory t m known → AreAllIn memory t self.new }
     {
         match m {
-            Mode::Kernel => self.kernel[at] = known,
-            Mode::Executive => self.executive[at] = known,
-            Mode::Supervisor => self.supervisor[at] = known,
-            Mode::User => self.user[at] = known,
+            Mode::Kernel => self.kernel.put(at, known),
+            Mode::Executive => self.executive.put(at, known),
+            Mode::Supervisor => self.supervisor.put(at, known),
+            Mode::User => self.user.put(at, known),
         }
     }
 
@@ -124,6 +124,6 @@ impl KnownPages {
     {
         self.watch(learned.table);
         self.watch(learned.place);
-        self.put(m, (page % 64) as usize, learned.known);
+        self.put(m, (page % 256) as usize, learned.known);
     }
 }

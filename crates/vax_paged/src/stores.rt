@@ -1,4 +1,4 @@
-ghost use Rattle.std.specs.Prelude.{◌≡◌, ◌+◌, ◌*◌, ◌≤◌, ◌<◌, ◌^◌, ◌++◌, [], ◌∷◌, length, IfSome};
+ghost use Rattle.std.specs.Prelude.{◌≡◌, ◌+◌, ◌*◌, ◌≤◌, ◌<◌, ◌^◌, ◌++◌, [], ◌∷◌, false, length, if◌then◌else◌, IfSome};
 ghost use Rattle.vv_base.specs.Width.{size_of};
 ghost use Rattle.arrayvec.specs.ArrayVec.{array_vec_len};
 ghost use Rattle.vax_table.specs.Claims.{addresses};
@@ -9,13 +9,14 @@ ghost use Rattle.vax_paged.specs.Puts.{made, puts_from, puts_of};
 ghost use Rattle.vax_paged.specs.InPage.{IsStoreInPage};
 ghost use Rattle.vax_arch.specs.Walk.{Tables};
 ghost use Rattle.vax_hw.specs.Machine.{machine_tables};
-ghost use Rattle.vax_paged.specs.Known.{AreAllKnown, AreKnown};
+ghost use Rattle.vax_paged.specs.Known.{AreAllKnown, AreKnown, watches};
 ghost use Rattle.vax_paged.specs.Paged.{is_clear_for, written_place};
 
 use crate::entries::{Entry, Paged};
-use crate::known::{Known, Mapped};
-use crate::memory::{store_byte, store_in};
+use crate::known::Mapped;
+use crate::memory::{store_byte, store_bytes, store_in};
 use crate::modes::KnownPages;
+use crate::pages::ModePages;
 use arrayvec::ArrayVec;
 use std::cell::Cell;
 use vax_hw::World;
@@ -175,7 +176,7 @@ fn walked_place(memory: &[u8], world: &World, store: &Store) -> Option<usize>
 fn whole_place(
     memory: &[u8],
     world: &World,
-    known: &[Known; 64],
+    known: &ModePages,
     missed: &Cell<u32>,
     store: &Store,
 ) -> Option<usize>
@@ -190,6 +191,122 @@ fn whole_place(
     match space.whole_place(world, store) {
         Some(place) => Some(place),
         None => walked_place(memory, world, store),
+    }
+}
+
+/// The place of a store that lies in one known page, whose frame isn't watched.
+fn unwatched_place(
+    memory: &[u8],
+    world: &World,
+    known: &KnownPages,
+    missed: &Cell<u32>,
+    store: &Store,
+) -> Option<usize>
+    requires { AreAllKnown memory.now (machine_tables world.now) known.now }
+    ensures whole { IfSome result (λ place. IsStoreInPage memory.now world.now store.now place) }
+    ensures unwatched { IfSome result (λ place. watches known.now.marks.items known.now.mark place ≡ false) }
+{
+    let space = Mapped {
+        memory,
+        known: known.of(world.psl.current()),
+        missed,
+    };
+    match space.whole_place(world, store) {
+        Some(place) if !known.watches(place) => Some(place),
+        _ => None,
+    }
+}
+
+/// Makes stores in order, if each lies in one known page whose frame isn't watched, so that what is known stays so. The last
+/// one's place is found before the others are made, and it is made after them. Answers whether they were made.
+fn store_each(
+    memory: &mut [u8],
+    world: &World,
+    known: &KnownPages,
+    missed: &Cell<u32>,
+    stores: &[Store],
+) -> bool
+    requires { AreAllKnown memory.old (machine_tables world.now) known.now }
+    ensures memory { memory.new ≡ (if result then all_stored (written_place memory.old world.now) stores.now memory.old else memory.old) }
+    ensures known { AreAllKnown memory.new (machine_tables world.now) known.now }
+{
+    let [before @ .., last] = stores else {
+        return true;
+    };
+    let Some(place) = unwatched_place(&*memory, world, known, missed, last) else {
+        return false;
+    };
+    if !store_each(memory, world, known, missed, before) {
+        return false;
+    }
+    store_in(memory, place, last.width, last.value);
+    true
+}
+
+/// Makes several stores.
+fn store_several(
+    memory: &mut [u8],
+    world: &World,
+    known: &mut KnownPages,
+    missed: &Cell<u32>,
+    stores: &[Store],
+)
+    requires memory { length memory.old < 2 ^ 32 }
+    requires known { AreAllKnown memory.old (machine_tables world.now) known.old }
+    requires few { length stores.now ≤ 20 }
+    ensures memory { memory.new ≡ all_stored (written_place memory.old world.now) stores.now memory.old }
+    ensures known { AreAllKnown memory.new (machine_tables world.now) known.new }
+{
+    if !store_each(memory, world, &*known, missed, stores) {
+        store_by_bytes(memory, world, known, stores);
+    }
+}
+
+/// Makes a store that goes over a page's end, if both its pages are known. Answers whether it was made.
+fn store_over_end(
+    memory: &mut [u8],
+    world: &World,
+    known: &mut KnownPages,
+    missed: &Cell<u32>,
+    store: &Store,
+) -> bool
+    requires { AreAllKnown memory.old (machine_tables world.now) known.old }
+    ensures memory { memory.new ≡ (if result then all_stored (written_place memory.old world.now) (store.now ∷ []) memory.old else memory.old) }
+    ensures known { AreAllKnown memory.new (machine_tables world.now) known.new }
+{
+    let space = Mapped {
+        memory: &*memory,
+        known: known.of(world.psl.current()),
+        missed,
+    };
+    let Some((low, high)) = space.places_over_end(world, store) else {
+        return false;
+    };
+    let first = 512 - store.va % 512;
+    let bytes = u32::from(store.width.bytes());
+    let rest = store_bytes(memory, low, first, store.value);
+    store_bytes(memory, high, bytes - first, rest);
+    known.stored(low, high);
+    true
+}
+
+/// Makes one store that doesn't lie in one page.
+#[cold]
+#[inline(never)]
+fn store_crossing(
+    memory: &mut [u8],
+    world: &World,
+    known: &mut KnownPages,
+    missed: &Cell<u32>,
+    store: &Store,
+)
+    requires memory { length memory.old < 2 ^ 32 }
+    requires known { AreAllKnown memory.old (machine_tables world.now) known.old }
+    ensures memory { memory.new ≡ all_stored (written_place memory.old world.now) (store.now ∷ []) memory.old }
+    ensures known { AreAllKnown memory.new (machine_tables world.now) known.new }
+{
+    if !store_over_end(memory, world, known, missed, store) {
+        store_by_bytes(memory, world, known, &[*store]);
     }
 }
 
@@ -212,7 +329,7 @@ fn store_one(
             store_in(memory, place, store.width, store.value);
             known.stored(place, place);
         }
-        None => store_by_bytes(memory, world, known, &[*store]),
+        None => store_crossing(memory, world, known, missed, store),
     }
 }
 
@@ -233,6 +350,6 @@ pub fn store_all(
     match stores {
         [] => {}
         [store] => store_one(memory, world, known, missed, store),
-        _ => store_by_bytes(memory, world, known, stores),
+        _ => store_several(memory, world, known, missed, stores),
     }
 }

@@ -2,7 +2,7 @@ use Rattle.std.proofs.Common.{◌≡◌, ◌<◌, ◌≤◌, ◌+◌, ◌++◌, 
 use Rattle.std.specs.Prelude.{slice_index}
 use Rattle.std.proofs.lemmas.List.{get_or-drop, take-append-le}
 use Rattle.vax_table.specs.Reading.{Whole, decoded_at}
-use Rattle.vax_table.specs.Spelling.{view}
+use Rattle.vax_table.specs.Spelling.{IsWellFormed, view}
 use Rattle.vax_table.specs.declared.decoded.Decoded.{Decoded}
 use Rattle.vax_cpu.proofs.fetch.keep.Goals as goal
 
@@ -39,3 +39,6 @@ invariant_of-result-clause-spelled c =
     ap decoded_at (take-append-le c.args.decoded.length c.copy_from_slice.new.self (drop (length c.args.bytes.now) c.args.window.now) room
     ∙ ap (λ (xs : List ℕ). take c.args.decoded.length xs) c.copy_from_slice.ensures.after) ∙ c.requires.spelled in
     subst (λ (d : Decoded). decoded_at (take d.length (c.copy_from_slice.new.self ++ drop (length c.args.bytes.now) c.args.window.now)) ≡ Whole (view d) []) (sym c.new-prepared.ensures) spelled
+
+pub normal_of-requires : goal.normal_of-requires
+normal_of-requires c = subst (λ (d : Decoded). IsWellFormed (view d)) (sym c.new-prepared.ensures) c.requires.formed

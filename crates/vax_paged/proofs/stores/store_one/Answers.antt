@@ -9,6 +9,3 @@ returns-in-Some-clause-memory c = whole_stored c.args.memory.now c.store_in.new.
 pub returns-in-Some-clause-known : goal.returns-in-Some-clause-known
 returns-in-Some-clause-known c = c.stored.ensures c.args.memory.now c.store_in.new.memory (machine_tables c.args.world.now) c.requires.known
     (whole_elsewhere c.args.memory.now c.store_in.new.memory c.args.world.now c.args.store.now c.in-Some.place c.in-Some.ensures c.store_in.ensures)
-
-pub returns-in-None-clause-known : goal.returns-in-None-clause-known
-returns-in-None-clause-known c = c.store_by_bytes.ensures.known (machine_tables c.args.world.now) c.requires.known

@@ -1,5 +1,5 @@
 use Rattle.std.proofs.Common.{◌≡◌, ◌*◌, ◌≤◌, ◌^◌, sum, take}
-use Rattle.vax_cpu.proofs.changed.sum_of.Given as goal
+use Rattle.vax_normal.proofs.total.sum_of.Given as goal
 
 abbrev pub invariant-loop-register : goal.invariant-loop-register
 invariant-loop-register l = record {

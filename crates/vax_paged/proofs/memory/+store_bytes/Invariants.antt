@@ -1,0 +1,4 @@
+use Rattle.vax_paged.proofs.memory.+store_bytes.Given as goal
+
+abbrev pub decreases-store_bytes : goal.decreases-store_bytes
+decreases-store_bytes l = l.bytes
