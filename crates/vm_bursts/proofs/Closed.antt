@@ -37,7 +37,7 @@ without_first n k opened e =
     subst (λ b. is_opened k (if not b then n ∷ closed_for n opened else closed_for n opened) ≡ false) (sym same) (less_opened (λ j. not (j == n)) k opened e)
 
 keeps_fewer : (pending : List ℕ) (n : ℕ) (opened : List ℕ) (memory : List ℕ) (s : Shadowed) → Keeps pending (closed_for n (n ∷ opened)) memory s → Keeps pending opened memory s
-keeps_fewer pending n opened memory s k = record { fits = k.fits; entries = k.entries; guarded = λ i j h c o v x. k.guarded i j h c (without_first n j opened o) v x; writes = k.writes }
+keeps_fewer pending n opened memory s k = record { fits = k.fits; remembers = k.remembers; entries = k.entries; guarded = λ i j h c o v x. k.guarded i j h c (without_first n j opened o) v x; writes = k.writes }
 
 -- what was read from one of some frames is pending of them
 pub pending_in : (f : ℕ) (xs : List ℕ) (x : Option Source) → IsIn f xs → is_read_from f x ≡ true → is_pending xs x ≡ true

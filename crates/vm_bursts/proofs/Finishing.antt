@@ -5,7 +5,7 @@ use Rattle.vax_hw.specs.Real.{misses_after}
 use Rattle.vax_hw.specs.declared.world.Exit.{Exit}
 use Rattle.vax_hw.specs.declared.world.Exit.TheVariants.{Arithmetic, Budget, Denied, Emulate, Modify, NotValid, Refused}
 use Rattle.vax_hw.specs.declared.world.World.{World}
-use Rattle.vm_bursts.specs.Guarded.{IsCompleted, IsGuarded, IsTried, IsUnfinished, RunsOne, StaysGuarded, StepsGuarded, with_trap_of}
+use Rattle.vm_bursts.specs.Guarded.{CanAllow, IsCompleted, IsGuarded, IsTried, IsUnfinished, RunsOne, RunsSome, StaysGuarded, StepsGuarded, with_trap_of}
 use Rattle.vm_bursts.specs.declared.bursts.Ended.{Ended}
 use Rattle.vm_bursts.proofs.Running.{loaded, loads_world, rise_is, zero_bits}
 use Rattle.vm_shadow.specs.Shadowed.{Shadowed}
@@ -123,3 +123,11 @@ module _ (m : Machine) (s : Shadowed) (g : GuestState) (x : Ended) (w : World) (
 
   pub is_guarded : IsGuarded x.exit m s g x.terms m2 s2 g2
   is_guarded = by_exit x.exit tried_is
+
+-- the machine runs the guest, once that is loaded
+pub runs_loaded : (m : Machine) (s : Shadowed) (g : GuestState) (w : World) → StandsFor m.memory s g → w ≡ world_of s g → RunsSome (record m { world = w }) s g
+runs_loaded m s g w k is = record { opened = []; runs = subst (λ v. RunsGuest [] (record m { world = v }) s g) (sym is) (loaded m s g k) }
+
+-- a page may be made writable whatever is loaded
+pub written_loaded : (va : ℕ) (m : Machine) (w : World) (s : Shadowed) (g : GuestState) → CanAllow va m s g → CanAllow va (record m { world = w }) s g
+written_loaded va m w s g a = record { fits = a.fits; partition = a.partition; unwritten = a.unwritten; set = a.set }

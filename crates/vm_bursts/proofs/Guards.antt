@@ -1,15 +1,12 @@
 -- A page is made writable, and closed again.
-use Rattle.std.proofs.Common.{◌≡◌, ℕ, ◌*◌, ◌/◌, Bool, true, false, List, Option, Some, None, Ok, refl, ap, ◌∙◌, sym, subst}
+use Rattle.std.proofs.Common.{◌≡◌, ℕ, ◌*◌, Bool, true, false, List, Option, Some, None, refl, ap, ◌∙◌, sym, subst}
 use Rattle.vax_arch.specs.Walk.{page_of}
-use Rattle.vax_arch.specs.declared.mode.Intent.TheVariants.{Write}
 use Rattle.vax_hw.specs.Machine.{Machine}
-use Rattle.vm_bursts.specs.Guarded.{CanAllow, CanClose, ClosesAfter, ClosesOne, GrantsOrOpens}
+use Rattle.vm_bursts.specs.Guarded.{CanClose, ClosesAfter, ClosesOne, GrantsOrOpens}
 use Rattle.vm_shadow.specs.Calls.{OnlyTables}
-use Rattle.vm_shadow.specs.Shadowed.{Fits, Shadowed}
+use Rattle.vm_shadow.specs.Shadowed.{Fits, Shadowed, mapped_frame, real_at}
 use Rattle.vm_shadow.specs.StandsFor.{ClosesPage, GrantsOrLeaves, Notes, OpensPage, own_number}
-use Rattle.vm_simulation_laws.specs.Laws.{place_here}
 use Rattle.vm_state.specs.Partition.{IsApart}
-use Rattle.vm_state.specs.declared.guest_state.GuestState.{GuestState}
 
 -- one change of the tables after another
 apart_then : (at n : ℕ) (a b c : List ℕ) → IsApart at n a b → IsApart at n b c → IsApart at n a c
@@ -18,7 +15,7 @@ apart_then at n a b c p q = record { front = q.front ∙ p.front; back = q.back 
 pub tables_then : (at : ℕ) (a b c : Machine) → OnlyTables at a b → OnlyTables at b c → OnlyTables at a c
 tables_then at a b c p q = record { rest = q.rest ∙ ap (λ (x : Machine). record x { memory = c.memory }) p.rest; tables = apart_then (512 * at) (512 * 580) a.memory b.memory c.memory p.tables q.tables }
 
-module _ (va : ℕ) (m : Machine) (s : Shadowed) (g : GuestState) (can : CanAllow va m s g) where
+module _ (va : ℕ) (m : Machine) (s : Shadowed) where
   abbrev pub entry_of : ℕ
   entry_of = own_number s (page_of va)
 
@@ -30,12 +27,11 @@ module _ (va : ℕ) (m : Machine) (s : Shadowed) (g : GuestState) (can : CanAllo
   not_granted true m' s' e k = cc
   not_granted false m' s' e k = k
 
-  pub is_opened : (b : Bool) (m1 m' : Machine) (s1 s' : Shadowed) (frame : ℕ) → b ≡ false → GrantsOrLeaves b entry_of m s m1 s1 → ((pa : ℕ) → place_here m1.memory g Write va ≡ Ok pa → frame ≡ pa / 512) → OpensPage (own_number s1 (page_of va)) m1 s1 m' s' → GrantsOrOpens va m s (Some frame) m' s'
+  pub is_opened : (b : Bool) (m1 m' : Machine) (s1 s' : Shadowed) (frame : ℕ) → b ≡ false → GrantsOrLeaves b entry_of m s m1 s1 → frame ≡ mapped_frame s1 (real_at m1.memory s1 (own_number s1 (page_of va))) → OpensPage (own_number s1 (page_of va)) m1 s1 m' s' → GrantsOrOpens va m s (Some frame) m' s'
   is_opened b m1 m' s1 s' frame e granted at opens =
       let same = not_granted b m1 s1 e granted in
       let k : OpensPage entry_of m s m' s' = (subst (λ x. OpensPage (own_number x (page_of va)) m x m' s') same.1 (subst (λ x. OpensPage (own_number s1 (page_of va)) x s1 m' s') same.0 opens)) in
-      let home : place_here m1.memory g Write va ≡ Ok can.unwritten.home = subst (λ (x : Machine). place_here x.memory g Write va ≡ Ok can.unwritten.home) (sym same.0) can.unwritten.place in
-      record { keeps = k.keeps; told = at can.unwritten.home home ∙ sym can.unwritten.frame; entry = k.entry; others = k.others; rest = k.rest; only = k.only }
+      record { keeps = k.keeps; told = at ∙ (λ i. mapped_frame (same.1 i) (real_at (same.0 i).memory (same.1 i) (own_number (same.1 i) (page_of va)))); entry = k.entry; others = k.others; rest = k.rest; only = k.only }
 
 -- after an instruction
 pub fits_noted : (frame : ℕ) (m m1 : Machine) (s s1 : Shadowed) → CanClose (Some frame) true m s → Notes frame m s m1 s1 → Fits m1.memory s1

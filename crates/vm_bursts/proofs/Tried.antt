@@ -1,5 +1,5 @@
 -- The instruction is tried again, with one entry more that may be written.
-use Rattle.std.proofs.Common.{◌≡◌, ◌≢◌, ℕ, zero, suc, ◌+◌, ◌/◌, ◌%◌, ◌^◌, ◌<◌, Bool, true, false, not, List, [], ◌∷◌, Option, Some, None, refl, ap, ◌∙◌, sym, subst, arith, if◌then◌else◌}
+use Rattle.std.proofs.Common.{◌≡◌, ◌≢◌, ℕ, zero, suc, ◌+◌, ◌*◌, ◌/◌, ◌%◌, ◌^◌, ◌<◌, Bool, true, false, not, List, [], ◌∷◌, Option, Some, None, refl, ap, ◌∙◌, sym, subst, arith, if◌then◌else◌}
 use Rattle.std.specs.Prelude.{IfSome}
 use Rattle.std.proofs.lemmas.Bool.{cases_eq, eq-eqb, eqb-false}
 use Rattle.vax_arch.specs.Fields.{is_modified}
@@ -15,7 +15,7 @@ use Rattle.vm_bursts.specs.Guarded.{CanAllow, CanClose, ClosesAfter, GrantsOrOpe
 use Rattle.vm_bursts.proofs.Closed.{completed_closed, mapped_in, unfinished_closed}
 use Rattle.vm_bursts.proofs.Completing.{alike, guest_same, maps_same, own_same, runs_again, serves_again, slot_same, split, stops, tried_from, unwritten}
 use Rattle.vm_miss_laws.specs.Runs.{Reaches}
-use Rattle.vm_shadow.specs.Layout.{IsCovered, all_entries, entry_number}
+use Rattle.vm_shadow.specs.Layout.{all_entries, entry_number}
 use Rattle.vm_shadow.specs.Shadowed.{Keeps, Shadowed, mapped_frame, real_at}
 use Rattle.vm_shadow.specs.StandsFor.{Serves, own_number}
 use Rattle.vm_shadow.proofs.Hearing.{number_is_small}
@@ -76,13 +76,16 @@ module _ (opened : List ℕ) (m : Machine) (s : Shadowed) (g : GuestState) (va :
     runs_some = record { opened = now; runs = runs_now }
 
     -- fewer bits are clear
-    pub fewer_clear : clear_bits m2.memory s2 < clear_bits m.memory s
+    fewer_clear : clear_bits m2.memory s2 < clear_bits m.memory s
     unfolding clear_bits
     fewer_clear =
         let at : s2.at ≡ s.at = ap (λ (x : Shadowed). x.at) a.rest in
         let there : (j : ℕ) → real_at m2.memory s2 j ≡ real_at m2.memory s j = λ j i. real_at m2.memory (record s { at = at i }) j in
         count_less (λ j. not (is_modified (real_at m.memory s j))) (λ j. not (is_modified (real_at m2.memory s2 j))) n all_entries (number_is_small opened m.memory s g k.keeps k.serves va u.covered)
         (ap not u.bit) (ap (λ x. not (is_modified x)) (there n ∙ a.entry) ∙ ap not (set_now (real_at m.memory s n) u.bit)) (λ j differ. ap (λ x. not (is_modified x)) (there j ∙ a.others j differ))
+
+    pub then_fewer : 2 * clear_bits m2.memory s2 + 1 < 2 * clear_bits m.memory s
+    then_fewer = let fewer = fewer_clear in omega (arith, fewer)
 
     -- what is told of an opened page
     frame_told : (f : ℕ) → IfSome frame (λ y. y ≡ mapped_frame s (real_at m.memory s n)) → frame ≡ Some f → f ≡ mapped_frame s (real_at m.memory s n)
@@ -151,7 +154,7 @@ module _ (opened : List ℕ) (m : Machine) (s : Shadowed) (g : GuestState) (va :
         pub tried_again : ClosesAfter (own_number s3 (page_of va)) frame (is_retired e) m3 s3 m4 s4 → IsTried e opened m s g m4 s4
         tried_again c = tried_from m s g m2 s2 (alike va m m2 s s2 g frame k.keeps.fits k.serves a) m4 s4 opened e (closed_by frame refl e again (subst (λ x. ClosesAfter x frame (is_retired e) m3 s3 m4 s4) number_now c))
 
--- The same after the machine's first try, which leaves it as it was.
+-- The machine's first try leaves it as it was.
 module _ (opened : List ℕ) (m : Machine) (s : Shadowed) (g : GuestState) (k : RunsGuest opened m s g) (m1 : Machine) (first : Exit) (va : ℕ) (ran : (m1, first) ≡ real 1 m) (is : first ≡ Modify va) where
   here : m1 ≡ m
   here = (unwritten opened m s g k m1 first va ran is).0
@@ -170,22 +173,11 @@ module _ (opened : List ℕ) (m : Machine) (s : Shadowed) (g : GuestState) (k : 
   pub may_allow : is_clear (guest_of m1.memory g) va ≡ false → CanAllow va m1 s g
   may_allow e = subst (λ x. CanAllow va x s g) (sym here) (can_allow opened m s g va k met (subst (λ (x : Machine). is_clear (guest_of x.memory g) va ≡ false) here e))
 
-  pub covers : IsCovered (page_of va)
-  covers = met.covered
+  pub still_runs : RunsSome m1 s g
+  still_runs = subst (λ x. RunsSome x s g) (sym here) (record { opened = opened; runs = k })
 
-  module _ (m2 : Machine) (s2 : Shadowed) (frame : Option ℕ) (a : GrantsOrOpens va m1 s frame m2 s2) where
-    allowed : GrantsOrOpens va m s frame m2 s2
-    allowed = subst (λ x. GrantsOrOpens va x s frame m2 s2) here a
+  pub as_clear : 2 * clear_bits m1.memory s < 2 * clear_bits m.memory s + 1
+  as_clear = let same : clear_bits m1.memory s ≡ clear_bits m.memory s = ap (λ (x : Machine). clear_bits x.memory s) here in omega (arith, same)
 
-    pub then_runs : RunsSome m2 s2 g
-    then_runs = runs_some opened m s g va k met m2 s2 frame allowed
-
-    pub then_fewer : clear_bits m2.memory s2 < clear_bits m.memory s
-    then_fewer = fewer_clear opened m s g va k met m2 s2 frame allowed
-
-    module _ (m3 : Machine) (s3 : Shadowed) (e : Exit) (ih : (o : List ℕ) → RunsGuest o m2 s2 g → IsTried e o m2 s2 g m3 s3) where
-      pub then_close : CanClose frame (is_retired e) m3 s3
-      then_close = can_close opened m s g va k met m2 s2 frame allowed m3 s3 e ih
-
-      pub then_tried : (m4 : Machine) (s4 : Shadowed) → ClosesAfter (own_number s3 (page_of va)) frame (is_retired e) m3 s3 m4 s4 → IsTried e opened m s g m4 s4
-      then_tried m4 s4 c = tried_again opened m s g va k met m2 s2 frame allowed m3 s3 e ih m4 s4 c
+  pub tried_there : (m2 : Machine) (s2 : Shadowed) (e : Exit) → ((o : List ℕ) → RunsGuest o m1 s g → IsTried e o m1 s g m2 s2) → IsTried e opened m s g m2 s2
+  tried_there m2 s2 e ih = subst (λ x. IsTried e opened x s g m2 s2) here (ih opened (subst (λ x. RunsGuest opened x s g) (sym here) k))

@@ -1,20 +1,19 @@
-ghost use Rattle.std.specs.Prelude.{◌≡◌, ◌≤◌, ◌+◌, ◌*◌, ◌/◌, ℕ, List, length, Ok};
-ghost use Rattle.vax_arch.specs.declared.mode.Intent.TheVariants.{Write};
+ghost use Rattle.std.specs.Prelude.{◌≡◌, ◌≤◌, ◌+◌, ◌*◌, ℕ, List, length};
 ghost use Rattle.vax_arch.specs.Walk.{page_of};
 ghost use Rattle.vm_bursts.specs.Guarded.{CanAllow, CanClose, ClosesAfter, GrantsOrOpens, IsGuarded, IsTried, RunsOne, RunsSome, is_retired};
 ghost use Rattle.vm_shadow.specs.Layout.{IsCovered};
-ghost use Rattle.vm_shadow.specs.StandsFor.{StandsFor, own_number};
-ghost use Rattle.vm_simulation_laws.specs.Laws.{place_here};
+ghost use Rattle.vm_shadow.specs.Shadowed.{Fits};
+ghost use Rattle.vm_shadow.specs.StandsFor.{HasModifiedPage, StandsFor, own_number};
 ghost use Rattle.vm_simulation_laws.specs.Loaded.{RunsGuest};
 ghost use Rattle.vm_state.specs.Partition.{guest_of};
 ghost use Rattle.vm_state.specs.Translation.{is_clear};
 
 use crate::bursts::{Ended, Ran, take_back};
-use vax_arch::{Intent, Lookup, Pte};
+use vax_arch::{Lookup, Pte};
 use vax_hw::{Exit, Hardware, World};
 use vm_shadow::Shadow;
-use vm_state::{GuestState, Walk};
-use vm_walk::{look_up, walk};
+use vm_state::GuestState;
+use vm_walk::look_up;
 
 /// Whether the modify bit of an address's page is clear in the guest's own tables.
 #[tactic(auto, using(vm_state::proofs::Parts::part_length, vm_state::proofs::Parts::part_long))]
@@ -29,17 +28,6 @@ pub fn is_clear<H: Hardware>(machine: &H, g: &GuestState, va: u32) -> bool
     }
 }
 
-/// The frame in which a byte lies that the guest may write; 0 for another.
-fn frame_of<H: Hardware>(machine: &H, g: &GuestState, va: u32) -> u32
-    requires { 512 * (g.now.base + g.now.pages) ≤ length (H.machine machine.now).memory }
-    ensures { (pa : ℕ) → place_here (H.machine machine.now).memory g.now Write va ≡ Ok pa → result ≡ pa / 512 }
-{
-    match walk(machine, g, va, g.psl.current(), Intent::Write) {
-        Walk::Frame { pa, .. } => pa / 512,
-        _ => 0,
-    }
-}
-
 /// Whether the instruction retired.
 fn is_retired(exit: &Exit) -> bool
     ensures { result ≡ is_retired exit.now }
@@ -49,16 +37,16 @@ fn is_retired(exit: &Exit) -> bool
 
 /// Makes a page writable whose modify bit is set in the guest's own tables: it is granted for good, where no entry was read
 /// from its frame; else it is opened for one instruction, and the answer is its frame.
-fn allow<H: Hardware>(machine: &mut H, s: &mut Shadow, g: &GuestState, va: u32) -> Option<u32>
-    requires { CanAllow va (H.machine machine.old) s.old g.now }
+fn allow<H: Hardware>(machine: &mut H, s: &mut Shadow, va: u32) -> Option<u32>
+    requires fits { Fits (H.machine machine.old).memory s.old }
+    requires covered { IsCovered (page_of va) }
+    requires marked { HasModifiedPage (H.machine machine.old).memory s.old (own_number s.old (page_of va)) }
     ensures { GrantsOrOpens va (H.machine machine.old) s.old result (H.machine machine.new) s.new }
 {
     if s.grant_write(machine, va) {
         return None;
     }
-    let frame = frame_of(machine, g, va);
-    s.open_write(machine, va);
-    Some(frame)
+    Some(s.open_write(machine, va))
 }
 
 /// Closes a page that was opened. After an instruction that retired, what was read from its frame is dropped.
@@ -87,6 +75,7 @@ fn close_behind<H: Hardware>(
 /// Runs the guest's instruction, which the machine has. A page that it writes, and whose modify bit is set in the guest's own
 /// tables, is granted for good, where no entry was read from its frame, and else opened for this instruction alone. What was
 /// read from the frame is dropped after it.
+#[cycle(complete)]
 fn complete<H: Hardware>(machine: &mut H, s: &mut Shadow, g: &GuestState) -> Exit
     requires { RunsSome (H.machine machine.old) s.old g.now }
     ensures { (opened : List ℕ) → RunsGuest opened (H.machine machine.old) s.old g.now → IsTried result opened (H.machine machine.old) s.old g.now (H.machine machine.new) s.new }
@@ -98,20 +87,37 @@ fn complete<H: Hardware>(machine: &mut H, s: &mut Shadow, g: &GuestState) -> Exi
     if is_clear(machine, g, va) {
         return exit;
     }
-    let frame = allow(machine, s, g, va);
+    complete_written(machine, s, g, va)
+}
+
+/// The same of an instruction that is known to write an address's page so.
+#[cycle(complete)]
+fn complete_written<H: Hardware>(machine: &mut H, s: &mut Shadow, g: &GuestState, va: u32) -> Exit
+    requires runs { RunsSome (H.machine machine.old) s.old g.now }
+    requires written { CanAllow va (H.machine machine.old) s.old g.now }
+    ensures { (opened : List ℕ) → RunsGuest opened (H.machine machine.old) s.old g.now → IsTried result opened (H.machine machine.old) s.old g.now (H.machine machine.new) s.new }
+{
+    let frame = allow(machine, s, va);
     let exit = complete(machine, s, g);
     close_behind(machine, s, va, frame, &exit);
     exit
 }
 
 /// Runs the guest's instruction, with its registers loaded.
-fn run_one<H: Hardware>(machine: &mut H, s: &mut Shadow, g: &GuestState, w: &World) -> Ended
+fn run_one<H: Hardware>(
+    machine: &mut H,
+    s: &mut Shadow,
+    g: &GuestState,
+    w: &World,
+    va: u32,
+) -> Ended
     requires runs { RunsSome (record (H.machine machine.old) { world = w.now }) s.old g.now }
+    requires written { CanAllow va (record (H.machine machine.old) { world = w.now }) s.old g.now }
     ensures { RunsOne (H.machine machine.old) s.old g.now w.now result (H.machine machine.new) s.new }
 {
     let trail = machine.trail();
     machine.load_world(w);
-    let exit = complete(machine, s, g);
+    let exit = complete_written(machine, s, g, va);
     Ended {
         exit,
         done: u64::from(is_retired(&exit)),
@@ -120,14 +126,16 @@ fn run_one<H: Hardware>(machine: &mut H, s: &mut Shadow, g: &GuestState, w: &Wor
     }
 }
 
-/// Runs one instruction of a guest, whose step is counted, where the machine met a clear modify bit: pages that it writes, and
-/// whose modify bits are set in the guest's own tables, are granted, or opened for it alone. Answers what the machine did.
-pub fn run_guarded<H: Hardware>(machine: &mut H, s: &mut Shadow, g: &mut GuestState) -> Ran
-    requires { StandsFor (H.machine machine.old).memory s.old g.old }
+/// Runs one instruction of a guest, whose step is counted, where the machine met a clear modify bit at an address, and that of
+/// its page is set in the guest's own tables: pages that it writes so are granted, or opened for it alone. Answers what the
+/// machine did.
+pub fn run_guarded<H: Hardware>(machine: &mut H, s: &mut Shadow, g: &mut GuestState, va: u32) -> Ran
+    requires stands { StandsFor (H.machine machine.old).memory s.old g.old }
+    requires written { CanAllow va (H.machine machine.old) s.old g.old }
     ensures { IsGuarded result.exit (H.machine machine.old) s.old g.old result.terms (H.machine machine.new) s.new g.new }
 {
     let world = s.world(g);
-    let ended = run_one(machine, s, g, &world);
+    let ended = run_one(machine, s, g, &world, va);
     take_back(g, &ended.world);
     Ran {
         done: u32::from(is_retired(&ended.exit)),

@@ -169,7 +169,7 @@ impl Console {
             tx_enable: self.tx_enable,
             rx_request: self.rx_request,
             tx_request: self.tx_request,
-            waiting: text_of(self.waiting.as_slice()),
+            waiting: Text::from_bytes(self.waiting.as_slice()),
         }
     }
 
@@ -194,15 +194,6 @@ fn enables(value: u32) -> bool
     ensures { result ≡ (value / 64 % 2 == 1) }
 {
     value / ENABLE % 2 == 1
-}
-
-fn text_of(bytes: &[u8]) -> Text<256>
-    requires { length bytes.now ≤ 256 }
-    ensures { result ≡ bytes.now }
-{
-    let mut text = Text::new();
-    text.append(bytes);
-    text
 }
 
 fn waiting_of(bytes: &[u8]) -> ArrayVec<u8, MOST_WAITING>

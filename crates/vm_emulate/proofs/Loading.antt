@@ -188,9 +188,9 @@ module _ (m : Machine) (s : Shadowed) (g : GuestState) (t : Trapped) (stands : S
           let memory : partition_of m'.memory behind ≡ pushed hs (partition_of m.memory g) =
           sym (own_is m'.memory s' behind sw.serves) ∙ ap (own m'.memory) sw.rest ∙ own_apart m1.memory m'.memory s1 (wrote.keeps stands.keeps).fits sw.only.tables ∙ wrote.own ∙ ap (pushed hs) mine in
           let guest : guest_of m'.memory behind ≡ becomes = λ i. record { memory = memory i; state = behind_is i } in
-          let tells : Retells (tables_of behind) s1 s' = record { takes = sw.takes; each = sw.each; rest = sw.rest } in
+          let tells : Retells (tables_of behind) s1 s' = record { takes = sw.takes; each = sw.each } in
           record {
-            is = rw does (record { guest = guest; follows = record { between = s1; drops = subst (λ x. DropsAmong (frames_pushed x hs) s s1) mine wrote.drops; retells = subst (λ x. Retells x s1 s') tables tells } });
+            is = rw does (record { guest = guest; follows = record { between = s1; drops = subst (λ x. DropsAmong (frames_pushed x hs) s s1) mine wrote.drops; retells = subst (λ x. Retells x s1 s') tables tells; rest = sw.rest } });
             stands = done_stands t Ldpctx becomes [] frames m s g stands does m' s' behind guest there sw.keeps
                 (ap (λ (x : Shadowed). x.pages) sw.rest ∙ ap (λ (x : Shadowed). x.pages) rest1) (ap (λ (x : Shadowed). x.base) sw.rest ∙ ap (λ (x : Shadowed). x.base) rest1) (sw.serves.told ∙ tables);
             place = there;

@@ -102,9 +102,9 @@ module _ (m : Machine) (s : Shadowed) (g : GuestState) (t : Trapped) (stands : S
       let memory : partition_of m'.memory g1 ≡ partition_of m.memory g =
       sym (own_is m'.memory s' g1 sw.serves) ∙ ap (own m'.memory) sw.rest ∙ own_apart m.memory m'.memory s stands.keeps.fits sw.only.tables ∙ own_is m.memory s g stands.serves in
       let guest : guest_of m'.memory g1 ≡ h = λ i. record { memory = memory i; state = w.2 i } in
-      let tells : Retells (tables_of g1) s s' = record { takes = sw.takes; each = sw.each; rest = sw.rest } in
+      let tells : Retells (tables_of g1) s s' = record { takes = sw.takes; each = sw.each } in
       record {
-        is = rw is (record { guest = guest; follows = record { between = s; drops = nothing_dropped s; retells = subst (λ x. Retells x s s') tables tells } });
+        is = rw is (record { guest = guest; follows = record { between = s; drops = nothing_dropped s; retells = subst (λ x. Retells x s s') tables tells; rest = sw.rest } });
         stands = done_stands t Mtpr h [] [] m s g stands is m' s' g1 guest place sw.keeps (ap (λ (x : Shadowed). x.pages) sw.rest) (ap (λ (x : Shadowed). x.base) sw.rest) (sw.serves.told ∙ tables);
         place = place;
         only = only_guest s m m' sw.only;

@@ -151,7 +151,7 @@ module _ (p q : ℕ) (g : GuestState) (m m1 m2 : Machine) (s s1 s2 : Shadowed) (
   fills_two =
       let h_p = number_of m s g p stands present in
       let h_q = number_of m s g q stands there in
-      let whole = stands.keeps.fits.whole in
+      let whole = stands.keeps.remembers.whole in
       let long : length s1.reads ≡ all_entries = ap length first_is ∙ length-set s.reads n_p (Some one.fills.source) ∙ whole in
       let at_p : is_some (read_at s1 n_p) ≡ true = ap (λ x. is_some (get_or x n_p None)) first_is ∙ set_some s.reads n_p n_p one.fills.source (omega (arith, h_p, whole)) (inr refl) in
       let p_some : is_some (read_at s2 n_p) ≡ true = ap (λ x. is_some (get_or x n_p None)) second_is ∙ set_some s1.reads n_q n_p two.fills.source (omega (arith, h_p, long)) (inl at_p) in

@@ -12,8 +12,8 @@ nothing_dropped s = record { each = λ n. inl refl; rest = refl }
 
 -- of an instruction that writes nothing, and tells nothing new
 pub follows_none : (memory : List ℕ) (s : Shadowed) (t : Tables) → Fits memory s → s.told ≡ t → Follows [] t s s
-follows_none memory s t f e = record { between = s; drops = nothing_dropped s; retells = subst (λ u. Retells u s s) e (told_again memory s f) }
+follows_none memory s t f e = record { between = s; drops = nothing_dropped s; retells = subst (λ u. Retells u s s) e (told_again memory s f); rest = refl }
 
 -- of one that writes frames
 pub follows_drops : (frames memory : List ℕ) (s s' : Shadowed) (t : Tables) → Fits memory s' → s'.told ≡ t → DropsAmong frames s s' → Follows frames t s s'
-follows_drops frames memory s s' t f e d = record { between = s'; drops = d; retells = subst (λ u. Retells u s' s') e (told_again memory s' f) }
+follows_drops frames memory s s' t f e d = record { between = s'; drops = d; retells = subst (λ u. Retells u s' s') e (told_again memory s' f); rest = refl }

@@ -18,7 +18,7 @@ use vax_hw::Hardware;
 use vax_table::Trapped;
 use vm_exception::{Initiated, Walked, initiate, walk_pushes};
 use vm_shadow::Shadow;
-use vm_state::{CHANGED_MODE, Exc, GuestState, pointer};
+use vm_state::{Exc, GuestState, StopCode, StopReason, pointer};
 
 /// The more privileged of the mode that CHM names and the current one.
 fn mode_entered(g: &GuestState, to: Mode) -> Mode
@@ -82,8 +82,8 @@ fn enter<H: Hardware>(
 }
 
 /// Whether an instruction was done.
-fn is_done(emulated: Emulated) -> bool
-    ensures { result ≡ is_done emulated }
+fn is_done(emulated: &Emulated) -> bool
+    ensures { result ≡ is_done emulated.now }
 {
     matches!(emulated, Emulated::Done)
 }
@@ -100,12 +100,12 @@ pub fn change_mode<H: Hardware>(
     ensures { Senses (change_mode (guest_of (H.machine machine.old).memory g.old) t.now to) (H.machine machine.old) s.old g.old result (H.machine machine.new) s.new g.new }
 {
     if g.psl.on_interrupt_stack() {
-        return stop(g, CHANGED_MODE);
+        return stop(g, StopCode(StopReason::ChangedMode));
     }
     let before = g.r;
     g.r = registers_behind(t);
     let result = enter(machine, s, g, to, t.a);
-    if !is_done(result) {
+    if !is_done(&result) {
         g.r = before;
     }
     result

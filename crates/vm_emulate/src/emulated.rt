@@ -1,4 +1,4 @@
-use vm_state::Exc;
+use vm_state::{Exc, StopCode};
 
 /// The outcome of an instruction's emulation. It is done; or the modify bit of a byte's page was set, and the instruction begins
 /// again; or it has a fault, of which nothing happened, for the caller to initiate; or it completes by stopping the guest with a
@@ -9,7 +9,7 @@ pub enum Emulated {
     Done,
     SetModify { va: u32 },
     Fault(Exc),
-    Stopped(u8),
+    Stopped(StopCode),
     PastMemory,
     Filled,
 }

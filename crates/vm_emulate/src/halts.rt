@@ -5,7 +5,7 @@ ghost use Rattle.vm_state.specs.State.{HasPlace, state_of};
 
 use crate::Emulated;
 use vax_table::Trapped;
-use vm_state::{GuestState, HALTED, PAST_MEMORY};
+use vm_state::{GuestState, StopCode, StopReason};
 
 /// R0 to R14 with the operands' side effects, and the next PC.
 pub fn registers_behind(t: &Trapped) -> [u32; 16]
@@ -27,7 +27,7 @@ pub fn go_behind(g: &mut GuestState, t: &Trapped)
 }
 
 /// The guest stops with a code.
-pub fn stop(g: &mut GuestState, code: u8) -> Emulated
+pub fn stop(g: &mut GuestState, code: StopCode) -> Emulated
     ensures result { result ≡ Stopped code }
     ensures state { state_of g.new ≡ record (state_of g.old) { halt = Some code } }
     ensures place { HasPlace g.old.pages g.old.base g.old.start g.new }
@@ -42,7 +42,7 @@ pub fn stop_past_memory(g: &mut GuestState) -> Emulated
     ensures state { state_of g.new ≡ record (state_of g.old) { halt = Some 0x10 } }
     ensures place { HasPlace g.old.pages g.old.base g.old.start g.new }
 {
-    g.halt = Some(PAST_MEMORY);
+    g.halt = Some(StopCode(StopReason::PastMemory));
     Emulated::PastMemory
 }
 
@@ -53,7 +53,7 @@ pub fn halt(g: &mut GuestState, t: &Trapped) -> Emulated
     ensures place { HasPlace g.old.pages g.old.base g.old.start g.new }
 {
     go_behind(g, t);
-    stop(g, HALTED)
+    stop(g, StopCode(StopReason::Halted))
 }
 
 /// WAIT: the guest waits for an interrupt.

@@ -1,3 +1,4 @@
+pub mod Pages
 pub mod Pushing
 pub mod Writing
 pub mod Marking

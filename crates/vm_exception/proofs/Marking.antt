@@ -11,7 +11,7 @@ use Rattle.vm_exception.specs.Wrote.{AreHomes, IsEntryPlace, IsHome, PutsHomes, 
 use Rattle.vm_exception.specs.declared.pushes.Home.{Home}
 use Rattle.vm_exception.proofs.Writing.{Among, wrote_as, wrote_none, wrote_one, wrote_then}
 use Rattle.vm_shadow.proofs.Writes.{long_by}
-use Rattle.vm_shadow.specs.Shadowed.{Fits, Keeps, Shadowed, is_pending, is_read_from, own}
+use Rattle.vm_shadow.specs.Shadowed.{Fits, Keeps, Remembers, Shadowed, is_pending, is_read_from, own}
 use Rattle.vm_shadow.specs.StandsFor.{Stores}
 use Rattle.vm_shadow.specs.declared.source.Source.{Source}
 use Rattle.vm_shadow.proofs.Covering.{own_length}
@@ -283,6 +283,9 @@ module _ (homes : List Home) (n : ℕ) (m m1 : Machine) (s s1 : Shadowed) (h : H
 
   pub put_fits : Fits m1.memory s1
   put_fits = (w.keeps k).fits
+
+  pub put_remembers : Remembers s1
+  put_remembers = (w.keeps k).remembers
 
   pub put_inside : h.place < 512 * s1.pages
   put_inside = let i = is_home (512 * s.pages) (map home_of homes) n (home_of h) are put_within (home_at homes n h e) in omega (arith, i.0, pages_kept _ _ m m1 s s1 w)

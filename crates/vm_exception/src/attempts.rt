@@ -11,7 +11,7 @@ use crate::pushes::{Walked, walk_pushes};
 use crate::writes::push;
 use vax_hw::Hardware;
 use vm_shadow::Shadow;
-use vm_state::{BAD_VECTOR, Exc, GuestState, PAST_MEMORY, pointer};
+use vm_state::{Exc, GuestState, StopCode, StopReason, pointer};
 
 /// The outcome of an attempt to initiate: the guest is at the handler; or its stack has trouble; or it is to stop with a
 /// code.
@@ -19,7 +19,7 @@ use vm_state::{BAD_VECTOR, Exc, GuestState, PAST_MEMORY, pointer};
 pub enum Attempt {
     Arrives,
     StackFaulty { is_interrupt_stack: bool },
-    Halts(u8),
+    Halts(StopCode),
 }
 
 /// The stack pointer after so many longwords.
@@ -43,11 +43,11 @@ pub fn take<H: Hardware>(machine: &mut H, s: &mut Shadow, g: &mut GuestState, e:
     let _all = machine.pages();
     let at = u64::from(g.scbb) + u64::from(vector_offset(e));
     if 512 * u64::from(g.pages) < at + 4 {
-        return Attempt::Halts(PAST_MEMORY);
+        return Attempt::Halts(StopCode(StopReason::PastMemory));
     }
     let vector = machine.read_long(512 * g.base + at as u32);
     if is_bad_vector(e, vector) {
-        return Attempt::Halts(BAD_VECTOR);
+        return Attempt::Halts(StopCode(StopReason::BadVector));
     }
     let sp = pointer(g, new_stack(g, e, vector));
     let longs = longwords(g, e);
@@ -60,6 +60,6 @@ pub fn take<H: Hardware>(machine: &mut H, s: &mut Shadow, g: &mut GuestState, e:
         Walked::Faulty(_) => Attempt::StackFaulty {
             is_interrupt_stack: uses_interrupt_stack(g, e, vector),
         },
-        Walked::PastMemory => Attempt::Halts(PAST_MEMORY),
+        Walked::PastMemory => Attempt::Halts(StopCode(StopReason::PastMemory)),
     }
 }

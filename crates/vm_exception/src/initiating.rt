@@ -8,10 +8,10 @@ use crate::Initiated;
 use crate::attempts::{Attempt, take};
 use vax_hw::Hardware;
 use vm_shadow::Shadow;
-use vm_state::{Exc, GuestState, INTERRUPT_STACK_BAD};
+use vm_state::{Exc, GuestState, StopCode, StopReason};
 
 /// The guest stops with a code.
-fn stop(g: &mut GuestState, code: u8) -> Initiated
+fn stop(g: &mut GuestState, code: StopCode) -> Initiated
     ensures result { result ≡ Stopped code }
     ensures state { state_of g.new ≡ record (state_of g.old) { halt = Some code } }
     ensures place { HasPlace g.old.pages g.old.base g.old.start g.new }
@@ -36,12 +36,12 @@ pub fn initiate<H: Hardware>(
         Attempt::Arrives => Initiated::Taken,
         Attempt::StackFaulty {
             is_interrupt_stack: true,
-        } => stop(g, INTERRUPT_STACK_BAD),
+        } => stop(g, StopCode(StopReason::InterruptStackBad)),
         Attempt::StackFaulty {
             is_interrupt_stack: false,
         } => match take(machine, s, g, Exc::KernelStack) {
             Attempt::Arrives => Initiated::KernelStackBad,
-            Attempt::StackFaulty { .. } => stop(g, INTERRUPT_STACK_BAD),
+            Attempt::StackFaulty { .. } => stop(g, StopCode(StopReason::InterruptStackBad)),
             Attempt::Halts(code) => stop(g, code),
         },
         Attempt::Halts(code) => stop(g, code),

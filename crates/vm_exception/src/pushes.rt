@@ -1,7 +1,9 @@
 ghost use Rattle.std.specs.Prelude.{◌≡◌, ◌≤◌, ◌<◌, ◌+◌, ◌*◌, ◌++◌, length, map};
+ghost use Rattle.vax_arch.specs.declared.mode.Intent.TheVariants.{Write};
 ghost use Rattle.vm_exception.specs.Pushed.{byte_of, walked_of};
 ghost use Rattle.vm_state.specs.Partition.{guest_of};
 ghost use Rattle.vm_state.specs.Pushes.{bytes_from, pushed_bytes, push_walked, walked};
+ghost use Rattle.vm_state.specs.Translation.{walk_of};
 
 use arrayvec::ArrayVec;
 use vax_arch::{Intent, Mode};
@@ -69,15 +71,46 @@ fn pushed_bytes(sp: u32, longs: &[u32]) -> ArrayVec<Byte, 16>
     bytes
 }
 
-/// The walk of bytes for writing, in a mode.
+/// The walk of an address for writing, in a mode, by that of another one: where both lie in one page, they differ in the byte
+/// of the page alone.
+fn walk_beside<H: Hardware>(
+    machine: &H,
+    g: &GuestState,
+    m: Mode,
+    va: u32,
+    other: u32,
+    walked: Walk,
+) -> Walk
+    requires partition { 512 * (g.now.base + g.now.pages) ≤ length (H.machine machine.now).memory }
+    requires walked { walked ≡ walk_of (guest_of (H.machine machine.now).memory g.now) other m Write }
+    ensures { result ≡ walk_of (guest_of (H.machine machine.now).memory g.now) va m Write }
+{
+    match walked {
+        Walk::Frame { pa, entry, table } if va / 512 == other / 512 => Walk::Frame {
+            pa: pa / 512 * 512 + va % 512,
+            entry,
+            table,
+        },
+        _ => walk(machine, g, va, m, Intent::Write),
+    }
+}
+
+/// The walk of bytes for writing, in a mode: one for those that come one after another in a page.
 fn walk_bytes<H: Hardware>(machine: &H, g: &GuestState, m: Mode, bytes: &[Byte]) -> Walked
     requires partition { 512 * (g.now.base + g.now.pages) ≤ length (H.machine machine.now).memory }
     requires few { length bytes.now ≤ 16 }
     ensures { walked_of result ≡ walked (guest_of (H.machine machine.now).memory g.now) m (map byte_of bytes.now) }
 {
     let mut homes = ArrayVec::new();
+    let [first, ..] = bytes else {
+        return Walked::Homes(homes);
+    };
+    let mut at = first.at;
+    let mut last = walk(machine, g, at, m, Intent::Write);
     for byte in bytes {
-        match walk(machine, g, byte.at, m, Intent::Write) {
+        last = walk_beside(machine, g, m, byte.at, at, last);
+        at = byte.at;
+        match last {
             Walk::Frame { pa, entry, .. } => homes.push(Home {
                 place: pa,
                 entry,

@@ -4,7 +4,7 @@ use Rattle.vv_base.specs.Bytes.{long_at}
 use Rattle.vax_arch.specs.Fields.{is_modified, is_valid}
 use Rattle.vax_arch.specs.declared.walk.Lookup.{Lookup}
 use Rattle.vm_shadow.specs.Layout.{all_entries, entry_page, entry_place}
-use Rattle.vm_shadow.specs.Shadowed.{Fits, IsKept, is_flagged, Keeps, Shadowed, look_under, mapped_frame, own, read_at, real_at, seen_at, tables_for, is_read_from}
+use Rattle.vm_shadow.specs.Shadowed.{Fits, IsKept, is_flagged, Keeps, Shadowed, look_under, mapped_frame, own, read_at, real_at, seen_at, tables_for, way_of, is_read_from}
 use Rattle.vm_shadow.proofs.Covering.{own_is}
 use Rattle.vm_shadow.proofs.Places.{place_within}
 use Rattle.vm_shadow.proofs.Writes.{long_by, part_same}
@@ -45,15 +45,12 @@ module _ (k : Kept) (memory other : List ℕ) (stands : IsShadowedIn memory k) (
     slots = fits.slots;
     first = fits.first;
     system = λ j h. table_long (512 * s.at + 4 * (8192 + j)) (omega arith) (omega (arith, h)) ∙ fits.system j h;
-    whole = fits.whole;
-    consulted = fits.consulted;
-    writable = fits.writable;
-    consults = fits.consults;
   }
 
   keeps_shared : Keeps [] [] other s
   keeps_shared = record {
     fits = fits_shared;
+    remembers = stands.keeps.remembers;
     entries = λ n h. subst (λ (y : List ℕ). IsKept (512 * s.pages) s.base y [] (seen_at other s n) (real_at other s n) (read_at s n)) (sym own_shared)
         (subst (λ (y : Lookup). IsKept (512 * s.pages) s.base (own memory s) [] y (real_at other s n) (read_at s n)) (sym (seen_shared n))
         (subst (λ y. IsKept (512 * s.pages) s.base (own memory s) [] (seen_at memory s n) y (read_at s n)) (sym (real_shared n h)) (stands.keeps.entries n h)));
@@ -62,7 +59,7 @@ module _ (k : Kept) (memory other : List ℕ) (stands : IsShadowedIn memory k) (
         ap (λ y. is_read_from (mapped_frame s y) (read_at s n)) same ∙ stands.keeps.guarded n j h i closed (ap is_valid (sym same) ∙ valid) (ap is_modified (sym same) ∙ modified);
     writes = λ j h valid modified.
         let same = real_shared j h in
-        ap (λ y. is_flagged (mapped_frame s y) s.writable) same ∙ stands.keeps.writes j h (ap is_valid (sym same) ∙ valid) (ap is_modified (sym same) ∙ modified);
+        ap (λ y. is_flagged (way_of (mapped_frame s y) j) s.writable) same ∙ stands.keeps.writes j h (ap is_valid (sym same) ∙ valid) (ap is_modified (sym same) ∙ modified);
   }
 
   shared : IsShadowedIn other k × (guest_in other k ≡ guest_in memory k)

@@ -21,7 +21,7 @@ use vax_hw::Hardware;
 use vm_console::Port;
 use vm_events::show_stop;
 use vm_shadow::Shadow;
-use vm_state::{COMMANDED, GuestState};
+use vm_state::{GuestState, StopCode, StopReason};
 use vm_stepping::{Counts, Once, advance, advance_once};
 use vv_base::NoMemory;
 
@@ -118,8 +118,9 @@ impl Guest {
     {
         match self.state.halt {
             None => {
-                show_stop(&self.state, port, COMMANDED);
-                self.state.halt = Some(COMMANDED);
+                let code = StopCode(StopReason::Commanded);
+                show_stop(&self.state, port, code);
+                self.state.halt = Some(code);
             }
             Some(_) => {}
         }

@@ -113,7 +113,7 @@ pub filled_counted : FilledPagesAreCounted
 filled_counted opened m s g va pa write seen s' k e place f =
     let there : IsCovered (page_of va) = place_covered opened m.memory s g k.keeps k.serves (current_of g.psl.0) (intent_of write) va pa place in
     let inside : own_number s (page_of va) < all_entries = number_is_small opened m.memory s g k.keeps k.serves va there in
-    one_filled (touches_now (guest_of m.memory g)) s s' (page_of va) seen (misses_touched opened m s g va write k e).touched (missed_unfilled opened m s g va write k e) (omega (arith, inside, k.keeps.fits.whole)) f
+    one_filled (touches_now (guest_of m.memory g)) s s' (page_of va) seen (misses_touched opened m s g va write k e).touched (missed_unfilled opened m s g va write k e) (omega (arith, inside, k.keeps.remembers.whole)) f
 
 pub found_have : FoundPagesHaveEntries
 found_have opened memory s g k v filled page h = found_entries opened memory s g k v filled page h

@@ -51,10 +51,10 @@ nothing_paid m m' s s' e k = record {
 }
 
 pub fills_tries : FillsAreTries
-fills_tries memory page x seen m m' s s' f covered touched empty fills once =
+fills_tries memory page x seen m m' s s' f known covered touched empty fills once =
     let kept : KeepsFilled s s' = fills_keep seen (own_number s page) s s' fills in
     let inside : own_number s page < all_entries = number_small s.slot page (slot_small memory s f) covered in
-    let less : to_miss s' x + 1 ≤ to_miss s x = one_filled x s s' page seen touched (ap is_some empty) (omega (arith, inside, f.whole)) fills in
+    let less : to_miss s' x + 1 ≤ to_miss s x = one_filled x s s' page seen touched (ap is_some empty) (omega (arith, inside, known.whole)) fills in
     record {
       missed = 1;
       misses = once;

@@ -85,7 +85,7 @@ stays_filled before after frames (inr gone) free h = absurd (false≢true (sym f
 
 from_source : (size base : ℕ) (memory : List ℕ) (seen : Lookup) (real : ℕ) (x : Option Source) (frames : List ℕ) → IsKept size base memory [] seen real x → is_some x ≡ true → have_common (frames_read seen) frames ≡ false → is_pending frames x ≡ false
 from_source size base memory seen real None frames k h none = absurd (false≢true h)
-from_source size base memory seen real (Some source) frames k h none = unread seen source frames (k.1 refl).from none
+from_source size base memory seen real (Some source) frames k h none = unread seen source frames (k.1 refl).1 none
 
 module _ (memory : List ℕ) (s : Shadowed) (g : GuestState) (k : Keeps [] [] memory s) (v : Serves g s) (frames : List ℕ) (s' : Shadowed) (d : Drops frames s s') where
   abbrev whole : Guest

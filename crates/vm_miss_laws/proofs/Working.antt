@@ -42,7 +42,7 @@ marks_dropped (Fails not_valid parameter) s s' d = subst (λ z. Drops [] s z) (s
 marks_dropped Beyond s s' d = subst (λ z. Drops [] s z) (sym d) (none_dropped [] s)
 
 pub switches_retell : SwitchesRetell
-switches_retell g m m' s s' w = record { takes = w.takes; each = w.each; rest = w.rest }
+switches_retell g m m' s s' w = record { takes = w.takes; each = w.each }
 
 -- after an instruction that retired
 module _ (m : Machine) (s : Shadowed) (g : GuestState) (x : Retired) (k : RunsGuest [] m s g) (e : machine_step m ≡ Ok x) (none : x.trap ≡ None) where

@@ -7,7 +7,7 @@ use Rattle.vm_miss_laws.specs.Laws.{KeepsFilled}
 use Rattle.vm_miss_laws.specs.Moves.{Moves}
 use Rattle.vm_miss_laws.specs.Present.{HasEntry, HasPresent, after_touches, to_miss}
 use Rattle.vm_shadow.specs.Layout.{IsCovered}
-use Rattle.vm_shadow.specs.Shadowed.{Fits, Keeps, Shadowed, read_at}
+use Rattle.vm_shadow.specs.Shadowed.{Fits, Keeps, Remembers, Shadowed, read_at}
 use Rattle.vm_shadow.specs.StandsFor.{Fills, Serves, own_number}
 use Rattle.vm_state.specs.Partition.{guest_of}
 use Rattle.vm_state.specs.Run.{Run, after_steps}
@@ -51,7 +51,7 @@ NothingIsPaid = (m m' : Machine) (s s' : Shadowed) → m'.misses ≡ m.misses �
 
 -- a touched page that was missed is filled
 abbrev pub FillsAreTries : Type 0
-FillsAreTries = (memory : List ℕ) (page : ℕ) (x : Touched) (seen : Lookup) (m m' : Machine) (s s' : Shadowed) → Fits memory s → IsCovered page → IsTouched page x → read_at s (own_number s page) ≡ None
+FillsAreTries = (memory : List ℕ) (page : ℕ) (x : Touched) (seen : Lookup) (m m' : Machine) (s s' : Shadowed) → Fits memory s → Remembers s → IsCovered page → IsTouched page x → read_at s (own_number s page) ≡ None
     → Fills seen (own_number s page) s s' → Misses 1 m m' → Tries x m s m' s'
 
 -- A step that is made after its tries, the last of which may have missed a page: its pages have entries, and what it writes

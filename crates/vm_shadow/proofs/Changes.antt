@@ -6,7 +6,7 @@ use Rattle.vax_arch.specs.Fields.{frame_of, is_modified, is_valid}
 use Rattle.vax_arch.specs.Walk.{entry_at}
 use Rattle.vax_arch.specs.declared.walk.Lookup.{Lookup}
 use Rattle.vm_shadow.specs.Layout.{all_entries, empty_entry, entry_place, real_entry}
-use Rattle.vm_shadow.specs.Shadowed.{Fits, IsKept, IsRight, IsSource, Keeps, Shadowed, is_flagged, is_opened, is_read_from, mapped_frame, own, read_at, real_at, seen_at}
+use Rattle.vm_shadow.specs.Shadowed.{Fits, IsKept, IsRight, IsSource, Keeps, Shadowed, is_flagged, is_opened, is_read_from, mapped_frame, own, read_at, real_at, seen_at, way_of}
 use Rattle.vm_shadow.specs.declared.source.Source.{Source}
 use Rattle.vm_shadow.proofs.Writes.{IsWritten}
 use Rattle.vm_shadow.proofs.Entries.{IsSet, remembers, set_entry}
@@ -43,11 +43,12 @@ kept_valid size base memory pending seen real (Some source) k e = k.0
 pub record IsFilled (memory : List ℕ) (s : Shadowed) (n : ℕ) : Type 0 where
   pub source : Source
   pub read : read_at s n ≡ Some source
-  pub right : IsRight (512 * s.pages) s.base (own memory s) (seen_at memory s n) source (real_at memory s n)
+  pub right : IsRight (512 * s.pages) s.base (own memory s) (seen_at memory s n) (real_at memory s n)
+  pub from : IsSource (seen_at memory s n) source
 
 filled_by : (memory : List ℕ) (s : Shadowed) (n : ℕ) (x : Option Source) → read_at s n ≡ x → IsKept (512 * s.pages) s.base (own memory s) [] (seen_at memory s n) (real_at memory s n) x → is_valid (real_at memory s n) ≡ true → IsFilled memory s n
 filled_by memory s n None e k v = let i : is_valid empty_entry ≡ true = subst (λ x. is_valid x ≡ true) k v in empty_invalid _ i
-filled_by memory s n (Some source) e k v = record { source = source; read = e; right = k.1 refl }
+filled_by memory s n (Some source) e k v = record { source = source; read = e; right = (k.1 refl).0; from = (k.1 refl).1 }
 
 pub filled_of : (opened : List ℕ) (memory : List ℕ) (s : Shadowed) (n : ℕ) → Keeps [] opened memory s → n < all_entries → is_valid (real_at memory s n) ≡ true → IsFilled memory s n
 filled_of opened memory s n k h v = filled_by memory s n (read_at s n) refl (k.entries n h) v
@@ -66,7 +67,7 @@ filled memory after s n entry source consulted k h has valid inside is free flag
     let small = frame_fits memory s entry k.fits inside in
     let clear : is_modified (real_entry s.base false entry) ≡ false = modify_of s.base false entry small in
     set_entry [] [] [] memory after s n (real_entry s.base false entry) (Some source) consulted s.writable k h (record {
-      kept = (valid_of s.base false entry small, λ e. record { entry = entry; modify = false; has = has; valid = valid; inside = inside; is = refl; marked = λ t. absurd (false≢true t); from = is });
+      kept = (valid_of s.base false entry small, λ e. (record { entry = entry; modify = false; has = has; valid = valid; inside = inside; is = refl; marked = λ t. absurd (false≢true t) }, is));
       still = λ i d o. o;
       from = λ i c d o v x. free i c v x;
       onto = λ o v x. absurd (false≢true (sym clear ∙ x));
@@ -84,7 +85,7 @@ with_bit memory s n r b = real_entry s.base b (r.right.entry)
 
 kept_with : (memory : List ℕ) (s : Shadowed) (n : ℕ) (b : Bool) → Fits memory s → (r : IsFilled memory s n) → (b ≡ true → is_modified (r.right.entry) ≡ true) → IsKept (512 * s.pages) s.base (own memory s) [] (seen_at memory s n) (with_bit memory s n r b) (read_at s n)
 kept_with memory s n b f r marked = subst (λ x. IsKept (512 * s.pages) s.base (own memory s) [] (seen_at memory s n) (with_bit memory s n r b) x) (sym r.read)
-    (valid_of s.base b r.right.entry (frame_fits memory s r.right.entry f r.right.inside), λ e. record { entry = r.right.entry; modify = b; has = r.right.has; valid = r.right.valid; inside = r.right.inside; is = refl; marked = marked; from = r.right.from })
+    (valid_of s.base b r.right.entry (frame_fits memory s r.right.entry f r.right.inside), λ e. (record { entry = r.right.entry; modify = b; has = r.right.has; valid = r.right.valid; inside = r.right.inside; is = refl; marked = marked }, r.from))
 
 guard_from : (opened : List ℕ) (memory : List ℕ) (s : Shadowed) (n k : ℕ) → Keeps [] opened memory s → n < all_entries → k < all_entries → is_opened k opened ≡ false → is_valid (real_at memory s k) ≡ true → is_modified (real_at memory s k) ≡ true → is_read_from (mapped_frame s (real_at memory s k)) (read_at s n) ≡ false
 guard_from opened memory s n k keeps h c o v x = keeps.guarded n k h c o v x
@@ -106,14 +107,14 @@ still_valid real e v =
     eq-eqb ((real - 2 ^ 26) / 2 ^ 31 % 2) 1 (omega arith)
 
 -- an entry without its modify bit is kept as it was
-right_clear : (memory : List ℕ) (s : Shadowed) (n : ℕ) (source : Source) → Fits memory s → is_modified (real_at memory s n) ≡ true → IsRight (512 * s.pages) s.base (own memory s) (seen_at memory s n) source (real_at memory s n) → IsRight (512 * s.pages) s.base (own memory s) (seen_at memory s n) source (real_at memory s n - 2 ^ 26)
-right_clear memory s n source f on r =
-    let bit_is : r.modify ≡ true = sym (right_modify memory (own memory s) s (seen_at memory s n) source (real_at memory s n) f r) ∙ on in
-    record { entry = r.entry; modify = false; has = r.has; valid = r.valid; inside = r.inside; is = ap (λ x. x - 2 ^ 26) r.is ∙ one_less s.base r.entry r.modify bit_is; marked = λ e. absurd (false≢true e); from = r.from }
+right_clear : (memory : List ℕ) (s : Shadowed) (n : ℕ) → Fits memory s → is_modified (real_at memory s n) ≡ true → IsRight (512 * s.pages) s.base (own memory s) (seen_at memory s n) (real_at memory s n) → IsRight (512 * s.pages) s.base (own memory s) (seen_at memory s n) (real_at memory s n - 2 ^ 26)
+right_clear memory s n f on r =
+    let bit_is : r.modify ≡ true = sym (right_modify memory (own memory s) s (seen_at memory s n) (real_at memory s n) f r) ∙ on in
+    record { entry = r.entry; modify = false; has = r.has; valid = r.valid; inside = r.inside; is = ap (λ x. x - 2 ^ 26) r.is ∙ one_less s.base r.entry r.modify bit_is; marked = λ e. absurd (false≢true e) }
 
 kept_clear : (pending : List ℕ) (memory : List ℕ) (s : Shadowed) (n : ℕ) (x : Option Source) → Fits memory s → is_modified (real_at memory s n) ≡ true → IsKept (512 * s.pages) s.base (own memory s) pending (seen_at memory s n) (real_at memory s n) x → IsKept (512 * s.pages) s.base (own memory s) pending (seen_at memory s n) (real_at memory s n - 2 ^ 26) x
 kept_clear pending memory s n None f on k = absurd (false≢true (sym (ap is_modified k) ∙ on))
-kept_clear pending memory s n (Some source) f on k = (still_valid (real_at memory s n) on k.0, λ e. right_clear memory s n source f on (k.1 e))
+kept_clear pending memory s n (Some source) f on k = (still_valid (real_at memory s n) on k.0, λ e. (right_clear memory s n f on (k.1 e).0, (k.1 e).1))
 
 -- Closing an entry; the entry is no longer among the opened.
 pub closed : (pending opened opened' : List ℕ) (memory after : List ℕ) (s : Shadowed) (n : ℕ) → Keeps pending opened memory s → n < all_entries → is_modified (real_at memory s n) ≡ true →
@@ -129,7 +130,7 @@ closed pending opened opened' memory after s n k h on still w =
       consulted_size = refl;
       writable_size = refl;
       consults = λ frame e. e;
-      consults_here = λ frame e. k.fits.consults n frame h e;
+      consults_here = λ frame e. k.remembers.consults n frame h e;
       writes = λ frame e. e;
       writes_here = λ v x. absurd (false≢true (sym clear ∙ x));
     }) w)
@@ -152,16 +153,16 @@ flagged_of opened memory after s n entry writable is = (subst (λ x. Keeps [] op
 
 -- Opening an entry whose guest's bit is set.
 pub opens : (opened : List ℕ) (memory after : List ℕ) (s : Shadowed) (n : ℕ) (writable : List Bool) → Keeps [] opened memory s → n < all_entries → (r : IsFilled memory s n) → is_modified (real_at memory s n) ≡ false → is_modified (r.right.entry) ≡ true →
-    length writable ≡ length s.writable → ((frame : ℕ) → is_flagged frame s.writable ≡ true → is_flagged frame writable ≡ true) → is_flagged (frame_of (r.right.entry)) writable ≡ true →
+    length writable ≡ length s.writable → ((frame : ℕ) → is_flagged frame s.writable ≡ true → is_flagged frame writable ≡ true) → is_flagged (way_of (frame_of (r.right.entry)) n) writable ≡ true →
     IsWritten memory after (entry_place s.at n) (real_at memory s n + 2 ^ 26) → LeavesFlagged (n ∷ opened) memory after s n (real_at memory s n + 2 ^ 26) writable
 opens opened memory after s n writable k h r off set_ size more flag w =
     let f = k.fits in
     let entry = with_bit memory s n r true in
     let small = frame_fits memory s r.right.entry f r.right.inside in
-    let bit_is : r.right.modify ≡ false = sym (right_modify memory (own memory s) s (seen_at memory s n) r.source (real_at memory s n) f r.right) ∙ off in
+    let bit_is : r.right.modify ≡ false = sym (right_modify memory (own memory s) s (seen_at memory s n) (real_at memory s n) f r.right) ∙ off in
     let higher : real_at memory s n + 2 ^ 26 ≡ entry = ap (λ x. x + 2 ^ 26) r.right.is ∙ one_more s.base r.right.entry r.right.modify bit_is in
-    let again : IsRight (512 * s.pages) s.base (own memory s) (seen_at memory s n) r.source entry = record { entry = r.right.entry; modify = true; has = r.right.has; valid = r.right.valid; inside = r.right.inside; is = refl; marked = λ e. set_; from = r.right.from } in
-    let frame : mapped_frame s entry ≡ frame_of (r.right.entry) = right_frame memory (own memory s) s (seen_at memory s n) r.source entry f again in
+    let again : IsRight (512 * s.pages) s.base (own memory s) (seen_at memory s n) entry = record { entry = r.right.entry; modify = true; has = r.right.has; valid = r.right.valid; inside = r.right.inside; is = refl; marked = λ e. set_ } in
+    let frame : mapped_frame s entry ≡ frame_of (r.right.entry) = right_frame memory (own memory s) s (seen_at memory s n) entry f again in
     subst (λ x. LeavesFlagged (n ∷ opened) memory after s n x writable) (sym higher) (flagged_of (n ∷ opened) memory after s n entry writable (set_entry [] opened (n ∷ opened) memory after s n entry (read_at s n) s.consulted writable k h (record {
       kept = kept_with memory s n true f r (λ e. set_);
       still = λ i d o. not_other n i opened o;
@@ -170,33 +171,33 @@ opens opened memory after s n writable k h r off set_ size more flag w =
       consulted_size = refl;
       writable_size = size;
       consults = λ frame e. e;
-      consults_here = λ frame e. k.fits.consults n frame h e;
+      consults_here = λ frame e. k.remembers.consults n frame h e;
       writes = more;
-      writes_here = λ v x. subst (λ y. is_flagged y writable ≡ true) (sym frame) flag;
+      writes_here = λ v x. subst (λ y. is_flagged (way_of y n) writable ≡ true) (sym frame) flag;
     }) (subst (IsWritten memory after (entry_place s.at n)) higher w)))
 
 -- Writes to a page are granted for good, where no entry was read from its frame.
 pub grants : (opened : List ℕ) (memory after : List ℕ) (s : Shadowed) (n : ℕ) (writable : List Bool) → Keeps [] opened memory s → n < all_entries → (r : IsFilled memory s n) → is_modified (real_at memory s n) ≡ false → is_modified (r.right.entry) ≡ true →
     is_flagged (frame_of (r.right.entry)) s.consulted ≡ false →
-    length writable ≡ length s.writable → ((frame : ℕ) → is_flagged frame s.writable ≡ true → is_flagged frame writable ≡ true) → is_flagged (frame_of (r.right.entry)) writable ≡ true →
+    length writable ≡ length s.writable → ((frame : ℕ) → is_flagged frame s.writable ≡ true → is_flagged frame writable ≡ true) → is_flagged (way_of (frame_of (r.right.entry)) n) writable ≡ true →
     IsWritten memory after (entry_place s.at n) (real_at memory s n + 2 ^ 26) → LeavesFlagged opened memory after s n (real_at memory s n + 2 ^ 26) writable
 grants opened memory after s n writable k h r off set_ unread size more flag w =
     let f = k.fits in
     let entry = with_bit memory s n r true in
     let small = frame_fits memory s r.right.entry f r.right.inside in
-    let bit_is : r.right.modify ≡ false = sym (right_modify memory (own memory s) s (seen_at memory s n) r.source (real_at memory s n) f r.right) ∙ off in
+    let bit_is : r.right.modify ≡ false = sym (right_modify memory (own memory s) s (seen_at memory s n) (real_at memory s n) f r.right) ∙ off in
     let higher : real_at memory s n + 2 ^ 26 ≡ entry = ap (λ x. x + 2 ^ 26) r.right.is ∙ one_more s.base r.right.entry r.right.modify bit_is in
-    let again : IsRight (512 * s.pages) s.base (own memory s) (seen_at memory s n) r.source entry = record { entry = r.right.entry; modify = true; has = r.right.has; valid = r.right.valid; inside = r.right.inside; is = refl; marked = λ e. set_; from = r.right.from } in
-    let frame : mapped_frame s entry ≡ frame_of (r.right.entry) = right_frame memory (own memory s) s (seen_at memory s n) r.source entry f again in
+    let again : IsRight (512 * s.pages) s.base (own memory s) (seen_at memory s n) entry = record { entry = r.right.entry; modify = true; has = r.right.has; valid = r.right.valid; inside = r.right.inside; is = refl; marked = λ e. set_ } in
+    let frame : mapped_frame s entry ≡ frame_of (r.right.entry) = right_frame memory (own memory s) s (seen_at memory s n) entry f again in
     subst (λ x. LeavesFlagged opened memory after s n x writable) (sym higher) (flagged_of opened memory after s n entry writable (set_entry [] opened opened memory after s n entry (read_at s n) s.consulted writable k h (record {
       kept = kept_with memory s n true f r (λ e. set_);
       still = λ i d o. o;
       from = λ i c d o v x. k.guarded n i h c o v x;
-      onto = λ o v x j c. subst (λ y. is_read_from (mapped_frame s entry) (slice_index_or y j None) ≡ false) (sym (same_reads s n)) (subst (λ y. is_read_from y (read_at s j) ≡ false) (sym frame) (k.fits.consults j (frame_of (r.right.entry)) c unread));
+      onto = λ o v x j c. subst (λ y. is_read_from (mapped_frame s entry) (slice_index_or y j None) ≡ false) (sym (same_reads s n)) (subst (λ y. is_read_from y (read_at s j) ≡ false) (sym frame) (k.remembers.consults j (frame_of (r.right.entry)) c unread));
       consulted_size = refl;
       writable_size = size;
       consults = λ frame e. e;
-      consults_here = λ frame e. k.fits.consults n frame h e;
+      consults_here = λ frame e. k.remembers.consults n frame h e;
       writes = more;
-      writes_here = λ v x. subst (λ y. is_flagged y writable ≡ true) (sym frame) flag;
+      writes_here = λ v x. subst (λ y. is_flagged (way_of y n) writable ≡ true) (sym frame) flag;
     }) (subst (IsWritten memory after (entry_place s.at n)) higher w)))

@@ -4,7 +4,7 @@ use Rattle.std.proofs.lemmas.Bool.{cases_eq}
 use Rattle.std.proofs.lemmas.List.{get_or-set_other, get_or-set_same, length-set}
 use Rattle.vax_arch.specs.Fields.{is_modified, is_valid}
 use Rattle.vm_shadow.specs.Layout.{all_entries, entry_page, entry_place}
-use Rattle.vm_shadow.specs.Shadowed.{Fits, IsKept, Keeps, Shadowed, is_flagged, is_opened, is_read_from, look_under, mapped_frame, own, read_at, real_at, seen_at, tables_for}
+use Rattle.vm_shadow.specs.Shadowed.{Fits, IsKept, Keeps, Shadowed, is_flagged, is_opened, is_read_from, look_under, mapped_frame, own, read_at, real_at, seen_at, tables_for, way_of}
 use Rattle.vm_shadow.specs.declared.source.Source.{Source}
 use Rattle.vm_shadow.proofs.Places.{LiesWithin, place_within, places_apart, split, system_apart}
 use Rattle.vm_shadow.proofs.Writes.{IsWritten, long_kept, part_same}
@@ -40,7 +40,7 @@ pub record CanSet (pending opened opened' : List ℕ) (memory : List ℕ) (s : S
   pub consults : (frame : ℕ) → is_flagged frame consulted ≡ false → is_flagged frame s.consulted ≡ false
   pub consults_here : (frame : ℕ) → is_flagged frame consulted ≡ false → is_read_from frame source ≡ false
   pub writes : (frame : ℕ) → is_flagged frame s.writable ≡ true → is_flagged frame writable ≡ true
-  pub writes_here : is_valid entry ≡ true → is_modified entry ≡ true → is_flagged (mapped_frame s entry) writable ≡ true
+  pub writes_here : is_valid entry ≡ true → is_modified entry ≡ true → is_flagged (way_of (mapped_frame s entry) n) writable ≡ true
 
 -- what one written entry leaves
 pub record IsSet (pending opened' : List ℕ) (memory after : List ℕ) (s : Shadowed) (n entry : ℕ) (source : Option Source) (consulted writable : List Bool) : Type 0 where
@@ -48,8 +48,12 @@ pub record IsSet (pending opened' : List ℕ) (memory after : List ℕ) (s : Sha
   pub here : real_at after s n ≡ entry
   pub other : (k : ℕ) → k < all_entries → k ≢ n → real_at after s k ≡ real_at memory s k
 
-fits_set : (memory after : List ℕ) (s : Shadowed) (n entry : ℕ) (source : Option Source) (consulted writable : List Bool) → Fits memory s → n < all_entries → length consulted ≡ length s.consulted → length writable ≡ length s.writable → ((m frame : ℕ) → m < all_entries → is_flagged frame consulted ≡ false → is_read_from frame (slice_index_or (set s.reads n source) m None) ≡ false) → IsWritten memory after (entry_place s.at n) entry → Fits after (remembers s (set s.reads n source) consulted writable)
-fits_set memory after s n entry source consulted writable f h a b consults w = record {
+-- what fits doesn't depend on what is remembered of entries
+pub fits_in : {memory : List ℕ} {s : Shadowed} {reads : List (Option Source)} {consulted writable : List Bool} → Fits memory s → Fits memory (remembers s reads consulted writable)
+fits_in f = record { few = f.few; small = f.small; partition = f.partition; room = f.room; apart = f.apart; told = f.told; contexts = f.contexts; slots = f.slots; first = f.first; system = f.system }
+
+fits_set : (memory after : List ℕ) (s : Shadowed) (n entry : ℕ) (source : Option Source) (consulted writable : List Bool) → Fits memory s → IsWritten memory after (entry_place s.at n) entry → Fits after (remembers s (set s.reads n source) consulted writable)
+fits_set memory after s n entry source consulted writable f w = record {
   few = omega (arith, f.few, w.size);
   small = f.small;
   partition = omega (arith, f.partition, w.size);
@@ -60,10 +64,6 @@ fits_set memory after s n entry source consulted writable f h a b consults w = r
   slots = f.slots;
   first = f.first;
   system = λ j l. long_kept memory after (entry_place s.at n) entry (512 * s.at + 4 * (8192 + j)) w (system_apart s.at n j l) ∙ f.system j l;
-  whole = length-set s.reads n source ∙ f.whole;
-  consulted = a ∙ f.consulted;
-  writable = b ∙ f.writable;
-  consults = consults;
 }
 
 pub set_entry : (pending opened opened' : List ℕ) (memory after : List ℕ) (s : Shadowed) (n entry : ℕ) (source : Option Source) (consulted writable : List Bool) →
@@ -71,6 +71,7 @@ pub set_entry : (pending opened opened' : List ℕ) (memory after : List ℕ) (s
     IsSet pending opened' memory after s n entry source consulted writable
 set_entry pending opened opened' memory after s n entry source consulted writable keeps h can w =
     let f = keeps.fits in
+    let known = keeps.remembers in
     let reads = set s.reads n source in
     let s' = remembers s reads consulted writable in
     let own_is : own after s ≡ own memory s = own_kept memory after s (entry_place s.at n) entry f (place_within s.at n h) w in
@@ -79,15 +80,21 @@ set_entry pending opened opened' memory after s n entry source consulted writabl
     let V : ℕ → Type 0 = λ y. is_valid y ≡ true in
     let M : ℕ → Type 0 = λ y. is_modified y ≡ true in
     let same : (k : ℕ) → k ≢ n → read_at s' k ≡ read_at s k = λ k differ. read_other s n k source differ in
-    let here : read_at s' n ≡ source = read_here s n source f.whole h in
+    let here : read_at s' n ≡ source = read_here s n source known.whole h in
     let consults : (m frame : ℕ) → m < all_entries → is_flagged frame consulted ≡ false → is_read_from frame (read_at s' m) ≡ false = λ m frame c u. split (cases_eq m n)
     (λ e. subst (λ y. is_read_from frame y ≡ false) (sym (ap (read_at s') e ∙ here)) (can.consults_here frame u))
-    (λ differ. subst (λ y. is_read_from frame y ≡ false) (sym (same m differ)) (f.consults m frame c (can.consults frame u))) in
+    (λ differ. subst (λ y. is_read_from frame y ≡ false) (sym (same m differ)) (known.consults m frame c (can.consults frame u))) in
     record {
       here = w.is;
       other = other;
       keeps = record {
-        fits = fits_set memory after s n entry source consulted writable f h can.consulted_size can.writable_size consults w;
+        fits = fits_set memory after s n entry source consulted writable f w;
+        remembers = record {
+          whole = length-set s.reads n source ∙ known.whole;
+          consulted = can.consulted_size ∙ known.consulted;
+          writable = can.writable_size ∙ known.writable;
+          consults = consults;
+        };
         entries = λ k d. rw (seen k, own_is) (split (cases_eq k n)
             (λ e. rw e (rw (here, w.is) can.kept))
             (λ differ. rw (same k differ, other k d differ) (keeps.entries k d)));
@@ -107,9 +114,9 @@ set_entry pending opened opened' memory after s n entry source consulted writabl
         writes = λ k d v x. split (cases_eq k n)
             (λ e.
             let r : real_at after s k ≡ entry = ap (real_at after s) e ∙ w.is in
-            subst (λ y. is_flagged (mapped_frame s y) writable ≡ true) (sym r) (can.writes_here (subst V r v) (subst M r x)))
+            subst (λ y. is_flagged (way_of (mapped_frame s y) k) writable ≡ true) (sym r) (subst (λ j. is_flagged (way_of (mapped_frame s entry) j) writable ≡ true) (sym e) (can.writes_here (subst V r v) (subst M r x))))
             (λ differ.
             let r : real_at after s k ≡ real_at memory s k = other k d differ in
-            subst (λ y. is_flagged (mapped_frame s y) writable ≡ true) (sym r) (can.writes _ (keeps.writes k d (subst V r v) (subst M r x))));
+            subst (λ y. is_flagged (way_of (mapped_frame s y) k) writable ≡ true) (sym r) (can.writes _ (keeps.writes k d (subst V r v) (subst M r x))));
       };
     }

@@ -9,7 +9,7 @@ use Rattle.std.specs.Prelude.{if◌then◌else◌}
 use Rattle.vax_arch.specs.Walk.{with_modify}
 use Rattle.vax_hw.specs.Machine.{Machine}
 use Rattle.vm_shadow.specs.Layout.{IsCovered, all_entries, entry_place}
-use Rattle.vm_shadow.specs.Shadowed.{Fits, Keeps, Shadowed, is_flagged, is_opened, mapped_frame, own, real_at, seen_at}
+use Rattle.vm_shadow.specs.Shadowed.{Fits, Keeps, Remembers, Shadowed, is_flagged, is_opened, mapped_frame, own, real_at, seen_at, way_of}
 use Rattle.vm_shadow.specs.StandsFor.{ClosesPage, GrantsPage, HasModifiedPage, OpensPage, closed_for, own_number}
 use Rattle.vm_shadow.proofs.Changes.{IsFilled, closed, filled_of, grants, one_clear, opens}
 use Rattle.vm_shadow.proofs.Covering.{slot_small}
@@ -46,7 +46,7 @@ clear_rises : (real : ℕ) → is_modified real ≡ false → with_modify real �
 clear_rises real e = ap (λ b. if b then real else real + 2 ^ 26) e
 
 opened_more : (opened : List ℕ) (n : ℕ) (memory : List ℕ) (s : Shadowed) → Keeps [] opened memory s → Keeps [] (n ∷ opened) memory s
-opened_more opened n memory s k = record { fits = k.fits; entries = k.entries; writes = k.writes; guarded = λ i j h c o v x. k.guarded i j h c (or_parts (n == j) (is_opened j opened) o).1 v x }
+opened_more opened n memory s k = record { fits = k.fits; remembers = k.remembers; entries = k.entries; writes = k.writes; guarded = λ i j h c o v x. k.guarded i j h c (or_parts (n == j) (is_opened j opened) o).1 v x }
 
 module _ (m : Machine) (s : Shadowed) (n : ℕ) (f : Fits m.memory s) (h : n < all_entries) (mark : HasModifiedPage m.memory s n) where
   -- a page that is open is opened
@@ -66,20 +66,20 @@ module _ (m : Machine) (s : Shadowed) (n : ℕ) (f : Fits m.memory s) (h : n < a
   others_stay {after = after} w k differ = long_kept m.memory after (entry_place s.at n) (real_at m.memory s n + 2 ^ 26) (entry_place s.at k) w (places_apart s.at n k (λ e. differ (sym e)))
 
   frame_of_filled : (r : IsFilled m.memory s n) → mapped_frame s (real_at m.memory s n) ≡ frame_of (r.right.entry)
-  frame_of_filled r = right_frame m.memory (own m.memory s) s (seen_at m.memory s n) r.source (real_at m.memory s n) f r.right
+  frame_of_filled r = right_frame m.memory (own m.memory s) s (seen_at m.memory s n) (real_at m.memory s n) f r.right
 
-  within_flags : (r : IsFilled m.memory s n) → mapped_frame s (real_at m.memory s n) < length s.writable
-  within_flags r = let e = frame_of_filled r in let i = r.right.inside in omega (arith, f.writable)
+  within_flags : Remembers s → (r : IsFilled m.memory s n) → way_of (mapped_frame s (real_at m.memory s n)) n < length s.writable
+  within_flags known r = let e = frame_of_filled r in let i = r.right.inside in let small : mapped_frame s (real_at m.memory s n) < s.pages = omega arith in omega (arith, known.writable)
 
-  pub opens_now : is_modified (real_at m.memory s n) ≡ false → OpensPage n m s (with_long m (entry_place s.at n) (real_at m.memory s n + 2 ^ 26)) (record s { writable = set s.writable (mapped_frame s (real_at m.memory s n)) true })
+  pub opens_now : is_modified (real_at m.memory s n) ≡ false → OpensPage n m s (with_long m (entry_place s.at n) (real_at m.memory s n + 2 ^ 26)) (record s { writable = set s.writable (way_of (mapped_frame s (real_at m.memory s n)) n) true })
   opens_now off =
-      let at = mapped_frame s (real_at m.memory s n) in
+      let at = way_of (mapped_frame s (real_at m.memory s n)) n in
       let w = write_of in
       record {
         keeps = λ opened k.
             let r = filled_of opened m.memory s n k h mark.filled in
             (opens opened m.memory _ s n (set s.writable at true) k h r off (marked_right m.memory s n mark r) (length-set s.writable at true) (λ frame e. flag_more s.writable at frame e)
-            (subst (λ x. is_flagged x (set s.writable at true) ≡ true) (frame_of_filled r) (flag_set s.writable at (within_flags r))) w).0;
+            (subst (λ x. is_flagged (way_of x n) (set s.writable at true) ≡ true) (frame_of_filled r) (flag_set s.writable at (within_flags k.remembers r))) w).0;
         opens = ap is_modified w.is ∙ set_bit (real_at m.memory s n) off;
         entry = w.is ∙ sym (clear_rises (real_at m.memory s n) off);
         others = others_stay w;
@@ -87,15 +87,15 @@ module _ (m : Machine) (s : Shadowed) (n : ℕ) (f : Fits m.memory s) (h : n < a
         only = only_more s.at m m (entry_place s.at n) _ f.room (place_within s.at n h) (only_none s.at m);
       }
 
-  pub grants_now : is_modified (real_at m.memory s n) ≡ false → is_flagged (mapped_frame s (real_at m.memory s n)) s.consulted ≡ false → GrantsPage n m s (with_long m (entry_place s.at n) (real_at m.memory s n + 2 ^ 26)) (record s { writable = set s.writable (mapped_frame s (real_at m.memory s n)) true })
+  pub grants_now : is_modified (real_at m.memory s n) ≡ false → is_flagged (mapped_frame s (real_at m.memory s n)) s.consulted ≡ false → GrantsPage n m s (with_long m (entry_place s.at n) (real_at m.memory s n + 2 ^ 26)) (record s { writable = set s.writable (way_of (mapped_frame s (real_at m.memory s n)) n) true })
   grants_now off unread =
-      let at = mapped_frame s (real_at m.memory s n) in
+      let at = way_of (mapped_frame s (real_at m.memory s n)) n in
       let w = write_of in
       record {
         keeps = λ opened k.
             let r = filled_of opened m.memory s n k h mark.filled in
             (grants opened m.memory _ s n (set s.writable at true) k h r off (marked_right m.memory s n mark r) (subst (λ x. is_flagged x s.consulted ≡ false) (frame_of_filled r) unread) (length-set s.writable at true) (λ frame e. flag_more s.writable at frame e)
-            (subst (λ x. is_flagged x (set s.writable at true) ≡ true) (frame_of_filled r) (flag_set s.writable at (within_flags r))) w).0;
+            (subst (λ x. is_flagged (way_of x n) (set s.writable at true) ≡ true) (frame_of_filled r) (flag_set s.writable at (within_flags k.remembers r))) w).0;
         opens = ap is_modified w.is ∙ set_bit (real_at m.memory s n) off;
         entry = w.is ∙ sym (clear_rises (real_at m.memory s n) off);
         others = others_stay w;
@@ -115,7 +115,7 @@ still_opened n (k ∷ ks) j differ o = let p = kept_by k n (k == n) (closed_for 
 
 pub closes_same : (m : Machine) (s : Shadowed) (n : ℕ) → is_modified (real_at m.memory s n) ≡ false → ClosesPage n m s m
 closes_same m s n off = record {
-  keeps = λ pending opened k. record { fits = k.fits; entries = k.entries; writes = k.writes; guarded = λ i j h c o v x. k.guarded i j h c (still_opened n opened j (λ same. true≢false (sym x ∙ subst (λ y. is_modified (real_at m.memory s y) ≡ false) (sym same) off)) o) v x };
+  keeps = λ pending opened k. record { fits = k.fits; remembers = k.remembers; entries = k.entries; writes = k.writes; guarded = λ i j h c o v x. k.guarded i j h c (still_opened n opened j (λ same. true≢false (sym x ∙ subst (λ y. is_modified (real_at m.memory s y) ≡ false) (sym same) off)) o) v x };
   closes = off;
   others = λ k differ. refl;
   only = only_none s.at m;
@@ -148,7 +148,7 @@ closes_then m m2 s page place real f c is read on write =
 pub closes_else : (m : Machine) (s : Shadowed) (page place real : ℕ) → place ≡ entry_place s.at (own_number s page) → real ≡ long_at m.memory place → is_modified real ≡ false → ClosesPage (own_number s page) m s m
 closes_else m s page place real is read off = closes_same m s (own_number s page) (subst (λ x. is_modified x ≡ false) (read ∙ ap (long_at m.memory) is) off)
 
-module _ (m m2 : Machine) (s inside : Shadowed) (page place real frame : ℕ) (flags : List Bool) (view : inside ≡ s) (f : Fits m.memory s) (c : IsCovered page) (mark : HasModifiedPage m.memory s (own_number s page)) (is : place ≡ entry_place s.at (own_number s page)) (read : real ≡ long_at m.memory place) where
+module _ (m m2 : Machine) (s inside : Shadowed) (page place real frame n : ℕ) (flags : List Bool) (view : inside ≡ s) (f : Fits m.memory s) (c : IsCovered page) (mark : HasModifiedPage m.memory s (own_number s page)) (is : place ≡ entry_place s.at (own_number s page)) (read : real ≡ long_at m.memory place) where
   real_is : real ≡ real_at m.memory s (own_number s page)
   real_is = read ∙ ap (long_at m.memory) is
 
@@ -161,16 +161,20 @@ module _ (m m2 : Machine) (s inside : Shadowed) (page place real frame : ℕ) (f
   machine_is : m2 ≡ with_long m place (real + 2 ^ 26) → m2 ≡ with_long m (entry_place s.at (own_number s page)) (real_at m.memory s (own_number s page) + 2 ^ 26)
   machine_is write = write ∙ (λ i. with_long m (is i) (real_is i + 2 ^ 26))
 
-  shadow_is : frame ≡ frame_of real - inside.base → flags ≡ set inside.writable frame true → record inside { writable = flags } ≡ record s { writable = set s.writable (mapped_frame s (real_at m.memory s (own_number s page))) true }
-  shadow_is at set_ =
+  shadow_is : frame ≡ frame_of real - inside.base → n ≡ own_number inside page → flags ≡ set inside.writable (way_of frame n) true → record inside { writable = flags } ≡ record s { writable = set s.writable (way_of (mapped_frame s (real_at m.memory s (own_number s page))) (own_number s page)) true }
+  shadow_is at n_is set_ =
       let at_is : frame ≡ mapped_frame s (real_at m.memory s (own_number s page)) = at ∙ (λ i. frame_of (real_is i) - (view i).base) in
-      (λ i. record (view i) { writable = set_ i }) ∙ (λ i. record s { writable = set (view i).writable (at_is i) true })
+      (λ i. record (view i) { writable = set_ i }) ∙ (λ i. record s { writable = set (view i).writable (way_of (at_is i) ((n_is ∙ ap (λ (x : Shadowed). own_number x page) view) i)) true })
 
-  pub opens_then : is_modified real ≡ false → m2 ≡ with_long m place (real + 2 ^ 26) → frame ≡ frame_of real - inside.base → flags ≡ set inside.writable frame true → OpensPage (own_number s page) m s m2 (record inside { writable = flags })
-  opens_then off write at set_ = subst (λ x. OpensPage (own_number s page) m s x (record inside { writable = flags })) (sym (machine_is write)) (subst (OpensPage (own_number s page) m s (with_long m (entry_place s.at (own_number s page)) (real_at m.memory s (own_number s page) + 2 ^ 26))) (sym (shadow_is at set_))
+  pub opens_then : is_modified real ≡ false → m2 ≡ with_long m place (real + 2 ^ 26) → frame ≡ frame_of real - inside.base → n ≡ own_number inside page → flags ≡ set inside.writable (way_of frame n) true → OpensPage (own_number s page) m s m2 (record inside { writable = flags })
+  opens_then off write at n_is set_ = subst (λ x. OpensPage (own_number s page) m s x (record inside { writable = flags })) (sym (machine_is write)) (subst (OpensPage (own_number s page) m s (with_long m (entry_place s.at (own_number s page)) (real_at m.memory s (own_number s page) + 2 ^ 26))) (sym (shadow_is at n_is set_))
       (opens_now m s (own_number s page) f (own_small m.memory s page f c) mark (subst (λ x. is_modified x ≡ false) real_is off)))
 
-  pub grants_then : is_modified real ≡ false → is_flagged frame inside.consulted ≡ false → m2 ≡ with_long m place (real + 2 ^ 26) → frame ≡ frame_of real - inside.base → flags ≡ set inside.writable frame true → GrantsPage (own_number s page) m s m2 (record inside { writable = flags })
-  grants_then off unread write at set_ = subst (λ x. GrantsPage (own_number s page) m s x (record inside { writable = flags })) (sym (machine_is write)) (subst (GrantsPage (own_number s page) m s (with_long m (entry_place s.at (own_number s page)) (real_at m.memory s (own_number s page) + 2 ^ 26))) (sym (shadow_is at set_))
+  pub grants_then : is_modified real ≡ false → is_flagged frame inside.consulted ≡ false → m2 ≡ with_long m place (real + 2 ^ 26) → frame ≡ frame_of real - inside.base → n ≡ own_number inside page → flags ≡ set inside.writable (way_of frame n) true → GrantsPage (own_number s page) m s m2 (record inside { writable = flags })
+  grants_then off unread write at n_is set_ = subst (λ x. GrantsPage (own_number s page) m s x (record inside { writable = flags })) (sym (machine_is write)) (subst (GrantsPage (own_number s page) m s (with_long m (entry_place s.at (own_number s page)) (real_at m.memory s (own_number s page) + 2 ^ 26))) (sym (shadow_is at n_is set_))
       (grants_now m s (own_number s page) f (own_small m.memory s page f c) mark (subst (λ x. is_modified x ≡ false) real_is off)
       (subst (λ x. is_flagged x s.consulted ≡ false) (at ∙ (λ i. frame_of (real_is i) - (view i).base)) (ap (λ (x : Shadowed). is_flagged frame x.consulted) (sym view) ∙ unread))))
+
+-- the frame that a page's real entry maps
+pub maps_own : (m : Machine) (s inside : Shadowed) (page place real frame : ℕ) → inside ≡ s → place ≡ entry_place s.at (own_number s page) → real ≡ long_at m.memory place → frame ≡ frame_of real - inside.base → frame ≡ mapped_frame s (real_at m.memory s (own_number s page))
+maps_own m s inside page place real frame view is read at = at ∙ (λ i. frame_of ((read ∙ ap (long_at m.memory) is) i) - (view i).base)

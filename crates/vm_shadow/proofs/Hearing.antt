@@ -1,5 +1,5 @@
 -- The machine's walk against the guest's.
-use Rattle.std.proofs.Common.{◌≡◌, ℕ, ◌+◌, ◌*◌, ◌%◌, ◌^◌, ◌<◌, ◌≤◌, inl, inr, Bool, true, false, not, cond, List, [], length, Option, Some, None, Result, Ok, Err, is_some, refl, ap, ◌∙◌, sym, subst, arith}
+use Rattle.std.proofs.Common.{◌≡◌, ℕ, ◌+◌, ◌*◌, ◌%◌, ◌^◌, ◌<◌, ◌≤◌, ◌⊎◌, inl, inr, Bool, true, false, not, cond, List, [], length, Option, Some, None, Result, Ok, Err, is_some, refl, ap, ◌∙◌, sym, subst, arith}
 use Rattle.std.proofs.lemmas.Bool.{false≢true, le-ltb, not-false}
 use Rattle.std.proofs.lemmas.Option.{none-some, same_Some}
 use Rattle.vv_base.specs.Bytes.{long_at}
@@ -20,9 +20,9 @@ use Rattle.vax_arch.proofs.Compression.{by_table, compresses}
 use Rattle.vax_arch.proofs.Walks.{looks_inside}
 use Rattle.vax_hw.specs.RealTables.{access_judged, access_judged_at, everywhere, is_clear_in, is_kernels_alone, judged_by, place_by, place_in, placed_by}
 use Rattle.vax_table.specs.Interaction.{Absent, Cause, Refusing}
-use Rattle.vm_shadow.specs.Laws.{FindsFilledEntries, HasNone, HearsTheGuest, IsHeard, MarksTheGuest, MissesEmptyEntries, ProbesFilledEntries, ProbesTheGuest, guest_place, own_place, real_place, relocated}
+use Rattle.vm_shadow.specs.Laws.{FindsFilledEntries, HasNone, HearsTheGuest, IsHeard, MarksTheGuest, MirrorsTheGuest, MissesEmptyEntries, ProbesFilledEntries, ProbesTheGuest, guest_place, own_place, real_place, relocated}
 use Rattle.vm_shadow.specs.Layout.{IsCovered, all_entries, empty_entry, real_entry, real_tables}
-use Rattle.vm_shadow.specs.Shadowed.{CanBeShadowed, IsKept, Keeps, Shadowed, own, read_at, real_at, seen_at}
+use Rattle.vm_shadow.specs.Shadowed.{CanBeShadowed, IsKept, IsRight, Keeps, Shadowed, own, read_at, real_at, seen_at}
 use Rattle.vm_shadow.specs.StandsFor.{Serves, own_number}
 use Rattle.vm_shadow.specs.declared.source.Source.{Source}
 use Rattle.vm_shadow.proofs.Changes.{IsFilled, filled_of, kept_valid}
@@ -260,7 +260,7 @@ module _ (opened : List ℕ) (memory : List ℕ) (s : Shadowed) (g : GuestState)
       let r = filled_there va source c is in
       let seen = seen_own memory s g (page_of va) k.fits v (page_small va small) c in
       let has : entry_at (partition_of memory g) (look (guest_of memory g) (page_of va)) ≡ Some (r.right.entry) = entry_there (own memory s) (partition_of memory g) (seen_at memory s (own_number s (page_of va))) (look (guest_of memory g) (page_of va)) (r.right.entry) (own_is memory s g v) seen r.right.has in
-      let bit : r.right.modify ≡ true = sym (right_modify memory (own memory s) s (seen_at memory s (own_number s (page_of va))) r.source (real_at memory s (own_number s (page_of va))) k.fits r.right) ∙ on in
+      let bit : r.right.modify ≡ true = sym (right_modify memory (own memory s) s (seen_at memory s (own_number s (page_of va))) (real_at memory s (own_number s (page_of va))) k.fits r.right) ∙ on in
       own_clear (look (guest_of memory g) (page_of va)) (r.right.entry) has (r.right.marked bit)
 
   -- a page that has no entry has no clear modify bit
@@ -314,6 +314,17 @@ module _ (opened : List ℕ) (memory : List ℕ) (s : Shadowed) (g : GuestState)
   judged_by_source : (m : Mode) (i : Intent) (va : ℕ) → IsCovered (page_of va) → (x : Option Source) → read_at s (own_number s (page_of va)) ≡ x → is_some x ≡ true → is_some (access_judged memory (real_tables s.at s.slot) (ring_of m) i va) ≡ true
   judged_by_source m i va c None is some = absurd (false≢true some)
   judged_by_source m i va c (Some source) is some = ap is_some (filled_judged m i va c (filled_there va source c is))
+
+is_mirrored : (size base : ℕ) (memory : List ℕ) (seen : Lookup) (real : ℕ) (x : Option Source) → IsKept size base memory [] seen real x → (real ≡ empty_entry) ⊎ IsRight size base memory seen real
+is_mirrored size base memory seen real None k = inl k
+is_mirrored size base memory seen real (Some source) k = inr (k.1 refl).0
+
+pub mirrors_the_guest : MirrorsTheGuest
+mirrors_the_guest opened memory s g k v = record {
+  fits = k.fits;
+  serves = v;
+  entries = λ n h. is_mirrored (512 * s.pages) s.base (own memory s) (seen_at memory s n) (real_at memory s n) (read_at s n) (k.entries n h);
+}
 
 pub hears_the_guest : HearsTheGuest
 hears_the_guest opened memory s g m i va k v small = heard opened memory s g k v m i va small

@@ -7,6 +7,7 @@ pub mod Lookups
 pub mod Contexts
 pub mod Stored
 pub mod Scanning
+pub mod Ways
 pub mod Closing
 pub mod Flagging
 pub mod Sets

@@ -8,7 +8,7 @@ use Rattle.vm_slots.specs.Held.{AreSlots, Held, contexts_of}
 use Rattle.vm_slots.specs.declared.context.Context.{Context}
 use Rattle.vm_shadow.specs.Calls.{Clears, Maps, OnlyTables}
 use Rattle.vm_shadow.specs.Layout.{all_entries, empty_entry, entry_place, kernel_entry}
-use Rattle.vm_shadow.specs.Shadowed.{CanBeShadowed, Fits, IsFirst, IsKept, Shadowed, in_context, is_read_from, own, read_at, real_at, seen_at}
+use Rattle.vm_shadow.specs.Shadowed.{CanBeShadowed, Fits, IsFirst, IsKept, Remembers, Shadowed, in_context, is_read_from, own, read_at, real_at, seen_at}
 use Rattle.vm_shadow.specs.Marks.{AreEmpty}
 use Rattle.vm_shadow.specs.StandsFor.{MakesTables}
 use Rattle.vm_shadow.specs.declared.source.Source.{Source}
@@ -76,7 +76,7 @@ can_stand size s a = record {
 
 -- what was written for a guest is its shadow's
 pub makes : (g : GuestState) (at slot : ℕ) (held : Held) (reads : List (Option Source)) (consulted writable : List Bool) (m m1 m2 : Machine) → length m.memory ≤ 33554432 → 512 * (g.base + g.pages) ≤ length m.memory → 512 * (at + 580) ≤ length m.memory → (g.base + g.pages ≤ at) ⊎ (at + 580 ≤ g.base) → g.pages ≤ 2048 → AreAllowed (512 * g.pages) (state_of g) →
-    AreEmpty reads → consulted ≡ replicate g.pages false → writable ≡ replicate g.pages false → held ≡ (context_of (tables_of g), slot) ∷ [] → AreSlots held → Maps at 512 m m1 → Clears at all_entries m1 m2 →
+    AreEmpty reads → consulted ≡ replicate g.pages false → length writable ≡ 576 * g.pages → held ≡ (context_of (tables_of g), slot) ∷ [] → AreSlots held → Maps at 512 m m1 → Clears at all_entries m1 m2 →
     MakesTables g at m m2 (record { pages = g.pages; base = g.base; at = at; told = tables_of g; slot = slot; held = held; reads = reads; consulted = consulted; writable = writable })
 makes g at slot held reads consulted writable m m1 m2 few partition room apart small allowed reads_is consulted_is writable_is held_is slots maps clears =
     let s : Shadowed = record { pages = g.pages; base = g.base; at = at; told = tables_of g; slot = slot; held = held; reads = reads; consulted = consulted; writable = writable } in
@@ -95,15 +95,18 @@ makes g at slot held reads consulted writable m m1 m2 few partition room apart s
       slots = slots;
       first = subst (IsFirst (context_of (tables_of g)) slot) (sym held_is) (refl, refl);
       system = λ j h. clears.stay j h ∙ maps.mapped j h;
+    } in
+    let known : Remembers s = record {
       whole = reads_is.whole;
       consulted = ap length consulted_is ∙ length-replicate g.pages false;
-      writable = ap length writable_is ∙ length-replicate g.pages false;
+      writable = writable_is;
       consults = λ n frame h e. ap (is_read_from frame) (empty n);
     } in
     record {
       stands = record {
         keeps = record {
           fits = fits;
+          remembers = known;
           entries = λ n h. subst (IsKept (512 * g.pages) g.base (own m2.memory s) [] (seen_at m2.memory s n) (real_at m2.memory s n)) (sym (empty n)) (clear n h);
           guarded = λ n k h c o v x. absurd (invalid (real_at m2.memory s k) (clear k c) v);
           writes = λ k c v x. absurd (invalid (real_at m2.memory s k) (clear k c) v);

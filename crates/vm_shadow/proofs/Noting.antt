@@ -5,11 +5,11 @@ use Rattle.std.proofs.lemmas.List.{length-set}
 use Rattle.vax_hw.specs.Machine.{Machine}
 use Rattle.vm_shadow.specs.Calls.{DropsEntries, is_between, remembered, unless_dropped}
 use Rattle.vm_shadow.specs.Layout.{all_entries}
-use Rattle.vm_shadow.specs.Shadowed.{Fits, IsKept, Keeps, Shadowed, is_flagged, is_read_from, own, read_at, real_at, seen_at}
+use Rattle.vm_shadow.specs.Shadowed.{IsKept, Keeps, Remembers, Shadowed, is_flagged, is_read_from, own, read_at, real_at, seen_at}
 use Rattle.vm_shadow.specs.StandsFor.{Notes}
 use Rattle.vm_shadow.specs.declared.source.Source.{Source}
 use Rattle.vm_shadow.specs.declared.scans.Dropped.TheVariants.{ReadFrom}
-use Rattle.vm_shadow.proofs.Entries.{seen_kept}
+use Rattle.vm_shadow.proofs.Entries.{fits_in, seen_kept}
 use Rattle.vm_shadow.proofs.Flagging.{untaken}
 use Rattle.vm_shadow.proofs.Places.{split}
 use Rattle.vm_shadow.proofs.Scanning.{only_none}
@@ -30,12 +30,12 @@ none_kept x b e = ap (λ c. unless_dropped c x) (sym e)
 
 -- a shadow in which no valid entry can have been read from the frame
 pub quiet : (frame : ℕ) (pending opened : List ℕ) (memory : List ℕ) (s : Shadowed) → Keeps (frame ∷ pending) opened memory s → is_flagged frame s.consulted ≡ false → Keeps pending opened memory s
-quiet frame pending opened memory s k e = noted frame pending opened memory s k (λ n h. k.fits.consults n frame h e)
+quiet frame pending opened memory s k e = noted frame pending opened memory s k (λ n h. k.remembers.consults n frame h e)
 
-pub note_none : (m : Machine) (s : Shadowed) (frame : ℕ) → Fits m.memory s → is_flagged frame s.consulted ≡ false → Notes frame m s m s
-note_none m s frame f e = record {
+pub note_none : (m : Machine) (s : Shadowed) (frame : ℕ) → Remembers s → is_flagged frame s.consulted ≡ false → Notes frame m s m s
+note_none m s frame r e = record {
   keeps = λ pending opened k. quiet frame pending opened m.memory s k e;
-  drops = record { each = λ n. none_kept (read_at s n) (is_read_from frame (read_at s n)) (unflagged frame s (λ i h. f.consults i frame h e) f.whole n); rest = refl };
+  drops = record { each = λ n. none_kept (read_at s n) (is_read_from frame (read_at s n)) (unflagged frame s (λ i h. r.consults i frame h e) r.whole n); rest = refl };
   only = only_none s.at m;
 }
 
@@ -61,22 +61,13 @@ unread_all : (frame : ℕ) (m m' : Machine) (s : Shadowed) (reads' : List (Optio
 unread_all frame m m' s reads' whole d n = subst (λ x. is_read_from frame x ≡ false) (sym (each_from frame s.at m m' s.reads reads' whole d n)) (dropped_none (is_read_from frame (read_at s n)) frame (read_at s n) refl)
 
 unflag_keeps : (frame : ℕ) (pending opened : List ℕ) (memory : List ℕ) (s : Shadowed) → Keeps pending opened memory s → ((n : ℕ) → is_read_from frame (read_at s n) ≡ false) → Keeps pending opened memory (record s { consulted = set s.consulted frame false })
-unflag_keeps frame pending opened memory s k none = let f = k.fits in record {
-  fits = record {
-    few = f.few;
-    small = f.small;
-    partition = f.partition;
-    room = f.room;
-    apart = f.apart;
-    told = f.told;
-    contexts = f.contexts;
-    slots = f.slots;
-    first = f.first;
-    system = f.system;
-    whole = f.whole;
-    consulted = length-set s.consulted frame false ∙ f.consulted;
-    writable = f.writable;
-    consults = λ n other h e. split (untaken s.consulted frame other e) (λ same. subst (λ x. is_read_from x (read_at s n) ≡ false) same (none n)) (λ u. f.consults n other h u);
+unflag_keeps frame pending opened memory s k none = let r = k.remembers in record {
+  fits = fits_in k.fits;
+  remembers = record {
+    whole = r.whole;
+    consulted = length-set s.consulted frame false ∙ r.consulted;
+    writable = r.writable;
+    consults = λ n other h e. split (untaken s.consulted frame other e) (λ same. subst (λ x. is_read_from x (read_at s n) ≡ false) same (none n)) (λ u. r.consults n other h u);
   };
   entries = entries_kept k.entries;
   guarded = k.guarded;
@@ -86,13 +77,13 @@ unflag_keeps frame pending opened memory s k none = let f = k.fits in record {
     entries_kept : ((n : ℕ) → n < all_entries → IsKept (512 * s.pages) s.base (own memory s) pending (seen_at memory s n) (real_at memory s n) (read_at s n)) → (n : ℕ) → n < all_entries → IsKept (512 * s.pages) s.base (own memory s) pending (seen_at memory (record s { consulted = set s.consulted frame false }) n) (real_at memory s n) (read_at s n)
     entries_kept h n l = rw (seen_kept memory memory s s.reads (set s.consulted frame false) s.writable n refl) (h n l)
 
-pub note_all : (m m' : Machine) (s : Shadowed) (reads' : List (Option Source)) (frame : ℕ) → Fits m.memory s → DropsEntries s.at 0 all_entries (ReadFrom frame) m s.reads m' reads' → Notes frame m s m' (unflag s reads' frame)
-note_all m m' s reads' frame f d = record {
+pub note_all : (m m' : Machine) (s : Shadowed) (reads' : List (Option Source)) (frame : ℕ) → Remembers s → DropsEntries s.at 0 all_entries (ReadFrom frame) m s.reads m' reads' → Notes frame m s m' (unflag s reads' frame)
+note_all m m' s reads' frame r d = record {
   keeps = λ pending opened k.
       let after = d.keeps (frame ∷ pending) opened s refl refl k in
-      let none = unread_all frame m m' s reads' f.whole d in
+      let none = unread_all frame m m' s reads' r.whole d in
       unflag_keeps frame pending opened m'.memory (record s { reads = reads' }) (noted frame pending opened m'.memory (record s { reads = reads' }) after (λ n h. none n)) none;
-  drops = record { each = each_from frame s.at m m' s.reads reads' f.whole d; rest = refl };
+  drops = record { each = each_from frame s.at m m' s.reads reads' r.whole d; rest = refl };
   only = d.only;
 }
 

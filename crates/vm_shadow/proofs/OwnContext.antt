@@ -79,5 +79,4 @@ told_again memory s f =
     record {
       takes = subst (λ b. TakesSlot (context_of s.told) (staying b s.held) s.held s.slot) (sym e) own.takes;
       each = λ n. ap (λ b. unless_dropped b (read_at s n)) (sym (kept_by s.slot n _ _ e own.full));
-      rest = refl;
     }

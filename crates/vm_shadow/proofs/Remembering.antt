@@ -5,7 +5,7 @@ use Rattle.std.proofs.lemmas.List.{get_or-replicate, get_or-set_other, get_or-se
 use Rattle.std.specs.Prelude.{if◌then◌else◌}
 use Rattle.vm_shadow.specs.Calls.{is_dropped, remembered}
 use Rattle.vm_shadow.specs.Layout.{all_entries}
-use Rattle.vm_shadow.specs.Marks.{AreEmpty, AreMarked, IsCleared, IsNextMember, IsPast, MarksGroups, SetsMember, is_in, row_start}
+use Rattle.vm_shadow.specs.Marks.{AreEmpty, AreMarked, IsCleared, IsNextMember, IsPast, IsPastIn, MarksGroups, SetsMember, Skips, is_in, row_start}
 use Rattle.vm_shadow.specs.Shadowed.{is_read_from}
 use Rattle.vm_shadow.specs.declared.source.Source.{Source}
 use Rattle.vm_shadow.specs.declared.scans.Dropped.{Dropped}
@@ -88,20 +88,45 @@ past_both which reads from mid n p q = record {
 pub past_less : (which : Dropped) (reads : List (Option Source)) (from end n : ℕ) → from ≤ end → end ≤ n → IsPast which reads from n → IsPast which reads from end
 past_less which reads from end n order within p = record { order = order; free = λ k a b. p.free k a (omega arith) }
 
+-- Groups that aren't marked.
+
+pub skips_none : (groups : List ℕ) (row from : ℕ) → Skips groups row from from
+skips_none groups row from = record { order = omega arith; free = λ k a b. absurd (omega arith) }
+
+pub skips_groups : (groups : List ℕ) (row from found : ℕ) → IsNextMember (row + from / 128) (row + 576) groups found → from % 128 ≡ 0 → Skips groups row from (128 * (found - row))
+skips_groups groups row from found n start = record {
+  order = omega (arith, n.order);
+  free = λ k a b. n.free (row + k / 128) (omega arith) (omega (arith, n.order));
+}
+
+pub skipped : (groups : List ℕ) (row : ℕ) (reads : List (Option Source)) (from n : ℕ) → Skips groups row from n → IsPastIn groups row reads from n
+skipped groups row reads from n s = record { order = s.order; free = λ k a b. inr (s.free k a b) }
+
+pub in_more : (groups : List ℕ) (row : ℕ) (reads : List (Option Source)) (from found mid n : ℕ) → from ≤ mid → mid ≤ found → IsPastIn groups row reads from found → Skips groups row mid n → IsPastIn groups row reads from n
+in_more groups row reads from found mid n order within p s = record {
+  order = omega (arith, s.order);
+  free = λ k a b. split (cases_lt k mid) (λ h. p.free k a (omega arith)) (λ h. inr (s.free k h b));
+}
+
+pub in_less : (groups : List ℕ) (row : ℕ) (reads : List (Option Source)) (from end n : ℕ) → from ≤ end → end ≤ n → IsPastIn groups row reads from n → IsPastIn groups row reads from end
+in_less groups row reads from end n order within p = record { order = order; free = λ k a b. p.free k a (omega arith) }
+
 module _ (frames : ℕ) (reads : List (Option Source)) (filled groups : List ℕ) (m : AreMarked frames reads filled groups) where
   dropped_small : (which : Dropped) (n : ℕ) → is_dropped which (remembered reads n) ≡ true → n < all_entries
   dropped_small which n e = let h : n < length reads = some_within reads n (dropped_some which (remembered reads n) e) in omega (arith, m.whole)
 
-  pub past_groups : (which : Dropped) (from row found : ℕ) → row ≡ row_start frames which → IsNextMember (row + from / 128) (row + 576) groups found → from % 128 ≡ 0 → IsPast which reads from (128 * (found - row))
-  past_groups which from row found is n start = record {
-    order = omega (arith, n.order);
-    free = λ k a b. false_from_ne_true (is_dropped which (remembered reads k)) (λ e. both_ways (is_in (row + k / 128) groups) (n.free (row + k / 128) (omega arith) (omega (arith, n.order))) (subst (λ x. is_in (x + k / 128) groups ≡ true) (sym is) (m.group which k e)));
+  pub past_marked : (which : Dropped) (from row n : ℕ) → row ≡ row_start frames which → IsPastIn groups row reads from n → IsPast which reads from n
+  past_marked which from row n is p = record {
+    order = p.order;
+    free = λ k a b. false_from_ne_true (is_dropped which (remembered reads k)) (λ e. split (p.free k a b)
+        (λ none. both_ways (is_some (remembered reads k)) none (dropped_some which (remembered reads k) e))
+        (λ none. both_ways (is_in (row + k / 128) groups) none (subst (λ x. is_in (x + k / 128) groups ≡ true) (sym is) (m.group which k e))));
   }
 
-  pub past_filled : (which : Dropped) (from n end found : ℕ) → IsNextMember n end filled found → IsPast which reads from n → IsPast which reads from found
-  past_filled which from n end found next p = record {
+  pub past_in : (ways : List ℕ) (row from n end found : ℕ) → IsNextMember n end filled found → IsPastIn ways row reads from n → IsPastIn ways row reads from found
+  past_in ways row from n end found next p = record {
     order = omega (arith, next.order, p.order);
-    free = λ k a b. split (cases_lt k n) (λ h. p.free k a h) (λ h. false_from_ne_true (is_dropped which (remembered reads k)) (λ e. both_ways (is_in k filled) (next.free k h b) (m.each k (dropped_some which (remembered reads k) e))));
+    free = λ k a b. split (cases_lt k n) (λ h. p.free k a h) (λ h. inl (false_from_ne_true (is_some (remembered reads k)) (λ e. both_ways (is_in k filled) (next.free k h b) (m.each k e))));
   }
 
   -- An entry is filled.

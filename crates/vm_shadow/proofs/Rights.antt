@@ -7,7 +7,6 @@ use Rattle.vax_arch.specs.declared.walk.Lookup.{Lookup}
 use Rattle.vax_arch.proofs.Compression.{compressed_code}
 use Rattle.vm_shadow.specs.Layout.{bool_as_bit, real_entry}
 use Rattle.vm_shadow.specs.Shadowed.{Fits, IsRight, Shadowed, mapped_frame}
-use Rattle.vm_shadow.specs.declared.source.Source.{Source}
 
 bit_small : (b : Bool) → bool_as_bit b < 2
 bit_small true = omega arith
@@ -47,7 +46,7 @@ modify_of base b entry h = ap (λ x. eqb x 1) (real_modified (compressed_of (pro
 pub frame_fits : (memory : List ℕ) (s : Shadowed) (entry : ℕ) → Fits memory s → 512 * frame_of entry + 512 ≤ 512 * s.pages → s.base + frame_of entry < 2 ^ 21
 frame_fits memory s entry f h = omega (arith, f.partition, f.few)
 
-module _ (memory own : List ℕ) (s : Shadowed) (seen : Lookup) (source : Source) (real : ℕ) (f : Fits memory s) (r : IsRight (512 * s.pages) s.base own seen source real) where
+module _ (memory own : List ℕ) (s : Shadowed) (seen : Lookup) (real : ℕ) (f : Fits memory s) (r : IsRight (512 * s.pages) s.base own seen real) where
   pub right_small : s.base + frame_of (r.entry) < 2 ^ 21
   right_small = frame_fits memory s r.entry f r.inside
 

@@ -5,7 +5,7 @@ use Rattle.std.proofs.lemmas.List.{get_or-set_other, get_or-set_same, length-set
 use Rattle.std.proofs.lemmas.Nat.{shr-shr}
 use Rattle.std.proofs.lemmas.Nat.Bits.{bit_at-trailing_zeros, bit_at-zero, bit_at_above, bit_at_clear_other, bit_at_clear_same, bit_at_set_other, bit_at_set_same}
 use Rattle.std.specs.Int.{bit_at, bit_not, trailing_zeros}
-use Rattle.vm_shadow.specs.Marks.{IsCleared, IsNextMember, SetsMember, is_in}
+use Rattle.vm_shadow.specs.Marks.{AreAbsent, IsCleared, IsNextMember, SetsMember, is_in}
 use Rattle.vm_shadow.proofs.Places.{split}
 
 -- a word of a set is written, in which another bit stands for one number
@@ -96,21 +96,18 @@ first_in_word words at rest is some small below =
     zero_one : (a : ℕ) → a ≡ 0 → a ≡ 1 → ⊥
     zero_one a e f = omega arith
 
--- none from a number up to another
-pub record IsFree (from end : ℕ) (words : List ℕ) : Type 0 where
-  pub order : from ≤ end
-  pub free : (k : ℕ) → from ≤ k → k < end → is_in k words ≡ false
+-- None from a number up to another.
 
-pub free_none : (from : ℕ) (words : List ℕ) → IsFree from from words
+pub free_none : (from : ℕ) (words : List ℕ) → AreAbsent from from words
 free_none from words = record { order = omega arith; free = λ k a b. absurd (omega arith) }
 
-pub free_more : (from at rest : ℕ) (words : List ℕ) → rest ≡ slice_index words (at / 64) / 2 ^ (at % 64) → rest ≡ 0 → IsFree from at words → IsFree from (at / 64 * 64 + 64) words
+pub free_more : (from at rest : ℕ) (words : List ℕ) → rest ≡ slice_index words (at / 64) / 2 ^ (at % 64) → rest ≡ 0 → AreAbsent from at words → AreAbsent from (at / 64 * 64 + 64) words
 free_more from at rest words is zero_is f = record {
   order = omega (arith, f.order);
   free = λ k a b. split (cases_lt k at) (λ h. f.free k a h) (λ h. none_in_word words at rest k is zero_is h b);
 }
 
-pub next_here : (from at end rest n : ℕ) (words : List ℕ) → rest ≡ slice_index words (at / 64) / 2 ^ (at % 64) → rest ≢ 0 → rest < 2 ^ 64 → slice_index words (at / 64) < 2 ^ 64 → at < end → n ≡ min end (at + trailing_zeros w64 rest) → IsFree from at words → IsNextMember from end words n
+pub next_here : (from at end rest n : ℕ) (words : List ℕ) → rest ≡ slice_index words (at / 64) / 2 ^ (at % 64) → rest ≢ 0 → rest < 2 ^ 64 → slice_index words (at / 64) < 2 ^ 64 → at < end → n ≡ min end (at + trailing_zeros w64 rest) → AreAbsent from at words → IsNextMember from end words n
 next_here from at end rest n words is some small below h n_is f =
     let w = first_in_word words at rest is (omega arith) small below in
     let t = trailing_zeros w64 rest in
@@ -122,5 +119,5 @@ next_here from at end rest n words is some small below h n_is f =
       is = λ l. let e : n ≡ at + t = omega arith in subst (λ x. is_in x words ≡ true) (sym e) w.is;
     }
 
-pub next_none : (from at end : ℕ) (words : List ℕ) → from ≤ end → end ≤ at → IsFree from at words → IsNextMember from end words end
+pub next_none : (from at end : ℕ) (words : List ℕ) → from ≤ end → end ≤ at → AreAbsent from at words → IsNextMember from end words end
 next_none from at end words order h f = record { order = order; within = omega arith; free = λ k a b. f.free k a (omega arith); is = λ l. absurd (omega arith) }

@@ -5,7 +5,7 @@ use Rattle.vv_base.specs.Bytes.{long_at}
 use Rattle.vax_arch.specs.Fields.{is_modified, is_valid}
 use Rattle.vax_arch.specs.declared.walk.Lookup.{Lookup}
 use Rattle.vm_shadow.specs.Layout.{all_entries, entry_page, entry_place}
-use Rattle.vm_shadow.specs.Shadowed.{Fits, IsKept, IsRight, Keeps, Shadowed, is_flagged, is_pending, is_read_from, mapped_frame, own, read_at, real_at, seen_at, tables_for}
+use Rattle.vm_shadow.specs.Shadowed.{Fits, IsKept, IsRight, IsSource, Keeps, Shadowed, is_flagged, is_pending, is_read_from, mapped_frame, own, read_at, real_at, seen_at, tables_for, way_of}
 use Rattle.vm_shadow.specs.declared.source.Source.{Source}
 use Rattle.vm_shadow.proofs.Contexts.{aligned_of, stand_for}
 use Rattle.vm_shadow.proofs.Lookups.{DifferIn, IsSame, same_under}
@@ -57,20 +57,16 @@ fits_stored memory after s frame f small w = record {
   slots = f.slots;
   first = f.first;
   system = λ j l. table_long memory after s frame (512 * s.at + 4 * (8192 + j)) f small w (record { front = omega arith; back = omega arith }) ∙ f.system j l;
-  whole = f.whole;
-  consulted = f.consulted;
-  writable = f.writable;
-  consults = f.consults;
 }
 
-pub seen_same : (memory after : List ℕ) (s : Shadowed) (frame n : ℕ) (source : Source) → Fits memory s → IsFrameWritten (s.base + frame) memory after → is_read_from frame (Some source) ≡ false → IsRight (512 * s.pages) s.base (own memory s) (seen_at memory s n) source (real_at memory s n) → IsSame (own memory s) (own after s) (seen_at memory s n) (seen_at after s n)
+pub seen_same : (memory after : List ℕ) (s : Shadowed) (frame n : ℕ) (source : Source) → Fits memory s → IsFrameWritten (s.base + frame) memory after → is_read_from frame (Some source) ≡ false → IsSource (seen_at memory s n) source → IsSame (own memory s) (own after s) (seen_at memory s n) (seen_at after s n)
 unfolding seen_at
-seen_same memory after s frame n source f w u r = same_under (512 * s.pages) frame (own memory s) (own after s) (entry_page n) (tables_for s n) source (own_differs memory after s frame f w) (λ t e. aligned_of t (stand_for memory s n t f e)) r.from u
+seen_same memory after s frame n source f w u from = same_under (512 * s.pages) frame (own memory s) (own after s) (entry_page n) (tables_for s n) source (own_differs memory after s frame f w) (λ t e. aligned_of t (stand_for memory s n t f e)) from u
 
-right_stored : (memory after : List ℕ) (s : Shadowed) (frame n : ℕ) (source : Source) → Fits memory s → IsFrameWritten (s.base + frame) memory after → is_read_from frame (Some source) ≡ false → IsRight (512 * s.pages) s.base (own memory s) (seen_at memory s n) source (real_at memory s n) → IsRight (512 * s.pages) s.base (own after s) (seen_at after s n) source (real_at memory s n)
-right_stored memory after s frame n source f w u r =
-    let same = seen_same memory after s frame n source f w u r in
-    rw (same.look) (record { entry = r.entry; modify = r.modify; has = same.entry ∙ r.has; valid = r.valid; inside = r.inside; is = r.is; marked = r.marked; from = r.from })
+right_stored : (memory after : List ℕ) (s : Shadowed) (frame n : ℕ) (source : Source) → Fits memory s → IsFrameWritten (s.base + frame) memory after → is_read_from frame (Some source) ≡ false → IsRight (512 * s.pages) s.base (own memory s) (seen_at memory s n) (real_at memory s n) × IsSource (seen_at memory s n) source → IsRight (512 * s.pages) s.base (own after s) (seen_at after s n) (real_at memory s n) × IsSource (seen_at after s n) source
+right_stored memory after s frame n source f w u (r, from) =
+    let same = seen_same memory after s frame n source f w u from in
+    rw (same.look) (record { entry = r.entry; modify = r.modify; has = same.entry ∙ r.has; valid = r.valid; inside = r.inside; is = r.is; marked = r.marked }, from)
 
 kept_stored : (pending : List ℕ) (memory after : List ℕ) (s : Shadowed) (frame n : ℕ) (x : Option Source) → Fits memory s → IsFrameWritten (s.base + frame) memory after → (is_pending pending x ≡ false → is_read_from frame x ≡ false) → IsKept (512 * s.pages) s.base (own memory s) pending (seen_at memory s n) (real_at memory s n) x → IsKept (512 * s.pages) s.base (own after s) pending (seen_at after s n) (real_at memory s n) x
 kept_stored pending memory after s frame n None f w u k = k
@@ -84,10 +80,11 @@ stored pending opened memory after s frame k small w unread =
     let real : (n : ℕ) → n < all_entries → real_at after s n ≡ real_at memory s n = λ n h. table_long memory after s frame (entry_place s.at n) f small w (place_within s.at n h) in
     record {
       fits = fits_stored memory after s frame f small w;
+      remembers = k.remembers;
       entries = λ n h. rw (real n h) (kept_stored pending memory after s frame n (read_at s n) f w (unread n h) (k.entries n h));
       guarded = λ n i h c o v x.
           subst (λ y. is_read_from (mapped_frame s y) (read_at s n) ≡ false) (sym (real i c)) (k.guarded n i h c o (subst (λ y. is_valid y ≡ true) (real i c) v) (subst (λ y. is_modified y ≡ true) (real i c) x));
-      writes = λ i c v x. subst (λ y. is_flagged (mapped_frame s y) s.writable ≡ true) (sym (real i c)) (k.writes i c (subst (λ y. is_valid y ≡ true) (real i c) v) (subst (λ y. is_modified y ≡ true) (real i c) x));
+      writes = λ i c v x. subst (λ y. is_flagged (way_of (mapped_frame s y) i) s.writable ≡ true) (sym (real i c)) (k.writes i c (subst (λ y. is_valid y ≡ true) (real i c) v) (subst (λ y. is_modified y ≡ true) (real i c) x));
     }
 
 -- when nothing is left that was read from a frame, it is no longer pending
@@ -98,6 +95,7 @@ noted_entry size base frame memory pending seen real (Some source) u k = (k.0, �
 pub noted : (frame : ℕ) (pending opened : List ℕ) (memory : List ℕ) (s : Shadowed) → Keeps (frame ∷ pending) opened memory s → ((n : ℕ) → n < all_entries → is_read_from frame (read_at s n) ≡ false) → Keeps pending opened memory s
 noted frame pending opened memory s k none = record {
   fits = k.fits;
+  remembers = k.remembers;
   entries = λ n h. noted_entry (512 * s.pages) s.base frame (own memory s) pending (seen_at memory s n) (real_at memory s n) (read_at s n) (none n h) (k.entries n h);
   guarded = k.guarded;
   writes = k.writes;
@@ -115,6 +113,7 @@ pending_entry size base frame memory pending seen real (Some source) k = (k.0, �
 pub more_pending : (frame : ℕ) (pending opened : List ℕ) (memory : List ℕ) (s : Shadowed) → Keeps pending opened memory s → Keeps (frame ∷ pending) opened memory s
 more_pending frame pending opened memory s k = record {
   fits = k.fits;
+  remembers = k.remembers;
   entries = λ n h. pending_entry (512 * s.pages) s.base frame (own memory s) pending (seen_at memory s n) (real_at memory s n) (read_at s n) (k.entries n h);
   guarded = k.guarded;
   writes = k.writes;

@@ -84,11 +84,8 @@ switched memory s told slot held k c = let f = k.fits in record {
     slots = c.slots;
     first = c.first;
     system = f.system;
-    whole = f.whole;
-    consulted = f.consulted;
-    writable = f.writable;
-    consults = f.consults;
   };
+  remembers = record { whole = k.remembers.whole; consulted = k.remembers.consulted; writable = k.remembers.writable; consults = k.remembers.consults };
   entries = λ n h. kept_as (512 * s.pages) s.base (own memory s) (seen_at memory s n) (seen_at memory (with_told s told slot held) n) (real_at memory s n) (read_at s n) (c.same n h) (k.entries n h);
   guarded = k.guarded;
   writes = k.writes;
@@ -199,7 +196,7 @@ module _ (g : GuestState) (m m' : Machine) (s : Shadowed) (held' : Held) (slot :
   kept_left = d.keeps [] [] s refl refl k
 
   each_goes : (n : ℕ) → remembered reads' n ≡ unless_dropped (goes remapped evicted slot n) (read_at s n)
-  each_goes n = d.each n ∙ some_dropped _ (read_at s n) ∙ range_is remapped evicted slot n s.reads k.fits.whole
+  each_goes n = d.each n ∙ some_dropped _ (read_at s n) ∙ range_is remapped evicted slot n s.reads k.remembers.whole
 
   contexts_stay : All (λ h. CanBeShadowed (in_context (tables_of g) h.0)) held'
   contexts_stay = subst (All (λ h. CanBeShadowed (in_context (tables_of g) h.0))) (sym t.front)
@@ -231,7 +228,7 @@ same_seen false evicted g m m' s held' slot reads' k tables is t full d n h fill
   where
     right_from : (size base : ℕ) (memory : List ℕ) (seen : Lookup) (real : ℕ) (x : Option Source) (source : Source) → x ≡ Some source → IsKept size base memory [] seen real x → IsSource seen source
     right_from size base memory seen real None source e i = cc
-    right_from size base memory seen real (Some other) source e i = subst (IsSource seen) (same_Some other source e) (i.1 refl).from
+    right_from size base memory seen real (Some other) source e i = subst (IsSource seen) (same_Some other source e) (i.1 refl).1
 
     read_is : (n : ℕ) (source : Source) → read_at s n ≡ Some source → is_some (remembered reads' n) ≡ true → remembered reads' n ≡ Some source
     read_is n source e f = by (goes false evicted slot n) (each_goes g m m' s held' slot evicted false reads' k tables t full d n) f

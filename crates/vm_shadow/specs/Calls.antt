@@ -1,10 +1,10 @@
 -- What each call on the shadow page tables makes and drops.
-use Rattle.std.specs.Prelude.{◌≡◌, ℕ, ◌+◌, ◌*◌, ◌-◌, ◌%◌, ◌^◌, ◌<◌, ◌&&◌, Bool, true, false, nat_le, nat_lt, List, [], length, Option, Some, None, is_some, slice_index_or}
+use Rattle.std.specs.Prelude.{◌≡◌, ℕ, ◌+◌, ◌*◌, ◌-◌, ◌%◌, ◌^◌, ◌<◌, ◌&&◌, Bool, true, false, nat_le, nat_lt, List, length, Option, Some, None, is_some, slice_index_or}
 use Rattle.vv_base.specs.Bytes.{long_at, long_bytes, overwritten}
-use Rattle.vax_arch.specs.Fields.{is_modified, is_valid}
+use Rattle.vax_arch.specs.Fields.{is_modified}
 use Rattle.vax_hw.specs.Machine.{Machine}
 use Rattle.vm_shadow.specs.Layout.{empty_entry, entry_place, kernel_entry}
-use Rattle.vm_shadow.specs.Shadowed.{Keeps, Shadowed, is_read_from, real_at}
+use Rattle.vm_shadow.specs.Shadowed.{Keeps, Shadowed, is_read_from}
 use Rattle.vm_shadow.specs.declared.source.Source.{Source}
 use Rattle.vm_shadow.specs.declared.scans.Dropped.{Dropped}
 use Rattle.vm_shadow.specs.declared.scans.Dropped.TheVariants.{All, ReadFrom}
@@ -42,12 +42,6 @@ pub record DropsEntries (at first end : ℕ) (which : Dropped) (before : Machine
 -- whether a real entry maps a frame that a source has, with its modify bit set
 abbrev pub maps_open : (base : ℕ) → Source → (real : ℕ) → Bool
 maps_open base source real = is_modified real && is_read_from (real % 2097152 - base) (Some source)
-
--- the entries below a number that map a frame that a source has have their modify bits clear, and nothing else changed
-pub record Closes (at base end : ℕ) (source : Source) (before : Machine) (reads : List (Option Source)) (after : Machine) : Type 0 where
-  pub only : OnlyTables at before after
-  pub keeps : (s : Shadowed) → s.at ≡ at → s.base ≡ base → s.reads ≡ reads → Keeps [] [] before.memory s → Keeps [] [] after.memory s
-  pub gone : (s : Shadowed) → s.at ≡ at → s.base ≡ base → s.reads ≡ reads → Keeps [] [] before.memory s → (n : ℕ) → n < end → is_valid (real_at after.memory s n) ≡ true → maps_open base source (real_at after.memory s n) ≡ false
 
 -- one entry is closed where it is to be
 abbrev pub closed_at : Bool → Machine → (place : ℕ) → Machine

@@ -1,14 +1,7 @@
 -- Flags by frame of the guest.
-use Rattle.std.specs.Prelude.{Bool, false, ◌||◌, ◌<◌, ℕ, List, slice_set}
-use Rattle.vm_shadow.specs.Shadowed.{is_flagged}
+use Rattle.std.specs.Prelude.{Bool, ◌<◌, ℕ, List, slice_set}
 use Rattle.vm_shadow.specs.declared.source.Source.{Source}
 use Rattle.vm_shadow.specs.declared.source.Source.TheVariants.{Direct, Process, System}
-
--- whether a frame that a source has is flagged
-abbrev pub any_flagged : List Bool → Source → Bool
-any_flagged flags Direct = false
-any_flagged flags (System entry) = is_flagged entry flags
-any_flagged flags (Process entry table) = is_flagged entry flags || is_flagged table flags
 
 -- with each frame that a source has flagged, or not
 abbrev pub with_flags : Bool → Source → List Bool → List Bool

@@ -8,7 +8,7 @@ use Rattle.vax_hw.specs.RealTables.{access_judged, is_clear_in, place_in}
 use Rattle.vax_table.specs.Interaction.{Absent, Cause, Past, Refusing, cause_of}
 use Rattle.vm_shadow.specs.Layout.{real_tables}
 use Rattle.vm_shadow.specs.Shadowed.{Keeps, Shadowed, read_at}
-use Rattle.vm_shadow.specs.StandsFor.{IsPresent, Serves, own_number}
+use Rattle.vm_shadow.specs.StandsFor.{IsPresent, Mirrors, Serves, own_number}
 use Rattle.vm_state.specs.Partition.{guest_of}
 use Rattle.vm_state.specs.Probe.{Answers, probed_byte}
 use Rattle.vm_state.specs.Translation.{is_clear, walk_of}
@@ -41,6 +41,10 @@ real_place memory s m i va = place_in memory (real_tables s.at s.slot) (ring_of 
 
 abbrev pub own_place : List ℕ → GuestState → Mode → Intent → ℕ → Result ℕ Cause
 own_place memory g m i va = guest_place (walk_of (guest_of memory g) va m i)
+
+-- What is kept gives what the tables are, whatever is remembered, also while pages are opened.
+abbrev pub MirrorsTheGuest : Type 0
+MirrorsTheGuest = (opened : List ℕ) (memory : List ℕ) (s : Shadowed) (g : GuestState) → Keeps [] opened memory s → Serves g s → Mirrors memory s g
 
 -- at every address, in every mode, also while pages are opened
 abbrev pub HearsTheGuest : Type 0

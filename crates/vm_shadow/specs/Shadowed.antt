@@ -29,8 +29,10 @@ pub record Shadowed : Type 0 where
   pub held : Held
   -- for each real entry that is filled, the frames of the guest's entries that it was read from
   pub reads : List (Option Source)
-  -- by frame of the guest: an entry may have been read from it; it may be written without an exit
+  -- by frame of the guest: an entry may have been read from it
   pub consulted : List Bool
+  -- by frame of the guest, and by group of 128 real entries, of which there are 576: one of these may let it be written without
+  -- an exit
   pub writable : List Bool
 
 -- The guest's memory is the machine's from its first page on.
@@ -77,7 +79,7 @@ is_read_from frame (Some (Process entry table)) = entry == frame || table == fra
 
 -- A real entry is right: the guest's entry for the page is valid and names a frame in memory; the real one has that
 -- frame, moved, the compressed code, and its modify bit set only where the guest's is.
-pub record IsRight (size base : ℕ) (memory : List ℕ) (seen : Lookup) (source : Source) (real : ℕ) : Type 0 where
+pub record IsRight (size base : ℕ) (memory : List ℕ) (seen : Lookup) (real : ℕ) : Type 0 where
   pub entry : ℕ
   pub modify : Bool
   pub has : entry_at memory seen ≡ Some entry
@@ -85,17 +87,17 @@ pub record IsRight (size base : ℕ) (memory : List ℕ) (seen : Lookup) (source
   pub inside : 512 * frame_of entry + 512 ≤ size
   pub is : real ≡ real_entry base modify entry
   pub marked : modify ≡ true → is_modified entry ≡ true
-  pub from : IsSource seen source
 
 -- whether a source has one of the frames that were written and not yet noted
 abbrev pub is_pending : List ℕ → Option Source → Bool
 is_pending [] source = false
 is_pending (frame ∷ frames) source = is_read_from frame source || is_pending frames source
 
--- an entry is empty; or it is valid, and right, unless it was read from a frame that was written since
+-- an entry is empty; or it is valid, and it is right and was read from the frames that are remembered, unless one of these was
+-- written since
 abbrev pub IsKept : (size base : ℕ) (memory : List ℕ) (pending : List ℕ) (seen : Lookup) (real : ℕ) → Option Source → Type 0
 IsKept size base memory pending seen real None = real ≡ empty_entry
-IsKept size base memory pending seen real (Some source) = (is_valid real ≡ true) × (is_pending pending (Some source) ≡ false → IsRight size base memory seen source real)
+IsKept size base memory pending seen real (Some source) = (is_valid real ≡ true) × (is_pending pending (Some source) ≡ false → IsRight size base memory seen real × IsSource seen source)
 
 -- whether an entry is among those opened for a guarded step
 abbrev pub is_opened : ℕ → List ℕ → Bool
@@ -105,6 +107,10 @@ is_opened n (k ∷ ks) = k == n || is_opened n ks
 -- the frame of the guest that a real entry maps
 abbrev pub mapped_frame : Shadowed → ℕ → ℕ
 mapped_frame s real = frame_of real - s.base
+
+-- the flag by which an entry may let a frame be written
+abbrev pub way_of : (frame n : ℕ) → ℕ
+way_of frame n = 576 * frame + n / 128
 
 -- registers that have values that the real tables can stand for
 pub record CanBeShadowed (t : Tables) : Type 0 where
@@ -123,7 +129,7 @@ IsFirst c slot (h ∷ rest) = (h.0 ≡ c) × (h.1 ≡ slot)
 abbrev pub is_flagged : ℕ → List Bool → Bool
 is_flagged frame flags = slice_index_or flags frame false
 
--- What is so whatever the entries are: places, registers, and what the kernel notes for itself.
+-- What is so whatever the entries are: where the tables lie, and the registers and contexts that they can stand for.
 pub record Fits (memory : List ℕ) (s : Shadowed) : Type 0 where
   -- The guest's pages and its real tables lie in the machine's memory, apart from each other.
   pub few : length memory ≤ 33554432
@@ -139,21 +145,28 @@ pub record Fits (memory : List ℕ) (s : Shadowed) : Type 0 where
   pub first : IsFirst (context_of s.told) s.slot s.held
   -- The last system entries map the process tables.
   pub system : (j : ℕ) → j < 512 → long_at memory (512 * s.at + 4 * (8192 + j)) ≡ kernel_entry (s.at + 68 + j)
-  -- The notes have a place for each entry, and flags for each frame of the guest.
+
+-- What the kernel remembers for itself, whatever memory has.
+pub record Remembers (s : Shadowed) : Type 0 where
+  -- There is a place for each entry's source.
   pub whole : length s.reads ≡ all_entries
+  -- There are flags for each frame of the guest.
   pub consulted : length s.consulted ≡ s.pages
-  pub writable : length s.writable ≡ s.pages
+  pub writable : length s.writable ≡ 576 * s.pages
   -- A frame from which an entry was read is flagged; a flag may be set too often, and never too seldom.
   pub consults : (n frame : ℕ) → n < all_entries → is_flagged frame s.consulted ≡ false → is_read_from frame (read_at s n) ≡ false
 
--- The shadow page tables stand for the guest's own, but for two exceptions, which are none between steps: frames whose
--- writes are pending, since what was read from them isn't dropped yet, and entries opened for a guarded step.
+-- The shadow page tables stand for the guest's own, and what the kernel remembers tells of each entry, but for two
+-- exceptions, which are none between steps: frames whose writes are pending, since what was read from them isn't dropped yet,
+-- and entries opened for a guarded step.
 pub record Keeps (pending opened : List ℕ) (memory : List ℕ) (s : Shadowed) : Type 0 where
   pub fits : Fits memory s
+  pub remembers : Remembers s
   -- Each real entry is empty, or is right for what the guest's tables have now, unless it was read from a pending frame.
   pub entries : (n : ℕ) → n < all_entries → IsKept (512 * s.pages) s.base (own memory s) pending (seen_at memory s n) (real_at memory s n) (read_at s n)
   -- No entry with a set modify bit maps a frame that another, or it itself, was read from, unless it is opened: so the
   -- kernel hears of each write of what was read.
   pub guarded : (n k : ℕ) → n < all_entries → k < all_entries → is_opened k opened ≡ false → is_valid (real_at memory s k) ≡ true → is_modified (real_at memory s k) ≡ true → is_read_from (mapped_frame s (real_at memory s k)) (read_at s n) ≡ false
-  -- The frame that an entry with a set modify bit maps is flagged as one that may be written without an exit.
-  pub writes : (k : ℕ) → k < all_entries → is_valid (real_at memory s k) ≡ true → is_modified (real_at memory s k) ≡ true → is_flagged (mapped_frame s (real_at memory s k)) s.writable ≡ true
+  -- The frame that an entry with a set modify bit maps is flagged, by the entry's group, as one that may be written without
+  -- an exit.
+  pub writes : (k : ℕ) → k < all_entries → is_valid (real_at memory s k) ≡ true → is_modified (real_at memory s k) ≡ true → is_flagged (way_of (mapped_frame s (real_at memory s k)) k) s.writable ≡ true

@@ -12,8 +12,8 @@ use Rattle.vm_shadow.specs.Calls.{OnlyTables, unless_dropped}
 use Rattle.vm_shadow.specs.Flags.{IsWithin}
 use Rattle.vm_slots.specs.Held.{AreSlots, Held, LastGoes, brought_forward, contexts_of, others_held, slot_of, without}
 use Rattle.vm_slots.specs.declared.context.Context.{Context}
-use Rattle.vm_shadow.specs.Layout.{all_entries, entry_number, entry_slot, p0_base, p1_base}
-use Rattle.vm_shadow.specs.Shadowed.{IsSource, Keeps, Shadowed, is_flagged, is_read_from, mapped_frame, own, read_at, real_at, seen_at}
+use Rattle.vm_shadow.specs.Layout.{all_entries, empty_entry, entry_number, entry_slot, p0_base, p1_base}
+use Rattle.vm_shadow.specs.Shadowed.{Fits, IsRight, IsSource, Keeps, Shadowed, is_flagged, is_read_from, mapped_frame, own, read_at, real_at, seen_at}
 use Rattle.vm_shadow.specs.declared.source.Source.{Source}
 use Rattle.vm_state.specs.Allowed.{AreAllowed}
 use Rattle.vm_state.specs.Partition.{guest_of, partition_of}
@@ -28,6 +28,15 @@ pub record Serves (g : GuestState) (s : Shadowed) : Type 0 where
   pub pages : s.pages ≡ g.pages
   pub base : s.base ≡ g.base
   pub told : s.told ≡ tables_of g
+
+-- What the shadow page tables are to a guest, in memory, registers and contexts alone.
+pub record Mirrors (memory : List ℕ) (s : Shadowed) (g : GuestState) : Type 0 where
+  -- They lie where they may, for registers and contexts that they can stand for.
+  pub fits : Fits memory s
+  -- The registers are the guest's.
+  pub serves : Serves g s
+  -- Each real entry is empty, or is right for what the guest's tables have now.
+  pub entries : (n : ℕ) → n < all_entries → (real_at memory s n ≡ empty_entry) ⊎ IsRight (512 * s.pages) s.base (own memory s) (seen_at memory s n) (real_at memory s n)
 
 -- The shadow page tables stand for a guest's own, with nothing pending and nothing opened; the registers that were told
 -- last are the guest's; and its registers have values that they may have.
@@ -166,7 +175,6 @@ pub record TakesSlot (c : Context) (held held' : Held) (slot : ℕ) : Type 0 whe
 pub record Retells (t : Tables) (s s' : Shadowed) : Type 0 where
   pub takes : TakesSlot (context_of t) (staying (is_remapped s.told t) s.held) s'.held s'.slot
   pub each : (n : ℕ) → read_at s' n ≡ unless_dropped (goes (is_remapped s.told t) (is_full_for (context_of t) s.held) s'.slot n) (read_at s n)
-  pub rest : s' ≡ record s { told = s'.told; slot = s'.slot; held = s'.held; reads = s'.reads }
 
 -- the entries that go lie in one range
 abbrev pub range_that_goes : (remapped evicted : Bool) → (slot : ℕ) → ℕ × ℕ

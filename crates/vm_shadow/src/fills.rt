@@ -1,12 +1,14 @@
 ghost use Rattle.std.specs.Prelude.{◌≡◌, ◌<◌, ◌≤◌, ◌+◌, ◌*◌, [], length, false};
 ghost use Rattle.vax_arch.specs.Walk.{page_of};
 ghost use Rattle.vax_arch.specs.WalkLaws.{IsInside};
+ghost use Rattle.vm_shadow.specs.Marks.{Frees};
 ghost use Rattle.vm_shadow.specs.Layout.{IsCovered, entry_number, real_entry};
 ghost use Rattle.vm_shadow.specs.Shadowed.{Keeps};
 ghost use Rattle.vm_shadow.specs.StandsFor.{FillsPage, IsPageEntry, IsPresent, Protects, StandsFor};
 ghost use Rattle.vm_state.specs.Partition.{guest_of, partition_of};
+ghost use Rattle.vm_state.specs.Translation.{look};
 
-use crate::flags::{any_flagged, set_flags};
+use crate::flags::set_flags;
 use crate::scans::entry_place;
 use crate::{Shadow, Source};
 use vax_arch::{Lookup, Pte, REGION, compress};
@@ -66,15 +68,37 @@ fn entry_of<H: Hardware>(machine: &H, g: &GuestState, seen: Lookup) -> Option<(P
 }
 
 impl Shadow {
+    /// No page that maps a frame can be written without an exit any longer.
+    #[tactic(auto, using(crate::proofs::Protecting::frees_beyond))]
+    fn close_frame<H: Hardware>(&mut self, machine: &mut H, frame: u32)
+        requires { Keeps [] [] (H.machine machine.old).memory self.old }
+        ensures { Frees frame (H.machine machine.old) self.old (H.machine machine.new) self.new }
+    {
+        if frame < self.pages {
+            let (first, end) = (9 * frame, 9 * (frame + 1));
+            if self.writable.is_clear(first, end) {
+                return;
+            }
+            let (at, base) = (self.at, self.base);
+            self.reads
+                .close_entries(machine, at, base, &self.writable, frame);
+            self.writable.clear(first, end);
+        }
+    }
+
     /// No page that maps a frame that a source has can be written without an exit any longer.
+    #[tactic(auto, using(crate::proofs::Protecting::protects_direct, crate::proofs::Protecting::protects_system, crate::proofs::Protecting::protects_process))]
     fn protect<H: Hardware>(&mut self, machine: &mut H, source: Source)
         requires { Keeps [] [] (H.machine machine.old).memory self.old }
         ensures { Protects source (H.machine machine.old) self.old (H.machine machine.new) self.new }
     {
-        if any_flagged(&self.writable, source) {
-            self.reads
-                .close_entries(machine, self.at, self.base, source);
-            set_flags(&mut self.writable, source, false);
+        match source {
+            Source::Direct => {}
+            Source::System { entry } => self.close_frame(machine, entry),
+            Source::Process { entry, table } => {
+                self.close_frame(machine, entry);
+                self.close_frame(machine, table);
+            }
         }
     }
 
@@ -85,11 +109,27 @@ impl Shadow {
         requires present { IsPresent (guest_of (H.machine machine.old).memory g.now) (page_of va) }
         ensures { FillsPage (page_of va) g.now (H.machine machine.old) self.old (H.machine machine.new) self.new }
     {
-        let page = va / 512;
-        let seen = look_up(machine, g, page);
+        let seen = look_up(machine, g, va / 512);
+        self.fill_found(machine, g, va, seen);
+    }
+
+    /// The same by the look-up of the page.
+    pub fn fill_found<H: Hardware>(
+        &mut self,
+        machine: &mut H,
+        g: &GuestState,
+        va: u32,
+        seen: Lookup,
+    )
+        requires stands { StandsFor (H.machine machine.old).memory self.old g.now }
+        requires present { IsPresent (guest_of (H.machine machine.old).memory g.now) (page_of va) }
+        requires seen { seen ≡ look (guest_of (H.machine machine.old).memory g.now) (page_of va) }
+        requires inside { IsInside (512 * g.now.pages) seen }
+        ensures { FillsPage (page_of va) g.now (H.machine machine.old) self.old (H.machine machine.new) self.new }
+    {
         if let Some((entry, source)) = entry_of(machine, g, seen) {
             self.protect(machine, source);
-            let n = entry_number(u32::from(self.slot), page);
+            let n = entry_number(u32::from(self.slot), va / 512);
             machine.write_long(entry_place(self.at, n), real_entry(self.base, entry));
             self.reads.fill(n, source);
             set_flags(&mut self.consulted, source, true);

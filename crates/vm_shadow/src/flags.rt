@@ -1,5 +1,5 @@
 ghost use Rattle.std.specs.Prelude.{◌≡◌, slice_set};
-ghost use Rattle.vm_shadow.specs.Flags.{any_flagged, with_flags};
+ghost use Rattle.vm_shadow.specs.Flags.{with_flags};
 ghost use Rattle.vm_shadow.specs.Shadowed.{is_flagged};
 
 use crate::Source;
@@ -19,17 +19,6 @@ pub fn set_flag(flags: &mut Vec<bool>, frame: u32, value: bool)
     let at = frame as usize;
     if at < flags.len() {
         flags[at] = value;
-    }
-}
-
-/// Whether a frame that a source has is flagged.
-pub fn any_flagged(flags: &[bool], source: Source) -> bool
-    ensures { result ≡ any_flagged flags.now source }
-{
-    match source {
-        Source::Direct => false,
-        Source::System { entry } => is_flagged(flags, entry),
-        Source::Process { entry, table } => is_flagged(flags, entry) || is_flagged(flags, table),
     }
 }
 

@@ -1,15 +1,31 @@
-ghost use Rattle.std.specs.Prelude.{◌≡◌, ◌≤◌, ◌+◌, length};
+ghost use Rattle.std.specs.Prelude.{◌≡◌, ◌≤◌, ◌<◌, ◌+◌, length, slice_set, true};
 ghost use Rattle.vax_arch.specs.Walk.{page_of};
+ghost use Rattle.vm_shadow.specs.Marks.{flags_of};
 ghost use Rattle.vm_shadow.specs.Layout.{IsCovered, entry_place};
-ghost use Rattle.vm_shadow.specs.Shadowed.{Fits};
+ghost use Rattle.vm_shadow.specs.Shadowed.{Fits, mapped_frame, real_at, way_of};
 ghost use Rattle.vm_shadow.specs.StandsFor.{ClosesPage, GrantsOrLeaves, HasModifiedPage, OpensPage, can_grant, own_number};
 
 use crate::Shadow;
 use crate::fills::entry_number;
-use crate::flags::{is_flagged, set_flag};
+use crate::flags::is_flagged;
+use crate::marks::Marks;
+use crate::records::{GROUP, GROUPS};
 use crate::scans::{MODIFY, entry_place};
 use vax_arch::Pte;
 use vax_hw::Hardware;
+
+/// Marks the group of an entry, for a frame that it lets be written; a frame beyond the guest's has none.
+#[tactic(auto, using(crate::proofs::Ways::flags_marked, crate::proofs::Ways::flags_past))]
+fn mark_way(ways: &mut Marks, frame: u32, n: u32)
+    requires few { frame ≤ 2097151 }
+    requires number { n < 73728 }
+    ensures { flags_of ways.new ≡ slice_set (flags_of ways.old) (way_of frame n) true }
+{
+    let way = GROUPS * frame + n / GROUP;
+    if ((way / 64) as usize) < ways.words() {
+        ways.mark(way);
+    }
+}
 
 impl Shadow {
     /// The place of the real entry of a page, in the slot in use.
@@ -25,27 +41,30 @@ impl Shadow {
     }
 
     /// Opens an address's page for one guarded step: its real modify bit is set. The page's real entry must be valid, and
-    /// the guest's own modify bit set.
-    pub fn open_write<H: Hardware>(&mut self, machine: &mut H, va: u32)
+    /// the guest's own modify bit set. Answers the frame of the guest that the page maps.
+    #[tactic(auto, using(crate::proofs::Covering::slot_small))]
+    pub fn open_write<H: Hardware>(&mut self, machine: &mut H, va: u32) -> u32
         requires fits { Fits (H.machine machine.old).memory self.old }
         requires covered { IsCovered (page_of va) }
         requires marked { HasModifiedPage (H.machine machine.old).memory self.old (own_number self.old (page_of va)) }
-        ensures { OpensPage (own_number self.old (page_of va)) (H.machine machine.old) self.old (H.machine machine.new) self.new }
+        ensures is { OpensPage (own_number self.old (page_of va)) (H.machine machine.old) self.old (H.machine machine.new) self.new }
+        ensures frame { result ≡ mapped_frame self.old (real_at (H.machine machine.old).memory self.old (own_number self.old (page_of va))) }
     {
         let place = self.place(machine, va / 512);
         let entry = Pte(machine.read_long(place));
-        if !entry.modified() {
-            machine.write_long(place, entry.0 + MODIFY);
-            set_flag(
-                &mut self.writable,
-                entry.frame().saturating_sub(self.base),
-                true,
-            );
+        let frame = entry.frame().saturating_sub(self.base);
+        if entry.modified() {
+            return frame;
         }
+        machine.write_long(place, entry.0 + MODIFY);
+        let n = entry_number(u32::from(self.slot), va / 512);
+        mark_way(&mut self.writable, frame, n);
+        frame
     }
 
     /// Grants writes to an address's page for good, where no entry may have been read from its frame; false where one may
     /// have been, and then nothing changes. The page's real entry must be valid, and the guest's own modify bit set.
+    #[tactic(auto, using(crate::proofs::Covering::slot_small))]
     pub fn grant_write<H: Hardware>(&mut self, machine: &mut H, va: u32) -> bool
         requires fits { Fits (H.machine machine.old).memory self.old }
         requires covered { IsCovered (page_of va) }
@@ -61,7 +80,8 @@ impl Shadow {
         }
         if !entry.modified() {
             machine.write_long(place, entry.0 + MODIFY);
-            set_flag(&mut self.writable, frame, true);
+            let n = entry_number(u32::from(self.slot), va / 512);
+            mark_way(&mut self.writable, frame, n);
         }
         true
     }

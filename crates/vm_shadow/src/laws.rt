@@ -1,4 +1,9 @@
-ghost use Rattle.vm_shadow.specs.Laws.{FindsFilledEntries, HearsTheGuest, MarksTheGuest, MissesEmptyEntries, ProbesFilledEntries, ProbesTheGuest};
+ghost use Rattle.vm_shadow.specs.Laws.{FindsFilledEntries, HearsTheGuest, MarksTheGuest, MirrorsTheGuest, MissesEmptyEntries, ProbesFilledEntries, ProbesTheGuest};
+
+/// Each real entry is empty, or right for what the guest's tables have now.
+pub fn the_tables_mirror_the_guests()
+    ensures { MirrorsTheGuest }
+{}
 
 /// The machine answers an address as the guest's own tables do, or it misses, or it refuses where the guest has no place.
 pub fn the_machine_hears_the_guest()

@@ -5,7 +5,8 @@ ghost use Rattle.vm_state.specs.Allowed.{AreAllowed};
 ghost use Rattle.vm_state.specs.State.{state_of};
 
 use crate::Shadow;
-use crate::records::Records;
+use crate::marks::Marks;
+use crate::records::{GROUPS, Records};
 use crate::scans::{ALL_ENTRIES, EMPTY, entry_place};
 use crate::switches::context_of;
 use std::alloc::Global;
@@ -93,7 +94,7 @@ impl Shadow {
     {
         let reads = Records::new(alloc, g.pages)?;
         let consulted = vec![in alloc; false; g.pages as usize]?;
-        let writable = vec![in alloc; false; g.pages as usize]?;
+        let writable = Marks::new(alloc, GROUPS / 64 * g.pages)?;
         let context = context_of(g);
         let mut held = Slots::new();
         let taken = held.take(&context);

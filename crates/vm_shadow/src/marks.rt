@@ -1,5 +1,5 @@
 ghost use Rattle.std.specs.Prelude.{◌≡◌, ◌≤◌, ◌<◌, ◌+◌, ◌*◌, ◌^◌, true, false, IfOk, length};
-ghost use Rattle.vm_shadow.specs.Marks.{IsCleared, IsNextMember, SetsMember};
+ghost use Rattle.vm_shadow.specs.Marks.{AreAbsent, IsCleared, IsNextMember, SetsMember};
 
 use std::alloc::Global;
 use std::marker::Model;
@@ -26,6 +26,13 @@ impl Marks {
     {
         let words = vec![in alloc; 0u64; words as usize]?;
         Ok(Marks { words })
+    }
+
+    /// How many words it has.
+    pub fn words(&self) -> usize
+        ensures { result ≡ length self.now }
+    {
+        self.words.len()
     }
 
     /// Puts a number into the set.
@@ -57,6 +64,20 @@ impl Marks {
         for at in first..end {
             self.words[at as usize] = 0;
         }
+    }
+
+    /// Whether the set has no number in some words, from one word up to another.
+    pub fn is_clear(&self, first: u32, end: u32) -> bool
+        requires order { first ≤ end }
+        requires within { end ≤ length self.now }
+        ensures { result ≡ true → AreAbsent (64 * first) (64 * end) self.now }
+    {
+        for at in first..end {
+            if self.words[at as usize] != 0 {
+                return false;
+            }
+        }
+        true
     }
 
     /// The first number of the set from one up to another; that other, where there is none.

@@ -1,4 +1,4 @@
-ghost use Rattle.vm_shadow.specs.Shadowed.{Fits};
+ghost use Rattle.vm_shadow.specs.Shadowed.{Fits, Remembers};
 ghost use Rattle.vm_shadow.specs.StandsFor.{Notes};
 
 use crate::Shadow;
@@ -10,6 +10,7 @@ impl Shadow {
     #[tactic(auto, using(crate::proofs::Noting::note_none, crate::proofs::Noting::note_all))]
     pub fn note_write<H: Hardware>(&mut self, machine: &mut H, frame: u32)
         requires fits { Fits (H.machine machine.old).memory self.old }
+        requires remembers { Remembers self.old }
         ensures { Notes frame (H.machine machine.old) self.old (H.machine machine.new) self.new }
     {
         if is_flagged(&self.consulted, frame) {

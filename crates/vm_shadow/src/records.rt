@@ -1,7 +1,7 @@
-ghost use Rattle.std.specs.Prelude.{◌≡◌, ◌≤◌, ◌<◌, ◌+◌, ◌*◌, ◌/◌, ℕ, true, false, IfOk, Some, None, length, slice_set};
-ghost use Rattle.vm_shadow.specs.Calls.{Closes, DropsEntries, remembered};
+ghost use Rattle.std.specs.Prelude.{◌≡◌, ◌≤◌, ◌<◌, ◌+◌, ◌*◌, ◌/◌, ◌^◌, ℕ, true, false, IfOk, Some, None, length, slice_set};
+ghost use Rattle.vm_shadow.specs.Calls.{DropsEntries, remembered};
 ghost use Rattle.vm_shadow.specs.Shadowed.{is_read_from};
-ghost use Rattle.vm_shadow.specs.Marks.{AreEmpty, IsPast, MarksGroups, SetsMember, row_start};
+ghost use Rattle.vm_shadow.specs.Marks.{AreEmpty, IsPast, IsPastIn, MarksGroups, SetsMember, Shuts, Skips, row_start};
 ghost use Rattle.vm_shadow.specs.declared.scans.Dropped.TheVariants.{ReadFrom};
 
 use crate::Source;
@@ -13,9 +13,9 @@ use vax_hw::Hardware;
 use vv_base::NoMemory;
 
 /// The entries of a group, and the groups.
-const GROUP: u32 = 128;
+pub const GROUP: u32 = 128;
 
-const GROUPS: u32 = 576;
+pub const GROUPS: u32 = 576;
 
 /// By the number of a real entry, the frames that it was read from; with marks, so that entries that aren't filled are looked
 /// at only in groups with others. A mark may stand for what is gone; none is missing.
@@ -83,6 +83,21 @@ fn mark_groups(groups: &mut Marks, frames: u32, n: u32, source: Source)
     }
 }
 
+/// The first entry from one on that lies in a group that is marked in a row; that one itself, if it isn't the first of its
+/// group.
+fn skip(groups: &Marks, row: u32, from: u32) -> u32
+    requires few { from ≤ 73728 }
+    requires row { row + 576 ≤ 64 * length groups.now }
+    requires rows { 64 * length groups.now ≤ 2 ^ 24 }
+    ensures skips { Skips groups.now row from result }
+    ensures few { result ≤ 73728 }
+{
+    if from % GROUP != 0 {
+        return from;
+    }
+    GROUP * (groups.next(row + from / GROUP, row + GROUPS) - row)
+}
+
 impl Records {
     /// Records of entries of which none is filled, for a guest of so many frames.
     pub fn new(alloc: Global, frames: u32) -> Result<Records, NoMemory>
@@ -139,18 +154,26 @@ impl Records {
         }
     }
 
-    /// The first entry from one on that lies in a group where one may be dropped so; that one itself, if it isn't the first of
-    /// a group.
-    fn skip(&self, from: u32, which: Dropped) -> u32
-        requires { from ≤ 73728 }
-        ensures past { IsPast which self.now from result }
-        ensures few { result ≤ 73728 }
+    /// The first entry from one up to another that may be filled, in a group that is marked in a row; that other, where there is
+    /// none.
+    fn next_in(&self, groups: &Marks, row: u32, from: u32, end: u32) -> u32
+        requires order { from ≤ end }
+        requires few { end ≤ 73728 }
+        requires row { row + 576 ≤ 64 * length groups.now }
+        requires rows { 64 * length groups.now ≤ 2 ^ 24 }
+        ensures past { IsPastIn groups.now row self.now from result }
+        ensures within { result ≤ end }
     {
-        if from % GROUP != 0 {
-            return from;
+        let mut n = skip(groups, row, from);
+        while n < end {
+            let behind = end.min(n / GROUP * GROUP + GROUP);
+            let found = self.filled.next(n, behind);
+            if found < behind {
+                return found;
+            }
+            n = skip(groups, row, behind);
         }
-        let row = row_of(self.frames, which);
-        GROUP * (self.groups.next(row + from / GROUP, row + GROUPS) - row)
+        end
     }
 
     /// The first entry from one up to another that has to be looked at to drop some so; that other, where there is none.
@@ -160,16 +183,7 @@ impl Records {
         ensures past { IsPast which self.now from result }
         ensures within { result ≤ end }
     {
-        let mut n = self.skip(from, which);
-        while n < end {
-            let behind = end.min(n / GROUP * GROUP + GROUP);
-            let found = self.filled.next(n, behind);
-            if found < behind {
-                return found;
-            }
-            n = self.skip(behind, which);
-        }
-        end
+        self.next_in(&self.groups, row_of(self.frames, which), from, end)
     }
 
     /// Looks at a record.
@@ -218,26 +232,30 @@ impl Records {
         self.forget(frame);
     }
 
-    /// Clears the modify bit of each real entry that maps a frame that a source has.
+    /// Clears the modify bit of each real entry that maps a frame, in the groups that are marked for it.
     pub fn close_entries<H: Hardware>(
         &mut self,
         machine: &mut H,
         at: u32,
         base: u32,
-        source: Source,
+        ways: &Marks,
+        frame: u32,
     )
         requires whole { length self.old ≡ 73728 }
         requires room { 512 * (at + 580) ≤ length (H.machine machine.old).memory }
-        ensures closes { Closes at base 73728 source (H.machine machine.old) self.old (H.machine machine.new) }
+        requires row { 576 * (frame + 1) ≤ 64 * length ways.now }
+        requires rows { 64 * length ways.now ≤ 2 ^ 24 }
+        ensures shuts { Shuts at base 73728 frame ways.now (H.machine machine.old) self.old (H.machine machine.new) }
         ensures same { self.new ≡ self.old }
     {
         let _all = machine.pages();
-        let mut n = self.next(0, ALL_ENTRIES, Dropped::All);
+        let row = GROUPS * frame;
+        let mut n = self.next_in(ways, row, 0, ALL_ENTRIES);
         while n < ALL_ENTRIES {
-            if self.look(n).is_some() {
-                close_entry(machine, entry_place(at, n), base, source);
-            }
-            n = self.next(n + 1, ALL_ENTRIES, Dropped::All);
+            let _known = self.look(n);
+            let source = Source::System { entry: frame };
+            close_entry(machine, entry_place(at, n), base, source);
+            n = self.next_in(ways, row, n + 1, ALL_ENTRIES);
         }
     }
 }

@@ -1,3 +1,4 @@
+use crate::marks::Marks;
 use crate::records::Records;
 use std::marker::Model;
 use vm_slots::{Context, Slots};
@@ -17,17 +18,19 @@ pub struct Shadow {
     pub(crate) held: Slots,
     /// By the number of a real entry, the frames that it was read from.
     pub(crate) reads: Records,
-    /// By frame of the guest: an entry may have been read from it; a real entry may map it with its modify bit set.
+    /// By frame of the guest: an entry may have been read from it.
     pub(crate) consulted: Vec<bool>,
-    pub(crate) writable: Vec<bool>,
+    /// By frame of the guest, 576 each: the groups of real entries in which one may map it with its modify bit set.
+    pub(crate) writable: Marks,
 }
 
 impl Model for Shadow {
+    ghost use Rattle.vm_shadow.specs.Marks.{flags_of};
     ghost use Rattle.vm_shadow.specs.Shadowed.{Shadowed};
 
     ghost Value = { Shadowed };
 
-    ghost view = { λ s. record { pages = s.pages; base = s.base; at = s.at; told = record { mapped = s.context.mapped; p0br = s.context.p0br; p0lr = s.context.p0lr; p1br = s.context.p1br; p1lr = s.context.p1lr; sbr = s.sbr; slr = s.slr }; slot = s.slot; held = s.held; reads = s.reads; consulted = s.consulted.items; writable = s.writable.items } };
+    ghost view = { λ s. record { pages = s.pages; base = s.base; at = s.at; told = record { mapped = s.context.mapped; p0br = s.context.p0br; p0lr = s.context.p0lr; p1br = s.context.p1br; p1lr = s.context.p1lr; sbr = s.sbr; slr = s.slr }; slot = s.slot; held = s.held; reads = s.reads; consulted = s.consulted.items; writable = flags_of s.writable } };
 }
 
 impl Shadow {

@@ -1,6 +1,6 @@
 ghost use Rattle.std.specs.Prelude.{◌≡◌, ◌≤◌, ◌<◌, ◌+◌, ◌*◌, ◌%◌, ◌-◌, length, slice_set};
 ghost use Rattle.vax_arch.specs.Walk.{page_of, with_modify};
-ghost use Rattle.vm_shadow.specs.Shadowed.{Fits, own};
+ghost use Rattle.vm_shadow.specs.Shadowed.{Fits, Remembers, own};
 ghost use Rattle.vm_shadow.specs.StandsFor.{Marks, StandsFor, Stores};
 ghost use Rattle.vm_state.specs.Translation.{long_stored};
 
@@ -38,6 +38,7 @@ impl Shadow {
     /// is dropped.
     pub fn store_byte<H: Hardware>(&mut self, machine: &mut H, pa: u32, byte: u8)
         requires fits { Fits (H.machine machine.old).memory self.old }
+        requires remembers { Remembers self.old }
         requires inside { pa < 512 * self.old.pages }
         ensures { Stores pa (slice_set (own (H.machine machine.old).memory self.old) pa byte) (H.machine machine.old) self.old (H.machine machine.new) self.new }
     {
@@ -50,6 +51,7 @@ impl Shadow {
     /// from that frame is dropped.
     pub fn store_long<H: Hardware>(&mut self, machine: &mut H, pa: u32, long: u32)
         requires fits { Fits (H.machine machine.old).memory self.old }
+        requires remembers { Remembers self.old }
         requires aligned { pa % 4 ≡ 0 }
         requires inside { pa + 4 ≤ 512 * self.old.pages }
         ensures { Stores pa (long_stored pa long (own (H.machine machine.old).memory self.old)) (H.machine machine.old) self.old (H.machine machine.new) self.new }

@@ -84,7 +84,7 @@ module _ (opened : List ℕ) (memory : List ℕ) (s : Shadowed) (g : GuestState)
         covered = c;
         small = number_is_small opened memory s g k v va c;
         filled = f;
-        valid = right_valid memory (own memory s) s (seen_at memory s n) f.source (real_at memory s n) k.fits f.right;
+        valid = right_valid memory (own memory s) s (seen_at memory s n) (real_at memory s n) k.fits f.right;
         frame = omega (arith, gives, moves);
       }
 

@@ -4,6 +4,7 @@ pub mod Partition
 pub mod Translation
 pub mod Pushes
 pub mod Stops
+pub mod StopNumbers
 pub mod Outside
 pub mod Initiate
 pub mod Interrupts

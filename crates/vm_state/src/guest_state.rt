@@ -1,5 +1,6 @@
 ghost use Rattle.std.specs.Prelude.{◌≡◌, ◌≤◌, ◌+◌, Some};
 
+use crate::stops::{StopCode, StopReason};
 use arrayvec::ArrayVec;
 use vax_arch::Psl;
 use vm_clock::Clock;
@@ -13,9 +14,6 @@ const EMPTY_P1: u32 = 0x0020_0000;
 
 /// The level of asynchronous system traps at which none is delivered.
 const NO_AST: u8 = 4;
-
-/// The stop code of a guest that was never started.
-const NEVER_STARTED: u8 = 0;
 
 /// What the kernel keeps of a guest beside its memory.
 #[derive(Drop)]
@@ -44,7 +42,7 @@ pub struct GuestState {
     pub queue: ArrayVec<u32, 8>,
     pub waiting: bool,
     /// The code with which it stopped.
-    pub halt: Option<u8>,
+    pub halt: Option<StopCode>,
     /// Its steps since it started, but those in which it was stopped, modulo 2^32.
     pub steps: u32,
     /// Its memory in pages of 512 bytes, the first of them in the machine, and the address at which it starts.
@@ -67,7 +65,7 @@ impl GuestState {
         ensures place { HasPlace pages base start result }
     {
         let mut guest = GuestState::started(pages, base, start, modify_faults);
-        guest.halt = Some(NEVER_STARTED);
+        guest.halt = Some(StopCode(StopReason::NeverStarted));
         guest
     }
 

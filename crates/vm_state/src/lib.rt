@@ -19,6 +19,6 @@ pub use laws::{
 };
 pub use register::{Effect, Register, ReservedOperand};
 pub use stacks::{pointer, set_pointer, stack_in};
-pub use stops::{BAD_VECTOR, CHANGED_MODE, COMMANDED, HALTED, INTERRUPT_STACK_BAD, PAST_MEMORY};
+pub use stops::{StopCode, StopReason};
 pub use transfer::Accept;
 pub use walk::{MemFault, Walk};

@@ -1,10 +1,10 @@
 -- What a run of the machine ended before, done for the guest.
-use Rattle.std.proofs.Common.{◌≡◌, ℕ, ◌+◌, ◌%◌, ◌^◌, ◌<◌, Bool, true, false, List, [], ◌++◌, append-nil, Option, Some, None, refl, ap, ◌∙◌, sym, subst, arith}
+use Rattle.std.proofs.Common.{◌≡◌, ℕ, ◌+◌, ◌*◌, ◌%◌, ◌^◌, ◌<◌, Bool, true, false, List, [], ◌++◌, append-nil, Option, Some, None, refl, ap, ◌∙◌, sym, subst, arith}
 use Rattle.std.specs.Prelude.{is_some, not}
 use Rattle.vax_hw.specs.Machine.{Machine}
 use Rattle.vax_hw.specs.declared.world.Exit.{Exit}
 use Rattle.vax_hw.specs.declared.world.Exit.TheVariants.{Arithmetic, Budget, Denied, Emulate, Modify, NotValid, Refused}
-use Rattle.vm_bursts.specs.Guarded.{IsGuarded, StaysGuarded, StepsGuarded, count_below}
+use Rattle.vm_bursts.specs.Guarded.{CanAllow, IsGuarded, StaysGuarded, StepsGuarded, count_below}
 use Rattle.vm_bursts.proofs.Completing.{guest_same}
 use Rattle.vm_console.specs.Appends.{Appends}
 use Rattle.vm_console.proofs.Composes.{Appends-nil}
@@ -13,10 +13,12 @@ use Rattle.vm_shadow.specs.Layout.{all_entries}
 use Rattle.vm_shadow.specs.Shadowed.{Shadowed, read_at}
 use Rattle.vm_shadow.specs.StandsFor.{StandsFor}
 use Rattle.vm_simulation_laws.specs.Bursts.{after_counted}
+use Rattle.vm_simulation_laws.specs.Laws.{Meets}
 use Rattle.vm_simulation_laws.specs.Loaded.{guest_try}
 use Rattle.vm_state.specs.Initiate.{initiate}
 use Rattle.vm_state.specs.Partition.{guest_of}
 use Rattle.vm_state.specs.Step.{Idle, Stepped, by_try, executed, initiated_in}
+use Rattle.vm_state.specs.Translation.{is_clear}
 use Rattle.vm_state.specs.declared.exception.Exc.TheVariants as excs
 use Rattle.vm_state.specs.declared.guest_state.GuestState.{GuestState}
 use Rattle.vm_stepping.specs.Advances.{Steps, StepsOrRefills}
@@ -147,3 +149,7 @@ module _ {Port : Type 0} (may : Port → List ℕ → Type 0) (port port' : Port
         let again = subst (λ x. StaysGuarded m s g e m1 s1 x) own stays in
         let now = subst (λ x. IsMet may b port port' m1 s1 x c m2 s2 g2 c2) own met in
         done_behind m s g c e m1 s1 again stands may port port' m2 s2 g2 c2 b (met_done may b port port' m1 s1 g c m2 s2 g2 c2 now)
+
+-- a page of which the machine met a clear modify bit, while that in the guest's own tables is set
+pub may_write : (m : Machine) (s : Shadowed) (g : GuestState) (e : Exit) (va : ℕ) → e ≡ Modify va → StandsFor m.memory s g → Meets e m.memory s g → is_clear (guest_of m.memory g) va ≡ false → CanAllow va m s g
+may_write m s g e va is stands meets set = record { fits = stands.keeps.fits; partition = omega (arith, stands.keeps.fits.partition, stands.serves.pages, stands.serves.base); unwritten = subst (λ x. Meets x m.memory s g) is meets; set = set }

@@ -84,7 +84,7 @@ module _ (m : Machine) (s : Shadowed) (g : GuestState) (va : ℕ) (i : Intent) (
     where
       fewer_now : (m' : Machine) (s' : Shadowed) → Fills (look here (page_of va)) n s s' → n < all_entries → read_at s n ≡ None → unfilled s' < unfilled s
       fewer_now m' s' f0 small empty =
-          let now : read_at s' n ≡ Some f0.source = ap (λ r. slice_index_or r n None) f0.reads ∙ read_here s n (Some f0.source) stands.keeps.fits.whole small in
+          let now : read_at s' n ≡ Some f0.source = ap (λ r. slice_index_or r n None) f0.reads ∙ read_here s n (Some f0.source) stands.keeps.remembers.whole small in
           let others : (j : ℕ) → j ≢ n → read_at s' j ≡ read_at s j = λ j differ. ap (λ r. slice_index_or r j None) f0.reads ∙ read_other s n j (Some f0.source) differ in
           count_less (λ j. not (is_some (read_at s j))) (λ j. not (is_some (read_at s' j))) n all_entries small (ap (λ x. not (is_some x)) empty) (ap (λ x. not (is_some x)) now) (λ j differ. ap (λ x. not (is_some x)) (others j differ))
 

@@ -76,7 +76,7 @@ module _ (m : Machine) (s : Shadowed) (g : GuestState) (va : ℕ) (i : Intent) (
       by : (missed ≡ 0) ⊎ ((missed ≡ 1) × MissesThere va s here) → OwesStill missed m s g m' s'
       by (inl none) = subst (λ c. OwesStill c m s g m' s') (sym none) (kept_owe m s g m' s' kept same)
       by (inr one) =
-          let fewer : to_miss s' (touches_now here) + 1 ≤ to_miss s (touches_now here) = one_filled (touches_now here) s s' (page_of va) (look here (page_of va)) one.1.touched (ap is_some one.1.empty) (omega (arith, inside, stands.keeps.fits.whole)) f.fills in
+          let fewer : to_miss s' (touches_now here) + 1 ≤ to_miss s (touches_now here) = one_filled (touches_now here) s s' (page_of va) (look here (page_of va)) one.1.touched (ap is_some one.1.empty) (omega (arith, inside, stands.keeps.remembers.whole)) f.fills in
           fills_owe missed m s g m' s' kept (omega (arith, fewer, one.0)) same
 
   module _ {Port : Type 0} (may : Port → List ℕ → Type 0) (port port' : Port) (c : Counts) (m' : Machine) (s' : Shadowed) (g' : GuestState) (c' : Counts) where

@@ -1,13 +1,12 @@
 -- What an instruction that completes is found to be.
-use Rattle.std.proofs.Common.{◌≡◌, ◌⊎◌, inl, inr, ℕ, zero, suc, ◌-◌, ◌||◌, ◌&&◌, Bool, true, false, eqb, leb, List, [], ◌∷◌, length, Option, Some, None, Result, Ok, Err, refl, ap}
-use Rattle.std.specs.Prelude.{slice_get, slice_index}
-use Rattle.std.proofs.lemmas.Bool.{and_parts}
-use Rattle.vv_base.specs.declared.width.Width.TheVariants.{Byte, Word, Long}
+use Rattle.std.proofs.Common.{◌≡◌, ℕ, ◌||◌, Bool, true, false, List, [], length, Option, Some, None, Result, Ok, Err, refl, ap}
+use Rattle.std.specs.List.{range_with_len}
+use Rattle.std.specs.Prelude.{map, replicate, slice_index}
 use Rattle.vax_arch.specs.declared.mode.Intent.{Intent}
 use Rattle.vax_table.specs.Claims.{Holds, claims}
 use Rattle.vax_table.specs.Fetch.{fetched}
 use Rattle.vax_table.specs.Operand.{operands_of, trap_operands}
-use Rattle.vax_table.specs.Operations.{OperationRow, arithmetic_operations, in_operations, move_operations, operation_in_rows, operation_of, other_operations}
+use Rattle.vax_table.specs.Operations.{operation_of}
 use Rattle.vax_table.specs.Plan.{plan_of}
 use Rattle.vax_table.specs.Interaction.{Interaction, Trouble, outcome}
 use Rattle.vax_table.specs.Spelling.{Instruction}
@@ -18,6 +17,7 @@ use Rattle.vax_table.specs.declared.act.Sens.TheVariants.{Prober, Probew}
 use Rattle.vax_table.specs.declared.meaning.Operation.{Operation}
 use Rattle.vax_table.specs.declared.meaning.Operation.TheVariants as does
 use Rattle.vax_table.proofs.Claims.{holds-bind, holds_always, holds_made}
+use Rattle.vax_table.proofs.Targets.{of_each_opcode}
 use Rattle.vax_table.proofs.Tests.{if_both}
 use Rattle.vax_table.proofs.Widths.{OperandsAreWide, operands_wide}
 use Rattle.vm_simulation_laws.specs.Loaded.{guest_try}
@@ -37,43 +37,14 @@ is_no_probe (does.Sensitive Prober) = false
 is_no_probe (does.Sensitive Probew) = false
 is_no_probe operation = true
 
-abbrev are_no_probes : List Operation → Bool
-are_no_probes [] = true
-are_no_probes (o ∷ os) = is_no_probe o && are_no_probes os
-
-abbrev are_no_probe_lines : List OperationRow → Bool
-are_no_probe_lines [] = true
-are_no_probe_lines (l ∷ ls) = is_no_probe l.operation && are_no_probe_lines ls
-
--- an element of such a list, where there is one
-at_place : (os : List Operation) (k : ℕ) → are_no_probes os ≡ true → (slice_get os k ≡ None) ⊎ ((o : Operation) × (slice_get os k ≡ Some o) × (is_no_probe o ≡ true))
-at_place [] k e = inl refl
-at_place (o ∷ os) zero e = inr (o, refl, (and_parts (is_no_probe o) (are_no_probes os) e).0)
-at_place (o ∷ os) (suc k) e = at_place os k (and_parts (is_no_probe o) (are_no_probes os) e).1
-
-in_block : (n first : ℕ) (block : List Operation) (rest : Operation) → are_no_probes block ≡ true → is_no_probe rest ≡ true → is_no_probe (in_operations n first block rest) ≡ true
-in_block n first block rest e r =
-    if_both (λ (o : Operation). is_no_probe o ≡ true) (leb first n) _ _
-    (λ t. elim (at_place block (n - first) e) [ inl none ↦ rw none r | inr some ↦ rw some.1 some.2 ])
-    (λ t. r)
-
-in_lines : (n : ℕ) (ls : List OperationRow) → are_no_probe_lines ls ≡ true → is_no_probe (operation_in_rows n ls) ≡ true
-in_lines n [] e = refl
-in_lines n (l ∷ ls) e =
-    let parts = and_parts (is_no_probe l.operation) (are_no_probe_lines ls) e in
-    if_both (λ (o : Operation). is_no_probe o ≡ true) (eqb n l.opcode) _ _ (λ t. parts.0) (λ t. in_lines n ls parts.1)
+-- all 256 at once, by computation
+no_probes : map (λ n. is_no_probe (operation_of n)) (range_with_len 0 256) ≡ replicate 256 true
+unfolding operation_of
+no_probes = refl
 
 -- PROBE isn't among the sensitive ones
 no_probe : (n : ℕ) → is_no_probe (operation_of n) ≡ true
-unfolding operation_of
-no_probe n =
-    in_block n 0x80 (arithmetic_operations Byte) _ refl
-    (in_block n 0xa0 (arithmetic_operations Word) _ refl
-    (in_block n 0xc0 (arithmetic_operations Long) _ refl
-    (in_block n 0x90 (move_operations Byte) _ refl
-    (in_block n 0xb0 (move_operations Word) _ refl
-    (in_block n 0xd0 (move_operations Long) _ refl
-    (in_lines n other_operations refl))))))
+no_probe n = of_each_opcode is_no_probe no_probes refl n
 
 is_none : (op : Sens) → is_no_probe (does.Sensitive op) ≡ true → IsNoProbe op
 is_none Prober e = cc

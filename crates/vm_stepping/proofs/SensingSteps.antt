@@ -64,7 +64,7 @@ Comes outcomes.PastMemory x shown m s g m' s' g' = Steps x s m' s' g' × (x.show
 Comes outcomes.Filled x shown m s g m' s' g' = Refills m s g m' s' g' × (shown ≡ []) × KeepsFilled s s'
 
 follows_at : (frames : List ℕ) (t : Tables) (s s' : Shadowed) → Follows frames t s s' → s'.at ≡ s.at
-follows_at frames t s s' f = ap (λ (x : Shadowed). x.at) f.retells.rest ∙ ap (λ (x : Shadowed). x.at) f.drops.rest
+follows_at frames t s s' f = ap (λ (x : Shadowed). x.at) f.rest ∙ ap (λ (x : Shadowed). x.at) f.drops.rest
 
 -- registers in two parts
 in_two : (r : List ℕ) → length r ≡ 16 → take 15 r ++ slice_index r 15 ∷ [] ≡ r

@@ -17,7 +17,7 @@ use vax_hw::Hardware;
 use vm_console::Port;
 use vm_events::{Note, Source, begin, interrupt, show_stop};
 use vm_shadow::Shadow;
-use vm_state::{Exc, GuestState, PAST_MEMORY};
+use vm_state::{Exc, GuestState, StopCode, StopReason};
 
 /// A fault of the instruction is initiated.
 pub fn fault<H: Hardware, T: Port>(
@@ -53,8 +53,9 @@ pub fn stop_past_memory<H: Hardware, T: Port>(
     ensures made { Made T.may (stopped (guest_of (H.machine machine.now).memory g.old) PastMemory Fault) port.old port.new (H.machine machine.now) s.now g.old counts.old (H.machine machine.now) s.now g.new counts.new }
     ensures note { note.new ≡ Nothing }
 {
-    show_stop(g, port, PAST_MEMORY);
-    g.halt = Some(PAST_MEMORY);
+    let code = StopCode(StopReason::PastMemory);
+    show_stop(g, port, code);
+    g.halt = Some(code);
     counts.faults += 1;
     *note = Note::Nothing;
 }

@@ -2,7 +2,7 @@ ghost use Rattle.std.specs.Prelude.{◌≡◌, ◌<◌, ◌^◌, true};
 ghost use Rattle.vax_table.specs.Interaction.{Test};
 ghost use Rattle.vax_table.specs.Tries.{Stopped};
 ghost use Rattle.vax_table.specs.Troubles.{intent_of};
-ghost use Rattle.vm_bursts.specs.Guarded.{ExitIsMet};
+ghost use Rattle.vm_bursts.specs.Guarded.{CanAllow, ExitIsMet};
 ghost use Rattle.vm_events.specs.Noted.{note_by_try, note_of_instruction};
 ghost use Rattle.vm_exception.specs.Initiated.{IsProper};
 ghost use Rattle.vm_miss_laws.specs.Runs.{Reaches};
@@ -127,7 +127,8 @@ fn meet_told<H: Hardware, T: Port>(
     }
 }
 
-/// Runs the guest's instruction alone, with the pages that it writes made writable. Answers whether its step was made.
+/// Runs the guest's instruction alone, which writes an address's page, with the pages that it writes made writable. Answers
+/// whether its step was made.
 fn run_alone<H: Hardware, T: Port>(
     machine: &mut H,
     s: &mut Shadow,
@@ -135,14 +136,16 @@ fn run_alone<H: Hardware, T: Port>(
     port: &mut T,
     counts: &mut Counts,
     note: &mut Note,
+    va: u32,
 ) -> bool
     requires stands { StandsFor (H.machine machine.old).memory s.old g.old }
     requires room { steps_in counts.old < 2 ^ 32 }
+    requires written { CanAllow va (H.machine machine.old) s.old g.old }
     ensures is { StepsOrRefills T.may result port.old port.new (H.machine machine.old) s.old g.old counts.old (H.machine machine.new) s.new g.new counts.new }
     ensures pays { PaysFor result 0 (H.machine machine.old) s.old g.old (H.machine machine.new) s.new }
     ensures note { NotesMet result (note_of_instruction (guest_of (H.machine machine.old).memory g.old)) note.new }
 {
-    let ran = run_guarded(machine, s, g);
+    let ran = run_guarded(machine, s, g, va);
     match ran.exit {
         Exit::Budget => {
             counts.retire(1, ran.terms);
@@ -178,7 +181,7 @@ pub fn meet<H: Hardware, T: Port>(
 {
     if let Exit::Modify { va } = exit {
         if !is_clear(machine, g, va) {
-            return run_alone(machine, s, g, port, counts, note);
+            return run_alone(machine, s, g, port, counts, note, va);
         }
     }
     meet_told(machine, s, g, port, counts, note, exit)

@@ -16,7 +16,7 @@ use vm_console::Port;
 use vm_events::Note;
 use vm_shadow::Shadow;
 use vm_state::{Exc, GuestState, Walk};
-use vm_walk::walk;
+use vm_walk::{look_up, walk_found};
 
 /// What becomes of a byte that the machine has no place for: its page is filled, where the guest has a place; else that is the
 /// guest's own fault, or stops it. Answers whether a step was made.
@@ -37,9 +37,10 @@ pub fn meet_missing<H: Hardware, T: Port>(
     ensures pays { (missed : ℕ) → WereMissed missed i va (H.machine machine.old).memory s.old g.old → PaysFor result missed (H.machine machine.old) s.old g.old (H.machine machine.new) s.new }
     ensures note { NotesMet result (note_by_try (guest_of (H.machine machine.old).memory g.old) (guest_try (guest_of (H.machine machine.old).memory g.old))) note.new }
 {
-    match walk(machine, g, va, g.psl.current(), i) {
+    let seen = look_up(machine, g, va / 512);
+    match walk_found(machine, g, va, g.psl.current(), i, seen) {
         Walk::Frame { .. } => {
-            s.fill(machine, g, va);
+            s.fill_found(machine, g, va, seen);
             false
         }
         Walk::Fault(trouble) => {

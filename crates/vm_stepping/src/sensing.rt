@@ -17,7 +17,7 @@ use vm_console::Port;
 use vm_emulate::{Emulated, emulate};
 use vm_events::{Note, show_stop};
 use vm_shadow::Shadow;
-use vm_state::{GuestState, PAST_MEMORY};
+use vm_state::{GuestState, StopCode, StopReason};
 
 /// A guest has sixteen registers, and a trap has all of them but PC.
 fn have_registers(r: &[u32; 16], t: &Trapped)
@@ -69,7 +69,7 @@ pub fn sense<H: Hardware, T: Port>(
             true
         }
         Emulated::PastMemory => {
-            show_stop(g, port, PAST_MEMORY);
+            show_stop(g, port, StopCode(StopReason::PastMemory));
             counts.faults += 1;
             true
         }

@@ -6,6 +6,6 @@ mod partition;
 mod translate;
 
 pub use lookup::look_up;
-pub use translate::walk;
+pub use translate::{walk, walk_found};
 pub use vax_arch::Lookup;
 pub use vm_state::{MemFault, Walk};

@@ -1,9 +1,9 @@
 ghost use Rattle.std.specs.Prelude.{◌≡◌, ◌≤◌, ◌<◌, ◌+◌, ◌*◌, length};
 ghost use Rattle.vax_arch.specs.Ring.{open_of};
-ghost use Rattle.vax_arch.specs.Walk.{granted};
-ghost use Rattle.vax_arch.specs.WalkLaws.{HasFrame};
+ghost use Rattle.vax_arch.specs.Walk.{granted, page_of};
+ghost use Rattle.vax_arch.specs.WalkLaws.{HasFrame, IsInside};
 ghost use Rattle.vm_state.specs.Partition.{guest_of};
-ghost use Rattle.vm_state.specs.Translation.{at_entry, memory_fault, walk_of};
+ghost use Rattle.vm_state.specs.Translation.{at_entry, look, memory_fault, walk_of};
 
 use crate::lookup::look_up;
 use crate::partition::{is_past, read_long};
@@ -62,14 +62,22 @@ fn at_entry(va: u32, i: Intent, place: u32, table: Option<u32>, grant: Grant) ->
     }
 }
 
-/// An address of the guest translated in a mode, for reading or writing, over the guest's own tables in its part of the
-/// machine's memory. All places are physical in the guest's memory.
+/// An address of the guest translated in a mode, for reading or writing, by the look-up of its page.
 #[tactic(auto, unfolding(vm_state::specs::Translation::walk_of), using(vm_state::proofs::Parts::part_length))]
-pub fn walk<H: Hardware>(machine: &H, g: &GuestState, va: u32, m: Mode, i: Intent) -> Walk
-    requires { 512 * (g.now.base + g.now.pages) ≤ length (H.machine machine.now).memory }
+pub fn walk_found<H: Hardware>(
+    machine: &H,
+    g: &GuestState,
+    va: u32,
+    m: Mode,
+    i: Intent,
+    seen: Lookup,
+) -> Walk
+    requires partition { 512 * (g.now.base + g.now.pages) ≤ length (H.machine machine.now).memory }
+    requires seen { seen ≡ look (guest_of (H.machine machine.now).memory g.now) (page_of va) }
+    requires inside { IsInside (512 * g.now.pages) seen }
     ensures { result ≡ walk_of (guest_of (H.machine machine.now).memory g.now) va m i }
 {
-    match look_up(machine, g, va / 512) {
+    match seen {
         Lookup::Found { place, table } => {
             let entry = Pte(read_long(machine, g, place));
             at_entry(va, i, place, table, granted(g, entry, m, i))
@@ -85,4 +93,14 @@ pub fn walk<H: Hardware>(machine: &H, g: &GuestState, va: u32, m: Mode, i: Inten
         } => Walk::Fault(fault(not_valid, va, parameter, i)),
         Lookup::Beyond => Walk::Beyond,
     }
+}
+
+/// An address of the guest translated in a mode, for reading or writing, over the guest's own tables in its part of the
+/// machine's memory. All places are physical in the guest's memory.
+pub fn walk<H: Hardware>(machine: &H, g: &GuestState, va: u32, m: Mode, i: Intent) -> Walk
+    requires { 512 * (g.now.base + g.now.pages) ≤ length (H.machine machine.now).memory }
+    ensures { result ≡ walk_of (guest_of (H.machine machine.now).memory g.now) va m i }
+{
+    let seen = look_up(machine, g, va / 512);
+    walk_found(machine, g, va, m, i, seen)
 }

@@ -1,5 +1,6 @@
+use Rattle.std.proofs.Common.{◌∙◌, sym}
 use Rattle.vm_state.specs.Partition.{guest_of}
-use Rattle.vm_stepping.proofs.Meeting.{met_done}
+use Rattle.vm_stepping.proofs.Meeting.{may_write, met_done}
 use Rattle.vm_stepping.proofs.Noting.{notes_instruction}
 use Rattle.vm_stepping.proofs.met.meet.Goals as goal
 
@@ -8,3 +9,6 @@ returns-clause-is g c = met_done g.T.Port.may c.meet_told.result c.args.port.now
 
 pub returns-clause-note : goal.returns-clause-note
 returns-clause-note g c = notes_instruction c.meet_told.result (guest_of (g.H.Hardware.machine c.args.machine.now).memory c.args.g.now) c.meet_told.new.note c.meet_told.ensures.note
+
+pub run_alone-requires-clause-written : goal.run_alone-requires-clause-written
+run_alone-requires-clause-written g c = may_write (g.H.Hardware.machine c.args.machine.now) c.args.s.now c.args.g.now c.args.exit c.in-Modify.va c.in-Modify.is c.requires.stands c.requires.meets (sym c.is_clear.ensures ∙ c.if-not-is_clear.true)

@@ -1,9 +1,0 @@
-use Rattle.std.proofs.Common.{◌-◌, ◌≤◌}
-use Rattle.vm_shadow.specs.Marks.{IsPast}
-use Rattle.vm_shadow.proofs.records.Records.next.Given as goal
-
-abbrev pub invariant-loop-n : goal.invariant-loop-n
-invariant-loop-n l = record { past : IsPast l.which l.self l.from l.n; few : l.n ≤ 73728 }
-
-abbrev pub decreases-loop-n : goal.decreases-loop-n
-decreases-loop-n l = l.end - l.n
