@@ -17,15 +17,6 @@ pub struct Screen {
     pub seen: u64,
 }
 
-/// The same name.
-fn copied(name: &Name) -> Name
-    ensures { result ≡ name.now }
-{
-    let mut copy = Name::new();
-    copy.append(name.bytes());
-    copy
-}
-
 /// The screens of these terminals, from what their lines have shown on.
 pub fn screens_of(
     alloc: Global,
@@ -39,7 +30,7 @@ pub fn screens_of(
     let mut screens = Vec::new(alloc);
     for terminal in terminals {
         screens.push(Screen {
-            name: copied(&terminal.name),
+            name: terminal.name.copied(),
             line: terminal.line,
             seen: shown_len_of(lines, usize::from(terminal.line)),
         })?;

@@ -1,8 +1,9 @@
 -- What lines are shown, one showing after another.
-use Rattle.std.proofs.Common.{ℕ, ◌≡◌, ◌<◌, List, [], ◌∷◌, ◌++◌, length, slice_index_or, slice_set, refl, sym, ◌∙◌, ap, subst, Bool, true, false, true≢false, if◌then◌else◌, ◌==◌, Some, map, Result, is_err}
+use Rattle.std.proofs.Common.{ℕ, ◌≡◌, ◌<◌, ◌+◌, List, [], ◌∷◌, ◌++◌, length, slice_index_or, slice_set, take, refl, sym, ◌∙◌, ap, subst, arith, Bool, true, false, true≢false, if◌then◌else◌, ◌==◌, Some, map, Result, is_err}
 use Rattle.sys_lines.specs.ShownSince.{ShownSinceOn}
 use Rattle.sys_state.proofs.Places.{both}
 use Rattle.std.proofs.lemmas.Bool.{eq-eqb, eqb-true}
+use Rattle.std.proofs.lemmas.Grind.{common_steps}
 use Rattle.std.proofs.lemmas.List.{get_or-set_same, get_or-set_other}
 use Rattle.vv_io.specs.Lines.{PutsOn, Seen, unseen}
 use Rattle.sys_lines.proofs.OneLine.{put_once}
@@ -74,6 +75,31 @@ shows_same marks marks' lines lines' f h e shows = record {
   line = λ k. subst (λ bytes. ShowsUnlessMarked (slice_index_or marks k false) (slice_index_or marks' k false) (slice_index_or lines k unseen) (slice_index_or lines' k unseen) bytes) (e k) (shows.line k);
   others = λ k none. shows.others k (e k ∙ none);
 }
+
+-- no byte of a line's bytes is shown yet
+pub none_shown : (k : ℕ) (marks : List Bool) (lines : List Seen) → Shows marks marks lines lines (only_on (Some k) [])
+none_shown k marks lines = shows_same marks marks lines lines (λ j. []) (only_on (Some k) []) (λ j. none (k == j)) (shows_none marks lines)
+  where
+    none : (b : Bool) → (let bytes : List ℕ = [] in bytes) ≡ (let bytes : List ℕ = [] in if b then bytes else [])
+    none true = refl
+    none false = refl
+
+-- two texts for one line
+both_on : (k j : ℕ) (x y : List ℕ) → only_on (Some k) x j ++ only_on (Some k) y j ≡ only_on (Some k) (x ++ y) j
+both_on k j x y = by (k == j)
+  where
+    by : (b : Bool) → (if b then x else []) ++ (if b then y else []) ≡ (if b then x ++ y else [])
+    by true = refl
+    by false = refl
+
+next_taken : (bytes : List ℕ) (i : ℕ) → i < length bytes → take i bytes ++ (slice_index_or bytes i 0 ∷ []) ≡ take (i + 1) bytes
+next_taken bytes i h = grind (arith, common_steps)
+
+-- byte i of all is shown
+pub next_shown : (k i : ℕ) (all : List ℕ) (a b c : List Bool) (l m n : List Seen) → i < length all → Shows a b l m (only_on (Some k) (take i all)) → Shows b c m n (only_on (Some k) (slice_index_or all i 0 ∷ [])) → Shows a c l n (only_on (Some k) (take (i + 1) all))
+next_shown k i all a b c l m n h first second =
+    let bytes = slice_index_or all i 0 ∷ [] in
+    shows_same a c l n _ _ (λ j. both_on k j (take i all) bytes ∙ ap (λ (xs : List ℕ). only_on (Some k) xs j) (next_taken all i h)) (shows_then first second)
 
 -- bytes that are put at once on a line that isn't marked
 pub whole_shown : {D U E : Type 0} (f : D → Seen) (items : List D) (marks : List Bool) (k : ℕ) (after : List Seen) (bytes : List ℕ) (r : Result U E) (failed : Bool) → k < length marks → k < length items → slice_index_or marks k false ≡ false → (bytes ≡ [] → ⊥) → failed ≡ is_err r → PutsOn k (map f items) after bytes r → Shows marks (slice_set marks k failed) (map f items) after (only_on (Some k) bytes)

@@ -1,9 +1,8 @@
-ghost use Rattle.std.specs.Prelude.{◌≡◌, ◌<◌, map, vec_len, is_err, IfSome, Some};
-ghost use Rattle.sys_lines.specs.ShownSince.{ShownSinceOn};
+ghost use Rattle.std.specs.Prelude.{◌≡◌, ◌<◌, map, vec_len, IfSome, Some};
 ghost use Rattle.sys_lines.specs.Shows.{Shows, only_on};
 ghost use Rattle.sys_state.specs.Places.{place_of};
 
-use vv_io::{Line, LineFault, put_on};
+use vv_io::{Line, put_on};
 
 /// Which of the 32 lines have failed.
 pub type Marks = [bool; 32];
@@ -20,33 +19,6 @@ pub fn first_marked(marks: &Marks) -> Option<u8>
     None
 }
 
-/// Puts each byte by itself on a line; the first fault ends it.
-fn put_each(lines: &mut Vec<Box<dyn Line>>, k: usize, bytes: &[u8]) -> Result<(), LineFault>
-    requires { k < vec_len lines.old }
-    ensures shows { ShownSinceOn k (is_err result) (map (λ b. seen b) lines.old.items) (map (λ b. seen b) lines.new.items) bytes.now }
-    ensures len { vec_len lines.new ≡ vec_len lines.old }
-{
-    for byte in bytes {
-        put_on(lines, k, &[*byte])?;
-    }
-    Ok(())
-}
-
-/// Puts each byte by itself on a line, if there is one and it isn't marked; a fault marks it.
-pub fn show_each(marks: &mut Marks, lines: &mut Vec<Box<dyn Line>>, place: Option<u8>, bytes: &[u8])
-    requires there { IfSome place (λ line. line < 32) }
-    requires lines { vec_len lines.old ≡ 32 }
-    ensures shows { Shows marks.old marks.new (map (λ b. seen b) lines.old.items) (map (λ b. seen b) lines.new.items) (only_on place bytes.now) }
-    ensures len { vec_len lines.new ≡ vec_len lines.old }
-{
-    if let Some(line) = place {
-        let k = line as usize;
-        if !marks[k] && !bytes.is_empty() {
-            marks[k] = put_each(lines, k, bytes).is_err();
-        }
-    }
-}
-
 /// Puts bytes on a line, all in one put, if it isn't marked and there are some; a fault marks it.
 pub fn show_whole(marks: &mut Marks, lines: &mut Vec<Box<dyn Line>>, line: u8, bytes: &[u8])
     requires there { line < 32 }
@@ -57,5 +29,19 @@ pub fn show_whole(marks: &mut Marks, lines: &mut Vec<Box<dyn Line>>, line: u8, b
     let k = line as usize;
     if !marks[k] && !bytes.is_empty() {
         marks[k] = put_on(lines, k, bytes).is_err();
+    }
+}
+
+/// Puts each byte by itself on a line, if there is one and it isn't marked; a fault marks it.
+pub fn show_each(marks: &mut Marks, lines: &mut Vec<Box<dyn Line>>, place: Option<u8>, bytes: &[u8])
+    requires there { IfSome place (λ line. line < 32) }
+    requires lines { vec_len lines.old ≡ 32 }
+    ensures shows { Shows marks.old marks.new (map (λ b. seen b) lines.old.items) (map (λ b. seen b) lines.new.items) (only_on place bytes.now) }
+    ensures len { vec_len lines.new ≡ vec_len lines.old }
+{
+    if let Some(line) = place {
+        for byte in bytes {
+            show_whole(marks, lines, line, &[*byte]);
+        }
     }
 }

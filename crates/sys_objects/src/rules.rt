@@ -4,7 +4,7 @@ ghost use Rattle.sys_objects.specs.Rules.{IsFew, objects_of, lines_of, audit_lin
 
 use crate::{Audit, Config, GuestRow, Mount, PrinterRow, Terminal, VolumeRow};
 use std::alloc::Global;
-use vv_base::{Name, NoMemory, Text};
+use vv_base::{Name, NoMemory};
 use vv_class::{AccessClass, flows};
 
 /// The name and the class of an object.
@@ -24,21 +24,16 @@ pub trait Named: Drop {
         ensures { result ≡ object_of self.now };
 }
 
-fn copied(name: &Name, class: AccessClass) -> Object
-    ensures { result ≡ record { name = name.now; class = class } }
-{
-    let mut copy = Text::new();
-    copy.append(name.bytes());
-    Object { name: copy, class }
-}
-
 impl Named for Terminal {
     ghost use Rattle.sys_objects.specs.Rules.{terminal_object};
 
     ghost object_of = { terminal_object };
 
     fn object(&self) -> Object {
-        copied(&self.name, self.class)
+        Object {
+            name: self.name.copied(),
+            class: self.class,
+        }
     }
 }
 
@@ -48,7 +43,10 @@ impl Named for VolumeRow {
     ghost object_of = { volume_object };
 
     fn object(&self) -> Object {
-        copied(&self.name, self.class)
+        Object {
+            name: self.name.copied(),
+            class: self.class,
+        }
     }
 }
 
@@ -58,7 +56,10 @@ impl Named for PrinterRow {
     ghost object_of = { printer_object };
 
     fn object(&self) -> Object {
-        copied(&self.name, self.class)
+        Object {
+            name: self.name.copied(),
+            class: self.class,
+        }
     }
 }
 
@@ -68,7 +69,10 @@ impl Named for GuestRow {
     ghost object_of = { guest_object };
 
     fn object(&self) -> Object {
-        copied(&self.name, self.class)
+        Object {
+            name: self.name.copied(),
+            class: self.class,
+        }
     }
 }
 

@@ -2,7 +2,6 @@ ghost use Rattle.std.specs.Prelude.{◌≡◌, IfOk, bytes_eq, find};
 ghost use Rattle.std.specs.Option.{option_copied};
 ghost use Rattle.sys_purge.specs.Events.{is_kept_event, purge_events};
 
-use crate::purge::copied;
 use std::alloc::Global;
 use sys_objects::{Config, Terminal};
 use sys_script::{Event, LineText, Typed};
@@ -47,7 +46,7 @@ pub fn purge_events(
         if is_kept_event(c, to, event) {
             kept.push(Event {
                 round: event.round,
-                terminal: copied(&event.terminal),
+                terminal: event.terminal.copied(),
                 what: what_of(alloc, event)?,
             })?;
         }

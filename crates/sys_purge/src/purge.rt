@@ -4,7 +4,7 @@ ghost use Rattle.sys_purge.specs.Purge.{rank, console_place, printer_place, moun
 
 use std::alloc::Global;
 use sys_objects::{Audit, Config, GuestRow, Mount, PrinterRow, Rows, Terminal, VolumeRow};
-use vv_base::{NoMemory, Text};
+use vv_base::NoMemory;
 use vv_class::{AccessClass, flows};
 
 /// An object with a class, which can be copied.
@@ -20,14 +20,6 @@ trait Row: Drop {
         ensures { result ≡ self.now };
 }
 
-pub(crate) fn copied<const N: usize>(text: &Text<N>) -> Text<N>
-    ensures { result ≡ text.now }
-{
-    let mut copy = Text::new();
-    copy.append(text.bytes());
-    copy
-}
-
 impl Row for Terminal {
     ghost class_of = { λ t. t.class };
 
@@ -37,7 +29,7 @@ impl Row for Terminal {
 
     fn copied(&self) -> Self {
         Terminal {
-            name: copied(&self.name),
+            name: self.name.copied(),
             line: self.line,
             class: self.class,
         }
@@ -53,7 +45,7 @@ impl Row for VolumeRow {
 
     fn copied(&self) -> Self {
         VolumeRow {
-            name: copied(&self.name),
+            name: self.name.copied(),
             drive: self.drive,
             blocks: self.blocks,
             class: self.class,
@@ -70,7 +62,7 @@ impl Row for PrinterRow {
 
     fn copied(&self) -> Self {
         PrinterRow {
-            name: copied(&self.name),
+            name: self.name.copied(),
             line: self.line,
             class: self.class,
         }
@@ -158,10 +150,10 @@ fn renumbered(c: &Config, to: &AccessClass, g: &GuestRow) -> GuestRow
     ensures { result ≡ renumbered to.now c.now g.now }
 {
     GuestRow {
-        name: copied(&g.name),
+        name: g.name.copied(),
         class: g.class,
         pages: g.pages,
-        image: copied(&g.image),
+        image: g.image.copied(),
         load: g.load,
         start: g.start,
         autostart: g.autostart,

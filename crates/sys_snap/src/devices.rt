@@ -10,9 +10,11 @@ ghost use Rattle.vv_base.specs.Bits.{is_set};
 
 use crate::cursor::{Cursor, flag, long};
 use crate::fault::SnapFault;
+use crate::record::RUNS;
 use arrayvec::ArrayVec;
 use vm_clock::{Clock, ClockParts};
 use vm_console::{Console, ConsoleParts};
+use vm_state::StopCode;
 use vv_base::{Text, get_u16};
 
 /// Bit 6 of ICCS: a wrap requests an interrupt.
@@ -85,15 +87,6 @@ fn are_zero(bytes: &[u8]) -> bool
     bytes.iter().all(|b| *b == 0)
 }
 
-fn text_of(bytes: &[u8]) -> Text<256>
-    requires { length bytes.now ≤ 256 }
-    ensures { result ≡ bytes.now }
-{
-    let mut text = Text::new();
-    text.append(bytes);
-    text
-}
-
 /// The bytes that wait, in 256 places, of which the others are 0.
 fn waiting(r: &mut Cursor, count: u16) -> Result<Text<256>, SnapFault>
     requires { count ≤ 256 }
@@ -105,7 +98,7 @@ fn waiting(r: &mut Cursor, count: u16) -> Result<Text<256>, SnapFault>
     if !are_zero(rest) {
         return Err(SnapFault { place });
     }
-    Ok(text_of(own))
+    Ok(Text::from_bytes(own))
 }
 
 /// The console, 262 bytes.
@@ -217,19 +210,22 @@ pub fn read_queue(r: &mut Cursor, size: u32) -> Result<Queue, SnapFault>
 #[derive(Clone, Copy)]
 pub struct End {
     pub waiting: bool,
-    pub halt: Option<u8>,
+    pub halt: Option<StopCode>,
     pub steps: u32,
 }
 
 /// A stop code, or FF where a guest runs.
-fn halt(r: &mut Cursor) -> Result<Option<u8>, SnapFault>
+fn halt(r: &mut Cursor) -> Result<Option<StopCode>, SnapFault>
     ensures { Reads (field 1 halt_in) r.old r.new result }
 {
     let place = r.place();
-    match r.cut(1)?[0] {
-        0xff => Ok(None),
-        code @ (0x00 | 0x02 | 0x04 | 0x06 | 0x07 | 0x0a | 0x10) => Ok(Some(code)),
-        _ => Err(SnapFault { place }),
+    let byte = r.cut(1)?[0];
+    if byte == RUNS {
+        return Ok(None);
+    }
+    match StopCode::from_number(byte) {
+        Some(code) => Ok(Some(code)),
+        None => Err(SnapFault { place }),
     }
 }
 

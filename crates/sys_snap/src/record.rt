@@ -11,11 +11,11 @@ ghost use Rattle.sys_snap.specs.Written.{base_bytes, clock_bytes, console_bytes,
 
 use vm_clock::Clock;
 use vm_console::Console;
-use vm_state::GuestState;
+use vm_state::{GuestState, StopCode};
 use vv_base::{Text, put_u16, put_u32};
 
 /// The byte in place of a stop code where a guest runs.
-const RUNS: u8 = 0xff;
+pub const RUNS: u8 = 0xff;
 
 /// Appends a flag that fits.
 fn add_flag(text: &mut Text<439>, flag: bool)
@@ -172,7 +172,7 @@ fn add_end(text: &mut Text<439>, g: &GuestState)
     ensures len { length text.new ≡ length text.old + 6 }
 {
     add_flag(text, g.waiting);
-    text.append_byte(g.halt.unwrap_or(RUNS));
+    text.append_byte(g.halt.map_or(RUNS, StopCode::number));
     add_long(text, g.steps);
 }
 

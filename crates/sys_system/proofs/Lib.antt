@@ -12,3 +12,4 @@ pub mod Slices
 pub mod Slicing
 pub mod Snapshot
 pub mod Tellings
+pub mod Views

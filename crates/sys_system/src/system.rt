@@ -8,10 +8,15 @@ ghost use Rattle.sys_system.specs.Calls.{BeginsRound, CanTake, EndsRound, Powers
 ghost use Rattle.sys_system.specs.Devices.{first_failed};
 ghost use Rattle.sys_system.specs.System.{IsSystem, NoneLeft, IsInMachine, next_slice, system_state, slice_of_time};
 
-use crate::parts::{Device, Parts, begin, dump, end, first_device, store, take};
+use crate::counting::add;
+use crate::parts::{Device, Parts, first_drive, store};
 use std::marker::Model;
-use sys_guests::TimeSlice;
+use sys_dumps::dump_all;
+use sys_events::{console_of, happen};
+use sys_guests::{TimeSlice, advance_at};
+use sys_lines::{first_marked, show_each};
 use sys_script::Event;
+use sys_transfers::transfer;
 use vax_hw::Hardware;
 use vm_guest::Counts;
 use vv_io::{Drive, Line};
@@ -60,7 +65,10 @@ impl System {
         ensures len { vec_len lines.new ≡ vec_len lines.old }
         ensures holds { IsSystem self.new }
     {
-        begin(machine, lines, &mut self.parts, events);
+        let s = &mut self.parts;
+        s.turns.begin(s.kernel.config.guests.as_slice());
+        s.rounds += 1;
+        happen(machine, lines, &mut s.kernel, s.rounds, events);
     }
 
     /// A slice of a round: the guest takes so many of the steps that it has left, and its terminal's line is shown what
@@ -80,7 +88,15 @@ impl System {
         ensures len { vec_len lines.new ≡ vec_len lines.old }
         ensures holds { IsSystem self.new }
     {
-        take(machine, lines, &mut self.parts, TimeSlice { guest, steps });
+        let s = &mut self.parts;
+        let slice = TimeSlice { guest, steps };
+        s.turns.take(slice);
+        let kernel = &mut s.kernel;
+        let counts = advance_at(machine, &mut kernel.port, &mut kernel.guests, slice);
+        add(&mut s.counts, &counts);
+        let terminals = kernel.config.terminals.as_slice();
+        let console = console_of(terminals, &kernel.server.at, guest);
+        show_each(&mut kernel.marks, lines, console, kernel.port.bytes());
     }
 
     /// Ends a round in which no guest has steps left: the transfers that the guests ask for are made.
@@ -93,7 +109,9 @@ impl System {
         ensures len { vec_len lines.new ≡ vec_len lines.old }
         ensures holds { IsSystem self.new }
     {
-        end(machine, lines, &mut self.parts);
+        let s = &mut self.parts;
+        transfer(machine, lines, &mut s.kernel, &mut s.volumes);
+        s.turns.end();
     }
 
     /// The steps of all slices since the system was made, by their kinds.
@@ -114,7 +132,10 @@ impl System {
     pub fn failed(&self) -> Option<Device>
         ensures { result ≡ first_failed self.now.marks self.now.drives }
     {
-        first_device(&self.parts.kernel.marks, &self.parts.drives)
+        match first_marked(&self.parts.kernel.marks) {
+            Some(line) => Some(Device::Line(line)),
+            None => first_drive(&self.parts.drives).map(|drive| Device::Drive(drive)),
+        }
     }
 
     /// Shows the dumps of all guests that have one, each on its line, in order.
@@ -124,7 +145,9 @@ impl System {
         ensures shows { ShowsDumps (H.machine machine.now) self.old (map (λ b. seen b) lines.old.items) self.new (map (λ b. seen b) lines.new.items) }
         ensures len { vec_len lines.new ≡ vec_len lines.old }
     {
-        dump(machine, lines, &mut self.parts);
+        let kernel = &mut self.parts.kernel;
+        let rows = kernel.config.guests.as_slice();
+        dump_all(machine, rows, &kernel.guests, &mut kernel.marks, lines);
     }
 
     /// Ends a run, while no round is begun: shows the dumps of all guests that have one, and then stores every block of
@@ -143,7 +166,7 @@ impl System {
         ensures lines_len { vec_len lines.new ≡ vec_len lines.old }
         ensures drives_len { vec_len drives.new ≡ vec_len drives.old }
     {
-        dump(machine, lines, &mut self.parts);
+        self.show_dumps(machine, lines);
         store(&mut self.parts, drives);
     }
 }

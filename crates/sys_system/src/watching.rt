@@ -3,12 +3,10 @@ ghost use Rattle.sys_guests.specs.Layout.{guests_in};
 ghost use Rattle.sys_guests.specs.Present.{PaysAll};
 ghost use Rattle.sys_state.specs.SlicedTouches.{touches_of_slice};
 ghost use Rattle.sys_system.specs.Calls.{CanTake, TakesSlice};
-ghost use Rattle.sys_system.specs.Held.{AreSystemParts, system_of};
 ghost use Rattle.sys_system.specs.System.{IsInMachine, IsSystem};
 ghost use Rattle.sys_system.specs.Watched.{DescribesStep};
 
 use crate::counting::add;
-use crate::parts::Parts;
 use crate::system::System;
 use sys_events::console_of;
 use sys_guests::{TimeSlice, step_at};
@@ -24,39 +22,6 @@ pub struct Watched {
     pub counts: Counts,
     pub note: Note,
     pub shown: Text<14>,
-}
-
-/// A guest takes one step of its turn, and its terminal's line is shown what it shows.
-fn watch<H: Hardware>(
-    machine: &mut H,
-    lines: &mut Vec<Box<dyn Line>>,
-    s: &mut Parts,
-    guest: u8,
-) -> Watched
-    requires inside { AreSystemParts s.old }
-    requires can { CanTake (system_of s.old) (record { guest = guest; steps = 1 }) }
-    requires stands { IsInMachine (H.machine machine.old).memory (system_of s.old) }
-    requires lines { vec_len lines.old ≡ 32 }
-    ensures takes { TakesSlice (record { guest = guest; steps = 1 }) (H.machine machine.old) (system_of s.old) (map (λ b. seen b) lines.old.items) (H.machine machine.new) (system_of s.new) (map (λ b. seen b) lines.new.items) }
-    ensures pays { PaysAll (touches_of_slice (record { guest = guest; steps = 1 }) (guests_in (H.machine machine.old).memory (system_of s.old).guests)) (H.machine machine.old) (system_of s.old).guests (H.machine machine.new) (system_of s.new).guests }
-    ensures tells { IfSome (slice_get (guests_in (H.machine machine.old).memory (system_of s.old).guests) guest) (λ g. DescribesStep g result) }
-    ensures inside { AreSystemParts s.new }
-    ensures len { vec_len lines.new ≡ vec_len lines.old }
-{
-    s.turns.take(TimeSlice { guest, steps: 1 });
-    let kernel = &mut s.kernel;
-    let once = step_at(machine, &mut kernel.port, &mut kernel.guests, guest);
-    add(&mut s.counts, &once.counts);
-    let terminals = kernel.config.terminals.as_slice();
-    let console = console_of(terminals, &kernel.server.at, guest);
-    show_each(&mut kernel.marks, lines, console, kernel.port.bytes());
-    let mut shown = Text::new();
-    let _ = shown.push_all(kernel.port.bytes());
-    Watched {
-        counts: once.counts,
-        note: once.note,
-        shown,
-    }
 }
 
 impl System {
@@ -84,6 +49,20 @@ impl System {
         ensures len { vec_len lines.new ≡ vec_len lines.old }
         ensures holds { IsSystem self.new }
     {
-        watch(machine, lines, &mut self.parts, guest)
+        let s = &mut self.parts;
+        s.turns.take(TimeSlice { guest, steps: 1 });
+        let kernel = &mut s.kernel;
+        let once = step_at(machine, &mut kernel.port, &mut kernel.guests, guest);
+        add(&mut s.counts, &once.counts);
+        let terminals = kernel.config.terminals.as_slice();
+        let console = console_of(terminals, &kernel.server.at, guest);
+        show_each(&mut kernel.marks, lines, console, kernel.port.bytes());
+        let mut shown = Text::new();
+        shown.append(kernel.port.bytes());
+        Watched {
+            counts: once.counts,
+            note: once.note,
+            shown,
+        }
     }
 }

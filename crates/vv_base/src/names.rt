@@ -43,23 +43,13 @@ fn is_file_name(bytes: &[u8]) -> bool
     1 <= bytes.len() && bytes.len() <= 64 && are_graphic(bytes)
 }
 
-/// The text of bytes that fit.
-fn text_of<const N: usize>(bytes: &[u8]) -> Text<N>
-    requires { length bytes.now ≤ N }
-    ensures { result ≡ bytes.now }
-{
-    let mut text = Text::new();
-    text.append(bytes);
-    text
-}
-
 /// The bytes as an object's name; `None` exactly where they aren't 1 to 8 characters of A-Z and 0-9
 /// that begin with a letter.
 pub fn object_name(bytes: &[u8]) -> Option<Name>
     ensures { result ≡ tested is_object_name bytes.now }
 {
     if is_object_name(bytes) {
-        Some(text_of(bytes))
+        Some(Text::from_bytes(bytes))
     } else {
         None
     }
@@ -70,7 +60,7 @@ pub fn file_name(bytes: &[u8]) -> Option<FileName>
     ensures { result ≡ tested is_file_name bytes.now }
 {
     if is_file_name(bytes) {
-        Some(text_of(bytes))
+        Some(Text::from_bytes(bytes))
     } else {
         None
     }

@@ -34,6 +34,23 @@ impl<const N: usize> Text<N> {
         }
     }
 
+    /// The text of bytes that fit.
+    pub fn from_bytes(bytes: &[u8]) -> Self
+        requires { length bytes.now ≤ N }
+        ensures { result ≡ bytes.now }
+    {
+        let mut text = Text::new();
+        text.append(bytes);
+        text
+    }
+
+    /// The same text.
+    pub fn copied(&self) -> Self
+        ensures { result ≡ self.now }
+    {
+        Text::from_bytes(self.bytes())
+    }
+
     /// The bytes, at most `N`.
     pub fn bytes(&self) -> &[u8]
         ensures value { result.now ≡ self.now }

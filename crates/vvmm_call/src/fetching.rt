@@ -18,15 +18,6 @@ use sys_snap::{Snap, SnapError, read_snap};
 use vv_base::FileName;
 use vv_io::{Shelf, ShelfFault};
 
-/// The same name.
-fn copied(name: &FileName) -> FileName
-    ensures { result ≡ name.now }
-{
-    let mut copy = FileName::new();
-    copy.append(name.bytes());
-    copy
-}
-
 /// The bytes of a file.
 pub fn fetch_file<S: Shelf>(alloc: Global, shelf: &mut S, name: &FileName) -> Result<Vec<u8>, Stop>
     ensures fetches { FetchesFile (S.files shelf.old) name.now (S.faults shelf.old) (S.faults shelf.new) result }
@@ -34,8 +25,8 @@ pub fn fetch_file<S: Shelf>(alloc: Global, shelf: &mut S, name: &FileName) -> Re
 {
     match shelf.fetch(alloc, name) {
         Ok(bytes) => Ok(bytes),
-        Err(ShelfFault::Missing) => Err(Stop::Missing(copied(name))),
-        Err(ShelfFault::TooLong) => Err(Stop::TooLong(copied(name))),
+        Err(ShelfFault::Missing) => Err(Stop::Missing(name.copied())),
+        Err(ShelfFault::TooLong) => Err(Stop::TooLong(name.copied())),
         Err(ShelfFault::Failed) => Err(Stop::ShelfFault),
         Err(ShelfFault::NoMemory) => Err(Stop::NoMemory),
     }

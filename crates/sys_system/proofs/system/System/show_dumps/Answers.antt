@@ -3,7 +3,7 @@ use Rattle.std.specs.List.{AllPairs}
 use Rattle.std.specs.Prelude.{filter_map}
 use Rattle.sys_dumps.proofs.AllDumps.{dumps_apart}
 use Rattle.sys_objects.specs.declared.records.GuestRow.{GuestRow}
-use Rattle.sys_system.proofs.parts.dump.Goals as goal
+use Rattle.sys_system.proofs.system.System.show_dumps.Goals as goal
 
 pub dump_all-requires-clause-apart : goal.dump_all-requires-clause-apart
-dump_all-requires-clause-apart g c = subst (λ (rows : List GuestRow). AllPairs (λ (x y : ℕ). x ≢ y) (filter_map (λ row. row.dump) rows)) (sym c.as_slice-rows.ensures) (dumps_apart c.args.s.now.kernel.config c.requires.inside.system.accepted)
+dump_all-requires-clause-apart g c = subst (λ (rows : List GuestRow). AllPairs (λ (x y : ℕ). x ≢ y) (filter_map (λ row. row.dump) rows)) (sym c.as_slice-rows.ensures) (dumps_apart c.self.inside.parts.kernel.config c.self.invariant.system.accepted)
