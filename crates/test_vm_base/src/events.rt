@@ -3,7 +3,7 @@ use std::test::Fail;
 use vax_arch::Psl;
 use vm_console::KeptPort;
 use vm_events::{Source, due, show_stop};
-use vm_state::GuestState;
+use vm_state::{GuestState, StopCode, StopReason};
 
 /// What pends in a guest beside software levels.
 #[derive(Clone, Copy)]
@@ -102,7 +102,7 @@ fn stop_is_shown(rt: HostRuntime) -> Result<(), Fail> {
     let mut g = guest(0, &[], 0);
     g.r[15] = 0x8000_0208;
     let mut port = KeptPort::<32>::new(rt.alloc())?;
-    show_stop(&g, &mut port, 0x0A);
+    show_stop(&g, &mut port, StopCode(StopReason::ChangedMode));
     assert!(rt; port.bytes() == b"?0A 80000208\r\n".as_slice());
     Ok(())
 }

@@ -91,49 +91,49 @@ fn each_step_costs_what_was_counted_by_hand(rt: HostRuntime) -> Result<(), Fail>
 }
 
 /// The steps of the program: longwords read and written by the kernel, runs of the machine, misses in them, and guarded runs.
-/// Each switch empties what it drops, one write an entry; a mapped page is found by two longwords, a system page by one, and
-/// looked up twice at a fill. After a guarded store its page is closed by a write more, unless its own entry is dropped; it
+/// Each switch empties what it drops, one write an entry; a mapped page is found by two longwords, a system page by one, of
+/// which a fill reads the page's own entry twice. After a guarded store its page is closed by a write more, unless its own entry is dropped; it
 /// may then be granted, since nothing is read from its frame. A fill from a frame that may be written reads each entry that is
-/// filled, and closes those that map it.
+/// filled in a group of 128 by which it may be, and closes those that map it.
 const STEPS: [(&str, [u64; 5]); 25] = [
     ("SBR, over the filled page", [0, 2, 2, 1, 0]),
     ("SLR", [0, 2, 2, 1, 0]),
     ("P0BR, a context more", [0, 1, 2, 1, 0]),
     ("P0LR, one more", [0, 1, 2, 1, 0]),
     ("MAPEN, which drops three pages", [0, 4, 2, 1, 0]),
-    ("the code's page is filled", [4, 1, 2, 1, 0]),
+    ("the code's page is filled", [3, 1, 2, 1, 0]),
     ("a kept step", [0, 0, 1, 0, 0]),
-    ("a page is filled, and granted for good", [9, 2, 4, 1, 0]),
+    ("a page is filled, and granted for good", [6, 2, 3, 1, 0]),
     ("a kept store", [0, 0, 1, 0, 0]),
     (
         "a guarded store to a table, which drops three pages",
-        [13, 5, 4, 1, 1],
+        [8, 5, 3, 1, 1],
     ),
-    ("the code's page is filled again", [4, 1, 2, 1, 0]),
+    ("the code's page is filled again", [3, 1, 2, 1, 0]),
     ("a second context", [0, 0, 1, 0, 0]),
-    ("its page is filled", [4, 1, 2, 1, 0]),
+    ("its page is filled", [3, 1, 2, 1, 0]),
     ("back to the first context", [0, 0, 1, 0, 0]),
     ("a kept step there", [0, 0, 1, 0, 0]),
     ("a third context", [0, 0, 1, 0, 0]),
-    ("its page is filled, and a fourth context", [4, 1, 2, 1, 0]),
+    ("its page is filled, and a fourth context", [3, 1, 2, 1, 0]),
     (
         "its page is filled, and a fifth context takes a slot",
-        [4, 2, 2, 1, 0],
+        [3, 2, 2, 1, 0],
     ),
-    ("its page is filled", [4, 1, 2, 1, 0]),
+    ("its page is filled", [3, 1, 2, 1, 0]),
     (
         "a guarded store to the fourth context's table, by its system page, which is filled and closed",
-        [8, 4, 4, 1, 1],
+        [6, 4, 3, 1, 1],
     ),
     (
         "a store there again, granted since nothing is read from it",
-        [3, 1, 3, 0, 0],
+        [2, 1, 2, 0, 0],
     ),
     ("a kept store there", [0, 0, 1, 0, 0]),
     ("back to the fourth context", [0, 0, 1, 0, 0]),
     (
-        "its page is filled, and the table's closed, one of four",
-        [8, 2, 2, 1, 0],
+        "its page is filled, and the table's closed, the one in its group",
+        [4, 2, 2, 1, 0],
     ),
-    ("a guarded store there again", [6, 3, 3, 0, 1]),
+    ("a guarded store there again", [4, 3, 2, 0, 1]),
 ];

@@ -149,10 +149,10 @@ fn loops_cost_what_was_counted_by_hand(rt: HostRuntime) -> Result<(), Fail> {
     Ok(())
 }
 
-/// With mapping off a fill is one write and one run more. A first write of a page in which no table lies is two runs more than
-/// its fill, one longword read and one written; with mapping on, four more read. The mixed program touches the page of its
+/// With mapping off a fill is one write and one run more. A first write of a page in which no table lies is one run more than
+/// its fill, one longword read and one written; with mapping on, two more read. The mixed program touches the page of its
 /// code, four that it reads, and three that it writes; then all is kept. Turning mapping on costs ten runs, ten longwords
-/// written and five misses, as in the steps one by one; with it each fill reads four longwords. No step is guarded: the pages
+/// written and five misses, as in the steps one by one; with it each fill reads three longwords. No step is guarded: the pages
 /// that are written have the frames 15, 1C and 1E, and the tables lie in 10 and 11.
 static LOOPS: [Loop; 4] = [
     Loop {
@@ -167,20 +167,20 @@ static LOOPS: [Loop; 4] = [
         maps: true,
         is_mixed: false,
         plain: 9995,
-        costs: [4, 11, 12, 6, 0],
+        costs: [3, 11, 12, 6, 0],
     },
     Loop {
         name: "mixed-off",
         maps: false,
         is_mixed: true,
         plain: 10_000,
-        costs: [3, 11, 18, 8, 0],
+        costs: [3, 11, 15, 8, 0],
     },
     Loop {
         name: "mixed-on",
         maps: true,
         is_mixed: true,
         plain: 9995,
-        costs: [47, 21, 28, 13, 0],
+        costs: [33, 21, 25, 13, 0],
     },
 ];

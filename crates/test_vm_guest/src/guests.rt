@@ -7,6 +7,7 @@ use std::test::Fail;
 use vax_cpu::Cpu;
 use vm_console::KeptPort;
 use vm_guest::{Counts, Guest};
+use vm_state::{StopCode, StopReason};
 use vv_base::NoMemory;
 
 /// A guest of 128 pages on a machine of 1,024, which starts at 200 with a program there.
@@ -32,9 +33,15 @@ fn check_counts(rt: &impl Abort, counts: &Counts, run: &Run) {
 }
 
 /// A guest has halted for this reason, and its port shows this.
-fn check_halt(rt: &impl Abort, guest: &Guest, port: &KeptPort<64>, reason: u8, shown: &[u8]) {
-    assert!(rt; port.bytes() == shown, "{reason}");
-    assert!(rt; guest.state().halt == Some(reason), "{reason}");
+fn check_halt(
+    rt: &impl Abort,
+    guest: &Guest,
+    port: &KeptPort<64>,
+    reason: StopReason,
+    shown: &[u8],
+) {
+    assert!(rt; port.bytes() == shown, "{reason:?}");
+    assert!(rt; guest.state().halt == Some(StopCode(reason)), "{reason:?}");
 }
 
 /// It halts as its row says.
@@ -44,7 +51,7 @@ fn halts(rt: &impl Abort, alloc: Global, run: &Run) -> Result<(), NoMemory> {
     let mut port = KeptPort::<64>::new(alloc)?;
     let counts = guest.advance(&mut machine, &mut port, steps);
     check_counts(rt, &counts, run);
-    check_halt(rt, &guest, &port, 6, shown);
+    check_halt(rt, &guest, &port, StopReason::Halted, shown);
     Ok(())
 }
 
@@ -90,7 +97,7 @@ fn one_that_stands_says_nothing_when_it_is_stopped(rt: HostRuntime) -> Result<()
     let (_machine, mut guest) = standing(rt.alloc())?;
     let mut port = KeptPort::<64>::new(rt.alloc())?;
     guest.stop(&mut port);
-    check_halt(&rt, &guest, &port, 0, b"");
+    check_halt(&rt, &guest, &port, StopReason::NeverStarted, b"");
     Ok(())
 }
 
@@ -102,7 +109,13 @@ fn one_that_starts_says_where_it_is_stopped(rt: HostRuntime) -> Result<(), Fail>
     guest.start(&mut machine);
     assert_eq!(rt; guest.state().r[15], 0x300);
     guest.stop(&mut port);
-    check_halt(&rt, &guest, &port, 2, b"?02 00000300\r\n");
+    check_halt(
+        &rt,
+        &guest,
+        &port,
+        StopReason::Commanded,
+        b"?02 00000300\r\n",
+    );
     Ok(())
 }
 

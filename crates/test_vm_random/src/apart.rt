@@ -182,26 +182,24 @@ struct Plan {
     most_stopped: u64,
 }
 
-/// The rounds from this one to the last, in each of which so many steps are taken on new machines; what all steps did.
-fn play_from(
+/// All rounds, in each of which so many steps are taken on new machines; what all steps did.
+fn play_all(
     rt: &impl Abort,
     alloc: Global,
     three: Three,
     draw: &mut Draw,
     plan: &Plan,
-    case: (u32, u32),
+    seed: u32,
 ) -> Result<Tally, NoMemory>
     requires whole { IsShadowedIn three.whole.machine.memory three.whole.guest }
     requires single { IsShadowedIn three.single.machine.memory three.single.guest }
     requires carried { IsShadowedIn three.carried.machine.memory three.carried.guest }
 {
-    let (seed, round) = case;
-    if round < plan.rounds {
-        let three = play(rt, alloc, three, draw, plan.apart, case)?;
-        play_from(rt, alloc, three, draw, plan, (seed, round + 1))
-    } else {
-        Ok(three.tally)
+    let mut three = three;
+    for round in 0..plan.rounds {
+        three = play(rt, alloc, three, draw, plan.apart, (seed, round))?;
     }
+    Ok(three.tally)
 }
 
 /// How many steps there were that aren't stopped.
@@ -216,7 +214,7 @@ fn active(tally: &Tally) -> u64 {
 fn play_rounds(rt: &impl Abort, alloc: Global, plan: &Plan, seed: u32) -> Result<Tally, NoMemory> {
     let mut draw = Draw::new(seed.wrapping_mul(0x9E37_79B1));
     let three = drawn_three(alloc, seed)?;
-    let tally = play_from(rt, alloc, three, &mut draw, plan, (seed, 0))?;
+    let tally = play_all(rt, alloc, three, &mut draw, plan, seed)?;
     assert!(rt; plan.each <= active(&tally), "{seed} {tally:?}");
     Ok(tally)
 }

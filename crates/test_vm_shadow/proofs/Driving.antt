@@ -11,7 +11,7 @@ use Rattle.vax_arch.specs.declared.mode.Mode.{Mode}
 use Rattle.vax_arch.specs.declared.walk.Lookup.{Lookup}
 use Rattle.vax_hw.specs.Machine.{Machine}
 use Rattle.vm_shadow.specs.Layout.{IsCovered, entry_number}
-use Rattle.vm_shadow.specs.Shadowed.{CanBeShadowed, Fits, IsKept, Keeps, Shadowed, own, read_at, real_at, seen_at}
+use Rattle.vm_shadow.specs.Shadowed.{CanBeShadowed, Fits, IsKept, Keeps, Remembers, Shadowed, own, read_at, real_at, seen_at}
 use Rattle.vm_shadow.specs.StandsFor.{ClosesPage, FillsPage, MakesTables, IsPresent, GrantsOrLeaves, OpensPage, Serves, StandsFor, Stores, Switches, closed_for, own_number}
 use Rattle.vm_shadow.specs.declared.source.Source.{Source}
 use Rattle.vm_shadow.proofs.Making.{can_stand}
@@ -103,7 +103,7 @@ set_some reads n source h = ap is_some (get_or-set_same reads n (Some source) No
 pub is_filled : (page : ℕ) (g : GuestState) (m m' : Machine) (s s' : Shadowed) → StandsFor m.memory s g → IsCovered page → FillsPage page g m s m' s' → is_some (read_at s' (own_number s' page)) ≡ true
 is_filled page g m m' s s' k c f =
     let n = own_number s page in
-    let small : n < length s.reads = omega (arith, number_small s.slot page (slot_small m.memory s k.keeps.fits) c, k.keeps.fits.whole) in
+    let small : n < length s.reads = omega (arith, number_small s.slot page (slot_small m.memory s k.keeps.fits) c, k.keeps.remembers.whole) in
     let slot : s'.slot ≡ s.slot = ap (λ x. x.slot) f.fills.rest in
     subst (λ x. is_some (read_at s' (entry_number x page)) ≡ true) (sym slot)
     (subst (λ r. is_some (slice_index_or r n None) ≡ true) (sym f.fills.reads) (set_some s.reads n f.fills.source small))
@@ -147,6 +147,9 @@ granted false n g m m' s s' k w = subst (λ x. StandsFor x.memory s' g) (sym w.0
 -- A guarded step: a page is opened, written and closed.
 pub opened_fits : (n : ℕ) (g : GuestState) (m m' : Machine) (s s' : Shadowed) → StandsFor m.memory s g → OpensPage n m s m' s' → Fits m'.memory s'
 opened_fits n g m m' s s' k w = (w.keeps [] k.keeps).fits
+
+pub opened_remembers : (n : ℕ) (g : GuestState) (m m' : Machine) (s s' : Shadowed) → StandsFor m.memory s g → OpensPage n m s m' s' → Remembers s'
+opened_remembers n g m m' s s' k w = (w.keeps [] k.keeps).remembers
 
 pub written_fits : (n pa : ℕ) (memory : List ℕ) (g : GuestState) (m m1 m2 : Machine) (s s1 s2 : Shadowed) → StandsFor m.memory s g → OpensPage n m s m1 s1 → Stores pa memory m1 s1 m2 s2 → Fits m2.memory s2
 written_fits n pa memory g m m1 m2 s s1 s2 k o w = (w.keeps [] (n ∷ []) (o.keeps [] k.keeps)).fits

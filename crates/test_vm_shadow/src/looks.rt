@@ -116,9 +116,9 @@ static ROWS: [Row; 22] = [
         1,
     ),
     (
-        "a fill from a frame that may be written",
+        "a fill from a frame that may be written by an entry, by its group",
         Event::Touch { va: 0x3E_0000 },
-        7936,
+        128,
     ),
     ("a fill from it again", Event::Touch { va: 0x3E_0000 }, 0),
     ("a second context", Event::Load(narrow!(0x8000_0200)), 0),

@@ -137,7 +137,7 @@ impl Place {
             Place::Packet(n) => element(g.queue.as_slice(), n),
             Place::Waits => u32::from(g.waiting),
             Place::IsStopped => u32::from(g.halt.is_some()),
-            Place::StopCode => g.halt.map_or(0, u32::from),
+            Place::StopCode => g.halt.map_or(0, |code| u32::from(code.number())),
             Place::Steps => g.steps,
             Place::ModifyFaults => u32::from(g.modify_faults),
             Place::Long(_) => 0,
