@@ -1,4 +1,3 @@
-pub mod Beyond
 pub mod Traps
 pub mod Spelled
 pub mod Looks

@@ -9,18 +9,22 @@ use Rattle.vax_hw.specs.declared.world.Exit.TheVariants.{Arithmetic}
 use Rattle.vax_table.specs.Claims.{claims}
 use Rattle.vax_table.specs.Effects.{Effect, long_of}
 use Rattle.vax_table.specs.PlanLaws.{bytes_of_stores}
+use Rattle.vax_table.specs.declared.effect.Store.{Store}
 use Rattle.vax_table.specs.declared.evaluation.Operands.{Operands}
 use Rattle.vax_table.specs.Fetch.{fetched}
+use Rattle.vax_normal.specs.InMemory.{finished, found_in_memory, stored}
 use Rattle.vax_normal.specs.Normal.{IsNormal, done_at_once, quietly}
+use Rattle.vax_normal.specs.declared.in_memory.Found.{Found}
+use Rattle.vax_normal.specs.declared.shape.InMemory.{InMemory}
 use Rattle.vax_normal.specs.declared.shape.Normal.{Normal}
-use Rattle.vax_table.specs.Interaction.{AsFar, Done, Interaction, Space, Trouble, bind_result, outcome, ◌>>=◌}
+use Rattle.vax_table.specs.Interaction.{AsFar, Done, Space, Trouble, outcome}
 use Rattle.vax_table.specs.Spelling.{Instruction}
 use Rattle.vax_table.specs.Operations.{operation_of}
 use Rattle.vax_table.specs.Plan.{is_planned, plan_of, planned}
 use Rattle.vax_table.specs.declared.meaning.Operation.{Operation}
 use Rattle.vax_table.specs.declared.meaning.Operation.TheVariants as does
 use Rattle.vax_table.proofs.Plans.{plans_planned}
-use Rattle.vax_table.proofs.Scripts.{outcome-bind, outcome_far}
+use Rattle.vax_table.proofs.Scripts.{outcome_far}
 use Rattle.vax_table.specs.Tries.{first_clear, tried, tried_by, unless_clear}
 use Rattle.vax_table.specs.Whole.{Act, Meant, Plain, Probes, Traps, acted, acted_by, instruction, meant, plain_meaning}
 use Rattle.vax_table.proofs.Tries.{tries_stores}
@@ -31,6 +35,7 @@ use Rattle.vax_paged.specs.Paged.{is_clear_for, paged}
 use Rattle.vax_paged.specs.declared.known.Known.{Known}
 use Rattle.vax_hw.specs.declared.world.World.{World}
 use Rattle.vax_paged.proofs.Knowing.{known_below}
+use Rattle.vax_normal.proofs.Touching.{found_on}
 use Rattle.vax_cpu.proofs.Quiet.{found_claims}
 
 on_act : (m : Machine) (opcode : ℕ) (a : Act) → outcome (machine_space m) (instruction (in_kernel m.world) (seen_psl m.world) m.world.r) ≡ Ok (meant opcode a) →
@@ -110,9 +115,6 @@ ok_is x (Err t) h = cc
 as_far : {A : Type 0} (s t : Space) (x : A) (r q : Result A Trouble) → r ≡ Ok x → AsFar s t r q → q ≡ Ok x
 as_far s t x r q is far = subst (λ (z : Result _ Trouble). AsFar s t z q) is far
 
-found_on : {A B : Type 0} (s : Space) (m : Interaction A) (f : A → Interaction B) (x : A) (y : B) → outcome s m ≡ Ok x → outcome s (f x) ≡ Ok y → outcome s (m >>= f) ≡ Ok y
-found_on s m f x y first next = outcome-bind s m f ∙ ap (λ (z : Result _ Trouble). bind_result z (λ v. outcome s (f v))) first ∙ next
-
 plain_acts : (kernel : Bool) (psl : ℕ) (op : Operation) (d : Instruction) (r : List ℕ) → is_planned op ≡ true → acted_by kernel psl op d r ≡ plain_meaning psl d r
 plain_acts kernel psl (does.Sensitive op) d r h = cc
 plain_acts kernel psl (does.Probe intent) d r h = cc
@@ -126,29 +128,52 @@ plan_found s kernel psl d r e plain h =
     ap (outcome s) (plain_acts kernel psl (operation_of d.opcode) d r plain)
     ∙ found_on s (plan_of psl d r) (λ x. Done (meant d.opcode (Plain x))) e (meant d.opcode (Plain e)) (ap (outcome s) (plans_planned psl d r plain) ∙ h) refl
 
+-- an instruction that was found over known pages
+pub known_found : (memory : List ℕ) (w : World) (ks : List Known) (kernel : Bool) (psl : ℕ) (r : List ℕ) (d : Instruction) (m : Meant) → AreKnown memory w ks →
+    Ok d ≡ exits (outcome (paged memory w) (fetched (slice_index r 15))) → Ok m ≡ exits (outcome (known_space memory ks) (acted kernel psl d r)) →
+    Ok m ≡ exits (outcome (paged memory w) (instruction kernel psl r))
+unfolding instruction
+known_found memory w ks kernel psl r d m all fetch acts =
+    let s = known_space memory ks in
+    let t = paged memory w in
+    let act : outcome t (acted kernel psl d r) ≡ Ok m =
+    as_far s t m (outcome s (acted kernel psl d r)) (outcome t (acted kernel psl d r)) (ok_is m (outcome s (acted kernel psl d r)) acts) (outcome_far s t (known_below memory w ks all) (acted kernel psl d r)) in
+    let whole : outcome t (instruction kernel psl r) ≡ Ok m =
+    found_on t (fetched (slice_index r 15)) (λ x. acted kernel psl x r) d m (ok_is d (outcome t (fetched (slice_index r 15))) fetch) act in
+    sym (ap (λ (z : Result Meant Trouble). exits z) whole)
+
 pub known_settled : (memory : List ℕ) (w : World) (ks : List Known) (kernel : Bool) (psl : ℕ) (r : List ℕ) (d : Instruction) (e : Effect) → AreKnown memory w ks → is_planned (operation_of d.opcode) ≡ true →
     Ok d ≡ exits (outcome (paged memory w) (fetched (slice_index r 15))) → Ok e ≡ outcome (known_space memory ks) (planned d r (psl % 2 ^ 8)) →
     None ≡ first_clear (is_clear_for memory w) (bytes_of_stores e.writes) → Ok (d.opcode, e) ≡ settled_meaning memory w (exits (outcome (paged memory w) (instruction kernel psl r)))
-unfolding instruction
 known_settled memory w ks kernel psl r d e all plain fetch plans clear =
-    let s = known_space memory ks in
-    let t = paged memory w in
     let found : Meant = meant d.opcode (Plain e) in
-    let act : outcome t (acted kernel psl d r) ≡ Ok found =
-    as_far s t found (outcome s (acted kernel psl d r)) (outcome t (acted kernel psl d r)) (plan_found s kernel psl d r e plain (sym plans)) (outcome_far s t (known_below memory w ks all) (acted kernel psl d r)) in
-    let whole : outcome t (instruction kernel psl r) ≡ Ok found =
-    found_on t (fetched (slice_index r 15)) (λ x. acted kernel psl x r) d found (ok_is d (outcome t (fetched (slice_index r 15))) fetch) act in
-    sym (ap (λ (z : Result Meant Trouble). settled_meaning memory w (exits z)) whole ∙ ap (λ (z : Option ℕ). with_opcode d.opcode (unless_modified e z)) (sym clear))
+    let acts : outcome (known_space memory ks) (acted kernel psl d r) ≡ Ok found = plan_found (known_space memory ks) kernel psl d r e plain (sym plans) in
+    let whole : Ok found ≡ exits (outcome (paged memory w) (instruction kernel psl r)) = known_found memory w ks kernel psl r d found all fetch (sym (ap (λ (z : Result Meant Trouble). exits z) acts)) in
+    sym (ap (settled_meaning memory w) (sym whole) ∙ ap (λ (z : Option ℕ). with_opcode d.opcode (unless_modified e z)) (sym clear))
 
 seen_low : (w : World) → seen_psl w % 2 ^ 8 ≡ psw_of w
 seen_low w = omega arith
+
+-- an instruction whose effect over known pages is this, and whose stores are all modified
+pub found_steps : (m after : Machine) (ks : List Known) (r : List ℕ) (d : Instruction) (e : Effect) → AreKnown m.memory m.world ks → is_planned (operation_of d.opcode) ≡ true →
+    Ok d ≡ exits (outcome (paged m.memory m.world) (fetched (slice_index r 15))) → outcome (known_space m.memory ks) (planned d r (psw_of m.world)) ≡ Ok e → None ≡ first_clear (is_clear_for m.memory m.world) (bytes_of_stores e.writes) →
+    after ≡ completed_but_registers (slice_index r 15) d.opcode e m → machine_step (with_registers r m) ≡ Ok (record { machine = with_registers e.r after; trap = e.trap })
+found_steps m after ks r d e all plain fetch plans clear is =
+    let s : Space = known_space m.memory ks in
+    let here : outcome s (planned d r (seen_psl m.world % 2 ^ 8)) ≡ Ok e = ap (λ (k : ℕ). outcome s (planned d r k)) (seen_low m.world) ∙ plans in
+    attempt_retires m after r d.opcode e (known_settled m.memory m.world ks (in_kernel m.world) (seen_psl m.world) r d e all plain fetch (sym here) clear) is
+
+-- what was found of an instruction in normal form in memory, with the registers after it
+pub effect_found : (n : InMemory) (r q : List ℕ) (x : Found) (ws : List Store) → q ≡ finished n x.value r → stored n.writes r n.width x.value ≡ ws →
+    (let e : Effect = record { r = q; psw = x.psw; writes = ws; trap = None } in found_in_memory n r x ≡ e)
+effect_found n r q x ws e f =
+    ap (λ (ys : List Store). let z : Effect = record { r = finished n x.value r; psw = x.psw; writes = ys; trap = None } in z) f
+    ∙ ap (λ (xs : List ℕ). let z : Effect = record { r = xs; psw = x.psw; writes = ws; trap = None } in z) (sym e)
 
 -- an instruction in normal form, in a page that is known
 pub at_once_steps : (m after : Machine) (ks : List Known) (r q : List ℕ) (psw : ℕ) (n : Normal) (d : Instruction) → AreKnown m.memory m.world ks → is_planned (operation_of d.opcode) ≡ true →
     Ok d ≡ exits (outcome (paged m.memory m.world) (fetched (slice_index r 15))) → IsNormal n d → length r ≡ 16 → done_at_once n r (psw_of m.world) ≡ quietly q psw →
     after ≡ completed_but_registers (slice_index r 15) d.opcode (quietly q psw) m → machine_step (with_registers r m) ≡ Ok (record { machine = with_registers q after; trap = None })
 at_once_steps m after ks r q psw n d all plain fetch normal sixteen done e =
-    let s : Space = known_space m.memory ks in
-    let plans : outcome s (planned d r (seen_psl m.world % 2 ^ 8)) ≡ Ok (quietly q psw) =
-    normal s r (seen_psl m.world % 2 ^ 8) sixteen ∙ ap (λ (k : ℕ). Ok (done_at_once n r k)) (seen_low m.world) ∙ ap (λ (x : Effect). Ok x) done in
-    attempt_retires m after r d.opcode (quietly q psw) (known_settled m.memory m.world ks (in_kernel m.world) (seen_psl m.world) r d (quietly q psw) all plain fetch (sym plans) refl) e
+    let plans : outcome (known_space m.memory ks) (planned d r (psw_of m.world)) ≡ Ok (quietly q psw) = normal (known_space m.memory ks) r (psw_of m.world) sixteen ∙ ap (λ (x : Effect). Ok x) done in
+    found_steps m after ks r d (quietly q psw) all plain fetch plans refl e

@@ -1,14 +1,14 @@
 -- An instruction that traps, and PROBE, claim nothing for writing.
 use Rattle.std.specs.Prelude.{map, replicate, if◌then◌else◌, slice_index}
 use Rattle.std.specs.List.{range_with_len}
-use Rattle.std.proofs.Common.{◌≡◌, ℕ, zero, suc, ◌+◌, ◌-◌, ◌<◌, ◌%◌, ◌&&◌, ◌||◌, Bool, true, false, eqb, ltb, List, [], ◌∷◌, ◌++◌, Ok, get_or, refl, ap, ◌∙◌, sym, subst, arith}
+use Rattle.std.proofs.Common.{◌≡◌, ℕ, zero, suc, ◌+◌, ◌<◌, ◌%◌, ◌&&◌, ◌||◌, Bool, true, false, eqb, ltb, List, [], ◌∷◌, ◌++◌, Ok, get_or, refl, ap, ◌∙◌, sym, subst, arith}
 use Rattle.std.proofs.lemmas.Bool.Decides.{nat_tests}
 use Rattle.std.proofs.lemmas.List.{get_or-replicate}
 use Rattle.std.proofs.lemmas.List.FromFn.{get_or-map-range_with_len}
 use Rattle.vv_base.specs.declared.width.Width.{Width}
 use Rattle.vv_base.specs.Width.{size_of}
 use Rattle.vax_arch.specs.declared.mode.Intent.{Intent}
-use Rattle.vax_cpu.proofs.Beyond.{beyond_all}
+use Rattle.vax_table.proofs.Targets.{beyond_all}
 use Rattle.vax_table.specs.declared.act.Sens.{Sens}
 use Rattle.vax_table.specs.declared.decoded.Spec.{Spec}
 use Rattle.vax_table.specs.declared.evaluation.Operands.{Operands}

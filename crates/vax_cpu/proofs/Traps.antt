@@ -1,5 +1,5 @@
 -- An instruction that traps has the operands that it has otherwise, but for MFPR to memory.
-use Rattle.std.proofs.Common.{◌≡◌, ℕ, ◌+◌, ◌==◌, Bool, true, false, cond, if◌then◌else◌, List, [], ◌∷◌, length, slice_index_or, refl, ap, ◌∙◌, sym, arith}
+use Rattle.std.proofs.Common.{◌≡◌, ℕ, ◌==◌, true, false, cond, if◌then◌else◌, List, [], ◌∷◌, length, slice_index_or, refl, ap, ◌∙◌, sym, arith}
 use Rattle.std.proofs.Math.Path.{fun_ext}
 use Rattle.std.proofs.lemmas.Bool.{eq-eqb}
 use Rattle.vv_base.specs.declared.width.Width.TheVariants.{Long}
@@ -14,7 +14,6 @@ use Rattle.vax_table.specs.declared.decoded.Spec.{Spec}
 use Rattle.vax_table.specs.declared.evaluation.Evaluated.{Evaluated}
 use Rattle.vax_table.specs.declared.evaluation.Operands.{Operands}
 use Rattle.vax_table.specs.declared.forms.Access.TheVariants.{Bits, Read, Write}
-use Rattle.vax_table.specs.declared.forms.Form.{Form}
 
 -- one that isn't MFPR
 pub traps_alike : (d : Instruction) (r : List ℕ) → (d.opcode == 0xdb) ≡ false → trap_operands d r ≡ operands_of d r

@@ -56,14 +56,13 @@ impl Code {
         self.places.truncate(1);
     }
 
-    /// The place of an address, which gets one if it has none. Where all are taken, all are forgotten first.
-    pub fn place_for(&mut self, pc: u32) -> usize
+    /// A new place, which this number of the index gets. Where all are taken, all are forgotten first.
+    #[cold]
+    #[inline(never)]
+    fn new_place(&mut self, at: usize) -> usize
+        requires { at < 262144 }
         ensures { result < length self.new.places.items }
     {
-        let at = in_index(pc);
-        if self.index[at] != 0 {
-            return usize::from(self.index[at]);
-        }
         if self.places.len() >= PLACES {
             self.forget();
         }
@@ -73,5 +72,16 @@ impl Code {
         }
         self.index[at] = place as u16;
         place
+    }
+
+    /// The place of an address, which gets one if it has none.
+    pub fn place_for(&mut self, pc: u32) -> usize
+        ensures { result < length self.new.places.items }
+    {
+        let at = in_index(pc);
+        if self.index[at] != 0 {
+            return usize::from(self.index[at]);
+        }
+        self.new_place(at)
     }
 }

@@ -13,10 +13,11 @@ ghost use Rattle.vax_cpu.specs.Fetched.{exits};
 use crate::changed::sum_behind;
 use crate::code::Code;
 use crate::fetch::has_known;
+use crate::in_memory::step_in_memory;
 use crate::kept::Kept;
-use crate::perform::{attempt, attempt_known};
+use crate::perform::{attempt, attempt_kept, attempt_known};
 use crate::state::State;
-use crate::stop::{Stop, exit_for};
+use crate::stop::{Stop, end_with};
 use arrayvec::ArrayVec;
 use std::alloc::Global;
 use std::cell::Cell;
@@ -85,7 +86,9 @@ fn attempt_walked(
     ensures state { state.new ≡ state.old }
 {
     plan.r = *before;
-    state.learn(missed);
+    if missed.get() != u32::MAX {
+        state.learn(missed);
+    }
     let place = code.place_for(before[15]);
     attempt(
         state.memory(),
@@ -96,7 +99,8 @@ fn attempt_walked(
     )
 }
 
-/// The same by the pages that are known, or else by the page tables. `total` is the sum of R0 to R14, before and after it.
+/// The same by the pages that are known, or else by the page tables.
+#[inline(always)]
 fn attempt_next(
     state: &mut State,
     missed: &Cell<u32>,
@@ -104,22 +108,19 @@ fn attempt_next(
     o: &mut Values,
     before: &[u32; 16],
     plan: &mut Plan,
-    total: &mut u64,
 ) -> Result<u8, Stop>
-    requires plan { plan.old.r ≡ before.now }
-    requires sum { total.old ≡ sum (take 15 before.now) }
-    ensures sum { OnOk result (total.new ≡ sum (take 15 plan.new.r)) }
     ensures attempted { attempted (operands_with_registers o.new plan.new.r) plan.new result ≡ settled_meaning state.old.memory state.old.world (exits (outcome (paged state.old.memory state.old.world) (instruction (in_kernel state.old.world) (seen_psl state.old.world) before.now))) }
     ensures state { state.new ≡ state.old }
 {
-    let kept = code.at(plan.r[15]);
-    if attempt_known(state, missed, kept, o, plan) {
-        *total = sum_behind(*total, kept.changed, before, &plan.r);
-        return Ok(kept.prepared.decoded.opcode);
+    let kept = code.at(before[15]);
+    if kept.end == 0 {
+        if let Some(attempt) = attempt_kept(state, missed, kept, o, before, plan) {
+            return attempt;
+        }
+        // A page that only traps missed isn't looked up: others of its instructions will miss it
+        missed.set(u32::MAX);
     }
-    let opcode = attempt_walked(state, missed, code, o, before, plan)?;
-    *total = sum_of(&plan.r);
-    Ok(opcode)
+    attempt_walked(state, missed, code, o, before, plan)
 }
 
 /// The instruction at PC at once, of which this is the normal form: the sum of R0 to R14 after it, if it is done.
@@ -163,31 +164,64 @@ fn step_at_once(
 {
     match &kept.normal {
         Some(normal) => step_by(state, missed, kept, normal, r, total),
-        None => None,
+        None => match &kept.in_memory {
+            Some(form) => step_in_memory(state, missed, kept, form, r, total),
+            None => None,
+        },
     }
 }
 
-/// The instruction at PC by its operands, one by one: the sum of R0 to R14 after it, or with what the run ends, in `exit`. `total`
+/// The instruction at PC by the pages that are known, if it is kept and retires by them: the sum of R0 to R14 after it. `total`
 /// is that sum before it.
 #[inline(always)]
+fn step_known(
+    state: &mut State,
+    missed: &Cell<u32>,
+    kept: &Kept,
+    o: &mut Values,
+    plan: &mut Plan,
+    total: u64,
+) -> Option<u64>
+    requires { total ≡ sum (take 15 plan.old.r) }
+    ensures { MatchOption result ((state.new ≡ state.old) × (plan.new.r ≡ plan.old.r)) (λ t. (t ≡ sum (take 15 plan.new.r)) × RunsOn (with_registers plan.old.r state.old) (with_registers plan.new.r state.new)) }
+{
+    if kept.end == 0 {
+        return None;
+    }
+    let before = plan.r;
+    if !attempt_known(state, missed, kept, o, plan) {
+        plan.r = before;
+        return None;
+    }
+    let total = sum_behind(total, kept.changed, &before, &plan.r);
+    state.retire(
+        before[15],
+        kept.prepared.decoded.opcode,
+        total,
+        plan,
+        missed,
+    );
+    Some(total)
+}
+
+/// The instruction at PC, whatever it is: the sum of R0 to R14 after it, or with what the run ends, in `exit`.
+#[cold]
+#[inline(never)]
 fn step_whole(
     state: &mut State,
     missed: &Cell<u32>,
     code: &mut Code,
     o: &mut Values,
     plan: &mut Plan,
-    total: u64,
     exit: &mut Exit,
 ) -> Option<u64>
-    requires { total ≡ sum (take 15 plan.old.r) }
     ensures { MatchOption result (EndsWith exit.new (with_registers plan.old.r state.old) (with_registers plan.new.r state.new)) (λ t. (t ≡ sum (take 15 plan.new.r)) × RunsOn (with_registers plan.old.r state.old) (with_registers plan.new.r state.new)) }
 {
-    let pc = plan.r[15];
     let before = plan.r;
-    let mut total = total;
-    match attempt_next(state, missed, code, o, &before, plan, &mut total) {
+    match attempt_next(state, missed, code, o, &before, plan) {
         Ok(opcode) => {
-            state.retire(pc, opcode, total, plan, missed);
+            let total = sum_of(&plan.r);
+            state.retire(before[15], opcode, total, plan, missed);
             match plan.trap {
                 Some(kind) => {
                     *exit = Exit::Arithmetic { kind };
@@ -197,10 +231,9 @@ fn step_whole(
             }
         }
         Err(stop) => {
-            let ended = exit_for(stop, o, &plan.r);
+            end_with(stop, o, &plan.r, exit);
             plan.r = before;
-            state.stop(&ended);
-            *exit = ended;
+            state.stop(exit);
             None
         }
     }
@@ -225,7 +258,11 @@ fn run_parts(
             total = sum;
             continue;
         }
-        match step_whole(state, &missed, code, o, plan, total, &mut exit) {
+        if let Some(sum) = step_known(state, &missed, kept, o, plan, total) {
+            total = sum;
+            continue;
+        }
+        match step_whole(state, &missed, code, o, plan, &mut exit) {
             Some(sum) => {
                 total = sum;
             }

@@ -1,4 +1,4 @@
-ghost use Rattle.std.specs.Prelude.{◌≡◌, ◌%◌, ◌+◌, ◌≤◌, ◌<◌, ◌^◌, ℕ, [], true, drop, length, slice_index, take, IfOk, OnOk};
+ghost use Rattle.std.specs.Prelude.{◌≡◌, ◌%◌, ◌+◌, ◌≤◌, ◌<◌, ◌^◌, ℕ, [], true, drop, length, slice_index, take, IfOk, IfSome, OnOk};
 ghost use Rattle.vax_arch.specs.declared.mode.Intent.TheVariants.{Read};
 ghost use Rattle.vax_hw.specs.RealTables.{everywhere};
 ghost use Rattle.vax_table.specs.Fetch.{fetched};
@@ -7,6 +7,7 @@ ghost use Rattle.vax_table.specs.Plan.{is_planned};
 ghost use Rattle.vax_table.specs.Reading.{Whole, decoded_at};
 ghost use Rattle.vax_table.specs.Interaction.{number_at, outcome};
 ghost use Rattle.vax_table.specs.Spelling.{IsWellFormed, view};
+ghost use Rattle.vax_normal.specs.InMemory.{IsInMemory};
 ghost use Rattle.vax_cpu.specs.Fetched.{byte_view, decoded_or_exit, exits, kept_view, refusal_of};
 ghost use Rattle.vax_paged.specs.Known.{AreKnown};
 ghost use Rattle.vax_paged.specs.Paged.{at_byte, paged, placed};
@@ -17,7 +18,7 @@ use crate::stop::{Fault, fault_of};
 use arrayvec::ArrayVec;
 use vax_decode::{Decode, DecodeFault, Decoded, decode};
 use vax_hw::{Refusal, World};
-use vax_normal::normal_of;
+use vax_normal::{InMemory, in_memory_of, normal_of};
 use vax_operand::Prepared;
 use vax_paged::{Mapped, Paged, number_in};
 use vv_base::Width;
@@ -149,6 +150,21 @@ fn has_known_over(space: Mapped, world: &World, kept: &Kept, pc: u32) -> bool
     }
 }
 
+/// Whether kept bytes are at an address, in one page that is known.
+pub fn has_known_in_page(space: &Mapped, world: &World, kept: &Kept, pc: u32) -> bool
+    requires { AreKnown space.now.memory.now world.now space.now.known.now }
+    ensures fetched { result ≡ true → Ok (view kept.now.prepared.decoded) ≡ exits (outcome (paged space.now.memory.now world.now) (fetched pc)) }
+    ensures formed { result ≡ true → IsWellFormed (view kept.now.prepared.decoded) }
+{
+    if !is_in_page(pc, kept.prepared.decoded.length) {
+        return false;
+    }
+    match space.place(pc, false) {
+        Some(place) => stands_at(space.memory, place, kept),
+        None => false,
+    }
+}
+
 /// Whether kept bytes are at an address, by what is known, and the instruction is one that `plan_into` plans.
 #[inline(always)]
 pub fn has_known(space: &Mapped, world: &World, kept: &Kept, pc: u32) -> bool
@@ -191,6 +207,17 @@ fn window(space: &Paged, pc: u32, place: u32) -> [u8; 24]
     bytes
 }
 
+/// The normal form in memory of an instruction that has none without.
+fn in_memory_unless(is_normal: bool, prepared: &Prepared) -> Option<InMemory>
+    requires { IsWellFormed (view prepared.now.decoded) }
+    ensures { IfSome result (λ n. IsInMemory n (view prepared.now.decoded)) }
+{
+    if is_normal {
+        return None;
+    }
+    in_memory_of(prepared)
+}
+
 /// An instruction with the bytes that it was decoded from, and those that come after it.
 fn keep(bytes: &[u8], window: &[u8; 24], decoded: Decoded) -> Kept
     requires few { length bytes.now ≤ 24 }
@@ -203,11 +230,13 @@ fn keep(bytes: &[u8], window: &[u8; 24], decoded: Decoded) -> Kept
     kept[..bytes.len()].copy_from_slice(bytes);
     let end = end_of(&decoded);
     let prepared = Prepared::new(decoded);
+    let normal = normal_of(&prepared);
     Kept {
         bytes: kept,
         end,
         changed: changed_register(&prepared),
-        normal: normal_of(&prepared),
+        in_memory: in_memory_unless(normal.is_some(), &prepared),
+        normal,
         prepared,
     }
 }
@@ -257,6 +286,17 @@ fn respell(space: &Paged, pc: u32, place: u32, kept: &mut Kept)
     }
 }
 
+/// The instruction at an address is decoded byte by byte, and kept.
+#[cold]
+#[inline(never)]
+fn fetch_anew(space: &Paged, pc: u32, kept: &mut Kept) -> Result<(), Fault>
+    ensures fetched { decoded_or_exit kept.new.prepared.decoded result ≡ exits (outcome (paged space.now.memory.now space.now.world.now) (fetched pc)) }
+    ensures formed { OnOk result (IsWellFormed (view kept.new.prepared.decoded)) }
+{
+    *kept = decoded(space, pc)?;
+    Ok(())
+}
+
 /// The instruction at an address, which is kept, and taken where it was kept already. It is decoded once where all its bytes
 /// can be read, and else byte by byte.
 pub fn fetch(space: &Paged, pc: u32, kept: &mut Kept) -> Result<(), Fault>
@@ -272,6 +312,5 @@ pub fn fetch(space: &Paged, pc: u32, kept: &mut Kept) -> Result<(), Fault>
             return Ok(());
         }
     }
-    *kept = decoded(space, pc)?;
-    Ok(())
+    fetch_anew(space, pc, kept)
 }

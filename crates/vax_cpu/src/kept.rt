@@ -3,13 +3,14 @@ ghost use Rattle.vax_table.specs.Operations.{operation_of};
 ghost use Rattle.vax_table.specs.Plan.{is_planned};
 ghost use Rattle.vax_table.specs.Reading.{Whole, decoded_at};
 ghost use Rattle.vax_table.specs.Spelling.{view};
+ghost use Rattle.vax_normal.specs.InMemory.{IsInMemory, in_memory-prop};
 ghost use Rattle.vax_normal.specs.Normal.{IsNormal, normal-prop};
 ghost use Rattle.vax_cpu.specs.Changed.{changed_register};
 
 use crate::changed::changed_register;
 use arrayvec::ArrayVec;
 use vax_decode::Decoded;
-use vax_normal::Normal;
+use vax_normal::{InMemory, Normal};
 use vax_operand::Prepared;
 use vax_table::{Operation, operation};
 
@@ -25,6 +26,8 @@ pub struct Kept {
     pub changed: u8,
     /// Its normal form, if it has one.
     pub normal: Option<Normal>,
+    /// The same, if it refers to memory.
+    pub in_memory: Option<InMemory>,
     ghost sized: { length bytes ≡ 24 },
     ghost small: { (i : ℕ) → slice_index bytes i < 256 },
     ghost spelled: { decoded_at (take prepared.decoded.length bytes) ≡ Whole (view prepared.decoded) [] },
@@ -32,6 +35,7 @@ pub struct Kept {
     ghost short: { 0 < end → prepared.decoded.length ≤ 24 },
     ghost changes: { changed ≡ changed_register prepared.operation prepared.operands.items },
     ghost normal_form: { IfSome normal (λ n. IsNormal n (view prepared.decoded)) } by { normal-prop normal (view prepared.decoded) },
+    ghost memory_form: { IfSome in_memory (λ n. IsInMemory n (view prepared.decoded)) } by { in_memory-prop in_memory (view prepared.decoded) },
     ghost planned: { 0 < end → is_planned (operation_of prepared.decoded.opcode) ≡ true },
 }
 
@@ -80,6 +84,7 @@ impl Kept {
             bytes,
             changed: changed_register(&prepared),
             normal: None,
+            in_memory: None,
             prepared,
             end: 0,
         }

@@ -1,11 +1,11 @@
-ghost use Rattle.std.specs.Prelude.{◌≡◌, ◌<◌, ℕ, List, Ok, true};
+ghost use Rattle.std.specs.Prelude.{◌≡◌, ◌<◌, ℕ, List, None, Ok, true, IfSome};
 ghost use Rattle.vax_table.specs.Effects.{effect};
 ghost use Rattle.vax_table.specs.Operand.{operands_of, trap_operands};
 ghost use Rattle.vax_table.specs.Operations.{operation_of};
 ghost use Rattle.vax_table.specs.Plan.{is_planned};
 ghost use Rattle.vax_table.specs.Interaction.{outcome};
 ghost use Rattle.vax_table.specs.Spelling.{IsWellFormed, view};
-ghost use Rattle.vax_table.specs.Whole.{acted, first_operand, instruction, is_always_done, plain_meaning, probe_of, trap_of, trapping};
+ghost use Rattle.vax_table.specs.Whole.{acted, first_operand, instruction, is_always_done, meant, plain_meaning, probe_of, trap_of, trapping};
 ghost use Rattle.vax_table.specs.declared.effect.Plan.{Plan};
 ghost use Rattle.vax_table.specs.declared.evaluation.Operands.{Operands};
 ghost use Rattle.vax_table.specs.declared.meaning.Operation.TheVariants.{MoveStatus};
@@ -17,7 +17,7 @@ ghost use Rattle.vax_cpu.specs.Fetched.{acts_of, exits, found, meaning_of};
 ghost use Rattle.vax_cpu.specs.Completed.{attempted, settled, settled_as, settled_meaning};
 ghost use Rattle.vax_paged.specs.Paged.{paged};
 
-use crate::fetch::{fetch, has_known};
+use crate::fetch::{fetch, has_known, has_known_in_page};
 use crate::kept::Kept;
 use crate::probe::{probe, probed};
 use crate::state::State;
@@ -104,6 +104,28 @@ fn traps_as_prepared(d: &Decoded) -> bool
     }
 }
 
+/// The operands of an instruction that traps, not as they are prepared.
+#[cold]
+#[inline(never)]
+fn evaluate_anew<S: Space>(
+    s: &S,
+    d: &Decoded,
+    r: &mut [u32; 16],
+    v: &mut Values,
+) -> Result<(), Trouble>
+    requires { IsWellFormed (view d.now) }
+    ensures { left result (operands_with_registers v.new r.new) ≡ outcome (S.space s.now) (trap_operands (view d.now) r.old) }
+{
+    let Operands {
+        values,
+        dests,
+        r: behind,
+    } = evaluate_trap(s, d, r)?;
+    *v = Values { values, dests };
+    *r = behind;
+    Ok(())
+}
+
 /// The operands of an instruction that traps: `r` is R0 to R15 before it, and after it with the side effects. After an error it
 /// doesn't matter what `r` and `v` are.
 fn evaluate_trapped<S: Space>(
@@ -118,20 +140,12 @@ fn evaluate_trapped<S: Space>(
     if traps_as_prepared(&e.decoded) {
         return evaluate_into(s, e, r, v);
     }
-    let Operands {
-        values,
-        dests,
-        r: behind,
-    } = evaluate_trap(s, &e.decoded, r)?;
-    *v = Values { values, dests };
-    *r = behind;
-    Ok(())
+    evaluate_anew(s, &e.decoded, r, v)
 }
 
 /// A sensitive instruction that traps; its operands go to `o` and the plan's registers.
 #[tactic(auto, using(vax_table::proofs::Scripts::binds))]
-#[cold]
-#[inline(never)]
+#[inline(always)]
 fn trap<S: Space>(
     s: &S,
     op: Sens,
@@ -198,6 +212,7 @@ fn move_status<S: Space>(
 /// are those before it. Its operands go to `o`, and what it plans to `plan`; of what they are after an error, and where it
 /// traps, nothing is said.
 #[tactic(auto, unfolding(vax_table::specs::Whole::acted, vax_table::specs::Plan::plan_of, vax_table::specs::Plan::performed), using(vax_table::proofs::Scripts::binds))]
+#[inline(always)]
 pub fn carry_out<S: Space>(
     s: &S,
     is_kernel: bool,
@@ -242,6 +257,13 @@ fn seen_psl(w: &World) -> Psl
     Psl(w.vmpsl.0 / 0x100 * 0x100 + w.psl.0 % 0x100)
 }
 
+/// Whether the guest is in kernel mode.
+fn is_in_kernel(w: &World) -> bool
+    ensures { result ≡ in_kernel w.now }
+{
+    w.vmpsl.current() == Mode::Kernel
+}
+
 /// The instruction at PC over a memory, and its outcome, with the plan's registers in place of the world's. It is kept,
 /// or taken where it was kept already.
 #[tactic(auto, unfolding(vax_table::specs::Whole::instruction), using(vax_table::proofs::Scripts::binds))]
@@ -256,7 +278,7 @@ fn find(
 {
     let space = Paged { memory, world };
     fetch(&space, plan.r[15], kept).map_err(Stop::Fault)?;
-    let is_kernel = world.vmpsl.current() == Mode::Kernel;
+    let is_kernel = is_in_kernel(world);
     let act = carry_out(&space, is_kernel, kept, seen_psl(world), o, plan)?;
     Ok(Found {
         opcode: kept.prepared.decoded.opcode,
@@ -266,6 +288,7 @@ fn find(
 
 /// Whether an instruction that was found retires, by its plan: a plain one where the modify bits of all that it stores are
 /// set; PROBE where the machine judges its bytes.
+#[inline(always)]
 fn settle(memory: &[u8], world: &World, act: Act, o: &Values, plan: &mut Plan) -> Result<(), Stop>
     ensures { settled_as (operands_with_registers o.now plan.new.r) plan.new result ≡ settled memory.now world.now (meaning_of (operands_with_registers o.now plan.old.r) plan.old act) }
 {
@@ -287,8 +310,8 @@ fn settle(memory: &[u8], world: &World, act: Act, o: &Values, plan: &mut Plan) -
     }
 }
 
-/// Whether the instruction at PC retires by the plan, as far as that is told quickly: it is kept, it is a plain one, and all
-/// that it refers to lies in pages that are known. The plan's registers are those before it, in place of the world's; of what
+/// Whether the instruction at PC retires by the plan and without a trap, as far as that is told quickly: it is kept, it is a
+/// plain one, and all that it refers to lies in pages that are known. The plan's registers are those before it, in place of the world's; of what
 /// it is where this answers no nothing is said.
 pub fn attempt_known(
     state: &State,
@@ -297,6 +320,7 @@ pub fn attempt_known(
     o: &mut Values,
     plan: &mut Plan,
 ) -> bool
+    ensures untrapped { result ≡ true → plan.new.trap ≡ None }
     ensures changed { result ≡ true → kept.now.changed < 15 → AreAlikeBut kept.now.changed plan.old.r plan.new.r }
     ensures attempted { result ≡ true → Ok (kept.now.prepared.decoded.opcode, effect plan.new) ≡ settled_meaning state.now.memory state.now.world (exits (outcome (paged state.now.memory state.now.world) (instruction (in_kernel state.now.world) (seen_psl state.now.world) plan.old.r))) }
 {
@@ -306,8 +330,58 @@ pub fn attempt_known(
         return false;
     }
     match plan_into(&space, &kept.prepared, seen_psl(world), o, plan) {
-        Ok(()) => space.may_store(world, plan.writes.as_slice()),
+        Ok(()) => match plan.trap {
+            Some(_) => false,
+            None => space.may_store(world, plan.writes.as_slice()),
+        },
         Err(_) => false,
+    }
+}
+
+/// What the instruction at PC comes to, where it is kept, and all that it refers to lies in pages that are known. The plan's
+/// registers are those before it, in place of the world's.
+#[inline(always)]
+fn find_known(
+    state: &State,
+    missed: &Cell<u32>,
+    kept: &Kept,
+    o: &mut Values,
+    plan: &mut Plan,
+) -> Option<Act>
+    ensures { IfSome result (λ a. Ok (meant kept.now.prepared.decoded.opcode (meaning_of (operands_with_registers o.new plan.new.r) plan.new a)) ≡ exits (outcome (paged state.now.memory state.now.world) (instruction (in_kernel state.now.world) (seen_psl state.now.world) plan.old.r))) }
+{
+    let world = state.world();
+    let space = state.mapped(missed);
+    if !has_known_in_page(&space, world, kept, plan.r[15]) {
+        return None;
+    }
+    match carry_out(&space, is_in_kernel(world), kept, seen_psl(world), o, plan) {
+        Ok(act) => Some(act),
+        Err(_) => None,
+    }
+}
+
+/// The opcode of the instruction at PC, which retires by the plan, or why it doesn't retire, where it is kept and all that it
+/// refers to lies in pages that are known. `before` are the registers before it; of what the plan is otherwise nothing is said.
+#[cold]
+#[inline(never)]
+pub fn attempt_kept(
+    state: &State,
+    missed: &Cell<u32>,
+    kept: &Kept,
+    o: &mut Values,
+    before: &[u32; 16],
+    plan: &mut Plan,
+) -> Option<Result<u8, Stop>>
+    ensures { IfSome result (λ x. attempted (operands_with_registers o.new plan.new.r) plan.new x ≡ settled_meaning state.now.memory state.now.world (exits (outcome (paged state.now.memory state.now.world) (instruction (in_kernel state.now.world) (seen_psl state.now.world) before.now)))) }
+{
+    plan.r = *before;
+    match find_known(state, missed, kept, o, plan) {
+        Some(act) => match settle(state.memory(), state.world(), act, o, plan) {
+            Ok(()) => Some(Ok(kept.prepared.decoded.opcode)),
+            Err(stop) => Some(Err(stop)),
+        },
+        None => None,
     }
 }
 

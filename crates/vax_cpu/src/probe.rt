@@ -73,16 +73,24 @@ fn judged(space: &Paged, m: Mode, i: Intent, va: u32) -> Option<bool>
     }
 }
 
+/// Whether both bytes may be used, where the machine judges that: by one entry where they lie in one page.
+fn both_judged(space: &Paged, m: Mode, i: Intent, base: u32, last: u32) -> Option<bool>
+    ensures { result ≡ both_judged (access_judged space.now.memory.now (machine_tables space.now.world.now) m i base) (access_judged space.now.memory.now (machine_tables space.now.world.now) m i last) }
+{
+    let first = judged(space, m, i, base);
+    if last / 512 == base / 512 {
+        return first;
+    }
+    both(first, judged(space, m, i, last))
+}
+
 /// Whether both bytes that PROBE asks of may be used, where the machine judges that.
 pub fn probe(space: &Paged, i: Intent, o: &Values) -> Option<bool>
     ensures { result ≡ real_probe space.now.memory.now (machine_tables space.now.world.now) space.now.world.now.psl.0 i (slice_index o.now.values 0 % 2 ^ 32) (slice_index o.now.values 1 % 2 ^ 32) (slice_index o.now.values 2 % 2 ^ 32) }
 {
     let m = probe_mode(space.world.psl, o.long(0));
     let base = o.long(2);
-    both(
-        judged(space, m, i, base),
-        judged(space, m, i, last_of(base, o.long(1) % 0x1_0000)),
-    )
+    both_judged(space, m, i, base, last_of(base, o.long(1) % 0x1_0000))
 }
 
 /// PROBE after its operands: Z where not both bytes may be used, and C as before.

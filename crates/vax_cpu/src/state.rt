@@ -1,4 +1,4 @@
-ghost use Rattle.std.specs.Prelude.{◌≡◌, true, ◌+◌, ◌*◌, ◌≤◌, ◌<◌, ◌/◌, ◌^◌, ℕ, length, slice_index, sum, take, IfOk};
+ghost use Rattle.std.specs.Prelude.{◌≡◌, true, None, ◌+◌, ◌*◌, ◌≤◌, ◌<◌, ◌/◌, ◌^◌, ℕ, length, slice_index, sum, take, IfOk};
 ghost use Rattle.vv_base.specs.Bytes.{long_at, long_bytes, overwritten};
 ghost use Rattle.vax_hw.specs.Machine.{Machine, machine_tables, psl_with_psw, psw_of, zeros};
 ghost use Rattle.vax_hw.specs.Real.{misses_after};
@@ -12,7 +12,9 @@ use std::cell::Cell;
 use std::marker::Model;
 use vax_exec::Plan;
 use vax_hw::{Exit, Psl, World};
+use vax_normal::After;
 use vax_paged::{KnownPages, Mapped, Paged, store_all};
+use vax_table::effect::Store;
 use vv_base::{NoMemory, get_u32, put_u32};
 
 /// What the machine is to those who use it, but for its registers: memory, what else is loaded, and counts. The registers of
@@ -214,17 +216,26 @@ impl State {
     }
 
     /// An instruction at an address has retired: its stores are made, the status word is that after it, and it is counted.
-    /// `total` is the sum of R0 to R14 after it.
-    pub fn retire(&mut self, pc: u32, opcode: u8, total: u64, plan: &Plan, missed: &Cell<u32>)
-        requires { total ≡ sum (take 15 plan.now.r) }
-        ensures { self.new ≡ completed_but_registers pc opcode (effect plan.now) self.old }
+    /// `after` has the sum of R0 to R14, and `r` are the registers.
+    #[inline(always)]
+    pub fn retire_with(
+        &mut self,
+        pc: u32,
+        opcode: u8,
+        after: After,
+        stores: &[Store],
+        r: &[u32; 16],
+        missed: &Cell<u32>,
+    )
+        requires sum { after.total ≡ sum (take 15 r.now) }
+        requires few { length stores.now ≤ 20 }
+        ensures { self.new ≡ completed_but_registers pc opcode (record { r = r.now; psw = after.psw; writes = stores.now; trap = None }) self.old }
     {
         // The PSL is read before the stores, so that it is stored as one longword, which the next instruction reads
-        let psl = with_psw(self.world.psl, plan.psw);
+        let psl = with_psw(self.world.psl, after.psw);
         let own = u64::from(pc) + 3 * u64::from(opcode);
-        self.trail = self.trail.wrapping_add(own).wrapping_add(total);
+        self.trail = self.trail.wrapping_add(own).wrapping_add(after.total);
         self.retired = self.retired.wrapping_add(1);
-        let stores = plan.writes.as_slice();
         store_all(
             &mut self.memory,
             &self.world,
@@ -233,6 +244,19 @@ impl State {
             stores,
         );
         self.world.psl = psl;
+    }
+
+    /// The same of an instruction with a plan. `total` is the sum of R0 to R14 after it.
+    #[inline(always)]
+    pub fn retire(&mut self, pc: u32, opcode: u8, total: u64, plan: &Plan, missed: &Cell<u32>)
+        requires { total ≡ sum (take 15 plan.now.r) }
+        ensures { self.new ≡ completed_but_registers pc opcode (effect plan.now) self.old }
+    {
+        let after = After {
+            psw: plan.psw,
+            total,
+        };
+        self.retire_with(pc, opcode, after, plan.writes.as_slice(), &plan.r, missed);
     }
 
     /// The status word.

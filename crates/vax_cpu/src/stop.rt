@@ -52,16 +52,22 @@ fn exit_of(trouble: Trouble) -> Exit
     }
 }
 
-/// What a stop stops the machine with: these are the operands, and the registers after them.
-#[cold]
-#[inline(never)]
-pub fn exit_for(stop: Stop, o: &Values, r: &[u32; 16]) -> Exit
-    ensures { result ≡ stop_exit (operands_with_registers o.now r.now) stop }
+/// The exit of a stop: these are the operands, and the registers after them.
+pub fn end_with(stop: Stop, o: &Values, r: &[u32; 16], exit: &mut Exit)
+    ensures { exit.new ≡ stop_exit (operands_with_registers o.now r.now) stop }
 {
     match stop {
-        Stop::Fault(Fault::Trouble(trouble)) => exit_of(trouble),
-        Stop::Fault(Fault::Refused(refusal)) => Exit::Refused(refusal),
-        Stop::Modify(va) => Exit::Modify { va },
-        Stop::Emulate(op) => Exit::Emulate(trap_of(op, o, r)),
+        Stop::Fault(Fault::Trouble(trouble)) => {
+            *exit = exit_of(trouble);
+        }
+        Stop::Fault(Fault::Refused(refusal)) => {
+            *exit = Exit::Refused(refusal);
+        }
+        Stop::Modify(va) => {
+            *exit = Exit::Modify { va };
+        }
+        Stop::Emulate(op) => {
+            *exit = Exit::Emulate(trap_of(op, o, r));
+        }
     }
 }

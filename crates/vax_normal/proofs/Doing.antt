@@ -1,6 +1,6 @@
 -- What follows operands that are had at once is what a shape says.
-use Rattle.std.proofs.Common.{◌≡◌, ◌≢◌, ℕ, zero, suc, ◌+◌, ◌%◌, ◌^◌, ◌<◌, Bool, true, false, List, [], ◌∷◌, length, None, Option, refl, ap, ◌∙◌, sym, subst, arith, get_or-set_same, slice_index, slice_index_or, slice_set}
-use Rattle.std.specs.Prelude.{if◌then◌else◌, nat_lt}
+use Rattle.std.proofs.Common.{◌≡◌, ◌≢◌, ℕ, zero, suc, ◌+◌, ◌%◌, ◌^◌, ◌<◌, Bool, true, false, List, [], ◌∷◌, length, Option, refl, ap, ◌∙◌, sym, arith, get_or-set_same, slice_index, slice_index_or, slice_set}
+use Rattle.std.specs.Prelude.{nat_lt}
 use Rattle.std.proofs.lemmas.List.{set-set}
 use Rattle.std.proofs.lemmas.Bool.{lt-ltb}
 use Rattle.vv_base.specs.declared.width.Width.{Width}
@@ -9,7 +9,7 @@ use Rattle.vax_table.specs.Arithmetic.{alu_of}
 use Rattle.vax_table.specs.Branches.{bit, branched, branched_on_low_bit, comes_out, holds, keeping_c, subtracted_one}
 use Rattle.vax_table.specs.Computing.{computed, first_input, second_input, target_of}
 use Rattle.vax_table.specs.Effects.{Effect, begun, long_of, put, put_in_register, went_if}
-use Rattle.vax_table.specs.Interaction.{Done, Interaction}
+use Rattle.vax_table.specs.Interaction.{Done}
 use Rattle.vax_table.specs.Operand.{past_own_bytes, plus}
 use Rattle.vax_table.specs.Plan.{performed}
 use Rattle.vax_table.specs.declared.act.Dest.{Dest}
@@ -33,7 +33,7 @@ use Rattle.vax_normal.specs.declared.shape.Shape.TheVariants.{Branches, Branches
 use Rattle.vax_normal.proofs.Taking.{alike_on}
 
 -- an effect by the registers, the status word and the trap
-abbrev stored_nothing : List ℕ → ℕ → Option ℕ → Effect
+abbrev pub stored_nothing : List ℕ → ℕ → Option ℕ → Effect
 stored_nothing r psw trap = record { r = r; psw = psw; writes = []; trap = trap }
 
 pub computes_done : (op : AluOp) (w : Width) (inputs : Inputs) (target : Target) (a b n k : ℕ) (r : List ℕ) (o : Operands) (psw : ℕ) →
@@ -86,7 +86,7 @@ low_bit_done on x y n d k jump is by has r q psw room alike pc =
     (ap (λ (m : ℕ). went_if (comes_out on (bit 0 m)) (long_of o 1) (begun o psw)) first ∙ went_on (comes_out on (bit 0 (number_by n r))) r o.r d k jump (long_of o 1) psw room pc to by)
 
 -- two places of a list can be set in either order
-set_apart : (xs : List ℕ) (i j a b : ℕ) → i ≢ j → slice_set (slice_set xs i a) j b ≡ slice_set (slice_set xs j b) i a
+pub set_apart : (xs : List ℕ) (i j a b : ℕ) → i ≢ j → slice_set (slice_set xs i a) j b ≡ slice_set (slice_set xs j b) i a
 set_apart [] i j a b ne = refl
 set_apart (x ∷ xs) zero zero a b ne = absurd (ne refl)
 set_apart (x ∷ xs) zero (suc j) a b ne = refl

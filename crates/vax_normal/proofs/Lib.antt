@@ -1,3 +1,7 @@
 pub mod Sums
 pub mod Taking
 pub mod Doing
+pub mod Reaching
+pub mod Touching
+pub mod Sources
+pub mod Storing

@@ -1,18 +1,16 @@
 -- Operands that need no memory are had at once, and what follows them.
-use Rattle.std.proofs.Common.{◌≡◌, ◌≢◌, ℕ, zero, suc, ◌+◌, ◌%◌, ◌^◌, ◌<◌, ◌&&◌, Bool, true, false, List, [], ◌∷◌, length, map, Ok, refl, ap, ◌∙◌, sym, subst, arith, get_or, get_or-set_other, get_or-set_same, slice_index, slice_index_or, slice_set}
+use Rattle.std.proofs.Common.{◌≡◌, ℕ, zero, suc, ◌+◌, ◌<◌, ◌&&◌, Bool, true, false, List, [], ◌∷◌, length, map, refl, ap, ◌∙◌, sym, subst, arith, get_or, get_or-set_other, get_or-set_same, slice_index, slice_index_or, slice_set}
 use Rattle.std.specs.Prelude.{if◌then◌else◌}
 use Rattle.std.proofs.lemmas.List.{set-set}
 use Rattle.std.proofs.Math.ListN.{length-set}
 use Rattle.vv_base.specs.declared.width.Width.{Width}
-use Rattle.vax_table.specs.declared.act.Dest.{Dest}
 use Rattle.vax_table.specs.declared.act.Dest.TheVariants.{Nowhere}
 use Rattle.vax_table.specs.declared.decoded.Spec.{Spec}
 use Rattle.vax_table.specs.declared.evaluation.Evaluated.{Evaluated}
 use Rattle.vax_table.specs.declared.evaluation.Operands.{Operands}
 use Rattle.vax_table.specs.declared.meaning.Operation.{Operation}
 use Rattle.vax_table.specs.Claims.{Holds}
-use Rattle.vax_table.specs.Effects.{Effect}
-use Rattle.vax_table.specs.Interaction.{Done, Interaction, Space, outcome, ◌>>=◌}
+use Rattle.vax_table.specs.Interaction.{Done, Interaction, outcome, ◌>>=◌}
 use Rattle.vax_table.specs.Operand.{evaluated, forms_in, no_operands, operand_of, operands_of, past_own_bytes, plus, with_operand}
 use Rattle.vax_table.specs.Operations.{operation_of}
 use Rattle.vax_table.specs.Plan.{performed, planned}
@@ -25,7 +23,7 @@ use Rattle.vax_operand.specs.declared.prepared.Operand.{Operand}
 use Rattle.vax_operand.specs.Prepared.{operand_by}
 use Rattle.vax_operand.proofs.Preparing.{prepared_same}
 use Rattle.vax_operand.proofs.Steps.{left_from}
-use Rattle.vax_normal.specs.AtHand.{AreAlikeButPc, IsDoneBy, are_at_hand, is_at_hand, all_at_hand, dest_at_hand, from_at_hand, value_at_hand}
+use Rattle.vax_normal.specs.AtHand.{AreAlikeButPc, IsDoneBy, IsMoved, are_at_hand, is_at_hand, all_at_hand, dest_at_hand, from_at_hand, value_at_hand}
 use Rattle.vax_normal.specs.Normal.{IsNormal, done_at_once, done_by}
 use Rattle.vax_normal.specs.declared.shape.Normal.{Normal}
 
@@ -44,10 +42,10 @@ kind_taken (Address b) w s q h = cc
 kind_taken (Bits b) w s q h = cc
 
 -- an operand, with the registers after its own bytes
-abbrev taken_operand : Operand → List ℕ → Evaluated
+abbrev pub taken_operand : Operand → List ℕ → Evaluated
 taken_operand x r = evaluated (value_at_hand x.kind x.form.width x.spec (past_own_bytes x.length r)) (dest_at_hand x.kind x.spec.reg) (past_own_bytes x.length r)
 
-operand_taken : (x : Operand) (r : List ℕ) → is_at_hand x.kind ≡ true → operand_of x.form x.spec r ≡ Done (taken_operand x r)
+pub operand_taken : (x : Operand) (r : List ℕ) → is_at_hand x.kind ≡ true → operand_of x.form x.spec r ≡ Done (taken_operand x r)
 operand_taken x r h = sym (prepared_same x.form x.spec x.kind x.length r x.prepared x.bytes) ∙ kind_taken x.kind x.form.width x.spec (past_own_bytes x.length r) h
 
 and_both : (a b : Bool) → (a && b) ≡ true → (a ≡ true) × (b ≡ true)
@@ -72,11 +70,7 @@ operands_taken d xs r f g h = rw (sym f, sym g) (from_taken 0 xs (no_operands (b
 pub pc_alone : (r : List ℕ) (v : ℕ) → AreAlikeButPc r (slice_set r 15 v)
 pc_alone r v i low = get_or-set_other r 15 i v 0 (omega arith)
 
--- registers in which PC alone is set
-abbrev IsMoved : List ℕ → List ℕ → Type 0
-IsMoved r q = (v : ℕ) × (q ≡ slice_set r 15 v)
-
-moved_on : (r q : List ℕ) (k : ℕ) → IsMoved r q → IsMoved r (past_own_bytes k q)
+pub moved_on : (r q : List ℕ) (k : ℕ) → IsMoved r q → IsMoved r (past_own_bytes k q)
 moved_on r q k (v, e) = (plus (slice_index q 15) k, ap (λ (xs : List ℕ). slice_set xs 15 (plus (slice_index q 15) k)) e ∙ set-set r 15 v (plus (slice_index q 15) k))
 
 from_moved : (r : List ℕ) (i : ℕ) (xs : List Operand) (o : Operands) → IsMoved r o.r → IsMoved r (from_at_hand i xs o).r
@@ -84,7 +78,7 @@ from_moved r i [] o h = h
 from_moved r i (x ∷ xs) o h = from_moved r (i + 1) xs (with_operand i o (taken_operand x o.r)) (moved_on r o.r x.length h)
 
 -- and so much
-moved_by : (r q : List ℕ) (v : ℕ) → 15 < length r → IsMoved r q → slice_index q 15 ≡ v → q ≡ slice_set r 15 v
+pub moved_by : (r q : List ℕ) (v : ℕ) → 15 < length r → IsMoved r q → slice_index q 15 ≡ v → q ≡ slice_set r 15 v
 moved_by r q v room (w, e) g =
     let is : slice_index q 15 ≡ w = ap (λ (xs : List ℕ). slice_index xs 15) e ∙ get_or-set_same r 15 w 0 room in
     e ∙ ap (λ (x : ℕ). slice_set r 15 x) (sym is ∙ g)
@@ -128,7 +122,7 @@ alike_on r q k h i low = pc_alone q _ i low ∙ h i low
 abbrev pub HasValue : List ℕ → Operand → ℕ → Type 0
 HasValue r x v = (q : List ℕ) × AreAlikeButPc r q × (v ≡ value_at_hand x.kind x.form.width x.spec q)
 
-set_at : {A : Type 0} (xs : List A) (i k : ℕ) (v d : A) → k ≡ i → k < length xs → get_or (slice_set xs i v) k d ≡ v
+pub set_at : {A : Type 0} (xs : List A) (i k : ℕ) (v d : A) → k ≡ i → k < length xs → get_or (slice_set xs i v) k d ≡ v
 set_at xs i k v d e low = rw e (get_or-set_same xs i v d (omega (arith, e)))
 
 from_value : (r : List ℕ) (i j k : ℕ) (xs : List Operand) (o : Operands) (x : Operand) → AreAlikeButPc r o.r → i < length xs → x ≡ get_or xs i x → k ≡ j + i → k < length o.values →

@@ -1,5 +1,5 @@
 -- Operands that are constants, registers or branches: their values need no memory.
-use Rattle.std.specs.Prelude.{◌≡◌, ℕ, ◌+◌, ◌<◌, ◌&&◌, Bool, true, false, List, [], ◌∷◌, length, slice_index}
+use Rattle.std.specs.Prelude.{◌≡◌, ℕ, ◌+◌, ◌<◌, ◌&&◌, Bool, true, false, List, [], ◌∷◌, length, slice_index, slice_set}
 use Rattle.vv_base.specs.declared.width.Width.{Width}
 use Rattle.vax_table.specs.declared.act.Dest.{Dest}
 use Rattle.vax_table.specs.declared.act.Dest.TheVariants.{Nowhere, Register}
@@ -19,6 +19,10 @@ use Rattle.vax_normal.specs.Normal.{done_by, with_result}
 -- of registers all but PC are alike
 abbrev pub AreAlikeButPc : List ℕ → List ℕ → Type 0
 AreAlikeButPc r q = (i : ℕ) → i < 15 → slice_index q i ≡ slice_index r i
+
+-- registers in which PC alone is set
+abbrev pub IsMoved : List ℕ → List ℕ → Type 0
+IsMoved r q = (v : ℕ) × (q ≡ slice_set r 15 v)
 
 abbrev pub is_at_hand : Kind → Bool
 is_at_hand Constant = true

@@ -1,5 +1,5 @@
 -- Worked examples of what instructions in normal form do, by computation.
-use Rattle.std.specs.Prelude.{◌≡◌, ℕ, ◌<◌, List, [], ◌∷◌, Some, None, true, false, refl, slice_index}
+use Rattle.std.specs.Prelude.{◌≡◌, ℕ, ◌<◌, List, [], ◌∷◌, true, false, refl, slice_index}
 use Rattle.vv_base.specs.declared.width.Width.TheVariants.{Byte, Word, Long}
 use Rattle.vax_table.specs.Arithmetic.{alu_of}
 use Rattle.vax_table.specs.declared.meaning.Condition.TheVariants.{Equal}

@@ -18,7 +18,7 @@ pub struct After {
 
 /// PC goes on by so many bytes.
 #[inline(always)]
-fn go_on(r: &mut [u32; 16], by: u32, total: u64)
+pub fn go_on(r: &mut [u32; 16], by: u32, total: u64)
     requires { total ≡ sum (take 15 r.old) }
     ensures registers { r.new ≡ past_own_bytes by r.old }
     ensures sum { total ≡ sum (take 15 r.new) }
@@ -50,21 +50,22 @@ fn merged(w: Width, old: u32, value: u32) -> u32
     }
 }
 
-impl Computation {
-    /// The result in its register, if it has one.
-    #[inline(always)]
-    fn put(&self, value: u32, r: &mut [u32; 16], total: u64) -> u64
-        requires { total ≡ sum (take 15 r.old) }
-        ensures registers { r.new ≡ with_result self.now.register self.now.width value r.old }
-        ensures sum { result ≡ sum (take 15 r.new) }
-    {
-        if self.register >= 15 {
-            return total;
-        }
-        let old = r[usize::from(self.register)];
-        set(r, self.register, merged(self.width, old, value), total)
+/// A result of a width in a register, or nowhere, where that is 15.
+#[inline(always)]
+pub fn put(register: u8, w: Width, value: u32, r: &mut [u32; 16], total: u64) -> u64
+    requires narrow { w ≢ Width.Quad }
+    requires sum { total ≡ sum (take 15 r.old) }
+    ensures registers { r.new ≡ with_result register w value r.old }
+    ensures sum { result ≡ sum (take 15 r.new) }
+{
+    if register >= 15 {
+        return total;
     }
+    let old = r[usize::from(register)];
+    set(r, register, merged(w, old, value), total)
+}
 
+impl Computation {
     /// The operation at once, unless it traps.
     #[inline(always)]
     fn carry_out(&self, length: u32, r: &mut [u32; 16], psw: u8, total: u64) -> Option<After>
@@ -82,7 +83,7 @@ impl Computation {
             return None;
         }
         go_on(r, length, total);
-        let total = self.put(x.value, r, total);
+        let total = put(self.register, self.width, x.value, r, total);
         Some(After { psw: x.psw, total })
     }
 }

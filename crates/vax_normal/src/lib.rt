@@ -2,12 +2,17 @@
 #![tactic(auto)]
 
 mod carry_out;
+mod in_memory;
 mod make;
 mod number;
+mod reach;
 mod shape;
 mod total;
+mod touches;
 
 pub use carry_out::After;
+pub use in_memory::Found;
 pub use make::normal_of;
-pub use shape::{Computation, Countdown, Normal, Number, Shape};
+pub use shape::{Computation, Countdown, InMemory, Normal, Number, Reach, Shape, Source};
 pub use total::sum_of;
+pub use touches::in_memory_of;

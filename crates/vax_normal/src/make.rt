@@ -12,7 +12,7 @@ use vax_table::{AluOp, Condition, Inputs, Operation, Target};
 use vv_base::Width;
 
 /// Whether an operand is a constant, a register or a branch.
-fn is_at_hand(kind: Kind) -> bool
+pub fn is_at_hand(kind: Kind) -> bool
     ensures { result ≡ is_at_hand kind }
 {
     matches!(
@@ -94,7 +94,7 @@ fn target_register(target: Target, operands: &[Operand]) -> Option<u8>
 }
 
 /// Whether a width is at most a longword.
-fn is_narrow(w: Width) -> bool
+pub fn is_narrow(w: Width) -> bool
     ensures { result ≡ true → w ≢ Width.Quad }
 {
     !matches!(w, Width::Quad)

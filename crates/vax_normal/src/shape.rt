@@ -50,3 +50,39 @@ pub struct Normal {
     pub shape: Shape,
     pub length: u32,
 }
+
+/// A reference to memory by a register: its address is that and an offset, modulo 2^32. Then the register goes on by a step,
+/// where that isn't 0.
+#[derive(Clone, Copy)]
+pub struct Reach {
+    pub register: u8,
+    pub offset: u32,
+    pub step: u32,
+    pub width: Width,
+    ghost there: { register < 15 },
+    ghost narrow: { width ≢ Quad },
+}
+
+/// A number that is had at once, or bits of one that is read or claimed in memory.
+#[derive(Clone, Copy)]
+pub struct Source {
+    pub number: Number,
+    pub read: u32,
+    pub claimed: u32,
+}
+
+/// An instruction in normal form that refers to memory: an operation of the arithmetic, which reads one reference at most, and
+/// claims one at most, for its result.
+#[derive(Clone, Copy)]
+pub struct InMemory {
+    pub op: AluOp,
+    pub width: Width,
+    pub first: Source,
+    pub second: Source,
+    /// The register that gets the result, or 15, where none does.
+    pub register: u8,
+    pub reads: Option<Reach>,
+    pub writes: Option<Reach>,
+    pub length: u32,
+    ghost narrow: { width ≢ Quad },
+}

@@ -108,7 +108,7 @@ beyond_rows n (l ∷ ls) h e =
     let both = and_both (ltb l.opcode 256) (are_bytes ls) e in
     if_both (λ (o : Option InstructionEntry). o ≡ None) (eqb n l.opcode) _ _ (λ t. absurd (grind (arith, nat_tests, both.0))) (λ t. beyond_rows n ls h both.1)
 
-beyond_all : (n : ℕ) → 256 ≤ n → operation_of n ≡ does.Other
+pub beyond_all : (n : ℕ) → 256 ≤ n → operation_of n ≡ does.Other
 unfolding operation_of are_bytes
 beyond_all n h =
     rw (

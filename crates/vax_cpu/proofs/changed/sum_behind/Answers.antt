@@ -1,4 +1,4 @@
-use Rattle.std.proofs.Common.{◌≡◌, ◌^◌, ◌<◌, sum, ap, sym, ◌∙◌, arith, slice_index}
+use Rattle.std.proofs.Common.{◌≡◌, ◌^◌, ◌<◌, ap, sym, ◌∙◌, arith, slice_index}
 use Rattle.vax_normal.proofs.Sums.{changed_sum, part_of_sum, small_sum}
 use Rattle.vax_cpu.proofs.changed.sum_behind.Goals as goal
 

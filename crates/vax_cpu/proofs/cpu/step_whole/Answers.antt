@@ -1,4 +1,4 @@
-use Rattle.std.proofs.Common.{◌≡◌, ℕ, Err, ap, sym, ◌∙◌}
+use Rattle.std.proofs.Common.{Err, ap, sym, ◌∙◌}
 use Rattle.vax_hw.specs.Machine.{Machine}
 use Rattle.vax_hw.specs.declared.world.Exit.{Exit}
 use Rattle.vax_table.specs.Effects.{effect}
@@ -18,11 +18,11 @@ returns-in-None c =
     let m : Machine = with_registers c.args.plan.now.r c.args.state.now in
     let retired = rw c.in-Ok.ensures.state at c.retire.ensures in
     let done = attempt_retires c.args.state.now c.retire.new.self c.args.plan.now.r c.in-Ok.opcode (effect c.attempt_next.new.plan) c.in-Ok.ensures.attempted retired in
-    (c.in-Ok.ensures.sum, λ n. runs_on n m _ (rw c.in-None.is at done))
+    (c.sum_of-total.ensures, λ n. runs_on n m _ (rw c.in-None.is at done))
 
 pub returns-in-Err : goal.returns-in-Err
 returns-in-Err c = λ n.
     let m : Machine = with_registers c.args.plan.now.r c.args.state.now in
     let stops = rw c.in-Err.ensures.state at c.stop.ensures in
-    let stopped = attempt_stops c.args.state.now c.args.plan.now.r _ c.in-Err.ensures.attempted ∙ ap (λ (e : Exit). Err e) (sym c.exit_for-ended.ensures) in
+    let stopped = attempt_stops c.args.state.now c.args.plan.now.r _ c.in-Err.ensures.attempted ∙ ap (λ (e : Exit). Err e) (sym c.end_with.ensures) in
     rw stops (runs_to_stop n m _ stopped)

@@ -40,5 +40,8 @@ invariant_of-result-clause-spelled c =
     ∙ ap (λ (xs : List ℕ). take c.args.decoded.length xs) c.copy_from_slice.ensures.after) ∙ c.requires.spelled in
     subst (λ (d : Decoded). decoded_at (take d.length (c.copy_from_slice.new.self ++ drop (length c.args.bytes.now) c.args.window.now)) ≡ Whole (view d) []) (sym c.new-prepared.ensures) spelled
 
-pub normal_of-requires : goal.normal_of-requires
-normal_of-requires c = subst (λ (d : Decoded). IsWellFormed (view d)) (sym c.new-prepared.ensures) c.requires.formed
+pub normal_of-normal-requires : goal.normal_of-normal-requires
+normal_of-normal-requires c = subst (λ (d : Decoded). IsWellFormed (view d)) (sym c.new-prepared.ensures) c.requires.formed
+
+pub in_memory_unless-requires : goal.in_memory_unless-requires
+in_memory_unless-requires c = subst (λ (d : Decoded). IsWellFormed (view d)) (sym c.new-prepared.ensures) c.requires.formed

@@ -9,15 +9,15 @@ use Rattle.vax_cpu.proofs.Changes.{changes_one}
 use Rattle.vax_cpu.proofs.One.{known_settled}
 use Rattle.vax_cpu.proofs.perform.attempt_known.Goals as goal
 
-pub returns-in-Ok-clause-changed : goal.returns-in-Ok-clause-changed
-returns-in-Ok-clause-changed c = λ e few.
+pub returns-in-None-clause-changed : goal.returns-in-None-clause-changed
+returns-in-None-clause-changed c = λ e few.
     let k = c.args.kept.now in
     let p = k.prepared in
     subst (λ (n : ℕ). AreAlikeBut n c.args.plan.now.r c.plan_into.new.plan.r) (sym k.changes)
     (changes_one (known_space c.mapped-space.result.memory.now c.mapped-space.result.known.now) (view p.decoded) p.operation p.operands.items c.args.plan.now.r (c.seen_psl.result.0 % 2 ^ 8) (effect c.plan_into.new.plan) p.does p.forms p.specs (subst (λ (n : ℕ). n < 15) k.changes few) c.in-Ok.ensures)
 
-pub returns-in-Ok-clause-attempted : goal.returns-in-Ok-clause-attempted
-returns-in-Ok-clause-attempted c = λ e.
+pub returns-in-None-clause-attempted : goal.returns-in-None-clause-attempted
+returns-in-None-clause-attempted c = λ e.
     let w = c.args.state.now.world in
     let memory = c.mapped-space.ensures.memory in
     let world = c.world-world.ensures in

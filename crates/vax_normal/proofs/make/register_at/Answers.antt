@@ -1,4 +1,4 @@
-use Rattle.std.proofs.Common.{ap, ◌∙◌, arith}
+use Rattle.std.proofs.Common.{ap, ◌∙◌}
 use Rattle.vax_table.specs.Effects.{put}
 use Rattle.vax_table.specs.declared.act.Dest.{Dest}
 use Rattle.vax_normal.proofs.Taking.{dest_at}

@@ -1,7 +1,7 @@
 use Rattle.std.proofs.Common.{◌≡◌, vec_len, ap, arith}
 use Rattle.vax_cpu.specs.declared.code.Code.{Code}
-use Rattle.vax_cpu.proofs.code.Code.place_for.Goals.{then-len-ge-PLACES, else-len-ge-PLACES}
-use Rattle.vax_cpu.proofs.code.Code.place_for.Goals as goal
+use Rattle.vax_cpu.proofs.code.Code.new_place.Goals.{then-len-ge-PLACES, else-len-ge-PLACES}
+use Rattle.vax_cpu.proofs.code.Code.new_place.Goals as goal
 
 pub overflow_cast-place : goal.overflow_cast-place
 overflow_cast-place c = elim c.if-len-ge-PLACES.branch [

@@ -2,7 +2,7 @@ use Rattle.std.proofs.Common.{◌≡◌, ◌+◌, ◌*◌, ◌%◌, ◌^◌, ℕ
 use Rattle.std.proofs.lemmas.List.{with_items_is}
 use Rattle.vax_hw.specs.Machine.{machine_tables}
 use Rattle.vax_paged.specs.Known.{AreAllKnown}
-use Rattle.vax_cpu.proofs.state.State.retire.Goals as goal
+use Rattle.vax_cpu.proofs.state.State.retire_with.Goals as goal
 
 -- two terms are added one after the other
 added : (trail own total : ℕ) → ((trail + own) % 2 ^ 64 + total) % 2 ^ 64 ≡ (trail + (own + total)) % 2 ^ 64
@@ -11,7 +11,7 @@ added trail own total = omega arith
 pub returns : goal.returns
 returns c =
     let long : length c.store_all.new.memory ≡ c.self.inside.memory.len = c.store_all.auto.memory ∙ c.deref_mut.ensures.len in
-    rw (← c.self.view_is, with_items_is c.self.inside.memory c.store_all.new.memory long, c.with_psw-psl.ensures, c.store_all.ensures.memory, c.from.ensures, c.from-2.ensures, ← c.requires, added, c.as_slice-stores.ensures.value, c.deref_mut.ensures.value) refl
+    rw (← c.self.view_is, with_items_is c.self.inside.memory c.store_all.new.memory long, c.with_psw-psl.ensures, c.store_all.ensures.memory, c.from.ensures, c.from-2.ensures, ← c.requires.sum, added, c.deref_mut.ensures.value) refl
 
 pub store_all-requires-clause-known : goal.store_all-requires-clause-known
 store_all-requires-clause-known c =
