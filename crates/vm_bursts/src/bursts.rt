@@ -1,5 +1,5 @@
 ghost use Rattle.std.specs.Prelude.{◌≡◌, ◌≤◌, ◌<◌, ◌+◌, ◌*◌, ◌/◌, ◌%◌, ◌^◌, ◌-◌, IsTrue};
-ghost use Rattle.vm_bursts.specs.Ran.{IsRun, RunsMachine};
+ghost use Rattle.vm_bursts.specs.Ran.{IsRun};
 ghost use Rattle.vm_clock.specs.Ticks.{ticks_to_wrap};
 ghost use Rattle.vm_shadow.specs.StandsFor.{StandsFor};
 ghost use Rattle.vm_simulation_laws.specs.Bursts.{IsQuiet, counted_by, with_count};
@@ -65,23 +65,6 @@ pub struct Ended {
     pub world: World,
 }
 
-/// Runs the machine with a world loaded.
-fn run_machine<H: Hardware>(machine: &mut H, w: &World, budget: u32) -> Ended
-    requires { 1 ≤ budget }
-    ensures { RunsMachine budget (H.machine machine.old) w.now result (H.machine machine.new) }
-{
-    let retired = machine.retired();
-    let trail = machine.trail();
-    machine.load_world(w);
-    let exit = machine.run(budget);
-    Ended {
-        exit,
-        done: machine.retired().wrapping_sub(retired),
-        terms: machine.trail().wrapping_sub(trail),
-        world: machine.save_world(),
-    }
-}
-
 /// Runs the machine for a guest, whose next step is counted, by at most so many instructions. In as many steps no interrupt may
 /// become due.
 pub fn burst<H: Hardware>(machine: &mut H, s: &Shadow, g: &mut GuestState, budget: u32) -> Ran
@@ -92,13 +75,16 @@ pub fn burst<H: Hardware>(machine: &mut H, s: &Shadow, g: &mut GuestState, budge
     ensures { IsRun budget (H.machine machine.old) s.now g.old result (H.machine machine.new) g.new }
 {
     let _steps = steps_of(g);
-    let ended = run_machine(machine, &s.world(g), budget);
-    take_back(g, &ended.world);
-    let done = ended.done as u32;
-    count_more(g, counted_by(&ended.exit, done));
+    let retired = machine.retired();
+    let trail = machine.trail();
+    machine.load_world(&s.world(g));
+    let exit = machine.run(budget);
+    take_back(g, &machine.save_world());
+    let done = machine.retired().wrapping_sub(retired) as u32;
+    count_more(g, counted_by(&exit, done));
     Ran {
         done,
-        terms: ended.terms,
-        exit: ended.exit,
+        terms: machine.trail().wrapping_sub(trail),
+        exit,
     }
 }

@@ -2,7 +2,5 @@
 #![tactic(auto)]
 
 mod bursts;
-mod guarded;
 
-pub use bursts::{Ran, burst, count_more};
-pub use guarded::{is_clear, run_guarded};
+pub use bursts::{Ended, Ran, burst, count_more, take_back};

@@ -13,3 +13,4 @@ pub mod Saving
 pub mod SavingContext
 pub mod Loading
 pub mod Dispatching
+pub mod Popping

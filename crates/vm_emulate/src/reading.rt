@@ -33,7 +33,7 @@ fn byte_in<H: Hardware>(machine: &H, g: &GuestState, pa: u32) -> u8
 
 /// The longword at a physical place of the guest.
 #[tactic(auto, using(vm_state::proofs::Parts::part_long))]
-fn long_in<H: Hardware>(machine: &H, g: &GuestState, pa: u32) -> u32
+pub fn long_in<H: Hardware>(machine: &H, g: &GuestState, pa: u32) -> u32
     requires partition { 512 * (g.now.base + g.now.pages) ≤ length (H.machine machine.now).memory }
     requires inside { pa + 4 ≤ 512 * g.now.pages }
     ensures { result ≡ long_at (partition_of (H.machine machine.now).memory g.now) pa }

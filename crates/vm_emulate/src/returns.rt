@@ -1,4 +1,4 @@
-ghost use Rattle.std.specs.Prelude.{◌≡◌, ◌≤◌, ◌+◌, ◌*◌, length};
+ghost use Rattle.std.specs.Prelude.{◌≡◌, ◌≤◌, ◌+◌, ◌*◌, ◌%◌, length};
 ghost use Rattle.vax_arch.specs.WalkLaws.{AreAligned};
 ghost use Rattle.vax_table.specs.Interaction.{outcome};
 ghost use Rattle.vm_emulate.specs.Emulated.{SensesAlone};
@@ -11,11 +11,12 @@ ghost use Rattle.vm_state.specs.Translation.{space_of};
 
 use crate::Emulated;
 use crate::halts::{go_behind, stop_past_memory};
-use crate::reading::{Unread, read_walked};
-use vax_arch::{Psl, rei_allowed};
+use crate::reading::{Unread, long_in, read_walked};
+use vax_arch::{Intent, Psl, rei_allowed};
 use vax_hw::Hardware;
 use vax_table::Trapped;
-use vm_state::{Exc, GuestState, stack_in};
+use vm_state::{Exc, GuestState, Walk, stack_in};
+use vm_walk::walk;
 
 /// A PC and a PSL that are popped.
 #[derive(Clone, Copy, Debug, PartialEq, Eq)]
@@ -24,12 +25,34 @@ pub struct Popped {
     pub psl: u32,
 }
 
+/// The PC and the PSL on a stack that has both in one page.
+fn read_popped_in_page<H: Hardware>(machine: &H, g: &GuestState, sp: u32) -> Result<Popped, Unread>
+    requires partition { 512 * (g.now.base + g.now.pages) ≤ length (H.machine machine.now).memory }
+    requires tables { AreAligned (tables_of g.now) }
+    requires page { sp % 512 ≤ 504 }
+    ensures { ArePopped (guest_of (H.machine machine.now).memory g.now) (outcome (space_of (guest_of (H.machine machine.now).memory g.now)) (two_popped sp)) result }
+{
+    let _all = machine.pages();
+    match walk(machine, g, sp, g.psl.current(), Intent::Read) {
+        Walk::Frame { pa, .. } => {
+            let pc = long_in(machine, g, pa);
+            let psl = long_in(machine, g, pa + 4);
+            Ok(Popped { pc, psl })
+        }
+        Walk::Fault(fault) => Err(Unread::Faulty(fault)),
+        Walk::Beyond => Err(Unread::PastMemory),
+    }
+}
+
 /// The PC and the PSL on a stack.
 pub fn read_popped<H: Hardware>(machine: &H, g: &GuestState, sp: u32) -> Result<Popped, Unread>
     requires partition { 512 * (g.now.base + g.now.pages) ≤ length (H.machine machine.now).memory }
     requires tables { AreAligned (tables_of g.now) }
     ensures { ArePopped (guest_of (H.machine machine.now).memory g.now) (outcome (space_of (guest_of (H.machine machine.now).memory g.now)) (two_popped sp)) result }
 {
+    if sp % 512 <= 504 {
+        return read_popped_in_page(machine, g, sp);
+    }
     let pc = read_walked(machine, g, sp)?;
     let psl = read_walked(machine, g, sp.wrapping_add(4))?;
     Ok(Popped { pc, psl })

@@ -13,7 +13,7 @@ use Rattle.vm_state.specs.declared.walk.Walk.TheVariants as walks
 use Rattle.vm_state.specs.declared.walk.MemFault.{MemFault}
 use Rattle.vm_exception.specs.declared.pushes.Byte.{Byte}
 use Rattle.vm_exception.specs.declared.pushes.Home.{Home}
-use Rattle.vm_exception.specs.Pushed.{byte_of, home_of}
+use Rattle.vm_exception.specs.Pushed.{byte_of, home_in, home_of}
 
 -- one longword more
 pub pushed_more : (sp : ℕ) (xs : List ℕ) (x : ℕ) → pushed_bytes sp (xs ++ x ∷ []) ≡ pushed_bytes sp xs ++ bytes_from 4 (minus (pointer_after sp xs) 4) x
@@ -114,3 +114,47 @@ pushed_four old p1 p2 p3 p4 x0 x1 x2 x3 bs at long small is e1 e2 e3 e4 b0 b1 b2
     let c2 : byte_of x2 ≡ record { at = (at + 1 + 1) % 2 ^ 32; value = long / 256 / 256 % 256 } = ap byte_of b2 ∙ (λ i. record { at = a2 i; value = v2 i }) in
     let c3 : byte_of x3 ≡ record { at = (at + 1 + 1 + 1) % 2 ^ 32; value = long / 256 / 256 / 256 % 256 } = ap byte_of b3 ∙ (λ i. record { at = a3 i; value = v3 i }) in
     ap (map byte_of) all ∙ map-append byte_of old (x0 ∷ x1 ∷ x2 ∷ x3 ∷ []) ∙ (λ i. map byte_of old ++ (c0 i ∷ c1 i ∷ c2 i ∷ c3 i ∷ []))
+
+-- Homes in one page.
+
+-- what homes the bytes have that were pushed so far
+pub record Placing (page : ℕ) (entry : Option ℕ) (sp : ℕ) (longs : List ℕ) (n at : ℕ) (homes : List Home) : Type 0 where
+  pub homes_are : map home_of homes ≡ map (home_in page entry) (pushed_bytes sp (take n longs))
+  pub pointer : at ≡ pointer_after sp (take n longs)
+  pub size : length homes ≡ 4 * n
+
+pub placing_none : (page : ℕ) (entry : Option ℕ) (sp : ℕ) (longs : List ℕ) → Placing page entry sp longs 0 sp []
+placing_none page entry sp longs = record { homes_are = refl; pointer = refl; size = refl }
+
+pub placing_next : (page : ℕ) (entry : Option ℕ) (sp : ℕ) (longs : List ℕ) (n at at' long : ℕ) (homes homes' : List Home) → n < length longs → long ≡ get_or longs n 0 → at' ≡ minus at 4 → map home_of homes' ≡ map home_of homes ++ map (home_in page entry) (bytes_from 4 at' long) → length homes' ≡ length homes + 4 → Placing page entry sp longs n at homes → Placing page entry sp longs (n + 1) at' homes'
+placing_next page entry sp longs n at at' long homes homes' h is next more size p =
+    let all : take (n + 1) longs ≡ take n longs ++ long ∷ [] = take_more longs n 0 h ∙ ap (λ x. take n longs ++ x ∷ []) (sym is) in
+    record {
+      homes_are = more ∙ (λ i. p.homes_are i ++ map (home_in page entry) (bytes_from 4 (at_is i) long))
+          ∙ sym (ap (λ x. map (home_in page entry) (pushed_bytes sp x)) all ∙ ap (map (home_in page entry)) (pushed_more sp (take n longs) long) ∙ map-append (home_in page entry) (pushed_bytes sp (take n longs)) (bytes_from 4 (minus (pointer_after sp (take n longs)) 4) long));
+      pointer = at_is ∙ sym (ap (pointer_after sp) all ∙ pointer_more sp (take n longs) long);
+      size = size ∙ ap (λ x. x + 4) p.size ∙ omega arith;
+    }
+  where
+    at_is : at' ≡ minus (pointer_after sp (take n longs)) 4
+    at_is = next ∙ ap (λ x. minus x 4) p.pointer
+
+-- four homes placed one after another
+pub placed_four : (page : ℕ) (entry : Option ℕ) (old p1 p2 p3 p4 : List Home) (x0 x1 x2 x3 : Home) (bs : List ℕ) (at long : ℕ) → at < 2 ^ 32 → bs ≡ to_le_bytes w32 long → p1 ≡ old ++ x0 ∷ [] → p2 ≡ p1 ++ x1 ∷ [] → p3 ≡ p2 ++ x2 ∷ [] → p4 ≡ p3 ++ x3 ∷ [] →
+    x0 ≡ record { place = page + at % 512; entry = entry; value = get_or bs 0 0 } → x1 ≡ record { place = page + (at + 1) % 2 ^ 32 % 512; entry = entry; value = get_or bs 1 0 } → x2 ≡ record { place = page + (at + 2) % 2 ^ 32 % 512; entry = entry; value = get_or bs 2 0 } → x3 ≡ record { place = page + (at + 3) % 2 ^ 32 % 512; entry = entry; value = get_or bs 3 0 } →
+    map home_of p4 ≡ map home_of old ++ map (home_in page entry) (bytes_from 4 at long)
+placed_four page entry old p1 p2 p3 p4 x0 x1 x2 x3 bs at long small is e1 e2 e3 e4 b0 b1 b2 b3 =
+    let all : p4 ≡ old ++ (x0 ∷ x1 ∷ x2 ∷ x3 ∷ []) =
+    e4 ∙ ap (λ y. y ++ x3 ∷ []) (e3 ∙ ap (λ y. y ++ x2 ∷ []) (e2 ∙ ap (λ y. y ++ x1 ∷ []) e1 ∙ append_assoc old (x0 ∷ []) (x1 ∷ [])) ∙ append_assoc old (x0 ∷ x1 ∷ []) (x2 ∷ [])) ∙ append_assoc old (x0 ∷ x1 ∷ x2 ∷ []) (x3 ∷ []) in
+    let v0 : get_or bs 0 0 ≡ long % 256 = ap (λ x. get_or x 0 0) is ∙ omega arith in
+    let v1 : get_or bs 1 0 ≡ long / 256 % 256 = ap (λ x. get_or x 1 0) is ∙ omega arith in
+    let v2 : get_or bs 2 0 ≡ long / 256 / 256 % 256 = ap (λ x. get_or x 2 0) is ∙ omega arith in
+    let v3 : get_or bs 3 0 ≡ long / 256 / 256 / 256 % 256 = ap (λ x. get_or x 3 0) is ∙ omega arith in
+    let a0 : at % 512 ≡ at % 2 ^ 32 % 512 = omega (arith, small) in
+    let a2 : (at + 2) % 2 ^ 32 % 512 ≡ (at + 1 + 1) % 2 ^ 32 % 512 = omega arith in
+    let a3 : (at + 3) % 2 ^ 32 % 512 ≡ (at + 1 + 1 + 1) % 2 ^ 32 % 512 = omega arith in
+    let c0 : home_of x0 ≡ record { place = page + at % 2 ^ 32 % 512; entry = entry; value = long % 256 } = ap home_of b0 ∙ (λ i. record { place = page + a0 i; entry = entry; value = v0 i }) in
+    let c1 : home_of x1 ≡ record { place = page + (at + 1) % 2 ^ 32 % 512; entry = entry; value = long / 256 % 256 } = ap home_of b1 ∙ (λ i. record { place = page + (at + 1) % 2 ^ 32 % 512; entry = entry; value = v1 i }) in
+    let c2 : home_of x2 ≡ record { place = page + (at + 1 + 1) % 2 ^ 32 % 512; entry = entry; value = long / 256 / 256 % 256 } = ap home_of b2 ∙ (λ i. record { place = page + a2 i; entry = entry; value = v2 i }) in
+    let c3 : home_of x3 ≡ record { place = page + (at + 1 + 1 + 1) % 2 ^ 32 % 512; entry = entry; value = long / 256 / 256 / 256 % 256 } = ap home_of b3 ∙ (λ i. record { place = page + a3 i; entry = entry; value = v3 i }) in
+    ap (map home_of) all ∙ map-append home_of old (x0 ∷ x1 ∷ x2 ∷ x3 ∷ []) ∙ (λ i. map home_of old ++ (c0 i ∷ c1 i ∷ c2 i ∷ c3 i ∷ []))

@@ -1,6 +1,7 @@
-ghost use Rattle.std.specs.Prelude.{◌≡◌, ◌≤◌, ◌<◌, ◌+◌, ◌*◌, ◌++◌, length, map};
+ghost use Rattle.std.specs.Prelude.{◌≡◌, ◌≤◌, ◌<◌, ◌+◌, ◌*◌, ◌%◌, ◌^◌, ◌++◌, length, map, true};
 ghost use Rattle.vax_arch.specs.declared.mode.Intent.TheVariants.{Write};
-ghost use Rattle.vm_exception.specs.Pushed.{byte_of, walked_of};
+ghost use Rattle.vax_table.specs.Operand.{minus};
+ghost use Rattle.vm_exception.specs.Pushed.{byte_of, home_in, home_of, walked_of};
 ghost use Rattle.vm_state.specs.Partition.{guest_of};
 ghost use Rattle.vm_state.specs.Pushes.{bytes_from, pushed_bytes, push_walked, walked};
 ghost use Rattle.vm_state.specs.Translation.{walk_of};
@@ -123,7 +124,61 @@ fn walk_bytes<H: Hardware>(machine: &H, g: &GuestState, m: Mode, bytes: &[Byte])
     Walked::Homes(homes)
 }
 
-/// The walk of longwords that are pushed in a mode from a stack pointer on.
+/// The homes of a longword's bytes at an address, in a page, after others.
+fn push_homes(homes: &mut ArrayVec<Home, 16>, page: u32, entry: Option<u32>, at: u32, long: u32)
+    requires few { length homes.old.items ≤ 12 }
+    requires page { page + 512 ≤ 2 ^ 32 }
+    ensures homes { map home_of homes.new.items ≡ map home_of homes.old.items ++ map (home_in page entry) (bytes_from 4 at long) }
+    ensures size { length homes.new.items ≡ length homes.old.items + 4 }
+{
+    let [first, second, third, fourth] = long.to_le_bytes();
+    homes.push(Home {
+        place: page + at % 512,
+        entry,
+        value: first,
+    });
+    homes.push(Home {
+        place: page + at.wrapping_add(1) % 512,
+        entry,
+        value: second,
+    });
+    homes.push(Home {
+        place: page + at.wrapping_add(2) % 512,
+        entry,
+        value: third,
+    });
+    homes.push(Home {
+        place: page + at.wrapping_add(3) % 512,
+        entry,
+        value: fourth,
+    });
+}
+
+/// The homes of longwords that are pushed from a stack pointer on, in a page.
+fn homes_in(page: u32, entry: Option<u32>, sp: u32, longs: &[u32]) -> ArrayVec<Home, 16>
+    requires few { length longs.now ≤ 4 }
+    requires page { page + 512 ≤ 2 ^ 32 }
+    ensures { map home_of result.items ≡ map (home_in page entry) (pushed_bytes sp longs.now) }
+{
+    let mut homes = ArrayVec::new();
+    let mut at = sp;
+    for long in longs {
+        at = at.wrapping_sub(4);
+        push_homes(&mut homes, page, entry, at, *long);
+    }
+    homes
+}
+
+/// Whether there are longwords, and one page has all that are pushed from a stack pointer on.
+fn are_in_page(sp: u32, longs: &[u32]) -> bool
+    requires { length longs.now ≤ 4 }
+    ensures { result ≡ true → (1 ≤ length longs.now) × (minus sp (4 * length longs.now) % 512 + 4 * length longs.now ≤ 512) }
+{
+    let bytes = 4 * longs.len() as u32;
+    0 < bytes && sp.wrapping_sub(bytes) % 512 + bytes <= 512
+}
+
+/// The walk of longwords that are pushed in a mode from a stack pointer on: one for all that lie in a page.
 #[tactic(auto, unfolding(vm_state::specs::Pushes::push_walked))]
 pub fn walk_pushes<H: Hardware>(
     machine: &H,
@@ -136,5 +191,12 @@ pub fn walk_pushes<H: Hardware>(
     requires few { length longs.now ≤ 4 }
     ensures { walked_of result ≡ push_walked (guest_of (H.machine machine.now).memory g.now) m sp longs.now }
 {
-    walk_bytes(machine, g, m, &pushed_bytes(sp, longs))
+    if !are_in_page(sp, longs) {
+        return walk_bytes(machine, g, m, &pushed_bytes(sp, longs));
+    }
+    match walk(machine, g, sp.wrapping_sub(4), m, Intent::Write) {
+        Walk::Frame { pa, entry, .. } => Walked::Homes(homes_in(pa / 512 * 512, entry, sp, longs)),
+        Walk::Fault(fault) => Walked::Faulty(fault),
+        Walk::Beyond => Walked::PastMemory,
+    }
 }

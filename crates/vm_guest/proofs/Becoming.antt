@@ -2,7 +2,7 @@
 use Rattle.std.proofs.Common.{◌≡◌, ℕ, ◌*◌, inl, Bool, List, [], ◌∷◌, ◌++◌, refl, ap, ◌∙◌, sym, subst, arith}
 use Rattle.std.proofs.lemmas.List.Elements.{All-nil}
 use Rattle.vax_hw.specs.Machine.{Machine}
-use Rattle.vm_bursts.proofs.Completing.{only_both, own_same}
+use Rattle.vm_stepping.proofs.Completing.{only_both, own_same}
 use Rattle.vm_miss_laws.proofs.Fitting.{resets_keep, writes_keep}
 use Rattle.vm_miss_laws.proofs.Own.{moves_alone, none_dropped}
 use Rattle.vm_miss_laws.proofs.Working.{switches_retell}

@@ -2,7 +2,7 @@
 -- (Karger and others, IEEE TSE 17(11), 1991: virtual machines of a VMM security kernel; details are profile).
 use Rattle.std.specs.Prelude.{◌≡◌, ℕ, ◌+◌, List, [], ◌∷◌, Bool}
 use Rattle.vax_hw.specs.Machine.{Machine}
-use Rattle.vm_bursts.specs.Guarded.{OnlyBoth}
+use Rattle.vm_stepping.specs.Guarded.{OnlyBoth}
 use Rattle.vm_miss_laws.specs.Present.{HasPresent}
 use Rattle.vm_shadow.specs.Shadowed.{Shadowed}
 use Rattle.vm_shadow.specs.StandsFor.{MakesTables, StandsFor}

@@ -1,3 +1,8 @@
+pub mod Guards
+pub mod Completing
+pub mod Closed
+pub mod Tried
+pub mod Finishing
 pub mod Paying
 pub mod Making
 pub mod MissingPages

@@ -4,7 +4,7 @@ use Rattle.vax_arch.specs.Walk.{page_of}
 use Rattle.vax_arch.specs.declared.walk.Lookup.{Lookup}
 use Rattle.vax_arch.specs.declared.walk.Lookup.TheVariants.{Beyond, Direct, Fails, Found}
 use Rattle.vax_hw.specs.Machine.{Machine}
-use Rattle.vm_bursts.specs.Guarded.{OnlyBoth}
+use Rattle.vm_stepping.specs.Guarded.{OnlyBoth}
 use Rattle.vm_console.specs.Appends.{Appends}
 use Rattle.vm_console.proofs.Composes.{Appends-nil}
 use Rattle.vm_events.specs.Made.{MakesStep}

@@ -4,8 +4,8 @@ use Rattle.std.specs.Prelude.{is_some, not}
 use Rattle.vax_hw.specs.Machine.{Machine}
 use Rattle.vax_hw.specs.declared.world.Exit.{Exit}
 use Rattle.vax_hw.specs.declared.world.Exit.TheVariants.{Arithmetic, Budget, Denied, Emulate, Modify, NotValid, Refused}
-use Rattle.vm_bursts.specs.Guarded.{CanAllow, IsGuarded, StaysGuarded, StepsGuarded, count_below}
-use Rattle.vm_bursts.proofs.Completing.{guest_same}
+use Rattle.vm_stepping.specs.Guarded.{CanAllow, IsGuarded, StaysGuarded, StepsGuarded, count_below}
+use Rattle.vm_stepping.proofs.Completing.{guest_same}
 use Rattle.vm_console.specs.Appends.{Appends}
 use Rattle.vm_console.proofs.Composes.{Appends-nil}
 use Rattle.vm_events.specs.Made.{MakesStep}

@@ -8,8 +8,8 @@ use Rattle.vax_hw.specs.Machine.{Machine}
 use Rattle.vax_table.specs.Interaction.{At, Cause, cause_of}
 use Rattle.vax_table.specs.Interaction as interaction
 use Rattle.vax_table.specs.Tries.{Stopped}
-use Rattle.vm_bursts.proofs.Completing.{only_both as tables_both, own_same}
-use Rattle.vm_bursts.proofs.Tried.{count_less}
+use Rattle.vm_stepping.proofs.Completing.{only_both as tables_both, own_same}
+use Rattle.vm_stepping.proofs.Tried.{count_less}
 use Rattle.vm_shadow.specs.Layout.{all_entries}
 use Rattle.vm_shadow.specs.Laws.{guest_place}
 use Rattle.vm_shadow.specs.Shadowed.{Shadowed, read_at}

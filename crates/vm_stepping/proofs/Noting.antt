@@ -9,8 +9,8 @@ use Rattle.vax_table.specs.Tries.{Clear, Stopped}
 use Rattle.vax_table.specs.declared.act.Refusal.{Refusal}
 use Rattle.vax_hw.specs.declared.world.Exit.{Exit}
 use Rattle.vax_hw.specs.declared.world.Exit.TheVariants.{Arithmetic, Budget}
-use Rattle.vm_bursts.specs.Guarded.{IsGuarded}
-use Rattle.vm_bursts.proofs.Completing.{guest_same}
+use Rattle.vm_stepping.specs.Guarded.{IsGuarded}
+use Rattle.vm_stepping.proofs.Completing.{guest_same}
 use Rattle.vm_events.specs.Noted.{note_by_try, note_of_clear, note_of_instruction, note_of_sensed, taken_by}
 use Rattle.vm_events.specs.declared.note.Note.{Note}
 use Rattle.vm_events.specs.declared.note.Note.TheVariants.{Nothing}

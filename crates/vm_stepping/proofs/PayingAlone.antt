@@ -4,8 +4,8 @@ use Rattle.vax_hw.specs.Machine.{Machine}
 use Rattle.vax_hw.specs.Real.{misses_after}
 use Rattle.vax_hw.specs.declared.world.Exit.{Exit}
 use Rattle.vax_hw.specs.declared.world.Exit.TheVariants.{Arithmetic, Budget, Denied, Emulate, Modify, NotValid, Refused}
-use Rattle.vm_bursts.specs.Guarded.{IsGuarded, StaysGuarded, StepsGuarded}
-use Rattle.vm_bursts.proofs.Completing.{guest_same}
+use Rattle.vm_stepping.specs.Guarded.{IsGuarded, StaysGuarded, StepsGuarded}
+use Rattle.vm_stepping.proofs.Completing.{guest_same}
 use Rattle.vm_events.specs.Made.{MakesStep}
 use Rattle.vm_miss_laws.specs.Laws.{KeepsFilled}
 use Rattle.vm_miss_laws.specs.Moves.{Drops, Moves}

@@ -9,7 +9,7 @@ use Rattle.vax_table.specs.Interaction as interaction
 use Rattle.vax_table.specs.Interaction.{cause_of}
 use Rattle.vax_table.specs.Tries.{Clear}
 use Rattle.vax_table.specs.Troubles.{intent_of}
-use Rattle.vm_bursts.specs.Guarded.{ExitIsMet}
+use Rattle.vm_stepping.specs.Guarded.{ExitIsMet}
 use Rattle.vm_miss_laws.specs.Laws.{KeepsFilled}
 use Rattle.vm_miss_laws.specs.Present.{to_miss}
 use Rattle.vm_miss_laws.specs.Runs.{MissesThere, Reaches}

@@ -3,8 +3,8 @@ use Rattle.std.proofs.Common.{◌≡◌, ◌⊎◌, ℕ, zero, suc, ◌+◌, ◌
 use Rattle.std.proofs.lemmas.Bool.{cases_eq, false≢true, not-false}
 use Rattle.vax_arch.specs.Fields.{is_valid}
 use Rattle.vax_hw.specs.Machine.{Machine}
-use Rattle.vm_bursts.specs.Guarded.{count_below}
-use Rattle.vm_bursts.proofs.Completing.{split}
+use Rattle.vm_stepping.specs.Guarded.{count_below}
+use Rattle.vm_stepping.proofs.Completing.{split}
 use Rattle.vm_emulate.specs.Emulated.{FillsTwo, HasValidEntry}
 use Rattle.vm_miss_laws.specs.Laws.{KeepsFilled}
 use Rattle.vm_shadow.specs.Layout.{all_entries, entry_number}

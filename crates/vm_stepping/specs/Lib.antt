@@ -1,3 +1,4 @@
+pub mod Guarded
 pub mod Made
 pub mod Noted
 pub mod Pays

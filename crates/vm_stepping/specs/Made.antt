@@ -1,7 +1,7 @@
 -- A step of a guest that the kernel makes and counts, over a machine and the guest's shadow page tables.
 use Rattle.std.specs.Prelude.{◌≡◌, ℕ, ◌+◌, ◌%◌, ◌^◌, ◌<◌, Bool, true, false, not, List, [], ◌++◌, is_some}
 use Rattle.vax_hw.specs.Machine.{Machine}
-use Rattle.vm_bursts.specs.Guarded.{OnlyBoth, count_below}
+use Rattle.vm_stepping.specs.Guarded.{OnlyBoth, count_below}
 use Rattle.vm_console.specs.Appends.{Appends}
 use Rattle.vm_miss_laws.specs.Moves.{Moves}
 use Rattle.vm_shadow.specs.Layout.{all_entries}

@@ -2,6 +2,7 @@
 #![tactic(auto)]
 
 mod counts;
+mod guarded;
 mod made;
 mod met;
 mod missing;

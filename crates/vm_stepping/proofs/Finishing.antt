@@ -5,7 +5,7 @@ use Rattle.vax_hw.specs.Real.{misses_after}
 use Rattle.vax_hw.specs.declared.world.Exit.{Exit}
 use Rattle.vax_hw.specs.declared.world.Exit.TheVariants.{Arithmetic, Budget, Denied, Emulate, Modify, NotValid, Refused}
 use Rattle.vax_hw.specs.declared.world.World.{World}
-use Rattle.vm_bursts.specs.Guarded.{CanAllow, IsCompleted, IsGuarded, IsTried, IsUnfinished, RunsOne, RunsSome, StaysGuarded, StepsGuarded, with_trap_of}
+use Rattle.vm_stepping.specs.Guarded.{CanAllow, IsCompleted, IsGuarded, IsTried, IsUnfinished, RunsOne, RunsSome, StaysGuarded, StepsGuarded, with_trap_of}
 use Rattle.vm_bursts.specs.declared.bursts.Ended.{Ended}
 use Rattle.vm_bursts.proofs.Running.{loaded, loads_world, rise_is, zero_bits}
 use Rattle.vm_shadow.specs.Shadowed.{Shadowed}

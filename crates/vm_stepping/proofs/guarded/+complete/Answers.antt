@@ -1,8 +1,8 @@
 use Rattle.std.proofs.Common.{◌∙◌, ◌+◌, ◌*◌, ◌<◌, sym, subst}
-use Rattle.vm_bursts.specs.Guarded.{clear_bits}
-use Rattle.vm_bursts.proofs.Completing.{first_try}
-use Rattle.vm_bursts.proofs.Tried.{as_clear, can_close, left_clear, may_allow, runs_some, still_runs, then_fewer, tried_again, tried_there}
-use Rattle.vm_bursts.proofs.guarded.+complete.Goals as goal
+use Rattle.vm_stepping.specs.Guarded.{clear_bits}
+use Rattle.vm_stepping.proofs.Completing.{first_try}
+use Rattle.vm_stepping.proofs.Tried.{as_clear, can_close, left_clear, may_allow, runs_some, still_runs, then_fewer, tried_again, tried_there}
+use Rattle.vm_stepping.proofs.guarded.+complete.Goals as goal
 
 pub complete-returns-in_default : goal.complete-returns-in_default
 complete-returns-in_default g t c = λ opened k. first_try opened (g.H.Hardware.machine c.args.machine.now) c.args.s.now c.args.g.now k (g.H.Hardware.machine c.run-exit.new.self) c.run-exit.result c.run-exit.ensures c.in_default.not-Modify

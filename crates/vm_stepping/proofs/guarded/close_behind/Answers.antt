@@ -1,7 +1,7 @@
 use Rattle.std.proofs.Common.{◌∙◌, sym}
-use Rattle.vm_bursts.proofs.Guards.{noted_fits, retired_too, unretired}
-use Rattle.vm_bursts.specs.Guarded.{is_retired}
-use Rattle.vm_bursts.proofs.guarded.close_behind.Goals as goal
+use Rattle.vm_stepping.proofs.Guards.{noted_fits, retired_too, unretired}
+use Rattle.vm_stepping.specs.Guarded.{is_retired}
+use Rattle.vm_stepping.proofs.guarded.close_behind.Goals as goal
 
 pub returns-then-not-is_retired : goal.returns-then-not-is_retired
 returns-then-not-is_retired g c =

@@ -1,6 +1,6 @@
 ghost use Rattle.std.specs.Prelude.{◌≡◌, ◌≤◌, ◌+◌, ◌*◌, ℕ, List, length};
 ghost use Rattle.vax_arch.specs.Walk.{page_of};
-ghost use Rattle.vm_bursts.specs.Guarded.{CanAllow, CanClose, ClosesAfter, GrantsOrOpens, IsGuarded, IsTried, RunsOne, RunsSome, is_retired};
+ghost use Rattle.vm_stepping.specs.Guarded.{CanAllow, CanClose, ClosesAfter, GrantsOrOpens, IsGuarded, IsTried, RunsOne, RunsSome, is_retired};
 ghost use Rattle.vm_shadow.specs.Layout.{IsCovered};
 ghost use Rattle.vm_shadow.specs.Shadowed.{Fits};
 ghost use Rattle.vm_shadow.specs.StandsFor.{HasModifiedPage, StandsFor, own_number};
@@ -8,9 +8,9 @@ ghost use Rattle.vm_simulation_laws.specs.Loaded.{RunsGuest};
 ghost use Rattle.vm_state.specs.Partition.{guest_of};
 ghost use Rattle.vm_state.specs.Translation.{is_clear};
 
-use crate::bursts::{Ended, Ran, take_back};
 use vax_arch::{Lookup, Pte};
 use vax_hw::{Exit, Hardware, World};
+use vm_bursts::{Ended, Ran, take_back};
 use vm_shadow::Shadow;
 use vm_state::GuestState;
 use vm_walk::look_up;

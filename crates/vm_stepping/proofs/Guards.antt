@@ -2,7 +2,7 @@
 use Rattle.std.proofs.Common.{◌≡◌, ℕ, ◌*◌, Bool, true, false, List, Option, Some, None, refl, ap, ◌∙◌, sym, subst}
 use Rattle.vax_arch.specs.Walk.{page_of}
 use Rattle.vax_hw.specs.Machine.{Machine}
-use Rattle.vm_bursts.specs.Guarded.{CanClose, ClosesAfter, ClosesOne, GrantsOrOpens}
+use Rattle.vm_stepping.specs.Guarded.{CanClose, ClosesAfter, ClosesOne, GrantsOrOpens}
 use Rattle.vm_shadow.specs.Calls.{OnlyTables}
 use Rattle.vm_shadow.specs.Shadowed.{Fits, Shadowed, mapped_frame, real_at}
 use Rattle.vm_shadow.specs.StandsFor.{ClosesPage, GrantsOrLeaves, Notes, OpensPage, own_number}

@@ -1,6 +1,6 @@
 use Rattle.std.specs.Prelude.{◌+◌, ◌*◌}
-use Rattle.vm_bursts.specs.Guarded.{clear_bits}
-use Rattle.vm_bursts.proofs.guarded.+complete.Given as goal
+use Rattle.vm_stepping.specs.Guarded.{clear_bits}
+use Rattle.vm_stepping.proofs.guarded.+complete.Given as goal
 
 abbrev pub decreases-complete : goal.decreases-complete
 decreases-complete g l = 2 * clear_bits (g.H.Hardware.machine l.machine.now).memory l.s.now + 1

@@ -6,8 +6,8 @@ use Rattle.vax_hw.specs.declared.world.Exit.{Exit}
 use Rattle.vax_hw.specs.declared.world.Exit.TheVariants.{Arithmetic, Budget, Denied, Emulate, Modify, NotValid, Refused}
 use Rattle.vax_table.specs.Interaction.{IsIn}
 use Rattle.vax_table.specs.Whole.{Act, Plain, Probes, Traps}
-use Rattle.vm_bursts.specs.Guarded.{ClosesOne, ExitIsMet, IsCompleted, IsUnfinished, OnlyBoth}
-use Rattle.vm_bursts.proofs.Completing.{guest_same, only_both, own_same}
+use Rattle.vm_stepping.specs.Guarded.{ClosesOne, ExitIsMet, IsCompleted, IsUnfinished, OnlyBoth}
+use Rattle.vm_stepping.proofs.Completing.{guest_same, only_both, own_same}
 use Rattle.vm_miss_laws.specs.Runs.{MissesThere, Reaches}
 use Rattle.vm_shadow.specs.Calls.{OnlyTables, unless_dropped}
 use Rattle.vm_shadow.specs.Shadowed.{Keeps, Shadowed, is_opened, is_pending, is_read_from, mapped_frame, read_at, real_at}

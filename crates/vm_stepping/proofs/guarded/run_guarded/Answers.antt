@@ -1,6 +1,6 @@
-use Rattle.vm_bursts.proofs.Finishing.{is_guarded, runs_loaded, written_loaded}
+use Rattle.vm_stepping.proofs.Finishing.{is_guarded, runs_loaded, written_loaded}
 use Rattle.vm_shadow.proofs.Covering.{slot_small}
-use Rattle.vm_bursts.proofs.guarded.run_guarded.Goals as goal
+use Rattle.vm_stepping.proofs.guarded.run_guarded.Goals as goal
 
 pub world-world-requires-clause-slot : goal.world-world-requires-clause-slot
 world-world-requires-clause-slot g c = slot_small (g.H.Hardware.machine c.args.machine.now).memory c.args.s.now c.requires.stands.keeps.fits

@@ -7,7 +7,7 @@ use Rattle.vax_hw.specs.Machine.{Machine}
 use Rattle.vax_hw.specs.Real.{Retired, unless_trapped, going_on, misses_after, machine_step, real}
 use Rattle.vax_hw.specs.declared.world.Exit.{Exit}
 use Rattle.vax_hw.specs.declared.world.Exit.TheVariants.{Arithmetic, Budget, Denied, Emulate, Modify, NotValid, Refused}
-use Rattle.vm_bursts.specs.Guarded.{ExitIsMet, GrantsOrOpens, IsCompleted, IsTried, IsUnfinished, OnlyBoth, opened_by}
+use Rattle.vm_stepping.specs.Guarded.{ExitIsMet, GrantsOrOpens, IsCompleted, IsTried, IsUnfinished, OnlyBoth, opened_by}
 use Rattle.vax_table.specs.Interaction.{IsIn}
 use Rattle.vm_miss_laws.specs.Runs.{Reaches}
 use Rattle.vm_miss_laws.proofs.Running.{reached_by}

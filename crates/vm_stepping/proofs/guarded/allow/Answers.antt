@@ -1,5 +1,5 @@
-use Rattle.vm_bursts.proofs.Guards.{is_opened}
-use Rattle.vm_bursts.proofs.guarded.allow.Goals as goal
+use Rattle.vm_stepping.proofs.Guards.{is_opened}
+use Rattle.vm_stepping.proofs.guarded.allow.Goals as goal
 
 pub returns : goal.returns
 returns g c =
