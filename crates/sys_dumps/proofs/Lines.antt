@@ -7,9 +7,9 @@ use Rattle.std.proofs.lemmas.Grind.{common_steps}
 use Rattle.vv_base.specs.Bytes.{long_at, long_bytes, overwritten}
 use Rattle.vm_state.specs.Partition.{part}
 use Rattle.sys_guests.proofs.Images.{one_long}
-use Rattle.vv_io.specs.Lines.{Puts, Seen}
-use Rattle.sys_lines.proofs.Puts.{shows}
-use Rattle.sys_lines.specs.ShownSince.{ShownSince}
+use Rattle.vv_io.specs.Lines.{PutsOn, Seen}
+use Rattle.sys_lines.proofs.OneLine.{nothing_shown, put_once}
+use Rattle.sys_lines.specs.ShownSince.{ShownSinceOn}
 use Rattle.sys_state.specs.Dump.{if_shown, is_shown, register_line, register_lines, row_line, row_lines, text_of_lines}
 
 -- lines after lines
@@ -130,5 +130,9 @@ row_whole memory at n cleared row inside many few room is =
     is ∙ ap (λ (k : ℕ). overwritten cleared 0 (take k xs)) all ∙ ap (λ (ys : List ℕ). overwritten cleared 0 ys) (take-length xs) ∙ ap (λ (ys : List ℕ). xs ++ ys) (drop_of_length-le cleared past) ∙ append-nil xs
 
 -- a put of a line's text
-pub shows_line : {U E : Type 0} (before after : Seen) (bytes line : List ℕ) (r : Result U E) → bytes ≡ line ++ 13 ∷ 10 ∷ [] → Puts before after bytes r → ShownSince (is_err r) before after (text_of_lines (line ∷ []))
-shows_line before after bytes line r is puts = subst (ShownSince (is_err r) before after) (is ∙ sym (append-nil (line ++ 13 ∷ 10 ∷ []))) (shows before after bytes r puts)
+pub shows_line : {U E : Type 0} (k : ℕ) (before after : List Seen) (bytes line : List ℕ) (r : Result U E) → k < length before → bytes ≡ line ++ 13 ∷ 10 ∷ [] → PutsOn k before after bytes r → ShownSinceOn k (is_err r) before after (text_of_lines (line ∷ []))
+shows_line k before after bytes line r there is puts = subst (ShownSinceOn k (is_err r) before after) (is ∙ sym (append-nil (line ++ 13 ∷ 10 ∷ []))) (put_once before k after bytes r there puts)
+
+-- a row that isn't shown leaves a line as it is
+pub row_left_out : (k at : ℕ) (lines : List Seen) (row : List ℕ) → k < length lines → is_shown row ≡ false → ShownSinceOn k false lines lines (text_of_lines (if_shown at row []))
+row_left_out k at lines row there hidden = subst (λ (b : Bool). ShownSinceOn k false lines lines (text_of_lines (if b then row_line at row ∷ [] else []))) (sym hidden) (nothing_shown lines k there)

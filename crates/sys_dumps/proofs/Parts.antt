@@ -5,9 +5,9 @@ use Rattle.vv_io.specs.Lines.{Seen}
 use Rattle.vm_state.specs.Partition.{guest_of, part}
 use Rattle.vm_state.specs.declared.guest_state.GuestState.{GuestState}
 use Rattle.sys_state.specs.Dump.{dump_of, register_lines, row_lines, text_of_lines}
-use Rattle.sys_lines.specs.ShownSince.{ShownSince}
+use Rattle.sys_lines.specs.ShownSince.{ShownSinceOn}
 use Rattle.sys_dumps.proofs.Lines.{rows_in, text_first, text_joined}
-use Rattle.sys_lines.proofs.Puts.{IsBut, begun, ends, goes_on, stops}
+use Rattle.sys_lines.proofs.OneLine.{IsButOn, begun_on, ends_there, goes_on_there, stops_there}
 
 four_parts : (name psl : List ℕ) (registers rows : List (List ℕ)) → text_of_lines (name ∷ (registers ++ psl ∷ rows)) ≡ text_of_lines (name ∷ []) ++ (text_of_lines registers ++ (text_of_lines (psl ∷ []) ++ text_of_lines rows))
 four_parts name psl registers rows =
@@ -35,41 +35,43 @@ parts memory name g first psl inside are =
     ∙ ap (λ (xs : List ℕ). text_of_lines (xs ∷ []) ++ (registers_of g ++ (text_of_lines ((codes "PSL " ++ hex_text 8 g.psl.0) ∷ []) ++ rows_of memory g))) (sym are.first_is)
     ∙ ap (λ (xs : List ℕ). text_of_lines (first ∷ []) ++ (registers_of g ++ (text_of_lines (xs ∷ []) ++ rows_of memory g))) (sym are.psl_is)
 
-after_name : (memory name : List ℕ) (g : GuestState) (first psl : List ℕ) (start one : Seen) → 512 * g.base + 512 * g.pages ≤ length memory → AreLines name g first psl → ShownSince false start one (text_of_lines (first ∷ [])) →
-    IsBut start one (registers_of g ++ (text_of_lines (psl ∷ []) ++ rows_of memory g)) (dump_of name (guest_of memory g))
-after_name memory name g first psl start one inside are shown =
+after_name : (memory name : List ℕ) (g : GuestState) (first psl : List ℕ) (k : ℕ) (start one : List Seen) → 512 * g.base + 512 * g.pages ≤ length memory → AreLines name g first psl → ShownSinceOn k false start one (text_of_lines (first ∷ [])) →
+    IsButOn k start one (registers_of g ++ (text_of_lines (psl ∷ []) ++ rows_of memory g)) (dump_of name (guest_of memory g))
+after_name memory name g first psl k start one inside are shown =
     let whole = dump_of name (guest_of memory g) in
-    goes_on start start one whole (text_of_lines (first ∷ [])) (registers_of g ++ (text_of_lines (psl ∷ []) ++ rows_of memory g)) whole (parts memory name g first psl inside are) (begun start whole) shown
+    let (line, is, there, since) = shown in
+    goes_on_there k start start one whole (text_of_lines (first ∷ [])) (registers_of g ++ (text_of_lines (psl ∷ []) ++ rows_of memory g)) whole (parts memory name g first psl inside are) (begun_on k start whole there) shown
 
-after_registers : (memory name : List ℕ) (g : GuestState) (first psl : List ℕ) (start one two : Seen) → 512 * g.base + 512 * g.pages ≤ length memory → AreLines name g first psl → ShownSince false start one (text_of_lines (first ∷ [])) → ShownSince false one two (registers_of g) →
-    IsBut start two (text_of_lines (psl ∷ []) ++ rows_of memory g) (dump_of name (guest_of memory g))
-after_registers memory name g first psl start one two inside are shown more =
-    goes_on start one two (registers_of g ++ (text_of_lines (psl ∷ []) ++ rows_of memory g)) (registers_of g) (text_of_lines (psl ∷ []) ++ rows_of memory g) (dump_of name (guest_of memory g)) refl (after_name memory name g first psl start one inside are shown) more
+after_registers : (memory name : List ℕ) (g : GuestState) (first psl : List ℕ) (k : ℕ) (start one two : List Seen) → 512 * g.base + 512 * g.pages ≤ length memory → AreLines name g first psl → ShownSinceOn k false start one (text_of_lines (first ∷ [])) → ShownSinceOn k false one two (registers_of g) →
+    IsButOn k start two (text_of_lines (psl ∷ []) ++ rows_of memory g) (dump_of name (guest_of memory g))
+after_registers memory name g first psl k start one two inside are shown more =
+    goes_on_there k start one two (registers_of g ++ (text_of_lines (psl ∷ []) ++ rows_of memory g)) (registers_of g) (text_of_lines (psl ∷ []) ++ rows_of memory g) (dump_of name (guest_of memory g)) refl (after_name memory name g first psl k start one inside are shown) more
 
 -- the name's line fails
-pub name_fails : (failed : Bool) (memory name : List ℕ) (g : GuestState) (first : List ℕ) (start one : Seen) → failed ≡ true → 512 * g.base + 512 * g.pages ≤ length memory → first ≡ codes "VM " ++ name →
-    ShownSince true start one (text_of_lines (first ∷ [])) → ShownSince failed start one (dump_of name (guest_of memory g))
-name_fails failed memory name g first start one fault inside is shown =
+pub name_fails : (failed : Bool) (memory name : List ℕ) (g : GuestState) (first : List ℕ) (k : ℕ) (start one : List Seen) → failed ≡ true → 512 * g.base + 512 * g.pages ≤ length memory → first ≡ codes "VM " ++ name →
+    ShownSinceOn k true start one (text_of_lines (first ∷ [])) → ShownSinceOn k failed start one (dump_of name (guest_of memory g))
+name_fails failed memory name g first k start one fault inside is shown =
     let whole = dump_of name (guest_of memory g) in
     let psl = codes "PSL " ++ hex_text 8 g.psl.0 in
-    stops failed start start one whole (text_of_lines (first ∷ [])) (registers_of g ++ (text_of_lines (psl ∷ []) ++ rows_of memory g)) whole fault (parts memory name g first psl inside (record { first_is = is; psl_is = refl })) (begun start whole) shown
+    let (line, put, there, since) = shown in
+    stops_there k failed start start one whole (text_of_lines (first ∷ [])) (registers_of g ++ (text_of_lines (psl ∷ []) ++ rows_of memory g)) whole fault (parts memory name g first psl inside (record { first_is = is; psl_is = refl })) (begun_on k start whole there) shown
 
 -- a register's
-pub registers_fail : (failed : Bool) (memory name : List ℕ) (g : GuestState) (first : List ℕ) (start one two : Seen) → failed ≡ true → 512 * g.base + 512 * g.pages ≤ length memory → first ≡ codes "VM " ++ name →
-    ShownSince false start one (text_of_lines (first ∷ [])) → ShownSince true one two (registers_of g) → ShownSince failed start two (dump_of name (guest_of memory g))
-registers_fail failed memory name g first start one two fault inside is shown more =
+pub registers_fail : (failed : Bool) (memory name : List ℕ) (g : GuestState) (first : List ℕ) (k : ℕ) (start one two : List Seen) → failed ≡ true → 512 * g.base + 512 * g.pages ≤ length memory → first ≡ codes "VM " ++ name →
+    ShownSinceOn k false start one (text_of_lines (first ∷ [])) → ShownSinceOn k true one two (registers_of g) → ShownSinceOn k failed start two (dump_of name (guest_of memory g))
+registers_fail failed memory name g first k start one two fault inside is shown more =
     let psl = codes "PSL " ++ hex_text 8 g.psl.0 in
-    stops failed start one two (registers_of g ++ (text_of_lines (psl ∷ []) ++ rows_of memory g)) (registers_of g) (text_of_lines (psl ∷ []) ++ rows_of memory g) (dump_of name (guest_of memory g)) fault refl (after_name memory name g first psl start one inside (record { first_is = is; psl_is = refl }) shown) more
+    stops_there k failed start one two (registers_of g ++ (text_of_lines (psl ∷ []) ++ rows_of memory g)) (registers_of g) (text_of_lines (psl ∷ []) ++ rows_of memory g) (dump_of name (guest_of memory g)) fault refl (after_name memory name g first psl k start one inside (record { first_is = is; psl_is = refl }) shown) more
 
 -- the PSL's
-pub psl_fails : (failed : Bool) (memory name : List ℕ) (g : GuestState) (first psl : List ℕ) (start one two three : Seen) → failed ≡ true → 512 * g.base + 512 * g.pages ≤ length memory → first ≡ codes "VM " ++ name → psl ≡ codes "PSL " ++ hex_text 8 g.psl.0 →
-    ShownSince false start one (text_of_lines (first ∷ [])) → ShownSince false one two (registers_of g) → ShownSince true two three (text_of_lines (psl ∷ [])) → ShownSince failed start three (dump_of name (guest_of memory g))
-psl_fails failed memory name g first psl start one two three fault inside is psl_is shown more last =
-    stops failed start two three (text_of_lines (psl ∷ []) ++ rows_of memory g) (text_of_lines (psl ∷ [])) (rows_of memory g) (dump_of name (guest_of memory g)) fault refl (after_registers memory name g first psl start one two inside (record { first_is = is; psl_is = psl_is }) shown more) last
+pub psl_fails : (failed : Bool) (memory name : List ℕ) (g : GuestState) (first psl : List ℕ) (k : ℕ) (start one two three : List Seen) → failed ≡ true → 512 * g.base + 512 * g.pages ≤ length memory → first ≡ codes "VM " ++ name → psl ≡ codes "PSL " ++ hex_text 8 g.psl.0 →
+    ShownSinceOn k false start one (text_of_lines (first ∷ [])) → ShownSinceOn k false one two (registers_of g) → ShownSinceOn k true two three (text_of_lines (psl ∷ [])) → ShownSinceOn k failed start three (dump_of name (guest_of memory g))
+psl_fails failed memory name g first psl k start one two three fault inside is psl_is shown more last =
+    stops_there k failed start two three (text_of_lines (psl ∷ []) ++ rows_of memory g) (text_of_lines (psl ∷ [])) (rows_of memory g) (dump_of name (guest_of memory g)) fault refl (after_registers memory name g first psl k start one two inside (record { first_is = is; psl_is = psl_is }) shown more) last
 
 -- the rows end it
-pub rows_end : (failed : Bool) (memory name : List ℕ) (g : GuestState) (first psl : List ℕ) (start one two three four : Seen) → 512 * g.base + 512 * g.pages ≤ length memory → first ≡ codes "VM " ++ name → psl ≡ codes "PSL " ++ hex_text 8 g.psl.0 →
-    ShownSince false start one (text_of_lines (first ∷ [])) → ShownSince false one two (registers_of g) → ShownSince false two three (text_of_lines (psl ∷ [])) → ShownSince failed three four (text_of_lines (row_lines (32 * g.pages) 0 (part memory (512 * g.base) (512 * g.pages)))) → ShownSince failed start four (dump_of name (guest_of memory g))
-rows_end failed memory name g first psl start one two three four inside is psl_is shown more last rows =
+pub rows_end : (failed : Bool) (memory name : List ℕ) (g : GuestState) (first psl : List ℕ) (k : ℕ) (start one two three four : List Seen) → 512 * g.base + 512 * g.pages ≤ length memory → first ≡ codes "VM " ++ name → psl ≡ codes "PSL " ++ hex_text 8 g.psl.0 →
+    ShownSinceOn k false start one (text_of_lines (first ∷ [])) → ShownSinceOn k false one two (registers_of g) → ShownSinceOn k false two three (text_of_lines (psl ∷ [])) → ShownSinceOn k failed three four (text_of_lines (row_lines (32 * g.pages) 0 (part memory (512 * g.base) (512 * g.pages)))) → ShownSinceOn k failed start four (dump_of name (guest_of memory g))
+rows_end failed memory name g first psl k start one two three four inside is psl_is shown more last rows =
     let whole = dump_of name (guest_of memory g) in
-    ends failed start three four (rows_of memory g) whole (goes_on start two three (text_of_lines (psl ∷ []) ++ rows_of memory g) (text_of_lines (psl ∷ [])) (rows_of memory g) whole refl (after_registers memory name g first psl start one two inside (record { first_is = is; psl_is = psl_is }) shown more) last) rows
+    ends_there k failed start three four (rows_of memory g) whole (goes_on_there k start two three (text_of_lines (psl ∷ []) ++ rows_of memory g) (text_of_lines (psl ∷ [])) (rows_of memory g) whole refl (after_registers memory name g first psl k start one two inside (record { first_is = is; psl_is = psl_is }) shown more) last) rows

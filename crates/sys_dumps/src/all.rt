@@ -1,7 +1,6 @@
-ghost use Rattle.std.specs.Prelude.{◌≡◌, ◌≢◌, ◌≤◌, ◌<◌, ◌+◌, ◌*◌, All, IfSome, filter_map, is_err, length, map, vec_len};
+ghost use Rattle.std.specs.Prelude.{◌≡◌, ◌≢◌, ◌≤◌, ◌<◌, ◌+◌, ◌*◌, All, IfSome, filter_map, length};
 ghost use Rattle.std.specs.List.{AllPairs};
 ghost use Rattle.sys_guests.specs.Layout.{guests_in};
-ghost use Rattle.sys_lines.specs.ShownSince.{ShownSinceOn};
 ghost use Rattle.sys_lines.specs.Shows.{Shows, only_on};
 ghost use Rattle.sys_objects.specs.Condition.{IsGuest};
 ghost use Rattle.sys_state.specs.Bytes.{dump_on};
@@ -16,65 +15,43 @@ use vax_hw::Hardware;
 use vm_guest::Guest;
 use vm_state::GuestState;
 use vv_base::Name;
-use vv_io::{Line, LineFault};
-
-/// Puts a guest's dump on one of several lines.
-fn dump_on<H: Hardware>(
-    machine: &H,
-    name: &Name,
-    guest: &GuestState,
-    lines: &mut Vec<Box<dyn Line>>,
-    k: usize,
-) -> Result<(), LineFault>
-    requires inside { 512 * guest.now.base + 512 * guest.now.pages ≤ length (H.machine machine.now).memory }
-    requires place { guest.now.base + guest.now.pages ≤ 65536 }
-    requires line { k < vec_len lines.old }
-    ensures shows { ShownSinceOn k (is_err result) (map (λ b. seen b) lines.old.items) (map (λ b. seen b) lines.new.items) (dump_of name.now (guest_of (H.machine machine.now).memory guest.now)) }
-    ensures len { vec_len lines.new ≡ vec_len lines.old }
-{
-    let line = &mut lines[k];
-    dump(machine, name, guest, line)
-}
+use vv_io::Lines;
 
 /// Puts a guest's dump on a line, if there is one and it isn't marked; a fault marks it.
-fn dump_at<H: Hardware>(
+fn dump_at<H: Hardware, L: Lines>(
     marks: &mut Marks,
-    lines: &mut Vec<Box<dyn Line>>,
+    lines: &mut L,
     place: Option<u8>,
     machine: &H,
     name: &Name,
     guest: &GuestState,
 )
     requires there { IfSome place (λ line. line < 32) }
-    requires lines { vec_len lines.old ≡ 32 }
     requires inside { 512 * guest.now.base + 512 * guest.now.pages ≤ length (H.machine machine.now).memory }
     requires pages { guest.now.base + guest.now.pages ≤ 65536 }
-    ensures shows { Shows marks.old marks.new (map (λ b. seen b) lines.old.items) (map (λ b. seen b) lines.new.items) (only_on place (dump_of name.now (guest_of (H.machine machine.now).memory guest.now))) }
-    ensures len { vec_len lines.new ≡ vec_len lines.old }
+    ensures { Shows marks.old marks.new (L.lines lines.old) (L.lines lines.new) (only_on place (dump_of name.now (guest_of (H.machine machine.now).memory guest.now))) }
 {
     if let Some(line) = place {
         let k = line as usize;
         if !marks[k] {
-            marks[k] = dump_on(machine, name, guest, lines, k).is_err();
+            marks[k] = dump(machine, name, guest, lines, line).is_err();
         }
     }
 }
 
 /// Puts each guest's dump on its line, in order; a line that is marked gets none, and one that fails is marked.
-pub fn dump_all<H: Hardware>(
+pub fn dump_all<H: Hardware, L: Lines>(
     machine: &H,
     rows: &[GuestRow],
     guests: &[Guest],
     marks: &mut Marks,
-    lines: &mut Vec<Box<dyn Line>>,
+    lines: &mut L,
 )
     requires guests { All (λ k. IsShadowedIn (H.machine machine.now).memory k) guests.now }
     requires beside { length guests.now ≡ length rows.now }
     requires rows { All IsGuest rows.now }
     requires apart { AllPairs (λ x y. x ≢ y) (filter_map (λ row. row.dump) rows.now) }
-    requires lines { vec_len lines.old ≡ 32 }
-    ensures shows { Shows marks.old marks.new (map (λ b. seen b) lines.old.items) (map (λ b. seen b) lines.new.items) (λ k. dump_on k rows.now (guests_in (H.machine machine.now).memory guests.now)) }
-    ensures len { vec_len lines.new ≡ vec_len lines.old }
+    ensures { Shows marks.old marks.new (L.lines lines.old) (L.lines lines.new) (λ k. dump_on k rows.now (guests_in (H.machine machine.now).memory guests.now)) }
 {
     for (place, row) in rows.iter().enumerate() {
         let guest = &guests[place];

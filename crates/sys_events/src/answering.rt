@@ -1,4 +1,4 @@
-ghost use Rattle.std.specs.Prelude.{◌≡◌, ◌<◌, ◌≤◌, ◌∷◌, [], All, IfSome, length, map, slice_get, vec_len};
+ghost use Rattle.std.specs.Prelude.{◌≡◌, ◌<◌, ◌≤◌, ◌∷◌, [], All, IfSome, length, slice_get};
 ghost use Rattle.sys_events.specs.Saying.{answers, audits};
 ghost use Rattle.sys_lines.specs.Shows.{Shows};
 ghost use Rattle.sys_objects.specs.Condition.{IsAudit, IsTerminal};
@@ -11,26 +11,22 @@ use sys_audit::audit_text;
 use sys_lines::{Marks, show_whole};
 use sys_objects::{Config, Terminal};
 use sys_server::{Verdict, reply};
-use vv_io::Line;
+use vv_io::Lines;
 
 /// Puts a text of the server on a line, with its end.
-pub fn say(marks: &mut Marks, lines: &mut Vec<Box<dyn Line>>, line: u8, text: &[u8])
+pub fn say<L: Lines>(marks: &mut Marks, lines: &mut L, line: u8, text: &[u8])
     requires short { length text.now ≤ 100 }
     requires there { line < 32 }
-    requires lines { vec_len lines.old ≡ 32 }
-    ensures shows { Shows marks.old marks.new (map (λ b. seen b) lines.old.items) (map (λ b. seen b) lines.new.items) (λ k. bytes_on k (said_on line text.now ∷ [])) }
-    ensures len { vec_len lines.new ≡ vec_len lines.old }
+    ensures { Shows marks.old marks.new (L.lines lines.old) (L.lines lines.new) (λ k. bytes_on k (said_on line text.now ∷ [])) }
 {
     let text = with_line_end(text);
     show_whole(marks, lines, line, text.bytes());
 }
 
 /// Tells a terminal whose console was taken, if one was.
-fn tell_taken(marks: &mut Marks, lines: &mut Vec<Box<dyn Line>>, config: &Config, taken: Option<u8>)
-    requires terminals { All IsTerminal config.now.terminals }
-    requires lines { vec_len lines.old ≡ 32 }
-    ensures shows { Shows marks.old marks.new (map (λ b. seen b) lines.old.items) (map (λ b. seen b) lines.new.items) (λ k. bytes_on k (taken_puts config.now taken)) }
-    ensures len { vec_len lines.new ≡ vec_len lines.old }
+fn tell_taken<L: Lines>(marks: &mut Marks, lines: &mut L, config: &Config, taken: Option<u8>)
+    requires { All IsTerminal config.now.terminals }
+    ensures { Shows marks.old marks.new (L.lines lines.old) (L.lines lines.new) (λ k. bytes_on k (taken_puts config.now taken)) }
 {
     if let Some(terminal) = taken {
         let terminals = config.terminals.as_slice();
@@ -42,9 +38,9 @@ fn tell_taken(marks: &mut Marks, lines: &mut Vec<Box<dyn Line>>, config: &Config
 }
 
 /// Puts the reply to a command at the terminal of a place, and tells the other terminal whose console was taken.
-pub fn answer(
+pub fn answer<L: Lines>(
     marks: &mut Marks,
-    lines: &mut Vec<Box<dyn Line>>,
+    lines: &mut L,
     config: &Config,
     terminal: u8,
     verdict: &Verdict,
@@ -52,9 +48,7 @@ pub fn answer(
 )
     requires there { terminal < length config.now.terminals }
     requires terminals { All IsTerminal config.now.terminals }
-    requires lines { vec_len lines.old ≡ 32 }
-    ensures shows { Shows marks.old marks.new (map (λ b. seen b) lines.old.items) (map (λ b. seen b) lines.new.items) (λ k. bytes_on k (answers config.now (slice_get config.now.terminals terminal) verdict.now taken)) }
-    ensures len { vec_len lines.new ≡ vec_len lines.old }
+    ensures { Shows marks.old marks.new (L.lines lines.old) (L.lines lines.new) (λ k. bytes_on k (answers config.now (slice_get config.now.terminals terminal) verdict.now taken)) }
 {
     let row = terminal_at(config.terminals.as_slice(), terminal);
     say(marks, lines, row.line, reply(verdict).as_bytes());
@@ -62,9 +56,9 @@ pub fn answer(
 }
 
 /// Puts the audit of a command at the terminal of a place, if commands are audited.
-pub fn put_audit(
+pub fn put_audit<L: Lines>(
     marks: &mut Marks,
-    lines: &mut Vec<Box<dyn Line>>,
+    lines: &mut L,
     config: &Config,
     round: u32,
     terminal: u8,
@@ -74,9 +68,7 @@ pub fn put_audit(
     requires there { terminal < length config.now.terminals }
     requires short { length text.now ≤ 1000 }
     requires audit { IfSome config.now.audit IsAudit }
-    requires lines { vec_len lines.old ≡ 32 }
-    ensures shows { Shows marks.old marks.new (map (λ b. seen b) lines.old.items) (map (λ b. seen b) lines.new.items) (λ k. bytes_on k (audits config.now round (slice_get config.now.terminals terminal) text.now verdict.now)) }
-    ensures len { vec_len lines.new ≡ vec_len lines.old }
+    ensures { Shows marks.old marks.new (L.lines lines.old) (L.lines lines.new) (λ k. bytes_on k (audits config.now round (slice_get config.now.terminals terminal) text.now verdict.now)) }
 {
     let row = terminal_at(config.terminals.as_slice(), terminal);
     if let Some(audit) = config.audit {

@@ -1,4 +1,4 @@
-ghost use Rattle.std.specs.Prelude.{◌≡◌, ◌<◌, ◌≤◌, ℕ, List, length, map, vec_len};
+ghost use Rattle.std.specs.Prelude.{◌≡◌, ◌<◌, ◌≤◌, ℕ, List, length};
 ghost use Rattle.sys_events.specs.Happens.{Does, asked_at, verdict_carried_out};
 ghost use Rattle.sys_events.specs.Seats.{Names, VerdictNames, took};
 ghost use Rattle.sys_guests.specs.Kernel.{IsKernel, kernel_state};
@@ -15,13 +15,13 @@ use crate::guests::act;
 use sys_guests::Kernel;
 use sys_server::{Command, Verdict, apply, verdict};
 use vax_hw::Hardware;
-use vv_io::Line;
+use vv_io::Lines;
 
 /// A granted command at the terminal of a place is carried out, up to its reply. Answers the other terminal whose
 /// console was taken, if one was.
-fn obey<H: Hardware>(
+fn obey<H: Hardware, L: Lines>(
     machine: &mut H,
-    lines: &mut Vec<Box<dyn Line>>,
+    lines: &mut L,
     kernel: &mut Kernel,
     terminal: u8,
     command: &Command,
@@ -30,11 +30,9 @@ fn obey<H: Hardware>(
     requires there { terminal < length kernel.old.config.terminals }
     requires places { HasPlaces command.now }
     requires names { Names kernel.old.config command.now }
-    requires lines { vec_len lines.old ≡ 32 }
-    ensures does { Does (verdict_carried_out kernel.old.config terminal (Granted command.now)) (H.machine machine.old) kernel.old (map (λ b. seen b) lines.old.items) (H.machine machine.new) kernel.new (map (λ b. seen b) lines.new.items) }
+    ensures does { Does (verdict_carried_out kernel.old.config terminal (Granted command.now)) (H.machine machine.old) kernel.old (L.lines lines.old) (H.machine machine.new) kernel.new (L.lines lines.new) }
     ensures taken { result ≡ taken kernel.old.server terminal command.now }
     ensures present { KeepsAll (with_reset (started_by (Granted command.now)) (guests_in (H.machine machine.new).memory kernel.new.guests.items)) kernel.old.guests.items kernel.new.guests.items }
-    ensures len { vec_len lines.new ≡ vec_len lines.old }
 {
     let taken = apply(&mut kernel.server, terminal, command);
     act(machine, lines, kernel, terminal, command);
@@ -43,9 +41,9 @@ fn obey<H: Hardware>(
 
 /// A verdict at the terminal of a place is carried out, up to its reply. Answers the other terminal whose console was
 /// taken, if one was.
-fn carry_out<H: Hardware>(
+fn carry_out<H: Hardware, L: Lines>(
     machine: &mut H,
-    lines: &mut Vec<Box<dyn Line>>,
+    lines: &mut L,
     kernel: &mut Kernel,
     terminal: u8,
     verdict: &Verdict,
@@ -54,11 +52,9 @@ fn carry_out<H: Hardware>(
     requires there { terminal < length kernel.old.config.terminals }
     requires places { MayApply verdict.now }
     requires names { VerdictNames kernel.old.config verdict.now }
-    requires lines { vec_len lines.old ≡ 32 }
-    ensures does { Does (verdict_carried_out kernel.old.config terminal verdict.now) (H.machine machine.old) kernel.old (map (λ b. seen b) lines.old.items) (H.machine machine.new) kernel.new (map (λ b. seen b) lines.new.items) }
+    ensures does { Does (verdict_carried_out kernel.old.config terminal verdict.now) (H.machine machine.old) kernel.old (L.lines lines.old) (H.machine machine.new) kernel.new (L.lines lines.new) }
     ensures took { result ≡ took kernel.old.server terminal verdict.now }
     ensures present { KeepsAll (with_reset (started_by verdict.now) (guests_in (H.machine machine.new).memory kernel.new.guests.items)) kernel.old.guests.items kernel.new.guests.items }
-    ensures len { vec_len lines.new ≡ vec_len lines.old }
 {
     match verdict {
         Verdict::Granted(command) => obey(machine, lines, kernel, terminal, command),
@@ -69,9 +65,9 @@ fn carry_out<H: Hardware>(
 }
 
 /// A command at the terminal of a place: it is carried out, replied to, and audited.
-pub fn command<H: Hardware>(
+pub fn command<H: Hardware, L: Lines>(
     machine: &mut H,
-    lines: &mut Vec<Box<dyn Line>>,
+    lines: &mut L,
     kernel: &mut Kernel,
     round: u32,
     terminal: u8,
@@ -80,10 +76,8 @@ pub fn command<H: Hardware>(
     requires holds { IsKernel (H.machine machine.old).memory kernel.old }
     requires there { terminal < length kernel.old.config.terminals }
     requires short { length text.now ≤ 1000 }
-    requires lines { vec_len lines.old ≡ 32 }
-    ensures does { Does (asked_at kernel.old.config round terminal text.now) (H.machine machine.old) kernel.old (map (λ b. seen b) lines.old.items) (H.machine machine.new) kernel.new (map (λ b. seen b) lines.new.items) }
+    ensures does { Does (asked_at kernel.old.config round terminal text.now) (H.machine machine.old) kernel.old (L.lines lines.old) (H.machine machine.new) kernel.new (L.lines lines.new) }
     ensures present { (volumes : List (List (List ℕ))) → KeepsAll (with_reset (started_by (verdict_of kernel.old.config (server_of (kernel_state (H.machine machine.old).memory kernel.old volumes)) terminal text.now)) (guests_in (H.machine machine.new).memory kernel.new.guests.items)) kernel.old.guests.items kernel.new.guests.items }
-    ensures len { vec_len lines.new ≡ vec_len lines.old }
 {
     let verdict = verdict(&kernel.config, &kernel.server, terminal, text);
     let taken = carry_out(machine, lines, kernel, terminal, &verdict);

@@ -1,4 +1,4 @@
-ghost use Rattle.std.specs.Prelude.{◌≡◌, ◌<◌, ◌≤◌, ℕ, List, length, map, vec_len};
+ghost use Rattle.std.specs.Prelude.{◌≡◌, ◌<◌, ◌≤◌, ℕ, List, length};
 ghost use Rattle.sys_events.specs.Happens.{Does, DoesAnywhere, Happen, Happens, break_at, line_starts_at, typed_line_at};
 ghost use Rattle.sys_guests.specs.Kernel.{IsKernel, kernel_state};
 ghost use Rattle.sys_guests.specs.Layout.{guests_in};
@@ -13,16 +13,14 @@ use crate::guests::type_to;
 use sys_guests::Kernel;
 use sys_script::{Event, Typed};
 use vax_hw::Hardware;
-use vv_io::Line;
+use vv_io::Lines;
 
 /// A break at the terminal of a place: its console goes back to the server, which says so.
-fn disconnect(kernel: &mut Kernel, lines: &mut Vec<Box<dyn Line>>, terminal: u8)
+fn disconnect<L: Lines>(kernel: &mut Kernel, lines: &mut L, terminal: u8)
     requires there { terminal < length kernel.old.config.terminals }
     requires accepted { IsConfig kernel.old.config }
-    requires lines { vec_len lines.old ≡ 32 }
-    ensures does { (round : ℕ) → DoesAnywhere (break_at kernel.old.config round terminal) kernel.old (map (λ b. seen b) lines.old.items) kernel.new (map (λ b. seen b) lines.new.items) }
+    ensures does { (round : ℕ) → DoesAnywhere (break_at kernel.old.config round terminal) kernel.old (L.lines lines.old) kernel.new (L.lines lines.new) }
     ensures present { KeepsAll (λ ts. ts) kernel.old.guests.items kernel.new.guests.items }
-    ensures len { vec_len lines.new ≡ vec_len lines.old }
 {
     kernel.server.at[terminal as usize] = None;
     let row = terminal_at(kernel.config.terminals.as_slice(), terminal);
@@ -30,9 +28,9 @@ fn disconnect(kernel: &mut Kernel, lines: &mut Vec<Box<dyn Line>>, terminal: u8)
 }
 
 /// A line at the terminal of a place: it is typed to the terminal's guest, and without one it is a command.
-fn take_line<H: Hardware>(
+fn take_line<H: Hardware, L: Lines>(
     machine: &mut H,
-    lines: &mut Vec<Box<dyn Line>>,
+    lines: &mut L,
     kernel: &mut Kernel,
     round: u32,
     terminal: u8,
@@ -41,10 +39,8 @@ fn take_line<H: Hardware>(
     requires holds { IsKernel (H.machine machine.old).memory kernel.old }
     requires there { terminal < length kernel.old.config.terminals }
     requires short { length text.now ≤ 1000 }
-    requires lines { vec_len lines.old ≡ 32 }
-    ensures does { Does (typed_line_at kernel.old.config round terminal text.now) (H.machine machine.old) kernel.old (map (λ b. seen b) lines.old.items) (H.machine machine.new) kernel.new (map (λ b. seen b) lines.new.items) }
+    ensures does { Does (typed_line_at kernel.old.config round terminal text.now) (H.machine machine.old) kernel.old (L.lines lines.old) (H.machine machine.new) kernel.new (L.lines lines.new) }
     ensures present { (volumes : List (List (List ℕ))) → KeepsAll (with_reset (line_starts_at kernel.old.config (kernel_state (H.machine machine.old).memory kernel.old volumes) terminal text.now) (guests_in (H.machine machine.new).memory kernel.new.guests.items)) kernel.old.guests.items kernel.new.guests.items }
-    ensures len { vec_len lines.new ≡ vec_len lines.old }
 {
     match kernel.server.at[terminal as usize] {
         Some(guest) => type_to(kernel, guest, text),
@@ -53,18 +49,16 @@ fn take_line<H: Hardware>(
 }
 
 /// An event of a round happens.
-fn happen_one<H: Hardware>(
+fn happen_one<H: Hardware, L: Lines>(
     machine: &mut H,
-    lines: &mut Vec<Box<dyn Line>>,
+    lines: &mut L,
     kernel: &mut Kernel,
     round: u32,
     event: &Event,
 )
-    requires holds { IsKernel (H.machine machine.old).memory kernel.old }
-    requires lines { vec_len lines.old ≡ 32 }
-    ensures happens { Happens round event.now (H.machine machine.old) kernel.old (map (λ b. seen b) lines.old.items) (H.machine machine.new) kernel.new (map (λ b. seen b) lines.new.items) }
+    requires { IsKernel (H.machine machine.old).memory kernel.old }
+    ensures happens { Happens round event.now (H.machine machine.old) kernel.old (L.lines lines.old) (H.machine machine.new) kernel.new (L.lines lines.new) }
     ensures present { (volumes : List (List (List ℕ))) → KeepsAll (with_reset (event_starts kernel.old.config (kernel_state (H.machine machine.old).memory kernel.old volumes) event.now) (guests_in (H.machine machine.new).memory kernel.new.guests.items)) kernel.old.guests.items kernel.new.guests.items }
-    ensures len { vec_len lines.new ≡ vec_len lines.old }
 {
     let place = terminal_named(kernel.config.terminals.as_slice(), &event.terminal);
     if let Some(terminal) = place {
@@ -78,18 +72,16 @@ fn happen_one<H: Hardware>(
 }
 
 /// The events of a round happen, one after another.
-pub fn happen<H: Hardware>(
+pub fn happen<H: Hardware, L: Lines>(
     machine: &mut H,
-    lines: &mut Vec<Box<dyn Line>>,
+    lines: &mut L,
     kernel: &mut Kernel,
     round: u32,
     events: &[Event],
 )
-    requires holds { IsKernel (H.machine machine.old).memory kernel.old }
-    requires lines { vec_len lines.old ≡ 32 }
-    ensures happen { Happen round events.now (H.machine machine.old) kernel.old (map (λ b. seen b) lines.old.items) (H.machine machine.new) kernel.new (map (λ b. seen b) lines.new.items) }
+    requires { IsKernel (H.machine machine.old).memory kernel.old }
+    ensures happen { Happen round events.now (H.machine machine.old) kernel.old (L.lines lines.old) (H.machine machine.new) kernel.new (L.lines lines.new) }
     ensures present { (volumes : List (List (List ℕ))) → KeepsAll (touches_of_events kernel.old.config round (kernel_state (H.machine machine.old).memory kernel.old volumes) events.now) kernel.old.guests.items kernel.new.guests.items }
-    ensures len { vec_len lines.new ≡ vec_len lines.old }
 {
     for event in events {
         happen_one(machine, lines, kernel, round, event);

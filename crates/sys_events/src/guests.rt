@@ -1,4 +1,4 @@
-ghost use Rattle.std.specs.Prelude.{◌≡◌, ◌<◌, map, vec_len, length};
+ghost use Rattle.std.specs.Prelude.{◌≡◌, ◌<◌, vec_len, length};
 ghost use Rattle.sys_events.specs.Happens.{Does, DoesAnywhere, DoesUnseen, guest_halted, guest_typed, guests_obeyed};
 ghost use Rattle.sys_events.specs.Seats.{Names};
 ghost use Rattle.sys_guests.specs.Kernel.{IsKernel};
@@ -14,7 +14,7 @@ use sys_guests::{Kernel, start_at, stop_at, type_at};
 use sys_lines::show_each;
 use sys_server::Command;
 use vax_hw::Hardware;
-use vv_io::Line;
+use vv_io::Lines;
 
 /// A line is typed to a guest.
 pub fn type_to(kernel: &mut Kernel, guest: u8, text: &[u8])
@@ -26,13 +26,11 @@ pub fn type_to(kernel: &mut Kernel, guest: u8, text: &[u8])
 }
 
 /// A guest is stopped, and its console is shown that, byte by byte.
-fn halt(kernel: &mut Kernel, lines: &mut Vec<Box<dyn Line>>, guest: u8)
+fn halt<L: Lines>(kernel: &mut Kernel, lines: &mut L, guest: u8)
     requires there { guest < vec_len kernel.old.guests }
     requires accepted { IsConfig kernel.old.config }
-    requires lines { vec_len lines.old ≡ 32 }
-    ensures does { DoesAnywhere (guest_halted kernel.old.config guest) kernel.old (map (λ b. seen b) lines.old.items) kernel.new (map (λ b. seen b) lines.new.items) }
+    ensures does { DoesAnywhere (guest_halted kernel.old.config guest) kernel.old (L.lines lines.old) kernel.new (L.lines lines.new) }
     ensures present { KeepsAll (λ ts. ts) kernel.old.guests.items kernel.new.guests.items }
-    ensures len { vec_len lines.new ≡ vec_len lines.old }
 {
     stop_at(&mut kernel.port, &mut kernel.guests, guest);
     let terminals = kernel.config.terminals.as_slice();
@@ -41,9 +39,9 @@ fn halt(kernel: &mut Kernel, lines: &mut Vec<Box<dyn Line>>, guest: u8)
 }
 
 /// What a granted command at the terminal of a place does to guests, and what is shown before its reply.
-pub fn act<H: Hardware>(
+pub fn act<H: Hardware, L: Lines>(
     machine: &mut H,
-    lines: &mut Vec<Box<dyn Line>>,
+    lines: &mut L,
     kernel: &mut Kernel,
     terminal: u8,
     command: &Command,
@@ -51,10 +49,8 @@ pub fn act<H: Hardware>(
     requires holds { IsKernel (H.machine machine.old).memory kernel.old }
     requires there { terminal < length kernel.old.config.terminals }
     requires names { Names kernel.old.config command.now }
-    requires lines { vec_len lines.old ≡ 32 }
-    ensures does { Does (guests_obeyed kernel.old.config terminal command.now) (H.machine machine.old) kernel.old (map (λ b. seen b) lines.old.items) (H.machine machine.new) kernel.new (map (λ b. seen b) lines.new.items) }
+    ensures does { Does (guests_obeyed kernel.old.config terminal command.now) (H.machine machine.old) kernel.old (L.lines lines.old) (H.machine machine.new) kernel.new (L.lines lines.new) }
     ensures present { KeepsAll (with_reset (started_by (Granted command.now)) (guests_in (H.machine machine.new).memory kernel.new.guests.items)) kernel.old.guests.items kernel.new.guests.items }
-    ensures len { vec_len lines.new ≡ vec_len lines.old }
 {
     match *command {
         Command::Start(guest) => start_at(machine, &mut kernel.guests, guest),

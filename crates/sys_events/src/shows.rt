@@ -1,4 +1,4 @@
-ghost use Rattle.std.specs.Prelude.{◌≡◌, ◌<◌, [], ◌∷◌, All, filter, if◌then◌else◌, length, map, slice_get, vec_len};
+ghost use Rattle.std.specs.Prelude.{◌≡◌, ◌<◌, [], ◌∷◌, All, filter, if◌then◌else◌, length, map, slice_get};
 ghost use Rattle.vv_class.specs.Class.{does_flow};
 ghost use Rattle.sys_events.specs.Saying.{guest_line, one_put, puts_on, runs, show_lines};
 ghost use Rattle.sys_lines.specs.Shows.{Shows};
@@ -13,14 +13,12 @@ use sys_objects::{Config, GuestRow, PrinterRow, Terminal, VolumeRow};
 use vm_guest::Guest;
 use vv_base::Text;
 use vv_class::flows;
-use vv_io::Line;
+use vv_io::Lines;
 
 /// Puts a text on a line.
-fn put_text(marks: &mut Marks, lines: &mut Vec<Box<dyn Line>>, line: u8, text: &Text<512>)
-    requires there { line < 32 }
-    requires lines { vec_len lines.old ≡ 32 }
-    ensures shows { Shows marks.old marks.new (map (λ b. seen b) lines.old.items) (map (λ b. seen b) lines.new.items) (λ k. bytes_on k (one_put line text.now)) }
-    ensures len { vec_len lines.new ≡ vec_len lines.old }
+fn put_text<L: Lines>(marks: &mut Marks, lines: &mut L, line: u8, text: &Text<512>)
+    requires { line < 32 }
+    ensures { Shows marks.old marks.new (L.lines lines.old) (L.lines lines.new) (λ k. bytes_on k (one_put line text.now)) }
 {
     show_whole(marks, lines, line, text.bytes());
 }
@@ -32,17 +30,15 @@ fn is_running(guest: &Guest) -> bool
 }
 
 /// Puts SHOW's line of a guest, if the class sees it.
-fn show_guest(
+fn show_guest<L: Lines>(
     marks: &mut Marks,
-    lines: &mut Vec<Box<dyn Line>>,
+    lines: &mut L,
     terminal: &Terminal,
     row: &GuestRow,
     guest: &Guest,
 )
-    requires there { terminal.now.line < 32 }
-    requires lines { vec_len lines.old ≡ 32 }
-    ensures shows { Shows marks.old marks.new (map (λ b. seen b) lines.old.items) (map (λ b. seen b) lines.new.items) (λ k. bytes_on k (puts_on terminal.now.line (guest_line terminal.now.class row.now (runs guest.now)))) }
-    ensures len { vec_len lines.new ≡ vec_len lines.old }
+    requires { terminal.now.line < 32 }
+    ensures { Shows marks.old marks.new (L.lines lines.old) (L.lines lines.new) (λ k. bytes_on k (puts_on terminal.now.line (guest_line terminal.now.class row.now (runs guest.now)))) }
 {
     if flows(&row.class, &terminal.class) {
         put_text(
@@ -55,18 +51,16 @@ fn show_guest(
 }
 
 /// Puts SHOW's lines of the guests that the terminal sees.
-fn show_guests(
+fn show_guests<L: Lines>(
     marks: &mut Marks,
-    lines: &mut Vec<Box<dyn Line>>,
+    lines: &mut L,
     terminal: &Terminal,
     rows: &[GuestRow],
     guests: &[Guest],
 )
     requires there { terminal.now.line < 32 }
-    requires lines { vec_len lines.old ≡ 32 }
     requires beside { length guests.now ≡ length rows.now }
-    ensures shows { Shows marks.old marks.new (map (λ b. seen b) lines.old.items) (map (λ b. seen b) lines.new.items) (λ k. bytes_on k (puts_on terminal.now.line (guest_lines terminal.now.class rows.now (map runs guests.now)))) }
-    ensures len { vec_len lines.new ≡ vec_len lines.old }
+    ensures { Shows marks.old marks.new (L.lines lines.old) (L.lines lines.new) (λ k. bytes_on k (puts_on terminal.now.line (guest_lines terminal.now.class rows.now (map runs guests.now)))) }
 {
     for (place, row) in rows.iter().enumerate() {
         show_guest(marks, lines, terminal, row, &guests[place]);
@@ -74,16 +68,9 @@ fn show_guests(
 }
 
 /// Puts SHOW's line of a volume, if the terminal sees it.
-fn show_volume(
-    marks: &mut Marks,
-    lines: &mut Vec<Box<dyn Line>>,
-    terminal: &Terminal,
-    row: &VolumeRow,
-)
-    requires there { terminal.now.line < 32 }
-    requires lines { vec_len lines.old ≡ 32 }
-    ensures shows { Shows marks.old marks.new (map (λ b. seen b) lines.old.items) (map (λ b. seen b) lines.new.items) (λ k. bytes_on k (puts_on terminal.now.line (if does_flow row.now.class terminal.now.class then volume_line row.now ∷ [] else []))) }
-    ensures len { vec_len lines.new ≡ vec_len lines.old }
+fn show_volume<L: Lines>(marks: &mut Marks, lines: &mut L, terminal: &Terminal, row: &VolumeRow)
+    requires { terminal.now.line < 32 }
+    ensures { Shows marks.old marks.new (L.lines lines.old) (L.lines lines.new) (λ k. bytes_on k (puts_on terminal.now.line (if does_flow row.now.class terminal.now.class then volume_line row.now ∷ [] else []))) }
 {
     if flows(&row.class, &terminal.class) {
         put_text(marks, lines, terminal.line, &volume_text(row));
@@ -91,16 +78,9 @@ fn show_volume(
 }
 
 /// Puts SHOW's lines of the volumes that the terminal sees.
-fn show_volumes(
-    marks: &mut Marks,
-    lines: &mut Vec<Box<dyn Line>>,
-    terminal: &Terminal,
-    rows: &[VolumeRow],
-)
-    requires there { terminal.now.line < 32 }
-    requires lines { vec_len lines.old ≡ 32 }
-    ensures shows { Shows marks.old marks.new (map (λ b. seen b) lines.old.items) (map (λ b. seen b) lines.new.items) (λ k. bytes_on k (puts_on terminal.now.line (map volume_line (filter (λ v. does_flow v.class terminal.now.class) rows.now)))) }
-    ensures len { vec_len lines.new ≡ vec_len lines.old }
+fn show_volumes<L: Lines>(marks: &mut Marks, lines: &mut L, terminal: &Terminal, rows: &[VolumeRow])
+    requires { terminal.now.line < 32 }
+    ensures { Shows marks.old marks.new (L.lines lines.old) (L.lines lines.new) (λ k. bytes_on k (puts_on terminal.now.line (map volume_line (filter (λ v. does_flow v.class terminal.now.class) rows.now)))) }
 {
     for row in rows {
         show_volume(marks, lines, terminal, row);
@@ -108,16 +88,9 @@ fn show_volumes(
 }
 
 /// Puts SHOW's line of a printer, if the terminal sees it.
-fn show_printer(
-    marks: &mut Marks,
-    lines: &mut Vec<Box<dyn Line>>,
-    terminal: &Terminal,
-    row: &PrinterRow,
-)
-    requires there { terminal.now.line < 32 }
-    requires lines { vec_len lines.old ≡ 32 }
-    ensures shows { Shows marks.old marks.new (map (λ b. seen b) lines.old.items) (map (λ b. seen b) lines.new.items) (λ k. bytes_on k (puts_on terminal.now.line (if does_flow row.now.class terminal.now.class then printer_line row.now ∷ [] else []))) }
-    ensures len { vec_len lines.new ≡ vec_len lines.old }
+fn show_printer<L: Lines>(marks: &mut Marks, lines: &mut L, terminal: &Terminal, row: &PrinterRow)
+    requires { terminal.now.line < 32 }
+    ensures { Shows marks.old marks.new (L.lines lines.old) (L.lines lines.new) (λ k. bytes_on k (puts_on terminal.now.line (if does_flow row.now.class terminal.now.class then printer_line row.now ∷ [] else []))) }
 {
     if flows(&row.class, &terminal.class) {
         put_text(marks, lines, terminal.line, &printer_text(row));
@@ -125,16 +98,14 @@ fn show_printer(
 }
 
 /// Puts SHOW's lines of the printers that the terminal sees.
-fn show_printers(
+fn show_printers<L: Lines>(
     marks: &mut Marks,
-    lines: &mut Vec<Box<dyn Line>>,
+    lines: &mut L,
     terminal: &Terminal,
     rows: &[PrinterRow],
 )
-    requires there { terminal.now.line < 32 }
-    requires lines { vec_len lines.old ≡ 32 }
-    ensures shows { Shows marks.old marks.new (map (λ b. seen b) lines.old.items) (map (λ b. seen b) lines.new.items) (λ k. bytes_on k (puts_on terminal.now.line (map printer_line (filter (λ p. does_flow p.class terminal.now.class) rows.now)))) }
-    ensures len { vec_len lines.new ≡ vec_len lines.old }
+    requires { terminal.now.line < 32 }
+    ensures { Shows marks.old marks.new (L.lines lines.old) (L.lines lines.new) (λ k. bytes_on k (puts_on terminal.now.line (map printer_line (filter (λ p. does_flow p.class terminal.now.class) rows.now)))) }
 {
     for row in rows {
         show_printer(marks, lines, terminal, row);
@@ -142,19 +113,17 @@ fn show_printers(
 }
 
 /// Puts SHOW's lines: the objects that the terminal of a place sees, one put each.
-pub fn show_objects(
+pub fn show_objects<L: Lines>(
     marks: &mut Marks,
-    lines: &mut Vec<Box<dyn Line>>,
+    lines: &mut L,
     config: &Config,
     guests: &[Guest],
     terminal: u8,
 )
     requires there { terminal < length config.now.terminals }
     requires terminals { All IsTerminal config.now.terminals }
-    requires lines { vec_len lines.old ≡ 32 }
     requires beside { length guests.now ≡ length config.now.guests }
-    ensures shows { Shows marks.old marks.new (map (λ b. seen b) lines.old.items) (map (λ b. seen b) lines.new.items) (λ k. bytes_on k (show_lines config.now guests.now (slice_get config.now.terminals terminal))) }
-    ensures len { vec_len lines.new ≡ vec_len lines.old }
+    ensures { Shows marks.old marks.new (L.lines lines.old) (L.lines lines.new) (λ k. bytes_on k (show_lines config.now guests.now (slice_get config.now.terminals terminal))) }
 {
     let terminal = terminal_at(config.terminals.as_slice(), terminal);
     show_guests(marks, lines, terminal, config.guests.as_slice(), guests);

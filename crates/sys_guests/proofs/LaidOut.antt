@@ -5,7 +5,7 @@ use Rattle.std.proofs.lemmas.List.Sums.{sum_by-cons}
 use Rattle.std.specs.List.{sum_by}
 use Rattle.sys_guests.specs.Layout.{ArePlaced, IsPlaced}
 use Rattle.sys_objects.specs.declared.records.GuestRow.{GuestRow}
-use Rattle.vm_bursts.specs.Guarded.{OnlyBoth}
+use Rattle.vm_stepping.specs.Guarded.{OnlyBoth}
 use Rattle.vm_guest.specs.Kept.{Kept}
 use Rattle.vm_guest.specs.Laws.{SharesPart}
 use Rattle.vm_shadow.specs.StandsFor.{Serves}

@@ -7,7 +7,7 @@ use Rattle.sys_guests.specs.Changes.{ChangesOne, StartsOne, TakesStateAt}
 use Rattle.sys_guests.specs.Layout.{AreInMachine, OnlyGuests}
 use Rattle.sys_objects.specs.declared.records.GuestRow.{GuestRow}
 use Rattle.sys_state.specs.Guests.{reset}
-use Rattle.vm_bursts.specs.Guarded.{OnlyBoth}
+use Rattle.vm_stepping.specs.Guarded.{OnlyBoth}
 use Rattle.vm_guest.proofs.Sharing.{stands_elsewhere}
 use Rattle.vm_guest.specs.Kept.{Becomes, IsShadowedIn, Kept, TakesState, guest_in}
 use Rattle.vm_shadow.specs.Shadowed.{Shadowed}

@@ -1,5 +1,5 @@
 -- What lines are shown, one showing after another.
-use Rattle.std.proofs.Common.{ℕ, ◌≡◌, ◌<◌, ◌+◌, List, [], ◌∷◌, ◌++◌, length, slice_index_or, slice_set, take, refl, sym, ◌∙◌, ap, subst, arith, Bool, true, false, true≢false, if◌then◌else◌, ◌==◌, Some, map, Result, is_err}
+use Rattle.std.proofs.Common.{ℕ, ◌≡◌, ◌<◌, ◌+◌, List, [], ◌∷◌, ◌++◌, length, slice_index_or, slice_set, take, refl, sym, ◌∙◌, ap, subst, arith, Bool, true, false, true≢false, if◌then◌else◌, ◌==◌, Some, Result, is_err}
 use Rattle.sys_lines.specs.ShownSince.{ShownSinceOn}
 use Rattle.sys_state.proofs.Places.{both}
 use Rattle.std.proofs.lemmas.Bool.{eq-eqb, eqb-true}
@@ -102,6 +102,6 @@ next_shown k i all a b c l m n h first second =
     shows_same a c l n _ _ (λ j. both_on k j (take i all) bytes ∙ ap (λ (xs : List ℕ). only_on (Some k) xs j) (next_taken all i h)) (shows_then first second)
 
 -- bytes that are put at once on a line that isn't marked
-pub whole_shown : {D U E : Type 0} (f : D → Seen) (items : List D) (marks : List Bool) (k : ℕ) (after : List Seen) (bytes : List ℕ) (r : Result U E) (failed : Bool) → k < length marks → k < length items → slice_index_or marks k false ≡ false → (bytes ≡ [] → ⊥) → failed ≡ is_err r → PutsOn k (map f items) after bytes r → Shows marks (slice_set marks k failed) (map f items) after (only_on (Some k) bytes)
-whole_shown f items marks k after bytes r failed there inside unmarked some is put =
-    shows_on marks (map f items) after k failed bytes there unmarked some (subst (λ b. ShownSinceOn k b (map f items) after bytes) (sym is) (put_once f items k after bytes r inside put))
+pub whole_shown : {U E : Type 0} (marks : List Bool) (lines : List Seen) (k : ℕ) (after : List Seen) (bytes : List ℕ) (r : Result U E) (failed : Bool) → k < length marks → k < length lines → slice_index_or marks k false ≡ false → (bytes ≡ [] → ⊥) → failed ≡ is_err r → PutsOn k lines after bytes r → Shows marks (slice_set marks k failed) lines after (only_on (Some k) bytes)
+whole_shown marks lines k after bytes r failed there inside unmarked some is put =
+    shows_on marks lines after k failed bytes there unmarked some (subst (λ b. ShownSinceOn k b lines after bytes) (sym is) (put_once lines k after bytes r inside put))

@@ -16,7 +16,7 @@ use sys_runs::{NoProgress, Ran, make_rounds};
 use sys_script::{Event, typed_law};
 use sys_system::{PowerFault, System};
 use vax_hw::Hardware;
-use vv_io::{Drive, Keyboard, Line, Sink};
+use vv_io::{Drive, Keyboard, Lines, Sink};
 
 /// What is left of a run that was typed: what is left of any run, its rounds, whether what was to be shown of them is cut, and
 /// whether the typing broke off.
@@ -37,11 +37,11 @@ pub struct Went {
 
 /// Makes the next round with its events, and shows what terminals were shown in it where nothing was cut before; whether something
 /// is cut then.
-fn make_next<H: Hardware, O: Sink>(
+fn make_next<H: Hardware, O: Sink, L: Lines>(
     system: &mut System,
     screens: &mut Vec<Screen>,
     machine: &mut H,
-    lines: &mut Vec<Box<dyn Line>>,
+    lines: &mut L,
     events: &[Event],
     is_cut: bool,
     out: &mut O,
@@ -51,11 +51,9 @@ fn make_next<H: Hardware, O: Sink>(
     requires ordered { AreEvents events.now }
     requires holds { IsSystem system.old }
     requires stands { IsInMachine (H.machine machine.old).memory system.old }
-    requires lines { vec_len lines.old ≡ 32 }
     requires there { All (λ screen. screen.line < 32) screens.old.items }
-    ensures makes { MakesRounds 1 events.now (H.machine machine.old) system.old (map (λ b. seen b) lines.old.items) (H.machine machine.new) system.new (map (λ b. seen b) lines.new.items) }
-    ensures goes_on { GoesOnShowing is_cut result (map (λ b. seen b) lines.new.items) screens.old.items screens.new.items (O.printed out.old) (O.printed out.new) }
-    ensures len { vec_len lines.new ≡ vec_len lines.old }
+    ensures makes { MakesRounds 1 events.now (H.machine machine.old) system.old (L.lines lines.old) (H.machine machine.new) system.new (L.lines lines.new) }
+    ensures goes_on { GoesOnShowing is_cut result (L.lines lines.new) screens.old.items screens.new.items (O.printed out.old) (O.printed out.new) }
     ensures holds { IsSystem system.new }
 {
     make_rounds(system, machine, lines, events, 1, &mut NoProgress);
@@ -67,13 +65,13 @@ fn make_next<H: Hardware, O: Sink>(
 
 /// Makes rounds of a system, at most so many: each when its lines have ended, and shows what terminals were shown in it. Where
 /// no more lines come the round that is begun is the last one.
-fn make_typed<H: Hardware, K: Keyboard, E: Sink, O: Sink>(
+fn make_typed<H: Hardware, K: Keyboard, E: Sink, O: Sink, L: Lines>(
     alloc: Global,
     system: &mut System,
     screens: &mut Vec<Screen>,
     most: u32,
     machine: &mut H,
-    lines: &mut Vec<Box<dyn Line>>,
+    lines: &mut L,
     keyboard: &mut K,
     errors: &mut E,
     out: &mut O,
@@ -84,10 +82,8 @@ fn make_typed<H: Hardware, K: Keyboard, E: Sink, O: Sink>(
     requires few { most ≤ 1000000 }
     requires holds { IsSystem system.old }
     requires stands { IsInMachine (H.machine machine.old).memory system.old }
-    requires lines { vec_len lines.old ≡ 32 }
-    requires screens { AreScreens (map (λ b. seen b) lines.old.items) system.old.config.terminals screens.old.items }
-    ensures makes { MakesTyped most result (record { keys = K.keys keyboard.old; keys' = K.keys keyboard.new; errors = E.printed errors.old; errors' = E.printed errors.new }) (O.printed out.old) (O.printed out.new) (H.machine machine.old) system.old (map (λ b. seen b) lines.old.items) (H.machine machine.new) system.new (map (λ b. seen b) lines.new.items) }
-    ensures len { vec_len lines.new ≡ vec_len lines.old }
+    requires screens { AreScreens (L.lines lines.old) system.old.config.terminals screens.old.items }
+    ensures makes { MakesTyped most result (record { keys = K.keys keyboard.old; keys' = K.keys keyboard.new; errors = E.printed errors.old; errors' = E.printed errors.new }) (O.printed out.old) (O.printed out.new) (H.machine machine.old) system.old (L.lines lines.old) (H.machine machine.new) system.new (L.lines lines.new) }
     ensures holds { IsSystem system.new }
 {
     let mut count = Count {
@@ -119,13 +115,13 @@ fn make_typed<H: Hardware, K: Keyboard, E: Sink, O: Sink>(
 /// lines come, the keyboard fails, or memory runs out for a line, the round is the last one in which an event is said, if one is.
 /// Lines that say no event are told on `errors` at once, and change nothing. All memory but that of events is taken before the
 /// first line. After a fault no line got a put, no drive a set, and no key was asked for.
-pub fn live<H: Hardware, K: Keyboard, E: Sink, O: Sink>(
+pub fn live<H: Hardware, K: Keyboard, E: Sink, O: Sink, L: Lines>(
     alloc: Global,
     config: Config,
     images: &[Vec<u8>],
     most: u32,
     machine: &mut H,
-    lines: &mut Vec<Box<dyn Line>>,
+    lines: &mut L,
     drives: &mut Vec<Box<dyn Drive>>,
     keyboard: &mut K,
     errors: &mut E,
@@ -136,11 +132,9 @@ pub fn live<H: Hardware, K: Keyboard, E: Sink, O: Sink>(
     requires some { 1 ≤ most }
     requires few { most ≤ 1000000 }
     requires pages { length (H.machine machine.old).memory ≡ 512 * 32768 }
-    requires lines { vec_len lines.old ≡ 32 }
     requires drives { vec_len drives.old ≡ 16 }
-    ensures lives { LivesRun config (map (λ b. b.items) images.now) most result (record { machine = H.machine machine.old; machine' = H.machine machine.new; lines = map (λ b. seen b) lines.old.items; lines' = map (λ b. seen b) lines.new.items; drives = map (λ d. kept d) drives.old.items; drives' = map (λ d. kept d) drives.new.items }) (record { keys = K.keys keyboard.old; keys' = K.keys keyboard.new; errors = E.printed errors.old; errors' = E.printed errors.new }) (O.printed out.old) (O.printed out.new) }
+    ensures lives { LivesRun config (map (λ b. b.items) images.now) most result (record { machine = H.machine machine.old; machine' = H.machine machine.new; lines = L.lines lines.old; lines' = L.lines lines.new; drives = map (λ d. kept d) drives.old.items; drives' = map (λ d. kept d) drives.new.items }) (record { keys = K.keys keyboard.old; keys' = K.keys keyboard.new; errors = E.printed errors.old; errors' = E.printed errors.new }) (O.printed out.old) (O.printed out.new) }
     ensures few { IfOk result (λ l. steps_in l.ran.counts ≤ 3200000000000) }
-    ensures lines_len { vec_len lines.new ≡ vec_len lines.old }
     ensures drives_len { vec_len drives.new ≡ vec_len drives.old }
 {
     let mut screens = screens_of(alloc, config.terminals.as_slice(), lines)?;

@@ -1,4 +1,4 @@
-ghost use Rattle.std.specs.Prelude.{◌≡◌, ◌≤◌, ◌*◌, List, length, map, vec_len};
+ghost use Rattle.std.specs.Prelude.{◌≡◌, ◌≤◌, ◌*◌, List, length, map};
 ghost use Rattle.sys_objects.specs.Condition.{IsConfig};
 ghost use Rattle.sys_runs.specs.Given.{RunsWith};
 ghost use Rattle.sys_script.specs.Events.{AreEvents};
@@ -12,12 +12,12 @@ use sys_objects::Config;
 use sys_script::Event;
 use sys_system::{PowerFault, System};
 use vax_hw::Hardware;
-use vv_io::Line;
+use vv_io::Lines;
 
 /// Makes a run as `run` does, over given blocks of the volumes, a list for each, in place of those of drives; at its end the
 /// dumps are shown, and no volume is stored. A line that fails is marked and gets no more, and the run goes on. After a
 /// fault, which is never of a drive, no line got a put.
-pub fn run_with<H: Hardware, P: Progress>(
+pub fn run_with<H: Hardware, P: Progress, L: Lines>(
     alloc: Global,
     config: Config,
     images: &[Vec<u8>],
@@ -25,7 +25,7 @@ pub fn run_with<H: Hardware, P: Progress>(
     events: &[Event],
     rounds: u32,
     machine: &mut H,
-    lines: &mut Vec<Box<dyn Line>>,
+    lines: &mut L,
     progress: &mut P,
 ) -> Result<Ran, PowerFault>
     requires accepted { IsConfig config }
@@ -34,9 +34,7 @@ pub fn run_with<H: Hardware, P: Progress>(
     requires ordered { AreEvents events.now }
     requires few { rounds ≤ 1000000 }
     requires pages { length (H.machine machine.old).memory ≡ 512 * 32768 }
-    requires lines { vec_len lines.old ≡ 32 }
-    ensures runs { (drives : List SeenDrive) → RunsWith config (map (λ b. b.items) images.now) (map (λ b. b.items) volumes.now) events.now rounds result (record { machine = H.machine machine.old; machine' = H.machine machine.new; lines = map (λ b. seen b) lines.old.items; lines' = map (λ b. seen b) lines.new.items; drives = drives; drives' = drives }) }
-    ensures len { vec_len lines.new ≡ vec_len lines.old }
+    ensures { (drives : List SeenDrive) → RunsWith config (map (λ b. b.items) images.now) (map (λ b. b.items) volumes.now) events.now rounds result (record { machine = H.machine machine.old; machine' = H.machine machine.new; lines = L.lines lines.old; lines' = L.lines lines.new; drives = drives; drives' = drives }) }
 {
     let mut system = System::power_up_with(alloc, config, images, machine, volumes)?;
     make_rounds(&mut system, machine, lines, events, rounds, progress);

@@ -1,4 +1,4 @@
-ghost use Rattle.std.specs.Prelude.{◌≡◌, ◌≤◌, ◌+◌, drop, false, length, map, nat_le, take_while, vec_len};
+ghost use Rattle.std.specs.Prelude.{◌≡◌, ◌≤◌, ◌+◌, drop, false, length, nat_le, take_while};
 ghost use Rattle.sys_runs.specs.Rounds.{MakesRounds};
 ghost use Rattle.sys_script.specs.Events.{AreEvents};
 ghost use Rattle.sys_system.specs.System.{IsInMachine, IsSystem};
@@ -7,7 +7,7 @@ use crate::progress::Progress;
 use sys_script::Event;
 use sys_system::System;
 use vax_hw::Hardware;
-use vv_io::Line;
+use vv_io::Lines;
 
 /// How many of the first events are of rounds up to this one.
 fn count_up_to(events: &[Event], round: u32) -> usize
@@ -30,10 +30,10 @@ fn later_than(events: &[Event], round: u32) -> &[Event]
 /// Makes the next rounds of a system, so many, the i-th round since power-up with the events of round i. Events of earlier
 /// and of later rounds have no effect. After each round it is told how many of them were made. It takes no memory, and no fault
 /// of a line is answered: it is kept as a mark.
-pub fn make_rounds<H: Hardware, P: Progress>(
+pub fn make_rounds<H: Hardware, P: Progress, L: Lines>(
     system: &mut System,
     machine: &mut H,
-    lines: &mut Vec<Box<dyn Line>>,
+    lines: &mut L,
     events: &[Event],
     rounds: u32,
     progress: &mut P,
@@ -43,9 +43,7 @@ pub fn make_rounds<H: Hardware, P: Progress>(
     requires ordered { AreEvents events.now }
     requires holds { IsSystem system.old }
     requires stands { IsInMachine (H.machine machine.old).memory system.old }
-    requires lines { vec_len lines.old ≡ 32 }
-    ensures makes { MakesRounds rounds events.now (H.machine machine.old) system.old (map (λ b. seen b) lines.old.items) (H.machine machine.new) system.new (map (λ b. seen b) lines.new.items) }
-    ensures len { vec_len lines.new ≡ vec_len lines.old }
+    ensures makes { MakesRounds rounds events.now (H.machine machine.old) system.old (L.lines lines.old) (H.machine machine.new) system.new (L.lines lines.new) }
     ensures holds { IsSystem system.new }
 {
     let before = system.rounds();

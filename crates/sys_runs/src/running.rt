@@ -11,7 +11,7 @@ use sys_script::Event;
 use sys_system::{Device, PowerFault, System};
 use vax_hw::Hardware;
 use vm_guest::Counts;
-use vv_io::{Drive, Line};
+use vv_io::{Drive, Lines};
 
 /// What is left of a run that was made: the steps by their kinds, and the first device that failed, if one did.
 #[derive(Clone, Copy, Debug, PartialEq, Eq)]
@@ -24,14 +24,14 @@ pub struct Ran {
 /// rounds, the i-th with the events of round i. Then brings power down: the dumps are shown, and the volumes' blocks are
 /// stored. All memory is taken before the first round. A line or a drive that fails is marked and gets no more, and the
 /// run goes on. After a fault no line got a put, and no drive a set.
-pub fn run<H: Hardware, P: Progress>(
+pub fn run<H: Hardware, P: Progress, L: Lines>(
     alloc: Global,
     config: Config,
     images: &[Vec<u8>],
     events: &[Event],
     rounds: u32,
     machine: &mut H,
-    lines: &mut Vec<Box<dyn Line>>,
+    lines: &mut L,
     drives: &mut Vec<Box<dyn Drive>>,
     progress: &mut P,
 ) -> Result<Ran, PowerFault>
@@ -40,10 +40,8 @@ pub fn run<H: Hardware, P: Progress>(
     requires ordered { AreEvents events.now }
     requires few { rounds ≤ 1000000 }
     requires pages { length (H.machine machine.old).memory ≡ 512 * 32768 }
-    requires lines { vec_len lines.old ≡ 32 }
     requires drives { vec_len drives.old ≡ 16 }
-    ensures runs { Runs config (map (λ b. b.items) images.now) events.now rounds result (record { machine = H.machine machine.old; machine' = H.machine machine.new; lines = map (λ b. seen b) lines.old.items; lines' = map (λ b. seen b) lines.new.items; drives = map (λ d. kept d) drives.old.items; drives' = map (λ d. kept d) drives.new.items }) }
-    ensures lines_len { vec_len lines.new ≡ vec_len lines.old }
+    ensures runs { Runs config (map (λ b. b.items) images.now) events.now rounds result (record { machine = H.machine machine.old; machine' = H.machine machine.new; lines = L.lines lines.old; lines' = L.lines lines.new; drives = map (λ d. kept d) drives.old.items; drives' = map (λ d. kept d) drives.new.items }) }
     ensures drives_len { vec_len drives.new ≡ vec_len drives.old }
 {
     let mut system = System::power_up(alloc, config, images, machine, drives)?;

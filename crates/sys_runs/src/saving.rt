@@ -11,7 +11,7 @@ use sys_objects::Config;
 use sys_script::Event;
 use sys_system::{Device, PowerFault, System};
 use vax_hw::Hardware;
-use vv_io::{Drive, Line, Sink};
+use vv_io::{Drive, Lines, Sink};
 
 /// What is left of a run whose last moment was shown: the first line that failed, if one did, and whether `out` failed.
 #[derive(Clone, Copy, Debug, PartialEq, Eq)]
@@ -24,7 +24,7 @@ pub struct Saved {
 /// system is after them, as a snapshot with the text of its configuration, of at most 262,144 bytes. No dump is shown, and no
 /// volume is stored. All memory is taken before the first round. A line that fails is marked and gets no more, and the run
 /// goes on. After a fault no line and no `out` got a put, and no drive a set.
-pub fn save<H: Hardware, O: Sink, P: Progress>(
+pub fn save<H: Hardware, O: Sink, P: Progress, L: Lines>(
     alloc: Global,
     config: Config,
     text: &[u8],
@@ -32,7 +32,7 @@ pub fn save<H: Hardware, O: Sink, P: Progress>(
     events: &[Event],
     rounds: u32,
     machine: &mut H,
-    lines: &mut Vec<Box<dyn Line>>,
+    lines: &mut L,
     drives: &mut Vec<Box<dyn Drive>>,
     out: &mut O,
     progress: &mut P,
@@ -44,10 +44,8 @@ pub fn save<H: Hardware, O: Sink, P: Progress>(
     requires ordered { AreEvents events.now }
     requires few { rounds ≤ 1000000 }
     requires pages { length (H.machine machine.old).memory ≡ 512 * 32768 }
-    requires lines { vec_len lines.old ≡ 32 }
     requires drives { vec_len drives.old ≡ 16 }
-    ensures saves { SavesRun config text.now (map (λ b. b.items) images.now) events.now rounds result (record { machine = H.machine machine.old; machine' = H.machine machine.new; lines = map (λ b. seen b) lines.old.items; lines' = map (λ b. seen b) lines.new.items; drives = map (λ d. kept d) drives.old.items; drives' = map (λ d. kept d) drives.new.items }) (O.printed out.old) (O.printed out.new) }
-    ensures lines_len { vec_len lines.new ≡ vec_len lines.old }
+    ensures saves { SavesRun config text.now (map (λ b. b.items) images.now) events.now rounds result (record { machine = H.machine machine.old; machine' = H.machine machine.new; lines = L.lines lines.old; lines' = L.lines lines.new; drives = map (λ d. kept d) drives.old.items; drives' = map (λ d. kept d) drives.new.items }) (O.printed out.old) (O.printed out.new) }
     ensures drives_len { vec_len drives.new ≡ vec_len drives.old }
 {
     let mut system = System::power_up(alloc, config, images, machine, drives)?;

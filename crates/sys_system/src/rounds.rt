@@ -1,4 +1,4 @@
-ghost use Rattle.std.specs.Prelude.{◌≡◌, ◌<◌, ◌+◌, All, false, length, map, vec_len};
+ghost use Rattle.std.specs.Prelude.{◌≡◌, ◌<◌, ◌+◌, All, false, length, map};
 ghost use Rattle.sys_system.specs.Calls.{AreOf, MakesRound};
 ghost use Rattle.sys_system.specs.System.{IsInMachine, IsSystem, slice_of_time};
 ghost use Rattle.sys_state.specs.Slices.{AreQuanta};
@@ -7,23 +7,21 @@ use crate::system::System;
 use sys_guests::TimeSlice;
 use sys_script::Event;
 use vax_hw::Hardware;
-use vv_io::Line;
+use vv_io::Lines;
 
 impl System {
     /// Makes a round with these events, by slices of the guests in turn.
-    pub fn make_round<H: Hardware>(
+    pub fn make_round<H: Hardware, L: Lines>(
         &mut self,
         machine: &mut H,
-        lines: &mut Vec<Box<dyn Line>>,
+        lines: &mut L,
         events: &[Event],
     )
         requires rests { self.old.turns.is_begun ≡ false }
         requires few { self.old.rounds < 4000000000 }
         requires stands { IsInMachine (H.machine machine.old).memory self.old }
-        requires lines { vec_len lines.old ≡ 32 }
         requires events { AreOf (self.old.rounds + 1) events.now }
-        ensures makes { MakesRound events.now (H.machine machine.old) self.old (map (λ b. seen b) lines.old.items) (H.machine machine.new) self.new (map (λ b. seen b) lines.new.items) }
-        ensures len { vec_len lines.new ≡ vec_len lines.old }
+        ensures makes { MakesRound events.now (H.machine machine.old) self.old (L.lines lines.old) (H.machine machine.new) self.new (L.lines lines.new) }
         ensures holds { IsSystem self.new }
     {
         self.begin_round(machine, lines, events);
@@ -34,22 +32,20 @@ impl System {
     }
 
     /// Makes a round with these events, by slices in any order, in which each guest takes its quantum.
-    pub fn take_slices<H: Hardware>(
+    pub fn take_slices<H: Hardware, L: Lines>(
         &mut self,
         machine: &mut H,
-        lines: &mut Vec<Box<dyn Line>>,
+        lines: &mut L,
         events: &[Event],
         slices: &[TimeSlice],
     )
         requires rests { self.old.turns.is_begun ≡ false }
         requires few { self.old.rounds < 4000000000 }
         requires stands { IsInMachine (H.machine machine.old).memory self.old }
-        requires lines { vec_len lines.old ≡ 32 }
         requires events { AreOf (self.old.rounds + 1) events.now }
         requires there { All (λ slice. slice.guest < length self.old.guests) slices.now }
         requires quanta { AreQuanta (map slice_of_time slices.now) 0 self.old.config.guests }
-        ensures makes { MakesRound events.now (H.machine machine.old) self.old (map (λ b. seen b) lines.old.items) (H.machine machine.new) self.new (map (λ b. seen b) lines.new.items) }
-        ensures len { vec_len lines.new ≡ vec_len lines.old }
+        ensures makes { MakesRound events.now (H.machine machine.old) self.old (L.lines lines.old) (H.machine machine.new) self.new (L.lines lines.new) }
         ensures holds { IsSystem self.new }
     {
         self.begin_round(machine, lines, events);

@@ -19,7 +19,7 @@ use sys_script::Event;
 use sys_transfers::transfer;
 use vax_hw::Hardware;
 use vm_guest::Counts;
-use vv_io::{Drive, Line};
+use vv_io::{Drive, Lines};
 
 /// Several guests on the one machine, with their terminals, printers, volumes and server.
 #[derive(Drop)]
@@ -50,19 +50,17 @@ impl System {
     }
 
     /// Begins a round, of which these are the events; fewer than 4,000,000,000 were begun before.
-    pub fn begin_round<H: Hardware>(
+    pub fn begin_round<H: Hardware, L: Lines>(
         &mut self,
         machine: &mut H,
-        lines: &mut Vec<Box<dyn Line>>,
+        lines: &mut L,
         events: &[Event],
     )
         requires rests { self.old.turns.is_begun ≡ false }
         requires few { self.old.rounds < 4000000000 }
         requires stands { IsInMachine (H.machine machine.old).memory self.old }
-        requires lines { vec_len lines.old ≡ 32 }
-        ensures begins { BeginsRound events.now (H.machine machine.old) self.old (map (λ b. seen b) lines.old.items) (H.machine machine.new) self.new (map (λ b. seen b) lines.new.items) }
+        ensures begins { BeginsRound events.now (H.machine machine.old) self.old (L.lines lines.old) (H.machine machine.new) self.new (L.lines lines.new) }
         ensures present { KeepsAll (touches_of_events self.old.config (self.old.rounds + 1) (system_state (H.machine machine.old).memory self.old) events.now) self.old.guests self.new.guests }
-        ensures len { vec_len lines.new ≡ vec_len lines.old }
         ensures holds { IsSystem self.new }
     {
         let s = &mut self.parts;
@@ -73,19 +71,17 @@ impl System {
 
     /// A slice of a round: the guest takes so many of the steps that it has left, and its terminal's line is shown what
     /// they show. It takes no memory, and no fault of a line is answered: it is kept as a mark.
-    pub fn slice<H: Hardware>(
+    pub fn slice<H: Hardware, L: Lines>(
         &mut self,
         machine: &mut H,
-        lines: &mut Vec<Box<dyn Line>>,
+        lines: &mut L,
         guest: u8,
         steps: u32,
     )
         requires can { CanTake self.old (record { guest = guest; steps = steps }) }
         requires stands { IsInMachine (H.machine machine.old).memory self.old }
-        requires lines { vec_len lines.old ≡ 32 }
-        ensures takes { TakesSlice (record { guest = guest; steps = steps }) (H.machine machine.old) self.old (map (λ b. seen b) lines.old.items) (H.machine machine.new) self.new (map (λ b. seen b) lines.new.items) }
+        ensures takes { TakesSlice (record { guest = guest; steps = steps }) (H.machine machine.old) self.old (L.lines lines.old) (H.machine machine.new) self.new (L.lines lines.new) }
         ensures pays { PaysAll (touches_of_slice (record { guest = guest; steps = steps }) (guests_in (H.machine machine.old).memory self.old.guests)) (H.machine machine.old) self.old.guests (H.machine machine.new) self.new.guests }
-        ensures len { vec_len lines.new ≡ vec_len lines.old }
         ensures holds { IsSystem self.new }
     {
         let s = &mut self.parts;
@@ -100,13 +96,11 @@ impl System {
     }
 
     /// Ends a round in which no guest has steps left: the transfers that the guests ask for are made.
-    pub fn end_round<H: Hardware>(&mut self, machine: &mut H, lines: &mut Vec<Box<dyn Line>>)
+    pub fn end_round<H: Hardware, L: Lines>(&mut self, machine: &mut H, lines: &mut L)
         requires none { NoneLeft self.old.turns.left }
         requires stands { IsInMachine (H.machine machine.old).memory self.old }
-        requires lines { vec_len lines.old ≡ 32 }
-        ensures ends { EndsRound (H.machine machine.old) self.old (map (λ b. seen b) lines.old.items) (H.machine machine.new) self.new (map (λ b. seen b) lines.new.items) }
+        ensures ends { EndsRound (H.machine machine.old) self.old (L.lines lines.old) (H.machine machine.new) self.new (L.lines lines.new) }
         ensures present { KeepsAll (touches_of_transfers self.old.config self.old.config.guests self.old.mounts (guests_in (H.machine machine.old).memory self.old.guests) self.old.volumes) self.old.guests self.new.guests }
-        ensures len { vec_len lines.new ≡ vec_len lines.old }
         ensures holds { IsSystem self.new }
     {
         let s = &mut self.parts;
@@ -139,11 +133,9 @@ impl System {
     }
 
     /// Shows the dumps of all guests that have one, each on its line, in order.
-    pub fn show_dumps<H: Hardware>(&mut self, machine: &H, lines: &mut Vec<Box<dyn Line>>)
-        requires stands { IsInMachine (H.machine machine.now).memory self.old }
-        requires lines { vec_len lines.old ≡ 32 }
-        ensures shows { ShowsDumps (H.machine machine.now) self.old (map (λ b. seen b) lines.old.items) self.new (map (λ b. seen b) lines.new.items) }
-        ensures len { vec_len lines.new ≡ vec_len lines.old }
+    pub fn show_dumps<H: Hardware, L: Lines>(&mut self, machine: &H, lines: &mut L)
+        requires { IsInMachine (H.machine machine.now).memory self.old }
+        ensures { ShowsDumps (H.machine machine.now) self.old (L.lines lines.old) self.new (L.lines lines.new) }
     {
         let kernel = &mut self.parts.kernel;
         let rows = kernel.config.guests.as_slice();
@@ -152,18 +144,16 @@ impl System {
 
     /// Ends a run, while no round is begun: shows the dumps of all guests that have one, and then stores every block of
     /// every volume to its drive, in order. A device that fails is marked and gets no more.
-    pub fn power_down<H: Hardware>(
+    pub fn power_down<H: Hardware, L: Lines>(
         &mut self,
         machine: &H,
-        lines: &mut Vec<Box<dyn Line>>,
+        lines: &mut L,
         drives: &mut Vec<Box<dyn Drive>>,
     )
         requires stands { IsInMachine (H.machine machine.now).memory self.old }
-        requires lines { vec_len lines.old ≡ 32 }
         requires drives { vec_len drives.old ≡ 16 }
         requires fit { All (FitsDrive (map (λ d. kept d) drives.old.items)) self.old.config.volumes }
-        ensures ends { PowersDown (H.machine machine.now) self.old (map (λ b. seen b) lines.old.items) (map (λ d. kept d) drives.old.items) self.new (map (λ b. seen b) lines.new.items) (map (λ d. kept d) drives.new.items) }
-        ensures lines_len { vec_len lines.new ≡ vec_len lines.old }
+        ensures ends { PowersDown (H.machine machine.now) self.old (L.lines lines.old) (map (λ d. kept d) drives.old.items) self.new (L.lines lines.new) (map (λ d. kept d) drives.new.items) }
         ensures drives_len { vec_len drives.new ≡ vec_len drives.old }
     {
         self.show_dumps(machine, lines);

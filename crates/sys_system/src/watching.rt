@@ -1,4 +1,4 @@
-ghost use Rattle.std.specs.Prelude.{◌≡◌, ◌<◌, IfSome, Some, length, map, slice_get, vec_len};
+ghost use Rattle.std.specs.Prelude.{◌≡◌, ◌<◌, IfSome, Some, length, slice_get};
 ghost use Rattle.sys_guests.specs.Layout.{guests_in};
 ghost use Rattle.sys_guests.specs.Present.{PaysAll};
 ghost use Rattle.sys_state.specs.SlicedTouches.{touches_of_slice};
@@ -14,7 +14,7 @@ use sys_lines::show_each;
 use vax_hw::Hardware;
 use vm_guest::{Counts, Guest, Note};
 use vv_base::Text;
-use vv_io::Line;
+use vv_io::Lines;
 
 /// What a step was: how many of each kind, which is one in all; what it tells; and the bytes that it showed.
 #[derive(Drop)]
@@ -34,19 +34,17 @@ impl System {
     }
 
     /// A slice of one step, with what the step was.
-    pub fn step<H: Hardware>(
+    pub fn step<H: Hardware, L: Lines>(
         &mut self,
         machine: &mut H,
-        lines: &mut Vec<Box<dyn Line>>,
+        lines: &mut L,
         guest: u8,
     ) -> Watched
         requires can { CanTake self.old (record { guest = guest; steps = 1 }) }
         requires stands { IsInMachine (H.machine machine.old).memory self.old }
-        requires lines { vec_len lines.old ≡ 32 }
-        ensures takes { TakesSlice (record { guest = guest; steps = 1 }) (H.machine machine.old) self.old (map (λ b. seen b) lines.old.items) (H.machine machine.new) self.new (map (λ b. seen b) lines.new.items) }
+        ensures takes { TakesSlice (record { guest = guest; steps = 1 }) (H.machine machine.old) self.old (L.lines lines.old) (H.machine machine.new) self.new (L.lines lines.new) }
         ensures pays { PaysAll (touches_of_slice (record { guest = guest; steps = 1 }) (guests_in (H.machine machine.old).memory self.old.guests)) (H.machine machine.old) self.old.guests (H.machine machine.new) self.new.guests }
         ensures tells { IfSome (slice_get (guests_in (H.machine machine.old).memory self.old.guests) guest) (λ g. DescribesStep g result) }
-        ensures len { vec_len lines.new ≡ vec_len lines.old }
         ensures holds { IsSystem self.new }
     {
         let s = &mut self.parts;

@@ -22,7 +22,7 @@ use sys_objects::{Config, GuestRow};
 use sys_runs::Ran;
 use sys_system::{PowerFault, System};
 use vax_hw::Hardware;
-use vv_io::{Drive, Line, Sink};
+use vv_io::{Drive, Lines, Sink};
 
 /// What is left of a run whose steps were shown: that of the run, and whether `out` failed.
 #[derive(Clone, Copy, Debug, PartialEq, Eq)]
@@ -50,20 +50,18 @@ fn first_quantum(rows: &[GuestRow]) -> u32
 }
 
 /// The first guest takes a step of its turn; the line of that step, which has this number.
-fn trace_step<H: Hardware>(
+fn trace_step<H: Hardware, L: Lines>(
     system: &mut System,
     machine: &mut H,
-    lines: &mut Vec<Box<dyn Line>>,
+    lines: &mut L,
     number: u32,
 ) -> StepLine
     requires number { number ≤ 100000 }
     requires can { CanTake system.old (record { guest = 0; steps = 1 }) }
     requires stands { IsInMachine (H.machine machine.old).memory system.old }
-    requires lines { vec_len lines.old ≡ 32 }
-    ensures takes { TakesSlice (record { guest = 0; steps = 1 }) (H.machine machine.old) system.old (map (λ b. seen b) lines.old.items) (H.machine machine.new) system.new (map (λ b. seen b) lines.new.items) }
+    ensures takes { TakesSlice (record { guest = 0; steps = 1 }) (H.machine machine.old) system.old (L.lines lines.old) (H.machine machine.new) system.new (L.lines lines.new) }
     ensures pays { PaysAll (touches_of_slice (record { guest = 0; steps = 1 }) (guests_in (H.machine machine.old).memory system.old.guests)) (H.machine machine.old) system.old.guests (H.machine machine.new) system.new.guests }
     ensures line { (g : Guest) → slice_get (guests_in (H.machine machine.old).memory system.old.guests) 0 ≡ Some g → result ≡ trace_line number g (step g) }
-    ensures len { vec_len lines.new ≡ vec_len lines.old }
     ensures holds { IsSystem system.new }
 {
     let before = Before::of(machine, system.guest(0));
@@ -73,10 +71,10 @@ fn trace_step<H: Hardware>(
 
 /// The first guest takes so many steps of its turn, and the line of each is shown on `out`, up to the first fault. It takes no
 /// memory. Answers whether `out` failed.
-fn trace_turn<H: Hardware, O: Sink>(
+fn trace_turn<H: Hardware, O: Sink, L: Lines>(
     system: &mut System,
     machine: &mut H,
-    lines: &mut Vec<Box<dyn Line>>,
+    lines: &mut L,
     steps: u32,
     out: &mut O,
 ) -> bool
@@ -84,10 +82,8 @@ fn trace_turn<H: Hardware, O: Sink>(
     requires can { CanTake system.old (record { guest = 0; steps = steps }) }
     requires holds { IsSystem system.old }
     requires stands { IsInMachine (H.machine machine.old).memory system.old }
-    requires lines { vec_len lines.old ≡ 32 }
-    ensures plays { Plays (single_steps steps) (H.machine machine.old) system.old (map (λ b. seen b) lines.old.items) (H.machine machine.new) system.new (map (λ b. seen b) lines.new.items) }
+    ensures plays { Plays (single_steps steps) (H.machine machine.old) system.old (L.lines lines.old) (H.machine machine.new) system.new (L.lines lines.new) }
     ensures shown { (g : Guest) → slice_get (guests_in (H.machine machine.old).memory system.old.guests) 0 ≡ Some g → ShownSince result (O.printed out.old) (O.printed out.new) (trace_of steps g) }
-    ensures len { vec_len lines.new ≡ vec_len lines.old }
     ensures holds { IsSystem system.new }
 {
     let mut is_cut = false;
@@ -101,12 +97,12 @@ fn trace_turn<H: Hardware, O: Sink>(
 /// Makes the run of one round of a configuration of one guest without volumes, as `sys_runs::run` does, a step at a time, and
 /// shows the line of each step on `out`. All memory is taken before the first step. A line or an `out` that fails gets no more,
 /// and the run goes on. After a fault no line and no `out` got a put.
-pub fn trace<H: Hardware, O: Sink>(
+pub fn trace<H: Hardware, O: Sink, L: Lines>(
     alloc: Global,
     config: Config,
     images: &[Vec<u8>],
     machine: &mut H,
-    lines: &mut Vec<Box<dyn Line>>,
+    lines: &mut L,
     drives: &mut Vec<Box<dyn Drive>>,
     out: &mut O,
 ) -> Result<Traced, PowerFault>
@@ -115,10 +111,8 @@ pub fn trace<H: Hardware, O: Sink>(
     requires volumes { config.volumes ≡ [] }
     requires images { length images.now ≡ 1 }
     requires pages { length (H.machine machine.old).memory ≡ 512 * 32768 }
-    requires lines { vec_len lines.old ≡ 32 }
     requires drives { vec_len drives.old ≡ 16 }
-    ensures traces { (row : GuestRow) (image : List ℕ) → HasOne config row → map (λ b. b.items) images.now ≡ image ∷ [] → TracesRun config row image result (record { machine = H.machine machine.old; machine' = H.machine machine.new; lines = map (λ b. seen b) lines.old.items; lines' = map (λ b. seen b) lines.new.items; drives = map (λ d. kept d) drives.old.items; drives' = map (λ d. kept d) drives.new.items }) (O.printed out.old) (O.printed out.new) }
-    ensures lines_len { vec_len lines.new ≡ vec_len lines.old }
+    ensures traces { (row : GuestRow) (image : List ℕ) → HasOne config row → map (λ b. b.items) images.now ≡ image ∷ [] → TracesRun config row image result (record { machine = H.machine machine.old; machine' = H.machine machine.new; lines = L.lines lines.old; lines' = L.lines lines.new; drives = map (λ d. kept d) drives.old.items; drives' = map (λ d. kept d) drives.new.items }) (O.printed out.old) (O.printed out.new) }
     ensures drives_len { vec_len drives.new ≡ vec_len drives.old }
 {
     let steps = first_quantum(config.guests.as_slice());

@@ -2,7 +2,7 @@
 use Rattle.std.proofs.Common.{◌≡◌, ℕ, ◌+◌, ◌*◌, ◌<◌, ◌≤◌, ◌⊎◌, true, List, length, refl, ap, ◌∙◌, sym, subst}
 use Rattle.vv_base.specs.Bytes.{long_bytes}
 use Rattle.vax_hw.specs.Machine.{Machine}
-use Rattle.vm_bursts.specs.Guarded.{OnlyBoth}
+use Rattle.vm_stepping.specs.Guarded.{OnlyBoth}
 use Rattle.vm_shadow.specs.Shadowed.{Shadowed}
 use Rattle.vm_shadow.proofs.Covering.{own_is, own_length}
 use Rattle.vm_state.specs.Outside.{with_bytes}

@@ -3,8 +3,8 @@ use Rattle.std.proofs.Common.{◌≡◌, ℕ, suc, ◌+◌, ◌%◌, ◌<◌, in
 use Rattle.std.proofs.lemmas.Bool.{cases_Bool, cases_lt, false≢true}
 use Rattle.std.specs.Prelude.{◌||◌}
 use Rattle.vax_table.specs.Interaction.{IsIn}
-use Rattle.vm_bursts.proofs.Closed.{pending_in}
-use Rattle.vm_bursts.proofs.Completing.{split}
+use Rattle.vm_stepping.proofs.Closed.{pending_in}
+use Rattle.vm_stepping.proofs.Completing.{split}
 use Rattle.vm_guest.specs.Kept.{frames_from}
 use Rattle.vm_miss_laws.specs.Moves.{Drops}
 use Rattle.vm_shadow.specs.Shadowed.{Shadowed, is_pending, is_read_from, read_at}

@@ -1,4 +1,4 @@
-ghost use Rattle.std.specs.Prelude.{◌≡◌, ◌<◌, length, map, vec_len, All};
+ghost use Rattle.std.specs.Prelude.{◌≡◌, ◌<◌, length, All};
 ghost use Rattle.sys_guests.specs.Kernel.{AreUnits};
 ghost use Rattle.sys_guests.specs.Layout.{AreInMachine};
 ghost use Rattle.sys_objects.specs.Condition.{IsConfig, IsPrinter};
@@ -13,13 +13,13 @@ use sys_objects::{Config, GuestRow, Mount};
 use sys_store::Volumes;
 use vax_hw::Hardware;
 use vm_guest::Guest;
-use vv_io::Line;
+use vv_io::Lines;
 
 /// A guest's packets are served in the order of its queue, and none waits then. Its printer is shown each job.
-fn serve_guest<H: Hardware>(
+fn serve_guest<H: Hardware, L: Lines>(
     machine: &mut H,
     marks: &mut Marks,
-    lines: &mut Vec<Box<dyn Line>>,
+    lines: &mut L,
     guest: &mut Guest,
     config: &Config,
     row: &GuestRow,
@@ -29,9 +29,7 @@ fn serve_guest<H: Hardware>(
     requires stands { IsShadowedIn (H.machine machine.old).memory guest.old }
     requires mounted { MountsNameVolumes units.now volumes.old }
     requires printers { All IsPrinter config.now.printers }
-    requires lines { vec_len lines.old ≡ 32 }
-    ensures serves { ServesGuest config.now row.now units.now volumes.old (H.machine machine.old) guest.old marks.old (map (λ b. seen b) lines.old.items) volumes.new (H.machine machine.new) guest.new marks.new (map (λ b. seen b) lines.new.items) }
-    ensures len { vec_len lines.new ≡ vec_len lines.old }
+    ensures { ServesGuest config.now row.now units.now volumes.old (H.machine machine.old) guest.old marks.old (L.lines lines.old) volumes.new (H.machine machine.new) guest.new marks.new (L.lines lines.new) }
 {
     let queue = guest.take_queue();
     for packet in queue.as_slice() {
@@ -41,10 +39,10 @@ fn serve_guest<H: Hardware>(
 }
 
 /// The packets of the guest at a place are served.
-pub fn serve_at<H: Hardware>(
+pub fn serve_at<H: Hardware, L: Lines>(
     machine: &mut H,
     marks: &mut Marks,
-    lines: &mut Vec<Box<dyn Line>>,
+    lines: &mut L,
     guests: &mut Vec<Guest>,
     config: &Config,
     mounts: &[[Option<Mount>; 4]; 16],
@@ -55,9 +53,7 @@ pub fn serve_at<H: Hardware>(
     requires there { place < length config.now.guests }
     requires placed { AreInMachine config.now.guests (H.machine machine.old).memory guests.old.items }
     requires mounted { All (AreUnits (length volumes.old)) mounts.now }
-    requires lines { vec_len lines.old ≡ 32 }
-    ensures serves { ServesAt config.now mounts.now place volumes.old (H.machine machine.old) guests.old.items marks.old (map (λ b. seen b) lines.old.items) volumes.new (H.machine machine.new) guests.new.items marks.new (map (λ b. seen b) lines.new.items) }
-    ensures len { vec_len lines.new ≡ vec_len lines.old }
+    ensures { ServesAt config.now mounts.now place volumes.old (H.machine machine.old) guests.old.items marks.old (L.lines lines.old) volumes.new (H.machine machine.new) guests.new.items marks.new (L.lines lines.new) }
 {
     let row = &config.guests.as_slice()[place];
     let units = &mounts[place];

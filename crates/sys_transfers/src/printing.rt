@@ -1,4 +1,4 @@
-ghost use Rattle.std.specs.Prelude.{◌≡◌, ◌<◌, map, option_map, vec_len, All, IfSome};
+ghost use Rattle.std.specs.Prelude.{◌≡◌, ◌<◌, option_map, All, IfSome};
 ghost use Rattle.sys_lines.specs.Shows.{Shows, only_on};
 ghost use Rattle.sys_objects.specs.Condition.{IsPrinter};
 ghost use Rattle.sys_state.specs.State.{bytes_on};
@@ -8,7 +8,7 @@ ghost use Rattle.sys_transfers.specs.Serves.{job_on};
 use sys_lines::{Marks, show_whole};
 use sys_objects::Config;
 use vv_base::Text;
-use vv_io::Line;
+use vv_io::Lines;
 
 /// The line of a guest's printer.
 fn printer_line(config: &Config, printer: Option<u8>) -> Option<u8>
@@ -20,11 +20,9 @@ fn printer_line(config: &Config, printer: Option<u8>) -> Option<u8>
 }
 
 /// Puts bytes on a line in one put, if there is one.
-fn show_on(marks: &mut Marks, lines: &mut Vec<Box<dyn Line>>, place: Option<u8>, bytes: &[u8])
-    requires there { IfSome place (λ line. line < 32) }
-    requires lines { vec_len lines.old ≡ 32 }
-    ensures shows { Shows marks.old marks.new (map (λ b. seen b) lines.old.items) (map (λ b. seen b) lines.new.items) (only_on place bytes.now) }
-    ensures len { vec_len lines.new ≡ vec_len lines.old }
+fn show_on<L: Lines>(marks: &mut Marks, lines: &mut L, place: Option<u8>, bytes: &[u8])
+    requires { IfSome place (λ line. line < 32) }
+    ensures { Shows marks.old marks.new (L.lines lines.old) (L.lines lines.new) (only_on place bytes.now) }
 {
     if let Some(line) = place {
         show_whole(marks, lines, line, bytes);
@@ -32,17 +30,15 @@ fn show_on(marks: &mut Marks, lines: &mut Vec<Box<dyn Line>>, place: Option<u8>,
 }
 
 /// A guest's printer gets a job, if there is one of each.
-pub fn print_job_on(
+pub fn print_job_on<L: Lines>(
     marks: &mut Marks,
-    lines: &mut Vec<Box<dyn Line>>,
+    lines: &mut L,
     config: &Config,
     printer: Option<u8>,
     job: &Option<Text<640>>,
 )
-    requires printers { All IsPrinter config.now.printers }
-    requires lines { vec_len lines.old ≡ 32 }
-    ensures shows { Shows marks.old marks.new (map (λ b. seen b) lines.old.items) (map (λ b. seen b) lines.new.items) (λ k. bytes_on k (job_on (printer_of config.now printer) job.now)) }
-    ensures len { vec_len lines.new ≡ vec_len lines.old }
+    requires { All IsPrinter config.now.printers }
+    ensures { Shows marks.old marks.new (L.lines lines.old) (L.lines lines.new) (λ k. bytes_on k (job_on (printer_of config.now printer) job.now)) }
 {
     if let Some(text) = job {
         let line = printer_line(config, printer);

@@ -1,4 +1,4 @@
-ghost use Rattle.std.specs.Prelude.{◌≡◌, length, map, vec_len};
+ghost use Rattle.std.specs.Prelude.{◌≡◌, length, map};
 ghost use Rattle.sys_guests.specs.Kernel.{IsKernel, Leads, kernel_state};
 ghost use Rattle.sys_guests.specs.Layout.{guests_in};
 ghost use Rattle.sys_guests.specs.Present.{KeepsAll};
@@ -9,22 +9,20 @@ use crate::guests::serve_at;
 use sys_guests::Kernel;
 use sys_store::Volumes;
 use vax_hw::Hardware;
-use vv_io::Line;
+use vv_io::Lines;
 
 /// The transfers of a round, guest by guest, packet by packet.
-pub fn transfer<H: Hardware>(
+pub fn transfer<H: Hardware, L: Lines>(
     machine: &mut H,
-    lines: &mut Vec<Box<dyn Line>>,
+    lines: &mut L,
     kernel: &mut Kernel,
     volumes: &mut Volumes,
 )
     requires holds { IsKernel (H.machine machine.old).memory kernel.old }
     requires volumes { length volumes.old ≡ length kernel.old.config.volumes }
-    requires lines { vec_len lines.old ≡ 32 }
-    ensures leads { Leads (transfers kernel.old.config (kernel_state (H.machine machine.old).memory kernel.old volumes.old)) (H.machine machine.old) kernel.old (map (λ b. seen b) lines.old.items) (H.machine machine.new) kernel.new volumes.new (map (λ b. seen b) lines.new.items) }
+    ensures leads { Leads (transfers kernel.old.config (kernel_state (H.machine machine.old).memory kernel.old volumes.old)) (H.machine machine.old) kernel.old (L.lines lines.old) (H.machine machine.new) kernel.new volumes.new (L.lines lines.new) }
     ensures sizes { map length volumes.new ≡ map length volumes.old }
     ensures present { KeepsAll (touches_of_transfers kernel.old.config kernel.old.config.guests (kernel_state (H.machine machine.old).memory kernel.old volumes.old).mounts (guests_in (H.machine machine.old).memory kernel.old.guests.items) volumes.old) kernel.old.guests.items kernel.new.guests.items }
-    ensures len { vec_len lines.new ≡ vec_len lines.old }
 {
     for place in 0..kernel.guests.len() {
         serve_at(

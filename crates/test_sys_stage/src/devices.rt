@@ -6,7 +6,7 @@ use crate::trouble::Trouble;
 use std::alloc::Global;
 use vax_hw::Hardware;
 use vv_base::NoMemory;
-use vv_io::{Drive, EmptyDrive, Line, MemDrive, MemLine};
+use vv_io::{Drive, EmptyDrive, LineList, MemDrive, MemLine};
 
 /// Bytes for which a line has room.
 const ROOM: u32 = 60_000;
@@ -30,11 +30,11 @@ pub fn play<H: Hardware>(
     case: &Case,
     how: &How<'_>,
 ) -> Result<Outcome, Trouble> {
-    let mut lines: Vec<Box<dyn Line>> = Vec::new(alloc);
+    let mut list = Vec::new(alloc);
     for _number in 0..32u8 {
-        let line = MemLine::new(alloc, ROOM, Vec::new(alloc))?;
-        lines.push(Box::new(alloc, line)?)?;
+        list.push(MemLine::new(alloc, ROOM, Vec::new(alloc))?)?;
     }
+    let mut lines = LineList::new(list);
     let mut drives: Vec<Box<dyn Drive>> = Vec::new(alloc);
     for number in 0..16u8 {
         match beside(case.drives, number) {
@@ -47,7 +47,7 @@ pub fn play<H: Hardware>(
     let ending = run(alloc, machine, case, how, &mut lines, &mut drives)?;
     Ok(Outcome {
         ending,
-        shown: shown_by(alloc, &lines)?,
+        shown: shown_by(alloc, lines.as_slice())?,
         kept: kept_by(alloc, &mut drives)?,
     })
 }

@@ -3,7 +3,7 @@ use std::alloc::Global;
 use sys_system::Device;
 use vm_guest::Counts;
 use vv_base::NoMemory;
-use vv_io::{Drive, Line};
+use vv_io::{Drive, Line, MemLine};
 
 /// How many steps are plain, sensitive, faults, interrupts, modify steps, idle and stopped.
 pub type Kinds = [u64; 7];
@@ -51,7 +51,7 @@ pub enum Difference {
 }
 
 /// The bytes that lines show.
-pub fn shown_by(alloc: Global, lines: &[Box<dyn Line>]) -> Result<Vec<Vec<u8>>, NoMemory> {
+pub fn shown_by(alloc: Global, lines: &[MemLine]) -> Result<Vec<Vec<u8>>, NoMemory> {
     let mut shown = Vec::new(alloc);
     for line in lines {
         shown.push(line.told().unwrap_or(b"").to_vec(alloc)?)?;

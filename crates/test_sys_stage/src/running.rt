@@ -17,7 +17,7 @@ use sys_script::{Event, read_script};
 use sys_system::{PowerFault, System, TimeSlice};
 use vax_hw::Hardware;
 use vv_base::NoMemory;
-use vv_io::{Drive, Line};
+use vv_io::{Drive, Lines};
 
 /// The pages of the machine.
 pub const PAGES: u32 = 32_768;
@@ -81,47 +81,43 @@ fn powered<H: Hardware>(
 }
 
 /// Makes a round by slices.
-fn take_one<H: Hardware>(
+fn take_one<H: Hardware, L: Lines>(
     system: &mut System,
     machine: &mut H,
-    lines: &mut Vec<Box<dyn Line>>,
+    lines: &mut L,
     events: &[Event],
     slices: &[TimeSlice],
 )
     requires rests { system.old.turns.is_begun ≡ false }
     requires few { system.old.rounds < 4000000000 }
     requires stands { IsInMachine (H.machine machine.old).memory system.old }
-    requires lines { vec_len lines.old ≡ 32 }
     requires events { AreOf (system.old.rounds + 1) events.now }
     requires slices { AreSlices system.old.config slices.now }
     ensures config { system.new.config ≡ system.old.config }
     ensures rounds { system.new.rounds ≡ system.old.rounds + 1 }
     ensures rests { system.new.turns.is_begun ≡ false }
     ensures stands { IsInMachine (H.machine machine.new).memory system.new }
-    ensures len { vec_len lines.new ≡ vec_len lines.old }
 {
     system.take_slices(machine, lines, events, slices);
 }
 
 /// Makes a round, by the slices of `next`, or by these.
-fn make_one<H: Hardware>(
+fn make_one<H: Hardware, L: Lines>(
     system: &mut System,
     machine: &mut H,
-    lines: &mut Vec<Box<dyn Line>>,
+    lines: &mut L,
     events: &[Event],
     slices: &Option<Vec<TimeSlice>>,
 )
     requires rests { system.old.turns.is_begun ≡ false }
     requires few { system.old.rounds < 4000000000 }
     requires stands { IsInMachine (H.machine machine.old).memory system.old }
-    requires lines { vec_len lines.old ≡ 32 }
     requires events { AreOf (system.old.rounds + 1) events.now }
     requires slices { IfSome slices.now (λ ts. AreSlices system.old.config ts.items) }
     ensures config { system.new.config ≡ system.old.config }
     ensures rounds { system.new.rounds ≡ system.old.rounds + 1 }
     ensures rests { system.new.turns.is_begun ≡ false }
     ensures stands { IsInMachine (H.machine machine.new).memory system.new }
-    ensures len { vec_len lines.new ≡ vec_len lines.old }
 {
     match slices {
         None => system.make_round(machine, lines, events),
@@ -130,10 +126,10 @@ fn make_one<H: Hardware>(
 }
 
 /// Makes so many rounds, with their events, each by the slices of `next`, or by these.
-fn make_rounds<H: Hardware>(
+fn make_rounds<H: Hardware, L: Lines>(
     system: &mut System,
     machine: &mut H,
-    lines: &mut Vec<Box<dyn Line>>,
+    lines: &mut L,
     events: &[Event],
     rounds: u32,
     slices: &Option<Vec<TimeSlice>>,
@@ -142,11 +138,9 @@ fn make_rounds<H: Hardware>(
     requires first { system.old.rounds ≡ 0 }
     requires few { rounds ≤ 1000000 }
     requires stands { IsInMachine (H.machine machine.old).memory system.old }
-    requires lines { vec_len lines.old ≡ 32 }
     requires slices { IfSome slices.now (λ ts. AreSlices system.old.config ts.items) }
     ensures config { system.new.config ≡ system.old.config }
     ensures stands { IsInMachine (H.machine machine.new).memory system.new }
-    ensures len { vec_len lines.new ≡ vec_len lines.old }
 {
     for number in 0..rounds {
         let these = of_round(events, number + 1);
@@ -211,16 +205,15 @@ fn slices_of(
 }
 
 /// Plays a case on lines and drives that are given; what they show and keep is to be asked of them.
-pub fn run<H: Hardware>(
+pub fn run<H: Hardware, L: Lines>(
     alloc: Global,
     machine: &mut H,
     case: &Case,
     how: &How<'_>,
-    lines: &mut Vec<Box<dyn Line>>,
+    lines: &mut L,
     drives: &mut Vec<Box<dyn Drive>>,
 ) -> Result<Ending, Trouble>
-    requires lines { vec_len lines.old ≡ 32 }
-    requires drives { vec_len drives.old ≡ 16 }
+    requires { vec_len drives.old ≡ 16 }
 {
     if machine.pages() != PAGES {
         return Err(Trouble::Machine);

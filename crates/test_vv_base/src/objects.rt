@@ -8,29 +8,24 @@ use std::process::Abort;
 use std::test::Fail;
 use vv_base::{FileName, file_name};
 use vv_io::{
-    Cut, Drive, DriveFault, EmptyDrive, Line, LineFault, MemDrive, MemLine, MemShelf, Shelf,
-    ShelfFault, put_on, set_on,
+    Cut, Drive, DriveFault, EmptyDrive, Line, LineFault, LineList, Lines, MemDrive, MemLine,
+    MemShelf, Shelf, ShelfFault, set_on,
 };
 
 /// A put on line `k` leaves line `j` as it was.
-fn put_beside(
-    lines: &mut Vec<Box<dyn Line>>,
-    k: usize,
-    j: usize,
-    bytes: &[u8],
-) -> Result<(), LineFault>
-    requires line { k < vec_len lines.old }
+fn put_beside<L: Lines>(lines: &mut L, k: u8, j: usize, bytes: &[u8]) -> Result<(), LineFault>
+    requires line { k < 32 }
     requires other { j ≢ k }
-    ensures same { slice_index_or (map (λ b. seen b) lines.new.items) j unseen ≡ slice_index_or (map (λ b. seen b) lines.old.items) j unseen }
+    ensures { slice_index_or (L.lines lines.new) j unseen ≡ slice_index_or (L.lines lines.old) j unseen }
 {
-    put_on(lines, k, bytes)
+    lines.put_on(k, bytes)
 }
 
 /// A line that tells nothing tells nothing after a put, and a put that fails raises its count.
-fn put_untold(line: &mut Box<dyn Line>, bytes: &[u8]) -> Result<(), LineFault>
-    requires { (seen line.old).shown ≡ None }
-    ensures untold { (seen line.new).shown ≡ None }
-    ensures rose { OnErr result (Rose (seen line.old).faults (seen line.new).faults) }
+fn put_untold<L: Line>(line: &mut L, bytes: &[u8]) -> Result<(), LineFault>
+    requires { (L.seen line.old).shown ≡ None }
+    ensures untold { (L.seen line.new).shown ≡ None }
+    ensures rose { OnErr result (Rose (L.seen line.old).faults (L.seen line.new).faults) }
 {
     line.put(bytes)
 }
@@ -185,26 +180,20 @@ fn boxed_drives_stand_in_lists(rt: HostRuntime) -> Result<(), Fail> {
     Ok(())
 }
 
-/// A line with room for nine bytes.
-fn boxed_line(alloc: Global) -> Result<Box<dyn Line>, Fail> {
-    Ok(Box::new(alloc, MemLine::new(alloc, 9, Vec::new(alloc))?)?)
-}
-
-/// Two such lines.
-fn two_lines(alloc: Global) -> Result<Vec<Box<dyn Line>>, Fail>
-    ensures { IfOk result (λ lines. vec_len lines ≡ 2) }
-{
-    let mut lines = Vec::new(alloc);
-    lines.push(boxed_line(alloc)?)?;
-    lines.push(boxed_line(alloc)?)?;
-    Ok(lines)
+/// 32 lines with room for nine bytes each.
+fn short_lines(alloc: Global) -> Result<LineList<MemLine>, Fail> {
+    let mut list = Vec::new(alloc);
+    for _number in 0..32u8 {
+        list.push(MemLine::new(alloc, 9, Vec::new(alloc))?)?;
+    }
+    Ok(LineList::new(list))
 }
 
 #[test]
-fn boxed_lines_stand_in_lists(rt: HostRuntime) -> Result<(), Fail> {
-    let mut lines = two_lines(rt.alloc())?;
-    assert!(rt; put_on(&mut lines, 1, b"here") == Ok(()));
-    assert!(rt; lines[0].told() == Some(b"".as_slice()));
-    assert!(rt; lines[1].told() == Some(b"here".as_slice()));
+fn lines_have_numbers(rt: HostRuntime) -> Result<(), Fail> {
+    let mut lines = short_lines(rt.alloc())?;
+    assert!(rt; lines.put_on(1, b"here") == Ok(()));
+    assert!(rt; lines.as_slice()[0].told() == Some(b"".as_slice()));
+    assert!(rt; lines.as_slice()[1].told() == Some(b"here".as_slice()));
     Ok(())
 }

@@ -4,7 +4,7 @@ use crate::props::{Disk, LineCut, PAGES, Props, calls_of, cuts_of, disk_of, volu
 use std::alloc::Global;
 use vax_hw::Hardware;
 use vv_base::NoMemory;
-use vv_io::{Drive, EmptyDrive, Line, MemDrive, MemLine};
+use vv_io::{Drive, EmptyDrive, Line, LineList, MemDrive, MemLine};
 use vvmm_call::{NoProgress, status_code, status_text, vvmm_run};
 
 /// What a call answered, and what lines, drives and the sink hold after it.
@@ -77,7 +77,7 @@ fn memory_drive(
 }
 
 /// What a line tells.
-fn shown_on(alloc: Global, lines: &[Box<dyn Line>]) -> Result<Vec<Vec<u8>>, NoMemory> {
+fn shown_on(alloc: Global, lines: &[MemLine]) -> Result<Vec<Vec<u8>>, NoMemory> {
     let mut shown = Vec::new(alloc);
     for line in lines {
         shown.push(line.told().unwrap_or(b"").to_vec(alloc)?)?;
@@ -120,11 +120,12 @@ pub fn run_words<H: Hardware>(
     if machine.pages() != PAGES {
         return Err(NoMemory);
     }
-    let mut lines: Vec<Box<dyn Line>> = Vec::new(alloc);
+    let mut list = Vec::new(alloc);
     for number in 0..32u8 {
-        let line = MemLine::new(alloc, props.room, cuts_of(alloc, cuts, number)?)?;
-        lines.push(Box::new(alloc, line)?)?;
+        let cuts = cuts_of(alloc, cuts, number)?;
+        list.push(MemLine::new(alloc, props.room, cuts)?)?;
     }
+    let mut lines = LineList::new(list);
     let mut drives: Vec<Box<dyn Drive>> = Vec::new(alloc);
     for number in 0..16u8 {
         match memory_drive(alloc, props, disks, number)? {
@@ -152,7 +153,7 @@ pub fn run_words<H: Hardware>(
     Ok(Told {
         code: status_code(&status),
         text: status_text(&status).bytes().to_vec(alloc)?,
-        lines: shown_on(alloc, &lines)?,
+        lines: shown_on(alloc, lines.as_slice())?,
         drives: held_on(alloc, &mut drives)?,
         out: out.shown().to_vec(alloc)?,
         errors: errors.shown().to_vec(alloc)?,

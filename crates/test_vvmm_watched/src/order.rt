@@ -9,7 +9,7 @@ use test_vvmm_stage::{PAGES, plain};
 use vax_cpu::Cpu;
 use vax_hw::Hardware;
 use vv_base::NoMemory;
-use vv_io::{Drive, EmptyDrive, Line, LineFault, MemKeyboard, MemLine, Sink, SinkFault};
+use vv_io::{Drive, EmptyDrive, Line, LineFault, LineList, MemKeyboard, MemLine, Sink, SinkFault};
 use vvmm_call::{NoProgress, Status, vvmm_run};
 
 /// How many calls are noted.
@@ -98,15 +98,12 @@ const ORDER: [(u8, usize); 10] = [
 ];
 
 /// Lines that note their puts.
-pub fn noting_lines(alloc: Global, notes: &Notes) -> Result<Vec<Box<dyn Line>>, NoMemory>
-    ensures { IfOk result (λ lines. vec_len lines ≡ 32) }
-{
-    let mut lines: Vec<Box<dyn Line>> = Vec::new(alloc);
+pub fn noting_lines(alloc: Global, notes: &Notes) -> Result<LineList<Noting>, NoMemory> {
+    let mut list = Vec::new(alloc);
     for number in 0..32u8 {
-        let line = Noting::new(number, notes)?;
-        lines.push(Box::new(alloc, line)?)?;
+        list.push(Noting::new(number, notes)?)?;
     }
-    Ok(lines)
+    Ok(LineList::new(list))
 }
 
 /// Drives without blocks.

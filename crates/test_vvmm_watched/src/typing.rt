@@ -1,5 +1,5 @@
 //! When `live` asks for lines, tells what says no event, and shows what terminals are shown; and how much it reads for that.
-ghost use Rattle.std.specs.Prelude.{◌≡◌, IfOk, None, vec_len};
+ghost use Rattle.std.specs.Prelude.{None};
 
 use super::order::{CONFIG, LETTER, NOTES, Notes, Noting, OUT, empty_drives};
 use std::alloc::Global;
@@ -10,7 +10,7 @@ use test_vvmm_stage::{PAGES, plain};
 use vax_cpu::Cpu;
 use vax_hw::Hardware;
 use vv_base::NoMemory;
-use vv_io::{KeyFault, KeyLine, Keyboard, Line, LineFault, MemKeyboard, MemLine};
+use vv_io::{KeyFault, KeyLine, Keyboard, Line, LineFault, LineList, MemKeyboard, MemLine};
 use vvmm_call::{NoProgress, Status, vvmm_run};
 
 /// The keyboard's number among the notes.
@@ -116,18 +116,15 @@ const CALLS: [Calls; 28] = [
 ];
 
 /// Lines that note their calls.
-fn kept_lines(alloc: Global, notes: &Notes) -> Result<Vec<Box<dyn Line>>, NoMemory>
-    ensures { IfOk result (λ lines. vec_len lines ≡ 32) }
-{
-    let mut lines: Vec<Box<dyn Line>> = Vec::new(alloc);
+fn kept_lines(alloc: Global, notes: &Notes) -> Result<LineList<Kept>, NoMemory> {
+    let mut list = Vec::new(alloc);
     for number in 0..32u8 {
-        let line = Kept {
+        list.push(Kept {
             line: MemLine::new(alloc, 2000, Vec::new(alloc))?,
             noting: Noting::new(number, notes)?,
-        };
-        lines.push(Box::new(alloc, line)?)?;
+        })?;
     }
-    Ok(lines)
+    Ok(LineList::new(list))
 }
 
 /// A keyboard at which all of it is typed.

@@ -1,7 +1,7 @@
 ghost use Rattle.std.specs.Prelude.{◌≡◌, map, vec_len};
 ghost use Rattle.vv_edge.specs.Syncing.{SyncsDrives, SyncsLines, first_fault};
 
-use vv_io::{Drive, Line, sync_drive, sync_line};
+use vv_io::{Drive, Lines, sync_drive};
 
 /// The first that failed, when it is known of one more.
 fn first_fault(failed: Option<u8>, k: u8, fails: bool) -> Option<u8>
@@ -14,15 +14,13 @@ fn first_fault(failed: Option<u8>, k: u8, fails: bool) -> Option<u8>
     }
 }
 
-/// Syncs the lines, of which there are at most 32, and tells the first that fails.
-pub fn sync_lines(lines: &mut Vec<Box<dyn Line>>) -> Option<u8>
-    ensures syncs { SyncsLines (map (λ b. seen b) lines.old.items) (map (λ b. seen b) lines.new.items) result }
-    ensures len { vec_len lines.new ≡ vec_len lines.old }
+/// Syncs the lines, and tells the first that fails.
+pub fn sync_lines<L: Lines>(lines: &mut L) -> Option<u8>
+    ensures { SyncsLines (L.lines lines.old) (L.lines lines.new) result }
 {
-    let count = lines.len().min(32) as u8;
     let mut failed = None;
-    for k in 0..count {
-        let fails = sync_line(lines, usize::from(k)).is_err();
+    for k in 0..32 {
+        let fails = lines.sync_line(k).is_err();
         failed = first_fault(failed, k, fails);
     }
     failed

@@ -7,7 +7,7 @@ use std::alloc::Global;
 use sys_system::Device;
 use vax_hw::Hardware;
 use vv_edge::{sync_drives, sync_lines};
-use vv_io::{Drive, Keyboard, Line, Shelf, Sink};
+use vv_io::{Drive, Keyboard, Lines, Shelf, Sink};
 use vvmm_call::{Progress, Status, vvmm_run};
 
 /// A line, or else a drive.
@@ -49,12 +49,12 @@ fn synced_status(answer: Status, failed: Option<Device>) -> Status
 }
 
 /// Does what the words say, and then syncs all lines and drives; a device that fails in that is told as one that failed.
-pub fn serve<H: Hardware, S: Shelf, O: Sink, K: Keyboard, E: Sink, P: Progress>(
+pub fn serve<H: Hardware, S: Shelf, O: Sink, K: Keyboard, E: Sink, P: Progress, L: Lines>(
     alloc: Global,
     words: &[String],
     shelf: &mut S,
     machine: &mut H,
-    lines: &mut Vec<Box<dyn Line>>,
+    lines: &mut L,
     drives: &mut Vec<Box<dyn Drive>>,
     out: &mut O,
     keyboard: &mut K,
@@ -62,9 +62,8 @@ pub fn serve<H: Hardware, S: Shelf, O: Sink, K: Keyboard, E: Sink, P: Progress>(
     progress: &mut P,
 ) -> Status
     requires pages { length (H.machine machine.old).memory ≡ 512 * 32768 }
-    requires lines { vec_len lines.old ≡ 32 }
     requires drives { vec_len drives.old ≡ 16 }
-    ensures { ServesCall (wanted (map (λ w. string_bytes w) words.now)) result (record { files = S.files shelf.old; shelf = S.faults shelf.old; shelf' = S.faults shelf.new; machine = H.machine machine.old; machine' = H.machine machine.new; lines = map (λ b. seen b) lines.old.items; lines' = map (λ b. seen b) lines.new.items; drives = map (λ d. kept d) drives.old.items; drives' = map (λ d. kept d) drives.new.items; out = O.printed out.old; out' = O.printed out.new }) (record { keys = K.keys keyboard.old; keys' = K.keys keyboard.new; errors = E.printed errors.old; errors' = E.printed errors.new }) }
+    ensures { ServesCall (wanted (map (λ w. string_bytes w) words.now)) result (record { files = S.files shelf.old; shelf = S.faults shelf.old; shelf' = S.faults shelf.new; machine = H.machine machine.old; machine' = H.machine machine.new; lines = L.lines lines.old; lines' = L.lines lines.new; drives = map (λ d. kept d) drives.old.items; drives' = map (λ d. kept d) drives.new.items; out = O.printed out.old; out' = O.printed out.new }) (record { keys = K.keys keyboard.old; keys' = K.keys keyboard.new; errors = E.printed errors.old; errors' = E.printed errors.new }) }
 {
     let answer = vvmm_run(
         alloc, words, shelf, machine, lines, drives, out, keyboard, errors, progress,

@@ -17,7 +17,7 @@ use std::rt::{Stderr, Stdout};
 use vax_cpu::Cpu;
 use vv_base::NoMemory;
 use vv_edge::{FlawedDrive, Identity};
-use vv_io::{Drive, EmptyDrive, Line};
+use vv_io::{Drive, EmptyDrive, LineList};
 use vv_program::{conclude, serve, text_asked, words_status};
 pub use vvmm_call::vvmm_run;
 use vvmm_call::{Devices, Status, close, devices_of};
@@ -134,11 +134,11 @@ fn run(
     let devices = devices_of(words);
     let mut taken = taken_at_first(rt, words, streams)?;
     let mut machine = Cpu::new(alloc, PAGES)?;
-    let mut lines: Vec<Box<dyn Line>> = Vec::new(alloc);
+    let mut list = Vec::new(alloc);
     for number in 0..32u8 {
-        let line = line_of(rt, number, devices, &taken, streams)?;
-        lines.push(Box::new(alloc, line)?)?;
+        list.push(line_of(rt, number, devices, &taken, streams)?)?;
     }
+    let mut lines = LineList::new(list);
     let mut drives: Vec<Box<dyn Drive>> = Vec::new(alloc);
     for number in 0..16u8 {
         match drive_of(rt, number, devices, &mut taken, flawed, streams)? {

@@ -12,7 +12,7 @@ use std::alloc::Global;
 use sys_live::Lived;
 use sys_system::{Device, PowerFault};
 use vax_hw::Hardware;
-use vv_io::{Drive, Keyboard, Line, Shelf, Sink};
+use vv_io::{Drive, Keyboard, Lines, Shelf, Sink};
 
 /// The answer where all was done.
 fn live_status(failed: Option<Device>, is_cut: bool, is_broken: bool) -> Status
@@ -42,23 +42,22 @@ fn lived_status<O: Sink>(lived: Result<Lived, PowerFault>, out: &mut O) -> Statu
 
 /// `live`: fetches the configuration and the images, makes rounds as their lines are typed, and shows each one's terminals on
 /// `out`; then its summary.
-pub fn live<H: Hardware, S: Shelf, O: Sink, K: Keyboard, E: Sink>(
+pub fn live<H: Hardware, S: Shelf, O: Sink, K: Keyboard, E: Sink, L: Lines>(
     alloc: Global,
     order: LiveOrder,
     shelf: &mut S,
     machine: &mut H,
-    lines: &mut Vec<Box<dyn Line>>,
+    lines: &mut L,
     drives: &mut Vec<Box<dyn Drive>>,
     out: &mut O,
     keyboard: &mut K,
     errors: &mut E,
 ) -> Status
     requires pages { length (H.machine machine.old).memory ≡ 512 * 32768 }
-    requires lines { vec_len lines.old ≡ 32 }
     requires drives { vec_len drives.old ≡ 16 }
     requires some { 1 ≤ order.rounds }
     requires few { order.rounds ≤ 1000000 }
-    ensures { FollowsLive (record { config = order.config; rounds = order.rounds }) result (record { files = S.files shelf.old; shelf = S.faults shelf.old; shelf' = S.faults shelf.new; machine = H.machine machine.old; machine' = H.machine machine.new; lines = map (λ b. seen b) lines.old.items; lines' = map (λ b. seen b) lines.new.items; drives = map (λ d. kept d) drives.old.items; drives' = map (λ d. kept d) drives.new.items; out = O.printed out.old; out' = O.printed out.new }) (record { keys = K.keys keyboard.old; keys' = K.keys keyboard.new; errors = E.printed errors.old; errors' = E.printed errors.new }) }
+    ensures { FollowsLive (record { config = order.config; rounds = order.rounds }) result (record { files = S.files shelf.old; shelf = S.faults shelf.old; shelf' = S.faults shelf.new; machine = H.machine machine.old; machine' = H.machine machine.new; lines = L.lines lines.old; lines' = L.lines lines.new; drives = map (λ d. kept d) drives.old.items; drives' = map (λ d. kept d) drives.new.items; out = O.printed out.old; out' = O.printed out.new }) (record { keys = K.keys keyboard.old; keys' = K.keys keyboard.new; errors = E.printed errors.old; errors' = E.printed errors.new }) }
 {
     let inputs = match fetch_to_live(alloc, shelf, &order) {
         Ok(inputs) => inputs,

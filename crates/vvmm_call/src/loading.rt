@@ -1,4 +1,4 @@
-ghost use Rattle.std.specs.Prelude.{◌≡◌, ◌*◌, List, length, map, vec_len};
+ghost use Rattle.std.specs.Prelude.{◌≡◌, ◌*◌, List, length};
 ghost use Rattle.vv_io.specs.Blocks.{SeenDrive};
 ghost use Rattle.vvmm_call.specs.Answer.{FollowsLoad};
 
@@ -8,20 +8,19 @@ use std::alloc::Global;
 use sys_runs::{Progress, run_with};
 use vax_hw::Hardware;
 use vv_gen::workload;
-use vv_io::{Line, Sink};
+use vv_io::{Lines, Sink};
 
 /// `load`: makes the run of the workload that is drawn from a number, over its own volumes, and tells it. Drives stay as they are.
-pub fn load<H: Hardware, O: Sink, P: Progress>(
+pub fn load<H: Hardware, O: Sink, P: Progress, L: Lines>(
     alloc: Global,
     number: u32,
     machine: &mut H,
-    lines: &mut Vec<Box<dyn Line>>,
+    lines: &mut L,
     out: &mut O,
     progress: &mut P,
 ) -> Status
-    requires pages { length (H.machine machine.old).memory ≡ 512 * 32768 }
-    requires lines { vec_len lines.old ≡ 32 }
-    ensures { (drives : List SeenDrive) → FollowsLoad number result (record { machine = H.machine machine.old; machine' = H.machine machine.new; lines = map (λ b. seen b) lines.old.items; lines' = map (λ b. seen b) lines.new.items; drives = drives; drives' = drives }) (O.printed out.old) (O.printed out.new) }
+    requires { length (H.machine machine.old).memory ≡ 512 * 32768 }
+    ensures { (drives : List SeenDrive) → FollowsLoad number result (record { machine = H.machine machine.old; machine' = H.machine machine.new; lines = L.lines lines.old; lines' = L.lines lines.new; drives = drives; drives' = drives }) (O.printed out.old) (O.printed out.new) }
 {
     let Ok(work) = workload(alloc, number) else {
         return Status::NoMemory;

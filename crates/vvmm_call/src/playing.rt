@@ -13,7 +13,7 @@ use std::alloc::Global;
 use sys_runs::{Progress, Ran, run};
 use sys_system::{Device, PowerFault};
 use vax_hw::Hardware;
-use vv_io::{Drive, Line, Sink, SinkFault};
+use vv_io::{Drive, Lines, Sink, SinkFault};
 
 /// Puts bytes once.
 pub fn put_once<O: Sink>(out: &mut O, bytes: &[u8]) -> Result<(), SinkFault>
@@ -53,12 +53,12 @@ pub fn answer<O: Sink>(rounds: u32, ran: Result<Ran, PowerFault>, out: &mut O) -
 }
 
 /// Makes a run, puts its summary, and answers.
-pub fn play<H: Hardware, O: Sink, P: Progress>(
+pub fn play<H: Hardware, O: Sink, P: Progress, L: Lines>(
     alloc: Global,
     inputs: Inputs,
     rounds: u32,
     machine: &mut H,
-    lines: &mut Vec<Box<dyn Line>>,
+    lines: &mut L,
     drives: &mut Vec<Box<dyn Drive>>,
     out: &mut O,
     progress: &mut P,
@@ -68,9 +68,8 @@ pub fn play<H: Hardware, O: Sink, P: Progress>(
     requires images { length inputs.images.items ≡ length inputs.config.guests }
     requires few { rounds ≤ 1000000 }
     requires pages { length (H.machine machine.old).memory ≡ 512 * 32768 }
-    requires lines { vec_len lines.old ≡ 32 }
     requires drives { vec_len drives.old ≡ 16 }
-    ensures { PlaysConfiguration inputs.config (map (λ b. b.items) inputs.images.items) inputs.events.items rounds result (record { machine = H.machine machine.old; machine' = H.machine machine.new; lines = map (λ b. seen b) lines.old.items; lines' = map (λ b. seen b) lines.new.items; drives = map (λ d. kept d) drives.old.items; drives' = map (λ d. kept d) drives.new.items }) (O.printed out.old) (O.printed out.new) }
+    ensures { PlaysConfiguration inputs.config (map (λ b. b.items) inputs.images.items) inputs.events.items rounds result (record { machine = H.machine machine.old; machine' = H.machine machine.new; lines = L.lines lines.old; lines' = L.lines lines.new; drives = map (λ d. kept d) drives.old.items; drives' = map (λ d. kept d) drives.new.items }) (O.printed out.old) (O.printed out.new) }
 {
     let ran = run(
         alloc,

@@ -10,7 +10,7 @@ use std::alloc::Global;
 use sys_runs::{Progress, Saved};
 use sys_system::PowerFault;
 use vax_hw::Hardware;
-use vv_io::{Drive, Line, Shelf, Sink};
+use vv_io::{Drive, Lines, Shelf, Sink};
 
 /// The answer of a run that was to be saved.
 fn saved_status(saved: Result<Saved, PowerFault>) -> Status
@@ -24,21 +24,20 @@ fn saved_status(saved: Result<Saved, PowerFault>) -> Status
 
 /// `save`: fetches the configuration, the script and the images, makes the rounds, and shows what the system is after them
 /// as a snapshot. The drives stay as they are.
-pub fn save<H: Hardware, S: Shelf, O: Sink, P: Progress>(
+pub fn save<H: Hardware, S: Shelf, O: Sink, P: Progress, L: Lines>(
     alloc: Global,
     order: RunOrder,
     shelf: &mut S,
     machine: &mut H,
-    lines: &mut Vec<Box<dyn Line>>,
+    lines: &mut L,
     drives: &mut Vec<Box<dyn Drive>>,
     out: &mut O,
     progress: &mut P,
 ) -> Status
     requires pages { length (H.machine machine.old).memory ≡ 512 * 32768 }
-    requires lines { vec_len lines.old ≡ 32 }
     requires drives { vec_len drives.old ≡ 16 }
     requires few { order.rounds ≤ 1000000 }
-    ensures { FollowsSave (record { config = order.config; script = order.script; rounds = order.rounds }) result (record { files = S.files shelf.old; shelf = S.faults shelf.old; shelf' = S.faults shelf.new; machine = H.machine machine.old; machine' = H.machine machine.new; lines = map (λ b. seen b) lines.old.items; lines' = map (λ b. seen b) lines.new.items; drives = map (λ d. kept d) drives.old.items; drives' = map (λ d. kept d) drives.new.items; out = O.printed out.old; out' = O.printed out.new }) }
+    ensures { FollowsSave (record { config = order.config; script = order.script; rounds = order.rounds }) result (record { files = S.files shelf.old; shelf = S.faults shelf.old; shelf' = S.faults shelf.new; machine = H.machine machine.old; machine' = H.machine machine.new; lines = L.lines lines.old; lines' = L.lines lines.new; drives = map (λ d. kept d) drives.old.items; drives' = map (λ d. kept d) drives.new.items; out = O.printed out.old; out' = O.printed out.new }) }
 {
     let to_save = match fetch_to_save(alloc, shelf, &order) {
         Ok(to_save) => to_save,
@@ -62,21 +61,20 @@ pub fn save<H: Hardware, S: Shelf, O: Sink, P: Progress>(
 }
 
 /// `resume`: fetches a snapshot and the script, goes on with the rounds from there, and tells them as `run` does.
-pub fn resume<H: Hardware, S: Shelf, O: Sink, P: Progress>(
+pub fn resume<H: Hardware, S: Shelf, O: Sink, P: Progress, L: Lines>(
     alloc: Global,
     order: ResumeOrder,
     shelf: &mut S,
     machine: &mut H,
-    lines: &mut Vec<Box<dyn Line>>,
+    lines: &mut L,
     drives: &mut Vec<Box<dyn Drive>>,
     out: &mut O,
     progress: &mut P,
 ) -> Status
     requires pages { length (H.machine machine.old).memory ≡ 512 * 32768 }
-    requires lines { vec_len lines.old ≡ 32 }
     requires drives { vec_len drives.old ≡ 16 }
     requires few { order.rounds ≤ 1000000 }
-    ensures { FollowsResume (record { snap = order.snap; script = order.script; rounds = order.rounds }) result (record { files = S.files shelf.old; shelf = S.faults shelf.old; shelf' = S.faults shelf.new; machine = H.machine machine.old; machine' = H.machine machine.new; lines = map (λ b. seen b) lines.old.items; lines' = map (λ b. seen b) lines.new.items; drives = map (λ d. kept d) drives.old.items; drives' = map (λ d. kept d) drives.new.items; out = O.printed out.old; out' = O.printed out.new }) }
+    ensures { FollowsResume (record { snap = order.snap; script = order.script; rounds = order.rounds }) result (record { files = S.files shelf.old; shelf = S.faults shelf.old; shelf' = S.faults shelf.new; machine = H.machine machine.old; machine' = H.machine machine.new; lines = L.lines lines.old; lines' = L.lines lines.new; drives = map (λ d. kept d) drives.old.items; drives' = map (λ d. kept d) drives.new.items; out = O.printed out.old; out' = O.printed out.new }) }
 {
     let inputs = match fetch_to_resume(alloc, shelf, &order) {
         Ok(inputs) => inputs,

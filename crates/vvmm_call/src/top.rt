@@ -24,25 +24,24 @@ use sys_runs::{NoProgress, Progress};
 use vasm_files::{Answer, asm, dis};
 use vax_hw::Hardware;
 use vv_base::{FileName, NoMemory};
-use vv_io::{Drive, Keyboard, Line, Shelf, Sink};
+use vv_io::{Drive, Keyboard, Lines, Shelf, Sink};
 
 /// `solo`: fetches the image, makes its run and tells it.
-fn solo<H: Hardware, S: Shelf, O: Sink>(
+fn solo<H: Hardware, S: Shelf, O: Sink, L: Lines>(
     alloc: Global,
     order: Order,
     shelf: &mut S,
     machine: &mut H,
-    lines: &mut Vec<Box<dyn Line>>,
+    lines: &mut L,
     drives: &mut Vec<Box<dyn Drive>>,
     out: &mut O,
 ) -> Status
     requires pages { length (H.machine machine.old).memory ≡ 512 * 32768 }
-    requires lines { vec_len lines.old ≡ 32 }
     requires drives { vec_len drives.old ≡ 16 }
     requires named { is_file_name order.image ≡ true }
     requires some { 1 ≤ order.steps }
     requires few { order.steps ≤ 100000 }
-    ensures { FollowsSolo (record { image = order.image; steps = order.steps }) result (record { files = S.files shelf.old; shelf = S.faults shelf.old; shelf' = S.faults shelf.new; machine = H.machine machine.old; machine' = H.machine machine.new; lines = map (λ b. seen b) lines.old.items; lines' = map (λ b. seen b) lines.new.items; drives = map (λ d. kept d) drives.old.items; drives' = map (λ d. kept d) drives.new.items; out = O.printed out.old; out' = O.printed out.new }) }
+    ensures { FollowsSolo (record { image = order.image; steps = order.steps }) result (record { files = S.files shelf.old; shelf = S.faults shelf.old; shelf' = S.faults shelf.new; machine = H.machine machine.old; machine' = H.machine machine.new; lines = L.lines lines.old; lines' = L.lines lines.new; drives = map (λ d. kept d) drives.old.items; drives' = map (λ d. kept d) drives.new.items; out = O.printed out.old; out' = O.printed out.new }) }
 {
     match solo_inputs(alloc, order, shelf) {
         Ok(inputs) => play(
@@ -60,21 +59,20 @@ fn solo<H: Hardware, S: Shelf, O: Sink>(
 }
 
 /// `run`: fetches the configuration, the script and the images, makes their run and tells it.
-fn run<H: Hardware, S: Shelf, O: Sink, P: Progress>(
+fn run<H: Hardware, S: Shelf, O: Sink, P: Progress, L: Lines>(
     alloc: Global,
     order: RunOrder,
     shelf: &mut S,
     machine: &mut H,
-    lines: &mut Vec<Box<dyn Line>>,
+    lines: &mut L,
     drives: &mut Vec<Box<dyn Drive>>,
     out: &mut O,
     progress: &mut P,
 ) -> Status
     requires pages { length (H.machine machine.old).memory ≡ 512 * 32768 }
-    requires lines { vec_len lines.old ≡ 32 }
     requires drives { vec_len drives.old ≡ 16 }
     requires few { order.rounds ≤ 1000000 }
-    ensures { FollowsRun (record { config = order.config; script = order.script; rounds = order.rounds }) result (record { files = S.files shelf.old; shelf = S.faults shelf.old; shelf' = S.faults shelf.new; machine = H.machine machine.old; machine' = H.machine machine.new; lines = map (λ b. seen b) lines.old.items; lines' = map (λ b. seen b) lines.new.items; drives = map (λ d. kept d) drives.old.items; drives' = map (λ d. kept d) drives.new.items; out = O.printed out.old; out' = O.printed out.new }) }
+    ensures { FollowsRun (record { config = order.config; script = order.script; rounds = order.rounds }) result (record { files = S.files shelf.old; shelf = S.faults shelf.old; shelf' = S.faults shelf.new; machine = H.machine machine.old; machine' = H.machine machine.new; lines = L.lines lines.old; lines' = L.lines lines.new; drives = map (λ d. kept d) drives.old.items; drives' = map (λ d. kept d) drives.new.items; out = O.printed out.old; out' = O.printed out.new }) }
 {
     match fetch_run(alloc, shelf, &order) {
         Ok(inputs) => play(
@@ -175,12 +173,12 @@ fn status_of(name: FileName, answer: Answer) -> Status
 /// Does what the words say, over a shelf of files, a machine of 32,768 pages, 32 lines and 16 drives; the summary, or
 /// what a command shows of a file, is put on `out`. The machine's memory and counts may hold anything. Only `live` asks the keyboard
 /// for lines, and tells on `errors` which of them say no event. After each round of any other run it is told how many were made.
-pub fn vvmm_run<H: Hardware, S: Shelf, O: Sink, K: Keyboard, E: Sink, P: Progress>(
+pub fn vvmm_run<H: Hardware, S: Shelf, O: Sink, K: Keyboard, E: Sink, P: Progress, L: Lines>(
     alloc: Global,
     words: &[String],
     shelf: &mut S,
     machine: &mut H,
-    lines: &mut Vec<Box<dyn Line>>,
+    lines: &mut L,
     drives: &mut Vec<Box<dyn Drive>>,
     out: &mut O,
     keyboard: &mut K,
@@ -188,9 +186,8 @@ pub fn vvmm_run<H: Hardware, S: Shelf, O: Sink, K: Keyboard, E: Sink, P: Progres
     progress: &mut P,
 ) -> Status
     requires pages { length (H.machine machine.old).memory ≡ 512 * 32768 }
-    requires lines { vec_len lines.old ≡ 32 }
     requires drives { vec_len drives.old ≡ 16 }
-    ensures { Says (wanted (map (λ w. string_bytes w) words.now)) result (record { files = S.files shelf.old; shelf = S.faults shelf.old; shelf' = S.faults shelf.new; machine = H.machine machine.old; machine' = H.machine machine.new; lines = map (λ b. seen b) lines.old.items; lines' = map (λ b. seen b) lines.new.items; drives = map (λ d. kept d) drives.old.items; drives' = map (λ d. kept d) drives.new.items; out = O.printed out.old; out' = O.printed out.new }) (record { keys = K.keys keyboard.old; keys' = K.keys keyboard.new; errors = E.printed errors.old; errors' = E.printed errors.new }) }
+    ensures { Says (wanted (map (λ w. string_bytes w) words.now)) result (record { files = S.files shelf.old; shelf = S.faults shelf.old; shelf' = S.faults shelf.new; machine = H.machine machine.old; machine' = H.machine machine.new; lines = L.lines lines.old; lines' = L.lines lines.new; drives = map (λ d. kept d) drives.old.items; drives' = map (λ d. kept d) drives.new.items; out = O.printed out.old; out' = O.printed out.new }) (record { keys = K.keys keyboard.old; keys' = K.keys keyboard.new; errors = E.printed errors.old; errors' = E.printed errors.new }) }
 {
     match parse(words) {
         None => Status::Words,

@@ -15,7 +15,7 @@ use crate::words::Order;
 use std::alloc::Global;
 use sys_trace::Traced;
 use vax_hw::Hardware;
-use vv_io::{Drive, Line, Shelf, Sink};
+use vv_io::{Drive, Lines, Shelf, Sink};
 
 /// Puts the summary of a run whose trace was put whole, and answers.
 fn close_trace<O: Sink>(traced: &Traced, out: &mut O) -> Status
@@ -33,22 +33,21 @@ fn close_trace<O: Sink>(traced: &Traced, out: &mut O) -> Status
 }
 
 /// `trace`: fetches the image, makes its run, shows the line of each step, and tells the run as `solo` does.
-pub fn trace<H: Hardware, S: Shelf, O: Sink>(
+pub fn trace<H: Hardware, S: Shelf, O: Sink, L: Lines>(
     alloc: Global,
     order: Order,
     shelf: &mut S,
     machine: &mut H,
-    lines: &mut Vec<Box<dyn Line>>,
+    lines: &mut L,
     drives: &mut Vec<Box<dyn Drive>>,
     out: &mut O,
 ) -> Status
     requires pages { length (H.machine machine.old).memory ≡ 512 * 32768 }
-    requires lines { vec_len lines.old ≡ 32 }
     requires drives { vec_len drives.old ≡ 16 }
     requires named { is_file_name order.image ≡ true }
     requires some { 1 ≤ order.steps }
     requires few { order.steps ≤ 100000 }
-    ensures { FollowsTrace (record { image = order.image; steps = order.steps }) result (record { files = S.files shelf.old; shelf = S.faults shelf.old; shelf' = S.faults shelf.new; machine = H.machine machine.old; machine' = H.machine machine.new; lines = map (λ b. seen b) lines.old.items; lines' = map (λ b. seen b) lines.new.items; drives = map (λ d. kept d) drives.old.items; drives' = map (λ d. kept d) drives.new.items; out = O.printed out.old; out' = O.printed out.new }) }
+    ensures { FollowsTrace (record { image = order.image; steps = order.steps }) result (record { files = S.files shelf.old; shelf = S.faults shelf.old; shelf' = S.faults shelf.new; machine = H.machine machine.old; machine' = H.machine machine.new; lines = L.lines lines.old; lines' = L.lines lines.new; drives = map (λ d. kept d) drives.old.items; drives' = map (λ d. kept d) drives.new.items; out = O.printed out.old; out' = O.printed out.new }) }
 {
     let inputs = match solo_inputs(alloc, order, shelf) {
         Ok(inputs) => inputs,

@@ -1,4 +1,4 @@
-use Rattle.std.proofs.Common.{arith, ap, ◌∙◌}
+use Rattle.std.proofs.Common.{arith, ap}
 use Rattle.sys_dumps.proofs.AllDumps.{lies_within, next_shown}
 use Rattle.sys_dumps.proofs.all.dump_all.Goals as goal
 
@@ -15,7 +15,4 @@ dump_at-requires-clause-pages g c =
 pub loop-place-preserved : goal.loop-place-preserved
 loop-place-preserved g c =
     let memory = (g.H.Hardware.machine c.args.machine.now).memory in
-    record {
-      shows = next_shown memory c.args.rows.now c.args.guests.now c.loop-place.place _ _ _ c.loop-place-test.true c.requires.beside c.index-rows-place.is c.index-guests-place.is c.state.ensures c.requires.apart c.loop-place.invariant.shows c.dump_at.ensures.shows;
-      len = c.dump_at.ensures.len ∙ c.loop-place.invariant.len;
-    }
+    next_shown memory c.args.rows.now c.args.guests.now c.loop-place.place _ _ _ c.loop-place-test.true c.requires.beside c.index-rows-place.is c.index-guests-place.is c.state.ensures c.requires.apart c.loop-place.invariant c.dump_at.ensures

@@ -7,13 +7,12 @@ pub loop-screen-init : goal.loop-screen-init
 loop-screen-init g c = record {
   looked = looked_none _ _ _ _ c.deref_mut-screen-items.ensures.value;
   stays = refl;
-  len = refl;
 }
 
-pub echo_one-requires-clause-there : goal.echo_one-requires-clause-there
-echo_one-requires-clause-there g c =
+pub echo_one-requires : goal.echo_one-requires
+echo_one-requires g c =
     let low : c.loop-screen.screen-index < length c.loop-screen.screen-items = omega arith in
-    next_there _ _ _ _ _ _ _ c.requires.there low c.screen-item.is c.loop-screen.invariant.looked
+    next_there _ _ _ _ _ _ _ c.requires low c.screen-item.is c.loop-screen.invariant.looked
 
 pub returns-in_err-echo_one-clause-echoes : goal.returns-in_err-echo_one-clause-echoes
 returns-in_err-echo_one-clause-echoes g c =
@@ -42,7 +41,6 @@ loop-screen-preserved g c =
     record {
       looked = looked_next _ _ _ _ _ _ _ _ _ _ low c.screen-item.is before.looked (was_looked _ _ _ _ _ _ _ before.stays e.echoes e.same e.within) e.seen;
       stays = e.stays ∙ before.stays;
-      len = e.len ∙ before.len;
     }
 
 pub returns-clause-seen : goal.returns-clause-seen

@@ -25,7 +25,7 @@ pub put_audit-requires-clause-audit : goal.put_audit-requires-clause-audit
 put_audit-requires-clause-audit g c = (c.carry_out-taken.ensures.does []).holds.accepted.audit
 
 pub returns-clause-does : goal.returns-clause-does
-returns-clause-does g c = commands _ _ c.args.kernel.now _ _ _ _ _ _ _ c.args.round c.args.terminal c.args.text.now c.verdict-verdict.result c.carry_out-taken.result c.requires.holds c.requires.there c.verdict-verdict.ensures.value c.carry_out-taken.ensures.took c.carry_out-taken.ensures.does c.answer.ensures.shows c.put_audit.ensures.shows
+returns-clause-does g c = commands _ _ c.args.kernel.now _ _ _ _ _ _ _ c.args.round c.args.terminal c.args.text.now c.verdict-verdict.result c.carry_out-taken.result c.requires.holds c.requires.there c.verdict-verdict.ensures.value c.carry_out-taken.ensures.took c.carry_out-taken.ensures.does c.answer.ensures c.put_audit.ensures
 
 pub returns-clause-present : goal.returns-clause-present
 returns-clause-present g c = judged_so (g.H.Hardware.machine c.args.machine.now) c.args.kernel.now _ _ _ c.args.terminal c.args.text.now c.verdict-verdict.result c.verdict-verdict.ensures.value c.carry_out-taken.ensures.present

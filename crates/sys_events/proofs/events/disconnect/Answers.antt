@@ -13,7 +13,7 @@ say-requires-clause-there g c =
 pub returns-clause-does : goal.returns-clause-does
 returns-clause-does g c =
     let is = ap (λ (ts : List Terminal). slice_get ts c.args.terminal) (sym c.as_slice.ensures) ∙ c.terminal_at-row.ensures in
-    breaks c.args.kernel.now _ _ _ c.args.terminal c.terminal_at-row.result.now c.requires.there is c.say.ensures.shows
+    breaks c.args.kernel.now _ _ _ c.args.terminal c.terminal_at-row.result.now c.requires.there is c.say.ensures
 
 pub returns-clause-present : goal.returns-clause-present
 returns-clause-present g c = none_told c.args.kernel.now.guests.items

@@ -28,7 +28,7 @@ returns-in-Break-clause-happens g c =
     let e = c.args.event.now in
     let m = g.H.Hardware.machine c.args.machine.now in
     let at : place_of (is_named e.terminal) k.config.terminals ≡ Some c.in-Some.terminal = ap (λ (ts : List Terminal). place_of (is_named e.terminal) ts) (sym c.as_slice.ensures) ∙ sym c.terminal_named-place.ensures ∙ c.in-Some.is in
-    somewhere m m k c.disconnect.new.kernel _ _ c.args.round e c.in-Some.terminal Break at c.in-Break.is (c.disconnect.ensures.does c.args.round m c.requires.holds)
+    somewhere m m k c.disconnect.new.kernel _ _ c.args.round e c.in-Some.terminal Break at c.in-Break.is (c.disconnect.ensures.does c.args.round m c.requires)
 
 pub returns-in-Line-clause-happens : goal.returns-in-Line-clause-happens
 returns-in-Line-clause-happens g c =

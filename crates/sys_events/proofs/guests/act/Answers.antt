@@ -42,7 +42,7 @@ returns-in-Show-clause-does g c =
     let k = c.args.kernel.now in
     let m = g.H.Hardware.machine c.args.machine.now in
     as_command m _ k _ _ _ c.args.terminal c.args.command.now Show c.in-Show.is
-    (shows_all m k c.show_objects.new.marks _ _ c.args.terminal c.deref.result.now c.requires.holds c.deref.ensures.value c.show_objects.ensures.shows)
+    (shows_all m k c.show_objects.new.marks _ _ c.args.terminal c.deref.result.now c.requires.holds c.deref.ensures.value c.show_objects.ensures)
 
 pub returns-in-Start-clause-present : goal.returns-in-Start-clause-present
 returns-in-Start-clause-present g c = as_started _ _ _ c.in-Start.is c.start_at.ensures.present

@@ -1,4 +1,4 @@
-use Rattle.std.proofs.Common.{◌≡◌, map, take, vec_len}
+use Rattle.std.proofs.Common.{map, take}
 use Rattle.sys_events.specs.Saying.{puts_on, runs}
 use Rattle.sys_lines.specs.Shows.{Shows}
 use Rattle.sys_state.specs.State.{bytes_on}
@@ -8,6 +8,5 @@ use Rattle.sys_events.proofs.shows.show_guests.Given as goal
 -- so many are shown
 abbrev pub invariant-loop-place : goal.invariant-loop-place
 invariant-loop-place g l = record {
-  shows : Shows l.fn.marks l.marks (map (λ b. (goal.Line-dyn g (b.vtable, b.value)).seen b.value) l.fn.lines.items) (map (λ b. (goal.Line-dyn g (b.vtable, b.value)).seen b.value) l.lines.items) (λ k. bytes_on k (puts_on l.terminal.line (guest_lines l.terminal.class (take l.place l.rows) (take l.place (map runs l.guests)))));
-  len : vec_len l.lines ≡ vec_len l.fn.lines;
+  shows : Shows l.fn.marks l.marks (g.L.Lines.lines l.fn.lines) (g.L.Lines.lines l.lines) (λ k. bytes_on k (puts_on l.terminal.line (guest_lines l.terminal.class (take l.place l.rows) (take l.place (map runs l.guests)))));
 }

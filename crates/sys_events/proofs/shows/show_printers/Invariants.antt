@@ -1,4 +1,4 @@
-use Rattle.std.proofs.Common.{◌≡◌, map, take, vec_len}
+use Rattle.std.proofs.Common.{map, take}
 use Rattle.std.specs.Prelude.{filter}
 use Rattle.sys_events.specs.Saying.{puts_on}
 use Rattle.sys_lines.specs.Shows.{Shows}
@@ -10,6 +10,5 @@ use Rattle.sys_events.proofs.shows.show_printers.Given as goal
 -- so many are shown
 abbrev pub invariant-loop-row : goal.invariant-loop-row
 invariant-loop-row g l = record {
-  shows : Shows l.fn.marks l.marks (map (λ b. (goal.Line-dyn g (b.vtable, b.value)).seen b.value) l.fn.lines.items) (map (λ b. (goal.Line-dyn g (b.vtable, b.value)).seen b.value) l.lines.items) (λ k. bytes_on k (puts_on l.terminal.line (map printer_line (filter (λ v. does_flow v.class l.terminal.class) (take l.row-index l.rows)))));
-  len : vec_len l.lines ≡ vec_len l.fn.lines;
+  shows : Shows l.fn.marks l.marks (g.L.Lines.lines l.fn.lines) (g.L.Lines.lines l.lines) (λ k. bytes_on k (puts_on l.terminal.line (map printer_line (filter (λ v. does_flow v.class l.terminal.class) (take l.row-index l.rows)))));
 }

@@ -1,11 +1,11 @@
-use Rattle.std.proofs.Common.{◌∙◌, refl}
+use Rattle.std.proofs.Common.{◌∙◌, refl, sym}
 use Rattle.sys_runs.proofs.Whole.{as_long}
 use Rattle.sys_live.proofs.Living.{run_lived}
 use Rattle.sys_live.proofs.session.live.Goals as goal
 
 pub returns-clause-lives : goal.returns-clause-lives
 returns-clause-lives g c =
-    let lines = as_long _ c.power_down.new.lines c.args.lines.now (c.power_down.ensures.lines_len ∙ c.make_typed-went.ensures.len) in
+    let lines = g.met.L.Lines.count c.power_down.new.lines ∙ sym (g.met.L.Lines.count c.args.lines.now) in
     let drives = as_long _ c.power_down.new.drives c.args.drives.now (c.power_down.ensures.drives_len ∙ c.power_up.ensures.len) in (
       record { config = c.args.config; images = _; volumes = c.in_ok-system.ensures.powers.volumes; events = _; rounds = _ },
       refl,

@@ -1,4 +1,4 @@
-use Rattle.std.proofs.Common.{◌≡◌, ◌∙◌, arith, refl, rules, subst, sym}
+use Rattle.std.proofs.Common.{◌≡◌, ◌∙◌, arith, rules, subst, sym}
 use denote.Enum.Bare.{differs_false, differs_true, same_false, same_true}
 use Rattle.sys_live.proofs.Joining.{are_events}
 use Rattle.sys_live.proofs.Making.{all_made, between_first, between_next, last_made, none_made_more}
@@ -10,7 +10,6 @@ pub loop-made-init : goal.loop-made-init
 loop-made-init g c = record {
   between = between_first _ _ _ _ _ _ _ c.requires.rests c.requires.holds c.requires.stands c.requires.screens;
   holds = c.requires.holds;
-  len = refl;
 }
 
 pub make_next-is_cut-requires-clause-ordered : goal.make_next-is_cut-requires-clause-ordered
@@ -36,7 +35,6 @@ loop-made-preserved g c = record {
   between = between_next c.loop-made.made _ _ c.read_round-typed.result _ _ _ _ _ _ c.loop-made.is_cut c.make_next-is_cut-in-loop-made.result _ _ _ _ _ _ _ _ _ _ _ _ _ _ c.requires.fresh c.loop-made.invariant.between c.read_round-typed.ensures.types c.as_slice-events.result.now c.as_slice-events.ensures.value c.read_round-typed.ensures.round c.make_next-is_cut-in-loop-made.ensures.makes c.make_next-is_cut-in-loop-made.ensures.goes_on
       (differs_false the_type (search rules) _ _ (sym c.ne.ensures ∙ c.if-ne.false));
   holds = c.make_next-is_cut-in-loop-made.ensures.holds;
-  len = c.make_next-is_cut-in-loop-made.ensures.len ∙ c.loop-made.invariant.len;
 }
 
 pub returns-clause-makes : goal.returns-clause-makes

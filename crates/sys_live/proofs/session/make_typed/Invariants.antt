@@ -1,4 +1,3 @@
-use Rattle.std.proofs.Common.{◌≡◌, map, vec_len}
 use Rattle.sys_live.proofs.Making.{IsBetween, operator}
 use Rattle.sys_system.specs.System.{IsSystem}
 use Rattle.sys_live.proofs.session.make_typed.Given as goal
@@ -7,7 +6,6 @@ abbrev pub invariant-loop-made : goal.invariant-loop-made
 invariant-loop-made g l =
     let machine = g.H.Hardware.machine in
     record {
-      between : IsBetween l.made l.count (operator (g.K.Keyboard.keys l.fn.keyboard) (g.K.Keyboard.keys l.keyboard) (g.E.Sink.printed l.fn.errors) (g.E.Sink.printed l.errors)) l.is_cut (machine l.fn.machine) (machine l.machine) l.fn.system l.system (map (λ b. (goal.Line-dyn g (b.vtable, b.value)).seen b.value) l.fn.lines.items) (map (λ b. (goal.Line-dyn g (b.vtable, b.value)).seen b.value) l.lines.items) l.screens.items (g.O.Sink.printed l.fn.out) (g.O.Sink.printed l.out);
+      between : IsBetween l.made l.count (operator (g.K.Keyboard.keys l.fn.keyboard) (g.K.Keyboard.keys l.keyboard) (g.E.Sink.printed l.fn.errors) (g.E.Sink.printed l.errors)) l.is_cut (machine l.fn.machine) (machine l.machine) l.fn.system l.system (g.L.Lines.lines l.fn.lines) (g.L.Lines.lines l.lines) l.screens.items (g.O.Sink.printed l.fn.out) (g.O.Sink.printed l.out);
       holds : IsSystem l.system;
-      len : vec_len l.lines ≡ vec_len l.fn.lines;
     }

@@ -1,12 +1,11 @@
-use Rattle.std.proofs.Common.{◌≡◌, ◌∙◌, ap, arith}
+use Rattle.std.proofs.Common.{◌≡◌, ◌∙◌, ap, arith, sym}
 use Rattle.std.proofs.lemmas.Result.{err_from_is_err_and}
 use Rattle.sys_runs.proofs.GivenRuns.{not_run_with, run_made_with}
-use Rattle.sys_runs.proofs.Whole.{as_long}
 use Rattle.sys_system.specs.System.{System}
 use Rattle.sys_runs.proofs.given.run_with.Goals as goal
 
-pub returns-in_err-system-clause-runs : goal.returns-in_err-system-clause-runs
-returns-in_err-system-clause-runs g c drives =
+pub returns-in_err-system : goal.returns-in_err-system
+returns-in_err-system g c drives =
     let p = err_from_is_err_and c.from_residual.result c.from_residual.ensures.1 in
     rw (p.1, p.2) (not_run_with c.args.config _ _ c.args.events.now c.args.rounds _ _ _ drives _ c.in_err-system.ensures.powers c.power_up_with.ensures.alone)
 
@@ -24,10 +23,10 @@ make_rounds-requires-clause-holds g c = c.in_ok-system.ensures.holds
 pub make_rounds-requires-clause-stands : goal.make_rounds-requires-clause-stands
 make_rounds-requires-clause-stands g c = c.in_ok-system.ensures.powers.powered.stands
 
-pub show_dumps-requires-clause-stands : goal.show_dumps-requires-clause-stands
-show_dumps-requires-clause-stands g c = c.make_rounds.ensures.makes.goes.stands
+pub show_dumps-requires : goal.show_dumps-requires
+show_dumps-requires g c = c.make_rounds.ensures.makes.goes.stands
 
-pub returns-clause-runs : goal.returns-clause-runs
-returns-clause-runs g c drives =
-    let size = as_long _ c.show_dumps.new.lines c.args.lines.now (c.show_dumps.ensures.len ∙ c.make_rounds.ensures.len) in
-    run_made_with c.args.config _ _ c.args.events.now c.args.rounds _ _ _ _ _ _ _ _ _ drives _ c.in_ok-system.ensures.powers c.power_up_with.ensures.alone c.make_rounds.ensures.makes c.show_dumps.ensures.shows c.in_ok-system.ensures.present c.make_rounds.ensures.holds c.counts.ensures c.failed.ensures size
+pub returns : goal.returns
+returns g c drives =
+    let size = g.met.L.Lines.count c.show_dumps.new.lines ∙ sym (g.met.L.Lines.count c.args.lines.now) in
+    run_made_with c.args.config _ _ c.args.events.now c.args.rounds _ _ _ _ _ _ _ _ _ drives _ c.in_ok-system.ensures.powers c.power_up_with.ensures.alone c.make_rounds.ensures.makes c.show_dumps.ensures c.in_ok-system.ensures.present c.make_rounds.ensures.holds c.counts.ensures c.failed.ensures size

@@ -1,4 +1,4 @@
-use Rattle.std.proofs.Common.{◌≡◌, ◌∙◌, ap, arith}
+use Rattle.std.proofs.Common.{◌≡◌, ◌∙◌, ap, arith, sym}
 use Rattle.std.proofs.lemmas.Result.{err_from_is_err_and}
 use Rattle.sys_runs.proofs.Resumed.{not_gone_on}
 use Rattle.sys_runs.proofs.Whole.{as_long, fits_still, rounds_made}
@@ -36,6 +36,6 @@ power_down-requires-clause-fit g c =
 pub returns-clause-goes_on : goal.returns-clause-goes_on
 returns-clause-goes_on g c =
     let p = c.in_ok-system.ensures.resumes in
-    let lines = as_long _ c.power_down.new.lines c.args.lines.now (c.power_down.ensures.lines_len ∙ c.make_rounds.ensures.len) in
+    let lines = g.met.L.Lines.count c.power_down.new.lines ∙ sym (g.met.L.Lines.count c.args.lines.now) in
     let drives = as_long _ c.power_down.new.drives c.args.drives.now c.power_down.ensures.drives_len in
     rounds_made (snapshot_moment c.args.snap) c.args.events.now c.args.rounds _ _ _ _ _ _ _ _ _ _ _ c.requires.held.config p.1 p.0 c.resume.ensures.alone c.make_rounds.ensures.makes c.power_down.ensures.ends c.in_ok-system.ensures.present _ c.make_rounds.ensures.holds c.counts.ensures c.failed.ensures lines drives

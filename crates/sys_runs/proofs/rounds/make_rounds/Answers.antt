@@ -1,4 +1,4 @@
-use Rattle.std.proofs.Common.{◌∙◌, ◌≡◌, ◌+◌, ap, subst, refl, arith}
+use Rattle.std.proofs.Common.{◌≡◌, ◌+◌, ap, subst, arith}
 use Rattle.sys_runs.proofs.Many.{more_made, none_made}
 use Rattle.sys_runs.proofs.Splitting.{Spent, spent_next, spent_up_to, these_are, these_of}
 use Rattle.sys_state.specs.Run.{events_of}
@@ -16,7 +16,6 @@ loop-made-init g c =
       spent = subst (λ n. Spent n es rest) none (spent_up_to before es rest c.requires.ordered c.later_than-rest.ensures);
       makes = none_made es _ _ _ c.requires.rests c.requires.holds.trail c.requires.stands;
       holds = c.requires.holds;
-      len = refl;
     }
 
 pub make_round-requires-clause-rests : goal.make_round-requires-clause-rests
@@ -57,5 +56,4 @@ loop-made-preserved g c =
       spent = subst (λ n. Spent n es c.split_at.result.1.now) next (spent_next (before + made) own es rest _ _ c.loop-made.invariant.spent c.count_up_to-own.ensures front back);
       makes = more_made made es _ _ _ _ _ _ _ _ _ _ c.loop-made.invariant.makes (subst (λ k. these ≡ events_of ((k + made) + 1) es) first are) (subst (λ k. AreOf ((k + made) + 1) these) first of) c.make_round.ensures.makes;
       holds = c.make_round.ensures.holds;
-      len = c.make_round.ensures.len ∙ c.loop-made.invariant.len;
     }

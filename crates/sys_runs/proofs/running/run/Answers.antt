@@ -1,4 +1,4 @@
-use Rattle.std.proofs.Common.{◌≡◌, ◌∙◌, ap, arith}
+use Rattle.std.proofs.Common.{◌≡◌, ◌∙◌, ap, arith, sym}
 use Rattle.std.proofs.lemmas.Result.{err_from_is_err_and}
 use Rattle.sys_runs.proofs.Faults.{stays_down}
 use Rattle.sys_runs.proofs.Whole.{as_long, fits_as_read, fits_still, run_made}
@@ -35,6 +35,6 @@ power_down-requires-clause-fit g c =
 pub returns-clause-runs : goal.returns-clause-runs
 returns-clause-runs g c =
     let p = c.in_ok-system.ensures.powers in
-    let lines = as_long _ c.power_down.new.lines c.args.lines.now (c.power_down.ensures.lines_len ∙ c.make_rounds.ensures.len) in
+    let lines = g.met.L.Lines.count c.power_down.new.lines ∙ sym (g.met.L.Lines.count c.args.lines.now) in
     let drives = as_long _ c.power_down.new.drives c.args.drives.now (c.power_down.ensures.drives_len ∙ c.power_up.ensures.len) in
     (p.volumes, run_made c.args.config _ c.args.events.now c.args.rounds _ _ _ _ _ _ _ _ _ _ _ _ c.requires.accepted p c.power_up.ensures.alone c.make_rounds.ensures.makes c.power_down.ensures.ends c.in_ok-system.ensures.present _ c.make_rounds.ensures.holds c.counts.ensures c.failed.ensures lines drives)

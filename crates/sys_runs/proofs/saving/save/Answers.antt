@@ -2,7 +2,6 @@ use Rattle.std.proofs.Common.{◌≡◌, ◌+◌, ◌∙◌, refl, sym, ap, arit
 use Rattle.std.proofs.lemmas.Result.{err_from_is_err_and}
 use Rattle.sys_runs.proofs.Faults.{stays_down}
 use Rattle.sys_runs.proofs.SavedRuns.{run_saved}
-use Rattle.sys_runs.proofs.Whole.{as_long}
 use Rattle.sys_system.specs.System.{System}
 use Rattle.sys_runs.proofs.saving.save.Goals as goal
 
@@ -45,5 +44,5 @@ save-requires-clause-stands g c = c.make_rounds.ensures.makes.goes.stands
 pub returns-clause-saves : goal.returns-clause-saves
 returns-clause-saves g c =
     let p = c.in_ok-system.ensures.powers in
-    let lines = as_long _ c.make_rounds.new.lines c.args.lines.now c.make_rounds.ensures.len in
+    let lines = g.met.L.Lines.count c.make_rounds.new.lines ∙ sym (g.met.L.Lines.count c.args.lines.now) in
     (p.volumes, run_saved c.args.config _ c.args.events.now c.args.rounds _ _ _ _ _ _ _ _ _ c.requires.accepted p c.power_up.ensures.alone c.make_rounds.ensures.makes c.in_ok-system.ensures.present c.args.text.now _ _ _ c.save.result c.make_rounds.ensures.holds c.requires.few lines c.failed-failed.ensures c.is_err-is_cut.ensures.value c.save.ensures.shown c.save.ensures.sound c.save.ensures.long)

@@ -1,4 +1,4 @@
-use Rattle.std.proofs.Common.{◌≡◌, ◌∙◌, [], ap, subst, refl}
+use Rattle.std.proofs.Common.{◌≡◌, ◌∙◌, [], ap, subst, refl, sym}
 use Rattle.std.proofs.lemmas.Result.{err_from_is_err_and}
 use Rattle.sys_lines.specs.ShownSince.{ShownSince}
 use Rattle.sys_state.specs.Guests.{powered}
@@ -45,7 +45,7 @@ returns-clause-traces g c row image one is =
     let none = none_left config own steps [] _ _ _ _ _ _ first quantum (ap (λ (s : System). s.config) p.powered.system) b _ _ _ c.requires.one plays in
     let rests = ap (λ (s : System). s.turns.is_begun) p.powered.system in
     let rounds = one_round steps _ _ _ _ _ _ _ _ _ _ _ _ c.in_ok-system.ensures.holds p.powered.stands rests b plays none c.end_round.ensures.ends c.begin_round.ensures.present c.trace_turn-is_cut.ensures.holds c.end_round.ensures.present in
-    let lines = as_long _ c.power_down.new.lines c.args.lines.now (c.power_down.ensures.lines_len ∙ c.end_round.ensures.len ∙ c.trace_turn-is_cut.ensures.len ∙ c.begin_round.ensures.len) in
+    let lines = g.met.L.Lines.count c.power_down.new.lines ∙ sym (g.met.L.Lines.count c.args.lines.now) in
     let drives = as_long _ c.power_down.new.drives c.args.drives.now (c.power_down.ensures.drives_len ∙ c.power_up.ensures.len) in
     let made = run_made config _ [] 1 _ _ _ _ _ _ _ _ _ _ _ _ c.requires.accepted p c.power_up.ensures.alone rounds c.power_down.ensures.ends c.in_ok-system.ensures.present (record { counts = c.counts.result; failed = c.failed.result }) c.end_round.ensures.holds c.counts.ensures c.failed.ensures lines drives in
     let out = g.O.Sink.printed c.args.out.now in

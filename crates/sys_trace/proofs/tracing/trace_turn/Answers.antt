@@ -1,4 +1,4 @@
-use Rattle.std.proofs.Common.{◌≡◌, ◌∙◌, ◌+◌, ◌++◌, List, ℕ, sym, ap, subst, refl, arith}
+use Rattle.std.proofs.Common.{◌≡◌, ◌∙◌, ◌+◌, ◌++◌, List, ℕ, sym, ap, subst, arith}
 use Rattle.sys_lines.specs.ShownSince.{ShownSince}
 use Rattle.sys_system.proofs.Playing.{plays_none}
 use Rattle.sys_trace.proofs.Turns.{first_later, later, nothing_traced, single_more, step_can, trace_more}
@@ -12,7 +12,6 @@ loop-made-init g c = record {
   plays = plays_none _ _ _ c.requires.holds c.requires.stands c.requires.can.begun;
   shown = λ h here. nothing_traced h _;
   holds = c.requires.holds;
-  len = refl;
 }
 
 pub trace_step-line-requires-clause-can : goal.trace_step-line-requires-clause-can
@@ -36,5 +35,4 @@ loop-made-preserved g c =
           let text : trace_of made h ++ c.bytes.result.now ≡ trace_of (made + 1) h = ap (λ (bs : List ℕ). trace_of made h ++ bs) line ∙ sym (trace_more made h) in
           subst (λ (bs : List ℕ). ShownSince c.put_next-is_cut.result (g.O.Sink.printed c.args.out.now) (g.O.Sink.printed c.put_next-is_cut.new.out) bs) text (c.put_next-is_cut.ensures (g.O.Sink.printed c.args.out.now) (trace_of made h) (before.shown h here));
       holds = c.trace_step-line.ensures.holds;
-      len = c.trace_step-line.ensures.len ∙ before.len;
     }

@@ -1,4 +1,4 @@
-use Rattle.std.proofs.Common.{◌≡◌, map, vec_len}
+use Rattle.std.proofs.Common.{◌≡◌}
 use Rattle.std.specs.Prelude.{Some, slice_get}
 use Rattle.sys_guests.specs.Layout.{guests_in}
 use Rattle.sys_lines.specs.ShownSince.{ShownSince}
@@ -14,8 +14,7 @@ invariant-loop-made g l =
     let machine = g.H.Hardware.machine in
     let printed = g.O.Sink.printed in
     record {
-      plays : Plays (single_steps l.made) (machine l.fn.machine) l.fn.system (map (λ b. (goal.Line-dyn g (b.vtable, b.value)).seen b.value) l.fn.lines.items) (machine l.machine) l.system (map (λ b. (goal.Line-dyn g (b.vtable, b.value)).seen b.value) l.lines.items);
+      plays : Plays (single_steps l.made) (machine l.fn.machine) l.fn.system (g.L.Lines.lines l.fn.lines) (machine l.machine) l.system (g.L.Lines.lines l.lines);
       shown : (h : Guest) → slice_get (guests_in (machine l.fn.machine).memory l.fn.system.guests) 0 ≡ Some h → ShownSince l.is_cut (printed l.fn.out) (printed l.out) (trace_of l.made h);
       holds : IsSystem l.system;
-      len : vec_len l.lines ≡ vec_len l.fn.lines;
     }

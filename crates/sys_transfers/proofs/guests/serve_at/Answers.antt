@@ -27,11 +27,11 @@ serve_guest-requires-clause-mounted g c =
 pub serve_guest-requires-clause-printers : goal.serve_guest-requires-clause-printers
 serve_guest-requires-clause-printers g c = c.requires.accepted.printers
 
-pub returns-clause-serves : goal.returns-clause-serves
-returns-clause-serves g c =
+pub returns : goal.returns
+returns g c =
     let none : List (Option Mount) = [] in
     let units : List (Option Mount) = slice_index_or c.args.mounts.now c.args.place none in
     let units_is : units ≡ slice_index_or c.args.mounts.now c.args.place units = read_there c.args.mounts.now c.args.place none (omega (arith, c.requires.there, c.requires.accepted.few_guests, c.told-mounts)) in
     let row = c.index-as_slice-place.result in
     let row_is : row ≡ slice_index_or c.args.config.now.guests c.args.place row = c.index-as_slice-place.is ∙ ap (λ (xs : List GuestRow). slice_index_or xs c.args.place row) c.as_slice.ensures in
-    served_at c.args.config.now c.args.mounts.now c.args.place row units c.args.volumes.now (g.H.Hardware.machine c.args.machine.now) c.args.guests.now.items c.index_mut-guest.result.now c.args.marks.now _ c.serve_guest.new.volumes (g.H.Hardware.machine c.serve_guest.new.machine) c.serve_guest.new.guest c.serve_guest.new.marks _ c.requires.there row_is (omega (arith, c.requires.there, c.requires.accepted.few_guests, c.told-mounts)) units_is c.index_mut-guest.ensures.value c.requires.placed c.serve_guest.ensures.serves
+    served_at c.args.config.now c.args.mounts.now c.args.place row units c.args.volumes.now (g.H.Hardware.machine c.args.machine.now) c.args.guests.now.items c.index_mut-guest.result.now c.args.marks.now _ c.serve_guest.new.volumes (g.H.Hardware.machine c.serve_guest.new.machine) c.serve_guest.new.guest c.serve_guest.new.marks _ c.requires.there row_is (omega (arith, c.requires.there, c.requires.accepted.few_guests, c.told-mounts)) units_is c.index_mut-guest.ensures.value c.requires.placed c.serve_guest.ensures

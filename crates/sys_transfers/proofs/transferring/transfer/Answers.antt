@@ -1,9 +1,9 @@
-use Rattle.std.proofs.Common.{◌∙◌, arith, refl}
+use Rattle.std.proofs.Common.{arith, refl}
 use Rattle.sys_transfers.proofs.Rounds.{all_guests_served, all_places, all_present, config_same, loop_there, mounts_same, none_served, one_more_of, placed_same, sizes_kept, there_same}
 use Rattle.sys_transfers.proofs.transferring.transfer.Goals as goal
 
 pub loop-place-init : goal.loop-place-init
-loop-place-init g c = record { so_far = none_served c.args.kernel.now c.args.volumes.now (g.H.Hardware.machine c.args.machine.now) _ c.requires.holds.placed; rest = refl; len = refl }
+loop-place-init g c = record { so_far = none_served c.args.kernel.now c.args.volumes.now (g.H.Hardware.machine c.args.machine.now) _ c.requires.holds.placed; rest = refl }
 
 pub serve_at-requires-clause-accepted : goal.serve_at-requires-clause-accepted
 serve_at-requires-clause-accepted g c = config_same c.args.kernel.now c.loop-place.kernel c.loop-place.invariant.rest c.requires.holds.accepted
@@ -19,9 +19,8 @@ serve_at-requires-clause-mounted g c = mounts_same c.args.kernel.now c.loop-plac
 
 pub loop-place-preserved : goal.loop-place-preserved
 loop-place-preserved g c = record {
-  so_far = one_more_of c.args.kernel.now c.loop-place.kernel c.loop-place.invariant.rest c.args.volumes.now (g.H.Hardware.machine c.args.machine.now) _ c.loop-place.place c.loop-place.volumes c.serve_at.new.volumes (g.H.Hardware.machine c.loop-place.machine) _ (g.H.Hardware.machine c.serve_at.new.machine) c.serve_at.new.guests.items c.serve_at.new.marks _ (loop_there c.args.kernel.now c.loop-place.kernel c.loop-place.invariant.rest (g.H.Hardware.machine c.args.machine.now).memory c.loop-place.place c.requires.holds (omega arith)) c.loop-place.invariant.so_far c.serve_at.ensures.serves;
+  so_far = one_more_of c.args.kernel.now c.loop-place.kernel c.loop-place.invariant.rest c.args.volumes.now (g.H.Hardware.machine c.args.machine.now) _ c.loop-place.place c.loop-place.volumes c.serve_at.new.volumes (g.H.Hardware.machine c.loop-place.machine) _ (g.H.Hardware.machine c.serve_at.new.machine) c.serve_at.new.guests.items c.serve_at.new.marks _ (loop_there c.args.kernel.now c.loop-place.kernel c.loop-place.invariant.rest (g.H.Hardware.machine c.args.machine.now).memory c.loop-place.place c.requires.holds (omega arith)) c.loop-place.invariant.so_far c.serve_at.ensures;
   rest = λ i. record (c.loop-place.invariant.rest i) { guests = c.serve_at.new.guests; marks = c.serve_at.new.marks };
-  len = c.serve_at.ensures.len ∙ c.loop-place.invariant.len;
 }
 
 pub returns-clause-leads : goal.returns-clause-leads

@@ -1,4 +1,4 @@
-use Rattle.std.proofs.Common.{◌≡◌, false, vec_len}
+use Rattle.std.proofs.Common.{◌≡◌, false}
 use Rattle.sys_system.specs.System.{IsInMachine}
 use Rattle.test_sys_stage.proofs.running.make_rounds.Given as goal
 
@@ -8,5 +8,4 @@ invariant-loop-number g l = record {
   rounds : l.system.rounds ≡ l.number;
   rests : l.system.turns.is_begun ≡ false;
   stands : IsInMachine (g.H.Hardware.machine l.machine).memory l.system;
-  len : vec_len l.lines ≡ vec_len l.fn.lines;
 }

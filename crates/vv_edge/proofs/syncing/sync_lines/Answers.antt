@@ -1,5 +1,5 @@
-use Rattle.std.proofs.Common.{◌≡◌, ◌≤◌, ◌+◌, length, is_err, sym, ◌∙◌, ap, subst, arith}
-use Rattle.vv_edge.proofs.Devices.{all_lines, as_few, inside, one_line}
+use Rattle.std.proofs.Common.{◌≡◌, ◌+◌, is_err, refl, sym, ◌∙◌, ap, subst, arith}
+use Rattle.vv_edge.proofs.Devices.{all_lines, one_line}
 use Rattle.vv_edge.proofs.Synced.{AreSynced, next_synced}
 use Rattle.vv_edge.specs.Syncing.{IsStillLine, first_fault}
 use Rattle.vv_io.specs.Lines.{unseen}
@@ -11,15 +11,10 @@ loop-k-preserved g c =
     let before = c.loop-k.invariant in
     let failed = c.loop-k.failed in
     let r = c.sync_line.result in
-    let one = one_line k c.from.result _ _ r c.from.ensures (inside _ c.loop-k.lines.items k (omega (arith, c.loop-k-test.true, before.len, c.len.ensures, c.min-count.ensures))) c.sync_line.ensures.syncs in
-    let next = next_synced unseen _ IsStillLine k _ _ _ failed (is_err r) one before.synced in
+    let one = one_line k k _ _ r refl (omega (arith, c.loop-k-test.true, g.met.L.Lines.count c.loop-k.lines)) c.sync_line.ensures in
+    let next = next_synced unseen _ IsStillLine k _ _ _ failed (is_err r) one before in
     let first : c.first_fault-failed.result ≡ first_fault failed k (is_err r) = c.first_fault-failed.ensures ∙ ap (first_fault failed k) c.is_err-fails.ensures.value in
-    record {
-      synced = subst (AreSynced unseen _ IsStillLine (k + 1) _ _) (sym first) next;
-      len = c.sync_line.ensures.len ∙ before.len;
-    }
+    subst (AreSynced unseen _ IsStillLine (k + 1) _ _) (sym first) next
 
-pub returns-clause-syncs : goal.returns-clause-syncs
-returns-clause-syncs g c =
-    let few : c.loop-k.k ≤ length c.args.lines.now.items = omega (arith, c.loop-k.auto.k-end, c.len.ensures, c.min-count.ensures) in
-    all_lines c.loop-k.k _ _ c.loop-k.failed (as_few _ c.args.lines.now.items c.loop-k.k few) c.loop-k.invariant.synced
+pub returns : goal.returns
+returns g c = all_lines c.loop-k.k _ _ c.loop-k.failed (omega (arith, c.loop-k.auto.k-end, g.met.L.Lines.count c.args.lines.now)) c.loop-k.invariant

@@ -15,8 +15,8 @@ run_with-ran-requires-clause-few g c =
 pub answer-requires : goal.answer-requires
 answer-requires g c =
     let twenty : c.in-Ok.work.rounds ≡ 20 = ap (λ (x : Generated). x.rounds) c.in-Ok.ensures.exact ∙ twenty_rounds c.args.number in
-    few_steps _ _ _ _ _ c.run_with-ran.result _ twenty (c.run_with-ran.ensures.runs [])
+    few_steps _ _ _ _ _ c.run_with-ran.result _ twenty (c.run_with-ran.ensures [])
 
 pub returns : goal.returns
 returns g c drives = as_drawn (generated c.in-Ok.work) _ _ _ _ c.args.number c.run_with-ran.result c.in-Ok.ensures.exact c.in-Ok.ensures.accepted
-    (runs_over c.in-Ok.work _ _ _ _ _ c.as_slice.ensures.value c.as_slice-2.ensures.value c.as_slice-3.ensures.value (c.run_with-ran.ensures.runs drives)) c.answer.ensures
+    (runs_over c.in-Ok.work _ _ _ _ _ c.as_slice.ensures.value c.as_slice-2.ensures.value c.as_slice-3.ensures.value (c.run_with-ran.ensures drives)) c.answer.ensures

@@ -9,8 +9,8 @@ use Rattle.sys_system.specs.System.{IsInMachine, System, all_turns, system_state
 use Rattle.sys_system.specs.declared.parts.Parts.{Parts}
 use Rattle.sys_system.proofs.system.System.begin_round.Goals as goal
 
-pub happen-requires-clause-holds : goal.happen-requires-clause-holds
-happen-requires-clause-holds g c = kernel_holds _ c.self.inside.parts c.self.invariant (subst (IsInMachine (g.H.Hardware.machine c.args.machine.now).memory) (sym c.self.view_is) c.requires.stands)
+pub happen-requires : goal.happen-requires
+happen-requires g c = kernel_holds _ c.self.inside.parts c.self.invariant (subst (IsInMachine (g.H.Hardware.machine c.args.machine.now).memory) (sym c.self.view_is) c.requires.stands)
 
 pub returns-clause-begins : goal.returns-clause-begins
 returns-clause-begins g c =

@@ -1,4 +1,4 @@
-use Rattle.std.proofs.Common.{◌∙◌, ◌++◌, ◌∷◌, [], sym, ap, subst}
+use Rattle.std.proofs.Common.{◌++◌, ◌∷◌, [], sym, ap, subst}
 use Rattle.sys_objects.specs.Condition.{IsConfig}
 use Rattle.sys_objects.specs.declared.records.Config.{Config}
 use Rattle.sys_system.proofs.NextTurn.{next_can, none_next}
@@ -10,7 +10,7 @@ use Rattle.sys_system.proofs.system.System.make_round.Goals as goal
 pub loop-one-init : goal.loop-one-init
 loop-one-init g c =
     let b = c.begin_round.ensures.begins in
-    record { plays = ([], plays_none _ _ _ c.begin_round.ensures.holds b.goes.stands (ap (λ (s : System). s.turns.is_begun) b.system)); holds = c.begin_round.ensures.holds; len = c.begin_round.ensures.len }
+    record { plays = ([], plays_none _ _ _ c.begin_round.ensures.holds b.goes.stands (ap (λ (s : System). s.turns.is_begun) b.system)); holds = c.begin_round.ensures.holds }
 
 pub slice-requires-clause-can : goal.slice-requires-clause-can
 slice-requires-clause-can g c = (next_can c.loop-one.self (slice_of_time c.in-Some.one) c.loop-one.invariant.holds (sym c.in-Some.ensures)).0
@@ -22,7 +22,7 @@ pub loop-one-preserved : goal.loop-one-preserved
 loop-one-preserved g c =
     let can = (next_can c.loop-one.self (slice_of_time c.in-Some.one) c.loop-one.invariant.holds (sym c.in-Some.ensures)).0 in
     let (xs, plays) = c.loop-one.invariant.plays in
-    record { plays = (xs ++ slice_of_time c.in-Some.one ∷ [], plays_more xs (slice_of_time c.in-Some.one) _ _ _ _ _ _ _ _ _ plays can c.slice.ensures.takes c.slice.ensures.pays); holds = c.slice.ensures.holds; len = c.slice.ensures.len ∙ c.loop-one.invariant.len }
+    record { plays = (xs ++ slice_of_time c.in-Some.one ∷ [], plays_more xs (slice_of_time c.in-Some.one) _ _ _ _ _ _ _ _ _ plays can c.slice.ensures.takes c.slice.ensures.pays); holds = c.slice.ensures.holds }
 
 pub loop-one-smaller : goal.loop-one-smaller
 loop-one-smaller g c =

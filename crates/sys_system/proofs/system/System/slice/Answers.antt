@@ -13,8 +13,8 @@ use Rattle.sys_system.specs.System.{IsInMachine, System}
 use Rattle.sys_system.specs.declared.parts.Parts.{Parts}
 use Rattle.sys_system.proofs.system.System.slice.Goals as goal
 
-pub show_each-requires-clause-there : goal.show_each-requires-clause-there
-show_each-requires-clause-there g c =
+pub show_each-requires : goal.show_each-requires
+show_each-requires g c =
     let k = c.self.inside.parts.kernel in
     let console : c.console_of-console.result ≡ console_of k.config.terminals k.server.at c.args.guest = c.console_of-console.ensures ∙ ap (λ (ts : List Terminal). console_of ts k.server.at c.args.guest) c.as_slice-terminals.ensures in
     subst (λ (o : Option ℕ). IfSome o (λ line. line < 32)) (sym console) (small_line k.config.terminals k.server.at c.args.guest c.self.invariant.system.accepted.terminals)
@@ -29,7 +29,7 @@ returns-clause-takes g c =
     let can = subst (λ (x : System). CanTake x slice) (sym c.self.view_is) c.requires.can in
     let after : Parts = record s { kernel = record k { guests = c.advance_at-counts.new.guests; marks = c.show_each.new.marks; port = c.advance_at-counts.new.port }; turns = c.take.new.self; counts = c.add.new.total } in
     let console : c.console_of-console.result ≡ console_of k.config.terminals k.server.at c.args.guest = c.console_of-console.ensures ∙ ap (λ (ts : List Terminal). console_of ts k.server.at c.args.guest) c.as_slice-terminals.ensures in
-    let shows = shows_same _ _ _ _ _ _ (λ line. ap (λ (bytes : List ℕ). only_on c.console_of-console.result bytes line) c.bytes.ensures.value) c.show_each.ensures.shows in
+    let shows = shows_same _ _ _ _ _ _ (λ line. ap (λ (bytes : List ℕ). only_on c.console_of-console.result bytes line) c.bytes.ensures.value) c.show_each.ensures in
     takes_of c.self.view_is
     (taken piece _ _ s after _ _ _ _ c.console_of-console.result c.self.invariant stands can (record { config = refl; server = refl; volumes = refl; rounds = refl; drives = refl }) c.advance_at-counts.ensures.advances c.add.ensures console shows c.take.ensures).0
 
@@ -43,7 +43,7 @@ invariant_of-self g c =
     let can = subst (λ (x : System). CanTake x slice) (sym c.self.view_is) c.requires.can in
     let after : Parts = record s { kernel = record k { guests = c.advance_at-counts.new.guests; marks = c.show_each.new.marks; port = c.advance_at-counts.new.port }; turns = c.take.new.self; counts = c.add.new.total } in
     let console : c.console_of-console.result ≡ console_of k.config.terminals k.server.at c.args.guest = c.console_of-console.ensures ∙ ap (λ (ts : List Terminal). console_of ts k.server.at c.args.guest) c.as_slice-terminals.ensures in
-    let shows = shows_same _ _ _ _ _ _ (λ line. ap (λ (bytes : List ℕ). only_on c.console_of-console.result bytes line) c.bytes.ensures.value) c.show_each.ensures.shows in
+    let shows = shows_same _ _ _ _ _ _ (λ line. ap (λ (bytes : List ℕ). only_on c.console_of-console.result bytes line) c.bytes.ensures.value) c.show_each.ensures in
     (taken piece _ _ s after _ _ _ _ c.console_of-console.result c.self.invariant stands can (record { config = refl; server = refl; volumes = refl; rounds = refl; drives = refl }) c.advance_at-counts.ensures.advances c.add.ensures console shows c.take.ensures).1
 
 pub returns-clause-holds : goal.returns-clause-holds
@@ -56,7 +56,7 @@ returns-clause-holds g c =
     let can = subst (λ (x : System). CanTake x slice) (sym c.self.view_is) c.requires.can in
     let after : Parts = record s { kernel = record k { guests = c.advance_at-counts.new.guests; marks = c.show_each.new.marks; port = c.advance_at-counts.new.port }; turns = c.take.new.self; counts = c.add.new.total } in
     let console : c.console_of-console.result ≡ console_of k.config.terminals k.server.at c.args.guest = c.console_of-console.ensures ∙ ap (λ (ts : List Terminal). console_of ts k.server.at c.args.guest) c.as_slice-terminals.ensures in
-    let shows = shows_same _ _ _ _ _ _ (λ line. ap (λ (bytes : List ℕ). only_on c.console_of-console.result bytes line) c.bytes.ensures.value) c.show_each.ensures.shows in
+    let shows = shows_same _ _ _ _ _ _ (λ line. ap (λ (bytes : List ℕ). only_on c.console_of-console.result bytes line) c.bytes.ensures.value) c.show_each.ensures in
     (taken piece _ _ s after _ _ _ _ c.console_of-console.result c.self.invariant stands can (record { config = refl; server = refl; volumes = refl; rounds = refl; drives = refl }) c.advance_at-counts.ensures.advances c.add.ensures console shows c.take.ensures).1.system
 
 pub returns-clause-pays : goal.returns-clause-pays

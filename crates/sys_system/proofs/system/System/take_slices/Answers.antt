@@ -15,7 +15,7 @@ use Rattle.sys_system.proofs.system.System.take_slices.Goals as goal
 pub loop-one-init : goal.loop-one-init
 loop-one-init g c =
     let b = c.begin_round.ensures.begins in
-    record { plays = plays_none _ _ _ c.begin_round.ensures.holds b.goes.stands (ap (λ (s : System). s.turns.is_begun) b.system); holds = c.begin_round.ensures.holds; len = c.begin_round.ensures.len }
+    record { plays = plays_none _ _ _ c.begin_round.ensures.holds b.goes.stands (ap (λ (s : System). s.turns.is_begun) b.system); holds = c.begin_round.ensures.holds }
 
 pub slice-requires-clause-can : goal.slice-requires-clause-can
 slice-requires-clause-can g c =
@@ -54,7 +54,7 @@ loop-one-preserved g c =
     let same : length s1.config.guests ≡ length rows = ap (λ (y : Config). length y.guests) config in
     let there : slice.guest < length s1.guests = omega (arith, c.requires.there i none (omega arith), long, same, c.begin_round.ensures.holds.many) in
     let can = slice_can c.args.slices.now i slice _ _ s1 c.loop-one.self _ _ c.begin_round.ensures.holds c.loop-one.invariant.holds first quanta (omega arith) read there c.loop-one.invariant.plays in
-    record { plays = plays_next c.args.slices.now i slice _ _ _ _ _ _ _ _ _ (omega arith) read c.loop-one.invariant.plays can c.slice.ensures.takes c.slice.ensures.pays; holds = c.slice.ensures.holds; len = c.slice.ensures.len ∙ c.loop-one.invariant.len }
+    record { plays = plays_next c.args.slices.now i slice _ _ _ _ _ _ _ _ _ (omega arith) read c.loop-one.invariant.plays can c.slice.ensures.takes c.slice.ensures.pays; holds = c.slice.ensures.holds }
 
 pub end_round-requires-clause-none : goal.end_round-requires-clause-none
 end_round-requires-clause-none g c =
