@@ -60,7 +60,7 @@ NEXT: BLBS R8,LAST
     MOVAB W^NEWLINE,R1
     BSBB SHOW
     MOVL I^#^X2600,R1
-    BSBB SHOW                   ; the block's text; R1 is behind its zero byte
+    BSBB SHOW                   ; the block's text; R1 is after its zero byte
     MOVB S^#33,B^^XFF(R1)       ; a mark in place of the zero byte, which is at R1 - 1
     SUBL3 I^#^X2600,R1,W^LENGTH
     MOVAB W^NEWLINE,R1

@@ -216,7 +216,7 @@ def trace(outside: Outside, image_name: str, steps: int) -> None:
 
 
 def put_trace(outside: Outside, lines: list, failed: list) -> None:
-    """Shows lines on the output, each by itself; behind one that couldn't be shown none is."""
+    """Shows lines on the output, each by itself; after one that couldn't be shown none is."""
     out_failed = False
     for line in lines:
         try:

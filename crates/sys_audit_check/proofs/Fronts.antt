@@ -34,12 +34,12 @@ module _ (c : Config) (is : IsConfig c) where
       (one_more c s from e (through k more) fits order.0 (front_from k (server_after_entry c s e) e.round more es (All-tail (IsEntry c) e es each) order.1 refl))
 
   -- after the records of some commands come those of others
-  behind_all : (s : ServerState) (from : ℕ) (before : List Entry) (bytes : List ℕ) → All (IsEntry c) before → AuditedFrom c s from (audit_bytes c s before ++ bytes) → (r : ℕ) × AuditedFrom c (server_after c s before) r bytes
-  behind_all s from [] bytes each all = (from, all)
-  behind_all s from (e ∷ es) bytes each all =
+  after_all : (s : ServerState) (from : ℕ) (before : List Entry) (bytes : List ℕ) → All (IsEntry c) before → AuditedFrom c s from (audit_bytes c s before ++ bytes) → (r : ℕ) × AuditedFrom c (server_after c s before) r bytes
+  after_all s from [] bytes each all = (from, all)
+  after_all s from (e ∷ es) bytes each all =
       let here : AuditedFrom c s from (record_of c s e ++ (audit_bytes c (server_after_entry c s e) es ++ bytes)) =
       subst (λ xs. AuditedFrom c s from xs) (append_assoc (record_of c s e) (audit_bytes c (server_after_entry c s e) es) bytes) all in
-      behind_all (server_after_entry c s e) e.round es bytes (All-tail (IsEntry c) e es each) (one_less c is s from e (audit_bytes c (server_after_entry c s e) es ++ bytes) (All-head (IsEntry c) e es each) here)
+      after_all (server_after_entry c s e) e.round es bytes (All-tail (IsEntry c) e es each) (one_less c is s from e (audit_bytes c (server_after_entry c s e) es ++ bytes) (All-head (IsEntry c) e es each) here)
 
   granted_first : (s : ServerState) (from : ℕ) (e : Entry) (t : Terminal) (command : Command) (rest : List ℕ) → IsEntry c e → slice_get c.terminals e.terminal ≡ Some t
       → (es : List Entry) → All (IsEntry c) es → audit_record e.round t e.text (Granted command) ++ rest ≡ audit_bytes c s es → IsGranted (verdict_on c s e)
@@ -63,5 +63,5 @@ audits_fronts c bytes k is all = front_from c is k (opening_server c) 1 bytes al
 
 pub ok_is_granted : OkIsGranted
 ok_is_granted c before e t command rest is each fits at all =
-    let left = behind_all c is (opening_server c) 1 before (audit_record e.round t e.text (Granted command) ++ rest) each all in
+    let left = after_all c is (opening_server c) 1 before (audit_record e.round t e.text (Granted command) ++ rest) each all in
     granted_first c is (server_after c (opening_server c) before) left.0 e t command rest fits at left.1.entries left.1.each left.1.is

@@ -96,18 +96,18 @@ line_at (b ∷ body) rest all =
     (rw other (ap (λ xs. b ∷ xs) more.0), rw other more.1)
 
 -- what follows so many lines
-abbrev pub behind_lines : ℕ → List ℕ → List ℕ
-behind_lines zero bytes = bytes
-behind_lines (suc n) bytes = behind_lines n (after_first_line bytes)
+abbrev pub after_lines : ℕ → List ℕ → List ℕ
+after_lines zero bytes = bytes
+after_lines (suc n) bytes = after_lines n (after_first_line bytes)
 
-pub behind_more : (n : ℕ) (bytes : List ℕ) → behind_lines (suc n) bytes ≡ after_first_line (behind_lines n bytes)
-behind_more zero bytes = refl
-behind_more (suc n) bytes = behind_more n (after_first_line bytes)
+pub after_more : (n : ℕ) (bytes : List ℕ) → after_lines (suc n) bytes ≡ after_first_line (after_lines n bytes)
+after_more zero bytes = refl
+after_more (suc n) bytes = after_more n (after_first_line bytes)
 
-pub through_more : (n : ℕ) (bytes : List ℕ) → through (suc n) bytes ≡ through n bytes ++ first_line (behind_lines n bytes)
+pub through_more : (n : ℕ) (bytes : List ℕ) → through (suc n) bytes ≡ through n bytes ++ first_line (after_lines n bytes)
 through_more zero bytes = append-nil (first_line bytes)
-through_more (suc n) bytes = ap (λ xs. first_line bytes ++ xs) (through_more n (after_first_line bytes)) ∙ sym (append_assoc (first_line bytes) (through n (after_first_line bytes)) (first_line (behind_lines n (after_first_line bytes))))
+through_more (suc n) bytes = ap (λ xs. first_line bytes ++ xs) (through_more n (after_first_line bytes)) ∙ sym (append_assoc (first_line bytes) (through n (after_first_line bytes)) (first_line (after_lines n (after_first_line bytes))))
 
-pub through_whole : (n : ℕ) (bytes : List ℕ) → through n bytes ++ behind_lines n bytes ≡ bytes
+pub through_whole : (n : ℕ) (bytes : List ℕ) → through n bytes ++ after_lines n bytes ≡ bytes
 through_whole zero bytes = refl
-through_whole (suc n) bytes = append_assoc (first_line bytes) (through n (after_first_line bytes)) (behind_lines n (after_first_line bytes)) ∙ ap (λ xs. first_line bytes ++ xs) (through_whole n (after_first_line bytes)) ∙ cut_whole bytes
+through_whole (suc n) bytes = append_assoc (first_line bytes) (through n (after_first_line bytes)) (after_lines n (after_first_line bytes)) ∙ ap (λ xs. first_line bytes ++ xs) (through_whole n (after_first_line bytes)) ∙ cut_whole bytes

@@ -3,7 +3,7 @@ use Rattle.std.proofs.Common.{◌≡◌, ◌≤◌, ◌<◌, ◌+◌, inl, inr, 
 use Rattle.std.proofs.lemmas.Bool.{cases_lt}
 use Rattle.std.proofs.lemmas.List.Elements.{All-cons, All-head, All-nil, All-tail}
 use Rattle.sys_audit_check.proofs.Following.{Follows, follows, is_followed, one_reading}
-use Rattle.sys_audit_check.proofs.Lines.{behind_lines, behind_more, line_of_line, line_some, rest_shorter, through_more, through_whole}
+use Rattle.sys_audit_check.proofs.Lines.{after_lines, after_more, line_of_line, line_some, rest_shorter, through_more, through_whole}
 use Rattle.sys_audit_check.proofs.Mounts.{Covers, bytes_covered}
 use Rattle.sys_audit_check.proofs.Records.{record_is_line, record_is_read}
 use Rattle.sys_audit_check.specs.Audited.{Audited, AuditedFrom, Entry, EntryRoundsNeverFall, IsEntry, audit_bytes, opening_server, record_of, server_after_entry}
@@ -38,16 +38,16 @@ module _ (c : Config) (is : IsConfig c) where
       let no : Some e ≡ None = sym (record_is_read c s e is fits) ∙ ap (entry_in c) line ∙ no_record c in
       cc
 
-  behind_entries : (s : ServerState) (from : ℕ) (e : Entry) (bytes : List ℕ) → IsEntry c e → (es : List Entry) → All (IsEntry c) es → EntryRoundsNeverFall from es → record_of c s e ++ bytes ≡ audit_bytes c s es → AuditedFrom c (server_after_entry c s e) e.round bytes
-  behind_entries s from e bytes fits [] each order same = absurd (some_bytes s e bytes fits same)
-  behind_entries s from e bytes fits (f ∷ fs) each order same =
+  after_entries : (s : ServerState) (from : ℕ) (e : Entry) (bytes : List ℕ) → IsEntry c e → (es : List Entry) → All (IsEntry c) es → EntryRoundsNeverFall from es → record_of c s e ++ bytes ≡ audit_bytes c s es → AuditedFrom c (server_after_entry c s e) e.round bytes
+  after_entries s from e bytes fits [] each order same = absurd (some_bytes s e bytes fits same)
+  after_entries s from e bytes fits (f ∷ fs) each order same =
       let two = one_reading c s s e f bytes (audit_bytes c (server_after_entry c s f) fs) is fits (All-head (IsEntry c) f fs each) same in
       let rest : AuditedFrom c (server_after_entry c s f) f.round bytes = record { entries = fs; each = All-tail (IsEntry c) f fs each; order = order.1; is = two.1 } in
       subst (λ (x : Entry). AuditedFrom c (server_after_entry c s x) x.round bytes) (sym two.0) rest
 
   -- after a record come others
   pub one_less : (s : ServerState) (from : ℕ) (e : Entry) (bytes : List ℕ) → IsEntry c e → AuditedFrom c s from (record_of c s e ++ bytes) → AuditedFrom c (server_after_entry c s e) e.round bytes
-  one_less s from e bytes fits all = behind_entries s from e bytes fits all.entries all.each all.order all.is
+  one_less s from e bytes fits all = after_entries s from e bytes fits all.entries all.each all.order all.is
 
   -- where the first line isn't followed, the bytes are no records
   refused_entries : (replay : Replay) (line bytes : List ℕ) → first_line bytes ≡ line → 0 < length bytes → followed c replay line ≡ None → (es : List Entry) → All (IsEntry c) es → EntryRoundsNeverFall replay.round es → bytes ≡ audit_bytes c replay.server es → ⊥
@@ -64,7 +64,7 @@ module _ (c : Config) (is : IsConfig c) where
 
 -- so many lines of the bytes were followed, to a replay, and this is the rest
 pub record Reached (c : Config) (bytes : List ℕ) (line : ℕ) (replay : Replay) (rest : List ℕ) : Type 0 where
-  pub rest_is : rest ≡ behind_lines line bytes
+  pub rest_is : rest ≡ after_lines line bytes
   pub from : 1 ≤ replay.round
   pub goes : (more : List ℕ) → AuditedFrom c replay.server replay.round more → Audited c (through line bytes ++ more)
   pub only : (more : List ℕ) → Audited c (through line bytes ++ more) → AuditedFrom c replay.server replay.round more
@@ -91,8 +91,8 @@ module _ (c : Config) (is : IsConfig c) (bytes : List ℕ) (line : ℕ) (replay 
   next_line : through (suc line) bytes ≡ through line bytes ++ first_line rest
   next_line = through_more line bytes ∙ ap (λ xs. through line bytes ++ first_line xs) (sym reached.rest_is)
 
-  more_behind : (more : List ℕ) → through (suc line) bytes ++ more ≡ through line bytes ++ (first_line rest ++ more)
-  more_behind more = ap (λ xs. xs ++ more) next_line ∙ append_assoc (through line bytes) (first_line rest) more
+  more_after : (more : List ℕ) → through (suc line) bytes ++ more ≡ through line bytes ++ (first_line rest ++ more)
+  more_after more = ap (λ xs. xs ++ more) next_line ∙ append_assoc (through line bytes) (first_line rest) more
 
   goes_on : (next : Replay) → Follows c replay (first_line rest) next → (more : List ℕ) → AuditedFrom c next.server next.round more → Audited c (through (suc line) bytes ++ more)
   goes_on next h more all =
@@ -100,12 +100,12 @@ module _ (c : Config) (is : IsConfig c) (bytes : List ℕ) (line : ℕ) (replay 
       let own : AuditedFrom c (server_after_entry c replay.server e) e.round more = subst (λ n. AuditedFrom c (server_after_entry c replay.server e) n more) h.round (subst (λ (s : ServerState). AuditedFrom c s next.round more) h.server all) in
       let two : AuditedFrom c replay.server replay.round (record_of c replay.server e ++ more) = one_more c replay.server replay.round e more h.fits h.rises own in
       let here : AuditedFrom c replay.server replay.round (first_line rest ++ more) = subst (λ xs. AuditedFrom c replay.server replay.round (xs ++ more)) (sym h.is) two in
-      subst (λ xs. Audited c xs) (sym (more_behind more)) (reached.goes (first_line rest ++ more) here)
+      subst (λ xs. Audited c xs) (sym (more_after more)) (reached.goes (first_line rest ++ more) here)
 
   only_on : (next : Replay) → Follows c replay (first_line rest) next → (more : List ℕ) → Audited c (through (suc line) bytes ++ more) → AuditedFrom c next.server next.round more
   only_on next h more all =
       let e : Entry = h.entry in
-      let here : AuditedFrom c replay.server replay.round (first_line rest ++ more) = reached.only (first_line rest ++ more) (subst (λ xs. Audited c xs) (more_behind more) all) in
+      let here : AuditedFrom c replay.server replay.round (first_line rest ++ more) = reached.only (first_line rest ++ more) (subst (λ xs. Audited c xs) (more_after more) all) in
       let two : AuditedFrom c replay.server replay.round (record_of c replay.server e ++ more) = subst (λ xs. AuditedFrom c replay.server replay.round (xs ++ more)) h.is here in
       let own : AuditedFrom c (server_after_entry c replay.server e) e.round more = one_less c is replay.server replay.round e more h.fits two in
       subst (λ (s : ServerState). AuditedFrom c s next.round more) (sym h.server) (subst (λ n. AuditedFrom c (server_after_entry c replay.server e) n more) (sym h.round) own)
@@ -121,7 +121,7 @@ module _ (c : Config) (is : IsConfig c) (bytes : List ℕ) (line : ℕ) (replay 
 
   next_reached : (next : Replay) → Follows c replay (first_line rest) next → Reached c bytes (suc line) next (after_first_line rest)
   next_reached next h = record {
-    rest_is = ap after_first_line reached.rest_is ∙ sym (behind_more line bytes);
+    rest_is = ap after_first_line reached.rest_is ∙ sym (after_more line bytes);
     from = omega (arith, reached.from, h.rises, h.round);
     goes = goes_on next h;
     only = only_on next h;

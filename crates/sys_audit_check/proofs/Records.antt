@@ -10,7 +10,7 @@ use Rattle.vv_class.specs.Text.{class_text}
 use Rattle.vv_class.specs.declared.class.AccessClass.{AccessClass}
 use Rattle.sys_audit.specs.Audit.{audit_record}
 use Rattle.sys_audit_check.proofs.Lines.{line_at}
-use Rattle.sys_audit_check.proofs.Words.{AreFrom, behind_at, class_from, from_test, front_at, joined, lower, name_from, number_from, number_read}
+use Rattle.sys_audit_check.proofs.Words.{AreFrom, after_at, class_from, from_test, front_at, joined, lower, name_from, number_from, number_read}
 use Rattle.sys_audit_check.specs.Audited.{Entry, IsEntry, record_at, record_of, verdict_on}
 use Rattle.sys_audit_check.specs.Laws.{IsGranted}
 use Rattle.sys_audit_check.specs.Lines.{after_first_line, first_line}
@@ -126,9 +126,9 @@ words_read c n t round text v is from to at named =
     let name : AreFrom 33 t.name = lower 48 33 t.name (lit≤ tt) (name_from t.name named.named) in
     let rest : List ℕ = said (class_text t.class) v text in
     let first : front (words round t text v) ≡ decimal round = front_at (decimal round) (t.name ++ 32 ∷ rest) number in
-    let after : after_blank (words round t text v) ≡ t.name ++ 32 ∷ rest = behind_at (decimal round) (t.name ++ 32 ∷ rest) number in
+    let after : after_blank (words round t text v) ≡ t.name ++ 32 ∷ rest = after_at (decimal round) (t.name ++ 32 ∷ rest) number in
     let second : front (t.name ++ 32 ∷ rest) ≡ t.name = front_at t.name rest name in
-    let last : after_blank (t.name ++ 32 ∷ rest) ≡ rest = behind_at t.name rest name in
+    let last : after_blank (t.name ++ 32 ∷ rest) ≡ rest = after_at t.name rest name in
     rw (first, after, number_read round from to, second, last, terminal_found c n t is at, at, command_read t.class v text)
 
 -- a terminal that exists

@@ -66,42 +66,42 @@ lines = (refl, refl, refl, refl)
 abbrev at_round : ℕ → Replay
 at_round round = record { round = round; server = opening_server small }
 
-abbrev behind : ℕ → List ℕ → Option Replay
-behind round line = followed small (at_round round) line
+abbrev later : ℕ → List ℕ → Option Replay
+later round line = followed small (at_round round) line
 
 -- the server doesn't grant the mount of a volume that isn't seen
-pub granted_unseen : (behind 1 (codes "1 T1 1{};0{} OK MOUNT A 0 SEC READ\r\n") ≡ None) × (behind 1 (codes "1 T1 1{};0{} NO SUCH OBJECT MOUNT A 0 SEC READ\r\n") ≡ Some (at_round 1))
+pub granted_unseen : (later 1 (codes "1 T1 1{};0{} OK MOUNT A 0 SEC READ\r\n") ≡ None) × (later 1 (codes "1 T1 1{};0{} NO SUCH OBJECT MOUNT A 0 SEC READ\r\n") ≡ Some (at_round 1))
 unfolding entry_in command_in followed_by asked_in judged does_flow is_subset applied audit_record class_text categories_below digits
 granted_unseen = (refl, refl)
 
 -- nothing is mounted at first
-pub granted_empty : (behind 1 (codes "1 T1 1{};0{} OK DISMOUNT A 0\r\n") ≡ None) × (behind 1 (codes "1 T1 1{};0{} NO SUCH OBJECT DISMOUNT A 0\r\n") ≡ Some (at_round 1))
+pub granted_empty : (later 1 (codes "1 T1 1{};0{} OK DISMOUNT A 0\r\n") ≡ None) × (later 1 (codes "1 T1 1{};0{} NO SUCH OBJECT DISMOUNT A 0\r\n") ≡ Some (at_round 1))
 unfolding entry_in command_in followed_by asked_in judged does_flow is_subset applied audit_record class_text categories_below digits
 granted_empty = (refl, refl)
 
 -- rounds are 1 to 1,000,000 without a zero in front, and never fall
 pub rounds :
-    (behind 2 (codes "1 T1 1{};0{} OK SHOW\r\n") ≡ None) × (behind 2 (codes "3 T1 1{};0{} OK SHOW\r\n") ≡ Some (at_round 3)) × (behind 1 (codes "0 T1 1{};0{} OK SHOW\r\n") ≡ None)
-    × (behind 1 (codes "01 T1 1{};0{} OK SHOW\r\n") ≡ None) × (behind 1 (codes "1000000 T1 1{};0{} OK SHOW\r\n") ≡ Some (at_round 1000000)) × (behind 1 (codes "1000001 T1 1{};0{} OK SHOW\r\n") ≡ None)
+    (later 2 (codes "1 T1 1{};0{} OK SHOW\r\n") ≡ None) × (later 2 (codes "3 T1 1{};0{} OK SHOW\r\n") ≡ Some (at_round 3)) × (later 1 (codes "0 T1 1{};0{} OK SHOW\r\n") ≡ None)
+    × (later 1 (codes "01 T1 1{};0{} OK SHOW\r\n") ≡ None) × (later 1 (codes "1000000 T1 1{};0{} OK SHOW\r\n") ≡ Some (at_round 1000000)) × (later 1 (codes "1000001 T1 1{};0{} OK SHOW\r\n") ≡ None)
 unfolding entry_in command_in followed_by asked_in judged does_flow is_subset applied audit_record class_text categories_below digits
 rounds = (refl, refl, refl, refl, refl, refl)
 
 -- a terminal has its whole name, and its class
 pub terminals :
-    (behind 1 (codes "1 T 1{};0{} OK SHOW\r\n") ≡ None) × (behind 1 (codes "1 T10 1{};0{} OK SHOW\r\n") ≡ None) × (behind 1 (codes "1 A 1{};0{} OK SHOW\r\n") ≡ None) × (behind 1 (codes "1 T1 2{};0{} OK SHOW\r\n") ≡ None)
+    (later 1 (codes "1 T 1{};0{} OK SHOW\r\n") ≡ None) × (later 1 (codes "1 T10 1{};0{} OK SHOW\r\n") ≡ None) × (later 1 (codes "1 A 1{};0{} OK SHOW\r\n") ≡ None) × (later 1 (codes "1 T1 2{};0{} OK SHOW\r\n") ≡ None)
 unfolding entry_in command_in followed_by asked_in judged does_flow is_subset applied audit_record class_text categories_below digits
 terminals = (refl, refl, refl, refl)
 
 -- a reply goes as far as it can; what follows is the text, also where that looks like a reply, or begins with a blank
 pub replies :
-    (behind 1 (codes "1 T1 1{};0{} BAD COMMAND OK\r\n") ≡ Some (at_round 1)) × (behind 1 (codes "1 T1 1{};0{} BAD COMMAND  SHOW\r\n") ≡ Some (at_round 1)) × (behind 1 (codes "1 T1 1{};0{} OK  SHOW\r\n") ≡ None)
-    × (behind 1 (codes "1 T1 1{};0{} NO\r\n") ≡ None)
+    (later 1 (codes "1 T1 1{};0{} BAD COMMAND OK\r\n") ≡ Some (at_round 1)) × (later 1 (codes "1 T1 1{};0{} BAD COMMAND  SHOW\r\n") ≡ Some (at_round 1)) × (later 1 (codes "1 T1 1{};0{} OK  SHOW\r\n") ≡ None)
+    × (later 1 (codes "1 T1 1{};0{} NO\r\n") ≡ None)
 unfolding entry_in command_in followed_by asked_in judged does_flow is_subset applied audit_record class_text categories_below digits
 replies = (refl, refl, refl, refl)
 
 -- a line ends with a carriage return and a line feed, and its text has no other
 pub ends :
-    (behind 1 (codes "1 T1 1{};0{} OK SHOW") ≡ None) × (behind 1 (codes "1 T1 1{};0{} OK SHOW\r") ≡ None) × (behind 1 (codes "1 T1 1{};0{} OK SHOW\n") ≡ None) × (behind 1 (codes "\r\n") ≡ None) × (behind 1 (codes "\n") ≡ None)
-    × (behind 1 (codes "1 T1 1{};0{} BAD COMMAND \t\r\n") ≡ None) × (behind 1 (codes "1 T1 1{};0{} BAD COMMAND \r\r\n") ≡ None)
+    (later 1 (codes "1 T1 1{};0{} OK SHOW") ≡ None) × (later 1 (codes "1 T1 1{};0{} OK SHOW\r") ≡ None) × (later 1 (codes "1 T1 1{};0{} OK SHOW\n") ≡ None) × (later 1 (codes "\r\n") ≡ None) × (later 1 (codes "\n") ≡ None)
+    × (later 1 (codes "1 T1 1{};0{} BAD COMMAND \t\r\n") ≡ None) × (later 1 (codes "1 T1 1{};0{} BAD COMMAND \r\r\n") ≡ None)
 unfolding entry_in command_in followed_by asked_in judged does_flow is_subset applied audit_record class_text categories_below digits
 ends = (refl, refl, refl, refl, refl, refl, refl)

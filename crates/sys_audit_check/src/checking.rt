@@ -57,7 +57,7 @@ fn find_line_feed(bytes: &[u8]) -> Option<usize>
 /// The first line with its line feed, and what follows it.
 fn cut_line(bytes: &[u8]) -> (&[u8], &[u8])
     ensures line { result.0.now ≡ first_line bytes.now }
-    ensures behind { result.1.now ≡ after_first_line bytes.now }
+    ensures later { result.1.now ≡ after_first_line bytes.now }
 {
     match find_line_feed(bytes) {
         Some(at) => (&bytes[..at + 1], &bytes[at + 1..]),
@@ -78,12 +78,12 @@ pub fn check_audit(c: &Config, b: &[u8]) -> Result<(), AuditFault>
     let mut line = 0;
     while !rest.is_empty() {
         line += 1;
-        let (this, behind) = cut_line(rest);
+        let (this, later) = cut_line(rest);
         let Some(next) = followed(c, &replay, this) else {
             return Err(AuditFault { line });
         };
         replay = next;
-        rest = behind;
+        rest = later;
     }
     Ok(())
 }

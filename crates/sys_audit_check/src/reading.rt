@@ -42,7 +42,7 @@ fn cut(text: &[u8]) -> (&[u8], &[u8])
 }
 
 /// What follows the first so many bytes.
-fn behind(bytes: &[u8], count: usize) -> &[u8]
+fn later(bytes: &[u8], count: usize) -> &[u8]
     ensures { result.now ≡ drop count bytes.now }
 {
     &bytes[count.min(bytes.len())..]
@@ -74,8 +74,8 @@ fn reply_length(bytes: &[u8]) -> usize
 fn command_in<'a>(class: &AccessClass, bytes: &'a [u8]) -> &'a [u8]
     ensures { result.now ≡ command_in class.now bytes.now }
 {
-    let reply = behind(bytes, write_class(class).bytes().len() + 1);
-    without_end(behind(reply, reply_length(reply) + 1))
+    let reply = later(bytes, write_class(class).bytes().len() + 1);
+    without_end(later(reply, reply_length(reply) + 1))
 }
 
 fn is_named(t: &Terminal, name: &[u8]) -> bool

@@ -94,11 +94,11 @@ module _ (line : ℕ) where
     taken_elsewhere None = tt
     taken_elsewhere (Some k) = told_far c.terminals k apart.terminals
 
-    pub behind_elsewhere : (s : SystemState) (n : ℕ) (v : Verdict) → Elsewhere line (puts_after_verdict c s n v)
-    behind_elsewhere s n (Granted command) = taken_elsewhere (taken (server_of s) n command)
-    behind_elsewhere s n BadCommand = tt
-    behind_elsewhere s n NoSuchObject = tt
-    behind_elsewhere s n (Denied rule) = tt
+    pub after_elsewhere : (s : SystemState) (n : ℕ) (v : Verdict) → Elsewhere line (puts_after_verdict c s n v)
+    after_elsewhere s n (Granted command) = taken_elsewhere (taken (server_of s) n command)
+    after_elsewhere s n BadCommand = tt
+    after_elsewhere s n NoSuchObject = tt
+    after_elsewhere s n (Denied rule) = tt
 
     pub turns_elsewhere : (os : List (Option ℕ)) (i : ℕ) (rows : List GuestRow) (gs : List Guest) → Elsewhere line (turn_puts c.terminals os i rows gs)
     turns_elsewhere os i [] gs = tt

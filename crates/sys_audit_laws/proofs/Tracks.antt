@@ -2,7 +2,7 @@
 use Rattle.std.proofs.Common.{◌≡◌, ℕ, zero, suc, ◌==◌, List, [], ◌∷◌, ◌++◌, true, false, refl, sym, ◌∙◌, ap, append_assoc, append-nil, Option, Some, None, slice_get, slice_set, slice_index_or}
 use Rattle.std.proofs.lemmas.Bool.{eq-eqb}
 use Rattle.sys_audit.specs.Audit.{audit_record}
-use Rattle.sys_audit_laws.proofs.Puts.{Each, Elsewhere, IsApart, all_elsewhere, before_elsewhere, behind_elsewhere, elsewhere_append, nothing_on, turns_elsewhere}
+use Rattle.sys_audit_laws.proofs.Puts.{Each, Elsewhere, IsApart, all_elsewhere, before_elsewhere, after_elsewhere, elsewhere_append, nothing_on, turns_elsewhere}
 use Rattle.sys_audit_check.specs.Audited.{Entry, audit_bytes, record_at, record_of, server_after_verdict, verdict_on}
 use Rattle.sys_audit_laws.specs.Entries.{entries_in, entries_over, entry_of, entry_of_line, entry_placed, entry_typed}
 use Rattle.sys_audit_check.proofs.Mounts.{mounts_tell}
@@ -91,10 +91,10 @@ module _ (c : Config) (a : Audit) (audited : c.audit ≡ Some a) (apart : IsApar
       → Tracks c line srv (record { round = i; terminal = n; text = text } ∷ []) (commanded c i s n t text v)
   commanded_tracks i srv s n t text v same at far is =
       let before : List Put = puts_before c s t v in
-      let behind : List Put = said_on t.line (reply_of v) ∷ puts_after_verdict c s n v in
-      let none : Elsewhere line (before ++ behind) = elsewhere_append line before behind (before_elsewhere line c apart s t v far) (far, behind_elsewhere line c apart s n v) in
-      let shown : bytes_on line ((before ++ behind) ++ audit_puts c.audit i t text v) ≡ audit_record i t text v =
-      bytes_append line (before ++ behind) (audit_puts c.audit i t text v) ∙ (λ j. nothing_on line (before ++ behind) none j ++ own_put i t text v j) in
+      let later : List Put = said_on t.line (reply_of v) ∷ puts_after_verdict c s n v in
+      let none : Elsewhere line (before ++ later) = elsewhere_append line before later (before_elsewhere line c apart s t v far) (far, after_elsewhere line c apart s n v) in
+      let shown : bytes_on line ((before ++ later) ++ audit_puts c.audit i t text v) ≡ audit_record i t text v =
+      bytes_append line (before ++ later) (audit_puts c.audit i t text v) ∙ (λ j. nothing_on line (before ++ later) none j ++ own_put i t text v j) in
       let recorded : record_at i (slice_get c.terminals n) text (verdict_of c srv n text) ++ [] ≡ audit_record i t text v =
       append-nil (record_at i (slice_get c.terminals n) text (verdict_of c srv n text)) ∙ (λ j. record_at i (at j) text (is j)) in
       record {

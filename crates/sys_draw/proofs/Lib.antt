@@ -1,3 +1,3 @@
-pub mod Behind
+pub mod Later
 pub mod Folds
 pub mod Members

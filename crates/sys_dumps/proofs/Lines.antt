@@ -78,17 +78,17 @@ rows_in memory base pages h =
 byte_in : (memory : List ℕ) (at size i : ℕ) → i < size → get_or memory (at + i) 0 ≡ get_or (take size (drop at memory)) i 0
 byte_in memory at size i h = sym (get_or-take size (drop at memory) i 0 h ∙ get_or-drop at memory i 0)
 
-byte_behind : (memory : List ℕ) (at size i k : ℕ) → i + k < size → get_or memory ((at + i) + k) 0 ≡ get_or (take size (drop at memory)) (i + k) 0
-byte_behind memory at size i k h =
+byte_after : (memory : List ℕ) (at size i k : ℕ) → i + k < size → get_or memory ((at + i) + k) 0 ≡ get_or (take size (drop at memory)) (i + k) 0
+byte_after memory at size i k h =
     let place : (at + i) + k ≡ at + (i + k) = omega arith in
     ap (λ (n : ℕ). get_or memory n 0) place ∙ byte_in memory at size (i + k) h
 
 long_in : (memory : List ℕ) (at size n : ℕ) → n + 4 ≤ size → long_at memory (at + n) ≡ long_at (take size (drop at memory)) n
 long_in memory at size n h =
     let a = byte_in memory at size n (omega arith) in
-    let b = byte_behind memory at size n 1 (omega arith) in
-    let c = byte_behind memory at size n 2 (omega arith) in
-    let d = byte_behind memory at size n 3 (omega arith) in
+    let b = byte_after memory at size n 1 (omega arith) in
+    let c = byte_after memory at size n 2 (omega arith) in
+    let d = byte_after memory at size n 3 (omega arith) in
     λ i. a i + 256 * b i + 65536 * c i + 16777216 * d i
 
 front_below : (xs : List ℕ) (size : ℕ) → ((i : ℕ) → get_or xs i 0 < 256) → (i : ℕ) → get_or (take size xs) i 0 < 256

@@ -46,7 +46,7 @@ leads_then {v} {w} {m} {n} {o} {k} {k'} {k''} {l} {l'} {l''} {x} {y} a b = recor
   holds = b.holds;
   config = b.config ∙ a.config;
   machine = b.machine ∙ (λ i. record (a.machine i) { memory = o.memory });
-  only = λ p behind. b.only p (subst (λ (c : Config). end_of_guests c.guests ≤ p) (sym a.config) behind) ∙ a.only p behind;
+  only = λ p later. b.only p (subst (λ (c : Config). end_of_guests c.guests ≤ p) (sym a.config) later) ∙ a.only p later;
   size = b.size ∙ a.size;
 }
 
@@ -70,7 +70,7 @@ leads_none m k l x h = record {
   holds = h;
   config = refl;
   machine = refl;
-  only = λ p behind. refl;
+  only = λ p later. refl;
   size = refl;
 }
 
@@ -82,7 +82,7 @@ leads_shown m k marks' l l' x puts h shows = record {
   holds = kernel_holds m.memory (record k { marks = marks' }) h.accepted h.placed (server_holds m.memory k h);
   config = refl;
   machine = refl;
-  only = λ p behind. refl;
+  only = λ p later. refl;
   size = refl;
 }
 
@@ -120,7 +120,7 @@ leads_served m k l x n command h there places names =
       holds = kernel_holds m.memory (record k { server = applied k.server n command }) h.accepted h.placed (still_server k.config k.server n command there places names (server_holds m.memory k h));
       config = refl;
       machine = refl;
-      only = λ p behind. refl;
+      only = λ p later. refl;
       size = refl;
     }
 
@@ -135,6 +135,6 @@ leads_disconnected m k l x n h there =
       holds = kernel_holds m.memory (record k { server = record k.server { at = slice_set k.server.at n None } }) h.accepted h.placed (disconnected k.config k.server n there (server_holds m.memory k h));
       config = refl;
       machine = refl;
-      only = λ p behind. refl;
+      only = λ p later. refl;
       size = refl;
     }

@@ -133,12 +133,12 @@ puts_taken c s n (Denied rule) = refl
 -- a command's puts, in order
 order : (c : Config) (round : ℕ) (s : SystemState) (n : ℕ) (t : Terminal) (text : List ℕ) (v : Verdict) (o : Option Terminal) (taken : Option ℕ) → o ≡ Some t → taken_puts c taken ≡ puts_after_verdict c s n v
     → shown_before c s o v ++ (answers c o v taken ++ audits c round o text v) ≡ (commanded c round s n t text v).puts
-order c round s n t text v o taken is behind =
+order c round s n t text v o taken is later =
     let before = puts_before c s t v in
     let said = said_on t.line (reply_of v) in
     let audit = audit_puts c.audit round t text v in
     ap (λ (o : Option Terminal). shown_before c s o v ++ (answers c o v taken ++ audits c round o text v)) is
-    ∙ ap (λ (ps : List Put). before ++ ((said ∷ ps) ++ audit)) behind
+    ∙ ap (λ (ps : List Put). before ++ ((said ∷ ps) ++ audit)) later
     ∙ sym (append_assoc before (said ∷ puts_after_verdict c s n v) audit)
 
 -- a command is carried out, replied to, and audited
@@ -156,9 +156,9 @@ commands m m' k k' a b l l' l'' l''' round n text v taken h there judged takes d
     let puts : Config → List Put = λ c'. answers c' (slice_get c'.terminals n) v taken ++ audits c' round (slice_get c'.terminals n) text v in
     let told = told_then k'.marks a b l' l'' l''' (answers k'.config (slice_get k'.config.terminals n) v taken) (audits k'.config round (slice_get k'.config.terminals n) text v) (puts k'.config) refl replies audit in
     let whole = leads_then carried (leads_shown m' k' b l' l''' x (puts k'.config) carried.holds told) in
-    let behind : taken_puts c taken ≡ puts_after_verdict c s n v = ap (taken_puts c) (takes ∙ sym (same_took c k.server running (server_holds m.memory k h) n there v)) ∙ puts_taken c s n v in
+    let later : taken_puts c taken ≡ puts_after_verdict c s n v = ap (taken_puts c) (takes ∙ sym (same_took c k.server running (server_holds m.memory k h) n there v)) ∙ puts_taken c s n v in
     let e : shown_before c s (slice_get c.terminals n) v ++ puts k'.config ≡ (commanded c round s n t text v).puts =
-    ap (λ (c' : Config). shown_before c s (slice_get c.terminals n) v ++ puts c') carried.config ∙ order c round s n t text v (slice_get c.terminals n) taken is behind in
+    ap (λ (c' : Config). shown_before c s (slice_get c.terminals n) v ++ puts c') carried.config ∙ order c round s n t text v (slice_get c.terminals n) taken is later in
     let asked : Leads (commanded c round s n t text v) m k l m' (record k' { marks = b }) x l''' = leads_same (commanded c round s n t text v) carried.state (λ line. ap (λ (ps : List Put). bytes_on line ps) e) whole in
     let same : v ≡ verdict_of c (server_of s) n text = judged ∙ sym (same_verdict c k.server running n text) in
     subst (λ (o : Option Terminal). Leads (asked_at_row c round n text s o) m k l m' (record k' { marks = b }) x l''') (sym is)

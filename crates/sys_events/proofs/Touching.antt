@@ -76,10 +76,10 @@ one_more_so m m' m'' k k' k'' l l' l'' round es i e there read before next keeps
     let now : SystemState = (events c round s front).now in
     let first = before x in
     let second = next x in
-    let behind : guests_in m''.memory k''.guests.items ≡ (happened c round now e).now.guests = ap (λ (z : SystemState). z.guests) second.state ∙ (λ j. (happened (first.config j) round (first.state j) e).now.guests) in
+    let later : guests_in m''.memory k''.guests.items ≡ (happened c round now e).now.guests = ap (λ (z : SystemState). z.guests) second.state ∙ (λ j. (happened (first.config j) round (first.state j) e).now.guests) in
     let us : List Touching = touches_of_events c round s front ts in
     let one : HavePresent k''.guests.items (with_reset (event_starts c now e) (happened c round now e).now.guests us) =
-    subst (λ (gs : List Guest). HavePresent k''.guests.items (with_reset (event_starts c now e) gs us)) behind
+    subst (λ (gs : List Guest). HavePresent k''.guests.items (with_reset (event_starts c now e) gs us)) later
     (subst (λ (w : Config × SystemState). HavePresent k''.guests.items (with_reset (event_starts w.0 w.1 e) (guests_in m''.memory k''.guests.items) us)) (λ j. (first.config j, first.state j)) (more x us (keeps x ts all))) in
     subst (λ (ds : List Event). HavePresent k''.guests.items (touches_of_events c round s ds ts)) (sym (take_more es i e there ∙ ap (λ (d : Event). front ++ d ∷ []) (sym read)))
     (subst (λ (us' : List Touching). HavePresent k''.guests.items us') (sym (touches_more c round s front e ts)) one)

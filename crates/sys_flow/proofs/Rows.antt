@@ -77,11 +77,11 @@ joined old k a b = reads old a b || (reads old a k && reads old k b)
 
 pub record ArePassed (old : List ℕ) (k i : ℕ) (rows : List ℕ) : Type 0 where
   pub len : length rows ≡ length old
-  pub behind : (a b : ℕ) → a < i → reads rows a b ≡ joined old k a b
+  pub later : (a b : ℕ) → a < i → reads rows a b ≡ joined old k a b
   pub ahead : (a b : ℕ) → i ≤ a → reads rows a b ≡ reads old a b
 
 pub passed_none : (old : List ℕ) (k : ℕ) → ArePassed old k 0 old
-passed_none old k = record { len = refl; behind = λ a b h. absurd (omega arith); ahead = λ a b h. refl }
+passed_none old k = record { len = refl; later = λ a b h. absurd (omega arith); ahead = λ a b h. refl }
 
 module _ (old : List ℕ) (k i : ℕ) (rows : List ℕ) (is : ArePassed old k i rows) where
   without : (b : ℕ) → reads old i k ≡ false → reads old i b ≡ joined old k i b
@@ -92,17 +92,17 @@ module _ (old : List ℕ) (k i : ℕ) (rows : List ℕ) (is : ArePassed old k i 
     by false y true e = absurd (cc)
 
   pub passed_left : has_bit (get_or rows i 0) k ≡ false → ArePassed old k (i + 1) rows
-  passed_left e = record { len = is.len; behind = behind; ahead = λ a b h. is.ahead a b (omega arith) } where
-    behind : (a b : ℕ) → a < i + 1 → reads rows a b ≡ joined old k a b
-    behind a b h = elim (split a i h) [
-      | inl l ↦ is.behind a b l
+  passed_left e = record { len = is.len; later = later; ahead = λ a b h. is.ahead a b (omega arith) } where
+    later : (a b : ℕ) → a < i + 1 → reads rows a b ≡ joined old k a b
+    later a b h = elim (split a i h) [
+      | inl l ↦ is.later a b l
       | inr s ↦ subst (λ (j : ℕ). reads rows j b ≡ joined old k j b) (sym s) (is.ahead i b (omega arith) ∙ without b (sym (is.ahead i k (omega arith)) ∙ e))
     ]
 
   pub passed_joined : i < length rows → (beyond : ℕ) → beyond ≡ get_or old k 0 → has_bit (get_or rows i 0) k ≡ true → ArePassed old k (i + 1) (set rows i (bit_or (get_or rows i 0) beyond))
   passed_joined within beyond what e = record {
     len = simp length-set is.len;
-    behind = behind;
+    later = later;
     ahead = λ a b h. ap (λ x. has_bit x b) (get_or-set_other rows i a (bit_or (get_or rows i 0) beyond) 0 (omega arith)) ∙ is.ahead a b (omega arith);
   } where
     here : (b : ℕ) → reads (set rows i (bit_or (get_or rows i 0) beyond)) i b ≡ joined old k i b
@@ -114,14 +114,14 @@ module _ (old : List ℕ) (k i : ℕ) (rows : List ℕ) (is : ArePassed old k i 
         by x x' y y' true p q r = λ j. p j || q j
         by x x' y y' false p q r = absurd (cc)
 
-    behind : (a b : ℕ) → a < i + 1 → reads (set rows i (bit_or (get_or rows i 0) beyond)) a b ≡ joined old k a b
-    behind a b h = elim (split a i h) [
-      | inl l ↦ ap (λ x. has_bit x b) (get_or-set_other rows i a (bit_or (get_or rows i 0) beyond) 0 (omega arith)) ∙ is.behind a b l
+    later : (a b : ℕ) → a < i + 1 → reads (set rows i (bit_or (get_or rows i 0) beyond)) a b ≡ joined old k a b
+    later a b h = elim (split a i h) [
+      | inl l ↦ ap (λ x. has_bit x b) (get_or-set_other rows i a (bit_or (get_or rows i 0) beyond) 0 (omega arith)) ∙ is.later a b l
       | inr s ↦ subst (λ (j : ℕ). reads (set rows i (bit_or (get_or rows i 0) beyond)) j b ≡ joined old k j b) (sym s) (here b)
     ]
 
 pub passed_all : (old : List ℕ) (k : ℕ) (rows : List ℕ) (i : ℕ) → length old ≤ i → ArePassed old k i rows → (a b : ℕ) → reads rows a b ≡ joined old k a b
-passed_all old k rows i h is a b = elim (cases_lt a i) [ inl l ↦ is.behind a b l | inr l ↦ beyond_rows rows a b (omega (arith, is.len)) ∙ sym (none l) ] where
+passed_all old k rows i h is a b = elim (cases_lt a i) [ inl l ↦ is.later a b l | inr l ↦ beyond_rows rows a b (omega (arith, is.len)) ∙ sym (none l) ] where
   none : i ≤ a → joined old k a b ≡ false
   none l = λ j. beyond_rows old a b (omega arith) j || (beyond_rows old a k (omega arith) j && reads old k b)
 

@@ -33,9 +33,9 @@ nowhere : (o : Option ℕ) → terminal_at [] o ≡ None
 nowhere None = refl
 nowhere (Some n) = refl
 
-one_behind : (k : Terminal) (ks : List Terminal) (o : Option ℕ) → terminal_at (k ∷ ks) (option_map suc o) ≡ terminal_at ks o
-one_behind k ks None = refl
-one_behind k ks (Some n) = refl
+one_after : (k : Terminal) (ks : List Terminal) (o : Option ℕ) → terminal_at (k ∷ ks) (option_map suc o) ≡ terminal_at ks o
+one_after k ks None = refl
+one_after k ks (Some n) = refl
 
 as_at : (g : ℕ) (o : Option ℕ) → is_guest g o ≡ is_at g o
 as_at g None = refl
@@ -112,7 +112,7 @@ module _ (c : Config) (far : Object → Bool) (closed : IsClosed c far) where
     told_near g near i (k ∷ ks) [] stand p = refl
     told_near g near i (k ∷ ks) (o ∷ os) stand p =
         let rest = told_near g near (suc i) ks os stand.1 p.1 in
-        let behind = one_behind k ks (place_of (is_guest g) os) in
+        let later = one_after k ks (place_of (is_guest g) os) in
         both (is_guest g o)
         (λ e. let off = terminal_off i k stand.0 (sym (at_far i k stand.0 g o p.0 (sym (as_at g o) ∙ e)) ∙ near) in rw (e, off) refl)
-        (λ e. rw e (ap (λ (x : Option Terminal). bytes_on line (taken_notice x)) behind ∙ rest))
+        (λ e. rw e (ap (λ (x : Option Terminal). bytes_on line (taken_notice x)) later ∙ rest))

@@ -108,7 +108,7 @@ module _ (c : Config) (is : IsConfig c) where
       by_order : (j ≡ k) ⊎ ((j < k) ⊎ (k < j)) → j ≡ k
       by_order (inl s) = s
       by_order (inr (inl before)) = absurd (names_apart j k x y at_x at_y before e)
-      by_order (inr (inr behind)) = absurd (names_apart k j y x at_y at_x behind (sym e))
+      by_order (inr (inr later)) = absurd (names_apart k j y x at_y at_x later (sym e))
 
   -- an event of a terminal of the set is one of another terminal than this
   module _ (far : Object → Bool) (t : ℕ) (near : far (IsTerminalAt t) ≡ false) where

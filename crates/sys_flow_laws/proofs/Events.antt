@@ -76,9 +76,9 @@ module _ (c : Config) (far : Object → Bool) (closed : IsClosed c far) where
     before_alike NoSuchObject h = refl
     before_alike (Denied rule) h = refl
 
-    behind_alike : (v : Verdict) → VerdictFits c k.class v → puts_after_verdict c s n v ≡ puts_after_verdict c t n v
+    after_alike : (v : Verdict) → VerdictFits c k.class v → puts_after_verdict c s n v ≡ puts_after_verdict c t n v
     unfolding taken
-    behind_alike (Granted (Connect g)) h =
+    after_alike (Granted (Connect g)) h =
         let os : List (Option ℕ) = slice_set s.connected n None in
         let us : List (Option ℕ) = slice_set t.connected n None in
         let left : Pairs (ConnectFits c) c.terminals os = pairs_set (ConnectFits c) c.terminals s.connected n k None p.fits.connected at tt in
@@ -87,20 +87,20 @@ module _ (c : Config) (far : Object → Bool) (closed : IsClosed c far) where
         let place : place_of (is_guest g) os ≡ place_of (is_guest g) us =
         place_alike c far closed g e 0 c.terminals os us (stand_all c.terminals) (long_set c.terminals s.connected p.held.long n None) left right (agree_set (far_terminal c far) 0 s.connected t.connected a.connected n None) in
         ap (taken_puts c) (position_is (is_guest g) os ∙ place ∙ sym (position_is (is_guest g) us))
-    behind_alike (Granted (Start g)) h = refl
-    behind_alike (Granted (Halt g)) h = refl
-    behind_alike (Granted (MountAt g unit m)) h = refl
-    behind_alike (Granted (Dismount g unit)) h = refl
-    behind_alike (Granted Show) h = refl
-    behind_alike BadCommand h = refl
-    behind_alike NoSuchObject h = refl
-    behind_alike (Denied rule) h = refl
+    after_alike (Granted (Start g)) h = refl
+    after_alike (Granted (Halt g)) h = refl
+    after_alike (Granted (MountAt g unit m)) h = refl
+    after_alike (Granted (Dismount g unit)) h = refl
+    after_alike (Granted Show) h = refl
+    after_alike BadCommand h = refl
+    after_alike NoSuchObject h = refl
+    after_alike (Denied rule) h = refl
 
     command_alike : (round : ℕ) (text : List ℕ) (v : Verdict) → VerdictFits c k.class v → (commanded c round s n k text v).puts ≡ (commanded c round t n k text v).puts
     command_alike round text v h =
         let before = before_alike v h in
-        let behind = behind_alike v h in
-        λ i. before i ++ (said_on k.line (reply_of v) ∷ behind i) ++ audit_puts c.audit round k text v
+        let later = after_alike v h in
+        λ i. before i ++ (said_on k.line (reply_of v) ∷ later i) ++ audit_puts c.audit round k text v
 
   -- where two steps lead, and what they show
   module _ (line : ℕ) where
@@ -170,22 +170,22 @@ module _ (c : Config) (far : Object → Bool) (closed : IsClosed c far) where
         near_before NoSuchObject h = refl
         near_before (Denied rule) h = refl
 
-        near_behind : (v : Verdict) → VerdictFits c k.class v → bytes_on line (puts_after_verdict c s n v) ≡ []
+        near_after : (v : Verdict) → VerdictFits c k.class v → bytes_on line (puts_after_verdict c s n v) ≡ []
         unfolding taken
-        near_behind (Granted (Connect g)) h =
+        near_after (Granted (Connect g)) h =
             let os : List (Option ℕ) = slice_set s.connected n None in
             let fits : Pairs (ConnectFits c) c.terminals os = pairs_set (ConnectFits c) c.terminals s.connected n k None p.fits.connected at tt in
             ap (λ o. bytes_on line (taken_puts c o)) (position_is (is_guest g) os)
             ∙ ap (bytes_on line) (by_terminal c (place_of (is_guest g) os))
             ∙ told_near c far closed line silent g (holds_far c far closed n k at g h ∙ near) 0 c.terminals os (stand_all c.terminals) fits
-        near_behind (Granted (Start g)) h = refl
-        near_behind (Granted (Halt g)) h = refl
-        near_behind (Granted (MountAt g unit m)) h = refl
-        near_behind (Granted (Dismount g unit)) h = refl
-        near_behind (Granted Show) h = refl
-        near_behind BadCommand h = refl
-        near_behind NoSuchObject h = refl
-        near_behind (Denied rule) h = refl
+        near_after (Granted (Start g)) h = refl
+        near_after (Granted (Halt g)) h = refl
+        near_after (Granted (MountAt g unit m)) h = refl
+        near_after (Granted (Dismount g unit)) h = refl
+        near_after (Granted Show) h = refl
+        near_after BadCommand h = refl
+        near_after NoSuchObject h = refl
+        near_after (Denied rule) h = refl
 
         near_audit : (o : Option Audit) → c.audit ≡ o → (text : List ℕ) (v : Verdict) → bytes_on line (audit_puts o round k text v) ≡ []
         near_audit None e text v = refl
@@ -194,12 +194,12 @@ module _ (c : Config) (far : Object → Bool) (closed : IsClosed c far) where
         near_command : (text : List ℕ) (v : Verdict) → VerdictFits c k.class v → bytes_on line (commanded c round s n k text v).puts ≡ []
         near_command text v h =
             let before = near_before v h in
-            let behind = off_said k.line line off (reply_of v) (puts_after_verdict c s n v) ∙ near_behind v h in
+            let later = off_said k.line line off (reply_of v) (puts_after_verdict c s n v) ∙ near_after v h in
             let audit = near_audit c.audit refl text v in
             let replies : List Put = said_on k.line (reply_of v) ∷ puts_after_verdict c s n v in
             bytes_append line (puts_before c s k v ++ replies) (audit_puts c.audit round k text v)
             ∙ ap (λ (bytes : List ℕ). bytes ++ bytes_on line (audit_puts c.audit round k text v)) (bytes_append line (puts_before c s k v) replies)
-            ∙ (λ i. (before i ++ behind i) ++ audit i)
+            ∙ (λ i. (before i ++ later i) ++ audit i)
 
         quiet_lined : (text : List ℕ) (o : Option ℕ) → ConnectFits c k o → IsQuiet s (lined c round s n k text o)
         quiet_lined text (Some g) h =

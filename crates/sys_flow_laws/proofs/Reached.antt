@@ -58,19 +58,19 @@ get_front [] ys k x at = cc
 get_front (z ∷ zs) ys zero x at = at
 get_front (z ∷ zs) ys (suc k) x at = get_front zs ys k x at
 
-pub get_behind : {X : Type 0} (xs ys : List X) (k : ℕ) → slice_get (xs ++ ys) (length xs + k) ≡ slice_get ys k
-get_behind [] ys k = let e : 0 + k ≡ k = omega arith in ap (slice_get ys) e
-get_behind (z ∷ zs) ys k = let e : suc (length zs) + k ≡ suc (length zs + k) = omega arith in ap (slice_get (z ∷ zs ++ ys)) e ∙ get_behind zs ys k
+pub get_after : {X : Type 0} (xs ys : List X) (k : ℕ) → slice_get (xs ++ ys) (length xs + k) ≡ slice_get ys k
+get_after [] ys k = let e : 0 + k ≡ k = omega arith in ap (slice_get ys) e
+get_after (z ∷ zs) ys k = let e : suc (length zs) + k ≡ suc (length zs + k) = omega arith in ap (slice_get (z ∷ zs ++ ys)) e ∙ get_after zs ys k
 
 -- an element comes before or after
-abbrev Behind : {X : Type 0} → List X → List X → ℕ → X → Type 0
-Behind xs ys k x = (j : ℕ) × (k ≡ length xs + j) × (slice_get ys j ≡ Some x)
+abbrev Later : {X : Type 0} → List X → List X → ℕ → X → Type 0
+Later xs ys k x = (j : ℕ) × (k ≡ length xs + j) × (slice_get ys j ≡ Some x)
 
-one_later : {X : Type 0} (z : X) (zs ys : List X) (k : ℕ) (x : X) → (slice_get zs k ≡ Some x) ⊎ Behind zs ys k x → (slice_get zs k ≡ Some x) ⊎ Behind (z ∷ zs) ys (suc k) x
+one_later : {X : Type 0} (z : X) (zs ys : List X) (k : ℕ) (x : X) → (slice_get zs k ≡ Some x) ⊎ Later zs ys k x → (slice_get zs k ≡ Some x) ⊎ Later (z ∷ zs) ys (suc k) x
 one_later z zs ys k x (inl at) = inl at
 one_later z zs ys k x (inr b) = inr (b.0, omega (arith, b.1), b.2)
 
-where_is : {X : Type 0} (xs ys : List X) (k : ℕ) (x : X) → slice_get (xs ++ ys) k ≡ Some x → (slice_get xs k ≡ Some x) ⊎ Behind xs ys k x
+where_is : {X : Type 0} (xs ys : List X) (k : ℕ) (x : X) → slice_get (xs ++ ys) k ≡ Some x → (slice_get xs k ≡ Some x) ⊎ Later xs ys k x
 where_is [] ys k x at = inr (k, omega arith, at)
 where_is (z ∷ zs) ys zero x at = inl at
 where_is (z ∷ zs) ys (suc k) x at = one_later z zs ys k x (where_is zs ys k x at)
@@ -139,24 +139,24 @@ module _ (c : Config) (a : ℕ) (f : ℕ → Bool) where
   volume_number : (v : ℕ) (x : VolumeRow) → slice_get c.volumes v ≡ Some x → slice_get (all_objects c) (length to_terminals + v) ≡ Some (IsVolumeAt v)
   volume_number v x at =
       let own : slice_get (numbered_from IsVolumeAt 0 c.volumes) v ≡ Some (IsVolumeAt v) = get_numbered IsVolumeAt 0 c.volumes v v x (omega arith) at in
-      let here = get_behind to_terminals (numbered_from IsVolumeAt 0 c.volumes) v ∙ own in
+      let here = get_after to_terminals (numbered_from IsVolumeAt 0 c.volumes) v ∙ own in
       get_front to_guests (audit_object c.audit) (length to_terminals + v) (IsVolumeAt v) (get_front to_printers (numbered_from IsGuestAt 0 c.guests) (length to_terminals + v) (IsVolumeAt v)
       (get_front to_volumes (numbered_from IsPrinterAt 0 c.printers) (length to_terminals + v) (IsVolumeAt v) here))
 
   printer_number : (p : ℕ) (x : PrinterRow) → slice_get c.printers p ≡ Some x → slice_get (all_objects c) (length to_volumes + p) ≡ Some (IsPrinterAt p)
   printer_number p x at =
       let own : slice_get (numbered_from IsPrinterAt 0 c.printers) p ≡ Some (IsPrinterAt p) = get_numbered IsPrinterAt 0 c.printers p p x (omega arith) at in
-      let here = get_behind to_volumes (numbered_from IsPrinterAt 0 c.printers) p ∙ own in
+      let here = get_after to_volumes (numbered_from IsPrinterAt 0 c.printers) p ∙ own in
       get_front to_guests (audit_object c.audit) (length to_volumes + p) (IsPrinterAt p) (get_front to_printers (numbered_from IsGuestAt 0 c.guests) (length to_volumes + p) (IsPrinterAt p) here)
 
   guest_number : (g : ℕ) (x : GuestRow) → slice_get c.guests g ≡ Some x → slice_get (all_objects c) (length to_printers + g) ≡ Some (IsGuestAt g)
   guest_number g x at =
       let own : slice_get (numbered_from IsGuestAt 0 c.guests) g ≡ Some (IsGuestAt g) = get_numbered IsGuestAt 0 c.guests g g x (omega arith) at in
-      let here = get_behind to_printers (numbered_from IsGuestAt 0 c.guests) g ∙ own in
+      let here = get_after to_printers (numbered_from IsGuestAt 0 c.guests) g ∙ own in
       get_front to_guests (audit_object c.audit) (length to_printers + g) (IsGuestAt g) here
 
   audit_number : (x : Audit) → c.audit ≡ Some x → slice_get (all_objects c) (length to_guests + 0) ≡ Some IsTheAudit
-  audit_number x at = get_behind to_guests (audit_object c.audit) 0 ∙ ap (λ (o : Option Audit). slice_get (audit_object o) 0) at
+  audit_number x at = get_after to_guests (audit_object c.audit) 0 ∙ ap (λ (o : Option Audit). slice_get (audit_object o) 0) at
 
   -- an object that exists is of the set by its number
   module _ (i : ℕ) (p : Object) where
@@ -191,19 +191,19 @@ module _ (c : Config) (a : ℕ) (f : ℕ → Bool) where
         ap apart_from (sym is) ∙ rw o (ap is_apart (sym e))
     in_audit (Some x) o (suc j) e at = cc
 
-    of_volumes : (slice_get to_terminals i ≡ Some p) ⊎ Behind to_terminals (numbered_from IsVolumeAt 0 c.volumes) i p → apart_from p ≡ is_apart i
+    of_volumes : (slice_get to_terminals i ≡ Some p) ⊎ Later to_terminals (numbered_from IsVolumeAt 0 c.volumes) i p → apart_from p ≡ is_apart i
     of_volumes (inl at) = in_terminals at
     of_volumes (inr b) = in_volumes b.0 b.1 b.2
 
-    of_printers : (slice_get to_volumes i ≡ Some p) ⊎ Behind to_volumes (numbered_from IsPrinterAt 0 c.printers) i p → apart_from p ≡ is_apart i
+    of_printers : (slice_get to_volumes i ≡ Some p) ⊎ Later to_volumes (numbered_from IsPrinterAt 0 c.printers) i p → apart_from p ≡ is_apart i
     of_printers (inl at) = of_volumes (where_is to_terminals (numbered_from IsVolumeAt 0 c.volumes) i p at)
     of_printers (inr b) = in_printers b.0 b.1 b.2
 
-    of_guests : (slice_get to_printers i ≡ Some p) ⊎ Behind to_printers (numbered_from IsGuestAt 0 c.guests) i p → apart_from p ≡ is_apart i
+    of_guests : (slice_get to_printers i ≡ Some p) ⊎ Later to_printers (numbered_from IsGuestAt 0 c.guests) i p → apart_from p ≡ is_apart i
     of_guests (inl at) = of_printers (where_is to_volumes (numbered_from IsPrinterAt 0 c.printers) i p at)
     of_guests (inr b) = in_guests b.0 b.1 b.2
 
-    of_all : (slice_get to_guests i ≡ Some p) ⊎ Behind to_guests (audit_object c.audit) i p → apart_from p ≡ is_apart i
+    of_all : (slice_get to_guests i ≡ Some p) ⊎ Later to_guests (audit_object c.audit) i p → apart_from p ≡ is_apart i
     of_all (inl at) = of_guests (where_is to_printers (numbered_from IsGuestAt 0 c.guests) i p at)
     of_all (inr b) = in_audit c.audit refl b.0 b.1 b.2
 

@@ -13,13 +13,13 @@ abbrev Follow : (from limit : ℕ) → List Range → Type 0
 Follow from limit [] = Unit {0}
 Follow from limit (r ∷ rs) = (from ≤ r.from) × (r.from + r.pages ≤ limit) × Follow (r.from + r.pages) limit rs
 
-all_behind : (from to limit : ℕ) (rs : List Range) → from ≤ to → Follow to limit rs → All (λ r. from ≤ r.from) rs
-all_behind from to limit [] h f = λ k d l. absurd (omega (arith, l))
-all_behind from to limit (r ∷ rs) h f = All-cons (λ (r : Range). from ≤ r.from) r rs (omega (arith, h, f.0)) (all_behind from (r.from + r.pages) limit rs (omega (arith, h, f.0)) f.2)
+all_after : (from to limit : ℕ) (rs : List Range) → from ≤ to → Follow to limit rs → All (λ r. from ≤ r.from) rs
+all_after from to limit [] h f = λ k d l. absurd (omega (arith, l))
+all_after from to limit (r ∷ rs) h f = All-cons (λ (r : Range). from ≤ r.from) r rs (omega (arith, h, f.0)) (all_after from (r.from + r.pages) limit rs (omega (arith, h, f.0)) f.2)
 
 each_before : (from limit : ℕ) (rs : List Range) → Follow from limit rs → AllPairs (λ a b. a.from + a.pages ≤ b.from) rs
 each_before from limit [] f = λ i j d l m. absurd (omega (arith, m))
-each_before from limit (r ∷ rs) f = AllPairs-cons (λ (a b : Range). a.from + a.pages ≤ b.from) r rs (all_behind (r.from + r.pages) (r.from + r.pages) limit rs (omega arith) f.2) (each_before (r.from + r.pages) limit rs f.2)
+each_before from limit (r ∷ rs) f = AllPairs-cons (λ (a b : Range). a.from + a.pages ≤ b.from) r rs (all_after (r.from + r.pages) (r.from + r.pages) limit rs (omega arith) f.2) (each_before (r.from + r.pages) limit rs f.2)
 
 all_inside : (from limit : ℕ) (rs : List Range) → Follow from limit rs → All (λ a. a.from + a.pages ≤ limit) rs
 all_inside from limit [] f = λ k d l. absurd (omega (arith, l))
@@ -44,14 +44,14 @@ memories_follow base tables limit [] (g ∷ gs) rs p h f = absurd p
 memories_follow base tables limit (row ∷ rows) [] rs p h f = absurd p
 memories_follow base tables limit (row ∷ rows) (g ∷ gs) rs p h f =
     let all = sum_by-cons (λ (r : GuestRow). r.pages) row rows in
-    let behind = earlier ((base + row.pages) + sum_by (λ (r : GuestRow). r.pages) rows) (base + sum_by (λ (r : GuestRow). r.pages) (row ∷ rows)) limit rs (omega (arith, all)) f in
-    let rest = memories_follow (base + row.pages) (tables + 580) limit rows gs rs p.1 (omega (arith, all, h)) behind in
+    let later = earlier ((base + row.pages) + sum_by (λ (r : GuestRow). r.pages) rows) (base + sum_by (λ (r : GuestRow). r.pages) (row ∷ rows)) limit rs (omega (arith, all)) f in
+    let rest = memories_follow (base + row.pages) (tables + 580) limit rows gs rs p.1 (omega (arith, all, h)) later in
     (omega (arith, p.0.base), omega (arith, p.0.base, p.0.pages, all, h), earlier (g.state.base + g.state.pages) (base + row.pages) limit (map memory_of gs ++ rs) (omega (arith, p.0.base, p.0.pages)) rest)
 
 pub lies_apart : LiesApart
 lies_apart c gs accepted placed =
     let pages : ℕ = sum_by (λ (r : GuestRow). r.pages) c.guests in
     let few : pages ≤ 16384 = accepted.pages in
-    let behind : Follow pages 32768 (map tables_range gs) = tables_follow 0 pages 32768 c.guests gs placed (omega (arith, few, accepted.few_guests)) in
-    let all : Follow 0 32768 (ranges gs) = memories_follow 0 pages 32768 c.guests gs (map tables_range gs) placed (omega (arith, few)) (earlier (0 + pages) pages 32768 (map tables_range gs) (omega arith) behind) in
+    let later : Follow pages 32768 (map tables_range gs) = tables_follow 0 pages 32768 c.guests gs placed (omega (arith, few, accepted.few_guests)) in
+    let all : Follow 0 32768 (ranges gs) = memories_follow 0 pages 32768 c.guests gs (map tables_range gs) placed (omega (arith, few)) (earlier (0 + pages) pages 32768 (map tables_range gs) (omega arith) later) in
     (each_before 0 32768 (ranges gs) all, all_inside 0 32768 (ranges gs) all)

@@ -64,15 +64,15 @@ ordered base tables (row ∷ rows) (x ∷ ks) (suc i) (suc j) k l o h e f p =
 
 -- what happens to one guest alone leaves another's part
 pub shares : (all : ℕ) (k l : Kept) (memory other : List ℕ) → IsBefore k l ⊎ IsBefore l k → k.state.base + k.state.pages ≤ all → l.state.base + l.state.pages ≤ all → all ≤ k.shadow.at → all ≤ l.shadow.at → Serves k.state k.shadow → Serves l.state l.shadow → OnlyBoth k.shadow memory other → SharesPart l memory other
-shares all k l memory other (inl before) inside inside' behind behind' s t only = record {
+shares all k l memory other (inl before) inside inside' later later' s t only = record {
   size = only.size;
-  own = λ p low high. only.other p (inr (omega (arith, low, before.memory, s.base, s.pages, t.base))) (inl (omega (arith, high, inside', behind, t.base, t.pages)));
-  tables = λ p low high. only.other p (inr (omega (arith, low, inside, behind', s.base, s.pages))) (inr (omega (arith, low, before.tables)));
+  own = λ p low high. only.other p (inr (omega (arith, low, before.memory, s.base, s.pages, t.base))) (inl (omega (arith, high, inside', later, t.base, t.pages)));
+  tables = λ p low high. only.other p (inr (omega (arith, low, inside, later', s.base, s.pages))) (inr (omega (arith, low, before.tables)));
 }
-shares all k l memory other (inr before) inside inside' behind behind' s t only = record {
+shares all k l memory other (inr before) inside inside' later later' s t only = record {
   size = only.size;
-  own = λ p low high. only.other p (inl (omega (arith, high, before.memory, s.base, t.base, t.pages))) (inl (omega (arith, high, inside', behind, t.base, t.pages)));
-  tables = λ p low high. only.other p (inr (omega (arith, low, inside, behind', s.base, s.pages))) (inl (omega (arith, high, before.tables)));
+  own = λ p low high. only.other p (inl (omega (arith, high, before.memory, s.base, t.base, t.pages))) (inl (omega (arith, high, inside', later, t.base, t.pages)));
+  tables = λ p low high. only.other p (inr (omega (arith, low, inside, later', s.base, s.pages))) (inl (omega (arith, high, before.tables)));
 }
 
 -- of two guests one comes before the other

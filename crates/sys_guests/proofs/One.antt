@@ -40,11 +40,11 @@ other_stays rows ks place k memory memory' there read a only i l h ne read' =
 
 -- of the machine only the guests' part changes
 only_guests : (rows : List GuestRow) (ks : List Kept) (place : ℕ) (k : Kept) (memory memory' : List ℕ) → place < length ks → k ≡ slice_index_or ks place k → AreInMachine rows memory ks → OnlyBoth k.shadow memory memory' → OnlyGuests rows memory memory'
-only_guests rows ks place k memory memory' there read a only p behind =
+only_guests rows ks place k memory memory' there read a only p later =
     let all : ℕ = pages_in rows in
     let stands = one_of_all (λ (y : Kept). IsShadowedIn memory y) ks place k there read a.stand in
     let at : IsWithin 0 all rows k = placed_at 0 all rows ks place k there read a.laid_out in
-    only.other p (inr (omega (arith, behind, at.high, stands.serves.base, stands.serves.pages))) (inr (omega (arith, behind, at.last)))
+    only.other p (inr (omega (arith, later, at.high, stands.serves.base, stands.serves.pages))) (inr (omega (arith, later, at.last)))
 
 pub one_became : (rows : List GuestRow) (place : ℕ) (f : Guest → Guest) (ks : List Kept) (k k' : Kept) (m m' : Machine) → place < length ks → k ≡ slice_index_or ks place k → AreInMachine rows m.memory ks → (f (guest_in m.memory k)).state.modify_faults ≡ k.state.modify_faults → Became (f (guest_in m.memory k)) k k' m.memory m'.memory → ChangesOne rows place f m ks m' (slice_set ks place k')
 one_became rows place f ks k k' m m' there read a faults b =

@@ -167,8 +167,8 @@ module _ (state : GuestState) (load tables : ℕ) (image : List ℕ) (m m1 : Mac
     only_made : OnlyPlaces state.base state.pages tables m.memory m2.memory
     only_made = record {
       size = resumed.made.only.tables.size ∙ apart.size;
-      other = λ p beyond behind.
-          byte_apart (512 * tables) (512 * 580) m1.memory m2.memory p resumed.made.only.tables (split_last p behind)
+      other = λ p beyond later.
+          byte_apart (512 * tables) (512 * 580) m1.memory m2.memory p resumed.made.only.tables (split_last p later)
           ∙ byte_apart (512 * state.base) (512 * state.pages) m.memory m1.memory p apart (split_first p beyond);
     }
       where

@@ -89,7 +89,7 @@ module _ (c : Config) (is : IsConfig c) where
   by_order : (to : AccessClass) (d : VolumeRow) (j k : ℕ) → does_flow (volume_at d k).class to ≡ true → j < length c.volumes → k < length c.volumes → (volume_at d j).drive ≡ (volume_at d k).drive → (j ≡ k) ⊎ ((j < k) ⊎ (k < j)) → does_flow (volume_at d j).class to ≡ true
   by_order to d j k flow inside within same (inl e) = ap (λ (i : ℕ). does_flow (volume_at d i).class to) e ∙ flow
   by_order to d j k flow inside within same (inr (inl before)) = absurd (is.drives j k d before within same)
-  by_order to d j k flow inside within same (inr (inr behind)) = absurd (is.drives k j d behind inside (sym same))
+  by_order to d j k flow inside within same (inr (inr later)) = absurd (is.drives k j d later inside (sym same))
 
   drive_flows : (to : AccessClass) (k : ℕ) (d : VolumeRow) → k < length c.volumes → does_flow (volume_at d k).class to ≡ true → DriveFlowsInto c (volume_at d k).drive to
   drive_flows to k d within flow = All-from_get_or (λ (v : VolumeRow). v.drive ≡ (volume_at d k).drive → does_flow v.class to ≡ true) c.volumes d

@@ -30,9 +30,9 @@ all_before : {A : Type 0} (P : A → Type 0) (xs ys : List A) → All P (xs ++ y
 all_before P [] ys all = All-nil P
 all_before P (x ∷ xs) ys all = All-cons P x xs (All-head P x (xs ++ ys) all) (all_before P xs ys (All-tail P x (xs ++ ys) all))
 
-all_behind : {A : Type 0} (P : A → Type 0) (xs ys : List A) → All P (xs ++ ys) → All P ys
-all_behind P [] ys all = all
-all_behind P (x ∷ xs) ys all = all_behind P xs ys (All-tail P x (xs ++ ys) all)
+all_after : {A : Type 0} (P : A → Type 0) (xs ys : List A) → All P (xs ++ ys) → All P ys
+all_after P [] ys all = all
+all_after P (x ∷ xs) ys all = all_after P xs ys (All-tail P x (xs ++ ys) all)
 
 all_of_map : {A B : Type 0} (P : B → Type 0) (f : A → B) (xs : List A) → All P (map f xs) → All (λ x. P (f x)) xs
 all_of_map P f [] all = All-nil (λ x. P (f x))
@@ -56,7 +56,7 @@ module _ (c : Config) where
     terminals_flow all = all_of_map Flows terminal_device c.terminals (all_before Flows ts ps (all_before Flows (ts ++ ps) ds (all_before Flows (ts ++ ps ++ ds) (audit_device c.audit) all)))
 
     printers_flow : LineFlowsInto c line to → PrintersFlow line to c.printers
-    printers_flow all = all_of_map Flows printer_device c.printers (all_behind Flows ts ps (all_before Flows (ts ++ ps) ds (all_before Flows (ts ++ ps ++ ds) (audit_device c.audit) all)))
+    printers_flow all = all_of_map Flows printer_device c.printers (all_after Flows ts ps (all_before Flows (ts ++ ps) ds (all_before Flows (ts ++ ps ++ ds) (audit_device c.audit) all)))
 
     audit_flows : (a : Option Audit) → All Flows (audit_device a) → IfSome a (λ a. All (λ (x : Object). does_flow x.class a.class ≡ true) (objects_of c)) → AuditFits c to line a
     audit_flows None all objects = tt
@@ -85,7 +85,7 @@ module _ (c : Config) where
             ((λ e. All-head Flows device (filter_map dump_device rows) flow (eqb-true l line (rw some at e))), rest (All-tail Flows device (filter_map dump_device rows) flow))
 
     pub dumps_flow : LineFlowsInto c line to → Each DumpFlows c.guests
-    dumps_flow all = dumps_of_rows c.guests (all_behind Flows (ts ++ ps) ds (all_before Flows (ts ++ ps ++ ds) (audit_device c.audit) all))
+    dumps_flow all = dumps_of_rows c.guests (all_after Flows (ts ++ ps) ds (all_before Flows (ts ++ ps ++ ds) (audit_device c.audit) all))
 
     print_fits : PrintersFlow line to c.printers → (rows : List GuestRow) → All (MayHave c) rows → (flow : PrintersFlow line to c.printers) → Each (PrintFits c to line flow) rows
     print_fits f [] held flow = tt
@@ -97,7 +97,7 @@ module _ (c : Config) where
         record {
           terminals = terminals_flow all;
           printers = printers;
-          audit = audit_flows c.audit (all_behind Flows (ts ++ ps ++ ds) (audit_device c.audit) all) is.audited;
+          audit = audit_flows c.audit (all_after Flows (ts ++ ps ++ ds) (audit_device c.audit) all) is.audited;
           rows = print_fits printers c.guests is.held printers;
         }
 
@@ -144,7 +144,7 @@ module _ (c : Config) (is : IsConfig c) where
   flows_by_order : (to : AccessClass) (d : Device) (j k : ℕ) → does_flow (device_at d k).class to ≡ true → j < length (devices_of c) → k < length (devices_of c) → (device_at d j).line ≡ (device_at d k).line → (j ≡ k) ⊎ ((j < k) ⊎ (k < j)) → does_flow (device_at d j).class to ≡ true
   flows_by_order to d j k flow inside within same (inl e) = ap (λ (i : ℕ). does_flow (device_at d i).class to) e ∙ flow
   flows_by_order to d j k flow inside within same (inr (inl before)) = absurd (devices_apart j k d before within same)
-  flows_by_order to d j k flow inside within same (inr (inr behind)) = absurd (devices_apart k j d behind inside (sym same))
+  flows_by_order to d j k flow inside within same (inr (inr later)) = absurd (devices_apart k j d later inside (sym same))
 
   pub line_flows : (to : AccessClass) (k : ℕ) (d : Device) → k < length (devices_of c) → does_flow (device_at d k).class to ≡ true → LineFlowsInto c (device_at d k).line to
   line_flows to k d within flow = All-from_get_or (Flows c (device_at d k).line to) (devices_of c) d (λ j inside same. flows_by_order to d j k flow inside within same (cases_order j k))

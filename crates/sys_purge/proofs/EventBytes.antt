@@ -121,9 +121,9 @@ module _ (c : Config) (to : AccessClass) where
   nowhere None = refl
   nowhere (Some n) = refl
 
-  one_behind : (k : Terminal) (ks : List Terminal) (o : Option ℕ) → terminal_at (k ∷ ks) (option_map suc o) ≡ terminal_at ks o
-  one_behind k ks None = refl
-  one_behind k ks (Some n) = refl
+  one_after : (k : Terminal) (ks : List Terminal) (o : Option ℕ) → terminal_at (k ∷ ks) (option_map suc o) ≡ terminal_at ks o
+  one_after k ks None = refl
+  one_after k ks (Some n) = refl
 
   taken_seen : (g : ℕ) (row : GuestRow) → slice_get c.guests g ≡ Some row → is_kept to row ≡ true → (ks : List Terminal) (os : List (Option ℕ)) → Pairs (ConnectFits c) ks os
       → terminal_at (filter (terminal_kept c to) ks) (place_of (is_guest (guest_rank c to g)) (seen_connected c to ks os)) ≡ terminal_at ks (place_of (is_guest g) os)
@@ -131,11 +131,11 @@ module _ (c : Config) (to : AccessClass) where
   taken_seen g row at e (k ∷ ks) [] f = refl
   taken_seen g row at e (k ∷ ks) (o ∷ os) f =
       let rest = taken_seen g row at e ks os f.1 in
-      let behind = one_behind k (filter (terminal_kept c to) ks) (place_of (is_guest (guest_rank c to g)) (seen_connected c to ks os)) in
-      let before = one_behind k ks (place_of (is_guest g) os) in
+      let beyond = one_after k (filter (terminal_kept c to) ks) (place_of (is_guest (guest_rank c to g)) (seen_connected c to ks os)) in
+      let before = one_after k ks (place_of (is_guest g) os) in
       both (terminal_kept c to k)
       (λ b. let same = same_guest k b o f.0 in
-      both (is_guest g o) (λ d. rw (b, same, d) refl) (λ d. rw (b, same, d) (behind ∙ rest ∙ sym before)))
+      both (is_guest g o) (λ d. rw (b, same, d) refl) (λ d. rw (b, same, d) (beyond ∙ rest ∙ sym before)))
       (λ b. both (is_guest g o) (λ d. absurd (true≢false (sym e ∙ alike k o f.0 d ∙ b))) (λ d. rw (b, d) (rest ∙ sym before)))
     where
       same_guest : (k : Terminal) → terminal_kept c to k ≡ true → (o : Option ℕ) → ConnectFits c k o → is_guest (guest_rank c to g) (option_map (guest_rank c to) o) ≡ is_guest g o
@@ -146,10 +146,10 @@ module _ (c : Config) (to : AccessClass) where
       alike k None f d = absurd (false≢true d)
       alike k (Some j) f d = kept_alike c to g row at k (Some j) f d
 
-  pub behind_seen : (s : SystemState) → Fits c s → (n : ℕ) (k : Terminal) → slice_get c.terminals n ≡ Some k → sees c to k ≡ true → (v : Verdict) → VerdictFits c k.class v
+  pub after_seen : (s : SystemState) → Fits c s → (n : ℕ) (k : Terminal) → slice_get c.terminals n ≡ Some k → sees c to k ≡ true → (v : Verdict) → VerdictFits c k.class v
       → puts_after_verdict (purge_config c to) (seen c to s) (seen_place c to n) (moved_verdict c to v) ≡ puts_after_verdict c s n v
   unfolding taken
-  behind_seen s f n k at e (Granted (Connect g)) h =
+  after_seen s f n k at e (Granted (Connect g)) h =
       let os : List (Option ℕ) = slice_set s.connected n None in
       let fits : Pairs (ConnectFits c) c.terminals os = pairs_set (ConnectFits c) c.terminals s.connected n k None f.connected at tt in
       let set = sym (set_seen c to s.connected n None (passes_row (terminal_kept c to) c.terminals n k at ∙ e)) in
@@ -160,14 +160,14 @@ module _ (c : Config) (to : AccessClass) where
       ∙ ap taken_notice (taken_seen g h.0 h.1 (ap (λ d. does_flow d to) h.2 ∙ e) c.terminals os fits)
       ∙ sym (by_terminal c (place_of (is_guest g) os))
       ∙ ap (taken_puts c) (sym (position_is (is_guest g) os))
-  behind_seen s f n k at e (Granted (Start g)) h = refl
-  behind_seen s f n k at e (Granted (Halt g)) h = refl
-  behind_seen s f n k at e (Granted (MountAt g unit m)) h = refl
-  behind_seen s f n k at e (Granted (Dismount g unit)) h = refl
-  behind_seen s f n k at e (Granted Show) h = refl
-  behind_seen s f n k at e BadCommand h = refl
-  behind_seen s f n k at e NoSuchObject h = refl
-  behind_seen s f n k at e (Denied rule) h = refl
+  after_seen s f n k at e (Granted (Start g)) h = refl
+  after_seen s f n k at e (Granted (Halt g)) h = refl
+  after_seen s f n k at e (Granted (MountAt g unit m)) h = refl
+  after_seen s f n k at e (Granted (Dismount g unit)) h = refl
+  after_seen s f n k at e (Granted Show) h = refl
+  after_seen s f n k at e BadCommand h = refl
+  after_seen s f n k at e NoSuchObject h = refl
+  after_seen s f n k at e (Denied rule) h = refl
 
   pub audit_text_seen : (round : ℕ) (k : Terminal) (text : List ℕ) (v : Verdict) → audit_record round k text (moved_verdict c to v) ≡ audit_record round k text v
   unfolding audit_record
@@ -209,11 +209,11 @@ module _ (c : Config) (to : AccessClass) where
     seen_command round s f n k at e text v h =
         let before = before_seen s f k e v h in
         let reply = reply_seen v in
-        let behind = behind_seen s f n k at e v h in
+        let beyond = after_seen s f n k at e v h in
         let audit = audit_seen c.audit audited round k text v in
         let replies : List Put = puts_before c s k v ++ (said_on k.line (reply_of v) ∷ puts_after_verdict c s n v) in
         let replies' : List Put = puts_before (purge_config c to) (seen c to s) k (moved_verdict c to v) ++ (said_on k.line (reply_of (moved_verdict c to v)) ∷ puts_after_verdict (purge_config c to) (seen c to s) (seen_place c to n) (moved_verdict c to v)) in
-        let same : replies' ≡ replies = λ i. before i ++ (said_on k.line (reply i) ∷ behind i) in
+        let same : replies' ≡ replies = λ i. before i ++ (said_on k.line (reply i) ∷ beyond i) in
         bytes_append line replies' (audit_puts (kept_audit to c.audit) round k text (moved_verdict c to v))
         ∙ (λ i. bytes_on line (same i) ++ audit i)
         ∙ sym (bytes_append line replies (audit_puts c.audit round k text v))
@@ -240,7 +240,7 @@ module _ (c : Config) (to : AccessClass) where
     unseen_told g row at e (k ∷ ks) [] f flows = refl
     unseen_told g row at e (k ∷ ks) (o ∷ os) f flows =
         let rest = unseen_told g row at e ks os f.1 (λ n x h. flows (suc n) x h) in
-        let before = one_behind k ks (place_of (is_guest g) os) in
+        let before = one_after k ks (place_of (is_guest g) os) in
         both (is_guest g o)
         (λ d. let off = other_line k.line line k.class to (flows 0 k refl) (sym (alike k o f.0 d) ∙ e) in rw (d, off) refl)
         (λ d. rw d (ap (λ x. bytes_on line (taken_notice x)) before ∙ rest))
@@ -249,33 +249,33 @@ module _ (c : Config) (to : AccessClass) where
         alike k None f d = absurd (false≢true d)
         alike k (Some j) f d = kept_alike c to g row at k (Some j) f d
 
-    unseen_behind : (s : SystemState) → Fits c s → (n : ℕ) (k : Terminal) → slice_get c.terminals n ≡ Some k → sees c to k ≡ false → (v : Verdict) → VerdictFits c k.class v → bytes_on line (puts_after_verdict c s n v) ≡ []
+    unseen_after : (s : SystemState) → Fits c s → (n : ℕ) (k : Terminal) → slice_get c.terminals n ≡ Some k → sees c to k ≡ false → (v : Verdict) → VerdictFits c k.class v → bytes_on line (puts_after_verdict c s n v) ≡ []
     unfolding taken
-    unseen_behind s f n k at e (Granted (Connect g)) h =
+    unseen_after s f n k at e (Granted (Connect g)) h =
         let os : List (Option ℕ) = slice_set s.connected n None in
         let fits : Pairs (ConnectFits c) c.terminals os = pairs_set (ConnectFits c) c.terminals s.connected n k None f.connected at tt in
         ap (λ o. bytes_on line (taken_puts c o)) (position_is (is_guest g) os)
         ∙ ap (bytes_on line) (by_terminal c (place_of (is_guest g) os))
         ∙ unseen_told g h.0 h.1 (ap (λ d. does_flow d to) h.2 ∙ e) c.terminals os fits terminal_flows
-    unseen_behind s f n k at e (Granted (Start g)) h = refl
-    unseen_behind s f n k at e (Granted (Halt g)) h = refl
-    unseen_behind s f n k at e (Granted (MountAt g unit m)) h = refl
-    unseen_behind s f n k at e (Granted (Dismount g unit)) h = refl
-    unseen_behind s f n k at e (Granted Show) h = refl
-    unseen_behind s f n k at e BadCommand h = refl
-    unseen_behind s f n k at e NoSuchObject h = refl
-    unseen_behind s f n k at e (Denied rule) h = refl
+    unseen_after s f n k at e (Granted (Start g)) h = refl
+    unseen_after s f n k at e (Granted (Halt g)) h = refl
+    unseen_after s f n k at e (Granted (MountAt g unit m)) h = refl
+    unseen_after s f n k at e (Granted (Dismount g unit)) h = refl
+    unseen_after s f n k at e (Granted Show) h = refl
+    unseen_after s f n k at e BadCommand h = refl
+    unseen_after s f n k at e NoSuchObject h = refl
+    unseen_after s f n k at e (Denied rule) h = refl
 
     unseen_command : (round : ℕ) (s : SystemState) → Fits c s → (n : ℕ) (k : Terminal) → slice_get c.terminals n ≡ Some k → sees c to k ≡ false → (text : List ℕ) (v : Verdict) → VerdictFits c k.class v
         → bytes_on line (commanded c round s n k text v).puts ≡ []
     unseen_command round s f n k at e text v h =
         let before = unseen_before s f n k at e v h in
-        let behind = off_said k.line line (hidden_line n k at e) (reply_of v) (puts_after_verdict c s n v) ∙ unseen_behind s f n k at e v h in
+        let beyond = off_said k.line line (hidden_line n k at e) (reply_of v) (puts_after_verdict c s n v) ∙ unseen_after s f n k at e v h in
         let audit = audit_hidden c.audit audited round n k at e text v in
         let replies : List Put = said_on k.line (reply_of v) ∷ puts_after_verdict c s n v in
         bytes_append line (puts_before c s k v ++ replies) (audit_puts c.audit round k text v)
         ∙ ap (λ (bytes : List ℕ). bytes ++ bytes_on line (audit_puts c.audit round k text v)) (bytes_append line (puts_before c s k v) replies)
-        ∙ (λ i. (before i ++ behind i) ++ audit i)
+        ∙ (λ i. (before i ++ beyond i) ++ audit i)
 
     -- lines and breaks
     seen_line : (round : ℕ) (s : SystemState) → Fits c s → (n : ℕ) (k : Terminal) → slice_get c.terminals n ≡ Some k → sees c to k ≡ true → (text : List ℕ) (o : Option ℕ)
@@ -338,9 +338,9 @@ module _ (c : Config) (to : AccessClass) where
         let first' : List Put = (happened (purge_config c to) round (seen c to s) e).puts in
         let now' : SystemState = (happened (purge_config c to) round (seen c to s) e).now in
         let one = kept_bytes round s f e k in
-        let behind : bytes_on line (later now') ≡ bytes_on line more = ap (λ (t : SystemState). bytes_on line (later t)) (kept_now c to round s f e k) ∙ rest in
-        rw k (bytes_append line first' (later now') ∙ (λ i. one i ++ behind i) ∙ sym (bytes_append line first more)))
+        let beyond : bytes_on line (later now') ≡ bytes_on line more = ap (λ (t : SystemState). bytes_on line (later t)) (kept_now c to round s f e k) ∙ rest in
+        rw k (bytes_append line first' (later now') ∙ (λ i. one i ++ beyond i) ∙ sym (bytes_append line first more)))
         (λ k.
         let none = dropped_bytes round s f e k in
-        let behind : bytes_on line (later (seen c to s)) ≡ bytes_on line more = ap (λ (t : SystemState). bytes_on line (later t)) (sym (dropped_now c to round s f e k)) ∙ rest in
-        rw k (behind ∙ sym (bytes_append line first more ∙ ap (λ (bytes : List ℕ). bytes ++ bytes_on line more) none)))
+        let beyond : bytes_on line (later (seen c to s)) ≡ bytes_on line more = ap (λ (t : SystemState). bytes_on line (later t)) (sym (dropped_now c to round s f e k)) ∙ rest in
+        rw k (beyond ∙ sym (bytes_append line first more ∙ ap (λ (bytes : List ℕ). bytes ++ bytes_on line more) none)))

@@ -30,13 +30,13 @@ abbrev pub Found : {X : Type 0} → (X → Bool) → List X → Option ℕ → T
 Found {X} p xs None = find p xs ≡ None
 Found {X} p xs (Some k) = (x : X) × (slice_get xs k ≡ Some x) × (find p xs ≡ Some x)
 
-found_behind : {X : Type 0} (p : X → Bool) (x : X) (xs : List X) → p x ≡ false → (o : Option ℕ) → Found p xs o → Found p (x ∷ xs) (option_map suc o)
-found_behind p x xs e None h = rw e h
-found_behind p x xs e (Some k) h = (h.0, h.1, rw e (h.2))
+found_after : {X : Type 0} (p : X → Bool) (x : X) (xs : List X) → p x ≡ false → (o : Option ℕ) → Found p xs o → Found p (x ∷ xs) (option_map suc o)
+found_after p x xs e None h = rw e h
+found_after p x xs e (Some k) h = (h.0, h.1, rw e (h.2))
 
 pub found : {X : Type 0} (p : X → Bool) (xs : List X) → Found p xs (place_of p xs)
 found p [] = refl
-found p (x ∷ xs) = both (p x) (λ e. rw e (x, refl, rw e refl)) (λ e. rw e (found_behind p x xs e (place_of p xs) (found p xs)))
+found p (x ∷ xs) = both (p x) (λ e. rw e (x, refl, rw e refl)) (λ e. rw e (found_after p x xs e (place_of p xs) (found p xs)))
 
 -- the first that passes is the first among the kept, where it is kept
 here_first : {X : Type 0} (p test : X → Bool) (x y : X) (ys : List X) → test x ≡ true → (n : ℕ) → Some 0 ≡ Some n → slice_get (y ∷ ys) n ≡ Some x → p y ≡ true → place_of p (filter test (y ∷ ys)) ≡ Some (rank test (y ∷ ys) n)

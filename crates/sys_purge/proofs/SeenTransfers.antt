@@ -226,10 +226,10 @@ module _ (c : Config) (to : AccessClass) where
       both (is_kept to row)
       (λ e.
       let first = same_served row e ms f.0 (with_no_queue g) g.state.queue vs in
-      let behind = ap (λ us. (later us).guests) first.volumes ∙ rest.guests in
+      let beyond = ap (λ us. (later us).guests) first.volumes ∙ rest.guests in
       let guest = first.guest in
       record {
-        guests = rw e (λ i. guest i ∷ behind i);
+        guests = rw e (λ i. guest i ∷ beyond i);
         volumes = rw e (ap (λ us. (later us).volumes) first.volumes ∙ rest.volumes);
       })
       (λ e.

@@ -121,8 +121,8 @@ module _ (c : Config) (to : AccessClass) (line : ℕ) (flow : PrintersFlow line 
       (λ e.
       let same = same_served c to row e ms f.0 (with_no_queue g) g.state.queue vs in
       let first = served_bytes row h.0 e ms f.0 (with_no_queue g) g.state.queue vs in
-      let behind : bytes_on line (later one'.volumes) ≡ bytes_on line more = ap (λ us. bytes_on line (later us)) same.volumes ∙ rest in
-      rw e (bytes_append line one'.puts (later one'.volumes) ∙ (λ i. first i ++ behind i) ∙ sym (bytes_append line one.puts more)))
+      let beyond : bytes_on line (later one'.volumes) ≡ bytes_on line more = ap (λ us. bytes_on line (later us)) same.volumes ∙ rest in
+      rw e (bytes_append line one'.puts (later one'.volumes) ∙ (λ i. first i ++ beyond i) ∙ sym (bytes_append line one.puts more)))
       (λ e.
       let same = unseen_served c to row e ms f.0 (with_no_queue g) g.state.queue vs in
       let none = served_nothing row h.0 e ms (with_no_queue g) g.state.queue vs in

@@ -101,7 +101,7 @@ none_made es m s lines rests fits stands =
     record {
       system = λ j. record s { rounds = same j };
       ended = rests;
-      goes = record { state = refl; shows = shows_none s.marks lines; stands = stands; only = λ q behind. refl; size = refl };
+      goes = record { state = refl; shows = shows_none s.marks lines; stands = stands; only = λ q later. refl; size = refl };
       counts = as_sum (tally_of s.counts) fits;
       retires = record { retired = omega arith; trail = omega arith };
       pays = pays_kept (λ ts. ts) m m s.guests s.guests refl (λ ts all. refl) (λ ts all. all);
@@ -204,7 +204,7 @@ module _ (n : ℕ) (es these : List Event) (m m1 m2 : Machine) (s s1 s2 : System
       state = b.goes.state ∙ ap (λ (w : Went SystemState). w.now) whole;
       shows = shows_same s.marks s2.marks lines lines2 _ _ bytes (shows_then a.goes.shows b.goes.shows);
       stands = b.goes.stands;
-      only = λ q behind. b.goes.only q (subst (λ (y : Config). end_of_guests y.guests ≤ q) (sym config1) behind) ∙ a.goes.only q behind;
+      only = λ q later. b.goes.only q (subst (λ (y : Config). end_of_guests y.guests ≤ q) (sym config1) later) ∙ a.goes.only q later;
       size = b.goes.size ∙ a.goes.size;
     };
     counts = counts;

@@ -86,14 +86,14 @@ first_follows last event (Ok rest) events first others is =
 first_follows last event (Err fault) events first others is = absurd cc
 
 -- a line, passed over or read
-line_follows : (is_passed : Bool) (last : ℕ) (read : Result Event ScriptFault) (others : Result (List Event) ScriptFault) (behind_it : Event → Result (List Event) ScriptFault) (events : List Event)
+line_follows : (is_passed : Bool) (last : ℕ) (read : Result Event ScriptFault) (others : Result (List Event) ScriptFault) (after_it : Event → Result (List Event) ScriptFault) (events : List Event)
     → (others ≡ Ok events → Follow last events)
     → ((event : Event) → read ≡ Ok event → IsEvent event × (last ≤ event.round))
-    → ((event : Event) (rest : List Event) → behind_it event ≡ Ok rest → Follow event.round rest)
-    → (if is_passed then others else (read >>= λ event. in_front event (behind_it event))) ≡ Ok events → Follow last events
-line_follows true last read others behind_it events skip first later is = skip is
-line_follows false last (Ok event) others behind_it events skip first later is = first_follows last event (behind_it event) events (first event refl) (later event) is
-line_follows false last (Err fault) others behind_it events skip first later is = absurd cc
+    → ((event : Event) (rest : List Event) → after_it event ≡ Ok rest → Follow event.round rest)
+    → (if is_passed then others else (read >>= λ event. in_front event (after_it event))) ≡ Ok events → Follow last events
+line_follows true last read others after_it events skip first later is = skip is
+line_follows false last (Ok event) others after_it events skip first later is = first_follows last event (after_it event) events (first event refl) (later event) is
+line_follows false last (Err fault) others after_it events skip first later is = absurd cc
 
 of_line : (number : ℕ) (read : Result Event ScriptKind) (event : Event) → at_script_line number read ≡ Ok event → read ≡ Ok event
 of_line number (Ok x) event is = cc

@@ -7,18 +7,18 @@ use Rattle.sys_script.specs.declared.event.Event.{Event}
 use Rattle.sys_script.specs.declared.event.ScriptFault.{ScriptFault}
 
 -- events that were read, and those of the rest
-abbrev pub behind_all : List Event → Result (List Event) ScriptFault → Result (List Event) ScriptFault
-behind_all done rest = rest >>= λ more. Ok (done ++ more)
+abbrev pub after_all : List Event → Result (List Event) ScriptFault → Result (List Event) ScriptFault
+after_all done rest = rest >>= λ more. Ok (done ++ more)
 
-behind_none : (rest : Result (List Event) ScriptFault) → behind_all [] rest ≡ rest
-behind_none (Ok more) = refl
-behind_none (Err fault) = refl
+after_none : (rest : Result (List Event) ScriptFault) → after_all [] rest ≡ rest
+after_none (Ok more) = refl
+after_none (Err fault) = refl
 
-pub begins : (bytes : List ℕ) → behind_all [] (events_from 1 0 (lines bytes)) ≡ script_of bytes
+pub begins : (bytes : List ℕ) → after_all [] (events_from 1 0 (lines bytes)) ≡ script_of bytes
 unfolding script_of
-begins bytes = behind_none (events_from 1 0 (lines bytes))
+begins bytes = after_none (events_from 1 0 (lines bytes))
 
-pub all_read : (bytes rest : List ℕ) (done : List Event) (number last : ℕ) → behind_all done (events_from number last (lines rest)) ≡ script_of bytes → lines rest ≡ [] → script_of bytes ≡ Ok done
+pub all_read : (bytes rest : List ℕ) (done : List Event) (number last : ℕ) → after_all done (events_from number last (lines rest)) ≡ script_of bytes → lines rest ≡ [] → script_of bytes ≡ Ok done
 all_read bytes rest done number last is none =
-    let here : behind_all done (events_from number last []) ≡ script_of bytes = rw none at is in
+    let here : after_all done (events_from number last []) ≡ script_of bytes = rw none at is in
     sym here ∙ ap (λ events. Ok events) (append-nil done)

@@ -19,7 +19,7 @@ use Rattle.sys_script.specs.declared.event.ScriptKind.TheVariants.{BadRound, Bad
 use Rattle.sys_script.specs.declared.event.Typed.{Typed}
 use Rattle.sys_script.specs.declared.event.Typed.TheVariants.{Break, Line}
 use Rattle.sys_script.proofs.Ordered.{passed}
-use Rattle.sys_script.proofs.WrittenAgain.{AreFrom, behind_at, both, decimal_from_48, from_test, front_at, is_read, joined, lines_at, lower, name_from_48, round_read, shown_from}
+use Rattle.sys_script.proofs.WrittenAgain.{AreFrom, after_at, both, decimal_from_48, from_test, front_at, is_read, joined, lines_at, lower, name_from_48, round_read, shown_from}
 
 -- What a line says, by its parts.
 abbrev event_of : ℕ → List ℕ → Typed → Event
@@ -48,7 +48,7 @@ with_round last round line from to rises =
     let number : round_in (front (decimal round ++ 32 ∷ line)) ≡ Some round = rw (front_at (decimal round) line digits, round_read round from to) in
     let rest : List ℕ = after_blank (decimal round ++ 32 ∷ line) in
     after_round last round (round_in (front (decimal round ++ 32 ∷ line))) (tested is_object_name (front rest)) (what_in (after_blank rest)) number (le-leb last round rises)
-    ∙ ap (λ text. With round (tested is_object_name (front text)) (what_in (after_blank text))) (behind_at (decimal round) line digits)
+    ∙ ap (λ text. With round (tested is_object_name (front text)) (what_in (after_blank text))) (after_at (decimal round) line digits)
 
 pub says_with_round : SaysWithRound
 says_with_round round line from to = with_round round round line from to (omega arith)

@@ -64,8 +64,8 @@ position_at least c xs ys below all =
 pub front_at : (xs ys : List ℕ) → AreFrom 33 xs → front (xs ++ 32 ∷ ys) ≡ xs
 front_at xs ys all = ap (λ n. take n (xs ++ 32 ∷ ys)) (position_at 33 32 xs ys (lit< tt) all) ∙ take_at xs (32 ∷ ys) (length xs) refl
 
-pub behind_at : (xs ys : List ℕ) → AreFrom 33 xs → after_blank (xs ++ 32 ∷ ys) ≡ ys
-behind_at xs ys all =
+pub after_at : (xs ys : List ℕ) → AreFrom 33 xs → after_blank (xs ++ 32 ∷ ys) ≡ ys
+after_at xs ys all =
     ap (λ n. drop (n + 1) (xs ++ 32 ∷ ys)) (position_at 33 32 xs ys (lit< tt) all)
     ∙ ap (drop (length xs + 1)) (sym (append_assoc xs (32 ∷ []) ys)) ∙ drop_at (xs ++ 32 ∷ []) ys (length xs + 1) (length_push xs 32)
 
@@ -150,13 +150,13 @@ line_read last event is rises =
     let small : event.round < 2 ^ 64 = omega (arith, is.to) in
     let number : AreFrom 33 (decimal event.round) = lower 48 33 (decimal event.round) (lit≤ tt) (decimal_from_48 event.round small) in
     let name : AreFrom 33 event.terminal = lower 48 33 event.terminal (lit≤ tt) (name_from_48 event.terminal is.terminal) in
-    let after : after_blank (line_text event) ≡ event.terminal ++ 32 ∷ what_text event.what = behind_at (decimal event.round) (event.terminal ++ 32 ∷ what_text event.what) number in
+    let after : after_blank (line_text event) ≡ event.terminal ++ 32 ∷ what_text event.what = after_at (decimal event.round) (event.terminal ++ 32 ∷ what_text event.what) number in
     let round : round_in (front (line_text event)) ≡ Some event.round =
     rw (front_at (decimal event.round) (event.terminal ++ 32 ∷ what_text event.what) number, round_read event.round is.from is.to) in
     let terminal : tested is_object_name (front (after_blank (line_text event))) ≡ Some event.terminal =
     rw (after, front_at event.terminal (what_text event.what) name, is.terminal) in
     let what : what_in (after_blank (after_blank (line_text event))) ≡ Some event.what =
-    rw (after, behind_at event.terminal (what_text event.what) name, what_read event.what) in
+    rw (after, after_at event.terminal (what_text event.what) name, what_read event.what) in
     passed last _ _ _ event round terminal what is.what (le-leb last event.round rises)
 
 -- it is no comment

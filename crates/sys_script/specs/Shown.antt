@@ -54,9 +54,9 @@ pub two_blanks : script_of (codes "1  T1 break") ≡ Err (record { line = 1; kin
 unfolding script_of event_in
 two_blanks = refl
 
-pub nothing_behind_a_break : script_of (codes "1 T1 break now") ≡ Err (record { line = 1; kind = BadEvent })
+pub nothing_after_a_break : script_of (codes "1 T1 break now") ≡ Err (record { line = 1; kind = BadEvent })
 unfolding script_of event_in
-nothing_behind_a_break = refl
+nothing_after_a_break = refl
 
 pub a_return_is_no_text : script_of (codes "1 T1 > A" ++ 13 ∷ []) ≡ Err (record { line = 1; kind = BadText })
 unfolding script_of event_in

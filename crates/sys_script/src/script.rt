@@ -58,9 +58,9 @@ pub fn read_script(alloc: Global, b: &[u8]) -> Result<Vec<Event>, ScriptError>
     let mut rest = b;
     let mut number = 0;
     let mut last = 0;
-    while let Some((line, behind)) = next_line(rest) {
+    while let Some((line, later)) = next_line(rest) {
         number += 1;
-        rest = behind;
+        rest = later;
         if is_passed_over(line) {
             continue;
         }

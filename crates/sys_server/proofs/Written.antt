@@ -78,16 +78,16 @@ of_word : (verb vm unit : List ℕ) (more : List (List ℕ)) → IsName vm → (
 of_word verb vm unit more named None h = tt
 of_word verb vm unit more named (Some n) h = let is = unit_is unit n h in of_unit verb vm unit n more named is.0 is.1
 
-behind_name : (verb vm : List ℕ) (more : List (List ℕ)) → IsName vm → IfSome (asked_after_guest verb (Some vm) more) (Says (verb ∷ vm ∷ more))
-behind_name verb vm [] named = of_guest verb vm named
-behind_name verb vm (unit ∷ more) named = of_word verb vm unit more named (unit_in unit) refl
+after_name : (verb vm : List ℕ) (more : List (List ℕ)) → IsName vm → IfSome (asked_after_guest verb (Some vm) more) (Says (verb ∷ vm ∷ more))
+after_name verb vm [] named = of_guest verb vm named
+after_name verb vm (unit ∷ more) named = of_word verb vm unit more named (unit_in unit) refl
 
 of_words : (ws : List (List ℕ)) → IfSome (asked_of ws) (Says ws)
 of_words [] = tt
 of_words (verb ∷ []) = both (bytes_eq verb (codes "SHOW"))
     (λ e. rw e (tt, ap (λ v. v ∷ []) (same verb (codes "SHOW") e)))
     (λ e. rw e tt)
-of_words (verb ∷ vm ∷ more) = both (is_object_name vm) (λ e. rw e (behind_name verb vm more e)) (λ e. rw e tt)
+of_words (verb ∷ vm ∷ more) = both (is_object_name vm) (λ e. rw e (after_name verb vm more e)) (λ e. rw e tt)
 
 pub lines_are_written : (text : List ℕ) → IfSome (asked_in text) (Asks text)
 unfolding asked_in

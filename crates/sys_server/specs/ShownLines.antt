@@ -39,9 +39,9 @@ pub nothing : asked_in [] ≡ None
 unfolding asked_in
 nothing = refl
 
-pub a_blank_behind : asked_in (codes "SHOW ") ≡ None
+pub a_blank_after : asked_in (codes "SHOW ") ≡ None
 unfolding asked_in
-a_blank_behind = refl
+a_blank_after = refl
 
 pub a_blank_in_front : asked_in (codes " SHOW") ≡ None
 unfolding asked_in
@@ -91,9 +91,9 @@ pub another_access : asked_in (codes "MOUNT A 0 PUB READS") ≡ None
 unfolding asked_in
 another_access = refl
 
-pub a_word_behind_the_access : asked_in (codes "MOUNT A 0 PUB READ ") ≡ None
+pub a_word_after_the_access : asked_in (codes "MOUNT A 0 PUB READ ") ≡ None
 unfolding asked_in
-a_word_behind_the_access = refl
+a_word_after_the_access = refl
 
 pub a_unit_too_many : asked_in (codes "HALT A 0") ≡ None
 unfolding asked_in

@@ -80,7 +80,7 @@ fn asked_of_dismount(verb: &[u8], vm: Name, unit: u8) -> Option<Asked>
 }
 
 /// What is asked where a guest and a unit are named, and these words follow.
-fn behind_unit(verb: &[u8], vm: Name, unit: u8, rest: Option<&[u8]>) -> Option<Asked>
+fn after_unit(verb: &[u8], vm: Name, unit: u8, rest: Option<&[u8]>) -> Option<Asked>
     ensures { result ≡ asked_after_unit verb.now vm (Some unit) (rest_words (option_copied rest.entry)) }
 {
     let Some(rest) = rest else {
@@ -109,14 +109,14 @@ fn asked_of_guest(verb: &[u8], vm: Name) -> Option<Asked>
 }
 
 /// What is asked where a guest is named, and these words follow.
-fn behind_guest(verb: &[u8], vm: Name, rest: Option<&[u8]>) -> Option<Asked>
+fn after_guest(verb: &[u8], vm: Name, rest: Option<&[u8]>) -> Option<Asked>
     ensures { result ≡ asked_after_guest verb.now (Some vm) (rest_words (option_copied rest.entry)) }
 {
     let Some(rest) = rest else {
         return asked_of_guest(verb, vm);
     };
     let (unit, rest) = cut(rest);
-    behind_unit(verb, vm, unit_in(unit)?, rest)
+    after_unit(verb, vm, unit_in(unit)?, rest)
 }
 
 fn asked_alone(verb: &[u8]) -> Option<Asked>
@@ -138,7 +138,7 @@ fn read(text: &[u8]) -> Option<Asked>
         return asked_alone(verb);
     };
     let (vm, rest) = cut(rest);
-    behind_guest(verb, object_name(vm)?, rest)
+    after_guest(verb, object_name(vm)?, rest)
 }
 
 /// What a line asks for; `None` exactly where it is no command.

@@ -71,12 +71,12 @@ any_round c i es xs s is long quanta =
     let cut : List Put = (slices c.terminals begun.connected xs begun.guests).puts in
     let many_begun : length begun.guests ≡ length c.guests = by_events c i s (events_of i es) ∙ long in
     let same = any_schedule c begun xs is many_begun quanta in
-    let behind : List Guest → SystemState = λ gs. record begun { guests = gs } in
-    let later : List Guest → List Put = λ gs. (transfers c (behind gs)).puts in
+    let beyond : List Guest → SystemState = λ gs. record begun { guests = gs } in
+    let later : List Guest → List Put = λ gs. (transfers c (beyond gs)).puts in
     let parts : (line : ℕ) (x y z : List Put) → bytes_on line (x ++ y ++ z) ≡ bytes_on line x ++ bytes_on line y ++ bytes_on line z =
     λ line x y z. bytes_append line (x ++ y) z ∙ ap (λ (bytes : List ℕ). bytes ++ bytes_on line z) (bytes_append line x y) in
     record {
-      now = ap (λ (gs : List Guest). (transfers c (behind gs)).now) same.0;
+      now = ap (λ (gs : List Guest). (transfers c (beyond gs)).now) same.0;
       bytes = λ line.
           let middle : bytes_on line cut ≡ bytes_on line turned = same.1 line in
           parts line shown cut (later (slices c.terminals begun.connected xs begun.guests).now)

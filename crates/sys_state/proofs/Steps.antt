@@ -12,12 +12,12 @@ same_guest zero g x y t u = refl
 same_guest (suc n) g x y t u = same_guest n (step g).guest (x ++ (step g).shown) (y ++ (step g).shown) (tallied (step g).kind t) (tallied (step g).kind u)
 
 -- what is shown comes after what was shown before
-shown_behind : (n : ℕ) (g : Guest) (x : List ℕ) (t u : Tally) → (after_steps n (record { guest = g; shown = x; tally = t })).shown ≡ x ++ (after_steps n (record { guest = g; shown = []; tally = u })).shown
-shown_behind zero g x t u = sym (append-nil x)
-shown_behind (suc n) g x t u =
+shown_after : (n : ℕ) (g : Guest) (x : List ℕ) (t u : Tally) → (after_steps n (record { guest = g; shown = x; tally = t })).shown ≡ x ++ (after_steps n (record { guest = g; shown = []; tally = u })).shown
+shown_after zero g x t u = sym (append-nil x)
+shown_after (suc n) g x t u =
     let s = step g in
     let rest = (after_steps n (record { guest = s.guest; shown = []; tally = u })).shown in
-    shown_behind n s.guest (x ++ s.shown) (tallied s.kind t) u ∙ append_assoc x s.shown rest ∙ ap (λ ys. x ++ ys) (sym (shown_behind n s.guest ([] ++ s.shown) (tallied s.kind u) u))
+    shown_after n s.guest (x ++ s.shown) (tallied s.kind t) u ∙ append_assoc x s.shown rest ∙ ap (λ ys. x ++ ys) (sym (shown_after n s.guest ([] ++ s.shown) (tallied s.kind u) u))
 
 after_sum : (m n : ℕ) (run : Run) → after_steps (m + n) run ≡ after_steps n (after_steps m run)
 after_sum zero n run = let e : zero + n ≡ n = grind arith in rw e refl
@@ -31,7 +31,7 @@ steps_add m n g =
 pub shown_add : (m n : ℕ) (g : Guest) → (alone (m + n) g).shown ≡ (alone m g).shown ++ (alone n (alone m g).guest).shown
 shown_add m n g =
     let first : Run = alone m g in
-    ap (λ (r : Run). r.shown) (after_sum m n (record { guest = g; shown = []; tally = no_steps })) ∙ shown_behind n first.guest first.shown first.tally no_steps
+    ap (λ (r : Run). r.shown) (after_sum m n (record { guest = g; shown = []; tally = no_steps })) ∙ shown_after n first.guest first.shown first.tally no_steps
 
 -- one more step of a kind in a sum
 tallied_added : (k : Kind) (t u : Tally) → tallied k (added t u) ≡ added t (tallied k u)
@@ -47,12 +47,12 @@ tallied_added Idle t u = let one : (t.idle + u.idle) + 1 ≡ t.idle + (u.idle + 
 tallied_added Stopped t u = let one : (t.stopped + u.stopped) + 1 ≡ t.stopped + (u.stopped + 1) = omega arith in λ i. record (added t u) { stopped = one i }
 
 -- what was counted before is added
-counted_behind : (n : ℕ) (g : Guest) (x y : List ℕ) (t u : Tally) → (after_steps n (record { guest = g; shown = x; tally = added t u })).tally ≡ added t (after_steps n (record { guest = g; shown = y; tally = u })).tally
-counted_behind zero g x y t u = refl
-counted_behind (suc n) g x y t u =
+counted_after : (n : ℕ) (g : Guest) (x y : List ℕ) (t u : Tally) → (after_steps n (record { guest = g; shown = x; tally = added t u })).tally ≡ added t (after_steps n (record { guest = g; shown = y; tally = u })).tally
+counted_after zero g x y t u = refl
+counted_after (suc n) g x y t u =
     let s = step g in
     let then : Tally → Run = λ v. after_steps n (record { guest = s.guest; shown = x ++ s.shown; tally = v }) in
-    ap (λ (v : Tally). (then v).tally) (tallied_added s.kind t u) ∙ counted_behind n s.guest (x ++ s.shown) (y ++ s.shown) t (tallied s.kind u)
+    ap (λ (v : Tally). (then v).tally) (tallied_added s.kind t u) ∙ counted_after n s.guest (x ++ s.shown) (y ++ s.shown) t (tallied s.kind u)
 
 -- the trail is a number of 64 bits
 fits_on : (k : Kind) (t : Tally) → t.trail < 2 ^ 64 → (tallied k t).trail < 2 ^ 64
@@ -87,4 +87,4 @@ pub tally_add : (m n : ℕ) (g : Guest) → (alone (m + n) g).tally ≡ added (a
 tally_add m n g =
     let first : Run = alone m g in
     let again : Tally → Run = λ v. after_steps n (record { guest = first.guest; shown = first.shown; tally = v }) in
-    ap (λ (r : Run). r.tally) (after_sum m n (record { guest = g; shown = []; tally = no_steps })) ∙ ap (λ (v : Tally). (again v).tally) (as_sum first.tally (trail_fits m g)) ∙ counted_behind n first.guest first.shown [] first.tally no_steps
+    ap (λ (r : Run). r.tally) (after_sum m n (record { guest = g; shown = []; tally = no_steps })) ∙ ap (λ (v : Tally). (again v).tally) (as_sum first.tally (trail_fits m g)) ∙ counted_after n first.guest first.shown [] first.tally no_steps

@@ -32,9 +32,9 @@ turn_is false o f x e = cc
 abbrev has_some : ℕ → Bool
 has_some n = nat_lt 0 n
 
-behind_is : (from g : ℕ) (left : List ℕ) (o : Option ℕ) → position has_some (drop from left) ≡ o → from ≤ length left → option_map (λ k. from + k) o ≡ Some g → (g < length left) × (has_some (slice_index left g) ≡ true)
-behind_is from g left None e within is = cc
-behind_is from g left (Some k) e within is =
+after_is : (from g : ℕ) (left : List ℕ) (o : Option ℕ) → position has_some (drop from left) ≡ o → from ≤ length left → option_map (λ k. from + k) o ≡ Some g → (g < length left) × (has_some (slice_index left g) ≡ true)
+after_is from g left None e within is = cc
+after_is from g left (Some k) e within is =
     let found = position-Some has_some (drop from left) k 0 e in
     let at : from + k ≡ g = same_some (from + k) g is in
     let size : length (drop from left) ≡ length left - from = length-drop from left in
@@ -46,7 +46,7 @@ first_is (Some n) b g P f h e = f e
 
 guest_is : (from g : ℕ) (left : List ℕ) → from ≤ length left → next_guest from left ≡ Some g → (g < length left) × (has_some (slice_index left g) ≡ true)
 guest_is from g left within e = first_is (option_map (λ k. from + k) (position has_some (drop from left))) (position has_some left) g _
-    (λ is. behind_is from g left (position has_some (drop from left)) refl within is)
+    (λ is. after_is from g left (position has_some (drop from left)) refl within is)
     (λ is. let found = position-Some has_some left g 0 is in (found.0, found.1)) e
 
 pub next_can : (s : System) (x : Slice) → IsSystem s → next_slice s.config.slice s.turns ≡ Some x → CanTake s x × (0 < x.steps)

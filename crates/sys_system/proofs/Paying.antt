@@ -99,11 +99,11 @@ counted_transfers c (row ∷ rows) (ms ∷ mounts) (g ∷ gs) volumes [] u b l =
 counted_transfers c (row ∷ rows) (ms ∷ mounts) (g ∷ gs) volumes (t ∷ ts) u b l =
     let one = served c row ms (with_no_queue g) g.state.queue volumes in
     let first = touches_of_queue c row ms (with_no_queue g) g.state.queue volumes t in
-    let behind = touches_of_transfers c rows mounts gs one.volumes ts in
+    let later = touches_of_transfers c rows mounts gs one.volumes ts in
     let here : first.count ≡ t.count = counted_queue c row ms (with_no_queue g) g.state.queue volumes t in
-    let rest : counted_in behind ≡ counted_in ts = counted_transfers c rows mounts gs one.volumes ts (omega (arith, u)) (omega (arith, b)) (omega (arith, l)) in
+    let rest : counted_in later ≡ counted_in ts = counted_transfers c rows mounts gs one.volumes ts (omega (arith, u)) (omega (arith, b)) (omega (arith, l)) in
     let before : counted_in (t ∷ ts) ≡ t.count + counted_in ts = sum_by-cons (λ (y : Touching). y.count) t ts in
-    let after : counted_in (first ∷ behind) ≡ first.count + counted_in behind = sum_by-cons (λ (y : Touching). y.count) first behind in
+    let after : counted_in (first ∷ later) ≡ first.count + counted_in later = sum_by-cons (λ (y : Touching). y.count) first later in
     omega (arith, here, rest, before, after)
 
 -- one slice more

@@ -42,7 +42,7 @@ plays_none s m lines h stands running = record {
   left = λ i. omega arith;
   begun = running;
   stands = stands;
-  only = λ p behind. refl;
+  only = λ p later. refl;
   size = refl;
 }
 
@@ -74,7 +74,7 @@ plays_more xs x m m' m'' s s' s'' lines lines' lines'' p can t pays =
           omega (arith, fall, now, p.left i, total_more xs x i);
       begun = ap (λ (v : Turns). v.is_begun) turns ∙ p.begun;
       stands = t.goes.stands;
-      only = λ q behind. t.goes.only q (subst (λ (c : Config). end_of_guests c.guests ≤ q) (sym config') behind) ∙ p.only q behind;
+      only = λ q later. t.goes.only q (subst (λ (c : Config). end_of_guests c.guests ≤ q) (sym config') later) ∙ p.only q later;
       size = t.goes.size ∙ p.size;
     }
 

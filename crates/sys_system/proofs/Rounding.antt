@@ -187,10 +187,10 @@ module _ (es : List Event) (xs : List Slice) (m m1 m2 m3 : Machine) (s s1 s2 s3 
       state = state3 ∙ whole_now;
       shows = shows_same s.marks s3.marks lines lines3 _ _ (λ k. shown k ∙ whole_bytes k) (shows_then (shows_then b.goes.shows p.shows) e.goes.shows);
       stands = e.goes.stands;
-      only = λ q behind.
-          e.goes.only q (subst (λ (y : Config). end_of_guests y.guests ≤ q) (sym config2) behind)
-          ∙ p.only q (subst (λ (y : Config). end_of_guests y.guests ≤ q) (sym config1) behind)
-          ∙ b.goes.only q behind;
+      only = λ q later.
+          e.goes.only q (subst (λ (y : Config). end_of_guests y.guests ≤ q) (sym config2) later)
+          ∙ p.only q (subst (λ (y : Config). end_of_guests y.guests ≤ q) (sym config1) later)
+          ∙ b.goes.only q later;
       size = e.goes.size ∙ p.size ∙ b.goes.size;
     };
     counts = ap (λ (x : System). tally_of x.counts) e.system ∙ p.counts ∙ ap (λ (x : System). added (tally_of x.counts) (slices_tally xs (guests_in m1.memory s1.guests))) b.system ∙ ap (added (tally_of s.counts)) tally;

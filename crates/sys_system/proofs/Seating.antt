@@ -38,9 +38,9 @@ are_connections rows i (t ∷ ts) = ap (λ xs. first_at rows i ∷ xs) (are_conn
 abbrev pub seated : List GuestRow → ℕ → List (Option ℕ)
 seated rows n = seats rows 0 n ++ replicate (32 - n) None
 
-set_behind : (xs : List (Option ℕ)) (m : ℕ) (y : Option ℕ) → slice_set (xs ++ replicate (suc m) None) (length xs) y ≡ (xs ++ y ∷ []) ++ replicate m None
-set_behind [] m y = refl
-set_behind (x ∷ xs) m y = ap (λ ys. x ∷ ys) (set_behind xs m y)
+set_after : (xs : List (Option ℕ)) (m : ℕ) (y : Option ℕ) → slice_set (xs ++ replicate (suc m) None) (length xs) y ≡ (xs ++ y ∷ []) ++ replicate m None
+set_after [] m y = refl
+set_after (x ∷ xs) m y = ap (λ ys. x ∷ ys) (set_after xs m y)
 
 pub seated_next : (rows : List GuestRow) (n : ℕ) → n < 32 → slice_set (seated rows n) n (first_at rows n) ≡ seated rows (n + 1)
 seated_next rows n h =
@@ -50,7 +50,7 @@ seated_next rows n h =
     let zero_and : 0 + n ≡ n = omega arith in
     ap (λ k. slice_set (seats rows 0 n ++ replicate k None) n (first_at rows n)) left
     ∙ ap (λ k. slice_set (seats rows 0 n ++ replicate (suc m) None) k (first_at rows n)) (sym long)
-    ∙ set_behind (seats rows 0 n) m (first_at rows n)
+    ∙ set_after (seats rows 0 n) m (first_at rows n)
     ∙ ap (λ k. (seats rows 0 n ++ first_at rows k ∷ []) ++ replicate m None) (sym zero_and)
     ∙ ap (λ xs. xs ++ replicate m None) (sym (seats_more rows 0 n))
 

@@ -30,10 +30,10 @@ before_changed f [] i x e = absurd (none_some x e)
 before_changed f (y ∷ xs) zero x e = ap (λ z. f z ∷ []) (same_there y x e)
 before_changed f (y ∷ xs) (suc i) x e = let n : suc i + 1 ≡ suc (i + 1) = omega arith in rw n (ap (λ zs. y ∷ zs) (before_changed f xs i x e))
 
-pub behind_changed : {X : Type 0} (f : X → X) (xs : List X) (i : ℕ) → drop (i + 1) (changed f xs i) ≡ drop (i + 1) xs
-behind_changed f [] i = refl
-behind_changed f (y ∷ xs) zero = refl
-behind_changed f (y ∷ xs) (suc i) = let n : suc i + 1 ≡ suc (i + 1) = omega arith in rw n (behind_changed f xs i)
+pub after_changed : {X : Type 0} (f : X → X) (xs : List X) (i : ℕ) → drop (i + 1) (changed f xs i) ≡ drop (i + 1) xs
+after_changed f [] i = refl
+after_changed f (y ∷ xs) zero = refl
+after_changed f (y ∷ xs) (suc i) = let n : suc i + 1 ≡ suc (i + 1) = omega arith in rw n (after_changed f xs i)
 
 -- an element is read whatever default stands for one that doesn't exist
 pub read_there : {X : Type 0} (xs : List X) (i : ℕ) (d : X) → i < length xs → slice_index_or xs i d ≡ slice_index_or xs i (slice_index_or xs i d)

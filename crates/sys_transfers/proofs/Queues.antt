@@ -171,13 +171,13 @@ module _ (c : Config) (row : GuestRow) (units : List (Option Mount)) (volumes : 
       served_now : Becomes one.guest m1 k1 m2 k2
       served_now = serves.becomes c
 
-      behind : Served
-      behind = served c row units one.guest (drop (n + 1) queue) one.volumes
+      later : Served
+      later = served c row units one.guest (drop (n + 1) queue) one.volumes
 
-      first : left n h1 vs ≡ record { guest = behind.guest; volumes = behind.volumes; puts = one.puts ++ behind.puts }
+      first : left n h1 vs ≡ record { guest = later.guest; volumes = later.volumes; puts = one.puts ++ later.puts }
       first = next_at c row units h1 at queue n d vs inside here
 
-      rest : behind ≡ left (n + 1) (guest_in m2.memory k2) vs2
+      rest : later ≡ left (n + 1) (guest_in m2.memory k2) vs2
       rest = λ i. served c row units (sym served_now.guest i) (drop (n + 1) queue) (sym (serves.volumes_are c) i)
 
       told : (j : ℕ) → bytes_on j x.puts ++ bytes_on j (job_on (printer_of c row.printer) job) ≡ bytes_on j (x.puts ++ one.puts)

@@ -28,7 +28,7 @@ use Rattle.sys_state.specs.State.{Put, SystemState, bytes_on}
 use Rattle.sys_state.specs.Transfers.{AllServed, Served, all_served, transfers}
 use Rattle.sys_transfers.specs.Serves.{MountsNameVolumes}
 use Rattle.sys_transfers.specs.ServesAll.{ServesAt, ServesGuest, all_packets, all_touched}
-use Rattle.sys_transfers.proofs.Places.{before_changed, behind_changed, from_here, got_in_front}
+use Rattle.sys_transfers.proofs.Places.{before_changed, after_changed, from_here, got_in_front}
 use Rattle.sys_transfers.proofs.Sizes.{as_many, packets_keep_faults, packets_keep_sizes, sizes}
 
 -- the guest at a place
@@ -150,7 +150,7 @@ module _ (k : Kernel) (volumes : List (List (List ℕ))) (m : Machine) (lines : 
     shows = shows_none k.marks lines;
     placed = placed;
     machine = refl;
-    only = λ p behind. refl;
+    only = λ p beyond. refl;
     size = refl;
     sizes_are = refl;
     present = λ ts all. record { at = ts; has = all; is = refl };
@@ -161,13 +161,13 @@ module _ (k : Kernel) (volumes : List (List (List ℕ))) (m : Machine) (lines : 
       → ServesAt c k.server.mounts i vs m1 ks1 marks1 lines1 vs2 m2 ks2 marks2 lines2 → SoFar (i + 1) vs2 m2 ks2 marks2 lines2
   one_more i vs vs2 m1 ks1 marks1 lines1 m2 ks2 marks2 lines2 h x y = record {
     puts = x.puts ++ one.puts;
-    guests = (λ j. done j ++ (sym later j).guests) ∙ append_assoc (take i gs1) (one.guest ∷ []) behind.guests ∙ ap (λ (s : AllServed). take i gs1 ++ s.guests) (sym first) ∙ x.guests;
+    guests = (λ j. done j ++ (sym later j).guests) ∙ append_assoc (take i gs1) (one.guest ∷ []) beyond.guests ∙ ap (λ (s : AllServed). take i gs1 ++ s.guests) (sym first) ∙ x.guests;
     volumes_are = ap (λ (s : AllServed). s.volumes) (sym later) ∙ ap (λ (s : AllServed). s.volumes) (sym first) ∙ x.volumes_are;
     puts_are = append_assoc x.puts one.puts (rest (i + 1) gs2 vs2).puts ∙ ap (λ (s : AllServed). x.puts ++ (one.puts ++ s.puts)) (sym later) ∙ ap (λ (s : AllServed). x.puts ++ s.puts) (sym first) ∙ x.puts_are;
     shows = shows_same k.marks marks2 lines lines2 (λ j. bytes_on j x.puts ++ bytes_on j one.puts) (λ j. bytes_on j (x.puts ++ one.puts)) (λ j. sym (bytes_append j x.puts one.puts)) (shows_then x.shows y.shows);
     placed = y.changes.stay;
     machine = y.machine ∙ (λ j. record (x.machine j) { memory = m2.memory });
-    only = λ p behind. y.changes.only p behind ∙ x.only p behind;
+    only = λ p beyond. y.changes.only p beyond ∙ x.only p beyond;
     size = y.changes.size ∙ x.size;
     sizes_are = ap sizes y.volumes_are ∙ packets_keep_sizes c y.row y.units y.guest vs ∙ x.sizes_are;
     present = λ ts all. let r = x.present ts all in one_touched ts r;
@@ -182,13 +182,13 @@ module _ (k : Kernel) (volumes : List (List (List ℕ))) (m : Machine) (lines : 
       one : Served
       one = all_packets c y.row y.units y.guest vs
 
-      behind : AllServed
-      behind = all_served c (drop (i + 1) c.guests) (drop (i + 1) before.mounts) (drop (i + 1) gs1) one.volumes
+      beyond : AllServed
+      beyond = all_served c (drop (i + 1) c.guests) (drop (i + 1) before.mounts) (drop (i + 1) gs1) one.volumes
 
       f : Guest → Guest
       f g = (all_packets c y.row y.units g vs).guest
 
-      first : rest i gs1 vs ≡ record { guests = one.guest ∷ behind.guests; volumes = behind.volumes; puts = one.puts ++ behind.puts }
+      first : rest i gs1 vs ≡ record { guests = one.guest ∷ beyond.guests; volumes = beyond.volumes; puts = one.puts ++ beyond.puts }
       first = next_at c c.guests before.mounts gs1 i y.row y.units y.guest vs y.has_row (got_in_front (length c.guests) k.server.mounts i y.units h y.has_units) y.has_guest
 
       changes : gs2 ≡ changed f gs1 i
@@ -203,9 +203,9 @@ module _ (k : Kernel) (volumes : List (List (List ℕ))) (m : Machine) (lines : 
           let (t, has_touch) = touch_there ks1 r.at i there r.has in
           let at2 : List Touching = changed (all_touched c y.row y.units y.guest vs) r.at i in
           let front : take (i + 1) at2 ≡ take i r.at ++ all_touched c y.row y.units y.guest vs t ∷ [] = before_changed (all_touched c y.row y.units y.guest vs) r.at i t has_touch in
-          let back : drop (i + 1) at2 ≡ drop (i + 1) r.at = behind_changed (all_touched c y.row y.units y.guest vs) r.at i in
+          let back : drop (i + 1) at2 ≡ drop (i + 1) r.at = after_changed (all_touched c y.row y.units y.guest vs) r.at i in
           let now : some_left (i + 1) gs2 vs2 at2 ≡ touches_of_transfers c (drop (i + 1) c.guests) (drop (i + 1) before.mounts) (drop (i + 1) gs1) one.volumes (drop (i + 1) r.at) =
-          λ j. touches_of_transfers c (drop (i + 1) c.guests) (drop (i + 1) before.mounts) ((ap (drop (i + 1)) changes ∙ behind_changed f gs1 i) j) (y.volumes_are j) (back j) in
+          λ j. touches_of_transfers c (drop (i + 1) c.guests) (drop (i + 1) before.mounts) ((ap (drop (i + 1)) changes ∙ after_changed f gs1 i) j) (y.volumes_are j) (back j) in
           let here = touch_at c c.guests before.mounts gs1 i y.row y.units y.guest vs t r.at y.has_row (got_in_front (length c.guests) k.server.mounts i y.units h y.has_units) y.has_guest has_touch in
           record {
             at = at2;
@@ -214,8 +214,8 @@ module _ (k : Kernel) (volumes : List (List (List ℕ))) (m : Machine) (lines : 
                 ∙ ap (λ (us : List Touching). take i r.at ++ us) (sym here) ∙ r.is;
           }
 
-      later : behind ≡ rest (i + 1) gs2 vs2
-      later = λ j. all_served c (drop (i + 1) c.guests) (drop (i + 1) before.mounts) (sym (ap (drop (i + 1)) changes ∙ behind_changed f gs1 i) j) (sym y.volumes_are j)
+      later : beyond ≡ rest (i + 1) gs2 vs2
+      later = λ j. all_served c (drop (i + 1) c.guests) (drop (i + 1) before.mounts) (sym (ap (drop (i + 1)) changes ∙ after_changed f gs1 i) j) (sym y.volumes_are j)
 
   -- all are served
   pub all_guests_served : (i : ℕ) (vs : List (List (List ℕ))) (m1 : Machine) (k1 : Kernel) (lines1 : List Seen) → IsKernel m.memory k → length k.guests.items ≤ i → k1 ≡ record k { guests = k1.guests; marks = k1.marks } → SoFar i vs m1 k1.guests.items k1.marks lines1

@@ -37,12 +37,12 @@ fn of_round(events: &[Event], round: u32) -> &[Event]
         .iter()
         .take_while(|event| event.round < round)
         .count();
-    let behind = events.get(first..).unwrap_or(&[]);
-    let count = behind
+    let later = events.get(first..).unwrap_or(&[]);
+    let count = later
         .iter()
         .take_while(|event| event.round == round)
         .count();
-    let these = behind.get(..count).unwrap_or(&[]);
+    let these = later.get(..count).unwrap_or(&[]);
     if are_of(these, round) { these } else { &[] }
 }
 

@@ -81,7 +81,7 @@ const LINES: &[u8] = b" L1: MOVL R0,B^X ; moved\r\nNOP";
 fn cuts_lines(rt: HostRuntime) {
     let pieces = first_line(LINES);
     assert!(rt; pieces.before == b" L1: MOVL R0,B^X ; moved".as_slice());
-    assert!(rt; pieces.behind == b"NOP".as_slice());
+    assert!(rt; pieces.later == b"NOP".as_slice());
 }
 
 /// The statement is that of the opcode, with all its operands.

@@ -168,7 +168,7 @@ fn before(case: &Case) -> [u32; 16] {
 }
 
 /// The registers after it.
-fn behind(case: &Case) -> [u32; 16] {
+fn later(case: &Case) -> [u32; 16] {
     let mut r = before(case);
     r[15] = length(case.code).wrapping_add(0x200);
     with_named(&r, case.r_after)
@@ -212,13 +212,13 @@ pub fn wanted(case: &Case) -> Seen {
     };
     match case.exit {
         Exit::Budget | Exit::Arithmetic { .. } => Seen {
-            world: world(case, behind(case), case.psw_after),
+            world: world(case, later(case), case.psw_after),
             retired: 1,
             ..stays
         },
         Exit::NotValid { .. } => Seen { misses: 1, ..stays },
         Exit::Emulate(trap) => Seen {
-            exit: Exit::Emulate(trapped(trap, &behind(case))),
+            exit: Exit::Emulate(trapped(trap, &later(case))),
             ..stays
         },
         _ => stays,

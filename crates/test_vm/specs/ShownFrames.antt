@@ -30,8 +30,8 @@ with_pages p0br pages = record { context = context_of (record tables_m { p0br = 
 abbrev in_front : Present
 in_front = record { system = []; processes = with_pages 0x80000280 (4 ∷ []) ∷ with_pages 0x80000080 [] ∷ [] }
 
-abbrev behind : Present
-behind = record { system = []; processes = with_pages 0x80000080 [] ∷ with_pages 0x80000280 (4 ∷ []) ∷ [] }
+abbrev later : Present
+later = record { system = []; processes = with_pages 0x80000080 [] ∷ with_pages 0x80000280 (4 ∷ []) ∷ [] }
 
 -- the first system page alone
 abbrev of_system : Present
@@ -65,7 +65,7 @@ pub overwritten :
     -- each of the frames that are written
     × (is_overwritten (guest []) (4 ∷ 1 ∷ []) in_front ≡ true)
     -- of a context that isn't in front, by its own table
-    × (is_overwritten (with_tables tables_m (guest [])) (1 ∷ []) behind ≡ true)
+    × (is_overwritten (with_tables tables_m (guest [])) (1 ∷ []) later ≡ true)
     × (is_overwritten (with_tables tables_m (guest [])) (1 ∷ []) of_system ≡ false)
     -- of a system page
     × (is_overwritten (guest []) (0 ∷ []) of_system ≡ true)

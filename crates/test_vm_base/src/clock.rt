@@ -90,7 +90,7 @@ static CASES: [Case; 11] = [
         false,
     ),
     (
-        "enable set behind the step's wrap",
+        "enable set after the step's wrap",
         [Iccs(0x60), Nicr(8), Nicr(9)],
         0xc0,
         7,
@@ -141,7 +141,7 @@ static CASES: [Case; 11] = [
 ];
 
 /// A clock with a full counter and NICR 7, after some deeds.
-fn behind(deeds: &[Deed]) -> Clock {
+fn later(deeds: &[Deed]) -> Clock {
     let mut clock = Clock::new();
     clock.write_nicr(0xffff_ffff);
     clock.write_iccs(0x10);
@@ -155,7 +155,7 @@ fn behind(deeds: &[Deed]) -> Clock {
 /// The deeds of a case have the outcome that it states.
 fn check(rt: &impl Abort, case: &Case) {
     let (name, deeds, iccs, icr, due) = case;
-    let clock = behind(deeds);
+    let clock = later(deeds);
     assert!(rt; clock.read_iccs() == *iccs, "{name}");
     assert!(rt; clock.read_icr() == *icr, "{name}");
     assert!(rt; clock.due() == *due, "{name}");

@@ -58,7 +58,7 @@ static RECEIVING: [Case; 8] = [
         false,
     ),
     (
-        "enabled behind the byte",
+        "enabled after the byte",
         [Sent, Sent, Sent, Type(65), Receive(0x40)],
         0xc0,
         0x80,
@@ -143,7 +143,7 @@ static TRANSMITTING: [Case; 4] = [
 ];
 
 /// A new console after some deeds.
-fn behind(deeds: &[Deed]) -> Console {
+fn later(deeds: &[Deed]) -> Console {
     let mut console = Console::new();
     for deed in deeds {
         perform(&mut console, *deed);
@@ -154,7 +154,7 @@ fn behind(deeds: &[Deed]) -> Console {
 /// The deeds of a case have the outcome that it states.
 fn check(rt: &impl Abort, case: &Case) {
     let (name, deeds, rxcs, txcs, rx_due, tx_due) = case;
-    let console = behind(deeds);
+    let console = later(deeds);
     assert!(rt; console.read_rxcs() == *rxcs, "{name}");
     assert!(rt; console.read_txcs() == *txcs, "{name}");
     assert!(rt; console.rx_due() == *rx_due, "{name}");

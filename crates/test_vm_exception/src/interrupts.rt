@@ -271,7 +271,7 @@ static CASES: [Case; 34] = [
         ..CASE
     },
     Case {
-        name: "receive where enable comes behind the byte",
+        name: "receive where enable comes after the byte",
         before: &[(Typed, 0x41), (Rxcs, 0x40), (Long(0x44F8), 0x1F00)],
         kinds: INTERRUPT,
         after: &[
@@ -535,7 +535,7 @@ static CASES: [Case; 34] = [
     },
     // The handler's page isn't valid.
     Case {
-        name: "then a fault of the first instruction behind it",
+        name: "then a fault of the first instruction after it",
         mapped: true,
         before: &[
             (Sisr, 2),

@@ -298,7 +298,7 @@ static CASES: [Case; 33] = [
     },
     // AOBLSS #0, R0, 10 on: 7FFFFFFF becomes 80000000, which is below 0, so the branch is taken.
     Case {
-        name: "arithmetic trap behind a taken branch",
+        name: "arithmetic trap after a taken branch",
         code: &[0xF2, 0x00, 0x50, 0x10],
         before: &[(R(0), 0x7FFF_FFFF), (Psl, 0x21), (Long(0x4434), 0x1F00)],
         kinds: PLAIN,

@@ -63,9 +63,9 @@ impl Code {
     /// A branch displacement to the place of one of the six instructions before this one, of this, or of one of the seven
     /// after it.
     fn push_displacement(&mut self, draw: &mut Draw) {
-        let behind = (self.len % 16) as u32 + 1;
+        let later = (self.len % 16) as u32 + 1;
         let far = 0x100 - 96 + 16 * draw.below(14);
-        self.push((far.wrapping_sub(behind) % 0x100) as u8);
+        self.push((far.wrapping_sub(later) % 0x100) as u8);
     }
 
     /// An immediate of a size.

@@ -93,14 +93,14 @@ static FIXED: [(Place, u32); 29] = [
 ];
 
 /// The pages after two tables of P0, which in some tables can't be written.
-static BEHIND: [u32; 2] = [34, 37];
+static LATER: [u32; 2] = [34, 37];
 
 /// What an entry of a table becomes, if anything: those of data are mostly drawn; those of code, handlers, stacks and tables
 /// mostly stay, of some the modify bit is clear.
 fn drawn_entry(draw: &mut Draw, page: u32) -> Option<u32> {
     if is_data(page) && !draw.one_of(4) || draw.one_of(80) {
         Some(entry(draw, page))
-    } else if BEHIND.contains(&page) && draw.one_of(2) {
+    } else if LATER.contains(&page) && draw.one_of(2) {
         Some(0xF800_0000 + page % 64)
     } else if draw.one_of(4) {
         Some(0xA000_0000 + page % 64)

@@ -20,9 +20,9 @@ fn is_written(rt: &impl Abort, alloc: Global, write: &Write) -> Result<(), Fail>
         ..CASE
     };
     let found = [(Psl, 0x001F_0000), (R(0), v)];
-    let behind = [(R(15), 0x203), (Psl, codes % 16 + 0x001F_0000)];
+    let later = [(R(15), 0x203), (Psl, codes % 16 + 0x001F_0000)];
     assert_eq!(rt;
-        case.difference_with(alloc, &found, &behind)?,
+        case.difference_with(alloc, &found, &later)?,
         None,
         "{v:x} {codes:x}"
     );

@@ -245,7 +245,7 @@ static ENDS: [Case; 28] = [
         ..PROBER
     },
     Case {
-        name: "the byte behind the second not accessible",
+        name: "the byte after the second not accessible",
         code: &[0x0C, 0x00, 0x02, 0x61],
         before: &[(R(1), 0xFFE), (Long(0x4220), 0x8400_0008)],
         after: &[(R(15), 0x204)],

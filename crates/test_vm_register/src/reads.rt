@@ -28,9 +28,9 @@ fn is_read(rt: &impl Abort, alloc: Global, read: &Read) -> Result<(), Fail> {
         ..CASE
     };
     let found = [(Psl, 0x001F_0003), (R(0), 0xDEAD), (R(1), number)];
-    let behind = [(R(0), v), (R(15), 0x203), (Psl, codes % 16 + 0x001F_0000)];
+    let later = [(R(0), v), (R(15), 0x203), (Psl, codes % 16 + 0x001F_0000)];
     assert_eq!(rt;
-        case.difference_with(alloc, &found, &behind)?,
+        case.difference_with(alloc, &found, &later)?,
         None,
         "{number} {v:x}"
     );

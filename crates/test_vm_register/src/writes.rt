@@ -23,9 +23,9 @@ fn is_taken(rt: &impl Abort, alloc: Global, write: &Write) -> Result<(), Fail> {
         ..CASE
     };
     let before = [(Psl, 0x001F_0003), (R(0), v), (R(1), number)];
-    let behind = [(R(15), 0x203), (Psl, psl)];
+    let later = [(R(15), 0x203), (Psl, psl)];
     assert_eq!(rt;
-        case.difference_with(alloc, &before, &behind)?,
+        case.difference_with(alloc, &before, &later)?,
         None,
         "{number} {v:x}"
     );

@@ -478,7 +478,7 @@ static TRAPS: [Case; 12] = [
     },
     // A lower IPL lets a request through.
     Case {
-        name: "an interrupt behind it",
+        name: "an interrupt after it",
         code: &[2],
         before: &[
             (Psl, 0x0015_0000),

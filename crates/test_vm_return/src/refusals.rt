@@ -16,7 +16,7 @@ struct Refusal {
     stack: usize,
     from: u32,
     to: u32,
-    behind: u32,
+    later: u32,
 }
 
 /// In kernel mode at IPL 0.
@@ -27,7 +27,7 @@ const KERNEL: Refusal = Refusal {
     stack: 0,
     from: 0x2E00,
     to: 0x2DF8,
-    behind: 0,
+    later: 0,
 };
 
 /// In user mode.
@@ -38,7 +38,7 @@ const USER: Refusal = Refusal {
     stack: 3,
     from: 0x600,
     to: 0x2FF8,
-    behind: 0x00C0_0000,
+    later: 0x00C0_0000,
 };
 
 /// On the interrupt stack at IPL 31.
@@ -49,7 +49,7 @@ const INTERRUPT: Refusal = Refusal {
     stack: 4,
     from: 0x3800,
     to: 0x37F8,
-    behind: 0x041F_0000,
+    later: 0x041F_0000,
 };
 
 /// REI with the refused PSL on the stack.
@@ -66,7 +66,7 @@ fn is_refused(rt: &impl Abort, alloc: Global, refusal: &Refusal) -> Result<(), F
     let after = [
         (R(14), to),
         (R(15), 0x1F00),
-        (Psl, refusal.behind),
+        (Psl, refusal.later),
         (Stack(refusal.stack), from),
         (Long(to), 0x200),
         (Long(to + 4), refusal.old),
@@ -151,7 +151,7 @@ static REFUSALS: [Refusal; 27] = [
         stack: 2,
         from: 0x700,
         to: 0x2FF8,
-        behind: 0x0080_0000,
+        later: 0x0080_0000,
     },
     Refusal {
         name: "executive to kernel",
@@ -160,7 +160,7 @@ static REFUSALS: [Refusal; 27] = [
         stack: 1,
         from: 0x800,
         to: 0x2FF8,
-        behind: 0x0040_0000,
+        later: 0x0040_0000,
     },
     // The new mode isn't kernel, and the interrupt stack is set.
     Refusal {
@@ -183,14 +183,14 @@ static REFUSALS: [Refusal; 27] = [
         name: "user at IPL 1",
         old: 0x001F_0000,
         new: 0x03C1_0000,
-        behind: 0x001F_0000,
+        later: 0x001F_0000,
         ..KERNEL
     },
     Refusal {
         name: "executive at IPL 2",
         old: 0x0002_0000,
         new: 0x0142_0000,
-        behind: 0x0002_0000,
+        later: 0x0002_0000,
         ..KERNEL
     },
     Refusal {
@@ -234,14 +234,14 @@ static REFUSALS: [Refusal; 27] = [
         name: "to the interrupt stack at IPL 5",
         old: 0x001F_0000,
         new: 0x0405_0000,
-        behind: 0x001F_0000,
+        later: 0x001F_0000,
         ..KERNEL
     },
     Refusal {
         name: "to the interrupt stack at the same IPL",
         old: 0x0005_0000,
         new: 0x0405_0000,
-        behind: 0x0005_0000,
+        later: 0x0005_0000,
         ..KERNEL
     },
     // The interrupt stack is set, and the new IPL is 0.
@@ -254,7 +254,7 @@ static REFUSALS: [Refusal; 27] = [
         name: "on the interrupt stack at IPL 0, with user before",
         old: 0x0401_0000,
         new: 0x04C0_0000,
-        behind: 0x0401_0000,
+        later: 0x0401_0000,
         ..INTERRUPT
     },
     // The new IPL exceeds the old one.
@@ -267,21 +267,21 @@ static REFUSALS: [Refusal; 27] = [
         name: "from IPL 5 to 6",
         old: 0x0005_0000,
         new: 0x0006_0000,
-        behind: 0x0005_0000,
+        later: 0x0005_0000,
         ..KERNEL
     },
     Refusal {
         name: "from IPL 30 to 31 on the interrupt stack",
         old: 0x041E_0000,
         new: 0x041F_0000,
-        behind: 0x041E_0000,
+        later: 0x041E_0000,
         ..INTERRUPT
     },
     Refusal {
         name: "from the interrupt stack to the kernel's at a higher IPL",
         old: 0x0408_0000,
         new: 0x0010_0000,
-        behind: 0x0408_0000,
+        later: 0x0408_0000,
         ..INTERRUPT
     },
     // All bits

@@ -326,7 +326,7 @@ pub static WAITING: [Case; 9] = [
     },
     // MTPR #3, #IPL; MOVPSL R0
     Case {
-        name: "MOVPSL behind another IPL",
+        name: "MOVPSL after another IPL",
         code: &[0xDA, 0x03, 0x12, 0xDC, 0x50],
         before: &[(Psl, 0x001F_0000)],
         steps: 2,

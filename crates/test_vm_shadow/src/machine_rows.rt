@@ -136,7 +136,7 @@ fn check_before(
 }
 
 /// After it: the address's page is missed, and once it is filled it is another one.
-fn check_behind(
+fn check_after(
     rt: &impl Abort,
     alloc: Global,
     bench: &mut Bench,
@@ -160,7 +160,7 @@ fn check_seen(rt: &impl Abort, alloc: Global, row: &Seen) -> Result<(), NoMemory
     let (entry_8, ..) = *row;
     let mut bench = with_bytes(alloc, entry_8)?;
     check_before(rt, alloc, &mut bench, row)?;
-    check_behind(rt, alloc, &mut bench, row)
+    check_after(rt, alloc, &mut bench, row)
 }
 
 /// Entries of the page at 1000, a byte that is written by an address, and the byte that an address has before and after.

@@ -82,8 +82,8 @@ fn runs(rt: &impl Abort, alloc: Global, image: &[u8]) -> Result<(), Fail> {
         wanted.put_all(row.changes);
         wanted.put_all(&[(R(15), row.pc), (Steps, 1 + before as u32)]);
         let found = Snapshot::of(alloc, &stage)?;
-        assert_eq!(rt; kinds, PLAIN, "behind {before}");
-        assert_eq!(rt; found.difference(&wanted), None, "behind {before}");
+        assert_eq!(rt; kinds, PLAIN, "after {before}");
+        assert_eq!(rt; found.difference(&wanted), None, "after {before}");
     }
     Ok(())
 }

@@ -1,6 +1,6 @@
 ; A small operating system: two processes in user mode, by turns for 100 steps each. It builds its tables with mapping off, and
 ; turns mapping on. Each process counts down, counts a letter in a page of its own, and has the letter shown by CHMK. The first
-; letter follows from the guest's memory: A with 64 pages, C with 72, E with 80 and so on; the second is the one behind it.
+; letter follows from the guest's memory: A with 64 pages, C with 72, E with 80 and so on; the second is the one after it.
 ;
 ; Memory (hexadecimal): 200 this image; 1000 the system table; 1200 and 1400 the P0 tables; 1800 the vectors; 2000 and 2100 the
 ; process control blocks; 2800 and 2A00 the ends of the kernel stacks; 3000 the end of the interrupt stack; 4000 and 4200 the

@@ -134,14 +134,14 @@ blocks = (take 512 (drop 512 (with_longs (packet_in 0 []) mapped.memory)) ∷ ta
 abbrev reader : GuestRow
 reader = record (guest (codes "A") 0 8 1 true None) { mounts = None ∷ None ∷ mounted 0 false ∷ None ∷ [] }
 
-abbrev behind_packets : List ℕ → Touching
-behind_packets queue =
+abbrev after_packets : List ℕ → Touching
+after_packets queue =
     let c = config None [] (volume (codes "V") 0 0 ∷ []) [] (reader ∷ []) in
     touches_of_queue c reader reader.mounts asking queue blocks (with_pages (1 ∷ 0x400001 ∷ []))
 
 pub in_the_order_of_the_queue :
-    (how_many (behind_packets (0x300 ∷ 0x340 ∷ [])) ≡ 0 ∷ 0 ∷ [])
-    × (how_many (behind_packets (0x300 ∷ [])) ≡ 1 ∷ 1 ∷ [])
-    × (how_many (behind_packets (0x340 ∷ [])) ≡ 1 ∷ 1 ∷ [])
+    (how_many (after_packets (0x300 ∷ 0x340 ∷ [])) ≡ 0 ∷ 0 ∷ [])
+    × (how_many (after_packets (0x300 ∷ [])) ≡ 1 ∷ 1 ∷ [])
+    × (how_many (after_packets (0x340 ∷ [])) ≡ 1 ∷ 1 ∷ [])
 unfolding lookup mapped_entry process_entry system_entry
 in_the_order_of_the_queue = (refl, refl, refl)

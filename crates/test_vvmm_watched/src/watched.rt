@@ -91,11 +91,11 @@ fn watching(alloc: Global) -> Result<Watched, NoMemory> {
 /// A run of the machine goes on where the runs before it ended.
 fn goes_on(rt: &impl Abort, note: &Note, before: u64) {
     let pc = if before % 2 == 0 { 0x200 } else { 0x202 };
-    assert_eq!(rt; note.pc, pc, "behind {before} instructions");
+    assert_eq!(rt; note.pc, pc, "after {before} instructions");
     assert_eq!(rt;
         u64::from(note.r0),
         before.div_ceil(2),
-        "behind {before} instructions"
+        "after {before} instructions"
     );
 }
 
@@ -147,10 +147,10 @@ fn follows(rt: &impl Abort, note: &Note, all: u64) -> u64 {
     assert_eq!(rt;
         u64::from(note.r0),
         own.div_ceil(2),
-        "behind {all} instructions"
+        "after {all} instructions"
     );
     assert_eq!(rt; note.pc, if own % 2 == 0 { 0x200 } else { 0x202 });
-    assert!(rt; note.retired <= 7 - all % 7, "behind {all} instructions");
+    assert!(rt; note.retired <= 7 - all % 7, "after {all} instructions");
     all.saturating_add(note.retired)
 }
 

@@ -58,7 +58,7 @@ register_small text =
 
 closed_small : (mark : ℕ) (ending text : List ℕ) → Small (closed_in mark ending text)
 unfolding closed_in
-closed_small mark ending text = bound Small tt (cut_at mark text) (λ c. if bytes_eq c.behind ending then register_in c.before else None) (λ c is. if_both Small (bytes_eq c.behind ending) (register_in c.before) None (λ _. register_small c.before) (λ _. tt))
+closed_small mark ending text = bound Small tt (cut_at mark text) (λ c. if bytes_eq c.later ending then register_in c.before else None) (λ c is. if_both Small (bytes_eq c.later ending) (register_in c.before) None (λ _. register_small c.before) (λ _. tt))
 
 -- ---- specifiers
 
@@ -104,8 +104,8 @@ register_operand_found form text =
 
 based_found : (mode size : ℕ) (c : Cut) → 0 < mode → mode < 16 → Found (based mode size c)
 based_found mode size c some m =
-    bound Found tt (field_in size c.before) (λ value. closed_in 41 [] c.behind >>= λ reg. operand_of_value mode reg value) (λ value _.
-    bound Found tt (closed_in 41 [] c.behind) (λ reg. operand_of_value mode reg value) (λ reg is. other_found mode reg value some m (subst Small is (closed_small 41 [] c.behind))))
+    bound Found tt (field_in size c.before) (λ value. closed_in 41 [] c.later >>= λ reg. operand_of_value mode reg value) (λ value _.
+    bound Found tt (closed_in 41 [] c.later) (λ reg. operand_of_value mode reg value) (λ reg is. other_found mode reg value some m (subst Small is (closed_small 41 [] c.later))))
 
 displaced_by : (mode size : ℕ) (text : List ℕ) → 0 < mode → mode < 16 → (o : Option Cut) → Found (elim o [ None ↦ named_in mode 15 text | Some c ↦ based mode size c ])
 displaced_by mode size text some m None = named_found mode 15 text some m (omega arith)
@@ -151,8 +151,8 @@ indexed_found o x s low =
 
 indexed_in_found : (form : Form) (c : Cut) → Found (indexed_in form c)
 indexed_in_found form c =
-    bound Found tt (specifier_in form c.before) (λ o. not_pc (closed_in 93 [] c.behind) >>= indexed o) (λ o is.
-    bound Found tt (not_pc (closed_in 93 [] c.behind)) (indexed o) (λ x low. indexed_found o x (subst Found is (specifier_found form c.before)) (below (closed_in 93 [] c.behind) 15 x low)))
+    bound Found tt (specifier_in form c.before) (λ o. not_pc (closed_in 93 [] c.later) >>= indexed o) (λ o is.
+    bound Found tt (not_pc (closed_in 93 [] c.later)) (indexed o) (λ x low. indexed_found o x (subst Found is (specifier_found form c.before)) (below (closed_in 93 [] c.later) 15 x low)))
 
 -- ---- operands
 
@@ -218,9 +218,9 @@ words_fit word text =
     if_both FoundStatement (bytes_eq word (codes ".word")) (text >>= number_field_in 2) _ (λ _. bound FoundStatement tt text (number_field_in 2) (λ t _. number_fit 2 t)) (λ _.
     if_both FoundStatement (bytes_eq word (codes ".long")) (text >>= long_field_in) (instruction_in word text) (λ _. bound FoundStatement tt text long_field_in (λ t _. long_fit t)) (λ _. instruction_fit word text)))
 
-by_blank : (text : List ℕ) (o : Option Cut) → FoundStatement (elim o [ None ↦ words_in text None | Some c ↦ words_in c.before (Some (c.behind)) ])
+by_blank : (text : List ℕ) (o : Option Cut) → FoundStatement (elim o [ None ↦ words_in text None | Some c ↦ words_in c.before (Some (c.later)) ])
 by_blank text None = words_fit text None
-by_blank text (Some c) = words_fit c.before (Some (c.behind))
+by_blank text (Some c) = words_fit c.before (Some (c.later))
 
 statement_fit : (text : List ℕ) → FoundStatement (statement_in text)
 unfolding statement_in
@@ -241,9 +241,9 @@ label_fit : (name text : List ℕ) → FoundLine (after_label name text)
 label_fit name [] = tt
 label_fit name (b ∷ text) = if_both FoundLine (is_blank b) (saying (Some name) text) None (λ _. saying_fit (Some name) text) (λ _. tt)
 
-by_colon : (text : List ℕ) (o : Option Cut) → FoundLine (elim o [ None ↦ unlabelled text | Some c ↦ if is_object_name c.before then after_label c.before c.behind else None ])
+by_colon : (text : List ℕ) (o : Option Cut) → FoundLine (elim o [ None ↦ unlabelled text | Some c ↦ if is_object_name c.before then after_label c.before c.later else None ])
 by_colon text None = unlabelled_fit text
-by_colon text (Some c) = if_both FoundLine (is_object_name c.before) (after_label c.before c.behind) None (λ _. label_fit c.before c.behind) (λ _. tt)
+by_colon text (Some c) = if_both FoundLine (is_object_name c.before) (after_label c.before c.later) None (λ _. label_fit c.before c.later) (λ _. tt)
 
 content_fit : (text : List ℕ) → FoundLine (content_in text)
 unfolding content_in

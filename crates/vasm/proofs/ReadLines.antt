@@ -108,9 +108,9 @@ else_none : (x : Option ℕ) → x ≡ or_else x None
 else_none None = refl
 else_none (Some n) = refl
 
-held_by : (x y : Option ℕ) (at behind : ℕ) (t : Bool) → x ≡ y → at ≡ behind → (t ≡ true → y ≡ None) → (if t then Some at else x) ≡ or_else y (address_by t behind)
-held_by x y at behind true same place none = let e : y ≡ None = none refl in rw (e, place)
-held_by x y at behind false same place none = same ∙ else_none y
+held_by : (x y : Option ℕ) (at later : ℕ) (t : Bool) → x ≡ y → at ≡ later → (t ≡ true → y ≡ None) → (if t then Some at else x) ≡ or_else y (address_by t later)
+held_by x y at later true same place none = let e : y ≡ None = none refl in rw (e, place)
+held_by x y at later false same place none = same ∙ else_none y
 
 taken_by : (y : Option ℕ) (n : ℕ) (t known : Bool) → known ≡ is_some y → (known || (t || false)) ≡ is_some (or_else y (address_by t n))
 taken_by None n true known is = rw is
@@ -121,15 +121,15 @@ taken_more : (known : List (List ℕ)) (label : Option (List ℕ)) (name : List 
 taken_more known None name y n is = is ∙ ap is_some (else_none y)
 taken_more known (Some label) name y n is = list_any-append (bytes_eq name) known (label ∷ []) ∙ taken_by y n (bytes_eq name label) (is_among name known) is
 
-pub line_read : {U : Type 0} (text : List ℕ) (number at : ℕ) (labels after : Labels) (rest line behind : List ℕ) (l : SourceLine) (u : U) → IsRead text number at labels rest → lines rest ≡ line ∷ lines behind → source_line_in line ≡ Some l
-    → (let done : Result U AsmError = Ok u in Adds number l.label at labels after done) → IsRead text (number + 1) (at + source_line_size l) after behind
-line_read text number at labels after rest line behind l u r cut is added = record {
+pub line_read : {U : Type 0} (text : List ℕ) (number at : ℕ) (labels after : Labels) (rest line later : List ℕ) (l : SourceLine) (u : U) → IsRead text number at labels rest → lines rest ≡ line ∷ lines later → source_line_in line ≡ Some l
+    → (let done : Result U AsmError = Ok u in Adds number l.label at labels after done) → IsRead text (number + 1) (at + source_line_size l) after later
+line_read text number at labels after rest line later l u r cut is added = record {
   front = r.front ++ l ∷ [];
   known = and_label r.known l.label;
   read =
       r.read ∙ ap (λ ts. before_all r.front (read_from number r.known ts)) cut
-      ∙ ap (before_all r.front) (read_one number r.known line (lines behind) l is (labelled text number at labels rest r l.label ∙ added.0))
-      ∙ before_more r.front l (read_from (number + 1) (and_label r.known l.label) (lines behind));
+      ∙ ap (before_all r.front) (read_one number r.known line (lines later) l is (labelled text number at labels rest r l.label ∙ added.0))
+      ∙ before_more r.front l (read_from (number + 1) (and_label r.known l.label) (lines later));
   address = omega (arith, r.address, size_more r.front l);
   held = λ name.
       added.1 name

@@ -66,16 +66,16 @@ first_bytes names at (g ∷ fs) (p ∷ os) f o s some more is = rw is
 
 -- ---- bytes after others
 
-behind_front : {E : Type 0} (old front : List ℕ) (wanted : Result (List ℕ) E) → appended_to old (wanted >>= λ bytes. Ok (front ++ bytes)) ≡ appended_to (old ++ front) wanted
-behind_front old front (Ok bytes) = ap (λ (xs : List ℕ). Ok xs) (sym (append_assoc old front bytes))
-behind_front old front (Err e) = refl
+after_front : {E : Type 0} (old front : List ℕ) (wanted : Result (List ℕ) E) → appended_to old (wanted >>= λ bytes. Ok (front ++ bytes)) ≡ appended_to (old ++ front) wanted
+after_front old front (Ok bytes) = ap (λ (xs : List ℕ). Ok xs) (sym (append_assoc old front bytes))
+after_front old front (Err e) = refl
 
 refused_front : (number : ℕ) (front : List ℕ) (wanted : Result (List ℕ) AsmKind) (f : AsmFault) → at_line number wanted ≡ Err f → at_line number (wanted >>= λ bytes. Ok (front ++ bytes)) ≡ Err f
 refused_front number front (Ok bytes) f is = cc
 refused_front number front (Err kind) f is = is
 
 pub puts_front : {U : Type 0} (number : ℕ) (old front new : List ℕ) (wanted : Result (List ℕ) AsmKind) (r : Result U AsmError) → AppendsOrRefuses number (old ++ front) new wanted r → AppendsOrRefuses number old new (wanted >>= λ bytes. Ok (front ++ bytes)) r
-puts_front number old front new wanted (Ok u) is = behind_front old front wanted ∙ is
+puts_front number old front new wanted (Ok u) is = after_front old front wanted ∙ is
 puts_front number old front new wanted (Err (Fault f)) is = refused_front number front wanted f is
 puts_front number old front new wanted (Err NoMemory) is = tt
 
@@ -90,5 +90,5 @@ operand_put names number at size fs os f o s old mid new r some more sized is fr
     let others : Result (List ℕ) AsmKind = operands_bytes names (at + operand_size first operand) (drop 1 fs) (map operand_view (drop 1 os)) in
     let same : operands_bytes names (at + size) (take (length fs - 1) (drop 1 fs)) (map operand_view (take (length os - 1) (drop 1 os))) ≡ others =
     rw (take_rest fs 1, take_rest os 1) (ap (λ (n : ℕ). operands_bytes names (at + n) (drop 1 fs) (map operand_view (drop 1 os))) sized) in
-    let behind_old : AppendsOrRefuses number (old ++ spelled first s) new others r = subst (λ (m : List ℕ). AppendsOrRefuses number m new others r) front (subst (λ w. AppendsOrRefuses number mid new w r) same put) in
-    subst (λ w. AppendsOrRefuses number old new w r) (sym (first_bytes names at fs os f o s some more found)) (puts_front number old (spelled first s) new others r behind_old)
+    let after_old : AppendsOrRefuses number (old ++ spelled first s) new others r = subst (λ (m : List ℕ). AppendsOrRefuses number m new others r) front (subst (λ w. AppendsOrRefuses number mid new w r) same put) in
+    subst (λ w. AppendsOrRefuses number old new w r) (sym (first_bytes names at fs os f o s some more found)) (puts_front number old (spelled first s) new others r after_old)

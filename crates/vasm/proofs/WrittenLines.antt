@@ -21,12 +21,12 @@ pub record IsWriting (names : List ℕ → Option ℕ) (program : List SourceLin
   pub read : read_from number known (lines rest) ≡ Ok more
   pub made : assembled_bytes names 1 0x200 program ≡ appended_to old (assembled_bytes names number at more)
 
-behind_nothing : {E : Type 0} (r : Result (List ℕ) E) → r ≡ appended_to [] r
-behind_nothing (Ok bytes) = refl
-behind_nothing (Err e) = refl
+after_nothing : {E : Type 0} (r : Result (List ℕ) E) → r ≡ appended_to [] r
+after_nothing (Ok bytes) = refl
+after_nothing (Err e) = refl
 
 pub none_written : (names : List ℕ → Option ℕ) (text : List ℕ) (program : List SourceLine) → read_from 1 [] (lines text) ≡ Ok program → IsWriting names program 1 0x200 [] text
-none_written names text program is = record { more = program; known = []; read = is; made = behind_nothing (assembled_bytes names 1 0x200 program) }
+none_written names text program is = record { more = program; known = []; read = is; made = after_nothing (assembled_bytes names 1 0x200 program) }
 
 -- a line that is read, and those after it
 record IsFirst (number : ℕ) (known : List (List ℕ)) (l : SourceLine) (texts : List (List ℕ)) (more : List SourceLine) : Type 0 where
@@ -48,10 +48,10 @@ first_read number known text texts l more is all =
     first_by number known l texts more (is_labelled l.label known) (ap (λ (o : Option SourceLine). at_line number (read_source_line known o) >>= λ line. before_others line (read_from (number + 1) (and_label known line.label) texts)) (sym is) ∙ all)
 
 -- the bytes of the first line after the old ones, and then those of the others
-line_behind_by : (number : ℕ) (old new : List ℕ) (wanted : Result (List ℕ) AsmKind) (others : Result (List ℕ) AsmFault) → appended_to old wanted ≡ Ok new → appended_to old (at_line number wanted >>= λ bytes. prepended bytes others) ≡ appended_to new others
-line_behind_by number old new (Ok bytes) (Ok more) is = let same : old ++ bytes ≡ new = cc in ap (λ (xs : List ℕ). Ok xs) (sym (append_assoc old bytes more)) ∙ ap (λ (xs : List ℕ). Ok (xs ++ more)) same
-line_behind_by number old new (Ok bytes) (Err f) is = refl
-line_behind_by number old new (Err kind) others is = cc
+line_after_by : (number : ℕ) (old new : List ℕ) (wanted : Result (List ℕ) AsmKind) (others : Result (List ℕ) AsmFault) → appended_to old wanted ≡ Ok new → appended_to old (at_line number wanted >>= λ bytes. prepended bytes others) ≡ appended_to new others
+line_after_by number old new (Ok bytes) (Ok more) is = let same : old ++ bytes ≡ new = cc in ap (λ (xs : List ℕ). Ok xs) (sym (append_assoc old bytes more)) ∙ ap (λ (xs : List ℕ). Ok (xs ++ more)) same
+line_after_by number old new (Ok bytes) (Err f) is = refl
+line_after_by number old new (Err kind) others is = cc
 
 pub line_written : {U : Type 0} (names : List ℕ → Option ℕ) (program : List SourceLine) (number at : ℕ) (old new rest line others : List ℕ) (l : SourceLine) (u : U) → IsWriting names program number at old rest → lines rest ≡ line ∷ lines others → source_line_in line ≡ Some l
     → (let done : Result U AsmError = Ok u in AppendsOrRefuses number old new (source_line_bytes names at l) done) → IsWriting names program (number + 1) (at + source_line_size l) new others
@@ -61,7 +61,7 @@ line_written names program number at old new rest line others l u w cut is put =
       more = f.others;
       known = and_label w.known l.label;
       read = f.read;
-      made = w.made ∙ ap (λ (ls : List SourceLine). appended_to old (assembled_bytes names number at ls)) f.first ∙ line_behind_by number old new (source_line_bytes names at l) (assembled_bytes names (number + 1) (at + source_line_size l) f.others) put;
+      made = w.made ∙ ap (λ (ls : List SourceLine). appended_to old (assembled_bytes names number at ls)) f.first ∙ line_after_by number old new (source_line_bytes names at l) (assembled_bytes names (number + 1) (at + source_line_size l) f.others) put;
     }
 
 line_refused_by : (number : ℕ) (old : List ℕ) (wanted : Result (List ℕ) AsmKind) (others : Result (List ℕ) AsmFault) (f : AsmFault) → at_line number wanted ≡ Err f → appended_to old (at_line number wanted >>= λ bytes. prepended bytes others) ≡ Err f

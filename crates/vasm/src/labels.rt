@@ -61,7 +61,7 @@ pub(crate) fn labels_in(alloc: Global, text: &[u8]) -> Result<Labels<'_>, AsmErr
         add_label(&mut labels, number, line.label, at)?;
         at += line_size(&line);
         number += 1;
-        rest = pieces.behind;
+        rest = pieces.later;
     }
     Ok(labels)
 }

@@ -26,8 +26,8 @@ fn target_of(labels: &Labels, name: &[u8]) -> u32
 
 /// The specifier of an operand that ends before an address.
 #[tactic(auto, unfolding(vasm_text::specs::Asm::resolved))]
-fn resolved(labels: &Labels, behind: u32, form: Form, operand: &Operand) -> Result<Spec, AsmKind>
-    ensures { result ≡ resolved (label_address labels.now) behind form (operand_view operand.now) }
+fn resolved(labels: &Labels, later: u32, form: Form, operand: &Operand) -> Result<Spec, AsmKind>
+    ensures { result ≡ resolved (label_address labels.now) later form (operand_view operand.now) }
 {
     match operand.name {
         None => Ok(operand.spec),
@@ -35,7 +35,7 @@ fn resolved(labels: &Labels, behind: u32, form: Form, operand: &Operand) -> Resu
             field_width(form, &operand.spec),
             operand.spec,
             target_of(labels, name),
-            behind,
+            later,
         ),
     }
 }
@@ -56,8 +56,8 @@ pub(crate) fn put_operands(
     if let [form, other_forms @ ..] = forms
         && let [operand, others @ ..] = operands
     {
-        let behind = at + operand_size(*form, &operand.spec);
-        match resolved(labels, behind, *form, operand) {
+        let later = at + operand_size(*form, &operand.spec);
+        match resolved(labels, later, *form, operand) {
             Ok(spec) => {
                 put_operand(bytes, *form, &spec)?;
             }
@@ -65,7 +65,7 @@ pub(crate) fn put_operands(
                 return Err(fault(line, kind));
             }
         }
-        return put_operands(bytes, labels, line, behind, other_forms, others);
+        return put_operands(bytes, labels, line, later, other_forms, others);
     }
     Ok(())
 }

@@ -50,14 +50,14 @@ fn difference(width: Width, target: u32, from: u32) -> u64
 }
 
 /// The specifier whose field reaches an address from the one after it.
-pub(crate) fn reached(width: Width, spec: Spec, target: u32, behind: u32) -> Result<Spec, AsmKind>
-    ensures { result ≡ with_displacement (size_of width) spec target behind }
+pub(crate) fn reached(width: Width, spec: Spec, target: u32, later: u32) -> Result<Spec, AsmKind>
+    ensures { result ≡ with_displacement (size_of width) spec target later }
 {
-    if !is_within(width, target, behind) {
+    if !is_within(width, target, later) {
         return Err(AsmKind::OutOfReach);
     }
     Ok(Spec {
-        value: difference(width, target, behind),
+        value: difference(width, target, later),
         ..spec
     })
 }

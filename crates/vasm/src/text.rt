@@ -26,7 +26,7 @@ fn bytes_of(alloc: Global, text: &[u8], labels: &Labels) -> Result<Vec<u8>, AsmE
         put_line(&mut bytes, labels, number, at, &line)?;
         at += line_size(&line);
         number += 1;
-        rest = pieces.behind;
+        rest = pieces.later;
     }
     Ok(bytes)
 }

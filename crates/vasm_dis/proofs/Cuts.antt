@@ -18,7 +18,7 @@ pub cut_none : (test : ℕ → Bool) (xs : List ℕ) → NonePass test xs → cu
 cut_none test [] none = refl
 cut_none test (x ∷ xs) none = rw (none.0, cut_none test xs none.1)
 
-pub cut_here : (test : ℕ → Bool) (xs : List ℕ) (c : ℕ) (ys : List ℕ) → NonePass test xs → test c ≡ true → cut test (xs ++ c ∷ ys) ≡ Some (record { before = xs; behind = ys })
+pub cut_here : (test : ℕ → Bool) (xs : List ℕ) (c : ℕ) (ys : List ℕ) → NonePass test xs → test c ≡ true → cut test (xs ++ c ∷ ys) ≡ Some (record { before = xs; later = ys })
 cut_here test [] c ys none here = rw here
 cut_here test (x ∷ xs) c ys none here = rw (none.0, cut_here test xs c ys none.1 here)
 

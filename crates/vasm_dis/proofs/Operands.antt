@@ -33,8 +33,8 @@ pub whole_of : (text : List ℕ) → list_all is_base text ≡ true → list_all
 whole_of text all = all_wider is_base is_whole (λ b is. rw is) text all
 
 -- a register between two texts
-around : (n : ℕ) (behind : List ℕ) → n < 16 → list_all is_base behind ≡ true → list_all is_base (register_text n ++ behind) ≡ true
-around n behind below all = all_join is_base (register_text n) behind (base_of (register_text n) (register_plain n below)) all
+around : (n : ℕ) (later : List ℕ) → n < 16 → list_all is_base later ≡ true → list_all is_base (register_text n ++ later) ≡ true
+around n later below all = all_join is_base (register_text n) later (base_of (register_text n) (register_plain n below)) all
 
 displaced : (k v n : ℕ) → n < 16 → list_all is_base (field_text k v ++ (codes "(" ++ (register_text n ++ codes ")"))) ≡ true
 displaced k v n below = all_join is_base (field_text k v) (codes "(" ++ (register_text n ++ codes ")")) (base_of (field_text k v) (field_plain k v)) (around n (codes ")") below refl)
@@ -130,7 +130,7 @@ unfolding operand_in
 branch_back f v is below = rw (is, value_back (size_of f.width) v (width_size f.width) below)
 
 indexed_back : (f : Form) (b x : ℕ) (rest : List ℕ) (t : Spec) → x < 15 → 0x60 ≤ b → b ≢ 0x8f → Specifier f (b ∷ rest) t
-    → indexed_in f (record { before = specifier_text f t; behind = register_text x ++ codes "]" }) ≡ Some (exact (record t { index = Some x }))
+    → indexed_in f (record { before = specifier_text f t; later = register_text x ++ codes "]" }) ≡ Some (exact (record t { index = Some x }))
 indexed_back f b x rest t small low other m =
     rw (specifier_back f (b ∷ rest) t m, closed_back 93 x [] [] refl (omega arith), lt-ltb x 15 small) (indexable f b rest t x low other m)
 
@@ -184,24 +184,24 @@ kept_by text (Some c) = c.before
 
 abbrev left_by : Option Cut → Option (List ℕ)
 left_by None = None
-left_by (Some c) = Some (c.behind)
+left_by (Some c) = Some (c.later)
 
 before_is : (text : List ℕ) (o : Option Cut) → cut_at 44 text ≡ o → before_comma text ≡ kept_by text o
 before_is text o is = ap (kept_by text) is
 
-behind_is : (text : List ℕ) (o : Option Cut) → cut_at 44 text ≡ o → text_after_comma text ≡ left_by o
-behind_is text o is = ap left_by is
+after_is : (text : List ℕ) (o : Option Cut) → cut_at 44 text ≡ o → text_after_comma text ≡ left_by o
+after_is text o is = ap left_by is
 
 split_last : (text : List ℕ) → NonePass (λ c. c == 44) text → (before_comma (text ++ []) ≡ text) × (text_after_comma (text ++ []) ≡ None)
 split_last text free =
     let is : cut_at 44 (text ++ []) ≡ None = ap (cut_at 44) (append-nil text) ∙ cut_none (λ c. c == 44) text free in
-    (before_is (text ++ []) None is ∙ append-nil text, behind_is (text ++ []) None is)
+    (before_is (text ++ []) None is ∙ append-nil text, after_is (text ++ []) None is)
 
 split_next : (text rest : List ℕ) → NonePass (λ c. c == 44) text → (before_comma (text ++ 44 ∷ rest) ≡ text) × (text_after_comma (text ++ 44 ∷ rest) ≡ Some rest)
 split_next text rest free =
-    let c : Cut = record { before = text; behind = rest } in
+    let c : Cut = record { before = text; later = rest } in
     let is : cut_at 44 (text ++ 44 ∷ rest) ≡ Some c = cut_here (λ b. b == 44) text 44 rest free refl in
-    (before_is (text ++ 44 ∷ rest) (Some c) is, behind_is (text ++ 44 ∷ rest) (Some c) is)
+    (before_is (text ++ 44 ∷ rest) (Some c) is, after_is (text ++ 44 ∷ rest) (Some c) is)
 
 split_text : (text : List ℕ) (fs : List Form) (bytes : List ℕ) (ss : List Spec) → NonePass (λ c. c == 44) text → Operands fs bytes ss
     → (before_comma (text ++ text_after_mark 44 fs ss) ≡ text) × (text_after_comma (text ++ text_after_mark 44 fs ss) ≡ text_of fs ss)

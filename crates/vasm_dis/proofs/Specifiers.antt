@@ -22,10 +22,10 @@ same : (c : ℕ) → (c == c) ≡ true
 same c = eq-eqb c c refl
 
 -- a register before a closing mark
-pub closed_back : (mark n : ℕ) (ending behind : List ℕ) → is_plain mark ≡ false → n < 16 → closed_in mark ending (register_text n ++ mark ∷ behind) ≡ cond (bytes_eq behind ending) (Some n) None
+pub closed_back : (mark n : ℕ) (ending later : List ℕ) → is_plain mark ≡ false → n < 16 → closed_in mark ending (register_text n ++ mark ∷ later) ≡ cond (bytes_eq later ending) (Some n) None
 unfolding closed_in
-closed_back mark n ending behind out below =
-    rw (cut_here (λ b. b == mark) (register_text n) mark behind (free_of is_plain mark out (register_text n) (register_plain n below)) (same mark), register_back n below)
+closed_back mark n ending later out below =
+    rw (cut_here (λ b. b == mark) (register_text n) mark later (free_of is_plain mark out (register_text n) (register_plain n below)) (same mark), register_back n below)
 
 abbrev split_by : ℕ → ℕ → List ℕ → Option Cut → Option Operand
 split_by mode size text None = named_in mode 15 text
@@ -35,7 +35,7 @@ split_is : (mode size : ℕ) (text : List ℕ) (o : Option Cut) → cut_at 40 te
 unfolding displaced_in
 split_is mode size text o is = ap (split_by mode size text) is
 
-based_back : (mode size n v : ℕ) → IsSize size → v < 256 ^ size → n < 16 → based mode size (record { before = field_text size v; behind = register_text n ++ codes ")" }) ≡ Some (unnamed_operand mode n v)
+based_back : (mode size n v : ℕ) → IsSize size → v < 256 ^ size → n < 16 → based mode size (record { before = field_text size v; later = register_text n ++ codes ")" }) ≡ Some (unnamed_operand mode n v)
 based_back mode size n v is below reg = rw (field_back size v is below, closed_back 41 n [] [] refl reg)
 
 displaced_back : (mode size n v : ℕ) → IsSize size → v < 256 ^ size → n < 16 → displaced_in mode size (field_text size v ++ (codes "(" ++ (register_text n ++ codes ")"))) ≡ Some (unnamed_operand mode n v)

@@ -93,7 +93,7 @@ uncommented text is = ap (uncommented_by text) is
 
 abbrev content_by : List ℕ → Option Cut → Option SourceLine
 content_by text None = unlabelled text
-content_by text (Some c) = if is_object_name c.before then after_label c.before c.behind else None
+content_by text (Some c) = if is_object_name c.before then after_label c.before c.later else None
 
 unlabelled_is : (text : List ℕ) → cut_at 58 text ≡ None → content_in text ≡ unlabelled text
 unfolding content_in
@@ -118,7 +118,7 @@ line_back text s r = line_by text s r.first.0 r.first.1 r.first.2 r.first.3 r
 
 abbrev said_by : List ℕ → Option Cut → Option Statement
 said_by text None = words_in text None
-said_by text (Some c) = words_in c.before (Some (c.behind))
+said_by text (Some c) = words_in c.before (Some (c.later))
 
 said_is : (text : List ℕ) (o : Option Cut) → cut is_blank text ≡ o → statement_in text ≡ said_by text o
 unfolding statement_in
@@ -144,7 +144,7 @@ said_back word opcode [] bytes (s ∷ ss) all other op forms m = absurd m
 said_back word opcode (f ∷ fs) bytes [] all other op forms m = absurd m
 said_back word opcode (f ∷ fs) bytes (s ∷ ss) all other op forms m =
     let rest : List ℕ = operand_text f s ++ text_after_mark 44 fs ss in
-    let c : Cut = record { before = word; behind = rest } in
+    let c : Cut = record { before = word; later = rest } in
     said_is (word ++ 32 ∷ rest) (Some c) (cut_here is_blank word 32 rest (no_blanks is_plain refl refl word all) refl)
     ∙ words_back word (Some rest) opcode (map exact (s ∷ ss)) other op (ap (λ gs. operands_in gs (Some rest)) forms ∙ operands_back (f ∷ fs) bytes (s ∷ ss) m)
 
@@ -238,7 +238,7 @@ byte_word b below = rw (field_back 1 b one below)
 byte_said : (b : ℕ) → b < 256 → statement_in (byte_text b) ≡ Some (Field 1 (unnamed_operand 16 0 b))
 unfolding byte_text
 byte_said b below =
-    let c : Cut = record { before = codes ".byte"; behind = field_text 1 b } in
+    let c : Cut = record { before = codes ".byte"; later = field_text 1 b } in
     said_is (codes ".byte " ++ field_text 1 b) (Some c) refl ∙ byte_word b below
 
 field_tail : (b : ℕ) → list_all is_tail (field_text 1 b) ≡ true

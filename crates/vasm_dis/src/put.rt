@@ -26,15 +26,15 @@ pub(crate) fn put_register(text: &mut Line, n: u8)
 }
 
 /// Appends a register between two texts.
-pub(crate) fn put_around(text: &mut Line, before: &[u8], n: u8, behind: &[u8])
-    requires few { length before.now + length behind.now ≤ 4 }
+pub(crate) fn put_around(text: &mut Line, before: &[u8], n: u8, later: &[u8])
+    requires few { length before.now + length later.now ≤ 4 }
     requires room { length text.old + 25 ≤ 160 }
-    ensures text { text.new ≡ text.old ++ (before.now ++ (register_text n ++ behind.now)) }
-    ensures grows { length text.new ≤ length text.old + (length before.now + 3 + length behind.now) }
+    ensures text { text.new ≡ text.old ++ (before.now ++ (register_text n ++ later.now)) }
+    ensures grows { length text.new ≤ length text.old + (length before.now + 3 + length later.now) }
 {
     text.append(before);
     put_register(text, n);
-    text.append(behind);
+    text.append(later);
 }
 
 /// Appends the number in a field of so many bytes.

@@ -1,5 +1,5 @@
 pub mod Cuts
 pub mod Hex
-pub mod Behind
+pub mod Later
 pub mod Blanks
 pub mod Lines

@@ -9,7 +9,7 @@ pub struct Pieces<'a> {
     /// What comes before the mark.
     pub before: &'a [u8],
     /// What follows it.
-    pub behind: &'a [u8],
+    pub later: &'a [u8],
 }
 
 pub(crate) fn is_blank(b: u8) -> bool
@@ -35,11 +35,11 @@ fn find_blank(text: &[u8]) -> Option<usize>
 /// What comes before a place, and after it.
 fn split(text: &[u8], at: usize) -> Pieces<'_>
     requires { at < length text.now }
-    ensures { cut_view result ≡ record { before = take at text.now; behind = drop (at + 1) text.now } }
+    ensures { cut_view result ≡ record { before = take at text.now; later = drop (at + 1) text.now } }
 {
     Pieces {
         before: &text[..at],
-        behind: &text[at + 1..],
+        later: &text[at + 1..],
     }
 }
 
@@ -68,10 +68,10 @@ fn without_front(text: &[u8]) -> &[u8]
     ensures { result.now ≡ without_front text.now }
 {
     let mut rest = text;
-    while let [b, behind @ ..] = rest
+    while let [b, later @ ..] = rest
         && is_blank(*b)
     {
-        rest = behind;
+        rest = later;
     }
     rest
 }

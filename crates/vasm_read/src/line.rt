@@ -31,7 +31,7 @@ fn saying<'a>(label: Option<&'a [u8]>, text: &'a [u8]) -> Option<Line<'a>>
 }
 
 /// A line with a label, by what follows the colon.
-fn behind_label<'a>(name: &'a [u8], text: &'a [u8]) -> Option<Line<'a>>
+fn after_label<'a>(name: &'a [u8], text: &'a [u8]) -> Option<Line<'a>>
     ensures { option_map source_line_view result ≡ after_label name.now text.now }
 {
     match text {
@@ -68,7 +68,7 @@ fn content_in(text: &[u8]) -> Option<Line<'_>>
             if object_name(pieces.before).is_none() {
                 return None;
             }
-            behind_label(pieces.before, pieces.behind)
+            after_label(pieces.before, pieces.later)
         }
     }
 }
@@ -104,17 +104,17 @@ fn without_return(line: &[u8]) -> &[u8]
 /// The first line of a text, and the text after it.
 pub fn first_line(text: &[u8]) -> Pieces<'_>
     requires { 0 < length text.now }
-    ensures cut { lines text.now ≡ result.before.now ∷ lines result.behind.now }
-    ensures shorter { length result.behind.now < length text.now }
+    ensures cut { lines text.now ≡ result.before.now ∷ lines result.later.now }
+    ensures shorter { length result.later.now < length text.now }
 {
     match cut_at(text, b'\n') {
         Some(pieces) => Pieces {
             before: without_return(pieces.before),
-            behind: pieces.behind,
+            later: pieces.later,
         },
         None => Pieces {
             before: text,
-            behind: b"",
+            later: b"",
         },
     }
 }

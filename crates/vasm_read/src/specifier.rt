@@ -28,7 +28,7 @@ fn closed_in(mark: u8, ending: &[u8], text: &[u8]) -> Option<u8>
     ensures { result ≡ closed_in mark ending.now text.now }
 {
     match cut_at(text, mark) {
-        Some(pieces) if pieces.behind == ending => register_in(pieces.before),
+        Some(pieces) if pieces.later == ending => register_in(pieces.before),
         _ => None,
     }
 }
@@ -90,7 +90,7 @@ fn based<'a>(width: Width, mode: u8, pieces: Pieces) -> Option<Operand<'a>>
 {
     match (
         field_in(width, pieces.before),
-        closed_in(b')', b"", pieces.behind),
+        closed_in(b')', b"", pieces.later),
     ) {
         (Some(value), Some(reg)) => Some(plain(mode, reg, value)),
         _ => None,
@@ -201,7 +201,7 @@ fn indexed_in(form: Form, pieces: Pieces<'_>) -> Option<Operand<'_>>
     ensures { option_map operand_view result ≡ indexed_in form (cut_view pieces.entry) }
 {
     let operand = specifier_in(form, pieces.before)?;
-    let x = not_pc(closed_in(b']', b"", pieces.behind))?;
+    let x = not_pc(closed_in(b']', b"", pieces.later))?;
     indexed(operand, x)
 }
 

@@ -45,11 +45,11 @@ fn before_comma(text: &[u8]) -> &[u8]
 }
 
 /// What follows the first comma.
-fn behind_comma(text: &[u8]) -> Option<&[u8]>
+fn after_comma(text: &[u8]) -> Option<&[u8]>
     ensures { option_copied result ≡ text_after_comma text.now }
 {
     match cut_at(text, b',') {
-        Some(pieces) => Some(pieces.behind),
+        Some(pieces) => Some(pieces.later),
         None => None,
     }
 }
@@ -68,7 +68,7 @@ fn operands_in<'a>(forms: &[Form], text: Option<&'a [u8]>) -> Option<ArrayVec<Op
             }
             Some(text) => {
                 operands.push(operand_in(*form, before_comma(text))?);
-                rest = behind_comma(text);
+                rest = after_comma(text);
             }
         }
     }
@@ -131,6 +131,6 @@ pub(crate) fn statement_in(text: &[u8]) -> Option<Statement<'_>>
 {
     match cut_blank(text) {
         None => words_in(text, None),
-        Some(pieces) => words_in(pieces.before, Some(pieces.behind)),
+        Some(pieces) => words_in(pieces.before, Some(pieces.later)),
     }
 }

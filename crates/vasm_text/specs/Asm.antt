@@ -104,14 +104,14 @@ named_target names name = unwrap_or (names name) 0
 
 -- a name's value minus the address after the field, in the field
 abbrev pub with_displacement : ℕ → Spec → ℕ → ℕ → Result Spec AsmKind
-with_displacement size spec target behind = if is_in_field size target behind then Ok (record spec { value = difference size target behind }) else Err OutOfReach
+with_displacement size spec target later = if is_in_field size target later then Ok (record spec { value = difference size target later }) else Err OutOfReach
 
 -- an operand's specifier, where the operand ends before an address. A branch displacement is the last
 -- operand, so the address after it is the next instruction's.
 unfoldable pub resolved : (List ℕ → Option ℕ) → ℕ → Form → Operand → Result Spec AsmKind
-resolved names behind form o = elim (o.name) [
+resolved names later form o = elim (o.name) [
   | None ↦ Ok (o.spec)
-  | Some name ↦ with_displacement (field_size form o.spec) o.spec (named_target names name) behind
+  | Some name ↦ with_displacement (field_size form o.spec) o.spec (named_target names name) later
 ]
 
 -- the bytes of operands that begin at an address

@@ -17,16 +17,16 @@ is_blank b = b == 32 || b == 9
 -- a text in two
 pub record Cut : Type 0 where
   pub before : List ℕ
-  pub behind : List ℕ
+  pub later : List ℕ
 
 abbrev pub with_first : ℕ → Option Cut → Option Cut
 with_first b None = None
-with_first b (Some c) = Some (record { before = b ∷ c.before; behind = c.behind })
+with_first b (Some c) = Some (record { before = b ∷ c.before; later = c.later })
 
 -- what comes before the first byte that passes a test, and after it; None where none passes
 abbrev pub cut : (ℕ → Bool) → List ℕ → Option Cut
 cut test [] = None
-cut test (b ∷ bs) = if test b then Some (record { before = []; behind = bs }) else with_first b (cut test bs)
+cut test (b ∷ bs) = if test b then Some (record { before = []; later = bs }) else with_first b (cut test bs)
 
 -- the same at the first byte that is this one
 abbrev pub cut_at : ℕ → List ℕ → Option Cut

@@ -37,7 +37,7 @@ named_in mode reg text = tested is_object_name text >>= λ name. Some (with_name
 
 -- a register before a closing mark, with nothing but an ending after that
 unfoldable pub closed_in : ℕ → List ℕ → List ℕ → Option ℕ
-closed_in mark ending text = cut_at mark text >>= λ c. if bytes_eq c.behind ending then register_in c.before else None
+closed_in mark ending text = cut_at mark text >>= λ c. if bytes_eq c.later ending then register_in c.before else None
 
 -- R), and R)+, after a parenthesis (41 closes it)
 abbrev pub enclosed : ℕ → List ℕ → List ℕ → Option Operand
@@ -65,7 +65,7 @@ register_operand_in form text = not_pc (register_in text) >>= allowed form
 
 -- N(R), after B^ or the like; any register
 abbrev pub based : ℕ → ℕ → Cut → Option Operand
-based mode size c = field_in size c.before >>= λ value. closed_in 41 [] c.behind >>= λ reg. operand_of_value mode reg value
+based mode size c = field_in size c.before >>= λ value. closed_in 41 [] c.later >>= λ reg. operand_of_value mode reg value
 
 -- N(R) or NAME, in a mode with so many bytes
 unfoldable pub displaced_in : ℕ → ℕ → List ℕ → Option Operand
@@ -110,7 +110,7 @@ indexed o x = if nat_lt o.spec.mode 6 || (o.spec.mode == 8 && o.spec.reg == 15) 
 
 -- with R] after an opening bracket (93 closes it)
 abbrev pub indexed_in : Form → Cut → Option Operand
-indexed_in form c = specifier_in form c.before >>= λ o. not_pc (closed_in 93 [] c.behind) >>= indexed o
+indexed_in form c = specifier_in form c.before >>= λ o. not_pc (closed_in 93 [] c.later) >>= indexed o
 
 -- a number, or a name that stands for one; 16 is the mode of what branches
 unfoldable pub value_in : ℕ → List ℕ → Option Operand
@@ -130,7 +130,7 @@ before_comma text = elim (cut_at 44 text) [ None ↦ text | Some c ↦ c.before 
 
 -- what follows a comma, None where there is none
 abbrev pub text_after_comma : List ℕ → Option (List ℕ)
-text_after_comma text = elim (cut_at 44 text) [ None ↦ None | Some c ↦ Some (c.behind) ]
+text_after_comma text = elim (cut_at 44 text) [ None ↦ None | Some c ↦ Some (c.later) ]
 
 abbrev pub following : Operand → Option (List Operand) → Option (List Operand)
 following o others = others >>= λ os. Some (o ∷ os)

@@ -49,7 +49,7 @@ words_in word text =
 unfoldable pub statement_in : List ℕ → Option Statement
 statement_in text = elim (cut is_blank text) [
   | None ↦ words_in text None
-  | Some c ↦ words_in c.before (Some (c.behind))
+  | Some c ↦ words_in c.before (Some (c.later))
 ]
 
 abbrev pub saying : Option (List ℕ) → List ℕ → Option SourceLine
@@ -68,7 +68,7 @@ unlabelled (b ∷ text) = saying None (b ∷ text)
 unfoldable pub content_in : List ℕ → Option SourceLine
 content_in text = elim (cut_at 58 text) [
   | None ↦ unlabelled text
-  | Some c ↦ if is_object_name c.before then after_label c.before c.behind else None
+  | Some c ↦ if is_object_name c.before then after_label c.before c.later else None
 ]
 
 -- what comes before the first semicolon (59)

@@ -27,8 +27,8 @@ table_small = omega arith
 absent_small : 2 < 4
 absent_small = omega arith
 
-behind_inside : (size : ℕ) (memory : List ℕ) (at table : ℕ) → IsInside size (through_system_entry size memory at table)
-behind_inside size memory at table =
+after_inside : (size : ℕ) (memory : List ℕ) (at table : ℕ) → IsInside size (through_system_entry size memory at table)
+after_inside size memory at table =
     let P = IsInside size in
     let entry = long_at memory table in
     cond_both (is_past size table 4) Beyond _ P (λ e. tt) (λ e.
@@ -44,7 +44,7 @@ process_inside : (size : ℕ) (memory : List ℕ) (t : Tables) (at : ℕ) → Is
 unfolding process_entry
 process_inside size memory t at =
     cond_both (not (eqb (region_of (page_of at)) 2) || leb t.slr (in_region (page_of at))) (Fails false 3) _ (IsInside size) (λ e. table_small)
-    (λ e. behind_inside size memory at (t.sbr + 4 * in_region (page_of at)))
+    (λ e. after_inside size memory at (t.sbr + 4 * in_region (page_of at)))
 
 pub mapped_inside : (size : ℕ) (memory : List ℕ) (t : Tables) (page : ℕ) → IsInside size (mapped_entry size memory t page)
 unfolding mapped_entry
@@ -74,8 +74,8 @@ wrapped a b e = grind arith
 in_frame : (f at : ℕ) → at % 4 ≡ 0 → (512 * f + at % 512) % 4 ≡ 0
 in_frame f at e = grind arith
 
-behind_aligned : (size : ℕ) (memory : List ℕ) (at table : ℕ) → at % 4 ≡ 0 → table % 4 ≡ 0 → IsAligned (through_system_entry size memory at table)
-behind_aligned size memory at table a h =
+after_aligned : (size : ℕ) (memory : List ℕ) (at table : ℕ) → at % 4 ≡ 0 → table % 4 ≡ 0 → IsAligned (through_system_entry size memory at table)
+after_aligned size memory at table a h =
     let entry = long_at memory table in
     cond_both (is_past size table 4) Beyond _ IsAligned (λ e. tt) (λ e.
     cond_both (not (is_valid entry)) (Fails true 2) _ IsAligned (λ g. tt) (λ g.
@@ -90,7 +90,7 @@ process_aligned : (size : ℕ) (memory : List ℕ) (t : Tables) (at : ℕ) → t
 unfolding process_entry
 process_aligned size memory t at s a =
     cond_both (not (eqb (region_of (page_of at)) 2) || leb t.slr (in_region (page_of at))) (Fails false 3) _ IsAligned (λ e. tt)
-    (λ e. behind_aligned size memory at (t.sbr + 4 * in_region (page_of at)) a (added t.sbr (in_region (page_of at)) s))
+    (λ e. after_aligned size memory at (t.sbr + 4 * in_region (page_of at)) a (added t.sbr (in_region (page_of at)) s))
 
 mapped_aligned : (size : ℕ) (memory : List ℕ) (t : Tables) (page : ℕ) → AreAligned t → IsAligned (mapped_entry size memory t page)
 unfolding mapped_entry
@@ -108,15 +108,15 @@ looks_aligned size memory t page h =
 
 -- One longword decides.
 
-behind_same : (size : ℕ) (memory other : List ℕ) (at table : ℕ) → long_at other table ≡ long_at memory table → through_system_entry size other at table ≡ through_system_entry size memory at table
-behind_same size memory other at table e =
+after_same : (size : ℕ) (memory other : List ℕ) (at table : ℕ) → long_at other table ≡ long_at memory table → through_system_entry size other at table ≡ through_system_entry size memory at table
+after_same size memory other at table e =
     let by : ℕ → Lookup = λ entry. if is_past size table 4 then Beyond else if not (is_valid entry) then Fails true 2 else if is_past size (512 * frame_of entry) 512 then Beyond else in_memory size (Some table) (512 * frame_of entry + at % 512) in
     ap by e
 
 process_same : (size : ℕ) (memory other : List ℕ) (t : Tables) (at : ℕ) → long_at other (t.sbr + 4 * in_region (page_of at)) ≡ long_at memory (t.sbr + 4 * in_region (page_of at)) → process_entry size other t at ≡ process_entry size memory t at
 unfolding process_entry
 process_same size memory other t at e =
-    ap (λ (x : Lookup). if not (eqb (region_of (page_of at)) 2) || leb t.slr (in_region (page_of at)) then Fails false 3 else x) (behind_same size memory other at (t.sbr + 4 * in_region (page_of at)) e)
+    ap (λ (x : Lookup). if not (eqb (region_of (page_of at)) 2) || leb t.slr (in_region (page_of at)) then Fails false 3 else x) (after_same size memory other at (t.sbr + 4 * in_region (page_of at)) e)
 
 mapped_by : (r0 r1 : Bool) (size : ℕ) (memory other : List ℕ) (t : Tables) (page : ℕ) → eqb (region_of page) 0 ≡ r0 → eqb (region_of page) 1 ≡ r1 →
     long_at other (table_place t page) ≡ long_at memory (table_place t page) → mapped_entry size other t page ≡ mapped_entry size memory t page

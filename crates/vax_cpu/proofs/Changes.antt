@@ -93,16 +93,16 @@ kind_leaves (Address b) w s r cs h = holds-bind (PlaceLeaves r) (IsLeft r 0) cs 
 kind_leaves (Bits b) w s r cs h = holds-bind (PlaceLeaves r) (IsLeft r 0) cs (address_by b (size_of w) s r) _ (address_leaves b (size_of w) s r cs h) (λ ds p e. (e, tt))
 
 -- the same after its own bytes, by which PC goes on
-abbrev IsBehind : List ℕ → ℕ → List ℕ → Evaluated → Type 0
-IsBehind r n cs e = AreAlike r e.r × IsAt n e.dest
+abbrev IsAfter : List ℕ → ℕ → List ℕ → Evaluated → Type 0
+IsAfter r n cs e = AreAlike r e.r × IsAt n e.dest
 
-operand_leaves : (x : Operand) (r cs : List ℕ) → leaves_registers x.kind ≡ true → Holds (IsBehind r (operand_register x.kind x.spec.reg)) cs (operand_of x.form x.spec r)
+operand_leaves : (x : Operand) (r cs : List ℕ) → leaves_registers x.kind ≡ true → Holds (IsAfter r (operand_register x.kind x.spec.reg)) cs (operand_of x.form x.spec r)
 operand_leaves x r cs h =
     let n = operand_register x.kind x.spec.reg in
     let m = operand_by x.kind x.form.width x.spec (past_own_bytes x.length r) in
     let left : Holds (IsLeft (past_own_bytes x.length r) n) cs m = kind_leaves x.kind x.form.width x.spec (past_own_bytes x.length r) cs h in
-    subst (Holds (IsBehind r n) cs) (prepared_same x.form x.spec x.kind x.length r x.prepared x.bytes)
-    (holds_then (IsLeft (past_own_bytes x.length r) n) (IsBehind r n) cs m left (λ ds e p. (subst (AreAlike r) (sym p.0) (pc_alone r _), p.1)))
+    subst (Holds (IsAfter r n) cs) (prepared_same x.form x.spec x.kind x.length r x.prepared x.bytes)
+    (holds_then (IsLeft (past_own_bytes x.length r) n) (IsAfter r n) cs m left (λ ds e p. (subst (AreAlike r) (sym p.0) (pc_alone r _), p.1)))
 
 put_at : (ds : List Dest) (i t n : ℕ) (d : Dest) → (i ≡ t → IsAt n d) → IsAt n (slice_index_or ds t Nowhere) → IsAt n (slice_index_or (slice_set ds i d) t Nowhere)
 put_at [] i t n d f h = h
@@ -116,15 +116,15 @@ and_both true b e = (refl, e)
 and_both false b e = cc
 
 -- the registers are alike, and the destination of this number has that register, if any
-abbrev AreBehind : List ℕ → (t n : ℕ) → List ℕ → Operands → Type 0
-AreBehind r t n cs o = AreAlike r o.r × IsAt n (dest_of o t)
+abbrev AreAfter : List ℕ → (t n : ℕ) → List ℕ → Operands → Type 0
+AreAfter r t n cs o = AreAlike r o.r × IsAt n (dest_of o t)
 
 from_leaves : (r : List ℕ) (t n i : ℕ) (xs : List Operand) (o : Operands) (cs : List ℕ) → all_leave_registers xs ≡ true → ((k : ℕ) → i + k ≡ t → register_at k xs ≡ n) →
-    AreBehind r t n cs o → Holds (AreBehind r t n) cs (left_from i xs o)
+    AreAfter r t n cs o → Holds (AreAfter r t n) cs (left_from i xs o)
 from_leaves r t n i [] o cs still named h = h
 from_leaves r t n i (x ∷ xs) o cs still named h =
     let parts = and_both (leaves_registers x.kind) (all_leave_registers xs) still in
-    holds-bind (IsBehind o.r (operand_register x.kind x.spec.reg)) (AreBehind r t n) cs (operand_of x.form x.spec o.r) _ (operand_leaves x o.r cs parts.0)
+    holds-bind (IsAfter o.r (operand_register x.kind x.spec.reg)) (AreAfter r t n) cs (operand_of x.form x.spec o.r) _ (operand_leaves x o.r cs parts.0)
     (λ ds e p. from_leaves r t n (i + 1) xs (with_operand i o e) ds parts.1 (λ k g. named (suc k) (omega (arith, g)))
     ((λ j low. p.0 j low ∙ h.0 j low), put_at o.dests i t n e.dest (λ g. subst (λ (m : ℕ). IsAt m e.dest) (named 0 (omega (arith, g))) p.1) h.1))
 
@@ -136,7 +136,7 @@ nowhere (suc (suc (suc zero))) n = tt
 nowhere (suc (suc (suc (suc t)))) n = tt
 
 operands_leave : (d : Instruction) (xs : List Operand) (r : List ℕ) (t : ℕ) → map (λ x. x.form) xs ≡ forms_in (row_of d.opcode) → map (λ x. x.spec) xs ≡ d.specs →
-    all_leave_registers xs ≡ true → Holds (AreBehind r t (register_at t xs)) [] (operands_of d r)
+    all_leave_registers xs ≡ true → Holds (AreAfter r t (register_at t xs)) [] (operands_of d r)
 unfolding operands_of
 operands_leave d xs r t f g still =
     rw (sym f, sym g) (from_leaves r t (register_at t xs) 0 xs (no_operands (past_own_bytes (if d.wait then 2 else 1) r)) [] still (λ k e. ap (λ (j : ℕ). register_at j xs) (omega (arith, e))) (pc_alone r _, nowhere t _))
@@ -187,7 +187,7 @@ narrow_long : Long ≢ Quad
 narrow_long e = cc
 
 performed_alike : (r : List ℕ) (what : Operation) (xs : List Operand) (o : Operands) (psw : ℕ) (cs : List ℕ) → result_register what xs < 15 →
-    AreBehind r (number_of what) (register_at (number_of what) xs) cs o → Holds (IsAlikeBut (result_register what xs) r) cs (performed what o psw)
+    AreAfter r (number_of what) (register_at (number_of what) xs) cs o → Holds (IsAlikeBut (result_register what xs) r) cs (performed what o psw)
 unfolding performed branched
 performed_alike r (does.Compute op Byte inputs target) xs o psw cs few h = computed_alike r xs op Byte inputs target o psw narrow_byte h.0 h.1
 performed_alike r (does.Compute op Word inputs target) xs o psw cs few h = computed_alike r xs op Word inputs target o psw narrow_word h.0 h.1
@@ -208,6 +208,6 @@ changes_one s d what xs r psw e does f g few is =
     let same : changed_register what xs ≡ result_register what xs = ap (λ (b : Bool). if b then result_register what xs else 15) still in
     let low : result_register what xs < 15 = subst (λ (n : ℕ). n < 15) same few in
     let all : Holds (IsAlikeBut (result_register what xs) r) [] (planned d r psw) =
-    holds-bind (AreBehind r (number_of what) (register_at (number_of what) xs)) (IsAlikeBut (result_register what xs) r) [] (operands_of d r) _ (operands_leave d xs r (number_of what) f g still)
+    holds-bind (AreAfter r (number_of what) (register_at (number_of what) xs)) (IsAlikeBut (result_register what xs) r) [] (operands_of d r) _ (operands_leave d xs r (number_of what) f g still)
     (λ ds o h. subst (λ (op : Operation). Holds (IsAlikeBut (result_register what xs) r) ds (performed op o psw)) does (performed_alike r what xs o psw ds low h)) in
     subst (λ (n : ℕ). AreAlikeBut n r e.r) (sym same) (holds_made (IsAlikeBut (result_register what xs) r) s [] (planned d r psw) e all (sym is))

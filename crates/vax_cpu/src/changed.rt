@@ -101,7 +101,7 @@ pub fn changed_register(prepared: &Prepared) -> u8
 
 /// The sum of R0 to R14, by that of before one of them changed; or, where this is register 15, anew.
 #[inline(always)]
-pub fn sum_behind(total: u64, changed: u8, before: &[u32; 16], after: &[u32; 16]) -> u64
+pub fn sum_after(total: u64, changed: u8, before: &[u32; 16], after: &[u32; 16]) -> u64
     requires sum { total ≡ sum (take 15 before.now) }
     requires alike { changed < 15 → AreAlikeBut changed before.now after.now }
     ensures { result ≡ sum (take 15 after.now) }

@@ -16,7 +16,7 @@ const INDEXED: usize = 262144;
 pub struct Code {
     /// Which place an address has; 0 where it has none yet.
     index: Vec<u16>,
-    /// In the order in which the addresses were met, behind one that belongs to none.
+    /// In the order in which the addresses were met, after one that belongs to none.
     pub places: Vec<Kept>,
     ghost indexed: { length index.items ≡ 262144 },
     ghost some: { 0 < length places.items },

@@ -10,7 +10,7 @@ ghost use Rattle.vax_normal.specs.Normal.{IsNormal};
 ghost use Rattle.vax_cpu.specs.Completed.{EndsWith, RunsOn, attempted, settled_meaning, with_registers};
 ghost use Rattle.vax_cpu.specs.Fetched.{exits};
 
-use crate::changed::sum_behind;
+use crate::changed::sum_after;
 use crate::code::Code;
 use crate::fetch::has_known;
 use crate::in_memory::step_in_memory;
@@ -193,7 +193,7 @@ fn step_known(
         plan.r = before;
         return None;
     }
-    let total = sum_behind(total, kept.changed, &before, &plan.r);
+    let total = sum_after(total, kept.changed, &before, &plan.r);
     state.retire(
         before[15],
         kept.prepared.decoded.opcode,

@@ -119,10 +119,10 @@ fn evaluate_anew<S: Space>(
     let Operands {
         values,
         dests,
-        r: behind,
+        r: later,
     } = evaluate_trap(s, d, r)?;
     *v = Values { values, dests };
-    *r = behind;
+    *r = later;
     Ok(())
 }
 

@@ -24,9 +24,9 @@ fn operands<'a>(forms: &[Form], b: &'a [u8]) -> Pieces<'a>
     let mut rest = b;
     for form in forms {
         match operand(*form, rest) {
-            Piece::Got(spec, behind) => {
+            Piece::Got(spec, later) => {
                 specs.push(spec);
-                rest = behind;
+                rest = later;
             }
             Piece::More => {
                 return Pieces::More;
@@ -40,7 +40,7 @@ fn operands<'a>(forms: &[Form], b: &'a [u8]) -> Pieces<'a>
 }
 
 /// An instruction of an opcode, by its operands' forms and the bytes after the opcode.
-fn behind_opcode(opcode: u8, forms: &[Form], b: &[u8]) -> Decode
+fn after_opcode(opcode: u8, forms: &[Form], b: &[u8]) -> Decode
     requires { length forms.now ≤ 4 }
     ensures { IsAnswer result (answer_of opcode b.now (operands_at forms.now b.now)) }
 {
@@ -72,7 +72,7 @@ fn scan(b: &[u8]) -> Decode
         [0xfd, ..] => Decode::Fault(DecodeFault::Opcode),
         [opcode, rest @ ..] => match row(*opcode) {
             None => Decode::Fault(DecodeFault::Opcode),
-            Some(row) => behind_opcode(*opcode, row.operands.as_slice(), rest),
+            Some(row) => after_opcode(*opcode, row.operands.as_slice(), rest),
         },
     }
 }

@@ -85,8 +85,8 @@ seen m e places = record {
   counts = m.retired ∷ m.trail ∷ m.misses ∷ [];
 }
 
-abbrev pub behind : Machine × Exit → List ℕ → Seen
-behind run places = seen run.0 run.1 places
+abbrev pub later : Machine × Exit → List ℕ → Seen
+later run places = seen run.0 run.1 places
 
 abbrev pub shows : Exit → List ℕ → List ℕ → List ℕ → Seen
 shows e r longs counts = record { exit = e; r = r; longs = longs; counts = counts }
@@ -107,13 +107,13 @@ at_3fe = world_of 7 0x3fe 0
 
 -- what is seen after one of them, with these longwords in memory; a write shows the longword that it begins in
 abbrev after_read : List (ℕ × ℕ) → World → Seen
-after_read longs w = behind (real 1 (machine_of reads longs w)) []
+after_read longs w = later (real 1 (machine_of reads longs w)) []
 
 abbrev after_write : List (ℕ × ℕ) → World → Seen
-after_write longs w = behind (real 1 (machine_of writes longs w)) (0x400 ∷ [])
+after_write longs w = later (real 1 (machine_of writes longs w)) (0x400 ∷ [])
 
 abbrev after_write_over_end : List (ℕ × ℕ) → Seen
-after_write_over_end longs = behind (real 1 (machine_of writes longs at_3fe)) (0x3fc ∷ [])
+after_write_over_end longs = later (real 1 (machine_of writes longs at_3fe)) (0x3fc ∷ [])
 
 -- nothing is done: why, R1, the longwords and the misses
 abbrev stays : Exit → ℕ → List ℕ → ℕ → Seen
@@ -168,9 +168,9 @@ overwritten_entry =
 
 -- what the tables say is what is in memory
 pub tables_in_memory :
-    (behind (real 2 turns_page) (0x88 ∷ []) ≡ turned_page)
+    (later (real 2 turns_page) (0x88 ∷ []) ≡ turned_page)
     -- all bytes go to the places of before
-    × (behind (real 1 overwrites_own_entry) (0x1fc ∷ 0x200 ∷ 0x600 ∷ []) ≡ overwritten_entry)
+    × (later (real 1 overwrites_own_entry) (0x1fc ∷ 0x200 ∷ 0x600 ∷ []) ≡ overwritten_entry)
 unfolding whole_run
 tables_in_memory = (refl, refl)
 
@@ -190,7 +190,7 @@ abbrev pub probes : List ℕ
 probes = 0x0c ∷ 0x00 ∷ 0x04 ∷ 0x61 ∷ 0xdc ∷ 0x53 ∷ []
 
 abbrev after_probe : List (ℕ × ℕ) → World → Seen
-after_probe longs w = behind (real 2 (machine_of probes longs w)) []
+after_probe longs w = later (real 2 (machine_of probes longs w)) []
 
 -- of R3 and the trail
 abbrev probed : (r3 trail : ℕ) → Seen
@@ -209,7 +209,7 @@ probe_traps = Emulate (record {
 
 -- HALT, and how it traps
 abbrev after_halt : World → Seen
-after_halt w = behind (real 1 (machine_of (0 ∷ []) [] w)) []
+after_halt w = later (real 1 (machine_of (0 ∷ []) [] w)) []
 
 abbrev halt_traps : Exit
 halt_traps = Emulate (record { op = Halt; a = 0; b = 0; c = 0; dest = Nowhere; next_pc = 0x201; regs = replicate 15 0 })
@@ -221,9 +221,9 @@ stays_at_0 e = shows e (0 ∷ 0 ∷ 0 ∷ 0 ∷ []) [] (0 ∷ 0 ∷ 0 ∷ [])
 -- what ends a run, and the trail
 pub ends :
     -- the trail of two instructions
-    (behind (real 2 counts_twice) [] ≡ shows Budget (7 ∷ 0x400 ∷ 0 ∷ 2 ∷ []) [] (2 ∷ 0x1117 ∷ 0 ∷ []))
+    (later (real 2 counts_twice) [] ≡ shows Budget (7 ∷ 0x400 ∷ 0 ∷ 2 ∷ []) [] (2 ∷ 0x1117 ∷ 0 ∷ []))
     -- an overflow that traps: it has retired, and the run ends after it
-    × (behind (real 2 overflows) [] ≡ shows (Arithmetic 1) (0 ∷ 0 ∷ 0 ∷ 0x80000000 ∷ []) [] (1 ∷ 0x80000482 ∷ 0 ∷ []))
+    × (later (real 2 overflows) [] ≡ shows (Arithmetic 1) (0 ∷ 0 ∷ 0 ∷ 0x80000000 ∷ []) [] (1 ∷ 0x80000482 ∷ 0 ∷ []))
     -- PROBE is executed, and Z is 0; of user mode it isn't accessible, and Z is 1; MOVPSL shows VMPSL's mode
     × (after_probe [] at_400 ≡ probed 0x03c00000 0x03c00eca)
     × (after_probe ((0x88, 0xac000002) ∷ []) at_400 ≡ probed 0x03c00004 0x03c00ece)

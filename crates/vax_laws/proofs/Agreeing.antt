@@ -33,22 +33,22 @@ pub outcome_same : {A : Type 0} (s t : Space) (m : Interaction A) → AnswersThe
 outcome_same s t (Done a) h = refl
 outcome_same s t (Refuse r) h = refl
 outcome_same s t (Touch i a k f) h =
-    let behind = on_ok (number_at s i k a) (λ v. reached s (f v)) in
-    ap (λ r. bind_result r (λ v. outcome t (f v))) (number_same s t i k a (fewer s t (asked s i k a) (asked s i k a ++ behind) (among_front (asked s i k a) behind) h))
-    ∙ touch_same (AnswersThere s t) (λ v. outcome s (f v)) (λ v. outcome t (f v)) (λ v. reached s (f v)) (number_at s i k a) (fewer s t behind (asked s i k a ++ behind) (among_back (asked s i k a) behind) h) (λ v g. outcome_same s t (f v) g)
+    let later = on_ok (number_at s i k a) (λ v. reached s (f v)) in
+    ap (λ r. bind_result r (λ v. outcome t (f v))) (number_same s t i k a (fewer s t (asked s i k a) (asked s i k a ++ later) (among_front (asked s i k a) later) h))
+    ∙ touch_same (AnswersThere s t) (λ v. outcome s (f v)) (λ v. outcome t (f v)) (λ v. reached s (f v)) (number_at s i k a) (fewer s t later (asked s i k a ++ later) (among_back (asked s i k a) later) h) (λ v g. outcome_same s t (f v) g)
 
-behind_same : (P : List ℕ → Type 0) (f g more : ℕ → List ℕ) (r : Result ℕ Trouble) → P (on_ok r more) → ((v : ℕ) → P (more v) → g v ≡ f v) → on_ok r g ≡ on_ok r f
-behind_same P f g more (Ok v) h next = next v h
-behind_same P f g more (Err t) h next = refl
+after_same : (P : List ℕ → Type 0) (f g more : ℕ → List ℕ) (r : Result ℕ Trouble) → P (on_ok r more) → ((v : ℕ) → P (more v) → g v ≡ f v) → on_ok r g ≡ on_ok r f
+after_same P f g more (Ok v) h next = next v h
+after_same P f g more (Err t) h next = refl
 
 claims_same : {A : Type 0} (s t : Space) (m : Interaction A) → AnswersThere s t (reached s m) → claims t m ≡ claims s m
 claims_same s t (Done a) h = refl
 claims_same s t (Refuse r) h = refl
 claims_same s t (Touch i a k f) h =
-    let behind = on_ok (number_at s i k a) (λ v. reached s (f v)) in
+    let later = on_ok (number_at s i k a) (λ v. reached s (f v)) in
     ap (λ xs. if_write i (addresses k a) ++ xs)
-    (ap (λ r. on_ok r (λ v. claims t (f v))) (number_same s t i k a (fewer s t (asked s i k a) (asked s i k a ++ behind) (among_front (asked s i k a) behind) h))
-    ∙ behind_same (AnswersThere s t) (λ v. claims s (f v)) (λ v. claims t (f v)) (λ v. reached s (f v)) (number_at s i k a) (fewer s t behind (asked s i k a ++ behind) (among_back (asked s i k a) behind) h) (λ v g. claims_same s t (f v) g))
+    (ap (λ r. on_ok r (λ v. claims t (f v))) (number_same s t i k a (fewer s t (asked s i k a) (asked s i k a ++ later) (among_front (asked s i k a) later) h))
+    ∙ after_same (AnswersThere s t) (λ v. claims s (f v)) (λ v. claims t (f v)) (λ v. reached s (f v)) (number_at s i k a) (fewer s t later (asked s i k a ++ later) (among_back (asked s i k a) later) h) (λ v g. claims_same s t (f v) g))
 
 byte_asked : (P : List ℕ → Type 0) (x : Result ℕ Cause) (rest more : List ℕ) → P (after_valid_byte x rest) → (P rest → more ≡ rest) → after_valid_byte x more ≡ after_valid_byte x rest
 byte_asked P (Err c) rest more h next = refl
@@ -66,11 +66,11 @@ reached_same s t (Done a) h = refl
 reached_same s t (Refuse r) h = refl
 reached_same s t (Touch i a k f) h =
     let here = asked s i k a in
-    let behind = on_ok (number_at s i k a) (λ v. reached s (f v)) in
-    let at_front = fewer s t here (here ++ behind) (among_front here behind) h in
+    let later = on_ok (number_at s i k a) (λ v. reached s (f v)) in
+    let at_front = fewer s t here (here ++ later) (among_front here later) h in
     ap (λ xs. xs ++ on_ok (number_at t i k a) (λ v. reached t (f v))) (asked_same s t i k a at_front)
     ∙ ap (λ r. here ++ on_ok r (λ v. reached t (f v))) (number_same s t i k a at_front)
-    ∙ ap (λ xs. here ++ xs) (behind_same (AnswersThere s t) (λ v. reached s (f v)) (λ v. reached t (f v)) (λ v. reached s (f v)) (number_at s i k a) (fewer s t behind (here ++ behind) (among_back here behind) h) (λ v g. reached_same s t (f v) g))
+    ∙ ap (λ xs. here ++ xs) (after_same (AnswersThere s t) (λ v. reached s (f v)) (λ v. reached t (f v)) (λ v. reached s (f v)) (number_at s i k a) (fewer s t later (here ++ later) (among_back here later) h) (λ v g. reached_same s t (f v) g))
 
 -- What an interaction that completes claims is among what it asks for.
 

@@ -33,15 +33,15 @@ long_same memory other place rest h =
 
 -- The look-up.
 
-behind_same : (memory other : List ℕ) (at table : ℕ) → long_at other table ≡ long_at memory table → through_system_entry everywhere other at table ≡ through_system_entry everywhere memory at table
-behind_same memory other at table e =
+after_same : (memory other : List ℕ) (at table : ℕ) → long_at other table ≡ long_at memory table → through_system_entry everywhere other at table ≡ through_system_entry everywhere memory at table
+after_same memory other at table e =
     let by : ℕ → Lookup = λ entry. if is_past everywhere table 4 then Beyond else if not (is_valid entry) then Fails true 2 else if is_past everywhere (512 * frame_of entry) 512 then Beyond else in_memory everywhere (Some table) (512 * frame_of entry + at % 512) in
     ap by e
 
 process_on : (is_refused : Bool) (memory other : List ℕ) (at table : ℕ) → HasTheSame (all_four (if is_refused then [] else table ∷ [])) memory other →
     (if is_refused then Fails false 3 else through_system_entry everywhere other at table) ≡ (if is_refused then Fails false 3 else through_system_entry everywhere memory at table)
 process_on true memory other at table h = refl
-process_on false memory other at table h = behind_same memory other at table (long_same memory other table [] h)
+process_on false memory other at table h = after_same memory other at table (long_same memory other table [] h)
 
 process_same : (memory other : List ℕ) (t : Tables) (at : ℕ) → HasTheSame (all_four (mapping_at t at)) memory other → process_entry everywhere other t at ≡ process_entry everywhere memory t at
 unfolding process_entry

@@ -28,7 +28,7 @@ use Rattle.vax_normal.specs.Touched.{IsClaimedAt, IsComputedIn, IsPutIn, all_had
 use Rattle.vax_normal.specs.declared.shape.InMemory.{InMemory}
 use Rattle.vax_normal.specs.declared.shape.Reach.{Reach}
 use Rattle.vax_normal.proofs.Doing.{stored_nothing}
-use Rattle.vax_normal.proofs.Taking.{behind_opcode, moved_by}
+use Rattle.vax_normal.proofs.Taking.{after_opcode, moved_by}
 use Rattle.vax_normal.proofs.Touching.{found_on}
 
 pub computed_stored : (n : InMemory) (inputs : Inputs) (target : Target) (v u : ℕ) (r : List ℕ) (o : Operands) (psw : ℕ) → first_input inputs o ≡ sourced_by n.first v u r → second_input inputs o ≡ sourced_by n.second v u r →
@@ -68,7 +68,7 @@ pc_stepped None r = (refl, refl)
 pc_stepped (Some p) r = pc_if (p.step == 0) r p.register (plus (slice_index r p.register) p.step) p.there
 
 operands_found : (s : Space) (d : Instruction) (xs : List Operand) (r : List ℕ) (o : Operands) → map (λ x. x.form) xs ≡ forms_in (row_of d.opcode) → map (λ x. x.spec) xs ≡ d.specs →
-    outcome s (left_from 0 xs (no_operands (behind_opcode d r))) ≡ Ok o → outcome s (operands_of d r) ≡ Ok o
+    outcome s (left_from 0 xs (no_operands (after_opcode d r))) ≡ Ok o → outcome s (operands_of d r) ≡ Ok o
 unfolding operands_of
 operands_found s d xs r o f g h = rw (sym f, sym g) h
 
@@ -77,7 +77,7 @@ pub is_in_memory : (n : InMemory) (d : Instruction) (what : Operation) (xs : Lis
 unfolding planned
 is_in_memory n d what xs does f g formed long all s r psw v u sixteen a h =
     let room : 15 < length r = omega (arith, sixteen) in
-    let q : List ℕ = behind_opcode d r in
+    let q : List ℕ = after_opcode d r in
     let at : ℕ = claimed_address n.writes r in
     let moved : IsMoved r q = (_, refl) in
     let o : Operands = all_had v u at xs q in

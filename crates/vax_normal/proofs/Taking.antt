@@ -59,13 +59,13 @@ from_taken i (x ∷ xs) o h =
     ap (λ (m : Interaction Evaluated). m >>= λ e. left_from (i + 1) xs (with_operand i o e)) (operand_taken x o.r parts.0) ∙ from_taken (i + 1) xs (with_operand i o (taken_operand x o.r)) parts.1
 
 -- the registers after the opcode
-abbrev pub behind_opcode : Instruction → List ℕ → List ℕ
-behind_opcode d r = past_own_bytes (if d.wait then 2 else 1) r
+abbrev pub after_opcode : Instruction → List ℕ → List ℕ
+after_opcode d r = past_own_bytes (if d.wait then 2 else 1) r
 
 operands_taken : (d : Instruction) (xs : List Operand) (r : List ℕ) → map (λ x. x.form) xs ≡ forms_in (row_of d.opcode) → map (λ x. x.spec) xs ≡ d.specs → are_at_hand xs ≡ true →
-    operands_of d r ≡ Done (all_at_hand xs (behind_opcode d r))
+    operands_of d r ≡ Done (all_at_hand xs (after_opcode d r))
 unfolding operands_of
-operands_taken d xs r f g h = rw (sym f, sym g) (from_taken 0 xs (no_operands (behind_opcode d r)) h)
+operands_taken d xs r f g h = rw (sym f, sym g) (from_taken 0 xs (no_operands (after_opcode d r)) h)
 
 pub pc_alone : (r : List ℕ) (v : ℕ) → AreAlikeButPc r (slice_set r 15 v)
 pc_alone r v i low = get_or-set_other r 15 i v 0 (omega arith)
@@ -84,11 +84,11 @@ moved_by r q v room (w, e) g =
     e ∙ ap (λ (x : ℕ). slice_set r 15 x) (sym is ∙ g)
 
 pc_taken : (d : Instruction) (xs : List Operand) (r : List ℕ) → map (λ x. x.form) xs ≡ forms_in (row_of d.opcode) → map (λ x. x.spec) xs ≡ d.specs → are_at_hand xs ≡ true →
-    IsWellFormed d → 15 < length r → (all_at_hand xs (behind_opcode d r)).r ≡ past_own_bytes d.length r
+    IsWellFormed d → 15 < length r → (all_at_hand xs (after_opcode d r)).r ≡ past_own_bytes d.length r
 pc_taken d xs r f g h formed room =
-    let goes : Holds (λ cs o. slice_index o.r 15 ≡ plus (slice_index r 15) d.length) [] (Done (all_at_hand xs (behind_opcode d r))) =
+    let goes : Holds (λ cs o. slice_index o.r 15 ≡ plus (slice_index r 15) d.length) [] (Done (all_at_hand xs (after_opcode d r))) =
     subst (Holds (λ cs o. slice_index o.r 15 ≡ plus (slice_index r 15) d.length) []) (operands_taken d xs r f g h) (operands_go d r formed room) in
-    moved_by r (all_at_hand xs (behind_opcode d r)).r (plus (slice_index r 15) d.length) room (from_moved r 0 xs (no_operands (behind_opcode d r)) (_, refl)) goes
+    moved_by r (all_at_hand xs (after_opcode d r)).r (plus (slice_index r 15) d.length) room (from_moved r 0 xs (no_operands (after_opcode d r)) (_, refl)) goes
 
 -- an instruction whose operands are had at once, and whose operation a shape says
 pub is_normal : (n : Normal) (d : Instruction) (what : Operation) (xs : List Operand) → what ≡ operation_of d.opcode → map (λ x. x.form) xs ≡ forms_in (row_of d.opcode) → map (λ x. x.spec) xs ≡ d.specs →
@@ -96,7 +96,7 @@ pub is_normal : (n : Normal) (d : Instruction) (what : Operation) (xs : List Ope
 unfolding planned done_at_once
 is_normal n d what xs does f g h formed long done s r psw sixteen =
     let room : 15 < length r = omega (arith, sixteen) in
-    let q = behind_opcode d r in
+    let q = after_opcode d r in
     let pc : (all_at_hand xs q).r ≡ past_own_bytes n.length r = pc_taken d xs r f g h formed room ∙ ap (λ (k : ℕ). past_own_bytes k r) (sym long) in
     let all : planned d r psw ≡ performed (operation_of d.opcode) (all_at_hand xs q) psw = ap (λ (m : Interaction Operands). m >>= λ o. performed (operation_of d.opcode) o psw) (operands_taken d xs r f g h) in
     let one : performed (operation_of d.opcode) (all_at_hand xs q) psw ≡ Done (done_by n.shape n.length r psw) =

@@ -176,15 +176,15 @@ touched_written p b x xs is reach rest s i v u at r o moved a h c =
     let next = rest s (i + 1) v u at (reach_stepped p r) (with_operand i o e) after tt tt tt in
     (found_on s (operand_of x.form x.spec o.r) (λ z. left_from (i + 1) xs (with_operand i o z)) e _ first next.0, next.1)
 
--- operands behind the first
-abbrev pub behind_first : List Operand → List Operand
-behind_first xs = take (length xs - 1) (drop 1 xs)
+-- operands after the first
+abbrev pub after_first : List Operand → List Operand
+after_first xs = take (length xs - 1) (drop 1 xs)
 
 take_all : (xs : List Operand) → take (length xs) xs ≡ xs
 take_all [] = refl
 take_all (x ∷ xs) = ap (λ (ys : List Operand). x ∷ ys) (take_all xs)
 
-pub rest_of : (xs : List Operand) (x : Operand) → 0 < length xs → x ≡ get_or xs 0 x → xs ≡ x ∷ behind_first xs
+pub rest_of : (xs : List Operand) (x : Operand) → 0 < length xs → x ≡ get_or xs 0 x → xs ≡ x ∷ after_first xs
 rest_of [] x some is = absurd (omega arith)
 rest_of (y ∷ ys) x some is =
     let count : length (y ∷ ys) - 1 ≡ length ys = omega arith in

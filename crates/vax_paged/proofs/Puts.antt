@@ -40,8 +40,8 @@ puts_step place (suc k) a v h small =
     rw (less, same, same_from place k (a + 1) ((a + 1) % 2 ^ 32) (v / 256) wrap) refl
 
 -- put after others
-pub put_behind : (place : ℕ → ℕ) (k a v p : ℕ) (old new : List Put) → 0 < k → a < 2 ^ 32 → p ≡ place a → new ≡ old ++ byte_put_at p (v % 256) ∷ [] → new ++ puts_from place (k - 1) ((a + 1) % 2 ^ 32) (v / 256) ≡ old ++ puts_from place k a v
-put_behind place k a v p old new h small at is =
+pub put_after : (place : ℕ → ℕ) (k a v p : ℕ) (old new : List Put) → 0 < k → a < 2 ^ 32 → p ≡ place a → new ≡ old ++ byte_put_at p (v % 256) ∷ [] → new ++ puts_from place (k - 1) ((a + 1) % 2 ^ 32) (v / 256) ≡ old ++ puts_from place k a v
+put_after place k a v p old new h small at is =
     let rest = puts_from place (k - 1) ((a + 1) % 2 ^ 32) (v / 256) in
     ap (λ (ps : List Put). ps ++ rest) (is ∙ ap (λ (z : ℕ). old ++ byte_put_at z (v % 256) ∷ []) at)
     ∙ append_assoc old (byte_put_at (place a) (v % 256) ∷ []) rest

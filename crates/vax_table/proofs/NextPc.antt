@@ -92,14 +92,14 @@ GoesOperand k r cs e = Goes k r e.r
 GoesAll : ℕ → List ℕ → List ℕ → Operands → Type 0
 GoesAll k r cs o = Goes k r o.r
 
-pub behind_goes : (k : ℕ) (r : List ℕ) → 15 < length r → Goes k r (past_own_bytes k r)
-behind_goes k r h = (rw get_or-set_same refl, length-set r 15 _)
+pub after_goes : (k : ℕ) (r : List ℕ) → 15 < length r → Goes k r (past_own_bytes k r)
+after_goes k r h = (rw get_or-set_same refl, length-set r 15 _)
 
 operand_goes : (f : Form) (s : Spec) (r cs : List ℕ) → 15 < length r → IsLegalOperand f.access f.width s → Holds (GoesOperand (operand_length f s) r) cs (operand_of f s r)
 unfolding operand_of GoesOperand KeepsOperand
 operand_goes f s r cs h stands =
     let k = operand_length f s in
-    let g : Goes k r (past_own_bytes k r) = behind_goes k r h in
+    let g : Goes k r (past_own_bytes k r) = after_goes k r h in
     holds_then (KeepsOperand (past_own_bytes k r)) (GoesOperand k r) cs (operand_of f s r) (access_kept f.access f.width s (past_own_bytes k r) cs stands)
     (λ ds e kept. (kept.0 ∙ g.0, kept.1 ∙ g.1))
 
@@ -189,7 +189,7 @@ operands_go d r h room =
     let k = opcode_length d in
     let n = all_length (forms_in (row_of d.opcode)) d.specs in
     let q : List ℕ = past_own_bytes k r in
-    let g : Goes k r q = behind_goes k r room in
+    let g : Goes k r q = after_goes k r room in
     let there : slice_index q 15 ≡ plus (slice_index r 15) k = g.0 in
     let size : length q ≡ length r = g.1 in
     let under : slice_index q 15 < 2 ^ 32 = omega arith in

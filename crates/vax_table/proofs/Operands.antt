@@ -32,13 +32,13 @@ direct f all (Got s rest) n m = (m.0, m.1, specifier n m.2)
 direct f all More n m = record { tail = m.0; spec = m.1; some = m.2; spelled = specifier n m.3 }
 direct f all Bad n m = tt
 
-behind_index : (f : Form) (x b : ℕ) (bs : List ℕ) (o : OperandReading) → f.access ≢ Branch → x < 15 → 0x60 ≤ b → b ≢ 0x8f → Means f (b ∷ bs) o → Reads f ((0x40 + x) ∷ (b ∷ bs)) (with_index x o)
-behind_index f x b bs (Got s rest) n h l i ([], e, m) = absurd (specifier_some f s m)
-behind_index f x b bs (Got s rest) n h l i (c ∷ cs, e, m) =
+after_index : (f : Form) (x b : ℕ) (bs : List ℕ) (o : OperandReading) → f.access ≢ Branch → x < 15 → 0x60 ≤ b → b ≢ 0x8f → Means f (b ∷ bs) o → Reads f ((0x40 + x) ∷ (b ∷ bs)) (with_index x o)
+after_index f x b bs (Got s rest) n h l i ([], e, m) = absurd (specifier_some f s m)
+after_index f x b bs (Got s rest) n h l i (c ∷ cs, e, m) =
     let same : c ≡ b = cc in
     ((0x40 + x) ∷ (c ∷ cs), ap (λ ys. (0x40 + x) ∷ ys) e, indexed n x h c cs s (rw same l) (rw same i) m refl refl)
-behind_index f x b bs More n h l i m = record { tail = m.0; spec = record m.1 { index = Some x }; some = m.2; spelled = indexed n x h b (bs ++ m.0) m.1 l i m.3 refl refl }
-behind_index f x b bs Bad n h l i m = tt
+after_index f x b bs More n h l i m = record { tail = m.0; spec = record m.1 { index = Some x }; some = m.2; spelled = indexed n x h b (bs ++ m.0) m.1 l i m.3 refl refl }
+after_index f x b bs Bad n h l i m = tt
 
 indexed_reads : (f : Form) (x : ℕ) (bs : List ℕ) → f.access ≢ Branch → x < 15 → AreBytes bs → Reads f ((0x40 + x) ∷ bs) (indexed_at f x bs)
 unfolding indexed_at
@@ -52,7 +52,7 @@ indexed_reads f x (b ∷ bs) n h hs =
     let P : OperandReading → Type 0 = Reads f ((0x40 + x) ∷ (b ∷ bs)) in
     if_both P (ltb (b / 16) 6) _ _ (λ t. tt) (λ t. if_both P (eqb b 0x8f) _ _ (λ u. tt) (λ u.
     let high : 6 ≤ b / 16 = le_of _ _ t in
-    behind_index f x b bs (specifier_at f b bs) n h (omega arith) (ne_of _ _ u) (specifier_means f b bs hs.0 hs.1)))
+    after_index f x b bs (specifier_at f b bs) n h (omega arith) (ne_of _ _ u) (specifier_means f b bs hs.0 hs.1)))
 
 branch_reads : (f : Form) (bs : List ℕ) → f.access ≡ Branch → AreBytes bs → Reads f bs (valued_at 16 0 (size_of f.width) bs)
 branch_reads f bs a h =
@@ -214,16 +214,16 @@ got_stays f bs ys s rest h e =
     let m : (front : List ℕ) × (bs ≡ front ++ rest) × SpellsOperand f front s = subst (λ o. Reads f bs o) e (operand_reads f bs h) in
     rw (m.1, append_assoc m.0 rest ys) (operand_again f m.0 s (rest ++ ys) m.2)
 
-behind_bad : (ss : List Spec) (o : OperandsReading) → with_operands_before ss o ≡ BadAll → o ≡ BadAll
-behind_bad ss (GotAll xs rest) e = cc
-behind_bad ss MoreAll e = cc
-behind_bad ss BadAll e = refl
+after_bad : (ss : List Spec) (o : OperandsReading) → with_operands_before ss o ≡ BadAll → o ≡ BadAll
+after_bad ss (GotAll xs rest) e = cc
+after_bad ss MoreAll e = cc
+after_bad ss BadAll e = refl
 
 next_bad : (f : Form) (fs : List Form) (bs ys : List ℕ) → AreBytes bs → ((rest : List ℕ) → AreBytes rest → operands_at fs rest ≡ BadAll → operands_at fs (rest ++ ys) ≡ BadAll) →
     (o : OperandReading) → operand_at f bs ≡ o → (elim o [ Got s rest ↦ with_operands_before (s ∷ []) (operands_at fs rest) | More ↦ MoreAll | Bad ↦ BadAll ]) ≡ BadAll → operands_at (f ∷ fs) (bs ++ ys) ≡ BadAll
 next_bad f fs bs ys h next (Got s rest) e g =
     let m : (front : List ℕ) × (bs ≡ front ++ rest) × SpellsOperand f front s = subst (λ o. Reads f bs o) e (operand_reads f bs h) in
-    let bad : operands_at fs (rest ++ ys) ≡ BadAll = next rest (AreBytes-back m.0 rest (subst AreBytes m.1 h)) (behind_bad (s ∷ []) (operands_at fs rest) g) in
+    let bad : operands_at fs (rest ++ ys) ≡ BadAll = next rest (AreBytes-back m.0 rest (subst AreBytes m.1 h)) (after_bad (s ∷ []) (operands_at fs rest) g) in
     step f fs (bs ++ ys) s (rest ++ ys) (got_stays f bs ys s rest h e) ∙ ap (with_operands_before (s ∷ [])) bad
 next_bad f fs bs ys h next More e g = cc
 next_bad f fs bs ys h next Bad e g = rw (operand_bad f bs ys e, operands_at)

@@ -342,9 +342,9 @@ pub performed_alone : (psl : ℕ) (operation : Operation) (o : Operands) → is_
 performed_alone psl does.MoveStatus o e = absurd (no_yes e)
 performed_alone psl operation o e = refl
 
-same_behind : {A B : Type 0} (m : Interaction A) (f g : A → Interaction B) → ((a : A) → f a ≡ g a) → m >>= f ≡ m >>= g
-same_behind {A = A} {B = B} m f g h = ap (λ (k : A → Interaction B). m >>= k) (fun_ext h)
+same_after : {A B : Type 0} (m : Interaction A) (f g : A → Interaction B) → ((a : A) → f a ≡ g a) → m >>= f ≡ m >>= g
+same_after {A = A} {B = B} m f g h = ap (λ (k : A → Interaction B). m >>= k) (fun_ext h)
 
 pub plans_planned : (psl : ℕ) (d : Instruction) (r : List ℕ) → is_planned (operation_of d.opcode) ≡ true → plan_of psl d r ≡ planned d r (psl % 2 ^ 8)
 unfolding plan_of planned
-plans_planned psl d r e = same_behind (operands_of d r) _ _ (λ o. performed_alone psl (operation_of d.opcode) o e)
+plans_planned psl d r e = same_after (operands_of d r) _ _ (λ o. performed_alone psl (operation_of d.opcode) o e)

@@ -82,13 +82,13 @@ unfolding operands_of operand_of modified_operand address_of base_address value_
 second_byte_modified = refl
 
 -- WAIT has two bytes and no operands
-pub wait_behind : outcome space (operands_of (record { opcode = 0xfd; wait = true; length = 2; specs = [] }) (only 0 0x200)) ≡ Ok (record {
+pub wait_after : outcome space (operands_of (record { opcode = 0xfd; wait = true; length = 2; specs = [] }) (only 0 0x200)) ≡ Ok (record {
   values = 0 ∷ 0 ∷ 0 ∷ 0 ∷ [];
   dests = Nowhere ∷ Nowhere ∷ Nowhere ∷ Nowhere ∷ [];
   r = only 0 0x202;
 })
 unfolding operands_of row_of
-wait_behind = refl
+wait_after = refl
 
 -- Each mode once, with PC 200 after the opcode.
 
@@ -173,14 +173,14 @@ unfolding operand_of address_operand address_of base_address value_size
 long_displacement_deferred = refl
 
 -- (R0)+[R0]: the index register is read after the base's side effect; 400 plus 4 times 404
-pub index_behind_side_effect : shown (a Long) (indexed 0 8 0 0) (only 0x400 0x200) ≡ Ok (evaluated 0x1410 Nowhere (only 0x404 0x202))
+pub index_after_side_effect : shown (a Long) (indexed 0 8 0 0) (only 0x400 0x200) ≡ Ok (evaluated 0x1410 Nowhere (only 0x404 0x202))
 unfolding operand_of address_operand address_of base_address value_size
-index_behind_side_effect = refl
+index_after_side_effect = refl
 
 -- @(R1)[R0]: the index is added after the indirection; 2000 plus 2 times 3, modulo 2 ^ 32 with minus 3
-pub index_behind_indirection : shown (a Word) (indexed 0 11 1 0) (registers 3 0x1000 0 0 0 0x200) ≡ Ok (evaluated 0x2006 Nowhere (registers 3 0x1000 0 0 0 0x203))
+pub index_after_indirection : shown (a Word) (indexed 0 11 1 0) (registers 3 0x1000 0 0 0 0x200) ≡ Ok (evaluated 0x2006 Nowhere (registers 3 0x1000 0 0 0 0x203))
 unfolding operand_of address_operand address_of base_address value_size
-index_behind_indirection = refl
+index_after_indirection = refl
 
 pub index_below_zero : shown (a Word) (indexed 0 11 1 0) (registers 0xfffffffd 0x1000 0 0 0 0x200) ≡ Ok (evaluated 0x1ffa Nowhere (registers 0xfffffffd 0x1000 0 0 0 0x203))
 unfolding operand_of address_operand address_of base_address value_size

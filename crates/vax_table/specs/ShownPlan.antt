@@ -100,13 +100,13 @@ moves_to r1 = doing (instruction 0xd0 (unindexed 5 0 0 ∷ unindexed 6 1 0 ∷ [
 abbrev pub moves_from : ℕ → Interaction Effect
 moves_from r1 = doing (instruction 0xd0 (unindexed 6 1 0 ∷ unindexed 5 0 0 ∷ [])) (registers 0 r1 0 0 0 0x200) 0
 
-pub behind_p0 : outcome short (moves_to 0x1000) ≡ Err (At Refusing Write 0x1000)
+pub after_p0 : outcome short (moves_to 0x1000) ≡ Err (At Refusing Write 0x1000)
 unfolding plan_of operation_of row_of operands_of operand_of read_operand written_operand address_of base_address value_size
-behind_p0 = refl
+after_p0 = refl
 
-pub behind_p0_reached : reached short (moves_to 0x1000) ≡ 0x1000 ∷ []
+pub after_p0_reached : reached short (moves_to 0x1000) ≡ 0x1000 ∷ []
 unfolding plan_of performed operation_of row_of operands_of operand_of read_operand written_operand address_of base_address value_size computed alu_of
-behind_p0_reached = refl
+after_p0_reached = refl
 
 pub in_p0 : outcome short (moves_to 0xe00) ≡ Ok (record { r = registers 0 0xe00 0 0 0 0x203; psw = 4; writes = store 0xe00 Long 0 ∷ []; trap = None })
 unfolding plan_of performed operation_of row_of operands_of operand_of read_operand written_operand address_of base_address value_size computed alu_of

@@ -11,8 +11,7 @@ use Rattle.vax_hw.specs.Real.{Retired, going_on, machine_step, misses_after, rea
 use Rattle.vax_hw.specs.declared.world.Exit.{Exit}
 use Rattle.vax_hw.specs.declared.world.Exit.TheVariants.{Arithmetic, Budget, Denied, Emulate, Modify, NotValid, Refused}
 use Rattle.vax_hw.specs.declared.world.World.{World}
-use Rattle.vm_bursts.specs.Ran.{IsAlone, IsRun, RunsMachine, rise}
-use Rattle.vm_bursts.specs.declared.bursts.Ended.{Ended}
+use Rattle.vm_bursts.specs.Ran.{Ended, IsAlone, IsRun, RunsMachine, rise}
 use Rattle.vm_miss_laws.specs.Paid.{Owes, touching_counted}
 use Rattle.vm_miss_laws.specs.Runs.{EndsAt, IsPaidRun, Reaches}
 use Rattle.vm_miss_laws.proofs.Running.{runs_paid}

@@ -5,7 +5,6 @@ use Rattle.vax_hw.specs.Real.{real}
 use Rattle.vax_hw.specs.declared.world.Exit.{Exit}
 use Rattle.vax_hw.specs.declared.world.Exit.TheVariants.{Arithmetic, Budget}
 use Rattle.vax_hw.specs.declared.world.World.{World}
-use Rattle.vm_bursts.specs.declared.bursts.Ended.{Ended}
 use Rattle.vm_bursts.specs.declared.bursts.Ran.{Ran}
 use Rattle.vm_miss_laws.specs.Paid.{Owes, touching_counted}
 use Rattle.vm_miss_laws.specs.Runs.{EndsAt, Reaches}
@@ -24,6 +23,13 @@ use Rattle.vm_touch_laws.specs.Touched.{touches_now}
 -- how much a count of 64 bits rose
 abbrev pub rise : ℕ → ℕ → ℕ
 rise before now = (now + (2 ^ 64 - before)) % 2 ^ 64
+
+-- the outcome of a run of the machine: why it ended, how much its counts rose, and what is loaded then
+pub record Ended : Type 0 where
+  pub exit : Exit
+  pub done : ℕ
+  pub terms : ℕ
+  pub world : World
 
 -- the machine ran with a world loaded
 pub record RunsMachine (n : ℕ) (m : Machine) (w : World) (ended : Ended) (m' : Machine) : Type 0 where

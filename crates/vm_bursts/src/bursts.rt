@@ -78,13 +78,14 @@ pub fn burst<H: Hardware>(machine: &mut H, s: &Shadow, g: &mut GuestState, budge
     let retired = machine.retired();
     let trail = machine.trail();
     machine.load_world(&s.world(g));
-    let exit = machine.run(budget);
+    let mut ran = Ran {
+        done: 0,
+        terms: 0,
+        exit: machine.run(budget),
+    };
     take_back(g, &machine.save_world());
-    let done = machine.retired().wrapping_sub(retired) as u32;
-    count_more(g, counted_by(&exit, done));
-    Ran {
-        done,
-        terms: machine.trail().wrapping_sub(trail),
-        exit,
-    }
+    ran.done = machine.retired().wrapping_sub(retired) as u32;
+    ran.terms = machine.trail().wrapping_sub(trail);
+    count_more(g, counted_by(&ran.exit, ran.done));
+    ran
 }

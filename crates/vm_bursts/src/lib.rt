@@ -3,4 +3,4 @@
 
 mod bursts;
 
-pub use bursts::{Ended, Ran, burst, count_more, take_back};
+pub use bursts::{Ran, burst, count_more, take_back};

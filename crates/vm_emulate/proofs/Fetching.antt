@@ -41,8 +41,8 @@ pub places_more : (g : Guest) (k at p : ℕ) (ps : List ℕ) → IsPlace g (at %
 places_more g k at p ps one rest =
     ((one.0.0 + 256 * rest.0.0, λ i. with_byte Write (at % 2 ^ 32) (one.0.1 i) (rest.0.1 i)), (λ i. one.1 i ∷ rest.1 i), All-cons (λ x. x < length g.memory) p ps one.2 rest.2)
 
-pub places_behind : (g : Guest) (k at p : ℕ) (u : Unread) → IsPlace g (at % 2 ^ 32) (Ok p) → ArePlaces g k (at + 1) (Err u) → ArePlaces g (suc k) at (Err u)
-places_behind g k at p u one rest = (rest.0, (λ i. with_byte Write (at % 2 ^ 32) (one.0.1 i) (rest.1 i)), rest.2)
+pub places_after : (g : Guest) (k at p : ℕ) (u : Unread) → IsPlace g (at % 2 ^ 32) (Ok p) → ArePlaces g k (at + 1) (Err u) → ArePlaces g (suc k) at (Err u)
+places_after g k at p u one rest = (rest.0, (λ i. with_byte Write (at % 2 ^ 32) (one.0.1 i) (rest.1 i)), rest.2)
 
 pub no_place : (g : Guest) (k at : ℕ) (u : Unread) → IsPlace g (at % 2 ^ 32) (Err u) → ArePlaces g (suc k) at (Err u)
 no_place g k at u one = (At one.0.0 Write (at % 2 ^ 32), ap (λ r. with_byte Write (at % 2 ^ 32) r (number_at (space_of g) Write k (at + 1))) one.0.1, one.1)
@@ -52,18 +52,18 @@ module _ (g : Guest) (at : ℕ) (small : at < 2 ^ 32) where
   pub fails_first : (u : Unread) → IsPlace g at (Err u) → ArePlaces g 4 at (Err u)
   fails_first u h = no_place g 3 at u (subst (λ x. IsPlace g x (Err u)) (omega arith) h)
 
-  behind_first : (a : ℕ) (u : Unread) → IsPlace g at (Ok a) → ArePlaces g 3 (at + 1) (Err u) → ArePlaces g 4 at (Err u)
-  behind_first a u h rest = places_behind g 3 at a u (subst (λ x. IsPlace g x (Ok a)) (omega arith) h) rest
+  after_first : (a : ℕ) (u : Unread) → IsPlace g at (Ok a) → ArePlaces g 3 (at + 1) (Err u) → ArePlaces g 4 at (Err u)
+  after_first a u h rest = places_after g 3 at a u (subst (λ x. IsPlace g x (Ok a)) (omega arith) h) rest
 
   pub fails_second : (a : ℕ) (u : Unread) → IsPlace g at (Ok a) → IsPlace g ((at + 1) % 2 ^ 32) (Err u) → ArePlaces g 4 at (Err u)
-  fails_second a u h k = behind_first a u h (no_place g 2 (at + 1) u k)
+  fails_second a u h k = after_first a u h (no_place g 2 (at + 1) u k)
 
   pub fails_third : (a b : ℕ) (u : Unread) → IsPlace g at (Ok a) → IsPlace g ((at + 1) % 2 ^ 32) (Ok b) → IsPlace g ((at + 2) % 2 ^ 32) (Err u) → ArePlaces g 4 at (Err u)
-  fails_third a b u h k l = behind_first a u h (places_behind g 2 (at + 1) b u k (no_place g 1 (at + 1 + 1) u (subst (λ x. IsPlace g x (Err u)) (omega arith) l)))
+  fails_third a b u h k l = after_first a u h (places_after g 2 (at + 1) b u k (no_place g 1 (at + 1 + 1) u (subst (λ x. IsPlace g x (Err u)) (omega arith) l)))
 
   pub fails_fourth : (a b d : ℕ) (u : Unread) → IsPlace g at (Ok a) → IsPlace g ((at + 1) % 2 ^ 32) (Ok b) → IsPlace g ((at + 2) % 2 ^ 32) (Ok d) → IsPlace g ((at + 3) % 2 ^ 32) (Err u) → ArePlaces g 4 at (Err u)
   fails_fourth a b d u h k l n =
-      behind_first a u h (places_behind g 2 (at + 1) b u k (places_behind g 1 (at + 1 + 1) d u (subst (λ x. IsPlace g x (Ok d)) (omega arith) l) (no_place g 0 (at + 1 + 1 + 1) u (subst (λ x. IsPlace g x (Err u)) (omega arith) n))))
+      after_first a u h (places_after g 2 (at + 1) b u k (places_after g 1 (at + 1 + 1) d u (subst (λ x. IsPlace g x (Ok d)) (omega arith) l) (no_place g 0 (at + 1 + 1 + 1) u (subst (λ x. IsPlace g x (Err u)) (omega arith) n))))
 
   pub all_four : (a b d e : ℕ) → IsPlace g at (Ok a) → IsPlace g ((at + 1) % 2 ^ 32) (Ok b) → IsPlace g ((at + 2) % 2 ^ 32) (Ok d) → IsPlace g ((at + 3) % 2 ^ 32) (Ok e) → ArePlaces g 4 at (Ok (a ∷ b ∷ d ∷ e ∷ []))
   all_four a b d e h k l n =

@@ -157,21 +157,21 @@ module _ (m : Machine) (s : Shadowed) (g : GuestState) (t : Trapped) (stands : S
       does = by_walk (Homes hs) walk
 
       -- the guest after the push
-      abbrev pub behind : GuestState
-      behind = record g1 { r = slice_set g1.r 14 (minus (slice_index g1.r 14) 8) }
+      abbrev pub later : GuestState
+      later = record g1 { r = slice_set g1.r 14 (minus (slice_index g1.r 14) 8) }
 
-      behind_is : state_of behind ≡ becomes.state
+      after_is : state_of later ≡ becomes.state
       unfolding becomes
-      behind_is =
+      after_is =
           let after : (x : State) → minus (slice_index x.r 14) 8 ≡ pointer_after (slice_index x.r 14) two = λ x. sym (two_pushed (slice_index x.r 14) (control_block_long whole 76) (control_block_long whole 72)) in
           ap (λ (x : State). record x { r = slice_set x.r 14 (minus (slice_index x.r 14) 8) }) state1 ∙ ap (λ n. record next { r = slice_set next.r 14 n }) (after next)
 
-      there : HasPlace g.pages g.base g.start behind
+      there : HasPlace g.pages g.base g.start later
       there = record { pages = place1.pages; base = place1.base; start = place1.start }
 
       -- the tables' registers have allowed values
-      pub can_switch : CanBeShadowed (tables_of behind)
-      can_switch = can_stand (512 * behind.pages) (state_of behind) (done_allowed t Ldpctx becomes [] frames m s g stands does behind behind_is there)
+      pub can_switch : CanBeShadowed (tables_of later)
+      can_switch = can_stand (512 * later.pages) (state_of later) (done_allowed t Ldpctx becomes [] frames m s g stands does later after_is there)
 
       pub homes_proper : AreHomes (512 * s.pages) hs
       homes_proper =
@@ -179,19 +179,19 @@ module _ (m : Machine) (s : Shadowed) (g : GuestState) (t : Trapped) (stands : S
           subst (λ n. AreHomes n hs) size (homes_inside (guest_of m.memory g1) Kernel (slice_index g1.r 14) longs hs (aligned_of (tables_of g1) can_switch) walk)
 
       -- what was read from a frame of the push is dropped, and then the tables' registers are told
-      pub is_loaded : (m1 m' : Machine) (s1 s' : Shadowed) → Wrote (frames_pushed (own m.memory s) hs) (pushed hs (own m.memory s)) m s m1 s1 → Switches behind m1 s1 m' s' → Senses (switched whole (loads_context whole t.next_pc)) m s g outcomes.Done m' s' behind
+      pub is_loaded : (m1 m' : Machine) (s1 s' : Shadowed) → Wrote (frames_pushed (own m.memory s) hs) (pushed hs (own m.memory s)) m s m1 s1 → Switches later m1 s1 m' s' → Senses (switched whole (loads_context whole t.next_pc)) m s g outcomes.Done m' s' later
       unfolding frames becomes sensed
       is_loaded m1 m' s1 s' wrote sw =
           let mine = own_is m.memory s g stands.serves in
           let rest1 = wrote.drops.rest in
-          let tables : tables_of behind ≡ becomes.state.tables = ap (λ (x : State). x.tables) behind_is in
-          let memory : partition_of m'.memory behind ≡ pushed hs (partition_of m.memory g) =
-          sym (own_is m'.memory s' behind sw.serves) ∙ ap (own m'.memory) sw.rest ∙ own_apart m1.memory m'.memory s1 (wrote.keeps stands.keeps).fits sw.only.tables ∙ wrote.own ∙ ap (pushed hs) mine in
-          let guest : guest_of m'.memory behind ≡ becomes = λ i. record { memory = memory i; state = behind_is i } in
-          let tells : Retells (tables_of behind) s1 s' = record { takes = sw.takes; each = sw.each } in
+          let tables : tables_of later ≡ becomes.state.tables = ap (λ (x : State). x.tables) after_is in
+          let memory : partition_of m'.memory later ≡ pushed hs (partition_of m.memory g) =
+          sym (own_is m'.memory s' later sw.serves) ∙ ap (own m'.memory) sw.rest ∙ own_apart m1.memory m'.memory s1 (wrote.keeps stands.keeps).fits sw.only.tables ∙ wrote.own ∙ ap (pushed hs) mine in
+          let guest : guest_of m'.memory later ≡ becomes = λ i. record { memory = memory i; state = after_is i } in
+          let tells : Retells (tables_of later) s1 s' = record { takes = sw.takes; each = sw.each } in
           record {
             is = rw does (record { guest = guest; follows = record { between = s1; drops = subst (λ x. DropsAmong (frames_pushed x hs) s s1) mine wrote.drops; retells = subst (λ x. Retells x s1 s') tables tells; rest = sw.rest } });
-            stands = done_stands t Ldpctx becomes [] frames m s g stands does m' s' behind guest there sw.keeps
+            stands = done_stands t Ldpctx becomes [] frames m s g stands does m' s' later guest there sw.keeps
                 (ap (λ (x : Shadowed). x.pages) sw.rest ∙ ap (λ (x : Shadowed). x.pages) rest1) (ap (λ (x : Shadowed). x.base) sw.rest ∙ ap (λ (x : Shadowed). x.base) rest1) (sw.serves.told ∙ tables);
             place = there;
             only = only_then m m1 m' s s1 rest1 wrote.only (only_guest s1 m1 m' sw.only);

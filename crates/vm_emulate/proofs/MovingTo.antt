@@ -32,7 +32,7 @@ use Rattle.vm_state.specs.declared.register.ReservedOperand.{ReservedOperand}
 use Rattle.vm_state.specs.declared.transfer.Accept.{Accept}
 use Rattle.vm_state.specs.declared.transfer.Accept.TheVariants.{BadPacket, Busy, Queued}
 use Rattle.vm_state.proofs.Keeps.{chained}
-use Rattle.vm_state.proofs.Kept.{behind_keeps, codes_keep}
+use Rattle.vm_state.proofs.Kept.{after_keeps, codes_keep}
 use Rattle.vm_state.proofs.Registers.{WritesKept, written_keeps}
 
 -- the machine's memory beyond the guest's real tables is as before
@@ -61,7 +61,7 @@ module _ (m : Machine) (s : Shadowed) (g : GuestState) (t : Trapped) (stands : S
     can_switch =
         let size = 512 * g.pages in
         let k = subst (WritesKept size (past_instruction (state_of g) t)) w.1 (written_keeps size (past_instruction (state_of g) t) t.b t.a) in
-        let all = chained size (state_of g) (past_instruction (state_of g) t) (with_codes t.a w.0) (behind_keeps size (state_of g) t) (chained size (past_instruction (state_of g) t) w.0 (with_codes t.a w.0) k (codes_keep size t.a w.0)) in
+        let all = chained size (state_of g) (past_instruction (state_of g) t) (with_codes t.a w.0) (after_keeps size (state_of g) t) (chained size (past_instruction (state_of g) t) w.0 (with_codes t.a w.0) k (codes_keep size t.a w.0)) in
         subst (λ (x : State). CanBeShadowed x.tables) (sym w.2) (can_stand size (with_codes t.a w.0) (all.allowed stands.allowed))
 
     comes : move_to_register whole t ≡ with_register_effect whole (with_codes t.a w.0) effect

@@ -31,8 +31,8 @@ module _ (g : Guest) (sp : ℕ) (small : sp < 2 ^ 32) where
       let next : plus sp 4 ≡ sp + 4 = omega (arith, small, page) in
       let same : (sp + 4) / 512 ≡ sp / 512 = omega (arith, page) in
       let place : pa / 512 * 512 + (sp + 4) % 512 ≡ pa + 4 = omega (arith, page, offset_kept g sp pa entry table e) in
-      let behind : walks.Frame (pa + 4) entry table ≡ walk_of g (sp + 4) (mode_of_state g.state) Read = subst (λ p. walks.Frame p entry table ≡ walk_of g (sp + 4) (mode_of_state g.state) Read) place (beside g (sp + 4) sp (mode_of_state g.state) Read pa entry table same e) in
-      let second : number_at (space_of g) Read 4 (plus sp 4) ≡ Ok psl = ap (number_at (space_of g) Read 4) next ∙ reads_ok g _ psl (found_long g (sp + 4) (pa + 4) psl entry table (omega (arith, small, page)) (omega (arith, page)) behind psl_is) in
+      let later : walks.Frame (pa + 4) entry table ≡ walk_of g (sp + 4) (mode_of_state g.state) Read = subst (λ p. walks.Frame p entry table ≡ walk_of g (sp + 4) (mode_of_state g.state) Read) place (beside g (sp + 4) sp (mode_of_state g.state) Read pa entry table same e) in
+      let second : number_at (space_of g) Read 4 (plus sp 4) ≡ Ok psl = ap (number_at (space_of g) Read 4) next ∙ reads_ok g _ psl (found_long g (sp + 4) (pa + 4) psl entry table (omega (arith, small, page)) (omega (arith, page)) later psl_is) in
       let popped : contexts.Popped = record { pc = pc; psl = psl } in
       let all : outcome (space_of g) (two_popped sp) ≡ Ok popped =
       ap (λ x. bind_result x (λ v. bind_result (number_at (space_of g) Read 4 (plus sp 4)) (λ w. Ok (record { pc = v; psl = w })))) first ∙ ap (λ x. bind_result x (λ w. Ok (record { pc = pc; psl = w }))) second in

@@ -64,14 +64,14 @@ module _ (m : Machine) (s : Shadowed) (g : GuestState) (t : Trapped) (stands : S
       subst (λ y. Senses (switched whole comes) m s g y m s g') (sym result) (lacks (switched whole comes) m s g g' stands (by_pops _ e.1 ∙ e.2) state place)
 
   module _ (r : Result Popped Unread) (q : Popped) (pop : ArePopped whole pops r) (has : r ≡ Ok q) where
-    abbrev behind_them : State
-    behind_them = after_pops (state_of g) t.next_pc
+    abbrev after_them : State
+    after_them = after_pops (state_of g) t.next_pc
 
-    by_block : switched whole comes ≡ switched whole (saved whole behind_them (popped_of q))
+    by_block : switched whole comes ≡ switched whole (saved whole after_them (popped_of q))
     by_block = by_pops (Ok (popped_of q)) (popped_ok whole pops q (subst (ArePopped whole pops) has pop))
 
     abbrev stored : Guest
-    stored = record { memory = longs_stored g.pcbb (saved_longs behind_them (popped_of q)) (partition_of m.memory g); state = on_interrupt behind_them }
+    stored = record { memory = longs_stored g.pcbb (saved_longs after_them (popped_of q)) (partition_of m.memory g); state = on_interrupt after_them }
 
     pub saves_nowhere : (x : Emulated) (g' : GuestState) → is_past (512 * g.pages) g.pcbb block_size ≡ true → x ≡ outcomes.PastMemory → state_of g' ≡ record (state_of g) { halt = Some 0x10 } → HasPlace g.pages g.base g.start g' → Senses (switched whole comes) m s g x m s g'
     saves_nowhere x g' past result state place =
@@ -87,19 +87,19 @@ module _ (m : Machine) (s : Shadowed) (g : GuestState) (t : Trapped) (stands : S
         let is : switched whole comes ≡ Does stored [] frames = by_block ∙ ap (λ b. switched whole (if b then BlockPast else Switches stored frames)) (past_by false past) in
         let there : HasPlace g.pages g.base g.start g2 = record { pages = place'.pages ∙ place.pages; base = place'.base ∙ place.base; start = place'.start ∙ place.start } in
         let block : g1.pcbb ≡ g.pcbb = ap (λ (x : State). x.pcbb) state in
-        let saves : longs ≡ saved_longs behind_them (popped_of q) = are ∙ ap (λ (x : State). saved_longs x (popped_of q)) state in
-        let wrote : Wrote frames (longs_stored g.pcbb (saved_longs behind_them (popped_of q)) (own m.memory s)) m s m2 s2 =
-        subst (λ fs. Wrote fs (longs_stored g.pcbb (saved_longs behind_them (popped_of q)) (own m.memory s)) m s m2 s2) (λ i. long_frames (block i) (size i))
+        let saves : longs ≡ saved_longs after_them (popped_of q) = are ∙ ap (λ (x : State). saved_longs x (popped_of q)) state in
+        let wrote : Wrote frames (longs_stored g.pcbb (saved_longs after_them (popped_of q)) (own m.memory s)) m s m2 s2 =
+        subst (λ fs. Wrote fs (longs_stored g.pcbb (saved_longs after_them (popped_of q)) (own m.memory s)) m s m2 s2) (λ i. long_frames (block i) (size i))
         (subst (λ x. Wrote (long_frames g1.pcbb (length longs)) x m s m2 s2) (λ i. longs_stored (block i) (saves i) (own m.memory s)) w) in
-        let now : state_of g2 ≡ on_interrupt behind_them = state' ∙ ap on_interrupt state in
-        let tables : tables_of g2 ≡ tables_of g = ap (λ (x : State). x.tables) now ∙ interrupt_tables behind_them in
+        let now : state_of g2 ≡ on_interrupt after_them = state' ∙ ap on_interrupt state in
+        let tables : tables_of g2 ≡ tables_of g = ap (λ (x : State). x.tables) now ∙ interrupt_tables after_them in
         let rest = wrote.drops.rest in
         let serves : Serves g2 s2 = record {
           pages = ap (λ (x : Shadowed). x.pages) rest ∙ stands.serves.pages ∙ sym there.pages;
           base = ap (λ (x : Shadowed). x.base) rest ∙ stands.serves.base ∙ sym there.base;
           told = ap (λ (x : Shadowed). x.told) rest ∙ stands.serves.told ∙ sym tables;
         } in
-        let memory : partition_of m2.memory g2 ≡ stored.memory = sym (own_is m2.memory s2 g2 serves) ∙ wrote.own ∙ ap (longs_stored g.pcbb (saved_longs behind_them (popped_of q))) (own_is m.memory s g stands.serves) in
+        let memory : partition_of m2.memory g2 ≡ stored.memory = sym (own_is m2.memory s2 g2 serves) ∙ wrote.own ∙ ap (longs_stored g.pcbb (saved_longs after_them (popped_of q))) (own_is m.memory s g stands.serves) in
         let guest : guest_of m2.memory g2 ≡ stored = λ i. record { memory = memory i; state = now i } in
         let keeps = wrote.keeps stands.keeps in
         let told : s2.told ≡ stored.state.tables = serves.told ∙ ap (λ (x : State). x.tables) now in

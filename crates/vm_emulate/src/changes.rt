@@ -12,7 +12,7 @@ ghost use Rattle.vm_state.specs.declared.exception.Exc.TheVariants.{Chm};
 ghost use Rattle.vm_state.specs.State.{pc_of, pointer_of, state_of};
 
 use crate::Emulated;
-use crate::halts::{registers_behind, stop, stop_past_memory};
+use crate::halts::{registers_after, stop, stop_past_memory};
 use vax_arch::Mode;
 use vax_hw::Hardware;
 use vax_table::Trapped;
@@ -103,7 +103,7 @@ pub fn change_mode<H: Hardware>(
         return stop(g, StopCode(StopReason::ChangedMode));
     }
     let before = g.r;
-    g.r = registers_behind(t);
+    g.r = registers_after(t);
     let result = enter(machine, s, g, to, t.a);
     if !is_done(&result) {
         g.r = before;

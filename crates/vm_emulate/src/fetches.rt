@@ -15,7 +15,7 @@ ghost use Rattle.vm_state.specs.State.{HasPlace, state_of, tables_of};
 ghost use Rattle.vm_state.specs.Translation.{is_clear};
 
 use crate::Emulated;
-use crate::halts::{registers_behind, stop_past_memory};
+use crate::halts::{registers_after, stop_past_memory};
 use crate::moves::set_codes;
 use crate::reading::Unread;
 use vax_arch::{Intent, Pte};
@@ -134,7 +134,7 @@ fn read_register(g: &mut GuestState, t: &Trapped) -> Result<u32, ReservedOperand
     ensures place { HasPlace g.old.pages g.old.base g.old.start g.new }
 {
     let before = g.r;
-    g.r = registers_behind(t);
+    g.r = registers_after(t);
     match mfpr(g, t.a) {
         Ok(v) => {
             set_codes(g, v);

@@ -8,7 +8,7 @@ use vax_table::Trapped;
 use vm_state::{GuestState, StopCode, StopReason};
 
 /// R0 to R14 with the operands' side effects, and the next PC.
-pub fn registers_behind(t: &Trapped) -> [u32; 16]
+pub fn registers_after(t: &Trapped) -> [u32; 16]
     ensures registers { result ≡ t.now.regs ++ t.now.next_pc ∷ [] }
     ensures pc { slice_index result 15 ≡ t.now.next_pc }
 {
@@ -19,11 +19,11 @@ pub fn registers_behind(t: &Trapped) -> [u32; 16]
 }
 
 /// The guest goes on after an instruction.
-pub fn go_behind(g: &mut GuestState, t: &Trapped)
+pub fn go_after(g: &mut GuestState, t: &Trapped)
     ensures state { state_of g.new ≡ past_instruction (state_of g.old) t.now }
     ensures place { HasPlace g.old.pages g.old.base g.old.start g.new }
 {
-    g.r = registers_behind(t);
+    g.r = registers_after(t);
 }
 
 /// The guest stops with a code.
@@ -52,7 +52,7 @@ pub fn halt(g: &mut GuestState, t: &Trapped) -> Emulated
     ensures state { state_of g.new ≡ record (past_instruction (state_of g.old) t.now) { halt = Some 6 } }
     ensures place { HasPlace g.old.pages g.old.base g.old.start g.new }
 {
-    go_behind(g, t);
+    go_after(g, t);
     stop(g, StopCode(StopReason::Halted))
 }
 
@@ -62,7 +62,7 @@ pub fn wait(g: &mut GuestState, t: &Trapped) -> Emulated
     ensures state { state_of g.new ≡ record (past_instruction (state_of g.old) t.now) { waiting = true } }
     ensures place { HasPlace g.old.pages g.old.base g.old.start g.new }
 {
-    go_behind(g, t);
+    go_after(g, t);
     g.waiting = true;
     Emulated::Done
 }

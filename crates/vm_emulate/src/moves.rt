@@ -10,7 +10,7 @@ ghost use Rattle.vm_state.specs.Sensitive.{move_to_register, moved_psl, with_cod
 ghost use Rattle.vm_state.specs.State.{HasPlace, state_of};
 
 use crate::Emulated;
-use crate::halts::registers_behind;
+use crate::halts::registers_after;
 use vax_alu::alu;
 use vax_arch::Psl;
 use vax_hw::Hardware;
@@ -44,7 +44,7 @@ fn write_register(g: &mut GuestState, t: &Trapped) -> Result<Effect, ReservedOpe
     ensures place { HasPlace g.old.pages g.old.base g.old.start g.new }
 {
     let before = g.r;
-    g.r = registers_behind(t);
+    g.r = registers_after(t);
     match mtpr(g, t.b, t.a) {
         Ok(effect) => {
             set_codes(g, t.a);

@@ -10,7 +10,7 @@ ghost use Rattle.vm_state.specs.State.{HasPlace, state_of};
 ghost use Rattle.vm_state.specs.Translation.{memory_fault};
 
 use crate::Emulated;
-use crate::halts::{go_behind, stop_past_memory};
+use crate::halts::{go_after, stop_past_memory};
 use vax_arch::{Intent, Mode, Psl, Pte, ring_may};
 use vax_hw::Hardware;
 use vax_table::Trapped;
@@ -190,7 +190,7 @@ pub fn probe<H: Hardware>(
             is_accessible,
             is_plain: false,
         } => {
-            go_behind(g, t);
+            go_after(g, t);
             set_probed(g, is_accessible);
             Emulated::Done
         }

@@ -10,7 +10,7 @@ ghost use Rattle.vm_state.specs.State.{HasPlace, state_of, tables_of};
 ghost use Rattle.vm_state.specs.Translation.{space_of};
 
 use crate::Emulated;
-use crate::halts::{go_behind, stop_past_memory};
+use crate::halts::{go_after, stop_past_memory};
 use crate::reading::{Unread, long_in, read_walked};
 use vax_arch::{Intent, Psl, rei_allowed};
 use vax_hw::Hardware;
@@ -62,7 +62,7 @@ pub fn read_popped<H: Hardware>(machine: &H, g: &GuestState, sp: u32) -> Result<
 const AST_REQUEST: u16 = 4;
 
 /// The requests of a guest that returns to a mode: a mode that is at least ASTLVL requests software level 2.
-fn requests_behind(g: &GuestState, psl: Psl) -> u16
+fn requests_after(g: &GuestState, psl: Psl) -> u16
     ensures { result ≡ requests_after (state_of g.now) psl.0 }
 {
     let asks = g.astlvl <= psl.current().number() && !psl.on_interrupt_stack();
@@ -79,7 +79,7 @@ fn return_to(g: &mut GuestState, popped: Popped)
     ensures place { HasPlace g.old.pages g.old.base g.old.start g.new }
 {
     let psl = Psl(popped.psl);
-    g.sisr = requests_behind(g, psl);
+    g.sisr = requests_after(g, psl);
     g.stacks[stack_in(g.psl)] = g.r[14].wrapping_add(8);
     g.r[14] = g.stacks[stack_in(psl)];
     g.r[15] = popped.pc;
@@ -94,7 +94,7 @@ pub fn return_from<H: Hardware>(machine: &H, g: &mut GuestState, t: &Trapped) ->
 {
     match read_popped(machine, g, t.regs[14]) {
         Ok(popped) if rei_allowed(g.psl, Psl(popped.psl)) => {
-            go_behind(g, t);
+            go_after(g, t);
             return_to(g, popped);
             Emulated::Done
         }

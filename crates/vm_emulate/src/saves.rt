@@ -62,7 +62,7 @@ fn store_longs<H: Hardware>(machine: &mut H, s: &mut Shadow, at: u32, longs: &[u
 }
 
 /// R14 is after the PC and the PSL that were popped, and PC is the next instruction's.
-fn go_behind_pops(g: &mut GuestState, next_pc: u32)
+fn go_after_pops(g: &mut GuestState, next_pc: u32)
     ensures state { state_of g.new ≡ after_pops (state_of g.old) next_pc }
     ensures place { HasPlace g.old.pages g.old.base g.old.start g.new }
 {
@@ -110,7 +110,7 @@ pub fn save_context<H: Hardware>(
     match read_popped(machine, g, g.r[14]) {
         Ok(_) if is_block_past(g) => stop_past_memory(g),
         Ok(popped) => {
-            go_behind_pops(g, t.next_pc);
+            go_after_pops(g, t.next_pc);
             let longs = saved_longs(g, popped);
             store_longs(machine, s, g.pcbb, &longs);
             go_on_interrupt_stack(g);

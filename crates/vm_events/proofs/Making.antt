@@ -114,8 +114,8 @@ module _ (x : Source) (e : Exc) (m m' : Machine) (s s' : Shadowed) (g g' : Guest
     ended : (y : Initiation) → IsInitiated y outcomes.Taken m s g m' s' g' → MakesStep (interrupted (guest_of m.memory g) x y) m s g m' s' g2
     ended (Taken h frames) b =
         let memory : partition_of m'.memory g2 ≡ h.memory = (λ i. part m'.memory (512 * place.base i) (512 * place.pages i)) ∙ ap (λ (y : Guest). y.memory) b.guest in
-        let behind : state_of g2 ≡ after_interrupt_taken x h.state = state ∙ ap (λ (y : Guest). after_interrupt_taken x y.state) b.guest in
-        record { guest = λ i. record { memory = memory i; state = behind i }; drops = b.drops; stands = ended_stands; place = ended_place; only = start.only }
+        let later : state_of g2 ≡ after_interrupt_taken x h.state = state ∙ ap (λ (y : Guest). after_interrupt_taken x y.state) b.guest in
+        record { guest = λ i. record { memory = memory i; state = later i }; drops = b.drops; stands = ended_stands; place = ended_place; only = start.only }
     ended (KernelStackBad h frames) b = absurd b
     ended (Stops stop) b = absurd b
 

@@ -99,9 +99,9 @@ module _ (e : Exc) (m : Machine) (s : Shadowed) (g : GuestState) (stands : Stand
     pub homes_proper : (sp : ℕ) (longs : List ℕ) (hs : List Home) → Homes hs ≡ push_walked (guest_of m.memory g) (new_mode (state_of g) e) sp longs → AreHomes (512 * s.pages) hs
     homes_proper sp longs hs walk = subst (λ n. AreHomes n hs) (memory_size ∙ ap (λ n. 512 * n) (sym stands.serves.pages)) (homes_inside (guest_of m.memory g) (new_mode (state_of g) e) sp longs hs tables_aligned walk)
 
-    pub arrives : (sp : ℕ) (longs : List ℕ) (hs : List Home) (m' : Machine) (s' : Shadowed) (g' : GuestState) (behind : ℕ) → IsProper e → is_bad_vector e vector ≡ false → sp ≡ pointer_of (state_of g) (new_stack (state_of g) e vector) → longs ≡ longwords (state_of g) e → Homes hs ≡ push_walked (guest_of m.memory g) (new_mode (state_of g) e) sp longs →
-        Wrote (frames_pushed (own m.memory s) hs) (pushed hs (own m.memory s)) m s m' s' → behind ≡ pointer_after sp longs → state_of g' ≡ begun_at (state_of g) e vector behind → HasPlace g.pages g.base g.start g' → Attempts e m s g attempts.Arrives m' s' g'
-    arrives sp longs hs m' s' g' behind proper good sp_is longs_are walk w behind_is state place =
+    pub arrives : (sp : ℕ) (longs : List ℕ) (hs : List Home) (m' : Machine) (s' : Shadowed) (g' : GuestState) (later : ℕ) → IsProper e → is_bad_vector e vector ≡ false → sp ≡ pointer_of (state_of g) (new_stack (state_of g) e vector) → longs ≡ longwords (state_of g) e → Homes hs ≡ push_walked (guest_of m.memory g) (new_mode (state_of g) e) sp longs →
+        Wrote (frames_pushed (own m.memory s) hs) (pushed hs (own m.memory s)) m s m' s' → later ≡ pointer_after sp longs → state_of g' ≡ begun_at (state_of g) e vector later → HasPlace g.pages g.base g.start g' → Attempts e m s g attempts.Arrives m' s' g'
+    arrives sp longs hs m' s' g' later proper good sp_is longs_are walk w after_is state place =
         let v = stands.serves in
         let all : attempt (guest_of m.memory g) e ≡ after_walk (guest_of m.memory g) e vector sp (Homes hs) = by_walk good sp sp_is ∙ ap (λ x. after_walk (guest_of m.memory g) e vector sp x) (sym (walk ∙ ap (push_walked (guest_of m.memory g) (new_mode (state_of g) e) sp) longs_are)) in
         let tables : tables_of g' ≡ tables_of g = ap (λ (x : State). x.tables) state in
@@ -112,7 +112,7 @@ module _ (e : Exc) (m : Machine) (s : Shadowed) (g : GuestState) (stands : Stand
         } in
         let mine = own_is m.memory s g v in
         let memory : partition_of m'.memory g' ≡ pushed hs (partition_of m.memory g) = sym (own_is m'.memory s' g' serves) ∙ w.own ∙ ap (pushed hs) mine in
-        let begun : state_of g' ≡ begun_at (state_of g) e vector (pointer_after sp (longwords (state_of g) e)) = state ∙ ap (begun_at (state_of g) e vector) (behind_is ∙ ap (pointer_after sp) longs_are) in
+        let begun : state_of g' ≡ begun_at (state_of g) e vector (pointer_after sp (longwords (state_of g) e)) = state ∙ ap (begun_at (state_of g) e vector) (after_is ∙ ap (pointer_after sp) longs_are) in
         let guest : guest_of m'.memory g' ≡ record { memory = pushed hs (partition_of m.memory g); state = begun_at (state_of g) e vector (pointer_after sp (longwords (state_of g) e)) } = λ i. record { memory = memory i; state = begun i } in
         let size : 512 * g.pages ≡ 512 * g'.pages = ap (λ n. 512 * n) (sym place.pages) in
         record {
@@ -120,7 +120,7 @@ module _ (e : Exc) (m : Machine) (s : Shadowed) (g : GuestState) (stands : Stand
           stands = record {
             keeps = w.keeps stands.keeps;
             serves = serves;
-            allowed = subst (λ n. AreAllowed n (state_of g')) size (subst (AreAllowed (512 * g.pages)) (sym state) ((begun_keeps (512 * g.pages) (state_of g) e vector behind (level_fits e proper)).allowed stands.allowed));
+            allowed = subst (λ n. AreAllowed n (state_of g')) size (subst (AreAllowed (512 * g.pages)) (sym state) ((begun_keeps (512 * g.pages) (state_of g) e vector later (level_fits e proper)).allowed stands.allowed));
           };
           place = place;
           only = w.only;

@@ -325,10 +325,10 @@ part_among (h ∷ hs) zero (suc k) x p = split (cases_Bool (is_read_from (frame_
     (λ off. or_right _ _ (part_among hs zero k x (sym (ap (λ b. Rattle.std.specs.Prelude.◌||◌ b (is_pending (frames_of (part hs zero k)) x)) off) ∙ p)))
 part_among (h ∷ hs) (suc n) k x p = or_right _ _ (part_among hs n k x p)
 
-homes_behind : (size : ℕ) (homes : List Home) (n : ℕ) → AreHomes size (map home_of homes) → AreHomes size (map home_of (drop n homes))
-homes_behind size homes zero are = are
-homes_behind size [] (suc n) are = are
-homes_behind size (h ∷ hs) (suc n) are = homes_behind size hs n are.1
+homes_after : (size : ℕ) (homes : List Home) (n : ℕ) → AreHomes size (map home_of homes) → AreHomes size (map home_of (drop n homes))
+homes_after size homes zero are = are
+homes_after size [] (suc n) are = are
+homes_after size (h ∷ hs) (suc n) are = homes_after size hs n are.1
 
 pub left_over : (homes : List Home) (n k : ℕ) → n ≤ length homes → k ≤ length (take (length homes - n) (drop n homes)) → n + k ≤ length homes
 left_over homes n k h l = omega (arith, h, l, Rattle.std.proofs.lemmas.List.length-take (length homes - n) (drop n homes), Rattle.std.proofs.lemmas.List.length-drop n homes)
@@ -338,7 +338,7 @@ module _ (homes : List Home) (n : ℕ) (m m1 : Machine) (s s1 : Shadowed) (w : P
   all_left = take_all (length homes - n) (drop n homes) (omega (arith, Rattle.std.proofs.lemmas.List.length-drop n homes))
 
   pub put_left : AreHomes (512 * s.pages) (map home_of homes) → AreHomes (512 * s1.pages) (map home_of (take (length homes - n) (drop n homes)))
-  put_left are = subst (λ x. AreHomes (512 * s1.pages) (map home_of x)) (sym all_left) (homes_behind (512 * s1.pages) homes n (subst (λ x. AreHomes (512 * x) (map home_of homes)) (sym (pages_kept _ _ m m1 s s1 w)) are))
+  put_left are = subst (λ x. AreHomes (512 * s1.pages) (map home_of x)) (sym all_left) (homes_after (512 * s1.pages) homes n (subst (λ x. AreHomes (512 * x) (map home_of homes)) (sym (pages_kept _ _ m m1 s s1 w)) are))
 
   pub putting_next : (k : ℕ) (m2 : Machine) (s2 : Shadowed) → PutsHomes (map home_of (take k (take (length homes - n) (drop n homes)))) m1 s1 m2 s2 → Putting homes (n + k) m s m2 s2
   putting_next k m2 s2 puts =

@@ -23,7 +23,7 @@ pub enum Attempt {
 }
 
 /// The stack pointer after so many longwords.
-fn pointer_behind(sp: u32, longs: &[u32]) -> u32
+fn pointer_after(sp: u32, longs: &[u32]) -> u32
     requires { length longs.now ≤ 4 }
     ensures { result ≡ pointer_after sp longs.now }
 {
@@ -54,7 +54,7 @@ pub fn take<H: Hardware>(machine: &mut H, s: &mut Shadow, g: &mut GuestState, e:
     match walk_pushes(machine, g, new_mode(g, e), sp, &longs) {
         Walked::Homes(homes) => {
             push(machine, s, g.base, &homes);
-            begin(g, e, vector, pointer_behind(sp, &longs));
+            begin(g, e, vector, pointer_after(sp, &longs));
             Attempt::Arrives
         }
         Walked::Faulty(_) => Attempt::StackFaulty {

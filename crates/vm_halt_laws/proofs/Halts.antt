@@ -280,19 +280,19 @@ put_did g Nowhere v h = h
 put_did g (Register n) v h = h
 put_did g (Memory at) v h = h
 
-behind_did : (g : Guest) (dest : Dest) (clear : Option ℕ) (v : Result Value ReservedOperand) → Read v → Did (after_register_read g dest clear v)
-behind_did g dest clear (Err refused) h = refused_did clear
+after_did : (g : Guest) (dest : Dest) (clear : Option ℕ) (v : Result Value ReservedOperand) → Read v → Did (after_register_read g dest clear v)
+after_did g dest clear (Err refused) h = refused_did clear
   where
     refused_did : (clear : Option ℕ) → Did (after_register_read g dest clear (Err refused))
     refused_did None = tt
     refused_did (Some va) = tt
-behind_did g dest (Some va) (Ok v) h = tt
-behind_did g dest None (Ok v) h = put_did g dest v h
+after_did g dest (Some va) (Ok v) h = tt
+after_did g dest None (Ok v) h = put_did g dest v h
 
 mfpr_did : (g : Guest) (t : Trapped) (tries_ : Tried ℕ) → Fine g → Did (mfpr_by g t tries_)
 mfpr_did g t (tries.Stopped trouble) h = trouble_did g trouble
-mfpr_did g t (Clear va) h = behind_did g t.dest (Some va) (read (length g.memory) (past_instruction g.state t) t.a) (reads_fine (length g.memory) (past_instruction g.state t) t.a h)
-mfpr_did g t (Completes old) h = behind_did g t.dest None (read (length g.memory) (past_instruction g.state t) t.a) (reads_fine (length g.memory) (past_instruction g.state t) t.a h)
+mfpr_did g t (Clear va) h = after_did g t.dest (Some va) (read (length g.memory) (past_instruction g.state t) t.a) (reads_fine (length g.memory) (past_instruction g.state t) t.a h)
+mfpr_did g t (Completes old) h = after_did g t.dest None (read (length g.memory) (past_instruction g.state t) t.a) (reads_fine (length g.memory) (past_instruction g.state t) t.a h)
 
 -- contexts
 abbrev Switched_ : Switched → Type 0

@@ -188,25 +188,25 @@ module _ (n : ℕ) (m : Machine) (s : Shadowed) (g : GuestState) (x : Retired) (
   abbrev first : Guest
   first = guest_of m.memory g
 
-  abbrev behind_first : Guest
-  behind_first = guest_of x.machine.memory (as_run w g)
+  abbrev after_first : Guest
+  after_first = guest_of x.machine.memory (as_run w g)
 
   abbrev between : Guest
   between = guest_of x.machine.memory (next_of w g)
 
-  first_is : (executed first).guest ≡ behind_first
+  first_is : (executed first).guest ≡ after_first
   unfolding executed
-  first_is = ap (λ (y : Stepped). y.guest) (r.plain ∙ ap (trapped_in (steps.Plain r.term) (frames_claimed (guest_of m.memory g)) behind_first) none)
+  first_is = ap (λ (y : Stepped). y.guest) (r.plain ∙ ap (trapped_in (steps.Plain r.term) (frames_claimed (guest_of m.memory g)) after_first) none)
 
-  second : step behind_first ≡ executed between
+  second : step after_first ≡ executed between
   unfolding after_ticks
-  second = step_is behind_first q.runs q.waits
+  second = step_is after_first q.runs q.waits
       (due_same (record (state_of g) { clock = after_tick g.clock }) w.r (as_run w g).psl.0 ((g.steps + 1) % 2 ^ 32) r.high ∙ q.none 1 (omega arith))
 
   begins : (t : Touching) → touching_counted (suc (suc n)) first t ≡ touching_counted (suc n) between (touching_step first (executed first) t)
   begins t =
       ap (λ h. touching_steps (suc n) h (touching_step first (executed first) t)) first_is
-      ∙ ap (λ (y : Stepped). touching_steps n y.guest (touching_step behind_first y (touching_step first (executed first) t))) second
+      ∙ ap (λ (y : Stepped). touching_steps n y.guest (touching_step after_first y (touching_step first (executed first) t))) second
 
   same_end : with_count (counted_by e rest.done) (as_run m'.world (next_of w g)) ≡ with_count (counted_by e (suc rest.done)) (as_run m'.world g)
   same_end = more_counted (counted_by e rest.done) m'.world w g ∙ ap (λ c. with_count c (as_run m'.world g)) rest.counts
@@ -242,16 +242,16 @@ Rest : ℕ → Machine → Shadowed → GuestState → Type 0
 Rest zero m s g = Unit {0}
 Rest (suc n) m s g = (x : Retired) → IsRetired [] m s g x → Paid (suc n) x.machine s (next_of x.machine.world g) (real (suc n) x.machine)
 
-behind : (n : ℕ) (m : Machine) (s : Shadowed) (g : GuestState) (x : Retired) (t : Option ℕ) → x.trap ≡ t → g.steps < 2 ^ 32 → RunsGuest [] m s g → machine_step m ≡ Ok x → IsRetired [] m s g x → IsQuiet (suc n) (state_of g) → Rest n m s g → Paid (suc n) m s g (unless_trapped (real n) x.machine t)
+later : (n : ℕ) (m : Machine) (s : Shadowed) (g : GuestState) (x : Retired) (t : Option ℕ) → x.trap ≡ t → g.steps < 2 ^ 32 → RunsGuest [] m s g → machine_step m ≡ Ok x → IsRetired [] m s g x → IsQuiet (suc n) (state_of g) → Rest n m s g → Paid (suc n) m s g (unless_trapped (real n) x.machine t)
 unfolding Paid Rest
-behind zero m s g x None is small k o r q rest = used m s g x k o r is
-behind (suc n) m s g x None is small k o r q rest = more n m s g x (real (suc n) x.machine).0 (real (suc n) x.machine).1 k o r is q (rest x r)
-behind n m s g x (Some kind) is small k o r q rest = trapped n m s g x kind small k o r is
+later zero m s g x None is small k o r q rest = used m s g x k o r is
+later (suc n) m s g x None is small k o r q rest = more n m s g x (real (suc n) x.machine).0 (real (suc n) x.machine).1 k o r is q (rest x r)
+later n m s g x (Some kind) is small k o r q rest = trapped n m s g x kind small k o r is
 
 by_one : (n : ℕ) (m : Machine) (s : Shadowed) (g : GuestState) (y : Result Retired Exit) → machine_step m ≡ y → g.steps < 2 ^ 32 → RunsGuest [] m s g → IsQuiet (suc n) (state_of g) → Rest n m s g → Paid (suc n) m s g (going_on (real n) m y)
 unfolding Paid
 by_one n m s g (Err e) is small k q rest = stopped_at (suc n) m s g e small k is
-by_one n m s g (Ok x) is small k q rest = behind n m s g x x.trap refl small k is (retires [] m s g x k is) q rest
+by_one n m s g (Ok x) is small k q rest = later n m s g x x.trap refl small k is (retires [] m s g x k is) q rest
 
 paid : (n : ℕ) (m : Machine) (s : Shadowed) (g : GuestState) → g.steps < 2 ^ 32 → RunsGuest [] m s g → IsQuiet (suc n) (state_of g) → Paid (suc n) m s g (real (suc n) m)
 unfolding Rest

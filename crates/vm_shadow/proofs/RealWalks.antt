@@ -26,8 +26,8 @@ system_found : (at slot page : ℕ) → page < 8704 → 512 * at + 4 * page + 4 
 unfolding system_entry
 system_found at slot page h k = rw (lt-leb 8704 page h) (in_all None (512 * at + 4 * page) k)
 
-behind_found : (memory : List ℕ) (at table frame : ℕ) → table + 4 ≤ 2 ^ 33 → long_at memory table ≡ kernel_entry frame → frame < 2 ^ 20 → through_system_entry everywhere memory at table ≡ Found (512 * frame + at % 512) (Some table)
-behind_found memory at table frame room entry small =
+after_found : (memory : List ℕ) (at table frame : ℕ) → table + 4 ≤ 2 ^ 33 → long_at memory table ≡ kernel_entry frame → frame < 2 ^ 20 → through_system_entry everywhere memory at table ≡ Found (512 * frame + at % 512) (Some table)
+after_found memory at table frame room entry small =
     let valid : kernel_entry frame / 2 ^ 31 % 2 ≡ 1 = omega arith in
     let same : kernel_entry frame % 2 ^ 21 ≡ frame = omega arith in
     rw (entry, le-ltb everywhere (table + 4) room, valid, same, le-ltb everywhere (512 * frame + 512) (omega arith)) (in_all (Some table) (512 * frame + at % 512) (omega arith))
@@ -44,7 +44,7 @@ process_found memory s k f small h =
     let region : region_of (page_of at) ≡ 2 = omega arith in
     let page : in_region (page_of at) ≡ 8192 + j = omega arith in
     let offset : 512 * (s.at + 68 + j) + at % 512 ≡ 512 * (s.at + 68) + 4 * (16384 * s.slot + k) = omega arith in
-    let inner = behind_found memory at (512 * s.at + 4 * (8192 + j)) (s.at + 68 + j) (omega (arith, f.room, f.few)) (f.system j (omega arith)) (omega (arith, f.room, f.few)) in
+    let inner = after_found memory at (512 * s.at + 4 * (8192 + j)) (s.at + 68 + j) (omega (arith, f.room, f.few)) (f.system j (omega arith)) (omega (arith, f.room, f.few)) in
     (512 * s.at + 4 * (8192 + j), rw (region, page, lt-leb 8704 (8192 + j) (omega arith)) (inner ∙ ap (λ x. Found x (Some (512 * s.at + 4 * (8192 + j)))) offset))
 
 p0_address : (slot page : ℕ) → slot < 4 → page < 8192 → (p0_base slot + 4 * page) % 2 ^ 32 ≡ slot_address slot page

@@ -121,7 +121,7 @@ in_slot slot n = split (cases_lt n (8192 + 16384 * slot))
     (λ below. and_left _ _ (lt-leb (8192 + 16384 * slot) n below) ∙ sym (low below))
     (λ from. split (cases_lt n (8192 + 16384 * slot + 16384))
     (λ within. rw (le-leb (8192 + 16384 * slot) n from, lt-ltb n (8192 + 16384 * slot + 16384) within) (sym (here from within)))
-    (λ behind. and_right _ _ (le-ltb n (8192 + 16384 * slot + 16384) behind) ∙ sym (high behind)))
+    (λ later. and_right _ _ (le-ltb n (8192 + 16384 * slot + 16384) later) ∙ sym (high later)))
   where
     low : n < 8192 + 16384 * slot → (nat_le 8192 n && (entry_slot n == slot)) ≡ false
     low h = split (cases_lt n 8192) (λ k. and_left _ _ (lt-leb 8192 n k)) (λ k. and_right _ _ (ne_eqb (entry_slot n) slot (λ e. absurd (apart k e))))

@@ -32,7 +32,7 @@ written_as memory at v room =
       size = size;
       other = λ p h. split h
           (λ before. get_or_append_left (take at memory) rest 0 p (omega (arith, front)) ∙ get_or-take at memory p 0 before)
-          (λ behind. get_or-append_right (take at memory) rest at p 0 front (omega arith) ∙ get_or-append_right (long_bytes v) (drop (at + 4) memory) 4 (p - at) 0 refl (omega arith) ∙ get_or-drop (at + 4) memory (p - at - 4) 0 ∙ ap (λ n. get_or memory n 0) (omega arith));
+          (λ later. get_or-append_right (take at memory) rest at p 0 front (omega arith) ∙ get_or-append_right (long_bytes v) (drop (at + 4) memory) 4 (p - at) 0 refl (omega arith) ∙ get_or-drop (at + 4) memory (p - at - 4) 0 ∙ ap (λ n. get_or memory n 0) (omega arith));
       is = (λ i. e0 i + 256 * e1 i + 65536 * e2 i + 16777216 * e3 i) ∙ long_back v;
     }
 
@@ -49,7 +49,7 @@ long_by memory after there same =
     λ i. e0 i + 256 * e1 i + 65536 * e2 i + 16777216 * e3 i
 
 pub long_kept : (memory after : List ℕ) (at long there : ℕ) → IsWritten memory after at long → (there + 4 ≤ at) ⊎ (at + 4 ≤ there) → long_at after there ≡ long_at memory there
-long_kept memory after at long there w h = long_by memory after there (λ p a b. w.other p (split h (λ before. inl (omega arith)) (λ behind. inr (omega arith))))
+long_kept memory after at long there w h = long_by memory after there (λ p a b. w.other p (split h (λ before. inl (omega arith)) (λ later. inr (omega arith))))
 
 -- a part of a memory whose bytes stay
 pub part_same : (memory after : List ℕ) (at size : ℕ) → length after ≡ length memory → at + size ≤ length memory → ((p : ℕ) → at ≤ p → p < at + size → slice_index after p ≡ slice_index memory p) → part after at size ≡ part memory at size

@@ -166,12 +166,12 @@ impl Records {
     {
         let mut n = skip(groups, row, from);
         while n < end {
-            let behind = end.min(n / GROUP * GROUP + GROUP);
-            let found = self.filled.next(n, behind);
-            if found < behind {
+            let later = end.min(n / GROUP * GROUP + GROUP);
+            let found = self.filled.next(n, later);
+            if found < later {
                 return found;
             }
-            n = skip(groups, row, behind);
+            n = skip(groups, row, later);
         }
         end
     }

@@ -412,16 +412,16 @@ Rest : ℕ → Machine → Shadowed → GuestState → Type 0
 Rest zero m s g = Unit {0}
 Rest (suc n) m s g = (x : Retired) → IsRetired [] m s g x → Burst (suc n) x.machine s (next_of x.machine.world g) (real (suc n) x.machine)
 
-behind : (n : ℕ) (m : Machine) (s : Shadowed) (g : GuestState) (x : Retired) (t : Option ℕ) → x.trap ≡ t → g.steps < 2 ^ 32 → RunsGuest [] m s g → IsRetired [] m s g x → IsQuiet (suc n) (state_of g) → Rest n m s g → Burst (suc n) m s g (unless_trapped (real n) x.machine t)
+later : (n : ℕ) (m : Machine) (s : Shadowed) (g : GuestState) (x : Retired) (t : Option ℕ) → x.trap ≡ t → g.steps < 2 ^ 32 → RunsGuest [] m s g → IsRetired [] m s g x → IsQuiet (suc n) (state_of g) → Rest n m s g → Burst (suc n) m s g (unless_trapped (real n) x.machine t)
 unfolding Burst Rest
-behind zero m s g x None is small k r q rest = used m s g x small k r is
-behind (suc n) m s g x None is small k r q rest = more n m s g x (real (suc n) x.machine).0 (real (suc n) x.machine).1 small k r is q (rest x r)
-behind n m s g x (Some kind) is small k r q rest = trapped n m s g x kind small k r is
+later zero m s g x None is small k r q rest = used m s g x small k r is
+later (suc n) m s g x None is small k r q rest = more n m s g x (real (suc n) x.machine).0 (real (suc n) x.machine).1 small k r is q (rest x r)
+later n m s g x (Some kind) is small k r q rest = trapped n m s g x kind small k r is
 
 by_one : (n : ℕ) (m : Machine) (s : Shadowed) (g : GuestState) (y : Result Retired Exit) → machine_step m ≡ y → g.steps < 2 ^ 32 → RunsGuest [] m s g → IsQuiet (suc n) (state_of g) → Rest n m s g → Burst (suc n) m s g (going_on (real n) m y)
 unfolding Burst
 by_one n m s g (Err e) is small k q rest = stopped_at (suc n) m s g e (omega arith) small k is
-by_one n m s g (Ok x) is small k q rest = behind n m s g x x.trap refl small k (retires [] m s g x k is) q rest
+by_one n m s g (Ok x) is small k q rest = later n m s g x x.trap refl small k (retires [] m s g x k is) q rest
 
 burst : (n : ℕ) (m : Machine) (s : Shadowed) (g : GuestState) → g.steps < 2 ^ 32 → RunsGuest [] m s g → IsQuiet (suc n) (state_of g) → Burst (suc n) m s g (real (suc n) m)
 unfolding Rest

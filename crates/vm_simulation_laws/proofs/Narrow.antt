@@ -49,9 +49,9 @@ written_low : (i : Intent) (k a : ℕ) → AreLow (if_write i (addresses k a))
 written_low intents.Read k a x h = absurd h
 written_low intents.Write k a x h = addresses_low k a x h
 
-behind_low : (r : Result ℕ Trouble) (f : ℕ → List ℕ) → ((v : ℕ) → AreLow (f v)) → AreLow (on_ok r f)
-behind_low (Ok v) f h x i = h v x i
-behind_low (Err t) f h x i = absurd i
+after_low : (r : Result ℕ Trouble) (f : ℕ → List ℕ) → ((v : ℕ) → AreLow (f v)) → AreLow (on_ok r f)
+after_low (Ok v) f h x i = h v x i
+after_low (Err t) f h x i = absurd i
 
 two_low : (xs ys : List ℕ) → AreLow xs → AreLow ys → AreLow (xs ++ ys)
 two_low xs ys a b x h = by (in_either x xs ys h)
@@ -63,7 +63,7 @@ two_low xs ys a b x h = by (in_either x xs ys h)
 pub claims_low : {A : Type 0} (s : Space) (m : Interaction A) → AreLow (claims s m)
 claims_low s (Done a) x h = absurd h
 claims_low s (Refuse r) x h = absurd h
-claims_low s (Touch i a k f) x h = two_low (if_write i (addresses k a)) (on_ok (number_at s i k a) (λ v. claims s (f v))) (written_low i k a) (behind_low (number_at s i k a) (λ v. claims s (f v)) (λ v. claims_low s (f v))) x h
+claims_low s (Touch i a k f) x h = two_low (if_write i (addresses k a)) (on_ok (number_at s i k a) (λ v. claims s (f v))) (written_low i k a) (after_low (number_at s i k a) (λ v. claims s (f v)) (λ v. claims_low s (f v))) x h
 
 -- a trouble is of such an address
 abbrev pub HasLow : {A : Type 0} → Result A Trouble → Type 0

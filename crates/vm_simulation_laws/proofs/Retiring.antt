@@ -119,9 +119,9 @@ module _ (opened : List ℕ) (m : Machine) (s : Shadowed) (g : GuestState) (k : 
       }
 
   -- the guest after an instruction with this effect
-  behind_effect : (opcode : ℕ) (e : Effect) → AreStored pending opened s m.memory (all_stored (machine_place m) e.writes m.memory) (all_stored (guest_write_place here) e.writes (own m.memory s)) → guest_of (retire opcode e m).memory (as_run (retire opcode e m).world g) ≡ with_effect here e
+  after_effect : (opcode : ℕ) (e : Effect) → AreStored pending opened s m.memory (all_stored (machine_place m) e.writes m.memory) (all_stored (guest_write_place here) e.writes (own m.memory s)) → guest_of (retire opcode e m).memory (as_run (retire opcode e m).world g) ≡ with_effect here e
   unfolding retire
-  behind_effect opcode e stored =
+  after_effect opcode e stored =
       let psl = both_set m.world.vmpsl.0 m.world.psl.0 g.psl.0 e.psw k.loads.psl in
       let memory : partition_of (all_stored (machine_place m) e.writes m.memory) g ≡ all_stored (guest_write_place here) e.writes (partition_of m.memory g) =
       sym (own_is (all_stored (machine_place m) e.writes m.memory) s g k.serves) ∙ stored.own ∙ ap (all_stored (guest_write_place here) e.writes) (own_is m.memory s g k.serves) in
@@ -135,8 +135,8 @@ module _ (opened : List ℕ) (m : Machine) (s : Shadowed) (g : GuestState) (k : 
       let high : (m.world.vmpsl.0 / 256 * 256 + (m.world.psl.0 / 256 * 256 + e.psw % 256) % 256) / 256 ≡ g.psl.0 / 256 = ap (λ x. x / 256) psl ∙ high_part g.psl.0 e.psw in
       record {
         term = term (pc_of (state_of g)) opcode e.r;
-        plain = plain ∙ ap (λ h. trapped_in (steps.Plain (term (pc_of (state_of g)) opcode e.r)) (frames_claimed here) h e.trap) (sym (behind_effect opcode e stored));
-        leaves = subst (λ h. Leaves here h e.trap) (sym (behind_effect opcode e stored)) leaves;
+        plain = plain ∙ ap (λ h. trapped_in (steps.Plain (term (pc_of (state_of g)) opcode e.r)) (frames_claimed here) h e.trap) (sym (after_effect opcode e stored));
+        leaves = subst (λ h. Leaves here h e.trap) (sym (after_effect opcode e stored)) leaves;
         keeps = stored.keeps;
         loads = record {
           r = refl;
@@ -169,7 +169,7 @@ module _ (opened : List ℕ) (m : Machine) (s : Shadowed) (g : GuestState) (k : 
       let made : Retired = record { machine = retire opcode e m; trap = e.trap } in
       let same : made ≡ x = cc in
       subst (IsRetired opened m s g) same (retired_as opcode e stored (ap (guest_by_try here) own ∙ ap (λ frames. trapped_in (steps.Plain (term (pc_of (state_of g)) opcode e.r)) frames (with_effect here e) e.trap) (sym (claimed_written here opcode e (guest_outcome (meant opcode (Plain e)) own))))
-      (record { opcode = opcode; act = Plain e; try = own; behind = (refl, refl) }))
+      (record { opcode = opcode; act = Plain e; try = own; later = (refl, refl) }))
 
   nothing_stored : AreStored pending opened s m.memory m.memory (own m.memory s)
   nothing_stored = record { keeps = pend opened m.memory s pending k.keeps; own = refl; size = refl; other = λ p h. refl }
@@ -199,7 +199,7 @@ module _ (opened : List ℕ) (m : Machine) (s : Shadowed) (g : GuestState) (k : 
       let step : guest_by_try here (guest_try here) ≡ trapped_in (steps.Plain (term (pc_of (state_of g)) opcode o.r)) (frames_claimed here) (with_effect here e) None =
       ap (guest_by_try here) own ∙ ap (steps.probed_as here opcode o) answers ∙ ap (λ w. trapped_in (steps.Plain (term (pc_of (state_of g)) opcode o.r)) [] (with_effect here (probed b o w)) None) psw
       ∙ ap (λ frames. trapped_in (steps.Plain (term (pc_of (state_of g)) opcode o.r)) frames (with_effect here e) None) (sym none) in
-      subst (IsRetired opened m s g) same (retired_as opcode e nothing_stored step (record { opcode = opcode; act = Probes i o; try = own; behind = (b, answers, ap (λ w. with_effect here (probed b o w)) (sym psw), refl) }))
+      subst (IsRetired opened m s g) same (retired_as opcode e nothing_stored step (record { opcode = opcode; act = Probes i o; try = own; later = (b, answers, ap (λ w. with_effect here (probed b o w)) (sym psw), refl) }))
 
   act_retired : (opcode : ℕ) (act : Act) (x : Retired) → machine_try opened m s g k ≡ Completes (meant opcode act) → guest_try here ≡ Completes (meant opcode act) → carried_out m opcode act ≡ Ok x → IsRetired opened m s g x
   act_retired opcode (Plain e) x is own h = plain_retired opcode e x is own h

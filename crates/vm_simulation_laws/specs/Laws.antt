@@ -115,7 +115,7 @@ pub record Leaves (h after : Guest) (trap : Option ℕ) : Type 0 where
   pub opcode : ℕ
   pub act : Act
   pub try : guest_try h ≡ Completes (meant opcode act)
-  pub behind : LeavesByAct act h after trap
+  pub later : LeavesByAct act h after trap
 
 -- The machine retired an instruction. The guest's own is plain, with the same registers and memory after it and the same
 -- trap, and writes the frames that it claims. Nothing else of the machine's memory changed. What was read from a frame that an

@@ -65,8 +65,8 @@ Sensible g LacksMemory = Unit {0}
 none_shown : length {A = ℕ} [] ≤ 14
 none_shown = omega arith
 
-pub behind_keeps : (size : ℕ) (s : State) (t : Trapped) → Keeps size s (past_instruction s t)
-behind_keeps size s t = moved size s (past_instruction s t) refl refl refl refl refl refl refl refl (λ k. k)
+pub after_keeps : (size : ℕ) (s : State) (t : Trapped) → Keeps size s (past_instruction s t)
+after_keeps size s t = moved size s (past_instruction s t) refl refl refl refl refl refl refl refl (λ k. k)
 
 code_low : (p : ℕ) → p % 2 ^ 8 < 2 ^ 8
 code_low p = grind arith
@@ -113,7 +113,7 @@ chm_sensible g t to =
     let h = guest_past_instruction g t in
     let e = excs.Chm to t.a in
     let m = new_mode g.state e in
-    let hold : Holds g h = with_state g (past_instruction g.state t) (behind_keeps (length g.memory) g.state t) in
+    let hold : Holds g h = with_state g (past_instruction g.state t) (after_keeps (length g.memory) g.state t) in
     let start : Initiates h (initiate h e) = initiate_keeps h e tt in
     let P = Sensible g in
     cond_both (is_on_interrupt_stack g.state.psl) (StopsThere ChangedMode) _ P (λ k. tt) (λ k.
@@ -156,7 +156,7 @@ rei_sensible : (g : Guest) (t : Trapped) (r : Result Popped Trouble) → Sensibl
 rei_sensible g t (Err trouble) = trouble_sensible g trouble
 rei_sensible g t (Ok p) =
     cond_both (rei_refuses g.state.psl p.psl) (Faults excs.ReservedOperand) _ (Sensible g) (λ e. tt)
-    (λ e. (with_state g _ (chained (length g.memory) g.state (past_instruction g.state t) _ (behind_keeps (length g.memory) g.state t) (returned_keeps (length g.memory) (past_instruction g.state t) p (accepted_psl g.state.psl p.psl e))), none_shown))
+    (λ e. (with_state g _ (chained (length g.memory) g.state (past_instruction g.state t) _ (after_keeps (length g.memory) g.state t) (returned_keeps (length g.memory) (past_instruction g.state t) p (accepted_psl g.state.psl p.psl e))), none_shown))
 
 -- MTPR
 one_packet : (size packet : ℕ) → IsPacket size packet → All (IsPacket size) (packet ∷ [])
@@ -225,7 +225,7 @@ mtpr_sensible g t v (Err refused) h = tt
 mtpr_sensible g t v (Ok w) h =
     let size = length g.memory in
     effect_sensible g (with_codes v w.state) w.effect
-    (chained size g.state (past_instruction g.state t) _ (behind_keeps size g.state t) (chained size (past_instruction g.state t) w.state _ h (codes_keep size v w.state)))
+    (chained size g.state (past_instruction g.state t) _ (after_keeps size g.state t) (chained size (past_instruction g.state t) w.state _ h (codes_keep size v w.state)))
 
 -- MFPR
 by_dest : (g : Guest) (dest : Dest) (v : Value) → Keeps (length g.memory) g.state v.state → Sensible g (put_at g dest v)
@@ -240,7 +240,7 @@ by_dest g (Memory at) v k =
 put_sensible : (g : Guest) (t : Trapped) (dest : Dest) (v : Value) → Keeps (length g.memory) (past_instruction g.state t) v.state → Sensible g (put_at g dest v)
 put_sensible g t dest v k =
     let size = length g.memory in
-    let come : Keeps size g.state v.state = chained size g.state (past_instruction g.state t) v.state (behind_keeps size g.state t) k in
+    let come : Keeps size g.state v.state = chained size g.state (past_instruction g.state t) v.state (after_keeps size g.state t) k in
     by_dest g dest v come
 
 read_sensible : (g : Guest) (t : Trapped) (dest : Dest) (clear : Option ℕ) (r : Result Value ReservedOperand) → ReadsKept (length g.memory) (past_instruction g.state t) r → Sensible g (after_register_read g dest clear r)

@@ -2,7 +2,7 @@
 use Rattle.std.specs.Prelude.{ℕ, Some, List, [], codes, refl, slice_index, true, ◌∷◌, ◌≡◌}
 use Rattle.vax_arch.specs.Walk.{Tables}
 use Rattle.vm_clock.specs.Clock.{initial_clock}
-use Rattle.vm_state.specs.ShownSetup.{Seen, after, behind_steps, below, entry_4, guest_m, kinds, longs_at, seen, tables_m, whole_step, with_clock, with_isp, with_memory, with_register, with_tables}
+use Rattle.vm_state.specs.ShownSetup.{Seen, after, after_steps, below, entry_4, guest_m, kinds, longs_at, seen, tables_m, whole_step, with_clock, with_isp, with_memory, with_register, with_tables}
 use Rattle.vm_state.specs.State.{Guest}
 use Rattle.vm_state.specs.Step.{Fault, Plain, SetModify, Stepped, step}
 
@@ -120,20 +120,20 @@ modify_fault = seen Fault 5 0x800 0x800007f0 0x80000b00 0 (4 ∷ 0x800 ∷ 0x200
 -- tables that are written while they are used, and modify bits
 pub own_tables :
     -- its modify bit is set first, and then the entry is written
-    (longs_at (behind_steps 1 sets_own_entry) (entry_4 ∷ []) ≡ 0xa4000000 ∷ [])
-    × (longs_at (behind_steps 2 sets_own_entry) (entry_4 ∷ []) ≡ 0xa4000002 ∷ [])
+    (longs_at (after_steps 1 sets_own_entry) (entry_4 ∷ []) ≡ 0xa4000000 ∷ [])
+    × (longs_at (after_steps 2 sets_own_entry) (entry_4 ∷ []) ≡ 0xa4000002 ∷ [])
     × (kinds 2 sets_own_entry ≡ SetModify ∷ Plain 0x800014e8 ∷ [])
     -- 11 and then 22 is read
-    × (slice_index (behind_steps 1 turns_page).state.r 0 ≡ 0x11)
-    × (slice_index (behind_steps 3 turns_page).state.r 3 ≡ 0x22)
-    × (slice_index (behind_steps 1 turns_page_by_p0).state.r 4 ≡ 0x11)
-    × (slice_index (behind_steps 3 turns_page_by_p0).state.r 3 ≡ 0x22)
+    × (slice_index (after_steps 1 turns_page).state.r 0 ≡ 0x11)
+    × (slice_index (after_steps 3 turns_page).state.r 3 ≡ 0x22)
+    × (slice_index (after_steps 1 turns_page_by_p0).state.r 4 ≡ 0x11)
+    × (slice_index (after_steps 3 turns_page_by_p0).state.r 3 ≡ 0x22)
     -- the handler reads by the entry that BPT's push wrote
-    × (after (step (behind_steps 2 pushes_over_entry)) (below 4 0x98) ≡ violation)
+    × (after (step (after_steps 2 pushes_over_entry)) (below 4 0x98) ≡ violation)
     -- the bit is set in a step of its own; the clock counts each step
     × (kinds 3 stores_and_counts ≡ SetModify ∷ Plain 0x80001475 ∷ Plain 0x80001478 ∷ [])
-    × ((behind_steps 2 stores_and_counts).state.clock.icr ≡ 2)
-    × (longs_at (behind_steps 3 stores_and_counts) (entry_4 ∷ 0x800 ∷ []) ≡ 0xa4000004 ∷ 5 ∷ [])
+    × ((after_steps 2 stores_and_counts).state.clock.icr ≡ 2)
+    × (longs_at (after_steps 3 stores_and_counts) (entry_4 ∷ 0x800 ∷ []) ≡ 0xa4000004 ∷ 5 ∷ [])
     -- a guest with modify faults gets one, by vector 3C, and the bit stays clear
     × (after (step stores_with_faults) (0x7f0 ∷ 0x7f4 ∷ 0x7f8 ∷ 0x7fc ∷ entry_4 ∷ []) ≡ modify_fault)
 unfolding whole_step

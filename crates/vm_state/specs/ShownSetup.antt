@@ -139,9 +139,9 @@ below zero top = []
 below (suc n) top = (top - 4 * (n + 1)) ∷ below n top
 
 -- the guest after so many steps, and their kinds
-abbrev pub behind_steps : ℕ → Guest → Guest
-behind_steps zero g = g
-behind_steps (suc n) g = behind_steps n (step g).guest
+abbrev pub after_steps : ℕ → Guest → Guest
+after_steps zero g = g
+after_steps (suc n) g = after_steps n (step g).guest
 
 abbrev pub kinds : ℕ → Guest → List Kind
 kinds zero g = []

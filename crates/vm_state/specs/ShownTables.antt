@@ -6,7 +6,7 @@ use Rattle.vm_clock.specs.Clock.{ClockState, initial_clock}
 use Rattle.vm_console.specs.Console.{ConsoleState}
 use Rattle.vm_state.specs.Initiate.{parameters, vector_offset}
 use Rattle.vm_state.specs.Interrupts.{IntervalClock, Kcall, Receiver, Software, Transmitter, due}
-use Rattle.vm_state.specs.ShownSetup.{behind_steps, entry_4, guest_m, guest_u, state_u, whole_step, with_clock, with_psl, with_register}
+use Rattle.vm_state.specs.ShownSetup.{after_steps, entry_4, guest_m, guest_u, state_u, whole_step, with_clock, with_psl, with_register}
 use Rattle.vm_state.specs.State.{Guest}
 use Rattle.vm_state.specs.Touches.{at_first, touching_steps}
 use Rattle.vm_state.specs.declared.exception.Exc.TheVariants.{Arithmetic, Breakpoint, Chm, Customer, KernelStack, Memory, ModifyFault, ReservedAddressing, ReservedInstruction, ReservedOperand}
@@ -65,7 +65,7 @@ abbrev wrapped : ClockState
 wrapped = record initial_clock { run = true; enable = true; interrupt = true; error = true; request = true; nicr = 5; icr = 5 }
 
 -- the clock of a step: it wraps, which is an error, and requests an interrupt, which IPL 31 holds
-pub clock : (behind_steps 1 (with_clock wrapping (with_psl 0x001f0000 (guest_u (0x01 ∷ 0x01 ∷ []))))).state.clock ≡ wrapped
+pub clock : (after_steps 1 (with_clock wrapping (with_psl 0x001f0000 (guest_u (0x01 ∷ 0x01 ∷ []))))).state.clock ≡ wrapped
 unfolding whole_step
 clock = refl
 

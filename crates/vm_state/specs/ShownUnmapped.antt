@@ -1,7 +1,7 @@
 -- Worked examples of steps with mapping off, by computation. Numbers are hexadecimal in the comments.
 use Rattle.std.specs.Prelude.{ℕ, Some, List, [], codes, refl, slice_index, true, ◌+◌, ◌∷◌, ◌≡◌}
 use Rattle.vm_clock.specs.Clock.{initial_clock}
-use Rattle.vm_state.specs.ShownSetup.{Seen, after, behind_steps, below, guest_u, kinds, seen, whole_step, with_clock, with_isp, with_memory, with_psl, with_register}
+use Rattle.vm_state.specs.ShownSetup.{Seen, after, after_steps, below, guest_u, kinds, seen, whole_step, with_clock, with_isp, with_memory, with_psl, with_register}
 use Rattle.vm_state.specs.State.{Guest}
 use Rattle.vm_state.specs.Step.{Fault, Idle, Interrupt, Sensitive, Stopped, step}
 
@@ -105,21 +105,21 @@ halts = guest_u (0x00 ∷ [])
 -- interrupts and processor registers
 pub registers_and_interrupts :
     -- the clock's interrupt pushes the PC after WAIT
-    (after (step (behind_steps 9 waits)) (below 2 0x3000) ≡ seen Interrupt 0 0 0x2ff8 0x1000 0x00180000 (0x202 ∷ 0 ∷ []))
+    (after (step (after_steps 9 waits)) (below 2 0x3000) ≡ seen Interrupt 0 0 0x2ff8 0x1000 0x00180000 (0x202 ∷ 0 ∷ []))
     × (kinds 10 waits ≡ Sensitive ∷ Idle ∷ Idle ∷ Idle ∷ Idle ∷ Idle ∷ Idle ∷ Idle ∷ Idle ∷ Interrupt ∷ [])
     -- the request, and then its interrupt
-    × (after (step (behind_steps 1 requests)) (below 2 0x3000) ≡ seen Interrupt 0 0 0x2ff8 0x1004 0x00030000 (0x203 ∷ 0 ∷ []))
-    × ((behind_steps 2 requests).state.sisr ≡ 0)
-    × ((behind_steps 1 requests).state.sisr ≡ 8)
+    × (after (step (after_steps 1 requests)) (below 2 0x3000) ≡ seen Interrupt 0 0 0x2ff8 0x1004 0x00030000 (0x203 ∷ 0 ∷ []))
+    × ((after_steps 2 requests).state.sisr ≡ 0)
+    × ((after_steps 1 requests).state.sisr ≡ 8)
     -- its bytes, and the steps so far
-    × (slice_index (behind_steps 1 asks_memory).state.r 0 ≡ 0x8000)
-    × (slice_index (behind_steps 2 asks_time).state.r 0 ≡ 2)
+    × (slice_index (after_steps 1 asks_memory).state.r 0 ≡ 0x8000)
+    × (slice_index (after_steps 2 asks_time).state.r 0 ≡ 2)
     -- MTPR of 2 to MAPEN: a reserved operand
     × (after (step (by_vector 0x18 0x1004 (0xda ∷ 0x02 ∷ 0x38 ∷ []))) (below 2 0x3000) ≡ exception)
     -- HALT stops after itself
     × (after (step halts) [] ≡ seen Sensitive 0 0 0x3000 0x201 0 [])
     -- and a stopped guest stays as it is
     × (kinds 2 halts ≡ Sensitive ∷ Stopped ∷ [])
-    × ((behind_steps 2 halts).state.steps ≡ 1)
+    × ((after_steps 2 halts).state.steps ≡ 1)
 unfolding whole_step
 registers_and_interrupts = (refl, refl, refl, refl, refl, refl, refl, refl, refl, refl, refl)

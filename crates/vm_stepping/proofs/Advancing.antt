@@ -46,16 +46,16 @@ then_more may l l1 l2 p p1 p2 m s g c m1 s1 g1 c1 m2 s2 g2 c2 stands x y =
     }
 
 -- none is left
-none_behind : (n : ℕ) (b : Bool) (run : Run) → n ≡ 0 → (if b then after_counted n run else after_steps n run) ≡ run
-none_behind n true run e = ap (λ x. after_counted x run) e
-none_behind n false run e = ap (λ x. after_steps x run) e
+none_after : (n : ℕ) (b : Bool) (run : Run) → n ≡ 0 → (if b then after_counted n run else after_steps n run) ≡ run
+none_after n true run e = ap (λ x. after_counted x run) e
+none_after n false run e = ap (λ x. after_steps x run) e
 
 pub all_done : {Port : Type 0} (may : Port → List ℕ → Type 0) (n : ℕ) (left : Left) (p p1 : Port) (m : Machine) (s : Shadowed) (g : GuestState) (m1 : Machine) (s1 : Shadowed) (g1 : GuestState) (c1 : Counts) → left.steps ≡ 0 → Proceeds may (plain_left n) left p p1 m s g no_counts m1 s1 g1 c1 → Advances may n p p1 m s g m1 s1 g1 c1
 all_done may n left p p1 m s g m1 s1 g1 c1 e x =
     let kinds = x.kinds in
     record {
       text = x.text;
-      run = x.run [] ∙ none_behind left.steps left.counted (run_of m1.memory g1 c1 x.text) e;
+      run = x.run [] ∙ none_after left.steps left.counted (run_of m1.memory g1 c1 x.text) e;
       shows = x.shows;
       goes = x.goes;
       kinds = omega (arith, kinds, e);

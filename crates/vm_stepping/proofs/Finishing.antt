@@ -1,12 +1,12 @@
 -- A guarded instruction, with what is loaded and taken back.
-use Rattle.std.proofs.Common.{◌≡◌, ℕ, ◌+◌, ◌*◌, ◌/◌, ◌%◌, ◌^◌, Bool, List, [], ◌++◌, append-nil, Option, Some, None, refl, ap, ◌∙◌, sym, subst, arith}
+use Rattle.std.proofs.Common.{◌≡◌, ℕ, ◌+◌, ◌*◌, ◌/◌, ◌%◌, ◌^◌, ◌<◌, Bool, List, [], ◌++◌, append-nil, Option, Some, None, refl, ap, ◌∙◌, sym, subst, arith}
 use Rattle.vax_hw.specs.Machine.{Machine}
 use Rattle.vax_hw.specs.Real.{misses_after}
 use Rattle.vax_hw.specs.declared.world.Exit.{Exit}
 use Rattle.vax_hw.specs.declared.world.Exit.TheVariants.{Arithmetic, Budget, Denied, Emulate, Modify, NotValid, Refused}
 use Rattle.vax_hw.specs.declared.world.World.{World}
-use Rattle.vm_stepping.specs.Guarded.{CanAllow, IsCompleted, IsGuarded, IsTried, IsUnfinished, RunsOne, RunsSome, StaysGuarded, StepsGuarded, with_trap_of}
-use Rattle.vm_bursts.specs.declared.bursts.Ended.{Ended}
+use Rattle.vm_stepping.specs.Guarded.{CanAllow, IsCompleted, IsGuarded, IsTried, IsUnfinished, RunsSome, StaysGuarded, StepsGuarded, with_trap_of}
+use Rattle.vm_bursts.specs.Ran.{rise}
 use Rattle.vm_bursts.proofs.Running.{loaded, loads_world, rise_is, zero_bits}
 use Rattle.vm_shadow.specs.Shadowed.{Shadowed}
 use Rattle.vm_shadow.specs.StandsFor.{Serves, StandsFor, world_of}
@@ -40,9 +40,9 @@ trap_by run h term kind (Taken x w) e = refl
 trap_by run h term kind (KernelStackBad x w) e = refl
 trap_by run h term kind (Stops stop) e = refl
 
-behind : (run : Run) (h : Guest) (term : ℕ) (written : List ℕ) (trap : Option ℕ) → after_step run (trapped_in (steps.Plain term) written h trap) ≡ with_trap_of trap (with_plain_steps run h 1 term)
-behind run h term written None = λ i. record { guest = h; shown = append-nil run.shown i; tally = record run.tally { plain = run.tally.plain + 1; trail = (run.tally.trail + term) % 2 ^ 64 } }
-behind run h term written (Some kind) = trap_by run h term kind (initiate h (excs.Arithmetic kind)) refl
+later : (run : Run) (h : Guest) (term : ℕ) (written : List ℕ) (trap : Option ℕ) → after_step run (trapped_in (steps.Plain term) written h trap) ≡ with_trap_of trap (with_plain_steps run h 1 term)
+later run h term written None = λ i. record { guest = h; shown = append-nil run.shown i; tally = record run.tally { plain = run.tally.plain + 1; trail = (run.tally.trail + term) % 2 ^ 64 } }
+later run h term written (Some kind) = trap_by run h term kind (initiate h (excs.Arithmetic kind)) refl
 
 same_sum : (t a b : ℕ) → a ≡ b % 2 ^ 64 → (t + b) % 2 ^ 64 ≡ (t + a) % 2 ^ 64
 same_sum t a b e = low t b ∙ ap (λ z. (t + z) % 2 ^ 64) (sym e)
@@ -59,21 +59,20 @@ serves_on s s2 g r c w e v = record { pages = ap (λ (x : Shadowed). x.pages) e 
 twice : (n : ℕ) → n % 2 ^ 64 % 2 ^ 64 ≡ n % 2 ^ 64
 twice n = omega arith
 
-module _ (m : Machine) (s : Shadowed) (g : GuestState) (x : Ended) (w : World) (m2 : Machine) (s2 : Shadowed) (g2 : GuestState) (k : StandsFor m.memory s g) (is : w ≡ world_of s g) (r : RunsOne m s g w x m2 s2) (back : g2 ≡ as_run x.world g) where
+module _ (m : Machine) (s : Shadowed) (g : GuestState) (x : Exit) (risen : ℕ) (w : World) (m2 : Machine) (s2 : Shadowed) (g2 : GuestState) (k : StandsFor m.memory s g) (is : w ≡ world_of s g)
+    (tried : (opened : List ℕ) → RunsGuest opened (record m { world = w }) s g → IsTried x opened (record m { world = w }) s g m2 s2)
+    (rises : risen ≡ rise m.trail m2.trail) (small : m.trail < 2 ^ 64) (back_is : g2 ≡ as_run m2.world g) where
   abbrev first : Machine
   first = record m { world = world_of s g }
 
-  back_is : g2 ≡ as_run m2.world g
-  back_is = back ∙ ap (λ y. as_run y g) r.world
-
-  steps_on : (trap : Option ℕ) → IsCompleted [] first s g trap m2 s2 → StepsGuarded m s g x.terms trap m2 s2 g2
+  steps_on : (trap : Option ℕ) → IsCompleted [] first s g trap m2 s2 → StepsGuarded m s g risen trap m2 s2 g2
   steps_on trap c =
-      let terms : x.terms ≡ c.term % 2 ^ 64 = r.terms ∙ rise_is m.trail m2.trail c.term r.trail (ap (λ n. n % 2 ^ 64) c.trail ∙ twice (m.trail + c.term)) in
+      let terms : risen ≡ c.term % 2 ^ 64 = rises ∙ rise_is m.trail m2.trail c.term small (ap (λ n. n % 2 ^ 64) c.trail ∙ twice (m.trail + c.term)) in
       record {
         steps = λ run own low.
             executed_as (guest_of m.memory g) run (trapped_in (steps.Plain c.term) (frames_claimed (guest_of m.memory g)) (guest_of m2.memory (as_run m2.world g)) trap) own c.plain
-            ∙ behind run (guest_of m2.memory (as_run m2.world g)) c.term (frames_claimed (guest_of m.memory g)) trap
-            ∙ ap (with_trap_of trap) (λ i. record { guest = guest_of m2.memory (sym back_is i); shown = run.shown; tally = record run.tally { plain = run.tally.plain + 1; trail = same_sum run.tally.trail x.terms c.term terms i } });
+            ∙ later run (guest_of m2.memory (as_run m2.world g)) c.term (frames_claimed (guest_of m.memory g)) trap
+            ∙ ap (with_trap_of trap) (λ i. record { guest = guest_of m2.memory (sym back_is i); shown = run.shown; tally = record run.tally { plain = run.tally.plain + 1; trail = same_sum run.tally.trail risen c.term terms i } });
         term = c.term;
         leaves = subst (λ (h : GuestState). Leaves (guest_of m.memory g) (guest_of m2.memory h) trap) (sym back_is) c.leaves;
         step = executed_is (guest_of m.memory g) _ c.plain ∙ (λ i. record (trapped_in (steps.Plain c.term) (frames_claimed (guest_of m.memory g)) (guest_of m2.memory (sym back_is i)) trap) { touched = touches_now (guest_of m.memory g) });
@@ -88,7 +87,7 @@ module _ (m : Machine) (s : Shadowed) (g : GuestState) (x : Ended) (w : World) (
         rest = c.rest;
         only = c.only;
         retired = ap (λ n. n % 2 ^ 64) c.retired ∙ twice (m.retired + 1);
-        trail = ap (λ n. n % 2 ^ 64) c.trail ∙ twice (m.trail + c.term) ∙ same_sum m.trail x.terms c.term terms;
+        trail = ap (λ n. n % 2 ^ 64) c.trail ∙ twice (m.trail + c.term) ∙ same_sum m.trail risen c.term terms;
         misses = c.misses;
         found = c.found;
       }
@@ -109,10 +108,10 @@ module _ (m : Machine) (s : Shadowed) (g : GuestState) (x : Ended) (w : World) (
         reaches = u.reaches;
       }
 
-  tried_is : IsTried x.exit [] first s g m2 s2
-  tried_is = subst (λ v. IsTried x.exit [] (record m { world = v }) s g m2 s2) is (r.tried [] (subst (λ v. RunsGuest [] (record m { world = v }) s g) (sym is) (loaded m s g k)))
+  tried_is : IsTried x [] first s g m2 s2
+  tried_is = subst (λ v. IsTried x [] (record m { world = v }) s g m2 s2) is (tried [] (subst (λ v. RunsGuest [] (record m { world = v }) s g) (sym is) (loaded m s g k)))
 
-  by_exit : (e : Exit) → IsTried e [] first s g m2 s2 → IsGuarded e m s g x.terms m2 s2 g2
+  by_exit : (e : Exit) → IsTried e [] first s g m2 s2 → IsGuarded e m s g risen m2 s2 g2
   by_exit Budget t = steps_on None t
   by_exit (Arithmetic kind) t = steps_on (Some kind) t
   by_exit (NotValid va write) t = stays_on (NotValid va write) t
@@ -121,8 +120,8 @@ module _ (m : Machine) (s : Shadowed) (g : GuestState) (x : Ended) (w : World) (
   by_exit (Emulate trap) t = stays_on (Emulate trap) t
   by_exit (Refused refusal) t = stays_on (Refused refusal) t
 
-  pub is_guarded : IsGuarded x.exit m s g x.terms m2 s2 g2
-  is_guarded = by_exit x.exit tried_is
+  pub is_guarded : IsGuarded x m s g risen m2 s2 g2
+  is_guarded = by_exit x tried_is
 
 -- the machine runs the guest, once that is loaded
 pub runs_loaded : (m : Machine) (s : Shadowed) (g : GuestState) (w : World) → StandsFor m.memory s g → w ≡ world_of s g → RunsSome (record m { world = w }) s g

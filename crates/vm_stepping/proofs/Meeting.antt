@@ -96,8 +96,8 @@ module _ (m : Machine) (s : Shadowed) (g : GuestState) (c : Counts) (e : Exit) (
   as_many = ap (λ (x : Shadowed). count_below (λ n. not (is_some (read_at x n))) all_entries) k.rest
 
   module _ {Port : Type 0} (may : Port → List ℕ → Type 0) (port port' : Port) (m2 : Machine) (s2 : Shadowed) (g2 : GuestState) (c2 : Counts) where
-    steps_behind : Steps may port port' m1 s1 g c m2 s2 g2 c2 → Steps may port port' m s g c m2 s2 g2 c2
-    steps_behind x = record {
+    steps_after : Steps may port port' m1 s1 g c m2 s2 g2 c2 → Steps may port port' m s g c m2 s2 g2 c2
+    steps_after x = record {
       text = x.text;
       run = λ shown. ap (λ y. after_counted 1 (record { guest = y; shown = shown; tally = tally_of c })) (sym (guest_same m m1 g k.own)) ∙ x.run shown;
       shows = x.shows;
@@ -106,8 +106,8 @@ module _ (m : Machine) (s : Shadowed) (g : GuestState) (c : Counts) (e : Exit) (
       retired = retired_then m c m1 c m2 c2 stays_retired x.retired;
     }
 
-    refills_behind : Refills m1 s1 g m2 s2 g2 → Refills m s g m2 s2 g2
-    refills_behind x = record {
+    refills_after : Refills m1 s1 g m2 s2 g2 → Refills m s g m2 s2 g2
+    refills_after x = record {
       guest = x.guest;
       stands = x.stands;
       own = x.own ∙ k.own;
@@ -117,9 +117,9 @@ module _ (m : Machine) (s : Shadowed) (g : GuestState) (c : Counts) (e : Exit) (
       fewer = subst (λ n. unfilled s2 < n) as_many x.fewer;
     }
 
-    pub done_behind : (b : Bool) → StepsOrRefills may b port port' m1 s1 g c m2 s2 g2 c2 → StepsOrRefills may b port port' m s g c m2 s2 g2 c2
-    done_behind true x = steps_behind x
-    done_behind false x = (refills_behind x.0, x.1, x.2)
+    pub done_after : (b : Bool) → StepsOrRefills may b port port' m1 s1 g c m2 s2 g2 c2 → StepsOrRefills may b port port' m s g c m2 s2 g2 c2
+    done_after true x = steps_after x
+    done_after false x = (refills_after x.0, x.1, x.2)
 
 -- by the exit of the guarded run
 module _ (m : Machine) (s : Shadowed) (g : GuestState) (terms : ℕ) (m1 : Machine) (s1 : Shadowed) (g1 : GuestState) where
@@ -148,7 +148,7 @@ module _ {Port : Type 0} (may : Port → List ℕ → Type 0) (port port' : Port
         let own : g1 ≡ g = stays.guest in
         let again = subst (λ x. StaysGuarded m s g e m1 s1 x) own stays in
         let now = subst (λ x. IsMet may b port port' m1 s1 x c m2 s2 g2 c2) own met in
-        done_behind m s g c e m1 s1 again stands may port port' m2 s2 g2 c2 b (met_done may b port port' m1 s1 g c m2 s2 g2 c2 now)
+        done_after m s g c e m1 s1 again stands may port port' m2 s2 g2 c2 b (met_done may b port port' m1 s1 g c m2 s2 g2 c2 now)
 
 -- a page of which the machine met a clear modify bit, while that in the guest's own tables is set
 pub may_write : (m : Machine) (s : Shadowed) (g : GuestState) (e : Exit) (va : ℕ) → e ≡ Modify va → StandsFor m.memory s g → Meets e m.memory s g → is_clear (guest_of m.memory g) va ≡ false → CanAllow va m s g

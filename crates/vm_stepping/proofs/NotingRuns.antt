@@ -33,7 +33,7 @@ by_act h after trap (Traps t) k = absurd k
 by_act h after trap (Probes i o) k = ap (note_of_probed h) k.1 ∙ ap (note_of_trap after) (sym k.3)
 
 pub note_left : (h after : Guest) (trap : Option ℕ) → Leaves h after trap → note_of_instruction h ≡ note_of_trap after trap
-note_left h after trap k = note_is h ∙ ap (note_by_try h) k.try ∙ by_act h after trap k.act k.behind
+note_left h after trap k = note_is h ∙ ap (note_by_try h) k.try ∙ by_act h after trap k.act k.later
 
 -- a guarded instruction that retired
 module _ (m : Machine) (s : Shadowed) (g : GuestState) (terms : ℕ) (m1 : Machine) (s1 : Shadowed) (g1 : GuestState) (e : Exit) (k : IsGuarded e m s g terms m1 s1 g1) where

@@ -88,25 +88,25 @@ module _ (m : Machine) (s : Shadowed) (g : GuestState) (e : Exit) (m1 : Machine)
       let less : to_miss s1 (touches_now (guest_of m.memory g)) ≤ to_miss s (touches_now (guest_of m.memory g)) = (filled_stay s s1 t.present kept).fewer (touches_now (guest_of m.memory g)) in
       subst (λ h. Owes owed (touches_now h) s1 t) (sym same) (record { has = (filled_stay s s1 t.present kept).has o.has; within = omega (arith, less, o.within) })
 
-  settles_behind : Settles (missed_by e) m1 s1 g m2 s2 → Settles 0 m s g m2 s2
-  settles_behind x = record {
+  settles_after : Settles (missed_by e) m1 s1 g m2 s2 → Settles 0 m s g m2 s2
+  settles_after x = record {
     more = missed_by e + x.more;
     misses = misses_then (missed_by e) x.more m.misses m1.misses m2.misses first x.misses;
     settles = λ owed t o. subst (λ n. IsSettled owed n t (touching_step (guest_of m.memory g) (executed (guest_of m.memory g)) t) s2) (none_more (missed_by e + x.more))
         (subst (λ h. IsSettled owed (missed_by e + x.more) t (touching_step h (executed h) t) s2) same (x.settles owed t (owes_on owed t o)));
   }
 
-  owes_behind : OwesStill (missed_by e) m1 s1 g m2 s2 → OwesStill 0 m s g m2 s2
-  owes_behind x = record {
+  owes_after : OwesStill (missed_by e) m1 s1 g m2 s2 → OwesStill 0 m s g m2 s2
+  owes_after x = record {
     more = missed_by e + x.more;
     misses = misses_then (missed_by e) x.more m.misses m1.misses m2.misses first x.misses;
     owes = λ owed t o. subst (λ n. Owes (owed + n) (touches_now (guest_of m.memory g)) s2 t) (none_more (missed_by e + x.more))
         (subst (λ h. Owes (owed + (missed_by e + x.more)) (touches_now h) s2 t) same (x.owes owed t (owes_on owed t o)));
   }
 
-  pub pays_behind : (b : Bool) → PaysFor b (missed_by e) m1 s1 g m2 s2 → PaysFor b 0 m s g m2 s2
-  pays_behind true x = settles_behind x
-  pays_behind false x = owes_behind x
+  pub pays_after : (b : Bool) → PaysFor b (missed_by e) m1 s1 g m2 s2 → PaysFor b 0 m s g m2 s2
+  pays_after true x = settles_after x
+  pays_after false x = owes_after x
 
 -- by the exit of the guarded run
 module _ (m : Machine) (s : Shadowed) (g : GuestState) (terms : ℕ) (m1 : Machine) (s1 : Shadowed) (g1 : GuestState) (stands : StandsFor m.memory s g) (e : Exit) (k : IsGuarded e m s g terms m1 s1 g1) where
@@ -121,4 +121,4 @@ module _ (m : Machine) (s : Shadowed) (g : GuestState) (terms : ℕ) (m1 : Machi
     other_pays b not_budget not_arithmetic pays =
         let stays = stays_by m s g terms m1 s1 g1 e not_budget not_arithmetic k in
         let own : g1 ≡ g = stays.guest in
-        pays_behind m s g e m1 s1 (subst (λ x. StaysGuarded m s g e m1 s1 x) own stays) m2 s2 b (subst (λ x. PaysFor b (missed_by e) m1 s1 x m2 s2) own pays)
+        pays_after m s g e m1 s1 (subst (λ x. StaysGuarded m s g e m1 s1 x) own stays) m2 s2 b (subst (λ x. PaysFor b (missed_by e) m1 s1 x m2 s2) own pays)

@@ -175,8 +175,8 @@ module _ (all n : ℕ) (m : Machine) (s : Shadowed) (g : GuestState) (ran : Ran)
   abbrev trap_in : Kind → Stepped
   trap_in j = initiated_in j stop (initiate stop (excs.Arithmetic kind))
 
-  abbrev behind : Run
-  behind = with_trap kind (run1 all n m s g ran m1 g1 some most k)
+  abbrev later : Run
+  later = with_trap kind (run1 all n m s g ran m1 g1 some most k)
 
   pub trap_on : PaysOn (counted_left all) (plain_left (all - ran.done)) m s g m2 s2 g2
   trap_on = record {
@@ -193,15 +193,15 @@ module _ (all n : ℕ) (m : Machine) (s : Shadowed) (g : GuestState) (ran : Ran)
         let least : t.count + owed ≤ w.at.count + w.comes.owed = w.comes.count in
         let none : missed_by ran.exit ≡ 0 = ap missed_by is in
         let rest : all - ran.done ≡ k.left + (all - n) = omega (arith, k.budget, most) in
-        let now : (executed before).guest ≡ behind.guest = ap (λ (y : Stepped). y.guest) w.step ∙ same_guest (steps.Plain w.term) Idle stop (initiate stop (excs.Arithmetic kind)) in
+        let now : (executed before).guest ≡ later.guest = ap (λ (y : Stepped). y.guest) w.step ∙ same_guest (steps.Plain w.term) Idle stop (initiate stop (excs.Arithmetic kind)) in
         record {
           at = u;
           still = 0;
           owes = (subst (λ (y : Stepped). HasPresent s2 (touching_step before y w.at).present) (sym w.step) (steps_keep w.memory s w.before x w.at s2 w.keeps w.serves w.found moves w.comes.owes.has), refl);
           counts = omega (arith, within, counted, least, none);
           is = all_touches all n m s g ran m1 g1 some most k t ∙ ap (λ e. touching_steps (all - n) (goes_on e k.left (run1 all n m s g ran m1 g1 some most k)).guest (touching_counted n start t)) is
-              ∙ ap (touching_steps (all - n) (after_steps k.left behind).guest) (w.is ∙ ap (λ (z : Guest). touching_steps k.left z u) now)
-              ∙ sym (touches_follow k.left (all - n) behind u) ∙ ap (λ j. touching_steps j behind.guest u) (sym rest) ∙ ap (λ (z : Guest). touching_steps (all - ran.done) z u) (sym (makes Idle).guest);
+              ∙ ap (touching_steps (all - n) (after_steps k.left later).guest) (w.is ∙ ap (λ (z : Guest). touching_steps k.left z u) now)
+              ∙ sym (touches_follow k.left (all - n) later u) ∙ ap (λ j. touching_steps j later.guest u) (sym rest) ∙ ap (λ (z : Guest). touching_steps (all - ran.done) z u) (sym (makes Idle).guest);
         };
   }
 

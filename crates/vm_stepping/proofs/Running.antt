@@ -235,10 +235,10 @@ module _ (all n : ℕ) (m : Machine) (s : Shadowed) (g : GuestState) (c c1 : Cou
   with_budget is e = subst (λ x. Proceeds may (counted_left all) x port port m s g c m1 s g1 c1) (sym e) (subst (λ x. Proceeds may (counted_left all) (plain_left (all - ran.done)) port port m s g c m1 s g1 x) (sym same) (ends_budget all n m s g c ran m1 g1 stands some most small k is may port))
 
   module _ (m2 : Machine) (s2 : Shadowed) (g2 : GuestState) where
-    pub with_trap_behind : (kind : ℕ) → ran.exit ≡ Arithmetic kind → left ≡ plain_left (all - ran.done) →
+    pub with_trap_after : (kind : ℕ) → ran.exit ≡ Arithmetic kind → left ≡ plain_left (all - ran.done) →
         let trap = initiated_in Idle (guest_of m1.memory g1) (initiate (guest_of m1.memory g1) (excs.Arithmetic kind)) in
         MakesStep trap m1 s g1 m2 s2 g2 → Appends may port port' trap.shown → Proceeds may (counted_left all) left port port' m s g c m2 s2 g2 c1
-    with_trap_behind kind is e makes shows = subst (λ x. Proceeds may (counted_left all) x port port' m s g c m2 s2 g2 c1) (sym e) (subst (λ x. Proceeds may (counted_left all) (plain_left (all - ran.done)) port port' m s g c m2 s2 g2 x) (sym same) (ends_trap all n m s g c ran m1 g1 stands some most small k kind is m2 s2 g2 may port port' makes shows))
+    with_trap_after kind is e makes shows = subst (λ x. Proceeds may (counted_left all) x port port' m s g c m2 s2 g2 c1) (sym e) (subst (λ x. Proceeds may (counted_left all) (plain_left (all - ran.done)) port port' m s g c m2 s2 g2 x) (sym same) (ends_trap all n m s g c ran m1 g1 stands some most small k kind is m2 s2 g2 may port port' makes shows))
 
     pub trap_falls_so : (kind : ℕ) → ran.exit ≡ Arithmetic kind → left ≡ plain_left (all - ran.done) → to_do left s2 < to_do (counted_left all) s
     trap_falls_so kind is e = subst (λ x. to_do x s2 < to_do (counted_left all) s) (sym e) (trap_falls all n m s g c ran m1 g1 stands some most small k kind is m2 s2 g2)

@@ -4,10 +4,7 @@ use Rattle.vax_arch.specs.Fields.{is_modified}
 use Rattle.vax_arch.specs.Walk.{page_of, with_modify}
 use Rattle.vax_hw.specs.Machine.{Machine}
 use Rattle.vax_hw.specs.Real.{misses_after}
-use Rattle.vax_hw.specs.declared.world.World.{World}
 use Rattle.vax_hw.specs.declared.world.Exit.{Exit}
-use Rattle.vm_bursts.specs.Ran.{rise}
-use Rattle.vm_bursts.specs.declared.bursts.Ended.{Ended}
 use Rattle.vax_hw.specs.declared.world.Exit.TheVariants.{Arithmetic, Budget, Denied, Emulate, Modify, NotValid, Refused}
 use Rattle.vax_table.specs.Tries.{Clear}
 use Rattle.vm_miss_laws.specs.Runs.{Reaches}
@@ -183,10 +180,3 @@ IsGuarded (Denied va write) m s g terms m' s' g' = StaysGuarded m s g (Denied va
 IsGuarded (Modify va) m s g terms m' s' g' = StaysGuarded m s g (Modify va) m' s' g'
 IsGuarded (Emulate t) m s g terms m' s' g' = StaysGuarded m s g (Emulate t) m' s' g'
 IsGuarded (Refused r) m s g terms m' s' g' = StaysGuarded m s g (Refused r) m' s' g'
-
--- one instruction, with the machine's registers and counts
-pub record RunsOne (m : Machine) (s : Shadowed) (g : GuestState) (w : World) (ended : Ended) (m' : Machine) (s' : Shadowed) : Type 0 where
-  pub tried : (opened : List ℕ) → RunsGuest opened (record m { world = w }) s g → IsTried ended.exit opened (record m { world = w }) s g m' s'
-  pub terms : ended.terms ≡ rise m.trail m'.trail
-  pub world : ended.world ≡ m'.world
-  pub trail : m.trail < 2 ^ 64

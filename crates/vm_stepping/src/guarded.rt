@@ -1,6 +1,6 @@
 ghost use Rattle.std.specs.Prelude.{◌≡◌, ◌≤◌, ◌+◌, ◌*◌, ℕ, List, length};
 ghost use Rattle.vax_arch.specs.Walk.{page_of};
-ghost use Rattle.vm_stepping.specs.Guarded.{CanAllow, CanClose, ClosesAfter, GrantsOrOpens, IsGuarded, IsTried, RunsOne, RunsSome, is_retired};
+ghost use Rattle.vm_stepping.specs.Guarded.{CanAllow, CanClose, ClosesAfter, GrantsOrOpens, IsGuarded, IsTried, RunsSome, is_retired};
 ghost use Rattle.vm_shadow.specs.Layout.{IsCovered};
 ghost use Rattle.vm_shadow.specs.Shadowed.{Fits};
 ghost use Rattle.vm_shadow.specs.StandsFor.{HasModifiedPage, StandsFor, own_number};
@@ -9,8 +9,8 @@ ghost use Rattle.vm_state.specs.Partition.{guest_of};
 ghost use Rattle.vm_state.specs.Translation.{is_clear};
 
 use vax_arch::{Lookup, Pte};
-use vax_hw::{Exit, Hardware, World};
-use vm_bursts::{Ended, Ran, take_back};
+use vax_hw::{Exit, Hardware};
+use vm_bursts::{Ran, take_back};
 use vm_shadow::Shadow;
 use vm_state::GuestState;
 use vm_walk::look_up;
@@ -50,7 +50,7 @@ fn allow<H: Hardware>(machine: &mut H, s: &mut Shadow, va: u32) -> Option<u32>
 }
 
 /// Closes a page that was opened. After an instruction that retired, what was read from its frame is dropped.
-fn close_behind<H: Hardware>(
+fn close_after<H: Hardware>(
     machine: &mut H,
     s: &mut Shadow,
     va: u32,
@@ -99,31 +99,8 @@ fn complete_written<H: Hardware>(machine: &mut H, s: &mut Shadow, g: &GuestState
 {
     let frame = allow(machine, s, va);
     let exit = complete(machine, s, g);
-    close_behind(machine, s, va, frame, &exit);
+    close_after(machine, s, va, frame, &exit);
     exit
-}
-
-/// Runs the guest's instruction, with its registers loaded.
-fn run_one<H: Hardware>(
-    machine: &mut H,
-    s: &mut Shadow,
-    g: &GuestState,
-    w: &World,
-    va: u32,
-) -> Ended
-    requires runs { RunsSome (record (H.machine machine.old) { world = w.now }) s.old g.now }
-    requires written { CanAllow va (record (H.machine machine.old) { world = w.now }) s.old g.now }
-    ensures { RunsOne (H.machine machine.old) s.old g.now w.now result (H.machine machine.new) s.new }
-{
-    let trail = machine.trail();
-    machine.load_world(w);
-    let exit = complete_written(machine, s, g, va);
-    Ended {
-        exit,
-        done: u64::from(is_retired(&exit)),
-        terms: machine.trail().wrapping_sub(trail),
-        world: machine.save_world(),
-    }
 }
 
 /// Runs one instruction of a guest, whose step is counted, where the machine met a clear modify bit at an address, and that of
@@ -134,12 +111,13 @@ pub fn run_guarded<H: Hardware>(machine: &mut H, s: &mut Shadow, g: &mut GuestSt
     requires written { CanAllow va (H.machine machine.old) s.old g.old }
     ensures { IsGuarded result.exit (H.machine machine.old) s.old g.old result.terms (H.machine machine.new) s.new g.new }
 {
-    let world = s.world(g);
-    let ended = run_one(machine, s, g, &world, va);
-    take_back(g, &ended.world);
+    let trail = machine.trail();
+    machine.load_world(&s.world(g));
+    let exit = complete_written(machine, s, g, va);
+    take_back(g, &machine.save_world());
     Ran {
-        done: u32::from(is_retired(&ended.exit)),
-        terms: ended.terms,
-        exit: ended.exit,
+        done: u32::from(is_retired(&exit)),
+        terms: machine.trail().wrapping_sub(trail),
+        exit,
     }
 }

@@ -82,14 +82,14 @@ fn meet_told<H: Hardware, T: Port>(
     port: &mut T,
     counts: &mut Counts,
     note: &mut Note,
-    exit: Exit,
+    exit: &Exit,
 ) -> bool
     requires stands { StandsFor (H.machine machine.old).memory s.old g.old }
     requires room { steps_in counts.old < 2 ^ 32 }
-    requires told { ExitIsMet exit (H.machine machine.old).memory s.old g.old }
-    requires reaches { Reaches exit (H.machine machine.old).memory s.old g.old }
+    requires told { ExitIsMet exit.now (H.machine machine.old).memory s.old g.old }
+    requires reaches { Reaches exit.now (H.machine machine.old).memory s.old g.old }
     ensures met { IsMet T.may result port.old port.new (H.machine machine.old) s.old g.old counts.old (H.machine machine.new) s.new g.new counts.new }
-    ensures pays { PaysFor result (missed_by exit) (H.machine machine.old) s.old g.old (H.machine machine.new) s.new }
+    ensures pays { PaysFor result (missed_by exit.now) (H.machine machine.old) s.old g.old (H.machine machine.new) s.new }
     ensures note { NotesMet result (note_by_try (guest_of (H.machine machine.old).memory g.old) (guest_try (guest_of (H.machine machine.old).memory g.old))) note.new }
 {
     match exit {
@@ -100,8 +100,8 @@ fn meet_told<H: Hardware, T: Port>(
             port,
             counts,
             note,
-            va,
-            intent_of(write),
+            *va,
+            intent_of(*write),
         ),
         Exit::Denied { va, write } => meet_missing(
             machine,
@@ -110,16 +110,16 @@ fn meet_told<H: Hardware, T: Port>(
             port,
             counts,
             note,
-            va,
-            intent_of(write),
+            *va,
+            intent_of(*write),
         ),
         Exit::Modify { va } => {
-            meet_clear(machine, s, g, port, counts, note, va);
+            meet_clear(machine, s, g, port, counts, note, *va);
             true
         }
-        Exit::Emulate(t) => sense(machine, s, g, port, counts, note, &t),
+        Exit::Emulate(t) => sense(machine, s, g, port, counts, note, t),
         Exit::Refused(refusal) => {
-            refuse(machine, s, g, port, counts, note, refusal);
+            refuse(machine, s, g, port, counts, note, *refusal);
             true
         }
         Exit::Budget => false,
@@ -146,7 +146,7 @@ fn run_alone<H: Hardware, T: Port>(
     ensures note { NotesMet result (note_of_instruction (guest_of (H.machine machine.old).memory g.old)) note.new }
 {
     let ran = run_guarded(machine, s, g, va);
-    match ran.exit {
+    match &ran.exit {
         Exit::Budget => {
             counts.retire(1, ran.terms);
             *note = Note::Nothing;
@@ -154,7 +154,7 @@ fn run_alone<H: Hardware, T: Port>(
         }
         Exit::Arithmetic { kind } => {
             counts.retire(1, ran.terms);
-            *note = begin(machine, s, g, port, Exc::Arithmetic(kind));
+            *note = begin(machine, s, g, port, Exc::Arithmetic(*kind));
             true
         }
         exit => meet_told(machine, s, g, port, counts, note, exit),
@@ -169,19 +169,19 @@ pub fn meet<H: Hardware, T: Port>(
     port: &mut T,
     counts: &mut Counts,
     note: &mut Note,
-    exit: Exit,
+    exit: &Exit,
 ) -> bool
     requires stands { StandsFor (H.machine machine.old).memory s.old g.old }
     requires room { steps_in counts.old < 2 ^ 32 }
-    requires meets { Meets exit (H.machine machine.old).memory s.old g.old }
-    requires reaches { Reaches exit (H.machine machine.old).memory s.old g.old }
+    requires meets { Meets exit.now (H.machine machine.old).memory s.old g.old }
+    requires reaches { Reaches exit.now (H.machine machine.old).memory s.old g.old }
     ensures is { StepsOrRefills T.may result port.old port.new (H.machine machine.old) s.old g.old counts.old (H.machine machine.new) s.new g.new counts.new }
-    ensures pays { PaysFor result (missed_by exit) (H.machine machine.old) s.old g.old (H.machine machine.new) s.new }
+    ensures pays { PaysFor result (missed_by exit.now) (H.machine machine.old) s.old g.old (H.machine machine.new) s.new }
     ensures note { NotesMet result (note_of_instruction (guest_of (H.machine machine.old).memory g.old)) note.new }
 {
     if let Exit::Modify { va } = exit {
-        if !is_clear(machine, g, va) {
-            return run_alone(machine, s, g, port, counts, note, va);
+        if !is_clear(machine, g, *va) {
+            return run_alone(machine, s, g, port, counts, note, *va);
         }
     }
     meet_told(machine, s, g, port, counts, note, exit)

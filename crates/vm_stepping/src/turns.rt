@@ -77,10 +77,10 @@ fn run_on<H: Hardware, T: Port>(
     counts.retire(ran.done, ran.terms);
     *note = Note::Nothing;
     let left = left - ran.done;
-    match ran.exit {
+    match &ran.exit {
         Exit::Budget => Left::of(left),
         Exit::Arithmetic { kind } => {
-            *note = begin(machine, s, g, port, Exc::Arithmetic(kind));
+            *note = begin(machine, s, g, port, Exc::Arithmetic(*kind));
             Left::of(left)
         }
         exit => {

@@ -67,7 +67,7 @@ fn system_entry(g: &GuestState, page: u32) -> Lookup
 }
 
 /// The process entry at a virtual address, whose page's own entry is at the physical place `table`.
-fn behind_table<H: Hardware>(machine: &H, g: &GuestState, at: u32, table: u64) -> Lookup
+fn after_table<H: Hardware>(machine: &H, g: &GuestState, at: u32, table: u64) -> Lookup
     requires partition { 512 * (g.now.base + g.now.pages) ≤ length (H.machine machine.now).memory }
     requires small { table < 2 ^ 60 }
     requires few { g.now.pages ≤ 65536 }
@@ -98,7 +98,7 @@ fn process_entry<H: Hardware>(machine: &H, g: &GuestState, at: u32) -> Lookup
     if page / REGION != 2 || g.slr <= page % REGION {
         return NO_TABLE;
     }
-    behind_table(machine, g, at, in_system_table(g, page % REGION))
+    after_table(machine, g, at, in_system_table(g, page % REGION))
 }
 
 /// The entry of a process page, by its number in the region, in the table from a base on.

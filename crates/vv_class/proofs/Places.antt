@@ -85,8 +85,8 @@ bars_second one two b ran stuck ran_two stuck_two more (c, after, is, e) =
     let text : a ++ 59 ∷ d ≡ written one ++ 59 ∷ rest =
     sym (append_assoc a (codes ";") d) ∙ e ∙ append_assoc (written one ++ 59 ∷ written two) (b ∷ more) after ∙ append_assoc (written one) (59 ∷ written two) (b ∷ (more ++ after)) in
     let parts = one_split a (written one) (59 ∷ d) (59 ∷ rest) (end_of c.secrecy run.0 c.secrecy_cats) one run.1 (ends c.secrecy run.0 c.secrecy_cats (59 ∷ d)) ran stuck text in
-    let behind : d ++ [] ≡ rest = append-nil d ∙ ap (λ (p : Part). drop 1 p.rest) parts in
-    let none = one_split d (written two) [] (b ∷ (more ++ after)) (end_of c.integrity last.0 c.integrity_cats) two last.1 tt ran_two stuck_two behind in
+    let later : d ++ [] ≡ rest = append-nil d ∙ ap (λ (p : Part). drop 1 p.rest) parts in
+    let none = one_split d (written two) [] (b ∷ (more ++ after)) (end_of c.integrity last.0 c.integrity_cats) two last.1 tt ran_two stuck_two later in
     let short : 0 ≡ suc (length (more ++ after)) = ap (λ (p : Part). length p.rest) none in
     omega arith
 

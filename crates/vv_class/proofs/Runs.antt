@@ -45,8 +45,8 @@ digit_is d below = and_from _ _ (le-leb 48 (48 + d) (omega arith)) (le-leb (48 +
 abbrev pub at_level : Half
 at_level = record { next = Level; number = 0; least = 0; level = 0; cats = 0 }
 
-abbrev pub behind_level : ℕ → Half
-behind_level n = record { next = MoreLevel; number = n; least = 0; level = 0; cats = 0 }
+abbrev pub after_level : ℕ → Half
+after_level n = record { next = MoreLevel; number = n; least = 0; level = 0; cats = 0 }
 
 abbrev pub in_set : Next → ℕ → ℕ → ℕ → Half
 in_set next level least cats = record { next = next; number = 0; least = least; level = level; cats = cats }
@@ -54,35 +54,35 @@ in_set next level least cats = record { next = next; number = 0; least = least; 
 abbrev pub at_category : ℕ → ℕ → ℕ → ℕ → Half
 at_category level least cats k = record { next = MoreCategory; number = k; least = least; level = level; cats = cats }
 
-level_digit : (n : ℕ) → n < 10 → step_of (at_level) (48 + n) ≡ Some (behind_level n)
+level_digit : (n : ℕ) → n < 10 → step_of (at_level) (48 + n) ≡ Some (after_level n)
 unfolding step_of
 level_digit n below =
     let value : 48 + n - 48 ≡ n = omega arith in
     if_true (is_digit (48 + n)) (with_level (at_level) (48 + n - 48)) None (digit_is n below)
-    ∙ ap (λ k. with_level (at_level) k) value ∙ if_true (nat_le n 255) (Some (behind_level n)) None (le-leb n 255 (omega arith))
+    ∙ ap (λ k. with_level (at_level) k) value ∙ if_true (nat_le n 255) (Some (after_level n)) None (le-leb n 255 (omega arith))
 
-level_more : (m d : ℕ) → 1 ≤ m → d < 10 → 10 * m + d < 256 → step_of (behind_level m) (48 + d) ≡ Some (behind_level (10 * m + d))
+level_more : (m d : ℕ) → 1 ≤ m → d < 10 → 10 * m + d < 256 → step_of (after_level m) (48 + d) ≡ Some (after_level (10 * m + d))
 unfolding step_of more_level
 level_more m d positive below fits =
     let value : 48 + d - 48 ≡ d = omega arith in
     let no_brace : (48 + d == 123) ≡ false = ne_eqb (48 + d) 123 (λ e. omega arith) in
-    let t : Half = behind_level m in
+    let t : Half = after_level m in
     if_false (48 + d == 123) (Some (record t { next = FirstCategory; level = m; number = 0 })) _ no_brace
     ∙ if_true (is_digit (48 + d) && nat_le 1 m) (with_level t (10 * m + (48 + d - 48))) None (and_from _ _ (digit_is d below) (le-leb 1 m positive))
-    ∙ ap (λ k. with_level t (10 * m + k)) value ∙ if_true (nat_le (10 * m + d) 255) (Some (behind_level (10 * m + d))) None (le-leb (10 * m + d) 255 (omega arith))
+    ∙ ap (λ k. with_level t (10 * m + k)) value ∙ if_true (nat_le (10 * m + d) 255) (Some (after_level (10 * m + d))) None (le-leb (10 * m + d) 255 (omega arith))
 
 -- the digits of a level
-level_digits : (n : ℕ) → n < 256 → runs (at_level) (decimal n) ≡ Some (behind_level n)
-level_digits n below = decimal_by_steps (λ n ds. n < 256 → runs (at_level) ds ≡ Some (behind_level n))
+level_digits : (n : ℕ) → n < 256 → runs (at_level) (decimal n) ≡ Some (after_level n)
+level_digits n below = decimal_by_steps (λ n ds. n < 256 → runs (at_level) ds ≡ Some (after_level n))
     (λ n small fits. ap (option_and_then (λ (t : Half). Some t)) (level_digit n small))
     (λ n ds large before fits.
     let whole : 10 * (n / 10) + n % 10 ≡ n = omega arith in
-    runs_on (at_level) (behind_level (n / 10)) ds ((48 + n % 10) ∷ []) (before (omega arith))
+    runs_on (at_level) (after_level (n / 10)) ds ((48 + n % 10) ∷ []) (before (omega arith))
     ∙ ap (option_and_then (λ (t : Half). Some t)) (level_more (n / 10) (n % 10) (omega arith) (omega arith) (omega arith))
-    ∙ ap (λ k. Some (behind_level k)) whole)
+    ∙ ap (λ k. Some (after_level k)) whole)
     n (omega arith) below
 
-level_brace : (n : ℕ) → step_of (behind_level n) 123 ≡ Some (in_set FirstCategory n 0 0)
+level_brace : (n : ℕ) → step_of (after_level n) 123 ≡ Some (in_set FirstCategory n 0 0)
 unfolding step_of more_level
 level_brace n = refl
 
@@ -196,7 +196,7 @@ half_runs level m low below =
     let set = whole_set ks level (rising_below m) in
     let total : weight ks ≡ m = weight_below 64 m ∙ omega (arith, below) in
     let opened : runs at_level (decimal level ++ codes "{") ≡ Some (in_set FirstCategory level 0 0) =
-    runs_on at_level (behind_level level) (decimal level) (codes "{") (level_digits level low) ∙ ap (option_and_then (λ (t : Half). Some t)) (level_brace level) in (
+    runs_on at_level (after_level level) (decimal level) (codes "{") (level_digits level low) ∙ ap (option_and_then (λ (t : Half). Some t)) (level_brace level) in (
       set.0,
       ap (λ (t : Half). runs t (half_text level m)) (sym start_law) ∙ ap (runs at_level) (append_assoc (decimal level ++ codes "{") (listed ks) (codes "}"))
           ∙ runs_on at_level (in_set FirstCategory level 0 0) (decimal level ++ codes "{") (listed ks ++ codes "}") opened

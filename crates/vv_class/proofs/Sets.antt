@@ -197,11 +197,11 @@ one_more start text comma cats k is written lead_is =
     ap (λ (xs : List ℕ). xs ++ comma ++ decimal k) written ∙ ap (λ (xs : List ℕ). xs ++ decimal k) (append_assoc start (listed ks) comma ∙ ap (λ (xs : List ℕ). start ++ xs) lead_is)
     ∙ append_assoc start (lead ks) (decimal k) ∙ sym (ap (λ (xs : List ℕ). start ++ listed xs) (below_kept cats k is) ∙ ap (λ (xs : List ℕ). start ++ xs) (listed-push ks k))
 
-lead_behind : (ks : List ℕ) (k : ℕ) → listed (ks ++ k ∷ []) ++ codes "," ≡ lead (ks ++ k ∷ [])
-lead_behind [] k = refl
-lead_behind (a ∷ ks) k = refl
+lead_after : (ks : List ℕ) (k : ℕ) → listed (ks ++ k ∷ []) ++ codes "," ≡ lead (ks ++ k ∷ [])
+lead_after [] k = refl
+lead_after (a ∷ ks) k = refl
 
 pub comma_more : (cats k : ℕ) → has_category cats k ≡ true → listed (categories_below (k + 1) cats) ++ codes "," ≡ lead (categories_below (k + 1) cats)
 comma_more cats k is =
     let kept = below_kept cats k is in
-    ap (λ (ks : List ℕ). listed ks ++ codes ",") kept ∙ lead_behind (categories_below k cats) k ∙ sym (ap lead kept)
+    ap (λ (ks : List ℕ). listed ks ++ codes ",") kept ∙ lead_after (categories_below k cats) k ∙ sym (ap lead kept)

@@ -12,16 +12,16 @@ use Rattle.vv_gen.specs.Volumes.{block_of, blocks_drawn, volumes_of}
 use Rattle.vv_gen.specs.Workload.{Generated, workload_of}
 use Rattle.vv_gen.proofs.Accepting.{accepted}
 use Rattle.vv_gen.proofs.Ranges.{eight_guests}
-use Rattle.vv_gen.proofs.Drawing.{behind_one, next_draws, state_behind}
+use Rattle.vv_gen.proofs.Drawing.{after_one, next_draws, state_after}
 
 pub made : (number a b d : ℕ) (w : Generated) → a ≡ next number → b ≡ after_draws a 8 → d ≡ after_draws b 4096
     → w.config ≡ generated_config (1 + draw number 0 % 1000) → w.images ≡ images_of (draw a) → w.volumes ≡ volumes_of (draw b) → w.events ≡ events_drawn (draw d) → w.rounds ≡ 20
     → w ≡ workload_of number
 unfolding workload_of
 made number a b d w one nine all config images volumes events rounds =
-    let at_one : a ≡ after_draws number 1 = one ∙ behind_one number in
-    let at_nine : b ≡ after_draws number 9 = state_behind number 1 8 9 a b at_one nine refl in
-    let at_all : d ≡ after_draws number 4105 = state_behind number 9 4096 4105 b d at_nine all refl in
+    let at_one : a ≡ after_draws number 1 = one ∙ after_one number in
+    let at_nine : b ≡ after_draws number 9 = state_after number 1 8 9 a b at_one nine refl in
+    let at_all : d ≡ after_draws number 4105 = state_after number 9 4096 4105 b d at_nine all refl in
     let same_images : w.images ≡ images_of (draws_after 1 number) = images ∙ ap images_of (next_draws number 1 a at_one) in
     let same_volumes : w.volumes ≡ volumes_of (draws_after 9 number) = volumes ∙ ap volumes_of (next_draws number 9 b at_nine) in
     let same_events : w.events ≡ events_drawn (draws_after 4105 number) = events ∙ ap events_drawn (next_draws number 4105 d at_all) in

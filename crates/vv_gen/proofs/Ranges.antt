@@ -35,12 +35,12 @@ pushed {X} f n before after x made push same =
     push ∙ ap on made ∙ ap with same ∙ one_more f n
 
 -- the same after a first element
-pub pushed_behind : {X : Type 0} (first : X) (f : ℕ → X) (n : ℕ) (before after : List X) (x : X) → before ≡ first ∷ map f (range_with_len 0 n) → after ≡ before ++ x ∷ [] → x ≡ f n
+pub pushed_after : {X : Type 0} (first : X) (f : ℕ → X) (n : ℕ) (before after : List X) (x : X) → before ≡ first ∷ map f (range_with_len 0 n) → after ≡ before ++ x ∷ [] → x ≡ f n
     → after ≡ first ∷ map f (range_with_len 0 (n + 1))
-pushed_behind {X} first f n before after x made push same =
+pushed_after {X} first f n before after x made push same =
     let on : List X → List X = λ l. l ++ x ∷ [] in
-    let behind : List X → List X = λ l. first ∷ l in
-    push ∙ ap on made ∙ ap behind (pushed f n (map f (range_with_len 0 n)) (map f (range_with_len 0 n) ++ x ∷ []) x refl refl same)
+    let later : List X → List X = λ l. first ∷ l in
+    push ∙ ap on made ∙ ap later (pushed f n (map f (range_with_len 0 n)) (map f (range_with_len 0 n) ++ x ∷ []) x refl refl same)
 
 -- the same of lists that are seen by parts
 pub pushed_seen : {X Y : Type 0} (seen : Y → X) (f : ℕ → X) (n : ℕ) (before after : List Y) (y : Y) → map seen before ≡ map f (range_with_len 0 n) → after ≡ before ++ y ∷ [] → seen y ≡ f n

@@ -46,7 +46,7 @@ fn typed(alloc: Global, digit: u8, which: u8) -> Result<Typed, NoMemory>
 }
 
 /// The event of a round: a terminal, and what happens there.
-#[tactic(auto, using(crate::proofs::Drawing::second_draw, crate::proofs::Drawing::behind_two))]
+#[tactic(auto, using(crate::proofs::Drawing::second_draw, crate::proofs::Drawing::after_two))]
 fn drawn_event(alloc: Global, draws: &mut Draws, round: u32) -> Result<Event, NoMemory>
     ensures event { IfOk result (λ e. e ≡ event_of round (draw draws.old.state)) }
     ensures goes { OnOk result (draws.new.state ≡ after_draws draws.old.state 2) }
@@ -61,7 +61,7 @@ fn drawn_event(alloc: Global, draws: &mut Draws, round: u32) -> Result<Event, No
 }
 
 /// One event in each round.
-#[tactic(auto, using(crate::proofs::Drawing::behind_none))]
+#[tactic(auto, using(crate::proofs::Drawing::after_none))]
 pub fn drawn_events(alloc: Global, draws: &mut Draws) -> Result<Vec<Event>, NoMemory>
     ensures { IfOk result (λ v. v.items ≡ events_drawn (draw draws.old.state)) }
 {

@@ -14,7 +14,7 @@ use std::alloc::Global;
 use vv_base::NoMemory;
 
 /// An image for each guest, with a period that is drawn.
-#[tactic(auto, using(crate::proofs::Drawing::behind_none))]
+#[tactic(auto, using(crate::proofs::Drawing::after_none))]
 fn drawn_images(alloc: Global, draws: &mut Draws) -> Result<Vec<Vec<u8>>, NoMemory>
     ensures images { IfOk result (λ v. map (λ b. b.items) v.items ≡ images_of (draw draws.old.state)) }
     ensures goes { OnOk result (draws.new.state ≡ after_draws draws.old.state 8) }

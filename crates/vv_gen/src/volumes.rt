@@ -10,7 +10,7 @@ use std::alloc::Global;
 use vv_base::NoMemory;
 
 /// Draws each byte in order.
-#[tactic(auto, using(crate::proofs::Drawing::behind_none))]
+#[tactic(auto, using(crate::proofs::Drawing::after_none))]
 fn fill(block: &mut [u8], draws: &mut Draws)
     ensures block { block.new ≡ map (λ i. draw draws.old.state i % 256) (range_with_len 0 (length block.old)) }
     ensures goes { draws.new.state ≡ after_draws draws.old.state (length block.old) }
@@ -32,7 +32,7 @@ fn drawn_block(draws: &mut Draws) -> [u8; 512]
 }
 
 /// A volume whose bytes are drawn in order.
-#[tactic(auto, using(crate::proofs::Drawing::behind_none))]
+#[tactic(auto, using(crate::proofs::Drawing::after_none))]
 fn drawn_blocks(alloc: Global, draws: &mut Draws) -> Result<Vec<[u8; 512]>, NoMemory>
     ensures blocks { IfOk result (λ blocks. blocks.items ≡ blocks_drawn (draw draws.old.state)) }
     ensures goes { OnOk result (draws.new.state ≡ after_draws draws.old.state 4096) }

@@ -33,10 +33,10 @@ served_unseen c row mounts g (at ∷ queue) volumes none =
     (λ i. here i ++ (served c row mounts one.guest queue one.volumes).puts) ∙ served_unseen c row mounts one.guest queue one.volumes none
 
 -- what a line is shown in the one round
-console_bytes : (k : ℕ) (shown : List ℕ) (behind : List Put) → behind ≡ [] → bytes_on k (((on_console (Some 0) shown ++ []) ++ (behind ++ [])) ++ []) ≡ (if 0 == k then shown else [])
-console_bytes k shown behind none =
+console_bytes : (k : ℕ) (shown : List ℕ) (later : List Put) → later ≡ [] → bytes_on k (((on_console (Some 0) shown ++ []) ++ (later ++ [])) ++ []) ≡ (if 0 == k then shown else [])
+console_bytes k shown later none =
     let own = on_console (Some 0) shown in
-    let whole : ((own ++ []) ++ (behind ++ [])) ++ [] ≡ own = append-nil _ ∙ (λ i. (own ++ []) ++ (none i ++ [])) ∙ append-nil (own ++ []) ∙ append-nil own in
+    let whole : ((own ++ []) ++ (later ++ [])) ++ [] ≡ own = append-nil _ ∙ (λ i. (own ++ []) ++ (none i ++ [])) ∙ append-nil (own ++ []) ∙ append-nil own in
     ap (bytes_on k) whole ∙ bytes_of_console k (Some 0) shown
 
 -- the sum of one guest's steps in one round
@@ -49,15 +49,15 @@ pub runs_alone : RunsAlone
 runs_alone a image =
     let g = powered (solo_guest a) image in
     let own = alone a.steps g in
-    let behind : List Put = (served (solo_config a) (solo_guest a) (solo_guest a).mounts (with_no_queue own.guest) own.guest.state.queue []).puts in
-    let none : behind ≡ [] = served_unseen (solo_config a) (solo_guest a) (solo_guest a).mounts (with_no_queue own.guest) own.guest.state.queue [] refl in
+    let later : List Put = (served (solo_config a) (solo_guest a) (solo_guest a).mounts (with_no_queue own.guest) own.guest.state.queue []).puts in
+    let none : later ≡ [] = served_unseen (solo_config a) (solo_guest a) (solo_guest a).mounts (with_no_queue own.guest) own.guest.state.queue [] refl in
     let last = dump_of (codes "A") (served_alone a own.guest) in
     record {
-      console = ap (λ xs. xs ++ []) (console_bytes 0 own.shown behind none) ∙ append-nil own.shown;
-      dump = ap (λ xs. xs ++ last) (console_bytes 1 own.shown behind none);
+      console = ap (λ xs. xs ++ []) (console_bytes 0 own.shown later none) ∙ append-nil own.shown;
+      dump = ap (λ xs. xs ++ last) (console_bytes 1 own.shown later none);
       others = λ k h.
           let zero_apart : (0 == k) ≡ false = ne_eqb 0 k (λ e. omega (arith, e, h)) in
           let one_apart : (1 == k) ≡ false = ne_eqb 1 k (λ e. omega (arith, e, h)) in
-          (λ i. (console_bytes k own.shown behind none ∙ ap (λ b. if b then own.shown else []) zero_apart) i ++ (if one_apart i then last else []));
+          (λ i. (console_bytes k own.shown later none ∙ ap (λ b. if b then own.shown else []) zero_apart) i ++ (if one_apart i then last else []));
       counts = one_sum own.tally (trail_fits a.steps g);
     }

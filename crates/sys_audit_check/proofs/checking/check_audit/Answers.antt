@@ -19,14 +19,14 @@ pub loop-rest-smaller : goal.loop-rest-smaller
 loop-rest-smaller c =
     let some : 0 < length c.loop-rest.rest.now = omega (arith, eqb-false (length c.loop-rest.rest.now) 0 (sym c.is_empty.ensures ∙ c.loop-rest-test.true)) in
     let shorter : length (after_first_line c.loop-rest.rest.now) < length c.loop-rest.rest.now = rest_shorter c.loop-rest.rest.now some in
-    subst (λ bytes. length bytes < length c.loop-rest.rest.now) (sym c.cut_line.ensures.behind) shorter
+    subst (λ bytes. length bytes < length c.loop-rest.rest.now) (sym c.cut_line.ensures.later) shorter
 
 pub loop-rest-preserved : goal.loop-rest-preserved
 loop-rest-preserved c =
     let some : 0 < length c.loop-rest.rest.now = omega (arith, eqb-false (length c.loop-rest.rest.now) 0 (sym c.is_empty.ensures ∙ c.loop-rest-test.true)) in
     let next : followed c.args.c.now c.loop-rest.replay (first_line c.loop-rest.rest.now) ≡ Some c.in-Some.next = ap (followed c.args.c.now c.loop-rest.replay) (sym c.cut_line.ensures.line) ∙ sym c.followed.ensures ∙ c.in-Some.is in
     let reached : Reached c.args.c.now c.args.b.now (c.loop-rest.line + 1) c.in-Some.next (after_first_line c.loop-rest.rest.now) = goes_further c.args.c.now c.requires.config c.args.b.now c.loop-rest.line c.loop-rest.replay c.loop-rest.rest.now some c.loop-rest.invariant c.in-Some.next next in
-    subst (λ bytes. Reached c.args.c.now c.args.b.now (c.loop-rest.line + 1) c.in-Some.next bytes) (sym c.cut_line.ensures.behind) reached
+    subst (λ bytes. Reached c.args.c.now c.args.b.now (c.loop-rest.line + 1) c.in-Some.next bytes) (sym c.cut_line.ensures.later) reached
 
 pub returns : goal.returns
 returns c =

@@ -6,12 +6,12 @@ use Rattle.sys_audit_check.proofs.checking.cut_line.Goals as goal
 pub returns-in-Some-clause-line : goal.returns-in-Some-clause-line
 returns-in-Some-clause-line c = (line_with_feed c.args.bytes.now c.in-Some.at (sym c.in-Some.ensures.value)).0
 
-pub returns-in-Some-clause-behind : goal.returns-in-Some-clause-behind
-returns-in-Some-clause-behind c =
+pub returns-in-Some-clause-later : goal.returns-in-Some-clause-later
+returns-in-Some-clause-later c =
     take_all _ (drop (c.in-Some.at + 1) c.args.bytes.now) (omega (arith, length-drop {A = ℕ})) ∙ (line_with_feed c.args.bytes.now c.in-Some.at (sym c.in-Some.ensures.value)).1
 
 pub returns-in-None-clause-line : goal.returns-in-None-clause-line
 returns-in-None-clause-line c = (line_without_feed c.args.bytes.now (sym c.in-None.ensures.value)).0
 
-pub returns-in-None-clause-behind : goal.returns-in-None-clause-behind
-returns-in-None-clause-behind c = (line_without_feed c.args.bytes.now (sym c.in-None.ensures.value)).1
+pub returns-in-None-clause-later : goal.returns-in-None-clause-later
+returns-in-None-clause-later c = (line_without_feed c.args.bytes.now (sym c.in-None.ensures.value)).1

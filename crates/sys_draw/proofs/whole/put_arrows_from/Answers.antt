@@ -1,7 +1,7 @@
 use Rattle.std.proofs.Common.{◌∙◌, ap, sym}
 use Rattle.sys_flow.specs.Reach.{has_edge}
 use Rattle.sys_draw.specs.Picture.{arrow_of, edge_to}
-use Rattle.sys_draw.proofs.Behind.{behind, nothing_behind, chosen_more, chosen_left}
+use Rattle.sys_draw.proofs.Later.{later, nothing_after, chosen_more, chosen_left}
 use Rattle.sys_draw.proofs.whole.put_arrows_from.Goals as goal
 use Rattle.sys_draw.proofs.whole.put_arrows_from.Goals.{then-edge+in_ok-put_arrow_of, else-edge}
 
@@ -10,6 +10,6 @@ loop-b-preserved c =
     let part = arrow_of c.args.c.now c.args.letters c.args.spots.now in
     let passes = has_edge c.args.c.now c.args.a in
     elim c.if-edge.branch [
-      | then-edge+in_ok-put_arrow_of w ↦ behind _ _ _ _ _ _ c.loop-b.invariant (ap (λ t. t.items) w.text-is ∙ w.in_ok-put_arrow_of.ensures) (chosen_more part (edge_to c.args.a) passes c.loop-b.b (sym c.edge.ensures ∙ w.if-edge.true))
-      | else-edge w ↦ nothing_behind _ _ _ _ _ c.loop-b.invariant (ap (λ t. t.items) w.text-is) (chosen_left part (edge_to c.args.a) passes c.loop-b.b (sym c.edge.ensures ∙ w.if-edge.false))
+      | then-edge+in_ok-put_arrow_of w ↦ later _ _ _ _ _ _ c.loop-b.invariant (ap (λ t. t.items) w.text-is ∙ w.in_ok-put_arrow_of.ensures) (chosen_more part (edge_to c.args.a) passes c.loop-b.b (sym c.edge.ensures ∙ w.if-edge.true))
+      | else-edge w ↦ nothing_after _ _ _ _ _ c.loop-b.invariant (ap (λ t. t.items) w.text-is) (chosen_left part (edge_to c.args.a) passes c.loop-b.b (sym c.edge.ensures ∙ w.if-edge.false))
     ]

@@ -4,7 +4,7 @@ use Rattle.vasm_read.proofs.Lines.{lines_cut, lines_whole, cut_shorter}
 use Rattle.vasm_read.proofs.line.first_line.Goals as goal
 
 pub returns-in-Some-clause-cut : goal.returns-in-Some-clause-cut
-returns-in-Some-clause-cut c = lines_cut c.args.text.now _ (sym c.in-Some.ensures) ∙ ap (λ (line : List ℕ). line ∷ lines c.in-Some.pieces.behind.now) (sym c.without_return.ensures)
+returns-in-Some-clause-cut c = lines_cut c.args.text.now _ (sym c.in-Some.ensures) ∙ ap (λ (line : List ℕ). line ∷ lines c.in-Some.pieces.later.now) (sym c.without_return.ensures)
 
 pub returns-in-Some-clause-shorter : goal.returns-in-Some-clause-shorter
 returns-in-Some-clause-shorter c = cut_shorter (λ b. b == 10) c.args.text.now _ (sym c.in-Some.ensures)

@@ -1,5 +1,5 @@
 use Rattle.std.proofs.Common.{drop, length-drop, arith}
-use Rattle.vasm_read.proofs.Behind.{none_left}
+use Rattle.vasm_read.proofs.Later.{none_left}
 use Rattle.vasm_read.proofs.statement.operands_in.Goals as goal
 
 pub returns-in-None : goal.returns-in-None

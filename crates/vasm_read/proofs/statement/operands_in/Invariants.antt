@@ -3,11 +3,11 @@ use Rattle.std.proofs.Common.{◌≡◌, drop}
 use Rattle.arrayvec.specs.ArrayVec.{array_vec_len}
 use Rattle.vasm_text.specs.Operands.{operands_in}
 use Rattle.vasm_read.specs.Views.{operands_view}
-use Rattle.vasm_read.proofs.Behind.{behind}
+use Rattle.vasm_read.proofs.Later.{later}
 use Rattle.vasm_read.proofs.statement.operands_in.Given as goal
 
 abbrev pub invariant-loop-form : goal.invariant-loop-form
 invariant-loop-form l = record {
   count : array_vec_len l.operands ≡ l.form-index;
-  rest : behind (operands_view l.operands) (operands_in (drop l.form-index l.forms) (option_copied l.rest)) ≡ operands_in l.fn.forms (option_copied l.fn.text);
+  rest : later (operands_view l.operands) (operands_in (drop l.form-index l.forms) (option_copied l.rest)) ≡ operands_in l.fn.forms (option_copied l.fn.text);
 }

@@ -10,4 +10,4 @@ returns c =
     let m : Machine = with_registers c.args.plan.now.r c.args.state.now in
     let known = c.if-not-attempt_known.ensures in
     let done = attempt_retires c.args.state.now c.retire.new.self c.args.plan.now.r c.args.kept.now.prepared.decoded.opcode (effect c.attempt_known.new.plan) (known.attempted refl) c.retire.ensures in
-    (c.sum_behind-total.ensures, λ n. runs_on n m _ (rw (known.untrapped refl) at done))
+    (c.sum_after-total.ensures, λ n. runs_on n m _ (rw (known.untrapped refl) at done))

@@ -21,5 +21,5 @@ returns-in-Answers-default-true g c =
 
 pub returns-in-Answers-default-false : goal.returns-in-Answers-default-false
 returns-in-Answers-default-false g c =
-    probe_done c.args.i c.args.t.now (g.H.Hardware.machine c.args.machine.now) c.args.s.now c.args.g.now c.requires c.in-Answers-default-false.is_accessible c.in-Answers-default-false.is_plain c.go_behind.new.g c.set_probed.new.g
-    c.in-Answers-default-false.ensures c.in-Answers-default-false.is_plain-test c.go_behind.ensures.state c.go_behind.ensures.place c.set_probed.ensures.state c.set_probed.ensures.place
+    probe_done c.args.i c.args.t.now (g.H.Hardware.machine c.args.machine.now) c.args.s.now c.args.g.now c.requires c.in-Answers-default-false.is_accessible c.in-Answers-default-false.is_plain c.go_after.new.g c.set_probed.new.g
+    c.in-Answers-default-false.ensures c.in-Answers-default-false.is_plain-test c.go_after.ensures.state c.go_after.ensures.place c.set_probed.ensures.state c.set_probed.ensures.place

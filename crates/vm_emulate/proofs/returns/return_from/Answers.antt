@@ -12,9 +12,9 @@ pub returns-in-Ok : goal.returns-in-Ok
 returns-in-Ok g c =
     let m = g.H.Hardware.machine c.args.machine.now in
     let whole = guest_of m.memory c.args.g.now in
-    returns_done m c.args.g.now c.args.t.now c.go_behind.new.g c.return_to.new.g c.in-Ok.popped
+    returns_done m c.args.g.now c.args.t.now c.go_after.new.g c.return_to.new.g c.in-Ok.popped
     (subst (ArePopped whole (outcome (space_of whole) (two_popped (slice_index c.args.t.now.regs 14)))) c.in-Ok.is c.read_popped.ensures)
-    (sym c.rei_allowed.ensures ∙ c.if-rei_allowed.true) c.go_behind.ensures.state c.go_behind.ensures.place c.return_to.ensures.state c.return_to.ensures.place
+    (sym c.rei_allowed.ensures ∙ c.if-rei_allowed.true) c.go_after.ensures.state c.go_after.ensures.place c.return_to.ensures.state c.return_to.ensures.place
 
 pub returns-in-Ok-2 : goal.returns-in-Ok-2
 returns-in-Ok-2 g c =

@@ -10,8 +10,8 @@ returns-in-Ok g c =
 pub returns-in-Ok-2 : goal.returns-in-Ok-2
 returns-in-Ok-2 g c =
     saves_done (g.H.Hardware.machine c.args.machine.now) c.args.s.now c.args.g.now c.args.t.now c.requires c.read_popped.result c.in-Ok.field-0 c.read_popped.ensures c.in-Ok.is
-    c.go_behind_pops.new.g c.go_on_interrupt_stack.new.g c.saved_longs-longs.result (g.H.Hardware.machine c.store_longs.new.machine) c.store_longs.new.s
-    (sym c.is_block_past.ensures ∙ c.if-is_block_past.false) c.go_behind_pops.ensures.state c.go_behind_pops.ensures.place
+    c.go_after_pops.new.g c.go_on_interrupt_stack.new.g c.saved_longs-longs.result (g.H.Hardware.machine c.store_longs.new.machine) c.store_longs.new.s
+    (sym c.is_block_past.ensures ∙ c.if-is_block_past.false) c.go_after_pops.ensures.state c.go_after_pops.ensures.place
     c.saved_longs-longs.ensures (omega arith) c.store_longs.ensures c.go_on_interrupt_stack.ensures.state c.go_on_interrupt_stack.ensures.place
 
 pub returns-in-Err-Faulty : goal.returns-in-Err-Faulty

@@ -21,8 +21,8 @@ pub complete_written-complete-exit-requires : goal.complete_written-complete-exi
 complete_written-complete-exit-requires g t c κs within =
     (subst (λ x. 2 * clear_bits (g.H.Hardware.machine c.allow-frame.new.machine).memory c.allow-frame.new.s + 1 < x) c.decreases (then_fewer c.requires.runs.opened (g.H.Hardware.machine c.args.machine.now) c.args.s.now c.args.g.now c.args.va c.requires.runs.runs c.requires.written.unwritten (g.H.Hardware.machine c.allow-frame.new.machine) c.allow-frame.new.s c.allow-frame.result c.allow-frame.ensures), (within, runs_some c.requires.runs.opened (g.H.Hardware.machine c.args.machine.now) c.args.s.now c.args.g.now c.args.va c.requires.runs.runs c.requires.written.unwritten (g.H.Hardware.machine c.allow-frame.new.machine) c.allow-frame.new.s c.allow-frame.result c.allow-frame.ensures))
 
-pub complete_written-close_behind-requires-clause-keeps : goal.complete_written-close_behind-requires-clause-keeps
-complete_written-close_behind-requires-clause-keeps g t c = can_close c.requires.runs.opened (g.H.Hardware.machine c.args.machine.now) c.args.s.now c.args.g.now c.args.va c.requires.runs.runs c.requires.written.unwritten (g.H.Hardware.machine c.allow-frame.new.machine) c.allow-frame.new.s c.allow-frame.result c.allow-frame.ensures (g.H.Hardware.machine c.complete-exit.new.machine) c.complete-exit.new.s c.complete-exit.result c.complete-exit.ensures
+pub complete_written-close_after-requires-clause-keeps : goal.complete_written-close_after-requires-clause-keeps
+complete_written-close_after-requires-clause-keeps g t c = can_close c.requires.runs.opened (g.H.Hardware.machine c.args.machine.now) c.args.s.now c.args.g.now c.args.va c.requires.runs.runs c.requires.written.unwritten (g.H.Hardware.machine c.allow-frame.new.machine) c.allow-frame.new.s c.allow-frame.result c.allow-frame.ensures (g.H.Hardware.machine c.complete-exit.new.machine) c.complete-exit.new.s c.complete-exit.result c.complete-exit.ensures
 
 pub complete_written-returns : goal.complete_written-returns
-complete_written-returns g t c = λ opened k. tried_again opened (g.H.Hardware.machine c.args.machine.now) c.args.s.now c.args.g.now c.args.va k c.requires.written.unwritten (g.H.Hardware.machine c.allow-frame.new.machine) c.allow-frame.new.s c.allow-frame.result c.allow-frame.ensures (g.H.Hardware.machine c.complete-exit.new.machine) c.complete-exit.new.s c.complete-exit.result c.complete-exit.ensures (g.H.Hardware.machine c.close_behind.new.machine) c.close_behind.new.s c.close_behind.ensures
+complete_written-returns g t c = λ opened k. tried_again opened (g.H.Hardware.machine c.args.machine.now) c.args.s.now c.args.g.now c.args.va k c.requires.written.unwritten (g.H.Hardware.machine c.allow-frame.new.machine) c.allow-frame.new.s c.allow-frame.result c.allow-frame.ensures (g.H.Hardware.machine c.complete-exit.new.machine) c.complete-exit.new.s c.complete-exit.result c.complete-exit.ensures (g.H.Hardware.machine c.close_after.new.machine) c.close_after.new.s c.close_after.ensures

@@ -11,4 +11,4 @@ pub returns-clause-note : goal.returns-clause-note
 returns-clause-note g c = notes_instruction c.meet_told.result (guest_of (g.H.Hardware.machine c.args.machine.now).memory c.args.g.now) c.meet_told.new.note c.meet_told.ensures.note
 
 pub run_alone-requires-clause-written : goal.run_alone-requires-clause-written
-run_alone-requires-clause-written g c = may_write (g.H.Hardware.machine c.args.machine.now) c.args.s.now c.args.g.now c.args.exit c.in-Modify.va c.in-Modify.is c.requires.stands c.requires.meets (sym c.is_clear.ensures ∙ c.if-not-is_clear.true)
+run_alone-requires-clause-written g c = may_write (g.H.Hardware.machine c.args.machine.now) c.args.s.now c.args.g.now c.args.exit.now c.in-Modify.va c.in-Modify.is c.requires.stands c.requires.meets (sym c.is_clear.ensures ∙ c.if-not-is_clear.true)

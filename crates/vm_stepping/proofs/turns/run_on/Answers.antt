@@ -2,7 +2,7 @@ use Rattle.std.proofs.Common.{◌-◌, true, refl}
 use Rattle.vm_state.specs.Step.{Idle}
 use Rattle.vm_state.specs.State.{state_of}
 use Rattle.vm_stepping.proofs.Beginning.{quiet_on}
-use Rattle.vm_stepping.proofs.Running.{trap_falls_so, with_budget, with_fills, with_step, with_trap_behind}
+use Rattle.vm_stepping.proofs.Running.{trap_falls_so, with_budget, with_fills, with_step, with_trap_after}
 use Rattle.vm_stepping.proofs.NotingRuns.{notes_budget, notes_fills, notes_step, notes_trap}
 use Rattle.vm_stepping.proofs.PayingRuns.{pays_budget, pays_fills, pays_step, pays_trap}
 use Rattle.vm_stepping.proofs.turns.run_on.Goals as goal
@@ -17,7 +17,7 @@ returns-in-Budget-clause-proceeds g c =
 
 pub returns-in-Arithmetic-clause-proceeds : goal.returns-in-Arithmetic-clause-proceeds
 returns-in-Arithmetic-clause-proceeds g c =
-    with_trap_behind c.args.left c.budget.result (g.H.Hardware.machine c.args.machine.now) c.args.s.now c.args.g.now c.args.counts.now c.retire.new.self c.burst-ran.result (g.H.Hardware.machine c.burst-ran.new.machine) c.burst-ran.new.g c.requires.stands c.budget.ensures.some c.budget.ensures.most c.retire.ensures.small c.burst-ran.ensures c.retire.ensures.is
+    with_trap_after c.args.left c.budget.result (g.H.Hardware.machine c.args.machine.now) c.args.s.now c.args.g.now c.args.counts.now c.retire.new.self c.burst-ran.result (g.H.Hardware.machine c.burst-ran.new.machine) c.burst-ran.new.g c.requires.stands c.budget.ensures.some c.budget.ensures.most c.retire.ensures.small c.burst-ran.ensures c.retire.ensures.is
     c.of-in-Arithmetic.result g.T.Port.may c.args.port.now c.begin.new.port (g.H.Hardware.machine c.begin.new.machine) c.begin.new.s c.begin.new.g c.in-Arithmetic.kind c.in-Arithmetic.is c.of-in-Arithmetic.ensures (c.begin.ensures.makes Idle) (c.begin.ensures.shown Idle)
 
 pub returns-in-Arithmetic-clause-falls : goal.returns-in-Arithmetic-clause-falls

@@ -8,25 +8,25 @@ loop-n-init c = record { past = skipped c.args.groups.now c.args.row c.args.self
 
 pub loop-n-preserved : goal.loop-n-preserved
 loop-n-preserved c =
-    let found : c.min-behind.result ≤ c.next-found.result = c.if-found-behind.false in
+    let found : c.min-later.result ≤ c.next-found.result = c.if-found-later.false in
     record {
-      past = in_more c.args.groups.now c.args.row c.args.self.now c.args.from c.next-found.result c.min-behind.result c.skip-n-in-loop-n.result (omega (arith, c.loop-n.invariant.past.order, c.min-behind.ensures)) found
+      past = in_more c.args.groups.now c.args.row c.args.self.now c.args.from c.next-found.result c.min-later.result c.skip-n-in-loop-n.result (omega (arith, c.loop-n.invariant.past.order, c.min-later.ensures)) found
           (subst (λ r. IsPastIn c.args.groups.now c.args.row r c.args.from c.next-found.result) c.self.view_is
-          (past_in c.self.inside.frames c.self.inside.sources.items c.self.inside.filled c.self.inside.groups c.self.invariant c.args.groups.now c.args.row c.args.from c.loop-n.n c.min-behind.result c.next-found.result c.next-found.ensures
+          (past_in c.self.inside.frames c.self.inside.sources.items c.self.inside.filled c.self.inside.groups c.self.invariant c.args.groups.now c.args.row c.args.from c.loop-n.n c.min-later.result c.next-found.result c.next-found.ensures
           (rw c.self.view_is c.loop-n.invariant.past)))
           c.skip-n-in-loop-n.ensures.skips;
       few = c.skip-n-in-loop-n.ensures.few;
     }
 
 pub loop-n-smaller : goal.loop-n-smaller
-loop-n-smaller c = let order : c.min-behind.result ≤ c.skip-n-in-loop-n.result = c.skip-n-in-loop-n.ensures.skips.order in omega (arith, c.min-behind.ensures, c.loop-n-test.true)
+loop-n-smaller c = let order : c.min-later.result ≤ c.skip-n-in-loop-n.result = c.skip-n-in-loop-n.ensures.skips.order in omega (arith, c.min-later.ensures, c.loop-n-test.true)
 
-pub returns-then-found-behind : goal.returns-then-found-behind
-returns-then-found-behind c = record {
+pub returns-then-found-later : goal.returns-then-found-later
+returns-then-found-later c = record {
   past = subst (λ r. IsPastIn c.args.groups.now c.args.row r c.args.from c.next-found.result) c.self.view_is
-      (past_in c.self.inside.frames c.self.inside.sources.items c.self.inside.filled c.self.inside.groups c.self.invariant c.args.groups.now c.args.row c.args.from c.loop-n.n c.min-behind.result c.next-found.result c.next-found.ensures
+      (past_in c.self.inside.frames c.self.inside.sources.items c.self.inside.filled c.self.inside.groups c.self.invariant c.args.groups.now c.args.row c.args.from c.loop-n.n c.min-later.result c.next-found.result c.next-found.ensures
       (rw c.self.view_is c.loop-n.invariant.past));
-  within = omega (arith, c.next-found.ensures.within, c.min-behind.ensures);
+  within = omega (arith, c.next-found.ensures.within, c.min-later.ensures);
 }
 
 pub returns : goal.returns
