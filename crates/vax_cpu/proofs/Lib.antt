@@ -4,3 +4,5 @@ pub mod Looks
 pub mod One
 pub mod Quiet
 pub mod Changes
+mod Claiming
+mod Sums

@@ -142,6 +142,14 @@ known_found memory w ks kernel psl r d m all fetch acts =
     found_on t (fetched (slice_index r 15)) (λ x. acted kernel psl x r) d m (ok_is d (outcome t (fetched (slice_index r 15))) fetch) act in
     sym (ap (λ (z : Result Meant Trouble). exits z) whole)
 
+-- the same of MOVPSL and PROBE, by what they are
+pub status_found : (memory : List ℕ) (w : World) (ks : List Known) (kernel : Bool) (psl : ℕ) (r : List ℕ) (d : Instruction) (m : Meant) (op : Operation) → AreKnown memory w ks → op ≡ operation_of d.opcode →
+    Ok d ≡ exits (outcome (paged memory w) (fetched (slice_index r 15))) → Ok m ≡ exits (outcome (known_space memory ks) (acted_by kernel psl op d r)) →
+    Ok m ≡ exits (outcome (paged memory w) (instruction kernel psl r))
+unfolding acted
+status_found memory w ks kernel psl r d m op all same fetch acts =
+    known_found memory w ks kernel psl r d m all fetch (acts ∙ ap (λ x. exits (outcome (known_space memory ks) (acted_by kernel psl x d r))) same)
+
 pub known_settled : (memory : List ℕ) (w : World) (ks : List Known) (kernel : Bool) (psl : ℕ) (r : List ℕ) (d : Instruction) (e : Effect) → AreKnown memory w ks → is_planned (operation_of d.opcode) ≡ true →
     Ok d ≡ exits (outcome (paged memory w) (fetched (slice_index r 15))) → Ok e ≡ outcome (known_space memory ks) (planned d r (psl % 2 ^ 8)) →
     None ≡ first_clear (is_clear_for memory w) (bytes_of_stores e.writes) → Ok (d.opcode, e) ≡ settled_meaning memory w (exits (outcome (paged memory w) (instruction kernel psl r)))

@@ -15,7 +15,6 @@ use Rattle.vax_table.specs.declared.act.Refusal.TheVariants as refusals
 use Rattle.vax_table.specs.declared.decoded.Decoded.{Decoded}
 use Rattle.vax_table.specs.declared.effect.Plan.{Plan}
 use Rattle.vax_table.specs.declared.evaluation.Operands.{Operands}
-use Rattle.vax_cpu.specs.declared.kept.Kept.{Kept}
 use Rattle.vax_cpu.specs.declared.perform.Act.{Act}
 use Rattle.vax_cpu.specs.declared.perform.Act.TheVariants as acts
 use Rattle.vax_cpu.specs.declared.perform.Found.{Found}
@@ -43,11 +42,6 @@ stop_exit o (stops.Emulate op) = Emulate (trap_of op o)
 abbrev pub byte_view : Result ℕ Fault → Result ℕ Exit
 byte_view (Ok b) = Ok b
 byte_view (Err f) = Err (fault_exit f)
-
--- what is kept, or why there is nothing
-abbrev pub kept_view : Result Kept Fault → Result Instruction Exit
-kept_view (Ok k) = Ok (view k.prepared.decoded)
-kept_view (Err f) = Err (fault_exit f)
 
 -- what is kept after a fetch, unless that stopped
 abbrev pub decoded_or_exit : {A : Type 0} → Decoded → Result A Fault → Result Instruction Exit

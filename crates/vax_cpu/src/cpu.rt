@@ -15,7 +15,7 @@ use crate::code::Code;
 use crate::fetch::has_known;
 use crate::in_memory::step_in_memory;
 use crate::kept::Kept;
-use crate::perform::{attempt, attempt_kept, attempt_known};
+use crate::perform::{attempt, attempt_kept, attempt_known, attempt_of_status, is_of_status};
 use crate::state::State;
 use crate::stop::{Stop, end_with};
 use arrayvec::ArrayVec;
@@ -70,8 +70,8 @@ impl Cpu {
     }
 }
 
-/// The opcode of the instruction at PC, which retires by the plan, or why it doesn't retire, by the page tables; a page that
-/// was missed is known then. `before` are the registers before it.
+/// The opcode of the instruction at PC, which retires by the plan, or why it doesn't retire, by the page tables. A page
+/// that was missed is known then, if it retires: after an exit the tables may be others. `before` are the registers before it.
 #[cold]
 #[inline(never)]
 fn attempt_walked(
@@ -86,17 +86,13 @@ fn attempt_walked(
     ensures state { state.new ≡ state.old }
 {
     plan.r = *before;
-    if missed.get() != u32::MAX {
+    let place = code.place_for(before[15]);
+    let kept = &mut code.places[place];
+    let attempt = attempt(state.memory(), state.world(), kept, o, plan);
+    if attempt.is_ok() && missed.get() != u32::MAX {
         state.learn(missed);
     }
-    let place = code.place_for(before[15]);
-    attempt(
-        state.memory(),
-        state.world(),
-        &mut code.places[place],
-        o,
-        plan,
-    )
+    attempt
 }
 
 /// The same by the pages that are known, or else by the page tables.
@@ -171,8 +167,35 @@ fn step_at_once(
     }
 }
 
-/// The instruction at PC by the pages that are known, if it is kept and retires by them: the sum of R0 to R14 after it. `total`
-/// is that sum before it.
+/// MOVPSL or PROBE at PC by the pages that are known, if it is kept and retires by them: the sum of R0 to R14 after it.
+#[cold]
+#[inline(never)]
+fn step_of_status(
+    state: &mut State,
+    missed: &Cell<u32>,
+    kept: &Kept,
+    o: &mut Values,
+    plan: &mut Plan,
+) -> Option<u64>
+    ensures { MatchOption result ((state.new ≡ state.old) × (plan.new.r ≡ plan.old.r)) (λ t. (t ≡ sum (take 15 plan.new.r)) × RunsOn (with_registers plan.old.r state.old) (with_registers plan.new.r state.new)) }
+{
+    let before = plan.r;
+    if !attempt_of_status(state, missed, kept, o, plan) {
+        plan.r = before;
+        return None;
+    }
+    let total = sum_of(&plan.r);
+    let opcode = kept.prepared.decoded.opcode;
+    if plan.writes.is_empty() {
+        state.retire_at_once(before[15], opcode, total, plan.psw, &plan.r);
+    } else {
+        state.retire(before[15], opcode, total, plan, missed);
+    }
+    Some(total)
+}
+
+/// The instruction at PC by the pages that are known, if it is kept and retires by them, and none was missed before: the sum of
+/// R0 to R14 after it. `total` is that sum before it.
 #[inline(always)]
 fn step_known(
     state: &mut State,
@@ -186,6 +209,12 @@ fn step_known(
     ensures { MatchOption result ((state.new ≡ state.old) × (plan.new.r ≡ plan.old.r)) (λ t. (t ≡ sum (take 15 plan.new.r)) × RunsOn (with_registers plan.old.r state.old) (with_registers plan.new.r state.new)) }
 {
     if kept.end == 0 {
+        if !is_of_status(kept.prepared.operation) {
+            return None;
+        }
+        return step_of_status(state, missed, kept, o, plan);
+    }
+    if missed.get() != u32::MAX {
         return None;
     }
     let before = plan.r;

@@ -1,4 +1,4 @@
-ghost use Rattle.std.specs.Prelude.{◌≡◌, ◌%◌, ◌+◌, ◌≤◌, ◌<◌, ◌^◌, ℕ, [], true, drop, length, slice_index, take, IfOk, IfSome, OnOk};
+ghost use Rattle.std.specs.Prelude.{◌≡◌, ◌%◌, ◌+◌, ◌≤◌, ◌<◌, ◌^◌, ℕ, [], true, drop, length, slice_index, take, IfSome, OnOk};
 ghost use Rattle.vax_arch.specs.declared.mode.Intent.TheVariants.{Read};
 ghost use Rattle.vax_hw.specs.RealTables.{everywhere};
 ghost use Rattle.vax_table.specs.Fetch.{fetched};
@@ -8,7 +8,7 @@ ghost use Rattle.vax_table.specs.Reading.{Whole, decoded_at};
 ghost use Rattle.vax_table.specs.Interaction.{number_at, outcome};
 ghost use Rattle.vax_table.specs.Spelling.{IsWellFormed, view};
 ghost use Rattle.vax_normal.specs.InMemory.{IsInMemory};
-ghost use Rattle.vax_cpu.specs.Fetched.{byte_view, decoded_or_exit, exits, kept_view, refusal_of};
+ghost use Rattle.vax_cpu.specs.Fetched.{byte_view, decoded_or_exit, exits, refusal_of};
 ghost use Rattle.vax_paged.specs.Known.{AreKnown};
 ghost use Rattle.vax_paged.specs.Paged.{at_byte, paged, placed};
 
@@ -218,27 +218,28 @@ fn in_memory_unless(is_normal: bool, prepared: &Prepared) -> Option<InMemory>
     in_memory_of(prepared)
 }
 
-/// An instruction with the bytes that it was decoded from, and those that come after it.
-fn keep(bytes: &[u8], window: &[u8; 24], decoded: Decoded) -> Kept
-    requires few { length bytes.now ≤ 24 }
-    requires whole { decoded.length ≤ length bytes.now }
+/// An instruction is kept, with the bytes that it was decoded from, and those that come after it.
+fn keep(kept: &mut Kept, bytes: &[u8; 24], decoded: Decoded)
     requires formed { IsWellFormed (view decoded) }
     requires spelled { decoded_at (take decoded.length bytes.now) ≡ Whole (view decoded) [] }
-    ensures { result.prepared.decoded ≡ decoded }
+    ensures { kept.new.prepared.decoded ≡ decoded }
 {
-    let mut kept = *window;
-    kept[..bytes.len()].copy_from_slice(bytes);
-    let end = end_of(&decoded);
-    let prepared = Prepared::new(decoded);
-    let normal = normal_of(&prepared);
-    Kept {
-        bytes: kept,
-        end,
-        changed: changed_register(&prepared),
-        in_memory: in_memory_unless(normal.is_some(), &prepared),
-        normal,
-        prepared,
-    }
+    kept.bytes = *bytes;
+    kept.end = end_of(&decoded);
+    kept.prepared.renew(decoded);
+    kept.changed = changed_register(&kept.prepared);
+    kept.normal = normal_of(&kept.prepared);
+    kept.in_memory = in_memory_unless(kept.normal.is_some(), &kept.prepared);
+}
+
+/// Bytes, and zeros after them.
+fn with_zeros(bytes: &[u8]) -> [u8; 24]
+    requires { length bytes.now ≤ 24 }
+    ensures { take (length bytes.now) result ≡ bytes.now }
+{
+    let mut all = [0; 24];
+    all[..bytes.len()].copy_from_slice(bytes);
+    all
 }
 
 /// A byte of an instruction.
@@ -248,19 +249,20 @@ fn fetch_byte(space: &Paged, va: u32) -> Result<u8, Fault>
     space.byte(va, false).map_err(fault_of)
 }
 
-/// The instruction at an address, by its bytes, each by its own page.
+/// The instruction at an address is decoded byte by byte, each by its own page, and kept.
 #[tactic(auto, unfolding(vax_table::specs::Fetch::fetched, vax_table::specs::Fetch::decided))]
 #[cold]
 #[inline(never)]
-fn decoded(space: &Paged, pc: u32) -> Result<Kept, Fault>
-    ensures fetched { kept_view result ≡ exits (outcome (paged space.now.memory.now space.now.world.now) (fetched pc)) }
-    ensures formed { IfOk result (λ k. IsWellFormed (view k.prepared.decoded)) }
+fn fetch_anew(space: &Paged, pc: u32, kept: &mut Kept) -> Result<(), Fault>
+    ensures fetched { decoded_or_exit kept.new.prepared.decoded result ≡ exits (outcome (paged space.now.memory.now space.now.world.now) (fetched pc)) }
+    ensures formed { OnOk result (IsWellFormed (view kept.new.prepared.decoded)) }
 {
     let mut bytes: ArrayVec<u8, 24> = ArrayVec::new();
     for _looks in (0..22u32).rev() {
         match decode(bytes.as_slice()) {
             Decode::Done(decoded) => {
-                return Ok(keep(bytes.as_slice(), &[0; 24], decoded));
+                keep(kept, &with_zeros(bytes.as_slice()), decoded);
+                return Ok(());
             }
             Decode::NeedMore => match fetch_byte(space, pc.wrapping_add(bytes.len() as u32)) {
                 Ok(byte) => bytes.push(byte),
@@ -282,19 +284,8 @@ fn respell(space: &Paged, pc: u32, place: u32, kept: &mut Kept)
 {
     let bytes = window(space, pc, place);
     if let Decode::Done(decoded) = decode(&bytes) {
-        *kept = keep(&bytes, &bytes, decoded);
+        keep(kept, &bytes, decoded);
     }
-}
-
-/// The instruction at an address is decoded byte by byte, and kept.
-#[cold]
-#[inline(never)]
-fn fetch_anew(space: &Paged, pc: u32, kept: &mut Kept) -> Result<(), Fault>
-    ensures fetched { decoded_or_exit kept.new.prepared.decoded result ≡ exits (outcome (paged space.now.memory.now space.now.world.now) (fetched pc)) }
-    ensures formed { OnOk result (IsWellFormed (view kept.new.prepared.decoded)) }
-{
-    *kept = decoded(space, pc)?;
-    Ok(())
 }
 
 /// The instruction at an address, which is kept, and taken where it was kept already. It is decoded once where all its bytes

@@ -1,13 +1,45 @@
-ghost use Rattle.std.specs.Prelude.{◌≡◌, sum, take, MatchOption};
+ghost use Rattle.std.specs.Prelude.{◌≡◌, sum, take, IfSome, MatchOption};
 ghost use Rattle.vax_table.specs.Spelling.{view};
-ghost use Rattle.vax_normal.specs.InMemory.{IsInMemory};
+ghost use Rattle.vax_normal.specs.InMemory.{HasClaimed, IsInMemory, reach_address};
+ghost use Rattle.vax_paged.specs.InPage.{IsOpenAt};
+ghost use Rattle.vax_paged.specs.Known.{AreKnown, known_space};
 ghost use Rattle.vax_cpu.specs.Completed.{RunsOn, with_registers};
 
 use crate::fetch::has_known;
 use crate::kept::Kept;
 use crate::state::State;
 use std::cell::Cell;
+use vax_hw::World;
 use vax_normal::{After, InMemory};
+use vax_paged::{Mapped, number_in};
+
+/// The place of what a form claims, and the number there; where it claims nothing they don't matter.
+#[derive(Clone, Copy)]
+struct Claimed {
+    place: usize,
+    number: u32,
+}
+
+/// What a form claims, where that lies in one known page.
+#[inline(always)]
+fn claim(space: &Mapped, world: &World, form: &InMemory, r: &[u32; 16]) -> Option<Claimed>
+    requires { AreKnown space.now.memory.now world.now space.now.known.now }
+    ensures number { IfSome result (λ c. HasClaimed (known_space space.now.memory.now space.now.known.now) form.now.writes r.now c.number) }
+    ensures place { IfSome result (λ c. IfSome form.now.writes (λ p. IsOpenAt space.now.memory.now world.now space.now.known.now (reach_address p r.now) form.now.width c.place)) }
+{
+    let Some(reach) = &form.writes else {
+        return Some(Claimed {
+            place: 0,
+            number: 0,
+        });
+    };
+    let place = space.open_place(world, reach.address(r), form.width)?;
+    let number = number_in(space.memory, place, form.width);
+    Some(Claimed {
+        place,
+        number: (number % 0x1_0000_0000) as u32,
+    })
+}
 
 /// The instruction at PC over pages that are known, of which this is the normal form in memory: the sum of R0 to R14 after it,
 /// if it is done.
@@ -29,7 +61,8 @@ pub fn step_in_memory(
     if !has_known(&space, state.world(), kept, pc) {
         return None;
     }
-    let found = form.find(&space, r, state.psw())?;
+    let claimed = claim(&space, state.world(), form, r)?;
+    let found = form.find(&space, r, state.psw(), claimed.number)?;
     let opcode = kept.prepared.decoded.opcode;
     match form.store(r, found.value) {
         None => {
@@ -38,15 +71,12 @@ pub fn step_in_memory(
             Some(total)
         }
         Some(store) => {
-            if !space.may_store(state.world(), &[store]) {
-                return None;
-            }
             let total = form.finish(found.value, r, total);
             let after = After {
                 psw: found.psw,
                 total,
             };
-            state.retire_with(pc, opcode, after, &[store], r, missed);
+            state.retire_storing(pc, opcode, after, claimed.place, &store, r);
             Some(total)
         }
     }

@@ -5,7 +5,7 @@ ghost use Rattle.vax_table.specs.Operations.{operation_of};
 ghost use Rattle.vax_table.specs.Plan.{is_planned};
 ghost use Rattle.vax_table.specs.Interaction.{outcome};
 ghost use Rattle.vax_table.specs.Spelling.{IsWellFormed, view};
-ghost use Rattle.vax_table.specs.Whole.{acted, first_operand, instruction, is_always_done, meant, plain_meaning, probe_of, trap_of, trapping};
+ghost use Rattle.vax_table.specs.Whole.{acted, first_operand, instruction, is_always_done, meant, plain_meaning, probe_of, probing, trap_of, trapping};
 ghost use Rattle.vax_table.specs.declared.effect.Plan.{Plan};
 ghost use Rattle.vax_table.specs.declared.evaluation.Operands.{Operands};
 ghost use Rattle.vax_table.specs.declared.meaning.Operation.TheVariants.{MoveStatus};
@@ -189,9 +189,8 @@ fn plain<S: Space>(
 
 /// MOVPSL.
 #[tactic(auto, unfolding(vax_table::specs::Plan::plan_of), using(vax_table::proofs::Scripts::binds))]
-#[cold]
-#[inline(never)]
-fn move_status<S: Space>(
+#[inline(always)]
+fn moves_status<S: Space>(
     s: &S,
     kept: &Kept,
     psl: Psl,
@@ -206,6 +205,40 @@ fn move_status<S: Space>(
     begin(plan, (psl.0 % 0x100) as u8);
     plan.put(o.dests[0], Width::Long, u64::from(psl.0));
     Ok(Act::Plain)
+}
+
+/// The same out of line.
+#[cold]
+#[inline(never)]
+fn move_status<S: Space>(
+    s: &S,
+    kept: &Kept,
+    psl: Psl,
+    o: &mut Values,
+    plan: &mut Plan,
+) -> Result<Act, Stop>
+    requires formed { IsWellFormed (view kept.now.prepared.decoded) }
+    requires moves { operation_of kept.now.prepared.decoded.opcode ≡ MoveStatus }
+    ensures { acts_of kept.now.prepared.decoded.opcode (operands_with_registers o.new plan.new.r) plan.new result ≡ exits (outcome (S.space s.now) (plain_meaning psl.0 (view kept.now.prepared.decoded) plan.old.r)) }
+{
+    moves_status(s, kept, psl, o, plan)
+}
+
+/// PROBE after its operands, which go to `o` and the plan's registers.
+#[tactic(auto, unfolding(vax_table::specs::Whole::acted), using(vax_table::proofs::Scripts::binds))]
+#[inline(always)]
+fn probes<S: Space>(
+    s: &S,
+    intent: Intent,
+    kept: &Kept,
+    o: &mut Values,
+    plan: &mut Plan,
+) -> Result<Act, Stop>
+    requires { IsWellFormed (view kept.now.prepared.decoded) }
+    ensures { acts_of kept.now.prepared.decoded.opcode (operands_with_registers o.new plan.new.r) plan.new result ≡ exits (outcome (S.space s.now) (probing intent (view kept.now.prepared.decoded) plan.old.r)) }
+{
+    evaluate_into(s, &kept.prepared, &mut plan.r, o).map_err(stop_of)?;
+    Ok(Act::Probes(intent))
 }
 
 /// The outcome of an instruction that is kept, in kernel mode or not, with the PSL that MOVPSL stores. The plan's registers
@@ -233,8 +266,7 @@ pub fn carry_out<S: Space>(
             return Err(Stop::Fault(Fault::Refused(Refusal::Instruction)));
         }
         Operation::Probe(intent) => {
-            evaluate_into(s, &kept.prepared, &mut plan.r, o).map_err(stop_of)?;
-            return Ok(Act::Probes(intent));
+            return probes(s, intent, kept, o, plan);
         }
         Operation::MoveStatus => {
             return move_status(s, kept, psl, o, plan);
@@ -335,6 +367,63 @@ pub fn attempt_known(
             None => space.may_store(world, plan.writes.as_slice()),
         },
         Err(_) => false,
+    }
+}
+
+/// Whether an operation is MOVPSL's or PROBE's.
+pub fn is_of_status(operation: Operation) -> bool {
+    matches!(operation, Operation::MoveStatus | Operation::Probe(_))
+}
+
+/// What MOVPSL or PROBE at PC comes to, where it is kept, and all that it refers to lies in pages that are known. The plan's
+/// registers are those before it, in place of the world's.
+#[inline(always)]
+fn find_of_status(
+    state: &State,
+    missed: &Cell<u32>,
+    kept: &Kept,
+    o: &mut Values,
+    plan: &mut Plan,
+) -> Option<Act>
+    ensures { IfSome result (λ a. Ok (meant kept.now.prepared.decoded.opcode (meaning_of (operands_with_registers o.new plan.new.r) plan.new a)) ≡ exits (outcome (paged state.now.memory state.now.world) (instruction (in_kernel state.now.world) (seen_psl state.now.world) plan.old.r))) }
+{
+    let world = state.world();
+    let space = state.mapped(missed);
+    let pc = plan.r[15];
+    if !has_known_in_page(&space, world, kept, pc) {
+        return None;
+    }
+    match kept.prepared.operation {
+        Operation::Probe(intent) => match probes(&space, intent, kept, o, plan) {
+            Ok(act) => Some(act),
+            Err(_) => None,
+        },
+        Operation::MoveStatus => match moves_status(&space, kept, seen_psl(world), o, plan) {
+            Ok(act) => Some(act),
+            Err(_) => None,
+        },
+        _ => None,
+    }
+}
+
+/// Whether MOVPSL or PROBE at PC retires by the plan, where it is kept, and all that it refers to lies in pages that are
+/// known. The plan's registers are those before it, in place of the world's; of what it is where this answers no nothing is
+/// said.
+pub fn attempt_of_status(
+    state: &State,
+    missed: &Cell<u32>,
+    kept: &Kept,
+    o: &mut Values,
+    plan: &mut Plan,
+) -> bool
+    ensures untrapped { result ≡ true → plan.new.trap ≡ None }
+    ensures attempted { result ≡ true → Ok (kept.now.prepared.decoded.opcode, effect plan.new) ≡ settled_meaning state.now.memory state.now.world (exits (outcome (paged state.now.memory state.now.world) (instruction (in_kernel state.now.world) (seen_psl state.now.world) plan.old.r))) }
+{
+    match find_of_status(state, missed, kept, o, plan) {
+        Some(act) => {
+            settle(state.memory(), state.world(), act, o, plan).is_ok() && plan.trap.is_none()
+        }
+        None => false,
     }
 }
 

@@ -1,10 +1,11 @@
-ghost use Rattle.std.specs.Prelude.{◌≡◌, true, None, ◌+◌, ◌*◌, ◌≤◌, ◌<◌, ◌/◌, ◌^◌, ℕ, length, slice_index, sum, take, IfOk};
+ghost use Rattle.std.specs.Prelude.{◌≡◌, [], ◌∷◌, true, None, ◌+◌, ◌*◌, ◌≤◌, ◌<◌, ◌/◌, ◌^◌, ℕ, length, slice_index, sum, take, IfOk};
 ghost use Rattle.vv_base.specs.Bytes.{long_at, long_bytes, overwritten};
 ghost use Rattle.vax_hw.specs.Machine.{Machine, machine_tables, psl_with_psw, psw_of, zeros};
 ghost use Rattle.vax_hw.specs.Real.{misses_after};
 ghost use Rattle.vax_table.specs.Effects.{effect};
 ghost use Rattle.vax_normal.specs.Normal.{quietly};
 ghost use Rattle.vax_cpu.specs.Completed.{completed_but_registers};
+ghost use Rattle.vax_paged.specs.InPage.{IsStoreInPage};
 ghost use Rattle.vax_paged.specs.Known.{AreKnown};
 
 use std::alloc::Global;
@@ -13,7 +14,7 @@ use std::marker::Model;
 use vax_exec::Plan;
 use vax_hw::{Exit, Psl, World};
 use vax_normal::After;
-use vax_paged::{KnownPages, Mapped, Paged, store_all};
+use vax_paged::{KnownPages, Mapped, Paged, store_all, store_at};
 use vax_table::effect::Store;
 use vv_base::{NoMemory, get_u32, put_u32};
 
@@ -218,7 +219,7 @@ impl State {
     /// An instruction at an address has retired: its stores are made, the status word is that after it, and it is counted.
     /// `after` has the sum of R0 to R14, and `r` are the registers.
     #[inline(always)]
-    pub fn retire_with(
+    fn retire_with(
         &mut self,
         pc: u32,
         opcode: u8,
@@ -257,6 +258,30 @@ impl State {
             total,
         };
         self.retire_with(pc, opcode, after, plan.writes.as_slice(), &plan.r, missed);
+    }
+
+    /// The same of one that makes one store, in one page at this place. `after` has the sum of R0 to R14, and `r` are the
+    /// registers.
+    #[inline(always)]
+    pub fn retire_storing(
+        &mut self,
+        pc: u32,
+        opcode: u8,
+        after: After,
+        place: usize,
+        store: &Store,
+        r: &[u32; 16],
+    )
+        requires sum { after.total ≡ sum (take 15 r.now) }
+        requires place { IsStoreInPage self.old.memory self.old.world store.now place }
+        ensures { self.new ≡ completed_but_registers pc opcode (record { r = r.now; psw = after.psw; writes = store.now ∷ []; trap = None }) self.old }
+    {
+        let psl = with_psw(self.world.psl, after.psw);
+        let own = u64::from(pc) + 3 * u64::from(opcode);
+        self.trail = self.trail.wrapping_add(own).wrapping_add(after.total);
+        self.retired = self.retired.wrapping_add(1);
+        store_at(&mut self.memory, &self.world, &mut self.known, place, store);
+        self.world.psl = psl;
     }
 
     /// The status word.

@@ -4,3 +4,4 @@ pub mod InMemory
 pub mod Touched
 pub mod ShownNormal
 pub mod ShownInMemory
+pub mod Widths

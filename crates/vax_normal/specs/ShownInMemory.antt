@@ -58,7 +58,7 @@ is_neither h = refl
 
 -- MOVB (R1)+,(R2)+: what is read is stored at R2 as it was, and both go on
 abbrev copy : 0 < 15 → 1 < 15 → 2 < 15 → Byte ≢ Quad → InMemory
-copy z h k g = record { op = Move; width = Byte; first = read z; second = constant 0 z; register = 15; reads = Some (reach 1 0 1 Byte h g); writes = Some (reach 2 0 1 Byte k g); length = 3; narrow = g }
+copy z h k g = record { op = Move; width = Byte; first = read z; second = constant 0 z; register = 15; reads = Some (reach 1 0 1 Byte h g); writes = Some (reach 2 0 1 Byte k g); length = 3; narrow = g; claims = refl }
 
 pub copied : (z : 0 < 15) (h : 1 < 15) (k : 2 < 15) (g : Byte ≢ Quad) → (done_in_memory (copy z h k g) 0x41 0 registers 0).writes ≡ store 0x3800 Byte 0x41 ∷ []
 unfolding done_in_memory alu_of
@@ -71,7 +71,7 @@ copied_on z h k g = refl
 
 -- INCL (R2): 1 and what is claimed, which is stored there; nothing is read, and 0xffffffff becomes 0 with Z and C
 abbrev counted_up : 0 < 15 → 2 < 15 → Long ≢ Quad → InMemory
-counted_up z k g = record { op = Add; width = Long; first = constant 1 z; second = claimed z; register = 15; reads = None; writes = Some (reach 2 0 0 Long k g); length = 2; narrow = g }
+counted_up z k g = record { op = Add; width = Long; first = constant 1 z; second = claimed z; register = 15; reads = None; writes = Some (reach 2 0 0 Long k g); length = 2; narrow = g; claims = refl }
 
 pub around : (z : 0 < 15) (k : 2 < 15) (g : Long ≢ Quad) → (done_in_memory (counted_up z k g) 0 0xffffffff registers 0).writes ≡ store 0x3800 Long 0 ∷ []
 unfolding done_in_memory alu_of
@@ -83,6 +83,6 @@ around_codes z k g = refl
 
 -- MOVL (R1)+,R1: the result comes after the step
 pub result_last : (z : 0 < 15) (h : 1 < 15) (g : Long ≢ Quad) →
-    slice_index (done_in_memory (record { op = Move; width = Long; first = read z; second = constant 0 z; register = 1; reads = Some (reach 1 0 4 Long h g); writes = None; length = 3; narrow = g }) 0x55 0 registers 0).r 1 ≡ 0x55
+    slice_index (done_in_memory (record { op = Move; width = Long; first = read z; second = constant 0 z; register = 1; reads = Some (reach 1 0 4 Long h g); writes = None; length = 3; narrow = g; claims = tt }) 0x55 0 registers 0).r 1 ≡ 0x55
 unfolding done_in_memory alu_of
 result_last z h g = refl

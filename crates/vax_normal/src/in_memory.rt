@@ -1,8 +1,8 @@
 ghost use Rattle.std.specs.Prelude.{◌≡◌, [], ◌∷◌, sum, take, IfSome, MatchOption};
-ghost use Rattle.vax_normal.specs.InMemory.{IsFoundIn, finished, sourced_by, stored};
+ghost use Rattle.vax_normal.specs.InMemory.{HasClaimed, IsFoundIn, finished, sourced_by, stored};
 
 use crate::carry_out::{go_on, put};
-use crate::reach::{claim_by, read_by, step_by};
+use crate::reach::{read_by, step_by};
 use crate::shape::{InMemory, Source};
 use vax_alu::alu;
 use vax_operand::Space;
@@ -26,13 +26,13 @@ impl Source {
 }
 
 impl InMemory {
-    /// What it finds, if its references are in a space and it doesn't trap.
+    /// What it finds where this is claimed, if what it reads is in a space and it doesn't trap.
     #[inline(always)]
-    pub fn find<S: Space>(&self, space: &S, r: &[u32; 16], psw: u8) -> Option<Found>
+    pub fn find<S: Space>(&self, space: &S, r: &[u32; 16], psw: u8, claimed: u32) -> Option<Found>
+        requires { HasClaimed (S.space space.now) self.now.writes r.now claimed }
         ensures { IfSome result (IsFoundIn self.now (S.space space.now) r.now psw) }
     {
         let read = read_by(space, &self.reads, r)?;
-        let claimed = claim_by(space, &self.writes, r)?;
         let first = self.first.value(r, read, claimed);
         let second = self.second.value(r, read, claimed);
         let x = alu(self.op, first, second, self.width, psw);

@@ -1,5 +1,5 @@
 ghost use Rattle.std.specs.Prelude.{◌≡◌, sum, take, IfSome};
-ghost use Rattle.vax_normal.specs.InMemory.{HasClaimed, HasRead, reach_address, reach_stepped, stepped_by};
+ghost use Rattle.vax_normal.specs.InMemory.{HasRead, reach_address, reach_stepped, stepped_by};
 ghost use Rattle.vax_normal.specs.Touched.{IsReachOf};
 
 use crate::make::is_narrow;
@@ -55,20 +55,6 @@ pub fn read_by<S: Space>(space: &S, reach: &Option<Reach>, r: &[u32; 16]) -> Opt
         return Some(0);
     };
     match space.read(reach.address(r), reach.width) {
-        Ok(v) => Some((v % 0x1_0000_0000) as u32),
-        Err(_) => None,
-    }
-}
-
-/// The number that a reference claims, if there is one, or else 0.
-#[inline(always)]
-pub fn claim_by<S: Space>(space: &S, reach: &Option<Reach>, r: &[u32; 16]) -> Option<u32>
-    ensures { IfSome result (λ v. HasClaimed (S.space space.now) reach.now r.now v) }
-{
-    let Some(reach) = reach else {
-        return Some(0);
-    };
-    match space.claim(reach.address(r), reach.width) {
         Ok(v) => Some((v % 0x1_0000_0000) as u32),
         Err(_) => None,
     }

@@ -1,5 +1,6 @@
-ghost use Rattle.std.specs.Prelude.{◌≢◌, ◌<◌};
+ghost use Rattle.std.specs.Prelude.{◌≡◌, ◌≢◌, ◌<◌, IfSome};
 ghost use Rattle.vv_base.specs.declared.width.Width.TheVariants.{Quad};
+ghost use Rattle.vax_normal.specs.Widths.{width-prop};
 
 use vax_table::{AluOp, Condition};
 use vv_base::Width;
@@ -85,4 +86,5 @@ pub struct InMemory {
     pub writes: Option<Reach>,
     pub length: u32,
     ghost narrow: { width ≢ Quad },
+    ghost claims: { IfSome writes (λ p. p.width ≡ width) } by { width-prop (λ p. p.width) writes width },
 }

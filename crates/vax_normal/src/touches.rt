@@ -228,6 +228,16 @@ fn put_by(target: Target, operands: &[Operand], writes: &Option<Reach>) -> Optio
     }
 }
 
+/// Whether a reference, if there is one, is to so wide a number.
+fn has_width(reach: &Option<Reach>, width: Width) -> bool
+    ensures { result ≡ true → IfSome reach.now (λ p. p.width ≡ width) }
+{
+    match reach {
+        None => true,
+        Some(reach) => reach.width == width,
+    }
+}
+
 /// An operation of the arithmetic, with references to memory.
 fn computed_in_memory(
     op: AluOp,
@@ -244,6 +254,9 @@ fn computed_in_memory(
         return None;
     }
     let touches = touches_of(operands)?;
+    if !has_width(&touches.writes, width) {
+        return None;
+    }
     let (first, second) = sources_of(inputs, operands)?;
     let register = put_by(target, operands, &touches.writes)?;
     Some(InMemory {

@@ -44,8 +44,14 @@ impl Operand {
 
 impl Default for Operand {
     /// The literal 0.
+    #[tactic(auto, unfolding(crate::specs::Prepared::kind_by, vax_table::specs::Spelled::value_size))]
     fn default() -> Operand {
-        Operand::new(Form::default(), Spec::default())
+        Operand {
+            form: Form::default(),
+            spec: Spec::default(),
+            kind: Kind::Constant,
+            length: 1,
+        }
     }
 }
 
@@ -61,7 +67,20 @@ pub struct Prepared {
     ghost specs: { map (λ x. x.spec) operands.items ≡ decoded.specs.items },
 }
 
-/// The operands of some forms, in order, prepared.
+/// The operands of some forms, in order, prepared in place of others.
+pub fn prepare_into(forms: &[Form], specs: &[Spec], operands: &mut ArrayVec<Operand, 4>)
+    requires few { length forms.now ≤ 4 }
+    requires stand { AreLegalOperands forms.now specs.now }
+    ensures forms { map (λ x. x.form) operands.new.items ≡ forms.now }
+    ensures specs { map (λ x. x.spec) operands.new.items ≡ specs.now }
+{
+    operands.clear();
+    for (i, form) in forms.iter().enumerate() {
+        operands.push(Operand::new(*form, specs[i]));
+    }
+}
+
+/// The same by value.
 pub fn prepare(forms: &[Form], specs: &[Spec]) -> ArrayVec<Operand, 4>
     requires few { length forms.now ≤ 4 }
     requires stand { AreLegalOperands forms.now specs.now }
@@ -69,9 +88,7 @@ pub fn prepare(forms: &[Form], specs: &[Spec]) -> ArrayVec<Operand, 4>
     ensures specs { map (λ x. x.spec) result.items ≡ specs.now }
 {
     let mut operands = ArrayVec::new();
-    for (i, form) in forms.iter().enumerate() {
-        operands.push(Operand::new(*form, specs[i]));
-    }
+    prepare_into(forms, specs, &mut operands);
     operands
 }
 
@@ -96,5 +113,19 @@ impl Prepared {
             operands: prepare(forms(decoded.opcode).as_slice(), decoded.specs.as_slice()),
             decoded,
         }
+    }
+
+    /// Another well-formed instruction, prepared in place of this one.
+    pub fn renew(&mut self, decoded: Decoded)
+        requires { IsWellFormed (view decoded) }
+        ensures { self.new.decoded ≡ decoded }
+    {
+        self.operation = operation(decoded.opcode);
+        prepare_into(
+            forms(decoded.opcode).as_slice(),
+            decoded.specs.as_slice(),
+            &mut self.operands,
+        );
+        self.decoded = decoded;
     }
 }

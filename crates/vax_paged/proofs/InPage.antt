@@ -1,6 +1,7 @@
 -- Bytes of one page: their places are one after the other, and one test is that of all.
 use Rattle.std.proofs.Common.{◌≡◌, ℕ, zero, suc, ◌+◌, ◌*◌, ◌/◌, ◌%◌, ◌^◌, ◌<◌, ◌≤◌, Bool, true, false, List, [], ◌∷◌, ◌++◌, Option, Some, None, Result, Ok, Err, refl, ap, sym, ◌∙◌, arith, slice_set}
-use Rattle.std.specs.Prelude.{if◌then◌else◌, slice_index}
+use Rattle.std.specs.Prelude.{if◌then◌else◌, slice_index, IfSome}
+use Rattle.std.proofs.lemmas.List.{append-nil}
 use Rattle.vax_arch.specs.declared.mode.Intent.{Intent}
 use Rattle.vax_arch.specs.declared.mode.Intent.TheVariants.{Write}
 use Rattle.vax_arch.specs.declared.mode.Mode.{Mode}
@@ -21,7 +22,7 @@ use Rattle.vax_table.specs.Interaction.{At, Cause, Trouble, number_at, with_byte
 use Rattle.vax_table.specs.Stores.{all_stored, bytes_stored}
 use Rattle.vax_table.specs.Tries.{first_clear}
 use Rattle.vax_table.specs.declared.effect.Store.{Store}
-use Rattle.vax_paged.specs.InPage.{IsStoreInPage, number_at_place, number_from, stored_from}
+use Rattle.vax_paged.specs.InPage.{IsOpenAt, IsStoreInPage, number_at_place, number_from, stored_from}
 use Rattle.vax_paged.specs.Known.{known_space, place_known}
 use Rattle.vax_paged.specs.Paged.{at_byte, byte_at, is_clear_for, paged, placed, written_place}
 use Rattle.vax_paged.specs.declared.known.Known.{Known}
@@ -130,6 +131,10 @@ none_clear memory w (suc (suc k)) va small h e =
 pub one_clear : (memory : List ℕ) (w : World) (k va : ℕ) → va < 2 ^ 32 → va % 512 + k ≤ 512 → is_clear_for memory w va ≡ false → None ≡ first_clear (is_clear_for memory w) (addresses k va)
 one_clear memory w k va small h e = sym (none_clear memory w k va small h e)
 
+-- nor has one store there
+pub one_store_clear : (memory : List ℕ) (w : World) (k va : ℕ) → va < 2 ^ 32 → va % 512 + k ≤ 512 → is_clear_for memory w va ≡ false → first_clear (is_clear_for memory w) (addresses k va ++ []) ≡ None
+one_store_clear memory w k va small h e = ap (first_clear (is_clear_for memory w)) (append-nil (addresses k va)) ∙ none_clear memory w k va small h e
+
 pub first_of_them : (memory : List ℕ) (w : World) (k va : ℕ) → va < 2 ^ 32 → 0 < k → is_clear_for memory w va ≡ true → Some va ≡ first_clear (is_clear_for memory w) (addresses k va)
 first_of_them memory w zero va small some e = absurd (omega arith)
 first_of_them memory w (suc k) va small some e =
@@ -182,3 +187,8 @@ stored_after before middle new w x p xs all h is others e =
 -- a store that lies whole in one page
 pub whole_stored : (memory new : List ℕ) (w : World) (x : Store) (p : ℕ) → IsStoreInPage memory w x p → new ≡ stored_from (size_of x.width) p x.value memory → new ≡ all_stored (written_place memory w) (x ∷ []) memory
 whole_stored memory new w x p h e = e ∙ sym (stored_there memory w (size_of x.width) x.va p x.value memory h.small h.in_page h.placed_at)
+
+-- one where its bytes may be stored
+pub store_opened : (memory : List ℕ) (w : World) (ks : List Known) (x : Store) (place : Option ℕ) → IfSome place (IsOpenAt memory w ks x.va x.width) → IfSome place (λ p. IsStoreInPage memory w x p)
+store_opened memory w ks x None h = h
+store_opened memory w ks x (Some p) h = h.whole x.value

@@ -1,5 +1,5 @@
 -- A page that is known gives an address the place that the tables give it.
-use Rattle.std.proofs.Common.{◌≡◌, ℕ, ◌+◌, ◌*◌, ◌%◌, ◌^◌, ◌<◌, Bool, true, false, List, Option, Some, None, Result, Ok, Err, refl, ap, sym, ◌∙◌, subst, arith}
+use Rattle.std.proofs.Common.{◌≡◌, ℕ, ◌+◌, ◌*◌, ◌/◌, ◌%◌, ◌^◌, ◌<◌, Bool, true, false, List, Option, Some, None, Result, Ok, Err, refl, ap, sym, ◌∙◌, subst, arith}
 use Rattle.std.specs.Prelude.{if◌then◌else◌, ◌==◌, ◌&&◌, not, nat_lt}
 use Rattle.std.specs.List.{slice_get}
 use Rattle.std.proofs.lemmas.Bool.Decides.{nat_tests}
@@ -120,7 +120,7 @@ known_by memory w page table place entry read_page write_page base m r x found a
 
 -- What is known gives a place.
 
-both_are : (a b : Bool) → (a && b) ≡ true → (a ≡ true) × (b ≡ true)
+pub both_are : (a b : Bool) → (a && b) ≡ true → (a ≡ true) × (b ≡ true)
 both_are true b h = (refl, h)
 both_are false b h = cc
 
@@ -128,7 +128,7 @@ chosen : (t : Bool) (a p : ℕ) (c : Cause) → (let y : Result ℕ Cause = if t
 chosen true a p c h = let same : a ≡ p = cc in (refl, same)
 chosen false a p c h = cc
 
-below_of : (a b : ℕ) → nat_lt a b ≡ true → a < b
+pub below_of : (a b : ℕ) → nat_lt a b ≡ true → a < b
 below_of a b h = grind (arith, nat_tests)
 
 -- a known page by which an address has a place
@@ -155,6 +155,15 @@ pub known_placed : (memory : List ℕ) (w : World) (ks : List Known) (i : Intent
 known_placed memory w ks i va p all h =
     let (k, g) = given memory w ks i va p all h in
     g.known.placed i va g.small g.page ∙ ap (λ (n : ℕ). Ok n) g.place
+
+-- and so each address of its page
+pub page_placed : (memory : List ℕ) (w : World) (ks : List Known) (page p va : ℕ) → AreKnown memory w ks → place_known ks Write (512 * page) ≡ Ok p → va < 2 ^ 32 → va / 512 ≡ page → placed memory w Write va ≡ Ok (p + va % 512)
+page_placed memory w ks page p va all h small there =
+    let (k, g) = given memory w ks Write (512 * page) p all h in
+    let same : page_of (512 * page) ≡ page_of va = omega (arith, there) in
+    let base : k.base + (512 * page) % 512 ≡ p = g.place in
+    let place : k.base + va % 512 ≡ p + va % 512 = omega (arith, base) in
+    g.known.placed Write va small (g.page ∙ same) ∙ ap (λ (n : ℕ). Ok n) place
 
 -- and a page that may be written is modified
 pub known_clear : (memory : List ℕ) (w : World) (ks : List Known) (va p : ℕ) → AreKnown memory w ks → place_known ks Write va ≡ Ok p → is_clear_for memory w va ≡ false

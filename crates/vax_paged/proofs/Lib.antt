@@ -6,3 +6,4 @@ pub mod Puts
 pub mod Tagging
 pub mod Watching
 pub mod Widths
+mod Frames

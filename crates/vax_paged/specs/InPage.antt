@@ -1,11 +1,17 @@
 -- Numbers in one page: their bytes lie one after the other in the machine.
-use Rattle.std.specs.Prelude.{◌≡◌, ℕ, zero, suc, ◌+◌, ◌-◌, ◌*◌, ◌/◌, ◌%◌, ◌≤◌, ◌<◌, ◌^◌, List, length, slice_index, slice_set, Result, Ok, Err}
+use Rattle.std.specs.Prelude.{◌≡◌, ℕ, zero, suc, ◌+◌, ◌-◌, ◌*◌, ◌/◌, ◌%◌, ◌≤◌, ◌<◌, ◌^◌, ◌==◌, ◌&&◌, Bool, true, nat_lt, List, [], ◌∷◌, length, slice_index, slice_set, None, Result, Ok, Err}
 use Rattle.vv_base.specs.Width.{size_of}
+use Rattle.vv_base.specs.declared.width.Width.{Width}
 use Rattle.vax_arch.specs.declared.mode.Intent.TheVariants.{Write}
 use Rattle.vax_hw.specs.declared.world.World.{World}
-use Rattle.vax_table.specs.Interaction.{Trouble}
+use Rattle.vax_table.specs.Effects.{store}
+use Rattle.vax_table.specs.Interaction.{Trouble, number_at}
+use Rattle.vax_table.specs.PlanLaws.{bytes_of_stores}
+use Rattle.vax_table.specs.Tries.{first_clear}
 use Rattle.vax_table.specs.declared.effect.Store.{Store}
-use Rattle.vax_paged.specs.Paged.{placed}
+use Rattle.vax_paged.specs.Known.{known_space}
+use Rattle.vax_paged.specs.Paged.{is_clear_for, placed}
+use Rattle.vax_paged.specs.declared.known.Known.{Known}
 
 -- the number in k bytes from a place, the lowest first
 abbrev pub number_from : List ℕ → (k place : ℕ) → ℕ
@@ -42,3 +48,18 @@ pub record IsStoreOverEnd (memory : List ℕ) (w : World) (x : Store) (low high 
   pub over_end : 512 < x.va % 512 + size_of x.width
   pub low_in_memory : low + (512 - x.va % 512) ≤ length memory
   pub high_in_memory : high + (size_of x.width - (512 - x.va % 512)) ≤ length memory
+
+-- bytes of one known page, from an address on, which memory has whole from a place, and which may be stored: what is there is
+-- what is claimed
+pub record IsOpenAt (memory : List ℕ) (w : World) (ks : List Known) (va : ℕ) (width : Width) (place : ℕ) : Type 0 where
+  pub whole : (v : ℕ) → IsStoreInPage memory w (store va width v) place
+  pub claimed : number_at (known_space memory ks) Write (size_of width) va ≡ Ok (number_from memory (size_of width) place)
+  pub modified : (v : ℕ) → first_clear (is_clear_for memory w) (bytes_of_stores (store va width v ∷ [])) ≡ None
+
+-- whether stores lie in a page
+abbrev pub lies_in : (page : ℕ) → Store → Bool
+lies_in page x = (x.va / 512 == page) && (nat_lt x.va (2 ^ 32) && nat_lt (x.va % 512 + size_of x.width) 513)
+
+abbrev pub all_lie_in : (page : ℕ) → List Store → Bool
+all_lie_in page [] = true
+all_lie_in page (x ∷ xs) = lies_in page x && all_lie_in page xs

@@ -3,3 +3,4 @@ pub mod Known
 pub mod Paged
 pub mod Puts
 pub mod Tagged
+pub mod ShownInPage

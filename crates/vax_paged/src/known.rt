@@ -12,7 +12,7 @@ ghost use Rattle.vax_table.specs.PlanLaws.{bytes_of_stores};
 ghost use Rattle.vax_table.specs.Interaction.{number_at};
 ghost use Rattle.vax_table.specs.Tries.{first_clear};
 ghost use Rattle.vax_table.specs.Troubles.{intent_of, with_trouble};
-ghost use Rattle.vax_paged.specs.InPage.{IsStoreInPage, IsStoreOverEnd};
+ghost use Rattle.vax_paged.specs.InPage.{IsOpenAt, IsStoreInPage, IsStoreOverEnd, lies_in};
 ghost use Rattle.vax_paged.specs.Known.{AreKnown, IsKnownIn, IsLearned, known_space, page_for, place_known, place_or_absent};
 ghost use Rattle.vax_paged.specs.Paged.{is_clear_for};
 
@@ -175,19 +175,42 @@ impl Mapped<'_> {
         }
     }
 
+    /// The place of a number of one known page that may be written, where memory has it whole.
+    #[inline(always)]
+    pub fn open_place(&self, world: &World, va: u32, w: Width) -> Option<usize>
+        requires { AreKnown self.now.memory.now world.now self.now.known.now }
+        ensures open { IfSome result (IsOpenAt self.now.memory.now world.now self.now.known.now va w) }
+        ensures low { IfSome result (λ place. place ≤ everywhere) }
+    {
+        let bytes = u32::from(w.bytes());
+        if va % 512 + bytes > 512 {
+            return None;
+        }
+        match self.place(va, true) {
+            Some(place) if place + bytes as usize <= self.memory.len() => Some(place),
+            _ => None,
+        }
+    }
+
+    /// The place of a known page that may be written, where memory has it whole.
+    pub fn open_page(&self, world: &World, page: u32) -> Option<usize>
+        requires known { AreKnown self.now.memory.now world.now self.now.known.now }
+        requires page { page < 2 ^ 23 }
+        ensures open { IfSome result (λ base. (x : Store) → lies_in page x ≡ true → IsStoreInPage self.now.memory.now world.now x (base + x.va % 512)) }
+        ensures low { IfSome result (λ base. base ≤ everywhere) }
+    {
+        match self.place(512 * page, true) {
+            Some(base) if base + 512 <= self.memory.len() => Some(base),
+            _ => None,
+        }
+    }
+
     /// The place of a store that lies in one known page, where memory has it whole.
     pub fn whole_place(&self, world: &World, store: &Store) -> Option<usize>
         requires { AreKnown self.now.memory.now world.now self.now.known.now }
         ensures whole { IfSome result (λ place. IsStoreInPage self.now.memory.now world.now store.now place) }
     {
-        let bytes = u32::from(store.width.bytes());
-        if store.va % 512 + bytes > 512 {
-            return None;
-        }
-        match self.place(store.va, true) {
-            Some(place) if place + bytes as usize <= self.memory.len() => Some(place),
-            _ => None,
-        }
+        self.open_place(world, store.va, store.width)
     }
 
     /// The places of both parts of a store over a page's end, where both pages are known and memory has them whole.

@@ -14,4 +14,4 @@ pub use known::{Known, Learned, Mapped};
 pub use memory::{byte_in, number_in};
 pub use modes::KnownPages;
 pub use pages::ModePages;
-pub use stores::store_all;
+pub use stores::{store_all, store_at};

@@ -1,4 +1,4 @@
-ghost use Rattle.std.specs.Prelude.{◌≡◌, ◌+◌, ◌*◌, ◌≤◌, ◌<◌, ◌^◌, ◌++◌, [], ◌∷◌, false, length, if◌then◌else◌, IfSome};
+ghost use Rattle.std.specs.Prelude.{◌≡◌, ◌+◌, ◌*◌, ◌≤◌, ◌<◌, ◌%◌, ◌^◌, ◌++◌, [], ◌∷◌, false, length, if◌then◌else◌, All, IfSome};
 ghost use Rattle.vv_base.specs.Width.{size_of};
 ghost use Rattle.arrayvec.specs.ArrayVec.{array_vec_len};
 ghost use Rattle.vax_table.specs.Claims.{addresses};
@@ -6,10 +6,11 @@ ghost use Rattle.vax_table.specs.PlanLaws.{bytes_of_stores};
 ghost use Rattle.vax_table.specs.Stores.{all_stored};
 ghost use Rattle.vax_table.specs.Tries.{first_clear};
 ghost use Rattle.vax_paged.specs.Puts.{made, puts_from, puts_of};
-ghost use Rattle.vax_paged.specs.InPage.{IsStoreInPage};
+ghost use Rattle.vax_paged.specs.InPage.{IsStoreInPage, all_lie_in, lies_in};
 ghost use Rattle.vax_arch.specs.Walk.{Tables};
 ghost use Rattle.vax_hw.specs.Machine.{machine_tables};
-ghost use Rattle.vax_paged.specs.Known.{AreAllKnown, AreKnown, watches};
+ghost use Rattle.vax_hw.specs.RealTables.{everywhere};
+ghost use Rattle.vax_paged.specs.Known.{AreAllKnown, AreKnown, IsSameBut, watches};
 ghost use Rattle.vax_paged.specs.Paged.{is_clear_for, written_place};
 
 use crate::entries::{Entry, Paged};
@@ -243,6 +244,68 @@ fn store_each(
     true
 }
 
+/// Whether a store lies in a page.
+fn lies_in(page: u32, store: &Store) -> bool
+    ensures { result ≡ lies_in page store.now }
+{
+    store.va / 512 == page && store.va % 512 + u32::from(store.width.bytes()) < 513
+}
+
+/// Whether stores do.
+fn all_lie_in(page: u32, stores: &[Store]) -> bool
+    ensures { result ≡ all_lie_in page stores.now }
+{
+    let [first, rest @ ..] = stores else {
+        return true;
+    };
+    lies_in(page, first) && all_lie_in(page, rest)
+}
+
+/// Makes stores in order that lie in one page, which has this place.
+fn store_from(memory: &mut [u8], world: &World, base: usize, stores: &[Store])
+    requires low { base ≤ everywhere }
+    requires in_page { All (λ x. IsStoreInPage memory.old world.now x (base + x.va % 512)) stores.now }
+    ensures memory { memory.new ≡ all_stored (written_place memory.old world.now) stores.now memory.old }
+    ensures elsewhere { IsSameBut base base memory.old memory.new }
+{
+    for store in stores {
+        let place = base + store.va as usize % 512;
+        store_in(memory, place, store.width, store.value);
+    }
+}
+
+/// Makes stores in order, if they lie in one known page whose frame isn't watched, so that what is known stays so. Answers
+/// whether they were made.
+fn store_in_page(
+    memory: &mut [u8],
+    world: &World,
+    known: &KnownPages,
+    missed: &Cell<u32>,
+    stores: &[Store],
+) -> bool
+    requires { AreAllKnown memory.old (machine_tables world.now) known.now }
+    ensures memory { memory.new ≡ (if result then all_stored (written_place memory.old world.now) stores.now memory.old else memory.old) }
+    ensures known { AreAllKnown memory.new (machine_tables world.now) known.now }
+{
+    let [first, ..] = stores else {
+        return false;
+    };
+    let page = first.va / 512;
+    let space = Mapped {
+        memory: &*memory,
+        known: known.of(world.psl.current()),
+        missed,
+    };
+    let Some(base) = space.open_page(world, page) else {
+        return false;
+    };
+    if known.watches(base) || !all_lie_in(page, stores) {
+        return false;
+    }
+    store_from(memory, world, base, stores);
+    true
+}
+
 /// Makes several stores.
 fn store_several(
     memory: &mut [u8],
@@ -257,9 +320,29 @@ fn store_several(
     ensures memory { memory.new ≡ all_stored (written_place memory.old world.now) stores.now memory.old }
     ensures known { AreAllKnown memory.new (machine_tables world.now) known.new }
 {
-    if !store_each(memory, world, &*known, missed, stores) {
+    if !store_in_page(memory, world, &*known, missed, stores)
+        && !store_each(memory, world, &*known, missed, stores)
+    {
         store_by_bytes(memory, world, known, stores);
     }
+}
+
+/// Makes a store that lies in one page, at its place.
+#[inline(always)]
+pub fn store_at(
+    memory: &mut [u8],
+    world: &World,
+    known: &mut KnownPages,
+    place: usize,
+    store: &Store,
+)
+    requires whole { IsStoreInPage memory.old world.now store.now place }
+    requires known { AreAllKnown memory.old (machine_tables world.now) known.old }
+    ensures memory { memory.new ≡ all_stored (written_place memory.old world.now) (store.now ∷ []) memory.old }
+    ensures known { AreAllKnown memory.new (machine_tables world.now) known.new }
+{
+    store_in(memory, place, store.width, store.value);
+    known.stored(place, place);
 }
 
 /// Makes a store that goes over a page's end, if both its pages are known. Answers whether it was made.
@@ -325,10 +408,7 @@ fn store_one(
 {
     let pages = known.of(world.psl.current());
     match whole_place(&*memory, world, pages, missed, store) {
-        Some(place) => {
-            store_in(memory, place, store.width, store.value);
-            known.stored(place, place);
-        }
+        Some(place) => store_at(memory, world, known, place, store),
         None => store_crossing(memory, world, known, missed, store),
     }
 }

@@ -1,12 +1,9 @@
-use Rattle.std.proofs.Common.{◌≡◌, ◌+◌, ◌*◌, ◌%◌, ◌^◌, ℕ, List, length, refl, sym, ◌∙◌, subst, ap, arith}
+use Rattle.std.proofs.Common.{◌≡◌, ◌*◌, ℕ, List, length, refl, sym, ◌∙◌, subst, ap}
 use Rattle.std.proofs.lemmas.List.{with_items_is}
 use Rattle.vax_hw.specs.Machine.{machine_tables}
 use Rattle.vax_paged.specs.Known.{AreAllKnown}
+use Rattle.vax_cpu.proofs.Sums.{added}
 use Rattle.vax_cpu.proofs.state.State.retire_with.Goals as goal
-
--- two terms are added one after the other
-added : (trail own total : ℕ) → ((trail + own) % 2 ^ 64 + total) % 2 ^ 64 ≡ (trail + (own + total)) % 2 ^ 64
-added trail own total = omega arith
 
 pub returns : goal.returns
 returns c =

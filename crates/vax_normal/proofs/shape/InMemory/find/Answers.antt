@@ -9,6 +9,6 @@ returns-in-None g c = λ d normal.
     let r = c.args.r.now in
     let sixteen : length r ≡ 16 = omega (arith, c.told-r) in
     let v = c.in_ok-read.read in
-    let u = c.in_ok-claimed.claimed in
-    normal (g.S.Space.space c.args.space.now) r c.args.psw v u sixteen c.in_ok-read.ensures c.in_ok-claimed.ensures
+    let u = c.args.claimed in
+    normal (g.S.Space.space c.args.space.now) r c.args.psw v u sixteen c.in_ok-read.ensures c.requires
     ∙ ap (λ (e : Effect). Ok e) (found_is n v u r c.args.psw c.value-first.result c.value-second.result c.alu-x.result c.value-first.ensures c.value-second.ensures c.alu-x.ensures c.in-None.is)

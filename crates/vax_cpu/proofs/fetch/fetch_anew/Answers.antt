@@ -1,4 +1,5 @@
-use Rattle.std.proofs.Common.{length, arith, ap, sym, subst, ◌∙◌, List, ℕ, Ok, ◌+◌, ◌%◌, ◌^◌}
+use Rattle.std.proofs.Common.{◌≡◌, length, take, drop, arith, ap, sym, subst, refl, ◌∙◌, ◌++◌, List, ℕ, Ok, ◌+◌, ◌%◌, ◌^◌, append_assoc}
+use Rattle.std.proofs.lemmas.List.{take-append-drop}
 use Rattle.vax_cpu.specs.Fetched.{fault_exit}
 use Rattle.vax_paged.specs.Paged.{paged}
 use Rattle.vax_table.specs.Fetch.{decided, fetched}
@@ -7,7 +8,7 @@ use Rattle.vax_table.specs.Spelling.{Spells, view}
 use Rattle.vax_table.specs.declared.decoded.Decoded.{Decoded}
 use Rattle.vax_cpu.proofs.Spelled.{spelled_front}
 use Rattle.vax_cpu.proofs.Looks.{whole, fault, no_more, next, stopped}
-use Rattle.vax_cpu.proofs.fetch.decoded.Goals as goal
+use Rattle.vax_cpu.proofs.fetch.fetch_anew.Goals as goal
 
 pub loop-looks-init : goal.loop-looks-init
 unfolding fetched
@@ -40,4 +41,9 @@ returns-in-Done-clause-formed c = let h = c.in-Done.ensures.spells in (h.0, subs
 pub keep-requires-clause-spelled : goal.keep-requires-clause-spelled
 keep-requires-clause-spelled c =
     let h = c.in-Done.ensures.spells in
-    spelled_front c.as_slice-in-Done.result.now _ h.0 h.1 (view c.in-Done.decoded) (c.as_slice-in-Done.ensures.value ∙ sym c.as_slice.ensures.value) h.2 h.3
+    let all = c.with_zeros.result in
+    let told = c.as_slice-in-Done.result.now in
+    let front : take (length told) all ≡ h.0 ++ h.1 = c.with_zeros.ensures ∙ c.as_slice-in-Done.ensures.value ∙ sym c.as_slice.ensures.value ∙ h.2 in
+    let is : all ≡ h.0 ++ (h.1 ++ drop (length told) all) =
+    sym (take-append-drop (length told) all) ∙ ap (λ (xs : List ℕ). xs ++ drop (length told) all) front ∙ append_assoc h.0 h.1 (drop (length told) all) in
+    spelled_front all all h.0 (h.1 ++ drop (length told) all) (view c.in-Done.decoded) refl is h.3

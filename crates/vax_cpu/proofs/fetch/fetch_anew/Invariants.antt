@@ -3,7 +3,7 @@ use Rattle.arrayvec.specs.ArrayVec.{array_vec_len}
 use Rattle.vax_paged.specs.Paged.{paged}
 use Rattle.vax_table.specs.Fetch.{decided, fetched}
 use Rattle.vax_table.specs.Interaction.{outcome}
-use Rattle.vax_cpu.proofs.fetch.decoded.Given as goal
+use Rattle.vax_cpu.proofs.fetch.fetch_anew.Given as goal
 
 abbrev pub invariant-loop-looks : goal.invariant-loop-looks
 invariant-loop-looks l = record {

@@ -1,5 +1,5 @@
 use Rattle.std.proofs.Common.{◌≡◌, length, map, take}
-use Rattle.vax_operand.proofs.prepared.prepare.Given as goal
+use Rattle.vax_operand.proofs.prepared.prepare_into.Given as goal
 
 abbrev pub invariant-loop-i : goal.invariant-loop-i
 invariant-loop-i l = record {

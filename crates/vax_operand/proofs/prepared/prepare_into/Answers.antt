@@ -1,7 +1,7 @@
 use Rattle.std.proofs.Common.{arith, ◌∙◌}
 use Rattle.std.proofs.lemmas.List.{take_all}
 use Rattle.vax_table.proofs.Standings.{stand_length, stand_at}
-use Rattle.vax_operand.proofs.prepared.prepare.Goals as goal
+use Rattle.vax_operand.proofs.prepared.prepare_into.Goals as goal
 
 pub bounds-specs-i : goal.bounds-specs-i
 bounds-specs-i c = let h = stand_length c.args.forms.now c.args.specs.now c.requires.stand in omega arith
