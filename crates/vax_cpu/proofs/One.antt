@@ -29,7 +29,7 @@ use Rattle.vax_table.specs.Tries.{first_clear, tried, tried_by, unless_clear}
 use Rattle.vax_table.specs.Whole.{Act, Meant, Plain, Probes, Traps, acted, acted_by, instruction, meant, plain_meaning}
 use Rattle.vax_table.proofs.Tries.{tries_stores}
 use Rattle.vax_cpu.specs.Completed.{by_judgement, completed, completed_but_registers, completed_by, retired_by, retired_from, settled, settled_meaning, unless_modified, with_opcode, with_registers}
-use Rattle.vax_cpu.specs.Fetched.{exits}
+use Rattle.vax_kept.specs.Fetched.{exits}
 use Rattle.vax_paged.specs.Known.{AreKnown, known_space}
 use Rattle.vax_paged.specs.Paged.{is_clear_for, paged}
 use Rattle.vax_paged.specs.declared.known.Known.{Known}

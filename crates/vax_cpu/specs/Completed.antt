@@ -18,7 +18,7 @@ use Rattle.vax_table.specs.declared.evaluation.Operands.{Operands}
 use Rattle.vax_table.specs.Stores.{all_stored}
 use Rattle.vax_table.specs.Trail.{term}
 use Rattle.vax_paged.specs.Paged.{is_clear_for, written_place}
-use Rattle.vax_cpu.specs.Fetched.{stop_exit}
+use Rattle.vax_cpu.specs.Outcomes.{stop_exit}
 use Rattle.vax_cpu.specs.declared.stop.Stop.{Stop}
 
 abbrev pub completed : Machine → ℕ → Act → Result Retired Exit

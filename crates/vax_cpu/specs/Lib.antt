@@ -1,4 +1,2 @@
-pub mod Changed
-pub mod ShownChanged
 pub mod Completed
-pub mod Fetched
+pub mod Outcomes

@@ -5,11 +5,10 @@ ghost use Rattle.vax_paged.specs.InPage.{IsOpenAt};
 ghost use Rattle.vax_paged.specs.Known.{AreKnown, known_space};
 ghost use Rattle.vax_cpu.specs.Completed.{RunsOn, with_registers};
 
-use crate::fetch::has_known;
-use crate::kept::Kept;
 use crate::state::State;
 use std::cell::Cell;
 use vax_hw::World;
+use vax_kept::{Kept, has_known};
 use vax_normal::{After, InMemory};
 use vax_paged::{Mapped, number_in};
 

@@ -12,21 +12,21 @@ ghost use Rattle.vax_table.specs.declared.meaning.Operation.TheVariants.{MoveSta
 ghost use Rattle.vax_operand.specs.Left.{left, operands_with_registers};
 ghost use Rattle.vax_hw.specs.Machine.{seen_psl};
 ghost use Rattle.vax_hw.specs.Real.{in_kernel};
-ghost use Rattle.vax_cpu.specs.Changed.{AreAlikeBut};
-ghost use Rattle.vax_cpu.specs.Fetched.{acts_of, exits, found, meaning_of};
+ghost use Rattle.vax_kept.specs.Changed.{AreAlikeBut};
+ghost use Rattle.vax_cpu.specs.Outcomes.{acts_of, found, meaning_of};
+ghost use Rattle.vax_kept.specs.Fetched.{exits};
 ghost use Rattle.vax_cpu.specs.Completed.{attempted, settled, settled_as, settled_meaning};
 ghost use Rattle.vax_paged.specs.Paged.{paged};
 
-use crate::fetch::{fetch, has_known, has_known_in_page};
-use crate::kept::Kept;
 use crate::probe::{probe, probed};
 use crate::state::State;
-use crate::stop::{Fault, Stop, stop_of};
+use crate::stop::{Stop, stop_of};
 use std::cell::Cell;
 use vax_arch::Intent;
 use vax_decode::Decoded;
 use vax_exec::{Plan, begin, plan_into};
 use vax_hw::{Mode, Psl, Refusal, Sens, Trapped, World};
+use vax_kept::{Fault, Kept, fetch, has_known, has_known_in_page};
 use vax_operand::{
     Operands, Prepared, Space, Trouble, Values, evaluate, evaluate_into, evaluate_trap,
 };

@@ -3,20 +3,14 @@ ghost use Rattle.vax_hw.specs.Real.{exit_of};
 ghost use Rattle.vax_operand.specs.Left.{operands_with_registers};
 ghost use Rattle.vax_table.specs.Troubles.{trouble_of};
 ghost use Rattle.vax_table.specs.Whole.{trap_of};
-ghost use Rattle.vax_cpu.specs.Fetched.{stop_exit};
-ghost use Rattle.vax_cpu.specs.declared.stop.Fault.TheVariants as faults;
+ghost use Rattle.vax_cpu.specs.Outcomes.{stop_exit};
+ghost use Rattle.vax_kept.specs.declared.fault.Fault.TheVariants as faults;
 ghost use Rattle.vax_cpu.specs.declared.stop.Stop.TheVariants as stops;
 
 use crate::perform::trap_of;
 use vax_hw::{Exit, Refusal, Sens};
+use vax_kept::Fault;
 use vax_operand::{Trouble, Values};
-
-/// Why an instruction can't be done.
-#[derive(Clone, Copy)]
-pub enum Fault {
-    Trouble(Trouble),
-    Refused(Refusal),
-}
 
 /// Why an instruction doesn't retire, without the operands of its trap: kept small, since it is passed on by each function that
 /// an instruction goes through.
@@ -25,13 +19,6 @@ pub enum Stop {
     Fault(Fault),
     Modify(u32),
     Emulate(Sens),
-}
-
-/// A trouble as a fault.
-pub fn fault_of(trouble: Trouble) -> Fault
-    ensures { result ≡ faults.Trouble trouble }
-{
-    Fault::Trouble(trouble)
 }
 
 /// A trouble as a stop.

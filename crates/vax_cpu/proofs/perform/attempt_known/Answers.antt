@@ -3,9 +3,9 @@ use Rattle.vax_hw.specs.Machine.{seen_psl}
 use Rattle.vax_hw.specs.Real.{in_kernel}
 use Rattle.vax_table.specs.Effects.{effect}
 use Rattle.vax_table.specs.Spelling.{view}
-use Rattle.vax_cpu.specs.Changed.{AreAlikeBut}
+use Rattle.vax_kept.specs.Changed.{AreAlikeBut}
 use Rattle.vax_paged.specs.Known.{known_space}
-use Rattle.vax_cpu.proofs.Changes.{changes_one}
+use Rattle.vax_kept.proofs.Changes.{changes_one}
 use Rattle.vax_cpu.proofs.One.{known_settled}
 use Rattle.vax_cpu.proofs.perform.attempt_known.Goals as goal
 

@@ -1,4 +1,0 @@
-use Rattle.vax_cpu.proofs.changed.+register_at.Given as goal
-
-abbrev pub decreases-register_at : goal.decreases-register_at
-decreases-register_at l = l.i

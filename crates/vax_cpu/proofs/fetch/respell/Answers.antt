@@ -1,7 +1,0 @@
-use Rattle.std.proofs.Common.{refl}
-use Rattle.vax_table.specs.Spelling.{view}
-use Rattle.vax_cpu.proofs.Spelled.{spelled_front}
-use Rattle.vax_cpu.proofs.fetch.respell.Goals as goal
-
-pub keep-requires-clause-spelled : goal.keep-requires-clause-spelled
-keep-requires-clause-spelled c = let h = c.in-Done.ensures.spells in spelled_front c.window-bytes.result _ h.0 h.1 (view c.in-Done.decoded) refl h.2 h.3

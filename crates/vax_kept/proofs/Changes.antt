@@ -1,0 +1,213 @@
+-- An instruction changes none of R0 to R14 but the one that its operation names.
+use Rattle.std.proofs.Common.{◌≡◌, ◌≢◌, ℕ, zero, suc, ◌+◌, ◌<◌, ◌&&◌, Bool, true, false, List, [], ◌∷◌, map, Option, Some, None, Ok, refl, ap, ◌∙◌, sym, subst, arith, get_or-set_other, slice_index, slice_index_or, slice_set}
+use Rattle.std.specs.Prelude.{if◌then◌else◌}
+use Rattle.vv_base.specs.declared.width.Width.{Width}
+use Rattle.vv_base.specs.declared.width.Width.TheVariants.{Byte, Word, Long, Quad}
+use Rattle.vv_base.specs.Width.{size_of}
+use Rattle.vax_table.specs.Branches.{branched, holds}
+use Rattle.vax_table.specs.Claims.{Holds}
+use Rattle.vax_table.specs.Computing.{computed}
+use Rattle.vax_table.specs.Effects.{Effect, begun, dest_of, put, went_if}
+use Rattle.vax_table.specs.Operand.{forms_in, indexed_by, no_operands, operand_of, operands_of, past_own_bytes, with_operand}
+use Rattle.vax_table.specs.Operations.{operation_of}
+use Rattle.vax_table.specs.Plan.{performed, planned}
+use Rattle.vax_table.specs.Rows.{row_of}
+use Rattle.vax_table.specs.Interaction.{Space, outcome}
+use Rattle.vax_table.specs.Spelling.{Instruction}
+use Rattle.vax_table.specs.declared.act.Dest.{Dest}
+use Rattle.vax_table.specs.declared.act.Dest.TheVariants.{Nowhere, Register, Memory}
+use Rattle.vax_table.specs.declared.answer.AluOp.{AluOp}
+use Rattle.vax_table.specs.declared.decoded.Spec.{Spec}
+use Rattle.vax_table.specs.declared.evaluation.Evaluated.{Evaluated}
+use Rattle.vax_table.specs.declared.evaluation.Operands.{Operands}
+use Rattle.vax_table.specs.declared.evaluation.Place.{Place}
+use Rattle.vax_table.specs.declared.meaning.Inputs.{Inputs}
+use Rattle.vax_table.specs.declared.meaning.Operation.{Operation}
+use Rattle.vax_table.specs.declared.meaning.Operation.TheVariants as does
+use Rattle.vax_table.specs.declared.meaning.Target.{Target}
+use Rattle.vax_table.specs.declared.meaning.Target.TheVariants as targets
+use Rattle.vax_table.proofs.Claims.{holds-bind, holds_made, holds_then}
+use Rattle.vax_operand.specs.declared.kind.Base.{Base}
+use Rattle.vax_operand.specs.declared.kind.Base.TheVariants.{Deferred, Decrement, Increment, IncrementDeferred, Absolute, Displaced, DisplacedDeferred}
+use Rattle.vax_operand.specs.declared.kind.Kind.{Kind}
+use Rattle.vax_operand.specs.declared.kind.Kind.TheVariants.{Constant, ReadRegister, ModifyRegister, WriteRegister, BitsRegister, Branch, Read, Modify, Write, Address, Bits}
+use Rattle.vax_operand.specs.declared.prepared.Operand.{Operand}
+use Rattle.vax_operand.specs.Prepared.{address_by, base_by, operand_by}
+use Rattle.vax_operand.proofs.Preparing.{prepared_same}
+use Rattle.vax_operand.proofs.Steps.{left_from}
+use Rattle.vax_kept.specs.Changed.{AreAlikeBut, all_leave_registers, changed_register, is_still, leaves_registers, operand_register, register_at, result_register, target_register}
+
+-- R0 to R14 are alike
+abbrev AreAlike : List ℕ → List ℕ → Type 0
+AreAlike r q = (i : ℕ) → i < 15 → slice_index q i ≡ slice_index r i
+
+-- a destination's register, if it is one, is this
+abbrev IsAt : ℕ → Dest → Type 0
+IsAt n Nowhere = Unit {0}
+IsAt n (Register m) = m ≡ n
+IsAt n (Memory at) = Unit {0}
+
+other : (r : List ℕ) (k v i : ℕ) → i ≢ k → slice_index (slice_set r k v) i ≡ slice_index r i
+other r k v i ne = get_or-set_other r k i v 0 ne
+
+pc_alone : (r : List ℕ) (v : ℕ) → AreAlike r (slice_set r 15 v)
+pc_alone r v i h = other r 15 v i (omega arith)
+
+abbrev PlaceLeaves : List ℕ → List ℕ → Place → Type 0
+PlaceLeaves r cs p = p.r ≡ r
+
+base_leaves : (b : Base) (size n : ℕ) (r cs : List ℕ) → is_still b ≡ true → Holds (PlaceLeaves r) cs (base_by b size n r)
+unfolding base_by
+base_leaves Deferred size n r cs h = refl
+base_leaves Decrement size n r cs h = cc
+base_leaves Increment size n r cs h = cc
+base_leaves IncrementDeferred size n r cs h = cc
+base_leaves (Absolute a) size n r cs h = refl
+base_leaves (Displaced d) size n r cs h = refl
+base_leaves (DisplacedDeferred d) size n r cs h = λ v. refl
+
+indexed_leaves : (size : ℕ) (x : Option ℕ) (p : Place) → (indexed_by size x p).r ≡ p.r
+indexed_leaves size None p = refl
+indexed_leaves size (Some x) p = refl
+
+address_leaves : (b : Base) (size : ℕ) (s : Spec) (r cs : List ℕ) → is_still b ≡ true → Holds (PlaceLeaves r) cs (address_by b size s r)
+unfolding address_by
+address_leaves b size s r cs h = holds-bind (PlaceLeaves r) (PlaceLeaves r) cs (base_by b size s.reg r) _ (base_leaves b size s.reg r cs h) (λ ds p e. indexed_leaves size s.index p ∙ e)
+
+-- the registers are these, and the destination's register is that
+abbrev IsLeft : List ℕ → ℕ → List ℕ → Evaluated → Type 0
+IsLeft r n cs e = (e.r ≡ r) × IsAt n e.dest
+
+kind_leaves : (k : Kind) (w : Width) (s : Spec) (r cs : List ℕ) → leaves_registers k ≡ true → Holds (IsLeft r (operand_register k s.reg)) cs (operand_by k w s r)
+unfolding operand_by
+kind_leaves Constant w s r cs h = (refl, tt)
+kind_leaves ReadRegister w s r cs h = (refl, tt)
+kind_leaves ModifyRegister w s r cs h = (refl, refl)
+kind_leaves WriteRegister w s r cs h = (refl, refl)
+kind_leaves BitsRegister w s r cs h = (refl, refl)
+kind_leaves (Branch d) w s r cs h = (refl, tt)
+kind_leaves (Read b) w s r cs h = holds-bind (PlaceLeaves r) (IsLeft r 0) cs (address_by b (size_of w) s r) _ (address_leaves b (size_of w) s r cs h) (λ ds p e v. (e, tt))
+kind_leaves (Modify b) w s r cs h = holds-bind (PlaceLeaves r) (IsLeft r 0) cs (address_by b (size_of w) s r) _ (address_leaves b (size_of w) s r cs h) (λ ds p e v. (e, tt))
+kind_leaves (Write b) w s r cs h = holds-bind (PlaceLeaves r) (IsLeft r 0) cs (address_by b (size_of w) s r) _ (address_leaves b (size_of w) s r cs h) (λ ds p e v. (e, tt))
+kind_leaves (Address b) w s r cs h = holds-bind (PlaceLeaves r) (IsLeft r 0) cs (address_by b (size_of w) s r) _ (address_leaves b (size_of w) s r cs h) (λ ds p e. (e, tt))
+kind_leaves (Bits b) w s r cs h = holds-bind (PlaceLeaves r) (IsLeft r 0) cs (address_by b (size_of w) s r) _ (address_leaves b (size_of w) s r cs h) (λ ds p e. (e, tt))
+
+-- the same after its own bytes, by which PC goes on
+abbrev IsAfter : List ℕ → ℕ → List ℕ → Evaluated → Type 0
+IsAfter r n cs e = AreAlike r e.r × IsAt n e.dest
+
+operand_leaves : (x : Operand) (r cs : List ℕ) → leaves_registers x.kind ≡ true → Holds (IsAfter r (operand_register x.kind x.spec.reg)) cs (operand_of x.form x.spec r)
+operand_leaves x r cs h =
+    let n = operand_register x.kind x.spec.reg in
+    let m = operand_by x.kind x.form.width x.spec (past_own_bytes x.length r) in
+    let left : Holds (IsLeft (past_own_bytes x.length r) n) cs m = kind_leaves x.kind x.form.width x.spec (past_own_bytes x.length r) cs h in
+    subst (Holds (IsAfter r n) cs) (prepared_same x.form x.spec x.kind x.length r x.prepared x.bytes)
+    (holds_then (IsLeft (past_own_bytes x.length r) n) (IsAfter r n) cs m left (λ ds e p. (subst (AreAlike r) (sym p.0) (pc_alone r _), p.1)))
+
+put_at : (ds : List Dest) (i t n : ℕ) (d : Dest) → (i ≡ t → IsAt n d) → IsAt n (slice_index_or ds t Nowhere) → IsAt n (slice_index_or (slice_set ds i d) t Nowhere)
+put_at [] i t n d f h = h
+put_at (x ∷ xs) zero zero n d f h = f refl
+put_at (x ∷ xs) zero (suc t) n d f h = h
+put_at (x ∷ xs) (suc i) zero n d f h = h
+put_at (x ∷ xs) (suc i) (suc t) n d f h = put_at xs i t n d (λ e. f (ap suc e)) h
+
+and_both : (a b : Bool) → (a && b) ≡ true → (a ≡ true) × (b ≡ true)
+and_both true b e = (refl, e)
+and_both false b e = cc
+
+-- the registers are alike, and the destination of this number has that register, if any
+abbrev AreAfter : List ℕ → (t n : ℕ) → List ℕ → Operands → Type 0
+AreAfter r t n cs o = AreAlike r o.r × IsAt n (dest_of o t)
+
+from_leaves : (r : List ℕ) (t n i : ℕ) (xs : List Operand) (o : Operands) (cs : List ℕ) → all_leave_registers xs ≡ true → ((k : ℕ) → i + k ≡ t → register_at k xs ≡ n) →
+    AreAfter r t n cs o → Holds (AreAfter r t n) cs (left_from i xs o)
+from_leaves r t n i [] o cs still named h = h
+from_leaves r t n i (x ∷ xs) o cs still named h =
+    let parts = and_both (leaves_registers x.kind) (all_leave_registers xs) still in
+    holds-bind (IsAfter o.r (operand_register x.kind x.spec.reg)) (AreAfter r t n) cs (operand_of x.form x.spec o.r) _ (operand_leaves x o.r cs parts.0)
+    (λ ds e p. from_leaves r t n (i + 1) xs (with_operand i o e) ds parts.1 (λ k g. named (suc k) (omega (arith, g)))
+    ((λ j low. p.0 j low ∙ h.0 j low), put_at o.dests i t n e.dest (λ g. subst (λ (m : ℕ). IsAt m e.dest) (named 0 (omega (arith, g))) p.1) h.1))
+
+nowhere : (t n : ℕ) → IsAt n (slice_index_or (Nowhere ∷ Nowhere ∷ Nowhere ∷ Nowhere ∷ []) t Nowhere)
+nowhere zero n = tt
+nowhere (suc zero) n = tt
+nowhere (suc (suc zero)) n = tt
+nowhere (suc (suc (suc zero))) n = tt
+nowhere (suc (suc (suc (suc t)))) n = tt
+
+operands_leave : (d : Instruction) (xs : List Operand) (r : List ℕ) (t : ℕ) → map (λ x. x.form) xs ≡ forms_in (row_of d.opcode) → map (λ x. x.spec) xs ≡ d.specs →
+    all_leave_registers xs ≡ true → Holds (AreAfter r t (register_at t xs)) [] (operands_of d r)
+unfolding operands_of
+operands_leave d xs r t f g still =
+    rw (sym f, sym g) (from_leaves r t (register_at t xs) 0 xs (no_operands (past_own_bytes (if d.wait then 2 else 1) r)) [] still (λ k e. ap (λ (j : ℕ). register_at j xs) (omega (arith, e))) (pc_alone r _, nowhere t _))
+
+-- a result at such a destination
+put_alike : (r : List ℕ) (n : ℕ) (dest : Dest) (w : Width) (v : ℕ) (e : Effect) → w ≢ Quad → IsAt n dest → AreAlike r e.r → AreAlikeBut n r (put dest w v e).r
+put_alike r n Nowhere w v e narrow at h = λ i low ne. h i low
+put_alike r n (Memory a) w v e narrow at h = λ i low ne. h i low
+put_alike r n (Register m) Byte v e narrow at h = λ i low ne. other e.r m _ i (λ g. ne (g ∙ at)) ∙ h i low
+put_alike r n (Register m) Word v e narrow at h = λ i low ne. other e.r m _ i (λ g. ne (g ∙ at)) ∙ h i low
+put_alike r n (Register m) Long v e narrow at h = λ i low ne. other e.r m _ i (λ g. ne (g ∙ at)) ∙ h i low
+put_alike r n (Register m) Quad v e narrow at h = absurd (narrow refl)
+
+-- the number of the operand that gets the result
+abbrev target_number : Target → ℕ
+target_number targets.Codes = 0
+target_number targets.First = 0
+target_number targets.Second = 1
+target_number targets.Third = 2
+
+abbrev number_of : Operation → ℕ
+number_of (does.Compute op w inputs target) = target_number target
+number_of operation = 0
+
+computed_alike : (r : List ℕ) (xs : List Operand) (op : AluOp) (w : Width) (inputs : Inputs) (target : Target) (o : Operands) (psw : ℕ) → w ≢ Quad → AreAlike r o.r →
+    IsAt (register_at (target_number target) xs) (dest_of o (target_number target)) → AreAlikeBut (target_register target xs) r (computed op w inputs target o psw).r
+unfolding computed
+computed_alike r xs op w inputs targets.Codes o psw narrow h at = λ i low ne. h i low
+computed_alike r xs op w inputs targets.First o psw narrow h at = put_alike r _ (dest_of o 0) w _ _ narrow at h
+computed_alike r xs op w inputs targets.Second o psw narrow h at = put_alike r _ (dest_of o 1) w _ _ narrow at h
+computed_alike r xs op w inputs targets.Third o psw narrow h at = put_alike r _ (dest_of o 2) w _ _ narrow at h
+
+went_alike : (r : List ℕ) (taken : Bool) (pc : ℕ) (e : Effect) → AreAlike r e.r → AreAlike r (went_if taken pc e).r
+went_alike r true pc e h = λ i low. pc_alone e.r pc i low ∙ h i low
+went_alike r false pc e h = h
+
+-- all but one register
+abbrev IsAlikeBut : ℕ → List ℕ → List ℕ → Effect → Type 0
+IsAlikeBut n r cs e = AreAlikeBut n r e.r
+
+narrow_byte : Byte ≢ Quad
+narrow_byte e = cc
+
+narrow_word : Word ≢ Quad
+narrow_word e = cc
+
+narrow_long : Long ≢ Quad
+narrow_long e = cc
+
+performed_alike : (r : List ℕ) (what : Operation) (xs : List Operand) (o : Operands) (psw : ℕ) (cs : List ℕ) → result_register what xs < 15 →
+    AreAfter r (number_of what) (register_at (number_of what) xs) cs o → Holds (IsAlikeBut (result_register what xs) r) cs (performed what o psw)
+unfolding performed branched
+performed_alike r (does.Compute op Byte inputs target) xs o psw cs few h = computed_alike r xs op Byte inputs target o psw narrow_byte h.0 h.1
+performed_alike r (does.Compute op Word inputs target) xs o psw cs few h = computed_alike r xs op Word inputs target o psw narrow_word h.0 h.1
+performed_alike r (does.Compute op Long inputs target) xs o psw cs few h = computed_alike r xs op Long inputs target o psw narrow_long h.0 h.1
+performed_alike r (does.Branch condition) xs o psw cs few h = λ i low ne. went_alike r (holds condition psw) _ (begun o psw) h.0 i low
+performed_alike r what xs o psw cs few h = absurd (omega arith)
+
+within : (b : Bool) (n : ℕ) → (if b then n else 15) < 15 → b ≡ true
+within true n h = refl
+within false n h = absurd (omega arith)
+
+-- an instruction, by its operands as they are prepared
+pub changes_one : (s : Space) (d : Instruction) (what : Operation) (xs : List Operand) (r : List ℕ) (psw : ℕ) (e : Effect) → what ≡ operation_of d.opcode → map (λ x. x.form) xs ≡ forms_in (row_of d.opcode) →
+    map (λ x. x.spec) xs ≡ d.specs → changed_register what xs < 15 → Ok e ≡ outcome s (planned d r psw) → AreAlikeBut (changed_register what xs) r e.r
+unfolding planned
+changes_one s d what xs r psw e does f g few is =
+    let still : all_leave_registers xs ≡ true = within (all_leave_registers xs) (result_register what xs) few in
+    let same : changed_register what xs ≡ result_register what xs = ap (λ (b : Bool). if b then result_register what xs else 15) still in
+    let low : result_register what xs < 15 = subst (λ (n : ℕ). n < 15) same few in
+    let all : Holds (IsAlikeBut (result_register what xs) r) [] (planned d r psw) =
+    holds-bind (AreAfter r (number_of what) (register_at (number_of what) xs)) (IsAlikeBut (result_register what xs) r) [] (operands_of d r) _ (operands_leave d xs r (number_of what) f g still)
+    (λ ds o h. subst (λ (op : Operation). Holds (IsAlikeBut (result_register what xs) r) ds (performed op o psw)) does (performed_alike r what xs o psw ds low h)) in
+    subst (λ (n : ℕ). AreAlikeBut n r e.r) (sym same) (holds_made (IsAlikeBut (result_register what xs) r) s [] (planned d r psw) e all (sym is))

@@ -1,0 +1,92 @@
+ghost use Rattle.std.specs.Prelude.{◌≡◌, ◌+◌, ◌≤◌, ◌<◌, true, ℕ, [], length, slice_index, take, IfSome};
+ghost use Rattle.vax_table.specs.Operations.{operation_of};
+ghost use Rattle.vax_table.specs.Plan.{is_planned};
+ghost use Rattle.vax_table.specs.Reading.{Whole, decoded_at};
+ghost use Rattle.vax_table.specs.Spelling.{view};
+ghost use Rattle.vax_normal.specs.InMemory.{IsInMemory, in_memory-prop};
+ghost use Rattle.vax_normal.specs.Normal.{IsNormal, normal-prop};
+ghost use Rattle.vax_kept.specs.Changed.{changed_register};
+
+use crate::changed::changed_register;
+use arrayvec::ArrayVec;
+use vax_decode::Decoded;
+use vax_normal::{InMemory, Normal};
+use vax_operand::Prepared;
+use vax_table::{Operation, operation};
+
+/// An instruction that was decoded and prepared, the bytes that spell it, and those that came after them.
+#[derive(Drop)]
+pub struct Kept {
+    pub bytes: [u8; 24],
+    pub prepared: Prepared,
+    /// The first place in a page from which on it lies over the page's end, if it is one of the instructions that `plan_into`
+    /// plans; else 0.
+    pub end: u32,
+    /// The register that it changes, if it changes one of R0 to R14 at most; else 15.
+    pub changed: u8,
+    /// Its normal form, if it has one.
+    pub normal: Option<Normal>,
+    /// The same, if it refers to memory.
+    pub in_memory: Option<InMemory>,
+    ghost sized: { length bytes ≡ 24 },
+    ghost small: { (i : ℕ) → slice_index bytes i < 256 },
+    ghost spelled: { decoded_at (take prepared.decoded.length bytes) ≡ Whole (view prepared.decoded) [] },
+    ghost whole: { 0 < end → end + prepared.decoded.length ≡ 513 },
+    ghost short: { 0 < end → prepared.decoded.length ≤ 24 },
+    ghost changes: { changed ≡ changed_register prepared.operation prepared.operands.items },
+    ghost normal_form: { IfSome normal (λ n. IsNormal n (view prepared.decoded)) } by { normal-prop normal (view prepared.decoded) },
+    ghost memory_form: { IfSome in_memory (λ n. IsInMemory n (view prepared.decoded)) } by { in_memory-prop in_memory (view prepared.decoded) },
+    ghost planned: { 0 < end → is_planned (operation_of prepared.decoded.opcode) ≡ true },
+}
+
+/// Whether an operation is one of those that `plan_into` plans.
+pub fn is_planned(what: Operation) -> bool
+    ensures { result ≡ is_planned what }
+{
+    match what {
+        Operation::Other
+        | Operation::Sensitive(_)
+        | Operation::MoveStatus
+        | Operation::Probe(_)
+        | Operation::Breakpoint
+        | Operation::Customer => false,
+        _ => true,
+    }
+}
+
+/// From which place in a page on an instruction that is kept lies over the page's end, as far as that is asked.
+pub fn end_of(decoded: &Decoded) -> u32
+    ensures whole { 0 < result → result + decoded.now.length ≡ 513 }
+    ensures short { 0 < result → decoded.now.length ≤ 24 }
+    ensures planned { 0 < result → is_planned (operation_of decoded.now.opcode) ≡ true }
+{
+    if is_planned(operation(decoded.opcode)) && decoded.length <= 24 {
+        513 - u32::from(decoded.length)
+    } else {
+        0
+    }
+}
+
+impl Kept {
+    /// WAIT, which fills the places where nothing was decoded yet.
+    #[tactic(auto, unfolding(vax_table::specs::Reading::decoded_at))]
+    pub fn wait() -> Kept {
+        let mut bytes = [0; 24];
+        bytes[0] = 0xFD;
+        bytes[1] = 1;
+        let prepared = Prepared::new(Decoded {
+            opcode: 0xFD,
+            wait: true,
+            length: 2,
+            specs: ArrayVec::new(),
+        });
+        Kept {
+            bytes,
+            changed: changed_register(&prepared),
+            normal: None,
+            in_memory: None,
+            prepared,
+            end: 0,
+        }
+    }
+}
