@@ -31,7 +31,7 @@ half n = 4 * n + 6
 abbrev pub quarter : ℕ → ℕ
 quarter n = 2 * n + 8
 
--- the left upper corner of a box; the rows of one rank are shifted, so that fewer arrows pass after boxes
+-- the left upper corner of a box; the rows of one rank are shifted, so that fewer arrows pass under boxes
 abbrev pub spot : ℕ → List Seat → Seat → Spot
 spot n seats s = record { x = 10 + (4 * column seats s + 3 * (3 - s.height % 4)) * quarter n; y = 10 + 128 * row seats s }
 
