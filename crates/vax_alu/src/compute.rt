@@ -71,7 +71,7 @@ fn plain(value: u32, w: Width, psw: u8) -> Alu
 
 /// Second plus first plus a carry.
 #[tactic(auto, using(crate::proofs::Casts::casts))]
-#[inline]
+#[inline(always)]
 fn sum(a: u32, b: u32, c: bool, w: Width, psw: u8) -> Alu
     requires { w ≢ Width.Quad }
     ensures { result ≡ alu_of_result (sum_of w a b c) psw }
@@ -82,7 +82,7 @@ fn sum(a: u32, b: u32, c: bool, w: Width, psw: u8) -> Alu
 
 /// Second minus first minus a borrow.
 #[tactic(auto, using(crate::proofs::Casts::casts))]
-#[inline]
+#[inline(always)]
 fn difference(a: u32, b: u32, c: bool, w: Width, psw: u8) -> Alu
     requires { w ≢ Width.Quad }
     ensures { result ≡ alu_of_result (difference_of w a b c) psw }
@@ -93,7 +93,7 @@ fn difference(a: u32, b: u32, c: bool, w: Width, psw: u8) -> Alu
 
 /// Second times first.
 #[tactic(auto, using(crate::proofs::Casts::casts))]
-#[inline]
+#[inline(always)]
 fn product(a: u32, b: u32, w: Width, psw: u8) -> Alu
     requires { w ≢ Width.Quad }
     ensures { result ≡ alu_of_result (exactly w (signed_of w b *ℤ signed_of w a) false) psw }
@@ -103,6 +103,7 @@ fn product(a: u32, b: u32, w: Width, psw: u8) -> Alu
 
 /// Second by first, toward zero; a zero divisor gives the dividend, with V and trap 2.
 #[tactic(auto, using(crate::proofs::Casts::casts))]
+#[inline(always)]
 fn divide(a: u32, b: u32, w: Width, psw: u8) -> Alu
     requires { w ≢ Width.Quad }
     ensures { result ≡ alu_of_result (quotient_of w a b) psw }
@@ -119,7 +120,7 @@ fn divide(a: u32, b: u32, w: Width, psw: u8) -> Alu
 
 /// Minus a number, where C says that the result isn't 0.
 #[tactic(auto, using(crate::proofs::Casts::casts))]
-#[inline]
+#[inline(always)]
 fn negate(a: u32, w: Width, psw: u8) -> Alu
     requires { w ≢ Width.Quad }
     ensures { result ≡ alu_of_result (negation_of w a) psw }
@@ -146,6 +147,7 @@ fn compare(a: u32, b: u32, w: Width, psw: u8) -> Alu
 
 /// A number times 2 to a count, rounded down where the count is below 0.
 #[tactic(auto, using(crate::proofs::Casts::casts))]
+#[inline(always)]
 fn shift(b: u32, count: i32, w: Width, psw: u8) -> Alu
     requires { w ≢ Width.Quad }
     ensures { result ≡ alu_of_result (exactly w (shifted (signed_of w b) count) false) psw }
@@ -208,9 +210,8 @@ fn alu_in(op: AluOp, a: u32, b: u32, w: Width, psw: u8) -> Alu
 
 /// The value, the condition codes and the trap of an operation on the low bits of two operands,
 /// by the VAX Architecture Reference Manual. A count of Ash or Rot is the signed low byte of `a`,
-/// and Narrow takes all of `a`. It is written out where it is called, since a call passes the answer
-/// through memory; the functions below leave that to the compiler, so that this one is small
-/// enough.
+/// and Narrow takes all of `a`. It is written out where it is called, and so is all that it calls:
+/// one call alone would pass each operation's answer through memory.
 #[inline(always)]
 pub fn alu(op: AluOp, a: u32, b: u32, w: Width, psw: u8) -> Alu
     requires { w ≢ Width.Quad }

@@ -2,4 +2,3 @@ pub mod Traps
 pub mod One
 pub mod Quiet
 mod Claiming
-mod Sums

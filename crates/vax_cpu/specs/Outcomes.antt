@@ -1,17 +1,25 @@
 -- What was found, with its operands and its plan.
-use Rattle.std.specs.Prelude.{ℕ, Result, Ok, Err}
+use Rattle.std.specs.Prelude.{ℕ, Bool, true, false, Result, Ok, Err}
 use Rattle.vax_hw.specs.declared.world.Exit.{Exit}
 use Rattle.vax_hw.specs.declared.world.Exit.TheVariants.{Emulate, Modify}
 use Rattle.vax_kept.specs.Fetched.{fault_exit}
 use Rattle.vax_table.specs.Effects.{effect}
 use Rattle.vax_table.specs.Whole.{Act as Meaning, Meant, Plain, Probes, Traps, meant, trap_of}
 use Rattle.vax_table.specs.declared.effect.Plan.{Plan}
+use Rattle.vax_table.specs.declared.meaning.Operation.{Operation}
+use Rattle.vax_table.specs.declared.meaning.Operation.TheVariants.{MoveStatus, Probe}
 use Rattle.vax_table.specs.declared.evaluation.Operands.{Operands}
 use Rattle.vax_cpu.specs.declared.perform.Act.{Act}
 use Rattle.vax_cpu.specs.declared.perform.Act.TheVariants as acts
 use Rattle.vax_cpu.specs.declared.perform.Found.{Found}
 use Rattle.vax_cpu.specs.declared.stop.Stop.{Stop}
 use Rattle.vax_cpu.specs.declared.stop.Stop.TheVariants as stops
+
+-- MOVPSL and PROBE
+abbrev pub is_of_status : Operation → Bool
+is_of_status MoveStatus = true
+is_of_status (Probe intent) = true
+is_of_status operation = false
 
 -- what the code's stops stop the machine with; a trap has the operands that there are then
 abbrev pub stop_exit : Operands → Stop → Exit

@@ -10,6 +10,7 @@ ghost use Rattle.vax_normal.specs.Normal.{IsNormal};
 ghost use Rattle.vax_cpu.specs.Completed.{EndsWith, RunsOn, attempted, settled_meaning, with_registers};
 ghost use Rattle.vax_kept.specs.Fetched.{exits};
 
+use crate::here::stands;
 use crate::in_memory::step_in_memory;
 use crate::perform::{attempt, attempt_kept, attempt_known, attempt_of_status, is_of_status};
 use crate::state::State;
@@ -20,7 +21,7 @@ use std::cell::Cell;
 use std::marker::Model;
 use vax_exec::Plan;
 use vax_hw::{Exit, Hardware, World};
-use vax_kept::{Code, Kept, has_known, sum_after};
+use vax_kept::{Code, Kept, renew, sum_after};
 use vax_normal::{Normal, sum_of};
 use vax_operand::Values;
 use vv_base::NoMemory;
@@ -131,7 +132,7 @@ fn step_by(
     ensures { MatchOption result ((state.new ≡ state.old) × (r.new ≡ r.old)) (λ t. (t ≡ sum (take 15 r.new)) × RunsOn (with_registers r.old state.old) (with_registers r.new state.new)) }
 {
     let pc = r[15];
-    if !has_known(&state.mapped(missed), state.world(), kept, pc) {
+    if !stands(state, missed, kept, pc) {
         return None;
     }
     match normal.carry_out(r, state.psw(), total) {
@@ -193,7 +194,7 @@ fn step_of_status(
 
 /// The instruction at PC by the pages that are known, if it is kept and retires by them, and none was missed before: the sum of
 /// R0 to R14 after it. `total` is that sum before it.
-#[inline(always)]
+#[inline(never)]
 fn step_known(
     state: &mut State,
     missed: &Cell<u32>,
@@ -228,6 +229,26 @@ fn step_known(
         missed,
     );
     Some(total)
+}
+
+/// The instruction at PC by what is kept of it, if it retires by that: the sum of R0 to R14 after it. `total` is that sum before
+/// it.
+#[inline(always)]
+fn step_kept(
+    state: &mut State,
+    missed: &Cell<u32>,
+    kept: &Kept,
+    o: &mut Values,
+    plan: &mut Plan,
+    total: u64,
+) -> Option<u64>
+    requires { total ≡ sum (take 15 plan.old.r) }
+    ensures { MatchOption result ((state.new ≡ state.old) × (plan.new.r ≡ plan.old.r)) (λ t. (t ≡ sum (take 15 plan.new.r)) × RunsOn (with_registers plan.old.r state.old) (with_registers plan.new.r state.new)) }
+{
+    if let Some(sum) = step_at_once(state, missed, kept, &mut plan.r, total) {
+        return Some(sum);
+    }
+    step_known(state, missed, kept, o, plan, total)
 }
 
 /// The instruction at PC, whatever it is: the sum of R0 to R14 after it, or with what the run ends, in `exit`.
@@ -278,19 +299,25 @@ fn run_parts(
     let missed = Cell::new(u32::MAX);
     let mut total = sum_of(&plan.r);
     let mut exit = Exit::Budget;
-    for _left in (0..budget).rev() {
-        let kept = code.at(plan.r[15]);
-        if let Some(sum) = step_at_once(state, &missed, kept, &mut plan.r, total) {
+    let mut left = budget;
+    let mut renewals = budget;
+    while left > 0 {
+        let pc = plan.r[15];
+        let kept = code.at(pc);
+        if let Some(sum) = step_kept(state, &missed, kept, o, plan, total) {
             total = sum;
+            left -= 1;
             continue;
         }
-        if let Some(sum) = step_known(state, &missed, kept, o, plan, total) {
-            total = sum;
+        let is_other = kept.end != 0 && missed.get() == u32::MAX;
+        if is_other && renewals > 0 && renew(&state.mapped(&missed), pc, code) {
+            renewals -= 1;
             continue;
         }
         match step_whole(state, &missed, code, o, plan, &mut exit) {
             Some(sum) => {
                 total = sum;
+                left -= 1;
             }
             None => {
                 return exit;

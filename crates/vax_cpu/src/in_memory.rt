@@ -5,12 +5,13 @@ ghost use Rattle.vax_paged.specs.InPage.{IsOpenAt};
 ghost use Rattle.vax_paged.specs.Known.{AreKnown, known_space};
 ghost use Rattle.vax_cpu.specs.Completed.{RunsOn, with_registers};
 
+use crate::here::stands;
 use crate::state::State;
 use std::cell::Cell;
 use vax_hw::World;
-use vax_kept::{Kept, has_known};
+use vax_kept::Kept;
 use vax_normal::{After, InMemory};
-use vax_paged::{Mapped, number_in};
+use vax_paged::{Mapped, number_inside};
 
 /// The place of what a form claims, and the number there; where it claims nothing they don't matter.
 #[derive(Clone, Copy)]
@@ -33,7 +34,7 @@ fn claim(space: &Mapped, world: &World, form: &InMemory, r: &[u32; 16]) -> Optio
         });
     };
     let place = space.open_place(world, reach.address(r), form.width)?;
-    let number = number_in(space.memory, place, form.width);
+    let number = number_inside(space.memory, place, form.width);
     Some(Claimed {
         place,
         number: (number % 0x1_0000_0000) as u32,
@@ -56,10 +57,10 @@ pub fn step_in_memory(
     ensures { MatchOption result ((state.new ≡ state.old) × (r.new ≡ r.old)) (λ t. (t ≡ sum (take 15 r.new)) × RunsOn (with_registers r.old state.old) (with_registers r.new state.new)) }
 {
     let pc = r[15];
-    let space = state.mapped(missed);
-    if !has_known(&space, state.world(), kept, pc) {
+    if !stands(state, missed, kept, pc) {
         return None;
     }
+    let space = state.mapped(missed);
     let claimed = claim(&space, state.world(), form, r)?;
     let found = form.find(&space, r, state.psw(), claimed.number)?;
     let opcode = kept.prepared.decoded.opcode;

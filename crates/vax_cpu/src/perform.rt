@@ -1,5 +1,6 @@
 ghost use Rattle.std.specs.Prelude.{◌≡◌, ◌<◌, ℕ, List, None, Ok, true, IfSome};
-ghost use Rattle.vax_table.specs.Effects.{effect};
+ghost use Rattle.arrayvec.specs.ArrayVec.{array_vec_len};
+ghost use Rattle.vax_table.specs.Effects.{effect, put};
 ghost use Rattle.vax_table.specs.Operand.{operands_of, trap_operands};
 ghost use Rattle.vax_table.specs.Operations.{operation_of};
 ghost use Rattle.vax_table.specs.Plan.{is_planned};
@@ -9,11 +10,12 @@ ghost use Rattle.vax_table.specs.Whole.{acted, first_operand, instruction, is_al
 ghost use Rattle.vax_table.specs.declared.effect.Plan.{Plan};
 ghost use Rattle.vax_table.specs.declared.evaluation.Operands.{Operands};
 ghost use Rattle.vax_table.specs.declared.meaning.Operation.TheVariants.{MoveStatus};
+ghost use Rattle.vv_base.specs.declared.width.Width.TheVariants.{Long};
 ghost use Rattle.vax_operand.specs.Left.{left, operands_with_registers};
 ghost use Rattle.vax_hw.specs.Machine.{seen_psl};
 ghost use Rattle.vax_hw.specs.Real.{in_kernel};
 ghost use Rattle.vax_kept.specs.Changed.{AreAlikeBut};
-ghost use Rattle.vax_cpu.specs.Outcomes.{acts_of, found, meaning_of};
+ghost use Rattle.vax_cpu.specs.Outcomes.{acts_of, found, is_of_status, meaning_of};
 ghost use Rattle.vax_kept.specs.Fetched.{exits};
 ghost use Rattle.vax_cpu.specs.Completed.{attempted, settled, settled_as, settled_meaning};
 ghost use Rattle.vax_paged.specs.Paged.{paged};
@@ -28,7 +30,7 @@ use vax_exec::{Plan, begin, plan_into};
 use vax_hw::{Mode, Psl, Refusal, Sens, Trapped, World};
 use vax_kept::{Fault, Kept, fetch, has_known, has_known_in_page};
 use vax_operand::{
-    Operands, Prepared, Space, Trouble, Values, evaluate, evaluate_into, evaluate_trap,
+    Dest, Operands, Prepared, Space, Trouble, Values, evaluate, evaluate_into, evaluate_trap,
 };
 use vax_paged::Paged;
 use vax_table::Operation;
@@ -187,6 +189,20 @@ fn plain<S: Space>(
     Ok(Act::Plain)
 }
 
+/// A longword at its destination, as `Plan::put` puts it, and in a register without a call.
+#[inline(always)]
+fn put_long(plan: &mut Plan, dest: &Dest, v: u32)
+    requires room { array_vec_len plan.old.writes < 20 }
+    ensures { effect plan.new ≡ put dest.now Long v (effect plan.old) }
+{
+    match *dest {
+        Dest::Register(n) if n < 16 => {
+            plan.r[usize::from(n)] = v;
+        }
+        _ => plan.put(*dest, Width::Long, u64::from(v)),
+    }
+}
+
 /// MOVPSL.
 #[tactic(auto, unfolding(vax_table::specs::Plan::plan_of), using(vax_table::proofs::Scripts::binds))]
 #[inline(always)]
@@ -203,7 +219,7 @@ fn moves_status<S: Space>(
 {
     evaluate_into(s, &kept.prepared, &mut plan.r, o).map_err(stop_of)?;
     begin(plan, (psl.0 % 0x100) as u8);
-    plan.put(o.dests[0], Width::Long, u64::from(psl.0));
+    put_long(plan, &o.dests[0], psl.0);
     Ok(Act::Plain)
 }
 
@@ -324,15 +340,17 @@ fn find(
 fn settle(memory: &[u8], world: &World, act: Act, o: &Values, plan: &mut Plan) -> Result<(), Stop>
     ensures { settled_as (operands_with_registers o.now plan.new.r) plan.new result ≡ settled memory.now world.now (meaning_of (operands_with_registers o.now plan.old.r) plan.old act) }
 {
-    let space = Paged { memory, world };
     match act {
         Act::Plain if plan.writes.is_empty() => Ok(()),
-        Act::Plain => match space.first_clear(plan.writes.as_slice()) {
-            Some(va) => Err(Stop::Modify(va)),
-            None => Ok(()),
-        },
+        Act::Plain => {
+            let space = Paged { memory, world };
+            match space.first_clear(plan.writes.as_slice()) {
+                Some(va) => Err(Stop::Modify(va)),
+                None => Ok(()),
+            }
+        }
         Act::Traps(op) => Err(Stop::Emulate(op)),
-        Act::Probes(intent) => match probe(&space, intent, o) {
+        Act::Probes(intent) => match probe(&Paged { memory, world }, intent, o) {
             Some(is_accessible) => {
                 probed(is_accessible, (world.psl.0 % 0x100) as u8, plan);
                 Ok(())
@@ -371,7 +389,9 @@ pub fn attempt_known(
 }
 
 /// Whether an operation is MOVPSL's or PROBE's.
-pub fn is_of_status(operation: Operation) -> bool {
+pub fn is_of_status(operation: Operation) -> bool
+    ensures { result ≡ is_of_status operation }
+{
     matches!(operation, Operation::MoveStatus | Operation::Probe(_))
 }
 

@@ -1,5 +1,7 @@
-ghost use Rattle.std.specs.Prelude.{◌≡◌, [], ◌∷◌, true, None, ◌+◌, ◌*◌, ◌≤◌, ◌<◌, ◌/◌, ◌^◌, ℕ, length, slice_index, sum, take, IfOk};
+ghost use Rattle.std.specs.Prelude.{◌≡◌, [], ◌∷◌, true, None, ◌+◌, ◌*◌, ◌≤◌, ◌<◌, ◌/◌, ◌^◌, ℕ, length, slice_index, sum, take, IfOk, IfSome, Ok};
 ghost use Rattle.vv_base.specs.Bytes.{long_at, long_bytes, overwritten};
+ghost use Rattle.vax_arch.specs.declared.mode.Intent.TheVariants.{Read};
+ghost use Rattle.vax_hw.specs.RealTables.{everywhere};
 ghost use Rattle.vax_hw.specs.Machine.{Machine, machine_tables, psl_with_psw, psw_of, zeros};
 ghost use Rattle.vax_hw.specs.Real.{misses_after};
 ghost use Rattle.vax_table.specs.Effects.{effect};
@@ -7,6 +9,7 @@ ghost use Rattle.vax_normal.specs.Normal.{quietly};
 ghost use Rattle.vax_cpu.specs.Completed.{completed_but_registers};
 ghost use Rattle.vax_paged.specs.InPage.{IsStoreInPage};
 ghost use Rattle.vax_paged.specs.Known.{AreKnown};
+ghost use Rattle.vax_paged.specs.Paged.{placed};
 
 use std::alloc::Global;
 use std::cell::Cell;
@@ -144,6 +147,25 @@ impl State {
         }
     }
 
+    /// The place of an address in the page of the last instruction.
+    #[inline(always)]
+    pub fn place_here(&self, va: u32) -> Option<usize>
+        ensures is { IfSome result (λ place. placed self.now.memory self.now.world Read va ≡ Ok place) }
+        ensures low { IfSome result (λ place. place ≤ everywhere) }
+    {
+        if !self.known.is_here(self.world.psl, va) {
+            return None;
+        }
+        Some(self.known.here.first as usize + va as usize % 512)
+    }
+
+    /// The page of an address is that of the last instruction from now on, if it is known; nothing else changes.
+    pub fn go_to(&mut self, va: u32)
+        ensures { self.new ≡ self.old }
+    {
+        self.known.go_to(self.world.psl, va);
+    }
+
     /// What the tables say of the page that was missed is known from now on, if there is one and they say anything; nothing
     /// else changes.
     #[cold]
@@ -206,14 +228,16 @@ impl State {
 
     /// Loads both status longwords and the table registers.
     pub fn load(&mut self, w: &World)
-        ensures { self.new ≡ (record self.old { world = w.now }) }
+        ensures { self.new ≡ (record self.old { world = record w.now { r = self.old.world.r } }) }
     {
+        let r = self.world.r;
+        let loaded = World { r, ..*w };
         if has_same_tables(&self.world, w) {
-            self.world = *w;
+            self.world = loaded;
             return;
         }
         self.known.forget();
-        self.world = *w;
+        self.world = loaded;
     }
 
     /// An instruction at an address has retired: its stores are made, the status word is that after it, and it is counted.
@@ -232,11 +256,6 @@ impl State {
         requires few { length stores.now ≤ 20 }
         ensures { self.new ≡ completed_but_registers pc opcode (record { r = r.now; psw = after.psw; writes = stores.now; trap = None }) self.old }
     {
-        // The PSL is read before the stores, so that it is stored as one longword, which the next instruction reads
-        let psl = with_psw(self.world.psl, after.psw);
-        let own = u64::from(pc) + 3 * u64::from(opcode);
-        self.trail = self.trail.wrapping_add(own).wrapping_add(after.total);
-        self.retired = self.retired.wrapping_add(1);
         store_all(
             &mut self.memory,
             &self.world,
@@ -244,7 +263,7 @@ impl State {
             missed,
             stores,
         );
-        self.world.psl = psl;
+        self.retire_at_once(pc, opcode, after.total, after.psw, r);
     }
 
     /// The same of an instruction with a plan. `total` is the sum of R0 to R14 after it.
@@ -276,12 +295,8 @@ impl State {
         requires place { IsStoreInPage self.old.memory self.old.world store.now place }
         ensures { self.new ≡ completed_but_registers pc opcode (record { r = r.now; psw = after.psw; writes = store.now ∷ []; trap = None }) self.old }
     {
-        let psl = with_psw(self.world.psl, after.psw);
-        let own = u64::from(pc) + 3 * u64::from(opcode);
-        self.trail = self.trail.wrapping_add(own).wrapping_add(after.total);
-        self.retired = self.retired.wrapping_add(1);
         store_at(&mut self.memory, &self.world, &mut self.known, place, store);
-        self.world.psl = psl;
+        self.retire_at_once(pc, opcode, after.total, after.psw, r);
     }
 
     /// The status word.

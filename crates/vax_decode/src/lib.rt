@@ -8,7 +8,7 @@ mod scan;
 mod write;
 
 pub use laws::{beginnings_need_more, decoding_undoes_encoding};
-pub use outcome::{Decode, DecodeFault};
-pub use scan::decode;
+pub use outcome::{Decode, DecodeFault, Front};
+pub use scan::{decode, decode_into};
 pub use vax_table::{Decoded, Spec};
 pub use write::encode;

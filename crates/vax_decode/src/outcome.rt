@@ -9,6 +9,14 @@ pub enum DecodeFault {
     Addressing,
 }
 
+/// Whether a whole instruction is at the front of the bytes, or why there is none.
+#[derive(Clone, Copy)]
+pub enum Front {
+    Done,
+    NeedMore,
+    Fault(DecodeFault),
+}
+
 /// What is at the front of the bytes.
 #[derive(Drop)]
 pub enum Decode {

@@ -7,19 +7,18 @@ ghost use Rattle.vax_table.specs.Plan.{is_planned};
 ghost use Rattle.vax_table.specs.Reading.{Whole, decoded_at};
 ghost use Rattle.vax_table.specs.Interaction.{number_at, outcome};
 ghost use Rattle.vax_table.specs.Spelling.{IsWellFormed, view};
-ghost use Rattle.vax_normal.specs.InMemory.{IsInMemory};
 ghost use Rattle.vax_kept.specs.Fetched.{byte_view, decoded_or_exit, exits, refusal_of};
 ghost use Rattle.vax_paged.specs.Known.{AreKnown};
 ghost use Rattle.vax_paged.specs.Paged.{at_byte, paged, placed};
 
 use crate::changed::changed_register;
+use crate::code::Code;
 use crate::fault::{Fault, fault_of};
-use crate::kept::{Kept, end_of};
+use crate::kept::{Kept, end_of, near_end_of};
 use arrayvec::ArrayVec;
-use vax_decode::{Decode, DecodeFault, Decoded, decode};
+use vax_decode::{Decode, DecodeFault, Decoded, Front, decode, decode_into};
 use vax_hw::{Refusal, World};
-use vax_normal::{InMemory, in_memory_of, normal_of};
-use vax_operand::Prepared;
+use vax_normal::{in_memory_of, normal_of};
 use vax_paged::{Mapped, Paged, number_in};
 use vv_base::Width;
 
@@ -165,6 +164,18 @@ pub fn has_known_in_page(space: &Mapped, world: &World, kept: &Kept, pc: u32) ->
     }
 }
 
+/// Whether at most eight kept bytes are at an address that has this place, in one page; it is one that `plan_into` plans.
+#[inline(always)]
+pub fn has_at(memory: &[u8], world: &World, kept: &Kept, pc: u32, place: usize) -> bool
+    requires there { placed memory.now world.now Read pc ≡ Ok place }
+    requires low { place ≤ everywhere }
+    requires inside { pc % 512 < kept.now.near_end }
+    ensures fetched { result ≡ true → Ok (view kept.now.prepared.decoded) ≡ exits (outcome (paged memory.now world.now) (fetched pc)) }
+    ensures planned { is_planned (operation_of kept.now.prepared.decoded.opcode) ≡ true }
+{
+    has_eight(memory, place, &kept.bytes)
+}
+
 /// Whether kept bytes are at an address, by what is known, and the instruction is one that `plan_into` plans.
 #[inline(always)]
 pub fn has_known(space: &Mapped, world: &World, kept: &Kept, pc: u32) -> bool
@@ -207,17 +218,6 @@ fn window(space: &Paged, pc: u32, place: u32) -> [u8; 24]
     bytes
 }
 
-/// The normal form in memory of an instruction that has none without.
-fn in_memory_unless(is_normal: bool, prepared: &Prepared) -> Option<InMemory>
-    requires { IsWellFormed (view prepared.now.decoded) }
-    ensures { IfSome result (λ n. IsInMemory n (view prepared.now.decoded)) }
-{
-    if is_normal {
-        return None;
-    }
-    in_memory_of(prepared)
-}
-
 /// An instruction is kept, with the bytes that it was decoded from, and those that come after it.
 fn keep(kept: &mut Kept, bytes: &[u8; 24], decoded: Decoded)
     requires formed { IsWellFormed (view decoded) }
@@ -226,10 +226,14 @@ fn keep(kept: &mut Kept, bytes: &[u8; 24], decoded: Decoded)
 {
     kept.bytes = *bytes;
     kept.end = end_of(&decoded);
+    kept.near_end = near_end_of(&decoded);
     kept.prepared.renew(decoded);
     kept.changed = changed_register(&kept.prepared);
     kept.normal = normal_of(&kept.prepared);
-    kept.in_memory = in_memory_unless(kept.normal.is_some(), &kept.prepared);
+    kept.in_memory = None;
+    if kept.normal.is_none() {
+        kept.in_memory = in_memory_of(&kept.prepared);
+    }
 }
 
 /// Bytes, and zeros after them.
@@ -278,14 +282,39 @@ fn fetch_anew(space: &Paged, pc: u32, kept: &mut Kept) -> Result<(), Fault>
     Err(Fault::Refused(Refusal::Instruction))
 }
 
-/// What the bytes from an address on spell, whose place this is, is kept, if they spell something.
-fn respell(space: &Paged, pc: u32, place: u32, kept: &mut Kept)
-    requires { place < 2 ^ 30 }
-{
-    let bytes = window(space, pc, place);
-    if let Decode::Done(decoded) = decode(&bytes) {
-        keep(kept, &bytes, decoded);
+/// What bytes spell is kept, if they spell something.
+fn respell(bytes: &[u8; 24], kept: &mut Kept) -> bool {
+    let mut decoded = Decoded {
+        opcode: 0,
+        wait: false,
+        length: 0,
+        specs: ArrayVec::new(),
+    };
+    match decode_into(bytes, &mut decoded) {
+        Front::Done => {
+            keep(kept, bytes, decoded);
+            true
+        }
+        _ => false,
     }
+}
+
+/// Whether other bytes were kept of the instruction at an address than stand there, in a page that is known: what these spell is
+/// kept now. Where that is used it is compared with memory.
+#[cold]
+#[inline(never)]
+pub fn renew(space: &Mapped, pc: u32, code: &mut Code) -> bool {
+    let Some(place) = space.place(pc, false) else {
+        return false;
+    };
+    let at = code.place_for(pc);
+    let kept = &mut code.places[at];
+    if place + 24 > space.memory.len() || has_eight(space.memory, place, &kept.bytes) {
+        return false;
+    }
+    let mut bytes = [0; 24];
+    bytes.copy_from_slice(&space.memory[place..place + 24]);
+    respell(&bytes, kept)
 }
 
 /// The instruction at an address, which is kept, and taken where it was kept already. It is decoded once where all its bytes
@@ -298,8 +327,7 @@ pub fn fetch(space: &Paged, pc: u32, kept: &mut Kept) -> Result<(), Fault>
         if has(space, kept, pc, place) {
             return Ok(());
         }
-        respell(space, pc, place, kept);
-        if has(space, kept, pc, place) {
+        if respell(&window(space, pc, place), kept) && has(space, kept, pc, place) {
             return Ok(());
         }
     }

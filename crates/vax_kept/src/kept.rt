@@ -14,25 +14,31 @@ use vax_normal::{InMemory, Normal};
 use vax_operand::Prepared;
 use vax_table::{Operation, operation};
 
-/// An instruction that was decoded and prepared, the bytes that spell it, and those that came after them.
+/// An instruction that was decoded and prepared, the bytes that spell it, and those that came after them. What is looked at to do
+/// it at once, up to the opcode, lies together, so that it is in few lines of the host's cache.
 #[derive(Drop)]
 pub struct Kept {
-    pub bytes: [u8; 24],
-    pub prepared: Prepared,
+    /// Its normal form in memory, if it refers to memory and has one.
+    pub in_memory: Option<InMemory>,
+    /// Its normal form, if it has one.
+    pub normal: Option<Normal>,
+    /// The register that it changes, if it changes one of R0 to R14 at most; else 15.
+    pub changed: u8,
     /// The first place in a page from which on it lies over the page's end, if it is one of the instructions that `plan_into`
     /// plans; else 0.
     pub end: u32,
-    /// The register that it changes, if it changes one of R0 to R14 at most; else 15.
-    pub changed: u8,
-    /// Its normal form, if it has one.
-    pub normal: Option<Normal>,
-    /// The same, if it refers to memory.
-    pub in_memory: Option<InMemory>,
+    /// The same, if it has at most eight bytes; else 0.
+    pub near_end: u32,
+    pub bytes: [u8; 24],
+    pub prepared: Prepared,
     ghost sized: { length bytes ≡ 24 },
     ghost small: { (i : ℕ) → slice_index bytes i < 256 },
     ghost spelled: { decoded_at (take prepared.decoded.length bytes) ≡ Whole (view prepared.decoded) [] },
     ghost whole: { 0 < end → end + prepared.decoded.length ≡ 513 },
     ghost short: { 0 < end → prepared.decoded.length ≤ 24 },
+    ghost near_whole: { 0 < near_end → near_end + prepared.decoded.length ≡ 513 },
+    ghost near_short: { 0 < near_end → prepared.decoded.length ≤ 8 },
+    ghost near_planned: { 0 < near_end → is_planned (operation_of prepared.decoded.opcode) ≡ true },
     ghost changes: { changed ≡ changed_register prepared.operation prepared.operands.items },
     ghost normal_form: { IfSome normal (λ n. IsNormal n (view prepared.decoded)) } by { normal-prop normal (view prepared.decoded) },
     ghost memory_form: { IfSome in_memory (λ n. IsInMemory n (view prepared.decoded)) } by { in_memory-prop in_memory (view prepared.decoded) },
@@ -67,6 +73,19 @@ pub fn end_of(decoded: &Decoded) -> u32
     }
 }
 
+/// The same of one that has at most eight bytes.
+pub fn near_end_of(decoded: &Decoded) -> u32
+    ensures whole { 0 < result → result + decoded.now.length ≡ 513 }
+    ensures short { 0 < result → decoded.now.length ≤ 8 }
+    ensures planned { 0 < result → is_planned (operation_of decoded.now.opcode) ≡ true }
+{
+    if decoded.length <= 8 {
+        end_of(decoded)
+    } else {
+        0
+    }
+}
+
 impl Kept {
     /// WAIT, which fills the places where nothing was decoded yet.
     #[tactic(auto, unfolding(vax_table::specs::Reading::decoded_at))]
@@ -87,6 +106,7 @@ impl Kept {
             in_memory: None,
             prepared,
             end: 0,
+            near_end: 0,
         }
     }
 }

@@ -5,3 +5,4 @@ pub mod Reaching
 pub mod Touching
 pub mod Sources
 pub mod Storing
+pub mod Pushing

@@ -24,7 +24,7 @@ use Rattle.vax_operand.proofs.Steps.{left_from}
 use Rattle.vax_normal.specs.AtHand.{IsMoved}
 use Rattle.vax_normal.specs.InMemory.{IsInMemory, done_in_memory, finished, found_in_memory, reach_address, sourced_by, stepped_by, stored}
 use Rattle.vax_normal.specs.Normal.{with_result}
-use Rattle.vax_normal.specs.Touched.{IsClaimedAt, IsComputedIn, IsPutIn, all_had}
+use Rattle.vax_normal.specs.Touched.{IsClaimedAt, IsDoneIn, IsPutIn, all_had}
 use Rattle.vax_normal.specs.declared.shape.InMemory.{InMemory}
 use Rattle.vax_normal.specs.declared.shape.Reach.{Reach}
 use Rattle.vax_normal.proofs.Doing.{stored_nothing}
@@ -72,29 +72,29 @@ operands_found : (s : Space) (d : Instruction) (xs : List Operand) (r : List ℕ
 unfolding operands_of
 operands_found s d xs r o f g h = rw (sym f, sym g) h
 
-pub is_in_memory : (n : InMemory) (d : Instruction) (what : Operation) (xs : List Operand) → what ≡ operation_of d.opcode → map (λ x. x.form) xs ≡ forms_in (row_of d.opcode) → map (λ x. x.spec) xs ≡ d.specs →
-    IsWellFormed d → n.length ≡ d.length → IsComputedIn n what xs → IsInMemory n d
+pub is_in_memory : (w : Option Reach) (n : InMemory) (d : Instruction) (what : Operation) (xs : List Operand) → what ≡ operation_of d.opcode → map (λ x. x.form) xs ≡ forms_in (row_of d.opcode) → map (λ x. x.spec) xs ≡ d.specs →
+    IsWellFormed d → n.length ≡ d.length → IsDoneIn w n what xs → IsInMemory n d
 unfolding planned
-is_in_memory n d what xs does f g formed long all s r psw v u sixteen a h =
+is_in_memory w n d what xs does f g formed long all s r psw v u sixteen a h =
     let room : 15 < length r = omega (arith, sixteen) in
     let q : List ℕ = after_opcode d r in
-    let at : ℕ = claimed_address n.writes r in
+    let at : ℕ = claimed_address w r in
     let moved : IsMoved r q = (_, refl) in
     let o : Operands = all_had v u at xs q in
-    let ops = all.0 s 0 v u at r (no_operands q) moved a h (is_claimed_at n.writes r) in
+    let ops = all.0 s 0 v u at r (no_operands q) moved a (all.1 s r u h) (is_claimed_at w r) in
     let found : outcome s (operands_of d r) ≡ Ok o = operands_found s d xs r o f g ops.0 in
     let pc : slice_index o.r 15 ≡ plus (slice_index r 15) d.length = holds_made (λ cs p. slice_index p.r 15 ≡ plus (slice_index r 15) d.length) s [] (operands_of d r) o (operands_go d r formed room) found in
     let mid : List ℕ = stepped_by n.reads r in
-    let after : List ℕ = stepped_by n.writes mid in
+    let after : List ℕ = stepped_by w mid in
     let first = pc_stepped n.reads r in
-    let last = pc_stepped n.writes mid in
+    let last = pc_stepped w mid in
     let there : 15 < length after = omega (arith, room, first.1, last.1) in
     let same : slice_index after 15 ≡ slice_index r 15 = last.0 ∙ first.0 in
     let next : slice_index o.r 15 ≡ plus (slice_index after 15) n.length = pc ∙ ap (λ (x : ℕ). plus x d.length) (sym same) ∙ ap (λ (k : ℕ). plus (slice_index after 15) k) (sym long) in
     let gone : o.r ≡ past_own_bytes n.length after = moved_by after o.r (plus (slice_index after 15) n.length) there ops.1 next in
-    let does_it : performed (operation_of d.opcode) o psw ≡ Done (done_in_memory n v u r psw) =
-    subst (λ (op : Operation). performed op o psw ≡ Done (done_in_memory n v u r psw)) does (all.1 v u at psw r q moved (is_claimed_at n.writes r) gone) in
-    found_on s (operands_of d r) (λ z. performed (operation_of d.opcode) z psw) o (done_in_memory n v u r psw) found (ap (outcome s) does_it)
+    let does_it : outcome s (performed (operation_of d.opcode) o psw) ≡ Ok (done_in_memory n v u r psw) =
+    subst (λ (op : Operation). outcome s (performed op o psw) ≡ Ok (done_in_memory n v u r psw)) does (all.2 s v u at psw r q moved h (is_claimed_at w r) gone) in
+    found_on s (operands_of d r) (λ z. performed (operation_of d.opcode) z psw) o (done_in_memory n v u r psw) found does_it
 
 -- what is found is what is done, where it doesn't trap
 pub found_is : (n : InMemory) (v u : ℕ) (r : List ℕ) (psw a b : ℕ) (x : Alu) → a ≡ sourced_by n.first v u r → b ≡ sourced_by n.second v u r → x ≡ alu_of n.op a b n.width psw → x.trap ≡ None →
@@ -106,7 +106,7 @@ found_is n v u r psw a b x e f is none =
     ap (λ (z : Alu). let y : Effect = record { r = finished n z.value r; psw = z.psw; writes = stored n.writes r n.width z.value; trap = z.trap } in y) here
     ∙ ap (λ (t : Option ℕ). let y : Effect = record { r = finished n x.value r; psw = x.psw; writes = stored n.writes r n.width x.value; trap = t } in y) none
 
-pub form_found : (o : Option InMemory) (d : Instruction) (what : Operation) (xs : List Operand) (k : ℕ) → what ≡ operation_of d.opcode → map (λ x. x.form) xs ≡ forms_in (row_of d.opcode) → map (λ x. x.spec) xs ≡ d.specs →
-    IsWellFormed d → k ≡ d.length → IfSome o (λ n. IsComputedIn n what xs) → IfSome o (λ n. n.length ≡ k) → IfSome o (λ n. IsInMemory n d)
-form_found None d what xs k does f g formed long all by = tt
-form_found (Some n) d what xs k does f g formed long all by = is_in_memory n d what xs does f g formed (by ∙ long) all
+pub form_found : (w : InMemory → Option Reach) (o : Option InMemory) (d : Instruction) (what : Operation) (xs : List Operand) (k : ℕ) → what ≡ operation_of d.opcode → map (λ x. x.form) xs ≡ forms_in (row_of d.opcode) → map (λ x. x.spec) xs ≡ d.specs →
+    IsWellFormed d → k ≡ d.length → IfSome o (λ n. IsDoneIn (w n) n what xs) → IfSome o (λ n. n.length ≡ k) → IfSome o (λ n. IsInMemory n d)
+form_found w None d what xs k does f g formed long all by = tt
+form_found w (Some n) d what xs k does f g formed long all by = is_in_memory (w n) n d what xs does f g formed (by ∙ long) all

@@ -81,6 +81,22 @@ pub around_codes : (z : 0 < 15) (k : 2 < 15) (g : Long ≢ Quad) → (done_in_me
 unfolding done_in_memory alu_of
 around_codes z k g = refl
 
+-- PUSHL of a register: it is stored below SP, which goes down to there; PUSHL SP pushes SP as it was
+abbrev push : (n : ℕ) → n < 15 → 0 < 15 → 14 < 15 → Long ≢ Quad → InMemory
+push n h z k g = record { op = Move; width = Long; first = record (constant 0 z) { number = record { register = n; mask = 0xffffffff; constant = 0; there = h } }; second = constant 0 z; register = 15; reads = None; writes = Some (reach 14 0xfffffffc 0xfffffffc Long k g); length = 2; narrow = g; claims = refl }
+
+pub pushed : (h : 3 < 15) (z : 0 < 15) (k : 14 < 15) (g : Long ≢ Quad) → (done_in_memory (push 3 h z k g) 0 0 registers 1).writes ≡ store 10 Long 0x12345678 ∷ []
+unfolding done_in_memory alu_of
+pushed h z k g = refl
+
+pub pushed_down : (h : 3 < 15) (z : 0 < 15) (k : 14 < 15) (g : Long ≢ Quad) → slice_index (done_in_memory (push 3 h z k g) 0 0 registers 1).r 14 ≡ 10
+unfolding done_in_memory alu_of
+pushed_down h z k g = refl
+
+pub pushed_itself : (h : 14 < 15) (z : 0 < 15) (k : 14 < 15) (g : Long ≢ Quad) → (done_in_memory (push 14 h z k g) 0 0 registers 1).writes ≡ store 10 Long 14 ∷ []
+unfolding done_in_memory alu_of
+pushed_itself h z k g = refl
+
 -- MOVL (R1)+,R1: the result comes after the step
 pub result_last : (z : 0 < 15) (h : 1 < 15) (g : Long ≢ Quad) →
     slice_index (done_in_memory (record { op = Move; width = Long; first = read z; second = constant 0 z; register = 1; reads = Some (reach 1 0 4 Long h g); writes = None; length = 3; narrow = g; claims = tt }) 0x55 0 registers 0).r 1 ≡ 0x55

@@ -93,9 +93,10 @@ abbrev pub IsPutIn : ℕ → Option Reach → Dest → List ℕ → Type 0
 IsPutIn n p dest r = (w : Width) (v psw : ℕ) (q : List ℕ) (trap : Option ℕ) →
     put dest w v (record { r = q; psw = psw; writes = []; trap = trap }) ≡ record { r = with_result n w v q; psw = psw; writes = stored p r w v; trap = trap }
 
--- an operation after operands does what a form says
-abbrev pub IsComputedIn : InMemory → Operation → List Operand → Type 0
-IsComputedIn n what xs =
-    AreTouched (record { reads = n.reads; writes = n.writes }) xs
-    × ((v u at psw : ℕ) (r q : List ℕ) → IsMoved r q → IsClaimedAt n.writes r at → (all_had v u at xs q).r ≡ past_own_bytes n.length (stepped_by n.writes (stepped_by n.reads r)) →
-    performed what (all_had v u at xs q) psw ≡ Done (done_in_memory n v u r psw))
+-- an operation after operands that claim so much does what a form says, wherever the form can claim
+abbrev pub IsDoneIn : Option Reach → InMemory → Operation → List Operand → Type 0
+IsDoneIn w n what xs =
+    AreTouched (record { reads = n.reads; writes = w }) xs
+    × ((s : Space) (r : List ℕ) (u : ℕ) → HasClaimed s n.writes r u → HasClaimed s w r u)
+    × ((s : Space) (v u at psw : ℕ) (r q : List ℕ) → IsMoved r q → HasClaimed s n.writes r u → IsClaimedAt w r at → (all_had v u at xs q).r ≡ past_own_bytes n.length (stepped_by w (stepped_by n.reads r)) →
+    outcome s (performed what (all_had v u at xs q) psw) ≡ Ok (done_in_memory n v u r psw))

@@ -5,6 +5,7 @@ mod carry_out;
 mod in_memory;
 mod make;
 mod number;
+mod push;
 mod reach;
 mod shape;
 mod total;

@@ -5,10 +5,11 @@ ghost use Rattle.vax_table.specs.Spelling.{IsWellFormed, view};
 ghost use Rattle.vax_normal.specs.AtHand.{IsMoved};
 ghost use Rattle.vax_normal.specs.InMemory.{IsInMemory, reach_stepped, sourced_by};
 ghost use Rattle.vax_normal.specs.Normal.{number_by};
-ghost use Rattle.vax_normal.specs.Touched.{AreTouched, IsClaimedAt, IsComputedIn, IsPutIn, all_had, dest_had, is_kept_over_all, is_kept_over, value_had};
+ghost use Rattle.vax_normal.specs.Touched.{AreTouched, IsClaimedAt, IsDoneIn, IsPutIn, all_had, dest_had, is_kept_over_all, is_kept_over, value_had};
 
 use crate::make::{is_at_hand, is_narrow};
 use crate::number::number_of;
+use crate::push::pushed_in_memory;
 use crate::reach::reach_by;
 use crate::shape::{InMemory, Number, Reach, Source};
 use vax_operand::{Base, Kind, Operand, Prepared};
@@ -78,7 +79,7 @@ fn before_written(base: Base, x: &Operand, rest: &Touches) -> Option<Touches>
 }
 
 /// What operands touch.
-fn touches_of(operands: &[Operand]) -> Option<Touches>
+pub fn touches_of(operands: &[Operand]) -> Option<Touches>
     ensures { IfSome result (λ t. AreTouched t operands.now) }
 {
     let [x, rest @ ..] = operands else {
@@ -127,7 +128,7 @@ fn at_hand(number: Number) -> Source
 }
 
 /// A constant.
-fn constant(value: u32) -> Source
+pub fn constant(value: u32) -> Source
     ensures { (v u : ℕ) (r : List ℕ) → sourced_by result v u r ≡ value }
 {
     at_hand(Number::constant(value))
@@ -154,7 +155,7 @@ fn source_of(x: &Operand) -> Option<Source>
 }
 
 /// That of the operand of this number, from 0 on.
-fn source_at(i: usize, operands: &[Operand]) -> Option<Source>
+pub fn source_at(i: usize, operands: &[Operand]) -> Option<Source>
     requires { i < 4 }
     ensures { IfSome result (λ n. (v u at : ℕ) (r q : List ℕ) → IsMoved r q → long_of (all_had v u at operands.now q) i ≡ sourced_by n v u r) }
 {
@@ -247,7 +248,7 @@ fn computed_in_memory(
     operands: &[Operand],
     length: u32,
 ) -> Option<InMemory>
-    ensures is { IfSome result (λ n. IsComputedIn n (Operation.Compute op width inputs target) operands.now) }
+    ensures is { IfSome result (λ n. IsDoneIn n.writes n (Operation.Compute op width inputs target) operands.now) }
     ensures length { IfSome result (λ n. n.length ≡ length) }
 {
     if !is_narrow(width) {
@@ -282,6 +283,7 @@ pub fn in_memory_of(prepared: &Prepared) -> Option<InMemory>
         Operation::Compute(op, width, inputs, target) => {
             computed_in_memory(op, width, inputs, target, operands, length)
         }
+        Operation::Push => pushed_in_memory(operands, length),
         _ => None,
     }
 }

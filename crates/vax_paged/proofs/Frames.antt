@@ -3,7 +3,9 @@ use Rattle.std.proofs.Common.{◌≡◌, ℕ, zero, suc, drop, ◌+◌, ◌*◌,
 use Rattle.std.specs.Prelude.{◌==◌, ◌&&◌, nat_lt, slice_index_or, All}
 use Rattle.std.proofs.lemmas.List.{at_drop_more}
 use Rattle.vv_base.specs.Width.{size_of}
+use Rattle.vax_arch.specs.Fields.{current_of}
 use Rattle.vax_arch.specs.declared.mode.Intent.TheVariants.{Write}
+use Rattle.vax_hw.specs.Machine.{machine_tables}
 use Rattle.vax_hw.specs.declared.world.World.{World}
 use Rattle.vax_table.specs.Stores.{all_stored}
 use Rattle.vax_table.specs.declared.effect.Store.{Store}
@@ -25,7 +27,7 @@ store_in_frame memory w ks page base x all at room t =
     let low : x.va < 2 ^ 32 = below_of x.va (2 ^ 32) small in
     let fits : x.va % 512 + size_of x.width < 513 = below_of (x.va % 512 + size_of x.width) 513 whole in
     record {
-      placed_at = page_placed memory w ks page base x.va all at low (eq_of (x.va / 512) page there);
+      placed_at = page_placed memory (machine_tables w) (current_of w.psl.0) ks Write page base x.va all at low (eq_of (x.va / 512) page there);
       small = low;
       in_page = omega (arith, fits);
       in_memory = omega (arith, fits, room);

@@ -7,7 +7,7 @@ use Rattle.std.proofs.lemmas.Option.{get_or_from_slice_get, slice_get_within}
 use Rattle.vv_base.specs.Bytes.{long_at}
 use Rattle.vax_arch.specs.Fields.{current_of, frame_of, is_modified}
 use Rattle.vax_arch.specs.Protection.{may_of}
-use Rattle.vax_arch.specs.Walk.{granted, is_clear_at, page_of}
+use Rattle.vax_arch.specs.Walk.{Tables, granted, is_clear_at, page_of}
 use Rattle.vax_arch.specs.WalkLaws.{table_place}
 use Rattle.vax_arch.specs.declared.mode.Intent.{Intent}
 use Rattle.vax_arch.specs.declared.mode.Intent.TheVariants.{Read, Write}
@@ -21,7 +21,7 @@ use Rattle.vax_hw.specs.declared.world.World.{World}
 use Rattle.vax_table.specs.Interaction.{Below, Cause}
 use Rattle.vax_table.specs.Interaction as interaction
 use Rattle.vax_table.proofs.Tests.{eq_of}
-use Rattle.vax_paged.specs.Known.{AreKnown, IsKnownIn, known_space, page_for, place_in_known, place_known}
+use Rattle.vax_paged.specs.Known.{AreKnown, AreKnownIn, IsKnownIn, known_space, page_for, place_in_known, place_known}
 use Rattle.vax_paged.specs.Paged.{is_clear_for, look_of, paged, placed}
 use Rattle.vax_paged.specs.declared.entries.Look.TheVariants as looks
 use Rattle.vax_paged.specs.declared.known.Known.{Known}
@@ -132,43 +132,43 @@ pub below_of : (a b : ℕ) → nat_lt a b ≡ true → a < b
 below_of a b h = grind (arith, nat_tests)
 
 -- a known page by which an address has a place
-record Gives (memory : List ℕ) (w : World) (i : Intent) (va p : ℕ) (k : Known) : Type 0 where
-  known : IsKnownIn memory (machine_tables w) (current_of w.psl.0) k
+record Gives (memory : List ℕ) (t : Tables) (m : Mode) (i : Intent) (va p : ℕ) (k : Known) : Type 0 where
+  known : IsKnownIn memory t m k
   page : page_for i k ≡ page_of va
   small : va < 2 ^ 32
   place : k.base + va % 512 ≡ p
 
-given_in : (memory : List ℕ) (w : World) (i : Intent) (va p : ℕ) (o : Option Known) → ((k : Known) → o ≡ Some k → IsKnownIn memory (machine_tables w) (current_of w.psl.0) k) → place_in_known i va o ≡ Ok p → (k : Known) × Gives memory w i va p k
-given_in memory w i va p None all h = cc
-given_in memory w i va p (Some k) all h =
+given_in : (memory : List ℕ) (t : Tables) (m : Mode) (i : Intent) (va p : ℕ) (o : Option Known) → ((k : Known) → o ≡ Some k → IsKnownIn memory t m k) → place_in_known i va o ≡ Ok p → (k : Known) × Gives memory t m i va p k
+given_in memory t m i va p None all h = cc
+given_in memory t m i va p (Some k) all h =
     let (holds, place) = chosen ((page_for i k == page_of va) && nat_lt va (2 ^ 32)) (k.base + va % 512) p interaction.Absent h in
     let (page, small) = both_are (page_for i k == page_of va) (nat_lt va (2 ^ 32)) holds in
     (k, record { known = all k refl; page = eq_of (page_for i k) (page_of va) page; small = below_of va (2 ^ 32) small; place = place })
 
-is_known : (memory : List ℕ) (w : World) (ks : List Known) (n : ℕ) → AreKnown memory w ks → (k : Known) → slice_get ks n ≡ Some k → IsKnownIn memory (machine_tables w) (current_of w.psl.0) k
-is_known memory w ks n all k e = subst (IsKnownIn memory (machine_tables w) (current_of w.psl.0)) (get_or_from_slice_get ks n k k e) (all n k (slice_get_within ks n k e))
+is_known : (memory : List ℕ) (t : Tables) (m : Mode) (ks : List Known) (n : ℕ) → AreKnownIn memory t m ks → (k : Known) → slice_get ks n ≡ Some k → IsKnownIn memory t m k
+is_known memory t m ks n all k e = subst (IsKnownIn memory t m) (get_or_from_slice_get ks n k k e) (all n k (slice_get_within ks n k e))
 
-given : (memory : List ℕ) (w : World) (ks : List Known) (i : Intent) (va p : ℕ) → AreKnown memory w ks → place_known ks i va ≡ Ok p → (k : Known) × Gives memory w i va p k
-given memory w ks i va p all h = given_in memory w i va p (slice_get ks (page_of va % 256)) (is_known memory w ks (page_of va % 256) all) h
+given : (memory : List ℕ) (t : Tables) (m : Mode) (ks : List Known) (i : Intent) (va p : ℕ) → AreKnownIn memory t m ks → place_known ks i va ≡ Ok p → (k : Known) × Gives memory t m i va p k
+given memory t m ks i va p all h = given_in memory t m i va p (slice_get ks (page_of va % 2048)) (is_known memory t m ks (page_of va % 2048) all) h
 
 pub known_placed : (memory : List ℕ) (w : World) (ks : List Known) (i : Intent) (va p : ℕ) → AreKnown memory w ks → place_known ks i va ≡ Ok p → placed memory w i va ≡ Ok p
 known_placed memory w ks i va p all h =
-    let (k, g) = given memory w ks i va p all h in
+    let (k, g) = given memory (machine_tables w) (current_of w.psl.0) ks i va p all h in
     g.known.placed i va g.small g.page ∙ ap (λ (n : ℕ). Ok n) g.place
 
 -- and so each address of its page
-pub page_placed : (memory : List ℕ) (w : World) (ks : List Known) (page p va : ℕ) → AreKnown memory w ks → place_known ks Write (512 * page) ≡ Ok p → va < 2 ^ 32 → va / 512 ≡ page → placed memory w Write va ≡ Ok (p + va % 512)
-page_placed memory w ks page p va all h small there =
-    let (k, g) = given memory w ks Write (512 * page) p all h in
+pub page_placed : (memory : List ℕ) (t : Tables) (m : Mode) (ks : List Known) (i : Intent) (page p va : ℕ) → AreKnownIn memory t m ks → place_known ks i (512 * page) ≡ Ok p → va < 2 ^ 32 → va / 512 ≡ page → place_in memory t m i va ≡ Ok (p + va % 512)
+page_placed memory t m ks i page p va all h small there =
+    let (k, g) = given memory t m ks i (512 * page) p all h in
     let same : page_of (512 * page) ≡ page_of va = omega (arith, there) in
     let base : k.base + (512 * page) % 512 ≡ p = g.place in
     let place : k.base + va % 512 ≡ p + va % 512 = omega (arith, base) in
-    g.known.placed Write va small (g.page ∙ same) ∙ ap (λ (n : ℕ). Ok n) place
+    g.known.placed i va small (g.page ∙ same) ∙ ap (λ (n : ℕ). Ok n) place
 
 -- and a page that may be written is modified
 pub known_clear : (memory : List ℕ) (w : World) (ks : List Known) (va p : ℕ) → AreKnown memory w ks → place_known ks Write va ≡ Ok p → is_clear_for memory w va ≡ false
 known_clear memory w ks va p all h =
-    let (k, g) = given memory w ks Write va p all h in
+    let (k, g) = given memory (machine_tables w) (current_of w.psl.0) ks Write va p all h in
     g.known.modified va g.small g.page
 
 below_on : (memory : List ℕ) (b : ℕ) (x y : Result ℕ Cause) → ((p : ℕ) → x ≡ Ok p → y ≡ Ok p) → byte_by memory x ≡ Ok b → byte_by memory y ≡ Ok b
@@ -208,5 +208,5 @@ next_in i va p (Some k) h e =
 pub next_known : (ks : List Known) (i : Intent) (va p : ℕ) → va % 512 + 1 < 512 → place_known ks i va ≡ Ok p → place_known ks i (va + 1) ≡ Ok (p + 1)
 next_known ks i va p h e =
     let same : page_of (va + 1) ≡ page_of va = omega arith in
-    ap (λ (page : ℕ). place_in_known i (va + 1) (slice_get ks (page % 256))) same
-    ∙ next_in i va p (slice_get ks (page_of va % 256)) h e
+    ap (λ (page : ℕ). place_in_known i (va + 1) (slice_get ks (page % 2048))) same
+    ∙ next_in i va p (slice_get ks (page_of va % 2048)) h e

@@ -1,5 +1,5 @@
 -- Pages of an earlier tag say nothing, and one that is put with the present tag is known.
-use Rattle.std.proofs.Common.{◌≡◌, ℕ, ◌+◌, ◌-◌, ◌^◌, ◌<◌, ◌≤◌, Bool, true, false, List, All, map, replicate, slice_set, refl, ap, sym, subst, arith}
+use Rattle.std.proofs.Common.{◌≡◌, ℕ, ◌+◌, ◌-◌, ◌^◌, ◌<◌, ◌≤◌, Bool, true, false, List, All, map, replicate, slice_set, refl, ap, sym, subst, arith, true≢false}
 use Rattle.std.specs.Prelude.{if◌then◌else◌, ◌&&◌, not, nat_lt}
 use Rattle.std.proofs.lemmas.Bool.Decides.{nat_tests}
 use Rattle.std.proofs.lemmas.List.{map-set}
@@ -9,7 +9,7 @@ use Rattle.vax_arch.specs.declared.mode.Intent.{Intent}
 use Rattle.vax_arch.specs.declared.mode.Intent.TheVariants.{Read, Write}
 use Rattle.vax_arch.specs.declared.mode.Mode.{Mode}
 use Rattle.vax_paged.specs.Known.{AreKnownIn, IsKnownIn, page_for}
-use Rattle.vax_paged.specs.Tagged.{AreTagged, HasEarlierTag, at_present, no_page, untagged, with_tag, with_tags}
+use Rattle.vax_paged.specs.Tagged.{MayHaveSome, AreTagged, HasEarlierTag, at_present, no_page, untagged, with_tag, with_tags}
 use Rattle.vax_paged.specs.declared.known.Known.{Known}
 use Rattle.vax_paged.specs.declared.pages.Tagged.{Tagged}
 
@@ -112,3 +112,16 @@ put_tagged tag ks at k x e h =
       most = h.most;
       before = All-set (HasEarlierTag (tag + 8388608)) ks at x (subst (HasEarlierTag (tag + 8388608)) (sym e) one) h.before;
     }
+
+-- And whether there is one of the present tag.
+
+pub next_none : (tag : ℕ) (ks : List Tagged) → AreTagged tag ks → tag ≤ 4278190080 → MayHaveSome (tag + 8388608) false ks
+next_none tag ks h le = record { tagged = next_tagged tag ks h le; none = λ e. h.before }
+
+pub none_of : (n : ℕ) (x : Tagged) → x ≡ no_page → MayHaveSome 8388608 false (replicate n x)
+none_of n x e =
+    let none : HasEarlierTag 8388608 no_page = record { read = omega arith; write = omega arith } in
+    record { tagged = none_tagged n x e; none = λ f. All-replicate (HasEarlierTag 8388608) n x (subst (HasEarlierTag 8388608) (sym e) none) }
+
+pub put_some : (tag : ℕ) (some : Bool) (ks : List Tagged) (at : ℕ) (k : Known) (x : Tagged) → x ≡ with_tags k tag → MayHaveSome tag some ks → MayHaveSome tag true (slice_set ks at x)
+put_some tag some ks at k x e h = record { tagged = put_tagged tag ks at k x e h.tagged; none = λ f. absurd (true≢false f) }

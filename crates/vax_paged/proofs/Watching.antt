@@ -116,7 +116,7 @@ agrees_before memory other a b marks mark agrees = λ at holds.
     agrees at (same ∙ holds)
 
 pub all_same : (memory : List ℕ) (t : Tables) (a b : KnownPages) → b ≡ (record a { marks = b.marks }) → AreAllIn memory t a → AreAllIn memory t b
-all_same memory t a b same h = subst (AreAllIn memory t) (sym same) (record { kernel = h.kernel; executive = h.executive; supervisor = h.supervisor; user = h.user })
+all_same memory t a b same h = subst (AreAllIn memory t) (sym same) (record { kernel = h.kernel; executive = h.executive; supervisor = h.supervisor; user = h.user; here = h.here })
 
 -- one byte that is stored
 pub byte_elsewhere : (memory new : List ℕ) (p byte : ℕ) → new ≡ slice_set memory p byte → IsSameBut p p memory new

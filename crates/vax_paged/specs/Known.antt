@@ -15,6 +15,7 @@ use Rattle.vax_table.specs.Interaction.{Cause, Space}
 use Rattle.vax_table.specs.Interaction as interaction
 use Rattle.vax_paged.specs.declared.known.Known.{Known}
 use Rattle.vax_paged.specs.declared.known.Learned.{Learned}
+use Rattle.vax_paged.specs.declared.modes.Here.{Here}
 use Rattle.vax_paged.specs.declared.modes.KnownPages.{KnownPages}
 
 -- the page that may be used so
@@ -46,12 +47,17 @@ watches marks mark place = get_or marks (place / 512) mark == mark
 abbrev pub Agrees : KnownPages → (memory other : List ℕ) → Type 0
 Agrees p memory other = (at : ℕ) → watches p.marks.items p.mark at ≡ true → slice_index other at ≡ slice_index memory at
 
--- in each mode
+-- the page of the last instruction may be read by a PSL with these high bits, and its first byte lies there
+abbrev pub IsHere : List ℕ → Tables → Here → Type 0
+IsHere memory t h = (psl va : ℕ) → va < 2 ^ 32 → h.page ≡ page_of va → h.high ≡ psl / 2 ^ 24 → place_in memory t (current_of psl) Read va ≡ Ok (h.first + va % 512)
+
+-- in each mode, and the page of the last instruction
 pub record AreAllIn (memory : List ℕ) (t : Tables) (p : KnownPages) : Type 0 where
   pub kernel : AreKnownIn memory t Kernel p.kernel
   pub executive : AreKnownIn memory t Executive p.executive
   pub supervisor : AreKnownIn memory t Supervisor p.supervisor
   pub user : AreKnownIn memory t User p.user
+  pub here : IsHere memory t p.here
 
 -- as long as memory stays as it is where stores are watched
 abbrev pub AreAllKnown : List ℕ → Tables → KnownPages → Type 0
@@ -67,7 +73,7 @@ place_in_known i va None = Err interaction.Absent
 place_in_known i va (Some k) = if (page_for i k == page_of va) && nat_lt va (2 ^ 32) then Ok (k.base + va % 512) else Err interaction.Absent
 
 abbrev pub place_known : List Known → Intent → ℕ → Result ℕ Cause
-place_known ks i va = place_in_known i va (slice_get ks (page_of va % 256))
+place_known ks i va = place_in_known i va (slice_get ks (page_of va % 2048))
 
 -- known pages as a space for instructions: what isn't known isn't there
 abbrev pub known_space : List ℕ → List Known → Space

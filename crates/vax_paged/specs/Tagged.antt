@@ -1,5 +1,5 @@
 -- Known pages with a tag, which is added to their numbers: those of another tag say nothing.
-use Rattle.std.specs.Prelude.{ℕ, ◌+◌, ◌-◌, ◌<◌, ◌≤◌, ◌&&◌, not, nat_lt, if◌then◌else◌, List, All}
+use Rattle.std.specs.Prelude.{ℕ, ◌≡◌, ◌+◌, ◌-◌, ◌<◌, ◌≤◌, ◌&&◌, Bool, false, not, nat_lt, if◌then◌else◌, List, All}
 use Rattle.vax_arch.specs.declared.mode.Intent.{Intent}
 use Rattle.vax_arch.specs.declared.mode.Intent.TheVariants.{Read, Write}
 use Rattle.vax_paged.specs.declared.known.Known.{Known}
@@ -38,3 +38,8 @@ pub record AreTagged (tag : ℕ) (ks : List Tagged) : Type 0 where
   pub some : 8388608 ≤ tag
   pub most : tag ≤ 4286578688
   pub before : All (HasEarlierTag (tag + 8388608)) ks
+
+-- pages of this tag or earlier ones, of earlier ones alone where none is said to have this tag
+pub record MayHaveSome (tag : ℕ) (has_some : Bool) (ks : List Tagged) : Type 0 where
+  pub tagged : AreTagged tag ks
+  pub none : has_some ≡ false → All (HasEarlierTag tag) ks

@@ -1,4 +1,4 @@
-ghost use Rattle.std.specs.Prelude.{◌≡◌, ◌+◌, ◌*◌, ◌≤◌, ◌<◌, ◌%◌, ◌^◌, if◌then◌else◌, ℕ, List, None, Ok, true, IfOk, IfSome};
+ghost use Rattle.std.specs.Prelude.{◌≡◌, ◌+◌, ◌*◌, ◌≤◌, ◌<◌, ◌%◌, ◌^◌, if◌then◌else◌, ℕ, List, None, Ok, true, length, IfOk, IfSome};
 ghost use Rattle.vv_base.specs.Width.{size_of};
 ghost use Rattle.vax_arch.specs.Fields.{current_of, frame_of, is_modified};
 ghost use Rattle.vax_arch.specs.Protection.{may_of};
@@ -175,19 +175,20 @@ impl Mapped<'_> {
         }
     }
 
-    /// The place of a number of one known page that may be written, where memory has it whole.
+    /// The place of a number of one known page that may be written, where memory has it whole, and eight bytes.
     #[inline(always)]
     pub fn open_place(&self, world: &World, va: u32, w: Width) -> Option<usize>
         requires { AreKnown self.now.memory.now world.now self.now.known.now }
         ensures open { IfSome result (IsOpenAt self.now.memory.now world.now self.now.known.now va w) }
         ensures low { IfSome result (λ place. place ≤ everywhere) }
+        ensures eight { IfSome result (λ place. place + 8 ≤ length self.now.memory.now) }
     {
         let bytes = u32::from(w.bytes());
         if va % 512 + bytes > 512 {
             return None;
         }
         match self.place(va, true) {
-            Some(place) if place + bytes as usize <= self.memory.len() => Some(place),
+            Some(place) if place + 8 <= self.memory.len() => Some(place),
             _ => None,
         }
     }

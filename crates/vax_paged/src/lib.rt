@@ -11,7 +11,7 @@ mod stores;
 
 pub use entries::{Entry, Paged};
 pub use known::{Known, Learned, Mapped};
-pub use memory::{byte_in, number_in};
+pub use memory::{byte_in, number_in, number_inside};
 pub use modes::KnownPages;
 pub use pages::ModePages;
 pub use stores::{store_all, store_at};

@@ -1,6 +1,6 @@
-ghost use Rattle.std.specs.Prelude.{◌≡◌, ◌+◌, ◌*◌, ◌≤◌, ◌<◌, ◌^◌, length, slice_index, slice_set};
+ghost use Rattle.std.specs.Prelude.{◌≡◌, ◌+◌, ◌-◌, ◌*◌, ◌≤◌, ◌<◌, ◌^◌, length, slice_index, slice_set};
 ghost use Rattle.vv_base.specs.Bytes.{long_at};
-ghost use Rattle.vv_base.specs.Width.{size_of};
+ghost use Rattle.vv_base.specs.Width.{bits_of, size_of};
 ghost use Rattle.vax_hw.specs.RealTables.{everywhere};
 ghost use Rattle.vax_paged.specs.InPage.{above_bytes, number_from, stored_from};
 
@@ -72,20 +72,10 @@ fn quad_at_end(memory: &[u8], at: usize) -> u64
     u64::from(long_in(memory, at)) + 0x1_0000_0000 * u64::from(long_in(memory, at + 4))
 }
 
-/// The quadword at a place; each of its bytes that lies beyond memory is 0.
-fn quad_in(memory: &[u8], at: usize) -> u64
-    requires { at ≤ everywhere }
-    ensures { result ≡ long_at memory.now at + 2 ^ 32 * long_at memory.now (at + 4) }
-{
-    if at + 8 <= memory.len() {
-        u64::from(get_u32(memory, at)) + 0x1_0000_0000 * u64::from(get_u32(memory, at + 4))
-    } else {
-        quad_at_end(memory, at)
-    }
-}
-
-/// The number of a width at a place; each of its bytes that lies beyond memory is 0.
-pub fn number_in(memory: &[u8], at: usize, w: Width) -> u64
+/// The number of a width at a place at or over the memory's end.
+#[cold]
+#[inline(never)]
+fn number_at_end(memory: &[u8], at: usize, w: Width) -> u64
     requires { at ≤ everywhere }
     ensures is { result ≡ number_from memory.now (size_of w) at }
     ensures fits { result < 256 ^ size_of w }
@@ -94,7 +84,46 @@ pub fn number_in(memory: &[u8], at: usize, w: Width) -> u64
         Width::Byte => u64::from(byte_in(memory, at)),
         Width::Word => word_in(memory, at),
         Width::Long => u64::from(long_in(memory, at)),
-        Width::Quad => quad_in(memory, at),
+        Width::Quad => quad_at_end(memory, at),
+    }
+}
+
+/// The low bits of a number that a width has.
+#[inline(always)]
+fn mask_of(w: Width) -> u64
+    ensures { result ≡ 2 ^ bits_of w - 1 }
+{
+    match w {
+        Width::Byte => 0xFF,
+        Width::Word => 0xFFFF,
+        Width::Long => 0xFFFF_FFFF,
+        Width::Quad => 0xFFFF_FFFF_FFFF_FFFF,
+    }
+}
+
+/// The number of a width at a place from which memory has eight bytes: of these, so that nothing is chosen by the width.
+#[inline(always)]
+pub fn number_inside(memory: &[u8], at: usize, w: Width) -> u64
+    requires { at + 8 ≤ length memory.now }
+    ensures is { result ≡ number_from memory.now (size_of w) at }
+    ensures fits { result < 256 ^ size_of w }
+{
+    let low = u64::from(get_u32(memory, at));
+    let high = u64::from(get_u32(memory, at + 4));
+    low + 0x1_0000_0000 * high & mask_of(w)
+}
+
+/// The number of a width at a place; each of its bytes that lies beyond memory is 0.
+#[inline(always)]
+pub fn number_in(memory: &[u8], at: usize, w: Width) -> u64
+    requires { at ≤ everywhere }
+    ensures is { result ≡ number_from memory.now (size_of w) at }
+    ensures fits { result < 256 ^ size_of w }
+{
+    if at + 8 <= memory.len() {
+        number_inside(memory, at, w)
+    } else {
+        number_at_end(memory, at, w)
     }
 }
 

@@ -1,15 +1,45 @@
-ghost use Rattle.std.specs.Prelude.{◌≡◌, ◌+◌, ◌≤◌, ◌<◌, ◌/◌, ℕ, List, true, slice_set, IfOk};
-ghost use Rattle.vax_arch.specs.Walk.{Tables};
+ghost use Rattle.std.specs.Prelude.{◌≡◌, ◌+◌, ◌≤◌, ◌<◌, ◌/◌, ◌^◌, ℕ, List, true, slice_set, IfOk};
+ghost use Rattle.vax_arch.specs.Walk.{Tables, page_of};
 ghost use Rattle.vax_hw.specs.RealTables.{everywhere};
 ghost use Rattle.vax_paged.specs.Known.{AreAllIn, AreAllKnown, AreKnownIn, IsKnownIn, IsLearned, IsSameBut, watches};
 
 use crate::known::{Known, Learned};
 use crate::pages::ModePages;
 use std::alloc::Global;
-use vax_arch::Mode;
+use vax_arch::{Mode, Psl};
 use vv_base::NoMemory;
 
-/// The pages that are known in each mode, and the frames of memory whose stores are watched,
+/// The page of the last instruction.
+#[derive(Clone, Copy)]
+pub struct Here {
+    /// Its number, an address divided by 512. No page has the number 0xFFFF_FFFF.
+    pub page: u32,
+    /// Bits 31:24 of the PSL, which have the mode.
+    pub high: u8,
+    /// The place of its first byte.
+    pub first: u32,
+}
+
+/// Bits 31:24 of a PSL, apart from the status word, so that they needn't wait until that is stored.
+#[inline(always)]
+fn high_of(psl: Psl) -> u8
+    ensures { result ≡ psl.0 / 2 ^ 24 }
+{
+    (psl.0 / 0x100_0000) as u8
+}
+
+/// No page.
+fn nowhere() -> Here
+    ensures { result.page ≡ 4294967295 }
+{
+    Here {
+        page: u32::MAX,
+        high: 0,
+        first: 0,
+    }
+}
+
+/// The pages that are known in each mode, that of the last instruction, and the frames of memory whose stores are watched,
 /// since what is known rests on them: those that have the present mark.
 #[derive(Drop)]
 pub struct KnownPages {
@@ -17,6 +47,7 @@ pub struct KnownPages {
     pub executive: ModePages,
     pub supervisor: ModePages,
     pub user: ModePages,
+    pub here: Here,
     pub marks: Vec<u32>,
     pub mark: u32,
 }
@@ -31,6 +62,7 @@ impl KnownPages {
             executive: ModePages::nothing(),
             supervisor: ModePages::nothing(),
             user: ModePages::nothing(),
+            here: nowhere(),
             marks: vec![in alloc; 0; pages as usize]?,
             mark: 1,
         })
@@ -45,6 +77,7 @@ impl KnownPages {
         self.executive.forget();
         self.supervisor.forget();
         self.user.forget();
+        self.here = nowhere();
         self.mark = self.mark.wrapping_add(1);
     }
 
@@ -58,6 +91,32 @@ impl KnownPages {
             Mode::Supervisor => &self.supervisor,
             Mode::User => &self.user,
         }
+    }
+
+    /// Whether an address is in the page of the last instruction.
+    #[inline(always)]
+    pub fn is_here(&self, psl: Psl, va: u32) -> bool
+        ensures page { result ≡ true → self.now.here.page ≡ page_of va }
+        ensures high { result ≡ true → self.now.here.high ≡ psl.0 / 2 ^ 24 }
+    {
+        self.here.page == va / 512 && self.here.high == high_of(psl)
+    }
+
+    /// The page of an address is that of the last instruction from now on, if it is known.
+    pub fn go_to(&mut self, psl: Psl, va: u32)
+        ensures { (memory : List ℕ) (t : Tables) → AreAllKnown memory t self.old → AreAllKnown memory t self.new }
+    {
+        let Some(first) = self.of(psl.current()).place(512 * (va / 512), false) else {
+            return;
+        };
+        if first >= 0x1_0000_0000 {
+            return;
+        }
+        self.here = Here {
+            page: va / 512,
+            high: high_of(psl),
+            first: first as u32,
+        };
     }
 
     /// Whether stores to the frame of a place are watched.
@@ -103,7 +162,7 @@ impl KnownPages {
 
     /// A page is known in a mode.
     fn put(&mut self, m: Mode, at: usize, known: Known)
-        requires { at < 256 }
+        requires { at < 2048 }
         ensures marks { self.new.marks ≡ self.old.marks }
         ensures mark { self.new.mark ≡ self.old.mark }
         ensures known { (memory : List ℕ) (t : Tables) → AreAllIn memory t self.old → IsKnownIn memory t m known → AreAllIn memory t self.new }
@@ -124,6 +183,6 @@ impl KnownPages {
     {
         self.watch(learned.table);
         self.watch(learned.place);
-        self.put(m, (page % 256) as usize, learned.known);
+        self.put(m, (page % 2048) as usize, learned.known);
     }
 }

@@ -17,12 +17,14 @@ struct Tagged {
     base: u32,
 }
 
-/// The pages that are known in a mode, each at its number modulo 256. Those of another tag than the present one are
+/// The pages that are known in a mode, each at its number modulo 2,048, the most pages that a guest has. Those of another tag than the present one are
 /// forgotten.
 #[derive(Drop)]
 pub struct ModePages {
-    pages: [Tagged; 256],
+    pages: [Tagged; 2048],
     tag: u32,
+    /// Whether one has the present tag.
+    has_some: bool,
 }
 
 impl Model for ModePages {
@@ -31,11 +33,11 @@ impl Model for ModePages {
 
     ghost Value = { List Known };
 
-    ghost use Rattle.vax_paged.specs.Tagged.{AreTagged, at_present};
+    ghost use Rattle.vax_paged.specs.Tagged.{MayHaveSome, at_present};
 
     ghost view = { λ m. map (at_present m.tag) m.pages };
 
-    ghost invariant = { λ m. AreTagged m.tag m.pages };
+    ghost invariant = { λ m. MayHaveSome m.tag m.has_some m.pages };
 }
 
 impl Tagged {
@@ -64,10 +66,10 @@ impl Tagged {
 /// Forgets pages of every tag.
 #[cold]
 #[inline(never)]
-fn clear(pages: &mut [Tagged; 256])
-    ensures { pages.new ≡ replicate 256 no_page }
+fn clear(pages: &mut [Tagged; 2048])
+    ensures { pages.new ≡ replicate 2048 no_page }
 {
-    *pages = [Tagged::no_page(); 256];
+    *pages = [Tagged::no_page(); 2048];
 }
 
 /// A page's number with a tag, where it is one.
@@ -96,8 +98,9 @@ impl ModePages {
         ensures { (memory : List ℕ) (t : Tables) (m : Mode) → AreKnownIn memory t m result }
     {
         ModePages {
-            pages: [Tagged::no_page(); 256],
+            pages: [Tagged::no_page(); 2048],
             tag: 0x80_0000,
+            has_some: false,
         }
     }
 
@@ -105,6 +108,10 @@ impl ModePages {
     pub fn forget(&mut self)
         ensures { (memory : List ℕ) (t : Tables) (m : Mode) → AreKnownIn memory t m self.new }
     {
+        if !self.has_some {
+            return;
+        }
+        self.has_some = false;
         let has_next = self.tag <= 0xFF00_0000;
         if has_next {
             self.tag += 0x80_0000;
@@ -116,10 +123,11 @@ impl ModePages {
 
     /// One more page, in place of another.
     pub fn put(&mut self, at: usize, known: Known)
-        requires { at < 256 }
+        requires { at < 2048 }
         ensures { (memory : List ℕ) (t : Tables) (m : Mode) → AreKnownIn memory t m self.old → IsKnownIn memory t m known → AreKnownIn memory t m self.new }
     {
         self.pages[at] = with_tags(&known, self.tag);
+        self.has_some = true;
     }
 
     /// The place of an address, if its page is known and open.
@@ -129,7 +137,7 @@ impl ModePages {
         ensures small { IfSome result (λ place. place < 2 ^ 32 + 512) }
     {
         let page = va / 512;
-        let there = &self.pages[page as usize % 256];
+        let there = &self.pages[page as usize % 2048];
         if there.page_for(write) == page + self.tag {
             Some(there.base as usize + va as usize % 512)
         } else {

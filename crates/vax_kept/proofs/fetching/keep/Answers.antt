@@ -6,5 +6,5 @@ use Rattle.vax_kept.proofs.fetching.keep.Goals as goal
 pub normal_of-kept-requires : goal.normal_of-kept-requires
 normal_of-kept-requires c = subst (λ (d : Decoded). IsWellFormed (view d)) (sym c.renew.ensures) c.requires.formed
 
-pub in_memory_unless-kept-requires : goal.in_memory_unless-kept-requires
-in_memory_unless-kept-requires c = subst (λ (d : Decoded). IsWellFormed (view d)) (sym c.renew.ensures) c.requires.formed
+pub in_memory_of-kept-requires : goal.in_memory_of-kept-requires
+in_memory_of-kept-requires c = subst (λ (d : Decoded). IsWellFormed (view d)) (sym c.renew.ensures) c.requires.formed

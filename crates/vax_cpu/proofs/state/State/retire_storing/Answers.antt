@@ -2,13 +2,12 @@ use Rattle.std.proofs.Common.{◌≡◌, ◌*◌, ℕ, List, length, refl, sym, 
 use Rattle.std.proofs.lemmas.List.{with_items_is}
 use Rattle.vax_hw.specs.Machine.{machine_tables}
 use Rattle.vax_paged.specs.Known.{AreAllKnown}
-use Rattle.vax_cpu.proofs.Sums.{added}
 use Rattle.vax_cpu.proofs.state.State.retire_storing.Goals as goal
 
 pub returns : goal.returns
 returns c =
     let long : length c.store_at.new.memory ≡ c.self.inside.memory.len = c.store_at.auto.memory ∙ c.deref_mut.ensures.len in
-    rw (← c.self.view_is, with_items_is c.self.inside.memory c.store_at.new.memory long, c.with_psw-psl.ensures, c.store_at.ensures.memory, c.from.ensures, c.from-2.ensures, ← c.requires.sum, added, c.deref_mut.ensures.value) refl
+    c.retire_at_once.ensures ∙ rw (← c.self.view_is, with_items_is c.self.inside.memory c.store_at.new.memory long, c.store_at.ensures.memory, c.deref_mut.ensures.value) refl
 
 pub store_at-requires-clause-known : goal.store_at-requires-clause-known
 store_at-requires-clause-known c =

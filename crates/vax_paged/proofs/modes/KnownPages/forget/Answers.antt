@@ -1,4 +1,5 @@
 use Rattle.vax_arch.specs.declared.mode.Mode.TheVariants.{Executive, Kernel, Supervisor, User}
+use Rattle.vax_paged.proofs.Here.{nowhere_is}
 use Rattle.vax_paged.proofs.modes.KnownPages.forget.Goals as goal
 
 pub returns : goal.returns
@@ -7,4 +8,5 @@ returns c = λ memory t other agrees. record {
   executive = c.forget-2.ensures other t Executive;
   supervisor = c.forget-3.ensures other t Supervisor;
   user = c.forget-4.ensures other t User;
+  here = nowhere_is other t c.nowhere-self.result c.nowhere-self.ensures;
 }
