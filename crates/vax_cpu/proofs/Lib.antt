@@ -1,4 +1,1 @@
 pub mod Traps
-pub mod One
-pub mod Quiet
-mod Claiming

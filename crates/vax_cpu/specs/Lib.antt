@@ -1,2 +1,1 @@
-pub mod Completed
 pub mod Outcomes

@@ -3,7 +3,7 @@ use Rattle.std.specs.Prelude.{ℕ, Bool, true, false, Result, Ok, Err}
 use Rattle.vax_hw.specs.declared.world.Exit.{Exit}
 use Rattle.vax_hw.specs.declared.world.Exit.TheVariants.{Emulate, Modify}
 use Rattle.vax_kept.specs.Fetched.{fault_exit}
-use Rattle.vax_table.specs.Effects.{effect}
+use Rattle.vax_table.specs.Effects.{Effect, effect}
 use Rattle.vax_table.specs.Whole.{Act as Meaning, Meant, Plain, Probes, Traps, meant, trap_of}
 use Rattle.vax_table.specs.declared.effect.Plan.{Plan}
 use Rattle.vax_table.specs.declared.meaning.Operation.{Operation}
@@ -40,3 +40,13 @@ acts_of opcode o p (Err s) = Err (stop_exit o s)
 abbrev pub found : Operands → Plan → Result Found Stop → Result Meant Exit
 found o p (Ok f) = Ok (meant f.opcode (meaning_of o p f.act))
 found o p (Err s) = Err (stop_exit o s)
+
+-- what the code's plan is then
+abbrev pub settled_as : {A : Type 0} → Operands → Plan → Result A Stop → Result Effect Exit
+settled_as o p (Ok u) = Ok (effect p)
+settled_as o p (Err s) = Err (stop_exit o s)
+
+-- what the code's opcode and plan are then
+abbrev pub attempted : Operands → Plan → Result ℕ Stop → Result (ℕ × Effect) Exit
+attempted o p (Ok opcode) = Ok (opcode, effect p)
+attempted o p (Err s) = Err (stop_exit o s)

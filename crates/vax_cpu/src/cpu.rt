@@ -4,25 +4,22 @@ ghost use Rattle.vax_hw.specs.Real.{in_kernel, real};
 ghost use Rattle.vax_operand.specs.Left.{operands_with_registers};
 ghost use Rattle.vax_paged.specs.Paged.{paged};
 ghost use Rattle.vax_table.specs.Interaction.{outcome};
-ghost use Rattle.vax_table.specs.Spelling.{view};
 ghost use Rattle.vax_table.specs.Whole.{instruction};
-ghost use Rattle.vax_normal.specs.Normal.{IsNormal};
-ghost use Rattle.vax_cpu.specs.Completed.{EndsWith, RunsOn, attempted, settled_meaning, with_registers};
+ghost use Rattle.vax_at_once.specs.Completed.{EndsWith, RunsOn, settled_meaning, with_registers};
+ghost use Rattle.vax_cpu.specs.Outcomes.{attempted};
 ghost use Rattle.vax_kept.specs.Fetched.{exits};
 
-use crate::here::stands;
-use crate::in_memory::step_in_memory;
 use crate::perform::{attempt, attempt_kept, attempt_known, attempt_of_status, is_of_status};
-use crate::state::State;
 use crate::stop::{Stop, end_with};
 use arrayvec::ArrayVec;
 use std::alloc::Global;
 use std::cell::Cell;
 use std::marker::Model;
+use vax_at_once::{State, rarer_at_once, stands_in_page, step_at_once};
 use vax_exec::Plan;
 use vax_hw::{Exit, Hardware, World};
 use vax_kept::{Code, Kept, renew, sum_after};
-use vax_normal::{Normal, sum_of};
+use vax_normal::sum_of;
 use vax_operand::Values;
 use vv_base::NoMemory;
 
@@ -37,7 +34,7 @@ pub struct Cpu {
 }
 
 impl Model for Cpu {
-    ghost use Rattle.vax_cpu.specs.Completed.{with_registers};
+    ghost use Rattle.vax_at_once.specs.Completed.{with_registers};
     ghost use Rattle.vax_hw.specs.Machine.{Machine};
 
     ghost Value = { Machine };
@@ -117,54 +114,6 @@ fn attempt_next(
     attempt_walked(state, missed, code, o, before, plan)
 }
 
-/// The instruction at PC at once, of which this is the normal form: the sum of R0 to R14 after it, if it is done.
-#[inline(always)]
-fn step_by(
-    state: &mut State,
-    missed: &Cell<u32>,
-    kept: &Kept,
-    normal: &Normal,
-    r: &mut [u32; 16],
-    total: u64,
-) -> Option<u64>
-    requires normal { IsNormal normal.now (view kept.now.prepared.decoded) }
-    requires sum { total ≡ sum (take 15 r.old) }
-    ensures { MatchOption result ((state.new ≡ state.old) × (r.new ≡ r.old)) (λ t. (t ≡ sum (take 15 r.new)) × RunsOn (with_registers r.old state.old) (with_registers r.new state.new)) }
-{
-    let pc = r[15];
-    if !stands(state, missed, kept, pc) {
-        return None;
-    }
-    match normal.carry_out(r, state.psw(), total) {
-        Some(after) => {
-            state.retire_at_once(pc, kept.prepared.decoded.opcode, after.total, after.psw, r);
-            Some(after.total)
-        }
-        None => None,
-    }
-}
-
-/// The instruction at PC at once, if it is kept in normal form.
-#[inline(always)]
-fn step_at_once(
-    state: &mut State,
-    missed: &Cell<u32>,
-    kept: &Kept,
-    r: &mut [u32; 16],
-    total: u64,
-) -> Option<u64>
-    requires { total ≡ sum (take 15 r.old) }
-    ensures { MatchOption result ((state.new ≡ state.old) × (r.new ≡ r.old)) (λ t. (t ≡ sum (take 15 r.new)) × RunsOn (with_registers r.old state.old) (with_registers r.new state.new)) }
-{
-    match &kept.normal {
-        Some(normal) => step_by(state, missed, kept, normal, r, total),
-        None => match &kept.in_memory {
-            Some(form) => step_in_memory(state, missed, kept, form, r, total),
-            None => None,
-        },
-    }
-}
-
 /// MOVPSL or PROBE at PC by the pages that are known, if it is kept and retires by them: the sum of R0 to R14 after it.
 #[cold]
 #[inline(never)]
@@ -178,6 +127,9 @@ fn step_of_status(
     ensures { MatchOption result ((state.new ≡ state.old) × (plan.new.r ≡ plan.old.r)) (λ t. (t ≡ sum (take 15 plan.new.r)) × RunsOn (with_registers plan.old.r state.old) (with_registers plan.new.r state.new)) }
 {
     let before = plan.r;
+    if !stands_in_page(state, missed, kept, before[15]) {
+        return None;
+    }
     if !attempt_of_status(state, missed, kept, o, plan) {
         plan.r = before;
         return None;
@@ -194,7 +146,7 @@ fn step_of_status(
 
 /// The instruction at PC by the pages that are known, if it is kept and retires by them, and none was missed before: the sum of
 /// R0 to R14 after it. `total` is that sum before it.
-#[inline(never)]
+#[inline(always)]
 fn step_known(
     state: &mut State,
     missed: &Cell<u32>,
@@ -231,6 +183,25 @@ fn step_known(
     Some(total)
 }
 
+/// The instruction at PC in a form that isn't among the commonest, or by its plan.
+#[inline(never)]
+fn step_rarer(
+    state: &mut State,
+    missed: &Cell<u32>,
+    kept: &Kept,
+    o: &mut Values,
+    plan: &mut Plan,
+    total: u64,
+) -> Option<u64>
+    requires { total ≡ sum (take 15 plan.old.r) }
+    ensures { MatchOption result ((state.new ≡ state.old) × (plan.new.r ≡ plan.old.r)) (λ t. (t ≡ sum (take 15 plan.new.r)) × RunsOn (with_registers plan.old.r state.old) (with_registers plan.new.r state.new)) }
+{
+    if let Some(sum) = rarer_at_once(state, missed, kept, &mut plan.r, total) {
+        return Some(sum);
+    }
+    step_known(state, missed, kept, o, plan, total)
+}
+
 /// The instruction at PC by what is kept of it, if it retires by that: the sum of R0 to R14 after it. `total` is that sum before
 /// it.
 #[inline(always)]
@@ -248,7 +219,7 @@ fn step_kept(
     if let Some(sum) = step_at_once(state, missed, kept, &mut plan.r, total) {
         return Some(sum);
     }
-    step_known(state, missed, kept, o, plan, total)
+    step_rarer(state, missed, kept, o, plan, total)
 }
 
 /// The instruction at PC, whatever it is: the sum of R0 to R14 after it, or with what the run ends, in `exit`.

@@ -1,6 +1,7 @@
-ghost use Rattle.std.specs.Prelude.{◌≡◌, ◌<◌, ℕ, List, None, Ok, true, IfSome};
+ghost use Rattle.std.specs.Prelude.{◌≡◌, ◌<◌, ℕ, List, None, Ok, true, slice_index, IfSome};
 ghost use Rattle.arrayvec.specs.ArrayVec.{array_vec_len};
 ghost use Rattle.vax_table.specs.Effects.{effect, put};
+ghost use Rattle.vax_table.specs.Fetch.{fetched};
 ghost use Rattle.vax_table.specs.Operand.{operands_of, trap_operands};
 ghost use Rattle.vax_table.specs.Operations.{operation_of};
 ghost use Rattle.vax_table.specs.Plan.{is_planned};
@@ -15,16 +16,15 @@ ghost use Rattle.vax_operand.specs.Left.{left, operands_with_registers};
 ghost use Rattle.vax_hw.specs.Machine.{seen_psl};
 ghost use Rattle.vax_hw.specs.Real.{in_kernel};
 ghost use Rattle.vax_kept.specs.Changed.{AreAlikeBut};
-ghost use Rattle.vax_cpu.specs.Outcomes.{acts_of, found, is_of_status, meaning_of};
+ghost use Rattle.vax_cpu.specs.Outcomes.{acts_of, attempted, found, is_of_status, meaning_of, settled_as};
 ghost use Rattle.vax_kept.specs.Fetched.{exits};
-ghost use Rattle.vax_cpu.specs.Completed.{attempted, settled, settled_as, settled_meaning};
+ghost use Rattle.vax_at_once.specs.Completed.{settled, settled_meaning};
 ghost use Rattle.vax_paged.specs.Paged.{paged};
 
-use crate::probe::{probe, probed};
-use crate::state::State;
 use crate::stop::{Stop, stop_of};
 use std::cell::Cell;
 use vax_arch::Intent;
+use vax_at_once::{State, judge, probed, seen_psl};
 use vax_decode::Decoded;
 use vax_exec::{Plan, begin, plan_into};
 use vax_hw::{Mode, Psl, Refusal, Sens, Trapped, World};
@@ -298,13 +298,6 @@ pub fn carry_out<S: Space>(
     Err(Stop::Fault(Fault::Refused(refusal)))
 }
 
-/// The PSL that MOVPSL stores: VMPSL's upper bytes over the real status word.
-fn seen_psl(w: &World) -> Psl
-    ensures { result.0 ≡ seen_psl w.now }
-{
-    Psl(w.vmpsl.0 / 0x100 * 0x100 + w.psl.0 % 0x100)
-}
-
 /// Whether the guest is in kernel mode.
 fn is_in_kernel(w: &World) -> bool
     ensures { result ≡ in_kernel w.now }
@@ -350,7 +343,7 @@ fn settle(memory: &[u8], world: &World, act: Act, o: &Values, plan: &mut Plan) -
             }
         }
         Act::Traps(op) => Err(Stop::Emulate(op)),
-        Act::Probes(intent) => match probe(&Paged { memory, world }, intent, o) {
+        Act::Probes(intent) => match judge(&Paged { memory, world }, intent, o) {
             Some(is_accessible) => {
                 probed(is_accessible, (world.psl.0 % 0x100) as u8, plan);
                 Ok(())
@@ -395,8 +388,8 @@ pub fn is_of_status(operation: Operation) -> bool
     matches!(operation, Operation::MoveStatus | Operation::Probe(_))
 }
 
-/// What MOVPSL or PROBE at PC comes to, where it is kept, and all that it refers to lies in pages that are known. The plan's
-/// registers are those before it, in place of the world's.
+/// What MOVPSL or PROBE at PC comes to, which is the kept one, where all that it refers to lies in pages that are known. The
+/// plan's registers are those before it, in place of the world's.
 #[inline(always)]
 fn find_of_status(
     state: &State,
@@ -405,20 +398,23 @@ fn find_of_status(
     o: &mut Values,
     plan: &mut Plan,
 ) -> Option<Act>
+    requires fetched { Ok (view kept.now.prepared.decoded) ≡ exits (outcome (paged state.now.memory state.now.world) (fetched (slice_index plan.old.r 15))) }
+    requires formed { IsWellFormed (view kept.now.prepared.decoded) }
     ensures { IfSome result (λ a. Ok (meant kept.now.prepared.decoded.opcode (meaning_of (operands_with_registers o.new plan.new.r) plan.new a)) ≡ exits (outcome (paged state.now.memory state.now.world) (instruction (in_kernel state.now.world) (seen_psl state.now.world) plan.old.r))) }
 {
-    let world = state.world();
     let space = state.mapped(missed);
-    let pc = plan.r[15];
-    if !has_known_in_page(&space, world, kept, pc) {
-        return None;
-    }
     match kept.prepared.operation {
         Operation::Probe(intent) => match probes(&space, intent, kept, o, plan) {
             Ok(act) => Some(act),
             Err(_) => None,
         },
-        Operation::MoveStatus => match moves_status(&space, kept, seen_psl(world), o, plan) {
+        Operation::MoveStatus => match moves_status(
+            &space,
+            kept,
+            seen_psl(state.world()),
+            o,
+            plan,
+        ) {
             Ok(act) => Some(act),
             Err(_) => None,
         },
@@ -426,9 +422,9 @@ fn find_of_status(
     }
 }
 
-/// Whether MOVPSL or PROBE at PC retires by the plan, where it is kept, and all that it refers to lies in pages that are
-/// known. The plan's registers are those before it, in place of the world's; of what it is where this answers no nothing is
-/// said.
+/// Whether MOVPSL or PROBE at PC, which is the kept one, retires by the plan, where all that it refers to lies in pages that
+/// are known. The plan's registers are those before it, in place of the world's; of what it is where this answers no nothing
+/// is said.
 pub fn attempt_of_status(
     state: &State,
     missed: &Cell<u32>,
@@ -436,6 +432,8 @@ pub fn attempt_of_status(
     o: &mut Values,
     plan: &mut Plan,
 ) -> bool
+    requires fetched { Ok (view kept.now.prepared.decoded) ≡ exits (outcome (paged state.now.memory state.now.world) (fetched (slice_index plan.old.r 15))) }
+    requires formed { IsWellFormed (view kept.now.prepared.decoded) }
     ensures untrapped { result ≡ true → plan.new.trap ≡ None }
     ensures attempted { result ≡ true → Ok (kept.now.prepared.decoded.opcode, effect plan.new) ≡ settled_meaning state.now.memory state.now.world (exits (outcome (paged state.now.memory state.now.world) (instruction (in_kernel state.now.world) (seen_psl state.now.world) plan.old.r))) }
 {

@@ -9,7 +9,7 @@ ghost use Rattle.vv_base.specs.Width.{low, size_of};
 ghost use Rattle.vax_operand.specs.Left.{operands_with_registers};
 
 use vax_alu::{AluOp, alu};
-use vax_flow::begin;
+use vax_flow::{begin, moved_psw};
 use vax_operand::{Dest, Values};
 use vax_table::effect::Plan;
 use vax_table::{Inputs, Target};
@@ -120,8 +120,6 @@ pub fn move_quad(v: u64, index: usize, o: &Values, psw: u8, plan: &mut Plan)
     requires { index < 4 }
     ensures { effect plan.new ≡ moved_quad v (dest_of (operands_with_registers o.now plan.old.r) index) (operands_with_registers o.now plan.old.r) psw }
 {
-    let negative = if v >= 0x8000_0000_0000_0000 { 8 } else { 0 };
-    let zero = if v == 0 { 4 } else { 0 };
-    begin(plan, psw / 16 * 16 + negative + zero + psw % 2);
+    begin(plan, moved_psw(v, psw));
     plan.put(o.dests[index], Width::Quad, v);
 }

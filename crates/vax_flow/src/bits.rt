@@ -29,7 +29,8 @@ fn with_bit(to: bool, k: u32, n: u32) -> u32
 }
 
 /// The byte that has a bit: positions are signed, and count from bit 0 of the byte at the base.
-fn byte_of_bit(base: u32, position: u32) -> u32
+#[inline(always)]
+pub fn byte_of_bit(base: u32, position: u32) -> u32
     ensures { result ≡ byte_of_bit base position }
 {
     base.wrapping_add((position.cast_signed() >> 3).cast_unsigned())

@@ -1,21 +1,23 @@
 -- An instruction changes none of R0 to R14 but the one that its operation names.
 use Rattle.std.proofs.Common.{◌≡◌, ◌≢◌, ℕ, zero, suc, ◌+◌, ◌<◌, ◌&&◌, Bool, true, false, List, [], ◌∷◌, map, Option, Some, None, Ok, refl, ap, ◌∙◌, sym, subst, arith, get_or-set_other, slice_index, slice_index_or, slice_set}
-use Rattle.std.specs.Prelude.{if◌then◌else◌}
+use Rattle.std.specs.Prelude.{◌%◌, nat_lt, if◌then◌else◌}
 use Rattle.vv_base.specs.declared.width.Width.{Width}
 use Rattle.vv_base.specs.declared.width.Width.TheVariants.{Byte, Word, Long, Quad}
 use Rattle.vv_base.specs.Width.{size_of}
-use Rattle.vax_table.specs.Branches.{branched, holds}
+use Rattle.vax_table.specs.Branches.{added_one, bit_in, bit_tested, branched, branched_on_bit, branched_on_low_bit, byte_of_bit, holds, keeping_c, looped, subtracted_one, with_bit}
 use Rattle.vax_table.specs.Claims.{Holds}
 use Rattle.vax_table.specs.Computing.{computed}
-use Rattle.vax_table.specs.Effects.{Effect, begun, dest_of, put, went_if}
+use Rattle.vax_table.specs.Effects.{Effect, begun, dest_of, long_of, put, went_if}
 use Rattle.vax_table.specs.Operand.{forms_in, indexed_by, no_operands, operand_of, operands_of, past_own_bytes, with_operand}
 use Rattle.vax_table.specs.Operations.{operation_of}
 use Rattle.vax_table.specs.Plan.{performed, planned}
 use Rattle.vax_table.specs.Rows.{row_of}
-use Rattle.vax_table.specs.Interaction.{Space, outcome}
+use Rattle.vax_table.specs.Interaction.{Done, Refuse, Space, outcome}
 use Rattle.vax_table.specs.Spelling.{Instruction}
 use Rattle.vax_table.specs.declared.act.Dest.{Dest}
 use Rattle.vax_table.specs.declared.act.Dest.TheVariants.{Nowhere, Register, Memory}
+use Rattle.vax_table.specs.declared.act.Refusal.TheVariants as refusals
+use Rattle.vax_table.specs.declared.answer.Alu.{Alu}
 use Rattle.vax_table.specs.declared.answer.AluOp.{AluOp}
 use Rattle.vax_table.specs.declared.decoded.Spec.{Spec}
 use Rattle.vax_table.specs.declared.evaluation.Evaluated.{Evaluated}
@@ -159,6 +161,8 @@ target_number targets.Third = 2
 
 abbrev number_of : Operation → ℕ
 number_of (does.Compute op w inputs target) = target_number target
+number_of (does.AddOne at_limit) = 1
+number_of (does.BranchOnBit on becomes) = 1
 number_of operation = 0
 
 computed_alike : (r : List ℕ) (xs : List Operand) (op : AluOp) (w : Width) (inputs : Inputs) (target : Target) (o : Operands) (psw : ℕ) → w ≢ Quad → AreAlike r o.r →
@@ -169,9 +173,9 @@ computed_alike r xs op w inputs targets.First o psw narrow h at = put_alike r _ 
 computed_alike r xs op w inputs targets.Second o psw narrow h at = put_alike r _ (dest_of o 1) w _ _ narrow at h
 computed_alike r xs op w inputs targets.Third o psw narrow h at = put_alike r _ (dest_of o 2) w _ _ narrow at h
 
-went_alike : (r : List ℕ) (taken : Bool) (pc : ℕ) (e : Effect) → AreAlike r e.r → AreAlike r (went_if taken pc e).r
-went_alike r true pc e h = λ i low. pc_alone e.r pc i low ∙ h i low
-went_alike r false pc e h = h
+went_alike : (r : List ℕ) (n : ℕ) (taken : Bool) (pc : ℕ) (e : Effect) → AreAlikeBut n r e.r → AreAlikeBut n r (went_if taken pc e).r
+went_alike r n true pc e h = λ i low ne. pc_alone e.r pc i low ∙ h i low ne
+went_alike r n false pc e h = h
 
 -- all but one register
 abbrev IsAlikeBut : ℕ → List ℕ → List ℕ → Effect → Type 0
@@ -186,13 +190,35 @@ narrow_word e = cc
 narrow_long : Long ≢ Quad
 narrow_long e = cc
 
+looped_alike : (r : List ℕ) (n : ℕ) (dest : Dest) (x : Alu) (taken : Bool) (to : ℕ) (o : Operands) (psw : ℕ) → IsAt n dest → AreAlike r o.r → AreAlikeBut n r (looped Long dest x taken to o psw).r
+looped_alike r n dest x taken to o psw at h =
+    let e : Effect = record (begun o psw) { psw = keeping_c psw x.psw; trap = x.trap } in
+    went_alike r n taken to (put dest Long x.value e) (put_alike r n dest Long x.value e narrow_long at h)
+
+tested_alike : (r : List ℕ) (n : ℕ) (on : Bool) (becomes : Option Bool) (dest : Dest) (w : Width) (k v to : ℕ) (e : Effect) → w ≢ Quad → IsAt n dest → AreAlike r e.r → AreAlikeBut n r (bit_tested on becomes dest w k v to e).r
+tested_alike r n on None dest w k v to e narrow at h = went_alike r n _ to e (λ i low ne. h i low)
+tested_alike r n on (Some b) dest w k v to e narrow at h = went_alike r n _ to (put dest w (with_bit b k v) e) (put_alike r n dest w (with_bit b k v) e narrow at h)
+
+unless_refused : (r : List ℕ) (n : ℕ) (cs : List ℕ) (b : Bool) (e : Effect) → AreAlikeBut n r e.r → Holds (IsAlikeBut n r) cs (if b then Done e else Refuse refusals.Operand)
+unless_refused r n cs true e h = h
+unless_refused r n cs false e h = tt
+
+bit_alike : (r : List ℕ) (n : ℕ) (on : Bool) (becomes : Option Bool) (dest : Dest) (position to : ℕ) (e : Effect) (cs : List ℕ) → IsAt n dest → AreAlike r e.r → Holds (IsAlikeBut n r) cs (bit_in on becomes dest position to e)
+bit_alike r n on becomes Nowhere position to e cs at h = λ i low ne. h i low
+bit_alike r n on becomes (Register m) position to e cs at h = unless_refused r n cs (nat_lt position 32) _ (tested_alike r n on becomes (Register m) Long position _ to e narrow_long at h)
+bit_alike r n on becomes (Memory base) position to e cs at h = λ v. tested_alike r n on becomes (Memory (byte_of_bit base position)) Byte (position % 8) v to e narrow_byte tt h
+
 performed_alike : (r : List ℕ) (what : Operation) (xs : List Operand) (o : Operands) (psw : ℕ) (cs : List ℕ) → result_register what xs < 15 →
     AreAfter r (number_of what) (register_at (number_of what) xs) cs o → Holds (IsAlikeBut (result_register what xs) r) cs (performed what o psw)
-unfolding performed branched
+unfolding performed branched added_one subtracted_one branched_on_low_bit branched_on_bit
 performed_alike r (does.Compute op Byte inputs target) xs o psw cs few h = computed_alike r xs op Byte inputs target o psw narrow_byte h.0 h.1
 performed_alike r (does.Compute op Word inputs target) xs o psw cs few h = computed_alike r xs op Word inputs target o psw narrow_word h.0 h.1
 performed_alike r (does.Compute op Long inputs target) xs o psw cs few h = computed_alike r xs op Long inputs target o psw narrow_long h.0 h.1
-performed_alike r (does.Branch condition) xs o psw cs few h = λ i low ne. went_alike r (holds condition psw) _ (begun o psw) h.0 i low
+performed_alike r (does.Branch condition) xs o psw cs few h = went_alike r 0 (holds condition psw) _ (begun o psw) (λ i low ne. h.0 i low)
+performed_alike r (does.AddOne at_limit) xs o psw cs few h = looped_alike r (register_at 1 xs) (dest_of o 1) _ _ (long_of o 2) o psw h.1 h.0
+performed_alike r (does.SubtractOne at_zero) xs o psw cs few h = looped_alike r (register_at 0 xs) (dest_of o 0) _ _ (long_of o 1) o psw h.1 h.0
+performed_alike r (does.BranchOnLowBit on) xs o psw cs few h = went_alike r 0 _ _ (begun o psw) (λ i low ne. h.0 i low)
+performed_alike r (does.BranchOnBit on becomes) xs o psw cs few h = bit_alike r (register_at 1 xs) on becomes (dest_of o 1) (long_of o 0) (long_of o 2) (begun o psw) cs h.1 h.0
 performed_alike r what xs o psw cs few h = absurd (omega arith)
 
 within : (b : Bool) (n : ℕ) → (if b then n else 15) < 15 → b ≡ true

@@ -1,6 +1,7 @@
 -- Which of R0 to R14 an instruction changes, where it is one at most: the registers' sum goes on by that one. An
--- instruction that computes changes the register of its result; one that branches changes none. What its operands do
--- to registers comes from the ways that decrement or increment.
+-- instruction that computes changes the register of its result, a loop that of its index, and one that branches on a
+-- bit the register that has it, if one does; one that branches by the codes or a low bit changes none. What its operands
+-- do to registers comes from the ways that decrement or increment.
 use Rattle.std.specs.Prelude.{◌≡◌, ◌≢◌, ℕ, zero, suc, ◌<◌, ◌&&◌, Bool, true, false, List, [], ◌∷◌, if◌then◌else◌, slice_index}
 use Rattle.vv_base.specs.declared.width.Width.TheVariants.{Quad}
 use Rattle.vax_table.specs.declared.meaning.Operation.{Operation}
@@ -60,6 +61,10 @@ abbrev pub result_register : Operation → List Operand → ℕ
 result_register (does.Compute op Quad inputs target) xs = 15
 result_register (does.Compute op w inputs target) xs = target_register target xs
 result_register (does.Branch condition) xs = 0
+result_register (does.AddOne at_limit) xs = register_at 1 xs
+result_register (does.SubtractOne at_zero) xs = register_at 0 xs
+result_register (does.BranchOnLowBit on) xs = 0
+result_register (does.BranchOnBit on becomes) xs = register_at 1 xs
 result_register operation xs = 15
 
 -- the one that an instruction changes

@@ -1,13 +1,13 @@
 -- Worked examples of the register that an instruction changes, by computation.
-use Rattle.std.specs.Prelude.{◌≡◌, refl, true, false, []}
+use Rattle.std.specs.Prelude.{◌≡◌, refl, true, false, [], Some}
 use Rattle.vv_base.specs.declared.width.Width.TheVariants.{Byte, Quad}
 use Rattle.vax_table.specs.declared.answer.AluOp.TheVariants.{Add, Move}
 use Rattle.vax_table.specs.declared.meaning.Condition.TheVariants.{NotEqual}
 use Rattle.vax_table.specs.declared.meaning.Inputs.TheVariants.{Both, First}
-use Rattle.vax_table.specs.declared.meaning.Operation.TheVariants.{Branch, Compute, Nothing}
+use Rattle.vax_table.specs.declared.meaning.Operation.TheVariants.{Branch, BranchOnBit, BranchOnLowBit, Compute, Nothing}
 use Rattle.vax_table.specs.declared.meaning.Target.TheVariants.{Codes, Second}
 use Rattle.vax_operand.specs.declared.kind.Base.TheVariants.{Deferred, Decrement, Increment, IncrementDeferred, Absolute, Displaced, DisplacedDeferred}
-use Rattle.vax_operand.specs.declared.kind.Kind.TheVariants.{Constant, ReadRegister, ModifyRegister, WriteRegister, BitsRegister, Read, Modify, Write}
+use Rattle.vax_operand.specs.declared.kind.Kind.TheVariants.{Constant, ReadRegister, ModifyRegister, WriteRegister, BitsRegister, Read, Modify, Write, Bits}
 use Rattle.vax_kept.specs.Changed.{changed_register, is_still, leaves_registers, operand_register, result_register}
 
 -- the ways -(R), (R)+ and @(R)+ change their register, and no other does
@@ -58,7 +58,17 @@ bits = refl
 pub read : operand_register (ReadRegister) 3 ≡ 0
 read = refl
 
--- a quadword changes two registers, NOP and all others may change several, and a branch changes none but PC
+-- BBSS R7,(R3),.. changes memory alone
+pub bit_in_memory : operand_register (Bits Deferred) 3 ≡ 0
+bit_in_memory = refl
+
+pub low_bit : result_register (BranchOnLowBit true) [] ≡ 0
+low_bit = refl
+
+pub bit_of_none : result_register (BranchOnBit true (Some true)) [] ≡ 0
+bit_of_none = refl
+
+-- a quadword changes two registers, NOP and all others may change several, and a branch by the codes changes none but PC
 pub quad : result_register (Compute Move Quad First Second) [] ≡ 15
 quad = refl
 

@@ -82,7 +82,9 @@ fn result_register(operation: Operation, operands: &[Operand]) -> u8
     match operation {
         Operation::Compute(_, Width::Quad, _, _) => 15,
         Operation::Compute(_, _, _, target) => target_register(target, operands),
-        Operation::Branch(_) => 0,
+        Operation::Branch(_) | Operation::BranchOnLowBit(_) => 0,
+        Operation::SubtractOne(_) => register_at(0, operands),
+        Operation::AddOne(_) | Operation::BranchOnBit(..) => register_at(1, operands),
         _ => 15,
     }
 }

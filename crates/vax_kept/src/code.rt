@@ -5,10 +5,10 @@ use std::alloc::Global;
 use vv_base::NoMemory;
 
 /// How many places there are at most.
-const PLACES: usize = 32768;
+const PLACES: usize = 65536;
 
 /// How many numbers the index has.
-const INDEXED: usize = 262144;
+const INDEXED: usize = 1048576;
 
 /// The instructions that are kept, each found by its address. Two addresses may share a place, and memory may change: what is
 /// found is a guess, to be compared with memory.
@@ -18,7 +18,7 @@ pub struct Code {
     index: Vec<u16>,
     /// In the order in which the addresses were met, after one that belongs to none.
     pub places: Vec<Kept>,
-    ghost indexed: { length index.items ≡ 262144 },
+    ghost indexed: { length index.items ≡ 1048576 },
     ghost some: { 0 < length places.items },
     ghost inside: { (i : ℕ) → slice_index index.items i < length places.items },
 }
@@ -26,7 +26,7 @@ pub struct Code {
 /// Where an address is in the index: system addresses lie between the others, so that those of equal low bits share nothing.
 #[inline(always)]
 fn in_index(pc: u32) -> usize
-    ensures { result < 262144 }
+    ensures { result < 1048576 }
 {
     pc.rotate_left(1) as usize % INDEXED
 }
@@ -60,7 +60,7 @@ impl Code {
     #[cold]
     #[inline(never)]
     fn new_place(&mut self, at: usize) -> usize
-        requires { at < 262144 }
+        requires { at < 1048576 }
         ensures { result < length self.new.places.items }
     {
         if self.places.len() >= PLACES {

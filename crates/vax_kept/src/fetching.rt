@@ -20,6 +20,7 @@ use vax_decode::{Decode, DecodeFault, Decoded, Front, decode, decode_into};
 use vax_hw::{Refusal, World};
 use vax_normal::{in_memory_of, normal_of};
 use vax_paged::{Mapped, Paged, number_in};
+use vax_rarer::rarer_of;
 use vv_base::Width;
 
 /// Why bytes that spell nothing are refused.
@@ -164,6 +165,19 @@ pub fn has_known_in_page(space: &Mapped, world: &World, kept: &Kept, pc: u32) ->
     }
 }
 
+/// Whether the bytes of an instruction that has at most eight are at an address that has this place, in one page.
+#[inline(always)]
+pub fn has_short(memory: &[u8], world: &World, kept: &Kept, pc: u32, place: usize) -> bool
+    requires there { placed memory.now world.now Read pc ≡ Ok place }
+    requires low { place ≤ everywhere }
+    requires short { kept.now.prepared.decoded.length ≤ 8 }
+    requires inside { pc % 512 + kept.now.prepared.decoded.length ≤ 512 }
+    ensures fetched { result ≡ true → Ok (view kept.now.prepared.decoded) ≡ exits (outcome (paged memory.now world.now) (fetched pc)) }
+    ensures formed { IsWellFormed (view kept.now.prepared.decoded) }
+{
+    has_eight(memory, place, &kept.bytes)
+}
+
 /// Whether at most eight kept bytes are at an address that has this place, in one page; it is one that `plan_into` plans.
 #[inline(always)]
 pub fn has_at(memory: &[u8], world: &World, kept: &Kept, pc: u32, place: usize) -> bool
@@ -173,7 +187,7 @@ pub fn has_at(memory: &[u8], world: &World, kept: &Kept, pc: u32, place: usize) 
     ensures fetched { result ≡ true → Ok (view kept.now.prepared.decoded) ≡ exits (outcome (paged memory.now world.now) (fetched pc)) }
     ensures planned { is_planned (operation_of kept.now.prepared.decoded.opcode) ≡ true }
 {
-    has_eight(memory, place, &kept.bytes)
+    has_short(memory, world, kept, pc, place)
 }
 
 /// Whether kept bytes are at an address, by what is known, and the instruction is one that `plan_into` plans.
@@ -231,8 +245,12 @@ fn keep(kept: &mut Kept, bytes: &[u8; 24], decoded: Decoded)
     kept.changed = changed_register(&kept.prepared);
     kept.normal = normal_of(&kept.prepared);
     kept.in_memory = None;
+    kept.rarer = None;
     if kept.normal.is_none() {
         kept.in_memory = in_memory_of(&kept.prepared);
+        if kept.in_memory.is_none() {
+            kept.rarer = rarer_of(&kept.prepared);
+        }
     }
 }
 

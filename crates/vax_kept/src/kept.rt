@@ -5,6 +5,7 @@ ghost use Rattle.vax_table.specs.Reading.{Whole, decoded_at};
 ghost use Rattle.vax_table.specs.Spelling.{view};
 ghost use Rattle.vax_normal.specs.InMemory.{IsInMemory, in_memory-prop};
 ghost use Rattle.vax_normal.specs.Normal.{IsNormal, normal-prop};
+ghost use Rattle.vax_rarer.specs.Rarer.{IsRarer, rarer-prop};
 ghost use Rattle.vax_kept.specs.Changed.{changed_register};
 
 use crate::changed::changed_register;
@@ -12,12 +13,15 @@ use arrayvec::ArrayVec;
 use vax_decode::Decoded;
 use vax_normal::{InMemory, Normal};
 use vax_operand::Prepared;
+use vax_rarer::Rarer;
 use vax_table::{Operation, operation};
 
 /// An instruction that was decoded and prepared, the bytes that spell it, and those that came after them. What is looked at to do
 /// it at once, up to the opcode, lies together, so that it is in few lines of the host's cache.
 #[derive(Drop)]
 pub struct Kept {
+    /// Its rarer normal form, if it has one.
+    pub rarer: Option<Rarer>,
     /// Its normal form in memory, if it refers to memory and has one.
     pub in_memory: Option<InMemory>,
     /// Its normal form, if it has one.
@@ -38,10 +42,12 @@ pub struct Kept {
     ghost short: { 0 < end → prepared.decoded.length ≤ 24 },
     ghost near_whole: { 0 < near_end → near_end + prepared.decoded.length ≡ 513 },
     ghost near_short: { 0 < near_end → prepared.decoded.length ≤ 8 },
+    ghost near_low: { near_end ≤ 512 },
     ghost near_planned: { 0 < near_end → is_planned (operation_of prepared.decoded.opcode) ≡ true },
     ghost changes: { changed ≡ changed_register prepared.operation prepared.operands.items },
     ghost normal_form: { IfSome normal (λ n. IsNormal n (view prepared.decoded)) } by { normal-prop normal (view prepared.decoded) },
     ghost memory_form: { IfSome in_memory (λ n. IsInMemory n (view prepared.decoded)) } by { in_memory-prop in_memory (view prepared.decoded) },
+    ghost rarer_form: { IfSome rarer (λ n. IsRarer n (view prepared.decoded)) } by { rarer-prop rarer (view prepared.decoded) },
     ghost planned: { 0 < end → is_planned (operation_of prepared.decoded.opcode) ≡ true },
 }
 
@@ -77,9 +83,10 @@ pub fn end_of(decoded: &Decoded) -> u32
 pub fn near_end_of(decoded: &Decoded) -> u32
     ensures whole { 0 < result → result + decoded.now.length ≡ 513 }
     ensures short { 0 < result → decoded.now.length ≤ 8 }
+    ensures low { result ≤ 512 }
     ensures planned { 0 < result → is_planned (operation_of decoded.now.opcode) ≡ true }
 {
-    if decoded.length <= 8 {
+    if (1..=8).contains(&decoded.length) {
         end_of(decoded)
     } else {
         0
@@ -104,6 +111,7 @@ impl Kept {
             changed: changed_register(&prepared),
             normal: None,
             in_memory: None,
+            rarer: None,
             prepared,
             end: 0,
             near_end: 0,

@@ -11,5 +11,5 @@ mod kept;
 pub use changed::sum_after;
 pub use code::Code;
 pub use fault::Fault;
-pub use fetching::{fetch, has_at, has_known, has_known_in_page, renew};
+pub use fetching::{fetch, has_at, has_known, has_known_in_page, has_short, renew};
 pub use kept::Kept;

@@ -6,3 +6,5 @@ pub mod Touching
 pub mod Sources
 pub mod Storing
 pub mod Pushing
+pub mod Moving
+pub mod Relative

@@ -9,6 +9,7 @@ use Rattle.vax_table.specs.declared.act.Dest.{Dest}
 use Rattle.vax_table.specs.declared.act.Dest.TheVariants.{Nowhere, Register, Memory}
 use Rattle.vax_table.specs.declared.decoded.Spec.{Spec}
 use Rattle.vax_table.specs.Effects.{Effect, store}
+use Rattle.vax_table.specs.Operand.{plus}
 use Rattle.vax_operand.specs.declared.kind.Base.{Base}
 use Rattle.vax_operand.specs.declared.kind.Base.TheVariants.{Deferred, Decrement, Increment, IncrementDeferred, Absolute, Displaced, DisplacedDeferred}
 use Rattle.vax_operand.specs.declared.kind.Kind.{Kind}
@@ -104,13 +105,13 @@ both false b h = cc
 differs : (m n : ℕ) → not (m == n) ≡ true → m ≢ n
 differs m n h e = let same : (m == n) ≡ true = eq-eqb m n e in cc
 
-masked_away : (x y k c : ℕ) → k ≡ 0 → bit_or (bit_and x k) c ≡ bit_or (bit_and y k) c
-masked_away x y k c e = ap (λ (m : ℕ). bit_or (bit_and x m) c) e ∙ ap (λ (m : ℕ). bit_or m c) (and_zero_r x ∙ sym (and_zero_r y)) ∙ ap (λ (m : ℕ). bit_or (bit_and y m) c) (sym e)
+masked_away : (x y k c : ℕ) → k ≡ 0 → plus (bit_and x k) c ≡ plus (bit_and y k) c
+masked_away x y k c e = ap (λ (m : ℕ). plus (bit_and x m) c) e ∙ ap (λ (m : ℕ). plus m c) (and_zero_r x ∙ sym (and_zero_r y)) ∙ ap (λ (m : ℕ). plus (bit_and y m) c) (sym e)
 
 -- by another register, or by none
 stays_apart : (n : Number) (q r : List ℕ) → (n.mask == 0) ≡ true ⊎ (slice_index q n.register ≡ slice_index r n.register) → number_by n q ≡ number_by n r
-stays_apart n q r (inl e) = masked_away (slice_index q n.register) (slice_index r n.register) n.mask n.constant (eqb-true n.mask 0 e)
-stays_apart n q r (inr e) = ap (λ (m : ℕ). bit_or (bit_and m n.mask) n.constant) e
+stays_apart n q r (inl e) = masked_away (slice_index q n.register) (slice_index r n.register) n.mask n.offset (eqb-true n.mask 0 e)
+stays_apart n q r (inr e) = ap (λ (m : ℕ). plus (bit_and m n.mask) n.offset) e
 
 apart_from : (n : Number) (x : Operand) (r : List ℕ) → (n.mask == 0) ≡ true ⊎ (not (n.register == x.spec.reg) ≡ true) → (n.mask == 0) ≡ true ⊎ (slice_index (left_by x.kind x.form.width x.spec r) n.register ≡ slice_index r n.register)
 apart_from n x r (inl e) = inl e

@@ -22,11 +22,12 @@ use Rattle.vax_table.proofs.NextPc.{operands_go}
 use Rattle.vax_operand.specs.declared.prepared.Operand.{Operand}
 use Rattle.vax_operand.proofs.Steps.{left_from}
 use Rattle.vax_normal.specs.AtHand.{IsMoved}
-use Rattle.vax_normal.specs.InMemory.{IsInMemory, done_in_memory, finished, found_in_memory, reach_address, sourced_by, stepped_by, stored}
+use Rattle.vax_normal.specs.InMemory.{HasClaimed, HasRead, IsInMemory, done_in_memory, finished, found_in_memory, reach_address, sourced_by, stepped_by, stored}
 use Rattle.vax_normal.specs.Normal.{with_result}
-use Rattle.vax_normal.specs.Touched.{IsClaimedAt, IsDoneIn, IsPutIn, all_had}
+use Rattle.vax_normal.specs.Touched.{AreTouched, IsClaimedAt, IsDoneIn, IsPutIn, all_had}
 use Rattle.vax_normal.specs.declared.shape.InMemory.{InMemory}
 use Rattle.vax_normal.specs.declared.shape.Reach.{Reach}
+use Rattle.vax_normal.specs.declared.touches.Touches.{Touches}
 use Rattle.vax_normal.proofs.Doing.{stored_nothing}
 use Rattle.vax_normal.proofs.Taking.{after_opcode, moved_by}
 use Rattle.vax_normal.proofs.Touching.{found_on}
@@ -56,45 +57,54 @@ is_claimed_at None r = tt
 is_claimed_at (Some p) r = refl
 
 -- a step leaves PC
-abbrev KeepsPc : List ℕ → List ℕ → Type 0
+abbrev pub KeepsPc : List ℕ → List ℕ → Type 0
 KeepsPc r q = (slice_index q 15 ≡ slice_index r 15) × (length q ≡ length r)
 
 pc_if : (b : Bool) (r : List ℕ) (n v : ℕ) → n < 15 → KeepsPc r (if b then r else slice_set r n v)
 pc_if true r n v low = (refl, refl)
 pc_if false r n v low = let ne : 15 ≢ n = λ g. omega (arith, g) in (get_or-set_other r n 15 v 0 ne, length-set r n v)
 
-pc_stepped : (p : Option Reach) (r : List ℕ) → KeepsPc r (stepped_by p r)
+pub pc_stepped : (p : Option Reach) (r : List ℕ) → KeepsPc r (stepped_by p r)
 pc_stepped None r = (refl, refl)
 pc_stepped (Some p) r = pc_if (p.step == 0) r p.register (plus (slice_index r p.register) p.step) p.there
 
-operands_found : (s : Space) (d : Instruction) (xs : List Operand) (r : List ℕ) (o : Operands) → map (λ x. x.form) xs ≡ forms_in (row_of d.opcode) → map (λ x. x.spec) xs ≡ d.specs →
+pub operands_found : (s : Space) (d : Instruction) (xs : List Operand) (r : List ℕ) (o : Operands) → map (λ x. x.form) xs ≡ forms_in (row_of d.opcode) → map (λ x. x.spec) xs ≡ d.specs →
     outcome s (left_from 0 xs (no_operands (after_opcode d r))) ≡ Ok o → outcome s (operands_of d r) ≡ Ok o
 unfolding operands_of
 operands_found s d xs r o f g h = rw (sym f, sym g) h
 
-pub is_in_memory : (w : Option Reach) (n : InMemory) (d : Instruction) (what : Operation) (xs : List Operand) → what ≡ operation_of d.opcode → map (λ x. x.form) xs ≡ forms_in (row_of d.opcode) → map (λ x. x.spec) xs ≡ d.specs →
-    IsWellFormed d → n.length ≡ d.length → IsDoneIn w n what xs → IsInMemory n d
+-- operands that touch so much, and what follows them
+pub touched_done : (s : Space) (t : Touches) (d : Instruction) (xs : List Operand) (r : List ℕ) (psw v u : ℕ) (e : Effect) → map (λ x. x.form) xs ≡ forms_in (row_of d.opcode) → map (λ x. x.spec) xs ≡ d.specs →
+    IsWellFormed d → length r ≡ 16 → AreTouched t xs → HasRead s t.reads r v → HasClaimed s t.writes r u →
+    ((at : ℕ) (q : List ℕ) → IsMoved r q → IsClaimedAt t.writes r at → (all_had v u at xs q).r ≡ past_own_bytes d.length (stepped_by t.writes (stepped_by t.reads r)) →
+    outcome s (performed (operation_of d.opcode) (all_had v u at xs q) psw) ≡ Ok e) → outcome s (planned d r psw) ≡ Ok e
 unfolding planned
-is_in_memory w n d what xs does f g formed long all s r psw v u sixteen a h =
+touched_done s t d xs r psw v u e f g formed sixteen touched a h does =
     let room : 15 < length r = omega (arith, sixteen) in
     let q : List ℕ = after_opcode d r in
-    let at : ℕ = claimed_address w r in
+    let at : ℕ = claimed_address t.writes r in
     let moved : IsMoved r q = (_, refl) in
     let o : Operands = all_had v u at xs q in
-    let ops = all.0 s 0 v u at r (no_operands q) moved a (all.1 s r u h) (is_claimed_at w r) in
+    let ops = touched s 0 v u at r (no_operands q) moved a h (is_claimed_at t.writes r) in
     let found : outcome s (operands_of d r) ≡ Ok o = operands_found s d xs r o f g ops.0 in
     let pc : slice_index o.r 15 ≡ plus (slice_index r 15) d.length = holds_made (λ cs p. slice_index p.r 15 ≡ plus (slice_index r 15) d.length) s [] (operands_of d r) o (operands_go d r formed room) found in
-    let mid : List ℕ = stepped_by n.reads r in
-    let after : List ℕ = stepped_by w mid in
-    let first = pc_stepped n.reads r in
-    let last = pc_stepped w mid in
+    let mid : List ℕ = stepped_by t.reads r in
+    let after : List ℕ = stepped_by t.writes mid in
+    let first = pc_stepped t.reads r in
+    let last = pc_stepped t.writes mid in
     let there : 15 < length after = omega (arith, room, first.1, last.1) in
     let same : slice_index after 15 ≡ slice_index r 15 = last.0 ∙ first.0 in
-    let next : slice_index o.r 15 ≡ plus (slice_index after 15) n.length = pc ∙ ap (λ (x : ℕ). plus x d.length) (sym same) ∙ ap (λ (k : ℕ). plus (slice_index after 15) k) (sym long) in
-    let gone : o.r ≡ past_own_bytes n.length after = moved_by after o.r (plus (slice_index after 15) n.length) there ops.1 next in
-    let does_it : outcome s (performed (operation_of d.opcode) o psw) ≡ Ok (done_in_memory n v u r psw) =
-    subst (λ (op : Operation). outcome s (performed op o psw) ≡ Ok (done_in_memory n v u r psw)) does (all.2 s v u at psw r q moved h (is_claimed_at w r) gone) in
-    found_on s (operands_of d r) (λ z. performed (operation_of d.opcode) z psw) o (done_in_memory n v u r psw) found does_it
+    let next : slice_index o.r 15 ≡ plus (slice_index after 15) d.length = pc ∙ ap (λ (x : ℕ). plus x d.length) (sym same) in
+    let gone : o.r ≡ past_own_bytes d.length after = moved_by after o.r (plus (slice_index after 15) d.length) there ops.1 next in
+    found_on s (operands_of d r) (λ z. performed (operation_of d.opcode) z psw) o e found (does at q moved (is_claimed_at t.writes r) gone)
+
+pub is_in_memory : (w : Option Reach) (n : InMemory) (d : Instruction) (what : Operation) (xs : List Operand) → what ≡ operation_of d.opcode → map (λ x. x.form) xs ≡ forms_in (row_of d.opcode) → map (λ x. x.spec) xs ≡ d.specs →
+    IsWellFormed d → n.length ≡ d.length → IsDoneIn w n what xs → IsInMemory n d
+is_in_memory w n d what xs does f g formed long all s r psw v u sixteen a h =
+    let t : Touches = record { reads = n.reads; writes = w } in
+    touched_done s t d xs r psw v u (done_in_memory n v u r psw) f g formed sixteen all.0 a (all.1 s r u h) (λ at q moved claimed gone.
+    subst (λ (op : Operation). outcome s (performed op (all_had v u at xs q) psw) ≡ Ok (done_in_memory n v u r psw)) does
+    (all.2 s v u at psw r q (omega (arith, sixteen)) moved h claimed (gone ∙ ap (λ (k : ℕ). past_own_bytes k (stepped_by w (stepped_by n.reads r))) (sym long))))
 
 -- what is found is what is done, where it doesn't trap
 pub found_is : (n : InMemory) (v u : ℕ) (r : List ℕ) (psw a b : ℕ) (x : Alu) → a ≡ sourced_by n.first v u r → b ≡ sourced_by n.second v u r → x ≡ alu_of n.op a b n.width psw → x.trap ≡ None →

@@ -1,9 +1,10 @@
 -- Operands that need no memory are had at once, and what follows them.
-use Rattle.std.proofs.Common.{◌≡◌, ℕ, zero, suc, ◌+◌, ◌<◌, ◌&&◌, Bool, true, false, List, [], ◌∷◌, length, map, refl, ap, ◌∙◌, sym, subst, arith, get_or, get_or-set_other, get_or-set_same, slice_index, slice_index_or, slice_set}
+use Rattle.std.proofs.Common.{◌≡◌, ℕ, zero, suc, ◌+◌, ◌<◌, ◌&&◌, Bool, true, false, List, [], ◌∷◌, length, map, Option, Some, None, refl, ap, ◌∙◌, sym, subst, arith, get_or, get_or-set_other, get_or-set_same, slice_index, slice_index_or, slice_set}
 use Rattle.std.specs.Prelude.{if◌then◌else◌}
 use Rattle.std.proofs.lemmas.List.{set-set}
 use Rattle.std.proofs.Math.ListN.{length-set}
 use Rattle.vv_base.specs.declared.width.Width.{Width}
+use Rattle.vv_base.specs.Width.{size_of}
 use Rattle.vax_table.specs.declared.act.Dest.TheVariants.{Nowhere}
 use Rattle.vax_table.specs.declared.decoded.Spec.{Spec}
 use Rattle.vax_table.specs.declared.evaluation.Evaluated.{Evaluated}
@@ -11,34 +12,49 @@ use Rattle.vax_table.specs.declared.evaluation.Operands.{Operands}
 use Rattle.vax_table.specs.declared.meaning.Operation.{Operation}
 use Rattle.vax_table.specs.Claims.{Holds}
 use Rattle.vax_table.specs.Interaction.{Done, Interaction, outcome, ◌>>=◌}
-use Rattle.vax_table.specs.Operand.{evaluated, forms_in, no_operands, operand_of, operands_of, past_own_bytes, plus, with_operand}
+use Rattle.vax_table.specs.Operand.{evaluated, forms_in, indexed_by, no_operands, operand_of, operands_of, past_own_bytes, place, plus, with_operand}
 use Rattle.vax_table.specs.Operations.{operation_of}
 use Rattle.vax_table.specs.Plan.{performed, planned}
 use Rattle.vax_table.specs.Rows.{row_of}
 use Rattle.vax_table.specs.Spelling.{Instruction, IsWellFormed}
 use Rattle.vax_table.proofs.NextPc.{operands_go}
+use Rattle.vax_operand.specs.declared.kind.Base.TheVariants.{Deferred, Decrement, Increment, IncrementDeferred, Absolute, Displaced, DisplacedDeferred}
 use Rattle.vax_operand.specs.declared.kind.Kind.{Kind}
 use Rattle.vax_operand.specs.declared.kind.Kind.TheVariants.{Constant, ReadRegister, ModifyRegister, WriteRegister, BitsRegister, Branch, Read, Modify, Write, Address, Bits}
 use Rattle.vax_operand.specs.declared.prepared.Operand.{Operand}
-use Rattle.vax_operand.specs.Prepared.{operand_by}
+use Rattle.vax_operand.specs.Prepared.{address_by, base_by, operand_by}
 use Rattle.vax_operand.proofs.Preparing.{prepared_same}
 use Rattle.vax_operand.proofs.Steps.{left_from}
 use Rattle.vax_normal.specs.AtHand.{AreAlikeButPc, IsDoneBy, IsMoved, are_at_hand, is_at_hand, all_at_hand, dest_at_hand, from_at_hand, value_at_hand}
 use Rattle.vax_normal.specs.Normal.{IsNormal, done_at_once, done_by}
 use Rattle.vax_normal.specs.declared.shape.Normal.{Normal}
 
+index_keeps : (size : ℕ) (i : Option ℕ) (at : ℕ) (q : List ℕ) → (indexed_by size i (place at q)).r ≡ q
+index_keeps size None at q = refl
+index_keeps size (Some x) at q = refl
+
+-- an address that is taken, by its base's address
+address_taken : (size : ℕ) (i : Option ℕ) (at : ℕ) (q : List ℕ) → (let p = indexed_by size i (place at q) in let y : Interaction Evaluated = Done (evaluated p.at Nowhere p.r) in y) ≡ Done (evaluated (indexed_by size i (place at q)).at Nowhere q)
+address_taken size i at q = ap (λ (xs : List ℕ). let y : Interaction Evaluated = Done (evaluated (indexed_by size i (place at q)).at Nowhere xs) in y) (index_keeps size i at q)
+
 kind_taken : (k : Kind) (w : Width) (s : Spec) (q : List ℕ) → is_at_hand k ≡ true → operand_by k w s q ≡ Done (evaluated (value_at_hand k w s q) (dest_at_hand k s.reg) q)
-unfolding operand_by
+unfolding operand_by address_by base_by
 kind_taken Constant w s q h = refl
 kind_taken ReadRegister w s q h = refl
 kind_taken ModifyRegister w s q h = refl
 kind_taken WriteRegister w s q h = refl
-kind_taken BitsRegister w s q h = cc
+kind_taken BitsRegister w s q h = refl
 kind_taken (Branch d) w s q h = refl
 kind_taken (Read b) w s q h = cc
 kind_taken (Modify b) w s q h = cc
 kind_taken (Write b) w s q h = cc
-kind_taken (Address b) w s q h = cc
+kind_taken (Address Deferred) w s q h = address_taken (size_of w) s.index (slice_index q s.reg) q
+kind_taken (Address Decrement) w s q h = cc
+kind_taken (Address Increment) w s q h = cc
+kind_taken (Address IncrementDeferred) w s q h = cc
+kind_taken (Address (Absolute a)) w s q h = address_taken (size_of w) s.index a q
+kind_taken (Address (Displaced d)) w s q h = address_taken (size_of w) s.index (plus (slice_index q s.reg) d) q
+kind_taken (Address (DisplacedDeferred d)) w s q h = cc
 kind_taken (Bits b) w s q h = cc
 
 -- an operand, with the registers after its own bytes
@@ -62,7 +78,7 @@ from_taken i (x ∷ xs) o h =
 abbrev pub after_opcode : Instruction → List ℕ → List ℕ
 after_opcode d r = past_own_bytes (if d.wait then 2 else 1) r
 
-operands_taken : (d : Instruction) (xs : List Operand) (r : List ℕ) → map (λ x. x.form) xs ≡ forms_in (row_of d.opcode) → map (λ x. x.spec) xs ≡ d.specs → are_at_hand xs ≡ true →
+pub operands_taken : (d : Instruction) (xs : List Operand) (r : List ℕ) → map (λ x. x.form) xs ≡ forms_in (row_of d.opcode) → map (λ x. x.spec) xs ≡ d.specs → are_at_hand xs ≡ true →
     operands_of d r ≡ Done (all_at_hand xs (after_opcode d r))
 unfolding operands_of
 operands_taken d xs r f g h = rw (sym f, sym g) (from_taken 0 xs (no_operands (after_opcode d r)) h)
@@ -83,7 +99,7 @@ moved_by r q v room (w, e) g =
     let is : slice_index q 15 ≡ w = ap (λ (xs : List ℕ). slice_index xs 15) e ∙ get_or-set_same r 15 w 0 room in
     e ∙ ap (λ (x : ℕ). slice_set r 15 x) (sym is ∙ g)
 
-pc_taken : (d : Instruction) (xs : List Operand) (r : List ℕ) → map (λ x. x.form) xs ≡ forms_in (row_of d.opcode) → map (λ x. x.spec) xs ≡ d.specs → are_at_hand xs ≡ true →
+pub pc_taken : (d : Instruction) (xs : List Operand) (r : List ℕ) → map (λ x. x.form) xs ≡ forms_in (row_of d.opcode) → map (λ x. x.spec) xs ≡ d.specs → are_at_hand xs ≡ true →
     IsWellFormed d → 15 < length r → (all_at_hand xs (after_opcode d r)).r ≡ past_own_bytes d.length r
 pc_taken d xs r f g h formed room =
     let goes : Holds (λ cs o. slice_index o.r 15 ≡ plus (slice_index r 15) d.length) [] (Done (all_at_hand xs (after_opcode d r))) =
@@ -105,7 +121,7 @@ is_normal n d what xs does f g h formed long done s r psw sixteen =
 
 -- ---- the operand of a number
 
-values_kept : (k i : ℕ) (xs : List Operand) (o : Operands) → k < i → slice_index (from_at_hand i xs o).values k ≡ slice_index o.values k
+pub values_kept : (k i : ℕ) (xs : List Operand) (o : Operands) → k < i → slice_index (from_at_hand i xs o).values k ≡ slice_index o.values k
 values_kept k i [] o low = refl
 values_kept k i (x ∷ xs) o low =
     values_kept k (i + 1) xs (with_operand i o (taken_operand x o.r)) (omega arith) ∙ get_or-set_other o.values i k (taken_operand x o.r).value 0 (omega arith)
@@ -151,12 +167,20 @@ from_dest (suc i) j k (y ∷ ys) o x low there e room =
 pub dest_at : (q : List ℕ) (i : ℕ) (xs : List Operand) (x : Operand) → i < length xs → i < 4 → x ≡ get_or xs i x → slice_index_or (all_at_hand xs q).dests i Nowhere ≡ dest_at_hand x.kind x.spec.reg
 dest_at q i xs x low few there = from_dest i 0 i xs (no_operands q) x low there (omega arith) few
 
--- ---- lists of one operand and of two
+-- ---- lists of one operand, of two and of three
 
 pub one_of : (xs : List Operand) (x : Operand) → 0 < length xs → length xs < 2 → x ≡ get_or xs 0 x → xs ≡ x ∷ []
 one_of [] x some few is = absurd (omega arith)
 one_of (y ∷ []) x some few is = ap (λ (z : Operand). z ∷ []) (sym is)
 one_of (y ∷ (z ∷ zs)) x some few is = absurd (omega arith)
+
+pub three_of : (xs : List Operand) (x y z : Operand) → 2 < length xs → length xs < 4 → x ≡ get_or xs 0 x → y ≡ get_or xs 1 y → z ≡ get_or xs 2 z → xs ≡ x ∷ (y ∷ (z ∷ []))
+three_of [] x y z some few is and last = absurd (omega arith)
+three_of (a ∷ []) x y z some few is and last = absurd (omega arith)
+three_of (a ∷ (b ∷ [])) x y z some few is and last = absurd (omega arith)
+three_of (a ∷ (b ∷ (d ∷ []))) x y z some few is and last =
+    ap (λ (w : Operand). w ∷ (b ∷ (d ∷ []))) (sym is) ∙ ap (λ (w : Operand). x ∷ (w ∷ (d ∷ []))) (sym and) ∙ ap (λ (w : Operand). x ∷ (y ∷ (w ∷ []))) (sym last)
+three_of (a ∷ (b ∷ (d ∷ (e ∷ es)))) x y z some few is and last = absurd (omega arith)
 
 pub two_of : (xs : List Operand) (x y : Operand) → 1 < length xs → length xs < 3 → x ≡ get_or xs 0 x → y ≡ get_or xs 1 y → xs ≡ x ∷ (y ∷ [])
 two_of [] x y some few is and = absurd (omega arith)

@@ -1,5 +1,5 @@
 -- Operands that touch memory give what is had there.
-use Rattle.std.proofs.Common.{◌≡◌, ◌≢◌, ℕ, zero, suc, ◌+◌, ◌-◌, ◌<◌, Bool, true, false, List, [], ◌∷◌, length, drop, take, Option, Some, None, Result, Ok, refl, ap, ◌∙◌, sym, subst, arith, bit_and, bit_or, get_or, get_or-set_other, slice_index, slice_index_or, slice_set}
+use Rattle.std.proofs.Common.{◌≡◌, ◌≢◌, ℕ, zero, suc, ◌+◌, ◌-◌, ◌<◌, Bool, true, false, List, [], ◌∷◌, length, drop, take, Option, Some, None, Result, Ok, refl, ap, ◌∙◌, sym, subst, arith, bit_and, get_or, get_or-set_other, slice_index, slice_index_or, slice_set}
 use Rattle.std.specs.Prelude.{◌==◌, if◌then◌else◌, IfSome}
 use Rattle.std.proofs.Math.ListN.{length-set}
 use Rattle.vv_base.specs.declared.width.Width.{Width}
@@ -38,17 +38,17 @@ touched_none s i v u at r o moved a b c = (refl, moved)
 
 -- ---- an operand that is had at once
 
-kind_had : (k : Kind) (w : Width) (s : Spec) (v u at : ℕ) (q : List ℕ) → is_at_hand k ≡ true → evaluated (value_had v u k w s q) (dest_had at k s.reg) (left_by k w s q) ≡ evaluated (value_at_hand k w s q) (dest_at_hand k s.reg) q
+pub kind_had : (k : Kind) (w : Width) (s : Spec) (v u at : ℕ) (q : List ℕ) → is_at_hand k ≡ true → evaluated (value_had v u k w s q) (dest_had at k s.reg) (left_by k w s q) ≡ evaluated (value_at_hand k w s q) (dest_at_hand k s.reg) q
 kind_had Constant w s v u at q h = refl
 kind_had ReadRegister w s v u at q h = refl
 kind_had ModifyRegister w s v u at q h = refl
 kind_had WriteRegister w s v u at q h = refl
-kind_had BitsRegister w s v u at q h = cc
+kind_had BitsRegister w s v u at q h = refl
 kind_had (Branch d) w s v u at q h = refl
 kind_had (Read b) w s v u at q h = cc
 kind_had (Modify b) w s v u at q h = cc
 kind_had (Write b) w s v u at q h = cc
-kind_had (Address b) w s v u at q h = cc
+kind_had (Address b) w s v u at q h = refl
 kind_had (Bits b) w s v u at q h = cc
 
 pub touched_hand : (t : Touches) (x : Operand) (xs : List Operand) → is_at_hand x.kind ≡ true → AreTouched t xs → AreTouched t (x ∷ xs)
@@ -65,7 +65,7 @@ touched_hand t x xs h rest s i v u at r o moved a b c =
 address_same : (p : Reach) (r q : List ℕ) → slice_index q p.register ≡ slice_index r p.register → reach_address p q ≡ reach_address p r
 address_same p r q same = ap (λ (x : ℕ). if p.offset == 0 then x else plus x p.offset) same
 
-moved_same : (r q : List ℕ) (n : ℕ) → n < 15 → IsMoved r q → slice_index q n ≡ slice_index r n
+pub moved_same : (r q : List ℕ) (n : ℕ) → n < 15 → IsMoved r q → slice_index q n ≡ slice_index r n
 moved_same r q n low (w, e) = ap (λ (xs : List ℕ). slice_index xs n) e ∙ pc_alone r w n low
 
 step_if : (b : Bool) (r q : List ℕ) (n k : ℕ) → n < 15 → IsMoved r q → IsMoved (if b then r else slice_set r n (plus (slice_index r n) k)) (if b then q else slice_set q n (plus (slice_index q n) k))
@@ -204,7 +204,7 @@ abbrev pub StaysOver : Number → List Operand → Type 0
 StaysOver n [] = Unit {0}
 StaysOver n (x ∷ xs) = ((r : List ℕ) → number_by n (left_by x.kind x.form.width x.spec r) ≡ number_by n r) × StaysOver n xs
 
-had_values_kept : (v u at k i : ℕ) (xs : List Operand) (o : Operands) → k < i → slice_index (from_had v u at i xs o).values k ≡ slice_index o.values k
+pub had_values_kept : (v u at k i : ℕ) (xs : List Operand) (o : Operands) → k < i → slice_index (from_had v u at i xs o).values k ≡ slice_index o.values k
 had_values_kept v u at k i [] o low = refl
 had_values_kept v u at k i (x ∷ xs) o low =
     had_values_kept v u at k (i + 1) xs (with_operand i o (operand_had v u at x o.r)) (omega arith) ∙ get_or-set_other o.values i k (operand_had v u at x o.r).value 0 (omega arith)
@@ -214,31 +214,31 @@ had_dests_kept v u at k i [] o low = refl
 had_dests_kept v u at k i (x ∷ xs) o low =
     had_dests_kept v u at k (i + 1) xs (with_operand i o (operand_had v u at x o.r)) (omega arith) ∙ get_or-set_other o.dests i k (operand_had v u at x o.r).dest Nowhere (omega arith)
 
-pub number_moved : (n : Number) (r q : List ℕ) → IsMoved r q → number_by n q ≡ number_by n r
-number_moved n r q moved = ap (λ (x : ℕ). bit_or (bit_and x n.mask) n.constant) (moved_same r q n.register n.there moved)
+pub number_moved : (n : Number) (r q : List ℕ) → n.register < 15 → IsMoved r q → number_by n q ≡ number_by n r
+number_moved n r q low moved = ap (λ (x : ℕ). plus (bit_and x n.mask) n.offset) (moved_same r q n.register low moved)
 
 -- a value that an operand has where a number is still the same
 abbrev pub HasHad : Number → List ℕ → (read claimed : ℕ) → Operand → ℕ → Type 0
 HasHad n r v u x y = (q : List ℕ) × (number_by n q ≡ number_by n r) × (y ≡ value_had v u x.kind x.form.width x.spec q)
 
-past_same : (n : Number) (k : ℕ) (q : List ℕ) → number_by n (past_own_bytes k q) ≡ number_by n q
-past_same n k q = number_moved n q (past_own_bytes k q) (_, refl)
+past_same : (n : Number) (k : ℕ) (q : List ℕ) → n.register < 15 → number_by n (past_own_bytes k q) ≡ number_by n q
+past_same n k q low = number_moved n q (past_own_bytes k q) low (_, refl)
 
-from_had_value : (n : Number) (r : List ℕ) (v u at i j k : ℕ) (xs : List Operand) (o : Operands) (x : Operand) → number_by n o.r ≡ number_by n r → StaysOver n xs → i < length xs → x ≡ get_or xs i x → k ≡ j + i → k < length o.values →
+from_had_value : (n : Number) (r : List ℕ) (v u at i j k : ℕ) (xs : List Operand) (o : Operands) (x : Operand) → n.register < 15 → number_by n o.r ≡ number_by n r → StaysOver n xs → i < length xs → x ≡ get_or xs i x → k ≡ j + i → k < length o.values →
     HasHad n r v u x (slice_index (from_had v u at j xs o).values k)
-from_had_value n r v u at i j k [] o x same stays there is e room = absurd (omega arith)
-from_had_value n r v u at zero j k (y ∷ ys) o x same stays there is e room =
+from_had_value n r v u at i j k [] o x low same stays there is e room = absurd (omega arith)
+from_had_value n r v u at zero j k (y ∷ ys) o x low same stays there is e room =
     let z = operand_had v u at y o.r in
     let here = past_own_bytes y.length o.r in
     let kept : slice_index (from_had v u at (j + 1) ys (with_operand j o z)).values k ≡ slice_index (slice_set o.values j z.value) k = had_values_kept v u at k (j + 1) ys (with_operand j o z) (omega (arith, e)) in
     let put : slice_index (slice_set o.values j z.value) k ≡ z.value = set_at o.values j k z.value 0 (omega (arith, e)) room in
-    (here, past_same n y.length o.r ∙ same, kept ∙ put ∙ ap (λ (w : Operand). value_had v u w.kind w.form.width w.spec here) (sym is))
-from_had_value n r v u at (suc i) j k (y ∷ ys) o x same stays there is e room =
+    (here, past_same n y.length o.r low ∙ same, kept ∙ put ∙ ap (λ (w : Operand). value_had v u w.kind w.form.width w.spec here) (sym is))
+from_had_value n r v u at (suc i) j k (y ∷ ys) o x low same stays there is e room =
     let z = operand_had v u at y o.r in
-    from_had_value n r v u at i (j + 1) k ys (with_operand j o z) x (stays.0 (past_own_bytes y.length o.r) ∙ past_same n y.length o.r ∙ same) stays.1 (omega arith) is (omega (arith, e)) (omega (arith, room, length-set o.values j z.value))
+    from_had_value n r v u at i (j + 1) k ys (with_operand j o z) x low (stays.0 (past_own_bytes y.length o.r) ∙ past_same n y.length o.r low ∙ same) stays.1 (omega arith) is (omega (arith, e)) (omega (arith, room, length-set o.values j z.value))
 
-pub had_value : (n : Number) (r q : List ℕ) (v u at i : ℕ) (xs : List Operand) (x : Operand) → IsMoved r q → StaysOver n xs → i < length xs → i < 4 → x ≡ get_or xs i x → HasHad n r v u x (slice_index (all_had v u at xs q).values i)
-had_value n r q v u at i xs x moved stays low few is = from_had_value n r v u at i 0 i xs (no_operands q) x (number_moved n r q moved) stays low is (omega arith) few
+pub had_value : (n : Number) (r q : List ℕ) (v u at i : ℕ) (xs : List Operand) (x : Operand) → n.register < 15 → IsMoved r q → StaysOver n xs → i < length xs → i < 4 → x ≡ get_or xs i x → HasHad n r v u x (slice_index (all_had v u at xs q).values i)
+had_value n r q v u at i xs x named moved stays low few is = from_had_value n r v u at i 0 i xs (no_operands q) x named (number_moved n r q named moved) stays low is (omega arith) few
 
 from_had_dest : (v u at i j k : ℕ) (xs : List Operand) (o : Operands) (x : Operand) → i < length xs → x ≡ get_or xs i x → k ≡ j + i → k < length o.dests →
     slice_index_or (from_had v u at j xs o).dests k Nowhere ≡ dest_had at x.kind x.spec.reg

@@ -1,7 +1,9 @@
 pub mod Normal
 pub mod AtHand
 pub mod InMemory
+pub mod QuadMove
 pub mod Touched
 pub mod ShownNormal
 pub mod ShownInMemory
+pub mod ShownQuadMove
 pub mod Widths

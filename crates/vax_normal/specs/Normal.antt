@@ -1,27 +1,27 @@
 -- What an instruction in normal form does at once, from the registers and the status word alone: no memory is touched.
-use Rattle.std.specs.Prelude.{◌≡◌, ℕ, ◌%◌, ◌^◌, Bool, bit_and, bit_or, nat_lt, if◌then◌else◌, List, [], length, Option, Some, None, IfSome, Ok, slice_index}
+use Rattle.std.specs.Prelude.{◌≡◌, ℕ, ◌%◌, ◌^◌, ◌==◌, Bool, not, bit_and, nat_lt, if◌then◌else◌, List, [], length, Option, Some, None, IfSome, Ok, slice_index}
 use Rattle.std.specs.Coded.{Unit-prop}
 use Rattle.std.proofs.Props.{props}
 use Rattle.vv_base.specs.declared.width.Width.{Width}
 use Rattle.vv_base.specs.declared.width.Width.TheVariants.{Long}
 use Rattle.vax_table.specs.Arithmetic.{alu_of}
-use Rattle.vax_table.specs.Branches.{bit, comes_out, holds, is_at_most, is_less, keeping_c}
+use Rattle.vax_table.specs.Branches.{comes_out, holds, is_at_most, is_less, keeping_c}
 use Rattle.vax_table.specs.Effects.{Effect, put_in_register}
 use Rattle.vax_table.specs.Interaction.{Space, outcome}
 use Rattle.vax_table.specs.Plan.{planned}
 use Rattle.vax_table.specs.Spelling.{Instruction}
-use Rattle.vax_table.specs.Operand.{past_own_bytes}
+use Rattle.vax_table.specs.Operand.{past_own_bytes, plus}
 use Rattle.vax_table.specs.declared.answer.AluOp.TheVariants.{Sub}
 use Rattle.vax_normal.specs.declared.shape.Number.{Number}
 use Rattle.vax_normal.specs.declared.shape.Computation.{Computation}
 use Rattle.vax_normal.specs.declared.shape.Countdown.{Countdown}
 use Rattle.vax_normal.specs.declared.shape.Normal.{Normal}
 use Rattle.vax_normal.specs.declared.shape.Shape.{Shape}
-use Rattle.vax_normal.specs.declared.shape.Shape.TheVariants.{Computes, Branches, BranchesOnLowBit, CountsDown}
+use Rattle.vax_normal.specs.declared.shape.Shape.TheVariants.{Computes, Branches, BranchesOnBits, CountsDown}
 
 -- a number by the registers
 abbrev pub number_by : Number → List ℕ → ℕ
-number_by x r = bit_or (bit_and (slice_index r x.register) x.mask) x.constant
+number_by x r = plus (bit_and (slice_index r x.register) x.mask) x.offset
 
 -- a result in one of R0 to R14, or nowhere
 abbrev pub with_result : ℕ → Width → ℕ → List ℕ → List ℕ
@@ -40,6 +40,10 @@ computed_at_once c length r psw =
 abbrev pub gone_on : Bool → (jump length : ℕ) → List ℕ → List ℕ
 gone_on taken jump length r = past_own_bytes (if taken then jump else length) r
 
+-- whether any of these bits of a number is set
+abbrev pub has_bits : (bits n : ℕ) → Bool
+has_bits bits n = not (bit_and n bits == 0)
+
 -- whether a countdown branches where so much is left
 abbrev pub branches_at : Bool → ℕ → Bool
 branches_at at_zero left = if at_zero then is_at_most Long 0 left else is_less Long 0 left
@@ -52,7 +56,7 @@ counted_down c jump length r psw =
 abbrev pub done_by : Shape → ℕ → List ℕ → ℕ → Effect
 done_by (Computes c) length r psw = computed_at_once c length r psw
 done_by (Branches condition jump) length r psw = quietly (gone_on (holds condition psw) jump length r) psw
-done_by (BranchesOnLowBit on x jump) length r psw = quietly (gone_on (comes_out on (bit 0 (number_by x r))) jump length r) psw
+done_by (BranchesOnBits on x bits jump) length r psw = quietly (gone_on (comes_out on (has_bits bits (number_by x r))) jump length r) psw
 done_by (CountsDown c jump) length r psw = counted_down c jump length r psw
 
 -- what it does

@@ -1,5 +1,5 @@
 -- Operands of which one at most is read in memory, and one at most claimed: what they give, where these numbers are had.
-use Rattle.std.specs.Prelude.{◌≡◌, ℕ, ◌+◌, ◌==◌, ◌&&◌, ◌||◌, not, Bool, true, List, [], ◌∷◌, map, Option, Some, None, Ok, slice_index, slice_set}
+use Rattle.std.specs.Prelude.{◌≡◌, ℕ, ◌+◌, ◌<◌, ◌==◌, ◌&&◌, ◌||◌, not, Bool, true, List, [], ◌∷◌, length, map, Option, Some, None, Ok, slice_index, slice_set}
 use Rattle.vv_base.specs.declared.width.Width.{Width}
 use Rattle.vv_base.specs.Width.{size_of}
 use Rattle.vax_table.specs.declared.act.Dest.{Dest}
@@ -80,6 +80,10 @@ abbrev pub AreTouched : Touches → List Operand → Type 0
 AreTouched t xs = (s : Space) (i v u at : ℕ) (r : List ℕ) (o : Operands) → IsMoved r o.r → HasRead s t.reads r v → HasClaimed s t.writes r u → IsClaimedAt t.writes r at →
     (outcome s (operands_from i (map (λ x. x.form) xs) (map (λ x. x.spec) xs) o) ≡ Ok (from_had v u at i xs o)) × IsMoved (stepped_by t.writes (stepped_by t.reads r)) (from_had v u at i xs o).r
 
+-- registers before an instruction of so many bytes whose operands touch so much, and those after its opcode
+abbrev pub AreBeforeTouches : Touches → ℕ → List Operand → (read claimed at : ℕ) → (r q : List ℕ) → Type 0
+AreBeforeTouches t k xs v u at r q = (15 < length r) × IsMoved r q × ((all_had v u at xs q).r ≡ past_own_bytes k (stepped_by t.writes (stepped_by t.reads r)))
+
 -- a number stays over an operand: that isn't in memory, or by another register
 abbrev pub is_kept_over : Number → Operand → Bool
 is_kept_over n x = is_at_hand x.kind || (n.mask == 0 || not (n.register == x.spec.reg))
@@ -98,5 +102,5 @@ abbrev pub IsDoneIn : Option Reach → InMemory → Operation → List Operand �
 IsDoneIn w n what xs =
     AreTouched (record { reads = n.reads; writes = w }) xs
     × ((s : Space) (r : List ℕ) (u : ℕ) → HasClaimed s n.writes r u → HasClaimed s w r u)
-    × ((s : Space) (v u at psw : ℕ) (r q : List ℕ) → IsMoved r q → HasClaimed s n.writes r u → IsClaimedAt w r at → (all_had v u at xs q).r ≡ past_own_bytes n.length (stepped_by w (stepped_by n.reads r)) →
+    × ((s : Space) (v u at psw : ℕ) (r q : List ℕ) → 15 < length r → IsMoved r q → HasClaimed s n.writes r u → IsClaimedAt w r at → (all_had v u at xs q).r ≡ past_own_bytes n.length (stepped_by w (stepped_by n.reads r)) →
     outcome s (performed what (all_had v u at xs q) psw) ≡ Ok (done_in_memory n v u r psw))

@@ -149,8 +149,8 @@ impl Normal {
                 go_if(r, holds(*condition, psw), *jump, length, total);
                 Some(After { psw, total })
             }
-            Shape::BranchesOnLowBit(on, x, jump) => {
-                let taken = comes_out(*on, x.value(r) % 2 == 1);
+            Shape::BranchesOnBits(on, x, bits, jump) => {
+                let taken = comes_out(*on, x.value(r) & *bits != 0);
                 go_if(r, taken, *jump, length, total);
                 Some(After { psw, total })
             }

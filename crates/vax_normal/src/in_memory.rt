@@ -1,4 +1,4 @@
-ghost use Rattle.std.specs.Prelude.{◌≡◌, [], ◌∷◌, sum, take, IfSome, MatchOption};
+ghost use Rattle.std.specs.Prelude.{◌≡◌, [], ◌∷◌, bit_and, sum, take, IfSome, MatchOption};
 ghost use Rattle.vax_normal.specs.InMemory.{HasClaimed, IsFoundIn, finished, sourced_by, stored};
 
 use crate::carry_out::{go_on, put};
@@ -15,20 +15,28 @@ pub struct Found {
     pub psw: u8,
 }
 
+/// The bits of a number that a mask has.
+#[inline(always)]
+fn low_bits(number: u64, mask: u32) -> u32
+    ensures { result ≡ bit_and number mask }
+{
+    ((number & u64::from(mask)) % 0x1_0000_0000) as u32
+}
+
 impl Source {
     /// The number, by the registers, and what is read and claimed.
     #[inline(always)]
-    fn value(&self, r: &[u32; 16], read: u32, claimed: u32) -> u32
+    pub fn value(&self, r: &[u32; 16], read: u64, claimed: u64) -> u32
         ensures { result ≡ sourced_by self.now read claimed r.now }
     {
-        self.number.value(r) | read & self.read | claimed & self.claimed
+        self.number.value(r) | low_bits(read, self.read) | low_bits(claimed, self.claimed)
     }
 }
 
 impl InMemory {
     /// What it finds where this is claimed, if what it reads is in a space and it doesn't trap.
     #[inline(always)]
-    pub fn find<S: Space>(&self, space: &S, r: &[u32; 16], psw: u8, claimed: u32) -> Option<Found>
+    pub fn find<S: Space>(&self, space: &S, r: &[u32; 16], psw: u8, claimed: u64) -> Option<Found>
         requires { HasClaimed (S.space space.now) self.now.writes r.now claimed }
         ensures { IfSome result (IsFoundIn self.now (S.space space.now) r.now psw) }
     {

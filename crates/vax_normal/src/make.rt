@@ -1,17 +1,18 @@
-ghost use Rattle.std.specs.Prelude.{◌≡◌, ◌≢◌, ◌+◌, ◌%◌, ◌^◌, ◌<◌, List, ℕ, true, IfSome};
+ghost use Rattle.std.specs.Prelude.{◌≡◌, ◌≢◌, ◌+◌, ◌%◌, ◌^◌, ◌<◌, List, ℕ, None, true, slice_index, IfSome};
 ghost use Rattle.vax_table.specs.Computing.{first_input, second_input, target_of};
 ghost use Rattle.vax_table.specs.Effects.{dest_of, long_of};
+ghost use Rattle.vax_table.specs.Operand.{plus};
 ghost use Rattle.vax_table.specs.Spelling.{IsWellFormed, view};
-ghost use Rattle.vax_normal.specs.AtHand.{AreAlikeButPc, IsDoneBy, IsPutBy, are_at_hand, is_at_hand, all_at_hand, dest_at_hand};
+ghost use Rattle.vax_normal.specs.AtHand.{AreAlikeButPc, AreBefore, IsDoneBy, IsPutBy, are_at_hand, is_at_hand, all_at_hand, dest_at_hand, value_at_hand};
 ghost use Rattle.vax_normal.specs.Normal.{IsNormal, number_by};
 
-use crate::number::number_of;
+use crate::number::{number_of, relative_of};
 use crate::shape::{Computation, Countdown, Normal, Number, Shape};
-use vax_operand::{Kind, Operand, Prepared};
+use vax_operand::{Base, Kind, Operand, Prepared};
 use vax_table::{AluOp, Condition, Inputs, Operation, Target};
 use vv_base::Width;
 
-/// Whether an operand is a constant, a register or a branch.
+/// Whether an operand is a constant, a register, a branch or an address that needs no memory.
 pub fn is_at_hand(kind: Kind) -> bool
     ensures { result ≡ is_at_hand kind }
 {
@@ -21,12 +22,14 @@ pub fn is_at_hand(kind: Kind) -> bool
             | Kind::ReadRegister
             | Kind::ModifyRegister
             | Kind::WriteRegister
+            | Kind::BitsRegister
             | Kind::Branch(_)
+            | Kind::Address(Base::Deferred | Base::Absolute(_) | Base::Displaced(_))
     )
 }
 
 /// Whether all operands are.
-fn are_at_hand(operands: &[Operand]) -> bool
+pub fn are_at_hand(operands: &[Operand]) -> bool
     ensures { result ≡ are_at_hand operands.now }
 {
     let [operand, rest @ ..] = operands else {
@@ -36,7 +39,7 @@ fn are_at_hand(operands: &[Operand]) -> bool
 }
 
 /// The number that is read of the operand of this number, from 0 on.
-fn number_at(i: usize, operands: &[Operand]) -> Option<Number>
+pub fn number_at(i: usize, operands: &[Operand]) -> Option<Number>
     requires { i < 4 }
     ensures { IfSome result (λ n. (r q : List ℕ) → AreAlikeButPc r q → long_of (all_at_hand operands.now q) i ≡ number_by n r) }
 {
@@ -46,14 +49,27 @@ fn number_at(i: usize, operands: &[Operand]) -> Option<Number>
     number_of(&operands[i])
 }
 
+/// The number that is read of the first operand, or the address by PC that it is.
+fn first_number(operands: &[Operand], length: u32) -> Option<Number>
+    ensures { IfSome result (λ n. (r q : List ℕ) → AreBefore length operands.now r q → long_of (all_at_hand operands.now q) 0 ≡ number_by n r) }
+{
+    let [operand, rest @ ..] = operands else {
+        return None;
+    };
+    match number_of(operand) {
+        Some(number) => Some(number),
+        None => relative_of(operand, rest, length),
+    }
+}
+
 /// The first number of an operation, and the second.
-fn numbers_of(inputs: Inputs, operands: &[Operand]) -> Option<(Number, Number)>
-    ensures { IfSome result (λ n. (r q : List ℕ) → AreAlikeButPc r q → (first_input inputs (all_at_hand operands.now q) ≡ number_by n.0 r) × (second_input inputs (all_at_hand operands.now q) ≡ number_by n.1 r)) }
+fn numbers_of(inputs: Inputs, operands: &[Operand], length: u32) -> Option<(Number, Number)>
+    ensures { IfSome result (λ n. (r q : List ℕ) → AreBefore length operands.now r q → (first_input inputs (all_at_hand operands.now q) ≡ number_by n.0 r) × (second_input inputs (all_at_hand operands.now q) ≡ number_by n.1 r)) }
 {
     let zero = Number::constant(0);
     match inputs {
         Inputs::Zero => Some((zero, zero)),
-        Inputs::First => Some((number_at(0, operands)?, zero)),
+        Inputs::First => Some((first_number(operands, length)?, zero)),
         Inputs::Both => Some((number_at(0, operands)?, number_at(1, operands)?)),
         Inputs::OneAndFirst => Some((Number::constant(1), number_at(0, operands)?)),
         Inputs::Signed(_) => None,
@@ -65,7 +81,7 @@ fn register_of(operand: &Operand) -> u8
     ensures { IsPutBy result (dest_at_hand operand.now.kind operand.now.spec.reg) }
 {
     match operand.kind {
-        Kind::ModifyRegister | Kind::WriteRegister => operand.spec.reg,
+        Kind::ModifyRegister | Kind::WriteRegister | Kind::BitsRegister => operand.spec.reg,
         _ => 15,
     }
 }
@@ -114,7 +130,7 @@ fn computation_of(
     if !is_narrow(width) {
         return None;
     }
-    let (first, second) = numbers_of(inputs, operands)?;
+    let (first, second) = numbers_of(inputs, operands, length)?;
     Some(Shape::Computes(Computation {
         op,
         width,
@@ -125,26 +141,31 @@ fn computation_of(
 }
 
 /// A branch by so many bytes from the next instruction, from the address of this one.
-fn jump_of(displacement: u32, length: u32) -> u32
+pub fn jump_of(displacement: u32, length: u32) -> u32
     ensures { result ≡ (displacement + length) % 2 ^ 32 }
 {
     displacement.wrapping_add(length)
 }
 
-/// A branch by the condition codes.
+/// By how many bytes a branch or a jump goes on from its own address, if that is fixed.
+fn jump_to(x: &Operand, length: u32) -> Option<u32>
+    ensures { IfSome result (λ jump. (r q : List ℕ) → slice_index q 15 ≡ plus (slice_index r 15) length → value_at_hand x.now.kind x.now.form.width x.now.spec q % 2 ^ 32 ≡ plus (slice_index r 15) jump) }
+{
+    match x.kind {
+        Kind::Branch(displacement) => Some(jump_of(displacement, length)),
+        _ => Some(relative_of(x, &[], length)?.offset),
+    }
+}
+
+/// A branch by the condition codes, or JMP to an address by PC.
 fn branch_of(condition: Condition, operands: &[Operand], length: u32) -> Option<Shape>
     ensures { IfSome result (λ s. IsDoneBy s length (Operation.Branch condition) operands.now) }
 {
-    match operands {
-        [x] => match x.kind {
-            Kind::Branch(displacement) => Some(Shape::Branches(
-                condition,
-                jump_of(displacement, length),
-            )),
-            _ => None,
-        },
-        _ => None,
-    }
+    let [x] = operands else {
+        return None;
+    };
+    let jump = jump_to(x, length)?;
+    Some(Shape::Branches(condition, jump))
 }
 
 /// A branch by the low bit of a constant or a register.
@@ -153,11 +174,40 @@ fn low_bit_of(on: bool, operands: &[Operand], length: u32) -> Option<Shape>
 {
     match operands {
         [x, y] => match y.kind {
-            Kind::Branch(displacement) => Some(Shape::BranchesOnLowBit(
+            Kind::Branch(displacement) => Some(Shape::BranchesOnBits(
                 on,
                 number_of(x)?,
+                1,
                 jump_of(displacement, length),
             )),
+            _ => None,
+        },
+        _ => None,
+    }
+}
+
+/// The mask of the bit at a position, if a longword has it.
+fn mask_at(position: u64) -> Option<u32>
+    ensures few { IfSome result (λ m. position < 32) }
+    ensures value { IfSome result (λ m. m ≡ 2 ^ position) }
+{
+    if position >= 32 {
+        return None;
+    }
+    Some(1 << position)
+}
+
+/// A branch by a bit of a register, at a position that is a constant.
+fn register_bit_of(on: bool, operands: &[Operand], length: u32) -> Option<Shape>
+    ensures { IfSome result (λ s. IsDoneBy s length (Operation.BranchOnBit on None) operands.now) }
+{
+    match operands {
+        [x, y, z] => match (x.kind, y.kind, z.kind) {
+            (Kind::Constant, Kind::BitsRegister, Kind::Branch(displacement)) => {
+                let mask = mask_at(x.spec.value)?;
+                let number = Number::longword(y.spec.reg);
+                Some(Shape::BranchesOnBits(on, number, mask, jump_of(displacement, length)))
+            }
             _ => None,
         },
         _ => None,
@@ -195,6 +245,8 @@ fn shape_of(what: Operation, operands: &[Operand], length: u32) -> Option<Shape>
         }
         Operation::Branch(condition) => branch_of(condition, operands, length),
         Operation::BranchOnLowBit(on) => low_bit_of(on, operands, length),
+        Operation::BranchOnBit(on, None) => register_bit_of(on, operands, length),
+        Operation::Nothing => Some(Shape::Branches(Condition::Always, length)),
         Operation::SubtractOne(at_zero) => countdown_of(at_zero, operands, length),
         _ => None,
     }

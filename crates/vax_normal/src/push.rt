@@ -4,7 +4,7 @@ ghost use Rattle.vax_normal.specs.InMemory.{reach_address, reach_stepped, steppe
 ghost use Rattle.vax_normal.specs.Touched.{IsDoneIn};
 
 use crate::shape::{InMemory, Reach};
-use crate::touches::{constant, source_at, touches_of};
+use crate::touches::{constant, first_source, touches_of};
 use vax_operand::Operand;
 use vax_table::{AluOp, Operation};
 use vv_base::Width;
@@ -45,7 +45,7 @@ pub fn pushed_in_memory(operands: &[Operand], length: u32) -> Option<InMemory>
     if !leaves_sp(&touches.reads) {
         return None;
     }
-    let first = source_at(0, operands)?;
+    let first = first_source(operands, length)?;
     Some(InMemory {
         op: AluOp::Move,
         width: Width::Long,

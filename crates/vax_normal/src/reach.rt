@@ -2,7 +2,6 @@ ghost use Rattle.std.specs.Prelude.{◌≡◌, sum, take, IfSome};
 ghost use Rattle.vax_normal.specs.InMemory.{HasRead, reach_address, reach_stepped, stepped_by};
 ghost use Rattle.vax_normal.specs.Touched.{IsReachOf};
 
-use crate::make::is_narrow;
 use crate::shape::Reach;
 use crate::total::set;
 use vax_operand::{Base, Space};
@@ -48,14 +47,14 @@ pub fn step_by(reach: &Option<Reach>, r: &mut [u32; 16], total: u64) -> u64
 
 /// The number that a reference reads, if there is one, or else 0.
 #[inline(always)]
-pub fn read_by<S: Space>(space: &S, reach: &Option<Reach>, r: &[u32; 16]) -> Option<u32>
+pub fn read_by<S: Space>(space: &S, reach: &Option<Reach>, r: &[u32; 16]) -> Option<u64>
     ensures { IfSome result (λ v. HasRead (S.space space.now) reach.now r.now v) }
 {
     let Some(reach) = reach else {
         return Some(0);
     };
     match space.read(reach.address(r), reach.width) {
-        Ok(v) => Some((v % 0x1_0000_0000) as u32),
+        Ok(v) => Some(v),
         Err(_) => None,
     }
 }
@@ -64,7 +63,7 @@ pub fn read_by<S: Space>(space: &S, reach: &Option<Reach>, r: &[u32; 16]) -> Opt
 pub fn reach_by(base: Base, width: Width, spec: &Spec) -> Option<Reach>
     ensures { IfSome result (λ p. IsReachOf p base width spec.now) }
 {
-    if spec.reg >= 15 || !is_narrow(width) {
+    if spec.reg >= 15 {
         return None;
     }
     let register = spec.reg;

@@ -5,13 +5,14 @@ ghost use Rattle.vax_normal.specs.Widths.{width-prop};
 use vax_table::{AluOp, Condition};
 use vv_base::Width;
 
-/// A number that is had at once: the bits of a register that a mask has, or a constant beside a mask of none.
+/// A number that is had at once: the bits of a register that a mask has, and an offset, modulo 2^32. A constant has a mask of
+/// none. The registers are those before the instruction, so PC is its own address.
 #[derive(Clone, Copy)]
 pub struct Number {
     pub register: u8,
     pub mask: u32,
-    pub constant: u32,
-    ghost there: { register < 15 },
+    pub offset: u32,
+    ghost there: { register < 16 },
 }
 
 /// An operation of the arithmetic on numbers that are had at once, whose result goes to a register or nowhere.
@@ -38,10 +39,10 @@ pub struct Countdown {
 #[derive(Clone, Copy)]
 pub enum Shape {
     Computes(Computation),
-    /// A branch by the condition codes.
+    /// A branch by the condition codes, and NOP, which always goes on by its own bytes.
     Branches(Condition, u32),
-    /// BLBS or BLBC of a number: branches where the low bit is this.
-    BranchesOnLowBit(bool, Number, u32),
+    /// BLBS or BLBC of a number, and BBS or BBC of a register: branches where any of these bits is set, or where none is.
+    BranchesOnBits(bool, Number, u32, u32),
     CountsDown(Countdown, u32),
 }
 
@@ -56,12 +57,11 @@ pub struct Normal {
 /// where that isn't 0.
 #[derive(Clone, Copy)]
 pub struct Reach {
-    pub register: u8,
     pub offset: u32,
     pub step: u32,
+    pub register: u8,
     pub width: Width,
     ghost there: { register < 15 },
-    ghost narrow: { width ≢ Quad },
 }
 
 /// A number that is had at once, or bits of one that is read or claimed in memory.
@@ -87,4 +87,34 @@ pub struct InMemory {
     pub length: u32,
     ghost narrow: { width ≢ Quad },
     ghost claims: { IfSome writes (λ p. p.width ≡ width) } by { width-prop (λ p. p.width) writes width },
+}
+
+/// A register, which has the low longword of a quadword, and the next one, which has the other.
+#[derive(Clone, Copy)]
+pub struct RegisterPair {
+    pub register: u8,
+    ghost there: { register < 14 },
+}
+
+/// Where a quadword comes from.
+#[derive(Clone, Copy)]
+pub enum QuadSource {
+    Constant(u64),
+    Registers(RegisterPair),
+    /// It is read in memory.
+    Read,
+}
+
+/// CLRQ or MOVQ in normal form: a quadword, for which one reference at most is read, goes to two registers or where one is
+/// claimed.
+#[derive(Clone, Copy)]
+pub struct QuadMove {
+    pub source: QuadSource,
+    /// The register that gets the low longword, or 15, where none does.
+    pub register: u8,
+    pub reads: Option<Reach>,
+    pub writes: Option<Reach>,
+    pub length: u32,
+    ghost there: { register ≢ 14 },
+    ghost claims: { IfSome writes (λ p. p.width ≡ Quad) } by { width-prop (λ p. p.width) writes Quad },
 }

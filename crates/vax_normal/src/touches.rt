@@ -5,10 +5,10 @@ ghost use Rattle.vax_table.specs.Spelling.{IsWellFormed, view};
 ghost use Rattle.vax_normal.specs.AtHand.{IsMoved};
 ghost use Rattle.vax_normal.specs.InMemory.{IsInMemory, reach_stepped, sourced_by};
 ghost use Rattle.vax_normal.specs.Normal.{number_by};
-ghost use Rattle.vax_normal.specs.Touched.{AreTouched, IsClaimedAt, IsDoneIn, IsPutIn, all_had, dest_had, is_kept_over_all, is_kept_over, value_had};
+ghost use Rattle.vax_normal.specs.Touched.{AreBeforeTouches, AreTouched, IsClaimedAt, IsDoneIn, IsPutIn, all_had, dest_had, is_kept_over_all, is_kept_over, value_had};
 
 use crate::make::{is_at_hand, is_narrow};
-use crate::number::number_of;
+use crate::number::{number_of, relative_of};
 use crate::push::pushed_in_memory;
 use crate::reach::reach_by;
 use crate::shape::{InMemory, Number, Reach, Source};
@@ -154,7 +154,7 @@ fn source_of(x: &Operand) -> Option<Source>
     }
 }
 
-/// That of the operand of this number, from 0 on.
+/// That of the operand of this number, from 0 on, if no operand changes its register, as each does PC.
 pub fn source_at(i: usize, operands: &[Operand]) -> Option<Source>
     requires { i < 4 }
     ensures { IfSome result (λ n. (v u at : ℕ) (r q : List ℕ) → IsMoved r q → long_of (all_had v u at operands.now q) i ≡ sourced_by n v u r) }
@@ -163,20 +163,44 @@ pub fn source_at(i: usize, operands: &[Operand]) -> Option<Source>
         return None;
     }
     let source = source_of(&operands[i])?;
-    if !is_kept_over_all(&source.number, operands) {
+    if source.number.register >= 15 || !is_kept_over_all(&source.number, operands) {
         return None;
     }
     Some(source)
 }
 
+/// The address by PC that the first operand is.
+fn relative_source(operands: &[Operand], length: u32) -> Option<Source>
+    ensures { IfSome result (λ n. (t : Touches) (v u at : ℕ) (r q : List ℕ) → AreBeforeTouches t length operands.now v u at r q → long_of (all_had v u at operands.now q) 0 ≡ sourced_by n v u r) }
+{
+    let [x, rest @ ..] = operands else {
+        return None;
+    };
+    let number = relative_of(x, rest, length)?;
+    if !is_kept_over_all(&number, operands) {
+        return None;
+    }
+    Some(at_hand(number))
+}
+
+/// The number that is read of the first operand, or the address by PC that it is.
+pub fn first_source(operands: &[Operand], length: u32) -> Option<Source>
+    ensures { IfSome result (λ n. (t : Touches) (v u at : ℕ) (r q : List ℕ) → AreBeforeTouches t length operands.now v u at r q → long_of (all_had v u at operands.now q) 0 ≡ sourced_by n v u r) }
+{
+    match source_at(0, operands) {
+        Some(source) => Some(source),
+        None => relative_source(operands, length),
+    }
+}
+
 /// The first number of an operation, and the second.
-fn sources_of(inputs: Inputs, operands: &[Operand]) -> Option<(Source, Source)>
-    ensures { IfSome result (λ n. (v u at : ℕ) (r q : List ℕ) → IsMoved r q → (first_input inputs (all_had v u at operands.now q) ≡ sourced_by n.0 v u r) × (second_input inputs (all_had v u at operands.now q) ≡ sourced_by n.1 v u r)) }
+pub fn sources_of(inputs: Inputs, operands: &[Operand], length: u32) -> Option<(Source, Source)>
+    ensures { IfSome result (λ n. (t : Touches) (v u at : ℕ) (r q : List ℕ) → AreBeforeTouches t length operands.now v u at r q → (first_input inputs (all_had v u at operands.now q) ≡ sourced_by n.0 v u r) × (second_input inputs (all_had v u at operands.now q) ≡ sourced_by n.1 v u r)) }
 {
     let zero = constant(0);
     match inputs {
         Inputs::Zero => Some((zero, zero)),
-        Inputs::First => Some((source_at(0, operands)?, zero)),
+        Inputs::First => Some((first_source(operands, length)?, zero)),
         Inputs::Both => Some((source_at(0, operands)?, source_at(1, operands)?)),
         Inputs::OneAndFirst => Some((constant(1), source_at(0, operands)?)),
         Inputs::Signed(_) => None,
@@ -184,7 +208,7 @@ fn sources_of(inputs: Inputs, operands: &[Operand]) -> Option<(Source, Source)>
 }
 
 /// The register that is an operand's place, or 15 where that is in memory, as one is claimed.
-fn put_of(x: &Operand, writes: &Option<Reach>) -> Option<u8>
+pub fn put_of(x: &Operand, writes: &Option<Reach>) -> Option<u8>
     ensures { IfSome result (λ n. (r : List ℕ) (at : ℕ) → IsClaimedAt writes.now r at → IsPutIn n writes.now (dest_had at x.now.kind x.now.spec.reg) r) }
 {
     match (x.kind, *writes) {
@@ -218,7 +242,7 @@ fn nowhere(writes: &Option<Reach>) -> Option<u8>
 }
 
 /// The register that gets a result, or 15.
-fn put_by(target: Target, operands: &[Operand], writes: &Option<Reach>) -> Option<u8>
+pub fn put_by(target: Target, operands: &[Operand], writes: &Option<Reach>) -> Option<u8>
     ensures { IfSome result (λ n. (v u at : ℕ) (r q : List ℕ) → IsClaimedAt writes.now r at → IsPutIn n writes.now (target_of target (all_had v u at operands.now q)) r) }
 {
     match target {
@@ -230,7 +254,7 @@ fn put_by(target: Target, operands: &[Operand], writes: &Option<Reach>) -> Optio
 }
 
 /// Whether a reference, if there is one, is to so wide a number.
-fn has_width(reach: &Option<Reach>, width: Width) -> bool
+pub fn has_width(reach: &Option<Reach>, width: Width) -> bool
     ensures { result ≡ true → IfSome reach.now (λ p. p.width ≡ width) }
 {
     match reach {
@@ -258,7 +282,7 @@ fn computed_in_memory(
     if !has_width(&touches.writes, width) {
         return None;
     }
-    let (first, second) = sources_of(inputs, operands)?;
+    let (first, second) = sources_of(inputs, operands, length)?;
     let register = put_by(target, operands, &touches.writes)?;
     Some(InMemory {
         op,

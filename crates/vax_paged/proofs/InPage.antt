@@ -1,5 +1,5 @@
 -- Bytes of one page: their places are one after the other, and one test is that of all.
-use Rattle.std.proofs.Common.{◌≡◌, ℕ, zero, suc, ◌+◌, ◌*◌, ◌/◌, ◌%◌, ◌^◌, ◌<◌, ◌≤◌, Bool, true, false, List, [], ◌∷◌, ◌++◌, Option, Some, None, Result, Ok, Err, refl, ap, sym, ◌∙◌, arith, slice_set}
+use Rattle.std.proofs.Common.{◌≡◌, ℕ, zero, suc, ◌+◌, ◌-◌, ◌*◌, ◌/◌, ◌%◌, ◌^◌, ◌<◌, ◌≤◌, Bool, true, false, List, [], ◌∷◌, ◌++◌, Option, Some, None, Result, Ok, Err, refl, ap, sym, ◌∙◌, arith, slice_set}
 use Rattle.std.specs.Prelude.{if◌then◌else◌, slice_index, IfSome}
 use Rattle.std.proofs.lemmas.List.{append-nil}
 use Rattle.vax_arch.specs.declared.mode.Intent.{Intent}
@@ -18,11 +18,11 @@ use Rattle.vax_hw.specs.declared.world.World.{World}
 use Rattle.vv_base.specs.Bytes.{long_at}
 use Rattle.vv_base.specs.Width.{size_of}
 use Rattle.vax_table.specs.Claims.{addresses}
-use Rattle.vax_table.specs.Interaction.{At, Cause, Trouble, number_at, with_byte}
+use Rattle.vax_table.specs.Interaction.{At, Cause, Space, Trouble, number_at, with_byte}
 use Rattle.vax_table.specs.Stores.{all_stored, bytes_stored}
 use Rattle.vax_table.specs.Tries.{first_clear}
 use Rattle.vax_table.specs.declared.effect.Store.{Store}
-use Rattle.vax_paged.specs.InPage.{IsOpenAt, IsStoreInPage, number_at_place, number_from, stored_from}
+use Rattle.vax_paged.specs.InPage.{IsOpenAt, IsStoreInPage, number_at_place, number_from, number_over, stored_from}
 use Rattle.vax_paged.specs.Known.{known_space, place_known}
 use Rattle.vax_paged.specs.Paged.{at_byte, byte_at, is_clear_for, paged, placed, written_place}
 use Rattle.vax_paged.specs.declared.known.Known.{Known}
@@ -97,6 +97,32 @@ number_there memory w i k va r small some h e = number_by memory (placed memory 
 -- and so is one of a known page
 pub number_known : (memory : List ℕ) (ks : List Known) (i : Intent) (k va : ℕ) (r : Result ℕ Trouble) → va < 2 ^ 32 → 0 < k → va % 512 + k ≤ 512 → r ≡ at_byte i va (place_known ks i va) → number_at_place memory k r ≡ number_at (known_space memory ks) i k va
 number_known memory ks i k va r small some h e = number_by memory (place_known ks) i (next_known ks i) k va r small some h e
+
+-- a number is the same at addresses that are alike modulo 2 ^ 32
+number_around : (s : Space) (i : Intent) (k a b : ℕ) → a % 2 ^ 32 ≡ b % 2 ^ 32 → number_at s i k a ≡ number_at s i k b
+number_around s i zero a b e = refl
+number_around s i (suc k) a b e =
+    let next : (a + 1) % 2 ^ 32 ≡ (b + 1) % 2 ^ 32 = omega arith in
+    ap (λ (n : ℕ). with_byte i n (s i n) (number_at s i k (a + 1))) e
+    ∙ ap (with_byte i (b % 2 ^ 32) (s i (b % 2 ^ 32))) (number_around s i k (a + 1) (b + 1) next)
+
+-- a number over a page's end: its first bytes are from the one place, and the others from that of the next page
+over_end : (memory : List ℕ) (places : Intent → ℕ → Result ℕ Cause) (i : Intent) → GoesOn (places i) → (first k va low high : ℕ) → va < 2 ^ 32 → va % 512 + first ≡ 512 → first < k → k ≤ 8 → places i va ≡ Ok low → places i ((va + first) % 2 ^ 32) ≡ Ok high →
+    number_at (byte_at memory places) i k va ≡ Ok (number_over memory first k low high)
+over_end memory places i next first zero va low high small h some few e g = absurd (omega arith)
+over_end memory places i next zero (suc k) va low high small h some few e g = absurd (omega arith)
+over_end memory places i next (suc zero) (suc k) va low high small h some few e g =
+    let around = number_around (byte_at memory places) i k (va + 1) ((va + 1) % 2 ^ 32) (omega arith) in
+    one_byte memory places i k va low (number_from memory k high) small e (around ∙ there memory places i next k ((va + 1) % 2 ^ 32) high (omega arith) (omega arith) g)
+over_end memory places i next (suc (suc first)) (suc k) va low high small h some few e g =
+    let same : va + suc (suc first) ≡ va + 1 + suc first = omega arith in
+    one_byte memory places i k va low (number_over memory (suc first) k (low + 1) high) small e
+    (over_end memory places i next (suc first) k (va + 1) (low + 1) high (omega arith) (omega arith) (omega arith) (omega arith) (next va low (omega arith) e) (rw same at g))
+
+pub over_end_known : (memory : List ℕ) (ks : List Known) (i : Intent) (k va low high : ℕ) → va < 2 ^ 32 → 512 < va % 512 + k → k ≤ 8 → Ok low ≡ place_known ks i va → Ok high ≡ place_known ks i ((va + (512 - va % 512)) % 2 ^ 32) →
+    Ok (number_over memory (512 - va % 512) k low high) ≡ number_at (known_space memory ks) i k va
+over_end_known memory ks i k va low high small over few e g =
+    sym (over_end memory (place_known ks) i (next_known ks i) (512 - va % 512) k va low high small (omega arith) (omega (arith, over)) few (sym e) (sym g))
 
 -- an address that has a place has it by the walk
 pub placed_ok : (i : Intent) (va p : ℕ) (x : Result ℕ Cause) → Ok p ≡ at_byte i va x → x ≡ Ok p

@@ -18,6 +18,12 @@ abbrev pub number_from : List ℕ → (k place : ℕ) → ℕ
 number_from memory zero place = 0
 number_from memory (suc k) place = slice_index memory place + 256 * number_from memory k (place + 1)
 
+-- the same where so many of them are at one place, and the others at another
+abbrev pub number_over : List ℕ → (first k at next : ℕ) → ℕ
+number_over memory zero k at next = number_from memory k next
+number_over memory (suc first) zero at next = 0
+number_over memory (suc first) (suc k) at next = slice_index memory at + 256 * number_over memory first k (at + 1) next
+
 -- and from the place that an address has
 abbrev pub number_at_place : List ℕ → (k : ℕ) → Result ℕ Trouble → Result ℕ Trouble
 number_at_place memory k (Ok place) = Ok (number_from memory k place)

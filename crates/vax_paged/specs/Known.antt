@@ -1,5 +1,5 @@
 -- Pages that are known: where they lie, as long as memory stays as it is in the frames whose stores are watched.
-use Rattle.std.specs.Prelude.{ℕ, ◌≡◌, ◌+◌, ◌/◌, ◌%◌, ◌^◌, ◌<◌, ◌==◌, ◌&&◌, Bool, true, false, nat_lt, if◌then◌else◌, List, All, get_or, slice_index, Option, Some, None, Result, Ok, Err}
+use Rattle.std.specs.Prelude.{◌*◌, ℕ, ◌≡◌, ◌+◌, ◌/◌, ◌%◌, ◌^◌, ◌<◌, ◌==◌, ◌&&◌, Bool, true, false, nat_lt, if◌then◌else◌, List, All, get_or, slice_index, Option, Some, None, Result, Ok, Err}
 use Rattle.std.specs.List.{slice_get}
 use Rattle.vv_base.specs.Bytes.{long_at}
 use Rattle.vax_arch.specs.Fields.{current_of}
@@ -49,7 +49,9 @@ Agrees p memory other = (at : ℕ) → watches p.marks.items p.mark at ≡ true 
 
 -- the page of the last instruction may be read by a PSL with these high bits, and its first byte lies there
 abbrev pub IsHere : List ℕ → Tables → Here → Type 0
-IsHere memory t h = (psl va : ℕ) → va < 2 ^ 32 → h.page ≡ page_of va → h.high ≡ psl / 2 ^ 24 → place_in memory t (current_of psl) Read va ≡ Ok (h.first + va % 512)
+IsHere memory t h =
+    (h.start % 512 ≡ 0)
+    × ((psl va : ℕ) → h.high < 256 → va < 2 ^ 32 → h.start ≡ 512 * page_of va → h.high ≡ psl / 2 ^ 24 → place_in memory t (current_of psl) Read va ≡ Ok (h.first + va % 512))
 
 -- in each mode, and the page of the last instruction
 pub record AreAllIn (memory : List ℕ) (t : Tables) (p : KnownPages) : Type 0 where

@@ -17,7 +17,7 @@ ghost use Rattle.vax_paged.specs.Known.{AreKnown, IsKnownIn, IsLearned, known_sp
 ghost use Rattle.vax_paged.specs.Paged.{is_clear_for};
 
 use crate::entries::{Look, Paged};
-use crate::memory::{byte_in, long_in, number_in};
+use crate::memory::{byte_in, bytes_over, long_in, number_in};
 use crate::pages::ModePages;
 use std::cell::Cell;
 use vax_arch::{Intent, Mode, Pte, REGION, may};
@@ -160,6 +160,25 @@ impl Mapped<'_> {
         Ok(u64::from(byte) + 256 * rest)
     }
 
+    /// The number of so many bytes over a page's end, the lowest first: by both pages, where they are known.
+    #[cold]
+    #[inline(never)]
+    fn number_over_end(self, va: u32, bytes: u32, write: bool) -> Result<u64, Trouble>
+        requires over_end { 512 < va % 512 + bytes }
+        requires few { bytes ≤ 8 }
+        ensures number { with_trouble result ≡ number_at (known_space self.entry.memory.now self.entry.known.now) (intent_of write) bytes va }
+        ensures fits { IfOk result (λ v. v < 256 ^ bytes) }
+    {
+        let first = 512 - va % 512;
+        let Some(low) = self.place(va, write) else {
+            return self.number_by_bytes(va, bytes, write);
+        };
+        match self.place(va.wrapping_add(first), write) {
+            Some(high) => Ok(bytes_over(self.memory, first, low, high, bytes)),
+            None => self.number_by_bytes(va, bytes, write),
+        }
+    }
+
     /// The number of a width, the lowest byte first: by one look-up where it lies in one page.
     #[inline(always)]
     fn number(&self, va: u32, w: Width, write: bool) -> Result<u64, Trouble>
@@ -167,7 +186,7 @@ impl Mapped<'_> {
         ensures fits { IfOk result (λ v. v < 256 ^ size_of w) }
     {
         if va % 512 + u32::from(w.bytes()) > 512 {
-            return self.number_by_bytes(va, u32::from(w.bytes()), write);
+            return self.number_over_end(va, u32::from(w.bytes()), write);
         }
         match self.place(va, write) {
             Some(place) => Ok(number_in(self.memory, place, w)),

@@ -2,7 +2,7 @@ ghost use Rattle.std.specs.Prelude.{◌≡◌, ◌+◌, ◌-◌, ◌*◌, ◌≤
 ghost use Rattle.vv_base.specs.Bytes.{long_at};
 ghost use Rattle.vv_base.specs.Width.{bits_of, size_of};
 ghost use Rattle.vax_hw.specs.RealTables.{everywhere};
-ghost use Rattle.vax_paged.specs.InPage.{above_bytes, number_from, stored_from};
+ghost use Rattle.vax_paged.specs.InPage.{above_bytes, number_from, number_over, stored_from};
 
 use vv_base::{Width, get_u16, get_u32, put_u16, put_u32};
 
@@ -125,6 +125,42 @@ pub fn number_in(memory: &[u8], at: usize, w: Width) -> u64
     } else {
         number_at_end(memory, at, w)
     }
+}
+
+/// So many bytes from a place on, as a number, the lowest first; each that lies beyond memory is 0.
+#[tactic(auto, using(vax_operand::proofs::ByteByByte::byte_by_byte))]
+fn bytes_in(memory: &[u8], at: usize, bytes: u32) -> u64
+    requires low { at + bytes ≤ 2 ^ 40 }
+    requires few { bytes ≤ 8 }
+    ensures is { result ≡ number_from memory.now bytes at }
+    ensures fits { result < 256 ^ bytes }
+{
+    if bytes == 0 {
+        return 0;
+    }
+    let byte = byte_in(memory, at);
+    let rest = bytes_in(memory, at + 1, bytes - 1);
+    u64::from(byte) + 256 * rest
+}
+
+/// The same where so many of them are at one place, and the others at another.
+#[tactic(auto, using(vax_operand::proofs::ByteByByte::byte_by_byte))]
+pub fn bytes_over(memory: &[u8], first: u32, at: usize, next: usize, bytes: u32) -> u64
+    requires low { at + first ≤ 2 ^ 40 }
+    requires next { next + bytes ≤ 2 ^ 40 }
+    requires few { bytes ≤ 8 }
+    ensures is { result ≡ number_over memory.now first bytes at next }
+    ensures fits { result < 256 ^ bytes }
+{
+    if first == 0 {
+        return bytes_in(memory, next, bytes);
+    }
+    if bytes == 0 {
+        return 0;
+    }
+    let byte = byte_in(memory, at);
+    let rest = bytes_over(memory, first - 1, at + 1, next, bytes - 1);
+    u64::from(byte) + 256 * rest
 }
 
 /// Stores a byte in a memory, if it has a place for it.

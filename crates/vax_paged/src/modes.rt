@@ -1,4 +1,4 @@
-ghost use Rattle.std.specs.Prelude.{◌≡◌, ◌+◌, ◌≤◌, ◌<◌, ◌/◌, ◌^◌, ℕ, List, true, slice_set, IfOk};
+ghost use Rattle.std.specs.Prelude.{◌≡◌, ◌+◌, ◌*◌, ◌≤◌, ◌<◌, ◌/◌, ◌%◌, ◌^◌, ℕ, List, true, slice_set, IfOk, IfSome};
 ghost use Rattle.vax_arch.specs.Walk.{Tables, page_of};
 ghost use Rattle.vax_hw.specs.RealTables.{everywhere};
 ghost use Rattle.vax_paged.specs.Known.{AreAllIn, AreAllKnown, AreKnownIn, IsKnownIn, IsLearned, IsSameBut, watches};
@@ -12,29 +12,30 @@ use vv_base::NoMemory;
 /// The page of the last instruction.
 #[derive(Clone, Copy)]
 pub struct Here {
-    /// Its number, an address divided by 512. No page has the number 0xFFFF_FFFF.
-    pub page: u32,
-    /// Bits 31:24 of the PSL, which have the mode.
-    pub high: u8,
+    /// The address of its first byte.
+    pub start: u32,
+    /// Bits 31:24 of the PSL, which have the mode; 0x100, where no page is known to be the last.
+    pub high: u32,
     /// The place of its first byte.
     pub first: u32,
 }
 
 /// Bits 31:24 of a PSL, apart from the status word, so that they needn't wait until that is stored.
 #[inline(always)]
-fn high_of(psl: Psl) -> u8
+fn high_of(psl: Psl) -> u32
     ensures { result ≡ psl.0 / 2 ^ 24 }
 {
-    (psl.0 / 0x100_0000) as u8
+    psl.0 / 0x100_0000
 }
 
 /// No page.
 fn nowhere() -> Here
-    ensures { result.page ≡ 4294967295 }
+    ensures start { result.start ≡ 0 }
+    ensures high { result.high ≡ 256 }
 {
     Here {
-        page: u32::MAX,
-        high: 0,
+        start: 0,
+        high: 0x100,
         first: 0,
     }
 }
@@ -93,13 +94,20 @@ impl KnownPages {
         }
     }
 
-    /// Whether an address is in the page of the last instruction.
+    /// How far an address is in the page of the last instruction, if it lies there before this place of the page.
     #[inline(always)]
-    pub fn is_here(&self, psl: Psl, va: u32) -> bool
-        ensures page { result ≡ true → self.now.here.page ≡ page_of va }
-        ensures high { result ≡ true → self.now.here.high ≡ psl.0 / 2 ^ 24 }
+    pub fn offset_here(&self, psl: Psl, va: u32, end: u32) -> Option<u32>
+        ensures high { IfSome result (λ offset. (self.now.here.high ≡ psl.0 / 2 ^ 24) × (self.now.here.high < 256)) }
+        ensures low { self.now.here.start < 2 ^ 32 }
+        ensures offset { IfSome result (λ offset. va ≡ (self.now.here.start + offset) % 2 ^ 32) }
+        ensures inside { IfSome result (λ offset. offset < end) }
     {
-        self.here.page == va / 512 && self.here.high == high_of(psl)
+        let offset = va.wrapping_sub(self.here.start);
+        if offset < end && self.here.high == high_of(psl) {
+            Some(offset)
+        } else {
+            None
+        }
     }
 
     /// The page of an address is that of the last instruction from now on, if it is known.
@@ -113,7 +121,7 @@ impl KnownPages {
             return;
         }
         self.here = Here {
-            page: va / 512,
+            start: 512 * (va / 512),
             high: high_of(psl),
             first: first as u32,
         };

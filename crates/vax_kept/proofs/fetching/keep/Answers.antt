@@ -8,3 +8,6 @@ normal_of-kept-requires c = subst (λ (d : Decoded). IsWellFormed (view d)) (sym
 
 pub in_memory_of-kept-requires : goal.in_memory_of-kept-requires
 in_memory_of-kept-requires c = subst (λ (d : Decoded). IsWellFormed (view d)) (sym c.renew.ensures) c.requires.formed
+
+pub rarer_of-kept-requires : goal.rarer_of-kept-requires
+rarer_of-kept-requires c = subst (λ (d : Decoded). IsWellFormed (view d)) (sym c.renew.ensures) c.requires.formed

@@ -7,10 +7,10 @@ use Rattle.vax_normal.proofs.Doing.{branches_done}
 use Rattle.vax_normal.proofs.Taking.{one_of}
 use Rattle.vax_normal.proofs.make.branch_of.Goals as goal
 
-pub returns-in-Branch : goal.returns-in-Branch
-returns-in-Branch c =
+pub returns : goal.returns
+returns c =
     let x = c.x-item.result in
     let xs = c.args.operands.now in
+    let jump = c.in_ok-jump.jump in
     let all : xs ≡ x ∷ [] = one_of xs x (omega (arith, c.in-len1.len_at_least)) (omega (arith, c.in-len1.len_below)) c.x-item.is in
-    subst (λ (ys : List Operand). IsDoneBy (Branches c.args.condition c.jump_of.result) c.args.length (does.Branch c.args.condition) ys) (sym all)
-    (branches_done c.args.condition x c.in-Branch.displacement c.args.length c.jump_of.result c.in-Branch.is c.jump_of.ensures)
+    subst (λ (ys : List Operand). IsDoneBy (Branches c.args.condition jump) c.args.length (does.Branch c.args.condition) ys) (sym all) (branches_done c.args.condition x c.args.length jump c.in_ok-jump.ensures)

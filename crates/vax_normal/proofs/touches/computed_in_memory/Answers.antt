@@ -8,7 +8,7 @@ pub returns-clause-is : goal.returns-clause-is
 returns-clause-is c = (
   c.in_ok-touches.ensures,
   λ s r u h. h,
-  λ s v u at psw r q moved claims claimed gone.
-      let numbers = c.in_ok-first.ensures v u at r q moved in
+  λ s v u at psw r q room moved claims claimed gone.
+      let numbers = c.in_ok-first.ensures c.in_ok-touches.touches v u at r q (room, moved, gone) in
       ap (outcome s) (computed_stored _ c.args.inputs c.args.target v u r (all_had v u at c.args.operands.now q) psw numbers.0 numbers.1 (c.in_ok-register.ensures v u at r q claimed) gone),
 )

@@ -8,5 +8,5 @@ returns c = λ memory t other agrees. record {
   executive = c.forget-2.ensures other t Executive;
   supervisor = c.forget-3.ensures other t Supervisor;
   user = c.forget-4.ensures other t User;
-  here = nowhere_is other t c.nowhere-self.result c.nowhere-self.ensures;
+  here = nowhere_is other t c.nowhere-self.result c.nowhere-self.ensures.start c.nowhere-self.ensures.high;
 }

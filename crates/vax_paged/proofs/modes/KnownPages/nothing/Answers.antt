@@ -8,5 +8,5 @@ returns c = λ memory t other agrees. record {
   executive = c.nothing-2.ensures other t Executive;
   supervisor = c.nothing-3.ensures other t Supervisor;
   user = c.nothing-4.ensures other t User;
-  here = nowhere_is other t c.nowhere.result c.nowhere.ensures;
+  here = nowhere_is other t c.nowhere.result c.nowhere.ensures.start c.nowhere.ensures.high;
 }

@@ -1,4 +1,4 @@
-use Rattle.std.proofs.Common.{◌+◌, Bool, List, false, subst, sym, refl, arith, map}
+use Rattle.std.proofs.Common.{◌+◌, List, false, subst, sym, refl, arith, map}
 use Rattle.vax_paged.specs.Known.{AreKnownIn}
 use Rattle.vax_paged.specs.Tagged.{MayHaveSome, at_present, no_page}
 use Rattle.vax_paged.specs.declared.pages.Tagged.{Tagged}

@@ -1,0 +1,5 @@
+pub mod One
+pub mod Quiet
+mod Claiming
+mod IndexedSteps
+mod StatusSteps

@@ -1,0 +1,4 @@
+pub mod StatusMoves
+mod BitTests
+mod Indexing
+mod Subroutines

@@ -1,0 +1,9 @@
+pub mod BitTest
+pub mod Indexed
+pub mod ProbeTest
+pub mod Rarer
+pub mod ShownBitTest
+pub mod ShownIndexed
+pub mod ShownSubroutine
+pub mod StatusMove
+pub mod Subroutine
