@@ -1,4 +1,4 @@
-//! Worked examples of the processor's parts: fields of its longwords, decoding, arithmetic, operands, and whole instructions over a memory of bytes.
+//! Worked examples of the processor's parts: fields of its longwords, decoding, arithmetic, operands, whole instructions over a memory of bytes, and the forms by which they are done.
 #![tactic(auto)]
 
 #[cfg(test)]
@@ -7,6 +7,8 @@ mod arithmetic;
 mod decoding;
 #[cfg(test)]
 mod entries;
+#[cfg(test)]
+mod forms;
 #[cfg(test)]
 mod instructions;
 #[cfg(test)]

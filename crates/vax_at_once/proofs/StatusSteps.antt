@@ -1,5 +1,5 @@
 -- MOVPSL and PROBE in normal form, at an address where they are fetched.
-use Rattle.std.proofs.Common.{◌≡◌, ℕ, ◌+◌, ◌*◌, ◌/◌, ◌%◌, ◌^◌, Bool, not, List, length, Option, Some, None, Result, Ok, refl, ap, sym, ◌∙◌, arith, slice_index}
+use Rattle.std.proofs.Common.{◌≡◌, ℕ, ◌+◌, ◌*◌, ◌/◌, ◌%◌, ◌^◌, Bool, not, List, length, Some, None, Result, Ok, refl, ap, sym, ◌∙◌, arith, slice_index}
 use Rattle.vax_hw.specs.Machine.{Machine, machine_tables, psw_of, seen_psl}
 use Rattle.vax_hw.specs.Real.{in_kernel, machine_step}
 use Rattle.vax_hw.specs.RealTables.{real_probe}

@@ -257,19 +257,20 @@ fn step_whole(
     }
 }
 
-/// A run of at most so many instructions. The plan's registers are the machine's, in place of the world's.
+/// A run of at most so many instructions, which says in `exit` why it ended. The plan's registers are the machine's, in place of
+/// the world's.
 fn run_parts(
     state: &mut State,
     code: &mut Code,
     o: &mut Values,
     plan: &mut Plan,
     budget: u32,
-) -> Exit
-    ensures { (with_registers plan.new.r state.new, result) ≡ real budget (with_registers plan.old.r state.old) }
+    exit: &mut Exit,
+)
+    ensures { (with_registers plan.new.r state.new, exit.new) ≡ real budget (with_registers plan.old.r state.old) }
 {
     let missed = Cell::new(u32::MAX);
     let mut total = sum_of(&plan.r);
-    let mut exit = Exit::Budget;
     let mut left = budget;
     let mut renewals = budget;
     while left > 0 {
@@ -285,17 +286,13 @@ fn run_parts(
             renewals -= 1;
             continue;
         }
-        match step_whole(state, &missed, code, o, plan, &mut exit) {
-            Some(sum) => {
-                total = sum;
-                left -= 1;
-            }
-            None => {
-                return exit;
-            }
-        }
+        let Some(sum) = step_whole(state, &missed, code, o, plan, exit) else {
+            return;
+        };
+        total = sum;
+        left -= 1;
     }
-    Exit::Budget
+    *exit = Exit::Budget;
 }
 
 impl Hardware for Cpu {
@@ -340,12 +337,15 @@ impl Hardware for Cpu {
     }
 
     fn run(&mut self, budget: u32) -> Exit {
+        let mut exit = Exit::Budget;
         run_parts(
             &mut self.state,
             &mut self.code,
             &mut self.operands,
             &mut self.plan,
             budget,
-        )
+            &mut exit,
+        );
+        exit
     }
 }

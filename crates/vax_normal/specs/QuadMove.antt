@@ -1,8 +1,6 @@
 -- What CLRQ and MOVQ in normal form do: a quadword, for which one reference at most is read, goes to two registers or where one
 -- is claimed.
-use Rattle.std.specs.Prelude.{◌≡◌, ℕ, List, length, Option, Some, None, IfSome, Ok}
-use Rattle.std.specs.Coded.{Unit-prop}
-use Rattle.std.proofs.Props.{props}
+use Rattle.std.specs.Prelude.{◌≡◌, ℕ, List, length, None, Ok}
 use Rattle.vv_base.specs.declared.width.Width.TheVariants.{Quad}
 use Rattle.vax_table.specs.Arithmetic.{alu_of}
 use Rattle.vax_table.specs.Effects.{Effect}
@@ -40,8 +38,3 @@ IsQuadMove n d = (s : Space) (r : List ℕ) (psw v u : ℕ) → length r ≡ 16 
 -- it is what each instruction of this form does with this quadword
 abbrev pub IsQuadFoundIn : QuadMove → Space → List ℕ → ℕ → ℕ → Type 0
 IsQuadFoundIn n s r psw x = (d : Instruction) → IsQuadMove n d → outcome s (planned d r psw) ≡ Ok (quad_moved n x r psw)
-
--- there is one proof of it at most
-pub quad-prop : (n : Option QuadMove) (d : Instruction) → IsProp (IfSome n (λ x. IsQuadMove x d))
-quad-prop None d = Unit-prop
-quad-prop (Some n) d = hlevel props

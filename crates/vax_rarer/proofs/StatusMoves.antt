@@ -1,5 +1,5 @@
 -- MOVPSL to a register and PROBE of operands that are had at once are what their normal forms say.
-use Rattle.std.proofs.Common.{◌≡◌, ℕ, ◌%◌, ◌^◌, ◌<◌, true, List, [], ◌∷◌, length, map, Result, Ok, refl, ap, ◌∙◌, sym, subst, arith}
+use Rattle.std.proofs.Common.{◌≡◌, ℕ, ◌%◌, ◌^◌, ◌<◌, true, List, [], ◌∷◌, length, map, Result, Ok, refl, ap, ◌∙◌, sym, arith}
 use Rattle.vv_base.specs.declared.width.Width.TheVariants.{Long}
 use Rattle.vax_table.specs.declared.act.Dest.{Dest}
 use Rattle.vax_table.specs.declared.act.Dest.TheVariants.{Register}
@@ -16,7 +16,7 @@ use Rattle.vax_table.specs.Spelling.{Instruction, IsWellFormed}
 use Rattle.vax_operand.specs.declared.kind.Kind.{Kind}
 use Rattle.vax_operand.specs.declared.kind.Kind.TheVariants.{WriteRegister}
 use Rattle.vax_operand.specs.declared.prepared.Operand.{Operand}
-use Rattle.vax_normal.specs.AtHand.{AreAlikeButPc, all_at_hand, are_at_hand, dest_at_hand, is_at_hand}
+use Rattle.vax_normal.specs.AtHand.{AreAlikeButPc, all_at_hand, are_at_hand, dest_at_hand}
 use Rattle.vax_normal.specs.Normal.{number_by, quietly}
 use Rattle.vax_normal.proofs.Doing.{result_low}
 use Rattle.vax_normal.proofs.Taking.{after_opcode, operands_taken, pc_alone, pc_taken}

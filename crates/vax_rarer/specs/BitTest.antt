@@ -1,7 +1,5 @@
 -- What BBS and BBC of memory in normal form do.
-use Rattle.std.specs.Prelude.{◌≡◌, ℕ, ◌%◌, ◌^◌, List, length, Option, Some, None, IfSome, Ok}
-use Rattle.std.specs.Coded.{Unit-prop}
-use Rattle.std.proofs.Props.{props}
+use Rattle.std.specs.Prelude.{◌≡◌, ℕ, ◌%◌, ◌^◌, List, length, Ok}
 use Rattle.vax_arch.specs.declared.mode.Intent.TheVariants.{Read}
 use Rattle.vax_table.specs.Branches.{bit, byte_of_bit, comes_out}
 use Rattle.vax_table.specs.Interaction.{Done, Space, number_at, outcome}
@@ -35,8 +33,3 @@ bit_tested_in n byte r = gone_on (comes_out n.on (bit (number_by n.position r % 
 -- it is what an instruction does, wherever the byte can be read; the codes stay
 abbrev pub IsBitTest : BitTest → Instruction → Type 0
 IsBitTest n d = (s : Space) (r : List ℕ) (psw byte : ℕ) → length r ≡ 16 → number_at s Read 1 (bit_address n r) ≡ Ok byte → outcome s (planned d r psw) ≡ Ok (quietly (bit_tested_in n byte r) psw)
-
--- there is one proof of it at most
-pub bit_test-prop : (n : Option BitTest) (d : Instruction) → IsProp (IfSome n (λ x. IsBitTest x d))
-bit_test-prop None d = Unit-prop
-bit_test-prop (Some n) d = hlevel props

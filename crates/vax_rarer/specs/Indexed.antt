@@ -1,8 +1,6 @@
 -- What an operation of the arithmetic in normal form does that refers to memory once, with an index (VAX Architecture Reference
 -- Manual: index mode).
-use Rattle.std.specs.Prelude.{◌≡◌, ℕ, ◌*◌, ◌<◌, List, [], ◌∷◌, length, map, Option, Some, None, IfSome, Ok, slice_index}
-use Rattle.std.specs.Coded.{Unit-prop}
-use Rattle.std.proofs.Props.{props}
+use Rattle.std.specs.Prelude.{◌≡◌, ℕ, ◌*◌, ◌<◌, List, [], ◌∷◌, length, map, Option, None, Ok, slice_index}
 use Rattle.vv_base.specs.declared.width.Width.{Width}
 use Rattle.vv_base.specs.Width.{size_of}
 use Rattle.vax_arch.specs.declared.mode.Intent.{Intent}
@@ -62,11 +60,6 @@ IsIndexed n d = (s : Space) (r : List ℕ) (psw m : ℕ) → length r ≡ 16 →
 -- what was found of it, as an effect
 abbrev pub indexed_found : Indexed → List ℕ → Found → Effect
 indexed_found n r x = record { r = indexed_finished n x.value r; psw = x.psw; writes = indexed_stored n r x.value; trap = None }
-
--- there is one proof of it at most
-pub indexed-prop : (n : Option Indexed) (d : Instruction) → IsProp (IfSome n (λ x. IsIndexed x d))
-indexed-prop None d = Unit-prop
-indexed-prop (Some n) d = hlevel props
 
 -- ---- operands of which one refers to memory with an index, where this is the number there
 

@@ -4,6 +4,8 @@ pub mod ProbeTest
 pub mod Rarer
 pub mod ShownBitTest
 pub mod ShownIndexed
+pub mod ShownProbeTest
+pub mod ShownStatusMove
 pub mod ShownSubroutine
 pub mod StatusMove
 pub mod Subroutine

@@ -1,7 +1,5 @@
 -- What BSBB, BSBW and RSB in normal form do.
-use Rattle.std.specs.Prelude.{◌≡◌, ℕ, List, [], ◌∷◌, length, Option, Some, None, IfSome, Ok, slice_index, slice_set}
-use Rattle.std.specs.Coded.{Unit-prop}
-use Rattle.std.proofs.Props.{props}
+use Rattle.std.specs.Prelude.{◌≡◌, ℕ, List, [], ◌∷◌, length, None, Ok, slice_index, slice_set}
 use Rattle.vv_base.specs.declared.width.Width.TheVariants.{Long}
 use Rattle.vax_arch.specs.declared.mode.Intent.TheVariants.{Read, Write}
 use Rattle.vax_table.specs.Effects.{Effect, store}
@@ -40,8 +38,3 @@ return_finished pc r = slice_set (slice_set r 14 (plus (slice_index r 14) 4)) 15
 -- an instruction returns, wherever the longword at the stack pointer can be read, and leaves the codes
 abbrev pub IsReturn : Instruction → Type 0
 IsReturn d = (s : Space) (r : List ℕ) (psw pc : ℕ) → length r ≡ 16 → number_at s Read 4 (slice_index r 14) ≡ Ok pc → outcome s (planned d r psw) ≡ Ok (quietly (return_finished pc r) psw)
-
--- there is one proof of each at most
-pub call-prop : (n : Option Call) (d : Instruction) → IsProp (IfSome n (λ x. IsCall x d))
-call-prop None d = Unit-prop
-call-prop (Some n) d = hlevel props

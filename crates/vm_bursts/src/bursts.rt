@@ -57,27 +57,26 @@ fn steps_of(g: &GuestState) -> u32
 }
 
 /// Runs the machine for a guest, whose next step is counted, by at most so many instructions. In as many steps no interrupt may
-/// become due. What the run did goes to `ran`, which its caller has, so that an exit isn't handed on by value.
-pub fn burst<H: Hardware>(
-    machine: &mut H,
-    s: &Shadow,
-    g: &mut GuestState,
-    budget: u32,
-    ran: &mut Ran,
-)
+/// become due.
+pub fn burst<H: Hardware>(machine: &mut H, s: &Shadow, g: &mut GuestState, budget: u32) -> Ran
     requires stands { StandsFor (H.machine machine.old).memory s.now g.old }
     requires some { 1 ≤ budget }
     requires quiet { IsQuiet budget (state_of g.old) }
     requires within { IsTrue g.old.clock.run → budget ≤ ticks_to_wrap g.old.clock }
-    ensures { IsRun budget (H.machine machine.old) s.now g.old ran.new (H.machine machine.new) g.new }
+    ensures { IsRun budget (H.machine machine.old) s.now g.old result (H.machine machine.new) g.new }
 {
     let _steps = steps_of(g);
     let retired = machine.retired();
     let trail = machine.trail();
     machine.load_world(&s.world(g));
-    ran.exit = machine.run(budget);
+    let mut ran = Ran {
+        done: 0,
+        terms: 0,
+        exit: machine.run(budget),
+    };
     take_back(g, &machine.save_world());
     ran.done = machine.retired().wrapping_sub(retired) as u32;
     ran.terms = machine.trail().wrapping_sub(trail);
     count_more(g, counted_by(&ran.exit, ran.done));
+    ran
 }

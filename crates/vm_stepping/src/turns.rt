@@ -16,7 +16,7 @@ use crate::Counts;
 use crate::made::{count_step, take_interrupt};
 use crate::met::meet;
 use vax_hw::{Exit, Hardware};
-use vm_bursts::{Ran, burst, count_more};
+use vm_bursts::{burst, count_more};
 use vm_console::Port;
 use vm_events::{Note, begin, due};
 use vm_shadow::Shadow;
@@ -73,12 +73,7 @@ fn run_on<H: Hardware, T: Port>(
     ensures falls { to_do result s.new < to_do (record { steps = left; counted = true }) s.old }
     ensures note { NotesOne (record { steps = left; counted = true }) result (H.machine machine.old) g.old (H.machine machine.new) g.new note.new }
 {
-    let mut ran = Ran {
-        done: 0,
-        terms: 0,
-        exit: Exit::Budget,
-    };
-    burst(machine, s, g, budget(g, left), &mut ran);
+    let ran = burst(machine, s, g, budget(g, left));
     counts.retire(ran.done, ran.terms);
     *note = Note::Nothing;
     let left = left - ran.done;

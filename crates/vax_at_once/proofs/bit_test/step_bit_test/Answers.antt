@@ -1,6 +1,5 @@
 use Rattle.std.proofs.Common.{◌≡◌, ℕ, List, length, Ok, refl, ap, ◌∙◌, subst, sym, arith}
 use Rattle.vax_hw.specs.Machine.{psw_of}
-use Rattle.vax_table.specs.Effects.{Effect}
 use Rattle.vax_table.specs.Interaction.{outcome}
 use Rattle.vax_table.specs.Plan.{planned}
 use Rattle.vax_table.specs.Spelling.{view}

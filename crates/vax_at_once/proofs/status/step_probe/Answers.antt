@@ -1,7 +1,6 @@
-use Rattle.std.proofs.Common.{◌≡◌, ℕ, ◌+◌, ◌*◌, ◌/◌, ◌%◌, not, length, refl, ap, ◌∙◌, arith, slice_index}
-use Rattle.vax_hw.specs.Machine.{Machine, psw_of}
+use Rattle.std.proofs.Common.{◌≡◌, ◌+◌, ◌*◌, ◌/◌, ◌%◌, not, length, refl, ap, ◌∙◌, arith, slice_index}
+use Rattle.vax_hw.specs.Machine.{psw_of}
 use Rattle.vax_table.specs.Arithmetic.{bit_of}
-use Rattle.vax_table.specs.Operand.{past_own_bytes}
 use Rattle.vax_table.specs.Spelling.{view}
 use Rattle.vax_normal.specs.Normal.{quietly}
 use Rattle.vax_at_once.specs.Completed.{completed_but_registers, with_registers}

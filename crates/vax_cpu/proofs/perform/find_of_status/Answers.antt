@@ -1,4 +1,4 @@
-use Rattle.std.proofs.Common.{◌≡◌, refl, sym, ◌∙◌}
+use Rattle.std.proofs.Common.{◌≡◌, sym, ◌∙◌}
 use Rattle.vax_hw.specs.Machine.{seen_psl}
 use Rattle.vax_hw.specs.Real.{in_kernel}
 use Rattle.vax_table.specs.Operations.{operation_of}

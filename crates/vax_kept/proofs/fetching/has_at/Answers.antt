@@ -1,4 +1,4 @@
-use Rattle.std.proofs.Common.{◌≡◌, ◌+◌, ◌%◌, ◌<◌, ◌≤◌, arith}
+use Rattle.std.proofs.Common.{◌<◌, arith}
 use Rattle.vax_kept.proofs.fetching.has_at.Goals as goal
 
 pub has_short-requires-clause-short : goal.has_short-requires-clause-short

@@ -1,4 +1,4 @@
-use Rattle.std.proofs.Common.{◌≡◌, ◌+◌, ◌%◌, ◌<◌, ◌≤◌, ap, sym, arith}
+use Rattle.std.proofs.Common.{◌≤◌, ap, sym, arith}
 use Rattle.vax_table.specs.Spelling.{view}
 use Rattle.vax_kept.specs.Fetched.{exits}
 use Rattle.vax_kept.proofs.Spelled.{kept_formed, kept_there}

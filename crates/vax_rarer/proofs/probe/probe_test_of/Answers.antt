@@ -1,10 +1,6 @@
-use Rattle.std.proofs.Common.{◌≡◌, true, List, ap, sym, ◌∙◌, subst, slice_index}
-use Rattle.vax_table.specs.Effects.{long_of}
+use Rattle.std.proofs.Common.{◌≡◌, true, ap, sym, ◌∙◌}
 use Rattle.vax_table.specs.Spelling.{view}
-use Rattle.vax_operand.specs.declared.prepared.Operand.{Operand}
-use Rattle.vax_normal.specs.AtHand.{AreAlikeButPc, all_at_hand, are_at_hand}
-use Rattle.vax_normal.specs.Normal.{number_by}
-use Rattle.vax_normal.specs.declared.shape.Number.{Number}
+use Rattle.vax_normal.specs.AtHand.{are_at_hand}
 use Rattle.vax_rarer.specs.declared.shape.ProbeTest.{ProbeTest}
 use Rattle.vax_rarer.proofs.StatusMoves.{is_probe_test}
 use Rattle.vax_rarer.proofs.probe.probe_test_of.Goals as goal
