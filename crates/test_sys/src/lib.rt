@@ -1,4 +1,5 @@
-//! Reports and pictures of what leads to what in configurations, worked out by hand.
+//! Worked examples of configurations, their reports and pictures, of the server's rules and replies, of audits, of scripts, and of
+//! volumes and drives.
 #![tactic(auto)]
 
 macro_rules! line {
@@ -37,8 +38,24 @@ macro_rules! mount {
 }
 
 #[cfg(test)]
+mod audit;
+#[cfg(test)]
+mod drives;
+#[cfg(test)]
+mod flow_texts;
+#[cfg(test)]
 mod pictures;
+#[cfg(test)]
+mod records;
 #[cfg(test)]
 mod reports;
 #[cfg(test)]
+mod scripts;
+#[cfg(test)]
+mod server;
+#[cfg(test)]
 mod texts;
+#[cfg(test)]
+mod volumes;
+#[cfg(test)]
+mod workload;

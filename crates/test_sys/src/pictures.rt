@@ -1,5 +1,5 @@
 //! Pictures of configurations.
-use crate::texts::{A, HEAD, T1, most, text_of};
+use crate::flow_texts::{A, HEAD, T1, most, text_of};
 use std::test::Fail;
 use sys_config::read_config;
 use sys_draw::drawing;

@@ -2,7 +2,7 @@ use Rattle.std.proofs.Common.{◌≤◌, ◌++◌, length, arith, length-append}
 use Rattle.vm_console.proofs.Composes.{Appends-append}
 use Rattle.vm_console.proofs.Kept.{kept_state}
 use Rattle.vm_console.specs.Kept.{MayKeep}
-use Rattle.test_vm_base.proofs.console.kept_after.Goals as goal
+use Rattle.test_vm.proofs.console.kept_after.Goals as goal
 
 pub returns : goal.returns
 returns g c =

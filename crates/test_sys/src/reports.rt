@@ -1,5 +1,5 @@
 //! Configurations and their reports.
-use crate::texts::{A, AUDIT, HEAD, PUB, SEC, T1, T2, most, text_of};
+use crate::flow_texts::{A, AUDIT, HEAD, PUB, SEC, T1, T2, most, text_of};
 use std::test::Fail;
 use sys_config::read_config;
 use sys_flow::{count, edge, name, reach, report};

@@ -1,3 +1,4 @@
 pub mod ShownApplied
+pub mod ShownLengths
 pub mod ShownTyped
 pub mod ShownWords

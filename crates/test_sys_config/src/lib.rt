@@ -1,5 +1,0 @@
-//! Worked examples of texts of configurations.
-#![tactic(auto)]
-
-#[cfg(test)]
-mod texts;
