@@ -12,11 +12,11 @@ use crate::typing::{Count, Typing, read_round};
 use std::alloc::Global;
 use sys_echo::{Screen, echo, screens_of};
 use sys_objects::Config;
-use sys_runs::{NoProgress, Ran, make_rounds};
+use sys_runs::{Ran, make_rounds};
 use sys_script::{Event, typed_law};
 use sys_system::{PowerFault, System};
 use vax_hw::Hardware;
-use vv_io::{Drive, Keyboard, Lines, Sink};
+use vv_io::{Drive, Keyboard, Lines, NoProgress, Sink};
 
 /// What is left of a run that was typed: what is left of any run, its rounds, whether what was to be shown of them is cut, and
 /// whether the typing broke off.

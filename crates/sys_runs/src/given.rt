@@ -4,7 +4,6 @@ ghost use Rattle.sys_runs.specs.Given.{RunsWith};
 ghost use Rattle.sys_script.specs.Events.{AreEvents};
 ghost use Rattle.vv_io.specs.Blocks.{SeenDrive};
 
-use crate::progress::Progress;
 use crate::rounds::make_rounds;
 use crate::running::Ran;
 use std::alloc::Global;
@@ -12,7 +11,7 @@ use sys_objects::Config;
 use sys_script::Event;
 use sys_system::{PowerFault, System};
 use vax_hw::Hardware;
-use vv_io::Lines;
+use vv_io::{Lines, Progress};
 
 /// Makes a run as `run` does, over given blocks of the volumes, a list for each, in place of those of drives; at its end the
 /// dumps are shown, and no volume is stored. A line that fails is marked and gets no more, and the run goes on. After a

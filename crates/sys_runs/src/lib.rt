@@ -3,7 +3,6 @@
 
 mod given;
 mod laws;
-mod progress;
 mod resuming;
 mod rounds;
 mod running;
@@ -11,7 +10,6 @@ mod saving;
 
 pub use given::run_with;
 pub use laws::no_volumes_touch_no_drive;
-pub use progress::{NoProgress, Progress};
 pub use resuming::resume;
 pub use rounds::make_rounds;
 pub use running::{Ran, run};

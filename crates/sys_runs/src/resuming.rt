@@ -4,7 +4,6 @@ ghost use Rattle.sys_script.specs.Events.{AreEvents};
 ghost use Rattle.sys_snap.specs.Held.{HoldsMoment, snapshot_moment};
 ghost use Rattle.sys_snap.specs.Snap.{IsMoment};
 
-use crate::progress::Progress;
 use crate::rounds::make_rounds;
 use crate::running::Ran;
 use std::alloc::Global;
@@ -12,7 +11,7 @@ use sys_script::Event;
 use sys_snap::Snap;
 use sys_system::{PowerFault, System};
 use vax_hw::Hardware;
-use vv_io::{Drive, Lines};
+use vv_io::{Drive, Lines, Progress};
 
 /// Goes on from a snapshot in a machine of 32,768 pages, with a drive for each volume: makes the next so many rounds, each with
 /// its own events, and brings power down as `run` does. The counts are those of these rounds. All memory is taken before the

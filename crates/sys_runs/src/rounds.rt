@@ -3,11 +3,10 @@ ghost use Rattle.sys_runs.specs.Rounds.{MakesRounds};
 ghost use Rattle.sys_script.specs.Events.{AreEvents};
 ghost use Rattle.sys_system.specs.System.{IsInMachine, IsSystem};
 
-use crate::progress::Progress;
 use sys_script::Event;
 use sys_system::System;
 use vax_hw::Hardware;
-use vv_io::Lines;
+use vv_io::{Lines, Progress};
 
 /// How many of the first events are of rounds up to this one.
 fn count_up_to(events: &[Event], round: u32) -> usize

@@ -3,7 +3,6 @@ ghost use Rattle.sys_objects.specs.Condition.{IsConfig};
 ghost use Rattle.sys_runs.specs.Ran.{Runs};
 ghost use Rattle.sys_script.specs.Events.{AreEvents};
 
-use crate::progress::Progress;
 use crate::rounds::make_rounds;
 use std::alloc::Global;
 use sys_objects::Config;
@@ -11,7 +10,7 @@ use sys_script::Event;
 use sys_system::{Device, PowerFault, System};
 use vax_hw::Hardware;
 use vm_guest::Counts;
-use vv_io::{Drive, Lines};
+use vv_io::{Drive, Lines, Progress};
 
 /// What is left of a run that was made: the steps by their kinds, and the first device that failed, if one did.
 #[derive(Clone, Copy, Debug, PartialEq, Eq)]

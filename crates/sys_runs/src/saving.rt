@@ -4,14 +4,13 @@ ghost use Rattle.sys_objects.specs.Condition.{IsConfig};
 ghost use Rattle.sys_runs.specs.Saved.{SavesRun};
 ghost use Rattle.sys_script.specs.Events.{AreEvents};
 
-use crate::progress::Progress;
 use crate::rounds::make_rounds;
 use std::alloc::Global;
 use sys_objects::Config;
 use sys_script::Event;
 use sys_system::{Device, PowerFault, System};
 use vax_hw::Hardware;
-use vv_io::{Drive, Lines, Sink};
+use vv_io::{Drive, Lines, Progress, Sink};
 
 /// What is left of a run whose last moment was shown: the first line that failed, if one did, and whether `out` failed.
 #[derive(Clone, Copy, Debug, PartialEq, Eq)]

@@ -1,4 +1,4 @@
-//! Worked examples of fields, texts and names, of access classes, and of the objects in memory.
+//! Worked examples of fields, texts and names, of access classes, and of the objects in memory and over files.
 #![tactic(auto)]
 
 #[cfg(test)]
@@ -7,6 +7,8 @@ mod class_texts;
 mod classes;
 #[cfg(test)]
 mod fields;
+#[cfg(test)]
+mod files;
 #[cfg(test)]
 mod keyboards;
 #[cfg(test)]

@@ -4,8 +4,8 @@ use crate::props::{Disk, LineCut, PAGES, Props, calls_of, cuts_of, disk_of, volu
 use std::alloc::Global;
 use vax_hw::Hardware;
 use vv_base::NoMemory;
-use vv_io::{Drive, EmptyDrive, Line, LineList, MemDrive, MemLine};
-use vvmm_call::{NoProgress, status_code, status_text, vvmm_run};
+use vv_io::{Drive, EmptyDrive, Line, LineList, MemDrive, MemLine, NoProgress};
+use vvmm_call::{status_code, status_text, vvmm_run};
 
 /// What a call answered, and what lines, drives and the sink hold after it.
 #[derive(Drop)]

@@ -9,8 +9,8 @@ use test_vvmm_stage::{PAGES, plain};
 use vax_cpu::Cpu;
 use vax_hw::Hardware;
 use vv_base::{FileName, NoMemory};
-use vv_io::{MemKeyboard, MemLine, MemShelf, Shelf, ShelfFault};
-use vvmm_call::{NoProgress, vvmm_run};
+use vv_io::{MemKeyboard, MemLine, MemShelf, NoProgress, Shelf, ShelfFault};
+use vvmm_call::vvmm_run;
 
 /// A shelf that notes the first letter of each name that is fetched.
 #[derive(Drop)]

@@ -9,8 +9,10 @@ use test_vvmm_stage::{PAGES, plain};
 use vax_cpu::Cpu;
 use vax_hw::Hardware;
 use vv_base::NoMemory;
-use vv_io::{Drive, EmptyDrive, Line, LineFault, LineList, MemKeyboard, MemLine, Sink, SinkFault};
-use vvmm_call::{NoProgress, Status, vvmm_run};
+use vv_io::{
+    Drive, EmptyDrive, Line, LineFault, LineList, MemKeyboard, MemLine, NoProgress, Sink, SinkFault,
+};
+use vvmm_call::{Status, vvmm_run};
 
 /// How many calls are noted.
 pub const NOTES: usize = 200;

@@ -10,8 +10,10 @@ use test_vvmm_stage::{PAGES, plain};
 use vax_cpu::Cpu;
 use vax_hw::Hardware;
 use vv_base::NoMemory;
-use vv_io::{KeyFault, KeyLine, Keyboard, Line, LineFault, LineList, MemKeyboard, MemLine};
-use vvmm_call::{NoProgress, Status, vvmm_run};
+use vv_io::{
+    KeyFault, KeyLine, Keyboard, Line, LineFault, LineList, MemKeyboard, MemLine, NoProgress,
+};
+use vvmm_call::{Status, vvmm_run};
 
 /// The keyboard's number among the notes.
 const KEYS: u8 = 90;

@@ -1,13 +1,31 @@
-//! What the trusted edge decides, as functions of values: what an open that fails means, which files may be devices, and the
-//! sync of lines and drives.
+//! The edge of the program: its files and standard streams, which are trusted, and what is decided about them as functions of
+//! values: what an open that fails means, which files may be devices, and the sync of lines and drives. The objects tell no
+//! content; each counts its faults.
 #![tactic(auto)]
 
 mod faults;
+mod file_drive;
+mod file_line;
+mod file_shelf;
+mod found;
+mod input_keys;
+mod opening;
+mod out_sink;
+mod standard;
 mod stat;
 mod syncing;
 mod telling;
+mod ticker;
 
 pub use faults::shelf_fault;
+pub use file_drive::FileDrive;
+pub use file_line::FileLine;
+pub use file_shelf::FileShelf;
+pub use input_keys::InputKeys;
+pub use opening::{Flawed, Streams, drive_of, lines_of, taken_at_first};
+pub use out_sink::OutSink;
+pub use standard::{hold_standard, identity_of};
 pub use stat::{Flaw, Found, Identity, Kind, blocks_in, flaw_of, is_removable};
 pub use syncing::{sync_drives, sync_lines};
 pub use telling::{FlawedDrive, notes};
+pub use ticker::Ticker;

@@ -7,8 +7,8 @@ use std::alloc::Global;
 use sys_system::Device;
 use vax_hw::Hardware;
 use vv_edge::{sync_drives, sync_lines};
-use vv_io::{Drive, Keyboard, Lines, Shelf, Sink};
-use vvmm_call::{Progress, Status, vvmm_run};
+use vv_io::{Drive, Keyboard, Lines, Progress, Shelf, Sink};
+use vvmm_call::{Status, vvmm_run};
 
 /// A line, or else a drive.
 fn device_of(line: Option<u8>, drive: Option<u8>) -> Option<Device>

@@ -19,5 +19,4 @@ mod words;
 pub use devices::{Devices, devices_of};
 pub use playing::close;
 pub use status::{Status, status_code, status_text};
-pub use sys_runs::{NoProgress, Progress};
 pub use top::vvmm_run;

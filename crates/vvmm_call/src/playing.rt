@@ -10,10 +10,10 @@ use crate::report::summary;
 use crate::status::Status;
 use crate::stop::power_status;
 use std::alloc::Global;
-use sys_runs::{Progress, Ran, run};
+use sys_runs::{Ran, run};
 use sys_system::{Device, PowerFault};
 use vax_hw::Hardware;
-use vv_io::{Drive, Lines, Sink, SinkFault};
+use vv_io::{Drive, Lines, Progress, Sink, SinkFault};
 
 /// Puts bytes once.
 pub fn put_once<O: Sink>(out: &mut O, bytes: &[u8]) -> Result<(), SinkFault>

@@ -7,10 +7,10 @@ use crate::status::Status;
 use crate::stop::{power_status, stopped_status};
 use crate::words::{ResumeOrder, RunOrder};
 use std::alloc::Global;
-use sys_runs::{Progress, Saved};
+use sys_runs::Saved;
 use sys_system::PowerFault;
 use vax_hw::Hardware;
-use vv_io::{Drive, Lines, Shelf, Sink};
+use vv_io::{Drive, Lines, Progress, Shelf, Sink};
 
 /// The answer of a run that was to be saved.
 fn saved_status(saved: Result<Saved, PowerFault>) -> Status

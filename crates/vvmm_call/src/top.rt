@@ -20,11 +20,10 @@ use sys_audit_check::check_audit;
 use sys_config::migrate_text;
 use sys_draw::drawing;
 use sys_flow::report;
-use sys_runs::{NoProgress, Progress};
 use vasm_files::{Answer, asm, dis};
 use vax_hw::Hardware;
 use vv_base::{FileName, NoMemory};
-use vv_io::{Drive, Keyboard, Lines, Shelf, Sink};
+use vv_io::{Drive, Keyboard, Lines, NoProgress, Progress, Shelf, Sink};
 
 /// `solo`: fetches the image, makes its run and tells it.
 fn solo<H: Hardware, S: Shelf, O: Sink, L: Lines>(

@@ -2,7 +2,4 @@ use Rattle.std.proofs.Common.{◌≡◌, vec_len}
 use Rattle.vvmm.proofs.run.Given as goal
 
 abbrev pub invariant-loop-number : goal.invariant-loop-number
-invariant-loop-number l = vec_len l.list ≡ l.number
-
-abbrev pub invariant-loop-number-2 : goal.invariant-loop-number-2
-invariant-loop-number-2 l = vec_len l.drives ≡ l.number
+invariant-loop-number l = vec_len l.drives ≡ l.number

@@ -1,8 +1,7 @@
 use std::rt::Clock;
 use std::time::Instant;
 use vv_base::{Text, decimal};
-use vv_io::Sink;
-use vvmm_call::Progress;
+use vv_io::{Progress, Sink};
 
 /// A run that takes so many seconds is told about.
 const PATIENCE: u64 = 2;

@@ -1,9 +1,9 @@
-use super::found::found_of;
+use crate::found::found_of;
+use crate::stat::Identity;
 use std::fs::File;
 use std::os::fd::AsRawFd;
 use std::rt::Files;
 use std::{fs, io};
-use vv_edge::Identity;
 
 /// Opens `/dev/null` for reading as often as one of the three standard descriptors is closed, so that no file that is opened
 /// later becomes one of them. They stay open as long as what is given back.

@@ -1,11 +1,11 @@
 ghost use Rattle.std.specs.Prelude.{◌≡◌, None};
 
-use super::found::{check_same, found_of, unfit};
+use crate::found::{check_same, found_of, unfit};
+use crate::stat::{Flaw, Found, Identity, blocks_in, flaw_of};
 use std::fs::{OpenFile, OpenOptions};
 use std::io::{ErrorKind, Read, Seek, SeekFrom, Write};
 use std::rt::Files;
 use std::{fs, io};
-use vv_edge::{Flaw, Found, Identity, blocks_in, flaw_of};
 use vv_io::{Drive, DriveFault};
 
 /// A drive over a file, of as many blocks of 512 bytes as the file has whole ones. The file is opened when a block is first

@@ -1,6 +1,6 @@
 ghost use Rattle.std.specs.Prelude.{None};
 
-use vv_edge::Identity;
+use crate::stat::Identity;
 use vv_io::{Sink, SinkFault};
 
 /// Standard output, or standard error.

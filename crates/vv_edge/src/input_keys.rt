@@ -1,6 +1,6 @@
 ghost use Rattle.std.specs.Prelude.{◌≡◌, None};
 
-use super::found::unfit;
+use crate::found::unfit;
 use std::io;
 use std::io::{BufRead, ErrorKind, Read};
 use vv_io::{KeyFault, KeyLine, Keyboard};

@@ -1,12 +1,12 @@
 ghost use Rattle.std.specs.Prelude.{◌≡◌, ◌≤◌, IfOk, None};
 
-use super::found::{check_same, found_of, unfit};
+use crate::found::{check_same, found_of, unfit};
+use crate::stat::{Identity, is_removable};
 use std::fs::{OpenFile, OpenOptions};
 use std::io::{ErrorKind, Read, Seek, SeekFrom, Write};
 use std::os::unix::fs::OpenOptionsExt;
 use std::rt::Files;
 use std::{fs, io};
-use vv_edge::{Identity, is_removable};
 use vv_io::{Line, LineFault};
 
 /// A line into a file of its own, which is made at the first put, for its owner alone.

@@ -1,11 +1,11 @@
 ghost use Rattle.std.specs.Prelude.{◌≤◌, IfOk, None, length};
 
+use crate::faults::shelf_fault;
 use std::alloc::Global;
 use std::fs;
 use std::io::Read;
 use std::rt::Files;
 use vv_base::FileName;
-use vv_edge::shelf_fault;
 use vv_io::{Shelf, ShelfFault};
 
 /// The most bytes of a file.

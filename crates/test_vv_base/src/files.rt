@@ -1,4 +1,3 @@
-use super::*;
 use std::cell::Cell;
 use std::process::Abort;
 use std::rt::Clock;
@@ -6,11 +5,11 @@ use std::test::Fail;
 use std::time::Duration;
 use std::{env, fs, io, process};
 use vv_base::{FileName, file_name};
-use vv_edge::Identity;
+use vv_edge::{FileDrive, FileLine, FileShelf, Identity, InputKeys, OutSink, Ticker};
 use vv_io::{
-    Drive, DriveFault, Keyboard, Line, LineFault, MemLine, Shelf, ShelfFault, Sink, SinkFault,
+    Drive, DriveFault, Keyboard, Line, LineFault, MemLine, Progress, Shelf, ShelfFault, Sink,
+    SinkFault,
 };
-use vvmm_call::Progress;
 
 /// A path of this process in the system's folder for files that don't last.
 fn scratch(rt: &HostRuntime, name: &str) -> Result<String, Fail> {

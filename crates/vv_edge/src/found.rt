@@ -1,8 +1,8 @@
+use crate::stat::{Found, Identity, Kind};
 use std::fs::{Metadata, OpenFile};
 use std::io;
 use std::io::ErrorKind;
 use std::os::unix::fs::MetadataExt;
-use vv_edge::{Found, Identity, Kind};
 
 /// What the system's metadata say.
 pub fn found_of(metadata: &Metadata) -> Found {
