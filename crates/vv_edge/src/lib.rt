@@ -22,7 +22,7 @@ pub use file_drive::FileDrive;
 pub use file_line::FileLine;
 pub use file_shelf::FileShelf;
 pub use input_keys::InputKeys;
-pub use opening::{Flawed, Streams, drives_of, lines_of, taken_at_first};
+pub use opening::{Flawed, Streams, drive_of, lines_of, taken_at_first};
 pub use out_sink::OutSink;
 pub use standard::{hold_standard, identity_of};
 pub use stat::{Flaw, Found, Identity, Kind, blocks_in, flaw_of, is_removable};

@@ -1,4 +1,4 @@
-ghost use Rattle.std.specs.Prelude.{◌<◌, IfOk, ◌≡◌, vec_len};
+ghost use Rattle.std.specs.Prelude.{◌<◌};
 
 use crate::file_drive::FileDrive;
 use crate::file_line::FileLine;
@@ -8,7 +8,7 @@ use crate::stat::Identity;
 use crate::telling::FlawedDrive;
 use std::rt::{Stderr, Stdout};
 use vv_base::NoMemory;
-use vv_io::{Drive, EmptyDrive, LineList};
+use vv_io::LineList;
 
 /// Standard output and standard error.
 #[derive(Drop)]
@@ -87,16 +87,20 @@ pub fn lines_of(
 /// Why drives can't be used.
 pub type Flawed = [Option<FlawedDrive>; 16];
 
-/// The drive of a number, where something is under its name. Its file is taken then, or flawed.
-fn drive_of(
+/// The drive of a number, where the command has drives and something is under its name. Its file is taken then, or flawed.
+pub fn drive_of(
     rt: &HostRuntime,
     number: u8,
+    has_drives: bool,
     taken: &mut Vec<Identity>,
     flawed: &mut Flawed,
     streams: &mut Streams,
 ) -> Result<Option<FileDrive<HostRuntime>>, NoMemory>
     requires { number < 16 }
 {
+    if !has_drives {
+        return Ok(None);
+    }
     let path = format!(in rt.alloc(); "drive{number:02}.vol")?;
     streams.keep_from(identity_of(rt, path.as_str()));
     let looked = FileDrive::look(rt.clone()?, path, taken.as_slice());
@@ -107,43 +111,4 @@ fn drive_of(
         }
     }
     Ok(looked)
-}
-
-/// The drive of a number in a list: an empty one where the command has no drives, or nothing is under its name.
-fn boxed_drive(
-    rt: &HostRuntime,
-    number: u8,
-    has_drives: bool,
-    taken: &mut Vec<Identity>,
-    flawed: &mut Flawed,
-    streams: &mut Streams,
-) -> Result<Box<dyn Drive>, NoMemory>
-    requires { number < 16 }
-{
-    let found = if has_drives {
-        drive_of(rt, number, taken, flawed, streams)?
-    } else {
-        None
-    };
-    match found {
-        Some(drive) => Ok(Box::new(rt.alloc(), drive)?),
-        None => Ok(Box::new(rt.alloc(), EmptyDrive)?),
-    }
-}
-
-/// The 16 drives. Those that can't be used are told in `flawed`.
-pub fn drives_of(
-    rt: &HostRuntime,
-    has_drives: bool,
-    taken: &mut Vec<Identity>,
-    flawed: &mut Flawed,
-    streams: &mut Streams,
-) -> Result<Vec<Box<dyn Drive>>, NoMemory>
-    ensures { IfOk result (λ drives. vec_len drives ≡ 16) }
-{
-    let mut drives: Vec<Box<dyn Drive>> = Vec::new(rt.alloc());
-    for number in 0..16u8 {
-        drives.push(boxed_drive(rt, number, has_drives, taken, flawed, streams)?)?;
-    }
-    Ok(drives)
 }

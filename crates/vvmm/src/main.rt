@@ -7,9 +7,10 @@ use std::process::ExitCode;
 use vax_cpu::Cpu;
 use vv_base::NoMemory;
 use vv_edge::{
-    FileShelf, Flawed, InputKeys, Streams, Ticker, drives_of, hold_standard, lines_of,
+    FileShelf, Flawed, InputKeys, Streams, Ticker, drive_of, hold_standard, lines_of,
     taken_at_first,
 };
+use vv_io::{Drive, EmptyDrive};
 use vv_program::{conclude, serve, text_asked, words_status};
 pub use vvmm_call::vvmm_run;
 use vvmm_call::{Devices, Status, close, devices_of};
@@ -47,7 +48,13 @@ fn run(
     let mut machine = Cpu::new(alloc, PAGES)?;
     let mut lines = lines_of(rt, devices != Devices::Nothing, &taken, streams)?;
     let has_drives = devices == Devices::LinesAndDrives;
-    let mut drives = drives_of(rt, has_drives, &mut taken, flawed, streams)?;
+    let mut drives: Vec<Box<dyn Drive>> = Vec::new(alloc);
+    for number in 0..16u8 {
+        match drive_of(rt, number, has_drives, &mut taken, flawed, streams)? {
+            Some(drive) => drives.push(Box::new(alloc, drive)?)?,
+            None => drives.push(Box::new(alloc, EmptyDrive)?)?,
+        }
+    }
     let mut shelf = FileShelf::new(rt);
     let mut keyboard = InputKeys::new(rt.reader());
     let is_terminal = rt.stderr().is_terminal();
