@@ -12,6 +12,7 @@ from .cases import Player, Unreadable, can_be_parted, read_file
 from .differences import first_difference
 from .examples import ENDLESS, EXAMPLES, calls_of, expected_by_model, files_of, keys_of, place_of, read
 from .fuzzing import Case, compare_case, given_of, has_snapshots
+from .guest_cases import check_guest_cases
 from .purge_checks import check_purge
 from .system import run
 from .workload import workload
@@ -109,6 +110,9 @@ def tasks_of(root: str, program) -> list:
         statements = read_file(folder, name)
         parts = PARTS if can_be_parted(statements) and is_long(statements) else 1
         tasks += [(name, check_case_file, (folder, name, part, parts, program)) for part in range(parts)]
+    guests = os.path.join(root, "crates/test_vm_cases/data")
+    names = [name for name in sorted(os.listdir(guests)) if name not in ("wrong.cases", "tables.cases")]
+    tasks += [(name + " of a guest", check_guest_cases, (guests, name)) for name in names]
     tasks.append(("definitions", check_definitions, (root,)))
     return sorted(tasks, key=lambda task: "load" not in task[0])
 

@@ -10,7 +10,7 @@ from dataclasses import dataclass
 
 HERE = os.path.dirname(os.path.realpath(__file__))
 # What isn't a rule of the program: the comparison itself, what draws random cases, and the help.
-NO_RULES = ["__init__", "case_checks", "cases", "checking", "differences", "examples", "files", "fuzzing", "help", "kinds", "noting", "purge_checks", "seeing", "turning"]
+NO_RULES = ["__init__", "case_checks", "cases", "checking", "differences", "examples", "files", "fuzzing", "guest_cases", "help", "kinds", "noting", "purge_checks", "seeing", "turning"]
 SIGNS = {ast.Lt: "<", ast.LtE: "<=", ast.Gt: ">", ast.GtE: ">=", ast.Eq: "==", ast.NotEq: "!="}
 OTHER_BOUNDS = {ast.Lt: ast.LtE, ast.LtE: ast.Lt, ast.Gt: ast.GtE, ast.GtE: ast.Gt}
 LEFT_OUT = {ast.BitAnd: "&", ast.BitOr: "|", ast.Mod: "%"}

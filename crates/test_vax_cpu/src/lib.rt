@@ -4,6 +4,4 @@
 #[cfg(test)]
 mod known;
 #[cfg(test)]
-mod tables;
-#[cfg(test)]
 mod trail;

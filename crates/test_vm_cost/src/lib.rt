@@ -12,3 +12,5 @@ pub use counted::Counted;
 mod costs;
 #[cfg(test)]
 mod loops;
+#[cfg(test)]
+mod misses;

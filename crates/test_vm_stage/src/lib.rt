@@ -1,17 +1,13 @@
-//! A guest on the simulated machine, for worked examples: a stage whose calls keep that the guest is in the machine, its
-//! registers and memory by their places, and cases that are played on it.
+//! A guest on the simulated machine, for worked examples: a stage whose calls keep that the guest is in the machine, and
+//! its registers and memory by their places.
 #![tactic(auto)]
 
 mod allowed;
-mod case;
 mod place;
 mod snapshot;
 mod stage;
 
 pub use allowed::is_allowed;
-pub use case::{CASE, Case, Difference};
 pub use place::{Place, REGISTERS};
 pub use snapshot::Snapshot;
-pub use stage::{
-    FAULT, IDLE, INTERRUPT, Kinds, MODIFY, PAGES, PLAIN, Quanta, SENSITIVE, Stage, kinds_of, sums,
-};
+pub use stage::{Kinds, PAGES, PLAIN, Quanta, Stage, kinds_of, sums};

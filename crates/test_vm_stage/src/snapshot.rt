@@ -14,7 +14,7 @@ pub struct Snapshot {
 
 /// The place of a register among them all.
 fn rank(place: Place) -> Option<usize> {
-    REGISTERS.iter().position(|register| *register == place)
+    REGISTERS.iter().position(|register| register.1 == place)
 }
 
 impl Snapshot {
@@ -23,7 +23,7 @@ impl Snapshot {
         requires { IsShadowedIn stage.now.machine.memory stage.now.guest }
     {
         let mut registers = [0; 57];
-        for (k, place) in REGISTERS.iter().enumerate() {
+        for (k, (_, place)) in REGISTERS.iter().enumerate() {
             registers[k] = place.of(stage.state());
         }
         let typed = stage.state().console.parts();
@@ -96,7 +96,7 @@ impl Snapshot {
 
     /// The first place that differs from that of another. The typed bytes that wait count as one register.
     pub fn difference(&self, other: &Snapshot) -> Option<Place> {
-        for (k, place) in REGISTERS.iter().enumerate() {
+        for (k, (_, place)) in REGISTERS.iter().enumerate() {
             if k < 57 && self.registers[k] != other.registers[k] {
                 return Some(*place);
             }

@@ -26,16 +26,6 @@ pub type Kinds = [u64; 7];
 /// One step of a kind.
 pub const PLAIN: Kinds = [1, 0, 0, 0, 0, 0, 0];
 
-pub const SENSITIVE: Kinds = [0, 1, 0, 0, 0, 0, 0];
-
-pub const FAULT: Kinds = [0, 0, 1, 0, 0, 0, 0];
-
-pub const INTERRUPT: Kinds = [0, 0, 0, 1, 0, 0, 0];
-
-pub const MODIFY: Kinds = [0, 0, 0, 0, 1, 0, 0];
-
-pub const IDLE: Kinds = [0, 0, 0, 0, 0, 1, 0];
-
 /// How steps are taken: one by one, or in two calls, of which the first takes so many.
 #[derive(Clone, Copy, Debug, PartialEq, Eq)]
 pub enum Quanta {
