@@ -26,7 +26,7 @@ fn named(text: &str) -> FileName {
 fn a_shelf_reads_files(rt: HostRuntime) -> Result<(), Fail> {
     let path = scratch(&rt, "image")?;
     fs::write(&rt, path.as_str(), b"bytes")?;
-    let mut shelf = FileShelf::new(&rt);
+    let mut shelf = FileShelf::new(&rt, &[]);
     let bytes = shelf.fetch(rt.alloc(), &named(path.as_str())).ok();
     assert_eq!(rt; bytes.map(|bytes| bytes.len()), Some(5));
     fs::remove_file(&rt, path.as_str())?;
@@ -39,7 +39,7 @@ fn a_shelf_reads_files(rt: HostRuntime) -> Result<(), Fail> {
 fn a_shelf_refuses_a_file_that_is_too_long(rt: HostRuntime) -> Result<(), Fail> {
     let path = scratch(&rt, "long")?;
     fs::write(&rt, path.as_str(), vec![in rt.alloc(); 0; 16_777_217]?)?;
-    let mut shelf = FileShelf::new(&rt);
+    let mut shelf = FileShelf::new(&rt, &[]);
     let long = shelf.fetch(rt.alloc(), &named(path.as_str()));
     assert_eq!(rt; long.err(), Some(ShelfFault::TooLong));
     fs::remove_file(&rt, path.as_str())?;

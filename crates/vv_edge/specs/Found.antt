@@ -1,6 +1,6 @@
 -- Which files may be devices. What the system tells of a name is that of stat(2): kind, device and inode number, number of
 -- links, length.
-use Rattle.std.specs.Prelude.{List, Bool, true, false, ◌==◌, ◌%◌, ◌&&◌, not, if◌then◌else◌, Option, Some, None}
+use Rattle.std.specs.Prelude.{ℕ, List, Bool, true, false, ◌==◌, ◌&&◌, not, if◌then◌else◌, Option, Some, None}
 use Rattle.std.specs.List.{list_any}
 use Rattle.vv_edge.specs.declared.stat.Found.{Found}
 use Rattle.vv_edge.specs.declared.stat.Flaw.{Flaw}
@@ -25,13 +25,15 @@ is_identity_taken identity taken = list_any (is_same_file identity) taken
 abbrev pub is_removable : Found → List Identity → Bool
 is_removable found taken = is_file found.kind && (found.names == 1) && not (is_identity_taken found.identity taken)
 
--- what is wrong with a file, by the first test that fails: one name, whole blocks, nobody else's
+-- a line's file is still one of one name, and as long as what was shown
+abbrev pub is_as_shown : Found → ℕ → Bool
+is_as_shown found shown = is_file found.kind && (found.names == 1) && (found.length == shown)
+
+-- what is wrong with a file, by the first test that fails: one name, nobody else's
 abbrev pub file_flaw : Found → List Identity → Option Flaw
 file_flaw found taken =
     if found.names == 1 then
-    (if found.length % 512 == 0 then
     (if is_identity_taken found.identity taken then Some flaws.Shared else None)
-    else Some flaws.Ragged)
     else Some flaws.OtherName
 
 abbrev pub kind_flaw : Kind → Option Flaw → Option Flaw

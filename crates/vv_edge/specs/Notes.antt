@@ -2,7 +2,7 @@
 use Rattle.std.specs.Prelude.{ℕ, List, [], ◌∷◌, ◌++◌, codes, decimal, Option, Some, None}
 use Rattle.std.specs.List.{flat_map}
 use Rattle.vv_edge.specs.declared.stat.Flaw.{Flaw}
-use Rattle.vv_edge.specs.declared.stat.Flaw.TheVariants.{Untold, Link, NoFile, OtherName, Ragged, Shared}
+use Rattle.vv_edge.specs.declared.stat.Flaw.TheVariants.{Untold, Link, NoFile, OtherName, Shared}
 use Rattle.vv_edge.specs.declared.telling.FlawedDrive.{FlawedDrive}
 
 abbrev pub flaw_text : Flaw → List ℕ
@@ -10,7 +10,6 @@ flaw_text Untold = codes " cannot be looked at"
 flaw_text Link = codes " is a link"
 flaw_text NoFile = codes " is no file"
 flaw_text OtherName = codes " is a file that has another name too"
-flaw_text Ragged = codes " is no whole number of blocks"
 flaw_text Shared = codes " is a file that is used otherwise"
 
 -- a line on one drive, with its end

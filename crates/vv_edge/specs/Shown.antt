@@ -2,7 +2,7 @@
 use Rattle.std.specs.Prelude.{◌≡◌, refl, [], ◌∷◌, ◌++◌, true, false, codes, decimal, Some, None}
 use Rattle.std.specs.declared.io.ErrorKind.TheVariants.{NotFound, PermissionDenied, NotADirectory, OutOfMemory}
 use Rattle.vv_edge.specs.Faults.{shelf_fault}
-use Rattle.vv_edge.specs.Found.{flaw_of, is_removable}
+use Rattle.vv_edge.specs.Found.{flaw_of, is_as_shown, is_removable}
 use Rattle.vv_edge.specs.Notes.{notes_of}
 use Rattle.vv_edge.specs.declared.stat.Found.{Found}
 use Rattle.vv_edge.specs.declared.stat.Flaw.TheVariants as flaws
@@ -44,11 +44,8 @@ another_drives_file = refl
 an_empty_file : flaw_of (record good { length = 0 }) [] ≡ None
 an_empty_file = refl
 
-a_byte_more : flaw_of (record good { length = 1025 }) [] ≡ Some flaws.Ragged
+a_byte_more : flaw_of (record good { length = 1025 }) [] ≡ None
 a_byte_more = refl
-
-a_byte_less : flaw_of (record good { length = 1023 }) [] ≡ Some flaws.Ragged
-a_byte_less = refl
 
 a_second_name : flaw_of (record good { names = 2 }) [] ≡ Some flaws.OtherName
 a_second_name = refl
@@ -77,6 +74,15 @@ a_folder_stays = refl
 a_file_of_two_names_stays : is_removable (record good { names = 2 }) [] ≡ false
 a_file_of_two_names_stays = refl
 
-two_notes : notes_of (None ∷ Some (record { number = 0; flaw = flaws.Link }) ∷ None ∷ Some (record { number = 15; flaw = flaws.Ragged }) ∷ [])
-    ≡ (((codes "vvmm: drive " ++ decimal 0) ++ codes " is a link") ++ 10 ∷ []) ++ ((((codes "vvmm: drive " ++ decimal 15) ++ codes " is no whole number of blocks") ++ 10 ∷ []) ++ [])
+a_line_as_shown : is_as_shown good 1024 ≡ true
+a_line_as_shown = refl
+
+a_line_that_was_cut : is_as_shown good 1025 ≡ false
+a_line_that_was_cut = refl
+
+a_line_of_two_names : is_as_shown (record good { names = 2 }) 1024 ≡ false
+a_line_of_two_names = refl
+
+two_notes : notes_of (None ∷ Some (record { number = 0; flaw = flaws.Link }) ∷ None ∷ Some (record { number = 15; flaw = flaws.NoFile }) ∷ [])
+    ≡ (((codes "vvmm: drive " ++ decimal 0) ++ codes " is a link") ++ 10 ∷ []) ++ ((((codes "vvmm: drive " ++ decimal 15) ++ codes " is no file") ++ 10 ∷ []) ++ [])
 two_notes = refl

@@ -1,7 +1,7 @@
 ghost use Rattle.std.specs.Prelude.{◌≡◌, ◌≤◌, IfOk, None};
 
 use crate::found::{check_same, found_of, unfit};
-use crate::stat::{Identity, is_removable};
+use crate::stat::{Found, Identity, is_as_shown, is_removable};
 use std::fs::{OpenFile, OpenOptions};
 use std::io::{ErrorKind, Read, Seek, SeekFrom, Write};
 use std::os::unix::fs::OpenOptionsExt;
@@ -64,6 +64,7 @@ impl<R: Files + Drop> FileLine<R> {
             self.file = Some(create(&self.files, self.path.as_str())?);
         }
         if let Some(file) = &mut self.file {
+            check_shown(&found_of(&file.metadata()?), self.shown)?;
             if self.is_away {
                 file.seek(SeekFrom::End(0))?;
                 self.is_away = false;
@@ -87,18 +88,28 @@ impl<R: Files + Drop> FileLine<R> {
         file.read(into)
     }
 
-    /// The file is on the disk, and still under its name.
+    /// The file is on the disk, still under its name, and as long as what was shown.
     fn settle(&self) -> io::Result<()> {
         match &self.file {
             _ if self.is_blocked => Err(unfit()),
             None => Ok(()),
             Some(file) => {
                 file.sync_all()?;
-                let named = fs::symlink_metadata(&self.files, self.path.as_str())?;
-                check_same(file, &found_of(&named))?;
+                let named = found_of(&fs::symlink_metadata(&self.files, self.path.as_str())?);
+                check_shown(&named, self.shown)?;
+                check_same(file, &named)?;
                 fs::open(&self.files, ".")?.sync_all()
             }
         }
+    }
+}
+
+/// That a line's file has what was shown, as far as its length tells.
+fn check_shown(found: &Found, shown: u64) -> io::Result<()> {
+    if is_as_shown(found, shown) {
+        Ok(())
+    } else {
+        Err(unfit())
     }
 }
 

@@ -1,8 +1,11 @@
 ghost use Rattle.std.specs.Prelude.{◌≤◌, IfOk, None, length};
 
 use crate::faults::shelf_fault;
+use crate::found::found_of;
+use crate::stat::{Identity, is_among};
 use std::alloc::Global;
 use std::fs;
+use std::fs::OpenFile;
 use std::io::Read;
 use std::rt::Files;
 use vv_base::FileName;
@@ -11,17 +14,30 @@ use vv_io::{Shelf, ShelfFault};
 /// The most bytes of a file.
 const FILE_LIMIT: usize = 16_777_216;
 
-/// Files under the names that are asked for.
+/// Files under the names that are asked for, but for the drives.
 #[derive(Drop)]
 pub struct FileShelf<'a, R> {
     files: &'a R,
+    drives: &'a [Identity],
     faults: u64,
 }
 
 impl<'a, R: Files> FileShelf<'a, R> {
     /// A shelf that has not failed.
-    pub fn new(files: &'a R) -> Self {
-        FileShelf { files, faults: 0 }
+    pub fn new(files: &'a R, drives: &'a [Identity]) -> Self {
+        FileShelf {
+            files,
+            drives,
+            faults: 0,
+        }
+    }
+
+    /// Whether an open file is a drive's, by whatever name.
+    fn is_drive(&self, file: &R::File) -> bool {
+        match file.metadata() {
+            Ok(metadata) => is_among(&found_of(&metadata).identity, self.drives),
+            Err(_) => false,
+        }
     }
 
     /// The bytes of a file, of which one more than the limit is read at most.
@@ -37,6 +53,9 @@ impl<'a, R: Files> FileShelf<'a, R> {
                 return Err(shelf_fault(error.kind()));
             }
         };
+        if self.is_drive(&file) {
+            return Err(ShelfFault::Failed);
+        }
         let mut bytes = Vec::new(alloc);
         match file.take(FILE_LIMIT as u64 + 1).read_to_end(&mut bytes) {
             Ok(_) if bytes.len() > FILE_LIMIT => Err(ShelfFault::TooLong),

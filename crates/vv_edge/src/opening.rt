@@ -3,12 +3,13 @@ ghost use Rattle.std.specs.Prelude.{◌<◌};
 use crate::file_drive::FileDrive;
 use crate::file_line::FileLine;
 use crate::out_sink::OutSink;
-use crate::standard::identity_of;
+use crate::standard::{Folder, hold_folder, identity_of};
 use crate::stat::Identity;
 use crate::telling::FlawedDrive;
+use std::io::IsTerminal;
 use std::rt::{Stderr, Stdout};
 use vv_base::NoMemory;
-use vv_io::LineList;
+use vv_io::{LineList, Sink};
 
 /// Standard output and standard error.
 #[derive(Drop)]
@@ -31,6 +32,18 @@ impl Streams {
         self.out.keep_from(device);
         self.errors.keep_from(device);
     }
+}
+
+/// The folder, which no other program may use meanwhile; where it isn't held, people at a terminal are told.
+pub fn folder_of(rt: &HostRuntime, has_lines: bool, streams: &mut Streams) -> Folder {
+    if !has_lines {
+        return Folder::Unneeded;
+    }
+    let folder = hold_folder(rt);
+    if rt.stderr().is_terminal() {
+        let _ = streams.errors.put(folder.note());
+    }
+    folder
 }
 
 /// Files that no line and no drive may be: those of the standard streams, and of the words.

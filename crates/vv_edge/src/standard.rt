@@ -1,6 +1,6 @@
 use crate::found::found_of;
 use crate::stat::Identity;
-use std::fs::File;
+use std::fs::{File, TryLockError};
 use std::os::fd::AsRawFd;
 use std::rt::Files;
 use std::{fs, io};
@@ -17,6 +17,42 @@ pub fn hold_standard(files: &impl Files<File = File>) -> io::Result<[Option<File
         held[place] = Some(file);
     }
     Ok(held)
+}
+
+/// Whether this program alone uses the folder's lines and drives, as long as it has this.
+#[derive(Drop)]
+pub enum Folder {
+    /// It uses none.
+    Unneeded,
+    /// It does.
+    Held(File),
+    /// Another program uses them.
+    Busy,
+    /// The folder can't be opened, or its system has no locks: nothing is known.
+    Unlocked,
+}
+
+impl Folder {
+    /// What people at a terminal are told.
+    pub fn note(&self) -> &'static [u8] {
+        match self {
+            Folder::Busy => b"vvmm: another vvmm runs in this folder\n",
+            Folder::Unlocked => b"vvmm: this folder cannot be locked: run no other vvmm in it\n",
+            _ => b"",
+        }
+    }
+}
+
+/// Locks the folder that the program runs in. The lock ends with the program.
+pub fn hold_folder(files: &impl Files<File = File>) -> Folder {
+    let Ok(folder) = fs::open(files, ".") else {
+        return Folder::Unlocked;
+    };
+    match folder.try_lock() {
+        Ok(()) => Folder::Held(folder),
+        Err(TryLockError::WouldBlock) => Folder::Busy,
+        Err(TryLockError::Error(_)) => Folder::Unlocked,
+    }
 }
 
 /// Which file is under a name, with all links followed.

@@ -1,5 +1,11 @@
 ghost use Rattle.std.specs.Prelude.{◌≡◌, ◌^◌, ◌/◌, ◌-◌, min};
-ghost use Rattle.vv_edge.specs.Found.{flaw_of, is_identity_taken, is_removable, is_same_file};
+ghost use Rattle.vv_edge.specs.Found.{
+  flaw_of,
+  is_as_shown,
+  is_identity_taken,
+  is_removable,
+  is_same_file,
+};
 
 /// What is under a name.
 #[derive(Clone, Copy, Debug, PartialEq, Eq)]
@@ -41,8 +47,6 @@ pub enum Flaw {
     NoFile,
     /// It has another name (a hard link).
     OtherName,
-    /// Its length is no multiple of 512.
-    Ragged,
     /// It is taken: another drive's file, that of a standard stream, or one of the words.
     Shared,
 }
@@ -53,7 +57,8 @@ fn is_same(a: &Identity, b: &Identity) -> bool
     a.device == b.device && a.number == b.number
 }
 
-fn is_among(identity: &Identity, taken: &[Identity]) -> bool
+/// Whether a file is one of those that are taken.
+pub fn is_among(identity: &Identity, taken: &[Identity]) -> bool
     ensures { result ≡ is_identity_taken identity.now taken.now }
 {
     taken.iter().any(|other| is_same(identity, other))
@@ -66,6 +71,13 @@ pub fn is_removable(found: &Found, taken: &[Identity]) -> bool
     matches!(found.kind, Kind::File) && found.names == 1 && !is_among(&found.identity, taken)
 }
 
+/// Whether a line's file is still one of one name, and as long as what was shown.
+pub fn is_as_shown(found: &Found, shown: u64) -> bool
+    ensures { result ≡ is_as_shown found.now shown }
+{
+    matches!(found.kind, Kind::File) && found.names == 1 && found.length == shown
+}
+
 /// Why what is under a drive's name can't be a drive, beside the files that are taken.
 pub fn flaw_of(found: &Found, taken: &[Identity]) -> Option<Flaw>
     ensures { result ≡ flaw_of found.now taken.now }
@@ -74,7 +86,6 @@ pub fn flaw_of(found: &Found, taken: &[Identity]) -> Option<Flaw>
         Kind::Link => Some(Flaw::Link),
         Kind::Other => Some(Flaw::NoFile),
         Kind::File if found.names != 1 => Some(Flaw::OtherName),
-        Kind::File if found.length % 512 != 0 => Some(Flaw::Ragged),
         Kind::File if is_among(&found.identity, taken) => Some(Flaw::Shared),
         Kind::File => None,
     }

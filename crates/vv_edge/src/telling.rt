@@ -24,7 +24,6 @@ fn flaw_text(flaw: Flaw) -> &'static [u8]
         Flaw::Link => b" is a link",
         Flaw::NoFile => b" is no file",
         Flaw::OtherName => b" is a file that has another name too",
-        Flaw::Ragged => b" is no whole number of blocks",
         Flaw::Shared => b" is a file that is used otherwise",
     }
 }

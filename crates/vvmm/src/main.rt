@@ -7,8 +7,8 @@ use std::process::ExitCode;
 use vax_cpu::Cpu;
 use vv_base::NoMemory;
 use vv_edge::{
-    FileShelf, Flawed, InputKeys, Streams, Ticker, drive_of, hold_standard, lines_of,
-    taken_at_first,
+    FileShelf, Flawed, Folder, InputKeys, Streams, Ticker, drive_of, folder_of, hold_standard,
+    lines_of, taken_at_first,
 };
 use vv_io::{Drive, EmptyDrive};
 use vv_program::{conclude, serve, text_asked, words_status};
@@ -44,9 +44,15 @@ fn run(
 ) -> Result<Status, NoMemory> {
     let alloc = rt.alloc();
     let devices = devices_of(words);
+    let has_lines = devices != Devices::Nothing;
+    let folder = folder_of(rt, has_lines, streams);
+    if matches!(folder, Folder::Busy) {
+        return Ok(Status::ShelfFault);
+    }
     let mut taken = taken_at_first(rt, words, streams)?;
+    let count = taken.len();
     let mut machine = Cpu::new(alloc, PAGES)?;
-    let mut lines = lines_of(rt, devices != Devices::Nothing, &taken, streams)?;
+    let mut lines = lines_of(rt, has_lines, &taken, streams)?;
     let has_drives = devices == Devices::LinesAndDrives;
     let mut drives: Vec<Box<dyn Drive>> = Vec::new(alloc);
     for number in 0..16u8 {
@@ -55,7 +61,7 @@ fn run(
             None => drives.push(Box::new(alloc, EmptyDrive)?)?,
         }
     }
-    let mut shelf = FileShelf::new(rt);
+    let mut shelf = FileShelf::new(rt, taken.get(count..).unwrap_or(&[]));
     let mut keyboard = InputKeys::new(rt.reader());
     let is_terminal = rt.stderr().is_terminal();
     let mut notes = streams.errors.beside(rt.stderr());
