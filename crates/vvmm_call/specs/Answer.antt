@@ -23,7 +23,7 @@ use Rattle.sys_live.specs.Operator.{Operator, Untyped}
 use Rattle.sys_live.specs.declared.session.Lived.{Lived}
 use Rattle.sys_objects.specs.declared.records.Config.{Config}
 use Rattle.sys_purge.specs.Input.{purged}
-use Rattle.sys_purge.specs.Laws.{shown_on}
+use Rattle.sys_purge.specs.Laws.{IsSeparateFrom, shown_on}
 use Rattle.sys_state.specs.Bytes.{devices_of, drive_blocks, line_bytes}
 use Rattle.sys_state.specs.Guests.{powered}
 use Rattle.sys_state.specs.Run.{Input, Moment}
@@ -203,7 +203,7 @@ pub record PlaysSave (a : RunAsked) (status : Status) (o : Outside) : Type 0 whe
 abbrev pub FollowsSave : RunAsked → Status → Outside → Type 0
 FollowsSave a status o = (Stops (StopsSave o.files a o.shelf o.shelf') status × Silent o) ⊎ PlaysSave a status o
 
--- `resume`: snapshot and script were fetched, and the run goes on
+-- `resume`: snapshot and script were fetched, and the run goes on. From the snapshot's moment on its devices are separate.
 pub record PlaysResume (a : ResumeAsked) (status : Status) (o : Outside) : Type 0 where
   pub moment : Moment
   pub events : List Event
@@ -212,6 +212,7 @@ pub record PlaysResume (a : ResumeAsked) (status : Status) (o : Outside) : Type 
   pub result : Result Ran PowerFault
   pub goes_on : ContinuesRun moment events a.rounds result (run_outside o)
   pub answers : AnswersRun a.rounds result status o.out o.out'
+  pub separate : IsSeparateFrom moment events a.rounds
 
 abbrev pub FollowsResume : ResumeAsked → Status → Outside → Type 0
 FollowsResume a status o = (Stops (StopsResume o.files a o.shelf o.shelf') status × Silent o) ⊎ PlaysResume a status o
