@@ -2,7 +2,7 @@
 use Rattle.std.specs.Prelude.{ℕ, List, [], ◌∷◌, codes, if◌then◌else◌, Option, Some, None}
 use Rattle.std.specs.declared.io.ErrorKind.{ErrorKind}
 use Rattle.std.specs.declared.io.ErrorKind.TheVariants.{OutOfMemory}
-use Rattle.vvmm_call.specs.Words.{is_word}
+use Rattle.vvmm_files.specs.Words.{is_word}
 use Rattle.vvmm_call.specs.declared.status.Status.{Status}
 use Rattle.vvmm_call.specs.declared.status.Status.TheVariants.{Words, NoMemory}
 use Rattle.vv_program.specs.declared.asked.TheConstants.{HELP, VERSION}

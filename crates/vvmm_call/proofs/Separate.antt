@@ -19,8 +19,8 @@ use Rattle.sys_runs.specs.declared.running.Ran.{Ran}
 use Rattle.sys_system.specs.declared.power.PowerFault.{PowerFault}
 use Rattle.sys_system.specs.declared.power.PowerFault.TheVariants.{Image, VolumeSize, DriveIn, NoMemory}
 use Rattle.vvmm_call.specs.Answer.{IsSeparate, IsShownSeparate, PlaysConfiguration}
-use Rattle.vvmm_call.specs.Solo.{solo_config}
-use Rattle.vvmm_call.specs.Words.{Asked}
+use Rattle.vvmm_files.specs.Solo.{solo_config}
+use Rattle.vvmm_files.specs.Words.{Asked}
 use Rattle.vvmm_call.specs.declared.status.Status.{Status}
 
 pub separate : (x : Input) → IsConfig x.config → IsSeparate x

@@ -6,9 +6,9 @@ use Rattle.vv_io.specs.Shelf.{File}
 use Rattle.vasm_text.specs.Asm.{asm_of}
 use Rattle.vasm_text.specs.Dis.{dis_of}
 use Rattle.vasm_text.specs.declared.fault.AsmFault.{AsmFault}
-use Rattle.vasm_files.specs.Commands.{ShelfAndSink, FollowsFile}
-use Rattle.vasm_files.specs.declared.answer.Answer.{Answer}
-use Rattle.vasm_files.specs.declared.answer.Answer.TheVariants as answers
+use Rattle.vvmm_files.specs.Commands.{ShelfAndSink, FollowsFile}
+use Rattle.vvmm_files.specs.declared.answer.Answer.{Answer}
+use Rattle.vvmm_files.specs.declared.answer.Answer.TheVariants as answers
 use Rattle.vax_hw.specs.Machine.{Machine}
 use Rattle.vm_stepping.specs.Made.{tally_of}
 use Rattle.sys_audit_check.specs.Lines.{Checks}
@@ -38,14 +38,14 @@ use Rattle.sys_system.specs.declared.power.PowerFault.{PowerFault}
 use Rattle.sys_system.specs.declared.power.PowerFault.TheVariants as faults
 use Rattle.sys_trace.specs.Trace.{trace_of}
 use Rattle.vv_gen.specs.Workload.{Generated, workload_of}
-use Rattle.vvmm_call.specs.Files.{HasAll, HasAllToLive, HasAllToSave, HasBoth, HasConfig, IsRead, StopsAudit, StopsConfig, StopsFile, StopsLive, StopsResume, StopsRun, StopsSave}
-use Rattle.vvmm_call.specs.Solo.{solo_config, solo_guest}
+use Rattle.vvmm_files.specs.Files.{HasAll, HasAllToLive, HasAllToSave, HasBoth, HasConfig, IsRead, StopsAudit, StopsConfig, StopsFile, StopsLive, StopsResume, StopsRun, StopsSave}
+use Rattle.vvmm_files.specs.Solo.{solo_config, solo_guest}
 use Rattle.vvmm_call.specs.Summary.{check_line, summary}
-use Rattle.vvmm_call.specs.Words.{Asked, AuditAsked, LiveAsked, ResumeAsked, RunAsked, Wanted, WantsSolo, WantsTrace, WantsRun, WantsSave, WantsResume, WantsLive, WantsLoad, WantsCheck, WantsMigration, WantsAudit, WantsFlow, WantsDrawing, WantsBytes, WantsText}
+use Rattle.vvmm_files.specs.Words.{Asked, AuditAsked, LiveAsked, ResumeAsked, RunAsked, Wanted, WantsSolo, WantsTrace, WantsRun, WantsSave, WantsResume, WantsLive, WantsLoad, WantsCheck, WantsMigration, WantsAudit, WantsFlow, WantsDrawing, WantsBytes, WantsText}
 use Rattle.vvmm_call.specs.declared.status.Status.{Status}
 use Rattle.vvmm_call.specs.declared.status.Status.TheVariants.{Done, Words, Missing, TooLong, ShelfFault, Config as ConfigRefused, Script as ScriptRefused, Image, VolumeSize, DriveIn, Device as DeviceFault, Asm, SnapSize, Snap as SnapRefused, Audit, OutFault, KeyFault, NoMemory}
-use Rattle.vvmm_call.specs.declared.stop.Stop.{Stop}
-use Rattle.vvmm_call.specs.declared.stop.Stop.TheVariants as stops
+use Rattle.vvmm_files.specs.declared.stop.Stop.{Stop}
+use Rattle.vvmm_files.specs.declared.stop.Stop.TheVariants as stops
 
 -- The outside before and after the call: what the shelf holds, where it tells, and its count of faults; the machine;
 -- the lines, the drives, and where the summary is put.
