@@ -1,4 +1,4 @@
-ghost use Rattle.std.specs.Prelude.{◌≡◌, ◌+◌, ◌-◌, ◌^◌, None, min};
+ghost use Rattle.std.specs.Prelude.{◌≡◌, None};
 
 use crate::found::{check_same, found_of, unfit};
 use crate::stat::{Flaw, Found, Identity, blocks_in, flaw_of};
@@ -134,16 +134,6 @@ impl<R: Files + Drop> FileDrive<R> {
         }
     }
 
-    /// Counts a fault, and notes it.
-    fn fail(&mut self) -> DriveFault
-        ensures blocks { self.new.blocks ≡ self.old.blocks }
-        ensures faults { self.new.faults ≡ min (self.old.faults + 1) (2 ^ 64 - 1) }
-    {
-        self.faults = self.faults.saturating_add(1);
-        self.failures.note(self.stored, self.blocks);
-        DriveFault
-    }
-
     /// An open file is on the disk, and still under its name.
     fn settle(&self) -> io::Result<()> {
         match (&self.file, &self.found) {
@@ -233,7 +223,6 @@ impl<R: Files + Drop> Drive for FileDrive<R> {
                 self.failures.note(self.stored, self.blocks);
                 Err(DriveFault)
             }
-            Err(_) => Err(self.fail()),
         }
     }
 

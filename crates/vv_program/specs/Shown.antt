@@ -13,7 +13,7 @@ use Rattle.vv_program.specs.Learning.{seen_as}
 use Rattle.vv_program.specs.Serves.{synced_status}
 use Rattle.vv_program.specs.declared.asked.TheConstants.{HELP}
 use Rattle.vv_program.specs.declared.hints.Told.{Told}
-use Rattle.vvmm_call.specs.declared.status.Status.TheVariants.{Done, Words, ShelfFault, NoMemory, DriveIn, Device as DeviceFault, Config as ConfigRefused, Asm}
+use Rattle.vvmm_call.specs.declared.status.Status.TheVariants.{Done, Words, OutFault, ShelfFault, NoMemory, DriveIn, Device as DeviceFault, Config as ConfigRefused, Asm}
 
 two_words_are_no_text : text_asked (codes "--help" ∷ codes "--version" ∷ []) ≡ None
 two_words_are_no_text = refl

@@ -1,4 +1,4 @@
-ghost use Rattle.std.specs.Prelude.{◌≡◌, IfSome, Some, [], ◌∷◌, if◌then◌else◌};
+ghost use Rattle.std.specs.Prelude.{◌≡◌, IfSome, Some};
 ghost use Rattle.sys_config.specs.Config.{config_of};
 ghost use Rattle.vv_program.specs.Learning.{audit_line_of, seen_as, told_word, wanted_in};
 
