@@ -206,8 +206,8 @@ def memory():
 
 
 def trust():
-    p = Picture(900, 560, "What is proved, what is only tested, and what is trusted")
-    p.box(20, 20, 860, 520, RED)
+    p = Picture(900, 580, "What is proved, what is only tested, and what is trusted")
+    p.box(20, 20, 860, 448, RED)
     p.text(40, 46, "Trusted", 15, bold=True)
     p.text(40, 68, "the prover, the compiler, the C library and the kit's libraries; the operating system and the disk")
     p.text(40, 90, "Read against the manuals, and shown by examples that were found by hand: that the definitions are a VAX")
@@ -224,9 +224,10 @@ def trust():
     )
     for x, y, lines in boxes:
         p.labelled(x, y, 340, 96, lines, "white", 12)
-    p.text(40, 478, "Only tested", 15, bold=True)
-    p.text(40, 500, "that the kernel leaves plain instructions to the machine, and doesn't forge its counts (machines that")
-    p.text(40, 520, "note their runs); how often the outside is called; that the model, a second reading, gives the same bytes")
+    p.box(20, 484, 860, 76, GREY)
+    p.text(40, 508, "Only tested", 15, bold=True)
+    p.text(40, 530, "that the kernel leaves plain instructions to the machine, and doesn't forge its counts (machines that")
+    p.text(40, 550, "note their runs); how often the outside is called; that the model, a second reading, gives the same bytes")
     return p
 
 
@@ -260,7 +261,69 @@ def classes():
     return p
 
 
+def layers():
+    """The crates of crates.txt, each above those that it uses."""
+    used, parts = {}, []
+    for line in (Path(__file__).parent.parent / "crates.txt").read_text().splitlines():
+        if line.startswith("# ") and line != "# Tests":
+            parts.insert(0, (line[2:], []))
+        elif line.startswith("# "):
+            break
+        elif line and not line.startswith("#"):
+            crate, uses = line.replace(" staticlib", "").split(":")
+            used[crate] = uses.split()
+            parts[0][1].append(crate)
+    fills = (BLUE, GREEN, YELLOW)
+    drawn, y = [], 20
+    for number, (name, crates) in enumerate(parts):
+        depth = {}
+        for crate in crates:
+            depth[crate] = 1 + max((depth[one] for one in used[crate] if one in depth), default=0)
+        rows = [[crate for crate in crates if depth[crate] == level] for level in range(max(depth.values()), 0, -1)]
+        drawn.append((y, name, rows, fills[number % 3]))
+        y += 23 * len(rows) + 16
+    p = Picture(900, y + 36, "The crates in layers")
+    for y, name, rows, fill in drawn:
+        p.box(20, y, 860, 23 * len(rows) + 10, fill)
+        middle, words = y + 11.5 * len(rows) + 9, name.split(", ")
+        for i, part in enumerate(words):
+            p.text(32, middle + 18 * i - 9 * (len(words) - 1), part + ("," if i + 1 < len(words) else ""), 13, bold=True, room=250)
+        for i, row in enumerate(rows):
+            at = 270
+            for crate in row:
+                wide = 7.2 * len(crate) + 14
+                p.labelled(at, y + 6 + 23 * i, wide, 20, ["`" + crate], "white", 12)
+                at += wide + 8
+            assert at < 880, row
+    p.text(450, drawn[-1][0] + 23 * len(drawn[-1][2]) + 36, "A crate uses only crates that are drawn below it. Those of one row don't use each other.", 13, "middle")
+    return p
+
+
+def instruction():
+    """What the simulated machine does with one instruction of a guest."""
+    p = Picture(900, 560, "An instruction's way through the machine and the kernel")
+    steps = (
+        (["*the instruction at PC", "does a known page have the bytes", "that spell a kept one? (vax_kept)"], "no: its bytes are found by the page tables, decoded and kept"),
+        (["*at once, by its normal form", "over known pages, on the machine's", "own registers (vax_at_once)"], "it has none, or a page isn't known: nothing has changed"),
+        (["*by its plan over known pages", "operands, result and stores", "(vax_exec, vax_paged)"], "a page isn't known: nothing has changed"),
+        (["*by its plan over the page tables", "each reference by a walk", "(vax_cpu, vax_paged)"], "it doesn't retire: registers are put back"),
+    )
+    for i, (lines, otherwise) in enumerate(steps):
+        y = 30 + 104 * i
+        p.labelled(30, y, 300, 74, lines, BLUE)
+        p.line(180, y + 74, 180, y + 104, True)
+        p.text(196, y + 94, otherwise, 12)
+        if i:
+            p.line(330, y + 37, 640, y + 37, True)
+            p.text(350, y + 29, "it retires", 12)
+    p.labelled(640, 134, 230, 282, ["*retired", "its stores are made,", "it is counted,", "and so is the trail:", "the next instruction,", "until the budget is used"], GREEN)
+    p.labelled(30, 446, 300, 84, ["*the run ends with an exit", "a miss, a refusal, a modify bit,", "a sensitive instruction, a fault"], YELLOW)
+    p.labelled(400, 446, 470, 84, ["*the kernel (vm_stepping)", "fills or opens the page and lets the machine try again; or", "emulates, initiates or stops: a step of the guest"], YELLOW)
+    p.line(330, 488, 400, 488, True)
+    return p
+
+
 if __name__ == "__main__":
     folder = Path(__file__).parent / "pictures"
-    for name, draw in (("tower", tower), ("round", round_), ("memory", memory), ("trust", trust), ("classes", classes)):
+    for name, draw in (("tower", tower), ("round", round_), ("memory", memory), ("trust", trust), ("classes", classes), ("layers", layers), ("instruction", instruction)):
         (folder / f"{name}.svg").write_text(draw().save())

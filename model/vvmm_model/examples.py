@@ -26,6 +26,7 @@ EXAMPLES = [
     Example("two-levels", 6, {0: 2}, ["public", "secret"], True),
     Example("timesharing", 10, {}, ["kernel"]),
     Example("page-fault", 1, {}, ["pager"]),
+    Example("small-system", 1, {}, ["system"]),
     Example("misbehaving", 8, {0: 1}, ["low", "rogue", "high"]),
     Example("typing", 4, {}, ["adder"]),
 ]

@@ -1,3 +1,4 @@
 mod Holds
+pub mod Separate
 mod Shapes
 pub mod Stands

@@ -130,15 +130,17 @@ rounds_fit : (c : Config) (i n : ℕ) (es : List Event) (s : SystemState) → Fi
 rounds_fit c i zero es s f = f
 rounds_fit c i (suc n) es s f = rounds_fit c (suc i) n es (round c i es s).now (round_fits c i es s f)
 
+pub consistent_fits : (c : Config) (s : SystemState) → IsConsistentState c s → Fits c s
+consistent_fits c s right = record { connected = (seated c c.terminals s.connected right.seated).fit; mounts = (mounted c c.guests s.mounts right.mounted).fit }
+
 pub rounds_keep_right : RoundsKeepConsistency
 rounds_keep_right m es n right =
     let seats = seated m.config m.config.terminals m.state.connected right.seated in
     let mounts = mounted m.config m.config.guests m.state.mounts right.mounted in
-    let fits : Fits m.config m.state = record { connected = seats.fit; mounts = mounts.fit } in
     let holds : IsSoundSystem m.state = record { once = seats.once; halts = each_halts m.state.guests right.halts } in
     let shaped : Shaped m.config m.state = record { seats = seats.long; units = mounts.four } in
     right_by m.config (rounds m.config (m.made + 1) n es m.state).now
-    (rounds_fit m.config (m.made + 1) n es m.state fits)
+    (rounds_fit m.config (m.made + 1) n es m.state (consistent_fits m.config m.state right))
     (rounds_keep m.config (m.made + 1) n es m.state holds)
     (rounds_shaped m.config (m.made + 1) n es m.state shaped)
 

@@ -3,6 +3,7 @@
 
 ghost use Rattle.sys_moment_laws.specs.ConsistentState.{MomentsAreConsistent, OpeningIsConsistent, RoundsKeepConsistency, RunsAreConsistent};
 ghost use Rattle.sys_moment_laws.specs.Holds.{RoundsKeep, RunsKeep};
+ghost use Rattle.sys_moment_laws.specs.Separate.{MomentsAreSeparate, RoundsKeepPurges};
 
 /// Rounds keep that no guest is at two terminals, and that each runs or has stopped with a stop code.
 pub fn rounds_keep_them()
@@ -20,4 +21,11 @@ pub fn rounds_keep_a_moment_right()
 pub fn runs_stand_right()
     ensures opens { OpeningIsConsistent }
     ensures runs { RunsAreConsistent }
+{}
+
+/// From any moment on that rounds can lead to, each device and volume gets what it gets when all whose class doesn't flow into its
+/// own was taken out of the moment and of the events. Such rounds lead to the purge of the moment after all rounds.
+pub fn moments_are_separate()
+    ensures separate { MomentsAreSeparate }
+    ensures purges { RoundsKeepPurges }
 {}

@@ -13,14 +13,16 @@ use Rattle.sys_objects.specs.declared.records.VolumeRow.{VolumeRow}
 use Rattle.sys_purge.proofs.Accepted.{printer_kept, terminal_kept, volume_kept}
 use Rattle.sys_purge.proofs.Devices.{ds, flows_itself, line_flows, ps, ts}
 use Rattle.sys_purge.proofs.Kept.{both}
-use Rattle.sys_purge.proofs.Lines.{keeps_drives, keeps_lines}
+use Rattle.sys_purge.proofs.Fits.{Fits}
+use Rattle.sys_purge.proofs.Lines.{drive_kept_from, keeps_drives, keeps_lines, line_kept}
 use Rattle.sys_purge.proofs.Members.{IsIn, at_place, in_all, in_kept, place_in}
 use Rattle.sys_purge.proofs.SeenTurns.{seen_rows}
 use Rattle.sys_purge.specs.Input.{is_kept}
-use Rattle.sys_purge.specs.Laws.{DevicesDependOnPurges, DriveFlowsInto, KeepsVolumes, LineFlowsInto, VolumesDependOnPurges}
+use Rattle.sys_purge.specs.Laws.{DevicesDependOnPurges, DriveFlowsInto, IsSeparateFrom, KeepsVolumes, LineFlowsInto, VolumesDependOnPurges}
 use Rattle.sys_purge.specs.Purge.{kept_audit, purge_config}
 use Rattle.sys_state.specs.Bytes.{Device, audit_device, devices_of, drive_blocks, dump_device, line_bytes, printer_device, terminal_device}
-use Rattle.sys_state.specs.Run.{Input}
+use Rattle.sys_state.specs.Run.{Input, Moment}
+use Rattle.sys_script.specs.declared.event.Event.{Event}
 
 module _ (c : Config) (to : AccessClass) where
   abbrev flows : Device → Bool
@@ -94,6 +96,15 @@ module _ (c : Config) (is : IsConfig c) where
   drive_flows : (to : AccessClass) (k : ℕ) (d : VolumeRow) → k < length c.volumes → does_flow (volume_at d k).class to ≡ true → DriveFlowsInto c (volume_at d k).drive to
   drive_flows to k d within flow = All-from_get_or (λ (v : VolumeRow). v.drive ≡ (volume_at d k).drive → does_flow v.class to ≡ true) c.volumes d
       (λ j inside same. by_order to d j k flow inside within same (cases_order j k))
+
+pub separate_from : (m : Moment) (es : List Event) (n : ℕ) → IsConfig m.config → Fits m.config m.state → IsSeparateFrom m es n
+separate_from m es n is fits =
+    let device : ℕ → Device → Device = λ k d. get_or (devices_of m.config) k d in
+    let volume : ℕ → VolumeRow → VolumeRow = λ k v. get_or m.config.volumes k v in
+    record {
+      lines = λ k d within. line_kept m es n fits (device k d).class is (device k d).line (line_flows m.config is (device k d).class k d within (flows_itself (device k d).class));
+      drives = λ k v within. drive_kept_from m es n fits (volume k v).class (volume k v).drive (drive_flows m.config is (volume k v).class k v within (flows_itself (volume k v).class));
+    }
 
 pub keeps_volumes : KeepsVolumes
 keeps_volumes x is k d within =

@@ -1,5 +1,5 @@
 -- The bytes of lines, and the blocks of drives, when all that doesn't flow into a class was never there.
-use Rattle.std.proofs.Common.{◌≡◌, ℕ, List, [], ◌∷◌, ◌++◌, filter, refl, sym, ap, ◌∙◌, get_or, All, Option, Some, None, option_map, true, true≢false}
+use Rattle.std.proofs.Common.{◌≡◌, ℕ, ◌+◌, List, [], ◌∷◌, ◌++◌, filter, refl, sym, ap, ◌∙◌, get_or, All, Option, Some, None, option_map, true, true≢false}
 use Rattle.std.proofs.lemmas.Bool.{eqb-true}
 use Rattle.vv_class.specs.declared.class.AccessClass.{AccessClass}
 use Rattle.sys_objects.specs.Condition.{IsConfig}
@@ -9,39 +9,25 @@ use Rattle.sys_objects.specs.declared.records.VolumeRow.{VolumeRow}
 use Rattle.sys_purge.proofs.Accepted.{volume_kept}
 use Rattle.sys_purge.proofs.Beside.{index_beside, passes_row}
 use Rattle.sys_purge.proofs.Devices.{DumpFlows, dumps_flow, flows_itself, heard, line_flows}
-use Rattle.sys_purge.proofs.Fits.{Each}
+use Rattle.sys_purge.proofs.Fits.{Each, Fits}
 use Rattle.sys_purge.proofs.Judged.{as_it_is}
 use Rattle.sys_purge.proofs.Kept.{both}
 use Rattle.sys_purge.proofs.Opens.{first_fits, first_seen}
 use Rattle.sys_purge.proofs.Places.{StandsAt, first_stands, place_kept}
 use Rattle.sys_purge.proofs.Runs.{rounds_bytes, rounds_now}
-use Rattle.sys_purge.proofs.Seen.{seen}
 use Rattle.sys_purge.proofs.SeenTransfers.{Volumes}
 use Rattle.sys_purge.proofs.SeenTurns.{seen_rows}
 use Rattle.sys_purge.specs.Events.{purge_events}
 use Rattle.sys_purge.specs.Input.{beside, is_kept, purged}
-use Rattle.sys_purge.specs.Laws.{DriveFlowsInto, KeepsDevices, KeepsDrives, KeepsLines, KeepsShown, LineFlowsInto}
+use Rattle.sys_purge.specs.Laws.{DriveFlowsInto, KeepsDevices, KeepsDrives, KeepsLines, KeepsShown, LineFlowsInto, shown_on}
+use Rattle.sys_purge.specs.Moments.{purged_moment}
 use Rattle.sys_purge.specs.Purge.{purge_config, rank}
-use Rattle.sys_state.specs.Bytes.{blocks_at, devices_of, dump_on, is_on_drive}
+use Rattle.sys_state.specs.Bytes.{blocks_at, devices_of, drive_blocks_from, dump_on, is_on_drive, line_bytes_from, shown_from}
 use Rattle.sys_state.specs.Places.{is_at, place_of}
-use Rattle.sys_state.specs.Run.{Input, first_state, rounds, run}
-use Rattle.sys_state.specs.State.{SystemState, bytes_on}
+use Rattle.sys_state.specs.Run.{Input, Moment, moment_after, opening, rounds_from}
+use Rattle.sys_state.specs.State.{SystemState}
+use Rattle.sys_script.specs.declared.event.Event.{Event}
 use Rattle.vm_state.specs.State.{Guest}
-
-module _ (x : Input) (to : AccessClass) (is : IsConfig x.config) where
-  abbrev first : SystemState
-  first = first_state x.config x.images x.volumes
-
-  -- where a run of the purge leads, and what it shows
-  pub run_now : (run (purged x to)).now ≡ seen x.config to (run x).now
-  run_now =
-      ap (λ (s : SystemState). (rounds (purge_config x.config to) 1 x.rounds (purge_events x.config x.events to) s).now) (first_seen x.config is.held to x.images x.volumes)
-      ∙ rounds_now x.config to 1 x.rounds x.events first (first_fits x.config is.held x.images x.volumes)
-
-  run_bytes : (line : ℕ) → LineFlowsInto x.config line to → bytes_on line (run (purged x to)).puts ≡ bytes_on line (run x).puts
-  run_bytes line flow =
-      ap (λ (s : SystemState). bytes_on line (rounds (purge_config x.config to) 1 x.rounds (purge_events x.config x.events to) s).puts) (first_seen x.config is.held to x.images x.volumes)
-      ∙ rounds_bytes x.config to line (heard x.config line to is flow) 1 x.rounds x.events first (first_fits x.config is.held x.images x.volumes)
 
 -- a dump that is seen
 seen_dump : (c : Config) (to : AccessClass) (line : ℕ) (rows : List GuestRow) → Each (DumpFlows c line to) rows → (gs : List Guest) → dump_on line (seen_rows c to rows) (beside (is_kept to) rows gs) ≡ dump_on line rows gs
@@ -57,12 +43,34 @@ seen_dump c to line (row ∷ rows) h (g ∷ gs) =
     (λ e. both (is_at line row.dump) (λ f. rw (e, f) refl) (λ f. rw (e, f) rest))
     (λ e. both (is_at line row.dump) (λ f. absurd (true≢false (sym (h.0 f) ∙ e))) (λ f. rw (e, f) rest))
 
+-- what is kept of a moment, after the same rounds, and what they show
+module _ (m : Moment) (es : List Event) (n : ℕ) (fits : Fits m.config m.state) (to : AccessClass) where
+  pub moment_kept : moment_after (purged_moment m to) (purge_events m.config es to) n ≡ purged_moment (moment_after m es n) to
+  moment_kept = ap (λ (s : SystemState). record { config = purge_config m.config to; made = m.made + n; state = s }) (rounds_now m.config to (m.made + 1) n es m.state fits)
+
+  module _ (is : IsConfig m.config) (line : ℕ) (flow : LineFlowsInto m.config line to) where
+    pub shown_kept : shown_from (purged_moment m to) (purge_events m.config es to) n line ≡ shown_from m es n line
+    shown_kept = rounds_bytes m.config to line (heard m.config line to is flow) (m.made + 1) n es m.state fits
+
+    pub line_kept : line_bytes_from (purged_moment m to) (purge_events m.config es to) n line ≡ line_bytes_from m es n line
+    line_kept =
+        let dump = ap (λ (k : Moment). dump_on line (seen_rows m.config to m.config.guests) k.state.guests) moment_kept
+        ∙ seen_dump m.config to line m.config.guests (dumps_flow m.config line to flow) (rounds_from m es n).now.guests in
+        λ i. shown_kept i ++ dump i
+
+-- the first moment of a run
+pub opening_kept : (x : Input) (to : AccessClass) → IsConfig x.config → opening (purged x to) ≡ purged_moment (opening x) to
+opening_kept x to is = ap (λ (s : SystemState). record { config = purge_config x.config to; made = 0; state = s }) (first_seen x.config is.held to x.images x.volumes)
+
+module _ (x : Input) (to : AccessClass) (is : IsConfig x.config) where
+  pub opening_fits : Fits x.config (opening x).state
+  opening_fits = first_fits x.config is.held x.images x.volumes
+
+  shown_alike : (line : ℕ) → LineFlowsInto x.config line to → shown_on (purged x to) line ≡ shown_on x line
+  shown_alike line flow = ap (λ (m : Moment). shown_from m (purge_events x.config x.events to) x.rounds line) (opening_kept x to is) ∙ shown_kept (opening x) x.events x.rounds opening_fits to is line flow
+
 pub keeps_lines : KeepsLines
-keeps_lines x to line is flow =
-    let shown = run_bytes x to is line flow in
-    let dump = ap (λ (s : SystemState). dump_on line (seen_rows x.config to x.config.guests) s.guests) (run_now x to is)
-    ∙ seen_dump x.config to line x.config.guests (dumps_flow x.config line to flow) (run x).now.guests in
-    λ i. shown i ++ dump i
+keeps_lines x to line is flow = ap (λ (m : Moment). line_bytes_from m (purge_events x.config x.events to) x.rounds line) (opening_kept x to is) ∙ line_kept (opening x) x.events x.rounds (opening_fits x to is) to is line flow
 
 pub keeps_devices : KeepsDevices
 keeps_devices x is k d within =
@@ -72,7 +80,7 @@ keeps_devices x is k d within =
 pub keeps_shown : KeepsShown
 keeps_shown x is k d within =
     let class : AccessClass = (get_or (devices_of x.config) k d).class in
-    run_bytes x class is (get_or (devices_of x.config) k d).line (line_flows x.config is class k d within (flows_itself class))
+    shown_alike x class is (get_or (devices_of x.config) k d).line (line_flows x.config is class k d within (flows_itself class))
 
 -- the volume on a drive that flows into the class
 module _ (c : Config) (to : AccessClass) (drive : ℕ) (flow : DriveFlowsInto c drive to) where
@@ -94,7 +102,11 @@ module _ (c : Config) (to : AccessClass) (drive : ℕ) (flow : DriveFlowsInto c 
       ap (blocks_at (beside (volume_kept c to) c.volumes vs)) drive_place
       ∙ blocks_kept vs (place_of (is_on_drive drive) c.volumes) (first_stands (is_on_drive drive) (λ (v : VolumeRow). volume_kept c to v ≡ true) c.volumes on_drive_kept)
 
+pub drive_kept_from : (m : Moment) (es : List Event) (n : ℕ) → Fits m.config m.state → (to : AccessClass) (drive : ℕ) → DriveFlowsInto m.config drive to
+    → drive_blocks_from (purged_moment m to) (purge_events m.config es to) n drive ≡ drive_blocks_from m es n drive
+drive_kept_from m es n fits to drive flow =
+    ap (λ (k : Moment). blocks_at k.state.volumes (place_of (is_on_drive drive) (filter (volume_kept m.config to) m.config.volumes))) (moment_kept m es n fits to)
+    ∙ drive_kept m.config to drive flow (rounds_from m es n).now.volumes
+
 pub keeps_drives : KeepsDrives
-keeps_drives x to drive is flow =
-    ap (λ (s : SystemState). blocks_at s.volumes (place_of (is_on_drive drive) (filter (volume_kept x.config to) x.config.volumes))) (run_now x to is)
-    ∙ drive_kept x.config to drive flow (run x).now.volumes
+keeps_drives x to drive is flow = ap (λ (m : Moment). drive_blocks_from m (purge_events x.config x.events to) x.rounds drive) (opening_kept x to is) ∙ drive_kept_from (opening x) x.events x.rounds (opening_fits x to is) to drive flow

@@ -7,7 +7,7 @@ use Rattle.sys_objects.specs.declared.records.Config.{Config}
 use Rattle.sys_objects.specs.declared.records.GuestRow.{GuestRow}
 use Rattle.sys_objects.specs.declared.records.Mount.{Mount as Mounted}
 use Rattle.sys_objects.specs.declared.records.Terminal.{Terminal}
-use Rattle.sys_purge.proofs.Accepted.{terminal_kept, volume_kept}
+use Rattle.sys_purge.proofs.Accepted.{terminal_kept}
 use Rattle.sys_purge.proofs.Beside.{beside_changed, beside_map, beside_set, beside_unchanged, beside_unset, map_changed, map_set, passes_at, passes_row, set_is_changed}
 use Rattle.sys_purge.proofs.Fits.{CommandFits, ConnectFits, Fits, Holds, Pairs, VerdictFits}
 use Rattle.sys_purge.proofs.Judged.{row_kept}
@@ -15,6 +15,7 @@ use Rattle.sys_purge.proofs.Kept.{both}
 use Rattle.sys_purge.proofs.Places.{rank_same}
 use Rattle.sys_purge.specs.Input.{beside, is_kept}
 use Rattle.sys_purge.specs.Judged.{guest_rank, moved_command, moved_verdict, purged_state}
+use Rattle.sys_purge.specs.Moments.{purged_system}
 use Rattle.sys_purge.specs.Purge.{mount_place, purge_config, rank}
 use Rattle.sys_state.specs.Events.{after_verdict, obeyed, reset_by}
 use Rattle.sys_state.specs.Guests.{stopped_by_command}
@@ -38,12 +39,7 @@ module _ (c : Config) (to : AccessClass) where
   seen_mounts rows mss = map (map (mount_place to c.volumes)) (beside (is_kept to) rows mss)
 
   abbrev pub seen : SystemState → SystemState
-  seen s = record {
-    connected = seen_connected c.terminals s.connected;
-    mounts = seen_mounts c.guests s.mounts;
-    guests = beside (is_kept to) c.guests s.guests;
-    volumes = beside (volume_kept c to) c.volumes s.volumes;
-  }
+  seen s = purged_system c to s
 
   -- the server's part is the server's part of what is seen
   pub server_seen : (s : SystemState) → server_of (seen s) ≡ purged_state c to (server_of s)

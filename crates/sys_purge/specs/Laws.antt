@@ -5,9 +5,12 @@ use Rattle.vv_class.specs.Class.{does_flow}
 use Rattle.vv_class.specs.declared.class.AccessClass.{AccessClass}
 use Rattle.sys_objects.specs.Condition.{IsConfig}
 use Rattle.sys_objects.specs.declared.records.Config.{Config}
+use Rattle.sys_purge.specs.Events.{purge_events}
 use Rattle.sys_purge.specs.Input.{purged}
-use Rattle.sys_state.specs.Bytes.{devices_of, drive_blocks, line_bytes, shown_from}
-use Rattle.sys_state.specs.Run.{Input, opening}
+use Rattle.sys_purge.specs.Moments.{purged_moment}
+use Rattle.sys_script.specs.declared.event.Event.{Event}
+use Rattle.sys_state.specs.Bytes.{devices_of, drive_blocks, drive_blocks_from, line_bytes, line_bytes_from, shown_from}
+use Rattle.sys_state.specs.Run.{Input, Moment, opening}
 
 -- each device on the line flows into the class
 abbrev pub LineFlowsInto : Config → ℕ → AccessClass → Type 0
@@ -47,3 +50,13 @@ DevicesDependOnPurges = (x y : Input) (to : AccessClass) → IsConfig x.config �
 abbrev pub VolumesDependOnPurges : Type 0
 VolumesDependOnPurges = (x y : Input) (to : AccessClass) → IsConfig x.config → IsConfig y.config → purged x to ≡ purged y to
     → All (λ v. does_flow v.class to ≡ true → drive_blocks x v.drive ≡ drive_blocks y v.drive) x.config.volumes
+
+-- From a moment on, each device gets the bytes that it gets when all whose class doesn't flow into its own was taken out of the
+-- moment and of the events, and so does each volume.
+pub record IsSeparateFrom (m : Moment) (es : List Event) (n : ℕ) : Type 0 where
+  pub lines : All (λ d. line_bytes_from (purged_moment m d.class) (purge_events m.config es d.class) n d.line ≡ line_bytes_from m es n d.line) (devices_of m.config)
+  pub drives : All (λ v. drive_blocks_from (purged_moment m v.class) (purge_events m.config es v.class) n v.drive ≡ drive_blocks_from m es n v.drive) m.config.volumes
+
+-- the first moment of a purged run is the purge of the first moment
+abbrev pub OpeningsArePurged : Type 0
+OpeningsArePurged = (x : Input) (to : AccessClass) → IsConfig x.config → opening (purged x to) ≡ purged_moment (opening x) to

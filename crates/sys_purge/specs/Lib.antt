@@ -3,7 +3,9 @@ pub mod Events
 pub mod Input
 pub mod Judged
 pub mod Laws
+pub mod Moments
 pub mod Purge
 pub mod ShownEvents
 pub mod ShownInputs
+pub mod ShownMoments
 pub mod ShownPurge

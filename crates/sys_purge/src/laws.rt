@@ -2,7 +2,7 @@ ghost use Rattle.sys_objects.specs.Condition.{IsConfig};
 ghost use Rattle.sys_objects.specs.declared.records.Config.{Config};
 ghost use Rattle.sys_purge.specs.Adding.{GuestsAddNoBlocks, GuestsAddNothing};
 ghost use Rattle.sys_purge.specs.Judged.{KeepsVerdicts};
-ghost use Rattle.sys_purge.specs.Laws.{DevicesDependOnPurges, KeepsDevices, KeepsDrives, KeepsLines, KeepsShown, KeepsVolumes, VolumesDependOnPurges};
+ghost use Rattle.sys_purge.specs.Laws.{DevicesDependOnPurges, KeepsDevices, KeepsDrives, KeepsLines, KeepsShown, KeepsVolumes, OpeningsArePurged, VolumesDependOnPurges};
 ghost use Rattle.sys_purge.specs.Purge.{purge_config};
 ghost use Rattle.vv_class.specs.declared.class.AccessClass.{AccessClass};
 
@@ -62,4 +62,9 @@ pub fn a_guest_more_adds_nothing()
 /// A guest more, whose class doesn't flow into a volume's, changes no block of that volume.
 pub fn a_guest_more_adds_no_blocks()
     ensures { GuestsAddNoBlocks }
+{}
+
+/// A run whose input is purged begins with the purge of the run's first moment.
+pub fn a_purged_run_begins_with_a_purged_moment()
+    ensures { OpeningsArePurged }
 {}

@@ -11,7 +11,7 @@ pub use events::purge_events;
 pub use laws::{
     a_device_keeps_its_bytes, a_device_keeps_what_it_is_shown, a_guest_more_adds_no_blocks,
     a_guest_more_adds_nothing, a_purge_keeps_drives, a_purge_keeps_lines, a_purge_keeps_verdicts,
-    a_volume_keeps_its_blocks, devices_depend_on_what_flows, purged_is_accepted,
-    volumes_depend_on_what_flows,
+    a_purged_run_begins_with_a_purged_moment, a_volume_keeps_its_blocks,
+    devices_depend_on_what_flows, purged_is_accepted, volumes_depend_on_what_flows,
 };
 pub use purge::purge_config;

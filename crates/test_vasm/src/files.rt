@@ -1,7 +1,7 @@
 use std::alloc::Global;
 use std::process::Abort;
 use std::test::Fail;
-use vasm_files::{Answer, asm, dis, fault_text};
+use vvmm_files::{Answer, asm, dis, fault_text};
 use vasm_text::{AsmFault, AsmKind};
 use vv_base::{FileName, file_name};
 use vv_io::{MemLine, MemShelf};

@@ -217,3 +217,23 @@ fn an_entry_that_the_loop_stores_is_looked_up(rt: HostRuntime) -> Result<(), Fai
     check(&rt, rt.alloc(), (&before, &after), (SAME, SAME), 4, &seen)?;
     Ok(())
 }
+
+/// The loop MOVPSL (R2); PROBER (R1),#4,(R1); BRB.
+static OF_STATUS: [At; 2] = [(0x210, 0x610C_62DC), (0x214, 0xF811_6104)];
+
+#[test]
+fn movpsl_and_probe_make_their_pages_known(rt: HostRuntime) -> Result<(), Fail> {
+    let mut cpu = machine(rt.alloc())?;
+    for long in &OF_STATUS {
+        put(&mut cpu, *long);
+    }
+    let mut w = world(3, 7, 0xA00);
+    w.r[15] = 0x210;
+    cpu.load_world(&w);
+    let exit = cpu.run(12);
+    assert!(rt; exit == Exit::Budget);
+    assert!(rt; cpu.known_place(0xA00, true) == Some(0xA00));
+    assert!(rt; cpu.known_place(0x800, false) == Some(0x800));
+    assert!(rt; cpu.known_place(0xC00, false).is_none());
+    Ok(())
+}

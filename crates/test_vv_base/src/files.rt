@@ -1,11 +1,12 @@
 use std::cell::Cell;
 use std::process::Abort;
+use std::rc::Rc;
 use std::rt::Clock;
 use std::test::Fail;
 use std::time::Duration;
 use std::{env, fs, io, process};
 use vv_base::{FileName, file_name};
-use vv_edge::{FileDrive, FileLine, FileShelf, Identity, InputKeys, OutSink, Ticker};
+use vv_edge::{Failures, FileDrive, FileLine, FileShelf, Identity, InputKeys, OutSink, Ticker};
 use vv_io::{
     Drive, DriveFault, Keyboard, Line, LineFault, MemLine, Progress, Shelf, ShelfFault, Sink,
     SinkFault,
@@ -103,7 +104,8 @@ fn a_folder_takes_no_line(rt: HostRuntime) -> Result<(), Fail> {
 /// The drive of a path, where something is there.
 fn drive_of(rt: &HostRuntime, path: &str) -> Result<Option<FileDrive<HostRuntime>>, Fail> {
     let path = String::from_str(rt.alloc(), path)?;
-    Ok(FileDrive::look(rt.clone()?, path, &[]))
+    let notes = Rc::new(rt.alloc(), Cell::new([None; 16]))?;
+    Ok(FileDrive::look(rt.clone()?, path, &[], None, Failures::new(0, notes)))
 }
 
 /// A block is stored, and both are read again.

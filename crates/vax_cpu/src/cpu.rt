@@ -1,9 +1,10 @@
-ghost use Rattle.std.specs.Prelude.{◌≡◌, ◌*◌, ◌≤◌, length, sum, take, IfOk, MatchOption, OnOk};
+ghost use Rattle.std.specs.Prelude.{◌≡◌, ◌*◌, ◌≤◌, length, sum, take, IfOk, IfSome, MatchOption, Ok, OnOk};
 ghost use Rattle.vax_hw.specs.Machine.{Machine, seen_psl, zeros};
 ghost use Rattle.vax_hw.specs.Real.{in_kernel, real};
 ghost use Rattle.vax_operand.specs.Left.{operands_with_registers};
-ghost use Rattle.vax_paged.specs.Paged.{paged};
+ghost use Rattle.vax_paged.specs.Paged.{paged, placed};
 ghost use Rattle.vax_table.specs.Interaction.{outcome};
+ghost use Rattle.vax_table.specs.Troubles.{intent_of};
 ghost use Rattle.vax_table.specs.Whole.{instruction};
 ghost use Rattle.vax_at_once.specs.Completed.{EndsWith, RunsOn, settled_meaning, with_registers};
 ghost use Rattle.vax_cpu.specs.Outcomes.{attempted};
@@ -63,6 +64,15 @@ impl Cpu {
             },
         })
     }
+
+    /// The place of an address, if its page is known and open: the machine does not walk the page tables for it then.
+    #[tactic(auto, using(vax_paged::proofs::Knowing::known_placed))]
+    pub fn known_place(&self, va: u32, write: bool) -> Option<usize>
+        ensures { IfSome result (λ place. placed self.now.memory self.now.world (intent_of write) va ≡ Ok place) }
+    {
+        let missed = Cell::new(u32::MAX);
+        self.state.mapped(&missed).place(va, write)
+    }
 }
 
 /// The opcode of the instruction at PC, which retires by the plan, or why it doesn't retire, by the page tables. A page
@@ -108,8 +118,6 @@ fn attempt_next(
         if let Some(attempt) = attempt_kept(state, missed, kept, o, before, plan) {
             return attempt;
         }
-        // A page that only traps missed isn't looked up: others of its instructions will miss it
-        missed.set(u32::MAX);
     }
     attempt_walked(state, missed, code, o, before, plan)
 }

@@ -1,9 +1,10 @@
--- What is told of drives that can't be used.
-use Rattle.std.specs.Prelude.{ℕ, List, [], ◌∷◌, ◌++◌, codes, decimal, Option, Some, None}
+-- What is told of devices beside an answer.
+use Rattle.std.specs.Prelude.{ℕ, List, [], ◌∷◌, ◌++◌, ◌==◌, Bool, true, false, if◌then◌else◌, codes, decimal, Option, Some, None}
 use Rattle.std.specs.List.{flat_map}
 use Rattle.vv_edge.specs.declared.stat.Flaw.{Flaw}
 use Rattle.vv_edge.specs.declared.stat.Flaw.TheVariants.{Untold, Link, NoFile, OtherName, Shared}
-use Rattle.vv_edge.specs.declared.telling.FlawedDrive.{FlawedDrive}
+use Rattle.vv_edge.specs.declared.telling.Note.{Note}
+use Rattle.vv_edge.specs.declared.telling.Note.TheVariants.{Flawed, Wanted, Line, Audit, Drive}
 
 abbrev pub flaw_text : Flaw → List ℕ
 flaw_text Untold = codes " cannot be looked at"
@@ -12,14 +13,32 @@ flaw_text NoFile = codes " is no file"
 flaw_text OtherName = codes " is a file that has another name too"
 flaw_text Shared = codes " is a file that is used otherwise"
 
--- a line on one drive, with its end
-abbrev pub drive_note : FlawedDrive → List ℕ
-drive_note drive = ((codes "vvmm: drive " ++ decimal drive.number) ++ flaw_text drive.flaw) ++ 10 ∷ []
+-- what a line that failed is called
+abbrev pub failed_line : ℕ → Option ℕ → Note
+failed_line line None = Line line
+failed_line line (Some audit) = if line == audit then Audit line else Line line
 
--- nothing on one that can be used
-abbrev pub note_if : Option FlawedDrive → List ℕ
+-- the note on a line, where it failed
+abbrev pub line_note : ℕ → Bool → Option ℕ → Option Note
+line_note line false audit = None
+line_note line true audit = Some (failed_line line audit)
+
+-- a number and what is said after it
+abbrev pub with_number : List ℕ → ℕ → List ℕ → List ℕ
+with_number before number after = (before ++ decimal number) ++ after
+
+-- a note without its end
+abbrev pub note_text : Note → List ℕ
+note_text (Flawed drive flaw) = with_number (codes "vvmm: drive ") drive (flaw_text flaw)
+note_text (Wanted drive blocks) = with_number (with_number (codes "vvmm: drive ") drive (codes " must have ")) blocks (codes " blocks of 512 bytes")
+note_text (Line line) = with_number (codes "vvmm: line ") line (codes " failed")
+note_text (Audit line) = with_number (codes "vvmm: line ") line (codes ", the audit, failed")
+note_text (Drive d) = with_number (with_number (with_number (codes "vvmm: drive ") d.drive (codes " failed: ")) d.stored (codes " of its ")) d.blocks (codes " blocks were stored")
+
+-- a note as a line, if there is one
+abbrev pub note_if : Option Note → List ℕ
 note_if None = []
-note_if (Some drive) = drive_note drive
+note_if (Some note) = note_text note ++ 10 ∷ []
 
-abbrev pub notes_of : List (Option FlawedDrive) → List ℕ
-notes_of drives = flat_map note_if drives
+abbrev pub notes_of : List (Option Note) → List ℕ
+notes_of notes = flat_map note_if notes

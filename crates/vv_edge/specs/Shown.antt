@@ -6,6 +6,7 @@ use Rattle.vv_edge.specs.Found.{flaw_of, is_as_shown, is_removable}
 use Rattle.vv_edge.specs.Notes.{notes_of}
 use Rattle.vv_edge.specs.declared.stat.Found.{Found}
 use Rattle.vv_edge.specs.declared.stat.Flaw.TheVariants as flaws
+use Rattle.vv_edge.specs.declared.telling.Note.TheVariants as notes
 use Rattle.vv_edge.specs.declared.stat.Kind.TheVariants.{File, Link, Other}
 use Rattle.vv_edge.specs.declared.stat.Identity.{Identity}
 use Rattle.vv_io.specs.declared.shelf.ShelfFault.TheVariants.{Missing, Failed, NoMemory}
@@ -83,6 +84,13 @@ a_line_that_was_cut = refl
 a_line_of_two_names : is_as_shown (record good { names = 2 }) 1024 ≡ false
 a_line_of_two_names = refl
 
-two_notes : notes_of (None ∷ Some (record { number = 0; flaw = flaws.Link }) ∷ None ∷ Some (record { number = 15; flaw = flaws.NoFile }) ∷ [])
+two_notes : notes_of (None ∷ Some (notes.Flawed 0 flaws.Link) ∷ None ∷ Some (notes.Flawed 15 flaws.NoFile) ∷ [])
     ≡ (((codes "vvmm: drive " ++ decimal 0) ++ codes " is a link") ++ 10 ∷ []) ++ ((((codes "vvmm: drive " ++ decimal 15) ++ codes " is no file") ++ 10 ∷ []) ++ [])
 two_notes = refl
+
+a_drive_that_failed : notes_of (Some (notes.Drive (record { drive = 3; stored = 5; blocks = 8 })) ∷ [])
+    ≡ ((((((((codes "vvmm: drive " ++ decimal 3) ++ codes " failed: ") ++ decimal 5) ++ codes " of its ") ++ decimal 8) ++ codes " blocks were stored") ++ 10 ∷ []) ++ [])
+a_drive_that_failed = refl
+
+the_audit_failed : notes_of (Some (notes.Audit 4) ∷ []) ≡ ((((codes "vvmm: line " ++ decimal 4) ++ codes ", the audit, failed") ++ 10 ∷ []) ++ [])
+the_audit_failed = refl

@@ -2,8 +2,11 @@ ghost use Rattle.std.specs.Prelude.{◌≡◌, None};
 
 use crate::found::{check_same, found_of, unfit};
 use crate::stat::{Flaw, Found, Identity, blocks_in, flaw_of};
+use crate::telling::{DriveNotes, Note, Stored};
+use std::cell::Cell;
 use std::fs::{OpenFile, OpenOptions};
 use std::io::{ErrorKind, Read, Seek, SeekFrom, Write};
+use std::rc::Rc;
 use std::rt::Files;
 use std::{fs, io};
 use vv_io::{Drive, DriveFault};
@@ -15,14 +18,53 @@ pub struct FileDrive<R: Files + Drop> {
     files: R,
     path: String,
     found: Result<Found, Flaw>,
+    /// A descriptor that is held for the file.
+    place: Option<R::File>,
     file: Option<R::File>,
     blocks: u32,
+    /// How many blocks were stored.
+    stored: u32,
+    failures: Failures,
     faults: u64,
 }
 
+/// Where it is noted that a drive failed.
+#[derive(Drop)]
+pub struct Failures {
+    drive: u8,
+    notes: Rc<Cell<DriveNotes>>,
+}
+
+impl Failures {
+    /// Those of a drive, among notes on all.
+    pub fn new(drive: u8, notes: Rc<Cell<DriveNotes>>) -> Self {
+        Failures { drive, notes }
+    }
+
+    /// Notes that the drive failed after so many of its blocks were stored.
+    fn note(&self, stored: u32, blocks: u32) {
+        let mut notes = self.notes.get();
+        if let Some(place) = notes.get_mut(usize::from(self.drive)) {
+            let drive = self.drive;
+            *place = Some(Note::Drive(Stored {
+                drive,
+                stored,
+                blocks,
+            }));
+        }
+        self.notes.set(notes);
+    }
+}
+
 impl<R: Files + Drop> FileDrive<R> {
-    /// What is under a name, beside the files that are taken; None where nothing does.
-    pub fn look(files: R, path: String, taken: &[Identity]) -> Option<Self> {
+    /// What is under a name, beside the files that are taken; None where nothing does. The place is given up for the file.
+    pub fn look(
+        files: R,
+        path: String,
+        taken: &[Identity],
+        place: Option<R::File>,
+        failures: Failures,
+    ) -> Option<Self> {
         let found = match fs::symlink_metadata(&files, path.as_str()) {
             Ok(metadata) => judged(&found_of(&metadata), taken),
             Err(error) if error.kind() == ErrorKind::NotFound => {
@@ -35,8 +77,11 @@ impl<R: Files + Drop> FileDrive<R> {
             files,
             path,
             found,
+            place,
             file: None,
             blocks,
+            stored: 0,
+            failures,
             faults: 0,
         })
     }
@@ -61,6 +106,7 @@ impl<R: Files + Drop> FileDrive<R> {
             let mut options = OpenOptions::new();
             options.read(true);
             options.write(true);
+            self.place = None;
             self.file = Some(options.open(&self.files, self.path.as_str())?);
         }
         Ok(())
@@ -160,6 +206,7 @@ impl<R: Files + Drop> Drive for FileDrive<R> {
             }
             Err(_) => {
                 self.faults = self.faults.saturating_add(1);
+                self.failures.note(self.stored, self.blocks);
                 Err(DriveFault)
             }
         }
@@ -167,9 +214,13 @@ impl<R: Files + Drop> Drive for FileDrive<R> {
 
     fn set(&mut self, block: u32, from: &[u8; 512]) -> Result<(), DriveFault> {
         match self.write(block, from) {
-            Ok(()) => Ok(()),
+            Ok(()) => {
+                self.stored = self.stored.saturating_add(1);
+                Ok(())
+            }
             Err(_) => {
                 self.faults = self.faults.saturating_add(1);
+                self.failures.note(self.stored, self.blocks);
                 Err(DriveFault)
             }
         }
@@ -180,6 +231,7 @@ impl<R: Files + Drop> Drive for FileDrive<R> {
             Ok(()) => Ok(()),
             Err(_) => {
                 self.faults = self.faults.saturating_add(1);
+                self.failures.note(self.stored, self.blocks);
                 Err(DriveFault)
             }
         }

@@ -16,6 +16,8 @@ pub struct FileLine<R: Files + Drop> {
     path: String,
     /// Whether something is under the name that isn't this line's and can't be removed.
     is_blocked: bool,
+    /// A descriptor that is held for the file.
+    place: Option<R::File>,
     file: Option<R::File>,
     /// How many bytes were written.
     shown: u64,
@@ -31,6 +33,7 @@ impl<R: Files + Drop> FileLine<R> {
             files,
             path,
             is_blocked: false,
+            place: None,
             file: None,
             shown: 0,
             is_away: false,
@@ -39,18 +42,24 @@ impl<R: Files + Drop> FileLine<R> {
     }
 
     /// A line that has shown nothing, whose name is free: the file of an earlier run is removed. What isn't a plain file, is
-    /// taken or can't be removed stays, and the line fails.
-    pub fn cleared(files: R, path: String, taken: &[Identity]) -> Self {
+    /// taken or can't be removed stays, and the line fails. The place is given up for the file.
+    pub fn cleared(files: R, path: String, taken: &[Identity], place: Option<R::File>) -> Self {
         let is_blocked = clear(&files, path.as_str(), taken).is_err();
         FileLine {
             files,
             path,
             is_blocked,
+            place,
             file: None,
             shown: 0,
             is_away: false,
             faults: 0,
         }
+    }
+
+    /// Whether it has failed.
+    pub fn has_failed(&self) -> bool {
+        self.faults > 0
     }
 
     /// Writes all of the bytes after those of before. The file is new: nothing was under its name.
@@ -61,6 +70,7 @@ impl<R: Files + Drop> FileLine<R> {
             return Err(unfit());
         }
         if self.file.is_none() {
+            self.place = None;
             self.file = Some(create(&self.files, self.path.as_str())?);
         }
         if let Some(file) = &mut self.file {

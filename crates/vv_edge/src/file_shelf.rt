@@ -8,7 +8,7 @@ use std::fs;
 use std::fs::OpenFile;
 use std::io::Read;
 use std::rt::Files;
-use vv_base::FileName;
+use vv_base::{FileName, file_name};
 use vv_io::{Shelf, ShelfFault};
 
 /// The most bytes of a file.
@@ -19,6 +19,8 @@ const FILE_LIMIT: usize = 16_777_216;
 pub struct FileShelf<'a, R> {
     files: &'a R,
     drives: &'a [Identity],
+    /// The last file that failed.
+    unread: FileName,
     faults: u64,
 }
 
@@ -28,8 +30,23 @@ impl<'a, R: Files> FileShelf<'a, R> {
         FileShelf {
             files,
             drives,
+            unread: FileName::new(),
             faults: 0,
         }
+    }
+
+    /// The last file that failed; an empty name where none has.
+    pub fn unread(&self) -> FileName {
+        self.unread.copied()
+    }
+
+    /// The bytes of a plain file, for what is told of it.
+    pub fn look_into(&self, alloc: Global, path: &str) -> Option<Vec<u8>> {
+        let metadata = fs::metadata(self.files, path).ok()?;
+        if !metadata.is_file() {
+            return None;
+        }
+        self.read(alloc, &file_name(path.as_bytes())?).ok()
     }
 
     /// Whether an open file is a drive's, by whatever name.
@@ -74,6 +91,7 @@ impl<R: Files> Shelf for FileShelf<'_, R> {
         match self.read(alloc, name) {
             Ok(bytes) => Ok(bytes),
             Err(fault) => {
+                self.unread = name.copied();
                 self.faults = self.faults.saturating_add(1);
                 Err(fault)
             }

@@ -18,14 +18,14 @@ mod telling;
 mod ticker;
 
 pub use faults::shelf_fault;
-pub use file_drive::FileDrive;
+pub use file_drive::{Failures, FileDrive};
 pub use file_line::FileLine;
 pub use file_shelf::FileShelf;
 pub use input_keys::InputKeys;
-pub use opening::{Flawed, Streams, drive_of, folder_of, lines_of, taken_at_first};
+pub use opening::{Opening, Streams, are_there, line_notes};
 pub use out_sink::OutSink;
-pub use standard::{Folder, hold_folder, hold_standard, identity_of};
+pub use standard::{Folder, hold_folder, hold_places, hold_standard, identity_of};
 pub use stat::{Flaw, Found, Identity, Kind, blocks_in, flaw_of, is_as_shown, is_removable};
 pub use syncing::{sync_drives, sync_lines};
-pub use telling::{FlawedDrive, notes};
+pub use telling::{DriveNotes, LineNotes, Note, Stored, line_note, note_if, notes};
 pub use ticker::Ticker;

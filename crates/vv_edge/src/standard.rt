@@ -4,6 +4,7 @@ use std::fs::{File, TryLockError};
 use std::os::fd::AsRawFd;
 use std::rt::Files;
 use std::{fs, io};
+use vv_base::NoMemory;
 
 /// Opens `/dev/null` for reading as often as one of the three standard descriptors is closed, so that no file that is opened
 /// later becomes one of them. They stay open as long as what is given back.
@@ -17,6 +18,22 @@ pub fn hold_standard(files: &impl Files<File = File>) -> io::Result<[Option<File
         held[place] = Some(file);
     }
     Ok(held)
+}
+
+/// Opens `/dev/null` so many times: a line or a drive gives one up as it opens its file, so that none uses up another's. One more
+/// can be had meanwhile, for a file that is open for a moment. None where the system refuses that.
+pub fn hold_places(rt: &HostRuntime, count: u8) -> Result<Option<Vec<File>>, NoMemory> {
+    let mut places = Vec::new(rt.alloc());
+    for _ in 0..count {
+        match fs::open(rt, "/dev/null") {
+            Ok(place) => places.push(place)?,
+            Err(_) => return Ok(None),
+        }
+    }
+    match fs::open(rt, "/dev/null") {
+        Ok(_) => Ok(Some(places)),
+        Err(_) => Ok(None),
+    }
 }
 
 /// Whether this program alone uses the folder's lines and drives, as long as it has this.
@@ -43,8 +60,11 @@ impl Folder {
     }
 }
 
-/// Locks the folder that the program runs in. The lock ends with the program.
-pub fn hold_folder(files: &impl Files<File = File>) -> Folder {
+/// Locks the folder that the program runs in, where it needs that. The lock ends with the program.
+pub fn hold_folder(files: &impl Files<File = File>, is_needed: bool) -> Folder {
+    if !is_needed {
+        return Folder::Unneeded;
+    }
     let Ok(folder) = fs::open(files, ".") else {
         return Folder::Unlocked;
     };

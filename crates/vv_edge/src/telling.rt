@@ -1,23 +1,55 @@
-ghost use Rattle.std.specs.Prelude.{◌≡◌, ◌≤◌, length};
-ghost use Rattle.vv_edge.specs.Notes.{drive_note, flaw_text, note_if, notes_of};
+ghost use Rattle.std.specs.Prelude.{◌≡◌, ◌≤◌, ◌+◌, ◌*◌, ◌++◌, decimal, length};
+ghost use Rattle.vv_edge.specs.Notes.{flaw_text, line_note, note_if, note_text, notes_of};
 
 use crate::stat::Flaw;
 use vv_base::{Text, decimal};
 
-/// A drive that can't be used, and why.
+/// How many blocks of a drive were stored, from its first on, and how many it has.
 #[derive(Clone, Copy, Debug, PartialEq, Eq)]
-pub struct FlawedDrive {
-    pub number: u8,
-    pub flaw: Flaw,
+pub struct Stored {
+    pub drive: u8,
+    pub stored: u32,
+    pub blocks: u32,
 }
 
-/// Notes on drives, a line each.
-pub type Notes = Text<2048>;
+/// What is told of a device beside an answer.
+#[derive(Clone, Copy, Debug, PartialEq, Eq)]
+pub enum Note {
+    /// A drive can't be used.
+    Flawed(u8, Flaw),
+    /// A drive must have so many blocks.
+    Wanted(u8, u32),
+    /// A line failed.
+    Line(u8),
+    /// The audit's line failed.
+    Audit(u8),
+    /// A drive failed.
+    Drive(Stored),
+}
+
+/// Notes on drives, by their numbers.
+pub type DriveNotes = [Option<Note>; 16];
+
+/// Notes on lines, by their numbers.
+pub type LineNotes = [Option<Note>; 32];
+
+/// The note on a line, where it failed.
+pub fn line_note(line: u8, has_failed: bool, audit: Option<u8>) -> Option<Note>
+    ensures { result ≡ line_note line has_failed audit }
+{
+    if !has_failed {
+        return None;
+    }
+    match audit {
+        Some(audit) if audit == line => Some(Note::Audit(line)),
+        _ => Some(Note::Line(line)),
+    }
+}
 
 /// What a flaw is called after a drive's number.
 fn flaw_text(flaw: Flaw) -> &'static [u8]
     ensures is { result.now ≡ flaw_text flaw }
-    ensures short { length result.now ≤ 64 }
+    ensures short { length result.now ≤ 40 }
 {
     match flaw {
         Flaw::Untold => b" cannot be looked at",
@@ -28,36 +60,72 @@ fn flaw_text(flaw: Flaw) -> &'static [u8]
     }
 }
 
-fn note(drive: FlawedDrive) -> Text<128>
-    ensures is { result ≡ drive_note drive }
-    ensures short { length result ≤ 100 }
+/// Appends a number and a text.
+fn count(text: &mut Text<128>, number: u32, after: &[u8])
+    requires { length text.old + length after.now ≤ 108 }
+    ensures is { text.new ≡ (text.old ++ decimal number) ++ after.now }
+    ensures short { length text.new ≤ length text.old + length after.now + 20 }
+{
+    text.append(decimal(u64::from(number)).bytes());
+    text.append(after);
+}
+
+/// A note without its end.
+fn note_text(note: Note) -> Text<128>
+    ensures is { result ≡ note_text note }
+    ensures short { length result ≤ 120 }
 {
     let mut text = Text::new();
-    text.append(b"vvmm: drive ");
-    text.append(decimal(u64::from(drive.number)).bytes());
-    text.append(flaw_text(drive.flaw));
+    match note {
+        Note::Flawed(drive, flaw) => {
+            text.append(b"vvmm: drive ");
+            count(&mut text, u32::from(drive), flaw_text(flaw));
+        }
+        Note::Wanted(drive, blocks) => {
+            text.append(b"vvmm: drive ");
+            count(&mut text, u32::from(drive), b" must have ");
+            count(&mut text, blocks, b" blocks of 512 bytes");
+        }
+        Note::Line(line) => {
+            text.append(b"vvmm: line ");
+            count(&mut text, u32::from(line), b" failed");
+        }
+        Note::Audit(line) => {
+            text.append(b"vvmm: line ");
+            count(&mut text, u32::from(line), b", the audit, failed");
+        }
+        Note::Drive(drive) => {
+            text.append(b"vvmm: drive ");
+            count(&mut text, u32::from(drive.drive), b" failed: ");
+            count(&mut text, drive.stored, b" of its ");
+            count(&mut text, drive.blocks, b" blocks were stored");
+        }
+    }
+    text
+}
+
+/// A note as a line, if there is one.
+pub fn note_if(note: &Option<Note>) -> Text<128>
+    ensures is { result ≡ note_if note.now }
+    ensures short { length result ≤ 128 }
+{
+    let Some(note) = note else {
+        return Text::new();
+    };
+    let mut text = note_text(*note);
     text.append(b"\n");
     text
 }
 
-/// The note on a drive, if it can't be used.
-fn note_if(drive: &Option<FlawedDrive>) -> Text<128>
-    ensures is { result ≡ note_if drive.now }
-    ensures short { length result ≤ 100 }
-{
-    match drive {
-        Some(drive) => note(*drive),
-        None => Text::new(),
-    }
-}
-
-/// What is told of drives that can't be used, in their order.
-pub fn notes(drives: &[Option<FlawedDrive>; 16]) -> Notes
-    ensures { result ≡ notes_of drives.now }
+/// Notes in their order, a line each.
+pub fn notes(list: &[Option<Note>]) -> Text<4096>
+    requires { length list.now ≤ 32 }
+    ensures is { result ≡ notes_of list.now }
+    ensures short { length result ≤ 128 * length list.now }
 {
     let mut text = Text::new();
-    for drive in drives {
-        text.append(note_if(drive).bytes());
+    for note in list {
+        text.append(note_if(note).bytes());
     }
     text
 }

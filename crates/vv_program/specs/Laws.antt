@@ -3,7 +3,7 @@ use Rattle.std.specs.Prelude.{◌≡◌, Option}
 use Rattle.sys_live.specs.Operator.{Operator}
 use Rattle.vvmm_call.specs.Answer.{Outside, Says}
 use Rattle.vvmm_call.specs.Devices.{devices_needed}
-use Rattle.vvmm_call.specs.Words.{Wanted}
+use Rattle.vvmm_files.specs.Words.{Wanted}
 use Rattle.vvmm_call.specs.declared.devices.Devices.{Devices}
 use Rattle.vvmm_call.specs.declared.devices.Devices.TheVariants.{Nothing, Lines, LinesAndDrives}
 use Rattle.vvmm_call.specs.declared.status.Status.{Status}

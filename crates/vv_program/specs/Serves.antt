@@ -4,7 +4,7 @@ use Rattle.vv_io.specs.Blocks.{SeenDrive}
 use Rattle.vv_io.specs.Lines.{Seen}
 use Rattle.sys_live.specs.Operator.{Operator}
 use Rattle.vvmm_call.specs.Answer.{Outside, Says}
-use Rattle.vvmm_call.specs.Words.{Wanted}
+use Rattle.vvmm_files.specs.Words.{Wanted}
 use Rattle.vvmm_call.specs.declared.status.Status.{Status}
 use Rattle.vvmm_call.specs.declared.status.Status.TheVariants.{Done, OutFault, KeyFault, Device as DeviceFault}
 use Rattle.vv_edge.specs.Syncing.{SyncsDrives, SyncsLines}

@@ -1,6 +1,6 @@
 ghost use Rattle.std.specs.Prelude.{◌≡◌, map, string_bytes};
 ghost use Rattle.std.specs.Option.{option_map};
-ghost use Rattle.vv_program.specs.Asked.{text_asked, words_status};
+ghost use Rattle.vv_program.specs.Asked.{files_named, text_asked, words_status};
 
 use std::io::ErrorKind;
 use vvmm_call::Status;
@@ -48,6 +48,16 @@ pub fn text_asked(words: &[String]) -> Option<&'static str>
         Some(VERSION)
     } else {
         None
+    }
+}
+
+/// The words that name files, where the command has lines: all but its name and the number at its end.
+pub fn files_named(words: &[String]) -> &[String]
+    ensures { result.now ≡ files_named words.now }
+{
+    match words {
+        [_, names @ .., _] => names,
+        _ => &[],
     }
 }
 

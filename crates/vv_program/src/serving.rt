@@ -1,7 +1,7 @@
 ghost use Rattle.std.specs.Prelude.{◌≡◌, ◌*◌, length, map, string_bytes, vec_len};
 ghost use Rattle.sys_system.specs.Devices.{device_of};
 ghost use Rattle.vv_program.specs.Serves.{ServesCall, lower, synced_status};
-ghost use Rattle.vvmm_call.specs.Words.{wanted};
+ghost use Rattle.vvmm_files.specs.Words.{wanted};
 
 use std::alloc::Global;
 use sys_system::Device;

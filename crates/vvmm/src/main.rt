@@ -1,17 +1,20 @@
 //! The program: guests on one simulated VAX, each as if alone on a private virtual VAX.
 #![tactic(auto)]
 
+use std::alloc::Global;
 use std::env;
-use std::io::{ErrorKind, Input, IsTerminal};
+use std::io::{ErrorKind, Input};
 use std::process::ExitCode;
 use vax_cpu::Cpu;
 use vv_base::NoMemory;
 use vv_edge::{
-    FileShelf, Flawed, Folder, InputKeys, Streams, Ticker, drive_of, folder_of, hold_standard,
-    lines_of, taken_at_first,
+    FileLine, FileShelf, InputKeys, Opening, Streams, Ticker, are_there, hold_standard, line_notes,
 };
-use vv_io::{Drive, EmptyDrive};
-use vv_program::{conclude, serve, text_asked, words_status};
+use vv_io::{Drive, EmptyDrive, LineList};
+use vv_program::{
+    Told, audit_line, conclude, files_named, refused_line, serve, text_asked, told_word,
+    wanted_drive, words_status,
+};
 pub use vvmm_call::vvmm_run;
 use vvmm_call::{Devices, Status, close, devices_of};
 
@@ -35,38 +38,73 @@ fn given_words(rt: &HostRuntime) -> Result<Vec<String>, ErrorKind> {
     Ok(words)
 }
 
+/// How many lines and drives there may be.
+fn places_of(devices: Devices) -> u8 {
+    match devices {
+        Devices::Nothing => 0,
+        Devices::Lines => 32,
+        Devices::LinesAndDrives => 48,
+    }
+}
+
+/// What people at a terminal are told beside an answer.
+fn told_of(
+    alloc: Global,
+    words: &[String],
+    status: &Status,
+    shelf: &FileShelf<'_, HostRuntime>,
+    lines: &LineList<FileLine<HostRuntime>>,
+    opening: &Opening,
+) -> Told {
+    let word = match told_word(status) {
+        Some(place) => words.get(place),
+        None => None,
+    };
+    let file = match word {
+        Some(word) => shelf.look_into(alloc, word.as_str()),
+        None => None,
+    };
+    let text = match &file {
+        Some(text) => text.as_slice(),
+        None => &[],
+    };
+    Told {
+        flawed: opening.flawed(),
+        wanted: wanted_drive(alloc, text, status),
+        lines: line_notes(lines, audit_line(alloc, text, status)),
+        drives: opening.failed(),
+        unread: shelf.unread(),
+        line: refused_line(text, status),
+    }
+}
+
 /// Runs the call over a machine, files and standard streams.
 fn run(
     rt: &HostRuntime,
     words: &[String],
     streams: &mut Streams,
-    flawed: &mut Flawed,
+    told: &mut Told,
 ) -> Result<Status, NoMemory> {
     let alloc = rt.alloc();
     let devices = devices_of(words);
-    let has_lines = devices != Devices::Nothing;
-    let folder = folder_of(rt, has_lines, streams);
-    if matches!(folder, Folder::Busy) {
+    let Some(mut opening) = Opening::begin(rt, words, places_of(devices), streams)? else {
         return Ok(Status::ShelfFault);
-    }
-    let mut taken = taken_at_first(rt, words, streams)?;
-    let count = taken.len();
+    };
     let mut machine = Cpu::new(alloc, PAGES)?;
-    let mut lines = lines_of(rt, has_lines, &taken, streams)?;
-    let has_drives = devices == Devices::LinesAndDrives;
+    let are_shown_on = devices != Devices::Nothing && are_there(rt, files_named(words));
+    let mut lines = opening.lines(rt, are_shown_on, streams)?;
     let mut drives: Vec<Box<dyn Drive>> = Vec::new(alloc);
     for number in 0..16u8 {
-        match drive_of(rt, number, has_drives, &mut taken, flawed, streams)? {
+        match opening.drive(rt, number, devices == Devices::LinesAndDrives, streams)? {
             Some(drive) => drives.push(Box::new(alloc, drive)?)?,
             None => drives.push(Box::new(alloc, EmptyDrive)?)?,
         }
     }
-    let mut shelf = FileShelf::new(rt, taken.get(count..).unwrap_or(&[]));
+    let mut shelf = FileShelf::new(rt, opening.drives());
     let mut keyboard = InputKeys::new(rt.reader());
-    let is_terminal = rt.stderr().is_terminal();
     let mut notes = streams.errors.beside(rt.stderr());
-    let mut ticker = Ticker::new(&mut notes, is_terminal, rt);
-    Ok(serve(
+    let mut ticker = Ticker::new(&mut notes, streams.is_terminal, rt);
+    let status = serve(
         alloc,
         words,
         &mut shelf,
@@ -77,11 +115,15 @@ fn run(
         &mut keyboard,
         &mut streams.errors,
         &mut ticker,
-    ))
+    );
+    if streams.is_terminal {
+        *told = told_of(alloc, words, &status, &shelf, &lines, &opening);
+    }
+    Ok(status)
 }
 
 /// What the words ask for.
-fn answer(rt: &HostRuntime, streams: &mut Streams, flawed: &mut Flawed) -> Status {
+fn answer(rt: &HostRuntime, streams: &mut Streams, told: &mut Told) -> Status {
     let words = match given_words(rt) {
         Ok(words) => words,
         Err(kind) => {
@@ -91,7 +133,7 @@ fn answer(rt: &HostRuntime, streams: &mut Streams, flawed: &mut Flawed) -> Statu
     if let Some(text) = text_asked(&words) {
         return close(None, text.as_bytes(), &mut streams.out);
     }
-    match run(rt, &words, streams, flawed) {
+    match run(rt, &words, streams, told) {
         Ok(status) => status,
         Err(fault) => Status::from(fault),
     }
@@ -100,10 +142,10 @@ fn answer(rt: &HostRuntime, streams: &mut Streams, flawed: &mut Flawed) -> Statu
 fn main(rt: HostRuntime) -> ExitCode {
     let held = hold_standard(&rt);
     let mut streams = Streams::new(&rt);
-    let mut flawed = [None; 16];
+    let mut told = Told::new();
     let status = match &held {
-        Ok(_) => answer(&rt, &mut streams, &mut flawed),
+        Ok(_) => answer(&rt, &mut streams, &mut told),
         Err(_) => Status::ShelfFault,
     };
-    ExitCode::from(conclude(&status, &flawed, &mut streams.errors))
+    ExitCode::from(conclude(&status, &told, streams.is_terminal, &mut streams.errors))
 }

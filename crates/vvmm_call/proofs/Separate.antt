@@ -1,10 +1,14 @@
 -- A run's devices are separate, and a run of one guest touches no drive.
 use Rattle.std.proofs.Common.{ℕ, ◌≡◌, List, [], ◌∷◌, Some, Result, Ok, Err, refl, subst}
 use Rattle.std.specs.List.{slice_get}
+use Rattle.sys_moment_laws.proofs.Separate.{moments_separate}
+use Rattle.sys_moment_laws.proofs.Stands.{moments_stand_right}
 use Rattle.sys_objects.specs.Condition.{IsConfig}
 use Rattle.sys_purge.proofs.Lines.{keeps_devices, keeps_shown}
 use Rattle.sys_purge.proofs.Depends.{keeps_volumes}
-use Rattle.sys_state.specs.Run.{Input}
+use Rattle.sys_purge.specs.Laws.{IsSeparateFrom}
+use Rattle.sys_snap.specs.Snap.{IsMoment}
+use Rattle.sys_state.specs.Run.{Input, Moment}
 use Rattle.sys_objects.specs.declared.records.Config.{Config}
 use Rattle.sys_objects.specs.declared.records.VolumeRow.{VolumeRow}
 use Rattle.sys_script.specs.declared.event.Event.{Event}
@@ -15,8 +19,8 @@ use Rattle.sys_runs.specs.declared.running.Ran.{Ran}
 use Rattle.sys_system.specs.declared.power.PowerFault.{PowerFault}
 use Rattle.sys_system.specs.declared.power.PowerFault.TheVariants.{Image, VolumeSize, DriveIn, NoMemory}
 use Rattle.vvmm_call.specs.Answer.{IsSeparate, IsShownSeparate, PlaysConfiguration}
-use Rattle.vvmm_call.specs.Solo.{solo_config}
-use Rattle.vvmm_call.specs.Words.{Asked}
+use Rattle.vvmm_files.specs.Solo.{solo_config}
+use Rattle.vvmm_files.specs.Words.{Asked}
 use Rattle.vvmm_call.specs.declared.status.Status.{Status}
 
 pub separate : (x : Input) → IsConfig x.config → IsSeparate x
@@ -24,6 +28,9 @@ separate x accepted = record { lines = keeps_devices x accepted; drives = keeps_
 
 pub shown_separate : (x : Input) → IsConfig x.config → IsShownSeparate x
 shown_separate = keeps_shown
+
+pub resumed_separate : (m : Moment) (es : List Event) (n : ℕ) → IsConfig m.config → IsMoment m → IsSeparateFrom m es n
+resumed_separate m es n accepted is = moments_separate m es n accepted (moments_stand_right m is)
 
 -- a run of the guest A
 pub as_solo : (a : Asked) (c : Config) (images : List (List ℕ)) (es : List Event) (image : List ℕ) (status : Status) (o : RunOutside) (out out' : Seen) → c ≡ solo_config a → es ≡ [] → images ≡ image ∷ [] → PlaysConfiguration c images es 1 status o out out' → PlaysConfiguration (solo_config a) (image ∷ []) [] 1 status o out out'

@@ -12,8 +12,8 @@ use Rattle.sys_system.specs.declared.power.PowerFault.{PowerFault}
 use Rattle.sys_trace.specs.Traced.{HasOne, input_of}
 use Rattle.vm_stepping.specs.Made.{steps_in}
 use Rattle.vvmm_call.specs.Answer.{EndsWithPut, status_when_done}
-use Rattle.vvmm_call.specs.Solo.{solo_config, solo_guest}
-use Rattle.vvmm_call.specs.Words.{Asked}
+use Rattle.vvmm_files.specs.Solo.{solo_config, solo_guest}
+use Rattle.vvmm_files.specs.Words.{Asked}
 use Rattle.vvmm_call.specs.declared.status.Status.{Status}
 
 -- what was put before is cut, and no more is put

@@ -23,11 +23,11 @@ use Rattle.vv_gen.specs.Accepted.{ImageFits, IsAccepted}
 use Rattle.vv_gen.specs.Workload.{Generated, workload_of}
 use Rattle.vv_gen.specs.declared.load.Workload.{Workload}
 use Rattle.vvmm_call.specs.Answer.{AnswersRun, FollowsLoad, Outside as CallOutside, PlaysLoad, Says, run_outside}
-use Rattle.vvmm_call.specs.Words.{Wanted, WantsLoad, wanted_by}
+use Rattle.vvmm_files.specs.Words.{Wanted, WantsLoad, wanted_by}
 use Rattle.vvmm_call.specs.declared.status.Status.{Status}
 use Rattle.vvmm_call.specs.declared.status.Status.TheVariants.{NoMemory as OutOfMemory}
-use Rattle.vvmm_call.specs.declared.words.Request.{Request}
-use Rattle.vvmm_call.specs.declared.words.Request.TheVariants.{Load}
+use Rattle.vvmm_files.specs.declared.words.Request.{Request}
+use Rattle.vvmm_files.specs.declared.words.Request.TheVariants.{Load}
 
 pub twenty_rounds : (number : ℕ) → (workload_of number).rounds ≡ 20
 unfolding workload_of

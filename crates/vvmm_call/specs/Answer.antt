@@ -6,9 +6,9 @@ use Rattle.vv_io.specs.Shelf.{File}
 use Rattle.vasm_text.specs.Asm.{asm_of}
 use Rattle.vasm_text.specs.Dis.{dis_of}
 use Rattle.vasm_text.specs.declared.fault.AsmFault.{AsmFault}
-use Rattle.vasm_files.specs.Commands.{ShelfAndSink, FollowsFile}
-use Rattle.vasm_files.specs.declared.answer.Answer.{Answer}
-use Rattle.vasm_files.specs.declared.answer.Answer.TheVariants as answers
+use Rattle.vvmm_files.specs.Commands.{ShelfAndSink, FollowsFile}
+use Rattle.vvmm_files.specs.declared.answer.Answer.{Answer}
+use Rattle.vvmm_files.specs.declared.answer.Answer.TheVariants as answers
 use Rattle.vax_hw.specs.Machine.{Machine}
 use Rattle.vm_stepping.specs.Made.{tally_of}
 use Rattle.sys_audit_check.specs.Lines.{Checks}
@@ -23,7 +23,7 @@ use Rattle.sys_live.specs.Operator.{Operator, Untyped}
 use Rattle.sys_live.specs.declared.session.Lived.{Lived}
 use Rattle.sys_objects.specs.declared.records.Config.{Config}
 use Rattle.sys_purge.specs.Input.{purged}
-use Rattle.sys_purge.specs.Laws.{shown_on}
+use Rattle.sys_purge.specs.Laws.{IsSeparateFrom, shown_on}
 use Rattle.sys_state.specs.Bytes.{devices_of, drive_blocks, line_bytes}
 use Rattle.sys_state.specs.Guests.{powered}
 use Rattle.sys_state.specs.Run.{Input, Moment}
@@ -38,14 +38,14 @@ use Rattle.sys_system.specs.declared.power.PowerFault.{PowerFault}
 use Rattle.sys_system.specs.declared.power.PowerFault.TheVariants as faults
 use Rattle.sys_trace.specs.Trace.{trace_of}
 use Rattle.vv_gen.specs.Workload.{Generated, workload_of}
-use Rattle.vvmm_call.specs.Files.{HasAll, HasAllToLive, HasAllToSave, HasBoth, HasConfig, IsRead, StopsAudit, StopsConfig, StopsFile, StopsLive, StopsResume, StopsRun, StopsSave}
-use Rattle.vvmm_call.specs.Solo.{solo_config, solo_guest}
+use Rattle.vvmm_files.specs.Files.{HasAll, HasAllToLive, HasAllToSave, HasBoth, HasConfig, IsRead, StopsAudit, StopsConfig, StopsFile, StopsLive, StopsResume, StopsRun, StopsSave}
+use Rattle.vvmm_files.specs.Solo.{solo_config, solo_guest}
 use Rattle.vvmm_call.specs.Summary.{check_line, summary}
-use Rattle.vvmm_call.specs.Words.{Asked, AuditAsked, LiveAsked, ResumeAsked, RunAsked, Wanted, WantsSolo, WantsTrace, WantsRun, WantsSave, WantsResume, WantsLive, WantsLoad, WantsCheck, WantsMigration, WantsAudit, WantsFlow, WantsDrawing, WantsBytes, WantsText}
+use Rattle.vvmm_files.specs.Words.{Asked, AuditAsked, LiveAsked, ResumeAsked, RunAsked, Wanted, WantsSolo, WantsTrace, WantsRun, WantsSave, WantsResume, WantsLive, WantsLoad, WantsCheck, WantsMigration, WantsAudit, WantsFlow, WantsDrawing, WantsBytes, WantsText}
 use Rattle.vvmm_call.specs.declared.status.Status.{Status}
 use Rattle.vvmm_call.specs.declared.status.Status.TheVariants.{Done, Words, Missing, TooLong, ShelfFault, Config as ConfigRefused, Script as ScriptRefused, Image, VolumeSize, DriveIn, Device as DeviceFault, Asm, SnapSize, Snap as SnapRefused, Audit, OutFault, KeyFault, NoMemory}
-use Rattle.vvmm_call.specs.declared.stop.Stop.{Stop}
-use Rattle.vvmm_call.specs.declared.stop.Stop.TheVariants as stops
+use Rattle.vvmm_files.specs.declared.stop.Stop.{Stop}
+use Rattle.vvmm_files.specs.declared.stop.Stop.TheVariants as stops
 
 -- The outside before and after the call: what the shelf holds, where it tells, and its count of faults; the machine;
 -- the lines, the drives, and where the summary is put.
@@ -203,7 +203,7 @@ pub record PlaysSave (a : RunAsked) (status : Status) (o : Outside) : Type 0 whe
 abbrev pub FollowsSave : RunAsked → Status → Outside → Type 0
 FollowsSave a status o = (Stops (StopsSave o.files a o.shelf o.shelf') status × Silent o) ⊎ PlaysSave a status o
 
--- `resume`: snapshot and script were fetched, and the run goes on
+-- `resume`: snapshot and script were fetched, and the run goes on. From the snapshot's moment on its devices are separate.
 pub record PlaysResume (a : ResumeAsked) (status : Status) (o : Outside) : Type 0 where
   pub moment : Moment
   pub events : List Event
@@ -212,6 +212,7 @@ pub record PlaysResume (a : ResumeAsked) (status : Status) (o : Outside) : Type 
   pub result : Result Ran PowerFault
   pub goes_on : ContinuesRun moment events a.rounds result (run_outside o)
   pub answers : AnswersRun a.rounds result status o.out o.out'
+  pub separate : IsSeparateFrom moment events a.rounds
 
 abbrev pub FollowsResume : ResumeAsked → Status → Outside → Type 0
 FollowsResume a status o = (Stops (StopsResume o.files a o.shelf o.shelf') status × Silent o) ⊎ PlaysResume a status o

@@ -1,6 +1,6 @@
 -- The devices that each command has.
 use Rattle.std.specs.Prelude.{Option, Some}
-use Rattle.vvmm_call.specs.Words.{Wanted, WantsSolo, WantsTrace, WantsRun, WantsSave, WantsResume, WantsLive, WantsLoad}
+use Rattle.vvmm_files.specs.Words.{Wanted, WantsSolo, WantsTrace, WantsRun, WantsSave, WantsResume, WantsLive, WantsLoad}
 use Rattle.vvmm_call.specs.declared.devices.Devices.{Devices}
 use Rattle.vvmm_call.specs.declared.devices.Devices.TheVariants.{Nothing, Lines, LinesAndDrives}
 

@@ -5,7 +5,7 @@ use Rattle.sys_script.specs.Kinds.{kind_text}
 use Rattle.sys_script.specs.declared.event.ScriptFault.{ScriptFault}
 use Rattle.sys_system.specs.declared.parts.Device.{Device}
 use Rattle.sys_system.specs.declared.parts.Device.TheVariants as devices
-use Rattle.vasm_files.specs.Texts.{fault_text}
+use Rattle.vvmm_files.specs.Texts.{fault_text}
 use Rattle.vvmm_call.specs.declared.status.Status.{Status}
 use Rattle.vvmm_call.specs.declared.status.Status.TheVariants.{Done, Words, Missing, TooLong, ShelfFault, Config as ConfigRefused, Script as ScriptRefused, Image, VolumeSize, DriveIn, Device as DeviceFault, Asm, SnapSize, Snap, Audit, OutFault, KeyFault, NoMemory}
 

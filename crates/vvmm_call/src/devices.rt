@@ -1,8 +1,8 @@
 ghost use Rattle.std.specs.Prelude.{◌≡◌, map, string_bytes};
 ghost use Rattle.vvmm_call.specs.Devices.{devices_needed};
-ghost use Rattle.vvmm_call.specs.Words.{wanted};
+ghost use Rattle.vvmm_files.specs.Words.{wanted};
 
-use crate::words::{Request, parse};
+use vvmm_files::{Request, parse};
 
 /// The devices that a command has.
 #[derive(Clone, Copy, Debug, PartialEq, Eq)]

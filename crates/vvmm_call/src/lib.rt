@@ -3,18 +3,15 @@
 #![tactic(auto)]
 
 mod devices;
-mod fetching;
 mod live;
 mod loading;
 mod playing;
 mod report;
 mod snaps;
-mod solo;
 mod status;
 mod stop;
 mod top;
 mod traces;
-mod words;
 
 pub use devices::{Devices, devices_of};
 pub use playing::close;

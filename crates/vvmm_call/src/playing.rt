@@ -5,7 +5,6 @@ ghost use Rattle.sys_objects.specs.Condition.{IsConfig};
 ghost use Rattle.sys_script.specs.Events.{AreEvents};
 ghost use Rattle.vvmm_call.specs.Answer.{AnswersRun, EndsWithPut, PlaysConfiguration, status_when_done};
 
-use crate::fetching::Inputs;
 use crate::report::summary;
 use crate::status::Status;
 use crate::stop::power_status;
@@ -14,6 +13,7 @@ use sys_runs::{Ran, run};
 use sys_system::{Device, PowerFault};
 use vax_hw::Hardware;
 use vv_io::{Drive, Lines, Progress, Sink, SinkFault};
+use vvmm_files::Inputs;
 
 /// Puts bytes once.
 pub fn put_once<O: Sink>(out: &mut O, bytes: &[u8]) -> Result<(), SinkFault>

@@ -6,9 +6,9 @@ use sys_objects::ConfigFault;
 use sys_script::{ScriptFault, kind_text};
 use sys_snap::SnapFault;
 use sys_system::Device;
-use vasm_files::fault_text;
 use vasm_text::AsmFault;
 use vv_base::{FileName, NoMemory, Text, decimal};
+use vvmm_files::fault_text;
 
 /// The answer of the program.
 #[derive(Drop)]

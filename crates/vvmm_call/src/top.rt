@@ -2,28 +2,28 @@ ghost use Rattle.std.specs.Prelude.{◌≡◌, ◌≤◌, ◌*◌, map, string_b
 ghost use Rattle.sys_flow.specs.Report.{IsReport};
 ghost use Rattle.vv_base.specs.Names.{is_file_name};
 ghost use Rattle.vvmm_call.specs.Answer.{AreCounts, FollowsAudit, FollowsConfig, FollowsRun, FollowsSolo, IsDrawing, IsMigrated, Says, status_of};
-ghost use Rattle.vvmm_call.specs.Words.{wanted};
+ghost use Rattle.vvmm_files.specs.Words.{wanted};
 
-use crate::fetching::{fetch_audit, fetch_config, fetch_run};
 use crate::live::live;
 use crate::loading::load;
 use crate::playing::{close, play};
 use crate::report::check_line;
 use crate::snaps::{resume, save};
-use crate::solo::solo_inputs;
 use crate::status::Status;
 use crate::stop::stopped_status;
 use crate::traces::trace;
-use crate::words::{AuditOrder, Order, Request, RunOrder, parse};
 use std::alloc::Global;
 use sys_audit_check::check_audit;
 use sys_config::migrate_text;
 use sys_draw::drawing;
 use sys_flow::report;
-use vasm_files::{Answer, asm, dis};
 use vax_hw::Hardware;
 use vv_base::{FileName, NoMemory};
 use vv_io::{Drive, Keyboard, Lines, NoProgress, Progress, Shelf, Sink};
+use vvmm_files::{
+    Answer, AuditOrder, Order, Request, RunOrder, asm, dis, fetch_audit, fetch_config, fetch_run,
+    parse, solo_inputs,
+};
 
 /// `solo`: fetches the image, makes its run and tells it.
 fn solo<H: Hardware, S: Shelf, O: Sink, L: Lines>(

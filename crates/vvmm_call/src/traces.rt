@@ -8,14 +8,13 @@ ghost use Rattle.vvmm_call.specs.Summary.{summary};
 
 use crate::playing::{close, done_status};
 use crate::report::summary;
-use crate::solo::solo_inputs;
 use crate::status::Status;
 use crate::stop::{power_status, stopped_status};
-use crate::words::Order;
 use std::alloc::Global;
 use sys_trace::Traced;
 use vax_hw::Hardware;
 use vv_io::{Drive, Lines, Shelf, Sink};
+use vvmm_files::{Order, solo_inputs};
 
 /// Puts the summary of a run whose trace was put whole, and answers.
 fn close_trace<O: Sink>(traced: &Traced, out: &mut O) -> Status

@@ -31,8 +31,8 @@ use Rattle.sys_system.specs.Devices.{device_of}
 use Rattle.sys_system.specs.declared.parts.Device.{Device}
 use Rattle.sys_system.specs.declared.power.PowerFault.{PowerFault}
 use Rattle.vvmm_call.specs.Answer.{AnswersLive, FollowsLive, Outside, PlaysLive, live_status, run_outside}
-use Rattle.vvmm_call.specs.Files.{AreImages, HasAllToLive, HasConfig}
-use Rattle.vvmm_call.specs.Words.{LiveAsked}
+use Rattle.vvmm_files.specs.Files.{AreImages, HasAllToLive, HasConfig}
+use Rattle.vvmm_files.specs.Words.{LiveAsked}
 use Rattle.vvmm_call.specs.declared.status.Status.TheVariants.{Done}
 use Rattle.vvmm_laws.proofs.Joined.{no_drive, no_line, not_down, not_stopped}
 use Rattle.vvmm_laws.proofs.Lives.{has_told}

@@ -3,18 +3,18 @@ use Rattle.std.proofs.Common.{ℕ, ◌≡◌, inl, inr, List, Option, Some, None
 use Rattle.vv_io.specs.Causes.{Rose}
 use Rattle.vv_io.specs.Lines.{Seen}
 use Rattle.vv_io.specs.Shelf.{File, held}
-use Rattle.vasm_files.specs.Commands.{ShelfAndSink}
+use Rattle.vvmm_files.specs.Commands.{ShelfAndSink}
 use Rattle.sys_audit_check.specs.Audited.{Audited}
 use Rattle.sys_audit_check.specs.Lines.{Checks}
 use Rattle.sys_audit_check.specs.declared.fault.AuditFault.{AuditFault}
 use Rattle.sys_objects.specs.declared.errors.ConfigFault.{ConfigFault}
 use Rattle.sys_objects.specs.declared.records.Config.{Config}
 use Rattle.vvmm_call.specs.Answer.{AnswersCheck, ChecksAudit, shelf_and_sink, stopped_status}
-use Rattle.vvmm_call.specs.Files.{HasConfig, IsConfigRefused, IsNextOfAudit, IsRead, StopsAudit}
-use Rattle.vvmm_call.specs.Words.{AuditAsked}
+use Rattle.vvmm_files.specs.Files.{HasConfig, IsConfigRefused, IsNextOfAudit, IsRead, StopsAudit}
+use Rattle.vvmm_files.specs.Words.{AuditAsked}
 use Rattle.vvmm_call.specs.declared.status.Status.{Status}
-use Rattle.vvmm_call.specs.declared.stop.Stop.{Stop}
-use Rattle.vvmm_call.specs.declared.stop.Stop.TheVariants.{Missing, TooLong, ShelfFault, Config as ConfigRefused, Script as ScriptRefused, SnapSize, Snap as SnapRefused, NoMemory}
+use Rattle.vvmm_files.specs.declared.stop.Stop.{Stop}
+use Rattle.vvmm_files.specs.declared.stop.Stop.TheVariants.{Missing, TooLong, ShelfFault, Config as ConfigRefused, Script as ScriptRefused, SnapSize, Snap as SnapRefused, NoMemory}
 use Rattle.vvmm_laws.proofs.Played.{closes_served}
 use Rattle.vvmm_laws.proofs.Told.{Unread, lacked, not_config, not_long, one_config, one_rule, one_text, read_as, too_long}
 use Rattle.vvmm_laws.specs.Complete.{CompletesAudit, IsLong, IsMissing, IsServed, IsTooLong, TellsAuditLine, TellsAuditMissing, TellsAuditRule, TellsAuditTooLong, TellsFirstBad, TellsRule}

@@ -14,11 +14,11 @@ use Rattle.sys_runs.specs.Ran.{RunOutside}
 use Rattle.sys_script.specs.declared.event.Event.{Event}
 use Rattle.sys_script.specs.declared.event.ScriptFault.{ScriptFault}
 use Rattle.vvmm_call.specs.Answer.{Outside, PlaysRun, run_outside, stopped_status}
-use Rattle.vvmm_call.specs.Files.{AreImages, HasAll, HasConfig, IsConfigRefused, IsNextFile, IsScriptRefused, StopsRun}
-use Rattle.vvmm_call.specs.Words.{RunAsked}
+use Rattle.vvmm_files.specs.Files.{AreImages, HasAll, HasConfig, IsConfigRefused, IsNextFile, IsScriptRefused, StopsRun}
+use Rattle.vvmm_files.specs.Words.{RunAsked}
 use Rattle.vvmm_call.specs.declared.status.Status.{Status}
-use Rattle.vvmm_call.specs.declared.stop.Stop.{Stop}
-use Rattle.vvmm_call.specs.declared.stop.Stop.TheVariants.{Missing, TooLong, ShelfFault, Config as ConfigRefused, Script as ScriptRefused, SnapSize, Snap as SnapRefused, NoMemory}
+use Rattle.vvmm_files.specs.declared.stop.Stop.{Stop}
+use Rattle.vvmm_files.specs.declared.stop.Stop.TheVariants.{Missing, TooLong, ShelfFault, Config as ConfigRefused, Script as ScriptRefused, SnapSize, Snap as SnapRefused, NoMemory}
 use Rattle.vvmm_laws.proofs.Nexts.{all_read, line_read, rule_read, same_next}
 use Rattle.vvmm_laws.proofs.Played.{NoDriveRose, drive_in_rose, plays_image, plays_names_drive, plays_names_line, plays_served, plays_size}
 use Rattle.vvmm_laws.proofs.Told.{lacked, not_config, not_long, not_script, one_config, one_images, one_line, one_rule, too_long}

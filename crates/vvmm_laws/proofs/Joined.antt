@@ -26,11 +26,11 @@ use Rattle.sys_system.specs.declared.parts.Device.{Device}
 use Rattle.sys_system.specs.declared.power.PowerFault.{PowerFault}
 use Rattle.sys_system.specs.declared.power.PowerFault.TheVariants as faults
 use Rattle.vvmm_call.specs.Answer.{AnswersRun, AnswersSave, Outside, PlaysResume, PlaysSave, power_status, run_outside, status_when_done, stopped_status}
-use Rattle.vvmm_call.specs.Files.{HasScript, HasSnap}
-use Rattle.vvmm_call.specs.Words.{ResumeAsked, RunAsked}
+use Rattle.vvmm_files.specs.Files.{HasScript, HasSnap}
+use Rattle.vvmm_files.specs.Words.{ResumeAsked, RunAsked}
 use Rattle.vvmm_call.specs.declared.status.Status.TheVariants.{Done}
-use Rattle.vvmm_call.specs.declared.stop.Stop.{Stop}
-use Rattle.vvmm_call.specs.declared.stop.Stop.TheVariants as stops
+use Rattle.vvmm_files.specs.declared.stop.Stop.{Stop}
+use Rattle.vvmm_files.specs.declared.stop.Stop.TheVariants as stops
 use Rattle.vvmm_laws.proofs.Marked.{first_marked, line_whole, none_marked}
 use Rattle.vvmm_laws.proofs.Told.{one_made, one_value}
 use Rattle.vvmm_laws.specs.Complete.{line_at}

@@ -20,11 +20,11 @@ use Rattle.sys_system.specs.declared.parts.Device.{Device}
 use Rattle.sys_system.specs.declared.power.PowerFault.{PowerFault}
 use Rattle.sys_system.specs.declared.power.PowerFault.TheVariants as faults
 use Rattle.vvmm_call.specs.Answer.{AnswersLive, Outside, PlaysLive, PutsSummary, live_status, power_status, run_outside, status_when_done, stopped_status}
-use Rattle.vvmm_call.specs.Files.{AreImages, HasAllToLive, IsConfigRefused, IsImageToLive, IsNextToLive, StopsLive}
-use Rattle.vvmm_call.specs.Words.{LiveAsked}
+use Rattle.vvmm_files.specs.Files.{AreImages, HasAllToLive, IsConfigRefused, IsImageToLive, IsNextToLive, StopsLive}
+use Rattle.vvmm_files.specs.Words.{LiveAsked}
 use Rattle.vvmm_call.specs.declared.status.Status.{Status}
-use Rattle.vvmm_call.specs.declared.stop.Stop.{Stop}
-use Rattle.vvmm_call.specs.declared.stop.Stop.TheVariants.{Missing, TooLong, ShelfFault, Config as ConfigRefused, Script as ScriptRefused, SnapSize, Snap as SnapRefused, NoMemory}
+use Rattle.vvmm_files.specs.declared.stop.Stop.{Stop}
+use Rattle.vvmm_files.specs.declared.stop.Stop.TheVariants.{Missing, TooLong, ShelfFault, Config as ConfigRefused, Script as ScriptRefused, SnapSize, Snap as SnapRefused, NoMemory}
 use Rattle.vvmm_laws.proofs.Chosen.{readable}
 use Rattle.vvmm_laws.proofs.Nexts.{first_unread}
 use Rattle.vvmm_laws.proofs.Played.{NoDriveRose, NoLineRose, down_image, down_line_kept, down_names_drive, down_served, down_size, names_drive, names_line, none_failed}

@@ -7,8 +7,8 @@ use Rattle.sys_objects.specs.declared.records.Config.{Config}
 use Rattle.sys_objects.specs.declared.records.GuestRow.{GuestRow}
 use Rattle.sys_script.specs.declared.event.Event.{Event}
 use Rattle.sys_script.specs.declared.event.ScriptFault.{ScriptFault}
-use Rattle.vvmm_call.specs.Files.{AreImages, HasAll, HasConfig, HasScript, IsConfigRefused, IsImage, IsNextFile, IsRead, IsScriptRefused}
-use Rattle.vvmm_call.specs.Words.{RunAsked}
+use Rattle.vvmm_files.specs.Files.{AreImages, HasAll, HasConfig, HasScript, IsConfigRefused, IsImage, IsNextFile, IsRead, IsScriptRefused}
+use Rattle.vvmm_files.specs.Words.{RunAsked}
 use Rattle.vvmm_laws.proofs.Told.{Unread, image_read, not_config, not_script, one_config, read_as}
 
 -- the first row whose image can't be read

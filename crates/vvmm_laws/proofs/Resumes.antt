@@ -19,11 +19,11 @@ use Rattle.sys_snap.specs.declared.fault.SnapFault.{SnapFault}
 use Rattle.sys_system.specs.declared.power.PowerFault.{PowerFault}
 use Rattle.sys_system.specs.declared.power.PowerFault.TheVariants as faults
 use Rattle.vvmm_call.specs.Answer.{AnswersRun, Outside, PlaysResume, run_outside, stopped_status}
-use Rattle.vvmm_call.specs.Files.{HasBoth, HasSnap, IsNextToResume, IsScriptRefused, IsSnapRefused, StopsResume}
-use Rattle.vvmm_call.specs.Words.{ResumeAsked}
+use Rattle.vvmm_files.specs.Files.{HasBoth, HasSnap, IsNextToResume, IsScriptRefused, IsSnapRefused, StopsResume}
+use Rattle.vvmm_files.specs.Words.{ResumeAsked}
 use Rattle.vvmm_call.specs.declared.status.Status.{Status}
-use Rattle.vvmm_call.specs.declared.stop.Stop.{Stop}
-use Rattle.vvmm_call.specs.declared.stop.Stop.TheVariants.{Missing, TooLong, ShelfFault, Config as ConfigRefused, Script as ScriptRefused, SnapSize, Snap as SnapRefused, NoMemory}
+use Rattle.vvmm_files.specs.declared.stop.Stop.{Stop}
+use Rattle.vvmm_files.specs.declared.stop.Stop.TheVariants.{Missing, TooLong, ShelfFault, Config as ConfigRefused, Script as ScriptRefused, SnapSize, Snap as SnapRefused, NoMemory}
 use Rattle.vvmm_laws.proofs.Played.{made_names_drive, made_names_line, made_served, one_misfit, same_drives}
 use Rattle.vvmm_laws.proofs.Told.{Unread, lacked, not_long, not_script, one_error, one_line, one_text, read_as, too_long}
 use Rattle.vvmm_laws.specs.Complete.{IsLong, IsMissing, IsServed, IsSizeOf, IsTooLong, NamesDrive, NamesLine, NoneRose, TellsLine, line_at}

@@ -15,12 +15,12 @@ use Rattle.sys_system.specs.Devices.{device_of}
 use Rattle.sys_system.specs.declared.parts.Device.{Device}
 use Rattle.sys_system.specs.declared.power.PowerFault.{PowerFault}
 use Rattle.vvmm_call.specs.Answer.{AnswersSave, Outside, PlaysSave, run_outside, status_when_done, stopped_status}
-use Rattle.vvmm_call.specs.Files.{FitsSnap, HasAll, HasAllToSave, HasConfig, HasNoRoom, IsNextFile, IsNextToSave, IsTooLarge, StopsRun, StopsSave}
-use Rattle.vvmm_call.specs.Words.{RunAsked}
+use Rattle.vvmm_files.specs.Files.{FitsSnap, HasAll, HasAllToSave, HasConfig, HasNoRoom, IsNextFile, IsNextToSave, IsTooLarge, StopsRun, StopsSave}
+use Rattle.vvmm_files.specs.Words.{RunAsked}
 use Rattle.vvmm_call.specs.declared.status.Status.{Status}
 use Rattle.vvmm_call.specs.declared.status.Status.TheVariants as answers
-use Rattle.vvmm_call.specs.declared.stop.Stop.{Stop}
-use Rattle.vvmm_call.specs.declared.stop.Stop.TheVariants.{Missing, TooLong, ShelfFault, Config as ConfigRefused, Script as ScriptRefused, SnapSize, Snap as SnapRefused, NoMemory}
+use Rattle.vvmm_files.specs.declared.stop.Stop.{Stop}
+use Rattle.vvmm_files.specs.declared.stop.Stop.TheVariants.{Missing, TooLong, ShelfFault, Config as ConfigRefused, Script as ScriptRefused, SnapSize, Snap as SnapRefused, NoMemory}
 use Rattle.vvmm_laws.proofs.Chosen.{line_stop, long_stop, misfit_told, missing_stop, only_memory, readable, rule_stop, same_config}
 use Rattle.vvmm_laws.proofs.Marked.{first_marked, line_rose}
 use Rattle.vvmm_laws.proofs.Nexts.{all_read, config_read, script_read}

@@ -2,17 +2,17 @@
 use Rattle.std.proofs.Common.{ℕ, ◌≡◌, inl, inr, List, Option, Some, None, Result, Ok, Err, refl, subst, sym, ap, ◌∙◌}
 use Rattle.vv_io.specs.Causes.{Rose}
 use Rattle.vv_io.specs.Shelf.{File, held}
-use Rattle.vasm_files.specs.Commands.{ShelfAndSink, FollowsFile, HasTooLong, IsFetched, Lacks}
-use Rattle.vasm_files.specs.declared.answer.Answer.{Answer}
-use Rattle.vasm_files.specs.declared.answer.Answer.TheVariants as answers
+use Rattle.vvmm_files.specs.Commands.{ShelfAndSink, FollowsFile, HasTooLong, IsFetched, Lacks}
+use Rattle.vvmm_files.specs.declared.answer.Answer.{Answer}
+use Rattle.vvmm_files.specs.declared.answer.Answer.TheVariants as answers
 use Rattle.vasm_text.specs.declared.fault.AsmFault.{AsmFault}
 use Rattle.sys_objects.specs.declared.errors.ConfigFault.{ConfigFault}
 use Rattle.sys_objects.specs.declared.records.Config.{Config}
 use Rattle.vvmm_call.specs.Answer.{shelf_and_sink, status_of, stopped_status}
-use Rattle.vvmm_call.specs.Files.{HasConfig, IsConfigRefused, IsRead, StopsConfig}
+use Rattle.vvmm_files.specs.Files.{HasConfig, IsConfigRefused, IsRead, StopsConfig}
 use Rattle.vvmm_call.specs.declared.status.Status.{Status}
-use Rattle.vvmm_call.specs.declared.stop.Stop.{Stop}
-use Rattle.vvmm_call.specs.declared.stop.Stop.TheVariants.{Missing, TooLong, ShelfFault, Config as ConfigRefused, Script as ScriptRefused, SnapSize, Snap as SnapRefused, NoMemory}
+use Rattle.vvmm_files.specs.declared.stop.Stop.{Stop}
+use Rattle.vvmm_files.specs.declared.stop.Stop.TheVariants.{Missing, TooLong, ShelfFault, Config as ConfigRefused, Script as ScriptRefused, SnapSize, Snap as SnapRefused, NoMemory}
 use Rattle.vvmm_laws.proofs.Played.{closes_served}
 use Rattle.vvmm_laws.proofs.Told.{lacked, not_both, not_config, not_long, one_error, one_rule, one_text, read_as, too_long}
 use Rattle.vvmm_laws.specs.Complete.{CompletesConfig, CompletesFile, IsLong, IsMissing, IsServed, IsTooLong, TellsAsm, TellsConfigMissing, TellsConfigRule, TellsConfigTooLong, TellsFileMissing, TellsFileRefused, TellsFileTooLong, TellsRule}

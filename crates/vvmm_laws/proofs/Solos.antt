@@ -11,12 +11,12 @@ use Rattle.sys_guests.specs.Loads.{first_misfit}
 use Rattle.sys_objects.specs.declared.records.VolumeRow.{VolumeRow}
 use Rattle.sys_state.specs.Places.{place_of}
 use Rattle.vvmm_call.specs.Answer.{FollowsSolo, Outside, run_outside, stopped_status}
-use Rattle.vvmm_call.specs.Files.{IsRead, StopsFile}
-use Rattle.vvmm_call.specs.Solo.{load_address, memory_size, solo_config}
-use Rattle.vvmm_call.specs.Words.{Asked}
+use Rattle.vvmm_files.specs.Files.{IsRead, StopsFile}
+use Rattle.vvmm_files.specs.Solo.{load_address, memory_size, solo_config}
+use Rattle.vvmm_files.specs.Words.{Asked}
 use Rattle.vvmm_call.specs.declared.status.Status.{Status}
-use Rattle.vvmm_call.specs.declared.stop.Stop.{Stop}
-use Rattle.vvmm_call.specs.declared.stop.Stop.TheVariants.{Missing, TooLong, ShelfFault, Config as ConfigRefused, Script as ScriptRefused, SnapSize, Snap as SnapRefused, NoMemory}
+use Rattle.vvmm_files.specs.declared.stop.Stop.{Stop}
+use Rattle.vvmm_files.specs.declared.stop.Stop.TheVariants.{Missing, TooLong, ShelfFault, Config as ConfigRefused, Script as ScriptRefused, SnapSize, Snap as SnapRefused, NoMemory}
 use Rattle.vvmm_laws.proofs.Played.{plays_image, plays_names_line, plays_served}
 use Rattle.vvmm_laws.proofs.Told.{lacked, not_long, one_text, read_as, too_long}
 use Rattle.vvmm_laws.specs.Complete.{CompletesImage, IsImageOf, IsLong, IsMissing, IsServed, IsTooLong, TellsImageLineFault, TellsImageMisfit, TellsImageMissing, TellsImageTooLong, line_at}

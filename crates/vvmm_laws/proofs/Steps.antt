@@ -14,7 +14,7 @@ use Rattle.sys_state.specs.State.{Put, bytes_on}
 use Rattle.sys_state.specs.Transfers.{Move, Packet, Prints, Reads, Refused, Writes, move_of, moved, packet_at, served, served_one}
 use Rattle.vm_state.specs.Run.{Tally, no_steps}
 use Rattle.vm_state.specs.State.{Guest}
-use Rattle.vvmm_call.specs.Solo.{solo_config, solo_guest}
+use Rattle.vvmm_files.specs.Solo.{solo_config, solo_guest}
 use Rattle.vvmm_laws.specs.Alone.{RunsAlone, served_alone}
 
 -- without a printer no transfer shows anything

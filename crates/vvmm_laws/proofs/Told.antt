@@ -9,7 +9,7 @@ use Rattle.sys_objects.specs.declared.records.GuestRow.{GuestRow}
 use Rattle.sys_script.specs.Script.{script_of}
 use Rattle.sys_script.specs.declared.event.Event.{Event}
 use Rattle.sys_script.specs.declared.event.ScriptFault.{ScriptFault}
-use Rattle.vvmm_call.specs.Files.{AreImages, HasConfig, HasScript, IsConfigRefused, IsRead, IsScriptRefused}
+use Rattle.vvmm_files.specs.Files.{AreImages, HasConfig, HasScript, IsConfigRefused, IsRead, IsScriptRefused}
 use Rattle.vvmm_laws.specs.Complete.{IsLong}
 
 pub one_value : {X : Type 0} (r : Option X) (x y : X) → r ≡ Some x → r ≡ Some y → x ≡ y

@@ -10,9 +10,9 @@ use Rattle.sys_runs.specs.declared.running.Ran.{Ran}
 use Rattle.sys_system.specs.declared.power.PowerFault.{PowerFault}
 use Rattle.sys_trace.specs.Trace.{trace_of}
 use Rattle.vvmm_call.specs.Answer.{AnswersTrace, FollowsSolo, FollowsTrace, Outside, PlaysTrace, run_outside}
-use Rattle.vvmm_call.specs.Solo.{solo_config, solo_guest}
+use Rattle.vvmm_files.specs.Solo.{solo_config, solo_guest}
 use Rattle.vvmm_call.specs.Summary.{summary}
-use Rattle.vvmm_call.specs.Words.{Asked}
+use Rattle.vvmm_files.specs.Words.{Asked}
 use Rattle.vvmm_call.specs.declared.status.Status.{Status}
 use Rattle.vvmm_laws.proofs.Solos.{completes_solo, tells_solo_device, tells_solo_image, tells_solo_missing, tells_solo_too_long}
 use Rattle.vvmm_laws.specs.Complete.{CompletesImage, TellsImageLineFault, TellsImageMisfit, TellsImageMissing, TellsImageTooLong}

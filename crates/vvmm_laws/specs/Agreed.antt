@@ -12,8 +12,8 @@ use Rattle.sys_live.specs.Operator.{Operator}
 use Rattle.sys_objects.specs.declared.records.Config.{Config}
 use Rattle.sys_state.specs.Bytes.{devices_of}
 use Rattle.vvmm_call.specs.Answer.{FollowsLive, Outside}
-use Rattle.vvmm_call.specs.Files.{HasConfig}
-use Rattle.vvmm_call.specs.Words.{LiveAsked}
+use Rattle.vvmm_files.specs.Files.{HasConfig}
+use Rattle.vvmm_files.specs.Words.{LiveAsked}
 use Rattle.vvmm_call.specs.declared.status.Status.TheVariants.{Done}
 use Rattle.vvmm_laws.specs.Complete.{line_at}
 use Rattle.vvmm_laws.specs.Live.{AreAlikeTo}

@@ -7,8 +7,8 @@ use Rattle.sys_state.specs.Guests.{alone, powered, with_no_queue}
 use Rattle.sys_state.specs.Run.{Input}
 use Rattle.sys_state.specs.Transfers.{served}
 use Rattle.vm_state.specs.State.{Guest}
-use Rattle.vvmm_call.specs.Solo.{solo_config, solo_guest}
-use Rattle.vvmm_call.specs.Words.{Asked}
+use Rattle.vvmm_files.specs.Solo.{solo_config, solo_guest}
+use Rattle.vvmm_files.specs.Words.{Asked}
 
 -- its run of one round, without volumes and events
 abbrev pub solo_input : Asked → List ℕ → Input

@@ -15,9 +15,9 @@ use Rattle.sys_script.specs.declared.event.Event.{Event}
 use Rattle.sys_script.specs.declared.event.ScriptFault.{ScriptFault}
 use Rattle.sys_system.specs.declared.parts.Device.TheVariants as devices
 use Rattle.vvmm_call.specs.Answer.{FollowsAudit, FollowsConfig, FollowsLoad, FollowsRun, Outside, ShowsFile, run_outside, shelf_and_sink}
-use Rattle.vvmm_call.specs.Files.{HasAll, HasConfig, IsConfigRefused, IsNextFile, IsNextOfAudit, IsRead, IsScriptRefused}
-use Rattle.vvmm_call.specs.Solo.{load_address, memory_size}
-use Rattle.vvmm_call.specs.Words.{Asked, AuditAsked, RunAsked}
+use Rattle.vvmm_files.specs.Files.{HasAll, HasConfig, IsConfigRefused, IsNextFile, IsNextOfAudit, IsRead, IsScriptRefused}
+use Rattle.vvmm_files.specs.Solo.{load_address, memory_size}
+use Rattle.vvmm_files.specs.Words.{Asked, AuditAsked, RunAsked}
 use Rattle.vvmm_call.specs.declared.status.Status.{Status}
 use Rattle.vvmm_call.specs.declared.status.Status.TheVariants.{Done, Missing, TooLong, Config as ConfigRefused, Script as ScriptRefused, Image, VolumeSize, DriveIn, Device as DeviceFault, Asm, Audit, OutFault, NoMemory}
 

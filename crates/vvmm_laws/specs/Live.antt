@@ -17,8 +17,8 @@ use Rattle.sys_state.specs.Bytes.{devices_of, drive_blocks, line_bytes}
 use Rattle.sys_state.specs.Run.{Input}
 use Rattle.sys_script.specs.Typed.{events_typed, rounds_ended, rounds_typed}
 use Rattle.vvmm_call.specs.Answer.{FollowsLive, Outside}
-use Rattle.vvmm_call.specs.Files.{HasAllToLive, IsConfigRefused, IsNextToLive}
-use Rattle.vvmm_call.specs.Words.{LiveAsked}
+use Rattle.vvmm_files.specs.Files.{HasAllToLive, IsConfigRefused, IsNextToLive}
+use Rattle.vvmm_files.specs.Words.{LiveAsked}
 use Rattle.vvmm_call.specs.declared.status.Status.{Status}
 use Rattle.vvmm_call.specs.declared.status.Status.TheVariants.{Done, KeyFault, NoMemory}
 use Rattle.vvmm_laws.specs.Complete.{IsImageOf, IsLong, IsMissing, IsSizeOf, IsTooLong, NamesDrive, NamesLine, NoneRose, TellsRule, line_at}

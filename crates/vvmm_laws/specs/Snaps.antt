@@ -12,8 +12,8 @@ use Rattle.sys_script.specs.declared.event.Event.{Event}
 use Rattle.sys_script.specs.declared.event.ScriptFault.{ScriptFault}
 use Rattle.sys_snap.specs.declared.fault.SnapFault.{SnapFault}
 use Rattle.vvmm_call.specs.Answer.{FollowsResume, FollowsSave, Outside}
-use Rattle.vvmm_call.specs.Files.{HasAllToSave, HasBoth, HasConfig, HasNoRoom, HasSnap, IsConfigRefused, IsNextToResume, IsNextToSave, IsScriptRefused, IsSnapRefused}
-use Rattle.vvmm_call.specs.Words.{ResumeAsked, RunAsked}
+use Rattle.vvmm_files.specs.Files.{HasAllToSave, HasBoth, HasConfig, HasNoRoom, HasSnap, IsConfigRefused, IsNextToResume, IsNextToSave, IsScriptRefused, IsSnapRefused}
+use Rattle.vvmm_files.specs.Words.{ResumeAsked, RunAsked}
 use Rattle.vvmm_call.specs.declared.status.Status.{Status}
 use Rattle.vvmm_call.specs.declared.status.Status.TheVariants.{SnapSize, Snap as SnapRefused, NoMemory}
 use Rattle.vvmm_laws.specs.Complete.{IsImageOf, IsLong, IsMissing, IsServed, IsSizeOf, IsTooLong, NamesDrive, NamesLine, NoneRose, TellsLine, TellsRule, line_at}

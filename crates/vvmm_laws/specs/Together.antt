@@ -8,8 +8,8 @@ use Rattle.sys_drives.specs.Stores.{known_after}
 use Rattle.sys_state.specs.Bytes.{drive_blocks, line_bytes}
 use Rattle.sys_state.specs.Run.{Input}
 use Rattle.vvmm_call.specs.Answer.{FollowsResume, FollowsSave, Outside}
-use Rattle.vvmm_call.specs.Files.{HasAll}
-use Rattle.vvmm_call.specs.Words.{ResumeAsked, RunAsked}
+use Rattle.vvmm_files.specs.Files.{HasAll}
+use Rattle.vvmm_files.specs.Words.{ResumeAsked, RunAsked}
 use Rattle.vvmm_call.specs.declared.status.Status.TheVariants.{Done}
 use Rattle.vvmm_laws.specs.Complete.{line_at}
 

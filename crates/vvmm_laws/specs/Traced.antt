@@ -3,7 +3,7 @@
 use Rattle.std.specs.Prelude.{◌≡◌}
 use Rattle.vv_io.specs.Lines.{Seen}
 use Rattle.vvmm_call.specs.Answer.{FollowsSolo, FollowsTrace, Outside}
-use Rattle.vvmm_call.specs.Words.{Asked}
+use Rattle.vvmm_files.specs.Words.{Asked}
 use Rattle.vvmm_call.specs.declared.status.Status.{Status}
 
 abbrev pub TraceIsSolo : Type 0

@@ -1,5 +1,5 @@
 use Rattle.std.proofs.Common.{inl, inr, Some, None}
-use Rattle.vvmm_call.specs.Words.{WantsSolo, WantsTrace, WantsRun, WantsSave, WantsResume, WantsLive, WantsLoad, WantsCheck, WantsMigration, WantsAudit, WantsFlow, WantsDrawing, WantsBytes, WantsText}
+use Rattle.vvmm_files.specs.Words.{WantsSolo, WantsTrace, WantsRun, WantsSave, WantsResume, WantsLive, WantsLoad, WantsCheck, WantsMigration, WantsAudit, WantsFlow, WantsDrawing, WantsBytes, WantsText}
 use Rattle.vv_program.specs.Laws.{LeavesOthers}
 use Rattle.vv_program.proofs.laws.other_devices_are_left.Goals as goal
 

@@ -2,6 +2,7 @@ use Rattle.std.proofs.Common.{inr}
 use Rattle.sys_snap.specs.Held.{snapshot_moment}
 use Rattle.vvmm_call.proofs.Counted.{few_from}
 use Rattle.vvmm_call.proofs.Lent.{goes_over}
+use Rattle.vvmm_call.proofs.Separate.{resumed_separate}
 use Rattle.vvmm_call.proofs.snaps.resume.Goals as goal
 
 pub answer-requires : goal.answer-requires
@@ -16,4 +17,5 @@ returns g c = inr (record {
   result = c.resume-ran.result;
   goes_on = goes_over _ _ _ _ c.resume-ran.result _ c.as_slice.ensures.value c.resume-ran.ensures.goes_on;
   answers = c.answer.ensures;
+  separate = resumed_separate _ _ _ c.in-Ok.ensures.held.config c.in-Ok.ensures.moment;
 })

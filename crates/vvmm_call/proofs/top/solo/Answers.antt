@@ -1,7 +1,7 @@
 use Rattle.std.proofs.Common.{inr}
 use Rattle.sys_runs.proofs.Stored.{touches_no_drive}
 use Rattle.vvmm_call.proofs.Separate.{as_solo, solo_drives}
-use Rattle.vvmm_call.specs.Words.{Asked}
+use Rattle.vvmm_files.specs.Words.{Asked}
 use Rattle.vvmm_call.proofs.top.solo.Goals as goal
 
 pub returns-in-Ok : goal.returns-in-Ok

@@ -4,8 +4,8 @@ use Rattle.sys_runs.proofs.Stored.{touches_no_drive}
 use Rattle.sys_trace.specs.Trace.{trace_of}
 use Rattle.vvmm_call.proofs.Separate.{solo_drives}
 use Rattle.vvmm_call.proofs.Tracing.{down_solo, few_traced, has_one, lent_one, made_solo, no_volume, one_guest, one_lent}
-use Rattle.vvmm_call.specs.Solo.{solo_guest}
-use Rattle.vvmm_call.specs.Words.{Asked}
+use Rattle.vvmm_files.specs.Solo.{solo_guest}
+use Rattle.vvmm_files.specs.Words.{Asked}
 use Rattle.vvmm_call.proofs.traces.trace.Goals as goal
 
 pub trace-traced-requires-clause-one : goal.trace-traced-requires-clause-one

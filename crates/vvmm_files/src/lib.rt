@@ -1,0 +1,20 @@
+//! What the words of a command ask for, and the files that it needs: fetched, and read in their order; a file that is assembled or
+//! disassembled.
+#![tactic(auto)]
+
+mod answer;
+mod commands;
+mod fetching;
+mod solo;
+mod stop;
+mod words;
+
+pub use answer::{Answer, fault_text};
+pub use commands::{asm, dis};
+pub use fetching::{
+    Inputs, InputsToLive, InputsToResume, InputsToSave, Recorded, fetch_audit, fetch_config,
+    fetch_run, fetch_to_live, fetch_to_resume, fetch_to_save,
+};
+pub use solo::solo_inputs;
+pub use stop::Stop;
+pub use words::{AuditOrder, LiveOrder, Order, Request, ResumeOrder, RunOrder, parse};
