@@ -323,7 +323,8 @@ def instruction():
     return p
 
 
+PICTURES = {"tower": tower, "round": round_, "memory": memory, "trust": trust, "classes": classes, "layers": layers, "instruction": instruction}
+
 if __name__ == "__main__":
-    folder = Path(__file__).parent / "pictures"
-    for name, draw in (("tower", tower), ("round", round_), ("memory", memory), ("trust", trust), ("classes", classes), ("layers", layers), ("instruction", instruction)):
-        (folder / f"{name}.svg").write_text(draw().save())
+    for name, draw in PICTURES.items():
+        (Path(__file__).parent / "pictures" / f"{name}.svg").write_text(draw().save())
