@@ -1,5 +1,6 @@
 -- What a file tells about an answer.
-use Rattle.std.specs.Prelude.{ℕ, nat_le, nat_lt, ◌&&◌, if◌then◌else◌, Option, Some, None, option_map, Result, Ok, Err, slice_get}
+use Rattle.std.specs.Prelude.{ℕ, ◌-◌, min, List, [], length, map, take, slice_index_or, nat_le, nat_lt, ◌&&◌, if◌then◌else◌, Option, Some, None, option_map, Result, Ok, Err, slice_get}
+use Rattle.std.specs.Str.Lines.{lines}
 use Rattle.sys_objects.specs.declared.errors.ConfigFault.{ConfigFault}
 use Rattle.sys_objects.specs.declared.records.Config.{Config}
 use Rattle.sys_objects.specs.declared.records.VolumeRow.{VolumeRow}
@@ -33,3 +34,18 @@ wanted_in config status = None
 -- a byte that prints, or else a point
 abbrev pub seen_as : ℕ → ℕ
 seen_as byte = if nat_le 32 byte && nat_lt byte 127 then byte else 46
+
+-- a line of a text, counted from 1; no bytes where there is none
+abbrev pub line_of_text : List ℕ → ℕ → List ℕ
+line_of_text text line = slice_index_or (lines text) (line - 1) []
+
+-- at most 80 bytes, each as it is shown
+abbrev pub shown_front : List ℕ → List ℕ
+shown_front line = map seen_as (take (min (length line) 80) line)
+
+-- the line that an answer refuses
+abbrev pub refused_line : List ℕ → Status → List ℕ
+refused_line text (Script fault) = shown_front (line_of_text text fault.line)
+refused_line text (Asm fault) = shown_front (line_of_text text fault.line)
+refused_line text (Audit fault) = shown_front (line_of_text text fault.line)
+refused_line text status = []

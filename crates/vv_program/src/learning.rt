@@ -1,9 +1,10 @@
 ghost use Rattle.std.specs.Prelude.{◌≡◌, IfSome, Some};
 ghost use Rattle.sys_config.specs.Config.{config_of};
-ghost use Rattle.vv_program.specs.Learning.{audit_line_of, seen_as, told_word, wanted_in};
+ghost use Rattle.vv_program.specs.Learning.{audit_line_of, line_of_text, shown_front, refused_line, seen_as, told_word, wanted_in};
 
 use std::alloc::Global;
 use sys_config::read_config;
+use vasm_read::first_line;
 use vv_base::Text;
 use vv_edge::Note;
 use vvmm_call::Status;
@@ -52,27 +53,43 @@ pub fn wanted_drive(alloc: Global, config: &[u8], status: &Status) -> Option<Not
 }
 
 /// The line of a text that an answer refuses, as far as there is room.
-pub fn refused_line(text: &[u8], status: &Status) -> Text<80> {
+pub fn refused_line(text: &[u8], status: &Status) -> Text<80>
+    ensures { result ≡ refused_line text.now status.now }
+{
     match status {
-        Status::Script(fault) => line_at(text, fault.line),
-        Status::Asm(fault) => line_at(text, fault.line),
-        Status::Audit(fault) => line_at(text, fault.line),
+        Status::Script(fault) => shown_front(line_of_text(text, fault.line)),
+        Status::Asm(fault) => shown_front(line_of_text(text, fault.line)),
+        Status::Audit(fault) => shown_front(line_of_text(text, fault.line)),
         _ => Text::new(),
     }
 }
 
-/// A line of a text, counted from 1, as far as there is room.
-fn line_at(text: &[u8], line: u32) -> Text<80> {
-    let mut shown = Text::new();
-    let mut number = 1u32;
-    for byte in text {
-        if *byte == b'\n' {
-            number = number.saturating_add(1);
-        } else if number == line {
-            let _ = shown.push(seen_as(*byte));
+/// A line of a text, counted from 1, without its end; no bytes where there is none.
+fn line_of_text(text: &[u8], line: u32) -> &[u8]
+    ensures { result.now ≡ line_of_text text.now line }
+{
+    let mut rest = text;
+    for number in 1..line {
+        if rest.is_empty() {
+            return &[];
         }
+        rest = first_line(rest).later;
     }
-    shown
+    if rest.is_empty() {
+        return &[];
+    }
+    first_line(rest).before
+}
+
+/// Bytes as far as there is room, with a point for each that doesn't print.
+fn shown_front(line: &[u8]) -> Text<80>
+    ensures { result ≡ shown_front line.now }
+{
+    let mut text = Text::new();
+    for byte in &line[..line.len().min(80)] {
+        text.append_byte(seen_as(*byte));
+    }
+    text
 }
 
 /// What a byte is shown as: itself where it prints, else a point.
