@@ -7,17 +7,23 @@
  *   EDGE_READ=short, EDGE_READ=interrupt   the same of reads
  *   EDGE_SYNC=fail        each sync fails
  *   EDGE_SYNC=fail NAME   each sync of the file or folder of that name fails
- *   EDGE_ONCE=truncate FILE LENGTH, remove FILE, rename FILE OTHER   is done at the first write to a file
+ *   EDGE_ONCE=truncate FILE LENGTH, remove FILE, rename FILE OTHER, hard FILE OTHER   is done at the first write to a file
+ *   EDGE_ONCE=append FILE TEXT   is done at the first write to another file, after FILE has bytes
+ *   EDGE_READ=fail NAME   each read of the file of that name fails
+ *   EDGE_KILL=N           the program is killed in place of the N-th write to a file
  */
 #define _GNU_SOURCE
 #include <dlfcn.h>
 #include <errno.h>
+#include <fcntl.h>
+#include <signal.h>
 #include <stdio.h>
 #include <stdlib.h>
 #include <string.h>
+#include <sys/stat.h>
 #include <unistd.h>
 
-static long allocations, reads, writes;
+static long allocations, reads, writes, kept;
 static size_t taken;
 
 static int is_refused(void) {
@@ -44,24 +50,42 @@ static int is_set(const char *name, const char *value) {
     return set && strncmp(set, value, strlen(value)) == 0;
 }
 
-static void do_once(void) {
+static int is_named(int fd, const char *name) {
+    char place[64], path[4096];
+    ssize_t length;
+    size_t wanted = strlen(name);
+    snprintf(place, sizeof place, "/proc/self/fd/%d", fd);
+    length = readlink(place, path, sizeof path);
+    return length >= (ssize_t)wanted && memcmp(path + length - wanted, name, wanted) == 0;
+}
+
+static void do_once(int fd) {
     char words[256], *first, *second, *third;
     const char *once = getenv("EDGE_ONCE");
+    struct stat found;
     if (!once) return;
     snprintf(words, sizeof words, "%s", once);
-    unsetenv("EDGE_ONCE");
     first = strtok(words, " ");
     second = strtok(NULL, " ");
     third = strtok(NULL, " ");
+    if (strcmp(first, "append") == 0 && (stat(second, &found) != 0 || found.st_size == 0 || is_named(fd, second))) return;
+    unsetenv("EDGE_ONCE");
     if (strcmp(first, "truncate") == 0 && truncate(second, atol(third)) != 0) _exit(99);
     if (strcmp(first, "remove") == 0 && unlink(second) != 0) _exit(99);
     if (strcmp(first, "rename") == 0 && rename(second, third) != 0) _exit(99);
+    if (strcmp(first, "hard") == 0 && link(second, third) != 0) _exit(99);
+    if (strcmp(first, "append") == 0) {
+        int file = open(second, O_WRONLY | O_APPEND);
+        if (dprintf(file, "%s", third) < 0) _exit(99);
+        close(file);
+    }
 }
 
 ssize_t write(int fd, const void *bytes, size_t count) {
     static ssize_t (*next)(int, const void *, size_t);
     if (!next) next = (ssize_t (*)(int, const void *, size_t))dlsym(RTLD_NEXT, "write");
-    if (fd > 2) do_once();
+    if (fd > 2) do_once(fd);
+    if (fd > 2 && getenv("EDGE_KILL") && ++kept == atol(getenv("EDGE_KILL"))) raise(SIGKILL);
     if (is_set("EDGE_WRITE", "interrupt") && writes++ % 2 == 0) { errno = EINTR; return -1; }
     if (is_set("EDGE_WRITE", "short") && count > 3) count = 3;
     if (is_set("EDGE_WRITE", "full") && fd > 2) {
@@ -76,18 +100,10 @@ ssize_t write(int fd, const void *bytes, size_t count) {
 ssize_t read(int fd, void *bytes, size_t count) {
     static ssize_t (*next)(int, void *, size_t);
     if (!next) next = (ssize_t (*)(int, void *, size_t))dlsym(RTLD_NEXT, "read");
+    if (is_set("EDGE_READ", "fail") && is_named(fd, getenv("EDGE_READ") + 5)) { errno = EIO; return -1; }
     if (is_set("EDGE_READ", "interrupt") && reads++ % 2 == 0) { errno = EINTR; return -1; }
     if (is_set("EDGE_READ", "short") && count > 3) count = 3;
     return next(fd, bytes, count);
-}
-
-static int is_named(int fd, const char *name) {
-    char place[64], path[4096];
-    ssize_t length;
-    size_t wanted = strlen(name);
-    snprintf(place, sizeof place, "/proc/self/fd/%d", fd);
-    length = readlink(place, path, sizeof path);
-    return length >= (ssize_t)wanted && memcmp(path + length - wanted, name, wanted) == 0;
 }
 
 int fsync(int fd) {
