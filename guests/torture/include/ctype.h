@@ -1,0 +1,3 @@
+/* For GCC's execution tests: what they include. */
+int isprint(int);
+int isdigit(int);
