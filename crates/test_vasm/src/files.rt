@@ -1,10 +1,10 @@
 use std::alloc::Global;
 use std::process::Abort;
 use std::test::Fail;
-use vvmm_files::{Answer, asm, dis, fault_text};
 use vasm_text::{AsmFault, AsmKind};
 use vv_base::{FileName, file_name};
 use vv_io::{MemLine, MemShelf};
+use vvmm_files::{Answer, asm, dis, fault_text};
 
 fn named(text: &str) -> FileName {
     file_name(text.as_bytes()).unwrap_or(FileName::new())
