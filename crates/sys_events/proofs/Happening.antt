@@ -10,7 +10,7 @@ use Rattle.sys_events.specs.Happens.{Does, DoesAnywhere, DoesUnseen, Happen, Hap
 use Rattle.sys_guests.proofs.LaidOut.{placed_long}
 use Rattle.sys_guests.specs.Kernel.{IsKernel, Leads, kernel_state}
 use Rattle.sys_guests.specs.declared.kernel.Kernel.{Kernel}
-use Rattle.sys_lines.specs.Shows.{Shows}
+use Rattle.sys_devices.specs.Shows.{Shows}
 use Rattle.sys_objects.specs.declared.records.Config.{Config}
 use Rattle.sys_objects.specs.declared.records.Terminal.{Terminal}
 use Rattle.sys_state.specs.Events.{at_place, at_row, events, happened, is_named, lined, said_on, typed_at_terminal}

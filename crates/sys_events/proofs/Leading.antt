@@ -15,8 +15,8 @@ use Rattle.sys_guests.specs.Changes.{ChangesOne, StartsOne, TakesStateAt}
 use Rattle.sys_guests.specs.Kernel.{IsKernel, Leads, kernel_state}
 use Rattle.sys_guests.specs.Layout.{AreInMachine, end_of_guests, guests_in}
 use Rattle.sys_guests.specs.declared.kernel.Kernel.{Kernel}
-use Rattle.sys_lines.proofs.Showings.{shows_none, shows_same, shows_then}
-use Rattle.sys_lines.specs.Shows.{Shows}
+use Rattle.sys_devices.proofs.Showings.{shows_none, shows_same, shows_then}
+use Rattle.sys_devices.specs.Shows.{Shows}
 use Rattle.sys_objects.specs.Condition.{IsConfig}
 use Rattle.sys_objects.specs.declared.records.Config.{Config}
 use Rattle.sys_objects.specs.declared.records.GuestRow.{GuestRow}

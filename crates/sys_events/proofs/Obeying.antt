@@ -17,7 +17,7 @@ use Rattle.sys_events.specs.Seats.{Names, took}
 use Rattle.sys_guests.specs.Changes.{StartsOne, StopShows, TakesStateAt}
 use Rattle.sys_guests.specs.Kernel.{IsKernel, Leads, kernel_state}
 use Rattle.sys_guests.specs.declared.kernel.Kernel.{Kernel}
-use Rattle.sys_lines.specs.Shows.{Shows, only_on}
+use Rattle.sys_devices.specs.Shows.{Shows, only_on}
 use Rattle.sys_objects.specs.declared.records.Config.{Config}
 use Rattle.sys_objects.specs.declared.records.GuestRow.{GuestRow}
 use Rattle.sys_objects.specs.declared.records.Terminal.{Terminal}

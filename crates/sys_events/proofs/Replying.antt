@@ -7,8 +7,8 @@ use Rattle.vm_guest.specs.Kept.{Kept}
 use Rattle.sys_events.proofs.Lists.{get_past, all_get}
 use Rattle.sys_events.proofs.Telling.{parts, told_then}
 use Rattle.sys_events.specs.Saying.{answers, audits, one_put, puts_on, runs, show_lines}
-use Rattle.sys_lines.proofs.Showings.{shows_none, shows_same}
-use Rattle.sys_lines.specs.Shows.{Shows, only_on}
+use Rattle.sys_devices.proofs.Showings.{shows_none, shows_same}
+use Rattle.sys_devices.specs.Shows.{Shows, only_on}
 use Rattle.sys_objects.specs.Condition.{IsTerminal}
 use Rattle.sys_objects.specs.declared.records.Audit.{Audit}
 use Rattle.sys_objects.specs.declared.records.Config.{Config}

@@ -9,8 +9,8 @@ use Rattle.vv_io.specs.Lines.{Seen}
 use Rattle.vm_guest.specs.Kept.{Kept}
 use Rattle.sys_events.specs.Saying.{guest_line, guest_text, one_put, puts_on, runs}
 use Rattle.sys_guests.specs.Layout.{guests_in}
-use Rattle.sys_lines.proofs.Showings.{shows_same, shows_then}
-use Rattle.sys_lines.specs.Shows.{Shows, only_on}
+use Rattle.sys_devices.proofs.Showings.{shows_same, shows_then}
+use Rattle.sys_devices.specs.Shows.{Shows, only_on}
 use Rattle.sys_objects.specs.Condition.{IsTerminal}
 use Rattle.sys_objects.specs.declared.records.GuestRow.{GuestRow}
 use Rattle.sys_objects.specs.declared.records.Terminal.{Terminal}

@@ -1,6 +1,6 @@
 ghost use Rattle.std.specs.Prelude.{◌≡◌, ◌<◌, ◌≤◌, ◌∷◌, [], All, IfSome, length, slice_get};
 ghost use Rattle.sys_events.specs.Saying.{answers, audits};
-ghost use Rattle.sys_lines.specs.Shows.{Shows};
+ghost use Rattle.sys_devices.specs.Shows.{Shows};
 ghost use Rattle.sys_objects.specs.Condition.{IsAudit, IsTerminal};
 ghost use Rattle.sys_state.specs.Events.{said_on, taken_puts};
 ghost use Rattle.sys_state.specs.State.{bytes_on};
@@ -8,7 +8,7 @@ ghost use Rattle.sys_state.specs.State.{bytes_on};
 use crate::consoles::terminal_at;
 use crate::texts::with_line_end;
 use sys_audit::audit_text;
-use sys_lines::{Marks, show_whole};
+use sys_devices::{Marks, show_whole};
 use sys_objects::{Config, Terminal};
 use sys_server::{Verdict, reply};
 use vv_io::Lines;

@@ -10,8 +10,8 @@ ghost use Rattle.sys_state.specs.FirstTouches.{started_by, with_reset};
 
 use crate::consoles::console_of;
 use crate::shows::show_objects;
+use sys_devices::show_each;
 use sys_guests::{Kernel, start_at, stop_at, type_at};
-use sys_lines::show_each;
 use sys_server::Command;
 use vax_hw::Hardware;
 use vv_io::Lines;

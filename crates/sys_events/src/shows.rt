@@ -1,14 +1,14 @@
 ghost use Rattle.std.specs.Prelude.{◌≡◌, ◌<◌, [], ◌∷◌, All, filter, if◌then◌else◌, length, map, slice_get};
 ghost use Rattle.vv_class.specs.Class.{does_flow};
 ghost use Rattle.sys_events.specs.Saying.{guest_line, one_put, puts_on, runs, show_lines};
-ghost use Rattle.sys_lines.specs.Shows.{Shows};
+ghost use Rattle.sys_devices.specs.Shows.{Shows};
 ghost use Rattle.sys_objects.specs.Condition.{IsTerminal};
 ghost use Rattle.sys_state.specs.State.{bytes_on};
 ghost use Rattle.sys_server.specs.Replies.{guest_lines, printer_line, volume_line};
 
 use crate::consoles::terminal_at;
 use crate::texts::{guest_text, printer_text, volume_text};
-use sys_lines::{Marks, show_whole};
+use sys_devices::{Marks, show_whole};
 use sys_objects::{Config, GuestRow, PrinterRow, Terminal, VolumeRow};
 use vm_guest::Guest;
 use vv_base::Text;

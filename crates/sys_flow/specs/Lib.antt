@@ -3,3 +3,8 @@ pub mod Reach
 pub mod Relation
 pub mod Report
 pub mod Shown
+pub mod Laws
+pub mod Layout
+pub mod Picture
+pub mod Seats
+pub mod ShownPicture

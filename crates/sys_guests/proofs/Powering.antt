@@ -14,7 +14,7 @@ use Rattle.vv_base.specs.Bytes.{overwritten}
 use Rattle.sys_guests.proofs.Images.{opening_length}
 use Rattle.sys_guests.specs.Layout.{guests_in}
 use Rattle.sys_guests.specs.Loads.{MemoryAlone, OnlyPlaces, PlacesOne, PutsIn, first_misfit, is_misfit}
-use Rattle.sys_lines.proofs.Lists.{found_here, found_later, from_on}
+use Rattle.sys_devices.proofs.Lists.{found_here, found_later, from_on}
 use Rattle.sys_objects.specs.declared.records.GuestRow.{GuestRow}
 use Rattle.sys_state.specs.Guests.{powered}
 use Rattle.sys_state.specs.Places.{beside_with, place_of}

@@ -11,8 +11,8 @@ use Rattle.sys_state.specs.FirstTouches.{none_touched, reset_as, with_reset}
 use Rattle.sys_state.specs.Places.{changed}
 use Rattle.sys_state.specs.SlicedTouches.{touched_as, touches_of_slice}
 use Rattle.sys_state.specs.Slices.{Slice}
-use Rattle.vm_miss_laws.specs.Paid.{Pays}
-use Rattle.vm_miss_laws.specs.Present.{HasPresent}
+use Rattle.vm_simulation_laws.specs.Paid.{Pays}
+use Rattle.vm_simulation_laws.specs.Present.{HasPresent}
 use Rattle.vm_guest.specs.Kept.{KeepsPresent, Kept, guest_in}
 use Rattle.vm_shadow.specs.Shadowed.{Shadowed}
 use Rattle.vm_state.specs.State.{Guest}

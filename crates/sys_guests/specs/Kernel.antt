@@ -4,7 +4,7 @@ use Rattle.vax_hw.specs.Machine.{Machine}
 use Rattle.vv_io.specs.Lines.{Seen}
 use Rattle.sys_guests.specs.Layout.{AreInMachine, OnlyGuests, guests_in}
 use Rattle.sys_guests.specs.declared.kernel.Kernel.{Kernel}
-use Rattle.sys_lines.specs.Shows.{Shows}
+use Rattle.sys_devices.specs.Shows.{Shows}
 use Rattle.sys_objects.specs.Condition.{IsConfig}
 use Rattle.sys_objects.specs.declared.records.Mount.{Mount}
 use Rattle.sys_state.specs.State.{SystemState, Went, bytes_on}

@@ -5,7 +5,7 @@ use Rattle.sys_guests.specs.Layout.{IsPlaced}
 use Rattle.sys_objects.specs.declared.records.GuestRow.{GuestRow}
 use Rattle.sys_state.specs.Guests.{powered}
 use Rattle.sys_state.specs.Places.{beside_with, place_of}
-use Rattle.vm_miss_laws.specs.Present.{HasPresent}
+use Rattle.vm_simulation_laws.specs.Present.{HasPresent}
 use Rattle.vm_guest.specs.Kept.{IsShadowedIn, Kept, guest_in}
 use Rattle.vm_state.specs.Partition.{partition_of}
 use Rattle.vm_state.specs.State.{Guest}

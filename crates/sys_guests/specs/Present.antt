@@ -3,8 +3,8 @@
 use Rattle.std.specs.Prelude.{ℕ, ◌+◌, ◌≤◌, List, [], ◌∷◌}
 use Rattle.std.specs.List.{sum_by}
 use Rattle.vax_hw.specs.Machine.{Machine}
-use Rattle.vm_miss_laws.specs.Paid.{Misses}
-use Rattle.vm_miss_laws.specs.Present.{HasPresent}
+use Rattle.vm_simulation_laws.specs.Paid.{Misses}
+use Rattle.vm_simulation_laws.specs.Present.{HasPresent}
 use Rattle.vm_guest.specs.Kept.{Kept}
 use Rattle.vm_state.specs.Touches.{Touching}
 

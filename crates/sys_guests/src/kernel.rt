@@ -1,4 +1,4 @@
-use sys_lines::Marks;
+use sys_devices::Marks;
 use sys_objects::Config;
 use sys_server::ServerState;
 use vm_console::KeptPort;

@@ -5,7 +5,7 @@ ghost use Rattle.sys_guests.specs.Present.{KeepsAll, PaysAll};
 ghost use Rattle.sys_state.specs.FirstTouches.{with_reset};
 ghost use Rattle.sys_state.specs.Guests.{stopped_by_command, typed};
 ghost use Rattle.sys_state.specs.SlicedTouches.{touches_of_slice};
-ghost use Rattle.vm_events.specs.Noted.{note_of};
+ghost use Rattle.vm_exception.specs.Noted.{note_of};
 ghost use Rattle.vm_guest.specs.Kept.{IsShadowedIn};
 
 use crate::kernel::MOST_SHOWN;

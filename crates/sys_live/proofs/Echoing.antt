@@ -4,11 +4,11 @@ use Rattle.std.proofs.Math.Seq.{drop-append-add, take-length}
 use Rattle.std.proofs.lemmas.List.{length-drop, length-take-le, take_all}
 use Rattle.std.proofs.lemmas.List.Elements.{All-cons, All-head, All-tail}
 use Rattle.vv_io.specs.Lines.{Counts, Seen, shown_after, unseen}
-use Rattle.sys_echo.specs.Echo.{echo_of}
-use Rattle.sys_echo.specs.Rounds.{echo_all, echo_rounds, taken_next}
-use Rattle.sys_echo.specs.Screens.{AreLinesKnown, AreSameScreens, AreScreens, AreWithin, IsLineKnown, more_on, new_on, news, shown_if_known}
-use Rattle.sys_echo.specs.declared.screen.Screen.{Screen}
-use Rattle.sys_lines.specs.Shows.{Shows, ShowsUnlessMarked}
+use Rattle.sys_devices.specs.Echo.{echo_of}
+use Rattle.sys_devices.specs.Rounds.{echo_all, echo_rounds, taken_next}
+use Rattle.sys_devices.specs.Screens.{AreLinesKnown, AreSameScreens, AreScreens, AreWithin, IsLineKnown, more_on, new_on, news, shown_if_known}
+use Rattle.sys_devices.specs.declared.screen.Screen.{Screen}
+use Rattle.sys_devices.specs.Shows.{Shows, ShowsUnlessMarked}
 use Rattle.sys_objects.specs.declared.records.Terminal.{Terminal}
 use Rattle.sys_state.proofs.Consoles.{bytes_append}
 use Rattle.sys_state.specs.Bytes.{shown_from}

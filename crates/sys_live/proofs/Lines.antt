@@ -6,9 +6,9 @@ use Rattle.std.specs.Result.{is_ok}
 use Rattle.vv_io.specs.Causes.{Rose}
 use Rattle.vv_io.specs.Keys.{Keys, Took, given_of}
 use Rattle.vv_io.specs.Lines.{Seen}
-use Rattle.sys_lines.proofs.Puts.{joined, still}
-use Rattle.sys_lines.specs.ShownSince.{ShownSince}
-use Rattle.sys_lines.specs.Shows.{ShowsUnlessMarked}
+use Rattle.sys_devices.proofs.Puts.{joined, still}
+use Rattle.sys_devices.specs.ShownSince.{ShownSince}
+use Rattle.sys_devices.specs.Shows.{ShowsUnlessMarked}
 use Rattle.sys_script.proofs.TypedLines.{says_in_each}
 use Rattle.sys_script.specs.Typed.{events_typed, if_said, refusal_message, refusal_messages, rounds_ended, rounds_typed, says_event, typed_in}
 use Rattle.sys_script.specs.declared.event.Event.{Event}

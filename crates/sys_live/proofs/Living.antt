@@ -8,12 +8,12 @@ use Rattle.std.specs.List.{AllPairs, filter_map}
 use Rattle.vax_hw.specs.Machine.{Machine}
 use Rattle.vv_io.specs.Blocks.{SeenDrive}
 use Rattle.vv_io.specs.Lines.{Seen}
-use Rattle.sys_echo.specs.Rounds.{echo_rounds, taken_next}
-use Rattle.sys_echo.specs.Screens.{IsLineKnown, more_on}
+use Rattle.sys_devices.specs.Rounds.{echo_rounds, taken_next}
+use Rattle.sys_devices.specs.Screens.{IsLineKnown, more_on}
 use Rattle.sys_guests.specs.Layout.{guests_in}
 use Rattle.sys_guests.specs.Loads.{MemoryAlone}
 use Rattle.sys_guests.specs.Present.{HavePresent}
-use Rattle.sys_lines.specs.Shows.{Shows}
+use Rattle.sys_devices.specs.Shows.{Shows}
 use Rattle.sys_objects.specs.Condition.{IsConfig}
 use Rattle.sys_objects.specs.Rules.{audit_line, lines_of}
 use Rattle.sys_objects.specs.declared.records.Config.{Config}

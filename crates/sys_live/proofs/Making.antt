@@ -6,12 +6,12 @@ use Rattle.std.specs.Result.{is_err}
 use Rattle.vax_hw.specs.Machine.{Machine}
 use Rattle.vv_io.specs.Keys.{Keys, Took}
 use Rattle.vv_io.specs.Lines.{Seen, unseen}
-use Rattle.sys_echo.specs.Rounds.{echo_all, echo_rounds, taken_next}
-use Rattle.sys_echo.specs.Screens.{AreSameScreens, AreScreens, AreWithin, Echoes, IsLineKnown, more_on, new_on}
-use Rattle.sys_echo.specs.declared.screen.Screen.{Screen}
-use Rattle.sys_lines.proofs.Puts.{joined, shows_nothing, still}
-use Rattle.sys_lines.specs.ShownSince.{ShownSince}
-use Rattle.sys_lines.specs.Shows.{Shows}
+use Rattle.sys_devices.specs.Rounds.{echo_all, echo_rounds, taken_next}
+use Rattle.sys_devices.specs.Screens.{AreSameScreens, AreScreens, AreWithin, Echoes, IsLineKnown, more_on, new_on}
+use Rattle.sys_devices.specs.declared.screen.Screen.{Screen}
+use Rattle.sys_devices.proofs.Puts.{joined, shows_nothing, still}
+use Rattle.sys_devices.specs.ShownSince.{ShownSince}
+use Rattle.sys_devices.specs.Shows.{Shows}
 use Rattle.sys_state.specs.Bytes.{shown_from}
 use Rattle.sys_state.specs.Run.{Moment}
 use Rattle.sys_runs.proofs.SavedRuns.{where_whole}

@@ -17,7 +17,7 @@ use Rattle.sys_script.specs.declared.event.Typed.{Typed}
 use Rattle.sys_system.specs.Calls.{AreOf}
 use Rattle.sys_live.proofs.Words.{tells_both, tells_none}
 use Rattle.sys_live.specs.Operator.{Operator}
-use Rattle.sys_lines.specs.Shows.{ShowsUnlessMarked}
+use Rattle.sys_devices.specs.Shows.{ShowsUnlessMarked}
 use Rattle.sys_live.specs.Typing.{BreaksOff, EndsTypedRound, TookWell, TypesRound}
 use Rattle.sys_live.specs.declared.typing.Count.{Count}
 use Rattle.sys_live.specs.declared.typing.TypedRound.{TypedRound}

@@ -1,9 +1,9 @@
 -- What is told of lines, and of what they say.
 use Rattle.std.proofs.Common.{◌≡◌, ℕ, List, [], ◌++◌, Bool, true, false, Result, Ok, Err, OnErr, OnOk, is_ok, is_err, if◌then◌else◌, refl, sym, ◌∙◌, ap, subst, append-nil}
 use Rattle.vv_io.specs.Lines.{Puts, Seen}
-use Rattle.sys_lines.specs.ShownSince.{ShownSince}
-use Rattle.sys_lines.proofs.Puts.{joined, shows, shows_nothing, still}
-use Rattle.sys_lines.specs.Shows.{ShowsUnlessMarked}
+use Rattle.sys_devices.specs.ShownSince.{ShownSince}
+use Rattle.sys_devices.proofs.Puts.{joined, shows, shows_nothing, still}
+use Rattle.sys_devices.specs.Shows.{ShowsUnlessMarked}
 use Rattle.sys_script.specs.Script.{is_passed_over}
 use Rattle.sys_script.specs.Typed.{if_said, refusal_message, says_event, typed_in, why_not}
 use Rattle.sys_script.specs.declared.event.Event.{Event}

@@ -1,9 +1,9 @@
 -- A run whose events are typed while it goes on.
 use Rattle.std.specs.Prelude.{ℕ, ◌≡◌, ◌≤◌, List, All, Bool, false, slice_index_or, Result, Ok, Err}
 use Rattle.vv_io.specs.Lines.{Seen, unseen}
-use Rattle.sys_echo.specs.Rounds.{echo_rounds}
-use Rattle.sys_echo.specs.Screens.{IsLineKnown, more_on}
-use Rattle.sys_lines.specs.ShownSince.{ShownSince}
+use Rattle.sys_devices.specs.Rounds.{echo_rounds}
+use Rattle.sys_devices.specs.Screens.{IsLineKnown, more_on}
+use Rattle.sys_devices.specs.ShownSince.{ShownSince}
 use Rattle.sys_objects.specs.declared.records.Config.{Config}
 use Rattle.sys_objects.specs.declared.records.Terminal.{Terminal}
 use Rattle.sys_state.specs.Run.{Input, opening}

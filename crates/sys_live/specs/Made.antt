@@ -2,10 +2,10 @@
 use Rattle.std.specs.Prelude.{ℕ, ◌≡◌, ◌≤◌, List, [], All, Bool, true, false, slice_index_or}
 use Rattle.vax_hw.specs.Machine.{Machine}
 use Rattle.vv_io.specs.Lines.{Seen, unseen}
-use Rattle.sys_echo.specs.Rounds.{echo_rounds}
-use Rattle.sys_echo.specs.Screens.{AreSameScreens, AreWithin, Echoes, IsLineKnown, more_on, new_on}
-use Rattle.sys_echo.specs.declared.screen.Screen.{Screen}
-use Rattle.sys_lines.specs.ShownSince.{ShownSince}
+use Rattle.sys_devices.specs.Rounds.{echo_rounds}
+use Rattle.sys_devices.specs.Screens.{AreSameScreens, AreWithin, Echoes, IsLineKnown, more_on, new_on}
+use Rattle.sys_devices.specs.declared.screen.Screen.{Screen}
+use Rattle.sys_devices.specs.ShownSince.{ShownSince}
 use Rattle.sys_runs.specs.Rounds.{MakesRounds}
 use Rattle.sys_script.specs.Typed.{events_typed, refusal_messages, rounds_typed}
 use Rattle.sys_system.specs.System.{System, moment_of}

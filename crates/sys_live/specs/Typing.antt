@@ -2,7 +2,7 @@
 use Rattle.std.specs.Prelude.{ℕ, ◌≡◌, ◌≢◌, ◌<◌, ◌+◌, ◌-◌, ◌^◌, ◌⊎◌, List, [], ◌∷◌, ◌++◌, All, Bool, true, false, length}
 use Rattle.vv_io.specs.Causes.{Rose}
 use Rattle.vv_io.specs.Keys.{IsOut, Keys, Took}
-use Rattle.sys_lines.specs.Shows.{ShowsUnlessMarked}
+use Rattle.sys_devices.specs.Shows.{ShowsUnlessMarked}
 use Rattle.sys_script.specs.Typed.{events_typed, refusal_messages, rounds_ended, says_event}
 use Rattle.sys_live.specs.Operator.{Operator}
 use Rattle.sys_live.specs.declared.typing.Count.{Count}

@@ -3,14 +3,14 @@ ghost use Rattle.sys_live.specs.Lives.{LivesRun};
 ghost use Rattle.sys_live.specs.Made.{GoesOnShowing, MakesTyped};
 ghost use Rattle.sys_runs.specs.Rounds.{MakesRounds};
 ghost use Rattle.sys_script.specs.Events.{AreEvents};
-ghost use Rattle.sys_echo.specs.Screens.{AreScreens};
+ghost use Rattle.sys_devices.specs.Screens.{AreScreens};
 ghost use Rattle.sys_objects.specs.Condition.{IsConfig};
 ghost use Rattle.sys_system.specs.System.{IsInMachine, IsSystem};
 ghost use Rattle.vm_stepping.specs.Made.{steps_in};
 
 use crate::typing::{Count, Typing, read_round};
 use std::alloc::Global;
-use sys_echo::{Screen, echo, screens_of};
+use sys_devices::{Screen, echo, screens_of};
 use sys_objects::Config;
 use sys_runs::{Ran, make_rounds};
 use sys_script::{Event, typed_law};

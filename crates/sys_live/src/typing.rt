@@ -1,5 +1,5 @@
 ghost use Rattle.std.specs.Prelude.{◌≡◌, ◌≤◌, ◌++◌, [], All, Err, IfOk, OnErr, OnOk, true};
-ghost use Rattle.sys_lines.specs.Shows.{ShowsUnlessMarked};
+ghost use Rattle.sys_devices.specs.Shows.{ShowsUnlessMarked};
 ghost use Rattle.sys_live.specs.Typing.{TypesRound};
 ghost use Rattle.sys_script.specs.Typed.{if_said, says_event, typed_in, refusal_message, why_not};
 ghost use Rattle.sys_script.specs.Events.{IsEvent};

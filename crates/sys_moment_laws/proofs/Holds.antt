@@ -24,7 +24,7 @@ use Rattle.sys_server.specs.declared.command.Command.{Command}
 use Rattle.sys_server.specs.declared.command.Command.TheVariants.{Connect, Start, Halt, MountAt, Dismount, Show}
 use Rattle.sys_server.specs.declared.command.Verdict.{Verdict}
 use Rattle.sys_server.specs.declared.command.Verdict.TheVariants.{Granted, BadCommand, NoSuchObject, Denied}
-use Rattle.vm_halt_laws.proofs.Halts.{stops_with_codes}
+use Rattle.sys_moment_laws.proofs.Halts.{stops_with_codes}
 use Rattle.vm_state.specs.Stops.{IsHalt}
 use Rattle.vm_state.specs.Run.{no_steps}
 use Rattle.vm_state.specs.State.{Guest, State as GuestPart}

@@ -1,3 +1,4 @@
+pub mod Halts
 mod Holds
 pub mod Separate
 mod Shapes

@@ -1,3 +1,4 @@
+pub mod Halts
 pub mod Holds
 pub mod ConsistentState
 pub mod Separate

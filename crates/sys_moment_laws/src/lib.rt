@@ -1,9 +1,15 @@
-//! Laws of what the state between two rounds keeps.
+//! Laws of what the state between two rounds keeps, and of a guest that has stopped.
 #![tactic(auto)]
 
 ghost use Rattle.sys_moment_laws.specs.ConsistentState.{MomentsAreConsistent, OpeningIsConsistent, RoundsKeepConsistency, RunsAreConsistent};
+ghost use Rattle.sys_moment_laws.specs.Halts.{StopsWithCodes};
 ghost use Rattle.sys_moment_laws.specs.Holds.{RoundsKeep, RunsKeep};
 ghost use Rattle.sys_moment_laws.specs.Separate.{MomentsAreSeparate, RoundsKeepPurges};
+
+/// A guest that runs, or has stopped with a stop code, does so after any steps.
+pub fn a_guest_stops_with_a_code()
+    ensures { StopsWithCodes }
+{}
 
 /// Rounds keep that no guest is at two terminals, and that each runs or has stopped with a stop code.
 pub fn rounds_keep_them()

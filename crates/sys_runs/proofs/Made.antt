@@ -6,8 +6,8 @@ use Rattle.sys_guests.specs.Changes.{Retires}
 use Rattle.sys_guests.specs.Layout.{guests_in}
 use Rattle.sys_guests.specs.Loads.{MemoryAlone}
 use Rattle.sys_guests.specs.Present.{HavePresent, counted_in}
-use Rattle.sys_lines.proofs.Showings.{shows_same, shows_then}
-use Rattle.sys_lines.specs.Shows.{Shows, ShowsUnlessMarked}
+use Rattle.sys_devices.proofs.Showings.{shows_same, shows_then}
+use Rattle.sys_devices.specs.Shows.{Shows, ShowsUnlessMarked}
 use Rattle.sys_state.proofs.Additions.{added_either}
 use Rattle.sys_state.proofs.Steps.{as_sum}
 use Rattle.sys_state.specs.Bytes.{dump_on, line_bytes_from, shown_from}
@@ -21,7 +21,7 @@ use Rattle.sys_runs.specs.Rounds.{MakesRounds}
 use Rattle.sys_script.specs.declared.event.Event.{Event}
 use Rattle.sys_system.specs.Powers.{IsAt}
 use Rattle.sys_system.specs.System.{IsSystem, System, moment_of, system_state}
-use Rattle.vm_miss_laws.specs.Paid.{Misses}
+use Rattle.vm_simulation_laws.specs.Paid.{Misses}
 use Rattle.vm_state.specs.Run.{Tally, no_steps}
 use Rattle.vm_state.specs.Touches.{Touching}
 use Rattle.vm_stepping.specs.Made.{steps_in, tally_of}

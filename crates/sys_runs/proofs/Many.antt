@@ -5,7 +5,7 @@ use Rattle.vv_io.specs.Lines.{Seen}
 use Rattle.sys_guests.specs.Changes.{Retires}
 use Rattle.sys_guests.specs.Layout.{end_of_guests}
 use Rattle.sys_guests.specs.Present.{PaysAll}
-use Rattle.sys_lines.proofs.Showings.{shows_none, shows_same, shows_then}
+use Rattle.sys_devices.proofs.Showings.{shows_none, shows_same, shows_then}
 use Rattle.sys_objects.specs.declared.records.Config.{Config}
 use Rattle.sys_state.proofs.Additions.{added_either, added_twice}
 use Rattle.sys_state.proofs.Consoles.{bytes_append}

@@ -8,7 +8,7 @@ use Rattle.vv_io.specs.Lines.{Seen}
 use Rattle.sys_guests.specs.Layout.{guests_in}
 use Rattle.sys_guests.specs.Loads.{MemoryAlone}
 use Rattle.sys_guests.specs.Present.{HavePresent}
-use Rattle.sys_lines.specs.ShownSince.{ShownSince}
+use Rattle.sys_devices.specs.ShownSince.{ShownSince}
 use Rattle.sys_moment_laws.proofs.Stands.{opens_right, rounds_keep_right}
 use Rattle.sys_moment_laws.specs.ConsistentState.{IsConsistentState}
 use Rattle.sys_objects.specs.Condition.{IsConfig}

@@ -3,9 +3,9 @@ use Rattle.std.proofs.Common.{ℕ, zero, suc, ◌≡◌, ◌≢◌, ◌<◌, Lis
 use Rattle.std.proofs.lemmas.Bool.{eq-eqb, ne_eqb}
 use Rattle.std.proofs.lemmas.List.{ext_get_or, get_or_default}
 use Rattle.vv_io.specs.Blocks.{SeenDrive, unkept}
-use Rattle.sys_drives.proofs.Places.{stands}
-use Rattle.sys_drives.specs.Rows.{drive_at}
-use Rattle.sys_drives.specs.Stores.{StoresToDrive, StoresToDrives, is_marked}
+use Rattle.sys_devices.proofs.Places.{stands}
+use Rattle.sys_devices.specs.Rows.{drive_at}
+use Rattle.sys_devices.specs.Stores.{StoresToDrive, StoresToDrives, is_marked}
 use Rattle.sys_objects.specs.Condition.{IsConfig}
 use Rattle.sys_objects.specs.declared.records.VolumeRow.{VolumeRow}
 use Rattle.sys_state.specs.Bytes.{blocks_at, drive_blocks_from, is_on_drive}

@@ -5,8 +5,8 @@ use Rattle.std.specs.Global.{Vec}
 use Rattle.vax_hw.specs.Machine.{Machine}
 use Rattle.vv_io.specs.Blocks.{SeenDrive}
 use Rattle.vv_io.specs.Lines.{Seen}
-use Rattle.sys_drives.specs.Rows.{FitsDrive}
-use Rattle.sys_drives.specs.Stores.{StoresToDrives}
+use Rattle.sys_devices.specs.Rows.{FitsDrive}
+use Rattle.sys_devices.specs.Stores.{StoresToDrives}
 use Rattle.sys_guests.specs.Layout.{guests_in}
 use Rattle.sys_guests.specs.Loads.{MemoryAlone}
 use Rattle.sys_guests.specs.Present.{HavePresent}

@@ -3,10 +3,10 @@ use Rattle.std.specs.Prelude.{ℕ, ◌≡◌, ◌≤◌, ◌*◌, List, [], leng
 use Rattle.std.specs.declared.option.Option.TheVariants.{None, Some}
 use Rattle.std.specs.declared.result.Result.{Result}
 use Rattle.std.specs.declared.result.Result.TheVariants.{Ok, Err}
-use Rattle.sys_drives.specs.Rows.{FitRows}
+use Rattle.sys_devices.specs.Rows.{FitRows}
 use Rattle.sys_guests.specs.Changes.{Retires}
 use Rattle.sys_guests.specs.Loads.{first_misfit}
-use Rattle.sys_lines.specs.Shows.{Shows}
+use Rattle.sys_devices.specs.Shows.{Shows}
 use Rattle.sys_objects.specs.declared.records.Config.{Config}
 use Rattle.sys_state.specs.Bytes.{line_bytes}
 use Rattle.sys_state.specs.Counts.{run_outcome}
@@ -19,7 +19,7 @@ use Rattle.sys_system.specs.Devices.{first_failed}
 use Rattle.sys_system.specs.Given.{first_of_another_size}
 use Rattle.sys_system.specs.declared.power.PowerFault.{PowerFault}
 use Rattle.sys_system.specs.declared.power.PowerFault.TheVariants.{Image, VolumeSize, DriveIn, NoMemory}
-use Rattle.vm_miss_laws.specs.Paid.{Misses}
+use Rattle.vm_simulation_laws.specs.Paid.{Misses}
 use Rattle.vm_stepping.specs.Made.{steps_in, tally_of}
 
 -- The run was made, over volumes of the right sizes; every drive is as before. All else is as in a run over drives: each

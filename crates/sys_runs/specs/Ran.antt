@@ -6,12 +6,12 @@ use Rattle.std.specs.declared.result.Result.TheVariants.{Ok, Err}
 use Rattle.vax_hw.specs.Machine.{Machine}
 use Rattle.vv_io.specs.Blocks.{SeenDrive}
 use Rattle.vv_io.specs.Lines.{Seen}
-use Rattle.sys_drives.specs.Loads.{AreLoaded, HasFailed, IsMisfit}
-use Rattle.sys_drives.specs.Rows.{FitsDrive, drive_at}
-use Rattle.sys_drives.specs.Stores.{StoresToDrive, is_marked}
+use Rattle.sys_devices.specs.Loads.{AreLoaded, HasFailed, IsMisfit}
+use Rattle.sys_devices.specs.Rows.{FitsDrive, drive_at}
+use Rattle.sys_devices.specs.Stores.{StoresToDrive, is_marked}
 use Rattle.sys_guests.specs.Changes.{Retires}
 use Rattle.sys_guests.specs.Loads.{first_misfit}
-use Rattle.sys_lines.specs.Shows.{Shows}
+use Rattle.sys_devices.specs.Shows.{Shows}
 use Rattle.sys_objects.specs.declared.records.Config.{Config}
 use Rattle.sys_state.specs.Bytes.{drive_blocks_from, line_bytes_from}
 use Rattle.sys_state.specs.Counts.{tally_from}
@@ -22,7 +22,7 @@ use Rattle.sys_script.specs.declared.event.Event.{Event}
 use Rattle.sys_system.specs.Devices.{first_failed}
 use Rattle.sys_system.specs.declared.power.PowerFault.{PowerFault}
 use Rattle.sys_system.specs.declared.power.PowerFault.TheVariants.{Image, VolumeSize, DriveIn, NoMemory}
-use Rattle.vm_miss_laws.specs.Paid.{Misses}
+use Rattle.vm_simulation_laws.specs.Paid.{Misses}
 use Rattle.vm_stepping.specs.Made.{steps_in, tally_of}
 
 -- the outside of a run, before it and after it: the machine, the lines and the drives

@@ -4,11 +4,11 @@ use Rattle.std.specs.declared.option.Option.TheVariants.{None}
 use Rattle.std.specs.declared.result.Result.{Result}
 use Rattle.std.specs.declared.result.Result.TheVariants.{Ok, Err}
 use Rattle.vv_io.specs.Lines.{Seen}
-use Rattle.sys_drives.specs.Loads.{AreLoaded, IsMisfit}
+use Rattle.sys_devices.specs.Loads.{AreLoaded, IsMisfit}
 use Rattle.sys_guests.specs.Changes.{Retires}
 use Rattle.sys_guests.specs.Loads.{first_misfit}
-use Rattle.sys_lines.specs.ShownSince.{ShownSince}
-use Rattle.sys_lines.specs.Shows.{Shows}
+use Rattle.sys_devices.specs.ShownSince.{ShownSince}
+use Rattle.sys_devices.specs.Shows.{Shows}
 use Rattle.sys_objects.specs.declared.records.Config.{Config}
 use Rattle.sys_state.specs.Bytes.{shown_from}
 use Rattle.sys_state.specs.Counts.{tally_from}
@@ -23,7 +23,7 @@ use Rattle.sys_snap.specs.Written.{snap_bytes}
 use Rattle.sys_system.specs.Devices.{first_failed}
 use Rattle.sys_system.specs.declared.power.PowerFault.{PowerFault}
 use Rattle.sys_system.specs.declared.power.PowerFault.TheVariants.{Image, VolumeSize, DriveIn, NoMemory}
-use Rattle.vm_miss_laws.specs.Paid.{Misses}
+use Rattle.vm_simulation_laws.specs.Paid.{Misses}
 
 -- the moment after a run's last round
 abbrev pub last_moment : Input → Moment

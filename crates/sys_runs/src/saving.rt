@@ -6,9 +6,10 @@ ghost use Rattle.sys_script.specs.Events.{AreEvents};
 
 use crate::rounds::make_rounds;
 use std::alloc::Global;
+use sys_devices::Device;
 use sys_objects::Config;
 use sys_script::Event;
-use sys_system::{Device, PowerFault, System};
+use sys_system::{PowerFault, System};
 use vax_hw::Hardware;
 use vv_io::{Drive, Lines, Progress, Sink};
 

@@ -3,11 +3,11 @@ use Rattle.std.proofs.Common.{ℕ, suc, ◌≡◌, ◌==◌, ◌<◌, ◌≤◌,
 use Rattle.std.proofs.Math.ListN.{drop_of_length-le}
 use Rattle.std.proofs.lemmas.Bool.{eqb-true}
 use Rattle.std.proofs.lemmas.List.{get_or-map, get_or_default, length-map, map-set, set-get_or, take_all, take_more, take_more_set}
-use Rattle.sys_drives.proofs.Places.{as_many, at_place, blocks_fit}
-use Rattle.sys_drives.proofs.Reading.{IsReadTo, next_read}
-use Rattle.sys_drives.specs.Rows.{FitRows}
+use Rattle.sys_devices.proofs.Places.{as_many, at_place, blocks_fit}
+use Rattle.sys_devices.proofs.Reading.{IsReadTo, next_read}
+use Rattle.sys_devices.specs.Rows.{FitRows}
 use Rattle.sys_guests.proofs.Powering.{beside_at, beside_long}
-use Rattle.sys_lines.proofs.Lists.{found_here, found_later, from_on}
+use Rattle.sys_devices.proofs.Lists.{found_here, found_later, from_on}
 use Rattle.sys_objects.specs.Condition.{IsVolume}
 use Rattle.sys_objects.specs.declared.records.VolumeRow.{VolumeRow}
 use Rattle.sys_state.specs.Places.{beside_with, place_of}

@@ -5,7 +5,7 @@ use Rattle.std.proofs.lemmas.List.Elements.{All-append, All-cons, All-nil, All-w
 use Rattle.std.specs.List.{All, AllZip, list_any, slice_get}
 use Rattle.std.specs.Prelude.{IfSome}
 use Rattle.vv_class.specs.declared.class.AccessClass.{AccessClass}
-use Rattle.sys_drives.specs.Rows.{FitRows}
+use Rattle.sys_devices.specs.Rows.{FitRows}
 use Rattle.sys_guests.specs.Kernel.{AreUnits}
 use Rattle.sys_objects.specs.Rules.{is_mountable, may_mount, same_place}
 use Rattle.sys_objects.specs.declared.records.GuestRow.{GuestRow}

@@ -10,7 +10,7 @@ use Rattle.sys_guests.specs.Changes.{Retires}
 use Rattle.sys_guests.specs.Layout.{end_of_guests, guests_in}
 use Rattle.sys_guests.specs.Present.{PaysAll}
 use Rattle.sys_guests.specs.declared.turns.TimeSlice.{TimeSlice}
-use Rattle.sys_lines.proofs.Showings.{shows_none, shows_same, shows_then}
+use Rattle.sys_devices.proofs.Showings.{shows_none, shows_same, shows_then}
 use Rattle.sys_objects.specs.declared.records.Config.{Config}
 use Rattle.sys_objects.specs.declared.records.GuestRow.{GuestRow}
 use Rattle.sys_system.proofs.Paying.{pays_more, pays_none}

@@ -12,7 +12,7 @@ use Rattle.vv_io.specs.Lines.{Seen}
 use Rattle.sys_guests.specs.Changes.{Retires}
 use Rattle.sys_guests.specs.Layout.{end_of_guests, guests_in}
 use Rattle.sys_guests.specs.Present.{HavePresent, KeepsAll, PaysAll}
-use Rattle.sys_lines.proofs.Showings.{shows_same, shows_then}
+use Rattle.sys_devices.proofs.Showings.{shows_same, shows_then}
 use Rattle.sys_objects.specs.declared.records.Config.{Config}
 use Rattle.sys_system.proofs.Paying.{counted_events, counted_transfers, pays_as, pays_kept, pays_then}
 use Rattle.sys_system.proofs.Playing.{quanta_taken}

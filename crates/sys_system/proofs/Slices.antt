@@ -9,8 +9,8 @@ use Rattle.sys_guests.specs.Changes.{AdvancesOne, Retires, shown_in}
 use Rattle.sys_guests.specs.Kernel.{AreUnits, IsKernel}
 use Rattle.sys_guests.specs.Layout.{AreInMachine, guests_in}
 use Rattle.sys_guests.specs.declared.turns.TimeSlice.{TimeSlice}
-use Rattle.sys_lines.proofs.Showings.{shows_same}
-use Rattle.sys_lines.specs.Shows.{Shows, only_on}
+use Rattle.sys_devices.proofs.Showings.{shows_same}
+use Rattle.sys_devices.specs.Shows.{Shows, only_on}
 use Rattle.sys_objects.specs.Condition.{IsConfig, IsTerminal}
 use Rattle.sys_objects.specs.declared.records.Config.{Config}
 use Rattle.sys_objects.specs.declared.records.Terminal.{Terminal}

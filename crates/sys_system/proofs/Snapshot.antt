@@ -3,10 +3,10 @@ use Rattle.std.proofs.Common.{ℕ, ◌≡◌, List, ◌++◌, length, refl, sym,
 use Rattle.std.specs.Prelude.{flat_map}
 use Rattle.vv_base.specs.Bytes.{long_bytes}
 use Rattle.vv_io.specs.Lines.{Seen}
-use Rattle.sys_lines.proofs.Puts.{IsBut, begun, goes_on}
-use Rattle.sys_lines.specs.ShownSince.{ShownSince}
+use Rattle.sys_devices.proofs.Puts.{IsBut, begun, goes_on}
+use Rattle.sys_devices.specs.ShownSince.{ShownSince}
 use Rattle.sys_state.specs.Run.{Moment}
-use Rattle.sys_saving.specs.Parts.{head_bytes, unit_bytes, volume_bytes}
+use Rattle.sys_output.specs.Parts.{head_bytes, unit_bytes, volume_bytes}
 use Rattle.sys_snap.specs.Written.{guest_bytes, seat_bytes, snap_bytes, snap_head, state_bytes}
 
 brackets : (head size text made state : List ℕ) → (head ++ (size ++ (text ++ made))) ++ state ≡ head ++ (size ++ (text ++ (made ++ state)))

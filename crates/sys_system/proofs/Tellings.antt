@@ -5,7 +5,7 @@ use Rattle.sys_guests.specs.Changes.{shown_in}
 use Rattle.sys_state.specs.Counts.{tally_by}
 use Rattle.sys_system.specs.Watched.{DescribesStep}
 use Rattle.sys_system.specs.declared.watching.Watched.{Watched}
-use Rattle.vm_events.specs.Noted.{note_of}
+use Rattle.vm_exception.specs.Noted.{note_of}
 use Rattle.vm_state.proofs.Steps.{shows_few}
 use Rattle.vm_state.specs.Run.{no_steps}
 use Rattle.vm_state.specs.State.{Guest}

@@ -4,11 +4,11 @@ use Rattle.std.specs.List.{slice_get}
 use Rattle.vax_hw.specs.Machine.{Machine}
 use Rattle.vv_io.specs.Blocks.{SeenDrive}
 use Rattle.vv_io.specs.Lines.{Seen}
-use Rattle.sys_drives.specs.Stores.{StoresToDrives}
+use Rattle.sys_devices.specs.Stores.{StoresToDrives}
 use Rattle.sys_guests.specs.Changes.{Retires}
 use Rattle.sys_guests.specs.Layout.{OnlyGuests, guests_in}
 use Rattle.sys_guests.specs.Present.{PaysAll}
-use Rattle.sys_lines.specs.Shows.{Shows}
+use Rattle.sys_devices.specs.Shows.{Shows}
 use Rattle.sys_system.specs.System.{IsInMachine, System, after_slice, all_turns, no_round, system_state}
 use Rattle.sys_state.specs.Bytes.{dump_on}
 use Rattle.sys_state.specs.Counts.{added, round_tally, slices_tally, tally_by}

@@ -1,7 +1,7 @@
 -- The devices that have failed.
 use Rattle.std.specs.Prelude.{ℕ, List, Bool, Option, Some, None, option_map}
-use Rattle.sys_system.specs.declared.parts.Device.{Device}
-use Rattle.sys_system.specs.declared.parts.Device.TheVariants as devices
+use Rattle.sys_devices.specs.declared.device.Device.{Device}
+use Rattle.sys_devices.specs.declared.device.Device.TheVariants as devices
 use Rattle.sys_state.specs.Places.{place_of}
 
 -- a line, or else a drive

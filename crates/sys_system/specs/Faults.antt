@@ -5,9 +5,9 @@ use Rattle.std.specs.declared.result.Result.{Result}
 use Rattle.std.specs.declared.result.Result.TheVariants.{Ok, Err}
 use Rattle.vax_hw.specs.Machine.{Machine}
 use Rattle.vv_io.specs.Blocks.{SeenDrive}
-use Rattle.sys_drives.specs.Loads.{Loads}
-use Rattle.sys_drives.specs.declared.loading.LoadFault.{LoadFault}
-use Rattle.sys_drives.specs.declared.loading.LoadFault.TheVariants as loads
+use Rattle.sys_devices.specs.Loads.{Loads}
+use Rattle.sys_devices.specs.declared.loading.LoadFault.{LoadFault}
+use Rattle.sys_devices.specs.declared.loading.LoadFault.TheVariants as loads
 use Rattle.sys_guests.specs.Loads.{first_misfit}
 use Rattle.sys_objects.specs.declared.records.Config.{Config}
 use Rattle.sys_system.specs.Powers.{IsPowered}

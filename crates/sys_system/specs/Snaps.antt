@@ -4,8 +4,8 @@ use Rattle.std.specs.declared.result.Result.{Result}
 use Rattle.std.specs.declared.result.Result.TheVariants.{Ok, Err}
 use Rattle.vax_hw.specs.Machine.{Machine}
 use Rattle.vv_io.specs.Blocks.{SeenDrive}
-use Rattle.sys_drives.specs.Loads.{IsMisfit}
-use Rattle.sys_drives.specs.Rows.{FitsDrive}
+use Rattle.sys_devices.specs.Loads.{IsMisfit}
+use Rattle.sys_devices.specs.Rows.{FitsDrive}
 use Rattle.sys_state.specs.Run.{Moment}
 use Rattle.sys_system.specs.Powers.{IsAt}
 use Rattle.sys_system.specs.System.{System}

@@ -1,7 +1,7 @@
 -- What a step that is watched tells.
 use Rattle.std.specs.Prelude.{◌≡◌}
 use Rattle.sys_system.specs.declared.watching.Watched.{Watched}
-use Rattle.vm_events.specs.Noted.{note_of}
+use Rattle.vm_exception.specs.Noted.{note_of}
 use Rattle.vm_state.specs.Run.{no_steps, tallied}
 use Rattle.vm_state.specs.State.{Guest}
 use Rattle.vm_state.specs.Step.{step}

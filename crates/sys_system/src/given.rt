@@ -1,5 +1,5 @@
 ghost use Rattle.std.specs.Prelude.{◌≡◌, ◌≤◌, ◌<◌, ◌*◌, All, IfOk, None, length, map, slice_set};
-ghost use Rattle.sys_drives.specs.Rows.{FitRows};
+ghost use Rattle.sys_devices.specs.Rows.{FitRows};
 ghost use Rattle.sys_guests.specs.Layout.{guests_in};
 ghost use Rattle.sys_guests.specs.Loads.{MemoryAlone};
 ghost use Rattle.sys_guests.specs.Present.{HavePresent};

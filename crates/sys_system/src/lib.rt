@@ -14,7 +14,6 @@ mod system;
 mod turns;
 mod watching;
 
-pub use parts::Device;
 pub use power::PowerFault;
 pub use sys_guests::TimeSlice;
 pub use system::System;

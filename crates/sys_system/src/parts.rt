@@ -1,22 +1,15 @@
 ghost use Rattle.std.specs.Prelude.{◌≡◌, All, map, vec_len};
-ghost use Rattle.sys_drives.specs.Rows.{FitsDrive};
+ghost use Rattle.sys_devices.specs.Rows.{FitsDrive};
 ghost use Rattle.sys_system.specs.Calls.{StoresVolumes};
 ghost use Rattle.sys_system.specs.Held.{AreSystemParts, system_of};
 ghost use Rattle.sys_state.specs.Places.{place_of};
 
 use crate::turns::Turns;
-use sys_drives::store_volumes;
+use sys_devices::store_volumes;
 use sys_guests::Kernel;
 use sys_store::Volumes;
 use vm_guest::Counts;
 use vv_io::Drive;
-
-/// A device, by its number.
-#[derive(Clone, Copy, Debug, PartialEq, Eq)]
-pub enum Device {
-    Line(u8),
-    Drive(u8),
-}
 
 /// What a system is made of.
 #[derive(Drop)]

@@ -10,7 +10,7 @@ ghost use Rattle.sys_system.specs.System.{IsSystem};
 use crate::assembling::assemble;
 use crate::system::System;
 use std::alloc::Global;
-use sys_drives::{LoadFault, load_volumes};
+use sys_devices::{LoadFault, load_volumes};
 use sys_guests::first_misfit;
 use sys_objects::Config;
 use vax_hw::Hardware;

@@ -12,7 +12,7 @@ use crate::assembling::assemble_again;
 use crate::power::PowerFault;
 use crate::system::System;
 use std::alloc::Global;
-use sys_drives::first_of_another_size;
+use sys_devices::first_of_another_size;
 use sys_snap::Snap;
 use vax_hw::Hardware;
 use vv_io::Drive;

@@ -1,13 +1,13 @@
 ghost use Rattle.std.specs.Prelude.{◌≡◌, ◌≤◌, All, IfOk, Ok, false, is_err, length};
 ghost use Rattle.sys_config.specs.Config.{config_of};
-ghost use Rattle.sys_lines.specs.ShownSince.{ShownSince};
+ghost use Rattle.sys_devices.specs.ShownSince.{ShownSince};
 ghost use Rattle.sys_snap.specs.Snap.{IsSound};
 ghost use Rattle.sys_snap.specs.Written.{snap_bytes};
 ghost use Rattle.sys_system.specs.System.{IsInMachine, moment_of};
 ghost use Rattle.vm_state.specs.State.{state_of};
 
 use crate::system::System;
-use sys_saving::{put_guests, put_head, put_mounts, put_seats, put_volumes};
+use sys_output::{put_guests, put_head, put_mounts, put_seats, put_volumes};
 use vax_hw::Hardware;
 use vv_io::{Sink, SinkFault};
 

@@ -1,5 +1,5 @@
 ghost use Rattle.std.specs.Prelude.{◌≡◌, ◌<◌, ◌+◌, All, false, map, option_map, vec_len};
-ghost use Rattle.sys_drives.specs.Rows.{FitsDrive};
+ghost use Rattle.sys_devices.specs.Rows.{FitsDrive};
 ghost use Rattle.sys_guests.specs.Layout.{guests_in};
 ghost use Rattle.sys_guests.specs.Present.{KeepsAll, PaysAll};
 ghost use Rattle.sys_state.specs.FirstTouches.{touches_of_events, touches_of_transfers};
@@ -9,12 +9,12 @@ ghost use Rattle.sys_system.specs.Devices.{first_failed};
 ghost use Rattle.sys_system.specs.System.{IsSystem, NoneLeft, IsInMachine, next_slice, system_state, slice_of_time};
 
 use crate::counting::add;
-use crate::parts::{Device, Parts, first_drive, store};
+use crate::parts::{Parts, first_drive, store};
 use std::marker::Model;
-use sys_dumps::dump_all;
+use sys_devices::{Device, first_marked, show_each};
 use sys_events::{console_of, happen};
 use sys_guests::{TimeSlice, advance_at};
-use sys_lines::{first_marked, show_each};
+use sys_output::dump_all;
 use sys_script::Event;
 use sys_transfers::transfer;
 use vax_hw::Hardware;

@@ -8,9 +8,9 @@ ghost use Rattle.sys_system.specs.Watched.{DescribesStep};
 
 use crate::counting::add;
 use crate::system::System;
+use sys_devices::show_each;
 use sys_events::console_of;
 use sys_guests::{TimeSlice, step_at};
-use sys_lines::show_each;
 use vax_hw::Hardware;
 use vm_guest::{Counts, Guest, Note};
 use vv_base::Text;

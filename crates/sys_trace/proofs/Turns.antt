@@ -6,14 +6,14 @@ use Rattle.std.proofs.lemmas.Option.{get_or_from_slice_get, slice_get_within}
 use Rattle.sys_guests.specs.Layout.{guests_in}
 use Rattle.sys_guests.specs.Loads.{MemoryAlone}
 use Rattle.sys_guests.specs.Present.{KeepsAll, PaysAll}
-use Rattle.sys_lines.proofs.Puts.{shows_nothing}
-use Rattle.sys_lines.specs.ShownSince.{ShownSince}
+use Rattle.sys_devices.proofs.Puts.{shows_nothing}
+use Rattle.sys_devices.specs.ShownSince.{ShownSince}
 use Rattle.sys_objects.specs.Condition.{IsConfig}
 use Rattle.sys_objects.specs.declared.records.Config.{Config}
 use Rattle.sys_objects.specs.declared.records.GuestRow.{GuestRow}
 use Rattle.sys_objects.specs.declared.records.Terminal.{Terminal}
 use Rattle.sys_objects.specs.declared.records.VolumeRow.{VolumeRow}
-use Rattle.sys_drives.specs.Rows.{FitRows}
+use Rattle.sys_devices.specs.Rows.{FitRows}
 use Rattle.sys_state.specs.Guests.{alone, powered}
 use Rattle.sys_state.specs.Places.{beside_with, changed}
 use Rattle.sys_state.specs.FirstTouches.{touches_of_events, touches_of_transfers}

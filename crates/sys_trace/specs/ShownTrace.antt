@@ -10,7 +10,7 @@ use Rattle.vasm_text.specs.Printing.{byte_text, displacement_text, field_text, i
 use Rattle.vasm_text.specs.Statements.{forms_of}
 use Rattle.vax_table.specs.Computing.{operand_pushed as pushed_long}
 use Rattle.vax_table.specs.Stack.{push}
-use Rattle.vm_events.specs.Noted.{note_of, note_of_instruction}
+use Rattle.vm_exception.specs.Noted.{note_of, note_of_instruction}
 use Rattle.vm_state.specs.ShownSetup.{guest_m, guest_u, whole_step, with_isp, with_memory, with_register}
 use Rattle.vm_state.specs.State.{Guest}
 

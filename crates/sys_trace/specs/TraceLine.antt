@@ -8,9 +8,9 @@ use Rattle.vax_arch.specs.declared.mode.Intent.TheVariants.{Read}
 use Rattle.vax_arch.specs.declared.mode.Mode.{Mode}
 use Rattle.vax_arch.specs.declared.mode.Mode.TheVariants.{Kernel, Executive, Supervisor, User}
 use Rattle.vax_table.specs.Interaction.{Cause}
-use Rattle.vm_events.specs.Noted.{note_of}
-use Rattle.vm_events.specs.declared.note.Note.{Note}
-use Rattle.vm_events.specs.declared.note.Note.TheVariants.{Nothing, Vector, Page}
+use Rattle.vm_exception.specs.Noted.{note_of}
+use Rattle.vm_exception.specs.declared.note.Note.{Note}
+use Rattle.vm_exception.specs.declared.note.Note.TheVariants.{Nothing, Vector, Page}
 use Rattle.vm_state.specs.State.{Guest, mode_of_state, pc_of}
 use Rattle.vm_state.specs.Step.{Kind, Stopped, Interrupt, Idle, SetModify, Plain, Sensitive, Fault, Stepped}
 use Rattle.vm_state.specs.Translation.{space_of}

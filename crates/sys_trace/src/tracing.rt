@@ -1,7 +1,7 @@
 ghost use Rattle.std.specs.Prelude.{◌≡◌, ◌≤◌, ◌*◌, ◌++◌, List, ℕ, IfSome, Some, [], ◌∷◌, length, map, slice_get, vec_len};
 ghost use Rattle.sys_guests.specs.Layout.{guests_in};
 ghost use Rattle.sys_guests.specs.Present.{PaysAll};
-ghost use Rattle.sys_lines.specs.ShownSince.{ShownSince};
+ghost use Rattle.sys_devices.specs.ShownSince.{ShownSince};
 ghost use Rattle.sys_objects.specs.Condition.{IsConfig};
 ghost use Rattle.sys_objects.specs.declared.records.GuestRow.{GuestRow};
 ghost use Rattle.sys_state.specs.SlicedTouches.{touches_of_slice};

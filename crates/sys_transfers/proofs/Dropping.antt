@@ -6,7 +6,7 @@ use Rattle.vax_table.specs.Interaction.{IsIn}
 use Rattle.vm_stepping.proofs.Closed.{pending_in}
 use Rattle.vm_stepping.proofs.Completing.{split}
 use Rattle.vm_guest.specs.Kept.{frames_from}
-use Rattle.vm_miss_laws.specs.Moves.{Drops}
+use Rattle.vm_simulation_laws.specs.Moves.{Drops}
 use Rattle.vm_shadow.specs.Shadowed.{Shadowed, is_pending, is_read_from, read_at}
 use Rattle.vm_shadow.specs.declared.source.Source.{Source}
 use Rattle.vm_state.specs.Packets.{status_place}

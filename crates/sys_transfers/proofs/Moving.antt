@@ -8,8 +8,8 @@ use Rattle.std.proofs.lemmas.Option.{get_or_from_slice_get, slice_get_within}
 use Rattle.vv_base.specs.Bytes.{long_at}
 use Rattle.vax_arch.specs.Walk.{is_past}
 use Rattle.vax_hw.specs.Machine.{Machine}
-use Rattle.vm_miss_laws.specs.Moves.{Drops}
-use Rattle.vm_miss_laws.proofs.Own.{none_dropped}
+use Rattle.vm_simulation_laws.specs.Moves.{Drops}
+use Rattle.vm_simulation_laws.proofs.Own.{none_dropped}
 use Rattle.vm_guest.specs.Kept.{Becomes, IsShadowedIn, Kept, frames_from, guest_in}
 use Rattle.vm_state.specs.Outside.{bytes_at, with_bytes}
 use Rattle.vm_state.specs.Partition.{part}

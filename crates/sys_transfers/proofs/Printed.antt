@@ -3,8 +3,8 @@ use Rattle.std.proofs.Common.{Bool, ◌≡◌, ℕ, ◌<◌, ◌==◌, List, [],
 use Rattle.std.specs.Prelude.{IfSome, slice_get}
 use Rattle.std.proofs.lemmas.Option.{get_or_from_slice_get, slice_get_within}
 use Rattle.vv_io.specs.Lines.{Seen}
-use Rattle.sys_lines.proofs.Showings.{shows_none, shows_same}
-use Rattle.sys_lines.specs.Shows.{Shows, only_on}
+use Rattle.sys_devices.proofs.Showings.{shows_none, shows_same}
+use Rattle.sys_devices.specs.Shows.{Shows, only_on}
 use Rattle.sys_objects.specs.Condition.{IsPrinter}
 use Rattle.sys_objects.specs.declared.records.Config.{Config}
 use Rattle.sys_objects.specs.declared.records.PrinterRow.{PrinterRow}

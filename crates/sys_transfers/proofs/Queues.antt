@@ -4,15 +4,15 @@ use Rattle.std.specs.Prelude.{IfSome}
 use Rattle.std.proofs.lemmas.List.{at_drop_all, at_drop_more}
 use Rattle.vax_hw.specs.Machine.{Machine}
 use Rattle.vv_io.specs.Lines.{Seen}
-use Rattle.vm_miss_laws.specs.Present.{HasPresent}
-use Rattle.vm_miss_laws.proofs.Fitting.{writes_keep}
-use Rattle.vm_miss_laws.proofs.Own.{moves_alone}
+use Rattle.vm_simulation_laws.specs.Present.{HasPresent}
+use Rattle.vm_simulation_laws.proofs.Fitting.{writes_keep}
+use Rattle.vm_simulation_laws.proofs.Own.{moves_alone}
 use Rattle.vm_guest.specs.Kept.{Becomes, IsShadowedIn, Kept, TakesState, guest_in}
 use Rattle.vm_state.specs.Allowed.{IsPacket}
 use Rattle.vm_state.specs.State.{Guest, state_of, tables_of}
 use Rattle.vm_state.specs.Touches.{Present, Touching, touching_write}
-use Rattle.sys_lines.specs.Shows.{Shows}
-use Rattle.sys_lines.proofs.Showings.{shows_none, shows_same, shows_then}
+use Rattle.sys_devices.specs.Shows.{Shows}
+use Rattle.sys_devices.proofs.Showings.{shows_none, shows_same, shows_then}
 use Rattle.sys_objects.specs.declared.records.Config.{Config}
 use Rattle.sys_objects.specs.declared.records.GuestRow.{GuestRow}
 use Rattle.sys_objects.specs.declared.records.Mount.{Mount}

@@ -5,8 +5,8 @@ use Rattle.vax_arch.specs.Walk.{is_past}
 use Rattle.std.proofs.lemmas.Bool.{ne_eqb}
 use Rattle.vax_hw.specs.Machine.{Machine}
 use Rattle.vv_base.specs.Bytes.{long_bytes}
-use Rattle.vm_miss_laws.specs.Moves.{Drops}
-use Rattle.vm_miss_laws.proofs.Own.{none_dropped}
+use Rattle.vm_simulation_laws.specs.Moves.{Drops}
+use Rattle.vm_simulation_laws.proofs.Own.{none_dropped}
 use Rattle.vm_guest.specs.Kept.{Becomes, IsShadowedIn, Kept, TakesState, frames_from, guest_in}
 use Rattle.vm_state.specs.Packets.{status_place}
 use Rattle.vm_state.specs.State.{Guest, State}

@@ -11,7 +11,7 @@ use Rattle.sys_state.specs.Transfers.{Move, Packet, Prints, Reads, Refused, Serv
 use Rattle.sys_store.specs.Blocks.{blocks_of, with_block}
 use Rattle.sys_store.specs.Job.{job_text}
 use Rattle.sys_transfers.specs.declared.packets.Request.{Request}
-use Rattle.vm_miss_laws.specs.Moves.{Drops}
+use Rattle.vm_simulation_laws.specs.Moves.{Drops}
 use Rattle.vm_guest.specs.Kept.{Becomes, Kept, guest_in}
 use Rattle.vm_state.specs.Outside.{bytes_at, with_bytes}
 use Rattle.vm_state.specs.State.{Guest}

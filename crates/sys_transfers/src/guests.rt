@@ -8,7 +8,7 @@ ghost use Rattle.vm_guest.specs.Kept.{IsShadowedIn};
 
 use crate::printing::print_job_on;
 use crate::serving::serve;
-use sys_lines::Marks;
+use sys_devices::Marks;
 use sys_objects::{Config, GuestRow, Mount};
 use sys_store::Volumes;
 use vax_hw::Hardware;

@@ -1,11 +1,11 @@
 ghost use Rattle.std.specs.Prelude.{◌≡◌, ◌<◌, option_map, All, IfSome};
-ghost use Rattle.sys_lines.specs.Shows.{Shows, only_on};
+ghost use Rattle.sys_devices.specs.Shows.{Shows, only_on};
 ghost use Rattle.sys_objects.specs.Condition.{IsPrinter};
 ghost use Rattle.sys_state.specs.State.{bytes_on};
 ghost use Rattle.sys_state.specs.Transfers.{printer_of};
 ghost use Rattle.sys_transfers.specs.Serves.{job_on};
 
-use sys_lines::{Marks, show_whole};
+use sys_devices::{Marks, show_whole};
 use sys_objects::Config;
 use vv_base::Text;
 use vv_io::Lines;

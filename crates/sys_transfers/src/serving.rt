@@ -2,7 +2,7 @@ ghost use Rattle.std.specs.Prelude.{◌≡◌, ◌+◌, ◌*◌, ◌%◌, ◌≤
 ghost use Rattle.sys_state.specs.Guests.{answered};
 ghost use Rattle.sys_transfers.specs.Serves.{CarriesAll, MountsNameVolumes, ServesOne, packet_of};
 ghost use Rattle.vm_guest.specs.Kept.{Becomes, IsShadowedIn, guest_in};
-ghost use Rattle.vm_miss_laws.specs.Moves.{Drops};
+ghost use Rattle.vm_simulation_laws.specs.Moves.{Drops};
 ghost use Rattle.vm_state.specs.Packets.{status_place};
 ghost use Rattle.vm_state.specs.Translation.{frame_at};
 

@@ -5,7 +5,7 @@ ghost use Rattle.sys_objects.specs.Condition.{IsVolume};
 use std::alloc::Global;
 use std::process::Abort;
 use std::test::Fail;
-use sys_drives::{LoadFault, load_volumes, store_volumes};
+use sys_devices::{LoadFault, load_volumes, store_volumes};
 use sys_objects::VolumeRow;
 use vv_base::object_name;
 use vv_class::read_class;

@@ -2,7 +2,7 @@
 use crate::flow_texts::{A, HEAD, T1, most, text_of};
 use std::test::Fail;
 use sys_config::read_config;
-use sys_draw::drawing;
+use sys_flow::drawing;
 
 /// A terminal above a guest of its class: 38 is half of a box's width.
 const TWO: &str = concat!(

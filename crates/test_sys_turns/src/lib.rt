@@ -3,4 +3,35 @@
 #![tactic(auto)]
 
 #[cfg(test)]
+mod case;
+#[cfg(test)]
+mod content;
+#[cfg(test)]
+mod devices;
+#[cfg(test)]
+mod outcome;
+#[cfg(test)]
+mod playing;
+#[cfg(test)]
+mod running;
+#[cfg(test)]
 mod schedules;
+#[cfg(test)]
+mod slices;
+#[cfg(test)]
+mod trouble;
+
+#[cfg(test)]
+pub use case::{CASE, Case, Shown};
+#[cfg(test)]
+pub use content::{Content, Piece};
+#[cfg(test)]
+pub use devices::play;
+#[cfg(test)]
+pub use outcome::{Difference, Ending, Kinds, Outcome};
+#[cfg(test)]
+pub use playing::new_machine;
+#[cfg(test)]
+pub use running::{HOW, How};
+#[cfg(test)]
+pub use trouble::Trouble;

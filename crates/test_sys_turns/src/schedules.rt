@@ -1,10 +1,15 @@
 //! Slices of any guests, in any order, have the same outcome.
 
+use crate::case::Shown::{Each, Exactly};
+use crate::case::{CASE, Case};
+use crate::content::Content;
+use crate::content::Piece::{Bytes, Longs};
+use crate::outcome::Outcome;
+use crate::playing::new_machine;
+use crate::running::{HOW, How};
+use crate::trouble::Trouble;
 use std::alloc::Global;
 use std::test::Fail;
-use test_sys_stage::Piece::{Bytes, Longs};
-use test_sys_stage::Shown::{Each, Exactly};
-use test_sys_stage::{CASE, Case, Content, HOW, How, Outcome, Trouble, new_machine};
 use vax_cpu::Cpu;
 
 /// A script of all forms, with transfers: by slices of the three guests in each order, of one step, of seven, of whole quanta, and of different sizes.

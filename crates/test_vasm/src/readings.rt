@@ -1,6 +1,6 @@
 use std::process::Abort;
 use std::test::Fail;
-use vasm_read::{Line, Statement, first_line, forms_of, line_in, operand_in};
+use vasm::{Line, Statement, first_line, forms_of, line_in, operand_in};
 use vax_table::{Access, Form};
 use vv_base::Width;
 

@@ -2,7 +2,7 @@ use std::process::Abort;
 use std::test::Fail;
 use vax_arch::Psl;
 use vm_console::KeptPort;
-use vm_events::{Source, due, show_stop};
+use vm_exception::{Source, due, show_stop};
 use vm_state::{GuestState, StopCode, StopReason};
 
 /// What pends in a guest beside software levels.

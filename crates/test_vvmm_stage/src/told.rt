@@ -5,7 +5,8 @@ use std::alloc::Global;
 use vax_hw::Hardware;
 use vv_base::NoMemory;
 use vv_io::{Drive, EmptyDrive, Line, LineList, MemDrive, MemLine, NoProgress};
-use vvmm_call::{status_code, status_text, vvmm_run};
+use vvmm_call::vvmm_run;
+use vvmm_files::{status_code, status_text};
 
 /// What a call answered, and what lines, drives and the sink hold after it.
 #[derive(Drop)]

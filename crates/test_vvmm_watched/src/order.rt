@@ -12,7 +12,8 @@ use vv_base::NoMemory;
 use vv_io::{
     Drive, EmptyDrive, Line, LineFault, LineList, MemKeyboard, MemLine, NoProgress, Sink, SinkFault,
 };
-use vvmm_call::{Status, vvmm_run};
+use vvmm_call::vvmm_run;
+use vvmm_files::Status;
 
 /// How many calls are noted.
 pub const NOTES: usize = 200;

@@ -13,7 +13,8 @@ use vv_base::NoMemory;
 use vv_io::{
     KeyFault, KeyLine, Keyboard, Line, LineFault, LineList, MemKeyboard, MemLine, NoProgress,
 };
-use vvmm_call::{Status, vvmm_run};
+use vvmm_call::vvmm_run;
+use vvmm_files::Status;
 
 /// The keyboard's number among the notes.
 const KEYS: u8 = 90;

@@ -1,3 +1,8 @@
+pub mod Cuts
+pub mod Hex
+pub mod Later
+pub mod Blanks
+pub mod Lines
 pub mod Sizes
 pub mod Ranges
 pub mod ReadLines

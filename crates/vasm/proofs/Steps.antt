@@ -15,8 +15,8 @@ use Rattle.vasm_text.specs.declared.fault.AsmError.TheVariants.{Fault, NoMemory}
 use Rattle.vasm_text.specs.declared.fault.AsmFault.{AsmFault}
 use Rattle.vasm_text.specs.declared.fault.AsmKind.{AsmKind}
 use Rattle.vasm_text.specs.declared.fault.AsmKind.TheVariants.{OutOfReach}
-use Rattle.vasm_read.specs.declared.operand.Operand.{Operand as Kept}
-use Rattle.vasm_read.specs.Views.{operand_view}
+use Rattle.vasm.specs.declared.parse_operand.Operand.{Operand as Kept}
+use Rattle.vasm.specs.Views.{operand_view}
 use Rattle.vasm.specs.Fits.{IsFit, AreFit}
 use Rattle.vasm.specs.Puts.{appended_to, AppendsOrRefuses}
 

@@ -1,3 +1,5 @@
+pub mod Pieces
+pub mod Views
 pub mod Labels
 pub mod Puts
 pub mod Fits

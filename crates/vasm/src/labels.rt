@@ -2,10 +2,10 @@ ghost use Rattle.std.specs.Prelude.{◌≡◌, ◌≤◌, length};
 ghost use Rattle.vasm.specs.Labels.{Adds, IsLabelled, label_address};
 ghost use Rattle.std.specs.Option.{option_copied};
 
+use crate::line::{first_line, line_in};
 use crate::size::line_size;
 use std::alloc::Global;
 use std::collections::BTreeMap;
-use vasm_read::{first_line, line_in};
 use vasm_text::{AsmError, AsmFault, AsmKind};
 
 /// The addresses of the lines that names label.

@@ -1,12 +1,23 @@
-//! The assembler: the bytes of a text.
+//! The assembler: reads a text line by line, and gives its bytes.
 #![tactic(auto)]
 
+mod cutting;
 mod labels;
+mod line;
+mod numbers;
 mod operand;
+mod parse_operand;
+mod parse_statement;
 mod put;
 mod reach;
 mod size;
+mod specifier;
 mod statement;
 mod text;
 
+pub use cutting::Pieces;
+pub use line::{Line, first_line, line_in};
+pub use parse_operand::Operand;
+pub use parse_statement::{Statement, forms_of};
+pub use specifier::operand_in;
 pub use text::assemble;

@@ -1,16 +1,16 @@
 ghost use Rattle.std.specs.Prelude.{◌≡◌, ◌+◌, ◌*◌, ◌≤◌, length, map};
 ghost use Rattle.std.specs.List.{list_any};
 ghost use Rattle.vasm_text.specs.Asm.{field_value, lacks, named_target, operands_bytes, resolved};
-ghost use Rattle.vasm_read.specs.Views.{operand_view};
+ghost use Rattle.vasm.specs.Views.{operand_view};
 ghost use Rattle.vasm.specs.Fits.{AreFit};
 ghost use Rattle.vasm.specs.Labels.{label_address};
 ghost use Rattle.vasm.specs.Puts.{AppendsOrRefuses};
 
 use crate::labels::{Labels, address_of, fault};
+use crate::parse_operand::Operand;
 use crate::put::put_operand;
 use crate::reach::{field_width, reached};
 use crate::size::operand_size;
-use vasm_read::Operand;
 use vasm_text::{AsmError, AsmKind};
 use vax_table::{Form, Spec};
 

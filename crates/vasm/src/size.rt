@@ -1,9 +1,11 @@
 ghost use Rattle.std.specs.Prelude.{◌≡◌, ◌+◌, ◌*◌, ◌≤◌, length, is_some, map, if◌then◌else◌};
 ghost use Rattle.vax_table.specs.Spelled.{spelled};
 ghost use Rattle.vasm_text.specs.Asm.{opcode_bytes, operands_size, source_line_size, statement_size};
-ghost use Rattle.vasm_read.specs.Views.{operand_view, source_line_view, statement_view};
+ghost use Rattle.vasm.specs.Views.{operand_view, source_line_view, statement_view};
 
-use vasm_read::{Line, Operand, Statement, forms_of};
+use crate::line::Line;
+use crate::parse_operand::Operand;
+use crate::parse_statement::{Statement, forms_of};
 use vax_table::{Access, Form, Spec, value_size};
 
 /// How many bytes an index has.

@@ -2,17 +2,19 @@ ghost use Rattle.std.specs.Prelude.{◌≡◌, ◌≤◌, ◌++◌, map, OnOk};
 ghost use Rattle.vax_table.specs.Spelling.{bytes_of};
 ghost use Rattle.vasm_text.specs.Asm.{field_value, known_statement_bytes, lacks_any, source_line_bytes, statement_bytes};
 ghost use Rattle.vv_base.specs.Width.{size_of};
-ghost use Rattle.vasm_read.specs.Views.{operand_view, source_line_view, statement_view};
+ghost use Rattle.vasm.specs.Views.{operand_view, source_line_view, statement_view};
 ghost use Rattle.vasm.specs.Fits.{AreFit, IsSourceLineFit, IsStatementFit};
 ghost use Rattle.vasm.specs.Labels.{label_address};
 ghost use Rattle.vasm.specs.Puts.{AppendsOrRefuses};
 ghost use Rattle.vasm_text.specs.Statements.{Instruct, forms_of};
 
 use crate::labels::{Labels, fault};
+use crate::line::Line;
 use crate::operand::{field_value, lacks, lacks_any, put_operands};
+use crate::parse_operand::Operand;
+use crate::parse_statement::{Statement, forms_of};
 use crate::put::{put_number, put_opcode};
 use crate::size::opcode_size;
-use vasm_read::{Line, Operand, Statement, forms_of};
 use vasm_text::{AsmError, AsmKind};
 use vv_base::{NoMemory, Width};
 

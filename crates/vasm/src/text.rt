@@ -3,10 +3,10 @@ ghost use Rattle.vasm.specs.Assembled.{IsAssembled, IsAssembledText};
 ghost use Rattle.vasm.specs.Labels.{label_address};
 
 use crate::labels::{Labels, fault, labels_in};
+use crate::line::{first_line, line_in};
 use crate::size::line_size;
 use crate::statement::put_line;
 use std::alloc::Global;
-use vasm_read::{first_line, line_in};
 use vasm_text::{AsmError, AsmKind};
 
 /// The bytes of a text whose lines are of some form and whose labels have these addresses.

@@ -1,1 +1,6 @@
+pub mod One
+pub mod Quiet
+mod Claiming
+mod IndexedSteps
+mod StatusSteps
 pub mod Traps

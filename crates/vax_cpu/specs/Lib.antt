@@ -1,1 +1,2 @@
+pub mod Completed
 pub mod Outcomes

@@ -6,17 +6,20 @@ ghost use Rattle.vax_paged.specs.Paged.{paged, placed};
 ghost use Rattle.vax_table.specs.Interaction.{outcome};
 ghost use Rattle.vax_table.specs.Troubles.{intent_of};
 ghost use Rattle.vax_table.specs.Whole.{instruction};
-ghost use Rattle.vax_at_once.specs.Completed.{EndsWith, RunsOn, settled_meaning, with_registers};
+ghost use Rattle.vax_cpu.specs.Completed.{EndsWith, RunsOn, settled_meaning, with_registers};
 ghost use Rattle.vax_cpu.specs.Outcomes.{attempted};
 ghost use Rattle.vax_kept.specs.Fetched.{exits};
 
+use crate::at_once::step_at_once;
+use crate::here::stands_in_page;
 use crate::perform::{attempt, attempt_kept, attempt_known, attempt_of_status, is_of_status};
+use crate::rarer::rarer_at_once;
+use crate::state::State;
 use crate::stop::{Stop, end_with};
 use arrayvec::ArrayVec;
 use std::alloc::Global;
 use std::cell::Cell;
 use std::marker::Model;
-use vax_at_once::{State, rarer_at_once, stands_in_page, step_at_once};
 use vax_exec::Plan;
 use vax_hw::{Exit, Hardware, World};
 use vax_kept::{Code, Kept, renew, sum_after};
@@ -35,7 +38,7 @@ pub struct Cpu {
 }
 
 impl Model for Cpu {
-    ghost use Rattle.vax_at_once.specs.Completed.{with_registers};
+    ghost use Rattle.vax_cpu.specs.Completed.{with_registers};
     ghost use Rattle.vax_hw.specs.Machine.{Machine};
 
     ghost Value = { Machine };

@@ -18,13 +18,14 @@ ghost use Rattle.vax_hw.specs.Real.{in_kernel};
 ghost use Rattle.vax_kept.specs.Changed.{AreAlikeBut};
 ghost use Rattle.vax_cpu.specs.Outcomes.{acts_of, attempted, found, is_of_status, meaning_of, settled_as};
 ghost use Rattle.vax_kept.specs.Fetched.{exits};
-ghost use Rattle.vax_at_once.specs.Completed.{settled, settled_meaning};
+ghost use Rattle.vax_cpu.specs.Completed.{settled, settled_meaning};
 ghost use Rattle.vax_paged.specs.Paged.{paged};
 
+use crate::probe::{judge, probed};
+use crate::state::{State, seen_psl};
 use crate::stop::{Stop, stop_of};
 use std::cell::Cell;
 use vax_arch::Intent;
-use vax_at_once::{State, judge, probed, seen_psl};
 use vax_decode::Decoded;
 use vax_exec::{Plan, begin, plan_into};
 use vax_hw::{Mode, Psl, Refusal, Sens, Trapped, World};

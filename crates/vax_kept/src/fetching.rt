@@ -18,9 +18,8 @@ use crate::kept::{Kept, end_of, near_end_of};
 use arrayvec::ArrayVec;
 use vax_decode::{Decode, DecodeFault, Decoded, Front, decode, decode_into};
 use vax_hw::{Refusal, World};
-use vax_normal::{in_memory_of, normal_of};
+use vax_normal::{in_memory_of, normal_of, rarer_of};
 use vax_paged::{Mapped, Paged, number_in};
-use vax_rarer::rarer_of;
 use vv_base::Width;
 
 /// Why bytes that spell nothing are refused.

@@ -5,15 +5,14 @@ ghost use Rattle.vax_table.specs.Reading.{Whole, decoded_at};
 ghost use Rattle.vax_table.specs.Spelling.{view};
 ghost use Rattle.vax_normal.specs.InMemory.{IsInMemory, in_memory-prop};
 ghost use Rattle.vax_normal.specs.Normal.{IsNormal, normal-prop};
-ghost use Rattle.vax_rarer.specs.Rarer.{IsRarer, rarer-prop};
+ghost use Rattle.vax_normal.specs.Rarer.{IsRarer, rarer-prop};
 ghost use Rattle.vax_kept.specs.Changed.{changed_register};
 
 use crate::changed::changed_register;
 use arrayvec::ArrayVec;
 use vax_decode::Decoded;
-use vax_normal::{InMemory, Normal};
+use vax_normal::{InMemory, Normal, Rarer};
 use vax_operand::Prepared;
-use vax_rarer::Rarer;
 use vax_table::{Operation, operation};
 
 /// An instruction that was decoded and prepared, the bytes that spell it, and those that came after them. What is looked at to do

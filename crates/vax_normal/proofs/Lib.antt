@@ -8,3 +8,7 @@ pub mod Storing
 pub mod Pushing
 pub mod Moving
 pub mod Relative
+pub mod StatusMoves
+mod BitTests
+mod Indexing
+mod Subroutines

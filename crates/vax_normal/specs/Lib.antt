@@ -7,3 +7,14 @@ pub mod ShownNormal
 pub mod ShownInMemory
 pub mod ShownQuadMove
 pub mod Widths
+pub mod BitTest
+pub mod Indexed
+pub mod ProbeTest
+pub mod Rarer
+pub mod ShownBitTest
+pub mod ShownIndexed
+pub mod ShownProbeTest
+pub mod ShownStatusMove
+pub mod ShownSubroutine
+pub mod StatusMove
+pub mod Subroutine

@@ -1,25 +1,36 @@
-//! The commonest forms of plain instructions in a normal form, by which they are done at once.
+//! Plain instructions in a normal form, by which they are done at once.
 #![tactic(auto)]
 
+mod bit_test;
 mod carry_out;
 mod in_memory;
+mod indexed;
 mod make;
 mod number;
+mod probe;
 mod push;
 mod quad;
+mod rarer;
+mod rarer_shape;
 mod reach;
 mod shape;
+mod status;
+mod subroutine;
 mod total;
 mod touches;
 
+pub use bit_test::BitTest;
 pub use carry_out::{After, go_on, put};
 pub use in_memory::Found;
 pub use make::{are_at_hand, is_at_hand, is_narrow, jump_of, normal_of, number_at};
 pub use number::{number_of, offset_from};
 pub use quad::quad_move_of;
+pub use rarer::{Rarer, rarer_of};
+pub use rarer_shape::{Indexed, IndexedReach, ProbeTest, StatusMove};
 pub use shape::{
     Computation, Countdown, InMemory, Normal, Number, QuadMove, QuadSource, Reach, RegisterPair,
     Shape, Source,
 };
+pub use subroutine::{Call, return_address, return_to};
 pub use total::{set, sum_of};
 pub use touches::{in_memory_of, put_by, sources_of, touches_of};

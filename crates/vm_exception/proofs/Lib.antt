@@ -4,3 +4,6 @@ pub mod Writing
 pub mod Marking
 pub mod Homes
 pub mod Arriving
+pub mod Telling
+pub mod Requests
+pub mod Making

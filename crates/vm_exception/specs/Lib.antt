@@ -2,3 +2,6 @@ pub mod Wrote
 pub mod Pushed
 pub mod Initiated
 pub mod Attempted
+pub mod Sources
+pub mod Made
+pub mod Noted

@@ -1,16 +1,25 @@
-//! Initiation of exceptions and interrupts of a guest, over its shadow page tables.
+//! What the kernel does to a guest between its instructions: pending interrupts, the initiation of exceptions and interrupts over its
+//! shadow page tables, and the text of a stop.
 #![tactic(auto)]
 
 mod attempts;
+mod beginning;
 mod entry;
 mod initiated;
 mod initiating;
+mod note;
+mod pending;
 mod pushes;
+mod stop;
 mod writes;
 
+pub use beginning::{begin, interrupt};
 pub use entry::vector_offset;
 pub use initiated::Initiated;
 pub use initiating::initiate;
+pub use note::Note;
+pub use pending::{Source, due};
 pub use pushes::{Home, Walked, walk_pushes};
+pub use stop::show_stop;
 pub use vm_state::Exc;
 pub use writes::{push, put_homes};

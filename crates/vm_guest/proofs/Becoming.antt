@@ -3,9 +3,9 @@ use Rattle.std.proofs.Common.{◌≡◌, ℕ, ◌*◌, inl, Bool, List, [], ◌�
 use Rattle.std.proofs.lemmas.List.Elements.{All-nil}
 use Rattle.vax_hw.specs.Machine.{Machine}
 use Rattle.vm_stepping.proofs.Completing.{only_both, own_same}
-use Rattle.vm_miss_laws.proofs.Fitting.{resets_keep, writes_keep}
-use Rattle.vm_miss_laws.proofs.Own.{moves_alone, none_dropped}
-use Rattle.vm_miss_laws.proofs.Working.{switches_retell}
+use Rattle.vm_simulation_laws.proofs.Fitting.{resets_keep, writes_keep}
+use Rattle.vm_simulation_laws.proofs.Own.{moves_alone, none_dropped}
+use Rattle.vm_simulation_laws.proofs.Working.{switches_retell}
 use Rattle.vm_guest.specs.Kept.{Becomes, IsNew, IsResumed, IsShadowedIn, KeepsPresent, Kept, frames_from, guest_in}
 use Rattle.vm_console.specs.Console.{ConsoleState, after_typed}
 use Rattle.vm_guest.specs.Stores.{StoresBytes}

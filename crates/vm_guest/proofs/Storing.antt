@@ -4,9 +4,9 @@ use Rattle.std.specs.Prelude.{slice_index}
 use Rattle.std.proofs.lemmas.List.{append-nil, append_assoc, drop_all, drop_more, drop-set-lt, get_or-drop, length-drop, length-set, take-append-drop, take_more, take_more_set}
 use Rattle.vv_base.specs.Bytes.{overwritten}
 use Rattle.vax_hw.specs.Machine.{Machine}
-use Rattle.vm_miss_laws.specs.Moves.{Drops}
-use Rattle.vm_miss_laws.proofs.Own.{none_dropped}
-use Rattle.vm_miss_laws.proofs.Working.{one_dropped}
+use Rattle.vm_simulation_laws.specs.Moves.{Drops}
+use Rattle.vm_simulation_laws.proofs.Own.{none_dropped}
+use Rattle.vm_simulation_laws.proofs.Working.{one_dropped}
 use Rattle.vm_guest.specs.Kept.{frames_from}
 use Rattle.vm_shadow.specs.Shadowed.{Fits, Shadowed, own}
 use Rattle.vm_shadow.specs.StandsFor.{OnlyGuest, Serves, StandsFor, Stores}

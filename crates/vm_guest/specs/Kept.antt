@@ -3,7 +3,7 @@
 use Rattle.std.specs.Prelude.{◌≡◌, ℕ, ◌+◌, List, [], ◌∷◌, Bool}
 use Rattle.vax_hw.specs.Machine.{Machine}
 use Rattle.vm_stepping.specs.Guarded.{OnlyBoth}
-use Rattle.vm_miss_laws.specs.Present.{HasPresent}
+use Rattle.vm_simulation_laws.specs.Present.{HasPresent}
 use Rattle.vm_shadow.specs.Shadowed.{Shadowed}
 use Rattle.vm_shadow.specs.StandsFor.{MakesTables, StandsFor}
 use Rattle.vm_state.specs.Partition.{guest_of}

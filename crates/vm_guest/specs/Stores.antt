@@ -2,7 +2,7 @@
 use Rattle.std.specs.Prelude.{◌≡◌, ℕ, List}
 use Rattle.vv_base.specs.Bytes.{overwritten}
 use Rattle.vax_hw.specs.Machine.{Machine}
-use Rattle.vm_miss_laws.specs.Moves.{Drops}
+use Rattle.vm_simulation_laws.specs.Moves.{Drops}
 use Rattle.vm_guest.specs.Kept.{frames_from}
 use Rattle.vm_shadow.specs.Shadowed.{Shadowed}
 use Rattle.vm_shadow.specs.StandsFor.{OnlyGuest, StandsFor}

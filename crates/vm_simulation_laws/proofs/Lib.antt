@@ -7,3 +7,16 @@ pub mod Stores
 pub mod Claimed
 pub mod Retiring
 pub mod Bursting
+pub mod Given
+pub mod Touching
+pub mod Counting
+pub mod Adding
+pub mod Slots
+pub mod Surviving
+pub mod Retelling
+pub mod Own
+pub mod Found
+pub mod Fitting
+pub mod Working
+pub mod Paying
+pub mod Running

@@ -1,3 +1,10 @@
 pub mod Loaded
 pub mod Laws
 pub mod Bursts
+pub mod Touched
+pub mod Present
+pub mod Moves
+pub mod Misses
+pub mod Works
+pub mod Paid
+pub mod Runs

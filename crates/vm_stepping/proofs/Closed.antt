@@ -8,7 +8,7 @@ use Rattle.vax_table.specs.Interaction.{IsIn}
 use Rattle.vax_table.specs.Whole.{Act, Plain, Probes, Traps}
 use Rattle.vm_stepping.specs.Guarded.{ClosesOne, ExitIsMet, IsCompleted, IsUnfinished, OnlyBoth}
 use Rattle.vm_stepping.proofs.Completing.{guest_same, only_both, own_same}
-use Rattle.vm_miss_laws.specs.Runs.{MissesThere, Reaches}
+use Rattle.vm_simulation_laws.specs.Runs.{MissesThere, Reaches}
 use Rattle.vm_shadow.specs.Calls.{OnlyTables, unless_dropped}
 use Rattle.vm_shadow.specs.Shadowed.{Keeps, Shadowed, is_opened, is_pending, is_read_from, mapped_frame, read_at, real_at}
 use Rattle.vm_shadow.specs.StandsFor.{IsPresent, Serves, closed_for}
@@ -20,7 +20,7 @@ use Rattle.vm_state.specs.State.{state_of}
 use Rattle.vm_state.specs.Step as steps
 use Rattle.vm_state.specs.Step.{trapped_in}
 use Rattle.vm_state.specs.declared.guest_state.GuestState.{GuestState}
-use Rattle.vm_touch_laws.specs.Touched.{AreFilled, touches_now}
+use Rattle.vm_simulation_laws.specs.Touched.{AreFilled, touches_now}
 
 -- fewer are opened
 less_by : (q : ℕ → Bool) (k x : ℕ) (xs : List ℕ) (t : Bool) → q x ≡ t → (x == k) ≡ false → is_opened k (filter q xs) ≡ false → is_opened k (if t then x ∷ filter q xs else filter q xs) ≡ false

@@ -9,8 +9,8 @@ use Rattle.vax_hw.specs.declared.world.Exit.{Exit}
 use Rattle.vax_hw.specs.declared.world.Exit.TheVariants.{Arithmetic, Budget, Denied, Emulate, Modify, NotValid, Refused}
 use Rattle.vm_stepping.specs.Guarded.{ExitIsMet, GrantsOrOpens, IsCompleted, IsTried, IsUnfinished, OnlyBoth, opened_by}
 use Rattle.vax_table.specs.Interaction.{IsIn}
-use Rattle.vm_miss_laws.specs.Runs.{Reaches}
-use Rattle.vm_miss_laws.proofs.Running.{reached_by}
+use Rattle.vm_simulation_laws.specs.Runs.{Reaches}
+use Rattle.vm_simulation_laws.proofs.Running.{reached_by}
 use Rattle.vm_shadow.specs.Calls.{OnlyTables}
 use Rattle.vm_shadow.specs.Shadowed.{Fits, Keeps, Shadowed, is_pending, mapped_frame, read_at, real_at}
 use Rattle.vm_shadow.specs.StandsFor.{Serves, own_number}
@@ -24,8 +24,8 @@ use Rattle.vm_state.specs.State.{state_of}
 use Rattle.vm_state.specs.Step as steps
 use Rattle.vm_state.specs.Step.{by_try, trapped_in}
 use Rattle.vm_state.specs.declared.guest_state.GuestState.{GuestState}
-use Rattle.vm_touch_laws.specs.Touched.{touches_now}
-use Rattle.vm_touch_laws.proofs.Touching.{retired_filled}
+use Rattle.vm_simulation_laws.specs.Touched.{touches_now}
+use Rattle.vm_simulation_laws.proofs.Touching.{retired_filled}
 
 pub split : {A B C : Type 0} → A ⊎ B → (A → C) → (B → C) → C
 split (inl a) f g = f a

@@ -6,8 +6,8 @@ use Rattle.vax_hw.specs.declared.world.Exit.{Exit}
 use Rattle.vax_hw.specs.declared.world.Exit.TheVariants.{Arithmetic, Budget, Denied, Emulate, Modify, NotValid, Refused}
 use Rattle.vax_hw.specs.declared.world.World.{World}
 use Rattle.vm_stepping.specs.Guarded.{CanAllow, IsCompleted, IsGuarded, IsTried, IsUnfinished, RunsSome, StaysGuarded, StepsGuarded, with_trap_of}
-use Rattle.vm_bursts.specs.Ran.{rise}
-use Rattle.vm_bursts.proofs.Running.{loaded, loads_world, rise_is, zero_bits}
+use Rattle.vm_stepping.specs.Ran.{rise}
+use Rattle.vm_stepping.proofs.Bursting.{loaded, loads_world, rise_is, zero_bits}
 use Rattle.vm_shadow.specs.Shadowed.{Shadowed}
 use Rattle.vm_shadow.specs.StandsFor.{Serves, StandsFor, world_of}
 use Rattle.vm_shadow.specs.declared.source.Source.{Source}
@@ -23,7 +23,7 @@ use Rattle.vm_state.specs.Step as steps
 use Rattle.vm_state.specs.Step.{Stepped, by_try, executed, initiated_in, trapped_in}
 use Rattle.vm_state.specs.declared.exception.Exc.TheVariants as excs
 use Rattle.vm_state.specs.declared.guest_state.GuestState.{GuestState}
-use Rattle.vm_touch_laws.specs.Touched.{touches_now}
+use Rattle.vm_simulation_laws.specs.Touched.{touches_now}
 
 -- the run after one plain step
 executed_as : (h : Guest) (run : Run) (x : Stepped) → run.guest ≡ h → by_try h (guest_try h) ≡ x → after_step run (executed run.guest) ≡ after_step run x

@@ -1,3 +1,4 @@
+pub mod Bursting
 pub mod Guards
 pub mod Completing
 pub mod Closed

@@ -7,7 +7,7 @@ use Rattle.vax_hw.specs.Machine.{Machine}
 use Rattle.vm_stepping.specs.Guarded.{OnlyBoth}
 use Rattle.vm_console.specs.Appends.{Appends}
 use Rattle.vm_console.proofs.Composes.{Appends-nil}
-use Rattle.vm_events.specs.Made.{MakesStep}
+use Rattle.vm_exception.specs.Made.{MakesStep}
 use Rattle.vm_shadow.specs.Shadowed.{Shadowed}
 use Rattle.vm_shadow.specs.StandsFor.{DropsMarked, Marks, OnlyGuest, StandsFor}
 use Rattle.vm_state.specs.Initiate.{Initiation, KernelStackBad, Stops, Taken, initiate}

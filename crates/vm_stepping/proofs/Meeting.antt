@@ -8,7 +8,7 @@ use Rattle.vm_stepping.specs.Guarded.{CanAllow, IsGuarded, StaysGuarded, StepsGu
 use Rattle.vm_stepping.proofs.Completing.{guest_same}
 use Rattle.vm_console.specs.Appends.{Appends}
 use Rattle.vm_console.proofs.Composes.{Appends-nil}
-use Rattle.vm_events.specs.Made.{MakesStep}
+use Rattle.vm_exception.specs.Made.{MakesStep}
 use Rattle.vm_shadow.specs.Layout.{all_entries}
 use Rattle.vm_shadow.specs.Shadowed.{Shadowed, read_at}
 use Rattle.vm_shadow.specs.StandsFor.{StandsFor}

@@ -11,9 +11,9 @@ use Rattle.vax_hw.specs.declared.world.Exit.{Exit}
 use Rattle.vax_hw.specs.declared.world.Exit.TheVariants.{Arithmetic, Budget}
 use Rattle.vm_stepping.specs.Guarded.{IsGuarded}
 use Rattle.vm_stepping.proofs.Completing.{guest_same}
-use Rattle.vm_events.specs.Noted.{note_by_try, note_of_clear, note_of_instruction, note_of_sensed, taken_by}
-use Rattle.vm_events.specs.declared.note.Note.{Note}
-use Rattle.vm_events.specs.declared.note.Note.TheVariants.{Nothing}
+use Rattle.vm_exception.specs.Noted.{note_by_try, note_of_clear, note_of_instruction, note_of_sensed, taken_by}
+use Rattle.vm_exception.specs.declared.note.Note.{Note}
+use Rattle.vm_exception.specs.declared.note.Note.TheVariants.{Nothing}
 use Rattle.vm_shadow.specs.Laws.{guest_place}
 use Rattle.vm_shadow.specs.Shadowed.{Shadowed}
 use Rattle.vm_simulation_laws.specs.Laws.{IsMissed}

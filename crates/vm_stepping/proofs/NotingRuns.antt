@@ -5,12 +5,12 @@ use Rattle.vax_hw.specs.declared.world.Exit.{Exit}
 use Rattle.vax_hw.specs.declared.world.Exit.TheVariants.{Arithmetic, Budget, Denied, Emulate, Modify, NotValid, Refused}
 use Rattle.vax_table.specs.Whole.{Act, Plain, Probes, Traps}
 use Rattle.vm_stepping.specs.Guarded.{IsGuarded, StepsGuarded}
-use Rattle.vm_bursts.specs.Ran.{IsAlone, IsRun}
-use Rattle.vm_bursts.specs.declared.bursts.Ran.{Ran}
+use Rattle.vm_stepping.specs.Ran.{IsAlone, IsRun}
+use Rattle.vm_stepping.specs.declared.bursts.Ran.{Ran}
 use Rattle.vm_stepping.proofs.Completing.{guest_same}
-use Rattle.vm_events.specs.Noted.{note_by_try, note_of_act, note_of_instruction, note_of_probed, note_of_trap, taken_by}
-use Rattle.vm_events.specs.declared.note.Note.{Note}
-use Rattle.vm_events.specs.declared.note.Note.TheVariants.{Nothing}
+use Rattle.vm_exception.specs.Noted.{note_by_try, note_of_act, note_of_instruction, note_of_probed, note_of_trap, taken_by}
+use Rattle.vm_exception.specs.declared.note.Note.{Note}
+use Rattle.vm_exception.specs.declared.note.Note.TheVariants.{Nothing}
 use Rattle.vm_shadow.specs.Shadowed.{Shadowed}
 use Rattle.vm_simulation_laws.specs.Bursts.{EndsBurst}
 use Rattle.vm_simulation_laws.specs.Laws.{Leaves, LeavesByAct}

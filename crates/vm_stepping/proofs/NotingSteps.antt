@@ -2,9 +2,9 @@
 use Rattle.std.proofs.Common.{◌≡◌, ℕ, ◌-◌, ◌≤◌, Bool, true, false, Option, Some, None, refl, ap, ◌∙◌, sym, subst, arith}
 use Rattle.std.specs.Prelude.{is_some}
 use Rattle.vax_hw.specs.Machine.{Machine}
-use Rattle.vm_events.specs.Noted.{note_by_halt, note_by_interrupt, note_of, note_of_instruction, note_unless_waiting, taken_by}
-use Rattle.vm_events.specs.declared.note.Note.{Note}
-use Rattle.vm_events.specs.declared.note.Note.TheVariants.{Nothing}
+use Rattle.vm_exception.specs.Noted.{note_by_halt, note_by_interrupt, note_of, note_of_instruction, note_unless_waiting, taken_by}
+use Rattle.vm_exception.specs.declared.note.Note.{Note}
+use Rattle.vm_exception.specs.declared.note.Note.TheVariants.{Nothing}
 use Rattle.vm_shadow.specs.Shadowed.{Shadowed}
 use Rattle.vm_shadow.specs.StandsFor.{StandsFor}
 use Rattle.vm_state.specs.Interrupts.{Source, due, interrupt_of}

@@ -4,20 +4,20 @@ use Rattle.vax_arch.specs.Walk.{Tables, page_of}
 use Rattle.vax_hw.specs.Machine.{Machine}
 use Rattle.vax_table.specs.Interaction.{IsIn}
 use Rattle.vm_emulate.specs.Followed.{Follows}
-use Rattle.vm_events.specs.Made.{MakesStep}
+use Rattle.vm_exception.specs.Made.{MakesStep}
 use Rattle.vm_exception.specs.Initiated.{StopsWith}
 use Rattle.vm_exception.specs.Wrote.{DropsAmong}
 use Rattle.vm_exception.proofs.Marking.{pending_append}
-use Rattle.vm_miss_laws.specs.Laws.{KeepsFilled}
-use Rattle.vm_miss_laws.specs.Moves.{Drops, Moves}
-use Rattle.vm_miss_laws.specs.Paid.{IsSettled, Misses, Owes}
-use Rattle.vm_miss_laws.specs.Present.{HasEntry, after_touches, is_filled, pages_of, to_miss}
-use Rattle.vm_miss_laws.specs.Runs.{MissesThere}
-use Rattle.vm_miss_laws.proofs.Counting.{some_unfilled}
-use Rattle.vm_miss_laws.proofs.Fitting.{filled_stay, in_pages, steps_keep}
-use Rattle.vm_miss_laws.proofs.Found.{found_entries}
-use Rattle.vm_miss_laws.proofs.Own.{moves_alone, none_dropped}
-use Rattle.vm_miss_laws.proofs.Working.{marks_dropped}
+use Rattle.vm_simulation_laws.specs.Misses.{KeepsFilled}
+use Rattle.vm_simulation_laws.specs.Moves.{Drops, Moves}
+use Rattle.vm_simulation_laws.specs.Paid.{IsSettled, Misses, Owes}
+use Rattle.vm_simulation_laws.specs.Present.{HasEntry, after_touches, is_filled, pages_of, to_miss}
+use Rattle.vm_simulation_laws.specs.Runs.{MissesThere}
+use Rattle.vm_simulation_laws.proofs.Counting.{some_unfilled}
+use Rattle.vm_simulation_laws.proofs.Fitting.{filled_stay, in_pages, steps_keep}
+use Rattle.vm_simulation_laws.proofs.Found.{found_entries}
+use Rattle.vm_simulation_laws.proofs.Own.{moves_alone, none_dropped}
+use Rattle.vm_simulation_laws.proofs.Working.{marks_dropped}
 use Rattle.vm_shadow.specs.Shadowed.{Shadowed, is_pending, read_at}
 use Rattle.vm_shadow.specs.StandsFor.{Marks, StandsFor}
 use Rattle.vm_shadow.specs.declared.source.Source.{Source}
@@ -28,7 +28,7 @@ use Rattle.vm_state.specs.Touches.{Touching, touching_step}
 use Rattle.vm_state.specs.Translation.{look, marks_by}
 use Rattle.vm_state.specs.declared.guest_state.GuestState.{GuestState}
 use Rattle.vm_stepping.specs.Pays.{OwesStill, Settles}
-use Rattle.vm_touch_laws.specs.Touched.{AreFilled, touches_now}
+use Rattle.vm_simulation_laws.specs.Touched.{AreFilled, touches_now}
 
 -- What is dropped.
 

@@ -6,13 +6,13 @@ use Rattle.vax_hw.specs.declared.world.Exit.{Exit}
 use Rattle.vax_hw.specs.declared.world.Exit.TheVariants.{Arithmetic, Budget, Denied, Emulate, Modify, NotValid, Refused}
 use Rattle.vm_stepping.specs.Guarded.{IsGuarded, StaysGuarded, StepsGuarded}
 use Rattle.vm_stepping.proofs.Completing.{guest_same}
-use Rattle.vm_events.specs.Made.{MakesStep}
-use Rattle.vm_miss_laws.specs.Laws.{KeepsFilled}
-use Rattle.vm_miss_laws.specs.Moves.{Drops, Moves}
-use Rattle.vm_miss_laws.specs.Paid.{IsSettled, Misses, Owes}
-use Rattle.vm_miss_laws.specs.Present.{to_miss}
-use Rattle.vm_miss_laws.proofs.Fitting.{filled_stay}
-use Rattle.vm_miss_laws.proofs.Own.{moves_alone}
+use Rattle.vm_exception.specs.Made.{MakesStep}
+use Rattle.vm_simulation_laws.specs.Misses.{KeepsFilled}
+use Rattle.vm_simulation_laws.specs.Moves.{Drops, Moves}
+use Rattle.vm_simulation_laws.specs.Paid.{IsSettled, Misses, Owes}
+use Rattle.vm_simulation_laws.specs.Present.{to_miss}
+use Rattle.vm_simulation_laws.proofs.Fitting.{filled_stay}
+use Rattle.vm_simulation_laws.proofs.Own.{moves_alone}
 use Rattle.vm_shadow.specs.Shadowed.{Shadowed, read_at}
 use Rattle.vm_shadow.specs.StandsFor.{StandsFor}
 use Rattle.vm_simulation_laws.specs.Bursts.{missed_by}
@@ -29,7 +29,7 @@ use Rattle.vm_stepping.specs.Pays.{OwesStill, PaysFor, Settles}
 use Rattle.vm_stepping.proofs.Meeting.{stays_by}
 use Rattle.vm_stepping.proofs.Paying.{among_dropped, dropped_then, step_settles}
 use Rattle.vm_stepping.proofs.PayingMet.{none_within}
-use Rattle.vm_touch_laws.specs.Touched.{touches_now}
+use Rattle.vm_simulation_laws.specs.Touched.{touches_now}
 
 -- what a trap that is initiated after an instruction drops is beside what that wrote
 pub trap_moves : (frames : List ℕ) (s s1 : Shadowed) (x : Stepped) (m1 : Machine) (g1 : GuestState) (m2 : Machine) (s2 : Shadowed) (g2 : GuestState) → Drops frames s s1 → MakesStep x m1 s1 g1 m2 s2 g2 → Moves (frames ++ x.written) x.guest.state.tables s s2

@@ -2,11 +2,11 @@
 use Rattle.std.proofs.Common.{◌≡◌, ℕ, zero, suc, ◌+◌, ◌-◌, ◌≤◌, Bool, true, false, [], List, Option, Some, None, is_some, refl, ap, ◌∙◌, sym, subst, arith}
 use Rattle.vax_hw.specs.Machine.{Machine}
 use Rattle.vax_table.specs.Interaction.{IsIn}
-use Rattle.vm_miss_laws.specs.Moves.{Moves}
-use Rattle.vm_miss_laws.specs.Paid.{Pays, touching_counted}
-use Rattle.vm_miss_laws.specs.Present.{HasPresent, after_touches}
-use Rattle.vm_miss_laws.proofs.Fitting.{steps_keep}
-use Rattle.vm_miss_laws.proofs.Paying.{nothing_owed}
+use Rattle.vm_simulation_laws.specs.Moves.{Moves}
+use Rattle.vm_simulation_laws.specs.Paid.{Pays, touching_counted}
+use Rattle.vm_simulation_laws.specs.Present.{HasPresent, after_touches}
+use Rattle.vm_simulation_laws.proofs.Fitting.{steps_keep}
+use Rattle.vm_simulation_laws.proofs.Paying.{nothing_owed}
 use Rattle.vm_shadow.specs.Shadowed.{Shadowed}
 use Rattle.vm_shadow.specs.StandsFor.{StandsFor}
 use Rattle.vm_state.specs.Initiate.{Initiation, KernelStackBad, Stops, Taken, initiate}
@@ -27,7 +27,7 @@ use Rattle.vm_stepping.proofs.Beginning.{counted_is, now, stands_still, step_is}
 use Rattle.vm_stepping.proofs.Paying.{no_more, nothing_moves}
 use Rattle.vm_stepping.proofs.PayingAlone.{misses_then}
 use Rattle.vm_stepping.proofs.Running.{counted_left, not_counted, plain_left}
-use Rattle.vm_touch_laws.specs.Touched.{touches_now}
+use Rattle.vm_simulation_laws.specs.Touched.{touches_now}
 
 -- first touches of one step, and of those after it
 one_touching : (n : ℕ) (h : Guest) (x : Stepped) (t : Touching) → 1 ≤ n → step h ≡ x → touching_steps n h t ≡ touching_steps (n - 1) x.guest (touching_step h x t)

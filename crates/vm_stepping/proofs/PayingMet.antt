@@ -10,10 +10,10 @@ use Rattle.vax_table.specs.Interaction.{cause_of}
 use Rattle.vax_table.specs.Tries.{Clear}
 use Rattle.vax_table.specs.Troubles.{intent_of}
 use Rattle.vm_stepping.specs.Guarded.{ExitIsMet}
-use Rattle.vm_miss_laws.specs.Laws.{KeepsFilled}
-use Rattle.vm_miss_laws.specs.Present.{to_miss}
-use Rattle.vm_miss_laws.specs.Runs.{MissesThere, Reaches}
-use Rattle.vm_miss_laws.proofs.Fitting.{fills_keep, one_filled}
+use Rattle.vm_simulation_laws.specs.Misses.{KeepsFilled}
+use Rattle.vm_simulation_laws.specs.Present.{to_miss}
+use Rattle.vm_simulation_laws.specs.Runs.{MissesThere, Reaches}
+use Rattle.vm_simulation_laws.proofs.Fitting.{fills_keep, one_filled}
 use Rattle.vm_shadow.specs.Layout.{all_entries}
 use Rattle.vm_shadow.specs.Laws.{guest_place}
 use Rattle.vm_shadow.specs.Shadowed.{Shadowed}
@@ -37,7 +37,7 @@ use Rattle.vm_stepping.specs.Pays.{OwesStill, PaysFor, Settles, WereMissed}
 use Rattle.vm_stepping.specs.declared.counts.Counts.{Counts}
 use Rattle.vm_stepping.proofs.MissingPages.{faults, present, stops, walked}
 use Rattle.vm_stepping.proofs.Paying.{fills_owe, kept_owe, missed_there, step_settles}
-use Rattle.vm_touch_laws.specs.Touched.{AreFilled, touches_now}
+use Rattle.vm_simulation_laws.specs.Touched.{AreFilled, touches_now}
 
 -- the step that is made is the instruction's
 pub made_settles : {Port : Type 0} {may : Port → List ℕ → Type 0} {x : Stepped} {port port' : Port} {m : Machine} {s : Shadowed} {g : GuestState} {c : Counts} {m' : Machine} {s' : Shadowed} {g' : GuestState} {c' : Counts} → (missed : ℕ) →

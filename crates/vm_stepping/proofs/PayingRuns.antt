@@ -3,16 +3,16 @@ use Rattle.std.proofs.Common.{◌≡◌, ℕ, zero, suc, ◌+◌, ◌-◌, ◌%�
 use Rattle.vax_hw.specs.Machine.{Machine}
 use Rattle.vax_hw.specs.declared.world.Exit.{Exit}
 use Rattle.vax_hw.specs.declared.world.Exit.TheVariants.{Arithmetic, Budget, Denied, Emulate, Modify, NotValid, Refused}
-use Rattle.vm_bursts.specs.Ran.{IsRun}
-use Rattle.vm_bursts.specs.declared.bursts.Ran.{Ran}
-use Rattle.vm_events.specs.Made.{MakesStep}
-use Rattle.vm_miss_laws.specs.Moves.{Moves}
-use Rattle.vm_miss_laws.specs.Paid.{Owes, touching_counted}
-use Rattle.vm_miss_laws.specs.Present.{HasPresent, after_touches, to_miss}
-use Rattle.vm_miss_laws.specs.Runs.{EndsAt, StopsBefore}
-use Rattle.vm_miss_laws.proofs.Fitting.{steps_keep}
-use Rattle.vm_miss_laws.proofs.Own.{none_dropped}
-use Rattle.vm_miss_laws.proofs.Paying.{touches_follow}
+use Rattle.vm_stepping.specs.Ran.{IsRun}
+use Rattle.vm_stepping.specs.declared.bursts.Ran.{Ran}
+use Rattle.vm_exception.specs.Made.{MakesStep}
+use Rattle.vm_simulation_laws.specs.Moves.{Moves}
+use Rattle.vm_simulation_laws.specs.Paid.{Owes, touching_counted}
+use Rattle.vm_simulation_laws.specs.Present.{HasPresent, after_touches, to_miss}
+use Rattle.vm_simulation_laws.specs.Runs.{EndsAt, StopsBefore}
+use Rattle.vm_simulation_laws.proofs.Fitting.{steps_keep}
+use Rattle.vm_simulation_laws.proofs.Own.{none_dropped}
+use Rattle.vm_simulation_laws.proofs.Paying.{touches_follow}
 use Rattle.vm_shadow.specs.Shadowed.{Shadowed}
 use Rattle.vm_simulation_laws.specs.Bursts.{EndsBurst, after_counted, goes_on, missed_by, with_plain_steps, with_trap}
 use Rattle.vm_simulation_laws.specs.Laws.{frames_claimed}
@@ -31,7 +31,7 @@ use Rattle.vm_stepping.specs.declared.counts.Counts.{Counts}
 use Rattle.vm_stepping.specs.declared.turns.Left.{Left}
 use Rattle.vm_stepping.proofs.PayingAlone.{misses_then, trap_moves}
 use Rattle.vm_stepping.proofs.Running.{IsBefore, before_goes, counted_left, is_before, plain_left}
-use Rattle.vm_touch_laws.specs.Touched.{touches_now}
+use Rattle.vm_simulation_laws.specs.Touched.{touches_now}
 
 -- first touches in two parts
 counted_touches : (all n : ℕ) (run : Run) (h : Guest) (t : Touching) → run.guest ≡ h → 1 ≤ n → n ≤ all → touching_counted all h t ≡ touching_steps (all - n) (after_counted n run).guest (touching_counted n h t)

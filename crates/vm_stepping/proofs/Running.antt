@@ -3,12 +3,12 @@ use Rattle.std.proofs.Common.{◌≡◌, ℕ, ◌+◌, ◌-◌, ◌*◌, ◌/◌
 use Rattle.vax_hw.specs.Machine.{Machine}
 use Rattle.vax_hw.specs.declared.world.Exit.{Exit}
 use Rattle.vax_hw.specs.declared.world.Exit.TheVariants.{Arithmetic, Budget, Denied, Emulate, Modify, NotValid, Refused}
-use Rattle.vm_bursts.specs.Ran.{IsRun}
-use Rattle.vm_bursts.specs.declared.bursts.Ran.{Ran}
+use Rattle.vm_stepping.specs.Ran.{IsRun}
+use Rattle.vm_stepping.specs.declared.bursts.Ran.{Ran}
 use Rattle.vm_clock.specs.Ticks.{after_ticks}
 use Rattle.vm_console.specs.Appends.{Appends}
 use Rattle.vm_console.proofs.Composes.{Appends-nil}
-use Rattle.vm_events.specs.Made.{MakesStep}
+use Rattle.vm_exception.specs.Made.{MakesStep}
 use Rattle.vm_shadow.specs.Shadowed.{Shadowed}
 use Rattle.vm_shadow.specs.StandsFor.{StandsFor}
 use Rattle.vm_simulation_laws.specs.Bursts.{EndsBurst, IsQuiet, after_counted, counted_by, goes_on, with_count, with_trap}

@@ -6,7 +6,7 @@ use Rattle.vax_hw.specs.Machine.{Machine}
 use Rattle.vm_stepping.specs.Guarded.{count_below}
 use Rattle.vm_stepping.proofs.Completing.{split}
 use Rattle.vm_emulate.specs.Emulated.{FillsTwo, HasValidEntry}
-use Rattle.vm_miss_laws.specs.Laws.{KeepsFilled}
+use Rattle.vm_simulation_laws.specs.Misses.{KeepsFilled}
 use Rattle.vm_shadow.specs.Layout.{all_entries, entry_number}
 use Rattle.vm_shadow.specs.Shadowed.{Shadowed, read_at, real_at}
 use Rattle.vm_shadow.specs.StandsFor.{IsPresent, OnlyGuest, StandsFor, own_number}

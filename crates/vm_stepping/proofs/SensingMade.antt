@@ -8,7 +8,7 @@ use Rattle.vm_emulate.specs.declared.emulated.Emulated.{Emulated}
 use Rattle.vm_emulate.specs.declared.emulated.Emulated.TheVariants as outcomes
 use Rattle.vm_exception.specs.Attempted.{Stays}
 use Rattle.vm_exception.specs.Initiated.{IsProper}
-use Rattle.vm_miss_laws.specs.Laws.{KeepsFilled}
+use Rattle.vm_simulation_laws.specs.Misses.{KeepsFilled}
 use Rattle.vm_shadow.specs.Shadowed.{Shadowed}
 use Rattle.vm_shadow.specs.StandsFor.{StandsFor}
 use Rattle.vm_simulation_laws.specs.Laws.{IsTrapped}

@@ -12,9 +12,9 @@ use Rattle.vax_table.specs.declared.evaluation.Operands.{Operands}
 use Rattle.vm_emulate.specs.Emulated.{Emulates, IsEmulated, IsHalted, IsProbed, IsSensed, halted_guest, probed_trap}
 use Rattle.vm_emulate.specs.declared.emulated.Emulated.{Emulated}
 use Rattle.vm_emulate.specs.declared.emulated.Emulated.TheVariants as outcomes
-use Rattle.vm_events.specs.Noted.{note_by_try, note_of_act, note_of_probed, note_of_sensed, taken_by}
-use Rattle.vm_events.specs.declared.note.Note.{Note}
-use Rattle.vm_events.specs.declared.note.Note.TheVariants.{Nothing, Page}
+use Rattle.vm_exception.specs.Noted.{note_by_try, note_of_act, note_of_probed, note_of_sensed, taken_by}
+use Rattle.vm_exception.specs.declared.note.Note.{Note}
+use Rattle.vm_exception.specs.declared.note.Note.TheVariants.{Nothing, Page}
 use Rattle.vm_exception.specs.Attempted.{Stays}
 use Rattle.vm_shadow.specs.Shadowed.{Shadowed}
 use Rattle.vm_simulation_laws.specs.Laws.{IsTrap, IsTrapped}

@@ -21,9 +21,9 @@ use Rattle.vm_emulate.specs.declared.emulated.Emulated.TheVariants as outcomes
 use Rattle.vm_emulate.proofs.Probings.{plain_then}
 use Rattle.vm_exception.specs.Attempted.{Stays}
 use Rattle.vm_exception.specs.Initiated.{InitiatesTo, IsProper, StopsWith}
-use Rattle.vm_miss_laws.specs.Laws.{KeepsFilled}
-use Rattle.vm_miss_laws.specs.Moves.{Moves}
-use Rattle.vm_miss_laws.proofs.Own.{moves_alone}
+use Rattle.vm_simulation_laws.specs.Misses.{KeepsFilled}
+use Rattle.vm_simulation_laws.specs.Moves.{Moves}
+use Rattle.vm_simulation_laws.proofs.Own.{moves_alone}
 use Rattle.vm_shadow.specs.Shadowed.{Shadowed}
 use Rattle.vm_shadow.specs.StandsFor.{OnlyGuest, StandsFor}
 use Rattle.vm_simulation_laws.specs.Laws.{IsTrap, IsTrapped, IsUnfilled}

@@ -14,7 +14,7 @@ use Rattle.vax_table.specs.Interaction.{IsIn}
 use Rattle.vm_stepping.specs.Guarded.{CanAllow, CanClose, ClosesAfter, GrantsOrOpens, IsTried, IsUnfinished, RunsSome, clear_bits, count_below, is_retired, opened_by}
 use Rattle.vm_stepping.proofs.Closed.{completed_closed, mapped_in, unfinished_closed}
 use Rattle.vm_stepping.proofs.Completing.{alike, guest_same, maps_same, own_same, runs_again, serves_again, slot_same, split, stops, tried_from, unwritten}
-use Rattle.vm_miss_laws.specs.Runs.{Reaches}
+use Rattle.vm_simulation_laws.specs.Runs.{Reaches}
 use Rattle.vm_shadow.specs.Layout.{all_entries, entry_number}
 use Rattle.vm_shadow.specs.Shadowed.{Keeps, Shadowed, mapped_frame, real_at}
 use Rattle.vm_shadow.specs.StandsFor.{Serves, own_number}

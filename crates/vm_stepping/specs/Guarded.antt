@@ -7,7 +7,7 @@ use Rattle.vax_hw.specs.Real.{misses_after}
 use Rattle.vax_hw.specs.declared.world.Exit.{Exit}
 use Rattle.vax_hw.specs.declared.world.Exit.TheVariants.{Arithmetic, Budget, Denied, Emulate, Modify, NotValid, Refused}
 use Rattle.vax_table.specs.Tries.{Clear}
-use Rattle.vm_miss_laws.specs.Runs.{Reaches}
+use Rattle.vm_simulation_laws.specs.Runs.{Reaches}
 use Rattle.vm_shadow.specs.Layout.{all_entries}
 use Rattle.vm_shadow.specs.Calls.{OnlyTables}
 use Rattle.vm_shadow.specs.Shadowed.{Fits, Keeps, Shadowed, is_pending, mapped_frame, read_at, real_at}
@@ -21,7 +21,7 @@ use Rattle.vm_state.specs.Step as steps
 use Rattle.vm_state.specs.Step.{by_try, executed, trapped_in}
 use Rattle.vm_state.specs.Translation.{is_clear}
 use Rattle.vm_state.specs.declared.guest_state.GuestState.{GuestState}
-use Rattle.vm_touch_laws.specs.Touched.{AreFilled, touches_now}
+use Rattle.vm_simulation_laws.specs.Touched.{AreFilled, touches_now}
 
 -- of the machine's memory the guest's own and its real tables alone change
 pub record OnlyBoth (s : Shadowed) (before after : List ℕ) : Type 0 where

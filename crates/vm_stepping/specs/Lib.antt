@@ -1,3 +1,4 @@
+pub mod Ran
 pub mod Guarded
 pub mod Made
 pub mod Noted

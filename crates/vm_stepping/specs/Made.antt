@@ -3,7 +3,7 @@ use Rattle.std.specs.Prelude.{◌≡◌, ℕ, ◌+◌, ◌%◌, ◌^◌, ◌<◌
 use Rattle.vax_hw.specs.Machine.{Machine}
 use Rattle.vm_stepping.specs.Guarded.{OnlyBoth, count_below}
 use Rattle.vm_console.specs.Appends.{Appends}
-use Rattle.vm_miss_laws.specs.Moves.{Moves}
+use Rattle.vm_simulation_laws.specs.Moves.{Moves}
 use Rattle.vm_shadow.specs.Layout.{all_entries}
 use Rattle.vm_shadow.specs.Shadowed.{Shadowed, read_at}
 use Rattle.vm_shadow.specs.StandsFor.{StandsFor}

@@ -1,8 +1,8 @@
 -- What the kernel's work tells of a guest's next step.
 use Rattle.std.specs.Prelude.{◌≡◌, Bool, true, false, if◌then◌else◌}
 use Rattle.vax_hw.specs.Machine.{Machine}
-use Rattle.vm_events.specs.Noted.{note_of, note_of_instruction}
-use Rattle.vm_events.specs.declared.note.Note.{Note}
+use Rattle.vm_exception.specs.Noted.{note_of, note_of_instruction}
+use Rattle.vm_exception.specs.declared.note.Note.{Note}
 use Rattle.vm_state.specs.Partition.{guest_of}
 use Rattle.vm_state.specs.State.{Guest}
 use Rattle.vm_state.specs.declared.guest_state.GuestState.{GuestState}

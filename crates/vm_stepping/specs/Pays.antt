@@ -3,9 +3,9 @@ use Rattle.std.specs.Prelude.{◌≡◌, ◌⊎◌, ℕ, ◌+◌, ◌≤◌, Boo
 use Rattle.vax_arch.specs.declared.mode.Intent.{Intent}
 use Rattle.vax_hw.specs.Machine.{Machine}
 use Rattle.vax_table.specs.Interaction.{Cause}
-use Rattle.vm_miss_laws.specs.Paid.{IsSettled, Misses, Owes, touching_counted}
-use Rattle.vm_miss_laws.specs.Present.{HasPresent}
-use Rattle.vm_miss_laws.specs.Runs.{MissesThere}
+use Rattle.vm_simulation_laws.specs.Paid.{IsSettled, Misses, Owes, touching_counted}
+use Rattle.vm_simulation_laws.specs.Present.{HasPresent}
+use Rattle.vm_simulation_laws.specs.Runs.{MissesThere}
 use Rattle.vm_shadow.specs.Shadowed.{Shadowed}
 use Rattle.vm_simulation_laws.specs.Laws.{place_here}
 use Rattle.vm_state.specs.Partition.{guest_of}
@@ -14,7 +14,7 @@ use Rattle.vm_state.specs.Step.{executed}
 use Rattle.vm_state.specs.Touches.{Touching, touching_step, touching_steps}
 use Rattle.vm_state.specs.declared.guest_state.GuestState.{GuestState}
 use Rattle.vm_stepping.specs.declared.turns.Left.{Left}
-use Rattle.vm_touch_laws.specs.Touched.{AreFilled, touches_now}
+use Rattle.vm_simulation_laws.specs.Touched.{AreFilled, touches_now}
 
 -- The pages that were missed just now: none, or one that the guest's instruction touches and that isn't filled. Where the
 -- guest has no place for the byte, the pages that gave bytes are filled.

@@ -8,9 +8,9 @@ ghost use Rattle.vm_simulation_laws.specs.Loaded.{RunsGuest};
 ghost use Rattle.vm_state.specs.Partition.{guest_of};
 ghost use Rattle.vm_state.specs.Translation.{is_clear};
 
+use crate::bursts::{Ran, take_back};
 use vax_arch::{Lookup, Pte};
 use vax_hw::{Exit, Hardware};
-use vm_bursts::{Ran, take_back};
 use vm_shadow::Shadow;
 use vm_state::GuestState;
 use vm_walk::look_up;

@@ -1,6 +1,7 @@
-//! Steps of a guest over the machine and its shadow page tables.
+//! Runs of the machine and steps of a guest over its shadow page tables.
 #![tactic(auto)]
 
+mod bursts;
 mod counts;
 mod guarded;
 mod made;
@@ -9,6 +10,7 @@ mod missing;
 mod sensing;
 mod turns;
 
+pub use bursts::{Ran, burst, count_more, take_back};
 pub use counts::Counts;
 pub use turns::{Once, advance, advance_once};
-pub use vm_events::Note;
+pub use vm_exception::Note;

@@ -2,9 +2,9 @@ ghost use Rattle.std.specs.Prelude.{◌≡◌, ◌+◌, ◌*◌, ◌/◌, ◌<�
 ghost use Rattle.vm_exception.specs.Initiated.{IsProper};
 ghost use Rattle.vm_shadow.specs.StandsFor.{StandsFor};
 ghost use Rattle.vm_state.specs.Partition.{guest_of};
-ghost use Rattle.vm_events.specs.Noted.{note_of_clear, taken_by};
-ghost use Rattle.vm_events.specs.Sources.{source_of};
-ghost use Rattle.vm_events.specs.declared.note.Note.TheVariants.{Nothing, Page};
+ghost use Rattle.vm_exception.specs.Noted.{note_of_clear, taken_by};
+ghost use Rattle.vm_exception.specs.Sources.{source_of};
+ghost use Rattle.vm_exception.specs.declared.note.Note.TheVariants.{Nothing, Page};
 ghost use Rattle.vm_state.specs.Initiate.{initiate};
 ghost use Rattle.vm_state.specs.Interrupts.{due, interrupt_of};
 ghost use Rattle.vm_state.specs.State.{HasPlace, state_of};
@@ -15,7 +15,7 @@ ghost use Rattle.vm_stepping.specs.Made.{Made, steps_in};
 use crate::Counts;
 use vax_hw::Hardware;
 use vm_console::Port;
-use vm_events::{Note, Source, begin, interrupt, show_stop};
+use vm_exception::{Note, Source, begin, interrupt, show_stop};
 use vm_shadow::Shadow;
 use vm_state::{Exc, GuestState, StopCode, StopReason};
 

@@ -1,7 +1,7 @@
 ghost use Rattle.std.specs.Prelude.{◌<◌, ◌^◌, ℕ};
 ghost use Rattle.vm_shadow.specs.StandsFor.{StandsFor};
 ghost use Rattle.vm_simulation_laws.specs.Laws.{IsMissed};
-ghost use Rattle.vm_events.specs.Noted.{note_by_try};
+ghost use Rattle.vm_exception.specs.Noted.{note_by_try};
 ghost use Rattle.vm_simulation_laws.specs.Loaded.{guest_try};
 ghost use Rattle.vm_state.specs.Partition.{guest_of};
 ghost use Rattle.vm_stepping.specs.Noted.{NotesMet};
@@ -13,7 +13,7 @@ use crate::made::{fault, stop_past_memory};
 use vax_arch::Intent;
 use vax_hw::Hardware;
 use vm_console::Port;
-use vm_events::Note;
+use vm_exception::Note;
 use vm_shadow::Shadow;
 use vm_state::{Exc, GuestState, Walk};
 use vm_walk::{look_up, walk_found};

@@ -2,12 +2,12 @@ ghost use Rattle.std.specs.Prelude.{◌≡◌, ◌+◌, ◌<◌, ◌^◌, length
 ghost use Rattle.vm_shadow.specs.StandsFor.{StandsFor};
 ghost use Rattle.vm_simulation_laws.specs.Laws.{IsTrapped};
 ghost use Rattle.vm_state.specs.Partition.{guest_of};
-ghost use Rattle.vm_events.specs.Noted.{note_by_try};
+ghost use Rattle.vm_exception.specs.Noted.{note_by_try};
 ghost use Rattle.vm_simulation_laws.specs.Loaded.{guest_try};
 ghost use Rattle.vm_stepping.specs.Noted.{NotesMet};
 ghost use Rattle.vm_stepping.specs.Made.{IsMet, steps_in};
 ghost use Rattle.vm_stepping.specs.Pays.{PaysFor};
-ghost use Rattle.vm_touch_laws.specs.Touched.{AreFilled, touches_now};
+ghost use Rattle.vm_simulation_laws.specs.Touched.{AreFilled, touches_now};
 
 use crate::Counts;
 use crate::made::{fault, page_note};
@@ -15,7 +15,7 @@ use vax_hw::Hardware;
 use vax_table::Trapped;
 use vm_console::Port;
 use vm_emulate::{Emulated, emulate};
-use vm_events::{Note, show_stop};
+use vm_exception::{Note, show_stop};
 use vm_shadow::Shadow;
 use vm_state::{GuestState, StopCode, StopReason};
 

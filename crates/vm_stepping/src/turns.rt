@@ -1,7 +1,7 @@
 ghost use Rattle.std.specs.Prelude.{◌≡◌, ◌+◌, ◌<◌, ◌≤◌, ◌^◌, IsTrue, false, true, None};
 ghost use Rattle.vm_clock.specs.Ticks.{ticks_to_wrap};
-ghost use Rattle.vm_events.specs.Noted.{note_of};
-ghost use Rattle.vm_miss_laws.specs.Paid.{Pays};
+ghost use Rattle.vm_exception.specs.Noted.{note_of};
+ghost use Rattle.vm_simulation_laws.specs.Paid.{Pays};
 ghost use Rattle.vm_shadow.specs.StandsFor.{StandsFor};
 ghost use Rattle.vm_simulation_laws.specs.Bursts.{IsQuiet};
 ghost use Rattle.vm_state.specs.Partition.{guest_of};
@@ -13,12 +13,12 @@ ghost use Rattle.vm_stepping.specs.Noted.{NotesOne};
 ghost use Rattle.vm_stepping.specs.Pays.{PaysOn};
 
 use crate::Counts;
+use crate::bursts::{burst, count_more};
 use crate::made::{count_step, take_interrupt};
 use crate::met::meet;
 use vax_hw::{Exit, Hardware};
-use vm_bursts::{burst, count_more};
 use vm_console::Port;
-use vm_events::{Note, begin, due};
+use vm_exception::{Note, begin, due};
 use vm_shadow::Shadow;
 use vm_state::{Exc, GuestState};
 

@@ -2,4 +2,8 @@ pub mod Faults
 pub mod Found
 pub mod Notes
 pub mod Shown
-pub mod Syncing
+pub mod Asked
+pub mod Ends
+pub mod Hints
+pub mod Learning
+pub mod ShownAnswers

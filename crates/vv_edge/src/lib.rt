@@ -1,31 +1,37 @@
-//! The edge of the program: its files and standard streams, which are trusted, and what is decided about them as functions of
-//! values: what an open that fails means, which files may be devices, and the sync of lines and drives. The objects tell no
-//! content; each counts its faults.
+//! The edge of the program: its files and standard streams, which are trusted, and what is decided about them and about its call as
+//! functions of values: what an open that fails means, which files may be devices, texts that words alone ask for, how the program
+//! ends, and what people at a terminal are told of that. The objects tell no content; each counts its faults.
 #![tactic(auto)]
 
+mod asked;
+mod ending;
 mod faults;
 mod file_drive;
 mod file_line;
 mod file_shelf;
 mod found;
+mod hints;
 mod input_keys;
+mod learning;
 mod opening;
 mod out_sink;
 mod standard;
 mod stat;
-mod syncing;
 mod telling;
 mod ticker;
 
+pub use asked::{HELP, VERSION, files_named, text_asked, words_status};
+pub use ending::conclude;
 pub use faults::shelf_fault;
 pub use file_drive::{Failures, FileDrive};
 pub use file_line::FileLine;
 pub use file_shelf::FileShelf;
+pub use hints::{Told, hint};
 pub use input_keys::InputKeys;
+pub use learning::{audit_line, refused_line, told_word, wanted_drive};
 pub use opening::{Opening, Streams, are_there, line_notes};
 pub use out_sink::OutSink;
 pub use standard::{Folder, hold_folder, hold_places, hold_standard, identity_of};
 pub use stat::{Flaw, Found, Identity, Kind, blocks_in, flaw_of, is_as_shown, is_removable};
-pub use syncing::{sync_drives, sync_lines};
 pub use telling::{DriveNotes, LineNotes, Note, Stored, line_note, note_if, notes};
 pub use ticker::Ticker;

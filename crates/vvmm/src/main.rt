@@ -8,15 +8,14 @@ use std::process::ExitCode;
 use vax_cpu::Cpu;
 use vv_base::NoMemory;
 use vv_edge::{
-    FileLine, FileShelf, InputKeys, Opening, Streams, Ticker, are_there, hold_standard, line_notes,
-};
-use vv_io::{Drive, EmptyDrive, LineList};
-use vv_program::{
-    Told, audit_line, conclude, files_named, refused_line, serve, text_asked, told_word,
+    FileLine, FileShelf, InputKeys, Opening, Streams, Ticker, Told, are_there, audit_line,
+    conclude, files_named, hold_standard, line_notes, refused_line, text_asked, told_word,
     wanted_drive, words_status,
 };
+use vv_io::{Drive, EmptyDrive, LineList};
 pub use vvmm_call::vvmm_run;
-use vvmm_call::{Devices, Status, close, devices_of};
+use vvmm_call::{Devices, close, devices_of, serve};
+use vvmm_files::Status;
 
 /// The machine has 32,768 pages of 512 bytes: 16 megabytes.
 const PAGES: u32 = 32_768;

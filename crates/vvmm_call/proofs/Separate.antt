@@ -21,7 +21,7 @@ use Rattle.sys_system.specs.declared.power.PowerFault.TheVariants.{Image, Volume
 use Rattle.vvmm_call.specs.Answer.{IsSeparate, IsShownSeparate, PlaysConfiguration}
 use Rattle.vvmm_files.specs.Solo.{solo_config}
 use Rattle.vvmm_files.specs.Words.{Asked}
-use Rattle.vvmm_call.specs.declared.status.Status.{Status}
+use Rattle.vvmm_files.specs.declared.status.Status.{Status}
 
 pub separate : (x : Input) → IsConfig x.config → IsSeparate x
 separate x accepted = record { lines = keeps_devices x accepted; drives = keeps_volumes x accepted }

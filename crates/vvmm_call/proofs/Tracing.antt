@@ -2,19 +2,19 @@
 use Rattle.std.proofs.Common.{ℕ, ◌≡◌, ◌≤◌, List, [], ◌∷◌, ◌++◌, length, map, Bool, true, false, Option, Ok, Err, Vec, Global, arith, ap, subst, sym, ◌∙◌}
 use Rattle.std.proofs.lemmas.List.{length-map}
 use Rattle.vv_io.specs.Lines.{Seen}
-use Rattle.sys_lines.proofs.Puts.{joined, still}
-use Rattle.sys_lines.specs.ShownSince.{ShownSince}
+use Rattle.sys_devices.proofs.Puts.{joined, still}
+use Rattle.sys_devices.specs.ShownSince.{ShownSince}
 use Rattle.sys_objects.specs.declared.records.Config.{Config}
 use Rattle.sys_runs.specs.Ran.{MakesRun, RunOutside, Runs, StaysDown}
 use Rattle.sys_runs.specs.declared.running.Ran.{Ran}
-use Rattle.sys_system.specs.declared.parts.Device.{Device}
+use Rattle.sys_devices.specs.declared.device.Device.{Device}
 use Rattle.sys_system.specs.declared.power.PowerFault.{PowerFault}
 use Rattle.sys_trace.specs.Traced.{HasOne, input_of}
 use Rattle.vm_stepping.specs.Made.{steps_in}
 use Rattle.vvmm_call.specs.Answer.{EndsWithPut, status_when_done}
 use Rattle.vvmm_files.specs.Solo.{solo_config, solo_guest}
 use Rattle.vvmm_files.specs.Words.{Asked}
-use Rattle.vvmm_call.specs.declared.status.Status.{Status}
+use Rattle.vvmm_files.specs.declared.status.Status.{Status}
 
 -- what was put before is cut, and no more is put
 pub cut_before : (failed : Option Device) (is_cut : Bool) (status : Status) (start out : Seen) (before bytes : List ℕ) → is_cut ≡ true → status ≡ status_when_done failed true → ShownSince is_cut start out before → EndsWithPut failed (before ++ bytes) status start out

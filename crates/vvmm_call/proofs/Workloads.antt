@@ -6,7 +6,7 @@ use Rattle.std.proofs.lemmas.List.{length-map}
 use Rattle.std.proofs.lemmas.Slice.Zip.{AllZip-long}
 use Rattle.vv_io.specs.Lines.{Seen}
 use Rattle.vm_stepping.specs.Made.{steps_in}
-use Rattle.sys_drives.specs.Rows.{FitRows}
+use Rattle.sys_devices.specs.Rows.{FitRows}
 use Rattle.sys_guests.specs.Loads.{first_misfit, is_misfit}
 use Rattle.sys_objects.specs.declared.records.Config.{Config}
 use Rattle.sys_objects.specs.declared.records.GuestRow.{GuestRow}
@@ -24,8 +24,8 @@ use Rattle.vv_gen.specs.Workload.{Generated, workload_of}
 use Rattle.vv_gen.specs.declared.load.Workload.{Workload}
 use Rattle.vvmm_call.specs.Answer.{AnswersRun, FollowsLoad, Outside as CallOutside, PlaysLoad, Says, run_outside}
 use Rattle.vvmm_files.specs.Words.{Wanted, WantsLoad, wanted_by}
-use Rattle.vvmm_call.specs.declared.status.Status.{Status}
-use Rattle.vvmm_call.specs.declared.status.Status.TheVariants.{NoMemory as OutOfMemory}
+use Rattle.vvmm_files.specs.declared.status.Status.{Status}
+use Rattle.vvmm_files.specs.declared.status.Status.TheVariants.{NoMemory as OutOfMemory}
 use Rattle.vvmm_files.specs.declared.words.Request.{Request}
 use Rattle.vvmm_files.specs.declared.words.Request.TheVariants.{Load}
 

@@ -15,9 +15,9 @@ use Rattle.sys_audit_check.specs.Lines.{Checks}
 use Rattle.sys_audit_check.specs.declared.fault.AuditFault.{AuditFault}
 use Rattle.sys_config.specs.Config.{config_of}
 use Rattle.sys_config.specs.Written.{version_of}
-use Rattle.sys_draw.specs.Picture.{drawing_of}
+use Rattle.sys_flow.specs.Picture.{drawing_of}
 use Rattle.sys_flow.specs.Report.{IsReport}
-use Rattle.sys_lines.specs.ShownSince.{ShownSince}
+use Rattle.sys_devices.specs.ShownSince.{ShownSince}
 use Rattle.sys_live.specs.Lives.{LivesRun}
 use Rattle.sys_live.specs.Operator.{Operator, Untyped}
 use Rattle.sys_live.specs.declared.session.Lived.{Lived}
@@ -33,7 +33,7 @@ use Rattle.sys_runs.specs.Saved.{ContinuesRun, SavesRun}
 use Rattle.sys_runs.specs.declared.running.Ran.{Ran}
 use Rattle.sys_runs.specs.declared.saving.Saved.{Saved}
 use Rattle.sys_script.specs.declared.event.Event.{Event}
-use Rattle.sys_system.specs.declared.parts.Device.{Device}
+use Rattle.sys_devices.specs.declared.device.Device.{Device}
 use Rattle.sys_system.specs.declared.power.PowerFault.{PowerFault}
 use Rattle.sys_system.specs.declared.power.PowerFault.TheVariants as faults
 use Rattle.sys_trace.specs.Trace.{trace_of}
@@ -42,8 +42,8 @@ use Rattle.vvmm_files.specs.Files.{HasAll, HasAllToLive, HasAllToSave, HasBoth, 
 use Rattle.vvmm_files.specs.Solo.{solo_config, solo_guest}
 use Rattle.vvmm_call.specs.Summary.{check_line, summary}
 use Rattle.vvmm_files.specs.Words.{Asked, AuditAsked, LiveAsked, ResumeAsked, RunAsked, Wanted, WantsSolo, WantsTrace, WantsRun, WantsSave, WantsResume, WantsLive, WantsLoad, WantsCheck, WantsMigration, WantsAudit, WantsFlow, WantsDrawing, WantsBytes, WantsText}
-use Rattle.vvmm_call.specs.declared.status.Status.{Status}
-use Rattle.vvmm_call.specs.declared.status.Status.TheVariants.{Done, Words, Missing, TooLong, ShelfFault, Config as ConfigRefused, Script as ScriptRefused, Image, VolumeSize, DriveIn, Device as DeviceFault, Asm, SnapSize, Snap as SnapRefused, Audit, OutFault, KeyFault, NoMemory}
+use Rattle.vvmm_files.specs.declared.status.Status.{Status}
+use Rattle.vvmm_files.specs.declared.status.Status.TheVariants.{Done, Words, Missing, TooLong, ShelfFault, Config as ConfigRefused, Script as ScriptRefused, Image, VolumeSize, DriveIn, Device as DeviceFault, Asm, SnapSize, Snap as SnapRefused, Audit, OutFault, KeyFault, NoMemory}
 use Rattle.vvmm_files.specs.declared.stop.Stop.{Stop}
 use Rattle.vvmm_files.specs.declared.stop.Stop.TheVariants as stops
 

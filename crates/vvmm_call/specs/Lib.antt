@@ -1,4 +1,5 @@
 pub mod Answer
 pub mod Devices
 pub mod Summary
-pub mod Texts
+pub mod Serves
+pub mod Shown

@@ -1,5 +1,5 @@
-//! The commands of the program, over any machine, files, lines and drives: words, answers, and the call that does what the
-//! words say.
+//! The commands of the program, over any machine, files, lines and drives: the call that does what the words say, and the call with
+//! the sync of its devices after it.
 #![tactic(auto)]
 
 mod devices;
@@ -7,13 +7,13 @@ mod live;
 mod loading;
 mod playing;
 mod report;
+mod serving;
 mod snaps;
-mod status;
 mod stop;
 mod top;
 mod traces;
 
 pub use devices::{Devices, devices_of};
 pub use playing::close;
-pub use status::{Status, status_code, status_text};
+pub use serving::serve;
 pub use top::vvmm_run;

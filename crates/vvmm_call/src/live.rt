@@ -2,16 +2,15 @@ ghost use Rattle.std.specs.Prelude.{◌≡◌, ◌≤◌, ◌*◌, IfOk, length,
 ghost use Rattle.vm_stepping.specs.Made.{steps_in};
 ghost use Rattle.vvmm_call.specs.Answer.{AnswersLive, FollowsLive, live_status};
 
-use crate::playing::put_once;
 use crate::report::summary;
-use crate::status::Status;
 use crate::stop::{power_status, stopped_status};
 use std::alloc::Global;
+use sys_devices::{Device, put_once};
 use sys_live::Lived;
-use sys_system::{Device, PowerFault};
+use sys_system::PowerFault;
 use vax_hw::Hardware;
 use vv_io::{Drive, Keyboard, Lines, Shelf, Sink};
-use vvmm_files::{LiveOrder, fetch_to_live};
+use vvmm_files::{LiveOrder, Status, fetch_to_live};
 
 /// The answer where all was done.
 fn live_status(failed: Option<Device>, is_cut: bool, is_broken: bool) -> Status

@@ -3,12 +3,12 @@ ghost use Rattle.vv_io.specs.Blocks.{SeenDrive};
 ghost use Rattle.vvmm_call.specs.Answer.{FollowsLoad};
 
 use crate::playing::answer;
-use crate::status::Status;
 use std::alloc::Global;
 use sys_runs::run_with;
 use vax_hw::Hardware;
 use vv_gen::workload;
 use vv_io::{Lines, Progress, Sink};
+use vvmm_files::Status;
 
 /// `load`: makes the run of the workload that is drawn from a number, over its own volumes, and tells it. Drives stay as they are.
 pub fn load<H: Hardware, O: Sink, P: Progress, L: Lines>(

@@ -1,26 +1,18 @@
-ghost use Rattle.std.specs.Prelude.{◌≡◌, ◌≤◌, ◌*◌, length, map, vec_len, is_err, IfOk};
+ghost use Rattle.std.specs.Prelude.{◌≡◌, ◌≤◌, ◌*◌, length, map, vec_len, IfOk};
 ghost use Rattle.vm_stepping.specs.Made.{steps_in};
-ghost use Rattle.sys_lines.specs.ShownSince.{ShownSince};
 ghost use Rattle.sys_objects.specs.Condition.{IsConfig};
 ghost use Rattle.sys_script.specs.Events.{AreEvents};
 ghost use Rattle.vvmm_call.specs.Answer.{AnswersRun, EndsWithPut, PlaysConfiguration, status_when_done};
 
 use crate::report::summary;
-use crate::status::Status;
 use crate::stop::power_status;
 use std::alloc::Global;
+use sys_devices::{Device, put_once};
 use sys_runs::{Ran, run};
-use sys_system::{Device, PowerFault};
+use sys_system::PowerFault;
 use vax_hw::Hardware;
-use vv_io::{Drive, Lines, Progress, Sink, SinkFault};
-use vvmm_files::Inputs;
-
-/// Puts bytes once.
-pub fn put_once<O: Sink>(out: &mut O, bytes: &[u8]) -> Result<(), SinkFault>
-    ensures { ShownSince (is_err result) (O.printed out.old) (O.printed out.new) bytes.now }
-{
-    out.put(bytes)
-}
+use vv_io::{Drive, Lines, Progress, Sink};
+use vvmm_files::{Inputs, Status};
 
 /// The answer where all was done.
 pub fn done_status(failed: Option<Device>, is_cut: bool) -> Status

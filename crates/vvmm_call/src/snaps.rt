@@ -2,14 +2,13 @@ ghost use Rattle.std.specs.Prelude.{◌≡◌, ◌≤◌, ◌*◌, length, map, 
 ghost use Rattle.vvmm_call.specs.Answer.{AnswersSave, FollowsResume, FollowsSave};
 
 use crate::playing::{answer, done_status};
-use crate::status::Status;
 use crate::stop::{power_status, stopped_status};
 use std::alloc::Global;
 use sys_runs::Saved;
 use sys_system::PowerFault;
 use vax_hw::Hardware;
 use vv_io::{Drive, Lines, Progress, Shelf, Sink};
-use vvmm_files::{ResumeOrder, RunOrder, fetch_to_resume, fetch_to_save};
+use vvmm_files::{ResumeOrder, RunOrder, Status, fetch_to_resume, fetch_to_save};
 
 /// The answer of a run that was to be saved.
 fn saved_status(saved: Result<Saved, PowerFault>) -> Status

@@ -1,9 +1,8 @@
 ghost use Rattle.std.specs.Prelude.{◌≡◌};
 ghost use Rattle.vvmm_call.specs.Answer.{power_status, stopped_status};
 
-use crate::status::Status;
 use sys_system::PowerFault;
-use vvmm_files::Stop;
+use vvmm_files::{Status, Stop};
 
 /// The answer of a command that stops.
 pub fn stopped_status(stop: Stop) -> Status

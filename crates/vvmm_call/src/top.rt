@@ -9,20 +9,18 @@ use crate::loading::load;
 use crate::playing::{close, play};
 use crate::report::check_line;
 use crate::snaps::{resume, save};
-use crate::status::Status;
 use crate::stop::stopped_status;
 use crate::traces::trace;
 use std::alloc::Global;
 use sys_audit_check::check_audit;
 use sys_config::migrate_text;
-use sys_draw::drawing;
-use sys_flow::report;
+use sys_flow::{drawing, report};
 use vax_hw::Hardware;
 use vv_base::{FileName, NoMemory};
 use vv_io::{Drive, Keyboard, Lines, NoProgress, Progress, Shelf, Sink};
 use vvmm_files::{
-    Answer, AuditOrder, Order, Request, RunOrder, asm, dis, fetch_audit, fetch_config, fetch_run,
-    parse, solo_inputs,
+    Answer, AuditOrder, Order, Request, RunOrder, Status, asm, dis, fetch_audit, fetch_config,
+    fetch_run, parse, solo_inputs,
 };
 
 /// `solo`: fetches the image, makes its run and tells it.

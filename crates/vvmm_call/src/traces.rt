@@ -1,5 +1,5 @@
 ghost use Rattle.std.specs.Prelude.{◌≡◌, ◌≤◌, ◌*◌, ◌++◌, List, ℕ, length, map, true, vec_len};
-ghost use Rattle.sys_lines.specs.ShownSince.{ShownSince};
+ghost use Rattle.sys_devices.specs.ShownSince.{ShownSince};
 ghost use Rattle.vm_stepping.specs.Made.{steps_in, tally_of};
 ghost use Rattle.vv_base.specs.Names.{is_file_name};
 ghost use Rattle.vv_io.specs.Lines.{Seen};
@@ -8,13 +8,12 @@ ghost use Rattle.vvmm_call.specs.Summary.{summary};
 
 use crate::playing::{close, done_status};
 use crate::report::summary;
-use crate::status::Status;
 use crate::stop::{power_status, stopped_status};
 use std::alloc::Global;
 use sys_trace::Traced;
 use vax_hw::Hardware;
 use vv_io::{Drive, Lines, Shelf, Sink};
-use vvmm_files::{Order, solo_inputs};
+use vvmm_files::{Order, Status, solo_inputs};
 
 /// Puts the summary of a run whose trace was put whole, and answers.
 fn close_trace<O: Sink>(traced: &Traced, out: &mut O) -> Status

@@ -4,3 +4,4 @@ pub mod Files
 pub mod Solo
 pub mod Texts
 pub mod Words
+pub mod Answers

@@ -1,11 +1,12 @@
 //! What the words of a command ask for, and the files that it needs: fetched, and read in their order; a file that is assembled or
-//! disassembled.
+//! disassembled; and the program's answers, with their texts and codes.
 #![tactic(auto)]
 
 mod answer;
 mod commands;
 mod fetching;
 mod solo;
+mod status;
 mod stop;
 mod words;
 
@@ -16,5 +17,6 @@ pub use fetching::{
     fetch_run, fetch_to_live, fetch_to_resume, fetch_to_save,
 };
 pub use solo::solo_inputs;
+pub use status::{Status, status_code, status_text};
 pub use stop::Stop;
 pub use words::{AuditOrder, LiveOrder, Order, Request, ResumeOrder, RunOrder, parse};

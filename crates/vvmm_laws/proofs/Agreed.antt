@@ -9,10 +9,10 @@ use Rattle.vv_io.specs.Shelf.{File}
 use Rattle.vv_class.specs.Class.{does_flow}
 use Rattle.vv_class.specs.declared.class.AccessClass.{AccessClass}
 use Rattle.sys_config.proofs.Accepted.{accepted_is}
-use Rattle.sys_drives.proofs.Places.{as_many, at_stands}
-use Rattle.sys_drives.specs.Loads.{AreDriveBlocks, AreLoaded}
-use Rattle.sys_drives.specs.Rows.{drive_at}
-use Rattle.sys_drives.specs.Stores.{StoresToDrive, is_marked, known_after}
+use Rattle.sys_devices.proofs.Places.{as_many, at_stands}
+use Rattle.sys_devices.specs.Loads.{AreDriveBlocks, AreLoaded}
+use Rattle.sys_devices.specs.Rows.{drive_at}
+use Rattle.sys_devices.specs.Stores.{StoresToDrive, is_marked, known_after}
 use Rattle.sys_live.specs.Lives.{Lives, LivesRun}
 use Rattle.sys_live.specs.Operator.{Operator}
 use Rattle.sys_live.specs.Typing.{EndsTypedRun}
@@ -28,12 +28,12 @@ use Rattle.sys_state.specs.Bytes.{Device as Shown, devices_of, drive_blocks, lin
 use Rattle.sys_state.specs.Run.{Input}
 use Rattle.sys_script.specs.Typed.{events_typed, rounds_typed}
 use Rattle.sys_system.specs.Devices.{device_of}
-use Rattle.sys_system.specs.declared.parts.Device.{Device}
+use Rattle.sys_devices.specs.declared.device.Device.{Device}
 use Rattle.sys_system.specs.declared.power.PowerFault.{PowerFault}
 use Rattle.vvmm_call.specs.Answer.{AnswersLive, FollowsLive, Outside, PlaysLive, live_status, run_outside}
 use Rattle.vvmm_files.specs.Files.{AreImages, HasAllToLive, HasConfig}
 use Rattle.vvmm_files.specs.Words.{LiveAsked}
-use Rattle.vvmm_call.specs.declared.status.Status.TheVariants.{Done}
+use Rattle.vvmm_files.specs.declared.status.Status.TheVariants.{Done}
 use Rattle.vvmm_laws.proofs.Joined.{no_drive, no_line, not_down, not_stopped}
 use Rattle.vvmm_laws.proofs.Lives.{has_told}
 use Rattle.vvmm_laws.proofs.Marked.{first_marked, line_whole, none_marked}

@@ -12,7 +12,7 @@ use Rattle.sys_objects.specs.declared.records.Config.{Config}
 use Rattle.vvmm_call.specs.Answer.{AnswersCheck, ChecksAudit, shelf_and_sink, stopped_status}
 use Rattle.vvmm_files.specs.Files.{HasConfig, IsConfigRefused, IsNextOfAudit, IsRead, StopsAudit}
 use Rattle.vvmm_files.specs.Words.{AuditAsked}
-use Rattle.vvmm_call.specs.declared.status.Status.{Status}
+use Rattle.vvmm_files.specs.declared.status.Status.{Status}
 use Rattle.vvmm_files.specs.declared.stop.Stop.{Stop}
 use Rattle.vvmm_files.specs.declared.stop.Stop.TheVariants.{Missing, TooLong, ShelfFault, Config as ConfigRefused, Script as ScriptRefused, SnapSize, Snap as SnapRefused, NoMemory}
 use Rattle.vvmm_laws.proofs.Played.{closes_served}

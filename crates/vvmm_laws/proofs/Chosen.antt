@@ -5,8 +5,8 @@ use Rattle.vv_io.specs.Causes.{Rose}
 use Rattle.vv_io.specs.Lines.{Seen}
 use Rattle.vv_io.specs.Shelf.{File, held}
 use Rattle.sys_config.proofs.Accepted.{accepted_is}
-use Rattle.sys_drives.specs.Loads.{HasFailed, IsMisfit}
-use Rattle.sys_drives.specs.Rows.{FitsDrive, drive_at}
+use Rattle.sys_devices.specs.Loads.{HasFailed, IsMisfit}
+use Rattle.sys_devices.specs.Rows.{FitsDrive, drive_at}
 use Rattle.sys_guests.specs.Loads.{first_misfit}
 use Rattle.sys_objects.specs.declared.errors.ConfigFault.{ConfigFault}
 use Rattle.sys_objects.specs.declared.records.Config.{Config}
@@ -16,7 +16,7 @@ use Rattle.sys_script.specs.declared.event.ScriptFault.{ScriptFault}
 use Rattle.vvmm_call.specs.Answer.{Outside, PlaysRun, run_outside, stopped_status}
 use Rattle.vvmm_files.specs.Files.{AreImages, HasAll, HasConfig, IsConfigRefused, IsNextFile, IsScriptRefused, StopsRun}
 use Rattle.vvmm_files.specs.Words.{RunAsked}
-use Rattle.vvmm_call.specs.declared.status.Status.{Status}
+use Rattle.vvmm_files.specs.declared.status.Status.{Status}
 use Rattle.vvmm_files.specs.declared.stop.Stop.{Stop}
 use Rattle.vvmm_files.specs.declared.stop.Stop.TheVariants.{Missing, TooLong, ShelfFault, Config as ConfigRefused, Script as ScriptRefused, SnapSize, Snap as SnapRefused, NoMemory}
 use Rattle.vvmm_laws.proofs.Nexts.{all_read, line_read, rule_read, same_next}

@@ -5,9 +5,9 @@ use Rattle.vv_io.specs.Blocks.{SeenDrive}
 use Rattle.vv_io.specs.Lines.{shown_after}
 use Rattle.vv_io.specs.Shelf.{File, held}
 use Rattle.sys_config.specs.Config.{config_of}
-use Rattle.sys_drives.specs.Rows.{drive_at}
-use Rattle.sys_drives.specs.Stores.{StoresToDrive, is_marked, known_after}
-use Rattle.sys_lines.specs.ShownSince.{ShownSince}
+use Rattle.sys_devices.specs.Rows.{drive_at}
+use Rattle.sys_devices.specs.Stores.{StoresToDrive, is_marked, known_after}
+use Rattle.sys_devices.specs.ShownSince.{ShownSince}
 use Rattle.sys_objects.specs.declared.records.Config.{Config}
 use Rattle.sys_state.proofs.Parts.{cut_anywhere}
 use Rattle.sys_state.specs.Bytes.{drive_blocks, drive_blocks_from, line_bytes_from, shown_from}
@@ -22,13 +22,13 @@ use Rattle.sys_snap.proofs.OnlyStates.{of_one_moment}
 use Rattle.sys_snap.specs.Snap.{IsSnap}
 use Rattle.sys_snap.specs.Written.{snap_bytes}
 use Rattle.sys_system.specs.Devices.{device_of}
-use Rattle.sys_system.specs.declared.parts.Device.{Device}
+use Rattle.sys_devices.specs.declared.device.Device.{Device}
 use Rattle.sys_system.specs.declared.power.PowerFault.{PowerFault}
 use Rattle.sys_system.specs.declared.power.PowerFault.TheVariants as faults
 use Rattle.vvmm_call.specs.Answer.{AnswersRun, AnswersSave, Outside, PlaysResume, PlaysSave, power_status, run_outside, status_when_done, stopped_status}
 use Rattle.vvmm_files.specs.Files.{HasScript, HasSnap}
 use Rattle.vvmm_files.specs.Words.{ResumeAsked, RunAsked}
-use Rattle.vvmm_call.specs.declared.status.Status.TheVariants.{Done}
+use Rattle.vvmm_files.specs.declared.status.Status.TheVariants.{Done}
 use Rattle.vvmm_files.specs.declared.stop.Stop.{Stop}
 use Rattle.vvmm_files.specs.declared.stop.Stop.TheVariants as stops
 use Rattle.vvmm_laws.proofs.Marked.{first_marked, line_whole, none_marked}

@@ -1,3 +1,24 @@
+pub mod Agreeing
+pub mod Walked
+pub mod Reading
+pub mod Again
+pub mod Storing
+pub mod Agree
+pub mod Closed
+pub mod Commands
+pub mod Connected
+pub mod Depends
+pub mod Events
+pub mod Far
+pub mod Held
+pub mod Lines
+pub mod Reached
+pub mod Rounds
+pub mod Transfers
+pub mod Turns
+mod Puts
+mod Tracks
+pub mod Fit
 pub mod Told
 pub mod Nexts
 pub mod Marked

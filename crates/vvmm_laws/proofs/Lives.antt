@@ -5,24 +5,24 @@ use Rattle.vv_io.specs.Blocks.{SeenDrive}
 use Rattle.vv_io.specs.Causes.{Rose}
 use Rattle.vv_io.specs.Lines.{Seen}
 use Rattle.vv_io.specs.Shelf.{File, held}
-use Rattle.sys_drives.proofs.Places.{at_stands}
-use Rattle.sys_drives.specs.Loads.{HasFailed, IsMisfit}
-use Rattle.sys_drives.specs.Rows.{FitsDrive, drive_at}
+use Rattle.sys_devices.proofs.Places.{at_stands}
+use Rattle.sys_devices.specs.Loads.{HasFailed, IsMisfit}
+use Rattle.sys_devices.specs.Rows.{FitsDrive, drive_at}
 use Rattle.sys_guests.specs.Loads.{first_misfit}
-use Rattle.sys_lines.specs.ShownSince.{ShownSince}
+use Rattle.sys_devices.specs.ShownSince.{ShownSince}
 use Rattle.sys_live.specs.Lives.{LivesRun}
 use Rattle.sys_live.specs.Operator.{Operator}
 use Rattle.sys_live.specs.declared.session.Lived.{Lived}
 use Rattle.sys_objects.specs.declared.errors.ConfigFault.{ConfigFault}
 use Rattle.sys_objects.specs.declared.records.Config.{Config}
 use Rattle.sys_objects.specs.declared.records.GuestRow.{GuestRow}
-use Rattle.sys_system.specs.declared.parts.Device.{Device}
+use Rattle.sys_devices.specs.declared.device.Device.{Device}
 use Rattle.sys_system.specs.declared.power.PowerFault.{PowerFault}
 use Rattle.sys_system.specs.declared.power.PowerFault.TheVariants as faults
 use Rattle.vvmm_call.specs.Answer.{AnswersLive, Outside, PlaysLive, PutsSummary, live_status, power_status, run_outside, status_when_done, stopped_status}
 use Rattle.vvmm_files.specs.Files.{AreImages, HasAllToLive, IsConfigRefused, IsImageToLive, IsNextToLive, StopsLive}
 use Rattle.vvmm_files.specs.Words.{LiveAsked}
-use Rattle.vvmm_call.specs.declared.status.Status.{Status}
+use Rattle.vvmm_files.specs.declared.status.Status.{Status}
 use Rattle.vvmm_files.specs.declared.stop.Stop.{Stop}
 use Rattle.vvmm_files.specs.declared.stop.Stop.TheVariants.{Missing, TooLong, ShelfFault, Config as ConfigRefused, Script as ScriptRefused, SnapSize, Snap as SnapRefused, NoMemory}
 use Rattle.vvmm_laws.proofs.Chosen.{readable}

@@ -2,9 +2,9 @@
 use Rattle.std.proofs.Common.{ℕ, ◌≡◌, ◌<◌, inl, inr, List, Bool, true, false, Option, Some, None, refl, subst, sym, ap, ◌∙◌, arith}
 use Rattle.vv_io.specs.Lines.{Seen}
 use Rattle.sys_system.specs.Devices.{device_of}
-use Rattle.sys_system.specs.declared.parts.Device.{Device}
+use Rattle.sys_devices.specs.declared.device.Device.{Device}
 use Rattle.vvmm_call.specs.Answer.{Outside, PlaysLoad, run_outside, status_when_done}
-use Rattle.vvmm_call.specs.declared.status.Status.{Status}
+use Rattle.vvmm_files.specs.declared.status.Status.{Status}
 use Rattle.vv_gen.specs.Workload.{workload_of}
 use Rattle.vvmm_laws.proofs.Marked.{first_marked, line_rose}
 use Rattle.vvmm_laws.proofs.Played.{closes_served, named_line, no_device}

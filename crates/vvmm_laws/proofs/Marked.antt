@@ -4,11 +4,11 @@ use Rattle.std.proofs.lemmas.Bool.{eqb-false, eqb-true}
 use Rattle.vv_io.specs.Blocks.{SeenDrive}
 use Rattle.vv_io.specs.Causes.{Rose}
 use Rattle.vv_io.specs.Lines.{Seen}
-use Rattle.sys_drives.proofs.Places.{at_stands}
-use Rattle.sys_drives.specs.Rows.{IsRowAt, drive_at}
-use Rattle.sys_drives.specs.Stores.{IsCut, StoresToDrive, is_marked}
-use Rattle.sys_lines.specs.ShownSince.{ShownSince}
-use Rattle.sys_lines.specs.Shows.{Shows}
+use Rattle.sys_devices.proofs.Places.{at_stands}
+use Rattle.sys_devices.specs.Rows.{IsRowAt, drive_at}
+use Rattle.sys_devices.specs.Stores.{IsCut, StoresToDrive, is_marked}
+use Rattle.sys_devices.specs.ShownSince.{ShownSince}
+use Rattle.sys_devices.specs.Shows.{Shows}
 use Rattle.sys_objects.specs.declared.records.VolumeRow.{VolumeRow}
 use Rattle.sys_state.proofs.Places.{both}
 use Rattle.sys_state.specs.Bytes.{drive_blocks_from}

@@ -5,12 +5,12 @@ use Rattle.std.proofs.lemmas.List.{get_or-set_other, get_or-set_same}
 use Rattle.vv_io.specs.Blocks.{SeenDrive, unkept}
 use Rattle.vv_io.specs.Causes.{Rose}
 use Rattle.vv_io.specs.Lines.{Seen}
-use Rattle.sys_drives.proofs.Places.{at_stands, to_first}
-use Rattle.sys_drives.specs.Loads.{HasFailed, IsMisfit, OnlyRose}
-use Rattle.sys_drives.specs.Rows.{FitsDrive, drive_at}
+use Rattle.sys_devices.proofs.Places.{at_stands, to_first}
+use Rattle.sys_devices.specs.Loads.{HasFailed, IsMisfit, OnlyRose}
+use Rattle.sys_devices.specs.Rows.{FitsDrive, drive_at}
 use Rattle.sys_guests.specs.Loads.{first_misfit}
-use Rattle.sys_lines.specs.ShownSince.{ShownSince}
-use Rattle.sys_lines.specs.Shows.{Shows}
+use Rattle.sys_devices.specs.ShownSince.{ShownSince}
+use Rattle.sys_devices.specs.Shows.{Shows}
 use Rattle.sys_objects.specs.Condition.{IsConfig, IsVolume}
 use Rattle.sys_objects.specs.declared.records.Config.{Config}
 use Rattle.sys_objects.specs.declared.records.VolumeRow.{VolumeRow}
@@ -20,11 +20,11 @@ use Rattle.sys_runs.specs.Ran.{MakesFrom, RunOutside, Runs, StaysDown, Unshown}
 use Rattle.sys_runs.specs.declared.running.Ran.{Ran}
 use Rattle.sys_script.specs.declared.event.Event.{Event}
 use Rattle.sys_system.specs.Devices.{device_of}
-use Rattle.sys_system.specs.declared.parts.Device.{Device}
+use Rattle.sys_devices.specs.declared.device.Device.{Device}
 use Rattle.sys_system.specs.declared.power.PowerFault.{PowerFault}
 use Rattle.sys_system.specs.declared.power.PowerFault.TheVariants.{Image, VolumeSize, DriveIn, NoMemory}
 use Rattle.vvmm_call.specs.Answer.{AnswersRun, EndsWithPut, PlaysConfiguration, power_status, status_when_done}
-use Rattle.vvmm_call.specs.declared.status.Status.{Status}
+use Rattle.vvmm_files.specs.declared.status.Status.{Status}
 use Rattle.vvmm_laws.proofs.Marked.{drive_rose, first_marked, is_there, line_rose, marked_at, no_drive_greater, no_drive_lower, no_line_greater, no_line_lower}
 use Rattle.vvmm_laws.specs.Complete.{IsImageOf, IsServed, IsSizeOf, NamesDrive, NamesLine, line_at}
 

@@ -3,9 +3,9 @@ use Rattle.std.proofs.Common.{ℕ, ◌≡◌, ◌<◌, inl, inr, List, Option, S
 use Rattle.vv_io.specs.Causes.{Rose}
 use Rattle.vv_io.specs.Lines.{Seen}
 use Rattle.vv_io.specs.Shelf.{File, held}
-use Rattle.sys_drives.proofs.Places.{at_stands}
-use Rattle.sys_drives.specs.Loads.{IsMisfit}
-use Rattle.sys_drives.specs.Rows.{FitsDrive, drive_at}
+use Rattle.sys_devices.proofs.Places.{at_stands}
+use Rattle.sys_devices.specs.Loads.{IsMisfit}
+use Rattle.sys_devices.specs.Rows.{FitsDrive, drive_at}
 use Rattle.sys_state.specs.Run.{Moment}
 use Rattle.sys_runs.specs.Ran.{Untouched}
 use Rattle.sys_runs.specs.Saved.{ContinuesRun}
@@ -21,7 +21,7 @@ use Rattle.sys_system.specs.declared.power.PowerFault.TheVariants as faults
 use Rattle.vvmm_call.specs.Answer.{AnswersRun, Outside, PlaysResume, run_outside, stopped_status}
 use Rattle.vvmm_files.specs.Files.{HasBoth, HasSnap, IsNextToResume, IsScriptRefused, IsSnapRefused, StopsResume}
 use Rattle.vvmm_files.specs.Words.{ResumeAsked}
-use Rattle.vvmm_call.specs.declared.status.Status.{Status}
+use Rattle.vvmm_files.specs.declared.status.Status.{Status}
 use Rattle.vvmm_files.specs.declared.stop.Stop.{Stop}
 use Rattle.vvmm_files.specs.declared.stop.Stop.TheVariants.{Missing, TooLong, ShelfFault, Config as ConfigRefused, Script as ScriptRefused, SnapSize, Snap as SnapRefused, NoMemory}
 use Rattle.vvmm_laws.proofs.Played.{made_names_drive, made_names_line, made_served, one_misfit, same_drives}

@@ -3,22 +3,22 @@ use Rattle.std.proofs.Common.{ℕ, ◌≡◌, ◌<◌, inl, inr, List, Option, S
 use Rattle.vv_io.specs.Causes.{Rose}
 use Rattle.vv_io.specs.Lines.{Seen}
 use Rattle.vv_io.specs.Shelf.{File}
-use Rattle.sys_drives.proofs.Places.{at_stands}
-use Rattle.sys_drives.specs.Loads.{HasFailed, IsMisfit}
-use Rattle.sys_drives.specs.Rows.{FitsDrive}
+use Rattle.sys_devices.proofs.Places.{at_stands}
+use Rattle.sys_devices.specs.Loads.{HasFailed, IsMisfit}
+use Rattle.sys_devices.specs.Rows.{FitsDrive}
 use Rattle.sys_guests.specs.Loads.{first_misfit}
 use Rattle.sys_objects.specs.declared.records.Config.{Config}
 use Rattle.sys_runs.specs.Saved.{SavesRun}
 use Rattle.sys_runs.specs.declared.saving.Saved.{Saved}
 use Rattle.sys_script.specs.declared.event.Event.{Event}
 use Rattle.sys_system.specs.Devices.{device_of}
-use Rattle.sys_system.specs.declared.parts.Device.{Device}
+use Rattle.sys_devices.specs.declared.device.Device.{Device}
 use Rattle.sys_system.specs.declared.power.PowerFault.{PowerFault}
 use Rattle.vvmm_call.specs.Answer.{AnswersSave, Outside, PlaysSave, run_outside, status_when_done, stopped_status}
 use Rattle.vvmm_files.specs.Files.{FitsSnap, HasAll, HasAllToSave, HasConfig, HasNoRoom, IsNextFile, IsNextToSave, IsTooLarge, StopsRun, StopsSave}
 use Rattle.vvmm_files.specs.Words.{RunAsked}
-use Rattle.vvmm_call.specs.declared.status.Status.{Status}
-use Rattle.vvmm_call.specs.declared.status.Status.TheVariants as answers
+use Rattle.vvmm_files.specs.declared.status.Status.{Status}
+use Rattle.vvmm_files.specs.declared.status.Status.TheVariants as answers
 use Rattle.vvmm_files.specs.declared.stop.Stop.{Stop}
 use Rattle.vvmm_files.specs.declared.stop.Stop.TheVariants.{Missing, TooLong, ShelfFault, Config as ConfigRefused, Script as ScriptRefused, SnapSize, Snap as SnapRefused, NoMemory}
 use Rattle.vvmm_laws.proofs.Chosen.{line_stop, long_stop, misfit_told, missing_stop, only_memory, readable, rule_stop, same_config}

@@ -5,8 +5,8 @@ use Rattle.vv_io.specs.Blocks.{SeenDrive}
 use Rattle.vv_io.specs.Causes.{Rose}
 use Rattle.vv_io.specs.Lines.{Seen}
 use Rattle.vv_io.specs.Shelf.{File, held}
-use Rattle.sys_drives.specs.Loads.{HasFailed}
-use Rattle.sys_drives.specs.Rows.{FitsDrive}
+use Rattle.sys_devices.specs.Loads.{HasFailed}
+use Rattle.sys_devices.specs.Rows.{FitsDrive}
 use Rattle.sys_guests.specs.Loads.{first_misfit}
 use Rattle.sys_objects.specs.declared.records.VolumeRow.{VolumeRow}
 use Rattle.sys_state.specs.Places.{place_of}
@@ -14,7 +14,7 @@ use Rattle.vvmm_call.specs.Answer.{FollowsSolo, Outside, run_outside, stopped_st
 use Rattle.vvmm_files.specs.Files.{IsRead, StopsFile}
 use Rattle.vvmm_files.specs.Solo.{load_address, memory_size, solo_config}
 use Rattle.vvmm_files.specs.Words.{Asked}
-use Rattle.vvmm_call.specs.declared.status.Status.{Status}
+use Rattle.vvmm_files.specs.declared.status.Status.{Status}
 use Rattle.vvmm_files.specs.declared.stop.Stop.{Stop}
 use Rattle.vvmm_files.specs.declared.stop.Stop.TheVariants.{Missing, TooLong, ShelfFault, Config as ConfigRefused, Script as ScriptRefused, SnapSize, Snap as SnapRefused, NoMemory}
 use Rattle.vvmm_laws.proofs.Played.{plays_image, plays_names_line, plays_served}

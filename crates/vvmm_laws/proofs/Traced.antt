@@ -3,7 +3,7 @@ use Rattle.std.proofs.Common.{ℕ, ◌≡◌, List, [], ◌∷◌, ◌++◌, tak
 use Rattle.vv_io.specs.Causes.{Rose}
 use Rattle.vv_io.specs.Lines.{Seen, shown_after}
 use Rattle.vm_stepping.specs.Made.{tally_of}
-use Rattle.sys_lines.specs.ShownSince.{ShownSince}
+use Rattle.sys_devices.specs.ShownSince.{ShownSince}
 use Rattle.sys_state.specs.Guests.{powered}
 use Rattle.sys_runs.specs.Ran.{Runs}
 use Rattle.sys_runs.specs.declared.running.Ran.{Ran}
@@ -13,7 +13,7 @@ use Rattle.vvmm_call.specs.Answer.{AnswersTrace, FollowsSolo, FollowsTrace, Outs
 use Rattle.vvmm_files.specs.Solo.{solo_config, solo_guest}
 use Rattle.vvmm_call.specs.Summary.{summary}
 use Rattle.vvmm_files.specs.Words.{Asked}
-use Rattle.vvmm_call.specs.declared.status.Status.{Status}
+use Rattle.vvmm_files.specs.declared.status.Status.{Status}
 use Rattle.vvmm_laws.proofs.Solos.{completes_solo, tells_solo_device, tells_solo_image, tells_solo_missing, tells_solo_too_long}
 use Rattle.vvmm_laws.specs.Complete.{CompletesImage, TellsImageLineFault, TellsImageMisfit, TellsImageMissing, TellsImageTooLong}
 use Rattle.vvmm_laws.specs.Traced.{TraceIsSolo}

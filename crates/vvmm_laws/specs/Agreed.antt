@@ -7,14 +7,14 @@ use Rattle.vv_io.specs.Lines.{shown_after}
 use Rattle.vv_io.specs.Shelf.{File}
 use Rattle.vv_class.specs.Class.{does_flow}
 use Rattle.vv_class.specs.declared.class.AccessClass.{AccessClass}
-use Rattle.sys_drives.specs.Rows.{drive_at}
+use Rattle.sys_devices.specs.Rows.{drive_at}
 use Rattle.sys_live.specs.Operator.{Operator}
 use Rattle.sys_objects.specs.declared.records.Config.{Config}
 use Rattle.sys_state.specs.Bytes.{devices_of}
 use Rattle.vvmm_call.specs.Answer.{FollowsLive, Outside}
 use Rattle.vvmm_files.specs.Files.{HasConfig}
 use Rattle.vvmm_files.specs.Words.{LiveAsked}
-use Rattle.vvmm_call.specs.declared.status.Status.TheVariants.{Done}
+use Rattle.vvmm_files.specs.declared.status.Status.TheVariants.{Done}
 use Rattle.vvmm_laws.specs.Complete.{line_at}
 use Rattle.vvmm_laws.specs.Live.{AreAlikeTo}
 

@@ -6,20 +6,20 @@ use Rattle.vv_io.specs.Shelf.{File, file_limit, held}
 use Rattle.vasm_text.specs.declared.fault.AsmFault.{AsmFault}
 use Rattle.sys_audit_check.specs.Audited.{Audited}
 use Rattle.sys_audit_check.specs.Lines.{IsFirstBad}
-use Rattle.sys_drives.specs.Loads.{IsMisfit}
-use Rattle.sys_drives.specs.Rows.{FitsDrive, drive_at}
+use Rattle.sys_devices.specs.Loads.{IsMisfit}
+use Rattle.sys_devices.specs.Rows.{FitsDrive, drive_at}
 use Rattle.sys_guests.specs.Loads.{first_misfit}
 use Rattle.sys_objects.specs.declared.errors.ConfigFault.{ConfigFault}
 use Rattle.sys_objects.specs.declared.records.Config.{Config}
 use Rattle.sys_script.specs.declared.event.Event.{Event}
 use Rattle.sys_script.specs.declared.event.ScriptFault.{ScriptFault}
-use Rattle.sys_system.specs.declared.parts.Device.TheVariants as devices
+use Rattle.sys_devices.specs.declared.device.Device.TheVariants as devices
 use Rattle.vvmm_call.specs.Answer.{FollowsAudit, FollowsConfig, FollowsLoad, FollowsRun, Outside, ShowsFile, run_outside, shelf_and_sink}
 use Rattle.vvmm_files.specs.Files.{HasAll, HasConfig, IsConfigRefused, IsNextFile, IsNextOfAudit, IsRead, IsScriptRefused}
 use Rattle.vvmm_files.specs.Solo.{load_address, memory_size}
 use Rattle.vvmm_files.specs.Words.{Asked, AuditAsked, RunAsked}
-use Rattle.vvmm_call.specs.declared.status.Status.{Status}
-use Rattle.vvmm_call.specs.declared.status.Status.TheVariants.{Done, Missing, TooLong, Config as ConfigRefused, Script as ScriptRefused, Image, VolumeSize, DriveIn, Device as DeviceFault, Asm, Audit, OutFault, NoMemory}
+use Rattle.vvmm_files.specs.declared.status.Status.{Status}
+use Rattle.vvmm_files.specs.declared.status.Status.TheVariants.{Done, Missing, TooLong, Config as ConfigRefused, Script as ScriptRefused, Image, VolumeSize, DriveIn, Device as DeviceFault, Asm, Audit, OutFault, NoMemory}
 
 abbrev pub line_at : List Seen → ℕ → Seen
 line_at lines k = slice_index_or lines k unseen

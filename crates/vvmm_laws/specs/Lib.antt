@@ -1,3 +1,10 @@
+pub mod Reads
+pub mod Machine
+pub mod ShownMachine
+pub mod Reach
+pub mod ShownReach
+pub mod Entries
+pub mod Runs
 pub mod Agreed
 pub mod Alone
 pub mod Complete
@@ -5,3 +12,4 @@ pub mod Live
 pub mod Snaps
 pub mod Together
 pub mod Traced
+pub mod Others

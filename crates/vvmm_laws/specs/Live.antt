@@ -5,8 +5,8 @@ use Rattle.vv_io.specs.Causes.{Rose}
 use Rattle.vv_io.specs.Shelf.{File, held}
 use Rattle.vv_class.specs.Class.{does_flow}
 use Rattle.vv_class.specs.declared.class.AccessClass.{AccessClass}
-use Rattle.sys_drives.specs.Loads.{IsMisfit}
-use Rattle.sys_drives.specs.Rows.{FitsDrive, drive_at}
+use Rattle.sys_devices.specs.Loads.{IsMisfit}
+use Rattle.sys_devices.specs.Rows.{FitsDrive, drive_at}
 use Rattle.sys_guests.specs.Loads.{first_misfit}
 use Rattle.sys_live.specs.Operator.{Operator}
 use Rattle.sys_objects.specs.Condition.{IsConfig}
@@ -19,8 +19,8 @@ use Rattle.sys_script.specs.Typed.{events_typed, rounds_ended, rounds_typed}
 use Rattle.vvmm_call.specs.Answer.{FollowsLive, Outside}
 use Rattle.vvmm_files.specs.Files.{HasAllToLive, IsConfigRefused, IsNextToLive}
 use Rattle.vvmm_files.specs.Words.{LiveAsked}
-use Rattle.vvmm_call.specs.declared.status.Status.{Status}
-use Rattle.vvmm_call.specs.declared.status.Status.TheVariants.{Done, KeyFault, NoMemory}
+use Rattle.vvmm_files.specs.declared.status.Status.{Status}
+use Rattle.vvmm_files.specs.declared.status.Status.TheVariants.{Done, KeyFault, NoMemory}
 use Rattle.vvmm_laws.specs.Complete.{IsImageOf, IsLong, IsMissing, IsSizeOf, IsTooLong, NamesDrive, NamesLine, NoneRose, TellsRule, line_at}
 
 -- all was done; or memory ran out, before anything was shown or for a line that was typed; or more lines were typed than are counted

@@ -2,8 +2,8 @@
 use Rattle.std.specs.Prelude.{ℕ, ◌≡◌, ◌<◌, List, None, Some, All}
 use Rattle.vv_io.specs.Causes.{Rose}
 use Rattle.vv_io.specs.Shelf.{File, held}
-use Rattle.sys_drives.specs.Loads.{IsMisfit}
-use Rattle.sys_drives.specs.Rows.{FitsDrive, drive_at}
+use Rattle.sys_devices.specs.Loads.{IsMisfit}
+use Rattle.sys_devices.specs.Rows.{FitsDrive, drive_at}
 use Rattle.sys_guests.specs.Loads.{first_misfit}
 use Rattle.sys_objects.specs.declared.errors.ConfigFault.{ConfigFault}
 use Rattle.sys_objects.specs.declared.records.Config.{Config}
@@ -14,8 +14,8 @@ use Rattle.sys_snap.specs.declared.fault.SnapFault.{SnapFault}
 use Rattle.vvmm_call.specs.Answer.{FollowsResume, FollowsSave, Outside}
 use Rattle.vvmm_files.specs.Files.{HasAllToSave, HasBoth, HasConfig, HasNoRoom, HasSnap, IsConfigRefused, IsNextToResume, IsNextToSave, IsScriptRefused, IsSnapRefused}
 use Rattle.vvmm_files.specs.Words.{ResumeAsked, RunAsked}
-use Rattle.vvmm_call.specs.declared.status.Status.{Status}
-use Rattle.vvmm_call.specs.declared.status.Status.TheVariants.{SnapSize, Snap as SnapRefused, NoMemory}
+use Rattle.vvmm_files.specs.declared.status.Status.{Status}
+use Rattle.vvmm_files.specs.declared.status.Status.TheVariants.{SnapSize, Snap as SnapRefused, NoMemory}
 use Rattle.vvmm_laws.specs.Complete.{IsImageOf, IsLong, IsMissing, IsServed, IsSizeOf, IsTooLong, NamesDrive, NamesLine, NoneRose, TellsLine, TellsRule, line_at}
 
 -- this answer, or memory ran out

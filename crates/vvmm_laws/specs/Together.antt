@@ -2,15 +2,15 @@
 use Rattle.std.specs.Prelude.{ℕ, ◌≡◌, ◌+◌, List, ◌++◌, Some, All}
 use Rattle.vv_io.specs.Lines.{shown_after}
 use Rattle.vv_io.specs.Shelf.{File, held}
-use Rattle.sys_drives.specs.Loads.{AreLoaded}
-use Rattle.sys_drives.specs.Rows.{drive_at}
-use Rattle.sys_drives.specs.Stores.{known_after}
+use Rattle.sys_devices.specs.Loads.{AreLoaded}
+use Rattle.sys_devices.specs.Rows.{drive_at}
+use Rattle.sys_devices.specs.Stores.{known_after}
 use Rattle.sys_state.specs.Bytes.{drive_blocks, line_bytes}
 use Rattle.sys_state.specs.Run.{Input}
 use Rattle.vvmm_call.specs.Answer.{FollowsResume, FollowsSave, Outside}
 use Rattle.vvmm_files.specs.Files.{HasAll}
 use Rattle.vvmm_files.specs.Words.{ResumeAsked, RunAsked}
-use Rattle.vvmm_call.specs.declared.status.Status.TheVariants.{Done}
+use Rattle.vvmm_files.specs.declared.status.Status.TheVariants.{Done}
 use Rattle.vvmm_laws.specs.Complete.{line_at}
 
 -- The second goes on from what the first showed: the file that it names is what `out` was shown, and the scripts are the same

@@ -4,7 +4,7 @@ use Rattle.std.specs.Prelude.{◌≡◌}
 use Rattle.vv_io.specs.Lines.{Seen}
 use Rattle.vvmm_call.specs.Answer.{FollowsSolo, FollowsTrace, Outside}
 use Rattle.vvmm_files.specs.Words.{Asked}
-use Rattle.vvmm_call.specs.declared.status.Status.{Status}
+use Rattle.vvmm_files.specs.declared.status.Status.{Status}
 
 abbrev pub TraceIsSolo : Type 0
 TraceIsSolo = (a : Asked) (status : Status) (o : Outside) → FollowsTrace a status o → (out : Seen) × (out.faults ≡ o.out'.faults) × FollowsSolo a status (record o { out' = out })

@@ -1,11 +1,17 @@
-//! Laws of the program's answers: which answer must be given, and what the lines of one guest get.
+//! Laws that no code needs: of what one instruction depends on, of what reaches what, of accepted audits, and of the program's
+//! answers: which answer must be given, and what the lines of one guest get.
 #![tactic(auto)]
 
+mod accepted;
 mod laws;
 mod live;
+mod machine;
+mod others;
+mod reach;
 mod snaps;
 mod traces;
 
+pub use accepted::the_audit_line_of_a_run_is_an_audit;
 pub use laws::{
     a_broken_rule_is_told, a_configuration_is_shown, a_failed_line_is_told, a_file_is_shown,
     a_guest_runs_alone, a_load_names_a_failed_line, a_missing_configuration_is_told,
@@ -21,6 +27,14 @@ pub use live::{
     the_first_image_to_live_that_does_not_fit_is_told, the_first_missing_file_to_live_is_told,
     the_first_too_long_file_to_live_is_told, the_first_volume_to_live_of_another_size_is_told,
     typing_keeps_drives, typing_keeps_lines,
+};
+pub use machine::{
+    instructions_change_what_they_read, instructions_depend_on_what_they_read,
+    reads_are_at_the_same_places,
+};
+pub use others::other_devices_are_left;
+pub use reach::{
+    closed_sets_are_apart, devices_depend_on_what_reaches, what_reach_does_not_name_is_apart,
 };
 pub use snaps::{
     a_refused_configuration_to_save_is_told, a_refused_script_to_resume_is_told,

@@ -2,8 +2,8 @@ use Rattle.std.proofs.Common.{ℕ, ◌≡◌, ◌<◌, ◌∙◌, List, Option, 
 use Rattle.std.specs.Prelude.{IfSome}
 use Rattle.sys_events.proofs.Obeying.{guest_halts}
 use Rattle.sys_events.proofs.Telling.{small_line}
-use Rattle.sys_lines.proofs.Showings.{shows_same}
-use Rattle.sys_lines.specs.Shows.{only_on}
+use Rattle.sys_devices.proofs.Showings.{shows_same}
+use Rattle.sys_devices.specs.Shows.{only_on}
 use Rattle.sys_objects.specs.declared.records.Terminal.{Terminal}
 use Rattle.sys_state.specs.Consoles.{console_of}
 use Rattle.sys_events.proofs.guests.halt.Goals as goal

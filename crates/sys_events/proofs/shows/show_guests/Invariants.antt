@@ -1,6 +1,6 @@
 use Rattle.std.proofs.Common.{map, take}
 use Rattle.sys_events.specs.Saying.{puts_on, runs}
-use Rattle.sys_lines.specs.Shows.{Shows}
+use Rattle.sys_devices.specs.Shows.{Shows}
 use Rattle.sys_state.specs.State.{bytes_on}
 use Rattle.sys_server.specs.Replies.{guest_lines}
 use Rattle.sys_events.proofs.shows.show_guests.Given as goal

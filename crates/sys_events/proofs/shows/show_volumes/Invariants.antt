@@ -1,7 +1,7 @@
 use Rattle.std.proofs.Common.{map, take}
 use Rattle.std.specs.Prelude.{filter}
 use Rattle.sys_events.specs.Saying.{puts_on}
-use Rattle.sys_lines.specs.Shows.{Shows}
+use Rattle.sys_devices.specs.Shows.{Shows}
 use Rattle.sys_state.specs.State.{bytes_on}
 use Rattle.sys_server.specs.Replies.{volume_line}
 use Rattle.vv_class.specs.Class.{does_flow}

@@ -1,7 +1,7 @@
 use Rattle.std.proofs.Common.{◌∙◌, sym, map, arith, ap}
 use Rattle.std.proofs.lemmas.List.{length-map}
 use Rattle.sys_state.specs.Places.{beside_with}
-use Rattle.sys_lines.proofs.Lists.{from_first}
+use Rattle.sys_devices.proofs.Lists.{from_first}
 use Rattle.sys_guests.proofs.Powering.{map_at, misfit_here, misfit_later, misfit_none}
 use Rattle.sys_guests.specs.Loads.{is_misfit}
 use Rattle.sys_guests.proofs.loading.first_misfit.Goals as goal

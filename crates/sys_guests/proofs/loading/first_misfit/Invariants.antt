@@ -1,6 +1,6 @@
 use Rattle.std.proofs.Common.{◌≡◌, map}
 use Rattle.sys_state.specs.Places.{beside_with}
-use Rattle.sys_lines.proofs.Lists.{from_on}
+use Rattle.sys_devices.proofs.Lists.{from_on}
 use Rattle.sys_guests.specs.Loads.{first_misfit, is_misfit}
 use Rattle.sys_guests.proofs.loading.first_misfit.Given as goal
 

@@ -1,7 +1,7 @@
 use Rattle.std.proofs.Common.{◌≡◌, arith}
 use Rattle.sys_guests.proofs.Present.{one_pays}
 use Rattle.sys_guests.proofs.Turning.{advanced, of_one}
-use Rattle.vm_events.specs.Noted.{note_of}
+use Rattle.vm_exception.specs.Noted.{note_of}
 use Rattle.vm_state.specs.State.{Guest}
 use Rattle.sys_guests.proofs.turns.step_at.Goals as goal
 

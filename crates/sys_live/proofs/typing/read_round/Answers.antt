@@ -3,7 +3,7 @@ use Rattle.vv_io.specs.Keys.{Takes}
 use Rattle.sys_script.specs.Events.{IsEvent}
 use Rattle.sys_script.specs.Typed.{refusal_message, says_event}
 use Rattle.sys_system.specs.Calls.{AreOf}
-use Rattle.sys_lines.specs.Shows.{ShowsUnlessMarked}
+use Rattle.sys_devices.specs.Shows.{ShowsUnlessMarked}
 use Rattle.sys_live.specs.Typing.{TypesRound}
 use Rattle.sys_live.specs.declared.typing.Typing.TheVariants.{GoesOn, Over, Broken}
 use Rattle.sys_live.specs.declared.typing.TypedRound.{TypedRound}

@@ -1,5 +1,5 @@
 use Rattle.std.proofs.Common.{◌≡◌}
-use Rattle.sys_lines.proofs.Lists.{from_on}
+use Rattle.sys_devices.proofs.Lists.{from_on}
 use Rattle.sys_state.specs.Places.{is_at, place_of}
 use Rattle.sys_system.proofs.consoles.first_guest.Given as goal
 

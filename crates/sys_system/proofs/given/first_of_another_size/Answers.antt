@@ -1,7 +1,7 @@
 use Rattle.std.proofs.Common.{◌∙◌, sym, map, arith, ap}
 use Rattle.std.proofs.lemmas.List.{length-map}
 use Rattle.sys_state.specs.Places.{beside_with}
-use Rattle.sys_lines.proofs.Lists.{from_first}
+use Rattle.sys_devices.proofs.Lists.{from_first}
 use Rattle.sys_guests.proofs.Powering.{map_at}
 use Rattle.sys_system.proofs.Copying.{all_fit, none_other, other_here, other_later}
 use Rattle.sys_system.specs.Given.{is_another_size}

@@ -1,6 +1,6 @@
 use Rattle.std.proofs.Common.{◌≡◌, map}
 use Rattle.sys_state.specs.Places.{beside_with}
-use Rattle.sys_lines.proofs.Lists.{from_on}
+use Rattle.sys_devices.proofs.Lists.{from_on}
 use Rattle.sys_system.specs.Given.{first_of_another_size, is_another_size}
 use Rattle.sys_system.proofs.given.first_of_another_size.Given as goal
 

@@ -1,5 +1,5 @@
 use Rattle.std.proofs.Common.{◌<◌, length, arith}
-use Rattle.sys_drives.proofs.Reading.{written}
+use Rattle.sys_devices.proofs.Reading.{written}
 use Rattle.sys_store.specs.Blocks.{blocks_of}
 use Rattle.sys_system.proofs.Copying.{all_written, next_written}
 use Rattle.sys_system.proofs.given.write_blocks.Goals as goal

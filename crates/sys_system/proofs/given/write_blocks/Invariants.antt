@@ -1,4 +1,4 @@
-use Rattle.sys_drives.proofs.Reading.{IsReadTo}
+use Rattle.sys_devices.proofs.Reading.{IsReadTo}
 use Rattle.sys_system.proofs.Copying.{told}
 use Rattle.sys_system.proofs.given.write_blocks.Given as goal
 

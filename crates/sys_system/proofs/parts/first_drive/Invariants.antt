@@ -1,5 +1,5 @@
 use Rattle.std.proofs.Common.{◌≡◌}
-use Rattle.sys_lines.proofs.Lists.{from_on}
+use Rattle.sys_devices.proofs.Lists.{from_on}
 use Rattle.sys_state.specs.Places.{place_of}
 use Rattle.sys_system.proofs.parts.first_drive.Given as goal
 

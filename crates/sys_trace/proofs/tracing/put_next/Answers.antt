@@ -1,7 +1,7 @@
 use Rattle.std.proofs.Common.{◌++◌, false, sym, subst}
 use Rattle.std.specs.Prelude.{is_err}
-use Rattle.sys_lines.proofs.Puts.{joined, shows, still}
-use Rattle.sys_lines.specs.ShownSince.{ShownSince}
+use Rattle.sys_devices.proofs.Puts.{joined, shows, still}
+use Rattle.sys_devices.specs.ShownSince.{ShownSince}
 use Rattle.sys_trace.proofs.tracing.put_next.Goals as goal
 
 pub returns-then-is_cut : goal.returns-then-is_cut

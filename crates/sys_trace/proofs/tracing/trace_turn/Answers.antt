@@ -1,5 +1,5 @@
 use Rattle.std.proofs.Common.{◌≡◌, ◌∙◌, ◌+◌, ◌++◌, List, ℕ, sym, ap, subst, arith}
-use Rattle.sys_lines.specs.ShownSince.{ShownSince}
+use Rattle.sys_devices.specs.ShownSince.{ShownSince}
 use Rattle.sys_system.proofs.Playing.{plays_none}
 use Rattle.sys_trace.proofs.Turns.{first_later, later, nothing_traced, single_more, step_can, trace_more}
 use Rattle.sys_trace.specs.TraceLine.{trace_line}

@@ -1,7 +1,7 @@
 use Rattle.std.proofs.Common.{◌≡◌}
 use Rattle.std.specs.Prelude.{Some, slice_get}
 use Rattle.sys_guests.specs.Layout.{guests_in}
-use Rattle.sys_lines.specs.ShownSince.{ShownSince}
+use Rattle.sys_devices.specs.ShownSince.{ShownSince}
 use Rattle.sys_system.specs.Calls.{Plays}
 use Rattle.sys_system.specs.System.{IsSystem}
 use Rattle.sys_trace.specs.Trace.{trace_of}

@@ -1,5 +1,5 @@
 use Rattle.std.proofs.Common.{sym, arith}
-use Rattle.vasm_read.specs.Views.{source_line_view}
+use Rattle.vasm.specs.Views.{source_line_view}
 use Rattle.vasm.proofs.ReadLines.{none_read, line_read}
 use Rattle.vasm.proofs.labels.labels_in.Goals as goal
 

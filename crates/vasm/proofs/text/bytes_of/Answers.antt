@@ -1,6 +1,6 @@
 use Rattle.std.proofs.Common.{sym, arith}
 use Rattle.std.proofs.lemmas.Result.{err_from_is_err_and}
-use Rattle.vasm_read.specs.Views.{source_line_view}
+use Rattle.vasm.specs.Views.{source_line_view}
 use Rattle.vasm.specs.Labels.{label_address}
 use Rattle.vasm.proofs.Ranges.{line_fit}
 use Rattle.vasm.proofs.WrittenLines.{none_written, line_written, line_refused, no_bad_line, all_written}

@@ -1,6 +1,6 @@
 use Rattle.std.proofs.Common.{◌≡◌, ◌+◌, sum, take}
 use Rattle.vax_hw.specs.Real.{real}
-use Rattle.vax_at_once.specs.Completed.{with_registers}
+use Rattle.vax_cpu.specs.Completed.{with_registers}
 use Rattle.vax_cpu.proofs.cpu.run_parts.Given as goal
 
 abbrev pub invariant-loop-left : goal.invariant-loop-left

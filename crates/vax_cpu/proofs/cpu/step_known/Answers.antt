@@ -1,8 +1,8 @@
 use Rattle.std.proofs.Common.{refl}
 use Rattle.vax_hw.specs.Machine.{Machine}
 use Rattle.vax_table.specs.Effects.{effect}
-use Rattle.vax_at_once.specs.Completed.{with_registers}
-use Rattle.vax_at_once.proofs.One.{attempt_retires, runs_on}
+use Rattle.vax_cpu.specs.Completed.{with_registers}
+use Rattle.vax_cpu.proofs.One.{attempt_retires, runs_on}
 use Rattle.vax_cpu.proofs.cpu.step_known.Goals as goal
 
 pub returns : goal.returns

@@ -6,8 +6,8 @@ use Rattle.vax_table.specs.Effects.{Effect, effect}
 use Rattle.vax_table.specs.declared.effect.Plan.{Plan}
 use Rattle.vax_table.specs.declared.effect.Store.{Store}
 use Rattle.vax_normal.specs.Normal.{quietly}
-use Rattle.vax_at_once.specs.Completed.{completed_but_registers, with_registers}
-use Rattle.vax_at_once.proofs.One.{attempt_retires, runs_on}
+use Rattle.vax_cpu.specs.Completed.{completed_but_registers, with_registers}
+use Rattle.vax_cpu.proofs.One.{attempt_retires, runs_on}
 use Rattle.vax_cpu.proofs.cpu.step_of_status.Goals as goal
 
 -- a plan without stores and without a trap

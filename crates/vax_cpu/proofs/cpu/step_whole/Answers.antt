@@ -2,8 +2,8 @@ use Rattle.std.proofs.Common.{Err, ap, sym, ◌∙◌}
 use Rattle.vax_hw.specs.Machine.{Machine}
 use Rattle.vax_hw.specs.declared.world.Exit.{Exit}
 use Rattle.vax_table.specs.Effects.{effect}
-use Rattle.vax_at_once.specs.Completed.{with_registers}
-use Rattle.vax_at_once.proofs.One.{attempt_retires, attempt_stops, runs_on, runs_to_stop, runs_to_trap}
+use Rattle.vax_cpu.specs.Completed.{with_registers}
+use Rattle.vax_cpu.proofs.One.{attempt_retires, attempt_stops, runs_on, runs_to_stop, runs_to_trap}
 use Rattle.vax_cpu.proofs.cpu.step_whole.Goals as goal
 
 pub returns-in-Some : goal.returns-in-Some

@@ -6,7 +6,7 @@ use Rattle.vax_table.specs.Spelling.{view}
 use Rattle.vax_kept.specs.Changed.{AreAlikeBut}
 use Rattle.vax_paged.specs.Known.{known_space}
 use Rattle.vax_kept.proofs.Changes.{changes_one}
-use Rattle.vax_at_once.proofs.One.{known_settled}
+use Rattle.vax_cpu.proofs.One.{known_settled}
 use Rattle.vax_cpu.proofs.perform.attempt_known.Goals as goal
 
 pub returns-in-None-clause-changed : goal.returns-in-None-clause-changed

@@ -2,7 +2,7 @@ use Rattle.std.proofs.Common.{refl}
 use Rattle.vax_hw.specs.Machine.{seen_psl}
 use Rattle.vax_hw.specs.Real.{in_kernel}
 use Rattle.vax_table.specs.Spelling.{view}
-use Rattle.vax_at_once.proofs.One.{known_found}
+use Rattle.vax_cpu.proofs.One.{known_found}
 use Rattle.vax_cpu.proofs.perform.find_known.Goals as goal
 
 pub returns-in-Ok : goal.returns-in-Ok

@@ -4,7 +4,7 @@ use Rattle.vax_hw.specs.Real.{in_kernel}
 use Rattle.vax_table.specs.Operations.{operation_of}
 use Rattle.vax_table.specs.Spelling.{view}
 use Rattle.vax_table.specs.declared.meaning.Operation.TheVariants.{MoveStatus, Probe}
-use Rattle.vax_at_once.proofs.One.{status_found}
+use Rattle.vax_cpu.proofs.One.{status_found}
 use Rattle.vax_cpu.proofs.perform.find_of_status.Goals as goal
 
 pub returns-in-Ok : goal.returns-in-Ok

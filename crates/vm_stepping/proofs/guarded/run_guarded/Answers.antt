@@ -1,6 +1,6 @@
 use Rattle.std.proofs.Common.{◌∙◌, ℕ, List, ap, rules, subst, sym}
 use Rattle.vax_hw.specs.Machine.{Machine}
-use Rattle.vm_bursts.specs.Ran.{rise}
+use Rattle.vm_stepping.specs.Ran.{rise}
 use Rattle.vm_shadow.proofs.Covering.{slot_small}
 use Rattle.vm_simulation_laws.specs.Loaded.{RunsGuest, as_run}
 use Rattle.vm_stepping.specs.Guarded.{CanAllow, IsTried, RunsSome}

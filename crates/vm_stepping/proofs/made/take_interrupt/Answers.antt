@@ -1,4 +1,4 @@
-use Rattle.vm_events.specs.Sources.{source_of}
+use Rattle.vm_exception.specs.Sources.{source_of}
 use Rattle.vm_stepping.proofs.Making.{made_interrupt}
 use Rattle.vm_stepping.proofs.made.take_interrupt.Goals as goal
 

@@ -1,6 +1,6 @@
 use Rattle.std.proofs.Common.{subst, sym}
 use Rattle.vm_stepping.specs.Guarded.{ExitIsMet}
-use Rattle.vm_miss_laws.specs.Runs.{Reaches}
+use Rattle.vm_simulation_laws.specs.Runs.{Reaches}
 use Rattle.vm_shadow.specs.StandsFor.{StandsFor}
 use Rattle.vm_stepping.proofs.Meeting.{guarded_budget, guarded_other, guarded_trap, stays_by}
 use Rattle.vm_stepping.proofs.Noting.{guarded_notes}

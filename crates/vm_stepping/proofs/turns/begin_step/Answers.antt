@@ -1,6 +1,6 @@
 use Rattle.std.proofs.Common.{true, ap, sym, ◌∙◌}
 use Rattle.std.specs.Prelude.{option_map}
-use Rattle.vm_events.specs.Sources.{source_of}
+use Rattle.vm_exception.specs.Sources.{source_of}
 use Rattle.vm_stepping.proofs.Beginning.{begins_on, halted_on, interrupt_falls, interrupt_on, runs_by}
 use Rattle.vm_stepping.proofs.Idling.{idle_falls, idles_on, pays_idle}
 use Rattle.vm_stepping.proofs.NotingSteps.{notes_begun, notes_halted, notes_idle, notes_taken}

@@ -1,9 +1,9 @@
 use Rattle.std.proofs.Common.{List, refl, subst, take, false, true, is_err}
 use Rattle.std.specs.Prelude.{flat_map}
 use Rattle.sys_guests.specs.Layout.{guests_in}
-use Rattle.sys_lines.proofs.Puts.{begun, ends, hands_on, stops}
-use Rattle.sys_lines.specs.ShownSince.{ShownSince}
-use Rattle.sys_saving.specs.Parts.{head_bytes, unit_bytes}
+use Rattle.sys_devices.proofs.Puts.{begun, ends, hands_on, stops}
+use Rattle.sys_devices.specs.ShownSince.{ShownSince}
+use Rattle.sys_output.specs.Parts.{head_bytes, unit_bytes}
 use Rattle.sys_snap.specs.Written.{guest_bytes, seat_bytes, snap_bytes}
 use Rattle.sys_system.proofs.Snapshot.{from_guests, from_mounts, from_seats, guests_on, guests_shown, head_shown, mounts_on, mounts_shown, parts_of, seats_on, seats_shown, volumes_on}
 use Rattle.sys_system.specs.Held.{system_of}

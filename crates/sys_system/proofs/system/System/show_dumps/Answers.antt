@@ -1,7 +1,7 @@
 use Rattle.std.proofs.Common.{◌≢◌, List, ℕ, sym, subst}
 use Rattle.std.specs.List.{AllPairs}
 use Rattle.std.specs.Prelude.{filter_map}
-use Rattle.sys_dumps.proofs.AllDumps.{dumps_apart}
+use Rattle.sys_output.proofs.AllDumps.{dumps_apart}
 use Rattle.sys_objects.specs.declared.records.GuestRow.{GuestRow}
 use Rattle.sys_system.proofs.system.System.show_dumps.Goals as goal
 

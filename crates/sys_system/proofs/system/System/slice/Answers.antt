@@ -1,8 +1,8 @@
 use Rattle.std.proofs.Common.{◌≡◌, ◌<◌, ◌∙◌, ℕ, List, Option, refl, ap, sym, subst}
 use Rattle.std.specs.Prelude.{IfSome}
 use Rattle.sys_guests.specs.declared.turns.TimeSlice.{TimeSlice}
-use Rattle.sys_lines.proofs.Showings.{shows_same}
-use Rattle.sys_lines.specs.Shows.{only_on}
+use Rattle.sys_devices.proofs.Showings.{shows_same}
+use Rattle.sys_devices.specs.Shows.{only_on}
 use Rattle.sys_objects.specs.declared.records.Terminal.{Terminal}
 use Rattle.sys_state.specs.Consoles.{console_of}
 use Rattle.sys_state.specs.Slices.{Slice}

@@ -3,8 +3,8 @@ use Rattle.std.specs.List.{slice_get}
 use Rattle.std.specs.Prelude.{IfSome}
 use Rattle.sys_guests.specs.Layout.{guests_in}
 use Rattle.sys_guests.specs.declared.turns.TimeSlice.{TimeSlice}
-use Rattle.sys_lines.proofs.Showings.{shows_same}
-use Rattle.sys_lines.specs.Shows.{only_on}
+use Rattle.sys_devices.proofs.Showings.{shows_same}
+use Rattle.sys_devices.specs.Shows.{only_on}
 use Rattle.sys_objects.specs.declared.records.Terminal.{Terminal}
 use Rattle.sys_state.specs.Consoles.{console_of}
 use Rattle.sys_state.specs.Slices.{Slice}

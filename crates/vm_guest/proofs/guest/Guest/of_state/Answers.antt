@@ -1,6 +1,6 @@
 use Rattle.std.proofs.Common.{refl}
 use Rattle.vm_guest.proofs.guest.Guest.of_state.Goals as goal
-use Rattle.vm_miss_laws.proofs.Fitting.{new_has}
+use Rattle.vm_simulation_laws.proofs.Fitting.{new_has}
 
 pub returns-clause-ok : goal.returns-clause-ok
 returns-clause-ok g c = record {

@@ -1,5 +1,5 @@
 use Rattle.std.proofs.Common.{subst, sym}
-use Rattle.vm_miss_laws.specs.Present.{HasPresent}
+use Rattle.vm_simulation_laws.specs.Present.{HasPresent}
 use Rattle.vm_guest.specs.Kept.{IsShadowedIn, Kept, frames_from, guest_in}
 use Rattle.vm_guest.proofs.Becoming.{stored_present}
 use Rattle.vm_state.specs.Touches.{Present, touching_write}

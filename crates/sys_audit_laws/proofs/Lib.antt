@@ -1,3 +1,0 @@
-mod Puts
-mod Tracks
-pub mod Fit

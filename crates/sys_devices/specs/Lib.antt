@@ -1,0 +1,12 @@
+pub mod ShownSince
+pub mod Shows
+pub mod Loads
+pub mod Rows
+pub mod Shown
+pub mod Stores
+pub mod Echo
+pub mod Pieces
+pub mod Rounds
+pub mod Screens
+pub mod ShownEcho
+pub mod Syncing

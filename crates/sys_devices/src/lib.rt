@@ -1,0 +1,22 @@
+//! The devices of the outside: the 32 lines, what they are shown, and which of them have failed; the 16 drives, and how volumes are
+//! loaded from them and stored to them; the operator's screen, which shows what lines got; the sync of all devices.
+#![tactic(auto)]
+
+mod device;
+mod drives;
+mod lines;
+mod loading;
+mod piece;
+mod screen;
+mod sink;
+mod storing;
+mod syncing;
+
+pub use device::Device;
+pub use lines::{Marks, first_marked, show_each, show_whole};
+pub use loading::{LoadFault, first_of_another_size, load_volumes};
+pub use piece::pieces_law;
+pub use screen::{Screen, echo, screens_of};
+pub use sink::put_once;
+pub use storing::store_volumes;
+pub use syncing::{sync_drives, sync_lines};

@@ -1,6 +1,0 @@
-use Rattle.std.proofs.Common.{◌≡◌, drop, max}
-use Rattle.sys_draw.proofs.Folds.{greatest_by}
-use Rattle.sys_draw.proofs.layout.undermost.Given as goal
-
-abbrev pub invariant-loop-s : goal.invariant-loop-s
-invariant-loop-s l = max l.most (greatest_by (λ s. s.y) (drop l.s-index l.spots)) ≡ greatest_by (λ s. s.y) l.spots

@@ -1,5 +1,0 @@
-use Rattle.std.proofs.Common.{◌≡◌, map, take}
-use Rattle.sys_drives.proofs.loading.zero_volumes.Given as goal
-
-abbrev pub invariant-loop-row : goal.invariant-loop-row
-invariant-loop-row l = l.sizes.items ≡ map (λ row. row.blocks) (take l.row-index l.rows)

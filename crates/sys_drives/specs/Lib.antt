@@ -1,4 +1,0 @@
-pub mod Loads
-pub mod Rows
-pub mod Shown
-pub mod Stores

@@ -1,3 +1,0 @@
-pub mod AllDumps
-pub mod Lines
-pub mod Parts

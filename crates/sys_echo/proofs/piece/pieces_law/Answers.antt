@@ -1,5 +1,0 @@
-use Rattle.sys_echo.proofs.Whole.{all_pieces}
-use Rattle.sys_echo.proofs.piece.pieces_law.Goals as goal
-
-pub returns : goal.returns
-returns c = all_pieces

@@ -1,5 +1,0 @@
-use Rattle.sys_flow_laws.proofs.Depends.{unnamed_is_apart}
-use Rattle.sys_flow_laws.proofs.laws.what_reach_does_not_name_is_apart.Goals as goal
-
-pub returns : goal.returns
-returns c = unnamed_is_apart

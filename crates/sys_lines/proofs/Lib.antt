@@ -1,4 +1,0 @@
-pub mod Lists
-pub mod OneLine
-pub mod Puts
-pub mod Showings

@@ -1,2 +1,0 @@
-pub mod ShownSince
-pub mod Shows

@@ -1,0 +1,6 @@
+pub mod AllDumps
+pub mod Lines
+pub mod Parts
+pub mod Flat
+pub mod Reading
+pub mod Seating

@@ -1,3 +1,0 @@
-pub mod Flat
-pub mod Reading
-pub mod Seating

@@ -1,0 +1,24 @@
+//! Worked examples of the processor's parts: fields of its longwords, decoding, arithmetic, operands, whole instructions over a memory
+//! of bytes, and the forms by which they are done; and of runs of the simulated machine over page tables that were made by hand.
+#![tactic(auto)]
+
+#[cfg(test)]
+mod arithmetic;
+#[cfg(test)]
+mod decoding;
+#[cfg(test)]
+mod entries;
+#[cfg(test)]
+mod forms;
+#[cfg(test)]
+mod instructions;
+#[cfg(test)]
+mod known;
+#[cfg(test)]
+mod operands;
+#[cfg(test)]
+mod protection;
+#[cfg(test)]
+mod status;
+#[cfg(test)]
+mod trail;

@@ -1,5 +1,0 @@
-pub mod Cuts
-pub mod Hex
-pub mod Later
-pub mod Blanks
-pub mod Lines

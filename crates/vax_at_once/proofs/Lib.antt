@@ -1,5 +1,0 @@
-pub mod One
-pub mod Quiet
-mod Claiming
-mod IndexedSteps
-mod StatusSteps

@@ -1,7 +1,0 @@
-use Rattle.vax_at_once.proofs.here.stands.Goals as goal
-
-pub has_at-requires-clause-there : goal.has_at-requires-clause-there
-has_at-requires-clause-there c = rw (c.memory.ensures.value, c.world.ensures) c.in-Some.ensures.is
-
-pub returns-in-Some-clause-fetched : goal.returns-in-Some-clause-fetched
-returns-in-Some-clause-fetched c = λ e. rw (c.memory.ensures.value, c.world.ensures) at (c.has_at.ensures.fetched e)

@@ -1,5 +1,0 @@
-pub mod Agreeing
-pub mod Walked
-pub mod Reading
-pub mod Again
-pub mod Storing

@@ -1,4 +1,0 @@
-pub mod StatusMoves
-mod BitTests
-mod Indexing
-mod Subroutines

@@ -1,3 +1,0 @@
-pub mod Sources
-pub mod Made
-pub mod Noted

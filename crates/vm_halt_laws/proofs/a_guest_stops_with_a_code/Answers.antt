@@ -1,5 +1,0 @@
-use Rattle.vm_halt_laws.proofs.Halts.{stops_with_codes}
-use Rattle.vm_halt_laws.proofs.a_guest_stops_with_a_code.Goals as goal
-
-pub returns : goal.returns
-returns c = stops_with_codes

@@ -1,5 +1,0 @@
-use Rattle.vm_miss_laws.proofs.Fitting.{filled_counted}
-use Rattle.vm_miss_laws.proofs.laws.a_filled_page_is_one_less.Goals as goal
-
-pub returns : goal.returns
-returns c = filled_counted

@@ -1,5 +1,0 @@
-use Rattle.vm_miss_laws.proofs.Fitting.{misses_counted}
-use Rattle.vm_miss_laws.proofs.laws.a_miss_is_counted.Goals as goal
-
-pub returns : goal.returns
-returns c = misses_counted

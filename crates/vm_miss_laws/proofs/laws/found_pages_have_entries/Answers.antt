@@ -1,5 +1,0 @@
-use Rattle.vm_miss_laws.proofs.Fitting.{found_have}
-use Rattle.vm_miss_laws.proofs.laws.found_pages_have_entries.Goals as goal
-
-pub returns : goal.returns
-returns c = found_have

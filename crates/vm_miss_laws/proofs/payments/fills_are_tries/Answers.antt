@@ -1,5 +1,0 @@
-use Rattle.vm_miss_laws.proofs.Paying.{fills_tries}
-use Rattle.vm_miss_laws.proofs.payments.fills_are_tries.Goals as goal
-
-pub returns : goal.returns
-returns c = fills_tries

@@ -1,5 +1,0 @@
-use Rattle.vm_miss_laws.proofs.Paying.{nothing_paid}
-use Rattle.vm_miss_laws.proofs.payments.nothing_is_paid.Goals as goal
-
-pub returns : goal.returns
-returns c = nothing_paid

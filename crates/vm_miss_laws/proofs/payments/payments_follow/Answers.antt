@@ -1,5 +1,0 @@
-use Rattle.vm_miss_laws.proofs.Paying.{payments_follow}
-use Rattle.vm_miss_laws.proofs.payments.payments_follow.Goals as goal
-
-pub returns : goal.returns
-returns c = payments_follow

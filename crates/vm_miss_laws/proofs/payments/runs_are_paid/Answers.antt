@@ -1,5 +1,0 @@
-use Rattle.vm_miss_laws.proofs.Running.{runs_paid}
-use Rattle.vm_miss_laws.proofs.payments.runs_are_paid.Goals as goal
-
-pub returns : goal.returns
-returns c = runs_paid

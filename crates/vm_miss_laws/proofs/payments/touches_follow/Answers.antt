@@ -1,5 +1,0 @@
-use Rattle.vm_miss_laws.proofs.Paying.{touches_follow}
-use Rattle.vm_miss_laws.proofs.payments.touches_follow.Goals as goal
-
-pub returns : goal.returns
-returns c = touches_follow

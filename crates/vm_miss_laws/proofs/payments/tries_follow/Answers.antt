@@ -1,5 +1,0 @@
-use Rattle.vm_miss_laws.proofs.Paying.{tries_follow}
-use Rattle.vm_miss_laws.proofs.payments.tries_follow.Goals as goal
-
-pub returns : goal.returns
-returns c = tries_follow

@@ -1,0 +1,57 @@
+ghost use Rattle.vm_simulation_laws.specs.Paid.{FillsAreTries, NothingIsOwed, NothingIsPaid, NothingIsTried, PaymentsFollow, StepsArePaid, StepsSettle, TouchesFollow, TriesAreOwed, TriesFollow};
+ghost use Rattle.vm_simulation_laws.specs.Runs.{RunsArePaid};
+
+/// Tries of an instruction that follow one another are tries of it.
+pub fn tries_follow()
+    ensures { TriesFollow }
+{}
+
+/// What is paid for misses, and then for others, is paid for both.
+pub fn payments_follow()
+    ensures { PaymentsFollow }
+{}
+
+/// Where nothing is missed and no entry is emptied, nothing counts in a try.
+pub fn nothing_is_tried()
+    ensures { NothingIsTried }
+{}
+
+/// Nor is anything to be paid for.
+pub fn nothing_is_paid()
+    ensures { NothingIsPaid }
+{}
+
+/// A touched page that was missed and is filled is a try.
+pub fn fills_are_tries()
+    ensures { FillsAreTries }
+{}
+
+/// A step pays for the misses of its tries.
+pub fn steps_are_paid()
+    ensures { StepsArePaid }
+{}
+
+/// First touches of steps that follow one another.
+pub fn touches_follow()
+    ensures { TouchesFollow }
+{}
+
+/// A run of the machine misses nothing in the steps that it makes, and a touched page where it stops for one.
+pub fn runs_are_paid()
+    ensures { RunsArePaid }
+{}
+
+/// Nothing is owed as a step begins.
+pub fn nothing_is_owed()
+    ensures { NothingIsOwed }
+{}
+
+/// The misses of a try are owed.
+pub fn tries_are_owed()
+    ensures { TriesAreOwed }
+{}
+
+/// What is owed is counted by the step that is made then.
+pub fn steps_settle()
+    ensures { StepsSettle }
+{}

@@ -1,7 +1,0 @@
-use Rattle.vv_edge.proofs.Synced.{AreSynced}
-use Rattle.vv_edge.specs.Syncing.{IsStillLine}
-use Rattle.vv_io.specs.Lines.{unseen}
-use Rattle.vv_edge.proofs.syncing.sync_lines.Given as goal
-
-abbrev pub invariant-loop-k : goal.invariant-loop-k
-invariant-loop-k g l = AreSynced unseen (λ v. v.faults) IsStillLine l.k (g.L.Lines.lines l.fn.lines) (g.L.Lines.lines l.lines) l.failed

@@ -1,0 +1,72 @@
+ghost use Rattle.std.specs.Prelude.{◌≡◌, map, string_bytes};
+ghost use Rattle.std.specs.Option.{option_map};
+ghost use Rattle.vv_edge.specs.Asked.{files_named, text_asked, words_status};
+
+use std::io::ErrorKind;
+use vvmm_files::Status;
+
+/// What `--help` shows.
+pub const HELP: &str =
+    "vvmm solo IMAGE STEPS          runs the file IMAGE as one guest for STEPS steps, 1 to 100000;
+                               the guest's console is the file line00.out, its dump line01.out
+vvmm trace IMAGE STEPS         runs as solo does, and shows a line for each step
+vvmm run CONFIG SCRIPT ROUNDS  runs the guests of the configuration CONFIG for ROUNDS rounds, 1 to
+                               1000000, with what the file SCRIPT types at terminals; line k is the
+                               file linekk.out, drive k the file drivekk.vol
+vvmm save CONFIG SCRIPT ROUNDS makes the rounds of run, and shows what the system is after them, as a
+                               snapshot; drives stay as they are
+vvmm resume SNAP SCRIPT ROUNDS goes on from the snapshot SNAP for ROUNDS rounds more, and ends as run does
+vvmm live CONFIG ROUNDS        runs as run does, for at most ROUNDS rounds, with what is typed on standard
+                               input while it runs: a line of a script without its round; an empty
+                               line ends a round, and the end of the input the run
+vvmm load NUMBER               runs the workload that is drawn from NUMBER, 0 to 4294967295: eight guests
+                               in 20 rounds, on volumes of its own
+vvmm check CONFIG              reads a configuration, and shows how many objects it has
+vvmm migrate CONFIG            shows a configuration in version 2
+vvmm audit CONFIG RECORD       checks what an audit line was shown, the file RECORD, against CONFIG
+vvmm flow CONFIG               shows which object's inputs may reach which object
+vvmm draw CONFIG               shows a picture of a configuration, in SVG
+vvmm asm SOURCE                assembles the file SOURCE, and shows the image's bytes
+vvmm dis IMAGE                 disassembles the file IMAGE, and shows the text
+vvmm --help                    prints this
+vvmm --version                 prints the version
+";
+
+/// What `--version` shows.
+pub const VERSION: &str = "vvmm 0.4.0\n";
+
+/// The text that the words ask for by themselves.
+pub fn text_asked(words: &[String]) -> Option<&'static str>
+    ensures { option_map (λ t. t.now) result ≡ text_asked (map (λ w. string_bytes w) words.now) }
+{
+    let [word] = words else {
+        return None;
+    };
+    if word.as_bytes() == b"--help".as_slice() {
+        Some(HELP)
+    } else if word.as_bytes() == b"--version".as_slice() {
+        Some(VERSION)
+    } else {
+        None
+    }
+}
+
+/// The words that name files, where the command has lines: all but its name and the number at its end.
+pub fn files_named(words: &[String]) -> &[String]
+    ensures { result.now ≡ files_named words.now }
+{
+    match words {
+        [_, names @ .., _] => names,
+        _ => &[],
+    }
+}
+
+/// The answer where the words can't be read: memory ran out, or one isn't UTF-8.
+pub fn words_status(kind: ErrorKind) -> Status
+    ensures { result ≡ words_status kind }
+{
+    match kind {
+        ErrorKind::OutOfMemory => Status::NoMemory,
+        _ => Status::Words,
+    }
+}

@@ -1,0 +1,104 @@
+ghost use Rattle.std.specs.Prelude.{◌≡◌, IfSome, Some};
+ghost use Rattle.sys_config.specs.Config.{config_of};
+ghost use Rattle.vv_edge.specs.Learning.{audit_line_of, line_of_text, shown_front, refused_line, seen_as, told_word, wanted_in};
+
+use crate::telling::Note;
+use std::alloc::Global;
+use sys_config::read_config;
+use vasm::first_line;
+use vv_base::Text;
+use vvmm_files::Status;
+
+/// The place among the words of the file that tells more about an answer, if one does.
+pub fn told_word(status: &Status) -> Option<usize>
+    ensures { result ≡ told_word status.now }
+{
+    match status {
+        Status::Script(_) | Status::Audit(_) => Some(2),
+        Status::Asm(_) | Status::VolumeSize(_) | Status::Device(_) => Some(1),
+        _ => None,
+    }
+}
+
+/// The audit's line in a configuration, where a device failed.
+pub fn audit_line(alloc: Global, config: &[u8], status: &Status) -> Option<u8>
+    ensures { IfSome result (λ line. audit_line_of (config_of config.now) ≡ Some line) }
+{
+    if !matches!(status, Status::Device(_)) {
+        return None;
+    }
+    match read_config(alloc, config) {
+        Ok(config) => match config.audit {
+            Some(audit) => Some(audit.line),
+            None => None,
+        },
+        Err(_) => None,
+    }
+}
+
+/// What the drive of a configuration's volume must have, where it hasn't.
+pub fn wanted_drive(alloc: Global, config: &[u8], status: &Status) -> Option<Note>
+    ensures { IfSome result (λ note. wanted_in (config_of config.now) status.now ≡ Some note) }
+{
+    let Status::VolumeSize(volume) = status else {
+        return None;
+    };
+    match read_config(alloc, config) {
+        Ok(config) => match config.volumes.as_slice().get(usize::from(*volume)) {
+            Some(row) => Some(Note::Wanted(row.drive, row.blocks)),
+            None => None,
+        },
+        Err(_) => None,
+    }
+}
+
+/// The line of a text that an answer refuses, as far as there is room.
+pub fn refused_line(text: &[u8], status: &Status) -> Text<80>
+    ensures { result ≡ refused_line text.now status.now }
+{
+    match status {
+        Status::Script(fault) => shown_front(line_of_text(text, fault.line)),
+        Status::Asm(fault) => shown_front(line_of_text(text, fault.line)),
+        Status::Audit(fault) => shown_front(line_of_text(text, fault.line)),
+        _ => Text::new(),
+    }
+}
+
+/// A line of a text, counted from 1, without its end; no bytes where there is none.
+fn line_of_text(text: &[u8], line: u32) -> &[u8]
+    ensures { result.now ≡ line_of_text text.now line }
+{
+    let mut rest = text;
+    for number in 1..line {
+        if rest.is_empty() {
+            return &[];
+        }
+        rest = first_line(rest).later;
+    }
+    if rest.is_empty() {
+        return &[];
+    }
+    first_line(rest).before
+}
+
+/// Bytes as far as there is room, with a point for each that doesn't print.
+fn shown_front(line: &[u8]) -> Text<80>
+    ensures { result ≡ shown_front line.now }
+{
+    let mut text = Text::new();
+    for byte in &line[..line.len().min(80)] {
+        text.append_byte(seen_as(*byte));
+    }
+    text
+}
+
+/// What a byte is shown as: itself where it prints, else a point.
+fn seen_as(byte: u8) -> u8
+    ensures { result ≡ seen_as byte }
+{
+    if (32..127).contains(&byte) {
+        byte
+    } else {
+        b'.'
+    }
+}
