@@ -104,7 +104,7 @@ status_when_done (Some device) cut = DeviceFault device
 status_when_done None true = OutFault
 status_when_done None false = Done
 
--- bytes are put on `out` once, and all was done before
+-- `out` is shown bytes, whole or cut, and the answer tells a device that failed before, or the cut
 pub record EndsWithPut (failed : Option Device) (bytes : List ℕ) (status : Status) (out out' : Seen) : Type 0 where
   pub cut : Bool
   pub is : status ≡ status_when_done failed cut
