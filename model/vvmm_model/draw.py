@@ -55,7 +55,7 @@ def place_boxes(boxes: list, quarter: int) -> None:
             1 for other, key in zip(boxes, order) if other.height == box.height and key < order[number]
         )
         box.x = 10 + (4 * column + 3 * (3 - box.height % 4)) * quarter
-        box.y = 10 + 128 * rows.index(box.height)
+        box.y = 10 + 96 * rows.index(box.height)
 
 
 def arrow(a: Box, b: Box, half: int) -> str:

@@ -1,4 +1,4 @@
-ghost use Rattle.std.specs.Prelude.{◌≡◌, ◌<◌, ◌≤◌, ◌∷◌, [], All, IfSome, length, slice_get};
+ghost use Rattle.std.specs.Prelude.{◌<◌, ◌≤◌, ◌∷◌, [], All, IfSome, length, slice_get};
 ghost use Rattle.sys_events.specs.Saying.{answers, audits};
 ghost use Rattle.sys_devices.specs.Shows.{Shows};
 ghost use Rattle.sys_objects.specs.Condition.{IsAudit, IsTerminal};

@@ -1,4 +1,4 @@
-ghost use Rattle.std.specs.Prelude.{◌≡◌, ◌<◌, ◌≤◌, ℕ, List, length};
+ghost use Rattle.std.specs.Prelude.{◌<◌, ◌≤◌, ℕ, List, length};
 ghost use Rattle.sys_events.specs.Happens.{Does, DoesAnywhere, Happen, Happens, break_at, line_starts_at, typed_line_at};
 ghost use Rattle.sys_guests.specs.Kernel.{IsKernel, kernel_state};
 ghost use Rattle.sys_guests.specs.Layout.{guests_in};

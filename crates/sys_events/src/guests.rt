@@ -1,4 +1,4 @@
-ghost use Rattle.std.specs.Prelude.{◌≡◌, ◌<◌, vec_len, length};
+ghost use Rattle.std.specs.Prelude.{◌<◌, vec_len, length};
 ghost use Rattle.sys_events.specs.Happens.{Does, DoesAnywhere, DoesUnseen, guest_halted, guest_typed, guests_obeyed};
 ghost use Rattle.sys_events.specs.Seats.{Names};
 ghost use Rattle.sys_guests.specs.Kernel.{IsKernel};

@@ -1,4 +1,4 @@
-ghost use Rattle.std.specs.Prelude.{◌≡◌, ◌≤◌, codes, length};
+ghost use Rattle.std.specs.Prelude.{◌≡◌, ◌≤◌, length};
 ghost use Rattle.sys_events.specs.Saying.{guest_text};
 ghost use Rattle.sys_server.specs.Replies.{with_line_end, object_text, printer_line, running_text, volume_line};
 

@@ -33,7 +33,7 @@ quarter n = 2 * n + 8
 
 -- the left upper corner of a box; the rows of one rank are shifted, so that fewer arrows pass under boxes
 abbrev pub spot : ℕ → List Seat → Seat → Spot
-spot n seats s = record { x = 10 + (4 * column seats s + 3 * (3 - s.height % 4)) * quarter n; y = 10 + 128 * row seats s }
+spot n seats s = record { x = 10 + (4 * column seats s + 3 * (3 - s.height % 4)) * quarter n; y = 10 + 96 * row seats s }
 
 abbrev pub spots_of : Config → List Spot
 spots_of c = map (spot (letters c) (seats_of c)) (seats_of c)

@@ -67,7 +67,7 @@ abbrev at : ℕ → ℕ → Spot
 at x y = record { x = x; y = y }
 
 -- from above: SEC, T1, A, PUB, which are shifted by 9, 3, 6 and 9 quarters of 24
-spots : map (spot 8 (seats_of small)) (seats_of small) ≡ at 82 138 ∷ at 226 10 ∷ at 226 394 ∷ at 154 266 ∷ []
+spots : map (spot 8 (seats_of small)) (seats_of small) ≡ at 82 106 ∷ at 226 10 ∷ at 226 298 ∷ at 154 202 ∷ []
 unfolding ones
 spots = refl
 

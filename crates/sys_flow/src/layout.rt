@@ -67,7 +67,7 @@ fn spot_of(letters: u32, seats: &[Seat], s: &Seat) -> Spot
     let quarters = 4 * column(seats, s) as u32 + shift;
     Spot {
         x: 10 + quarters * (2 * letters + 8),
-        y: 10 + 128 * row(seats, s) as u32,
+        y: 10 + 96 * row(seats, s) as u32,
     }
 }
 

@@ -34,7 +34,7 @@ StartsOne place m ks m' ks' = (rows : List GuestRow) (row : GuestRow) → AreInM
 abbrev pub StopShows : (place : ℕ) (ks : List Kept) (shown : List ℕ) → Type 0
 StopShows place ks shown = (memory : List ℕ) → shown ≡ message_of (slice_get (guests_in memory ks) place)
 
--- the machine retired the plain steps of these, and nothing else of it changed but its memory, its world and its misses
+-- the machine retired the plain steps of these, and their terms were added to its trail, both modulo 2^64
 pub record Retires (m m' : Machine) (t : Tally) : Type 0 where
   pub retired : m'.retired % 2 ^ 64 ≡ (m.retired + t.plain) % 2 ^ 64
   pub trail : m'.trail % 2 ^ 64 ≡ (m.trail + t.trail) % 2 ^ 64

@@ -13,7 +13,7 @@ use Rattle.sys_script.proofs.TypedLines.{says_in_each}
 use Rattle.sys_script.specs.Typed.{events_typed, if_said, refusal_message, refusal_messages, rounds_ended, rounds_typed, says_event, typed_in}
 use Rattle.sys_script.specs.declared.event.Event.{Event}
 use Rattle.sys_script.specs.declared.event.ScriptKind.{ScriptKind}
-use Rattle.sys_live.specs.Typing.{BreaksOff, EndsWithEmptyLine, TookWell}
+use Rattle.sys_live.specs.Typing.{BreaksOff, EndsWithEmptyLine, LosesLine, TookWell}
 
 abbrev pub Texts : Type 0
 Texts = List (List ℕ)
@@ -123,8 +123,10 @@ took_well xs ys a b c first second = record { took = took_then xs ys a.coming b.
 
 pub broke_off : (xs ys : Texts) (a b c : Keys) → TookWell xs a b → BreaksOff (length xs + length ys) ys b c → BreaksOff (length (xs ++ ys)) (xs ++ ys) a c
 broke_off xs ys a b c first (inl (took, rose)) = inl (took_then xs ys a.coming b.coming c.coming first.took took, subst (λ n. Rose n c.faults) first.faults rose)
-broke_off xs ys a b c first (inr (inl (took, most))) = inr (inl (took_well xs ys a b c first took, length-append xs ys ∙ most))
-broke_off xs ys a b c first (inr (inr (lost, says, took))) = inr (inr (lost, says, subst (λ zs. TookWell zs a c) (sym (append_assoc xs ys (lost ∷ []))) (took_well xs (ys ++ lost ∷ []) a b c first took)))
+broke_off xs ys a b c first (inr (took, most)) = inr (took_well xs ys a b c first took, length-append xs ys ∙ most)
+
+pub lost_line : (xs ys : Texts) (a b c : Keys) → TookWell xs a b → LosesLine ys b c → LosesLine (xs ++ ys) a c
+lost_line xs ys a b c first (lost, says, took) = (lost, says, subst (λ zs. TookWell zs a c) (sym (append_assoc xs ys (lost ∷ []))) (took_well xs (ys ++ lost ∷ []) a b c first took))
 
 -- more is told
 pub told_then : (a b : Bool) (l m n : Seen) (x y : List ℕ) → ShownSince a l m x → ShowsUnlessMarked a b m n y → ShownSince b l n (x ++ y)

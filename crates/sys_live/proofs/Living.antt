@@ -110,7 +110,7 @@ module _ (c : Config) (accepted : IsConfig c) (marks marks' : List Bool) (lines 
 pub run_lived : (c : Config) (images : List (List ℕ)) (most : ℕ) (went : Went) (ran : Ran) (rounds : ℕ) (p : Operator) (out out' : Seen) (m0 m1 m2 : Machine) (s0 s1 s2 : System) (lines lines1 lines2 : List Seen) (drives drives1 drives2 : List SeenDrive) → IsConfig c → (power : HasPower c images drives drives1 m1 s0) → MemoryAlone m0 m1
     → (t : MakesTyped most went p out out' m1 s0 lines m2 s1 lines1) → PowersDown m2 s1 lines1 drives1 s2 lines2 drives2 → HavePresent s0.guests (map none_touched (guests_in m1.memory s0.guests)) → IsSystem s1 → ran.counts ≡ s2.counts → ran.failed ≡ first_failed s2.marks s2.drives
     → length lines2 ≡ length lines → length drives2 ≡ length drives → rounds ≡ s1.rounds → most ≤ 1000000 → MeansTyped
-    → Lives (record { config = c; images = images; volumes = power.volumes; events = events_typed 1 t.typed; rounds = rounds_typed false t.typed }) most (record { ran = ran; rounds = rounds; is_cut = went.is_cut; is_broken = went.is_broken })
+    → Lives (record { config = c; images = images; volumes = power.volumes; events = events_typed 1 t.typed; rounds = rounds_typed false t.typed }) most (record { ran = ran; rounds = rounds; is_cut = went.is_cut; typing = went.typing })
     (record { machine = m0; machine' = m2; lines = lines; lines' = lines2; drives = drives; drives' = drives2 }) p out out'
 run_lived c images most went ran rounds p out out' m0 m1 m2 s0 s1 s2 lines lines1 lines2 drives drives1 drives2 accepted power alone t down present holds counts failed lines_size drives_size made few law =
     let es : List Event = events_typed 1 t.typed in

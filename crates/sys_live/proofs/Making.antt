@@ -23,7 +23,7 @@ use Rattle.sys_system.specs.Calls.{AreOf}
 use Rattle.sys_system.specs.System.{IsInMachine, IsSystem, System, moment_of}
 use Rattle.sys_live.proofs.Echoing.{AreCurrent, current_after, current_first, echo_earlier, news_are, same_there, screens_there, screens_told, screens_within, seen_earlier}
 use Rattle.sys_live.proofs.Joining.{AreAlike, AreUpTo, alike_before, then_made, up_to_later}
-use Rattle.sys_live.proofs.Lines.{AreWhole, Texts, broke_off, ended_append, events_append, events_ended, none_ended, none_typed, rounds_append, some_typed, told_append, told_ended, told_then, took_well}
+use Rattle.sys_live.proofs.Lines.{AreWhole, Texts, broke_off, lost_line, ended_append, events_append, events_ended, none_ended, none_typed, rounds_append, some_typed, told_append, told_ended, told_then, took_well}
 use Rattle.sys_live.specs.Lives.{AreSeen}
 use Rattle.sys_live.specs.Made.{GoesOnShowing, MakesTyped, ShowsNews}
 use Rattle.sys_live.specs.Operator.{Operator}
@@ -32,7 +32,7 @@ use Rattle.sys_live.specs.declared.session.Went.{Went}
 use Rattle.sys_live.specs.declared.typing.Count.{Count}
 use Rattle.sys_live.specs.declared.typing.TypedRound.{TypedRound}
 use Rattle.sys_live.specs.declared.typing.Typing.{Typing}
-use Rattle.sys_live.specs.declared.typing.Typing.TheVariants.{GoesOn, Over, Broken}
+use Rattle.sys_live.specs.declared.typing.Typing.TheVariants.{GoesOn, Over, Broken, Lost}
 
 -- the news were put where nothing was cut before
 pub news_shown : {T E : Type 0} (cut cut' : Bool) (lines lines' : List Seen) (screens screens' : List Screen) (out out' : Seen) (r : Result T E) → cut ≡ false → cut' ≡ is_err r → lines' ≡ lines
@@ -200,20 +200,16 @@ module _ (n : ℕ) (typed : Texts) (before after : Count) (round : TypedRound) (
   ended_all = omega (arith, ended_append typed next.lines, none_ended next.lines next.none_is_empty, first.ended)
 
   -- or it was the last
-  ends_by : (most : ℕ) → n < most → (t : Typing) (broken : Bool) → (t ≡ GoesOn → ⊥) → (broken ≡ true → t ≡ Broken) → (broken ≡ false → t ≡ Broken → ⊥) → EndsTypedRound t (before.lines + length next.lines) next.lines keys1 keys2 → EndsTypedRun broken most (typed ++ next.lines) keys keys2
-  ends_by most low GoesOn broken over is isnt taken = absurd (over refl)
-  ends_by most low Over true over is isnt taken = absurd (over_is_broken (is refl))
-    where
-      over_is_broken : Over ≡ Broken → ⊥
-      over_is_broken e = absurd cc
-  ends_by most low Over false over is isnt (taken, out) = (took_well typed next.lines keys keys1 keys2 first.took taken, inr (out, subst (λ k. k < most) (sym ended_all) low))
-  ends_by most low Broken true over is isnt taken =
+  ends_by : (most : ℕ) → n < most → (t : Typing) → (t ≡ GoesOn → ⊥) → EndsTypedRound t (before.lines + length next.lines) next.lines keys1 keys2 → EndsTypedRun t most (typed ++ next.lines) keys keys2
+  ends_by most low GoesOn over taken = absurd (over refl)
+  ends_by most low Over over (taken, out) = (took_well typed next.lines keys keys1 keys2 first.took taken, out, subst (λ k. k < most) (sym ended_all) low)
+  ends_by most low Lost over taken = (lost_line typed next.lines keys keys1 keys2 first.took taken, subst (λ k. k < most) (sym ended_all) low)
+  ends_by most low Broken over taken =
       let count : before.lines + length next.lines ≡ length typed + length next.lines = ap (λ k. k + length next.lines) first.lines in
       (broke_off typed next.lines keys keys1 keys2 first.took (subst (λ k. EndsTypedRound Broken k next.lines keys1 keys2) count taken), subst (λ k. k < most) (sym ended_all) low)
-  ends_by most low Broken false over is isnt taken = absurd (isnt refl refl)
 
-  pub ends_last : (most : ℕ) → n < most → (broken : Bool) → (round.typing ≡ GoesOn → ⊥) → (broken ≡ true → round.typing ≡ Broken) → (broken ≡ false → round.typing ≡ Broken → ⊥) → EndsTypedRun broken most (typed ++ next.lines) keys keys2
-  ends_last most low broken over is isnt = ends_by most low round.typing broken over is isnt next.taken
+  pub ends_last : (most : ℕ) → n < most → (round.typing ≡ GoesOn → ⊥) → EndsTypedRun round.typing most (typed ++ next.lines) keys keys2
+  ends_last most low over = ends_by most low round.typing over next.taken
 
   -- no round is begun where no event was said
   pub rounds_same : round.events.items ≡ [] → rounds_typed false (typed ++ next.lines) ≡ n
@@ -227,8 +223,8 @@ module _ (n : ℕ) (typed : Texts) (before after : Count) (round : TypedRound) (
       omega (arith, rounds_append typed next.lines first.whole, one, first.ended)
 
 -- all rounds were ended
-pub ends_all : (most : ℕ) (typed : Texts) (count : Count) (p : Operator) → 1 ≤ most → IsTyped most typed count p → EndsTypedRun false most typed p.keys p.keys'
-ends_all most typed count p some t = (t.took, inl (ends t.whole, t.ended))
+pub ends_all : (most : ℕ) (typed : Texts) (count : Count) (p : Operator) → 1 ≤ most → IsTyped most typed count p → EndsTypedRun GoesOn most typed p.keys p.keys'
+ends_all most typed count p some t = (t.took, ends t.whole, t.ended)
   where
     ends : AreWhole typed → EndsWithEmptyLine typed
     ends (inl is) = is
@@ -240,7 +236,7 @@ rounds_all n typed count p t =
 
 -- what was typed was made
 pub made_typed : (most n : ℕ) (went : Went) (typed : Texts) (p : Operator) (es : List Event) (m m1 : Machine) (s s1 : System) (lines lines1 : List Seen) (screens : List Screen) (out out1 : Seen) (cut : Bool) → IsSofar n es went.is_cut m m1 s s1 lines lines1 screens out out1
-    → EndsTypedRun went.is_broken most typed p.keys p.keys' → rounds_typed false typed ≡ n → n ≤ most → events_typed 1 typed ≡ es → ShownSince cut p.errors p.errors' (refusal_messages 1 typed) → MakesTyped most went p out out1 m s lines m1 s1 lines1
+    → EndsTypedRun went.typing most typed p.keys p.keys' → rounds_typed false typed ≡ n → n ≤ most → events_typed 1 typed ≡ es → ShownSince cut p.errors p.errors' (refusal_messages 1 typed) → MakesTyped most went p out out1 m s lines m1 s1 lines1
 made_typed most n went typed p es m m1 s s1 lines lines1 screens out out1 cut sofar ends rounds few events told = record {
   typed = typed;
   ends = ends;
@@ -255,11 +251,11 @@ made_typed most n went typed p es m m1 s s1 lines lines1 screens out out1 cut so
 
 pub made_last : (most n : ℕ) (went : Went) (typed : Texts) (before after : Count) (round : TypedRound) (keys keys1 keys2 : Keys) (errors errors1 errors2 : Seen) (t : IsTyped n typed before (operator keys keys1 errors errors1)) (r : TypesRound (n + 1) before after round (operator keys1 keys2 errors1 errors2))
     (k : ℕ) (m m1 : Machine) (s s1 : System) (lines lines1 : List Seen) (screens : List Screen) (out out1 : Seen) → IsSofar k (events_typed 1 typed ++ round.events.items) went.is_cut m m1 s s1 lines lines1 screens out out1
-    → n < most → k ≤ most → rounds_typed false (typed ++ r.lines) ≡ k → (round.typing ≡ GoesOn → ⊥) → (went.is_broken ≡ true → round.typing ≡ Broken) → (went.is_broken ≡ false → round.typing ≡ Broken → ⊥)
+    → n < most → k ≤ most → rounds_typed false (typed ++ r.lines) ≡ k → (round.typing ≡ GoesOn → ⊥) → went.typing ≡ round.typing
     → MakesTyped most went (operator keys keys2 errors errors2) out out1 m s lines m1 s1 lines1
-made_last most n went typed before after round keys keys1 keys2 errors errors1 errors2 t r k m m1 s s1 lines lines1 screens out out1 sofar low few rounds over is isnt =
+made_last most n went typed before after round keys keys1 keys2 errors errors1 errors2 t r k m m1 s s1 lines lines1 screens out out1 sofar low few rounds over is =
     made_typed most k went (typed ++ r.lines) (operator keys keys2 errors errors2) (events_typed 1 typed ++ round.events.items) m m1 s s1 lines lines1 screens out out1 after.is_cut sofar
-    (ends_last n typed before after round keys keys1 keys2 errors errors1 errors2 t r most low went.is_broken over is isnt) rounds few (events_all n typed before after round keys keys1 keys2 errors errors1 errors2 t r)
+    (subst (λ u. EndsTypedRun u most (typed ++ r.lines) keys keys2) (sym is) (ends_last n typed before after round keys keys1 keys2 errors errors1 errors2 t r most low over)) rounds few (events_all n typed before after round keys keys1 keys2 errors errors1 errors2 t r)
     (told_all n typed before after round keys keys1 keys2 errors errors1 errors2 t r)
 
 nothing_in : (es : List Event) → (length es == 0) ≡ true → es ≡ []
@@ -295,31 +291,31 @@ module _ (n : ℕ) (before after : Count) (round : TypedRound) (keys keys1 keys2
       }
 
   -- the last round was made
-  pub last_made : (most : ℕ) (broken : Bool) (these : List Event) → n < most → these ≡ round.events.items → AreOf (n + 1) round.events.items → MakesRounds 1 these m1 s1 lines1 m2 s2 lines2 → GoesOnShowing cut cut' lines2 screens screens' out1 out2
-      → (length these == 0) ≡ false → (round.typing ≡ GoesOn → ⊥) → (broken ≡ true → round.typing ≡ Broken) → (broken ≡ false → round.typing ≡ Broken → ⊥)
-      → MakesTyped most (record { is_cut = cut'; is_broken = broken }) (operator keys keys2 errors errors2) out out2 m s lines m2 s2 lines2
-  last_made most broken these low same are made shows filled over is isnt =
+  pub last_made : (most : ℕ) (these : List Event) → n < most → these ≡ round.events.items → AreOf (n + 1) round.events.items → MakesRounds 1 these m1 s1 lines1 m2 s2 lines2 → GoesOnShowing cut cut' lines2 screens screens' out1 out2
+      → (length these == 0) ≡ false → (round.typing ≡ GoesOn → ⊥)
+      → MakesTyped most (record { is_cut = cut'; typing = round.typing }) (operator keys keys2 errors errors2) out out2 m s lines m2 s2 lines2
+  last_made most these low same are made shows filled over =
       let makes : MakesRounds 1 round.events.items m1 s1 lines1 m2 s2 lines2 = subst (λ (es : List Event). MakesRounds 1 es m1 s1 lines1 m2 s2 lines2) same made in
       let some : round.events.items ≡ [] → ⊥ = λ none. true≢false (ap (λ (es : List Event). length es == 0) (sym none ∙ sym same) ∙ filled) in
-      made_last most n (record { is_cut = cut'; is_broken = broken }) b.typed before after round keys keys1 keys2 errors errors1 errors2 b.types r (n + 1) m m2 s s2 lines lines2 screens' out out2
+      made_last most n (record { is_cut = cut'; typing = round.typing }) b.typed before after round keys keys1 keys2 errors errors1 errors2 b.types r (n + 1) m m2 s s2 lines lines2 screens' out out2
       (next_sofar n (events_typed 1 b.typed) round.events.items cut cut' m m1 m2 s s1 s2 lines lines1 lines2 screens screens' out out1 out2 fresh are b.sofar makes shows)
-      low (omega (arith, low)) (rounds_one n b.typed before after round keys keys1 keys2 errors errors1 errors2 b.types r some) over is isnt
+      low (omega (arith, low)) (rounds_one n b.typed before after round keys keys1 keys2 errors errors1 errors2 b.types r some) over refl
 
 -- no event was said for the last
 pub none_made_more : (n : ℕ) (before after : Count) (round : TypedRound) (keys keys1 keys2 : Keys) (errors errors1 errors2 : Seen) (cut : Bool) (m m1 : Machine) (s s1 : System) (lines lines1 : List Seen) (screens : List Screen) (out out1 : Seen)
     → (b : IsBetween n before (operator keys keys1 errors errors1) cut m m1 s s1 lines lines1 screens out out1) → (r : TypesRound (n + 1) before after round (operator keys1 keys2 errors1 errors2))
-    → (most : ℕ) (broken : Bool) (these : List Event) → n < most → these ≡ round.events.items → (length these == 0) ≡ true → (round.typing ≡ GoesOn → ⊥) → (broken ≡ true → round.typing ≡ Broken) → (broken ≡ false → round.typing ≡ Broken → ⊥)
-    → MakesTyped most (record { is_cut = cut; is_broken = broken }) (operator keys keys2 errors errors2) out out1 m s lines m1 s1 lines1
-none_made_more n before after round keys keys1 keys2 errors errors1 errors2 cut m m1 s s1 lines lines1 screens out out1 b r most broken these low whole empty over is isnt =
+    → (most : ℕ) (these : List Event) → n < most → these ≡ round.events.items → (length these == 0) ≡ true → (round.typing ≡ GoesOn → ⊥)
+    → MakesTyped most (record { is_cut = cut; typing = round.typing }) (operator keys keys2 errors errors2) out out1 m s lines m1 s1 lines1
+none_made_more n before after round keys keys1 keys2 errors errors1 errors2 cut m m1 s s1 lines lines1 screens out out1 b r most these low whole empty over =
     let none : round.events.items ≡ [] = sym whole ∙ nothing_in these empty in
     let same : events_typed 1 b.typed ≡ events_typed 1 b.typed ++ round.events.items = sym (ap (λ es. events_typed 1 b.typed ++ es) none ∙ append-nil (events_typed 1 b.typed)) in
-    made_last most n (record { is_cut = cut; is_broken = broken }) b.typed before after round keys keys1 keys2 errors errors1 errors2 b.types r n m m1 s s1 lines lines1 screens out out1
+    made_last most n (record { is_cut = cut; typing = round.typing }) b.typed before after round keys keys1 keys2 errors errors1 errors2 b.types r n m m1 s s1 lines lines1 screens out out1
     (subst (λ es. IsSofar n es cut m m1 s s1 lines lines1 screens out out1) same b.sofar)
-    low (omega (arith, low)) (rounds_same n b.typed before after round keys keys1 keys2 errors errors1 errors2 b.types r none) over is isnt
+    low (omega (arith, low)) (rounds_same n b.typed before after round keys keys1 keys2 errors errors1 errors2 b.types r none) over refl
 
 -- all rounds were made
 pub all_made : (most n : ℕ) (count : Count) (p : Operator) (cut : Bool) (m m1 : Machine) (s s1 : System) (lines lines1 : List Seen) (screens : List Screen) (out out1 : Seen) → 1 ≤ most → n ≡ most → IsBetween n count p cut m m1 s s1 lines lines1 screens out out1
-    → MakesTyped most (record { is_cut = cut; is_broken = false }) p out out1 m s lines m1 s1 lines1
+    → MakesTyped most (record { is_cut = cut; typing = GoesOn }) p out out1 m s lines m1 s1 lines1
 all_made most n count p cut m m1 s s1 lines lines1 screens out out1 some same so_many =
     let b : IsBetween most count p cut m m1 s s1 lines lines1 screens out out1 = subst (λ k. IsBetween k count p cut m m1 s s1 lines lines1 screens out out1) same so_many in
-    made_typed most most (record { is_cut = cut; is_broken = false }) b.typed p (events_typed 1 b.typed) m m1 s s1 lines lines1 screens out out1 count.is_cut b.sofar (ends_all most b.typed count p some b.types) (rounds_all most b.typed count p b.types) (omega arith) refl b.types.told
+    made_typed most most (record { is_cut = cut; typing = GoesOn }) b.typed p (events_typed 1 b.typed) m m1 s s1 lines lines1 screens out out1 count.is_cut b.sofar (ends_all most b.typed count p some b.types) (rounds_all most b.typed count p b.types) (omega arith) refl b.types.told

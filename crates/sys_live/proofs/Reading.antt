@@ -18,10 +18,11 @@ use Rattle.sys_system.specs.Calls.{AreOf}
 use Rattle.sys_live.proofs.Words.{tells_both, tells_none}
 use Rattle.sys_live.specs.Operator.{Operator}
 use Rattle.sys_devices.specs.Shows.{ShowsUnlessMarked}
-use Rattle.sys_live.specs.Typing.{BreaksOff, EndsTypedRound, TookWell, TypesRound}
+use Rattle.sys_live.specs.Typing.{EndsTypedRound, TookWell, TypesRound}
 use Rattle.sys_live.specs.declared.typing.Count.{Count}
 use Rattle.sys_live.specs.declared.typing.TypedRound.{TypedRound}
-use Rattle.sys_live.specs.declared.typing.Typing.TheVariants.{GoesOn, Over, Broken}
+use Rattle.sys_live.specs.declared.typing.Typing.{Typing}
+use Rattle.sys_live.specs.declared.typing.Typing.TheVariants.{GoesOn, Over, Broken, Lost}
 
 abbrev pub IsFull : List ℕ → Type 0
 IsFull line = line ≢ []
@@ -210,15 +211,21 @@ is_over {E} round before now typed keys keys1 keys2 errors errors1 far takes typ
   told = far.told;
 }
 
--- it breaks off, and nothing more is told
-broken : (round : ℕ) (before now after : Count) (typed : TypedRound) (keys keys1 keys2 : Keys) (errors errors1 errors2 : Seen) →
-    (far : TypesSoFar round before now typed.events.items keys keys1 errors errors1) → BreaksOff (before.lines + length far.lines) far.lines keys keys2 → after.is_cut ≡ now.is_cut → errors2 ≡ errors1 → typed.typing ≡ Broken →
+broken_ends : Broken ≡ GoesOn → ⊥
+broken_ends e = absurd cc
+
+lost_ends : Lost ≡ GoesOn → ⊥
+lost_ends e = absurd cc
+
+-- it ends so, and nothing more is told
+ends_so : (t : Typing) → (t ≡ GoesOn → ⊥) → (round : ℕ) (before now after : Count) (typed : TypedRound) (keys keys1 keys2 : Keys) (errors errors1 errors2 : Seen) →
+    (far : TypesSoFar round before now typed.events.items keys keys1 errors errors1) → EndsTypedRound t (before.lines + length far.lines) far.lines keys keys2 → after.is_cut ≡ now.is_cut → errors2 ≡ errors1 → typed.typing ≡ t →
     TypesRound round before after typed (desk keys keys2 errors errors2)
-broken round before now after typed keys keys1 keys2 errors errors1 errors2 far breaks cut same typing = record {
+ends_so t stays round before now after typed keys keys1 keys2 errors errors1 errors2 far ends cut same typing = record {
   lines = far.lines;
   none_is_empty = far.none_is_empty;
-  taken = subst (λ t. EndsTypedRound t (before.lines + length far.lines) far.lines keys keys2) (sym typing) breaks;
-  counts = λ goes. absurd cc;
+  taken = subst (λ u. EndsTypedRound u (before.lines + length far.lines) far.lines keys keys2) (sym typing) ends;
+  counts = λ goes. absurd (stays (sym typing ∙ goes));
   events = far.events_are;
   told = subst (λ b. ShowsUnlessMarked before.is_cut b errors errors2 (refusal_messages (before.lines + 1) far.lines)) (sym cut) (subst (λ s. ShowsUnlessMarked before.is_cut now.is_cut errors s (refusal_messages (before.lines + 1) far.lines)) (sym same) far.told);
 }
@@ -228,17 +235,17 @@ pub is_failed : {E : Type 0} (round : ℕ) (before now : Count) (typed : TypedRo
     TypesSoFar round before now typed.events.items keys keys1 errors errors1 → (let r : Result (Option (List ℕ)) E = Err e in Takes keys1 keys2 r) → typed.typing ≡ Broken →
     TypesRound round before now typed (desk keys keys2 errors errors1)
 is_failed {E} round before now typed keys keys1 keys2 errors errors1 e far takes typing =
-    broken round before now now typed keys keys1 keys2 errors errors1 errors1 far (inl (takes_fault {E = E} far.lines keys keys1 keys2 e far.taken takes)) refl refl typing
+    ends_so Broken broken_ends round before now now typed keys keys1 keys2 errors errors1 errors1 far (inl (takes_fault {E = E} far.lines keys keys1 keys2 e far.taken takes)) refl refl typing
 
 -- no more lines are counted
 pub is_counted : (round : ℕ) (before now : Count) (typed : TypedRound) (keys keys1 : Keys) (errors errors1 : Seen) →
     TypesSoFar round before now typed.events.items keys keys1 errors errors1 → now.lines ≡ 2 ^ 32 - 1 → typed.typing ≡ Broken → TypesRound round before now typed (desk keys keys1 errors errors1)
 is_counted round before now typed keys keys1 errors errors1 far last typing =
-    broken round before now now typed keys keys1 keys1 errors errors1 errors1 far (inr (inl (far.taken, sym far.counts ∙ last))) refl refl typing
+    ends_so Broken broken_ends round before now now typed keys keys1 keys1 errors errors1 errors1 far (inr (far.taken, sym far.counts ∙ last)) refl refl typing
 
 -- memory ran out for a line that says an event
 pub is_lost : {E : Type 0} (round : ℕ) (before now after : Count) (typed : TypedRound) (line : List ℕ) (keys keys1 keys2 : Keys) (errors errors1 errors2 : Seen) →
     TypesSoFar round before now typed.events.items keys keys1 errors errors1 → says_event line ≡ true → (let r : Result (Option (List ℕ)) E = Ok (Some line) in Takes keys1 keys2 r) →
-    after.is_cut ≡ now.is_cut → errors2 ≡ errors1 → typed.typing ≡ Broken → TypesRound round before after typed (desk keys keys2 errors errors2)
+    after.is_cut ≡ now.is_cut → errors2 ≡ errors1 → typed.typing ≡ Lost → TypesRound round before after typed (desk keys keys2 errors errors2)
 is_lost {E} round before now after typed line keys keys1 keys2 errors errors1 errors2 far says takes cut same typing =
-    broken round before now after typed keys keys1 keys2 errors errors1 errors2 far (inr (inr (line, says, takes_more {E = E} far.lines line keys keys1 keys2 far.taken takes))) cut same typing
+    ends_so Lost lost_ends round before now after typed keys keys1 keys2 errors errors1 errors2 far (line, says, takes_more {E = E} far.lines line keys keys1 keys2 far.taken takes) cut same typing

@@ -26,7 +26,7 @@ pub record Lives (x : Input) (most : ℕ) (lived : Lived) (o : RunOutside) (p : 
   pub makes : MakesRun x lived.ran o
   -- the lines that were taken
   pub typed : List (List ℕ)
-  pub ends : EndsTypedRun lived.is_broken most typed p.keys p.keys'
+  pub ends : EndsTypedRun lived.typing most typed p.keys p.keys'
   pub events : x.events ≡ events_typed 1 typed
   pub means : script_of (script_typed 1 typed) ≡ Ok x.events
   pub rounds : x.rounds ≡ rounds_typed false typed

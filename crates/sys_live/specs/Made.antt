@@ -31,7 +31,7 @@ GoesOnShowing false cut' lines screens screens' out out' = ShowsNews cut' lines 
 -- terminals were shown was shown to the operator.
 pub record MakesTyped (most : ℕ) (went : Went) (p : Operator) (out out' : Seen) (m : Machine) (s : System) (lines : List Seen) (m' : Machine) (s' : System) (lines' : List Seen) : Type 0 where
   pub typed : List (List ℕ)
-  pub ends : EndsTypedRun went.is_broken most typed p.keys p.keys'
+  pub ends : EndsTypedRun went.typing most typed p.keys p.keys'
   pub few : rounds_typed false typed ≤ most
   pub makes : MakesRounds (rounds_typed false typed) (events_typed 1 typed) m s lines m' s' lines'
   pub cut : Bool

@@ -1,5 +1,5 @@
 -- How lines are taken from a keyboard, and how that ends.
-use Rattle.std.specs.Prelude.{ℕ, ◌≡◌, ◌≢◌, ◌<◌, ◌+◌, ◌-◌, ◌^◌, ◌⊎◌, List, [], ◌∷◌, ◌++◌, All, Bool, true, false, length}
+use Rattle.std.specs.Prelude.{ℕ, ◌≡◌, ◌≢◌, ◌<◌, ◌+◌, ◌-◌, ◌^◌, ◌⊎◌, List, [], ◌∷◌, ◌++◌, All, true, length}
 use Rattle.vv_io.specs.Causes.{Rose}
 use Rattle.vv_io.specs.Keys.{IsOut, Keys, Took}
 use Rattle.sys_devices.specs.Shows.{ShowsUnlessMarked}
@@ -8,26 +8,30 @@ use Rattle.sys_live.specs.Operator.{Operator}
 use Rattle.sys_live.specs.declared.typing.Count.{Count}
 use Rattle.sys_live.specs.declared.typing.TypedRound.{TypedRound}
 use Rattle.sys_live.specs.declared.typing.Typing.{Typing}
-use Rattle.sys_live.specs.declared.typing.Typing.TheVariants.{GoesOn, Over, Broken}
+use Rattle.sys_live.specs.declared.typing.Typing.TheVariants.{GoesOn, Over, Broken, Lost}
 
 -- these lines were taken, and no call failed
 pub record TookWell (lines : List (List ℕ)) (before after : Keys) : Type 0 where
   pub took : Took lines before.coming after.coming
   pub faults : after.faults ≡ before.faults
 
--- the keyboard failed after these lines; or with them as many were taken as are counted; or memory ran out for the next one, which
--- says an event
+-- the keyboard failed after these lines; or with them as many were taken as are counted
 abbrev pub BreaksOff : ℕ → List (List ℕ) → Keys → Keys → Type 0
 BreaksOff count lines before after =
     (Took lines before.coming after.coming × Rose before.faults after.faults)
-    ⊎ ((TookWell lines before after × (count ≡ 2 ^ 32 - 1)) ⊎ ((lost : List ℕ) × (says_event lost ≡ true) × TookWell (lines ++ lost ∷ []) before after))
+    ⊎ (TookWell lines before after × (count ≡ 2 ^ 32 - 1))
+
+-- a line more was taken, which says an event, and is lost
+abbrev pub LosesLine : List (List ℕ) → Keys → Keys → Type 0
+LosesLine lines before after = (lost : List ℕ) × (says_event lost ≡ true) × TookWell (lines ++ lost ∷ []) before after
 
 -- How the lines of one round ended, `count` with those of the rounds before: an empty line was taken; or no more come; or it broke
--- off.
+-- off; or a line was lost.
 abbrev pub EndsTypedRound : Typing → ℕ → List (List ℕ) → Keys → Keys → Type 0
 EndsTypedRound GoesOn count lines before after = TookWell (lines ++ [] ∷ []) before after
 EndsTypedRound Over count lines before after = TookWell lines before after × IsOut after.coming
 EndsTypedRound Broken count lines before after = BreaksOff count lines before after
+EndsTypedRound Lost count lines before after = LosesLine lines before after
 
 -- The lines of one round were taken, of which none is empty, and their events are the round's. Those that say none were told, where
 -- nothing was cut before, by the numbers that follow those of the rounds before. Where an empty line ended the round it is counted
@@ -45,7 +49,9 @@ abbrev pub EndsWithEmptyLine : List (List ℕ) → Type 0
 EndsWithEmptyLine lines = (before : List (List ℕ)) × (lines ≡ before ++ [] ∷ [])
 
 -- How the typing of a run of at most so many rounds ended: all rounds were ended, and no line was taken after them; or, with fewer,
--- no more lines come, or it broke off.
-abbrev pub EndsTypedRun : Bool → ℕ → List (List ℕ) → Keys → Keys → Type 0
-EndsTypedRun true most lines before after = BreaksOff (length lines) lines before after × (rounds_ended lines < most)
-EndsTypedRun false most lines before after = TookWell lines before after × ((EndsWithEmptyLine lines × (rounds_ended lines ≡ most)) ⊎ (IsOut after.coming × (rounds_ended lines < most)))
+-- no more lines come, or it broke off, or a line was lost.
+abbrev pub EndsTypedRun : Typing → ℕ → List (List ℕ) → Keys → Keys → Type 0
+EndsTypedRun GoesOn most lines before after = TookWell lines before after × EndsWithEmptyLine lines × (rounds_ended lines ≡ most)
+EndsTypedRun Over most lines before after = TookWell lines before after × IsOut after.coming × (rounds_ended lines < most)
+EndsTypedRun Broken most lines before after = BreaksOff (length lines) lines before after × (rounds_ended lines < most)
+EndsTypedRun Lost most lines before after = LosesLine lines before after × (rounds_ended lines < most)

@@ -5,3 +5,4 @@ mod session;
 mod typing;
 
 pub use session::{Lived, live};
+pub use typing::Typing;

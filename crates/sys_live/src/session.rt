@@ -18,21 +18,21 @@ use sys_system::{PowerFault, System};
 use vax_hw::Hardware;
 use vv_io::{Drive, Keyboard, Lines, NoProgress, Sink};
 
-/// What is left of a run that was typed: what is left of any run, its rounds, whether what was to be shown of them is cut, and
-/// whether the typing broke off.
+/// What is left of a run that was typed: what is left of any run, its rounds, whether what was to be shown of them is cut, and how
+/// the typing stands: it goes on where all rounds were made.
 #[derive(Clone, Copy, Debug, PartialEq, Eq)]
 pub struct Lived {
     pub ran: Ran,
     pub rounds: u32,
     pub is_cut: bool,
-    pub is_broken: bool,
+    pub typing: Typing,
 }
 
 /// How the rounds went.
 #[derive(Clone, Copy, Debug, PartialEq, Eq)]
 pub struct Went {
     pub is_cut: bool,
-    pub is_broken: bool,
+    pub typing: Typing,
 }
 
 /// Makes the next round with its events, and shows what terminals were shown in it where nothing was cut before; whether something
@@ -94,19 +94,19 @@ fn make_typed<H: Hardware, K: Keyboard, E: Sink, O: Sink, L: Lines>(
     for made in 0..most {
         let typed = read_round(alloc, made + 1, &mut count, keyboard, errors);
         let events = typed.events.as_slice();
-        if typed.typing != Typing::GoesOn {
-            let is_broken = typed.typing == Typing::Broken;
+        let typing = typed.typing;
+        if typing != Typing::GoesOn {
             if events.is_empty() {
-                return Went { is_cut, is_broken };
+                return Went { is_cut, typing };
             }
             is_cut = make_next(system, screens, machine, lines, events, is_cut, out);
-            return Went { is_cut, is_broken };
+            return Went { is_cut, typing };
         }
         is_cut = make_next(system, screens, machine, lines, events, is_cut, out);
     }
     Went {
         is_cut,
-        is_broken: false,
+        typing: Typing::GoesOn,
     }
 }
 
@@ -160,6 +160,6 @@ pub fn live<H: Hardware, K: Keyboard, E: Sink, O: Sink, L: Lines>(
         },
         rounds,
         is_cut: went.is_cut,
-        is_broken: went.is_broken,
+        typing: went.typing,
     })
 }

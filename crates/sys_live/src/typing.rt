@@ -17,8 +17,10 @@ pub enum Typing {
     GoesOn,
     /// No more lines come.
     Over,
-    /// The keyboard failed, 4,294,967,295 lines were taken, or memory ran out for one.
+    /// The keyboard failed, or 4,294,967,295 lines were taken.
     Broken,
+    /// Memory ran out for a line that says an event.
+    Lost,
 }
 
 /// How many lines were taken, and whether something that was to be told of them is cut.
@@ -116,7 +118,7 @@ pub fn read_round<K: Keyboard, E: Sink>(
             return ended(events, Typing::GoesOn);
         }
         if take_line(alloc, round, line.bytes(), count, &mut events, errors).is_err() {
-            return ended(events, Typing::Broken);
+            return ended(events, Typing::Lost);
         }
     }
     ended(events, Typing::Broken)

@@ -1,4 +1,4 @@
-ghost use Rattle.std.specs.Prelude.{◌≡◌, ◌<◌, length, All};
+ghost use Rattle.std.specs.Prelude.{◌<◌, length, All};
 ghost use Rattle.sys_guests.specs.Kernel.{AreUnits};
 ghost use Rattle.sys_guests.specs.Layout.{AreInMachine};
 ghost use Rattle.sys_objects.specs.Condition.{IsConfig, IsPrinter};

@@ -6,12 +6,12 @@ use sys_flow::drawing;
 
 /// A terminal above a guest of its class: 38 is half of a box's width.
 const TWO: &str = concat!(
-    "<svg xmlns=\"http://www.w3.org/2000/svg\" width=\"250\" height=\"196\" font-family=\"monospace\" font-size=\"13\" text-anchor=\"middle\">\n",
+    "<svg xmlns=\"http://www.w3.org/2000/svg\" width=\"250\" height=\"164\" font-family=\"monospace\" font-size=\"13\" text-anchor=\"middle\">\n",
     "<defs><marker id=\"head\" viewBox=\"0 0 8 8\" refX=\"8\" refY=\"4\" markerWidth=\"8\" markerHeight=\"8\" orient=\"auto\"><path d=\"M0 0L8 4L0 8z\"/></marker></defs>\n",
-    "<line x1=\"110\" y1=\"58\" x2=\"182\" y2=\"138\" stroke=\"#1f5fa8\" marker-end=\"url(#head)\"/>\n",
-    "<line x1=\"202\" y1=\"138\" x2=\"130\" y2=\"58\" stroke=\"#b07a00\" marker-end=\"url(#head)\"/>\n",
+    "<line x1=\"110\" y1=\"58\" x2=\"182\" y2=\"106\" stroke=\"#1f5fa8\" marker-end=\"url(#head)\"/>\n",
+    "<line x1=\"202\" y1=\"106\" x2=\"130\" y2=\"58\" stroke=\"#b07a00\" marker-end=\"url(#head)\"/>\n",
     "<rect x=\"82\" y=\"10\" width=\"76\" height=\"48\" rx=\"4\" fill=\"#cfe2f7\" fill-opacity=\"0.8\" stroke=\"black\"/><text x=\"120\" y=\"24\">terminal</text><text x=\"120\" y=\"39\">T1</text><text x=\"120\" y=\"53\">1{};0{}</text>\n",
-    "<rect x=\"154\" y=\"138\" width=\"76\" height=\"48\" rx=\"4\" fill=\"#fff2c4\" fill-opacity=\"0.8\" stroke=\"black\"/><text x=\"192\" y=\"152\">guest</text><text x=\"192\" y=\"167\">A</text><text x=\"192\" y=\"181\">1{};0{}</text>\n",
+    "<rect x=\"154\" y=\"106\" width=\"76\" height=\"48\" rx=\"4\" fill=\"#fff2c4\" fill-opacity=\"0.8\" stroke=\"black\"/><text x=\"192\" y=\"120\">guest</text><text x=\"192\" y=\"135\">A</text><text x=\"192\" y=\"149\">1{};0{}</text>\n",
     "</svg>\n"
 );
 

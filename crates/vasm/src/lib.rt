@@ -15,9 +15,7 @@ mod specifier;
 mod statement;
 mod text;
 
-pub use cutting::Pieces;
 pub use line::{Line, first_line, line_in};
-pub use parse_operand::Operand;
 pub use parse_statement::{Statement, forms_of};
 pub use specifier::operand_in;
 pub use text::assemble;

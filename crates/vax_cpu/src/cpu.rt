@@ -1,4 +1,4 @@
-ghost use Rattle.std.specs.Prelude.{◌≡◌, ◌*◌, ◌≤◌, length, sum, take, IfOk, IfSome, MatchOption, Ok, OnOk};
+ghost use Rattle.std.specs.Prelude.{◌≡◌, ◌*◌, ◌≤◌, length, sum, take, IfOk, IfSome, MatchOption, Ok};
 ghost use Rattle.vax_hw.specs.Machine.{Machine, seen_psl, zeros};
 ghost use Rattle.vax_hw.specs.Real.{in_kernel, real};
 ghost use Rattle.vax_operand.specs.Left.{operands_with_registers};

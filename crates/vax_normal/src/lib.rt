@@ -20,11 +20,9 @@ mod total;
 mod touches;
 
 pub use bit_test::BitTest;
-pub use carry_out::{After, go_on, put};
+pub use carry_out::{After, go_on};
 pub use in_memory::Found;
-pub use make::{are_at_hand, is_at_hand, is_narrow, jump_of, normal_of, number_at};
-pub use number::{number_of, offset_from};
-pub use quad::quad_move_of;
+pub use make::normal_of;
 pub use rarer::{Rarer, rarer_of};
 pub use rarer_shape::{Indexed, IndexedReach, ProbeTest, StatusMove};
 pub use shape::{
@@ -32,5 +30,5 @@ pub use shape::{
     Shape, Source,
 };
 pub use subroutine::{Call, return_address, return_to};
-pub use total::{set, sum_of};
-pub use touches::{in_memory_of, put_by, sources_of, touches_of};
+pub use total::sum_of;
+pub use touches::in_memory_of;

@@ -1,4 +1,4 @@
-ghost use Rattle.std.specs.Prelude.{◌≡◌, true, sum, take, slice_index, slice_set, IfSome, Ok};
+ghost use Rattle.std.specs.Prelude.{◌≡◌, true, sum, take, slice_index, IfSome, Ok};
 ghost use Rattle.vv_base.specs.declared.width.Width.TheVariants.{Long};
 ghost use Rattle.vax_arch.specs.declared.mode.Intent.TheVariants.{Read};
 ghost use Rattle.vax_table.specs.Effects.{store};

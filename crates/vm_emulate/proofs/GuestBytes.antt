@@ -6,7 +6,7 @@ use Rattle.vm_shadow.proofs.Storing.{four_at, four_small, long_from}
 use Rattle.vv_base.specs.Bytes.{long_at}
 use Rattle.vax_arch.specs.WalkLaws.{AreAligned}
 use Rattle.vax_arch.specs.declared.mode.Intent.TheVariants.{Read}
-use Rattle.vax_table.specs.Interaction.{Cause, Space, Trouble, cause_of, number_at, with_byte}
+use Rattle.vax_table.specs.Interaction.{Cause, Space, cause_of, number_at, with_byte}
 use Rattle.vax_table.specs.Interaction as interaction
 use Rattle.vm_emulate.specs.Readings.{AnswersReading, IsByte, unread}
 use Rattle.vm_emulate.specs.declared.reading.Unread.{Unread}

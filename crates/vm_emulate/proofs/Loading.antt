@@ -20,7 +20,7 @@ use Rattle.vm_exception.proofs.Writing.{only_then}
 use Rattle.vm_exception.specs.Wrote.{AreHomes, DropsAmong, Wrote}
 use Rattle.vm_exception.proofs.Homes.{homes_inside}
 use Rattle.vm_shadow.specs.Shadowed.{CanBeShadowed, Shadowed, own}
-use Rattle.vm_shadow.specs.StandsFor.{OnlyGuest, Retells, StandsFor, Switches}
+use Rattle.vm_shadow.specs.StandsFor.{Retells, StandsFor, Switches}
 use Rattle.vm_shadow.proofs.Contexts.{aligned_of}
 use Rattle.vm_shadow.proofs.Covering.{own_is}
 use Rattle.vm_shadow.proofs.Filling.{own_apart}

@@ -7,7 +7,6 @@ use Rattle.vax_hw.specs.declared.world.Exit.{Exit}
 use Rattle.vax_hw.specs.declared.world.Exit.TheVariants.{Denied, Modify, NotValid}
 use Rattle.vax_table.specs.Interaction as interaction
 use Rattle.vax_table.specs.Interaction.{cause_of}
-use Rattle.vax_table.specs.Tries.{Clear}
 use Rattle.vax_table.specs.Troubles.{intent_of}
 use Rattle.vm_stepping.specs.Guarded.{ExitIsMet}
 use Rattle.vm_simulation_laws.specs.Misses.{KeepsFilled}
@@ -27,7 +26,7 @@ use Rattle.vm_state.specs.Partition.{guest_of}
 use Rattle.vm_state.specs.Step.{Fault, Stepped, by_try, clear_met, executed, faulted, stopped}
 use Rattle.vm_state.specs.Stops.{PastMemory}
 use Rattle.vm_state.specs.State.{Guest}
-use Rattle.vm_state.specs.Translation.{look, walk_of}
+use Rattle.vm_state.specs.Translation.{look}
 use Rattle.vm_state.specs.declared.exception.Exc.TheVariants as excs
 use Rattle.vm_state.specs.declared.guest_state.GuestState.{GuestState}
 use Rattle.vm_state.specs.declared.walk.MemFault.{MemFault}

@@ -10,7 +10,6 @@ mod missing;
 mod sensing;
 mod turns;
 
-pub use bursts::{Ran, burst, count_more, take_back};
 pub use counts::Counts;
 pub use turns::{Once, advance, advance_once};
 pub use vm_exception::Note;

@@ -56,7 +56,7 @@ advice (answers.Image guest) = codes "the image does not end in its guest's memo
 advice answers.SnapSize = codes "at most 31250 pages and blocks together, and 262144 bytes of configuration"
 advice (answers.Snap fault) = codes "no snapshot of save, or one that was cut or changed"
 advice answers.OutFault = codes "standard output took not all: a full disk, or a reader that went"
-advice answers.KeyFault = codes "standard input failed, or memory ran out for a line"
+advice answers.KeyFault = codes "standard input failed"
 advice answers.NoMemory = codes "see ulimit -v, and what the system has left"
 advice status = []
 

@@ -18,9 +18,10 @@ told_word (VolumeSize volume) = Some 1
 told_word (Device device) = Some 1
 told_word status = None
 
-abbrev pub audit_line_of : Result Config ConfigFault → Option ℕ
-audit_line_of (Ok config) = option_map (λ audit. audit.line) config.audit
-audit_line_of (Err fault) = None
+-- the audit's line, where a device failed
+abbrev pub audit_line_in : Result Config ConfigFault → Status → Option ℕ
+audit_line_in (Ok config) (Device device) = option_map (λ audit. audit.line) config.audit
+audit_line_in config status = None
 
 -- what the drive of a volume must have
 abbrev pub drive_wanted : Option VolumeRow → Option Note

@@ -109,7 +109,7 @@ fn advice(status: &Status) -> &'static [u8]
             b"at most 31250 pages and blocks together, and 262144 bytes of configuration",
         Status::Snap(_) => b"no snapshot of save, or one that was cut or changed",
         Status::OutFault => b"standard output took not all: a full disk, or a reader that went",
-        Status::KeyFault => b"standard input failed, or memory ran out for a line",
+        Status::KeyFault => b"standard input failed",
         Status::NoMemory => b"see ulimit -v, and what the system has left",
         _ => b"",
     }

@@ -1,12 +1,12 @@
-ghost use Rattle.std.specs.Prelude.{◌≡◌, IfSome, Some};
+ghost use Rattle.std.specs.Prelude.{◌≡◌, IfOk};
 ghost use Rattle.sys_config.specs.Config.{config_of};
-ghost use Rattle.vv_edge.specs.Learning.{audit_line_of, line_of_text, shown_front, refused_line, seen_as, told_word, wanted_in};
+ghost use Rattle.vv_edge.specs.Learning.{audit_line_in, line_of_text, shown_front, refused_line, seen_as, told_word, wanted_in};
 
 use crate::telling::Note;
 use std::alloc::Global;
-use sys_config::read_config;
+use sys_config::{ConfigError, read_config};
 use vasm::first_line;
-use vv_base::Text;
+use vv_base::{NoMemory, Text};
 use vvmm_files::Status;
 
 /// The place among the words of the file that tells more about an answer, if one does.
@@ -21,34 +21,36 @@ pub fn told_word(status: &Status) -> Option<usize>
 }
 
 /// The audit's line in a configuration, where a device failed.
-pub fn audit_line(alloc: Global, config: &[u8], status: &Status) -> Option<u8>
-    ensures { IfSome result (λ line. audit_line_of (config_of config.now) ≡ Some line) }
+pub fn audit_line(alloc: Global, config: &[u8], status: &Status) -> Result<Option<u8>, NoMemory>
+    ensures { IfOk result (λ line. line ≡ audit_line_in (config_of config.now) status.now) }
 {
     if !matches!(status, Status::Device(_)) {
-        return None;
+        return Ok(None);
     }
     match read_config(alloc, config) {
         Ok(config) => match config.audit {
-            Some(audit) => Some(audit.line),
-            None => None,
+            Some(audit) => Ok(Some(audit.line)),
+            None => Ok(None),
         },
-        Err(_) => None,
+        Err(ConfigError::Fault(_)) => Ok(None),
+        Err(ConfigError::NoMemory) => Err(NoMemory),
     }
 }
 
 /// What the drive of a configuration's volume must have, where it hasn't.
-pub fn wanted_drive(alloc: Global, config: &[u8], status: &Status) -> Option<Note>
-    ensures { IfSome result (λ note. wanted_in (config_of config.now) status.now ≡ Some note) }
+pub fn wanted_drive(alloc: Global, config: &[u8], status: &Status) -> Result<Option<Note>, NoMemory>
+    ensures { IfOk result (λ note. note ≡ wanted_in (config_of config.now) status.now) }
 {
     let Status::VolumeSize(volume) = status else {
-        return None;
+        return Ok(None);
     };
     match read_config(alloc, config) {
         Ok(config) => match config.volumes.as_slice().get(usize::from(*volume)) {
-            Some(row) => Some(Note::Wanted(row.drive, row.blocks)),
-            None => None,
+            Some(row) => Ok(Some(Note::Wanted(row.drive, row.blocks))),
+            None => Ok(None),
         },
-        Err(_) => None,
+        Err(ConfigError::Fault(_)) => Ok(None),
+        Err(ConfigError::NoMemory) => Err(NoMemory),
     }
 }
 

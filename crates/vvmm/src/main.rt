@@ -69,8 +69,8 @@ fn told_of(
     };
     Told {
         flawed: opening.flawed(),
-        wanted: wanted_drive(alloc, text, status),
-        lines: line_notes(lines, audit_line(alloc, text, status)),
+        wanted: wanted_drive(alloc, text, status).unwrap_or(None),
+        lines: line_notes(lines, audit_line(alloc, text, status).unwrap_or(None)),
         drives: opening.failed(),
         unread: shelf.unread(),
         line: refused_line(text, status),

@@ -21,6 +21,8 @@ use Rattle.sys_devices.specs.ShownSince.{ShownSince}
 use Rattle.sys_live.specs.Lives.{LivesRun}
 use Rattle.sys_live.specs.Operator.{Operator, Untyped}
 use Rattle.sys_live.specs.declared.session.Lived.{Lived}
+use Rattle.sys_live.specs.declared.typing.Typing.{Typing}
+use Rattle.sys_live.specs.declared.typing.Typing.TheVariants.{Broken, Lost}
 use Rattle.sys_objects.specs.declared.records.Config.{Config}
 use Rattle.sys_purge.specs.Input.{purged}
 use Rattle.sys_purge.specs.Laws.{IsSeparateFrom, shown_on}
@@ -104,7 +106,7 @@ status_when_done (Some device) cut = DeviceFault device
 status_when_done None true = OutFault
 status_when_done None false = Done
 
--- bytes are put on `out` once, and all was done before
+-- `out` is shown bytes, whole or cut, and the answer tells a device that failed before, or the cut
 pub record EndsWithPut (failed : Option Device) (bytes : List ℕ) (status : Status) (out out' : Seen) : Type 0 where
   pub cut : Bool
   pub is : status ≡ status_when_done failed cut
@@ -217,12 +219,14 @@ pub record PlaysResume (a : ResumeAsked) (status : Status) (o : Outside) : Type 
 abbrev pub FollowsResume : ResumeAsked → Status → Outside → Type 0
 FollowsResume a status o = (Stops (StopsResume o.files a o.shelf o.shelf') status × Silent o) ⊎ PlaysResume a status o
 
--- the answer where all was done: a device that failed is told first, then what is cut, then that the typing broke off
-abbrev pub live_status : Option Device → Bool → Bool → Status
-live_status (Some device) cut broken = DeviceFault device
-live_status None true broken = OutFault
-live_status None false true = KeyFault
-live_status None false false = Done
+-- the answer where all was done: a device that failed is told first, then what is cut, then that the typing broke off, or that memory
+-- ran out for a typed line
+abbrev pub live_status : Option Device → Bool → Typing → Status
+live_status (Some device) cut typing = DeviceFault device
+live_status None true typing = OutFault
+live_status None false Broken = KeyFault
+live_status None false Lost = NoMemory
+live_status None false typing = Done
 
 -- a summary after what was shown, which may be cut; where that was cut nothing more is put
 abbrev pub PutsSummary : (was_cut cut : Bool) → List ℕ → Seen → Seen → Type 0
@@ -232,7 +236,7 @@ PutsSummary false cut bytes shown out' = ShownSince cut shown out' bytes
 -- The run was made: after what was shown of its rounds its summary is put, unless that was cut.
 pub record ClosesLive (lived : Lived) (status : Status) (shown out' : Seen) : Type 0 where
   pub cut : Bool
-  pub is : status ≡ live_status lived.ran.failed cut lived.is_broken
+  pub is : status ≡ live_status lived.ran.failed cut lived.typing
   pub closes : PutsSummary lived.is_cut cut (summary lived.rounds (tally_of lived.ran.counts)) shown out'
 
 -- how a run that was to be typed is answered: power doesn't come up, or it is made

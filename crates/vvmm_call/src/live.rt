@@ -6,21 +6,22 @@ use crate::report::summary;
 use crate::stop::{power_status, stopped_status};
 use std::alloc::Global;
 use sys_devices::{Device, put_once};
-use sys_live::Lived;
+use sys_live::{Lived, Typing};
 use sys_system::PowerFault;
 use vax_hw::Hardware;
 use vv_io::{Drive, Keyboard, Lines, Shelf, Sink};
 use vvmm_files::{LiveOrder, Status, fetch_to_live};
 
 /// The answer where all was done.
-fn live_status(failed: Option<Device>, is_cut: bool, is_broken: bool) -> Status
-    ensures { result ≡ live_status failed is_cut is_broken }
+fn live_status(failed: Option<Device>, is_cut: bool, typing: Typing) -> Status
+    ensures { result ≡ live_status failed is_cut typing }
 {
-    match failed {
-        Some(device) => Status::Device(device),
-        None if is_cut => Status::OutFault,
-        None if is_broken => Status::KeyFault,
-        None => Status::Done,
+    match (failed, typing) {
+        (Some(device), _) => Status::Device(device),
+        (None, _) if is_cut => Status::OutFault,
+        (None, Typing::Broken) => Status::KeyFault,
+        (None, Typing::Lost) => Status::NoMemory,
+        (None, _) => Status::Done,
     }
 }
 
@@ -35,7 +36,7 @@ fn lived_status<O: Sink>(lived: Result<Lived, PowerFault>, out: &mut O) -> Statu
     };
     let summary = summary(lived.rounds, &lived.ran.counts);
     let is_cut = lived.is_cut || put_once(out, summary.bytes()).is_err();
-    live_status(lived.ran.failed, is_cut, lived.is_broken)
+    live_status(lived.ran.failed, is_cut, lived.typing)
 }
 
 /// `live`: fetches the configuration and the images, makes rounds as their lines are typed, and shows each one's terminals on

@@ -3,7 +3,7 @@ use Rattle.std.proofs.Common.{ℕ, zero, suc, ◌≡◌, ◌<◌, inl, inr, List
 use Rattle.std.specs.List.{slice_get}
 use Rattle.std.proofs.lemmas.List.{append_cancel_right, ext_get_or}
 use Rattle.vv_io.specs.Blocks.{SeenDrive}
-use Rattle.vv_io.specs.Keys.{Took, given_of}
+use Rattle.vv_io.specs.Keys.{Keys, Took, given_of}
 use Rattle.vv_io.specs.Lines.{shown_after}
 use Rattle.vv_io.specs.Shelf.{File}
 use Rattle.vv_class.specs.Class.{does_flow}
@@ -15,7 +15,9 @@ use Rattle.sys_devices.specs.Rows.{drive_at}
 use Rattle.sys_devices.specs.Stores.{StoresToDrive, is_marked, known_after}
 use Rattle.sys_live.specs.Lives.{Lives, LivesRun}
 use Rattle.sys_live.specs.Operator.{Operator}
-use Rattle.sys_live.specs.Typing.{EndsTypedRun}
+use Rattle.sys_live.specs.Typing.{EndsTypedRun, TookWell}
+use Rattle.sys_live.specs.declared.typing.Typing.{Typing}
+use Rattle.sys_live.specs.declared.typing.Typing.TheVariants.{GoesOn, Over, Broken, Lost}
 use Rattle.sys_live.specs.declared.session.Lived.{Lived}
 use Rattle.sys_objects.specs.Condition.{IsConfig}
 use Rattle.sys_objects.specs.declared.records.Config.{Config}
@@ -74,15 +76,17 @@ one_loading c drives vs ws told a b = ext_get_or [] vs ws (as_many c.volumes vs 
         first ∙ sym second
 
 -- where all was done no device failed, and the typing didn't break off
-none_failed : (failed : Option Device) (cut broken : Bool) → Done ≡ live_status failed cut broken → failed ≡ None
-none_failed (Some device) cut broken e = cc
-none_failed None cut broken e = refl
+none_failed : (failed : Option Device) (cut : Bool) (typing : Typing) → Done ≡ live_status failed cut typing → failed ≡ None
+none_failed (Some device) cut typing e = cc
+none_failed None cut typing e = refl
 
-not_broken : (failed : Option Device) (cut broken : Bool) → Done ≡ live_status failed cut broken → broken ≡ false
-not_broken (Some device) cut broken e = cc
-not_broken None true broken e = cc
-not_broken None false true e = cc
-not_broken None false false e = refl
+took_all : (failed : Option Device) (cut : Bool) (typing : Typing) (most : ℕ) (lines : List (List ℕ)) (before after : Keys) → Done ≡ live_status failed cut typing → EndsTypedRun typing most lines before after → TookWell lines before after
+took_all (Some device) cut typing most lines before after e ends = cc
+took_all None true typing most lines before after e ends = cc
+took_all None false Broken most lines before after e ends = cc
+took_all None false Lost most lines before after e ends = cc
+took_all None false GoesOn most lines before after e (took, whole, many) = took
+took_all None false Over most lines before after e (took, out, few) = took
 
 -- one run, by the lines that were taken
 record IsTyped (c : Config) (files : List File) (typed : List (List ℕ)) (o : Outside) : Type 0 where
@@ -96,7 +100,7 @@ record IsTyped (c : Config) (files : List File) (typed : List (List ℕ)) (o : O
   drives : All (λ row. (drive_at o.drives' row.drive).blocks ≡ known_after (drive_at o.drives row.drive).blocks (drive_blocks x row.drive)) c.volumes
 
 module _ (a : LiveAsked) (c : Config) (o : Outside) (p : Operator) (files : List File) (typed : List (List ℕ)) (told : o.files ≡ Some files) (has : HasConfig (Some files) a.config c) (taken : AreTaken typed p) where
-  module _ (q : PlaysLive a Done o p) (lived : Lived) (x : Input) (same : x.config ≡ q.config) (held : x.images ≡ q.images) (lives : Lives x a.rounds lived (run_outside o) p o.out q.shown) (none : lived.ran.failed ≡ None) (whole : lived.is_broken ≡ false) where
+  module _ (q : PlaysLive a Done o p) (lived : Lived) (x : Input) (same : x.config ≡ q.config) (held : x.images ≡ q.images) (lives : Lives x a.rounds lived (run_outside o) p o.out q.shown) (none : lived.ran.failed ≡ None) (took : TookWell lives.typed p.keys p.keys') where
     all : HasAllToLive (Some files) a q.config q.images
     all = has_told o files a Done p q told
 
@@ -109,9 +113,7 @@ module _ (a : LiveAsked) (c : Config) (o : Outside) (p : Operator) (files : List
         subst (λ (is : List (List ℕ)). AreImages (Some files) c.guests is) (sym held) fetched
 
     typed_are : lives.typed ≡ typed
-    typed_are =
-        let ends : EndsTypedRun false a.rounds lives.typed p.keys p.keys' = subst (λ (b : Bool). EndsTypedRun b a.rounds lives.typed p.keys p.keys') whole lives.ends in
-        taken_are typed lives.typed p taken ends.0.took
+    typed_are = taken_are typed lives.typed p taken took.took
 
     none_of : device_of (first_marked lives.makes.makes.marks) (first_marked lives.makes.makes.drive_marks) ≡ None
     none_of = sym lives.makes.makes.failed ∙ none
@@ -146,7 +148,7 @@ module _ (a : LiveAsked) (c : Config) (o : Outside) (p : Operator) (files : List
   played q = by q.result q.lives q.answers
     where
       by : (result : Result Lived PowerFault) → LivesRun q.config q.images a.rounds result (run_outside o) p o.out q.shown → AnswersLive result Done q.shown o.out' → IsTyped c files typed o
-      by (Ok lived) (x, same, held, lives) closes = is_typed q lived x same held lives (none_failed lived.ran.failed closes.cut lived.is_broken closes.is) (not_broken lived.ran.failed closes.cut lived.is_broken closes.is)
+      by (Ok lived) (x, same, held, lives) closes = is_typed q lived x same held lives (none_failed lived.ran.failed closes.cut lived.typing closes.is) (took_all lived.ran.failed closes.cut lived.typing a.rounds lives.typed p.keys p.keys' closes.is lives.ends)
       by (Err fault) down (answer, rest) = absurd (not_down fault answer)
 
   follows : FollowsLive a Done o p → IsTyped c files typed o

@@ -12,7 +12,10 @@ use Rattle.sys_guests.specs.Loads.{first_misfit}
 use Rattle.sys_devices.specs.ShownSince.{ShownSince}
 use Rattle.sys_live.specs.Lives.{LivesRun}
 use Rattle.sys_live.specs.Operator.{Operator}
+use Rattle.sys_live.specs.Typing.{EndsTypedRun}
 use Rattle.sys_live.specs.declared.session.Lived.{Lived}
+use Rattle.sys_live.specs.declared.typing.Typing.{Typing}
+use Rattle.sys_live.specs.declared.typing.Typing.TheVariants.{GoesOn, Over, Broken, Lost}
 use Rattle.sys_objects.specs.declared.errors.ConfigFault.{ConfigFault}
 use Rattle.sys_objects.specs.declared.records.Config.{Config}
 use Rattle.sys_objects.specs.declared.records.GuestRow.{GuestRow}
@@ -121,41 +124,49 @@ module _ (files : List File) (a : LiveAsked) (c d : Config) (images others : Lis
       subst (λ (k : Config). first_misfit k.guests others ≡ misfit) same_config (subst (λ (xs : List (List ℕ)). first_misfit c.guests xs ≡ misfit) same_images is)
 
 -- where no device and no sink failed, all was done, or the typing broke off
-closed : (failed : Option Device) (was_cut cut broken : Bool) (echoed bytes : List ℕ) (out shown out' : Seen) → failed ≡ None → ShownSince was_cut out shown echoed → PutsSummary was_cut cut bytes shown out' → (Rose out.faults out'.faults → ⊥) → IsLived (live_status failed cut broken)
-closed (Some device) was_cut cut broken echoed bytes out shown out' e since puts kept = cc
-closed None true cut broken echoed bytes out shown out' e since (is, same) kept = absurd (kept (subst (λ (s : Seen). Rose out.faults s.faults) (sym same) since.0))
-closed None false true broken echoed bytes out shown out' e since puts kept = absurd (kept (subst (λ (n : ℕ). Rose n out'.faults) since.0 puts.0))
-closed None false false true echoed bytes out shown out' e since puts kept = tt
-closed None false false false echoed bytes out shown out' e since puts kept = tt
+closed : (failed : Option Device) (was_cut cut : Bool) (typing : Typing) (most : ℕ) (lines : List (List ℕ)) (p : Operator) (echoed bytes : List ℕ) (out shown out' : Seen) → failed ≡ None → ShownSince was_cut out shown echoed → PutsSummary was_cut cut bytes shown out' → (Rose out.faults out'.faults → ⊥)
+    → EndsTypedRun typing most lines p.keys p.keys' → (Rose p.keys.faults p.keys'.faults → ⊥) → IsLived p (live_status failed cut typing)
+closed (Some device) was_cut cut typing most lines p echoed bytes out shown out' e since puts kept ends keys = cc
+closed None true cut typing most lines p echoed bytes out shown out' e since (is, same) kept ends keys = absurd (kept (subst (λ (s : Seen). Rose out.faults s.faults) (sym same) since.0))
+closed None false true typing most lines p echoed bytes out shown out' e since puts kept ends keys = absurd (kept (subst (λ (n : ℕ). Rose n out'.faults) since.0 puts.0))
+closed None false false GoesOn most lines p echoed bytes out shown out' e since puts kept ends keys = tt
+closed None false false Over most lines p echoed bytes out shown out' e since puts kept ends keys = tt
+closed None false false Lost most lines p echoed bytes out shown out' e since puts kept ends keys = tt
+closed None false false Broken most lines p echoed bytes out shown out' e since puts kept (inl (took, rose), low) keys = absurd (keys rose)
+closed None false false Broken most lines p echoed bytes out shown out' e since puts kept (inr (took, count), low) keys = (lines, count, took)
 
-down_lived : (fault : PowerFault) → IsServed (power_status fault) → IsLived (power_status fault)
-down_lived (faults.Image g) h = h
-down_lived (faults.VolumeSize v) h = h
-down_lived (faults.DriveIn d) h = h
-down_lived faults.NoMemory h = h
+down_lived : (p : Operator) (fault : PowerFault) → IsServed (power_status fault) → IsLived p (power_status fault)
+down_lived p (faults.Image g) h = h
+down_lived p (faults.VolumeSize v) h = h
+down_lived p (faults.DriveIn d) h = h
+down_lived p faults.NoMemory h = h
 
 -- a device that failed is told first, whether the typing broke off or not
-names_line_too : (k : ℕ) (failed : Option Device) (cut broken : Bool) → NamesLine k (status_when_done failed cut) → NamesLine k (live_status failed cut broken)
-names_line_too k (Some device) cut broken h = h
-names_line_too k None true broken h = h
-names_line_too k None false true h = h
-names_line_too k None false false h = h
+names_line_too : (k : ℕ) (failed : Option Device) (cut : Bool) (typing : Typing) → NamesLine k (status_when_done failed cut) → NamesLine k (live_status failed cut typing)
+names_line_too k (Some device) cut typing h = h
+names_line_too k None true typing h = h
+names_line_too k None false GoesOn h = h
+names_line_too k None false Over h = h
+names_line_too k None false Broken h = h
+names_line_too k None false Lost h = h
 
-names_drive_too : (d : ℕ) (failed : Option Device) (cut broken : Bool) → NamesDrive d (status_when_done failed cut) → NamesDrive d (live_status failed cut broken)
-names_drive_too d (Some device) cut broken h = h
-names_drive_too d None true broken h = h
-names_drive_too d None false true h = h
-names_drive_too d None false false h = h
+names_drive_too : (d : ℕ) (failed : Option Device) (cut : Bool) (typing : Typing) → NamesDrive d (status_when_done failed cut) → NamesDrive d (live_status failed cut typing)
+names_drive_too d (Some device) cut typing h = h
+names_drive_too d None true typing h = h
+names_drive_too d None false GoesOn h = h
+names_drive_too d None false Over h = h
+names_drive_too d None false Broken h = h
+names_drive_too d None false Lost h = h
 
 module _ (a : LiveAsked) (status : Status) (o : Outside) (p : Operator) (q : PlaysLive a status o p) where
-  lives_served : first_misfit q.config.guests q.images ≡ None → All (FitsDrive o.drives) q.config.volumes → ((d : ℕ) → HasFailed q.config.volumes o.drives o.drives' d → ⊥) → NoLineRose (run_outside o) → NoDriveRose (run_outside o) → (Rose o.out.faults o.out'.faults → ⊥) → IsLived status
-  lives_served fits drives_fit could lines drives kept = by q.result q.lives q.answers
+  lives_served : first_misfit q.config.guests q.images ≡ None → All (FitsDrive o.drives) q.config.volumes → ((d : ℕ) → HasFailed q.config.volumes o.drives o.drives' d → ⊥) → NoLineRose (run_outside o) → NoDriveRose (run_outside o) → (Rose o.out.faults o.out'.faults → ⊥) → (Rose p.keys.faults p.keys'.faults → ⊥) → IsLived p status
+  lives_served fits drives_fit could lines drives kept keys = by q.result q.lives q.answers
     where
-      by : (result : Result Lived PowerFault) → LivesRun q.config q.images a.rounds result (run_outside o) p o.out q.shown → AnswersLive result status q.shown o.out' → IsLived status
+      by : (result : Result Lived PowerFault) → LivesRun q.config q.images a.rounds result (run_outside o) p o.out q.shown → AnswersLive result status q.shown o.out' → IsLived p status
       by (Ok lived) (x, same, held, lives) closes =
           let failed : lived.ran.failed ≡ None = none_failed _ _ _ lived.ran (run_outside o) lives.makes.makes lines drives in
-          subst (λ (s : Status). IsLived s) (sym closes.is) (closed lived.ran.failed lived.is_cut closes.cut lived.is_broken lives.echoed _ o.out q.shown o.out' failed lives.shown closes.closes kept)
-      by (Err fault) (down, untyped, same) (answer, rest) = subst (λ (s : Status). IsLived s) (sym answer) (down_lived fault (down_served q.config q.images (run_outside o) fault down fits drives_fit could))
+          subst (λ (s : Status). IsLived p s) (sym closes.is) (closed lived.ran.failed lived.is_cut closes.cut lived.typing a.rounds lives.typed p lives.echoed _ o.out q.shown o.out' failed lives.shown closes.closes kept lives.ends keys)
+      by (Err fault) (down, untyped, same) (answer, rest) = subst (λ (s : Status). IsLived p s) (sym answer) (down_lived p fault (down_served q.config q.images (run_outside o) fault down fits drives_fit could))
 
   lives_image : (g : ℕ) → first_misfit q.config.guests q.images ≡ Some g → IsImageOf g status
   lives_image g first = by q.result q.lives q.answers
@@ -180,7 +191,7 @@ module _ (a : LiveAsked) (status : Status) (o : Outside) (p : Operator) (q : Pla
     where
       by : (result : Result Lived PowerFault) → LivesRun q.config q.images a.rounds result (run_outside o) p o.out q.shown → AnswersLive result status q.shown o.out' → NamesLine k status
       by (Ok lived) (x, same, held, lives) closes =
-          subst (λ (s : Status). NamesLine k s) (sym closes.is) (names_line_too k lived.ran.failed closes.cut lived.is_broken (names_line _ _ _ lived.ran (run_outside o) lives.makes.makes closes.cut k h))
+          subst (λ (s : Status). NamesLine k s) (sym closes.is) (names_line_too k lived.ran.failed closes.cut lived.typing (names_line _ _ _ lived.ran (run_outside o) lives.makes.makes closes.cut k h))
       by (Err fault) (down, untyped, same) answers = absurd (down_line_kept q.config q.images (run_outside o) fault down k h)
 
   lives_names_drive : (d : ℕ) → (drive_at o.drives d).faults < (drive_at o.drives' d).faults → NamesDrive d status
@@ -188,16 +199,16 @@ module _ (a : LiveAsked) (status : Status) (o : Outside) (p : Operator) (q : Pla
     where
       by : (result : Result Lived PowerFault) → LivesRun q.config q.images a.rounds result (run_outside o) p o.out q.shown → AnswersLive result status q.shown o.out' → NamesDrive d status
       by (Ok lived) (x, same, held, lives) closes =
-          subst (λ (s : Status). NamesDrive d s) (sym closes.is) (names_drive_too d lived.ran.failed closes.cut lived.is_broken (names_drive _ _ _ lived.ran (run_outside o) lives.makes.makes closes.cut d h))
+          subst (λ (s : Status). NamesDrive d s) (sym closes.is) (names_drive_too d lived.ran.failed closes.cut lived.typing (names_drive _ _ _ lived.ran (run_outside o) lives.makes.makes closes.cut d h))
       by (Err fault) (down, untyped, same) (answer, rest) = subst (λ (s : Status). NamesDrive d s) (sym answer) (down_names_drive q.config q.images (run_outside o) fault down d h)
 
 pub completes_live : CompletesLive
-completes_live a status o p files c images (inl (stops, silent, untyped)) told has fits drives none keys = subst (λ (s : Status). IsLived s) (sym (stops.is ∙ only_memory files a o.shelf o.shelf' none.shelf stops.stop c images (stops_told o files a stops.stop told stops.why) has)) tt
+completes_live a status o p files c images (inl (stops, silent, untyped)) told has fits drives none keys = subst (λ (s : Status). IsLived p s) (sym (stops.is ∙ only_memory files a o.shelf o.shelf' none.shelf stops.stop c images (stops_told o files a stops.stop told stops.why) has)) tt
 completes_live a status o p files c images (inr q) told has fits drives none keys =
     let all : HasAllToLive (Some files) a q.config q.images = has_told o files a status p q told in
     let misfit : first_misfit q.config.guests q.images ≡ None = misfit_told files a c q.config images q.images has all None fits in
     let fit : All (FitsDrive o.drives) q.config.volumes = subst (λ (d : Config). All (FitsDrive o.drives) d.volumes) (same_config files a c q.config images q.images has all) drives in
-    lives_served a status o p q misfit fit (readable files a.config q.config (run_outside o) all.config none.drives) none.lines none.drives none.out
+    lives_served a status o p q misfit fit (readable files a.config q.config (run_outside o) all.config none.drives) none.lines none.drives none.out keys
 
 pub tells_live_missing : TellsLiveMissing
 tells_live_missing a status o p files name (inl (stops, silent, untyped)) told next lacks none = subst (λ (s : Status). IsMissing name s) (sym stops.is) (missing_stop files a o.shelf o.shelf' none stops.stop name (stops_told o files a stops.stop told stops.why) next lacks)

@@ -1,6 +1,6 @@
 -- What follows from the answers' causes of `live`: which answer must be given, and what typing reaches. The shelf tells its
 -- files.
-use Rattle.std.specs.Prelude.{ℕ, ◌≡◌, ◌≢◌, ◌<◌, ◌≤◌, List, [], ◌∷◌, ◌++◌, None, Some, All, false, true}
+use Rattle.std.specs.Prelude.{ℕ, ◌≡◌, ◌≢◌, ◌<◌, ◌≤◌, ◌-◌, ◌^◌, List, [], ◌∷◌, ◌++◌, length, None, Some, All, false, true}
 use Rattle.vv_io.specs.Causes.{Rose}
 use Rattle.vv_io.specs.Shelf.{File, held}
 use Rattle.vv_class.specs.Class.{does_flow}
@@ -9,6 +9,7 @@ use Rattle.sys_devices.specs.Loads.{IsMisfit}
 use Rattle.sys_devices.specs.Rows.{FitsDrive, drive_at}
 use Rattle.sys_guests.specs.Loads.{first_misfit}
 use Rattle.sys_live.specs.Operator.{Operator}
+use Rattle.sys_live.specs.Typing.{TookWell}
 use Rattle.sys_objects.specs.Condition.{IsConfig}
 use Rattle.sys_objects.specs.declared.errors.ConfigFault.{ConfigFault}
 use Rattle.sys_objects.specs.declared.records.Config.{Config}
@@ -23,17 +24,21 @@ use Rattle.vvmm_files.specs.declared.status.Status.{Status}
 use Rattle.vvmm_files.specs.declared.status.Status.TheVariants.{Done, KeyFault, NoMemory}
 use Rattle.vvmm_laws.specs.Complete.{IsImageOf, IsLong, IsMissing, IsSizeOf, IsTooLong, NamesDrive, NamesLine, NoneRose, TellsRule, line_at}
 
--- all was done; or memory ran out, before anything was shown or for a line that was typed; or more lines were typed than are counted
-abbrev pub IsLived : Status → Type 0
-IsLived Done = Unit {0}
-IsLived KeyFault = Unit {0}
-IsLived NoMemory = Unit {0}
-IsLived status = ⊥
+-- as many lines were taken as are counted
+abbrev pub TakesMost : Operator → Type 0
+TakesMost p = (lines : List (List ℕ)) × (length lines ≡ 2 ^ 32 - 1) × TookWell lines p.keys p.keys'
+
+-- all was done; or memory ran out, before anything was shown or for a line that was typed; or as many lines were typed as are counted
+abbrev pub IsLived : Operator → Status → Type 0
+IsLived p Done = Unit {0}
+IsLived p KeyFault = TakesMost p
+IsLived p NoMemory = Unit {0}
+IsLived p status = ⊥
 
 -- held files that stand for a configuration and images that fit, drives that fit, and no risen count, are served
 abbrev pub CompletesLive : Type 0
 CompletesLive = (a : LiveAsked) (status : Status) (o : Outside) (p : Operator) (files : List File) (c : Config) (images : List (List ℕ)) → FollowsLive a status o p → o.files ≡ Some files → HasAllToLive (Some files) a c images
-    → first_misfit c.guests images ≡ None → All (FitsDrive o.drives) c.volumes → NoneRose o → (Rose p.keys.faults p.keys'.faults → ⊥) → IsLived status
+    → first_misfit c.guests images ≡ None → All (FitsDrive o.drives) c.volumes → NoneRose o → (Rose p.keys.faults p.keys'.faults → ⊥) → IsLived p status
 
 -- the first file that the shelf lacks is told as missing, and the first too long one as too long, where the shelf did not fail
 abbrev pub TellsLiveMissing : Type 0

@@ -1,9 +1,8 @@
 ghost use Rattle.vvmm_laws.specs.Agreed.{LivesAgree};
 ghost use Rattle.vvmm_laws.specs.Live.{ALineMoreIsAlike, CompletesLive, TellsLiveDriveFault, TellsLiveImage, TellsLiveLineFault, TellsLiveMissing, TellsLiveRule, TellsLiveSize, TellsLiveTooLong, TypingKeepsDrives, TypingKeepsLines};
 
-/// Held files that stand for a configuration and images that fit, drives that fit, and no risen count, give `Done` of `live`; or a
-/// want of memory is told, `NoMemory` before anything is shown and `KeyFault` of a line that was typed; or 4,294,967,295 lines were
-/// typed, which is `KeyFault` too.
+/// Held files that stand for a configuration and images that fit, drives that fit, and no risen count, give `Done` of `live`; or
+/// `NoMemory`; or `KeyFault`, where 4,294,967,295 lines were typed.
 pub fn live_is_complete()
     ensures { CompletesLive }
 {}

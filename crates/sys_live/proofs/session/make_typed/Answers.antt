@@ -1,5 +1,5 @@
 use Rattle.std.proofs.Common.{◌≡◌, ◌∙◌, arith, rules, subst, sym}
-use denote.Enum.Bare.{differs_false, differs_true, same_false, same_true}
+use denote.Enum.Bare.{differs_false, differs_true}
 use Rattle.sys_live.proofs.Joining.{are_events}
 use Rattle.sys_live.proofs.Making.{all_made, between_first, between_next, last_made, none_made_more}
 use Rattle.sys_script.specs.Events.{AreEvents}
@@ -20,15 +20,13 @@ make_next-is_cut-requires-in-loop-made-clause-ordered g c = subst AreEvents (sym
 
 pub returns-then-is_empty-clause-makes : goal.returns-then-is_empty-clause-makes
 returns-then-is_empty-clause-makes g c =
-    let is = sym c.eq-is_broken.ensures in
-    none_made_more c.loop-made.made _ _ c.read_round-typed.result _ _ _ _ _ _ c.loop-made.is_cut _ _ _ _ _ _ c.loop-made.screens.items _ _ c.loop-made.invariant.between c.read_round-typed.ensures.types c.args.most c.eq-is_broken.result c.as_slice-events.result.now (omega (arith, c.loop-made-test.true)) c.as_slice-events.ensures.value (sym c.is_empty.ensures ∙ c.if-is_empty.true)
-    (differs_true the_type _ _ (sym c.ne.ensures ∙ c.if-ne.true)) (λ broken. same_true the_type (search rules) _ _ (is ∙ broken)) (λ whole. same_false the_type _ _ (is ∙ whole))
+    none_made_more c.loop-made.made _ _ c.read_round-typed.result _ _ _ _ _ _ c.loop-made.is_cut _ _ _ _ _ _ c.loop-made.screens.items _ _ c.loop-made.invariant.between c.read_round-typed.ensures.types c.args.most c.as_slice-events.result.now (omega (arith, c.loop-made-test.true)) c.as_slice-events.ensures.value (sym c.is_empty.ensures ∙ c.if-is_empty.true)
+    (differs_true the_type _ _ (sym c.ne.ensures ∙ c.if-ne.true))
 
 pub returns-then-ne-clause-makes : goal.returns-then-ne-clause-makes
 returns-then-ne-clause-makes g c =
-    let is = sym c.eq-is_broken.ensures in
-    last_made c.loop-made.made _ _ c.read_round-typed.result _ _ _ _ _ _ c.loop-made.is_cut c.make_next-is_cut.result _ _ _ _ _ _ _ _ _ _ _ _ _ _ c.requires.fresh c.loop-made.invariant.between c.read_round-typed.ensures.types c.args.most c.eq-is_broken.result c.as_slice-events.result.now (omega (arith, c.loop-made-test.true)) c.as_slice-events.ensures.value c.read_round-typed.ensures.round c.make_next-is_cut.ensures.makes c.make_next-is_cut.ensures.goes_on (sym c.is_empty.ensures ∙ c.if-is_empty.false)
-    (differs_true the_type _ _ (sym c.ne.ensures ∙ c.if-ne.true)) (λ broken. same_true the_type (search rules) _ _ (is ∙ broken)) (λ whole. same_false the_type _ _ (is ∙ whole))
+    last_made c.loop-made.made _ _ c.read_round-typed.result _ _ _ _ _ _ c.loop-made.is_cut c.make_next-is_cut.result _ _ _ _ _ _ _ _ _ _ _ _ _ _ c.requires.fresh c.loop-made.invariant.between c.read_round-typed.ensures.types c.args.most c.as_slice-events.result.now (omega (arith, c.loop-made-test.true)) c.as_slice-events.ensures.value c.read_round-typed.ensures.round c.make_next-is_cut.ensures.makes c.make_next-is_cut.ensures.goes_on (sym c.is_empty.ensures ∙ c.if-is_empty.false)
+    (differs_true the_type _ _ (sym c.ne.ensures ∙ c.if-ne.true))
 
 pub loop-made-preserved : goal.loop-made-preserved
 loop-made-preserved g c = record {

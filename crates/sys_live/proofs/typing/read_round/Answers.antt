@@ -5,7 +5,7 @@ use Rattle.sys_script.specs.Typed.{refusal_message, says_event}
 use Rattle.sys_system.specs.Calls.{AreOf}
 use Rattle.sys_devices.specs.Shows.{ShowsUnlessMarked}
 use Rattle.sys_live.specs.Typing.{TypesRound}
-use Rattle.sys_live.specs.declared.typing.Typing.TheVariants.{GoesOn, Over, Broken}
+use Rattle.sys_live.specs.declared.typing.Typing.TheVariants.{GoesOn, Over, Broken, Lost}
 use Rattle.sys_live.specs.declared.typing.TypedRound.{TypedRound}
 use Rattle.sys_live.proofs.Reading.{TypesSoFar, begins, desk, empty_line, far_each, far_of, full_line, goes_on, is_counted, is_ended, is_failed, is_lost, is_over}
 use Rattle.sys_live.proofs.Words.{off_err, off_ok}
@@ -92,7 +92,7 @@ returns-then-is_err-clause-types g c =
     let errors1 = g.E.Sink.printed c.loop-lines.errors in
     let errors2 = g.E.Sink.printed c.take_line.new.errors in
     let line = c.bytes-in-loop-lines.result.now in
-    let typed : TypedRound = record { events = c.take_line.new.events; typing = Broken } in
+    let typed : TypedRound = record { events = c.take_line.new.events; typing = Lost } in
     let given : c.next.result ≡ Ok (Some line) = c.in-Ok-Some.is ∙ ap Ok (c.in-Ok-Some.field-0-is ∙ ap Some (sym c.bytes-in-loop-lines.ensures.value)) in
     let failed : is_err c.take_line.result ≡ true = sym c.is_err.ensures.value ∙ c.if-is_err.true in
     let lost : (c.take_line.new.events.items ≡ c.loop-lines.events.items) × (says_event line ≡ true) = off_err c.take_line.result failed c.take_line.ensures.err in
