@@ -62,7 +62,7 @@ def tower():
         ("sys_runs", ["`MakesRounds", "many rounds, one after another"], "sys_state", ["`rounds", "each round in the state before"]),
         ("sys_system", ["`MakesRound", "events, slices in any order, transfers"], "sys_state", ["`round", "events, turns, transfers"]),
         ("sys_guests", ["`AdvancesOne", "one slice; the other guests stay"], "sys_state", ["`alone", "a guest by itself"]),
-        ("vm_guest", ["`Advances, Pays", "a guest's steps, bytes, misses"], "vm_state", ["`after_steps", "so many steps"]),
+        ("vm_guest", ["`Advances, Pays", "a guest's steps, bytes, misses"], "vm_state", ["`after_steps", "n steps of the guest"]),
         ("vm_stepping", ["`Proceeds, Steps", "a step by the machine or the kernel"], "vm_state", ["`step", "one step of the private virtual VAX"]),
     ]
     left, right, wide, high, gap = 40, 480, 360, 58, 22
@@ -80,14 +80,14 @@ def tower():
         y += high + gap
     # two ways of a step: the machine makes it, or the kernel
     third = 174
-    for x, lines in ((left, ["vm_bursts", "`IsRun", "the machine ran"]), (left + wide - third, ["vm_emulate, vm_events", "`Emulates, MakesStep", "the kernel made it"])):
-        p.labelled(x, y, third, 66, lines, BLUE, 12)
-        p.line(x + third / 2, y - gap, x + third / 2, y, True)
+    for x, w, lines in ((left, 170, ["vm_stepping", "`IsRun", "the machine ran"]), (left + wide - 182, 182, ["vm_emulate, vm_exception", "`Emulates, MakesStep", "the kernel made it"])):
+        p.labelled(x, y, w, 66, lines, BLUE, 12)
+        p.line(x + w / 2, y - gap, x + w / 2, y, True)
     for x, lines in ((right, ["vax_table", "`instruction", "an instruction at PC"]), (right + wide - third, ["vm_state", "`sensed, interrupted", "all other steps"])):
         p.labelled(x, y, third, 66, lines, GREEN, 12)
         p.line(x + third / 2, y - gap, x + third / 2, y, True)
     bottom = y + 66 + gap
-    p.labelled(left, bottom, wide, 66, ["vm_simulation_laws, vm_miss_laws", "`IsBurst, RunsArePaid", "a run is steps of the guest, and is paid for"], BLUE, 12)
+    p.labelled(left, bottom, wide, 66, ["vm_simulation_laws", "`IsBurst, RunsArePaid", "a run is steps of the guest, and is paid for"], BLUE, 12)
     p.line(left + third / 2, y + 66, left + third / 2, bottom, True)
     low = bottom + 66 + gap
     p.labelled(left, low, third, 58, ["vm_shadow", "`StandsFor", "real tables for its own"], BLUE, 12)
@@ -289,7 +289,7 @@ def layers():
         for i, part in enumerate(words):
             p.text(32, middle + 18 * i - 9 * (len(words) - 1), part + ("," if i + 1 < len(words) else ""), 13, bold=True, room=250)
         for i, row in enumerate(rows):
-            at = 270
+            at = 288
             for crate in row:
                 wide = 7.2 * len(crate) + 14
                 p.labelled(at, y + 6 + 23 * i, wide, 20, ["`" + crate], "white", 12)
@@ -304,7 +304,7 @@ def instruction():
     p = Picture(900, 560, "An instruction's way through the machine and the kernel")
     steps = (
         (["*the instruction at PC", "does a known page have the bytes", "that spell a kept one? (vax_kept)"], "no: its bytes are found by the page tables, decoded and kept"),
-        (["*at once, by its normal form", "over known pages, on the machine's", "own registers (vax_at_once)"], "it has none, or a page isn't known: nothing has changed"),
+        (["*at once, by its normal form", "over known pages, on the machine's", "own registers (vax_cpu)"], "it has none, or a page isn't known: nothing has changed"),
         (["*by its plan over known pages", "operands, result and stores", "(vax_exec, vax_paged)"], "a page isn't known: nothing has changed"),
         (["*by its plan over the page tables", "each reference by a walk", "(vax_cpu, vax_paged)"], "it doesn't retire: registers are put back"),
     )
