@@ -1,9 +1,6 @@
-//! What is drawn from three numbers, the configuration as a text and back, and the program of the guests: as a text and back,
-//! and its first thirty instructions.
+//! What is drawn from three numbers, the configuration as a text and back, and the program of the guests as a text and back.
 #![tactic(auto)]
 
-#[cfg(test)]
-mod beginnings;
 #[cfg(test)]
 mod drawn;
 #[cfg(test)]
