@@ -1,4 +1,4 @@
-use Rattle.test_vm_random.proofs.apart.play_all.Given as goal
+use Rattle.test_vm_cost.proofs.apart.play_all.Given as goal
 use Rattle.vm_guest.specs.Kept.{IsShadowedIn}
 
 abbrev pub invariant-loop-round : goal.invariant-loop-round

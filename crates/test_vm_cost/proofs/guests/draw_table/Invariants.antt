@@ -1,4 +1,4 @@
-use Rattle.test_vm_random.proofs.guests.draw_table.Given as goal
+use Rattle.test_vm_cost.proofs.guests.draw_table.Given as goal
 use Rattle.vm_guest.specs.Kept.{IsShadowedIn}
 
 abbrev pub invariant-loop-page : goal.invariant-loop-page
