@@ -1,4 +1,7 @@
 pub mod ShownApplied
+pub mod ShownDevices
 pub mod ShownLengths
+pub mod ShownSlices
+pub mod ShownStops
 pub mod ShownTyped
 pub mod ShownWords

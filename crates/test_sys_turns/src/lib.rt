@@ -11,8 +11,6 @@ mod devices;
 #[cfg(test)]
 mod outcome;
 #[cfg(test)]
-mod playing;
-#[cfg(test)]
 mod running;
 #[cfg(test)]
 mod schedules;
@@ -22,15 +20,13 @@ mod slices;
 mod trouble;
 
 #[cfg(test)]
-pub use case::{CASE, Case, Shown};
+pub use case::Case;
 #[cfg(test)]
 pub use content::{Content, Piece};
 #[cfg(test)]
 pub use devices::play;
 #[cfg(test)]
-pub use outcome::{Difference, Ending, Kinds, Outcome};
-#[cfg(test)]
-pub use playing::new_machine;
+pub use outcome::{Ending, Outcome};
 #[cfg(test)]
 pub use running::{HOW, How};
 #[cfg(test)]

@@ -1,34 +1,14 @@
-use crate::content::{Content, block_of};
 use std::alloc::Global;
 use sys_devices::Device;
 use vm_guest::Counts;
 use vv_base::NoMemory;
 use vv_io::{Drive, Line, MemLine};
 
-/// How many steps are plain, sensitive, faults, interrupts, modify steps, idle and stopped.
-pub type Kinds = [u64; 7];
-
 /// What the system answers.
 #[derive(Drop)]
 pub struct Ending {
     pub failed: Option<Device>,
     pub counts: Counts,
-}
-
-impl Ending {
-    /// The kinds of the steps.
-    pub fn kinds(&self) -> Kinds {
-        let counts = &self.counts;
-        [
-            counts.plain,
-            counts.sensitive,
-            counts.faults,
-            counts.interrupts,
-            counts.modify,
-            counts.idle,
-            counts.stopped,
-        ]
-    }
 }
 
 /// The outcome of a run.
@@ -39,15 +19,6 @@ pub struct Outcome {
     pub shown: Vec<Vec<u8>>,
     /// By drive its blocks.
     pub kept: Vec<Vec<[u8; 512]>>,
-}
-
-/// What differs from the case: a device failed; a line or a drive, by its number; or the kinds of steps.
-#[derive(Clone, Copy, Debug, PartialEq, Eq)]
-pub enum Difference {
-    Failed(Option<Device>),
-    Line(u8),
-    Drive(u8),
-    Kinds(Kinds),
 }
 
 /// The bytes that lines show.
@@ -100,11 +71,6 @@ impl Outcome {
         }
     }
 
-    /// What a line shows, as a text.
-    pub fn text_on(&self, line: u8) -> &str {
-        str::from_utf8(self.on(line)).unwrap_or("not a text")
-    }
-
     /// The blocks of a drive.
     pub fn blocks_of(&self, drive: u8) -> &[[u8; 512]] {
         match self.kept.get(drive as usize) {
@@ -113,19 +79,10 @@ impl Outcome {
         }
     }
 
-    /// Whether a drive keeps these blocks.
-    pub fn keeps(&self, drive: u8, wanted: &[Content]) -> bool {
-        let blocks = self.blocks_of(drive);
-        blocks.len() == wanted.len()
-            && blocks
-                .iter()
-                .zip(wanted)
-                .all(|(block, content)| *block == block_of(content))
-    }
-
-    /// Whether all lines, drives and counts are those of another run.
+    /// Whether no device failed, and all lines, drives and counts are those of another run.
     pub fn is_same(&self, other: &Outcome) -> bool {
-        (0..32u8).all(|line| self.on(line) == other.on(line))
+        self.ending.failed.is_none()
+            && (0..32u8).all(|line| self.on(line) == other.on(line))
             && (0..16u8).all(|drive| self.blocks_of(drive) == other.blocks_of(drive))
             && self.ending.counts == other.ending.counts
     }

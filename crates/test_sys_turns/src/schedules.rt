@@ -1,12 +1,12 @@
-//! Slices of any guests, in any order, have the same outcome.
+//! Slices of any guests, in any order, have the same outcome. The file `any_slices.cases` of `test_vvmm_cases` has what both come to,
+//! found by hand.
 
-use crate::case::Shown::{Each, Exactly};
-use crate::case::{CASE, Case};
+use crate::case::Case;
 use crate::content::Content;
 use crate::content::Piece::{Bytes, Longs};
+use crate::devices::play;
 use crate::outcome::Outcome;
-use crate::playing::new_machine;
-use crate::running::{HOW, How};
+use crate::running::{HOW, How, PAGES};
 use crate::trouble::Trouble;
 use std::alloc::Global;
 use std::test::Fail;
@@ -16,9 +16,9 @@ use vax_cpu::Cpu;
 #[test]
 fn slices_in_any_order(rt: HostRuntime) -> Result<(), Fail> {
     let alloc = rt.alloc();
-    let mut machine = new_machine(alloc)?;
-    let (whole, difference) = ALL.played(alloc, &mut machine, &HOW)?;
-    assert_eq!(rt; difference, None);
+    let mut machine = Cpu::new(alloc, PAGES)?;
+    let whole = play(alloc, &mut machine, &ALL, &HOW)?;
+    assert_eq!(rt; whole.ending.counts.plain, 190);
     let sizes = [[1, 1, 1], [7, 7, 7], [30, 30, 30], [30, 1, 7]];
     let other = other_order(alloc, &mut machine, &ALL, &whole, &sizes)?;
     assert_eq!(rt; other, None);
@@ -29,9 +29,8 @@ fn slices_in_any_order(rt: HostRuntime) -> Result<(), Fail> {
 #[test]
 fn three_guests_count_down(rt: HostRuntime) -> Result<(), Fail> {
     let alloc = rt.alloc();
-    let mut machine = new_machine(alloc)?;
-    let (whole, difference) = COUNTING.played(alloc, &mut machine, &HOW)?;
-    assert_eq!(rt; difference, None);
+    let mut machine = Cpu::new(alloc, PAGES)?;
+    let whole = play(alloc, &mut machine, &COUNTING, &HOW)?;
     assert_eq!(rt; whole.ending.counts.trail, 0x0BB8_001B_F24C);
     let sizes = [[1, 7, 1000]];
     let order = other_order(alloc, &mut machine, &COUNTING, &whole, &sizes)?;
@@ -39,7 +38,7 @@ fn three_guests_count_down(rt: HostRuntime) -> Result<(), Fail> {
     Ok(())
 }
 
-/// Whether a case that is played so has the outcome that it states, and all counts and bytes of another run of it.
+/// Whether a case that is played so has all counts and bytes of another run of it.
 fn is_same(
     alloc: Global,
     machine: &mut Cpu,
@@ -47,8 +46,8 @@ fn is_same(
     whole: &Outcome,
     how: &How<'_>,
 ) -> Result<bool, Trouble> {
-    let (outcome, difference) = case.played(alloc, machine, how)?;
-    Ok(difference.is_none() && outcome.is_same(whole))
+    let outcome = play(alloc, machine, case, how)?;
+    Ok(outcome.is_same(whole))
 }
 
 /// Guests in an order, each with its steps in a slice at most.
@@ -116,17 +115,11 @@ const DOWN: Content = &[(0x200, Bytes(&[0xD7, 0x50, 0x11, 0xFC]))];
 
 /// Each goes 500 times through its loop, so that R0 is -500 at the end.
 const COUNTING: Case = Case {
-    name: "three guests count down",
     config: COUNTERS,
     images: &[DOWN, DOWN, DOWN],
+    drives: &[],
+    script: "",
     rounds: 1,
-    lines: &[
-        (0, Each(&["VM A\r\nR0 FFFFFE0C\r\n", "R15 00000200\r\n"])),
-        (1, Each(&["VM B\r\nR0 FFFFFE0C\r\n", "R15 00000200\r\n"])),
-        (2, Each(&["VM C\r\nR0 FFFFFE0C\r\n", "R15 00000200\r\n"])),
-    ],
-    kinds: [3000, 0, 0, 0, 0, 0, 0],
-    ..CASE
 };
 
 /// A guest of the lowest class, and two of class 1 that share a volume, with terminals, a printer, an audit and dumps.
@@ -190,7 +183,6 @@ const COPIER: Content = &[
 /// each round, and each time counts its byte, writes, prints and shows a letter: 48 plain and 72 sensitive steps. The third runs from the
 /// second round to the fifth: four sensitive steps, 52 plain ones, and 28 in which it has stopped.
 const ALL: Case = Case {
-    name: "all forms of events",
     config: SYSTEM,
     images: &[ECHO, WRITER, COPIER],
     drives: &[
@@ -226,64 +218,4 @@ const ALL: Case = Case {
 6 T0 > START A
 7 T0 > SHOW",
     rounds: 6,
-    lines: &[
-        (0, Exactly("HI\rA\rZZ\rSERVER\r\nNO SUCH OBJECT\r\nOK\r\n")),
-        (
-            1,
-            Exactly(
-                "SERVER\r\nVM A 0{};0{} RUNNING\r\nVM B 1{};0{} RUNNING\r\nVM C 1{};0{} STOPPED\r\nVOLUME V 0{};0{}\r\n\
-                 VOLUME W 1{};0{}\r\nPRINTER P 1{};0{}\r\nOK\r\nOK\r\nbbbbSERVER\r\nOK\r\nbbbb?02 00000200\r\nbbbbbbbb",
-            ),
-        ),
-        (
-            2,
-            Exactly(
-                "OK\r\nOK\r\nOK\r\ncSERVER\r\nOK\r\nCONSOLE TAKEN\r\nOK\r\nOK\r\nOK\r\nOK\r\nDENIED WRITE\r\n\
-                 DENIED EQUAL\r\nOK\r\n",
-            ),
-        ),
-        (
-            3,
-            Exactly(
-                "1{};0{} B: 4 job\r\n1{};0{} B: 4 job\r\n1{};0{} B: 4 job\r\n1{};0{} B: 4 job\r\n\
-                 1{};0{} B: 8 job\r\n1{};0{} B: 8 job\r\n1{};0{} B: 8 job\r\n1{};0{} B: 8 job\r\n\
-                 1{};0{} B: < job\r\n1{};0{} B: < job\r\n1{};0{} B: < job\r\n1{};0{} B: < job\r\n\
-                 1{};0{} B: @ job\r\n1{};0{} B: @ job\r\n1{};0{} B: @ job\r\n1{};0{} B: @ job\r\n\
-                 1{};0{} B: D job\r\n1{};0{} B: D job\r\n1{};0{} B: D job\r\n1{};0{} B: D job\r\n\
-                 1{};0{} B: H job\r\n1{};0{} B: H job\r\n1{};0{} B: H job\r\n1{};0{} B: H job\r\n",
-            ),
-        ),
-        (
-            9,
-            Exactly(
-                "1 T1 1{};0{} OK SHOW\r\n2 T2 1{};0{} OK MOUNT C 2 V READ\r\n2 T2 1{};0{} OK START C\r\n\
-                 2 T2 1{};0{} OK CONNECT C\r\n3 T1 1{};0{} OK CONNECT B\r\n4 T2 1{};0{} OK CONNECT B\r\n\
-                 4 T1 1{};0{} OK CONNECT B\r\n4 T2 1{};0{} OK DISMOUNT C 1\r\n4 T2 1{};0{} OK MOUNT C 1 W WRITE\r\n\
-                 5 T2 1{};0{} OK HALT B\r\n5 T2 1{};0{} OK START B\r\n5 T2 1{};0{} DENIED WRITE MOUNT B 3 V WRITE\r\n\
-                 5 T2 1{};0{} DENIED EQUAL HALT A\r\n6 T2 1{};0{} OK HALT C\r\n\
-                 6 T0 0{};0{} NO SUCH OBJECT HALT C\r\n6 T0 0{};0{} OK START A\r\n",
-            ),
-        ),
-        (10, Each(&["VM A\r\n", "R15 00000200\r\nPSL 041F0004\r\n"])),
-        (
-            11,
-            Each(&[
-                "VM B\r\n",
-                "R15 00000200\r\n",
-                "00001000 48 20 6A 6F 62 00 00 00 00 00 00 00 00 00 00 00\r\n",
-            ]),
-        ),
-        (
-            12,
-            Each(&[
-                "VM C\r\n",
-                "R15 00000228\r\n",
-                "00001000 38 20 6A 6F 62 00 00 00 00 00 00 00 00 00 00 00\r\n\
-                 00001200 6C 6F 77 00 00 00 00 00 00 00 00 00 00 00 00 00\r\n",
-            ]),
-        ),
-    ],
-    stored: &[(1, &[&[(0, Bytes(b"H job"))], &[(0, Bytes(b"8 job"))]])],
-    kinds: [190, 166, 0, 0, 0, 0, 28],
-    ..CASE
 };

@@ -1,5 +1,5 @@
-//! Worked examples of one guest: its clock, console, contexts, registers, packets and pending requests, the walk of its page
-//! tables, and the kernel's calls over the simulated machine.
+//! Worked examples of one guest: its clock, console and contexts, the walk of its page tables, and the kernel's calls over the
+//! simulated machine.
 #![tactic(auto)]
 
 #[cfg(test)]
@@ -10,10 +10,6 @@ mod console;
 mod events;
 #[cfg(test)]
 mod guests;
-#[cfg(test)]
-mod packets;
-#[cfg(test)]
-mod registers;
 #[cfg(test)]
 mod slots;
 #[cfg(test)]

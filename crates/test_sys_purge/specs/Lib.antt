@@ -1,3 +1,0 @@
-pub mod ShownDevices
-pub mod ShownSlices
-pub mod ShownStops
