@@ -4,6 +4,7 @@ import re
 from dataclasses import dataclass
 
 from .decoding import DISPLACEMENT, ReservedMode, check_mode
+from .script import lines_of
 from .table import OPCODE_OF, TABLE, WAIT
 from .texts import is_object_name, read_decimal
 
@@ -45,10 +46,24 @@ class Line:
 
 
 def assemble(text: bytes) -> bytes:
-    pieces = text.split(b"\n")
-    pieces = [piece.removesuffix(b"\r") for piece in pieces[:-1]] + pieces[-1:]
+    return b"".join(data for line, data in filled(text))
+
+
+def listing(text: bytes) -> bytes:
+    """Each line with its address and its bytes, and after them the names with their addresses."""
+    shown, names, address = [], [], FIRST_ADDRESS
+    for piece, (line, data) in zip(lines_of(text), filled(text)):
+        shown.append(b"%08X %-16s %s\n" % (address, data.hex().upper().encode(), piece))
+        if line.label is not None:
+            names.append(b"%08X T %s\n" % (address, line.label.encode()))
+        address += line.length
+    return b"".join(shown + names)
+
+
+def filled(text: bytes) -> list:
+    """The lines, each with its bytes."""
     lines, names, address = [], {}, FIRST_ADDRESS
-    for number, piece in enumerate(pieces, 1):
+    for number, piece in enumerate(lines_of(text), 1):
         try:
             line = read_line(number, piece.decode("latin-1"), address)
         except BadLine:
@@ -59,7 +74,7 @@ def assemble(text: bytes) -> bytes:
             names[line.label] = address
         lines.append(line)
         address += line.length
-    return b"".join(fill(line, names) for line in lines)
+    return [(line, fill(line, names)) for line in lines]
 
 
 def fill(line: Line, names: dict) -> bytes:

@@ -22,6 +22,7 @@ vvmm audit CONFIG RECORD       checks what an audit line was shown, the file REC
 vvmm flow CONFIG               shows which object's inputs may reach which object
 vvmm draw CONFIG               shows a picture of a configuration, in SVG
 vvmm asm SOURCE                assembles the file SOURCE, and shows the image's bytes
+vvmm list SOURCE               shows each line of SOURCE with its address and bytes, and the names
 vvmm dis IMAGE                 disassembles the file IMAGE, and shows the text
 vvmm --help                    prints this
 vvmm --version                 prints the version

@@ -2,7 +2,7 @@
 
 from itertools import chain
 
-from .asm import AsmRefused, assemble
+from .asm import AsmRefused, assemble, listing
 from .audit import first_bad_line
 from .classes import class_of
 from .config import Config, GuestRow, Refused, Terminal, read_config
@@ -419,12 +419,17 @@ def show_text(text_of):
     return lambda outside, name: put_out(outside, text_of(fetch_config(outside, name)).encode(), [])
 
 
-def asm(outside: Outside, name: str) -> None:
-    try:
-        image = assemble(fetch(outside, name))
-    except AsmRefused as refused:
-        raise Ended(15, "asm line %d %s" % (refused.line, refused.kind))
-    put_out(outside, image, [])
+def show_source(bytes_of):
+    """A command that shows what a source stands for."""
+
+    def command(outside: Outside, name: str) -> None:
+        try:
+            shown = bytes_of(fetch(outside, name))
+        except AsmRefused as refused:
+            raise Ended(15, "asm line %d %s" % (refused.line, refused.kind))
+        put_out(outside, shown, [])
+
+    return command
 
 
 def dis(outside: Outside, name: str) -> None:
@@ -445,6 +450,7 @@ COMMANDS = {
     "audit": ([file_word, file_word], audit),
     "flow": ([file_word], show_text(flow_report)),
     "draw": ([file_word], show_text(drawing)),
-    "asm": ([file_word], asm),
+    "asm": ([file_word], show_source(assemble)),
+    "list": ([file_word], show_source(listing)),
     "dis": ([file_word], dis),
 }

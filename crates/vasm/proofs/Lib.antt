@@ -8,3 +8,4 @@ pub mod Ranges
 pub mod ReadLines
 pub mod Steps
 pub mod WrittenLines
+pub mod Listed

@@ -83,7 +83,7 @@ no_bad_line names program number at old rest line others w cut is =
     ap (λ (o : Option SourceLine). at_line number (read_source_line w.known o) >>= λ l. before_others l (read_from (number + 1) (and_label w.known l.label) (lines others))) (sym is) ∙ ap (read_from number w.known) (sym cut) ∙ w.read in
     cc
 
-nothing : (rest : List ℕ) → true ≡ (length rest == 0) → rest ≡ []
+pub nothing : (rest : List ℕ) → true ≡ (length rest == 0) → rest ≡ []
 nothing [] is = refl
 nothing (b ∷ bs) is = grind arith
 

@@ -4,3 +4,5 @@ pub mod Labels
 pub mod Puts
 pub mod Fits
 pub mod Assembled
+pub mod Listing
+pub mod ShownListing

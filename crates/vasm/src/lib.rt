@@ -1,9 +1,10 @@
-//! The assembler: reads a text line by line, and gives its bytes.
+//! The assembler: reads a text line by line, and gives its bytes, or its listing.
 #![tactic(auto)]
 
 mod cutting;
 mod labels;
 mod line;
+mod listing;
 mod numbers;
 mod operand;
 mod parse_operand;
@@ -16,6 +17,7 @@ mod statement;
 mod text;
 
 pub use line::{Line, first_line, line_in};
+pub use listing::list;
 pub use parse_statement::{Statement, forms_of};
 pub use specifier::operand_in;
 pub use text::assemble;

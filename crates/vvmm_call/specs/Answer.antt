@@ -3,6 +3,7 @@ use Rattle.std.specs.Prelude.{ℕ, ◌≡◌, ◌⊎◌, List, [], ◌∷◌, Al
 use Rattle.vv_io.specs.Blocks.{SeenDrive}
 use Rattle.vv_io.specs.Lines.{Seen}
 use Rattle.vv_io.specs.Shelf.{File}
+use Rattle.vasm.specs.Listing.{listing_of}
 use Rattle.vasm_text.specs.Asm.{asm_of}
 use Rattle.vasm_text.specs.Dis.{dis_of}
 use Rattle.vasm_text.specs.declared.fault.AsmFault.{AsmFault}
@@ -43,7 +44,7 @@ use Rattle.vv_gen.specs.Workload.{Generated, workload_of}
 use Rattle.vvmm_files.specs.Files.{HasAll, HasAllToLive, HasAllToSave, HasBoth, HasConfig, IsRead, StopsAudit, StopsConfig, StopsFile, StopsLive, StopsResume, StopsRun, StopsSave}
 use Rattle.vvmm_files.specs.Solo.{solo_config, solo_guest}
 use Rattle.vvmm_call.specs.Summary.{check_line, summary}
-use Rattle.vvmm_files.specs.Words.{Asked, AuditAsked, LiveAsked, ResumeAsked, RunAsked, Wanted, WantsSolo, WantsTrace, WantsRun, WantsSave, WantsResume, WantsLive, WantsLoad, WantsCheck, WantsMigration, WantsAudit, WantsFlow, WantsDrawing, WantsBytes, WantsText}
+use Rattle.vvmm_files.specs.Words.{Asked, AuditAsked, LiveAsked, ResumeAsked, RunAsked, Wanted, WantsSolo, WantsTrace, WantsRun, WantsSave, WantsResume, WantsLive, WantsLoad, WantsCheck, WantsMigration, WantsAudit, WantsFlow, WantsDrawing, WantsBytes, WantsListing, WantsText}
 use Rattle.vvmm_files.specs.declared.status.Status.{Status}
 use Rattle.vvmm_files.specs.declared.status.Status.TheVariants.{Done, Words, Missing, TooLong, ShelfFault, Config as ConfigRefused, Script as ScriptRefused, Image, VolumeSize, DriveIn, Device as DeviceFault, Asm, SnapSize, Snap as SnapRefused, Audit, OutFault, KeyFault, NoMemory}
 use Rattle.vvmm_files.specs.declared.stop.Stop.{Stop}
@@ -349,4 +350,5 @@ Says (Some (WantsAudit a)) status o p = FollowsAudit a status (shelf_and_sink o)
 Says (Some (WantsFlow name)) status o p = FollowsConfig IsReport name status (shelf_and_sink o) × Apart o × Untyped p
 Says (Some (WantsDrawing name)) status o p = FollowsConfig IsDrawing name status (shelf_and_sink o) × Apart o × Untyped p
 Says (Some (WantsBytes source)) status o p = ShowsFile asm_of source status o × Untyped p
+Says (Some (WantsListing source)) status o p = ShowsFile listing_of source status o × Untyped p
 Says (Some (WantsText image)) status o p = ShowsFile (λ bytes. Ok (dis_of bytes)) image status o × Untyped p

@@ -20,7 +20,7 @@ use vv_base::{FileName, NoMemory};
 use vv_io::{Drive, Keyboard, Lines, NoProgress, Progress, Shelf, Sink};
 use vvmm_files::{
     Answer, AuditOrder, Order, Request, RunOrder, Status, asm, dis, fetch_audit, fetch_config,
-    fetch_run, parse, solo_inputs,
+    fetch_run, list, parse, solo_inputs,
 };
 
 /// `solo`: fetches the image, makes its run and tells it.
@@ -210,6 +210,10 @@ pub fn vvmm_run<H: Hardware, S: Shelf, O: Sink, K: Keyboard, E: Sink, P: Progres
         Some(Request::Draw(name)) => draw(alloc, &name, shelf, out),
         Some(Request::Asm(source)) => {
             let answer = asm(alloc, &source, shelf, out);
+            status_of(source, answer)
+        }
+        Some(Request::List(source)) => {
+            let answer = list(alloc, &source, shelf, out);
             status_of(source, answer)
         }
         Some(Request::Dis(image)) => {

@@ -5,7 +5,7 @@ use Rattle.std.specs.Option.{option_map}
 use Rattle.vv_base.specs.Digits.{decimal_of}
 use Rattle.vv_base.specs.Names.{is_file_name}
 use Rattle.vvmm_files.specs.declared.words.Request.{Request}
-use Rattle.vvmm_files.specs.declared.words.Request.TheVariants.{Solo, Trace, Run, Save, Resume, Live, Load, Check, Migrate, Audit, Flow, Draw, Asm, Dis}
+use Rattle.vvmm_files.specs.declared.words.Request.TheVariants.{Solo, Trace, Run, Save, Resume, Live, Load, Check, Migrate, Audit, Flow, Draw, Asm, List as Listing, Dis}
 
 -- `solo IMAGE STEPS`, and `trace` likewise
 pub record Asked : Type 0 where
@@ -49,6 +49,7 @@ pub data Wanted : Type 0 where
   WantsFlow : List ℕ → Wanted
   WantsDrawing : List ℕ → Wanted
   WantsBytes : List ℕ → Wanted
+  WantsListing : List ℕ → Wanted
   WantsText : List ℕ → Wanted
 
 -- the word is this command
@@ -72,6 +73,7 @@ file_wanted command file =
     else if is_word command (codes "flow") then Some (WantsFlow file)
     else if is_word command (codes "draw") then Some (WantsDrawing file)
     else if is_word command (codes "asm") then Some (WantsBytes file)
+    else if is_word command (codes "list") then Some (WantsListing file)
     else if is_word command (codes "dis") then Some (WantsText file) else None)
     else None
 
@@ -139,6 +141,7 @@ wanted_by (Audit order) = WantsAudit (record { config = order.config; recorded =
 wanted_by (Flow file) = WantsFlow file
 wanted_by (Draw file) = WantsDrawing file
 wanted_by (Asm source) = WantsBytes source
+wanted_by (Listing source) = WantsListing source
 wanted_by (Dis image) = WantsText image
 
 -- a run's files have files' names, and its number is in range

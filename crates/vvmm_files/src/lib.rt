@@ -1,4 +1,4 @@
-//! What the words of a command ask for, and the files that it needs: fetched, and read in their order; a file that is assembled or
+//! What the words of a command ask for, and the files that it needs: fetched, and read in their order; a file that is assembled, listed or
 //! disassembled; and the program's answers, with their texts and codes.
 #![tactic(auto)]
 
@@ -11,7 +11,7 @@ mod stop;
 mod words;
 
 pub use answer::{Answer, fault_text};
-pub use commands::{asm, dis};
+pub use commands::{asm, dis, list};
 pub use fetching::{
     Inputs, InputsToLive, InputsToResume, InputsToSave, Recorded, fetch_audit, fetch_config,
     fetch_run, fetch_to_live, fetch_to_resume, fetch_to_save,

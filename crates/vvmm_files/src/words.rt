@@ -71,6 +71,8 @@ pub enum Request {
     Draw(FileName),
     /// A source, assembled.
     Asm(FileName),
+    /// A source's listing.
+    List(FileName),
     /// An image, disassembled.
     Dis(FileName),
 }
@@ -205,6 +207,8 @@ fn file_request(command: &[u8], file: &[u8]) -> Option<Request>
         Some(Request::Draw(name))
     } else if command == b"asm".as_slice() {
         Some(Request::Asm(name))
+    } else if command == b"list".as_slice() {
+        Some(Request::List(name))
     } else if command == b"dis".as_slice() {
         Some(Request::Dis(name))
     } else {

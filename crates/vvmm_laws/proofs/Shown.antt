@@ -1,4 +1,4 @@
--- Which answer must be given to `check`, `migrate`, `asm` and `dis`.
+-- Which answer must be given to `check`, `migrate`, `asm`, `list` and `dis`.
 use Rattle.std.proofs.Common.{ℕ, ◌≡◌, inl, inr, List, Option, Some, None, Result, Ok, Err, refl, subst, sym, ap, ◌∙◌}
 use Rattle.vv_io.specs.Causes.{Rose}
 use Rattle.vv_io.specs.Shelf.{File, held}

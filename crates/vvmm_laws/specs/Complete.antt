@@ -207,7 +207,7 @@ TellsAuditTooLong = (a : AuditAsked) (status : Status) (o : Outside) (files : Li
 abbrev pub TellsAuditRule : Type 0
 TellsAuditRule = (a : AuditAsked) (status : Status) (o : Outside) (files : List File) (f : ConfigFault) → FollowsAudit a status (shelf_and_sink o) → o.files ≡ Some files → IsConfigRefused (Some files) a.config f → (Rose o.shelf o.shelf' → ⊥) → TellsRule f status
 
--- `asm` and `dis`: a held file within the limit that stands for bytes, and no risen count, are served; and so on
+-- `asm`, `list` and `dis`: a held file within the limit that stands for bytes, and no risen count, are served; and so on
 abbrev pub CompletesFile : Type 0
 CompletesFile = (made : List ℕ → Result (List ℕ) AsmFault) (name : List ℕ) (status : Status) (o : Outside) (files : List File) (bytes shown : List ℕ) → ShowsFile made name status o → o.files ≡ Some files → IsRead (Some files) name bytes
     → made bytes ≡ Ok shown → NoneRose o → IsServed status

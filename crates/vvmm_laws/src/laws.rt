@@ -159,7 +159,7 @@ pub fn a_broken_rule_of_an_audit_is_told()
     ensures { TellsAuditRule }
 {}
 
-/// A held file within the limit that stands for bytes or a text, and no risen count, give `Done` of `asm` and `dis`, or `NoMemory`.
+/// A held file within the limit that stands for bytes or a text, and no risen count, give `Done` of `asm`, `list` and `dis`, or `NoMemory`.
 pub fn a_file_is_shown()
     ensures { CompletesFile }
 {}

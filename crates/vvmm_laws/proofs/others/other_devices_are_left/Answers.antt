@@ -1,5 +1,5 @@
 use Rattle.std.proofs.Common.{inl, inr, Some, None}
-use Rattle.vvmm_files.specs.Words.{WantsSolo, WantsTrace, WantsRun, WantsSave, WantsResume, WantsLive, WantsLoad, WantsCheck, WantsMigration, WantsAudit, WantsFlow, WantsDrawing, WantsBytes, WantsText}
+use Rattle.vvmm_files.specs.Words.{WantsSolo, WantsTrace, WantsRun, WantsSave, WantsResume, WantsLive, WantsLoad, WantsCheck, WantsMigration, WantsAudit, WantsFlow, WantsDrawing, WantsBytes, WantsListing, WantsText}
 use Rattle.vvmm_laws.specs.Others.{LeavesOthers}
 use Rattle.vvmm_laws.proofs.others.other_devices_are_left.Goals as goal
 
@@ -21,6 +21,7 @@ leaves (Some (WantsAudit a)) status o p (follows, apart, untyped) = (apart.lines
 leaves (Some (WantsFlow name)) status o p (follows, apart, untyped) = (apart.lines, apart.drives)
 leaves (Some (WantsDrawing name)) status o p (follows, apart, untyped) = (apart.lines, apart.drives)
 leaves (Some (WantsBytes source)) status o p ((answer, is, follows, apart), untyped) = (apart.lines, apart.drives)
+leaves (Some (WantsListing source)) status o p ((answer, is, follows, apart), untyped) = (apart.lines, apart.drives)
 leaves (Some (WantsText image)) status o p ((answer, is, follows, apart), untyped) = (apart.lines, apart.drives)
 
 pub returns : goal.returns
