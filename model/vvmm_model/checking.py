@@ -158,7 +158,7 @@ def titles_of(task, only: str = ""):
 
 
 def check_definitions(root: str) -> list:
-    """The table of the definitions and the model's functions: each file and each function is there."""
+    """The table of the definitions and the model's functions: each file and each function is there, and each file that `Says` needs."""
     with open(os.path.join(root, "model/DEFINITIONS.md"), encoding="utf-8") as file:
         rows = [line.strip("|\n ").split(" | ") for line in file if line.startswith("| `")]
     results = []
@@ -166,7 +166,20 @@ def check_definitions(root: str) -> list:
         lacking = [name for name in re.findall("`([^`]+)`", files) if not os.path.exists(os.path.join(root, "crates", name))]
         lacking += [name for name in re.findall(r"`([a-z_]+\.\w[\w.]*)`", functions) if not stands(name)]
         results.append((files, ["there is no " + name for name in lacking]))
+    listed = {name for files, _, _ in rows for name in re.findall("`([^`]+)`", files)}
+    results += [(name, ["no row has it"]) for name in needed_by(root, "vvmm_call/specs/Answer.antt") if name not in listed]
     return results
+
+
+def needed_by(root: str, name: str) -> list:
+    """The files of definitions that a file needs, and itself: those that it imports, and so on."""
+    needed = [name]
+    for one in needed:
+        with open(os.path.join(root, "crates", one), encoding="utf-8") as file:
+            found = re.findall(r"^use Rattle\.(\w+)\.specs\.(\w+)", file.read(), re.M)
+        imported = [f"{crate}/specs/{part}.antt" for crate, part in found]
+        needed += [file for file in dict.fromkeys(imported) if file not in needed and os.path.exists(os.path.join(root, "crates", file))]
+    return needed
 
 
 def stands(name: str) -> bool:
