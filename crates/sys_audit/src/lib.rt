@@ -1,4 +1,4 @@
-//! The audit of commands.
+//! The text of an audit record.
 #![tactic(auto)]
 
 mod audit;

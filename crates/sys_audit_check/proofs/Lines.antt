@@ -95,7 +95,7 @@ line_at (b ∷ body) rest all =
     let more = line_at body rest all.1 in
     (rw other (ap (λ xs. b ∷ xs) more.0), rw other more.1)
 
--- what follows so many lines
+-- what follows the first n lines
 abbrev pub after_lines : ℕ → List ℕ → List ℕ
 after_lines zero bytes = bytes
 after_lines (suc n) bytes = after_lines n (after_first_line bytes)

@@ -1,4 +1,4 @@
--- Of the server's state the mounts of the configuration's guests alone tell what is answered.
+-- Of the server's state the mounts of the configuration's guests alone decide what is answered.
 use Rattle.std.proofs.Common.{◌≡◌, ℕ, ◌<◌, List, [], ◌∷◌, ◌++◌, length, take, refl, sym, ◌∙◌, ap, Option, Some, None, slice_get, slice_set, slice_index_or, Bool, true, false, cond, not, ◌&&◌, subst}
 use Rattle.std.proofs.Math.Seq.{take-set-lt}
 use Rattle.std.proofs.lemmas.List.{get_or-take}

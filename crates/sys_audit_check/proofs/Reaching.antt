@@ -62,7 +62,7 @@ module _ (c : Config) (is : IsConfig c) where
   refused : (replay : Replay) (line bytes : List ℕ) → first_line bytes ≡ line → 0 < length bytes → followed c replay line ≡ None → AuditedFrom c replay.server replay.round bytes → ⊥
   refused replay line bytes cut some none all = refused_entries replay line bytes cut some none all.entries all.each all.order all.is
 
--- so many lines of the bytes were followed, to a replay, and this is the rest
+-- `line` lines of the bytes were followed, to a replay, and this is the rest
 pub record Reached (c : Config) (bytes : List ℕ) (line : ℕ) (replay : Replay) (rest : List ℕ) : Type 0 where
   pub rest_is : rest ≡ after_lines line bytes
   pub from : 1 ≤ replay.round

@@ -32,8 +32,8 @@ IsGranted BadCommand = ⊥
 IsGranted NoSuchObject = ⊥
 IsGranted (Denied rule) = ⊥
 
--- where an audit goes on, after the records of some commands, with a record that says OK, the server grants that command in
--- the state that they leave; a record that says OK is the same for each command that is granted
+-- Where an audit goes on, after the records of some commands, with a record that says OK, the server grants that command in the
+-- state that they leave. A record that says OK is the same for each command that is granted.
 abbrev pub OkIsGranted : Type 0
 OkIsGranted = (c : Config) (before : List Entry) (e : Entry) (t : Terminal) (command : Command) (rest : List ℕ)
     → IsConfig c → All (IsEntry c) before → IsEntry c e → slice_get c.terminals e.terminal ≡ Some t
@@ -44,6 +44,6 @@ OkIsGranted = (c : Config) (before : List Entry) (e : Entry) (t : Terminal) (com
 abbrev pub SameMounts : Config → ServerState → ServerState → Type 0
 SameMounts c s t = (g unit : ℕ) → g < length c.guests → mount_at s g unit ≡ mount_at t g unit
 
--- of the server's state that alone tells what it answers
+-- of the server's state that alone decides what it answers
 abbrev pub MountsTell : Type 0
 MountsTell = (c : Config) (s t : ServerState) (n : ℕ) (text : List ℕ) → SameMounts c s t → verdict_of c s n text ≡ verdict_of c t n text

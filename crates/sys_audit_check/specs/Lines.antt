@@ -15,7 +15,7 @@ abbrev pub after_first_line : List ℕ → List ℕ
 after_first_line [] = []
 after_first_line (b ∷ bytes) = if b == 10 then bytes else after_first_line bytes
 
--- the bytes through the end of so many lines
+-- the bytes through the end of the first n lines
 abbrev pub through : ℕ → List ℕ → List ℕ
 through zero bytes = []
 through (suc n) bytes = first_line bytes ++ through n (after_first_line bytes)

@@ -1,6 +1,6 @@
 -- A line as the record of a command, by a reading that computes. The round and the terminal's name have no blank (32), the
--- terminal tells the class, and a reply's first letter tells its length: so a line can be cut in one way alone. What was
--- read is compared with the line as a whole.
+-- terminal gives the class, and a reply's first letter gives its length: so a line can be cut in one way alone. What was read is
+-- compared with the line as a whole.
 use Rattle.std.specs.Prelude.{ℕ, ◌+◌, ◌-◌, ◌==◌, ◌&&◌, nat_le, bytes_eq, if◌then◌else◌, List, [], ◌∷◌, length, take, drop, position, Option, Some, None, slice_get}
 use Rattle.vv_base.specs.Digits.{decimal_of}
 use Rattle.vv_class.specs.Text.{class_text}

@@ -15,7 +15,7 @@ pub fn what_says_ok_is_granted()
     ensures { OkIsGranted }
 {}
 
-/// Of the server's state the mounts alone tell what it answers.
+/// Of the server's state the mounts alone decide what it answers.
 pub fn mounts_alone_tell()
     ensures { MountsTell }
 {}

@@ -41,7 +41,7 @@ fn cut(text: &[u8]) -> (&[u8], &[u8])
     }
 }
 
-/// What follows the first so many bytes.
+/// What follows the first `count` bytes.
 fn later(bytes: &[u8], count: usize) -> &[u8]
     ensures { result.now ≡ drop count bytes.now }
 {

@@ -1,4 +1,4 @@
--- A configuration that is accepted meets the condition.
+-- A configuration that is accepted satisfies the condition.
 use Rattle.std.proofs.Common.{◌≡◌, ◌≤◌, ℕ, ℤ, Bool, true, false, ◌&&◌, nat_le, List, [], length, codes, if◌then◌else◌, Option, Some, None, Result, Ok, Err, option_map, IfSome, IfOk, All, get_or, refl, arith, ◌+◌}
 use Rattle.std.proofs.lemmas.Bool.{leb-true}
 use Rattle.toml.specs.Data.{Data, Items, Members, get_member, as_array}

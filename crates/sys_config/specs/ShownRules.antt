@@ -63,8 +63,8 @@ rule_10_before_11 : config_of (codes "version = 2\nslice = 3\n[[terminal]]\nname
 unfolding toml_on_literals is_utf8 chars audit_row_in named_line_of scan.class_of scan.step_of scan.start_of scan.more_level top_of top_of_one top_of_two tables_at numbers_of rows_of validated config_in config_of
 rule_10_before_11 = refl
 
--- a configuration that keeps the rules 11 to 18, in which a printer, a volume more, a terminal's class, a guest and the
--- audit's class are open
+-- a configuration that keeps the rules 11 to 18, in which a printer, one more volume, a terminal's class, a guest and the audit's
+-- class are open
 abbrev level : ℕ → AccessClass
 level n = record { secrecy = n; secrecy_cats = 0; integrity = 0; integrity_cats = 0 }
 

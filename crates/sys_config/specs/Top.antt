@@ -58,7 +58,7 @@ abbrev pub count_of : Items → ℕ
 count_of no_items = 0
 count_of (item d ds) = suc (count_of ds)
 
--- an array of at most so many tables
+-- an array of at most `most` tables
 abbrev pub tables_in : ℕ → Data → Option Items
 tables_in most d = as_array d >>= (λ ds. if are_tables ds && nat_le (count_of ds) most then Some ds else None)
 

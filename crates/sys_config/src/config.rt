@@ -93,7 +93,7 @@ fn document(alloc: Global, b: &[u8]) -> Result<Table, ConfigError>
     }
 }
 
-/// Reads a configuration: what `config_of` says of the bytes, or want of memory.
+/// Reads a configuration: what `config_of` says of the bytes, or that memory ran out.
 ///
 /// A `Fault` names the least rule that the bytes break, and the first place at which they break it.
 #[tactic(auto, unfolding(crate::specs::Config::config_of))]
@@ -105,7 +105,7 @@ pub fn read_config(alloc: Global, b: &[u8]) -> Result<Config, ConfigError>
     of_table(alloc, &table)
 }
 
-/// A configuration that a text stands for meets the condition on configurations.
+/// A configuration that a text stands for satisfies the condition on configurations.
 pub fn config_laws()
     ensures { (b : List ℕ) (c : Config) → config_of b ≡ Ok c → IsConfig c }
 {}

@@ -1,4 +1,4 @@
-//! The configuration: its text, and what the text stands for.
+//! Reads a configuration's text by the rules 0 to 10, and writes it in version 2.
 #![tactic(auto)]
 
 mod config;

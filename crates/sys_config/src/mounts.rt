@@ -42,7 +42,7 @@ fn mount(table: &Table, volumes: &[VolumeRow]) -> Option<UnitMount>
     })
 }
 
-/// The units with a mount more; `None` where its unit is taken.
+/// The units with one more mount; `None` where its unit is taken.
 fn placed(units: [Option<Mount>; 4], m: &UnitMount) -> Option<[Option<Mount>; 4]>
     requires { m.now.unit ≤ 3 }
     ensures { result ≡ mounted_at_unit units m.now }

@@ -89,7 +89,7 @@ fn tables_in(value: &Value, most: usize) -> Option<&Array>
     }
 }
 
-/// The tables of a list, at most so many; none where the key is absent.
+/// The tables of a list, at most `most`; none where the key is absent.
 #[tactic(auto, unfolding(crate::specs::Top::tables_at))]
 pub fn tables_at<'a>(table: &'a Table, key: &str, most: usize) -> Option<&'a [Value]>
     ensures value { option_map (λ v. items_view v.now) result ≡ tables_at key.now most (table_view table.now) }

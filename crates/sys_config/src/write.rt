@@ -340,7 +340,7 @@ fn is_text(text: &String)
     let _bytes = text.as_str();
 }
 
-/// A text of version 2 that stands for the configuration. Want of memory is its only error.
+/// A text of version 2 that stands for the configuration. It fails only where memory runs out.
 #[tactic(auto, using(crate::proofs::Shallow::is_dateless))]
 pub fn migrate_text(alloc: Global, c: &Config) -> Result<Vec<u8>, NoMemory>
     requires { IsConfig c.now }

@@ -13,7 +13,7 @@ use Rattle.sys_objects.specs.declared.records.VolumeRow.{VolumeRow}
 use Rattle.sys_store.specs.Blocks.{blocks_of}
 use Rattle.vv_io.specs.Blocks.{SeenDrive}
 
--- So many volumes are loaded.
+-- n volumes are loaded.
 pub record AreLoadedTo (n : ℕ) (rows : List VolumeRow) (drives : List SeenDrive) (volumes : List (List (List ℕ))) : Type 0 where
   pub sizes : FitRows rows volumes
   pub fit : All (FitsDrive drives) (take n rows)

@@ -14,7 +14,7 @@ inside f items k h = let long : length (map f items) ≡ length items = length-m
 pub as_few : {D V : Type 0} (f : D → V) (items : List D) (n : ℕ) → n ≤ length items → n ≤ length (map f items)
 as_few f items n few = let long : length (map f items) ≡ length items = length-map items f in omega (arith, few, long)
 
--- a first fault among so many is one among more
+-- a first fault among n is one among more
 among : {V : Type 0} (n m : ℕ) (none : V) (faults : V → ℕ) (start now : List V) (failed : Option ℕ) → n ≤ m → FailedFirst n none faults start now failed → FailedFirst m none faults start now failed
 among n m none faults start now None few all = all
 among n m none faults start now (Some k) few (low, rose, before) = (omega (arith, low, few), rose, before)

@@ -10,7 +10,7 @@ use Rattle.sys_devices.proofs.Parts.{IsPart, IsShown, part_begins, part_goes_on,
 abbrev pub IsSeen : List Seen → Screen → Type 0
 IsSeen lines screen = IsLineKnown (slice_index_or lines screen.line unseen) → new_on lines screen ≡ []
 
--- Of some screens so many were looked at.
+-- Of some screens the first `count` were looked at.
 pub record AreLooked (lines : List Seen) (first screens : List Screen) (count : ℕ) (start out : Seen) : Type 0 where
   pub same : AreSameScreens first screens
   pub left : drop count screens ≡ drop count first

@@ -8,18 +8,18 @@ use Rattle.sys_devices.specs.Rows.{drive_at}
 use Rattle.sys_store.specs.Blocks.{LacksBlock, blocks_of, with_block}
 use Rattle.vv_io.specs.Blocks.{AreSoMany, GetsFrom, IsSized, ReadsBlock, SeenDrive, unkept}
 
--- the first blocks are a drive's, where it tells them
+-- the first blocks are a drive's, where they are known
 abbrev pub AreFirst : ℕ → Option (List (List ℕ)) → List (List ℕ) → Type 0
 AreFirst n None blocks = Unit {0}
 AreFirst n (Some told) blocks = take n blocks ≡ take n told
 
--- So many blocks of a drive are read into the volume at a place.
+-- n blocks of a drive are read into the volume at a place.
 pub record IsReadTo (n : ℕ) (volumes volumes' : List (List (List ℕ))) (v : ℕ) (drive : SeenDrive) : Type 0 where
   pub others : volumes' ≡ slice_set volumes v (blocks_of volumes' v)
   pub size : length (blocks_of volumes' v) ≡ drive.size
   pub told : AreFirst n drive.blocks (blocks_of volumes' v)
 
--- the bytes are those of a block, where it is told
+-- the bytes are those of a block, where it is known
 abbrev pub Gives : Option (List (List ℕ)) → ℕ → List ℕ → Type 0
 Gives None block bytes = Unit {0}
 Gives (Some told) block bytes = bytes ≡ slice_index_or told block []

@@ -1,4 +1,4 @@
--- What is read back of a line that is told, piece by piece.
+-- What is read back of a line that is known, piece by piece.
 use Rattle.std.proofs.Common.{ℕ, ◌≡◌, ◌+◌, ◌-◌, ◌<◌, ◌≤◌, ◌^◌, List, ◌++◌, length, take, drop, min, slice_index_or, sym, ◌∙◌, ap, subst, arith, take-append-drop, Bool, Option}
 use Rattle.std.proofs.lemmas.List.{drop_all, drop_min, drop-drop, length-take, length-drop, nil_from_length}
 use Rattle.vv_io.specs.Lines.{Counts, ReadsBack, Seen, unseen}
@@ -6,7 +6,7 @@ use Rattle.sys_devices.specs.Pieces.{begun_after, echo_bytes, end_if}
 use Rattle.sys_devices.specs.Screens.{IsLineKnown, shown_if_known}
 use Rattle.sys_devices.proofs.Endings.{ending, ending_then}
 
--- all of what a told line has shown is counted
+-- all of what a known line has shown is counted
 counted : (line : Seen) (count : ℕ) → IsLineKnown line → Counts line.shown count → count ≡ length (shown_if_known line.shown)
 counted line count told counts =
     let is : count ≡ min (length told.0) (2 ^ 64 - 1) = subst (λ (s : Option (List ℕ)). Counts s count) told.1 counts in

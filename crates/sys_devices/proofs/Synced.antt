@@ -10,7 +10,7 @@ both : {P : Type 0} (b : Bool) → (b ≡ true → P) → (b ≡ false → P) �
 both true f g = f refl
 both false f g = g refl
 
--- So many are synced, and the others are as at the start.
+-- n are synced, and the others are as at the start.
 pub record AreSynced {V : Type 0} (none : V) (faults : V → ℕ) (IsStill : V → V → Type 0) (n : ℕ) (start now : List V) (failed : Option ℕ) : Type 0 where
   pub rest : (j : ℕ) → n ≤ j → slice_index_or now j none ≡ slice_index_or start j none
   pub still : (j : ℕ) → IsStill (slice_index_or start j none) (slice_index_or now j none)
@@ -25,7 +25,7 @@ pub record IsOne {V : Type 0} (none : V) (faults : V → ℕ) (IsStill : V → V
   pub same : fails ≡ false → new ≡ slice_index_or now n none
   pub rose : fails ≡ true → Rose (faults (slice_index_or now n none)) (faults new)
 
--- a first fault among so many is one among one more
+-- a first fault among n is one among one more
 one_more : {V : Type 0} (none : V) (faults : V → ℕ) (n : ℕ) (start now : List V) (failed : Option ℕ) → FailedFirst n none faults start now failed → FailedFirst (n + 1) none faults start now failed
 one_more none faults n start now None all = all
 one_more none faults n start now (Some k) (low, rose, before) = (omega (arith, low), rose, before)

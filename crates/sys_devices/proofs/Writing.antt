@@ -11,12 +11,12 @@ use Rattle.sys_store.specs.Blocks.{HasBlock, LacksBlock, blocks_of}
 use Rattle.vv_io.specs.Blocks.{AreSoMany, IsAsLong, IsSized, SeenDrive, SetsOn, drive_with_block, unkept}
 use Rattle.vv_io.specs.Causes.{Rose}
 
--- so many blocks in place of those that are told
+-- n blocks in place of the known ones
 abbrev pub told_to : ℕ → Option (List (List ℕ)) → List (List ℕ) → Option (List (List ℕ))
 told_to n None blocks = None
 told_to n (Some old) blocks = Some (take n blocks ++ drop n old)
 
--- a drive to which so many blocks are stored
+-- a drive to which n blocks are stored
 abbrev pub stored_to : ℕ → SeenDrive → List (List ℕ) → SeenDrive
 stored_to n drive blocks = record drive { blocks = told_to n drive.blocks blocks }
 
@@ -51,7 +51,7 @@ one_more n (Some old) blocks bytes h read =
     let at : take n blocks ++ bytes ∷ rest ≡ take (n + 1) blocks ++ rest = sym (append_assoc (take n blocks) (bytes ∷ []) rest) ∙ ap (λ xs. xs ++ rest) (sym first) in
     ap Some at
 
--- What one set makes of a drive to which so many blocks are stored.
+-- What one set makes of a drive to which n blocks are stored.
 pub record IsSet {U E : Type 0} (n k : ℕ) (start now after : List SeenDrive) (blocks : List (List ℕ)) (bytes : List ℕ) (r : Result U E) : Type 0 where
   pub there : k < length start
   pub within : n < length blocks

@@ -12,12 +12,12 @@ use Rattle.sys_store.specs.Blocks.{blocks_of}
 use Rattle.vv_io.specs.Blocks.{SeenDrive}
 use Rattle.vv_io.specs.Causes.{Rose}
 
--- these are a drive's blocks, where it tells them
+-- these are a drive's blocks, where they are known
 abbrev pub AreDriveBlocks : Option (List (List ℕ)) → List (List ℕ) → Type 0
 AreDriveBlocks None blocks = Unit {0}
 AreDriveBlocks (Some told) blocks = blocks ≡ told
 
--- Each volume has as many blocks as its row and its drive, and those that the drive tells.
+-- Each volume has as many blocks as its row and its drive, and the drive's blocks, where they are known.
 pub record AreLoaded (rows : List VolumeRow) (drives : List SeenDrive) (volumes : List (List (List ℕ))) : Type 0 where
   pub sizes : FitRows rows volumes
   pub fit : All (FitsDrive drives) rows
@@ -50,14 +50,15 @@ pub record HasFailed (rows : List VolumeRow) (drives drives' : List SeenDrive) (
   pub fit : All (FitsDrive drives) (take (place + 1) rows)
   pub rose : OnlyRose drives drives' d
 
--- where no drive failed, every drive is as before
+-- the answer to reading the volumes; where no drive failed, every drive is as before
 abbrev pub Loads : List VolumeRow → List SeenDrive → List SeenDrive → Result (List (List (List ℕ))) LoadFault → Type 0
 Loads rows drives drives' (Ok volumes) = AreLoaded rows drives volumes × (drives' ≡ drives)
 Loads rows drives drives' (Err (VolumeSize v)) = IsMisfit rows drives v × (drives' ≡ drives)
 Loads rows drives drives' (Err (DriveIn d)) = HasFailed rows drives drives' d
 Loads rows drives drives' (Err NoMemory) = drives' ≡ drives
 
--- The volume at a place has so many blocks as the drive, and those that it tells; every other volume is as before.
+-- The volume at a place has as many blocks as the drive, and the drive's blocks where they are known; every other volume is as
+-- before.
 pub record HasDriveBlocks (volumes volumes' : List (List (List ℕ))) (v : ℕ) (drive : SeenDrive) : Type 0 where
   pub others : volumes' ≡ slice_set volumes v (blocks_of volumes' v)
   pub size : length (blocks_of volumes' v) ≡ drive.size

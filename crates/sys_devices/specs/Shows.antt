@@ -4,13 +4,13 @@ use Rattle.vv_io.specs.Lines.{Seen, unseen}
 use Rattle.sys_devices.specs.ShownSince.{ShownSince}
 use Rattle.sys_state.specs.Places.{is_at}
 
--- A marked line is put no more, and stays marked. An unmarked one shows all the bytes, or is marked now: it shows a
--- front of them, and its count rose.
+-- A marked line is as before, and stays marked. An unmarked one shows all the bytes, or is marked now: it shows a front of them,
+-- and its count rose.
 abbrev pub ShowsUnlessMarked : (marked marked' : Bool) → Seen → Seen → List ℕ → Type 0
 ShowsUnlessMarked true marked' line line' bytes = (marked' ≡ true) × (line' ≡ line)
 ShowsUnlessMarked false marked' line line' bytes = ShownSince marked' line line' bytes
 
--- Each line gets its bytes; one that gets none is as before, and so is its mark.
+-- Each unmarked line gets its bytes, or a front of them and a mark. One that gets none is as before, and so is its mark.
 pub record Shows (marks marks' : List Bool) (lines lines' : List Seen) (bytes : ℕ → List ℕ) : Type 0 where
   pub line : (k : ℕ) → ShowsUnlessMarked (slice_index_or marks k false) (slice_index_or marks' k false) (slice_index_or lines k unseen) (slice_index_or lines' k unseen) (bytes k)
   pub others : (k : ℕ) → bytes k ≡ [] → (slice_index_or marks' k false ≡ slice_index_or marks k false) × (slice_index_or lines' k unseen ≡ slice_index_or lines k unseen)

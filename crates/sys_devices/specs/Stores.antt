@@ -8,12 +8,12 @@ use Rattle.sys_store.specs.Blocks.{blocks_of}
 use Rattle.vv_io.specs.Blocks.{IsAsLong, SeenDrive}
 use Rattle.vv_io.specs.Causes.{Rose}
 
--- these blocks in place of those that are told
+-- these blocks in place of the known ones
 abbrev pub known_after : Option (List (List ℕ)) → List (List ℕ) → Option (List (List ℕ))
 known_after None blocks = None
 known_after (Some old) blocks = Some blocks
 
--- the blocks before the k-th in place of those that are told, something for it, and the told ones after it
+-- the blocks before the k-th in place of the known ones, any bytes for the k-th, and the known blocks after it
 abbrev pub known_until : Option (List (List ℕ)) → List (List ℕ) → ℕ → List ℕ → Option (List (List ℕ))
 known_until None blocks k any = None
 known_until (Some old) blocks k any = Some (take k blocks ++ any ∷ drop (k + 1) old)

@@ -14,8 +14,8 @@ pub record IsStillDrive (before after : SeenDrive) : Type 0 where
   pub stays : after ≡ record before { faults = after.faults }
   pub later : before.faults ≤ after.faults
 
--- Which of so many failed first: where none did, every one is as before; otherwise its count rose, and those in front of it are
--- as before.
+-- Which of the first n failed first: where none did, every one is as before; otherwise its count rose, and those in front of it
+-- are as before.
 abbrev pub FailedFirst : {V : Type 0} → ℕ → V → (V → ℕ) → List V → List V → Option ℕ → Type 0
 FailedFirst n none faults before after None = (j : ℕ) → slice_index_or after j none ≡ slice_index_or before j none
 FailedFirst n none faults before after (Some k) = (k < n) × Rose (faults (slice_index_or before k none)) (faults (slice_index_or after k none)) × ((j : ℕ) → j < k → slice_index_or after j none ≡ slice_index_or before j none)
@@ -30,7 +30,7 @@ pub record SyncsDrives (before after : List SeenDrive) (failed : Option ℕ) : T
   pub still : (j : ℕ) → IsStillDrive (slice_index_or before j unkept) (slice_index_or after j unkept)
   pub first : FailedFirst (length before) unkept (λ drive. drive.faults) before after failed
 
--- the first that failed, when it is known of one more
+-- the first that failed, after the sync of the k-th
 abbrev pub first_fault : Option ℕ → ℕ → Bool → Option ℕ
 first_fault (Some first) k fails = Some first
 first_fault None k true = Some k

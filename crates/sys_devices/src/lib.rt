@@ -1,5 +1,5 @@
-//! The devices of the outside: the 32 lines, what they are shown, and which of them have failed; the 16 drives, and how volumes are
-//! loaded from them and stored to them; the operator's screen, which shows what lines got; the sync of all devices.
+//! The lines and drives: marks of failed ones, volumes, the operator's screen, the sync. There are 32 lines and 16 drives.
+//! Volumes are loaded from drives and stored to them; the operator's screen shows what lines got.
 #![tactic(auto)]
 
 mod device;

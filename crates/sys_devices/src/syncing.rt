@@ -3,7 +3,7 @@ ghost use Rattle.sys_devices.specs.Syncing.{SyncsDrives, SyncsLines, first_fault
 
 use vv_io::{Drive, Lines, sync_drive};
 
-/// The first that failed, when it is known of one more.
+/// The first that failed, after the sync of one more.
 fn first_fault(failed: Option<u8>, k: u8, fails: bool) -> Option<u8>
     ensures { result ≡ first_fault failed k fails }
 {
@@ -14,7 +14,7 @@ fn first_fault(failed: Option<u8>, k: u8, fails: bool) -> Option<u8>
     }
 }
 
-/// Syncs the lines, and tells the first that fails.
+/// Syncs the lines, and answers the first that fails.
 pub fn sync_lines<L: Lines>(lines: &mut L) -> Option<u8>
     ensures { SyncsLines (L.lines lines.old) (L.lines lines.new) result }
 {
@@ -26,7 +26,7 @@ pub fn sync_lines<L: Lines>(lines: &mut L) -> Option<u8>
     failed
 }
 
-/// Syncs the drives, of which there are at most 16, and tells the first that fails.
+/// Syncs the drives, of which there are at most 16, and answers the first that fails.
 pub fn sync_drives(drives: &mut Vec<Box<dyn Drive>>) -> Option<u8>
     ensures syncs { SyncsDrives (map (λ d. kept d) drives.old.items) (map (λ d. kept d) drives.new.items) result }
     ensures len { vec_len drives.new ≡ vec_len drives.old }

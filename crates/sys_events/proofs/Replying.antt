@@ -41,7 +41,7 @@ taken_past c o k e past = ap (taken_puts c) e ∙ ap taken_notice (get_past c.te
 pub taken_there : (c : Config) (o : Option ℕ) (k : ℕ) (t : Terminal) → o ≡ Some k → slice_get c.terminals k ≡ Some t → said_on t.line taken_text ∷ [] ≡ taken_puts c o
 taken_there c o k t e is = sym (ap (taken_puts c) e ∙ ap taken_notice is)
 
--- a reply, and then what another terminal is told
+-- a reply, and then the notice at another terminal
 pub answered : (a b c : List Bool) (l m n : List Seen) (config : Config) (place : ℕ) (t : Terminal) (v : Verdict) (taken : Option ℕ) (text : List ℕ) → slice_get config.terminals place ≡ Some t → text ≡ reply_of v
     → Shows a b l m (λ k. bytes_on k (said_on t.line text ∷ [])) → Shows b c m n (λ k. bytes_on k (taken_puts config taken)) → Shows a c l n (λ k. bytes_on k (answers config (slice_get config.terminals place) v taken))
 answered a b c l m n config place t v taken text is same first second =

@@ -26,7 +26,7 @@ use Rattle.vm_guest.specs.Kept.{Kept}
 use Rattle.vm_state.specs.State.{Guest}
 use Rattle.vm_state.specs.Touches.{Touching}
 
--- nothing is told to any guest's tables
+-- no guest's tables switch
 pub none_told : (ks : List Kept) → KeepsAll (λ ts. ts) ks ks
 none_told ks ts all = all
 

@@ -34,7 +34,7 @@ abbrev pub show_lines : Config → List Kept → Option Terminal → List Put
 show_lines c ks None = []
 show_lines c ks (Some t) = puts_on t.line (shown_lines c (record { at = []; mounts = []; running = map runs ks }) t.class)
 
--- the reply at a terminal, and what another is told
+-- the reply at a terminal, and the notice at the one whose console was taken
 abbrev pub answers : Config → Option Terminal → Verdict → Option ℕ → List Put
 answers c None v taken = []
 answers c (Some t) v taken = said_on t.line (reply_of v) ∷ taken_puts c taken

@@ -23,7 +23,7 @@ pub fn say<L: Lines>(marks: &mut Marks, lines: &mut L, line: u8, text: &[u8])
     show_whole(marks, lines, line, text.bytes());
 }
 
-/// Tells a terminal whose console was taken, if one was.
+/// Puts a notice at a terminal whose console was taken, if one was.
 fn tell_taken<L: Lines>(marks: &mut Marks, lines: &mut L, config: &Config, taken: Option<u8>)
     requires { All IsTerminal config.now.terminals }
     ensures { Shows marks.old marks.new (L.lines lines.old) (L.lines lines.new) (λ k. bytes_on k (taken_puts config.now taken)) }
@@ -37,7 +37,7 @@ fn tell_taken<L: Lines>(marks: &mut Marks, lines: &mut L, config: &Config, taken
     }
 }
 
-/// Puts the reply to a command at the terminal of a place, and tells the other terminal whose console was taken.
+/// Puts the reply to a command at the terminal of a place, and a notice at the other terminal whose console was taken.
 pub fn answer<L: Lines>(
     marks: &mut Marks,
     lines: &mut L,

@@ -1,5 +1,5 @@
 -- The picture of a configuration as an SVG document: a box for each object, and an arrow for each edge. Names, classes and
--- numbers have no character that XML would want escaped.
+-- numbers have no character that XML would need escaped.
 use Rattle.std.specs.Prelude.{ℕ, ◌+◌, ◌-◌, ◌*◌, nat_lt, List, [], ◌∷◌, ◌++◌, map, filter, codes, decimal, slice_get, unwrap_or, if◌then◌else◌}
 use Rattle.std.specs.List.{flat_map}
 use Rattle.std.specs.Option.{option_map_or}

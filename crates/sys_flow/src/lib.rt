@@ -1,5 +1,5 @@
-//! Which object's inputs may reach which object of a configuration, the report of it, and its picture: a box for each object, and an
-//! arrow for each edge by which its inputs may reach another.
+//! Which object's inputs may reach which object of a configuration, the report of it, and its picture: a box for each object, and
+//! an arrow for each edge by which its inputs may reach another.
 #![tactic(auto)]
 
 mod closing;

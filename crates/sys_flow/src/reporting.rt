@@ -39,7 +39,7 @@ fn put_flows(text: &mut Vec<u8>, c: &Config, reached: &Reach, a: u8) -> Result<(
 }
 
 /// The report of what is reached: `FLOW A B` and a line feed for each object A and each object B other than A that is reached
-/// from A, in their order; the audit is shown as `*`. Want of memory is its only error.
+/// from A, in their order; the audit is shown as `*`. It fails only where memory runs out.
 pub fn report(alloc: Global, c: &Config) -> Result<Vec<u8>, NoMemory>
     requires { IsConfig c.now }
     ensures { IfOk result (λ text. IsReport c.now text.items) }

@@ -200,7 +200,7 @@ fn put_picture(text: &mut Vec<u8>, c: &Config, letters: u32, spots: &[Spot]) -> 
 }
 
 /// The picture of a configuration, an SVG document: a box for each object with its kind, its name (`*` for the audit) and its
-/// class, and an arrow for each edge. It is the same bytes each time. Want of memory is its only error.
+/// class, and an arrow for each edge. It is the same bytes each time. It fails only where memory runs out.
 #[tactic(auto, unfolding(crate::specs::Layout::letters))]
 pub fn drawing(alloc: Global, c: &Config) -> Result<Vec<u8>, NoMemory>
     requires { IsConfig c.now }

@@ -39,7 +39,7 @@ set_counts (x ∷ ks) (suc place) k f missed there read pays (t ∷ ts) all =
     let after : counted_in (t ∷ changed f ts place) ≡ t.count + counted_in (changed f ts place) = sum_by-cons (λ (y : Touching). y.count) t (changed f ts place) in
     omega (arith, rest, before, after)
 
--- it pays for itself
+-- its own first touches count its misses
 pub one_pays : (ks : List Kept) (x : Slice) (k k' : Kept) (m m' : Machine) → x.guest < length ks → k ≡ slice_index_or ks x.guest k → Pays (touching_steps x.steps (guest_in m.memory k)) m k.shadow m' k'.shadow → PaysAll (touches_of_slice x (guests_in m.memory ks)) m ks m' (slice_set ks x.guest k')
 one_pays ks x k k' m m' there read pays =
     let here : slice_get (guests_in m.memory ks) x.guest ≡ Some (guest_in m.memory k) = get_map (guest_in m.memory) ks x.guest k there read in
@@ -69,7 +69,7 @@ one_reset ks place k k' h memory there read is keeps =
     subst (λ (g : Option Guest). KeepsAll (λ ts. changed (reset_as g) ts place) ks (slice_set ks place k')) (ap Some (sym is) ∙ sym here)
     (set_present ks place k k' (reset_as (Some h)) there read (λ t all. keeps t.present all))
 
--- nothing is told to its shadow page tables
+-- its shadow page tables don't switch
 pub one_same : (ks : List Kept) (place : ℕ) (k k' : Kept) → place < length ks → k ≡ slice_index_or ks place k → k'.shadow ≡ k.shadow → KeepsAll (λ ts. ts) ks (slice_set ks place k')
 one_same [] place k k' there read same ts all = absurd (omega (arith, there))
 one_same (x ∷ ks) place k k' there read same [] all = absurd all

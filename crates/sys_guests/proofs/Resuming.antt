@@ -87,7 +87,7 @@ whole_opening size bytes long =
     let none : size - (0 + length bytes) ≡ 0 = omega (arith, long) in
     ap (λ n. bytes ++ replicate n 0) none ∙ append-nil bytes
 
--- so many guests are there, of those that were kept
+-- k guests are there, of those that were kept
 abbrev pub first_page : List GuestRow → ℕ → ℕ
 first_page rows k = sum_by (λ r. r.pages) (take k rows)
 

@@ -24,7 +24,7 @@ use Rattle.vm_stepping.specs.Advances.{Advances}
 use Rattle.vm_stepping.specs.Made.{run_of}
 use Rattle.vm_stepping.specs.declared.counts.Counts.{Counts}
 
--- what so many steps show
+-- what n steps show
 few_shown : (n : ℕ) (g : Guest) → n ≤ 100000 → length (alone n g).shown ≤ 1400000
 few_shown n g few = let most = shows_few n (record { guest = g; shown = []; tally = no_steps }) in omega (arith, most)
 

@@ -39,7 +39,7 @@ pub record Retires (m m' : Machine) (t : Tally) : Type 0 where
   pub retired : m'.retired % 2 ^ 64 ≡ (m.retired + t.plain) % 2 ^ 64
   pub trail : m'.trail % 2 ^ 64 ≡ (m.trail + t.trail) % 2 ^ 64
 
--- what so many steps of a guest show
+-- what n steps of a guest show
 abbrev pub shown_in : ℕ → Option Guest → List ℕ
 shown_in n None = []
 shown_in n (Some g) = (alone n g).shown

@@ -19,12 +19,12 @@ kernel_state memory k volumes = record {
   volumes = volumes;
 }
 
--- four units, of which each has nothing or a volume of so many
+-- four units, each with nothing or one of the configuration's `volumes` volumes
 pub record AreUnits (volumes : ℕ) (units : List (Option Mount)) : Type 0 where
   pub four : length units ≡ 4
   pub mounted : All (λ m. IfSome m (λ (n : Mount). n.volume < volumes)) units
 
--- what holds of it at every moment, with the machine's memory
+-- the invariant of the kernel, with the machine's memory
 pub record IsKernel (memory : List ℕ) (k : Kernel) : Type 0 where
   pub accepted : IsConfig k.config
   pub placed : AreInMachine k.config.guests memory k.guests.items

@@ -25,7 +25,7 @@ pub record MemoryAlone (m m' : Machine) : Type 0 where
   pub rest : m' ≡ record m { memory = m'.memory }
   pub size : length m'.memory ≡ length m.memory
 
--- every byte beyond so many pages from a page on, and beyond the real tables from another on, stays
+-- every byte outside `pages` pages from the page `base` on, and outside the real tables from the page `tables` on, stays
 pub record OnlyPlaces (base pages tables : ℕ) (before after : List ℕ) : Type 0 where
   pub size : length after ≡ length before
   pub other : (p : ℕ) → (p < 512 * base) ⊎ (512 * (base + pages) ≤ p) → (p < 512 * tables) ⊎ (512 * (tables + 580) ≤ p) → slice_index after p ≡ slice_index before p

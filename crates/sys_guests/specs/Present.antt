@@ -1,5 +1,5 @@
--- First touches of several guests: what is present by them has entries in each guest's shadow page tables, and they pay for the
--- machine's misses.
+-- First touches of several guests: what is present by them has entries in each guest's shadow page tables, and they count at
+-- least the machine's misses.
 use Rattle.std.specs.Prelude.{ℕ, ◌+◌, ◌≤◌, List, [], ◌∷◌}
 use Rattle.std.specs.List.{sum_by}
 use Rattle.vax_hw.specs.Machine.{Machine}
@@ -23,7 +23,7 @@ KeepsAll left ks ks' = (ts : List Touching) → HavePresent ks ts → HavePresen
 abbrev pub counted_in : List Touching → ℕ
 counted_in ts = sum_by (λ t. t.count) ts
 
--- What is done to first touches pays for the misses, and what is present after it has entries.
+-- A change of first touches counts at least the misses, and what is present after it has entries.
 pub record PaysAll (touching : List Touching → List Touching) (m : Machine) (ks : List Kept) (m' : Machine) (ks' : List Kept) : Type 0 where
   pub missed : ℕ
   pub misses : Misses missed m m'

@@ -28,7 +28,7 @@ fn image_long(image: &[u8], load: u32, at: u32) -> u32
     ])
 }
 
-/// Clears so many pages of the machine from a page on and copies an image to a place in them; no other byte changes.
+/// Clears `pages` pages of the machine from the page `base` on and copies an image to a place in them; no other byte changes.
 pub fn load_image<H: Hardware>(machine: &mut H, base: u32, pages: u32, load: u32, image: &[u8])
     requires place { base + pages ≤ 65536 }
     requires inside { 512 * base + 512 * pages ≤ length (H.machine machine.old).memory }

@@ -1,4 +1,4 @@
-//! Several guests on the one machine, and what the kernel keeps of them.
+//! Several guests, laid out in one machine's memory; one of them started, stepped or stopped.
 #![tactic(auto)]
 
 mod image;

@@ -38,7 +38,7 @@ pub fn advance_at<H: Hardware>(
     guest.advance(machine, port, slice.steps)
 }
 
-/// A guest takes one step of its turn, and what it shows is kept; what the step tells is answered besides.
+/// A guest takes one step of its turn, and what it shows is kept; the step's note is answered besides.
 pub fn step_at<H: Hardware>(
     machine: &mut H,
     port: &mut KeptPort<MOST_SHOWN>,

@@ -30,7 +30,7 @@ text_of line = shown_if_known line.shown
 abbrev pub more : Seen → Seen → ℕ
 more l l' = length (text_of l') - length (text_of l)
 
--- a line that is told was told before bytes were put on it
+-- a line that is known was known before bytes were put on it
 put_told : (o o' : Option (List ℕ)) (y : List ℕ) → o' ≡ shown_after o y → (shown : List ℕ) × (o' ≡ Some shown) × (length shown < 2 ^ 64)
     → ((before : List ℕ) × (o ≡ Some before) × (length before < 2 ^ 64)) × (shown_if_known o' ≡ shown_if_known o ++ y)
 put_told None o' y is (shown, told, few) = let no : Some shown ≡ None = sym told ∙ is in absurd cc
@@ -40,7 +40,7 @@ put_told (Some before) o' y is (shown, told, few) =
     let long : length shown ≡ length before + length y = ap length text ∙ length-append before y in
     ((before, refl, omega (arith, few, long)), ap shown_if_known is)
 
--- A line took so many bytes of these.
+-- A line took `some` bytes of these.
 pub record HasTaken (l l' : Seen) (x : List ℕ) : Type 0 where
   pub told : IsLineKnown l
   pub some : ℕ
@@ -166,7 +166,7 @@ module _ (m : Moment) (es fs : List Event) (n : ℕ) (marks marks1 marks2 : List
   told_earlier : (k : ℕ) → IsLineKnown (at lines2 k) → HasTaken (at lines1 k) (at lines2 k) (bytes k)
   told_earlier k told = has_taken (slice_index_or marks1 k false) (slice_index_or marks2 k false) (at lines1 k) (at lines2 k) (bytes k) (second.line k) told
 
-  -- what was told is told before
+  -- what is known was known before
   pub seen_earlier : (ts : List Terminal) → AreSeen ts lines2 → AreSeen ts lines1
   seen_earlier ts are = λ k d within. (told_earlier (slice_index_or ts k d).line (are k d within)).told
 
@@ -219,7 +219,7 @@ module _ (m : Moment) (es fs : List Event) (n : ℕ) (marks marks1 marks2 : List
         let here : new_on lines2 q ≡ taken_next (later t.line) m fs n t.line = (λ i. drop (seen i) (text_of (at lines2 (current.0.line i)))) ∙ next_is t.line told in
         λ i. echo_of (current.0.name i) (here i) ++ rest i
 
-  -- and all of them are told
+  -- and all of them are known
   pub screens_told : (ts : List Terminal) (qs : List Screen) → AreCurrent lines1 ts qs → AreSeen ts lines2 → AreLinesKnown lines2 qs
   screens_told [] [] current are = λ k d within. absurd (omega (arith, within))
   screens_told [] (q ∷ qs) current are = absurd current

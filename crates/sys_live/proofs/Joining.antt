@@ -36,7 +36,7 @@ round_by c i s es =
     let ended = transfers c turned.now in
     record { now = ended.now; puts = begun.puts ++ turned.puts ++ ended.puts }
 
--- each of so many rounds has the same events in both
+-- each of n rounds has the same events in both
 abbrev pub AreAlike : ℕ → ℕ → List Event → List Event → Type 0
 AreAlike i n es fs = (k : ℕ) → i ≤ k → k < i + n → events_of k es ≡ events_of k fs
 

@@ -56,7 +56,7 @@ told_append n (line ∷ xs) ys =
     ap (λ bytes. refusal_message n line ++ bytes) (told_append (n + 1) xs ys ∙ ap (λ k. refusal_messages (n + 1) xs ++ refusal_messages k ys) same)
     ∙ sym (append_assoc (refusal_message n line) (refusal_messages (n + 1) xs) (refusal_messages (n + length (line ∷ xs)) ys))
 
--- nothing is told of an empty line
+-- nothing is reported of an empty line
 pub told_ended : (n : ℕ) (xs : Texts) → refusal_messages n (xs ++ [] ∷ []) ≡ refusal_messages n xs
 told_ended n xs = told_append n xs ([] ∷ []) ∙ append-nil (refusal_messages n xs)
 
@@ -128,7 +128,7 @@ broke_off xs ys a b c first (inr (took, most)) = inr (took_well xs ys a b c firs
 pub lost_line : (xs ys : Texts) (a b c : Keys) → TookWell xs a b → LosesLine ys b c → LosesLine (xs ++ ys) a c
 lost_line xs ys a b c first (lost, says, took) = (lost, says, subst (λ zs. TookWell zs a c) (sym (append_assoc xs ys (lost ∷ []))) (took_well xs (ys ++ lost ∷ []) a b c first took))
 
--- more is told
+-- more is reported
 pub told_then : (a b : Bool) (l m n : Seen) (x y : List ℕ) → ShownSince a l m x → ShowsUnlessMarked a b m n y → ShownSince b l n (x ++ y)
 told_then true b l m n x y first (cut, same) = subst (λ v. ShownSince v l n (x ++ y)) (sym cut) (subst (λ s. ShownSince true l s (x ++ y)) (sym same) (still l m x y first))
 told_then false b l m n x y first second = joined b l m n x y first second

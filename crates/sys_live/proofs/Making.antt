@@ -48,7 +48,7 @@ news_shown cut cut' lines lines' screens screens' out out' r whole is stays echo
     subst (λ b. GoesOnShowing b cut' lines' screens screens' out out') (sym whole)
     (subst (λ b. ShowsNews b lines' screens screens' out out') (sym is) (subst (λ (ls : List Seen). ShowsNews (is_err r) ls screens screens' out out') (sym stays) news))
 
--- So many rounds were made with these events, and what was to be shown of them was shown.
+-- n rounds were made with these events, and what was to be shown of them was shown.
 pub record IsSofar (n : ℕ) (es : List Event) (cut : Bool) (m m1 : Machine) (s s1 : System) (lines lines1 : List Seen) (screens : List Screen) (out out1 : Seen) : Type 0 where
   pub makes : MakesRounds n es m s lines m1 s1 lines1
   pub up_to : AreUpTo n es
@@ -137,7 +137,7 @@ next_sofar n es these false cut' m m1 m2 s s1 s2 lines lines1 lines2 screens scr
       current = λ whole. current_after lines1 lines2 s.config.terminals screens screens' current news.same within (news.seen whole);
     }
 
--- Lines were typed that end so many rounds, and what was to be told of them was told.
+-- Lines were typed that end n rounds, and what was to be reported of them was reported.
 pub record IsTyped (n : ℕ) (typed : Texts) (count : Count) (p : Operator) : Type 0 where
   pub took : TookWell typed p.keys p.keys'
   pub lines : count.lines ≡ length typed
@@ -168,7 +168,7 @@ module _ (n : ℕ) (typed : Texts) (before after : Count) (round : TypedRound) (
   now : 1 + rounds_ended typed ≡ n + 1
   now = omega (arith, first.ended)
 
-  -- the lines of the round are told after those before
+  -- the lines of the round are reported after those before
   told_all : ShownSince after.is_cut errors errors2 (refusal_messages 1 (typed ++ next.lines))
   told_all = subst (λ bytes. ShownSince after.is_cut errors errors2 bytes) (ap (λ k. refusal_messages 1 typed ++ refusal_messages k next.lines) place ∙ sym (told_append 1 typed next.lines)) (told_then before.is_cut after.is_cut errors errors1 errors2 (refusal_messages 1 typed) (refusal_messages (before.lines + 1) next.lines) first.told next.told)
 
@@ -262,7 +262,7 @@ nothing_in : (es : List Event) → (length es == 0) ≡ true → es ≡ []
 nothing_in [] empty = refl
 nothing_in (e ∷ es) empty = let none : length (e ∷ es) ≡ 0 = eqb-true (length (e ∷ es)) 0 empty in absurd (omega (arith, none))
 
--- What holds before a round's lines are typed: so many rounds were made, of the lines that were typed.
+-- What holds before a round's lines are typed: n rounds were made, of the lines that were typed.
 pub record IsBetween (n : ℕ) (count : Count) (p : Operator) (cut : Bool) (m m1 : Machine) (s s1 : System) (lines lines1 : List Seen) (screens : List Screen) (out out1 : Seen) : Type 0 where
   pub typed : Texts
   pub types : IsTyped n typed count p

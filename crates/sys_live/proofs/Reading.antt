@@ -217,7 +217,7 @@ broken_ends e = absurd cc
 lost_ends : Lost ≡ GoesOn → ⊥
 lost_ends e = absurd cc
 
--- it ends so, and nothing more is told
+-- it ends so, and nothing more is reported
 ends_so : (t : Typing) → (t ≡ GoesOn → ⊥) → (round : ℕ) (before now after : Count) (typed : TypedRound) (keys keys1 keys2 : Keys) (errors errors1 errors2 : Seen) →
     (far : TypesSoFar round before now typed.events.items keys keys1 errors errors1) → EndsTypedRound t (before.lines + length far.lines) far.lines keys keys2 → after.is_cut ≡ now.is_cut → errors2 ≡ errors1 → typed.typing ≡ t →
     TypesRound round before after typed (desk keys keys2 errors errors2)

@@ -1,4 +1,4 @@
--- What is told of lines, and of what they say.
+-- What is reported of lines, and of what they say.
 use Rattle.std.proofs.Common.{◌≡◌, ℕ, List, [], ◌++◌, Bool, true, false, Result, Ok, Err, OnErr, OnOk, is_ok, is_err, if◌then◌else◌, refl, sym, ◌∙◌, ap, subst, append-nil}
 use Rattle.vv_io.specs.Lines.{Puts, Seen}
 use Rattle.sys_devices.specs.ShownSince.{ShownSince}
@@ -23,18 +23,18 @@ pub off_ok : {T E P : Type 0} (r : Result T E) → is_err r ≡ false → OnOk r
 off_ok (Ok x) is on = on
 off_ok (Err e) is on = absurd cc
 
--- nothing is told
+-- nothing is reported
 pub tells_none : (cut : Bool) (seen : Seen) → ShowsUnlessMarked cut cut seen seen []
 tells_none true seen = (refl, refl)
 tells_none false seen = shows_nothing seen
 
--- a text is told where nothing was cut before
+-- a text is reported where nothing was cut before
 pub tells_now : {U E : Type 0} (cut failed : Bool) (before after : Seen) (given bytes : List ℕ) (r : Result U E) → cut ≡ false → failed ≡ is_err r → given ≡ bytes → Puts before after given r → ShowsUnlessMarked cut failed before after bytes
 tells_now true failed before after given bytes r uncut is same puts = absurd cc
 tells_now false failed before after given bytes r uncut is same puts =
     subst (λ b. ShownSince b before after bytes) (sym is) (subst (ShownSince (is_err r) before after) same (shows before after given r puts))
 
--- one text is told after another
+-- one text is reported after another
 pub tells_both : (cut middle last : Bool) (a b c : Seen) (x y : List ℕ) → ShowsUnlessMarked cut middle a b x → ShowsUnlessMarked middle last b c y → ShowsUnlessMarked cut last a c (x ++ y)
 tells_both true true last a b c x y (is, same) (next, after) = (next, after ∙ same)
 tells_both true false last a b c x y (is, same) second = absurd cc
@@ -61,7 +61,7 @@ says_it (Err kind) event is = absurd cc
 pub says_that : (round : ℕ) (line : List ℕ) (event : Event) → typed_in round line ≡ Ok event → says_event line ≡ true
 says_that round line event is = says_one round line (says_it (typed_in round line) event is)
 
--- nothing is told of it
+-- nothing is reported of it
 told_nothing : (passed : Bool) (number : ℕ) (made : Result Event ScriptKind) → is_ok made ≡ true → (if passed then [] else why_not number made) ≡ []
 told_nothing true number made is = refl
 told_nothing false number (Ok event) is = refl

@@ -15,13 +15,13 @@ use Rattle.sys_live.specs.Operator.{Operator, Untyped}
 use Rattle.sys_live.specs.Typing.{EndsTypedRun}
 use Rattle.sys_live.specs.declared.session.Lived.{Lived}
 
--- the terminals' lines tell what they have shown
+-- what the terminals' lines have shown is known, and 64 bits count its bytes
 abbrev pub AreSeen : List Terminal → List Seen → Type 0
 AreSeen terminals lines = All (λ t. IsLineKnown (slice_index_or lines t.line unseen)) terminals
 
--- The run was made whose script stands for the lines that were typed, of as many rounds as they make: that is what `MakesRun` says of
--- it, as of a run with that script. What was told is why lines say no event. After each round was shown what its terminals' lines
--- took in it.
+-- The run was made whose script stands for the lines that were typed, of as many rounds as they make: `MakesRun` says so of it,
+-- as of a run with that script. The reports say why lines say no event, whole or cut. After each round is shown what its
+-- terminals' lines took in it, where that is known, whole or cut.
 pub record Lives (x : Input) (most : ℕ) (lived : Lived) (o : RunOutside) (p : Operator) (out out' : Seen) : Type 0 where
   pub makes : MakesRun x lived.ran o
   -- the lines that were taken
@@ -32,7 +32,7 @@ pub record Lives (x : Input) (most : ℕ) (lived : Lived) (o : RunOutside) (p : 
   pub rounds : x.rounds ≡ rounds_typed false typed
   pub few : x.rounds ≤ most
   pub made : lived.rounds ≡ x.rounds
-  -- whether standard error failed
+  -- whether the sink for reports failed
   pub cut : Bool
   pub told : ShownSince cut p.errors p.errors' (refusal_messages 1 typed)
   -- what was shown of the rounds
@@ -40,7 +40,7 @@ pub record Lives (x : Input) (most : ℕ) (lived : Lived) (o : RunOutside) (p : 
   pub shown : ShownSince lived.is_cut out out' echoed
   pub exact : AreSeen x.config.terminals o.lines' → echoed ≡ echo_rounds (more_on o.lines o.lines') (opening x) x.events x.rounds
 
--- such a run by its answer: it was made; or power doesn't come up, and no line is taken
+-- such a run by its answer: it was made; or power doesn't come up, and nothing is taken, reported or shown
 abbrev pub LivesRun : Config → List (List ℕ) → ℕ → Result Lived PowerFault → RunOutside → Operator → Seen → Seen → Type 0
 LivesRun c images most (Ok lived) o p out out' = (x : Input) × (x.config ≡ c) × (x.images ≡ images) × Lives x most lived o p out out'
 LivesRun c images most (Err fault) o p out out' = StaysDown c images fault o × Untyped p × (out' ≡ out)

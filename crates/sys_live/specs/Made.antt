@@ -14,8 +14,8 @@ use Rattle.sys_live.specs.Operator.{Operator}
 use Rattle.sys_live.specs.Typing.{EndsTypedRun}
 use Rattle.sys_live.specs.declared.session.Went.{Went}
 
--- What the terminals' lines were shown since they were last looked at was put on the sink, and the screens were seen up to there
--- where it wasn't cut.
+-- The news of the screens was put on the sink, whole or cut. Where it is whole, the screens are at the end of what known lines
+-- have shown.
 pub record ShowsNews (cut : Bool) (lines : List Seen) (screens screens' : List Screen) (out out' : Seen) : Type 0 where
   pub echoes : Echoes cut lines screens out out'
   pub same : AreSameScreens screens screens'
@@ -27,8 +27,8 @@ abbrev pub GoesOnShowing : (cut cut' : Bool) → List Seen → (screens screens'
 GoesOnShowing true cut' lines screens screens' out out' = (cut' ≡ true) × (screens' ≡ screens) × (out' ≡ out)
 GoesOnShowing false cut' lines screens screens' out out' = ShowsNews cut' lines screens screens' out out'
 
--- Lines were typed, and the rounds that they make were made with their events; what lines say no event was told, and what the
--- terminals were shown was shown to the operator.
+-- Lines were typed, and the rounds that they make were made with their events. Why lines say no event was reported, and what the
+-- terminals were shown, where that is known, was shown to the operator; both are whole or cut.
 pub record MakesTyped (most : ℕ) (went : Went) (p : Operator) (out out' : Seen) (m : Machine) (s : System) (lines : List Seen) (m' : Machine) (s' : System) (lines' : List Seen) : Type 0 where
   pub typed : List (List ℕ)
   pub ends : EndsTypedRun went.typing most typed p.keys p.keys'

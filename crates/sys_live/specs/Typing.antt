@@ -15,13 +15,13 @@ pub record TookWell (lines : List (List ℕ)) (before after : Keys) : Type 0 whe
   pub took : Took lines before.coming after.coming
   pub faults : after.faults ≡ before.faults
 
--- the keyboard failed after these lines; or with them as many were taken as are counted
+-- the keyboard failed after these lines; or they were taken, and 32 bits count no more
 abbrev pub BreaksOff : ℕ → List (List ℕ) → Keys → Keys → Type 0
 BreaksOff count lines before after =
     (Took lines before.coming after.coming × Rose before.faults after.faults)
     ⊎ (TookWell lines before after × (count ≡ 2 ^ 32 - 1))
 
--- a line more was taken, which says an event, and is lost
+-- one more line was taken, which says an event, and is lost
 abbrev pub LosesLine : List (List ℕ) → Keys → Keys → Type 0
 LosesLine lines before after = (lost : List ℕ) × (says_event lost ≡ true) × TookWell (lines ++ lost ∷ []) before after
 
@@ -33,9 +33,9 @@ EndsTypedRound Over count lines before after = TookWell lines before after × Is
 EndsTypedRound Broken count lines before after = BreaksOff count lines before after
 EndsTypedRound Lost count lines before after = LosesLine lines before after
 
--- The lines of one round were taken, of which none is empty, and their events are the round's. Those that say none were told, where
--- nothing was cut before, by the numbers that follow those of the rounds before. Where an empty line ended the round it is counted
--- with them.
+-- The lines of one round were taken, of which none is empty, and their events are the round's. Those that say none were reported,
+-- where nothing was cut before, by the numbers that follow those of the rounds before. Where an empty line ended the round it is
+-- counted with them.
 pub record TypesRound (round : ℕ) (before after : Count) (typed : TypedRound) (p : Operator) : Type 0 where
   pub lines : List (List ℕ)
   pub none_is_empty : All (λ line. line ≢ []) lines
@@ -48,8 +48,8 @@ pub record TypesRound (round : ℕ) (before after : Count) (typed : TypedRound) 
 abbrev pub EndsWithEmptyLine : List (List ℕ) → Type 0
 EndsWithEmptyLine lines = (before : List (List ℕ)) × (lines ≡ before ++ [] ∷ [])
 
--- How the typing of a run of at most so many rounds ended: all rounds were ended, and no line was taken after them; or, with fewer,
--- no more lines come, or it broke off, or a line was lost.
+-- How the typing of a run of at most `most` rounds ended: all rounds were ended, and no line was taken after them; or, with
+-- fewer, no more lines come, or it broke off, or a line was lost.
 abbrev pub EndsTypedRun : Typing → ℕ → List (List ℕ) → Keys → Keys → Type 0
 EndsTypedRun GoesOn most lines before after = TookWell lines before after × EndsWithEmptyLine lines × (rounds_ended lines ≡ most)
 EndsTypedRun Over most lines before after = TookWell lines before after × IsOut after.coming × (rounds_ended lines < most)

@@ -63,8 +63,8 @@ fn make_next<H: Hardware, O: Sink, L: Lines>(
     echo(screens, lines, out).is_err()
 }
 
-/// Makes rounds of a system, at most so many: each when its lines have ended, and shows what terminals were shown in it. Where
-/// no more lines come the round that is begun is the last one.
+/// Makes at most `most` rounds of a system, each when its lines have ended, and shows what terminals were shown in it. Where no
+/// more lines come the round that is begun is the last one.
 fn make_typed<H: Hardware, K: Keyboard, E: Sink, O: Sink, L: Lines>(
     alloc: Global,
     system: &mut System,
@@ -110,11 +110,11 @@ fn make_typed<H: Hardware, K: Keyboard, E: Sink, O: Sink, L: Lines>(
     }
 }
 
-/// Brings power up as `run` does. Makes at most so many rounds, each with the events of the lines that are typed for it, and puts
+/// Brings power up as `run` does. Makes at most `most` rounds, each with the events of the lines that are typed for it, and puts
 /// what its terminals were shown on `out`. Brings power down as `run` does. An empty line ends a round's lines. Where no more
 /// lines come, the keyboard fails, or memory runs out for a line, the round is the last one in which an event is said, if one is.
-/// Lines that say no event are told on `errors` at once, and change nothing. All memory but that of events is taken before the
-/// first line. After a fault no line got a put, no drive a set, and no key was asked for.
+/// Lines that say no event are reported on `errors` at once, and change nothing. All memory but that of events is taken before
+/// the first line. After a fault no line got a put, no drive a set, and no key was asked for.
 pub fn live<H: Hardware, K: Keyboard, E: Sink, O: Sink, L: Lines>(
     alloc: Global,
     config: Config,

@@ -23,7 +23,7 @@ pub enum Typing {
     Lost,
 }
 
-/// How many lines were taken, and whether something that was to be told of them is cut.
+/// How many lines were taken, and whether a report on them is cut.
 #[derive(Clone, Copy, Debug, PartialEq, Eq)]
 pub struct Count {
     pub lines: u32,
@@ -50,7 +50,7 @@ fn why_not(number: u32, kind: ScriptKind) -> Text<64>
     text
 }
 
-/// Tells why the last line says no event, where nothing was cut before.
+/// Reports why the last line says no event, where nothing was cut before.
 fn tell<E: Sink>(count: &mut Count, kind: ScriptKind, errors: &mut E)
     ensures tells { ShowsUnlessMarked count.old.is_cut count.new.is_cut (E.printed errors.old) (E.printed errors.new) (why_not count.old.lines (Err kind)) }
     ensures lines { count.new.lines ≡ count.old.lines }
@@ -60,7 +60,7 @@ fn tell<E: Sink>(count: &mut Count, kind: ScriptKind, errors: &mut E)
     }
 }
 
-/// Takes the last line, which isn't empty: what it says is one event more, or why it says none is told.
+/// Takes the last line, which isn't empty: what it says is one event more, or why it says none is reported.
 fn take_line<E: Sink>(
     alloc: Global,
     round: u32,
@@ -91,7 +91,7 @@ fn take_line<E: Sink>(
     }
 }
 
-/// Takes the lines of a round, up to the empty line that ends it, or as far as lines come. Each that says no event is told at
+/// Takes the lines of a round, up to the empty line that ends it, or as far as lines come. Each that says no event is reported at
 /// once, before the next is waited for.
 pub fn read_round<K: Keyboard, E: Sink>(
     alloc: Global,

@@ -1,4 +1,4 @@
-//! Laws of what the state between two rounds keeps, and of a guest that has stopped.
+//! Laws of what rounds keep of any moment, of stop codes, and of purged moments.
 #![tactic(auto)]
 
 ghost use Rattle.sys_moment_laws.specs.ConsistentState.{MomentsAreConsistent, OpeningIsConsistent, RoundsKeepConsistency, RunsAreConsistent};
@@ -23,7 +23,7 @@ pub fn rounds_keep_a_moment_right()
     ensures moments { MomentsAreConsistent }
 {}
 
-/// After each run of an accepted configuration they hold.
+/// Of an accepted configuration they hold at power-up, and so after each run.
 pub fn runs_stand_right()
     ensures opens { OpeningIsConsistent }
     ensures runs { RunsAreConsistent }

@@ -1,4 +1,4 @@
--- No rule on several entries refuses a configuration that meets the condition.
+-- No rule on several entries refuses a configuration that satisfies the condition.
 use Rattle.std.proofs.Common.{◌≡◌, ◌≢◌, ◌+◌, ℕ, Bool, true, false, ◌&&◌, ◌==◌, List, [], ◌++◌, length, get_or, map, bytes_eq, Option, Some, None, Ok, IfSome, All, refl, sym, arith, length-append}
 use Rattle.std.specs.List.{AllPairs}
 use Rattle.std.proofs.lemmas.Bool.{eqb-true}

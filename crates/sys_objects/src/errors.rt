@@ -17,7 +17,7 @@ pub enum ConfigError {
     /// It breaks a rule.
     #[error("rule {} is broken at {}", .0.rule, .0.place)]
     Fault(ConfigFault),
-    /// Memory ran out before that could be told.
+    /// Memory ran out before that was decided.
     #[error("out of memory")]
     NoMemory,
 }

@@ -1,4 +1,4 @@
-//! The objects of a configuration: their records, the rules that speak of several, and the condition that all meet.
+//! The objects of a configuration, and the rules 11 to 18, which speak of several.
 #![tactic(auto)]
 
 mod errors;

@@ -8,7 +8,7 @@ use sys_objects::VolumeRow;
 use sys_store::Volumes;
 use vv_io::{Sink, SinkFault};
 
-/// Shows the blocks of the volume at a place, of which it has so many.
+/// Shows the `count` blocks of the volume at a place.
 fn put_blocks<O: Sink>(out: &mut O, volumes: &Volumes, v: u8, count: u32) -> Result<(), SinkFault>
     requires volume { v < length volumes.now }
     requires count { length (blocks_of volumes.now v) ≡ count }

@@ -1,5 +1,4 @@
-//! What a run leaves beside its lines: dumps of guests, each on a line of its own, and what a system is between two rounds, shown as
-//! the parts of a snapshot.
+//! Dumps of guests, and the parts of a snapshot, shown line by line.
 #![tactic(auto)]
 
 mod all;

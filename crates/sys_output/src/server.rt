@@ -17,7 +17,7 @@ fn seat_byte(seat: Option<u8>) -> u8
     seat.unwrap_or(NONE)
 }
 
-/// Shows which guest each of so many terminals is connected to: 32 bytes, FF where there is none.
+/// Shows which guest each of the first `terminals` terminals is connected to: 32 bytes, FF where there is none.
 pub fn put_seats<O: Sink>(
     out: &mut O,
     at: &[Option<u8>; 32],

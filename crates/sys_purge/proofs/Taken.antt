@@ -1,4 +1,4 @@
--- What is kept of the first so many of two lists.
+-- What is kept of the first n of two lists.
 use Rattle.std.proofs.Common.{◌≡◌, ◌<◌, ◌≤◌, ◌+◌, ℕ, zero, suc, List, [], ◌∷◌, ◌++◌, length, map, take, refl, sym, ap, ◌∙◌, get_or, Bool, true, false, if◌then◌else◌, ◌⊎◌, inl, inr, add-one, arith}
 use Rattle.std.proofs.lemmas.List.{get_or-map, length-map, map-append}
 use Rattle.sys_purge.proofs.Kept.{both}

@@ -1,4 +1,4 @@
--- Laws of scale: a guest more, whose class doesn't flow into a device's, changes nothing of what the device gets.
+-- Laws of scale: one more guest, whose class doesn't flow into a device's, changes nothing of what the device gets.
 use Rattle.std.specs.Prelude.{ℕ, ◌≡◌, List, [], ◌∷◌, ◌++◌, length, false, All}
 use Rattle.vv_class.specs.Class.{does_flow}
 use Rattle.sys_objects.specs.Condition.{IsConfig}

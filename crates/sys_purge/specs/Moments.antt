@@ -1,4 +1,5 @@
--- The purge of a moment between two rounds to a class: what is kept of it stands as it did, and places are those among what is kept.
+-- The purge of a moment between two rounds to a class: what is kept of it stands as it did, and places are those among what is
+-- kept.
 use Rattle.vv_class.specs.declared.class.AccessClass.{AccessClass}
 use Rattle.sys_objects.specs.declared.records.Config.{Config}
 use Rattle.sys_purge.specs.Input.{purge_images, purge_volumes}

@@ -54,12 +54,12 @@ pub fn volumes_depend_on_what_flows()
     ensures { VolumesDependOnPurges }
 {}
 
-/// A guest more, whose class doesn't flow into a device's, changes no byte of that device.
+/// One more guest, whose class doesn't flow into a device's, changes no byte of that device.
 pub fn a_guest_more_adds_nothing()
     ensures { GuestsAddNothing }
 {}
 
-/// A guest more, whose class doesn't flow into a volume's, changes no block of that volume.
+/// One more guest, whose class doesn't flow into a volume's, changes no block of that volume.
 pub fn a_guest_more_adds_no_blocks()
     ensures { GuestsAddNoBlocks }
 {}

@@ -1,4 +1,4 @@
-//! The purge of a run's input: what of a configuration, events, images and volumes may flow to an observer.
+//! What of a run's input may flow to an observer, and that nothing else matters: non-interference.
 #![tactic(auto)]
 
 mod contents;

@@ -61,7 +61,7 @@ module _ (m : Moment) (es : List Event) (n : ℕ) (m0 m1 m2 : Machine) (s0 s1 : 
   rounds1 : s1.rounds ≡ m.made + n
   rounds1 = ap (λ (s : System). s.rounds) r.system ∙ ap (λ k. k + n) rounds0
 
-  -- so many rounds later it is at that moment
+  -- n rounds later it is at that moment
   pub after : moment_of m2.memory s1 ≡ moment_after m es n
   after = λ i. record { config = config1 i; made = rounds1 i; state = last i }
 
@@ -111,7 +111,7 @@ module _ (m : Moment) (es : List Event) (n : ℕ) (m0 m1 m2 : Machine) (s0 s1 : 
       let same : m1.misses ≡ m0.misses = ap (λ (k : Machine). k.misses) alone.rest in
       subst (λ k. m2.misses % 2 ^ 64 ≡ (k + r.pays.missed) % 2 ^ 64) same r.pays.misses
 
-  -- is paid for, where nothing was present at first
+  -- first touches count its misses, where nothing was present at first
   pub all_touched : HavePresent s0.guests (map none_touched (guests_in m1.memory s0.guests)) → r.pays.missed ≤ first_touches_from m es n
   all_touched present =
       let ts : List Touching = map none_touched (guests_in m1.memory s0.guests) in

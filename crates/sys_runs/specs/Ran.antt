@@ -34,7 +34,7 @@ pub record RunOutside : Type 0 where
   pub drives : List SeenDrive
   pub drives' : List SeenDrive
 
--- No line got a put, and the machine's counts are as before.
+-- The lines are as before, and so are the machine's counts.
 pub record Unshown (o : RunOutside) : Type 0 where
   pub lines : o.lines' ≡ o.lines
   pub retired : o.machine'.retired ≡ o.machine.retired
@@ -46,17 +46,16 @@ pub record Untouched (o : RunOutside) : Type 0 where
   pub shown : Unshown o
   pub drives : o.drives' ≡ o.drives
 
--- Each volume's drive has its last blocks after so many rounds from a moment on; one that failed is marked, and cut. A drive
--- that no volume has is as before, and isn't marked.
+-- Each volume's drive has its last blocks after n rounds from a moment on; one that failed is marked, and cut. A drive that no
+-- volume has is as before, and isn't marked.
 pub record StoresFrom (m : Moment) (es : List Event) (n : ℕ) (marks : List Bool) (drives drives' : List SeenDrive) : Type 0 where
   pub stores : All (λ row. StoresToDrive (is_marked marks row.drive) (drive_at drives row.drive) (drive_at drives' row.drive) (drive_blocks_from m es n row.drive)) m.config.volumes
   pub others : (d : ℕ) → All (λ row. row.drive ≢ d) m.config.volumes → (is_marked marks d ≡ false) × (drive_at drives' d ≡ drive_at drives d)
   pub size : length drives' ≡ length drives
 
--- So many rounds were made from a moment on, and then power went down. The drives have as many blocks as the volumes. Each
--- line has its bytes, or a front of them and a mark where it failed. The steps are those of these rounds, and with those
--- before at most 1,600,000 in a round, and the machine retired the plain ones. It missed at most as many pages as these
--- rounds have first touches.
+-- n rounds were made from a moment on, and then power went down. The drives have as many blocks as the volumes. Each line has its
+-- bytes, or a front of them and a mark where it failed. The steps are those of these rounds, at most 1,600,000 for each round
+-- since power-up, and the machine retired the plain ones. It missed at most as many pages as these rounds have first touches.
 pub record MakesFrom (m : Moment) (es : List Event) (n : ℕ) (ran : Ran) (o : RunOutside) : Type 0 where
   pub fit : All (FitsDrive o.drives) m.config.volumes
   -- the lines and the drives that have failed
@@ -79,7 +78,8 @@ pub record MakesRun (x : Input) (ran : Ran) (o : RunOutside) : Type 0 where
   pub loaded : AreLoaded x.config.volumes o.drives x.volumes
   pub makes : MakesFrom (opening x) x.events x.rounds ran o
 
--- Power doesn't come up: the first image doesn't fit; or else the first volume that can't be read; or memory ran out.
+-- Power doesn't come up: the first image that doesn't fit; or else the first volume whose drive has another size, or a drive that
+-- failed; or memory ran out.
 abbrev pub StaysDown : Config → List (List ℕ) → PowerFault → RunOutside → Type 0
 StaysDown c images (Image g) o = (first_misfit c.guests images ≡ Some g) × Untouched o
 StaysDown c images (VolumeSize v) o = (first_misfit c.guests images ≡ None) × IsMisfit c.volumes o.drives v × Untouched o

@@ -12,7 +12,7 @@ use Rattle.sys_system.specs.Calls.{LeadsToState}
 use Rattle.sys_system.specs.System.{System, moment_of, system_state}
 use Rattle.vm_stepping.specs.Made.{tally_of}
 
--- The next n rounds are made, each with its own of these events. First touches pay for what the machine misses.
+-- The next n rounds are made, each with its own of these events. First touches count at least what the machine misses.
 pub record MakesRounds (n : ℕ) (es : List Event) (m : Machine) (s : System) (lines : List Seen) (m' : Machine) (s' : System) (lines' : List Seen) : Type 0 where
   pub system : s' ≡ record s { connected = s'.connected; mounts = s'.mounts; guests = s'.guests; volumes = s'.volumes; turns = s'.turns; rounds = s.rounds + n; counts = s'.counts; marks = s'.marks }
   pub ended : s'.turns.is_begun ≡ false

@@ -1,4 +1,4 @@
-//! A whole run on the machine: power comes up, rounds are made with their events, and power goes down.
+//! Whole runs, saved and resumed ones too: power comes up, rounds are made, power goes down.
 #![tactic(auto)]
 
 mod given;

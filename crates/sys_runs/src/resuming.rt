@@ -13,7 +13,7 @@ use sys_system::{PowerFault, System};
 use vax_hw::Hardware;
 use vv_io::{Drive, Lines, Progress};
 
-/// Goes on from a snapshot in a machine of 32,768 pages, with a drive for each volume: makes the next so many rounds, each with
+/// Goes on from a snapshot in a machine of 32,768 pages, with a drive for each volume: makes the next `rounds` rounds, each with
 /// its own events, and brings power down as `run` does. The counts are those of these rounds. All memory is taken before the
 /// first of them. After a fault no line got a put, and no drive a set.
 pub fn resume<H: Hardware, P: Progress, L: Lines>(

@@ -26,9 +26,9 @@ fn later_than(events: &[Event], round: u32) -> &[Event]
     events.split_at(past).1
 }
 
-/// Makes the next rounds of a system, so many, the i-th round since power-up with the events of round i. Events of earlier
-/// and of later rounds have no effect. After each round it is told how many of them were made. It takes no memory, and no fault
-/// of a line is answered: it is kept as a mark.
+/// Makes the next `rounds` rounds of a system, the i-th round since power-up with the events of round i. Events of earlier and of
+/// later rounds have no effect. After each round `progress` gets the number of rounds made. It takes no memory, and no fault of a
+/// line is answered: it is kept as a mark.
 pub fn make_rounds<H: Hardware, P: Progress, L: Lines>(
     system: &mut System,
     machine: &mut H,

@@ -20,10 +20,10 @@ pub struct Ran {
     pub failed: Option<Device>,
 }
 
-/// Brings power up in a machine of 32,768 pages, with an image for each guest and a drive for each volume. Makes so many
-/// rounds, the i-th with the events of round i. Then brings power down: the dumps are shown, and the volumes' blocks are
-/// stored. All memory is taken before the first round. A line or a drive that fails is marked and gets no more, and the
-/// run goes on. After a fault no line got a put, and no drive a set.
+/// Brings power up in a machine of 32,768 pages, with an image for each guest and a drive for each volume. Makes `rounds` rounds,
+/// the i-th with the events of round i. Then brings power down: the dumps are shown, and the volumes' blocks are stored. All
+/// memory is taken before the first round. A line or a drive that fails is marked and gets no more, and the run goes on. After a
+/// fault no line got a put, and no drive a set.
 pub fn run<H: Hardware, P: Progress, L: Lines>(
     alloc: Global,
     config: Config,

@@ -20,10 +20,10 @@ pub struct Saved {
     pub is_cut: bool,
 }
 
-/// Brings power up as `run` does, makes so many rounds, the i-th with the events of round i, and shows on `out` what the
-/// system is after them, as a snapshot with the text of its configuration, of at most 262,144 bytes. No dump is shown, and no
-/// volume is stored. All memory is taken before the first round. A line that fails is marked and gets no more, and the run
-/// goes on. After a fault no line and no `out` got a put, and no drive a set.
+/// Brings power up as `run` does, and makes `rounds` rounds, the i-th with the events of round i. Then shows on `out` what the
+/// system is, as a snapshot with the text of its configuration, of at most 262,144 bytes. No dump is shown, and no volume is
+/// stored. All memory is taken before the first round. A line that fails is marked and gets no more, and the run goes on. After a
+/// fault no line and no `out` got a put, and no drive a set.
 pub fn save<H: Hardware, O: Sink, P: Progress, L: Lines>(
     alloc: Global,
     config: Config,

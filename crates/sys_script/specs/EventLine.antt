@@ -51,8 +51,7 @@ abbrev pub when : ScriptKind → Bool → Result (Unit {0}) ScriptKind
 when kind true = Ok tt
 when kind false = Err kind
 
--- the event that a line says, where the event before it is of the round `last`; the first test that
--- fails tells the kind
+-- the event that a line says, where the event before it is of the round `last`; the first test that fails gives the kind
 unfoldable pub event_in : ℕ → List ℕ → Result Event ScriptKind
 event_in last line =
     or_kind BadRound (round_in (front line)) >>= λ round.

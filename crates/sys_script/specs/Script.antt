@@ -32,7 +32,7 @@ events_from number last (line ∷ more) =
 unfoldable pub script_of : List ℕ → Result (List Event) ScriptFault
 script_of bytes = events_from 1 0 (lines bytes)
 
--- a fault as it is told: the line's number, or 2 ^ 32 - 1 from there on
+-- a fault as it is reported: the line's number, or 2 ^ 32 - 1 from there on
 abbrev pub reported_fault : {A : Type 0} → Result A ScriptFault → Result A ScriptFault
 reported_fault (Ok x) = Ok x
 reported_fault (Err fault) = Err (record { line = min fault.line (2 ^ 32 - 1); kind = fault.kind })

@@ -11,7 +11,7 @@ use Rattle.sys_script.specs.declared.event.ScriptKind.TheVariants.{BadName, BadE
 use Rattle.sys_script.specs.declared.event.TypedError.{TypedError}
 use Rattle.sys_script.specs.declared.event.TypedError.TheVariants.{Refused, NoMemory}
 
--- the event that a line says in a round, `NAME > TEXT` or `NAME break`; the first test that fails tells the kind
+-- the event that a line says in a round, `NAME > TEXT` or `NAME break`; the first test that fails gives the kind
 unfoldable pub typed_in : ℕ → List ℕ → Result Event ScriptKind
 typed_in round line =
     or_kind BadName (tested is_object_name (front line)) >>= λ name.
@@ -52,7 +52,7 @@ script_typed round ([] ∷ more) = script_typed (round + 1) more
 script_typed round ((b ∷ line) ∷ more) =
     if says_event (b ∷ line) then decimal round ++ 32 ∷ ((b ∷ line) ++ 10 ∷ script_typed round more) else script_typed round more
 
--- what is told of a line: nothing where it is passed over or says an event, or else its number and why not
+-- what is reported of a line: nothing where it is passed over or says an event, or else its number and why not
 abbrev pub why_not : ℕ → Result Event ScriptKind → List ℕ
 why_not number (Ok event) = []
 why_not number (Err kind) = (codes "vvmm: typed line " ++ decimal number) ++ 32 ∷ (kind_text kind ++ 10 ∷ [])
@@ -60,7 +60,7 @@ why_not number (Err kind) = (codes "vvmm: typed line " ++ decimal number) ++ 32 
 abbrev pub refusal_message : ℕ → List ℕ → List ℕ
 refusal_message number line = if is_passed_over line then [] else why_not number (typed_in 1 line)
 
--- what is told of lines that are numbered from `number` on
+-- what is reported of lines that are numbered from `number` on
 abbrev pub refusal_messages : ℕ → List (List ℕ) → List ℕ
 refusal_messages number [] = []
 refusal_messages number (line ∷ more) = refusal_message number line ++ refusal_messages (number + 1) more

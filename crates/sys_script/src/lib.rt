@@ -1,5 +1,4 @@
-//! The script: which line is typed, or which break is given, at which terminal in which round; and lines that are typed while a
-//! run goes on.
+//! Reads scripts, and lines that are typed meanwhile: events with their rounds and terminals.
 #![tactic(auto)]
 
 mod event;

@@ -46,8 +46,8 @@ pub fn is_passed_over(line: &[u8]) -> bool
     matches!(line, [] | [b'#', ..])
 }
 
-/// The events of a script in its order, or the first line that is refused, and why. A line's number is
-/// told as 2^32 - 1 where it is greater; a script of fewer than 2^32 bytes has no such line.
+/// The events of a script in its order, or the first line that is refused, and why. A line's number is reported as 2^32 - 1 where
+/// it is greater; a script of fewer than 2^32 bytes has no such line.
 #[tactic(auto, using(crate::proofs::Reading::begins))]
 pub fn read_script(alloc: Global, b: &[u8]) -> Result<Vec<Event>, ScriptError>
     ensures exact { length b.now < 2 ^ 32 → IsScriptAnswer (λ events. events.items) (script_of b.now) result }

@@ -40,7 +40,7 @@ IsAsked Show = Unit {0}
 abbrev pub Asks : List ℕ → Asked → Type 0
 Asks text asked = IsAsked asked × (text ≡ join_with_byte 32 (words_of asked))
 
--- The same as a reading that computes, word for word.
+-- What a line asks for, as a reading that computes, word for word.
 abbrev pub words : List ℕ → List (List ℕ)
 words text = slice_split (λ b. b == 32) text
 

@@ -99,7 +99,7 @@ pub another_form : verdict_of c s 0 (codes "MOUNT A 4 PUB READ") ≡ BadCommand
 unfolding asked_in judged
 another_form = refl
 
--- the console moves from terminal 1 to terminal 2, and 1 is told; a terminal doesn't take its own
+-- the console moves from terminal 1 to terminal 2, and 1 gets a notice; a terminal doesn't take its own
 pub moves : applied s 2 (Connect 1) ≡ record s { at = Some 0 ∷ None ∷ Some 1 ∷ [] }
 unfolding applied
 moves = refl

@@ -1,4 +1,4 @@
-//! The secure server: what a terminal's line asks for, what is answered, and what a granted command does.
+//! The secure server: what a line asks for, its verdict, what a granted command does.
 #![tactic(auto)]
 
 mod command;

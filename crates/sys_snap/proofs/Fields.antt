@@ -73,7 +73,7 @@ reads_flag ok false passes = reads_field 1 (λ b. flag_if ok (slice_index b 0)) 
 pub reads_none : {A : Type 0} (value : A) → ReadsAs (done value) [] value
 reads_none value = record { reads = λ at rest. let same : at ≡ at + 0 = omega arith in ap (λ k. got value k rest) same }
 
--- so many longwords of any value
+-- k longwords of any value
 times_longs : (k : ℕ) (ns : List ℕ) → length ns ≡ k → ReadsAs (times k (four any)) (longs ns) ns
 times_longs zero [] h = reads_none []
 times_longs zero (n ∷ ns) h = absurd (omega (arith, h))

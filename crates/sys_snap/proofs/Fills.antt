@@ -1,4 +1,4 @@
--- Lists of so many places that are filled one after another.
+-- Lists of a number of places that are filled one after another.
 use Rattle.std.proofs.Common.{◌≡◌, ℕ, suc, ◌+◌, ◌-◌, ◌<◌, List, [], ◌∷◌, ◌++◌, length, take, drop, set, get_or, map, replicate, sym, refl, ap, ◌∙◌, arith}
 use Rattle.std.specs.Prelude.{Err}
 use Rattle.std.proofs.lemmas.List.{drop-set-lt, drop_more, take_more, take_more_set, length-set, length-map, length-take-le, length-replicate, map-append}

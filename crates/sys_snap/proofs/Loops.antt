@@ -19,7 +19,7 @@ pub nothing_front : {A : Type 0} (z : Result (Got (List A)) SnapFault) → after
 nothing_front (Ok g) = refl
 nothing_front (Err fault) = refl
 
--- so many times
+-- one more reading of `times`
 pub times_more : {A : Type 0} (p : Reading A) (front : List A) (x : A) (left k : ℕ) (r r' : Rest) → left ≡ suc k → p r ≡ got x r' → after_front front (times left p r) ≡ after_front (front ++ x ∷ []) (times k p r')
 times_more p front x left k r r' more read =
     ap (λ n. after_front front (times n p r)) more

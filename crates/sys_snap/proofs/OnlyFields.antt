@@ -163,7 +163,7 @@ pub gives_flag : (ok : Bool → Bool) → Gives (flag ok) (By flag_byte (λ f. o
 gives_flag ok = gives_field 1 (λ b. flag_if ok (slice_index b 0)) (By flag_byte (λ f. ok f ≡ true))
     (λ w long are. subst (λ bs. IfSome (flag_if ok (slice_index w 0)) (λ f. (bs ≡ flag_byte f) × (ok f ≡ true))) (sym (one_is w long)) (flag_means ok (slice_index w 0)))
 
--- the same so many times, and for each of a list
+-- n of a kind, and one for each of a list
 pub record AreSo {A : Type 0} (R : A → Type 0) (n : ℕ) (xs : List A) : Type 0 where
   pub many : length xs ≡ n
   pub each : All R xs
@@ -181,7 +181,7 @@ gives_each p write R reads (x ∷ xs) =
     gives_next (p x) _ write (R x) _ (reads x) (λ y is.
     gives_last (each p xs) (λ ys. y ∷ ys) (λ ys. flat_map write ys) (AllZip R xs) _ (gives_each p write R reads xs) (λ ys are. (refl, (is, are))))
 
--- so many longwords of any value
+-- k longwords of any value
 pub gives_longs : (k : ℕ) → Gives (longs_in k) (By longs (λ ns. length ns ≡ k))
 unfolding longs_in
 gives_longs k = gives_weaker (times k (four any)) (By longs (AreSo (IsLong any) k)) (By longs (λ ns. length ns ≡ k)) (gives_times (four any) long_bytes (IsLong any) k (gives_four any)) (λ ns v h. (h.0, h.1.many))

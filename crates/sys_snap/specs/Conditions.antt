@@ -18,7 +18,7 @@ is_p0br v = v == 0 || allows P0br v
 abbrev pub is_psl : ℕ → Bool
 is_psl v = not (has_must_be_zero_bit v)
 
--- a packet's address, in a memory of so many bytes
+-- a packet's address, in a memory of `size` bytes
 abbrev pub is_packet : ℕ → ℕ → Bool
 is_packet size v = v % 4 == 0 && nat_le (v + 24) size
 

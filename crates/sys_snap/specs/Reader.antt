@@ -1,4 +1,4 @@
--- The same as a reading that computes: field by field, each with what it allows after those before it.
+-- What bytes are a snapshot of, as a reading that computes: field by field, each with what it allows after those before it.
 use Rattle.std.specs.Prelude.{ℕ, zero, suc, ◌*◌, ◌==◌, ◌&&◌, ◌||◌, nat_le, nat_lt, not, Bool, true, false, bytes_eq, if◌then◌else◌, List, [], ◌∷◌, length, map, take, drop, slice_index, Option, Some, None, Result, Ok, Err}
 use Rattle.std.specs.List.{list_all}
 use Rattle.vv_base.specs.Bits.{is_set}
@@ -29,7 +29,7 @@ pub record Registers : Type 0 where
   pub psl : ℕ
   pub stacks : List ℕ
 
--- so many longwords of any value
+-- n longwords of any value
 unfoldable pub longs_in : ℕ → Reading (List ℕ)
 longs_in n = times n (four any)
 
@@ -104,7 +104,7 @@ console_reading =
     field 256 (waiting_in n) >>= λ waiting.
     done (record { waiting = waiting; rx_enable = rx_enable; rx_request = rx_request; tx_enable = tx_enable; tx_request = tx_request })
 
--- so many packets, in so many places; those that no packet has are 0
+-- `count` packets, in `places` places; a place without a packet is 0
 abbrev pub packets_in : (size count places : ℕ) → Reading (List ℕ)
 packets_in size count zero = done []
 packets_in size zero (suc places) = four (λ v. v == 0) >>= λ none. packets_in size zero places
@@ -157,7 +157,7 @@ made_of modify_faults a b l clock console q e = record {
   modify_faults = modify_faults;
 }
 
--- a record, of a guest with a memory of so many bytes
+-- a record, of a guest with a memory of `size` bytes
 unfoldable pub record_in : (size : ℕ) → (modify_faults : Bool) → Reading State
 record_in size modify_faults =
     registers_in >>= λ a.

@@ -12,12 +12,12 @@ abbrev pub Reads : {A : Type 0} → Reading A → Rest → Rest → Result A Sna
 Reads p before after (Ok value) = p before ≡ results.Ok (record { value = value; rest = after })
 Reads p before after (Err fault) = p before ≡ results.Err fault
 
--- the same of a value that clauses see as another
+-- what a function answers whose value clauses see as another
 abbrev pub ReadsSeen : {A B : Type 0} → (B → A) → Reading A → Rest → Rest → Result B SnapFault → Type 0
 ReadsSeen seen p before after (Ok value) = p before ≡ results.Ok (record { value = seen value; rest = after })
 ReadsSeen seen p before after (Err fault) = p before ≡ results.Err fault
 
--- and of a function that takes memory, of which there may be too little
+-- and where it takes memory, of which there may be too little
 abbrev pub ReadsOrLacks : {A B : Type 0} → (B → A) → Reading A → Rest → Rest → Result B SnapError → Type 0
 ReadsOrLacks seen p before after (Ok value) = p before ≡ results.Ok (record { value = seen value; rest = after })
 ReadsOrLacks seen p before after (Err (Fault fault)) = p before ≡ results.Err fault

@@ -10,7 +10,7 @@ use Rattle.vm_state.specs.State.{State}
 abbrev pub at_start : List ℕ
 at_start = guest_record_bytes (started 0x200 false)
 
--- what becomes of it with another byte at a place
+-- these bytes with another byte at a place
 abbrev pub with_byte : ℕ → ℕ → List ℕ
 with_byte at b = take at at_start ++ b ∷ drop (at + 1) at_start
 

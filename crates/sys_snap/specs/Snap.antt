@@ -23,7 +23,7 @@ pub record IsSound (s : State) : Type 0 where
   pub console : IsConsole s.console
   pub few_bytes : length s.console.waiting ≤ 256
 
--- what a record may hold, of a guest with a memory of so many bytes
+-- what a record may hold, of a guest with a memory of `size` bytes
 pub record IsRecord (size : ℕ) (s : State) : Type 0 where
   pub sound : IsSound s
   pub allowed : AreAllowed size s

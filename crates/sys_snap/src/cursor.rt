@@ -49,7 +49,7 @@ impl<'a> Cursor<'a> {
         self.bytes.len()
     }
 
-    /// A field of so many bytes.
+    /// A field of `size` bytes.
     pub fn cut(&mut self, size: u32) -> Result<&'a [u8], SnapFault>
         ensures reads { ReadsSeen (λ w. w.now) (field size (λ b. Some b)) self.old self.new result }
         ensures len { IfOk result (λ w. length w.now ≡ size) }

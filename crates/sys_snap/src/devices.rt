@@ -139,7 +139,7 @@ fn packet_count(r: &mut Cursor) -> Result<u8, SnapFault>
     Ok(count)
 }
 
-/// A packet's address, in a memory of so many bytes.
+/// A packet's address, in a memory of `size` bytes.
 fn packet(r: &mut Cursor, size: u32) -> Result<u32, SnapFault>
     ensures { Reads (four (is_packet size)) r.old r.new result }
 {
@@ -162,7 +162,7 @@ fn no_packet(r: &mut Cursor) -> Result<u32, SnapFault>
     Ok(v)
 }
 
-/// So many places that no packet has.
+/// `places` places without a packet.
 fn no_packets(r: &mut Cursor, size: u32, places: u8) -> Result<(), SnapFault>
     ensures ok { OnOk result (packets_in size 0 places r.old ≡ Ok (record { value = []; rest = r.new })) }
     ensures err { IfErr result (λ f. packets_in size 0 places r.old ≡ Err f) }
@@ -173,7 +173,7 @@ fn no_packets(r: &mut Cursor, size: u32, places: u8) -> Result<(), SnapFault>
     Ok(())
 }
 
-/// So many packets, in the first of eight places; what is left to read are the others.
+/// `count` packets, in the first of eight places; the other places are left to read.
 fn packets_alone(r: &mut Cursor, size: u32, count: u8) -> Result<ArrayVec<u32, 8>, SnapFault>
     requires { count ≤ 8 }
     ensures ok { IfOk result (λ q. packets_in size count 8 r.old ≡ after_front q.items (packets_in size 0 (8 - count) r.new)) }
@@ -186,7 +186,7 @@ fn packets_alone(r: &mut Cursor, size: u32, count: u8) -> Result<ArrayVec<u32, 8
     Ok(packets)
 }
 
-/// So many packets, in eight places, of which the others are 0.
+/// `count` packets, in eight places, of which the others are 0.
 fn packets(r: &mut Cursor, size: u32, count: u8) -> Result<ArrayVec<u32, 8>, SnapFault>
     requires { count ≤ 8 }
     ensures { ReadsSeen (λ q. q.items) (packets_in size count 8) r.old r.new result }
@@ -196,7 +196,7 @@ fn packets(r: &mut Cursor, size: u32, count: u8) -> Result<ArrayVec<u32, 8>, Sna
     Ok(packets)
 }
 
-/// The queue, 34 bytes, of a guest with so many bytes of memory.
+/// The queue, 34 bytes, of a guest with `size` bytes of memory.
 pub fn read_queue(r: &mut Cursor, size: u32) -> Result<Queue, SnapFault>
     ensures { ReadsSeen queue_of (queue_in size) r.old r.new result }
 {

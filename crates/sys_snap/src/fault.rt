@@ -14,10 +14,10 @@ pub struct SnapFault {
 /// Why bytes are not read as a snapshot.
 #[derive(Debug, Drop, Error)]
 pub enum SnapError {
-    /// They are none.
+    /// The bytes are no snapshot.
     #[error("snapshot at {}", .0.place)]
     Fault(SnapFault),
-    /// Memory ran out before that could be told.
+    /// Memory ran out before that was decided.
     #[error("out of memory")]
     NoMemory,
 }

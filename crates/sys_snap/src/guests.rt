@@ -98,7 +98,7 @@ pub fn read_guests(
     Ok(guests)
 }
 
-/// Bytes as so many blocks of 512.
+/// Bytes as `count` blocks of 512.
 fn blocks_of(alloc: Global, bytes: &[u8], count: u32) -> Result<Vec<[u8; 512]>, NoMemory>
     requires { length bytes.now ≡ 512 * count }
     ensures { IfOk result (λ blocks. blocks.items ≡ cut_blocks count bytes.now) }

@@ -59,7 +59,7 @@ fn round(r: &mut Cursor) -> Result<u32, SnapFault>
     Ok(round)
 }
 
-/// The configuration that a text of so many bytes stands for.
+/// The configuration that a text of `length` bytes stands for.
 fn configuration(alloc: Global, r: &mut Cursor, length: u32) -> Result<Config, SnapError>
     ensures reads { ReadsOrLacks (λ c. c) (field length (λ text. accepted_config (config_of text))) r.old r.new result }
     ensures is { IfOk result (λ c. IsConfig c) }
@@ -101,7 +101,7 @@ fn running(guests: &[GuestSnap]) -> [bool; 16]
     running
 }
 
-/// The state after so many rounds.
+/// The state after `round` rounds.
 #[tactic(auto, unfolding(crate::specs::Reader::state_in))]
 fn read_state(alloc: Global, r: &mut Cursor, config: Config, round: u32) -> Result<Snap, SnapError>
     requires { IsConfig config }
@@ -142,9 +142,9 @@ fn read_moment(alloc: Global, r: &mut Cursor) -> Result<Snap, SnapError>
     Ok(snap)
 }
 
-/// Reads a snapshot of at most 2^31 bytes. `Fault` comes exactly where the bytes are none: with the place at which the
-/// first field begins that is cut or not allowed after those before it, or at which bytes are left over. `NoMemory` comes
-/// where memory ran out before that could be told.
+/// Reads a snapshot of at most 2^31 bytes. `Fault` comes exactly where the bytes are none: with the place at which the first
+/// field begins that is cut or not allowed after those before it, or at which bytes are left over. `NoMemory` comes where memory
+/// ran out before that was decided.
 #[tactic(auto, unfolding(crate::specs::Reader::snap_in))]
 pub fn read_snap(alloc: Global, b: &[u8]) -> Result<Snap, SnapError>
     requires short { length b.now ≤ 2 ^ 31 }

@@ -22,7 +22,7 @@ dump_on line [] gs = []
 dump_on line (row ∷ rows) [] = []
 dump_on line (row ∷ rows) (g ∷ gs) = if is_at line row.dump then dump_of row.name g else dump_on line rows gs
 
--- what a line is shown in so many rounds from a moment on
+-- what a line is shown in n rounds from a moment on
 abbrev pub shown_from : Moment → List Event → ℕ → ℕ → List ℕ
 shown_from m es n line = bytes_on line (rounds_from m es n).puts
 

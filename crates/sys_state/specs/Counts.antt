@@ -41,13 +41,13 @@ abbrev pub slices_tally : List Slice → List Guest → Tally
 slices_tally [] gs = no_steps
 slices_tally (x ∷ xs) gs = added (tally_by x.steps (slice_get gs x.guest)) (slices_tally xs (changed (λ g. (alone x.steps g).guest) gs x.guest))
 
--- in so many rounds from the i-th on: each round's guests are those after its events
+-- in n rounds from the i-th on: each round's guests are those after its events
 abbrev pub rounds_tally : Config → ℕ → ℕ → List Event → SystemState → Tally
 rounds_tally c i zero es s = no_steps
 rounds_tally c i (suc n) es s =
     added (round_tally c.guests (events c i s (events_of i es)).now.guests) (rounds_tally c (suc i) n es (round c i es s).now)
 
--- in so many from a moment on
+-- in n rounds from a moment on
 abbrev pub tally_from : Moment → List Event → ℕ → Tally
 tally_from m es n = rounds_tally m.config (m.made + 1) n es m.state
 

@@ -28,7 +28,7 @@ is_shown row = list_any (λ b. not (b == 0)) row
 abbrev pub if_shown : ℕ → List ℕ → List (List ℕ) → List (List ℕ)
 if_shown at row more = if is_shown row then row_line at row ∷ more else more
 
--- so many rows from an address on
+-- n rows from an address on
 abbrev pub row_lines : ℕ → ℕ → List ℕ → List (List ℕ)
 row_lines zero at memory = []
 row_lines (suc k) at memory = if_shown at (take 16 (drop at memory)) (row_lines k (at + 16) memory)

@@ -81,7 +81,7 @@ puts_before c s t BadCommand = []
 puts_before c s t NoSuchObject = []
 puts_before c s t (Denied rule) = []
 
--- a terminal whose console was taken is told
+-- a terminal whose console was taken gets a notice
 abbrev pub taken_notice : Option Terminal → List Put
 taken_notice None = []
 taken_notice (Some k) = said_on k.line taken_text ∷ []

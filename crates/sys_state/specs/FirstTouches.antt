@@ -97,7 +97,7 @@ touches_of_transfers c (row ∷ rows) (ms ∷ mounts) (g ∷ gs) volumes (t ∷ 
     let one = served c row ms (with_no_queue g) g.state.queue volumes in
     touches_of_queue c row ms (with_no_queue g) g.state.queue volumes t ∷ touches_of_transfers c rows mounts gs one.volumes ts
 
--- a round, and so many from the i-th on
+-- a round, and n rounds from the i-th on
 abbrev pub touches_of_round : Config → ℕ → List Event → SystemState → List Touching → List Touching
 touches_of_round c i es s ts =
     let begun = (events c i s (events_of i es)).now in
@@ -113,7 +113,7 @@ touches_of_rounds c i (suc n) es s ts = touches_of_rounds c (suc i) n es (round 
 abbrev pub none_touched : Guest → Touching
 none_touched g = record { present = at_first g; count = 0 }
 
--- of so many rounds from a moment on, where nothing is present at their beginning
+-- of n rounds from a moment on, where nothing is present at their beginning
 abbrev pub first_touches_from : Moment → List Event → ℕ → ℕ
 first_touches_from m es n = sum_by (λ t. t.count) (touches_of_rounds m.config (m.made + 1) n es m.state (map none_touched m.state.guests))
 

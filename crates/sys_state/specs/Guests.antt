@@ -8,7 +8,7 @@ use Rattle.vm_state.specs.Run.{Run, after_steps, no_steps}
 use Rattle.vm_state.specs.Start.{memory_with_image, started, stopped_at_first}
 use Rattle.vm_state.specs.State.{Guest}
 
--- so many steps of a guest alone
+-- n steps of a guest alone
 abbrev pub alone : ℕ → Guest → Run
 alone n g = after_steps n (record { guest = g; shown = []; tally = no_steps })
 
@@ -23,7 +23,7 @@ powered row image = record {
 abbrev pub typed : List ℕ → Guest → Guest
 typed text g = record g { state = with_line text g.state }
 
--- START: it runs as one that starts, and its memory stays. Packets that wait are forgotten.
+-- START: it runs as one that starts, and its memory stays. Packets that wait are dropped.
 abbrev pub reset : GuestRow → Guest → Guest
 reset row g = record g { state = started row.start row.modify_faults }
 

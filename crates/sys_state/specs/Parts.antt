@@ -5,8 +5,8 @@ use Rattle.sys_state.specs.Bytes.{drive_blocks_from, line_bytes_from, shown_from
 use Rattle.sys_state.specs.Counts.{added, tally_from}
 use Rattle.sys_state.specs.Run.{Moment, moment_after}
 
--- Rounds that are made in two parts, the second from where the first ends, with the same events: what each line is shown
--- by both, one after the other, what each drive has at the end, and the steps of both.
+-- Rounds that are made in two parts, with the same events, are as if made at once. So is what each line is shown, what each drive
+-- has at the end, the steps of both, and the last moment.
 pub record IsBoth (m : Moment) (es : List Event) (i j : ℕ) : Type 0 where
   pub lines : (line : ℕ) → shown_from m es i line ++ line_bytes_from (moment_after m es i) es j line ≡ line_bytes_from m es (i + j) line
   pub drives : (drive : ℕ) → drive_blocks_from (moment_after m es i) es j drive ≡ drive_blocks_from m es (i + j) drive

@@ -31,7 +31,7 @@ round c i es s =
     let ended = transfers c turned.now in
     record { now = ended.now; puts = begun.puts ++ turned.puts ++ ended.puts }
 
--- so many rounds, from the i-th on
+-- n rounds, from the i-th on
 abbrev pub rounds : Config → ℕ → ℕ → List Event → SystemState → Went SystemState
 rounds c i zero es s = record { now = s; puts = [] }
 rounds c i (suc n) es s =
@@ -45,11 +45,11 @@ pub record Moment : Type 0 where
   pub made : ℕ
   pub state : SystemState
 
--- so many rounds from there on, each with its own of these events; rounds are numbered from 1
+-- n rounds from a moment on, each with its own of these events; rounds are numbered from 1
 abbrev pub rounds_from : Moment → List Event → ℕ → Went SystemState
 rounds_from m es n = rounds m.config (m.made + 1) n es m.state
 
--- the moment after so many rounds
+-- the moment after n rounds more
 abbrev pub moment_after : Moment → List Event → ℕ → Moment
 moment_after m es n = record m { made = m.made + n; state = (rounds_from m es n).now }
 

@@ -21,7 +21,7 @@ pub each_byte : on_console (Some 3) (65 ∷ 66 ∷ []) ≡
     record { line = 3; bytes = 65 ∷ [] } ∷ record { line = 3; bytes = 66 ∷ [] } ∷ []
 each_byte = refl
 
--- a slice of a guest, of so many steps
+-- a slice of a guest, of `steps` steps
 abbrev slice_of : (guest steps : ℕ) → Slice
 slice_of guest steps = record { guest = guest; steps = steps }
 

@@ -104,6 +104,6 @@ pub guest_stops :
 unfolding whole_run
 guest_stops = (refl, refl, refl, refl, refl)
 
--- START forgets packets that wait, without a status: the guest's memory stays as it is.
+-- START drops packets that wait, without a status: the guest's memory stays as it is.
 pub start_forgets_packets : (row : GuestRow) (g : Guest) → ((reset row g).state.queue ≡ []) × ((reset row g).memory ≡ g.memory)
 start_forgets_packets row g = (refl, refl)

@@ -51,7 +51,7 @@ mounted place write = Some (record { volume = place; write = write })
 abbrev pub nothing_mounted : List (Option Mount)
 nothing_mounted = None ∷ None ∷ None ∷ None ∷ []
 
--- a guest of so many pages and steps in a round
+-- a guest with a number of pages, and of steps in a round
 abbrev pub guest : List ℕ → ℕ → ℕ → ℕ → Bool → Option ℕ → GuestRow
 guest name n pages quantum autostart console = record {
   name = name;
@@ -87,6 +87,6 @@ abbrev pub packet : ℕ → ℕ → ℕ → ℕ → ℕ → List ℕ
 packet function unit block buffer size =
     long_bytes function ++ long_bytes unit ++ long_bytes block ++ long_bytes buffer ++ long_bytes size ++ long_bytes 0
 
--- bytes and zeros after them, so many in all
+-- bytes and zeros after them, n in all
 abbrev pub filled : ℕ → List ℕ → List ℕ
 filled n bytes = bytes ++ replicate (n - length bytes) 0

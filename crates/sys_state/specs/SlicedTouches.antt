@@ -7,7 +7,7 @@ use Rattle.sys_state.specs.Slices.{Slice}
 use Rattle.vm_state.specs.State.{Guest}
 use Rattle.vm_state.specs.Touches.{Touching, touching_steps}
 
--- so many steps of a guest, if there is one
+-- n steps of a guest, if there is one
 abbrev pub touched_as : ℕ → Option Guest → Touching → Touching
 touched_as n None t = t
 touched_as n (Some g) t = touching_steps n g t

@@ -9,7 +9,7 @@ use Rattle.sys_state.specs.Guests.{alone}
 use Rattle.sys_state.specs.State.{Put, Went}
 use Rattle.vm_state.specs.State.{Guest}
 
--- the guest at a place takes so many steps
+-- the guest at a place takes a number of steps
 pub record Slice : Type 0 where
   pub guest : ℕ
   pub steps : ℕ

@@ -1,5 +1,5 @@
-//! Runs of several guests, each alone on its private virtual VAX, with events, transfers and devices, as definitions;
-//! their laws.
+//! A run of several guests, as definitions: events, turns, transfers, what lines and drives get. Each guest is alone on its
+//! private virtual VAX. The laws of these definitions are here too.
 #![tactic(auto)]
 
 mod laws;

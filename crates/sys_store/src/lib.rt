@@ -1,4 +1,4 @@
-//! The blocks of volumes, and the jobs of printers.
+//! The blocks of volumes, and the text of a print job.
 #![tactic(auto)]
 
 mod job;

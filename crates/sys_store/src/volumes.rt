@@ -95,7 +95,7 @@ fn zero_block() -> [u8; 512]
     [0; 512]
 }
 
-/// A volume of so many blocks, all bytes zero.
+/// A volume of `size` blocks, all bytes zero.
 #[tactic(auto, using(crate::proofs::Zero::no_blocks, crate::proofs::Zero::one_block_more, crate::proofs::Zero::length_zero_volume))]
 fn zero_volume(alloc: Global, size: u32) -> Result<Vec<[u8; 512]>, NoMemory>
     ensures zero { IfOk result (λ blocks. blocks.items ≡ zero_volume size) }

@@ -58,7 +58,7 @@ all_fit (row ∷ rows) (blocks ∷ given) long none =
     let rest : FitRows rows given = all_fit rows given (omega (arith, long)) p.1 in
     λ i. here i ∷ rest i
 
--- blocks as a drive that tells them has them
+-- blocks as a drive whose blocks are known has them
 abbrev pub told : List (List ℕ) → SeenDrive
 told bytes = record { size = length bytes; blocks = Some bytes; faults = 0 }
 
@@ -73,7 +73,7 @@ all_written n volumes volumes' v blocks h before =
     let same : now ≡ blocks = sym (take_all n now (omega (arith, h, before.size))) ∙ before.told ∙ take_all n blocks h in
     before.others ∙ ap (slice_set volumes v) same
 
--- So many volumes have the given blocks, and all have as many.
+-- n volumes have the given blocks, and all have as many.
 pub record AreGivenTo (n : ℕ) (given volumes : List (List (List ℕ))) : Type 0 where
   pub sizes : map length volumes ≡ map length given
   pub first : take n volumes ≡ take n given

@@ -139,7 +139,7 @@ module _ (es : List Event) (xs : List Slice) (m m1 m2 m3 : Machine) (s s1 s2 s3 
       let last' : m3.trail ≡ m2.trail = ap (λ (x : Machine). x.trail) e.machine in
       record { retired = omega (arith, p.retires.retired, first, last); trail = omega (arith, p.retires.trail, first', last') }
 
-  -- first touches pay for what is missed in the slices
+  -- first touches count what is missed in the slices
   begun_long : length begun.now.guests ≡ length s1.guests
   begun_long = ap (λ (y : SystemState). length y.guests) (sym b.goes.state) ∙ length-map s1.guests (λ (k : Kept). _)
 

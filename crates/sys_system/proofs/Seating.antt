@@ -14,7 +14,7 @@ use Rattle.sys_state.specs.Run.{connections}
 abbrev first_at : List GuestRow → ℕ → Option ℕ
 first_at rows i = place_of (λ row. is_at i row.console) rows
 
--- the consoles of so many terminals from a place on
+-- the consoles of n terminals from a place on
 abbrev pub seats : List GuestRow → ℕ → ℕ → List (Option ℕ)
 seats rows i zero = []
 seats rows i (suc n) = first_at rows i ∷ seats rows (suc i) n
@@ -34,7 +34,7 @@ are_connections : (rows : List GuestRow) (i : ℕ) (ts : List Terminal) → conn
 are_connections rows i [] = refl
 are_connections rows i (t ∷ ts) = ap (λ xs. first_at rows i ∷ xs) (are_connections rows (suc i) ts)
 
--- so many terminals have their consoles, and the other places are empty
+-- n terminals have their consoles, and the other places are empty
 abbrev pub seated : List GuestRow → ℕ → List (Option ℕ)
 seated rows n = seats rows 0 n ++ replicate (32 - n) None
 

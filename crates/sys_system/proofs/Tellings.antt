@@ -1,4 +1,4 @@
--- What a step that is watched tells.
+-- What is noted of a step that is watched.
 use Rattle.std.proofs.Common.{◌≡◌, ◌≤◌, [], length, arith, Option, Some, None}
 use Rattle.std.specs.Prelude.{IfSome}
 use Rattle.sys_guests.specs.Changes.{shown_in}

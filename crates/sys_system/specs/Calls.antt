@@ -41,7 +41,7 @@ pub record BeginsRound (es : List Event) (m : Machine) (s : System) (lines : Lis
   pub goes : LeadsToState (events s.config (s.rounds + 1) (system_state m.memory s) es) m s lines m' s' lines'
   pub machine : m' ≡ record m { memory = m'.memory }
 
--- A round is begun, and the guest has so many steps left.
+-- A round is begun, and the guest has at least the slice's steps left.
 pub record CanTake (s : System) (x : Slice) : Type 0 where
   pub begun : s.turns.is_begun ≡ true
   pub there : x.guest < length s.guests
@@ -54,7 +54,7 @@ slice_of x memory s = record {
   puts = (sliced s.config.terminals s.connected x (guests_in memory s.guests)).puts;
 }
 
--- A slice: so many steps of one guest alone; its terminal's line is shown what it shows.
+-- A slice of one guest alone; its terminal's line is shown what it shows.
 pub record TakesSlice (x : Slice) (m : Machine) (s : System) (lines : List Seen) (m' : Machine) (s' : System) (lines' : List Seen) : Type 0 where
   pub system : s' ≡ record s { guests = s'.guests; turns = after_slice s.turns x; counts = s'.counts; marks = s'.marks }
   pub goes : LeadsToState (slice_of x m.memory s) m s lines m' s' lines'
@@ -67,8 +67,8 @@ pub record EndsRound (m : Machine) (s : System) (lines : List Seen) (m' : Machin
   pub goes : LeadsToState (transfers s.config (system_state m.memory s)) m s lines m' s' lines'
   pub machine : m' ≡ record m { memory = m'.memory }
 
--- A whole round: its events, then each guest's quantum of steps, taken alone, then its transfers. First touches pay for what
--- the machine misses.
+-- A whole round: its events, then each guest's quantum of steps, taken alone, then its transfers. First touches count at least
+-- what the machine misses.
 pub record MakesRound (es : List Event) (m : Machine) (s : System) (lines : List Seen) (m' : Machine) (s' : System) (lines' : List Seen) : Type 0 where
   pub system : s' ≡ record s { connected = s'.connected; mounts = s'.mounts; guests = s'.guests; volumes = s'.volumes; turns = s'.turns; rounds = s.rounds + 1; counts = s'.counts; marks = s'.marks }
   pub ended : s'.turns.is_begun ≡ false

@@ -27,7 +27,8 @@ pub record HasPower (c : Config) (images : List (List ℕ)) (drives drives' : Li
   pub loaded : Loads c.volumes drives drives' (Ok volumes)
   pub powered : IsPowered c images volumes m' s
 
--- the first image that doesn't fit; or else the first volume that can't be read; or memory ran out
+-- the first image that doesn't fit; or else the first volume whose drive has another size, or a drive that failed; or memory ran
+-- out
 abbrev pub Powers : Config → List (List ℕ) → List SeenDrive → List SeenDrive → Machine → Result System PowerFault → Type 0
 Powers c images drives drives' m' (Ok s) = HasPower c images drives drives' m' s
 Powers c images drives drives' m' (Err (Image g)) = (first_misfit c.guests images ≡ Some g) × (drives' ≡ drives)

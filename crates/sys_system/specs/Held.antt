@@ -24,7 +24,7 @@ system_of s = record {
   drives = s.drives;
 }
 
--- beyond the terminals and the guests there is nothing
+-- The parts are a system's, with places for 32 terminals and 16 guests; beyond the terminals no console is connected.
 pub record AreSystemParts (s : Parts) : Type 0 where
   pub system : IsSystem (system_of s)
   pub terminals : length s.kernel.server.at ≡ 32

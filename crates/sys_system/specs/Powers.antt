@@ -10,8 +10,8 @@ use Rattle.vm_stepping.specs.Made.{no_counts}
 abbrev pub no_turns : ℕ → Turns
 no_turns guests = record { left = replicate guests 0; from = 0; is_begun = false }
 
--- The state is that of the moment, and so many rounds were made before; no round is begun, nothing is counted, and no device is
--- marked.
+-- The state is that of the moment, and so is the number of rounds made before; no round is begun, nothing is counted, and no
+-- device is marked.
 pub record IsAt (m : Moment) (m' : Machine) (s : System) : Type 0 where
   pub system : s ≡ record { config = m.config; connected = m.state.connected; mounts = m.state.mounts; guests = s.guests; volumes = m.state.volumes; turns = no_turns (length m.config.guests); rounds = m.made; counts = no_counts; marks = replicate 32 false; drives = replicate 16 false }
   pub state : system_state m'.memory s ≡ m.state

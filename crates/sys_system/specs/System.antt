@@ -48,7 +48,7 @@ system_state memory s = record { connected = s.connected; mounts = s.mounts; gue
 abbrev pub moment_of : List ℕ → System → Moment
 moment_of memory s = record { config = s.config; made = s.rounds; state = system_state memory s }
 
--- what holds of it at every moment
+-- the invariant of a system
 pub record IsSystem (s : System) : Type 0 where
   pub accepted : IsConfig s.config
   pub consoles : length s.connected ≡ length s.config.terminals
@@ -72,7 +72,7 @@ IsInMachine memory s = AreInMachine s.config.guests memory s.guests
 abbrev pub all_turns : List GuestRow → Turns
 all_turns rows = record { left = map (λ row. row.quantum) rows; from = 0; is_begun = true }
 
--- a guest took so many steps
+-- a guest took a slice's steps
 abbrev pub after_slice : Turns → Slice → Turns
 after_slice t x = record t { left = changed (λ n. n - x.steps) t.left x.guest; from = x.guest + 1 }
 

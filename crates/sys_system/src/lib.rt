@@ -1,4 +1,4 @@
-//! Several guests on the one machine: rounds with their events, slices and transfers, and the devices of the outside.
+//! One round of all guests: its events, slices and transfers; power-up, power-down, and the snapshot's moment.
 #![tactic(auto)]
 
 mod assembling;

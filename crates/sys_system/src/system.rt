@@ -40,8 +40,8 @@ impl Model for System {
 }
 
 impl System {
-    /// The next slice of the round: of the next guest in the configuration's order, after the one that was sliced last and
-    /// round again, that has steps left, with a slice or what it has left; a round begins with the first guest. None
+    /// The next slice of the round: at most a slice of the steps that the next guest has left. Guests with steps left follow in
+    /// the configuration's order, after the one that was sliced last and round again; a round begins with the first guest. None
     /// where no guest has steps left, or no round is begun.
     pub fn next(&self) -> Option<TimeSlice>
         ensures { option_map slice_of_time result ≡ next_slice self.now.config.slice self.now.turns }
@@ -69,8 +69,8 @@ impl System {
         happen(machine, lines, &mut s.kernel, s.rounds, events);
     }
 
-    /// A slice of a round: the guest takes so many of the steps that it has left, and its terminal's line is shown what
-    /// they show. It takes no memory, and no fault of a line is answered: it is kept as a mark.
+    /// A slice of a round: the guest takes `steps` of the steps that it has left, and its terminal's line is shown what they
+    /// show. It takes no memory, and no fault of a line is answered: it is kept as a mark.
     pub fn slice<H: Hardware, L: Lines>(
         &mut self,
         machine: &mut H,

@@ -64,7 +64,7 @@ impl Turns {
         }
     }
 
-    /// The next slice: at most so many steps of the next guest with steps left.
+    /// The next slice: at most `slice` steps of the next guest with steps left.
     pub fn next(&self, slice: u32) -> Option<TimeSlice>
         requires from { self.now.from ≤ vec_len self.now.left }
         requires few { vec_len self.now.left ≤ 16 }

@@ -16,7 +16,7 @@ use vm_guest::{Counts, Guest, Note};
 use vv_base::Text;
 use vv_io::Lines;
 
-/// What a step was: how many of each kind, which is one in all; what it tells; and the bytes that it showed.
+/// What a step was: how many of each kind, which is one in all; its note; and the bytes that it showed.
 #[derive(Drop)]
 pub struct Watched {
     pub counts: Counts,

@@ -102,7 +102,7 @@ reads_on g va pa count entry table small low e =
 byte_first : (memory : List ℕ) (pa count : ℕ) → pa < length memory → take (suc count) (drop pa memory) ≡ slice_index memory pa ∷ take count (drop (pa + 1) memory)
 byte_first memory pa count inside = at_drop_more (take (suc count)) memory pa 0 inside
 
--- so many bytes are read, and then the rest
+-- `count` bytes are read, and then the rest
 pub readable_more : (g : Guest) (count rest n va pa : ℕ) → n ≡ count + rest → va < 2 ^ 32 → ReadsOn g va pa count → readable n g va ≡ bytes_at g pa count ++ readable rest g ((va + count) % 2 ^ 32)
 unfolding readable
 readable_more g zero rest n va pa is small on =
@@ -135,7 +135,7 @@ unfolding readable
 readable_ends g zero va c none = refl
 readable_ends g (suc n) va c none = ap (λ r. if_read r (readable n g ((va + 1) % 2 ^ 32))) none
 
--- So many of the bytes are still to be read.
+-- `left` of the bytes are still to be read.
 pub record IsRead (h : Guest) (left : ℕ) (bytes : List ℕ) : Type 0 where
   pub few : left ≤ 21
   pub long : length bytes + left ≡ 21

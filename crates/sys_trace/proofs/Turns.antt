@@ -44,7 +44,7 @@ use Rattle.vm_state.specs.Step.{step}
 use Rattle.vv_io.specs.Blocks as blocks
 use Rattle.vv_io.specs.Lines.{Seen}
 
--- a guest after so many steps
+-- a guest after n steps
 abbrev pub later : ℕ → Guest → Guest
 later zero g = g
 later (suc n) g = later n (step g).guest
@@ -83,7 +83,7 @@ first_later ks os n (x ∷ gs) now g here is =
     let same : x ≡ g = cc in
     ap (λ (xs : List Guest). slice_get xs 0) is ∙ first_after ks os n x gs ∙ ap (λ y. Some (later n y)) same
 
--- so many steps in all
+-- n steps in all
 pub total_of : (n : ℕ) → total (single_steps n) 0 ≡ n
 total_of zero = refl
 total_of (suc n) = let rest = total_of n in omega (arith, rest)

@@ -4,7 +4,7 @@ use Rattle.sys_trace.specs.TraceLine.{trace_line}
 use Rattle.vm_state.specs.State.{Guest}
 use Rattle.vm_state.specs.Step.{step}
 
--- so many steps, the first of which has this number
+-- n steps, the first of which has this number
 abbrev pub trace_from : ℕ → ℕ → Guest → List ℕ
 trace_from number zero g = []
 trace_from number (suc n) g = trace_line number g (step g) ++ trace_from (number + 1) n (step g).guest

@@ -30,14 +30,14 @@ mode_name Executive = codes "E"
 mode_name Supervisor = codes "S"
 mode_name User = codes "U"
 
--- a text in a column of so many bytes, at its left or at its right; one that is longer is shown whole
+-- a text in a column of `width` bytes, at its left or at its right; one that is longer is shown whole
 abbrev pub at_left : ℕ → List ℕ → List ℕ
 at_left width text = text ++ replicate (width - length text) 32
 
 abbrev pub at_right : ℕ → List ℕ → List ℕ
 at_right width text = replicate (width - length text) 32 ++ text
 
--- the bytes that the guest can read from an address on, up to the first that it can't, and so many at most
+-- the bytes that the guest can read from an address on, up to the first that it can't, and n at most
 abbrev pub if_read : Result ℕ Cause → List ℕ → List ℕ
 if_read (Ok b) others = b ∷ others
 if_read (Err cause) others = []

@@ -14,7 +14,7 @@ use Rattle.sys_system.specs.declared.power.PowerFault.{PowerFault}
 use Rattle.sys_trace.specs.Trace.{trace_of}
 use Rattle.sys_trace.specs.declared.tracing.Traced.{Traced}
 
--- so many slices of one step of the first guest
+-- n slices of one step of the first guest
 abbrev pub single_steps : ℕ → List Slice
 single_steps n = replicate n (record { guest = 0; steps = 1 })
 

@@ -19,7 +19,7 @@ const MOST: u32 = 21;
 /// The bytes of one instruction at most.
 type Bytes = Text<21>;
 
-/// Appends so many bytes of a guest's memory from a physical address on.
+/// Appends `count` bytes of a guest's memory from a physical address on.
 fn append<H: Hardware>(machine: &H, guest: &Guest, pa: u32, count: u32, bytes: &mut Bytes)
     requires stands { IsShadowedIn (H.machine machine.now).memory guest.now }
     requires inside { pa + count ≤ 512 * guest.now.state.pages }
@@ -32,7 +32,7 @@ fn append<H: Hardware>(machine: &H, guest: &Guest, pa: u32, count: u32, bytes: &
     let _ = bytes.push_all(part);
 }
 
-/// How many bytes from an address on lie in its page, and so many at most.
+/// How many bytes from an address on lie in its page, `most` at most.
 fn in_page(va: u32, most: u32) -> u32
     requires { 1 ≤ most }
     ensures some { 1 ≤ result }

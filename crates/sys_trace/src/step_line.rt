@@ -128,7 +128,7 @@ fn head(number: u32, before: &Before, counts: &Counts) -> StepLine
     line
 }
 
-/// A word for what the step tells, each register and the PSL that are others after it, and what it showed.
+/// A word for the step's note, each register and the PSL that it changed, and what it showed.
 fn words(before: &Before, watched: &Watched, after: &GuestState) -> StepLine
     ensures words { (g : Guest) → IsBefore g before.now → DescribesStep g watched.now → state_of after.now ≡ (step g).guest.state → result ≡ step_words g (step g) }
     ensures short { length result ≤ 260 }

@@ -69,7 +69,7 @@ fn trace_step<H: Hardware, L: Lines>(
     step_line(number, &before, &watched, system.guest(0).state())
 }
 
-/// The first guest takes so many steps of its turn, and the line of each is shown on `out`, up to the first fault. It takes no
+/// The first guest takes `steps` steps of its turn, and the line of each is shown on `out`, up to the first fault. It takes no
 /// memory. Answers whether `out` failed.
 fn trace_turn<H: Hardware, O: Sink, L: Lines>(
     system: &mut System,

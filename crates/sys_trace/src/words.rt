@@ -50,7 +50,7 @@ fn put_word(line: &mut StepLine, name: &[u8], value: u32, digits: u8)
     line.append(hex(u64::from(value), digits).bytes());
 }
 
-/// Appends the word of what a step tells.
+/// Appends the word of a step's note.
 pub fn put_note(line: &mut StepLine, note: Note)
     requires { length line.old + 18 ≤ 512 }
     ensures word { line.new ≡ line.old ++ note_word note }

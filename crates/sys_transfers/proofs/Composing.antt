@@ -49,7 +49,7 @@ becomes_turned m k x k' stands turns = record {
   tables = ap (λ (s : Shadowed). s.at) turns.shadow;
 }
 
--- told of another guest that is the same
+-- said of another guest that is the same
 pub becomes_as : (g h : Guest) (m : Machine) (k : Kept) (m' : Machine) (k' : Kept) → g ≡ h → Becomes g m k m' k' → Becomes h m k m' k'
 becomes_as g h m k m' k' same x = subst (λ (y : Guest). Becomes y m k m' k') same x
 

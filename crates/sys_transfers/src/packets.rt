@@ -35,7 +35,7 @@ pub fn request_at<H: Hardware>(machine: &H, guest: &Guest, at: u32) -> Request
     }
 }
 
-/// Whether so many bytes from a physical address aren't all in a guest's memory.
+/// Whether `bytes` bytes from a physical address on aren't all in a guest's memory.
 pub fn is_outside(guest: &Guest, at: u32, bytes: u32) -> bool
     ensures { result ≡ is_past (512 * guest.now.state.pages) at bytes }
 {

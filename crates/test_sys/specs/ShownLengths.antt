@@ -1,4 +1,4 @@
--- Worked examples of the lengths of replies, by computation: a reply's first letter tells its length.
+-- Worked examples of the lengths of replies, by computation: a reply's first letter gives its length.
 use Rattle.std.specs.Prelude.{◌≡◌, ℕ, List, ◌++◌, codes, refl}
 use Rattle.sys_audit_check.specs.Reading.{text_after_reply}
 

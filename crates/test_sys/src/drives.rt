@@ -11,7 +11,7 @@ use vv_base::object_name;
 use vv_class::read_class;
 use vv_io::{Drive, MemDrive};
 
-/// The volume of a drive, if there can be one of so many blocks.
+/// The volume of a drive, if there can be one of `blocks` blocks.
 fn volume(drive: u8, blocks: u32) -> Option<VolumeRow>
     ensures volume { IfSome result (λ row. IsVolume row) }
     ensures drive { IfSome result (λ row. row.drive ≡ drive) }
@@ -30,7 +30,7 @@ fn volume(drive: u8, blocks: u32) -> Option<VolumeRow>
     })
 }
 
-/// Volumes of so many blocks on two drives.
+/// Volumes of `first` and of `second` blocks on two drives.
 fn two_volumes(drives: (u8, u8), first: u32, second: u32) -> Option<[VolumeRow; 2]>
     ensures volumes { IfSome result (λ rows. All IsVolume rows) }
     ensures apart { IfSome result (λ rows. AllPairs (λ v w. v.drive ≢ w.drive) rows) }
@@ -43,7 +43,7 @@ fn two_volumes(drives: (u8, u8), first: u32, second: u32) -> Option<[VolumeRow; 
     Some([volume(drives.0, first)?, volume(drives.1, second)?])
 }
 
-/// So many blocks of one byte.
+/// `count` blocks of one byte.
 fn blocks_of(alloc: Global, count: u32, byte: u8) -> Result<Vec<[u8; 512]>, Fail> {
     let mut blocks = Vec::new(alloc);
     for _block in 0..count {
@@ -229,7 +229,7 @@ static TROUBLES: [Trouble; 7] = [
     (3, 2, &[(5, 3), (0, 0)], LoadFault::DriveIn(5)),
 ];
 
-/// The trouble is told, and nothing is stored.
+/// The fault is reported, and nothing is stored.
 fn is_told(rt: &impl Abort, alloc: Global, row: &Trouble) -> Result<(), Fail> {
     let (first, second, failing, fault) = *row;
     let copied = (first, second, failing, false);

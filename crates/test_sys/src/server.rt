@@ -235,7 +235,7 @@ fn other_lines_are_no_commands(rt: HostRuntime) {
     }
 }
 
-/// Verdicts, and what the terminal is told.
+/// Verdicts, and what the terminal is shown.
 static REPLIES: [(Verdict, &str); 5] = [
     (Verdict::Granted(Command::Show), "OK"),
     (Verdict::BadCommand, "BAD COMMAND"),

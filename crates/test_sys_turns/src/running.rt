@@ -125,7 +125,7 @@ fn make_one<H: Hardware, L: Lines>(
     }
 }
 
-/// Makes so many rounds, with their events, each by the slices of `next`, or by these.
+/// Makes `rounds` rounds, with their events, each by the slices of `next`, or by these.
 fn make_rounds<H: Hardware, L: Lines>(
     system: &mut System,
     machine: &mut H,
@@ -153,7 +153,7 @@ fn make_rounds<H: Hardware, L: Lines>(
 pub struct How<'a> {
     /// Steps in a slice.
     pub slice: u32,
-    /// Where there are any: guests in an order, each with so many steps at most, round and again.
+    /// Where there are any: guests in an order that is repeated, each with a greatest number of steps.
     pub order: &'a [(u8, u32)],
 }
 

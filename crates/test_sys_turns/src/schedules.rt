@@ -1,5 +1,5 @@
-//! Slices of any guests, in any order, have the same outcome. The file `any_slices.cases` of `test_vvmm_cases` has what both come to,
-//! found by hand.
+//! Slices of any guests, in any order, have the same outcome. The file `any_slices.cases` of `test_vvmm_cases` has what both come
+//! to, found by hand.
 
 use crate::case::Case;
 use crate::content::Content;
@@ -12,7 +12,8 @@ use std::alloc::Global;
 use std::test::Fail;
 use vax_cpu::Cpu;
 
-/// A script of all forms, with transfers: by slices of the three guests in each order, of one step, of seven, of whole quanta, and of different sizes.
+/// A script of all forms, with transfers: by slices of the three guests in each order, of one step, of seven, of whole quanta,
+/// and of different sizes.
 #[test]
 fn slices_in_any_order(rt: HostRuntime) -> Result<(), Fail> {
     let alloc = rt.alloc();
@@ -143,8 +144,8 @@ const ECHO: Content = &[(
     Bytes(&[0xDB, 0x21, 0x50, 0x13, 0xFB, 0xDA, 0x50, 0x23, 0x11, 0xF6]),
 )];
 
-/// L: INCB @#1000; MTPR #280, #KCALL; MTPR #2A0, #KCALL; MTPR #62, #TXDB; BRB L. The packets write the block from 1000 and print five bytes
-/// from there.
+/// L: INCB @#1000; MTPR #280, #KCALL; MTPR #2A0, #KCALL; MTPR #62, #TXDB; BRB L. The packets write the block from 1000 and print
+/// five bytes from there.
 const WRITER: Content = &[
     (
         0x200,
@@ -161,8 +162,8 @@ const WRITER: Content = &[
     (0x1000, Bytes(b"0 job")),
 ];
 
-/// MTPR #280, #KCALL; MTPR #2A0, #KCALL; MTPR #2C0, #KCALL; MTPR #63, #TXDB; L: BRB L. The packets read block 0 of unit 1 to 1000 and of
-/// unit 2 to 1200, and write block 1 of unit 1 from 1000.
+/// MTPR #280, #KCALL; MTPR #2A0, #KCALL; MTPR #2C0, #KCALL; MTPR #63, #TXDB; L: BRB L. The packets read block 0 of unit 1 to 1000
+/// and of unit 2 to 1200, and write block 1 of unit 1 from 1000.
 const COPIER: Content = &[
     (
         0x200,
@@ -179,9 +180,9 @@ const COPIER: Content = &[
     (0x2C0, Longs(&[2, 1, 1, 0x1000, 0, 0])),
 ];
 
-/// Six rounds. The first guest looks for typed bytes in every step: 90 plain steps and 90 sensitive ones. The second goes round four times in
-/// each round, and each time counts its byte, writes, prints and shows a letter: 48 plain and 72 sensitive steps. The third runs from the
-/// second round to the fifth: four sensitive steps, 52 plain ones, and 28 in which it has stopped.
+/// Six rounds. The first guest looks for typed bytes in every step: 90 plain steps and 90 sensitive ones. The second goes round
+/// four times in each round, and each time counts its byte, writes, prints and shows a letter: 48 plain and 72 sensitive steps.
+/// The third runs from the second round to the fifth: four sensitive steps, 52 plain ones, and 28 in which it has stopped.
 const ALL: Case = Case {
     config: SYSTEM,
     images: &[ECHO, WRITER, COPIER],

@@ -10,7 +10,7 @@ use vv_base::NoMemory;
 /// How often the guests may come round in a round.
 const ROTATIONS: u32 = 10_000;
 
-/// How many steps a guest takes in all of these slices, if that can be told.
+/// How many steps a guest takes in all of these slices, if 64 bits hold the number.
 fn steps_of(slices: &[TimeSlice], guest: u8) -> Option<u64>
     ensures { IfSome result (λ n. n ≡ total (map slice_of_time slices.now) guest) }
 {
@@ -41,7 +41,7 @@ pub fn are_quanta(slices: &[TimeSlice], guest: u8, rows: &[GuestRow]) -> bool
     }
 }
 
-/// The slice of a guest in a rotation, in which it takes at most so many steps; none where its quantum is taken before.
+/// The slice of a guest in a rotation, in which it takes at most `most` steps; none where its quantum is taken before.
 fn slice_in(rows: &[GuestRow], rotation: u32, guest: u8, most: u32) -> Option<TimeSlice> {
     let row = rows.get(guest as usize)?;
     let left = row.quantum.saturating_sub(rotation.saturating_mul(most));
@@ -71,7 +71,7 @@ fn push_rotation(
     Ok(slices.len() != before)
 }
 
-/// The slices of a round: rotations in this order, in which each guest takes at most so many steps.
+/// The slices of a round: rotations in this order, in which each guest takes at most the number of steps beside it.
 pub fn rotations(
     alloc: Global,
     rows: &[GuestRow],

@@ -140,7 +140,7 @@ fn letters_of(alloc: Global, forms: &[Form]) -> Result<Vec<u8>, AllocError> {
     Ok(letters)
 }
 
-/// An opcode's row has the manual's operands, and tells whether a monitor does the instruction.
+/// An opcode's row has the manual's operands, and says whether a monitor does the instruction.
 fn check_row(rt: &impl Abort, alloc: Global, opcode: u8, letters: &str) -> Result<(), AllocError> {
     match row(opcode) {
         None => assert!(rt; letters == "-", "at {opcode}"),
@@ -161,7 +161,7 @@ fn rows_are_those_of_the_manual(rt: HostRuntime) -> Result<(), Fail> {
     Ok(())
 }
 
-/// Whether every proper front of the bytes wants more.
+/// Whether every proper front of the bytes needs more.
 fn wants_more_throughout(b: &[u8]) -> bool {
     for cut in 0..b.len() {
         if answer(&b[..cut]) != Err(None) {

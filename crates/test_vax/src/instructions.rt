@@ -32,7 +32,7 @@ fn byte_in(m: &Memory, va: u32) -> u8
     }
 }
 
-/// The number of so many bytes, the lowest first.
+/// The number in `bytes` bytes, the lowest first.
 #[tactic(auto, using(vax_operand::proofs::ByteByByte::byte_by_byte))]
 fn number(m: &Memory, va: u32, bytes: u32, write: bool) -> Result<u64, Trouble>
     requires { bytes ≤ 8 }
@@ -482,7 +482,7 @@ fn stores_pushes_and_pops(rt: HostRuntime) -> Result<(), Fail> {
     Ok(())
 }
 
-/// So many stores of longwords, where, and which.
+/// The first `count` stores of longwords, at these places, of these values.
 fn longwords(count: usize, places: &[u32; 7], values: &[u32; 7]) -> [Store; 8] {
     let mut stores = [Store::default(); 8];
     for i in 0..7 {

@@ -92,7 +92,7 @@ fn again(
     Ok((exit, cpu.save_world().r[3], cpu.misses()))
 }
 
-/// Its outcome is the wanted one.
+/// Its outcome is the expected one.
 fn check(
     rt: &impl Abort,
     alloc: Global,

@@ -1,5 +1,6 @@
-//! Worked examples of the processor's parts: fields of its longwords, decoding, arithmetic, operands, whole instructions over a memory
-//! of bytes, and the forms by which they are done; and of runs of the simulated machine over page tables that were made by hand.
+//! Worked examples of the processor's parts: fields of its longwords, decoding, arithmetic, operands, whole instructions over a
+//! memory of bytes, and the forms by which they are done. And of runs of the simulated machine over page tables that were made by
+//! hand.
 #![tactic(auto)]
 
 #[cfg(test)]

@@ -12,7 +12,7 @@ use vv_base::Width;
 /// address modulo 251, so that A0, A1, .. are from 2000 on.
 struct Memory;
 
-/// The number of so many bytes, the lowest first.
+/// The number in `bytes` bytes, the lowest first.
 #[tactic(auto, using(vax_operand::proofs::ByteByByte::byte_by_byte))]
 fn number(va: u32, bytes: u32, write: bool) -> Result<u64, Trouble>
     requires { bytes ≤ 8 }
@@ -63,7 +63,7 @@ fn operands(code: &[u8], r0: u32, r1: u32) -> Option<Result<Operands, Trouble>> 
     decoded(code, &r)
 }
 
-/// What is told of one operand: its value and destination, and R0 and PC after the instruction.
+/// What a row says of one operand: its value and destination, and R0 and PC after the instruction.
 #[derive(Clone, Copy, PartialEq, Eq)]
 struct Found {
     value: u64,

@@ -33,7 +33,7 @@ entries = (refl, refl, refl, refl)
 abbrev entry_3 : ℕ
 entry_3 = 0x8c
 
--- PROBER of so many bytes from 800 on, where nobody may use the page before it
+-- PROBER of `bytes` bytes from 800 on, where nobody may use the page before it
 abbrev probing : ℕ → Guest
 probing bytes = with_register 1 0x800 (guest_m (0x0c ∷ 0x00 ∷ bytes ∷ 0x61 ∷ []) ((entry_3, 0x80000003) ∷ []))
 

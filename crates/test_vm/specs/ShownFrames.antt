@@ -129,7 +129,7 @@ with_queue queue g = record g { state = record g.state { queue = queue } }
 abbrev with_block : ℕ → Guest → Guest
 with_block pcbb g = record g { state = record g.state { pcbb = pcbb } }
 
--- MTPR R2,#KCALL of a packet at 3F0, with so many waiting
+-- MTPR R2,#KCALL of a packet at 3F0, with `waiting` packets in the queue
 abbrev calls : ℕ → Guest
 calls waiting =
     let code = 0xda ∷ 0x52 ∷ 0x8f ∷ 0xc8 ∷ 0 ∷ 0 ∷ 0 ∷ [] in

@@ -234,7 +234,7 @@ fn kept_after<const N: usize>(port: &mut KeptPort<N>, front: &[u8], back: &[u8])
     show_all(port, back);
 }
 
-/// The same of one show to a new port of a large room.
+/// A new port with a large room, after one show.
 fn new_after(alloc: Global, text: &[u8]) -> Result<KeptPort<131_072>, NoMemory>
     requires { length text.now ≤ 131072 }
     ensures { IfOk result (λ port. port.bytes ≡ text.now) }

@@ -18,8 +18,9 @@ pub enum Ground {
     Machine,
 }
 
-/// What differs from a case: it can't be set up, the kinds of its steps, a place with what is found there and what is wanted,
-/// the bytes that are shown, how many instructions retired, why the machine ended, or how many entries it missed.
+/// What differs from a case: that it can't be set up; the kinds of its steps; a place with what is found there and what is
+/// expected; or the bytes that are shown. Of the machine alone: how many instructions retired, why it ended, or how many entries
+/// it missed.
 #[derive(Clone, Copy, Debug, PartialEq, Eq)]
 pub enum Difference {
     SetUp,

@@ -1,6 +1,6 @@
-//! A case of the machine alone is played: 16 pages, where the system table at 0 and the P0 table at 80 map each page to the frame
-//! of its number, and the P1 table at 100 the last four pages to the frames 8 to 11, open to all and modified. Numbers are
-//! hexadecimal.
+//! Plays a case of the machine alone, with 16 pages. The system table at 0 and the P0 table at 80 map each page to the frame of
+//! its number, and the P1 table at 100 the last four pages to the frames 8 to 11. All are open to all modes and modified. Numbers
+//! are hexadecimal.
 
 use crate::case::{Case, Difference};
 use std::alloc::Global;
@@ -136,7 +136,7 @@ fn intent(write: bool) -> &'static str {
     if write { "write" } else { "read" }
 }
 
-/// Whether an exit is told so.
+/// Whether a text names an exit.
 fn is_told(alloc: Global, exit: &Exit, text: &str) -> Result<bool, NoMemory> {
     let told = match exit {
         Exit::Budget => format!(in alloc; "budget")?,

@@ -1,5 +1,6 @@
-//! Worked cases of one guest, and of the machine alone, written as data: each argument names a case file, and docs/CASES.md tells its language. A case
-//! that holds is told by its title; one that doesn't by what differs, and a line that can't be read by its number.
+//! Worked cases of one guest, and of the machine alone, written as data: each argument names a case file, and docs/CASES.md has
+//! its language. A case that holds is reported by its title; one that doesn't by what differs, and a line that can't be read by
+//! its number.
 #![tactic(auto)]
 
 mod case;
@@ -32,8 +33,8 @@ struct Play<'t> {
 /// A case of many steps is cut in two at this many places.
 const CUTS: u32 = 100;
 
-/// What differs from a case of a guest, if anything, where the steps are taken one by one, in one call, or in two; and how they were
-/// taken.
+/// What differs from a case of a guest, if anything, where the steps are taken one by one, in one call, or in two; and how they
+/// were taken.
 fn compare_guest(alloc: Global, case: &Case) -> Result<Option<(Quanta, Difference)>, NoMemory> {
     if let Some(found) = guest::compare(alloc, case, Quanta::Single)? {
         return Ok(Some((Quanta::Single, found)));
@@ -56,7 +57,7 @@ fn compare(alloc: Global, case: &Case) -> Result<Option<(Quanta, Difference)>, N
     }
 }
 
-/// Takes lines into a case, and tells those that can't be read; whether all can be read.
+/// Takes lines into a case, and reports those that can't be read; whether all can be read.
 fn take_all<'t>(
     rt: &HostRuntime,
     case: &mut Case<'t>,
@@ -123,7 +124,7 @@ impl<'t> Play<'t> {
         Ok(found.is_none())
     }
 
-    /// Plays the case that was read, if there is one, and tells whether it holds.
+    /// Plays the case that was read, if there is one, and reports whether it holds.
     fn end_case(&mut self, rt: &HostRuntime) -> Result<(), NoMemory> {
         if let Some((number, title)) = self.title {
             let mut holds = true;

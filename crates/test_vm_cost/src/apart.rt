@@ -13,7 +13,7 @@ use std::test::Fail;
 use test_vm_stage::{Quanta, Snapshot, Stage, sums};
 use vv_base::NoMemory;
 
-/// The same guest three times, and what its steps did, as far as each was taken on a new machine.
+/// One guest three times, and what its steps did, as far as each was taken on a new machine.
 #[derive(Drop)]
 struct Three {
     whole: Stage,
@@ -22,7 +22,7 @@ struct Three {
     tally: Tally,
 }
 
-/// Steps, of which so many at the front are each taken on a new machine; what they did.
+/// Takes `steps` steps, of which the first `apart` are each taken on a new machine; what they did.
 fn play_carried(
     alloc: Global,
     stage: Stage,
@@ -168,9 +168,9 @@ fn drawn_three(alloc: Global, seed: u32) -> Result<Three, NoMemory>
     })
 }
 
-/// Guests that are drawn from every other seed from one on, each for so many rounds of 1 to 40 steps, of which so many are
-/// taken on new machines. Then the least number of steps that each guest takes without being stopped, of steps of each kind, and
-/// of steps that do each thing; and the greatest number of steps that are stopped.
+/// Guests that are drawn from every other seed from one on: for each, the number of rounds of 1 to 40 steps, and how many steps
+/// of a round are taken on new machines. Then the least number of steps that each guest takes without being stopped, of steps of
+/// each kind, and of steps that do each thing; and the greatest number of steps that are stopped.
 #[derive(Clone, Copy)]
 struct Plan {
     first: u32,
@@ -182,7 +182,7 @@ struct Plan {
     most_stopped: u64,
 }
 
-/// All rounds, in each of which so many steps are taken on new machines; what all steps did.
+/// All rounds of a plan, each with its steps on new machines; what all steps did.
 fn play_all(
     rt: &impl Abort,
     alloc: Global,

@@ -3,7 +3,7 @@
 use crate::draw::{Draw, FIRST_FAR, TABLES, entry};
 use crate::forms::{FORMS, WRITES};
 
-/// So many bytes of code.
+/// The number of bytes of code.
 const SIZE: usize = 0x800;
 
 /// Code, one instruction after the other.
@@ -26,7 +26,7 @@ impl Code {
         &self.bytes
     }
 
-    /// The first bytes, of so many at most.
+    /// The first bytes, at most `count`.
     pub fn first(&self, count: usize) -> &[u8] {
         self.bytes.get(..count).unwrap_or(&self.bytes)
     }
@@ -51,7 +51,7 @@ impl Code {
         self.push_long(v);
     }
 
-    /// So many bytes, and an absolute address after them.
+    /// Bytes, and an absolute address after them.
     fn push_absolute(&mut self, front: &[u8], address: u32) {
         for byte in front {
             self.push(*byte);

@@ -91,10 +91,10 @@ fn each_step_costs_what_was_counted_by_hand(rt: HostRuntime) -> Result<(), Fail>
 }
 
 /// The steps of the program: longwords read and written by the kernel, runs of the machine, misses in them, and guarded runs.
-/// Each switch empties what it drops, one write an entry; a mapped page is found by two longwords, a system page by one, of
-/// which a fill reads the page's own entry twice. After a guarded store its page is closed by a write more, unless its own entry is dropped; it
-/// may then be granted, since nothing is read from its frame. A fill from a frame that may be written reads each entry that is
-/// filled in a group of 128 by which it may be, and closes those that map it.
+/// Each switch empties what it drops, one write an entry; a mapped page is found by two longwords, a system page by one, of which
+/// a fill reads the page's own entry twice. After a guarded store its page is closed by a write more, unless its own entry is
+/// dropped; it may then be granted, since nothing is read from its frame. A fill from a frame that may be written reads each
+/// entry that is filled in a group of 128 by which it may be, and closes those that map it.
 const STEPS: [(&str, [u64; 5]); 25] = [
     ("SBR, over the filled page", [0, 2, 2, 1, 0]),
     ("SLR", [0, 2, 2, 1, 0]),

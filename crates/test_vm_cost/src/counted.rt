@@ -7,8 +7,8 @@ use vax_cpu::Cpu;
 use vax_hw::{Exit, Hardware, World};
 use vv_base::NoMemory;
 
-/// How often the machine was asked: longwords read and written by the kernel, runs, pages missed in them, and how many of the
-/// runs were guarded: a modify bit was set by the kernel right before such a run, and is clear again right after it.
+/// How often the machine was asked: longwords read and written by the kernel, runs, pages missed in them, and guarded runs. The
+/// kernel sets a modify bit right before a guarded run, and clears it right after it.
 #[derive(Clone, Copy, Debug, Default, PartialEq, Eq)]
 pub struct Cost {
     pub reads: u64,
@@ -32,7 +32,7 @@ pub struct Counted {
 }
 
 impl Counted {
-    /// A machine of so many pages, of which nothing was asked.
+    /// A machine of `pages` pages, of which nothing was asked.
     pub fn new(alloc: Global, pages: u32) -> Result<Counted, NoMemory>
         requires some { 1 ≤ pages }
         requires most { pages ≤ 65536 }

@@ -53,7 +53,7 @@ impl Draw {
         (self.number() % 0x100) as u8
     }
 
-    /// Whether one of so many.
+    /// Draws true with one chance in `count`.
     pub fn one_of(&mut self, count: u32) -> bool
         requires { 0 < count }
     {

@@ -101,8 +101,8 @@ fn act(stage: &mut Stage, event: Event)
     }
 }
 
-/// It happens to a guest; one that has stopped runs on in this mode. Registers are set only where one changes, since what is
-/// set is told to the tables.
+/// It happens to a guest; one that has stopped runs on in this mode. Registers are set only where one changes, since the tables
+/// switch to what is set.
 pub fn happen(stage: &mut Stage, event: Event, mode: u32)
     requires { IsShadowedIn stage.old.machine.memory stage.old.guest }
     ensures { IsShadowedIn stage.new.machine.memory stage.new.guest }

@@ -30,9 +30,9 @@ static BEGIN: [u8; 68] = [
     0x02, // 943 REI
 ];
 
-/// The handlers, in the page at 80001000: of an interrupt; of a fault, which goes on at the next multiple of 16 in the code,
-/// and of one with two parameters; of what has one parameter; of a kernel stack that isn't valid; of the clock, which goes on
-/// with the next of eight contexts; of CHMK, which does so; of software level 2, which asks for no trap any more; of a modify
+/// The handlers, in the page at 80001000. First those of an interrupt; of a fault, which goes on at the next multiple of 16 in
+/// the code, and of one with two parameters; of what has one parameter; of a kernel stack that isn't valid. Then those of the
+/// clock and of CHMK, which go on with the next of eight contexts; of software level 2, which sets ASTLVL to 4; of a modify
 /// fault; and of an arithmetic trap.
 static HANDLERS: [u8; 86] = [
     0x02, 0x01, 0x01, 0x01, // 1000 REI
@@ -133,7 +133,7 @@ fn draw_tables(stage: &mut Stage, draw: &mut Draw)
     let _ = stage.put_rising(0x4300, 8, 0xA000_002C, 1);
 }
 
-/// Numbers in so many longwords of data.
+/// Puts numbers that are drawn into longwords of data.
 fn draw_data(stage: &mut Stage, draw: &mut Draw)
     requires { IsShadowedIn stage.old.machine.memory stage.old.guest }
     ensures { IsShadowedIn stage.new.machine.memory stage.new.guest }

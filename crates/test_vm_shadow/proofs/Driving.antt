@@ -92,7 +92,7 @@ stored pa memory g m m' s s' k w = record {
   allowed = k.allowed;
 }
 
--- a page that was filled is remembered
+-- a page that was filled is recorded
 filled_by : (pending : List ℕ) (size base : ℕ) (memory : List ℕ) (seen : Lookup) (real : ℕ) (o : Option Source) → is_some o ≡ true → IsKept size base memory pending seen real o → is_valid real ≡ true
 filled_by pending size base memory seen real None e h = cc
 filled_by pending size base memory seen real (Some source) e h = h.0

@@ -6,7 +6,7 @@ use crate::{Bench, Event, NoPlace, Registers};
 use std::process::Abort;
 
 impl Bench {
-    /// So many of some events can happen, and the machine agrees with the guest's tables after each.
+    /// Of some events `happened` can happen, and the machine agrees with the guest's tables after each.
     pub fn check_followed(&mut self, rt: &impl Abort, events: &[Event], happened: u32)
         requires { StandsFor self.old.machine.memory self.old.shadow self.old.guest }
         ensures { StandsFor self.new.machine.memory self.new.shadow self.new.guest }

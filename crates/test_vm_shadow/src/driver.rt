@@ -35,8 +35,8 @@ pub struct Bench {
     pub guest: GuestState,
 }
 
-/// What happens to a guest: the kernel writes a longword or a byte of its memory; the kernel sets the modify bit of a page;
-/// writes to a page are granted; a byte is written in a guarded step; its table registers change; a page is referred to.
+/// What happens to a guest: the kernel writes a longword or a byte of its memory, sets the modify bit of a page, or grants writes
+/// to a page. Or a byte is written in a guarded step; its table registers change; a page is referred to.
 #[derive(Clone, Copy, Debug)]
 pub enum Event {
     Put { pa: u32, long: u32 },

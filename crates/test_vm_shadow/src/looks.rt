@@ -27,7 +27,7 @@ macro_rules! narrow {
     };
 }
 
-/// The 64 pages of the wide P0 table: 62 of them have the frame 21, in which all 128 entries are valid; the next has the frame
+/// The 64 pages of the wide P0 table. 62 of them have the frame 21, in which all 128 entries are valid; the next has the frame
 /// 22, with one valid entry, and the last the frame 24, with one too. In the frame 23 a hundred are valid.
 fn put_tables(bench: &mut Bench)
     requires { StandsFor bench.old.machine.memory bench.old.shadow bench.old.guest }
@@ -152,7 +152,7 @@ static ROWS: [Row; 22] = [
     ("mapping stays on", Event::Load(WIDE), 0),
 ];
 
-/// What a row says happens, and looks at so many records.
+/// What a row says happens, and the shadow looks at as many records as the row says.
 fn check_row(rt: &impl Abort, bench: &mut Bench, row: &Row)
     requires { StandsFor bench.old.machine.memory bench.old.shadow bench.old.guest }
     ensures { StandsFor bench.new.machine.memory bench.new.shadow bench.new.guest }

@@ -59,7 +59,7 @@ fn with_code(alloc: Global) -> Result<Bench, NoMemory>
     Ok(bench)
 }
 
-/// The same with the byte 22 in frame 6, 33 in frame 9, and an entry of the page at 1000.
+/// A guest with the two instructions, the bytes 11, 22 and 33 in frames 5, 6 and 9, and this entry of the page at 1000.
 fn with_bytes(alloc: Global, entry_8: u32) -> Result<Bench, NoMemory>
     ensures { IfOk result (λ b. StandsFor b.machine.memory b.shadow b.guest) }
 {

@@ -1,8 +1,8 @@
 use vm_state::GuestState;
 
-/// A register of a guest by its name, or a longword of its memory. The bits of PSL are one register, and so are the stop code
-/// and whether there is one; `Typed` is the number of bytes that wait at the console, `Packets` that of the packets that
-/// wait, and `Steps` what UPTIME reads.
+/// A register of a guest by its name, or a longword of its memory. The bits of PSL are one register, and so are the stop code and
+/// whether there is one. `Typed` is the number of bytes that wait at the console, `Packets` that of the packets that wait, and
+/// `Steps` what UPTIME reads.
 #[derive(Clone, Copy, Debug, PartialEq, Eq)]
 pub enum Place {
     R(usize),

@@ -26,7 +26,7 @@ pub type Kinds = [u64; 7];
 /// One step of a kind.
 pub const PLAIN: Kinds = [1, 0, 0, 0, 0, 0, 0];
 
-/// How steps are taken: one by one, or in two calls, of which the first takes so many.
+/// How steps are taken: one by one, or in two calls, with the number of steps of the first.
 #[derive(Clone, Copy, Debug, PartialEq, Eq)]
 pub enum Quanta {
     Single,
@@ -82,7 +82,7 @@ pub fn sums(a: &Kinds, b: &Kinds) -> Kinds {
     sums
 }
 
-/// The same state once more.
+/// A copy of a guest's state.
 fn copy_of(g: &GuestState) -> GuestState {
     let mut queue = arrayvec::ArrayVec::new();
     let _ = queue.try_extend_from_slice(g.queue.as_slice());
@@ -162,7 +162,7 @@ impl Stage {
         self.guest.state()
     }
 
-    /// Whether so many bytes from a physical address on lie in memory.
+    /// Whether `count` bytes from a physical address on lie in memory.
     fn holds(&self, pa: u32, count: usize) -> bool
         ensures { OnTrue result (pa + count ≤ 512 * self.now.guest.state.pages) }
     {
@@ -250,7 +250,7 @@ impl Stage {
         self.put_longs(values) && self.set(state)
     }
 
-    /// So many longwords from an address on, each greater than the one before by so much; whether they lie in memory.
+    /// Puts `count` longwords from an address on, each greater than the one before by `by`; whether they lie in memory.
     pub fn put_rising(&mut self, pa: u32, count: u32, first: u32, by: u32) -> bool
         requires { IsShadowedIn self.old.machine.memory self.old.guest }
         ensures { IsShadowedIn self.new.machine.memory self.new.guest }
@@ -263,7 +263,7 @@ impl Stage {
         fit
     }
 
-    /// The guest takes so many steps.
+    /// The guest takes `steps` steps.
     pub fn advance(&mut self, steps: u32) -> Counts
         requires { IsShadowedIn self.old.machine.memory self.old.guest }
         ensures { IsShadowedIn self.new.machine.memory self.new.guest }
@@ -271,7 +271,7 @@ impl Stage {
         self.guest.advance(&mut self.machine, &mut self.port, steps)
     }
 
-    /// So many steps one by one, by their kinds.
+    /// Takes `steps` steps one by one; their kinds.
     fn advance_singly(&mut self, steps: u32) -> Kinds
         requires { IsShadowedIn self.old.machine.memory self.old.guest }
         ensures { IsShadowedIn self.new.machine.memory self.new.guest }
@@ -284,7 +284,7 @@ impl Stage {
         kinds
     }
 
-    /// So many steps in two calls, by their kinds.
+    /// Takes `steps` steps in two calls; their kinds.
     fn advance_cut(&mut self, steps: u32, place: u32) -> Kinds
         requires { IsShadowedIn self.old.machine.memory self.old.guest }
         ensures { IsShadowedIn self.new.machine.memory self.new.guest }
@@ -294,7 +294,7 @@ impl Stage {
         sums(&kinds_of(&first), &kinds_of(&second))
     }
 
-    /// So many steps, cut so, by their kinds.
+    /// Takes `steps` steps, cut as `quanta` says; their kinds.
     pub fn play(&mut self, steps: u32, quanta: Quanta) -> Kinds
         requires { IsShadowedIn self.old.machine.memory self.old.guest }
         ensures { IsShadowedIn self.new.machine.memory self.new.guest }
@@ -305,7 +305,7 @@ impl Stage {
         }
     }
 
-    /// The same guest on a new machine, in other pages of it: its memory and its registers are carried over.
+    /// This guest on a new machine, in other pages of it: its memory and its registers are carried over.
     pub fn carried(self, alloc: Global) -> Result<Stage, NoMemory>
         requires { IsShadowedIn self.machine.memory self.guest }
         ensures { IfOk result (λ stage. IsShadowedIn stage.machine.memory stage.guest) }

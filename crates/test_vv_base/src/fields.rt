@@ -54,7 +54,7 @@ fn numbers_are_read(rt: HostRuntime) {
     }
 }
 
-/// The bytes are the wanted ones.
+/// The bytes are the expected ones.
 fn are_bytes(rt: &impl Abort, bytes: &[u8], wanted: &[u8]) {
     assert!(rt; bytes == wanted);
 }

@@ -157,7 +157,7 @@ fn standard_output_takes_bytes(rt: HostRuntime) {
     assert_eq!(rt; out.put(b"not shown\n"), Err(SinkFault));
 }
 
-/// A clock that shows so many seconds.
+/// A clock that shows a number of seconds.
 #[derive(Drop)]
 struct Seconds(Cell<u64>);
 
@@ -171,7 +171,7 @@ impl Clock for Seconds {
     }
 }
 
-/// What is told of four rounds, of which the second ends after so many seconds.
+/// What a terminal is shown of four rounds, of which the second ends after `seconds` seconds.
 fn told_of_four(rt: &HostRuntime, is_terminal: bool, seconds: u64) -> Result<Vec<u8>, Fail> {
     let clock = Seconds(Cell::new(0));
     let mut out = MemLine::new(rt.alloc(), 100, Vec::new(rt.alloc()))?;

@@ -21,7 +21,7 @@ fn put_beside<L: Lines>(lines: &mut L, k: u8, j: usize, bytes: &[u8]) -> Result<
     lines.put_on(k, bytes)
 }
 
-/// A line that tells nothing tells nothing after a put, and a put that fails raises its count.
+/// A line of which nothing is known is so after a put, and a put that fails raises its count.
 fn put_untold<L: Line>(line: &mut L, bytes: &[u8]) -> Result<(), LineFault>
     requires { (L.seen line.old).shown ≡ None }
     ensures untold { (L.seen line.new).shown ≡ None }

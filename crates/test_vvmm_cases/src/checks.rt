@@ -1,4 +1,4 @@
-//! What is said of a line, a drive, the sink or what is told of typed lines after a call.
+//! What is said of a line, a drive, the sink, or the reports on typed lines after a call.
 
 use test_vvmm_stage::Told;
 
@@ -100,12 +100,12 @@ pub fn digest_of(bytes: &[u8]) -> u64 {
     digest
 }
 
-/// Whether these are exactly the first so many bytes of others.
+/// Whether these are exactly the first `length` bytes of others.
 pub fn is_front(held: &[u8], length: usize, whole: &[u8]) -> bool {
     whole.get(..length) == Some(held)
 }
 
-/// Whether the first so many bytes are those of others, and all after them this byte.
+/// Whether the first `length` bytes are those of others, and all after them this byte.
 pub fn is_mixed(held: &[u8], length: usize, byte: u8, whole: &[u8]) -> bool {
     let rest = held.get(length..).unwrap_or(&[]);
     held.len() >= length

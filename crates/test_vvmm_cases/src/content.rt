@@ -1,11 +1,11 @@
-//! Bytes as the lines of content tell them.
+//! Bytes as the lines of content say them.
 
 use crate::play::Verdict;
 use std::alloc::Global;
 use std::fs;
 use vv_base::NoMemory;
 
-/// At most so many bytes are put by one line.
+/// How many bytes one line puts at most.
 const MOST: u32 = 0x0200_0000;
 
 /// Bytes, and the place where the next ones are put.
@@ -122,7 +122,7 @@ impl Content {
         Ok(Verdict::Holds)
     }
 
-    /// Puts so many longwords, each one more than the one before.
+    /// Puts `count` longwords, each greater than the one before by 1.
     fn put_rising(&mut self, count: u32, first: u32) -> Result<(), NoMemory> {
         for more in 0..count.min(MOST) {
             self.put(&first.wrapping_add(more).to_le_bytes())?;
@@ -130,7 +130,7 @@ impl Content {
         Ok(())
     }
 
-    /// Puts a byte so many times.
+    /// Puts a byte `count` times.
     fn put_times(&mut self, count: u32, byte: u8) -> Result<(), NoMemory> {
         for _time in 0..count.min(MOST) {
             self.put_byte(byte)?;
@@ -168,7 +168,7 @@ impl Content {
         Ok(Verdict::Holds)
     }
 
-    /// Puts what a line of content tells that names no other bytes.
+    /// Puts what a line of content says that names no other bytes.
     pub fn put_marked(&mut self, rt: &HostRuntime, line: Marked) -> Result<Verdict, NoMemory> {
         match line.mark {
             '|' => self.put_text(line.text, "\n"),

@@ -10,7 +10,7 @@ use vv_base::NoMemory;
 /// How the text of a number is made of a file.
 #[derive(Clone, Copy)]
 enum Making {
-    /// Its first so many bytes.
+    /// Its first bytes, as many as the number says.
     Front,
     /// All of it, with this byte at that place.
     Change(u8),

@@ -1,5 +1,5 @@
-//! Worked cases of the program's call, written as data: each argument names a case file, which tells what calls are given and
-//! their outcome. A case that holds is told by its title, and a line that doesn't hold, or can't be read, by its number.
+//! Worked cases of the program's call, written as data: each argument names a case file, which says what calls are given and
+//! their outcome. A case that holds is reported by its title, and a line that doesn't hold, or can't be read, by its number.
 //!
 //! A case file is read line by line; an empty line, and one that begins with `;`, is passed over. A line that begins with a
 //! mark (`content.rt`) puts bytes for the statement above it; each other line is a statement (`play.rt`), of which some make
@@ -75,7 +75,7 @@ fn holds_for<'t>(
     Ok(play.holds)
 }
 
-/// Makes the case of a block for each of its values, and tells its title and whether all holds.
+/// Makes the case of a block for each of its values, and reports its title and whether all holds.
 fn make<'t>(rt: &HostRuntime, play: &mut Play<'t>, block: &Block<'t>) -> Result<(), NoMemory> {
     let mut holds = true;
     for value in &values_of(rt.alloc(), &block.lines)? {

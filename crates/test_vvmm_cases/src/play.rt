@@ -186,7 +186,7 @@ impl<'t> Play<'t> {
         Ok(())
     }
 
-    /// Tells a line that doesn't hold, or can't be read.
+    /// Notes a line that doesn't hold, or can't be read.
     fn note(&mut self, rt: &HostRuntime, verdict: Verdict, number: usize) {
         let (what, place) = match verdict {
             Verdict::Holds => {
@@ -205,7 +205,7 @@ impl<'t> Play<'t> {
         };
     }
 
-    /// Puts what a line of content tells.
+    /// Puts what a line of content says.
     fn add(&mut self, rt: &HostRuntime, line: Marked) -> Result<Verdict, NoMemory> {
         match line.mark {
             '+' => match found(&self.lets, line.text) {
@@ -388,7 +388,7 @@ impl<'t> Play<'t> {
         Ok(Verdict::Holds)
     }
 
-    /// What the last call of this case told.
+    /// What the last call of this case left.
     fn told(&self) -> Option<&Told> {
         if self.is_called {
             self.runs.last().map(|run| &run.1)
@@ -397,7 +397,7 @@ impl<'t> Play<'t> {
         }
     }
 
-    /// Keeps what the last call told.
+    /// Keeps what the last call left.
     fn keep(&mut self, name: &'t str) -> Verdict {
         match self.runs.last_mut() {
             Some(run) if self.is_called => {

@@ -38,7 +38,7 @@ pub struct Props<'a, 'b> {
     /// What is typed, in lines, and the call of the keyboard that fails.
     pub keys: &'a [u8],
     pub broken: Option<u32>,
-    /// Where that is cut on which lines are told that say no event.
+    /// Where the sink for reports on typed lines is cut.
     pub errors: Option<Cut>,
 }
 
@@ -109,7 +109,7 @@ impl Props<'_, '_> {
         Ok(MemKeyboard::new(lines, at_most_one(alloc, self.broken)?))
     }
 
-    /// Where that is cut on which lines are told.
+    /// Where the sink for reports on typed lines is cut.
     pub fn cuts_of_errors(&self, alloc: Global) -> Result<Vec<Cut>, NoMemory> {
         at_most_one(alloc, self.errors)
     }

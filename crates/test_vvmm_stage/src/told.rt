@@ -16,7 +16,7 @@ pub struct Told {
     pub lines: Vec<Vec<u8>>,
     pub drives: Vec<Vec<u8>>,
     pub out: Vec<u8>,
-    /// What was told of lines that say no event.
+    /// What was reported of lines that say no event.
     pub errors: Vec<u8>,
 }
 
@@ -77,7 +77,7 @@ fn memory_drive(
     }
 }
 
-/// What a line tells.
+/// What each line has shown.
 fn shown_on(alloc: Global, lines: &[MemLine]) -> Result<Vec<Vec<u8>>, NoMemory> {
     let mut shown = Vec::new(alloc);
     for line in lines {
@@ -108,8 +108,8 @@ fn held_on(alloc: Global, drives: &mut Vec<Box<dyn Drive>>) -> Result<Vec<Vec<u8
     Ok(all)
 }
 
-/// Calls the program with these words over objects in memory, and tells what they hold after it. It fails where memory
-/// runs out, and where the machine hasn't 32,768 pages.
+/// Calls the program with these words over objects in memory, and answers what they hold after it. It fails where memory runs
+/// out, and where the machine hasn't 32,768 pages.
 pub fn run_words<H: Hardware>(
     alloc: Global,
     machine: &mut H,

@@ -85,8 +85,8 @@ pub const SCRIPT: &[u8] = b"1 U > SHOW\n2 U > FOO\n2 U > CONNECT A\n";
 pub const LETTER: &[u8] = &[0xDA, 0x8F, 0x41, 0, 0, 0, 0x23, 0];
 
 /// Round 1: two lines of SHOW and the audit; the letter and the 14 bytes of the message of HALT. Round 2: the reply and the
-/// audit; the reply, what the other terminal is told, and the audit. Then the dump: the name, 16 registers, PSL, and the one
-/// row of memory that isn't zero. Then the summary.
+/// audit; the reply, the other terminal's notice, and the audit. Then the dump: the name, 16 registers, PSL, and the one row of
+/// memory that isn't zero. Then the summary.
 const ORDER: [(u8, usize); 10] = [
     (6, 2),
     (9, 1),

@@ -8,7 +8,7 @@ use vax_cpu::Cpu;
 use vax_hw::Hardware;
 use vv_base::NoMemory;
 
-/// The machine misses at most at the first touches of the guests of a workload, of which there are so many.
+/// The machine misses at most at the first touches of the guests of a workload, of which there are `touches`.
 fn check(rt: &impl Abort, alloc: Global, number: u32, touches: u64) -> Result<(), NoMemory> {
     let mut machine = Cpu::new(alloc, PAGES)?;
     let words = format!(in alloc; "load {number}")?;

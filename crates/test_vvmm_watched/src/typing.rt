@@ -1,4 +1,4 @@
-//! When `live` asks for lines, tells what says no event, and shows what terminals are shown; and how much it reads for that.
+//! When `live` asks for lines, reports what says no event, and shows what terminals are shown; and how much it reads for that.
 ghost use Rattle.std.specs.Prelude.{None};
 
 use super::order::{CONFIG, LETTER, NOTES, Notes, Noting, OUT, empty_drives};
@@ -19,16 +19,16 @@ use vvmm_files::Status;
 /// The keyboard's number among the notes.
 const KEYS: u8 = 90;
 
-/// The number of where lines are told.
+/// The number of the sink for reports on typed lines.
 const ERRORS: u8 = 98;
 
-/// A line's length that is asked for is noted as the line's number and so much.
+/// A line's length that is asked for is noted as the line's number plus this.
 const LENGTH: u8 = 100;
 
 /// What is read back of a line is noted as the line's number and so much.
 const READ: u8 = 150;
 
-/// A line in memory that notes each call but tells nothing.
+/// A line in memory that notes each call, but whose bytes aren't known.
 #[derive(Drop)]
 struct Kept {
     line: MemLine,
@@ -59,7 +59,7 @@ impl Line for Kept {
     }
 }
 
-/// A keyboard in memory that notes each call but tells nothing.
+/// A keyboard in memory that notes each call, but whose lines aren't known.
 #[derive(Drop)]
 struct Keys {
     keyboard: MemKeyboard,
@@ -84,8 +84,8 @@ const TYPED: [&[u8]; 5] = [b"U > SHOW", b"U brake", b"", b"U > FOO", b"U > CONNE
 /// A call that is noted, and how often it follows upon itself.
 type Calls = (u8, usize);
 
-/// First the lengths of both terminals' lines. Round 1: three lines are asked for, of which the second is told at once; then the
-/// round's puts; then each terminal's line once more, its length and in one piece what is new, which goes to the sink in one put.
+/// First the lengths of both terminals' lines. Round 1: three lines are asked for, of which the second is reported at once. Then
+/// the round's puts; then of each terminal's line its length, and in one piece what is new, which goes to the sink in one put.
 /// Round 2 is begun by two lines and ended by the end; both terminals' lines have something new. Then the dump, and the summary.
 const CALLS: [Calls; 28] = [
     (LENGTH + 4, 1),

@@ -135,7 +135,7 @@ fn told_of_three(alloc: Global, machine: &mut Watched) -> Result<Told, NoMemory>
     run_words(alloc, machine, "run c s 1", &plain(&files), &[], &[])
 }
 
-/// How many instructions the guest of a run has retired before it, where so many were retired by all three, in slices of 7.
+/// How many instructions the guest of a run has retired before it, where all three retired `all`, in slices of 7.
 fn retired_before(all: u64) -> u64 {
     (all / 21).saturating_mul(7).saturating_add(all % 7)
 }

@@ -87,7 +87,7 @@ none_read text labels empty = record {
   taken = λ name. refl;
 }
 
--- a label that is free, as the names so far tell
+-- a label that is free, by the names so far
 labelled : (text : List ℕ) (number at : ℕ) (labels : Labels) (rest : List ℕ) → (r : IsRead text number at labels rest) (label : Option (List ℕ)) → is_labelled label r.known ≡ is_taken (label_address labels) label
 labelled text number at labels rest r None = refl
 labelled text number at labels rest r (Some name) = r.taken name ∙ ap is_some (sym (r.held name))

@@ -8,7 +8,7 @@ use Rattle.vasm_text.specs.declared.fault.AsmError.{AsmError}
 use Rattle.vasm_text.specs.declared.fault.AsmError.TheVariants.{Fault, NoMemory}
 use Rattle.vasm_text.specs.declared.fault.AsmFault.{AsmFault}
 
--- bytes, or a refused line, exactly as wanted
+-- bytes, or a refused line, exactly as `wanted` says
 abbrev pub IsAsWanted : Result (Vec ℕ) AsmError → Result (List ℕ) AsmFault → Type 0
 IsAsWanted (Ok bytes) wanted = wanted ≡ Ok (bytes.items)
 IsAsWanted (Err (Fault f)) wanted = wanted ≡ Err f

@@ -28,7 +28,7 @@ listed_lines at bytes (text ∷ texts) =
     listed_line at (take (source_line_size (said_in text)) bytes) text
     ++ listed_lines (at + source_line_size (said_in text)) (drop (source_line_size (said_in text)) bytes) texts
 
--- a name as `nm` tells that of code
+-- a name as `nm` shows that of code
 abbrev pub listed_name : ℕ → Option (List ℕ) → List ℕ
 listed_name at None = []
 listed_name at (Some name) = hex_text 8 at ++ codes " T " ++ name ++ 10 ∷ []

@@ -10,7 +10,7 @@ abbrev pub appended_to : {E : Type 0} → List ℕ → Result (List ℕ) E → R
 appended_to front (Ok bytes) = Ok (front ++ bytes)
 appended_to front (Err e) = Err e
 
--- the wanted bytes come after the old ones, or the line is refused for the reason wanted
+-- the bytes of `wanted` come after the old ones, or the line is refused for the reason in `wanted`
 abbrev pub AppendsOrRefuses : {U : Type 0} → ℕ → List ℕ → List ℕ → Result (List ℕ) AsmKind → Result U AsmError → Type 0
 AppendsOrRefuses number old new wanted (Ok _) = appended_to old wanted ≡ Ok new
 AppendsOrRefuses number old new wanted (Err (Fault f)) = at_line number wanted ≡ Err f

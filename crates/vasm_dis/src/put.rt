@@ -37,7 +37,7 @@ pub(crate) fn put_around(text: &mut Line, before: &[u8], n: u8, later: &[u8])
     text.append(later);
 }
 
-/// Appends the number in a field of so many bytes.
+/// Appends the number in a field of `size` bytes.
 #[tactic(auto, unfolding(vasm_text::specs::Printing::field_text))]
 pub(crate) fn put_field(text: &mut Line, size: u8, value: u64)
     requires low { 1 ≤ size }

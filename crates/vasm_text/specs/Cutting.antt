@@ -28,7 +28,7 @@ abbrev pub cut : (ℕ → Bool) → List ℕ → Option Cut
 cut test [] = None
 cut test (b ∷ bs) = if test b then Some (record { before = []; later = bs }) else with_first b (cut test bs)
 
--- the same at the first byte that is this one
+-- a text cut at the first byte that is this one
 abbrev pub cut_at : ℕ → List ℕ → Option Cut
 cut_at mark text = cut (λ b. b == mark) text
 

@@ -15,7 +15,7 @@ disassembled_by rest b bs Short = and_others (byte_text b) (rest bs)
 disassembled_by rest b bs Unknown = and_others (byte_text b) (rest bs)
 disassembled_by rest b bs Reserved = and_others (byte_text b) (rest bs)
 
--- in at most so many lines
+-- in at most n lines
 abbrev pub disassembled_lines : ℕ → List ℕ → List ℕ
 disassembled_lines zero image = []
 disassembled_lines (suc most) [] = []

@@ -29,7 +29,7 @@ number_in text = if bytes_eq (take 2 text) (codes "^X") then hex_of (drop 2 text
 abbrev pub if_below : ℕ → ℕ → Option ℕ
 if_below limit n = if nat_lt n limit then Some n else None
 
--- the number, where it fits in so many bytes
+-- the number, where it fits in `size` bytes
 unfoldable pub field_in : ℕ → List ℕ → Option ℕ
 field_in size text = number_in text >>= if_below (256 ^ size)
 

@@ -1,8 +1,7 @@
--- The operands of a statement: each form of text, and the specifier that it means. A text that means a
--- reserved form (as in what spells an instruction) is no operand.
--- S^#N literal; I^#N immediate; R register; (R) register deferred; -(R) autodecrement; (R)+ autoincrement;
--- @(R)+ autoincrement deferred; @#N absolute; B^N(R), W^N(R), L^N(R) displacement, B^NAME, W^NAME, L^NAME
--- relative, each deferred after @; any of these and [R] indexed; N or NAME where the instruction branches.
+-- The operands of a statement: each form of text, and the specifier that it means. A text that means a reserved form (as in what
+-- spells an instruction) is no operand. S^#N literal; I^#N immediate; R register; (R) register deferred; -(R) autodecrement; (R)+
+-- autoincrement; @(R)+ autoincrement deferred; @#N absolute; B^N(R), W^N(R), L^N(R) displacement, B^NAME, W^NAME, L^NAME
+-- relative, each deferred after @. Any of these and [R] indexed; N or NAME where the instruction branches.
 use Rattle.std.specs.Prelude.{ℕ, ◌+◌, ◌==◌, List, [], ◌∷◌, take, drop, codes, bytes_eq, nat_lt, ◌&&◌, ◌||◌, if◌then◌else◌, Option, Some, None}
 use Rattle.vv_base.specs.Names.{is_object_name, tested}
 use Rattle.vv_base.specs.Width.{size_of}
@@ -46,7 +45,7 @@ enclosed mode ending text = not_pc (closed_in 41 ending text) >>= in_mode mode
 unfoldable pub literal_in : Form → List ℕ → Option Operand
 literal_in form text = if is_read form.access then (number_in text >>= if_below 64 >>= operand_of_value 0 0) else None
 
--- a number in a field of so many bytes, as the value of a mode and a register
+-- a number in a field of `size` bytes, as the value of a mode and a register
 abbrev pub valued_in : ℕ → ℕ → ℕ → List ℕ → Option Operand
 valued_in size mode reg text = field_in size text >>= operand_of_value mode reg
 
@@ -67,7 +66,7 @@ register_operand_in form text = not_pc (register_in text) >>= allowed form
 abbrev pub based : ℕ → ℕ → Cut → Option Operand
 based mode size c = field_in size c.before >>= λ value. closed_in 41 [] c.later >>= λ reg. operand_of_value mode reg value
 
--- N(R) or NAME, in a mode with so many bytes
+-- N(R) or NAME, in a mode with `size` bytes
 unfoldable pub displaced_in : ℕ → ℕ → List ℕ → Option Operand
 displaced_in mode size text = elim (cut_at 40 text) [
   | None ↦ named_in mode 15 text

@@ -17,7 +17,7 @@ register_text n =
     if n == 13 then codes "FP" else
     if n == 14 then codes "SP" else codes "PC"
 
--- a number in a field of so many bytes
+-- a number in a field of `size` bytes
 unfoldable pub field_text : ℕ → ℕ → List ℕ
 field_text size n = codes "^X" ++ hex_text (2 * size) n
 

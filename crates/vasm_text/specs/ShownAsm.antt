@@ -171,7 +171,7 @@ pub names :
 unfolding whole_asm
 names = (refl, refl, refl, refl)
 
--- a branch over so many NOPs of a byte each
+-- n NOPs of a byte each, in front of the rest
 abbrev nops : ℕ → List ℕ → List ℕ
 nops zero rest = rest
 nops (suc n) rest = codes "NOP\n" ++ nops n rest

@@ -10,7 +10,7 @@ use Rattle.vasm_text.specs.Mnemonics.{opcode_of}
 use Rattle.vasm_text.specs.Numbers.{field_in}
 use Rattle.vasm_text.specs.Operands.{Operand, unnamed_operand, value_in, operands_in}
 
--- a value in so many bytes, or an opcode and its operands
+-- a value in a number of bytes, or an opcode and its operands
 pub data Statement : Type 0 where
   Field : ℕ → Operand → Statement
   Instruct : ℕ → List Operand → Statement
@@ -28,7 +28,7 @@ operand_forms (Some e) = e.operands
 unfoldable pub forms_of : ℕ → List Form
 forms_of opcode = operand_forms (row_of opcode)
 
--- a number in so many bytes
+-- a number in `size` bytes
 abbrev pub number_field_in : ℕ → List ℕ → Option Statement
 number_field_in size text = field_in size text >>= λ n. Some (Field size (unnamed_operand 16 0 n))
 

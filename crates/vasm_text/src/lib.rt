@@ -1,4 +1,4 @@
-//! The language of the assembler: the instructions' names, and what a text and its bytes say of each other.
+//! The assembler's language as definitions, and the instructions' names.
 #![tactic(auto)]
 
 mod fault;

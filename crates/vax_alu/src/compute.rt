@@ -177,7 +177,7 @@ fn rotate(n: u32, count: u32, w: Width) -> u32
     }
 }
 
-/// The same in a width that is known where this is written out, so that nothing is chosen by it.
+/// What `alu` gives, in a width that is known where this is written out, so that nothing is chosen by it.
 #[inline(always)]
 #[tactic(auto, using(crate::proofs::Casts::casts), unfolding(vax_table::specs::Arithmetic::alu_of))]
 fn alu_in(op: AluOp, a: u32, b: u32, w: Width, psw: u8) -> Alu

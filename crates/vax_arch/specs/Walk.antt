@@ -32,7 +32,7 @@ region_of page = page / 2 ^ 21 % 4
 abbrev pub in_region : ℕ → ℕ
 in_region page = page % 2 ^ 21
 
--- so many bytes from a place aren't all in memory of a size
+-- `bytes` bytes from a place on aren't all in a memory of `size` bytes
 abbrev pub is_past : ℕ → ℕ → ℕ → Bool
 is_past size place bytes = nat_lt size (place + bytes)
 

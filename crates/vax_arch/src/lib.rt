@@ -1,5 +1,4 @@
-//! The VAX as far as protection goes: access modes, the processor status longword, page table
-//! entries and their protection codes, ring compression, and what REI may load.
+//! Access modes, the PSL, page table entries, protection codes, ring compression, REI's tests, and the walk.
 #![tactic(auto)]
 
 mod mode;

@@ -1,8 +1,8 @@
 /// The pages of a region. A page's number is its region times this, and its number in the region.
 pub const REGION: u32 = 0x20_0000;
 
-/// What the look-up of a page comes to: the physical place of its entry, with that of the system entry that maps it for a
-/// process page; with mapping off the page as its own frame; a fault that is not valid or a length violation, with bits
+/// The outcome of a page's look-up: the physical place of its entry, with that of the system entry that maps it for a process
+/// page; or, with mapping off, the page as its own frame. Otherwise a fault that is not valid or a length violation, with bits
 /// 1:0 of its parameter; or a place beyond memory.
 #[derive(Clone, Copy, Debug, PartialEq, Eq)]
 pub enum Lookup {

@@ -10,7 +10,7 @@ pub fn lookups_are_aligned()
     ensures { LooksAligned }
 {}
 
-/// A look-up depends on the memory at most by one longword, whose place the registers alone tell.
+/// A look-up depends on the memory at most by one longword, whose place the registers alone decide.
 pub fn lookups_read_one_longword()
     ensures { LooksAtOne }
 {}

@@ -27,7 +27,7 @@ use vax_normal::sum_of;
 use vax_operand::Values;
 use vv_base::NoMemory;
 
-/// The machine of the program: so many pages of memory of 512 bytes.
+/// The machine of the program: its memory is a number of pages of 512 bytes.
 #[derive(Drop)]
 pub struct Cpu {
     state: State,
@@ -103,7 +103,8 @@ fn attempt_walked(
     attempt
 }
 
-/// The same by the pages that are known, or else by the page tables.
+/// The opcode of the instruction at PC, which retires by the plan, or why it doesn't retire: by the pages that are known, or else
+/// by the page tables.
 #[inline(always)]
 fn attempt_next(
     state: &mut State,
@@ -268,7 +269,7 @@ fn step_whole(
     }
 }
 
-/// A run of at most so many instructions, which says in `exit` why it ended. The plan's registers are the machine's, in place of
+/// A run of at most `budget` instructions, which says in `exit` why it ended. The plan's registers are the machine's, in place of
 /// the world's.
 fn run_parts(
     state: &mut State,

@@ -11,7 +11,8 @@ use crate::state::State;
 use std::cell::Cell;
 use vax_kept::{Kept, has_at, has_known, has_known_in_page, has_short};
 
-/// The same as `stands`, by the pages that are known; the page of the address is that of the last instruction then.
+/// Whether kept bytes are at an address, by the pages that are known, and the instruction is one that `plan_into` plans. The page
+/// of the address is that of the last instruction then.
 #[cold]
 #[inline(never)]
 fn stands_elsewhere(state: &mut State, missed: &Cell<u32>, kept: &Kept, pc: u32) -> bool

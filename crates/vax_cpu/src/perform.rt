@@ -224,7 +224,7 @@ fn moves_status<S: Space>(
     Ok(Act::Plain)
 }
 
-/// The same out of line.
+/// MOVPSL, out of line.
 #[cold]
 #[inline(never)]
 fn move_status<S: Space>(
@@ -258,9 +258,9 @@ fn probes<S: Space>(
     Ok(Act::Probes(intent))
 }
 
-/// The outcome of an instruction that is kept, in kernel mode or not, with the PSL that MOVPSL stores. The plan's registers
-/// are those before it. Its operands go to `o`, and what it plans to `plan`; of what they are after an error, and where it
-/// traps, nothing is said.
+/// The outcome of an instruction that is kept, in kernel mode or not, with the PSL that MOVPSL stores. The plan's registers are
+/// those before it. Its operands go to `o`, and what it plans to `plan`; after an error, and where it traps, these are
+/// unspecified.
 #[tactic(auto, unfolding(vax_table::specs::Whole::acted, vax_table::specs::Plan::plan_of, vax_table::specs::Plan::performed), using(vax_table::proofs::Scripts::binds))]
 #[inline(always)]
 pub fn carry_out<S: Space>(
@@ -354,9 +354,9 @@ fn settle(memory: &[u8], world: &World, act: Act, o: &Values, plan: &mut Plan) -
     }
 }
 
-/// Whether the instruction at PC retires by the plan and without a trap, as far as that is told quickly: it is kept, it is a
-/// plain one, and all that it refers to lies in pages that are known. The plan's registers are those before it, in place of the world's; of what
-/// it is where this answers no nothing is said.
+/// Whether the instruction at PC retires by the plan and without a trap, as far as that is decided quickly: it is kept and plain,
+/// and all that it refers to lies in pages that are known. The plan's registers are those before it, in place of the world's.
+/// Where this answers no, the plan is unspecified.
 pub fn attempt_known(
     state: &State,
     missed: &Cell<u32>,
@@ -389,7 +389,7 @@ pub fn is_of_status(operation: Operation) -> bool
     matches!(operation, Operation::MoveStatus | Operation::Probe(_))
 }
 
-/// What MOVPSL or PROBE at PC comes to, which is the kept one, where all that it refers to lies in pages that are known. The
+/// The outcome of MOVPSL or PROBE at PC, which is the kept one, where all that it refers to lies in pages that are known. The
 /// plan's registers are those before it, in place of the world's.
 #[inline(always)]
 fn find_of_status(
@@ -423,9 +423,8 @@ fn find_of_status(
     }
 }
 
-/// Whether MOVPSL or PROBE at PC, which is the kept one, retires by the plan, where all that it refers to lies in pages that
-/// are known. The plan's registers are those before it, in place of the world's; of what it is where this answers no nothing
-/// is said.
+/// Whether MOVPSL or PROBE at PC, which is the kept one, retires by the plan, where all that it refers to lies in pages that are
+/// known. The plan's registers are those before it, in place of the world's. Where this answers no, the plan is unspecified.
 pub fn attempt_of_status(
     state: &State,
     missed: &Cell<u32>,
@@ -446,7 +445,7 @@ pub fn attempt_of_status(
     }
 }
 
-/// What the instruction at PC comes to, where it is kept, and all that it refers to lies in pages that are known. The plan's
+/// The outcome of the instruction at PC, where it is kept, and all that it refers to lies in pages that are known. The plan's
 /// registers are those before it, in place of the world's.
 #[inline(always)]
 fn find_known(
@@ -470,7 +469,7 @@ fn find_known(
 }
 
 /// The opcode of the instruction at PC, which retires by the plan, or why it doesn't retire, where it is kept and all that it
-/// refers to lies in pages that are known. `before` are the registers before it; of what the plan is otherwise nothing is said.
+/// refers to lies in pages that are known. `before` are the registers before it. Otherwise the plan is unspecified.
 #[cold]
 #[inline(never)]
 pub fn attempt_kept(
@@ -493,8 +492,8 @@ pub fn attempt_kept(
     }
 }
 
-/// The opcode of the instruction at PC over a memory, which retires by the plan, or why it doesn't retire. The plan's
-/// registers are those before it, in place of the world's; of what it is after an error nothing is said.
+/// The opcode of the instruction at PC over a memory, which retires by the plan, or why it doesn't retire. The plan's registers
+/// are those before it, in place of the world's. After an error the plan is unspecified.
 pub fn attempt(
     memory: &[u8],
     world: &World,

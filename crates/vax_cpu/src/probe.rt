@@ -24,7 +24,7 @@ fn probe_mode(psl: Psl, named: u32) -> Mode
     }
 }
 
-/// The last byte of a range of so many bytes; the base, where there are none.
+/// The last byte of a range of `bytes` bytes; the base, where there are none.
 fn last_of(base: u32, bytes: u32) -> u32
     ensures { result ≡ last_of base bytes }
 {
@@ -94,7 +94,7 @@ pub fn judge_at(space: &Paged, i: Intent, named: u32, bytes: u32, base: u32) -> 
     both_judged(space, m, i, base, last_of(base, bytes % 0x1_0000))
 }
 
-/// The same by the operands.
+/// Whether both bytes that PROBE asks of may be used, by its operands: the mode, the length, and the base.
 pub fn judge(space: &Paged, i: Intent, o: &Values) -> Option<bool>
     ensures { result ≡ real_probe space.now.memory.now (machine_tables space.now.world.now) space.now.world.now.psl.0 i (slice_index o.now.values 0 % 2 ^ 32) (slice_index o.now.values 1 % 2 ^ 32) (slice_index o.now.values 2 % 2 ^ 32) }
 {

@@ -275,7 +275,7 @@ impl State {
         self.retire_at_once(pc, opcode, after.total, after.psw, r);
     }
 
-    /// The same of an instruction with a plan. `total` is the sum of R0 to R14 after it.
+    /// An instruction with a plan has retired: its stores are made, and it is counted. `total` is the sum of R0 to R14 after it.
     #[inline(always)]
     pub fn retire(&mut self, pc: u32, opcode: u8, total: u64, plan: &Plan, missed: &Cell<u32>)
         requires { total ≡ sum (take 15 plan.now.r) }
@@ -288,8 +288,8 @@ impl State {
         self.retire_with(pc, opcode, after, plan.writes.as_slice(), &plan.r, missed);
     }
 
-    /// The same of one that makes one store, in one page at this place. `after` has the sum of R0 to R14, and `r` are the
-    /// registers.
+    /// An instruction that makes one store, in one page at this place, has retired: the store is made, and the instruction is
+    /// counted. `after` has the sum of R0 to R14, and `r` are the registers.
     #[inline(always)]
     pub fn retire_storing(
         &mut self,

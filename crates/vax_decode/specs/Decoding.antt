@@ -38,6 +38,6 @@ IsDecoded (Fault f) e = ⊥
 abbrev pub IsRoundTrip : Type 0
 IsRoundTrip = (bytes rest : List ℕ) (d : Instruction) (r : Decode) → Spells bytes d → Decodes (bytes ++ rest) r → IsDecoded r d
 
--- what begins a spelling wants more bytes
+-- what begins a spelling needs more bytes
 abbrev pub WantsMore : Type 0
 WantsMore = (b tail : List ℕ) (d : Instruction) (r : Decode) → 0 < length tail → Spells (b ++ tail) d → Decodes b r → r ≡ NeedMore

@@ -1,4 +1,4 @@
-//! From bytes to an instruction, and back.
+//! Decodes an instruction from its bytes, and encodes it.
 #![tactic(auto)]
 
 mod laws;

@@ -79,7 +79,7 @@ fn scan(b: &[u8], decoded: &mut Decoded) -> Front
 }
 
 /// The instruction at the front of the bytes goes to `decoded`: `Done` exactly where some front of them spells it, and else as
-/// `decode` answers. Of what `decoded` is where there is none nothing is said.
+/// `decode` answers. Where there is none, `decoded` is unspecified.
 pub fn decode_into(b: &[u8], decoded: &mut Decoded) -> Front
     ensures spells { Decodes b.now (answer_with decoded.new result) }
     ensures reads { IsAnswer (answer_with decoded.new result) (decoded_at b.now) }
@@ -87,9 +87,9 @@ pub fn decode_into(b: &[u8], decoded: &mut Decoded) -> Front
     scan(b, decoded)
 }
 
-/// The instruction at the front of the bytes: `Done` exactly where some front of them spells it,
-/// `NeedMore` exactly where they are a proper front of a spelling, and else a fault: `Opcode` where no
-/// instruction has the opcode bytes, and `Addressing` otherwise.
+/// The instruction at the front of the bytes: `Done` exactly where some front of them spells it, and `NeedMore` exactly where
+/// they are a proper front of a spelling. Else it is a fault: `Opcode` where no instruction has the opcode bytes, and
+/// `Addressing` otherwise.
 pub fn decode(b: &[u8]) -> Decode
     ensures spells { Decodes b.now result }
     ensures reads { IsAnswer result (decoded_at b.now) }

@@ -36,7 +36,7 @@ pub fn byte_of_bit(base: u32, position: u32) -> u32
     base.wrapping_add((position.cast_signed() >> 3).cast_unsigned())
 }
 
-/// Bit k of a byte or a longword is tested, and made what is wanted; it goes on at an address where it was as wanted.
+/// Tests bit k of a byte or a longword, and makes it what `becomes` says. Goes on at an address where the bit was `on`.
 fn test_bit(
     plan: &mut Plan,
     on: bool,

@@ -21,7 +21,7 @@ fn has(psw: u8, k: u32) -> bool
     (psw >> k) % 2 == 1
 }
 
-/// Whether the condition codes meet a condition.
+/// Whether the condition codes satisfy a condition.
 pub fn holds(condition: Condition, psw: u8) -> bool
     ensures { result ≡ holds condition psw }
 {

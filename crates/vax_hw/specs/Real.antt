@@ -76,7 +76,7 @@ abbrev pub going_on : (Machine → Machine × Exit) → Machine → Result Retir
 going_on rest m (Ok after) = unless_trapped rest after.machine after.trap
 going_on rest m (Err e) = (record m { misses = misses_after m.misses e }, e)
 
--- a run of at most so many instructions
+-- a run of at most n instructions
 abbrev pub real : ℕ → Machine → Machine × Exit
 real zero m = (m, Budget)
 real (suc budget) m = going_on (real budget) m (machine_step m)

@@ -5,7 +5,7 @@ use Rattle.vax_hw.specs.Real.{real}
 use Rattle.vax_hw.specs.declared.world.Exit.{Exit}
 use Rattle.vax_hw.specs.declared.world.Exit.TheVariants.{Arithmetic, Budget, NotValid, Denied, Emulate, Modify, Refused}
 
--- after a run: one that used its budget goes on by so many instructions more, and any other has ended
+-- after a run: one that used its budget goes on by at most `more` instructions, and any other has ended
 abbrev pub continued : (more : ℕ) → Machine → Exit → Machine × Exit
 continued more m Budget = real more m
 continued more m (NotValid va write) = (m, NotValid va write)

@@ -37,7 +37,7 @@ abbrev pub bytes_of : List ℕ → List ℕ
 bytes_of [] = []
 bytes_of (v ∷ vs) = long_bytes v ++ bytes_of vs
 
--- so many entries, of frames that rise by 1
+-- n entries, of frames that rise by 1
 abbrev pub rising : ℕ → ℕ → List ℕ
 rising zero first = []
 rising (suc n) first = first ∷ rising n (first + 1)
@@ -119,7 +119,7 @@ after_write_over_end longs = later (real 1 (machine_of writes longs at_3fe)) (0x
 abbrev stays : Exit → ℕ → List ℕ → ℕ → Seen
 stays e r1 longs misses = shows e (7 ∷ r1 ∷ 0 ∷ 0 ∷ []) longs (0 ∷ 0 ∷ misses ∷ [])
 
--- what a reference to 400 comes to
+-- the outcome of a reference to 400
 pub references :
     -- it is read, and the trail is 200, 3 times D0, and the registers
     (after_read ((0x400, 0x12345678) ∷ []) at_400 ≡ shows Budget (7 ∷ 0x400 ∷ 0 ∷ 0x12345678 ∷ []) [] (1 ∷ 0x12345eef ∷ 0 ∷ []))

@@ -47,8 +47,7 @@ pub trait Hardware {
     fn save_world(&self) -> World
         ensures { result ≡ (machine self.now).world };
 
-    /// Runs at most so many instructions, up to one that retires with an arithmetic trap or the first that doesn't
-    /// retire.
+    /// Runs at most `budget` instructions, up to one that retires with an arithmetic trap or the first that doesn't retire.
     fn run(&mut self, budget: u32) -> Exit
         requires { 1 ≤ budget }
         ensures { (machine self.new, result) ≡ real budget (machine self.old) };

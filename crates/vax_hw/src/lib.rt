@@ -1,4 +1,4 @@
-//! The machine's interface, and what the real machine does.
+//! The real machine's interface, and as a definition what it does over its own page tables.
 #![tactic(auto)]
 
 mod hardware;

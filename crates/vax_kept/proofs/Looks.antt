@@ -58,7 +58,7 @@ wraps a = grind arith
 wrapped : (s : Space) (place at : ℕ) → place ≡ at % 2 ^ 32 → number_at s Read 1 place ≡ number_at s Read 1 at
 wrapped s place at e = let same : place % 2 ^ 32 ≡ at % 2 ^ 32 = ap (λ x. x % 2 ^ 32) e ∙ wraps at in ap (λ x. with_byte Read x (s Read x) (Ok 0)) same
 
--- where more bytes are wanted, one is fetched
+-- where more bytes are needed, one is fetched
 short : (s : Space) (n at place : ℕ) (bytes told : List ℕ) → told ≡ bytes → decoded_at told ≡ Short → place ≡ (at + length bytes) % 2 ^ 32 → outcome s (decided (suc n) at bytes) ≡ bind_result (number_at s Read 1 place) (λ b. outcome s (decided n at (bytes ++ b ∷ [])))
 unfolding decided
 short s n at place bytes told same h e =

@@ -27,7 +27,7 @@ wants_by Short b tail d some p t = refl
 wants_by Unknown b tail d some p t = absurd (t.0.begin tail d p)
 wants_by Reserved b tail d some p t = absurd (t.0.begin tail d p)
 
--- the front of a spelling wants more
+-- the front of a spelling needs more
 wants : (b tail : List ℕ) (d : Instruction) → AreBytes b → 0 < length tail → Spells (b ++ tail) d → decoded_at b ≡ Short
 wants b tail d are some p = wants_by (decoded_at b) b tail d some p (reading_exact.tells b are)
 
@@ -93,7 +93,7 @@ taken_small (suc n) [] are i = omega arith
 taken_small (suc n) (b ∷ bytes) are zero = are 0
 taken_small (suc n) (b ∷ bytes) are (suc i) = taken_small n bytes (λ k. are (suc k)) i
 
--- the spelling that reading told of
+-- the spelling that reading found
 spelling_of : (front : List ℕ) (d : Instruction) → AreBytes front → decoded_at front ≡ Whole d [] → Spells front d
 spelling_of front d are e =
     let t : IsAnswerFor front (Whole d []) = subst (λ (a : Answer). IsAnswerFor front a) e (reading_exact.tells front are) in
@@ -152,7 +152,7 @@ pub spelled_length : (front : List ℕ) (d : Instruction) → Spells front d →
 spelled_length front d (spells.wait e f) = ap (λ (x : Instruction). x.length) f ∙ sym (ap (length {A = ℕ}) e)
 spelled_length front d (spells.of_row e opcode rest specs small other row operands is f) = ap (λ (x : Instruction). x.length) f
 
--- the front of some bytes that reading told of
+-- the front of some bytes that reading found
 pub spelled_front : (bytes told front rest : List ℕ) (d : Instruction) → bytes ≡ told → told ≡ front ++ rest → Spells front d → decoded_at (take d.length bytes) ≡ Whole d []
 spelled_front bytes told front rest d same is p =
     let all : take d.length bytes ≡ front =

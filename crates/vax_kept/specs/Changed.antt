@@ -1,7 +1,7 @@
--- Which of R0 to R14 an instruction changes, where it is one at most: the registers' sum goes on by that one. An
--- instruction that computes changes the register of its result, a loop that of its index, and one that branches on a
--- bit the register that has it, if one does; one that branches by the codes or a low bit changes none. What its operands
--- do to registers comes from the ways that decrement or increment.
+-- Which of R0 to R14 an instruction changes, where it is one at most: the registers' sum goes on by that one. An instruction that
+-- computes changes the register of its result, a loop that of its index, and one that branches on a bit the register that has it,
+-- if one does. One that branches by the codes or a low bit changes none. What its operands do to registers comes from the ways
+-- that decrement or increment.
 use Rattle.std.specs.Prelude.{◌≡◌, ◌≢◌, ℕ, zero, suc, ◌<◌, ◌&&◌, Bool, true, false, List, [], ◌∷◌, if◌then◌else◌, slice_index}
 use Rattle.vv_base.specs.declared.width.Width.TheVariants.{Quad}
 use Rattle.vax_table.specs.declared.meaning.Operation.{Operation}

@@ -10,13 +10,13 @@ const PLACES: usize = 65536;
 /// How many numbers the index has.
 const INDEXED: usize = 1048576;
 
-/// The instructions that are kept, each found by its address. Two addresses may share a place, and memory may change: what is
+/// The cache of decoded instructions, each found by its address. Two addresses may share a place, and memory may change: what is
 /// found is a guess, to be compared with memory.
 #[derive(Drop)]
 pub struct Code {
     /// Which place an address has; 0 where it has none yet.
     index: Vec<u16>,
-    /// In the order in which the addresses were met, after one that belongs to none.
+    /// In the order in which the addresses came up, after one that belongs to none.
     pub places: Vec<Kept>,
     ghost indexed: { length index.items ≡ 1048576 },
     ghost some: { 0 < length places.items },
@@ -48,7 +48,7 @@ impl Code {
         &self.places[usize::from(self.index[in_index(pc)])]
     }
 
-    /// All is forgotten.
+    /// Drops all instructions.
     fn forget(&mut self)
         ensures { vec_len self.new.places ≤ 1 }
     {
@@ -56,7 +56,7 @@ impl Code {
         self.places.truncate(1);
     }
 
-    /// A new place, which this number of the index gets. Where all are taken, all are forgotten first.
+    /// A new place, which this number of the index gets. Where all are taken, all are dropped first.
     #[cold]
     #[inline(never)]
     fn new_place(&mut self, at: usize) -> usize

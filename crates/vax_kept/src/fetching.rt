@@ -63,14 +63,14 @@ fn stands_at(memory: &[u8], place: usize, kept: &Kept) -> bool
     has_all(memory, place, &kept.bytes[..length])
 }
 
-/// Whether an instruction of so many bytes at an address lies in one page.
+/// Whether an instruction of `length` bytes at an address lies in one page.
 fn is_in_page(pc: u32, length: u8) -> bool
     ensures { result ≡ true → (pc % 512 + length ≤ 512) × (length ≤ 24) }
 {
     length <= 24 && pc % 512 + u32::from(length) <= 512
 }
 
-/// Whether the bytes that spell a kept instruction are in a memory, so many of them at one place and the others at another.
+/// Whether the bytes that spell a kept instruction are in a memory, the first `first` at one place and the others at another.
 #[cold]
 #[inline(never)]
 fn stands_in_two(memory: &[u8], places: (usize, usize), first: usize, kept: &Kept) -> bool

@@ -30,7 +30,7 @@ pub struct Kept {
     /// The first place in a page from which on it lies over the page's end, if it is one of the instructions that `plan_into`
     /// plans; else 0.
     pub end: u32,
-    /// The same, if it has at most eight bytes; else 0.
+    /// That place, if the instruction also has at most eight bytes; else 0.
     pub near_end: u32,
     pub bytes: [u8; 24],
     pub prepared: Prepared,
@@ -78,7 +78,7 @@ pub fn end_of(decoded: &Decoded) -> u32
     }
 }
 
-/// The same of one that has at most eight bytes.
+/// What `end_of` gives, if the instruction has at most eight bytes; else 0.
 pub fn near_end_of(decoded: &Decoded) -> u32
     ensures whole { 0 < result → result + decoded.now.length ≡ 513 }
     ensures short { 0 < result → decoded.now.length ≤ 8 }

@@ -1,5 +1,5 @@
-//! Instructions that are kept: decoded and prepared once, found by their address, and taken again where memory still has the
-//! bytes that spell them.
+//! Decoded instructions that are kept, and found again while memory has the bytes that spell them. Each is decoded and prepared
+//! once, and found by its address.
 #![tactic(auto)]
 
 mod changed;

@@ -96,7 +96,7 @@ bit_of_longword x k low =
 pub leads : (x : Operand) (d : ℕ) (q : List ℕ) → x.kind ≡ Branch d → value_at_hand x.kind x.form.width x.spec q ≡ plus (slice_index q 15) d
 leads x d q is = ap (λ (z : Kind). value_at_hand z x.form.width x.spec q) is
 
--- a branch to so many bytes from its own address
+-- a branch to `jump` bytes from its own address
 went_by : (is : Bool) (r q : List ℕ) (k jump to psw : ℕ) → q ≡ past_own_bytes k r → to ≡ plus (slice_index r 15) jump → went_if is to (quietly q psw) ≡ quietly (gone_on is jump k r) psw
 went_by true r q k jump to psw e f =
     ap (λ (xs : List ℕ). quietly xs psw) (ap (λ (xs : List ℕ). slice_set xs 15 to) e ∙ set-set r 15 (plus (slice_index r 15) k) to ∙ ap (λ (v : ℕ). slice_set r 15 v) f)

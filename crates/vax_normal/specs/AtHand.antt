@@ -86,7 +86,7 @@ abbrev pub operands_length : List Operand → ℕ
 operands_length [] = 0
 operands_length (x ∷ xs) = plus x.length (operands_length xs)
 
--- registers before an instruction of so many bytes, and those after its opcode
+-- registers before an instruction of k bytes, and those after its opcode
 abbrev pub AreBefore : ℕ → List Operand → (r q : List ℕ) → Type 0
 AreBefore k xs r q = (15 < length r) × AreAlikeButPc r q × ((all_at_hand xs q).r ≡ past_own_bytes k r)
 
@@ -94,6 +94,6 @@ AreBefore k xs r q = (15 < length r) × AreAlikeButPc r q × ((all_at_hand xs q)
 abbrev pub IsPutBy : ℕ → Dest → Type 0
 IsPutBy n dest = (w : Width) (v : ℕ) (e : Effect) → put dest w v e ≡ record e { r = with_result n w v e.r }
 
--- an operation after such operands, of an instruction of so many bytes, does what a shape says
+-- an operation after such operands, of an instruction of k bytes, does what a shape says
 abbrev pub IsDoneBy : Shape → ℕ → Operation → List Operand → Type 0
 IsDoneBy s k what xs = (r q : List ℕ) (psw : ℕ) → 15 < length r → AreAlikeButPc r q → (all_at_hand xs q).r ≡ past_own_bytes k r → performed what (all_at_hand xs q) psw ≡ Done (done_by s k r psw)

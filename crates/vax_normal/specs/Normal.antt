@@ -36,7 +36,7 @@ computed_at_once c length r psw =
     let x = alu_of c.op (number_by c.first r) (number_by c.second r) c.width psw in
     record { r = with_result c.register c.width x.value (past_own_bytes length r); psw = x.psw; writes = []; trap = x.trap }
 
--- it goes on by so many bytes, or by its own
+-- PC goes on by `jump` bytes where a branch is taken, or else by `length`
 abbrev pub gone_on : Bool → (jump length : ℕ) → List ℕ → List ℕ
 gone_on taken jump length r = past_own_bytes (if taken then jump else length) r
 

@@ -26,7 +26,7 @@ use Rattle.vax_normal.specs.declared.shape.Reach.{Reach}
 use Rattle.vax_normal.specs.declared.shape.Number.{Number}
 use Rattle.vax_normal.specs.declared.touches.Touches.{Touches}
 
--- the registers that a base leaves, for an operand of so many bytes
+-- the registers that a base leaves, for an operand of `size` bytes
 abbrev pub base_left : Base → (size n : ℕ) → List ℕ → List ℕ
 base_left Decrement size n r = slice_set r n (minus (slice_index r n) size)
 base_left Increment size n r = slice_set r n (plus (slice_index r n) size)
@@ -80,7 +80,7 @@ abbrev pub AreTouched : Touches → List Operand → Type 0
 AreTouched t xs = (s : Space) (i v u at : ℕ) (r : List ℕ) (o : Operands) → IsMoved r o.r → HasRead s t.reads r v → HasClaimed s t.writes r u → IsClaimedAt t.writes r at →
     (outcome s (operands_from i (map (λ x. x.form) xs) (map (λ x. x.spec) xs) o) ≡ Ok (from_had v u at i xs o)) × IsMoved (stepped_by t.writes (stepped_by t.reads r)) (from_had v u at i xs o).r
 
--- registers before an instruction of so many bytes whose operands touch so much, and those after its opcode
+-- registers before an instruction of k bytes whose operands make these touches, and those after its opcode
 abbrev pub AreBeforeTouches : Touches → ℕ → List Operand → (read claimed at : ℕ) → (r q : List ℕ) → Type 0
 AreBeforeTouches t k xs v u at r q = (15 < length r) × IsMoved r q × ((all_had v u at xs q).r ≡ past_own_bytes k (stepped_by t.writes (stepped_by t.reads r)))
 

@@ -16,7 +16,7 @@ use vax_table::Operation;
 use vv_base::Width;
 
 /// BBS or BBC of memory in normal form: the position of the bit, and the address from which it counts, are had at once. It
-/// branches by so many bytes from its own address.
+/// branches by a number of bytes from its own address.
 #[derive(Clone, Copy)]
 pub struct BitTest {
     pub on: bool,

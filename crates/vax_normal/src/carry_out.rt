@@ -16,7 +16,7 @@ pub struct After {
     pub total: u64,
 }
 
-/// PC goes on by so many bytes.
+/// PC goes on by `by` bytes.
 #[inline(always)]
 pub fn go_on(r: &mut [u32; 16], by: u32, total: u64)
     requires { total ≡ sum (take 15 r.old) }
@@ -26,7 +26,7 @@ pub fn go_on(r: &mut [u32; 16], by: u32, total: u64)
     r[15] = r[15].wrapping_add(by);
 }
 
-/// It goes on by so many bytes where a branch is taken, and else by its own.
+/// PC goes on by `jump` bytes where a branch is taken, or else by `length`.
 #[inline(always)]
 fn go_if(r: &mut [u32; 16], taken: bool, jump: u32, length: u32, total: u64)
     requires { total ≡ sum (take 15 r.old) }

@@ -140,7 +140,7 @@ fn computation_of(
     }))
 }
 
-/// A branch by so many bytes from the next instruction, from the address of this one.
+/// The distance from the address of a branch, whose displacement counts from the next instruction.
 pub fn jump_of(displacement: u32, length: u32) -> u32
     ensures { result ≡ (displacement + length) % 2 ^ 32 }
 {

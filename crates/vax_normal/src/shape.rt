@@ -35,7 +35,7 @@ pub struct Countdown {
     ghost there: { register < 15 },
 }
 
-/// What an instruction does at once. It branches by so many bytes from its own address.
+/// What an instruction does at once. A branch goes on by a number of bytes from its own address.
 #[derive(Clone, Copy)]
 pub enum Shape {
     Computes(Computation),

@@ -15,7 +15,8 @@ use vax_table::Operation;
 use vax_table::effect::Store;
 use vv_base::Width;
 
-/// BSBB or BSBW in normal form: a branch by so many bytes from its own address, after a push of the address of the next instruction.
+/// BSBB or BSBW in normal form: a branch by a number of bytes from its own address, after a push of the address of the next
+/// instruction.
 #[derive(Clone, Copy)]
 pub struct Call {
     pub jump: u32,

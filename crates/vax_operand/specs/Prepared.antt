@@ -21,8 +21,8 @@ use Rattle.vax_operand.specs.declared.kind.Base.TheVariants.{Deferred, Decrement
 use Rattle.vax_operand.specs.declared.kind.Kind.{Kind}
 use Rattle.vax_operand.specs.declared.kind.Kind.TheVariants.{Constant, ReadRegister, ModifyRegister, WriteRegister, BitsRegister, Branch, Read, Modify, Write, Address, Bits}
 
--- How a specifier without index gives an address, for an operand of so many bytes. An immediate is the operand's bytes
--- in front of PC.
+-- How a specifier without index gives an address, for an operand of `size` bytes. An immediate is the operand's bytes in front of
+-- PC.
 unfoldable pub base_of : ℕ → Spec → Base
 base_of size s =
     if s.mode == 6 then Deferred else
@@ -98,7 +98,7 @@ rests-prop (Write b) w s = addressed-prop s
 rests-prop (Address b) w s = addressed-prop s
 rests-prop (Bits b) w s = addressed-prop s
 
--- the address that a register gives in each way, for an operand of so many bytes
+-- the address that a register gives in each way, for an operand of `size` bytes
 unfoldable pub base_by : Base → ℕ → ℕ → List ℕ → Interaction Place
 base_by Deferred size n r = Done (place (slice_index r n) r)
 base_by Decrement size n r = Done (place (minus (slice_index r n) size) (slice_set r n (minus (slice_index r n) size)))

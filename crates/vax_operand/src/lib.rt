@@ -1,4 +1,4 @@
-//! The operands of an instruction, evaluated over what it reaches.
+//! Evaluates operands in each addressing mode, with their side effects, or finds the first trouble.
 #![tactic(auto)]
 
 mod address;

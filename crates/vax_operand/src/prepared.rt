@@ -80,7 +80,7 @@ pub fn prepare_into(forms: &[Form], specs: &[Spec], operands: &mut ArrayVec<Oper
     }
 }
 
-/// The same by value.
+/// The operands of some forms, in order, by value.
 pub fn prepare(forms: &[Form], specs: &[Spec]) -> ArrayVec<Operand, 4>
     requires few { length forms.now ≤ 4 }
     requires stand { AreLegalOperands forms.now specs.now }

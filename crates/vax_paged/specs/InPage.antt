@@ -18,7 +18,7 @@ abbrev pub number_from : List ℕ → (k place : ℕ) → ℕ
 number_from memory zero place = 0
 number_from memory (suc k) place = slice_index memory place + 256 * number_from memory k (place + 1)
 
--- the same where so many of them are at one place, and the others at another
+-- the number of k bytes, of which the first `first` are at one place, and the others at another
 abbrev pub number_over : List ℕ → (first k at next : ℕ) → ℕ
 number_over memory zero k at next = number_from memory k next
 number_over memory (suc first) zero at next = 0

@@ -1,4 +1,5 @@
--- Pages that are known: where they lie, as long as memory stays as it is in the frames whose stores are watched.
+-- The translation buffer: pages that are known, and where they lie, as long as memory stays as it is in the frames whose stores
+-- are watched.
 use Rattle.std.specs.Prelude.{◌*◌, ℕ, ◌≡◌, ◌+◌, ◌/◌, ◌%◌, ◌^◌, ◌<◌, ◌==◌, ◌&&◌, Bool, true, false, nat_lt, if◌then◌else◌, List, All, get_or, slice_index, Option, Some, None, Result, Ok, Err}
 use Rattle.std.specs.List.{slice_get}
 use Rattle.vv_base.specs.Bytes.{long_at}

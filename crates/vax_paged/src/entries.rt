@@ -9,7 +9,7 @@ use crate::memory::long_in;
 use vax_arch::{Pte, REGION};
 use vax_hw::World;
 
-/// What a page comes to in the machine's own tables: its entry; or it has none, since the system table's entry for its
+/// The outcome of a page's look-up in the machine's own tables: its entry; or it has none, since the system table's entry for its
 /// table isn't valid, or by a length.
 #[derive(Clone, Copy, Debug, PartialEq, Eq)]
 pub enum Entry {
@@ -18,7 +18,7 @@ pub enum Entry {
     TooFar,
 }
 
-/// Where a page's entry lies; or it has none, as `Entry` tells.
+/// Where a page's entry lies; or it has none, as `Entry` says.
 #[derive(Clone, Copy, Debug, PartialEq, Eq)]
 pub enum Look {
     Found(usize),

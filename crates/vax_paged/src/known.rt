@@ -26,18 +26,18 @@ use vax_operand::{Space, Trouble};
 use vax_table::effect::Store;
 use vv_base::Width;
 
-/// What the tables said of a page. No page has the number 0xFFFF_FFFF.
+/// An entry of the translation buffer: what the tables said of a page. No page has the number 0xFFFF_FFFF.
 #[derive(Clone, Copy)]
 pub struct Known {
     /// The page's number, an address divided by 512, if it may be read.
     pub read_page: u32,
-    /// The same if it may be written, and its modify bit is set.
+    /// The page's number, if it may be written, and its modify bit is set.
     pub write_page: u32,
     /// The place of the page's first byte.
     pub base: u32,
 }
 
-/// What was learned of a page, which is so as long as two longwords stay as they are.
+/// What is known of a page, which is so as long as two longwords stay as they are.
 #[derive(Clone, Copy)]
 pub struct Learned {
     pub known: Known,
@@ -111,7 +111,8 @@ impl Paged<'_> {
     }
 }
 
-/// The machine's memory by the pages that are known. A page that was wanted and isn't known is noted.
+/// The machine's memory by the pages that are known, which the translation buffer has. A page that was looked up and isn't known
+/// is noted.
 #[derive(Clone, Copy)]
 pub struct Mapped<'a> {
     pub memory: &'a [u8],
@@ -143,7 +144,7 @@ impl Mapped<'_> {
         }
     }
 
-    /// The number of so many bytes, the lowest first, each by its own page.
+    /// The number in `bytes` bytes, the lowest first, each by its own page.
     #[tactic(auto, using(vax_operand::proofs::ByteByByte::byte_by_byte))]
     #[cold]
     #[inline(never)]
@@ -160,7 +161,7 @@ impl Mapped<'_> {
         Ok(u64::from(byte) + 256 * rest)
     }
 
-    /// The number of so many bytes over a page's end, the lowest first: by both pages, where they are known.
+    /// The number in `bytes` bytes over a page's end, the lowest first: by both pages, where they are known.
     #[cold]
     #[inline(never)]
     fn number_over_end(self, va: u32, bytes: u32, write: bool) -> Result<u64, Trouble>

@@ -127,7 +127,7 @@ pub fn number_in(memory: &[u8], at: usize, w: Width) -> u64
     }
 }
 
-/// So many bytes from a place on, as a number, the lowest first; each that lies beyond memory is 0.
+/// The number in `bytes` bytes from a place on, the lowest first; each that lies beyond memory is 0.
 #[tactic(auto, using(vax_operand::proofs::ByteByByte::byte_by_byte))]
 fn bytes_in(memory: &[u8], at: usize, bytes: u32) -> u64
     requires low { at + bytes ≤ 2 ^ 40 }
@@ -143,7 +143,7 @@ fn bytes_in(memory: &[u8], at: usize, bytes: u32) -> u64
     u64::from(byte) + 256 * rest
 }
 
-/// The same where so many of them are at one place, and the others at another.
+/// The number in `bytes` bytes, of which the first `first` are at one place, and the others at another.
 #[tactic(auto, using(vax_operand::proofs::ByteByByte::byte_by_byte))]
 pub fn bytes_over(memory: &[u8], first: u32, at: usize, next: usize, bytes: u32) -> u64
     requires low { at + first ≤ 2 ^ 40 }
@@ -192,7 +192,7 @@ pub fn store_in(memory: &mut [u8], place: usize, w: Width, value: u64)
     }
 }
 
-/// Stores so many low bytes of a number from a place on, the lowest first. Answers the number above them.
+/// Stores the `bytes` low bytes of a number from a place on, the lowest first. Answers the number above them.
 pub fn store_bytes(memory: &mut [u8], place: usize, bytes: u32, value: u64) -> u64
     requires { place + bytes ≤ length memory.old }
     ensures memory { memory.new ≡ stored_from bytes place value memory.old }

@@ -40,8 +40,8 @@ fn nowhere() -> Here
     }
 }
 
-/// The pages that are known in each mode, that of the last instruction, and the frames of memory whose stores are watched,
-/// since what is known rests on them: those that have the present mark.
+/// The translation buffer: the pages that are known in each mode, that of the last instruction, and the frames of memory whose
+/// stores are watched, since what is known rests on them: those that have the present mark.
 #[derive(Drop)]
 pub struct KnownPages {
     pub kernel: ModePages,
@@ -54,7 +54,7 @@ pub struct KnownPages {
 }
 
 impl KnownPages {
-    /// None is known, over so many pages of memory.
+    /// None is known, over `pages` pages of memory.
     pub fn nothing(alloc: Global, pages: u32) -> Result<KnownPages, NoMemory>
         ensures { IfOk result (λ p. (memory : List ℕ) (t : Tables) → AreAllKnown memory t p) }
     {

@@ -17,8 +17,8 @@ struct Tagged {
     base: u32,
 }
 
-/// The pages that are known in a mode, each at its number modulo 2,048, the most pages that a guest has. Those of another tag than the present one are
-/// forgotten.
+/// The translation buffer of a mode: the pages that are known in it, each at its number modulo 2,048, the most pages that a guest
+/// has. Those of another tag than the present one don't count.
 #[derive(Drop)]
 pub struct ModePages {
     pages: [Tagged; 2048],
@@ -63,7 +63,7 @@ impl Tagged {
     }
 }
 
-/// Forgets pages of every tag.
+/// Clears pages of every tag.
 #[cold]
 #[inline(never)]
 fn clear(pages: &mut [Tagged; 2048])

@@ -58,7 +58,7 @@ impl Paged<'_> {
         Ok(byte_in(self.memory, place as usize))
     }
 
-    /// The number of so many bytes, the lowest first, each by its own page.
+    /// The number in `bytes` bytes, the lowest first, each by its own page.
     #[tactic(auto, using(vax_operand::proofs::ByteByByte::byte_by_byte))]
     #[cold]
     #[inline(never)]

@@ -54,7 +54,7 @@ impl Paged<'_> {
         }
     }
 
-    /// The first of so many bytes whose page's modify bit is clear, each by its own page.
+    /// The first of `bytes` bytes whose page's modify bit is clear, each by its own page.
     #[tactic(auto, using(crate::proofs::Puts::byte_by_byte))]
     fn first_clear_by_bytes(&self, va: u32, bytes: u32) -> Option<u32>
         ensures { result ≡ first_clear (is_clear_for self.now.memory.now self.now.world.now) (addresses bytes va) }
@@ -173,7 +173,7 @@ fn walked_place(memory: &[u8], world: &World, store: &Store) -> Option<usize>
     }
 }
 
-/// The same, by what is known of its page where it is known.
+/// The place of a store that lies in one page, where memory has it whole: by what is known of the page, or else by the tables.
 fn whole_place(
     memory: &[u8],
     world: &World,

@@ -49,7 +49,7 @@ number_of-lt : (bs : List ℕ) → AreBytes bs → number_of bs < 256 ^ length b
 number_of-lt [] h = lit< tt
 number_of-lt (b ∷ bs) h = let small : b < 256 = h.0 in let rest : number_of bs < 256 ^ length bs = number_of-lt bs h.1 in omega (arith, pow-suc 256 (length bs))
 
--- the same of as many bytes as are wanted
+-- the same of as many bytes as are needed
 pub bytes_again : (k : ℕ) (bs : List ℕ) → length bs ≡ k → AreBytes bs → bytes_of k (number_of bs) ≡ bs
 bytes_again k bs len h = subst (λ n. bytes_of n (number_of bs) ≡ bs) len (bytes_of-number_of bs h)
 

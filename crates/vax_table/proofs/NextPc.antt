@@ -82,7 +82,7 @@ access_kept Bits w s r cs h =
     holds-bind (KeepsPlace r) (KeepsOperand r) cs (address_of (size_of w) s r) _ (address_kept (size_of w) s r cs h.0) (λ ds p k. k))
 access_kept Branch w s r cs h = (refl, refl)
 
--- registers whose PC went on by so many bytes
+-- registers whose PC went on by k bytes
 abbrev Goes : ℕ → List ℕ → List ℕ → Type 0
 Goes k r q = (slice_index q 15 ≡ plus (slice_index r 15) k) × (length q ≡ length r)
 

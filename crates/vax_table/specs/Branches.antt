@@ -125,7 +125,7 @@ abbrev pub with_bit : Bool → ℕ → ℕ → ℕ
 with_bit true k n = bit_or n (2 ^ k)
 with_bit false k n = bit_and n (2 ^ 32 - 1 - 2 ^ k)
 
--- the bit is made what is wanted, if anything is
+-- the bit is made this one, if there is one
 abbrev pub bit_made : Option Bool → Dest → Width → ℕ → ℕ → Effect → Effect
 bit_made None dest w k n e = e
 bit_made (Some b) dest w k n e = put dest w (with_bit b k n) e

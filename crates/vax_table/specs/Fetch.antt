@@ -13,11 +13,11 @@ by_answer more at bytes Short = Touch Read (at + length bytes) 1 (λ b. more (by
 by_answer more at bytes Unknown = Refuse refusals.Instruction
 by_answer more at bytes Reserved = Refuse refusals.Addressing
 
--- the instruction at an address, of which these bytes are fetched already, by at most so many looks at them
+-- the instruction at an address, of which these bytes are fetched already, by at most n tries to decode them
 unfoldable pub decided : ℕ → ℕ → List ℕ → Interaction Instruction
 decided zero at bytes = Refuse refusals.Instruction
 decided (suc looks) at bytes = by_answer (decided looks at) at bytes (decoded_at bytes)
 
--- The instruction at an address. A spelling has at most 21 bytes, so 22 looks decide.
+-- The instruction at an address. A spelling has at most 21 bytes, so 22 tries decide.
 unfoldable pub fetched : ℕ → Interaction Instruction
 fetched at = decided 22 at []

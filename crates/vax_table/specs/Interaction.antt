@@ -34,7 +34,7 @@ abbrev pub number_at : Space → Intent → ℕ → ℕ → Result ℕ Trouble
 number_at s i zero a = Ok 0
 number_at s i (suc k) a = with_byte i (a % 2 ^ 32) (s i (a % 2 ^ 32)) (number_at s i k (a + 1))
 
--- An interaction: it is done, it refuses, or it touches so many bytes from an address and goes on with their number.
+-- An interaction: it is done, it refuses, or it touches a number of bytes from an address on and goes on with their value.
 pub data Interaction (A : Type 0) : Type 0 where
   Done : A → Interaction A
   Refuse : Refusal → Interaction A

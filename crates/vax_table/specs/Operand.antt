@@ -1,8 +1,8 @@
--- The operands of an instruction, evaluated in order: the value of each, where its result goes, and what it does to
--- the registers (VAX Architecture Reference Manual, instruction formats and addressing modes: operand specifiers).
--- Profile, this project's own choices: a source is read as it is evaluated; an index register is read after the
--- base's side effect; a modified operand is one access with write intent; an immediate that is written, modified, or
--- whose address or bits are taken, is the place in the instruction.
+-- The operands of an instruction, evaluated in order: the value of each, where its result goes, and what it does to the registers
+-- (VAX Architecture Reference Manual, instruction formats and addressing modes: operand specifiers). Profile, this project's own
+-- choices: a source is read as it is evaluated; an index register is read after the base's side effect; a modified operand is one
+-- access with write intent. An immediate that is written, modified, or whose address or bits are taken, is the place in the
+-- instruction.
 use Rattle.std.specs.Prelude.{ℕ, ◌+◌, ◌-◌, ◌*◌, ◌%◌, ◌^◌, ◌&&◌, nat_lt, ◌==◌, List, [], ◌∷◌, Option, Some, None, is_some, if◌then◌else◌, slice_index, slice_set}
 use Rattle.vv_base.specs.declared.width.Width.{Width}
 use Rattle.vv_base.specs.declared.width.Width.TheVariants.{Byte, Word, Long, Quad}
@@ -37,8 +37,8 @@ extended k v = if nat_lt v (2 ^ (8 * k - 1)) then v else v + (2 ^ 32 - 2 ^ (8 * 
 abbrev pub place : ℕ → List ℕ → Place
 place at r = record { at = at; r = r }
 
--- The address that a specifier without index gives for an operand of so many bytes. R15 is after the specifier, so
--- an immediate is the operand's bytes in front of R15.
+-- The address that a specifier without index gives for an operand of `size` bytes. R15 is after the specifier, so an immediate is
+-- the operand's bytes in front of R15.
 unfoldable pub base_address : ℕ → Spec → List ℕ → Interaction Place
 base_address size s r =
     let x = slice_index r s.reg in
@@ -119,7 +119,7 @@ operand_length f s =
     if is_branch f.access then size_of f.width else
     if is_some s.index then 2 + value_size f s else 1 + value_size f s
 
--- PC goes on by so many bytes
+-- PC goes on by k bytes
 abbrev pub past_own_bytes : ℕ → List ℕ → List ℕ
 past_own_bytes k r = slice_set r 15 (plus (slice_index r 15) k)
 

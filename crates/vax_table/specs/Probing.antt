@@ -9,6 +9,6 @@ use Rattle.vax_table.specs.Operand.{minus, plus}
 abbrev pub probe_mode : ℕ → ℕ → Mode
 probe_mode psl named = if nat_le (mode_number (previous_of psl)) (mode_number (mode_of named)) then mode_of named else previous_of psl
 
--- the last byte of a range of so many bytes; the base, where there are none
+-- the last byte of a range of `bytes` bytes; the base, where there are none
 abbrev pub last_of : (base bytes : ℕ) → ℕ
 last_of base bytes = if bytes == 0 then base else minus (plus base bytes) 1

@@ -32,7 +32,7 @@ abbrev pub is_quad : Width → Bool
 is_quad Quad = true
 is_quad _ = false
 
--- an operand and the bytes after it, more bytes wanted, or a reserved form
+-- an operand and the bytes after it, a need of more bytes, or a reserved form
 pub data OperandReading : Type 0 where
   Got : Spec → List ℕ → OperandReading
   More : OperandReading
@@ -83,7 +83,7 @@ operand_at form (b ∷ bytes) =
     if b / 16 == 4 then (if b % 16 == 15 then Bad else indexed_at form (b % 16) bytes) else
     specifier_at form b bytes
 
--- operands and the bytes after them, more bytes wanted, or a reserved form
+-- operands and the bytes after them, a need of more bytes, or a reserved form
 pub data OperandsReading : Type 0 where
   GotAll : List Spec → List ℕ → OperandsReading
   MoreAll : OperandsReading

@@ -1,8 +1,8 @@
--- What bytes spell an instruction: its opcode, and a specifier or a branch displacement for each
--- operand (VAX Architecture Reference Manual, operand specifier formats). Nothing spells a reserved
--- form: a literal that is not only read, a register whose address is taken, an index over a literal,
--- a register or an index, PC as index; and, by this project's own choice (profile), PC in the modes
--- register, register deferred and autodecrement, an index over an immediate, a quadword in R14 and PC.
+-- What bytes spell an instruction: its opcode, and a specifier or a branch displacement for each operand (VAX Architecture
+-- Reference Manual, operand specifier formats). Nothing spells a reserved form: a literal that is not only read, a register whose
+-- address is taken, an index over a literal, a register or an index, PC as index. By this project's own choice (profile) these
+-- are reserved too: PC in the modes register, register deferred and autodecrement, an index over an immediate, a quadword in R14
+-- and PC.
 use Rattle.std.specs.Prelude.{◌≡◌, ◌≢◌, ℕ, zero, suc, ◌+◌, ◌*◌, ◌/◌, ◌%◌, ◌^◌, ◌<◌, ◌≤◌, List, [], ◌∷◌, ◌++◌, length, take, Some, None, IsSome, Bool, true, false, ◌⊎◌}
 use Rattle.vv_base.specs.declared.width.Width.TheVariants.{Quad}
 use Rattle.vv_base.specs.Width.{size_of}

@@ -37,7 +37,7 @@ unfoldable pub named_down : ℕ → ℕ → List ℕ
 named_down zero mask = []
 named_down (suc n) mask = if does_name mask n then n ∷ named_down n mask else named_down n mask
 
--- of so many registers from n on those that a mask names, from the lowest up
+-- which of the k registers from n on a mask names, from the lowest up
 unfoldable pub named_up : ℕ → ℕ → ℕ → List ℕ
 named_up zero n mask = []
 named_up (suc k) n mask = if does_name mask n then n ∷ named_up k (n + 1) mask else named_up k (n + 1) mask

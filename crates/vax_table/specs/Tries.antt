@@ -1,6 +1,5 @@
--- A try of an instruction over a space that tells which written bytes have a clear modify bit
--- (VAX Architecture Reference Manual: page table entry, modify bit; Hall and Robinson, Virtualizing the VAX
--- Architecture, ISCA 1991: modify fault).
+-- A try of an instruction over a space in which some written bytes have a clear modify bit (VAX Architecture Reference Manual:
+-- page table entry, modify bit; Hall and Robinson, Virtualizing the VAX Architecture, ISCA 1991: modify fault).
 use Rattle.std.specs.Prelude.{◌≡◌, ℕ, Bool, true, false, if◌then◌else◌, List, [], ◌∷◌, Option, Some, None, Result, Ok, Err}
 use Rattle.vax_table.specs.Claims.{claims}
 use Rattle.vax_table.specs.Interaction.{Interaction, Space, Trouble, At, Test, Cause, outcome}
@@ -32,8 +31,8 @@ tried s is_clear m = tried_by is_clear (claims s m) (outcome s m)
 abbrev pub IsMarkedAtLeast : (ℕ → Bool) → (ℕ → Bool) → Type 0
 IsMarkedAtLeast below above = (va : ℕ) → below va ≡ false → above va ≡ false
 
--- A try over the second, given one over the first: the same, but where the first stopped at an access at which it is
--- silent, or at a clear bit that is set above; there the second stops at its own trouble or clear bit, or goes on.
+-- A try over the second, given one over the first: the same, but where the first stopped at an access at which it is silent, or
+-- at a clear bit that is set above. There the second stops at its own trouble or clear bit, or goes on.
 abbrev pub TriedFar : {A : Type 0} → Space → Space → (ℕ → Bool) → (ℕ → Bool) → Tried A → Tried A → Type 0
 TriedFar s t below above (Completes a) r = r ≡ Completes a
 TriedFar s t below above (Clear va) r = (below va ≡ true) × (above va ≡ true → r ≡ Clear va)

@@ -2,7 +2,7 @@
 use Rattle.std.specs.Prelude.{ℕ, zero, suc, ◌-◌, ◌^◌, ◌<◌, ◌≤◌, IsTrue}
 use Rattle.vm_clock.specs.Clock.{ClockState, after_tick, wraps_next}
 
--- the state after so many ticks
+-- the state after n ticks
 unfoldable pub after_ticks : ℕ → ClockState → ClockState
 after_ticks zero clock = clock
 after_ticks (suc n) clock = after_ticks n (after_tick clock)

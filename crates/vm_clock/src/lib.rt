@@ -1,4 +1,4 @@
-//! The interval clock of a virtual VAX: its registers ICCS, NICR and ICR, and its request for an interrupt.
+//! A guest's interval clock: the registers ICCS, NICR and ICR, and its interrupt's request.
 #![tactic(auto)]
 
 ghost use Rattle.std.specs.Prelude.{◌≡◌, ◌+◌, ◌-◌, ◌/◌, ◌%◌, ◌<◌, ◌==◌, ◌↔◌, false, IsTrue, IsFalse, IsNone, IfSome, MatchOption};

@@ -1,4 +1,4 @@
--- What a port with room for so many bytes keeps of what it was shown.
+-- What a port with room for a number of bytes keeps of what it was shown.
 use Rattle.std.proofs.Common.{◌≡◌, ℕ, ◌≤◌, false, List, [], length, arith, subst, sym, ◌∙◌, ap}
 use Rattle.std.proofs.lemmas.Grind.{common_steps}
 use Rattle.std.proofs.lemmas.List.{take_all}

@@ -28,7 +28,7 @@ pub record IsConsole (console : ConsoleState) : Type 0 where
 abbrev pub is_receiver_done : ConsoleState → Bool
 is_receiver_done console = not (length console.waiting == 0)
 
--- at most so many bytes wait
+-- how many bytes wait at most
 abbrev pub most_waiting : ℕ
 most_waiting = 256
 

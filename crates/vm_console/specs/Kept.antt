@@ -1,4 +1,4 @@
--- What a port keeps that has room for so many bytes (profile).
+-- What a port keeps that has room for a number of bytes (profile).
 use Rattle.std.specs.Prelude.{◌≡◌, ℕ, Bool, false, true, nat_lt, if◌then◌else◌, List, [], ◌∷◌, ◌++◌, length, take}
 
 -- the bytes kept, and whether more were shown than there was room for

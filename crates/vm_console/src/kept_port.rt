@@ -36,7 +36,7 @@ impl<const N: usize> KeptPort<N> {
         })
     }
 
-    /// Forgets what was shown.
+    /// Clears what was shown.
     pub fn clear(&mut self)
         ensures { self.new ≡ empty }
     {

@@ -1,4 +1,5 @@
-//! The console of a virtual VAX: its receive and transmit registers, its two requests for interrupts, and the port that its bytes go to.
+//! A guest's console registers RXCS, RXDB, TXCS, TXDB, and the port that shown bytes go to. Its receiver and its transmitter each
+//! request an interrupt.
 #![tactic(auto)]
 
 ghost use Rattle.std.specs.Prelude.{◌≡◌, ◌≤◌, ◌/◌, ◌%◌, ◌==◌, length};

@@ -58,7 +58,7 @@ module _ (e : Exc) (m m' : Machine) (s s' : Shadowed) (g g' : GuestState) where
 
 -- A guest that is past an instruction, and the guest as it was before.
 
--- no clear modify bit is met
+-- it stops at no clear modify bit
 abbrev IsUnmarked : Sensed → Type 0
 IsUnmarked (ClearAt va) = ⊥
 IsUnmarked _ = Unit {0}

@@ -178,7 +178,7 @@ module _ (m : Machine) (s : Shadowed) (g : GuestState) (t : Trapped) (stands : S
           let size : length (partition_of m.memory g1) ≡ 512 * s.pages = (λ i. length (part m.memory (512 * place1.base i) (512 * place1.pages i))) ∙ memory_size m s g stands ∙ ap (λ n. 512 * n) (sym stands.serves.pages) in
           subst (λ n. AreHomes n hs) size (homes_inside (guest_of m.memory g1) Kernel (slice_index g1.r 14) longs hs (aligned_of (tables_of g1) can_switch) walk)
 
-      -- what was read from a frame of the push is dropped, and then the tables' registers are told
+      -- what was read from a frame of the push is dropped, and then the tables switch to the registers
       pub is_loaded : (m1 m' : Machine) (s1 s' : Shadowed) → Wrote (frames_pushed (own m.memory s) hs) (pushed hs (own m.memory s)) m s m1 s1 → Switches later m1 s1 m' s' → Senses (switched whole (loads_context whole t.next_pc)) m s g outcomes.Done m' s' later
       unfolding frames becomes sensed
       is_loaded m1 m' s1 s' wrote sw =

@@ -107,7 +107,7 @@ still_present m m1 s g page k only p = subst (λ (x : Guest). IsPresent x page) 
 number_of : (m : Machine) (s : Shadowed) (g : GuestState) (page : ℕ) → StandsFor m.memory s g → IsPresent (guest_of m.memory g) page → own_number s page < all_entries
 number_of m s g page k p = number_small s.slot page (slot_small m.memory s k.keeps.fits) (present_covered m.memory s g page k.keeps.fits k.serves p)
 
--- an entry that is remembered is valid
+-- an entry that is recorded is valid
 remembered_valid : (memory : List ℕ) (s : Shadowed) (n : ℕ) (x : Option Source) → Keeps [] [] memory s → n < all_entries → read_at s n ≡ x → is_some x ≡ true → is_valid (real_at memory s n) ≡ true
 remembered_valid memory s n None k h e some = absurd (false≢true some)
 remembered_valid memory s n (Some source) k h e some = (subst (IsKept (512 * s.pages) s.base (own memory s) [] (seen_at memory s n) (real_at memory s n)) e (k.entries n h)).0

@@ -1,4 +1,4 @@
--- Shadow page tables to which nothing new is told.
+-- Shadow page tables that don't switch.
 use Rattle.std.proofs.Common.{◌≡◌, ℕ, inl, List, [], refl, subst}
 use Rattle.vax_arch.specs.Walk.{Tables}
 use Rattle.vm_emulate.specs.Followed.{Follows}
@@ -10,7 +10,7 @@ use Rattle.vm_shadow.proofs.OwnContext.{told_again}
 pub nothing_dropped : (s : Shadowed) → DropsAmong [] s s
 nothing_dropped s = record { each = λ n. inl refl; rest = refl }
 
--- of an instruction that writes nothing, and tells nothing new
+-- of an instruction that writes nothing, and switches to no other registers
 pub follows_none : (memory : List ℕ) (s : Shadowed) (t : Tables) → Fits memory s → s.told ≡ t → Follows [] t s s
 follows_none memory s t f e = record { between = s; drops = nothing_dropped s; retells = subst (λ u. Retells u s s) e (told_again memory s f); rest = refl }
 

@@ -39,7 +39,7 @@ pub record EmulatesTo (h : Guest) (frames : List ℕ) (s : Shadowed) (m' : Machi
 abbrev pub marked_guest : Guest → ℕ → Guest
 marked_guest g va = record g { memory = marked_by (look g (page_of va)) g.memory }
 
--- a clear modify bit is met: a guest with modify faults has one
+-- the modify fault of a guest that has them, at a page with a clear modify bit
 abbrev pub clear_fault : ℕ → Exc
 clear_fault va = excs.ModifyFault va
 

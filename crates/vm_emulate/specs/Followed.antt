@@ -1,5 +1,5 @@
--- What the kernel's work for an instruction leaves of a guest's shadow page tables: what was read from a frame that it
--- writes is dropped, and then the registers of page tables are told, if they changed.
+-- What the kernel's work for an instruction leaves of a guest's shadow page tables: what was read from a frame that it writes is
+-- dropped, and then the tables switch to the registers of page tables, if they changed.
 use Rattle.std.specs.Prelude.{◌≡◌, ℕ, List}
 use Rattle.vax_arch.specs.Walk.{Tables}
 use Rattle.vm_exception.specs.Wrote.{DropsAmong}

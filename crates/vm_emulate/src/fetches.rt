@@ -163,7 +163,7 @@ fn put_value(g: &mut GuestState, dest: Dest, v: u32)
     }
 }
 
-/// A clear modify bit is met: a guest that has modify faults has one, and for another the bit is set.
+/// At a page with a clear modify bit, a guest that has modify faults has one, and for another the bit is set.
 fn meet_clear<H: Hardware>(machine: &mut H, s: &mut Shadow, g: &GuestState, va: u32) -> Emulated
     requires { StandsFor (H.machine machine.old).memory s.old g.now }
     ensures { Senses (ClearAt va) (H.machine machine.old) s.old g.now result (H.machine machine.new) s.new g.now }

@@ -1,4 +1,4 @@
--- What an initiation tells is the definition's.
+-- What is noted of an initiation is the definition's.
 use Rattle.std.proofs.Common.{◌≡◌, ℕ, refl, ap, ◌∙◌}
 use Rattle.vax_hw.specs.Machine.{Machine}
 use Rattle.vm_exception.specs.Noted.{noted, taken_by, vector_taken}

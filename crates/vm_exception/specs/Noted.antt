@@ -1,5 +1,5 @@
--- What a guest's next step tells beside its kind: the vector that an exception or an interrupt takes, or the page whose modify
--- bit is set. The cases are those of `step`.
+-- What is noted of a guest's next step beside its kind: the vector that an exception or an interrupt takes, or the page whose
+-- modify bit is set. The cases are those of `step`.
 use Rattle.std.specs.Prelude.{ℕ, ◌*◌, ◌/◌, Bool, true, false, if◌then◌else◌, Option, Some, None}
 use Rattle.vax_table.specs.Effects.{long_of}
 use Rattle.vax_table.specs.Tries.{Clear, Completes, Tried, tried}
@@ -27,7 +27,7 @@ vector_taken e (Taken h written) = Vector (vector_offset e)
 vector_taken e (KernelStackBad h written) = Vector 0x08
 vector_taken e (Stops stop) = Nothing
 
--- the same of the code's answer
+-- the vector that is taken, by the code's answer
 abbrev pub noted : Initiated → (offset : ℕ) → Note
 noted outcomes.Taken offset = Vector offset
 noted outcomes.KernelStackBad offset = Vector 0x08
@@ -40,7 +40,7 @@ taken_by g e = vector_taken e (initiate g e)
 abbrev pub note_of_clear : Guest → ℕ → Note
 note_of_clear g va = if g.state.modify_faults then taken_by g (excs.ModifyFault va) else Page (va / 512 * 512)
 
--- A sensitive instruction. A change of mode that completes tells nothing: the instruction names its vector.
+-- A sensitive instruction. A change of mode that completes has no note: the instruction names its vector.
 abbrev pub note_of_sensed : Guest → Sensed → Note
 note_of_sensed g (Does h shown written) = Nothing
 note_of_sensed g (Faults e) = taken_by g e

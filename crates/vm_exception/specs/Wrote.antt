@@ -6,7 +6,7 @@ use Rattle.vm_shadow.specs.StandsFor.{OnlyGuest}
 use Rattle.vm_state.specs.Pushes.{Home, all_put}
 use Rattle.vm_state.specs.Translation.{frame_at}
 
--- of what is remembered of entries, at most what was read from one of some frames is dropped
+-- of what is recorded of entries, at most what was read from one of some frames is dropped
 pub record DropsAmong (frames : List ℕ) (s s' : Shadowed) : Type 0 where
   pub each : (n : ℕ) → (read_at s' n ≡ read_at s n) ⊎ ((read_at s' n ≡ None) × (is_pending frames (read_at s n) ≡ true))
   pub rest : s' ≡ record s { reads = s'.reads; consulted = s'.consulted }

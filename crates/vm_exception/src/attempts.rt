@@ -22,7 +22,7 @@ pub enum Attempt {
     Halts(StopCode),
 }
 
-/// The stack pointer after so many longwords.
+/// The stack pointer after these longwords are pushed.
 fn pointer_after(sp: u32, longs: &[u32]) -> u32
     requires { length longs.now ≤ 4 }
     ensures { result ≡ pointer_after sp longs.now }

@@ -1,5 +1,5 @@
-//! What the kernel does to a guest between its instructions: pending interrupts, the initiation of exceptions and interrupts over its
-//! shadow page tables, and the text of a stop.
+//! Pending interrupts, and how an exception or interrupt is initiated; the text of a stop. The kernel does this between a guest's
+//! instructions, over its shadow page tables.
 #![tactic(auto)]
 
 mod attempts;

@@ -46,7 +46,7 @@ start_allowed size start faults = record {
   few = omega arith;
 }
 
--- with other registers, and its shadow page tables told of them
+-- with other registers, to which its shadow page tables switch
 pub becomes_switched : (m : Machine) (k : Kept) (x : State) (g : GuestState) (m' : Machine) (s' : Shadowed) → IsShadowedIn m.memory k → HasPlace k.state.pages k.state.base k.state.start g → state_of g ≡ x → AreAllowed (512 * g.pages) x → Switches g m k.shadow m' s' →
     Becomes (record (guest_in m.memory k) { state = x }) m k m' (record { state = g; shadow = s' })
 becomes_switched m k x g m' s' stands place state allowed w = record {

@@ -1,5 +1,5 @@
--- A guest in the machine, and what becomes of it when something is done to it from outside
--- (Karger and others, IEEE TSE 17(11), 1991: virtual machines of a VMM security kernel; details are profile).
+-- A guest in the machine, and its changes when something is done to it from outside (Karger and others, IEEE TSE 17(11), 1991:
+-- virtual machines of a VMM security kernel; details are profile).
 use Rattle.std.specs.Prelude.{◌≡◌, ℕ, ◌+◌, List, [], ◌∷◌, Bool}
 use Rattle.vax_hw.specs.Machine.{Machine}
 use Rattle.vm_stepping.specs.Guarded.{OnlyBoth}

@@ -11,7 +11,7 @@ use vax_hw::Hardware;
 use vm_shadow::Shadow;
 use vm_state::GuestState;
 
-/// A guest has other registers, and its shadow page tables are told of them.
+/// A guest has other registers, and its shadow page tables switch to them.
 pub fn put_state<H: Hardware>(
     machine: &mut H,
     s: &mut Shadow,
@@ -27,7 +27,7 @@ pub fn put_state<H: Hardware>(
     s.switch(machine, g);
 }
 
-/// A guest starts, and its shadow page tables are told of its registers.
+/// A guest starts, and its shadow page tables switch to its registers.
 pub fn restart<H: Hardware>(machine: &mut H, s: &mut Shadow, g: &mut GuestState)
     requires stands { StandsFor (H.machine machine.old).memory s.old g.old }
     ensures becomes { Becomes (record (guest_of (H.machine machine.old).memory g.old) { state = started g.old.start g.old.modify_faults }) (H.machine machine.old) (record { state = g.old; shadow = s.old }) (H.machine machine.new) (record { state = g.new; shadow = s.new }) }

@@ -102,7 +102,7 @@ impl Guest {
         put_state(machine, &mut self.shadow, &mut self.state, state);
     }
 
-    /// It runs from its start address on, as one that starts. Its memory stays; packets that wait are forgotten.
+    /// It runs from its start address on, as one that starts. Its memory stays; packets that wait are dropped.
     pub fn start<H: Hardware>(&mut self, machine: &mut H)
         requires { IsShadowedIn (H.machine machine.old).memory self.old }
         ensures becomes { Becomes (record (guest_in (H.machine machine.old).memory self.old) { state = started self.old.state.start self.old.state.modify_faults }) (H.machine machine.old) self.old (H.machine machine.new) self.new }
@@ -126,8 +126,8 @@ impl Guest {
         }
     }
 
-    /// It takes exactly so many steps, and its port is shown what they show. Answers how many of each kind. The machine misses
-    /// no more pages than these steps touch for the first time.
+    /// It takes exactly `steps` steps, and its port is shown what they show. Answers how many of each kind. The machine misses no
+    /// more pages than these steps touch for the first time.
     pub fn advance<H: Hardware, T: Port>(
         &mut self,
         machine: &mut H,
@@ -141,7 +141,7 @@ impl Guest {
         advance(machine, &mut self.shadow, &mut self.state, port, steps)
     }
 
-    /// It takes one step as `advance` does; what the step tells is answered besides.
+    /// It takes one step as `advance` does; the step's note is answered besides.
     pub fn step<H: Hardware, T: Port>(&mut self, machine: &mut H, port: &mut T) -> Once
         requires { IsShadowedIn (H.machine machine.old).memory self.old }
         ensures advances { Advances T.may 1 port.old port.new (H.machine machine.old) self.old.shadow self.old.state (H.machine machine.new) self.new.shadow self.new.state result.counts }

@@ -8,7 +8,7 @@ use vm_state::{GuestState, Register, ReservedOperand, pointer};
 /// What the system's identification register gives (profile).
 const SID: u32 = 0x5600_0001;
 
-/// Reads a register; `None` exactly where it is written alone.
+/// Reads a register; `None` exactly where it is write-only.
 fn read(g: &mut GuestState, register: Register) -> Option<u32>
     requires { g.old.pages ≤ 65536 }
     ensures value { result ≡ value_of (512 * g.old.pages) (state_of g.old) register }
@@ -49,8 +49,8 @@ fn read(g: &mut GuestState, register: Register) -> Option<u32>
 }
 
 /// Reads a processor register by its number, as MFPR does. `ReservedOperand` comes exactly where there is no register of the
-/// number or it is written alone; the guest is then unchanged, as it is by every read but that of RXDB, which takes the
-/// console's first waiting byte.
+/// number or it is write-only; the guest is then unchanged, as it is by every read but that of RXDB, which takes the console's
+/// first waiting byte.
 #[tactic(auto, unfolding(vm_state::specs::Registers::read))]
 pub fn mfpr(g: &mut GuestState, number: u32) -> Result<u32, ReservedOperand>
     requires { g.old.pages ≤ 65536 }
@@ -81,7 +81,7 @@ fn gives_value(register: Register) -> bool
     )
 }
 
-/// Whether MFPR reads a register of this number: that there is one, and that it isn't written alone. Nothing is read.
+/// Whether MFPR reads a register of this number: that there is one, and that it isn't write-only. Nothing is read.
 #[tactic(auto, unfolding(vm_state::specs::Registers::read))]
 pub fn is_readable(number: u32) -> bool
     ensures { (size : ℕ) (u : State) → result ≡ is_ok (read size u number) }

@@ -101,10 +101,10 @@ fn write(g: &mut GuestState, register: Register, v: u32)
     }
 }
 
-/// Writes a processor register by its number, as MTPR does. `ReservedOperand` comes exactly where there is no register of
-/// the number, where it is read alone, or where it doesn't allow the value; the guest is then unchanged. Otherwise the
-/// effect is `Show` with the low byte exactly for TXDB, `Kcall` with the value exactly for KCALL, which queues nothing
-/// itself, `Remap` exactly for the registers of page tables and MAPEN, and `Done` for all others.
+/// Writes a processor register by its number, as MTPR does. `ReservedOperand` comes exactly where there is no register of the
+/// number, where it is read-only, or where it doesn't allow the value; the guest is then unchanged. Otherwise the effect is
+/// `Show` with the low byte exactly for TXDB, `Kcall` with the value exactly for KCALL, which queues nothing itself, `Remap`
+/// exactly for the registers of page tables and MAPEN, and `Done` for all others.
 #[tactic(auto, unfolding(vm_state::specs::Registers::written))]
 pub fn mtpr(g: &mut GuestState, number: u32, v: u32) -> Result<Effect, ReservedOperand>
     ensures writes { WritesRegister g.old g.new number v result }

@@ -39,7 +39,7 @@ pub kept_valid : (size base : ℕ) (memory : List ℕ) (pending : List ℕ) (see
 kept_valid size base memory pending seen real None k e = absurd (false≢true e)
 kept_valid size base memory pending seen real (Some source) k e = k.0
 
--- the right entry of a source that is remembered
+-- the right entry of a source that is recorded
 pub record IsFilled (memory : List ℕ) (s : Shadowed) (n : ℕ) : Type 0 where
   pub source : Source
   pub read : read_at s n ≡ Some source
@@ -53,7 +53,7 @@ filled_by memory s n (Some source) e k v = record { source = source; read = e; r
 pub filled_of : (opened : List ℕ) (memory : List ℕ) (s : Shadowed) (n : ℕ) → Keeps [] opened memory s → n < all_entries → is_valid (real_at memory s n) ≡ true → IsFilled memory s n
 filled_of opened memory s n k h v = filled_by memory s n (read_at s n) refl (k.entries n h) v
 
--- what is remembered stays
+-- what is recorded stays
 pub same_reads : (s : Shadowed) (n : ℕ) → set s.reads n (read_at s n) ≡ s.reads
 same_reads s n = set-get_or s.reads n None
 

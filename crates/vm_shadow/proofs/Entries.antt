@@ -15,7 +15,7 @@ own_kept memory after s place long f l w = part_same memory after (512 * s.base)
     (λ h. inl (omega (arith, l.front)))
     (λ h. inr (omega (arith, l.back)))))
 
--- with other things remembered of entries
+-- with other things recorded of entries
 abbrev pub remembers : Shadowed → List (Option Source) → List Bool → List Bool → Shadowed
 remembers s reads consulted writable = record s { reads = reads; consulted = consulted; writable = writable }
 
@@ -48,7 +48,7 @@ pub record IsSet (pending opened' : List ℕ) (memory after : List ℕ) (s : Sha
   pub here : real_at after s n ≡ entry
   pub other : (k : ℕ) → k < all_entries → k ≢ n → real_at after s k ≡ real_at memory s k
 
--- what fits doesn't depend on what is remembered of entries
+-- what fits doesn't depend on what is recorded of entries
 pub fits_in : {memory : List ℕ} {s : Shadowed} {reads : List (Option Source)} {consulted writable : List Bool} → Fits memory s → Fits memory (remembers s reads consulted writable)
 fits_in f = record { few = f.few; small = f.small; partition = f.partition; room = f.room; apart = f.apart; told = f.told; contexts = f.contexts; slots = f.slots; first = f.first; system = f.system }
 

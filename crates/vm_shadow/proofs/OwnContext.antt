@@ -1,4 +1,4 @@
--- Registers that are told once more: nothing changes.
+-- A switch to the registers of the last one: nothing changes.
 use Rattle.std.proofs.Common.{◌≡◌, ◌≢◌, ℕ, suc, ◌<◌, ◌≤◌, Bool, true, false, cond, not, List, [], ◌∷◌, length, filter, find, take, get_or, All, AllPairs, IfSome, Some, option_map, eqb, refl, ap, ◌∙◌, sym, subst, arith}
 use Rattle.std.proofs.lemmas.Bool.{eq-eqb, false_from_ne_true, ne_eqb}
 use Rattle.std.proofs.lemmas.List.{take_all}

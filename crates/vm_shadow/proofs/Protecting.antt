@@ -47,7 +47,7 @@ frees_none frame ways m s k w none = record {
   only = only_none s.at m;
 }
 
--- A scan over the groups that are marked for a frame, which are then forgotten.
+-- A scan over the groups that are marked for a frame, whose marks are then cleared.
 pub frees_all : (frame : ℕ) (ways ways' : List ℕ) (m m' : Machine) (s : Shadowed) → Keeps [] [] m.memory s → s.writable ≡ flags_of ways → Shuts s.at s.base all_entries frame ways m s.reads m' → IsCleared (64 * (9 * frame)) (64 * (9 * (frame + 1))) ways ways' → Frees frame m s m' (record s { writable = flags_of ways' })
 frees_all frame ways ways' m m' s k w c gone =
     let after = c.keeps s refl refl refl k in

@@ -191,7 +191,7 @@ module _ (frames : ℕ) (reads : List (Option Source)) (filled groups : List ℕ
               (λ l. let r : row_start frames (ReadFrom frame) ≡ 576 * (frame + 1) = row_within frames frame l in omega arith)
               (λ l. let r : row_start frames (ReadFrom frame) ≡ 0 = row_beyond frames frame l in omega arith)
 
-  -- A frame from which no entry was read is forgotten.
+  -- The marks of a frame from which no entry was read are cleared.
   pub forgets : (frame : ℕ) (groups' : List ℕ) → frame < frames → ((n : ℕ) → is_read_from frame (remembered reads n) ≡ false) → IsCleared (64 * (9 * (frame + 1))) (64 * (9 * (frame + 2))) groups groups' → AreMarked frames reads filled groups'
   forgets frame groups' h none c = record {
     few = m.few;

@@ -75,7 +75,7 @@ between_other first n k differ = ap (λ b. nat_le first k && b) (split (cases_lt
     more : n ≤ k → n + 1 ≤ k
     more h = split (cases_lt n k) (λ q. omega arith) (λ q. absurd (differ (omega arith)))
 
--- the outcome of a scan is still what was remembered
+-- the outcome of a scan is still what was recorded
 still : (at first n : ℕ) (which : Dropped) (m m' : Machine) (reads reads' : List (Option Source)) → DropsEntries at first n which m reads m' reads' → remembered reads' n ≡ remembered reads n
 still at first n which m m' reads reads' d = d.each n ∙ ap (λ b. unless_dropped (b && is_dropped which (remembered reads n)) (remembered reads n)) (between_here first n)
 

@@ -15,7 +15,7 @@ pub record OnlyTables (at : ℕ) (before after : Machine) : Type 0 where
   pub rest : after ≡ record before { memory = after.memory }
   pub tables : IsApart (512 * at) (512 * 580) before.memory after.memory
 
--- Scans over the real entries, each with what is remembered of it.
+-- Scans over the real entries, each with what is recorded of it.
 
 abbrev pub remembered : List (Option Source) → ℕ → Option Source
 remembered reads n = slice_index_or reads n None
@@ -24,7 +24,7 @@ abbrev pub is_dropped : Dropped → Option Source → Bool
 is_dropped (ReadFrom frame) source = is_read_from frame source
 is_dropped All source = is_some source
 
--- what is remembered of an entry, where it may be dropped
+-- what is recorded of an entry, where it may be dropped
 abbrev pub unless_dropped : Bool → Option Source → Option Source
 unless_dropped true source = None
 unless_dropped false source = source
@@ -56,7 +56,7 @@ pub record Clears (at end : ℕ) (before after : Machine) : Type 0 where
   pub cleared : (n : ℕ) → n < end → long_at after.memory (entry_place at n) ≡ empty_entry
   pub stay : (j : ℕ) → j < 512 → long_at after.memory (512 * at + 4 * (8192 + j)) ≡ long_at before.memory (512 * at + 4 * (8192 + j))
 
--- so many pages of the process tables are mapped
+-- the pages of the process tables before `end` are mapped
 pub record Maps (at end : ℕ) (before after : Machine) : Type 0 where
   pub only : OnlyTables at before after
   pub mapped : (j : ℕ) → j < end → long_at after.memory (512 * at + 4 * (8192 + j)) ≡ kernel_entry (at + 68 + j)

@@ -42,7 +42,7 @@ real_place memory s m i va = place_in memory (real_tables s.at s.slot) (ring_of 
 abbrev pub own_place : List ℕ → GuestState → Mode → Intent → ℕ → Result ℕ Cause
 own_place memory g m i va = guest_place (walk_of (guest_of memory g) va m i)
 
--- What is kept gives what the tables are, whatever is remembered, also while pages are opened.
+-- What is kept gives what the tables are, whatever is recorded, also while pages are opened.
 abbrev pub MirrorsTheGuest : Type 0
 MirrorsTheGuest = (opened : List ℕ) (memory : List ℕ) (s : Shadowed) (g : GuestState) → Keeps [] opened memory s → Serves g s → Mirrors memory s g
 

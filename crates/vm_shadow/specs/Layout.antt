@@ -1,7 +1,7 @@
--- Where the shadow page tables of a guest lie in the machine, and what is in them
--- (Hall and Robinson, Virtualizing the VAX Architecture, ISCA 1991: shadow page tables; the places are profile).
--- A guest has 580 pages of real tables: 68 of the system table, of which the last 512 entries map the process tables for
--- real kernel mode alone, and 64 each for a P0 and a P1 table in four slots.
+-- Where the shadow page tables of a guest lie in the machine, and what is in them (Hall and Robinson, Virtualizing the VAX
+-- Architecture, ISCA 1991: shadow page tables; the places are profile). A guest has 580 pages of real tables: 68 of the system
+-- table, and 64 each for a P0 and a P1 table in four slots. The last 512 entries of the system table map the process tables for
+-- real kernel mode alone.
 use Rattle.std.specs.Prelude.{◌≡◌, ℕ, ◌+◌, ◌-◌, ◌*◌, ◌/◌, ◌%◌, ◌^◌, ◌<◌, ◌≤◌, ◌==◌, ◌⊎◌, Bool, true, false, nat_lt, if◌then◌else◌}
 use Rattle.vax_arch.specs.Fields.{frame_of, protection_of}
 use Rattle.vax_arch.specs.Ring.{compressed_of}

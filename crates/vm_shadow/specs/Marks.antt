@@ -1,4 +1,4 @@
--- Which records of real entries are looked at: sets of numbers, and what they tell of the records.
+-- Which records of real entries are looked at: sets of numbers, and what they say of the records.
 use Rattle.std.specs.Prelude.{◌≡◌, ◌≢◌, ℕ, ◌+◌, ◌*◌, ◌/◌, ◌%◌, ◌<◌, ◌≤◌, ◌==◌, ◌⊎◌, Bool, true, false, nat_lt, if◌then◌else◌, List, [], length, map, Option, None, Some, slice_index, is_some}
 use Rattle.std.specs.Int.{bit_at}
 use Rattle.std.specs.List.{range_with_len}

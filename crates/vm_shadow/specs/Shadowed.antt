@@ -1,6 +1,6 @@
--- What the kernel keeps of a guest's shadow page tables, and when these stand for the guest's own
--- (Hall and Robinson, Virtualizing the VAX Architecture, ISCA 1991: shadow page tables are filled on demand; Karger and
--- others, IEEE TSE 17(11), 1991). Each real entry is empty or right for what the guest's look-up finds now.
+-- What the kernel keeps of a guest's shadow page tables, and when these stand for the guest's own. Each real entry is empty or
+-- right for what the guest's look-up finds now. (Hall and Robinson, Virtualizing the VAX Architecture, ISCA 1991: shadow page
+-- tables are filled on demand; Karger and others, IEEE TSE 17(11), 1991.)
 use Rattle.std.specs.Prelude.{◌≡◌, ℕ, ◌+◌, ◌-◌, ◌*◌, ◌/◌, ◌%◌, ◌<◌, ◌≤◌, ◌==◌, ◌||◌, ◌⊎◌, Bool, true, false, nat_lt, if◌then◌else◌, List, [], ◌∷◌, length, find, All, Option, Some, None, option_map, slice_index_or}
 use Rattle.vv_base.specs.Bytes.{long_at}
 use Rattle.vax_arch.specs.Fields.{frame_of, is_modified, is_valid}
@@ -93,7 +93,7 @@ abbrev pub is_pending : List ℕ → Option Source → Bool
 is_pending [] source = false
 is_pending (frame ∷ frames) source = is_read_from frame source || is_pending frames source
 
--- an entry is empty; or it is valid, and it is right and was read from the frames that are remembered, unless one of these was
+-- an entry is empty; or it is valid, and it is right and was read from the frames that are recorded, unless one of these was
 -- written since
 abbrev pub IsKept : (size base : ℕ) (memory : List ℕ) (pending : List ℕ) (seen : Lookup) (real : ℕ) → Option Source → Type 0
 IsKept size base memory pending seen real None = real ≡ empty_entry
@@ -137,7 +137,7 @@ pub record Fits (memory : List ℕ) (s : Shadowed) : Type 0 where
   pub partition : 512 * (s.base + s.pages) ≤ length memory
   pub room : 512 * (s.at + 580) ≤ length memory
   pub apart : (s.base + s.pages ≤ s.at) ⊎ (s.at + 580 ≤ s.base)
-  -- The tables can stand for the registers that were told last, and for each context that has a slot.
+  -- The tables can stand for the registers of the last switch, and for each context that has a slot.
   pub told : CanBeShadowed s.told
   pub contexts : All (λ h. CanBeShadowed (in_context s.told h.0)) s.held
   pub slots : AreSlots s.held
@@ -146,7 +146,7 @@ pub record Fits (memory : List ℕ) (s : Shadowed) : Type 0 where
   -- The last system entries map the process tables.
   pub system : (j : ℕ) → j < 512 → long_at memory (512 * s.at + 4 * (8192 + j)) ≡ kernel_entry (s.at + 68 + j)
 
--- What the kernel remembers for itself, whatever memory has.
+-- What the kernel records for itself, whatever memory has.
 pub record Remembers (s : Shadowed) : Type 0 where
   -- There is a place for each entry's source.
   pub whole : length s.reads ≡ all_entries
@@ -156,16 +156,16 @@ pub record Remembers (s : Shadowed) : Type 0 where
   -- A frame from which an entry was read is flagged; a flag may be set too often, and never too seldom.
   pub consults : (n frame : ℕ) → n < all_entries → is_flagged frame s.consulted ≡ false → is_read_from frame (read_at s n) ≡ false
 
--- The shadow page tables stand for the guest's own, and what the kernel remembers tells of each entry, but for two
--- exceptions, which are none between steps: frames whose writes are pending, since what was read from them isn't dropped yet,
--- and entries opened for a guarded step.
+-- The shadow page tables stand for the guest's own, and what the kernel records is right for each entry, but for two exceptions.
+-- These are frames whose writes are pending, since what was read from them isn't dropped yet, and entries opened for a guarded
+-- step; between steps there is neither.
 pub record Keeps (pending opened : List ℕ) (memory : List ℕ) (s : Shadowed) : Type 0 where
   pub fits : Fits memory s
   pub remembers : Remembers s
   -- Each real entry is empty, or is right for what the guest's tables have now, unless it was read from a pending frame.
   pub entries : (n : ℕ) → n < all_entries → IsKept (512 * s.pages) s.base (own memory s) pending (seen_at memory s n) (real_at memory s n) (read_at s n)
-  -- No entry with a set modify bit maps a frame that another, or it itself, was read from, unless it is opened: so the
-  -- kernel hears of each write of what was read.
+  -- No entry with a set modify bit maps a frame that another, or it itself, was read from, unless it is opened: so each write of
+  -- what was read exits to the kernel.
   pub guarded : (n k : ℕ) → n < all_entries → k < all_entries → is_opened k opened ≡ false → is_valid (real_at memory s k) ≡ true → is_modified (real_at memory s k) ≡ true → is_read_from (mapped_frame s (real_at memory s k)) (read_at s n) ≡ false
   -- The frame that an entry with a set modify bit maps is flagged, by the entry's group, as one that may be written without
   -- an exit.

@@ -23,7 +23,7 @@ use Rattle.vm_state.specs.Touches.{is_remapped}
 use Rattle.vm_state.specs.Translation.{look, marked_by}
 use Rattle.vm_state.specs.declared.guest_state.GuestState.{GuestState}
 
--- the guest is the one that is served, under the registers that were told last
+-- the guest is the one that is served, under the registers of the last switch
 pub record Serves (g : GuestState) (s : Shadowed) : Type 0 where
   pub pages : s.pages ≡ g.pages
   pub base : s.base ≡ g.base
@@ -38,8 +38,8 @@ pub record Mirrors (memory : List ℕ) (s : Shadowed) (g : GuestState) : Type 0 
   -- Each real entry is empty, or is right for what the guest's tables have now.
   pub entries : (n : ℕ) → n < all_entries → (real_at memory s n ≡ empty_entry) ⊎ IsRight (512 * s.pages) s.base (own memory s) (seen_at memory s n) (real_at memory s n)
 
--- The shadow page tables stand for a guest's own, with nothing pending and nothing opened; the registers that were told
--- last are the guest's; and its registers have values that they may have.
+-- The shadow page tables stand for a guest's own, with nothing pending and nothing opened; the registers of the last switch are
+-- the guest's; and its registers have values that they may have.
 pub record StandsFor (memory : List ℕ) (s : Shadowed) (g : GuestState) : Type 0 where
   pub keeps : Keeps [] [] memory s
   pub serves : Serves g s
@@ -57,7 +57,7 @@ pub record IsPresent (g : Guest) (page : ℕ) : Type 0 where
 abbrev pub own_number : Shadowed → ℕ → ℕ
 own_number s page = entry_number s.slot page
 
--- A page is filled: its real entry is remembered with the frames that it was read from, and nothing else is.
+-- A page is filled: its real entry is recorded with the frames that it was read from, and nothing else changes.
 pub record Fills (seen : Lookup) (n : ℕ) (s s' : Shadowed) : Type 0 where
   pub source : Source
   pub is : IsSource seen source
@@ -75,7 +75,7 @@ pub record Notes (frame : ℕ) (m : Machine) (s : Shadowed) (m' : Machine) (s' :
   pub drops : DropsFrom frame s s'
   pub only : OnlyTables s.at m m'
 
--- nothing that is remembered of entries changes
+-- nothing that is recorded of entries changes
 abbrev pub IsAsBefore : Shadowed → Shadowed → Type 0
 IsAsBefore s s' = s' ≡ record s { writable = s'.writable }
 
@@ -170,8 +170,8 @@ pub record TakesSlot (c : Context) (held held' : Held) (slot : ℕ) : Type 0 whe
   pub after : AreSlots held'
   pub contexts : contexts_of held' ≡ brought_forward c (contexts_of held)
 
--- Registers of page tables are told, or told again: their context moves to the front of those that stay, which keep their
--- slots, and what a switch to it drops is dropped.
+-- The tables switch to registers of page tables, new or the same: their context moves to the front of those that stay, which keep
+-- their slots, and what a switch to it drops is dropped.
 pub record Retells (t : Tables) (s s' : Shadowed) : Type 0 where
   pub takes : TakesSlot (context_of t) (staying (is_remapped s.told t) s.held) s'.held s'.slot
   pub each : (n : ℕ) → read_at s' n ≡ unless_dropped (goes (is_remapped s.told t) (is_full_for (context_of t) s.held) s'.slot n) (read_at s n)

@@ -113,7 +113,7 @@ impl Shadow {
         self.fill_found(machine, g, va, seen);
     }
 
-    /// The same by the look-up of the page.
+    /// Fills the real entry of an address's page, as `fill` does, by the look-up of the page.
     pub fn fill_found<H: Hardware>(
         &mut self,
         machine: &mut H,

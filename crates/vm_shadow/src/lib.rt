@@ -1,4 +1,4 @@
-//! Shadow page tables of a guest: filled on demand, kept across steps in four process slots, and never stale.
+//! Shadow page tables of a guest, filled on demand, kept across steps, and never stale. Four slots keep the tables of processes.
 #![tactic(auto)]
 
 mod fills;

@@ -99,7 +99,7 @@ fn skip(groups: &Marks, row: u32, from: u32) -> u32
 }
 
 impl Records {
-    /// Records of entries of which none is filled, for a guest of so many frames.
+    /// Records of entries of which none is filled, for a guest of `frames` frames.
     pub fn new(alloc: Global, frames: u32) -> Result<Records, NoMemory>
         requires { frames ≤ 2048 }
         ensures { IfOk result (λ r. AreEmpty r) }
@@ -121,7 +121,7 @@ impl Records {
         self.looked
     }
 
-    /// Remembers the frames that an entry was read from.
+    /// Records the frames that an entry was read from.
     pub fn fill(&mut self, n: u32, source: Source)
         requires { n < 73728 }
         ensures { self.new ≡ slice_set self.old n (Some source) }
@@ -131,7 +131,7 @@ impl Records {
         self.sources[n as usize] = Some(source);
     }
 
-    /// An entry isn't filled any longer. Its group is forgotten with the last one that is filled there.
+    /// An entry isn't filled any longer. Its group is dropped with the last one that is filled there.
     fn remove(&mut self, n: u32)
         requires { n < 73728 }
         ensures { self.new ≡ slice_set self.old n None }
@@ -144,7 +144,7 @@ impl Records {
         }
     }
 
-    /// Forgets the groups in which an entry was read from a frame, when there are none.
+    /// Clears the marks of the groups in which an entry was read from a frame, when there are none.
     fn forget(&mut self, frame: u32)
         requires { (n : ℕ) → is_read_from frame (remembered self.old n) ≡ false }
         ensures { self.new ≡ self.old }

@@ -10,7 +10,7 @@ pub struct Shadow {
     pub(crate) pages: u32,
     pub(crate) base: u32,
     pub(crate) at: u32,
-    /// The registers that were told last, and the slot of the context.
+    /// The registers of the last switch, and the slot of the context.
     pub(crate) context: Context,
     pub(crate) sbr: u32,
     pub(crate) slr: u32,

@@ -67,7 +67,7 @@ fn take_slot(held: &mut Slots, remapped: bool, c: &Context) -> Taken
 }
 
 impl Shadow {
-    /// Whether SBR, SLR or mapping aren't those that were told last.
+    /// Whether SBR, SLR or mapping aren't those of the last switch.
     fn is_remapped(&self, g: &GuestState) -> bool
         ensures { result ≡ is_remapped self.now.told (tables_of g.now) }
     {

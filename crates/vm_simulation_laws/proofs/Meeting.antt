@@ -81,7 +81,7 @@ unless_none : {A : Type 0} (a : A) (x : Option ℕ) (va : ℕ) → unless_clear 
 unless_none a None va e = cc
 unless_none a (Some x) va e = let same : x ≡ va = cc in ap Some same
 
--- a try that met a clear bit
+-- a try that stopped at a clear bit
 met_clear : {A : Type 0} (c : ℕ → Bool) (vas : List ℕ) (r : Result A Trouble) (va : ℕ) → tried_by c vas r ≡ Clear va → ((a : A) × (r ≡ Ok a)) × (first_clear c vas ≡ Some va)
 met_clear c vas (Ok a) va e = ((a, refl), unless_none a (first_clear c vas) va e)
 met_clear c vas (Err t) va e = cc
@@ -91,7 +91,7 @@ both_there (Some a) (Some b) p q e = none-some (a && b) (sym e)
 both_there (Some a) None p q e = cc
 both_there None y p q e = cc
 
--- a try that met trouble
+-- a try that stopped at trouble
 met_trouble : {A : Type 0} (c : ℕ → Bool) (vas : List ℕ) (r : Result A Trouble) (t : Trouble) → tried_by c vas r ≡ Stopped t → r ≡ Err t
 met_trouble c vas (Ok a) t e = no_trouble (first_clear c vas) e
   where

@@ -1,4 +1,4 @@
--- Misses and what pays for them, one after the other.
+-- Misses and the first touches that count them, one after the other.
 use Rattle.std.proofs.Common.{◌≡◌, ℕ, zero, suc, ◌+◌, ◌%◌, ◌^◌, ◌<◌, ◌≤◌, [], is_some, ap, ◌∙◌, arith}
 use Rattle.vm_simulation_laws.specs.Misses.{KeepsFilled}
 use Rattle.vm_simulation_laws.specs.Paid.{FillsAreTries, NothingIsPaid, NothingIsTried, PaymentsFollow, StepsArePaid, TouchesFollow, TriesFollow, NothingIsOwed, StepsSettle, TriesAreOwed}

@@ -1,4 +1,4 @@
--- Present pages, when the registers of page tables are told.
+-- Present pages, at a switch to registers of page tables.
 use Rattle.std.proofs.Common.{◌≡◌, ◌≢◌, ℕ, suc, ◌<◌, ◌≤◌, inl, inr, Bool, true, false, cond, ◌&&◌, ◌||◌, ◌==◌, nat_le, List, [], ◌∷◌, length, get_or, All, AllPairs, IfSome, Option, Some, is_some, refl, ap, ◌∙◌, sym, subst, arith}
 use Rattle.std.proofs.lemmas.Bool.{and_left, and_right, eq-eqb, eqb-true, false≢true, lt-leb, ne_eqb}
 use Rattle.vax_arch.specs.Walk.{Tables, in_region, region_of}
@@ -107,7 +107,7 @@ module _ (t : Tables) (s s' : Shadowed) (r : Retells t s s') where
             (brought_forward s' s' c s'.slot (staying remapped s.held) (emptied_all p.processes) (own_slot remapped e) (λ has page process there. there) (λ i d within page process there. there) (slots_emptied s s' remapped s.held p.processes all.processes));
       })
 
--- The kernel's work for a guest: frames are written, and then registers are told.
+-- The kernel's work for a guest: frames are written, and then the tables switch to registers.
 abbrev after_by : (overwritten remapped : Bool) → Guest → Present → Present
 after_by overwritten remapped h p = to_front h (cond (overwritten || remapped) (emptied p) p)
 

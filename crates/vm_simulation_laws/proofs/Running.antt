@@ -100,7 +100,7 @@ stops_as (Modify va) n owed memory s g t meets o = stops_here n owed s t (guest_
 stops_as (Emulate x) n owed memory s g t meets o = stops_here n owed s t (guest_of memory g) o
 stops_as (Refused r) n owed memory s g t meets o = stops_here n owed s t (guest_of memory g) o
 
--- after one that does: what was owed is counted
+-- after one that does: the outstanding misses are counted
 retired_comes : (m : Machine) (s : Shadowed) (g : GuestState) (x : Retired) (owed : ℕ) (t : Touching) → RunsGuest [] m s g → machine_step m ≡ Ok x → x.trap ≡ None → Owes owed (touches_now (guest_of m.memory g)) s t → ComesTo s (t.count + owed) (touching_step (guest_of m.memory g) (executed (guest_of m.memory g)) t)
 unfolding executed
 retired_comes m s g x owed t k is none o =

@@ -17,23 +17,23 @@ use Rattle.vm_state.specs.Step.{Idle, executed, initiated_in}
 use Rattle.vm_state.specs.declared.exception.Exc.TheVariants as excs
 use Rattle.vm_state.specs.declared.guest_state.GuestState.{GuestState}
 
--- So many steps of a guest, of which the first is counted already and reaches its instruction.
+-- n steps of a guest, of which the first is counted already and reaches its instruction.
 abbrev pub after_counted : ℕ → Run → Run
 after_counted zero run = run
 after_counted (suc n) run = after_steps n (after_step run (executed run.guest))
 
--- with so many steps more counted
+-- with n steps more counted
 abbrev pub with_count : ℕ → GuestState → GuestState
 with_count n g = record g { clock = after_ticks n g.clock; steps = (g.steps + n) % 2 ^ 32 }
 
--- In so many steps, of which the first is counted, nothing happens to a guest but its instructions: it doesn't wait, and no
--- interrupt becomes due.
+-- In n steps, of which the first is counted, nothing happens to a guest but its instructions: it doesn't wait, and no interrupt
+-- becomes due.
 pub record IsQuiet (n : ℕ) (s : State) : Type 0 where
   pub runs : s.halt ≡ None
   pub waits : s.waiting ≡ false
   pub none : (k : ℕ) → k < n → due (record s { clock = after_ticks k s.clock }) ≡ None
 
--- so many plain steps more, with the sum of their terms of the trail
+-- `plain` plain steps more, with the sum of their terms of the trail
 abbrev pub with_plain_steps : Run → Guest → (plain terms : ℕ) → Run
 with_plain_steps run h plain terms = record { guest = h; shown = run.shown; tally = record run.tally { plain = run.tally.plain + plain; trail = (run.tally.trail + terms) % 2 ^ 64 } }
 
@@ -63,7 +63,7 @@ counted_by (Modify va) done = done
 counted_by (Emulate t) done = done
 counted_by (Refused r) done = done
 
--- what an exit says, with so many of the budget's instructions done and left
+-- what an exit says, with the numbers of the budget's instructions that are done and left
 abbrev pub EndsBurst : Exit → (done left : ℕ) → List ℕ → Shadowed → GuestState → Type 0
 EndsBurst Budget done left memory s g = (left ≡ 0) × (1 ≤ done)
 EndsBurst (Arithmetic kind) done left memory s g = 1 ≤ done
@@ -77,7 +77,7 @@ abbrev pub missed_by : Exit → ℕ
 missed_by (NotValid va write) = 1
 missed_by e = 0
 
--- The machine retired so many instructions, which were plain steps of the guest.
+-- The machine retired `done` of n instructions, which were plain steps of the guest; the exit says how the guest goes on.
 pub record IsBurst (n : ℕ) (m : Machine) (s : Shadowed) (g : GuestState) (m' : Machine) (e : Exit) : Type 0 where
   pub done : ℕ
   pub left : ℕ

@@ -70,8 +70,8 @@ pub record IsDenied (i : Intent) (va : ℕ) (memory : List ℕ) (g : GuestState)
   pub none : place_here memory g i va ≡ Err cause
   pub try : guest_try (guest_of memory g) ≡ Stopped (At cause i va)
 
--- A clear modify bit was met of a byte that the guest's instruction would write: where the guest's bit is clear, its
--- instruction meets it, and else the page's real entry is filled, and could have the bit set.
+-- The machine exited at a clear modify bit of a byte that the guest's instruction would write. Where the guest's bit is clear,
+-- its instruction stops at it too; else the page's real entry is filled, and could have the bit set.
 pub record IsUnwritten (va : ℕ) (memory : List ℕ) (s : Shadowed) (g : GuestState) : Type 0 where
   pub small : va < 2 ^ 32
   pub covered : IsCovered (page_of va)
@@ -103,14 +103,14 @@ frames_claimed h = map (λ va. frame_at (guest_write_place h va)) (claims (space
 abbrev pub ClaimedFramesAreWritten : Type 0
 ClaimedFramesAreWritten = (h : Guest) (opcode : ℕ) (e : Effect) → outcome (space_of h) (instruction_of h.state) ≡ Ok (meant opcode (Plain e)) → frames_claimed h ≡ frames_stored h e.writes
 
--- What a plain instruction leaves: the guest after it, and its arithmetic trap, which is initiated there.
+-- What a plain instruction or a PROBE leaves: the guest after it, and its arithmetic trap, which isn't initiated yet.
 abbrev pub LeavesByAct : Act → Guest → Guest → Option ℕ → Type 0
 LeavesByAct (Plain e) h after trap = (after ≡ with_effect h e) × (trap ≡ e.trap)
 LeavesByAct (Traps t) h after trap = ⊥
 LeavesByAct (Probes i o) h after trap =
     (is_accessible : Bool) × (probe h i (long_of o 0) (long_of o 1) (long_of o 2) ≡ Answers is_accessible true) × (after ≡ with_effect h (probed is_accessible o (h.state.psl % 2 ^ 8))) × (trap ≡ None)
 
--- the guest's instruction is plain
+-- The guest's instruction completes, and leaves a guest and a trap.
 pub record Leaves (h after : Guest) (trap : Option ℕ) : Type 0 where
   pub opcode : ℕ
   pub act : Act

@@ -65,7 +65,7 @@ FilledEntriesStay = (s s' : Shadowed) (p : Present) → KeepsFilled s s' → Sti
 abbrev pub FoundPagesHaveEntries : Type 0
 FoundPagesHaveEntries = (opened memory : List ℕ) (s : Shadowed) (g : GuestState) → Keeps [] opened memory s → Serves g s → AreFilled s (touches_now (guest_of memory g)).found → (page : ℕ) → IsIn page (touches_now (guest_of memory g)).found → HasEntry s s.slot page
 
--- A step: its pages have entries, and what it writes and tells is all that the kernel drops for. What is present after it
+-- A step: its pages have entries, and the kernel drops for what it writes and for its registers alone. What is present after it
 -- has entries.
 abbrev pub StepsKeepPresent : Type 0
 StepsKeepPresent = (memory : List ℕ) (s : Shadowed) (g : GuestState) (x : Stepped) (t : Touching) (s' : Shadowed) → Keeps [] [] memory s → Serves g s → ((page : ℕ) → IsIn page x.touched.found → HasEntry s s.slot page) → Moves x.written x.guest.state.tables s s'
@@ -79,6 +79,6 @@ WritesKeepPresent = (memory : List ℕ) (s : Shadowed) (g : GuestState) (frames 
 abbrev pub ResetsKeepPresent : Type 0
 ResetsKeepPresent = (s : Shadowed) (h : Guest) (frames : List ℕ) (p : Present) (s' : Shadowed) → Moves frames h.state.tables s s' → HasPresent s p → HasPresent s' (touching_reset h p)
 
--- work that tells no registers anew
+-- work under the registers of the last switch
 abbrev pub WritesAreMoves : Type 0
 WritesAreMoves = (frames memory : List ℕ) (s s' : Shadowed) (g : GuestState) → Fits memory s' → Serves g s' → Drops frames s s' → Moves frames (guest_of memory g).state.tables s s'

@@ -1,11 +1,11 @@
--- What the kernel's work for a guest leaves of its shadow page tables: what was read from frames that were written is
--- dropped at most, and then the registers of page tables are told, if they changed.
+-- What the kernel's work for a guest leaves of its shadow page tables: what was read from frames that were written is dropped at
+-- most, and then the tables switch to the registers of page tables, if they changed.
 use Rattle.std.specs.Prelude.{◌≡◌, ◌⊎◌, ℕ, true, List, None}
 use Rattle.vax_arch.specs.Walk.{Tables}
 use Rattle.vm_shadow.specs.Shadowed.{Shadowed, is_pending, read_at}
 use Rattle.vm_shadow.specs.StandsFor.{Retells}
 
--- of what is remembered of entries, at most what was read from one of some frames is dropped
+-- of what is recorded of entries, at most what was read from one of some frames is dropped
 pub record Drops (frames : List ℕ) (s s' : Shadowed) : Type 0 where
   pub each : (n : ℕ) → (read_at s' n ≡ read_at s n) ⊎ ((read_at s' n ≡ None) × (is_pending frames (read_at s n) ≡ true))
   pub told : s'.told ≡ s.told

@@ -1,6 +1,6 @@
--- When the shadow page tables have what a state of first touches has as present: the contexts of the slots are its first
--- ones, and each present page has a real entry, a process page in the slot of its context. Then the machine misses no
--- present page (profile).
+-- When the shadow page tables have what a state of first touches has as present: the contexts of the slots are its first ones.
+-- Each present page has a real entry, a process page in the slot of its context. Then the machine misses no present page
+-- (profile).
 use Rattle.std.specs.Prelude.{◌≡◌, ℕ, ◌+◌, ◌^◌, ◌<◌, ◌==◌, ◌||◌, Bool, true, false, if◌then◌else◌, List, [], ◌∷◌, ◌++◌, is_some}
 use Rattle.vax_table.specs.Interaction.{IsIn}
 use Rattle.vm_shadow.specs.Layout.{IsCovered, entry_number}
@@ -32,7 +32,7 @@ HaveSlots s [] ps = HaveNone ps
 HaveSlots s (h ∷ hs) [] = ⊥
 HaveSlots s (h ∷ hs) (p ∷ ps) = (p.context ≡ h.0) × HaveEntries s false h.1 p.pages × HaveSlots s hs ps
 
--- a system page has the same entry in each slot
+-- What is present has entries: a system page in slot 0, whose entry is that of each slot, and the pages of a context in its slot.
 pub record HasPresent (s : Shadowed) (p : Present) : Type 0 where
   pub system : HaveEntries s true 0 p.system
   pub processes : HaveSlots s s.held p.processes

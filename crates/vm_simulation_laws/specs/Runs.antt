@@ -21,20 +21,19 @@ use Rattle.vm_state.specs.Touches.{Touching, touching_step, touching_steps}
 use Rattle.vm_state.specs.declared.guest_state.GuestState.{GuestState}
 use Rattle.vm_simulation_laws.specs.Touched.{AreFilled, IsTouched, NeedsNoPage, touches_now}
 
--- First touches over steps in which nothing is missed and no entry is emptied: what is present after them has entries, and
--- so many are counted at least.
+-- First touches over steps in which nothing is missed and no entry is emptied: what is present after them has entries, and at
+-- least `least` are counted.
 pub record ComesTo (s : Shadowed) (least : ℕ) (u : Touching) : Type 0 where
   pub has : HasPresent s u.present
   pub count : least ≤ u.count
 
--- before an instruction that touches these pages, in whose step so many misses are owed that those and what is counted are
--- so many at least
+-- before an instruction that touches these pages: the step's outstanding misses and what is counted are at least `least`
 pub record ComesBefore (x : Touched) (s : Shadowed) (least : ℕ) (u : Touching) : Type 0 where
   pub owed : ℕ
   pub owes : Owes owed x s u
   pub count : least ≤ u.count + owed
 
--- Before an instruction that the machine didn't retire, with so many steps left, of which this is the first.
+-- Before an instruction that the machine didn't retire, with `left` steps left, of which this is the first.
 pub record StopsBefore (left least : ℕ) (all : Touching) (s : Shadowed) (h : Guest) : Type 0 where
   pub at : Touching
   pub comes : ComesBefore (touches_now h) s least at
@@ -78,7 +77,7 @@ EndsAt (Modify va) left least all s h = StopsBefore left least all s h
 EndsAt (Emulate x) left least all s h = StopsBefore left least all s h
 EndsAt (Refused r) left least all s h = StopsBefore left least all s h
 
--- The machine made so many of n steps of a counted guest. What was owed in the first is counted, or owed still.
+-- The machine made `done` of n steps of a counted guest. Misses outstanding in the first are counted, or still outstanding.
 pub record IsPaidRun (n : ℕ) (m : Machine) (s : Shadowed) (g : GuestState) (m' : Machine) (e : Exit) : Type 0 where
   pub done : ℕ
   pub left : ℕ

@@ -1,5 +1,5 @@
--- The kernel's work by its kinds: what the shadow page tables' own relations drop and tell, and the steps of a guest that
--- do each.
+-- The kernel's work by its kinds: what the shadow page tables' own relations drop and switch to, and the steps of a guest that do
+-- each.
 use Rattle.std.specs.Prelude.{◌≡◌, ℕ, ◌+◌, ◌≤◌, [], ◌∷◌, None, Ok}
 use Rattle.vax_arch.specs.declared.walk.Lookup.{Lookup}
 use Rattle.vax_hw.specs.Machine.{Machine}
@@ -29,8 +29,8 @@ MarksAreDropped = (look : Lookup) (s s' : Shadowed) → DropsMarked look s s' �
 abbrev pub SwitchesRetell : Type 0
 SwitchesRetell = (g : GuestState) (m m' : Machine) (s s' : Shadowed) → Switches g m s m' s' → Retells (tables_of g) s s'
 
--- One instruction that the machine retired without a trap: no entry changes, what is present after it has entries, and
--- the touched pages that the machine could still miss are counted.
+-- A step of a guest without a change of entries: what is present after it has entries, and the touched pages that the machine
+-- could still miss are counted.
 pub record StepIsCounted (s : Shadowed) (h : Guest) (t : Touching) : Type 0 where
   pub has : HasPresent s (touching_step h (executed h) t).present
   pub count : t.count + to_miss s (touches_now h) ≤ (touching_step h (executed h) t).count

@@ -1,7 +1,7 @@
 ghost use Rattle.vm_simulation_laws.specs.Bursts.{RunsGoAsTheGuest};
 ghost use Rattle.vm_simulation_laws.specs.Laws.{ClaimedFramesAreWritten, ExitsMeetTheGuest, RetiresTheGuest};
 
-/// What stops the machine before an instruction is the outcome of the guest's own, or a page that isn't filled or opened.
+/// An exit of the machine before an instruction is the outcome of the guest's own, or a page that isn't filled or opened.
 pub fn exits_meet_the_guest()
     ensures { ExitsMeetTheGuest }
 {}

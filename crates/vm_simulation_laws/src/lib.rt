@@ -1,5 +1,5 @@
-//! Laws of the machine over a guest's shadow page tables: one instruction of it is one step of the guest on its private virtual VAX;
-//! which pages that touches; and the machine misses no more often than pages are touched first.
+//! Laws that the machine over shadow tables does the guest's steps, and misses only first touches. One instruction of the machine
+//! is one step of the guest on its private virtual VAX.
 #![tactic(auto)]
 
 mod laws;

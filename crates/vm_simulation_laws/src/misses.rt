@@ -56,7 +56,7 @@ pub fn resets_keep_present()
     ensures { ResetsKeepPresent }
 {}
 
-/// The kernel's writes alone tell no registers anew.
+/// The kernel's writes alone are work under the registers of the last switch.
 pub fn writes_are_moves()
     ensures { WritesAreMoves }
 {}
@@ -71,7 +71,7 @@ pub fn marks_are_dropped()
     ensures { MarksAreDropped }
 {}
 
-/// A switch tells the registers of another context.
+/// A switch is one to registers of page tables, new or the same.
 pub fn switches_retell()
     ensures { SwitchesRetell }
 {}

@@ -6,7 +6,7 @@ pub fn tries_follow()
     ensures { TriesFollow }
 {}
 
-/// What is paid for misses, and then for others, is paid for both.
+/// First touches that count misses, and then others, count both.
 pub fn payments_follow()
     ensures { PaymentsFollow }
 {}
@@ -16,7 +16,7 @@ pub fn nothing_is_tried()
     ensures { NothingIsTried }
 {}
 
-/// Nor is anything to be paid for.
+/// Nor is a miss to be counted.
 pub fn nothing_is_paid()
     ensures { NothingIsPaid }
 {}
@@ -26,7 +26,7 @@ pub fn fills_are_tries()
     ensures { FillsAreTries }
 {}
 
-/// A step pays for the misses of its tries.
+/// A step counts the misses of its tries.
 pub fn steps_are_paid()
     ensures { StepsArePaid }
 {}
@@ -41,17 +41,17 @@ pub fn runs_are_paid()
     ensures { RunsArePaid }
 {}
 
-/// Nothing is owed as a step begins.
+/// No miss is outstanding as a step begins.
 pub fn nothing_is_owed()
     ensures { NothingIsOwed }
 {}
 
-/// The misses of a try are owed.
+/// The misses of a try are outstanding after it.
 pub fn tries_are_owed()
     ensures { TriesAreOwed }
 {}
 
-/// What is owed is counted by the step that is made then.
+/// The step that is made then counts the outstanding misses.
 pub fn steps_settle()
     ensures { StepsSettle }
 {}

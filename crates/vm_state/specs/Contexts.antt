@@ -14,15 +14,15 @@ use Rattle.vm_state.specs.State.{Guest, State, pointer_of, with_pointer_kept}
 use Rattle.vm_state.specs.Translation.{frame_at, long_stored, space_of}
 use Rattle.vm_state.specs.declared.register.Register.TheVariants.{Astlvl, P0br, P0lr, P1br, P1lr}
 
--- The block's longwords: KSP, ESP, SSP and USP at 0 to 12, R0 to R11, AP and FP at 16 to 68, PC at 72, PSL at 76, P0BR
--- at 80, P0LR with ASTLVL in bits 26:24 at 84, P1BR at 88, P1LR at 92.
+-- The block's longwords: KSP, ESP, SSP and USP at 0 to 12, R0 to R11, AP and FP at 16 to 68, PC at 72, PSL at 76. Then P0BR at
+-- 80, P0LR with ASTLVL in bits 26:24 at 84, P1BR at 88, P1LR at 92.
 abbrev pub block_size : ℕ
 block_size = 96
 
 abbrev pub control_block_long : Guest → ℕ → ℕ
 control_block_long g k = long_at g.memory (g.state.pcbb + k)
 
--- so many longwords of it from an offset
+-- `count` longwords of it from an offset on
 abbrev pub longs_in_block : Guest → (count offset : ℕ) → List ℕ
 longs_in_block g zero offset = []
 longs_in_block g (suc n) offset = control_block_long g offset ∷ longs_in_block g n (offset + 4)

@@ -9,7 +9,7 @@ use Rattle.vm_state.specs.declared.transfer.Accept.TheVariants.{BadPacket, Busy,
 abbrev pub most_queued : ℕ
 most_queued = 8
 
--- what becomes of an address, in a memory of so many bytes
+-- whether the kernel accepts a packet's address, in a memory of `size` bytes
 unfoldable pub accepted : (size : ℕ) → State → (packet : ℕ) → Accept
 accepted size s packet =
     if not (packet % 4 == 0) || is_past size packet 24 then BadPacket else

@@ -3,7 +3,7 @@ use Rattle.std.specs.Prelude.{◌≡◌, ℕ, ◌+◌, ◌*◌, List, drop, leng
 use Rattle.vm_state.specs.State.{Guest, state_of}
 use Rattle.vm_state.specs.declared.guest_state.GuestState.{GuestState}
 
--- so many bytes from a place on
+-- `size` bytes from a place on
 abbrev pub part : List ℕ → (at size : ℕ) → List ℕ
 part memory at size = take size (drop at memory)
 
@@ -14,7 +14,7 @@ partition_of memory g = part memory (512 * g.base) (512 * g.pages)
 abbrev pub guest_of : List ℕ → GuestState → Guest
 guest_of memory g = record { memory = partition_of memory g; state = state_of g }
 
--- two memories that are one but for so many bytes from a place on
+-- two memories that differ in n bytes from a place on at most
 pub record IsApart (at n : ℕ) (before after : List ℕ) : Type 0 where
   pub front : take at after ≡ take at before
   pub back : drop (at + n) after ≡ drop (at + n) before

@@ -1,6 +1,6 @@
--- Longwords pushed on a guest's stack: all their bytes are walked for writing, then the modify bits of their pages are
--- set, then the bytes are written, each at the place that the walk found (VAX Architecture Reference Manual:
--- exceptions and interrupts; the order is profile).
+-- Longwords pushed on a guest's stack (VAX Architecture Reference Manual: exceptions and interrupts). All their bytes are walked
+-- for writing, then the modify bits of their pages are set, then the bytes are written, each at the place that the walk found;
+-- this order is profile.
 use Rattle.std.specs.Prelude.{ℕ, zero, suc, ◌+◌, ◌/◌, ◌%◌, ◌^◌, List, [], ◌∷◌, ◌++◌, slice_set, if◌then◌else◌, not, Option, Some, None}
 use Rattle.vv_base.specs.Bytes.{long_at}
 use Rattle.vax_arch.specs.Fields.{is_modified}

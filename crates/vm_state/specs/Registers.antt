@@ -35,7 +35,7 @@ with_pointer stack v s = if stack == stack_in s.psl then record s { r = slice_se
 abbrev pub first_p1_page : ℕ
 first_p1_page = 2 ^ 21 - 8192
 
--- the values that a register allows to be written: none for one that is read alone
+-- the values that a register allows to be written: none for one that is read-only
 abbrev pub allows : Register → ℕ → Bool
 allows Ksp v = true
 allows Esp v = true
@@ -136,7 +136,7 @@ write_by s v (Some register) = if allows register v then Ok (record { state = af
 unfoldable pub written : State → (number v : ℕ) → Result Written ReservedOperand
 written s number v = write_by s v (register_of number)
 
--- what reading a register gives, in a memory of so many bytes; none where it is written alone
+-- what reading a register gives, in a memory of `size` bytes; none where it is write-only
 abbrev pub value_of : (size : ℕ) → State → Register → Option ℕ
 value_of size s Ksp = Some (pointer_of s 0)
 value_of size s Esp = Some (pointer_of s 1)

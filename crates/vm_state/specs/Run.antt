@@ -34,7 +34,7 @@ pub record Run : Type 0 where
 abbrev pub after_step : Run → Stepped → Run
 after_step run s = record { guest = s.guest; shown = run.shown ++ s.shown; tally = tallied s.kind run.tally }
 
--- so many steps more
+-- n steps more
 abbrev pub after_steps : ℕ → Run → Run
 after_steps zero run = run
 after_steps (suc n) run = after_steps n (after_step run (step run.guest))

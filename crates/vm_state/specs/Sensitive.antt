@@ -39,9 +39,9 @@ use Rattle.vm_state.specs.declared.transfer.Accept.TheVariants.{BadPacket, Busy,
 use Rattle.vm_state.specs.declared.walk.Walk.{Walk}
 use Rattle.vm_state.specs.declared.walk.Walk.TheVariants as walks
 
--- What becomes of a sensitive instruction. It completes, shows bytes, and writes frames; or it has a fault, with which
--- nothing of it happened; or the page of a byte that it would write has a clear modify bit; or its initiation stops the guest,
--- and it counts as completed; or a place that it reads or writes is beyond memory, which stops the guest.
+-- The outcome of a sensitive instruction. It completes, shows bytes, and writes frames; or it has a fault, with which nothing of
+-- it happened. Or the page of a byte that it would write has a clear modify bit. Or its initiation stops the guest, and it counts
+-- as completed. Or a place that it reads or writes is beyond memory, which stops the guest.
 pub data Sensed : Type 0 where
   Does : Guest → (shown written : List ℕ) → Sensed
   Faults : Exc → Sensed

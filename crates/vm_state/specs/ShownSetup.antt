@@ -1,7 +1,7 @@
 -- Guests for the worked examples. Their code is at 200. With mapping off, of 64 pages: KSP is 3000, and every vector in the
--- system control block at 4400 is 1000. With mapping on, of 8 pages: system and P0 tables of 16 entries, at 0 and 80, map
--- each page to the frame of its number, open to all and modified; KSP is 80000800, and every vector in the system control
--- block at 400 is 80000a00.
+-- system control block at 4400 is 1000. With mapping on, of 8 pages: system and P0 tables of 16 entries, at 0 and 80, map each
+-- page to the frame of its number, open to all and modified. There KSP is 80000800, and every vector in the system control block
+-- at 400 is 80000a00.
 use Rattle.std.specs.Prelude.{ℕ, zero, suc, ◌+◌, ◌-◌, ◌*◌, false, true, List, [], ◌∷◌, ◌++◌, length, map, replicate, slice_index, slice_set}
 use Rattle.vv_base.specs.Bytes.{long_at, long_bytes, overwritten}
 use Rattle.vax_arch.specs.Walk.{Tables, granted, lookup, mapped_entry, process_entry, system_entry}
@@ -47,7 +47,7 @@ abbrev pub bytes_of : List ℕ → List ℕ
 bytes_of [] = []
 bytes_of (v ∷ vs) = long_bytes v ++ bytes_of vs
 
--- so many numbers, rising by 1
+-- n numbers, rising by 1
 abbrev pub rising : ℕ → ℕ → List ℕ
 rising zero first = []
 rising (suc n) first = first ∷ rising n (first + 1)
@@ -133,12 +133,12 @@ after s places =
     let r = slice_index state.r in
     seen s.kind (r 0) (r 1) (r 14) (r 15) state.psl (longs_at s.guest places)
 
--- the places of so many longwords in front of another place
+-- the places of n longwords in front of another place
 abbrev pub below : ℕ → ℕ → List ℕ
 below zero top = []
 below (suc n) top = (top - 4 * (n + 1)) ∷ below n top
 
--- the guest after so many steps, and their kinds
+-- the guest after n steps, and their kinds
 abbrev pub after_steps : ℕ → Guest → Guest
 after_steps zero g = g
 after_steps (suc n) g = after_steps n (step g).guest

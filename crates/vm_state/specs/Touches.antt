@@ -124,7 +124,7 @@ touching_step g s t =
     let u = lacked_all s.touched.lacking (found_all s.touched.found t) in
     record u { present = present_after g s.guest s.written u.present }
 
--- so many steps
+-- n steps
 abbrev pub touching_steps : ℕ → Guest → Touching → Touching
 touching_steps zero g t = t
 touching_steps (suc n) g t = let s = step g in touching_steps n s.guest (touching_step g s t)

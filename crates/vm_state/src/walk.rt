@@ -1,6 +1,6 @@
-/// A memory management fault: translation not valid, or an access violation; the address of the byte that has it; and
-/// the parameter, in which bit 0 says that it was a length violation, bit 1 that it was the process entry's own address
-/// that failed, and bit 2 that the byte was to be written.
+/// A memory management fault: translation not valid, or an access violation; the address of the byte that has it; and the
+/// parameter. Its bit 0 says that it was a length violation, bit 1 that the process entry's own address failed, and bit 2 that
+/// the byte was to be written.
 #[derive(Clone, Copy, Debug, PartialEq, Eq)]
 pub struct MemFault {
     pub not_valid: bool,

@@ -54,7 +54,7 @@ mapped_in f x [] i = absurd i
 mapped_in f x (y ∷ ys) (inl same) = inl (ap f same)
 mapped_in f x (y ∷ ys) (inr i) = inr (mapped_in f x ys i)
 
--- What an exit says depends on the guest and on what is remembered of entries alone.
+-- What an exit says depends on the guest and on what is recorded of entries alone.
 present_same : (memory after : List ℕ) (g : GuestState) (page : ℕ) → guest_of after g ≡ guest_of memory g → IsPresent (guest_of after g) page → IsPresent (guest_of memory g) page
 present_same memory after g page e p = subst (λ h. IsPresent h page) e p
 

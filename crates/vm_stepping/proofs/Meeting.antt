@@ -38,7 +38,7 @@ pub met_done : {Port : Type 0} (may : Port → List ℕ → Type 0) (b : Bool) (
 met_done may true port port' m s g c m' s' g' c' k = made_steps may port port' m s g c m' s' g' c' k
 met_done may false port port' m s g c m' s' g' c' k = k
 
--- so many plain steps more
+-- `done` plain steps more
 abbrev pub more_plain : Counts → (done terms : ℕ) → Counts
 more_plain c done terms = record c { plain = c.plain + done; trail = (c.trail + terms) % 2 ^ 64 }
 
@@ -150,6 +150,6 @@ module _ {Port : Type 0} (may : Port → List ℕ → Type 0) (port port' : Port
         let now = subst (λ x. IsMet may b port port' m1 s1 x c m2 s2 g2 c2) own met in
         done_after m s g c e m1 s1 again stands may port port' m2 s2 g2 c2 b (met_done may b port port' m1 s1 g c m2 s2 g2 c2 now)
 
--- a page of which the machine met a clear modify bit, while that in the guest's own tables is set
+-- a page at whose clear modify bit the machine exited, while that in the guest's own tables is set
 pub may_write : (m : Machine) (s : Shadowed) (g : GuestState) (e : Exit) (va : ℕ) → e ≡ Modify va → StandsFor m.memory s g → Meets e m.memory s g → is_clear (guest_of m.memory g) va ≡ false → CanAllow va m s g
 may_write m s g e va is stands meets set = record { fits = stands.keeps.fits; partition = omega (arith, stands.keeps.fits.partition, stands.serves.pages, stands.serves.base); unwritten = subst (λ x. Meets x m.memory s g) is meets; set = set }

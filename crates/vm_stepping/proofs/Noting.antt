@@ -1,4 +1,4 @@
--- What is told of an instruction before which the machine stopped.
+-- What is noted of an instruction before which the machine stopped.
 use Rattle.std.proofs.Common.{◌≡◌, ℕ, Bool, true, false, refl, ap, ◌∙◌, sym, subst}
 use Rattle.vax_arch.specs.Fields.{current_of}
 use Rattle.vax_arch.specs.declared.mode.Intent.{Intent}

@@ -1,4 +1,4 @@
--- What is told of an instruction that the machine ran.
+-- What is noted of an instruction that the machine ran.
 use Rattle.std.proofs.Common.{◌≡◌, ℕ, ◌-◌, ◌≤◌, Bool, true, false, List, Option, Some, None, ap, ◌∙◌, sym, subst, arith}
 use Rattle.vax_hw.specs.Machine.{Machine}
 use Rattle.vax_hw.specs.declared.world.Exit.{Exit}
@@ -26,7 +26,7 @@ use Rattle.vm_stepping.specs.declared.turns.Left.{Left}
 use Rattle.vm_stepping.proofs.Noting.{note_is}
 use Rattle.vm_stepping.proofs.Running.{IsBefore, before_ends, counted_left, is_before, plain_left}
 
--- a plain instruction tells of its trap alone
+-- of a plain instruction its trap alone is noted
 by_act : (h after : Guest) (trap : Option ℕ) (act : Act) → LeavesByAct act h after trap → note_of_act h act ≡ note_of_trap after trap
 by_act h after trap (Plain e) k = λ i. note_of_trap (sym k.0 i) (sym k.1 i)
 by_act h after trap (Traps t) k = absurd k

@@ -1,4 +1,4 @@
--- What is told of a step, from its beginning on.
+-- What is noted of a step, from its beginning on.
 use Rattle.std.proofs.Common.{◌≡◌, ℕ, ◌-◌, ◌≤◌, Bool, true, false, Option, Some, None, refl, ap, ◌∙◌, sym, subst, arith}
 use Rattle.std.specs.Prelude.{is_some}
 use Rattle.vax_hw.specs.Machine.{Machine}
@@ -19,7 +19,7 @@ use Rattle.vm_stepping.specs.declared.turns.Left.{Left}
 use Rattle.vm_stepping.proofs.Beginning.{counted_is, now}
 use Rattle.vm_stepping.proofs.Running.{counted_left, not_counted, plain_left}
 
--- a guest that has stopped tells nothing
+-- nothing is noted of a guest that has stopped
 tells_nothing : (h : Guest) (o : Option ℕ) → is_some o ≡ true → note_by_halt h o ≡ Nothing
 tells_nothing h (Some code) e = refl
 tells_nothing h None e = absurd (not_counted e)

@@ -1,4 +1,4 @@
--- What the kernel's work drops, and the misses that first touches pay for.
+-- What the kernel's work drops, and the misses that first touches count.
 use Rattle.std.proofs.Common.{◌≡◌, ℕ, ◌+◌, ◌%◌, ◌^◌, ◌≤◌, ◌⊎◌, inl, inr, true, List, [], ◌++◌, Option, None, is_some, ap, ◌∙◌, sym, subst, arith}
 use Rattle.vax_arch.specs.Walk.{Tables, page_of}
 use Rattle.vax_hw.specs.Machine.{Machine}
@@ -68,7 +68,7 @@ stops_moves code m s g m' s' g' k w = subst (Moves [] (tables_of g) s) (sym w.sh
 pub marks_moves : (page : ℕ) (m : Machine) (s : Shadowed) (g : GuestState) (m' : Machine) (s' : Shadowed) → Marks page g m s m' s' → Moves (marks_by (look (guest_of m.memory g) page)) (tables_of g) s s'
 marks_moves page m s g m' s' k = moves_alone (marks_by (look (guest_of m.memory g) page)) m'.memory s s' (tables_of g) k.stands.keeps.fits k.stands.serves.told (marks_dropped (look (guest_of m.memory g) page) s s' k.drops)
 
--- What is paid.
+-- Misses that are counted.
 
 pub no_more : (m m' : Machine) → m'.misses ≡ m.misses → Misses 0 m m'
 no_more m m' e = ap (λ (n : ℕ). n % 2 ^ 64) (omega (arith, e))

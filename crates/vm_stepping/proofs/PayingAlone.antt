@@ -1,4 +1,4 @@
--- What pays for the misses of one guarded instruction.
+-- The first touches that count the misses of one guarded instruction.
 use Rattle.std.proofs.Common.{◌≡◌, ℕ, ◌+◌, ◌%◌, ◌^◌, ◌≤◌, Bool, true, false, List, ◌++◌, Option, Some, None, is_some, refl, ap, ◌∙◌, sym, subst, arith}
 use Rattle.vax_hw.specs.Machine.{Machine}
 use Rattle.vax_hw.specs.Real.{misses_after}
@@ -56,7 +56,7 @@ module _ (m : Machine) (s : Shadowed) (g : GuestState) (terms : ℕ) (m1 : Machi
       (trap_moves (frames_claimed here) s s1 x m1 g1 m2 s2 g2 (steps_drop (Some kind) k) (makes (steps.Plain k.term))) (none_within s here)
       (ap (λ (y : Machine). y.misses) (makes (steps.Plain k.term)).only.rest ∙ k.misses)
 
--- It didn't retire: what is met pays.
+-- It didn't retire: the handling of its exit counts the misses.
 one_more : (e : Exit) (n : ℕ) → misses_after n e % 2 ^ 64 ≡ (n + missed_by e) % 2 ^ 64
 one_more Budget n = ap (λ (x : ℕ). x % 2 ^ 64) (omega arith)
 one_more (Arithmetic kind) n = ap (λ (x : ℕ). x % 2 ^ 64) (omega arith)
@@ -82,7 +82,7 @@ module _ (m : Machine) (s : Shadowed) (g : GuestState) (e : Exit) (m1 : Machine)
   first : Misses (missed_by e) m m1
   first = ap (λ (x : Machine). x.misses % 2 ^ 64) k.machine ∙ one_more e m.misses
 
-  -- what is owed is owed still
+  -- outstanding misses are still outstanding
   owes_on : (owed : ℕ) (t : Touching) → Owes owed (touches_now (guest_of m.memory g)) s t → Owes owed (touches_now (guest_of m1.memory g)) s1 t
   owes_on owed t o =
       let less : to_miss s1 (touches_now (guest_of m.memory g)) ≤ to_miss s (touches_now (guest_of m.memory g)) = (filled_stay s s1 t.present kept).fewer (touches_now (guest_of m.memory g)) in

@@ -1,4 +1,4 @@
--- What pays for the misses of steps that reach no instruction: there are none; and all steps, one part after another.
+-- Steps that reach no instruction have no misses to count; and all steps, one part after another.
 use Rattle.std.proofs.Common.{◌≡◌, ℕ, zero, suc, ◌+◌, ◌-◌, ◌≤◌, Bool, true, false, [], List, Option, Some, None, is_some, refl, ap, ◌∙◌, sym, subst, arith}
 use Rattle.vax_hw.specs.Machine.{Machine}
 use Rattle.vax_table.specs.Interaction.{IsIn}
@@ -150,7 +150,7 @@ pays_then l l1 l2 m s g m1 s1 g1 m2 s2 g2 x y = record {
       record { at = b.at; still = b.still; owes = b.owes; counts = omega (arith, one, two); is = a.is ∙ b.is };
 }
 
--- none is left, and nothing is owed
+-- none is left, and no miss is outstanding
 owes_none : (b : Bool) (n still : ℕ) (h : Guest) (s : Shadowed) (u : Touching) → n ≡ 0 → (b ≡ true → 1 ≤ n) → OwesBy b still h s u → HasPresent s u.present × (still ≡ 0) × (touching_left b n h u ≡ u)
 owes_none true n still h s u none more o = absurd (omega (arith, none, more refl))
 owes_none false n still h s u none more o = (o.0, o.1, ap (λ k. touching_steps k h u) none)

@@ -1,4 +1,4 @@
--- What pays for the misses after a run that stopped before an instruction.
+-- The first touches that count the misses after a run that stopped before an instruction.
 use Rattle.std.proofs.Common.{◌≡◌, ℕ, ◌+◌, ◌<◌, ◌≤◌, ◌⊎◌, inl, inr, Bool, List, [], Option, is_some, refl, ap, ◌∙◌, sym, subst, arith}
 use Rattle.vax_arch.specs.Walk.{page_of}
 use Rattle.vax_arch.specs.declared.mode.Intent.{Intent}

@@ -1,4 +1,4 @@
--- What pays for the misses of a run of the machine, with what is done after it.
+-- The first touches that count the misses of a run of the machine, with what is done after it.
 use Rattle.std.proofs.Common.{◌≡◌, ℕ, zero, suc, ◌+◌, ◌-◌, ◌%◌, ◌^◌, ◌≤◌, Bool, true, false, List, [], Some, refl, ap, ◌∙◌, sym, subst, arith}
 use Rattle.vax_hw.specs.Machine.{Machine}
 use Rattle.vax_hw.specs.declared.world.Exit.{Exit}

@@ -1,4 +1,4 @@
--- What is told of an instruction that trapped, by the outcome of its emulation.
+-- What is noted of an instruction that trapped, by the outcome of its emulation.
 use Rattle.std.proofs.Common.{◌≡◌, ℕ, ◌*◌, ◌/◌, Bool, true, false, refl, ap, ◌∙◌, sym, subst, length}
 use Rattle.std.specs.Prelude.{if◌then◌else◌}
 use Rattle.vax_arch.specs.declared.mode.Intent.{Intent}
@@ -29,7 +29,7 @@ use Rattle.vm_state.specs.declared.guest_state.GuestState.{GuestState}
 use Rattle.vm_stepping.proofs.Noting.{note_here}
 use Rattle.vm_stepping.proofs.SensingScripts.{ActIsProper, IsNoProbe, proper_act}
 
--- what is to be told, by the outcome of the emulation
+-- what is to be noted, by the outcome of the emulation
 abbrev pub Told : Emulated → Guest → Note → Type 0
 Told outcomes.Done own told = told ≡ Nothing
 Told (outcomes.SetModify at) own told = told ≡ Page (at / 512 * 512)

@@ -45,7 +45,8 @@ use Rattle.vm_stepping.proofs.Paying.{among_dropped, follows_moves, stops_moves}
 use Rattle.vm_stepping.proofs.SensingFilled.{keeps_filled, refills}
 use Rattle.vm_stepping.proofs.SensingScripts.{ActIsProper, IsNoProbe, proper_act}
 
--- The guest is the step's, its real tables lie where they lay, and what it writes and tells is all that is dropped for.
+-- The guest is the step's, its real tables lie where they lay, and what is dropped is for what it writes and for its registers
+-- alone.
 pub record Steps (x : Stepped) (s : Shadowed) (m' : Machine) (s' : Shadowed) (g' : GuestState) : Type 0 where
   pub guest : guest_of m'.memory g' ≡ x.guest
   pub tables : s'.at ≡ s.at

@@ -87,7 +87,7 @@ module _ (opened : List ℕ) (m : Machine) (s : Shadowed) (g : GuestState) (va :
     pub then_fewer : 2 * clear_bits m2.memory s2 + 1 < 2 * clear_bits m.memory s
     then_fewer = let fewer = fewer_clear in omega (arith, fewer)
 
-    -- what is told of an opened page
+    -- what is answered of an opened page
     frame_told : (f : ℕ) → IfSome frame (λ y. y ≡ mapped_frame s (real_at m.memory s n)) → frame ≡ Some f → f ≡ mapped_frame s (real_at m.memory s n)
     frame_told f told e = subst (λ (x : Option ℕ). IfSome x (λ y. y ≡ mapped_frame s (real_at m.memory s n))) e told
 

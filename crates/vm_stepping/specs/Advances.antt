@@ -27,7 +27,7 @@ abbrev pub StepsOrRefills : {Port : Type 0} → (Port → List ℕ → Type 0) �
 StepsOrRefills may true port port' m s g c m' s' g' c' = Steps may port port' m s g c m' s' g' c'
 StepsOrRefills may false port port' m s g c m' s' g' c' = Refills m s g m' s' g' × (c' ≡ c) × Appends may port port' []
 
--- so many steps, of which the first may be counted already
+-- the steps that are left, of which the first may be counted already
 abbrev pub after_left_steps : Left → Run → Run
 after_left_steps left run = if left.counted then after_counted left.steps run else after_steps left.steps run
 
@@ -60,7 +60,7 @@ pub record Idles (steps : ℕ) (left : Left) (g : GuestState) (c : Counts) (g' :
 abbrev pub to_do : Left → Shadowed → ℕ
 to_do left s = 2 * ((all_entries + 1) * left.steps + unfilled s) + (if left.counted then 0 else 1)
 
--- so many steps of a guest, none of which is counted yet
+-- `steps` steps of a guest, none of which is counted yet
 pub record Advances {Port : Type 0} (may : Port → List ℕ → Type 0) (steps : ℕ) (port port' : Port) (m : Machine) (s : Shadowed) (g : GuestState) (m' : Machine) (s' : Shadowed) (g' : GuestState) (c : Counts) : Type 0 where
   pub text : List ℕ
   pub run : after_steps steps (run_of m.memory g no_counts []) ≡ run_of m'.memory g' c text

@@ -33,7 +33,7 @@ pub record RunsSome (m : Machine) (s : Shadowed) (g : GuestState) : Type 0 where
   pub opened : List ℕ
   pub runs : RunsGuest opened m s g
 
--- what an exit says: of a clear modify bit, that the guest's instruction meets it
+-- what an exit says: of a clear modify bit, that the guest's instruction stops at it
 abbrev pub ExitIsMet : Exit → List ℕ → Shadowed → GuestState → Type 0
 ExitIsMet (Modify va) memory s g = (va < 2 ^ 32) × (guest_try (guest_of memory g) ≡ Clear va)
 ExitIsMet Budget memory s g = ⊥
@@ -43,7 +43,7 @@ ExitIsMet (Denied va write) memory s g = Meets (Denied va write) memory s g
 ExitIsMet (Emulate t) memory s g = Meets (Emulate t) memory s g
 ExitIsMet (Refused r) memory s g = Meets (Refused r) memory s g
 
--- The instruction retired, and is plain. What was read from a frame that it wrote may be dropped; the pages that it touched
+-- The instruction retired, and is plain. What was read from a frame that it wrote may be dropped; the pages that gave it bytes
 -- are filled.
 pub record IsCompleted (opened : List ℕ) (m : Machine) (s : Shadowed) (g : GuestState) (trap : Option ℕ) (m' : Machine) (s' : Shadowed) : Type 0 where
   pub term : ℕ
@@ -96,7 +96,8 @@ abbrev pub opened_by : Option ℕ → ℕ → List ℕ → List ℕ
 opened_by None n opened = opened
 opened_by (Some frame) n opened = n ∷ opened
 
--- It is granted, or opened, and then its frame is told; nothing else changes.
+-- A page is granted, or opened, and then `frame` is the frame that it maps. Its real entry gets the modify bit; no other entry
+-- changes, and of what is recorded the flags of writable frames alone.
 pub record GrantsOrOpens (va : ℕ) (m : Machine) (s : Shadowed) (frame : Option ℕ) (m' : Machine) (s' : Shadowed) : Type 0 where
   pub keeps : (opened : List ℕ) → Keeps [] opened m.memory s → Keeps [] (opened_by frame (own_number s (page_of va)) opened) m'.memory s'
   pub told : IfSome frame (λ f. f ≡ mapped_frame s (real_at m.memory s (own_number s (page_of va))))
@@ -105,7 +106,7 @@ pub record GrantsOrOpens (va : ℕ) (m : Machine) (s : Shadowed) (frame : Option
   pub rest : s' ≡ record s { writable = s'.writable }
   pub only : OnlyTables s.at m m'
 
--- A page that was opened is closed, after a drop of what was read from its frame where the instruction retired.
+-- where the instruction retired, the frame of a page that was opened is pending
 abbrev pub noted_by : Bool → ℕ → List ℕ → List ℕ
 noted_by true frame pending = frame ∷ pending
 noted_by false frame pending = pending
@@ -132,19 +133,21 @@ abbrev pub ClosesAfter : (n : ℕ) → Option ℕ → Bool → Machine → Shado
 ClosesAfter n None retired m s m' s' = (m' ≡ m) × (s' ≡ s)
 ClosesAfter n (Some frame) retired m s m' s' = ClosesOne n frame retired m s m' s'
 
--- how many real entries have a clear modify bit
+-- how many numbers below another have a property
 abbrev pub count_below : (ℕ → Bool) → ℕ → ℕ
 count_below p zero = 0
 count_below p (suc n) = count_below p n + (if p n then 1 else 0)
 
+-- how many real entries have a clear modify bit
 unfoldable pub clear_bits : List ℕ → Shadowed → ℕ
 clear_bits memory s = count_below (λ n. not (is_modified (real_at memory s n))) all_entries
 
--- The guest's step after one guarded instruction: it is plain, and its trap is initiated in it.
+-- a run after the initiation of a trap, if there is one
 abbrev pub with_trap_of : Option ℕ → Run → Run
 with_trap_of None run = run
 with_trap_of (Some kind) run = with_trap kind run
 
+-- The instruction retired: the guest's step is plain, and its trap is still to be initiated in it.
 pub record StepsGuarded (m : Machine) (s : Shadowed) (g : GuestState) (terms : ℕ) (trap : Option ℕ) (m' : Machine) (s' : Shadowed) (g' : GuestState) : Type 0 where
   pub term : ℕ
   pub step : executed (guest_of m.memory g) ≡ record (trapped_in (steps.Plain term) (frames_claimed (guest_of m.memory g)) (guest_of m'.memory g') trap) { touched = touches_now (guest_of m.memory g) }

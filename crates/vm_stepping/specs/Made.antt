@@ -31,7 +31,7 @@ run_of memory g c shown = record { guest = guest_of memory g; shown = shown; tal
 abbrev pub steps_in : Counts → ℕ
 steps_in c = c.plain + c.sensitive + c.faults + c.interrupts + c.modify + c.idle + c.stopped
 
--- what stays while a guest goes on: its shadow page tables stand for its own, and no byte beyond both changes
+-- the refinement while a guest goes on: its shadow page tables stand for its own, and no byte beyond both changes
 pub record KeepsRefinement (m : Machine) (s : Shadowed) (g : GuestState) (m' : Machine) (s' : Shadowed) (g' : GuestState) : Type 0 where
   pub stands : StandsFor m'.memory s' g'
   pub only : OnlyBoth s m.memory m'.memory
@@ -43,7 +43,8 @@ pub record CountsRetired (m : Machine) (c : Counts) (m' : Machine) (c' : Counts)
   pub retired : (m'.retired + c.plain) % 2 ^ 64 ≡ (m.retired + c'.plain) % 2 ^ 64
   pub trail : (m'.trail + c.trail) % 2 ^ 64 ≡ (m.trail + c'.trail) % 2 ^ 64
 
--- This step is made: what it writes and tells is all that is dropped for, and the machine misses nothing.
+-- This step is made: what was read from frames that it writes may be dropped, the tables switch to its registers, and the machine
+-- misses nothing.
 pub record Made {Port : Type 0} (may : Port → List ℕ → Type 0) (x : Stepped) (port port' : Port) (m : Machine) (s : Shadowed) (g : GuestState) (c : Counts) (m' : Machine) (s' : Shadowed) (g' : GuestState) (c' : Counts) : Type 0 where
   pub run : (shown : List ℕ) → after_step (run_of m.memory g c shown) x ≡ run_of m'.memory g' c' (shown ++ x.shown)
   pub shows : Appends may port port' x.shown

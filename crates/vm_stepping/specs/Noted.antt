@@ -1,4 +1,4 @@
--- What the kernel's work tells of a guest's next step.
+-- What the kernel's work notes of a guest's next step.
 use Rattle.std.specs.Prelude.{◌≡◌, Bool, true, false, if◌then◌else◌}
 use Rattle.vax_hw.specs.Machine.{Machine}
 use Rattle.vm_exception.specs.Noted.{note_of, note_of_instruction}
@@ -8,7 +8,7 @@ use Rattle.vm_state.specs.State.{Guest}
 use Rattle.vm_state.specs.declared.guest_state.GuestState.{GuestState}
 use Rattle.vm_stepping.specs.declared.turns.Left.{Left}
 
--- where a step was made, this is told of it
+-- where a step was made, this is noted of it
 abbrev pub NotesMet : Bool → Note → Note → Type 0
 NotesMet true told note = note ≡ told
 NotesMet false told note = Unit {0}
@@ -17,7 +17,7 @@ NotesMet false told note = Unit {0}
 abbrev pub note_of_left : Left → Guest → Note
 note_of_left left g = if left.counted then note_of_instruction g else note_of g
 
--- One step was left: it was made, and this is told of it; or it is left still, and the same is to be told of it.
+-- One step was left: it was made, and this is noted of it; or it is still left, and the same is to be noted of it.
 pub record NotesOne (left left' : Left) (m : Machine) (g : GuestState) (m' : Machine) (g' : GuestState) (note : Note) : Type 0 where
   pub made : left.steps ≡ 1 → left'.steps ≡ 0 → note ≡ note_of_left left (guest_of m.memory g)
   pub stays : left.steps ≡ 1 → left'.steps ≡ 1 → note_of_left left' (guest_of m'.memory g') ≡ note_of_left left (guest_of m.memory g)

@@ -1,4 +1,4 @@
--- Misses of the machine in a guest's steps, and the first touches that pay for them.
+-- Misses of the machine in a guest's steps, and first touches, of which there are at least as many.
 use Rattle.std.specs.Prelude.{◌≡◌, ◌⊎◌, ℕ, ◌+◌, ◌≤◌, Bool, true, false, List, Err}
 use Rattle.vax_arch.specs.declared.mode.Intent.{Intent}
 use Rattle.vax_hw.specs.Machine.{Machine}
@@ -22,14 +22,14 @@ pub record WereMissed (missed : ℕ) (i : Intent) (va : ℕ) (memory : List ℕ)
   pub there : (missed ≡ 0) ⊎ ((missed ≡ 1) × MissesThere va s (guest_of memory g))
   pub filled : (c : Cause) → place_here memory g i va ≡ Err c → AreFilled s (touches_now (guest_of memory g)).found
 
--- The step of a counted guest's instruction is made, in which some misses are owed and so many were made just now: first
+-- The step of a counted guest's instruction is made, in which some misses are outstanding and `missed` were made just now: first
 -- touches count all of them in the step, and what is present after it has real entries.
 pub record Settles (missed : ℕ) (m : Machine) (s : Shadowed) (g : GuestState) (m' : Machine) (s' : Shadowed) : Type 0 where
   pub more : ℕ
   pub misses : Misses more m m'
   pub settles : (owed : ℕ) (t : Touching) → Owes owed (touches_now (guest_of m.memory g)) s t → IsSettled owed (missed + more) t (touching_step (guest_of m.memory g) (executed (guest_of m.memory g)) t) s'
 
--- Pages are filled for the instruction, and its step isn't made: all misses are owed.
+-- Pages are filled for the instruction, and its step isn't made: all misses are outstanding.
 pub record OwesStill (missed : ℕ) (m : Machine) (s : Shadowed) (g : GuestState) (m' : Machine) (s' : Shadowed) : Type 0 where
   pub more : ℕ
   pub misses : Misses more m m'
@@ -39,7 +39,7 @@ abbrev pub PaysFor : Bool → ℕ → Machine → Shadowed → GuestState → Ma
 PaysFor true missed m s g m' s' = Settles missed m s g m' s'
 PaysFor false missed m s g m' s' = OwesStill missed m s g m' s'
 
--- first touches of the steps that are left, of which the first may be counted already: then misses may be owed in it
+-- first touches of the steps that are left, of which the first may be counted already: then misses may be outstanding in it
 abbrev pub touching_left : Bool → ℕ → Guest → Touching → Touching
 touching_left true n h t = touching_counted n h t
 touching_left false n h t = touching_steps n h t
@@ -48,7 +48,7 @@ abbrev pub OwesBy : Bool → ℕ → Guest → Shadowed → Touching → Type 0
 OwesBy true owed h s t = Owes owed (touches_now h) s t
 OwesBy false owed h s t = HasPresent s t.present × (owed ≡ 0)
 
--- First touches go on to where these steps are left: what is missed in between is counted, or owed there.
+-- First touches go on to where these steps are left: what is missed in between is counted, or outstanding there.
 pub record TouchesGoOn (left left' : Left) (owed missed : ℕ) (t : Touching) (h h' : Guest) (s' : Shadowed) : Type 0 where
   pub at : Touching
   pub still : ℕ

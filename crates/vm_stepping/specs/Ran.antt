@@ -46,9 +46,9 @@ IsAlone Budget h after = Leaves h after None
 IsAlone (Arithmetic kind) h after = Leaves h after (Some kind)
 IsAlone e h after = after ≡ h
 
--- The machine ran: it retired so many instructions of at most n, which were plain steps of the guest, with the sum of their
--- terms of the trail; why it ended says how the guest goes on, and which pages are touched. It missed no page in these steps,
--- and what is present after them by first touches has real entries.
+-- The machine ran: of n instructions it retired `done`, which were plain steps of the guest, with the sum of their terms of the
+-- trail. The exit says how the guest goes on, and which pages are touched. It missed no page in these steps, and what is present
+-- after them by first touches has real entries.
 pub record IsRun (n : ℕ) (m : Machine) (s : Shadowed) (g : GuestState) (ran : Ran) (m' : Machine) (g' : GuestState) : Type 0 where
   pub left : ℕ
   pub budget : ran.done + left ≡ n

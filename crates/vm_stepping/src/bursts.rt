@@ -39,7 +39,7 @@ fn counted_by(exit: &Exit, done: u32) -> u32
     }
 }
 
-/// Counts so many steps more of a guest, in none of which its clock wraps: their ticks, and the steps modulo 2^32.
+/// Counts `steps` more steps of a guest, in none of which its clock wraps: their ticks, and the steps modulo 2^32.
 pub fn count_more(g: &mut GuestState, steps: u32)
     requires { IsTrue g.old.clock.run → steps < ticks_to_wrap g.old.clock }
     ensures { g.new ≡ with_count steps g.old }
@@ -56,7 +56,7 @@ fn steps_of(g: &GuestState) -> u32
     g.steps
 }
 
-/// Runs the machine for a guest, whose next step is counted, by at most so many instructions. In as many steps no interrupt may
+/// Runs the machine for a guest, whose next step is counted, by at most `budget` instructions. In as many steps no interrupt may
 /// become due.
 pub fn burst<H: Hardware>(machine: &mut H, s: &Shadow, g: &mut GuestState, budget: u32) -> Ran
     requires stands { StandsFor (H.machine machine.old).memory s.now g.old }

@@ -31,7 +31,7 @@ impl Counts {
         }
     }
 
-    /// So many plain steps more, with the sum of their terms of the trail.
+    /// Adds `done` plain steps, with the sum of their terms of the trail.
     pub(crate) fn retire(&mut self, done: u32, terms: u64)
         requires { steps_in self.old + done < 2 ^ 64 }
         ensures small { self.old.trail < 2 ^ 64 }

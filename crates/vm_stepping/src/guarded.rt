@@ -90,7 +90,8 @@ fn complete<H: Hardware>(machine: &mut H, s: &mut Shadow, g: &GuestState) -> Exi
     complete_written(machine, s, g, va)
 }
 
-/// The same of an instruction that is known to write an address's page so.
+/// Runs the guest's instruction, as `complete` does, where it is known to write an address's page, whose modify bit is set in the
+/// guest's own tables.
 #[cycle(complete)]
 fn complete_written<H: Hardware>(machine: &mut H, s: &mut Shadow, g: &GuestState, va: u32) -> Exit
     requires runs { RunsSome (H.machine machine.old) s.old g.now }
@@ -103,9 +104,9 @@ fn complete_written<H: Hardware>(machine: &mut H, s: &mut Shadow, g: &GuestState
     exit
 }
 
-/// Runs one instruction of a guest, whose step is counted, where the machine met a clear modify bit at an address, and that of
-/// its page is set in the guest's own tables: pages that it writes so are granted, or opened for it alone. Answers what the
-/// machine did.
+/// Runs one instruction of a guest, whose step is counted, where the machine exited at a page's clear modify bit that is set in
+/// the guest's own tables. Such pages that the instruction writes are granted, or opened for it alone. Answers what the machine
+/// did.
 pub fn run_guarded<H: Hardware>(machine: &mut H, s: &mut Shadow, g: &mut GuestState, va: u32) -> Ran
     requires stands { StandsFor (H.machine machine.old).memory s.old g.old }
     requires written { CanAllow va (H.machine machine.old) s.old g.old }

@@ -1,4 +1,4 @@
-//! Runs of the machine and steps of a guest over its shadow page tables.
+//! A guest's steps: the machine's runs over its shadow tables, and the kernel's work between.
 #![tactic(auto)]
 
 mod bursts;

@@ -67,7 +67,7 @@ pub fn page_note(va: u32) -> Note
     Note::Page(va / 512 * 512)
 }
 
-/// A clear modify bit is met: it is set, and the instruction begins again at the next step; a guest with modify faults has one.
+/// At a clear modify bit it is set, and the instruction begins again at the next step; a guest with modify faults has one.
 pub fn meet_clear<H: Hardware, T: Port>(
     machine: &mut H,
     s: &mut Shadow,

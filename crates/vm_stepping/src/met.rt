@@ -73,8 +73,8 @@ fn refuse<H: Hardware, T: Port>(
     fault(machine, s, g, port, counts, note, refused_as(refusal));
 }
 
-/// What the machine stopped before is done for the guest: its step is made and counted; or pages are filled, and the instruction
-/// is to be tried again. Answers whether a step was made.
+/// Handles an exit of the machine for the guest: its step is made and counted; or pages are filled, and the instruction is to be
+/// tried again. Answers whether a step was made.
 fn meet_told<H: Hardware, T: Port>(
     machine: &mut H,
     s: &mut Shadow,
@@ -161,7 +161,7 @@ fn run_alone<H: Hardware, T: Port>(
     }
 }
 
-/// What the machine stopped before is done for the guest, or its instruction is run alone. Answers whether its step was made.
+/// Handles an exit of the machine for the guest, or runs its instruction alone. Answers whether its step was made.
 pub fn meet<H: Hardware, T: Port>(
     machine: &mut H,
     s: &mut Shadow,

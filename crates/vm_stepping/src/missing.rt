@@ -18,7 +18,7 @@ use vm_shadow::Shadow;
 use vm_state::{Exc, GuestState, Walk};
 use vm_walk::{look_up, walk_found};
 
-/// What becomes of a byte that the machine has no place for: its page is filled, where the guest has a place; else that is the
+/// Handles a miss, at a byte that the machine has no place for: fills its page, where the guest has a place; else that is the
 /// guest's own fault, or stops it. Answers whether a step was made.
 pub fn meet_missing<H: Hardware, T: Port>(
     machine: &mut H,

@@ -54,7 +54,7 @@ fn budget(g: &GuestState, left: u32) -> u32
     }
 }
 
-/// Runs the machine for a guest whose next step is counted, and does what it ends before or with.
+/// Runs the machine for a guest whose next step is counted, and handles its exit.
 fn run_on<H: Hardware, T: Port>(
     machine: &mut H,
     s: &mut Shadow,
@@ -117,8 +117,8 @@ fn idle(g: &mut GuestState, counts: &mut Counts, left: u32) -> Left
     Left::of(left - steps)
 }
 
-/// Begins the next step of a guest: one that has stopped is stopped in all that are left; an interrupt that is due is taken, and
-/// a guest that waits is idle; else the step is counted, and reaches the guest's instruction.
+/// Begins the next step of a guest. One that has stopped is stopped in all that are left; an interrupt that is due is taken, and
+/// a guest that waits is idle. Else the step is counted, and reaches the guest's instruction.
 fn begin_step<H: Hardware, T: Port>(
     machine: &mut H,
     s: &mut Shadow,
@@ -181,8 +181,8 @@ fn proceed<H: Hardware, T: Port>(
     }
 }
 
-/// Takes so many steps of a guest over the machine and its shadow page tables, and shows on its port what it shows. Answers how
-/// many of each kind there were. Of one step, what it tells is noted.
+/// Takes `steps` steps of a guest over the machine and its shadow page tables, and shows on its port what it shows. Answers how
+/// many of each kind there were. A note is made of a single step.
 fn advance_noting<H: Hardware, T: Port>(
     machine: &mut H,
     s: &mut Shadow,
@@ -204,7 +204,7 @@ fn advance_noting<H: Hardware, T: Port>(
     counts
 }
 
-/// Takes so many steps of a guest over the machine and its shadow page tables, and shows on its port what it shows. Answers how
+/// Takes `steps` steps of a guest over the machine and its shadow page tables, and shows on its port what it shows. Answers how
 /// many of each kind there were.
 pub fn advance<H: Hardware, T: Port>(
     machine: &mut H,
@@ -221,14 +221,14 @@ pub fn advance<H: Hardware, T: Port>(
     advance_noting(machine, s, g, port, &mut note, steps)
 }
 
-/// One step of a guest: how many of each kind there were, which is one in all, and what it tells.
+/// One step of a guest: how many of each kind there were, which is one in all, and its note.
 #[derive(Clone, Copy, Debug, PartialEq, Eq)]
 pub struct Once {
     pub counts: Counts,
     pub note: Note,
 }
 
-/// Takes one step of a guest as `advance` does, and answers what it tells besides.
+/// Takes one step of a guest as `advance` does, and answers its note besides.
 pub fn advance_once<H: Hardware, T: Port>(
     machine: &mut H,
     s: &mut Shadow,

@@ -6,7 +6,7 @@ ghost use Rattle.vm_state.specs.Partition.{partition_of};
 use vax_hw::Hardware;
 use vm_state::GuestState;
 
-/// Whether so many bytes from a physical place aren't all in the guest's memory.
+/// Whether `bytes` bytes from a physical place on aren't all in the guest's memory.
 pub fn is_past(g: &GuestState, place: u64, bytes: u64) -> bool
     requires small { place < 2 ^ 60 }
     requires few { bytes ≤ 512 }

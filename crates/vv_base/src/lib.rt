@@ -1,4 +1,4 @@
-//! Fields of bytes, bounded texts, names, and numbers as text.
+//! Fields of bytes, bounded texts, names, widths, and numbers as text.
 #![tactic(auto)]
 
 mod bytes;

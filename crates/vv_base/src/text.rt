@@ -44,7 +44,7 @@ impl<const N: usize> Text<N> {
         text
     }
 
-    /// The same text.
+    /// A copy of the text.
     pub fn copied(&self) -> Self
         ensures { result ≡ self.now }
     {

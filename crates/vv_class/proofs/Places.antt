@@ -1,4 +1,4 @@
--- A class, or the place of the fault: what reading a text tells.
+-- A class, or the place of the fault: what reading a text answers.
 use Rattle.std.proofs.Common.{◌≡◌, ◌≢◌, ℕ, suc, ◌+◌, ◌-◌, ◌<◌, ◌≤◌, ◌^◌, ◌==◌, true, false, ◌&&◌, List, [], ◌∷◌, ◌++◌, length, take, drop, codes, decimal, Option, Some, None, Result, Ok, Err, IfOk, IfErr, OnErr, option_and_then, refl, sym, ap, ◌∙◌, arith, subst, append_assoc, append-nil, length-append, inl, inr, take_all, take_at, get_or}
 use Rattle.std.proofs.lemmas.Bool.{cases_lt, and_parts, eqb-true, cond_both, true≢false}
 use Rattle.std.proofs.lemmas.Fmt.{length-decimal-le}

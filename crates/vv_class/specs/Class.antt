@@ -1,6 +1,6 @@
--- Access classes, and which flows into which: secrecy after Bell and LaPadula ("Secure computer
--- system", 1976), integrity after Biba ("Integrity considerations for secure computer systems",
--- 1977), both as in the VAX VMM security kernel (Karger and others, IEEE TSE 17(11), 1991).
+-- Access classes, and which flows into which. Secrecy is after Bell and LaPadula ("Secure computer system", 1976), integrity
+-- after Biba ("Integrity considerations for secure computer systems", 1977), both as in the VAX VMM security kernel (Karger and
+-- others, IEEE TSE 17(11), 1991).
 use Rattle.std.specs.Prelude.{◌≡◌, ℕ, ◌<◌, ◌≤◌, ◌/◌, ◌%◌, ◌^◌, Bool, true, ◌==◌, nat_le, not, ◌&&◌, ◌||◌, min, max}
 use Rattle.std.specs.List.{list_all, range_with_len}
 use Rattle.vv_class.specs.declared.class.AccessClass.{AccessClass}
@@ -27,7 +27,7 @@ pub record Flows (a b : AccessClass) : Type 0 where
   pub integrity : b.integrity ≤ a.integrity
   pub integrity_cats : IsSubset b.integrity_cats a.integrity_cats
 
--- the same as tests that compute
+-- `IsSubset` and `Flows` as tests that compute
 unfoldable pub is_subset : ℕ → ℕ → Bool
 is_subset a b = list_all (λ k. not (has_category a k) || has_category b k) (range_with_len 0 64)
 

@@ -49,7 +49,7 @@ more_category s b =
     else if b == 44 then (if nat_le s.least s.number && nat_lt s.number 63 then Some (kept s) else None)
     else if continues_number s b then with_category s (10 * s.number + (b - 48)) else None
 
--- a byte more of a half
+-- one more byte of a half
 unfoldable pub step_of : Half → ℕ → Option Half
 step_of s b = elim s.next [
   | Level ↦ if is_digit b then with_level s (b - 48) else None

@@ -53,7 +53,7 @@ impl Half {
         matches!(self.next, Next::End)
     }
 
-    /// Reads a byte more; `None` where no half goes on so.
+    /// Reads one more byte; `None` where no half goes on so.
     #[tactic(auto, unfolding(crate::specs::Scan::step_of))]
     pub fn step(&self, b: u8) -> Option<Half>
         requires { self.now.cats < 2 ^ self.now.least }

@@ -22,7 +22,7 @@ pub fn read_class(b: &[u8]) -> Result<AccessClass, ClassFault>
     ensures refused { OnErr result ((c : AccessClass) → IsClass c → b.now ≢ class_text c) }
     ensures fault { IfErr result (λ fault. IsLongestStart b.now fault.place) }
 
-    // The same as a function that computes.
+    // The answer as a function that computes.
     ensures value { result ≡ class_of b.now }
 {
     scan_text(b)

@@ -1,4 +1,4 @@
--- How the program ends: what is told on standard error.
+-- How the program ends: what is shown on standard error.
 use Rattle.std.specs.Prelude.{ℕ, ◌≡◌, List, [], ◌∷◌, ◌++◌, Bool, true, false, codes}
 use Rattle.vvmm_files.specs.Answers.{text_of}
 use Rattle.vvmm_files.specs.declared.status.Status.{Status}

@@ -1,5 +1,5 @@
--- Which files may be devices. What the system tells of a name is that of stat(2): kind, device and inode number, number of
--- links, length.
+-- Which files may be devices. What the system says of a name is that of stat(2): kind, device and inode number, number of links,
+-- length.
 use Rattle.std.specs.Prelude.{ℕ, List, Bool, true, false, ◌==◌, ◌&&◌, not, if◌then◌else◌, Option, Some, None}
 use Rattle.std.specs.List.{list_any}
 use Rattle.vv_edge.specs.declared.stat.Found.{Found}

@@ -1,4 +1,4 @@
--- What people at a terminal are told beside an answer: what to do about it.
+-- What people at a terminal are shown beside an answer: what to do about it.
 use Rattle.std.specs.Prelude.{ℕ, List, [], ◌∷◌, ◌++◌, ◌==◌, if◌then◌else◌, codes}
 use Rattle.sys_script.specs.declared.event.ScriptKind.{ScriptKind}
 use Rattle.sys_script.specs.declared.event.ScriptKind.TheVariants as script
@@ -65,7 +65,7 @@ abbrev pub line_if : List ℕ → List ℕ → List ℕ
 line_if before [] = []
 line_if before (byte ∷ bytes) = ((codes "vvmm: " ++ before) ++ byte ∷ bytes) ++ 10 ∷ []
 
--- all that is told of an answer beside its text
+-- all that is shown of an answer beside its text
 abbrev pub hint_of : Status → Told → List ℕ
 hint_of answers.Words told = HELP.now
 hint_of answers.ShelfFault told = line_if (codes "this file cannot be read, or is a drive: ") told.unread

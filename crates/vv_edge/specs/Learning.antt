@@ -1,4 +1,4 @@
--- What a file tells about an answer.
+-- What a file says about an answer.
 use Rattle.std.specs.Prelude.{ℕ, ◌-◌, min, List, [], length, map, take, slice_index_or, nat_le, nat_lt, ◌&&◌, if◌then◌else◌, Option, Some, None, option_map, Result, Ok, Err, slice_get}
 use Rattle.std.specs.Str.Lines.{lines}
 use Rattle.sys_objects.specs.declared.errors.ConfigFault.{ConfigFault}
@@ -9,7 +9,7 @@ use Rattle.vv_edge.specs.declared.telling.Note.TheVariants.{Wanted}
 use Rattle.vvmm_files.specs.declared.status.Status.{Status}
 use Rattle.vvmm_files.specs.declared.status.Status.TheVariants.{Script, Audit, Asm, VolumeSize, Device}
 
--- the place among the words of the file that tells more about an answer, if one does
+-- the place among the words of the file that says more about an answer, if one does
 abbrev pub told_word : Status → Option ℕ
 told_word (Script fault) = Some 2
 told_word (Audit fault) = Some 2

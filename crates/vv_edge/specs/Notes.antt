@@ -1,4 +1,4 @@
--- What is told of devices beside an answer.
+-- What is reported of devices beside an answer.
 use Rattle.std.specs.Prelude.{ℕ, List, [], ◌∷◌, ◌++◌, ◌==◌, Bool, true, false, if◌then◌else◌, codes, decimal, Option, Some, None}
 use Rattle.std.specs.List.{flat_map}
 use Rattle.vv_edge.specs.declared.stat.Flaw.{Flaw}

@@ -8,7 +8,7 @@ use vv_base::Text;
 use vv_io::Sink;
 use vvmm_files::{Status, status_code, status_text};
 
-/// What is told of an end.
+/// The text of an end.
 type End = Text<8448>;
 
 /// The line on an answer.
@@ -26,7 +26,7 @@ fn report(status: &Status) -> End
     text
 }
 
-/// What is told of an answer: its line, and on a terminal what to do about it.
+/// The text of an answer: its line, and on a terminal what to do about it.
 fn end_text(is_terminal: bool, status: &Status, told: &Told) -> End
     ensures { result ≡ end_text is_terminal status.now told.now }
 {
@@ -47,7 +47,7 @@ fn tell<E: Sink>(bytes: &[u8], errors: &mut E)
     let _ = put_once(errors, bytes);
 }
 
-/// Tells on `errors` how the program ends, all in one put, and gives its exit code. A fault of `errors` changes nothing.
+/// Shows on `errors` how the program ends, all in one put, and gives its exit code. A fault of `errors` changes nothing.
 pub fn conclude<E: Sink>(status: &Status, told: &Told, is_terminal: bool, errors: &mut E) -> u8
     ensures code { result ≡ code_of status.now }
     ensures tells { PutsIfAny (end_text is_terminal status.now told.now) (E.printed errors.old) (E.printed errors.new) }

@@ -41,7 +41,7 @@ impl Failures {
         Failures { drive, notes }
     }
 
-    /// Notes that the drive failed after so many of its blocks were stored.
+    /// Notes that the drive failed after `stored` of its blocks were stored.
     fn note(&self, stored: u32, blocks: u32) {
         let mut notes = self.notes.get();
         if let Some(place) = notes.get_mut(usize::from(self.drive)) {

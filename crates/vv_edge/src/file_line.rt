@@ -27,7 +27,7 @@ pub struct FileLine<R: Files + Drop> {
 }
 
 impl<R: Files + Drop> FileLine<R> {
-    /// A line that has shown nothing, and looks at no file before its first put.
+    /// A line that has shown nothing, and opens no file before its first put.
     pub fn new(files: R, path: String) -> Self {
         FileLine {
             files,
@@ -114,7 +114,7 @@ impl<R: Files + Drop> FileLine<R> {
     }
 }
 
-/// That a line's file has what was shown, as far as its length tells.
+/// That a line's file has what was shown, as far as its length shows.
 fn check_shown(found: &Found, shown: u64) -> io::Result<()> {
     if is_as_shown(found, shown) {
         Ok(())

@@ -40,7 +40,7 @@ impl<'a, R: Files> FileShelf<'a, R> {
         self.unread.copied()
     }
 
-    /// The bytes of a plain file, for what is told of it.
+    /// The bytes of a plain file, for a hint about it.
     pub fn look_into(&self, alloc: Global, path: &str) -> Option<Vec<u8>> {
         let metadata = fs::metadata(self.files, path).ok()?;
         if !metadata.is_file() {

@@ -163,7 +163,7 @@ fn unfit(told: &Told) -> Text<8192>
     text
 }
 
-/// All that is told of an answer beside its text.
+/// All that is shown of an answer beside its text.
 pub fn hint(status: &Status, told: &Told) -> Text<8192>
     ensures { result ≡ hint_of status.now told.now }
 {

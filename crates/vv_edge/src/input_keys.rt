@@ -5,7 +5,7 @@ use std::io;
 use std::io::{BufRead, ErrorKind, Read};
 use vv_io::{KeyFault, KeyLine, Keyboard};
 
-/// At most so many bytes are read of one line.
+/// How many bytes are read of one line at most.
 const MOST: u32 = u32::MAX;
 
 /// Standard input as a keyboard. It is read when a line is asked for, and not before.

@@ -9,7 +9,7 @@ use vasm::first_line;
 use vv_base::{NoMemory, Text};
 use vvmm_files::Status;
 
-/// The place among the words of the file that tells more about an answer, if one does.
+/// The place among the words of the file that says more about an answer, if one does.
 pub fn told_word(status: &Status) -> Option<usize>
     ensures { result ≡ told_word status.now }
 {

@@ -1,6 +1,7 @@
-//! The edge of the program: its files and standard streams, which are trusted, and what is decided about them and about its call as
-//! functions of values: what an open that fails means, which files may be devices, texts that words alone ask for, how the program
-//! ends, and what people at a terminal are told of that. The objects tell no content; each counts its faults.
+//! The program's files and standard streams, and what is decided about them and about its end. The objects over files are
+//! trusted: contracts say nothing of their content, and each counts its faults. Functions of values decide what an open that
+//! fails means, which files may be devices, which texts words alone ask for, how the program ends, and what it shows people at a
+//! terminal.
 #![tactic(auto)]
 
 mod asked;

@@ -33,7 +33,7 @@ impl Streams {
         }
     }
 
-    /// Tells people at a terminal something before the answer.
+    /// Shows people at a terminal something before the answer.
     fn note(&mut self, text: &[u8]) {
         if self.is_terminal {
             let _ = self.errors.put(text);
@@ -72,8 +72,8 @@ pub struct Opening {
 }
 
 impl Opening {
-    /// Holds the folder, and a place for each of so many lines and drives; nothing, where there are none. None where another program
-    /// has the folder, or the system refuses a place; people at a terminal are told why.
+    /// Holds the folder, and a place for each of `count` lines and drives; nothing, where there are none. None where another
+    /// program has the folder, or the system refuses a place; people at a terminal are shown why.
     pub fn begin(
         rt: &HostRuntime,
         words: &[String],

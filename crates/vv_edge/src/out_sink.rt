@@ -7,7 +7,7 @@ use vv_io::{Sink, SinkFault};
 #[derive(Drop)]
 pub struct OutSink<P: Print + Drop> {
     stream: P,
-    /// Which file it is, where the system tells.
+    /// Which file it is, where the system says so.
     identity: Option<Identity>,
     is_shut: bool,
     faults: u64,
@@ -34,7 +34,7 @@ impl<P: Print + Drop> OutSink<P> {
         }
     }
 
-    /// Which file it is, where the system tells.
+    /// Which file it is, where the system says so.
     pub fn identity(&self) -> Option<Identity> {
         self.identity
     }

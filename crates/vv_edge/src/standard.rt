@@ -20,7 +20,7 @@ pub fn hold_standard(files: &impl Files<File = File>) -> io::Result<[Option<File
     Ok(held)
 }
 
-/// Opens `/dev/null` so many times: a line or a drive gives one up as it opens its file, so that none uses up another's. One more
+/// Opens `/dev/null` `count` times: a line or a drive gives one up as it opens its file, so that none uses up another's. One more
 /// can be had meanwhile, for a file that is open for a moment. None where the system refuses that.
 pub fn hold_places(rt: &HostRuntime, count: u8) -> Result<Option<Vec<File>>, NoMemory> {
     let mut places = Vec::new(rt.alloc());
@@ -50,7 +50,7 @@ pub enum Folder {
 }
 
 impl Folder {
-    /// What people at a terminal are told.
+    /// What people at a terminal are shown.
     pub fn note(&self) -> &'static [u8] {
         match self {
             Folder::Busy => b"vvmm: another vvmm runs in this folder\n",

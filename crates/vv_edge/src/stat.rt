@@ -25,7 +25,7 @@ pub struct Identity {
     pub number: u64,
 }
 
-/// What the system tells of a name, or of an open file.
+/// What the system says of a name, or of an open file.
 #[derive(Clone, Copy, Debug, PartialEq, Eq)]
 pub struct Found {
     pub kind: Kind,
@@ -39,7 +39,7 @@ pub struct Found {
 /// Why a file can't be a drive.
 #[derive(Clone, Copy, Debug, PartialEq, Eq)]
 pub enum Flaw {
-    /// The system doesn't tell what is under its name.
+    /// The system doesn't say what is under its name.
     Untold,
     /// It is a symbolic link.
     Link,
@@ -91,7 +91,7 @@ pub fn flaw_of(found: &Found, taken: &[Identity]) -> Option<Flaw>
     }
 }
 
-/// How many whole blocks of 512 bytes so many bytes have, as far as 32 bits hold it.
+/// How many whole blocks of 512 bytes `length` bytes have, as far as 32 bits hold it.
 pub fn blocks_in(length: u64) -> u32
     ensures { result ≡ min (length / 512) (2 ^ 32 - 1) }
 {

@@ -12,12 +12,12 @@ pub struct Stored {
     pub blocks: u32,
 }
 
-/// What is told of a device beside an answer.
+/// What is reported of a device beside an answer.
 #[derive(Clone, Copy, Debug, PartialEq, Eq)]
 pub enum Note {
     /// A drive can't be used.
     Flawed(u8, Flaw),
-    /// A drive must have so many blocks.
+    /// A drive must have this number of blocks.
     Wanted(u8, u32),
     /// A line failed.
     Line(u8),

@@ -3,22 +3,22 @@ use std::time::Instant;
 use vv_base::{Text, decimal};
 use vv_io::{Progress, Sink};
 
-/// A run that takes so many seconds is told about.
+/// A run is reported on after this many seconds.
 const PATIENCE: u64 = 2;
 
-/// Tells people at a terminal how many rounds of a run were made, once it takes longer than two seconds: about a hundred times,
-/// each time over what was told before. A fault of the terminal or of the clock changes nothing.
+/// Shows people at a terminal how many rounds of a run were made, once it takes longer than two seconds: about a hundred times,
+/// each time over what was shown before. A fault of the terminal or of the clock changes nothing.
 #[derive(Drop)]
 pub struct Ticker<'a, O: Sink, C: Clock> {
     out: &'a mut O,
     clock: &'a C,
-    /// When it began; none where nothing is told.
+    /// When it began; none where nothing is shown.
     began: Option<Instant>,
     has_told: bool,
 }
 
 impl<'a, O: Sink, C: Clock> Ticker<'a, O, C> {
-    /// A ticker that begins now, and tells on `out` where that is a terminal.
+    /// A ticker that begins now, and shows on `out` where that is a terminal.
     pub fn new(out: &'a mut O, is_terminal: bool, clock: &'a C) -> Self {
         let began = if is_terminal {
             Instant::now(clock).ok()
@@ -44,12 +44,12 @@ impl<'a, O: Sink, C: Clock> Ticker<'a, O, C> {
     }
 }
 
-/// Whether so many rounds are at the end of a hundredth of all, or at the end.
+/// Whether `rounds` rounds are at the end of a hundredth of all, or at the end.
 fn is_mark(rounds: u32, of: u32) -> bool {
     rounds % (of / 100).max(1) == 0 || rounds == of
 }
 
-/// What is told of so many rounds.
+/// What is shown after `rounds` rounds.
 fn note(rounds: u32, of: u32) -> Text<64> {
     let mut text = Text::new();
     let _ = text.push_all(b"\rvvmm: round ");

@@ -16,7 +16,7 @@ typed_of digit which =
     if which == 1 then Line (codes "SHOW") else
     if which == 2 then Line (mount_text digit) else Line (codes "HELLO")
 
--- the first draw tells the terminal, the second what is typed
+-- the first draw gives the terminal, the second what is typed
 abbrev pub event_of : ℕ → (ℕ → ℕ) → Event
 event_of round draws = record { round = round; terminal = with_digit (codes "T") (draws 0 % 8); what = typed_of (draws 0 % 8) (draws 1 % 4) }
 

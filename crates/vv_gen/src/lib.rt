@@ -1,5 +1,5 @@
-//! The generated workload: eight guests with a terminal, a printer and a volume each, a volume that all read, and
-//! what is typed in twenty rounds, all drawn from one number.
+//! The workload of `load`, drawn from one number: eight guests, their volumes, and what is typed. Each guest has a terminal, a
+//! printer and a volume; all read one more volume. Lines are typed in twenty rounds.
 #![tactic(auto)]
 
 mod config;

@@ -6,7 +6,7 @@ use Rattle.std.specs.declared.result.Result.{Result}
 use Rattle.std.specs.declared.result.Result.TheVariants.{Ok, Err}
 use Rattle.vv_io.specs.Causes.{HasCause}
 
--- A drive as the outside knows it: its number of blocks, the blocks, where it tells them, and its count of faults.
+-- A drive as the outside knows it: its number of blocks, the blocks, where they are known, and its count of faults.
 pub record SeenDrive : Type 0 where
   pub size : ℕ
   pub blocks : Option (List (List ℕ))
@@ -16,21 +16,21 @@ pub record SeenDrive : Type 0 where
 abbrev pub unkept : SeenDrive
 unkept = record { size = 0; blocks = None; faults = 0 }
 
--- the blocks that are told are so many
+-- there are `size` blocks, where they are known
 abbrev pub AreSoMany : ℕ → Option (List (List ℕ)) → Type 0
 AreSoMany size None = Unit {0}
 AreSoMany size (Some blocks) = length blocks ≡ size
 
--- the blocks that are told are as many as the drive has
+-- there are as many blocks as the drive has, where they are known
 abbrev pub IsSized : SeenDrive → Type 0
 IsSized drive = AreSoMany drive.size drive.blocks
 
--- bytes are as many as those of the block that they replace, where blocks are told
+-- bytes are as many as those of the block that they replace, where blocks are known
 abbrev pub IsAsLong : Option (List (List ℕ)) → ℕ → List ℕ → Type 0
 IsAsLong None block bytes = Unit {0}
 IsAsLong (Some blocks) block bytes = length bytes ≡ length (slice_index_or blocks block [])
 
--- the bytes that a get puts into its buffer: the block's, where the blocks are told, and none where it failed
+-- the bytes that a get puts into its buffer: the block's, where the blocks are known, and none where it failed
 abbrev pub ReadsBlock : {U E : Type 0} → Option (List (List ℕ)) → ℕ → List ℕ → List ℕ → Result U E → Type 0
 ReadsBlock None block before after (Ok _) = Unit {0}
 ReadsBlock (Some blocks) block before after (Ok _) = after ≡ slice_index_or blocks block []

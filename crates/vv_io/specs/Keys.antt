@@ -6,12 +6,12 @@ use Rattle.std.specs.declared.result.Result.{Result}
 use Rattle.std.specs.declared.result.Result.TheVariants.{Ok, Err}
 use Rattle.vv_io.specs.Causes.{HasCause}
 
--- A keyboard as the outside knows it: the lines that are still to come, where it tells them, and its count of faults.
+-- A keyboard as the outside knows it: the lines that are still to come, where they are known, and its count of faults.
 pub record Keys : Type 0 where
   pub coming : Option (List (List ℕ))
   pub faults : ℕ
 
--- so many bytes of a line are given at most; of a longer one these are its first
+-- the first 1,024 bytes of a line are given, or all of a shorter one
 abbrev pub given_of : List ℕ → List ℕ
 given_of line = take 1024 line
 
@@ -34,7 +34,7 @@ abbrev pub Took : List (List ℕ) → Option (List (List ℕ)) → Option (List 
 Took lines None after = after ≡ None
 Took lines (Some coming) after = (first : List (List ℕ)) × (rest : List (List ℕ)) × (coming ≡ first ++ rest) × (lines ≡ map given_of first) × (after ≡ Some rest)
 
--- no more lines come, where that is told
+-- no more lines come, where it is known which come
 abbrev pub IsOut : Option (List (List ℕ)) → Type 0
 IsOut None = Unit {0}
 IsOut (Some coming) = coming ≡ []

@@ -6,7 +6,7 @@ use Rattle.std.specs.declared.result.Result.{Result}
 use Rattle.std.specs.declared.result.Result.TheVariants.{Ok, Err}
 use Rattle.vv_io.specs.Causes.{HasCause}
 
--- A line as the outside knows it: the bytes shown, where it tells them, and its count of faults.
+-- A line as the outside knows it: the bytes shown, where they are known, and its count of faults.
 pub record Seen : Type 0 where
   pub shown : Option (List ℕ)
   pub faults : ℕ
@@ -15,7 +15,7 @@ pub record Seen : Type 0 where
 abbrev pub unseen : Seen
 unseen = record { shown = None; faults = 0 }
 
--- these bytes after what was shown; where nothing is told, nothing is told afterwards
+-- these bytes after what was shown; where nothing is known, nothing is known afterwards
 abbrev pub shown_after : Option (List ℕ) → List ℕ → Option (List ℕ)
 shown_after None bytes = None
 shown_after (Some shown) bytes = Some (shown ++ bytes)
@@ -43,13 +43,13 @@ pub record Syncs {U E : Type 0} (before after : Seen) (result : Result U E) : Ty
 abbrev pub SyncsOn : {U E : Type 0} → ℕ → List Seen → List Seen → Result U E → Type 0
 SyncsOn k before after result = (line : Seen) × (after ≡ slice_set before k line) × Syncs (slice_index_or before k unseen) line result
 
--- how many bytes were shown, where they are told
+-- how many bytes were shown, where they are known
 abbrev pub Counts : Option (List ℕ) → ℕ → Type 0
 Counts None count = Unit {0}
 Counts (Some shown) count = count ≡ min (length shown) (2 ^ 64 - 1)
 
--- What is read back of what was shown, from a place on: the first `n` of a buffer's bytes, which are those from there on, at
--- most 512. Where nothing is told they may be any.
+-- What is read back of what was shown, from a place on: the first `n` of a buffer's bytes, which are those from there on, at most
+-- 512. Where nothing is known they may be any.
 abbrev pub ReadsBack : Option (List ℕ) → ℕ → List ℕ → ℕ → Type 0
 ReadsBack None place into n = n ≤ 512
 ReadsBack (Some shown) place into n = (n ≤ 512) × (take n into ≡ take 512 (drop place shown))

@@ -15,7 +15,7 @@ use Rattle.vv_io.specs.declared.cut.Cut.{Cut}
 use Rattle.vv_io.specs.declared.shelf.ShelfFault.{ShelfFault}
 use Rattle.vv_io.specs.declared.shelf.ShelfFault.TheVariants.{Missing, TooLong, Failed, NoMemory}
 
--- the call after so many is one that a list names
+-- a list names the number of the next call, after `calls` calls
 abbrev pub is_next_named : List ℕ → ℕ → Bool
 is_next_named failing calls = list_any (λ number. number == saturated_successor calls) failing
 

@@ -7,8 +7,7 @@ pub struct DriveFault;
 
 /// A drive of blocks of 512 bytes.
 pub trait Drive: Drop {
-    /// Its number of blocks, which never changes, the blocks, where it tells them, and how often it has
-    /// failed.
+    /// Its number of blocks, which never changes, the blocks, where they are known, and how often it has failed.
     ghost kept: { Self → SeenDrive };
 
     /// The number of blocks.

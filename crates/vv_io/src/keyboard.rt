@@ -9,9 +9,9 @@ pub struct KeyFault;
 /// A line as a keyboard gives it, without its end: at most 1,024 bytes.
 pub type KeyLine = Text<1024>;
 
-/// Where someone types line by line.
+/// A keyboard, at which lines are typed.
 pub trait Keyboard {
-    /// The lines that are still to come, where it tells them, and how often it has failed.
+    /// The lines that are still to come, where they are known, and how often it has failed.
     ghost keys: { Self → Keys };
 
     /// The next line, or its first 1,024 bytes where it has more; none where no more come. After a fault no line is gone.

@@ -5,7 +5,7 @@ use crate::LineFault;
 
 /// The 32 lines to the outside, by their numbers.
 pub trait Lines: Drop {
-    /// What each of them has shown, where it tells that, and how often it has failed.
+    /// What each of them has shown, where that is known, and how often it has failed.
     ghost lines: { Self → List Seen };
 
     /// Puts bytes on a line; all others stay.
@@ -13,12 +13,12 @@ pub trait Lines: Drop {
         requires { line < 32 }
         ensures { PutsOn line (lines self.old) (lines self.new) bytes.now result };
 
-    /// How many bytes a line has shown, where it tells them.
+    /// How many bytes a line has shown, where they are known.
     fn shown_len_of(&self, line: u8) -> u64
         requires { line < 32 }
         ensures { Counts (slice_index_or (lines self.now) line unseen).shown result };
 
-    /// Reads back what a line has shown, from a place on, and tells how many bytes are in `into`; all lines stay.
+    /// Reads back what a line has shown, from a place on, and answers how many bytes are in `into`; all lines stay.
     fn read_back_from(&mut self, line: u8, place: u64, into: &mut [u8; 512]) -> usize
         requires { line < 32 }
         ensures stays { lines self.new ≡ lines self.old }

@@ -1,10 +1,10 @@
-/// Who is told how far a run is. What is told changes nothing in the run: it answers nothing, and has no part in any contract.
+/// Shows how far a run is. That changes nothing in the run: it answers nothing, and has no part in any contract.
 pub trait Progress {
-    /// So many of these rounds were made.
+    /// Of a run's `of` rounds, `rounds` were made.
     fn made(&mut self, rounds: u32, of: u32);
 }
 
-/// Nobody is told.
+/// Shows nothing.
 #[derive(Clone, Copy, Debug, PartialEq, Eq)]
 pub struct NoProgress;
 

@@ -46,7 +46,7 @@ fn places_of(devices: Devices) -> u8 {
     }
 }
 
-/// What people at a terminal are told beside an answer.
+/// What people at a terminal are shown beside an answer.
 fn told_of(
     alloc: Global,
     words: &[String],

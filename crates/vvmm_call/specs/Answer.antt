@@ -50,8 +50,8 @@ use Rattle.vvmm_files.specs.declared.status.Status.TheVariants.{Done, Words, Mis
 use Rattle.vvmm_files.specs.declared.stop.Stop.{Stop}
 use Rattle.vvmm_files.specs.declared.stop.Stop.TheVariants as stops
 
--- The outside before and after the call: what the shelf holds, where it tells, and its count of faults; the machine;
--- the lines, the drives, and where the summary is put.
+-- The outside before and after the call: the shelf's files, where they are known, and its count of faults; the machine; the
+-- lines, the drives, and the sink `out`.
 pub record Outside : Type 0 where
   pub files : Option (List File)
   pub shelf : ℕ
@@ -65,20 +65,20 @@ pub record Outside : Type 0 where
   pub out : Seen
   pub out' : Seen
 
--- what a run touches of it
+-- the outside of a run: the machine, the lines and the drives
 abbrev pub run_outside : Outside → RunOutside
 run_outside o = record { machine = o.machine; machine' = o.machine'; lines = o.lines; lines' = o.lines'; drives = o.drives; drives' = o.drives' }
 
--- the shelf and where things are shown
+-- the shelf and the sink
 abbrev pub shelf_and_sink : Outside → ShelfAndSink
 shelf_and_sink o = record { files = o.files; shelf = o.shelf; shelf' = o.shelf'; out = o.out; out' = o.out' }
 
--- no line and no `out` got a put, no drive was touched, and the machine's counts are as before
+-- the lines, the drives and `out` are as before, and so are the machine's counts
 pub record Silent (o : Outside) : Type 0 where
   pub run : Untouched (run_outside o)
   pub out : o.out' ≡ o.out
 
--- no line and no drive was touched, and the machine is as before
+-- the lines, the drives and the machine are as before
 pub record Apart (o : Outside) : Type 0 where
   pub lines : o.lines' ≡ o.lines
   pub drives : o.drives' ≡ o.drives
@@ -101,13 +101,13 @@ power_status (faults.VolumeSize volume) = VolumeSize volume
 power_status (faults.DriveIn drive) = DriveIn drive
 power_status faults.NoMemory = NoMemory
 
--- The answer where all was done: a device that failed is told first, then a sink that cut what was put.
+-- The answer where all was done: a device that failed goes first, then a sink that cut what was put.
 abbrev pub status_when_done : Option Device → Bool → Status
 status_when_done (Some device) cut = DeviceFault device
 status_when_done None true = OutFault
 status_when_done None false = Done
 
--- `out` is shown bytes, whole or cut, and the answer tells a device that failed before, or the cut
+-- `out` is shown bytes, whole or cut, and the answer names a device that failed before, or else says whether they are cut
 pub record EndsWithPut (failed : Option Device) (bytes : List ℕ) (status : Status) (out out' : Seen) : Type 0 where
   pub cut : Bool
   pub is : status ≡ status_when_done failed cut
@@ -124,19 +124,19 @@ abbrev pub AnswersRun : ℕ → Result Ran PowerFault → Status → Seen → Se
 AnswersRun rounds (Err fault) status out out' = (status ≡ power_status fault) × (out' ≡ out)
 AnswersRun rounds (Ok ran) status out out' = EndsWithPut ran.failed (summary rounds (tally_of ran.counts)) status out out'
 
--- A run of this configuration, of these images and events is to be made: power is brought up, and so on.
+-- A run of this configuration, of these images and events, and its answer.
 pub record PlaysConfiguration (c : Config) (images : List (List ℕ)) (es : List Event) (rounds : ℕ) (status : Status) (o : RunOutside) (out out' : Seen) : Type 0 where
   pub result : Result Ran PowerFault
   pub runs : Runs c images es rounds result o
   pub answers : AnswersRun rounds result status out out'
 
--- Each device gets the bytes that it gets when all whose class doesn't flow into its own was never there, and so does each
--- volume.
+-- Each device's line gets the bytes that it gets when all whose class doesn't flow into its own was never there, and each
+-- volume's drive the blocks.
 pub record IsSeparate (x : Input) : Type 0 where
   pub lines : All (λ d. line_bytes (purged x d.class) d.line ≡ line_bytes x d.line) (devices_of x.config)
   pub drives : All (λ v. drive_blocks (purged x v.class) v.drive ≡ drive_blocks x v.drive) x.config.volumes
 
--- `solo`: the image was fetched, and the guest A runs; no drive is touched
+-- `solo`: the image was fetched, and the guest A runs; the drives are as before
 pub record PlaysSolo (a : Asked) (status : Status) (o : Outside) : Type 0 where
   pub image : List ℕ
   pub read : IsRead o.files a.image image
@@ -220,8 +220,8 @@ pub record PlaysResume (a : ResumeAsked) (status : Status) (o : Outside) : Type 
 abbrev pub FollowsResume : ResumeAsked → Status → Outside → Type 0
 FollowsResume a status o = (Stops (StopsResume o.files a o.shelf o.shelf') status × Silent o) ⊎ PlaysResume a status o
 
--- the answer where all was done: a device that failed is told first, then what is cut, then that the typing broke off, or that memory
--- ran out for a typed line
+-- the answer where all was done: a device that failed goes first, then what is cut, then that the typing broke off, or that
+-- memory ran out for a typed line
 abbrev pub live_status : Option Device → Bool → Typing → Status
 live_status (Some device) cut typing = DeviceFault device
 live_status None true typing = OutFault
@@ -278,13 +278,13 @@ FollowsConfig Bytes name status o = (Stops (StopsConfig o.files name o.shelf o.s
 abbrev pub workload_input : Generated → Input
 workload_input w = record { config = w.config; images = w.images; volumes = w.volumes; events = w.events; rounds = w.rounds }
 
--- `load`: the run of a workload was made, no drive was touched, and its summary is put
+-- `load`: the run of a workload was made, over its own volumes, and its summary is put
 pub record PlaysLoad (w : Generated) (status : Status) (o : RunOutside) (out out' : Seen) : Type 0 where
   pub ran : Ran
   pub made : MakesWith (workload_input w) ran o
   pub closes : EndsWithPut ran.failed (summary w.rounds (tally_of ran.counts)) status out out'
 
--- it is the workload of the number; or memory ran out before the first round
+-- it is the workload of the number; or memory ran out, and the lines, the drives, `out` and the machine's counts are as before
 abbrev pub FollowsLoad : ℕ → Status → RunOutside → Seen → Seen → Type 0
 FollowsLoad number status o out out' = ((status ≡ NoMemory) × Untouched o × (out' ≡ out)) ⊎ PlaysLoad (workload_of number) status o out out'
 
@@ -301,7 +301,7 @@ pub record IsMigrated (c : Config) (bytes : List ℕ) : Type 0 where
 abbrev pub IsDrawing : Config → List ℕ → Type 0
 IsDrawing c bytes = bytes ≡ drawing_of c
 
--- how a check is answered: what was recorded is accepted, and that is put; or the line is told
+-- how a check is answered: what was recorded is accepted, and that is put; or the answer names the line
 abbrev pub AnswersCheck : Result (Unit {0}) AuditFault → Status → Seen → Seen → Type 0
 AnswersCheck (Ok _) status out out' = EndsWithPut None (codes "accepted\n") status out out'
 AnswersCheck (Err fault) status out out' = (status ≡ Audit fault) × (out' ≡ out)
@@ -330,11 +330,11 @@ status_of name (answers.Asm f) = Asm f
 status_of name answers.OutFault = OutFault
 status_of name answers.NoMemory = NoMemory
 
--- what an answer to a command that shows what a file stands for says, where `made` tells that, or the line that is refused
+-- what an answer to a command that shows what a file stands for says, where `made` gives that, or the line that is refused
 abbrev pub ShowsFile : (List ℕ → Result (List ℕ) AsmFault) → List ℕ → Status → Outside → Type 0
 ShowsFile made name status o = (answer : Answer) × (status ≡ status_of name answer) × FollowsFile made name answer (shelf_and_sink o) × Apart o
 
--- what an answer says, given what the words ask for; only `live` has anything typed
+-- what an answer says, given what the words ask for; only `live` takes typed lines
 abbrev pub Says : Option Wanted → Status → Outside → Operator → Type 0
 Says None status o p = (status ≡ Words) × Apart o × (o.out' ≡ o.out) × Untyped p
 Says (Some (WantsSolo a)) status o p = FollowsSolo a status o × Untyped p

@@ -12,14 +12,15 @@ use Rattle.sys_system.specs.Devices.{device_of}
 use Rattle.sys_devices.specs.declared.device.Device.{Device}
 use Rattle.sys_devices.specs.declared.device.Device.TheVariants as devices
 
--- which of two devices that failed is told: a line before a drive, and the lowest number
+-- which of two devices that failed the answer has: a line before a drive, and the lowest number
 abbrev pub lower : Device → Device → Device
 lower (devices.Line a) (devices.Line b) = devices.Line (min a b)
 lower (devices.Line a) (devices.Drive b) = devices.Line a
 lower (devices.Drive a) (devices.Line b) = devices.Line b
 lower (devices.Drive a) (devices.Drive b) = devices.Drive (min a b)
 
--- A device that fails in the sync is told where all was done; no other answer changes.
+-- The answer after the sync: a device that failed in it goes before an answer that all was done, or that output or typing failed.
+-- Of two devices that failed the answer has the lower; no other answer changes.
 abbrev pub synced_status : Status → Option Device → Status
 synced_status Done (Some device) = DeviceFault device
 synced_status OutFault (Some device) = DeviceFault device

@@ -16,7 +16,7 @@ trailer text trail = text ++ codes " trail " ++ hex_text 16 trail ++ 10 ∷ []
 abbrev pub all_steps : Tally → ℕ
 all_steps t = t.plain + t.sensitive + t.faults + t.interrupts + t.modify + t.idle + t.stopped
 
--- the summary of a run of so many rounds
+-- the summary of a run of a number of rounds
 abbrev pub summary : ℕ → Tally → List ℕ
 summary rounds t =
     let a = with_summary_field [] (codes "rounds ") rounds in

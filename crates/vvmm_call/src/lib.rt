@@ -1,5 +1,5 @@
-//! The commands of the program, over any machine, files, lines and drives: the call that does what the words say, and the call with
-//! the sync of its devices after it.
+//! The public call `vvmm_run`, which does what the words say, and the sync of its devices. It serves any machine, files, lines
+//! and drives.
 #![tactic(auto)]
 
 mod devices;

@@ -10,7 +10,8 @@ use vv_gen::workload;
 use vv_io::{Lines, Progress, Sink};
 use vvmm_files::Status;
 
-/// `load`: makes the run of the workload that is drawn from a number, over its own volumes, and tells it. Drives stay as they are.
+/// `load`: makes the run of the workload that is drawn from a number, over its own volumes, and puts its summary. Drives stay as
+/// they are.
 pub fn load<H: Hardware, O: Sink, P: Progress, L: Lines>(
     alloc: Global,
     number: u32,

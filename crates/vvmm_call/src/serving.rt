@@ -23,7 +23,7 @@ fn device_of(line: Option<u8>, drive: Option<u8>) -> Option<Device>
     }
 }
 
-/// The one that is told of two devices that failed: a line before a drive, and the lowest number.
+/// Which of two devices that failed is answered: a line before a drive, and the lowest number.
 fn lower(a: Device, b: Device) -> Device
     ensures { result ≡ lower a b }
 {
@@ -48,7 +48,7 @@ fn synced_status(answer: Status, failed: Option<Device>) -> Status
     }
 }
 
-/// Does what the words say, and then syncs all lines and drives; a device that fails in that is told as one that failed.
+/// Does what the words say, and then syncs all lines and drives; a device that fails in that is answered as one that failed.
 pub fn serve<H: Hardware, S: Shelf, O: Sink, K: Keyboard, E: Sink, P: Progress, L: Lines>(
     alloc: Global,
     words: &[String],

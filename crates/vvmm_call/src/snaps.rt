@@ -58,7 +58,7 @@ pub fn save<H: Hardware, S: Shelf, O: Sink, P: Progress, L: Lines>(
     saved_status(saved)
 }
 
-/// `resume`: fetches a snapshot and the script, goes on with the rounds from there, and tells them as `run` does.
+/// `resume`: fetches a snapshot and the script, goes on with the rounds from there, and puts their summary as `run` does.
 pub fn resume<H: Hardware, S: Shelf, O: Sink, P: Progress, L: Lines>(
     alloc: Global,
     order: ResumeOrder,

@@ -23,7 +23,7 @@ use vvmm_files::{
     fetch_run, list, parse, solo_inputs,
 };
 
-/// `solo`: fetches the image, makes its run and tells it.
+/// `solo`: fetches the image, makes its run and puts its summary.
 fn solo<H: Hardware, S: Shelf, O: Sink, L: Lines>(
     alloc: Global,
     order: Order,
@@ -55,7 +55,7 @@ fn solo<H: Hardware, S: Shelf, O: Sink, L: Lines>(
     }
 }
 
-/// `run`: fetches the configuration, the script and the images, makes their run and tells it.
+/// `run`: fetches the configuration, the script and the images, makes their run and puts its summary.
 fn run<H: Hardware, S: Shelf, O: Sink, P: Progress, L: Lines>(
     alloc: Global,
     order: RunOrder,
@@ -138,7 +138,7 @@ fn draw<S: Shelf, O: Sink>(alloc: Global, name: &FileName, shelf: &mut S, out: &
     }
 }
 
-/// `audit`: shows that what was recorded is an audit of the configuration, or tells the first line through which it isn't.
+/// `audit`: shows that what was recorded is an audit of the configuration, or answers the first line through which it isn't.
 fn audit<S: Shelf, O: Sink>(alloc: Global, order: &AuditOrder, shelf: &mut S, out: &mut O) -> Status
     ensures { FollowsAudit (record { config = order.now.config; recorded = order.now.recorded }) result (record { files = S.files shelf.old; shelf = S.faults shelf.old; shelf' = S.faults shelf.new; out = O.printed out.old; out' = O.printed out.new }) }
 {
@@ -167,9 +167,10 @@ fn status_of(name: FileName, answer: Answer) -> Status
     }
 }
 
-/// Does what the words say, over a shelf of files, a machine of 32,768 pages, 32 lines and 16 drives; the summary, or
-/// what a command shows of a file, is put on `out`. The machine's memory and counts may hold anything. Only `live` asks the keyboard
-/// for lines, and tells on `errors` which of them say no event. After each round of any other run it is told how many were made.
+/// Does what the words say, over a shelf of files, a machine of 32,768 pages, 32 lines and 16 drives; the summary, or what a
+/// command shows of a file, is put on `out`. The machine's memory and counts may hold anything. Only `live` asks the keyboard for
+/// lines, and reports on `errors` which of them say no event. After each round of any other run `progress` gets the number of
+/// rounds made.
 pub fn vvmm_run<H: Hardware, S: Shelf, O: Sink, K: Keyboard, E: Sink, P: Progress, L: Lines>(
     alloc: Global,
     words: &[String],

@@ -30,7 +30,7 @@ fn close_trace<O: Sink>(traced: &Traced, out: &mut O) -> Status
     )
 }
 
-/// `trace`: fetches the image, makes its run, shows the line of each step, and tells the run as `solo` does.
+/// `trace`: fetches the image, makes its run, shows the line of each step, and puts the summary as `solo` does.
 pub fn trace<H: Hardware, S: Shelf, O: Sink, L: Lines>(
     alloc: Global,
     order: Order,

@@ -7,7 +7,7 @@ use Rattle.vasm_text.specs.declared.fault.AsmFault.{AsmFault}
 use Rattle.vvmm_files.specs.declared.answer.Answer.{Answer}
 use Rattle.vvmm_files.specs.declared.answer.Answer.TheVariants.{Done, Missing, TooLong, ShelfFault, Asm, OutFault, NoMemory}
 
--- what the shelf holds, where it tells, its count of faults before and after, and the sink
+-- the shelf's files, where they are known, its count of faults before and after, and the sink
 pub record ShelfAndSink : Type 0 where
   pub files : Option (List File)
   pub shelf : ℕ
@@ -15,17 +15,17 @@ pub record ShelfAndSink : Type 0 where
   pub out : Seen
   pub out' : Seen
 
--- the shelf lacks the file; one that doesn't tell its files has failed
+-- the shelf lacks the file; where its files aren't known, its count of faults rose
 abbrev pub Lacks : Option (List File) → List ℕ → ℕ → ℕ → Type 0
 Lacks (Some files) name before now = held files name ≡ None
 Lacks None name before now = Rose before now
 
--- the shelf's file is too long; one that doesn't tell its files has failed
+-- the shelf's file is too long; where its files aren't known, its count of faults rose
 abbrev pub HasTooLong : Option (List File) → List ℕ → ℕ → ℕ → Type 0
 HasTooLong (Some files) name before now = (bytes : List ℕ) × (held files name ≡ Some bytes) × (file_limit < length bytes)
 HasTooLong None name before now = Rose before now
 
--- what the shelf holds of the name, where it tells
+-- what the shelf holds of the name, where that is known
 abbrev pub IsHeld : Option (List File) → List ℕ → List ℕ → Type 0
 IsHeld (Some files) name bytes = held files name ≡ Some bytes
 IsHeld None name bytes = Unit {0}
@@ -46,7 +46,7 @@ ShowsToSink _ out out' bytes = ⊥
 abbrev pub FetchesAndShows : (List ℕ → Result (List ℕ) AsmFault) → List ℕ → Answer → ShelfAndSink → Type 0
 FetchesAndShows made name answer o = (bytes : List ℕ) × (shown : List ℕ) × IsFetched o name bytes × (made bytes ≡ Ok shown) × ShowsToSink answer o.out o.out' shown
 
--- what an answer says, where `made` tells what a file stands for, or the line that is refused
+-- what an answer says, where `made` gives what a file stands for, or the line that is refused
 abbrev pub FollowsFile : (List ℕ → Result (List ℕ) AsmFault) → List ℕ → Answer → ShelfAndSink → Type 0
 FollowsFile made name Missing o = Lacks o.files name o.shelf o.shelf' × (o.out' ≡ o.out)
 FollowsFile made name TooLong o = HasTooLong o.files name o.shelf o.shelf' × (o.out' ≡ o.out)

@@ -126,7 +126,7 @@ wanted (command ∷ first ∷ second ∷ []) = two_wanted command first second
 wanted (command ∷ first ∷ script ∷ rounds ∷ []) = three_wanted command first script rounds
 wanted words = None
 
--- a request, as what is wanted
+-- what a request asks for
 abbrev pub wanted_by : Request → Wanted
 wanted_by (Solo order) = WantsSolo (record { image = order.image; steps = order.steps })
 wanted_by (Trace order) = WantsTrace (record { image = order.image; steps = order.steps })

@@ -102,8 +102,8 @@ pub struct Inputs {
     pub images: Vec<Vec<u8>>,
 }
 
-/// Fetches the configuration, the script, and the images in the order of the guests. What is fetched first is read first,
-/// and the first that fails is told.
+/// Fetches the configuration, the script, and the images in the order of the guests. What is fetched first is read first, and the
+/// first that fails is answered.
 pub fn fetch_run<S: Shelf>(alloc: Global, shelf: &mut S, order: &RunOrder) -> Result<Inputs, Stop>
     ensures fetches { FetchesRun (S.files shelf.old) (record { config = order.now.config; script = order.now.script; rounds = order.now.rounds }) (S.faults shelf.old) (S.faults shelf.new) result }
     ensures accepted { IfOk result (λ x. IsConfig x.config) }
@@ -155,8 +155,8 @@ fn fits_snap(text: &[u8], config: &Config) -> bool
     512 * (pages + blocks) <= 16_000_000 && text.len() <= 262_144
 }
 
-/// Fetches what `run` does, and keeps the text of the configuration. Before the first image it is told whether a snapshot
-/// would be too large.
+/// Fetches what `run` does, and keeps the text of the configuration. Whether a snapshot would be too large is answered before the
+/// first image is fetched.
 pub fn fetch_to_save<S: Shelf>(
     alloc: Global,
     shelf: &mut S,
@@ -257,7 +257,7 @@ pub fn fetch_to_live<S: Shelf>(
 #[derive(Drop)]
 pub struct Recorded {
     pub config: Config,
-    /// What an audit line was shown, it may be.
+    /// What an audit line may have been shown.
     pub bytes: Vec<u8>,
 }
 

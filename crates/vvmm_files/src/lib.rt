@@ -1,5 +1,5 @@
-//! What the words of a command ask for, and the files that it needs: fetched, and read in their order; a file that is assembled, listed or
-//! disassembled; and the program's answers, with their texts and codes.
+//! What words ask for, the files that a command needs, the answers' texts and codes. Files are fetched, and read in their order;
+//! one is assembled, listed or disassembled.
 #![tactic(auto)]
 
 mod answer;

@@ -57,7 +57,7 @@ taken_are typed others p taken took =
     let mine : Took typed (Some taken.coming) p.keys'.coming = subst (λ (before : Option (List (List ℕ))). Took typed before p.keys'.coming) taken.told taken.took in
     one_taking others typed taken.coming p.keys'.coming told mine
 
--- volumes are those that their drives tell
+-- volumes are the known ones of their drives
 stands_at : (rows : List VolumeRow) (k : ℕ) → k < length rows → (row : VolumeRow) × (slice_get rows k ≡ Some row)
 stands_at [] k within = absurd (omega arith)
 stands_at (row ∷ rows) zero within = (row, refl)

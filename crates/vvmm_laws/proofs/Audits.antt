@@ -78,11 +78,11 @@ module _ (files : List File) (a : AuditAsked) (before now : ℕ) (none : Rose be
   rule_stop (SnapRefused g) f h refused = h
   rule_stop NoMemory f h refused = tt
 
--- the shelf tells its files
+-- the shelf's files are known
 stops_told : (o : ShelfAndSink) (files : List File) (a : AuditAsked) (stop : Stop) → o.files ≡ Some files → StopsAudit o.files a o.shelf o.shelf' stop → StopsAudit (Some files) a o.shelf o.shelf' stop
 stops_told o files a stop told why = subst (λ (f : Option (List File)). StopsAudit f a o.shelf o.shelf' stop) told why
 
--- what was checked is what the shelf tells
+-- what was checked is what the shelf holds
 module _ (files : List File) (a : AuditAsked) (status : Status) (o : ShelfAndSink) (told : o.files ≡ Some files) (p : ChecksAudit a status o) where
   has_told : HasConfig (Some files) a.config p.config
   has_told = subst (λ (f : Option (List File)). HasConfig f a.config p.config) told p.has

@@ -76,7 +76,7 @@ module _ (files : List File) (a : RunAsked) (before now : ℕ) (none : Rose befo
   line_stop (SnapRefused g) c f h has refused = h
   line_stop NoMemory c f h has refused = tt
 
--- the shelf tells its files
+-- the shelf's files are known
 stops_told : (o : Outside) (files : List File) (a : RunAsked) (stop : Stop) → o.files ≡ Some files → StopsRun o.files a o.shelf o.shelf' stop → StopsRun (Some files) a o.shelf o.shelf' stop
 stops_told o files a stop told why = subst (λ (f : Option (List File)). StopsRun f a o.shelf o.shelf' stop) told why
 

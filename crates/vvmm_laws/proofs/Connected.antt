@@ -106,7 +106,7 @@ module _ (c : Config) (far : Object → Bool) (closed : IsClosed c far) where
         (λ e. rw e (terminal_off i k stand.0 (sym (at_far i k stand.0 g o p.0 e) ∙ near)))
         (λ e. rw e rest)
 
-    -- and no far line is told that its console was taken
+    -- and no far line gets the notice that its console was taken
     pub told_near : (g : ℕ) → far_guest c far g ≡ false → (i : ℕ) (ks : List Terminal) (os : List (Option ℕ)) → StandFrom c.terminals i ks → Pairs (ConnectFits c) ks os → bytes_on line (taken_notice (terminal_at ks (place_of (is_guest g) os))) ≡ []
     told_near g near i [] os stand p = ap (λ (o : Option Terminal). bytes_on line (taken_notice o)) (nowhere (place_of (is_guest g) os))
     told_near g near i (k ∷ ks) [] stand p = refl

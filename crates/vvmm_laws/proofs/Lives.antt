@@ -105,7 +105,7 @@ module _ (files : List File) (a : LiveAsked) (before now : ℕ) (none : Rose bef
   rule_stop (SnapRefused g) f h refused = h
   rule_stop NoMemory f h refused = tt
 
--- the shelf tells its files
+-- the shelf's files are known
 stops_told : (o : Outside) (files : List File) (a : LiveAsked) (stop : Stop) → o.files ≡ Some files → StopsLive o.files a o.shelf o.shelf' stop → StopsLive (Some files) a o.shelf o.shelf' stop
 stops_told o files a stop told why = subst (λ (f : Option (List File)). StopsLive f a o.shelf o.shelf' stop) told why
 
@@ -141,7 +141,7 @@ down_lived p (faults.VolumeSize v) h = h
 down_lived p (faults.DriveIn d) h = h
 down_lived p faults.NoMemory h = h
 
--- a device that failed is told first, whether the typing broke off or not
+-- a device that failed goes first, whether the typing broke off or not
 names_line_too : (k : ℕ) (failed : Option Device) (cut : Bool) (typing : Typing) → NamesLine k (status_when_done failed cut) → NamesLine k (live_status failed cut typing)
 names_line_too k (Some device) cut typing h = h
 names_line_too k None true typing h = h

@@ -90,14 +90,14 @@ same_drives o d h e = omega (arith, h, ap (λ (ks : List SeenDrive). (drive_at k
 
 -- Power doesn't come up.
 module _ (c : Config) (images : List (List ℕ)) (o : RunOutside) where
-  -- .. where images and drives fit, and the drives could be read, for want of memory alone
+  -- .. where images and drives fit, and the drives could be read, only because memory ran out
   pub down_served : (fault : PowerFault) → StaysDown c images fault o → first_misfit c.guests images ≡ None → All (FitsDrive o.drives) c.volumes → ((d : ℕ) → HasFailed c.volumes o.drives o.drives' d → ⊥) → IsServed (power_status fault)
   down_served (Image g) (misfit, rest) fits drives_fit readable = cc (misfit, fits)
   down_served (VolumeSize v) (none, misfit, rest) fits drives_fit readable = absurd (misfit.differs (at_stands (FitsDrive o.drives) c.volumes v misfit.row misfit.stands drives_fit))
   down_served (DriveIn d) (none, failed, rest) fits drives_fit readable = absurd (readable d failed)
   down_served NoMemory rest fits drives_fit readable = tt
 
-  -- an image that doesn't fit is told, and then a volume whose drive has another size
+  -- the answer names an image that doesn't fit, and then a volume whose drive has another size
   pub down_image : (fault : PowerFault) → StaysDown c images fault o → (g : ℕ) → first_misfit c.guests images ≡ Some g → IsImageOf g (power_status fault)
   down_image (Image h) (misfit, rest) g first = cc (misfit, first)
   down_image (VolumeSize v) (none, other, rest) g first = cc (none, first)
@@ -172,7 +172,7 @@ module _ (c : Config) (images : List (List ℕ)) (es : List Event) (rounds : ℕ
       by (Ok ran) (volumes, made) closes = made_served _ _ _ ran o made.makes _ status out out' closes lines drives kept
       by (Err fault) down (answer, same) = subst (λ (s : Status). IsServed s) (sym answer) (down_served c images o fault down fits drives_fit readable)
 
-  -- an image that doesn't fit is told, and then a volume whose drive has another size
+  -- the answer names an image that doesn't fit, and then a volume whose drive has another size
   pub plays_image : (g : ℕ) → first_misfit c.guests images ≡ Some g → IsImageOf g status
   plays_image g first = by p.result p.runs p.answers
     where

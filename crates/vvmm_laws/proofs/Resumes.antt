@@ -113,7 +113,7 @@ module _ (files : List File) (a : ResumeAsked) (before now : ℕ) (none : Rose b
   line_stop (SnapRefused g) m f (other, kept) has refused = not_snap files a.snap m g has other
   line_stop NoMemory m f h has refused = tt
 
--- the shelf tells its files
+-- the shelf's files are known
 stops_told : (o : Outside) (files : List File) (a : ResumeAsked) (stop : Stop) → o.files ≡ Some files → StopsResume o.files a o.shelf o.shelf' stop → StopsResume (Some files) a o.shelf o.shelf' stop
 stops_told o files a stop told why = subst (λ (f : Option (List File)). StopsResume f a o.shelf o.shelf' stop) told why
 

@@ -78,7 +78,7 @@ module _ (files : List File) (a : RunAsked) where
   size_stop before now none (SnapRefused f) why large = why
   size_stop before now none NoMemory why large = tt
 
--- The shelf tells its files, and the fetch stopped.
+-- The shelf's files are known, and the fetch stopped.
 module _ (o : Outside) (files : List File) (a : RunAsked) (told : o.files ≡ Some files) (Told : Status → Type 0) where
   stopped : (stop : Stop) (status : Status) → status ≡ stopped_status stop → StopsSave o.files a o.shelf o.shelf' stop → (StopsRun (Some files) a o.shelf o.shelf' stop → Told (stopped_status stop)) → (HasNoRoom (Some files) a → Told answers.SnapSize) → Told status
   stopped stop status is why run room =

@@ -59,7 +59,7 @@ module _ (files : List File) (name : List ℕ) (before now : ℕ) (none : Rose b
   rule_stop (SnapRefused g) f h refused = h
   rule_stop NoMemory f h refused = tt
 
--- the shelf tells its files
+-- the shelf's files are known
 stops_told : (o : ShelfAndSink) (files : List File) (name : List ℕ) (stop : Stop) → o.files ≡ Some files → StopsConfig o.files name o.shelf o.shelf' stop → StopsConfig (Some files) name o.shelf o.shelf' stop
 stops_told o files name stop told why = subst (λ (f : Option (List File)). StopsConfig f name o.shelf o.shelf' stop) told why
 
@@ -82,7 +82,7 @@ pub tells_config_rule : (Bytes : Config → List ℕ → Type 0) → TellsConfig
 tells_config_rule Bytes name status o files f (inl (stops, kept)) told refused none = subst (λ (s : Status). TellsRule f s) (sym stops.is) (rule_stop files name o.shelf o.shelf' none stops.stop f (stops_told (shelf_and_sink o) files name stops.stop told stops.why) refused)
 tells_config_rule Bytes name status o files f (inr shows) told refused none = absurd (not_config files name shows.config f (has_told (shelf_and_sink o) files name shows.config told shows.has) refused)
 
--- the file that was fetched, of a shelf that tells
+-- the file that was fetched, of a shelf whose files are known
 fetched_told : (o : ShelfAndSink) (files : List File) (name bytes : List ℕ) → o.files ≡ Some files → IsFetched o name bytes → IsRead (Some files) name bytes
 fetched_told o files name bytes told f = subst (λ (fs : Option (List File)). IsRead fs name bytes) told (record { held = f.held; within = f.within })
 

@@ -70,7 +70,7 @@ module _ (files : List File) (name : List ℕ) (before now : ℕ) where
   long_stop (SnapRefused f) h long none = h
   long_stop NoMemory h long none = tt
 
--- the shelf tells its files
+-- the shelf's files are known
 stops_told : (o : Outside) (files : List File) (name : List ℕ) (stop : Stop) → o.files ≡ Some files → StopsFile o.files name o.shelf o.shelf' stop → StopsFile (Some files) name o.shelf o.shelf' stop
 stops_told o files name stop told why = subst (λ (f : Option (List File)). StopsFile f name o.shelf o.shelf' stop) told why
 

@@ -1,4 +1,4 @@
--- A shelf that tells its files: what is under one name is one thing.
+-- A shelf whose files are known: what is under one name is one thing.
 use Rattle.std.proofs.Common.{ℕ, zero, suc, ◌≡◌, List, [], ◌∷◌, length, Option, Some, None, Result, Ok, Err, refl, subst, sym, ap, ◌∙◌, arith}
 use Rattle.std.specs.List.{slice_get}
 use Rattle.vv_io.specs.Shelf.{File, held}

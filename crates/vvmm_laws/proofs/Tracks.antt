@@ -31,7 +31,7 @@ use Rattle.sys_server.specs.declared.command.ServerState.{ServerState}
 use Rattle.sys_server.specs.declared.command.Verdict.{Verdict}
 use Rattle.sys_server.specs.declared.command.Verdict.TheVariants.{Granted, BadCommand, NoSuchObject, Denied}
 
--- of the state the mounts alone tell what is answered
+-- of the state the mounts alone decide what is answered
 same_answer : (c : Config) (s t : ServerState) (n : ℕ) (text : List ℕ) → s.mounts ≡ t.mounts → verdict_of c s n text ≡ verdict_of c t n text
 same_answer c s t n text same = mounts_tell c s t n text (λ g unit there. ap (λ (ms : List (List (Option Mounted))). slice_index_or (slice_index_or ms g []) unit None) same)
 

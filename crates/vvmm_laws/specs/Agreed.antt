@@ -18,13 +18,13 @@ use Rattle.vvmm_files.specs.declared.status.Status.TheVariants.{Done}
 use Rattle.vvmm_laws.specs.Complete.{line_at}
 use Rattle.vvmm_laws.specs.Live.{AreAlikeTo}
 
--- the lines that were taken from a keyboard that tells them
+-- the lines that were taken from a keyboard whose lines are known
 pub record AreTaken (typed : List (List ℕ)) (p : Operator) : Type 0 where
   pub coming : List (List ℕ)
   pub told : p.keys.coming ≡ Some coming
   pub took : Took typed p.keys.coming p.keys'.coming
 
--- the drive of each volume tells its blocks
+-- the blocks of each volume's drive are known
 abbrev pub AreBlocksKnown : Config → List SeenDrive → Type 0
 AreBlocksKnown c drives = All (λ v. (blocks : List (List ℕ)) × ((drive_at drives v.drive).blocks ≡ Some blocks)) c.volumes
 

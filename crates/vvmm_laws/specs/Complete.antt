@@ -1,4 +1,4 @@
--- What follows from the answers' causes: which answer must be given. The shelf tells its files.
+-- What follows from the answers' causes: which answer must be given. The shelf's files are known.
 use Rattle.std.specs.Prelude.{ℕ, ◌≡◌, ◌≤◌, ◌<◌, ◌+◌, List, None, Some, Result, Ok, Err, length, All, slice_index_or}
 use Rattle.vv_io.specs.Causes.{Rose}
 use Rattle.vv_io.specs.Lines.{Seen, unseen}
@@ -63,13 +63,13 @@ TellsAsm fault (Asm f) = f ≡ fault
 TellsAsm fault NoMemory = Unit {0}
 TellsAsm fault status = ⊥
 
--- the first line through whose end the bytes are no audit is told
+-- the answer names the first line through whose end the bytes are no audit
 abbrev pub TellsFirstBad : Config → List ℕ → Status → Type 0
 TellsFirstBad c bytes (Audit f) = IsFirstBad c bytes f.line
 TellsFirstBad c bytes NoMemory = Unit {0}
 TellsFirstBad c bytes status = ⊥
 
--- this guest is told, or this volume
+-- the answer names this guest, or this volume
 abbrev pub IsImageOf : ℕ → Status → Type 0
 IsImageOf guest (Image g) = g ≡ guest
 IsImageOf guest NoMemory = Unit {0}
@@ -92,7 +92,7 @@ NamesDrive d (DeviceFault (devices.Drive drive)) = drive ≤ d
 NamesDrive d (DriveIn drive) = drive ≡ d
 NamesDrive d status = ⊥
 
--- a held file is of at most so many bytes
+-- a held file is longer than files may be
 abbrev pub IsLong : List File → List ℕ → Type 0
 IsLong files name = (bytes : List ℕ) × (held files name ≡ Some bytes) × (file_limit < length bytes)
 
@@ -107,7 +107,7 @@ TellsImageMissing Follows = (a : Asked) (status : Status) (o : Outside) (files :
 abbrev pub TellsImageTooLong : (Asked → Status → Outside → Type 0) → Type 0
 TellsImageTooLong Follows = (a : Asked) (status : Status) (o : Outside) (files : List File) → Follows a status o → o.files ≡ Some files → IsLong files a.image → (Rose o.shelf o.shelf' → ⊥) → IsTooLong a.image status
 
--- an image that doesn't fit is told
+-- the answer names an image that doesn't fit
 abbrev pub TellsImageMisfit : (Asked → Status → Outside → Type 0) → Type 0
 TellsImageMisfit Follows = (a : Asked) (status : Status) (o : Outside) (image : List ℕ) (files : List File) → Follows a status o → o.files ≡ Some files → IsRead (Some files) a.image image → memory_size < load_address + length image → (Rose o.shelf o.shelf' → ⊥)
     → IsImageOf 0 status
@@ -121,14 +121,15 @@ abbrev pub CompletesRun : Type 0
 CompletesRun = (a : RunAsked) (status : Status) (o : Outside) (files : List File) (c : Config) (es : List Event) (images : List (List ℕ)) → FollowsRun a status o → o.files ≡ Some files → HasAll (Some files) a c es images
     → first_misfit c.guests images ≡ None → All (FitsDrive o.drives) c.volumes → NoneRose o → IsServed status
 
--- the first file that the shelf lacks is told as missing, and the first too long one as too long, where the shelf did not fail
+-- the answer names the first file that the shelf lacks as missing, and the first too long one as too long, where the shelf did
+-- not fail
 abbrev pub TellsRunMissing : Type 0
 TellsRunMissing = (a : RunAsked) (status : Status) (o : Outside) (files : List File) (name : List ℕ) → FollowsRun a status o → o.files ≡ Some files → IsNextFile (Some files) a name → held files name ≡ None → (Rose o.shelf o.shelf' → ⊥) → IsMissing name status
 
 abbrev pub TellsRunTooLong : Type 0
 TellsRunTooLong = (a : RunAsked) (status : Status) (o : Outside) (files : List File) (name : List ℕ) → FollowsRun a status o → o.files ≡ Some files → IsNextFile (Some files) a name → IsLong files name → (Rose o.shelf o.shelf' → ⊥) → IsTooLong name status
 
--- a configuration that is refused is told, and a script
+-- the answer names the fault of a configuration that is refused, or of a script
 abbrev pub TellsRunRule : Type 0
 TellsRunRule = (a : RunAsked) (status : Status) (o : Outside) (files : List File) (f : ConfigFault) → FollowsRun a status o → o.files ≡ Some files → IsConfigRefused (Some files) a.config f → (Rose o.shelf o.shelf' → ⊥) → TellsRule f status
 
@@ -136,8 +137,8 @@ abbrev pub TellsRunLine : Type 0
 TellsRunLine = (a : RunAsked) (status : Status) (o : Outside) (files : List File) (c : Config) (f : ScriptFault) → FollowsRun a status o → o.files ≡ Some files → HasConfig (Some files) a.config c → IsScriptRefused (Some files) a.script f → (Rose o.shelf o.shelf' → ⊥)
     → TellsLine f status
 
--- of held files that stand for a configuration, a script and images, the first image that doesn't fit is told, and the first
--- volume whose drive has another number of blocks, where the images fit and no drive failed
+-- of held files that stand for a configuration, a script and images, the answer names the first image that doesn't fit, and the
+-- first volume whose drive has another number of blocks, where the images fit and no drive failed
 abbrev pub TellsRunImage : Type 0
 TellsRunImage = (a : RunAsked) (status : Status) (o : Outside) (files : List File) (c : Config) (es : List Event) (images : List (List ℕ)) (g : ℕ) → FollowsRun a status o → o.files ≡ Some files → HasAll (Some files) a c es images
     → first_misfit c.guests images ≡ Some g → (Rose o.shelf o.shelf' → ⊥) → IsImageOf g status
@@ -187,7 +188,7 @@ abbrev pub TellsConfigRule : (Config → List ℕ → Type 0) → Type 0
 TellsConfigRule Bytes = (name : List ℕ) (status : Status) (o : Outside) (files : List File) (f : ConfigFault) → FollowsConfig Bytes name status (shelf_and_sink o) → o.files ≡ Some files → IsConfigRefused (Some files) name f → (Rose o.shelf o.shelf' → ⊥) → TellsRule f status
 
 -- `audit`: a held configuration that is accepted, a held file within the limit that is an audit of it, and no risen count, are
--- served; where the file is none, the first line is told
+-- served; where the file is none, the answer names the first line
 abbrev pub CompletesAudit : Type 0
 CompletesAudit = (a : AuditAsked) (status : Status) (o : Outside) (files : List File) (c : Config) (bytes : List ℕ) → FollowsAudit a status (shelf_and_sink o) → o.files ≡ Some files → HasConfig (Some files) a.config c → IsRead (Some files) a.recorded bytes
     → Audited c bytes → NoneRose o → IsServed status

@@ -1,5 +1,5 @@
--- What follows from the answers' causes of `live`: which answer must be given, and what typing reaches. The shelf tells its
--- files.
+-- What follows from the answers' causes of `live`: which answer must be given, and what typing reaches. The shelf's files are
+-- known.
 use Rattle.std.specs.Prelude.{ℕ, ◌≡◌, ◌≢◌, ◌<◌, ◌≤◌, ◌-◌, ◌^◌, List, [], ◌∷◌, ◌++◌, length, None, Some, All, false, true}
 use Rattle.vv_io.specs.Causes.{Rose}
 use Rattle.vv_io.specs.Shelf.{File, held}
@@ -24,11 +24,12 @@ use Rattle.vvmm_files.specs.declared.status.Status.{Status}
 use Rattle.vvmm_files.specs.declared.status.Status.TheVariants.{Done, KeyFault, NoMemory}
 use Rattle.vvmm_laws.specs.Complete.{IsImageOf, IsLong, IsMissing, IsSizeOf, IsTooLong, NamesDrive, NamesLine, NoneRose, TellsRule, line_at}
 
--- as many lines were taken as are counted
+-- as many lines were taken as 32 bits count
 abbrev pub TakesMost : Operator → Type 0
 TakesMost p = (lines : List (List ℕ)) × (length lines ≡ 2 ^ 32 - 1) × TookWell lines p.keys p.keys'
 
--- all was done; or memory ran out, before anything was shown or for a line that was typed; or as many lines were typed as are counted
+-- all was done; or memory ran out, before anything was shown or for a line that was typed; or as many lines were typed as 32 bits
+-- count
 abbrev pub IsLived : Operator → Status → Type 0
 IsLived p Done = Unit {0}
 IsLived p KeyFault = TakesMost p
@@ -40,19 +41,20 @@ abbrev pub CompletesLive : Type 0
 CompletesLive = (a : LiveAsked) (status : Status) (o : Outside) (p : Operator) (files : List File) (c : Config) (images : List (List ℕ)) → FollowsLive a status o p → o.files ≡ Some files → HasAllToLive (Some files) a c images
     → first_misfit c.guests images ≡ None → All (FitsDrive o.drives) c.volumes → NoneRose o → (Rose p.keys.faults p.keys'.faults → ⊥) → IsLived p status
 
--- the first file that the shelf lacks is told as missing, and the first too long one as too long, where the shelf did not fail
+-- the answer names the first file that the shelf lacks as missing, and the first too long one as too long, where the shelf did
+-- not fail
 abbrev pub TellsLiveMissing : Type 0
 TellsLiveMissing = (a : LiveAsked) (status : Status) (o : Outside) (p : Operator) (files : List File) (name : List ℕ) → FollowsLive a status o p → o.files ≡ Some files → IsNextToLive (Some files) a name → held files name ≡ None → (Rose o.shelf o.shelf' → ⊥) → IsMissing name status
 
 abbrev pub TellsLiveTooLong : Type 0
 TellsLiveTooLong = (a : LiveAsked) (status : Status) (o : Outside) (p : Operator) (files : List File) (name : List ℕ) → FollowsLive a status o p → o.files ≡ Some files → IsNextToLive (Some files) a name → IsLong files name → (Rose o.shelf o.shelf' → ⊥) → IsTooLong name status
 
--- a configuration that is refused is told
+-- the answer names the fault of a configuration that is refused
 abbrev pub TellsLiveRule : Type 0
 TellsLiveRule = (a : LiveAsked) (status : Status) (o : Outside) (p : Operator) (files : List File) (f : ConfigFault) → FollowsLive a status o p → o.files ≡ Some files → IsConfigRefused (Some files) a.config f → (Rose o.shelf o.shelf' → ⊥) → TellsRule f status
 
--- the first image that doesn't fit is told, and the first volume whose drive has another number of blocks, where the images fit and
--- no drive failed
+-- the answer names the first image that doesn't fit, and the first volume whose drive has another number of blocks, where the
+-- images fit and no drive failed
 abbrev pub TellsLiveImage : Type 0
 TellsLiveImage = (a : LiveAsked) (status : Status) (o : Outside) (p : Operator) (files : List File) (c : Config) (images : List (List ℕ)) (g : ℕ) → FollowsLive a status o p → o.files ≡ Some files → HasAllToLive (Some files) a c images
     → first_misfit c.guests images ≡ Some g → (Rose o.shelf o.shelf' → ⊥) → IsImageOf g status
@@ -86,7 +88,7 @@ abbrev pub TypingKeepsDrives : Type 0
 TypingKeepsDrives = (c : Config) (images : List (List ℕ)) (volumes : List (List (List ℕ))) (typed typed' : List (List ℕ)) (to : AccessClass) → IsConfig c → AreAlikeTo c to typed typed'
     → All (λ v. does_flow v.class to ≡ true → drive_blocks (input_typed c images volumes typed) v.drive ≡ drive_blocks (input_typed c images volumes typed') v.drive) c.volumes
 
--- A line more of which, alone, nothing is kept: it says no event, or one at a terminal that doesn't exist or whose class doesn't
--- flow into that. Where an empty line ends its round, the typing is alike to the one without it.
+-- One more line, of which, alone, nothing is kept: it says no event, or one at a terminal that doesn't exist or whose class
+-- doesn't flow into that. Where an empty line ends its round, the typing is alike to the one without it.
 abbrev pub ALineMoreIsAlike : Type 0
 ALineMoreIsAlike = (c : Config) (to : AccessClass) (before after : List (List ℕ)) (line : List ℕ) → line ≢ [] → purge_events c (events_typed 1 (line ∷ [])) to ≡ [] → 1 ≤ rounds_ended after → AreAlikeTo c to (before ++ line ∷ after) (before ++ after)

@@ -1,6 +1,6 @@
--- The places of memory that an instruction reads on the real machine: those of the table longwords of its walks, and those
--- of the bytes that it asks for, also of those that it only writes (VAX Architecture Reference Manual, memory management:
--- address translation, page tables).
+-- The places of memory that an instruction reads on the real machine: those of the table longwords of its walks, and those of the
+-- bytes that it asks for, also of those that it only writes. (VAX Architecture Reference Manual, memory management: address
+-- translation, page tables.)
 use Rattle.std.specs.Prelude.{ℕ, ◌+◌, ◌*◌, ◌%◌, ◌^◌, ◌==◌, not, ◌||◌, nat_le, nat_lt, if◌then◌else◌, List, [], ◌∷◌, ◌++◌, Result, Ok, Err}
 use Rattle.vax_arch.specs.Walk.{Tables, in_region, page_of, region_of}
 use Rattle.vax_arch.specs.declared.mode.Intent.TheVariants.{Read}

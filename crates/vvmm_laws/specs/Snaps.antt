@@ -1,4 +1,4 @@
--- What follows from the answers' causes of `save` and `resume`: which answer must be given. The shelf tells its files.
+-- What follows from the answers' causes of `save` and `resume`: which answer must be given. The shelf's files are known.
 use Rattle.std.specs.Prelude.{ℕ, ◌≡◌, ◌<◌, List, None, Some, All}
 use Rattle.vv_io.specs.Causes.{Rose}
 use Rattle.vv_io.specs.Shelf.{File, held}
@@ -35,14 +35,15 @@ abbrev pub CompletesSave : Type 0
 CompletesSave = (a : RunAsked) (status : Status) (o : Outside) (files : List File) (text : List ℕ) (c : Config) (es : List Event) (images : List (List ℕ)) → FollowsSave a status o → o.files ≡ Some files → HasAllToSave (Some files) a text c es images
     → first_misfit c.guests images ≡ None → All (FitsDrive o.drives) c.volumes → NoneRose o → IsServed status
 
--- the first file that the shelf lacks is told as missing, and the first too long one as too long, where the shelf did not fail
+-- the answer names the first file that the shelf lacks as missing, and the first too long one as too long, where the shelf did
+-- not fail
 abbrev pub TellsSaveMissing : Type 0
 TellsSaveMissing = (a : RunAsked) (status : Status) (o : Outside) (files : List File) (name : List ℕ) → FollowsSave a status o → o.files ≡ Some files → IsNextToSave (Some files) a name → held files name ≡ None → (Rose o.shelf o.shelf' → ⊥) → IsMissing name status
 
 abbrev pub TellsSaveTooLong : Type 0
 TellsSaveTooLong = (a : RunAsked) (status : Status) (o : Outside) (files : List File) (name : List ℕ) → FollowsSave a status o → o.files ≡ Some files → IsNextToSave (Some files) a name → IsLong files name → (Rose o.shelf o.shelf' → ⊥) → IsTooLong name status
 
--- a configuration that is refused is told, and a script
+-- the answer names the fault of a configuration that is refused, or of a script
 abbrev pub TellsSaveRule : Type 0
 TellsSaveRule = (a : RunAsked) (status : Status) (o : Outside) (files : List File) (f : ConfigFault) → FollowsSave a status o → o.files ≡ Some files → IsConfigRefused (Some files) a.config f → (Rose o.shelf o.shelf' → ⊥) → TellsRule f status
 
@@ -54,8 +55,8 @@ TellsSaveLine = (a : RunAsked) (status : Status) (o : Outside) (files : List Fil
 abbrev pub TellsSnapSize : Type 0
 TellsSnapSize = (a : RunAsked) (status : Status) (o : Outside) (files : List File) → FollowsSave a status o → o.files ≡ Some files → HasNoRoom (Some files) a → (Rose o.shelf o.shelf' → ⊥) → IsSnapSize status
 
--- of held files that stand for all that is to be saved, the first image that doesn't fit is told, and the first volume whose
--- drive has another number of blocks, where the images fit and no drive failed
+-- of held files that stand for all that is to be saved, the answer names the first image that doesn't fit, and the first volume
+-- whose drive has another number of blocks, where the images fit and no drive failed
 abbrev pub TellsSaveImage : Type 0
 TellsSaveImage = (a : RunAsked) (status : Status) (o : Outside) (files : List File) (text : List ℕ) (c : Config) (es : List Event) (images : List (List ℕ)) (g : ℕ) → FollowsSave a status o → o.files ≡ Some files → HasAllToSave (Some files) a text c es images
     → first_misfit c.guests images ≡ Some g → (Rose o.shelf o.shelf' → ⊥) → IsImageOf g status
@@ -72,18 +73,19 @@ TellsSaveLineFault = (a : RunAsked) (status : Status) (o : Outside) (k : ℕ) �
 abbrev pub CompletesResume : Type 0
 CompletesResume = (a : ResumeAsked) (status : Status) (o : Outside) (files : List File) (m : Moment) (es : List Event) → FollowsResume a status o → o.files ≡ Some files → HasBoth (Some files) a m es → All (FitsDrive o.drives) m.config.volumes → NoneRose o → IsServed status
 
--- the first file that the shelf lacks is told as missing, and the first too long one as too long, where the shelf did not fail
+-- the answer names the first file that the shelf lacks as missing, and the first too long one as too long, where the shelf did
+-- not fail
 abbrev pub TellsResumeMissing : Type 0
 TellsResumeMissing = (a : ResumeAsked) (status : Status) (o : Outside) (files : List File) (name : List ℕ) → FollowsResume a status o → o.files ≡ Some files → IsNextToResume (Some files) a name → held files name ≡ None → (Rose o.shelf o.shelf' → ⊥) → IsMissing name status
 
 abbrev pub TellsResumeTooLong : Type 0
 TellsResumeTooLong = (a : ResumeAsked) (status : Status) (o : Outside) (files : List File) (name : List ℕ) → FollowsResume a status o → o.files ≡ Some files → IsNextToResume (Some files) a name → IsLong files name → (Rose o.shelf o.shelf' → ⊥) → IsTooLong name status
 
--- of bytes that are no snapshot the place is told where the first field begins that is cut or not allowed
+-- of bytes that are no snapshot the answer names the place where the first field begins that is cut or not allowed
 abbrev pub TellsSnap : Type 0
 TellsSnap = (a : ResumeAsked) (status : Status) (o : Outside) (files : List File) (f : SnapFault) → FollowsResume a status o → o.files ≡ Some files → IsSnapRefused (Some files) a.snap f → (Rose o.shelf o.shelf' → ⊥) → TellsPlace f status
 
--- a script that is refused is told
+-- the answer names the fault of a script that is refused
 abbrev pub TellsResumeLine : Type 0
 TellsResumeLine = (a : ResumeAsked) (status : Status) (o : Outside) (files : List File) (m : Moment) (f : ScriptFault) → FollowsResume a status o → o.files ≡ Some files → HasSnap (Some files) a.snap m → IsScriptRefused (Some files) a.script f
     → (Rose o.shelf o.shelf' → ⊥) → TellsLine f status

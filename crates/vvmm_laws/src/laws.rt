@@ -108,7 +108,8 @@ pub fn a_configuration_is_shown()
     ensures draw { CompletesConfig IsDrawing }
 {}
 
-/// Over a shelf that did not fail, a configuration that it lacks gives `Missing` of `check`, `migrate`, `flow` and `draw`, or `NoMemory`.
+/// Over a shelf that did not fail, a configuration that it lacks gives `Missing` of `check`, `migrate`, `flow` and `draw`, or
+/// `NoMemory`.
 pub fn a_missing_configuration_is_told()
     ensures check { TellsConfigMissing AreCounts }
     ensures migrate { TellsConfigMissing IsMigrated }
@@ -116,7 +117,8 @@ pub fn a_missing_configuration_is_told()
     ensures draw { TellsConfigMissing IsDrawing }
 {}
 
-/// Over a shelf that did not fail, a configuration that is too long gives `TooLong` of `check`, `migrate`, `flow` and `draw`, or `NoMemory`.
+/// Over a shelf that did not fail, a configuration that is too long gives `TooLong` of `check`, `migrate`, `flow` and `draw`, or
+/// `NoMemory`.
 pub fn a_too_long_configuration_is_told()
     ensures check { TellsConfigTooLong AreCounts }
     ensures migrate { TellsConfigTooLong IsMigrated }
@@ -159,7 +161,8 @@ pub fn a_broken_rule_of_an_audit_is_told()
     ensures { TellsAuditRule }
 {}
 
-/// A held file within the limit that stands for bytes or a text, and no risen count, give `Done` of `asm`, `list` and `dis`, or `NoMemory`.
+/// A held file within the limit that stands for bytes or a text, and no risen count, give `Done` of `asm`, `list` and `dis`, or
+/// `NoMemory`.
 pub fn a_file_is_shown()
     ensures { CompletesFile }
 {}

@@ -1,5 +1,5 @@
-//! Laws that no code needs: of what one instruction depends on, of what reaches what, of accepted audits, and of the program's
-//! answers: which answer must be given, and what the lines of one guest get.
+//! Laws that nothing uses: which answers must come, what reaches what, what instructions depend on. Others speak of accepted
+//! audits, and of what the lines of one guest get.
 #![tactic(auto)]
 
 mod accepted;

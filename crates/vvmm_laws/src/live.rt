@@ -43,7 +43,7 @@ pub fn a_live_run_names_a_failed_drive()
     ensures { TellsLiveDriveFault }
 {}
 
-/// What is typed at terminals whose class doesn't flow into a device's changes nothing there, where it makes no round more.
+/// What is typed at terminals whose class doesn't flow into a device's changes nothing there, where it makes as many rounds.
 pub fn typing_keeps_lines()
     ensures { TypingKeepsLines }
 {}
@@ -53,7 +53,7 @@ pub fn typing_keeps_drives()
     ensures { TypingKeepsDrives }
 {}
 
-/// A line more at such a terminal is typed so, where an empty line ends its round.
+/// One more line at such a terminal is typed so, where an empty line ends its round.
 pub fn a_line_more_is_alike()
     ensures { ALineMoreIsAlike }
 {}

@@ -12,8 +12,8 @@ pub fn devices_depend_on_what_reaches()
     ensures { DependsOnlyOnReached }
 {}
 
-/// The same, where the rows of what is reached, as `reach` gives them, don't name the object among those reached from the
-/// other.
+/// The rows of `reach` don't name an object among those reached from another. Then two inputs that differ in the other's inputs
+/// alone give the same on the object's device.
 pub fn what_reach_does_not_name_is_apart()
     ensures { UnnamedIsApart }
 {}

@@ -8,8 +8,8 @@ pub fn save_and_resume_are_one_run()
     ensures { TwoMakeOne }
 {}
 
-/// Held files that stand for a configuration, a script and images that fit, a snapshot that isn't too large, drives that fit, and no
-/// risen count, give `Done` of `save`, or `NoMemory` before anything is shown.
+/// Held files that stand for a configuration, a script and images that fit, a snapshot that isn't too large, drives that fit, and
+/// no risen count, give `Done` of `save`, or `NoMemory` before anything is shown.
 pub fn save_is_complete()
     ensures { CompletesSave }
 {}
@@ -34,8 +34,8 @@ pub fn a_refused_script_to_save_is_told()
     ensures { TellsSaveLine }
 {}
 
-/// Where configuration and script are accepted, a snapshot that would be too large gives `SnapSize`, or `NoMemory`, whichever images
-/// the shelf holds.
+/// Where configuration and script are accepted, a snapshot that would be too large gives `SnapSize`, or `NoMemory`, whichever
+/// images the shelf holds.
 pub fn a_too_large_snapshot_is_told()
     ensures { TellsSnapSize }
 {}

@@ -5,7 +5,7 @@ use Rattle.sys_guests.specs.Present.{KeepsAll}
 use Rattle.sys_state.specs.FirstTouches.{touches_of_events}
 use Rattle.sys_events.proofs.events.happen.Given as goal
 
--- so many have happened
+-- the events so far have happened
 abbrev pub invariant-loop-event : goal.invariant-loop-event
 invariant-loop-event g l =
     let machine = g.H.Hardware.machine in
