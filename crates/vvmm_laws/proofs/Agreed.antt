@@ -26,7 +26,7 @@ use Rattle.sys_purge.proofs.Depends.{devices_depend, volumes_depend}
 use Rattle.sys_purge.specs.Events.{purge_events}
 use Rattle.sys_purge.specs.Input.{purge_images, purge_volumes, purged}
 use Rattle.sys_purge.specs.Purge.{purge_config}
-use Rattle.sys_state.specs.Bytes.{Device as Shown, devices_of, drive_blocks, line_bytes}
+use Rattle.sys_state.specs.Bytes.{LineDevice as Shown, devices_of, drive_blocks, line_bytes}
 use Rattle.sys_state.specs.Run.{Input}
 use Rattle.sys_script.specs.Typed.{events_typed, rounds_typed}
 use Rattle.sys_system.specs.Devices.{device_of}
