@@ -90,31 +90,3 @@ pub fn line_in(text: &[u8]) -> Option<Line<'_>>
 {
     content_in(trimmed(before_comment(text)))
 }
-
-/// A line without the carriage return at its end.
-fn without_return(line: &[u8]) -> &[u8]
-    ensures { result.now ≡ strip_carriage_return line.now }
-{
-    match line {
-        [rest @ .., b'\r'] => rest,
-        _ => line,
-    }
-}
-
-/// The first line of a text, and the text after it.
-pub fn first_line(text: &[u8]) -> Pieces<'_>
-    requires { 0 < length text.now }
-    ensures cut { lines text.now ≡ result.before.now ∷ lines result.later.now }
-    ensures shorter { length result.later.now < length text.now }
-{
-    match cut_at(text, b'\n') {
-        Some(pieces) => Pieces {
-            before: without_return(pieces.before),
-            later: pieces.later,
-        },
-        None => Pieces {
-            before: text,
-            later: b"",
-        },
-    }
-}

@@ -5,8 +5,7 @@ ghost use Rattle.vv_edge.specs.Learning.{audit_line_in, line_of_text, shown_fron
 use crate::telling::Note;
 use std::alloc::Global;
 use sys_config::{ConfigError, read_config};
-use vasm::first_line;
-use vv_base::{NoMemory, Text};
+use vv_base::{NoMemory, Text, first_line};
 use vvmm_files::Status;
 
 /// The place among the words of the file that says more about an answer, if one does.
@@ -75,12 +74,12 @@ fn line_of_text(text: &[u8], line: u32) -> &[u8]
         if rest.is_empty() {
             return &[];
         }
-        rest = first_line(rest).later;
+        rest = first_line(rest).1;
     }
     if rest.is_empty() {
         return &[];
     }
-    first_line(rest).before
+    first_line(rest).0
 }
 
 /// Bytes as far as there is room, with a point for each that doesn't print.

@@ -33,10 +33,14 @@ line_with_feed text end is =
     let within : position_or_len (λ b. b == 10) text < length text = ltb-true _ _ at.0 in
     first_line text within ∙ ap (λ n. strip_carriage_return (take n text) ∷ lines (drop (n + 1) text)) at.1
 
-pub line_without_feed : (text : List ℕ) → position (λ b. b == 10) text ≡ None → (length text == 0) ≡ false → lines text ≡ text ∷ []
+one_part : (text : List ℕ) → 0 < length text → lines_of_parts (text ∷ []) ≡ text ∷ []
+one_part [] some = absurd (omega arith)
+one_part (b ∷ bs) some = grind arith
+
+pub line_without_feed : (text : List ℕ) → position (λ b. b == 10) text ≡ None → 0 < length text → lines text ≡ text ∷ []
 line_without_feed text is some =
     let beyond : nat_lt (position_or_len (λ b. b == 10) text) (length text) ≡ false = missed _ _ is in
     let all : length text ≤ position_or_len (λ b. b == 10) text = ltb-false _ _ beyond in
     let cut : slice_split (λ b. b == 10) text ≡ text ∷ [] =
     slice_split_none (λ b. b == 10) text (All-from_get_or (λ b. (b == 10) ≡ false) text 0 (λ i below. fails_before_first (λ b. b == 10) text i 0 (omega (arith, below, all)))) in
-    rw (cut, some)
+    ap lines_of_parts cut ∙ one_part text some
