@@ -4,8 +4,7 @@ ghost use Rattle.sys_script.specs.Events.{AreEvents};
 ghost use Rattle.sys_snap.specs.Held.{HoldsMoment, snapshot_moment};
 ghost use Rattle.sys_snap.specs.Snap.{IsMoment};
 
-use crate::rounds::make_rounds;
-use crate::running::Ran;
+use crate::running::{Ran, finish};
 use std::alloc::Global;
 use sys_script::Event;
 use sys_snap::Snap;
@@ -36,10 +35,13 @@ pub fn resume<H: Hardware, P: Progress, L: Lines>(
     ensures drives_len { vec_len drives.new ≡ vec_len drives.old }
 {
     let mut system = System::resume(alloc, snap, machine, drives)?;
-    make_rounds(&mut system, machine, lines, events, rounds, progress);
-    system.power_down(machine, lines, drives);
-    Ok(Ran {
-        counts: system.counts(),
-        failed: system.failed(),
-    })
+    Ok(finish(
+        &mut system,
+        events,
+        rounds,
+        machine,
+        lines,
+        drives,
+        progress,
+    ))
 }

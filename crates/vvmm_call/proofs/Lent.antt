@@ -7,7 +7,7 @@ use Rattle.sys_live.specs.declared.session.Lived.{Lived}
 use Rattle.sys_objects.specs.declared.records.Config.{Config}
 use Rattle.sys_state.specs.Run.{Moment}
 use Rattle.sys_runs.specs.Ran.{RunOutside}
-use Rattle.sys_runs.specs.Saved.{ContinuesRun, SavesRun}
+use Rattle.sys_runs.specs.Saved.{ContinuesRun, ExtendsRun, SavesRun}
 use Rattle.sys_runs.specs.declared.running.Ran.{Ran}
 use Rattle.sys_runs.specs.declared.saving.Saved.{Saved}
 use Rattle.sys_script.specs.declared.event.Event.{Event}
@@ -25,6 +25,10 @@ saves_over c text text' images images' es es' n result o out out' are_text are_i
 
 pub goes_over : (m : Moment) (es es' : List Event) (n : ℕ) (result : Result Ran PowerFault) (o : RunOutside) → es ≡ es' → ContinuesRun m es n result o → ContinuesRun m es' n result o
 goes_over m es es' n result o are_events goes_on = subst (λ (xs : List Event). ContinuesRun m xs n result o) are_events goes_on
+
+pub extends_over : (m : Moment) (text text' : List ℕ) (es es' : List Event) (n : ℕ) (result : Result Saved PowerFault) (o : RunOutside) (out out' : Seen) → text ≡ text' → es ≡ es' → ExtendsRun m text es n result o out out' → ExtendsRun m text' es' n result o out out'
+extends_over m text text' es es' n result o out out' are_text are_events goes_on =
+    subst (λ (bytes : List ℕ). ExtendsRun m bytes es' n result o out out') are_text (subst (λ (xs : List Event). ExtendsRun m text xs n result o out out') are_events goes_on)
 
 pub lives_over : (c : Config) (images images' : List (Vec ℕ Global)) (most : ℕ) (result : Result Lived PowerFault) (o : RunOutside) (p : Operator) (out out' : Seen) → images ≡ images'
     → LivesRun c (map items images) most result o p out out' → LivesRun c (map items images') most result o p out out'

@@ -1,5 +1,5 @@
 -- Each answer of the top call, and what it says of the outside.
-use Rattle.std.specs.Prelude.{ℕ, ◌≡◌, ◌⊎◌, List, [], ◌∷◌, All, Bool, true, false, ◌++◌, Option, Some, None, Result, Ok, Err, codes, pos}
+use Rattle.std.specs.Prelude.{ℕ, ◌≡◌, ◌≤◌, ◌+◌, ◌⊎◌, List, [], ◌∷◌, All, Bool, true, false, ◌++◌, Option, Some, None, Result, Ok, Err, codes, pos}
 use Rattle.vv_io.specs.Blocks.{SeenDrive}
 use Rattle.vv_io.specs.Lines.{Seen}
 use Rattle.vv_io.specs.Shelf.{File}
@@ -25,14 +25,16 @@ use Rattle.sys_live.specs.declared.session.Lived.{Lived}
 use Rattle.sys_live.specs.declared.typing.Typing.{Typing}
 use Rattle.sys_live.specs.declared.typing.Typing.TheVariants.{Broken, Lost}
 use Rattle.sys_objects.specs.declared.records.Config.{Config}
+use Rattle.sys_purge.specs.Events.{purge_events}
 use Rattle.sys_purge.specs.Input.{purged}
 use Rattle.sys_purge.specs.Laws.{IsSeparateFrom, shown_on}
-use Rattle.sys_state.specs.Bytes.{devices_of, drive_blocks, line_bytes}
+use Rattle.sys_purge.specs.Moments.{purged_moment}
+use Rattle.sys_state.specs.Bytes.{devices_of, drive_blocks, line_bytes, shown_from}
 use Rattle.sys_state.specs.Guests.{powered}
 use Rattle.sys_state.specs.Run.{Input, Moment}
 use Rattle.sys_runs.specs.Given.{MakesWith}
 use Rattle.sys_runs.specs.Ran.{RunOutside, Runs, Untouched}
-use Rattle.sys_runs.specs.Saved.{ContinuesRun, SavesRun}
+use Rattle.sys_runs.specs.Saved.{ContinuesRun, ExtendsRun, SavesRun}
 use Rattle.sys_runs.specs.declared.running.Ran.{Ran}
 use Rattle.sys_runs.specs.declared.saving.Saved.{Saved}
 use Rattle.sys_script.specs.declared.event.Event.{Event}
@@ -41,10 +43,10 @@ use Rattle.sys_system.specs.declared.power.PowerFault.{PowerFault}
 use Rattle.sys_system.specs.declared.power.PowerFault.TheVariants as faults
 use Rattle.sys_trace.specs.Trace.{trace_of}
 use Rattle.vv_gen.specs.Workload.{Generated, workload_of}
-use Rattle.vvmm_files.specs.Files.{HasAll, HasAllToLive, HasAllToSave, HasBoth, HasConfig, IsRead, StopsAudit, StopsConfig, StopsFile, StopsLive, StopsResume, StopsRun, StopsSave}
+use Rattle.vvmm_files.specs.Files.{HasAll, HasAllToLive, HasAllToSave, HasBoth, HasConfig, IsRead, StopsAudit, StopsConfig, StopsExtend, StopsFile, StopsLive, StopsResume, StopsRun, StopsSave}
 use Rattle.vvmm_files.specs.Solo.{solo_config, solo_guest}
 use Rattle.vvmm_call.specs.Summary.{check_line, summary}
-use Rattle.vvmm_files.specs.Words.{Asked, AuditAsked, LiveAsked, ResumeAsked, RunAsked, Wanted, WantsSolo, WantsTrace, WantsRun, WantsSave, WantsResume, WantsLive, WantsLoad, WantsCheck, WantsMigration, WantsAudit, WantsFlow, WantsDrawing, WantsBytes, WantsListing, WantsText}
+use Rattle.vvmm_files.specs.Words.{Asked, AuditAsked, LiveAsked, ResumeAsked, RunAsked, Wanted, WantsSolo, WantsTrace, WantsRun, WantsSave, WantsResume, WantsExtend, WantsLive, WantsLoad, WantsCheck, WantsMigration, WantsAudit, WantsFlow, WantsDrawing, WantsBytes, WantsListing, WantsText}
 use Rattle.vvmm_files.specs.declared.status.Status.{Status}
 use Rattle.vvmm_files.specs.declared.status.Status.TheVariants.{Done, Words, Missing, TooLong, ShelfFault, Config as ConfigRefused, Script as ScriptRefused, Image, VolumeSize, DriveIn, Device as DeviceFault, Asm, SnapSize, Snap as SnapRefused, Audit, OutFault, KeyFault, NoMemory}
 use Rattle.vvmm_files.specs.declared.stop.Stop.{Stop}
@@ -206,19 +208,33 @@ pub record PlaysSave (a : RunAsked) (status : Status) (o : Outside) : Type 0 whe
 abbrev pub FollowsSave : RunAsked → Status → Outside → Type 0
 FollowsSave a status o = (Stops (StopsSave o.files a o.shelf o.shelf') status × Silent o) ⊎ PlaysSave a status o
 
--- `resume`: snapshot and script were fetched, and the run goes on. From the snapshot's moment on its devices are separate.
-pub record PlaysResume (a : ResumeAsked) (status : Status) (o : Outside) : Type 0 where
+-- A command that goes on from a snapshot: that and the script were fetched, and so it ends, from its moment and with its text.
+pub record PlaysFrom (Left : Type 0) (a : ResumeAsked) (o : Outside) (Ends : Moment → List ℕ → List Event → Result Left PowerFault → Type 0) : Type 0 where
   pub moment : Moment
   pub events : List Event
   pub has : HasBoth o.files a moment events
   pub shelf : o.shelf' ≡ o.shelf
-  pub result : Result Ran PowerFault
-  pub goes_on : ContinuesRun moment events a.rounds result (run_outside o)
-  pub answers : AnswersRun a.rounds result status o.out o.out'
-  pub separate : IsSeparateFrom moment events a.rounds
+  pub result : Result Left PowerFault
+  pub ends : Ends moment has.snap.is.text events result
+
+-- `resume`: the run goes on, and its summary is put. From the snapshot's moment on its devices are separate.
+abbrev pub PlaysResume : ResumeAsked → Status → Outside → Type 0
+PlaysResume a status o = PlaysFrom Ran a o (λ m text es result. ContinuesRun m es a.rounds result (run_outside o) × AnswersRun a.rounds result status o.out o.out' × IsSeparateFrom m es a.rounds)
 
 abbrev pub FollowsResume : ResumeAsked → Status → Outside → Type 0
 FollowsResume a status o = (Stops (StopsResume o.files a o.shelf o.shelf') status × Silent o) ⊎ PlaysResume a status o
+
+-- From a moment on, what rounds show on each device is what they show when all whose class doesn't flow into its own was taken out
+-- of the moment and of the events.
+abbrev pub IsShownSeparateFrom : Moment → List Event → ℕ → Type 0
+IsShownSeparateFrom m es n = All (λ d. shown_from (purged_moment m d.class) (purge_events m.config es d.class) n d.line ≡ shown_from m es n d.line) (devices_of m.config)
+
+-- `extend`: the run goes on, to a round that a snapshot can have, and is put as one. From its moment on its devices are separate.
+abbrev pub PlaysExtend : ResumeAsked → Status → Outside → Type 0
+PlaysExtend a status o = PlaysFrom Saved a o (λ m text es result. ExtendsRun m text es a.rounds result (run_outside o) o.out o.out' × AnswersSave result status × IsShownSeparateFrom m es a.rounds × (m.made + a.rounds ≤ 1000000))
+
+abbrev pub FollowsExtend : ResumeAsked → Status → Outside → Type 0
+FollowsExtend a status o = (Stops (StopsExtend o.files a o.shelf o.shelf') status × Silent o) ⊎ PlaysExtend a status o
 
 -- the answer where all was done: a device that failed goes first, then what is cut, then that the typing broke off, or that
 -- memory ran out for a typed line
@@ -342,6 +358,7 @@ Says (Some (WantsTrace a)) status o p = FollowsTrace a status o × Untyped p
 Says (Some (WantsRun a)) status o p = FollowsRun a status o × Untyped p
 Says (Some (WantsSave a)) status o p = FollowsSave a status o × Untyped p
 Says (Some (WantsResume a)) status o p = FollowsResume a status o × Untyped p
+Says (Some (WantsExtend a)) status o p = FollowsExtend a status o × Untyped p
 Says (Some (WantsLive a)) status o p = FollowsLive a status o p
 Says (Some (WantsLoad number)) status o p = FollowsLoad number status (run_outside o) o.out o.out' × (o.shelf' ≡ o.shelf) × Untyped p
 Says (Some (WantsCheck name)) status o p = FollowsConfig AreCounts name status (shelf_and_sink o) × Apart o × Untyped p

@@ -8,7 +8,7 @@ use crate::live::live;
 use crate::loading::load;
 use crate::playing::{close, play};
 use crate::report::check_line;
-use crate::snaps::{resume, save};
+use crate::snaps::{extend, resume, save};
 use crate::stop::stopped_status;
 use crate::traces::trace;
 use std::alloc::Global;
@@ -198,6 +198,9 @@ pub fn vvmm_run<H: Hardware, S: Shelf, O: Sink, K: Keyboard, E: Sink, P: Progres
             alloc, order, shelf, machine, lines, drives, out, progress,
         ),
         Some(Request::Resume(order)) => resume(
+            alloc, order, shelf, machine, lines, drives, out, progress,
+        ),
+        Some(Request::Extend(order)) => extend(
             alloc, order, shelf, machine, lines, drives, out, progress,
         ),
         Some(Request::Live(order)) => live(

@@ -17,7 +17,9 @@ use Rattle.sys_objects.specs.declared.records.VolumeRow.{VolumeRow}
 use Rattle.sys_state.proofs.Places.{both}
 use Rattle.sys_state.specs.Run.{Moment}
 use Rattle.sys_runs.specs.Ran.{MakesFrom, RunOutside, Runs, StaysDown, Unshown}
+use Rattle.sys_runs.specs.Saved.{SavesFrom}
 use Rattle.sys_runs.specs.declared.running.Ran.{Ran}
+use Rattle.sys_runs.specs.declared.saving.Saved.{Saved}
 use Rattle.sys_script.specs.declared.event.Event.{Event}
 use Rattle.sys_system.specs.Devices.{device_of}
 use Rattle.sys_devices.specs.declared.device.Device.{Device}
@@ -162,6 +164,18 @@ module _ (m : Moment) (es : List Event) (n : ℕ) (ran : Ran) (o : RunOutside) (
 
   pub made_names_drive : (d : ℕ) → (drive_at o.drives d).faults < (drive_at o.drives' d).faults → NamesDrive d status
   made_names_drive d h = subst (λ (s : Status). NamesDrive d s) (sym closes.is) (names_drive m es n ran o made closes.cut d h)
+
+-- Or their last moment was.
+module _ (m : Moment) (es : List Event) (n : ℕ) (text : List ℕ) (saved : Saved) (o : RunOutside) (out out' : Seen) (saves : SavesFrom m es n text saved o out out') (status : Status) (is : status ≡ status_when_done saved.failed saved.is_cut) where
+  pub saved_served : NoLineRose o → (Rose out.faults out'.faults → ⊥) → IsServed status
+  saved_served lines kept =
+      let failed : saved.failed ≡ None = saves.failed ∙ no_device (first_marked saves.marks) None (λ k e. lines k (line_rose saves.marks o.lines o.lines' _ k e saves.lines)) (λ d e. cc) in
+      subst (λ (s : Status). IsServed s) (sym is) (shown_served saved.failed saved.is_cut _ out out' failed saves.shown kept)
+
+  pub saved_names_line : (k : ℕ) → (line_at o.lines k).faults < (line_at o.lines' k).faults → NamesLine k status
+  saved_names_line k h =
+      let named : status ≡ status_when_done (device_of (first_marked saves.marks) None) saved.is_cut = is ∙ ap (λ (f : Option Device). status_when_done f saved.is_cut) saves.failed in
+      subst (λ (s : Status). NamesLine k s) (sym named) (named_line saves.marks o.lines o.lines' _ k saves.lines h (first_marked saves.marks) None saved.is_cut refl)
 
 module _ (c : Config) (images : List (List ℕ)) (es : List Event) (rounds : ℕ) (status : Status) (o : RunOutside) (out out' : Seen) (p : PlaysConfiguration c images es rounds status o out out') where
   -- images and drives that fit, and no risen count, are served
