@@ -1,5 +1,6 @@
 -- A run whose last moment is shown.
 use Rattle.std.proofs.Common.{ℕ, ◌≡◌, ◌≤◌, ◌+◌, List, length, map, refl, sym, ◌∙◌, ap, subst, arith, false, All, IfOk, Result, Ok, Err}
+use Rattle.sys_runs.specs.Asks.{MissesArePaid}
 use Rattle.std.proofs.lemmas.Bool.{true≢false}
 use Rattle.std.specs.Result.{is_err}
 use Rattle.vax_hw.specs.Machine.{Machine}
@@ -47,7 +48,7 @@ module _ (m : Moment) (es : List Event) (n : ℕ) (m0 m1 m2 : Machine) (s0 s1 : 
 
   pub rounds_saved : {T E : Type 0} → HavePresent s0.guests (map none_touched (guests_in m1.memory s0.guests)) → (text : List ℕ) (saved : Saved) (out out' : Seen) (shows : Result T E) → IsSystem s1 → s0.rounds + n ≤ 1000000 → length lines1 ≡ length lines → saved.failed ≡ first_failed s1.marks s1.drives → saved.is_cut ≡ is_err shows
       → ShownSince (is_err shows) out out' (snap_bytes text (moment_of m2.memory s1)) → IfOk shows (λ _. All (λ k. IsSound (registers_of k.state)) s1.guests) → IfOk shows (λ _. All HasBlocks s1.volumes)
-      → SavesFrom m es n text saved (record { machine = m0; machine' = m2; lines = lines; lines' = lines1; drives = drives; drives' = drives }) out out'
+      → SavesFrom MissesArePaid m es n text saved (record { machine = m0; machine' = m2; lines = lines; lines' = lines1; drives = drives; drives' = drives }) out out'
   rounds_saved present text saved out out' shows holds few size failed cut shown sound long = record {
     fit = fit;
     marks = s1.marks;
@@ -55,9 +56,7 @@ module _ (m : Moment) (es : List Event) (n : ℕ) (m0 m1 m2 : Machine) (s0 s1 : 
     size = size;
     drives = refl;
     retires = retired m es n m0 m1 m2 s0 s1 lines lines1 p alone r;
-    missed = r.pays.missed;
-    misses = all_missed m es n m0 m1 m2 s0 s1 lines lines1 p alone r;
-    touches = all_touched m es n m0 m1 m2 s0 s1 lines lines1 p alone r present;
+    also = record { missed = r.pays.missed; misses = all_missed m es n m0 m1 m2 s0 s1 lines lines1 p alone r; touches = all_touched m es n m0 m1 m2 s0 s1 lines lines1 p alone r present };
     failed = failed ∙ ap (first_failed s1.marks) (no_drives m es n m0 m1 m2 s0 s1 lines lines1 p alone r);
     shown = subst (λ b. ShownSince b out out' (snap_bytes text (moment_after m es n))) (sym cut) (subst (λ (k : Moment). ShownSince (is_err shows) out out' (snap_bytes text k)) at shown);
     moment = λ whole.
@@ -67,10 +66,10 @@ module _ (m : Moment) (es : List Event) (n : ℕ) (m0 m1 m2 : Machine) (s0 s1 : 
 
 -- power came up before
 pub run_saved : (c : Config) (images : List (List ℕ)) (es : List Event) (n : ℕ) (m0 m1 m2 : Machine) (s0 : System) (lines lines1 : List Seen) (drives drives1 : List SeenDrive) (p : HasPower c images drives drives1 m1 s0) (text : List ℕ) (saved : Saved) (out out' : Seen)
-    → SavesFrom (first_moment c images p.volumes) es n text saved (record { machine = m0; machine' = m2; lines = lines; lines' = lines1; drives = drives1; drives' = drives1 }) out out'
-    → Saves (record { config = c; images = images; volumes = p.volumes; events = es; rounds = n }) text saved (record { machine = m0; machine' = m2; lines = lines; lines' = lines1; drives = drives; drives' = drives1 }) out out'
+    → SavesFrom MissesArePaid (first_moment c images p.volumes) es n text saved (record { machine = m0; machine' = m2; lines = lines; lines' = lines1; drives = drives1; drives' = drives1 }) out out'
+    → Saves MissesArePaid (record { config = c; images = images; volumes = p.volumes; events = es; rounds = n }) text saved (record { machine = m0; machine' = m2; lines = lines; lines' = lines1; drives = drives; drives' = drives1 }) out out'
 run_saved c images es n m0 m1 m2 s0 lines lines1 drives drives1 p text saved out out' saves = record {
   fits = p.fits;
   loaded = p.loaded.0;
-  saves = subst (λ (ds : List SeenDrive). SavesFrom (first_moment c images p.volumes) es n text saved (record { machine = m0; machine' = m2; lines = lines; lines' = lines1; drives = ds; drives' = drives1 }) out out') p.loaded.1 saves;
+  saves = subst (λ (ds : List SeenDrive). SavesFrom MissesArePaid (first_moment c images p.volumes) es n text saved (record { machine = m0; machine' = m2; lines = lines; lines' = lines1; drives = ds; drives' = drives1 }) out out') p.loaded.1 saves;
 }

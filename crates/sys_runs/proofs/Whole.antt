@@ -1,5 +1,6 @@
 -- Rounds are made from a moment on, and power goes down.
 use Rattle.std.proofs.Common.{ℕ, ◌≡◌, List, length, map, replicate, sym, ◌∙◌, ap, subst, arith, Bool, false, All, vec_len}
+use Rattle.sys_runs.specs.Asks.{MissesArePaid}
 use Rattle.std.proofs.lemmas.List.{length-map}
 use Rattle.std.specs.Global.{Vec}
 use Rattle.vax_hw.specs.Machine.{Machine}
@@ -52,7 +53,7 @@ module _ (m : Moment) (es : List Event) (n : ℕ) (m0 m1 m2 : Machine) (s0 s1 s2
       (subst (λ (y : Config). StoresToDrives y.volumes s1.volumes s1.drives s2.drives drives drives2) (config1 m es n m0 m1 m2 s0 s1 lines lines1 p alone r) d.stores)
 
   pub rounds_made : (ran : Ran) → IsSystem s1 → ran.counts ≡ s2.counts → ran.failed ≡ first_failed s2.marks s2.drives → length lines2 ≡ length lines → length drives2 ≡ length drives
-      → MakesFrom m es n ran (record { machine = m0; machine' = m2; lines = lines; lines' = lines2; drives = drives; drives' = drives2 })
+      → MakesFrom MissesArePaid m es n ran (record { machine = m0; machine' = m2; lines = lines; lines' = lines2; drives = drives; drives' = drives2 })
   rounds_made ran holds counts failed lines_size drives_size = record {
     fit = subst (λ (y : Config). All (FitsDrive drives) y.volumes) same fit;
     marks = s2.marks;
@@ -63,9 +64,7 @@ module _ (m : Moment) (es : List Event) (n : ℕ) (m0 m1 m2 : Machine) (s0 s1 s2
     counts = ap tally_of counts ∙ ap (λ (s : System). tally_of s.counts) d.system ∙ counted m es n m0 m1 m2 s0 s1 lines lines1 p alone r;
     few = steps_few m es n m0 m1 m2 s0 s1 lines lines1 p alone r ran.counts (counts ∙ ap (λ (s : System). s.counts) d.system) holds;
     retires = retired m es n m0 m1 m2 s0 s1 lines lines1 p alone r;
-    missed = r.pays.missed;
-    misses = all_missed m es n m0 m1 m2 s0 s1 lines lines1 p alone r;
-    touches = all_touched m es n m0 m1 m2 s0 s1 lines lines1 p alone r present;
+    also = record { missed = r.pays.missed; misses = all_missed m es n m0 m1 m2 s0 s1 lines lines1 p alone r; touches = all_touched m es n m0 m1 m2 s0 s1 lines lines1 p alone r present };
     failed = failed;
   }
 
@@ -80,10 +79,19 @@ module _ (c : Config) (images : List (List ℕ)) (m1 : Machine) (s0 : System) (d
   pub fits_read : All (FitsDrive drives1) c.volumes
   fits_read = subst (λ (ds : List SeenDrive). All (FitsDrive ds) c.volumes) (sym p.loaded.1) p.loaded.0.fit
 
-  pub run_made : (es : List Event) (n : ℕ) (m0 m2 : Machine) (lines lines2 : List Seen) (drives2 : List SeenDrive) (ran : Ran) → MakesFrom (first_moment c images p.volumes) es n ran (record { machine = m0; machine' = m2; lines = lines; lines' = lines2; drives = drives1; drives' = drives2 })
-      → MakesRun (record { config = c; images = images; volumes = p.volumes; events = es; rounds = n }) ran (record { machine = m0; machine' = m2; lines = lines; lines' = lines2; drives = drives; drives' = drives2 })
+  pub run_made : (es : List Event) (n : ℕ) (m0 m2 : Machine) (lines lines2 : List Seen) (drives2 : List SeenDrive) (ran : Ran) → MakesFrom MissesArePaid (first_moment c images p.volumes) es n ran (record { machine = m0; machine' = m2; lines = lines; lines' = lines2; drives = drives1; drives' = drives2 })
+      → MakesRun MissesArePaid (record { config = c; images = images; volumes = p.volumes; events = es; rounds = n }) ran (record { machine = m0; machine' = m2; lines = lines; lines' = lines2; drives = drives; drives' = drives2 })
   run_made es n m0 m2 lines lines2 drives2 ran made = record {
     fits = p.fits;
     loaded = p.loaded.0;
-    makes = subst (λ (ds : List SeenDrive). MakesFrom (first_moment c images p.volumes) es n ran (record { machine = m0; machine' = m2; lines = lines; lines' = lines2; drives = ds; drives' = drives2 })) p.loaded.1 made;
+    makes = subst (λ (ds : List SeenDrive). MakesFrom MissesArePaid (first_moment c images p.volumes) es n ran (record { machine = m0; machine' = m2; lines = lines; lines' = lines2; drives = ds; drives' = drives2 })) p.loaded.1 made;
   }
+
+  pub made_at_once : (es : List Event) (n : ℕ) (m0 m2 : Machine) (s1 s2 : System) (lines lines1 lines2 : List Seen) (drives2 : List SeenDrive) → IsConfig c → MemoryAlone m0 m1 → MakesRounds n es m1 s0 lines m2 s1 lines1 → PowersDown m2 s1 lines1 drives1 s2 lines2 drives2
+      → HavePresent s0.guests (map none_touched (guests_in m1.memory s0.guests)) → (ran : Ran) → IsSystem s1 → ran.counts ≡ s2.counts → ran.failed ≡ first_failed s2.marks s2.drives → length lines2 ≡ length lines → length drives2 ≡ length drives
+      → MakesRun MissesArePaid (record { config = c; images = images; volumes = p.volumes; events = es; rounds = n }) ran (record { machine = m0; machine' = m2; lines = lines; lines' = lines2; drives = drives; drives' = drives2 })
+  made_at_once es n m0 m2 s1 s2 lines lines1 lines2 drives2 accepted alone r d present ran holds counts failed lines_size drives_size =
+      let m : Moment = first_moment c images p.volumes in
+      let config : s0.config ≡ c = ap (λ (s : System). s.config) p.powered.system in
+      run_made es n m0 m2 lines lines2 drives2 ran
+      (rounds_made m es n m0 m1 m2 s0 s1 s2 lines lines1 lines2 drives1 drives2 (subst IsConfig (sym config) accepted) (fits_at m m1 s0 drives1 p.powered fits_read) p.powered alone r d present ran holds counts failed lines_size (drives_size ∙ ap length (sym p.loaded.1)))

@@ -1,4 +1,5 @@
 ghost use Rattle.std.specs.Prelude.{◌≡◌, ◌≤◌, ◌*◌, length, map, vec_len};
+ghost use Rattle.sys_runs.specs.Asks.{MissesArePaid};
 ghost use Rattle.vvmm_call.specs.Answer.{AnswersSave, FollowsExtend, FollowsResume, FollowsSave};
 
 use crate::playing::{answer, done_status};
@@ -35,7 +36,7 @@ pub fn save<H: Hardware, S: Shelf, O: Sink, P: Progress, L: Lines>(
     requires pages { length (H.machine machine.old).memory ≡ 512 * 32768 }
     requires drives { vec_len drives.old ≡ 16 }
     requires few { order.rounds ≤ 1000000 }
-    ensures { FollowsSave (record { config = order.config; script = order.script; rounds = order.rounds }) result (record { files = S.files shelf.old; shelf = S.faults shelf.old; shelf' = S.faults shelf.new; machine = H.machine machine.old; machine' = H.machine machine.new; lines = L.lines lines.old; lines' = L.lines lines.new; drives = map (λ d. kept d) drives.old.items; drives' = map (λ d. kept d) drives.new.items; out = O.printed out.old; out' = O.printed out.new }) }
+    ensures { FollowsSave MissesArePaid (record { config = order.config; script = order.script; rounds = order.rounds }) result (record { files = S.files shelf.old; shelf = S.faults shelf.old; shelf' = S.faults shelf.new; machine = H.machine machine.old; machine' = H.machine machine.new; lines = L.lines lines.old; lines' = L.lines lines.new; drives = map (λ d. kept d) drives.old.items; drives' = map (λ d. kept d) drives.new.items; out = O.printed out.old; out' = O.printed out.new }) }
 {
     let to_save = match fetch_to_save(alloc, shelf, &order) {
         Ok(to_save) => to_save,
@@ -72,7 +73,7 @@ pub fn resume<H: Hardware, S: Shelf, O: Sink, P: Progress, L: Lines>(
     requires pages { length (H.machine machine.old).memory ≡ 512 * 32768 }
     requires drives { vec_len drives.old ≡ 16 }
     requires few { order.rounds ≤ 1000000 }
-    ensures { FollowsResume (record { snap = order.snap; script = order.script; rounds = order.rounds }) result (record { files = S.files shelf.old; shelf = S.faults shelf.old; shelf' = S.faults shelf.new; machine = H.machine machine.old; machine' = H.machine machine.new; lines = L.lines lines.old; lines' = L.lines lines.new; drives = map (λ d. kept d) drives.old.items; drives' = map (λ d. kept d) drives.new.items; out = O.printed out.old; out' = O.printed out.new }) }
+    ensures { FollowsResume MissesArePaid (record { snap = order.snap; script = order.script; rounds = order.rounds }) result (record { files = S.files shelf.old; shelf = S.faults shelf.old; shelf' = S.faults shelf.new; machine = H.machine machine.old; machine' = H.machine machine.new; lines = L.lines lines.old; lines' = L.lines lines.new; drives = map (λ d. kept d) drives.old.items; drives' = map (λ d. kept d) drives.new.items; out = O.printed out.old; out' = O.printed out.new }) }
 {
     let inputs = match fetch_to_resume(alloc, shelf, &order) {
         Ok(inputs) => inputs,
@@ -105,7 +106,7 @@ pub fn extend<H: Hardware, S: Shelf, O: Sink, P: Progress, L: Lines>(
 ) -> Status
     requires pages { length (H.machine machine.old).memory ≡ 512 * 32768 }
     requires drives { vec_len drives.now ≡ 16 }
-    ensures { FollowsExtend (record { snap = order.snap; script = order.script; rounds = order.rounds }) result (record { files = S.files shelf.old; shelf = S.faults shelf.old; shelf' = S.faults shelf.new; machine = H.machine machine.old; machine' = H.machine machine.new; lines = L.lines lines.old; lines' = L.lines lines.new; drives = map (λ d. kept d) drives.now.items; drives' = map (λ d. kept d) drives.now.items; out = O.printed out.old; out' = O.printed out.new }) }
+    ensures { FollowsExtend MissesArePaid (record { snap = order.snap; script = order.script; rounds = order.rounds }) result (record { files = S.files shelf.old; shelf = S.faults shelf.old; shelf' = S.faults shelf.new; machine = H.machine machine.old; machine' = H.machine machine.new; lines = L.lines lines.old; lines' = L.lines lines.new; drives = map (λ d. kept d) drives.now.items; drives' = map (λ d. kept d) drives.now.items; out = O.printed out.old; out' = O.printed out.new }) }
 {
     let inputs = match fetch_to_extend(alloc, shelf, &order) {
         Ok(inputs) => inputs,
