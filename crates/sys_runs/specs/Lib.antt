@@ -1,3 +1,4 @@
+pub mod Asks
 pub mod Given
 pub mod Laws
 pub mod Ran

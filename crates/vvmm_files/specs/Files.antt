@@ -131,6 +131,13 @@ pub record IsScriptToResume (files : Option (List File)) (a : ResumeAsked) (name
   pub has : HasSnap files a.snap moment
   pub is : name ≡ a.script
 
+-- snapshot and script are accepted, and no snapshot can have as many rounds as there would be
+pub record HasTooMany (files : Option (List File)) (a : ResumeAsked) : Type 0 where
+  pub moment : Moment
+  pub events : List Event
+  pub has : HasBoth files a moment events
+  pub many : 1000000 < moment.made + a.rounds
+
 -- a file of a resumed run that is fetched, as that before it was
 abbrev pub IsNextToResume : Option (List File) → ResumeAsked → List ℕ → Type 0
 IsNextToResume files a name = (name ≡ a.snap) ⊎ IsScriptToResume files a name
@@ -231,6 +238,11 @@ StopsResume files a before now (ScriptRefused f) = (m : Moment) × HasSnap files
 StopsResume files a before now SnapSize = ⊥
 StopsResume files a before now (SnapRefused f) = IsSnapRefused files a.snap f × (now ≡ before)
 StopsResume files a before now NoMemory = Unit {0}
+
+-- .. and is saved
+abbrev pub StopsExtend : Option (List File) → ResumeAsked → ℕ → ℕ → Stop → Type 0
+StopsExtend files a before now SnapSize = HasTooMany files a × (now ≡ before)
+StopsExtend files a before now stop = StopsResume files a before now stop
 
 -- why an audit's files give nothing to check
 abbrev pub StopsAudit : Option (List File) → AuditAsked → ℕ → ℕ → Stop → Type 0
