@@ -1,9 +1,10 @@
 -- The integer arithmetic and logic of the instructions (VAX Architecture Reference Manual: integer arithmetic and
 -- logical instructions): an exact whole number, reduced to the width once, and the condition codes.
-use Rattle.std.specs.Prelude.{ℕ, ◌+◌, ◌-◌, ◌*◌, ◌/◌, ◌%◌, ◌^◌, ◌==◌, Bool, true, false, not, ◌&&◌, nat_lt, nat_le, ℤ, pos, negsuc, ◌+ℤ◌, ◌-ℤ◌, ◌*ℤ◌, neg_ℤ, int_lt, int_le, int_div, unsigned_abs, bit_and, bit_or, bit_xor, Option, Some, None, if◌then◌else◌}
+use Rattle.std.specs.Prelude.{ℕ, ◌+◌, ◌-◌, ◌*◌, ◌/◌, ◌^◌, ◌==◌, Bool, true, false, not, ◌&&◌, nat_lt, nat_le, ℤ, pos, negsuc, ◌+ℤ◌, ◌-ℤ◌, ◌*ℤ◌, neg_ℤ, int_lt, int_le, int_div, unsigned_abs, bit_and, bit_or, bit_xor, Option, Some, None, if◌then◌else◌}
 use Rattle.std.specs.Int.{int_rem_euclid, int_div_euclid, rotate_left, w8, w16, w32, w64}
 use Rattle.vv_base.specs.declared.width.Width.{Width}
 use Rattle.vv_base.specs.declared.width.Width.TheVariants.{Byte, Word, Long, Quad}
+use Rattle.vv_base.specs.Bits.{is_set}
 use Rattle.vv_base.specs.Width.{bits_of, low, signed_of}
 use Rattle.vax_table.specs.declared.answer.Alu.{Alu}
 use Rattle.vax_table.specs.declared.answer.AluOp.{AluOp}
@@ -110,21 +111,15 @@ outcome_of Rot w a b c = logical_result w (rotated w (low w b) (low Byte a)) c
 outcome_of Narrow w a b c = exactly w (signed_of Long a) false
 
 -- the PSW: C is bit 0, V 1, Z 2, N 3, IV 5
-abbrev pub carry_of : ℕ → Bool
-carry_of psw = psw % 2 == 1
-
-abbrev pub traps_overflow : ℕ → Bool
-traps_overflow psw = psw / 2 ^ 5 % 2 == 1
+abbrev pub codes_of : ℕ → Codes
+codes_of psw = record { n = is_set psw 3; z = is_set psw 2; v = is_set psw 1; c = is_set psw 0 }
 
 abbrev pub psw_with : ℕ → Codes → ℕ
 psw_with psw codes = psw / 16 * 16 + 8 * bit_of codes.n + 4 * bit_of codes.z + 2 * bit_of codes.v + bit_of codes.c
 
 -- a zero divisor is trap 2 whatever IV is; V by overflow is trap 1 where IV is set
 abbrev pub trap_of : ℕ → ArithmeticResult → Option ℕ
-trap_of psw o =
-    if o.zero_divisor then Some 2
-    else if o.codes.v && traps_overflow psw then Some 1
-    else None
+trap_of psw o = if o.zero_divisor then Some 2 else if o.codes.v && is_set psw 5 then Some 1 else None
 
 -- an outcome as an answer, over the PSW of before
 abbrev pub alu_of_result : ArithmeticResult → ℕ → Alu
@@ -132,4 +127,4 @@ alu_of_result o psw = record { value = o.value; psw = psw_with psw o.codes; trap
 
 -- an operation's value of the width, the PSW after it, and the type of its arithmetic trap
 unfoldable pub alu_of : AluOp → ℕ → ℕ → Width → ℕ → Alu
-alu_of op a b w psw = alu_of_result (outcome_of op w a b (carry_of psw)) psw
+alu_of op a b w psw = alu_of_result (outcome_of op w a b (is_set psw 0)) psw

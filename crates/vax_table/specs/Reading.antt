@@ -8,6 +8,7 @@ use Rattle.vax_table.specs.declared.forms.Access.{Access}
 use Rattle.vax_table.specs.declared.forms.Access.TheVariants.{Read, Address, Branch}
 use Rattle.vax_table.specs.declared.forms.Form.{Form}
 use Rattle.vax_table.specs.declared.decoded.Spec.{Spec}
+pub use Rattle.vax_table.specs.Operand.{displacement_size}
 use Rattle.vax_table.specs.Rows.{OpcodeEntry, row_of}
 use Rattle.vax_table.specs.Spelling.{unindexed, Instruction, Spells, SpellsNone, HasOpcode, AreBytes}
 
@@ -45,10 +46,6 @@ valued_at mode reg k bytes = if nat_lt (length bytes) k then More else Got (unin
 -- a register other than PC
 abbrev pub named_at : ℕ → ℕ → List ℕ → OperandReading
 named_at mode reg bytes = if reg == 15 then Bad else Got (unindexed mode reg 0) bytes
-
--- the bytes of a displacement in the modes A to F
-abbrev pub displacement_size : ℕ → ℕ
-displacement_size mode = if nat_lt mode 12 then 1 else (if nat_lt mode 14 then 2 else 4)
 
 -- a specifier of the modes 5 to F: form, mode, register, and the bytes after the first
 unfoldable pub specifier_by : Form → ℕ → ℕ → List ℕ → OperandReading

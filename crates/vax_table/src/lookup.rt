@@ -1,4 +1,6 @@
 ghost use Rattle.std.specs.Prelude.{◌≡◌, true};
+ghost use Rattle.vax_table.specs.Acted.{meaning_by};
+ghost use Rattle.vax_table.specs.InstructionSet.{opcode_meaning};
 ghost use Rattle.vax_table.specs.Operations.{is_narrow, operation_of};
 ghost use Rattle.vax_table.specs.RowViews.{opcode_entry_view, row_views};
 ghost use Rattle.vax_table.specs.Rows.{row_of};
@@ -58,6 +60,7 @@ pub fn row(opcode: u8) -> Option<Row>
 /// What the instruction of an opcode does after its operands; `Other` exactly where no instruction has the opcode.
 pub fn operation(opcode: u8) -> Operation
     ensures value { result ≡ operation_of opcode }
+    ensures means { meaning_by result ≡ opcode_meaning opcode }
     ensures narrow { is_narrow result ≡ true }
 {
     OPERATIONS[usize::from(opcode)]
