@@ -36,9 +36,8 @@ with_operand i o e = record { values = slice_set o.values i e.value; dests = sli
 
 -- the operands from number i on, in order
 abbrev pub operands_from : ℕ → List Form → List Spec → Operands → Interaction Operands
-operands_from i [] ss o = Done o
-operands_from i (f ∷ fs) [] o = Done o
 operands_from i (f ∷ fs) (s ∷ ss) o = operand_of f s o.r >>= λ e. operands_from (i + 1) fs ss (with_operand i o e)
+operands_from i fs ss o = Done o
 
 abbrev pub no_operands : List ℕ → Operands
 no_operands r = record { values = 0 ∷ 0 ∷ 0 ∷ 0 ∷ []; dests = Nowhere ∷ Nowhere ∷ Nowhere ∷ Nowhere ∷ []; r = r }

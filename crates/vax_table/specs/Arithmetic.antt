@@ -38,17 +38,13 @@ pub record ArithmeticResult : Type 0 where
   pub codes : Codes
   pub zero_divisor : Bool
 
--- a value, with N and Z of it
+-- a value, with N and Z of it; of bits V is 0, and C as before (class L)
 abbrev pub valued : Width → ℕ → Bool → Bool → ArithmeticResult
 valued w n v c = record { value = n; codes = record { n = nat_le (2 ^ (bits_of w - 1)) n; z = n == 0; v = v; c = c }; zero_divisor = false }
 
 -- An exact result: V says that it doesn't fit. C is a carry or borrow (class A), 0 (M), or as before (K).
 abbrev pub exactly : Width → ℤ → Bool → ArithmeticResult
 exactly w x c = valued w (reduced w x) (not (does_fit w x)) c
-
--- A result of bits: V is 0. C is as before (class L).
-abbrev pub logical_result : Width → ℕ → Bool → ArithmeticResult
-logical_result w n c = valued w n false c
 
 -- second plus first plus a carry
 abbrev pub sum_of : Width → ℕ → ℕ → Bool → ArithmeticResult
@@ -97,17 +93,17 @@ outcome_of Sub w a b c = difference_of w a b false
 outcome_of SubBorrow w a b c = difference_of w a b c
 outcome_of Mul w a b c = exactly w (signed_of w b *ℤ signed_of w a) false
 outcome_of Div w a b c = quotient_of w a b
-outcome_of Bis w a b c = logical_result w (bit_or (low w b) (low w a)) c
-outcome_of Bic w a b c = logical_result w (bit_and (low w b) (complement w a)) c
-outcome_of Xor w a b c = logical_result w (bit_xor (low w b) (low w a)) c
+outcome_of Bis w a b c = valued w (bit_or (low w b) (low w a)) false c
+outcome_of Bic w a b c = valued w (bit_and (low w b) (complement w a)) false c
+outcome_of Xor w a b c = valued w (bit_xor (low w b) (low w a)) false c
 outcome_of Mneg w a b c = negation_of w a
-outcome_of Mcom w a b c = logical_result w (complement w a) c
-outcome_of Move w a b c = logical_result w (low w a) c
+outcome_of Mcom w a b c = valued w (complement w a) false c
+outcome_of Move w a b c = valued w (low w a) false c
 outcome_of Cmp w a b c = comparison_of w a b
-outcome_of Bit w a b c = logical_result w (bit_and (low w b) (low w a)) c
-outcome_of Tst w a b c = logical_result w (low w a) false
+outcome_of Bit w a b c = valued w (bit_and (low w b) (low w a)) false c
+outcome_of Tst w a b c = valued w (low w a) false false
 outcome_of Ash w a b c = exactly w (shifted (signed_of w b) (signed_of Byte a)) false
-outcome_of Rot w a b c = logical_result w (rotated w (low w b) (low Byte a)) c
+outcome_of Rot w a b c = valued w (rotated w (low w b) (low Byte a)) false c
 outcome_of Narrow w a b c = exactly w (signed_of Long a) false
 
 -- the PSW: C is bit 0, V 1, Z 2, N 3, IV 5
