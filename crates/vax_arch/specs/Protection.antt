@@ -4,7 +4,7 @@ use Rattle.std.specs.Prelude.{ℕ, Bool, true, false, List, [], ◌∷◌, slice
 use Rattle.vax_arch.specs.declared.mode.Mode.{Mode}
 use Rattle.vax_arch.specs.declared.mode.Mode.TheVariants.{Kernel, Executive, Supervisor, User}
 use Rattle.vax_arch.specs.declared.mode.Intent.{Intent}
-use Rattle.vax_arch.specs.declared.mode.Intent.TheVariants.{Read, Write}
+use Rattle.vax_arch.specs.declared.mode.Intent.TheVariants.{Read}
 
 -- what a mode may do: nothing, read, or read and write
 pub data Rights : Type 0 where

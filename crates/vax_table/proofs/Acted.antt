@@ -6,11 +6,11 @@ use Rattle.vax_table.specs.AllOperands.{operands_of}
 use Rattle.vax_table.specs.Effects.{Effect}
 use Rattle.vax_table.specs.Fetch.{fetched}
 use Rattle.vax_table.specs.InstructionSet.{Meaning, Sensitive, Privileged, opcode_meaning}
-use Rattle.vax_table.specs.Interaction.{Interaction, Done, Refuse, ◌>>=◌, Space, bind_result, outcome}
+use Rattle.vax_table.specs.Interaction.{Done, Refuse, ◌>>=◌, Space, bind_result, outcome}
 use Rattle.vax_table.specs.Operations.{operation_of}
 use Rattle.vax_table.specs.Plan.{performed_with, plan_of}
 use Rattle.vax_table.specs.Spelling.{Instruction}
-use Rattle.vax_table.specs.Whole.{Meant, Plain, comes_to, instruction, meant, trapping}
+use Rattle.vax_table.specs.Whole.{Plain, comes_to, instruction, meant, trapping}
 use Rattle.vax_table.specs.declared.act.Refusal.TheVariants as refusals
 use Rattle.vax_table.specs.declared.act.Sens.{Sens}
 use Rattle.vax_table.specs.declared.meaning.Operation.{Operation}

@@ -6,7 +6,7 @@ use Rattle.std.proofs.lemmas.Bool.Decides.{nat_tests}
 use Rattle.std.proofs.lemmas.List.{get_or-replicate, get_or_past}
 use Rattle.std.proofs.lemmas.List.FromFn.{get_or-map-range_with_len}
 use Rattle.vv_base.specs.declared.width.Width.{Width}
-use Rattle.vv_base.specs.declared.width.Width.TheVariants.{Byte, Word, Long, Quad}
+use Rattle.vv_base.specs.declared.width.Width.TheVariants.{Long, Quad}
 use Rattle.vv_base.specs.Width.{size_of}
 use Rattle.vax_table.specs.declared.act.Dest.{Dest}
 use Rattle.vax_table.specs.declared.act.Dest.TheVariants.{Nowhere, Register, Memory}
