@@ -140,7 +140,7 @@ fn letters_of(alloc: Global, forms: &[Form]) -> Result<Vec<u8>, AllocError> {
     Ok(letters)
 }
 
-/// An opcode's row has the manual's operands, and says whether a monitor does the instruction.
+/// An opcode's row has the manual's operands, and its operation says whether a monitor does the instruction.
 fn check_row(rt: &impl Abort, alloc: Global, opcode: u8, letters: &str) -> Result<(), AllocError> {
     match row(opcode) {
         None => assert!(rt; letters == "-", "at {opcode}"),

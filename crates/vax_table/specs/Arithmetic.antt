@@ -114,12 +114,12 @@ abbrev pub psw_with : ℕ → Codes → ℕ
 psw_with psw codes = psw / 16 * 16 + 8 * bit_of codes.n + 4 * bit_of codes.z + 2 * bit_of codes.v + bit_of codes.c
 
 -- a zero divisor is trap 2 whatever IV is; V by overflow is trap 1 where IV is set
-abbrev pub trap_of : ℕ → ArithmeticResult → Option ℕ
-trap_of psw o = if o.zero_divisor then Some 2 else if o.codes.v && is_set psw 5 then Some 1 else None
+abbrev pub arithmetic_trap : ℕ → ArithmeticResult → Option ℕ
+arithmetic_trap psw o = if o.zero_divisor then Some 2 else if o.codes.v && is_set psw 5 then Some 1 else None
 
 -- an outcome as an answer, over the PSW of before
 abbrev pub alu_of_result : ArithmeticResult → ℕ → Alu
-alu_of_result o psw = record { value = o.value; psw = psw_with psw o.codes; trap = trap_of psw o }
+alu_of_result o psw = record { value = o.value; psw = psw_with psw o.codes; trap = arithmetic_trap psw o }
 
 -- an operation's value of the width, the PSW after it, and the type of its arithmetic trap
 unfoldable pub alu_of : AluOp → ℕ → ℕ → Width → ℕ → Alu
