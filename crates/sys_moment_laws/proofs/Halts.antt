@@ -28,7 +28,7 @@ use Rattle.vm_state.specs.Packets.{accepted}
 use Rattle.vm_state.specs.Probe.{Answers, NotValid, Probed, probe}
 use Rattle.vm_state.specs.Probe as probes
 use Rattle.vm_state.specs.Pushes.{Faulty, Homes, PastMemory, Walked, push_walked}
-use Rattle.vm_state.specs.Registers.{Value, Written, after_read, after_write, allows, read, read_or_refused, read_to, register_of, value_of, with_pointer, write_by, written}
+use Rattle.vm_state.specs.Registers.{Value, Written, after_read, allows, read, read_or_refused, read_to, register_of, register_row, with_pointer, write_by, written}
 use Rattle.vm_state.specs.Run.{after_step}
 use Rattle.vm_state.specs.Sensitive.{ClearAt, Does, Faults, LacksMemory, Sensed, StopsThere, after_register_read, change_mode, chm_walked, destination_walked, fault_of, guest_past_instruction, mfpr_by, mode_changed, mtpr_by, packet_taken, past_instruction, put_at, rei_by, sensed, switched, troubled, with_codes, with_register_effect}
 use Rattle.vm_state.specs.State.{Guest, State, mode_of_state, pointer_of, stack_in}
@@ -177,38 +177,13 @@ effect_did g s (effects.Kcall packet) h = packet_did g s packet (accepted (lengt
 pointer_fine : (stack v : ℕ) (s : State) → IsHalt s.halt → IsHalt (with_pointer stack v s).halt
 pointer_fine stack v s h = cond_both (stack == stack_in s.psl) (record s { r = slice_set s.r 14 v }) (record s { stacks = slice_set s.stacks stack v }) (λ (x : State). IsHalt x.halt) (λ t. h) (λ t. h)
 
-write_fine : (register : Named) (v : ℕ) (s : State) → IsHalt s.halt → IsHalt (after_write register v s).halt
+write_fine : (register : Named) (v : ℕ) (s : State) → IsHalt s.halt → IsHalt ((register_row register).after_write v s).halt
 write_fine named.Ksp v s h = pointer_fine 0 v s h
 write_fine named.Esp v s h = pointer_fine 1 v s h
 write_fine named.Ssp v s h = pointer_fine 2 v s h
 write_fine named.Usp v s h = pointer_fine 3 v s h
 write_fine named.Isp v s h = pointer_fine 4 v s h
-write_fine named.P0br v s h = h
-write_fine named.P0lr v s h = h
-write_fine named.P1br v s h = h
-write_fine named.P1lr v s h = h
-write_fine named.Sbr v s h = h
-write_fine named.Slr v s h = h
-write_fine named.Pcbb v s h = h
-write_fine named.Scbb v s h = h
-write_fine named.Ipl v s h = h
-write_fine named.Astlvl v s h = h
-write_fine named.Sirr v s h = h
-write_fine named.Sisr v s h = h
-write_fine named.Iccs v s h = h
-write_fine named.Nicr v s h = h
-write_fine named.Icr v s h = h
-write_fine named.Rxcs v s h = h
-write_fine named.Rxdb v s h = h
-write_fine named.Txcs v s h = h
-write_fine named.Txdb v s h = h
-write_fine named.Mapen v s h = h
-write_fine named.Tbia v s h = h
-write_fine named.Tbis v s h = h
-write_fine named.Sid v s h = h
-write_fine named.Kcall v s h = h
-write_fine named.Memsize v s h = h
-write_fine named.Uptime v s h = h
+write_fine register v s h = h
 
 abbrev Wrote : Result Written ReservedOperand → Type 0
 Wrote (Ok w) = IsHalt w.state.halt
@@ -227,37 +202,8 @@ mtpr_did g v (Err refused) h = tt
 mtpr_did g v (Ok w) h = effect_did g (with_codes v w.state) w.effect h
 
 read_fine : (register : Named) (s : State) → IsHalt s.halt → IsHalt (after_read register s).halt
-read_fine named.Ksp s h = h
-read_fine named.Esp s h = h
-read_fine named.Ssp s h = h
-read_fine named.Usp s h = h
-read_fine named.Isp s h = h
-read_fine named.P0br s h = h
-read_fine named.P0lr s h = h
-read_fine named.P1br s h = h
-read_fine named.P1lr s h = h
-read_fine named.Sbr s h = h
-read_fine named.Slr s h = h
-read_fine named.Pcbb s h = h
-read_fine named.Scbb s h = h
-read_fine named.Ipl s h = h
-read_fine named.Astlvl s h = h
-read_fine named.Sirr s h = h
-read_fine named.Sisr s h = h
-read_fine named.Iccs s h = h
-read_fine named.Nicr s h = h
-read_fine named.Icr s h = h
-read_fine named.Rxcs s h = h
 read_fine named.Rxdb s h = h
-read_fine named.Txcs s h = h
-read_fine named.Txdb s h = h
-read_fine named.Mapen s h = h
-read_fine named.Tbia s h = h
-read_fine named.Tbis s h = h
-read_fine named.Sid s h = h
-read_fine named.Kcall s h = h
-read_fine named.Memsize s h = h
-read_fine named.Uptime s h = h
+read_fine register s h = h
 
 abbrev Read : Result Value ReservedOperand → Type 0
 Read (Ok v) = IsHalt v.state.halt
@@ -269,7 +215,7 @@ value_fine s register (Some v) h = read_fine register s h
 
 register_read : (size : ℕ) (s : State) (register : Option Named) → IsHalt s.halt → Read (read_or_refused size s register)
 register_read size s None h = tt
-register_read size s (Some register) h = value_fine s register (value_of size s register) h
+register_read size s (Some register) h = value_fine s register ((register_row register).value size s) h
 
 reads_fine : (size : ℕ) (s : State) (number : ℕ) → IsHalt s.halt → Read (read size s number)
 unfolding read
