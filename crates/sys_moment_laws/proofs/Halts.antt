@@ -23,7 +23,7 @@ use Rattle.vax_table.specs.declared.evaluation.Operands.{Operands}
 use Rattle.sys_moment_laws.specs.Halts.{StopsWithCodes}
 use Rattle.vm_state.specs.Contexts.{BlockPast, PopTrouble, Popped, Reserved, StackTrouble, Switched, Switches, after_pops, after_push, after_reads, control_block_long, is_block_past, is_block_reserved, loaded, loads_context, on_interrupt, saved, saves_context, two_popped}
 use Rattle.vm_state.specs.Initiate.{Arrives, Attempt, Halts, Initiation, KernelStackBad, StackFaulty, Stops, Taken, after_walk, attempt, by_vector, in_its_place, initiate, initiated, is_bad_vector, longwords, new_mode, new_stack, vector_offset}
-use Rattle.vm_state.specs.Interrupts.{IntervalClock, Kcall, Receiver, Software, Source, Transmitter, after_interrupt_taken, due, interrupt_of}
+use Rattle.vm_state.specs.Interrupts.{IntervalClock, Kcall, Receiver, Software, Source, Transmitter, due, interrupt_of, source_row}
 use Rattle.vm_state.specs.Packets.{accepted}
 use Rattle.vm_state.specs.Probe.{Answers, NotValid, Probed, probe}
 use Rattle.vm_state.specs.Probe as probes
@@ -319,7 +319,7 @@ executed_fine : (g : Guest) → Fine g → Ends (executed g)
 unfolding executed
 executed_fine g h = try_fine g (tried (space_of g) (is_clear g) (instruction_of g.state)) h
 
-taken_fine : (source : Source) (s : State) → IsHalt s.halt → IsHalt (after_interrupt_taken source s).halt
+taken_fine : (source : Source) (s : State) → IsHalt s.halt → IsHalt ((source_row source).taken s).halt
 taken_fine IntervalClock s h = h
 taken_fine Kcall s h = h
 taken_fine Receiver s h = h

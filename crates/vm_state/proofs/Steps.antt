@@ -13,7 +13,7 @@ use Rattle.vax_table.specs.Whole.{Act, Meant, Probes, Traps}
 use Rattle.vax_table.specs.Whole as whole
 use Rattle.vax_table.specs.declared.evaluation.Operands.{Operands}
 use Rattle.vm_state.specs.Initiate.{Initiation, KernelStackBad, Stops, Taken, initiate}
-use Rattle.vm_state.specs.Interrupts.{IntervalClock, Kcall, Receiver, Software, Source, Transmitter, after_interrupt_taken, due, interrupt_of, level_of, requests, sources}
+use Rattle.vm_state.specs.Interrupts.{IntervalClock, Kcall, Receiver, Software, Source, Transmitter, due, interrupt_of, source_row, sources}
 use Rattle.vm_state.specs.Laws.{ShowsFew, StaysStopped, StepKeeps, StepsCount, StepsKeep}
 use Rattle.vm_state.specs.Probe.{Answers, NotValid, Probed, probe}
 use Rattle.vm_state.specs.Probe as probes
@@ -142,16 +142,16 @@ level_fits Receiver h = omega arith
 level_fits Transmitter h = omega arith
 level_fits (Software level) h = let small : level < 16 = h.1 in omega arith
 
-due_found : (s : State) (x : Source) → due s ≡ Some x → HasLevel x × ((requests s x && ltb (ipl_of s.psl) (level_of x)) ≡ true)
+due_found : (s : State) (x : Source) → due s ≡ Some x → HasLevel x × (((source_row x).requests s && ltb (ipl_of s.psl) (source_row x).level) ≡ true)
 unfolding due
-due_found s x e = found HasLevel (λ source. requests s source && ltb (ipl_of s.psl) (level_of source)) sources x levels e
+due_found s x e = found HasLevel (λ source. (source_row source).requests s && ltb (ipl_of s.psl) (source_row source).level) sources x levels e
 
 first_true : (a b : Bool) → (a && b) ≡ true → a ≡ true
 first_true true b e = refl
 first_true false b e = cc
 
 -- a request ends; of a software level the bit is there, since initiation leaves the requests
-taken_keeps : (size : ℕ) (x : Source) (s t : State) → HasLevel x → requests s x ≡ true → t.sisr ≡ s.sisr → Keeps size t (after_interrupt_taken x t)
+taken_keeps : (size : ℕ) (x : Source) (s t : State) → HasLevel x → (source_row x).requests s ≡ true → t.sisr ≡ s.sisr → Keeps size t ((source_row x).taken t)
 unfolding HasLevel
 taken_keeps size IntervalClock s t h r e = moved size t _ refl refl refl refl refl refl refl refl (λ k. k)
 taken_keeps size Kcall s t h r e = moved size t _ refl refl refl refl refl refl refl refl (λ k. k)
@@ -161,7 +161,7 @@ taken_keeps size (Software level) s t h r e =
     let asked : t.sisr / 2 ^ level % 2 ≡ 1 = rw e (grind (arith, nat_tests)) in
     with_sisr size t (t.sisr - 2 ^ level) (λ k. clear_at level t.sisr h.0 h.1 (even_of t.sisr k.sisr) (small_of t.sisr k.sisr) asked)
 
-interrupt_fine : (g : Guest) (x : Source) (i : Initiation) → HasLevel x → requests g.state x ≡ true → Initiates g i → IsFine g (interrupted g x i)
+interrupt_fine : (g : Guest) (x : Source) (i : Initiation) → HasLevel x → (source_row x).requests g.state ≡ true → Initiates g i → IsFine g (interrupted g x i)
 interrupt_fine g x (Taken h written) l r k = silent g _ Interrupt written (holds_then g h _ k.holds (with_state h _ (taken_keeps (length h.memory) x g.state h.state l r k.sisr)))
 interrupt_fine g x (KernelStackBad h written) l r k = silent g h Interrupt written k.holds
 interrupt_fine g x (Stops stop) l r k = stop_fine g g stop Interrupt (holds_same g)
@@ -174,7 +174,7 @@ by_source : (g : Guest) (x : Option Source) → due g.state ≡ x → IsFine g (
 by_source g None e = waiting_fine g g.state.waiting
 by_source g (Some x) e =
     let f = due_found g.state x e in
-    interrupt_fine g x (initiate g (interrupt_of x)) f.0 (first_true (requests g.state x) _ f.1) (initiate_keeps g (interrupt_of x) (level_fits x f.0))
+    interrupt_fine g x (initiate g (interrupt_of x)) f.0 (first_true ((source_row x).requests g.state) _ f.1) (initiate_keeps g (interrupt_of x) (level_fits x f.0))
 
 active_fine : (g : Guest) → IsFine g (active g)
 active_fine g = by_source g (due g.state) refl

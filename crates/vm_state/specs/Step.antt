@@ -18,7 +18,7 @@ use Rattle.vax_table.specs.declared.effect.Store.{Store}
 use Rattle.vax_table.specs.declared.evaluation.Operands.{Operands}
 use Rattle.vm_clock.specs.Clock.{after_tick}
 use Rattle.vm_state.specs.Initiate.{Initiation, KernelStackBad, Stops, Taken, initiate}
-use Rattle.vm_state.specs.Interrupts.{Source, after_interrupt_taken, due, interrupt_of}
+use Rattle.vm_state.specs.Interrupts.{Source, due, interrupt_of, source_row}
 use Rattle.vm_state.specs.Probe.{Answers, NotValid, Probed, probe}
 use Rattle.vm_state.specs.Probe as probes
 use Rattle.vm_state.specs.Sensitive.{ClearAt, Does, Faults, LacksMemory, Sensed, StopsThere, frames_of_bytes, sensed, troubled}
@@ -151,7 +151,7 @@ executed g =
 
 -- an interrupt is taken, and its request ends; where it isn't taken itself, the request stays
 abbrev pub interrupted : Guest → Source → Initiation → Stepped
-interrupted g source (Taken h written) = stepped (record h { state = after_interrupt_taken source h.state }) [] Interrupt written
+interrupted g source (Taken h written) = stepped (record h { state = (source_row source).taken h.state }) [] Interrupt written
 interrupted g source (KernelStackBad h written) = stepped h [] Interrupt written
 interrupted g source (Stops stop) = stopped g stop Interrupt
 
