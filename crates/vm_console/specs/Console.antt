@@ -1,6 +1,6 @@
 -- The console's registers RXCS, RXDB, TXCS and TXDB
 -- (VAX Architecture Reference Manual, console terminal registers; all that is said of bytes that wait and of requests is profile).
-use Rattle.std.specs.Prelude.{ℕ, ◌+◌, ◌*◌, ◌^◌, ◌<◌, ◌==◌, Bool, true, false, not, ◌&&◌, ◌||◌, nat_lt, if◌then◌else◌, List, [], ◌∷◌, ◌++◌, length, drop, slice_index, IsTrue}
+use Rattle.std.specs.Prelude.{ℕ, ◌+◌, ◌*◌, ◌^◌, ◌<◌, ◌==◌, Bool, false, not, ◌&&◌, ◌||◌, nat_lt, if◌then◌else◌, List, [], ◌∷◌, ◌++◌, length, drop, slice_index, IsTrue}
 use Rattle.std.specs.Int.{from_bool}
 use Rattle.vv_base.specs.Bits.{is_set}
 

@@ -18,9 +18,10 @@ use Rattle.vm_state.specs.Laws.{ShowsFew, StaysStopped, StepKeeps, StepsCount, S
 use Rattle.vm_state.specs.Probe.{Answers, NotValid, Probed, probe}
 use Rattle.vm_state.specs.Probe as probes
 use Rattle.vm_state.specs.Run.{Run, after_step, after_steps}
-use Rattle.vm_state.specs.Sensitive.{ClearAt, Does, Faults, LacksMemory, Sensed, StopsThere, sensed, troubled}
+use Rattle.vm_state.specs.Sensed.{ClearAt, Does, Faults, LacksMemory, Sensed, StopsThere, troubled}
+use Rattle.vm_state.specs.Sensitive.{sensed}
 use Rattle.vm_state.specs.State.{Guest, State, pc_of}
-use Rattle.vm_state.specs.Step.{Fault, Interrupt, Kind, Sensitive, SetModify, Stepped, active, by_interrupt, by_try, clear_met, counted, did, executed, faulted, frames_stored, initiated_in, instruction_of, interrupted, probe_kind, probed_as, sensed_as, step, step_by, stepped, stopped, trapped_in, unless_waiting, with_effect}
+use Rattle.vm_state.specs.Step.{Fault, Interrupt, Kind, Sensitive, SetModify, Stepped, active, by_interrupt, by_try, clear_met, counted, did, executed, faulted, frames_stored, initiated_in, instruction_of, interrupted, probed_as, sensed_as, step, step_by, stepped, stopped, trapped_in, unless_waiting, with_effect}
 use Rattle.vm_state.specs.Stops.{PastMemory, Stop, stop_code, stop_text}
 use Rattle.vm_state.specs.Translation.{guest_write_place, is_clear, look, space_of}
 use Rattle.vm_state.specs.declared.exception.Exc.{Exc}
@@ -87,7 +88,7 @@ trap_fine kind written g h (Some type) k =
     record { holds = s.holds; few = s.few }
 
 probed_fine : (g : Guest) (opcode : ℕ) (o : Operands) (p : Probed) → IsFine g (probed_as g opcode o p)
-probed_fine g opcode o (Answers is_accessible is_plain) = silent g _ (probe_kind g opcode is_plain o.r) [] (effect_holds g (probed is_accessible o (g.state.psl % 2 ^ 8)))
+probed_fine g opcode o (Answers is_accessible is_plain) = silent g _ _ [] (effect_holds g (probed is_accessible o (g.state.psl % 2 ^ 8)))
 probed_fine g opcode o (NotValid f) = fault_fine g (excs.Memory f) tt
 probed_fine g opcode o probes.PastMemory = stop_fine g g PastMemory Fault (holds_same g)
 

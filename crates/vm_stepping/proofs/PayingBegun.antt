@@ -15,7 +15,7 @@ use Rattle.vm_state.specs.Partition.{guest_of}
 use Rattle.vm_state.specs.Run.{Run}
 use Rattle.vm_state.specs.State.{Guest, HasPlace, State, state_of}
 use Rattle.vm_state.specs.Step as steps
-use Rattle.vm_state.specs.Step.{Stepped, Touched, counted, executed, interrupted, nothing_touched, step, stepped, unless_waiting}
+use Rattle.vm_state.specs.Step.{Stepped, Touched, counted, executed, interrupted, step, stepped, unless_waiting}
 use Rattle.vm_state.specs.Touches.{Touching, touching_step, touching_steps}
 use Rattle.vm_state.specs.declared.guest_state.GuestState.{GuestState}
 use Rattle.vm_stepping.specs.Advances.{IsBegun}
@@ -55,7 +55,7 @@ module _ (m : Machine) (s : Shadowed) (g : GuestState) (stands : StandsFor m.mem
   })
 
   -- a step that touches nothing
-  pub pays_untouched : (n : ℕ) (x : Stepped) (m2 : Machine) (s2 : Shadowed) (g2 : GuestState) (left : Left) → 1 ≤ n → step h ≡ x → x.touched ≡ nothing_touched → Moves x.written x.guest.state.tables s s2 → m2.misses ≡ m.misses → x.guest ≡ guest_of m2.memory g2 → left ≡ plain_left (n - 1) → PaysOn (plain_left n) left m s g m2 s2 g2
+  pub pays_untouched : (n : ℕ) (x : Stepped) (m2 : Machine) (s2 : Shadowed) (g2 : GuestState) (left : Left) → 1 ≤ n → step h ≡ x → x.touched ≡ record { found = []; lacking = [] } → Moves x.written x.guest.state.tables s s2 → m2.misses ≡ m.misses → x.guest ≡ guest_of m2.memory g2 → left ≡ plain_left (n - 1) → PaysOn (plain_left n) left m s g m2 s2 g2
   pays_untouched n x m2 s2 g2 left some is none moves same guest e = subst (λ y. PaysOn (plain_left n) y m s g m2 s2 g2) (sym e) (record {
     missed = 0;
     misses = no_more m m2 same;
@@ -70,7 +70,7 @@ module _ (m : Machine) (s : Shadowed) (g : GuestState) (stands : StandsFor m.mem
         };
   })
 
-interrupt_untouched : (h : Guest) (source : Source) (i : Initiation) → (interrupted h source i).touched ≡ nothing_touched
+interrupt_untouched : (h : Guest) (source : Source) (i : Initiation) → (interrupted h source i).touched ≡ record { found = []; lacking = [] }
 interrupt_untouched h source (Taken g written) = refl
 interrupt_untouched h source (KernelStackBad g written) = refl
 interrupt_untouched h source (Stops stop) = refl
