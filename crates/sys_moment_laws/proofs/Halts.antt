@@ -33,7 +33,7 @@ use Rattle.vm_state.specs.Run.{after_step}
 use Rattle.vm_state.specs.Sensed.{ClearAt, Does, Faults, LacksMemory, Sensed, StopsThere, fault_of, troubled}
 use Rattle.vm_state.specs.Sensitive.{after_register_read, change_mode, chm_walked, destination_walked, guest_past_instruction, mfpr_by, mode_changed, mtpr_by, packet_taken, past_instruction, put_at, rei_by, sensed, with_codes, with_register_effect}
 use Rattle.vm_state.specs.State.{Guest, State, mode_of_state, pointer_of, stack_in}
-use Rattle.vm_state.specs.Step.{Fault, Kind, Stepped, by_interrupt, by_try, clear_met, counted, did, executed, faulted, frames_stored, initiated_in, instruction_of, interrupted, probed_as, sensed_as, step, step_by, trapped_in, unless_waiting, with_effect}
+use Rattle.vm_state.specs.Step.{Fault, Kind, Stepped, by_try, clear_met, counted, did, executed, faulted, frames_stored, initiated_in, instruction_of, interrupted, probed_as, sensed_as, step, trapped_in, with_effect}
 use Rattle.vm_state.specs.Stops.{BadVector, ChangedMode, Commanded, Halted, InterruptStackBad, IsHalt, Stop, is_stop_code, stop_code}
 use Rattle.vm_state.specs.Stops as stops
 use Rattle.vm_state.specs.Translation.{is_clear, space_of, walk_of}
@@ -48,6 +48,7 @@ use Rattle.vm_state.specs.declared.transfer.Accept.{Accept}
 use Rattle.vm_state.specs.declared.transfer.Accept.TheVariants.{BadPacket, Busy, Queued}
 use Rattle.vm_state.specs.declared.walk.Walk.{Walk}
 use Rattle.vm_state.specs.declared.walk.Walk.TheVariants as walks
+use Rattle.vm_state.proofs.StepCases.{by_interrupt, step_by, unless_waiting}
 
 abbrev Fine : Guest → Type 0
 Fine g = IsHalt g.state.halt

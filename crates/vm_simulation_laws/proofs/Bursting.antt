@@ -34,10 +34,11 @@ use Rattle.vm_state.specs.Partition.{guest_of, partition_of}
 use Rattle.vm_state.specs.Run.{Run, after_step, after_steps}
 use Rattle.vm_state.specs.State.{Guest, State, mode_of_state, state_of}
 use Rattle.vm_state.specs.Step as steps
-use Rattle.vm_state.specs.Step.{Stepped, by_interrupt, counted, executed, initiated_in, step, step_by, trapped_in, unless_waiting}
+use Rattle.vm_state.specs.Step.{Stepped, counted, executed, initiated_in, step, trapped_in}
 use Rattle.vm_state.specs.Translation.{is_clear, look, space_of, walk_by, walk_of, walked_byte}
 use Rattle.vm_state.specs.declared.exception.Exc.TheVariants as excs
 use Rattle.vm_state.specs.declared.guest_state.GuestState.{GuestState}
+use Rattle.vm_state.proofs.StepCases.{by_interrupt, step_by, unless_waiting}
 
 -- Requests and the level alone make an interrupt due.
 requests_same : (s : State) (r : List ℕ) (psl n : ℕ) (source : Source) → (source_row source).requests (record s { r = r; psl = psl; steps = n }) ≡ (source_row source).requests s

@@ -21,7 +21,7 @@ use Rattle.vm_state.specs.Run.{Run, after_step, after_steps}
 use Rattle.vm_state.specs.Sensed.{ClearAt, Does, Faults, LacksMemory, Sensed, StopsThere, troubled}
 use Rattle.vm_state.specs.Sensitive.{sensed}
 use Rattle.vm_state.specs.State.{Guest, State, pc_of}
-use Rattle.vm_state.specs.Step.{Fault, Interrupt, Kind, Sensitive, SetModify, Stepped, active, by_interrupt, by_try, clear_met, counted, did, executed, faulted, frames_stored, initiated_in, instruction_of, interrupted, probed_as, sensed_as, step, step_by, stepped, stopped, trapped_in, unless_waiting, with_effect}
+use Rattle.vm_state.specs.Step.{Fault, Interrupt, Kind, Sensitive, SetModify, Stepped, by_try, clear_met, counted, did, executed, faulted, frames_stored, initiated_in, instruction_of, interrupted, probed_as, sensed_as, step, stepped, stopped, trapped_in, with_effect}
 use Rattle.vm_state.specs.Stops.{PastMemory, Stop, stop_code, stop_text}
 use Rattle.vm_state.specs.Translation.{guest_write_place, is_clear, look, space_of}
 use Rattle.vm_state.specs.declared.exception.Exc.{Exc}
@@ -31,6 +31,7 @@ use Rattle.vm_state.proofs.Keeps.{Keeps, low_changed, moved, same}
 use Rattle.vm_state.proofs.Kept.{Sensible, holds_then, sensed_sensible, trouble_sensible, with_state}
 use Rattle.vm_state.proofs.Registers.{clear_at, even_of, small_of, with_sisr}
 use Rattle.vm_state.proofs.Sizes.{marked_by_size, stores_size}
+use Rattle.vm_state.proofs.StepCases.{by_interrupt, step_by, unless_waiting}
 
 -- a step of a guest that has counted it
 record IsFine (g : Guest) (s : Stepped) : Type 0 where
@@ -177,7 +178,7 @@ by_source g (Some x) e =
     let f = due_found g.state x e in
     interrupt_fine g x (initiate g (interrupt_of x)) f.0 (first_true ((source_row x).requests g.state) _ f.1) (initiate_keeps g (interrupt_of x) (level_fits x f.0))
 
-active_fine : (g : Guest) → IsFine g (active g)
+active_fine : (g : Guest) → IsFine g (by_interrupt g (due g.state))
 active_fine g = by_source g (due g.state) refl
 
 -- The step that is counted first.

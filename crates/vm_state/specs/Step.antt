@@ -1,7 +1,7 @@
 -- One step of a guest that is alone on its private virtual VAX
 -- (Hall and Robinson, Virtualizing the VAX Architecture, ISCA 1991; Karger and others, IEEE TSE 17(11), 1991; VAX
 -- Architecture Reference Manual: instruction execution, exceptions and interrupts).
-use Rattle.std.specs.Prelude.{ℕ, ◌+◌, ◌-◌, ◌%◌, ◌^◌, Bool, true, false, if◌then◌else◌, List, [], ◌∷◌, ◌++◌, length, map, take, drop, Option, Some, None, Result, Ok, Err}
+use Rattle.std.specs.Prelude.{ℕ, ◌+◌, ◌-◌, ◌%◌, ◌^◌, if◌then◌else◌, List, [], ◌∷◌, ◌++◌, length, map, take, drop, Option, Some, None, Result, Ok, Err}
 use Rattle.vv_base.specs.Width.{size_of}
 use Rattle.vax_arch.specs.Walk.{page_of}
 use Rattle.vax_table.specs.Claims.{addresses}
@@ -142,26 +142,17 @@ interrupted g source (Taken h written) = stepped (record h { state = (source_row
 interrupted g source (KernelStackBad h written) = stepped h [] Interrupt written
 interrupted g source (Stops stop) = stopped g stop Interrupt
 
--- a waiting guest stays
-abbrev pub unless_waiting : Guest → Bool → Stepped
-unless_waiting g true = stepped g [] Idle []
-unless_waiting g false = executed g
-
-abbrev pub by_interrupt : Guest → Option Source → Stepped
-by_interrupt g (Some source) = interrupted g source (initiate g (interrupt_of source))
-by_interrupt g None = unless_waiting g g.state.waiting
-
 -- the clock counts once, and so do the guest's steps
 abbrev pub counted : State → State
 counted s = record s { clock = after_tick s.clock; steps = (s.steps + 1) % 2 ^ 32 }
 
-abbrev pub active : Guest → Stepped
-active g = by_interrupt g (due g.state)
-
--- a guest that has stopped stays as it is
-abbrev pub step_by : Guest → Option ℕ → Stepped
-step_by g (Some code) = stepped g [] Stopped []
-step_by g None = active (record g { state = counted g.state })
-
+-- A guest that has stopped stays as it is. Another one counts, and takes an interrupt that is due; without one, a waiting guest
+-- stays, and another executes its instruction.
 unfoldable pub step : Guest → Stepped
-step g = step_by g g.state.halt
+step before = elim (before.state.halt) [
+  | Some code ↦ stepped before [] Stopped []
+  | None ↦ let g : Guest = record before { state = counted before.state } in elim (due g.state) [
+    | Some source ↦ interrupted g source (initiate g (interrupt_of source))
+    | None ↦ if g.state.waiting then stepped g [] Idle [] else executed g
+  ]
+]

@@ -17,8 +17,9 @@ use Rattle.vm_state.specs.Partition.{guest_of, part, partition_of}
 use Rattle.vm_state.specs.Run.{Run, after_step, after_steps}
 use Rattle.vm_state.specs.State.{Guest, HasPlace, State, state_of}
 use Rattle.vm_state.specs.Step as steps
-use Rattle.vm_state.specs.Step.{Stepped, by_interrupt, counted, interrupted, step, step_by, stepped, unless_waiting}
+use Rattle.vm_state.specs.Step.{Stepped, counted, interrupted, step, stepped}
 use Rattle.vm_state.specs.declared.guest_state.GuestState.{GuestState}
+use Rattle.vm_state.proofs.StepCases.{by_interrupt, step_by, unless_waiting}
 use Rattle.vm_stepping.specs.Advances.{Proceeds, to_do}
 use Rattle.vm_stepping.specs.Made.{CountsRetired, KeepsRefinement, Made, run_of, tally_of}
 use Rattle.vm_stepping.specs.declared.counts.Counts.{Counts}

@@ -15,9 +15,10 @@ use Rattle.vm_state.specs.Partition.{guest_of}
 use Rattle.vm_state.specs.Run.{Run}
 use Rattle.vm_state.specs.State.{Guest, HasPlace, State, state_of}
 use Rattle.vm_state.specs.Step as steps
-use Rattle.vm_state.specs.Step.{Stepped, Touched, counted, executed, interrupted, step, stepped, unless_waiting}
+use Rattle.vm_state.specs.Step.{Stepped, Touched, counted, executed, interrupted, step, stepped}
 use Rattle.vm_state.specs.Touches.{Touching, touching_step, touching_steps}
 use Rattle.vm_state.specs.declared.guest_state.GuestState.{GuestState}
+use Rattle.vm_state.proofs.StepCases.{by_interrupt, unless_waiting}
 use Rattle.vm_stepping.specs.Advances.{IsBegun}
 use Rattle.vm_stepping.specs.Made.{Made}
 use Rattle.vm_stepping.specs.Pays.{OwesBy, PaysOn, touching_left}
@@ -83,7 +84,7 @@ module _ (m : Machine) (s : Shadowed) (g : GuestState) (g1 : GuestState) (stands
   begun_is : guest_of m.memory g1 ≡ begun
   begun_is = counted_is m s g g1 stands state place runs
 
-  comes : (o : Option Source) (x : Stepped) → due (state_of g1) ≡ o → steps.by_interrupt begun o ≡ x → step (guest_of m.memory g) ≡ x
+  comes : (o : Option Source) (x : Stepped) → due (state_of g1) ≡ o → by_interrupt begun o ≡ x → step (guest_of m.memory g) ≡ x
   comes o x e is = step_is m s g g1 stands state place runs o e ∙ is
 
   pub pays_interrupt : {Port : Type 0} (may : Port → List ℕ → Type 0) (port port' : Port) (c c2 : Counts) (source : Source) (m2 : Machine) (s2 : Shadowed) (g2 : GuestState) (left : Left) → due (state_of g1) ≡ Some source
