@@ -1,13 +1,13 @@
 -- A step by its cases, as proofs take them one after another.
-use Rattle.std.proofs.Common.{◌≡◌, ℕ, Bool, true, false, [], Option, Some, None, refl}
+use Rattle.std.proofs.Common.{◌≡◌, ℕ, Bool, [], Option, Some, None, refl}
+use Rattle.std.specs.Prelude.{if◌then◌else◌}
 use Rattle.vm_state.specs.Initiate.{initiate}
 use Rattle.vm_state.specs.Interrupts.{Source, due, interrupt_of}
 use Rattle.vm_state.specs.State.{Guest}
 use Rattle.vm_state.specs.Step.{Idle, Stepped, Stopped, counted, executed, interrupted, step, stepped}
 
 abbrev pub unless_waiting : Guest → Bool → Stepped
-unless_waiting g true = stepped g [] Idle []
-unless_waiting g false = executed g
+unless_waiting g waits = if waits then stepped g [] Idle [] else executed g
 
 abbrev pub by_interrupt : Guest → Option Source → Stepped
 by_interrupt g (Some source) = interrupted g source (initiate g (interrupt_of source))
