@@ -7,7 +7,7 @@ use Rattle.std.specs.declared.result.Result.TheVariants.{Ok, Err}
 use Rattle.std.specs.Prelude as results
 use Rattle.sys_config.specs.Config.{config_of}
 use Rattle.sys_snap.specs.Held.{snapshot_moment}
-use Rattle.sys_snap.specs.Reader.{snap_in}
+use Rattle.sys_snap.specs.Misfits.{misfit_in}
 use Rattle.sys_snap.specs.Snap.{IsSnap}
 use Rattle.sys_snap.specs.declared.snap.Snap.{Snap}
 use Rattle.vv_io.specs.Shelf.{File}
@@ -79,7 +79,7 @@ FetchesSave files a before now (Err stop) = StopsSave files a before now stop
 -- the moment of which bytes are a snapshot; or they are none, or memory ran out
 abbrev pub MeansSnap : List ℕ → Result Snap Stop → Type 0
 MeansSnap bytes (Ok snap) = IsSnap bytes (snapshot_moment snap)
-MeansSnap bytes (Err (SnapRefused f)) = snap_in bytes ≡ results.Err f
+MeansSnap bytes (Err (SnapRefused f)) = misfit_in bytes ≡ Some f.place
 MeansSnap bytes (Err NoMemory) = Unit {0}
 MeansSnap bytes (Err stop) = ⊥
 

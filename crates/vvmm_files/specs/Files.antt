@@ -12,7 +12,7 @@ use Rattle.sys_state.specs.Run.{Moment}
 use Rattle.sys_script.specs.Script.{script_of}
 use Rattle.sys_script.specs.declared.event.Event.{Event}
 use Rattle.sys_script.specs.declared.event.ScriptFault.{ScriptFault}
-use Rattle.sys_snap.specs.Reader.{snap_in}
+use Rattle.sys_snap.specs.Misfits.{misfit_in}
 use Rattle.sys_snap.specs.Snap.{IsSnap}
 use Rattle.sys_snap.specs.declared.fault.SnapFault.{SnapFault}
 use Rattle.vvmm_files.specs.Words.{AuditAsked, LiveAsked, ResumeAsked, RunAsked}
@@ -118,7 +118,7 @@ pub record HasSnap (files : Option (List File)) (name : List ℕ) (m : Moment) :
 pub record IsSnapRefused (files : Option (List File)) (name : List ℕ) (f : SnapFault) : Type 0 where
   pub bytes : List ℕ
   pub read : IsRead files name bytes
-  pub refused : snap_in bytes ≡ Err f
+  pub refused : misfit_in bytes ≡ Some f.place
 
 -- both files of a resumed run were fetched, and stand for these
 pub record HasBoth (files : Option (List File)) (a : ResumeAsked) (m : Moment) (es : List Event) : Type 0 where

@@ -14,8 +14,9 @@ use Rattle.sys_runs.specs.declared.running.Ran.{Ran}
 use Rattle.sys_runs.specs.declared.saving.Saved.{Saved}
 use Rattle.sys_script.specs.declared.event.Event.{Event}
 use Rattle.sys_script.specs.declared.event.ScriptFault.{ScriptFault}
-use Rattle.sys_snap.proofs.OnlyStates.{of_one_moment, refused_are_none}
-use Rattle.sys_snap.specs.Reader.{snap_in}
+use Rattle.sys_snap.proofs.Misfits.{refused_are_none}
+use Rattle.sys_snap.proofs.OnlyStates.{of_one_moment}
+use Rattle.sys_snap.specs.Misfits.{misfit_in}
 use Rattle.sys_snap.specs.Snap.{IsSnap}
 use Rattle.sys_snap.specs.declared.fault.SnapFault.{SnapFault}
 use Rattle.sys_system.specs.declared.power.PowerFault.{PowerFault}
@@ -28,7 +29,7 @@ use Rattle.vvmm_files.specs.declared.status.Status.{Status}
 use Rattle.vvmm_files.specs.declared.stop.Stop.{Stop}
 use Rattle.vvmm_files.specs.declared.stop.Stop.TheVariants.{Missing, TooLong, ShelfFault, Config as ConfigRefused, Script as ScriptRefused, SnapSize, Snap as SnapRefused, NoMemory}
 use Rattle.vvmm_laws.proofs.Played.{made_names_drive, made_names_line, made_served, one_misfit, same_drives, saved_names_line, saved_served}
-use Rattle.vvmm_laws.proofs.Told.{Unread, lacked, not_long, not_script, one_error, one_line, one_text, read_as, too_long}
+use Rattle.vvmm_laws.proofs.Told.{Unread, lacked, not_long, not_script, one_line, one_value, one_text, read_as, too_long}
 use Rattle.vvmm_laws.specs.Complete.{IsLong, IsMissing, IsServed, IsSizeOf, IsTooLong, NamesDrive, NamesLine, NoneRose, TellsLine, line_at}
 use Rattle.vvmm_laws.specs.Snaps.{CompletesExtend, CompletesResume, IsSnapSize, TellsExtendSize, TellsMany, TellsPlace, TellsResumeDriveFault, TellsResumeLine, TellsResumeLineFault, TellsResumeMissing, TellsResumeSize, TellsResumeTooLong, TellsSnap}
 
@@ -38,10 +39,12 @@ module _ (files : List File) (name : List ℕ) where
   one_moment m n a b = of_one_moment b.bytes m n (subst (λ (bytes : List ℕ). IsSnap bytes m) (one_text files name a.bytes b.bytes a.read b.read) a.is) b.is
 
   not_snap : (m : Moment) (f : SnapFault) → HasSnap (Some files) name m → IsSnapRefused (Some files) name f → ⊥
-  not_snap m f a b = refused_are_none b.bytes f b.refused m (subst (λ (bytes : List ℕ). IsSnap bytes m) (one_text files name a.bytes b.bytes a.read b.read) a.is)
+  not_snap m f a b = refused_are_none b.bytes f.place b.refused m (subst (λ (bytes : List ℕ). IsSnap bytes m) (one_text files name a.bytes b.bytes a.read b.read) a.is)
 
   one_place : (f g : SnapFault) → IsSnapRefused (Some files) name f → IsSnapRefused (Some files) name g → f ≡ g
-  one_place f g a b = one_error (snap_in b.bytes) f g (ap snap_in (one_text files name b.bytes a.bytes b.read a.read) ∙ a.refused) b.refused
+  one_place f g a b =
+      let same : f.place ≡ g.place = one_value (misfit_in b.bytes) f.place g.place (ap misfit_in (one_text files name b.bytes a.bytes b.read a.read) ∙ a.refused) b.refused in
+      λ i. record { place = same i }
 
 module _ (files : List File) (a : ResumeAsked) where
   -- where both files are read, or the snapshot is refused, or the script, there is none that can't be read
