@@ -7,8 +7,8 @@ use std::time::Duration;
 use std::{env, fs, io, process};
 use vv_base::{FileName, file_name};
 use vv_edge::{
-    FileDrive, FileLine, FileShelf, Identity, InputKeys, OutSink, Stored, Ticker, blocks_of, judged,
-    look,
+    FileDrive, FileLine, FileShelf, Identity, InputKeys, OutSink, Stored, Ticker, drive_under,
+    look, whole_blocks,
 };
 use vv_io::{
     Drive, DriveFault, Keyboard, Line, LineFault, MemLine, Progress, Shelf, ShelfFault, Sink,
@@ -107,11 +107,11 @@ fn a_folder_takes_no_line(rt: HostRuntime) -> Result<(), Fail> {
 
 /// The drive of a path.
 fn drive_of(rt: &HostRuntime, path: &str) -> Result<FileDrive, Fail> {
-    let found = judged(&look(rt, path), &[]).and_then(|found| found.ok());
+    let found = drive_under(&look(rt, path), &[]).and_then(|found| found.ok());
     let stored = Stored {
         drive: 0,
         stored: 0,
-        blocks: blocks_of(&found),
+        blocks: whole_blocks(&found),
     };
     let path = String::from_str(rt.alloc(), path)?;
     let failed = Rc::new(rt.alloc(), Cell::new([None; 16]))?;

@@ -54,25 +54,25 @@ abbrev pub look_failed : ErrorKind → Look
 look_failed NotFound = Nothing
 look_failed kind = Untold
 
-abbrev pub judged_by : Found → Option Flaw → Result Found Flaw
-judged_by found None = Ok found
-judged_by found (Some flaw) = Err flaw
+abbrev pub unless_flawed : Found → Option Flaw → Result Found Flaw
+unless_flawed found None = Ok found
+unless_flawed found (Some flaw) = Err flaw
 
 -- what is under a drive's name, or why it can't be a drive; none where nothing is there
-abbrev pub judged : Look → List Identity → Option (Result Found Flaw)
-judged Nothing taken = None
-judged Untold taken = Some (Err flaws.Untold)
-judged (There found) taken = Some (judged_by found (flaw_of found taken))
+abbrev pub drive_under : Look → List Identity → Option (Result Found Flaw)
+drive_under Nothing taken = None
+drive_under Untold taken = Some (Err flaws.Untold)
+drive_under (There found) taken = Some (unless_flawed found (flaw_of found taken))
 
 -- the whole blocks of 512 bytes of a file, as far as 32 bits hold their number; what is no file has none
-abbrev pub blocks_of : Option Found → ℕ
-blocks_of None = 0
-blocks_of (Some found) = if is_file found.kind then min (found.length / 512) (2 ^ 32 - 1) else 0
+abbrev pub whole_blocks : Option Found → ℕ
+whole_blocks None = 0
+whole_blocks (Some found) = if is_file found.kind then min (found.length / 512) (2 ^ 32 - 1) else 0
 
 abbrev pub is_known : Option Identity → Identity → Bool
 is_known None identity = true
 is_known (Some known) identity = is_same_file known identity
 
 -- a device's file is still the one that is known, if one is, with one name and of this length
-abbrev pub is_still : Found → Option Identity → ℕ → Bool
-is_still found known length = is_known known found.identity && is_as_shown found length
+abbrev pub is_as_found : Found → Option Identity → ℕ → Bool
+is_as_found found known length = is_known known found.identity && is_as_shown found length

@@ -1,7 +1,7 @@
 ghost use Rattle.std.specs.Prelude.{◌≤◌, IfOk};
 
 use crate::found::{found_of, unfit};
-use crate::stat::{Identity, is_still};
+use crate::stat::{Identity, is_as_found};
 use std::fs::{File, OpenOptions};
 use std::io::{Read, Seek, SeekFrom, Write};
 use std::os::unix::fs::OpenOptionsExt;
@@ -39,7 +39,7 @@ impl DeviceFile {
             return Err(unfit());
         };
         let found = found_of(&file.metadata()?);
-        if !is_still(&found, self.identity, self.length) {
+        if !is_as_found(&found, self.identity, self.length) {
             return Err(unfit());
         }
         self.identity = Some(found.identity);
@@ -83,7 +83,7 @@ impl DeviceFile {
         };
         file.sync_all()?;
         let named = found_of(&fs::symlink_metadata(&self.rt, self.path.as_str())?);
-        if is_still(&named, self.identity, self.length) {
+        if is_as_found(&named, self.identity, self.length) {
             Ok(())
         } else {
             Err(unfit())

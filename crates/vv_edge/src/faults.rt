@@ -17,11 +17,7 @@ pub fn shelf_fault(kind: ErrorKind) -> ShelfFault
 }
 
 /// What a call gave, or this fault in place of its own, which is counted.
-pub fn counted<T, E: Drop, F: Drop>(
-    faults: &mut u64,
-    done: Result<T, E>,
-    fault: F,
-) -> Result<T, F>
+pub fn counted<T, E: Drop, F: Drop>(faults: &mut u64, done: Result<T, E>, fault: F) -> Result<T, F>
     ensures { HasCause faults.old faults.new result }
 {
     match done {

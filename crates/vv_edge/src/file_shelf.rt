@@ -44,8 +44,7 @@ impl<'a> FileShelf<'a> {
 
     /// Whether an open file is a drive's, by whatever name.
     fn is_drive(&self, file: &File) -> bool {
-        file.metadata()
-            .is_ok_and(|metadata| is_among(&found_of(&metadata).identity, self.drives))
+        file.metadata().is_ok_and(|metadata| is_among(&found_of(&metadata).identity, self.drives))
     }
 
     /// The bytes of a file, of which one more than the limit is read at most.

@@ -5,6 +5,7 @@
 #![tactic(auto)]
 
 mod asked;
+mod columns;
 mod device_file;
 mod ending;
 mod faults;
@@ -31,10 +32,10 @@ pub use file_shelf::FileShelf;
 pub use found::look;
 pub use hints::Told;
 pub use input_keys::InputKeys;
-pub use learning::{audit_line, refused_line, told_word, wanted_drive};
+pub use learning::{audit_line, refused_column, refused_line, told_word, wanted_drive};
 pub use opening::{Opening, Streams, line_notes};
 pub use out_sink::OutSink;
 pub use standard::hold_standard;
-pub use stat::{Flaw, Found, Identity, Kind, Look, blocks_of, judged};
+pub use stat::{Flaw, Found, Identity, Kind, Look, drive_under, whole_blocks};
 pub use telling::{DriveNotes, LineNotes, Note, Stored};
 pub use ticker::Ticker;

@@ -6,7 +6,7 @@ use crate::file_line::FileLine;
 use crate::found::{identity_of, look, target_of};
 use crate::out_sink::OutSink;
 use crate::standard::{hold_folder, hold_places};
-use crate::stat::{Identity, Look, blocks_of, is_removable, judged};
+use crate::stat::{Identity, Look, drive_under, is_removable, whole_blocks};
 use crate::telling::{DriveNotes, LineNotes, Note, Stored, line_note, note_if};
 use std::cell::Cell;
 use std::fs;
@@ -93,7 +93,8 @@ impl Opening {
         }
         let taken = taken_at_first(rt, words)?;
         let failed = Rc::new(rt.alloc(), Cell::new([None; 16]))?;
-        let Some(places) = hold_places(rt, 32 * u8::from(has_lines) + 16 * u8::from(has_drives))? else {
+        let Some(places) = hold_places(rt, 32 * u8::from(has_lines) + 16 * u8::from(has_drives))?
+        else {
             streams.note(Note::FewPlaces);
             return Ok(None);
         };
@@ -154,7 +155,7 @@ impl Opening {
         if self.has_drives {
             target = target_of(rt, path.as_str());
             streams.keep_from(target.map(|target| target.identity));
-            found = judged(&look(rt, path.as_str()), &self.taken);
+            found = drive_under(&look(rt, path.as_str()), &self.taken);
         }
         match found {
             Some(Ok(found)) => self.taken.push(found.identity)?,
@@ -164,7 +165,7 @@ impl Opening {
         let stored = Stored {
             drive: number,
             stored: 0,
-            blocks: blocks_of(&target),
+            blocks: whole_blocks(&target),
         };
         let found = found.and_then(|found| found.ok());
         let place = self.places.pop();

@@ -1,13 +1,13 @@
 ghost use Rattle.std.specs.Prelude.{◌≡◌, ◌^◌, ◌/◌, ◌-◌, min};
 ghost use Rattle.vv_edge.specs.Found.{
-  blocks_of,
+  whole_blocks,
   flaw_of,
   is_as_shown,
   is_identity_taken,
   is_removable,
   is_same_file,
-  is_still,
-  judged,
+  is_as_found,
+  drive_under,
   look_failed,
 };
 
@@ -106,8 +106,8 @@ fn is_as_shown(found: &Found, shown: u64) -> bool
 }
 
 /// Whether a device's file is still the one that is known, if one is, with one name and of this length.
-pub fn is_still(found: &Found, known: Option<Identity>, length: u64) -> bool
-    ensures { result ≡ is_still found.now known length }
+pub fn is_as_found(found: &Found, known: Option<Identity>, length: u64) -> bool
+    ensures { result ≡ is_as_found found.now known length }
 {
     let is_known = match known {
         Some(known) => is_same(&known, &found.identity),
@@ -130,8 +130,8 @@ fn flaw_of(found: &Found, taken: &[Identity]) -> Option<Flaw>
 }
 
 /// What is under a drive's name, or why it can't be a drive; none where nothing is there.
-pub fn judged(look: &Look, taken: &[Identity]) -> Option<Result<Found, Flaw>>
-    ensures { result ≡ judged look.now taken.now }
+pub fn drive_under(look: &Look, taken: &[Identity]) -> Option<Result<Found, Flaw>>
+    ensures { result ≡ drive_under look.now taken.now }
 {
     match look {
         Look::Nothing => None,
@@ -151,8 +151,8 @@ fn blocks_in(length: u64) -> u32
 }
 
 /// How many blocks the file of a drive has; none where it is no file.
-pub fn blocks_of(target: &Option<Found>) -> u32
-    ensures { result ≡ blocks_of target.now }
+pub fn whole_blocks(target: &Option<Found>) -> u32
+    ensures { result ≡ whole_blocks target.now }
 {
     match target {
         Some(found) if matches!(found.kind, Kind::File) => blocks_in(found.length),

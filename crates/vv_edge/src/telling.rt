@@ -77,7 +77,11 @@ pub fn round_note(rounds: u32, of: u32) -> Text<128>
     let mut text = Text::new();
     text.append(b"\rvvmm: round ");
     count(&mut text, rounds, b" of ");
-    count(&mut text, of, if rounds == of { b"\n".as_slice() } else { b"" });
+    count(
+        &mut text,
+        of,
+        if rounds == of { b"\n".as_slice() } else { b"" },
+    );
     text
 }
 

@@ -9,7 +9,8 @@ use vax_cpu::Cpu;
 use vv_base::NoMemory;
 use vv_edge::{
     FileLine, FileShelf, InputKeys, Opening, Streams, Ticker, Told, audit_line, conclude,
-    hold_standard, line_notes, refused_line, text_asked, told_word, wanted_drive, words_status,
+    hold_standard, line_notes, refused_column, refused_line, text_asked, told_word, wanted_drive,
+    words_status,
 };
 use vv_io::{Drive, LineList};
 pub use vvmm_call::vvmm_run;
@@ -51,6 +52,7 @@ fn told_of(
         drives: opening.failed.get(),
         unread: shelf.unread.copied(),
         line: refused_line(text, status),
+        column: refused_column(text, status),
     }
 }
 
