@@ -1,5 +1,5 @@
 -- What people at a terminal are shown beside an answer: what to do about it.
-use Rattle.std.specs.Prelude.{ℕ, List, [], ◌∷◌, ◌++◌, ◌==◌, if◌then◌else◌, codes}
+use Rattle.std.specs.Prelude.{ℕ, List, [], ◌∷◌, ◌++◌, ◌==◌, if◌then◌else◌, codes, decimal}
 use Rattle.sys_script.specs.declared.event.ScriptKind.{ScriptKind}
 use Rattle.sys_script.specs.declared.event.ScriptKind.TheVariants as script
 use Rattle.vasm_text.specs.declared.fault.AsmKind.{AsmKind}
@@ -65,13 +65,17 @@ abbrev pub line_if : List ℕ → List ℕ → List ℕ
 line_if before [] = []
 line_if before (byte ∷ bytes) = ((codes "vvmm: " ++ before) ++ byte ∷ bytes) ++ 10 ∷ []
 
+-- the column where the part of a line begins that is refused, where it is known
+abbrev pub column_text : ℕ → List ℕ
+column_text column = if column == 0 then [] else (codes "column " ++ decimal column) ++ codes ": "
+
 -- all that is shown of an answer beside its text
 abbrev pub hint_of : Status → Told → List ℕ
 hint_of answers.Words told = HELP.now
 hint_of answers.ShelfFault told = line_if (codes "this file cannot be read, or is a drive: ") told.unread
 hint_of (answers.Config fault) told = line_if (codes "the rule: ") (rule_text fault.rule)
-hint_of (answers.Script fault) told = line_if (codes "the line is: ") told.line ++ line_if [] (script_advice fault.kind)
-hint_of (answers.Asm fault) told = line_if (codes "the line is: ") told.line ++ line_if [] (source_advice fault.kind)
+hint_of (answers.Script fault) told = line_if (codes "the line is: ") told.line ++ line_if (column_text told.column) (script_advice fault.kind)
+hint_of (answers.Asm fault) told = line_if (codes "the line is: ") told.line ++ line_if (column_text told.column) (source_advice fault.kind)
 hint_of (answers.Audit fault) told = line_if (codes "the line is: ") told.line
 hint_of (answers.VolumeSize volume) told = note_if told.wanted ++ notes_of told.flawed
 hint_of (answers.DriveIn drive) told = notes_of told.flawed

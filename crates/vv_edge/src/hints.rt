@@ -1,12 +1,12 @@
-ghost use Rattle.std.specs.Prelude.{◌≡◌, ◌≤◌, ◌++◌, [], codes, length};
+ghost use Rattle.std.specs.Prelude.{◌≡◌, ◌≤◌, ◌++◌, codes, length};
 ghost use Rattle.vv_edge.specs.Notes.{note_if, notes_of};
-ghost use Rattle.vv_edge.specs.Hints.{advice, hint_of, line_if, rule_text, script_advice, source_advice};
+ghost use Rattle.vv_edge.specs.Hints.{advice, column_text, hint_of, line_if, rule_text, script_advice, source_advice};
 
 use crate::asked::HELP;
 use crate::telling::{DriveNotes, LineNotes, Note, note_if, notes};
 use sys_script::ScriptKind;
 use vasm_text::AsmKind;
-use vv_base::{FileName, Text};
+use vv_base::{FileName, Text, decimal};
 use vvmm_files::Status;
 
 /// What is known of a run beside its answer, for people at a terminal.
@@ -24,6 +24,8 @@ pub struct Told {
     pub unread: FileName,
     /// A line that is refused.
     pub line: Text<80>,
+    /// The column where the part of it begins that is refused; 0 where that isn't known.
+    pub column: u64,
 }
 
 impl Told {
@@ -36,6 +38,7 @@ impl Told {
             drives: [None; 16],
             unread: FileName::new(),
             line: Text::new(),
+            column: 0,
         }
     }
 }
@@ -132,14 +135,27 @@ fn line_if(before: &[u8], bytes: &[u8]) -> Text<160>
     text
 }
 
-/// A line that is refused, and what is wrong with it.
-fn refused(line: &Text<80>, why: &[u8]) -> Text<320>
-    requires { length why.now ≤ 80 }
-    ensures { result ≡ line_if (codes "the line is: ") line.now ++ line_if [] why.now }
+/// The column where the part of a line begins that is refused, where it is known.
+fn column_text(column: u64) -> Text<60>
+    ensures { result ≡ column_text column }
 {
     let mut text = Text::new();
-    text.append(line_if(b"the line is: ", line.bytes()).bytes());
-    text.append(line_if(b"", why).bytes());
+    if column > 0 {
+        text.append(b"column ");
+        text.append(decimal(column).bytes());
+        text.append(b": ");
+    }
+    text
+}
+
+/// A line that is refused, and where and why.
+fn refused(told: &Told, why: &[u8]) -> Text<320>
+    requires { length why.now ≤ 80 }
+    ensures { result ≡ line_if (codes "the line is: ") told.now.line ++ line_if (column_text told.now.column) why.now }
+{
+    let mut text = Text::new();
+    text.append(line_if(b"the line is: ", told.line.bytes()).bytes());
+    text.append(line_if(column_text(told.column).bytes(), why).bytes());
     text
 }
 
@@ -178,10 +194,10 @@ pub fn hint(status: &Status, told: &Told) -> Text<8192>
             text.append(line_if(b"the rule: ", rule_text(fault.rule)).bytes());
         }
         Status::Script(fault) => {
-            text.append(refused(&told.line, script_advice(fault.kind)).bytes());
+            text.append(refused(told, script_advice(fault.kind)).bytes());
         }
         Status::Asm(fault) => {
-            text.append(refused(&told.line, source_advice(fault.kind)).bytes());
+            text.append(refused(told, source_advice(fault.kind)).bytes());
         }
         Status::Audit(_) => text.append(line_if(b"the line is: ", told.line.bytes()).bytes()),
         Status::VolumeSize(_) => return unfit(told),

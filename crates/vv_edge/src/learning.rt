@@ -1,7 +1,8 @@
 ghost use Rattle.std.specs.Prelude.{◌≡◌, IfOk};
 ghost use Rattle.sys_config.specs.Config.{config_of};
-ghost use Rattle.vv_edge.specs.Learning.{audit_line_in, line_of_text, shown_front, refused_line, seen_as, told_word, wanted_in};
+ghost use Rattle.vv_edge.specs.Learning.{audit_line_in, line_of_text, shown_front, refused_column, refused_line, seen_as, told_word, wanted_in};
 
+use crate::columns::{script_column, source_column};
 use crate::telling::Note;
 use std::alloc::Global;
 use sys_config::{ConfigError, read_config};
@@ -62,6 +63,23 @@ pub fn refused_line(text: &[u8], status: &Status) -> Text<80>
         Status::Asm(fault) => shown_front(line_of_text(text, fault.line)),
         Status::Audit(fault) => shown_front(line_of_text(text, fault.line)),
         _ => Text::new(),
+    }
+}
+
+/// The column of that line where the part begins that is refused; 0 where it isn't known.
+pub fn refused_column(text: &[u8], status: &Status) -> u64
+    ensures { result ≡ refused_column text.now status.now }
+{
+    let line = match status {
+        Status::Script(fault) => line_of_text(text, fault.line),
+        Status::Asm(fault) => line_of_text(text, fault.line),
+        _ => &[],
+    };
+    match status {
+        _ if line.is_empty() => 0,
+        Status::Script(fault) => script_column(fault.kind, line),
+        Status::Asm(fault) => source_column(fault.kind, line),
+        _ => 0,
     }
 }
 
