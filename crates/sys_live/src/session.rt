@@ -1,5 +1,5 @@
 ghost use Rattle.std.specs.Prelude.{◌≡◌, ◌<◌, ◌≤◌, ◌+◌, ◌*◌, All, IfOk, false, length, map, vec_len};
-ghost use Rattle.sys_runs.specs.Asks.{MissesArePaid};
+ghost use Rattle.sys_runs.specs.Besides.{MissesArePaid};
 ghost use Rattle.sys_live.specs.Lives.{LivesRun};
 ghost use Rattle.sys_live.specs.Made.{GoesOnShowing, MakesTyped};
 ghost use Rattle.sys_runs.specs.Rounds.{MakesRounds};

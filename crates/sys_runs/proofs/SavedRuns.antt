@@ -1,6 +1,6 @@
 -- A run whose last moment is shown.
 use Rattle.std.proofs.Common.{ℕ, ◌≡◌, ◌≤◌, ◌+◌, List, length, map, refl, sym, ◌∙◌, ap, subst, arith, false, All, IfOk, Result, Ok, Err}
-use Rattle.sys_runs.specs.Asks.{MissesArePaid}
+use Rattle.sys_runs.specs.Besides.{MissesArePaid}
 use Rattle.std.proofs.lemmas.Bool.{true≢false}
 use Rattle.std.specs.Result.{is_err}
 use Rattle.vax_hw.specs.Machine.{Machine}

@@ -1,6 +1,6 @@
 -- Rounds are made from a moment on, and power goes down.
 use Rattle.std.proofs.Common.{ℕ, ◌≡◌, List, length, map, replicate, sym, ◌∙◌, ap, subst, arith, Bool, false, All, vec_len}
-use Rattle.sys_runs.specs.Asks.{MissesArePaid}
+use Rattle.sys_runs.specs.Besides.{MissesArePaid}
 use Rattle.std.proofs.lemmas.List.{length-map}
 use Rattle.std.specs.Global.{Vec}
 use Rattle.vax_hw.specs.Machine.{Machine}

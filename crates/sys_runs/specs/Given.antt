@@ -1,6 +1,6 @@
 -- A run over given volumes, which take the place of the drives.
 use Rattle.std.specs.Prelude.{ℕ, ◌≡◌, ◌≤◌, ◌*◌, List, [], length, Bool}
-use Rattle.sys_runs.specs.Asks.{Asks}
+use Rattle.sys_runs.specs.Besides.{Besides}
 use Rattle.std.specs.declared.option.Option.TheVariants.{None, Some}
 use Rattle.std.specs.declared.result.Result.{Result}
 use Rattle.std.specs.declared.result.Result.TheVariants.{Ok, Err}
@@ -24,7 +24,7 @@ use Rattle.vm_stepping.specs.Made.{steps_in, tally_of}
 -- The run was made, over volumes of the right sizes; every drive is as before. All else is as in a run over drives: each
 -- line has its bytes of the run, or a front of them and a mark where it failed. The steps are those of the run, at most
 -- 1,600,000 in a round, and the machine retired the plain ones. Only a line can have failed.
-pub record MakesWith (Also : Asks) (x : Input) (ran : Ran) (o : RunOutside) : Type 0 where
+pub record MakesWith (Also : Besides) (x : Input) (ran : Ran) (o : RunOutside) : Type 0 where
   pub fits : first_misfit x.config.guests x.images ≡ None
   pub sizes : FitRows x.config.volumes x.volumes
   -- the lines that have failed
@@ -40,7 +40,7 @@ pub record MakesWith (Also : Asks) (x : Input) (ran : Ran) (o : RunOutside) : Ty
 
 -- a run over given volumes by its answer: it was made; or the first image doesn't fit; or else the first volume is of
 -- another size; or memory ran out
-abbrev pub RunsWith : Asks → Config → List (List ℕ) → List (List (List ℕ)) → List Event → ℕ → Result Ran PowerFault → RunOutside → Type 0
+abbrev pub RunsWith : Besides → Config → List (List ℕ) → List (List (List ℕ)) → List Event → ℕ → Result Ran PowerFault → RunOutside → Type 0
 RunsWith Also c images volumes es n (Ok ran) o = MakesWith Also (record { config = c; images = images; volumes = volumes; events = es; rounds = n }) ran o
 RunsWith Also c images volumes es n (Err (Image g)) o = (first_misfit c.guests images ≡ Some g) × Untouched o
 RunsWith Also c images volumes es n (Err (VolumeSize v)) o = (first_misfit c.guests images ≡ None) × (first_of_another_size c.volumes volumes ≡ Some v) × Untouched o

@@ -1,6 +1,6 @@
 -- A law of runs.
 use Rattle.std.specs.Prelude.{◌≡◌, []}
-use Rattle.sys_runs.specs.Asks.{MissesArePaid}
+use Rattle.sys_runs.specs.Besides.{MissesArePaid}
 use Rattle.sys_runs.specs.Ran.{MakesRun, RunOutside}
 use Rattle.sys_runs.specs.declared.running.Ran.{Ran}
 use Rattle.sys_state.specs.Run.{Input}

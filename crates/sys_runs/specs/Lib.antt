@@ -1,4 +1,4 @@
-pub mod Asks
+pub mod Besides
 pub mod Given
 pub mod Laws
 pub mod Ran

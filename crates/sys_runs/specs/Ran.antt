@@ -1,6 +1,6 @@
 -- A whole run: what is left of it, and what the outside gets of it.
 use Rattle.std.specs.Prelude.{ℕ, ◌≡◌, ◌≢◌, ◌≤◌, ◌+◌, ◌*◌, List, [], length, Bool, false, All}
-use Rattle.sys_runs.specs.Asks.{Asks}
+use Rattle.sys_runs.specs.Besides.{Besides}
 use Rattle.std.specs.declared.option.Option.TheVariants.{None, Some}
 use Rattle.std.specs.declared.result.Result.{Result}
 use Rattle.std.specs.declared.result.Result.TheVariants.{Ok, Err}
@@ -55,7 +55,7 @@ pub record StoresFrom (m : Moment) (es : List Event) (n : ℕ) (marks : List Boo
 -- n rounds were made from a moment on, and then power went down. The drives have as many blocks as the volumes. Each line has its
 -- bytes, or a front of them and a mark where it failed. The steps are those of these rounds, at most 1,600,000 for each round
 -- since power-up, and the machine retired the plain ones.
-pub record MakesFrom (Also : Asks) (m : Moment) (es : List Event) (n : ℕ) (ran : Ran) (o : RunOutside) : Type 0 where
+pub record MakesFrom (Also : Besides) (m : Moment) (es : List Event) (n : ℕ) (ran : Ran) (o : RunOutside) : Type 0 where
   pub fit : All (FitsDrive o.drives) m.config.volumes
   -- the lines and the drives that have failed
   pub marks : List Bool
@@ -70,7 +70,7 @@ pub record MakesFrom (Also : Asks) (m : Moment) (es : List Event) (n : ℕ) (ran
   pub failed : ran.failed ≡ first_failed marks drive_marks
 
 -- The run was made: the images fit, the volumes are those of the drives, and its rounds were made from power-up on.
-pub record MakesRun (Also : Asks) (x : Input) (ran : Ran) (o : RunOutside) : Type 0 where
+pub record MakesRun (Also : Besides) (x : Input) (ran : Ran) (o : RunOutside) : Type 0 where
   pub fits : first_misfit x.config.guests x.images ≡ None
   pub loaded : AreLoaded x.config.volumes o.drives x.volumes
   pub makes : MakesFrom Also (opening x) x.events x.rounds ran o
@@ -84,6 +84,6 @@ StaysDown c images (DriveIn d) o = (first_misfit c.guests images ≡ None) × Ha
 StaysDown c images NoMemory o = Untouched o
 
 -- a run by its answer: it was made; or power doesn't come up
-abbrev pub Runs : Asks → Config → List (List ℕ) → List Event → ℕ → Result Ran PowerFault → RunOutside → Type 0
+abbrev pub Runs : Besides → Config → List (List ℕ) → List Event → ℕ → Result Ran PowerFault → RunOutside → Type 0
 Runs Also c images es n (Ok ran) o = (volumes : List (List (List ℕ))) × MakesRun Also (record { config = c; images = images; volumes = volumes; events = es; rounds = n }) ran o
 Runs Also c images es n (Err fault) o = StaysDown c images fault o

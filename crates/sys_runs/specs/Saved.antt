@@ -1,6 +1,6 @@
 -- Runs whose last moment is shown as a snapshot, and runs that go on from one.
 use Rattle.std.specs.Prelude.{ℕ, ◌≡◌, ◌≤◌, List, [], length, Bool, false, All}
-use Rattle.sys_runs.specs.Asks.{Asks}
+use Rattle.sys_runs.specs.Besides.{Besides}
 use Rattle.std.specs.declared.option.Option.TheVariants.{None}
 use Rattle.std.specs.declared.result.Result.{Result}
 use Rattle.std.specs.declared.result.Result.TheVariants.{Ok, Err}
@@ -34,7 +34,7 @@ last_moment x = moment_after (opening x) x.events x.rounds
 -- machine retired the plain steps of these rounds; it missed at most as many pages as they have first touches. Only a line can
 -- have failed. `out` was shown the snapshot of that moment with this text, or a front of it where `out` failed; shown whole, it is
 -- one.
-pub record SavesFrom (Also : Asks) (m : Moment) (es : List Event) (n : ℕ) (text : List ℕ) (saved : Saved) (o : RunOutside) (out out' : Seen) : Type 0 where
+pub record SavesFrom (Also : Besides) (m : Moment) (es : List Event) (n : ℕ) (text : List ℕ) (saved : Saved) (o : RunOutside) (out out' : Seen) : Type 0 where
   pub fit : All (FitsDrive o.drives) m.config.volumes
   -- the lines that have failed
   pub marks : List Bool
@@ -48,13 +48,13 @@ pub record SavesFrom (Also : Asks) (m : Moment) (es : List Event) (n : ℕ) (tex
   pub moment : saved.is_cut ≡ false → IsMoment (moment_after m es n)
 
 -- The run was saved: the images fit, the volumes are those of the drives, and its rounds were made from power-up on.
-pub record Saves (Also : Asks) (x : Input) (text : List ℕ) (saved : Saved) (o : RunOutside) (out out' : Seen) : Type 0 where
+pub record Saves (Also : Besides) (x : Input) (text : List ℕ) (saved : Saved) (o : RunOutside) (out out' : Seen) : Type 0 where
   pub fits : first_misfit x.config.guests x.images ≡ None
   pub loaded : AreLoaded x.config.volumes o.drives x.volumes
   pub saves : SavesFrom Also (opening x) x.events x.rounds text saved o out out'
 
 -- a run that is saved, by its answer: its rounds were made; or power doesn't come up, and nothing is shown
-abbrev pub SavesRun : Asks → Config → List ℕ → List (List ℕ) → List Event → ℕ → Result Saved PowerFault → RunOutside → (out out' : Seen) → Type 0
+abbrev pub SavesRun : Besides → Config → List ℕ → List (List ℕ) → List Event → ℕ → Result Saved PowerFault → RunOutside → (out out' : Seen) → Type 0
 SavesRun Also c text images es n (Ok saved) o out out' = (volumes : List (List (List ℕ))) × Saves Also (record { config = c; images = images; volumes = volumes; events = es; rounds = n }) text saved o out out'
 SavesRun Also c text images es n (Err fault) o out out' = StaysDown c images fault o × (out' ≡ out)
 
@@ -66,11 +66,11 @@ StaysAt m (DriveIn d) o = ⊥
 StaysAt m NoMemory o = Untouched o
 
 -- a run that goes on from a moment, by its answer: its rounds were made from there on; or it doesn't go on
-abbrev pub ContinuesRun : Asks → Moment → List Event → ℕ → Result Ran PowerFault → RunOutside → Type 0
+abbrev pub ContinuesRun : Besides → Moment → List Event → ℕ → Result Ran PowerFault → RunOutside → Type 0
 ContinuesRun Also m es n (Ok ran) o = MakesFrom Also m es n ran o
 ContinuesRun Also m es n (Err fault) o = StaysAt m fault o
 
 -- .. and one that goes on and is saved
-abbrev pub ExtendsRun : Asks → Moment → List ℕ → List Event → ℕ → Result Saved PowerFault → RunOutside → (out out' : Seen) → Type 0
+abbrev pub ExtendsRun : Besides → Moment → List ℕ → List Event → ℕ → Result Saved PowerFault → RunOutside → (out out' : Seen) → Type 0
 ExtendsRun Also m text es n (Ok saved) o out out' = SavesFrom Also m es n text saved o out out'
 ExtendsRun Also m text es n (Err fault) o out out' = StaysAt m fault o × (out' ≡ out)

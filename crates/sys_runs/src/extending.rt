@@ -1,5 +1,5 @@
 ghost use Rattle.std.specs.Prelude.{◌≡◌, ◌≤◌, ◌*◌, ◌+◌, Ok, length, map, vec_len};
-ghost use Rattle.sys_runs.specs.Asks.{MissesArePaid};
+ghost use Rattle.sys_runs.specs.Besides.{MissesArePaid};
 ghost use Rattle.sys_config.specs.Config.{config_of};
 ghost use Rattle.sys_runs.specs.Saved.{ExtendsRun};
 ghost use Rattle.sys_script.specs.Events.{AreEvents};

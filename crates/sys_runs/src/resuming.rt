@@ -1,5 +1,5 @@
 ghost use Rattle.std.specs.Prelude.{◌≡◌, ◌≤◌, ◌*◌, length, map, vec_len};
-ghost use Rattle.sys_runs.specs.Asks.{MissesArePaid};
+ghost use Rattle.sys_runs.specs.Besides.{MissesArePaid};
 ghost use Rattle.sys_runs.specs.Saved.{ContinuesRun};
 ghost use Rattle.sys_script.specs.Events.{AreEvents};
 ghost use Rattle.sys_snap.specs.Held.{HoldsMoment, snapshot_moment};

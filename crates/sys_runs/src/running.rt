@@ -1,5 +1,5 @@
 ghost use Rattle.std.specs.Prelude.{◌≡◌, ◌≤◌, ◌*◌, ◌+◌, All, false, length, map, vec_len};
-ghost use Rattle.sys_runs.specs.Asks.{MissesArePaid};
+ghost use Rattle.sys_runs.specs.Besides.{MissesArePaid};
 ghost use Rattle.sys_devices.specs.Rows.{FitsDrive};
 ghost use Rattle.sys_guests.specs.Layout.{guests_in};
 ghost use Rattle.sys_guests.specs.Loads.{MemoryAlone};

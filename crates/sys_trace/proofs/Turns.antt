@@ -1,6 +1,6 @@
 -- A guest's turn, taken a step at a time, and what is shown of it.
 use Rattle.std.proofs.Common.{ℕ, false, zero, suc, ◌≡◌, ◌<◌, ◌≤◌, ◌+◌, List, [], ◌∷◌, ◌++◌, length, map, refl, sym, ◌∙◌, ap, subst, arith, append_assoc, append-nil}
-use Rattle.sys_runs.specs.Asks.{MissesArePaid}
+use Rattle.sys_runs.specs.Besides.{MissesArePaid}
 use Rattle.std.specs.Prelude.{Err, IfSome, Option, Some, slice_get, slice_index, slice_index_or}
 use Rattle.std.proofs.lemmas.List.{replicate_more}
 use Rattle.std.proofs.lemmas.Option.{get_or_from_slice_get, slice_get_within}

@@ -1,6 +1,6 @@
 -- A run that was made takes few steps.
 use Rattle.std.proofs.Common.{ℕ, ◌≤◌, List, arith, Result, Ok, Err, IfOk}
-use Rattle.sys_runs.specs.Asks.{MissesArePaid}
+use Rattle.sys_runs.specs.Besides.{MissesArePaid}
 use Rattle.vm_stepping.specs.Made.{steps_in}
 use Rattle.sys_objects.specs.declared.records.Config.{Config}
 use Rattle.sys_state.specs.Run.{Moment}

@@ -1,6 +1,6 @@
 -- A run that is saved, goes on or is typed is given slices of what was fetched.
 use Rattle.std.proofs.Common.{ℕ, ◌≡◌, List, map, subst, Result, Vec, Global}
-use Rattle.sys_runs.specs.Asks.{MissesArePaid}
+use Rattle.sys_runs.specs.Besides.{MissesArePaid}
 use Rattle.vv_io.specs.Lines.{Seen}
 use Rattle.sys_live.specs.Lives.{LivesRun}
 use Rattle.sys_live.specs.Operator.{Operator}

@@ -1,6 +1,6 @@
 -- A run's devices are separate, and a run of one guest touches no drive.
 use Rattle.std.proofs.Common.{ℕ, ◌≡◌, List, [], ◌∷◌, Some, get_or, Result, Ok, Err, refl, subst}
-use Rattle.sys_runs.specs.Asks.{MissesArePaid}
+use Rattle.sys_runs.specs.Besides.{MissesArePaid}
 use Rattle.std.specs.List.{slice_get}
 use Rattle.sys_moment_laws.proofs.Separate.{moments_separate}
 use Rattle.sys_moment_laws.proofs.Stands.{consistent_fits, moments_stand_right}

@@ -1,6 +1,6 @@
 -- A run whose steps were shown, as a run of the guest A.
 use Rattle.std.proofs.Common.{ℕ, ◌≡◌, ◌≤◌, List, [], ◌∷◌, ◌++◌, length, map, Bool, true, false, Option, Ok, Err, Vec, Global, arith, ap, subst, sym, ◌∙◌}
-use Rattle.sys_runs.specs.Asks.{MissesArePaid}
+use Rattle.sys_runs.specs.Besides.{MissesArePaid}
 use Rattle.std.proofs.lemmas.List.{length-map}
 use Rattle.vv_io.specs.Lines.{Seen}
 use Rattle.sys_devices.proofs.Puts.{joined, still}

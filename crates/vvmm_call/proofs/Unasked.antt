@@ -5,7 +5,7 @@ use Rattle.sys_live.specs.Lives.{Lives, LivesRun}
 use Rattle.sys_live.specs.Operator.{Operator}
 use Rattle.sys_live.specs.declared.session.Lived.{Lived}
 use Rattle.sys_objects.specs.declared.records.Config.{Config}
-use Rattle.sys_runs.specs.Asks.{MissesArePaid, NothingMore}
+use Rattle.sys_runs.specs.Besides.{MissesArePaid, NothingMore}
 use Rattle.sys_runs.specs.Given.{MakesWith}
 use Rattle.sys_runs.specs.Ran.{MakesFrom, MakesRun, RunOutside, Runs}
 use Rattle.sys_runs.specs.Saved.{ContinuesRun, ExtendsRun, Saves, SavesFrom, SavesRun}

@@ -1,6 +1,6 @@
 -- The run of a workload that is drawn from a number.
 use Rattle.std.specs.List.{AllZip}
-use Rattle.sys_runs.specs.Asks.{MissesArePaid}
+use Rattle.sys_runs.specs.Besides.{MissesArePaid}
 use Rattle.std.proofs.Common.{ℕ, suc, ◌≡◌, ◌∙◌, ◌+◌, ◌*◌, ◌≤◌, ◌⊎◌, not, inl, inr, List, [], ◌∷◌, length, map, refl, sym, ap, subst, arith, Bool, true, false, Option, Some, None, option_map, if◌then◌else◌, Result, Ok, Err, IfOk, Vec, Global}
 use Rattle.std.proofs.lemmas.Bool.{eq-eqb, le-ltb}
 use Rattle.std.proofs.lemmas.List.{length-map}

@@ -1,6 +1,6 @@
 -- Each answer of the top call, and what it says of the outside.
 use Rattle.std.specs.Prelude.{ℕ, ◌≡◌, ◌≤◌, ◌+◌, ◌⊎◌, List, [], ◌∷◌, All, Bool, true, false, ◌++◌, Option, Some, None, Result, Ok, Err, codes, pos}
-use Rattle.sys_runs.specs.Asks.{Asks}
+use Rattle.sys_runs.specs.Besides.{Besides}
 use Rattle.vv_io.specs.Blocks.{SeenDrive}
 use Rattle.vv_io.specs.Lines.{Seen}
 use Rattle.vv_io.specs.Shelf.{File}
@@ -128,7 +128,7 @@ AnswersRun rounds (Err fault) status out out' = (status ≡ power_status fault) 
 AnswersRun rounds (Ok ran) status out out' = EndsWithPut ran.failed (summary rounds (tally_of ran.counts)) status out out'
 
 -- A run of this configuration, of these images and events, and its answer.
-pub record PlaysConfiguration (Also : Asks) (c : Config) (images : List (List ℕ)) (es : List Event) (rounds : ℕ) (status : Status) (o : RunOutside) (out out' : Seen) : Type 0 where
+pub record PlaysConfiguration (Also : Besides) (c : Config) (images : List (List ℕ)) (es : List Event) (rounds : ℕ) (status : Status) (o : RunOutside) (out out' : Seen) : Type 0 where
   pub result : Result Ran PowerFault
   pub runs : Runs Also c images es rounds result o
   pub answers : AnswersRun rounds result status out out'
@@ -140,14 +140,14 @@ pub record IsSeparate (x : Input) : Type 0 where
   pub drives : All (λ v. drive_blocks (purged x v.class) v.drive ≡ drive_blocks x v.drive) x.config.volumes
 
 -- `solo`: the image was fetched, and the guest A runs; the drives are as before
-pub record PlaysSolo (Also : Asks) (a : Asked) (status : Status) (o : Outside) : Type 0 where
+pub record PlaysSolo (Also : Besides) (a : Asked) (status : Status) (o : Outside) : Type 0 where
   pub image : List ℕ
   pub read : IsRead o.files a.image image
   pub shelf : o.shelf' ≡ o.shelf
   pub plays : PlaysConfiguration Also (solo_config a) (image ∷ []) [] 1 status (run_outside o) o.out o.out'
   pub drives : o.drives' ≡ o.drives
 
-abbrev pub FollowsSolo : Asks → Asked → Status → Outside → Type 0
+abbrev pub FollowsSolo : Besides → Asked → Status → Outside → Type 0
 FollowsSolo Also a status o = (Stops (StopsFile o.files a.image o.shelf o.shelf') status × Silent o) ⊎ PlaysSolo Also a status o
 
 -- how a run whose steps were to be shown is answered: power doesn't come up, or it is made, and its trace is put, with the summary
@@ -158,7 +158,7 @@ AnswersTrace trace (Ok ran) status out out' = EndsWithPut ran.failed (trace ++ s
 
 -- `trace`: the image was fetched, and the run of `solo` is made; what is put is the trace of the guest A, which steps alone on its
 -- private virtual VAX
-pub record PlaysTrace (Also : Asks) (a : Asked) (status : Status) (o : Outside) : Type 0 where
+pub record PlaysTrace (Also : Besides) (a : Asked) (status : Status) (o : Outside) : Type 0 where
   pub image : List ℕ
   pub read : IsRead o.files a.image image
   pub shelf : o.shelf' ≡ o.shelf
@@ -167,11 +167,11 @@ pub record PlaysTrace (Also : Asks) (a : Asked) (status : Status) (o : Outside) 
   pub answers : AnswersTrace (trace_of a.steps (powered (solo_guest a) image)) result status o.out o.out'
   pub drives : o.drives' ≡ o.drives
 
-abbrev pub FollowsTrace : Asks → Asked → Status → Outside → Type 0
+abbrev pub FollowsTrace : Besides → Asked → Status → Outside → Type 0
 FollowsTrace Also a status o = (Stops (StopsFile o.files a.image o.shelf o.shelf') status × Silent o) ⊎ PlaysTrace Also a status o
 
 -- `run`: all files were fetched, and the configuration runs. Whatever the drives hold, its devices are separate.
-pub record PlaysRun (Also : Asks) (a : RunAsked) (status : Status) (o : Outside) : Type 0 where
+pub record PlaysRun (Also : Besides) (a : RunAsked) (status : Status) (o : Outside) : Type 0 where
   pub config : Config
   pub events : List Event
   pub images : List (List ℕ)
@@ -180,7 +180,7 @@ pub record PlaysRun (Also : Asks) (a : RunAsked) (status : Status) (o : Outside)
   pub plays : PlaysConfiguration Also config images events a.rounds status (run_outside o) o.out o.out'
   pub separate : (volumes : List (List (List ℕ))) → IsSeparate (record { config = config; images = images; volumes = volumes; events = events; rounds = a.rounds })
 
-abbrev pub FollowsRun : Asks → RunAsked → Status → Outside → Type 0
+abbrev pub FollowsRun : Besides → RunAsked → Status → Outside → Type 0
 FollowsRun Also a status o = (Stops (StopsRun o.files a o.shelf o.shelf') status × Silent o) ⊎ PlaysRun Also a status o
 
 -- What its rounds show on each device is what they show when all whose class doesn't flow into its own was never there.
@@ -194,7 +194,7 @@ AnswersSave (Ok saved) status = status ≡ status_when_done saved.failed saved.i
 
 -- `save`: all files were fetched, the rounds are made, and the snapshot is put with the fetched text. Whatever the drives hold,
 -- its devices are separate.
-pub record PlaysSave (Also : Asks) (a : RunAsked) (status : Status) (o : Outside) : Type 0 where
+pub record PlaysSave (Also : Besides) (a : RunAsked) (status : Status) (o : Outside) : Type 0 where
   pub config : Config
   pub text : List ℕ
   pub events : List Event
@@ -206,7 +206,7 @@ pub record PlaysSave (Also : Asks) (a : RunAsked) (status : Status) (o : Outside
   pub answers : AnswersSave result status
   pub separate : (volumes : List (List (List ℕ))) → IsShownSeparate (record { config = config; images = images; volumes = volumes; events = events; rounds = a.rounds })
 
-abbrev pub FollowsSave : Asks → RunAsked → Status → Outside → Type 0
+abbrev pub FollowsSave : Besides → RunAsked → Status → Outside → Type 0
 FollowsSave Also a status o = (Stops (StopsSave o.files a o.shelf o.shelf') status × Silent o) ⊎ PlaysSave Also a status o
 
 -- A command that goes on from a snapshot: that and the script were fetched, and so it ends, from its moment and with its text.
@@ -219,10 +219,10 @@ pub record PlaysFrom (Left : Type 0) (a : ResumeAsked) (o : Outside) (Ends : Mom
   pub ends : Ends moment has.snap.is.text events result
 
 -- `resume`: the run goes on, and its summary is put. From the snapshot's moment on its devices are separate.
-abbrev pub PlaysResume : Asks → ResumeAsked → Status → Outside → Type 0
+abbrev pub PlaysResume : Besides → ResumeAsked → Status → Outside → Type 0
 PlaysResume Also a status o = PlaysFrom Ran a o (λ m text es result. ContinuesRun Also m es a.rounds result (run_outside o) × AnswersRun a.rounds result status o.out o.out' × IsSeparateFrom m es a.rounds)
 
-abbrev pub FollowsResume : Asks → ResumeAsked → Status → Outside → Type 0
+abbrev pub FollowsResume : Besides → ResumeAsked → Status → Outside → Type 0
 FollowsResume Also a status o = (Stops (StopsResume o.files a o.shelf o.shelf') status × Silent o) ⊎ PlaysResume Also a status o
 
 -- From a moment on, what rounds show on each device is what they show when all whose class doesn't flow into its own was taken out
@@ -231,10 +231,10 @@ abbrev pub IsShownSeparateFrom : Moment → List Event → ℕ → Type 0
 IsShownSeparateFrom m es n = All (λ d. shown_from (purged_moment m d.class) (purge_events m.config es d.class) n d.line ≡ shown_from m es n d.line) (devices_of m.config)
 
 -- `extend`: the run goes on, to a round that a snapshot can have, and is put as one. From its moment on its devices are separate.
-abbrev pub PlaysExtend : Asks → ResumeAsked → Status → Outside → Type 0
+abbrev pub PlaysExtend : Besides → ResumeAsked → Status → Outside → Type 0
 PlaysExtend Also a status o = PlaysFrom Saved a o (λ m text es result. ExtendsRun Also m text es a.rounds result (run_outside o) o.out o.out' × AnswersSave result status × IsShownSeparateFrom m es a.rounds × (m.made + a.rounds ≤ 1000000))
 
-abbrev pub FollowsExtend : Asks → ResumeAsked → Status → Outside → Type 0
+abbrev pub FollowsExtend : Besides → ResumeAsked → Status → Outside → Type 0
 FollowsExtend Also a status o = (Stops (StopsExtend o.files a o.shelf o.shelf') status × Silent o) ⊎ PlaysExtend Also a status o
 
 -- the answer where all was done: a device that failed goes first, then what is cut, then that the typing broke off, or that
@@ -264,7 +264,7 @@ AnswersLive (Ok lived) status shown out' = ClosesLive lived status shown out'
 
 -- `live`: configuration and images were fetched, and the run is made as it is typed. Whatever is typed and the drives hold, its
 -- devices are separate.
-pub record PlaysLive (Also : Asks) (a : LiveAsked) (status : Status) (o : Outside) (p : Operator) : Type 0 where
+pub record PlaysLive (Also : Besides) (a : LiveAsked) (status : Status) (o : Outside) (p : Operator) : Type 0 where
   pub config : Config
   pub images : List (List ℕ)
   pub has : HasAllToLive o.files a config images
@@ -276,7 +276,7 @@ pub record PlaysLive (Also : Asks) (a : LiveAsked) (status : Status) (o : Outsid
   pub answers : AnswersLive result status shown o.out'
   pub separate : (x : Input) → x.config ≡ config → IsSeparate x
 
-abbrev pub FollowsLive : Asks → LiveAsked → Status → Outside → Operator → Type 0
+abbrev pub FollowsLive : Besides → LiveAsked → Status → Outside → Operator → Type 0
 FollowsLive Also a status o p = (Stops (StopsLive o.files a o.shelf o.shelf') status × Silent o × Untyped p) ⊎ PlaysLive Also a status o p
 
 -- `check`, `migrate`, `flow` and `draw`: the configuration was fetched, and bytes in this relation to it are put
@@ -296,13 +296,13 @@ abbrev pub workload_input : Generated → Input
 workload_input w = record { config = w.config; images = w.images; volumes = w.volumes; events = w.events; rounds = w.rounds }
 
 -- `load`: the run of a workload was made, over its own volumes, and its summary is put
-pub record PlaysLoad (Also : Asks) (w : Generated) (status : Status) (o : RunOutside) (out out' : Seen) : Type 0 where
+pub record PlaysLoad (Also : Besides) (w : Generated) (status : Status) (o : RunOutside) (out out' : Seen) : Type 0 where
   pub ran : Ran
   pub made : MakesWith Also (workload_input w) ran o
   pub closes : EndsWithPut ran.failed (summary w.rounds (tally_of ran.counts)) status out out'
 
 -- it is the workload of the number; or memory ran out, and the lines, the drives, `out` and the machine's counts are as before
-abbrev pub FollowsLoad : Asks → ℕ → Status → RunOutside → Seen → Seen → Type 0
+abbrev pub FollowsLoad : Besides → ℕ → Status → RunOutside → Seen → Seen → Type 0
 FollowsLoad Also number status o out out' = ((status ≡ NoMemory) × Untouched o × (out' ≡ out)) ⊎ PlaysLoad Also (workload_of number) status o out out'
 
 -- the counts of a configuration
@@ -352,7 +352,7 @@ abbrev pub ShowsFile : (List ℕ → Result (List ℕ) AsmFault) → List ℕ �
 ShowsFile made name status o = (answer : Answer) × (status ≡ status_of name answer) × FollowsFile made name answer (shelf_and_sink o) × Apart o
 
 -- what an answer says, given what the words ask for; only `live` takes typed lines
-abbrev pub Says : Asks → Option Wanted → Status → Outside → Operator → Type 0
+abbrev pub Says : Besides → Option Wanted → Status → Outside → Operator → Type 0
 Says Also None status o p = (status ≡ Words) × Apart o × (o.out' ≡ o.out) × Untyped p
 Says Also (Some (WantsSolo a)) status o p = FollowsSolo Also a status o × Untyped p
 Says Also (Some (WantsTrace a)) status o p = FollowsTrace Also a status o × Untyped p

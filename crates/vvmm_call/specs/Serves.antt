@@ -1,6 +1,6 @@
 -- The call with the sync of its devices after it.
 use Rattle.std.specs.Prelude.{ℕ, ◌≡◌, List, min, Option, Some}
-use Rattle.sys_runs.specs.Asks.{Asks}
+use Rattle.sys_runs.specs.Besides.{Besides}
 use Rattle.vv_io.specs.Blocks.{SeenDrive}
 use Rattle.vv_io.specs.Lines.{Seen}
 use Rattle.sys_live.specs.Operator.{Operator}
@@ -30,7 +30,7 @@ synced_status (DeviceFault first) (Some device) = DeviceFault (lower first devic
 synced_status answer failed = answer
 
 -- The call left lines and drives so, and answered so; then they were synced.
-pub record ServesCall (Also : Asks) (words : Option Wanted) (status : Status) (o : Outside) (p : Operator) : Type 0 where
+pub record ServesCall (Also : Besides) (words : Option Wanted) (status : Status) (o : Outside) (p : Operator) : Type 0 where
   pub answer : Status
   pub lines : List Seen
   pub drives : List SeenDrive

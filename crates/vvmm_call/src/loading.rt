@@ -1,5 +1,5 @@
 ghost use Rattle.std.specs.Prelude.{◌≡◌, ◌*◌, List, length};
-ghost use Rattle.sys_runs.specs.Asks.{MissesArePaid};
+ghost use Rattle.sys_runs.specs.Besides.{MissesArePaid};
 ghost use Rattle.vv_io.specs.Blocks.{SeenDrive};
 ghost use Rattle.vvmm_call.specs.Answer.{FollowsLoad};
 

@@ -1,5 +1,5 @@
 ghost use Rattle.std.specs.Prelude.{◌≡◌, ◌*◌, length, map, string_bytes, vec_len};
-ghost use Rattle.sys_runs.specs.Asks.{MissesArePaid};
+ghost use Rattle.sys_runs.specs.Besides.{MissesArePaid};
 ghost use Rattle.sys_system.specs.Devices.{device_of};
 ghost use Rattle.vvmm_call.specs.Serves.{ServesCall, lower, synced_status};
 ghost use Rattle.vvmm_files.specs.Words.{wanted};

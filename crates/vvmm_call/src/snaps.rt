@@ -1,5 +1,5 @@
 ghost use Rattle.std.specs.Prelude.{◌≡◌, ◌≤◌, ◌*◌, length, map, vec_len};
-ghost use Rattle.sys_runs.specs.Asks.{MissesArePaid};
+ghost use Rattle.sys_runs.specs.Besides.{MissesArePaid};
 ghost use Rattle.vvmm_call.specs.Answer.{AnswersSave, FollowsExtend, FollowsResume, FollowsSave};
 
 use crate::playing::{answer, done_status};

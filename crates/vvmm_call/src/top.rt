@@ -1,5 +1,5 @@
 ghost use Rattle.std.specs.Prelude.{◌≡◌, ◌≤◌, ◌*◌, map, string_bytes, length, true, vec_len};
-ghost use Rattle.sys_runs.specs.Asks.{MissesArePaid, NothingMore};
+ghost use Rattle.sys_runs.specs.Besides.{MissesArePaid, NothingMore};
 ghost use Rattle.sys_flow.specs.Report.{IsReport};
 ghost use Rattle.vv_base.specs.Names.{is_file_name};
 ghost use Rattle.vvmm_call.specs.Answer.{AreCounts, FollowsAudit, FollowsConfig, FollowsRun, FollowsSolo, IsDrawing, IsMigrated, Says, status_of};

@@ -1,5 +1,5 @@
 ghost use Rattle.std.specs.Prelude.{◌≡◌, ◌≤◌, ◌*◌, ◌++◌, List, ℕ, length, map, true, vec_len};
-ghost use Rattle.sys_runs.specs.Asks.{MissesArePaid};
+ghost use Rattle.sys_runs.specs.Besides.{MissesArePaid};
 ghost use Rattle.sys_devices.specs.ShownSince.{ShownSince};
 ghost use Rattle.vm_stepping.specs.Made.{steps_in, tally_of};
 ghost use Rattle.vv_base.specs.Names.{is_file_name};

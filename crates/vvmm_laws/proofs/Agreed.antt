@@ -1,6 +1,6 @@
 -- What two runs of `live` show where their typing is alike to a class.
 use Rattle.std.proofs.Common.{ℕ, zero, suc, ◌≡◌, ◌<◌, inl, inr, List, [], ◌∷◌, ◌++◌, length, map, get_or, Bool, true, false, All, Option, Some, None, Result, Ok, Err, refl, subst, sym, ap, ◌∙◌, arith}
-use Rattle.sys_runs.specs.Asks.{MissesArePaid}
+use Rattle.sys_runs.specs.Besides.{MissesArePaid}
 use Rattle.std.specs.List.{slice_get}
 use Rattle.std.proofs.lemmas.List.{append_cancel_right, ext_get_or}
 use Rattle.vv_io.specs.Blocks.{SeenDrive}

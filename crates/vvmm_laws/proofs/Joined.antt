@@ -1,6 +1,6 @@
 -- `save`, any number of `extend`, and `resume`, each of what the one before it showed.
 use Rattle.std.proofs.Common.{ℕ, ◌≡◌, ◌≤◌, ◌+◌, List, [], ◌∷◌, ◌++◌, length, Bool, true, false, All, Option, Some, None, Result, Ok, Err, inl, inr, refl, subst, sym, ap, ◌∙◌, arith, append_assoc, append-nil}
-use Rattle.sys_runs.specs.Asks.{MissesArePaid}
+use Rattle.sys_runs.specs.Besides.{MissesArePaid}
 use Rattle.std.proofs.lemmas.List.{append_cancel_left}
 use Rattle.vv_io.specs.Blocks.{SeenDrive}
 use Rattle.vv_io.specs.Lines.{Seen, shown_after}

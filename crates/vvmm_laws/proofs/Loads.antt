@@ -1,6 +1,6 @@
 -- Which answer must be given to `load`.
 use Rattle.std.proofs.Common.{ℕ, ◌≡◌, ◌<◌, inl, inr, List, Bool, true, false, Option, Some, None, refl, subst, sym, ap, ◌∙◌, arith}
-use Rattle.sys_runs.specs.Asks.{MissesArePaid}
+use Rattle.sys_runs.specs.Besides.{MissesArePaid}
 use Rattle.vv_io.specs.Lines.{Seen}
 use Rattle.sys_system.specs.Devices.{device_of}
 use Rattle.sys_devices.specs.declared.device.Device.{Device}

@@ -1,6 +1,6 @@
 -- Which answer must be given to `resume`, and to `extend`.
 use Rattle.std.proofs.Common.{ℕ, ◌≡◌, ◌<◌, ◌≤◌, ◌+◌, ◌⊎◌, inl, inr, List, Option, Some, None, All, Result, Ok, Err, refl, subst, sym, ap, ◌∙◌, arith}
-use Rattle.sys_runs.specs.Asks.{MissesArePaid}
+use Rattle.sys_runs.specs.Besides.{MissesArePaid}
 use Rattle.vv_io.specs.Causes.{Rose}
 use Rattle.vv_io.specs.Lines.{Seen}
 use Rattle.vv_io.specs.Shelf.{File, held}

@@ -1,6 +1,6 @@
 -- The answer of `trace` is one of `solo`, over another output.
 use Rattle.std.proofs.Common.{ℕ, ◌≡◌, List, [], ◌∷◌, ◌++◌, take, zero, Bool, true, false, Result, Ok, Err, arith, inl, inr, refl, subst, sym}
-use Rattle.sys_runs.specs.Asks.{MissesArePaid}
+use Rattle.sys_runs.specs.Besides.{MissesArePaid}
 use Rattle.vv_io.specs.Causes.{Rose}
 use Rattle.vv_io.specs.Lines.{Seen, shown_after}
 use Rattle.vm_stepping.specs.Made.{tally_of}

@@ -1,7 +1,7 @@
 -- What two runs of `live` show where their typing differs at terminals whose class doesn't flow into another: of what flows into
 -- that, the same.
 use Rattle.std.specs.Prelude.{ℕ, ◌≡◌, List, Some, All, true}
-use Rattle.sys_runs.specs.Asks.{MissesArePaid}
+use Rattle.sys_runs.specs.Besides.{MissesArePaid}
 use Rattle.vv_io.specs.Blocks.{SeenDrive}
 use Rattle.vv_io.specs.Keys.{Took}
 use Rattle.vv_io.specs.Lines.{shown_after}

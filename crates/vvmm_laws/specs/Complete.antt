@@ -1,6 +1,6 @@
 -- What follows from the answers' causes: which answer must be given. The shelf's files are known.
 use Rattle.std.specs.Prelude.{ℕ, ◌≡◌, ◌≤◌, ◌<◌, ◌+◌, List, None, Some, Result, Ok, Err, length, All, slice_index_or}
-use Rattle.sys_runs.specs.Asks.{MissesArePaid}
+use Rattle.sys_runs.specs.Besides.{MissesArePaid}
 use Rattle.vv_io.specs.Causes.{Rose}
 use Rattle.vv_io.specs.Lines.{Seen, unseen}
 use Rattle.vv_io.specs.Shelf.{File, file_limit, held}

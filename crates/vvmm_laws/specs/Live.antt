@@ -1,7 +1,7 @@
 -- What follows from the answers' causes of `live`: which answer must be given, and what typing reaches. The shelf's files are
 -- known.
 use Rattle.std.specs.Prelude.{ℕ, ◌≡◌, ◌≢◌, ◌<◌, ◌≤◌, ◌-◌, ◌^◌, List, [], ◌∷◌, ◌++◌, length, None, Some, All, false, true}
-use Rattle.sys_runs.specs.Asks.{MissesArePaid}
+use Rattle.sys_runs.specs.Besides.{MissesArePaid}
 use Rattle.vv_io.specs.Causes.{Rose}
 use Rattle.vv_io.specs.Shelf.{File, held}
 use Rattle.vv_class.specs.Class.{does_flow}

@@ -1,6 +1,6 @@
 -- A command leaves the devices that it doesn't have.
 use Rattle.std.specs.Prelude.{◌≡◌, Option}
-use Rattle.sys_runs.specs.Asks.{MissesArePaid}
+use Rattle.sys_runs.specs.Besides.{MissesArePaid}
 use Rattle.sys_live.specs.Operator.{Operator}
 use Rattle.vvmm_call.specs.Answer.{Outside, Says}
 use Rattle.vvmm_call.specs.Devices.{devices_needed}

@@ -1,6 +1,6 @@
 -- What follows from the answers' causes of `save`, `resume` and `extend`: which answer must be given. The shelf's files are known.
 use Rattle.std.specs.Prelude.{ℕ, ◌≡◌, ◌<◌, ◌≤◌, ◌+◌, List, None, Some, All}
-use Rattle.sys_runs.specs.Asks.{MissesArePaid}
+use Rattle.sys_runs.specs.Besides.{MissesArePaid}
 use Rattle.vv_io.specs.Causes.{Rose}
 use Rattle.vv_io.specs.Shelf.{File, held}
 use Rattle.sys_devices.specs.Loads.{IsMisfit}

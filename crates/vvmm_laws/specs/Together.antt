@@ -1,6 +1,6 @@
 -- `save`, any number of `extend`, each of what the one before it showed, and `resume` are one run.
 use Rattle.std.specs.Prelude.{ℕ, ◌≡◌, ◌+◌, List, [], ◌∷◌, ◌++◌, map, Some, All}
-use Rattle.sys_runs.specs.Asks.{MissesArePaid}
+use Rattle.sys_runs.specs.Besides.{MissesArePaid}
 use Rattle.vv_io.specs.Lines.{shown_after}
 use Rattle.vv_io.specs.Shelf.{File, held}
 use Rattle.sys_devices.specs.Loads.{AreLoaded}

@@ -1,7 +1,7 @@
 -- That a guest is watched changes nothing: `trace` is answered as `solo` is, over an output that fails where that of `trace`
 -- fails, and what it leaves beside the output, `solo` leaves.
 use Rattle.std.specs.Prelude.{◌≡◌}
-use Rattle.sys_runs.specs.Asks.{MissesArePaid}
+use Rattle.sys_runs.specs.Besides.{MissesArePaid}
 use Rattle.vv_io.specs.Lines.{Seen}
 use Rattle.vvmm_call.specs.Answer.{FollowsSolo, FollowsTrace, Outside}
 use Rattle.vvmm_files.specs.Words.{Asked}

@@ -1,5 +1,5 @@
 ghost use Rattle.sys_flow.specs.Report.{IsReport};
-ghost use Rattle.sys_runs.specs.Asks.{MissesArePaid};
+ghost use Rattle.sys_runs.specs.Besides.{MissesArePaid};
 ghost use Rattle.vvmm_call.specs.Answer.{AreCounts, FollowsSolo, FollowsTrace, IsDrawing, IsMigrated};
 ghost use Rattle.vvmm_laws.specs.Alone.{RunsAlone};
 ghost use Rattle.vvmm_laws.specs.Complete.{CompletesAudit, CompletesConfig, CompletesFile, CompletesImage, CompletesLoad, CompletesRun, LimitsLoad, TellsAuditLine, TellsAuditMissing, TellsAuditRule, TellsAuditTooLong, TellsConfigMissing, TellsConfigRule, TellsConfigTooLong, TellsFileMissing, TellsFileRefused, TellsFileTooLong, TellsImageLineFault, TellsImageMisfit, TellsImageMissing, TellsImageTooLong, TellsLoadLineFault, TellsRunDriveFault, TellsRunImage, TellsRunLine, TellsRunLineFault, TellsRunMissing, TellsRunRule, TellsRunSize, TellsRunTooLong};

@@ -1,5 +1,5 @@
 ghost use Rattle.vvmm_call.specs.Answer.{FollowsExtend, FollowsResume};
-ghost use Rattle.sys_runs.specs.Asks.{MissesArePaid};
+ghost use Rattle.sys_runs.specs.Besides.{MissesArePaid};
 ghost use Rattle.vvmm_laws.specs.Snaps.{CompletesExtend, CompletesResume, CompletesSave, TellsExtendSize, TellsMany, TellsResumeDriveFault, TellsResumeLine, TellsResumeLineFault, TellsResumeMissing, TellsResumeSize, TellsResumeTooLong, TellsSaveImage, TellsSaveLine, TellsSaveLineFault, TellsSaveMissing, TellsSaveRule, TellsSaveSize, TellsSaveTooLong, TellsSnap, TellsSnapSize};
 ghost use Rattle.vvmm_laws.specs.Together.{PartsMakeOne, SavesMakeOne};
 

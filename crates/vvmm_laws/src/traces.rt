@@ -1,5 +1,5 @@
 ghost use Rattle.vvmm_call.specs.Answer.{FollowsTrace};
-ghost use Rattle.sys_runs.specs.Asks.{MissesArePaid};
+ghost use Rattle.sys_runs.specs.Besides.{MissesArePaid};
 ghost use Rattle.vvmm_laws.specs.Complete.{CompletesImage};
 ghost use Rattle.vvmm_laws.specs.Traced.{TraceIsSolo};
 

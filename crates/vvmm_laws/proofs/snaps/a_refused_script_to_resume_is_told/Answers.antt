@@ -1,5 +1,5 @@
 use Rattle.vvmm_call.specs.Answer.{FollowsExtend, FollowsResume}
-use Rattle.sys_runs.specs.Asks.{MissesArePaid}
+use Rattle.sys_runs.specs.Besides.{MissesArePaid}
 use Rattle.vvmm_laws.proofs.Resumes.{extend_either, resume_either, tells_resume_line}
 use Rattle.vvmm_laws.proofs.snaps.a_refused_script_to_resume_is_told.Goals as goal
 

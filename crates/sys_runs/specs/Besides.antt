@@ -6,11 +6,11 @@ use Rattle.sys_state.specs.Run.{Moment}
 use Rattle.sys_script.specs.declared.event.Event.{Event}
 use Rattle.vm_simulation_laws.specs.Paid.{Misses}
 
-abbrev pub Asks : Type 1
-Asks = Moment → List Event → ℕ → (machine machine' : Machine) → Type 0
+abbrev pub Besides : Type 1
+Besides = Moment → List Event → ℕ → (machine machine' : Machine) → Type 0
 
 -- nothing
-abbrev pub NothingMore : Asks
+abbrev pub NothingMore : Besides
 NothingMore m es n machine machine' = Unit {0}
 
 -- it missed at most as many pages as these rounds have first touches
