@@ -6,7 +6,7 @@ use Rattle.vv_io.specs.Lines.{Seen}
 use Rattle.vv_io.specs.Shelf.{File, held}
 use Rattle.sys_devices.proofs.Places.{at_stands}
 use Rattle.sys_devices.specs.Loads.{IsMisfit}
-use Rattle.sys_devices.specs.Rows.{FitsDrive, drive_at}
+use Rattle.sys_devices.specs.Rows.{FitsDrive}
 use Rattle.sys_state.specs.Run.{Moment}
 use Rattle.sys_runs.specs.Ran.{RunOutside, Untouched}
 use Rattle.sys_runs.specs.Saved.{ContinuesRun, ExtendsRun, StaysAt}
