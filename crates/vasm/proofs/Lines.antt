@@ -1,10 +1,11 @@
 -- The first line of a text, where a search cuts it.
+use Rattle.vasm.proofs.Cuts.{with_first}
 use Rattle.std.specs.List.{slice_split, onto_first}
 use Rattle.std.specs.Prelude.{if◌then◌else◌}
 use Rattle.std.specs.Str.Lines.{lines, lines_of_parts, strip_carriage_return}
 use Rattle.std.proofs.Common.{◌≡◌, ◌==◌, ℕ, ◌+◌, ◌<◌, Bool, true, false, cond, List, [], ◌∷◌, length, Option, Some, None, refl, ap, ◌∙◌, arith}
 use Rattle.std.proofs.lemmas.List.Splits.{length-slice_split}
-use Rattle.vasm_text.specs.Cutting.{Cut, with_first, cut, cut_at}
+use Rattle.vasm_text.specs.Cutting.{Cut, cut, cut_at}
 
 abbrev parts : (ℕ → Bool) → List ℕ → Option Cut → List (List ℕ)
 parts test text None = text ∷ []
