@@ -1,5 +1,5 @@
 -- A reading tells its faults where the fields misfit.
-use Rattle.std.proofs.Common.{ℕ, zero, suc, ◌≡◌, ◌≤◌, ◌+◌, ◌-◌, ◌*◌, ◌==◌, ◌&&◌, ◌||◌, nat_le, nat_lt, not, List, [], ◌∷◌, ◌++◌, length, map, take, drop, replicate, refl, sym, ◌∙◌, ap, subst, arith, cond, Bool, true, false, Option, Some, None, append_assoc, append-nil, is_some, unwrap_or}
+use Rattle.std.proofs.Common.{ℕ, zero, suc, ◌≡◌, ◌+◌, ◌-◌, ◌*◌, ◌==◌, ◌&&◌, ◌||◌, nat_le, nat_lt, List, [], ◌∷◌, ◌++◌, length, map, take, drop, replicate, refl, sym, ◌∙◌, ap, subst, arith, cond, Bool, true, false, Option, Some, None, append_assoc, append-nil, is_some, unwrap_or}
 use Rattle.std.specs.Prelude.{Result, Ok, Err, bytes_eq, flat_map, is_ok, slice_index}
 use Rattle.std.specs.Int.{from_bool}
 use Rattle.std.specs.List.{list_all, range_with_len}
@@ -277,15 +277,15 @@ follows_console = record {
       ∙ step_flag either (λ known n. nat_lt n 2) _ (request_field 0 1 ∷ request_field 0 1 ∷ count_field ∷ waiting_field ∷ more) (at + 1) (from_bool rx ∷ before) left either_some (λ tx left.
       ended_then c _ (flag (needs rx) (rest_at (at + 1 + 1) left))
       ∙ step_flag (needs rx) (λ known n. n == 0 || n == 1 && is_set (slice_index known 1) 0) _ (request_field 0 1 ∷ count_field ∷ waiting_field ∷ more) (at + 1 + 1) (from_bool tx ∷ from_bool rx ∷ before) left
-        (λ n. needs_some rx n ∙ ap (λ b. n == 0 || n == 1 && b) (set_bool rx)) (λ rx_request left.
+      (λ n. needs_some rx n ∙ ap (λ b. n == 0 || n == 1 && b) (set_bool rx)) (λ rx_request left.
       ended_then c _ (flag (needs tx) (rest_at (at + 1 + 1 + 1) left))
       ∙ step_flag (needs tx) (λ known n. n == 0 || n == 1 && is_set (slice_index known 1) 0) _ (count_field ∷ waiting_field ∷ more) (at + 1 + 1 + 1) (from_bool rx_request ∷ from_bool tx ∷ from_bool rx ∷ before) left
-        (λ n. needs_some tx n ∙ ap (λ b. n == 0 || n == 1 && b) (set_bool tx)) (λ tx_request left.
+      (λ n. needs_some tx n ∙ ap (λ b. n == 0 || n == 1 && b) (set_bool tx)) (λ tx_request left.
       ended_then c _ (two (is_count rx_request) (rest_at (at + 1 + 1 + 1 + 1) left))
       ∙ step_number 2 (λ b. word_at b 0) (is_count rx_request) (λ known n. nat_le n 256 && (slice_index known 1 == 0 || nat_lt 0 n)) _ (waiting_field ∷ more) (at + 1 + 1 + 1 + 1) (from_bool tx_request ∷ from_bool rx_request ∷ from_bool tx ∷ from_bool rx ∷ before) left two_number (count_some rx_request) (λ n left.
       ended_then c _ (field 256 (waiting_in n) (rest_at (at + 1 + 1 + 1 + 1 + 2) left))
       ∙ step 256 (waiting_in n) (λ known own. list_all (λ b. b == 0) (drop (slice_index known 0) own)) _ more (at + 1 + 1 + 1 + 1 + 2) (n ∷ from_bool tx_request ∷ from_bool rx_request ∷ from_bool tx ∷ from_bool rx ∷ before) left
-        (λ own long. some_if (list_all (λ b. b == 0) (drop n own)) (take n own)) (λ waiting long is.
+      (λ own long. some_if (list_all (λ b. b == 0) (drop n own)) (take n own)) (λ waiting long is.
       after _ (at + 1 + 1 + 1 + 1 + 2 + 256) (field_number (take 256 left) ∷ n ∷ from_bool tx_request ∷ from_bool rx_request ∷ from_bool tx ∷ from_bool rx ∷ before) (drop 256 left)))))));
 }
 
@@ -301,15 +301,15 @@ step_packets size left zero c more i at before bytes after count = after [] at b
 step_packets size zero (suc places) c more i at before bytes after count =
     ended_then c _ (four (λ v. v == 0) (rest_at at bytes))
     ∙ step_number 4 (λ b. long_at b 0) (λ v. v == 0) (λ known p. cond (nat_lt i (slice_index known i)) (is_packet size p) (p == 0)) _ (map (packet_field size) (range_with_len (i + 1) places) ++ more) at before bytes four_number
-      (λ n. let none : nat_lt i (slice_index before i) ≡ false = le-ltb i (slice_index before i) (omega (arith, count)) in rw none refl)
-      (λ v rest. step_packets size zero places c more (i + 1) (at + 4) (v ∷ before) rest after (omega (arith, count, back v before i)))
+    (λ n. let none : nat_lt i (slice_index before i) ≡ false = le-ltb i (slice_index before i) (omega (arith, count)) in rw none refl)
+    (λ v rest. step_packets size zero places c more (i + 1) (at + 4) (v ∷ before) rest after (omega (arith, count, back v before i)))
 step_packets size (suc left) (suc places) c more i at before bytes after count =
     ended_then c _ (four (is_packet size) (rest_at at bytes))
     ∙ step_number 4 (λ b. long_at b 0) (is_packet size) (λ known p. cond (nat_lt i (slice_index known i)) (is_packet size p) (p == 0)) _ (map (packet_field size) (range_with_len (i + 1) places) ++ more) at before bytes four_number
-      (λ n. let some : nat_lt i (slice_index before i) ≡ true = lt-ltb i (slice_index before i) (omega (arith, count)) in rw some refl)
-      (λ p rest.
-      ended_then c (λ ps. done (p ∷ ps)) (packets_in size left places (rest_at (at + 4) rest))
-      ∙ step_packets size left places (λ ps k l. c (p ∷ ps) k l) more (i + 1) (at + 4) (p ∷ before) rest (λ ps k known l. after (p ∷ ps) k known l) (omega (arith, count, back p before i)))
+    (λ n. let some : nat_lt i (slice_index before i) ≡ true = lt-ltb i (slice_index before i) (omega (arith, count)) in rw some refl)
+    (λ p rest.
+    ended_then c (λ ps. done (p ∷ ps)) (packets_in size left places (rest_at (at + 4) rest))
+    ∙ step_packets size left places (λ ps k l. c (p ∷ ps) k l) more (i + 1) (at + 4) (p ∷ before) rest (λ ps k known l. after (p ∷ ps) k known l) (omega (arith, count, back p before i)))
 
 abbrev queue_fields : ℕ → List SnapField
 queue_fields size = flag_field ∷ numeric 1 (λ n. nat_le n 8) ∷ map (packet_field size) (range_with_len 0 8)
@@ -459,14 +459,14 @@ misfits_are bytes =
     ∙ step 8 head_in (λ before own. bytes_eq own snap_head) _ (numeric 4 (λ n. nat_le n 262144) ∷ text_field ∷ more) 0 [] bytes (λ own long. head_some [] own) (λ head long is.
     ended_then none_after _ (four (λ n. nat_le n 262144) (rest_at 8 left))
     ∙ step 4 (λ b. number_if (λ n. nat_le n 262144) (long_at b 0)) (λ before own. nat_le (field_number own) 262144) _ (text_field ∷ more) 8 (field_number (take 8 bytes) ∷ []) left
-      (λ own four. some_if (nat_le (long_at own 0) 262144) (long_at own 0) ∙ ap (λ n. nat_le n 262144) (sym (four_number own four))) (λ n four is.
+    (λ own four. some_if (nat_le (long_at own 0) 262144) (long_at own 0) ∙ ap (λ n. nat_le n 262144) (sym (four_number own four))) (λ n four is.
     subst (λ k. ended none_after ((field k (λ text. accepted_config (config_of text)) >>= after_text) (rest_at 12 (drop 4 left))) ≡ misfit_from 12 (size ∷ field_number (take 8 bytes) ∷ []) (text_field ∷ more) (drop 4 left))
     (four_number (take 4 left) four ∙ value_if (nat_le (long_at (take 4 left) 0) 262144) (long_at (take 4 left) 0) n is)
     (ended_then none_after _ (field size (λ text. accepted_config (config_of text)) (rest_at 12 (drop 4 left)))
     ∙ step_at size (λ text. accepted_config (config_of text)) (λ before own. is_ok (config_of text)) _ more 12 (size ∷ field_number (take 8 bytes) ∷ []) (drop 4 left) (λ long. config_some (config_of text))
-      (λ c long is.
-      rest_misfits c (12 + size) (field_number text ∷ size ∷ field_number (take 8 bytes) ∷ []) (drop size (drop 4 left))
-      ∙ ap (λ fields. misfit_from (12 + size) (field_number text ∷ size ∷ field_number (take 8 bytes) ∷ []) fields (drop size (drop 4 left))) (sym (config_fields (config_of text) c is))))))
+    (λ c long is.
+    rest_misfits c (12 + size) (field_number text ∷ size ∷ field_number (take 8 bytes) ∷ []) (drop size (drop 4 left))
+    ∙ ap (λ fields. misfit_from (12 + size) (field_number text ∷ size ∷ field_number (take 8 bytes) ∷ []) fields (drop size (drop 4 left))) (sym (config_fields (config_of text) c is))))))
 
 -- a fault's place is where the bytes misfit
 pub fault_place : (bytes : List ℕ) (fault : SnapFault) → snap_in bytes ≡ Err fault → misfit_in bytes ≡ Some (fault.place)

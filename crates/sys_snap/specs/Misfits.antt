@@ -71,15 +71,21 @@ guest_fields size =
 
 -- a volume that the guest may mount so, or FF and 0
 abbrev pub mount_field : List VolumeRow → AccessClass → SnapField
-mount_field volumes class = record { size = 2; may_be = λ before own.
-    if slice_index own 0 == 255 then slice_index own 1 == 0
-    else nat_lt (slice_index own 1) 2 && may_mount volumes class (Some (record { volume = slice_index own 0; write = slice_index own 1 == 1 })) }
+mount_field volumes class = record {
+  size = 2;
+  may_be = λ before own.
+      if slice_index own 0 == 255 then slice_index own 1 == 0
+      else nat_lt (slice_index own 1) 2 && may_mount volumes class (Some (record { volume = slice_index own 0; write = slice_index own 1 == 1 }));
+}
 
 -- 32 places: of each terminal a guest that may be there, or FF; and FF
 abbrev pub seats_field : Config → SnapField
-seats_field c = record { size = 32; may_be = λ before own.
-    may_all_sit c.guests c.terminals (map (λ b. if b == 255 then None else Some b) (take (length c.terminals) own))
-    && list_all (λ b. b == 255) (drop (length c.terminals) own) }
+seats_field c = record {
+  size = 32;
+  may_be = λ before own.
+      may_all_sit c.guests c.terminals (map (λ b. if b == 255 then None else Some b) (take (length c.terminals) own))
+      && list_all (λ b. b == 255) (drop (length c.terminals) own);
+}
 
 -- what comes after the text
 unfoldable pub fields_after_text : Config → List SnapField
@@ -95,8 +101,8 @@ misfit_in bytes =
     let size = field_number (take 4 left) in
     let config = config_of (take size (drop 4 left)) in
     misfit_from 0 [] (
-      record { size = 8; may_be = λ before own. bytes_eq own snap_head }
-      ∷ numeric 4 (λ n. nat_le n 262144)
-      ∷ record { size = size; may_be = λ before own. is_ok config }
-      ∷ elim (config) [ Ok c ↦ fields_after_text c | Err fault ↦ [] ]
+    record { size = 8; may_be = λ before own. bytes_eq own snap_head }
+    ∷ numeric 4 (λ n. nat_le n 262144)
+    ∷ record { size = size; may_be = λ before own. is_ok config }
+    ∷ elim (config) [ Ok c ↦ fields_after_text c | Err fault ↦ [] ]
     ) bytes

@@ -1,7 +1,8 @@
+ghost use Rattle.vasm_text.specs.Cutting.{before_mark};
 ghost use Rattle.std.specs.Prelude.{◌≡◌, ◌<◌, ◌∷◌, length, option_map};
 ghost use Rattle.std.specs.Option.{option_copied};
 ghost use Rattle.std.specs.Str.Lines.{lines, strip_carriage_return};
-ghost use Rattle.vasm_text.specs.Statements.{after_label, before_comment, content_in, saying, source_line_in, unlabelled};
+ghost use Rattle.vasm_text.specs.Statements.{after_label, content_in, saying, source_line_in, unlabelled};
 ghost use Rattle.vasm.specs.Views.{source_line_view};
 
 use crate::cutting::{Pieces, cut_at, is_blank, trimmed};
@@ -75,7 +76,7 @@ fn content_in(text: &[u8]) -> Option<Line<'_>>
 
 /// What comes before a comment.
 fn before_comment(text: &[u8]) -> &[u8]
-    ensures { result.now ≡ before_comment text.now }
+    ensures { result.now ≡ before_mark 59 text.now }
 {
     match cut_at(text, b';') {
         Some(pieces) => pieces.before,

@@ -1,4 +1,4 @@
-use Rattle.std.proofs.Common.{◌≡◌, ℕ, List, ap}
+use Rattle.std.proofs.Common.{ℕ, List, ap, subst}
 use Rattle.std.specs.Prelude.{IfOk}
 use Rattle.std.specs.declared.result.Result.{Result}
 use Rattle.std.specs.declared.result.Result.TheVariants.{Ok, Err}
@@ -19,4 +19,7 @@ read_or_refused bytes left (Err (Fault fault)) reads holds = fault_place bytes f
 read_or_refused bytes left (Err NoMemory) reads holds = tt
 
 pub returns : goal.returns
-returns c = record { reads = read_or_refused c.args.b.now c.read_moment.new.r c.read_moment.result c.read_moment.ensures.reads c.read_moment.ensures.holds }
+returns c =
+    let reads : ReadsOrLacks snapshot_moment moment_in (record { at = 0; bytes = c.args.b.now }) c.read_moment.new.r c.read_moment.result =
+    subst (λ before. ReadsOrLacks snapshot_moment moment_in before c.read_moment.new.r c.read_moment.result) c.new.ensures c.read_moment.ensures.reads in
+    record { reads = read_or_refused c.args.b.now c.read_moment.new.r c.read_moment.result reads c.read_moment.ensures.holds }
