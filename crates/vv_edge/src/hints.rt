@@ -1,9 +1,10 @@
 ghost use Rattle.std.specs.Prelude.{◌≡◌, ◌≤◌, ◌++◌, codes, length};
 ghost use Rattle.vv_edge.specs.Notes.{note_if, notes_of};
-ghost use Rattle.vv_edge.specs.Hints.{advice, column_text, hint_of, line_if, rule_text, script_advice, source_advice};
+ghost use Rattle.vv_edge.specs.Hints.{advice, column_text, hint_of, line_if, numbered_table, rule_text, script_advice, source_advice, table_key};
 
 use crate::asked::HELP;
 use crate::telling::{DriveNotes, LineNotes, Note, note_if, notes};
+use sys_objects::ConfigFault;
 use sys_script::ScriptKind;
 use vasm_text::AsmKind;
 use vv_base::{FileName, Text, decimal};
@@ -69,6 +70,47 @@ fn rule_text(rule: u8) -> &'static [u8]
         17 => b"each class flows into the audit's",
         _ => b"all guests have at most 16384 pages together",
     }
+}
+
+/// The key of the tables of which a rule's place is one.
+fn table_key(rule: u8) -> &'static [u8]
+    ensures is { result.now ≡ table_key rule }
+    ensures short { length result.now ≤ 8 }
+{
+    match rule {
+        6 => b"terminal",
+        7 | 13 => b"volume",
+        8 => b"printer",
+        9 | 14 | 15 | 16 | 18 => b"guest",
+        _ => b"",
+    }
+}
+
+/// Which of such tables one is.
+fn numbered_table(key: &[u8], place: u32) -> Text<80>
+    requires { length key.now ≤ 8 }
+    ensures { result ≡ numbered_table key.now place }
+{
+    let mut text = Text::new();
+    if key.is_empty() {
+        return text;
+    }
+    text.append(key);
+    text.append(b" ");
+    text.append(decimal(u64::from(place)).bytes());
+    text.append(b", counted from 0");
+    text
+}
+
+/// The rule that a configuration breaks, and in which table.
+fn broken(fault: &ConfigFault) -> Text<320>
+    ensures { result ≡ line_if (codes "the rule: ") (rule_text fault.now.rule) ++ line_if (codes "the table: ") (numbered_table (table_key fault.now.rule) fault.now.place) }
+{
+    let table = numbered_table(table_key(fault.rule), fault.place);
+    let mut text = Text::new();
+    text.append(line_if(b"the rule: ", rule_text(fault.rule)).bytes());
+    text.append(line_if(b"the table: ", table.bytes()).bytes());
+    text
 }
 
 /// How a script's line is to be.
@@ -190,9 +232,7 @@ pub fn hint(status: &Status, told: &Told) -> Text<8192>
             let before = b"this file cannot be read, or is a drive: ";
             text.append(line_if(before, told.unread.bytes()).bytes());
         }
-        Status::Config(fault) => {
-            text.append(line_if(b"the rule: ", rule_text(fault.rule)).bytes());
-        }
+        Status::Config(fault) => text.append(broken(fault).bytes()),
         Status::Script(fault) => {
             text.append(refused(told, script_advice(fault.kind)).bytes());
         }
