@@ -4,7 +4,7 @@ ghost use Rattle.sys_server.specs.CommandLine.{Asks, access_in, asked_in, asked_
 ghost use Rattle.sys_server.specs.declared.command.Asked.{Asked as Question};
 
 use crate::Asked;
-use vv_base::object_name;
+use vv_base::{find, object_name};
 
 fn is_word(word: &[u8], wanted: &[u8]) -> bool
     ensures { result ≡ bytes_eq word.now wanted.now }
@@ -12,18 +12,11 @@ fn is_word(word: &[u8], wanted: &[u8]) -> bool
     word == wanted
 }
 
-fn find_blank(text: &[u8]) -> Option<usize>
-    ensures value { result ≡ position (λ b. b == 32) text.now }
-    ensures within { IfSome result (λ i. i < length text.now) }
-{
-    text.iter().position(|b| *b == b' ')
-}
-
 /// The first word, and what comes after the blank that follows it.
 fn cut(text: &[u8]) -> (&[u8], Option<&[u8]>)
     ensures { words text.now ≡ result.0.now ∷ rest_words (option_copied result.1) }
 {
-    match find_blank(text) {
+    match find(text, b' ') {
         Some(end) => (&text[..end], Some(&text[end + 1..])),
         None => (text, None),
     }

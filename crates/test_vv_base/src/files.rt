@@ -6,7 +6,10 @@ use std::test::Fail;
 use std::time::Duration;
 use std::{env, fs, io, process};
 use vv_base::{FileName, file_name};
-use vv_edge::{Failures, FileDrive, FileLine, FileShelf, Identity, InputKeys, OutSink, Ticker};
+use vv_edge::{
+    FileDrive, FileLine, FileShelf, Identity, InputKeys, OutSink, Stored, Ticker, drive_under,
+    look, whole_blocks,
+};
 use vv_io::{
     Drive, DriveFault, Keyboard, Line, LineFault, MemLine, Progress, Shelf, ShelfFault, Sink,
     SinkFault,
@@ -50,7 +53,7 @@ fn a_shelf_refuses_a_file_that_is_too_long(rt: HostRuntime) -> Result<(), Fail> 
 #[test]
 fn a_line_writes_a_file(rt: HostRuntime) -> Result<(), Fail> {
     let path = scratch(&rt, "line")?;
-    let mut line = FileLine::new(rt.clone()?, path.clone()?);
+    let mut line = FileLine::new(rt.clone()?, path.clone()?, true, None);
     assert_eq!(rt; line.sync(), Ok(()));
     assert!(rt; fs::read(&rt, path.as_str()).is_err());
     assert_eq!(rt; line.put(b"one "), Ok(()));
@@ -67,7 +70,7 @@ fn a_line_writes_a_file(rt: HostRuntime) -> Result<(), Fail> {
 #[test]
 fn a_line_is_read_back_and_written_on(rt: HostRuntime) -> Result<(), Fail> {
     let path = scratch(&rt, "line-read")?;
-    let mut line = FileLine::new(rt.clone()?, path.clone()?);
+    let mut line = FileLine::new(rt.clone()?, path.clone()?, true, None);
     let mut into = [0; 512];
     assert_eq!(rt; line.shown_len(), 0);
     assert_eq!(rt; line.read_back(0, &mut into), 0);
@@ -96,16 +99,23 @@ fn standard_input_gives_lines(rt: HostRuntime) {
 #[test]
 fn a_folder_takes_no_line(rt: HostRuntime) -> Result<(), Fail> {
     let folder = env::temp_dir(&rt)?;
-    let mut broken = FileLine::new(rt.clone()?, String::from_str(rt.alloc(), folder.as_str())?);
+    let path = String::from_str(rt.alloc(), folder.as_str())?;
+    let mut broken = FileLine::new(rt.clone()?, path, true, None);
     assert_eq!(rt; broken.put(b"x"), Err(LineFault));
     Ok(())
 }
 
-/// The drive of a path, where something is there.
-fn drive_of(rt: &HostRuntime, path: &str) -> Result<Option<FileDrive<HostRuntime>>, Fail> {
+/// The drive of a path.
+fn drive_of(rt: &HostRuntime, path: &str) -> Result<FileDrive, Fail> {
+    let found = drive_under(&look(rt, path), &[]).and_then(|found| found.ok());
+    let stored = Stored {
+        drive: 0,
+        stored: 0,
+        blocks: whole_blocks(&found),
+    };
     let path = String::from_str(rt.alloc(), path)?;
-    let notes = Rc::new(rt.alloc(), Cell::new([None; 16]))?;
-    Ok(FileDrive::look(rt.clone()?, path, &[], None, Failures::new(0, notes)))
+    let failed = Rc::new(rt.alloc(), Cell::new([None; 16]))?;
+    Ok(FileDrive::new(rt.clone()?, path, found, None, stored, failed))
 }
 
 /// A block is stored, and both are read again.
@@ -133,9 +143,9 @@ fn check_changed(rt: &impl Abort, drive: &mut impl Drive) {
 #[test]
 fn a_drive_reads_and_writes_blocks(rt: HostRuntime) -> Result<(), Fail> {
     let path = scratch(&rt, "drive")?;
-    assert!(rt; drive_of(&rt, path.as_str())?.is_none());
+    assert_eq!(rt; drive_of(&rt, path.as_str())?.blocks(), 0);
     fs::write(&rt, path.as_str(), vec![in rt.alloc(); 7; 1_024]?)?;
-    let mut drive = drive_of(&rt, path.as_str())?.ok_or("no drive")?;
+    let mut drive = drive_of(&rt, path.as_str())?;
     check_blocks(&rt, &mut drive);
     fs::write(&rt, path.as_str(), b"short")?;
     check_changed(&rt, &mut drive);
