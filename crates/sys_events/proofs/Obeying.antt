@@ -141,24 +141,28 @@ state_is c s n t (Denied rule) = refl
 abbrev notice : Option ℕ → List Put
 notice o = map (λ line. said_on line taken_text) (option_to_list o)
 
-console_place : (g : ℕ) (ks : List Terminal) (os : List (Option ℕ)) → option_and_then (λ n. option_map (λ (t : Terminal). t.line) (slice_get ks n)) (place_of (is_at g) os) ≡ console_of ks os g
+-- the line of the terminal at a place
+abbrev line_at : List Terminal → Option ℕ → Option ℕ
+line_at ks place = option_and_then (λ n. option_map (λ (t : Terminal). t.line) (slice_get ks n)) place
+
+nowhere : (o : Option ℕ) → line_at [] o ≡ None
+nowhere None = refl
+nowhere (Some n) = refl
+
+one_after : (k : Terminal) (ks : List Terminal) (o : Option ℕ) → line_at (k ∷ ks) (option_map suc o) ≡ line_at ks o
+one_after k ks None = refl
+one_after k ks (Some n) = refl
+
+either_place : (k : Terminal) (ks : List Terminal) (b : Bool) (place line : Option ℕ) → line_at ks place ≡ line → line_at (k ∷ ks) (if b then Some 0 else option_map suc place) ≡ (if b then Some k.line else line)
+either_place k ks true place line e = refl
+either_place k ks false place line e = one_after k ks place ∙ e
+
+console_place : (g : ℕ) (ks : List Terminal) (os : List (Option ℕ)) → line_at ks (place_of (is_at g) os) ≡ console_of ks os g
 console_place g [] os = nowhere (place_of (is_at g) os)
-  where
-    nowhere : (o : Option ℕ) → option_and_then (λ n. option_map (λ (t : Terminal). t.line) (slice_get [] n)) o ≡ None
-    nowhere None = refl
-    nowhere (Some n) = refl
 console_place g (k ∷ ks) [] = refl
-console_place g (k ∷ ks) (o ∷ os) = by_test (is_at g o)
-  where
-    later : (p : Option ℕ) → option_and_then (λ n. option_map (λ (t : Terminal). t.line) (slice_get (k ∷ ks) n)) (option_map suc p) ≡ option_and_then (λ n. option_map (λ (t : Terminal). t.line) (slice_get ks n)) p
-    later None = refl
-    later (Some n) = refl
+console_place g (k ∷ ks) (o ∷ os) = either_place k ks (is_at g o) (place_of (is_at g) os) (console_of ks os g) (console_place g ks os)
 
-    by_test : (b : Bool) → option_and_then (λ n. option_map (λ (t : Terminal). t.line) (slice_get (k ∷ ks) n)) (if b then Some 0 else option_map suc (place_of (is_at g) os)) ≡ (if b then Some k.line else console_of ks os g)
-    by_test true = refl
-    by_test false = later (place_of (is_at g) os) ∙ console_place g ks os
-
-told_at : (c : Config) (o : Option ℕ) → taken_puts c o ≡ notice (option_and_then (λ n. option_map (λ (t : Terminal). t.line) (slice_get c.terminals n)) o)
+told_at : (c : Config) (o : Option ℕ) → taken_puts c o ≡ notice (line_at c.terminals o)
 told_at c None = refl
 told_at c (Some n) = by_terminal (slice_get c.terminals n)
   where
