@@ -10,7 +10,7 @@ use Rattle.vv_base.specs.Names.{is_object_name, is_file_name}
 use Rattle.vv_class.specs.declared.class.AccessClass.{AccessClass}
 use Rattle.vv_class.specs.Class.{IsClass}
 use Rattle.vv_class.specs.Text.{class_in, class_text}
-use Rattle.vv_class.proofs.Numbers.{found}
+use Rattle.vv_class.proofs.Numbers.{found as text_found}
 use Rattle.sys_objects.specs.declared.records.Config.{Config}
 use Rattle.sys_objects.specs.declared.records.Audit.{Audit}
 use Rattle.sys_objects.specs.declared.records.GuestRow.{GuestRow}
@@ -33,7 +33,7 @@ name_back : (name : List ℕ) → is_object_name name ≡ true → name_in name 
 name_back name named = rw named
 
 class_back : (c : AccessClass) → IsClass c → option_and_then (low_enough 255) (class_in (class_text c)) ≡ Some c
-class_back c is = rw (found c is, le-leb c.secrecy 255 (omega (arith, is.secrecy)), le-leb c.integrity 255 (omega (arith, is.integrity)))
+class_back c is = rw (text_found c is, le-leb c.secrecy 255 (omega (arith, is.secrecy)), le-leb c.integrity 255 (omega (arith, is.integrity)))
 
 -- at a key of any table
 number_found : (key : List ℕ) (t : Members) (low high n : ℕ) → get_member key t ≡ Some (number n) → low ≤ n → n ≤ high → bounded_integer_at key low high t ≡ Some n
@@ -55,7 +55,7 @@ line_back : (name : List ℕ) (line : ℕ) (class : AccessClass) → is_object_n
     → named_line_of 255 (written_line name line class) ≡ Some (record { name = name; line = line; class = class })
 unfolding named_line_of written_line
 line_back name line class named low is =
-    rw (named, le-leb 0 line (omega arith), le-leb line 31 low, found class is, le-leb class.secrecy 255 (omega (arith, is.secrecy)), le-leb class.integrity 255 (omega (arith, is.integrity)))
+    rw (named, le-leb 0 line (omega arith), le-leb line 31 low, text_found class is, le-leb class.secrecy 255 (omega (arith, is.secrecy)), le-leb class.integrity 255 (omega (arith, is.integrity)))
 
 pub terminal_back : (r : Terminal) → IsTerminal r → terminal_row_in 255 (written_terminal r) ≡ Some r
 terminal_back r is = rw (line_back r.name r.line r.class is.named is.line is.class)
@@ -66,12 +66,12 @@ printer_back r is = rw (line_back r.name r.line r.class is.named is.line is.clas
 pub volume_back : (r : VolumeRow) → IsVolume r → volume_row_in 255 (written_volume r) ≡ Some r
 unfolding volume_row_in written_volume
 volume_back r is =
-    rw (is.named, le-leb 0 r.drive (omega arith), le-leb r.drive 15 is.drive, le-leb 1 r.blocks is.some_blocks, le-leb r.blocks 2048 is.few_blocks, found r.class is.class, le-leb r.class.secrecy 255 (omega (arith, is.class.secrecy)), le-leb r.class.integrity 255 (omega (arith, is.class.integrity)))
+    rw (is.named, le-leb 0 r.drive (omega arith), le-leb r.drive 15 is.drive, le-leb 1 r.blocks is.some_blocks, le-leb r.blocks 2048 is.few_blocks, text_found r.class is.class, le-leb r.class.secrecy 255 (omega (arith, is.class.secrecy)), le-leb r.class.integrity 255 (omega (arith, is.class.integrity)))
 
 pub audit_back : (a : Audit) → IsAudit a → audit_row_in 255 (written_audit a) ≡ Some a
 unfolding audit_row_in written_audit
 audit_back a is =
-    rw (le-leb 0 a.line (omega arith), le-leb a.line 31 is.line, found a.class is.class, le-leb a.class.secrecy 255 (omega (arith, is.class.secrecy)), le-leb a.class.integrity 255 (omega (arith, is.class.integrity)))
+    rw (le-leb 0 a.line (omega arith), le-leb a.line 31 is.line, text_found a.class is.class, le-leb a.class.secrecy 255 (omega (arith, is.class.secrecy)), le-leb a.class.integrity 255 (omega (arith, is.class.integrity)))
 
 -- the entries of a list
 tail : {A : Type 0} (P : A → Type 0) (x : A) (xs : List A) → All P (x ∷ xs) → All P xs
