@@ -213,7 +213,7 @@ def trust():
     p.text(40, 90, "Read against the manuals, and shown by examples that were found by hand: that the definitions are a VAX")
     p.box(50, 108, 800, 344, YELLOW)
     p.text(70, 134, "Trusted, and run by tools/edge", 15, bold=True)
-    p.text(70, 156, "the program's own files, some 1,000 lines: main, its words, files, drives and standard streams")
+    p.text(70, 156, "the program's own files, some 770 lines: main, its words, files, drives and standard streams")
     p.box(80, 174, 740, 262, GREEN)
     p.text(100, 200, "Proved", 15, bold=True)
     boxes = (

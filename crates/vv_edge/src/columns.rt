@@ -1,5 +1,5 @@
-ghost use Rattle.std.specs.List.{after_first, before_first};
-ghost use Rattle.std.specs.Prelude.{◌≡◌, ◌==◌};
+ghost use Rattle.std.specs.List.{after_first, before_first, position};
+ghost use Rattle.std.specs.Prelude.{◌≡◌, ◌<◌, ◌==◌, IfSome, length, not};
 ghost use Rattle.vasm_text.specs.Cutting.{is_blank};
 ghost use Rattle.vv_edge.specs.Columns.{
   column_of,
@@ -18,11 +18,18 @@ use sys_script::ScriptKind;
 use vasm_text::{AsmKind, opcode};
 use vv_base::object_name;
 
+fn find(text: &[u8], mark: u8) -> Option<usize>
+    ensures value { result ≡ position (λ b. b == mark) text.now }
+    ensures within { IfSome result (λ i. i < length text.now) }
+{
+    text.iter().position(|b| *b == mark)
+}
+
 /// What comes before the first byte that is the mark; all where none is.
 fn before(text: &[u8], mark: u8) -> &[u8]
     ensures { result.now ≡ before_first (λ b. b == mark) text.now }
 {
-    match text.iter().position(|b| *b == mark) {
+    match find(text, mark) {
         Some(at) => &text[..at],
         None => text,
     }
@@ -32,7 +39,7 @@ fn before(text: &[u8], mark: u8) -> &[u8]
 fn after(text: &[u8], mark: u8) -> &[u8]
     ensures { result.now ≡ after_first (λ b. b == mark) text.now }
 {
-    match text.iter().position(|b| *b == mark) {
+    match find(text, mark) {
         Some(at) => &text[at + 1..],
         None => &[],
     }
@@ -66,15 +73,40 @@ fn is_known_word(word: &[u8]) -> bool
         || opcode(word).is_some()
 }
 
+fn find_blank(text: &[u8]) -> Option<usize>
+    ensures value { result ≡ position is_blank text.now }
+    ensures within { IfSome result (λ i. i < length text.now) }
+{
+    text.iter().position(|b| is_blank(*b))
+}
+
+fn first_word(text: &[u8]) -> &[u8]
+    ensures { result.now ≡ before_first is_blank text.now }
+{
+    match find_blank(text) {
+        Some(at) => &text[..at],
+        None => text,
+    }
+}
+
+fn after_word(text: &[u8]) -> &[u8]
+    ensures { result.now ≡ after_first is_blank text.now }
+{
+    match find_blank(text) {
+        Some(at) => &text[at + 1..],
+        None => &[],
+    }
+}
+
 /// The part of a statement that is refused: its first word, or else what comes after it.
 fn statement_part(text: &[u8]) -> &[u8]
     ensures { result.now ≡ statement_part text.now }
 {
-    let (word, later): (&[u8], &[u8]) = match text.iter().position(|b| is_blank(*b)) {
-        Some(at) => (&text[..at], &text[at + 1..]),
-        None => (text, &[]),
-    };
-    if is_known_word(word) { later } else { text }
+    if is_known_word(first_word(text)) {
+        after_word(text)
+    } else {
+        text
+    }
 }
 
 /// The part of what comes after a label that is refused.
@@ -101,11 +133,18 @@ fn line_part(text: &[u8]) -> &[u8]
     }
 }
 
+fn find_word(text: &[u8]) -> Option<usize>
+    ensures value { result ≡ position (λ b. not (is_blank b)) text.now }
+    ensures within { IfSome result (λ i. i < length text.now) }
+{
+    text.iter().position(|b| !is_blank(*b))
+}
+
 /// A line from its first byte on that is no blank.
 fn from_word(text: &[u8]) -> &[u8]
     ensures { result.now ≡ from_word text.now }
 {
-    match text.iter().position(|b| !is_blank(*b)) {
+    match find_word(text) {
         Some(at) => &text[at..],
         None => &[],
     }
