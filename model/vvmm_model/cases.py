@@ -206,7 +206,7 @@ class Player:
             return GIVES[word](self, rest, statement)
         if word in ("line", "drive", "out", "errors", "code", "others", "drives"):
             return check(self, word, rest, statement)
-        if word in ("fill", "misses"):
+        if word in ("machine", "misses"):
             return None
         if word == "given":
             return related(self, word, rest[:1], self.given.files[rest[0]], rest[1:], statement)

@@ -294,7 +294,7 @@ impl<'t> Play<'t> {
             "keys" => Ok(self.await_content(Pending::Keys)),
             "workload" => self.give_workload(rest),
             "purge" => self.purge(rest),
-            "fill" => Ok(self.fill()),
+            "machine" => self.renew(rest),
             "call" => self.call(rest),
             "prefixes" | "changes" => Ok(self.await_table(word, rest)),
             "keep" => Ok(self.keep(rest)),
@@ -421,13 +421,21 @@ impl<'t> Play<'t> {
     }
 
     /// Fills the machine's memory with page table entries, each valid, open to all and modified.
-    fn fill(&mut self) -> Verdict {
+    fn fill(&mut self) {
         for long in 0..128 * PAGES {
             if 4 * u64::from(long) + 4 <= 512 * u64::from(self.machine.pages()) {
                 self.machine.write_long(4 * long, 0xA400_0000 + long / 128);
             }
         }
-        Verdict::Holds
+    }
+
+    /// Takes a new machine, or one whose memory is full.
+    fn renew(&mut self, rest: &str) -> Result<Verdict, NoMemory> {
+        self.machine = Cpu::new(self.alloc, PAGES)?;
+        if rest == "full" {
+            self.fill();
+        }
+        Ok(verdict_read(rest == "full" || rest == "new"))
     }
 
     /// Makes the call with these words.
