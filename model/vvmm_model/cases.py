@@ -6,11 +6,16 @@
 import os
 from dataclasses import dataclass, field, replace
 
-from .case_checks import check, check_texts
+from .case_checks import check, check_texts, related
+from .classes import class_of
+from .config import read_config
+from .migrate import migrate_text
 from .outside import DeviceFault, MemoryDrive, MemoryKeyboard, MemoryLine, MemoryShelf, blocks_of
 from .program import Outside, call
-from .script import lines_of
+from .purge import purge_config, purge_events, purge_list
+from .script import lines_of, read_script
 from .system import run
+from .workload import workload
 
 MARKS = "|/=#$^%@+&<>"
 DEFAULT_ROOM = 100_000
@@ -201,6 +206,10 @@ class Player:
             return GIVES[word](self, rest, statement)
         if word in ("line", "drive", "out", "errors", "code", "others", "drives"):
             return check(self, word, rest, statement)
+        if word in ("fill", "misses"):
+            return None
+        if word == "given":
+            return related(self, word, rest[:1], self.given.files[rest[0]], rest[1:], statement)
         if word in ("prefixes", "changes"):
             return check_texts(self, word, rest, statement)
         raise Unreadable("line %d" % statement.line)
@@ -279,6 +288,34 @@ def give_volume(player, rest, statement):
     player.given.volumes[int(rest[0])] = blocks_of(player.content(statement))
 
 
+def give_workload(player, rest, statement):
+    """What `load` runs, as files and drives."""
+    work = workload(int(rest[0]))
+    player.given.files |= {name: b"" for name in ("config", "script")}
+    give_input(player.given, work.config, work.images, work.volumes, work.events)
+
+
+def purge(player, rest, statement):
+    """What flows into a class of all that is given."""
+    given, to = player.given, class_of(rest[0])
+    config, events = read_config(given.files["config"]), read_script(given.files["script"])
+    images = purge_list(config.guests, [given.files[row.image] for row in config.guests], to)
+    volumes = purge_list(config.volumes, [given.volumes[row.drive] for row in config.volumes], to)
+    give_input(given, purge_config(config, to), images, volumes, purge_events(config, events, to))
+
+
+def give_input(given: Given, config, images: list, volumes: list, events: list) -> None:
+    given.files = {name: b"" for name in given.files}
+    given.files |= {"config": migrate_text(config).encode(), "script": script_text(events)}
+    given.files |= {row.image: image for row, image in zip(config.guests, images)}
+    given.volumes = {row.drive: blocks for row, blocks in zip(config.volumes, volumes)}
+
+
+def script_text(events: list) -> bytes:
+    texts = [b"break" if event.text is None else b"> " + event.text for event in events]
+    return b"".join(b"%d %s %s\n" % (event.round, event.terminal.encode(), text) for event, text in zip(events, texts))
+
+
 def give_room(player, rest, statement):
     player.given.room = int(rest[0])
 
@@ -314,6 +351,8 @@ def keep(player, rest, statement):
 GIVES = {
     "let": give_let,
     "file": give_file,
+    "workload": give_workload,
+    "purge": purge,
     "keys": give_keys,
     "disk": give_disk,
     "volume": give_volume,

@@ -39,12 +39,16 @@ def check_example(root: str, number: int, program) -> list:
 
 
 def check_parts(root: str, number: int, program) -> list:
-    """An example in two parts, saved and resumed after some of its rounds: its lines and drives come out the same."""
+    """An example in parts: saved after some of its rounds, extended by one where more are left, and resumed. Its lines and drives
+    come out the same."""
     example = EXAMPLES[number]
     results = []
     for rounds in sorted({1, example.rounds // 2} & set(range(1, example.rounds))):
-        save = ["save", "config", "script", str(rounds), ">", "snap"]
-        calls = [save, ["resume", "snap", "script", str(example.rounds - rounds)]]
+        left = example.rounds - rounds
+        calls = [["save", "config", "script", str(rounds), ">", "snap"]]
+        if left > 1:
+            calls.append(["extend", "snap", "script", "1", ">", "more"])
+        calls.append(["resume", calls[-1][-1], "script", str(left - len(calls) + 1)])
         differences = parts_differ(root, example, calls)
         if program and has_snapshots(program):
             differences += compare_in_folder(Case(files_of(root, example), calls), program)
@@ -54,10 +58,13 @@ def check_parts(root: str, number: int, program) -> list:
 
 def parts_differ(root: str, example, calls: list) -> list:
     files = files_of(root, example)
-    first = given_of(files).tell(calls[0][:4], run, ENDLESS)
-    second = given_of(files | {"snap": first.out}).tell(calls[1], run, ENDLESS)
-    made = {"line%02d.out" % k: first.lines[k] + second.lines[k] for k in range(32)}
-    made |= {"drive%02d.vol" % k: second.drives[k] for k in example.drives}
+    lines = [b""] * 32
+    for call in calls:
+        told = given_of(files).tell(call[:4], run, ENDLESS)
+        files[call[-1]] = told.out
+        lines = [before + shown for before, shown in zip(lines, told.lines)]
+    made = {"line%02d.out" % k: lines[k] for k in range(32)}
+    made |= {"drive%02d.vol" % k: told.drives[k] for k in example.drives}
     differences = []
     for name, data in made.items():
         path = place_of(root, example, name)

@@ -20,7 +20,7 @@ from .system import run
 from .texts import LARGEST_FILE
 
 ENDLESS = 1 << 62
-MAKE_LINES = ("run", "solo", "trace", "load", "save", "resume", "live")
+MAKE_LINES = ("run", "solo", "trace", "load", "save", "resume", "extend", "live")
 
 
 @dataclass
@@ -148,15 +148,16 @@ def audit_case(random) -> Case:
 
 
 def snapshot_case(random) -> Case:
-    """Rounds in two parts, and a snapshot that was changed."""
+    """Rounds in three parts, and a snapshot that was changed."""
     case = run_case(random)
     rounds = str(random.randrange(1, 3))
     save = ["save", "config", "script", rounds, ">", "snap"]
     volumes = {name: data for name, data in case.files.items() if name.endswith(".vol")}
     told = given_of(case.files).tell(save[:4], run, ENDLESS)
     case.files["spoilt"] = spoil_bytes(random, told.out) if told.out else b"VVSNAP1\n"
-    calls = [save, ["resume", "spoilt", "script", "1"], ["resume", "snap", "script", rounds]]
-    return Case(case.files | volumes, calls)
+    spoilt = [[command, "spoilt", "script", "1"] for command in ("resume", "extend")]
+    more = ["extend", "snap", "script", "1", ">", "more"]
+    return Case(case.files | volumes, [save, *spoilt, more, ["resume", "more", "script", rounds]])
 
 
 def spoil_bytes(random, data: bytes) -> bytes:
@@ -209,9 +210,9 @@ def draw_case(seed: int, kinds: dict) -> Case:
 
 
 def has_snapshots(program: str) -> bool:
-    """Whether a program knows `save` and `resume`."""
+    """Whether a program knows `save`, `resume` and `extend`."""
     told = subprocess.run([program, "--help"], capture_output=True, check=False)
-    return b"vvmm save " in told.stdout
+    return b"vvmm extend " in told.stdout
 
 
 def given_of(files: dict) -> Given:

@@ -12,7 +12,7 @@ from .flow import flow_report
 from .migrate import migrate_text
 from .outside import DeviceFault, MemoryKeyboard, MemoryLine, Missing, TooLong
 from .script import MOST_ROUNDS, ScriptRefused, lines_of, read_script, read_typed
-from .snapshot import SnapRefused, is_too_large, read_snapshot, snapshot
+from .snapshot import SnapRefused, is_too_large, read_snapshot, snapshot, text_of
 from .system import System, make_rounds, summary
 from .system import run as run_system
 from .texts import is_file_name, read_decimal
@@ -249,22 +249,46 @@ def save(outside: Outside, config_name: str, script_name: str, rounds: int) -> N
     images = [fetch(outside, row.image) for row in config.guests]
     check_images(config, images)
     volumes = read_volumes(outside, config)
-    system = outside.run(config, images, volumes, events, rounds)
+    put_snapshot(outside, outside.run(config, images, volumes, events, rounds), text)
+
+
+def put_snapshot(outside: Outside, system, text: bytes) -> None:
+    """What the rounds show, and the system after them."""
     failed = show_lines(outside, system, {})
     put_out(outside, snapshot(system, text), failed)
 
 
-def resume(outside: Outside, snapshot_name: str, script_name: str, rounds: int) -> None:
-    """The next rounds of a snapshot, which end as `run` does; drives are stored but not read."""
+def fetch_snapshot(outside: Outside, name: str) -> tuple:
+    """The system of a snapshot, and the text that it has."""
+    data = fetch(outside, name)
     try:
-        system = read_snapshot(fetch(outside, snapshot_name))
+        return read_snapshot(data), text_of(data)
     except SnapRefused as refused:
         raise Ended(17, "snapshot at %d" % refused.place)
-    events = fetch_script(outside, script_name)
+
+
+def go_on(outside: Outside, system, events: list, rounds: int) -> None:
+    """The next rounds of a snapshot; of the drives the sizes alone are asked."""
     for number, row in enumerate(system.config.volumes):
         check_sizes(outside, number, row)
     make_rounds(system, events, rounds)
+
+
+def resume(outside: Outside, snapshot_name: str, script_name: str, rounds: int) -> None:
+    """The next rounds of a snapshot, which end as `run` does."""
+    system, _ = fetch_snapshot(outside, snapshot_name)
+    go_on(outside, system, fetch_script(outside, script_name), rounds)
     conclude(outside, system.config, system, rounds, True)
+
+
+def extend(outside: Outside, snapshot_name: str, script_name: str, rounds: int) -> None:
+    """The next rounds of a snapshot, which end as `save` does; of all rounds there are at most as many as a snapshot can have."""
+    system, text = fetch_snapshot(outside, snapshot_name)
+    events = fetch_script(outside, script_name)
+    if system.round + rounds > MOST_ROUNDS:
+        raise Ended(16, "snapshot size")
+    go_on(outside, system, events, rounds)
+    put_snapshot(outside, system, text)
 
 
 class Screens:
@@ -443,6 +467,7 @@ COMMANDS = {
     "run": ([file_word, file_word, ROUNDS], run),
     "save": ([file_word, file_word, ROUNDS], save),
     "resume": ([file_word, file_word, ROUNDS], resume),
+    "extend": ([file_word, file_word, ROUNDS], extend),
     "live": ([file_word, ROUNDS], live),
     "load": ([number_word(0, 2**32 - 1)], load),
     "check": ([file_word], check),

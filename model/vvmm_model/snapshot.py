@@ -73,6 +73,12 @@ def snapshot(system: System, text: bytes) -> bytes:
     return bytes(data)
 
 
+def text_of(data: bytes) -> bytes:
+    """The configuration's text in the bytes of a snapshot."""
+    start = len(MAGIC) + 4
+    return data[start : start + int.from_bytes(data[len(MAGIC) : start], "little")]
+
+
 def read_snapshot(data: bytes) -> System:
     """The system of a snapshot's bytes."""
     reader = Reader(data)

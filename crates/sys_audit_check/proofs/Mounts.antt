@@ -126,7 +126,7 @@ module _ (c : Config) where
   covered_same : (t s : ServerState) → Covers c t s → SameMounts c s t
   covered_same t s covers g unit there = ap (λ (ms : List (Option Mounted)). slice_index_or ms unit None) (row_covered t s g covers there)
 
-  unit_covered : (t s : ServerState) (g unit : ℕ) (mount : Option Mounted) → Covers c t s → g < length c.guests → Covers c (with_mount t g unit mount) (with_mount s g unit mount)
+  unit_covered : (t s : ServerState) (g unit : ℕ) (mount : Option Mounted) → Covers c t s → g < length c.guests → Covers c (record t { mounts = with_mount t.mounts g unit mount }) (record s { mounts = with_mount s.mounts g unit mount })
   unit_covered t s g unit mount covers there =
       take-set-lt (length c.guests) t.mounts g (slice_set (slice_index_or t.mounts g []) unit mount) there
       ∙ (λ i. slice_set (covers i) g (slice_set (sym (row_covered t s g covers there) i) unit mount))

@@ -10,7 +10,8 @@ use Rattle.std.proofs.lemmas.Str.Parse.{IsNumeralModel, numerals_by_fold}
 use Rattle.std.specs.List.{AllByRecursion as ByRecursion, list_all, position_or_len, range_with_len}
 use Rattle.vv_base.specs.Digits.{decimal_from, decimal_of, is_decimal, is_digit}
 use Rattle.vv_base.specs.Names.{is_letter, is_name_character, is_object_name}
-use Rattle.vv_class.specs.Class.{IsClass, has_category}
+use Rattle.vv_class.specs.Class.{IsClass}
+use Rattle.vv_base.specs.Bits.{is_set}
 use Rattle.vv_class.specs.Text.{categories_below, class_text, half_text, listed}
 use Rattle.vv_class.specs.declared.class.AccessClass.{AccessClass}
 use Rattle.sys_script.specs.EventLine.{after_blank, front}
@@ -109,7 +110,7 @@ half_from : (level cats : ℕ) → level < 256 → AreFrom 44 (half_text level c
 unfolding categories_below
 half_from level cats few =
     let number : AreFrom 44 (decimal level) = lower 48 44 (decimal level) (lit≤ tt) (number_from level (omega (arith, few))) in
-    let set : AreFrom 44 (listed (categories_below 64 cats)) = numbers_from (categories_below 64 cats) (filtered_below 64 (has_category cats) (range_with_len 0 64) (range_below 64 64 0 (lit≤ tt))) in
+    let set : AreFrom 44 (listed (categories_below 64 cats)) = numbers_from (categories_below 64 cats) (filtered_below 64 (is_set cats) (range_with_len 0 64) (range_below 64 64 0 (lit≤ tt))) in
     joined 44 (decimal level ++ 123 ∷ [] ++ listed (categories_below 64 cats)) (125 ∷ [])
     (joined 44 (decimal level ++ 123 ∷ []) (listed (categories_below 64 cats)) (joined 44 (decimal level) (123 ∷ []) number (lit≤ tt, tt)) set) (lit≤ tt, tt)
 

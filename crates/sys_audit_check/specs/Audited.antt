@@ -1,6 +1,7 @@
 -- Which bytes are an audit: the records of commands at the server, each with the answer that the server gives where the
 -- granted commands before it were done (profile).
-use Rattle.std.specs.Prelude.{ℕ, ◌≡◌, ◌≤◌, ◌<◌, List, [], ◌∷◌, ◌++◌, length, map, Option, Some, None, slice_get, All}
+use Rattle.std.specs.Option.{option_map_or}
+use Rattle.std.specs.Prelude.{ℕ, ◌≡◌, ◌≤◌, ◌<◌, List, [], ◌∷◌, ◌++◌, length, map, Option, slice_get, All}
 use Rattle.sys_audit.specs.Audit.{audit_record}
 use Rattle.sys_objects.specs.declared.records.Config.{Config}
 use Rattle.sys_objects.specs.declared.records.Terminal.{Terminal}
@@ -9,7 +10,7 @@ use Rattle.sys_server.specs.Apply.{applied}
 use Rattle.sys_server.specs.Verdict.{verdict_of}
 use Rattle.sys_server.specs.declared.command.ServerState.{ServerState}
 use Rattle.sys_server.specs.declared.command.Verdict.{Verdict}
-use Rattle.sys_server.specs.declared.command.Verdict.TheVariants.{Granted, BadCommand, NoSuchObject, Denied}
+use Rattle.sys_server.specs.declared.command.Verdict.TheVariants.{Granted}
 
 -- a command: its round, the place of its terminal, its text
 pub record Entry : Type 0 where
@@ -37,9 +38,7 @@ opening_server c = record { at = connections c.guests 0 c.terminals; mounts = ma
 -- the state after a command at a terminal; a granted one alone changes it
 abbrev pub server_after_verdict : ServerState → ℕ → Verdict → ServerState
 server_after_verdict s n (Granted command) = applied s n command
-server_after_verdict s n BadCommand = s
-server_after_verdict s n NoSuchObject = s
-server_after_verdict s n (Denied rule) = s
+server_after_verdict s n refused = s
 
 abbrev pub verdict_on : Config → ServerState → Entry → Verdict
 verdict_on c s e = verdict_of c s e.terminal e.text
@@ -49,8 +48,7 @@ server_after_entry c s e = server_after_verdict s e.terminal (verdict_on c s e)
 
 -- the record of a command
 abbrev pub record_at : ℕ → Option Terminal → List ℕ → Verdict → List ℕ
-record_at round None text v = []
-record_at round (Some t) text v = audit_record round t text v
+record_at round terminal text v = option_map_or (λ t. audit_record round t text v) terminal []
 
 abbrev pub record_of : Config → ServerState → Entry → List ℕ
 record_of c s e = record_at e.round (slice_get c.terminals e.terminal) e.text (verdict_on c s e)

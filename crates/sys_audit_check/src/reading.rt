@@ -2,18 +2,12 @@ ghost use Rattle.std.specs.List.{list_all};
 ghost use Rattle.std.specs.Prelude.{◌≡◌, ◌≤◌, ◌<◌, ◌-◌, ◌==◌, IfSome, bytes_eq, drop, length, option_map, position};
 ghost use Rattle.sys_audit_check.specs.Reading.{command_in, entry_in, reply_length, terminal_place, without_end};
 ghost use Rattle.sys_audit_check.specs.Seen.{entry_view};
-ghost use Rattle.sys_script.specs.EventLine.{after_blank, front};
 ghost use Rattle.sys_script.specs.Texts.{is_text, is_text_character};
 
 use sys_objects::{Config, Terminal};
+use sys_script::{LAST_ROUND, MOST_TYPED, cut};
 use vv_base::read_decimal;
 use vv_class::{AccessClass, write_class};
-
-/// The last round of a run.
-const LAST_ROUND: u64 = 1_000_000;
-
-/// How many bytes a typed line has at most.
-const MOST_TYPED: usize = 1000;
 
 /// A command: its round, the place of its terminal, its text.
 #[derive(Clone, Copy)]
@@ -21,24 +15,6 @@ pub struct Entry<'a> {
     pub round: u32,
     pub terminal: u8,
     pub text: &'a [u8],
-}
-
-fn find_blank(text: &[u8]) -> Option<usize>
-    ensures value { result ≡ position (λ b. b == 32) text.now }
-    ensures within { IfSome result (λ i. i < length text.now) }
-{
-    text.iter().position(|b| *b == b' ')
-}
-
-/// What comes up to the first blank, and after it.
-fn cut(text: &[u8]) -> (&[u8], &[u8])
-    ensures before { result.0.now ≡ front text.now }
-    ensures after { result.1.now ≡ after_blank text.now }
-{
-    match find_blank(text) {
-        Some(at) => (&text[..at], &text[at + 1..]),
-        None => (text, &[]),
-    }
 }
 
 /// What follows the first `count` bytes.

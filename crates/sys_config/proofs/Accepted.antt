@@ -1,17 +1,17 @@
 -- A configuration that is accepted satisfies the condition.
-use Rattle.std.proofs.Common.{◌≡◌, ◌≤◌, ℕ, ℤ, Bool, true, false, ◌&&◌, nat_le, List, [], length, codes, if◌then◌else◌, Option, Some, None, Result, Ok, Err, option_map, IfSome, IfOk, All, get_or, refl, arith, ◌+◌}
+use Rattle.std.proofs.Common.{◌≡◌, ◌≤◌, ℕ, ℤ, Bool, true, false, ◌&&◌, nat_le, List, [], length, codes, if◌then◌else◌, Option, Some, None, Result, Ok, Err, option_map, unwrap_or, IfSome, IfOk, All, get_or, refl, arith, ◌+◌}
 use Rattle.std.proofs.lemmas.Bool.{leb-true}
-use Rattle.toml.specs.Data.{Data, Items, Members, get_member, as_array}
+use Rattle.toml.specs.Data.{Data, Items, no_items, Members, get_member, as_array}
 use Rattle.toml.specs.Text.{are_tables}
 use Rattle.sys_objects.specs.Faults.{IsConfigAnswer, by_rule, unless_at}
 use Rattle.sys_config.specs.Answers.{entries_from}
-use Rattle.sys_config.specs.Reads.{in_range, if_any}
+use Rattle.sys_config.specs.Reads.{in_range, if_any, if_some}
 use Rattle.sys_config.specs.Entries.{terminal_row_in, volume_row_in, printer_row_in, audit_row_in}
 use Rattle.sys_config.specs.Guests.{guest_row_in}
-use Rattle.sys_config.specs.Top.{top_of, audit_table, is_two, quantum_of, most_slice, top_level, most_guests, tables_at, tables_in, count_of, items_if_any}
-use Rattle.sys_objects.specs.Rules.{bad_name, bad_line, bad_drive, bad_printer, bad_console, bad_mount, bad_audit, bad_pages}
+use Rattle.sys_config.specs.Top.{top_of, audit_table, is_two, quantum_of, top_level, most_guests, tables_at, tables_in, count_of}
+use Rattle.sys_objects.specs.Rules.{first_broken, is_new, lines_of, objects_of}
 use Rattle.sys_objects.specs.Judged.{validated}
-use Rattle.sys_config.specs.Config.{document_of, numbers_of, audit_if_any, rows_of, config_in, config_of}
+use Rattle.sys_config.specs.Config.{document_of, numbers_of, rows_of, config_in, config_of}
 use Rattle.sys_objects.specs.Condition.{IsConfig, IsTerminal, IsVolume, IsPrinter, IsGuest, IsAudit}
 use Rattle.sys_objects.specs.declared.errors.ConfigError.{ConfigError}
 use Rattle.sys_config.specs.declared.top.Top.{Top}
@@ -20,7 +20,8 @@ use Rattle.sys_objects.specs.declared.records.Config.{Config}
 use Rattle.sys_objects.specs.declared.records.Audit.{Audit}
 use Rattle.sys_config.proofs.Each.{each, anything, maybe, each_ok, by, unless, AreRead, entries}
 use Rattle.sys_config.proofs.RowFacts.{Within, in_range_is, terminal_is, volume_is, printer_is, audit_is, guest_is, IsQuantum}
-use Rattle.sys_objects.proofs.Judged.{IsUnbroken, names_apart, lines_apart, drives_apart, consoles_apart, all_held, all_audited, pages_fit, names_objects}
+use Rattle.sys_objects.proofs.Firsts.{pages_hold}
+use Rattle.sys_objects.proofs.Judged.{IsUnbroken, audit_holds, console_holds, mounts_hold, printer_holds, same_drive, same_line, same_name, names_apart, lines_apart, drives_apart, consoles_apart, all_held, all_audited, pages_fit, names_objects}
 
 record AreLimits (n : Limits) : Type 0 where
   quantum : IsQuantum n.quantum
@@ -35,7 +36,7 @@ read_quantum false (Some z) = wrapped (in_range 1 100000 z) (in_range_is 1 10000
     wrapped None h = tt
     wrapped (Some q) h = h
 
-most_is : (quantum : Option ℕ) → IsQuantum quantum → most_slice quantum ≤ 100000
+most_is : (quantum : Option ℕ) → IsQuantum quantum → unwrap_or quantum 100000 ≤ 100000
 most_is None is = omega arith
 most_is (Some q) is = is.1
 
@@ -45,8 +46,8 @@ limits_are t =
     each_ok (λ (top : Top). Unit {0}) AreLimits (by_rule 1 0 (top_of t)) _ (by (λ (top : Top). Unit {0}) 1 0 (top_of t) (anything (top_of t))) (λ top _.
     each_ok (λ (two : Bool). Unit {0}) AreLimits (by_rule 2 0 (is_two top.version)) _ (by (λ (two : Bool). Unit {0}) 2 0 (is_two top.version) (anything (is_two top.version))) (λ two _.
     each_ok IsQuantum AreLimits (by_rule 3 0 (quantum_of two top.quantum)) _ (by IsQuantum 3 0 (quantum_of two top.quantum) (read_quantum two top.quantum)) (λ quantum is.
-    each_ok (Within 1 (most_slice quantum)) AreLimits (by_rule 4 0 (in_range 1 (most_slice quantum) top.slice)) _
-    (by (Within 1 (most_slice quantum)) 4 0 (in_range 1 (most_slice quantum) top.slice) (in_range_is 1 (most_slice quantum) top.slice)) (λ slice within.
+    each_ok (Within 1 (unwrap_or quantum 100000)) AreLimits (by_rule 4 0 (in_range 1 (unwrap_or quantum 100000) top.slice)) _
+    (by (Within 1 (unwrap_or quantum 100000)) 4 0 (in_range 1 (unwrap_or quantum 100000) top.slice) (in_range_is 1 (unwrap_or quantum 100000) top.slice)) (λ slice within.
     record { quantum = is; slice = (within.0, omega (arith, within.1, most_is quantum is)) }))))
 
 few_tables : (most : ℕ) (d : Data) → IfSome (tables_in most d) (λ ds. count_of ds ≤ most)
@@ -61,12 +62,12 @@ few_at : (key : List ℕ) (most : ℕ) (t : Members) → IfSome (tables_at key m
 unfolding tables_at
 few_at key most t = listed (if_any (tables_in most) key t) (maybe (λ (ds : Items). count_of ds ≤ most) (tables_in most) (few_tables most) (get_member key t))
   where
-    listed : (o : Option (Option Items)) → IfSome o (λ o. IfSome o (λ ds. count_of ds ≤ most)) → IfSome (option_map items_if_any o) (λ ds. count_of ds ≤ most)
+    listed : (o : Option (Option Items)) → IfSome o (λ o. IfSome o (λ ds. count_of ds ≤ most)) → IfSome (option_map (λ ds. unwrap_or ds no_items) o) (λ ds. count_of ds ≤ most)
     listed None h = tt
     listed (Some None) h = omega arith
     listed (Some (Some ds)) h = h
 
-audit_read : (top : ℕ) (table : Option Members) → IfSome (audit_if_any top table) (λ a. IfSome a IsAudit)
+audit_read : (top : ℕ) (table : Option Members) → IfSome (if_some (audit_row_in top) table) (λ a. IfSome a IsAudit)
 audit_read top None = tt
 audit_read top (Some t) = wrapped (audit_row_in top t) (audit_is top t)
   where
@@ -107,7 +108,7 @@ rows_are n audit t are =
     each_ok (AreRead IsPrinter (0 + count_of printer)) (AreRows n) (entries_from 8 (printer_row_in top) [] printer) _ (entries IsPrinter 8 (printer_row_in top) (printer_is top) printer [] (none IsPrinter)) (λ printers ps.
     each_ok (AreRead IsGuest (0 + count_of guest)) (AreRows n) (entries_from 9 (guest_row_in top n.quantum terminals volumes printers) [] guest) _
     (entries IsGuest 9 (guest_row_in top n.quantum terminals volumes printers) (λ t. guest_is top n.quantum terminals volumes printers t are.quantum) guest [] (none IsGuest)) (λ guests gs.
-    each_ok (λ (a : Option Audit). IfSome a IsAudit) (AreRows n) (by_rule 10 0 (audit_if_any top audit)) _ (by (λ (a : Option Audit). IfSome a IsAudit) 10 0 _ (audit_read top audit)) (λ read is_audit.
+    each_ok (λ (a : Option Audit). IfSome a IsAudit) (AreRows n) (by_rule 10 0 (if_some (audit_row_in top) audit)) _ (by (λ (a : Option Audit). IfSome a IsAudit) 10 0 _ (audit_read top audit)) (λ read is_audit.
     record {
       slice = refl;
       few_terminals = omega (arith, ts.count, few_t);
@@ -125,14 +126,14 @@ unbroken : (c : Config) → IfOk (validated c) (λ _. IsUnbroken c)
 unfolding validated
 unbroken c =
     let P = λ (u : Unit {0}). IsUnbroken c in
-    each_ok (λ _. bad_name c ≡ None) P (unless_at 11 (bad_name c)) _ (unless 11 (bad_name c)) (λ _ name.
-    each_ok (λ _. bad_line c ≡ None) P (unless_at 12 (bad_line c)) _ (unless 12 (bad_line c)) (λ _ line.
-    each_ok (λ _. bad_drive c ≡ None) P (unless_at 13 (bad_drive c)) _ (unless 13 (bad_drive c)) (λ _ drive.
-    each_ok (λ _. bad_printer c ≡ None) P (unless_at 14 (bad_printer c)) _ (unless 14 (bad_printer c)) (λ _ printer.
-    each_ok (λ _. bad_console c ≡ None) P (unless_at 15 (bad_console c)) _ (unless 15 (bad_console c)) (λ _ console.
-    each_ok (λ _. bad_mount c ≡ None) P (unless_at 16 (bad_mount c)) _ (unless 16 (bad_mount c)) (λ _ mount.
-    each_ok (λ _. bad_audit c ≡ None) P (unless_at 17 (bad_audit c)) _ (unless 17 (bad_audit c)) (λ _ audit.
-    last (bad_pages c) (λ pages. record { name = name; line = line; drive = drive; printer = printer; console = console; mount = mount; audit = audit; pages = pages }))))))))
+    each_ok (λ _. first_broken (is_new same_name) [] (objects_of c) ≡ None) P (unless_at 11 (first_broken (is_new same_name) [] (objects_of c))) _ (unless 11 (first_broken (is_new same_name) [] (objects_of c))) (λ _ name.
+    each_ok (λ _. first_broken (is_new same_line) [] (lines_of c) ≡ None) P (unless_at 12 (first_broken (is_new same_line) [] (lines_of c))) _ (unless 12 (first_broken (is_new same_line) [] (lines_of c))) (λ _ line.
+    each_ok (λ _. first_broken (is_new same_drive) [] c.volumes ≡ None) P (unless_at 13 (first_broken (is_new same_drive) [] c.volumes)) _ (unless 13 (first_broken (is_new same_drive) [] c.volumes)) (λ _ drive.
+    each_ok (λ _. first_broken (printer_holds c.printers) [] c.guests ≡ None) P (unless_at 14 (first_broken (printer_holds c.printers) [] c.guests)) _ (unless 14 (first_broken (printer_holds c.printers) [] c.guests)) (λ _ printer.
+    each_ok (λ _. first_broken (console_holds c.terminals) [] c.guests ≡ None) P (unless_at 15 (first_broken (console_holds c.terminals) [] c.guests)) _ (unless 15 (first_broken (console_holds c.terminals) [] c.guests)) (λ _ console.
+    each_ok (λ _. first_broken (mounts_hold c.volumes) [] c.guests ≡ None) P (unless_at 16 (first_broken (mounts_hold c.volumes) [] c.guests)) _ (unless 16 (first_broken (mounts_hold c.volumes) [] c.guests)) (λ _ mount.
+    each_ok (λ _. first_broken (audit_holds c.audit) [] (objects_of c) ≡ None) P (unless_at 17 (first_broken (audit_holds c.audit) [] (objects_of c))) _ (unless 17 (first_broken (audit_holds c.audit) [] (objects_of c))) (λ _ audit.
+    last (first_broken pages_hold [] c.guests) (λ pages. record { name = name; line = line; drive = drive; printer = printer; console = console; mount = mount; audit = audit; pages = pages }))))))))
   where
     last : (o : Option ℕ) → (o ≡ None → IsUnbroken c) → IfOk (unless_at 18 o) (λ _. IsUnbroken c)
     last None h = h refl

@@ -8,7 +8,8 @@ use Rattle.std.proofs.lemmas.Fmt.{IsAscii-decimal}
 use Rattle.std.proofs.lemmas.Bool.{leb-true}
 use Rattle.vv_base.specs.Names.{is_letter, is_name_character, is_object_name, is_graphic, is_file_name}
 use Rattle.vv_class.specs.declared.class.AccessClass.{AccessClass}
-use Rattle.vv_class.specs.Class.{IsClass, has_category}
+use Rattle.vv_class.specs.Class.{IsClass}
+use Rattle.vv_base.specs.Bits.{is_set}
 use Rattle.vv_class.specs.Text.{class_text, half_text, listed, categories_below}
 
 one : (b : ℕ) → b < 128 → IsAscii (b ∷ [])
@@ -77,7 +78,7 @@ listed_ascii (k ∷ j ∷ ks) b = IsAscii-append (decimal k) (44 ∷ listed (j �
 half_ascii : (level cats : ℕ) → level < 256 → IsAscii (half_text level cats)
 unfolding categories_below
 half_ascii level cats below =
-    let set : IsAscii (listed (categories_below 64 cats)) = listed_ascii _ (below_filter (has_category cats) (range_with_len 0 64) (below_range 64 0 (omega arith))) in
+    let set : IsAscii (listed (categories_below 64 cats)) = listed_ascii _ (below_filter (is_set cats) (range_with_len 0 64) (below_range 64 0 (omega arith))) in
     IsAscii-append _ (codes "}") (IsAscii-append _ (listed (categories_below 64 cats)) (IsAscii-append (decimal level) (codes "{") (IsAscii-decimal level (omega arith)) (one 123 (omega arith))) set) (one 125 (omega arith))
 
 pub class_utf8 : (c : AccessClass) → IsClass c → IsUtf8 (class_text c)

@@ -12,9 +12,9 @@ use Rattle.sys_objects.specs.declared.records.GuestRow.{GuestRow}
 use Rattle.sys_config.specs.Reads.{if_some, are_known}
 use Rattle.sys_config.specs.Answers.{entries_from}
 use Rattle.sys_config.specs.Top.{all_keys, top_of, top_of_two, audit_table, tables_at, count_of}
-use Rattle.sys_config.specs.Entries.{terminal_row_in, volume_row_in, printer_row_in}
+use Rattle.sys_config.specs.Entries.{terminal_row_in, volume_row_in, printer_row_in, audit_row_in}
 use Rattle.sys_config.specs.Guests.{guest_row_in}
-use Rattle.sys_config.specs.Config.{document_of, numbers_of, audit_if_any, rows_of, config_in, config_of}
+use Rattle.sys_config.specs.Config.{document_of, numbers_of, rows_of, config_in, config_of}
 use Rattle.sys_objects.specs.Condition.{IsConfig, IsTerminal, IsVolume, IsPrinter, IsAudit, IsGuest, NamesObjects}
 use Rattle.sys_config.specs.Written.{version_of, with_any, number, written_terminal, written_volume, written_printer, written_audit, audit_value, written_guest, items_by, lists, written_config}
 use Rattle.sys_config.proofs.ReadAgain.{terminal_back, volume_back, printer_back, audit_back, entries_back, guest_back}
@@ -93,7 +93,7 @@ table_back : (a : Option Audit) → if_some as_table (audit_value a) ≡ Some (o
 table_back None = refl
 table_back (Some a) = refl
 
-audit_back_any : (a : Option Audit) → IfSome a IsAudit → audit_if_any 255 (option_map written_audit a) ≡ Some a
+audit_back_any : (a : Option Audit) → IfSome a IsAudit → if_some (audit_row_in 255) (option_map written_audit a) ≡ Some a
 audit_back_any None is = refl
 audit_back_any (Some a) is = rw (audit_back a is)
 

@@ -1,5 +1,5 @@
 -- A printed row is read as what it was.
-use Rattle.std.proofs.Common.{◌≡◌, ◌≢◌, ◌≤◌, ◌<◌, ◌+◌, ℕ, zero, suc, Bool, true, false, List, [], ◌∷◌, ◌++◌, length, get_or, codes, Option, Some, None, Ok, unwrap_or, slice_get, bytes_eq, IfSome, All, refl, ap, arith, append-nil, append_assoc, length-append}
+use Rattle.std.proofs.Common.{◌≡◌, ◌≢◌, ◌≤◌, ◌<◌, ◌+◌, ℕ, zero, suc, Bool, true, false, List, [], ◌∷◌, ◌++◌, length, get_or, codes, Option, Some, None, Ok, option_and_then, unwrap_or, slice_get, bytes_eq, IfSome, All, refl, ap, arith, append-nil, append_assoc, length-append}
 use Rattle.std.specs.List.{AllPairs, position, position_or_len}
 use Rattle.std.proofs.lemmas.Bool.{le-leb, lt-ltb}
 use Rattle.std.proofs.lemmas.Option.{slice_get_within, get_or_from_slice_get}
@@ -9,8 +9,8 @@ use Rattle.toml.specs.Data.{Data, string, boolean, array, Members, no_members, m
 use Rattle.vv_base.specs.Names.{is_object_name, is_file_name}
 use Rattle.vv_class.specs.declared.class.AccessClass.{AccessClass}
 use Rattle.vv_class.specs.Class.{IsClass}
-use Rattle.vv_class.specs.Text.{class_text}
-use Rattle.vv_class.proofs.Places.{written_is_read}
+use Rattle.vv_class.specs.Text.{class_in, class_text}
+use Rattle.vv_class.proofs.Numbers.{found}
 use Rattle.sys_objects.specs.declared.records.Config.{Config}
 use Rattle.sys_objects.specs.declared.records.Audit.{Audit}
 use Rattle.sys_objects.specs.declared.records.GuestRow.{GuestRow}
@@ -20,8 +20,8 @@ use Rattle.sys_objects.specs.declared.records.VolumeRow.{VolumeRow}
 use Rattle.sys_objects.specs.declared.records.PrinterRow.{PrinterRow}
 use Rattle.sys_config.specs.Reads.{integer_in, bounded_integer_at, flag_at, if_any, if_some, are_known}
 use Rattle.sys_config.specs.Answers.{entries_from}
-use Rattle.sys_config.specs.Entries.{name_in, name_at, class_in, class_at, named_line_of, terminal_row_in, volume_row_in, printer_row_in, audit_row_in}
-use Rattle.sys_config.specs.Guests.{mount_of, mounts_from, no_mounts, object_in, console_in, printer_in, mounts_in, modify_of, keys_of_guest, image_at, bare_guest_of, guest_row_in, Units}
+use Rattle.sys_config.specs.Entries.{name_in, name_at, class_at, low_enough, named_line_of, terminal_row_in, volume_row_in, printer_row_in, audit_row_in}
+use Rattle.sys_config.specs.Guests.{mount_of, mounts_from, no_mounts, object_in, mounts_in, modify_of, keys_of_guest, image_at, bare_guest_of, guest_row_in, Units}
 use Rattle.sys_objects.specs.Condition.{IsTerminal, IsVolume, IsPrinter, IsAudit, IsGuest, NamesObjects, IsConfig}
 use Rattle.sys_objects.proofs.JudgedAgain.{AreApart, texts_differ}
 use Rattle.sys_config.specs.Written.{with_any, number, written_line, written_terminal, written_volume, written_printer, written_audit, written_mount, mount_items, modify_text, object_value, console_value, printer_value, dump_value, written_guest, items_by}
@@ -32,8 +32,8 @@ number_back low high n least most = rw (le-leb low n least, le-leb n high most)
 name_back : (name : List ℕ) → is_object_name name ≡ true → name_in name ≡ Some name
 name_back name named = rw named
 
-class_back : (c : AccessClass) → IsClass c → class_in 255 (class_text c) ≡ Some c
-class_back c is = rw (written_is_read c is, le-leb c.secrecy 255 (omega (arith, is.secrecy)), le-leb c.integrity 255 (omega (arith, is.integrity)))
+class_back : (c : AccessClass) → IsClass c → option_and_then (low_enough 255) (class_in (class_text c)) ≡ Some c
+class_back c is = rw (found c is, le-leb c.secrecy 255 (omega (arith, is.secrecy)), le-leb c.integrity 255 (omega (arith, is.integrity)))
 
 -- at a key of any table
 number_found : (key : List ℕ) (t : Members) (low high n : ℕ) → get_member key t ≡ Some (number n) → low ≤ n → n ≤ high → bounded_integer_at key low high t ≡ Some n
@@ -55,7 +55,7 @@ line_back : (name : List ℕ) (line : ℕ) (class : AccessClass) → is_object_n
     → named_line_of 255 (written_line name line class) ≡ Some (record { name = name; line = line; class = class })
 unfolding named_line_of written_line
 line_back name line class named low is =
-    rw (named, le-leb 0 line (omega arith), le-leb line 31 low, written_is_read class is, le-leb class.secrecy 255 (omega (arith, is.secrecy)), le-leb class.integrity 255 (omega (arith, is.integrity)))
+    rw (named, le-leb 0 line (omega arith), le-leb line 31 low, found class is, le-leb class.secrecy 255 (omega (arith, is.secrecy)), le-leb class.integrity 255 (omega (arith, is.integrity)))
 
 pub terminal_back : (r : Terminal) → IsTerminal r → terminal_row_in 255 (written_terminal r) ≡ Some r
 terminal_back r is = rw (line_back r.name r.line r.class is.named is.line is.class)
@@ -66,12 +66,12 @@ printer_back r is = rw (line_back r.name r.line r.class is.named is.line is.clas
 pub volume_back : (r : VolumeRow) → IsVolume r → volume_row_in 255 (written_volume r) ≡ Some r
 unfolding volume_row_in written_volume
 volume_back r is =
-    rw (is.named, le-leb 0 r.drive (omega arith), le-leb r.drive 15 is.drive, le-leb 1 r.blocks is.some_blocks, le-leb r.blocks 2048 is.few_blocks, written_is_read r.class is.class, le-leb r.class.secrecy 255 (omega (arith, is.class.secrecy)), le-leb r.class.integrity 255 (omega (arith, is.class.integrity)))
+    rw (is.named, le-leb 0 r.drive (omega arith), le-leb r.drive 15 is.drive, le-leb 1 r.blocks is.some_blocks, le-leb r.blocks 2048 is.few_blocks, found r.class is.class, le-leb r.class.secrecy 255 (omega (arith, is.class.secrecy)), le-leb r.class.integrity 255 (omega (arith, is.class.integrity)))
 
 pub audit_back : (a : Audit) → IsAudit a → audit_row_in 255 (written_audit a) ≡ Some a
 unfolding audit_row_in written_audit
 audit_back a is =
-    rw (le-leb 0 a.line (omega arith), le-leb a.line 31 is.line, written_is_read a.class is.class, le-leb a.class.secrecy 255 (omega (arith, is.class.secrecy)), le-leb a.class.integrity 255 (omega (arith, is.class.integrity)))
+    rw (le-leb 0 a.line (omega arith), le-leb a.line 31 is.line, found a.class is.class, le-leb a.class.secrecy 255 (omega (arith, is.class.secrecy)), le-leb a.class.integrity 255 (omega (arith, is.class.integrity)))
 
 -- the entries of a list
 tail : {A : Type 0} (P : A → Type 0) (x : A) (xs : List A) → All P (x ∷ xs) → All P xs
@@ -267,8 +267,8 @@ unfolding guest_row_in
 guest_from c met apart g is numbers t e =
     let known : are_known (keys_of_guest None) t ≡ true = ap (λ (l : Looked). l.known) e in
     let first : bare_guest_of 255 None t ≡ Some (bare g) = bare_back c g is t e in
-    let console : if_any (console_in c.terminals) (codes "console") t ≡ Some g.console = rw (ap (λ (l : Looked). l.console) e) (object_back IsTerminal (λ (t : Terminal). t.name) (λ t is. is.named) c.terminals met.terminals apart.terminals g.console numbers.console) in
-    let printer : if_any (printer_in c.printers) (codes "printer") t ≡ Some g.printer = rw (ap (λ (l : Looked). l.printer) e) (object_back IsPrinter (λ (p : PrinterRow). p.name) (λ p is. is.named) c.printers met.printers apart.printers g.printer numbers.printer) in
+    let console : if_any (object_in (λ (t : Terminal). t.name) c.terminals) (codes "console") t ≡ Some g.console = rw (ap (λ (l : Looked). l.console) e) (object_back IsTerminal (λ (t : Terminal). t.name) (λ t is. is.named) c.terminals met.terminals apart.terminals g.console numbers.console) in
+    let printer : if_any (object_in (λ (p : PrinterRow). p.name) c.printers) (codes "printer") t ≡ Some g.printer = rw (ap (λ (l : Looked). l.printer) e) (object_back IsPrinter (λ (p : PrinterRow). p.name) (λ p is. is.named) c.printers met.printers apart.printers g.printer numbers.printer) in
     let dump : if_any (integer_in 0 31) (codes "dump") t ≡ Some g.dump = rw (ap (λ (l : Looked). l.dump) e) (dump_back g.dump is.dump) in
     let modify : if_any modify_of (codes "modify") t ≡ Some (Some g.modify_faults) = rw (ap (λ (l : Looked). l.modify) e) (modify_back g.modify_faults) in
     let mounts : if_any (mounts_in c.volumes) (codes "mount") t ≡ Some (Some g.mounts) =

@@ -5,14 +5,13 @@ use Rattle.std.proofs.lemmas.Bool.{leb-true}
 use Rattle.toml.specs.Data.{Data, Items, no_items, item, Members, get_member, as_array, as_integer}
 use Rattle.vv_base.specs.Names.{is_object_name, is_file_name, tested}
 use Rattle.vv_class.specs.Class.{IsClass}
-use Rattle.vv_class.specs.Scan.{class_of}
+use Rattle.vv_class.specs.Text.{class_in}
 use Rattle.vv_class.specs.declared.class.AccessClass.{AccessClass}
-use Rattle.vv_class.specs.declared.text.ClassFault.{ClassFault}
-use Rattle.vv_class.proofs.Places.{reads_text}
+use Rattle.vv_class.proofs.Numbers.{given}
 use Rattle.sys_config.specs.Reads.{◌>>=◌, in_range, integer_in, bounded_integer_at, text_at, flag_at, if_any, are_known}
 use Rattle.sys_config.specs.Answers.{entry_from_table}
-use Rattle.sys_config.specs.Entries.{name_in, name_at, low_enough, class_in, class_at, line_number_at, named_line_of, terminal_row_in, volume_row_in, printer_row_in, audit_row_in}
-use Rattle.sys_config.specs.Guests.{mount_of, mounted_at_unit, mounts_from, no_mounts, mounts_in, console_in, printer_in, modify_of, own_quantum, keys_of_guest, image_at, bare_guest_of, guest_row_in, Units}
+use Rattle.sys_config.specs.Entries.{name_in, name_at, low_enough, class_at, line_number_at, named_line_of, terminal_row_in, volume_row_in, printer_row_in, audit_row_in}
+use Rattle.sys_config.specs.Guests.{mount_of, mounted_at_unit, mounts_from, no_mounts, mounts_in, object_in, modify_of, own_quantum, keys_of_guest, image_at, bare_guest_of, guest_row_in, Units}
 use Rattle.sys_objects.specs.Condition.{IsTerminal, IsVolume, IsPrinter, IsAudit, IsGuest}
 use Rattle.sys_config.specs.declared.entries.NamedLine.{NamedLine}
 use Rattle.sys_config.specs.declared.mounts.UnitMount.{UnitMount}
@@ -50,11 +49,14 @@ name_is : (key : List ℕ) (t : Members) → IfSome (name_at key t) (λ name. is
 name_is key t = each (λ _. Unit {0}) (λ name. is_object_name name ≡ true) (text_at key t) name_in (anything (text_at key t)) (λ text _. tested_is is_object_name text)
 
 class_is : (top : ℕ) (t : Members) → IfSome (class_at top t) IsClass
-class_is top t = each (λ _. Unit {0}) IsClass (text_at (codes "class") t) (class_in top) (anything (text_at (codes "class") t)) (λ text _. read text (class_of text) refl)
+class_is top t =
+    let text : Option (List ℕ) = text_at (codes "class") t in
+    each IsClass IsClass (text >>= class_in) (low_enough top) (each (λ _. Unit {0}) IsClass text class_in (anything text) (λ text _. is_one text (class_in text) refl))
+    (λ c is. guarded IsClass (nat_le c.secrecy top && nat_le c.integrity top) (Some c) is)
   where
-    read : (text : List ℕ) (r : Result AccessClass ClassFault) → r ≡ class_of text → IfSome (low_enough top r) IsClass
-    read text (Ok c) e = guarded IsClass (nat_le c.secrecy top && nat_le c.integrity top) (Some c) (reads_text text (Ok c) e).0
-    read text (Err f) e = tt
+    is_one : (text : List ℕ) (o : Option AccessClass) → class_in text ≡ o → IfSome o IsClass
+    is_one text None e = tt
+    is_one text (Some c) e = (given text c e).0
 
 record IsNamedLine (e : NamedLine) : Type 0 where
   named : is_object_name e.name ≡ true
@@ -159,8 +161,8 @@ unfolding guest_row_in
 guest_is top quantum terminals volumes printers t is =
     guarded IsGuest (are_known (keys_of_guest quantum) t) _
     (each IsGuest IsGuest (bare_guest_of top quantum t) _ (bare_guest_is top quantum t is) (λ guest bare.
-    each (λ (o : Option ℕ). Unit {0}) IsGuest (if_any (console_in terminals) (codes "console") t) _ (anything (if_any (console_in terminals) (codes "console") t)) (λ console _.
-    each (λ (o : Option ℕ). Unit {0}) IsGuest (if_any (printer_in printers) (codes "printer") t) _ (anything (if_any (printer_in printers) (codes "printer") t)) (λ printer _.
+    each (λ (o : Option ℕ). Unit {0}) IsGuest (if_any (object_in (λ (t : Terminal). t.name) terminals) (codes "console") t) _ (anything (if_any (object_in (λ (t : Terminal). t.name) terminals) (codes "console") t)) (λ console _.
+    each (λ (o : Option ℕ). Unit {0}) IsGuest (if_any (object_in (λ (p : PrinterRow). p.name) printers) (codes "printer") t) _ (anything (if_any (object_in (λ (p : PrinterRow). p.name) printers) (codes "printer") t)) (λ printer _.
     each (λ o. IfSome o (Within 0 31)) IsGuest (if_any (integer_in 0 31) (codes "dump") t) _ (maybe (Within 0 31) (integer_in 0 31) (number_in_is 0 31) (get_member (codes "dump") t)) (λ dump low.
     each (λ (o : Option Bool). Unit {0}) IsGuest (if_any modify_of (codes "modify") t) _ (anything (if_any modify_of (codes "modify") t)) (λ modify _.
     each (λ o. IfSome o (λ (units : Units). length units ≡ 4)) IsGuest (if_any (mounts_in volumes) (codes "mount") t) _

@@ -18,21 +18,20 @@
 --   16     a mount's volume isn't one that flows into the guest, or is written with another class
 --   17     with an audit, an object's class does not flow into the audit's, in the order of 11
 --   18     the pages of the guests up to this one are more than 16,384
-use Rattle.std.specs.Prelude.{ℕ, List, [], codes, if◌then◌else◌, Option, Some, None, option_map, Result, Ok}
+use Rattle.std.specs.Prelude.{ℕ, List, [], codes, if◌then◌else◌, Option, Some, None, unwrap_or, Result, Ok}
 use Rattle.std.specs.Str.{is_utf8}
 use Rattle.toml.specs.Data.{Members}
 use Rattle.toml.specs.Parse.{parse_document}
 use Rattle.sys_objects.specs.Faults.{◌>>=◌, by_rule}
 use Rattle.sys_config.specs.Answers.{entries_from}
-use Rattle.sys_config.specs.Reads.{in_range}
+use Rattle.sys_config.specs.Reads.{if_some, in_range}
 use Rattle.sys_config.specs.Entries.{terminal_row_in, volume_row_in, printer_row_in, audit_row_in}
 use Rattle.sys_config.specs.Guests.{guest_row_in}
-use Rattle.sys_config.specs.Top.{top_of, audit_table, is_two, quantum_of, most_slice, top_level, most_guests, tables_at}
+use Rattle.sys_config.specs.Top.{top_of, audit_table, is_two, quantum_of, top_level, most_guests, tables_at}
 use Rattle.sys_objects.specs.Judged.{validated}
 use Rattle.sys_objects.specs.declared.errors.ConfigFault.{ConfigFault}
 use Rattle.sys_config.specs.declared.numbers.Limits.{Limits}
 use Rattle.sys_objects.specs.declared.records.Config.{Config}
-use Rattle.sys_objects.specs.declared.records.Audit.{Audit}
 
 -- the table that the bytes are, by TOML 1.1
 abbrev pub document_of : List ℕ → Option Members
@@ -43,12 +42,8 @@ numbers_of t =
     by_rule 1 0 (top_of t) >>= λ top.
     by_rule 2 0 (is_two top.version) >>= λ two.
     by_rule 3 0 (quantum_of two top.quantum) >>= λ quantum.
-    by_rule 4 0 (in_range 1 (most_slice quantum) top.slice) >>= λ slice.
+    by_rule 4 0 (in_range 1 (unwrap_or quantum 100000) top.slice) >>= λ slice.
     Ok (record { quantum = quantum; slice = slice })
-
-abbrev pub audit_if_any : ℕ → Option Members → Option (Option Audit)
-audit_if_any top None = Some None
-audit_if_any top (Some t) = option_map Some (audit_row_in top t)
 
 unfoldable pub rows_of : Limits → Option Members → Members → Result Config ConfigFault
 rows_of n audit t =
@@ -60,7 +55,7 @@ rows_of n audit t =
     entries_from 7 (volume_row_in (top_level n.quantum)) [] volume >>= λ volumes.
     entries_from 8 (printer_row_in (top_level n.quantum)) [] printer >>= λ printers.
     entries_from 9 (guest_row_in (top_level n.quantum) n.quantum terminals volumes printers) [] guest >>= λ guests.
-    by_rule 10 0 (audit_if_any (top_level n.quantum) audit) >>= λ read.
+    by_rule 10 0 (if_some (audit_row_in (top_level n.quantum)) audit) >>= λ read.
     Ok (record { slice = n.slice; audit = read; terminals = terminals; volumes = volumes; printers = printers; guests = guests })
 
 unfoldable pub config_in : Members → Result Config ConfigFault

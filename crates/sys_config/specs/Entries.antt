@@ -1,11 +1,10 @@
 -- An entry of the terminals, volumes and printers, and the audit: where a table has exactly the keys that it is to
 -- have, of their forms and in their ranges.
-use Rattle.std.specs.Prelude.{ℕ, List, [], ◌∷◌, codes, ◌&&◌, nat_le, if◌then◌else◌, Option, Some, None, Result, Ok, Err}
+use Rattle.std.specs.Prelude.{ℕ, List, [], ◌∷◌, codes, ◌&&◌, nat_le, if◌then◌else◌, Option, Some, None}
 use Rattle.toml.specs.Data.{Members}
 use Rattle.vv_base.specs.Names.{is_object_name, tested}
 use Rattle.vv_class.specs.declared.class.AccessClass.{AccessClass}
-use Rattle.vv_class.specs.declared.text.ClassFault.{ClassFault}
-use Rattle.vv_class.specs.Scan.{class_of}
+use Rattle.vv_class.specs.Text.{class_in}
 use Rattle.sys_config.specs.Reads.{◌>>=◌, bounded_integer_at, text_at, are_known}
 use Rattle.sys_config.specs.declared.entries.NamedLine.{NamedLine}
 use Rattle.sys_objects.specs.declared.records.Terminal.{Terminal}
@@ -21,15 +20,11 @@ abbrev pub name_at : List ℕ → Members → Option (List ℕ)
 name_at key t = text_at key t >>= name_in
 
 -- a class with levels up to `top`
-abbrev pub low_enough : ℕ → Result AccessClass ClassFault → Option AccessClass
-low_enough top (Ok c) = if nat_le c.secrecy top && nat_le c.integrity top then Some c else None
-low_enough top (Err f) = None
-
-abbrev pub class_in : ℕ → List ℕ → Option AccessClass
-class_in top text = low_enough top (class_of text)
+abbrev pub low_enough : ℕ → AccessClass → Option AccessClass
+low_enough top c = if nat_le c.secrecy top && nat_le c.integrity top then Some c else None
 
 abbrev pub class_at : ℕ → Members → Option AccessClass
-class_at top t = text_at (codes "class") t >>= class_in top
+class_at top t = text_at (codes "class") t >>= class_in >>= low_enough top
 
 -- a line, 0 to 31
 abbrev pub line_number_at : List ℕ → Members → Option ℕ

@@ -21,15 +21,12 @@ place_named name_of rows name = unwrap_or (position (λ x. bytes_eq name (name_o
 abbrev pub object_in : {A : Type 0} → (A → List ℕ) → List A → Data → Option ℕ
 object_in name_of rows d = as_str d >>= name_in >>= (λ name. Some (place_named name_of rows name))
 
-abbrev pub volume_place : List VolumeRow → List ℕ → ℕ
-volume_place = place_named (λ (v : VolumeRow). v.name)
-
 -- a mount and its unit, 0 to 3
 unfoldable pub mount_of : List VolumeRow → Members → Option UnitMount
 mount_of volumes t =
     if are_known (codes "unit" ∷ codes "volume" ∷ codes "write" ∷ []) t then
     (bounded_integer_at (codes "unit") 0 3 t >>= λ unit. name_at (codes "volume") t >>= λ name. flag_at (codes "write") t >>= λ write.
-    Some (record { unit = unit; mount = record { volume = volume_place volumes name; write = write } }))
+    Some (record { unit = unit; mount = record { volume = place_named (λ (v : VolumeRow). v.name) volumes name; write = write } }))
     else None
 
 abbrev pub Units : Type 0
@@ -47,12 +44,6 @@ abbrev pub no_mounts : Units
 no_mounts = None ∷ None ∷ None ∷ None ∷ []
 
 -- what the keys that may be absent are read as
-abbrev pub console_in : List Terminal → Data → Option ℕ
-console_in = object_in (λ (t : Terminal). t.name)
-
-abbrev pub printer_in : List PrinterRow → Data → Option ℕ
-printer_in = object_in (λ (p : PrinterRow). p.name)
-
 abbrev pub mounts_in : List VolumeRow → Data → Option Units
 mounts_in volumes d = as_array d >>= mounts_from volumes no_mounts
 
@@ -107,7 +98,7 @@ unfoldable pub guest_row_in : ℕ → Option ℕ → List Terminal → List Volu
 guest_row_in top quantum terminals volumes printers t =
     if are_known (keys_of_guest quantum) t then
     (bare_guest_of top quantum t >>= λ guest.
-    if_any (console_in terminals) (codes "console") t >>= λ console. if_any (printer_in printers) (codes "printer") t >>= λ printer.
+    if_any (object_in (λ (t : Terminal). t.name) terminals) (codes "console") t >>= λ console. if_any (object_in (λ (p : PrinterRow). p.name) printers) (codes "printer") t >>= λ printer.
     if_any (integer_in 0 31) (codes "dump") t >>= λ dump. if_any modify_of (codes "modify") t >>= λ modify.
     if_any (mounts_in volumes) (codes "mount") t >>= λ mounts.
     Some (record guest { console = console; printer = printer; dump = dump; mounts = unwrap_or mounts no_mounts; modify_faults = unwrap_or modify false }))

@@ -26,8 +26,8 @@ text_at key t = get_member key t >>= as_str
 abbrev pub flag_at : List ℕ → Members → Option Bool
 flag_at key t = get_member key t >>= as_bool
 
--- at a key that may be absent: nothing there, or what it is read as
-abbrev pub if_some : {A : Type 0} → (Data → Option A) → Option Data → Option (Option A)
+-- nothing where nothing is, or what it is read as; and so at a key that may be absent
+abbrev pub if_some : {A B : Type 0} → (A → Option B) → Option A → Option (Option B)
 if_some read None = Some None
 if_some read (Some d) = option_map Some (read d)
 

@@ -1,12 +1,14 @@
 -- Worked examples of whole texts, checked by computation.
 use Rattle.std.specs.Prelude.{◌≡◌, ℕ, [], codes, None, Some, Ok, Err, refl}
+use Rattle.std.specs.Fmt.{digits}
 use Rattle.std.specs.Str.{is_utf8, chars}
 use Rattle.toml.proofs.OnLiterals.{toml_on_literals}
 use Rattle.sys_objects.specs.Faults.{fault}
 use Rattle.sys_objects.specs.Judged.{validated}
-use Rattle.sys_config.specs.Entries.{class_in, named_line_of}
+use Rattle.sys_config.specs.Entries.{low_enough, named_line_of}
+use Rattle.sys_config.specs.Reads.{◌>>=◌}
 use Rattle.sys_config.specs.Top.{tables_at, top_level, top_of, top_of_one, top_of_two}
-use Rattle.vv_class.specs.Scan.{class_of, more_level, start_of, step_of}
+use Rattle.vv_class.specs.Text.{categories_below, class_in, class_text}
 use Rattle.vv_class.specs.declared.class.AccessClass.{AccessClass}
 use Rattle.sys_config.specs.Config.{numbers_of, rows_of, config_in, config_of}
 
@@ -34,18 +36,18 @@ without_a_class = refl
 abbrev secret : ℕ → AccessClass
 secret n = record { secrecy = n; secrecy_cats = 0; integrity = 0; integrity_cats = 0 }
 
-level_15_of_version_1 : class_in (top_level (Some 10)) (codes "15{};0{}") ≡ Some (secret 15)
-unfolding class_of step_of start_of more_level
+level_15_of_version_1 : (class_in (codes "15{};0{}") >>= low_enough (top_level (Some 10))) ≡ Some (secret 15)
+unfolding class_in class_text categories_below digits
 level_15_of_version_1 = refl
 
-level_16_of_version_1 : class_in (top_level (Some 10)) (codes "16{};0{}") ≡ None
-unfolding class_of step_of start_of more_level
+level_16_of_version_1 : (class_in (codes "16{};0{}") >>= low_enough (top_level (Some 10))) ≡ None
+unfolding class_in class_text categories_below digits
 level_16_of_version_1 = refl
 
-level_16_of_version_2 : class_in (top_level None) (codes "16{};0{}") ≡ Some (secret 16)
-unfolding class_of step_of start_of more_level
+level_16_of_version_2 : (class_in (codes "16{};0{}") >>= low_enough (top_level None)) ≡ Some (secret 16)
+unfolding class_in class_text categories_below digits
 level_16_of_version_2 = refl
 
-level_256_of_version_2 : class_in (top_level None) (codes "256{};0{}") ≡ None
-unfolding class_of step_of start_of more_level
+level_256_of_version_2 : (class_in (codes "256{};0{}") >>= low_enough (top_level None)) ≡ None
+unfolding class_in class_text categories_below digits
 level_256_of_version_2 = refl

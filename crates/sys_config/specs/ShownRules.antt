@@ -1,5 +1,6 @@
 -- Worked examples of the order of the rules: where two neighbouring ones are broken, the one of the lower number is named.
 use Rattle.std.specs.Prelude.{◌≡◌, ℕ, List, [], ◌∷◌, codes, true, false, None, Some, Ok, Err, refl}
+use Rattle.std.specs.Fmt.{digits}
 use Rattle.std.specs.Str.{is_utf8, chars}
 use Rattle.toml.proofs.OnLiterals.{toml_on_literals}
 use Rattle.sys_config.specs.Config.{config_in, config_of, numbers_of, rows_of}
@@ -8,14 +9,13 @@ use Rattle.sys_config.specs.Guests.{bare_guest_of, guest_row_in}
 use Rattle.sys_config.specs.Top.{tables_at, top_of, top_of_one, top_of_two}
 use Rattle.sys_objects.specs.Faults.{fault}
 use Rattle.sys_objects.specs.Judged.{validated}
-use Rattle.sys_objects.specs.Rules.{mounts_hold}
 use Rattle.sys_objects.specs.declared.records.Config.{Config}
 use Rattle.sys_objects.specs.declared.records.GuestRow.{GuestRow}
 use Rattle.sys_objects.specs.declared.records.PrinterRow.{PrinterRow}
 use Rattle.sys_objects.specs.declared.records.Terminal.{Terminal}
 use Rattle.sys_objects.specs.declared.records.VolumeRow.{VolumeRow}
 use Rattle.vv_class.specs.Class.{does_flow, is_subset}
-use Rattle.vv_class.specs.Scan as scan
+use Rattle.vv_class.specs.Text.{categories_below, class_in, class_text}
 use Rattle.vv_class.specs.declared.class.AccessClass.{AccessClass}
 
 -- no slice, and version 3
@@ -60,7 +60,7 @@ rule_9_before_10 = refl
 
 -- an audit without keys, and two terminals of one name
 rule_10_before_11 : config_of (codes "version = 2\nslice = 3\n[[terminal]]\nname = \"T\"\nline = 0\nclass = \"0{};0{}\"\n[[terminal]]\nname = \"T\"\nline = 1\nclass = \"0{};0{}\"\n[audit]\n") ≡ Err (fault 10 0)
-unfolding toml_on_literals is_utf8 chars audit_row_in named_line_of scan.class_of scan.step_of scan.start_of scan.more_level top_of top_of_one top_of_two tables_at numbers_of rows_of validated config_in config_of
+unfolding toml_on_literals is_utf8 chars audit_row_in named_line_of class_in class_text categories_below digits top_of top_of_one top_of_two tables_at numbers_of rows_of validated config_in config_of
 rule_10_before_11 = refl
 
 -- a configuration that keeps the rules 11 to 18, in which a printer, one more volume, a terminal's class, a guest and the audit's
@@ -112,48 +112,48 @@ abbrev low_volume : VolumeRow
 low_volume = record (volume (codes "V2") 3) { class = level 0 }
 
 keeps_the_rules : validated (whole (printer (codes "P1") 5 1) [] 1 guest 1) ≡ Ok tt
-unfolding validated does_flow is_subset mounts_hold
+unfolding validated does_flow is_subset
 keeps_the_rules = refl
 
 -- a printer of the terminal's name and line: it is the third object, and the second line
 rule_11_before_12 : validated (whole (printer (codes "T1") 4 1) [] 1 guest 1) ≡ Err (fault 11 2)
-unfolding validated does_flow is_subset mounts_hold
+unfolding validated does_flow is_subset
 rule_11_before_12 = refl
 
 -- and a second volume on the first one's drive
 rule_12_before_13 : validated (whole (printer (codes "P1") 4 1) (volume (codes "V2") 2 ∷ []) 1 guest 1) ≡ Err (fault 12 1)
-unfolding validated does_flow is_subset mounts_hold
+unfolding validated does_flow is_subset
 rule_12_before_13 = refl
 
 -- and a printer into which the guest doesn't flow
 rule_13_before_14 : validated (whole (printer (codes "P1") 5 0) (volume (codes "V2") 2 ∷ []) 1 guest 1) ≡ Err (fault 13 1)
-unfolding validated does_flow is_subset mounts_hold
+unfolding validated does_flow is_subset
 rule_13_before_14 = refl
 
 -- and a console of another class
 rule_14_before_15 : validated (whole (printer (codes "P1") 5 0) [] 0 guest 1) ≡ Err (fault 14 0)
-unfolding validated does_flow is_subset mounts_hold
+unfolding validated does_flow is_subset
 rule_14_before_15 = refl
 
 -- and a volume of another class that is written
 rule_15_before_16 : validated (whole (printer (codes "P1") 5 1) (low_volume ∷ []) 0 writer 1) ≡ Err (fault 15 0)
-unfolding validated does_flow is_subset mounts_hold
+unfolding validated does_flow is_subset
 rule_15_before_16 = refl
 
 -- and an audit into which the terminal's class doesn't flow
 rule_16_before_17 : validated (whole (printer (codes "P1") 5 1) (low_volume ∷ []) 1 writer 0) ≡ Err (fault 16 0)
-unfolding validated does_flow is_subset mounts_hold
+unfolding validated does_flow is_subset
 rule_16_before_17 = refl
 
 -- and too many pages
 rule_17_before_18 : validated (whole (printer (codes "P1") 5 1) [] 1 (record guest { pages = 16385 }) 0) ≡ Err (fault 17 0)
-unfolding validated does_flow is_subset mounts_hold
+unfolding validated does_flow is_subset
 rule_17_before_18 = refl
 
 rule_18 : validated (whole (printer (codes "P1") 5 1) [] 1 (record guest { pages = 16385 }) 1) ≡ Err (fault 18 0)
-unfolding validated does_flow is_subset mounts_hold
+unfolding validated does_flow is_subset
 rule_18 = refl
 
 most_pages : validated (whole (printer (codes "P1") 5 1) [] 1 (record guest { pages = 16384 }) 1) ≡ Ok tt
-unfolding validated does_flow is_subset mounts_hold
+unfolding validated does_flow is_subset
 most_pages = refl

@@ -1,5 +1,5 @@
 -- The keys at the top, and the lists below them.
-use Rattle.std.specs.Prelude.{ℕ, suc, ℤ, pos, List, [], ◌∷◌, codes, Bool, true, false, ◌&&◌, nat_le, if◌then◌else◌, Option, Some, None, int_le, option_map}
+use Rattle.std.specs.Prelude.{ℕ, suc, ℤ, pos, List, [], ◌∷◌, codes, Bool, true, false, ◌&&◌, nat_le, if◌then◌else◌, Option, Some, None, int_le, option_map, unwrap_or}
 use Rattle.toml.specs.Data.{Data, Items, no_items, item, Members, as_array, as_table}
 use Rattle.toml.specs.Text.{are_tables}
 use Rattle.sys_config.specs.Reads.{◌>>=◌, in_range, integer_at, if_any, are_known}
@@ -42,10 +42,6 @@ quantum_of false None = None
 quantum_of false (Some z) = option_map Some (in_range 1 100000 z)
 
 -- what the version allows, which is known by the quantum: version 1 alone has one for all guests
-abbrev pub most_slice : Option ℕ → ℕ
-most_slice None = 100000
-most_slice (Some q) = q
-
 abbrev pub top_level : Option ℕ → ℕ
 top_level None = 255
 top_level (Some q) = 15
@@ -62,10 +58,6 @@ count_of (item d ds) = suc (count_of ds)
 abbrev pub tables_in : ℕ → Data → Option Items
 tables_in most d = as_array d >>= (λ ds. if are_tables ds && nat_le (count_of ds) most then Some ds else None)
 
-abbrev pub items_if_any : Option Items → Items
-items_if_any None = no_items
-items_if_any (Some ds) = ds
-
 -- the tables of a list, and none where the key is absent
 unfoldable pub tables_at : List ℕ → ℕ → Members → Option Items
-tables_at key most t = option_map items_if_any (if_any (tables_in most) key t)
+tables_at key most t = option_map (λ ds. unwrap_or ds no_items) (if_any (tables_in most) key t)

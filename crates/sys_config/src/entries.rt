@@ -1,6 +1,7 @@
-ghost use Rattle.std.specs.Prelude.{◌≡◌};
+ghost use Rattle.std.specs.Prelude.{◌≡◌, option_and_then};
 ghost use Rattle.toml.specs.View.{table_view};
-ghost use Rattle.sys_config.specs.Entries.{class_in, name_at, class_at, line_number_at, named_line_of, audit_row_in};
+ghost use Rattle.vv_class.specs.Text.{class_in};
+ghost use Rattle.sys_config.specs.Entries.{low_enough, name_at, class_at, line_number_at, named_line_of, audit_row_in};
 
 use crate::lists::Reader;
 use crate::reads::{are_known, number_at, text_at};
@@ -10,7 +11,7 @@ use vv_base::{Name, object_name};
 use vv_class::{AccessClass, read_class};
 
 fn class_in(top: u8, text: &[u8]) -> Option<AccessClass>
-    ensures { result ≡ class_in top text.now }
+    ensures { result ≡ option_and_then (low_enough top) (class_in text.now) }
 {
     match read_class(text) {
         Ok(class) => {

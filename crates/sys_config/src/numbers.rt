@@ -1,7 +1,7 @@
-ghost use Rattle.std.specs.Prelude.{◌≡◌, ◌≤◌};
+ghost use Rattle.std.specs.Prelude.{◌≡◌, ◌≤◌, unwrap_or};
 ghost use Rattle.toml.specs.View.{table_view};
 ghost use Rattle.sys_objects.specs.Faults.{IsConfigAnswer};
-ghost use Rattle.sys_config.specs.Top.{is_two, quantum_of, most_slice, top_level, most_guests};
+ghost use Rattle.sys_config.specs.Top.{is_two, quantum_of, top_level, most_guests};
 ghost use Rattle.sys_config.specs.Config.{numbers_of};
 
 use crate::ConfigError;
@@ -45,7 +45,7 @@ fn quantum_of(two: bool, quantum: Option<i64>) -> Option<Option<u32>>
 }
 
 fn most_slice(quantum: Option<u32>) -> u32
-    ensures { result ≡ most_slice quantum }
+    ensures { result ≡ unwrap_or quantum 100000 }
 {
     match quantum {
         Some(q) => q,

@@ -2,7 +2,7 @@
 use Rattle.std.specs.Prelude.{ℕ, ◌≡◌, List, [], slice_index_or, Bool, true, false, if◌then◌else◌, Option}
 use Rattle.vv_io.specs.Lines.{Seen, unseen}
 use Rattle.sys_devices.specs.ShownSince.{ShownSince}
-use Rattle.sys_state.specs.Places.{is_at}
+use Rattle.sys_objects.specs.Places.{is_at}
 
 -- A marked line is as before, and stays marked. An unmarked one shows all the bytes, or is marked now: it shows a front of them,
 -- and its count rose.

@@ -6,7 +6,7 @@ use Rattle.vv_io.specs.Lines.{Seen}
 use Rattle.vm_guest.specs.Kept.{Kept}
 use Rattle.sys_events.proofs.Lists.{get_past, all_get}
 use Rattle.sys_events.proofs.Telling.{parts, told_then}
-use Rattle.sys_events.specs.Saying.{answers, audits, one_put, puts_on, runs, show_lines}
+use Rattle.sys_events.specs.Saying.{answers, audits, one_put, puts_on, runs, show_lines, taken_puts, taken_notice}
 use Rattle.sys_devices.proofs.Showings.{shows_none, shows_same}
 use Rattle.sys_devices.specs.Shows.{Shows, only_on}
 use Rattle.sys_objects.specs.Condition.{IsTerminal}
@@ -18,7 +18,7 @@ use Rattle.sys_objects.specs.declared.records.Terminal.{Terminal}
 use Rattle.sys_objects.specs.declared.records.VolumeRow.{VolumeRow}
 use Rattle.sys_events.proofs.Telling.{one_told}
 use Rattle.sys_audit.specs.Audit.{audit_record}
-use Rattle.sys_state.specs.Events.{audit_puts, said_on, taken_notice, taken_puts}
+use Rattle.sys_state.specs.Events.{audit_puts, said_on}
 use Rattle.sys_state.specs.State.{Put, bytes_on}
 use Rattle.sys_server.specs.Replies.{guest_lines, printer_line, reply_of, taken_text, volume_line}
 use Rattle.sys_server.specs.declared.command.Verdict.{Verdict}

@@ -15,7 +15,8 @@ use Rattle.sys_objects.specs.declared.records.Mount.{Mount as Mounted}
 use Rattle.sys_objects.specs.declared.records.Terminal.{Terminal}
 use Rattle.sys_objects.specs.declared.records.VolumeRow.{VolumeRow}
 use Rattle.sys_state.proofs.Places.{both}
-use Rattle.sys_server.specs.Apply.{HasPlaces, applied, freed, is_guest, taken, with_mount}
+use Rattle.sys_server.specs.Apply.{HasPlaces, applied, freed, taken, with_mount}
+use Rattle.sys_objects.specs.Places.{is_at}
 use Rattle.sys_server.specs.CommandLine.{asked_in}
 use Rattle.sys_server.specs.Verdict.{judged, judged_at, judged_line, mount_at, on_dismount, on_guest, on_mount, on_row, on_rows, unless_empty, verdict_of, visible_guest_place, visible_volume_place}
 use Rattle.sys_server.specs.declared.command.Asked.{Asked}
@@ -124,15 +125,15 @@ module _ (c : Config) where
     same_verdict n text = same_at (slice_get c.terminals n) text
 
     -- no terminal beyond those that exist has a guest
-    none_beyond : IsServer c s → (n : ℕ) → n < length c.terminals → (g k : ℕ) (d : Option ℕ) → k < length (drop (length c.terminals) (slice_set s.at n None)) → is_guest g (slice_index_or (drop (length c.terminals) (slice_set s.at n None)) k d) ≡ false
+    none_beyond : IsServer c s → (n : ℕ) → n < length c.terminals → (g k : ℕ) (d : Option ℕ) → k < length (drop (length c.terminals) (slice_set s.at n None)) → is_at g (slice_index_or (drop (length c.terminals) (slice_set s.at n None)) k d) ≡ false
     none_beyond h n there g k d within =
         let same : drop (length c.terminals) (slice_set s.at n None) ≡ drop (length c.terminals) s.at = drop-set-lt (length c.terminals) s.at n None there in
         let none = subst (λ (os : List (Option ℕ)). All (λ o. o ≡ None) os) (sym same) h.beyond in
-        ap (is_guest g) (none k d within)
+        ap (is_at g) (none k d within)
 
-    taken_seat : IsServer c s → (n : ℕ) → n < length c.terminals → (g : ℕ) → position (is_guest g) (slice_set (take (length c.terminals) s.at) n None) ≡ position (is_guest g) (slice_set s.at n None)
+    taken_seat : IsServer c s → (n : ℕ) → n < length c.terminals → (g : ℕ) → position (is_at g) (slice_set (take (length c.terminals) s.at) n None) ≡ position (is_at g) (slice_set s.at n None)
     taken_seat h n there g =
-        ap (position (is_guest g)) (sym (take_set (length c.terminals) s.at n None)) ∙ first_in_front (is_guest g) (length c.terminals) (slice_set s.at n None) (none_beyond h n there g)
+        ap (position (is_at g)) (sym (take_set (length c.terminals) s.at n None)) ∙ first_in_front (is_at g) (length c.terminals) (slice_set s.at n None) (none_beyond h n there g)
 
     same_taken : IsServer c s → (n : ℕ) → n < length c.terminals → (command : Command) → taken (seated c s running) n command ≡ taken s n command
     unfolding taken
@@ -160,7 +161,7 @@ module _ (c : Config) where
     same_consoles n (to_.Dismount g unit) = refl
     same_consoles n to_.Show = refl
 
-    mounted : (g unit : ℕ) (mount : Option Mounted) → g < length c.guests → take (length c.guests) (with_mount s g unit mount).mounts ≡ (with_mount (seated c s running) g unit mount).mounts
+    mounted : (g unit : ℕ) (mount : Option Mounted) → g < length c.guests → take (length c.guests) (with_mount s.mounts g unit mount) ≡ with_mount (seated c s running).mounts g unit mount
     mounted g unit mount there =
         take_set (length c.guests) s.mounts g (slice_set (slice_index_or s.mounts g []) unit mount)
         ∙ ap (λ (ms : List (Option Mounted)). slice_set (take (length c.guests) s.mounts) g (slice_set ms unit mount)) (sym (same_mounts g there))
@@ -176,7 +177,7 @@ module _ (c : Config) where
 
   -- it stays a server
   freed_names : (g : ℕ) (o : Option ℕ) → IfSome o (λ k. k < length c.guests) → IfSome (freed g o) (λ k. k < length c.guests)
-  freed_names g o h = both (is_guest g o) (λ e. rw e tt) (λ e. rw e h)
+  freed_names g o h = both (is_at g o) (λ e. rw e tt) (λ e. rw e h)
 
   freed_none : (g : ℕ) (o : Option ℕ) → o ≡ None → freed g o ≡ None
   freed_none g o e = ap (freed g) e
@@ -209,7 +210,7 @@ module _ (c : Config) where
     mounted = All-set (λ (m : Option Mounted). IfSome m (λ (n : Mounted). n.volume < length c.volumes)) ms unit m one are.mounted;
   }
 
-  mount_set : (s : ServerState) (g unit : ℕ) (m : Option Mounted) → g < 16 → IfSome m (λ n. n.volume < length c.volumes) → IsServer c s → IsServer c (with_mount s g unit m)
+  mount_set : (s : ServerState) (g unit : ℕ) (m : Option Mounted) → g < 16 → IfSome m (λ n. n.volume < length c.volumes) → IsServer c s → IsServer c (record s { mounts = with_mount s.mounts g unit m })
   mount_set s g unit m there one h =
       let units : List (Option Mounted) = slice_index_or s.mounts g [] in
       let within : g < length s.mounts = omega (arith, there, h.guests) in

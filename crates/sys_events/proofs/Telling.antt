@@ -17,7 +17,7 @@ use Rattle.sys_objects.specs.declared.records.Terminal.{Terminal}
 use Rattle.sys_state.proofs.Consoles.{bytes_append, bytes_of_console}
 use Rattle.sys_state.proofs.Places.{both}
 use Rattle.sys_state.specs.Consoles.{console_of, on_console}
-use Rattle.sys_state.specs.Places.{is_at}
+use Rattle.sys_objects.specs.Places.{is_at}
 use Rattle.sys_state.specs.State.{Put, bytes_on, is_running}
 use Rattle.sys_server.specs.Replies.{guest_lines}
 

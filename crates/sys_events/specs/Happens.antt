@@ -6,7 +6,8 @@ use Rattle.sys_guests.specs.Kernel.{IsKernel, Leads, kernel_state}
 use Rattle.sys_guests.specs.declared.kernel.Kernel.{Kernel}
 use Rattle.sys_objects.specs.declared.records.Config.{Config}
 use Rattle.sys_objects.specs.declared.records.Terminal.{Terminal}
-use Rattle.sys_state.specs.Events.{after_verdict, at_row, commanded, events, guests_by, happened, puts_before, stop_puts}
+use Rattle.sys_state.specs.Events.{after_verdict, at_row, commanded, events, happened, message_of, reset_by}
+use Rattle.sys_state.specs.Consoles.{console_of, on_console}
 use Rattle.sys_state.specs.FirstTouches.{typing_starts}
 use Rattle.sys_state.specs.Guests.{stopped_by_command, typed}
 use Rattle.sys_state.specs.Places.{changed}
@@ -16,8 +17,10 @@ use Rattle.sys_script.specs.declared.event.Typed.TheVariants.{Break, Line}
 use Rattle.sys_server.specs.Apply.{applied}
 use Rattle.sys_server.specs.Verdict.{verdict_of}
 use Rattle.sys_server.specs.declared.command.Command.{Command}
+use Rattle.sys_server.specs.declared.command.Command.TheVariants.{Start, Halt}
 use Rattle.sys_server.specs.declared.command.Verdict.{Verdict}
 use Rattle.sys_server.specs.declared.command.Verdict.TheVariants.{Granted}
+use Rattle.vm_state.specs.State.{Guest}
 
 -- it leads to what f makes of the state
 abbrev pub Does : (f : SystemState → Went SystemState) (m : Machine) (k : Kernel) (lines : List Seen) (m' : Machine) (k' : Kernel) (lines' : List Seen) → Type 0
@@ -57,18 +60,29 @@ asked_at_row c round n text s (Some t) = commanded c round s n t text (verdict_o
 abbrev pub asked_at : Config → ℕ → ℕ → List ℕ → SystemState → Went SystemState
 asked_at c round n text s = asked_at_row c round n text s (slice_get c.terminals n)
 
+-- what a granted command makes of the guests; only START and HALT do
+abbrev pub guests_by : Config → Command → List Guest → List Guest
+guests_by c (Start g) gs = changed (reset_by (slice_get c.guests g)) gs g
+guests_by c (Halt g) gs = changed stopped_by_command gs g
+guests_by c command gs = gs
+
+-- what a verdict makes of consoles, mounts and guests
+abbrev pub state_after : Config → ℕ → Verdict → SystemState → SystemState
+state_after c n (Granted command) s = record s { connected = (applied (server_of s) n command).at; mounts = (applied (server_of s) n command).mounts; guests = guests_by c command s.guests }
+state_after c n refused s = s
+
 -- what is shown before the reply
-abbrev pub shown_before : Config → SystemState → Option Terminal → Verdict → List Put
-shown_before c s None v = []
-shown_before c s (Some t) v = puts_before c s t v
+abbrev pub shown_before : Config → SystemState → ℕ → Option Terminal → Verdict → List Put
+shown_before c s n None v = []
+shown_before c s n (Some t) v = (after_verdict c s n t v).before
 
 -- a verdict is carried out, up to its reply
 abbrev pub verdict_carried_out : Config → ℕ → Verdict → SystemState → Went SystemState
-verdict_carried_out c n v s = record { now = after_verdict c s n v; puts = shown_before c s (slice_get c.terminals n) v }
+verdict_carried_out c n v s = record { now = state_after c n v s; puts = shown_before c s n (slice_get c.terminals n) v }
 
 -- what a granted command makes of the guests, with what is shown before the reply
 abbrev pub guests_obeyed : Config → ℕ → Command → SystemState → Went SystemState
-guests_obeyed c n command s = record { now = record s { guests = guests_by c command s.guests }; puts = shown_before c s (slice_get c.terminals n) (Granted command) }
+guests_obeyed c n command s = record { now = record s { guests = guests_by c command s.guests }; puts = shown_before c s n (slice_get c.terminals n) (Granted command) }
 
 -- what it makes of consoles and mounts
 abbrev pub server_obeyed : ℕ → Command → SystemState → Went SystemState
@@ -79,4 +93,4 @@ abbrev pub guest_typed : ℕ → List ℕ → SystemState → Went SystemState
 guest_typed g text s = record { now = record s { guests = changed (typed text) s.guests g }; puts = [] }
 
 abbrev pub guest_halted : Config → ℕ → SystemState → Went SystemState
-guest_halted c g s = record { now = record s { guests = changed stopped_by_command s.guests g }; puts = stop_puts c s g }
+guest_halted c g s = record { now = record s { guests = changed stopped_by_command s.guests g }; puts = on_console (console_of c.terminals s.connected g) (message_of (slice_get s.guests g)) }

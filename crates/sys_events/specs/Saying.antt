@@ -1,13 +1,13 @@
 -- What is put on lines while a command is answered.
-use Rattle.std.specs.Prelude.{ℕ, List, [], ◌∷◌, ◌++◌, codes, map, Bool, not, is_some, Option, Some, None, if◌then◌else◌}
+use Rattle.std.specs.Prelude.{ℕ, List, [], ◌∷◌, ◌++◌, codes, map, Bool, not, is_some, Option, Some, None, slice_get, if◌then◌else◌}
 use Rattle.vv_class.specs.declared.class.AccessClass.{AccessClass}
 use Rattle.vv_class.specs.Class.{does_flow}
 use Rattle.sys_objects.specs.declared.records.Config.{Config}
 use Rattle.sys_objects.specs.declared.records.GuestRow.{GuestRow}
 use Rattle.sys_objects.specs.declared.records.Terminal.{Terminal}
-use Rattle.sys_state.specs.Events.{audit_puts, said_on, taken_puts}
+use Rattle.sys_state.specs.Events.{audit_puts, said_on}
 use Rattle.sys_state.specs.State.{Put}
-use Rattle.sys_server.specs.Replies.{with_line_end, object_text, reply_of, running_text, shown_lines}
+use Rattle.sys_server.specs.Replies.{with_line_end, object_text, reply_of, running_text, shown_lines, taken_text}
 use Rattle.sys_server.specs.declared.command.Verdict.{Verdict}
 use Rattle.vm_guest.specs.Kept.{Kept}
 
@@ -33,6 +33,15 @@ guest_line class row is_running = if does_flow row.class class then guest_text r
 abbrev pub show_lines : Config → List Kept → Option Terminal → List Put
 show_lines c ks None = []
 show_lines c ks (Some t) = puts_on t.line (shown_lines c (record { at = []; mounts = []; running = map runs ks }) t.class)
+
+-- a terminal whose console was taken gets a notice
+abbrev pub taken_notice : Option Terminal → List Put
+taken_notice None = []
+taken_notice (Some k) = said_on k.line taken_text ∷ []
+
+abbrev pub taken_puts : Config → Option ℕ → List Put
+taken_puts c None = []
+taken_puts c (Some k) = taken_notice (slice_get c.terminals k)
 
 -- the reply at a terminal, and the notice at the one whose console was taken
 abbrev pub answers : Config → Option Terminal → Verdict → Option ℕ → List Put

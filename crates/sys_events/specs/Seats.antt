@@ -39,6 +39,4 @@ VerdictNames c (Denied rule) = Unit {0}
 -- the other terminal whose console a verdict takes
 abbrev pub took : ServerState → ℕ → Verdict → Option ℕ
 took s n (Granted command) = taken s n command
-took s n BadCommand = None
-took s n NoSuchObject = None
-took s n (Denied rule) = None
+took s n refused = None

@@ -1,8 +1,8 @@
 ghost use Rattle.std.specs.Prelude.{◌<◌, ◌≤◌, ◌∷◌, [], All, IfSome, length, slice_get};
-ghost use Rattle.sys_events.specs.Saying.{answers, audits};
+ghost use Rattle.sys_events.specs.Saying.{answers, audits, taken_puts};
 ghost use Rattle.sys_devices.specs.Shows.{Shows};
 ghost use Rattle.sys_objects.specs.Condition.{IsAudit, IsTerminal};
-ghost use Rattle.sys_state.specs.Events.{said_on, taken_puts};
+ghost use Rattle.sys_state.specs.Events.{said_on};
 ghost use Rattle.sys_state.specs.State.{bytes_on};
 
 use crate::consoles::terminal_at;

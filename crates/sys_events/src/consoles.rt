@@ -1,7 +1,8 @@
 ghost use Rattle.std.specs.Prelude.{◌≡◌, ◌<◌, ◌≤◌, Some, length, slice_get};
 ghost use Rattle.sys_state.specs.Consoles.{console_of};
 ghost use Rattle.sys_state.specs.Events.{is_named};
-ghost use Rattle.sys_state.specs.Places.{is_at, place_of};
+ghost use Rattle.sys_state.specs.Places.{place_of};
+ghost use Rattle.sys_objects.specs.Places.{is_at};
 
 use sys_objects::Terminal;
 use vv_base::Name;

@@ -15,28 +15,18 @@ use Rattle.sys_flow.specs.declared.layout.Spot.{Spot}
 abbrev pub attribute : List ℕ → ℕ → List ℕ
 attribute name n = codes " " ++ name ++ codes "=\"" ++ decimal n ++ codes "\""
 
-abbrev pub kind : Object → List ℕ
-kind (IsTerminalAt t) = codes "terminal"
-kind (IsVolumeAt v) = codes "volume"
-kind (IsPrinterAt p) = codes "printer"
-kind (IsGuestAt g) = codes "guest"
-kind IsTheAudit = codes "audit"
+-- an object's word, the color of its box, and the color of the arrows from it
+pub record DrawnAs : Type 0 where
+  pub kind : List ℕ
+  pub fill : List ℕ
+  pub ink : List ℕ
 
--- the color of a box
-abbrev pub fill : Object → List ℕ
-fill (IsTerminalAt t) = codes "#cfe2f7"
-fill (IsVolumeAt v) = codes "#d8ecd0"
-fill (IsPrinterAt p) = codes "#eadcf0"
-fill (IsGuestAt g) = codes "#fff2c4"
-fill IsTheAudit = codes "#ffffff"
-
--- the color of the arrows from an object
-abbrev pub ink : Object → List ℕ
-ink (IsTerminalAt t) = codes "#1f5fa8"
-ink (IsVolumeAt v) = codes "#3a7d2c"
-ink (IsPrinterAt p) = codes "#000000"
-ink (IsGuestAt g) = codes "#b07a00"
-ink IsTheAudit = codes "#000000"
+abbrev pub drawn_as : Object → DrawnAs
+drawn_as (IsTerminalAt t) = record { kind = codes "terminal"; fill = codes "#cfe2f7"; ink = codes "#1f5fa8" }
+drawn_as (IsVolumeAt v) = record { kind = codes "volume"; fill = codes "#d8ecd0"; ink = codes "#3a7d2c" }
+drawn_as (IsPrinterAt p) = record { kind = codes "printer"; fill = codes "#eadcf0"; ink = codes "#000000" }
+drawn_as (IsGuestAt g) = record { kind = codes "guest"; fill = codes "#fff2c4"; ink = codes "#b07a00" }
+drawn_as IsTheAudit = record { kind = codes "audit"; fill = codes "#ffffff"; ink = codes "#000000" }
 
 abbrev pub by_number : Config → (Object → List ℕ) → ℕ → List ℕ
 by_number c words a = option_map_or words (slice_get (all_objects c) a) []
@@ -86,18 +76,15 @@ unfoldable pub head : ℕ → ℕ → List ℕ
 head width height =
     document_opening ++ attribute (codes "width") width ++ attribute (codes "height") height ++ style ++ marker
 
-abbrev pub nowhere : Spot
-nowhere = record { x = 0; y = 0 }
-
 -- the spot of the object of a number
 abbrev pub spot_at : List Spot → ℕ → Spot
-spot_at spots a = unwrap_or (slice_get spots a) nowhere
+spot_at spots a = unwrap_or (slice_get spots a) (record { x = 0; y = 0 })
 
 abbrev pub box_of : Config → ℕ → List Spot → ℕ → List ℕ
-box_of c n spots a = whole_box n (spot_at spots a) (by_number c fill a) (by_number c kind a) (name_of c a) (class_text (object_class_at c a))
+box_of c n spots a = whole_box n (spot_at spots a) (by_number c (λ o. (drawn_as o).fill) a) (by_number c (λ o. (drawn_as o).kind) a) (name_of c a) (class_text (object_class_at c a))
 
 abbrev pub arrow_of : Config → ℕ → List Spot → ℕ × ℕ → List ℕ
-arrow_of c n spots edge = arrow n (spot_at spots edge.0) (spot_at spots edge.1) (by_number c ink edge.0)
+arrow_of c n spots edge = arrow n (spot_at spots edge.0) (spot_at spots edge.1) (by_number c (λ o. (drawn_as o).ink) edge.0)
 
 -- the edges
 abbrev pub edge_to : ℕ → ℕ → ℕ × ℕ

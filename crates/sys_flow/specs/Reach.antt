@@ -1,6 +1,7 @@
 -- Which object's inputs may reach which object: by terminals, mounts, printers and the audit. Objects are numbered
 -- in the order terminals, volumes, printers, guests, and then the audit.
-use Rattle.std.specs.Prelude.{ℕ, suc, ◌≡◌, ◌==◌, ◌&&◌, ◌||◌, Bool, true, false, List, [], ◌∷◌, ◌++◌, Option, Some, None, slice_get}
+use Rattle.std.specs.Option.{option_map_or}
+use Rattle.std.specs.Prelude.{ℕ, suc, ◌≡◌, ◌==◌, ◌&&◌, ◌||◌, Bool, true, false, List, [], ◌∷◌, ◌++◌, Option, Some, slice_get}
 use Rattle.std.specs.List.{list_any}
 use Rattle.vv_class.specs.Class.{does_flow}
 use Rattle.vv_class.specs.declared.class.AccessClass.{AccessClass}
@@ -22,8 +23,7 @@ numbered_from object k [] = []
 numbered_from object k (x ∷ xs) = object k ∷ numbered_from object (suc k) xs
 
 abbrev pub audit_object : Option Audit → List Object
-audit_object None = []
-audit_object (Some a) = IsTheAudit ∷ []
+audit_object audit = option_map_or (λ a. IsTheAudit ∷ []) audit []
 
 abbrev pub all_objects : Config → List Object
 all_objects c =
@@ -36,12 +36,10 @@ has_terminal c class = list_any (λ t. same_class t.class class) c.terminals
 
 -- a mount of the volume, for any use or for writing
 abbrev pub is_mount_of : ℕ → Option Mount → Bool
-is_mount_of v None = false
-is_mount_of v (Some m) = m.volume == v
+is_mount_of v mount = option_map_or (λ m. m.volume == v) mount false
 
 abbrev pub is_written_mount_of : ℕ → Option Mount → Bool
-is_written_mount_of v None = false
-is_written_mount_of v (Some m) = m.write && m.volume == v
+is_written_mount_of v mount = option_map_or (λ m. m.write && m.volume == v) mount false
 
 abbrev pub meets : Option Terminal → Option GuestRow → Bool
 meets (Some t) (Some g) = same_class g.class t.class
@@ -52,12 +50,10 @@ shows_on (Some g) (Some t) = does_flow g.class t.class
 shows_on _ _ = false
 
 abbrev pub is_place : ℕ → Option ℕ → Bool
-is_place k None = false
-is_place k (Some n) = n == k
+is_place k place = option_map_or (λ n. n == k) place false
 
 abbrev pub prints_on : Option GuestRow → ℕ → Bool
-prints_on None p = false
-prints_on (Some g) p = is_place p g.printer
+prints_on guest p = option_map_or (λ g. is_place p g.printer) guest false
 
 abbrev pub is_read_by : Config → ℕ → Option VolumeRow → Option GuestRow → Bool
 is_read_by c v (Some row) (Some g) = list_any (is_mount_of v) g.mounts || does_flow row.class g.class && has_terminal c g.class

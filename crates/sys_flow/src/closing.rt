@@ -1,6 +1,7 @@
+ghost use Rattle.vv_base.specs.Bits.{is_set};
 ghost use Rattle.std.specs.Prelude.{◌≡◌, ◌<◌, ◌≤◌, ◌&&◌, ◌||◌, ℕ, length};
 ghost use Rattle.sys_flow.specs.Reach.{all_objects, has_edge};
-ghost use Rattle.sys_flow.specs.Relation.{IsReach, has_bit, reads};
+ghost use Rattle.sys_flow.specs.Relation.{IsReach, reads};
 ghost use Rattle.sys_objects.specs.Condition.{IsConfig};
 
 use crate::edges::edge;
@@ -13,7 +14,7 @@ use sys_objects::Config;
 fn row(c: &Config, a: u8, objects: u8) -> u128
     requires few { objects ≤ 97 }
     requires all { objects ≡ length (all_objects c.now) }
-    ensures { (b : ℕ) → has_bit result b ≡ has_edge c.now a b }
+    ensures { (b : ℕ) → is_set result b ≡ has_edge c.now a b }
 {
     let mut row = 0u128;
     for b in 0..objects {

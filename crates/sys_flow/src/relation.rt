@@ -1,5 +1,6 @@
+ghost use Rattle.vv_base.specs.Bits.{is_set};
 ghost use Rattle.std.specs.Prelude.{◌≡◌, ◌<◌, length};
-ghost use Rattle.sys_flow.specs.Relation.{has_bit, reads};
+ghost use Rattle.sys_flow.specs.Relation.{reads};
 
 use arrayvec::ArrayVec;
 use std::marker::Model;
@@ -21,7 +22,7 @@ impl Model for Reach {
 
 pub fn has_bit(row: u128, k: u8) -> bool
     requires { k < 128 }
-    ensures { result ≡ has_bit row k }
+    ensures { result ≡ is_set row k }
 {
     row >> u32::from(k) & 1 == 1
 }

@@ -1,6 +1,6 @@
 ghost use Rattle.std.specs.Prelude.{◌≡◌, ◌≤◌, ◌+◌, ◌*◌, ◌++◌, IfOk, OnOk, map};
 ghost use Rattle.sys_flow.specs.Layout.{letters};
-ghost use Rattle.sys_flow.specs.Picture.{arrow_of, arrows, box_of, boxes, by_number, drawing_of, edge_to, edges_from, fill, ink, joined, kind, picture, spot_at, start};
+ghost use Rattle.sys_flow.specs.Picture.{arrow_of, arrows, box_of, boxes, by_number, drawing_of, edge_to, edges_from, joined, picture, spot_at, start, drawn_as};
 ghost use Rattle.sys_flow.specs.Objects.{object_of};
 ghost use Rattle.sys_objects.specs.Condition.{IsConfig};
 
@@ -15,7 +15,7 @@ use vv_base::NoMemory;
 use vv_class::write_class;
 
 fn kind(place: Place) -> &'static [u8]
-    ensures { result.now ≡ kind (object_of place) }
+    ensures { result.now ≡ (drawn_as (object_of place)).kind }
 {
     match place {
         Place::Terminal(_) => b"terminal",
@@ -27,7 +27,7 @@ fn kind(place: Place) -> &'static [u8]
 }
 
 fn fill(place: Place) -> &'static [u8]
-    ensures { result.now ≡ fill (object_of place) }
+    ensures { result.now ≡ (drawn_as (object_of place)).fill }
 {
     match place {
         Place::Terminal(_) => b"#cfe2f7",
@@ -39,7 +39,7 @@ fn fill(place: Place) -> &'static [u8]
 }
 
 fn ink(place: Place) -> &'static [u8]
-    ensures { result.now ≡ ink (object_of place) }
+    ensures { result.now ≡ (drawn_as (object_of place)).ink }
 {
     match place {
         Place::Terminal(_) => b"#1f5fa8",
@@ -51,7 +51,7 @@ fn ink(place: Place) -> &'static [u8]
 }
 
 fn kind_of(c: &Config, number: u8) -> &'static [u8]
-    ensures { result.now ≡ by_number c.now kind number }
+    ensures { result.now ≡ by_number c.now (λ o. (drawn_as o).kind) number }
 {
     match object_at(c, usize::from(number)) {
         Some(place) => kind(place),
@@ -60,7 +60,7 @@ fn kind_of(c: &Config, number: u8) -> &'static [u8]
 }
 
 fn fill_of(c: &Config, number: u8) -> &'static [u8]
-    ensures { result.now ≡ by_number c.now fill number }
+    ensures { result.now ≡ by_number c.now (λ o. (drawn_as o).fill) number }
 {
     match object_at(c, usize::from(number)) {
         Some(place) => fill(place),
@@ -69,7 +69,7 @@ fn fill_of(c: &Config, number: u8) -> &'static [u8]
 }
 
 fn ink_of(c: &Config, number: u8) -> &'static [u8]
-    ensures { result.now ≡ by_number c.now ink number }
+    ensures { result.now ≡ by_number c.now (λ o. (drawn_as o).ink) number }
 {
     match object_at(c, usize::from(number)) {
         Some(place) => ink(place),

@@ -1,5 +1,6 @@
 -- A run whose events were typed, after power went down.
 use Rattle.std.proofs.Common.{ℕ, zero, suc, ◌≡◌, ◌≢◌, ◌<◌, ◌≤◌, ◌+◌, List, [], ◌∷◌, ◌++◌, length, map, slice_index_or, refl, sym, ◌∙◌, ap, subst, arith, append_assoc, length-append, All, Bool, false, Option, Some, None, ◌==◌}
+use Rattle.sys_runs.specs.Besides.{MissesArePaid}
 use Rattle.std.proofs.Math.ListN.{get_or-append}
 use Rattle.std.proofs.lemmas.Bool.{ne_eqb}
 use Rattle.std.proofs.lemmas.List.{get_or-append-add, get_or_default, length-map}
@@ -23,7 +24,7 @@ use Rattle.sys_objects.specs.declared.records.Terminal.{Terminal}
 use Rattle.sys_state.specs.Bytes.{dump_on}
 use Rattle.sys_state.specs.FirstTouches.{none_touched}
 use Rattle.sys_state.specs.Run.{Input, Moment, first_moment}
-use Rattle.sys_runs.proofs.Whole.{run_made}
+use Rattle.sys_runs.proofs.Whole.{made_at_once}
 use Rattle.sys_runs.specs.Ran.{RunOutside}
 use Rattle.sys_runs.specs.declared.running.Ran.{Ran}
 use Rattle.sys_script.specs.Typed.{MeansTyped, events_typed, rounds_typed}
@@ -110,7 +111,7 @@ module _ (c : Config) (accepted : IsConfig c) (marks marks' : List Bool) (lines 
 pub run_lived : (c : Config) (images : List (List ℕ)) (most : ℕ) (went : Went) (ran : Ran) (rounds : ℕ) (p : Operator) (out out' : Seen) (m0 m1 m2 : Machine) (s0 s1 s2 : System) (lines lines1 lines2 : List Seen) (drives drives1 drives2 : List SeenDrive) → IsConfig c → (power : HasPower c images drives drives1 m1 s0) → MemoryAlone m0 m1
     → (t : MakesTyped most went p out out' m1 s0 lines m2 s1 lines1) → PowersDown m2 s1 lines1 drives1 s2 lines2 drives2 → HavePresent s0.guests (map none_touched (guests_in m1.memory s0.guests)) → IsSystem s1 → ran.counts ≡ s2.counts → ran.failed ≡ first_failed s2.marks s2.drives
     → length lines2 ≡ length lines → length drives2 ≡ length drives → rounds ≡ s1.rounds → most ≤ 1000000 → MeansTyped
-    → Lives (record { config = c; images = images; volumes = power.volumes; events = events_typed 1 t.typed; rounds = rounds_typed false t.typed }) most (record { ran = ran; rounds = rounds; is_cut = went.is_cut; typing = went.typing })
+    → Lives MissesArePaid (record { config = c; images = images; volumes = power.volumes; events = events_typed 1 t.typed; rounds = rounds_typed false t.typed }) most (record { ran = ran; rounds = rounds; is_cut = went.is_cut; typing = went.typing })
     (record { machine = m0; machine' = m2; lines = lines; lines' = lines2; drives = drives; drives' = drives2 }) p out out'
 run_lived c images most went ran rounds p out out' m0 m1 m2 s0 s1 s2 lines lines1 lines2 drives drives1 drives2 accepted power alone t down present holds counts failed lines_size drives_size made few law =
     let es : List Event = events_typed 1 t.typed in
@@ -124,7 +125,7 @@ run_lived c images most went ran rounds p out out' m0 m1 m2 s0 s1 s2 lines lines
     let gs : List Guest = guests_in m2.memory s1.guests in
     let dumps : Shows s1.marks s2.marks lines1 lines2 (λ k. dump_on k c.guests gs) = subst (λ (y : Config). Shows s1.marks s2.marks lines1 lines2 (λ k. dump_on k y.guests gs)) config1 down.shows in
     record {
-      makes = run_made c images es n m0 m1 m2 s0 s1 s2 lines lines1 lines2 drives drives1 drives2 accepted power alone t.makes down present ran holds counts failed lines_size drives_size;
+      makes = made_at_once c images m1 s0 drives drives1 power es n m0 m2 s1 s2 lines lines1 lines2 drives2 accepted alone t.makes down present ran holds counts failed lines_size drives_size;
       typed = t.typed;
       ends = t.ends;
       events = refl;
@@ -144,5 +145,5 @@ run_lived c images most went ran rounds p out out' m0 m1 m2 s0 s1 s2 lines lines
     }
 
 -- its steps are few
-pub few_steps : (x : Input) (most : ℕ) (lived : Lived) (o : RunOutside) (p : Operator) (out out' : Seen) → Lives x most lived o p out out' → most ≤ 1000000 → steps_in lived.ran.counts ≤ 3200000000000
+pub few_steps : (x : Input) (most : ℕ) (lived : Lived) (o : RunOutside) (p : Operator) (out out' : Seen) → Lives MissesArePaid x most lived o p out out' → most ≤ 1000000 → steps_in lived.ran.counts ≤ 3200000000000
 few_steps x most lived o p out out' l few = omega (arith, l.makes.makes.few, l.few, few)

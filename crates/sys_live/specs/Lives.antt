@@ -1,5 +1,6 @@
 -- A run whose events are typed while it goes on.
 use Rattle.std.specs.Prelude.{ℕ, ◌≡◌, ◌≤◌, List, All, Bool, false, slice_index_or, Result, Ok, Err}
+use Rattle.sys_runs.specs.Besides.{Besides}
 use Rattle.vv_io.specs.Lines.{Seen, unseen}
 use Rattle.sys_devices.specs.Rounds.{echo_rounds}
 use Rattle.sys_devices.specs.Screens.{IsLineKnown, more_on}
@@ -22,8 +23,8 @@ AreSeen terminals lines = All (λ t. IsLineKnown (slice_index_or lines t.line un
 -- The run was made whose script stands for the lines that were typed, of as many rounds as they make: `MakesRun` says so of it,
 -- as of a run with that script. The reports say why lines say no event, whole or cut. After each round is shown what its
 -- terminals' lines took in it, where that is known, whole or cut.
-pub record Lives (x : Input) (most : ℕ) (lived : Lived) (o : RunOutside) (p : Operator) (out out' : Seen) : Type 0 where
-  pub makes : MakesRun x lived.ran o
+pub record Lives (Also : Besides) (x : Input) (most : ℕ) (lived : Lived) (o : RunOutside) (p : Operator) (out out' : Seen) : Type 0 where
+  pub makes : MakesRun Also x lived.ran o
   -- the lines that were taken
   pub typed : List (List ℕ)
   pub ends : EndsTypedRun lived.typing most typed p.keys p.keys'
@@ -41,6 +42,6 @@ pub record Lives (x : Input) (most : ℕ) (lived : Lived) (o : RunOutside) (p : 
   pub exact : AreSeen x.config.terminals o.lines' → echoed ≡ echo_rounds (more_on o.lines o.lines') (opening x) x.events x.rounds
 
 -- such a run by its answer: it was made; or power doesn't come up, and nothing is taken, reported or shown
-abbrev pub LivesRun : Config → List (List ℕ) → ℕ → Result Lived PowerFault → RunOutside → Operator → Seen → Seen → Type 0
-LivesRun c images most (Ok lived) o p out out' = (x : Input) × (x.config ≡ c) × (x.images ≡ images) × Lives x most lived o p out out'
-LivesRun c images most (Err fault) o p out out' = StaysDown c images fault o × Untyped p × (out' ≡ out)
+abbrev pub LivesRun : Besides → Config → List (List ℕ) → ℕ → Result Lived PowerFault → RunOutside → Operator → Seen → Seen → Type 0
+LivesRun Also c images most (Ok lived) o p out out' = (x : Input) × (x.config ≡ c) × (x.images ≡ images) × Lives Also x most lived o p out out'
+LivesRun Also c images most (Err fault) o p out out' = StaysDown c images fault o × Untyped p × (out' ≡ out)

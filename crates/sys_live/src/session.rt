@@ -1,4 +1,5 @@
 ghost use Rattle.std.specs.Prelude.{◌≡◌, ◌<◌, ◌≤◌, ◌+◌, ◌*◌, All, IfOk, false, length, map, vec_len};
+ghost use Rattle.sys_runs.specs.Besides.{MissesArePaid};
 ghost use Rattle.sys_live.specs.Lives.{LivesRun};
 ghost use Rattle.sys_live.specs.Made.{GoesOnShowing, MakesTyped};
 ghost use Rattle.sys_runs.specs.Rounds.{MakesRounds};
@@ -133,7 +134,7 @@ pub fn live<H: Hardware, K: Keyboard, E: Sink, O: Sink, L: Lines>(
     requires few { most ≤ 1000000 }
     requires pages { length (H.machine machine.old).memory ≡ 512 * 32768 }
     requires drives { vec_len drives.old ≡ 16 }
-    ensures lives { LivesRun config (map (λ b. b.items) images.now) most result (record { machine = H.machine machine.old; machine' = H.machine machine.new; lines = L.lines lines.old; lines' = L.lines lines.new; drives = map (λ d. kept d) drives.old.items; drives' = map (λ d. kept d) drives.new.items }) (record { keys = K.keys keyboard.old; keys' = K.keys keyboard.new; errors = E.printed errors.old; errors' = E.printed errors.new }) (O.printed out.old) (O.printed out.new) }
+    ensures lives { LivesRun MissesArePaid config (map (λ b. b.items) images.now) most result (record { machine = H.machine machine.old; machine' = H.machine machine.new; lines = L.lines lines.old; lines' = L.lines lines.new; drives = map (λ d. kept d) drives.old.items; drives' = map (λ d. kept d) drives.new.items }) (record { keys = K.keys keyboard.old; keys' = K.keys keyboard.new; errors = E.printed errors.old; errors' = E.printed errors.new }) (O.printed out.old) (O.printed out.new) }
     ensures few { IfOk result (λ l. steps_in l.ran.counts ≤ 3200000000000) }
     ensures drives_len { vec_len drives.new ≡ vec_len drives.old }
 {

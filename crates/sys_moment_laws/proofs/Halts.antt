@@ -21,18 +21,19 @@ use Rattle.vax_table.specs.declared.act.Sens.TheVariants.{Chm, Halt, Ldpctx, Mfp
 use Rattle.vax_table.specs.declared.act.Trapped.{Trapped}
 use Rattle.vax_table.specs.declared.evaluation.Operands.{Operands}
 use Rattle.sys_moment_laws.specs.Halts.{StopsWithCodes}
-use Rattle.vm_state.specs.Contexts.{BlockPast, PopTrouble, Popped, Reserved, StackTrouble, Switched, Switches, after_pops, after_push, after_reads, control_block_long, is_block_past, is_block_reserved, loaded, loads_context, on_interrupt, saved, saves_context, two_popped}
+use Rattle.vm_state.specs.Contexts.{Popped, after_pops, after_push, after_reads, control_block_long, is_block_past, is_block_reserved, loaded, loads_context, on_interrupt, saved, saves_context, two_popped}
 use Rattle.vm_state.specs.Initiate.{Arrives, Attempt, Halts, Initiation, KernelStackBad, StackFaulty, Stops, Taken, after_walk, attempt, by_vector, in_its_place, initiate, initiated, is_bad_vector, longwords, new_mode, new_stack, vector_offset}
-use Rattle.vm_state.specs.Interrupts.{IntervalClock, Kcall, Receiver, Software, Source, Transmitter, after_interrupt_taken, due, interrupt_of}
+use Rattle.vm_state.specs.Interrupts.{IntervalClock, Kcall, Receiver, Software, Source, Transmitter, due, interrupt_of, source_row}
 use Rattle.vm_state.specs.Packets.{accepted}
 use Rattle.vm_state.specs.Probe.{Answers, NotValid, Probed, probe}
 use Rattle.vm_state.specs.Probe as probes
 use Rattle.vm_state.specs.Pushes.{Faulty, Homes, PastMemory, Walked, push_walked}
-use Rattle.vm_state.specs.Registers.{Value, Written, after_read, after_write, allows, read, read_or_refused, read_to, register_of, value_of, with_pointer, write_by, written}
+use Rattle.vm_state.specs.Registers.{Value, Written, after_read, allows, read, read_or_refused, read_to, register_of, register_row, with_pointer, write_by, written}
 use Rattle.vm_state.specs.Run.{after_step}
-use Rattle.vm_state.specs.Sensitive.{ClearAt, Does, Faults, LacksMemory, Sensed, StopsThere, after_register_read, change_mode, chm_walked, destination_walked, fault_of, guest_past_instruction, mfpr_by, mode_changed, mtpr_by, packet_taken, past_instruction, put_at, rei_by, sensed, switched, troubled, with_codes, with_register_effect}
+use Rattle.vm_state.specs.Sensed.{ClearAt, Does, Faults, LacksMemory, Sensed, StopsThere, fault_of, troubled}
+use Rattle.vm_state.specs.Sensitive.{after_register_read, change_mode, chm_walked, destination_walked, guest_past_instruction, mfpr_by, mode_changed, mtpr_by, packet_taken, past_instruction, put_at, rei_by, sensed, with_codes, with_register_effect}
 use Rattle.vm_state.specs.State.{Guest, State, mode_of_state, pointer_of, stack_in}
-use Rattle.vm_state.specs.Step.{Fault, Kind, Stepped, by_interrupt, by_try, clear_met, counted, did, executed, faulted, frames_stored, initiated_in, instruction_of, interrupted, probed_as, sensed_as, step, step_by, trapped_in, unless_waiting, with_effect}
+use Rattle.vm_state.specs.Step.{Fault, Kind, Stepped, by_try, clear_met, counted, did, executed, faulted, frames_stored, initiated_in, instruction_of, interrupted, probed_as, sensed_as, step, trapped_in, with_effect}
 use Rattle.vm_state.specs.Stops.{BadVector, ChangedMode, Commanded, Halted, InterruptStackBad, IsHalt, Stop, is_stop_code, stop_code}
 use Rattle.vm_state.specs.Stops as stops
 use Rattle.vm_state.specs.Translation.{is_clear, space_of, walk_of}
@@ -47,6 +48,7 @@ use Rattle.vm_state.specs.declared.transfer.Accept.{Accept}
 use Rattle.vm_state.specs.declared.transfer.Accept.TheVariants.{BadPacket, Busy, Queued}
 use Rattle.vm_state.specs.declared.walk.Walk.{Walk}
 use Rattle.vm_state.specs.declared.walk.Walk.TheVariants as walks
+use Rattle.vm_state.proofs.StepCases.{by_interrupt, step_by, unless_waiting}
 
 abbrev Fine : Guest → Type 0
 Fine g = IsHalt g.state.halt
@@ -177,38 +179,13 @@ effect_did g s (effects.Kcall packet) h = packet_did g s packet (accepted (lengt
 pointer_fine : (stack v : ℕ) (s : State) → IsHalt s.halt → IsHalt (with_pointer stack v s).halt
 pointer_fine stack v s h = cond_both (stack == stack_in s.psl) (record s { r = slice_set s.r 14 v }) (record s { stacks = slice_set s.stacks stack v }) (λ (x : State). IsHalt x.halt) (λ t. h) (λ t. h)
 
-write_fine : (register : Named) (v : ℕ) (s : State) → IsHalt s.halt → IsHalt (after_write register v s).halt
+write_fine : (register : Named) (v : ℕ) (s : State) → IsHalt s.halt → IsHalt ((register_row register).after_write v s).halt
 write_fine named.Ksp v s h = pointer_fine 0 v s h
 write_fine named.Esp v s h = pointer_fine 1 v s h
 write_fine named.Ssp v s h = pointer_fine 2 v s h
 write_fine named.Usp v s h = pointer_fine 3 v s h
 write_fine named.Isp v s h = pointer_fine 4 v s h
-write_fine named.P0br v s h = h
-write_fine named.P0lr v s h = h
-write_fine named.P1br v s h = h
-write_fine named.P1lr v s h = h
-write_fine named.Sbr v s h = h
-write_fine named.Slr v s h = h
-write_fine named.Pcbb v s h = h
-write_fine named.Scbb v s h = h
-write_fine named.Ipl v s h = h
-write_fine named.Astlvl v s h = h
-write_fine named.Sirr v s h = h
-write_fine named.Sisr v s h = h
-write_fine named.Iccs v s h = h
-write_fine named.Nicr v s h = h
-write_fine named.Icr v s h = h
-write_fine named.Rxcs v s h = h
-write_fine named.Rxdb v s h = h
-write_fine named.Txcs v s h = h
-write_fine named.Txdb v s h = h
-write_fine named.Mapen v s h = h
-write_fine named.Tbia v s h = h
-write_fine named.Tbis v s h = h
-write_fine named.Sid v s h = h
-write_fine named.Kcall v s h = h
-write_fine named.Memsize v s h = h
-write_fine named.Uptime v s h = h
+write_fine register v s h = h
 
 abbrev Wrote : Result Written ReservedOperand → Type 0
 Wrote (Ok w) = IsHalt w.state.halt
@@ -227,37 +204,8 @@ mtpr_did g v (Err refused) h = tt
 mtpr_did g v (Ok w) h = effect_did g (with_codes v w.state) w.effect h
 
 read_fine : (register : Named) (s : State) → IsHalt s.halt → IsHalt (after_read register s).halt
-read_fine named.Ksp s h = h
-read_fine named.Esp s h = h
-read_fine named.Ssp s h = h
-read_fine named.Usp s h = h
-read_fine named.Isp s h = h
-read_fine named.P0br s h = h
-read_fine named.P0lr s h = h
-read_fine named.P1br s h = h
-read_fine named.P1lr s h = h
-read_fine named.Sbr s h = h
-read_fine named.Slr s h = h
-read_fine named.Pcbb s h = h
-read_fine named.Scbb s h = h
-read_fine named.Ipl s h = h
-read_fine named.Astlvl s h = h
-read_fine named.Sirr s h = h
-read_fine named.Sisr s h = h
-read_fine named.Iccs s h = h
-read_fine named.Nicr s h = h
-read_fine named.Icr s h = h
-read_fine named.Rxcs s h = h
 read_fine named.Rxdb s h = h
-read_fine named.Txcs s h = h
-read_fine named.Txdb s h = h
-read_fine named.Mapen s h = h
-read_fine named.Tbia s h = h
-read_fine named.Tbis s h = h
-read_fine named.Sid s h = h
-read_fine named.Kcall s h = h
-read_fine named.Memsize s h = h
-read_fine named.Uptime s h = h
+read_fine register s h = h
 
 abbrev Read : Result Value ReservedOperand → Type 0
 Read (Ok v) = IsHalt v.state.halt
@@ -269,7 +217,7 @@ value_fine s register (Some v) h = read_fine register s h
 
 register_read : (size : ℕ) (s : State) (register : Option Named) → IsHalt s.halt → Read (read_or_refused size s register)
 register_read size s None h = tt
-register_read size s (Some register) h = value_fine s register (value_of size s register) h
+register_read size s (Some register) h = value_fine s register ((register_row register).value size s) h
 
 reads_fine : (size : ℕ) (s : State) (number : ℕ) → IsHalt s.halt → Read (read size s number)
 unfolding read
@@ -295,44 +243,30 @@ mfpr_did g t (Clear va) h = after_did g t.dest (Some va) (read (length g.memory)
 mfpr_did g t (Completes old) h = after_did g t.dest None (read (length g.memory) (past_instruction g.state t) t.a) (reads_fine (length g.memory) (past_instruction g.state t) t.a h)
 
 -- contexts
-abbrev Switched_ : Switched → Type 0
-Switched_ (Switches h written) = Fine h
-Switched_ Reserved = Unit {0}
-Switched_ (PopTrouble trouble) = Unit {0}
-Switched_ StackTrouble = Unit {0}
-Switched_ BlockPast = Unit {0}
-
-switched_did : (g : Guest) (s : Switched) → Switched_ s → Did (switched g s)
-switched_did g (Switches h written) k = k
-switched_did g Reserved k = tt
-switched_did g (PopTrouble trouble) k = trouble_did g trouble
-switched_did g StackTrouble k = tt
-switched_did g BlockPast k = tt
-
-push_fine : (g : Guest) (s : State) (w : Walked) → IsHalt s.halt → Switched_ (after_push g s w)
+push_fine : (g : Guest) (s : State) (w : Walked) → IsHalt s.halt → Did (after_push g s w)
 push_fine g s (Homes hs) h = h
 push_fine g s (Faulty f) h = tt
 push_fine g s PastMemory h = tt
 
-loads_fine : (g : Guest) (next_pc : ℕ) → Fine g → Switched_ (loads_context g next_pc)
+loads_fine : (g : Guest) (next_pc : ℕ) → Fine g → Did (loads_context g next_pc)
 unfolding loads_context loaded
 loads_fine g next_pc h =
     let s = loaded g next_pc in
-    cond_both (is_block_past g) BlockPast _ Switched_ (λ t. tt)
-    (λ t. cond_both (is_block_reserved g) Reserved _ Switched_ (λ u. tt)
+    cond_both (is_block_past g) LacksMemory _ Did (λ t. tt)
+    (λ t. cond_both (is_block_reserved g) (Faults excs.ReservedOperand) _ Did (λ u. tt)
     (λ u. push_fine g s (push_walked (record g { state = s }) Kernel (slice_index s.r 14) (control_block_long g 76 ∷ control_block_long g 72 ∷ [])) h))
 
 interrupt_fine : (s : State) → IsHalt s.halt → IsHalt (on_interrupt s).halt
 interrupt_fine s h = cond_both (is_on_interrupt_stack s.psl) s _ (λ (x : State). IsHalt x.halt) (λ t. h) (λ t. h)
 
-saved_fine : (g : Guest) (s : State) (p : Popped) → IsHalt s.halt → Switched_ (saved g s p)
-saved_fine g s p h = cond_both (is_block_past g) BlockPast _ Switched_ (λ t. tt) (λ t. interrupt_fine s h)
+saved_fine : (g : Guest) (s : State) (p : Popped) → IsHalt s.halt → Did (saved g s p)
+saved_fine g s p h = cond_both (is_block_past g) LacksMemory _ Did (λ t. tt) (λ t. interrupt_fine s h)
 
-reads_context : (g : Guest) (next_pc : ℕ) (p : Result Popped Trouble) → Fine g → Switched_ (after_reads g next_pc p)
+reads_context : (g : Guest) (next_pc : ℕ) (p : Result Popped Trouble) → Fine g → Did (after_reads g next_pc p)
 reads_context g next_pc (Ok p) h = saved_fine g (after_pops g.state next_pc) p h
-reads_context g next_pc (Err t) h = tt
+reads_context g next_pc (Err trouble) h = trouble_did g trouble
 
-saves_fine : (g : Guest) (next_pc : ℕ) → Fine g → Switched_ (saves_context g next_pc)
+saves_fine : (g : Guest) (next_pc : ℕ) → Fine g → Did (saves_context g next_pc)
 unfolding saves_context
 saves_fine g next_pc h = reads_context g next_pc (outcome (space_of g) (two_popped (slice_index g.state.r 14))) h
 
@@ -344,8 +278,8 @@ did_sensed g t (Chm to) h = mode_did g t to h
 did_sensed g t Rei h = rei_did g t (outcome (space_of g) (two_popped (slice_index t.regs 14))) h
 did_sensed g t Mtpr h = mtpr_did g t.a (written (past_instruction g.state t) t.b t.a) (written_fine (past_instruction g.state t) t.b t.a h)
 did_sensed g t Mfpr h = mfpr_did g t (tried (space_of g) (is_clear g) (destination_walked t.dest)) h
-did_sensed g t Ldpctx h = switched_did g (loads_context g t.next_pc) (loads_fine g t.next_pc h)
-did_sensed g t Svpctx h = switched_did g (saves_context g t.next_pc) (saves_fine g t.next_pc h)
+did_sensed g t Ldpctx h = loads_fine g t.next_pc h
+did_sensed g t Svpctx h = saves_fine g t.next_pc h
 did_sensed g t Prober h = tt
 did_sensed g t Probew h = tt
 
@@ -373,7 +307,7 @@ executed_fine : (g : Guest) → Fine g → Ends (executed g)
 unfolding executed
 executed_fine g h = try_fine g (tried (space_of g) (is_clear g) (instruction_of g.state)) h
 
-taken_fine : (source : Source) (s : State) → IsHalt s.halt → IsHalt (after_interrupt_taken source s).halt
+taken_fine : (source : Source) (s : State) → IsHalt s.halt → IsHalt ((source_row source).taken s).halt
 taken_fine IntervalClock s h = h
 taken_fine Kcall s h = h
 taken_fine Receiver s h = h

@@ -10,7 +10,8 @@ use Rattle.sys_objects.specs.declared.records.Mount.{Mount}
 use Rattle.sys_objects.specs.declared.records.Terminal.{Terminal}
 use Rattle.sys_state.specs.Events.{after_verdict, at_place, at_row, events, happened, is_named, lined, obeyed, reset_by}
 use Rattle.sys_state.specs.Guests.{powered, stopped_by_command, typed, with_no_queue}
-use Rattle.sys_state.specs.Places.{beside_with, changed, is_at, place_of}
+use Rattle.sys_state.specs.Places.{beside_with, changed, place_of}
+use Rattle.sys_objects.specs.Places.{is_at}
 use Rattle.sys_state.specs.Run.{connections, events_of, first_state, round}
 use Rattle.sys_state.specs.State.{SystemState, server_of}
 use Rattle.sys_state.specs.Transfers.{Move, Packet, Prints, Reads, Refused, Writes, all_served, moved, move_of, packet_at, served, served_one}
@@ -18,7 +19,7 @@ use Rattle.sys_state.specs.Turns.{turn}
 use Rattle.sys_script.specs.declared.event.Event.{Event}
 use Rattle.sys_script.specs.declared.event.Typed.{Typed}
 use Rattle.sys_script.specs.declared.event.Typed.TheVariants.{Break, Line}
-use Rattle.sys_server.specs.Apply.{applied, freed, is_guest}
+use Rattle.sys_server.specs.Apply.{freed}
 use Rattle.sys_server.specs.Verdict.{verdict_of}
 use Rattle.sys_server.specs.declared.command.Command.{Command}
 use Rattle.sys_server.specs.declared.command.Command.TheVariants.{Connect, Start, Halt, MountAt, Dismount, Show}
@@ -58,12 +59,12 @@ once_none (o ∷ os) (suc n) h = (none_set (same_place o) os n None (same_none o
 
 none_freed : (test : Option ℕ → Bool) (g : ℕ) (os : List (Option ℕ)) → test None ≡ false → NoneIs test os → NoneIs test (map (freed g) os)
 none_freed test g [] k h = tt
-none_freed test g (o ∷ os) k h = (cond_both (is_guest g o) None o (λ x. test x ≡ false) (λ t. k) (λ t. h.0), none_freed test g os k h.1)
+none_freed test g (o ∷ os) k h = (cond_both (is_at g o) None o (λ x. test x ≡ false) (λ t. k) (λ t. h.0), none_freed test g os k h.1)
 
 once_freed : (g : ℕ) (os : List (Option ℕ)) → OccurOnce os → OccurOnce (map (freed g) os)
 once_freed g [] h = tt
 once_freed g (o ∷ os) h = (
-  cond_both (is_guest g o) None o (λ x. NoneIs (same_place x) (map (freed g) os)) (λ t. none_same (map (freed g) os)) (λ t. none_freed (same_place o) g os (same_none o) h.0),
+  cond_both (is_at g o) None o (λ x. NoneIs (same_place x) (map (freed g) os)) (λ t. none_same (map (freed g) os)) (λ t. none_freed (same_place o) g os (same_none o) h.0),
   once_freed g os h.1,
 )
 
@@ -91,24 +92,23 @@ reset_halts (Some row) g h = tt
 stop_halts : (g : Guest) → IsHalt g.state.halt → IsHalt (stopped_by_command g).state.halt
 stop_halts g h = cond_both (is_some g.state.halt) g.state _ (λ (x : GuestPart). IsHalt x.halt) (λ t. h) (λ t. refl)
 
-obeyed_holds : (c : Config) (s : SystemState) (n : ℕ) (command : Command) → IsSoundSystem s → IsSoundSystem (obeyed c s n command)
-unfolding applied
-obeyed_holds c s n (Connect g) h = record { once = once_set (map (freed g) s.connected) n g (gone g s.connected) (once_freed g s.connected h.once); halts = h.halts }
-obeyed_holds c s n (Start g) h = record { once = h.once; halts = halts_changed (reset_by (slice_get c.guests g)) (reset_halts (slice_get c.guests g)) s.guests g h.halts }
-obeyed_holds c s n (Halt g) h = record { once = h.once; halts = halts_changed stopped_by_command stop_halts s.guests g h.halts }
-obeyed_holds c s n (MountAt g unit mount) h = record { once = h.once; halts = h.halts }
-obeyed_holds c s n (Dismount g unit) h = record { once = h.once; halts = h.halts }
-obeyed_holds c s n Show h = record { once = h.once; halts = h.halts }
+obeyed_holds : (c : Config) (s : SystemState) (n : ℕ) (t : Terminal) (command : Command) → IsSoundSystem s → IsSoundSystem (obeyed c s n t command).now
+obeyed_holds c s n t (Connect g) h = record { once = once_set (map (freed g) s.connected) n g (gone g s.connected) (once_freed g s.connected h.once); halts = h.halts }
+obeyed_holds c s n t (Start g) h = record { once = h.once; halts = halts_changed (reset_by (slice_get c.guests g)) (reset_halts (slice_get c.guests g)) s.guests g h.halts }
+obeyed_holds c s n t (Halt g) h = record { once = h.once; halts = halts_changed stopped_by_command stop_halts s.guests g h.halts }
+obeyed_holds c s n t (MountAt g unit mount) h = record { once = h.once; halts = h.halts }
+obeyed_holds c s n t (Dismount g unit) h = record { once = h.once; halts = h.halts }
+obeyed_holds c s n t Show h = record { once = h.once; halts = h.halts }
 
-verdict_holds : (c : Config) (s : SystemState) (n : ℕ) (v : Verdict) → IsSoundSystem s → IsSoundSystem (after_verdict c s n v)
-verdict_holds c s n (Granted command) h = obeyed_holds c s n command h
-verdict_holds c s n BadCommand h = h
-verdict_holds c s n NoSuchObject h = h
-verdict_holds c s n (Denied rule) h = h
+verdict_holds : (c : Config) (s : SystemState) (n : ℕ) (t : Terminal) (v : Verdict) → IsSoundSystem s → IsSoundSystem (after_verdict c s n t v).now
+verdict_holds c s n t (Granted command) h = obeyed_holds c s n t command h
+verdict_holds c s n t BadCommand h = h
+verdict_holds c s n t NoSuchObject h = h
+verdict_holds c s n t (Denied rule) h = h
 
 lined_holds : (c : Config) (i : ℕ) (s : SystemState) (n : ℕ) (t : Terminal) (text : List ℕ) (o : Option ℕ) → IsSoundSystem s → IsSoundSystem (lined c i s n t text o).now
 lined_holds c i s n t text (Some g) h = record { once = h.once; halts = halts_changed (typed text) (λ k is. is) s.guests g h.halts }
-lined_holds c i s n t text None h = verdict_holds c s n (verdict_of c (server_of s) n text) h
+lined_holds c i s n t text None h = verdict_holds c s n t (verdict_of c (server_of s) n text) h
 
 row_holds : (c : Config) (i : ℕ) (s : SystemState) (n : ℕ) (t : Option Terminal) (what : Typed) → IsSoundSystem s → IsSoundSystem (at_row c i s n t what).now
 row_holds c i s n None what h = h

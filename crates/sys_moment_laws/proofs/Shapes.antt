@@ -16,7 +16,7 @@ use Rattle.sys_state.specs.State.{SystemState, server_of}
 use Rattle.sys_script.specs.declared.event.Event.{Event}
 use Rattle.sys_script.specs.declared.event.Typed.{Typed}
 use Rattle.sys_script.specs.declared.event.Typed.TheVariants.{Break, Line}
-use Rattle.sys_server.specs.Apply.{applied, freed}
+use Rattle.sys_server.specs.Apply.{freed}
 use Rattle.sys_server.specs.Verdict.{verdict_of}
 use Rattle.sys_server.specs.declared.command.Command.{Command}
 use Rattle.sys_server.specs.declared.command.Command.TheVariants.{Connect, Start, Halt, MountAt, Dismount, Show}
@@ -43,24 +43,23 @@ four_set (row ∷ rows) (ms ∷ mss) zero unit m h = (set_long ms unit m ∙ h.0
 four_set (row ∷ rows) (ms ∷ mss) (suc g) unit m h = (h.0, four_set rows mss g unit m h.1)
 
 module _ (c : Config) where
-  obeyed_shaped : (s : SystemState) (n : ℕ) (command : Command) → Shaped c s → Shaped c (obeyed c s n command)
-  unfolding applied
-  obeyed_shaped s n (Connect g) h = record { seats = set_long (map (freed g) s.connected) n (Some g) ∙ length-map s.connected (freed g) ∙ h.seats; units = h.units }
-  obeyed_shaped s n (Start g) h = record { seats = h.seats; units = h.units }
-  obeyed_shaped s n (Halt g) h = record { seats = h.seats; units = h.units }
-  obeyed_shaped s n (MountAt g unit mount) h = record { seats = h.seats; units = four_set c.guests s.mounts g unit (Some mount) h.units }
-  obeyed_shaped s n (Dismount g unit) h = record { seats = h.seats; units = four_set c.guests s.mounts g unit None h.units }
-  obeyed_shaped s n Show h = record { seats = h.seats; units = h.units }
+  obeyed_shaped : (s : SystemState) (n : ℕ) (t : Terminal) (command : Command) → Shaped c s → Shaped c (obeyed c s n t command).now
+  obeyed_shaped s n t (Connect g) h = record { seats = set_long (map (freed g) s.connected) n (Some g) ∙ length-map s.connected (freed g) ∙ h.seats; units = h.units }
+  obeyed_shaped s n t (Start g) h = record { seats = h.seats; units = h.units }
+  obeyed_shaped s n t (Halt g) h = record { seats = h.seats; units = h.units }
+  obeyed_shaped s n t (MountAt g unit mount) h = record { seats = h.seats; units = four_set c.guests s.mounts g unit (Some mount) h.units }
+  obeyed_shaped s n t (Dismount g unit) h = record { seats = h.seats; units = four_set c.guests s.mounts g unit None h.units }
+  obeyed_shaped s n t Show h = record { seats = h.seats; units = h.units }
 
-  verdict_shaped : (s : SystemState) (n : ℕ) (v : Verdict) → Shaped c s → Shaped c (after_verdict c s n v)
-  verdict_shaped s n (Granted command) h = obeyed_shaped s n command h
-  verdict_shaped s n BadCommand h = h
-  verdict_shaped s n NoSuchObject h = h
-  verdict_shaped s n (Denied rule) h = h
+  verdict_shaped : (s : SystemState) (n : ℕ) (t : Terminal) (v : Verdict) → Shaped c s → Shaped c (after_verdict c s n t v).now
+  verdict_shaped s n t (Granted command) h = obeyed_shaped s n t command h
+  verdict_shaped s n t BadCommand h = h
+  verdict_shaped s n t NoSuchObject h = h
+  verdict_shaped s n t (Denied rule) h = h
 
   lined_shaped : (i : ℕ) (s : SystemState) (n : ℕ) (t : Terminal) (text : List ℕ) (o : Option ℕ) → Shaped c s → Shaped c (lined c i s n t text o).now
   lined_shaped i s n t text (Some g) h = record { seats = h.seats; units = h.units }
-  lined_shaped i s n t text None h = verdict_shaped s n (verdict_of c (server_of s) n text) h
+  lined_shaped i s n t text None h = verdict_shaped s n t (verdict_of c (server_of s) n text) h
 
   row_shaped : (i : ℕ) (s : SystemState) (n : ℕ) (t : Option Terminal) (what : Typed) → Shaped c s → Shaped c (at_row c i s n t what).now
   row_shaped i s n None what h = h

@@ -1,4 +1,5 @@
 -- Rounds keep the rules of the seats and mounts and that each guest runs or has stopped, and power-up makes it so.
+use Rattle.std.specs.Option.{option_map_or}
 use Rattle.std.proofs.Common.{◌≡◌, ℕ, zero, suc, ◌+◌, List, [], ◌∷◌, length, true, false, not, ◌&&◌, refl, subst, arith, All, Option, Some, None, slice_get}
 use Rattle.std.specs.List.{AllZip, list_any}
 use Rattle.std.proofs.lemmas.Bool.{and_from, and_parts, false≢true, not-true, not_from_false, or_from, or_parts}
@@ -19,7 +20,7 @@ use Rattle.sys_purge.proofs.Opens.{first_fits}
 use Rattle.sys_state.specs.Run.{events_of, first_state, round, rounds}
 use Rattle.sys_state.specs.State.{SystemState}
 use Rattle.sys_script.specs.declared.event.Event.{Event}
-use Rattle.sys_snap.specs.Conditions.{is_guest_of_class, may_all_sit, may_sit}
+use Rattle.sys_snap.specs.Conditions.{may_all_sit, may_sit}
 use Rattle.sys_snap.specs.Snap.{AreUnitsOf, IsGuestOf}
 use Rattle.vm_state.specs.State.{Guest}
 use Rattle.vm_state.specs.Stops.{IsHalt}
@@ -41,7 +42,7 @@ module _ (c : Config) where
       let same : same_class fits.0.class t.class ≡ true = subst (λ class. same_class fits.0.class class ≡ true) fits.2 (same_itself fits.0.class) in
       rw (fits.1) same
 
-  row_fits : (t : Terminal) (g : ℕ) (o : Option GuestRow) → slice_get c.guests g ≡ o → is_guest_of_class t o ≡ true → IsGuestOfClass c t.class g
+  row_fits : (t : Terminal) (g : ℕ) (o : Option GuestRow) → slice_get c.guests g ≡ o → option_map_or (λ row. same_class row.class t.class) o false ≡ true → IsGuestOfClass c t.class g
   row_fits t g None at is = absurd (false≢true is)
   row_fits t g (Some row) at is = (row, at, same_is row.class t.class is)
 

@@ -5,8 +5,12 @@ use Rattle.std.proofs.lemmas.Bool.{cases_Bool, leb-true, le-leb, false≢true}
 use Rattle.std.proofs.lemmas.List.{get_or-take, length-take}
 use Rattle.std.proofs.lemmas.List.Folds.{list_any_none, list_any-from_Any}
 use Rattle.std.proofs.lemmas.List.Sums.{sum_by-append}
-use Rattle.sys_objects.specs.Rules.{first_broken, pages_hold}
+use Rattle.sys_objects.specs.Rules.{first_broken, is_new}
 use Rattle.sys_objects.specs.declared.records.GuestRow.{GuestRow}
+
+-- the pages of the guests up to this one
+abbrev pub pages_hold : List GuestRow → GuestRow → Bool
+pages_hold seen g = nat_le (sum_by (λ (h : GuestRow). h.pages) seen + g.pages) 16384
 
 -- neither place is named where the test passes and the rest does
 passed : (b : Bool) (rest : Option ℕ) (place : ℕ) → (if b then rest else Some place) ≡ None → (b ≡ true) × (rest ≡ None)
@@ -35,9 +39,6 @@ module _ {A : Type 0} (holds : List A → A → Bool) where
 
 -- what none before it has
 module _ {A : Type 0} (same : A → A → Bool) where
-  abbrev pub is_new : List A → A → Bool
-  is_new seen x = not (list_any (same x) seen)
-
   not_false : (b : Bool) → not b ≡ true → b ≡ false
   not_false true e = cc
   not_false false e = refl
@@ -53,17 +54,17 @@ module _ {A : Type 0} (same : A → A → Bool) where
         | inr fails ↦ fails
       ]
 
-  pub pairs_apart : (xs : List A) → first_broken is_new [] xs ≡ None → AllPairs (λ x y. same y x ≡ false) xs
+  pub pairs_apart : (xs : List A) → first_broken (is_new same) [] xs ≡ None → AllPairs (λ x y. same y x ≡ false) xs
   pairs_apart xs e i j d before within =
-      let new : list_any (same (get_or xs j d)) (take j xs) ≡ false = not_false _ (holds_at is_new xs [] e j d within) in
+      let new : list_any (same (get_or xs j d)) (take j xs) ≡ false = not_false _ (holds_at (is_new same) xs [] e j d within) in
       rw (get_or-take j xs i d before) at (not_any (take j xs) (get_or xs j d) new i d (omega (arith, length-take j xs)))
 
   apart_at : (xs : List A) → AllPairs (λ x y. same y x ≡ false) xs → (j : ℕ) (d : A) → j < length xs → (i : ℕ) (e : A) → i < j → same (get_or xs j d) (get_or (take j xs) i e) ≡ false
   apart_at xs apart j d within i e before = rw (get_or-take j xs i e before, at_any xs i e d (omega arith)) (apart i j d before within)
 
-  pub none_twice : (xs : List A) → AllPairs (λ x y. same y x ≡ false) xs → first_broken is_new [] xs ≡ None
+  pub none_twice : (xs : List A) → AllPairs (λ x y. same y x ≡ false) xs → first_broken (is_new same) [] xs ≡ None
   none_twice xs apart =
-      none_broken is_new xs [] (λ j d within. not_true _ (list_any_none (same (get_or xs j d)) (take j xs) (λ i e before.
+      none_broken (is_new same) xs [] (λ j d within. not_true _ (list_any_none (same (get_or xs j d)) (take j xs) (λ i e before.
       apart_at xs apart j d within i e (omega (arith, length-take j xs)))))
 
 abbrev pages : GuestRow → ℕ

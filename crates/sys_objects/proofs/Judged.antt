@@ -1,6 +1,7 @@
 -- What holds of a configuration that no rule on several entries refuses.
 use Rattle.std.proofs.Common.{◌≡◌, ◌≢◌, ◌≤◌, ◌<◌, ℕ, Bool, true, false, ◌&&◌, ◌==◌, List, [], length, take, get_or, bytes_eq, Option, Some, None, IfSome, All, sum_by, slice_get, refl, sym, ◌∙◌, arith}
 use Rattle.std.specs.List.{AllPairs, list_all}
+use Rattle.std.specs.Option.{option_map_or}
 use Rattle.std.proofs.lemmas.Bool.{false≢true, eq-eqb}
 use Rattle.std.proofs.lemmas.List.Sums.{AllPass-from_list_all}
 use Rattle.std.proofs.lemmas.Option.{slice_get_within}
@@ -15,20 +16,9 @@ use Rattle.sys_objects.specs.declared.records.Terminal.{Terminal}
 use Rattle.sys_objects.specs.declared.records.VolumeRow.{VolumeRow}
 use Rattle.sys_objects.specs.declared.records.PrinterRow.{PrinterRow}
 use Rattle.sys_objects.specs.declared.rules.Object.{Object}
-use Rattle.sys_objects.specs.Rules.{objects_of, lines_of, first_broken, flows_into, may_print, printer_holds, is_of_class, may_connect, same_place, console_holds, is_mountable, may_mount, mounts_hold, audit_holds, bad_name, bad_line, bad_drive, bad_printer, bad_console, bad_mount, bad_audit, bad_pages}
+use Rattle.sys_objects.specs.Rules.{objects_of, lines_of, first_broken, is_new, flows_into, may_print, is_of_class, may_connect, same_place, is_mountable, may_mount}
 use Rattle.sys_objects.specs.Condition.{MayHave, NamesObjects}
-use Rattle.sys_objects.proofs.Firsts.{holds_at, none_broken, is_new, pairs_apart, few_pages}
-
--- no rule on several entries names a place
-pub record IsUnbroken (c : Config) : Type 0 where
-  pub name : bad_name c ≡ None
-  pub line : bad_line c ≡ None
-  pub drive : bad_drive c ≡ None
-  pub printer : bad_printer c ≡ None
-  pub console : bad_console c ≡ None
-  pub mount : bad_mount c ≡ None
-  pub audit : bad_audit c ≡ None
-  pub pages : bad_pages c ≡ None
+use Rattle.sys_objects.proofs.Firsts.{holds_at, none_broken, pages_hold, pairs_apart, few_pages}
 
 abbrev pub same_name : Object → Object → Bool
 same_name x y = bytes_eq x.name y.name
@@ -41,6 +31,30 @@ same_drive x y = x.drive == y.drive
 
 abbrev pub same_console : GuestRow → GuestRow → Bool
 same_console x y = same_place x.console y.console
+
+-- the tests, and the first element that fails one
+abbrev pub printer_holds : List PrinterRow → List GuestRow → GuestRow → Bool
+printer_holds printers seen g = may_print printers g.class g.printer
+
+abbrev pub console_holds : List Terminal → List GuestRow → GuestRow → Bool
+console_holds terminals seen g = may_connect terminals g.class g.console && is_new same_console seen g
+
+abbrev pub mounts_hold : List VolumeRow → List GuestRow → GuestRow → Bool
+mounts_hold volumes seen g = list_all (may_mount volumes g.class) g.mounts
+
+abbrev pub audit_holds : Option Audit → List Object → Object → Bool
+audit_holds audit seen x = option_map_or (λ a. does_flow x.class a.class) audit true
+
+-- no rule on several entries names a place
+pub record IsUnbroken (c : Config) : Type 0 where
+  pub name : first_broken (is_new same_name) [] (objects_of c) ≡ None
+  pub line : first_broken (is_new same_line) [] (lines_of c) ≡ None
+  pub drive : first_broken (is_new same_drive) [] c.volumes ≡ None
+  pub printer : first_broken (printer_holds c.printers) [] c.guests ≡ None
+  pub console : first_broken (console_holds c.terminals) [] c.guests ≡ None
+  pub mount : first_broken (mounts_hold c.volumes) [] c.guests ≡ None
+  pub audit : first_broken (audit_holds c.audit) [] (objects_of c) ≡ None
+  pub pages : first_broken pages_hold [] c.guests ≡ None
 
 texts_apart : (a b : List ℕ) → bytes_eq b a ≡ false → a ≢ b
 texts_apart a b differ same = false≢true (sym differ ∙ (bytes_eq-Decides b a).1 (sym same))
@@ -73,7 +87,6 @@ module _ (c : Config) (is : IsUnbroken c) where
   consoles_apart = pairs_apart same_console c.guests (none_broken (is_new same_console) c.guests [] (λ k d within. (console_parts k d within).1))
 
   pub all_held : All (MayHave c) c.guests
-  unfolding mounts_hold
   all_held k d within = record {
     printer = holds_at (printer_holds c.printers) c.guests [] is.printer k d within;
     console = (console_parts k d within).0;

@@ -12,12 +12,12 @@ use Rattle.sys_objects.specs.declared.records.Terminal.{Terminal}
 use Rattle.sys_objects.specs.declared.records.VolumeRow.{VolumeRow}
 use Rattle.sys_objects.specs.declared.records.PrinterRow.{PrinterRow}
 use Rattle.sys_objects.specs.declared.rules.Object.{Object}
-use Rattle.sys_objects.specs.Rules.{objects_of, lines_of, terminal_object, volume_object, printer_object, guest_object, first_broken, printer_holds, console_holds, may_mount, mounts_hold, audit_holds, bad_name, bad_line, bad_drive, bad_printer, bad_console, bad_mount, bad_pages}
+use Rattle.sys_objects.specs.Rules.{objects_of, lines_of, terminal_object, volume_object, printer_object, guest_object, first_broken, is_new, may_mount}
 use Rattle.sys_objects.specs.Condition.{IsConfig}
 use Rattle.sys_objects.specs.Judged.{validated}
 use Rattle.sys_objects.proofs.FewLaws.{length-mapped}
-use Rattle.sys_objects.proofs.Firsts.{holds_at, none_broken, is_new, none_twice, pages_pass}
-use Rattle.sys_objects.proofs.Judged.{same_name, same_line, same_drive, same_console}
+use Rattle.sys_objects.proofs.Firsts.{holds_at, none_broken, none_twice, pages_hold, pages_pass}
+use Rattle.sys_objects.proofs.Judged.{same_name, same_line, same_drive, same_console, printer_holds, console_holds, mounts_hold, audit_holds}
 
 pub texts_differ : (a b : List ℕ) → a ≢ b → bytes_eq b a ≡ false
 texts_differ a b apart = by_test (bytes_eq b a) refl
@@ -43,31 +43,30 @@ and_true : (a b : Bool) → a ≡ true → b ≡ true → (a && b) ≡ true
 and_true a b e f = rw (e, f)
 
 module _ (c : Config) (met : IsConfig c) where
-  name_passes : bad_name c ≡ None
+  name_passes : first_broken (is_new same_name) [] (objects_of c) ≡ None
   name_passes = none_twice same_name (objects_of c) (λ i j d before within. texts_differ (get_or (objects_of c) i d).name (get_or (objects_of c) j d).name (met.names i j d before within))
 
-  line_passes : bad_line c ≡ None
+  line_passes : first_broken (is_new same_line) [] (lines_of c) ≡ None
   line_passes = none_twice same_line (lines_of c) (λ i j d before within. numbers_differ (get_or (lines_of c) i d) (get_or (lines_of c) j d) (met.lines i j d before within))
 
-  drive_passes : bad_drive c ≡ None
+  drive_passes : first_broken (is_new same_drive) [] c.volumes ≡ None
   drive_passes = none_twice same_drive c.volumes (λ i j d before within. numbers_differ (get_or c.volumes i d).drive (get_or c.volumes j d).drive (met.drives i j d before within))
 
-  printer_passes : bad_printer c ≡ None
+  printer_passes : first_broken (printer_holds c.printers) [] c.guests ≡ None
   printer_passes = none_broken (printer_holds c.printers) c.guests [] (λ k d within. (met.held k d within).printer)
 
-  console_passes : bad_console c ≡ None
+  console_passes : first_broken (console_holds c.terminals) [] c.guests ≡ None
   console_passes = none_broken (console_holds c.terminals) c.guests [] (λ k d within.
       and_true _ _ (met.held k d within).console (holds_at (is_new same_console) c.guests [] (none_twice same_console c.guests met.consoles) k d within))
 
-  mount_passes : bad_mount c ≡ None
-  unfolding mounts_hold
+  mount_passes : first_broken (mounts_hold c.volumes) [] c.guests ≡ None
   mount_passes = none_broken (mounts_hold c.volumes) c.guests [] (λ k d within. list_all-from_AllPass (may_mount c.volumes (get_or c.guests k d).class) (get_or c.guests k d).mounts (met.held k d within).mounts)
 
   audited_passes : (a : Option Audit) → IfSome a (λ a. All (λ (x : Object). does_flow x.class a.class ≡ true) (objects_of c)) → first_broken (audit_holds a) [] (objects_of c) ≡ None
   audited_passes None h = none_broken (audit_holds None) (objects_of c) [] (λ k d within. refl)
   audited_passes (Some a) h = none_broken (audit_holds (Some a)) (objects_of c) [] h
 
-  pages_passes : bad_pages c ≡ None
+  pages_passes : first_broken pages_hold [] c.guests ≡ None
   pages_passes = pages_pass c.guests [] met.pages
 
   pub judged_back : validated c ≡ Ok tt

@@ -1,4 +1,5 @@
 pub mod Faults
+pub mod Places
 pub mod Rules
 pub mod Judged
 pub mod Condition

@@ -1,11 +1,11 @@
 -- Worked examples of the rules that speak of several entries, checked by computation.
-use Rattle.std.specs.Prelude.{◌≡◌, ℕ, [], ◌∷◌, codes, true, false, Some, None, Err, refl}
+use Rattle.std.specs.Prelude.{◌≡◌, ℕ, ◌+◌, [], ◌∷◌, codes, true, false, Some, None, Ok, Err, refl}
 use Rattle.vv_class.specs.declared.class.AccessClass.{AccessClass}
 use Rattle.sys_objects.specs.declared.records.Config.{Config}
 use Rattle.sys_objects.specs.declared.records.GuestRow.{GuestRow}
 use Rattle.sys_objects.specs.declared.records.Terminal.{Terminal}
 use Rattle.sys_objects.specs.Faults.{fault}
-use Rattle.sys_objects.specs.Rules.{lines_of, may_connect, bad_console, bad_line, bad_pages}
+use Rattle.sys_objects.specs.Rules.{lines_of, may_connect}
 use Rattle.sys_objects.specs.Judged.{validated}
 
 abbrev level : ℕ → AccessClass
@@ -41,14 +41,16 @@ other_class = refl
 no_terminal : may_connect (terminal ∷ []) (level 1) (Some 1) ≡ false
 no_terminal = refl
 
-one_console_for_two : bad_console (both guest guest) ≡ Some 1
+one_console_for_two : validated (both guest (record guest { name = codes "B" })) ≡ Err (fault 15 1)
+unfolding validated
 one_console_for_two = refl
 
 -- a guest without a dump has no line
 dumps_alone : lines_of (both guest (record guest { dump = Some 4 })) ≡ 4 ∷ 4 ∷ []
 dumps_alone = refl
 
-line_of_a_dump : bad_line (both guest (record guest { dump = Some 4 })) ≡ Some 1
+line_of_a_dump : validated (both guest (record guest { name = codes "B"; dump = Some 4 })) ≡ Err (fault 12 1)
+unfolding validated
 line_of_a_dump = refl
 
 -- both have one name, which the least rule refuses: the second guest is the third object
@@ -56,8 +58,14 @@ one_name_for_two : validated (both guest guest) ≡ Err (fault 11 2)
 unfolding validated
 one_name_for_two = refl
 
-eight_times_2048 : bad_pages (record (both guest guest) { guests = guest ∷ guest ∷ guest ∷ guest ∷ guest ∷ guest ∷ guest ∷ guest ∷ [] }) ≡ None
+-- guests of other names, without a console
+abbrev one : ℕ → GuestRow
+one n = record guest { name = (65 + n) ∷ []; console = None }
+
+eight_times_2048 : validated (record (both guest guest) { guests = one 0 ∷ one 1 ∷ one 2 ∷ one 3 ∷ one 4 ∷ one 5 ∷ one 6 ∷ one 7 ∷ [] }) ≡ Ok tt
+unfolding validated
 eight_times_2048 = refl
 
-nine_times_2048 : bad_pages (record (both guest guest) { guests = guest ∷ guest ∷ guest ∷ guest ∷ guest ∷ guest ∷ guest ∷ guest ∷ guest ∷ [] }) ≡ Some 8
+nine_times_2048 : validated (record (both guest guest) { guests = one 0 ∷ one 1 ∷ one 2 ∷ one 3 ∷ one 4 ∷ one 5 ∷ one 6 ∷ one 7 ∷ one 8 ∷ [] }) ≡ Err (fault 18 8)
+unfolding validated
 nine_times_2048 = refl

@@ -1,6 +1,6 @@
-ghost use Rattle.std.specs.Prelude.{◌≡◌, ◌≤◌, ◌<◌, length, IfSome, [], ◌++◌, ◌==◌, map, bytes_eq, IfOk, OnOk};
+ghost use Rattle.std.specs.Prelude.{◌≡◌, ◌≤◌, ◌<◌, ◌+◌, nat_le, sum_by, length, IfSome, [], ◌++◌, ◌==◌, map, bytes_eq, IfOk, OnOk};
 ghost use Rattle.std.specs.List.{list_any, filter_map};
-ghost use Rattle.sys_objects.specs.Rules.{IsFew, objects_of, lines_of, audit_line, same_class, may_connect, same_place, may_mount, pages_hold, first_broken, bad_line};
+ghost use Rattle.sys_objects.specs.Rules.{IsFew, objects_of, lines_of, audit_line, same_class, may_connect, same_place, may_mount, first_broken, is_new};
 
 use crate::{Audit, Config, GuestRow, Mount, PrinterRow, Terminal, VolumeRow};
 use std::alloc::Global;
@@ -182,9 +182,11 @@ fn is_named(seen: &[Object], x: &Object) -> bool
 pub struct NewName;
 
 impl Rule<Object> for NewName {
-    ghost use Rattle.sys_objects.specs.Rules.{has_new_name};
+    ghost use Rattle.std.specs.Prelude.{bytes_eq};
+    ghost use Rattle.sys_objects.specs.Rules.{is_new};
+    ghost use Rattle.sys_objects.specs.declared.rules.Object.{Object as Seen};
 
-    ghost holds = { λ rule. has_new_name };
+    ghost holds = { λ rule. is_new (λ (x y : Seen). bytes_eq x.name y.name) };
 
     fn holds(&self, seen: &[Object], x: &Object) -> bool {
         !is_named(seen, x)
@@ -202,9 +204,10 @@ fn is_taken(seen: &[u8], x: u8) -> bool
 struct NewLine;
 
 impl Rule<u8> for NewLine {
-    ghost use Rattle.sys_objects.specs.Rules.{is_new_line};
+    ghost use Rattle.std.specs.Prelude.{ℕ, ◌==◌};
+    ghost use Rattle.sys_objects.specs.Rules.{is_new};
 
-    ghost holds = { λ rule. is_new_line };
+    ghost holds = { λ rule. is_new (λ (x y : ℕ). x == y) };
 
     fn holds(&self, seen: &[u8], x: &u8) -> bool {
         !is_taken(seen, *x)
@@ -215,7 +218,7 @@ impl Rule<u8> for NewLine {
 pub fn bad_line(alloc: Global, c: &Config) -> Result<Option<usize>, NoMemory>
     requires { IsFew c.now }
     ensures within { IfOk result (λ place. IfSome place (λ i. i < 81)) }
-    ensures value { IfOk result (λ place. place ≡ bad_line c.now) }
+    ensures value { IfOk result (λ place. place ≡ first_broken (is_new (λ x y. x == y)) [] (lines_of c.now)) }
 {
     let lines = lines(alloc, c)?;
     Ok(first_broken(&NewLine, lines.as_slice()))
@@ -232,9 +235,11 @@ fn is_in_drive(seen: &[VolumeRow], x: &VolumeRow) -> bool
 pub struct NewDrive;
 
 impl Rule<VolumeRow> for NewDrive {
-    ghost use Rattle.sys_objects.specs.Rules.{has_new_drive};
+    ghost use Rattle.std.specs.Prelude.{◌==◌};
+    ghost use Rattle.sys_objects.specs.Rules.{is_new};
+    ghost use Rattle.sys_objects.specs.declared.records.VolumeRow.{VolumeRow as Row};
 
-    ghost holds = { λ rule. has_new_drive };
+    ghost holds = { λ rule. is_new (λ (x y : Row). x.drive == y.drive) };
 
     fn holds(&self, seen: &[VolumeRow], x: &VolumeRow) -> bool {
         !is_in_drive(seen, x)
@@ -256,9 +261,9 @@ pub fn same_class(a: &AccessClass, b: &AccessClass) -> bool
 pub struct Prints<'a>(pub &'a [PrinterRow]);
 
 impl<'a> Rule<GuestRow> for Prints<'a> {
-    ghost use Rattle.sys_objects.specs.Rules.{printer_holds};
+    ghost use Rattle.sys_objects.specs.Rules.{may_print};
 
-    ghost holds = { λ rule. printer_holds rule.0.now };
+    ghost holds = { λ rule seen g. may_print rule.0.now g.class g.printer };
 
     fn holds(&self, seen: &[GuestRow], g: &GuestRow) -> bool {
         match g.printer {
@@ -303,9 +308,11 @@ fn is_connected(seen: &[GuestRow], console: Option<u8>) -> bool
 pub struct Connects<'a>(pub &'a [Terminal]);
 
 impl<'a> Rule<GuestRow> for Connects<'a> {
-    ghost use Rattle.sys_objects.specs.Rules.{console_holds};
+    ghost use Rattle.std.specs.Prelude.{◌&&◌};
+    ghost use Rattle.sys_objects.specs.Rules.{is_new, may_connect, same_place};
+    ghost use Rattle.sys_objects.specs.declared.records.GuestRow.{GuestRow as Row};
 
-    ghost holds = { λ rule. console_holds rule.0.now };
+    ghost holds = { λ rule seen g. may_connect rule.0.now g.class g.console && is_new (λ (x y : Row). same_place x.console y.console) seen g };
 
     fn holds(&self, seen: &[GuestRow], g: &GuestRow) -> bool {
         may_connect(self.0, &g.class, g.console) && !is_connected(seen, g.console)
@@ -331,11 +338,11 @@ fn may_mount(volumes: &[VolumeRow], class: &AccessClass, mount: Option<Mount>) -
 pub struct Mounts<'a>(pub &'a [VolumeRow]);
 
 impl<'a> Rule<GuestRow> for Mounts<'a> {
-    ghost use Rattle.sys_objects.specs.Rules.{mounts_hold};
+    ghost use Rattle.std.specs.List.{list_all};
+    ghost use Rattle.sys_objects.specs.Rules.{may_mount};
 
-    ghost holds = { λ rule. mounts_hold rule.0.now };
+    ghost holds = { λ rule seen g. list_all (may_mount rule.0.now g.class) g.mounts };
 
-    #[tactic(auto, unfolding(crate::specs::Rules::mounts_hold))]
     fn holds(&self, seen: &[GuestRow], g: &GuestRow) -> bool {
         g.mounts.iter().all(|m| may_mount(self.0, &g.class, *m))
     }
@@ -346,9 +353,11 @@ impl<'a> Rule<GuestRow> for Mounts<'a> {
 pub struct Audited(pub Option<Audit>);
 
 impl Rule<Object> for Audited {
-    ghost use Rattle.sys_objects.specs.Rules.{audit_holds};
+    ghost use Rattle.std.specs.Prelude.{true};
+    ghost use Rattle.std.specs.Option.{option_map_or};
+    ghost use Rattle.vv_class.specs.Class.{does_flow};
 
-    ghost holds = { λ rule. audit_holds rule.0 };
+    ghost holds = { λ rule seen x. option_map_or (λ a. does_flow x.class a.class) rule.0 true };
 
     fn holds(&self, seen: &[Object], x: &Object) -> bool {
         match self.0 {
@@ -361,7 +370,7 @@ impl Rule<Object> for Audited {
 /// Rule 18.
 pub fn bad_pages(guests: &[GuestRow]) -> Option<usize>
     ensures within { IfSome result (λ i. i < length guests.now) }
-    ensures value { result ≡ first_broken pages_hold [] guests.now }
+    ensures value { result ≡ first_broken (λ seen g. nat_le (sum_by (λ h. h.pages) seen + g.pages) 16384) [] guests.now }
 {
     let mut pages: u64 = 0;
     for i in 0..guests.len() {

@@ -13,7 +13,7 @@ use Rattle.sys_objects.specs.declared.records.GuestRow.{GuestRow}
 use Rattle.sys_objects.specs.declared.records.PrinterRow.{PrinterRow}
 use Rattle.sys_objects.specs.declared.records.Terminal.{Terminal}
 use Rattle.sys_state.proofs.Places.{both}
-use Rattle.sys_state.specs.Places.{is_at}
+use Rattle.sys_objects.specs.Places.{is_at}
 use Rattle.sys_state.specs.Bytes.{dump_on}
 use Rattle.sys_devices.proofs.Lists.{from_place}
 use Rattle.sys_guests.proofs.Lists.{one_of_all}

@@ -20,16 +20,16 @@ use Rattle.sys_purge.proofs.SeenTurns.{seen_rows}
 use Rattle.sys_purge.specs.Input.{is_kept}
 use Rattle.sys_purge.specs.Laws.{DevicesDependOnPurges, DriveFlowsInto, IsSeparateFrom, KeepsVolumes, LineFlowsInto, VolumesDependOnPurges}
 use Rattle.sys_purge.specs.Purge.{kept_audit, purge_config}
-use Rattle.sys_state.specs.Bytes.{Device, audit_device, devices_of, drive_blocks, dump_device, line_bytes, printer_device, terminal_device}
+use Rattle.sys_state.specs.Bytes.{audit_device, devices_of, drive_blocks, dump_device, line_bytes, printer_device, terminal_device, LineDevice}
 use Rattle.sys_state.specs.Run.{Input, Moment}
 use Rattle.sys_script.specs.declared.event.Event.{Event}
 
 module _ (c : Config) (to : AccessClass) where
-  abbrev flows : Device → Bool
+  abbrev flows : LineDevice → Bool
   flows d = does_flow d.class to
 
   -- the devices of a purge are those that are kept
-  mapped : {X : Type 0} (f : X → Device) (test : X → Bool) → ((x : X) → flows (f x) ≡ test x) → (xs : List X) → map f (filter test xs) ≡ filter flows (map f xs)
+  mapped : {X : Type 0} (f : X → LineDevice) (test : X → Bool) → ((x : X) → flows (f x) ≡ test x) → (xs : List X) → map f (filter test xs) ≡ filter flows (map f xs)
   mapped f test same [] = refl
   mapped f test same (x ∷ xs) =
       let rest = mapped f test same xs in
@@ -43,7 +43,7 @@ module _ (c : Config) (to : AccessClass) where
       by_dump : filter_map dump_device (seen_rows c to rows) ≡ filter flows (filter_map dump_device rows) → (o : Option ℕ) → row.dump ≡ o → filter_map dump_device (seen_rows c to (row ∷ rows)) ≡ filter flows (filter_map dump_device (row ∷ rows))
       by_dump rest None none = both (is_kept to row) (λ e. rw (e, none) rest) (λ e. rw (e, none) rest)
       by_dump rest (Some line) some = both (is_kept to row)
-          (λ e. rw (e, some) (rw e (ap (λ (ys : List Device). record { line = line; class = row.class } ∷ ys) rest)))
+          (λ e. rw (e, some) (rw e (ap (λ (ys : List LineDevice). record { line = line; class = row.class } ∷ ys) rest)))
           (λ e. rw (e, some) (rw e rest))
 
   audit_kept : (a : Option Audit) → audit_device (kept_audit to a) ≡ filter flows (audit_device a)
@@ -63,21 +63,21 @@ module _ (c : Config) (to : AccessClass) where
       ∙ sym (four ∙ (λ i. three i ++ filter flows (audit_device c.audit)) ∙ (λ i. (two i ++ filter flows (ds c)) ++ filter flows (audit_device c.audit)))
 
 -- a device that flows into the class is in both
-in_both : (c e : Config) (to : AccessClass) → purge_config c to ≡ purge_config e to → (d : Device) → does_flow d.class to ≡ true → IsIn d (devices_of c) → IsIn d (devices_of e)
+in_both : (c e : Config) (to : AccessClass) → purge_config c to ≡ purge_config e to → (d : LineDevice) → does_flow d.class to ≡ true → IsIn d (devices_of c) → IsIn d (devices_of e)
 in_both c e to same d flow h =
-    let kept : IsIn d (filter (λ (x : Device). does_flow x.class to) (devices_of c)) = in_kept (λ (x : Device). does_flow x.class to) d flow (devices_of c) h in
+    let kept : IsIn d (filter (λ (x : LineDevice). does_flow x.class to) (devices_of c)) = in_kept (λ (x : LineDevice). does_flow x.class to) d flow (devices_of c) h in
     let path = sym (devices_kept c to) ∙ ap devices_of same ∙ devices_kept e to in
-    in_all (λ (x : Device). does_flow x.class to) d (devices_of e) (subst (IsIn d) path kept)
+    in_all (λ (x : LineDevice). does_flow x.class to) d (devices_of e) (subst (IsIn d) path kept)
 
-flows_there : (e : Config) → IsConfig e → (to : AccessClass) (d : Device) → does_flow d.class to ≡ true → IsIn d (devices_of e) → LineFlowsInto e d.line to
+flows_there : (e : Config) → IsConfig e → (to : AccessClass) (d : LineDevice) → does_flow d.class to ≡ true → IsIn d (devices_of e) → LineFlowsInto e d.line to
 flows_there e is to d flow h =
     let p = place_in d (devices_of e) h in
-    let there : does_flow (get_or (devices_of e) p.0 d).class to ≡ true = ap (λ (x : Device). does_flow x.class to) p.2 ∙ flow in
-    subst (λ (x : Device). LineFlowsInto e x.line to) p.2 (line_flows e is to p.0 d p.1 there)
+    let there : does_flow (get_or (devices_of e) p.0 d).class to ≡ true = ap (λ (x : LineDevice). does_flow x.class to) p.2 ∙ flow in
+    subst (λ (x : LineDevice). LineFlowsInto e x.line to) p.2 (line_flows e is to p.0 d p.1 there)
 
 pub devices_depend : DevicesDependOnPurges
 devices_depend x y to is_x is_y same k d within flow =
-    let device : Device = get_or (devices_of x.config) k d in
+    let device : LineDevice = get_or (devices_of x.config) k d in
     let here : LineFlowsInto x.config device.line to = line_flows x.config is_x to k d within flow in
     let there : LineFlowsInto y.config device.line to = flows_there y.config is_y to device flow
     (in_both x.config y.config to (ap (λ (z : Input). z.config) same) device flow (at_place (devices_of x.config) k d within)) in
@@ -99,7 +99,7 @@ module _ (c : Config) (is : IsConfig c) where
 
 pub separate_from : (m : Moment) (es : List Event) (n : ℕ) → IsConfig m.config → Fits m.config m.state → IsSeparateFrom m es n
 separate_from m es n is fits =
-    let device : ℕ → Device → Device = λ k d. get_or (devices_of m.config) k d in
+    let device : ℕ → LineDevice → LineDevice = λ k d. get_or (devices_of m.config) k d in
     let volume : ℕ → VolumeRow → VolumeRow = λ k v. get_or m.config.volumes k v in
     record {
       lines = λ k d within. line_kept m es n fits (device k d).class is (device k d).line (line_flows m.config is (device k d).class k d within (flows_itself (device k d).class));

@@ -22,8 +22,8 @@ use Rattle.sys_purge.proofs.SeenTurns.{TerminalsFlow}
 use Rattle.sys_purge.proofs.TransferBytes.{PrintFits, PrintersFlow}
 use Rattle.sys_purge.specs.Input.{is_kept}
 use Rattle.sys_purge.specs.Laws.{LineFlowsInto}
-use Rattle.sys_state.specs.Bytes.{Device, audit_device, devices_of, dump_device, printer_device, terminal_device}
-use Rattle.sys_state.specs.Places.{is_at}
+use Rattle.sys_state.specs.Bytes.{audit_device, devices_of, dump_device, printer_device, terminal_device, LineDevice}
+use Rattle.sys_objects.specs.Places.{is_at}
 
 -- the elements of a list in front of another, after another, and those that are changed
 all_before : {A : Type 0} (P : A → Type 0) (xs ys : List A) → All P (xs ++ ys) → All P xs
@@ -39,17 +39,17 @@ all_of_map P f [] all = All-nil (λ x. P (f x))
 all_of_map P f (x ∷ xs) all = All-cons (λ x. P (f x)) x xs (All-head P (f x) (map f xs) all) (all_of_map P f xs (All-tail P (f x) (map f xs) all))
 
 module _ (c : Config) where
-  abbrev pub ts : List Device
+  abbrev pub ts : List LineDevice
   ts = map terminal_device c.terminals
 
-  abbrev pub ps : List Device
+  abbrev pub ps : List LineDevice
   ps = map printer_device c.printers
 
-  abbrev pub ds : List Device
+  abbrev pub ds : List LineDevice
   ds = filter_map dump_device c.guests
 
   module _ (line : ℕ) (to : AccessClass) where
-    abbrev Flows : Device → Type 0
+    abbrev Flows : LineDevice → Type 0
     Flows d = d.line ≡ line → does_flow d.class to ≡ true
 
     terminals_flow : LineFlowsInto c line to → TerminalsFlow line to c.terminals
@@ -80,7 +80,7 @@ module _ (c : Config) where
         by_dump : (All Flows (filter_map dump_device rows) → Each DumpFlows rows) → (o : Option ℕ) → row.dump ≡ o → Each DumpFlows (row ∷ rows)
         by_dump rest None none = ((λ e. absurd (false≢true (rw none at e))), rest (rw none at all))
         by_dump rest (Some l) some =
-            let device : Device = record { line = l; class = row.class } in
+            let device : LineDevice = record { line = l; class = row.class } in
             let flow : All Flows (device ∷ filter_map dump_device rows) = rw some at all in
             ((λ e. All-head Flows device (filter_map dump_device rows) flow (eqb-true l line (rw some at e))), rest (All-tail Flows device (filter_map dump_device rows) flow))
 
@@ -102,22 +102,22 @@ module _ (c : Config) where
         }
 
 -- the devices' lines
-lines_of_dumps : (rows : List GuestRow) → map (λ (d : Device). d.line) (filter_map dump_device rows) ≡ filter_map (λ (g : GuestRow). g.dump) rows
+lines_of_dumps : (rows : List GuestRow) → map (λ (d : LineDevice). d.line) (filter_map dump_device rows) ≡ filter_map (λ (g : GuestRow). g.dump) rows
 lines_of_dumps [] = refl
 lines_of_dumps (row ∷ rows) = by_dump (lines_of_dumps rows) row.dump refl
   where
-    by_dump : map (λ (d : Device). d.line) (filter_map dump_device rows) ≡ filter_map (λ (g : GuestRow). g.dump) rows → (o : Option ℕ) → row.dump ≡ o
-        → map (λ (d : Device). d.line) (filter_map dump_device (row ∷ rows)) ≡ filter_map (λ (g : GuestRow). g.dump) (row ∷ rows)
+    by_dump : map (λ (d : LineDevice). d.line) (filter_map dump_device rows) ≡ filter_map (λ (g : GuestRow). g.dump) rows → (o : Option ℕ) → row.dump ≡ o
+        → map (λ (d : LineDevice). d.line) (filter_map dump_device (row ∷ rows)) ≡ filter_map (λ (g : GuestRow). g.dump) (row ∷ rows)
     by_dump rest None none = rw none rest
     by_dump rest (Some l) some = rw some (ap (λ (ls : List ℕ). l ∷ ls) rest)
 
-line_of_audit : (a : Option Audit) → map (λ (d : Device). d.line) (audit_device a) ≡ audit_line a
+line_of_audit : (a : Option Audit) → map (λ (d : LineDevice). d.line) (audit_device a) ≡ audit_line a
 line_of_audit None = refl
 line_of_audit (Some a) = refl
 
-lines_of_devices : (c : Config) → map (λ (d : Device). d.line) (devices_of c) ≡ lines_of c
+lines_of_devices : (c : Config) → map (λ (d : LineDevice). d.line) (devices_of c) ≡ lines_of c
 lines_of_devices c =
-    let line : Device → ℕ = λ d. d.line in
+    let line : LineDevice → ℕ = λ d. d.line in
     let terminals = map-map line terminal_device c.terminals in
     let printers = map-map line printer_device c.printers in
     let dumps = lines_of_dumps c.guests in
@@ -130,23 +130,23 @@ lines_of_devices c =
     ∙ (λ i. ((terminals i ++ printers i) ++ filter_map (λ (g : GuestRow). g.dump) c.guests) ++ audit_line c.audit)
 
 module _ (c : Config) (is : IsConfig c) where
-  devices_apart : AllPairs (λ (d e : Device). d.line ≢ e.line) (devices_of c)
+  devices_apart : AllPairs (λ (d e : LineDevice). d.line ≢ e.line) (devices_of c)
   devices_apart i j d before within same =
-      let line : Device → ℕ = λ d. d.line in
+      let line : LineDevice → ℕ = λ d. d.line in
       let apart : AllPairs (λ x y. x ≢ y) (map line (devices_of c)) = subst (λ (ls : List ℕ). AllPairs (λ x y. x ≢ y) ls) (sym (lines_of_devices c)) is.lines in
       let size : length (map line (devices_of c)) ≡ length (devices_of c) = length-map (devices_of c) line in
       apart i j 0 before (omega (arith, within, size)) (get_or-map line (devices_of c) i d 0 (omega (arith, before, within)) ∙ same ∙ sym (get_or-map line (devices_of c) j d 0 within))
 
   -- a device's line flows into a class where the device does, since no other is on the line
-  abbrev device_at : Device → ℕ → Device
+  abbrev device_at : LineDevice → ℕ → LineDevice
   device_at d k = get_or (devices_of c) k d
 
-  flows_by_order : (to : AccessClass) (d : Device) (j k : ℕ) → does_flow (device_at d k).class to ≡ true → j < length (devices_of c) → k < length (devices_of c) → (device_at d j).line ≡ (device_at d k).line → (j ≡ k) ⊎ ((j < k) ⊎ (k < j)) → does_flow (device_at d j).class to ≡ true
+  flows_by_order : (to : AccessClass) (d : LineDevice) (j k : ℕ) → does_flow (device_at d k).class to ≡ true → j < length (devices_of c) → k < length (devices_of c) → (device_at d j).line ≡ (device_at d k).line → (j ≡ k) ⊎ ((j < k) ⊎ (k < j)) → does_flow (device_at d j).class to ≡ true
   flows_by_order to d j k flow inside within same (inl e) = ap (λ (i : ℕ). does_flow (device_at d i).class to) e ∙ flow
   flows_by_order to d j k flow inside within same (inr (inl before)) = absurd (devices_apart j k d before within same)
   flows_by_order to d j k flow inside within same (inr (inr later)) = absurd (devices_apart k j d later inside (sym same))
 
-  pub line_flows : (to : AccessClass) (k : ℕ) (d : Device) → k < length (devices_of c) → does_flow (device_at d k).class to ≡ true → LineFlowsInto c (device_at d k).line to
+  pub line_flows : (to : AccessClass) (k : ℕ) (d : LineDevice) → k < length (devices_of c) → does_flow (device_at d k).class to ≡ true → LineFlowsInto c (device_at d k).line to
   line_flows to k d within flow = All-from_get_or (Flows c (device_at d k).line to) (devices_of c) d (λ j inside same. flows_by_order to d j k flow inside within same (cases_order j k))
 
 pub flows_itself : (class : AccessClass) → does_flow class class ≡ true

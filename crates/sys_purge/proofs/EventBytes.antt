@@ -1,6 +1,6 @@
 -- What events show a line that flows into a class.
 use Rattle.std.proofs.Common.{◌≡◌, ℕ, suc, List, [], ◌∷◌, ◌++◌, map, filter, Bool, true, false, refl, sym, ap, ◌∙◌, All, Option, Some, None, option_map, slice_get, slice_set, slice_index_or, if◌then◌else◌, true≢false, ◌==◌}
-use Rattle.std.specs.Prelude.{find, position}
+use Rattle.std.specs.Prelude.{find, option_to_list}
 use Rattle.std.proofs.lemmas.Bool.{false≢true}
 use Rattle.vv_class.specs.Class.{does_flow}
 use Rattle.vv_class.specs.declared.class.AccessClass.{AccessClass}
@@ -14,7 +14,6 @@ use Rattle.sys_objects.specs.declared.records.VolumeRow.{VolumeRow}
 use Rattle.sys_purge.proofs.Accepted.{flows_on, printer_kept, terminal_kept, volume_kept}
 use Rattle.sys_purge.proofs.Beside.{get_beside, passes_row}
 use Rattle.sys_purge.proofs.Fits.{ConnectFits, Fits, Holds, Pairs, VerdictFits, all_get, fits_happened, pairs_set, verdict_fits}
-use Rattle.sys_purge.proofs.Judged.{position_is}
 use Rattle.sys_purge.proofs.Kept.{both, get_kept}
 use Rattle.sys_purge.proofs.Seen.{holds_passes, seen, seen_connected, server_seen, set_seen}
 use Rattle.sys_purge.proofs.SeenEvents.{Found, connection_seen, dropped_now, first_kept, found, is_kept_at, kept_now, seen_place, sees, verdict_seen}
@@ -26,14 +25,14 @@ use Rattle.sys_purge.specs.Judged.{guest_rank, moved_verdict}
 use Rattle.sys_purge.specs.Purge.{kept_audit, purge_config, rank}
 use Rattle.sys_state.proofs.Consoles.{bytes_append, bytes_of_console}
 use Rattle.sys_state.specs.Consoles.{console_of, on_console}
-use Rattle.sys_state.specs.Events.{at_place, audit_puts, commanded, events, happened, is_named, lined, message_of, puts_after_verdict, puts_before, said_on, show_puts, stop_puts, taken_notice, taken_puts, typed_at_terminal}
+use Rattle.sys_state.specs.Events.{after_verdict, at_place, audit_puts, commanded, events, happened, is_named, lined, message_of, obeyed, said_on, typed_at_terminal}
 use Rattle.sys_state.specs.Places.{place_of}
 use Rattle.sys_state.specs.State.{Put, SystemState, bytes_on, is_running, server_of}
 use Rattle.sys_script.specs.declared.event.Event.{Event}
 use Rattle.sys_script.specs.declared.event.Typed.{Typed}
 use Rattle.sys_script.specs.declared.event.Typed.TheVariants.{Break, Line}
-use Rattle.sys_server.specs.Apply.{is_guest, taken}
-use Rattle.sys_server.specs.Replies.{with_line_end, guest_lines, object_text, printer_line, reply_of, running_text, server_text, shown_lines, volume_line}
+use Rattle.sys_objects.specs.Places.{is_at}
+use Rattle.sys_server.specs.Replies.{with_line_end, guest_lines, object_text, printer_line, reply_of, running_text, server_text, shown_lines, taken_text, volume_line}
 use Rattle.sys_server.specs.Verdict.{verdict_of}
 use Rattle.sys_server.specs.declared.command.Command.TheVariants.{Connect, Start, Halt, MountAt, Dismount, Show}
 use Rattle.sys_server.specs.declared.command.ServerState.{ServerState}
@@ -47,6 +46,14 @@ off_line own line off (text ∷ texts) = let rest = off_line own line off texts 
 
 pub off_said : (own line : ℕ) → (own == line) ≡ false → (text : List ℕ) (puts : List Put) → bytes_on line (said_on own text ∷ puts) ≡ bytes_on line puts
 off_said own line off text puts = rw off refl
+
+-- the terminal whose console is taken is told
+abbrev pub told : Option ℕ → List Put
+told o = map (λ line. said_on line taken_text) (option_to_list o)
+
+pub off_told : (line : ℕ) (o : Option ℕ) → is_at line o ≡ false → bytes_on line (told o) ≡ []
+off_told line None off = refl
+off_told line (Some own) off = off_said own line off taken_text []
 
 -- of what is kept, what a lower class knows is what it knows of all
 pub known : {X : Type 0} (p test : X → Bool) (xs : List X) → ((x : X) → p x ≡ true → test x ≡ true) → filter p (filter test xs) ≡ filter p xs
@@ -80,27 +87,28 @@ module _ (c : Config) (to : AccessClass) where
       let printers = ap (map printer_line) (known (λ (q : PrinterRow). does_flow q.class class) (printer_kept c to) c.printers (λ q h. flows_on q.class class to h e)) in
       λ i. running i ++ volumes i ++ printers i
 
-  show_seen : (s : SystemState) (k : Terminal) → sees c to k ≡ true → show_puts (purge_config c to) (seen c to s) k ≡ show_puts c s k
-  show_seen s k e = ap (map (λ text. record { line = k.line; bytes = text })) (shown_seen s k.class e)
+  show_seen : (s : SystemState) (m n : ℕ) (k : Terminal) → sees c to k ≡ true → (obeyed (purge_config c to) (seen c to s) m k Show).before ≡ (obeyed c s n k Show).before
+  show_seen s m n k e = ap (map (λ text. record { line = k.line; bytes = text })) (shown_seen s k.class e)
 
   -- HALT's message
-  stop_seen : (s : SystemState) → Fits c s → (class : AccessClass) → does_flow class to ≡ true → (g : ℕ) → Holds c class g → stop_puts (purge_config c to) (seen c to s) (guest_rank c to g) ≡ stop_puts c s g
-  stop_seen s f class e g h =
+  stop_seen : (s : SystemState) → Fits c s → (m n : ℕ) (k : Terminal) → sees c to k ≡ true → (g : ℕ) → Holds c k.class g → (obeyed (purge_config c to) (seen c to s) m k (Halt (guest_rank c to g))).before ≡ (obeyed c s n k (Halt g)).before
+  stop_seen s f m n k e g h =
       let kept : is_kept to h.0 ≡ true = ap (λ d. does_flow d to) h.2 ∙ e in
       let console = console_kept c to g h.0 h.1 kept c.terminals s.connected f.connected in
-      let guest = get_beside (is_kept to) c.guests s.guests g (holds_passes c to class g h ∙ e) in
+      let guest = get_beside (is_kept to) c.guests s.guests g (holds_passes c to k.class g h ∙ e) in
       λ i. on_console (console i) (message_of (guest i))
 
-  before_seen : (s : SystemState) → Fits c s → (k : Terminal) → sees c to k ≡ true → (v : Verdict) → VerdictFits c k.class v → puts_before (purge_config c to) (seen c to s) k (moved_verdict c to v) ≡ puts_before c s k v
-  before_seen s f k e (Granted Show) h = show_seen s k e
-  before_seen s f k e (Granted (Halt g)) h = stop_seen s f k.class e g h
-  before_seen s f k e (Granted (Start g)) h = refl
-  before_seen s f k e (Granted (Connect g)) h = refl
-  before_seen s f k e (Granted (MountAt g unit m)) h = refl
-  before_seen s f k e (Granted (Dismount g unit)) h = refl
-  before_seen s f k e BadCommand h = refl
-  before_seen s f k e NoSuchObject h = refl
-  before_seen s f k e (Denied rule) h = refl
+  before_seen : (s : SystemState) → Fits c s → (m n : ℕ) (k : Terminal) → sees c to k ≡ true → (v : Verdict) → VerdictFits c k.class v
+      → (after_verdict (purge_config c to) (seen c to s) m k (moved_verdict c to v)).before ≡ (after_verdict c s n k v).before
+  before_seen s f m n k e (Granted Show) h = show_seen s m n k e
+  before_seen s f m n k e (Granted (Halt g)) h = stop_seen s f m n k e g h
+  before_seen s f m n k e (Granted (Start g)) h = refl
+  before_seen s f m n k e (Granted (Connect g)) h = refl
+  before_seen s f m n k e (Granted (MountAt g unit mount)) h = refl
+  before_seen s f m n k e (Granted (Dismount g unit)) h = refl
+  before_seen s f m n k e BadCommand h = refl
+  before_seen s f m n k e NoSuchObject h = refl
+  before_seen s f m n k e (Denied rule) h = refl
 
   pub reply_seen : (v : Verdict) → reply_of (moved_verdict c to v) ≡ reply_of v
   reply_seen (Granted command) = refl
@@ -108,58 +116,15 @@ module _ (c : Config) (to : AccessClass) where
   reply_seen NoSuchObject = refl
   reply_seen (Denied rule) = refl
 
-  -- the terminal whose console is taken
-  abbrev terminal_at : List Terminal → Option ℕ → Option Terminal
-  terminal_at ks None = None
-  terminal_at ks (Some n) = slice_get ks n
-
-  by_terminal : (d : Config) (o : Option ℕ) → taken_puts d o ≡ taken_notice (terminal_at d.terminals o)
-  by_terminal d None = refl
-  by_terminal d (Some n) = refl
-
-  nowhere : (o : Option ℕ) → terminal_at [] o ≡ None
-  nowhere None = refl
-  nowhere (Some n) = refl
-
-  one_after : (k : Terminal) (ks : List Terminal) (o : Option ℕ) → terminal_at (k ∷ ks) (option_map suc o) ≡ terminal_at ks o
-  one_after k ks None = refl
-  one_after k ks (Some n) = refl
-
-  taken_seen : (g : ℕ) (row : GuestRow) → slice_get c.guests g ≡ Some row → is_kept to row ≡ true → (ks : List Terminal) (os : List (Option ℕ)) → Pairs (ConnectFits c) ks os
-      → terminal_at (filter (terminal_kept c to) ks) (place_of (is_guest (guest_rank c to g)) (seen_connected c to ks os)) ≡ terminal_at ks (place_of (is_guest g) os)
-  taken_seen g row at e [] os f = sym (nowhere (place_of (is_guest g) os))
-  taken_seen g row at e (k ∷ ks) [] f = refl
-  taken_seen g row at e (k ∷ ks) (o ∷ os) f =
-      let rest = taken_seen g row at e ks os f.1 in
-      let beyond = one_after k (filter (terminal_kept c to) ks) (place_of (is_guest (guest_rank c to g)) (seen_connected c to ks os)) in
-      let before = one_after k ks (place_of (is_guest g) os) in
-      both (terminal_kept c to k)
-      (λ b. let same = same_guest k b o f.0 in
-      both (is_guest g o) (λ d. rw (b, same, d) refl) (λ d. rw (b, same, d) (beyond ∙ rest ∙ sym before)))
-      (λ b. both (is_guest g o) (λ d. absurd (true≢false (sym e ∙ alike k o f.0 d ∙ b))) (λ d. rw (b, d) (rest ∙ sym before)))
-    where
-      same_guest : (k : Terminal) → terminal_kept c to k ≡ true → (o : Option ℕ) → ConnectFits c k o → is_guest (guest_rank c to g) (option_map (guest_rank c to) o) ≡ is_guest g o
-      same_guest k b None f = refl
-      same_guest k b (Some j) f = at_kept c to g row at e k b (Some j) f
-
-      alike : (k : Terminal) (o : Option ℕ) → ConnectFits c k o → is_guest g o ≡ true → is_kept to row ≡ terminal_kept c to k
-      alike k None f d = absurd (false≢true d)
-      alike k (Some j) f d = kept_alike c to g row at k (Some j) f d
-
   pub after_seen : (s : SystemState) → Fits c s → (n : ℕ) (k : Terminal) → slice_get c.terminals n ≡ Some k → sees c to k ≡ true → (v : Verdict) → VerdictFits c k.class v
-      → puts_after_verdict (purge_config c to) (seen c to s) (seen_place c to n) (moved_verdict c to v) ≡ puts_after_verdict c s n v
-  unfolding taken
+      → (after_verdict (purge_config c to) (seen c to s) (seen_place c to n) k (moved_verdict c to v)).later ≡ (after_verdict c s n k v).later
   after_seen s f n k at e (Granted (Connect g)) h =
       let os : List (Option ℕ) = slice_set s.connected n None in
       let fits : Pairs (ConnectFits c) c.terminals os = pairs_set (ConnectFits c) c.terminals s.connected n k None f.connected at tt in
       let set = sym (set_seen c to s.connected n None (passes_row (terminal_kept c to) c.terminals n k at ∙ e)) in
-      let place : position (is_guest (guest_rank c to g)) (slice_set (seen_connected c to c.terminals s.connected) (seen_place c to n) None) ≡ place_of (is_guest (guest_rank c to g)) (seen_connected c to c.terminals os) =
-      ap (position (is_guest (guest_rank c to g))) set ∙ position_is (is_guest (guest_rank c to g)) (seen_connected c to c.terminals os) in
-      ap (taken_puts (purge_config c to)) place
-      ∙ by_terminal (purge_config c to) (place_of (is_guest (guest_rank c to g)) (seen_connected c to c.terminals os))
-      ∙ ap taken_notice (taken_seen g h.0 h.1 (ap (λ d. does_flow d to) h.2 ∙ e) c.terminals os fits)
-      ∙ sym (by_terminal c (place_of (is_guest g) os))
-      ∙ ap (taken_puts c) (sym (position_is (is_guest g) os))
+      let kept : is_kept to h.0 ≡ true = ap (λ d. does_flow d to) h.2 ∙ e in
+      ap (λ (xs : List (Option ℕ)). told (console_of (filter (terminal_kept c to) c.terminals) xs (guest_rank c to g))) set
+      ∙ ap told (console_kept c to g h.0 h.1 kept c.terminals os fits)
   after_seen s f n k at e (Granted (Start g)) h = refl
   after_seen s f n k at e (Granted (Halt g)) h = refl
   after_seen s f n k at e (Granted (MountAt g unit m)) h = refl
@@ -207,19 +172,19 @@ module _ (c : Config) (to : AccessClass) where
     seen_command : (round : ℕ) (s : SystemState) → Fits c s → (n : ℕ) (k : Terminal) → slice_get c.terminals n ≡ Some k → sees c to k ≡ true → (text : List ℕ) (v : Verdict) → VerdictFits c k.class v
         → bytes_on line (commanded (purge_config c to) round (seen c to s) (seen_place c to n) k text (moved_verdict c to v)).puts ≡ bytes_on line (commanded c round s n k text v).puts
     seen_command round s f n k at e text v h =
-        let before = before_seen s f k e v h in
+        let before = before_seen s f (seen_place c to n) n k e v h in
         let reply = reply_seen v in
         let beyond = after_seen s f n k at e v h in
         let audit = audit_seen c.audit audited round k text v in
-        let replies : List Put = puts_before c s k v ++ (said_on k.line (reply_of v) ∷ puts_after_verdict c s n v) in
-        let replies' : List Put = puts_before (purge_config c to) (seen c to s) k (moved_verdict c to v) ++ (said_on k.line (reply_of (moved_verdict c to v)) ∷ puts_after_verdict (purge_config c to) (seen c to s) (seen_place c to n) (moved_verdict c to v)) in
+        let replies : List Put = (after_verdict c s n k v).before ++ (said_on k.line (reply_of v) ∷ (after_verdict c s n k v).later) in
+        let replies' : List Put = (after_verdict (purge_config c to) (seen c to s) (seen_place c to n) k (moved_verdict c to v)).before ++ (said_on k.line (reply_of (moved_verdict c to v)) ∷ (after_verdict (purge_config c to) (seen c to s) (seen_place c to n) k (moved_verdict c to v)).later) in
         let same : replies' ≡ replies = λ i. before i ++ (said_on k.line (reply i) ∷ beyond i) in
         bytes_append line replies' (audit_puts (kept_audit to c.audit) round k text (moved_verdict c to v))
         ∙ (λ i. bytes_on line (same i) ++ audit i)
         ∙ sym (bytes_append line replies (audit_puts c.audit round k text v))
 
     -- a command at one that isn't: nothing of it is shown on the line
-    unseen_before : (s : SystemState) → Fits c s → (n : ℕ) (k : Terminal) → slice_get c.terminals n ≡ Some k → sees c to k ≡ false → (v : Verdict) → VerdictFits c k.class v → bytes_on line (puts_before c s k v) ≡ []
+    unseen_before : (s : SystemState) → Fits c s → (n : ℕ) (k : Terminal) → slice_get c.terminals n ≡ Some k → sees c to k ≡ false → (v : Verdict) → VerdictFits c k.class v → bytes_on line ((after_verdict c s n k v).before) ≡ []
     unseen_before s f n k at e (Granted Show) h = off_line k.line line (hidden_line n k at e) (shown_lines c (server_of s) k.class)
     unseen_before s f n k at e (Granted (Halt g)) h =
         let hidden : is_kept to h.0 ≡ false = ap (λ d. does_flow d to) h.2 ∙ e in
@@ -234,29 +199,11 @@ module _ (c : Config) (to : AccessClass) where
     unseen_before s f n k at e NoSuchObject h = refl
     unseen_before s f n k at e (Denied rule) h = refl
 
-    unseen_told : (g : ℕ) (row : GuestRow) → slice_get c.guests g ≡ Some row → is_kept to row ≡ false → (ks : List Terminal) (os : List (Option ℕ)) → Pairs (ConnectFits c) ks os → ((n : ℕ) (k : Terminal) → slice_get ks n ≡ Some k → k.line ≡ line → does_flow k.class to ≡ true)
-        → bytes_on line (taken_notice (terminal_at ks (place_of (is_guest g) os))) ≡ []
-    unseen_told g row at e [] os f flows = ap (λ o. bytes_on line (taken_notice o)) (nowhere (place_of (is_guest g) os))
-    unseen_told g row at e (k ∷ ks) [] f flows = refl
-    unseen_told g row at e (k ∷ ks) (o ∷ os) f flows =
-        let rest = unseen_told g row at e ks os f.1 (λ n x h. flows (suc n) x h) in
-        let before = one_after k ks (place_of (is_guest g) os) in
-        both (is_guest g o)
-        (λ d. let off = other_line k.line line k.class to (flows 0 k refl) (sym (alike k o f.0 d) ∙ e) in rw (d, off) refl)
-        (λ d. rw d (ap (λ x. bytes_on line (taken_notice x)) before ∙ rest))
-      where
-        alike : (k : Terminal) (o : Option ℕ) → ConnectFits c k o → is_guest g o ≡ true → is_kept to row ≡ terminal_kept c to k
-        alike k None f d = absurd (false≢true d)
-        alike k (Some j) f d = kept_alike c to g row at k (Some j) f d
-
-    unseen_after : (s : SystemState) → Fits c s → (n : ℕ) (k : Terminal) → slice_get c.terminals n ≡ Some k → sees c to k ≡ false → (v : Verdict) → VerdictFits c k.class v → bytes_on line (puts_after_verdict c s n v) ≡ []
-    unfolding taken
+    unseen_after : (s : SystemState) → Fits c s → (n : ℕ) (k : Terminal) → slice_get c.terminals n ≡ Some k → sees c to k ≡ false → (v : Verdict) → VerdictFits c k.class v → bytes_on line ((after_verdict c s n k v).later) ≡ []
     unseen_after s f n k at e (Granted (Connect g)) h =
         let os : List (Option ℕ) = slice_set s.connected n None in
         let fits : Pairs (ConnectFits c) c.terminals os = pairs_set (ConnectFits c) c.terminals s.connected n k None f.connected at tt in
-        ap (λ o. bytes_on line (taken_puts c o)) (position_is (is_guest g) os)
-        ∙ ap (bytes_on line) (by_terminal c (place_of (is_guest g) os))
-        ∙ unseen_told g h.0 h.1 (ap (λ d. does_flow d to) h.2 ∙ e) c.terminals os fits terminal_flows
+        off_told line (console_of c.terminals os g) (not_on_line c to line g h.0 h.1 (ap (λ d. does_flow d to) h.2 ∙ e) c.terminals os fits flow)
     unseen_after s f n k at e (Granted (Start g)) h = refl
     unseen_after s f n k at e (Granted (Halt g)) h = refl
     unseen_after s f n k at e (Granted (MountAt g unit m)) h = refl
@@ -270,11 +217,11 @@ module _ (c : Config) (to : AccessClass) where
         → bytes_on line (commanded c round s n k text v).puts ≡ []
     unseen_command round s f n k at e text v h =
         let before = unseen_before s f n k at e v h in
-        let beyond = off_said k.line line (hidden_line n k at e) (reply_of v) (puts_after_verdict c s n v) ∙ unseen_after s f n k at e v h in
+        let beyond = off_said k.line line (hidden_line n k at e) (reply_of v) ((after_verdict c s n k v).later) ∙ unseen_after s f n k at e v h in
         let audit = audit_hidden c.audit audited round n k at e text v in
-        let replies : List Put = said_on k.line (reply_of v) ∷ puts_after_verdict c s n v in
-        bytes_append line (puts_before c s k v ++ replies) (audit_puts c.audit round k text v)
-        ∙ ap (λ (bytes : List ℕ). bytes ++ bytes_on line (audit_puts c.audit round k text v)) (bytes_append line (puts_before c s k v) replies)
+        let replies : List Put = said_on k.line (reply_of v) ∷ (after_verdict c s n k v).later in
+        bytes_append line ((after_verdict c s n k v).before ++ replies) (audit_puts c.audit round k text v)
+        ∙ ap (λ (bytes : List ℕ). bytes ++ bytes_on line (audit_puts c.audit round k text v)) (bytes_append line ((after_verdict c s n k v).before) replies)
         ∙ (λ i. (before i ++ beyond i) ++ audit i)
 
     -- lines and breaks

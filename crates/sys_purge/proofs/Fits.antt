@@ -23,7 +23,8 @@ use Rattle.sys_state.specs.State.{SystemState, server_of}
 use Rattle.sys_script.specs.declared.event.Event.{Event}
 use Rattle.sys_script.specs.declared.event.Typed.{Typed}
 use Rattle.sys_script.specs.declared.event.Typed.TheVariants.{Break, Line}
-use Rattle.sys_server.specs.Apply.{applied, freed, is_guest}
+use Rattle.sys_server.specs.Apply.{freed}
+use Rattle.sys_objects.specs.Places.{is_at}
 use Rattle.sys_server.specs.CommandLine.{asked_in}
 use Rattle.sys_server.specs.Verdict.{judged, judged_line, mount_at, on_dismount, on_guest, on_mount, on_row, on_rows, unless_empty, verdict_of, visible_guest_place, visible_volume_place}
 use Rattle.sys_server.specs.declared.command.Asked.{Asked}
@@ -188,7 +189,7 @@ module _ (c : Config) where
 
   -- every event keeps the rules
   freed_fits : (g : ℕ) (k : Terminal) (o : Option ℕ) → ConnectFits k o → ConnectFits k (freed g o)
-  freed_fits g k o f = both (is_guest g o) (λ e. rw e tt) (λ e. rw e f)
+  freed_fits g k o f = both (is_at g o) (λ e. rw e tt) (λ e. rw e f)
 
   mount_kept : (s : SystemState) → Fits s → (g unit : ℕ) (row : GuestRow) (m : Option Mounted) → slice_get c.guests g ≡ Some row → MountFits row.class m
       → Pairs MountsFit c.guests (slice_set s.mounts g (slice_set (slice_index_or s.mounts g []) unit m))
@@ -196,8 +197,7 @@ module _ (c : Config) where
       subst (Pairs MountsFit c.guests) (sym (set_is_changed (λ (ms : List (Option Mounted)). slice_set ms unit m) s.mounts g []))
       (pairs_changed MountsFit (λ (ms : List (Option Mounted)). slice_set ms unit m) c.guests s.mounts g row f.mounts at (λ ms each. each_set (MountFits row.class) ms unit m fm each))
 
-  fits_obeyed : (s : SystemState) → Fits s → (n : ℕ) (k : Terminal) → slice_get c.terminals n ≡ Some k → (command : Command) → CommandFits k.class command → Fits (obeyed c s n command)
-  unfolding applied
+  fits_obeyed : (s : SystemState) → Fits s → (n : ℕ) (k : Terminal) → slice_get c.terminals n ≡ Some k → (command : Command) → CommandFits k.class command → Fits (obeyed c s n k command).now
   fits_obeyed s f n k at (to_.Connect g) h = record {
     connected = pairs_set ConnectFits c.terminals (map (freed g) s.connected) n k (Some g) (pairs_map ConnectFits (freed g) (freed_fits g) c.terminals s.connected f.connected) at h;
     mounts = f.mounts;
@@ -208,7 +208,7 @@ module _ (c : Config) where
   fits_obeyed s f n k at (to_.Dismount g unit) h = record { connected = f.connected; mounts = mount_kept s f g unit h.0 None h.1 refl }
   fits_obeyed s f n k at to_.Show h = f
 
-  fits_verdict : (s : SystemState) → Fits s → (n : ℕ) (k : Terminal) → slice_get c.terminals n ≡ Some k → (v : Verdict) → VerdictFits k.class v → Fits (after_verdict c s n v)
+  fits_verdict : (s : SystemState) → Fits s → (n : ℕ) (k : Terminal) → slice_get c.terminals n ≡ Some k → (v : Verdict) → VerdictFits k.class v → Fits (after_verdict c s n k v).now
   fits_verdict s f n k at (Granted command) h = fits_obeyed s f n k at command h
   fits_verdict s f n k at BadCommand h = f
   fits_verdict s f n k at NoSuchObject h = f

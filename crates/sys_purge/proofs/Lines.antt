@@ -23,7 +23,8 @@ use Rattle.sys_purge.specs.Laws.{DriveFlowsInto, KeepsDevices, KeepsDrives, Keep
 use Rattle.sys_purge.specs.Moments.{purged_moment}
 use Rattle.sys_purge.specs.Purge.{purge_config, rank}
 use Rattle.sys_state.specs.Bytes.{blocks_at, devices_of, drive_blocks_from, dump_on, is_on_drive, line_bytes_from, shown_from}
-use Rattle.sys_state.specs.Places.{is_at, place_of}
+use Rattle.sys_state.specs.Places.{place_of}
+use Rattle.sys_objects.specs.Places.{is_at}
 use Rattle.sys_state.specs.Run.{Input, Moment, moment_after, opening, rounds_from}
 use Rattle.sys_state.specs.State.{SystemState}
 use Rattle.sys_script.specs.declared.event.Event.{Event}

@@ -18,7 +18,8 @@ use Rattle.sys_purge.proofs.SeenTurns.{made_beside, seen_rows}
 use Rattle.sys_purge.specs.Input.{is_kept, purge_images, purge_volumes}
 use Rattle.sys_purge.specs.Purge.{console_place, mount_place, purge_config, rank, renumbered}
 use Rattle.sys_state.specs.Guests.{powered}
-use Rattle.sys_state.specs.Places.{is_at, place_of}
+use Rattle.sys_state.specs.Places.{place_of}
+use Rattle.sys_objects.specs.Places.{is_at}
 use Rattle.sys_state.specs.Run.{connections, first_state}
 
 module _ (c : Config) (held : All (MayHave c) c.guests) where

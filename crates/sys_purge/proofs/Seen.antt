@@ -21,7 +21,7 @@ use Rattle.sys_state.specs.Events.{after_verdict, obeyed, reset_by}
 use Rattle.sys_state.specs.Guests.{stopped_by_command}
 use Rattle.sys_state.specs.Places.{changed}
 use Rattle.sys_state.specs.State.{SystemState, is_running, server_of}
-use Rattle.sys_server.specs.Apply.{applied, freed}
+use Rattle.sys_server.specs.Apply.{freed}
 use Rattle.sys_server.specs.declared.command.Command.{Command}
 use Rattle.sys_server.specs.declared.command.Command.TheVariants.{Connect, Start, Halt, MountAt, Dismount, Show}
 use Rattle.sys_server.specs.declared.command.Verdict.{Verdict}
@@ -135,62 +135,60 @@ module _ (c : Config) (to : AccessClass) where
   same_change f h e (x ∷ xs) (suc k) = ap (λ ys. x ∷ ys) (same_change f h e xs k)
 
   -- a command obeyed at a terminal that is seen
-  seen_obeyed : (s : SystemState) → Fits c s → (n : ℕ) → passes_at (terminal_kept c to) c.terminals n ≡ true → (class : AccessClass) → does_flow class to ≡ true → (command : Command) → CommandFits c class command
-      → obeyed (purge_config c to) (seen s) (rank (terminal_kept c to) c.terminals n) (moved_command c to command) ≡ seen (obeyed c s n command)
-  unfolding applied
-  seen_obeyed s f n p class e (Connect g) h =
+  seen_obeyed : (s : SystemState) → Fits c s → (n : ℕ) (t : Terminal) → passes_at (terminal_kept c to) c.terminals n ≡ true → (class : AccessClass) → does_flow class to ≡ true → (command : Command) → CommandFits c class command
+      → (obeyed (purge_config c to) (seen s) (rank (terminal_kept c to) c.terminals n) t (moved_command c to command)).now ≡ seen (obeyed c s n t command).now
+  seen_obeyed s f n t p class e (Connect g) h =
       let connected = connect_seen s f n p g h.0 h.1 (ap (λ d. does_flow d to) h.2 ∙ e) in
       λ i. record (seen s) { connected = connected i }
-  seen_obeyed s f n p class e (Start g) h =
+  seen_obeyed s f n t p class e (Start g) h =
       let kept : is_kept to h.0 ≡ true = ap (λ d. does_flow d to) h.2 ∙ e in
       let by : Option GuestRow = slice_get c.guests g in
       let by' : Option GuestRow = slice_get (purge_config c to).guests (guest_rank c to g) in
       let guests = same_change (reset_by by') (reset_by by) (reset_seen g h.0 h.1 kept) (beside (is_kept to) c.guests s.guests) (guest_rank c to g)
       ∙ sym (beside_changed (is_kept to) (reset_by by) c.guests s.guests g (holds_passes class g h ∙ e)) in
       λ i. record (seen s) { guests = guests i }
-  seen_obeyed s f n p class e (Halt g) h =
+  seen_obeyed s f n t p class e (Halt g) h =
       let guests = sym (beside_changed (is_kept to) stopped_by_command c.guests s.guests g (holds_passes class g h ∙ e)) in
       λ i. record (seen s) { guests = guests i }
-  seen_obeyed s f n p class e (MountAt g unit m) h =
+  seen_obeyed s f n t p class e (MountAt g unit m) h =
       let mounts = mount_seen s.mounts g unit (Some m) (holds_passes class g h.0 ∙ e) in
       λ i. record (seen s) { mounts = mounts i }
-  seen_obeyed s f n p class e (Dismount g unit) h =
+  seen_obeyed s f n t p class e (Dismount g unit) h =
       let mounts = mount_seen s.mounts g unit None (holds_passes class g h ∙ e) in
       λ i. record (seen s) { mounts = mounts i }
-  seen_obeyed s f n p class e Show h = refl
+  seen_obeyed s f n t p class e Show h = refl
 
   -- a command obeyed at one that isn't
-  unseen_obeyed : (s : SystemState) → Fits c s → (n : ℕ) → passes_at (terminal_kept c to) c.terminals n ≡ false → (class : AccessClass) → does_flow class to ≡ false → (command : Command) → CommandFits c class command
-      → seen (obeyed c s n command) ≡ seen s
-  unfolding applied
-  unseen_obeyed s f n p class e (Connect g) h =
+  unseen_obeyed : (s : SystemState) → Fits c s → (n : ℕ) (t : Terminal) → passes_at (terminal_kept c to) c.terminals n ≡ false → (class : AccessClass) → does_flow class to ≡ false → (command : Command) → CommandFits c class command
+      → seen (obeyed c s n t command).now ≡ seen s
+  unseen_obeyed s f n t p class e (Connect g) h =
       let connected = connect_unseen s f n p g h.0 h.1 (ap (λ d. does_flow d to) h.2 ∙ e) in
       λ i. record (seen s) { connected = connected i }
-  unseen_obeyed s f n p class e (Start g) h =
+  unseen_obeyed s f n t p class e (Start g) h =
       let guests = beside_unchanged (is_kept to) (reset_by (slice_get c.guests g)) c.guests s.guests g (holds_passes class g h ∙ e) in
       λ i. record (seen s) { guests = guests i }
-  unseen_obeyed s f n p class e (Halt g) h =
+  unseen_obeyed s f n t p class e (Halt g) h =
       let guests = beside_unchanged (is_kept to) stopped_by_command c.guests s.guests g (holds_passes class g h ∙ e) in
       λ i. record (seen s) { guests = guests i }
-  unseen_obeyed s f n p class e (MountAt g unit m) h =
+  unseen_obeyed s f n t p class e (MountAt g unit m) h =
       let mounts = mount_unseen s.mounts g unit (Some m) (holds_passes class g h.0 ∙ e) in
       λ i. record (seen s) { mounts = mounts i }
-  unseen_obeyed s f n p class e (Dismount g unit) h =
+  unseen_obeyed s f n t p class e (Dismount g unit) h =
       let mounts = mount_unseen s.mounts g unit None (holds_passes class g h ∙ e) in
       λ i. record (seen s) { mounts = mounts i }
-  unseen_obeyed s f n p class e Show h = refl
+  unseen_obeyed s f n t p class e Show h = refl
 
   -- any verdict
-  pub seen_verdict : (s : SystemState) → Fits c s → (n : ℕ) → passes_at (terminal_kept c to) c.terminals n ≡ true → (class : AccessClass) → does_flow class to ≡ true → (v : Verdict) → VerdictFits c class v
-      → after_verdict (purge_config c to) (seen s) (rank (terminal_kept c to) c.terminals n) (moved_verdict c to v) ≡ seen (after_verdict c s n v)
-  seen_verdict s f n p class e (Granted command) h = seen_obeyed s f n p class e command h
-  seen_verdict s f n p class e BadCommand h = refl
-  seen_verdict s f n p class e NoSuchObject h = refl
-  seen_verdict s f n p class e (Denied rule) h = refl
+  pub seen_verdict : (s : SystemState) → Fits c s → (n : ℕ) (t : Terminal) → passes_at (terminal_kept c to) c.terminals n ≡ true → (class : AccessClass) → does_flow class to ≡ true → (v : Verdict) → VerdictFits c class v
+      → (after_verdict (purge_config c to) (seen s) (rank (terminal_kept c to) c.terminals n) t (moved_verdict c to v)).now ≡ seen (after_verdict c s n t v).now
+  seen_verdict s f n t p class e (Granted command) h = seen_obeyed s f n t p class e command h
+  seen_verdict s f n t p class e BadCommand h = refl
+  seen_verdict s f n t p class e NoSuchObject h = refl
+  seen_verdict s f n t p class e (Denied rule) h = refl
 
-  pub unseen_verdict : (s : SystemState) → Fits c s → (n : ℕ) → passes_at (terminal_kept c to) c.terminals n ≡ false → (class : AccessClass) → does_flow class to ≡ false → (v : Verdict) → VerdictFits c class v
-      → seen (after_verdict c s n v) ≡ seen s
-  unseen_verdict s f n p class e (Granted command) h = unseen_obeyed s f n p class e command h
-  unseen_verdict s f n p class e BadCommand h = refl
-  unseen_verdict s f n p class e NoSuchObject h = refl
-  unseen_verdict s f n p class e (Denied rule) h = refl
+  pub unseen_verdict : (s : SystemState) → Fits c s → (n : ℕ) (t : Terminal) → passes_at (terminal_kept c to) c.terminals n ≡ false → (class : AccessClass) → does_flow class to ≡ false → (v : Verdict) → VerdictFits c class v
+      → seen (after_verdict c s n t v).now ≡ seen s
+  unseen_verdict s f n t p class e (Granted command) h = unseen_obeyed s f n t p class e command h
+  unseen_verdict s f n t p class e BadCommand h = refl
+  unseen_verdict s f n t p class e NoSuchObject h = refl
+  unseen_verdict s f n t p class e (Denied rule) h = refl

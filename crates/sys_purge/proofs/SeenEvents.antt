@@ -24,6 +24,7 @@ use Rattle.sys_script.specs.declared.event.Event.{Event}
 use Rattle.sys_script.specs.declared.event.Typed.{Typed}
 use Rattle.sys_script.specs.declared.event.Typed.TheVariants.{Break, Line}
 use Rattle.sys_server.specs.Verdict.{verdict_of}
+use Rattle.sys_server.specs.declared.command.Verdict.{Verdict}
 
 -- what is at the place that was found
 abbrev pub Found : {X : Type 0} → (X → Bool) → List X → Option ℕ → Type 0
@@ -85,8 +86,8 @@ module _ (c : Config) (to : AccessClass) where
       → (lined (purge_config c to) round (seen c to s) (seen_place n) k text (option_map (guest_rank c to) o)).now ≡ seen c to (lined c round s n k text o).now
   seen_lined round s f n k at e text None h =
       let p = passes_row (terminal_kept c to) c.terminals n k at ∙ e in
-      ap (after_verdict (purge_config c to) (seen c to s) (seen_place n)) (verdict_seen s n k text at e)
-      ∙ seen_verdict c to s f n p k.class e (verdict_of c (server_of s) n text) (verdict_fits c s n k text at)
+      ap (λ (v : Verdict). (after_verdict (purge_config c to) (seen c to s) (seen_place n) k v).now) (verdict_seen s n k text at e)
+      ∙ seen_verdict c to s f n k p k.class e (verdict_of c (server_of s) n text) (verdict_fits c s n k text at)
   seen_lined round s f n k at e text (Some g) h =
       let guests = sym (beside_changed (is_kept to) (typed text) c.guests s.guests g (holds_passes c to k.class g h ∙ e)) in
       λ i. record (seen c to s) { guests = guests i }
@@ -105,7 +106,7 @@ module _ (c : Config) (to : AccessClass) where
   unseen_lined : (round : ℕ) (s : SystemState) → Fits c s → (n : ℕ) (k : Terminal) → slice_get c.terminals n ≡ Some k → sees k ≡ false → (text : List ℕ) (o : Option ℕ) → ConnectFits c k o
       → seen c to (lined c round s n k text o).now ≡ seen c to s
   unseen_lined round s f n k at e text None h =
-      unseen_verdict c to s f n (passes_row (terminal_kept c to) c.terminals n k at ∙ e) k.class e (verdict_of c (server_of s) n text) (verdict_fits c s n k text at)
+      unseen_verdict c to s f n k (passes_row (terminal_kept c to) c.terminals n k at ∙ e) k.class e (verdict_of c (server_of s) n text) (verdict_fits c s n k text at)
   unseen_lined round s f n k at e text (Some g) h =
       let guests = beside_unchanged (is_kept to) (typed text) c.guests s.guests g (holds_passes c to k.class g h ∙ e) in
       λ i. record (seen c to s) { guests = guests i }

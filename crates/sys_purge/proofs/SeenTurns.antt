@@ -17,7 +17,8 @@ use Rattle.sys_purge.specs.Purge.{purge_config, rank, renumbered}
 use Rattle.sys_state.proofs.Consoles.{bytes_append, bytes_of_console}
 use Rattle.sys_state.specs.Consoles.{console_of, on_console}
 use Rattle.sys_state.specs.Guests.{alone}
-use Rattle.sys_state.specs.Places.{beside_with, is_at}
+use Rattle.sys_state.specs.Places.{beside_with}
+use Rattle.sys_objects.specs.Places.{is_at}
 use Rattle.sys_state.specs.State.{Put, SystemState, bytes_on}
 use Rattle.sys_state.specs.Turns.{turn, turn_puts, turns}
 use Rattle.vm_state.specs.State.{Guest}

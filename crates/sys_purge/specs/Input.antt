@@ -10,9 +10,8 @@ use Rattle.sys_state.specs.Run.{Input}
 
 -- what is beside the rows that are kept
 abbrev pub beside : {X Y : Type 0} → (X → Bool) → List X → List Y → List Y
-beside test [] ys = []
-beside test (x ∷ xs) [] = []
 beside test (x ∷ xs) (y ∷ ys) = if test x then y ∷ beside test xs ys else beside test xs ys
+beside test _ _ = []
 
 abbrev pub is_kept : AccessClass → GuestRow → Bool
 is_kept to g = does_flow g.class to

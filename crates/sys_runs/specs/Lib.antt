@@ -1,3 +1,4 @@
+pub mod Besides
 pub mod Given
 pub mod Laws
 pub mod Ran

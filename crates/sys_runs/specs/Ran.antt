@@ -1,5 +1,6 @@
 -- A whole run: what is left of it, and what the outside gets of it.
 use Rattle.std.specs.Prelude.{ℕ, ◌≡◌, ◌≢◌, ◌≤◌, ◌+◌, ◌*◌, List, [], length, Bool, false, All}
+use Rattle.sys_runs.specs.Besides.{Besides}
 use Rattle.std.specs.declared.option.Option.TheVariants.{None, Some}
 use Rattle.std.specs.declared.result.Result.{Result}
 use Rattle.std.specs.declared.result.Result.TheVariants.{Ok, Err}
@@ -15,14 +16,12 @@ use Rattle.sys_devices.specs.Shows.{Shows}
 use Rattle.sys_objects.specs.declared.records.Config.{Config}
 use Rattle.sys_state.specs.Bytes.{drive_blocks_from, line_bytes_from}
 use Rattle.sys_state.specs.Counts.{tally_from}
-use Rattle.sys_state.specs.FirstTouches.{first_touches_from}
 use Rattle.sys_state.specs.Run.{Input, Moment, opening}
 use Rattle.sys_runs.specs.declared.running.Ran.{Ran}
 use Rattle.sys_script.specs.declared.event.Event.{Event}
 use Rattle.sys_system.specs.Devices.{first_failed}
 use Rattle.sys_system.specs.declared.power.PowerFault.{PowerFault}
 use Rattle.sys_system.specs.declared.power.PowerFault.TheVariants.{Image, VolumeSize, DriveIn, NoMemory}
-use Rattle.vm_simulation_laws.specs.Paid.{Misses}
 use Rattle.vm_stepping.specs.Made.{steps_in, tally_of}
 
 -- the outside of a run, before it and after it: the machine, the lines and the drives
@@ -55,8 +54,8 @@ pub record StoresFrom (m : Moment) (es : List Event) (n : ℕ) (marks : List Boo
 
 -- n rounds were made from a moment on, and then power went down. The drives have as many blocks as the volumes. Each line has its
 -- bytes, or a front of them and a mark where it failed. The steps are those of these rounds, at most 1,600,000 for each round
--- since power-up, and the machine retired the plain ones. It missed at most as many pages as these rounds have first touches.
-pub record MakesFrom (m : Moment) (es : List Event) (n : ℕ) (ran : Ran) (o : RunOutside) : Type 0 where
+-- since power-up, and the machine retired the plain ones.
+pub record MakesFrom (Also : Besides) (m : Moment) (es : List Event) (n : ℕ) (ran : Ran) (o : RunOutside) : Type 0 where
   pub fit : All (FitsDrive o.drives) m.config.volumes
   -- the lines and the drives that have failed
   pub marks : List Bool
@@ -67,16 +66,14 @@ pub record MakesFrom (m : Moment) (es : List Event) (n : ℕ) (ran : Ran) (o : R
   pub counts : tally_of ran.counts ≡ tally_from m es n
   pub few : steps_in ran.counts ≤ 1600000 * (m.made + n)
   pub retires : Retires o.machine o.machine' (tally_from m es n)
-  pub missed : ℕ
-  pub misses : Misses missed o.machine o.machine'
-  pub touches : missed ≤ first_touches_from m es n
+  pub also : Also m es n o.machine o.machine'
   pub failed : ran.failed ≡ first_failed marks drive_marks
 
 -- The run was made: the images fit, the volumes are those of the drives, and its rounds were made from power-up on.
-pub record MakesRun (x : Input) (ran : Ran) (o : RunOutside) : Type 0 where
+pub record MakesRun (Also : Besides) (x : Input) (ran : Ran) (o : RunOutside) : Type 0 where
   pub fits : first_misfit x.config.guests x.images ≡ None
   pub loaded : AreLoaded x.config.volumes o.drives x.volumes
-  pub makes : MakesFrom (opening x) x.events x.rounds ran o
+  pub makes : MakesFrom Also (opening x) x.events x.rounds ran o
 
 -- Power doesn't come up: the first image that doesn't fit; or else the first volume whose drive has another size, or a drive that
 -- failed; or memory ran out.
@@ -87,6 +84,6 @@ StaysDown c images (DriveIn d) o = (first_misfit c.guests images ≡ None) × Ha
 StaysDown c images NoMemory o = Untouched o
 
 -- a run by its answer: it was made; or power doesn't come up
-abbrev pub Runs : Config → List (List ℕ) → List Event → ℕ → Result Ran PowerFault → RunOutside → Type 0
-Runs c images es n (Ok ran) o = (volumes : List (List (List ℕ))) × MakesRun (record { config = c; images = images; volumes = volumes; events = es; rounds = n }) ran o
-Runs c images es n (Err fault) o = StaysDown c images fault o
+abbrev pub Runs : Besides → Config → List (List ℕ) → List Event → ℕ → Result Ran PowerFault → RunOutside → Type 0
+Runs Also c images es n (Ok ran) o = (volumes : List (List (List ℕ))) × MakesRun Also (record { config = c; images = images; volumes = volumes; events = es; rounds = n }) ran o
+Runs Also c images es n (Err fault) o = StaysDown c images fault o

@@ -1,6 +1,7 @@
 //! Whole runs, saved and resumed ones too: power comes up, rounds are made, power goes down.
 #![tactic(auto)]
 
+mod extending;
 mod given;
 mod laws;
 mod resuming;
@@ -8,6 +9,7 @@ mod rounds;
 mod running;
 mod saving;
 
+pub use extending::extend;
 pub use given::run_with;
 pub use laws::no_volumes_touch_no_drive;
 pub use resuming::resume;

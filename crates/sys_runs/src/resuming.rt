@@ -1,11 +1,11 @@
 ghost use Rattle.std.specs.Prelude.{◌≡◌, ◌≤◌, ◌*◌, length, map, vec_len};
+ghost use Rattle.sys_runs.specs.Besides.{MissesArePaid};
 ghost use Rattle.sys_runs.specs.Saved.{ContinuesRun};
 ghost use Rattle.sys_script.specs.Events.{AreEvents};
 ghost use Rattle.sys_snap.specs.Held.{HoldsMoment, snapshot_moment};
 ghost use Rattle.sys_snap.specs.Snap.{IsMoment};
 
-use crate::rounds::make_rounds;
-use crate::running::Ran;
+use crate::running::{Ran, finish};
 use std::alloc::Global;
 use sys_script::Event;
 use sys_snap::Snap;
@@ -32,14 +32,17 @@ pub fn resume<H: Hardware, P: Progress, L: Lines>(
     requires few { rounds ≤ 1000000 }
     requires pages { length (H.machine machine.old).memory ≡ 512 * 32768 }
     requires drives { vec_len drives.old ≡ 16 }
-    ensures goes_on { ContinuesRun (snapshot_moment snap) events.now rounds result (record { machine = H.machine machine.old; machine' = H.machine machine.new; lines = L.lines lines.old; lines' = L.lines lines.new; drives = map (λ d. kept d) drives.old.items; drives' = map (λ d. kept d) drives.new.items }) }
+    ensures goes_on { ContinuesRun MissesArePaid (snapshot_moment snap) events.now rounds result (record { machine = H.machine machine.old; machine' = H.machine machine.new; lines = L.lines lines.old; lines' = L.lines lines.new; drives = map (λ d. kept d) drives.old.items; drives' = map (λ d. kept d) drives.new.items }) }
     ensures drives_len { vec_len drives.new ≡ vec_len drives.old }
 {
     let mut system = System::resume(alloc, snap, machine, drives)?;
-    make_rounds(&mut system, machine, lines, events, rounds, progress);
-    system.power_down(machine, lines, drives);
-    Ok(Ran {
-        counts: system.counts(),
-        failed: system.failed(),
-    })
+    Ok(finish(
+        &mut system,
+        events,
+        rounds,
+        machine,
+        lines,
+        drives,
+        progress,
+    ))
 }

@@ -1,4 +1,3 @@
-pub mod Cutting
 pub mod Ordered
 pub mod Reading
 pub mod TypedLines

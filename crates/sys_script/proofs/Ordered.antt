@@ -1,4 +1,5 @@
 -- The events of a script are events, and their rounds never fall.
+use Rattle.std.specs.Option.{option_and_then}
 use Rattle.std.proofs.Common.{◌≡◌, ◌≤◌, ℕ, ◌+◌, List, [], ◌∷◌, Bool, true, false, Option, Some, None, Result, Ok, Err, refl, arith, ap, subst, nat_le, ◌&&◌, if◌then◌else◌}
 use Rattle.std.proofs.lemmas.Bool.{leb-true}
 use Rattle.std.proofs.lemmas.List.Elements.{All-from_recursion}
@@ -7,7 +8,7 @@ use Rattle.std.specs.Str.Lines.{lines}
 use Rattle.vv_base.specs.Digits.{decimal_from, decimal_of, is_decimal}
 use Rattle.vv_base.specs.Names.{is_object_name, tested}
 use Rattle.sys_script.specs.Events.{AreEvents, IsEvent, NeverFalls}
-use Rattle.sys_script.specs.EventLine.{◌>>=◌, at_least_one, after_blank, event_in, front, is_allowed, or_kind, round_in, what_in, when}
+use Rattle.sys_script.specs.EventLine.{◌>>=◌, after_blank, event_in, front, is_allowed, or_kind, round_in, what_in, when}
 use Rattle.sys_script.specs.Script.{at_script_line, events_from, in_front, is_passed_over, script_of}
 use Rattle.sys_script.specs.declared.event.Event.{Event}
 use Rattle.sys_script.specs.declared.event.ScriptFault.{ScriptFault}
@@ -24,7 +25,7 @@ second : (a b : Bool) → (a && b) ≡ true → b ≡ true
 second true b both = both
 second false b both = cc
 
-at_least : (number : Option ℕ) (round : ℕ) → at_least_one number ≡ Some round → (number ≡ Some round) × (1 ≤ round)
+at_least : (number : Option ℕ) (round : ℕ) → option_and_then (λ n. if nat_le 1 n then Some n else None) number ≡ Some round → (number ≡ Some round) × (1 ≤ round)
 at_least None round is = (cc, absurd cc)
 at_least (Some n) round is =
     let test : (nat_le 1 n ≡ true) × (n ≡ round) = passed (nat_le 1 n) n round is in

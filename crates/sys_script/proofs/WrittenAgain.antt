@@ -22,7 +22,7 @@ use Rattle.sys_script.specs.declared.event.Event.{Event}
 use Rattle.sys_script.specs.declared.event.ScriptKind.TheVariants.{BadRound, BadName, BadEvent, BadText, RoundFalls}
 use Rattle.sys_script.specs.declared.event.Typed.{Typed}
 use Rattle.sys_script.specs.declared.event.Typed.TheVariants.{Break, Line}
-use Rattle.sys_script.proofs.Cutting.{first_part}
+use Rattle.vv_base.proofs.FirstLines.{first_part}
 
 -- Bytes that are not below a bound.
 abbrev pub AreFrom : ℕ → List ℕ → Type 0

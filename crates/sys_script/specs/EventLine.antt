@@ -1,5 +1,6 @@
 -- What one line of a script says (profile): `ROUND NAME > TEXT`, `ROUND NAME >` for an empty text, or
 -- `ROUND NAME break`, with single blanks.
+use Rattle.std.specs.Option.{option_and_then}
 use Rattle.std.specs.List.{after_first, before_first}
 use Rattle.std.specs.Prelude.{ℕ, List, [], codes, take, drop, Bool, true, false, ◌==◌, nat_le, if◌then◌else◌, Option, Some, None, Result, Ok, Err, bytes_eq}
 use Rattle.vv_base.specs.Digits.{decimal_of}
@@ -19,12 +20,8 @@ abbrev pub after_blank : List ℕ → List ℕ
 after_blank text = after_first (λ b. b == 32) text
 
 -- a round: a number from 1 to 1,000,000
-abbrev pub at_least_one : Option ℕ → Option ℕ
-at_least_one None = None
-at_least_one (Some n) = if nat_le 1 n then Some n else None
-
 abbrev pub round_in : List ℕ → Option ℕ
-round_in text = at_least_one (decimal_of text 1000000)
+round_in text = option_and_then (λ n. if nat_le 1 n then Some n else None) (decimal_of text 1000000)
 
 -- what happens at the terminal: a break, or a line typed after the sign
 abbrev pub what_in : List ℕ → Option Typed

@@ -8,7 +8,7 @@ mod text;
 mod typed;
 
 pub use event::{Event, ScriptError, ScriptFault, ScriptKind, Typed, TypedError};
-pub use line::read_typed;
+pub use line::{LAST_ROUND, MOST_TYPED, cut, read_typed};
 pub use script::{is_passed_over, read_script, script_law};
 pub use text::LineText;
 pub use typed::{kind_text, typed_law, typed_line_law};

@@ -9,13 +9,13 @@ ghost use Rattle.sys_script.specs.Typed.{ReadsTyped, typed_in};
 
 use crate::{Event, LineText, ScriptError, ScriptFault, ScriptKind, Typed, TypedError};
 use std::alloc::Global;
-use vv_base::{object_name, read_decimal};
+use vv_base::{find, object_name, read_decimal};
 
 /// The last round of which a script may speak.
-const LAST_ROUND: u64 = 1_000_000;
+pub const LAST_ROUND: u64 = 1_000_000;
 
 /// How many bytes a typed line has at most.
-const MOST_TYPED: usize = 1000;
+pub const MOST_TYPED: usize = 1000;
 
 /// What a line asks for, over the script's bytes.
 #[derive(Clone, Copy)]
@@ -24,19 +24,12 @@ enum Asked<'a> {
     Line(&'a [u8]),
 }
 
-fn find_blank(text: &[u8]) -> Option<usize>
-    ensures value { result ≡ position (λ b. b == 32) text.now }
-    ensures within { IfSome result (λ i. i < length text.now) }
-{
-    text.iter().position(|b| *b == b' ')
-}
-
 /// What comes up to the first blank, and after it.
-fn cut(text: &[u8]) -> (&[u8], &[u8])
+pub fn cut(text: &[u8]) -> (&[u8], &[u8])
     ensures before { result.0.now ≡ front text.now }
     ensures after { result.1.now ≡ after_blank text.now }
 {
-    match find_blank(text) {
+    match find(text, b' ') {
         Some(at) => (&text[..at], &text[at + 1..]),
         None => (text, &[]),
     }

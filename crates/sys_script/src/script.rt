@@ -10,33 +10,17 @@ ghost use Rattle.sys_script.specs.Written.{script_text};
 use crate::line::read_event;
 use crate::{Event, ScriptError};
 use std::alloc::Global;
-
-fn find_line_feed(text: &[u8]) -> Option<usize>
-    ensures value { result ≡ position (λ b. b == 10) text.now }
-    ensures within { IfSome result (λ i. i < length text.now) }
-{
-    text.iter().position(|b| *b == b'\n')
-}
-
-fn without_return(line: &[u8]) -> &[u8]
-    ensures { result.now ≡ strip_carriage_return line.now }
-{
-    match line {
-        [line @ .., b'\r'] => line,
-        _ => line,
-    }
-}
+use vv_base::first_line;
 
 /// The first line, without its end, and what follows it.
 fn next_line(text: &[u8]) -> Option<(&[u8], &[u8])>
     ensures first { lines text.now ≡ option_map_or (λ p. p.0.now ∷ lines p.1.now) result [] }
     ensures shorter { IfSome result (λ p. length p.1.now < length text.now) }
 {
-    match find_line_feed(text) {
-        Some(end) => Some((without_return(&text[..end]), &text[end + 1..])),
-        None if text.is_empty() => None,
-        None => Some((text, &[])),
+    if text.is_empty() {
+        return None;
     }
+    Some(first_line(text))
 }
 
 /// Whether a line is empty, or a comment.

@@ -5,7 +5,7 @@ use Rattle.std.proofs.lemmas.List.Elements.{All-from_get_or}
 use Rattle.std.proofs.lemmas.List.Splits.{length-slice_split, slice_split_first, slice_split_none}
 use Rattle.std.proofs.lemmas.List.Sums.{fails_before_first}
 use Rattle.std.specs.List.{position, position_or_len}
-use Rattle.sys_server.specs.CommandLine.{asked_after_unit, words}
+use Rattle.sys_server.specs.CommandLine.{asked_of, words}
 
 found : (test : Bool) (place at : ℕ) → cond test (Some place) None ≡ Some at → (test ≡ true) × (place ≡ at)
 found true place at found_it = (refl, cc)
@@ -28,9 +28,9 @@ word_without_blank text is =
     slice_split_none (λ b. b == 32) text (All-from_get_or (λ b. (b == 32) ≡ false) text 0 (λ i below. fails_before_first (λ b. b == 32) text i 0 (omega (arith, below, all))))
 
 -- a word after the access
-too_many_of : (verb vm : List ℕ) (unit : ℕ) (volume access : List ℕ) (ws : List (List ℕ)) (n : ℕ) → length ws ≡ n + 1 → asked_after_unit verb vm (Some unit) (volume ∷ access ∷ ws) ≡ None
+too_many_of : (verb vm unit volume access : List ℕ) (ws : List (List ℕ)) (n : ℕ) → length ws ≡ n + 1 → asked_of (verb ∷ vm ∷ unit ∷ volume ∷ access ∷ ws) ≡ None
 too_many_of verb vm unit volume access [] n h = absurd (omega arith)
 too_many_of verb vm unit volume access (w ∷ ws) n h = refl
 
-pub too_many : (verb vm : List ℕ) (unit : ℕ) (volume access more : List ℕ) → asked_after_unit verb vm (Some unit) (volume ∷ access ∷ words more) ≡ None
+pub too_many : (verb vm unit volume access more : List ℕ) → asked_of (verb ∷ vm ∷ unit ∷ volume ∷ access ∷ words more) ≡ None
 too_many verb vm unit volume access more = too_many_of verb vm unit volume access (words more) _ (length-slice_split (λ b. b == 32) more)

@@ -1,12 +1,12 @@
 -- A line with the words of a command is read as this command.
-use Rattle.std.proofs.Common.{◌≡◌, ◌≢◌, ◌<◌, ◌≤◌, ◌+◌, ◌==◌, ℕ, zero, suc, List, [], ◌∷◌, length, Bool, true, false, not, ◌&&◌, ◌||◌, nat_le, codes, Some, refl, ◌∙◌, ap, arith, All, ◌⊎◌, inl, inr}
+use Rattle.std.proofs.Common.{◌≡◌, ◌≢◌, ◌<◌, ◌≤◌, ◌+◌, ◌==◌, ℕ, zero, suc, List, [], ◌∷◌, length, Bool, true, false, not, ◌&&◌, ◌||◌, nat_le, codes, Some, option_and_then, option_map, refl, ◌∙◌, ap, arith, All, ◌⊎◌, inl, inr}
 use Rattle.std.proofs.lemmas.Bool.{leb-true}
 use Rattle.std.proofs.lemmas.Bool.Decides.{nat_tests}
 use Rattle.std.proofs.lemmas.List.Elements.{All-nil, All-cons}
 use Rattle.std.proofs.lemmas.List.Splits.{slice_split_at, slice_split_none}
 use Rattle.std.specs.List.{join_with_byte, list_all}
 use Rattle.vv_base.specs.Names.{is_letter, is_name_character, is_object_name, tested}
-use Rattle.sys_server.specs.CommandLine.{Asks, IsAsked, IsName, access_in, access_text, asked_after_guest, asked_after_unit, asked_in, asked_of, asked_of_mount, unit_in, unit_text, words, words_of}
+use Rattle.sys_server.specs.CommandLine.{Asks, IsAsked, IsName, access_in, access_text, asked_in, asked_of, asked_of_guest, unit_in, unit_text, words, words_of}
 use Rattle.sys_server.specs.declared.command.Asked.{Asked}
 use Rattle.sys_server.specs.declared.command.Asked.TheVariants.{Connect, Start, Halt, Mount, Dismount, Show}
 
@@ -101,16 +101,16 @@ access_again true = refl
 access_again false = refl
 
 asked_again : (asked : Asked) → IsAsked asked → asked_of (words_of asked) ≡ Some asked
-asked_again (Connect vm) h = ap (λ o. asked_after_guest (codes "CONNECT") o []) (name_again vm h)
-asked_again (Start vm) h = ap (λ o. asked_after_guest (codes "START") o []) (name_again vm h)
-asked_again (Halt vm) h = ap (λ o. asked_after_guest (codes "HALT") o []) (name_again vm h)
+asked_again (Connect vm) h = ap (option_and_then (asked_of_guest (codes "CONNECT"))) (name_again vm h)
+asked_again (Start vm) h = ap (option_and_then (asked_of_guest (codes "START"))) (name_again vm h)
+asked_again (Halt vm) h = ap (option_and_then (asked_of_guest (codes "HALT"))) (name_again vm h)
 asked_again (Mount vm unit volume write) h =
-    ap (λ o. asked_after_guest (codes "MOUNT") o (unit_text unit ∷ volume ∷ access_text write ∷ [])) (name_again vm h.0)
-    ∙ ap (λ o. asked_after_unit (codes "MOUNT") vm o (volume ∷ access_text write ∷ [])) (unit_again unit h.1)
-    ∙ ap (λ o. asked_of_mount (codes "MOUNT") vm unit o (access_in (access_text write))) (name_again volume h.2)
-    ∙ ap (asked_of_mount (codes "MOUNT") vm unit (Some volume)) (access_again write)
+    ap (option_and_then (λ g. option_and_then (λ u. option_and_then (λ v. option_map (Mount g u v) (access_in (access_text write))) (tested is_object_name volume)) (unit_in (unit_text unit)))) (name_again vm h.0)
+    ∙ ap (option_and_then (λ u. option_and_then (λ v. option_map (Mount vm u v) (access_in (access_text write))) (tested is_object_name volume))) (unit_again unit h.1)
+    ∙ ap (option_and_then (λ v. option_map (Mount vm unit v) (access_in (access_text write)))) (name_again volume h.2)
+    ∙ ap (option_map (Mount vm unit volume)) (access_again write)
 asked_again (Dismount vm unit) h =
-    ap (λ o. asked_after_guest (codes "DISMOUNT") o (unit_text unit ∷ [])) (name_again vm h.0) ∙ ap (λ o. asked_after_unit (codes "DISMOUNT") vm o []) (unit_again unit h.1)
+    ap (option_and_then (λ g. option_map (Dismount g) (unit_in (unit_text unit)))) (name_again vm h.0) ∙ ap (option_map (Dismount vm)) (unit_again unit h.1)
 asked_again Show h = refl
 
 pub lines_are_read : (text : List ℕ) (asked : Asked) → Asks text asked → asked_in text ≡ Some asked

@@ -1,5 +1,5 @@
 -- A line that is read as a command has its words.
-use Rattle.std.proofs.Common.{◌≡◌, ◌<◌, ◌≤◌, ◌+◌, ◌-◌, ℕ, List, [], ◌∷◌, Bool, true, false, ◌&&◌, nat_le, codes, Option, Some, None, refl, sym, ◌∙◌, ap, arith, if◌then◌else◌}
+use Rattle.std.proofs.Common.{◌≡◌, ◌<◌, ◌≤◌, ◌+◌, ◌-◌, ℕ, List, [], ◌∷◌, Bool, true, false, ◌&&◌, nat_le, codes, Option, Some, None, option_and_then, option_map, subst, refl, sym, ◌∙◌, ap, arith, if◌then◌else◌}
 use Rattle.std.specs.Option.{IfSome}
 use Rattle.std.specs.Str.{bytes_eq}
 use Rattle.std.proofs.lemmas.Bool.{leb-true}
@@ -7,10 +7,11 @@ use Rattle.std.proofs.lemmas.List.Splits.{join_with_byte-slice_split}
 use Rattle.std.proofs.lemmas.Option.{IfSome_then}
 use Rattle.std.proofs.lemmas.Slice.Eq.{bytes_eq-Decides}
 use Rattle.std.specs.List.{join_with_byte}
-use Rattle.vv_base.specs.Names.{is_object_name}
+use Rattle.vv_base.specs.Names.{is_object_name, tested}
 use Rattle.sys_server.proofs.Reading.{parts}
-use Rattle.sys_server.specs.CommandLine.{Asks, IsAsked, IsName, access_in, access_text, asked_after_guest, asked_after_unit, asked_in, asked_of, asked_of_guest, asked_of_mount, unit_in, unit_text, words, words_of}
+use Rattle.sys_server.specs.CommandLine.{Asks, IsAsked, IsName, access_in, access_text, asked_in, asked_of, asked_of_guest, unit_in, unit_text, words, words_of}
 use Rattle.sys_server.specs.declared.command.Asked.{Asked}
+use Rattle.sys_server.specs.declared.command.Asked.TheVariants.{Dismount, Mount}
 
 both : {A : Type 0} (b : Bool) → (b ≡ true → A) → (b ≡ false → A) → A
 both true f g = f refl
@@ -47,47 +48,55 @@ of_guest verb vm named = both (bytes_eq verb (codes "CONNECT"))
     (λ g. rw (e, f, g) (named, ap (λ v. v ∷ vm ∷ []) (same verb (codes "HALT") g)))
     (λ g. rw (e, f, g) tt)))
 
-of_mount : (verb vm unit : List ℕ) (n : ℕ) (volume access : List ℕ) (write : Bool) → IsName vm → unit ≡ unit_text n → n < 4 → IsName volume → access ≡ access_text write
-    → IfSome (asked_of_mount verb vm n (Some volume) (Some write)) (Says (verb ∷ vm ∷ unit ∷ volume ∷ access ∷ []))
-of_mount verb vm unit n volume access write named is few held says = both (bytes_eq verb (codes "MOUNT"))
-    (λ e. let v = same verb (codes "MOUNT") e in rw e ((named, few, held), λ i. v i ∷ vm ∷ is i ∷ volume ∷ says i ∷ []))
+access_is : (word : List ℕ) (write : Bool) → access_in word ≡ Some write → word ≡ access_text write
+access_is word write h = both (bytes_eq word (codes "WRITE"))
+    (λ e. let is : Some true ≡ Some write = rw e at h in let s : true ≡ write = cc in same word (codes "WRITE") e ∙ ap access_text s)
+    (λ e. both (bytes_eq word (codes "READ"))
+    (λ f. let is : Some false ≡ Some write = rw (e, f) at h in let s : false ≡ write = cc in same word (codes "READ") f ∙ ap access_text s)
+    (λ f. let is : None ≡ Some write = rw (e, f) at h in absurd (cc)))
+
+of_access : (vm unit volume access : List ℕ) (n : ℕ) → IsName vm → unit ≡ unit_text n → n < 4 → IsName volume → (o : Option Bool) → access_in access ≡ o
+    → IfSome (option_map (Mount vm n volume) o) (Says (codes "MOUNT" ∷ vm ∷ unit ∷ volume ∷ access ∷ []))
+of_access vm unit volume access n named is few held None e = tt
+of_access vm unit volume access n named is few held (Some write) e = let says = access_is access write e in ((named, few, held), λ i. codes "MOUNT" ∷ vm ∷ is i ∷ volume ∷ says i ∷ [])
+
+of_volume : (vm unit volume access : List ℕ) (n : ℕ) → IsName vm → unit ≡ unit_text n → n < 4
+    → IfSome (option_and_then (λ v. option_map (Mount vm n v) (access_in access)) (tested is_object_name volume)) (Says (codes "MOUNT" ∷ vm ∷ unit ∷ volume ∷ access ∷ []))
+of_volume vm unit volume access n named is few = both (is_object_name volume)
+    (λ e. rw e (of_access vm unit volume access n named is few e (access_in access) refl))
     (λ e. rw e tt)
 
-of_access : (verb vm unit : List ℕ) (n : ℕ) (volume access : List ℕ) → IsName vm → unit ≡ unit_text n → n < 4 → IsName volume
-    → IfSome (asked_of_mount verb vm n (Some volume) (access_in access)) (Says (verb ∷ vm ∷ unit ∷ volume ∷ access ∷ []))
-of_access verb vm unit n volume access named is few held = both (bytes_eq access (codes "WRITE"))
-    (λ e. rw e (of_mount verb vm unit n volume access true named is few held (same access (codes "WRITE") e)))
-    (λ e. both (bytes_eq access (codes "READ"))
-    (λ f. rw (e, f) (of_mount verb vm unit n volume access false named is few held (same access (codes "READ") f)))
-    (λ f. rw (e, f) tt))
+of_mount : (vm unit volume access : List ℕ) → IsName vm → (o : Option ℕ) → unit_in unit ≡ o
+    → IfSome (option_and_then (λ u. option_and_then (λ v. option_map (Mount vm u v) (access_in access)) (tested is_object_name volume)) o) (Says (codes "MOUNT" ∷ vm ∷ unit ∷ volume ∷ access ∷ []))
+of_mount vm unit volume access named None e = tt
+of_mount vm unit volume access named (Some n) e = let is = unit_is unit n e in of_volume vm unit volume access n named is.0 is.1
 
-of_dismount : (verb vm unit : List ℕ) (n : ℕ) → IsName vm → unit ≡ unit_text n → n < 4 → IfSome (asked_after_unit verb vm (Some n) []) (Says (verb ∷ vm ∷ unit ∷ []))
-of_dismount verb vm unit n named is few = both (bytes_eq verb (codes "DISMOUNT"))
-    (λ e. let v = same verb (codes "DISMOUNT") e in rw e ((named, few), λ i. v i ∷ vm ∷ is i ∷ []))
-    (λ e. rw e tt)
+of_dismount : (vm unit : List ℕ) → IsName vm → (o : Option ℕ) → unit_in unit ≡ o → IfSome (option_map (Dismount vm) o) (Says (codes "DISMOUNT" ∷ vm ∷ unit ∷ []))
+of_dismount vm unit named None e = tt
+of_dismount vm unit named (Some n) e = let is = unit_is unit n e in ((named, is.1), λ i. codes "DISMOUNT" ∷ vm ∷ is.0 i ∷ [])
 
-of_unit : (verb vm unit : List ℕ) (n : ℕ) (more : List (List ℕ)) → IsName vm → unit ≡ unit_text n → n < 4 → IfSome (asked_after_unit verb vm (Some n) more) (Says (verb ∷ vm ∷ unit ∷ more))
-of_unit verb vm unit n [] named is few = of_dismount verb vm unit n named is few
-of_unit verb vm unit n (volume ∷ []) named is few = tt
-of_unit verb vm unit n (volume ∷ access ∷ []) named is few = both (is_object_name volume)
-    (λ e. rw e (of_access verb vm unit n volume access named is few e))
-    (λ e. rw e tt)
-of_unit verb vm unit n (volume ∷ access ∷ next ∷ more) named is few = tt
-
-of_word : (verb vm unit : List ℕ) (more : List (List ℕ)) → IsName vm → (o : Option ℕ) → unit_in unit ≡ o → IfSome (asked_after_unit verb vm o more) (Says (verb ∷ vm ∷ unit ∷ more))
-of_word verb vm unit more named None h = tt
-of_word verb vm unit more named (Some n) h = let is = unit_is unit n h in of_unit verb vm unit n more named is.0 is.1
-
-after_name : (verb vm : List ℕ) (more : List (List ℕ)) → IsName vm → IfSome (asked_after_guest verb (Some vm) more) (Says (verb ∷ vm ∷ more))
-after_name verb vm [] named = of_guest verb vm named
-after_name verb vm (unit ∷ more) named = of_word verb vm unit more named (unit_in unit) refl
+-- of a verb that is one of these
+of_verb : (verb known : List ℕ) (more : List (List ℕ)) (o : Option Asked) → bytes_eq verb known ≡ true → IfSome o (Says (known ∷ more)) → IfSome o (Says (verb ∷ more))
+of_verb verb known more o is said = subst (λ (v : List ℕ). IfSome o (Says (v ∷ more))) (sym (same verb known is)) said
 
 of_words : (ws : List (List ℕ)) → IfSome (asked_of ws) (Says ws)
 of_words [] = tt
 of_words (verb ∷ []) = both (bytes_eq verb (codes "SHOW"))
     (λ e. rw e (tt, ap (λ v. v ∷ []) (same verb (codes "SHOW") e)))
     (λ e. rw e tt)
-of_words (verb ∷ vm ∷ more) = both (is_object_name vm) (λ e. rw e (after_name verb vm more e)) (λ e. rw e tt)
+of_words (verb ∷ vm ∷ []) = both (is_object_name vm) (λ e. rw e (of_guest verb vm e)) (λ e. rw e tt)
+of_words (verb ∷ vm ∷ unit ∷ []) = both (bytes_eq verb (codes "DISMOUNT"))
+    (λ f. both (is_object_name vm)
+    (λ e. rw (f, e) (of_verb verb (codes "DISMOUNT") (vm ∷ unit ∷ []) (option_map (Dismount vm) (unit_in unit)) f (of_dismount vm unit e (unit_in unit) refl)))
+    (λ e. rw (f, e) tt))
+    (λ f. rw f tt)
+of_words (verb ∷ vm ∷ unit ∷ volume ∷ []) = tt
+of_words (verb ∷ vm ∷ unit ∷ volume ∷ access ∷ []) = both (bytes_eq verb (codes "MOUNT"))
+    (λ f. both (is_object_name vm)
+    (λ e. rw (f, e) (of_verb verb (codes "MOUNT") (vm ∷ unit ∷ volume ∷ access ∷ []) _ f (of_mount vm unit volume access e (unit_in unit) refl)))
+    (λ e. rw (f, e) tt))
+    (λ f. rw f tt)
+of_words (verb ∷ vm ∷ unit ∷ volume ∷ access ∷ next ∷ more) = tt
 
 pub lines_are_written : (text : List ℕ) → IfSome (asked_in text) (Asks text)
 unfolding asked_in

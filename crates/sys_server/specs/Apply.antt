@@ -1,6 +1,7 @@
 -- What a granted command makes of the server's state (profile). Whether the guest itself is reset, stopped or shown is
 -- a matter of the guests.
-use Rattle.std.specs.Prelude.{ℕ, ◌<◌, [], Bool, true, false, ◌==◌, Option, None, Some, map, position, slice_set, slice_index_or, if◌then◌else◌}
+use Rattle.std.specs.Prelude.{ℕ, ◌<◌, List, [], true, false, Option, None, Some, map, position, slice_set, slice_index_or, if◌then◌else◌}
+use Rattle.sys_objects.specs.Places.{is_at}
 use Rattle.sys_objects.specs.declared.records.Mount.{Mount}
 use Rattle.sys_server.specs.declared.command.Command.{Command}
 use Rattle.sys_server.specs.declared.command.Command.TheVariants.{Connect, Start, Halt, MountAt, Dismount, Show}
@@ -8,34 +9,26 @@ use Rattle.sys_server.specs.declared.command.ServerState.{ServerState}
 use Rattle.sys_server.specs.declared.command.Verdict.{Verdict}
 use Rattle.sys_server.specs.declared.command.Verdict.TheVariants.{Granted, BadCommand, NoSuchObject, Denied}
 
--- whether it is this guest
-abbrev pub is_guest : ℕ → Option ℕ → Bool
-is_guest g None = false
-is_guest g (Some h) = h == g
-
 -- a terminal that had the guest is with the server again
 abbrev pub freed : ℕ → Option ℕ → Option ℕ
-freed g place = if is_guest g place then None else place
+freed g place = if is_at g place then None else place
 
-abbrev pub with_mount : ServerState → ℕ → ℕ → Option Mount → ServerState
-with_mount s g unit mount = record s { mounts = slice_set s.mounts g (slice_set (slice_index_or s.mounts g []) unit mount) }
+-- what is mounted, by guest and unit, with a mount or none at a unit
+abbrev pub with_mount : List (List (Option Mount)) → ℕ → ℕ → Option Mount → List (List (Option Mount))
+with_mount mounts g unit mount = slice_set mounts g (slice_set (slice_index_or mounts g []) unit mount)
 
 unfoldable pub applied : ServerState → ℕ → Command → ServerState
 applied s terminal (Connect g) = record s { at = slice_set (map (freed g) s.at) terminal (Some g) }
 applied s terminal (Start g) = record s { running = slice_set s.running g true }
 applied s terminal (Halt g) = record s { running = slice_set s.running g false }
-applied s terminal (MountAt g unit mount) = with_mount s g unit (Some mount)
-applied s terminal (Dismount g unit) = with_mount s g unit None
+applied s terminal (MountAt g unit mount) = record s { mounts = with_mount s.mounts g unit (Some mount) }
+applied s terminal (Dismount g unit) = record s { mounts = with_mount s.mounts g unit None }
 applied s terminal Show = s
 
 -- the other terminal that had the guest's console
 unfoldable pub taken : ServerState → ℕ → Command → Option ℕ
-taken s terminal (Connect g) = position (is_guest g) (slice_set s.at terminal None)
-taken s terminal (Start g) = None
-taken s terminal (Halt g) = None
-taken s terminal (MountAt g unit mount) = None
-taken s terminal (Dismount g unit) = None
-taken s terminal Show = None
+taken s terminal (Connect g) = position (is_at g) (slice_set s.at terminal None)
+taken s terminal command = None
 
 -- the guest and the unit are those of a server's state
 abbrev pub HasPlaces : Command → Type 0

@@ -1,7 +1,7 @@
 -- What a line at the secure server asks for (profile, after the commands of the VAX VMM's secure server: Karger and
 -- others, A retrospective on the VAX VMM security kernel, IEEE TSE 17(11), 1991). A line is words with one blank (32)
 -- between each two.
-use Rattle.std.specs.Prelude.{◌≡◌, ℕ, ◌+◌, ◌-◌, ◌<◌, List, [], ◌∷◌, codes, Bool, true, false, ◌==◌, ◌&&◌, nat_le, if◌then◌else◌, Option, None, Some, bytes_eq}
+use Rattle.std.specs.Prelude.{◌≡◌, ℕ, ◌+◌, ◌-◌, ◌<◌, List, [], ◌∷◌, codes, Bool, true, false, ◌==◌, ◌&&◌, nat_le, if◌then◌else◌, Option, None, Some, option_and_then, option_map, bytes_eq}
 use Rattle.std.specs.List.{join_with_byte, slice_split}
 use Rattle.vv_base.specs.Names.{is_object_name, tested}
 use Rattle.sys_server.specs.declared.command.Asked.{Asked}
@@ -50,22 +50,11 @@ rest_words None = []
 rest_words (Some rest) = words rest
 
 abbrev pub unit_in : List ℕ → Option ℕ
-unit_in [] = None
 unit_in (b ∷ []) = if nat_le 48 b && nat_le b 51 then Some (b - 48) else None
-unit_in (b ∷ _ ∷ _) = None
+unit_in word = None
 
 abbrev pub access_in : List ℕ → Option Bool
 access_in word = if bytes_eq word (codes "WRITE") then Some true else if bytes_eq word (codes "READ") then Some false else None
-
-abbrev pub asked_of_mount : List ℕ → List ℕ → ℕ → Option (List ℕ) → Option Bool → Option Asked
-asked_of_mount verb vm unit (Some volume) (Some write) = if bytes_eq verb (codes "MOUNT") then Some (Mount vm unit volume write) else None
-asked_of_mount verb vm unit _ _ = None
-
-abbrev pub asked_after_unit : List ℕ → List ℕ → Option ℕ → List (List ℕ) → Option Asked
-asked_after_unit verb vm None more = None
-asked_after_unit verb vm (Some unit) [] = if bytes_eq verb (codes "DISMOUNT") then Some (Dismount vm unit) else None
-asked_after_unit verb vm (Some unit) (volume ∷ access ∷ []) = asked_of_mount verb vm unit (tested is_object_name volume) (access_in access)
-asked_after_unit verb vm (Some unit) _ = None
 
 abbrev pub asked_of_guest : List ℕ → List ℕ → Option Asked
 asked_of_guest verb vm =
@@ -73,15 +62,16 @@ asked_of_guest verb vm =
     if bytes_eq verb (codes "START") then Some (Start vm) else
     if bytes_eq verb (codes "HALT") then Some (Halt vm) else None
 
-abbrev pub asked_after_guest : List ℕ → Option (List ℕ) → List (List ℕ) → Option Asked
-asked_after_guest verb None more = None
-asked_after_guest verb (Some vm) [] = asked_of_guest verb vm
-asked_after_guest verb (Some vm) (unit ∷ more) = asked_after_unit verb vm (unit_in unit) more
-
+-- a guest or a volume has the name of an object
 abbrev pub asked_of : List (List ℕ) → Option Asked
-asked_of [] = None
 asked_of (verb ∷ []) = if bytes_eq verb (codes "SHOW") then Some Show else None
-asked_of (verb ∷ vm ∷ more) = asked_after_guest verb (tested is_object_name vm) more
+asked_of (verb ∷ vm ∷ []) = option_and_then (asked_of_guest verb) (tested is_object_name vm)
+asked_of (verb ∷ vm ∷ unit ∷ []) = if bytes_eq verb (codes "DISMOUNT") then option_and_then (λ g. option_map (Dismount g) (unit_in unit)) (tested is_object_name vm) else None
+asked_of (verb ∷ vm ∷ unit ∷ volume ∷ access ∷ []) =
+    if bytes_eq verb (codes "MOUNT") then
+    option_and_then (λ g. option_and_then (λ u. option_and_then (λ v. option_map (Mount g u v) (access_in access)) (tested is_object_name volume)) (unit_in unit)) (tested is_object_name vm)
+    else None
+asked_of other = None
 
 unfoldable pub asked_in : List ℕ → Option Asked
 asked_in text = asked_of (words text)

@@ -40,11 +40,10 @@ running_text false = codes " STOPPED"
 
 -- a line for each guest that the class sees, where `running` is beside the guests
 abbrev pub guest_lines : AccessClass → List GuestRow → List Bool → List (List ℕ)
-guest_lines class [] running = []
-guest_lines class (g ∷ guests) [] = []
 guest_lines class (g ∷ guests) (runs ∷ running) =
     if does_flow g.class class then with_line_end (object_text (codes "VM") g.name g.class ++ running_text runs) ∷ guest_lines class guests running
     else guest_lines class guests running
+guest_lines class _ _ = []
 
 abbrev pub volume_line : VolumeRow → List ℕ
 volume_line v = with_line_end (object_text (codes "VOLUME") v.name v.class)

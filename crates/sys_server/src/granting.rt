@@ -1,10 +1,11 @@
 ghost use Rattle.std.specs.Prelude.{◌≡◌, ◌<◌, IfSome, Some, None, map, position, slice_set, length};
-ghost use Rattle.sys_server.specs.Apply.{HasPlaces, applied, freed, is_guest, taken};
+ghost use Rattle.sys_server.specs.Apply.{HasPlaces, applied, freed, taken};
+ghost use Rattle.sys_objects.specs.Places.{is_at};
 
 use crate::{Command, ServerState};
 
 fn is_guest(place: Option<u8>, g: u8) -> bool
-    ensures { result ≡ is_guest g place }
+    ensures { result ≡ is_at g place }
 {
     place == Some(g)
 }
@@ -25,7 +26,7 @@ fn free(at: &mut [Option<u8>; 32], g: u8)
 }
 
 fn first_terminal(at: &[Option<u8>; 32], g: u8) -> Option<usize>
-    ensures value { result ≡ position (is_guest g) at.now }
+    ensures value { result ≡ position (is_at g) at.now }
     ensures within { IfSome result (λ t. t < length at.now) }
 {
     at.iter().position(|place| is_guest(*place, g))
@@ -33,7 +34,7 @@ fn first_terminal(at: &[Option<u8>; 32], g: u8) -> Option<usize>
 
 /// The first terminal that has the guest.
 fn terminal_of(at: &[Option<u8>; 32], g: u8) -> Option<u8>
-    ensures { result ≡ position (is_guest g) at.now }
+    ensures { result ≡ position (is_at g) at.now }
 {
     match first_terminal(at, g) {
         Some(terminal) => Some(terminal as u8),
@@ -45,7 +46,7 @@ fn terminal_of(at: &[Option<u8>; 32], g: u8) -> Option<u8>
 fn connect(at: &mut [Option<u8>; 32], terminal: u8, g: u8) -> Option<u8>
     requires { terminal < 32 }
     ensures at { at.new ≡ slice_set (map (freed g) at.old) terminal (Some g) }
-    ensures taken { result ≡ position (is_guest g) (slice_set at.old terminal None) }
+    ensures taken { result ≡ position (is_at g) (slice_set at.old terminal None) }
 {
     at[usize::from(terminal)] = None;
     let taken = terminal_of(at, g);

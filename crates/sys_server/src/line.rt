@@ -1,10 +1,10 @@
 ghost use Rattle.std.specs.Prelude.{◌≡◌, ◌==◌, ◌<◌, ◌∷◌, [], IfSome, List, ℕ, Some, bytes_eq, length, position};
 ghost use Rattle.std.specs.Option.{option_copied};
-ghost use Rattle.sys_server.specs.CommandLine.{Asks, access_in, asked_after_guest, asked_after_unit, asked_in, asked_of, asked_of_guest, asked_of_mount, rest_words, unit_in, words};
+ghost use Rattle.sys_server.specs.CommandLine.{Asks, access_in, asked_in, asked_of, rest_words, unit_in, words};
 ghost use Rattle.sys_server.specs.declared.command.Asked.{Asked as Question};
 
 use crate::Asked;
-use vv_base::{Name, object_name};
+use vv_base::{find, object_name};
 
 fn is_word(word: &[u8], wanted: &[u8]) -> bool
     ensures { result ≡ bytes_eq word.now wanted.now }
@@ -12,18 +12,11 @@ fn is_word(word: &[u8], wanted: &[u8]) -> bool
     word == wanted
 }
 
-fn find_blank(text: &[u8]) -> Option<usize>
-    ensures value { result ≡ position (λ b. b == 32) text.now }
-    ensures within { IfSome result (λ i. i < length text.now) }
-{
-    text.iter().position(|b| *b == b' ')
-}
-
 /// The first word, and what comes after the blank that follows it.
 fn cut(text: &[u8]) -> (&[u8], Option<&[u8]>)
     ensures { words text.now ≡ result.0.now ∷ rest_words (option_copied result.1) }
 {
-    match find_blank(text) {
+    match find(text, b' ') {
         Some(end) => (&text[..end], Some(&text[end + 1..])),
         None => (text, None),
     }
@@ -51,52 +44,55 @@ fn access_in(word: &[u8]) -> Option<bool>
     }
 }
 
-fn asked_of_mount(
+fn asked_to_mount(
     verb: &[u8],
-    vm: Name,
-    unit: u8,
-    volume: Option<Name>,
-    write: Option<bool>,
+    vm: &[u8],
+    unit: &[u8],
+    volume: &[u8],
+    access: &[u8],
 ) -> Option<Asked>
-    ensures { result ≡ asked_of_mount verb.now vm unit volume write }
+    ensures { result ≡ asked_of (verb.now ∷ vm.now ∷ unit.now ∷ volume.now ∷ access.now ∷ []) }
 {
-    let volume = volume?;
-    let write = write?;
-    if is_word(verb, b"MOUNT") {
-        Some(Asked::Mount(vm, unit, volume, write))
-    } else {
-        None
+    if !is_word(verb, b"MOUNT") {
+        return None;
     }
+    let vm = object_name(vm)?;
+    let unit = unit_in(unit)?;
+    let volume = object_name(volume)?;
+    let write = access_in(access)?;
+    Some(Asked::Mount(vm, unit, volume, write))
 }
 
-fn asked_of_dismount(verb: &[u8], vm: Name, unit: u8) -> Option<Asked>
-    ensures { result ≡ asked_after_unit verb.now vm (Some unit) [] }
+fn asked_to_dismount(verb: &[u8], vm: &[u8], unit: &[u8]) -> Option<Asked>
+    ensures { result ≡ asked_of (verb.now ∷ vm.now ∷ unit.now ∷ []) }
 {
-    if is_word(verb, b"DISMOUNT") {
-        Some(Asked::Dismount(vm, unit))
-    } else {
-        None
+    if !is_word(verb, b"DISMOUNT") {
+        return None;
     }
+    let vm = object_name(vm)?;
+    let unit = unit_in(unit)?;
+    Some(Asked::Dismount(vm, unit))
 }
 
 /// What is asked where a guest and a unit are named, and these words follow.
-fn after_unit(verb: &[u8], vm: Name, unit: u8, rest: Option<&[u8]>) -> Option<Asked>
-    ensures { result ≡ asked_after_unit verb.now vm (Some unit) (rest_words (option_copied rest.entry)) }
+fn after_unit(verb: &[u8], vm: &[u8], unit: &[u8], rest: Option<&[u8]>) -> Option<Asked>
+    ensures { result ≡ asked_of (verb.now ∷ vm.now ∷ unit.now ∷ rest_words (option_copied rest.entry)) }
 {
     let Some(rest) = rest else {
-        return asked_of_dismount(verb, vm, unit);
+        return asked_to_dismount(verb, vm, unit);
     };
     let (volume, rest) = cut(rest);
     let (access, rest) = cut(rest?);
     match rest {
-        None => asked_of_mount(verb, vm, unit, object_name(volume), access_in(access)),
+        None => asked_to_mount(verb, vm, unit, volume, access),
         Some(_) => None,
     }
 }
 
-fn asked_of_guest(verb: &[u8], vm: Name) -> Option<Asked>
-    ensures { result ≡ asked_of_guest verb.now vm }
+fn asked_of_guest(verb: &[u8], vm: &[u8]) -> Option<Asked>
+    ensures { result ≡ asked_of (verb.now ∷ vm.now ∷ []) }
 {
+    let vm = object_name(vm)?;
     if is_word(verb, b"CONNECT") {
         Some(Asked::Connect(vm))
     } else if is_word(verb, b"START") {
@@ -109,14 +105,14 @@ fn asked_of_guest(verb: &[u8], vm: Name) -> Option<Asked>
 }
 
 /// What is asked where a guest is named, and these words follow.
-fn after_guest(verb: &[u8], vm: Name, rest: Option<&[u8]>) -> Option<Asked>
-    ensures { result ≡ asked_after_guest verb.now (Some vm) (rest_words (option_copied rest.entry)) }
+fn after_guest(verb: &[u8], vm: &[u8], rest: Option<&[u8]>) -> Option<Asked>
+    ensures { result ≡ asked_of (verb.now ∷ vm.now ∷ rest_words (option_copied rest.entry)) }
 {
     let Some(rest) = rest else {
         return asked_of_guest(verb, vm);
     };
     let (unit, rest) = cut(rest);
-    after_unit(verb, vm, unit_in(unit)?, rest)
+    after_unit(verb, vm, unit, rest)
 }
 
 fn asked_alone(verb: &[u8]) -> Option<Asked>
@@ -138,7 +134,7 @@ fn read(text: &[u8]) -> Option<Asked>
         return asked_alone(verb);
     };
     let (vm, rest) = cut(rest);
-    after_guest(verb, object_name(vm)?, rest)
+    after_guest(verb, vm, rest)
 }
 
 /// What a line asks for; `None` exactly where it is no command.

@@ -1,6 +1,7 @@
 mod Fields
 pub mod Fills
 pub mod Loops
+pub mod Misfits
 mod OnlyFields
 mod OnlyRecords
 pub mod OnlyStates

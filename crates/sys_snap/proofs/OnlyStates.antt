@@ -21,7 +21,7 @@ use Rattle.sys_snap.proofs.OnlyFields.{AreBytes, AreSo, By, Gives, IsLong, Took,
 use Rattle.sys_snap.proofs.OnlyRecords.{IsRecordOf, gives_record}
 use Rattle.sys_snap.proofs.States.{reads_each_snapshot}
 use Rattle.sys_snap.specs.Conditions.{may_all_sit}
-use Rattle.sys_snap.specs.Laws.{AreOfOneMoment, ReadsOnlySnaps, RefusedAreNone}
+use Rattle.sys_snap.specs.Laws.{AreOfOneMoment, ReadsOnlySnaps}
 use Rattle.sys_snap.specs.Reader.{accepted_config, all_bytes, at_end, cut_blocks, guest_reading, head_in, moment_got, moment_in, mount_if, nothing, pair_in, record_in, seated_guest, seats_in, snap_in, state_in, units_in, volume_in}
 use Rattle.sys_snap.specs.Reading.{Got, Reading, Rest, ◌>>=◌, done, each, field, four, continued_by}
 use Rattle.sys_snap.specs.Snap.{AreUnitsOf, IsGuestOf, IsSnap, IsVolumeOf}
@@ -200,10 +200,7 @@ pub reads_only_snaps : ReadsOnlySnaps
 unfolding snap_in
 reads_only_snaps bytes m are same = of_value bytes m (moment_in (record { at = 0; bytes = bytes })) (ends_moment.ends (record { at = 0; bytes = bytes }) are) same
 
--- a snapshot is of one moment, and none is where the bytes are refused
+-- a snapshot is of one moment
 pub of_one_moment : AreOfOneMoment
 unfolding moment_or
 of_one_moment bytes m n first second = ap (moment_or m) (sym (reads_each_snapshot bytes m first) ∙ reads_each_snapshot bytes n second)
-
-pub refused_are_none : RefusedAreNone
-refused_are_none bytes fault refused m is = false≢true (ap is_ok (sym refused ∙ reads_each_snapshot bytes m is))

@@ -1,4 +1,5 @@
 -- A whole snapshot is read as what it was written of.
+use Rattle.std.specs.Option.{option_map_or}
 use Rattle.std.proofs.Common.{ℕ, zero, suc, ◌≡◌, ◌≤◌, ◌+◌, ◌-◌, ◌*◌, ◌==◌, nat_le, List, [], ◌∷◌, ◌++◌, length, take, drop, map, replicate, refl, sym, ◌∙◌, ap, subst, arith, Bool, true, false, not, ◌&&◌, Option, Some, None, append-nil}
 use Rattle.std.specs.Prelude.{Ok, flat_map, slice_get, slice_index_or, All}
 use Rattle.std.specs.List.{AllZip, list_all, list_any}
@@ -10,7 +11,7 @@ use Rattle.vv_class.specs.declared.class.AccessClass.{AccessClass}
 use Rattle.sys_config.proofs.Accepted.{accepted_is}
 use Rattle.sys_config.specs.Config.{config_of}
 use Rattle.sys_objects.specs.Condition.{IsConfig}
-use Rattle.sys_objects.specs.Rules.{is_mountable, may_mount, same_place}
+use Rattle.sys_objects.specs.Rules.{is_mountable, may_mount, same_place, same_class}
 use Rattle.sys_objects.specs.declared.records.Config.{Config}
 use Rattle.sys_objects.specs.declared.records.GuestRow.{GuestRow}
 use Rattle.sys_objects.specs.declared.records.Mount.{Mount}
@@ -18,7 +19,7 @@ use Rattle.sys_objects.specs.declared.records.Terminal.{Terminal}
 use Rattle.sys_objects.specs.declared.records.VolumeRow.{VolumeRow}
 use Rattle.sys_snap.proofs.Fields.{ReadsAs, got, reads_field, reads_four, reads_last, reads_none, reads_then, rest_at}
 use Rattle.sys_snap.proofs.Records.{reads_record}
-use Rattle.sys_snap.specs.Conditions.{is_guest_of_class, may_all_sit, may_sit}
+use Rattle.sys_snap.specs.Conditions.{may_all_sit, may_sit}
 use Rattle.sys_snap.specs.Laws.{ReadsEach}
 use Rattle.sys_state.specs.Run.{Moment}
 use Rattle.sys_snap.specs.Reader.{accepted_config, all_bytes, at_end, cut_blocks, guest_reading, head_in, moment_got, moment_in, pair_in, record_in, seated_guest, seats_in, snap_in, state_in, units_in, volume_in}
@@ -120,7 +121,7 @@ seats_fit rows (t ∷ ts) (seat ∷ seats) few sit =
     back (Some g) may =
         let short : (g == 255) ≡ false = ne_eqb g 255 (λ same.
         let none : slice_get rows g ≡ None = get_past rows g (omega (arith, same, few)) in
-        false≢true (ap (is_guest_of_class t) (sym none) ∙ may)) in
+        false≢true (ap (λ (o : Option GuestRow). option_map_or (λ row. same_class row.class t.class) o false) (sym none) ∙ may)) in
         rw short refl
 
 all_none : (k : ℕ) → list_all (λ b. b == 255) (replicate k 255) ≡ true

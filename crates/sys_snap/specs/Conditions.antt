@@ -1,4 +1,5 @@
 -- What a snapshot allows beyond the forms of its fields.
+use Rattle.std.specs.Option.{option_map_or}
 use Rattle.std.specs.Prelude.{ℕ, ◌+◌, ◌/◌, ◌%◌, ◌^◌, ◌==◌, ◌&&◌, ◌||◌, not, nat_le, Bool, true, false, List, [], ◌∷◌, Option, Some, None, slice_get}
 use Rattle.std.specs.List.{list_any}
 use Rattle.vax_arch.specs.Rei.{has_must_be_zero_bit}
@@ -30,18 +31,13 @@ is_iccs v = v / 2 % 2 ^ 5 == 0 && v / 2 ^ 8 % 2 ^ 23 == 0
 abbrev pub needs : Bool → Bool → Bool
 needs enable request = not request || enable
 
--- a terminal has no guest, or one of its class
-abbrev pub is_guest_of_class : Terminal → Option GuestRow → Bool
-is_guest_of_class t None = false
-is_guest_of_class t (Some row) = same_class row.class t.class
-
+-- a terminal is connected with no guest, or with one of its class
 abbrev pub may_sit : List GuestRow → Terminal → Option ℕ → Bool
 may_sit rows t None = true
-may_sit rows t (Some g) = is_guest_of_class t (slice_get rows g)
+may_sit rows t (Some g) = option_map_or (λ row. same_class row.class t.class) (slice_get rows g) false
 
--- each terminal's, and no guest occurs twice
+-- each terminal is so connected, and no guest with two
 abbrev pub may_all_sit : List GuestRow → List Terminal → List (Option ℕ) → Bool
 may_all_sit rows [] [] = true
-may_all_sit rows [] (seat ∷ seats) = false
-may_all_sit rows (t ∷ ts) [] = false
 may_all_sit rows (t ∷ ts) (seat ∷ seats) = may_sit rows t seat && not (list_any (same_place seat) seats) && may_all_sit rows ts seats
+may_all_sit rows ts seats = false

@@ -1,5 +1,5 @@
 -- What a snapshot in the code stands for.
-use Rattle.std.specs.Prelude.{ℕ, ◌≡◌, ◌+◌, List, [], ◌∷◌, length, map, take, drop, replicate, All, false, None}
+use Rattle.std.specs.Prelude.{ℕ, ◌≡◌, ◌+◌, List, [], ◌∷◌, length, map, take, drop, replicate, All, false, None, Some}
 use Rattle.std.specs.declared.result.Result.{Result}
 use Rattle.std.specs.declared.result.Result.TheVariants.{Ok, Err}
 use Rattle.std.specs.Prelude as results
@@ -7,6 +7,7 @@ use Rattle.sys_objects.specs.Condition.{IsConfig}
 use Rattle.sys_objects.specs.declared.records.GuestRow.{GuestRow}
 use Rattle.sys_state.specs.Run.{Moment}
 use Rattle.sys_state.specs.State.{is_running}
+use Rattle.sys_snap.specs.Misfits.{misfit_in}
 use Rattle.sys_snap.specs.Reader.{snap_in}
 use Rattle.sys_snap.specs.declared.fault.SnapError.{SnapError}
 use Rattle.sys_snap.specs.declared.fault.SnapError.TheVariants.{Fault, NoMemory}
@@ -47,8 +48,8 @@ pub record HoldsMoment (s : Snap) : Type 0 where
   pub stopped : All (λ runs. runs ≡ false) (drop (length s.config.guests) s.server.running)
   pub places : ArePlacedSnapshots 0 s.config.guests s.guests.items
 
--- bytes are read as the moment of which they are a snapshot, or refused
+-- bytes are read as the moment of which they are a snapshot, or refused where they misfit
 abbrev pub ReadsSnap : List ℕ → Result Snap SnapError → Type 0
 ReadsSnap bytes (Ok s) = (snap_in bytes ≡ results.Ok (snapshot_moment s)) × HoldsMoment s
-ReadsSnap bytes (Err (Fault fault)) = snap_in bytes ≡ results.Err fault
+ReadsSnap bytes (Err (Fault fault)) = misfit_in bytes ≡ Some fault.place
 ReadsSnap bytes (Err NoMemory) = Unit {0}

@@ -1,8 +1,8 @@
 -- Snapshots are read as what they were written of, and only they are read.
-use Rattle.std.specs.Prelude.{ℕ, ◌≡◌, ◌<◌, List, All, Ok, Err}
+use Rattle.std.specs.Prelude.{ℕ, ◌≡◌, ◌<◌, List, All, Some, Ok}
+use Rattle.sys_snap.specs.Misfits.{misfit_in}
 use Rattle.sys_snap.specs.Reader.{snap_in}
 use Rattle.sys_snap.specs.Snap.{IsSnap}
-use Rattle.sys_snap.specs.declared.fault.SnapFault.{SnapFault}
 use Rattle.sys_state.specs.Run.{Moment}
 
 abbrev pub ReadsEach : Type 0
@@ -18,4 +18,4 @@ AreOfOneMoment = (bytes : List ℕ) (m n : Moment) → IsSnap bytes m → IsSnap
 
 -- what is refused is a snapshot of none
 abbrev pub RefusedAreNone : Type 0
-RefusedAreNone = (bytes : List ℕ) (fault : SnapFault) → snap_in bytes ≡ Err fault → (m : Moment) → IsSnap bytes m → ⊥
+RefusedAreNone = (bytes : List ℕ) (place : ℕ) → misfit_in bytes ≡ Some place → (m : Moment) → IsSnap bytes m → ⊥

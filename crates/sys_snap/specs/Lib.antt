@@ -2,6 +2,7 @@ pub mod Conditions
 pub mod Fronts
 pub mod Held
 pub mod Laws
+pub mod Misfits
 pub mod Parts
 pub mod Pieces
 pub mod Reader

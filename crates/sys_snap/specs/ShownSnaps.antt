@@ -1,11 +1,12 @@
 -- Worked examples of whole snapshots, checked by computation: of a configuration without guests and volumes, after two rounds.
-use Rattle.std.specs.Prelude.{◌≡◌, ℕ, List, [], ◌∷◌, ◌++◌, codes, length, take, drop, replicate, None, Ok, Err, refl}
+use Rattle.std.specs.Prelude.{◌≡◌, ℕ, List, [], ◌∷◌, ◌++◌, codes, length, take, drop, replicate, None, Some, Ok, refl}
 use Rattle.std.specs.Str.{is_utf8, chars}
 use Rattle.toml.proofs.OnLiterals.{toml_on_literals}
 use Rattle.sys_objects.specs.Judged.{validated}
 use Rattle.sys_config.specs.Top.{tables_at, top_of, top_of_one, top_of_two}
 use Rattle.sys_config.specs.Config.{numbers_of, rows_of, config_in, config_of}
 use Rattle.sys_state.specs.Run.{Moment}
+use Rattle.sys_snap.specs.Misfits.{fields_after_text, misfit_in}
 use Rattle.sys_snap.specs.Reader.{moment_in, snap_in, state_in}
 use Rattle.sys_snap.specs.Written.{snap_bytes}
 
@@ -30,6 +31,6 @@ unfolding toml_on_literals is_utf8 chars top_of top_of_one top_of_two tables_at 
 read_back = refl
 
 -- without its last byte, at the terminals' 32 places; with one byte more, at its own length; another head
-pub refused : (snap_in (take 82 snapshot) ≡ Err (record { place = 51 })) × (snap_in (snapshot ++ 0 ∷ []) ≡ Err (record { place = 83 })) × (snap_in (drop 1 snapshot) ≡ Err (record { place = 0 }))
-unfolding toml_on_literals is_utf8 chars top_of top_of_one top_of_two tables_at numbers_of rows_of validated config_in config_of snap_in moment_in state_in
+pub refused : (misfit_in (take 82 snapshot) ≡ Some 51) × (misfit_in (snapshot ++ 0 ∷ []) ≡ Some 83) × (misfit_in (drop 1 snapshot) ≡ Some 0)
+unfolding toml_on_literals is_utf8 chars top_of top_of_one top_of_two tables_at numbers_of rows_of validated config_in config_of misfit_in fields_after_text
 refused = (refl, refl, refl)

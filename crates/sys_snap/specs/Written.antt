@@ -1,4 +1,5 @@
 -- A snapshot as it is written (profile). Numbers have their lowest byte first.
+use Rattle.std.specs.Option.{unwrap_or}
 use Rattle.std.specs.Prelude.{ℕ, ◌*◌, ◌-◌, List, [], ◌∷◌, ◌++◌, length, map, flat_map, replicate, codes, Bool, Option, Some, None}
 use Rattle.std.specs.Int.{from_bool}
 use Rattle.vv_base.specs.Bytes.{long_bytes, word_bytes}
@@ -17,8 +18,7 @@ flag_byte flag = from_bool flag ∷ []
 
 -- a place of one byte, or FF for none
 abbrev pub place_byte : Option ℕ → ℕ
-place_byte None = 255
-place_byte (Some n) = n
+place_byte place = unwrap_or place 255
 
 -- R0 to R15, PSL, the five stack pointers: 88 bytes
 abbrev pub register_bytes : State → List ℕ

@@ -145,7 +145,6 @@ fn read_moment(alloc: Global, r: &mut Cursor) -> Result<Snap, SnapError>
 /// Reads a snapshot of at most 2^31 bytes. `Fault` comes exactly where the bytes are none: with the place at which the first
 /// field begins that is cut or not allowed after those before it, or at which bytes are left over. `NoMemory` comes where memory
 /// ran out before that was decided.
-#[tactic(auto, unfolding(crate::specs::Reader::snap_in))]
 pub fn read_snap(alloc: Global, b: &[u8]) -> Result<Snap, SnapError>
     requires short { length b.now ≤ 2 ^ 31 }
     ensures reads { ReadsSnap b.now result }

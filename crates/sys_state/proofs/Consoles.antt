@@ -6,7 +6,7 @@ use Rattle.std.proofs.lemmas.Bool.{eqb-true, ne_eqb}
 use Rattle.std.proofs.lemmas.List.Elements.{filter-append}
 use Rattle.std.proofs.lemmas.List.Concat.{flat_map-append}
 use Rattle.sys_objects.specs.declared.records.Terminal.{Terminal}
-use Rattle.sys_state.specs.Places.{is_at}
+use Rattle.sys_objects.specs.Places.{is_at}
 use Rattle.sys_state.specs.Consoles.{console_of, on_console}
 use Rattle.sys_state.specs.State.{Put, bytes_on}
 use Rattle.sys_state.proofs.Places.{both}

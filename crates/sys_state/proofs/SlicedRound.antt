@@ -5,7 +5,7 @@ use Rattle.sys_objects.specs.declared.records.Terminal.{Terminal}
 use Rattle.sys_state.proofs.Consoles.{bytes_append}
 use Rattle.sys_state.proofs.Schedules.{any_schedule}
 use Rattle.sys_state.proofs.Sums.{same_counts}
-use Rattle.sys_state.specs.Events.{after_verdict, at_place, at_row, events, guests_by, happened, is_named, lined, reset_by}
+use Rattle.sys_state.specs.Events.{after_verdict, at_place, at_row, events, happened, is_named, lined, obeyed, reset_by}
 use Rattle.sys_state.specs.Guests.{stopped_by_command, typed}
 use Rattle.sys_state.specs.Places.{changed, place_of}
 use Rattle.sys_state.specs.Run.{events_of}
@@ -32,23 +32,23 @@ length_changed f (x ∷ xs) (suc k) = ap suc (length_changed f xs k)
 abbrev many : SystemState → ℕ
 many s = length s.guests
 
-by_command : (c : Config) (command : Command) (gs : List Guest) → length (guests_by c command gs) ≡ length gs
-by_command c (Start g) gs = length_changed (reset_by (slice_get c.guests g)) gs g
-by_command c (Halt g) gs = length_changed stopped_by_command gs g
-by_command c (Connect g) gs = refl
-by_command c (MountAt g unit mount) gs = refl
-by_command c (Dismount g unit) gs = refl
-by_command c Show gs = refl
+by_command : (c : Config) (s : SystemState) (n : ℕ) (t : Terminal) (command : Command) → many (obeyed c s n t command).now ≡ many s
+by_command c s n t (Start g) = length_changed (reset_by (slice_get c.guests g)) s.guests g
+by_command c s n t (Halt g) = length_changed stopped_by_command s.guests g
+by_command c s n t (Connect g) = refl
+by_command c s n t (MountAt g unit mount) = refl
+by_command c s n t (Dismount g unit) = refl
+by_command c s n t Show = refl
 
-by_verdict : (c : Config) (s : SystemState) (n : ℕ) (v : Verdict) → many (after_verdict c s n v) ≡ many s
-by_verdict c s n (Granted command) = by_command c command s.guests
-by_verdict c s n BadCommand = refl
-by_verdict c s n NoSuchObject = refl
-by_verdict c s n (Denied rule) = refl
+by_verdict : (c : Config) (s : SystemState) (n : ℕ) (t : Terminal) (v : Verdict) → many (after_verdict c s n t v).now ≡ many s
+by_verdict c s n t (Granted command) = by_command c s n t command
+by_verdict c s n t BadCommand = refl
+by_verdict c s n t NoSuchObject = refl
+by_verdict c s n t (Denied rule) = refl
 
 by_line : (c : Config) (i : ℕ) (s : SystemState) (n : ℕ) (t : Terminal) (text : List ℕ) (o : Option ℕ) → many (lined c i s n t text o).now ≡ many s
 by_line c i s n t text (Some g) = length_changed (typed text) s.guests g
-by_line c i s n t text None = by_verdict c s n (verdict_of c (server_of s) n text)
+by_line c i s n t text None = by_verdict c s n t (verdict_of c (server_of s) n text)
 
 by_row : (c : Config) (i : ℕ) (s : SystemState) (n : ℕ) (o : Option Terminal) (what : Typed) → many (at_row c i s n o what).now ≡ many s
 by_row c i s n None what = refl

@@ -28,9 +28,8 @@ added t u = record {
 
 -- in a round
 abbrev pub round_tally : List GuestRow → List Guest → Tally
-round_tally [] gs = no_steps
-round_tally (row ∷ rows) [] = no_steps
 round_tally (row ∷ rows) (g ∷ gs) = added (alone row.quantum g).tally (round_tally rows gs)
+round_tally _ _ = no_steps
 
 -- in slices
 abbrev pub tally_by : ℕ → Option Guest → Tally

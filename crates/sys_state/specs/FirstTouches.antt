@@ -16,9 +16,9 @@ use Rattle.sys_script.specs.declared.event.Event.{Event}
 use Rattle.sys_script.specs.declared.event.Typed.{Typed}
 use Rattle.sys_script.specs.declared.event.Typed.TheVariants.{Break, Line}
 use Rattle.sys_server.specs.Verdict.{verdict_of}
-use Rattle.sys_server.specs.declared.command.Command.TheVariants.{Connect, Start, Halt, MountAt, Dismount, Show}
+use Rattle.sys_server.specs.declared.command.Command.TheVariants.{Start}
 use Rattle.sys_server.specs.declared.command.Verdict.{Verdict}
-use Rattle.sys_server.specs.declared.command.Verdict.TheVariants.{Granted, BadCommand, NoSuchObject, Denied}
+use Rattle.sys_server.specs.declared.command.Verdict.TheVariants.{Granted}
 use Rattle.vm_state.specs.Packets.{status_place}
 use Rattle.vm_state.specs.State.{Guest}
 use Rattle.vm_state.specs.Touches.{Touching, at_first, touching_reset, touching_steps, touching_write}
@@ -27,14 +27,7 @@ use Rattle.vm_state.specs.Translation.{frame_at}
 -- the guest that an event starts
 abbrev pub started_by : Verdict → Option ℕ
 started_by (Granted (Start g)) = Some g
-started_by (Granted (Connect g)) = None
-started_by (Granted (Halt g)) = None
-started_by (Granted (MountAt g unit mount)) = None
-started_by (Granted (Dismount g unit)) = None
-started_by (Granted Show) = None
-started_by BadCommand = None
-started_by NoSuchObject = None
-started_by (Denied rule) = None
+started_by verdict = None
 
 abbrev pub line_starts : Config → SystemState → ℕ → List ℕ → Option ℕ → Option ℕ
 line_starts c s n text (Some g) = None

@@ -1,10 +1,5 @@
 -- Objects that belong to the rows of a configuration, by their places.
-use Rattle.std.specs.Prelude.{ℕ, zero, suc, List, [], ◌∷◌, Bool, false, Option, None, Some, option_map, if◌then◌else◌, ◌==◌}
-
--- whether it is place k
-abbrev pub is_at : ℕ → Option ℕ → Bool
-is_at k None = false
-is_at k (Some n) = n == k
+use Rattle.std.specs.Prelude.{ℕ, zero, suc, List, [], ◌∷◌, Bool, Option, None, Some, option_map, if◌then◌else◌}
 
 -- the place of the first that passes
 abbrev pub place_of : {X : Type 0} → (X → Bool) → List X → Option ℕ
@@ -13,9 +8,8 @@ place_of p (x ∷ xs) = if p x then Some 0 else option_map suc (place_of p xs)
 
 -- what belongs to each row
 abbrev pub beside_with : {X Y Z : Type 0} → (X → Y → Z) → List X → List Y → List Z
-beside_with f [] ys = []
-beside_with f (x ∷ xs) [] = []
 beside_with f (x ∷ xs) (y ∷ ys) = f x y ∷ beside_with f xs ys
+beside_with f _ _ = []
 
 -- the object at a place is changed
 abbrev pub changed : {X : Type 0} → (X → X) → List X → ℕ → List X

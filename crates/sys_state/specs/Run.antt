@@ -6,7 +6,8 @@ use Rattle.sys_objects.specs.declared.records.Terminal.{Terminal}
 use Rattle.sys_script.specs.declared.event.Event.{Event}
 use Rattle.sys_state.specs.Events.{events}
 use Rattle.sys_state.specs.Guests.{powered}
-use Rattle.sys_state.specs.Places.{beside_with, is_at, place_of}
+use Rattle.sys_state.specs.Places.{beside_with, place_of}
+use Rattle.sys_objects.specs.Places.{is_at}
 use Rattle.sys_state.specs.State.{SystemState, Went}
 use Rattle.sys_state.specs.Transfers.{transfers}
 use Rattle.sys_state.specs.Turns.{turns}

@@ -3,7 +3,8 @@ use Rattle.std.specs.Prelude.{◌≡◌, ℕ, ◌+◌, List, [], ◌∷◌, ◌+
 use Rattle.sys_state.specs.Bytes.{drive_blocks, line_bytes}
 use Rattle.sys_state.specs.Counts.{run_outcome}
 use Rattle.sys_state.specs.Dump.{dump_of, register_line, row_line}
-use Rattle.sys_state.specs.Places.{changed, is_at, place_of}
+use Rattle.sys_state.specs.Places.{changed, place_of}
+use Rattle.sys_objects.specs.Places.{is_at}
 use Rattle.sys_state.specs.Consoles.{on_console}
 use Rattle.sys_state.specs.Run.{Input, first_state}
 use Rattle.sys_state.specs.ShownSetup.{config, guest, line_at, terminal, volume, whole_run}

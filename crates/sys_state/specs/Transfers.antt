@@ -122,13 +122,11 @@ pub record AllServed : Type 0 where
 
 -- guest by guest, whether it runs or has stopped; no packet waits afterwards
 abbrev pub all_served : Config → List GuestRow → List (List (Option Mount)) → List Guest → List (List (List ℕ)) → AllServed
-all_served c [] mounts guests volumes = record { guests = []; volumes = volumes; puts = [] }
-all_served c (row ∷ rows) [] guests volumes = record { guests = []; volumes = volumes; puts = [] }
-all_served c (row ∷ rows) (ms ∷ mounts) [] volumes = record { guests = []; volumes = volumes; puts = [] }
 all_served c (row ∷ rows) (ms ∷ mounts) (g ∷ guests) volumes =
     let one = served c row ms (with_no_queue g) g.state.queue volumes in
     let more = all_served c rows mounts guests one.volumes in
     record { guests = one.guest ∷ more.guests; volumes = more.volumes; puts = one.puts ++ more.puts }
+all_served c _ _ _ volumes = record { guests = []; volumes = volumes; puts = [] }
 
 abbrev pub transfers : Config → SystemState → Went SystemState
 transfers c s =

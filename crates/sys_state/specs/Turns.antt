@@ -14,9 +14,8 @@ abbrev pub turn : GuestRow → Guest → Guest
 turn row g = (alone row.quantum g).guest
 
 abbrev pub turn_puts : List Terminal → List (Option ℕ) → ℕ → List GuestRow → List Guest → List Put
-turn_puts ks os i [] gs = []
-turn_puts ks os i (row ∷ rows) [] = []
 turn_puts ks os i (row ∷ rows) (g ∷ gs) = on_console (console_of ks os i) (alone row.quantum g).shown ++ turn_puts ks os (suc i) rows gs
+turn_puts ks os i _ _ = []
 
 abbrev pub turns : Config → SystemState → Went SystemState
 turns c s = record { now = record s { guests = beside_with turn c.guests s.guests }; puts = turn_puts c.terminals s.connected 0 c.guests s.guests }

@@ -1,4 +1,5 @@
 -- A system that goes on from a moment: what the server keeps names guests and volumes of the configuration alone.
+use Rattle.std.specs.Option.{option_map_or}
 use Rattle.std.proofs.Common.{ℕ, zero, suc, ◌≡◌, ◌<◌, List, [], ◌∷◌, length, take, drop, sym, ◌∙◌, subst, arith, refl, take-append-drop, Bool, true, false, not, ◌&&◌, Option, Some, None}
 use Rattle.std.proofs.lemmas.Bool.{and_parts, false≢true}
 use Rattle.std.proofs.lemmas.List.Elements.{All-append, All-cons, All-nil, All-weaker}
@@ -7,12 +8,12 @@ use Rattle.std.specs.Prelude.{IfSome}
 use Rattle.vv_class.specs.declared.class.AccessClass.{AccessClass}
 use Rattle.sys_devices.specs.Rows.{FitRows}
 use Rattle.sys_guests.specs.Kernel.{AreUnits}
-use Rattle.sys_objects.specs.Rules.{is_mountable, may_mount, same_place}
+use Rattle.sys_objects.specs.Rules.{is_mountable, may_mount, same_place, same_class}
 use Rattle.sys_objects.specs.declared.records.GuestRow.{GuestRow}
 use Rattle.sys_objects.specs.declared.records.Mount.{Mount}
 use Rattle.sys_objects.specs.declared.records.Terminal.{Terminal}
 use Rattle.sys_objects.specs.declared.records.VolumeRow.{VolumeRow}
-use Rattle.sys_snap.specs.Conditions.{is_guest_of_class, may_all_sit, may_sit}
+use Rattle.sys_snap.specs.Conditions.{may_all_sit, may_sit}
 use Rattle.sys_snap.specs.Held.{HoldsMoment, snapshot_moment}
 use Rattle.sys_snap.specs.Snap.{AreUnitsOf, IsMoment, IsVolumeOf}
 use Rattle.sys_snap.specs.declared.snap.Snap.{Snap}
@@ -30,7 +31,7 @@ IsOne rows seat = IfSome seat (λ g. g < length rows)
 
 sits : (rows : List GuestRow) (t : Terminal) (seat : Option ℕ) → may_sit rows t seat ≡ true → IsOne rows seat
 sits rows t None may = tt
-sits rows t (Some g) may = inside (is_guest_of_class t) rows g refl may
+sits rows t (Some g) may = inside (λ (o : Option GuestRow). option_map_or (λ row. same_class row.class t.class) o false) rows g refl may
 
 all_sit : (rows : List GuestRow) (ts : List Terminal) (seats : List (Option ℕ)) → may_all_sit rows ts seats ≡ true → All (IsOne rows) seats
 all_sit rows [] [] sit = All-nil (IsOne rows)

@@ -8,7 +8,8 @@ use Rattle.std.proofs.lemmas.List.Elements.{All-cons}
 use Rattle.sys_objects.specs.declared.records.GuestRow.{GuestRow}
 use Rattle.sys_objects.specs.declared.records.Terminal.{Terminal}
 use Rattle.sys_system.specs.Seats.{AreSeated}
-use Rattle.sys_state.specs.Places.{is_at, place_of}
+use Rattle.sys_state.specs.Places.{place_of}
+use Rattle.sys_objects.specs.Places.{is_at}
 use Rattle.sys_state.specs.Run.{connections}
 
 abbrev first_at : List GuestRow → ℕ → Option ℕ

@@ -24,7 +24,8 @@ use Rattle.sys_system.specs.declared.parts.Parts.{Parts}
 use Rattle.sys_state.proofs.Consoles.{bytes_of_console}
 use Rattle.sys_state.specs.Consoles.{console_of}
 use Rattle.sys_state.specs.Counts.{added, tally_by}
-use Rattle.sys_state.specs.Places.{changed, is_at}
+use Rattle.sys_state.specs.Places.{changed}
+use Rattle.sys_objects.specs.Places.{is_at}
 use Rattle.sys_state.specs.Slices.{Slice, slice_puts}
 use Rattle.sys_state.specs.State.{bytes_on}
 use Rattle.sys_server.specs.declared.command.ServerState.{ServerState}

@@ -1,6 +1,7 @@
 ghost use Rattle.std.specs.Prelude.{◌≡◌, ◌≤◌, length};
 ghost use Rattle.sys_system.specs.Seats.{AreSeated};
-ghost use Rattle.sys_state.specs.Places.{is_at, place_of};
+ghost use Rattle.sys_state.specs.Places.{place_of};
+ghost use Rattle.sys_objects.specs.Places.{is_at};
 
 use sys_events::is_at;
 use sys_objects::GuestRow;

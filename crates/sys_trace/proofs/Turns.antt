@@ -1,5 +1,6 @@
 -- A guest's turn, taken a step at a time, and what is shown of it.
 use Rattle.std.proofs.Common.{ℕ, false, zero, suc, ◌≡◌, ◌<◌, ◌≤◌, ◌+◌, List, [], ◌∷◌, ◌++◌, length, map, refl, sym, ◌∙◌, ap, subst, arith, append_assoc, append-nil}
+use Rattle.sys_runs.specs.Besides.{MissesArePaid}
 use Rattle.std.specs.Prelude.{Err, IfSome, Option, Some, slice_get, slice_index, slice_index_or}
 use Rattle.std.proofs.lemmas.List.{replicate_more}
 use Rattle.std.proofs.lemmas.Option.{get_or_from_slice_get, slice_get_within}
@@ -153,11 +154,11 @@ one_round n m m1 m2 m3 s s1 s2 s3 lines lines1 lines2 lines3 h stands rests b p 
     more_made 0 [] [] m m m3 s s s3 lines lines lines3 (none_made [] m s lines rests h.trail stands) refl (none_of ((s.rounds + 0) + 1)) made
 
 -- a run of one guest, without volumes
-pub input_is : (c : Config) (images : List (List ℕ)) (volumes : List (List (List ℕ))) (row : GuestRow) (image : List ℕ) (ran : Ran) (o : RunOutside) → HasOne c row → images ≡ image ∷ [] → FitRows c.volumes volumes → MakesRun (record { config = c; images = images; volumes = volumes; events = []; rounds = 1 }) ran o → MakesRun (input_of c image) ran o
+pub input_is : (c : Config) (images : List (List ℕ)) (volumes : List (List (List ℕ))) (row : GuestRow) (image : List ℕ) (ran : Ran) (o : RunOutside) → HasOne c row → images ≡ image ∷ [] → FitRows c.volumes volumes → MakesRun MissesArePaid (record { config = c; images = images; volumes = volumes; events = []; rounds = 1 }) ran o → MakesRun MissesArePaid (input_of c image) ran o
 input_is c images volumes row image ran o one is fit made =
     let none : volumes ≡ [] = no_volumes c.volumes volumes one.volumes fit in
     let same : record { config = c; images = images; volumes = volumes; events = []; rounds = 1 } ≡ input_of c image = λ i. record { config = c; images = is i; volumes = none i; events = []; rounds = 1 } in
-    subst (λ (x : Input). MakesRun x ran o) same made
+    subst (λ (x : Input). MakesRun MissesArePaid x ran o) same made
 
 -- the first of the guests with their memories
 pub given_first : (memory : List ℕ) (ks : List Kept) (k : Kept) (h : Guest) → slice_get ks 0 ≡ Some k → slice_get (guests_in memory ks) 0 ≡ Some h → guest_in memory k ≡ h

@@ -1,5 +1,6 @@
 -- A run of one guest whose steps are shown.
 use Rattle.std.specs.Prelude.{ℕ, ◌≡◌, List, [], ◌∷◌, replicate}
+use Rattle.sys_runs.specs.Besides.{Besides}
 use Rattle.std.specs.declared.result.Result.{Result}
 use Rattle.std.specs.declared.result.Result.TheVariants.{Ok, Err}
 use Rattle.vv_io.specs.Lines.{Seen}
@@ -29,11 +30,11 @@ pub record HasOne (c : Config) (row : GuestRow) : Type 0 where
 
 -- The run was made, and is the same as one that isn't watched. On `out` the trace of the guest's turn was shown, or a front of it
 -- where `out` failed.
-pub record Traces (c : Config) (row : GuestRow) (image : List ℕ) (traced : Traced) (o : RunOutside) (out out' : Seen) : Type 0 where
-  pub makes : MakesRun (input_of c image) traced.ran o
+pub record Traces (Also : Besides) (c : Config) (row : GuestRow) (image : List ℕ) (traced : Traced) (o : RunOutside) (out out' : Seen) : Type 0 where
+  pub makes : MakesRun Also (input_of c image) traced.ran o
   pub shown : ShownSince traced.is_cut out out' (trace_of row.quantum (powered row image))
 
 -- by its answer: the run was made; or power doesn't come up, and nothing is shown
-abbrev pub TracesRun : Config → GuestRow → List ℕ → Result Traced PowerFault → RunOutside → (out out' : Seen) → Type 0
-TracesRun c row image (Ok traced) o out out' = Traces c row image traced o out out'
-TracesRun c row image (Err fault) o out out' = StaysDown c (image ∷ []) fault o × (out' ≡ out)
+abbrev pub TracesRun : Besides → Config → GuestRow → List ℕ → Result Traced PowerFault → RunOutside → (out out' : Seen) → Type 0
+TracesRun Also c row image (Ok traced) o out out' = Traces Also c row image traced o out out'
+TracesRun Also c row image (Err fault) o out out' = StaysDown c (image ∷ []) fault o × (out' ≡ out)

@@ -1,4 +1,5 @@
 ghost use Rattle.std.specs.Prelude.{◌≡◌, ◌≤◌, ◌*◌, ◌++◌, List, ℕ, IfSome, Some, [], ◌∷◌, length, map, slice_get, vec_len};
+ghost use Rattle.sys_runs.specs.Besides.{MissesArePaid};
 ghost use Rattle.sys_guests.specs.Layout.{guests_in};
 ghost use Rattle.sys_guests.specs.Present.{PaysAll};
 ghost use Rattle.sys_devices.specs.ShownSince.{ShownSince};
@@ -112,7 +113,7 @@ pub fn trace<H: Hardware, O: Sink, L: Lines>(
     requires images { length images.now ≡ 1 }
     requires pages { length (H.machine machine.old).memory ≡ 512 * 32768 }
     requires drives { vec_len drives.old ≡ 16 }
-    ensures traces { (row : GuestRow) (image : List ℕ) → HasOne config row → map (λ b. b.items) images.now ≡ image ∷ [] → TracesRun config row image result (record { machine = H.machine machine.old; machine' = H.machine machine.new; lines = L.lines lines.old; lines' = L.lines lines.new; drives = map (λ d. kept d) drives.old.items; drives' = map (λ d. kept d) drives.new.items }) (O.printed out.old) (O.printed out.new) }
+    ensures traces { (row : GuestRow) (image : List ℕ) → HasOne config row → map (λ b. b.items) images.now ≡ image ∷ [] → TracesRun MissesArePaid config row image result (record { machine = H.machine machine.old; machine' = H.machine machine.new; lines = L.lines lines.old; lines' = L.lines lines.new; drives = map (λ d. kept d) drives.old.items; drives' = map (λ d. kept d) drives.new.items }) (O.printed out.old) (O.printed out.new) }
     ensures drives_len { vec_len drives.new ≡ vec_len drives.old }
 {
     let steps = first_quantum(config.guests.as_slice());

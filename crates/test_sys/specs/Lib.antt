@@ -5,3 +5,4 @@ pub mod ShownSlices
 pub mod ShownStops
 pub mod ShownTyped
 pub mod ShownWords
+pub mod Slices

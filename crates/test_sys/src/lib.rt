@@ -1,30 +1,24 @@
-//! Worked examples of the server's rules and replies, of audits, of what a report is made of, of volumes and drives, of purges, and
-//! of generated workloads.
+//! What no case file says of the system: lines that can't be typed, the parts of a report, a drive that is marked before its volume is
+//! stored, and guests that take turns on the one machine, by slices of all sizes and in all orders.
 #![tactic(auto)]
 
 #[cfg(test)]
-mod audit;
+mod case;
 #[cfg(test)]
-mod configurations;
+mod content;
 #[cfg(test)]
-mod contents;
+mod devices;
 #[cfg(test)]
-mod drawn;
+mod marked;
 #[cfg(test)]
-mod drives;
-#[cfg(test)]
-mod events;
-#[cfg(test)]
-mod generated;
-#[cfg(test)]
-mod images;
-#[cfg(test)]
-mod purged_workload;
+mod outcome;
 #[cfg(test)]
 mod reports;
 #[cfg(test)]
 mod rows;
 #[cfg(test)]
-mod server;
+mod running;
 #[cfg(test)]
-mod volumes;
+mod schedules;
+#[cfg(test)]
+mod slices;

@@ -2,7 +2,7 @@ use std::alloc::{AllocError, Global};
 use std::process::Abort;
 use std::test::Fail;
 use vax_decode::{Decode, DecodeFault, decode, encode};
-use vax_table::{Access, Form, row};
+use vax_table::{Access, Form, Operation, operation, row};
 use vv_base::Width;
 
 /// The operands of each opcode by the manual's letters, access and width in turn; `-` where no
@@ -140,14 +140,15 @@ fn letters_of(alloc: Global, forms: &[Form]) -> Result<Vec<u8>, AllocError> {
     Ok(letters)
 }
 
-/// An opcode's row has the manual's operands, and says whether a monitor does the instruction.
+/// An opcode's row has the manual's operands, and its operation says whether a monitor does the instruction.
 fn check_row(rt: &impl Abort, alloc: Global, opcode: u8, letters: &str) -> Result<(), AllocError> {
     match row(opcode) {
         None => assert!(rt; letters == "-", "at {opcode}"),
         Some(row) => {
             let found = letters_of(alloc, row.operands.as_slice())?;
             assert!(rt; found.as_slice() == letters.as_bytes(), "at {opcode}");
-            assert!(rt; row.sensitive == SENSITIVE.contains(&opcode), "at {opcode}");
+            let is_sensitive = matches!(operation(opcode), Operation::Sensitive(_));
+            assert!(rt; is_sensitive == SENSITIVE.contains(&opcode), "at {opcode}");
         }
     }
     Ok(())

@@ -8,7 +8,7 @@ use Rattle.vm_slots.specs.Held.{is_same}
 use Rattle.vm_slots.specs.declared.context.Context.{Context}
 use Rattle.vm_state.specs.ShownSetup.{entry_4, guest_m, guest_u, whole_step, with_register}
 use Rattle.vm_state.specs.State.{Guest}
-use Rattle.vm_state.specs.Step.{Touched, nothing_touched, pages_touched, step}
+use Rattle.vm_state.specs.Step.{Touched, pages_touched, step}
 use Rattle.vm_state.specs.Touches.{Present, Process, Touching, at_first, brought, emptied, lacked_all, lacked_one, no_pages, touching_steps}
 
 -- contexts that differ in P0BR, and one with present pages
@@ -92,11 +92,11 @@ pub untouched :
     -- NOP: the page of its code
     ((step nop).touched ≡ record { found = 1 ∷ []; lacking = [] })
     -- the guest has stopped
-    × ((step (record nop { state = record nop.state { halt = Some 6 } })).touched ≡ nothing_touched)
+    × ((step (record nop { state = record nop.state { halt = Some 6 } })).touched ≡ record { found = []; lacking = [] })
     -- it waits
-    × ((step (record nop { state = record nop.state { waiting = true } })).touched ≡ nothing_touched)
+    × ((step (record nop { state = record nop.state { waiting = true } })).touched ≡ record { found = []; lacking = [] })
     -- an interrupt of software level 3 is taken
-    × ((step (record nop { state = record nop.state { sisr = 8 } })).touched ≡ nothing_touched)
+    × ((step (record nop { state = record nop.state { sisr = 8 } })).touched ≡ record { found = []; lacking = [] })
 unfolding whole_step
 untouched = (refl, refl, refl, refl)
 

@@ -6,7 +6,10 @@ use std::test::Fail;
 use std::time::Duration;
 use std::{env, fs, io, process};
 use vv_base::{FileName, file_name};
-use vv_edge::{Failures, FileDrive, FileLine, FileShelf, Identity, InputKeys, OutSink, Ticker};
+use vv_edge::{
+    FileDrive, FileLine, FileShelf, Identity, InputKeys, OutSink, Stored, Ticker, drive_under,
+    look, whole_blocks,
+};
 use vv_io::{
     Drive, DriveFault, Keyboard, Line, LineFault, MemLine, Progress, Shelf, ShelfFault, Sink,
     SinkFault,
@@ -62,7 +65,7 @@ fn a_shelf_reads_files(rt: HostRuntime) -> Result<(), Fail> {
 /// The line of a path.
 fn line_of(rt: &HostRuntime, path: &str) -> Result<FileLine<HostRuntime>, Fail> {
     let path = String::from_str(rt.alloc(), path)?;
-    Ok(FileLine::new(rt.clone()?, path))
+    Ok(FileLine::new(rt.clone()?, path, true, None))
 }
 
 #[test]
@@ -122,11 +125,17 @@ fn a_folder_takes_no_line(rt: HostRuntime) -> Result<(), Fail> {
     Ok(())
 }
 
-/// The drive of a path, where something is there.
-fn drive_of(rt: &HostRuntime, path: &str) -> Result<Option<FileDrive<HostRuntime>>, Fail> {
+/// The drive of a path.
+fn drive_of(rt: &HostRuntime, path: &str) -> Result<FileDrive, Fail> {
+    let found = drive_under(&look(rt, path), &[]).and_then(|found| found.ok());
+    let stored = Stored {
+        drive: 0,
+        stored: 0,
+        blocks: whole_blocks(&found),
+    };
     let path = String::from_str(rt.alloc(), path)?;
-    let notes = Rc::new(rt.alloc(), Cell::new([None; 16]))?;
-    Ok(FileDrive::look(rt.clone()?, path, &[], None, Failures::new(0, notes)))
+    let failed = Rc::new(rt.alloc(), Cell::new([None; 16]))?;
+    Ok(FileDrive::new(rt.clone()?, path, found, None, stored, failed))
 }
 
 /// A block is stored, and both are read again.
@@ -154,9 +163,9 @@ fn check_changed(rt: &impl Abort, drive: &mut impl Drive) {
 #[test]
 fn a_drive_reads_and_writes_blocks(rt: HostRuntime) -> Result<(), Fail> {
     let path = scratch(&rt, "drive")?;
-    assert!(rt; drive_of(&rt, path.as_str())?.is_none());
+    assert!(rt; drive_of(&rt, path.as_str())?.blocks() == 0);
     assert!(rt; write(&rt, path.as_str(), &[7; 1_024]));
-    let mut drive = drive_of(&rt, path.as_str())?.ok_or("no drive")?;
+    let mut drive = drive_of(&rt, path.as_str())?;
     check_blocks(&rt, &mut drive);
     assert!(rt; write(&rt, path.as_str(), b"short"));
     check_changed(&rt, &mut drive);

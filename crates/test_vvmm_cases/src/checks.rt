@@ -1,6 +1,6 @@
 //! What is said of a line, a drive, the sink, or the reports on typed lines after a call.
 
-use test_vvmm_stage::Told;
+use crate::told::Told;
 
 /// Of what something is said.
 #[derive(Clone, Copy, PartialEq)]

@@ -11,12 +11,14 @@ mod content;
 mod each;
 mod given;
 mod play;
+mod told;
+mod work;
 
+use given::PAGES;
 use play::Play;
 use std::alloc::Global;
 use std::process::ExitCode;
 use std::{env, fs, io};
-use test_vvmm_stage::PAGES;
 use vax_cpu::Cpu;
 use vv_base::NoMemory;
 
@@ -92,14 +94,23 @@ fn make<'t>(rt: &HostRuntime, play: &mut Play<'t>, block: &Block<'t>) -> Result<
     Ok(())
 }
 
-/// Makes all cases of a file.
-fn make_all(rt: &HostRuntime, text: &str) -> Result<(), NoMemory> {
-    let machine = Cpu::new(rt.alloc(), PAGES)?;
-    let mut play = Play::new(rt.alloc(), machine);
-    for block in &blocks_of(rt.alloc(), text)? {
-        make(rt, &mut play, block)?;
+/// Makes the cases of these blocks.
+fn make_each<'t>(
+    rt: &HostRuntime,
+    play: &mut Play<'t>,
+    blocks: &[Block<'t>],
+) -> Result<(), NoMemory> {
+    for block in blocks {
+        make(rt, play, block)?;
     }
     Ok(())
+}
+
+/// Makes all cases of a file.
+fn make_all(rt: &HostRuntime, text: &str) -> Result<(), NoMemory> {
+    let blocks = blocks_of(rt.alloc(), text)?;
+    let mut play = Play::new(rt.alloc(), Cpu::new(rt.alloc(), PAGES)?);
+    make_each(rt, &mut play, blocks.as_slice())
 }
 
 /// Makes all cases of the files that the arguments name.

@@ -6,11 +6,13 @@ use crate::checks::{
 };
 use crate::content::{Content, Marked, mark_in};
 use crate::each::{Each, each_in};
-use crate::given::{Given, blocks_of};
+use crate::given::{Disk, Given, PAGES, blocks_of};
+use crate::told::Told;
 use std::alloc::Global;
-use test_vvmm_stage::{Disk, LineCut, Told};
 use vax_cpu::Cpu;
+use vax_hw::Hardware;
 use vv_base::NoMemory;
+use vv_class::read_class;
 use vv_io::Cut;
 
 /// What became of a statement or of a line of content.
@@ -34,6 +36,7 @@ enum Pending<'t> {
     Volume(u8),
     Keys,
     Check(Subject, Relation),
+    Given(&'t str, Relation),
     Each(Each<'t>),
 }
 
@@ -47,6 +50,8 @@ pub struct Play<'t> {
     runs: Vec<(&'t str, Told)>,
     /// Whether a call was made in this case.
     is_called: bool,
+    /// How many entries the machine missed in the last call.
+    missed: u64,
     /// The value of the case.
     value: &'t str,
     given: Given<'t>,
@@ -143,6 +148,7 @@ impl<'t> Play<'t> {
             lets: Vec::new(alloc),
             runs: Vec::new(alloc),
             is_called: false,
+            missed: 0,
             value: "",
             given: Given::new(alloc),
             checked: Vec::new(alloc),
@@ -261,6 +267,11 @@ impl<'t> Play<'t> {
                     is_related(held(told, subject), relation, &content.bytes)
                 }),
             )),
+            Pending::Given(name, relation) => Ok(said(
+                self.given
+                    .file(name)
+                    .map(|bytes| is_related(bytes, relation, &content.bytes)),
+            )),
             Pending::Each(each) => self.try_each(each, &content.bytes),
         }
     }
@@ -281,10 +292,15 @@ impl<'t> Play<'t> {
             "let" => Ok(self.await_content(Pending::Let(rest))),
             "file" => Ok(self.await_content(Pending::File(rest))),
             "keys" => Ok(self.await_content(Pending::Keys)),
+            "workload" => self.give_workload(rest),
+            "purge" => self.purge(rest),
+            "fill" => Ok(self.fill()),
             "call" => self.call(rest),
             "prefixes" | "changes" => Ok(self.await_table(word, rest)),
             "keep" => Ok(self.keep(rest)),
             "code" => Ok(self.check_code(rest)),
+            "given" => Ok(self.check_given(rest)),
+            "misses" => Ok(self.check_misses(rest)),
             "others" | "drives" => Ok(self.check_others(word, rest)),
             "line" | "drive" | "out" | "errors" => self.check(line),
             _ => self.give(word, rest),
@@ -300,6 +316,34 @@ impl<'t> Play<'t> {
     fn await_table(&mut self, word: &str, rest: &'t str) -> Verdict {
         match each_in(word, rest) {
             Some(each) => self.await_content(Pending::Each(each)),
+            None => Verdict::Unread,
+        }
+    }
+
+    /// Gives the workload of a number.
+    fn give_workload(&mut self, rest: &str) -> Result<Verdict, NoMemory> {
+        match rest.parse() {
+            Ok(number) => {
+                self.given.give_workload(self.alloc, number)?;
+                Ok(Verdict::Holds)
+            }
+            Err(_) => Ok(Verdict::Unread),
+        }
+    }
+
+    /// Leaves of what is given what flows into a class.
+    fn purge(&mut self, rest: &str) -> Result<Verdict, NoMemory> {
+        match read_class(rest.as_bytes()) {
+            Ok(class) => Ok(verdict_read(self.given.purge(self.alloc, &class)?)),
+            Err(_) => Ok(Verdict::Unread),
+        }
+    }
+
+    /// Takes a check of a file that is given, whose content follows.
+    fn check_given(&mut self, rest: &'t str) -> Verdict {
+        let (name, relation) = rest.split_once(' ').unwrap_or((rest, ""));
+        match relation_in(relation) {
+            Some(relation) => self.await_content(Pending::Given(name, relation)),
             None => Verdict::Unread,
         }
     }
@@ -368,7 +412,7 @@ impl<'t> Play<'t> {
         match (what, what.parse(), cut_in(numbers)) {
             ("out", _, Some(cut)) => self.given.out = Some(cut),
             ("errors", _, Some(cut)) => self.given.errors = Some(cut),
-            (_, Ok(line), Some(cut)) => self.given.cuts.push(LineCut { line, cut })?,
+            (_, Ok(line), Some(cut)) => self.given.cuts.push((line, cut))?,
             _ => {
                 return Ok(Verdict::Unread);
             }
@@ -376,9 +420,21 @@ impl<'t> Play<'t> {
         Ok(Verdict::Holds)
     }
 
+    /// Fills the machine's memory with page table entries, each valid, open to all and modified.
+    fn fill(&mut self) -> Verdict {
+        for long in 0..128 * PAGES {
+            if 4 * u64::from(long) + 4 <= 512 * u64::from(self.machine.pages()) {
+                self.machine.write_long(4 * long, 0xA400_0000 + long / 128);
+            }
+        }
+        Verdict::Holds
+    }
+
     /// Makes the call with these words.
     fn call(&mut self, words: &str) -> Result<Verdict, NoMemory> {
+        let before = self.machine.misses();
         let told = self.given.call(self.alloc, &mut self.machine, words, None)?;
+        self.missed = self.machine.misses().wrapping_sub(before);
         if self.runs.last().is_some_and(|run| run.0.is_empty()) {
             self.runs.pop();
         }
@@ -408,6 +464,12 @@ impl<'t> Play<'t> {
         }
     }
 
+    /// How many entries the machine missed at most in the last call.
+    fn check_misses(&self, rest: &str) -> Verdict {
+        let most = rest.parse::<u64>().ok();
+        said(most.map(|most| self.is_called && self.missed <= most))
+    }
+
     /// The code and its text.
     fn check_code(&self, rest: &str) -> Verdict {
         said(self.told().map(|told| is_coded(told, rest)))
@@ -425,24 +487,30 @@ impl<'t> Play<'t> {
         }
     }
 
+    /// What a subject had in a run that was kept.
+    fn kept(&self, subject: Subject, name: &str) -> Option<&[u8]> {
+        Some(held(found(&self.runs, name)?, subject))
+    }
+
     /// Whether what is said of a subject without content holds.
     fn compared(&self, subject: Subject, rest: &str) -> Option<bool> {
         let shown = held(self.told()?, subject);
-        let mut words = rest.split(' ');
-        match words.next()? {
-            "length" => Some(shown.len() == words.next()?.parse().ok()?),
-            "digest" => Some(digest_of(shown) == words.next()?.parse().ok()?),
-            "same" => Some(shown == held(found(&self.runs, words.next()?)?, subject)),
+        let (word, rest) = rest.split_once(' ')?;
+        match word {
+            "length" => Some(shown.len() == rest.parse().ok()?),
+            "digest" => Some(digest_of(shown) == rest.parse().ok()?),
+            "same" => Some(shown == self.kept(subject, rest)?),
             "front" => {
-                let length = words.next()?.parse().ok()?;
-                let whole = held(found(&self.runs, words.next()?)?, subject);
-                Some(is_front(shown, length, whole))
+                let (length, name) = rest.split_once(' ')?;
+                let whole = self.kept(subject, name)?;
+                Some(is_front(shown, length.parse().ok()?, whole))
             }
             "mixed" => {
-                let length = words.next()?.parse().ok()?;
-                let byte = u8::from_str_radix(words.next()?, 16).ok()?;
-                let whole = held(found(&self.runs, words.next()?)?, subject);
-                Some(is_mixed(shown, length, byte, whole))
+                let (length, rest) = rest.split_once(' ')?;
+                let (byte, name) = rest.split_once(' ')?;
+                let byte = u8::from_str_radix(byte, 16).ok()?;
+                let whole = self.kept(subject, name)?;
+                Some(is_mixed(shown, length.parse().ok()?, byte, whole))
             }
             _ => None,
         }

@@ -1,77 +1,11 @@
-//! In which order lines and the sink are put to, and how often.
-ghost use Rattle.std.specs.Prelude.{◌≡◌, IfOk, None, vec_len};
-
+//! In which order lines and the sink are put to, and how often. When `live` asks for lines, reports what says no event, and shows what
+//! terminals are shown; and how much it reads for that.
+use super::noting::{ERRORS, FETCH, KEYS, LENGTH, OUT, PAGES, READ, noted};
 use std::alloc::Global;
-use std::cell::RefCell;
-use std::rc::Rc;
-use std::test::Fail;
-use test_vvmm_stage::{PAGES, plain};
 use vax_cpu::Cpu;
-use vax_hw::Hardware;
-use vv_base::NoMemory;
-use vv_io::{
-    Drive, EmptyDrive, Line, LineFault, LineList, MemKeyboard, MemLine, NoProgress, Sink, SinkFault,
-};
-use vvmm_call::vvmm_run;
-use vvmm_files::Status;
-
-/// How many calls are noted.
-pub const NOTES: usize = 200;
-
-/// The sink's number among the notes.
-pub const OUT: u8 = 99;
-
-/// The numbers of what was called, in order.
-pub type Notes = Rc<RefCell<Vec<u8>>>;
-
-/// A line or a sink that notes each put.
-#[derive(Drop)]
-pub struct Noting {
-    number: u8,
-    notes: Notes,
-}
-
-impl Noting {
-    /// One that notes with this number.
-    pub fn new(number: u8, notes: &Notes) -> Result<Noting, NoMemory> {
-        let notes = notes.clone()?;
-        Ok(Noting { number, notes })
-    }
-
-    /// Notes a call as the number and so much.
-    pub fn note(&self, more: u8) {
-        if let Ok(mut notes) = self.notes.try_borrow_mut() {
-            if notes.len() < NOTES {
-                let _ = notes.push(self.number.saturating_add(more));
-            }
-        }
-    }
-}
-
-impl Line for Noting {
-    ghost seen = { λ l. record { shown = None; faults = 0 } };
-
-    fn put(&mut self, _bytes: &[u8]) -> Result<(), LineFault> {
-        self.note(0);
-        Ok(())
-    }
-
-    fn told(&self) -> Option<&[u8]> {
-        None
-    }
-}
-
-impl Sink for Noting {
-    ghost printed = { λ l. record { shown = None; faults = 0 } };
-
-    fn put(&mut self, _bytes: &[u8]) -> Result<(), SinkFault> {
-        self.note(0);
-        Ok(())
-    }
-}
 
 /// A guest with its console on line 4 and its dump on line 2, an audit on line 9, and a terminal at the server on line 6.
-pub const CONFIG: &[u8] = b"version = 1\nquantum = 5\nslice = 2
+const CONFIG: &[u8] = b"version = 1\nquantum = 5\nslice = 2
 [audit]\nline = 9\nclass = \"15{};0{}\"
 [[terminal]]\nname = \"T\"\nline = 4\nclass = \"0{};0{}\"
 [[terminal]]\nname = \"U\"\nline = 6\nclass = \"0{};0{}\"
@@ -79,15 +13,27 @@ pub const CONFIG: &[u8] = b"version = 1\nquantum = 5\nslice = 2
 console = \"T\"\ndump = 2\n";
 
 /// SHOW has a line for the guest, and its reply. The other terminal has the guest's console, which is taken from it.
-pub const SCRIPT: &[u8] = b"1 U > SHOW\n2 U > FOO\n2 U > CONNECT A\n";
+const SCRIPT: &[u8] = b"1 U > SHOW\n2 U > FOO\n2 U > CONNECT A\n";
 
 /// MTPR of the letter A to the transmit register, and HALT.
-pub const LETTER: &[u8] = &[0xDA, 0x8F, 0x41, 0, 0, 0, 0x23, 0];
+const LETTER: &[u8] = &[0xDA, 0x8F, 0x41, 0, 0, 0, 0x23, 0];
 
-/// Round 1: two lines of SHOW and the audit; the letter and the 14 bytes of the message of HALT. Round 2: the reply and the
-/// audit; the reply, the other terminal's notice, and the audit. Then the dump: the name, 16 registers, PSL, and the one row of
-/// memory that isn't zero. Then the summary.
-const ORDER: [(u8, usize); 10] = [
+/// A source.
+const SOURCE: &[u8] = b"NOP\n";
+
+/// The configuration, its script, the source, and the guest's image.
+pub const FILES: [(&str, &[u8]); 4] = [("c", CONFIG), ("s", SCRIPT), ("t", SOURCE), ("x", LETTER)];
+
+/// A call that is noted, and how often it follows upon itself.
+type Calls = (u8, usize);
+
+/// Three files are fetched. Round 1: two lines of SHOW and the audit; the letter and the 14 bytes of the message of HALT. Round 2: the
+/// reply and the audit; the reply, the other terminal's notice, and the audit. Then the dump: the name, 16 registers, PSL, and the one
+/// row of memory that isn't zero. Then the summary.
+const SCRIPTED: [Calls; 13] = [
+    (FETCH + b'c', 1),
+    (FETCH + b's', 1),
+    (FETCH + b'x', 1),
     (6, 2),
     (9, 1),
     (4, 15),
@@ -100,82 +46,76 @@ const ORDER: [(u8, usize); 10] = [
     (OUT, 1),
 ];
 
-/// Lines that note their puts.
-pub fn noting_lines(alloc: Global, notes: &Notes) -> Result<LineList<Noting>, NoMemory> {
-    let mut list = Vec::new(alloc);
-    for number in 0..32u8 {
-        list.push(Noting::new(number, notes)?)?;
-    }
-    Ok(LineList::new(list))
+/// What is typed, line by line; the end of it ends round 2.
+const TYPED: [&[u8]; 5] = [b"U > SHOW", b"U brake", b"", b"U > FOO", b"U > CONNECT A"];
+
+/// Two files are fetched, and the lengths of both terminals' lines asked for. Round 1: three lines are asked for, of which the second
+/// is reported at once. Then the round's puts; then of each terminal's line its length, and in one piece what is new, which goes to
+/// the sink in one put. Round 2 is begun by two lines and ended by the end; both terminals' lines have something new. Then the dump,
+/// and the summary.
+const LIVE: [Calls; 30] = [
+    (FETCH + b'c', 1),
+    (FETCH + b'x', 1),
+    (LENGTH + 4, 1),
+    (LENGTH + 6, 1),
+    (KEYS, 2),
+    (ERRORS, 1),
+    (KEYS, 1),
+    (6, 2),
+    (9, 1),
+    (4, 15),
+    (LENGTH + 4, 1),
+    (READ + 4, 1),
+    (OUT, 1),
+    (LENGTH + 6, 1),
+    (READ + 6, 1),
+    (OUT, 1),
+    (KEYS, 3),
+    (6, 1),
+    (9, 1),
+    (6, 1),
+    (4, 1),
+    (9, 1),
+    (LENGTH + 4, 1),
+    (READ + 4, 1),
+    (OUT, 1),
+    (LENGTH + 6, 1),
+    (READ + 6, 1),
+    (OUT, 1),
+    (2, 19),
+    (OUT, 1),
+];
+
+/// How many of the first notes are this one.
+fn repeats(notes: &[u8], number: u8) -> usize {
+    notes.iter().take_while(|note| **note == number).count()
 }
 
-/// Drives without blocks.
-pub fn empty_drives(alloc: Global) -> Result<Vec<Box<dyn Drive>>, NoMemory>
-    ensures { IfOk result (λ drives. vec_len drives ≡ 16) }
-{
-    let mut drives: Vec<Box<dyn Drive>> = Vec::new(alloc);
-    for _number in 0..16u8 {
-        drives.push(Box::new(alloc, EmptyDrive)?)?;
-    }
-    Ok(drives)
-}
-
-/// The words of the run.
-fn words(alloc: Global) -> Result<Vec<String>, NoMemory> {
-    let mut words = Vec::new(alloc);
-    for word in ["run", "c", "s", "2"] {
-        words.push(word.to_string(alloc)?)?;
-    }
-    Ok(words)
-}
-
-/// Makes the run over such lines and such a sink; whether all was done.
-fn is_done(alloc: Global, notes: &Notes) -> Result<bool, NoMemory> {
-    let mut machine = Cpu::new(alloc, PAGES)?;
-    if machine.pages() != PAGES {
-        return Ok(false);
-    }
-    let mut lines = noting_lines(alloc, notes)?;
-    let mut drives = empty_drives(alloc)?;
-    let mut out = Noting::new(OUT, notes)?;
-    let mut keyboard = MemKeyboard::new(Vec::new(alloc), Vec::new(alloc));
-    let mut errors = MemLine::new(alloc, 0, Vec::new(alloc))?;
-    let words = words(alloc)?;
-    let files = [("c", CONFIG), ("s", SCRIPT), ("x", LETTER)];
-    let mut shelf = plain(&files).shelf(alloc)?;
-    let status = vvmm_run(
-        alloc,
-        &words,
-        &mut shelf,
-        &mut machine,
-        &mut lines,
-        &mut drives,
-        &mut out,
-        &mut keyboard,
-        &mut errors,
-        &mut NoProgress,
-    );
-    Ok(matches!(status, Status::Done))
-}
-
-/// The numbers that are to be noted.
-fn expected(alloc: Global) -> Result<Vec<u8>, NoMemory> {
-    let mut expected = Vec::new(alloc);
-    for (number, times) in ORDER {
-        for _time in 0..times {
-            expected.push(number)?;
+/// Whether these calls are noted, one after the other.
+fn are_noted(notes: &[u8], calls: &[Calls]) -> bool {
+    let mut rest = notes;
+    for (number, times) in calls {
+        if repeats(rest, *number) != *times {
+            return false;
         }
+        rest = rest.get(*times..).unwrap_or(&[]);
     }
-    Ok(expected)
+    rest.is_empty()
+}
+
+/// Whether words are done by these calls.
+fn are_called(alloc: Global, words: &str, typed: &[&[u8]], calls: &[Calls]) -> Option<bool> {
+    let mut machine = Cpu::new(alloc, PAGES).ok()?;
+    let (code, notes) = noted(alloc, &mut machine, words, &FILES, typed)?;
+    Some(code == 0 && are_noted(notes.as_slice(), calls))
 }
 
 #[test]
-fn lines_are_put_to_in_order_and_the_sink_at_last(rt: HostRuntime) -> Result<(), Fail> {
-    let alloc = rt.alloc();
-    let notes: Notes = Rc::new(alloc, RefCell::new(Vec::with_capacity(alloc, NOTES)?))?;
-    assert!(rt; is_done(alloc, &notes)?);
-    let expected = expected(alloc)?;
-    let noted = notes.try_borrow().expect(&rt, "the notes");
-    assert_eq!(rt; noted.as_slice(), expected.as_slice());
-    Ok(())
+fn lines_are_put_to_in_order_and_the_sink_at_last(rt: HostRuntime) {
+    assert!(rt; are_called(rt.alloc(), "run c s 2", &[], &SCRIPTED) == Some(true));
+}
+
+#[test]
+fn a_line_is_asked_for_when_the_last_is_done_and_what_is_new_is_read_once(rt: HostRuntime) {
+    assert!(rt; are_called(rt.alloc(), "live c 9", &TYPED, &LIVE) == Some(true));
 }

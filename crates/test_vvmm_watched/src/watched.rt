@@ -1,12 +1,9 @@
 //! Who executes the guests' instructions: a machine that notes its runs.
 
+use super::noting::{Files, PAGES, noted};
 use std::alloc::Global;
-use std::process::Abort;
-use std::test::Fail;
-use test_vvmm_stage::{PAGES, Told, plain, run_words};
 use vax_cpu::Cpu;
 use vax_hw::{Exit, Hardware, World};
-use vv_base::NoMemory;
 
 /// INCL R0 and BRB 4 back, which is loaded and started at 200.
 const UP: &[u8] = &[0xD6, 0x50, 0x11, 0xFC];
@@ -80,47 +77,44 @@ impl Hardware for Watched {
     }
 }
 
-/// A machine of which nothing is noted yet.
-fn watching(alloc: Global) -> Result<Watched, NoMemory> {
-    Ok(Watched {
-        machine: Cpu::new(alloc, PAGES)?,
-        notes: Vec::with_capacity(alloc, NOTES)?,
-    })
+/// The noted runs of the machine in a call that is done.
+fn runs(alloc: Global, words: &str, files: Files) -> Option<Vec<Note>> {
+    let mut watched = Watched {
+        machine: Cpu::new(alloc, PAGES).ok()?,
+        notes: Vec::with_capacity(alloc, NOTES).ok()?,
+    };
+    let (code, _) = noted(alloc, &mut watched, words, files, &[])?;
+    let Watched { machine: _, notes } = watched;
+    if code == 0 { Some(notes) } else { None }
 }
 
-/// A run of the machine goes on where the runs before it ended.
-fn goes_on(rt: &impl Abort, note: &Note, before: u64) {
+/// Whether a run of the machine begins where its guest is after so many instructions: an INCL and a BRB by turns.
+fn goes_on(note: &Note, before: u64) -> bool {
     let pc = if before % 2 == 0 { 0x200 } else { 0x202 };
-    assert_eq!(rt; note.pc, pc, "after {before} instructions");
-    assert_eq!(rt;
-        u64::from(note.r0),
-        before.div_ceil(2),
-        "after {before} instructions"
-    );
+    note.pc == pc && u64::from(note.r0) == before.div_ceil(2)
 }
 
-/// Each run follows those before it; how many instructions retired in all.
-fn retired_in(rt: &impl Abort, notes: &[Note]) -> u64 {
+/// How many instructions retired in all, if each run goes on where those before it ended.
+fn retired_in(notes: &[Note]) -> Option<u64> {
     let mut before = 0u64;
     for note in notes {
-        goes_on(rt, note, before);
-        before = before
-            .checked_add(note.retired)
-            .expect(rt, "the sum of what retired");
+        if !goes_on(note, before) {
+            return None;
+        }
+        before = before.saturating_add(note.retired);
     }
-    before
+    Some(before)
+}
+
+/// How many instructions retire in 42 steps of a guest.
+fn retired(alloc: Global) -> Option<u64> {
+    let notes = runs(alloc, "solo x 42", &[("x", UP)])?;
+    retired_in(notes.as_slice())
 }
 
 #[test]
-fn the_machine_executes_the_guest(rt: HostRuntime) -> Result<(), Fail> {
-    let alloc = rt.alloc();
-    let files = [("x", UP)];
-    let mut watched = watching(alloc)?;
-    let told = run_words(alloc, &mut watched, "solo x 42", &plain(&files), &[], &[])?;
-    assert_eq!(rt; told.code, 0);
-    assert!(rt; !watched.notes.is_empty());
-    assert_eq!(rt; retired_in(&rt, &watched.notes), 42);
-    Ok(())
+fn the_machine_executes_the_guest(rt: HostRuntime) {
+    assert!(rt; retired(rt.alloc()) == Some(42));
 }
 
 /// Three guests of a thousand steps in a round, in slices of seven.
@@ -129,44 +123,33 @@ const THREE: &[u8] = b"version = 1\nquantum = 1000\nslice = 7
 [[guest]]\nname = \"B\"\nclass = \"0{};0{}\"\npages = 64\nimage = \"x\"\nload = 512\nstart = 512\nautostart = true
 [[guest]]\nname = \"C\"\nclass = \"0{};0{}\"\npages = 64\nimage = \"x\"\nload = 512\nstart = 512\nautostart = true\n";
 
-/// Makes the run of the three.
-fn told_of_three(alloc: Global, machine: &mut Watched) -> Result<Told, NoMemory> {
-    let files = [("c", THREE), ("s", b"".as_slice()), ("x", UP)];
-    run_words(alloc, machine, "run c s 1", &plain(&files), &[], &[])
-}
-
 /// How many instructions the guest of a run has retired before it, where all three retired `all`, in slices of 7.
 fn retired_before(all: u64) -> u64 {
     (all / 21).saturating_mul(7).saturating_add(all % 7)
 }
 
-/// A run of the machine goes on where the guest's runs before it ended, and ends with its slice; how many instructions were
-/// retired by then.
-fn follows(rt: &impl Abort, note: &Note, all: u64) -> u64 {
-    let own = retired_before(all);
-    assert_eq!(rt;
-        u64::from(note.r0),
-        own.div_ceil(2),
-        "after {all} instructions"
-    );
-    assert_eq!(rt; note.pc, if own % 2 == 0 { 0x200 } else { 0x202 });
-    assert!(rt; note.retired <= 7 - all % 7, "after {all} instructions");
-    all.saturating_add(note.retired)
+/// Whether of 42 instructions each run goes on where its guest's runs before it ended, and ends with its slice.
+fn are_sliced(notes: &[Note]) -> bool {
+    let mut all = 0u64;
+    for note in notes {
+        if all < 42 {
+            if !goes_on(note, retired_before(all)) || note.retired > 7 - all % 7 {
+                return false;
+            }
+            all = all.saturating_add(note.retired);
+        }
+    }
+    all >= 42
+}
+
+/// Whether the machine executes the three guests so.
+fn slices_go_on(alloc: Global) -> Option<bool> {
+    let files = [("c", THREE), ("s", b"".as_slice()), ("x", UP)];
+    let notes = runs(alloc, "run c s 1", &files)?;
+    Some(are_sliced(notes.as_slice()))
 }
 
 #[test]
-fn the_machine_executes_the_guests_slice_by_slice(rt: HostRuntime) -> Result<(), Fail> {
-    let alloc = rt.alloc();
-    let mut watched = watching(alloc)?;
-    let told = told_of_three(alloc, &mut watched)?;
-    assert_eq!(rt; told.code, 0);
-    let mut all = 0u64;
-    for note in watched.notes.iter().take_while(|note| note.retired <= 7) {
-        if all >= 42 {
-            break;
-        }
-        all = follows(&rt, note, all);
-    }
-    assert!(rt; all >= 42);
-    Ok(())
+fn the_machine_executes_the_guests_slice_by_slice(rt: HostRuntime) {
+    assert!(rt; slices_go_on(rt.alloc()) == Some(true));
 }

@@ -1,10 +1,13 @@
 -- Cutting a text at the place that a search finds.
 use Rattle.std.specs.List.{position, position_or_len}
 use Rattle.std.specs.Prelude.{if◌then◌else◌}
-use Rattle.std.proofs.Common.{◌≡◌, ℕ, suc, ◌+◌, Bool, true, false, List, [], ◌∷◌, length, take, drop, Option, Some, None, cond, not, nat_lt, refl, sym, ap, ◌∙◌, arith}
+use Rattle.std.proofs.Common.{◌≡◌, ℕ, suc, ◌+◌, Bool, true, false, List, [], ◌∷◌, length, take, drop, Option, Some, None, cond, not, nat_lt, refl, sym, ap, ◌∙◌, arith, option_map}
 use Rattle.std.proofs.lemmas.Bool.{lt-ltb}
 use Rattle.std.proofs.lemmas.Bool.Decides.{nat_tests}
-use Rattle.vasm_text.specs.Cutting.{Cut, with_first, cut}
+use Rattle.vasm_text.specs.Cutting.{Cut, cut}
+
+abbrev pub with_first : ℕ → Option Cut → Option Cut
+with_first b o = option_map (λ c. record { before = b ∷ c.before; later = c.later }) o
 
 abbrev at_place : (ℕ → Bool) → List ℕ → ℕ → Option Cut
 at_place test text n = cond (nat_lt n (length text)) (Some (record { before = take n text; later = drop (suc n) text })) None

@@ -2,7 +2,6 @@ pub mod Cuts
 pub mod Hex
 pub mod Later
 pub mod Blanks
-pub mod Lines
 pub mod Sizes
 pub mod Ranges
 pub mod ReadLines

@@ -1,4 +1,5 @@
 -- What is read can be spelled.
+use Rattle.std.specs.Option.{option_or}
 use Rattle.std.specs.Prelude.{codes, bytes_eq, nat_le, nat_lt, ◌&&◌, ◌||◌, if◌then◌else◌, IfSome, IsSome}
 use Rattle.std.proofs.Common.{◌≡◌, ◌≢◌, ◌==◌, ℕ, ◌+◌, ◌<◌, ◌≤◌, Bool, true, false, List, [], ◌∷◌, take, drop, Option, Some, None, refl, subst, arith}
 use Rattle.std.proofs.lemmas.Bool.Decides.{nat_tests}
@@ -8,11 +9,11 @@ use Rattle.vv_base.specs.Width.{size_of}
 use Rattle.vax_table.specs.declared.forms.Form.{Form}
 use Rattle.vax_table.specs.Reading.{is_branch, is_read, is_address, is_quad}
 use Rattle.vax_table.proofs.Tests.{if_both}
-use Rattle.vasm_text.specs.Cutting.{◌>>=◌, or_else, Cut, cut, cut_at, is_blank, trimmed}
+use Rattle.vasm_text.specs.Cutting.{◌>>=◌, Cut, cut, cut_at, is_blank, trimmed, before_mark}
 use Rattle.vasm_text.specs.Mnemonics.{opcode_of}
 use Rattle.vasm_text.specs.Numbers.{number_in, field_in, if_below, not_pc, register_in}
-use Rattle.vasm_text.specs.Operands.{Operand, unnamed_operand, with_name, in_mode, operand_of_value, named_in, closed_in, enclosed, literal_in, valued_in, allowed, register_operand_in, based, displaced_in, displacement_in, deferred_in, opened_in, direct_in, specifier_in, indexed, indexed_in, value_in, operand_in, before_comma, text_after_comma, following, operands_in, absolute_in, immediate_in}
-use Rattle.vasm_text.specs.Statements.{Statement, Field, Instruct, SourceLine, forms_of, number_field_in, long_field_in, instruction_in, words_in, statement_in, saying, after_label, unlabelled, content_in, before_comment, source_line_in}
+use Rattle.vasm_text.specs.Operands.{SourceOperand, unnamed_operand, with_name, operand_of_value, named_in, closed_in, enclosed, literal_in, valued_in, allowed, register_operand_in, based, displaced_in, displacement_in, deferred_in, opened_in, direct_in, specifier_in, indexed, indexed_in, value_in, operand_in, text_after_comma, operands_in}
+use Rattle.vasm_text.specs.Statements.{Statement, Field, Instruct, SourceLine, forms_of, number_field_in, long_field_in, instruction_in, words_in, statement_in, saying, after_label, unlabelled, content_in, source_line_in}
 use Rattle.vasm.specs.Fits.{IsFit, AreFit, IsStatementFit, IsSourceLineFit}
 
 -- ---- what holds of an option
@@ -21,7 +22,7 @@ bound : {A B : Type 0} (P : Option B → Type 0) → P None → (x : Option A) (
 bound P none None f each = none
 bound P none (Some a) f each = each a refl
 
-either : {A : Type 0} (P : Option A → Type 0) (x y : Option A) → P x → P y → P (or_else x y)
+either : {A : Type 0} (P : Option A → Type 0) (x y : Option A) → P x → P y → P (option_or x y)
 either P None y px py = py
 either P (Some a) y px py = px
 
@@ -62,14 +63,14 @@ closed_small mark ending text = bound Small tt (cut_at mark text) (λ c. if byte
 
 -- ---- specifiers
 
-record IsSpecifier (o : Operand) : Type 0 where
+record IsSpecifier (o : SourceOperand) : Type 0 where
   mode : o.spec.mode < 16
   reg : o.spec.reg < 16
   literal : o.spec.mode ≡ 0 → o.spec.value < 64
   index : IfSome o.spec.index (λ x. x < 15)
   named : IsSome o.name → o.spec.mode ≢ 0
 
-abbrev Found : Option Operand → Type 0
+abbrev Found : Option SourceOperand → Type 0
 Found None = Unit {0}
 Found (Some o) = IsSpecifier o
 
@@ -81,7 +82,7 @@ other_found : (mode reg value : ℕ) → 0 < mode → mode < 16 → reg < 16 →
 other_found mode reg value some m r = plain_found mode reg value m r (λ e. absurd (omega arith))
 
 enclosed_found : (mode : ℕ) (ending text : List ℕ) → 0 < mode → mode < 16 → Found (enclosed mode ending text)
-enclosed_found mode ending text some m = bound Found tt (not_pc (closed_in 41 ending text)) (in_mode mode) (λ n is. let low : n < 15 = below (closed_in 41 ending text) 15 n is in other_found mode n 0 some m (omega arith))
+enclosed_found mode ending text some m = bound Found tt (not_pc (closed_in 41 ending text)) (λ n. operand_of_value mode n 0) (λ n is. let low : n < 15 = below (closed_in 41 ending text) 15 n is in other_found mode n 0 some m (omega arith))
 
 literal_found : (form : Form) (text : List ℕ) → Found (literal_in form text)
 unfolding literal_in
@@ -100,7 +101,7 @@ named_found mode reg text some m r =
 register_operand_found : (form : Form) (text : List ℕ) → Found (register_operand_in form text)
 register_operand_found form text =
     bound Found tt (not_pc (register_in text)) (allowed form) (λ n is.
-    if_both Found (is_address form.access || (is_quad form.width && n == 14)) None (in_mode 5 n) (λ _. tt) (λ _. let low : n < 15 = below (register_in text) 15 n is in other_found 5 n 0 (omega arith) (omega arith) (omega arith)))
+    if_both Found (is_address form.access || (is_quad form.width && n == 14)) None (operand_of_value 5 n 0) (λ _. tt) (λ _. let low : n < 15 = below (register_in text) 15 n is in other_found 5 n 0 (omega arith) (omega arith) (omega arith)))
 
 based_found : (mode size : ℕ) (c : Cut) → 0 < mode → mode < 16 → Found (based mode size c)
 based_found mode size c some m =
@@ -125,7 +126,7 @@ displacement_found deferred text few =
 deferred_found : (text : List ℕ) → Found (deferred_in text)
 unfolding deferred_in
 deferred_found text =
-    if_both Found (bytes_eq (take 1 text) (codes "#")) (absolute_in (drop 1 text)) _ (λ _. valued_found 4 9 15 (drop 1 text) (omega arith) (omega arith) (omega arith)) (λ _.
+    if_both Found (bytes_eq (take 1 text) (codes "#")) (valued_in 4 9 15 (drop 1 text)) _ (λ _. valued_found 4 9 15 (drop 1 text) (omega arith) (omega arith) (omega arith)) (λ _.
     if_both Found (bytes_eq (take 1 text) (codes "(")) (enclosed 9 (codes "+") (drop 1 text)) (displacement_in 1 text) (λ _. enclosed_found 9 (codes "+") (drop 1 text) (omega arith) (omega arith)) (λ _. displacement_found 1 text (omega arith)))
 
 opened_found : (text : List ℕ) → Found (opened_in text)
@@ -135,16 +136,16 @@ direct_found : (form : Form) (text : List ℕ) → Found (direct_in form text)
 unfolding direct_in
 direct_found form text =
     if_both Found (bytes_eq (take 3 text) (codes "S^#")) (literal_in form (drop 3 text)) _ (λ _. literal_found form (drop 3 text)) (λ _.
-    if_both Found (bytes_eq (take 3 text) (codes "I^#")) (immediate_in form (drop 3 text)) _ (λ _. valued_found (size_of form.width) 8 15 (drop 3 text) (omega arith) (omega arith) (omega arith)) (λ _.
+    if_both Found (bytes_eq (take 3 text) (codes "I^#")) (valued_in (size_of form.width) 8 15 (drop 3 text)) _ (λ _. valued_found (size_of form.width) 8 15 (drop 3 text) (omega arith) (omega arith) (omega arith)) (λ _.
     if_both Found (bytes_eq (take 2 text) (codes "-(")) (enclosed 7 [] (drop 2 text)) _ (λ _. enclosed_found 7 [] (drop 2 text) (omega arith) (omega arith)) (λ _.
-    if_both Found (bytes_eq (take 1 text) (codes "(")) (opened_in (drop 1 text)) (or_else (displacement_in 0 text) (register_operand_in form text)) (λ _. opened_found (drop 1 text)) (λ _.
+    if_both Found (bytes_eq (take 1 text) (codes "(")) (opened_in (drop 1 text)) (option_or (displacement_in 0 text) (register_operand_in form text)) (λ _. opened_found (drop 1 text)) (λ _.
     either Found (displacement_in 0 text) (register_operand_in form text) (displacement_found 0 text (omega arith)) (register_operand_found form text)))))
 
 specifier_found : (form : Form) (text : List ℕ) → Found (specifier_in form text)
 unfolding specifier_in
 specifier_found form text = if_both Found (bytes_eq (take 1 text) (codes "@")) (deferred_in (drop 1 text)) (direct_in form text) (λ _. deferred_found (drop 1 text)) (λ _. direct_found form text)
 
-indexed_found : (o : Operand) (x : ℕ) → IsSpecifier o → x < 15 → Found (indexed o x)
+indexed_found : (o : SourceOperand) (x : ℕ) → IsSpecifier o → x < 15 → Found (indexed o x)
 indexed_found o x s low =
     if_both Found (nat_lt o.spec.mode 6 || (o.spec.mode == 8 && o.spec.reg == 15)) None (Some (record o { spec = record (o.spec) { index = Some x } })) (λ _. tt)
     (λ _. record { mode = s.mode; reg = s.reg; literal = s.literal; index = low; named = s.named })
@@ -156,11 +157,11 @@ indexed_in_found form c =
 
 -- ---- operands
 
-abbrev FoundFit : Form → Option Operand → Type 0
+abbrev FoundFit : Form → Option SourceOperand → Type 0
 FoundFit form None = Unit {0}
 FoundFit form (Some o) = IsFit form o
 
-branch_fit : (form : Form) (o : Operand) → is_branch form.access ≡ true → IfSome o.spec.index (λ x. x < 15) → IsFit form o
+branch_fit : (form : Form) (o : SourceOperand) → is_branch form.access ≡ true → IfSome o.spec.index (λ x. x < 15) → IsFit form o
 branch_fit form o is index = record { range = record { mode = λ no. cc; reg = λ no. cc; literal = λ no. cc; index = index }; named = λ no. cc }
 
 value_fit : (form : Form) (size : ℕ) (text : List ℕ) → is_branch form.access ≡ true → FoundFit form (value_in size text)
@@ -170,7 +171,7 @@ value_fit form size text is =
     (bound (FoundFit form) tt (field_in size text) (operand_of_value 16 0) (λ n _. branch_fit form (unnamed_operand 16 0 n) is tt))
     (bound (FoundFit form) tt (tested is_object_name text) (λ name. Some (with_name 16 0 name)) (λ name _. branch_fit form (with_name 16 0 name) is tt))
 
-specifier_fit : (form : Form) (o : Option Operand) → Found o → FoundFit form o
+specifier_fit : (form : Form) (o : Option SourceOperand) → Found o → FoundFit form o
 specifier_fit form None s = tt
 specifier_fit form (Some o) s = record { range = record { mode = λ _. s.mode; reg = λ _. s.reg; literal = λ _. s.literal; index = s.index }; named = λ _. s.named }
 
@@ -182,7 +183,7 @@ operand_fit : (form : Form) (text : List ℕ) → FoundFit form (operand_in form
 unfolding operand_in
 operand_fit form text = if_both (FoundFit form) (is_branch form.access) (value_in (size_of form.width) text) _ (λ is. value_fit form (size_of form.width) text is) (λ _. by_bracket form text (cut_at 91 text))
 
-abbrev FoundAll : List Form → Option (List Operand) → Type 0
+abbrev FoundAll : List Form → Option (List SourceOperand) → Type 0
 FoundAll forms None = Unit {0}
 FoundAll forms (Some os) = AreFit forms os
 
@@ -191,8 +192,8 @@ operands_fit [] None = tt
 operands_fit [] (Some text) = tt
 operands_fit (f ∷ fs) None = tt
 operands_fit (f ∷ fs) (Some text) =
-    bound (FoundAll (f ∷ fs)) tt (operand_in f (before_comma text)) (λ o. following o (operands_in fs (text_after_comma text))) (λ o is.
-    bound (FoundAll (f ∷ fs)) tt (operands_in fs (text_after_comma text)) (λ os. Some (o ∷ os)) (λ os others. (subst (FoundFit f) is (operand_fit f (before_comma text)), subst (FoundAll fs) others (operands_fit fs (text_after_comma text)))))
+    bound (FoundAll (f ∷ fs)) tt (operand_in f (before_mark 44 text)) (λ o. operands_in fs (text_after_comma text) >>= λ os. Some (o ∷ os)) (λ o is.
+    bound (FoundAll (f ∷ fs)) tt (operands_in fs (text_after_comma text)) (λ os. Some (o ∷ os)) (λ os others. (subst (FoundFit f) is (operand_fit f (before_mark 44 text)), subst (FoundAll fs) others (operands_fit fs (text_after_comma text)))))
 
 -- ---- statements and lines
 
@@ -251,7 +252,7 @@ content_fit text = by_colon text (cut_at 58 text)
 
 found_line : (text : List ℕ) → FoundLine (source_line_in text)
 unfolding source_line_in
-found_line text = content_fit (trimmed (before_comment text))
+found_line text = content_fit (trimmed (before_mark 59 text))
 
 pub line_fit : (text : List ℕ) (l : SourceLine) → source_line_in text ≡ Some l → IsSourceLineFit l
 line_fit text l is = subst FoundLine is (found_line text)

@@ -1,4 +1,6 @@
 -- The labels of the lines that are read so far.
+use Rattle.std.specs.List.{list_any}
+use Rattle.std.specs.Option.{option_or}
 use Rattle.std.specs.BTreeMap as tree
 use Rattle.std.specs.Bool.{one_answer}
 use Rattle.std.specs.Cmp.Lexicographic.{slice_cmp}
@@ -9,12 +11,17 @@ use Rattle.std.proofs.Common.{◌≡◌, ℕ, ◌+◌, Bool, true, false, ◌||�
 use Rattle.std.proofs.lemmas.List.Folds.{list_any-append}
 use Rattle.std.proofs.lemmas.Map.Text.{btree_map_updates_str}
 use Rattle.std.proofs.lemmas.Slice.Eq.{bytes_eq-Decides}
-use Rattle.vasm_text.specs.Cutting.{or_else}
 use Rattle.vasm_text.specs.Statements.{SourceLine, source_line_in}
-use Rattle.vasm_text.specs.Asm.{is_among, is_labelled, and_label, before_others, read_from, source_line_size, is_label, address_in}
+use Rattle.vasm_text.specs.Asm.{is_labelled, and_label, read_from, source_line_size, is_label, address_in, ◌>>=◌}
 use Rattle.vasm_text.specs.declared.fault.AsmError.{AsmError}
 use Rattle.vasm_text.specs.declared.fault.AsmFault.{AsmFault}
 use Rattle.vasm.specs.Labels.{Labels, label_address, with_label, is_taken, Adds}
+
+abbrev is_among : List ℕ → List (List ℕ) → Bool
+is_among name names = list_any (bytes_eq name) names
+
+abbrev pub before_others : {A : Type 0} → A → Result (List A) AsmFault → Result (List A) AsmFault
+before_others x others = others >>= λ xs. Ok (x ∷ xs)
 
 turned : (xs ys : List ℕ) → bytes_eq xs ys ≡ bytes_eq ys xs
 turned xs ys =
@@ -52,18 +59,18 @@ abbrev address_by : Bool → ℕ → Option ℕ
 address_by true at = Some at
 address_by false at = None
 
-address_more_by : (front : List SourceLine) (l x : SourceLine) (at : ℕ) (name : List ℕ) (t : Bool) → address_in (front ++ l ∷ []) (at + source_line_size x) name ≡ or_else (address_in front (at + source_line_size x) name) (address_by (is_label name l.label) (at + source_line_size x + program_size front))
-    → (if t then Some at else address_in (front ++ l ∷ []) (at + source_line_size x) name) ≡ or_else (if t then Some at else address_in front (at + source_line_size x) name) (address_by (is_label name l.label) (at + program_size (x ∷ front)))
+address_more_by : (front : List SourceLine) (l x : SourceLine) (at : ℕ) (name : List ℕ) (t : Bool) → address_in (front ++ l ∷ []) (at + source_line_size x) name ≡ option_or (address_in front (at + source_line_size x) name) (address_by (is_label name l.label) (at + source_line_size x + program_size front))
+    → (if t then Some at else address_in (front ++ l ∷ []) (at + source_line_size x) name) ≡ option_or (if t then Some at else address_in front (at + source_line_size x) name) (address_by (is_label name l.label) (at + program_size (x ∷ front)))
 address_more_by front l x at name true is = refl
 address_more_by front l x at name false is =
     let same : at + source_line_size x + program_size front ≡ at + program_size (x ∷ front) = omega arith in
-    is ∙ ap (λ (n : ℕ). or_else (address_in front (at + source_line_size x) name) (address_by (is_label name l.label) n)) same
+    is ∙ ap (λ (n : ℕ). option_or (address_in front (at + source_line_size x) name) (address_by (is_label name l.label) n)) same
 
 last_by : (at : ℕ) (t : Bool) → (if t then Some at else None) ≡ address_by t (at + 0)
 last_by at true = let same : at ≡ at + 0 = omega arith in ap (λ (n : ℕ). Some n) same
 last_by at false = refl
 
-address_more : (front : List SourceLine) (l : SourceLine) (at : ℕ) (name : List ℕ) → address_in (front ++ l ∷ []) at name ≡ or_else (address_in front at name) (address_by (is_label name l.label) (at + program_size front))
+address_more : (front : List SourceLine) (l : SourceLine) (at : ℕ) (name : List ℕ) → address_in (front ++ l ∷ []) at name ≡ option_or (address_in front at name) (address_by (is_label name l.label) (at + program_size front))
 address_more [] l at name = last_by at (is_label name l.label)
 address_more (x ∷ front) l at name = address_more_by front l x at name (is_label name x.label) (address_more front l (at + source_line_size x) name)
 
@@ -104,20 +111,20 @@ free_name : (names : List ℕ → Option ℕ) (label : Option (List ℕ)) (name 
 free_name names None name free is = cc
 free_name names (Some n) name free is = let same : name ≡ n = (bytes_eq-Decides name n).0 is in ap names same ∙ no_option (names n) free
 
-else_none : (x : Option ℕ) → x ≡ or_else x None
+else_none : (x : Option ℕ) → x ≡ option_or x None
 else_none None = refl
 else_none (Some n) = refl
 
-held_by : (x y : Option ℕ) (at later : ℕ) (t : Bool) → x ≡ y → at ≡ later → (t ≡ true → y ≡ None) → (if t then Some at else x) ≡ or_else y (address_by t later)
+held_by : (x y : Option ℕ) (at later : ℕ) (t : Bool) → x ≡ y → at ≡ later → (t ≡ true → y ≡ None) → (if t then Some at else x) ≡ option_or y (address_by t later)
 held_by x y at later true same place none = let e : y ≡ None = none refl in rw (e, place)
 held_by x y at later false same place none = same ∙ else_none y
 
-taken_by : (y : Option ℕ) (n : ℕ) (t known : Bool) → known ≡ is_some y → (known || (t || false)) ≡ is_some (or_else y (address_by t n))
+taken_by : (y : Option ℕ) (n : ℕ) (t known : Bool) → known ≡ is_some y → (known || (t || false)) ≡ is_some (option_or y (address_by t n))
 taken_by None n true known is = rw is
 taken_by None n false known is = rw is
 taken_by (Some m) n t known is = rw is
 
-taken_more : (known : List (List ℕ)) (label : Option (List ℕ)) (name : List ℕ) (y : Option ℕ) (n : ℕ) → is_among name known ≡ is_some y → is_among name (and_label known label) ≡ is_some (or_else y (address_by (is_label name label) n))
+taken_more : (known : List (List ℕ)) (label : Option (List ℕ)) (name : List ℕ) (y : Option ℕ) (n : ℕ) → is_among name known ≡ is_some y → is_among name (and_label known label) ≡ is_some (option_or y (address_by (is_label name label) n))
 taken_more known None name y n is = is ∙ ap is_some (else_none y)
 taken_more known (Some label) name y n is = list_any-append (bytes_eq name) known (label ∷ []) ∙ taken_by y n (bytes_eq name label) (is_among name known) is
 

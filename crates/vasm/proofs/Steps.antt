@@ -8,7 +8,7 @@ use Rattle.vax_table.specs.Spelling.{bytes_of}
 use Rattle.vax_table.specs.Spelled.{spelled}
 use Rattle.vax_table.specs.Reading.{is_branch}
 use Rattle.vax_decode.specs.Encoding.{IsInRange}
-use Rattle.vasm_text.specs.Operands.{Operand}
+use Rattle.vasm_text.specs.Operands.{SourceOperand}
 use Rattle.vasm_text.specs.Asm.{◌>>=◌, operand_size, is_in_field, difference, field_size, named_target, with_displacement, resolved, operands_bytes, at_line}
 use Rattle.vasm_text.specs.declared.fault.AsmError.{AsmError}
 use Rattle.vasm_text.specs.declared.fault.AsmError.TheVariants.{Fault, NoMemory}
@@ -48,7 +48,7 @@ resolved_by : (names : List ℕ → Option ℕ) (appended_to : ℕ) (form : Form
 resolved_by names appended_to form s t None r named is = let same : s ≡ t = cc in subst (IsInRange form) same r
 resolved_by names appended_to form s t (Some n) r named is = reached_in_range form s t (field_size form s) (named_target names n) appended_to (is_in_field (field_size form s) (named_target names n) appended_to) r (λ no. named no refl) is
 
-pub resolved_in_range : (names : List ℕ → Option ℕ) (appended_to : ℕ) (form : Form) (o : Operand) (s : Spec) → IsFit form o → resolved names appended_to form o ≡ Ok s → IsInRange form s
+pub resolved_in_range : (names : List ℕ → Option ℕ) (appended_to : ℕ) (form : Form) (o : SourceOperand) (s : Spec) → IsFit form o → resolved names appended_to form o ≡ Ok s → IsInRange form s
 unfolding resolved
 resolved_in_range names appended_to form o s fit is = resolved_by names appended_to form o.spec s o.name fit.range fit.named is
 
@@ -85,7 +85,7 @@ pub operand_put : {U : Type 0} (names : List ℕ → Option ℕ) (number at size
     → AppendsOrRefuses number old new (operands_bytes names at fs (map operand_view os)) r
 operand_put names number at size fs os f o s old mid new r some more sized is front put =
     let first : Form = get_or fs 0 f in
-    let operand : Operand = operand_view (get_or os 0 o) in
+    let operand : SourceOperand = operand_view (get_or os 0 o) in
     let found : resolved names (at + operand_size first operand) first operand ≡ Ok s = ap (λ (n : ℕ). resolved names (at + n) first operand) (sym sized) ∙ sym is in
     let others : Result (List ℕ) AsmKind = operands_bytes names (at + operand_size first operand) (drop 1 fs) (map operand_view (drop 1 os)) in
     let same : operands_bytes names (at + size) (take (length fs - 1) (drop 1 fs)) (map operand_view (take (length os - 1) (drop 1 os))) ≡ others =

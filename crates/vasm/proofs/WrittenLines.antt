@@ -1,11 +1,12 @@
 -- The bytes of the lines that are written so far.
+use Rattle.vasm.proofs.ReadLines.{before_others}
 use Rattle.std.specs.Global.{Vec}
 use Rattle.std.specs.Str.Lines.{lines}
 use Rattle.std.specs.Prelude.{if◌then◌else◌}
 use Rattle.std.proofs.Common.{◌≡◌, ◌==◌, ℕ, ◌+◌, Bool, true, false, List, [], ◌∷◌, ◌++◌, length, Option, Some, None, Result, Ok, Err, refl, sym, ap, subst, ◌∙◌, append-nil, append_assoc, arith}
 use Rattle.std.proofs.Math.Path.{fun_ext}
 use Rattle.vasm_text.specs.Statements.{SourceLine, source_line_in}
-use Rattle.vasm_text.specs.Asm.{◌>>=◌, at_line, is_labelled, and_label, read_source_line, before_others, read_from, source_line_size, source_line_bytes, prepended, assembled_bytes, address_in, asm_of}
+use Rattle.vasm_text.specs.Asm.{◌>>=◌, at_line, is_labelled, and_label, read_source_line, read_from, source_line_size, source_line_bytes, assembled_bytes, address_in, asm_of}
 use Rattle.vasm_text.specs.declared.fault.AsmError.{AsmError}
 use Rattle.vasm_text.specs.declared.fault.AsmError.TheVariants.{Fault, NoMemory}
 use Rattle.vasm_text.specs.declared.fault.AsmFault.{AsmFault}
@@ -14,6 +15,9 @@ use Rattle.vasm_text.specs.declared.fault.AsmKind.TheVariants.{BadLine, TwiceNam
 use Rattle.vasm.specs.Assembled.{IsAsWanted, IsAssembledText, IsAssembled}
 use Rattle.vasm.specs.Labels.{Labels, label_address, IsLabelled}
 use Rattle.vasm.specs.Puts.{appended_to, AppendsOrRefuses}
+
+abbrev prepended : List ℕ → Result (List ℕ) AsmFault → Result (List ℕ) AsmFault
+prepended front others = others >>= λ bytes. Ok (front ++ bytes)
 
 pub record IsWriting (names : List ℕ → Option ℕ) (program : List SourceLine) (number at : ℕ) (old rest : List ℕ) : Type 0 where
   pub more : List SourceLine

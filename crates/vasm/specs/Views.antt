@@ -3,17 +3,17 @@ use Rattle.std.specs.Option.{option_copied}
 use Rattle.std.specs.Prelude.{List, map, option_map}
 use Rattle.arrayvec.specs.ArrayVec.{ArrayVec}
 use Rattle.vv_base.specs.Width.{size_of}
-use Rattle.vasm_text.specs.Operands.{Operand}
+use Rattle.vasm_text.specs.Operands.{SourceOperand}
 use Rattle.vasm_text.specs.Statements.{SourceLine, Statement, Field, Instruct}
 use Rattle.vasm.specs.declared.parse_operand.Operand.{Operand as Kept}
 use Rattle.vasm.specs.declared.parse_statement.Statement.{Statement as Said}
 use Rattle.vasm.specs.declared.parse_statement.Statement.TheVariants as said
 use Rattle.vasm.specs.declared.line.Line.{Line as Read}
 
-abbrev pub operand_view : Kept → Operand
+abbrev pub operand_view : Kept → SourceOperand
 operand_view o = record { spec = o.spec; name = option_copied o.name }
 
-abbrev pub operands_view : ArrayVec Kept → List Operand
+abbrev pub operands_view : ArrayVec Kept → List SourceOperand
 operands_view os = map operand_view os.items
 
 abbrev pub statement_view : Said → Statement

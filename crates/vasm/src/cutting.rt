@@ -3,6 +3,8 @@ ghost use Rattle.std.specs.List.{position};
 ghost use Rattle.vasm_text.specs.Cutting.{is_blank, cut, cut_at, trimmed, without_back, without_front};
 ghost use Rattle.vasm.specs.Pieces.{cut_view};
 
+use vv_base::find;
+
 /// A text in two: what comes before a mark, and after it.
 #[derive(Clone, Copy)]
 pub struct Pieces<'a> {
@@ -16,13 +18,6 @@ pub(crate) fn is_blank(b: u8) -> bool
     ensures { result ≡ is_blank b }
 {
     b == b' ' || b == b'\t'
-}
-
-fn find(text: &[u8], mark: u8) -> Option<usize>
-    ensures value { result ≡ position (λ b. b == mark) text.now }
-    ensures within { IfSome result (λ i. i < length text.now) }
-{
-    text.iter().position(|b| *b == mark)
 }
 
 fn find_blank(text: &[u8]) -> Option<usize>

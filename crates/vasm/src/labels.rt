@@ -2,11 +2,12 @@ ghost use Rattle.std.specs.Prelude.{◌≡◌, ◌≤◌, length};
 ghost use Rattle.vasm.specs.Labels.{Adds, IsLabelled, label_address};
 ghost use Rattle.std.specs.Option.{option_copied};
 
-use crate::line::{first_line, line_in};
+use crate::line::line_in;
 use crate::size::line_size;
 use std::alloc::Global;
 use std::collections::BTreeMap;
 use vasm_text::{AsmError, AsmFault, AsmKind};
+use vv_base::first_line;
 
 /// The addresses of the lines that names label.
 pub(crate) type Labels<'a> = BTreeMap<&'a [u8], u32>;
@@ -54,14 +55,14 @@ pub(crate) fn labels_in(alloc: Global, text: &[u8]) -> Result<Labels<'_>, AsmErr
     let mut number: u32 = 1;
     let mut at: u32 = 0x200;
     while !rest.is_empty() {
-        let pieces = first_line(rest);
-        let Some(line) = line_in(pieces.before) else {
+        let (text, later) = first_line(rest);
+        let Some(line) = line_in(text) else {
             return Err(fault(number, AsmKind::BadLine));
         };
         add_label(&mut labels, number, line.label, at)?;
         at += line_size(&line);
         number += 1;
-        rest = pieces.later;
+        rest = later;
     }
     Ok(labels)
 }

@@ -16,7 +16,7 @@ mod specifier;
 mod statement;
 mod text;
 
-pub use line::{Line, first_line, line_in};
+pub use line::{Line, line_in};
 pub use listing::list;
 pub use parse_statement::{Statement, forms_of};
 pub use specifier::operand_in;

@@ -1,7 +1,8 @@
+ghost use Rattle.vasm_text.specs.Cutting.{before_mark};
 ghost use Rattle.std.specs.Prelude.{◌≡◌, ◌<◌, ◌∷◌, length, option_map};
 ghost use Rattle.std.specs.Option.{option_copied};
 ghost use Rattle.std.specs.Str.Lines.{lines, strip_carriage_return};
-ghost use Rattle.vasm_text.specs.Statements.{after_label, before_comment, content_in, saying, source_line_in, unlabelled};
+ghost use Rattle.vasm_text.specs.Statements.{after_label, content_in, saying, source_line_in, unlabelled};
 ghost use Rattle.vasm.specs.Views.{source_line_view};
 
 use crate::cutting::{Pieces, cut_at, is_blank, trimmed};
@@ -75,7 +76,7 @@ fn content_in(text: &[u8]) -> Option<Line<'_>>
 
 /// What comes before a comment.
 fn before_comment(text: &[u8]) -> &[u8]
-    ensures { result.now ≡ before_comment text.now }
+    ensures { result.now ≡ before_mark 59 text.now }
 {
     match cut_at(text, b';') {
         Some(pieces) => pieces.before,
@@ -89,32 +90,4 @@ pub fn line_in(text: &[u8]) -> Option<Line<'_>>
     ensures { option_map source_line_view result ≡ source_line_in text.now }
 {
     content_in(trimmed(before_comment(text)))
-}
-
-/// A line without the carriage return at its end.
-fn without_return(line: &[u8]) -> &[u8]
-    ensures { result.now ≡ strip_carriage_return line.now }
-{
-    match line {
-        [rest @ .., b'\r'] => rest,
-        _ => line,
-    }
-}
-
-/// The first line of a text, and the text after it.
-pub fn first_line(text: &[u8]) -> Pieces<'_>
-    requires { 0 < length text.now }
-    ensures cut { lines text.now ≡ result.before.now ∷ lines result.later.now }
-    ensures shorter { length result.later.now < length text.now }
-{
-    match cut_at(text, b'\n') {
-        Some(pieces) => Pieces {
-            before: without_return(pieces.before),
-            later: pieces.later,
-        },
-        None => Pieces {
-            before: text,
-            later: b"",
-        },
-    }
 }

@@ -6,12 +6,12 @@ ghost use Rattle.vasm.specs.Assembled.{IsAsWanted};
 ghost use Rattle.vasm.specs.Listing.{bytes_column, listed_line, listed_name, listing, listing_of, said_in};
 ghost use Rattle.vasm.specs.Views.{source_line_view};
 
-use crate::line::{Line, first_line, line_in};
+use crate::line::{Line, line_in};
 use crate::size::line_size;
 use crate::text::assemble;
 use std::alloc::Global;
 use vasm_text::AsmError;
-use vv_base::{NoMemory, hex};
+use vv_base::{NoMemory, first_line, hex};
 
 /// What a line says; one of no form says nothing.
 fn said_in(text: &[u8]) -> Line<'_>
@@ -115,15 +115,15 @@ fn listing(alloc: Global, bytes: &[u8], text: &[u8]) -> Result<Vec<u8>, NoMemory
     let mut rest = text;
     let mut at: u32 = 0x200;
     while !rest.is_empty() {
-        let pieces = first_line(rest);
-        let line = said_in(pieces.before);
+        let (text, following) = first_line(rest);
+        let line = said_in(text);
         let size = line_size(&line);
         let (own, later) = front_of(left, size);
-        put_line(&mut shown, at, own, pieces.before)?;
+        put_line(&mut shown, at, own, text)?;
         put_name(&mut names, at, line.label)?;
         at += size;
         left = later;
-        rest = pieces.later;
+        rest = following;
     }
     shown.extend_from_slice(names.as_slice())?;
     Ok(shown)

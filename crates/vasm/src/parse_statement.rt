@@ -1,7 +1,8 @@
+ghost use Rattle.vasm_text.specs.Cutting.{before_mark};
 ghost use Rattle.std.specs.Prelude.{◌≡◌, ◌≤◌, length, option_map};
 ghost use Rattle.std.specs.Option.{option_copied};
 ghost use Rattle.vv_base.specs.Width.{size_of};
-ghost use Rattle.vasm_text.specs.Operands.{before_comma, operands_in, text_after_comma};
+ghost use Rattle.vasm_text.specs.Operands.{operands_in, text_after_comma};
 ghost use Rattle.vasm_text.specs.Statements.{forms_of, instruction_in, long_field_in, number_field_in, statement_in, words_in};
 ghost use Rattle.vasm.specs.Views.{operands_view, statement_view};
 
@@ -36,7 +37,7 @@ pub fn forms_of(opcode: u8) -> ArrayVec<Form, 4>
 
 /// What comes before the first comma, or all where there is none.
 fn before_comma(text: &[u8]) -> &[u8]
-    ensures { result.now ≡ before_comma text.now }
+    ensures { result.now ≡ before_mark 44 text.now }
 {
     match cut_at(text, b',') {
         Some(pieces) => pieces.before,

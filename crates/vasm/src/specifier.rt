@@ -1,7 +1,7 @@
+ghost use Rattle.std.specs.Option.{option_or};
 ghost use Rattle.std.specs.Prelude.{◌≡◌, ◌+◌, ◌<◌, ◌≤◌, ◌==◌, ◌&&◌, ◌||◌, not, option_map};
 ghost use Rattle.vv_base.specs.Width.{size_of};
 ghost use Rattle.vax_table.specs.Reading.{is_address, is_quad};
-ghost use Rattle.vasm_text.specs.Cutting.{or_else};
 ghost use Rattle.vasm_text.specs.Operands.{based, closed_in, deferred_in, direct_in, displaced_in, displacement_in, enclosed, indexed, indexed_in, literal_in, named_in, opened_in, operand_in, register_operand_in, specifier_in, value_in, valued_in};
 ghost use Rattle.vasm.specs.Pieces.{cut_view};
 ghost use Rattle.vasm.specs.Views.{operand_view};
@@ -146,7 +146,7 @@ fn opened_in<'a>(text: &[u8]) -> Option<Operand<'a>>
 
 /// A displacement or a register.
 fn bare_in(form: Form, text: &[u8]) -> Option<Operand<'_>>
-    ensures { option_map operand_view result ≡ or_else (displacement_in 0 text.now) (register_operand_in form text.now) }
+    ensures { option_map operand_view result ≡ option_or (displacement_in 0 text.now) (register_operand_in form text.now) }
 {
     match displacement_in(0, text) {
         Some(operand) => Some(operand),

@@ -3,11 +3,12 @@ ghost use Rattle.vasm.specs.Assembled.{IsAssembled, IsAssembledText};
 ghost use Rattle.vasm.specs.Labels.{label_address};
 
 use crate::labels::{Labels, fault, labels_in};
-use crate::line::{first_line, line_in};
+use crate::line::line_in;
 use crate::size::line_size;
 use crate::statement::put_line;
 use std::alloc::Global;
 use vasm_text::{AsmError, AsmKind};
+use vv_base::first_line;
 
 /// The bytes of a text whose lines are of some form and whose labels have these addresses.
 fn bytes_of(alloc: Global, text: &[u8], labels: &Labels) -> Result<Vec<u8>, AsmError>
@@ -19,14 +20,14 @@ fn bytes_of(alloc: Global, text: &[u8], labels: &Labels) -> Result<Vec<u8>, AsmE
     let mut number: u32 = 1;
     let mut at: u32 = 0x200;
     while !rest.is_empty() {
-        let pieces = first_line(rest);
-        let Some(line) = line_in(pieces.before) else {
+        let (text, later) = first_line(rest);
+        let Some(line) = line_in(text) else {
             return Err(fault(number, AsmKind::BadLine));
         };
         put_line(&mut bytes, labels, number, at, &line)?;
         at += line_size(&line);
         number += 1;
-        rest = pieces.later;
+        rest = later;
     }
     Ok(bytes)
 }

@@ -9,7 +9,7 @@ use Rattle.std.proofs.lemmas.List.Elements.{All-from_get_or}
 use Rattle.std.proofs.lemmas.List.Splits.{length-slice_split, slice_split_at}
 use Rattle.vax_table.specs.declared.forms.Form.{Form}
 use Rattle.vax_table.specs.declared.decoded.Spec.{Spec}
-use Rattle.vax_table.specs.Rows.{OpcodeEntry, row_of, sensitive}
+use Rattle.vax_table.specs.Rows.{OpcodeEntry, row_of, plain}
 use Rattle.vax_table.specs.Spelling.{AreBytes, Operands, Instruction, Spells, wait, of_row}
 use Rattle.vax_table.specs.Spelled.{spelled, spelled_all}
 use Rattle.vax_table.specs.Reading.{Answer, Whole, Short, Unknown, Reserved, decoded_at, IsAnswerFor}
@@ -55,14 +55,14 @@ wait_made : (names : List ℕ → Option ℕ) (at : ℕ) → statement_bytes nam
 unfolding statement_bytes forms_of row_of
 wait_made names at = refl
 
-wait_row : row_of 0xfd ≡ Some (sensitive [])
+wait_row : row_of 0xfd ≡ Some (plain [])
 unfolding row_of
 wait_row = refl
 
 spelled_line : (bytes : List ℕ) (d : Instruction) → Spells bytes d → IsLineOf (instruction_text d.opcode d.specs) (Instruct d.opcode (map exact d.specs)) bytes
 spelled_line bytes d (wait e g) =
     let P : Instruction → Type 0 = λ i. IsLineOf (instruction_text i.opcode i.specs) (Instruct i.opcode (map exact i.specs)) bytes in
-    subst P (sym g) (record { reads = instruction_line 0xfd (sensitive []) [] [] (omega arith) wait_row refl; made = λ names at. wait_made names at ∙ ap (λ (xs : List ℕ). Ok xs) (sym e) })
+    subst P (sym g) (record { reads = instruction_line 0xfd (plain []) [] [] (omega arith) wait_row refl; made = λ names at. wait_made names at ∙ ap (λ (xs : List ℕ). Ok xs) (sym e) })
 spelled_line bytes d (of_row entry opcode rest specs below other row m e g) =
     let P : Instruction → Type 0 = λ i. IsLineOf (instruction_text i.opcode i.specs) (Instruct i.opcode (map exact i.specs)) bytes in
     subst P (sym g) (record { reads = instruction_line opcode entry rest specs below row m; made = instruct_made opcode entry bytes rest specs other row m e })

@@ -1,13 +1,14 @@
 -- What holds of each register, of each literal and of each name, by computation over all of them.
+use Rattle.std.specs.Option.{unwrap_or}
 use Rattle.std.specs.Fmt.{digits}
 use Rattle.std.specs.List.{list_all, range_with_len}
 use Rattle.std.specs.Prelude.{map, bytes_eq, codes, is_none, ◌||◌}
-use Rattle.std.proofs.Common.{◌≡◌, ◌==◌, ℕ, ◌<◌, ◌&&◌, Bool, true, false, List, Some, decimal, get_or, take, nat_le, refl, sym, ap, ◌∙◌, arith}
+use Rattle.std.proofs.Common.{◌≡◌, ◌==◌, ℕ, ◌<◌, ◌&&◌, Bool, true, false, List, Some, decimal, get_or, take, nat_le, refl, sym, ap, ◌∙◌, arith, []}
 use Rattle.std.proofs.lemmas.List.FromFn.{get_or-map-range_with_len}
 use Rattle.vasm_text.specs.Mnemonics.{mnemonic_of}
 use Rattle.vasm_text.specs.Numbers.{number_in, register_in}
 use Rattle.vasm_text.specs.Operands.{displacement_in}
-use Rattle.vasm_text.specs.Printing.{register_text, name_text}
+use Rattle.vasm_text.specs.Printing.{register_text}
 
 -- what holds of each number below a bound in one list
 pub everywhere : {A : Type 0} (f g : ℕ → A) (most : ℕ) → map f (range_with_len 0 most) ≡ map g (range_with_len 0 most) → (n : ℕ) → n < most → f n ≡ g n
@@ -76,9 +77,9 @@ literal_back n below = everywhere (λ k. number_in (decimal k)) (λ k. Some k) 6
 
 -- ---- names
 
-names_plain : map (λ n. list_all is_plain (name_text (mnemonic_of n))) (range_with_len 0 256) ≡ map (λ n. true) (range_with_len 0 256)
+names_plain : map (λ n. list_all is_plain (unwrap_or (mnemonic_of n) [])) (range_with_len 0 256) ≡ map (λ n. true) (range_with_len 0 256)
 unfolding mnemonic_of
 names_plain = refl
 
-pub name_plain : (n : ℕ) → n < 256 → ArePlain (name_text (mnemonic_of n))
-name_plain n below = everywhere (λ k. list_all is_plain (name_text (mnemonic_of k))) (λ k. true) 256 names_plain n below
+pub name_plain : (n : ℕ) → n < 256 → ArePlain (unwrap_or (mnemonic_of n) [])
+name_plain n below = everywhere (λ k. list_all is_plain (unwrap_or (mnemonic_of k) [])) (λ k. true) 256 names_plain n below

@@ -9,8 +9,8 @@ use Rattle.vax_table.specs.declared.decoded.Spec.{Spec}
 use Rattle.vax_table.specs.Spelling.{unindexed, Displaces, byte, byte_deferred, word, word_deferred, long, long_deferred, Specifier, literal, register, register_deferred, autodecrement, autoincrement, immediate, autoincrement_deferred, absolute, displacement, SpellsOperand as Spelled, specifier, indexed, branch, Operands}
 use Rattle.vax_table.specs.Reading.{is_branch}
 use Rattle.vax_table.proofs.Tests.{no_branch}
-use Rattle.vasm_text.specs.Cutting.{Cut, cut_at}
-use Rattle.vasm_text.specs.Operands.{specifier_in, value_in, operand_in, indexed_in, indexed as with_index, before_comma, text_after_comma, operands_in}
+use Rattle.vasm_text.specs.Cutting.{Cut, cut_at, before_mark}
+use Rattle.vasm_text.specs.Operands.{specifier_in, value_in, operand_in, indexed_in, indexed as with_index, text_after_comma, operands_in}
 use Rattle.vasm_text.specs.Printing.{register_text, field_text, displacement_text, increment_text, specifier_text, index_text, operand_text, text_after_mark}
 use Rattle.vasm_dis.specs.Laws.{exact}
 use Rattle.vasm_dis.proofs.Finite.{is_plain, ArePlain, register_plain, literal_plain}
@@ -186,25 +186,25 @@ abbrev left_by : Option Cut → Option (List ℕ)
 left_by None = None
 left_by (Some c) = Some (c.later)
 
-before_is : (text : List ℕ) (o : Option Cut) → cut_at 44 text ≡ o → before_comma text ≡ kept_by text o
+before_is : (text : List ℕ) (o : Option Cut) → cut_at 44 text ≡ o → before_mark 44 text ≡ kept_by text o
 before_is text o is = ap (kept_by text) is
 
 after_is : (text : List ℕ) (o : Option Cut) → cut_at 44 text ≡ o → text_after_comma text ≡ left_by o
 after_is text o is = ap left_by is
 
-split_last : (text : List ℕ) → NonePass (λ c. c == 44) text → (before_comma (text ++ []) ≡ text) × (text_after_comma (text ++ []) ≡ None)
+split_last : (text : List ℕ) → NonePass (λ c. c == 44) text → (before_mark 44 (text ++ []) ≡ text) × (text_after_comma (text ++ []) ≡ None)
 split_last text free =
     let is : cut_at 44 (text ++ []) ≡ None = ap (cut_at 44) (append-nil text) ∙ cut_none (λ c. c == 44) text free in
     (before_is (text ++ []) None is ∙ append-nil text, after_is (text ++ []) None is)
 
-split_next : (text rest : List ℕ) → NonePass (λ c. c == 44) text → (before_comma (text ++ 44 ∷ rest) ≡ text) × (text_after_comma (text ++ 44 ∷ rest) ≡ Some rest)
+split_next : (text rest : List ℕ) → NonePass (λ c. c == 44) text → (before_mark 44 (text ++ 44 ∷ rest) ≡ text) × (text_after_comma (text ++ 44 ∷ rest) ≡ Some rest)
 split_next text rest free =
     let c : Cut = record { before = text; later = rest } in
     let is : cut_at 44 (text ++ 44 ∷ rest) ≡ Some c = cut_here (λ b. b == 44) text 44 rest free refl in
     (before_is (text ++ 44 ∷ rest) (Some c) is, after_is (text ++ 44 ∷ rest) (Some c) is)
 
 split_text : (text : List ℕ) (fs : List Form) (bytes : List ℕ) (ss : List Spec) → NonePass (λ c. c == 44) text → Operands fs bytes ss
-    → (before_comma (text ++ text_after_mark 44 fs ss) ≡ text) × (text_after_comma (text ++ text_after_mark 44 fs ss) ≡ text_of fs ss)
+    → (before_mark 44 (text ++ text_after_mark 44 fs ss) ≡ text) × (text_after_comma (text ++ text_after_mark 44 fs ss) ≡ text_of fs ss)
 split_text text [] bytes ss free m = split_last text free
 split_text text (g ∷ fs) bytes [] free m = absurd m
 split_text text (g ∷ fs) bytes (s ∷ ss) free m = split_next text (operand_text g s ++ text_after_mark 44 fs ss) free
@@ -214,6 +214,6 @@ operands_back [] bytes [] m = refl
 operands_back [] bytes (s ∷ ss) m = absurd m
 operands_back (f ∷ fs) bytes [] m = absurd m
 operands_back (f ∷ fs) bytes (s ∷ ss) m =
-    let split : (before_comma (operand_text f s ++ text_after_mark 44 fs ss) ≡ operand_text f s) × (text_after_comma (operand_text f s ++ text_after_mark 44 fs ss) ≡ text_of fs ss) =
+    let split : (before_mark 44 (operand_text f s ++ text_after_mark 44 fs ss) ≡ operand_text f s) × (text_after_comma (operand_text f s ++ text_after_mark 44 fs ss) ≡ text_of fs ss) =
     split_text (operand_text f s) fs m.1 ss (comma_free f m.0 s m.3) m.4 in
     rw (split.0, split.1, operand_back f m.0 s m.3, operands_back fs m.1 ss m.4)

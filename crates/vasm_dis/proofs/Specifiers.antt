@@ -11,7 +11,7 @@ use Rattle.vax_table.specs.Spelling.{unindexed, Displaces, byte, byte_deferred, 
 use Rattle.vax_table.specs.Reading.{is_read}
 use Rattle.vax_table.proofs.Tests.{or_left, or_right, no_address, no_pair}
 use Rattle.vasm_text.specs.Cutting.{Cut, cut_at}
-use Rattle.vasm_text.specs.Operands.{Operand, unnamed_operand, based, named_in, closed_in, literal_in, displaced_in, displacement_in, deferred_in, direct_in, specifier_in, register_operand_in}
+use Rattle.vasm_text.specs.Operands.{SourceOperand, unnamed_operand, based, named_in, closed_in, literal_in, displaced_in, displacement_in, deferred_in, direct_in, specifier_in, register_operand_in}
 use Rattle.vasm_text.specs.Printing.{register_text, field_text, displacement_text, increment_text, specifier_text}
 use Rattle.vasm_dis.specs.Laws.{exact}
 use Rattle.vasm_dis.proofs.Finite.{is_plain, register_plain, register_back, has_sign, register_bare, register_here, literal_back}
@@ -27,7 +27,7 @@ unfolding closed_in
 closed_back mark n ending later out below =
     rw (cut_here (λ b. b == mark) (register_text n) mark later (free_of is_plain mark out (register_text n) (register_plain n below)) (same mark), register_back n below)
 
-abbrev split_by : ℕ → ℕ → List ℕ → Option Cut → Option Operand
+abbrev split_by : ℕ → ℕ → List ℕ → Option Cut → Option SourceOperand
 split_by mode size text None = named_in mode 15 text
 split_by mode size text (Some c) = based mode size c
 

@@ -1,4 +1,5 @@
 -- A statement's line is read as it is printed.
+use Rattle.std.specs.Option.{option_map_or, unwrap_or}
 use Rattle.std.specs.List.{list_all, range_with_len}
 use Rattle.std.specs.Prelude.{codes, ◌||◌, map, bytes_eq, is_some, if◌then◌else◌}
 use Rattle.std.proofs.Common.{◌≡◌, ◌==◌, ℕ, ◌<◌, ◌&&◌, Bool, true, false, List, [], ◌∷◌, ◌++◌, Option, Some, None, nat_le, refl, sym, ap, subst, ◌∙◌, append-nil}
@@ -9,12 +10,12 @@ use Rattle.vax_table.specs.Spelling.{SpellsOperand as Spelled, Operands}
 use Rattle.vax_table.specs.Reading.{is_branch}
 use Rattle.vax_table.proofs.Tests.{or_left, or_right}
 use Rattle.vv_base.specs.Names.{is_object_name}
-use Rattle.vasm_text.specs.Cutting.{Cut, cut, cut_at, is_blank, trimmed, unless_blank, without_front, without_back}
+use Rattle.vasm_text.specs.Cutting.{Cut, cut, cut_at, is_blank, trimmed, unless_blank, without_front, without_back, before_mark}
 use Rattle.vasm_text.specs.Mnemonics.{mnemonic_of, opcode_of}
-use Rattle.vasm_text.specs.Operands.{Operand, unnamed_operand, operand_in, value_in, specifier_in, direct_in, displacement_in, operands_in}
+use Rattle.vasm_text.specs.Operands.{SourceOperand, unnamed_operand, operand_in, value_in, specifier_in, direct_in, displacement_in, operands_in}
 use Rattle.vasm_text.specs.Numbers.{number_in, field_in, register_in}
-use Rattle.vasm_text.specs.Statements.{Statement, Field, Instruct, SourceLine, operand_forms, forms_of, words_in, statement_in, unlabelled, after_label, content_in, before_comment, source_line_in}
-use Rattle.vasm_text.specs.Printing.{operand_text, text_after_mark, name_text, instruction_text, byte_text, field_text}
+use Rattle.vasm_text.specs.Statements.{Statement, Field, Instruct, SourceLine, forms_of, words_in, statement_in, unlabelled, after_label, content_in, source_line_in}
+use Rattle.vasm_text.specs.Printing.{operand_text, text_after_mark, instruction_text, byte_text, field_text}
 use Rattle.vasm_text.proofs.Apart.{are_apart}
 use Rattle.vasm_dis.proofs.Finite.{everywhere, is_plain, ArePlain, name_plain}
 use Rattle.vasm_dis.proofs.Cuts.{NonePass, cut_none, cut_here, free_of, no_blanks, all_join, all_wider, back_kept, back_join, front_kept}
@@ -40,7 +41,7 @@ names_filled : map (λ n. is_filled (mnemonic_of n)) (range_with_len 0 256) ≡ 
 unfolding mnemonic_of
 names_filled = refl
 
-names_others : map (λ n. is_directive (name_text (mnemonic_of n))) (range_with_len 0 256) ≡ map (λ n. false) (range_with_len 0 256)
+names_others : map (λ n. is_directive (unwrap_or (mnemonic_of n) [])) (range_with_len 0 256) ≡ map (λ n. false) (range_with_len 0 256)
 unfolding mnemonic_of is_directive
 names_others = refl
 
@@ -59,8 +60,8 @@ named_by n (Some (c ∷ cs)) below is some filled = (
   cs,
   record {
     name = is;
-    plain = sym (ap (λ o. list_all is_plain (name_text o)) is) ∙ name_plain n below;
-    other = sym (ap (λ o. is_directive (name_text o)) is) ∙ everywhere (λ k. is_directive (name_text (mnemonic_of k))) (λ k. false) 256 names_others n below;
+    plain = sym (ap (λ o. list_all is_plain (unwrap_or o [])) is) ∙ name_plain n below;
+    other = sym (ap (λ o. is_directive (unwrap_or o [])) is) ∙ everywhere (λ k. is_directive (unwrap_or (mnemonic_of k) [])) (λ k. false) 256 names_others n below;
     back = are_apart.back n (c ∷ cs) below is;
   },
 )
@@ -88,7 +89,7 @@ abbrev uncommented_by : List ℕ → Option Cut → List ℕ
 uncommented_by text None = text
 uncommented_by text (Some c) = c.before
 
-uncommented : (text : List ℕ) → cut_at 59 text ≡ None → before_comment text ≡ text
+uncommented : (text : List ℕ) → cut_at 59 text ≡ None → before_mark 59 text ≡ text
 uncommented text is = ap (uncommented_by text) is
 
 abbrev content_by : List ℕ → Option Cut → Option SourceLine
@@ -124,7 +125,7 @@ said_is : (text : List ℕ) (o : Option Cut) → cut is_blank text ≡ o → sta
 unfolding statement_in
 said_is text o is = ap (said_by text) is
 
-words_back : (word : List ℕ) (text : Option (List ℕ)) (opcode : ℕ) (os : List Operand) → is_directive word ≡ false → opcode_of word ≡ Some opcode → operands_in (forms_of opcode) text ≡ Some os → words_in word text ≡ Some (Instruct opcode os)
+words_back : (word : List ℕ) (text : Option (List ℕ)) (opcode : ℕ) (os : List SourceOperand) → is_directive word ≡ false → opcode_of word ≡ Some opcode → operands_in (forms_of opcode) text ≡ Some os → words_in word text ≡ Some (Instruct opcode os)
 unfolding words_in is_directive
 words_back word text opcode os other op is =
     let s1 : Bool = bytes_eq word (codes ".byte") in
@@ -219,13 +220,13 @@ instruction_by opcode c cs (f ∷ fs) bytes (s ∷ ss) n forms m =
 
 printed_is : (opcode c : ℕ) (cs : List ℕ) (fs : List Form) (ss : List Spec) → mnemonic_of opcode ≡ Some (c ∷ cs) → forms_of opcode ≡ fs → instruction_text opcode ss ≡ (c ∷ cs) ++ text_after_mark 32 fs ss
 unfolding instruction_text
-printed_is opcode c cs fs ss name forms = ap (λ o. name_text o ++ text_after_mark 32 (forms_of opcode) ss) name ∙ ap (λ gs. (c ∷ cs) ++ text_after_mark 32 gs ss) forms
+printed_is opcode c cs fs ss name forms = ap (λ o. unwrap_or o [] ++ text_after_mark 32 (forms_of opcode) ss) name ∙ ap (λ gs. (c ∷ cs) ++ text_after_mark 32 gs ss) forms
 
 pub instruction_line : (opcode : ℕ) (e : OpcodeEntry) (bytes : List ℕ) (ss : List Spec) → opcode < 256 → row_of opcode ≡ Some e → Operands e.operands bytes ss → ReadsAs (instruction_text opcode ss) (Instruct opcode (map exact ss))
 unfolding forms_of
 instruction_line opcode e bytes ss below row m =
     let n : (c : ℕ) × (cs : List ℕ) × IsNamed opcode c cs = named opcode e below row in
-    let forms : forms_of opcode ≡ e.operands = ap operand_forms row in
+    let forms : forms_of opcode ≡ e.operands = ap (λ o. option_map_or (λ e. e.operands) o []) row in
     let P : List ℕ → Type 0 = λ text. ReadsAs text (Instruct opcode (map exact ss)) in
     subst P (sym (printed_is opcode n.0 n.1 e.operands ss n.2.name forms)) (instruction_by opcode n.0 n.1 e.operands bytes ss n.2 forms m)
 

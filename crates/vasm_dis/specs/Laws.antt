@@ -3,14 +3,14 @@
 use Rattle.std.specs.Prelude.{◌≡◌, ℕ, ◌<◌, List, map, Option, Some, None, Ok}
 use Rattle.vax_table.specs.declared.decoded.Spec.{Spec}
 use Rattle.vax_table.specs.Spelling.{AreBytes, Instruction, Spells}
-use Rattle.vasm_text.specs.Operands.{Operand, unnamed_operand}
+use Rattle.vasm_text.specs.Operands.{SourceOperand, unnamed_operand}
 use Rattle.vasm_text.specs.Statements.{SourceLine, Statement, Field, Instruct, source_line_in}
 use Rattle.vasm_text.specs.Printing.{instruction_text, byte_text}
 use Rattle.vasm_text.specs.Asm.{asm_of}
 use Rattle.vasm_text.specs.Dis.{dis_of}
 
 -- a specifier whose value is a number
-abbrev pub exact : Spec → Operand
+abbrev pub exact : Spec → SourceOperand
 exact s = record { spec = s; name = None }
 
 -- a line without a label

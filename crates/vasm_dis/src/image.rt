@@ -1,10 +1,11 @@
+ghost use Rattle.std.specs.Option.{unwrap_or};
 ghost use Rattle.std.specs.Prelude.{◌≡◌, [], ◌∷◌, ◌++◌, ◌≤◌, ◌<◌, length, drop, IfOk, OnOk};
 ghost use Rattle.vasm_dis.specs.First.{IsFirstDecoded};
 ghost use Rattle.vasm_text.specs.Dis.{and_others, dis_of};
 ghost use Rattle.vasm_text.specs.Front.{front_text};
 ghost use Rattle.vasm_text.specs.Mnemonics.{mnemonic_of};
 ghost use Rattle.vasm_text.specs.Statements.{forms_of};
-ghost use Rattle.vasm_text.specs.Printing.{byte_text, instruction_text, name_text, text_after_mark};
+ghost use Rattle.vasm_text.specs.Printing.{byte_text, instruction_text, text_after_mark};
 
 use crate::operand::put_operands;
 use crate::put::{Line, put_field};
@@ -17,7 +18,7 @@ use vv_base::{NoMemory, Text};
 /// Appends an instruction's name.
 fn put_name(text: &mut Line, opcode: u8)
     requires { length text.old ≡ 0 }
-    ensures text { text.new ≡ text.old ++ name_text (mnemonic_of opcode) }
+    ensures text { text.new ≡ text.old ++ unwrap_or (mnemonic_of opcode) [] }
     ensures short { length text.new ≤ 6 }
 {
     if let Some(name) = mnemonic(opcode) {

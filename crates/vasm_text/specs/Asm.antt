@@ -4,7 +4,7 @@
 use Rattle.std.specs.Int.{int_rem_euclid}
 use Rattle.std.specs.List.{list_any}
 use Rattle.std.specs.Prelude.{ℕ, ◌+◌, ◌/◌, ◌^◌, ◌==◌, ◌&&◌, ◌||◌, List, [], ◌∷◌, ◌++◌, length, bytes_eq, Bool, false, nat_lt, nat_le, if◌then◌else◌, Option, Some, None, Result, Ok, Err, pos, ◌-ℤ◌, unsigned_abs}
-use Rattle.std.specs.Option.{is_none, unwrap_or}
+use Rattle.std.specs.Option.{is_none, unwrap_or, option_map_or}
 use Rattle.std.specs.Str.Lines.{lines}
 use Rattle.vax_table.specs.declared.forms.Form.{Form}
 use Rattle.vax_table.specs.declared.decoded.Spec.{Spec}
@@ -12,7 +12,7 @@ use Rattle.vv_base.specs.Width.{size_of}
 use Rattle.vax_table.specs.Reading.{is_branch, displacement_size}
 use Rattle.vax_table.specs.Spelling.{bytes_of}
 use Rattle.vax_table.specs.Spelled.{spelled}
-use Rattle.vasm_text.specs.Operands.{Operand}
+use Rattle.vasm_text.specs.Operands.{SourceOperand}
 use Rattle.vasm_text.specs.Statements.{Statement, Field, Instruct, SourceLine, forms_of, source_line_in}
 use Rattle.vasm_text.specs.declared.fault.AsmFault.{AsmFault}
 use Rattle.vasm_text.specs.declared.fault.AsmKind.{AsmKind}
@@ -30,12 +30,8 @@ at_line number (Err kind) = Err (record { line = number; kind = kind })
 
 -- ---- the lines and their labels
 
-abbrev pub is_among : List ℕ → List (List ℕ) → Bool
-is_among name names = list_any (bytes_eq name) names
-
 abbrev pub is_labelled : Option (List ℕ) → List (List ℕ) → Bool
-is_labelled None labels = false
-is_labelled (Some name) labels = is_among name labels
+is_labelled label labels = option_map_or (λ name. list_any (bytes_eq name) labels) label false
 
 abbrev pub and_label : List (List ℕ) → Option (List ℕ) → List (List ℕ)
 and_label labels None = labels
@@ -46,14 +42,11 @@ abbrev pub read_source_line : List (List ℕ) → Option SourceLine → Result S
 read_source_line labels None = Err BadLine
 read_source_line labels (Some line) = if is_labelled line.label labels then Err TwiceNamed else Ok line
 
-abbrev pub before_others : {A : Type 0} → A → Result (List A) AsmFault → Result (List A) AsmFault
-before_others x others = others >>= λ xs. Ok (x ∷ xs)
-
 -- the lines from a number on, after lines with these labels
 abbrev pub read_from : ℕ → List (List ℕ) → List (List ℕ) → Result (List SourceLine) AsmFault
 read_from number labels [] = Ok []
 read_from number labels (text ∷ texts) =
-    at_line number (read_source_line labels (source_line_in text)) >>= λ line. before_others line (read_from (number + 1) (and_label labels line.label) texts)
+    at_line number (read_source_line labels (source_line_in text)) >>= λ line. read_from (number + 1) (and_label labels line.label) texts >>= λ more. Ok (line ∷ more)
 
 -- ---- sizes and addresses, which the lines' texts alone fix
 
@@ -61,13 +54,12 @@ abbrev pub opcode_bytes : ℕ → List ℕ
 opcode_bytes opcode = if opcode == 0xfd then opcode ∷ 1 ∷ [] else opcode ∷ []
 
 -- a specifier's size doesn't depend on its value
-abbrev pub operand_size : Form → Operand → ℕ
+abbrev pub operand_size : Form → SourceOperand → ℕ
 operand_size form o = length (spelled form o.spec)
 
-abbrev pub operands_size : List Form → List Operand → ℕ
-operands_size [] os = 0
-operands_size (f ∷ fs) [] = 0
+abbrev pub operands_size : List Form → List SourceOperand → ℕ
 operands_size (f ∷ fs) (o ∷ os) = operand_size f o + operands_size fs os
+operands_size fs os = 0
 
 unfoldable pub statement_size : Statement → ℕ
 statement_size (Field size o) = size
@@ -77,8 +69,7 @@ abbrev pub source_line_size : SourceLine → ℕ
 source_line_size line = elim (line.statement) [ None ↦ 0 | Some s ↦ statement_size s ]
 
 abbrev pub is_label : List ℕ → Option (List ℕ) → Bool
-is_label name None = false
-is_label name (Some label) = bytes_eq name label
+is_label name label = option_map_or (bytes_eq name) label false
 
 -- the address of the line that a name labels, where the lines begin at an address
 abbrev pub address_in : List SourceLine → ℕ → List ℕ → Option ℕ
@@ -108,25 +99,24 @@ with_displacement size spec target later = if is_in_field size target later then
 
 -- an operand's specifier, where the operand ends before an address. A branch displacement is the last
 -- operand, so the address after it is the next instruction's.
-unfoldable pub resolved : (List ℕ → Option ℕ) → ℕ → Form → Operand → Result Spec AsmKind
+unfoldable pub resolved : (List ℕ → Option ℕ) → ℕ → Form → SourceOperand → Result Spec AsmKind
 resolved names later form o = elim (o.name) [
   | None ↦ Ok (o.spec)
   | Some name ↦ with_displacement (field_size form o.spec) o.spec (named_target names name) later
 ]
 
 -- the bytes of operands that begin at an address
-abbrev pub operands_bytes : (List ℕ → Option ℕ) → ℕ → List Form → List Operand → Result (List ℕ) AsmKind
-operands_bytes names at [] os = Ok []
-operands_bytes names at (f ∷ fs) [] = Ok []
+abbrev pub operands_bytes : (List ℕ → Option ℕ) → ℕ → List Form → List SourceOperand → Result (List ℕ) AsmKind
 operands_bytes names at (f ∷ fs) (o ∷ os) =
     resolved names (at + operand_size f o) f o >>= λ s. operands_bytes names (at + operand_size f o) fs os >>= λ bytes. Ok (spelled f s ++ bytes)
+operands_bytes names at fs os = Ok []
 
 -- a number, or the value of a name
-abbrev pub field_value : (List ℕ → Option ℕ) → Operand → ℕ
+abbrev pub field_value : (List ℕ → Option ℕ) → SourceOperand → ℕ
 field_value names o = elim (o.name) [ None ↦ o.spec.value | Some name ↦ named_target names name ]
 
 -- whether a name in it labels no line
-abbrev pub lacks : (List ℕ → Option ℕ) → Operand → Bool
+abbrev pub lacks : (List ℕ → Option ℕ) → SourceOperand → Bool
 lacks names o = elim (o.name) [ None ↦ false | Some name ↦ is_none (names name) ]
 
 abbrev pub lacks_any : (List ℕ → Option ℕ) → Statement → Bool
@@ -144,14 +134,11 @@ statement_bytes names at s = if lacks_any names s then Err NoName else known_sta
 abbrev pub source_line_bytes : (List ℕ → Option ℕ) → ℕ → SourceLine → Result (List ℕ) AsmKind
 source_line_bytes names at line = elim (line.statement) [ None ↦ Ok [] | Some s ↦ statement_bytes names at s ]
 
-abbrev pub prepended : List ℕ → Result (List ℕ) AsmFault → Result (List ℕ) AsmFault
-prepended front others = others >>= λ bytes. Ok (front ++ bytes)
-
 -- the bytes of lines from a number and an address on
 abbrev pub assembled_bytes : (List ℕ → Option ℕ) → ℕ → ℕ → List SourceLine → Result (List ℕ) AsmFault
 assembled_bytes names number at [] = Ok []
 assembled_bytes names number at (line ∷ more) =
-    at_line number (source_line_bytes names at line) >>= λ bytes. prepended bytes (assembled_bytes names (number + 1) (at + source_line_size line) more)
+    at_line number (source_line_bytes names at line) >>= λ bytes. assembled_bytes names (number + 1) (at + source_line_size line) more >>= λ others. Ok (bytes ++ others)
 
 -- the bytes of a text, or the first line that is refused: first by what it says alone and the labels
 -- before it, then by the names in it

@@ -1,15 +1,10 @@
 -- Cutting a text. Blanks are space (32) and tab (9).
-use Rattle.std.specs.Prelude.{ℕ, ◌==◌, ◌||◌, List, [], ◌∷◌, Bool, Option, Some, None, if◌then◌else◌}
+use Rattle.std.specs.Prelude.{ℕ, ◌==◌, ◌||◌, List, [], ◌∷◌, Bool, Option, Some, None, option_map, if◌then◌else◌}
 
 infixl 10 ◌>>=◌
 abbrev pub ◌>>=◌ : {A B : Type 0} → Option A → (A → Option B) → Option B
 (Some x) >>= f = f x
 None >>= f = None
-
--- the first of two, or else the second
-abbrev pub or_else : {A : Type 0} → Option A → Option A → Option A
-or_else (Some x) other = Some x
-or_else None other = other
 
 abbrev pub is_blank : ℕ → Bool
 is_blank b = b == 32 || b == 9
@@ -19,18 +14,18 @@ pub record Cut : Type 0 where
   pub before : List ℕ
   pub later : List ℕ
 
-abbrev pub with_first : ℕ → Option Cut → Option Cut
-with_first b None = None
-with_first b (Some c) = Some (record { before = b ∷ c.before; later = c.later })
-
 -- what comes before the first byte that passes a test, and after it; None where none passes
 abbrev pub cut : (ℕ → Bool) → List ℕ → Option Cut
 cut test [] = None
-cut test (b ∷ bs) = if test b then Some (record { before = []; later = bs }) else with_first b (cut test bs)
+cut test (b ∷ bs) = if test b then Some (record { before = []; later = bs }) else option_map (λ c. record { before = b ∷ c.before; later = c.later }) (cut test bs)
 
 -- a text cut at the first byte that is this one
 abbrev pub cut_at : ℕ → List ℕ → Option Cut
 cut_at mark text = cut (λ b. b == mark) text
+
+-- what comes before it, or all where there is none
+abbrev pub before_mark : ℕ → List ℕ → List ℕ
+before_mark mark text = elim (cut_at mark text) [ None ↦ text | Some c ↦ c.before ]
 
 -- without the blanks at its front
 abbrev pub without_front : List ℕ → List ℕ

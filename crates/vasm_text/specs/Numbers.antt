@@ -16,11 +16,8 @@ abbrev pub hex_from : ℕ → List ℕ → ℕ
 hex_from so_far [] = so_far
 hex_from so_far (d ∷ digits) = hex_from (16 * so_far + hex_value d) digits
 
-abbrev pub is_hex : List ℕ → Bool
-is_hex digits = nat_le 1 (length digits) && nat_le (length digits) 16 && list_all is_hex_digit digits
-
 abbrev pub hex_of : List ℕ → Option ℕ
-hex_of digits = if is_hex digits then Some (hex_from 0 digits) else None
+hex_of digits = if nat_le 1 (length digits) && nat_le (length digits) 16 && list_all is_hex_digit digits then Some (hex_from 0 digits) else None
 
 -- the number that a text is
 unfoldable pub number_in : List ℕ → Option ℕ

@@ -1,6 +1,7 @@
 -- The text of an instruction that bytes spell: a literal in decimal, every other number as `^X` and two
 -- digits for each byte of its field, a branch displacement as the field itself.
-use Rattle.std.specs.Prelude.{ℕ, ◌*◌, ◌%◌, ◌==◌, nat_lt, List, [], ◌∷◌, ◌++◌, codes, decimal, if◌then◌else◌, Option, Some, None}
+use Rattle.std.specs.Option.{unwrap_or, option_map_or}
+use Rattle.std.specs.Prelude.{ℕ, ◌*◌, ◌%◌, ◌==◌, nat_lt, List, [], ◌∷◌, ◌++◌, codes, decimal, if◌then◌else◌, Option}
 use Rattle.vv_base.specs.Digits.{hex_text}
 use Rattle.vv_base.specs.Width.{size_of}
 use Rattle.vax_table.specs.declared.forms.Form.{Form}
@@ -45,25 +46,19 @@ specifier_text form s =
     if nat_lt s.mode 10 then increment_text form s else displacement_text s
 
 abbrev pub index_text : Option ℕ → List ℕ
-index_text None = []
-index_text (Some x) = codes "[" ++ (register_text x ++ codes "]")
+index_text index = option_map_or (λ x. codes "[" ++ (register_text x ++ codes "]")) index []
 
 unfoldable pub operand_text : Form → Spec → List ℕ
 operand_text form s = if is_branch form.access then field_text (size_of form.width) s.value else specifier_text form s ++ index_text s.index
 
 -- operands, the first after a mark and each other after a comma (44)
 abbrev pub text_after_mark : ℕ → List Form → List Spec → List ℕ
-text_after_mark mark [] ss = []
-text_after_mark mark (f ∷ fs) [] = []
 text_after_mark mark (f ∷ fs) (s ∷ ss) = mark ∷ (operand_text f s ++ text_after_mark 44 fs ss)
-
-abbrev pub name_text : Option (List ℕ) → List ℕ
-name_text None = []
-name_text (Some name) = name
+text_after_mark mark fs ss = []
 
 -- its name, and after a blank (32) its operands
 unfoldable pub instruction_text : ℕ → List Spec → List ℕ
-instruction_text opcode ss = name_text (mnemonic_of opcode) ++ text_after_mark 32 (forms_of opcode) ss
+instruction_text opcode ss = unwrap_or (mnemonic_of opcode) [] ++ text_after_mark 32 (forms_of opcode) ss
 
 -- a byte by itself
 unfoldable pub byte_text : ℕ → List ℕ

@@ -1,32 +1,29 @@
 -- The lines of an assembler's text. A comment begins at the first `;`, and blanks at both ends don't count.
 -- What is left is nothing, `NAME:`, `NAME: STATEMENT` or `STATEMENT`. A statement is a mnemonic alone, a
 -- mnemonic, one blank and its operands, or `.byte N`, `.word N`, `.long N` or `.long NAME`.
+use Rattle.std.specs.Option.{option_map_or}
 use Rattle.std.specs.Prelude.{ℕ, List, [], ◌∷◌, codes, bytes_eq, if◌then◌else◌, Option, Some, None}
 use Rattle.vv_base.specs.Names.{is_object_name}
 use Rattle.vax_table.specs.declared.forms.Form.{Form}
-use Rattle.vax_table.specs.Rows.{OpcodeEntry, row_of}
-use Rattle.vasm_text.specs.Cutting.{◌>>=◌, cut, cut_at, is_blank, trimmed}
+use Rattle.vax_table.specs.Rows.{row_of}
+use Rattle.vasm_text.specs.Cutting.{◌>>=◌, cut, cut_at, is_blank, trimmed, before_mark}
 use Rattle.vasm_text.specs.Mnemonics.{opcode_of}
 use Rattle.vasm_text.specs.Numbers.{field_in}
-use Rattle.vasm_text.specs.Operands.{Operand, unnamed_operand, value_in, operands_in}
+use Rattle.vasm_text.specs.Operands.{SourceOperand, unnamed_operand, value_in, operands_in}
 
 -- a value in a number of bytes, or an opcode and its operands
 pub data Statement : Type 0 where
-  Field : ℕ → Operand → Statement
-  Instruct : ℕ → List Operand → Statement
+  Field : ℕ → SourceOperand → Statement
+  Instruct : ℕ → List SourceOperand → Statement
 
 -- what it labels, and what it says
 pub record SourceLine : Type 0 where
   pub label : Option (List ℕ)
   pub statement : Option Statement
 
-abbrev pub operand_forms : Option OpcodeEntry → List Form
-operand_forms None = []
-operand_forms (Some e) = e.operands
-
 -- the forms of an instruction's operands
 unfoldable pub forms_of : ℕ → List Form
-forms_of opcode = operand_forms (row_of opcode)
+forms_of opcode = option_map_or (λ e. e.operands) (row_of opcode) []
 
 -- a number in `size` bytes
 abbrev pub number_field_in : ℕ → List ℕ → Option Statement
@@ -71,10 +68,6 @@ content_in text = elim (cut_at 58 text) [
   | Some c ↦ if is_object_name c.before then after_label c.before c.later else None
 ]
 
--- what comes before the first semicolon (59)
-abbrev pub before_comment : List ℕ → List ℕ
-before_comment text = elim (cut_at 59 text) [ None ↦ text | Some c ↦ c.before ]
-
--- what a line says; None where it is of no form
+-- what a line says before a semicolon (59); None where it is of no form
 unfoldable pub source_line_in : List ℕ → Option SourceLine
-source_line_in text = content_in (trimmed (before_comment text))
+source_line_in text = content_in (trimmed (before_mark 59 text))

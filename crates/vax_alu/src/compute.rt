@@ -1,6 +1,7 @@
 ghost use Rattle.std.specs.Prelude.{◌≡◌, ◌≢◌, ◌^◌, ◌<◌, ◌*ℤ◌, false};
+ghost use Rattle.vv_base.specs.Bits.{is_set};
 ghost use Rattle.vv_base.specs.Width.{bits_of, signed_of};
-ghost use Rattle.vax_table.specs.Arithmetic.{alu_of, alu_of_result, carry_of, comparison_of, difference_of, exactly, logical_result, negation_of, psw_with, quotient_of, rotated, shifted, sum_of, traps_overflow, valued};
+ghost use Rattle.vax_table.specs.Arithmetic.{alu_of, alu_of_result, comparison_of, difference_of, exactly, negation_of, psw_with, quotient_of, rotated, shifted, sum_of, valued};
 
 use crate::exact::{
     borrows, carries, complement, fits, low_bits, minus, negative, plus, power_of_two, quotient,
@@ -12,7 +13,7 @@ use vv_base::{Width, signed};
 /// C, bit 0.
 #[inline]
 fn carry_of(psw: u8) -> bool
-    ensures { result ≡ carry_of psw }
+    ensures { result ≡ is_set psw 0 }
 {
     psw % 2 == 1
 }
@@ -20,7 +21,7 @@ fn carry_of(psw: u8) -> bool
 /// IV, bit 5.
 #[inline]
 fn traps_overflow(psw: u8) -> bool
-    ensures { result ≡ traps_overflow psw }
+    ensures { result ≡ is_set psw 5 }
 {
     psw / 32 % 2 == 1
 }
@@ -64,7 +65,7 @@ fn exact(x: i64, w: Width, c: bool, psw: u8) -> Alu
 #[inline]
 fn plain(value: u32, w: Width, psw: u8) -> Alu
     requires { w ≢ Width.Quad }
-    ensures { result ≡ alu_of_result (logical_result w value (carry_of psw)) psw }
+    ensures { result ≡ alu_of_result (valued w value false (is_set psw 0)) psw }
 {
     valued(value, w, false, carry_of(psw), psw)
 }

@@ -1,10 +1,10 @@
 -- Protection codes: what each access mode may do under each of the sixteen
 -- (VAX Architecture Reference Manual, memory management: protection code).
-use Rattle.std.specs.Prelude.{ℕ, Bool, true, false, List, [], ◌∷◌, Option, Some, None, slice_get}
+use Rattle.std.specs.Prelude.{ℕ, Bool, true, false, List, [], ◌∷◌, slice_get, unwrap_or}
 use Rattle.vax_arch.specs.declared.mode.Mode.{Mode}
 use Rattle.vax_arch.specs.declared.mode.Mode.TheVariants.{Kernel, Executive, Supervisor, User}
 use Rattle.vax_arch.specs.declared.mode.Intent.{Intent}
-use Rattle.vax_arch.specs.declared.mode.Intent.TheVariants.{Read, Write}
+use Rattle.vax_arch.specs.declared.mode.Intent.TheVariants.{Read}
 
 -- what a mode may do: nothing, read, or read and write
 pub data Rights : Type 0 where
@@ -13,10 +13,9 @@ pub data Rights : Type 0 where
   rw : Rights
 
 abbrev pub rights_allow : Rights → Intent → Bool
-rights_allow no i = false
-rights_allow r Read = true
-rights_allow r Write = false
 rights_allow rw i = true
+rights_allow r Read = true
+rights_allow other i = false
 
 -- a row of the table: the rights of each mode
 pub record ProtectionRow : Type 0 where
@@ -49,10 +48,6 @@ protection_rows =
     ∷ protection_row r r r r  -- 15 UR
     ∷ []
 
-abbrev pub row_or_none : Option ProtectionRow → ProtectionRow
-row_or_none None = protection_row no no no no
-row_or_none (Some l) = l
-
 abbrev pub rights_in : ProtectionRow → Mode → Rights
 rights_in l Kernel = l.kernel
 rights_in l Executive = l.executive
@@ -61,4 +56,4 @@ rights_in l User = l.user
 
 -- whether the table allows it to a mode
 abbrev pub may_of : ℕ → Mode → Intent → Bool
-may_of code m i = rights_allow (rights_in (row_or_none (slice_get protection_rows code)) m) i
+may_of code m i = rights_allow (rights_in (unwrap_or (slice_get protection_rows code) (protection_row no no no no)) m) i

@@ -39,10 +39,8 @@ compressed_of code = slice_index compressed_codes code
 
 -- what the virtual machine allows to a mode: the manual's table, where executive has all that kernel has
 abbrev pub open_of : ℕ → Mode → Intent → Bool
-open_of code Kernel i = may_of code Kernel i
 open_of code Executive i = may_of code Executive i || may_of code Kernel i
-open_of code Supervisor i = may_of code Supervisor i
-open_of code User i = may_of code User i
+open_of code m i = may_of code m i
 
 -- The law of ring compression. Kernel mode shares real executive mode, and each other mode is itself, so that none runs in
 -- real kernel mode.

@@ -88,9 +88,7 @@ entry_at memory Beyond = None
 -- whether the modify bit of the entry that a look-up found is clear; with mapping off none is
 abbrev pub is_clear_at : List ℕ → Lookup → Bool
 is_clear_at memory (Found place table) = not (is_modified (long_at memory place))
-is_clear_at memory (Direct frame) = false
-is_clear_at memory (Fails not_valid parameter) = false
-is_clear_at memory Beyond = false
+is_clear_at memory other = false
 
 -- what an entry gives: its code is asked first, then whether it is valid, then its frame
 unfoldable pub granted : (ℕ → Mode → Intent → Bool) → ℕ → ℕ → Mode → Intent → Grant

@@ -28,10 +28,12 @@ use Rattle.vax_table.specs.Operations.{operation_of}
 use Rattle.vax_table.specs.Plan.{is_planned, plan_of, planned}
 use Rattle.vax_table.specs.declared.meaning.Operation.{Operation}
 use Rattle.vax_table.specs.declared.meaning.Operation.TheVariants as does
+use Rattle.vax_table.proofs.Acted.{instruction_is}
 use Rattle.vax_table.proofs.Plans.{plans_planned}
 use Rattle.vax_table.proofs.Scripts.{outcome_far}
 use Rattle.vax_table.specs.Tries.{first_clear, tried, tried_by, unless_clear}
-use Rattle.vax_table.specs.Whole.{Act, Meant, Plain, Probes, Traps, acted, acted_by, instruction, meant, plain_meaning}
+use Rattle.vax_table.specs.Whole.{Act, Meant, Plain, Probes, Traps, instruction, meant}
+use Rattle.vax_table.specs.Acted.{acted, acted_by, plain_meaning}
 use Rattle.vax_table.proofs.Tries.{tries_stores}
 use Rattle.vax_cpu.specs.Completed.{by_judgement, completed, completed_but_registers, completed_by, retired_by, retired_from, settled, settled_meaning, unless_modified, with_opcode, with_registers}
 use Rattle.vax_kept.specs.Fetched.{exits}
@@ -137,14 +139,14 @@ plan_found s kernel psl d r e plain h =
 pub known_found : (memory : List ℕ) (w : World) (ks : List Known) (kernel : Bool) (psl : ℕ) (r : List ℕ) (d : Instruction) (m : Meant) → AreKnown memory w ks →
     Ok d ≡ exits (outcome (paged memory w) (fetched (slice_index r 15))) → Ok m ≡ exits (outcome (known_space memory ks) (acted kernel psl d r)) →
     Ok m ≡ exits (outcome (paged memory w) (instruction kernel psl r))
-unfolding instruction
 known_found memory w ks kernel psl r d m all fetch acts =
     let s = known_space memory ks in
     let t = paged memory w in
     let act : outcome t (acted kernel psl d r) ≡ Ok m =
     as_far s t m (outcome s (acted kernel psl d r)) (outcome t (acted kernel psl d r)) (ok_is m (outcome s (acted kernel psl d r)) acts) (outcome_far s t (known_below memory w ks all) (acted kernel psl d r)) in
     let whole : outcome t (instruction kernel psl r) ≡ Ok m =
-    found_on t (fetched (slice_index r 15)) (λ x. acted kernel psl x r) d m (ok_is d (outcome t (fetched (slice_index r 15))) fetch) act in
+    ap (outcome t) (instruction_is kernel psl r)
+    ∙ found_on t (fetched (slice_index r 15)) (λ x. acted kernel psl x r) d m (ok_is d (outcome t (fetched (slice_index r 15))) fetch) act in
     sym (ap (λ (z : Result Meant Trouble). exits z) whole)
 
 -- the same of MOVPSL and PROBE, by what they are

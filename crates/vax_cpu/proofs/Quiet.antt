@@ -19,14 +19,17 @@ use Rattle.vax_table.specs.declared.meaning.Operation.{Operation}
 use Rattle.vax_table.specs.declared.meaning.Operation.TheVariants as does
 use Rattle.vax_table.specs.Claims.{Holds, claims}
 use Rattle.vax_table.specs.Fetch.{by_answer, decided, fetched}
-use Rattle.vax_table.specs.Operand.{address_of, address_operand, base_address, past_own_bytes, bits_operand, branch_operand, by_access, forms_in, operand_length, operand_of, operands_from, operands_of, read_operand, trap_forms, trap_operands, no_operands, with_operand}
+use Rattle.vax_table.specs.Operand.{address_of, address_operand, base_address, bits_operand, branch_operand, by_access, read_operand}
+use Rattle.vax_table.specs.AllOperands.{past_own_bytes, forms_in, operand_length, operand_of, operands_from, operands_of, trap_forms, trap_operands, no_operands, with_operand}
 use Rattle.vax_table.specs.Operations.{operation_of}
 use Rattle.vax_table.specs.Plan.{plan_of}
 use Rattle.vax_table.specs.Reading.{Answer, Whole, Short, Unknown, Reserved, decoded_at}
 use Rattle.vax_table.specs.Rows.{row_of}
 use Rattle.vax_table.specs.Interaction.{Interaction, Space, outcome, ◌>>=◌}
 use Rattle.vax_table.specs.Spelling.{Instruction}
-use Rattle.vax_table.specs.Whole.{Act, Meant, Plain, Probes, Traps, acted, acted_by, instruction, is_always_done, plain_meaning, probing, trapping}
+use Rattle.vax_table.specs.Whole.{Act, Meant, Plain, Probes, Traps, instruction, trapping}
+use Rattle.vax_table.specs.Acted.{acted, acted_by, plain_meaning, probing, is_always_done}
+use Rattle.vax_table.proofs.Acted.{instruction_is}
 use Rattle.vax_table.proofs.Claims.{holds-bind, holds_always, holds_made}
 use Rattle.vax_table.proofs.Tests.{if_both, le_of}
 
@@ -188,10 +191,9 @@ unfolding fetched
 fetched_holds at = decided_holds 22 at []
 
 whole_holds : (is_kernel : Bool) (psl : ℕ) (r : List ℕ) → Holds MeantClaims [] (instruction is_kernel psl r)
-unfolding instruction
 whole_holds is_kernel psl r =
-    holds-bind Nothing MeantClaims [] (fetched (slice_index r 15)) _ (fetched_holds (slice_index r 15))
-    (λ cs d e. at_none MeantClaims cs (acted is_kernel psl d r) e (acted_holds is_kernel psl d r))
+    subst (Holds MeantClaims []) (sym (instruction_is is_kernel psl r)) (holds-bind Nothing MeantClaims [] (fetched (slice_index r 15)) _ (fetched_holds (slice_index r 15))
+    (λ cs d e. at_none MeantClaims cs (acted is_kernel psl d r) e (acted_holds is_kernel psl d r)))
 
 -- what an instruction that was found claims
 pub found_claims : (is_kernel : Bool) (psl : ℕ) (r : List ℕ) (s : Space) (m : Meant) → outcome s (instruction is_kernel psl r) ≡ Ok m → MeantClaims (claims s (instruction is_kernel psl r)) m

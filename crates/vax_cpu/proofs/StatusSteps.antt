@@ -7,16 +7,18 @@ use Rattle.vax_table.specs.Arithmetic.{bit_of}
 use Rattle.vax_table.specs.Effects.{Effect, long_of}
 use Rattle.vax_table.specs.Fetch.{fetched}
 use Rattle.vax_table.specs.Interaction.{Done, Trouble, outcome}
-use Rattle.vax_table.specs.Operand.{operands_of, past_own_bytes}
+use Rattle.vax_table.specs.AllOperands.{operands_of, past_own_bytes}
 use Rattle.vax_table.specs.Operations.{operation_of}
 use Rattle.vax_table.specs.Plan.{plan_of}
 use Rattle.vax_table.specs.Spelling.{Instruction}
-use Rattle.vax_table.specs.Whole.{Act, Meant, Plain, Probes, acted, acted_by, instruction, meant}
+use Rattle.vax_table.specs.Whole.{Act, Meant, Plain, Probes, instruction, meant}
+use Rattle.vax_table.specs.Acted.{acted, acted_by}
 use Rattle.vax_table.specs.declared.evaluation.Operands.{Operands}
 use Rattle.vax_table.specs.declared.meaning.Operation.{Operation}
 use Rattle.vax_table.specs.declared.meaning.Operation.TheVariants.{MoveStatus}
 use Rattle.vax_kept.specs.Fetched.{exits}
 use Rattle.vax_normal.specs.Normal.{number_by, quietly}
+use Rattle.vax_table.proofs.Acted.{instruction_is}
 use Rattle.vax_normal.proofs.Touching.{found_on}
 use Rattle.vax_paged.specs.Paged.{paged}
 use Rattle.vax_normal.specs.ProbeTest.{IsProbeTest, operands_had}
@@ -27,10 +29,10 @@ use Rattle.vax_cpu.proofs.One.{attempt_retires, ok_is}
 -- an instruction that was found, where it is fetched
 whole_found : (m : Machine) (r : List ℕ) (d : Instruction) (x : Meant) → Ok d ≡ exits (outcome (paged m.memory m.world) (fetched (slice_index r 15))) →
     outcome (paged m.memory m.world) (acted (in_kernel m.world) (seen_psl m.world) d r) ≡ Ok x → outcome (paged m.memory m.world) (instruction (in_kernel m.world) (seen_psl m.world) r) ≡ Ok x
-unfolding instruction
 whole_found m r d x fetch acts =
     let t = paged m.memory m.world in
-    found_on t (fetched (slice_index r 15)) (λ z. acted (in_kernel m.world) (seen_psl m.world) z r) d x (ok_is d (outcome t (fetched (slice_index r 15))) fetch) acts
+    ap (outcome t) (instruction_is (in_kernel m.world) (seen_psl m.world) r)
+    ∙ found_on t (fetched (slice_index r 15)) (λ z. acted (in_kernel m.world) (seen_psl m.world) z r) d x (ok_is d (outcome t (fetched (slice_index r 15))) fetch) acts
 
 -- by what it was found to be, it retires
 found_retires : (m after : Machine) (r : List ℕ) (d : Instruction) (a : Act) (e : Effect) → Ok d ≡ exits (outcome (paged m.memory m.world) (fetched (slice_index r 15))) →

@@ -5,7 +5,8 @@ use Rattle.std.proofs.lemmas.Bool.{eq-eqb}
 use Rattle.vv_base.specs.declared.width.Width.TheVariants.{Long}
 use Rattle.vax_arch.specs.declared.mode.Intent.TheVariants as intents
 use Rattle.vax_table.specs.Interaction.{Interaction, Done, Touch, ◌>>=◌}
-use Rattle.vax_table.specs.Operand.{address_of, bits_operand, evaluated, forms_in, no_operands, operand_length, operand_of, operands_by, operands_from, operands_of, past_own_bytes, trap_forms, trap_operands, with_operand, written_operand}
+use Rattle.vax_table.specs.Operand.{address_of, bits_operand, evaluated, written_operand}
+use Rattle.vax_table.specs.AllOperands.{forms_in, no_operands, operand_length, operand_of, operands_by, operands_from, operands_of, past_own_bytes, trap_forms, trap_operands, with_operand}
 use Rattle.vax_table.specs.Rows.{row_of}
 use Rattle.vax_table.specs.Spelled.{value_size}
 use Rattle.vax_table.specs.Spelling.{Instruction}

@@ -2,12 +2,13 @@ ghost use Rattle.std.specs.Prelude.{◌≡◌, ◌<◌, ℕ, List, None, Ok, tru
 ghost use Rattle.arrayvec.specs.ArrayVec.{array_vec_len};
 ghost use Rattle.vax_table.specs.Effects.{effect, put};
 ghost use Rattle.vax_table.specs.Fetch.{fetched};
-ghost use Rattle.vax_table.specs.Operand.{operands_of, trap_operands};
+ghost use Rattle.vax_table.specs.AllOperands.{operands_of, trap_operands};
 ghost use Rattle.vax_table.specs.Operations.{operation_of};
 ghost use Rattle.vax_table.specs.Plan.{is_planned};
 ghost use Rattle.vax_table.specs.Interaction.{outcome};
 ghost use Rattle.vax_table.specs.Spelling.{IsWellFormed, view};
-ghost use Rattle.vax_table.specs.Whole.{acted, first_operand, instruction, is_always_done, meant, plain_meaning, probe_of, probing, trap_of, trapping};
+ghost use Rattle.vax_table.specs.Whole.{first_operand, instruction, meant, probe_of, trap_of, trapping};
+ghost use Rattle.vax_table.specs.Acted.{acted, plain_meaning, probing, is_always_done};
 ghost use Rattle.vax_table.specs.declared.effect.Plan.{Plan};
 ghost use Rattle.vax_table.specs.declared.evaluation.Operands.{Operands};
 ghost use Rattle.vax_table.specs.declared.meaning.Operation.TheVariants.{MoveStatus};
@@ -242,7 +243,7 @@ fn move_status<S: Space>(
 }
 
 /// PROBE after its operands, which go to `o` and the plan's registers.
-#[tactic(auto, unfolding(vax_table::specs::Whole::acted), using(vax_table::proofs::Scripts::binds))]
+#[tactic(auto, unfolding(vax_table::specs::Acted::acted), using(vax_table::proofs::Scripts::binds))]
 #[inline(always)]
 fn probes<S: Space>(
     s: &S,
@@ -261,7 +262,7 @@ fn probes<S: Space>(
 /// The outcome of an instruction that is kept, in kernel mode or not, with the PSL that MOVPSL stores. The plan's registers are
 /// those before it. Its operands go to `o`, and what it plans to `plan`; after an error, and where it traps, these are
 /// unspecified.
-#[tactic(auto, unfolding(vax_table::specs::Whole::acted, vax_table::specs::Plan::plan_of, vax_table::specs::Plan::performed), using(vax_table::proofs::Scripts::binds))]
+#[tactic(auto, unfolding(vax_table::specs::Acted::acted, vax_table::specs::Plan::plan_of, vax_table::specs::Plan::performed), using(vax_table::proofs::Scripts::binds))]
 #[inline(always)]
 pub fn carry_out<S: Space>(
     s: &S,
@@ -308,7 +309,7 @@ fn is_in_kernel(w: &World) -> bool
 
 /// The instruction at PC over a memory, and its outcome, with the plan's registers in place of the world's. It is kept,
 /// or taken where it was kept already.
-#[tactic(auto, unfolding(vax_table::specs::Whole::instruction), using(vax_table::proofs::Scripts::binds))]
+#[tactic(auto, using(vax_table::proofs::Acted::instruction_binds))]
 fn find(
     memory: &[u8],
     world: &World,

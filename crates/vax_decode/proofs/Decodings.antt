@@ -4,7 +4,7 @@ use Rattle.vax_table.specs.declared.forms.Form.{Form}
 use Rattle.vax_table.specs.declared.decoded.Spec.{Spec}
 use Rattle.vax_table.specs.declared.decoded.Decoded.{Decoded}
 use Rattle.vax_table.specs.Spelling.{AreBytes, Operands, view, Spells}
-use Rattle.vax_table.specs.Reading.{operands_at, GotAll, Answer, Whole, Short, Unknown, Reserved, decoded_at, IsAnswerFor}
+use Rattle.vax_table.specs.Reading.{operands_at, Got, Answer, Whole, Short, Unknown, Reserved, decoded_at, IsAnswerFor}
 use Rattle.vax_table.proofs.Operands.{ReadsAll, operands_read}
 use Rattle.vax_table.proofs.Lengths.{operands_nine}
 use Rattle.vax_table.proofs.Instructions.{reading_exact}
@@ -14,7 +14,7 @@ use Rattle.vax_decode.specs.declared.outcome.DecodeFault.TheVariants.{Opcode, Ad
 use Rattle.vax_decode.specs.Decoding.{Decodes, IsWhole, IsAnswer}
 
 -- how many bytes the operands took
-pub left_over : (fs : List Form) (bs : List ℕ) (ss : List Spec) (rest : List ℕ) → AreBytes bs → operands_at fs bs ≡ GotAll ss rest → (length rest ≤ length bs) × (length bs ≤ length rest + 9 * length fs)
+pub left_over : (fs : List Form) (bs : List ℕ) (ss : List Spec) (rest : List ℕ) → AreBytes bs → operands_at fs bs ≡ Got ss rest → (length rest ≤ length bs) × (length bs ≤ length rest + 9 * length fs)
 left_over fs bs ss rest h e =
     let m : (front : List ℕ) × (bs ≡ front ++ rest) × Operands fs front ss = subst (λ o. ReadsAll fs bs o) e (operands_read fs bs h) in
     let whole : length bs ≡ length (m.0 ++ rest) = ap length m.1 in

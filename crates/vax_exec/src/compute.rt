@@ -1,6 +1,7 @@
 ghost use Rattle.std.specs.Prelude.{◌≡◌, ◌≢◌, ◌<◌, ◌-◌, List, ℕ, slice_set};
 ghost use Rattle.arrayvec.specs.ArrayVec.{array_vec_len};
-ghost use Rattle.vax_table.specs.Computing.{computed, first_input, moved_quad, second_input, target_of};
+ghost use Rattle.vax_table.specs.Computing.{moved_quad};
+ghost use Rattle.vax_table.specs.Operations.{computed, first_input, second_input, target_of};
 ghost use Rattle.vax_table.specs.Effects.{dest_of, effect, put};
 ghost use Rattle.vax_table.specs.Operand.{extended};
 ghost use Rattle.vax_table.specs.declared.act.Dest.TheVariants.{Nowhere};
@@ -92,7 +93,7 @@ fn put_result(target: Target, o: &Values, w: Width, value: u32, plan: &mut Plan)
 
 /// An operation of the arithmetic in a width.
 #[inline(always)]
-#[tactic(auto, unfolding(vax_table::specs::Computing::computed))]
+#[tactic(auto, unfolding(vax_table::specs::Operations::computed))]
 pub fn compute(
     op: AluOp,
     w: Width,

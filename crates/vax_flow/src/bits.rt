@@ -1,6 +1,7 @@
 ghost use Rattle.std.specs.Prelude.{◌≡◌, ◌<◌, ◌%◌, IfOk};
 ghost use Rattle.arrayvec.specs.ArrayVec.{array_vec_len};
-ghost use Rattle.vax_table.specs.Branches.{bit, bit_intent, bit_tested, branched_on_bit, byte_of_bit, with_bit};
+ghost use Rattle.vv_base.specs.Bits.{is_set};
+ghost use Rattle.vax_table.specs.Branches.{bit_intent, bit_tested, branched_on_bit, byte_of_bit, with_bit};
 ghost use Rattle.vax_table.specs.Effects.{effect};
 ghost use Rattle.vax_table.specs.Interaction.{number_at, outcome};
 ghost use Rattle.vax_table.specs.Troubles.{with_trouble};
@@ -15,7 +16,7 @@ use vv_base::Width;
 /// Whether bit k of a longword is set.
 fn has(n: u32, k: u32) -> bool
     requires { k < 32 }
-    ensures { result ≡ bit k n }
+    ensures { result ≡ is_set n k }
 {
     (n >> k) % 2 == 1
 }

@@ -1,5 +1,7 @@
 ghost use Rattle.std.specs.Prelude.{◌≡◌, ◌≢◌, ◌<◌, ◌^◌};
-ghost use Rattle.vax_table.specs.Branches.{bit, branched, branched_on_low_bit, called_subroutine, cased, comes_out, holds, left_subroutine};
+ghost use Rattle.vv_base.specs.Bits.{is_set};
+ghost use Rattle.vax_table.specs.Branches.{branched_on_low_bit, called_subroutine, cased, comes_out, left_subroutine};
+ghost use Rattle.vax_table.specs.Operations.{branched, holds};
 ghost use Rattle.vax_table.specs.Effects.{effect};
 ghost use Rattle.vax_table.specs.Operand.{extended};
 ghost use Rattle.vax_table.specs.Interaction.{outcome};
@@ -16,7 +18,7 @@ use vv_base::Width;
 /// Whether bit k of a status word is set.
 fn has(psw: u8, k: u32) -> bool
     requires { k < 8 }
-    ensures { result ≡ bit k psw }
+    ensures { result ≡ is_set psw k }
 {
     (psw >> k) % 2 == 1
 }
@@ -44,7 +46,7 @@ pub fn holds(condition: Condition, psw: u8) -> bool
 
 /// A branch, and JMP.
 #[inline(always)]
-#[tactic(auto, unfolding(vax_table::specs::Branches::branched))]
+#[tactic(auto, unfolding(vax_table::specs::Operations::branched))]
 pub fn branch(condition: Condition, o: &Values, psw: u8, plan: &mut Plan)
     ensures { effect plan.new ≡ branched condition (operands_with_registers o.now plan.old.r) psw }
 {

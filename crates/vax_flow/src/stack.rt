@@ -4,7 +4,8 @@ ghost use Rattle.vax_table.specs.Calls.{registers_popped, registers_pushed, valu
 ghost use Rattle.vax_table.specs.Computing.{operand_pushed};
 ghost use Rattle.vax_table.specs.Effects.{effect};
 ghost use Rattle.vax_table.specs.Interaction.{outcome};
-ghost use Rattle.vax_table.specs.Stack.{does_name, named_down, named_up, pop, pop_all, push, push_all};
+ghost use Rattle.vv_base.specs.Bits.{is_set};
+ghost use Rattle.vax_table.specs.Stack.{named_down, named_up, pop, pop_all, push, push_all};
 ghost use Rattle.vax_operand.specs.Left.{left, operands_with_registers};
 
 use crate::begun::begin;
@@ -43,7 +44,7 @@ pub fn pop<S: Space>(space: &S, place: &mut Place, n: usize) -> Result<(), Troub
 /// Whether a mask names a register.
 fn does_name(mask: u32, n: u32) -> bool
     requires { n < 32 }
-    ensures { result ≡ does_name mask n }
+    ensures { result ≡ is_set mask n }
 {
     (mask >> n) % 2 == 1
 }

@@ -10,15 +10,15 @@ use Rattle.vax_hw.specs.declared.world.Exit.{Exit}
 use Rattle.vax_hw.specs.declared.world.Exit.TheVariants.{Arithmetic, Budget, Denied, Emulate, Modify, NotValid, Refused}
 use Rattle.vax_hw.specs.declared.world.World.{World}
 use Rattle.vax_table.specs.Arithmetic.{alu_of}
-use Rattle.vax_table.specs.Computing.{computed, moved_quad}
+use Rattle.vax_table.specs.Computing.{moved_quad}
 use Rattle.vax_table.specs.Fetch.{decided, fetched}
-use Rattle.vax_table.specs.Operand.{address_of, address_operand, base_address, modified_operand, operand_of, operands_of, read_operand, trap_operands, written_operand}
-use Rattle.vax_table.specs.Operations.{operation_of}
-use Rattle.vax_table.specs.Plan.{performed, plan_of}
+use Rattle.vax_table.specs.Operand.{address_of, address_operand, base_address, modified_operand, read_operand, written_operand}
+use Rattle.vax_table.specs.AllOperands.{operand_of, operands_of, trap_operands}
+use Rattle.vax_table.specs.InstructionSet.{opcode_meaning}
 use Rattle.vax_table.specs.Reading.{decoded_at, indexed_at, operand_at, specifier_at, specifier_by}
 use Rattle.vax_table.specs.Rows.{row_of}
 use Rattle.vax_table.specs.Spelled.{value_size}
-use Rattle.vax_table.specs.Whole.{acted, instruction}
+use Rattle.vax_table.specs.Whole.{instruction}
 use Rattle.vax_table.specs.declared.act.Dest.TheVariants.{Nowhere}
 use Rattle.vax_table.specs.declared.act.Refusal.TheVariants as refusals
 use Rattle.vax_table.specs.declared.act.Sens.TheVariants.{Halt, Prober}
@@ -27,8 +27,8 @@ use Rattle.vax_table.specs.declared.act.Sens.TheVariants.{Halt, Prober}
 unfoldable pub whole_run : ℕ → Machine → Machine × Exit
 unfolding
     machine_step retire place_in real_look access_judged lookup mapped_entry process_entry system_entry granted
-    instruction fetched decided decoded_at acted plan_of performed row_of operation_of operands_of operand_of
-    read_operand modified_operand written_operand address_operand address_of base_address value_size computed alu_of
+    instruction fetched decided decoded_at opcode_meaning row_of operands_of operand_of
+    read_operand modified_operand written_operand address_operand address_of base_address value_size alu_of
     trap_operands operand_at specifier_at specifier_by indexed_at moved_quad
 whole_run budget m = real budget m
 

@@ -4,12 +4,12 @@ use Rattle.std.specs.Prelude.{◌%◌, nat_lt, if◌then◌else◌}
 use Rattle.vv_base.specs.declared.width.Width.{Width}
 use Rattle.vv_base.specs.declared.width.Width.TheVariants.{Byte, Word, Long, Quad}
 use Rattle.vv_base.specs.Width.{size_of}
-use Rattle.vax_table.specs.Branches.{added_one, bit_in, bit_tested, branched, branched_on_bit, branched_on_low_bit, byte_of_bit, holds, keeping_c, looped, subtracted_one, with_bit}
+use Rattle.vax_table.specs.Branches.{added_one, bit_in, bit_tested, branched_on_bit, branched_on_low_bit, byte_of_bit, keeping_c, looped, subtracted_one, with_bit}
 use Rattle.vax_table.specs.Claims.{Holds}
-use Rattle.vax_table.specs.Computing.{computed}
 use Rattle.vax_table.specs.Effects.{Effect, begun, dest_of, long_of, put, went_if}
-use Rattle.vax_table.specs.Operand.{forms_in, indexed_by, no_operands, operand_of, operands_of, past_own_bytes, with_operand}
-use Rattle.vax_table.specs.Operations.{operation_of}
+use Rattle.vax_table.specs.Operand.{indexed_by}
+use Rattle.vax_table.specs.AllOperands.{forms_in, no_operands, operand_of, operands_of, past_own_bytes, with_operand}
+use Rattle.vax_table.specs.Operations.{operation_of, computed, branched, holds}
 use Rattle.vax_table.specs.Plan.{performed, planned}
 use Rattle.vax_table.specs.Rows.{row_of}
 use Rattle.vax_table.specs.Interaction.{Done, Refuse, Space, outcome}

@@ -10,11 +10,13 @@ use Rattle.std.proofs.lemmas.Nat.Bits.{and_pow, bit_at_and, bit_at_ones}
 use Rattle.vv_base.specs.declared.width.Width.{Width}
 use Rattle.vv_base.specs.declared.width.Width.TheVariants.{Long}
 use Rattle.vax_table.specs.Arithmetic.{alu_of}
-use Rattle.vax_table.specs.Branches.{bit, bit_in, branched, branched_on_bit, branched_on_low_bit, comes_out, holds, keeping_c, subtracted_one}
-use Rattle.vax_table.specs.Computing.{computed, first_input, second_input, target_of}
+use Rattle.vv_base.specs.Bits.{is_set}
+use Rattle.vax_table.specs.Branches.{bit_in, branched_on_bit, branched_on_low_bit, comes_out, keeping_c, subtracted_one}
+use Rattle.vax_table.specs.Operations.{computed, first_input, second_input, target_of, branched, holds}
 use Rattle.vax_table.specs.Effects.{Effect, begun, long_of, put, put_in_register, went_if}
 use Rattle.vax_table.specs.Interaction.{Done, Interaction, Refuse}
-use Rattle.vax_table.specs.Operand.{past_own_bytes, plus}
+use Rattle.vax_table.specs.Operand.{plus}
+use Rattle.vax_table.specs.AllOperands.{past_own_bytes}
 use Rattle.vax_table.specs.Plan.{performed}
 use Rattle.vax_table.specs.declared.act.Dest.{Dest}
 use Rattle.vax_table.specs.declared.act.Dest.TheVariants.{Nowhere, Register}
@@ -80,17 +82,17 @@ one_bit (suc zero) p low some =
     ap (λ (v : ℕ). not (v == 0)) whole ∙ ap not no
 one_bit (suc (suc m)) p low some = absurd (omega arith)
 
-by_mask : (n k : ℕ) → bit k n ≡ has_bits (2 ^ k) n
+by_mask : (n k : ℕ) → is_set n k ≡ has_bits (2 ^ k) n
 by_mask n k =
     let some : 2 ^ k ≢ 0 = λ g. omega (arith, g, pow_pos k) in
     let low : bit_at n k < 2 = omega arith in
     sym (ap (λ (v : ℕ). not (v == 0)) (and_pow n k) ∙ one_bit (bit_at n k) (2 ^ k) low some)
 
-bit_of_longword : (x k : ℕ) → k < 32 → bit k x ≡ bit k (x % 2 ^ 32)
+bit_of_longword : (x k : ℕ) → k < 32 → is_set x k ≡ is_set (x % 2 ^ 32) k
 bit_of_longword x k low =
     let most : bit_at x k ≤ 1 = omega arith in
     let kept : bit_at (bit_and x (2 ^ 32 - 1)) k ≡ bit_at x k = bit_at_and x (2 ^ 32 - 1) k ∙ ap (λ (m : ℕ). min (bit_at x k) m) (bit_at_ones 32 k low) ∙ min-eq_left most in
-    ap (λ (m : ℕ). m == 1) (sym kept) ∙ ap (bit k) (and_mask x 32)
+    ap (λ (m : ℕ). m == 1) (sym kept) ∙ ap (λ (m : ℕ). is_set m k) (and_mask x 32)
 
 -- where a branch operand leads
 pub leads : (x : Operand) (d : ℕ) (q : List ℕ) → x.kind ≡ Branch d → value_at_hand x.kind x.form.width x.spec q ≡ plus (slice_index q 15) d
@@ -118,7 +120,7 @@ low_bit_done on x y n d k jump is by has r q psw room alike pc =
     let first : long_of o 0 ≡ number_by n r = has r (past_own_bytes x.length q) (alike_on r q x.length alike) in
     let to : long_of o 1 ≡ plus (slice_index o.r 15) d % 2 ^ 32 = ap (λ (m : ℕ). m % 2 ^ 32) (leads y d o.r is) in
     ap (λ (z : Effect). Done z)
-    (ap (λ (m : ℕ). went_if (comes_out on (bit 0 m)) (long_of o 1) (begun o psw)) first ∙ ap (λ (b : Bool). went_if (comes_out on b) (long_of o 1) (begun o psw)) (by_mask (number_by n r) 0)
+    (ap (λ (m : ℕ). went_if (comes_out on (is_set m 0)) (long_of o 1) (begun o psw)) first ∙ ap (λ (b : Bool). went_if (comes_out on b) (long_of o 1) (begun o psw)) (by_mask (number_by n r) 0)
     ∙ went_on (comes_out on (has_bits 1 (number_by n r))) r o.r d k jump (long_of o 1) psw room pc to by)
 
 pub bit_done : (on : Bool) (x y z : Operand) (n : Number) (d k jump : ℕ) → x.kind ≡ Constant → x.spec.value < 32 → y.kind ≡ BitsRegister → y.spec.reg < 15 → z.kind ≡ Branch d → jump ≡ (d + k) % 2 ^ 32 →
@@ -134,12 +136,12 @@ bit_done on x y z n d k jump fixed few held low is by has r q psw room alike pc 
     let dest : slice_index_or o.dests 1 Nowhere ≡ Register reg = ap (λ (w : Kind). dest_at_hand w reg) held in
     let to : long_of o 2 ≡ plus (slice_index o.r 15) d % 2 ^ 32 = ap (λ (m : ℕ). m % 2 ^ 32) (leads z d o.r is) in
     let same : slice_index o.r reg ≡ slice_index r reg = ap (λ (xs : List ℕ). slice_index xs reg) pc ∙ pc_alone r _ reg low in
-    let tested : bit p (slice_index o.r reg) ≡ has_bits (2 ^ p) (number_by n r) =
-    ap (bit p) same ∙ bit_of_longword (slice_index r reg) p few ∙ by_mask (slice_index r reg % 2 ^ 32) p ∙ ap (has_bits (2 ^ p)) (sym (has r)) in
+    let tested : is_set (slice_index o.r reg) p ≡ has_bits (2 ^ p) (number_by n r) =
+    ap (λ (m : ℕ). is_set m p) same ∙ bit_of_longword (slice_index r reg) p few ∙ by_mask (slice_index r reg % 2 ^ 32) p ∙ ap (has_bits (2 ^ p)) (sym (has r)) in
     let within : nat_lt p 32 ≡ true = lt-ltb p 32 few in
     let went : Bool → Effect = λ b. went_if (comes_out on b) (long_of o 2) (begun o psw) in
     ap (λ (t : Dest). bit_in on None t (long_of o 0) (long_of o 2) (begun o psw)) dest ∙ ap (λ (m : ℕ). bit_in on None (Register reg) m (long_of o 2) (begun o psw)) position
-    ∙ ap (λ (b : Bool). let i : Interaction Effect = if b then Done (went (bit p (slice_index o.r reg))) else Refuse refusals.Operand in i) within
+    ∙ ap (λ (b : Bool). let i : Interaction Effect = if b then Done (went (is_set (slice_index o.r reg) p)) else Refuse refusals.Operand in i) within
     ∙ ap (λ (z : Effect). Done z) (ap went tested ∙ went_on (comes_out on (has_bits (2 ^ p) (number_by n r))) r o.r d k jump (long_of o 2) psw room pc to by)
 
 pub nothing_done : (k : ℕ) (xs : List Operand) → IsDoneBy (Branches Always k) k does.Nothing xs

@@ -6,11 +6,11 @@ use Rattle.vv_base.specs.Width.{size_of}
 use Rattle.vax_arch.specs.declared.mode.Intent.{Intent}
 use Rattle.vax_arch.specs.declared.mode.Intent.TheVariants as intents
 use Rattle.vax_table.specs.Arithmetic.{alu_of}
-use Rattle.vax_table.specs.Computing.{computed, first_input, second_input, target_of}
 use Rattle.vax_table.specs.Effects.{Effect, put, store}
 use Rattle.vax_table.specs.Interaction.{Done, Interaction, Space, Touch, Trouble, bind_result, number_at, outcome, ◌>>=◌}
-use Rattle.vax_table.specs.Operand.{evaluated, forms_in, indexed_by, no_operands, operand_of, operands_of, past_own_bytes, place, plus, with_operand}
-use Rattle.vax_table.specs.Operations.{operation_of}
+use Rattle.vax_table.specs.Operand.{evaluated, indexed_by, place, plus}
+use Rattle.vax_table.specs.AllOperands.{forms_in, no_operands, operand_of, operands_of, past_own_bytes, with_operand}
+use Rattle.vax_table.specs.Operations.{operation_of, computed, first_input, second_input, target_of}
 use Rattle.vax_table.specs.Plan.{performed, planned}
 use Rattle.vax_table.specs.Rows.{row_of}
 use Rattle.vax_table.specs.Spelling.{Instruction, IsWellFormed}

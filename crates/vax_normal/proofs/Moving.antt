@@ -6,7 +6,8 @@ use Rattle.vax_table.specs.Arithmetic.{alu_of}
 use Rattle.vax_table.specs.Computing.{moved_quad}
 use Rattle.vax_table.specs.Effects.{Effect}
 use Rattle.vax_table.specs.Interaction.{Done, outcome}
-use Rattle.vax_table.specs.Operand.{forms_in, past_own_bytes, register_value}
+use Rattle.vax_table.specs.Operand.{register_value}
+use Rattle.vax_table.specs.AllOperands.{forms_in, past_own_bytes}
 use Rattle.vax_table.specs.Operations.{operation_of}
 use Rattle.vax_table.specs.Plan.{performed}
 use Rattle.vax_table.specs.Rows.{row_of}

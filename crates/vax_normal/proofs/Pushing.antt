@@ -8,7 +8,8 @@ use Rattle.vax_table.specs.Arithmetic.{alu_of}
 use Rattle.vax_table.specs.Computing.{operand_pushed}
 use Rattle.vax_table.specs.Effects.{Effect, long_of, store}
 use Rattle.vax_table.specs.Interaction.{Space, Trouble, bind_result, number_at, outcome}
-use Rattle.vax_table.specs.Operand.{minus, past_own_bytes, plus}
+use Rattle.vax_table.specs.Operand.{minus, plus}
+use Rattle.vax_table.specs.AllOperands.{past_own_bytes}
 use Rattle.vax_table.specs.Plan.{performed}
 use Rattle.vax_table.specs.Stack.{push}
 use Rattle.vax_table.specs.declared.answer.AluOp.{AluOp}

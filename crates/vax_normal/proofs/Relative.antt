@@ -5,7 +5,8 @@ use Rattle.std.proofs.lemmas.Nat.{and_mask}
 use Rattle.vv_base.specs.declared.width.Width.{Width}
 use Rattle.vv_base.specs.Width.{size_of}
 use Rattle.vax_table.specs.Effects.{long_of}
-use Rattle.vax_table.specs.Operand.{no_operands, past_own_bytes, plus, with_operand}
+use Rattle.vax_table.specs.Operand.{plus}
+use Rattle.vax_table.specs.AllOperands.{no_operands, past_own_bytes, with_operand}
 use Rattle.vax_table.specs.declared.decoded.Spec.{Spec}
 use Rattle.vax_table.specs.declared.evaluation.Evaluated.{Evaluated}
 use Rattle.vax_table.specs.declared.evaluation.Operands.{Operands}

@@ -8,7 +8,7 @@ use Rattle.vax_table.specs.declared.meaning.Operation.{Operation}
 use Rattle.vax_table.specs.declared.meaning.Operation.TheVariants.{MoveStatus, Probe}
 use Rattle.vax_table.specs.Effects.{Effect, begun, dest_of, long_of, put, put_in_register}
 use Rattle.vax_table.specs.Interaction.{Done, Interaction, Trouble, outcome, ◌>>=◌}
-use Rattle.vax_table.specs.Operand.{forms_in, operands_of, past_own_bytes}
+use Rattle.vax_table.specs.AllOperands.{forms_in, operands_of, past_own_bytes}
 use Rattle.vax_table.specs.Operations.{operation_of}
 use Rattle.vax_table.specs.Plan.{performed_with, plan_of}
 use Rattle.vax_table.specs.Rows.{row_of}

@@ -3,11 +3,11 @@ use Rattle.std.proofs.Common.{◌≡◌, ◌≢◌, ℕ, ◌<◌, Bool, true, fa
 use Rattle.std.specs.Prelude.{◌==◌, if◌then◌else◌, IfSome}
 use Rattle.std.proofs.Math.ListN.{length-set}
 use Rattle.vax_table.specs.Arithmetic.{alu_of}
-use Rattle.vax_table.specs.Computing.{computed, first_input, second_input, target_of}
 use Rattle.vax_table.specs.Effects.{Effect, put}
 use Rattle.vax_table.specs.Interaction.{Done, Space, outcome}
-use Rattle.vax_table.specs.Operand.{forms_in, no_operands, operands_of, past_own_bytes, plus}
-use Rattle.vax_table.specs.Operations.{operation_of}
+use Rattle.vax_table.specs.Operand.{plus}
+use Rattle.vax_table.specs.AllOperands.{forms_in, no_operands, operands_of, past_own_bytes}
+use Rattle.vax_table.specs.Operations.{operation_of, computed, first_input, second_input, target_of}
 use Rattle.vax_table.specs.Plan.{performed, planned}
 use Rattle.vax_table.specs.Rows.{row_of}
 use Rattle.vax_table.specs.Spelling.{Instruction, IsWellFormed}

@@ -6,7 +6,8 @@ use Rattle.vv_base.specs.declared.width.Width.TheVariants.{Long}
 use Rattle.vax_table.specs.Branches.{called_subroutine, left_subroutine}
 use Rattle.vax_table.specs.Effects.{Effect, long_of, store}
 use Rattle.vax_table.specs.Interaction.{Space, Trouble, bind_result, number_at, outcome}
-use Rattle.vax_table.specs.Operand.{forms_in, minus, past_own_bytes, plus}
+use Rattle.vax_table.specs.Operand.{minus, plus}
+use Rattle.vax_table.specs.AllOperands.{forms_in, past_own_bytes}
 use Rattle.vax_table.specs.Operations.{operation_of}
 use Rattle.vax_table.specs.Plan.{performed}
 use Rattle.vax_table.specs.Rows.{row_of}

@@ -12,7 +12,8 @@ use Rattle.vax_table.specs.declared.evaluation.Operands.{Operands}
 use Rattle.vax_table.specs.declared.meaning.Operation.{Operation}
 use Rattle.vax_table.specs.Claims.{Holds}
 use Rattle.vax_table.specs.Interaction.{Done, Interaction, outcome, ◌>>=◌}
-use Rattle.vax_table.specs.Operand.{evaluated, forms_in, indexed_by, no_operands, operand_of, operands_of, past_own_bytes, place, plus, with_operand}
+use Rattle.vax_table.specs.Operand.{evaluated, indexed_by, place, plus}
+use Rattle.vax_table.specs.AllOperands.{forms_in, no_operands, operand_of, operands_of, past_own_bytes, with_operand}
 use Rattle.vax_table.specs.Operations.{operation_of}
 use Rattle.vax_table.specs.Plan.{performed, planned}
 use Rattle.vax_table.specs.Rows.{row_of}

@@ -11,7 +11,8 @@ use Rattle.vax_table.specs.declared.evaluation.Evaluated.{Evaluated}
 use Rattle.vax_table.specs.declared.evaluation.Operands.{Operands}
 use Rattle.vax_table.specs.declared.evaluation.Place.{Place}
 use Rattle.vax_table.specs.Interaction.{Done, Interaction, Space, Touch, Trouble, bind_result, number_at, outcome, ◌>>=◌}
-use Rattle.vax_table.specs.Operand.{evaluated, no_operands, operand_of, past_own_bytes, plus, with_operand}
+use Rattle.vax_table.specs.Operand.{evaluated, plus}
+use Rattle.vax_table.specs.AllOperands.{no_operands, operand_of, past_own_bytes, with_operand}
 use Rattle.vax_table.proofs.Scripts.{outcome-bind}
 use Rattle.vax_operand.specs.declared.kind.Base.{Base}
 use Rattle.vax_operand.specs.declared.kind.Kind.{Kind}

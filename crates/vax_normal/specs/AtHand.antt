@@ -9,7 +9,8 @@ use Rattle.vax_table.specs.Effects.{Effect, put}
 use Rattle.vax_table.specs.declared.evaluation.Operands.{Operands}
 use Rattle.vax_table.specs.declared.meaning.Operation.{Operation}
 use Rattle.vax_table.specs.Interaction.{Done}
-use Rattle.vax_table.specs.Operand.{evaluated, indexed_by, no_operands, past_own_bytes, place, plus, register_value, with_operand}
+use Rattle.vax_table.specs.Operand.{evaluated, indexed_by, place, plus, register_value}
+use Rattle.vax_table.specs.AllOperands.{no_operands, past_own_bytes, with_operand}
 use Rattle.vax_table.specs.Plan.{performed}
 use Rattle.vax_operand.specs.declared.kind.Base.{Base}
 use Rattle.vax_operand.specs.declared.kind.Base.TheVariants.{Deferred, Absolute, Displaced}

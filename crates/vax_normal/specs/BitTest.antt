@@ -1,7 +1,8 @@
 -- What BBS and BBC of memory in normal form do.
 use Rattle.std.specs.Prelude.{◌≡◌, ℕ, ◌%◌, ◌^◌, List, length, Ok}
 use Rattle.vax_arch.specs.declared.mode.Intent.TheVariants.{Read}
-use Rattle.vax_table.specs.Branches.{bit, byte_of_bit, comes_out}
+use Rattle.vv_base.specs.Bits.{is_set}
+use Rattle.vax_table.specs.Branches.{byte_of_bit, comes_out}
 use Rattle.vax_table.specs.Interaction.{Done, Space, number_at, outcome}
 use Rattle.vax_table.specs.Operand.{evaluated}
 use Rattle.vax_table.specs.Plan.{planned}
@@ -28,7 +29,7 @@ bit_address n r = byte_of_bit (number_by n.base r) (number_by n.position r)
 
 -- the registers after it, where this is that byte
 abbrev pub bit_tested_in : BitTest → (byte : ℕ) → List ℕ → List ℕ
-bit_tested_in n byte r = gone_on (comes_out n.on (bit (number_by n.position r % 8) byte)) n.jump n.length r
+bit_tested_in n byte r = gone_on (comes_out n.on (is_set byte (number_by n.position r % 8))) n.jump n.length r
 
 -- it is what an instruction does, wherever the byte can be read; the codes stay
 abbrev pub IsBitTest : BitTest → Instruction → Type 0

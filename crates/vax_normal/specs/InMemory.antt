@@ -9,7 +9,8 @@ use Rattle.vax_arch.specs.declared.mode.Intent.TheVariants as intents
 use Rattle.vax_table.specs.Arithmetic.{alu_of}
 use Rattle.vax_table.specs.Effects.{Effect, store}
 use Rattle.vax_table.specs.Interaction.{Space, number_at, outcome}
-use Rattle.vax_table.specs.Operand.{past_own_bytes, plus}
+use Rattle.vax_table.specs.Operand.{plus}
+use Rattle.vax_table.specs.AllOperands.{past_own_bytes}
 use Rattle.vax_table.specs.Plan.{planned}
 use Rattle.vax_table.specs.Spelling.{Instruction}
 use Rattle.vax_table.specs.declared.effect.Store.{Store}

@@ -8,7 +8,8 @@ use Rattle.vax_arch.specs.declared.mode.Intent.TheVariants.{Read, Write}
 use Rattle.vax_table.specs.Arithmetic.{alu_of}
 use Rattle.vax_table.specs.Effects.{Effect, store}
 use Rattle.vax_table.specs.Interaction.{Done, Space, number_at, outcome}
-use Rattle.vax_table.specs.Operand.{evaluated, operands_from, past_own_bytes, place, plus}
+use Rattle.vax_table.specs.Operand.{evaluated, place, plus}
+use Rattle.vax_table.specs.AllOperands.{operands_from, past_own_bytes}
 use Rattle.vax_table.specs.Plan.{performed, planned}
 use Rattle.vax_table.specs.Spelling.{Instruction}
 use Rattle.vax_table.specs.declared.decoded.Spec.{Spec}

@@ -5,12 +5,14 @@ use Rattle.std.proofs.Props.{props}
 use Rattle.vv_base.specs.declared.width.Width.{Width}
 use Rattle.vv_base.specs.declared.width.Width.TheVariants.{Long}
 use Rattle.vax_table.specs.Arithmetic.{alu_of}
-use Rattle.vax_table.specs.Branches.{comes_out, holds, is_at_most, is_less, keeping_c}
+use Rattle.vax_table.specs.Branches.{comes_out, is_at_most, is_less, keeping_c}
+use Rattle.vax_table.specs.Operations.{holds}
 use Rattle.vax_table.specs.Effects.{Effect, put_in_register}
 use Rattle.vax_table.specs.Interaction.{Space, outcome}
 use Rattle.vax_table.specs.Plan.{planned}
 use Rattle.vax_table.specs.Spelling.{Instruction}
-use Rattle.vax_table.specs.Operand.{past_own_bytes, plus}
+use Rattle.vax_table.specs.Operand.{plus}
+use Rattle.vax_table.specs.AllOperands.{past_own_bytes}
 use Rattle.vax_table.specs.declared.answer.AluOp.TheVariants.{Sub}
 use Rattle.vax_normal.specs.declared.shape.Number.{Number}
 use Rattle.vax_normal.specs.declared.shape.Computation.{Computation}

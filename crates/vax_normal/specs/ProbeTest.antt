@@ -3,7 +3,7 @@
 use Rattle.std.specs.Prelude.{◌≡◌, ℕ, List, [], length, Result, Ok, Err}
 use Rattle.vax_table.specs.Effects.{long_of}
 use Rattle.vax_table.specs.Interaction.{Space, Trouble, outcome}
-use Rattle.vax_table.specs.Operand.{no_operands, operands_of, past_own_bytes}
+use Rattle.vax_table.specs.AllOperands.{no_operands, operands_of, past_own_bytes}
 use Rattle.vax_table.specs.Operations.{operation_of}
 use Rattle.vax_table.specs.Spelling.{Instruction}
 use Rattle.vax_table.specs.declared.evaluation.Operands.{Operands}

@@ -5,7 +5,8 @@ use Rattle.vv_base.specs.declared.width.Width.TheVariants.{Quad}
 use Rattle.vax_table.specs.Arithmetic.{alu_of}
 use Rattle.vax_table.specs.Effects.{Effect}
 use Rattle.vax_table.specs.Interaction.{Space, outcome}
-use Rattle.vax_table.specs.Operand.{past_own_bytes, register_value}
+use Rattle.vax_table.specs.Operand.{register_value}
+use Rattle.vax_table.specs.AllOperands.{past_own_bytes}
 use Rattle.vax_table.specs.Plan.{planned}
 use Rattle.vax_table.specs.Spelling.{Instruction}
 use Rattle.vax_table.specs.declared.answer.AluOp.TheVariants.{Move}

@@ -4,7 +4,7 @@ use Rattle.vv_base.specs.declared.width.Width.TheVariants.{Byte, Word, Long}
 use Rattle.vax_table.specs.Arithmetic.{alu_of}
 use Rattle.vax_table.specs.Branches.{bit_in}
 use Rattle.vax_table.specs.Interaction.{Refuse}
-use Rattle.vax_table.specs.Operand.{past_own_bytes}
+use Rattle.vax_table.specs.AllOperands.{past_own_bytes}
 use Rattle.vax_table.specs.declared.act.Dest.TheVariants.{Register}
 use Rattle.vax_table.specs.declared.act.Refusal.TheVariants.{Operand}
 use Rattle.vax_table.specs.declared.meaning.Condition.TheVariants.{Always, Equal}

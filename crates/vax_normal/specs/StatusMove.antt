@@ -2,7 +2,7 @@
 use Rattle.std.specs.Prelude.{◌≡◌, ℕ, ◌%◌, ◌^◌, List, length, Ok}
 use Rattle.vv_base.specs.declared.width.Width.TheVariants.{Long}
 use Rattle.vax_table.specs.Interaction.{Space, outcome}
-use Rattle.vax_table.specs.Operand.{past_own_bytes}
+use Rattle.vax_table.specs.AllOperands.{past_own_bytes}
 use Rattle.vax_table.specs.Operations.{operation_of}
 use Rattle.vax_table.specs.Plan.{plan_of}
 use Rattle.vax_table.specs.Spelling.{Instruction}

@@ -4,7 +4,8 @@ use Rattle.vv_base.specs.declared.width.Width.TheVariants.{Long}
 use Rattle.vax_arch.specs.declared.mode.Intent.TheVariants.{Read, Write}
 use Rattle.vax_table.specs.Effects.{Effect, store}
 use Rattle.vax_table.specs.Interaction.{Space, number_at, outcome}
-use Rattle.vax_table.specs.Operand.{minus, past_own_bytes, plus}
+use Rattle.vax_table.specs.Operand.{minus, plus}
+use Rattle.vax_table.specs.AllOperands.{past_own_bytes}
 use Rattle.vax_table.specs.Plan.{planned}
 use Rattle.vax_table.specs.Spelling.{Instruction}
 use Rattle.vax_table.specs.declared.effect.Store.{Store}

@@ -11,7 +11,8 @@ use Rattle.vax_table.specs.Effects.{put}
 use Rattle.vax_table.specs.declared.meaning.Operation.{Operation}
 use Rattle.vax_table.specs.Plan.{performed}
 use Rattle.vax_table.specs.Interaction.{Done, Space, outcome}
-use Rattle.vax_table.specs.Operand.{evaluated, minus, no_operands, operands_from, past_own_bytes, place, plus, with_operand}
+use Rattle.vax_table.specs.Operand.{evaluated, minus, place, plus}
+use Rattle.vax_table.specs.AllOperands.{no_operands, operands_from, past_own_bytes, with_operand}
 use Rattle.vax_operand.specs.declared.kind.Base.{Base}
 use Rattle.vax_operand.specs.declared.kind.Base.TheVariants.{Decrement, Increment}
 use Rattle.vax_operand.specs.declared.kind.Kind.{Kind}

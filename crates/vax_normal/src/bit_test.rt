@@ -1,5 +1,6 @@
 ghost use Rattle.std.specs.Prelude.{◌≡◌, ◌<◌, true, Ok, sum, take, IfSome};
-ghost use Rattle.vax_table.specs.Branches.{bit, byte_of_bit};
+ghost use Rattle.vv_base.specs.Bits.{is_set};
+ghost use Rattle.vax_table.specs.Branches.{byte_of_bit};
 ghost use Rattle.vax_table.specs.Spelling.{IsWellFormed, view};
 ghost use Rattle.vax_arch.specs.declared.mode.Intent.TheVariants.{Read};
 ghost use Rattle.vax_table.specs.Interaction.{number_at};
@@ -30,7 +31,7 @@ pub struct BitTest {
 #[inline(always)]
 fn has(byte: u64, k: u32) -> bool
     requires { k < 8 }
-    ensures { result ≡ bit k byte }
+    ensures { result ≡ is_set byte k }
 {
     (byte >> k) % 2 == 1
 }

@@ -1,6 +1,6 @@
 ghost use Rattle.std.specs.Prelude.{◌≡◌, ◌≢◌, List, ℕ, sum, take, slice_index, slice_set, MatchOption};
 ghost use Rattle.vax_table.specs.Effects.{put_in_register};
-ghost use Rattle.vax_table.specs.Operand.{past_own_bytes};
+ghost use Rattle.vax_table.specs.AllOperands.{past_own_bytes};
 ghost use Rattle.vax_normal.specs.Normal.{branches_at, computed_at_once, counted_down, done_at_once, gone_on, quietly, with_result};
 
 use crate::shape::{Computation, Countdown, Normal, Shape};

@@ -1,5 +1,5 @@
 ghost use Rattle.std.specs.Prelude.{◌≡◌, ◌≢◌, ◌+◌, ◌%◌, ◌^◌, ◌<◌, List, ℕ, None, true, slice_index, IfSome};
-ghost use Rattle.vax_table.specs.Computing.{first_input, second_input, target_of};
+ghost use Rattle.vax_table.specs.Operations.{first_input, second_input, target_of};
 ghost use Rattle.vax_table.specs.Effects.{dest_of, long_of};
 ghost use Rattle.vax_table.specs.Operand.{plus};
 ghost use Rattle.vax_table.specs.Spelling.{IsWellFormed, view};

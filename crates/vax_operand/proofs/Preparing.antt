@@ -9,7 +9,8 @@ use Rattle.vax_table.specs.declared.decoded.Spec.{Spec}
 use Rattle.vax_table.specs.declared.forms.Access.{Access}
 use Rattle.vax_table.specs.declared.forms.Access.TheVariants.{Read, Modify, Write, Address, Bits, Branch}
 use Rattle.vax_table.specs.declared.forms.Form.{Form}
-use Rattle.vax_table.specs.Operand.{past_own_bytes, operand_length, operand_of, plus, base_address, address_of, read_operand, modified_operand, written_operand, address_operand, bits_operand, branch_operand, by_access}
+use Rattle.vax_table.specs.Operand.{plus, base_address, address_of, read_operand, modified_operand, written_operand, address_operand, bits_operand, branch_operand, by_access}
+use Rattle.vax_table.specs.AllOperands.{past_own_bytes, operand_length, operand_of}
 use Rattle.vax_table.specs.declared.evaluation.Trouble.{Trouble as Told}
 use Rattle.vax_table.specs.LegalOperands.{FitsForm, IsFormed, IsLegalOperand}
 use Rattle.vax_table.proofs.Tests.{if_both, eq_of}

@@ -8,7 +8,8 @@ use Rattle.vax_table.specs.declared.evaluation.Evaluated.{Evaluated}
 use Rattle.vax_table.specs.declared.evaluation.Operands.{Operands}
 use Rattle.vax_table.specs.declared.evaluation.Trouble.{Trouble as Told}
 use Rattle.vax_table.specs.declared.forms.Form.{Form}
-use Rattle.vax_table.specs.Operand.{plus, past_own_bytes, forms_in, no_operands, operand_of, operands_from, operands_of, trap_forms, with_operand}
+use Rattle.vax_table.specs.Operand.{plus}
+use Rattle.vax_table.specs.AllOperands.{past_own_bytes, forms_in, no_operands, operand_of, operands_from, operands_of, trap_forms, with_operand}
 use Rattle.vax_table.specs.Rows.{row_of}
 use Rattle.vax_table.specs.Interaction.{Interaction, Space, Trouble, outcome}
 use Rattle.vax_table.specs.Spelling.{Instruction, IsWellFormed}

@@ -1,5 +1,6 @@
 ghost use Rattle.std.specs.Prelude.{◌≡◌, ◌≤◌, if◌then◌else◌, length, map, slice_index, IfOk, OnOk};
-ghost use Rattle.vax_table.specs.Operand.{forms_in, no_operands, operands_by, operands_from, operands_of, past_own_bytes, plus, trap_operands};
+ghost use Rattle.vax_table.specs.Operand.{plus};
+ghost use Rattle.vax_table.specs.AllOperands.{forms_in, no_operands, operands_by, operands_from, operands_of, past_own_bytes, trap_operands};
 ghost use Rattle.vax_table.specs.Rows.{row_of};
 ghost use Rattle.vax_table.specs.Interaction.{outcome};
 ghost use Rattle.vax_table.specs.Spelling.{IsWellFormed, view};
@@ -60,7 +61,7 @@ fn evaluate_all<S: Space>(
 /// effects. An error is that of the first byte in this order that has trouble, and then it doesn't matter what
 /// `r` and `v` are.
 #[inline(always)]
-#[tactic(auto, unfolding(vax_table::specs::Operand::operands_of))]
+#[tactic(auto, unfolding(vax_table::specs::AllOperands::operands_of))]
 pub fn evaluate_into<S: Space>(
     s: &S,
     e: &Prepared,
@@ -97,7 +98,7 @@ fn evaluate_by<S: Space>(
 }
 
 /// The operands of a well-formed instruction at PC and the registers with the side effects, as `evaluate_into` gives them.
-#[tactic(auto, unfolding(vax_table::specs::Operand::operands_of))]
+#[tactic(auto, unfolding(vax_table::specs::AllOperands::operands_of))]
 pub fn evaluate<S: Space>(s: &S, d: &Decoded, r: &[u32; 16]) -> Result<Operands, Trouble>
     requires { IsWellFormed (view d.now) }
     ensures outcome { with_trouble result ≡ outcome (S.space s.now) (operands_of (view d.now) r.now) }
@@ -121,7 +122,7 @@ const MFPR_FORMS: [Form; 2] = [
 
 /// The operands of a well-formed instruction that traps, as `evaluate` gives them, but that MFPR's destination is not
 /// translated: it is a register or an address.
-#[tactic(auto, unfolding(vax_table::specs::Operand::trap_operands))]
+#[tactic(auto, unfolding(vax_table::specs::AllOperands::trap_operands))]
 pub fn evaluate_trap<S: Space>(s: &S, d: &Decoded, r: &[u32; 16]) -> Result<Operands, Trouble>
     requires { IsWellFormed (view d.now) }
     ensures { with_trouble result ≡ outcome (S.space s.now) (trap_operands (view d.now) r.now) }

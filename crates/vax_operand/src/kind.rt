@@ -1,6 +1,7 @@
 ghost use Rattle.std.specs.Prelude.{◌≡◌, ◌≤◌, ◌<◌, ◌%◌, ◌^◌};
 ghost use Rattle.vv_base.specs.Width.{size_of};
-ghost use Rattle.vax_table.specs.Operand.{extended, operand_length};
+ghost use Rattle.vax_table.specs.Operand.{extended};
+ghost use Rattle.vax_table.specs.AllOperands.{operand_length};
 ghost use Rattle.vax_table.specs.LegalOperands.{IsFormed, IsLegalOperand};
 ghost use Rattle.vax_operand.specs.Prepared.{base_of, kind_of};
 

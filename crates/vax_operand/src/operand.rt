@@ -1,6 +1,7 @@
 ghost use Rattle.std.specs.Prelude.{◌≡◌, ◌<◌, ◌^◌, OnOk};
 ghost use Rattle.vv_base.specs.Width.{size_of};
-ghost use Rattle.vax_table.specs.Operand.{evaluated, operand_of, register_value};
+ghost use Rattle.vax_table.specs.Operand.{evaluated, register_value};
+ghost use Rattle.vax_table.specs.AllOperands.{operand_of};
 ghost use Rattle.vax_table.specs.Interaction.{outcome};
 ghost use Rattle.vax_table.specs.LegalOperands.{FitsForm};
 ghost use Rattle.vax_operand.specs.Left.{left};

@@ -1,5 +1,5 @@
 ghost use Rattle.std.specs.Prelude.{◌≡◌, ◌≤◌, true, length, map};
-ghost use Rattle.vax_table.specs.Operand.{forms_in, operand_length};
+ghost use Rattle.vax_table.specs.AllOperands.{forms_in, operand_length};
 ghost use Rattle.vax_table.specs.Operations.{is_narrow, operation_of};
 ghost use Rattle.vax_table.specs.Rows.{row_of};
 ghost use Rattle.vax_table.specs.Spelling.{IsWellFormed, view};

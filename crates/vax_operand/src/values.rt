@@ -1,5 +1,5 @@
 ghost use Rattle.std.specs.Prelude.{◌≡◌, ◌<◌, ◌%◌, ◌^◌, List, ℕ, slice_index};
-ghost use Rattle.vax_table.specs.Operand.{no_operands};
+ghost use Rattle.vax_table.specs.AllOperands.{no_operands};
 ghost use Rattle.vax_operand.specs.Left.{operands_with_registers};
 
 use vax_table::Dest;

@@ -4,7 +4,7 @@ use Rattle.std.proofs.lemmas.Bool.{ne_eqb}
 use Rattle.vax_table.specs.declared.decoded.Spec.{Spec}
 use Rattle.vax_table.specs.Rows.{OpcodeEntry, row_of}
 use Rattle.vax_table.specs.Spelling.{AreBytes, Operands, Instruction, Spells, wait, of_row, SpellsNone}
-use Rattle.vax_table.specs.Reading.{OperandsReading, GotAll, MoreAll, BadAll, operands_at, Answer, Whole, Unknown, Reserved, answer_of, by_row, wait_at, decoded_at, IsAnswerFor, IsExact}
+use Rattle.vax_table.specs.Reading.{AtFront, Got, More, Bad, operands_at, Answer, Whole, Unknown, Reserved, answer_of, by_row, wait_at, decoded_at, IsAnswerFor, IsExact}
 use Rattle.vax_table.proofs.Tests.{if_both, eq_of, ne_of}
 use Rattle.vax_table.proofs.Operands.{ReadsAll, operands_read, operands_again, operands_bad}
 
@@ -16,7 +16,7 @@ unfolding decoded_at
 spelled_again front rest d (wait e g) = rw (e, g)
 spelled_again front rest d (of_row entry opcode bytes specs b n r o e g) =
     let other : eqb opcode 0xfd ≡ false = ne_eqb opcode 0xfd n in
-    let read : operands_at entry.operands (bytes ++ rest) ≡ GotAll specs rest = operands_again entry.operands bytes specs rest o in
+    let read : operands_at entry.operands (bytes ++ rest) ≡ Got specs rest = operands_again entry.operands bytes specs rest o in
     let len : length (bytes ++ rest) - length rest ≡ length bytes = lengths (bytes ++ rest) bytes rest refl in
     let size : length front ≡ suc (length bytes) = ap length e in
     let size1 : length front ≡ 1 + length bytes = omega arith in
@@ -54,17 +54,17 @@ wait_tells b (c ∷ cs) e =
     (λ t. let yes : eqb b 0xfd ≡ true = eq-eqb b 0xfd e in let ne : c ≢ 1 = ne_of _ _ t in
     (unknown_none (b ∷ (c ∷ cs)) (λ ys. rw (yes, t)), λ k. ⊎_elim (λ p. p.0 e) (λ p. ne (head_one c (take 0 cs) p.1)) k))
 
-operands_tell : (b : ℕ) (bs : List ℕ) → b < 256 → AreBytes bs → b ≢ 0xfd → (e : OpcodeEntry) → row_of b ≡ Some e → (o : OperandsReading) → operands_at e.operands bs ≡ o → IsAnswerFor (b ∷ bs) (answer_of b bs o)
+operands_tell : (b : ℕ) (bs : List ℕ) → b < 256 → AreBytes bs → b ≢ 0xfd → (e : OpcodeEntry) → row_of b ≡ Some e → (o : AtFront (List Spec)) → operands_at e.operands bs ≡ o → IsAnswerFor (b ∷ bs) (answer_of b bs o)
 unfolding decoded_at
-operands_tell b bs below h n e r (GotAll ss rest) g =
+operands_tell b bs below h n e r (Got ss rest) g =
     let m : (front : List ℕ) × (bs ≡ front ++ rest) × Operands e.operands front ss = subst (λ o. ReadsAll e.operands bs o) g (operands_read e.operands bs h) in
     let len : length bs - length rest ≡ length m.0 = lengths bs m.0 rest m.1 in
     let size : 1 + (length bs - length rest) ≡ length (b ∷ m.0) = omega arith in
     (b ∷ m.0, ap (λ xs. b ∷ xs) m.1, of_row e b m.0 ss below n r m.2 refl (ap (λ k. record { opcode = b; wait = false; length = k; specs = ss }) size))
-operands_tell b bs below h n e r MoreAll g =
+operands_tell b bs below h n e r More g =
     let m : (tail : List ℕ) × (ss : List Spec) × (0 < length tail) × Operands e.operands (bs ++ tail) ss = subst (λ o. ReadsAll e.operands bs o) g (operands_read e.operands bs h) in
     (m.0, record { opcode = b; wait = false; length = length ((b ∷ bs) ++ m.0); specs = m.1 }, m.2, of_row e b (bs ++ m.0) m.1 below n r m.3 refl refl)
-operands_tell b bs below h n e r BadAll g =
+operands_tell b bs below h n e r Bad g =
     let other : eqb b 0xfd ≡ false = ne_eqb b 0xfd n in
     (reserved_none (b ∷ bs) (λ ys. rw (other, r, operands_bad e.operands bs ys h g)), inl (n, some_known (row_of b) e r))
 

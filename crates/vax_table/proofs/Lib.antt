@@ -15,6 +15,7 @@ pub mod Numbers
 pub mod Targets
 pub mod Widths
 pub mod Plans
+pub mod Acted
 pub mod Wholes
 pub mod StoreLaws
 pub mod Tries

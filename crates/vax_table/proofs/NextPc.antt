@@ -13,7 +13,8 @@ use Rattle.vax_table.specs.declared.forms.Access.{Access}
 use Rattle.vax_table.specs.declared.forms.Access.TheVariants.{Read, Modify, Write, Address, Bits, Branch}
 use Rattle.vax_table.specs.declared.forms.Form.{Form}
 use Rattle.vax_table.specs.Claims.{Holds}
-use Rattle.vax_table.specs.Operand.{plus, base_address, address_of, indexed_by, read_operand, modified_operand, written_operand, address_operand, bits_operand, branch_operand, by_access, past_own_bytes, operand_length, operand_of, with_operand, operands_from, no_operands, forms_in, operands_of}
+use Rattle.vax_table.specs.Operand.{plus, base_address, address_of, indexed_by, read_operand, modified_operand, written_operand, address_operand, bits_operand, branch_operand, by_access}
+use Rattle.vax_table.specs.AllOperands.{past_own_bytes, operand_length, operand_of, with_operand, operands_from, no_operands, forms_in, operands_of}
 use Rattle.vax_table.specs.Reading.{is_branch}
 use Rattle.vax_table.specs.Rows.{OpcodeEntry, row_of}
 use Rattle.vax_table.specs.Spelled.{value_size}

@@ -8,10 +8,16 @@ use Rattle.vax_table.specs.declared.forms.Access.TheVariants.{Branch}
 use Rattle.vax_table.specs.declared.forms.Form.{Form}
 use Rattle.vax_table.specs.declared.decoded.Spec.{Spec}
 use Rattle.vax_table.specs.Spelling.{bytes_of, unindexed, AreBytes, register_deferred, SpellsOperand, specifier, indexed, branch, Operands, Specifier}
-use Rattle.vax_table.specs.Reading.{number_of, OperandReading, Got, More, Bad, is_branch, valued_at, specifier_at, with_index, indexed_at, operand_at, OperandsReading, GotAll, MoreAll, BadAll, with_operands_before, operands_at}
+use Rattle.vax_table.specs.Reading.{number_of, AtFront, Got, More, Bad, is_branch, valued_at, specifier_at, indexed_at, operand_at, operands_at, then_read}
 use Rattle.vax_table.proofs.Tests.{if_both, eq_of, ne_of, le_of, branch_of, not_branch, no_branch}
 use Rattle.vax_table.proofs.Bytes.{AreBytes-take, AreBytes-append, AreBytes-back, AreBytes-bytes_of, length-bytes_of, bytes_again, number_bound, pow_some, size_some}
 use Rattle.vax_table.proofs.Specifiers.{Means, specifier_means, specifier_again, specifier_bad, specifier_some, valued_again, valued_fine}
+
+abbrev with_index : ℕ → AtFront Spec → AtFront Spec
+with_index x o = then_read o (λ s rest. Got (record s { index = Some x }) rest)
+
+abbrev with_operands_before : List Spec → AtFront (List Spec) → AtFront (List Spec)
+with_operands_before front o = then_read o (λ ss rest. Got (front ++ ss) rest)
 
 -- ---- one operand: what is read is spelled so
 
@@ -22,17 +28,17 @@ pub record Completes (f : Form) (all : List ℕ) : Type 0 where
   pub some : 0 < length tail
   pub spelled : SpellsOperand f (all ++ tail) spec
 
-abbrev pub Reads : Form → List ℕ → OperandReading → Type 0
+abbrev pub Reads : Form → List ℕ → AtFront Spec → Type 0
 Reads f all (Got s rest) = (front : List ℕ) × (all ≡ front ++ rest) × SpellsOperand f front s
 Reads f all More = Completes f all
 Reads f all Bad = Unit {0}
 
-direct : (f : Form) (all : List ℕ) (o : OperandReading) → f.access ≢ Branch → Means f all o → Reads f all o
+direct : (f : Form) (all : List ℕ) (o : AtFront Spec) → f.access ≢ Branch → Means f all o → Reads f all o
 direct f all (Got s rest) n m = (m.0, m.1, specifier n m.2)
 direct f all More n m = record { tail = m.0; spec = m.1; some = m.2; spelled = specifier n m.3 }
 direct f all Bad n m = tt
 
-after_index : (f : Form) (x b : ℕ) (bs : List ℕ) (o : OperandReading) → f.access ≢ Branch → x < 15 → 0x60 ≤ b → b ≢ 0x8f → Means f (b ∷ bs) o → Reads f ((0x40 + x) ∷ (b ∷ bs)) (with_index x o)
+after_index : (f : Form) (x b : ℕ) (bs : List ℕ) (o : AtFront Spec) → f.access ≢ Branch → x < 15 → 0x60 ≤ b → b ≢ 0x8f → Means f (b ∷ bs) o → Reads f ((0x40 + x) ∷ (b ∷ bs)) (with_index x o)
 after_index f x b bs (Got s rest) n h l i ([], e, m) = absurd (specifier_some f s m)
 after_index f x b bs (Got s rest) n h l i (c ∷ cs, e, m) =
     let same : c ≡ b = cc in
@@ -49,7 +55,7 @@ indexed_reads f x [] n h hs = record {
   spelled = indexed n x h 0x60 [] (unindexed 6 0 0) (omega arith) (omega arith) (register_deferred 0 (omega arith) refl refl) refl refl;
 }
 indexed_reads f x (b ∷ bs) n h hs =
-    let P : OperandReading → Type 0 = Reads f ((0x40 + x) ∷ (b ∷ bs)) in
+    let P : AtFront Spec → Type 0 = Reads f ((0x40 + x) ∷ (b ∷ bs)) in
     if_both P (ltb (b / 16) 6) _ _ (λ t. tt) (λ t. if_both P (eqb b 0x8f) _ _ (λ u. tt) (λ u.
     let high : 6 ≤ b / 16 = le_of _ _ t in
     after_index f x b bs (specifier_at f b bs) n h (omega arith) (ne_of _ _ u) (specifier_means f b bs hs.0 hs.1)))
@@ -92,7 +98,7 @@ pub operand_reads : (f : Form) (bs : List ℕ) → AreBytes bs → Reads f bs (o
 unfolding operand_at
 operand_reads f [] h = some_operand f
 operand_reads f (b ∷ bs) h =
-    let P : OperandReading → Type 0 = Reads f (b ∷ bs) in
+    let P : AtFront Spec → Type 0 = Reads f (b ∷ bs) in
     if_both P (is_branch f.access) _ _
     (λ t. branch_reads f (b ∷ bs) (branch_of _ t) h)
     (λ t. let n : f.access ≢ Branch = not_branch f.access t in if_both P (eqb (b / 16) 4) _ _
@@ -106,7 +112,7 @@ operand_reads f (b ∷ bs) h =
 not_index : (f : Form) (c : ℕ) (xs : List ℕ) (s : Spec) (r : List ℕ) → specifier_at f c xs ≡ Got s r → eqb (c / 16) 4 ≡ false
 unfolding specifier_at
 not_index f c xs s r =
-    let P : OperandReading → Type 0 = λ o. o ≡ Got s r → eqb (c / 16) 4 ≡ false in
+    let P : AtFront Spec → Type 0 = λ o. o ≡ Got s r → eqb (c / 16) 4 ≡ false in
     if_both P (ltb (c / 16) 4) _ _
     (λ t e. let less : c / 16 < 4 = ltb-true _ _ t in ne_eqb _ _ (omega arith))
     (λ t. if_both P (eqb (c / 16) 4) _ _ (λ q e. cc) (λ q e. q))
@@ -144,7 +150,7 @@ operand_again f bytes s rest (branch a v h e g) =
 
 -- ---- one operand: what can't be at the front stays so
 
-with_index_bad : (x : ℕ) (o : OperandReading) → with_index x o ≡ Bad → o ≡ Bad
+with_index_bad : (x : ℕ) (o : AtFront Spec) → with_index x o ≡ Bad → o ≡ Bad
 with_index_bad x (Got s rest) e = cc
 with_index_bad x More e = cc
 with_index_bad x Bad e = refl
@@ -153,7 +159,7 @@ indexed_bad : (f : Form) (x : ℕ) (bs ys : List ℕ) → indexed_at f x bs ≡ 
 unfolding indexed_at
 indexed_bad f x [] ys e = cc
 indexed_bad f x (b ∷ bs) ys h =
-    let P : OperandReading → Type 0 = λ o. o ≡ Bad → indexed_at f x (b ∷ (bs ++ ys)) ≡ Bad in
+    let P : AtFront Spec → Type 0 = λ o. o ≡ Bad → indexed_at f x (b ∷ (bs ++ ys)) ≡ Bad in
     if_both P (ltb (b / 16) 6) _ _ (λ t e. rw t) (λ t. if_both P (eqb b 0x8f) _ _ (λ u e. rw (t, u)) (λ u e.
     let stays : specifier_at f b (bs ++ ys) ≡ Bad = specifier_bad f b bs (bs ++ ys) (with_index_bad x _ e) in
     rw (t, u, stays))) h
@@ -162,7 +168,7 @@ pub operand_bad : (f : Form) (bs ys : List ℕ) → operand_at f bs ≡ Bad → 
 unfolding operand_at
 operand_bad f [] ys e = cc
 operand_bad f (b ∷ bs) ys h =
-    let P : OperandReading → Type 0 = λ o. o ≡ Bad → operand_at f (b ∷ (bs ++ ys)) ≡ Bad in
+    let P : AtFront Spec → Type 0 = λ o. o ≡ Bad → operand_at f (b ∷ (bs ++ ys)) ≡ Bad in
     if_both P (is_branch f.access) _ _
     (λ t e. valued_fine 16 0 (size_of f.width) (b ∷ bs) e)
     (λ t. if_both P (eqb (b / 16) 4) _ _
@@ -171,10 +177,10 @@ operand_bad f (b ∷ bs) ys h =
 
 -- ---- the operands in order
 
-abbrev pub ReadsAll : List Form → List ℕ → OperandsReading → Type 0
-ReadsAll fs all (GotAll ss rest) = (front : List ℕ) × (all ≡ front ++ rest) × Operands fs front ss
-ReadsAll fs all MoreAll = (tail : List ℕ) × (ss : List Spec) × (0 < length tail) × Operands fs (all ++ tail) ss
-ReadsAll fs all BadAll = Unit {0}
+abbrev pub ReadsAll : List Form → List ℕ → AtFront (List Spec) → Type 0
+ReadsAll fs all (Got ss rest) = (front : List ℕ) × (all ≡ front ++ rest) × Operands fs front ss
+ReadsAll fs all More = (tail : List ℕ) × (ss : List Spec) × (0 < length tail) × Operands fs (all ++ tail) ss
+ReadsAll fs all Bad = Unit {0}
 
 -- some operands of these forms
 some_operands : (fs : List Form) → (bytes : List ℕ) × (ss : List Spec) × Operands fs bytes ss
@@ -182,13 +188,13 @@ some_operands [] = ([], [], refl)
 some_operands (f ∷ fs) = let c = some_operand f in let r = some_operands fs in (c.tail ++ r.0, c.spec ∷ r.1, (c.tail, r.0, refl, c.spelled, r.2))
 
 -- one operand, and what was read after it
-joined : (f : Form) (fs : List Form) (all front rest : List ℕ) (s : Spec) (o : OperandsReading) → all ≡ front ++ rest → SpellsOperand f front s → ReadsAll fs rest o → ReadsAll (f ∷ fs) all (with_operands_before (s ∷ []) o)
-joined f fs all front rest s (GotAll ss more) e m r = (front ++ r.0, rw (append_assoc front r.0 more) (rw (← r.1) e), (front, r.0, refl, m, r.2))
-joined f fs all front rest s MoreAll e m r = (r.0, s ∷ r.1, r.2, (front, rest ++ r.0, rw e (append_assoc front rest r.0), m, r.3))
-joined f fs all front rest s BadAll e m r = tt
+joined : (f : Form) (fs : List Form) (all front rest : List ℕ) (s : Spec) (o : AtFront (List Spec)) → all ≡ front ++ rest → SpellsOperand f front s → ReadsAll fs rest o → ReadsAll (f ∷ fs) all (with_operands_before (s ∷ []) o)
+joined f fs all front rest s (Got ss more) e m r = (front ++ r.0, rw (append_assoc front r.0 more) (rw (← r.1) e), (front, r.0, refl, m, r.2))
+joined f fs all front rest s More e m r = (r.0, s ∷ r.1, r.2, (front, rest ++ r.0, rw e (append_assoc front rest r.0), m, r.3))
+joined f fs all front rest s Bad e m r = tt
 
-next_reads : (f : Form) (fs : List Form) (bs : List ℕ) → AreBytes bs → ((rest : List ℕ) → AreBytes rest → ReadsAll fs rest (operands_at fs rest)) → (o : OperandReading) → Reads f bs o →
-    ReadsAll (f ∷ fs) bs (elim o [ Got s rest ↦ with_operands_before (s ∷ []) (operands_at fs rest) | More ↦ MoreAll | Bad ↦ BadAll ])
+next_reads : (f : Form) (fs : List Form) (bs : List ℕ) → AreBytes bs → ((rest : List ℕ) → AreBytes rest → ReadsAll fs rest (operands_at fs rest)) → (o : AtFront Spec) → Reads f bs o →
+    ReadsAll (f ∷ fs) bs (then_read o (λ s rest. with_operands_before (s ∷ []) (operands_at fs rest)))
 next_reads f fs bs h next (Got s rest) m = joined f fs bs m.0 rest s (operands_at fs rest) m.1 m.2 (next rest (AreBytes-back m.0 rest (subst AreBytes m.1 h)))
 next_reads f fs bs h next More c = let r = some_operands fs in let p : 0 < length c.tail = c.some in (c.tail ++ r.0, c.spec ∷ r.1, omega (arith, length-append {A = ℕ}), (bs ++ c.tail, r.0, sym (append_assoc bs c.tail r.0), c.spelled, r.2))
 next_reads f fs bs h next Bad c = tt
@@ -200,13 +206,13 @@ operands_read (f ∷ fs) bs h = next_reads f fs bs h (λ rest k. operands_read f
 step : (f : Form) (fs : List Form) (bs : List ℕ) (s : Spec) (rest : List ℕ) → operand_at f bs ≡ Got s rest → operands_at (f ∷ fs) bs ≡ with_operands_before (s ∷ []) (operands_at fs rest)
 step f fs bs s rest e = rw (e, operands_at)
 
-pub operands_again : (fs : List Form) (bytes : List ℕ) (ss : List Spec) (rest : List ℕ) → Operands fs bytes ss → operands_at fs (bytes ++ rest) ≡ GotAll ss rest
+pub operands_again : (fs : List Form) (bytes : List ℕ) (ss : List Spec) (rest : List ℕ) → Operands fs bytes ss → operands_at fs (bytes ++ rest) ≡ Got ss rest
 operands_again [] bytes [] rest h = rw h
 operands_again [] bytes (s ∷ ss) rest h = absurd h
 operands_again (f ∷ fs) bytes [] rest h = absurd h
 operands_again (f ∷ fs) bytes (s ∷ ss) rest h =
     let one : operand_at f (h.0 ++ (h.1 ++ rest)) ≡ Got s (h.1 ++ rest) = operand_again f h.0 s (h.1 ++ rest) h.3 in
-    let more : operands_at fs (h.1 ++ rest) ≡ GotAll ss rest = operands_again fs h.1 ss rest h.4 in
+    let more : operands_at fs (h.1 ++ rest) ≡ Got ss rest = operands_again fs h.1 ss rest h.4 in
     rw (h.2, append_assoc h.0 h.1 rest) (step f fs _ s _ one ∙ ap (with_operands_before (s ∷ [])) more)
 
 got_stays : (f : Form) (bs ys : List ℕ) (s : Spec) (rest : List ℕ) → AreBytes bs → operand_at f bs ≡ Got s rest → operand_at f (bs ++ ys) ≡ Got s (rest ++ ys)
@@ -214,20 +220,20 @@ got_stays f bs ys s rest h e =
     let m : (front : List ℕ) × (bs ≡ front ++ rest) × SpellsOperand f front s = subst (λ o. Reads f bs o) e (operand_reads f bs h) in
     rw (m.1, append_assoc m.0 rest ys) (operand_again f m.0 s (rest ++ ys) m.2)
 
-after_bad : (ss : List Spec) (o : OperandsReading) → with_operands_before ss o ≡ BadAll → o ≡ BadAll
-after_bad ss (GotAll xs rest) e = cc
-after_bad ss MoreAll e = cc
-after_bad ss BadAll e = refl
+after_bad : (ss : List Spec) (o : AtFront (List Spec)) → with_operands_before ss o ≡ Bad → o ≡ Bad
+after_bad ss (Got xs rest) e = cc
+after_bad ss More e = cc
+after_bad ss Bad e = refl
 
-next_bad : (f : Form) (fs : List Form) (bs ys : List ℕ) → AreBytes bs → ((rest : List ℕ) → AreBytes rest → operands_at fs rest ≡ BadAll → operands_at fs (rest ++ ys) ≡ BadAll) →
-    (o : OperandReading) → operand_at f bs ≡ o → (elim o [ Got s rest ↦ with_operands_before (s ∷ []) (operands_at fs rest) | More ↦ MoreAll | Bad ↦ BadAll ]) ≡ BadAll → operands_at (f ∷ fs) (bs ++ ys) ≡ BadAll
+next_bad : (f : Form) (fs : List Form) (bs ys : List ℕ) → AreBytes bs → ((rest : List ℕ) → AreBytes rest → operands_at fs rest ≡ Bad → operands_at fs (rest ++ ys) ≡ Bad) →
+    (o : AtFront Spec) → operand_at f bs ≡ o → (then_read o (λ s rest. with_operands_before (s ∷ []) (operands_at fs rest))) ≡ Bad → operands_at (f ∷ fs) (bs ++ ys) ≡ Bad
 next_bad f fs bs ys h next (Got s rest) e g =
     let m : (front : List ℕ) × (bs ≡ front ++ rest) × SpellsOperand f front s = subst (λ o. Reads f bs o) e (operand_reads f bs h) in
-    let bad : operands_at fs (rest ++ ys) ≡ BadAll = next rest (AreBytes-back m.0 rest (subst AreBytes m.1 h)) (after_bad (s ∷ []) (operands_at fs rest) g) in
+    let bad : operands_at fs (rest ++ ys) ≡ Bad = next rest (AreBytes-back m.0 rest (subst AreBytes m.1 h)) (after_bad (s ∷ []) (operands_at fs rest) g) in
     step f fs (bs ++ ys) s (rest ++ ys) (got_stays f bs ys s rest h e) ∙ ap (with_operands_before (s ∷ [])) bad
 next_bad f fs bs ys h next More e g = cc
 next_bad f fs bs ys h next Bad e g = rw (operand_bad f bs ys e, operands_at)
 
-pub operands_bad : (fs : List Form) (bs ys : List ℕ) → AreBytes bs → operands_at fs bs ≡ BadAll → operands_at fs (bs ++ ys) ≡ BadAll
+pub operands_bad : (fs : List Form) (bs ys : List ℕ) → AreBytes bs → operands_at fs bs ≡ Bad → operands_at fs (bs ++ ys) ≡ Bad
 operands_bad [] bs ys h e = cc
 operands_bad (f ∷ fs) bs ys h e = next_bad f fs bs ys h (λ rest k. operands_bad fs rest ys k) (operand_at f bs) refl e

@@ -5,21 +5,23 @@ use Rattle.std.proofs.lemmas.List.{length-map}
 use Rattle.std.proofs.Math.Path.{fun_ext}
 use Rattle.vv_base.specs.declared.width.Width.{Width}
 use Rattle.vv_base.specs.declared.width.Width.TheVariants.{Byte, Word, Long, Quad}
+use Rattle.vv_base.specs.Bits.{is_set}
 use Rattle.vv_base.specs.Width.{size_of}
 use Rattle.vax_table.specs.Arithmetic.{alu_of}
-use Rattle.vax_table.specs.Branches.{added_and_compared, added_one, bit, bit_in, bit_intent, bit_made, branched, branched_on_bit, branched_on_low_bit, byte_of_bit, called_subroutine, cased, comes_out, holds, left_subroutine, looped, subtracted_one}
+use Rattle.vax_table.specs.Branches.{added_and_compared, added_one, bit_in, bit_intent, bit_made, branched_on_bit, branched_on_low_bit, byte_of_bit, called_subroutine, cased, comes_out, left_subroutine, looped, subtracted_one}
 use Rattle.vax_table.specs.Calls.{aligned, called_general, called_on_stack, entered, entry_mask, frame_end, frame_left, frame_popped, list_dropped, registers_popped, registers_pushed, returned, values_of}
 use Rattle.vax_table.specs.Claims.{addresses, destination_addresses, Holds, claims, if_write}
-use Rattle.vax_table.specs.Computing.{computed, moved_quad, operand_pushed, status_cleared, status_set}
+use Rattle.vax_table.specs.Computing.{moved_quad, operand_pushed, status_cleared, status_set}
 use Rattle.vax_table.specs.Effects.{Effect, begun, dest_of, long_of, put, put_in_register, quad_of, store, went_if}
-use Rattle.vax_table.specs.Operand.{forms_in, minus, operands_of, place, plus}
-use Rattle.vax_table.specs.Operations.{operation_of}
+use Rattle.vax_table.specs.Operand.{minus, place, plus}
+use Rattle.vax_table.specs.AllOperands.{forms_in, operands_of}
+use Rattle.vax_table.specs.Operations.{operation_of, computed, branched, holds}
 use Rattle.vax_table.specs.Plan.{is_planned, performed, performed_with, plan_of, planned}
 use Rattle.vax_table.specs.PlanLaws.{bytes_of_stores}
 use Rattle.vax_table.specs.Rows.{row_of}
 use Rattle.vax_table.specs.Interaction.{Interaction, Done, Refuse, Touch, ◌>>=◌, Space, outcome}
 use Rattle.vax_table.specs.Spelling.{Instruction}
-use Rattle.vax_table.specs.Stack.{does_name, named_down, named_up, pop, pop_all, push, push_all}
+use Rattle.vax_table.specs.Stack.{named_down, named_up, pop, pop_all, push, push_all}
 use Rattle.vax_table.specs.declared.act.Dest.{Dest}
 use Rattle.vax_table.specs.declared.act.Dest.TheVariants.{Nowhere, Register, Memory}
 use Rattle.vax_table.specs.declared.effect.Store.{Store}
@@ -130,7 +132,7 @@ unfolding named_down
 named_length zero mask = omega arith
 named_length (suc n) mask =
     let rest : length (named_down n mask) ≤ n = named_length n mask in
-    if_both (λ (xs : List ℕ). length xs ≤ suc n) (does_name mask n) _ _ (λ t. omega arith) (λ t. omega arith)
+    if_both (λ (xs : List ℕ). length xs ≤ suc n) (is_set mask n) _ _ (λ t. omega arith) (λ t. omega arith)
 
 values_length : (r : List ℕ) (n mask : ℕ) → length (values_of r (named_down n mask)) ≤ n
 values_length r n mask = let named : length (named_down n mask) ≤ n = named_length n mask in rw length-map named
@@ -193,7 +195,7 @@ cased_sound m w o psw h =
 
 low_bit_sound : (m : ℕ) (on : Bool) (o : Operands) (psw : ℕ) → length o.r ≡ m → Sound 0 m [] (branched_on_low_bit on o psw)
 unfolding branched_on_low_bit
-low_bit_sound m on o psw h = went_sound 0 m [] (comes_out on (bit 0 (long_of o 0))) (long_of o 1) (begun o psw) (none_stored 0 m [] o.r refl h)
+low_bit_sound m on o psw h = went_sound 0 m [] (comes_out on (is_set (long_of o 0) 0)) (long_of o 1) (begun o psw) (none_stored 0 m [] o.r refl h)
 
 -- the byte or register of a bit is claimed where the bit is made something
 bit_made_sound : (m : ℕ) (becomes : Option Bool) (dest : Dest) (w : Width) (k n : ℕ) (e : Effect) → Sound 0 m [] e → Sound 1 m (if_write (bit_intent becomes) (destination_addresses w dest)) (bit_made becomes dest w k n e)
@@ -208,12 +210,12 @@ bit_in_sound : (m : ℕ) (on : Bool) (becomes : Option Bool) (dest : Dest) (posi
 bit_in_sound m on becomes Nowhere position to e s = fewer 0 1 m [] e.writes e.r (omega arith) s
 bit_in_sound m on becomes (Register n) position to e s =
     if_both (Holds (Sound 1 m) []) (ltb position 32) _ _
-    (λ t. went_sound 1 m [] (comes_out on (bit position (slice_index e.r n))) to _
+    (λ t. went_sound 1 m [] (comes_out on (is_set (slice_index e.r n) position)) to _
     (subst (λ (zs : List ℕ). Sound 1 m zs (bit_made becomes (Register n) Long position (slice_index e.r n) e)) (no_write becomes) (bit_made_sound m becomes (Register n) Long position (slice_index e.r n) e s)))
     (λ t. tt)
 bit_in_sound m on becomes (Memory base) position to e s = λ n.
     let at = byte_of_bit base position in
-    went_sound 1 m (if_write (bit_intent becomes) (addresses 1 at)) (comes_out on (bit (position % 8) n)) to _ (bit_made_sound m becomes (Memory at) Byte (position % 8) n e s)
+    went_sound 1 m (if_write (bit_intent becomes) (addresses 1 at)) (comes_out on (is_set n (position % 8))) to _ (bit_made_sound m becomes (Memory at) Byte (position % 8) n e s)
 
 bit_sound : (m : ℕ) (on : Bool) (becomes : Option Bool) (o : Operands) (psw : ℕ) → length o.r ≡ m → Holds (Sound 1 m) [] (branched_on_bit on becomes o psw)
 unfolding branched_on_bit
@@ -230,7 +232,7 @@ unfolding registers_popped
 registers_popped_sound m o psw h =
     holds-bind (Pops m) (Sound 0 m) [] (pop_all (named_up 15 0 (long_of o 0)) (place (slice_index o.r 14) o.r)) _
     (pop_all_wide m (named_up 15 0 (long_of o 0)) (place (slice_index o.r 14) o.r) h)
-    (λ ds p e. none_stored 0 m ds _ e.0 (if_both (λ (r : List ℕ). length r ≡ m) (does_name (long_of o 0) 14) _ _ (λ t. e.1) (λ t. set_wide m p.r 14 p.at e.1)))
+    (λ ds p e. none_stored 0 m ds _ e.0 (if_both (λ (r : List ℕ). length r ≡ m) (is_set (long_of o 0) 14) _ _ (λ t. e.1) (λ t. set_wide m p.r 14 p.at e.1)))
 
 entered_sound : (n k m : ℕ) (cs : List ℕ) (is_on_stack : Bool) (procedure mask list : ℕ) (e : Effect) → 17 + n ≤ k → Sound n m cs e → Holds (Sound k m) cs (entered is_on_stack procedure mask list e)
 unfolding entered
@@ -270,8 +272,8 @@ frame_left_sound : (m fp word : ℕ) (o : Operands) (psw : ℕ) → length o.r �
 frame_left_sound m fp word o psw h =
     holds-bind (Pops m) (Sound 0 m) [] (frame_popped (word / 2 ^ 16) (place (plus fp 8) o.r)) _
     (frame_wide m (word / 2 ^ 16) (place (plus fp 8) o.r) h) (λ ds p e.
-    let dropped = list_dropped (bit 29 word) (plus p.at (word / 2 ^ 30)) in
-    holds-bind ClaimsNone (Sound 0 m) ds dropped _ (at_none ClaimsNone ds dropped e.0 (list_holds (bit 29 word) (plus p.at (word / 2 ^ 30))))
+    let dropped = list_dropped (is_set word 29) (plus p.at (word / 2 ^ 30)) in
+    holds-bind ClaimsNone (Sound 0 m) ds dropped _ (at_none ClaimsNone ds dropped e.0 (list_holds (is_set word 29) (plus p.at (word / 2 ^ 30))))
     (λ xs sp none. none_stored 0 m xs _ none (set_wide m p.r 14 sp e.1)))
 
 returned_sound : (m : ℕ) (o : Operands) (psw : ℕ) → length o.r ≡ m → Holds (Sound 0 m) [] (returned o psw)
@@ -342,7 +344,7 @@ pub performed_alone : (psl : ℕ) (operation : Operation) (o : Operands) → is_
 performed_alone psl does.MoveStatus o e = absurd (no_yes e)
 performed_alone psl operation o e = refl
 
-same_after : {A B : Type 0} (m : Interaction A) (f g : A → Interaction B) → ((a : A) → f a ≡ g a) → m >>= f ≡ m >>= g
+pub same_after : {A B : Type 0} (m : Interaction A) (f g : A → Interaction B) → ((a : A) → f a ≡ g a) → m >>= f ≡ m >>= g
 same_after {A = A} {B = B} m f g h = ap (λ (k : A → Interaction B). m >>= k) (fun_ext h)
 
 pub plans_planned : (psl : ℕ) (d : Instruction) (r : List ℕ) → is_planned (operation_of d.opcode) ≡ true → plan_of psl d r ≡ planned d r (psl % 2 ^ 8)

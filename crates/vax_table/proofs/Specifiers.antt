@@ -7,12 +7,12 @@ use Rattle.vv_base.specs.Width.{size_of}
 use Rattle.vax_table.specs.declared.forms.Form.{Form}
 use Rattle.vax_table.specs.declared.decoded.Spec.{Spec}
 use Rattle.vax_table.specs.Spelling.{bytes_of, unindexed, AreBytes, Displaces, byte, byte_deferred, word, word_deferred, long, long_deferred, Specifier, literal, register, register_deferred, autodecrement, autoincrement, immediate, autoincrement_deferred, absolute, displacement}
-use Rattle.vax_table.specs.Reading.{number_of, OperandReading, Got, More, Bad, is_read, is_address, is_quad, valued_at, named_at, displacement_size, specifier_by, specifier_at}
+use Rattle.vax_table.specs.Reading.{number_of, AtFront, Got, More, Bad, is_read, is_address, is_quad, valued_at, named_at, displacement_size, specifier_by, specifier_at}
 use Rattle.vax_table.proofs.Tests.{if_both, eq_of, ne_of, le_of, or_left, or_right, read_of, not_address, no_address, pair_of, no_pair}
 use Rattle.vax_table.proofs.Bytes.{AreBytes-take, AreBytes-append, AreBytes-bytes_of, length-bytes_of, bytes_again, number_bound, number_of-bytes_of}
 
 -- what is read is spelled so; where more is needed, more makes it a spelling
-abbrev pub Means : Form → List ℕ → OperandReading → Type 0
+abbrev pub Means : Form → List ℕ → AtFront Spec → Type 0
 Means f all (Got s rest) = (front : List ℕ) × (all ≡ front ++ rest) × Specifier f front s
 Means f all More = (tail : List ℕ) × (s : Spec) × (0 < length tail) × Specifier f (all ++ tail) s
 Means f all Bad = Unit {0}
@@ -57,7 +57,7 @@ displaces m low high =
 pub specifier_means : (f : Form) (b : ℕ) (bs : List ℕ) → b < 256 → AreBytes bs → Means f (b ∷ bs) (specifier_at f b bs)
 unfolding specifier_at specifier_by
 specifier_means f b bs h hs =
-    let P : OperandReading → Type 0 = Means f (b ∷ bs) in
+    let P : AtFront Spec → Type 0 = Means f (b ∷ bs) in
     if_both P (ltb (b / 16) 4) _ _
     (λ t. if_both P (is_read f.access) _ _
     (λ r. let less : b / 16 < 4 = ltb-true (b / 16) 4 t in (b ∷ [], refl, literal b (omega arith) (read_of f.access r) refl refl))
@@ -102,7 +102,7 @@ named_again : (mode n : ℕ) (rest : List ℕ) → n < 15 → named_at mode n re
 named_again mode n rest h = let e : eqb n 15 ≡ false = ne_eqb n 15 (omega arith) in rw e
 
 -- the first byte of bytes, and what is after it
-abbrev pub first_at : Form → List ℕ → OperandReading
+abbrev pub first_at : Form → List ℕ → AtFront Spec
 first_at f [] = More
 first_at f (b ∷ bs) = specifier_at f b bs
 
@@ -131,12 +131,12 @@ named_bad : (mode n : ℕ) (bs ys : List ℕ) → named_at mode n bs ≡ Bad →
 named_bad mode n bs ys = if_both (λ o. o ≡ Bad → named_at mode n ys ≡ Bad) (eqb n 15) _ _ (λ t e. rw t) (λ t e. cc)
 
 pub valued_fine : {X : Type 0} (mode reg k : ℕ) (bs : List ℕ) → valued_at mode reg k bs ≡ Bad → X
-valued_fine {X = X} mode reg k bs = if_both (λ (o : OperandReading). o ≡ Bad → X) (ltb (length bs) k) _ _ (λ t e. cc) (λ t e. cc)
+valued_fine {X = X} mode reg k bs = if_both (λ (o : AtFront Spec). o ≡ Bad → X) (ltb (length bs) k) _ _ (λ t e. cc) (λ t e. cc)
 
 pub specifier_bad : (f : Form) (b : ℕ) (bs ys : List ℕ) → specifier_at f b bs ≡ Bad → specifier_at f b ys ≡ Bad
 unfolding specifier_at specifier_by
 specifier_bad f b bs ys =
-    let P : OperandReading → Type 0 = λ o. o ≡ Bad → specifier_at f b ys ≡ Bad in
+    let P : AtFront Spec → Type 0 = λ o. o ≡ Bad → specifier_at f b ys ≡ Bad in
     if_both P (ltb (b / 16) 4) _ _
     (λ t. if_both P (is_read f.access) _ _ (λ r e. cc) (λ r e. rw (t, r)))
     (λ t. if_both P (eqb (b / 16) 4) _ _ (λ r e. rw (t, r)) (λ r.

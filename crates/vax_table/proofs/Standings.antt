@@ -9,7 +9,7 @@ use Rattle.vax_table.specs.declared.forms.Form.{Form}
 use Rattle.vax_table.specs.Reading.{displacement_size}
 use Rattle.vax_table.specs.Rows.{OpcodeEntry, row_of}
 use Rattle.vax_table.specs.Spelling.{unindexed, Displaces, byte, byte_deferred, word, word_deferred, long, long_deferred, Specifier, literal, register, register_deferred, autodecrement, autoincrement, immediate, autoincrement_deferred, absolute, displacement, SpellsOperand, specifier, indexed, branch, Operands, Instruction, wait, of_row, IsWellFormed}
-use Rattle.vax_table.specs.Operand.{forms_in}
+use Rattle.vax_table.specs.AllOperands.{forms_in}
 use Rattle.vax_table.specs.LegalOperands.{IsFormed, IsLegalOperand, AreLegalOperands}
 
 -- a specifier, without its form: neither literal nor index, or a literal that is read

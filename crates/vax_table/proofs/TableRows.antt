@@ -6,10 +6,11 @@ use Rattle.std.proofs.lemmas.List.{get_or-map}
 use Rattle.std.proofs.lemmas.List.FromFn.{get_or-map-range_with_len}
 use Rattle.vax_table.specs.declared.packed_rows.TheConstants.{PACKED_ROWS}
 use Rattle.vax_table.specs.declared.packed_rows.PackedRow.TheVariants.{Unknown}
-use Rattle.vax_table.specs.declared.meanings.TheConstants.{OPERATIONS}
-use Rattle.vax_table.specs.declared.meaning.Operation.{Operation}
-use Rattle.vax_table.specs.declared.meaning.Operation.TheVariants.{Other}
-use Rattle.vax_table.specs.Operations.{is_narrow, operation_of}
+use Rattle.vax_table.specs.declared.act.Refusal.TheVariants.{Instruction}
+use Rattle.vax_table.specs.Acted.{meaning_by}
+use Rattle.vax_table.specs.InstructionSet.{Meaning, opcode_meaning, refused}
+use Rattle.vax_table.specs.Operations.{branched, computed, is_narrow, operation_of}
+use Rattle.vax_table.specs.Plan.{performed}
 use Rattle.vax_table.specs.Rows.{OpcodeEntry, row_of}
 use Rattle.vax_table.specs.RowViews.{opcode_entry_view}
 
@@ -29,12 +30,18 @@ row_is n below =
     ∙ get_or-map-range_with_len row_of 0 256 n n None below (omega arith)
 
 -- and what each instruction does
-operations_are : OPERATIONS ≡ map operation_of (range_with_len 0 256)
-unfolding operation_of
-operations_are = refl
+meanings_are : map (λ n. meaning_by (operation_of n)) (range_with_len 0 256) ≡ map opcode_meaning (range_with_len 0 256)
+unfolding operation_of opcode_meaning performed computed branched
+meanings_are = refl
 
-pub operation_is : (n : ℕ) → n < 256 → get_or OPERATIONS n Other ≡ operation_of n
-operation_is n below = ap (λ (xs : List Operation). get_or xs n Other) operations_are ∙ get_or-map-range_with_len operation_of 0 256 n n Other below (omega arith)
+nothing : Meaning
+nothing = refused Instruction
+
+pub meaning_below : (n : ℕ) → n < 256 → meaning_by (operation_of n) ≡ opcode_meaning n
+meaning_below n below =
+    sym (get_or-map-range_with_len (λ k. meaning_by (operation_of k)) 0 256 n n nothing below (omega arith))
+    ∙ ap (λ (xs : List Meaning). get_or xs n nothing) meanings_are
+    ∙ get_or-map-range_with_len opcode_meaning 0 256 n n nothing below (omega arith)
 
 -- and it is in a byte, a word or a longword
 narrow_all : map (λ n. is_narrow (operation_of n)) (range_with_len 0 256) ≡ map (λ n. true) (range_with_len 0 256)

@@ -1,12 +1,12 @@
 -- What an operation stores through is the one operand that its row has as modified or written, in the same width.
-use Rattle.std.specs.Prelude.{map, replicate, leb, not}
+use Rattle.std.specs.Prelude.{map, replicate, find, not, ◌==◌, option_map, unwrap_or}
 use Rattle.std.specs.List.{range_with_len}
-use Rattle.std.proofs.Common.{◌≡◌, ℕ, zero, suc, ◌+◌, ◌-◌, ◌<◌, ◌≤◌, ◌&&◌, Bool, true, false, eqb, ltb, List, [], ◌∷◌, ◌++◌, length, None, append-nil, get_or, refl, ap, ◌∙◌, sym, arith, slice_get, slice_index_or, Option}
+use Rattle.std.proofs.Common.{◌≡◌, ℕ, zero, suc, ◌+◌, ◌<◌, ◌≤◌, ◌&&◌, Bool, true, false, eqb, ltb, List, [], ◌∷◌, ◌++◌, length, None, append-nil, get_or, refl, ap, ◌∙◌, sym, arith, slice_index_or, Option}
 use Rattle.std.proofs.lemmas.Bool.Decides.{nat_tests}
-use Rattle.std.proofs.lemmas.List.{get_or-replicate}
+use Rattle.std.proofs.lemmas.List.{get_or-replicate, get_or_past}
 use Rattle.std.proofs.lemmas.List.FromFn.{get_or-map-range_with_len}
 use Rattle.vv_base.specs.declared.width.Width.{Width}
-use Rattle.vv_base.specs.declared.width.Width.TheVariants.{Byte, Word, Long, Quad}
+use Rattle.vv_base.specs.declared.width.Width.TheVariants.{Long, Quad}
 use Rattle.vv_base.specs.Width.{size_of}
 use Rattle.vax_table.specs.declared.act.Dest.{Dest}
 use Rattle.vax_table.specs.declared.act.Dest.TheVariants.{Nowhere, Register, Memory}
@@ -19,11 +19,16 @@ use Rattle.vax_table.specs.declared.meaning.Operation.TheVariants as does
 use Rattle.vax_table.specs.declared.meaning.Target.TheVariants as targets
 use Rattle.vax_table.specs.Claims.{addresses, claims_by, destination_addresses, operand_claims}
 use Rattle.vax_table.specs.Effects.{dest_of}
-use Rattle.vax_table.specs.Operand.{forms_in}
-use Rattle.vax_table.specs.InstructionSet.{InstructionEntry, OpcodeRow, arithmetic, entry_in_rows, in_block, moves, others}
+use Rattle.vax_table.specs.AllOperands.{forms_in}
+use Rattle.vax_table.specs.Acted.{meaning_by}
+use Rattle.vax_table.specs.InstructionSet.{InstructionEntry, instruction_entry_of, opcode_meaning, opcode_rows, refused}
+use Rattle.vax_table.specs.Plan.{performed}
+use Rattle.vax_table.specs.declared.act.Refusal.TheVariants as refusals
+use Rattle.vax_table.specs.declared.meanings.TheConstants.{OPERATIONS}
 use Rattle.vax_table.specs.Operations.{operation_of}
 use Rattle.vax_table.specs.Rows.{row_of}
 use Rattle.vax_table.proofs.OperandClaims.{AreClaimed, are_few}
+use Rattle.vax_table.proofs.TableRows.{meaning_below}
 use Rattle.vax_table.proofs.Tests.{eq_of, if_both, le_of}
 
 and_both : (a b : Bool) → (a && b) ≡ true → (a ≡ true) × (b ≡ true)
@@ -88,38 +93,27 @@ fit_below n below =
     ∙ get_or-replicate 256 n true true below
 
 -- beyond the bytes there is no instruction
-beyond_list : (es : List InstructionEntry) (k : ℕ) → length es ≤ k → slice_get es k ≡ None
-beyond_list [] k h = refl
-beyond_list (e ∷ es) zero h = absurd (omega arith)
-beyond_list (e ∷ es) (suc k) h = beyond_list es k (omega arith)
+operations_length : length OPERATIONS ≡ 256
+operations_length = refl
 
-beyond_block : (n first : ℕ) (block : List InstructionEntry) → first + length block ≤ n → in_block n first block ≡ None
-beyond_block n first block h =
-    if_both (λ (o : Option InstructionEntry). o ≡ None) (leb first n) _ _ (λ t. beyond_list block (n - first) (omega arith)) (λ t. refl)
+pub beyond_all : (n : ℕ) → 256 ≤ n → operation_of n ≡ does.Other
+unfolding operation_of
+beyond_all n h = get_or_past OPERATIONS n does.Other (omega (arith, operations_length))
 
-are_bytes : List OpcodeRow → Bool
+are_bytes : List (ℕ × InstructionEntry) → Bool
 are_bytes [] = true
-are_bytes (l ∷ ls) = ltb l.opcode 256 && are_bytes ls
+are_bytes (l ∷ ls) = ltb l.0 256 && are_bytes ls
 
-beyond_rows : (n : ℕ) (ls : List OpcodeRow) → 256 ≤ n → are_bytes ls ≡ true → entry_in_rows n ls ≡ None
+beyond_rows : (n : ℕ) (ls : List (ℕ × InstructionEntry)) → 256 ≤ n → are_bytes ls ≡ true → find (λ row. row.0 == n) ls ≡ None
 unfolding are_bytes
 beyond_rows n [] h e = refl
 beyond_rows n (l ∷ ls) h e =
-    let both = and_both (ltb l.opcode 256) (are_bytes ls) e in
-    if_both (λ (o : Option InstructionEntry). o ≡ None) (eqb n l.opcode) _ _ (λ t. absurd (grind (arith, nat_tests, both.0))) (λ t. beyond_rows n ls h both.1)
+    let both = and_both (ltb l.0 256) (are_bytes ls) e in
+    if_both (λ (o : Option (ℕ × InstructionEntry)). o ≡ None) (eqb l.0 n) _ _ (λ t. absurd (grind (arith, nat_tests, both.0))) (λ t. beyond_rows n ls h both.1)
 
-pub beyond_all : (n : ℕ) → 256 ≤ n → operation_of n ≡ does.Other
-unfolding operation_of are_bytes
-beyond_all n h =
-    rw (
-      beyond_block n 0x80 (arithmetic Byte) (omega arith),
-      beyond_block n 0xa0 (arithmetic Word) (omega arith),
-      beyond_block n 0xc0 (arithmetic Long) (omega arith),
-      beyond_block n 0x90 (moves Byte) (omega arith),
-      beyond_block n 0xb0 (moves Word) (omega arith),
-      beyond_block n 0xd0 (moves Long) (omega arith),
-      beyond_rows n others h refl,
-    ) refl
+no_entry : (n : ℕ) → 256 ≤ n → instruction_entry_of n ≡ None
+unfolding are_bytes
+no_entry n h = ap (λ (o : Option (ℕ × InstructionEntry)). option_map (λ row. row.1) o) (beyond_rows n opcode_rows h refl)
 
 -- a test that the operation of each of the 256 passes, and no operation at all
 pub of_each_opcode : (passes : Operation → Bool) → map (λ n. passes (operation_of n)) (range_with_len 0 256) ≡ replicate 256 true → passes does.Other ≡ true → (n : ℕ) → passes (operation_of n) ≡ true
@@ -137,6 +131,18 @@ fit_by : (n : ℕ) (b : Bool) → ltb n 256 ≡ b → is_fit (operation_of n) (f
 unfolding is_fit
 fit_by n true e = fit_below n (grind (arith, nat_tests))
 fit_by n false e = rw (beyond_all n (le_of n 256 e)) refl
+
+-- the code's operation is what the instruction set says of the opcode
+meaning_beyond : (n : ℕ) → 256 ≤ n → meaning_by (operation_of n) ≡ opcode_meaning n
+unfolding opcode_meaning performed
+meaning_beyond n h = ap meaning_by (beyond_all n h) ∙ sym (ap (λ (o : Option InstructionEntry). unwrap_or (option_map (λ e. e.meaning) o) (refused refusals.Instruction)) (no_entry n h))
+
+meaning_on : (n : ℕ) (b : Bool) → ltb n 256 ≡ b → meaning_by (operation_of n) ≡ opcode_meaning n
+meaning_on n true e = meaning_below n (grind (arith, nat_tests))
+meaning_on n false e = meaning_beyond n (le_of n 256 e)
+
+pub meaning_is : (n : ℕ) → meaning_by (operation_of n) ≡ opcode_meaning n
+meaning_is n = meaning_on n (ltb n 256) refl
 
 pub operations_fit : (n : ℕ) → is_fit (operation_of n) (forms_in (row_of n)) ≡ true
 operations_fit n = fit_by n (ltb n 256) refl

@@ -6,7 +6,7 @@ use Rattle.vax_arch.specs.declared.mode.Intent.{Intent}
 use Rattle.vax_table.specs.Claims.{AreAmong, Holds, addresses, claims}
 use Rattle.vax_table.specs.Effects.{Effect}
 use Rattle.vax_table.specs.Fetch.{by_answer, decided, fetched}
-use Rattle.vax_table.specs.Operand.{forms_in, operands_of, trap_operands}
+use Rattle.vax_table.specs.AllOperands.{forms_in, operands_of, trap_operands}
 use Rattle.vax_table.specs.Operations.{operation_of}
 use Rattle.vax_table.specs.Plan.{plan_of}
 use Rattle.vax_table.specs.PlanLaws.{StoresAreClaimed, bytes_of_stores}
@@ -14,12 +14,14 @@ use Rattle.vax_table.specs.Reading.{Answer, Whole, Short, Unknown, Reserved, dec
 use Rattle.vax_table.specs.Rows.{row_of}
 use Rattle.vax_table.specs.Interaction.{Interaction, Space, outcome}
 use Rattle.vax_table.specs.Spelling.{Instruction}
-use Rattle.vax_table.specs.Whole.{Act, Meant, Plain, Probes, Traps, acted, acted_by, instruction, is_always_done, meant, plain_meaning, probing, trapping}
+use Rattle.vax_table.specs.Whole.{Act, Meant, Plain, Probes, Traps, instruction, meant, trapping}
+use Rattle.vax_table.specs.Acted.{acted, acted_by, plain_meaning, probing, is_always_done}
 use Rattle.vax_table.specs.declared.act.Sens.{Sens}
 use Rattle.vax_table.specs.declared.effect.Store.{Store}
 use Rattle.vax_table.specs.declared.evaluation.Operands.{Operands}
 use Rattle.vax_table.specs.declared.meaning.Operation.{Operation}
 use Rattle.vax_table.specs.declared.meaning.Operation.TheVariants as does
+use Rattle.vax_table.proofs.Acted.{instruction_is}
 use Rattle.vax_table.proofs.Claims.{among_back, among_front, holds-bind, holds_always, holds_made}
 use Rattle.vax_table.proofs.Plans.{Sound, plans_sound}
 use Rattle.vax_table.proofs.OperandClaims.{AreClaimed, are_few, operands_claimed}
@@ -86,10 +88,9 @@ unfolding fetched
 fetched_holds at = decided_holds 22 at []
 
 pub whole_holds : (is_kernel : Bool) (psl : ℕ) (r : List ℕ) → Holds MeantClaims [] (instruction is_kernel psl r)
-unfolding instruction
 whole_holds is_kernel psl r =
-    holds-bind FetchClaims MeantClaims [] (fetched (slice_index r 15)) _ (fetched_holds (slice_index r 15))
-    (λ cs d e. subst (λ (zs : List ℕ). Holds MeantClaims zs (acted is_kernel psl d r)) (sym e) (acted_holds is_kernel psl d r))
+    subst (Holds MeantClaims []) (sym (instruction_is is_kernel psl r)) (holds-bind FetchClaims MeantClaims [] (fetched (slice_index r 15)) _ (fetched_holds (slice_index r 15))
+    (λ cs d e. subst (λ (zs : List ℕ). Holds MeantClaims zs (acted is_kernel psl d r)) (sym e) (acted_holds is_kernel psl d r)))
 
 pub exactly_claimed : (is_kernel : Bool) (psl : ℕ) (r : List ℕ) (s : Space) (opcode : ℕ) (e : Effect) →
     outcome s (instruction is_kernel psl r) ≡ Ok (meant opcode (Plain e)) → claims s (instruction is_kernel psl r) ≡ bytes_of_stores e.writes

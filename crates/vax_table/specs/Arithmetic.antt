@@ -1,9 +1,10 @@
 -- The integer arithmetic and logic of the instructions (VAX Architecture Reference Manual: integer arithmetic and
 -- logical instructions): an exact whole number, reduced to the width once, and the condition codes.
-use Rattle.std.specs.Prelude.{ℕ, ◌+◌, ◌-◌, ◌*◌, ◌/◌, ◌%◌, ◌^◌, ◌==◌, Bool, true, false, not, ◌&&◌, nat_lt, nat_le, ℤ, pos, negsuc, ◌+ℤ◌, ◌-ℤ◌, ◌*ℤ◌, neg_ℤ, int_lt, int_le, int_div, unsigned_abs, bit_and, bit_or, bit_xor, Option, Some, None, if◌then◌else◌}
+use Rattle.std.specs.Prelude.{ℕ, ◌+◌, ◌-◌, ◌*◌, ◌/◌, ◌^◌, ◌==◌, Bool, true, false, not, ◌&&◌, nat_lt, nat_le, ℤ, pos, negsuc, ◌+ℤ◌, ◌-ℤ◌, ◌*ℤ◌, neg_ℤ, int_lt, int_le, int_div, unsigned_abs, bit_and, bit_or, bit_xor, Option, Some, None, if◌then◌else◌}
 use Rattle.std.specs.Int.{int_rem_euclid, int_div_euclid, rotate_left, w8, w16, w32, w64}
 use Rattle.vv_base.specs.declared.width.Width.{Width}
 use Rattle.vv_base.specs.declared.width.Width.TheVariants.{Byte, Word, Long, Quad}
+use Rattle.vv_base.specs.Bits.{is_set}
 use Rattle.vv_base.specs.Width.{bits_of, low, signed_of}
 use Rattle.vax_table.specs.declared.answer.Alu.{Alu}
 use Rattle.vax_table.specs.declared.answer.AluOp.{AluOp}
@@ -37,17 +38,13 @@ pub record ArithmeticResult : Type 0 where
   pub codes : Codes
   pub zero_divisor : Bool
 
--- a value, with N and Z of it
+-- a value, with N and Z of it; of bits V is 0, and C as before (class L)
 abbrev pub valued : Width → ℕ → Bool → Bool → ArithmeticResult
 valued w n v c = record { value = n; codes = record { n = nat_le (2 ^ (bits_of w - 1)) n; z = n == 0; v = v; c = c }; zero_divisor = false }
 
 -- An exact result: V says that it doesn't fit. C is a carry or borrow (class A), 0 (M), or as before (K).
 abbrev pub exactly : Width → ℤ → Bool → ArithmeticResult
 exactly w x c = valued w (reduced w x) (not (does_fit w x)) c
-
--- A result of bits: V is 0. C is as before (class L).
-abbrev pub logical_result : Width → ℕ → Bool → ArithmeticResult
-logical_result w n c = valued w n false c
 
 -- second plus first plus a carry
 abbrev pub sum_of : Width → ℕ → ℕ → Bool → ArithmeticResult
@@ -96,40 +93,34 @@ outcome_of Sub w a b c = difference_of w a b false
 outcome_of SubBorrow w a b c = difference_of w a b c
 outcome_of Mul w a b c = exactly w (signed_of w b *ℤ signed_of w a) false
 outcome_of Div w a b c = quotient_of w a b
-outcome_of Bis w a b c = logical_result w (bit_or (low w b) (low w a)) c
-outcome_of Bic w a b c = logical_result w (bit_and (low w b) (complement w a)) c
-outcome_of Xor w a b c = logical_result w (bit_xor (low w b) (low w a)) c
+outcome_of Bis w a b c = valued w (bit_or (low w b) (low w a)) false c
+outcome_of Bic w a b c = valued w (bit_and (low w b) (complement w a)) false c
+outcome_of Xor w a b c = valued w (bit_xor (low w b) (low w a)) false c
 outcome_of Mneg w a b c = negation_of w a
-outcome_of Mcom w a b c = logical_result w (complement w a) c
-outcome_of Move w a b c = logical_result w (low w a) c
+outcome_of Mcom w a b c = valued w (complement w a) false c
+outcome_of Move w a b c = valued w (low w a) false c
 outcome_of Cmp w a b c = comparison_of w a b
-outcome_of Bit w a b c = logical_result w (bit_and (low w b) (low w a)) c
-outcome_of Tst w a b c = logical_result w (low w a) false
+outcome_of Bit w a b c = valued w (bit_and (low w b) (low w a)) false c
+outcome_of Tst w a b c = valued w (low w a) false false
 outcome_of Ash w a b c = exactly w (shifted (signed_of w b) (signed_of Byte a)) false
-outcome_of Rot w a b c = logical_result w (rotated w (low w b) (low Byte a)) c
+outcome_of Rot w a b c = valued w (rotated w (low w b) (low Byte a)) false c
 outcome_of Narrow w a b c = exactly w (signed_of Long a) false
 
 -- the PSW: C is bit 0, V 1, Z 2, N 3, IV 5
-abbrev pub carry_of : ℕ → Bool
-carry_of psw = psw % 2 == 1
-
-abbrev pub traps_overflow : ℕ → Bool
-traps_overflow psw = psw / 2 ^ 5 % 2 == 1
+abbrev pub codes_of : ℕ → Codes
+codes_of psw = record { n = is_set psw 3; z = is_set psw 2; v = is_set psw 1; c = is_set psw 0 }
 
 abbrev pub psw_with : ℕ → Codes → ℕ
 psw_with psw codes = psw / 16 * 16 + 8 * bit_of codes.n + 4 * bit_of codes.z + 2 * bit_of codes.v + bit_of codes.c
 
 -- a zero divisor is trap 2 whatever IV is; V by overflow is trap 1 where IV is set
-abbrev pub trap_of : ℕ → ArithmeticResult → Option ℕ
-trap_of psw o =
-    if o.zero_divisor then Some 2
-    else if o.codes.v && traps_overflow psw then Some 1
-    else None
+abbrev pub arithmetic_trap : ℕ → ArithmeticResult → Option ℕ
+arithmetic_trap psw o = if o.zero_divisor then Some 2 else if o.codes.v && is_set psw 5 then Some 1 else None
 
 -- an outcome as an answer, over the PSW of before
 abbrev pub alu_of_result : ArithmeticResult → ℕ → Alu
-alu_of_result o psw = record { value = o.value; psw = psw_with psw o.codes; trap = trap_of psw o }
+alu_of_result o psw = record { value = o.value; psw = psw_with psw o.codes; trap = arithmetic_trap psw o }
 
 -- an operation's value of the width, the PSW after it, and the type of its arithmetic trap
 unfoldable pub alu_of : AluOp → ℕ → ℕ → Width → ℕ → Alu
-alu_of op a b w psw = alu_of_result (outcome_of op w a b (carry_of psw)) psw
+alu_of op a b w psw = alu_of_result (outcome_of op w a b (is_set psw 0)) psw

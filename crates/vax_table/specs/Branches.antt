@@ -1,8 +1,9 @@
 -- Branches, loops, CASE, and subroutines (VAX Architecture Reference Manual: control instructions).
-use Rattle.std.specs.Prelude.{ℕ, ◌+◌, ◌-◌, ◌*◌, ◌/◌, ◌%◌, ◌^◌, ◌==◌, Bool, true, false, not, ◌||◌, nat_le, nat_lt, bit_and, bit_or, pos, int_lt, int_le, Option, Some, None, if◌then◌else◌, slice_index, slice_set}
+use Rattle.std.specs.Prelude.{ℕ, ◌+◌, ◌-◌, ◌*◌, ◌/◌, ◌%◌, ◌^◌, Bool, true, false, not, nat_le, nat_lt, bit_and, bit_or, pos, int_lt, int_le, Option, Some, None, if◌then◌else◌, slice_index, slice_set}
 use Rattle.std.specs.Int.{int_div_euclid}
 use Rattle.vv_base.specs.declared.width.Width.{Width}
 use Rattle.vv_base.specs.declared.width.Width.TheVariants.{Byte, Long}
+use Rattle.vv_base.specs.Bits.{is_set}
 use Rattle.vv_base.specs.Width.{signed_of}
 use Rattle.vax_arch.specs.declared.mode.Intent.{Intent}
 use Rattle.vax_arch.specs.declared.mode.Intent.TheVariants.{Read, Write}
@@ -17,44 +18,6 @@ use Rattle.vax_table.specs.declared.act.Refusal.TheVariants.{Operand}
 use Rattle.vax_table.specs.declared.answer.Alu.{Alu}
 use Rattle.vax_table.specs.declared.answer.AluOp.TheVariants.{Add, Sub, Cmp}
 use Rattle.vax_table.specs.declared.evaluation.Operands.{Operands}
-use Rattle.vax_table.specs.declared.meaning.Condition.{Condition}
-use Rattle.vax_table.specs.declared.meaning.Condition.TheVariants.{Always, NotEqual, Equal, Greater, LessOrEqual, GreaterOrEqual, Less, GreaterUnsigned, LessOrEqualUnsigned, OverflowClear, OverflowSet, CarryClear, CarrySet}
-
--- bit k of a number
-abbrev pub bit : ℕ → ℕ → Bool
-bit k n = n / 2 ^ k % 2 == 1
-
--- the condition codes of a status word
-abbrev pub is_c : ℕ → Bool
-is_c psw = bit 0 psw
-
-abbrev pub is_v : ℕ → Bool
-is_v psw = bit 1 psw
-
-abbrev pub is_z : ℕ → Bool
-is_z psw = bit 2 psw
-
-abbrev pub is_n : ℕ → Bool
-is_n psw = bit 3 psw
-
-abbrev pub holds : Condition → ℕ → Bool
-holds Always psw = true
-holds NotEqual psw = not (is_z psw)
-holds Equal psw = is_z psw
-holds Greater psw = not (is_n psw || is_z psw)
-holds LessOrEqual psw = is_n psw || is_z psw
-holds GreaterOrEqual psw = not (is_n psw)
-holds Less psw = is_n psw
-holds GreaterUnsigned psw = not (is_c psw || is_z psw)
-holds LessOrEqualUnsigned psw = is_c psw || is_z psw
-holds OverflowClear psw = not (is_v psw)
-holds OverflowSet psw = is_v psw
-holds CarryClear psw = not (is_c psw)
-holds CarrySet psw = is_c psw
-
--- a branch to its operand
-unfoldable pub branched : Condition → Operands → ℕ → Effect
-branched condition o psw = went_if (holds condition psw) (long_of o 0) (begun o psw)
 
 -- BSB and JSB push the next PC and go to their operand; RSB pops the PC
 unfoldable pub called_subroutine : Operands → ℕ → Interaction Effect
@@ -118,7 +81,7 @@ comes_out wanted is = if wanted then is else not is
 
 -- BLBS and BLBC: the low bit of a longword
 unfoldable pub branched_on_low_bit : Bool → Operands → ℕ → Effect
-branched_on_low_bit on o psw = went_if (comes_out on (bit 0 (long_of o 0))) (long_of o 1) (begun o psw)
+branched_on_low_bit on o psw = went_if (comes_out on (is_set (long_of o 0) 0)) (long_of o 1) (begun o psw)
 
 -- a longword with bit k as given
 abbrev pub with_bit : Bool → ℕ → ℕ → ℕ
@@ -131,7 +94,7 @@ bit_made None dest w k n e = e
 bit_made (Some b) dest w k n e = put dest w (with_bit b k n) e
 
 abbrev pub bit_tested : Bool → Option Bool → Dest → Width → ℕ → ℕ → ℕ → Effect → Effect
-bit_tested on becomes dest w k n to e = went_if (comes_out on (bit k n)) to (bit_made becomes dest w k n e)
+bit_tested on becomes dest w k n to e = went_if (comes_out on (is_set n k)) to (bit_made becomes dest w k n e)
 
 -- a bit that may change is read with write intent
 abbrev pub bit_intent : Option Bool → Intent

@@ -2,13 +2,13 @@
 -- instructions). A frame is from FP on: the handler's longword, one with the stack's alignment, the S flag, the entry
 -- mask and the status word, then AP, FP, PC, and the registers of the mask.
 use Rattle.std.specs.Prelude.{ℕ, ◌+◌, ◌*◌, ◌/◌, ◌%◌, ◌^◌, ◌==◌, Bool, true, false, List, [], ◌∷◌, if◌then◌else◌, map, slice_index, slice_set}
+use Rattle.vv_base.specs.Bits.{is_set}
 use Rattle.vax_arch.specs.declared.mode.Intent.TheVariants.{Read}
 use Rattle.vax_table.specs.Arithmetic.{bit_of}
-use Rattle.vax_table.specs.Branches.{bit}
 use Rattle.vax_table.specs.Effects.{Effect, begun, long_of}
 use Rattle.vax_table.specs.Interaction.{Interaction, Done, Refuse, Touch, ◌>>=◌}
 use Rattle.vax_table.specs.Operand.{place, plus}
-use Rattle.vax_table.specs.Stack.{does_name, named_down, named_up, pop_all, push, push_all}
+use Rattle.vax_table.specs.Stack.{named_down, named_up, pop_all, push, push_all}
 use Rattle.vax_table.specs.declared.act.Refusal.TheVariants.{Operand}
 use Rattle.vax_table.specs.declared.evaluation.Operands.{Operands}
 use Rattle.vax_table.specs.declared.evaluation.Place.{Place}
@@ -25,7 +25,7 @@ registers_pushed o psw = push_all (values_of o.r (named_down 15 (long_of o 0))) 
 unfoldable pub registers_popped : Operands → ℕ → Interaction Effect
 registers_popped o psw =
     pop_all (named_up 15 0 (long_of o 0)) (place (slice_index o.r 14) o.r) >>= λ p.
-    Done (record (begun o psw) { r = if does_name (long_of o 0) 14 then p.r else slice_set p.r 14 p.at })
+    Done (record (begun o psw) { r = if is_set (long_of o 0) 14 then p.r else slice_set p.r 14 p.at })
 
 -- the entry mask is the word at the procedure; its bits 13:12 are a reserved operand
 abbrev pub entry_mask : ℕ → Interaction ℕ
@@ -83,7 +83,7 @@ list_dropped is_on_stack sp = if is_on_stack then Touch Read sp 4 (λ count. Don
 abbrev pub frame_left : ℕ → ℕ → Operands → ℕ → Interaction Effect
 frame_left fp word o psw =
     frame_popped (word / 2 ^ 16) (place (plus fp 8) o.r) >>= λ p.
-    list_dropped (bit 29 word) (plus p.at (word / 2 ^ 30)) >>= λ sp.
+    list_dropped (is_set word 29) (plus p.at (word / 2 ^ 30)) >>= λ sp.
     Done (record (begun o psw) { r = slice_set p.r 14 sp; psw = word % 2 ^ 8 })
 
 -- RET: the second longword's bits 15:8 are a reserved operand

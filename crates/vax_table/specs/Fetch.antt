@@ -18,6 +18,7 @@ unfoldable pub decided : ℕ → ℕ → List ℕ → Interaction Instruction
 decided zero at bytes = Refuse refusals.Instruction
 decided (suc looks) at bytes = by_answer (decided looks at) at bytes (decoded_at bytes)
 
--- The instruction at an address. A spelling has at most 21 bytes, so 22 tries decide.
+-- The instruction at an address. That 22 tries decide is a law (`IsShort`: no spelling has more than 21 bytes); after them it
+-- would be refused.
 unfoldable pub fetched : ℕ → Interaction Instruction
 fetched at = decided 22 at []

@@ -5,12 +5,12 @@
 use Rattle.std.specs.Prelude.{ℕ, ◌+◌, ◌*◌, ◌/◌, ◌%◌, ◌^◌, Bool, true, false, not, List}
 use Rattle.vv_base.specs.declared.width.Width.TheVariants.{Long}
 use Rattle.vax_table.specs.Arithmetic.{bit_of}
-use Rattle.vax_table.specs.Branches.{added_and_compared, added_one, branched, branched_on_bit, branched_on_low_bit, called_subroutine, cased, left_subroutine, subtracted_one}
+use Rattle.vax_table.specs.Branches.{added_and_compared, added_one, branched_on_bit, branched_on_low_bit, called_subroutine, cased, left_subroutine, subtracted_one}
 use Rattle.vax_table.specs.Calls.{called_general, called_on_stack, registers_popped, registers_pushed, returned}
-use Rattle.vax_table.specs.Computing.{computed, moved_quad, operand_pushed, status_cleared, status_set}
+use Rattle.vax_table.specs.Computing.{moved_quad, operand_pushed, status_cleared, status_set}
 use Rattle.vax_table.specs.Effects.{Effect, begun, dest_of, put, quad_of}
-use Rattle.vax_table.specs.Operand.{operands_of}
-use Rattle.vax_table.specs.Operations.{operation_of}
+use Rattle.vax_table.specs.AllOperands.{operands_of}
+use Rattle.vax_table.specs.Operations.{operation_of, computed, branched}
 use Rattle.vax_table.specs.Interaction.{Interaction, Done, Refuse, ◌>>=◌}
 use Rattle.vax_table.specs.Spelling.{Instruction}
 use Rattle.vax_table.specs.declared.act.Refusal.TheVariants as refusals

@@ -8,6 +8,7 @@ use Rattle.vax_table.specs.declared.forms.Access.{Access}
 use Rattle.vax_table.specs.declared.forms.Access.TheVariants.{Read, Address, Branch}
 use Rattle.vax_table.specs.declared.forms.Form.{Form}
 use Rattle.vax_table.specs.declared.decoded.Spec.{Spec}
+pub use Rattle.vax_table.specs.Operand.{displacement_size}
 use Rattle.vax_table.specs.Rows.{OpcodeEntry, row_of}
 use Rattle.vax_table.specs.Spelling.{unindexed, Instruction, Spells, SpellsNone, HasOpcode, AreBytes}
 
@@ -32,26 +33,28 @@ abbrev pub is_quad : Width → Bool
 is_quad Quad = true
 is_quad _ = false
 
--- an operand and the bytes after it, a need of more bytes, or a reserved form
-pub data OperandReading : Type 0 where
-  Got : Spec → List ℕ → OperandReading
-  More : OperandReading
-  Bad : OperandReading
+-- what is at the front of bytes and the bytes after it, a need of more bytes, or a reserved form
+pub data AtFront (A : Type 0) : Type 0 where
+  Got : A → List ℕ → AtFront A
+  More : AtFront A
+  Bad : AtFront A
+
+-- one after another
+abbrev pub then_read : {A B : Type 0} → AtFront A → (A → List ℕ → AtFront B) → AtFront B
+then_read (Got a rest) f = f a rest
+then_read More f = More
+then_read Bad f = Bad
 
 -- a value of k bytes
-abbrev pub valued_at : ℕ → ℕ → ℕ → List ℕ → OperandReading
+abbrev pub valued_at : ℕ → ℕ → ℕ → List ℕ → AtFront Spec
 valued_at mode reg k bytes = if nat_lt (length bytes) k then More else Got (unindexed mode reg (number_of (take k bytes))) (drop k bytes)
 
 -- a register other than PC
-abbrev pub named_at : ℕ → ℕ → List ℕ → OperandReading
+abbrev pub named_at : ℕ → ℕ → List ℕ → AtFront Spec
 named_at mode reg bytes = if reg == 15 then Bad else Got (unindexed mode reg 0) bytes
 
--- the bytes of a displacement in the modes A to F
-abbrev pub displacement_size : ℕ → ℕ
-displacement_size mode = if nat_lt mode 12 then 1 else (if nat_lt mode 14 then 2 else 4)
-
 -- a specifier of the modes 5 to F: form, mode, register, and the bytes after the first
-unfoldable pub specifier_by : Form → ℕ → ℕ → List ℕ → OperandReading
+unfoldable pub specifier_by : Form → ℕ → ℕ → List ℕ → AtFront Spec
 specifier_by form mode reg bytes =
     if mode == 5 then (if is_address form.access || (is_quad form.width && reg == 14) then Bad else named_at 5 reg bytes) else
     if mode == 6 then named_at 6 reg bytes else
@@ -61,47 +64,26 @@ specifier_by form mode reg bytes =
     valued_at mode reg (displacement_size mode) bytes
 
 -- a specifier without index, by its first byte
-unfoldable pub specifier_at : Form → ℕ → List ℕ → OperandReading
+unfoldable pub specifier_at : Form → ℕ → List ℕ → AtFront Spec
 specifier_at form b bytes =
     if nat_lt (b / 16) 4 then (if is_read form.access then Got (unindexed 0 0 b) bytes else Bad) else
     if b / 16 == 4 then Bad else specifier_by form (b / 16) (b % 16) bytes
 
-abbrev pub with_index : ℕ → OperandReading → OperandReading
-with_index x (Got s rest) = Got (record s { index = Some x }) rest
-with_index x More = More
-with_index x Bad = Bad
-
 -- a specifier after an index of register x
-unfoldable pub indexed_at : Form → ℕ → List ℕ → OperandReading
+unfoldable pub indexed_at : Form → ℕ → List ℕ → AtFront Spec
 indexed_at form x [] = More
-indexed_at form x (b ∷ bytes) = if nat_lt (b / 16) 6 then Bad else if b == 0x8f then Bad else with_index x (specifier_at form b bytes)
+indexed_at form x (b ∷ bytes) = if nat_lt (b / 16) 6 then Bad else if b == 0x8f then Bad else then_read (specifier_at form b bytes) (λ s rest. Got (record s { index = Some x }) rest)
 
-unfoldable pub operand_at : Form → List ℕ → OperandReading
+unfoldable pub operand_at : Form → List ℕ → AtFront Spec
 operand_at form [] = More
 operand_at form (b ∷ bytes) =
     if is_branch form.access then valued_at 16 0 (size_of form.width) (b ∷ bytes) else
     if b / 16 == 4 then (if b % 16 == 15 then Bad else indexed_at form (b % 16) bytes) else
     specifier_at form b bytes
 
--- operands and the bytes after them, a need of more bytes, or a reserved form
-pub data OperandsReading : Type 0 where
-  GotAll : List Spec → List ℕ → OperandsReading
-  MoreAll : OperandsReading
-  BadAll : OperandsReading
-
--- these, and then those
-abbrev pub with_operands_before : List Spec → OperandsReading → OperandsReading
-with_operands_before front (GotAll ss rest) = GotAll (front ++ ss) rest
-with_operands_before front MoreAll = MoreAll
-with_operands_before front BadAll = BadAll
-
-abbrev pub operands_at : List Form → List ℕ → OperandsReading
-operands_at [] bytes = GotAll [] bytes
-operands_at (f ∷ fs) bytes = elim (operand_at f bytes) [
-  | Got s rest ↦ with_operands_before (s ∷ []) (operands_at fs rest)
-  | More ↦ MoreAll
-  | Bad ↦ BadAll
-]
+abbrev pub operands_at : List Form → List ℕ → AtFront (List Spec)
+operands_at [] bytes = Got [] bytes
+operands_at (f ∷ fs) bytes = then_read (operand_at f bytes) (λ s rest. then_read (operands_at fs rest) (λ ss more. Got (s ∷ ss) more))
 
 -- a whole instruction and the bytes after it, bytes that begin one, an opcode that no instruction
 -- has, or a reserved form
@@ -111,10 +93,10 @@ pub data Answer : Type 0 where
   Unknown : Answer
   Reserved : Answer
 
-abbrev pub answer_of : ℕ → List ℕ → OperandsReading → Answer
-answer_of opcode bytes (GotAll ss rest) = Whole (record { opcode = opcode; wait = false; length = 1 + (length bytes - length rest); specs = ss }) rest
-answer_of opcode bytes MoreAll = Short
-answer_of opcode bytes BadAll = Reserved
+abbrev pub answer_of : ℕ → List ℕ → AtFront (List Spec) → Answer
+answer_of opcode bytes (Got ss rest) = Whole (record { opcode = opcode; wait = false; length = 1 + (length bytes - length rest); specs = ss }) rest
+answer_of opcode bytes More = Short
+answer_of opcode bytes Bad = Reserved
 
 abbrev pub by_row : ℕ → List ℕ → Option OpcodeEntry → Answer
 by_row opcode bytes None = Unknown

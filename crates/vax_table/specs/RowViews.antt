@@ -8,7 +8,7 @@ use Rattle.vax_table.specs.Rows.{OpcodeEntry}
 
 -- a row without where its operands lie in memory
 abbrev pub row_view : Row → OpcodeEntry
-row_view row = record { operands = row.operands.items; sensitive = row.sensitive }
+row_view row = record { operands = row.operands.items }
 
 abbrev pub row_views : Option Row → Option OpcodeEntry
 row_views None = None
@@ -16,8 +16,8 @@ row_views (Some row) = Some (row_view row)
 
 abbrev pub opcode_entry_view : PackedRow → Option OpcodeEntry
 opcode_entry_view Unknown = None
-opcode_entry_view (packed.None s) = Some (record { operands = []; sensitive = s })
-opcode_entry_view (One s a) = Some (record { operands = a ∷ []; sensitive = s })
-opcode_entry_view (Two s a b) = Some (record { operands = a ∷ b ∷ []; sensitive = s })
-opcode_entry_view (Three s a b c) = Some (record { operands = a ∷ b ∷ c ∷ []; sensitive = s })
-opcode_entry_view (Four s a b c d) = Some (record { operands = a ∷ b ∷ c ∷ d ∷ []; sensitive = s })
+opcode_entry_view packed.None = Some (record { operands = [] })
+opcode_entry_view (One a) = Some (record { operands = a ∷ [] })
+opcode_entry_view (Two a b) = Some (record { operands = a ∷ b ∷ [] })
+opcode_entry_view (Three a b c) = Some (record { operands = a ∷ b ∷ c ∷ [] })
+opcode_entry_view (Four a b c d) = Some (record { operands = a ∷ b ∷ c ∷ d ∷ [] })

@@ -6,7 +6,8 @@ use Rattle.vax_table.specs.declared.act.Dest.TheVariants.{Nowhere, Register, Mem
 use Rattle.vax_table.specs.declared.decoded.Spec.{Spec}
 use Rattle.vax_table.specs.declared.evaluation.Evaluated.{Evaluated}
 use Rattle.vax_table.specs.declared.forms.Form.{Form}
-use Rattle.vax_table.specs.Operand.{evaluated, base_address, address_of, read_operand, modified_operand, written_operand, address_operand, bits_operand, branch_operand, operand_of, operands_of}
+use Rattle.vax_table.specs.Operand.{evaluated, base_address, address_of, read_operand, modified_operand, written_operand, address_operand, bits_operand, branch_operand}
+use Rattle.vax_table.specs.AllOperands.{operand_of, operands_of}
 use Rattle.vax_table.specs.InstructionSet.{r, m, w, a, v, b}
 use Rattle.vax_table.specs.Rows.{row_of}
 use Rattle.vax_table.specs.Interaction.{Space, Trouble, At, Absent, outcome, reached}

@@ -6,10 +6,10 @@ use Rattle.vax_table.specs.Arithmetic.{alu_of}
 use Rattle.vax_table.specs.Branches.{branched_on_bit, cased}
 use Rattle.vax_table.specs.Calls.{called_on_stack, entered, frame_popped, registers_popped, registers_pushed, returned}
 use Rattle.vax_table.specs.Claims.{claims}
-use Rattle.vax_table.specs.Computing.{computed}
 use Rattle.vax_table.specs.Effects.{Effect, store}
-use Rattle.vax_table.specs.Operand.{address_of, address_operand, base_address, bits_operand, branch_operand, modified_operand, operand_of, operands_of, read_operand, written_operand}
-use Rattle.vax_table.specs.Operations.{operation_of}
+use Rattle.vax_table.specs.Operand.{address_of, address_operand, base_address, bits_operand, branch_operand, modified_operand, read_operand, written_operand}
+use Rattle.vax_table.specs.AllOperands.{operand_of, operands_of}
+use Rattle.vax_table.specs.Operations.{operation_of, computed}
 use Rattle.vax_table.specs.Plan.{performed, plan_of, probed}
 use Rattle.vax_table.specs.Rows.{row_of}
 use Rattle.vax_table.specs.Interaction.{Absent, At, Interaction, Refusing, Space, Test, outcome, reached}
@@ -17,7 +17,8 @@ use Rattle.vax_table.specs.ShownOperand.{instruction}
 use Rattle.vax_table.specs.Spelled.{value_size}
 use Rattle.vax_table.specs.Spelling.{Instruction, unindexed}
 use Rattle.vax_table.specs.Stack.{named_down, named_up, pop, push}
-use Rattle.vax_table.specs.Whole.{Meant, Probes, acted, meant}
+use Rattle.vax_table.specs.Whole.{Meant, Probes, meant}
+use Rattle.vax_table.specs.Acted.{acted}
 use Rattle.vax_table.specs.declared.act.Dest.TheVariants.{Nowhere}
 use Rattle.vax_table.specs.declared.act.Refusal.TheVariants as refusals
 use Rattle.vax_table.specs.declared.evaluation.Operands.{Operands}

@@ -2,7 +2,7 @@
 use Rattle.std.specs.Prelude.{◌≡◌, refl, Some, None, [], ◌∷◌}
 use Rattle.vv_base.specs.declared.width.Width.TheVariants.{Byte, Word, Long, Quad}
 use Rattle.vax_table.specs.InstructionSet.{r, m, w, a, v, b}
-use Rattle.vax_table.specs.Rows.{row_of, plain, sensitive}
+use Rattle.vax_table.specs.Rows.{row_of, plain}
 
 pub addl3 : row_of 0xc1 ≡ Some (plain (r Long ∷ r Long ∷ w Long ∷ []))
 unfolding row_of
@@ -37,11 +37,11 @@ pub calls : row_of 0xfb ≡ Some (plain (r Long ∷ a Byte ∷ []))
 unfolding row_of
 calls = refl
 
-pub mfpr : row_of 0xdb ≡ Some (sensitive (r Long ∷ w Long ∷ []))
+pub mfpr : row_of 0xdb ≡ Some (plain (r Long ∷ w Long ∷ []))
 unfolding row_of
 mfpr = refl
 
-pub chmu : row_of 0xbf ≡ Some (sensitive (r Word ∷ []))
+pub chmu : row_of 0xbf ≡ Some (plain (r Word ∷ []))
 unfolding row_of
 chmu = refl
 

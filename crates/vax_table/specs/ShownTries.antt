@@ -5,10 +5,10 @@ use Rattle.vax_arch.specs.declared.mode.Intent.TheVariants.{Write}
 use Rattle.vax_table.specs.Arithmetic.{alu_of}
 use Rattle.vax_table.specs.Calls.{registers_pushed}
 use Rattle.vax_table.specs.Claims.{claims, operand_claims}
-use Rattle.vax_table.specs.Computing.{computed}
 use Rattle.vax_table.specs.Effects.{Effect, store}
-use Rattle.vax_table.specs.Operand.{address_of, base_address, modified_operand, operand_of, operands_of, read_operand}
-use Rattle.vax_table.specs.Operations.{operation_of}
+use Rattle.vax_table.specs.Operand.{address_of, base_address, modified_operand, read_operand}
+use Rattle.vax_table.specs.AllOperands.{operand_of, operands_of}
+use Rattle.vax_table.specs.Operations.{operation_of, computed}
 use Rattle.vax_table.specs.Plan.{performed, plan_of}
 use Rattle.vax_table.specs.PlanLaws.{bytes_of_stores}
 use Rattle.vax_table.specs.InstructionSet.{m, r, w}

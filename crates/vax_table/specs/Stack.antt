@@ -1,6 +1,7 @@
 -- The stack: longwords that are pushed and popped, and stacks of registers by a mask
 -- (VAX Architecture Reference Manual: PUSHL, PUSHR, POPR; subroutine and procedure call instructions).
-use Rattle.std.specs.Prelude.{ℕ, zero, suc, ◌+◌, ◌/◌, ◌%◌, ◌^◌, ◌==◌, Bool, List, [], ◌∷◌, ◌++◌, if◌then◌else◌, slice_index, slice_set}
+use Rattle.std.specs.Prelude.{ℕ, zero, suc, ◌+◌, List, [], ◌∷◌, ◌++◌, if◌then◌else◌, slice_index, slice_set}
+use Rattle.vv_base.specs.Bits.{is_set}
 use Rattle.vv_base.specs.declared.width.Width.TheVariants.{Long}
 use Rattle.vax_arch.specs.declared.mode.Intent.TheVariants.{Read, Write}
 use Rattle.vax_table.specs.declared.evaluation.Place.{Place}
@@ -28,16 +29,12 @@ abbrev pub pop_all : List ℕ → Place → Interaction Place
 pop_all [] p = Done p
 pop_all (n ∷ ns) p = pop n p >>= λ next. pop_all ns next
 
--- whether a mask names a register
-abbrev pub does_name : ℕ → ℕ → Bool
-does_name mask n = mask / 2 ^ n % 2 == 1
-
 -- the registers below n that a mask names, from the highest down
 unfoldable pub named_down : ℕ → ℕ → List ℕ
 named_down zero mask = []
-named_down (suc n) mask = if does_name mask n then n ∷ named_down n mask else named_down n mask
+named_down (suc n) mask = if is_set mask n then n ∷ named_down n mask else named_down n mask
 
 -- which of the k registers from n on a mask names, from the lowest up
 unfoldable pub named_up : ℕ → ℕ → ℕ → List ℕ
 named_up zero n mask = []
-named_up (suc k) n mask = if does_name mask n then n ∷ named_up k (n + 1) mask else named_up k (n + 1) mask
+named_up (suc k) n mask = if is_set mask n then n ∷ named_up k (n + 1) mask else named_up k (n + 1) mask

@@ -1,4 +1,6 @@
 ghost use Rattle.std.specs.Prelude.{◌≡◌, true};
+ghost use Rattle.vax_table.specs.Acted.{meaning_by};
+ghost use Rattle.vax_table.specs.InstructionSet.{opcode_meaning};
 ghost use Rattle.vax_table.specs.Operations.{is_narrow, operation_of};
 ghost use Rattle.vax_table.specs.RowViews.{opcode_entry_view, row_views};
 ghost use Rattle.vax_table.specs.Rows.{row_of};
@@ -21,43 +23,37 @@ pub fn row(opcode: u8) -> Option<Row>
     ensures { row_views result ≡ row_of opcode }
 {
     let mut operands: ArrayVec<Form, 4> = ArrayVec::new();
-    let sensitive = match packed_row(opcode) {
+    match packed_row(opcode) {
         PackedRow::Unknown => {
             return None;
         }
-        PackedRow::None(sensitive) => sensitive,
-        PackedRow::One(sensitive, first) => {
+        PackedRow::None => {}
+        PackedRow::One(first) => {
             operands.push(first);
-            sensitive
         }
-        PackedRow::Two(sensitive, first, second) => {
+        PackedRow::Two(first, second) => {
             operands.push(first);
             operands.push(second);
-            sensitive
         }
-        PackedRow::Three(sensitive, first, second, third) => {
+        PackedRow::Three(first, second, third) => {
             operands.push(first);
             operands.push(second);
             operands.push(third);
-            sensitive
         }
-        PackedRow::Four(sensitive, first, second, third, fourth) => {
+        PackedRow::Four(first, second, third, fourth) => {
             operands.push(first);
             operands.push(second);
             operands.push(third);
             operands.push(fourth);
-            sensitive
         }
-    };
-    Some(Row {
-        operands,
-        sensitive,
-    })
+    }
+    Some(Row { operands })
 }
 
 /// What the instruction of an opcode does after its operands; `Other` exactly where no instruction has the opcode.
 pub fn operation(opcode: u8) -> Operation
     ensures value { result ≡ operation_of opcode }
+    ensures means { meaning_by result ≡ opcode_meaning opcode }
     ensures narrow { is_narrow result ≡ true }
 {
     OPERATIONS[usize::from(opcode)]

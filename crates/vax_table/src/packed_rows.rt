@@ -1,16 +1,15 @@
 use crate::forms::{Access, Form};
 use vv_base::Width;
 
-/// What the table says of an opcode, as plain values: nothing, or whether the instruction is
-/// sensitive and its operands.
+/// What the table says of an opcode, as plain values: nothing, or the instruction's operands.
 #[derive(Clone, Copy)]
 pub enum PackedRow {
     Unknown,
-    None(bool),
-    One(bool, Form),
-    Two(bool, Form, Form),
-    Three(bool, Form, Form, Form),
-    Four(bool, Form, Form, Form, Form),
+    None,
+    One(Form),
+    Two(Form, Form),
+    Three(Form, Form, Form),
+    Four(Form, Form, Form, Form),
 }
 
 // An operand is written as in the manual: a letter for the access, then one for the width.
@@ -107,38 +106,38 @@ const WQ: Form = Form {
 
 /// The rows of the table, by opcode.
 pub static PACKED_ROWS: [PackedRow; 256] = [
-    PackedRow::None(true), // 00 HALT
-    PackedRow::None(false), // 01 NOP
-    PackedRow::None(true), // 02 REI
-    PackedRow::None(false), // 03 BPT
-    PackedRow::None(false), // 04 RET
-    PackedRow::None(false), // 05 RSB
-    PackedRow::None(true), // 06 LDPCTX
-    PackedRow::None(true), // 07 SVPCTX
+    PackedRow::None, // 00 HALT
+    PackedRow::None, // 01 NOP
+    PackedRow::None, // 02 REI
+    PackedRow::None, // 03 BPT
+    PackedRow::None, // 04 RET
+    PackedRow::None, // 05 RSB
+    PackedRow::None, // 06 LDPCTX
+    PackedRow::None, // 07 SVPCTX
     PackedRow::Unknown, // 08
     PackedRow::Unknown, // 09
     PackedRow::Unknown, // 0A
     PackedRow::Unknown, // 0B
-    PackedRow::Three(false, RB, RW, AB), // 0C PROBER
-    PackedRow::Three(false, RB, RW, AB), // 0D PROBEW
+    PackedRow::Three(RB, RW, AB), // 0C PROBER
+    PackedRow::Three(RB, RW, AB), // 0D PROBEW
     PackedRow::Unknown, // 0E
     PackedRow::Unknown, // 0F
-    PackedRow::One(false, BB), // 10 BSBB
-    PackedRow::One(false, BB), // 11 BRB
-    PackedRow::One(false, BB), // 12 BNEQ
-    PackedRow::One(false, BB), // 13 BEQL
-    PackedRow::One(false, BB), // 14 BGTR
-    PackedRow::One(false, BB), // 15 BLEQ
-    PackedRow::One(false, AB), // 16 JSB
-    PackedRow::One(false, AB), // 17 JMP
-    PackedRow::One(false, BB), // 18 BGEQ
-    PackedRow::One(false, BB), // 19 BLSS
-    PackedRow::One(false, BB), // 1A BGTRU
-    PackedRow::One(false, BB), // 1B BLEQU
-    PackedRow::One(false, BB), // 1C BVC
-    PackedRow::One(false, BB), // 1D BVS
-    PackedRow::One(false, BB), // 1E BCC
-    PackedRow::One(false, BB), // 1F BCS
+    PackedRow::One(BB), // 10 BSBB
+    PackedRow::One(BB), // 11 BRB
+    PackedRow::One(BB), // 12 BNEQ
+    PackedRow::One(BB), // 13 BEQL
+    PackedRow::One(BB), // 14 BGTR
+    PackedRow::One(BB), // 15 BLEQ
+    PackedRow::One(AB), // 16 JSB
+    PackedRow::One(AB), // 17 JMP
+    PackedRow::One(BB), // 18 BGEQ
+    PackedRow::One(BB), // 19 BLSS
+    PackedRow::One(BB), // 1A BGTRU
+    PackedRow::One(BB), // 1B BLEQU
+    PackedRow::One(BB), // 1C BVC
+    PackedRow::One(BB), // 1D BVS
+    PackedRow::One(BB), // 1E BCC
+    PackedRow::One(BB), // 1F BCS
     PackedRow::Unknown, // 20
     PackedRow::Unknown, // 21
     PackedRow::Unknown, // 22
@@ -155,10 +154,10 @@ pub static PACKED_ROWS: [PackedRow; 256] = [
     PackedRow::Unknown, // 2D
     PackedRow::Unknown, // 2E
     PackedRow::Unknown, // 2F
-    PackedRow::One(false, BW), // 30 BSBW
-    PackedRow::One(false, BW), // 31 BRW
-    PackedRow::Two(false, RW, WL), // 32 CVTWL
-    PackedRow::Two(false, RW, WB), // 33 CVTWB
+    PackedRow::One(BW), // 30 BSBW
+    PackedRow::One(BW), // 31 BRW
+    PackedRow::Two(RW, WL), // 32 CVTWL
+    PackedRow::Two(RW, WB), // 33 CVTWB
     PackedRow::Unknown, // 34
     PackedRow::Unknown, // 35
     PackedRow::Unknown, // 36
@@ -167,10 +166,10 @@ pub static PACKED_ROWS: [PackedRow; 256] = [
     PackedRow::Unknown, // 39
     PackedRow::Unknown, // 3A
     PackedRow::Unknown, // 3B
-    PackedRow::Two(false, RW, WL), // 3C MOVZWL
-    PackedRow::Four(false, RW, RW, MW, BW), // 3D ACBW
-    PackedRow::Two(false, AW, WL), // 3E MOVAW
-    PackedRow::One(false, AW), // 3F PUSHAW
+    PackedRow::Two(RW, WL), // 3C MOVZWL
+    PackedRow::Four(RW, RW, MW, BW), // 3D ACBW
+    PackedRow::Two(AW, WL), // 3E MOVAW
+    PackedRow::One(AW), // 3F PUSHAW
     PackedRow::Unknown, // 40
     PackedRow::Unknown, // 41
     PackedRow::Unknown, // 42
@@ -227,120 +226,120 @@ pub static PACKED_ROWS: [PackedRow; 256] = [
     PackedRow::Unknown, // 75
     PackedRow::Unknown, // 76
     PackedRow::Unknown, // 77
-    PackedRow::Three(false, RB, RL, WL), // 78 ASHL
+    PackedRow::Three(RB, RL, WL), // 78 ASHL
     PackedRow::Unknown, // 79
     PackedRow::Unknown, // 7A
     PackedRow::Unknown, // 7B
-    PackedRow::One(false, WQ), // 7C CLRQ
-    PackedRow::Two(false, RQ, WQ), // 7D MOVQ
-    PackedRow::Two(false, AQ, WL), // 7E MOVAQ
-    PackedRow::One(false, AQ), // 7F PUSHAQ
-    PackedRow::Two(false, RB, MB), // 80 ADDB2
-    PackedRow::Three(false, RB, RB, WB), // 81 ADDB3
-    PackedRow::Two(false, RB, MB), // 82 SUBB2
-    PackedRow::Three(false, RB, RB, WB), // 83 SUBB3
-    PackedRow::Two(false, RB, MB), // 84 MULB2
-    PackedRow::Three(false, RB, RB, WB), // 85 MULB3
-    PackedRow::Two(false, RB, MB), // 86 DIVB2
-    PackedRow::Three(false, RB, RB, WB), // 87 DIVB3
-    PackedRow::Two(false, RB, MB), // 88 BISB2
-    PackedRow::Three(false, RB, RB, WB), // 89 BISB3
-    PackedRow::Two(false, RB, MB), // 8A BICB2
-    PackedRow::Three(false, RB, RB, WB), // 8B BICB3
-    PackedRow::Two(false, RB, MB), // 8C XORB2
-    PackedRow::Three(false, RB, RB, WB), // 8D XORB3
-    PackedRow::Two(false, RB, WB), // 8E MNEGB
-    PackedRow::Three(false, RB, RB, RB), // 8F CASEB
-    PackedRow::Two(false, RB, WB), // 90 MOVB
-    PackedRow::Two(false, RB, RB), // 91 CMPB
-    PackedRow::Two(false, RB, WB), // 92 MCOMB
-    PackedRow::Two(false, RB, RB), // 93 BITB
-    PackedRow::One(false, WB), // 94 CLRB
-    PackedRow::One(false, RB), // 95 TSTB
-    PackedRow::One(false, MB), // 96 INCB
-    PackedRow::One(false, MB), // 97 DECB
-    PackedRow::Two(false, RB, WL), // 98 CVTBL
-    PackedRow::Two(false, RB, WW), // 99 CVTBW
-    PackedRow::Two(false, RB, WL), // 9A MOVZBL
-    PackedRow::Two(false, RB, WW), // 9B MOVZBW
-    PackedRow::Three(false, RB, RL, WL), // 9C ROTL
-    PackedRow::Four(false, RB, RB, MB, BW), // 9D ACBB
-    PackedRow::Two(false, AB, WL), // 9E MOVAB
-    PackedRow::One(false, AB), // 9F PUSHAB
-    PackedRow::Two(false, RW, MW), // A0 ADDW2
-    PackedRow::Three(false, RW, RW, WW), // A1 ADDW3
-    PackedRow::Two(false, RW, MW), // A2 SUBW2
-    PackedRow::Three(false, RW, RW, WW), // A3 SUBW3
-    PackedRow::Two(false, RW, MW), // A4 MULW2
-    PackedRow::Three(false, RW, RW, WW), // A5 MULW3
-    PackedRow::Two(false, RW, MW), // A6 DIVW2
-    PackedRow::Three(false, RW, RW, WW), // A7 DIVW3
-    PackedRow::Two(false, RW, MW), // A8 BISW2
-    PackedRow::Three(false, RW, RW, WW), // A9 BISW3
-    PackedRow::Two(false, RW, MW), // AA BICW2
-    PackedRow::Three(false, RW, RW, WW), // AB BICW3
-    PackedRow::Two(false, RW, MW), // AC XORW2
-    PackedRow::Three(false, RW, RW, WW), // AD XORW3
-    PackedRow::Two(false, RW, WW), // AE MNEGW
-    PackedRow::Three(false, RW, RW, RW), // AF CASEW
-    PackedRow::Two(false, RW, WW), // B0 MOVW
-    PackedRow::Two(false, RW, RW), // B1 CMPW
-    PackedRow::Two(false, RW, WW), // B2 MCOMW
-    PackedRow::Two(false, RW, RW), // B3 BITW
-    PackedRow::One(false, WW), // B4 CLRW
-    PackedRow::One(false, RW), // B5 TSTW
-    PackedRow::One(false, MW), // B6 INCW
-    PackedRow::One(false, MW), // B7 DECW
-    PackedRow::One(false, RW), // B8 BISPSW
-    PackedRow::One(false, RW), // B9 BICPSW
-    PackedRow::One(false, RW), // BA POPR
-    PackedRow::One(false, RW), // BB PUSHR
-    PackedRow::One(true, RW), // BC CHMK
-    PackedRow::One(true, RW), // BD CHME
-    PackedRow::One(true, RW), // BE CHMS
-    PackedRow::One(true, RW), // BF CHMU
-    PackedRow::Two(false, RL, ML), // C0 ADDL2
-    PackedRow::Three(false, RL, RL, WL), // C1 ADDL3
-    PackedRow::Two(false, RL, ML), // C2 SUBL2
-    PackedRow::Three(false, RL, RL, WL), // C3 SUBL3
-    PackedRow::Two(false, RL, ML), // C4 MULL2
-    PackedRow::Three(false, RL, RL, WL), // C5 MULL3
-    PackedRow::Two(false, RL, ML), // C6 DIVL2
-    PackedRow::Three(false, RL, RL, WL), // C7 DIVL3
-    PackedRow::Two(false, RL, ML), // C8 BISL2
-    PackedRow::Three(false, RL, RL, WL), // C9 BISL3
-    PackedRow::Two(false, RL, ML), // CA BICL2
-    PackedRow::Three(false, RL, RL, WL), // CB BICL3
-    PackedRow::Two(false, RL, ML), // CC XORL2
-    PackedRow::Three(false, RL, RL, WL), // CD XORL3
-    PackedRow::Two(false, RL, WL), // CE MNEGL
-    PackedRow::Three(false, RL, RL, RL), // CF CASEL
-    PackedRow::Two(false, RL, WL), // D0 MOVL
-    PackedRow::Two(false, RL, RL), // D1 CMPL
-    PackedRow::Two(false, RL, WL), // D2 MCOML
-    PackedRow::Two(false, RL, RL), // D3 BITL
-    PackedRow::One(false, WL), // D4 CLRL
-    PackedRow::One(false, RL), // D5 TSTL
-    PackedRow::One(false, ML), // D6 INCL
-    PackedRow::One(false, ML), // D7 DECL
-    PackedRow::Two(false, RL, ML), // D8 ADWC
-    PackedRow::Two(false, RL, ML), // D9 SBWC
-    PackedRow::Two(true, RL, RL), // DA MTPR
-    PackedRow::Two(true, RL, WL), // DB MFPR
-    PackedRow::One(false, WL), // DC MOVPSL
-    PackedRow::One(false, RL), // DD PUSHL
-    PackedRow::Two(false, AL, WL), // DE MOVAL
-    PackedRow::One(false, AL), // DF PUSHAL
-    PackedRow::Three(false, RL, VB, BB), // E0 BBS
-    PackedRow::Three(false, RL, VB, BB), // E1 BBC
-    PackedRow::Three(false, RL, VB, BB), // E2 BBSS
-    PackedRow::Three(false, RL, VB, BB), // E3 BBCS
-    PackedRow::Three(false, RL, VB, BB), // E4 BBSC
-    PackedRow::Three(false, RL, VB, BB), // E5 BBCC
-    PackedRow::Three(false, RL, VB, BB), // E6 BBSSI
-    PackedRow::Three(false, RL, VB, BB), // E7 BBCCI
-    PackedRow::Two(false, RL, BB), // E8 BLBS
-    PackedRow::Two(false, RL, BB), // E9 BLBC
+    PackedRow::One(WQ), // 7C CLRQ
+    PackedRow::Two(RQ, WQ), // 7D MOVQ
+    PackedRow::Two(AQ, WL), // 7E MOVAQ
+    PackedRow::One(AQ), // 7F PUSHAQ
+    PackedRow::Two(RB, MB), // 80 ADDB2
+    PackedRow::Three(RB, RB, WB), // 81 ADDB3
+    PackedRow::Two(RB, MB), // 82 SUBB2
+    PackedRow::Three(RB, RB, WB), // 83 SUBB3
+    PackedRow::Two(RB, MB), // 84 MULB2
+    PackedRow::Three(RB, RB, WB), // 85 MULB3
+    PackedRow::Two(RB, MB), // 86 DIVB2
+    PackedRow::Three(RB, RB, WB), // 87 DIVB3
+    PackedRow::Two(RB, MB), // 88 BISB2
+    PackedRow::Three(RB, RB, WB), // 89 BISB3
+    PackedRow::Two(RB, MB), // 8A BICB2
+    PackedRow::Three(RB, RB, WB), // 8B BICB3
+    PackedRow::Two(RB, MB), // 8C XORB2
+    PackedRow::Three(RB, RB, WB), // 8D XORB3
+    PackedRow::Two(RB, WB), // 8E MNEGB
+    PackedRow::Three(RB, RB, RB), // 8F CASEB
+    PackedRow::Two(RB, WB), // 90 MOVB
+    PackedRow::Two(RB, RB), // 91 CMPB
+    PackedRow::Two(RB, WB), // 92 MCOMB
+    PackedRow::Two(RB, RB), // 93 BITB
+    PackedRow::One(WB), // 94 CLRB
+    PackedRow::One(RB), // 95 TSTB
+    PackedRow::One(MB), // 96 INCB
+    PackedRow::One(MB), // 97 DECB
+    PackedRow::Two(RB, WL), // 98 CVTBL
+    PackedRow::Two(RB, WW), // 99 CVTBW
+    PackedRow::Two(RB, WL), // 9A MOVZBL
+    PackedRow::Two(RB, WW), // 9B MOVZBW
+    PackedRow::Three(RB, RL, WL), // 9C ROTL
+    PackedRow::Four(RB, RB, MB, BW), // 9D ACBB
+    PackedRow::Two(AB, WL), // 9E MOVAB
+    PackedRow::One(AB), // 9F PUSHAB
+    PackedRow::Two(RW, MW), // A0 ADDW2
+    PackedRow::Three(RW, RW, WW), // A1 ADDW3
+    PackedRow::Two(RW, MW), // A2 SUBW2
+    PackedRow::Three(RW, RW, WW), // A3 SUBW3
+    PackedRow::Two(RW, MW), // A4 MULW2
+    PackedRow::Three(RW, RW, WW), // A5 MULW3
+    PackedRow::Two(RW, MW), // A6 DIVW2
+    PackedRow::Three(RW, RW, WW), // A7 DIVW3
+    PackedRow::Two(RW, MW), // A8 BISW2
+    PackedRow::Three(RW, RW, WW), // A9 BISW3
+    PackedRow::Two(RW, MW), // AA BICW2
+    PackedRow::Three(RW, RW, WW), // AB BICW3
+    PackedRow::Two(RW, MW), // AC XORW2
+    PackedRow::Three(RW, RW, WW), // AD XORW3
+    PackedRow::Two(RW, WW), // AE MNEGW
+    PackedRow::Three(RW, RW, RW), // AF CASEW
+    PackedRow::Two(RW, WW), // B0 MOVW
+    PackedRow::Two(RW, RW), // B1 CMPW
+    PackedRow::Two(RW, WW), // B2 MCOMW
+    PackedRow::Two(RW, RW), // B3 BITW
+    PackedRow::One(WW), // B4 CLRW
+    PackedRow::One(RW), // B5 TSTW
+    PackedRow::One(MW), // B6 INCW
+    PackedRow::One(MW), // B7 DECW
+    PackedRow::One(RW), // B8 BISPSW
+    PackedRow::One(RW), // B9 BICPSW
+    PackedRow::One(RW), // BA POPR
+    PackedRow::One(RW), // BB PUSHR
+    PackedRow::One(RW), // BC CHMK
+    PackedRow::One(RW), // BD CHME
+    PackedRow::One(RW), // BE CHMS
+    PackedRow::One(RW), // BF CHMU
+    PackedRow::Two(RL, ML), // C0 ADDL2
+    PackedRow::Three(RL, RL, WL), // C1 ADDL3
+    PackedRow::Two(RL, ML), // C2 SUBL2
+    PackedRow::Three(RL, RL, WL), // C3 SUBL3
+    PackedRow::Two(RL, ML), // C4 MULL2
+    PackedRow::Three(RL, RL, WL), // C5 MULL3
+    PackedRow::Two(RL, ML), // C6 DIVL2
+    PackedRow::Three(RL, RL, WL), // C7 DIVL3
+    PackedRow::Two(RL, ML), // C8 BISL2
+    PackedRow::Three(RL, RL, WL), // C9 BISL3
+    PackedRow::Two(RL, ML), // CA BICL2
+    PackedRow::Three(RL, RL, WL), // CB BICL3
+    PackedRow::Two(RL, ML), // CC XORL2
+    PackedRow::Three(RL, RL, WL), // CD XORL3
+    PackedRow::Two(RL, WL), // CE MNEGL
+    PackedRow::Three(RL, RL, RL), // CF CASEL
+    PackedRow::Two(RL, WL), // D0 MOVL
+    PackedRow::Two(RL, RL), // D1 CMPL
+    PackedRow::Two(RL, WL), // D2 MCOML
+    PackedRow::Two(RL, RL), // D3 BITL
+    PackedRow::One(WL), // D4 CLRL
+    PackedRow::One(RL), // D5 TSTL
+    PackedRow::One(ML), // D6 INCL
+    PackedRow::One(ML), // D7 DECL
+    PackedRow::Two(RL, ML), // D8 ADWC
+    PackedRow::Two(RL, ML), // D9 SBWC
+    PackedRow::Two(RL, RL), // DA MTPR
+    PackedRow::Two(RL, WL), // DB MFPR
+    PackedRow::One(WL), // DC MOVPSL
+    PackedRow::One(RL), // DD PUSHL
+    PackedRow::Two(AL, WL), // DE MOVAL
+    PackedRow::One(AL), // DF PUSHAL
+    PackedRow::Three(RL, VB, BB), // E0 BBS
+    PackedRow::Three(RL, VB, BB), // E1 BBC
+    PackedRow::Three(RL, VB, BB), // E2 BBSS
+    PackedRow::Three(RL, VB, BB), // E3 BBCS
+    PackedRow::Three(RL, VB, BB), // E4 BBSC
+    PackedRow::Three(RL, VB, BB), // E5 BBCC
+    PackedRow::Three(RL, VB, BB), // E6 BBSSI
+    PackedRow::Three(RL, VB, BB), // E7 BBCCI
+    PackedRow::Two(RL, BB), // E8 BLBS
+    PackedRow::Two(RL, BB), // E9 BLBC
     PackedRow::Unknown, // EA
     PackedRow::Unknown, // EB
     PackedRow::Unknown, // EC
@@ -348,19 +347,19 @@ pub static PACKED_ROWS: [PackedRow; 256] = [
     PackedRow::Unknown, // EE
     PackedRow::Unknown, // EF
     PackedRow::Unknown, // F0
-    PackedRow::Four(false, RL, RL, ML, BW), // F1 ACBL
-    PackedRow::Three(false, RL, ML, BB), // F2 AOBLSS
-    PackedRow::Three(false, RL, ML, BB), // F3 AOBLEQ
-    PackedRow::Two(false, ML, BB), // F4 SOBGEQ
-    PackedRow::Two(false, ML, BB), // F5 SOBGTR
-    PackedRow::Two(false, RL, WB), // F6 CVTLB
-    PackedRow::Two(false, RL, WW), // F7 CVTLW
+    PackedRow::Four(RL, RL, ML, BW), // F1 ACBL
+    PackedRow::Three(RL, ML, BB), // F2 AOBLSS
+    PackedRow::Three(RL, ML, BB), // F3 AOBLEQ
+    PackedRow::Two(ML, BB), // F4 SOBGEQ
+    PackedRow::Two(ML, BB), // F5 SOBGTR
+    PackedRow::Two(RL, WB), // F6 CVTLB
+    PackedRow::Two(RL, WW), // F7 CVTLW
     PackedRow::Unknown, // F8
     PackedRow::Unknown, // F9
-    PackedRow::Two(false, AB, AB), // FA CALLG
-    PackedRow::Two(false, RL, AB), // FB CALLS
-    PackedRow::None(false), // FC XFC
-    PackedRow::None(true), // FD WAIT
+    PackedRow::Two(AB, AB), // FA CALLG
+    PackedRow::Two(RL, AB), // FB CALLS
+    PackedRow::None, // FC XFC
+    PackedRow::None, // FD WAIT
     PackedRow::Unknown, // FE
     PackedRow::Unknown, // FF
 ];

@@ -47,39 +47,21 @@ wraps_next clock = clock.run && is_at_end clock
 abbrev pub iccs_of : ClockState → ℕ
 iccs_of clock = from_bool clock.run + 2 ^ 6 * from_bool clock.enable + 2 ^ 7 * from_bool clock.interrupt + 2 ^ 31 * from_bool clock.error
 
--- Writing a value to ICCS does five things, in this order (the order is profile).
--- 1. Bit 31 clears error.
-abbrev pub after_error_write : ClockState → ℕ → ClockState
-after_error_write clock value = if is_set value 31 then record clock { error = false } else clock
-
--- 2. Bit 7 clears interrupt.
-abbrev pub after_interrupt_write : ClockState → ℕ → ClockState
-after_interrupt_write clock value = if is_set value 7 then record clock { interrupt = false } else clock
-
--- 3. Bit 4 loads the counter. Without it, bit 5 without bit 0 counts once, also in a clock that runs.
+-- Bit 4 loads the counter. Without it, bit 5 without bit 0 counts once, also in a clock that runs.
 abbrev pub after_step_write : ClockState → ℕ → ClockState
 after_step_write clock value =
     if is_set value 4 then record clock { icr = clock.nicr }
     else if is_set value 5 && not (is_set value 0) then after_count clock
     else clock
 
--- 4. Run becomes bit 0.
-abbrev pub after_run_write : ClockState → ℕ → ClockState
-after_run_write clock value = record clock { run = is_set value 0 }
-
--- 5. Enable becomes bit 6. Clearing it ends the request; setting it anew while interrupt is set makes one.
-abbrev pub after_enable_write : ClockState → ℕ → ClockState
-after_enable_write clock value =
-    if not (is_set value 6) then record clock { enable = false; request = false }
-    else if not clock.enable && clock.interrupt then record clock { enable = true; request = true }
-    else record clock { enable = true }
-
--- all five
+-- Writing a value to ICCS does five things, in this order (the order is profile). 1. Bit 31 clears error. 2. Bit 7 clears
+-- interrupt. 3. It loads the counter or counts once. 4. Run becomes bit 0. 5. Enable becomes bit 6. Clearing it ends the
+-- request; setting it anew while interrupt is set makes one.
 unfoldable pub after_iccs_write : ClockState → ℕ → ClockState
 after_iccs_write clock value =
-    let cleared = after_interrupt_write (after_error_write clock value) value in
+    let cleared = record clock { error = clock.error && not (is_set value 31); interrupt = clock.interrupt && not (is_set value 7) } in
     let stepped = after_step_write cleared value in
-    after_enable_write (after_run_write stepped value) value
+    record stepped { run = is_set value 0; enable = is_set value 6; request = is_set value 6 && (stepped.request || not stepped.enable && stepped.interrupt) }
 
 -- writing NICR
 abbrev pub after_nicr_write : ClockState → ℕ → ClockState

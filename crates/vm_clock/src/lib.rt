@@ -2,7 +2,7 @@
 #![tactic(auto)]
 
 ghost use Rattle.std.specs.Prelude.{◌≡◌, ◌+◌, ◌-◌, ◌/◌, ◌%◌, ◌<◌, ◌==◌, ◌↔◌, false, IsTrue, IsFalse, IsNone, IfSome, MatchOption};
-ghost use Rattle.vm_clock.specs.Clock.{initial_clock, iccs_of, after_count, after_tick, wraps_next, is_at_end, after_error_write, after_interrupt_write, after_step_write, after_enable_write, after_iccs_write, after_nicr_write, after_taken};
+ghost use Rattle.vm_clock.specs.Clock.{initial_clock, iccs_of, after_count, after_tick, wraps_next, is_at_end, after_step_write, after_iccs_write, after_nicr_write, after_taken};
 ghost use Rattle.vm_clock.specs.Parts.{parts_of_clock, clock_of_parts, IsClock};
 ghost use Rattle.vm_clock.specs.Ticks.{after_ticks, IsNextWrap, NeverWraps, ticks_to_wrap};
 
@@ -96,11 +96,13 @@ impl Clock {
     pub fn write_iccs(&mut self, v: u32)
         ensures { self.new ≡ after_iccs_write self.old v }
     {
-        self.clear_error(v);
-        self.clear_interrupt(v);
+        self.error = self.error && !is_set(v, ERROR);
+        self.interrupt = self.interrupt && !is_set(v, INTERRUPT);
         self.transfer_or_step(v);
         self.run = is_set(v, RUN);
-        self.set_enable(v);
+        let enable = is_set(v, ENABLE);
+        self.request = enable && (self.request || !self.enable && self.interrupt);
+        self.enable = enable;
     }
 
     /// Writes NICR, the count that a wrap loads.
@@ -188,22 +190,6 @@ impl Clock {
         }
     }
 
-    fn clear_error(&mut self, v: u32)
-        ensures { self.new ≡ after_error_write self.old v }
-    {
-        if is_set(v, ERROR) {
-            self.error = false;
-        }
-    }
-
-    fn clear_interrupt(&mut self, v: u32)
-        ensures { self.new ≡ after_interrupt_write self.old v }
-    {
-        if is_set(v, INTERRUPT) {
-            self.interrupt = false;
-        }
-    }
-
     fn transfer_or_step(&mut self, v: u32)
         ensures { self.new ≡ after_step_write self.old v }
     {
@@ -212,14 +198,6 @@ impl Clock {
         } else if is_set(v, SINGLE_STEP) && !is_set(v, RUN) {
             let _ = self.count();
         }
-    }
-
-    fn set_enable(&mut self, v: u32)
-        ensures { self.new ≡ after_enable_write self.old v }
-    {
-        let enable = is_set(v, ENABLE);
-        self.request = enable && (self.request || !self.enable && self.interrupt);
-        self.enable = enable;
     }
 
     /// Counts once, and says whether the counter wrapped.

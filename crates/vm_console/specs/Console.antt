@@ -1,6 +1,6 @@
 -- The console's registers RXCS, RXDB, TXCS and TXDB
 -- (VAX Architecture Reference Manual, console terminal registers; all that is said of bytes that wait and of requests is profile).
-use Rattle.std.specs.Prelude.{ℕ, ◌+◌, ◌*◌, ◌^◌, ◌<◌, ◌==◌, Bool, true, false, not, ◌&&◌, ◌||◌, nat_lt, if◌then◌else◌, List, [], ◌∷◌, ◌++◌, length, drop, slice_index, IsTrue}
+use Rattle.std.specs.Prelude.{ℕ, ◌+◌, ◌*◌, ◌^◌, ◌<◌, ◌==◌, Bool, false, not, ◌&&◌, ◌||◌, nat_lt, if◌then◌else◌, List, [], ◌∷◌, ◌++◌, length, drop, slice_index, IsTrue}
 use Rattle.std.specs.Int.{from_bool}
 use Rattle.vv_base.specs.Bits.{is_set}
 
@@ -54,16 +54,11 @@ rxdb_of console = slice_index console.waiting 0
 abbrev pub after_rxdb_read : ConsoleState → ConsoleState
 after_rxdb_read console =
     let left = record console { waiting = drop 1 console.waiting } in
-    if not (is_receiver_done left) then record left { rx_request = false }
-    else if left.rx_enable then record left { rx_request = true }
-    else left
+    record left { rx_request = is_receiver_done left && (left.rx_request || left.rx_enable) }
 
 -- Writing RXCS: enable becomes bit 6. Clearing it ends the request; setting it anew while a byte waits makes one.
 abbrev pub after_rxcs_write : ConsoleState → ℕ → ConsoleState
-after_rxcs_write console value =
-    if not (is_set value 6) then record console { rx_enable = false; rx_request = false }
-    else if not console.rx_enable && is_receiver_done console then record console { rx_enable = true; rx_request = true }
-    else record console { rx_enable = true }
+after_rxcs_write console value = record console { rx_enable = is_set value 6; rx_request = is_set value 6 && (console.rx_request || not console.rx_enable && is_receiver_done console) }
 
 -- what reading TXCS gives: ready, which is always 1, and enable
 abbrev pub txcs_of : ConsoleState → ℕ
@@ -71,10 +66,7 @@ txcs_of console = 2 ^ 7 + 2 ^ 6 * from_bool console.tx_enable
 
 -- Writing TXCS: enable becomes bit 6. Clearing it ends the request; setting it anew makes one.
 abbrev pub after_txcs_write : ConsoleState → ℕ → ConsoleState
-after_txcs_write console value =
-    if not (is_set value 6) then record console { tx_enable = false; tx_request = false }
-    else if not console.tx_enable then record console { tx_enable = true; tx_request = true }
-    else console
+after_txcs_write console value = record console { tx_enable = is_set value 6; tx_request = is_set value 6 && (console.tx_request || not console.tx_enable) }
 
 -- a byte was sent, by a write of TXDB: it requests where enable is set
 abbrev pub after_sent : ConsoleState → ConsoleState

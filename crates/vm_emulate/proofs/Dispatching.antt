@@ -21,13 +21,14 @@ use Rattle.vm_emulate.proofs.Sensing.{alone}
 use Rattle.vm_shadow.specs.Shadowed.{Shadowed}
 use Rattle.vm_shadow.specs.StandsFor.{OnlyGuest, StandsFor}
 use Rattle.vm_state.specs.Contexts as contexts
-use Rattle.vm_state.specs.Contexts.{BlockPast, PopTrouble, Reserved, StackTrouble, Switched, Switches, loads_context, saves_context, two_popped}
+use Rattle.vm_state.specs.Contexts.{after_push, after_reads, is_block_past, is_block_reserved, loaded, loads_context, saves_context, two_popped}
 use Rattle.vm_state.specs.Initiate.{Initiation, KernelStackBad, Stops, Taken, initiate, new_mode}
 use Rattle.vm_state.specs.Partition.{guest_of}
 use Rattle.vm_state.specs.Pushes.{Faulty, Homes, PastMemory, Walked, push_walked}
 use Rattle.vm_state.specs.Registers.{Value, read}
-use Rattle.vm_state.specs.Sensitive.{ClearAt, Does, Faults, LacksMemory, Sensed, StopsThere, after_register_read, change_mode, chm_walked, destination_walked, fault_of, guest_past_instruction, mfpr_by, mode_changed, move_from_register, move_to_register, past_instruction, put_at, rei_by, return_from, sensed, switched, troubled}
-use Rattle.vm_state.specs.State.{Guest, HasPlace, mode_of_state, pointer_of, state_of}
+use Rattle.vm_state.specs.Sensed.{ClearAt, Does, Faults, LacksMemory, Sensed, StopsThere, fault_of, troubled}
+use Rattle.vm_state.specs.Sensitive.{after_register_read, change_mode, chm_walked, destination_walked, guest_past_instruction, mfpr_by, mode_changed, move_from_register, move_to_register, past_instruction, put_at, rei_by, return_from, sensed}
+use Rattle.vm_state.specs.State.{Guest, HasPlace, State, mode_of_state, pointer_of, state_of}
 use Rattle.vm_state.specs.Translation.{is_clear, space_of, walk_of}
 use Rattle.vm_state.specs.declared.exception.Exc.TheVariants as excs
 use Rattle.vm_state.specs.declared.guest_state.GuestState.{GuestState}
@@ -122,12 +123,24 @@ silent_mfpr g t (Stopped trouble) = silent_trouble g trouble
 silent_mfpr g t (Clear va) = silent_read g t.dest (Some va) (read (length g.memory) (past_instruction g.state t) t.a)
 silent_mfpr g t (Completes old) = silent_read g t.dest None (read (length g.memory) (past_instruction g.state t) t.a)
 
-silent_switched : (g : Guest) (x : Switched) → IsSilent (switched g x)
-silent_switched g (Switches h written) = refl
-silent_switched g Reserved = tt
-silent_switched g (PopTrouble trouble) = silent_trouble g trouble
-silent_switched g StackTrouble = tt
-silent_switched g BlockPast = tt
+silent_push : (g : Guest) (s : State) (w : Walked) → IsSilent (after_push g s w)
+silent_push g s (Homes hs) = refl
+silent_push g s (Faulty f) = tt
+silent_push g s PastMemory = tt
+
+silent_loads : (g : Guest) (next_pc : ℕ) → IsSilent (loads_context g next_pc)
+unfolding loads_context
+silent_loads g next_pc =
+    cond_both (is_block_past g) LacksMemory _ IsSilent (λ k. tt) (λ k.
+    cond_both (is_block_reserved g) (Faults excs.ReservedOperand) _ IsSilent (λ k. tt) (λ k. silent_push g (loaded g next_pc) _))
+
+silent_pops : (g : Guest) (next_pc : ℕ) (r : Result contexts.Popped Trouble) → IsSilent (after_reads g next_pc r)
+silent_pops g next_pc (Err trouble) = silent_trouble g trouble
+silent_pops g next_pc (Ok p) = cond_both (is_block_past g) LacksMemory _ IsSilent (λ k. tt) (λ k. refl)
+
+silent_saves : (g : Guest) (next_pc : ℕ) → IsSilent (saves_context g next_pc)
+unfolding saves_context
+silent_saves g next_pc = silent_pops g next_pc (outcome (space_of g) (two_popped (slice_index g.state.r 14)))
 
 -- by the instruction
 abbrev pub IsQuiet : Sens → Type 0
@@ -143,8 +156,8 @@ silent g t (Chm to) k = silent_chm g t to
 silent g t Rei k = silent_rei g t (outcome (space_of g) (two_popped (slice_index t.regs 14)))
 silent g t Mtpr k = absurd k
 silent g t Mfpr k = silent_mfpr g t (tried (space_of g) (is_clear g) (destination_walked t.dest))
-silent g t Ldpctx k = silent_switched g (loads_context g t.next_pc)
-silent g t Svpctx k = silent_switched g (saves_context g t.next_pc)
+silent g t Ldpctx k = silent_loads g t.next_pc
+silent g t Svpctx k = silent_saves g t.next_pc
 silent g t Prober k = tt
 silent g t Probew k = tt
 
@@ -173,11 +186,11 @@ module _ (t : Trapped) (m : Machine) (s : Shadowed) (g : GuestState) (result : E
   unfolding sensed
   mfpr e k = by_op Mfpr e k.is k.stands k.place k.only
 
-  pub ldpctx : t.op ≡ Ldpctx → Senses (switched (guest_of m.memory g) (loads_context (guest_of m.memory g) t.next_pc)) m s g result m' s' g' → Emulates t m s g result m' s' g'
+  pub ldpctx : t.op ≡ Ldpctx → Senses (loads_context (guest_of m.memory g) t.next_pc) m s g result m' s' g' → Emulates t m s g result m' s' g'
   unfolding sensed
   ldpctx e k = by_op Ldpctx e k.is k.stands k.place k.only
 
-  pub svpctx : t.op ≡ Svpctx → Senses (switched (guest_of m.memory g) (saves_context (guest_of m.memory g) t.next_pc)) m s g result m' s' g' → Emulates t m s g result m' s' g'
+  pub svpctx : t.op ≡ Svpctx → Senses (saves_context (guest_of m.memory g) t.next_pc) m s g result m' s' g' → Emulates t m s g result m' s' g'
   unfolding sensed
   svpctx e k = by_op Svpctx e k.is k.stands k.place k.only
 

@@ -17,7 +17,8 @@ use Rattle.vm_exception.proofs.Homes.{FindsInside, finds_inside}
 use Rattle.vm_ipr.specs.Outcomes.{ReadsRegister}
 use Rattle.vm_state.specs.Pushes.{all_put}
 use Rattle.vm_state.specs.Registers.{read}
-use Rattle.vm_state.specs.Sensitive.{fault_of, frames_of_bytes, with_codes}
+use Rattle.vm_state.specs.Sensed.{fault_of}
+use Rattle.vm_state.specs.Sensitive.{frames_of_bytes, with_codes}
 use Rattle.vm_state.specs.State.{Guest, mode_of_state, state_of}
 use Rattle.vm_state.specs.Translation.{frame_at, guest_write_place, space_of, walk_of, walked_byte, walked_place}
 use Rattle.vm_state.specs.declared.guest_state.GuestState.{GuestState}

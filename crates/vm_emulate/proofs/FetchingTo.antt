@@ -22,8 +22,9 @@ use Rattle.vm_shadow.specs.StandsFor.{Serves, StandsFor}
 use Rattle.vm_shadow.proofs.Covering.{own_is}
 use Rattle.vm_state.specs.Partition.{guest_of, partition_of}
 use Rattle.vm_state.specs.Pushes.{all_put}
-use Rattle.vm_state.specs.Registers.{Value, after_read, read, read_or_refused, read_to, register_of, value_of}
-use Rattle.vm_state.specs.Sensitive.{Does, Sensed, after_register_read, frames_of_bytes, mfpr_by, move_from_register, past_instruction, sensed, with_codes}
+use Rattle.vm_state.specs.Registers.{Value, after_read, read, read_or_refused, read_to, register_of, register_row}
+use Rattle.vm_state.specs.Sensed.{Does, Sensed}
+use Rattle.vm_state.specs.Sensitive.{after_register_read, frames_of_bytes, mfpr_by, move_from_register, past_instruction, sensed, with_codes}
 use Rattle.vm_state.specs.State.{Guest, HasPlace, State, state_of, tables_of}
 use Rattle.vm_state.specs.Translation.{guest_write_place, is_clear, space_of}
 use Rattle.vm_state.specs.declared.guest_state.GuestState.{GuestState}
@@ -46,7 +47,7 @@ by_value s r (Some v) = read_leaves r s
 
 by_register : (size : ℕ) (s : State) (r : Option registers.Register) → ReadLeaves s (read_or_refused size s r)
 by_register size s None = tt
-by_register size s (Some r) = by_value s r (value_of size s r)
+by_register size s (Some r) = by_value s r ((register_row r).value size s)
 
 leaves_tables : (size number v : ℕ) (s u : State) → read size s number ≡ Ok (record { value = v; state = u }) → u.tables ≡ s.tables
 unfolding read

@@ -13,7 +13,7 @@ use Rattle.vm_emulate.specs.declared.reading.Unread.{Unread}
 use Rattle.vm_emulate.specs.declared.reading.Unread.TheVariants as reasons
 use Rattle.vm_exception.proofs.Homes.{FindsInside, finds_inside}
 use Rattle.vm_exception.proofs.Pages.{beside}
-use Rattle.vm_state.specs.Sensitive.{fault_of}
+use Rattle.vm_state.specs.Sensed.{fault_of}
 use Rattle.vm_state.specs.State.{Guest, mode_of_state}
 use Rattle.vm_state.specs.Translation.{space_of, walk_of, walked_byte, walked_place}
 use Rattle.vm_state.specs.declared.walk.MemFault.{MemFault}

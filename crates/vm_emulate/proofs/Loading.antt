@@ -25,10 +25,11 @@ use Rattle.vm_shadow.proofs.Contexts.{aligned_of}
 use Rattle.vm_shadow.proofs.Covering.{own_is}
 use Rattle.vm_shadow.proofs.Filling.{own_apart}
 use Rattle.vm_shadow.proofs.Making.{can_stand}
-use Rattle.vm_state.specs.Contexts.{BlockPast, Reserved, after_push, control_block_long, is_block_past, is_block_reserved, loaded, loads_context, longs_in_block, off_interrupt_stack}
+use Rattle.vm_state.specs.Contexts.{after_push, control_block_long, is_block_past, is_block_reserved, loaded, loads_context, longs_in_block, off_interrupt_stack}
 use Rattle.vm_state.specs.Partition.{guest_of, part, partition_of}
 use Rattle.vm_state.specs.Pushes.{Faulty, Home, Homes, PastMemory, Walked, frames_pushed, pointer_after, push_walked, pushed}
-use Rattle.vm_state.specs.Sensitive.{Does, sensed, switched}
+use Rattle.vm_state.specs.Sensed.{Does, Faults, LacksMemory}
+use Rattle.vm_state.specs.Sensitive.{sensed}
 use Rattle.vm_state.specs.State.{Guest, HasPlace, State, pointer_of, state_of, tables_of}
 use Rattle.vm_state.specs.declared.exception.Exc.TheVariants as excs
 use Rattle.vm_state.specs.declared.guest_state.GuestState.{GuestState}
@@ -98,17 +99,17 @@ module _ (m : Machine) (s : Shadowed) (g : GuestState) (t : Trapped) (stands : S
   pub past_by_pages : (b c : Bool) → b ≡ is_past (512 * g.pages) g.pcbb 96 → b ≡ c → is_block_past whole ≡ c
   past_by_pages b c e is = ap (λ n. is_past n g.pcbb 96) (memory_size m s g stands) ∙ sym e ∙ is
 
-  pub lies_past : (result : Emulated) (g' : GuestState) → is_block_past whole ≡ true → result ≡ outcomes.PastMemory → state_of g' ≡ record (state_of g) { halt = Some 0x10 } → HasPlace g.pages g.base g.start g' → Senses (switched whole (loads_context whole t.next_pc)) m s g result m s g'
+  pub lies_past : (result : Emulated) (g' : GuestState) → is_block_past whole ≡ true → result ≡ outcomes.PastMemory → state_of g' ≡ record (state_of g) { halt = Some 0x10 } → HasPlace g.pages g.base g.start g' → Senses (loads_context whole t.next_pc) m s g result m s g'
   unfolding loads_context
   lies_past result g' past stops state place =
-      let is : loads_context whole t.next_pc ≡ BlockPast = rw past refl in
-      subst (λ x. Senses (switched whole (loads_context whole t.next_pc)) m s g x m s g') (sym stops) (lacks (switched whole (loads_context whole t.next_pc)) m s g g' stands (ap (switched whole) is) state place)
+      let is : loads_context whole t.next_pc ≡ LacksMemory = rw past refl in
+      subst (λ x. Senses (loads_context whole t.next_pc) m s g x m s g') (sym stops) (lacks (loads_context whole t.next_pc) m s g g' stands is state place)
 
-  pub is_reserved : is_block_past whole ≡ false → is_block_reserved whole ≡ true → Senses (switched whole (loads_context whole t.next_pc)) m s g (outcomes.Fault excs.ReservedOperand) m s g
+  pub is_reserved : is_block_past whole ≡ false → is_block_reserved whole ≡ true → Senses (loads_context whole t.next_pc) m s g (outcomes.Fault excs.ReservedOperand) m s g
   unfolding loads_context
   is_reserved inside reserved =
-      let is : loads_context whole t.next_pc ≡ Reserved = rw (inside, reserved) refl in
-      faults (switched whole (loads_context whole t.next_pc)) excs.ReservedOperand m s g stands (ap (switched whole) is)
+      let is : loads_context whole t.next_pc ≡ Faults excs.ReservedOperand = rw (inside, reserved) refl in
+      faults (loads_context whole t.next_pc) excs.ReservedOperand m s g stands is
 
   -- the guest with its registers loaded, before the push
   module _ (b : Block) (block : IsBlock whole b) (inside : is_block_past whole ≡ false) (allowed : is_block_reserved whole ≡ false) (g1 : GuestState) (state1 : state_of g1 ≡ loaded whole t.next_pc) (place1 : HasPlace g.pages g.base g.start g1) (longs : List ℕ) (longs_are : longs ≡ b.psl ∷ b.pc ∷ []) where
@@ -128,19 +129,19 @@ module _ (m : Machine) (s : Shadowed) (g : GuestState) (t : Trapped) (stands : S
         let longs2 : longs ≡ two = longs_are ∙ (λ i. block.psl i ∷ block.pc i ∷ []) in
         λ i. push_walked (guest i) Kernel (slice_index (state1 i).r 14) (longs2 i)
 
-    by_walk : (w : Walked) → w ≡ push_walked (guest_of m.memory g1) Kernel (slice_index g1.r 14) longs → switched whole (loads_context whole t.next_pc) ≡ switched whole (after_push whole next w)
-    by_walk w e = ap (switched whole) (comes ∙ ap (after_push whole next) (sym (e ∙ same_walk)))
+    by_walk : (w : Walked) → w ≡ push_walked (guest_of m.memory g1) Kernel (slice_index g1.r 14) longs → loads_context whole t.next_pc ≡ after_push whole next w
+    by_walk w e = comes ∙ ap (after_push whole next) (sym (e ∙ same_walk))
 
     -- trouble of the push
-    pub is_faulty : (f : MemFault) (g2 : GuestState) → Faulty f ≡ push_walked (guest_of m.memory g1) Kernel (slice_index g1.r 14) longs → g2 ≡ g → Senses (switched whole (loads_context whole t.next_pc)) m s g (outcomes.Fault excs.KernelStack) m s g2
+    pub is_faulty : (f : MemFault) (g2 : GuestState) → Faulty f ≡ push_walked (guest_of m.memory g1) Kernel (slice_index g1.r 14) longs → g2 ≡ g → Senses (loads_context whole t.next_pc) m s g (outcomes.Fault excs.KernelStack) m s g2
     is_faulty f g2 walk back =
-        let one = faults (switched whole (loads_context whole t.next_pc)) excs.KernelStack m s g stands (by_walk (Faulty f) walk) in
-        subst (λ (x : GuestState). Senses (switched whole (loads_context whole t.next_pc)) m s g (outcomes.Fault excs.KernelStack) m s x) (sym back) one
+        let one = faults (loads_context whole t.next_pc) excs.KernelStack m s g stands (by_walk (Faulty f) walk) in
+        subst (λ (x : GuestState). Senses (loads_context whole t.next_pc) m s g (outcomes.Fault excs.KernelStack) m s x) (sym back) one
 
-    pub is_stack_past : (result : Emulated) (g2 g3 : GuestState) → PastMemory ≡ push_walked (guest_of m.memory g1) Kernel (slice_index g1.r 14) longs → g2 ≡ g → result ≡ outcomes.PastMemory → state_of g3 ≡ record (state_of g2) { halt = Some 0x10 } → HasPlace g2.pages g2.base g2.start g3 → Senses (switched whole (loads_context whole t.next_pc)) m s g result m s g3
+    pub is_stack_past : (result : Emulated) (g2 g3 : GuestState) → PastMemory ≡ push_walked (guest_of m.memory g1) Kernel (slice_index g1.r 14) longs → g2 ≡ g → result ≡ outcomes.PastMemory → state_of g3 ≡ record (state_of g2) { halt = Some 0x10 } → HasPlace g2.pages g2.base g2.start g3 → Senses (loads_context whole t.next_pc) m s g result m s g3
     is_stack_past result g2 g3 walk back stops state place =
-        subst (λ x. Senses (switched whole (loads_context whole t.next_pc)) m s g x m s g3) (sym stops)
-        (lacks (switched whole (loads_context whole t.next_pc)) m s g g3 stands (by_walk PastMemory walk)
+        subst (λ x. Senses (loads_context whole t.next_pc) m s g x m s g3) (sym stops)
+        (lacks (loads_context whole t.next_pc) m s g g3 stands (by_walk PastMemory walk)
         (state ∙ ap (λ (x : GuestState). record (state_of x) { halt = Some 0x10 }) back)
         (subst (λ (x : GuestState). HasPlace x.pages x.base x.start g3) back place))
 
@@ -179,7 +180,7 @@ module _ (m : Machine) (s : Shadowed) (g : GuestState) (t : Trapped) (stands : S
           subst (λ n. AreHomes n hs) size (homes_inside (guest_of m.memory g1) Kernel (slice_index g1.r 14) longs hs (aligned_of (tables_of g1) can_switch) walk)
 
       -- what was read from a frame of the push is dropped, and then the tables switch to the registers
-      pub is_loaded : (m1 m' : Machine) (s1 s' : Shadowed) → Wrote (frames_pushed (own m.memory s) hs) (pushed hs (own m.memory s)) m s m1 s1 → Switches later m1 s1 m' s' → Senses (switched whole (loads_context whole t.next_pc)) m s g outcomes.Done m' s' later
+      pub is_loaded : (m1 m' : Machine) (s1 s' : Shadowed) → Wrote (frames_pushed (own m.memory s) hs) (pushed hs (own m.memory s)) m s m1 s1 → Switches later m1 s1 m' s' → Senses (loads_context whole t.next_pc) m s g outcomes.Done m' s' later
       unfolding frames becomes sensed
       is_loaded m1 m' s1 s' wrote sw =
           let mine = own_is m.memory s g stands.serves in

@@ -21,7 +21,8 @@ use Rattle.vm_shadow.proofs.Making.{can_stand}
 use Rattle.vm_state.specs.Packets.{accepted, after_accept, busy_status, status_place}
 use Rattle.vm_state.specs.Partition.{guest_of, partition_of}
 use Rattle.vm_state.specs.Registers.{written}
-use Rattle.vm_state.specs.Sensitive.{Does, move_to_register, mtpr_by, packet_taken, past_instruction, sensed, with_codes, with_register_effect}
+use Rattle.vm_state.specs.Sensed.{Does}
+use Rattle.vm_state.specs.Sensitive.{move_to_register, mtpr_by, packet_taken, past_instruction, sensed, with_codes, with_register_effect}
 use Rattle.vm_state.specs.State.{Guest, HasPlace, State, state_of, tables_of}
 use Rattle.vm_state.specs.Translation.{frame_at, long_stored}
 use Rattle.vm_state.specs.declared.exception.Exc.TheVariants as excs

@@ -17,7 +17,8 @@ use Rattle.vm_emulate.proofs.Sensing.{alone, faults, lacks}
 use Rattle.vm_state.specs.Contexts as contexts
 use Rattle.vm_state.specs.Contexts.{two_popped}
 use Rattle.vm_state.specs.Partition.{guest_of}
-use Rattle.vm_state.specs.Sensitive.{Does, Faults, past_instruction, rei_by, return_from, returned_to, sensed, troubled}
+use Rattle.vm_state.specs.Sensed.{Does, Faults, troubled}
+use Rattle.vm_state.specs.Sensitive.{past_instruction, rei_by, return_from, returned_to, sensed}
 use Rattle.vm_state.specs.State.{Guest, HasPlace, state_of}
 use Rattle.vm_state.specs.Translation.{space_of}
 use Rattle.vm_state.specs.declared.exception.Exc.TheVariants as excs

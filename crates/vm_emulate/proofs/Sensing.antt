@@ -15,7 +15,8 @@ use Rattle.vm_shadow.specs.StandsFor.{OnlyGuest, StandsFor}
 use Rattle.vm_shadow.proofs.Covering.{own_is, own_length}
 use Rattle.vm_state.specs.Allowed.{AreAllowed}
 use Rattle.vm_state.specs.Partition.{guest_of, part, partition_of}
-use Rattle.vm_state.specs.Sensitive.{Does, Faults, LacksMemory, Sensed, StopsThere, sensed}
+use Rattle.vm_state.specs.Sensed.{Does, Faults, LacksMemory, Sensed, StopsThere}
+use Rattle.vm_state.specs.Sensitive.{sensed}
 use Rattle.vm_state.specs.State.{Guest, HasPlace, State, state_of, tables_of}
 use Rattle.vm_state.specs.Stops.{Stop, stop_code}
 use Rattle.vm_state.specs.declared.exception.Exc.{Exc}

@@ -7,14 +7,14 @@ use Rattle.vax_table.specs.declared.act.Trapped.{Trapped}
 use Rattle.vm_emulate.specs.Moved.{MovesToRegister}
 use Rattle.vm_ipr.specs.Outcomes.{WritesRegister}
 use Rattle.vm_state.specs.Packets.{accepted}
-use Rattle.vm_state.specs.Registers.{Written, after_write, allows, effect_of, register_of, with_pointer, write_by, written}
+use Rattle.vm_state.specs.Registers.{Written, allows, register_of, register_row, with_pointer, write_by, written}
 use Rattle.vm_state.specs.Sensitive.{with_codes}
 use Rattle.vm_state.specs.State.{State, stack_in, state_of}
 use Rattle.vm_state.specs.declared.guest_state.GuestState.{GuestState}
 use Rattle.vm_state.specs.declared.register.Effect.{Effect}
 use Rattle.vm_state.specs.declared.register.Effect.TheVariants as effects
 use Rattle.vm_state.specs.declared.register.Register.{Register}
-use Rattle.vm_state.specs.declared.register.Register.TheVariants.{Ksp, Esp, Ssp, Usp, Isp, P0br, P0lr, P1br, P1lr, Sbr, Slr, Pcbb, Scbb, Ipl, Astlvl, Sirr, Sisr, Iccs, Nicr, Icr, Rxcs, Rxdb, Txcs, Txdb, Mapen, Tbia, Tbis, Sid, Kcall, Memsize, Uptime}
+use Rattle.vm_state.specs.declared.register.Register.TheVariants.{Ksp, Esp, Ssp, Usp, Isp, P0br, P0lr, P1br, P1lr, Sbr, Slr, Mapen}
 use Rattle.vm_state.specs.declared.register.ReservedOperand.{ReservedOperand}
 use Rattle.vm_state.specs.declared.transfer.Accept.{Accept}
 use Rattle.vm_state.specs.declared.transfer.Accept.TheVariants.{BadPacket, Busy, Queued}
@@ -33,7 +33,7 @@ Leaves (effects.Kcall packet) s u = u ≡ s
 pointer_leaves : (stack v : ℕ) (s : State) → (with_pointer stack v s).tables ≡ s.tables
 pointer_leaves stack v s = cond_both (eqb stack (stack_in s.psl)) (record s { r = slice_set s.r 14 v }) (record s { stacks = slice_set s.stacks stack v }) (λ (x : State). x.tables ≡ s.tables) (λ e. refl) (λ e. refl)
 
-write_leaves : (r : Register) (v : ℕ) (s : State) → Leaves (effect_of r v) s (after_write r v s)
+write_leaves : (r : Register) (v : ℕ) (s : State) → Leaves ((register_row r).effect v) s ((register_row r).after_write v s)
 write_leaves Ksp v s = pointer_leaves 0 v s
 write_leaves Esp v s = pointer_leaves 1 v s
 write_leaves Ssp v s = pointer_leaves 2 v s
@@ -45,26 +45,8 @@ write_leaves P1br v s = tt
 write_leaves P1lr v s = tt
 write_leaves Sbr v s = tt
 write_leaves Slr v s = tt
-write_leaves Pcbb v s = refl
-write_leaves Scbb v s = refl
-write_leaves Ipl v s = refl
-write_leaves Astlvl v s = refl
-write_leaves Sirr v s = refl
-write_leaves Sisr v s = refl
-write_leaves Iccs v s = refl
-write_leaves Nicr v s = refl
-write_leaves Icr v s = refl
-write_leaves Rxcs v s = refl
-write_leaves Rxdb v s = refl
-write_leaves Txcs v s = refl
-write_leaves Txdb v s = refl
 write_leaves Mapen v s = tt
-write_leaves Tbia v s = refl
-write_leaves Tbis v s = refl
-write_leaves Sid v s = refl
-write_leaves Kcall v s = refl
-write_leaves Memsize v s = refl
-write_leaves Uptime v s = refl
+write_leaves r v s = refl
 
 abbrev WrittenLeaves : State → Result Written ReservedOperand → Type 0
 WrittenLeaves s (Ok w) = Leaves w.effect s w.state

@@ -6,7 +6,8 @@ use Rattle.vm_emulate.specs.declared.emulated.Emulated.{Emulated}
 use Rattle.vm_emulate.specs.declared.emulated.Emulated.TheVariants.{Done}
 use Rattle.vm_state.specs.Initiate.{initiate, new_mode}
 use Rattle.vm_state.specs.Pushes.{push_walked}
-use Rattle.vm_state.specs.Sensitive.{Sensed, chm_walked, mode_changed}
+use Rattle.vm_state.specs.Sensed.{Sensed}
+use Rattle.vm_state.specs.Sensitive.{chm_walked, mode_changed}
 use Rattle.vm_state.specs.State.{Guest, pc_of, pointer_of}
 use Rattle.vm_state.specs.declared.exception.Exc.TheVariants.{Chm}
 

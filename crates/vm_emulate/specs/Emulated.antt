@@ -21,9 +21,9 @@ use Rattle.vm_shadow.specs.StandsFor.{OnlyGuest, StandsFor, own_number}
 use Rattle.vm_state.specs.Partition.{guest_of}
 use Rattle.vm_state.specs.Probe.{Answers, NotValid, Probed, probe}
 use Rattle.vm_state.specs.Probe as probes
-use Rattle.vm_state.specs.Sensitive.{ClearAt, Does, Faults, LacksMemory, Sensed, StopsThere, past_instruction, sensed}
+use Rattle.vm_state.specs.Sensed.{ClearAt, Does, Faults, LacksMemory, Sensed, StopsThere}
+use Rattle.vm_state.specs.Sensitive.{past_instruction, sensed, with_psw}
 use Rattle.vm_state.specs.State.{Guest, HasPlace}
-use Rattle.vm_state.specs.Step.{with_psw}
 use Rattle.vm_state.specs.Stops.{Halted, stop_code}
 use Rattle.vm_state.specs.Translation.{look, marked_by, marks_by}
 use Rattle.vm_state.specs.declared.exception.Exc.{Exc}

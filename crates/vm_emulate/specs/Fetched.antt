@@ -10,7 +10,8 @@ use Rattle.vm_emulate.specs.Readings.{unread}
 use Rattle.vm_emulate.specs.declared.reading.Unread.{Unread}
 use Rattle.vm_state.specs.Pushes.{Home}
 use Rattle.vm_state.specs.Registers.{read}
-use Rattle.vm_state.specs.Sensitive.{fault_of, past_instruction, troubled, with_codes}
+use Rattle.vm_state.specs.Sensed.{fault_of, troubled}
+use Rattle.vm_state.specs.Sensitive.{past_instruction, with_codes}
 use Rattle.vm_state.specs.State.{Guest, State, mode_of_state, state_of}
 use Rattle.vm_state.specs.Translation.{guest_write_place, space_of, walk_of}
 use Rattle.vm_state.specs.declared.guest_state.GuestState.{GuestState}

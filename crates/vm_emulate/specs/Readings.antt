@@ -6,7 +6,7 @@ use Rattle.vm_emulate.specs.declared.reading.Unread.{Unread}
 use Rattle.vm_emulate.specs.declared.returns.Popped.{Popped}
 use Rattle.vm_emulate.specs.declared.reading.Unread.TheVariants.{Faulty, PastMemory}
 use Rattle.vm_state.specs.Contexts as contexts
-use Rattle.vm_state.specs.Sensitive.{Faults, LacksMemory, Sensed, fault_of, troubled}
+use Rattle.vm_state.specs.Sensed.{Faults, LacksMemory, Sensed, fault_of, troubled}
 use Rattle.vm_state.specs.State.{Guest, mode_of_state}
 use Rattle.vm_state.specs.Translation.{space_of, walk_of}
 use Rattle.vm_state.specs.declared.exception.Exc.TheVariants.{Memory}

@@ -10,7 +10,8 @@ ghost use Rattle.vm_exception.specs.Wrote.{PutsHomes};
 ghost use Rattle.vm_shadow.specs.Shadowed.{Keeps};
 ghost use Rattle.vm_shadow.specs.StandsFor.{StandsFor};
 ghost use Rattle.vm_state.specs.Partition.{guest_of};
-ghost use Rattle.vm_state.specs.Sensitive.{ClearAt, move_from_register};
+ghost use Rattle.vm_state.specs.Sensed.{ClearAt};
+ghost use Rattle.vm_state.specs.Sensitive.{move_from_register};
 ghost use Rattle.vm_state.specs.State.{HasPlace, state_of, tables_of};
 ghost use Rattle.vm_state.specs.Translation.{is_clear};
 

@@ -5,7 +5,6 @@ ghost use Rattle.vm_emulate.specs.Loaded.{IsBlock, has_reserved_bit, refuses_reg
 ghost use Rattle.vm_shadow.specs.StandsFor.{StandsFor};
 ghost use Rattle.vm_state.specs.Contexts.{block_size, control_block_long, is_block_past, is_block_reserved, loaded, loads_context, longs_in_block, off_interrupt_stack};
 ghost use Rattle.vm_state.specs.Partition.{guest_of};
-ghost use Rattle.vm_state.specs.Sensitive.{switched};
 ghost use Rattle.vm_state.specs.State.{Guest, HasPlace, state_of};
 
 use crate::Emulated;
@@ -264,7 +263,7 @@ fn load<H: Hardware>(
     requires block { IsBlock (guest_of (H.machine machine.old).memory g.old) block.now }
     requires inside { is_block_past (guest_of (H.machine machine.old).memory g.old) ≡ false }
     requires allowed { is_block_reserved (guest_of (H.machine machine.old).memory g.old) ≡ false }
-    ensures { Senses (switched (guest_of (H.machine machine.old).memory g.old) (loads_context (guest_of (H.machine machine.old).memory g.old) t.now.next_pc)) (H.machine machine.old) s.old g.old result (H.machine machine.new) s.new g.new }
+    ensures { Senses (loads_context (guest_of (H.machine machine.old).memory g.old) t.now.next_pc) (H.machine machine.old) s.old g.old result (H.machine machine.new) s.new g.new }
 {
     let before = process_of(g);
     let process = process_in(g, block, t.next_pc);
@@ -295,7 +294,7 @@ pub fn load_context<H: Hardware>(
     t: &Trapped,
 ) -> Emulated
     requires { StandsFor (H.machine machine.old).memory s.old g.old }
-    ensures { Senses (switched (guest_of (H.machine machine.old).memory g.old) (loads_context (guest_of (H.machine machine.old).memory g.old) t.now.next_pc)) (H.machine machine.old) s.old g.old result (H.machine machine.new) s.new g.new }
+    ensures { Senses (loads_context (guest_of (H.machine machine.old).memory g.old) t.now.next_pc) (H.machine machine.old) s.old g.old result (H.machine machine.new) s.new g.new }
 {
     if is_block_past(g) {
         return stop_past_memory(g);

@@ -6,7 +6,7 @@ ghost use Rattle.vm_shadow.specs.Shadowed.{Keeps};
 ghost use Rattle.vm_shadow.specs.StandsFor.{StandsFor};
 ghost use Rattle.vm_state.specs.Packets.{accepted, after_accept};
 ghost use Rattle.vm_state.specs.Partition.{guest_of};
-ghost use Rattle.vm_state.specs.Sensitive.{move_to_register, moved_psl, with_codes};
+ghost use Rattle.vm_state.specs.Sensitive.{move_to_register, with_codes};
 ghost use Rattle.vm_state.specs.State.{HasPlace, state_of};
 
 use crate::Emulated;
@@ -22,20 +22,13 @@ use vm_shadow::Shadow;
 use vm_state::{Effect, Exc, GuestState, ReservedOperand};
 use vv_base::Width;
 
-/// The PSL with the codes of a longword that was moved.
-fn moved_psl(psl: Psl, v: u32) -> Psl
-    ensures { result.0 ≡ moved_psl psl.0 v }
-{
-    let codes = alu(AluOp::Move, v, 0, Width::Long, (psl.0 % 256) as u8);
-    Psl(psl.0 / 256 * 256 + u32::from(codes.psw))
-}
-
 /// Sets the codes of a longword that was moved.
 pub fn set_codes(g: &mut GuestState, v: u32)
     ensures state { state_of g.new ≡ with_codes v (state_of g.old) }
     ensures place { HasPlace g.old.pages g.old.base g.old.start g.new }
 {
-    g.psl = moved_psl(g.psl, v);
+    let codes = alu(AluOp::Move, v, 0, Width::Long, (g.psl.0 % 256) as u8);
+    g.psl = Psl(g.psl.0 / 256 * 256 + u32::from(codes.psw));
 }
 
 /// Writes the register that MTPR names, and goes after it with the codes of the value. A refused write changes nothing.

@@ -8,7 +8,6 @@ ghost use Rattle.vm_shadow.specs.StandsFor.{StandsFor};
 ghost use Rattle.vm_state.specs.Contexts.{after_pops, long_frames, longs_stored, on_interrupt, on_interrupt_stack, saved_longs, saves_context};
 ghost use Rattle.vm_state.specs.Partition.{guest_of};
 ghost use Rattle.vm_state.specs.Registers.{with_ipl};
-ghost use Rattle.vm_state.specs.Sensitive.{switched};
 ghost use Rattle.vm_state.specs.State.{HasPlace, pointer_of, state_of};
 
 use crate::Emulated;
@@ -105,7 +104,7 @@ pub fn save_context<H: Hardware>(
     t: &Trapped,
 ) -> Emulated
     requires { StandsFor (H.machine machine.old).memory s.old g.old }
-    ensures { Senses (switched (guest_of (H.machine machine.old).memory g.old) (saves_context (guest_of (H.machine machine.old).memory g.old) t.now.next_pc)) (H.machine machine.old) s.old g.old result (H.machine machine.new) s.new g.new }
+    ensures { Senses (saves_context (guest_of (H.machine machine.old).memory g.old) t.now.next_pc) (H.machine machine.old) s.old g.old result (H.machine machine.new) s.new g.new }
 {
     match read_popped(machine, g, g.r[14]) {
         Ok(_) if is_block_past(g) => stop_past_memory(g),

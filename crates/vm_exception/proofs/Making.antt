@@ -11,7 +11,7 @@ use Rattle.vm_shadow.specs.Shadowed.{Shadowed}
 use Rattle.vm_shadow.specs.StandsFor.{OnlyGuest, StandsFor}
 use Rattle.vm_state.specs.Allowed.{AreAllowed}
 use Rattle.vm_state.specs.Initiate.{Initiation, KernelStackBad, Stops, Taken, initiate}
-use Rattle.vm_state.specs.Interrupts.{IntervalClock, Kcall, Receiver, Software, Source, Transmitter, after_interrupt_taken, due, interrupt_of}
+use Rattle.vm_state.specs.Interrupts.{IntervalClock, Kcall, Receiver, Software, Source, Transmitter, due, interrupt_of, source_row}
 use Rattle.vm_state.specs.Partition.{guest_of, part, partition_of}
 use Rattle.vm_state.specs.State.{Guest, HasPlace, State, pc_of, state_of}
 use Rattle.vm_state.specs.Step.{Interrupt, Kind, initiated_in, interrupted}
@@ -72,7 +72,7 @@ by_taken (Taken h frames) m m' s s' g g' b = (h, frames, refl, b)
 by_taken (KernelStackBad h frames) m m' s s' g g' b = absurd b
 by_taken (Stops stop) m m' s s' g g' b = absurd b
 
-tables_stay : (x : Source) (s : State) → (after_interrupt_taken x s).tables ≡ s.tables
+tables_stay : (x : Source) (s : State) → ((source_row x).taken s).tables ≡ s.tables
 tables_stay IntervalClock s = refl
 tables_stay Kcall s = refl
 tables_stay Receiver s = refl
@@ -96,7 +96,7 @@ module _ (x : Source) (e : Exc) (m m' : Machine) (s s' : Shadowed) (g g' : Guest
   pub request_stays : HasRequest (state_of g') x
   request_stays = has_request x (state_of g) (state_of g') is_due requests_stay
 
-  module _ (g2 : GuestState) (state : state_of g2 ≡ after_interrupt_taken x (state_of g')) (place : HasPlace g'.pages g'.base g'.start g2) where
+  module _ (g2 : GuestState) (state : state_of g2 ≡ (source_row x).taken (state_of g')) (place : HasPlace g'.pages g'.base g'.start g2) where
     ended_stands : StandsFor m'.memory s' g2
     ended_stands =
         let v = start.stands.serves in
@@ -114,7 +114,7 @@ module _ (x : Source) (e : Exc) (m m' : Machine) (s s' : Shadowed) (g g' : Guest
     ended : (y : Initiation) → IsInitiated y outcomes.Taken m s g m' s' g' → MakesStep (interrupted (guest_of m.memory g) x y) m s g m' s' g2
     ended (Taken h frames) b =
         let memory : partition_of m'.memory g2 ≡ h.memory = (λ i. part m'.memory (512 * place.base i) (512 * place.pages i)) ∙ ap (λ (y : Guest). y.memory) b.guest in
-        let later : state_of g2 ≡ after_interrupt_taken x h.state = state ∙ ap (λ (y : Guest). after_interrupt_taken x y.state) b.guest in
+        let later : state_of g2 ≡ (source_row x).taken h.state = state ∙ ap (λ (y : Guest). (source_row x).taken y.state) b.guest in
         record { guest = λ i. record { memory = memory i; state = later i }; drops = b.drops; stands = ended_stands; place = ended_place; only = start.only }
     ended (KernelStackBad h frames) b = absurd b
     ended (Stops stop) b = absurd b

@@ -5,7 +5,7 @@ use Rattle.std.proofs.lemmas.Bool.Decides.{nat_tests}
 use Rattle.std.proofs.lemmas.Grind.{common_steps}
 use Rattle.vax_arch.specs.Fields.{ipl_of}
 use Rattle.vm_exception.specs.Sources.{HasLevel, HasRequest, is_due, software_due}
-use Rattle.vm_state.specs.Interrupts.{IntervalClock, Kcall, Receiver, Software, Source, Transmitter, after_interrupt_taken, due, level_of, requests, sources}
+use Rattle.vm_state.specs.Interrupts.{IntervalClock, Kcall, Receiver, Software, Source, Transmitter, due, source_row, sources}
 use Rattle.vm_state.specs.State.{State}
 use Rattle.vm_state.proofs.Keeps.{Keeps, moved}
 use Rattle.vm_state.proofs.Registers.{clear_at, even_of, small_of, with_sisr}
@@ -102,13 +102,13 @@ first_true false b e = cc
 -- what is due
 record Pends (s : State) (x : Source) : Type 0 where
   level : IsLevel x
-  request : requests s x ≡ true
+  request : (source_row x).requests s ≡ true
 
 pends : (s : State) (x : Source) → due s ≡ Some x → Pends s x
 unfolding due
 pends s x e =
     let f = found IsLevel (λ source. is_due s source) sources x all_are_levels e in
-    record { level = f.0; request = first_true (requests s x) (ltb (ipl_of s.psl) (level_of x)) f.1 }
+    record { level = f.0; request = first_true ((source_row x).requests s) (ltb (ipl_of s.psl) (source_row x).level) f.1 }
 
 level_of_pending : (x : Source) → IsLevel x → HasLevel x
 unfolding IsLevel
@@ -125,7 +125,7 @@ has_level s x e = level_of_pending x (pends s x e).level
 bit_there : (sisr bit : ℕ) → sisr / bit % 2 ≡ 1 → bit ≤ sisr
 bit_there sisr bit e = grind (arith, common_steps)
 
-request_there : (x : Source) (s t : State) → IsLevel x → requests s x ≡ true → t.sisr ≡ s.sisr → HasRequest t x
+request_there : (x : Source) (s t : State) → IsLevel x → (source_row x).requests s ≡ true → t.sisr ≡ s.sisr → HasRequest t x
 unfolding IsLevel
 request_there IntervalClock s t h r e = tt
 request_there Kcall s t h r e = tt
@@ -139,7 +139,7 @@ pub has_request : (x : Source) (s t : State) → due s ≡ Some x → t.sisr ≡
 has_request x s t d e = let p = pends s x d in request_there x s t p.level p.request e
 
 -- A request ends; initiation leaves the requests of software levels.
-ended_keeps : (size : ℕ) (x : Source) (s t : State) → IsLevel x → requests s x ≡ true → t.sisr ≡ s.sisr → Keeps size t (after_interrupt_taken x t)
+ended_keeps : (size : ℕ) (x : Source) (s t : State) → IsLevel x → (source_row x).requests s ≡ true → t.sisr ≡ s.sisr → Keeps size t ((source_row x).taken t)
 unfolding IsLevel
 ended_keeps size IntervalClock s t h r e = moved size t _ refl refl refl refl refl refl refl refl (λ k. k)
 ended_keeps size Kcall s t h r e = moved size t _ refl refl refl refl refl refl refl refl (λ k. k)
@@ -149,7 +149,7 @@ ended_keeps size (Software level) s t h r e =
     let asked : t.sisr / 2 ^ level % 2 ≡ 1 = rw e (grind (arith, nat_tests)) in
     with_sisr size t (t.sisr - 2 ^ level) (λ k. clear_at level t.sisr h.0 h.1 (even_of t.sisr k.sisr) (small_of t.sisr k.sisr) asked)
 
-pub taken_keeps : (size : ℕ) (x : Source) (s t : State) → due s ≡ Some x → t.sisr ≡ s.sisr → Keeps size t (after_interrupt_taken x t)
+pub taken_keeps : (size : ℕ) (x : Source) (s t : State) → due s ≡ Some x → t.sisr ≡ s.sisr → Keeps size t ((source_row x).taken t)
 taken_keeps size x s t d e = let p = pends s x d in ended_keeps size x s t p.level p.request e
 
 -- where no level is requested, none is due

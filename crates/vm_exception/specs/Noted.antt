@@ -14,7 +14,8 @@ use Rattle.vm_state.specs.Initiate.{Initiation, KernelStackBad, Stops, Taken, in
 use Rattle.vm_state.specs.Interrupts.{Source, due, interrupt_of}
 use Rattle.vm_state.specs.Probe.{Answers, NotValid, Probed, probe}
 use Rattle.vm_state.specs.Probe as probes
-use Rattle.vm_state.specs.Sensitive.{ClearAt, Does, Faults, LacksMemory, Sensed, StopsThere, sensed, troubled}
+use Rattle.vm_state.specs.Sensed.{ClearAt, Does, Faults, LacksMemory, Sensed, StopsThere, troubled}
+use Rattle.vm_state.specs.Sensitive.{sensed}
 use Rattle.vm_state.specs.State.{Guest}
 use Rattle.vm_state.specs.Step.{counted, instruction_of, with_effect}
 use Rattle.vm_state.specs.Translation.{is_clear, space_of}

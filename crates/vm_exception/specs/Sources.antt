@@ -4,7 +4,7 @@ use Rattle.vax_arch.specs.Fields.{ipl_of}
 use Rattle.vm_exception.specs.declared.pending.Source.{Source}
 use Rattle.vm_exception.specs.declared.pending.Source.TheVariants.{IntervalClock, Kcall, Receiver, Software, Transmitter}
 use Rattle.vm_state.specs.Interrupts as interrupts
-use Rattle.vm_state.specs.Interrupts.{level_of, requests, sources}
+use Rattle.vm_state.specs.Interrupts.{source_row, sources}
 use Rattle.vm_state.specs.State.{State}
 
 abbrev pub source_of : Source → interrupts.Source
@@ -26,7 +26,7 @@ HasRequest s _ = Unit {0}
 
 -- it is pending above the guest's level
 abbrev pub is_due : State → interrupts.Source → Bool
-is_due s source = requests s source && nat_lt (ipl_of s.psl) (level_of source)
+is_due s source = (source_row source).requests s && nat_lt (ipl_of s.psl) (source_row source).level
 
 -- the highest software level that is
 unfoldable pub software_due : State → Option interrupts.Source

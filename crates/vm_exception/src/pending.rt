@@ -1,7 +1,7 @@
 ghost use Rattle.std.specs.Prelude.{◌≡◌, ◌==◌, ◌/◌, ◌%◌, ◌^◌, ◌<◌, option_map};
 ghost use Rattle.vm_exception.specs.Sources.{HasLevel, HasRequest, is_due, software_due, source_of};
 ghost use Rattle.vm_exception.specs.Initiated.{IsProper};
-ghost use Rattle.vm_state.specs.Interrupts.{after_interrupt_taken, due, interrupt_of, level_of, requests, vector_of};
+ghost use Rattle.vm_state.specs.Interrupts.{due, interrupt_of, source_row};
 ghost use Rattle.vm_state.specs.State.{HasPlace, state_of};
 
 use vm_state::{Exc, GuestState};
@@ -20,7 +20,7 @@ pub enum Source {
 impl Source {
     /// The interrupt priority level.
     fn level(self) -> u8
-        ensures { result ≡ level_of (source_of self) }
+        ensures { result ≡ (source_row (source_of self)).level }
     {
         match self {
             Source::IntervalClock => 24,
@@ -33,7 +33,7 @@ impl Source {
 
     /// Where the vector is in the system control block, in bytes.
     pub(crate) fn vector(self) -> u32
-        ensures { result ≡ vector_of (source_of self) }
+        ensures { result ≡ (source_row (source_of self)).vector }
     {
         match self {
             Source::IntervalClock => 0xC0,
@@ -68,7 +68,7 @@ fn is_bit_set(sisr: u16, level: u8) -> bool
 /// Whether a source requests an interrupt.
 fn is_requested(g: &GuestState, source: Source) -> bool
     requires { HasLevel (source_of source) }
-    ensures { result ≡ requests (state_of g.now) (source_of source) }
+    ensures { result ≡ (source_row (source_of source)).requests (state_of g.now) }
 {
     match source {
         Source::IntervalClock => g.clock.due(),
@@ -123,7 +123,7 @@ pub fn due(g: &GuestState) -> Option<Source>
 /// Ends the request of a source, whose interrupt was taken.
 pub fn end_request(g: &mut GuestState, source: Source)
     requires { HasRequest (state_of g.old) (source_of source) }
-    ensures state { state_of g.new ≡ after_interrupt_taken (source_of source) (state_of g.old) }
+    ensures state { state_of g.new ≡ (source_row (source_of source)).taken (state_of g.old) }
     ensures place { HasPlace g.old.pages g.old.base g.old.start g.new }
 {
     match source {

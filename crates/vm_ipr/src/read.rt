@@ -1,5 +1,5 @@
 ghost use Rattle.std.specs.Prelude.{◌≡◌, ◌≤◌, ◌*◌, ℕ, IsNone, is_ok, is_some};
-ghost use Rattle.vm_state.specs.Registers.{after_read, read, value_of};
+ghost use Rattle.vm_state.specs.Registers.{after_read, read, register_row};
 ghost use Rattle.vm_state.specs.State.{HasPlace, State, state_of};
 ghost use Rattle.vm_ipr.specs.Outcomes.{ReadsRegister};
 
@@ -11,7 +11,7 @@ const SID: u32 = 0x5600_0001;
 /// Reads a register; `None` exactly where it is write-only.
 fn read(g: &mut GuestState, register: Register) -> Option<u32>
     requires { g.old.pages ≤ 65536 }
-    ensures value { result ≡ value_of (512 * g.old.pages) (state_of g.old) register }
+    ensures value { result ≡ (register_row register).value (512 * g.old.pages) (state_of g.old) }
     ensures state { state_of g.new ≡ after_read register (state_of g.old) }
     ensures place { HasPlace g.old.pages g.old.base g.old.start g.new }
     ensures none { IsNone result → g.new ≡ g.old }
@@ -68,7 +68,7 @@ pub fn mfpr(g: &mut GuestState, number: u32) -> Result<u32, ReservedOperand>
 
 /// Whether reading a register gives a value, which no state of the guest decides.
 fn gives_value(register: Register) -> bool
-    ensures { (size : ℕ) (u : State) → result ≡ is_some (value_of size u register) }
+    ensures { (size : ℕ) (u : State) → result ≡ is_some ((register_row register).value size u) }
 {
     !matches!(
         register,

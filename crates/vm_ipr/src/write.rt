@@ -1,5 +1,5 @@
 ghost use Rattle.std.specs.Prelude.{◌≡◌, ◌<◌, true};
-ghost use Rattle.vm_state.specs.Registers.{after_write, allows, effect_of, with_ipl, with_request};
+ghost use Rattle.vm_state.specs.Registers.{allows, register_row, with_ipl, with_request};
 ghost use Rattle.vm_state.specs.State.{HasPlace, state_of};
 ghost use Rattle.vm_ipr.specs.Outcomes.{WritesRegister};
 
@@ -29,7 +29,7 @@ fn allows(register: Register, v: u32) -> bool
 
 /// What a write asks for beside the register.
 fn effect_of(register: Register, v: u32) -> Effect
-    ensures { result ≡ effect_of register v }
+    ensures { result ≡ (register_row register).effect v }
 {
     match register {
         Register::P0br
@@ -70,7 +70,7 @@ fn with_request(level: u32, sisr: u16) -> u16
 /// Writes an allowed value to a register.
 fn write(g: &mut GuestState, register: Register, v: u32)
     requires { allows register v ≡ true }
-    ensures state { state_of g.new ≡ after_write register v (state_of g.old) }
+    ensures state { state_of g.new ≡ (register_row register).after_write v (state_of g.old) }
     ensures place { HasPlace g.old.pages g.old.base g.old.start g.new }
 {
     match register {

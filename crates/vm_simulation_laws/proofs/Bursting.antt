@@ -29,18 +29,19 @@ use Rattle.vm_simulation_laws.specs.Loaded.{HasGuestLoaded, OnlyPartition, RunsG
 use Rattle.vm_simulation_laws.proofs.Meeting.{exits_meet}
 use Rattle.vm_simulation_laws.proofs.Retiring.{retires}
 use Rattle.vm_state.specs.Initiate.{Initiation, KernelStackBad, Stops, Taken, initiate}
-use Rattle.vm_state.specs.Interrupts.{IntervalClock, Kcall, Receiver, Software, Source, Transmitter, due, level_of, requests, sources}
+use Rattle.vm_state.specs.Interrupts.{IntervalClock, Kcall, Receiver, Software, Source, Transmitter, due, source_row, sources}
 use Rattle.vm_state.specs.Partition.{guest_of, partition_of}
 use Rattle.vm_state.specs.Run.{Run, after_step, after_steps}
 use Rattle.vm_state.specs.State.{Guest, State, mode_of_state, state_of}
 use Rattle.vm_state.specs.Step as steps
-use Rattle.vm_state.specs.Step.{Stepped, by_interrupt, counted, executed, initiated_in, step, step_by, trapped_in, unless_waiting}
+use Rattle.vm_state.specs.Step.{Stepped, counted, executed, initiated_in, step, trapped_in}
 use Rattle.vm_state.specs.Translation.{is_clear, look, space_of, walk_by, walk_of, walked_byte}
 use Rattle.vm_state.specs.declared.exception.Exc.TheVariants as excs
 use Rattle.vm_state.specs.declared.guest_state.GuestState.{GuestState}
+use Rattle.vm_state.proofs.StepCases.{by_interrupt, step_by, unless_waiting}
 
 -- Requests and the level alone make an interrupt due.
-requests_same : (s : State) (r : List ℕ) (psl n : ℕ) (source : Source) → requests (record s { r = r; psl = psl; steps = n }) source ≡ requests s source
+requests_same : (s : State) (r : List ℕ) (psl n : ℕ) (source : Source) → (source_row source).requests (record s { r = r; psl = psl; steps = n }) ≡ (source_row source).requests s
 requests_same s r psl n IntervalClock = refl
 requests_same s r psl n Kcall = refl
 requests_same s r psl n Receiver = refl
@@ -52,7 +53,7 @@ same_level p q e = let h : p / 2 ^ 16 ≡ q / 2 ^ 16 = grind arith in ap (λ n. 
 
 pub due_same : (s : State) (r : List ℕ) (psl n : ℕ) → psl / 2 ^ 8 ≡ s.psl / 2 ^ 8 → due (record s { r = r; psl = psl; steps = n }) ≡ due s
 unfolding due
-due_same s r psl n e = λ i. find (λ source. requests_same s r psl n source i && nat_lt (same_level psl s.psl e i) (level_of source)) sources
+due_same s r psl n e = λ i. find (λ source. requests_same s r psl n source i && nat_lt (same_level psl s.psl e i) (source_row source).level) sources
 
 -- a quiet guest's next step comes to its instruction
 pub step_is : (h : Guest) → h.state.halt ≡ None → h.state.waiting ≡ false → due (counted h.state) ≡ None → step h ≡ executed (record h { state = counted h.state })

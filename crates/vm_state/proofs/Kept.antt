@@ -18,12 +18,13 @@ use Rattle.vax_table.specs.declared.act.Sens.TheVariants.{Chm, Halt, Ldpctx, Mfp
 use Rattle.vax_table.specs.declared.act.Trapped.{Trapped}
 use Rattle.vax_table.specs.declared.answer.AluOp.TheVariants.{Move}
 use Rattle.vm_state.specs.Allowed.{Allows, AreAllowed, IsPacket}
-use Rattle.vm_state.specs.Contexts.{BlockPast, PopTrouble, Popped, Reserved, StackTrouble, Switched, Switches, after_pops, after_push, after_reads, is_block_past, is_block_reserved, loaded, loaded_astlvl, loaded_tables, loads_context, on_interrupt, on_interrupt_stack, saved, saved_longs, saves_context, two_popped}
+use Rattle.vm_state.specs.Contexts.{Popped, after_pops, after_push, after_reads, is_block_past, is_block_reserved, loaded, loaded_astlvl, loaded_tables, loads_context, on_interrupt, on_interrupt_stack, saved, saved_longs, saves_context, two_popped}
 use Rattle.vm_state.specs.Initiate.{Initiation, KernelStackBad, Stops, Taken, initiate, new_mode}
 use Rattle.vm_state.specs.Packets.{accepted, busy_status, status_place}
 use Rattle.vm_state.specs.Pushes.{Faulty, Homes, PastMemory, Walked, push_walked}
 use Rattle.vm_state.specs.Registers.{Value, Written, written}
-use Rattle.vm_state.specs.Sensitive.{ClearAt, Does, Faults, LacksMemory, Sensed, StopsThere, after_register_read, change_mode, chm_walked, destination_walked, fault_of, guest_past_instruction, halted, mfpr_by, mode_changed, mtpr_by, packet_taken, past_instruction, put_at, refused_as, rei_by, returned_to, sensed, switched, troubled, waited, with_codes, with_register_effect}
+use Rattle.vm_state.specs.Sensed.{ClearAt, Does, Faults, LacksMemory, Sensed, StopsThere, fault_of, refused_as, troubled}
+use Rattle.vm_state.specs.Sensitive.{after_register_read, change_mode, chm_walked, destination_walked, guest_past_instruction, halted, mfpr_by, mode_changed, mtpr_by, packet_taken, past_instruction, put_at, rei_by, returned_to, sensed, waited, with_codes, with_register_effect}
 use Rattle.vm_state.specs.State.{Guest, State, mode_of_state, pointer_of}
 use Rattle.vm_state.specs.Stops.{ChangedMode}
 use Rattle.vm_state.specs.Translation.{guest_write_place, is_clear, space_of, walk_of}
@@ -254,21 +255,6 @@ mfpr_sensible g t (Clear va) = read_sensible g t t.dest (Some va) _ (reads_keep 
 mfpr_sensible g t (Completes old) = read_sensible g t t.dest None _ (reads_keep (length g.memory) (length g.memory) (past_instruction g.state t) t.a)
 
 -- LDPCTX and SVPCTX
-Switching : Guest → Switched → Type 0
-Switching g (Switches h written) = Holds g h
-Switching g Reserved = Unit {0}
-Switching g (PopTrouble t) = Unit {0}
-Switching g StackTrouble = Unit {0}
-Switching g BlockPast = Unit {0}
-
-switch_sensible : (g : Guest) (x : Switched) → Switching g x → Sensible g (switched g x)
-unfolding Switching
-switch_sensible g (Switches h written) k = (k, none_shown)
-switch_sensible g Reserved k = tt
-switch_sensible g (PopTrouble t) k = trouble_sensible g t
-switch_sensible g StackTrouble k = tt
-switch_sensible g BlockPast k = tt
-
 -- a block that isn't reserved
 record IsLoadable (g : Guest) : Type 0 where
   p0br : Allows P0br (loaded_tables g).p0br
@@ -313,21 +299,18 @@ loaded_keeps g next_pc e =
       };
     }
 
-push_switching : (g : Guest) (s : State) (w : Walked) → Keeps (length g.memory) g.state s → Switching g (after_push g s w)
-unfolding Switching
-push_switching g s (Homes hs) k = record {
-  size = pushed_size hs g.memory;
-  keeps = chained (length g.memory) g.state s _ k (moved (length g.memory) s _ refl refl refl refl refl refl refl refl (λ j. j));
-}
-push_switching g s (Faulty f) k = tt
-push_switching g s PastMemory k = tt
+push_sensible : (g : Guest) (s : State) (w : Walked) → Keeps (length g.memory) g.state s → Sensible g (after_push g s w)
+push_sensible g s (Homes hs) k =
+    (record { size = pushed_size hs g.memory; keeps = chained (length g.memory) g.state s _ k (moved (length g.memory) s _ refl refl refl refl refl refl refl refl (λ j. j)) }, none_shown)
+push_sensible g s (Faulty f) k = tt
+push_sensible g s PastMemory k = tt
 
-loads_switching : (g : Guest) (next_pc : ℕ) → Switching g (loads_context g next_pc)
-unfolding loads_context Switching
-loads_switching g next_pc =
-    cond_both (is_block_past g) BlockPast _ (Switching g) (λ e. tt) (λ e.
-    cond_both (is_block_reserved g) Reserved _ (Switching g) (λ k. tt) (λ k.
-    push_switching g (loaded g next_pc) _ (loaded_keeps g next_pc k)))
+loads_sensible : (g : Guest) (next_pc : ℕ) → Sensible g (loads_context g next_pc)
+unfolding loads_context
+loads_sensible g next_pc =
+    cond_both (is_block_past g) LacksMemory _ (Sensible g) (λ e. tt) (λ e.
+    cond_both (is_block_reserved g) (Faults excs.ReservedOperand) _ (Sensible g) (λ k. tt) (λ k.
+    push_sensible g (loaded g next_pc) _ (loaded_keeps g next_pc k)))
 
 one_or_more : (psl : ℕ) → (if eqb (ipl_of psl) 0 then 1 else ipl_of psl) < 32
 one_or_more psl = cond_both (eqb (ipl_of psl) 0) 1 (ipl_of psl) (λ n. n < 32) (λ e. omega arith) (λ e. grind arith)
@@ -337,20 +320,18 @@ interrupt_keeps size s =
     cond_both (is_on_interrupt_stack s.psl) s _ (Keeps size s) (λ e. same size s)
     (λ e. moved size s _ refl refl refl refl refl refl refl refl (λ k. ipl_changed (on_interrupt_stack s.psl) _ (one_or_more s.psl) (on_stack s.psl k)))
 
-saved_switching : (g : Guest) (s : State) (p : Popped) → Keeps (length g.memory) g.state s → Switching g (saved g s p)
-unfolding Switching
-saved_switching g s p k =
-    cond_both (is_block_past g) BlockPast _ (Switching g) (λ e. tt)
-    (λ e. record { size = longs_size g.state.pcbb (saved_longs s p) g.memory; keeps = chained (length g.memory) g.state s _ k (interrupt_keeps (length g.memory) s) })
+saved_sensible : (g : Guest) (s : State) (p : Popped) → Keeps (length g.memory) g.state s → Sensible g (saved g s p)
+saved_sensible g s p k =
+    cond_both (is_block_past g) LacksMemory _ (Sensible g) (λ e. tt)
+    (λ e. (record { size = longs_size g.state.pcbb (saved_longs s p) g.memory; keeps = chained (length g.memory) g.state s _ k (interrupt_keeps (length g.memory) s) }, none_shown))
 
-reads_switching : (g : Guest) (next_pc : ℕ) (r : Result Popped Trouble) → Switching g (after_reads g next_pc r)
-unfolding Switching
-reads_switching g next_pc (Err t) = tt
-reads_switching g next_pc (Ok p) = saved_switching g (after_pops g.state next_pc) p (moved (length g.memory) g.state _ refl refl refl refl refl refl refl refl (λ k. k))
+pops_sensible : (g : Guest) (next_pc : ℕ) (r : Result Popped Trouble) → Sensible g (after_reads g next_pc r)
+pops_sensible g next_pc (Err trouble) = trouble_sensible g trouble
+pops_sensible g next_pc (Ok p) = saved_sensible g (after_pops g.state next_pc) p (moved (length g.memory) g.state _ refl refl refl refl refl refl refl refl (λ k. k))
 
-saves_switching : (g : Guest) (next_pc : ℕ) → Switching g (saves_context g next_pc)
+saves_sensible : (g : Guest) (next_pc : ℕ) → Sensible g (saves_context g next_pc)
 unfolding saves_context
-saves_switching g next_pc = reads_switching g next_pc (outcome (space_of g) (two_popped (slice_index g.state.r 14)))
+saves_sensible g next_pc = pops_sensible g next_pc (outcome (space_of g) (two_popped (slice_index g.state.r 14)))
 
 -- each of them
 pub sensed_sensible : (g : Guest) (t : Trapped) (op : Sens) → Sensible g (sensed g t op)
@@ -361,7 +342,7 @@ sensed_sensible g t (Chm to) = chm_sensible g t to
 sensed_sensible g t Rei = rei_sensible g t (outcome (space_of g) (two_popped (slice_index t.regs 14)))
 sensed_sensible g t Mtpr = mtpr_sensible g t t.a (written (past_instruction g.state t) t.b t.a) (written_keeps (length g.memory) (past_instruction g.state t) t.b t.a)
 sensed_sensible g t Mfpr = mfpr_sensible g t (tried (space_of g) (is_clear g) (destination_walked t.dest))
-sensed_sensible g t Ldpctx = switch_sensible g (loads_context g t.next_pc) (loads_switching g t.next_pc)
-sensed_sensible g t Svpctx = switch_sensible g (saves_context g t.next_pc) (saves_switching g t.next_pc)
+sensed_sensible g t Ldpctx = loads_sensible g t.next_pc
+sensed_sensible g t Svpctx = saves_sensible g t.next_pc
 sensed_sensible g t Prober = tt
 sensed_sensible g t Probew = tt

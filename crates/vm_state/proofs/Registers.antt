@@ -5,10 +5,10 @@ use Rattle.std.proofs.lemmas.Bool.Decides.{nat_tests}
 use Rattle.vax_arch.specs.Rei.{has_must_be_zero_bit}
 use Rattle.vax_arch.specs.Walk.{Tables}
 use Rattle.vm_state.specs.Allowed.{Allows, AreAllowed}
-use Rattle.vm_state.specs.Registers.{Value, Written, after_read, after_write, allows, read, read_or_refused, read_to, register_of, value_of, with_pointer, with_request, write_by, written}
+use Rattle.vm_state.specs.Registers.{Value, Written, after_read, allows, read, read_or_refused, read_to, register_of, register_row, with_pointer, with_request, write_by, written}
 use Rattle.vm_state.specs.State.{State, stack_in}
 use Rattle.vm_state.specs.declared.register.Register.{Register}
-use Rattle.vm_state.specs.declared.register.Register.TheVariants.{Ksp, Esp, Ssp, Usp, Isp, P0br, P0lr, P1br, P1lr, Sbr, Slr, Pcbb, Scbb, Ipl, Astlvl, Sirr, Sisr, Iccs, Nicr, Icr, Rxcs, Rxdb, Txcs, Txdb, Mapen, Tbia, Tbis, Sid, Kcall, Memsize, Uptime}
+use Rattle.vm_state.specs.declared.register.Register.TheVariants.{Ksp, Esp, Ssp, Usp, Isp, P0br, P0lr, P1br, P1lr, Sbr, Slr, Pcbb, Scbb, Ipl, Astlvl, Sirr, Sisr, Iccs, Nicr, Rxcs, Rxdb, Txcs, Txdb, Mapen}
 use Rattle.vm_state.specs.declared.register.ReservedOperand.{ReservedOperand}
 use Rattle.vm_state.proofs.Keeps.{Keeps, ipl_changed, moved, same}
 
@@ -117,7 +117,7 @@ with_blocks size s pcbb scbb astlvl p q r = record {
 level_small : (v : ℕ) → v % 32 < 32
 level_small v = grind arith
 
-pub write_keeps : (size : ℕ) (r : Register) (v : ℕ) (s : State) → allows r v ≡ true → Keeps size s (after_write r v s)
+pub write_keeps : (size : ℕ) (r : Register) (v : ℕ) (s : State) → allows r v ≡ true → Keeps size s ((register_row r).after_write v s)
 write_keeps size Ksp v s e = pointer_keeps size 0 v s
 write_keeps size Esp v s e = pointer_keeps size 1 v s
 write_keeps size Ssp v s e = pointer_keeps size 2 v s
@@ -141,14 +141,7 @@ write_keeps size Nicr v s e = loose size s _ refl refl refl refl refl refl refl 
 write_keeps size Rxcs v s e = loose size s _ refl refl refl refl refl refl refl refl refl
 write_keeps size Txcs v s e = loose size s _ refl refl refl refl refl refl refl refl refl
 write_keeps size Txdb v s e = loose size s _ refl refl refl refl refl refl refl refl refl
-write_keeps size Icr v s e = same size s
-write_keeps size Rxdb v s e = same size s
-write_keeps size Tbia v s e = same size s
-write_keeps size Tbis v s e = same size s
-write_keeps size Sid v s e = same size s
-write_keeps size Kcall v s e = same size s
-write_keeps size Memsize v s e = same size s
-write_keeps size Uptime v s e = same size s
+write_keeps size r v s e = same size s
 
 pub read_keeps : (size : ℕ) (r : Register) (s : State) → Keeps size s (after_read r s)
 read_keeps size Rxdb s = loose size s _ refl refl refl refl refl refl refl refl refl
@@ -177,7 +170,7 @@ read_one size s r (Some v) = read_keeps size r s
 
 read_any : (size bytes : ℕ) (s : State) (r : Option Register) → ReadsKept size s (read_or_refused bytes s r)
 read_any size bytes s None = tt
-read_any size bytes s (Some r) = read_one size s r (value_of bytes s r)
+read_any size bytes s (Some r) = read_one size s r ((register_row r).value bytes s)
 
 pub reads_keep : (size bytes : ℕ) (s : State) (number : ℕ) → ReadsKept size s (read bytes s number)
 unfolding read

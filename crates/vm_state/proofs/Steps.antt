@@ -13,14 +13,15 @@ use Rattle.vax_table.specs.Whole.{Act, Meant, Probes, Traps}
 use Rattle.vax_table.specs.Whole as whole
 use Rattle.vax_table.specs.declared.evaluation.Operands.{Operands}
 use Rattle.vm_state.specs.Initiate.{Initiation, KernelStackBad, Stops, Taken, initiate}
-use Rattle.vm_state.specs.Interrupts.{IntervalClock, Kcall, Receiver, Software, Source, Transmitter, after_interrupt_taken, due, interrupt_of, level_of, requests, sources}
+use Rattle.vm_state.specs.Interrupts.{IntervalClock, Kcall, Receiver, Software, Source, Transmitter, due, interrupt_of, source_row, sources}
 use Rattle.vm_state.specs.Laws.{ShowsFew, StaysStopped, StepKeeps, StepsCount, StepsKeep}
 use Rattle.vm_state.specs.Probe.{Answers, NotValid, Probed, probe}
 use Rattle.vm_state.specs.Probe as probes
 use Rattle.vm_state.specs.Run.{Run, after_step, after_steps}
-use Rattle.vm_state.specs.Sensitive.{ClearAt, Does, Faults, LacksMemory, Sensed, StopsThere, sensed, troubled}
+use Rattle.vm_state.specs.Sensed.{ClearAt, Does, Faults, LacksMemory, Sensed, StopsThere, troubled}
+use Rattle.vm_state.specs.Sensitive.{sensed}
 use Rattle.vm_state.specs.State.{Guest, State, pc_of}
-use Rattle.vm_state.specs.Step.{Fault, Interrupt, Kind, Sensitive, SetModify, Stepped, active, by_interrupt, by_try, clear_met, counted, did, executed, faulted, frames_stored, initiated_in, instruction_of, interrupted, probe_kind, probed_as, sensed_as, step, step_by, stepped, stopped, trapped_in, unless_waiting, with_effect}
+use Rattle.vm_state.specs.Step.{Fault, Interrupt, Kind, Sensitive, SetModify, Stepped, by_try, clear_met, counted, did, executed, faulted, frames_stored, initiated_in, instruction_of, interrupted, probed_as, sensed_as, step, stepped, stopped, trapped_in, with_effect}
 use Rattle.vm_state.specs.Stops.{PastMemory, Stop, stop_code, stop_text}
 use Rattle.vm_state.specs.Translation.{guest_write_place, is_clear, look, space_of}
 use Rattle.vm_state.specs.declared.exception.Exc.{Exc}
@@ -30,6 +31,7 @@ use Rattle.vm_state.proofs.Keeps.{Keeps, low_changed, moved, same}
 use Rattle.vm_state.proofs.Kept.{Sensible, holds_then, sensed_sensible, trouble_sensible, with_state}
 use Rattle.vm_state.proofs.Registers.{clear_at, even_of, small_of, with_sisr}
 use Rattle.vm_state.proofs.Sizes.{marked_by_size, stores_size}
+use Rattle.vm_state.proofs.StepCases.{by_interrupt, step_by, unless_waiting}
 
 -- a step of a guest that has counted it
 record IsFine (g : Guest) (s : Stepped) : Type 0 where
@@ -87,7 +89,7 @@ trap_fine kind written g h (Some type) k =
     record { holds = s.holds; few = s.few }
 
 probed_fine : (g : Guest) (opcode : ℕ) (o : Operands) (p : Probed) → IsFine g (probed_as g opcode o p)
-probed_fine g opcode o (Answers is_accessible is_plain) = silent g _ (probe_kind g opcode is_plain o.r) [] (effect_holds g (probed is_accessible o (g.state.psl % 2 ^ 8)))
+probed_fine g opcode o (Answers is_accessible is_plain) = silent g _ _ [] (effect_holds g (probed is_accessible o (g.state.psl % 2 ^ 8)))
 probed_fine g opcode o (NotValid f) = fault_fine g (excs.Memory f) tt
 probed_fine g opcode o probes.PastMemory = stop_fine g g PastMemory Fault (holds_same g)
 
@@ -142,16 +144,16 @@ level_fits Receiver h = omega arith
 level_fits Transmitter h = omega arith
 level_fits (Software level) h = let small : level < 16 = h.1 in omega arith
 
-due_found : (s : State) (x : Source) → due s ≡ Some x → HasLevel x × ((requests s x && ltb (ipl_of s.psl) (level_of x)) ≡ true)
+due_found : (s : State) (x : Source) → due s ≡ Some x → HasLevel x × (((source_row x).requests s && ltb (ipl_of s.psl) (source_row x).level) ≡ true)
 unfolding due
-due_found s x e = found HasLevel (λ source. requests s source && ltb (ipl_of s.psl) (level_of source)) sources x levels e
+due_found s x e = found HasLevel (λ source. (source_row source).requests s && ltb (ipl_of s.psl) (source_row source).level) sources x levels e
 
 first_true : (a b : Bool) → (a && b) ≡ true → a ≡ true
 first_true true b e = refl
 first_true false b e = cc
 
 -- a request ends; of a software level the bit is there, since initiation leaves the requests
-taken_keeps : (size : ℕ) (x : Source) (s t : State) → HasLevel x → requests s x ≡ true → t.sisr ≡ s.sisr → Keeps size t (after_interrupt_taken x t)
+taken_keeps : (size : ℕ) (x : Source) (s t : State) → HasLevel x → (source_row x).requests s ≡ true → t.sisr ≡ s.sisr → Keeps size t ((source_row x).taken t)
 unfolding HasLevel
 taken_keeps size IntervalClock s t h r e = moved size t _ refl refl refl refl refl refl refl refl (λ k. k)
 taken_keeps size Kcall s t h r e = moved size t _ refl refl refl refl refl refl refl refl (λ k. k)
@@ -161,7 +163,7 @@ taken_keeps size (Software level) s t h r e =
     let asked : t.sisr / 2 ^ level % 2 ≡ 1 = rw e (grind (arith, nat_tests)) in
     with_sisr size t (t.sisr - 2 ^ level) (λ k. clear_at level t.sisr h.0 h.1 (even_of t.sisr k.sisr) (small_of t.sisr k.sisr) asked)
 
-interrupt_fine : (g : Guest) (x : Source) (i : Initiation) → HasLevel x → requests g.state x ≡ true → Initiates g i → IsFine g (interrupted g x i)
+interrupt_fine : (g : Guest) (x : Source) (i : Initiation) → HasLevel x → (source_row x).requests g.state ≡ true → Initiates g i → IsFine g (interrupted g x i)
 interrupt_fine g x (Taken h written) l r k = silent g _ Interrupt written (holds_then g h _ k.holds (with_state h _ (taken_keeps (length h.memory) x g.state h.state l r k.sisr)))
 interrupt_fine g x (KernelStackBad h written) l r k = silent g h Interrupt written k.holds
 interrupt_fine g x (Stops stop) l r k = stop_fine g g stop Interrupt (holds_same g)
@@ -174,9 +176,9 @@ by_source : (g : Guest) (x : Option Source) → due g.state ≡ x → IsFine g (
 by_source g None e = waiting_fine g g.state.waiting
 by_source g (Some x) e =
     let f = due_found g.state x e in
-    interrupt_fine g x (initiate g (interrupt_of x)) f.0 (first_true (requests g.state x) _ f.1) (initiate_keeps g (interrupt_of x) (level_fits x f.0))
+    interrupt_fine g x (initiate g (interrupt_of x)) f.0 (first_true ((source_row x).requests g.state) _ f.1) (initiate_keeps g (interrupt_of x) (level_fits x f.0))
 
-active_fine : (g : Guest) → IsFine g (active g)
+active_fine : (g : Guest) → IsFine g (by_interrupt g (due g.state))
 active_fine g = by_source g (due g.state) refl
 
 -- The step that is counted first.

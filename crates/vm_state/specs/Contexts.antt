@@ -10,8 +10,10 @@ use Rattle.vax_table.specs.Operand.{plus}
 use Rattle.vax_table.specs.Interaction.{Done, Interaction, Touch, Trouble, outcome}
 use Rattle.vm_state.specs.Pushes.{Faulty, Homes, PastMemory, Walked, frames_pushed, pointer_after, push_walked, pushed}
 use Rattle.vm_state.specs.Registers.{allows, with_ipl}
+use Rattle.vm_state.specs.Sensed.{Does, Faults, LacksMemory, Sensed, troubled}
 use Rattle.vm_state.specs.State.{Guest, State, pointer_of, with_pointer_kept}
 use Rattle.vm_state.specs.Translation.{frame_at, long_stored, space_of}
+use Rattle.vm_state.specs.declared.exception.Exc.TheVariants as excs
 use Rattle.vm_state.specs.declared.register.Register.TheVariants.{Astlvl, P0br, P0lr, P1br, P1lr}
 
 -- The block's longwords: KSP, ESP, SSP and USP at 0 to 12, R0 to R11, AP and FP at 16 to 68, PC at 72, PSL at 76. Then P0BR at
@@ -51,40 +53,27 @@ off_interrupt_stack psl = if is_on_interrupt_stack psl then psl - 2 ^ 26 else ps
 abbrev pub on_interrupt_stack : ℕ → ℕ
 on_interrupt_stack psl = if is_on_interrupt_stack psl then psl else psl + 2 ^ 26
 
--- where LDPCTX has IS set, R14 is kept as ISP
-abbrev pub isp_kept : State → ℕ
-isp_kept s = pointer_of s 4
-
--- the state that is loaded, before the push: R14 is KSP, and PC the next instruction's
+-- the state that is loaded, before the push: R14 is KSP, and PC the next instruction's; ISP is kept
 unfoldable pub loaded : Guest → (next_pc : ℕ) → State
 loaded g next_pc = record g.state {
   r = longs_in_block g 14 16 ++ control_block_long g 0 ∷ next_pc ∷ [];
   psl = off_interrupt_stack g.state.psl;
-  stacks = longs_in_block g 4 0 ++ isp_kept g.state ∷ [];
+  stacks = longs_in_block g 4 0 ++ pointer_of g.state 4 ∷ [];
   tables = loaded_tables g;
   astlvl = loaded_astlvl g;
 }
 
--- The outcome of a context instruction: the guest after it and the frames written; a reserved operand; the first trouble
--- of SVPCTX's pops; trouble of LDPCTX's push, which loads nothing and starts vector 08; or a place beyond memory.
-pub data Switched : Type 0 where
-  Switches : Guest → (written : List ℕ) → Switched
-  Reserved : Switched
-  PopTrouble : Trouble → Switched
-  StackTrouble : Switched
-  BlockPast : Switched
-
--- PC and PSL of the block are pushed on the kernel stack under the new tables
-abbrev pub after_push : Guest → State → Walked → Switched
+-- PC and PSL of the block are pushed on the kernel stack under the new tables; trouble of the push starts vector 08
+abbrev pub after_push : Guest → State → Walked → Sensed
 after_push g s (Homes hs) =
-    Switches (record { memory = pushed hs g.memory; state = record s { r = slice_set s.r 14 (pointer_after (slice_index s.r 14) (control_block_long g 76 ∷ control_block_long g 72 ∷ [])) } }) (frames_pushed g.memory hs)
-after_push g s (Faulty f) = StackTrouble
-after_push g s PastMemory = BlockPast
+    Does (record { memory = pushed hs g.memory; state = record s { r = slice_set s.r 14 (pointer_after (slice_index s.r 14) (control_block_long g 76 ∷ control_block_long g 72 ∷ [])) } }) [] (frames_pushed g.memory hs)
+after_push g s (Faulty f) = Faults excs.KernelStack
+after_push g s PastMemory = LacksMemory
 
-unfoldable pub loads_context : Guest → (next_pc : ℕ) → Switched
+unfoldable pub loads_context : Guest → (next_pc : ℕ) → Sensed
 loads_context g next_pc =
-    if is_block_past g then BlockPast else
-    if is_block_reserved g then Reserved else
+    if is_block_past g then LacksMemory else
+    if is_block_reserved g then Faults excs.ReservedOperand else
     let s = loaded g next_pc in
     after_push g s (push_walked (record g { state = s }) Kernel (slice_index s.r 14) (control_block_long g 76 ∷ control_block_long g 72 ∷ []))
 
@@ -122,14 +111,14 @@ on_interrupt s =
 abbrev pub after_pops : State → (next_pc : ℕ) → State
 after_pops s next_pc = record s { r = slice_set (slice_set s.r 14 (plus (slice_index s.r 14) 8)) 15 next_pc }
 
-abbrev pub saved : Guest → State → Popped → Switched
+abbrev pub saved : Guest → State → Popped → Sensed
 saved g s p =
-    if is_block_past g then BlockPast else
-    Switches (record { memory = longs_stored g.state.pcbb (saved_longs s p) g.memory; state = on_interrupt s }) (long_frames g.state.pcbb 20)
+    if is_block_past g then LacksMemory else
+    Does (record { memory = longs_stored g.state.pcbb (saved_longs s p) g.memory; state = on_interrupt s }) [] (long_frames g.state.pcbb 20)
 
-abbrev pub after_reads : Guest → (next_pc : ℕ) → Result Popped Trouble → Switched
+abbrev pub after_reads : Guest → (next_pc : ℕ) → Result Popped Trouble → Sensed
 after_reads g next_pc (Ok p) = saved g (after_pops g.state next_pc) p
-after_reads g next_pc (Err t) = PopTrouble t
+after_reads g next_pc (Err trouble) = troubled g trouble
 
-unfoldable pub saves_context : Guest → (next_pc : ℕ) → Switched
+unfoldable pub saves_context : Guest → (next_pc : ℕ) → Sensed
 saves_context g next_pc = after_reads g next_pc (outcome (space_of g) (two_popped (slice_index g.state.r 14)))

@@ -31,17 +31,11 @@ vector_offset (Interrupt level vector) = vector
 
 -- what is pushed after PSL and PC, in the order in which it is pushed
 abbrev pub parameters : Exc → List ℕ
-parameters KernelStack = []
-parameters ReservedInstruction = []
-parameters Customer = []
-parameters ReservedOperand = []
-parameters ReservedAddressing = []
 parameters (Memory f) = f.va ∷ f.param ∷ []
-parameters Breakpoint = []
 parameters (Arithmetic type) = type ∷ []
 parameters (ModifyFault va) = va ∷ 4 ∷ []
 parameters (Chm to code) = code ∷ []
-parameters (Interrupt level vector) = []
+parameters e = []
 
 abbrev pub longwords : State → Exc → List ℕ
 longwords s e = s.psl ∷ pc_of s ∷ parameters e

@@ -17,38 +17,23 @@ pub data Source : Type 0 where
 abbrev pub sources : List Source
 sources = IntervalClock ∷ Kcall ∷ Receiver ∷ Transmitter ∷ map (λ n. Software n) (15 ∷ 14 ∷ 13 ∷ 12 ∷ 11 ∷ 10 ∷ 9 ∷ 8 ∷ 7 ∷ 6 ∷ 5 ∷ 4 ∷ 3 ∷ 2 ∷ 1 ∷ [])
 
-abbrev pub level_of : Source → ℕ
-level_of IntervalClock = 24
-level_of Kcall = 21
-level_of Receiver = 20
-level_of Transmitter = 20
-level_of (Software level) = level
+-- its level, its vector, whether it requests an interrupt, and the state after its interrupt is taken, where the request ends
+pub record SourceRow : Type 0 where
+  pub level : ℕ
+  pub vector : ℕ
+  pub requests : State → Bool
+  pub taken : State → State
 
-abbrev pub vector_of : Source → ℕ
-vector_of IntervalClock = 0xc0
-vector_of Kcall = 0x100
-vector_of Receiver = 0xf8
-vector_of Transmitter = 0xfc
-vector_of (Software level) = 0x80 + 4 * level
-
-abbrev pub requests : State → Source → Bool
-requests s IntervalClock = s.clock.request
-requests s Kcall = s.kcall_due
-requests s Receiver = s.console.rx_request
-requests s Transmitter = s.console.tx_request
-requests s (Software level) = s.sisr / 2 ^ level % 2 == 1
+abbrev pub source_row : Source → SourceRow
+source_row IntervalClock = record { level = 24; vector = 0xc0; requests = λ s. s.clock.request; taken = λ s. record s { clock = after_taken s.clock } }
+source_row Kcall = record { level = 21; vector = 0x100; requests = λ s. s.kcall_due; taken = λ s. record s { kcall_due = false } }
+source_row Receiver = record { level = 20; vector = 0xf8; requests = λ s. s.console.rx_request; taken = λ s. record s { console = after_rx_taken s.console } }
+source_row Transmitter = record { level = 20; vector = 0xfc; requests = λ s. s.console.tx_request; taken = λ s. record s { console = after_tx_taken s.console } }
+source_row (Software level) = record { level = level; vector = 0x80 + 4 * level; requests = λ s. s.sisr / 2 ^ level % 2 == 1; taken = λ s. record s { sisr = s.sisr - 2 ^ level } }
 
 -- the highest that is pending above the guest's level
 unfoldable pub due : State → Option Source
-due s = find (λ source. requests s source && nat_lt (ipl_of s.psl) (level_of source)) sources
-
--- a request ends where its interrupt is taken
-abbrev pub after_interrupt_taken : Source → State → State
-after_interrupt_taken IntervalClock s = record s { clock = after_taken s.clock }
-after_interrupt_taken Kcall s = record s { kcall_due = false }
-after_interrupt_taken Receiver s = record s { console = after_rx_taken s.console }
-after_interrupt_taken Transmitter s = record s { console = after_tx_taken s.console }
-after_interrupt_taken (Software level) s = record s { sisr = s.sisr - 2 ^ level }
+due s = find (λ source. (source_row source).requests s && nat_lt (ipl_of s.psl) (source_row source).level) sources
 
 abbrev pub interrupt_of : Source → Exc
-interrupt_of source = Interrupt (level_of source) (vector_of source)
+interrupt_of source = Interrupt (source_row source).level (source_row source).vector

@@ -10,6 +10,7 @@ pub mod Initiate
 pub mod Interrupts
 pub mod Registers
 pub mod Packets
+pub mod Sensed
 pub mod Contexts
 pub mod Probe
 pub mod Sensitive

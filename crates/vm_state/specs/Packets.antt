@@ -18,8 +18,7 @@ accepted size s packet =
 
 abbrev pub after_accept : Accept → ℕ → State → State
 after_accept Queued packet s = record s { queue = s.queue ++ packet ∷ [] }
-after_accept Busy packet s = s
-after_accept BadPacket packet s = s
+after_accept answer packet s = s
 
 -- the place of its status, and the status of a packet that finds the queue full
 abbrev pub status_place : ℕ → ℕ

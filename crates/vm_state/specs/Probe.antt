@@ -39,10 +39,8 @@ probed_byte g va m i = probed_by g va m i (look g (page_of va))
 -- both bytes, of which the first has its trouble first
 abbrev pub both : Probed → Probed → Probed
 both (Answers a p) (Answers b q) = Answers (a && b) (p && q)
-both (Answers a p) (NotValid f) = NotValid f
-both (Answers a p) PastMemory = PastMemory
-both (NotValid f) other = NotValid f
-both PastMemory other = PastMemory
+both (Answers a p) trouble = trouble
+both trouble other = trouble
 
 -- for an intent, by the operands: the mode, the length, which is a word, and the base
 unfoldable pub probe : Guest → Intent → (mode bytes base : ℕ) → Probed

@@ -47,8 +47,7 @@ pub data Walked : Type 0 where
 
 abbrev pub with_home : ℕ → Walk → Walked → Walked
 with_home v (walks.Frame pa entry table) (Homes hs) = Homes (record { place = pa; entry = entry; value = v } ∷ hs)
-with_home v (walks.Frame pa entry table) (Faulty f) = Faulty f
-with_home v (walks.Frame pa entry table) PastMemory = PastMemory
+with_home v (walks.Frame pa entry table) trouble = trouble
 with_home v (walks.Fault f) rest = Faulty f
 with_home v walks.Beyond rest = PastMemory
 

@@ -10,44 +10,30 @@ use Rattle.vax_arch.specs.declared.mode.Mode.{Mode}
 use Rattle.vax_table.specs.Arithmetic.{alu_of}
 use Rattle.vax_table.specs.Claims.{addresses}
 use Rattle.vax_table.specs.Operand.{plus}
-use Rattle.vax_table.specs.Interaction.{At, Done, Interaction, Test, Touch, Trouble, outcome}
+use Rattle.vax_table.specs.Interaction.{Done, Interaction, Touch, Trouble, outcome}
 use Rattle.vax_table.specs.Stores.{bytes_stored}
 use Rattle.vax_table.specs.Tries.{Clear, Completes, Stopped, Tried, tried}
 use Rattle.vax_table.specs.declared.act.Dest.{Dest}
 use Rattle.vax_table.specs.declared.act.Dest.TheVariants.{Memory, Nowhere, Register}
-use Rattle.vax_table.specs.declared.act.Refusal.{Refusal}
-use Rattle.vax_table.specs.declared.act.Refusal.TheVariants as refusals
 use Rattle.vax_table.specs.declared.act.Sens.{Sens}
-use Rattle.vax_table.specs.declared.act.Sens.TheVariants.{Chm, Halt, Ldpctx, Mfpr, Mtpr, Prober, Probew, Rei, Svpctx, Wait}
+use Rattle.vax_table.specs.declared.act.Sens.TheVariants.{Chm, Halt, Ldpctx, Mfpr, Mtpr, Rei, Svpctx, Wait}
 use Rattle.vax_table.specs.declared.act.Trapped.{Trapped}
 use Rattle.vax_table.specs.declared.answer.AluOp.TheVariants.{Move}
-use Rattle.vm_state.specs.Contexts.{BlockPast, PopTrouble, Popped, Reserved, StackTrouble, Switched, Switches, loads_context, saves_context, two_popped}
+use Rattle.vm_state.specs.Contexts.{Popped, loads_context, saves_context, two_popped}
 use Rattle.vm_state.specs.Initiate.{Initiation, KernelStackBad, Stops, Taken, initiate, new_mode}
 use Rattle.vm_state.specs.Packets.{accepted, after_accept, busy_status, status_place}
 use Rattle.vm_state.specs.Pushes.{Faulty, Homes, PastMemory, Walked, push_walked}
 use Rattle.vm_state.specs.Registers.{Value, Written, read, written}
-use Rattle.vm_state.specs.State.{Guest, State, mode_of_state, pointer_of, stack_in, with_pointer_kept}
+use Rattle.vm_state.specs.Sensed.{ClearAt, Does, Faults, LacksMemory, Sensed, StopsThere, troubled}
+use Rattle.vm_state.specs.State.{Guest, State, pointer_of, stack_in, with_pointer_kept}
 use Rattle.vm_state.specs.Stops.{ChangedMode, Halted, Stop, stop_code, stop_text}
-use Rattle.vm_state.specs.Translation.{frame_at, guest_write_place, is_clear, long_stored, space_of, walk_of}
-use Rattle.vm_state.specs.declared.exception.Exc.{Exc}
+use Rattle.vm_state.specs.Translation.{frame_at, guest_write_place, is_clear, long_stored, space_of}
 use Rattle.vm_state.specs.declared.exception.Exc.TheVariants as excs
 use Rattle.vm_state.specs.declared.register.Effect.{Effect}
 use Rattle.vm_state.specs.declared.register.Effect.TheVariants as effects
 use Rattle.vm_state.specs.declared.register.ReservedOperand.{ReservedOperand}
 use Rattle.vm_state.specs.declared.transfer.Accept.{Accept}
 use Rattle.vm_state.specs.declared.transfer.Accept.TheVariants.{BadPacket, Busy, Queued}
-use Rattle.vm_state.specs.declared.walk.Walk.{Walk}
-use Rattle.vm_state.specs.declared.walk.Walk.TheVariants as walks
-
--- The outcome of a sensitive instruction. It completes, shows bytes, and writes frames; or it has a fault, with which nothing of
--- it happened. Or the page of a byte that it would write has a clear modify bit. Or its initiation stops the guest, and it counts
--- as completed. Or a place that it reads or writes is beyond memory, which stops the guest.
-pub data Sensed : Type 0 where
-  Does : Guest → (shown written : List ℕ) → Sensed
-  Faults : Exc → Sensed
-  ClearAt : ℕ → Sensed
-  StopsThere : Stop → Sensed
-  LacksMemory : Sensed
 
 -- the registers with the operands' side effects, and PC after the instruction
 abbrev pub past_instruction : State → Trapped → State
@@ -56,26 +42,13 @@ past_instruction s t = record s { r = t.regs ++ t.next_pc ∷ [] }
 abbrev pub guest_past_instruction : Guest → Trapped → Guest
 guest_past_instruction g t = record g { state = past_instruction g.state t }
 
--- the fault that a trouble is: of a byte, what the guest's walk says there
-abbrev pub fault_of : Walk → Sensed
-fault_of (walks.Fault f) = Faults (excs.Memory f)
-fault_of (walks.Frame pa entry table) = LacksMemory
-fault_of walks.Beyond = LacksMemory
-
-abbrev pub refused_as : Refusal → Exc
-refused_as refusals.Instruction = excs.ReservedInstruction
-refused_as refusals.Operand = excs.ReservedOperand
-refused_as refusals.Addressing = excs.ReservedAddressing
-refused_as refusals.Customer = excs.Customer
-refused_as refusals.Breakpoint = excs.Breakpoint
-
-abbrev pub troubled : Guest → Trouble → Sensed
-troubled g (At cause i va) = fault_of (walk_of g va (mode_of_state g.state) i)
-troubled g (Test refusal) = Faults (refused_as refusal)
+-- another status word
+abbrev pub with_psw : ℕ → ℕ → ℕ
+with_psw psl psw = psl / 2 ^ 8 * 2 ^ 8 + psw % 2 ^ 8
 
 -- the codes of a longword that is moved
-abbrev pub moved_psl : ℕ → ℕ → ℕ
-moved_psl psl v = psl / 2 ^ 8 * 2 ^ 8 + (alu_of Move v 0 Long (psl % 2 ^ 8)).psw % 2 ^ 8
+abbrev pub with_codes : ℕ → State → State
+with_codes v s = record s { psl = with_psw s.psl (alu_of Move v 0 Long (s.psl % 2 ^ 8)).psw }
 
 -- HALT stops the guest, with PC after it
 abbrev pub halted : Guest → Trapped → Sensed
@@ -138,9 +111,6 @@ abbrev pub return_from : Guest → Trapped → Sensed
 return_from g t = rei_by g t (outcome (space_of g) (two_popped (slice_index t.regs 14)))
 
 -- MTPR: the value, and the register's number. Its codes are those of the value.
-abbrev pub with_codes : ℕ → State → State
-with_codes v s = record s { psl = moved_psl s.psl v }
-
 abbrev pub packet_taken : Guest → State → (packet : ℕ) → Accept → Sensed
 packet_taken g s packet BadPacket = Faults excs.ReservedOperand
 packet_taken g s packet Busy =
@@ -148,10 +118,9 @@ packet_taken g s packet Busy =
 packet_taken g s packet Queued = Does (record g { state = after_accept Queued packet s }) [] []
 
 abbrev pub with_register_effect : Guest → State → Effect → Sensed
-with_register_effect g s effects.Done = Does (record g { state = s }) [] []
-with_register_effect g s effects.Remap = Does (record g { state = s }) [] []
 with_register_effect g s (effects.Show byte) = Does (record g { state = s }) (byte ∷ []) []
 with_register_effect g s (effects.Kcall packet) = packet_taken g s packet (accepted (length g.memory) s packet)
+with_register_effect g s effect = Does (record g { state = s }) [] []
 
 abbrev pub mtpr_by : Guest → (v : ℕ) → Result Written ReservedOperand → Sensed
 mtpr_by g v (Err refused) = Faults excs.ReservedOperand
@@ -162,9 +131,8 @@ move_to_register g t = mtpr_by g t.a (written (past_instruction g.state t) t.b t
 
 -- MFPR: the register's number, and a destination, which is walked for writing before the number is tested
 abbrev pub destination_walked : Dest → Interaction ℕ
-destination_walked Nowhere = Done 0
-destination_walked (Register n) = Done 0
 destination_walked (Memory at) = Touch Write at 4 (λ old. Done old)
+destination_walked dest = Done 0
 
 abbrev pub frames_of_bytes : Guest → List ℕ → List ℕ
 frames_of_bytes g [] = []
@@ -189,14 +157,6 @@ mfpr_by g t (Completes old) = after_register_read g t.dest None (read (length g.
 abbrev pub move_from_register : Guest → Trapped → Sensed
 move_from_register g t = mfpr_by g t (tried (space_of g) (is_clear g) (destination_walked t.dest))
 
--- LDPCTX and SVPCTX
-abbrev pub switched : Guest → Switched → Sensed
-switched g (Switches h written) = Does h [] written
-switched g Reserved = Faults excs.ReservedOperand
-switched g (PopTrouble trouble) = troubled g trouble
-switched g StackTrouble = Faults excs.KernelStack
-switched g BlockPast = LacksMemory
-
 -- each of them; PROBE is none
 unfoldable pub sensed : Guest → Trapped → Sens → Sensed
 sensed g t Halt = halted g t
@@ -205,7 +165,6 @@ sensed g t (Chm to) = change_mode g t to
 sensed g t Rei = return_from g t
 sensed g t Mtpr = move_to_register g t
 sensed g t Mfpr = move_from_register g t
-sensed g t Ldpctx = switched g (loads_context g t.next_pc)
-sensed g t Svpctx = switched g (saves_context g t.next_pc)
-sensed g t Prober = Faults excs.ReservedInstruction
-sensed g t Probew = Faults excs.ReservedInstruction
+sensed g t Ldpctx = loads_context g t.next_pc
+sensed g t Svpctx = saves_context g t.next_pc
+sensed g t op = Faults excs.ReservedInstruction

@@ -6,16 +6,15 @@ use Rattle.std.specs.Prelude.{ℕ, zero, suc, ◌+◌, ◌-◌, ◌*◌, false, 
 use Rattle.vv_base.specs.Bytes.{long_at, long_bytes, overwritten}
 use Rattle.vax_arch.specs.Walk.{Tables, granted, lookup, mapped_entry, process_entry, system_entry}
 use Rattle.vax_table.specs.Arithmetic.{alu_of}
-use Rattle.vax_table.specs.Branches.{branched}
-use Rattle.vax_table.specs.Computing.{computed, status_set}
+use Rattle.vax_table.specs.Computing.{status_set}
 use Rattle.vax_table.specs.Fetch.{decided, fetched}
-use Rattle.vax_table.specs.Operand.{address_of, address_operand, base_address, bits_operand, branch_operand, modified_operand, operand_of, operands_of, read_operand, trap_operands, written_operand}
-use Rattle.vax_table.specs.Operations.{operation_of}
-use Rattle.vax_table.specs.Plan.{performed, plan_of}
+use Rattle.vax_table.specs.Operand.{address_of, address_operand, base_address, bits_operand, branch_operand, modified_operand, read_operand, written_operand}
+use Rattle.vax_table.specs.AllOperands.{operand_of, operands_of, trap_operands}
+use Rattle.vax_table.specs.InstructionSet.{opcode_meaning}
 use Rattle.vax_table.specs.Reading.{decoded_at, indexed_at, operand_at, specifier_at, specifier_by}
 use Rattle.vax_table.specs.Rows.{row_of}
 use Rattle.vax_table.specs.Spelled.{value_size}
-use Rattle.vax_table.specs.Whole.{acted, instruction}
+use Rattle.vax_table.specs.Whole.{instruction}
 use Rattle.vm_clock.specs.Clock as clock
 use Rattle.vm_clock.specs.Clock.{after_iccs_write, after_tick}
 use Rattle.vm_state.specs.Contexts.{is_block_reserved, loaded, loads_context, saves_context}
@@ -34,9 +33,9 @@ use Rattle.vm_state.specs.Translation.{walk_of}
 -- A step with all that it computes with: an example of steps unfolds this one name.
 unfoldable pub whole_step : Guest → Stepped
 unfolding
-    step executed instruction fetched decided decoded_at acted plan_of performed row_of operation_of operands_of operand_of
+    step executed instruction fetched decided decoded_at opcode_meaning row_of operands_of operand_of
     read_operand modified_operand written_operand address_operand branch_operand bits_operand address_of base_address value_size
-    computed status_set alu_of branched trap_operands operand_at specifier_at specifier_by indexed_at
+    status_set alu_of trap_operands operand_at specifier_at specifier_by indexed_at
     lookup mapped_entry process_entry system_entry granted walk_of
     attempt initiate due push_walked pushed after_tick sensed probe probed_byte loads_context loaded is_block_reserved
     saves_context register_of read written accepted after_iccs_write

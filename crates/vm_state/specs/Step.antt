@@ -1,7 +1,7 @@
 -- One step of a guest that is alone on its private virtual VAX
 -- (Hall and Robinson, Virtualizing the VAX Architecture, ISCA 1991; Karger and others, IEEE TSE 17(11), 1991; VAX
 -- Architecture Reference Manual: instruction execution, exceptions and interrupts).
-use Rattle.std.specs.Prelude.{ℕ, ◌+◌, ◌-◌, ◌/◌, ◌%◌, ◌*◌, ◌^◌, Bool, true, false, if◌then◌else◌, List, [], ◌∷◌, ◌++◌, length, map, take, drop, Option, Some, None, Result, Ok, Err}
+use Rattle.std.specs.Prelude.{ℕ, ◌+◌, ◌-◌, ◌%◌, ◌^◌, if◌then◌else◌, List, [], ◌∷◌, ◌++◌, length, map, take, drop, Option, Some, None, Result, Ok, Err}
 use Rattle.vv_base.specs.Width.{size_of}
 use Rattle.vax_arch.specs.Walk.{page_of}
 use Rattle.vax_table.specs.Claims.{addresses}
@@ -18,10 +18,11 @@ use Rattle.vax_table.specs.declared.effect.Store.{Store}
 use Rattle.vax_table.specs.declared.evaluation.Operands.{Operands}
 use Rattle.vm_clock.specs.Clock.{after_tick}
 use Rattle.vm_state.specs.Initiate.{Initiation, KernelStackBad, Stops, Taken, initiate}
-use Rattle.vm_state.specs.Interrupts.{Source, after_interrupt_taken, due, interrupt_of}
+use Rattle.vm_state.specs.Interrupts.{Source, due, interrupt_of, source_row}
 use Rattle.vm_state.specs.Probe.{Answers, NotValid, Probed, probe}
 use Rattle.vm_state.specs.Probe as probes
-use Rattle.vm_state.specs.Sensitive.{ClearAt, Does, Faults, LacksMemory, Sensed, StopsThere, frames_of_bytes, sensed, troubled}
+use Rattle.vm_state.specs.Sensed.{ClearAt, Does, Faults, LacksMemory, Sensed, StopsThere, troubled}
+use Rattle.vm_state.specs.Sensitive.{frames_of_bytes, sensed, with_psw}
 use Rattle.vm_state.specs.State.{Guest, State, mode_of_state, pc_of}
 use Rattle.vm_state.specs.Stops.{PastMemory, Stop, stop_code, stop_text}
 use Rattle.vm_state.specs.Translation.{guest_write_place, is_clear, look, marked_by, marks_by, space_of}
@@ -41,9 +42,6 @@ pub record Touched : Type 0 where
   pub found : List ℕ
   pub lacking : List ℕ
 
-abbrev pub nothing_touched : Touched
-nothing_touched = record { found = []; lacking = [] }
-
 -- the guest after a step, the bytes that it shows on its console, the kind, the pages touched, the frames written
 pub record Stepped : Type 0 where
   pub guest : Guest
@@ -53,7 +51,7 @@ pub record Stepped : Type 0 where
   pub written : List ℕ
 
 abbrev pub stepped : Guest → List ℕ → Kind → List ℕ → Stepped
-stepped g shown kind written = record { guest = g; shown = shown; kind = kind; touched = nothing_touched; written = written }
+stepped g shown kind written = record { guest = g; shown = shown; kind = kind; touched = record { found = []; lacking = [] }; written = written }
 
 -- It stops with a code, and says so with its PC; all else of it stays.
 abbrev pub stopped : Guest → Stop → Kind → Stepped
@@ -84,10 +82,6 @@ sensed_as g (ClearAt va) = clear_met g va
 sensed_as g (StopsThere stop) = stopped g stop Sensitive
 sensed_as g LacksMemory = stopped g PastMemory Fault
 
--- another status word
-abbrev pub with_psw : ℕ → ℕ → ℕ
-with_psw psl psw = psl / 2 ^ 8 * 2 ^ 8 + psw % 2 ^ 8
-
 -- the frames of stores
 abbrev pub frames_stored : Guest → List Store → List ℕ
 frames_stored g [] = []
@@ -104,23 +98,16 @@ trapped_in kind written h (Some type) =
     let s = initiated_in kind h (initiate h (excs.Arithmetic type)) in
     record s { written = written ++ s.written }
 
-abbrev pub plainly_done : Guest → ℕ → Effect → Stepped
-plainly_done g opcode e = trapped_in (Plain (term (pc_of g.state) opcode e.r)) (frames_stored g e.writes) (with_effect g e) e.trap
-
 -- PROBE is plain where both entries are found, valid and name frames in memory, and else sensitive
-abbrev pub probe_kind : Guest → ℕ → Bool → List ℕ → Kind
-probe_kind g opcode true r = Plain (term (pc_of g.state) opcode r)
-probe_kind g opcode false r = Sensitive
-
 abbrev pub probed_as : Guest → ℕ → Operands → Probed → Stepped
 probed_as g opcode o (Answers is_accessible is_plain) =
-    stepped (with_effect g (probed is_accessible o (g.state.psl % 2 ^ 8))) [] (probe_kind g opcode is_plain o.r) []
+    stepped (with_effect g (probed is_accessible o (g.state.psl % 2 ^ 8))) [] (if is_plain then Plain (term (pc_of g.state) opcode o.r) else Sensitive) []
 probed_as g opcode o (NotValid f) = faulted g (excs.Memory f)
 probed_as g opcode o probes.PastMemory = stopped g PastMemory Fault
 
 -- an instruction with this outcome
 abbrev pub did : Guest → ℕ → Act → Stepped
-did g opcode (whole.Plain e) = plainly_done g opcode e
+did g opcode (whole.Plain e) = trapped_in (Plain (term (pc_of g.state) opcode e.r)) (frames_stored g e.writes) (with_effect g e) e.trap
 did g opcode (Traps t) = sensed_as g (sensed g t t.op)
 did g opcode (Probes i o) = probed_as g opcode o (probe g i (long_of o 0) (long_of o 1) (long_of o 2))
 
@@ -151,30 +138,21 @@ executed g =
 
 -- an interrupt is taken, and its request ends; where it isn't taken itself, the request stays
 abbrev pub interrupted : Guest → Source → Initiation → Stepped
-interrupted g source (Taken h written) = stepped (record h { state = after_interrupt_taken source h.state }) [] Interrupt written
+interrupted g source (Taken h written) = stepped (record h { state = (source_row source).taken h.state }) [] Interrupt written
 interrupted g source (KernelStackBad h written) = stepped h [] Interrupt written
 interrupted g source (Stops stop) = stopped g stop Interrupt
-
--- a waiting guest stays
-abbrev pub unless_waiting : Guest → Bool → Stepped
-unless_waiting g true = stepped g [] Idle []
-unless_waiting g false = executed g
-
-abbrev pub by_interrupt : Guest → Option Source → Stepped
-by_interrupt g (Some source) = interrupted g source (initiate g (interrupt_of source))
-by_interrupt g None = unless_waiting g g.state.waiting
 
 -- the clock counts once, and so do the guest's steps
 abbrev pub counted : State → State
 counted s = record s { clock = after_tick s.clock; steps = (s.steps + 1) % 2 ^ 32 }
 
-abbrev pub active : Guest → Stepped
-active g = by_interrupt g (due g.state)
-
--- a guest that has stopped stays as it is
-abbrev pub step_by : Guest → Option ℕ → Stepped
-step_by g (Some code) = stepped g [] Stopped []
-step_by g None = active (record g { state = counted g.state })
-
+-- A guest that has stopped stays as it is. Another one counts, and takes an interrupt that is due; without one, a waiting guest
+-- stays, and another executes its instruction.
 unfoldable pub step : Guest → Stepped
-step g = step_by g g.state.halt
+step before = elim (before.state.halt) [
+  | Some code ↦ stepped before [] Stopped []
+  | None ↦ let g : Guest = record before { state = counted before.state } in elim (due g.state) [
+    | Some source ↦ interrupted g source (initiate g (interrupt_of source))
+    | None ↦ if g.state.waiting then stepped g [] Idle [] else executed g
+  ]
+]

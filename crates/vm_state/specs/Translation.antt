@@ -44,24 +44,20 @@ walk_by g va m i Beyond = walks.Beyond
 unfoldable pub walk_of : Guest → (va : ℕ) → Mode → Intent → Walk
 walk_of g va m i = walk_by g va m i (look g (page_of va))
 
--- The guest as a space for its instructions, in a mode: the byte at an address, or why there is none.
+-- The guest as a space for its instructions, in its own mode: the byte at an address, or why there is none.
 abbrev pub walked_byte : List ℕ → Walk → Result ℕ Cause
 walked_byte memory (walks.Frame pa entry table) = Ok (slice_index memory pa)
 walked_byte memory (walks.Fault f) = Err (cause_of f.not_valid)
 walked_byte memory walks.Beyond = Err interaction.Past
 
-abbrev pub space_in : Guest → Mode → Space
-space_in g m i va = walked_byte g.memory (walk_of g va m i)
-
--- in its own mode
 abbrev pub space_of : Guest → Space
-space_of g = space_in g (mode_of_state g.state)
+space_of g i va = walked_byte g.memory (walk_of g va (mode_of_state g.state) i)
 
--- where a byte that may be written lies; another one lies nowhere in memory
+-- Where a byte that may be written lies. The place of another is the memory's end, at which nothing lies, so that setting
+-- the byte there changes nothing.
 abbrev pub walked_place : List ℕ → Walk → ℕ
 walked_place memory (walks.Frame pa entry table) = pa
-walked_place memory (walks.Fault f) = length memory
-walked_place memory walks.Beyond = length memory
+walked_place memory walk = length memory
 
 abbrev pub guest_write_place : Guest → ℕ → ℕ
 guest_write_place g va = walked_place g.memory (walk_of g va (mode_of_state g.state) intents.Write)
@@ -82,9 +78,7 @@ marked place memory = long_stored place (with_modify (long_at memory place)) mem
 
 abbrev pub marked_by : Lookup → List ℕ → List ℕ
 marked_by (Found place table) memory = marked place memory
-marked_by (Direct frame) memory = memory
-marked_by (Fails not_valid parameter) memory = memory
-marked_by Beyond memory = memory
+marked_by found memory = memory
 
 -- the frame of a place
 abbrev pub frame_at : ℕ → ℕ
@@ -93,6 +87,4 @@ frame_at place = place / 2 ^ 9
 -- the frames that setting a modify bit writes
 abbrev pub marks_by : Lookup → List ℕ
 marks_by (Found place table) = frame_at place ∷ []
-marks_by (Direct frame) = []
-marks_by (Fails not_valid parameter) = []
-marks_by Beyond = []
+marks_by found = []

@@ -12,13 +12,14 @@ use Rattle.vm_shadow.specs.StandsFor.{StandsFor}
 use Rattle.vm_simulation_laws.specs.Bursts.{IsQuiet, after_counted}
 use Rattle.vm_state.specs.Allowed.{AreAllowed}
 use Rattle.vm_state.specs.Initiate.{initiate}
-use Rattle.vm_state.specs.Interrupts.{IntervalClock, Kcall, Receiver, Software, Source, Transmitter, due, interrupt_of, level_of, requests, sources}
+use Rattle.vm_state.specs.Interrupts.{IntervalClock, Kcall, Receiver, Software, Source, Transmitter, due, interrupt_of, source_row, sources}
 use Rattle.vm_state.specs.Partition.{guest_of, part, partition_of}
 use Rattle.vm_state.specs.Run.{Run, after_step, after_steps}
 use Rattle.vm_state.specs.State.{Guest, HasPlace, State, state_of}
 use Rattle.vm_state.specs.Step as steps
-use Rattle.vm_state.specs.Step.{Stepped, by_interrupt, counted, interrupted, step, step_by, stepped, unless_waiting}
+use Rattle.vm_state.specs.Step.{Stepped, counted, interrupted, step, stepped}
 use Rattle.vm_state.specs.declared.guest_state.GuestState.{GuestState}
+use Rattle.vm_state.proofs.StepCases.{by_interrupt, step_by, unless_waiting}
 use Rattle.vm_stepping.specs.Advances.{Proceeds, to_do}
 use Rattle.vm_stepping.specs.Made.{CountsRetired, KeepsRefinement, Made, run_of, tally_of}
 use Rattle.vm_stepping.specs.declared.counts.Counts.{Counts}
@@ -27,7 +28,7 @@ use Rattle.vm_stepping.proofs.Going.{few_unfilled, goes_then}
 use Rattle.vm_stepping.proofs.Running.{counted_left, not_counted, plain_left}
 
 -- Ticks before the clock's next wrap request nothing.
-requests_later : (s : State) (n : ℕ) (source : Source) → requests (record s { clock = record s.clock { icr = n } }) source ≡ requests s source
+requests_later : (s : State) (n : ℕ) (source : Source) → (source_row source).requests (record s { clock = record s.clock { icr = n } }) ≡ (source_row source).requests s
 requests_later s n IntervalClock = refl
 requests_later s n Kcall = refl
 requests_later s n Receiver = refl
@@ -36,7 +37,7 @@ requests_later s n (Software level) = refl
 
 due_later : (s : State) (n : ℕ) → due (record s { clock = record s.clock { icr = n } }) ≡ due s
 unfolding due
-due_later s n = λ i. find (λ source. requests_later s n source i && nat_lt (ipl_of s.psl) (level_of source)) sources
+due_later s n = λ i. find (λ source. requests_later s n source i && nat_lt (ipl_of s.psl) (source_row source).level) sources
 
 due_now : (s : State) → due (record s { clock = after_ticks 0 s.clock }) ≡ due s
 unfolding after_ticks

@@ -9,7 +9,7 @@ use Rattle.vm_clock.proofs.Counting.{after_ticks-add}
 use Rattle.vm_shadow.specs.Shadowed.{Shadowed}
 use Rattle.vm_shadow.specs.StandsFor.{StandsFor}
 use Rattle.vm_simulation_laws.specs.Bursts.{with_count}
-use Rattle.vm_state.specs.Interrupts.{IntervalClock, Kcall, Receiver, Software, Source, Transmitter, due, level_of, requests, sources}
+use Rattle.vm_state.specs.Interrupts.{IntervalClock, Kcall, Receiver, Software, Source, Transmitter, due, source_row, sources}
 use Rattle.vm_state.specs.State.{HasPlace, State, state_of}
 use Rattle.vm_state.specs.Step.{counted}
 use Rattle.vm_state.specs.declared.guest_state.GuestState.{GuestState}
@@ -23,7 +23,7 @@ use Rattle.vm_stepping.proofs.PayingBegun.{pays_nothing, pays_then, pays_waiting
 use Rattle.vm_stepping.proofs.Running.{plain_left}
 
 -- what is due depends on no count of steps
-requests_uncounted : (s : State) (n : ℕ) (source : Source) → requests (record s { steps = n }) source ≡ requests s source
+requests_uncounted : (s : State) (n : ℕ) (source : Source) → (source_row source).requests (record s { steps = n }) ≡ (source_row source).requests s
 requests_uncounted s n IntervalClock = refl
 requests_uncounted s n Kcall = refl
 requests_uncounted s n Receiver = refl
@@ -32,7 +32,7 @@ requests_uncounted s n (Software level) = refl
 
 due_uncounted : (s : State) (n : ℕ) → due (record s { steps = n }) ≡ due s
 unfolding due
-due_uncounted s n = λ i. find (λ source. requests_uncounted s n source i && nat_lt (ipl_of s.psl) (level_of source)) sources
+due_uncounted s n = λ i. find (λ source. requests_uncounted s n source i && nat_lt (ipl_of s.psl) (source_row source).level) sources
 
 -- nothing is due in steps in which the clock doesn't wrap
 none_due : (g : GuestState) (k : ℕ) → due (state_of g) ≡ None → (IsTrue g.clock.run → k < ticks_to_wrap g.clock) → due (state_of (with_count k g)) ≡ None

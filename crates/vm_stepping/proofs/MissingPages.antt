@@ -21,7 +21,7 @@ use Rattle.vm_shadow.proofs.Present.{walk_present}
 use Rattle.vm_simulation_laws.specs.Laws.{IsDenied, IsMissed, place_here}
 use Rattle.vm_simulation_laws.specs.Loaded.{guest_try}
 use Rattle.vm_state.specs.Partition.{guest_of}
-use Rattle.vm_state.specs.Sensitive.{fault_of}
+use Rattle.vm_state.specs.Sensed.{fault_of}
 use Rattle.vm_state.specs.State.{Guest}
 use Rattle.vm_state.specs.Step.{Fault, Stepped, by_try, faulted, sensed_as, stopped}
 use Rattle.vm_state.specs.Stops.{PastMemory}

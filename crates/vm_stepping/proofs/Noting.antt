@@ -19,7 +19,7 @@ use Rattle.vm_shadow.specs.Shadowed.{Shadowed}
 use Rattle.vm_simulation_laws.specs.Laws.{IsMissed}
 use Rattle.vm_simulation_laws.specs.Loaded.{guest_try}
 use Rattle.vm_state.specs.Partition.{guest_of}
-use Rattle.vm_state.specs.Sensitive.{fault_of, refused_as}
+use Rattle.vm_state.specs.Sensed.{fault_of, refused_as}
 use Rattle.vm_state.specs.State.{Guest}
 use Rattle.vm_state.specs.Translation.{walk_of}
 use Rattle.vm_state.specs.declared.exception.Exc.{Exc}

@@ -15,9 +15,10 @@ use Rattle.vm_state.specs.Partition.{guest_of}
 use Rattle.vm_state.specs.Run.{Run}
 use Rattle.vm_state.specs.State.{Guest, HasPlace, State, state_of}
 use Rattle.vm_state.specs.Step as steps
-use Rattle.vm_state.specs.Step.{Stepped, Touched, counted, executed, interrupted, nothing_touched, step, stepped, unless_waiting}
+use Rattle.vm_state.specs.Step.{Stepped, Touched, counted, executed, interrupted, step, stepped}
 use Rattle.vm_state.specs.Touches.{Touching, touching_step, touching_steps}
 use Rattle.vm_state.specs.declared.guest_state.GuestState.{GuestState}
+use Rattle.vm_state.proofs.StepCases.{by_interrupt, unless_waiting}
 use Rattle.vm_stepping.specs.Advances.{IsBegun}
 use Rattle.vm_stepping.specs.Made.{Made}
 use Rattle.vm_stepping.specs.Pays.{OwesBy, PaysOn, touching_left}
@@ -55,7 +56,7 @@ module _ (m : Machine) (s : Shadowed) (g : GuestState) (stands : StandsFor m.mem
   })
 
   -- a step that touches nothing
-  pub pays_untouched : (n : ℕ) (x : Stepped) (m2 : Machine) (s2 : Shadowed) (g2 : GuestState) (left : Left) → 1 ≤ n → step h ≡ x → x.touched ≡ nothing_touched → Moves x.written x.guest.state.tables s s2 → m2.misses ≡ m.misses → x.guest ≡ guest_of m2.memory g2 → left ≡ plain_left (n - 1) → PaysOn (plain_left n) left m s g m2 s2 g2
+  pub pays_untouched : (n : ℕ) (x : Stepped) (m2 : Machine) (s2 : Shadowed) (g2 : GuestState) (left : Left) → 1 ≤ n → step h ≡ x → x.touched ≡ record { found = []; lacking = [] } → Moves x.written x.guest.state.tables s s2 → m2.misses ≡ m.misses → x.guest ≡ guest_of m2.memory g2 → left ≡ plain_left (n - 1) → PaysOn (plain_left n) left m s g m2 s2 g2
   pays_untouched n x m2 s2 g2 left some is none moves same guest e = subst (λ y. PaysOn (plain_left n) y m s g m2 s2 g2) (sym e) (record {
     missed = 0;
     misses = no_more m m2 same;
@@ -70,7 +71,7 @@ module _ (m : Machine) (s : Shadowed) (g : GuestState) (stands : StandsFor m.mem
         };
   })
 
-interrupt_untouched : (h : Guest) (source : Source) (i : Initiation) → (interrupted h source i).touched ≡ nothing_touched
+interrupt_untouched : (h : Guest) (source : Source) (i : Initiation) → (interrupted h source i).touched ≡ record { found = []; lacking = [] }
 interrupt_untouched h source (Taken g written) = refl
 interrupt_untouched h source (KernelStackBad g written) = refl
 interrupt_untouched h source (Stops stop) = refl
@@ -83,7 +84,7 @@ module _ (m : Machine) (s : Shadowed) (g : GuestState) (g1 : GuestState) (stands
   begun_is : guest_of m.memory g1 ≡ begun
   begun_is = counted_is m s g g1 stands state place runs
 
-  comes : (o : Option Source) (x : Stepped) → due (state_of g1) ≡ o → steps.by_interrupt begun o ≡ x → step (guest_of m.memory g) ≡ x
+  comes : (o : Option Source) (x : Stepped) → due (state_of g1) ≡ o → by_interrupt begun o ≡ x → step (guest_of m.memory g) ≡ x
   comes o x e is = step_is m s g g1 stands state place runs o e ∙ is
 
   pub pays_interrupt : {Port : Type 0} (may : Port → List ℕ → Type 0) (port port' : Port) (c c2 : Counts) (source : Source) (m2 : Machine) (s2 : Shadowed) (g2 : GuestState) (left : Left) → due (state_of g1) ≡ Some source

@@ -16,12 +16,13 @@ use Rattle.vax_table.specs.declared.act.Sens.TheVariants.{Chm, Halt, Ldpctx, Mfp
 use Rattle.vax_table.specs.declared.act.Trapped.{Trapped}
 use Rattle.vm_exception.specs.Initiated.{IsProper}
 use Rattle.vm_state.specs.Contexts as contexts
-use Rattle.vm_state.specs.Contexts.{BlockPast, PopTrouble, Reserved, StackTrouble, Switched, Switches, loads_context, saves_context, two_popped}
+use Rattle.vm_state.specs.Contexts.{after_push, after_reads, is_block_past, is_block_reserved, loaded, loads_context, saves_context, two_popped}
 use Rattle.vm_state.specs.Initiate.{Initiation, KernelStackBad, Stops, Taken, initiate, new_mode}
 use Rattle.vm_state.specs.Packets.{accepted}
 use Rattle.vm_state.specs.Pushes.{Faulty, Homes, PastMemory, Walked, push_walked}
 use Rattle.vm_state.specs.Registers.{Value, Written, read, written}
-use Rattle.vm_state.specs.Sensitive.{ClearAt, Does, Faults, LacksMemory, Sensed, StopsThere, after_register_read, change_mode, chm_walked, destination_walked, fault_of, guest_past_instruction, mfpr_by, mode_changed, mtpr_by, packet_taken, past_instruction, put_at, rei_by, sensed, switched, troubled, with_codes, with_register_effect}
+use Rattle.vm_state.specs.Sensed.{ClearAt, Does, Faults, LacksMemory, Sensed, StopsThere, fault_of, troubled}
+use Rattle.vm_state.specs.Sensitive.{after_register_read, change_mode, chm_walked, destination_walked, guest_past_instruction, mfpr_by, mode_changed, mtpr_by, packet_taken, past_instruction, put_at, rei_by, sensed, with_codes, with_register_effect}
 use Rattle.vm_state.specs.State.{Guest, State, mode_of_state, pointer_of}
 use Rattle.vm_state.specs.Translation.{is_clear, space_of, walk_of}
 use Rattle.vm_state.specs.declared.exception.Exc.TheVariants as excs
@@ -110,12 +111,24 @@ proper_mfpr g t (Stopped trouble) = proper_trouble g trouble
 proper_mfpr g t (Clear va) = proper_read g t.dest (Some va) (read (length g.memory) (past_instruction g.state t) t.a)
 proper_mfpr g t (Completes old) = proper_read g t.dest None (read (length g.memory) (past_instruction g.state t) t.a)
 
-proper_switched : (g : Guest) (x : Switched) → HasProperFault (switched g x)
-proper_switched g (Switches h written) = tt
-proper_switched g Reserved = tt
-proper_switched g (PopTrouble trouble) = proper_trouble g trouble
-proper_switched g StackTrouble = tt
-proper_switched g BlockPast = tt
+proper_push : (g : Guest) (s : State) (w : Walked) → HasProperFault (after_push g s w)
+proper_push g s (Homes hs) = tt
+proper_push g s (Faulty f) = tt
+proper_push g s PastMemory = tt
+
+proper_loads : (g : Guest) (next_pc : ℕ) → HasProperFault (loads_context g next_pc)
+unfolding loads_context
+proper_loads g next_pc =
+    cond_both (is_block_past g) LacksMemory _ HasProperFault (λ k. tt) (λ k.
+    cond_both (is_block_reserved g) (Faults excs.ReservedOperand) _ HasProperFault (λ k. tt) (λ k. proper_push g (loaded g next_pc) _))
+
+proper_pops : (g : Guest) (next_pc : ℕ) (r : Result contexts.Popped Trouble) → HasProperFault (after_reads g next_pc r)
+proper_pops g next_pc (Err trouble) = proper_trouble g trouble
+proper_pops g next_pc (Ok p) = cond_both (is_block_past g) LacksMemory _ HasProperFault (λ k. tt) (λ k. tt)
+
+proper_saves : (g : Guest) (next_pc : ℕ) → HasProperFault (saves_context g next_pc)
+unfolding saves_context
+proper_saves g next_pc = proper_pops g next_pc (outcome (space_of g) (two_popped (slice_index g.state.r 14)))
 
 pub proper_fault : (g : Guest) (t : Trapped) (op : Sens) → HasProperFault (sensed g t op)
 unfolding sensed
@@ -125,7 +138,7 @@ proper_fault g t (Chm to) = proper_chm g t to
 proper_fault g t Rei = proper_rei g t (outcome (space_of g) (two_popped (slice_index t.regs 14)))
 proper_fault g t Mtpr = proper_mtpr g t.a (written (past_instruction g.state t) t.b t.a)
 proper_fault g t Mfpr = proper_mfpr g t (tried (space_of g) (is_clear g) (destination_walked t.dest))
-proper_fault g t Ldpctx = proper_switched g (loads_context g t.next_pc)
-proper_fault g t Svpctx = proper_switched g (saves_context g t.next_pc)
+proper_fault g t Ldpctx = proper_loads g t.next_pc
+proper_fault g t Svpctx = proper_saves g t.next_pc
 proper_fault g t Prober = tt
 proper_fault g t Probew = tt

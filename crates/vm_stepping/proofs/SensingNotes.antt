@@ -21,7 +21,8 @@ use Rattle.vm_simulation_laws.specs.Laws.{IsTrap, IsTrapped}
 use Rattle.vm_state.specs.Partition.{guest_of}
 use Rattle.vm_state.specs.Probe.{Answers, NotValid, Probed}
 use Rattle.vm_state.specs.Probe as probes
-use Rattle.vm_state.specs.Sensitive.{ClearAt, Does, Faults, LacksMemory, Sensed, StopsThere, sensed}
+use Rattle.vm_state.specs.Sensed.{ClearAt, Does, Faults, LacksMemory, Sensed, StopsThere}
+use Rattle.vm_state.specs.Sensitive.{sensed}
 use Rattle.vm_state.specs.State.{Guest}
 use Rattle.vm_state.specs.declared.exception.Exc.{Exc}
 use Rattle.vm_state.specs.declared.exception.Exc.TheVariants as excs

@@ -1,21 +1,23 @@
 -- What an instruction that completes is found to be.
-use Rattle.std.proofs.Common.{◌≡◌, ℕ, ◌||◌, Bool, true, false, List, [], length, Option, Some, None, Result, Ok, Err, refl, ap}
+use Rattle.std.proofs.Common.{◌≡◌, ℕ, ◌||◌, Bool, true, false, List, [], length, Option, Some, None, Result, Ok, Err, refl, ap, sym, subst}
 use Rattle.std.specs.List.{range_with_len}
 use Rattle.std.specs.Prelude.{map, replicate, slice_index}
 use Rattle.vax_arch.specs.declared.mode.Intent.{Intent}
 use Rattle.vax_table.specs.Claims.{Holds, claims}
 use Rattle.vax_table.specs.Fetch.{fetched}
-use Rattle.vax_table.specs.Operand.{operands_of, trap_operands}
+use Rattle.vax_table.specs.AllOperands.{operands_of, trap_operands}
 use Rattle.vax_table.specs.Operations.{operation_of}
 use Rattle.vax_table.specs.Plan.{plan_of}
 use Rattle.vax_table.specs.Interaction.{Interaction, Trouble, outcome}
 use Rattle.vax_table.specs.Spelling.{Instruction}
 use Rattle.vax_table.specs.Tries.{Completes, first_clear, tried_by, unless_clear}
-use Rattle.vax_table.specs.Whole.{Act, Meant, Plain, Probes, Traps, acted, acted_by, instruction, is_always_done, is_kernel_mode, meant, plain_meaning, probing, trapping}
+use Rattle.vax_table.specs.Whole.{Act, Meant, Plain, Probes, Traps, instruction, is_kernel_mode, meant, trapping}
+use Rattle.vax_table.specs.Acted.{acted, acted_by, plain_meaning, probing, is_always_done}
 use Rattle.vax_table.specs.declared.act.Sens.{Sens}
 use Rattle.vax_table.specs.declared.act.Sens.TheVariants.{Prober, Probew}
 use Rattle.vax_table.specs.declared.meaning.Operation.{Operation}
 use Rattle.vax_table.specs.declared.meaning.Operation.TheVariants as does
+use Rattle.vax_table.proofs.Acted.{instruction_is}
 use Rattle.vax_table.proofs.Claims.{holds-bind, holds_always, holds_made}
 use Rattle.vax_table.proofs.Targets.{of_each_opcode}
 use Rattle.vax_table.proofs.Tests.{if_both}
@@ -85,10 +87,9 @@ unfolding acted
 acted_holds is_kernel_mode psl d r cs = by_operation is_kernel_mode psl (operation_of d.opcode) d r cs (no_probe d.opcode)
 
 whole_holds : (is_kernel_mode : Bool) (psl : ℕ) (r : List ℕ) → Holds (MeantIsProper (length r)) [] (instruction is_kernel_mode psl r)
-unfolding instruction
 whole_holds is_kernel_mode psl r =
-    holds-bind Anything (MeantIsProper (length r)) [] (fetched (slice_index r 15)) _ (any_end [] (fetched (slice_index r 15)))
-    (λ cs d h. acted_holds is_kernel_mode psl d r cs)
+    subst (Holds (MeantIsProper (length r)) []) (sym (instruction_is is_kernel_mode psl r)) (holds-bind Anything (MeantIsProper (length r)) [] (fetched (slice_index r 15)) _ (any_end [] (fetched (slice_index r 15)))
+    (λ cs d h. acted_holds is_kernel_mode psl d r cs))
 
 -- what completes is the outcome
 ok_unless : {A : Type 0} (x : Option ℕ) (a b : A) → unless_clear a x ≡ Completes b → a ≡ b

@@ -31,7 +31,8 @@ use Rattle.vm_simulation_laws.specs.Loaded.{guest_try}
 use Rattle.vm_state.specs.Partition.{guest_of, part, partition_of}
 use Rattle.vm_state.specs.Probe.{Answers, NotValid, Probed}
 use Rattle.vm_state.specs.Probe as probes
-use Rattle.vm_state.specs.Sensitive.{ClearAt, Does, Faults, LacksMemory, Sensed, StopsThere, sensed}
+use Rattle.vm_state.specs.Sensed.{ClearAt, Does, Faults, LacksMemory, Sensed, StopsThere}
+use Rattle.vm_state.specs.Sensitive.{sensed}
 use Rattle.vm_state.specs.State.{Guest, HasPlace, State, pc_of, state_of, tables_of}
 use Rattle.vm_state.specs.Step.{Fault, Sensitive, SetModify, Stepped, by_try, did, faulted, probed_as, sensed_as, stepped, stopped, with_effect}
 use Rattle.vm_state.specs.Stops.{PastMemory, Stop, stop_code, stop_text}

@@ -11,7 +11,7 @@ ghost use Rattle.vm_simulation_laws.specs.Bursts.{missed_by};
 ghost use Rattle.vm_simulation_laws.specs.Laws.{Meets};
 ghost use Rattle.vm_simulation_laws.specs.Loaded.{guest_try};
 ghost use Rattle.vm_state.specs.Partition.{guest_of};
-ghost use Rattle.vm_state.specs.Sensitive.{refused_as};
+ghost use Rattle.vm_state.specs.Sensed.{refused_as};
 ghost use Rattle.vm_stepping.specs.Advances.{StepsOrRefills};
 ghost use Rattle.vm_stepping.specs.Made.{IsMet, steps_in};
 ghost use Rattle.vm_stepping.specs.Noted.{NotesMet};

@@ -2,6 +2,7 @@
 #![tactic(auto)]
 
 mod bytes;
+mod cutting;
 mod faults;
 mod names;
 mod numbers;
@@ -9,6 +10,7 @@ mod text;
 mod width;
 
 pub use bytes::{get_u16, get_u32, put_u16, put_u32};
+pub use cutting::{find, first_line};
 pub use faults::{Full, NoMemory};
 pub use names::{file_name, object_name};
 pub use numbers::{decimal, hex, read_decimal};

@@ -3,7 +3,8 @@ use Rattle.std.proofs.Common.{◌≡◌, ℕ, zero, suc, ◌+◌, ◌*◌, ◌<�
 use Rattle.std.specs.List.{list_all, range_with_len}
 use Rattle.std.proofs.lemmas.Bool.{and_from, and_parts, cases_eq, eqb-true, eq-eqb, true≢false, false≢true}
 use Rattle.std.proofs.lemmas.Nat.{mod-pow-add, and_shr, and_mod, and_le_l, or_shr, or_mod}
-use Rattle.vv_class.specs.Class.{has_category, is_subset}
+use Rattle.vv_class.specs.Class.{is_subset}
+use Rattle.vv_base.specs.Bits.{is_set}
 
 -- one bit more
 pub cut : (m n : ℕ) → m % 2 ^ suc n ≡ (m / 2 ^ n % 2) * 2 ^ n + m % 2 ^ n
@@ -19,7 +20,7 @@ bit_value zero (suc (suc y)) below_x below_y e = absurd (omega arith)
 bit_value (suc zero) (suc (suc y)) below_x below_y e = absurd (omega arith)
 
 -- numbers with the same categories have the same low bits
-pub same_below : (a b n : ℕ) → ((k : ℕ) → k < n → has_category a k ≡ has_category b k) → a % 2 ^ n ≡ b % 2 ^ n
+pub same_below : (a b n : ℕ) → ((k : ℕ) → k < n → is_set a k ≡ is_set b k) → a % 2 ^ n ≡ b % 2 ^ n
 same_below a b zero h = omega arith
 same_below a b (suc n) h =
     let top : a / 2 ^ n % 2 ≡ b / 2 ^ n % 2 = bit_value (a / 2 ^ n % 2) (b / 2 ^ n % 2) (omega arith) (omega arith) (h n (omega arith)) in
@@ -31,7 +32,7 @@ bool_same true t f g = sym (f refl)
 bool_same false true f g = g refl
 bool_same false false f g = refl
 
-pub same_sets : (a b : ℕ) → a < 2 ^ 64 → b < 2 ^ 64 → ((k : ℕ) → k < 64 → has_category a k ≡ has_category b k) → a ≡ b
+pub same_sets : (a b : ℕ) → a < 2 ^ 64 → b < 2 ^ 64 → ((k : ℕ) → k < 64 → is_set a k ≡ is_set b k) → a ≡ b
 same_sets a b below_a below_b h =
     let low : a % 2 ^ 64 ≡ b % 2 ^ 64 = same_below a b 64 h in
     omega (arith, low, below_a, below_b)
@@ -55,12 +56,12 @@ one_bit_or zero (suc (suc y)) p q = absurd (omega arith)
 one_bit_or (suc zero) (suc (suc y)) p q = absurd (omega arith)
 
 -- the categories of two sets at once
-pub has_and : (a b k : ℕ) → has_category (bit_and a b) k ≡ (has_category a k && has_category b k)
+pub has_and : (a b k : ℕ) → is_set (bit_and a b) k ≡ (is_set a k && is_set b k)
 has_and a b k =
     let bits : bit_and a b / 2 ^ k % 2 ≡ bit_and (a / 2 ^ k % 2) (b / 2 ^ k % 2) = ap (λ x. x % 2) (and_shr a b k) ∙ and_mod (a / 2 ^ k) (b / 2 ^ k) 1 in
     ap (λ x. x == 1) bits ∙ one_bit_and (a / 2 ^ k % 2) (b / 2 ^ k % 2) (omega arith) (omega arith)
 
-pub has_or : (a b k : ℕ) → has_category (bit_or a b) k ≡ (has_category a k || has_category b k)
+pub has_or : (a b k : ℕ) → is_set (bit_or a b) k ≡ (is_set a k || is_set b k)
 has_or a b k =
     let bits : bit_or a b / 2 ^ k % 2 ≡ bit_or (a / 2 ^ k % 2) (b / 2 ^ k % 2) = ap (λ x. x % 2) (or_shr a b k) ∙ or_mod (a / 2 ^ k) (b / 2 ^ k) 1 in
     ap (λ x. x == 1) bits ∙ one_bit_or (a / 2 ^ k % 2) (b / 2 ^ k % 2) (omega arith) (omega arith)
@@ -100,9 +101,9 @@ implied_by false y f = refl
 pub subset_law : (a b : ℕ) → a < 2 ^ 64 → (bit_and a b == a) ≡ is_subset a b
 unfolding is_subset
 subset_law a b below =
-    let p : ℕ → Bool = λ k. not (has_category a k) || has_category b k in
+    let p : ℕ → Bool = λ k. not (is_set a k) || is_set b k in
     bool_same (bit_and a b == a) (list_all p (range_with_len 0 64))
     (λ yes. let same : bit_and a b ≡ a = eqb-true (bit_and a b) a yes in
-    all_of p 0 64 (λ k from to. implied (has_category a k) (has_category b k) (sym (has_and a b k) ∙ ap (λ n. has_category n k) same)))
+    all_of p 0 64 (λ k from to. implied (is_set a k) (is_set b k) (sym (has_and a b k) ∙ ap (λ n. is_set n k) same)))
     (λ yes. eq-eqb (bit_and a b) a (same_sets (bit_and a b) a (let le = and_le_l a b in omega arith) below
-    (λ k to. has_and a b k ∙ implies (has_category a k) (has_category b k) (each_of p 0 64 yes k (omega arith) (omega arith)))))
+    (λ k to. has_and a b k ∙ implies (is_set a k) (is_set b k) (each_of p 0 64 yes k (omega arith) (omega arith)))))

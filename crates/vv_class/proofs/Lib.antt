@@ -4,3 +4,4 @@ pub mod Sets
 pub mod Runs
 pub mod Spelled
 pub mod Places
+pub mod Numbers

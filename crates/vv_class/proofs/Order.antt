@@ -2,15 +2,16 @@
 use Rattle.std.proofs.Common.{◌≡◌, ℕ, ◌<◌, ◌^◌, Bool, true, false, not, ◌&&◌, ◌||◌, ◌↔◌, inl, inr, IsTrue, min, max, bit_and, bit_or, refl, sym, ap, ◌∙◌, arith, le-leb}
 use Rattle.std.proofs.lemmas.Bool.{and_from, and_parts, or_left, or_right, or_cases, leb-true, true≢false, false≢true}
 use Rattle.vv_class.specs.declared.class.AccessClass.{AccessClass}
-use Rattle.vv_class.specs.Class.{has_category, IsClass, IsSubset, Flows, is_subset, is_within, does_flow, IsJoin, IsLeastUpperBound}
+use Rattle.vv_class.specs.Class.{IsClass, IsSubset, Flows, is_subset, is_within, does_flow, IsJoin, IsLeastUpperBound}
+use Rattle.vv_base.specs.Bits.{is_set}
 use Rattle.vv_class.proofs.Bits.{same_sets, bool_same, all_of, each_of, implies_at, implied_by, has_and, has_or}
 
 subset_is : (a b : ℕ) → (is_subset a b ≡ true) ↔ IsSubset a b
 unfolding is_subset
 subset_is a b =
-    let p : ℕ → Bool = λ k. not (has_category a k) || has_category b k in (
-      λ yes k to has. implies_at (has_category a k) (has_category b k) (each_of p 0 64 yes k (omega arith) (omega arith)) has,
-      λ h. all_of p 0 64 (λ k from to. implied_by (has_category a k) (has_category b k) (h k (omega arith))),
+    let p : ℕ → Bool = λ k. not (is_set a k) || is_set b k in (
+      λ yes k to has. implies_at (is_set a k) (is_set b k) (each_of p 0 64 yes k (omega arith) (omega arith)) has,
+      λ h. all_of p 0 64 (λ k from to. implied_by (is_set a k) (is_set b k) (h k (omega arith))),
     )
 
 pub flow_is : (a b : AccessClass) → IsTrue (does_flow a b) ↔ Flows a b
@@ -45,7 +46,7 @@ flow_transitive a b c f g =
     }
 
 both_subsets : (a b : ℕ) → a < 2 ^ 64 → b < 2 ^ 64 → IsSubset a b → IsSubset b a → a ≡ b
-both_subsets a b below_a below_b f g = same_sets a b below_a below_b (λ k to. bool_same (has_category a k) (has_category b k) (f k to) (g k to))
+both_subsets a b below_a below_b f g = same_sets a b below_a below_b (λ k to. bool_same (is_set a k) (is_set b k) (f k to) (g k to))
 
 pub flow_antisymmetric : (a b : AccessClass) → IsClass a → IsClass b → Flows a b → Flows b a → a ≡ b
 flow_antisymmetric a b in_a in_b f g =
@@ -59,9 +60,9 @@ pub united : (a b c : AccessClass) → c ≡ record { secrecy = max a.secrecy b.
 united a b c is =
     record {
       secrecy = ap (λ d. d.secrecy) is;
-      secrecy_cats = λ k to. ap (λ d. has_category d.secrecy_cats k) is ∙ has_or a.secrecy_cats b.secrecy_cats k;
+      secrecy_cats = λ k to. ap (λ d. is_set d.secrecy_cats k) is ∙ has_or a.secrecy_cats b.secrecy_cats k;
       integrity = ap (λ d. d.integrity) is;
-      integrity_cats = λ k to. ap (λ d. has_category d.integrity_cats k) is ∙ has_and a.integrity_cats b.integrity_cats k;
+      integrity_cats = λ k to. ap (λ d. is_set d.integrity_cats k) is ∙ has_and a.integrity_cats b.integrity_cats k;
     }
 
 pub united_is_least : (a b c : AccessClass) → IsJoin a b c → IsLeastUpperBound a b c

@@ -8,7 +8,7 @@ use Rattle.std.proofs.lemmas.List.FromFn.{filter_of_map_range_with_len_more}
 use Rattle.std.proofs.lemmas.Nat.{pow-add, div-mul-add, div-add-mod', mod_below, pow_pos}
 use Rattle.std.proofs.Math.Nat.{div-eq_of_lt, pow-suc}
 use Rattle.std.proofs.Math.Pow.{pow_mono}
-use Rattle.vv_class.specs.Class.{has_category}
+use Rattle.vv_base.specs.Bits.{is_set}
 use Rattle.vv_class.specs.Text.{categories_below, listed}
 use Rattle.vv_class.proofs.Bits.{cut}
 
@@ -18,10 +18,10 @@ unfolding categories_below
 zero_below m = refl
 
 -- one category more
-pub below_more : (n cats : ℕ) → categories_below (n + 1) cats ≡ categories_below n cats ++ cond (has_category cats n) (n ∷ []) []
+pub below_more : (n cats : ℕ) → categories_below (n + 1) cats ≡ categories_below n cats ++ cond (is_set cats n) (n ∷ []) []
 unfolding categories_below
 below_more n cats =
-    let more = filter_of_map_range_with_len_more (has_category cats) (λ k. k) 0 n n (omega arith) in
+    let more = filter_of_map_range_with_len_more (is_set cats) (λ k. k) 0 n n (omega arith) in
     rw (map-id (range_with_len 0 (n + 1)), map-id (range_with_len 0 n)) at more
 
 -- the categories of a list, as the number that keeps them
@@ -38,7 +38,7 @@ weight_below zero m = ap weight (zero_below m) ∙ omega arith
 weight_below (suc n) m =
     let bit : ℕ = m / 2 ^ n % 2 in
     let rest : weight (categories_below n m) ≡ m % 2 ^ n = weight_below n m in
-    ap (λ k. weight (categories_below k m)) (sym (add-one n)) ∙ ap weight (below_more n m) ∙ weight-append (categories_below n m) (cond (has_category m n) (n ∷ []) [])
+    ap (λ k. weight (categories_below k m)) (sym (add-one n)) ∙ ap weight (below_more n m) ∙ weight-append (categories_below n m) (cond (is_set m n) (n ∷ []) [])
     ∙ (λ i. rest i + own (m / 2 ^ n % 2) n (omega arith) i) ∙ turn (m % 2 ^ n) ((m / 2 ^ n % 2) * 2 ^ n) ∙ sym (cut m n)
   where
     own : (b n : ℕ) → b < 2 → weight (cond (b == 1) (n ∷ []) []) ≡ b * 2 ^ n
@@ -67,7 +67,7 @@ rising_range p a (suc n) below =
 
 pub rising_below : (m : ℕ) → Rising 0 (categories_below 64 m)
 unfolding categories_below
-rising_below m = rising_range (has_category m) 0 64 (omega arith)
+rising_below m = rising_range (is_set m) 0 64 (omega arith)
 
 -- the categories of no set, and of a set with one above all of its own
 pub none_below : categories_below 64 0 ≡ []
@@ -166,7 +166,7 @@ length-listed (suc n) cats le =
     let pushed : length (listed (ks ++ n ∷ [])) ≤ 3 * suc n = rw (listed-push ks n) (omega (arith, length-append (lead ks) (decimal n), length-lead ks)) in
     let same : length (listed (ks ++ [])) ≤ 3 * suc n = rw (append-nil ks) (omega arith) in
     subst P (sym (ap (λ k. categories_below k cats) (sym (add-one n)) ∙ below_more n cats))
-    (cond_both (has_category cats n) (n ∷ []) [] (λ (xs : List ℕ). length (listed (ks ++ xs)) ≤ 3 * suc n) (λ e. pushed) (λ e. same))
+    (cond_both (is_set cats n) (n ∷ []) [] (λ (xs : List ℕ). length (listed (ks ++ xs)) ≤ 3 * suc n) (λ e. pushed) (λ e. same))
 
 -- the texts of numbers
 pub two_digits : (n : ℕ) → n < 64 → length (decimal n) ≤ 2
@@ -184,13 +184,13 @@ begun text cats = sym (ap (λ (ks : List ℕ). text ++ listed ks) (zero_below ca
 pub begun_comma : (cats : ℕ) → listed (categories_below 0 cats) ++ [] ≡ lead (categories_below 0 cats)
 begun_comma cats = ap (λ (ks : List ℕ). listed ks ++ []) (zero_below cats) ∙ sym (ap lead (zero_below cats))
 
-pub below_skipped : (cats k : ℕ) → has_category cats k ≡ false → categories_below (k + 1) cats ≡ categories_below k cats
+pub below_skipped : (cats k : ℕ) → is_set cats k ≡ false → categories_below (k + 1) cats ≡ categories_below k cats
 below_skipped cats k out = below_more k cats ∙ ap (λ t. categories_below k cats ++ cond t (k ∷ []) []) out ∙ append-nil (categories_below k cats)
 
-below_kept : (cats k : ℕ) → has_category cats k ≡ true → categories_below (k + 1) cats ≡ categories_below k cats ++ k ∷ []
+below_kept : (cats k : ℕ) → is_set cats k ≡ true → categories_below (k + 1) cats ≡ categories_below k cats ++ k ∷ []
 below_kept cats k is = below_more k cats ∙ ap (λ t. categories_below k cats ++ cond t (k ∷ []) []) is
 
-pub one_more : (start text comma : List ℕ) (cats k : ℕ) → has_category cats k ≡ true → text ≡ start ++ listed (categories_below k cats) → listed (categories_below k cats) ++ comma ≡ lead (categories_below k cats)
+pub one_more : (start text comma : List ℕ) (cats k : ℕ) → is_set cats k ≡ true → text ≡ start ++ listed (categories_below k cats) → listed (categories_below k cats) ++ comma ≡ lead (categories_below k cats)
     → text ++ comma ++ decimal k ≡ start ++ listed (categories_below (k + 1) cats)
 one_more start text comma cats k is written lead_is =
     let ks : List ℕ = categories_below k cats in
@@ -201,7 +201,7 @@ lead_after : (ks : List ℕ) (k : ℕ) → listed (ks ++ k ∷ []) ++ codes "," 
 lead_after [] k = refl
 lead_after (a ∷ ks) k = refl
 
-pub comma_more : (cats k : ℕ) → has_category cats k ≡ true → listed (categories_below (k + 1) cats) ++ codes "," ≡ lead (categories_below (k + 1) cats)
+pub comma_more : (cats k : ℕ) → is_set cats k ≡ true → listed (categories_below (k + 1) cats) ++ codes "," ≡ lead (categories_below (k + 1) cats)
 comma_more cats k is =
     let kept = below_kept cats k is in
     ap (λ (ks : List ℕ). listed ks ++ codes ",") kept ∙ lead_after (categories_below k cats) k ∙ sym (ap lead kept)

@@ -1,13 +1,10 @@
 -- Access classes, and which flows into which. Secrecy is after Bell and LaPadula ("Secure computer system", 1976), integrity
 -- after Biba ("Integrity considerations for secure computer systems", 1977), both as in the VAX VMM security kernel (Karger and
 -- others, IEEE TSE 17(11), 1991).
-use Rattle.std.specs.Prelude.{◌≡◌, ℕ, ◌<◌, ◌≤◌, ◌/◌, ◌%◌, ◌^◌, Bool, true, ◌==◌, nat_le, not, ◌&&◌, ◌||◌, min, max}
+use Rattle.std.specs.Prelude.{◌≡◌, ℕ, ◌<◌, ◌≤◌, ◌^◌, Bool, true, nat_le, not, ◌&&◌, ◌||◌, min, max}
 use Rattle.std.specs.List.{list_all, range_with_len}
+use Rattle.vv_base.specs.Bits.{is_set}
 use Rattle.vv_class.specs.declared.class.AccessClass.{AccessClass}
-
--- whether a category is in a set
-abbrev pub has_category : ℕ → ℕ → Bool
-has_category cats k = cats / 2 ^ k % 2 == 1
 
 -- levels are 0 to 255, and categories 0 to 63
 pub record IsClass (c : AccessClass) : Type 0 where
@@ -18,7 +15,7 @@ pub record IsClass (c : AccessClass) : Type 0 where
 
 -- each category of the one set is one of the other
 abbrev pub IsSubset : ℕ → ℕ → Type 0
-IsSubset a b = (k : ℕ) → k < 64 → has_category a k ≡ true → has_category b k ≡ true
+IsSubset a b = (k : ℕ) → k < 64 → is_set a k ≡ true → is_set b k ≡ true
 
 -- secrecy only rises, and integrity only falls
 pub record Flows (a b : AccessClass) : Type 0 where
@@ -29,7 +26,7 @@ pub record Flows (a b : AccessClass) : Type 0 where
 
 -- `IsSubset` and `Flows` as tests that compute
 unfoldable pub is_subset : ℕ → ℕ → Bool
-is_subset a b = list_all (λ k. not (has_category a k) || has_category b k) (range_with_len 0 64)
+is_subset a b = list_all (λ k. not (is_set a k) || is_set b k) (range_with_len 0 64)
 
 abbrev pub is_within : ℕ → ℕ → ℕ → ℕ → Bool
 is_within level cats most of = nat_le level most && is_subset cats of
@@ -41,9 +38,9 @@ does_flow a b = is_within a.secrecy a.secrecy_cats b.secrecy b.secrecy_cats && i
 -- integrity categories that both have
 pub record IsJoin (a b c : AccessClass) : Type 0 where
   pub secrecy : c.secrecy ≡ max a.secrecy b.secrecy
-  pub secrecy_cats : (k : ℕ) → k < 64 → has_category c.secrecy_cats k ≡ (has_category a.secrecy_cats k || has_category b.secrecy_cats k)
+  pub secrecy_cats : (k : ℕ) → k < 64 → is_set c.secrecy_cats k ≡ (is_set a.secrecy_cats k || is_set b.secrecy_cats k)
   pub integrity : c.integrity ≡ min a.integrity b.integrity
-  pub integrity_cats : (k : ℕ) → k < 64 → has_category c.integrity_cats k ≡ (has_category a.integrity_cats k && has_category b.integrity_cats k)
+  pub integrity_cats : (k : ℕ) → k < 64 → is_set c.integrity_cats k ≡ (is_set a.integrity_cats k && is_set b.integrity_cats k)
 
 -- both flow into the class, and it into each class into which both flow
 pub record IsLeastUpperBound (a b c : AccessClass) : Type 0 where

@@ -1,9 +1,9 @@
 -- Worked examples: labels that flow, and texts of classes.
-use Rattle.std.specs.Prelude.{◌≡◌, ℕ, ◌-◌, ◌^◌, true, false, codes, length, Ok, Err, refl}
+use Rattle.std.specs.Prelude.{◌≡◌, ℕ, ◌-◌, ◌^◌, true, false, codes, length, Some, None, Ok, Err, refl}
 use Rattle.std.specs.Fmt.{digits}
 use Rattle.vv_class.specs.declared.class.AccessClass.{AccessClass}
 use Rattle.vv_class.specs.Class.{does_flow, is_subset}
-use Rattle.vv_class.specs.Text.{class_text, categories_below}
+use Rattle.vv_class.specs.Text.{class_in, class_text, categories_below}
 use Rattle.vv_class.specs.Scan.{class_of, start_of, step_of, more_level, more_category}
 
 abbrev class : ℕ → ℕ → ℕ → ℕ → AccessClass
@@ -59,3 +59,28 @@ none_above = refl
 pub longest : length (class_text (class 255 (2 ^ 64 - 1) 255 (2 ^ 64 - 1))) ≡ 373
 unfolding class_text categories_below digits
 longest = refl
+
+-- a text by its numbers, and texts of none: 256, a needless zero, no rising categories, one above 63, a missing half
+pub by_numbers : class_in (codes "2{1,5};0{}") ≡ Some (class 2 34 0 0)
+unfolding class_in class_text categories_below digits
+by_numbers = refl
+
+pub above_255 : class_in (codes "256{};0{}") ≡ None
+unfolding class_in class_text categories_below digits
+above_255 = refl
+
+pub needless_zero : class_in (codes "00{};0{}") ≡ None
+unfolding class_in class_text categories_below digits
+needless_zero = refl
+
+pub falling : class_in (codes "0{5,1};0{}") ≡ None
+unfolding class_in class_text categories_below digits
+falling = refl
+
+pub above_63 : class_in (codes "0{64};0{}") ≡ None
+unfolding class_in class_text categories_below digits
+above_63 = refl
+
+pub one_half : class_in (codes "0{}") ≡ None
+unfolding class_in class_text categories_below digits
+one_half = refl

@@ -1,6 +1,8 @@
 ghost use Rattle.std.specs.Prelude.{◌≡◌, ◌≢◌, ◌+◌, ◌-◌, ◌<◌, ◌≤◌, ◌++◌, length, IfOk, IfErr, OnErr, Ok, decimal, List, ℕ};
-ghost use Rattle.vv_class.specs.Class.{IsClass, has_category};
-ghost use Rattle.vv_class.specs.Text.{class_text, half_text, listed, categories_below, IsLongestStart};
+ghost use Rattle.vv_class.specs.Class.{IsClass};
+ghost use Rattle.vv_base.specs.Bits.{is_set};
+ghost use Rattle.std.specs.Result.{result_ok};
+ghost use Rattle.vv_class.specs.Text.{class_in, class_text, half_text, listed, categories_below, IsLongestStart};
 ghost use Rattle.vv_class.specs.Scan.{class_of, at_the_end, part_of, start_of};
 ghost use Rattle.vv_class.specs.declared.class.AccessClass.{AccessClass};
 
@@ -22,8 +24,9 @@ pub fn read_class(b: &[u8]) -> Result<AccessClass, ClassFault>
     ensures refused { OnErr result ((c : AccessClass) → IsClass c → b.now ≢ class_text c) }
     ensures fault { IfErr result (λ fault. IsLongestStart b.now fault.place) }
 
-    // The answer as a function that computes.
+    // The answer as a function that computes, and the class alone by the numbers of its text.
     ensures value { result ≡ class_of b.now }
+    ensures class { class_in b.now ≡ result_ok result }
 {
     scan_text(b)
 }
@@ -130,7 +133,7 @@ fn write_set(text: &mut Text<400>, cats: u64)
 
 fn has_category(cats: u64, category: u8) -> bool
     requires { category < 64 }
-    ensures { result ≡ has_category cats category }
+    ensures { result ≡ is_set cats category }
 {
     (cats >> u32::from(category)) % 2 == 1
 }
@@ -143,11 +146,13 @@ fn add_number(text: &mut Text<400>, n: u8)
     text.append(decimal(u64::from(n)).bytes());
 }
 
-/// Each class has one text, each text is of one class, `class_of` reads exactly these, and none has over 395 bytes.
+/// Each class has one text, each text is of one class, `class_of` reads exactly these, `class_in` gives what it reads, and
+/// none has over 395 bytes.
 pub fn text_laws()
     ensures one_class { (c d : AccessClass) → IsClass c → IsClass d → class_text c ≡ class_text d → c ≡ d }
     ensures read { (c : AccessClass) → IsClass c → class_of (class_text c) ≡ Ok c }
     ensures written { (b : List ℕ) → IfOk (class_of b) (λ c. IsClass c × (b ≡ class_text c)) }
     ensures place { (b : List ℕ) → IfErr (class_of b) (λ fault. IsLongestStart b fault.place) }
     ensures short { (c : AccessClass) → IsClass c → length (class_text c) ≤ 395 }
+    ensures class { (b : List ℕ) → class_in b ≡ result_ok (class_of b) }
 {}

@@ -1,11 +1,15 @@
 -- Which files may be devices. What the system says of a name is that of stat(2): kind, device and inode number, number of links,
 -- length.
-use Rattle.std.specs.Prelude.{ℕ, List, Bool, true, false, ◌==◌, ◌&&◌, not, if◌then◌else◌, Option, Some, None}
+use Rattle.std.specs.Prelude.{ℕ, ◌/◌, ◌-◌, ◌^◌, min, List, Bool, true, false, ◌==◌, ◌&&◌, not, if◌then◌else◌, Option, Some, None, Result, Ok, Err}
 use Rattle.std.specs.List.{list_any}
+use Rattle.std.specs.declared.io.ErrorKind.{ErrorKind}
+use Rattle.std.specs.declared.io.ErrorKind.TheVariants.{NotFound}
 use Rattle.vv_edge.specs.declared.stat.Found.{Found}
 use Rattle.vv_edge.specs.declared.stat.Flaw.{Flaw}
 use Rattle.vv_edge.specs.declared.stat.Flaw.TheVariants as flaws
 use Rattle.vv_edge.specs.declared.stat.Identity.{Identity}
+use Rattle.vv_edge.specs.declared.stat.Look.{Look}
+use Rattle.vv_edge.specs.declared.stat.Look.TheVariants.{Nothing, Untold, There}
 use Rattle.vv_edge.specs.declared.stat.Kind.{Kind}
 use Rattle.vv_edge.specs.declared.stat.Kind.TheVariants.{File, Link, Other}
 
@@ -44,3 +48,31 @@ kind_flaw File other = other
 -- why it can't be a drive, beside the files that are taken
 abbrev pub flaw_of : Found → List Identity → Option Flaw
 flaw_of found taken = kind_flaw found.kind (file_flaw found taken)
+
+-- a look that fails shows that nothing is there only where the system finds nothing under the name
+abbrev pub look_failed : ErrorKind → Look
+look_failed NotFound = Nothing
+look_failed kind = Untold
+
+abbrev pub unless_flawed : Found → Option Flaw → Result Found Flaw
+unless_flawed found None = Ok found
+unless_flawed found (Some flaw) = Err flaw
+
+-- what is under a drive's name, or why it can't be a drive; none where nothing is there
+abbrev pub drive_under : Look → List Identity → Option (Result Found Flaw)
+drive_under Nothing taken = None
+drive_under Untold taken = Some (Err flaws.Untold)
+drive_under (There found) taken = Some (unless_flawed found (flaw_of found taken))
+
+-- the whole blocks of 512 bytes of a file, as far as 32 bits hold their number; what is no file has none
+abbrev pub whole_blocks : Option Found → ℕ
+whole_blocks None = 0
+whole_blocks (Some found) = if is_file found.kind then min (found.length / 512) (2 ^ 32 - 1) else 0
+
+abbrev pub is_known : Option Identity → Identity → Bool
+is_known None identity = true
+is_known (Some known) identity = is_same_file known identity
+
+-- a device's file is still the one that is known, if one is, with one name and of this length
+abbrev pub is_as_found : Found → Option Identity → ℕ → Bool
+is_as_found found known length = is_known known found.identity && is_as_shown found length

@@ -1,5 +1,5 @@
 -- What people at a terminal are shown beside an answer: what to do about it.
-use Rattle.std.specs.Prelude.{ℕ, List, [], ◌∷◌, ◌++◌, ◌==◌, if◌then◌else◌, codes}
+use Rattle.std.specs.Prelude.{ℕ, List, [], ◌∷◌, ◌++◌, ◌==◌, if◌then◌else◌, codes, decimal}
 use Rattle.sys_script.specs.declared.event.ScriptKind.{ScriptKind}
 use Rattle.sys_script.specs.declared.event.ScriptKind.TheVariants as script
 use Rattle.vasm_text.specs.declared.fault.AsmKind.{AsmKind}
@@ -33,6 +33,24 @@ rule_text rule =
     else if rule == 17 then codes "each class flows into the audit's"
     else codes "all guests have at most 16384 pages together"
 
+-- the key of the tables of which a rule's place is one
+abbrev pub table_key : ℕ → List ℕ
+table_key rule =
+    if rule == 6 then codes "terminal"
+    else if rule == 7 then codes "volume"
+    else if rule == 8 then codes "printer"
+    else if rule == 9 then codes "guest"
+    else if rule == 13 then codes "volume"
+    else if rule == 14 then codes "guest"
+    else if rule == 15 then codes "guest"
+    else if rule == 16 then codes "guest"
+    else if rule == 18 then codes "guest"
+    else []
+
+abbrev pub numbered_table : List ℕ → ℕ → List ℕ
+numbered_table [] place = []
+numbered_table (byte ∷ key) place = (((byte ∷ key) ++ codes " ") ++ decimal place) ++ codes ", counted from 0"
+
 -- how a script's line is to be
 abbrev pub script_advice : ScriptKind → List ℕ
 script_advice script.BadRound = codes "it begins with a round, 1 to 1000000, and a blank"
@@ -65,13 +83,17 @@ abbrev pub line_if : List ℕ → List ℕ → List ℕ
 line_if before [] = []
 line_if before (byte ∷ bytes) = ((codes "vvmm: " ++ before) ++ byte ∷ bytes) ++ 10 ∷ []
 
+-- the column where the part of a line begins that is refused, where it is known
+abbrev pub column_text : ℕ → List ℕ
+column_text column = if column == 0 then [] else (codes "column " ++ decimal column) ++ codes ": "
+
 -- all that is shown of an answer beside its text
 abbrev pub hint_of : Status → Told → List ℕ
 hint_of answers.Words told = HELP.now
 hint_of answers.ShelfFault told = line_if (codes "this file cannot be read, or is a drive: ") told.unread
-hint_of (answers.Config fault) told = line_if (codes "the rule: ") (rule_text fault.rule)
-hint_of (answers.Script fault) told = line_if (codes "the line is: ") told.line ++ line_if [] (script_advice fault.kind)
-hint_of (answers.Asm fault) told = line_if (codes "the line is: ") told.line ++ line_if [] (source_advice fault.kind)
+hint_of (answers.Config fault) told = line_if (codes "the rule: ") (rule_text fault.rule) ++ line_if (codes "the table: ") (numbered_table (table_key fault.rule) fault.place)
+hint_of (answers.Script fault) told = line_if (codes "the line is: ") told.line ++ line_if (column_text told.column) (script_advice fault.kind)
+hint_of (answers.Asm fault) told = line_if (codes "the line is: ") told.line ++ line_if (column_text told.column) (source_advice fault.kind)
 hint_of (answers.Audit fault) told = line_if (codes "the line is: ") told.line
 hint_of (answers.VolumeSize volume) told = note_if told.wanted ++ notes_of told.flawed
 hint_of (answers.DriveIn drive) told = notes_of told.flawed

@@ -1,9 +1,10 @@
 -- What a file says about an answer.
-use Rattle.std.specs.Prelude.{ℕ, ◌-◌, min, List, [], length, map, take, slice_index_or, nat_le, nat_lt, ◌&&◌, if◌then◌else◌, Option, Some, None, option_map, Result, Ok, Err, slice_get}
+use Rattle.std.specs.Prelude.{ℕ, ◌-◌, min, List, [], ◌∷◌, length, map, take, slice_index_or, nat_le, nat_lt, ◌&&◌, if◌then◌else◌, Option, Some, None, option_map, Result, Ok, Err, slice_get}
 use Rattle.std.specs.Str.Lines.{lines}
 use Rattle.sys_objects.specs.declared.errors.ConfigFault.{ConfigFault}
 use Rattle.sys_objects.specs.declared.records.Config.{Config}
 use Rattle.sys_objects.specs.declared.records.VolumeRow.{VolumeRow}
+use Rattle.vv_edge.specs.Columns.{script_column, source_column}
 use Rattle.vv_edge.specs.declared.telling.Note.{Note}
 use Rattle.vv_edge.specs.declared.telling.Note.TheVariants.{Wanted}
 use Rattle.vvmm_files.specs.declared.status.Status.{Status}
@@ -50,3 +51,14 @@ refused_line text (Script fault) = shown_front (line_of_text text fault.line)
 refused_line text (Asm fault) = shown_front (line_of_text text fault.line)
 refused_line text (Audit fault) = shown_front (line_of_text text fault.line)
 refused_line text status = []
+
+-- what is said of a line, if it has bytes
+abbrev pub column_if : (List ℕ → ℕ) → List ℕ → ℕ
+column_if column [] = 0
+column_if column (byte ∷ line) = column (byte ∷ line)
+
+-- the column of that line where the part begins that is refused; 0 where it isn't known
+abbrev pub refused_column : List ℕ → Status → ℕ
+refused_column text (Script fault) = column_if (script_column fault.kind) (line_of_text text fault.line)
+refused_column text (Asm fault) = column_if (source_column fault.kind) (line_of_text text fault.line)
+refused_column text status = 0

@@ -5,5 +5,7 @@ pub mod Shown
 pub mod Asked
 pub mod Ends
 pub mod Hints
+pub mod Columns
 pub mod Learning
 pub mod ShownAnswers
+pub mod ShownColumns

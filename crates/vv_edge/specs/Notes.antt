@@ -1,10 +1,11 @@
 -- What is reported of devices beside an answer.
-use Rattle.std.specs.Prelude.{ℕ, List, [], ◌∷◌, ◌++◌, ◌==◌, Bool, true, false, if◌then◌else◌, codes, decimal, Option, Some, None}
+use Rattle.std.specs.Prelude.{ℕ, ◌/◌, ◌%◌, max, List, [], ◌∷◌, ◌++◌, ◌==◌, ◌||◌, Bool, true, false, if◌then◌else◌, codes, decimal, Option, Some, None, slice_set}
 use Rattle.std.specs.List.{flat_map}
 use Rattle.vv_edge.specs.declared.stat.Flaw.{Flaw}
 use Rattle.vv_edge.specs.declared.stat.Flaw.TheVariants.{Untold, Link, NoFile, OtherName, Shared}
 use Rattle.vv_edge.specs.declared.telling.Note.{Note}
-use Rattle.vv_edge.specs.declared.telling.Note.TheVariants.{Flawed, Wanted, Line, Audit, Drive}
+use Rattle.vv_edge.specs.declared.telling.Note.TheVariants.{Flawed, Wanted, Line, Audit, Drive, Busy, Unlocked, FewPlaces}
+use Rattle.vv_edge.specs.declared.telling.Stored.{Stored}
 
 abbrev pub flaw_text : Flaw → List ℕ
 flaw_text Untold = codes " cannot be looked at"
@@ -34,6 +35,9 @@ note_text (Wanted drive blocks) = with_number (with_number (codes "vvmm: drive "
 note_text (Line line) = with_number (codes "vvmm: line ") line (codes " failed")
 note_text (Audit line) = with_number (codes "vvmm: line ") line (codes ", the audit, failed")
 note_text (Drive d) = with_number (with_number (with_number (codes "vvmm: drive ") d.drive (codes " failed: ")) d.stored (codes " of its ")) d.blocks (codes " blocks were stored")
+note_text Busy = codes "vvmm: another vvmm runs in this folder"
+note_text Unlocked = codes "vvmm: this folder cannot be locked: run no other vvmm in it"
+note_text FewPlaces = codes "vvmm: too few descriptors: raise ulimit -n"
 
 -- a note as a line, if there is one
 abbrev pub note_if : Option Note → List ℕ
@@ -42,3 +46,15 @@ note_if (Some note) = note_text note ++ 10 ∷ []
 
 abbrev pub notes_of : List (Option Note) → List ℕ
 notes_of notes = flat_map note_if notes
+
+-- notes on drives, and that one more failed
+abbrev pub with_failed : List (Option Note) → Stored → List (Option Note)
+with_failed notes drive = slice_set notes drive.drive (Some (Drive drive))
+
+-- a run is reported on after each hundredth of its rounds, and at the end
+abbrev pub is_mark : ℕ → ℕ → Bool
+is_mark rounds of = (rounds % max (of / 100) 1 == 0) || (rounds == of)
+
+-- how many of a run's rounds were made, over what was shown before; the last is a line
+abbrev pub round_note : ℕ → ℕ → List ℕ
+round_note rounds of = with_number (with_number (codes "\rvvmm: round ") rounds (codes " of ")) of (if rounds == of then 10 ∷ [] else [])

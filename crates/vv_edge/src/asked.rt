@@ -16,6 +16,7 @@ vvmm run CONFIG SCRIPT ROUNDS  runs the guests of the configuration CONFIG for R
 vvmm save CONFIG SCRIPT ROUNDS makes the rounds of run, and shows what the system is after them, as a
                                snapshot; drives stay as they are
 vvmm resume SNAP SCRIPT ROUNDS goes on from the snapshot SNAP for ROUNDS rounds more, and ends as run does
+vvmm extend SNAP SCRIPT ROUNDS goes on from the snapshot SNAP likewise, and ends as save does
 vvmm live CONFIG ROUNDS        runs as run does, for at most ROUNDS rounds, with what is typed on standard
                                input while it runs: a line of a script without its round; an empty
                                line ends a round, and the end of the input the run

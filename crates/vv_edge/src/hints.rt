@@ -1,12 +1,13 @@
-ghost use Rattle.std.specs.Prelude.{◌≡◌, ◌≤◌, ◌++◌, [], codes, length};
+ghost use Rattle.std.specs.Prelude.{◌≡◌, ◌≤◌, ◌++◌, codes, length};
 ghost use Rattle.vv_edge.specs.Notes.{note_if, notes_of};
-ghost use Rattle.vv_edge.specs.Hints.{advice, hint_of, line_if, rule_text, script_advice, source_advice};
+ghost use Rattle.vv_edge.specs.Hints.{advice, column_text, hint_of, line_if, numbered_table, rule_text, script_advice, source_advice, table_key};
 
 use crate::asked::HELP;
 use crate::telling::{DriveNotes, LineNotes, Note, note_if, notes};
+use sys_objects::ConfigFault;
 use sys_script::ScriptKind;
 use vasm_text::AsmKind;
-use vv_base::{FileName, Text};
+use vv_base::{FileName, Text, decimal};
 use vvmm_files::Status;
 
 /// What is known of a run beside its answer, for people at a terminal.
@@ -24,6 +25,8 @@ pub struct Told {
     pub unread: FileName,
     /// A line that is refused.
     pub line: Text<80>,
+    /// The column where the part of it begins that is refused; 0 where that isn't known.
+    pub column: u64,
 }
 
 impl Told {
@@ -36,6 +39,7 @@ impl Told {
             drives: [None; 16],
             unread: FileName::new(),
             line: Text::new(),
+            column: 0,
         }
     }
 }
@@ -66,6 +70,47 @@ fn rule_text(rule: u8) -> &'static [u8]
         17 => b"each class flows into the audit's",
         _ => b"all guests have at most 16384 pages together",
     }
+}
+
+/// The key of the tables of which a rule's place is one.
+fn table_key(rule: u8) -> &'static [u8]
+    ensures is { result.now ≡ table_key rule }
+    ensures short { length result.now ≤ 8 }
+{
+    match rule {
+        6 => b"terminal",
+        7 | 13 => b"volume",
+        8 => b"printer",
+        9 | 14 | 15 | 16 | 18 => b"guest",
+        _ => b"",
+    }
+}
+
+/// Which of such tables one is.
+fn numbered_table(key: &[u8], place: u32) -> Text<80>
+    requires { length key.now ≤ 8 }
+    ensures { result ≡ numbered_table key.now place }
+{
+    let mut text = Text::new();
+    if key.is_empty() {
+        return text;
+    }
+    text.append(key);
+    text.append(b" ");
+    text.append(decimal(u64::from(place)).bytes());
+    text.append(b", counted from 0");
+    text
+}
+
+/// The rule that a configuration breaks, and in which table.
+fn broken(fault: &ConfigFault) -> Text<320>
+    ensures { result ≡ line_if (codes "the rule: ") (rule_text fault.now.rule) ++ line_if (codes "the table: ") (numbered_table (table_key fault.now.rule) fault.now.place) }
+{
+    let table = numbered_table(table_key(fault.rule), fault.place);
+    let mut text = Text::new();
+    text.append(line_if(b"the rule: ", rule_text(fault.rule)).bytes());
+    text.append(line_if(b"the table: ", table.bytes()).bytes());
+    text
 }
 
 /// How a script's line is to be.
@@ -132,14 +177,27 @@ fn line_if(before: &[u8], bytes: &[u8]) -> Text<160>
     text
 }
 
-/// A line that is refused, and what is wrong with it.
-fn refused(line: &Text<80>, why: &[u8]) -> Text<320>
-    requires { length why.now ≤ 80 }
-    ensures { result ≡ line_if (codes "the line is: ") line.now ++ line_if [] why.now }
+/// The column where the part of a line begins that is refused, where it is known.
+fn column_text(column: u64) -> Text<60>
+    ensures { result ≡ column_text column }
 {
     let mut text = Text::new();
-    text.append(line_if(b"the line is: ", line.bytes()).bytes());
-    text.append(line_if(b"", why).bytes());
+    if column > 0 {
+        text.append(b"column ");
+        text.append(decimal(column).bytes());
+        text.append(b": ");
+    }
+    text
+}
+
+/// A line that is refused, and where and why.
+fn refused(told: &Told, why: &[u8]) -> Text<320>
+    requires { length why.now ≤ 80 }
+    ensures { result ≡ line_if (codes "the line is: ") told.now.line ++ line_if (column_text told.now.column) why.now }
+{
+    let mut text = Text::new();
+    text.append(line_if(b"the line is: ", told.line.bytes()).bytes());
+    text.append(line_if(column_text(told.column).bytes(), why).bytes());
     text
 }
 
@@ -174,14 +232,12 @@ pub fn hint(status: &Status, told: &Told) -> Text<8192>
             let before = b"this file cannot be read, or is a drive: ";
             text.append(line_if(before, told.unread.bytes()).bytes());
         }
-        Status::Config(fault) => {
-            text.append(line_if(b"the rule: ", rule_text(fault.rule)).bytes());
-        }
+        Status::Config(fault) => text.append(broken(fault).bytes()),
         Status::Script(fault) => {
-            text.append(refused(&told.line, script_advice(fault.kind)).bytes());
+            text.append(refused(told, script_advice(fault.kind)).bytes());
         }
         Status::Asm(fault) => {
-            text.append(refused(&told.line, source_advice(fault.kind)).bytes());
+            text.append(refused(told, source_advice(fault.kind)).bytes());
         }
         Status::Audit(_) => text.append(line_if(b"the line is: ", told.line.bytes()).bytes()),
         Status::VolumeSize(_) => return unfit(told),

@@ -1,12 +1,12 @@
 ghost use Rattle.std.specs.Prelude.{◌≡◌, IfOk};
 ghost use Rattle.sys_config.specs.Config.{config_of};
-ghost use Rattle.vv_edge.specs.Learning.{audit_line_in, line_of_text, shown_front, refused_line, seen_as, told_word, wanted_in};
+ghost use Rattle.vv_edge.specs.Learning.{audit_line_in, line_of_text, shown_front, refused_column, refused_line, seen_as, told_word, wanted_in};
 
+use crate::columns::{script_column, source_column};
 use crate::telling::Note;
 use std::alloc::Global;
 use sys_config::{ConfigError, read_config};
-use vasm::first_line;
-use vv_base::{NoMemory, Text};
+use vv_base::{NoMemory, Text, first_line};
 use vvmm_files::Status;
 
 /// The place among the words of the file that says more about an answer, if one does.
@@ -66,6 +66,23 @@ pub fn refused_line(text: &[u8], status: &Status) -> Text<80>
     }
 }
 
+/// The column of that line where the part begins that is refused; 0 where it isn't known.
+pub fn refused_column(text: &[u8], status: &Status) -> u64
+    ensures { result ≡ refused_column text.now status.now }
+{
+    let line = match status {
+        Status::Script(fault) => line_of_text(text, fault.line),
+        Status::Asm(fault) => line_of_text(text, fault.line),
+        _ => &[],
+    };
+    match status {
+        _ if line.is_empty() => 0,
+        Status::Script(fault) => script_column(fault.kind, line),
+        Status::Asm(fault) => source_column(fault.kind, line),
+        _ => 0,
+    }
+}
+
 /// A line of a text, counted from 1, without its end; no bytes where there is none.
 fn line_of_text(text: &[u8], line: u32) -> &[u8]
     ensures { result.now ≡ line_of_text text.now line }
@@ -75,12 +92,12 @@ fn line_of_text(text: &[u8], line: u32) -> &[u8]
         if rest.is_empty() {
             return &[];
         }
-        rest = first_line(rest).later;
+        rest = first_line(rest).1;
     }
     if rest.is_empty() {
         return &[];
     }
-    first_line(rest).before
+    first_line(rest).0
 }
 
 /// Bytes as far as there is room, with a point for each that doesn't print.

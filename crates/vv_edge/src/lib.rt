@@ -5,6 +5,8 @@
 #![tactic(auto)]
 
 mod asked;
+mod columns;
+mod device_file;
 mod ending;
 mod faults;
 mod file_drive;
@@ -20,18 +22,20 @@ mod standard;
 mod stat;
 mod telling;
 mod ticker;
+mod typed;
 
-pub use asked::{files_named, text_asked, words_status};
+pub use asked::{text_asked, words_status};
 pub use ending::conclude;
-pub use file_drive::{Failures, FileDrive};
+pub use file_drive::FileDrive;
 pub use file_line::FileLine;
 pub use file_shelf::FileShelf;
+pub use found::look;
 pub use hints::Told;
 pub use input_keys::InputKeys;
-pub use learning::{audit_line, refused_line, told_word, wanted_drive};
-pub use opening::{Opening, Streams, are_there, line_notes};
+pub use learning::{audit_line, refused_column, refused_line, told_word, wanted_drive};
+pub use opening::{Opening, Streams, line_notes};
 pub use out_sink::OutSink;
 pub use standard::hold_standard;
-pub use stat::{Flaw, Found, Identity, Kind};
+pub use stat::{Flaw, Found, Identity, Kind, Look, drive_under, whole_blocks};
 pub use telling::{DriveNotes, LineNotes, Note, Stored};
 pub use ticker::Ticker;

@@ -1,12 +1,15 @@
 ghost use Rattle.std.specs.Prelude.{◌<◌};
 
-use crate::file_drive::{Failures, FileDrive};
+use crate::asked::files_named;
+use crate::file_drive::FileDrive;
 use crate::file_line::FileLine;
+use crate::found::{identity_of, look, target_of};
 use crate::out_sink::OutSink;
-use crate::standard::{Folder, hold_folder, hold_places, identity_of};
-use crate::stat::Identity;
-use crate::telling::{DriveNotes, LineNotes, Note, line_note};
+use crate::standard::{hold_folder, hold_places};
+use crate::stat::{Identity, Look, drive_under, is_removable, whole_blocks};
+use crate::telling::{DriveNotes, LineNotes, Note, Stored, line_note, note_if};
 use std::cell::Cell;
+use std::fs;
 use std::fs::File;
 use std::io::IsTerminal;
 use std::rc::Rc;
@@ -34,9 +37,9 @@ impl Streams {
     }
 
     /// Shows people at a terminal something before the answer.
-    fn note(&mut self, text: &[u8]) {
+    fn note(&mut self, note: Note) {
         if self.is_terminal {
-            let _ = self.errors.put(text);
+            let _ = self.errors.put(note_if(&Some(note)).bytes());
         }
     }
 
@@ -47,18 +50,13 @@ impl Streams {
     }
 }
 
-/// Whether there is a file of each of these names.
-pub fn are_there(rt: &HostRuntime, names: &[String]) -> bool {
-    names
-        .iter()
-        .all(|name| identity_of(rt, name.as_str()).is_some())
-}
-
 /// What lines and drives are given as they are opened.
 #[derive(Drop)]
 pub struct Opening {
+    has_lines: bool,
+    has_drives: bool,
     /// The folder, which no other program may use meanwhile.
-    folder: Folder,
+    folder: Option<File>,
     /// Files that no other line and no other drive may be.
     taken: Vec<Identity>,
     /// How many of these are not drives.
@@ -66,32 +64,43 @@ pub struct Opening {
     /// Descriptors that are held for the files of lines and drives.
     places: Vec<File>,
     /// Drives that can't be used.
-    flawed: DriveNotes,
+    pub flawed: DriveNotes,
     /// Drives that failed.
-    failed: Rc<Cell<DriveNotes>>,
+    pub failed: Rc<Cell<DriveNotes>>,
 }
 
 impl Opening {
-    /// Holds the folder, and a place for each of `count` lines and drives; nothing, where there are none. None where another
-    /// program has the folder, or the system refuses a place; people at a terminal are shown why.
+    /// Holds the folder and a place for each line and drive, where the words' command has them. None where another program has
+    /// the folder, or the system refuses a place; people at a terminal are shown why.
     pub fn begin(
         rt: &HostRuntime,
         words: &[String],
-        count: u8,
+        has_lines: bool,
+        has_drives: bool,
         streams: &mut Streams,
     ) -> Result<Option<Opening>, NoMemory> {
-        let folder = hold_folder(rt, count > 0);
-        streams.note(folder.note());
-        if matches!(folder, Folder::Busy) {
-            return Ok(None);
+        let mut folder = None;
+        if has_lines {
+            match hold_folder(rt) {
+                Ok(held) => folder = Some(held),
+                Err(note) => {
+                    streams.note(note);
+                    if note == Note::Busy {
+                        return Ok(None);
+                    }
+                }
+            }
         }
-        let taken = taken_at_first(rt, words, streams)?;
+        let taken = taken_at_first(rt, words)?;
         let failed = Rc::new(rt.alloc(), Cell::new([None; 16]))?;
-        let Some(places) = hold_places(rt, count)? else {
-            streams.note(b"vvmm: too few descriptors: raise ulimit -n\n");
+        let Some(places) = hold_places(rt, 32 * u8::from(has_lines) + 16 * u8::from(has_drives))?
+        else {
+            streams.note(Note::FewPlaces);
             return Ok(None);
         };
         Ok(Some(Opening {
+            has_lines,
+            has_drives,
             folder,
             others: taken.len(),
             taken,
@@ -106,85 +115,79 @@ impl Opening {
         self.taken.get(self.others..).unwrap_or(&[])
     }
 
-    /// Drives that can't be used.
-    pub fn flawed(&self) -> DriveNotes {
-        self.flawed
-    }
-
-    /// Drives that have failed by now.
-    pub fn failed(&self) -> DriveNotes {
-        self.failed.get()
-    }
-
-    /// The line of a number. Where lines are shown on, the file of an earlier run goes.
-    fn line(
-        &mut self,
-        rt: &HostRuntime,
-        number: u8,
-        is_shown_on: bool,
-        streams: &mut Streams,
-    ) -> Result<FileLine<HostRuntime>, NoMemory> {
-        let path = format!(in rt.alloc(); "line{number:02}.out")?;
-        if !is_shown_on {
-            return Ok(FileLine::new(rt.clone()?, path));
-        }
-        streams.keep_from(identity_of(rt, path.as_str()));
-        let place = self.places.pop();
-        Ok(FileLine::cleared(rt.clone()?, path, &self.taken, place))
-    }
-
-    /// The 32 lines. Where they are shown on, the files of an earlier run go.
+    /// The 32 lines. Where the command has them and its files are there, the lines' files of an earlier run go.
     pub fn lines(
         &mut self,
         rt: &HostRuntime,
-        are_shown_on: bool,
+        words: &[String],
         streams: &mut Streams,
-    ) -> Result<LineList<FileLine<HostRuntime>>, NoMemory> {
+    ) -> Result<LineList<FileLine>, NoMemory> {
+        let are_shown_on = self.has_lines
+            && files_named(words)
+                .iter()
+                .all(|name| target_of(rt, name.as_str()).is_some());
         let mut list = Vec::new(rt.alloc());
         for number in 0..32u8 {
-            list.push(self.line(rt, number, are_shown_on, streams)?)?;
+            let path = format!(in rt.alloc(); "line{number:02}.out")?;
+            let mut is_free = true;
+            if are_shown_on {
+                streams.keep_from(identity_of(rt, path.as_str()));
+                is_free = clear(rt, path.as_str(), &self.taken);
+            }
+            let place = self.places.pop();
+            list.push(FileLine::new(rt.clone()?, path, is_free, place))?;
         }
         Ok(LineList::new(list))
     }
 
-    /// The drive of a number, where the command has drives and something is under its name. Its file is taken then, or flawed.
+    /// The drive of a number. What is under its name is taken then, or flawed.
     pub fn drive(
         &mut self,
         rt: &HostRuntime,
         number: u8,
-        has_drives: bool,
         streams: &mut Streams,
-    ) -> Result<Option<FileDrive<HostRuntime>>, NoMemory>
+    ) -> Result<FileDrive, NoMemory>
         requires { number < 16 }
     {
-        if !has_drives {
-            return Ok(None);
-        }
         let path = format!(in rt.alloc(); "drive{number:02}.vol")?;
-        streams.keep_from(identity_of(rt, path.as_str()));
-        let failures = Failures::new(number, self.failed.clone()?);
-        let place = self.places.pop();
-        let looked = FileDrive::look(rt.clone()?, path, &self.taken, place, failures);
-        if let Some(drive) = &looked {
-            match drive.judgment() {
-                Ok(identity) => self.taken.push(identity)?,
-                Err(flaw) => self.flawed[usize::from(number)] = Some(Note::Flawed(number, flaw)),
-            }
+        let mut target = None;
+        let mut found = None;
+        if self.has_drives {
+            target = target_of(rt, path.as_str());
+            streams.keep_from(target.map(|target| target.identity));
+            found = drive_under(&look(rt, path.as_str()), &self.taken);
         }
-        Ok(looked)
+        match found {
+            Some(Ok(found)) => self.taken.push(found.identity)?,
+            Some(Err(flaw)) => self.flawed[usize::from(number)] = Some(Note::Flawed(number, flaw)),
+            None => {}
+        }
+        let stored = Stored {
+            drive: number,
+            stored: 0,
+            blocks: whole_blocks(&target),
+        };
+        let found = found.and_then(|found| found.ok());
+        let place = self.places.pop();
+        let failed = self.failed.clone()?;
+        Ok(FileDrive::new(rt.clone()?, path, found, place, stored, failed))
+    }
+}
+
+/// Whether nothing is under a line's name, or what was there is removed.
+fn clear(rt: &HostRuntime, path: &str, taken: &[Identity]) -> bool {
+    match look(rt, path) {
+        Look::Nothing => true,
+        Look::There(found) => is_removable(&found, taken) && fs::remove_file(rt, path).is_ok(),
+        Look::Untold => false,
     }
 }
 
 /// Files that no line and no drive may be: those of the standard streams, and of the words.
-fn taken_at_first(
-    rt: &HostRuntime,
-    words: &[String],
-    streams: &Streams,
-) -> Result<Vec<Identity>, NoMemory> {
+fn taken_at_first(rt: &HostRuntime, words: &[String]) -> Result<Vec<Identity>, NoMemory> {
     let mut taken = Vec::new(rt.alloc());
-    let input = identity_of(rt, "/dev/fd/0");
-    for identity in [input, streams.out.identity(), streams.errors.identity()] {
-        if let Some(identity) = identity {
+    for name in ["/dev/fd/0", "/dev/fd/1", "/dev/fd/2"] {
+        if let Some(identity) = identity_of(rt, name) {
             taken.push(identity)?;
         }
     }
@@ -197,7 +200,7 @@ fn taken_at_first(
 }
 
 /// Notes on the lines that failed.
-pub fn line_notes(lines: &LineList<FileLine<HostRuntime>>, audit: Option<u8>) -> LineNotes {
+pub fn line_notes(lines: &LineList<FileLine>, audit: Option<u8>) -> LineNotes {
     let mut notes = [None; 32];
     for number in 0..32u8 {
         if let Some(line) = lines.as_slice().get(usize::from(number)) {

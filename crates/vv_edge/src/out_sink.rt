@@ -1,11 +1,13 @@
 ghost use Rattle.std.specs.Prelude.{None};
 
+use crate::faults::counted;
+use crate::found::unfit;
 use crate::stat::Identity;
 use vv_io::{Sink, SinkFault};
 
-/// Standard output, or standard error.
-#[derive(Drop)]
-pub struct OutSink<P: Print + Drop> {
+/// Standard output, or standard error. A copy shows to the same file.
+#[derive(Clone, Copy)]
+pub struct OutSink<P: Print + Copy> {
     stream: P,
     /// Which file it is, where the system says so.
     identity: Option<Identity>,
@@ -13,7 +15,7 @@ pub struct OutSink<P: Print + Drop> {
     faults: u64,
 }
 
-impl<P: Print + Drop> OutSink<P> {
+impl<P: Print + Copy> OutSink<P> {
     /// A sink that has not failed.
     pub fn new(stream: P, identity: Option<Identity>) -> Self {
         OutSink {
@@ -24,21 +26,6 @@ impl<P: Print + Drop> OutSink<P> {
         }
     }
 
-    /// Another sink to the same file through this stream, that takes nothing where this one doesn't.
-    pub fn beside(&self, stream: P) -> Self {
-        OutSink {
-            stream,
-            identity: self.identity,
-            is_shut: self.is_shut,
-            faults: 0,
-        }
-    }
-
-    /// Which file it is, where the system says so.
-    pub fn identity(&self) -> Option<Identity> {
-        self.identity
-    }
-
     /// Where this is the file of a device, each put is a fault from now on: nothing but the device's own bytes get there.
     pub fn keep_from(&mut self, device: Option<Identity>) {
         if self.identity.is_some() && self.identity == device {
@@ -47,14 +34,15 @@ impl<P: Print + Drop> OutSink<P> {
     }
 }
 
-impl<P: Print + Drop> Sink for OutSink<P> {
+impl<P: Print + Copy> Sink for OutSink<P> {
     ghost printed = { λ s. record { shown = None; faults = s.faults } };
 
     fn put(&mut self, bytes: &[u8]) -> Result<(), SinkFault> {
-        if !self.is_shut && self.stream.write_all(bytes).is_ok() {
-            return Ok(());
-        }
-        self.faults = self.faults.saturating_add(1);
-        Err(SinkFault)
+        let done = if self.is_shut {
+            Err(unfit())
+        } else {
+            self.stream.write_all(bytes)
+        };
+        counted(&mut self.faults, done, SinkFault)
     }
 }

@@ -1,5 +1,5 @@
-ghost use Rattle.std.specs.Prelude.{◌≡◌, ◌≤◌, ◌+◌, ◌*◌, ◌++◌, decimal, length};
-ghost use Rattle.vv_edge.specs.Notes.{flaw_text, line_note, note_if, note_text, notes_of};
+ghost use Rattle.std.specs.Prelude.{◌≡◌, ◌<◌, ◌≤◌, ◌+◌, ◌*◌, ◌++◌, decimal, length};
+ghost use Rattle.vv_edge.specs.Notes.{flaw_text, is_mark, line_note, note_if, note_text, notes_of, round_note, with_failed};
 
 use crate::stat::Flaw;
 use vv_base::{Text, decimal};
@@ -25,6 +25,12 @@ pub enum Note {
     Audit(u8),
     /// A drive failed.
     Drive(Stored),
+    /// Another program has the folder.
+    Busy,
+    /// The folder can't be locked.
+    Unlocked,
+    /// The system refuses a descriptor.
+    FewPlaces,
 }
 
 /// Notes on drives, by their numbers.
@@ -44,6 +50,39 @@ pub fn line_note(line: u8, has_failed: bool, audit: Option<u8>) -> Option<Note>
         Some(audit) if audit == line => Some(Note::Audit(line)),
         _ => Some(Note::Line(line)),
     }
+}
+
+/// Notes on drives, and that one more failed.
+pub fn with_failed(notes: DriveNotes, drive: Stored) -> DriveNotes
+    ensures { drive.drive < 16 → result ≡ with_failed notes drive }
+{
+    let mut notes = notes;
+    if drive.drive < 16 {
+        notes[usize::from(drive.drive)] = Some(Note::Drive(drive));
+    }
+    notes
+}
+
+/// Whether `rounds` rounds are at the end of a hundredth of all, or at the end.
+pub fn is_mark(rounds: u32, of: u32) -> bool
+    ensures { result ≡ is_mark rounds of }
+{
+    rounds % (of / 100).max(1) == 0 || rounds == of
+}
+
+/// What is shown after `rounds` rounds, over what was shown before.
+pub fn round_note(rounds: u32, of: u32) -> Text<128>
+    ensures { result ≡ round_note rounds of }
+{
+    let mut text = Text::new();
+    text.append(b"\rvvmm: round ");
+    count(&mut text, rounds, b" of ");
+    count(
+        &mut text,
+        of,
+        if rounds == of { b"\n".as_slice() } else { b"" },
+    );
+    text
 }
 
 /// What a flaw is called after a drive's number.
@@ -100,6 +139,11 @@ fn note_text(note: Note) -> Text<128>
             count(&mut text, drive.stored, b" of its ");
             count(&mut text, drive.blocks, b" blocks were stored");
         }
+        Note::Busy => text.append(b"vvmm: another vvmm runs in this folder"),
+        Note::Unlocked => {
+            text.append(b"vvmm: this folder cannot be locked: run no other vvmm in it");
+        }
+        Note::FewPlaces => text.append(b"vvmm: too few descriptors: raise ulimit -n"),
     }
     text
 }

@@ -1,6 +1,6 @@
+use crate::telling::{is_mark, round_note};
 use std::rt::Clock;
 use std::time::Instant;
-use vv_base::{Text, decimal};
 use vv_io::{Progress, Sink};
 
 /// A run is reported on after this many seconds.
@@ -44,32 +44,11 @@ impl<'a, O: Sink, C: Clock> Ticker<'a, O, C> {
     }
 }
 
-/// Whether `rounds` rounds are at the end of a hundredth of all, or at the end.
-fn is_mark(rounds: u32, of: u32) -> bool {
-    rounds % (of / 100).max(1) == 0 || rounds == of
-}
-
-/// What is shown after `rounds` rounds.
-fn note(rounds: u32, of: u32) -> Text<64> {
-    let mut text = Text::new();
-    let _ = text.push_all(b"\rvvmm: round ");
-    let _ = text.push_all(decimal(u64::from(rounds)).bytes());
-    let _ = text.push_all(b" of ");
-    let _ = text.push_all(decimal(u64::from(of)).bytes());
-    text
-}
-
 impl<O: Sink, C: Clock> Progress for Ticker<'_, O, C> {
     fn made(&mut self, rounds: u32, of: u32) {
-        if self.began.is_none() || !is_mark(rounds, of) {
-            return;
-        }
-        if self.has_told || (rounds < of && self.is_late()) {
+        if is_mark(rounds, of) && (self.has_told || (rounds < of && self.is_late())) {
             self.has_told = true;
-            let _ = self.out.put(note(rounds, of).bytes());
-        }
-        if self.has_told && rounds == of {
-            let _ = self.out.put(b"\n");
+            let _ = self.out.put(round_note(rounds, of).bytes());
         }
     }
 }

@@ -5,7 +5,6 @@ use Rattle.std.proofs.lemmas.List.Elements.{All-cons, All-map}
 use Rattle.vv_base.specs.Names.{is_object_name, is_file_name}
 use Rattle.vv_class.specs.Class.{IsClass, does_flow, is_subset}
 use Rattle.sys_objects.specs.Condition.{IsConfig, IsTerminal, IsVolume, IsPrinter, IsGuest}
-use Rattle.sys_objects.specs.Rules.{mounts_hold}
 use Rattle.sys_objects.proofs.Judged.{IsUnbroken, names_apart, lines_apart, drives_apart, consoles_apart, all_held, all_audited, pages_fit, names_objects}
 use Rattle.vv_gen.specs.Config.{all_guests, generated_class, generated_config, generated_guest, generated_printer, generated_terminal, generated_volume, shared_volume, with_digit}
 use Rattle.vv_gen.proofs.Ranges.{each_below, passed}
@@ -71,7 +70,7 @@ unfolding all_guests
 all_of P f holds = All-map P f all_guests (each_below (λ g. P (f g)) 8 holds)
 
 unbroken : (slice : ℕ) → IsUnbroken (generated_config slice)
-unfolding generated_config all_guests mounts_hold does_flow is_subset
+unfolding generated_config all_guests does_flow is_subset
 unbroken slice = record {
   name = refl;
   line = refl;

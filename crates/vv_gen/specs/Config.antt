@@ -20,10 +20,6 @@ with_digit name digit = name ++ (48 + digit) ∷ []
 abbrev pub generated_class : ℕ → AccessClass
 generated_class g = record { secrecy = g % 4; secrecy_cats = 2 ^ (g % 3); integrity = 0; integrity_cats = 0 }
 
--- `0{};0{}`, which flows into the class of every guest
-abbrev pub bottom_class : AccessClass
-bottom_class = record { secrecy = 0; secrecy_cats = 0; integrity = 0; integrity_cats = 0 }
-
 -- `15{0,1,2};0{}`, into which the class of every guest flows
 abbrev pub top_class : AccessClass
 top_class = record { secrecy = 15; secrecy_cats = 7; integrity = 0; integrity_cats = 0 }
@@ -31,8 +27,9 @@ top_class = record { secrecy = 15; secrecy_cats = 7; integrity = 0; integrity_ca
 abbrev pub generated_terminal : ℕ → Terminal
 generated_terminal g = record { name = with_digit (codes "T") g; line = g; class = generated_class g }
 
+-- its class, `0{};0{}`, flows into that of every guest
 abbrev pub shared_volume : VolumeRow
-shared_volume = record { name = codes "V0"; drive = 0; blocks = 8; class = bottom_class }
+shared_volume = record { name = codes "V0"; drive = 0; blocks = 8; class = record { secrecy = 0; secrecy_cats = 0; integrity = 0; integrity_cats = 0 } }
 
 abbrev pub generated_volume : ℕ → VolumeRow
 generated_volume g = record { name = with_digit (codes "W") g; drive = 1 + g; blocks = 8; class = generated_class g }

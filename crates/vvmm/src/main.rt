@@ -2,17 +2,17 @@
 #![tactic(auto)]
 
 use std::alloc::Global;
-use std::env;
-use std::io::{ErrorKind, Input};
+use std::io::Input;
 use std::process::ExitCode;
+use std::{env, io};
 use vax_cpu::Cpu;
 use vv_base::NoMemory;
 use vv_edge::{
-    FileLine, FileShelf, InputKeys, Opening, Streams, Ticker, Told, are_there, audit_line,
-    conclude, files_named, hold_standard, line_notes, refused_line, text_asked, told_word,
-    wanted_drive, words_status,
+    FileLine, FileShelf, InputKeys, Opening, Streams, Ticker, Told, audit_line, conclude,
+    hold_standard, line_notes, refused_column, refused_line, text_asked, told_word, wanted_drive,
+    words_status,
 };
-use vv_io::{Drive, EmptyDrive, LineList};
+use vv_io::{Drive, LineList};
 pub use vvmm_call::vvmm_run;
 use vvmm_call::{Devices, close, devices_of, serve};
 use vvmm_files::Status;
@@ -21,29 +21,12 @@ use vvmm_files::Status;
 const PAGES: u32 = 32_768;
 
 /// The program's words, after its own name.
-fn given_words(rt: &HostRuntime) -> Result<Vec<String>, ErrorKind> {
+fn given_words(rt: &HostRuntime) -> io::Result<Vec<String>> {
     let mut words = Vec::new(rt.alloc());
-    let args = match env::args(rt) {
-        Ok(args) => args,
-        Err(error) => {
-            return Err(error.kind());
-        }
-    };
-    for word in args.skip(1) {
-        if words.push(word).is_err() {
-            return Err(ErrorKind::OutOfMemory);
-        }
+    for word in env::args(rt)?.skip(1) {
+        words.push(word)?;
     }
     Ok(words)
-}
-
-/// How many lines and drives there may be.
-fn places_of(devices: Devices) -> u8 {
-    match devices {
-        Devices::Nothing => 0,
-        Devices::Lines => 32,
-        Devices::LinesAndDrives => 48,
-    }
 }
 
 /// What people at a terminal are shown beside an answer.
@@ -51,29 +34,25 @@ fn told_of(
     alloc: Global,
     words: &[String],
     status: &Status,
-    shelf: &FileShelf<'_, HostRuntime>,
-    lines: &LineList<FileLine<HostRuntime>>,
+    shelf: &FileShelf<'_>,
+    lines: &LineList<FileLine>,
     opening: &Opening,
 ) -> Told {
-    let word = match told_word(status) {
-        Some(place) => words.get(place),
-        None => None,
-    };
-    let file = match word {
-        Some(word) => shelf.look_into(alloc, word.as_str()),
-        None => None,
-    };
+    let file = told_word(status)
+        .and_then(|place| words.get(place))
+        .and_then(|word| shelf.look_into(alloc, word.as_str()));
     let text = match &file {
         Some(text) => text.as_slice(),
         None => &[],
     };
     Told {
-        flawed: opening.flawed(),
+        flawed: opening.flawed,
         wanted: wanted_drive(alloc, text, status).unwrap_or(None),
         lines: line_notes(lines, audit_line(alloc, text, status).unwrap_or(None)),
-        drives: opening.failed(),
-        unread: shelf.unread(),
+        drives: opening.failed.get(),
+        unread: shelf.unread.copied(),
         line: refused_line(text, status),
+        column: refused_column(text, status),
     }
 }
 
@@ -86,22 +65,21 @@ fn run(
 ) -> Result<Status, NoMemory> {
     let alloc = rt.alloc();
     let devices = devices_of(words);
-    let Some(mut opening) = Opening::begin(rt, words, places_of(devices), streams)? else {
+    let has_lines = devices != Devices::Nothing;
+    let has_drives = devices == Devices::LinesAndDrives;
+    let Some(mut opening) = Opening::begin(rt, words, has_lines, has_drives, streams)? else {
         return Ok(Status::ShelfFault);
     };
     let mut machine = Cpu::new(alloc, PAGES)?;
-    let are_shown_on = devices != Devices::Nothing && are_there(rt, files_named(words));
-    let mut lines = opening.lines(rt, are_shown_on, streams)?;
+    let mut lines = opening.lines(rt, words, streams)?;
     let mut drives: Vec<Box<dyn Drive>> = Vec::new(alloc);
     for number in 0..16u8 {
-        match opening.drive(rt, number, devices == Devices::LinesAndDrives, streams)? {
-            Some(drive) => drives.push(Box::new(alloc, drive)?)?,
-            None => drives.push(Box::new(alloc, EmptyDrive)?)?,
-        }
+        let drive = opening.drive(rt, number, streams)?;
+        drives.push(Box::new(alloc, drive)?)?;
     }
     let mut shelf = FileShelf::new(rt, opening.drives());
     let mut keyboard = InputKeys::new(rt.reader());
-    let mut notes = streams.errors.beside(rt.stderr());
+    let mut notes = streams.errors;
     let mut ticker = Ticker::new(&mut notes, streams.is_terminal, rt);
     let status = serve(
         alloc,
@@ -125,9 +103,7 @@ fn run(
 fn answer(rt: &HostRuntime, streams: &mut Streams, told: &mut Told) -> Status {
     let words = match given_words(rt) {
         Ok(words) => words,
-        Err(kind) => {
-            return words_status(kind);
-        }
+        Err(error) => return words_status(error.kind()),
     };
     if let Some(text) = text_asked(&words) {
         return close(None, text.as_bytes(), &mut streams.out);

@@ -3,3 +3,4 @@ pub mod Lent
 pub mod Separate
 pub mod Tracing
 pub mod Workloads
+pub mod Unasked

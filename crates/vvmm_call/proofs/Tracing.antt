@@ -1,5 +1,6 @@
 -- A run whose steps were shown, as a run of the guest A.
 use Rattle.std.proofs.Common.{ℕ, ◌≡◌, ◌≤◌, List, [], ◌∷◌, ◌++◌, length, map, Bool, true, false, Option, Ok, Err, Vec, Global, arith, ap, subst, sym, ◌∙◌}
+use Rattle.sys_runs.specs.Besides.{MissesArePaid}
 use Rattle.std.proofs.lemmas.List.{length-map}
 use Rattle.vv_io.specs.Lines.{Seen}
 use Rattle.sys_devices.proofs.Puts.{joined, still}
@@ -43,14 +44,14 @@ pub has_one : (a : Asked) (c : Config) → c ≡ solo_config a → HasOne c (sol
 has_one a c config = record { guests = ap (λ (x : Config). x.guests) config; volumes = no_volume a c config }
 
 -- a run of one round takes few steps
-pub few_traced : (x : Config) (image : List ℕ) (ran : Ran) (o : RunOutside) → MakesRun (input_of x image) ran o → steps_in ran.counts ≤ 3200000000000
+pub few_traced : (x : Config) (image : List ℕ) (ran : Ran) (o : RunOutside) → MakesRun MissesArePaid (input_of x image) ran o → steps_in ran.counts ≤ 3200000000000
 few_traced x image ran o made = omega (arith, made.makes.few)
 
 -- the run that was made, and that which stays down, are those of the guest A
-pub made_solo : (a : Asked) (c : Config) (image : List ℕ) (ran : Ran) (o : RunOutside) → c ≡ solo_config a → MakesRun (input_of c image) ran o → Runs (solo_config a) (image ∷ []) [] 1 (Ok ran) o
-made_solo a c image ran o config made = ([], subst (λ (x : Config). MakesRun (input_of x image) ran o) config made)
+pub made_solo : (a : Asked) (c : Config) (image : List ℕ) (ran : Ran) (o : RunOutside) → c ≡ solo_config a → MakesRun MissesArePaid (input_of c image) ran o → Runs MissesArePaid (solo_config a) (image ∷ []) [] 1 (Ok ran) o
+made_solo a c image ran o config made = ([], subst (λ (x : Config). MakesRun MissesArePaid (input_of x image) ran o) config made)
 
-pub down_solo : (a : Asked) (c : Config) (image : List ℕ) (fault : PowerFault) (o : RunOutside) → c ≡ solo_config a → StaysDown c (image ∷ []) fault o → Runs (solo_config a) (image ∷ []) [] 1 (Err fault) o
+pub down_solo : (a : Asked) (c : Config) (image : List ℕ) (fault : PowerFault) (o : RunOutside) → c ≡ solo_config a → StaysDown c (image ∷ []) fault o → Runs MissesArePaid (solo_config a) (image ∷ []) [] 1 (Err fault) o
 down_solo a c image fault o config down = subst (λ (x : Config). StaysDown x (image ∷ []) fault o) config down
 
 -- the image is lent as a slice

@@ -1,5 +1,6 @@
 -- The run of a workload that is drawn from a number.
 use Rattle.std.specs.List.{AllZip}
+use Rattle.sys_runs.specs.Besides.{MissesArePaid}
 use Rattle.std.proofs.Common.{ℕ, suc, ◌≡◌, ◌∙◌, ◌+◌, ◌*◌, ◌≤◌, ◌⊎◌, not, inl, inr, List, [], ◌∷◌, length, map, refl, sym, ap, subst, arith, Bool, true, false, Option, Some, None, option_map, if◌then◌else◌, Result, Ok, Err, IfOk, Vec, Global}
 use Rattle.std.proofs.lemmas.Bool.{eq-eqb, le-ltb}
 use Rattle.std.proofs.lemmas.List.{length-map}
@@ -62,23 +63,23 @@ none_another (row ∷ rows) (blocks ∷ volumes) fit =
     none_passes (is_another_size row blocks) (first_of_another_size rows volumes) (ap not (eq-eqb (length blocks) row.blocks here)) (none_another rows volumes rest)
 
 -- its steps are few
-pub few_steps : (c : Config) (images : List (List ℕ)) (volumes : List (List (List ℕ))) (events : List Event) (rounds : ℕ) (r : Result Ran PowerFault) (o : RunOutside) → rounds ≡ 20 → RunsWith c images volumes events rounds r o → IfOk r (λ ran. steps_in ran.counts ≤ 3200000000000)
+pub few_steps : (c : Config) (images : List (List ℕ)) (volumes : List (List (List ℕ))) (events : List Event) (rounds : ℕ) (r : Result Ran PowerFault) (o : RunOutside) → rounds ≡ 20 → RunsWith MissesArePaid c images volumes events rounds r o → IfOk r (λ ran. steps_in ran.counts ≤ 3200000000000)
 few_steps c images volumes events rounds (Ok ran) o twenty made = omega (arith, twenty, made.few)
 few_steps c images volumes events rounds (Err fault) o twenty not_made = tt
 
 -- it is made, or memory runs out
 module _ (w : Generated) (status : Status) (o : RunOutside) (out out' : Seen) where
   abbrev Follows : Generated → Type 0
-  Follows x = ((status ≡ OutOfMemory) × Untouched o × (out' ≡ out)) ⊎ PlaysLoad x status o out out'
+  Follows x = ((status ≡ OutOfMemory) × Untouched o × (out' ≡ out)) ⊎ PlaysLoad MissesArePaid x status o out out'
 
-  follows : (result : Result Ran PowerFault) → IsAccepted w → RunsWith w.config w.images w.volumes w.events w.rounds result o → AnswersRun w.rounds result status out out' → Follows w
+  follows : (result : Result Ran PowerFault) → IsAccepted w → RunsWith MissesArePaid w.config w.images w.volumes w.events w.rounds result o → AnswersRun w.rounds result status out out' → Follows w
   follows (Ok ran) accepted made closes = inr (record { ran = ran; made = made; closes = closes })
   follows (Err (Image g)) accepted (misfit, rest) answers = cc (misfit, none_misfits w.config.guests w.images accepted.images)
   follows (Err (VolumeSize v)) accepted (fits, another, rest) answers = cc (another, none_another w.config.volumes w.volumes accepted.volumes)
   follows (Err (DriveIn d)) accepted never answers = absurd never
   follows (Err NoMemory) accepted untouched (answer, same) = inl (answer, untouched, same)
 
-  pub as_drawn : (number : ℕ) (result : Result Ran PowerFault) → w ≡ workload_of number → IsAccepted w → RunsWith w.config w.images w.volumes w.events w.rounds result o → AnswersRun w.rounds result status out out' → FollowsLoad number status o out out'
+  pub as_drawn : (number : ℕ) (result : Result Ran PowerFault) → w ≡ workload_of number → IsAccepted w → RunsWith MissesArePaid w.config w.images w.volumes w.events w.rounds result o → AnswersRun w.rounds result status out out' → FollowsLoad MissesArePaid number status o out out'
   as_drawn number result exact accepted runs answers = subst (λ (x : Generated). Follows x) exact (follows result accepted runs answers)
 
 -- a run over what the workload has
@@ -89,14 +90,14 @@ abbrev blocks : Vec (List ℕ) Global → List (List ℕ)
 blocks v = v.items
 
 pub runs_over : (w : Workload) (images : List (Vec ℕ Global)) (volumes : List (Vec (List ℕ) Global)) (events : List Event) (result : Result Ran PowerFault) (o : RunOutside) → images ≡ w.images.items → volumes ≡ w.volumes.items → events ≡ w.events.items
-    → RunsWith w.config (map items images) (map blocks volumes) events w.rounds result o → RunsWith w.config (map items w.images.items) (map blocks w.volumes.items) w.events.items w.rounds result o
+    → RunsWith MissesArePaid w.config (map items images) (map blocks volumes) events w.rounds result o → RunsWith MissesArePaid w.config (map items w.images.items) (map blocks w.volumes.items) w.events.items w.rounds result o
 runs_over w images volumes events result o are_images are_volumes are_events runs =
-    subst (λ (xs : List (Vec ℕ Global)). RunsWith w.config (map items xs) (map blocks w.volumes.items) w.events.items w.rounds result o) are_images
-    (subst (λ (xs : List (Vec (List ℕ) Global)). RunsWith w.config (map items images) (map blocks xs) w.events.items w.rounds result o) are_volumes
-    (subst (λ (xs : List Event). RunsWith w.config (map items images) (map blocks volumes) xs w.rounds result o) are_events runs))
+    subst (λ (xs : List (Vec ℕ Global)). RunsWith MissesArePaid w.config (map items xs) (map blocks w.volumes.items) w.events.items w.rounds result o) are_images
+    (subst (λ (xs : List (Vec (List ℕ) Global)). RunsWith MissesArePaid w.config (map items images) (map blocks xs) w.events.items w.rounds result o) are_volumes
+    (subst (λ (xs : List Event). RunsWith MissesArePaid w.config (map items images) (map blocks volumes) xs w.rounds result o) are_events runs))
 
 -- what the words asked for was done
-pub says_load : (w : Option Wanted) (request : Request) (number : ℕ) (status : Status) (o : CallOutside) (p : Operator) → request ≡ Load number → (let asked : Option Wanted = Some (wanted_by request) in asked ≡ w) → FollowsLoad number status (run_outside o) o.out o.out' → o.shelf' ≡ o.shelf → Untyped p → Says w status o p
+pub says_load : (w : Option Wanted) (request : Request) (number : ℕ) (status : Status) (o : CallOutside) (p : Operator) → request ≡ Load number → (let asked : Option Wanted = Some (wanted_by request) in asked ≡ w) → FollowsLoad MissesArePaid number status (run_outside o) o.out o.out' → o.shelf' ≡ o.shelf → Untyped p → Says MissesArePaid w status o p
 says_load w request number status o p is asked follows shelf untyped =
     let load : (let x : Option Wanted = Some (WantsLoad number) in x ≡ w) = subst (λ (r : Request). let x : Option Wanted = Some (wanted_by r) in x ≡ w) is asked in
-    subst (λ (x : Option Wanted). Says x status o p) load (follows, shelf, untyped)
+    subst (λ (x : Option Wanted). Says MissesArePaid x status o p) load (follows, shelf, untyped)

@@ -1,5 +1,6 @@
 -- Each answer of the top call, and what it says of the outside.
-use Rattle.std.specs.Prelude.{ℕ, ◌≡◌, ◌⊎◌, List, [], ◌∷◌, All, Bool, true, false, ◌++◌, Option, Some, None, Result, Ok, Err, codes, pos}
+use Rattle.std.specs.Prelude.{ℕ, ◌≡◌, ◌≤◌, ◌+◌, ◌⊎◌, List, [], ◌∷◌, All, Bool, true, false, ◌++◌, Option, Some, None, Result, Ok, Err, codes, pos}
+use Rattle.sys_runs.specs.Besides.{Besides}
 use Rattle.vv_io.specs.Blocks.{SeenDrive}
 use Rattle.vv_io.specs.Lines.{Seen}
 use Rattle.vv_io.specs.Shelf.{File}
@@ -25,14 +26,16 @@ use Rattle.sys_live.specs.declared.session.Lived.{Lived}
 use Rattle.sys_live.specs.declared.typing.Typing.{Typing}
 use Rattle.sys_live.specs.declared.typing.Typing.TheVariants.{Broken, Lost}
 use Rattle.sys_objects.specs.declared.records.Config.{Config}
+use Rattle.sys_purge.specs.Events.{purge_events}
 use Rattle.sys_purge.specs.Input.{purged}
 use Rattle.sys_purge.specs.Laws.{IsSeparateFrom, shown_on}
-use Rattle.sys_state.specs.Bytes.{devices_of, drive_blocks, line_bytes}
+use Rattle.sys_purge.specs.Moments.{purged_moment}
+use Rattle.sys_state.specs.Bytes.{devices_of, drive_blocks, line_bytes, shown_from}
 use Rattle.sys_state.specs.Guests.{powered}
 use Rattle.sys_state.specs.Run.{Input, Moment}
 use Rattle.sys_runs.specs.Given.{MakesWith}
 use Rattle.sys_runs.specs.Ran.{RunOutside, Runs, Untouched}
-use Rattle.sys_runs.specs.Saved.{ContinuesRun, SavesRun}
+use Rattle.sys_runs.specs.Saved.{ContinuesRun, ExtendsRun, SavesRun}
 use Rattle.sys_runs.specs.declared.running.Ran.{Ran}
 use Rattle.sys_runs.specs.declared.saving.Saved.{Saved}
 use Rattle.sys_script.specs.declared.event.Event.{Event}
@@ -41,10 +44,10 @@ use Rattle.sys_system.specs.declared.power.PowerFault.{PowerFault}
 use Rattle.sys_system.specs.declared.power.PowerFault.TheVariants as faults
 use Rattle.sys_trace.specs.Trace.{trace_of}
 use Rattle.vv_gen.specs.Workload.{Generated, workload_of}
-use Rattle.vvmm_files.specs.Files.{HasAll, HasAllToLive, HasAllToSave, HasBoth, HasConfig, IsRead, StopsAudit, StopsConfig, StopsFile, StopsLive, StopsResume, StopsRun, StopsSave}
+use Rattle.vvmm_files.specs.Files.{HasAll, HasAllToLive, HasAllToSave, HasBoth, HasConfig, IsRead, StopsAudit, StopsConfig, StopsExtend, StopsFile, StopsLive, StopsResume, StopsRun, StopsSave}
 use Rattle.vvmm_files.specs.Solo.{solo_config, solo_guest}
 use Rattle.vvmm_call.specs.Summary.{check_line, summary}
-use Rattle.vvmm_files.specs.Words.{Asked, AuditAsked, LiveAsked, ResumeAsked, RunAsked, Wanted, WantsSolo, WantsTrace, WantsRun, WantsSave, WantsResume, WantsLive, WantsLoad, WantsCheck, WantsMigration, WantsAudit, WantsFlow, WantsDrawing, WantsBytes, WantsListing, WantsText}
+use Rattle.vvmm_files.specs.Words.{Asked, AuditAsked, LiveAsked, ResumeAsked, RunAsked, Wanted, WantsSolo, WantsTrace, WantsRun, WantsSave, WantsResume, WantsExtend, WantsLive, WantsLoad, WantsCheck, WantsMigration, WantsAudit, WantsFlow, WantsDrawing, WantsBytes, WantsListing, WantsText}
 use Rattle.vvmm_files.specs.declared.status.Status.{Status}
 use Rattle.vvmm_files.specs.declared.status.Status.TheVariants.{Done, Words, Missing, TooLong, ShelfFault, Config as ConfigRefused, Script as ScriptRefused, Image, VolumeSize, DriveIn, Device as DeviceFault, Asm, SnapSize, Snap as SnapRefused, Audit, OutFault, KeyFault, NoMemory}
 use Rattle.vvmm_files.specs.declared.stop.Stop.{Stop}
@@ -125,9 +128,9 @@ AnswersRun rounds (Err fault) status out out' = (status ≡ power_status fault) 
 AnswersRun rounds (Ok ran) status out out' = EndsWithPut ran.failed (summary rounds (tally_of ran.counts)) status out out'
 
 -- A run of this configuration, of these images and events, and its answer.
-pub record PlaysConfiguration (c : Config) (images : List (List ℕ)) (es : List Event) (rounds : ℕ) (status : Status) (o : RunOutside) (out out' : Seen) : Type 0 where
+pub record PlaysConfiguration (Also : Besides) (c : Config) (images : List (List ℕ)) (es : List Event) (rounds : ℕ) (status : Status) (o : RunOutside) (out out' : Seen) : Type 0 where
   pub result : Result Ran PowerFault
-  pub runs : Runs c images es rounds result o
+  pub runs : Runs Also c images es rounds result o
   pub answers : AnswersRun rounds result status out out'
 
 -- Each device's line gets the bytes that it gets when all whose class doesn't flow into its own was never there, and each
@@ -137,15 +140,15 @@ pub record IsSeparate (x : Input) : Type 0 where
   pub drives : All (λ v. drive_blocks (purged x v.class) v.drive ≡ drive_blocks x v.drive) x.config.volumes
 
 -- `solo`: the image was fetched, and the guest A runs; the drives are as before
-pub record PlaysSolo (a : Asked) (status : Status) (o : Outside) : Type 0 where
+pub record PlaysSolo (Also : Besides) (a : Asked) (status : Status) (o : Outside) : Type 0 where
   pub image : List ℕ
   pub read : IsRead o.files a.image image
   pub shelf : o.shelf' ≡ o.shelf
-  pub plays : PlaysConfiguration (solo_config a) (image ∷ []) [] 1 status (run_outside o) o.out o.out'
+  pub plays : PlaysConfiguration Also (solo_config a) (image ∷ []) [] 1 status (run_outside o) o.out o.out'
   pub drives : o.drives' ≡ o.drives
 
-abbrev pub FollowsSolo : Asked → Status → Outside → Type 0
-FollowsSolo a status o = (Stops (StopsFile o.files a.image o.shelf o.shelf') status × Silent o) ⊎ PlaysSolo a status o
+abbrev pub FollowsSolo : Besides → Asked → Status → Outside → Type 0
+FollowsSolo Also a status o = (Stops (StopsFile o.files a.image o.shelf o.shelf') status × Silent o) ⊎ PlaysSolo Also a status o
 
 -- how a run whose steps were to be shown is answered: power doesn't come up, or it is made, and its trace is put, with the summary
 -- after it
@@ -155,30 +158,30 @@ AnswersTrace trace (Ok ran) status out out' = EndsWithPut ran.failed (trace ++ s
 
 -- `trace`: the image was fetched, and the run of `solo` is made; what is put is the trace of the guest A, which steps alone on its
 -- private virtual VAX
-pub record PlaysTrace (a : Asked) (status : Status) (o : Outside) : Type 0 where
+pub record PlaysTrace (Also : Besides) (a : Asked) (status : Status) (o : Outside) : Type 0 where
   pub image : List ℕ
   pub read : IsRead o.files a.image image
   pub shelf : o.shelf' ≡ o.shelf
   pub result : Result Ran PowerFault
-  pub runs : Runs (solo_config a) (image ∷ []) [] 1 result (run_outside o)
+  pub runs : Runs Also (solo_config a) (image ∷ []) [] 1 result (run_outside o)
   pub answers : AnswersTrace (trace_of a.steps (powered (solo_guest a) image)) result status o.out o.out'
   pub drives : o.drives' ≡ o.drives
 
-abbrev pub FollowsTrace : Asked → Status → Outside → Type 0
-FollowsTrace a status o = (Stops (StopsFile o.files a.image o.shelf o.shelf') status × Silent o) ⊎ PlaysTrace a status o
+abbrev pub FollowsTrace : Besides → Asked → Status → Outside → Type 0
+FollowsTrace Also a status o = (Stops (StopsFile o.files a.image o.shelf o.shelf') status × Silent o) ⊎ PlaysTrace Also a status o
 
 -- `run`: all files were fetched, and the configuration runs. Whatever the drives hold, its devices are separate.
-pub record PlaysRun (a : RunAsked) (status : Status) (o : Outside) : Type 0 where
+pub record PlaysRun (Also : Besides) (a : RunAsked) (status : Status) (o : Outside) : Type 0 where
   pub config : Config
   pub events : List Event
   pub images : List (List ℕ)
   pub has : HasAll o.files a config events images
   pub shelf : o.shelf' ≡ o.shelf
-  pub plays : PlaysConfiguration config images events a.rounds status (run_outside o) o.out o.out'
+  pub plays : PlaysConfiguration Also config images events a.rounds status (run_outside o) o.out o.out'
   pub separate : (volumes : List (List (List ℕ))) → IsSeparate (record { config = config; images = images; volumes = volumes; events = events; rounds = a.rounds })
 
-abbrev pub FollowsRun : RunAsked → Status → Outside → Type 0
-FollowsRun a status o = (Stops (StopsRun o.files a o.shelf o.shelf') status × Silent o) ⊎ PlaysRun a status o
+abbrev pub FollowsRun : Besides → RunAsked → Status → Outside → Type 0
+FollowsRun Also a status o = (Stops (StopsRun o.files a o.shelf o.shelf') status × Silent o) ⊎ PlaysRun Also a status o
 
 -- What its rounds show on each device is what they show when all whose class doesn't flow into its own was never there.
 abbrev pub IsShownSeparate : Input → Type 0
@@ -191,7 +194,7 @@ AnswersSave (Ok saved) status = status ≡ status_when_done saved.failed saved.i
 
 -- `save`: all files were fetched, the rounds are made, and the snapshot is put with the fetched text. Whatever the drives hold,
 -- its devices are separate.
-pub record PlaysSave (a : RunAsked) (status : Status) (o : Outside) : Type 0 where
+pub record PlaysSave (Also : Besides) (a : RunAsked) (status : Status) (o : Outside) : Type 0 where
   pub config : Config
   pub text : List ℕ
   pub events : List Event
@@ -199,26 +202,40 @@ pub record PlaysSave (a : RunAsked) (status : Status) (o : Outside) : Type 0 whe
   pub has : HasAllToSave o.files a text config events images
   pub shelf : o.shelf' ≡ o.shelf
   pub result : Result Saved PowerFault
-  pub saves : SavesRun config text images events a.rounds result (run_outside o) o.out o.out'
+  pub saves : SavesRun Also config text images events a.rounds result (run_outside o) o.out o.out'
   pub answers : AnswersSave result status
   pub separate : (volumes : List (List (List ℕ))) → IsShownSeparate (record { config = config; images = images; volumes = volumes; events = events; rounds = a.rounds })
 
-abbrev pub FollowsSave : RunAsked → Status → Outside → Type 0
-FollowsSave a status o = (Stops (StopsSave o.files a o.shelf o.shelf') status × Silent o) ⊎ PlaysSave a status o
+abbrev pub FollowsSave : Besides → RunAsked → Status → Outside → Type 0
+FollowsSave Also a status o = (Stops (StopsSave o.files a o.shelf o.shelf') status × Silent o) ⊎ PlaysSave Also a status o
 
--- `resume`: snapshot and script were fetched, and the run goes on. From the snapshot's moment on its devices are separate.
-pub record PlaysResume (a : ResumeAsked) (status : Status) (o : Outside) : Type 0 where
+-- A command that goes on from a snapshot: that and the script were fetched, and so it ends, from its moment and with its text.
+pub record PlaysFrom (Left : Type 0) (a : ResumeAsked) (o : Outside) (Ends : Moment → List ℕ → List Event → Result Left PowerFault → Type 0) : Type 0 where
   pub moment : Moment
   pub events : List Event
   pub has : HasBoth o.files a moment events
   pub shelf : o.shelf' ≡ o.shelf
-  pub result : Result Ran PowerFault
-  pub goes_on : ContinuesRun moment events a.rounds result (run_outside o)
-  pub answers : AnswersRun a.rounds result status o.out o.out'
-  pub separate : IsSeparateFrom moment events a.rounds
+  pub result : Result Left PowerFault
+  pub ends : Ends moment has.snap.is.text events result
 
-abbrev pub FollowsResume : ResumeAsked → Status → Outside → Type 0
-FollowsResume a status o = (Stops (StopsResume o.files a o.shelf o.shelf') status × Silent o) ⊎ PlaysResume a status o
+-- `resume`: the run goes on, and its summary is put. From the snapshot's moment on its devices are separate.
+abbrev pub PlaysResume : Besides → ResumeAsked → Status → Outside → Type 0
+PlaysResume Also a status o = PlaysFrom Ran a o (λ m text es result. ContinuesRun Also m es a.rounds result (run_outside o) × AnswersRun a.rounds result status o.out o.out' × IsSeparateFrom m es a.rounds)
+
+abbrev pub FollowsResume : Besides → ResumeAsked → Status → Outside → Type 0
+FollowsResume Also a status o = (Stops (StopsResume o.files a o.shelf o.shelf') status × Silent o) ⊎ PlaysResume Also a status o
+
+-- From a moment on, what rounds show on each device is what they show when all whose class doesn't flow into its own was taken out
+-- of the moment and of the events.
+abbrev pub IsShownSeparateFrom : Moment → List Event → ℕ → Type 0
+IsShownSeparateFrom m es n = All (λ d. shown_from (purged_moment m d.class) (purge_events m.config es d.class) n d.line ≡ shown_from m es n d.line) (devices_of m.config)
+
+-- `extend`: the run goes on, to a round that a snapshot can have, and is put as one. From its moment on its devices are separate.
+abbrev pub PlaysExtend : Besides → ResumeAsked → Status → Outside → Type 0
+PlaysExtend Also a status o = PlaysFrom Saved a o (λ m text es result. ExtendsRun Also m text es a.rounds result (run_outside o) o.out o.out' × AnswersSave result status × IsShownSeparateFrom m es a.rounds × (m.made + a.rounds ≤ 1000000))
+
+abbrev pub FollowsExtend : Besides → ResumeAsked → Status → Outside → Type 0
+FollowsExtend Also a status o = (Stops (StopsExtend o.files a o.shelf o.shelf') status × Silent o) ⊎ PlaysExtend Also a status o
 
 -- the answer where all was done: a device that failed goes first, then what is cut, then that the typing broke off, or that
 -- memory ran out for a typed line
@@ -247,7 +264,7 @@ AnswersLive (Ok lived) status shown out' = ClosesLive lived status shown out'
 
 -- `live`: configuration and images were fetched, and the run is made as it is typed. Whatever is typed and the drives hold, its
 -- devices are separate.
-pub record PlaysLive (a : LiveAsked) (status : Status) (o : Outside) (p : Operator) : Type 0 where
+pub record PlaysLive (Also : Besides) (a : LiveAsked) (status : Status) (o : Outside) (p : Operator) : Type 0 where
   pub config : Config
   pub images : List (List ℕ)
   pub has : HasAllToLive o.files a config images
@@ -255,12 +272,12 @@ pub record PlaysLive (a : LiveAsked) (status : Status) (o : Outside) (p : Operat
   pub result : Result Lived PowerFault
   -- what was shown before the summary
   pub shown : Seen
-  pub lives : LivesRun config images a.rounds result (run_outside o) p o.out shown
+  pub lives : LivesRun Also config images a.rounds result (run_outside o) p o.out shown
   pub answers : AnswersLive result status shown o.out'
   pub separate : (x : Input) → x.config ≡ config → IsSeparate x
 
-abbrev pub FollowsLive : LiveAsked → Status → Outside → Operator → Type 0
-FollowsLive a status o p = (Stops (StopsLive o.files a o.shelf o.shelf') status × Silent o × Untyped p) ⊎ PlaysLive a status o p
+abbrev pub FollowsLive : Besides → LiveAsked → Status → Outside → Operator → Type 0
+FollowsLive Also a status o p = (Stops (StopsLive o.files a o.shelf o.shelf') status × Silent o × Untyped p) ⊎ PlaysLive Also a status o p
 
 -- `check`, `migrate`, `flow` and `draw`: the configuration was fetched, and bytes in this relation to it are put
 pub record ShowsConfig (Bytes : Config → List ℕ → Type 0) (name : List ℕ) (status : Status) (o : ShelfAndSink) : Type 0 where
@@ -279,14 +296,14 @@ abbrev pub workload_input : Generated → Input
 workload_input w = record { config = w.config; images = w.images; volumes = w.volumes; events = w.events; rounds = w.rounds }
 
 -- `load`: the run of a workload was made, over its own volumes, and its summary is put
-pub record PlaysLoad (w : Generated) (status : Status) (o : RunOutside) (out out' : Seen) : Type 0 where
+pub record PlaysLoad (Also : Besides) (w : Generated) (status : Status) (o : RunOutside) (out out' : Seen) : Type 0 where
   pub ran : Ran
-  pub made : MakesWith (workload_input w) ran o
+  pub made : MakesWith Also (workload_input w) ran o
   pub closes : EndsWithPut ran.failed (summary w.rounds (tally_of ran.counts)) status out out'
 
 -- it is the workload of the number; or memory ran out, and the lines, the drives, `out` and the machine's counts are as before
-abbrev pub FollowsLoad : ℕ → Status → RunOutside → Seen → Seen → Type 0
-FollowsLoad number status o out out' = ((status ≡ NoMemory) × Untouched o × (out' ≡ out)) ⊎ PlaysLoad (workload_of number) status o out out'
+abbrev pub FollowsLoad : Besides → ℕ → Status → RunOutside → Seen → Seen → Type 0
+FollowsLoad Also number status o out out' = ((status ≡ NoMemory) × Untouched o × (out' ≡ out)) ⊎ PlaysLoad Also (workload_of number) status o out out'
 
 -- the counts of a configuration
 abbrev pub AreCounts : Config → List ℕ → Type 0
@@ -335,20 +352,21 @@ abbrev pub ShowsFile : (List ℕ → Result (List ℕ) AsmFault) → List ℕ �
 ShowsFile made name status o = (answer : Answer) × (status ≡ status_of name answer) × FollowsFile made name answer (shelf_and_sink o) × Apart o
 
 -- what an answer says, given what the words ask for; only `live` takes typed lines
-abbrev pub Says : Option Wanted → Status → Outside → Operator → Type 0
-Says None status o p = (status ≡ Words) × Apart o × (o.out' ≡ o.out) × Untyped p
-Says (Some (WantsSolo a)) status o p = FollowsSolo a status o × Untyped p
-Says (Some (WantsTrace a)) status o p = FollowsTrace a status o × Untyped p
-Says (Some (WantsRun a)) status o p = FollowsRun a status o × Untyped p
-Says (Some (WantsSave a)) status o p = FollowsSave a status o × Untyped p
-Says (Some (WantsResume a)) status o p = FollowsResume a status o × Untyped p
-Says (Some (WantsLive a)) status o p = FollowsLive a status o p
-Says (Some (WantsLoad number)) status o p = FollowsLoad number status (run_outside o) o.out o.out' × (o.shelf' ≡ o.shelf) × Untyped p
-Says (Some (WantsCheck name)) status o p = FollowsConfig AreCounts name status (shelf_and_sink o) × Apart o × Untyped p
-Says (Some (WantsMigration name)) status o p = FollowsConfig IsMigrated name status (shelf_and_sink o) × Apart o × Untyped p
-Says (Some (WantsAudit a)) status o p = FollowsAudit a status (shelf_and_sink o) × Apart o × Untyped p
-Says (Some (WantsFlow name)) status o p = FollowsConfig IsReport name status (shelf_and_sink o) × Apart o × Untyped p
-Says (Some (WantsDrawing name)) status o p = FollowsConfig IsDrawing name status (shelf_and_sink o) × Apart o × Untyped p
-Says (Some (WantsBytes source)) status o p = ShowsFile asm_of source status o × Untyped p
-Says (Some (WantsListing source)) status o p = ShowsFile listing_of source status o × Untyped p
-Says (Some (WantsText image)) status o p = ShowsFile (λ bytes. Ok (dis_of bytes)) image status o × Untyped p
+abbrev pub Says : Besides → Option Wanted → Status → Outside → Operator → Type 0
+Says Also None status o p = (status ≡ Words) × Apart o × (o.out' ≡ o.out) × Untyped p
+Says Also (Some (WantsSolo a)) status o p = FollowsSolo Also a status o × Untyped p
+Says Also (Some (WantsTrace a)) status o p = FollowsTrace Also a status o × Untyped p
+Says Also (Some (WantsRun a)) status o p = FollowsRun Also a status o × Untyped p
+Says Also (Some (WantsSave a)) status o p = FollowsSave Also a status o × Untyped p
+Says Also (Some (WantsResume a)) status o p = FollowsResume Also a status o × Untyped p
+Says Also (Some (WantsExtend a)) status o p = FollowsExtend Also a status o × Untyped p
+Says Also (Some (WantsLive a)) status o p = FollowsLive Also a status o p
+Says Also (Some (WantsLoad number)) status o p = FollowsLoad Also number status (run_outside o) o.out o.out' × (o.shelf' ≡ o.shelf) × Untyped p
+Says Also (Some (WantsCheck name)) status o p = FollowsConfig AreCounts name status (shelf_and_sink o) × Apart o × Untyped p
+Says Also (Some (WantsMigration name)) status o p = FollowsConfig IsMigrated name status (shelf_and_sink o) × Apart o × Untyped p
+Says Also (Some (WantsAudit a)) status o p = FollowsAudit a status (shelf_and_sink o) × Apart o × Untyped p
+Says Also (Some (WantsFlow name)) status o p = FollowsConfig IsReport name status (shelf_and_sink o) × Apart o × Untyped p
+Says Also (Some (WantsDrawing name)) status o p = FollowsConfig IsDrawing name status (shelf_and_sink o) × Apart o × Untyped p
+Says Also (Some (WantsBytes source)) status o p = ShowsFile asm_of source status o × Untyped p
+Says Also (Some (WantsListing source)) status o p = ShowsFile listing_of source status o × Untyped p
+Says Also (Some (WantsText image)) status o p = ShowsFile (λ bytes. Ok (dis_of bytes)) image status o × Untyped p

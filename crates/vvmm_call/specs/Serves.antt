@@ -1,5 +1,6 @@
 -- The call with the sync of its devices after it.
 use Rattle.std.specs.Prelude.{ℕ, ◌≡◌, List, min, Option, Some}
+use Rattle.sys_runs.specs.Besides.{Besides}
 use Rattle.vv_io.specs.Blocks.{SeenDrive}
 use Rattle.vv_io.specs.Lines.{Seen}
 use Rattle.sys_live.specs.Operator.{Operator}
@@ -29,11 +30,11 @@ synced_status (DeviceFault first) (Some device) = DeviceFault (lower first devic
 synced_status answer failed = answer
 
 -- The call left lines and drives so, and answered so; then they were synced.
-pub record ServesCall (words : Option Wanted) (status : Status) (o : Outside) (p : Operator) : Type 0 where
+pub record ServesCall (Also : Besides) (words : Option Wanted) (status : Status) (o : Outside) (p : Operator) : Type 0 where
   pub answer : Status
   pub lines : List Seen
   pub drives : List SeenDrive
-  pub says : Says words answer (record o { lines' = lines; drives' = drives }) p
+  pub says : Says Also words answer (record o { lines' = lines; drives' = drives }) p
   pub line : Option ℕ
   pub drive : Option ℕ
   pub synced_lines : SyncsLines lines o.lines' line

@@ -26,6 +26,7 @@ pub fn devices_of(words: &[String]) -> Devices
         Some(Request::Run(_)) => Devices::LinesAndDrives,
         Some(Request::Save(_)) => Devices::LinesAndDrives,
         Some(Request::Resume(_)) => Devices::LinesAndDrives,
+        Some(Request::Extend(_)) => Devices::LinesAndDrives,
         Some(Request::Live(_)) => Devices::LinesAndDrives,
         _ => Devices::Nothing,
     }

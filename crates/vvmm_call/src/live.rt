@@ -1,4 +1,5 @@
 ghost use Rattle.std.specs.Prelude.{◌≡◌, ◌≤◌, ◌*◌, IfOk, length, map, vec_len};
+ghost use Rattle.sys_runs.specs.Besides.{MissesArePaid};
 ghost use Rattle.vm_stepping.specs.Made.{steps_in};
 ghost use Rattle.vvmm_call.specs.Answer.{AnswersLive, FollowsLive, live_status};
 
@@ -56,7 +57,7 @@ pub fn live<H: Hardware, S: Shelf, O: Sink, K: Keyboard, E: Sink, L: Lines>(
     requires drives { vec_len drives.old ≡ 16 }
     requires some { 1 ≤ order.rounds }
     requires few { order.rounds ≤ 1000000 }
-    ensures { FollowsLive (record { config = order.config; rounds = order.rounds }) result (record { files = S.files shelf.old; shelf = S.faults shelf.old; shelf' = S.faults shelf.new; machine = H.machine machine.old; machine' = H.machine machine.new; lines = L.lines lines.old; lines' = L.lines lines.new; drives = map (λ d. kept d) drives.old.items; drives' = map (λ d. kept d) drives.new.items; out = O.printed out.old; out' = O.printed out.new }) (record { keys = K.keys keyboard.old; keys' = K.keys keyboard.new; errors = E.printed errors.old; errors' = E.printed errors.new }) }
+    ensures { FollowsLive MissesArePaid (record { config = order.config; rounds = order.rounds }) result (record { files = S.files shelf.old; shelf = S.faults shelf.old; shelf' = S.faults shelf.new; machine = H.machine machine.old; machine' = H.machine machine.new; lines = L.lines lines.old; lines' = L.lines lines.new; drives = map (λ d. kept d) drives.old.items; drives' = map (λ d. kept d) drives.new.items; out = O.printed out.old; out' = O.printed out.new }) (record { keys = K.keys keyboard.old; keys' = K.keys keyboard.new; errors = E.printed errors.old; errors' = E.printed errors.new }) }
 {
     let inputs = match fetch_to_live(alloc, shelf, &order) {
         Ok(inputs) => inputs,

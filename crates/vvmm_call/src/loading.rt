@@ -1,4 +1,5 @@
 ghost use Rattle.std.specs.Prelude.{◌≡◌, ◌*◌, List, length};
+ghost use Rattle.sys_runs.specs.Besides.{MissesArePaid};
 ghost use Rattle.vv_io.specs.Blocks.{SeenDrive};
 ghost use Rattle.vvmm_call.specs.Answer.{FollowsLoad};
 
@@ -21,7 +22,7 @@ pub fn load<H: Hardware, O: Sink, P: Progress, L: Lines>(
     progress: &mut P,
 ) -> Status
     requires { length (H.machine machine.old).memory ≡ 512 * 32768 }
-    ensures { (drives : List SeenDrive) → FollowsLoad number result (record { machine = H.machine machine.old; machine' = H.machine machine.new; lines = L.lines lines.old; lines' = L.lines lines.new; drives = drives; drives' = drives }) (O.printed out.old) (O.printed out.new) }
+    ensures { (drives : List SeenDrive) → FollowsLoad MissesArePaid number result (record { machine = H.machine machine.old; machine' = H.machine machine.new; lines = L.lines lines.old; lines' = L.lines lines.new; drives = drives; drives' = drives }) (O.printed out.old) (O.printed out.new) }
 {
     let Ok(work) = workload(alloc, number) else {
         return Status::NoMemory;

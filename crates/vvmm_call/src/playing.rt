@@ -1,4 +1,5 @@
 ghost use Rattle.std.specs.Prelude.{◌≡◌, ◌≤◌, ◌*◌, length, map, vec_len, IfOk};
+ghost use Rattle.sys_runs.specs.Besides.{MissesArePaid};
 ghost use Rattle.vm_stepping.specs.Made.{steps_in};
 ghost use Rattle.sys_objects.specs.Condition.{IsConfig};
 ghost use Rattle.sys_script.specs.Events.{AreEvents};
@@ -61,7 +62,7 @@ pub fn play<H: Hardware, O: Sink, P: Progress, L: Lines>(
     requires few { rounds ≤ 1000000 }
     requires pages { length (H.machine machine.old).memory ≡ 512 * 32768 }
     requires drives { vec_len drives.old ≡ 16 }
-    ensures { PlaysConfiguration inputs.config (map (λ b. b.items) inputs.images.items) inputs.events.items rounds result (record { machine = H.machine machine.old; machine' = H.machine machine.new; lines = L.lines lines.old; lines' = L.lines lines.new; drives = map (λ d. kept d) drives.old.items; drives' = map (λ d. kept d) drives.new.items }) (O.printed out.old) (O.printed out.new) }
+    ensures { PlaysConfiguration MissesArePaid inputs.config (map (λ b. b.items) inputs.images.items) inputs.events.items rounds result (record { machine = H.machine machine.old; machine' = H.machine machine.new; lines = L.lines lines.old; lines' = L.lines lines.new; drives = map (λ d. kept d) drives.old.items; drives' = map (λ d. kept d) drives.new.items }) (O.printed out.old) (O.printed out.new) }
 {
     let ran = run(
         alloc,

@@ -1,4 +1,5 @@
 ghost use Rattle.std.specs.Prelude.{◌≡◌, ◌≤◌, ◌*◌, map, string_bytes, length, true, vec_len};
+ghost use Rattle.sys_runs.specs.Besides.{MissesArePaid, NothingMore};
 ghost use Rattle.sys_flow.specs.Report.{IsReport};
 ghost use Rattle.vv_base.specs.Names.{is_file_name};
 ghost use Rattle.vvmm_call.specs.Answer.{AreCounts, FollowsAudit, FollowsConfig, FollowsRun, FollowsSolo, IsDrawing, IsMigrated, Says, status_of};
@@ -8,7 +9,7 @@ use crate::live::live;
 use crate::loading::load;
 use crate::playing::{close, play};
 use crate::report::check_line;
-use crate::snaps::{resume, save};
+use crate::snaps::{extend, resume, save};
 use crate::stop::stopped_status;
 use crate::traces::trace;
 use std::alloc::Global;
@@ -38,7 +39,7 @@ fn solo<H: Hardware, S: Shelf, O: Sink, L: Lines>(
     requires named { is_file_name order.image ≡ true }
     requires some { 1 ≤ order.steps }
     requires few { order.steps ≤ 100000 }
-    ensures { FollowsSolo (record { image = order.image; steps = order.steps }) result (record { files = S.files shelf.old; shelf = S.faults shelf.old; shelf' = S.faults shelf.new; machine = H.machine machine.old; machine' = H.machine machine.new; lines = L.lines lines.old; lines' = L.lines lines.new; drives = map (λ d. kept d) drives.old.items; drives' = map (λ d. kept d) drives.new.items; out = O.printed out.old; out' = O.printed out.new }) }
+    ensures { FollowsSolo MissesArePaid (record { image = order.image; steps = order.steps }) result (record { files = S.files shelf.old; shelf = S.faults shelf.old; shelf' = S.faults shelf.new; machine = H.machine machine.old; machine' = H.machine machine.new; lines = L.lines lines.old; lines' = L.lines lines.new; drives = map (λ d. kept d) drives.old.items; drives' = map (λ d. kept d) drives.new.items; out = O.printed out.old; out' = O.printed out.new }) }
 {
     match solo_inputs(alloc, order, shelf) {
         Ok(inputs) => play(
@@ -69,7 +70,7 @@ fn run<H: Hardware, S: Shelf, O: Sink, P: Progress, L: Lines>(
     requires pages { length (H.machine machine.old).memory ≡ 512 * 32768 }
     requires drives { vec_len drives.old ≡ 16 }
     requires few { order.rounds ≤ 1000000 }
-    ensures { FollowsRun (record { config = order.config; script = order.script; rounds = order.rounds }) result (record { files = S.files shelf.old; shelf = S.faults shelf.old; shelf' = S.faults shelf.new; machine = H.machine machine.old; machine' = H.machine machine.new; lines = L.lines lines.old; lines' = L.lines lines.new; drives = map (λ d. kept d) drives.old.items; drives' = map (λ d. kept d) drives.new.items; out = O.printed out.old; out' = O.printed out.new }) }
+    ensures { FollowsRun MissesArePaid (record { config = order.config; script = order.script; rounds = order.rounds }) result (record { files = S.files shelf.old; shelf = S.faults shelf.old; shelf' = S.faults shelf.new; machine = H.machine machine.old; machine' = H.machine machine.new; lines = L.lines lines.old; lines' = L.lines lines.new; drives = map (λ d. kept d) drives.old.items; drives' = map (λ d. kept d) drives.new.items; out = O.printed out.old; out' = O.printed out.new }) }
 {
     match fetch_run(alloc, shelf, &order) {
         Ok(inputs) => play(
@@ -167,11 +168,8 @@ fn status_of(name: FileName, answer: Answer) -> Status
     }
 }
 
-/// Does what the words say, over a shelf of files, a machine of 32,768 pages, 32 lines and 16 drives; the summary, or what a
-/// command shows of a file, is put on `out`. The machine's memory and counts may hold anything. Only `live` asks the keyboard for
-/// lines, and reports on `errors` which of them say no event. After each round of any other run `progress` gets the number of
-/// rounds made.
-pub fn vvmm_run<H: Hardware, S: Shelf, O: Sink, K: Keyboard, E: Sink, P: Progress, L: Lines>(
+/// Does what the words say.
+fn perform<H: Hardware, S: Shelf, O: Sink, K: Keyboard, E: Sink, P: Progress, L: Lines>(
     alloc: Global,
     words: &[String],
     shelf: &mut S,
@@ -185,7 +183,7 @@ pub fn vvmm_run<H: Hardware, S: Shelf, O: Sink, K: Keyboard, E: Sink, P: Progres
 ) -> Status
     requires pages { length (H.machine machine.old).memory ≡ 512 * 32768 }
     requires drives { vec_len drives.old ≡ 16 }
-    ensures { Says (wanted (map (λ w. string_bytes w) words.now)) result (record { files = S.files shelf.old; shelf = S.faults shelf.old; shelf' = S.faults shelf.new; machine = H.machine machine.old; machine' = H.machine machine.new; lines = L.lines lines.old; lines' = L.lines lines.new; drives = map (λ d. kept d) drives.old.items; drives' = map (λ d. kept d) drives.new.items; out = O.printed out.old; out' = O.printed out.new }) (record { keys = K.keys keyboard.old; keys' = K.keys keyboard.new; errors = E.printed errors.old; errors' = E.printed errors.new }) }
+    ensures { Says MissesArePaid (wanted (map (λ w. string_bytes w) words.now)) result (record { files = S.files shelf.old; shelf = S.faults shelf.old; shelf' = S.faults shelf.new; machine = H.machine machine.old; machine' = H.machine machine.new; lines = L.lines lines.old; lines' = L.lines lines.new; drives = map (λ d. kept d) drives.old.items; drives' = map (λ d. kept d) drives.new.items; out = O.printed out.old; out' = O.printed out.new }) (record { keys = K.keys keyboard.old; keys' = K.keys keyboard.new; errors = E.printed errors.old; errors' = E.printed errors.new }) }
 {
     match parse(words) {
         None => Status::Words,
@@ -198,6 +196,9 @@ pub fn vvmm_run<H: Hardware, S: Shelf, O: Sink, K: Keyboard, E: Sink, P: Progres
             alloc, order, shelf, machine, lines, drives, out, progress,
         ),
         Some(Request::Resume(order)) => resume(
+            alloc, order, shelf, machine, lines, drives, out, progress,
+        ),
+        Some(Request::Extend(order)) => extend(
             alloc, order, shelf, machine, lines, drives, out, progress,
         ),
         Some(Request::Live(order)) => live(
@@ -222,4 +223,30 @@ pub fn vvmm_run<H: Hardware, S: Shelf, O: Sink, K: Keyboard, E: Sink, P: Progres
             status_of(image, answer)
         }
     }
+}
+
+/// Does what the words say, over a shelf of files, a machine of 32,768 pages, 32 lines and 16 drives; the summary, or what a
+/// command shows of a file, is put on `out`. The machine's memory and counts may hold anything. Only `live` asks the keyboard for
+/// lines, and reports on `errors` which of them say no event. After each round of any other run `progress` gets the number of
+/// rounds made.
+pub fn vvmm_run<H: Hardware, S: Shelf, O: Sink, K: Keyboard, E: Sink, P: Progress, L: Lines>(
+    alloc: Global,
+    words: &[String],
+    shelf: &mut S,
+    machine: &mut H,
+    lines: &mut L,
+    drives: &mut Vec<Box<dyn Drive>>,
+    out: &mut O,
+    keyboard: &mut K,
+    errors: &mut E,
+    progress: &mut P,
+) -> Status
+    requires pages { length (H.machine machine.old).memory ≡ 512 * 32768 }
+    requires drives { vec_len drives.old ≡ 16 }
+    ensures says { Says NothingMore (wanted (map (λ w. string_bytes w) words.now)) result (record { files = S.files shelf.old; shelf = S.faults shelf.old; shelf' = S.faults shelf.new; machine = H.machine machine.old; machine' = H.machine machine.new; lines = L.lines lines.old; lines' = L.lines lines.new; drives = map (λ d. kept d) drives.old.items; drives' = map (λ d. kept d) drives.new.items; out = O.printed out.old; out' = O.printed out.new }) (record { keys = K.keys keyboard.old; keys' = K.keys keyboard.new; errors = E.printed errors.old; errors' = E.printed errors.new }) }
+    ensures pays { Says MissesArePaid (wanted (map (λ w. string_bytes w) words.now)) result (record { files = S.files shelf.old; shelf = S.faults shelf.old; shelf' = S.faults shelf.new; machine = H.machine machine.old; machine' = H.machine machine.new; lines = L.lines lines.old; lines' = L.lines lines.new; drives = map (λ d. kept d) drives.old.items; drives' = map (λ d. kept d) drives.new.items; out = O.printed out.old; out' = O.printed out.new }) (record { keys = K.keys keyboard.old; keys' = K.keys keyboard.new; errors = E.printed errors.old; errors' = E.printed errors.new }) }
+{
+    perform(
+        alloc, words, shelf, machine, lines, drives, out, keyboard, errors, progress,
+    )
 }

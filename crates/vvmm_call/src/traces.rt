@@ -1,4 +1,5 @@
 ghost use Rattle.std.specs.Prelude.{◌≡◌, ◌≤◌, ◌*◌, ◌++◌, List, ℕ, length, map, true, vec_len};
+ghost use Rattle.sys_runs.specs.Besides.{MissesArePaid};
 ghost use Rattle.sys_devices.specs.ShownSince.{ShownSince};
 ghost use Rattle.vm_stepping.specs.Made.{steps_in, tally_of};
 ghost use Rattle.vv_base.specs.Names.{is_file_name};
@@ -45,7 +46,7 @@ pub fn trace<H: Hardware, S: Shelf, O: Sink, L: Lines>(
     requires named { is_file_name order.image ≡ true }
     requires some { 1 ≤ order.steps }
     requires few { order.steps ≤ 100000 }
-    ensures { FollowsTrace (record { image = order.image; steps = order.steps }) result (record { files = S.files shelf.old; shelf = S.faults shelf.old; shelf' = S.faults shelf.new; machine = H.machine machine.old; machine' = H.machine machine.new; lines = L.lines lines.old; lines' = L.lines lines.new; drives = map (λ d. kept d) drives.old.items; drives' = map (λ d. kept d) drives.new.items; out = O.printed out.old; out' = O.printed out.new }) }
+    ensures { FollowsTrace MissesArePaid (record { image = order.image; steps = order.steps }) result (record { files = S.files shelf.old; shelf = S.faults shelf.old; shelf' = S.faults shelf.new; machine = H.machine machine.old; machine' = H.machine machine.new; lines = L.lines lines.old; lines' = L.lines lines.new; drives = map (λ d. kept d) drives.old.items; drives' = map (λ d. kept d) drives.new.items; out = O.printed out.old; out' = O.printed out.new }) }
 {
     let inputs = match solo_inputs(alloc, order, shelf) {
         Ok(inputs) => inputs,

@@ -1,2 +1,3 @@
 mod Sizes
-mod Stopping
+pub mod SnapText
+pub mod Stopping

@@ -1,15 +1,14 @@
 -- Why a command's files give nothing: the fetch of images as one, and of a script and images as parts of a run's.
-use Rattle.std.proofs.Common.{ℕ, zero, suc, ◌≡◌, ◌+◌, inl, inr, List, [], ◌∷◌, ◌++◌, length, map, take, refl, sym, ap, subst, ◌∙◌, arith, Option, Some, Result, Ok, Err, Vec, Global}
+use Rattle.std.proofs.Common.{ℕ, zero, suc, ◌≡◌, ◌+◌, inl, inr, List, [], ◌∷◌, ◌++◌, length, map, take, refl, sym, ap, subst, ◌∙◌, arith, Option, Some, Err, Vec, Global}
 use Rattle.std.proofs.lemmas.List.{map-append}
 use Rattle.std.specs.List.{slice_get}
 use Rattle.vv_io.specs.Shelf.{File}
 use Rattle.sys_objects.specs.declared.records.Config.{Config}
 use Rattle.sys_objects.specs.declared.records.GuestRow.{GuestRow}
 use Rattle.sys_script.specs.declared.event.Event.{Event}
-use Rattle.sys_snap.specs.declared.snap.Snap.{Snap}
-use Rattle.vvmm_files.specs.Fetches.{FetchesSnap, MeansSnap, StopsAtImages, StopsScript}
-use Rattle.vvmm_files.specs.Files.{AreImages, FitsSnap, HasConfig, HasScript, IsImageToSave, IsRead, StopsFile, StopsSave}
-use Rattle.vvmm_files.specs.Words.{RunAsked}
+use Rattle.vvmm_files.specs.Fetches.{MeansSnap, StopsAtImages, StopsScript, StopsSnap}
+use Rattle.vvmm_files.specs.Files.{AreImages, FitsSnap, HasConfig, HasScript, IsImageToSave, IsRead, StopsExtend, StopsFile, StopsResume, StopsSave}
+use Rattle.vvmm_files.specs.Words.{ResumeAsked, RunAsked}
 use Rattle.vvmm_files.specs.declared.stop.Stop.{Stop}
 use Rattle.vvmm_files.specs.declared.stop.Stop.TheVariants.{Missing, TooLong, ShelfFault, Config as ConfigRefused, Script as ScriptRefused, SnapSize, Snap as SnapRefused, NoMemory}
 
@@ -100,14 +99,27 @@ images_stop_save files files' a before before' now c es rows has has_script fits
     at_image files a before now c es has has_script fits stop (subst (λ (rs : List GuestRow). StopsAtImages files rs before now stop) are_rows
     (subst (λ (fs : Option (List File)). StopsAtImages fs rows before now stop) same (subst (λ (b : ℕ). StopsAtImages files' rows b now stop) none why)))
 
--- what the bytes of a file are read as
-pub fetched_snap : (files : Option (List File)) (name bytes : List ℕ) (before now : ℕ) (result : Result Snap Stop) → IsRead files name bytes → now ≡ before → MeansSnap bytes result → FetchesSnap files name before now result
-fetched_snap files name bytes before now (Ok snap) read same is = (record { bytes = bytes; read = read; is = is }, same)
-fetched_snap files name bytes before now (Err (Missing n)) read same never = absurd never
-fetched_snap files name bytes before now (Err (TooLong n)) read same never = absurd never
-fetched_snap files name bytes before now (Err ShelfFault) read same never = absurd never
-fetched_snap files name bytes before now (Err (ConfigRefused f)) read same never = absurd never
-fetched_snap files name bytes before now (Err (ScriptRefused f)) read same never = absurd never
-fetched_snap files name bytes before now (Err SnapSize) read same never = absurd never
-fetched_snap files name bytes before now (Err (SnapRefused f)) read same refused = (record { bytes = bytes; read = read; refused = refused }, same)
-fetched_snap files name bytes before now (Err NoMemory) read same nothing = tt
+-- the bytes of a file aren't read as a snapshot
+stops_so : (files : Option (List File)) (name bytes : List ℕ) (before now : ℕ) (stop : Stop) → IsRead files name bytes → now ≡ before → MeansSnap bytes (Err stop) → StopsSnap files name before now stop
+stops_so files name bytes before now (Missing n) read same never = absurd never
+stops_so files name bytes before now (TooLong n) read same never = absurd never
+stops_so files name bytes before now ShelfFault read same never = absurd never
+stops_so files name bytes before now (ConfigRefused f) read same never = absurd never
+stops_so files name bytes before now (ScriptRefused f) read same never = absurd never
+stops_so files name bytes before now SnapSize read same never = absurd never
+stops_so files name bytes before now (SnapRefused f) read same refused = (record { bytes = bytes; read = read; refused = refused }, same)
+stops_so files name bytes before now NoMemory read same nothing = tt
+
+pub stops_snap : (files : Option (List File)) (name bytes given : List ℕ) (before now : ℕ) (stop : Stop) → IsRead files name bytes → now ≡ before → given ≡ bytes → MeansSnap given (Err stop) → StopsSnap files name before now stop
+stops_snap files name bytes given before now stop read same are means = stops_so files name bytes before now stop read same (subst (λ (bs : List ℕ). MeansSnap bs (Err stop)) are means)
+
+-- where no run goes on, none goes on and is saved
+pub stops_extend : (files : Option (List File)) (a : ResumeAsked) (before now : ℕ) (stop : Stop) → StopsResume files a before now stop → StopsExtend files a before now stop
+stops_extend files a before now (Missing n) why = why
+stops_extend files a before now (TooLong n) why = why
+stops_extend files a before now ShelfFault why = why
+stops_extend files a before now (ConfigRefused f) why = why
+stops_extend files a before now (ScriptRefused f) why = why
+stops_extend files a before now SnapSize never = absurd never
+stops_extend files a before now (SnapRefused f) why = why
+stops_extend files a before now NoMemory why = why

@@ -1,5 +1,5 @@
 -- What the functions that fetch answer.
-use Rattle.std.specs.Prelude.{ℕ, ◌≡◌, List, [], ◌∷◌, map, take, Vec, Option, Some}
+use Rattle.std.specs.Prelude.{ℕ, ◌≡◌, ◌≤◌, ◌+◌, List, [], ◌∷◌, map, take, Vec, Option, Some}
 use Rattle.std.specs.List.{slice_get}
 use Rattle.std.specs.declared.alloc.Global.{Global}
 use Rattle.std.specs.declared.result.Result.{Result}
@@ -7,14 +7,14 @@ use Rattle.std.specs.declared.result.Result.TheVariants.{Ok, Err}
 use Rattle.std.specs.Prelude as results
 use Rattle.sys_config.specs.Config.{config_of}
 use Rattle.sys_snap.specs.Held.{snapshot_moment}
-use Rattle.sys_snap.specs.Reader.{snap_in}
+use Rattle.sys_snap.specs.Misfits.{misfit_in}
 use Rattle.sys_snap.specs.Snap.{IsSnap}
 use Rattle.sys_snap.specs.declared.snap.Snap.{Snap}
 use Rattle.vv_io.specs.Shelf.{File}
 use Rattle.sys_objects.specs.declared.records.Config.{Config}
 use Rattle.sys_objects.specs.declared.records.GuestRow.{GuestRow}
 use Rattle.sys_script.specs.declared.event.Event.{Event}
-use Rattle.vvmm_files.specs.Files.{AreImages, HasAll, HasAllToLive, HasAllToSave, HasBoth, HasConfig, HasScript, HasSnap, IsRead, IsScriptRefused, IsSnapRefused, StopsAudit, StopsConfig, StopsFile, StopsLive, StopsResume, StopsRun, StopsSave}
+use Rattle.vvmm_files.specs.Files.{AreImages, HasAll, HasAllToLive, HasAllToSave, HasBoth, HasConfig, HasScript, HasSnap, IsRead, IsScriptRefused, IsSnapRefused, StopsAudit, StopsConfig, StopsExtend, StopsFile, StopsLive, StopsResume, StopsRun, StopsSave}
 use Rattle.vvmm_files.specs.Solo.{solo_config}
 use Rattle.vvmm_files.specs.Words.{Asked, AuditAsked, LiveAsked, ResumeAsked, RunAsked}
 use Rattle.vvmm_files.specs.declared.fetching.Inputs.{Inputs}
@@ -22,6 +22,7 @@ use Rattle.vvmm_files.specs.declared.fetching.InputsToLive.{InputsToLive}
 use Rattle.vvmm_files.specs.declared.fetching.InputsToResume.{InputsToResume}
 use Rattle.vvmm_files.specs.declared.fetching.InputsToSave.{InputsToSave}
 use Rattle.vvmm_files.specs.declared.fetching.Read.{Read}
+use Rattle.vvmm_files.specs.declared.fetching.ReadSnap.{ReadSnap}
 use Rattle.vvmm_files.specs.declared.fetching.Recorded.{Recorded}
 use Rattle.vvmm_files.specs.declared.stop.Stop.{Stop}
 use Rattle.vvmm_files.specs.declared.stop.Stop.TheVariants.{Script as ScriptRefused, Snap as SnapRefused, NoMemory}
@@ -78,7 +79,7 @@ FetchesSave files a before now (Err stop) = StopsSave files a before now stop
 -- the moment of which bytes are a snapshot; or they are none, or memory ran out
 abbrev pub MeansSnap : List ℕ → Result Snap Stop → Type 0
 MeansSnap bytes (Ok snap) = IsSnap bytes (snapshot_moment snap)
-MeansSnap bytes (Err (SnapRefused f)) = snap_in bytes ≡ results.Err f
+MeansSnap bytes (Err (SnapRefused f)) = misfit_in bytes ≡ Some f.place
 MeansSnap bytes (Err NoMemory) = Unit {0}
 MeansSnap bytes (Err stop) = ⊥
 
@@ -87,14 +88,20 @@ abbrev pub StopsSnap : Option (List File) → List ℕ → ℕ → ℕ → Stop 
 StopsSnap files name before now (SnapRefused f) = IsSnapRefused files name f × (now ≡ before)
 StopsSnap files name before now stop = StopsFile files name before now stop
 
-abbrev pub FetchesSnap : Option (List File) → List ℕ → ℕ → ℕ → Result Snap Stop → Type 0
-FetchesSnap files name before now (Ok snap) = HasSnap files name (snapshot_moment snap) × (now ≡ before)
+-- the snapshot of a file, and the text that it has
+abbrev pub FetchesSnap : Option (List File) → List ℕ → ℕ → ℕ → Result ReadSnap Stop → Type 0
+FetchesSnap files name before now (Ok x) = (has : HasSnap files name (snapshot_moment x.snap)) × (x.text.items ≡ has.is.text) × (now ≡ before)
 FetchesSnap files name before now (Err stop) = StopsSnap files name before now stop
 
--- a run that goes on: snapshot and script were fetched
+-- a run that goes on: snapshot and script were fetched, and the snapshot's text is kept
 abbrev pub FetchesResume : Option (List File) → ResumeAsked → ℕ → ℕ → Result InputsToResume Stop → Type 0
-FetchesResume files a before now (Ok x) = HasBoth files a (snapshot_moment x.snap) x.events.items × (now ≡ before)
+FetchesResume files a before now (Ok x) = (has : HasBoth files a (snapshot_moment x.snap) x.events.items) × (x.text.items ≡ has.snap.is.text) × (now ≡ before)
 FetchesResume files a before now (Err stop) = StopsResume files a before now stop
+
+-- .. and is saved: a snapshot can have as many rounds as there will be
+abbrev pub FetchesExtend : Option (List File) → ResumeAsked → ℕ → ℕ → Result InputsToResume Stop → Type 0
+FetchesExtend files a before now (Ok x) = FetchesResume files a before now (Ok x) × (x.snap.round + a.rounds ≤ 1000000)
+FetchesExtend files a before now (Err stop) = StopsExtend files a before now stop
 
 -- a run that is typed: its configuration and images were fetched
 abbrev pub FetchesLive : Option (List File) → LiveAsked → ℕ → ℕ → Result InputsToLive Stop → Type 0

@@ -12,7 +12,7 @@ use Rattle.sys_state.specs.Run.{Moment}
 use Rattle.sys_script.specs.Script.{script_of}
 use Rattle.sys_script.specs.declared.event.Event.{Event}
 use Rattle.sys_script.specs.declared.event.ScriptFault.{ScriptFault}
-use Rattle.sys_snap.specs.Reader.{snap_in}
+use Rattle.sys_snap.specs.Misfits.{misfit_in}
 use Rattle.sys_snap.specs.Snap.{IsSnap}
 use Rattle.sys_snap.specs.declared.fault.SnapFault.{SnapFault}
 use Rattle.vvmm_files.specs.Words.{AuditAsked, LiveAsked, ResumeAsked, RunAsked}
@@ -118,7 +118,7 @@ pub record HasSnap (files : Option (List File)) (name : List ℕ) (m : Moment) :
 pub record IsSnapRefused (files : Option (List File)) (name : List ℕ) (f : SnapFault) : Type 0 where
   pub bytes : List ℕ
   pub read : IsRead files name bytes
-  pub refused : snap_in bytes ≡ Err f
+  pub refused : misfit_in bytes ≡ Some f.place
 
 -- both files of a resumed run were fetched, and stand for these
 pub record HasBoth (files : Option (List File)) (a : ResumeAsked) (m : Moment) (es : List Event) : Type 0 where
@@ -130,6 +130,13 @@ pub record IsScriptToResume (files : Option (List File)) (a : ResumeAsked) (name
   pub moment : Moment
   pub has : HasSnap files a.snap moment
   pub is : name ≡ a.script
+
+-- snapshot and script are accepted, and no snapshot can have as many rounds as there would be
+pub record HasTooMany (files : Option (List File)) (a : ResumeAsked) : Type 0 where
+  pub moment : Moment
+  pub events : List Event
+  pub has : HasBoth files a moment events
+  pub many : 1000000 < moment.made + a.rounds
 
 -- a file of a resumed run that is fetched, as that before it was
 abbrev pub IsNextToResume : Option (List File) → ResumeAsked → List ℕ → Type 0
@@ -231,6 +238,11 @@ StopsResume files a before now (ScriptRefused f) = (m : Moment) × HasSnap files
 StopsResume files a before now SnapSize = ⊥
 StopsResume files a before now (SnapRefused f) = IsSnapRefused files a.snap f × (now ≡ before)
 StopsResume files a before now NoMemory = Unit {0}
+
+-- .. and is saved
+abbrev pub StopsExtend : Option (List File) → ResumeAsked → ℕ → ℕ → Stop → Type 0
+StopsExtend files a before now SnapSize = HasTooMany files a × (now ≡ before)
+StopsExtend files a before now stop = StopsResume files a before now stop
 
 -- why an audit's files give nothing to check
 abbrev pub StopsAudit : Option (List File) → AuditAsked → ℕ → ℕ → Stop → Type 0

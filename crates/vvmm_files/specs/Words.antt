@@ -5,7 +5,7 @@ use Rattle.std.specs.Option.{option_map}
 use Rattle.vv_base.specs.Digits.{decimal_of}
 use Rattle.vv_base.specs.Names.{is_file_name}
 use Rattle.vvmm_files.specs.declared.words.Request.{Request}
-use Rattle.vvmm_files.specs.declared.words.Request.TheVariants.{Solo, Trace, Run, Save, Resume, Live, Load, Check, Migrate, Audit, Flow, Draw, Asm, List as Listing, Dis}
+use Rattle.vvmm_files.specs.declared.words.Request.TheVariants.{Solo, Trace, Run, Save, Resume, Extend, Live, Load, Check, Migrate, Audit, Flow, Draw, Asm, List as Listing, Dis}
 
 -- `solo IMAGE STEPS`, and `trace` likewise
 pub record Asked : Type 0 where
@@ -18,7 +18,7 @@ pub record RunAsked : Type 0 where
   pub script : List ℕ
   pub rounds : ℕ
 
--- `resume SNAP SCRIPT ROUNDS`
+-- `resume SNAP SCRIPT ROUNDS`, and `extend` likewise
 pub record ResumeAsked : Type 0 where
   pub snap : List ℕ
   pub script : List ℕ
@@ -41,6 +41,7 @@ pub data Wanted : Type 0 where
   WantsRun : RunAsked → Wanted
   WantsSave : RunAsked → Wanted
   WantsResume : ResumeAsked → Wanted
+  WantsExtend : ResumeAsked → Wanted
   WantsLive : LiveAsked → Wanted
   WantsLoad : ℕ → Wanted
   WantsCheck : List ℕ → Wanted
@@ -112,12 +113,13 @@ abbrev pub resume_asked : List ℕ → List ℕ → List ℕ → Option ResumeAs
 resume_asked snap script rounds =
     if is_file_name snap && is_file_name script then option_map (λ n. record { snap = snap; script = script; rounds = n }) (number_from_one rounds 1000000) else None
 
--- `run`, `save` or `resume`, and what each is given
+-- `run`, `save`, `resume` or `extend`, and what each is given
 unfoldable pub three_wanted : List ℕ → List ℕ → List ℕ → List ℕ → Option Wanted
 three_wanted command first script rounds =
     if is_word command (codes "run") then option_map (λ a. WantsRun a) (run_asked first script rounds)
     else if is_word command (codes "save") then option_map (λ a. WantsSave a) (run_asked first script rounds)
-    else if is_word command (codes "resume") then option_map (λ a. WantsResume a) (resume_asked first script rounds) else None
+    else if is_word command (codes "resume") then option_map (λ a. WantsResume a) (resume_asked first script rounds)
+    else if is_word command (codes "extend") then option_map (λ a. WantsExtend a) (resume_asked first script rounds) else None
 
 -- what the words ask for, if they are of a form
 abbrev pub wanted : List (List ℕ) → Option Wanted
@@ -133,6 +135,7 @@ wanted_by (Trace order) = WantsTrace (record { image = order.image; steps = orde
 wanted_by (Run order) = WantsRun (record { config = order.config; script = order.script; rounds = order.rounds })
 wanted_by (Save order) = WantsSave (record { config = order.config; script = order.script; rounds = order.rounds })
 wanted_by (Resume order) = WantsResume (record { snap = order.snap; script = order.script; rounds = order.rounds })
+wanted_by (Extend order) = WantsExtend (record { snap = order.snap; script = order.script; rounds = order.rounds })
 wanted_by (Live order) = WantsLive (record { config = order.config; rounds = order.rounds })
 wanted_by (Load number) = WantsLoad number
 wanted_by (Check file) = WantsCheck file
@@ -151,5 +154,6 @@ IsRequestInRange (Trace order) = (is_file_name order.image ≡ true) × (1 ≤ o
 IsRequestInRange (Run order) = (1 ≤ order.rounds) × (order.rounds ≤ 1000000)
 IsRequestInRange (Save order) = (1 ≤ order.rounds) × (order.rounds ≤ 1000000)
 IsRequestInRange (Resume order) = (1 ≤ order.rounds) × (order.rounds ≤ 1000000)
+IsRequestInRange (Extend order) = (1 ≤ order.rounds) × (order.rounds ≤ 1000000)
 IsRequestInRange (Live order) = (1 ≤ order.rounds) × (order.rounds ≤ 1000000)
 IsRequestInRange request = Unit {0}

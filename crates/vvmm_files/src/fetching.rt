@@ -1,11 +1,12 @@
-ghost use Rattle.std.specs.Prelude.{◌≡◌, ◌≤◌, ◌*◌, MatchBool, Ok, length, map, IfOk};
+ghost use Rattle.std.specs.Prelude.{◌≡◌, ◌≤◌, ◌+◌, ◌*◌, MatchBool, Ok, drop, length, map, IfOk};
 ghost use Rattle.std.specs.List.{sum_by};
 ghost use Rattle.sys_config.specs.Config.{config_of};
 ghost use Rattle.sys_objects.specs.Condition.{IsConfig};
 ghost use Rattle.sys_script.specs.Events.{AreEvents};
 ghost use Rattle.sys_snap.specs.Held.{HoldsMoment, snapshot_moment};
-ghost use Rattle.sys_snap.specs.Snap.{IsMoment};
-ghost use Rattle.vvmm_files.specs.Fetches.{FetchesAudit, FetchesConfig, FetchesFile, FetchesImages, FetchesLive, FetchesResume, FetchesRun, FetchesSave, FetchesScript, FetchesSnap, FetchesText, MeansSnap};
+ghost use Rattle.sys_snap.specs.Snap.{IsMoment, IsSnap};
+ghost use Rattle.sys_state.specs.Run.{Moment};
+ghost use Rattle.vvmm_files.specs.Fetches.{FetchesAudit, FetchesConfig, FetchesExtend, FetchesFile, FetchesImages, FetchesLive, FetchesResume, FetchesRun, FetchesSave, FetchesScript, FetchesSnap, FetchesText, MeansSnap};
 ghost use Rattle.vvmm_files.specs.Files.{FitsSnap, IsTooLarge};
 
 use crate::stop::Stop;
@@ -15,7 +16,7 @@ use sys_config::read_config;
 use sys_objects::{Config, ConfigError, GuestRow, VolumeRow};
 use sys_script::{Event, ScriptError, read_script};
 use sys_snap::{Snap, SnapError, read_snap};
-use vv_base::FileName;
+use vv_base::{FileName, get_u32};
 use vv_io::{Shelf, ShelfFault};
 
 /// The bytes of a file.
@@ -198,19 +199,48 @@ fn snap_of(alloc: Global, bytes: &[u8]) -> Result<Snap, Stop>
     }
 }
 
-/// The snapshot of a file.
-fn fetch_snap<S: Shelf>(alloc: Global, shelf: &mut S, name: &FileName) -> Result<Snap, Stop>
+/// The bytes of a snapshot from its text on.
+fn from_text(bytes: &[u8]) -> &[u8]
+    requires { 12 ≤ length bytes.now }
+    ensures { result.now ≡ drop 12 bytes.now }
+{
+    bytes.split_at(12).1
+}
+
+/// The configuration's text in the bytes of a snapshot: its length stands before it.
+fn text_of(bytes: &[u8]) -> &[u8]
+    requires { (m : Moment) × IsSnap bytes.now m }
+    ensures { (m : Moment) (is : IsSnap bytes.now m) → result.now ≡ is.text }
+{
+    let length = get_u32(bytes, 8) as usize;
+    let rest = from_text(bytes);
+    rest.split_at(length).0
+}
+
+/// A snapshot, and the text that it has.
+#[derive(Drop)]
+pub struct ReadSnap {
+    pub text: Vec<u8>,
+    pub snap: Snap,
+}
+
+/// The snapshot of a file, and its text.
+fn fetch_snap<S: Shelf>(alloc: Global, shelf: &mut S, name: &FileName) -> Result<ReadSnap, Stop>
     ensures fetches { FetchesSnap (S.files shelf.old) name.now (S.faults shelf.old) (S.faults shelf.new) result }
     ensures files { S.files shelf.new ≡ S.files shelf.old }
-    ensures held { IfOk result (λ snap. HoldsMoment snap) }
+    ensures held { IfOk result (λ x. HoldsMoment x.snap) }
 {
     let bytes = fetch_file(alloc, shelf, name)?;
-    snap_of(alloc, bytes.as_slice())
+    let snap = snap_of(alloc, bytes.as_slice())?;
+    let text = Vec::from_slice(alloc, text_of(bytes.as_slice()))?;
+    Ok(ReadSnap { text, snap })
 }
 
 /// What a run that goes on is made of.
 #[derive(Drop)]
 pub struct InputsToResume {
+    /// The text that the snapshot has.
+    pub text: Vec<u8>,
     pub snap: Snap,
     pub events: Vec<Event>,
 }
@@ -224,11 +254,38 @@ pub fn fetch_to_resume<S: Shelf>(
     ensures fetches { FetchesResume (S.files shelf.old) (record { snap = order.now.snap; script = order.now.script; rounds = order.now.rounds }) (S.faults shelf.old) (S.faults shelf.new) result }
     ensures held { IfOk result (λ x. HoldsMoment x.snap) }
     ensures moment { IfOk result (λ x. IsMoment (snapshot_moment x.snap)) }
+    ensures means { IfOk result (λ x. config_of x.text.items ≡ Ok x.snap.config) }
+    ensures short { IfOk result (λ x. length x.text.items ≤ 262144) }
     ensures ordered { IfOk result (λ x. AreEvents x.events.items) }
 {
-    let snap = fetch_snap(alloc, shelf, &order.snap)?;
+    let read = fetch_snap(alloc, shelf, &order.snap)?;
     let events = fetch_script(alloc, shelf, &order.script)?;
-    Ok(InputsToResume { snap, events })
+    Ok(InputsToResume {
+        text: read.text,
+        snap: read.snap,
+        events,
+    })
+}
+
+/// Fetches what `resume` does. That no snapshot can have as many rounds as there would be is answered after that.
+pub fn fetch_to_extend<S: Shelf>(
+    alloc: Global,
+    shelf: &mut S,
+    order: &ResumeOrder,
+) -> Result<InputsToResume, Stop>
+    ensures fetches { FetchesExtend (S.files shelf.old) (record { snap = order.now.snap; script = order.now.script; rounds = order.now.rounds }) (S.faults shelf.old) (S.faults shelf.new) result }
+    ensures held { IfOk result (λ x. HoldsMoment x.snap) }
+    ensures moment { IfOk result (λ x. IsMoment (snapshot_moment x.snap)) }
+    ensures means { IfOk result (λ x. config_of x.text.items ≡ Ok x.snap.config) }
+    ensures short { IfOk result (λ x. length x.text.items ≤ 262144) }
+    ensures ordered { IfOk result (λ x. AreEvents x.events.items) }
+    ensures few { IfOk result (λ x. x.snap.round + order.now.rounds ≤ 1000000) }
+{
+    let inputs = fetch_to_resume(alloc, shelf, order)?;
+    if order.rounds > 1_000_000 - inputs.snap.round {
+        return Err(Stop::SnapSize);
+    }
+    Ok(inputs)
 }
 
 /// What a run that is typed is made of.

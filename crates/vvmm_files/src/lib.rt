@@ -14,7 +14,7 @@ pub use answer::{Answer, fault_text};
 pub use commands::{asm, dis, list};
 pub use fetching::{
     Inputs, InputsToLive, InputsToResume, InputsToSave, Recorded, fetch_audit, fetch_config,
-    fetch_run, fetch_to_live, fetch_to_resume, fetch_to_save,
+    fetch_run, fetch_to_extend, fetch_to_live, fetch_to_resume, fetch_to_save,
 };
 pub use solo::solo_inputs;
 pub use status::{Status, status_code, status_text};

@@ -37,7 +37,7 @@ pub enum Status {
     Device(Device),
     /// A line of the source is refused.
     Asm(AsmFault),
-    /// A snapshot would have too many bytes.
+    /// A snapshot would have too many bytes or rounds.
     SnapSize,
     /// The bytes of a file are no snapshot.
     Snap(SnapFault),

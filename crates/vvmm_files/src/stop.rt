@@ -19,7 +19,7 @@ pub enum Stop {
     Config(ConfigFault),
     /// A line of the script is refused.
     Script(ScriptFault),
-    /// A snapshot would have too many bytes.
+    /// A snapshot would have too many bytes or rounds.
     SnapSize,
     /// The bytes of a file are no snapshot.
     Snap(SnapFault),

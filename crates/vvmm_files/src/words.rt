@@ -20,7 +20,7 @@ pub struct RunOrder {
     pub rounds: u32,
 }
 
-/// What `resume SNAP SCRIPT ROUNDS` asks for.
+/// What `resume SNAP SCRIPT ROUNDS` asks for, and `extend` likewise.
 #[derive(Drop)]
 pub struct ResumeOrder {
     pub snap: FileName,
@@ -55,6 +55,8 @@ pub enum Request {
     Save(RunOrder),
     /// The run that goes on from a snapshot.
     Resume(ResumeOrder),
+    /// The run that goes on from a snapshot, whose last moment is shown as one.
+    Extend(ResumeOrder),
     /// A configuration's run, whose events are typed while it goes on.
     Live(LiveOrder),
     /// The run of the workload drawn from a number.
@@ -159,7 +161,7 @@ fn run_order(config: &[u8], script: &[u8], rounds: &[u8]) -> Option<RunOrder>
     })
 }
 
-/// What `resume` is given, if the words are of the form.
+/// What `resume` and `extend` are given, if the words are of the form.
 fn resume_order(snap: &[u8], script: &[u8], rounds: &[u8]) -> Option<ResumeOrder>
     ensures range { IfSome result (λ o. (1 ≤ o.rounds) × (o.rounds ≤ 1000000)) }
     ensures asked { option_map (λ o. record { snap = o.snap; script = o.script; rounds = o.rounds }) result ≡ resume_asked snap.now script.now rounds.now }
@@ -186,6 +188,8 @@ fn three_request(command: &[u8], first: &[u8], script: &[u8], rounds: &[u8]) -> 
         Some(Request::Save(run_order(first, script, rounds)?))
     } else if command == b"resume".as_slice() {
         Some(Request::Resume(resume_order(first, script, rounds)?))
+    } else if command == b"extend".as_slice() {
+        Some(Request::Extend(resume_order(first, script, rounds)?))
     } else {
         None
     }

@@ -23,7 +23,8 @@ use Rattle.sys_script.specs.declared.event.Event.{Event}
 use Rattle.sys_state.specs.Bytes.{blocks_at, dump_on, is_on_drive}
 use Rattle.sys_state.specs.Dump.{dump_of}
 use Rattle.sys_state.specs.Guests.{powered}
-use Rattle.sys_state.specs.Places.{is_at, place_of}
+use Rattle.sys_state.specs.Places.{place_of}
+use Rattle.sys_objects.specs.Places.{is_at}
 use Rattle.sys_state.specs.Run.{Input, first_state, rounds}
 use Rattle.sys_state.specs.State.{SystemState, Went, bytes_on}
 use Rattle.vm_state.specs.State.{Guest}

@@ -21,7 +21,7 @@ use Rattle.sys_state.specs.Events.{after_verdict, obeyed, reset_by}
 use Rattle.sys_state.specs.Guests.{stopped_by_command}
 use Rattle.sys_state.specs.Places.{changed}
 use Rattle.sys_state.specs.State.{SystemState, server_of}
-use Rattle.sys_server.specs.Apply.{applied, freed}
+use Rattle.sys_server.specs.Apply.{freed}
 use Rattle.sys_server.specs.CommandLine.{asked_in}
 use Rattle.sys_server.specs.Verdict.{judged, judged_line, mount_at, on_dismount, on_row, unless_empty, verdict_of, visible_guest_place}
 use Rattle.sys_server.specs.declared.command.Asked.{Asked}
@@ -80,30 +80,28 @@ module _ (c : Config) (far : Object → Bool) where
   mounts_quiet g unit m xs n = subst (AgreeFrom (far_guest c far) 0 xs) (sym (set_is_changed (at_unit unit m) xs g [])) (agree_unchanged (far_guest c far) (at_unit unit m) xs g n)
 
   -- a command is obeyed alike
-  same_obeyed : (s t : SystemState) → Alike s t → (n : ℕ) (command : Command) → Alike (obeyed c s n command) (obeyed c t n command)
-  unfolding applied
-  same_obeyed s t a n (Connect g) = record {
+  same_obeyed : (s t : SystemState) → Alike s t → (n : ℕ) (k : Terminal) (command : Command) → Alike (obeyed c s n k command).now (obeyed c t n k command).now
+  same_obeyed s t a n k (Connect g) = record {
     connected = agree_set (far_terminal c far) 0 (map (freed g) s.connected) (map (freed g) t.connected) (agree_map (far_terminal c far) 0 (freed g) s.connected t.connected a.connected) n (Some g);
     mounts = a.mounts;
     guests = a.guests;
     volumes = a.volumes;
   }
-  same_obeyed s t a n (Start g) = record { connected = a.connected; mounts = a.mounts; guests = agree_changed (far_guest c far) 0 (reset_by (slice_get c.guests g)) s.guests t.guests a.guests g; volumes = a.volumes }
-  same_obeyed s t a n (Halt g) = record { connected = a.connected; mounts = a.mounts; guests = agree_changed (far_guest c far) 0 stopped_by_command s.guests t.guests a.guests g; volumes = a.volumes }
-  same_obeyed s t a n (MountAt g unit m) = record { connected = a.connected; mounts = mounts_alike g unit (Some m) s.mounts t.mounts a.mounts; guests = a.guests; volumes = a.volumes }
-  same_obeyed s t a n (Dismount g unit) = record { connected = a.connected; mounts = mounts_alike g unit None s.mounts t.mounts a.mounts; guests = a.guests; volumes = a.volumes }
-  same_obeyed s t a n Show = a
+  same_obeyed s t a n k (Start g) = record { connected = a.connected; mounts = a.mounts; guests = agree_changed (far_guest c far) 0 (reset_by (slice_get c.guests g)) s.guests t.guests a.guests g; volumes = a.volumes }
+  same_obeyed s t a n k (Halt g) = record { connected = a.connected; mounts = a.mounts; guests = agree_changed (far_guest c far) 0 stopped_by_command s.guests t.guests a.guests g; volumes = a.volumes }
+  same_obeyed s t a n k (MountAt g unit m) = record { connected = a.connected; mounts = mounts_alike g unit (Some m) s.mounts t.mounts a.mounts; guests = a.guests; volumes = a.volumes }
+  same_obeyed s t a n k (Dismount g unit) = record { connected = a.connected; mounts = mounts_alike g unit None s.mounts t.mounts a.mounts; guests = a.guests; volumes = a.volumes }
+  same_obeyed s t a n k Show = a
 
-  pub same_after : (s t : SystemState) → Alike s t → (n : ℕ) (v : Verdict) → Alike (after_verdict c s n v) (after_verdict c t n v)
-  same_after s t a n (Granted command) = same_obeyed s t a n command
-  same_after s t a n BadCommand = a
-  same_after s t a n NoSuchObject = a
-  same_after s t a n (Denied rule) = a
+  pub same_after : (s t : SystemState) → Alike s t → (n : ℕ) (k : Terminal) (v : Verdict) → Alike (after_verdict c s n k v).now (after_verdict c t n k v).now
+  same_after s t a n k (Granted command) = same_obeyed s t a n k command
+  same_after s t a n k BadCommand = a
+  same_after s t a n k NoSuchObject = a
+  same_after s t a n k (Denied rule) = a
 
   module _ (closed : IsClosed c far) where
     -- a command at a terminal that isn't far
-    quiet_obeyed : (s : SystemState) → Kept c far s → (n : ℕ) (k : Terminal) → slice_get c.terminals n ≡ Some k → far_terminal c far n ≡ false → (command : Command) → CommandFits c k.class command → Alike s (obeyed c s n command)
-    unfolding applied
+    quiet_obeyed : (s : SystemState) → Kept c far s → (n : ℕ) (k : Terminal) → slice_get c.terminals n ≡ Some k → far_terminal c far n ≡ false → (command : Command) → CommandFits c k.class command → Alike s (obeyed c s n k command).now
     quiet_obeyed s f n k at near (Connect g) h =
         let all = alike_refl s in
         let free = freed_near c far closed g (holds_far c far closed n k at g h ∙ near) 0 c.terminals s.connected (stand_all c.terminals) f.held.long f.fits.connected in
@@ -127,7 +125,7 @@ module _ (c : Config) (far : Object → Bool) where
         record { connected = all.connected; mounts = mounts_quiet g unit None s.mounts (holds_far c far closed n k at g h ∙ near); guests = all.guests; volumes = all.volumes }
     quiet_obeyed s f n k at near Show h = alike_refl s
 
-    pub quiet_after : (s : SystemState) → Kept c far s → (n : ℕ) (k : Terminal) → slice_get c.terminals n ≡ Some k → far_terminal c far n ≡ false → (v : Verdict) → VerdictFits c k.class v → Alike s (after_verdict c s n v)
+    pub quiet_after : (s : SystemState) → Kept c far s → (n : ℕ) (k : Terminal) → slice_get c.terminals n ≡ Some k → far_terminal c far n ≡ false → (v : Verdict) → VerdictFits c k.class v → Alike s (after_verdict c s n k v).now
     quiet_after s f n k at near (Granted command) h = quiet_obeyed s f n k at near command h
     quiet_after s f n k at near BadCommand h = alike_refl s
     quiet_after s f n k at near NoSuchObject h = alike_refl s

@@ -10,36 +10,13 @@ use Rattle.sys_objects.specs.declared.records.Terminal.{Terminal}
 use Rattle.sys_purge.proofs.Fits.{ConnectFits, Pairs}
 use Rattle.sys_purge.proofs.Kept.{both}
 use Rattle.sys_purge.proofs.Places.{StandFrom}
-use Rattle.sys_server.specs.Apply.{freed, is_guest}
+use Rattle.sys_server.specs.Apply.{freed}
 use Rattle.sys_state.specs.Consoles.{console_of}
-use Rattle.sys_state.specs.Events.{taken_notice, taken_puts}
-use Rattle.sys_state.specs.Places.{is_at, place_of}
-use Rattle.sys_state.specs.State.{bytes_on}
+use Rattle.sys_objects.specs.Places.{is_at}
 
 -- a line with something near is another than one of far objects
 pub other_line : (own line : ℕ) (is : Bool) → (own ≡ line → is ≡ true) → is ≡ false → (own == line) ≡ false
 other_line own line is far near = ne_eqb own line (λ same. true≢false (sym (far same) ∙ near))
-
--- the terminal at a place that was found
-abbrev pub terminal_at : List Terminal → Option ℕ → Option Terminal
-terminal_at ks None = None
-terminal_at ks (Some n) = slice_get ks n
-
-pub by_terminal : (c : Config) (o : Option ℕ) → taken_puts c o ≡ taken_notice (terminal_at c.terminals o)
-by_terminal c None = refl
-by_terminal c (Some n) = refl
-
-nowhere : (o : Option ℕ) → terminal_at [] o ≡ None
-nowhere None = refl
-nowhere (Some n) = refl
-
-one_after : (k : Terminal) (ks : List Terminal) (o : Option ℕ) → terminal_at (k ∷ ks) (option_map suc o) ≡ terminal_at ks o
-one_after k ks None = refl
-one_after k ks (Some n) = refl
-
-as_at : (g : ℕ) (o : Option ℕ) → is_guest g o ≡ is_at g o
-as_at g None = refl
-as_at g (Some h) = refl
 
 module _ (c : Config) (far : Object → Bool) (closed : IsClosed c far) where
   -- a terminal and its guest are both far, or neither is
@@ -63,31 +40,14 @@ module _ (c : Config) (far : Object → Bool) (closed : IsClosed c far) where
       (λ e. let one = a.0 e in λ j. if is_at g (one j) then Some k.line else rest j)
       (λ n. let left = not_at i k stand.0 n g f o p.0 in let right = not_at i k stand.0 n g f u q.0 in rw (left, right) rest)
 
-  -- the terminal that has a far guest's console is at one place in both
-  pub place_alike : (g : ℕ) → far_guest c far g ≡ true → (i : ℕ) (ks : List Terminal) (os us : List (Option ℕ)) → StandFrom c.terminals i ks → AsLong ks os → Pairs (ConnectFits c) ks os → Pairs (ConnectFits c) ks us → AgreeFrom (far_terminal c far) i os us
-      → place_of (is_guest g) os ≡ place_of (is_guest g) us
-  place_alike g f i [] [] [] stand l p q a = refl
-  place_alike g f i [] [] (u ∷ us) stand l p q a = absurd a
-  place_alike g f i [] (o ∷ os) us stand l p q a = absurd l
-  place_alike g f i (k ∷ ks) [] us stand l p q a = absurd l
-  place_alike g f i (k ∷ ks) (o ∷ os) [] stand l p q a = absurd a
-  place_alike g f i (k ∷ ks) (o ∷ os) (u ∷ us) stand l p q a =
-      let rest = place_alike g f (suc i) ks os us stand.1 l p.1 q.1 a.1 in
-      both (far_terminal c far i)
-      (λ e. let one = a.0 e in λ j. if is_guest g (one j) then Some 0 else option_map suc (rest j))
-      (λ n.
-      let left = as_at g o ∙ not_at i k stand.0 n g f o p.0 in
-      let right = as_at g u ∙ not_at i k stand.0 n g f u q.0 in
-      rw (left, right) (ap (option_map suc) rest))
-
   -- a guest that isn't far is at no far terminal
   pub freed_near : (g : ℕ) → far_guest c far g ≡ false → (i : ℕ) (ks : List Terminal) (os : List (Option ℕ)) → StandFrom c.terminals i ks → AsLong ks os → Pairs (ConnectFits c) ks os → AgreeFrom (far_terminal c far) i os (map (freed g) os)
   freed_near g near i [] [] stand l p = tt
   freed_near g near i [] (o ∷ os) stand l p = absurd l
   freed_near g near i (k ∷ ks) [] stand l p = absurd l
   freed_near g near i (k ∷ ks) (o ∷ os) stand l p = (
-    (λ f. both (is_guest g o)
-        (λ e. absurd (true≢false (sym f ∙ sym (at_far i k stand.0 g o p.0 (sym (as_at g o) ∙ e)) ∙ near)))
+    (λ f. both (is_at g o)
+        (λ e. absurd (true≢false (sym f ∙ sym (at_far i k stand.0 g o p.0 e) ∙ near)))
         (λ e. rw e refl)),
     freed_near g near (suc i) ks os stand.1 l p.1,
   )
@@ -105,14 +65,3 @@ module _ (c : Config) (far : Object → Bool) (closed : IsClosed c far) where
         both (is_at g o)
         (λ e. rw e (terminal_off i k stand.0 (sym (at_far i k stand.0 g o p.0 e) ∙ near)))
         (λ e. rw e rest)
-
-    -- and no far line gets the notice that its console was taken
-    pub told_near : (g : ℕ) → far_guest c far g ≡ false → (i : ℕ) (ks : List Terminal) (os : List (Option ℕ)) → StandFrom c.terminals i ks → Pairs (ConnectFits c) ks os → bytes_on line (taken_notice (terminal_at ks (place_of (is_guest g) os))) ≡ []
-    told_near g near i [] os stand p = ap (λ (o : Option Terminal). bytes_on line (taken_notice o)) (nowhere (place_of (is_guest g) os))
-    told_near g near i (k ∷ ks) [] stand p = refl
-    told_near g near i (k ∷ ks) (o ∷ os) stand p =
-        let rest = told_near g near (suc i) ks os stand.1 p.1 in
-        let later = one_after k ks (place_of (is_guest g) os) in
-        both (is_guest g o)
-        (λ e. let off = terminal_off i k stand.0 (sym (at_far i k stand.0 g o p.0 (sym (as_at g o) ∙ e)) ∙ near) in rw (e, off) refl)
-        (λ e. rw e (ap (λ (x : Option Terminal). bytes_on line (taken_notice x)) later ∙ rest))

@@ -5,7 +5,7 @@ use Rattle.vv_class.specs.Class.{does_flow}
 use Rattle.sys_flow.specs.Reach.{IsTheAudit, Object}
 use Rattle.vvmm_laws.proofs.Agree.{AgreeFrom, agree_changed, agree_get, agree_index, agree_set, agree_unchanged, agree_unset, long_set}
 use Rattle.vvmm_laws.proofs.Commands.{Alike, alike_refl, alike_sym, alike_trans, quiet_after, same_after, verdict_alike}
-use Rattle.vvmm_laws.proofs.Connected.{by_terminal, console_alike, console_near, other_line, place_alike, terminal_off, told_near}
+use Rattle.vvmm_laws.proofs.Connected.{console_alike, console_near, other_line, terminal_off}
 use Rattle.vvmm_laws.proofs.Far.{IsFarLine, audit_near, far_guest, far_terminal, holds_far, shown_far}
 use Rattle.vvmm_laws.proofs.Held.{Kept, kept_happened}
 use Rattle.vvmm_laws.specs.Reach.{IsClosed, is_far_event, is_far_place}
@@ -13,21 +13,20 @@ use Rattle.sys_objects.specs.declared.records.Audit.{Audit}
 use Rattle.sys_objects.specs.declared.records.Config.{Config}
 use Rattle.sys_objects.specs.declared.records.GuestRow.{GuestRow}
 use Rattle.sys_objects.specs.declared.records.Terminal.{Terminal}
-use Rattle.sys_purge.proofs.EventBytes.{off_line, off_said}
+use Rattle.sys_purge.proofs.EventBytes.{off_line, off_said, off_told, told}
 use Rattle.sys_purge.proofs.Fits.{ConnectFits, Holds, Pairs, VerdictFits, pairs_at, pairs_set, verdict_fits}
-use Rattle.sys_purge.proofs.Judged.{position_is}
 use Rattle.sys_purge.proofs.Kept.{both}
 use Rattle.sys_purge.proofs.Places.{StandFrom, stand_all}
 use Rattle.sys_state.proofs.Consoles.{bytes_append, bytes_of_console}
 use Rattle.sys_state.specs.Consoles.{console_of, on_console}
-use Rattle.sys_state.specs.Events.{at_place, at_row, audit_puts, commanded, events, happened, is_named, lined, message_of, puts_after_verdict, puts_before, said_on, show_puts, stop_puts, taken_puts, typed_at_terminal}
+use Rattle.sys_state.specs.Events.{after_verdict, at_place, at_row, audit_puts, commanded, events, happened, is_named, lined, message_of, obeyed, said_on, typed_at_terminal}
 use Rattle.sys_state.specs.Guests.{typed}
 use Rattle.sys_state.specs.Places.{place_of}
 use Rattle.sys_state.specs.State.{Put, SystemState, Went, bytes_on, is_running, server_of}
 use Rattle.sys_script.specs.declared.event.Event.{Event}
 use Rattle.sys_script.specs.declared.event.Typed.{Typed}
 use Rattle.sys_script.specs.declared.event.Typed.TheVariants.{Break, Line}
-use Rattle.sys_server.specs.Apply.{is_guest, taken}
+use Rattle.sys_objects.specs.Places.{is_at}
 use Rattle.sys_server.specs.Replies.{guest_lines, object_text, printer_line, reply_of, running_text, server_text, shown_lines, volume_line, with_line_end}
 use Rattle.sys_server.specs.Verdict.{verdict_of}
 use Rattle.sys_server.specs.declared.command.Command.TheVariants.{Connect, Start, Halt, MountAt, Dismount, Show}
@@ -52,20 +51,20 @@ module _ (c : Config) (far : Object → Bool) (closed : IsClosed c far) where
       (λ d. rw d rest)
 
   module _ (s t : SystemState) (a : Alike c far s t) (p : Kept c far s) (q : Kept c far t) (n : ℕ) (k : Terminal) (at : slice_get c.terminals n ≡ Some k) (f : far_terminal c far n ≡ true) where
-    show_alike : show_puts c s k ≡ show_puts c t k
+    show_alike : (obeyed c s n k Show).before ≡ (obeyed c t n k Show).before
     show_alike =
         let running = lines_alike n k at f 0 c.guests (stand_all c.guests) s.guests t.guests a.guests in
         λ i. map (λ text. record { line = k.line; bytes = text })
         (running i ++ map volume_line (filter (λ v. does_flow v.class k.class) c.volumes) ++ map printer_line (filter (λ r. does_flow r.class k.class) c.printers))
 
-    stop_alike : (g : ℕ) → Holds c k.class g → stop_puts c s g ≡ stop_puts c t g
+    stop_alike : (g : ℕ) → Holds c k.class g → (obeyed c s n k (Halt g)).before ≡ (obeyed c t n k (Halt g)).before
     stop_alike g h =
         let e : far_guest c far g ≡ true = holds_far c far closed n k at g h ∙ f in
         let console = console_alike c far closed g e 0 c.terminals s.connected t.connected (stand_all c.terminals) p.fits.connected q.fits.connected a.connected in
         let guest = agree_get (far_guest c far) s.guests t.guests a.guests g e in
         λ i. on_console (console i) (message_of (guest i))
 
-    before_alike : (v : Verdict) → VerdictFits c k.class v → puts_before c s k v ≡ puts_before c t k v
+    before_alike : (v : Verdict) → VerdictFits c k.class v → (after_verdict c s n k v).before ≡ (after_verdict c t n k v).before
     before_alike (Granted Show) h = show_alike
     before_alike (Granted (Halt g)) h = stop_alike g h
     before_alike (Granted (Start g)) h = refl
@@ -76,17 +75,14 @@ module _ (c : Config) (far : Object → Bool) (closed : IsClosed c far) where
     before_alike NoSuchObject h = refl
     before_alike (Denied rule) h = refl
 
-    after_alike : (v : Verdict) → VerdictFits c k.class v → puts_after_verdict c s n v ≡ puts_after_verdict c t n v
-    unfolding taken
+    after_alike : (v : Verdict) → VerdictFits c k.class v → (after_verdict c s n k v).later ≡ (after_verdict c t n k v).later
     after_alike (Granted (Connect g)) h =
         let os : List (Option ℕ) = slice_set s.connected n None in
         let us : List (Option ℕ) = slice_set t.connected n None in
         let left : Pairs (ConnectFits c) c.terminals os = pairs_set (ConnectFits c) c.terminals s.connected n k None p.fits.connected at tt in
         let right : Pairs (ConnectFits c) c.terminals us = pairs_set (ConnectFits c) c.terminals t.connected n k None q.fits.connected at tt in
         let e : far_guest c far g ≡ true = holds_far c far closed n k at g h ∙ f in
-        let place : place_of (is_guest g) os ≡ place_of (is_guest g) us =
-        place_alike c far closed g e 0 c.terminals os us (stand_all c.terminals) (long_set c.terminals s.connected p.held.long n None) left right (agree_set (far_terminal c far) 0 s.connected t.connected a.connected n None) in
-        ap (taken_puts c) (position_is (is_guest g) os ∙ place ∙ sym (position_is (is_guest g) us))
+        ap told (console_alike c far closed g e 0 c.terminals os us (stand_all c.terminals) left right (agree_set (far_terminal c far) 0 s.connected t.connected a.connected n None))
     after_alike (Granted (Start g)) h = refl
     after_alike (Granted (Halt g)) h = refl
     after_alike (Granted (MountAt g unit m)) h = refl
@@ -122,7 +118,7 @@ module _ (c : Config) (far : Object → Bool) (closed : IsClosed c far) where
       same_lined n k at f text None =
           let v : Verdict = verdict_of c (server_of s) n text in
           let here : GoesOn (commanded c round s n k text v) (commanded c round t n k text v) = record {
-            now = same_after c far s t a n v;
+            now = same_after c far s t a n k v;
             bytes = ap (bytes_on line) (command_alike s t a p q n k at f round text v (verdict_fits c s n k text at));
           } in
           subst (λ (w : Verdict). GoesOn (commanded c round s n k text v) (commanded c round t n k text w)) (verdict_alike c far closed s t a n k at f text) here
@@ -153,13 +149,13 @@ module _ (c : Config) (far : Object → Bool) (closed : IsClosed c far) where
         off : (k.line == line) ≡ false
         off = terminal_off c far closed line silent n k at near
 
-        near_stop : (g : ℕ) → Holds c k.class g → bytes_on line (stop_puts c s g) ≡ []
+        near_stop : (g : ℕ) → Holds c k.class g → bytes_on line (obeyed c s n k (Halt g)).before ≡ []
         near_stop g h =
             let message : List ℕ = message_of (slice_get s.guests g) in
             bytes_of_console line (console_of c.terminals s.connected g) message
             ∙ ap (λ (b : Bool). if b then message else []) (console_near c far closed line silent g (holds_far c far closed n k at g h ∙ near) 0 c.terminals s.connected (stand_all c.terminals) p.fits.connected)
 
-        near_before : (v : Verdict) → VerdictFits c k.class v → bytes_on line (puts_before c s k v) ≡ []
+        near_before : (v : Verdict) → VerdictFits c k.class v → bytes_on line (after_verdict c s n k v).before ≡ []
         near_before (Granted Show) h = off_line k.line line off (shown_lines c (server_of s) k.class)
         near_before (Granted (Halt g)) h = near_stop g h
         near_before (Granted (Start g)) h = refl
@@ -170,14 +166,11 @@ module _ (c : Config) (far : Object → Bool) (closed : IsClosed c far) where
         near_before NoSuchObject h = refl
         near_before (Denied rule) h = refl
 
-        near_after : (v : Verdict) → VerdictFits c k.class v → bytes_on line (puts_after_verdict c s n v) ≡ []
-        unfolding taken
+        near_after : (v : Verdict) → VerdictFits c k.class v → bytes_on line (after_verdict c s n k v).later ≡ []
         near_after (Granted (Connect g)) h =
             let os : List (Option ℕ) = slice_set s.connected n None in
             let fits : Pairs (ConnectFits c) c.terminals os = pairs_set (ConnectFits c) c.terminals s.connected n k None p.fits.connected at tt in
-            ap (λ o. bytes_on line (taken_puts c o)) (position_is (is_guest g) os)
-            ∙ ap (bytes_on line) (by_terminal c (place_of (is_guest g) os))
-            ∙ told_near c far closed line silent g (holds_far c far closed n k at g h ∙ near) 0 c.terminals os (stand_all c.terminals) fits
+            off_told line (console_of c.terminals os g) (console_near c far closed line silent g (holds_far c far closed n k at g h ∙ near) 0 c.terminals os (stand_all c.terminals) fits)
         near_after (Granted (Start g)) h = refl
         near_after (Granted (Halt g)) h = refl
         near_after (Granted (MountAt g unit m)) h = refl
@@ -194,11 +187,11 @@ module _ (c : Config) (far : Object → Bool) (closed : IsClosed c far) where
         near_command : (text : List ℕ) (v : Verdict) → VerdictFits c k.class v → bytes_on line (commanded c round s n k text v).puts ≡ []
         near_command text v h =
             let before = near_before v h in
-            let later = off_said k.line line off (reply_of v) (puts_after_verdict c s n v) ∙ near_after v h in
+            let later = off_said k.line line off (reply_of v) ((after_verdict c s n k v).later) ∙ near_after v h in
             let audit = near_audit c.audit refl text v in
-            let replies : List Put = said_on k.line (reply_of v) ∷ puts_after_verdict c s n v in
-            bytes_append line (puts_before c s k v ++ replies) (audit_puts c.audit round k text v)
-            ∙ ap (λ (bytes : List ℕ). bytes ++ bytes_on line (audit_puts c.audit round k text v)) (bytes_append line (puts_before c s k v) replies)
+            let replies : List Put = said_on k.line (reply_of v) ∷ (after_verdict c s n k v).later in
+            bytes_append line ((after_verdict c s n k v).before ++ replies) (audit_puts c.audit round k text v)
+            ∙ ap (λ (bytes : List ℕ). bytes ++ bytes_on line (audit_puts c.audit round k text v)) (bytes_append line ((after_verdict c s n k v).before) replies)
             ∙ (λ i. (before i ++ later i) ++ audit i)
 
         quiet_lined : (text : List ℕ) (o : Option ℕ) → ConnectFits c k o → IsQuiet s (lined c round s n k text o)

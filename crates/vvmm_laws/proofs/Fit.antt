@@ -17,7 +17,8 @@ use Rattle.sys_objects.specs.declared.records.GuestRow.{GuestRow}
 use Rattle.sys_objects.specs.declared.records.PrinterRow.{PrinterRow}
 use Rattle.sys_objects.specs.declared.records.Terminal.{Terminal}
 use Rattle.sys_state.specs.Events.{happened, is_named}
-use Rattle.sys_state.specs.Places.{is_at, place_of}
+use Rattle.sys_state.specs.Places.{place_of}
+use Rattle.sys_objects.specs.Places.{is_at}
 use Rattle.sys_state.specs.Run.{events_of, first_state, round, rounds, run}
 use Rattle.sys_state.specs.State.{SystemState}
 use Rattle.sys_script.specs.Events.{IsEvent}

@@ -27,7 +27,7 @@ use Rattle.sys_state.specs.State.{SystemState, server_of}
 use Rattle.sys_script.specs.declared.event.Event.{Event}
 use Rattle.sys_script.specs.declared.event.Typed.{Typed}
 use Rattle.sys_script.specs.declared.event.Typed.TheVariants.{Break, Line}
-use Rattle.sys_server.specs.Apply.{applied, freed}
+use Rattle.sys_server.specs.Apply.{freed}
 use Rattle.sys_server.specs.Verdict.{verdict_of}
 use Rattle.sys_server.specs.declared.command.Command.{Command}
 use Rattle.sys_server.specs.declared.command.Command.TheVariants.{Connect, Start, Halt, MountAt, Dismount, Show}
@@ -78,8 +78,7 @@ module _ (c : Config) (far : Object → Bool) where
       subst (Pairs (MountsLead c far) c.guests) (sym (set_is_changed (λ (ms : List (Option Mount)). slice_set ms unit m) s.mounts g []))
       (pairs_changed (MountsLead c far) (λ (ms : List (Option Mount)). slice_set ms unit m) c.guests s.mounts g row f.leads at (λ ms each. each_set (MountLeads c far row) ms unit m lead each))
 
-  held_obeyed : (s : SystemState) → Held s → (n : ℕ) (k : Terminal) → slice_get c.terminals n ≡ Some k → (command : Command) → CommandFits c k.class command → Held (obeyed c s n command)
-  unfolding applied
+  held_obeyed : (s : SystemState) → Held s → (n : ℕ) (k : Terminal) → slice_get c.terminals n ≡ Some k → (command : Command) → CommandFits c k.class command → Held (obeyed c s n k command).now
   held_obeyed s f n k at (Connect g) h = record { long = long_set c.terminals (map (freed g) s.connected) (long_map (freed g) c.terminals s.connected f.long) n (Some g); leads = f.leads }
   held_obeyed s f n k at (Start g) h = record { long = f.long; leads = f.leads }
   held_obeyed s f n k at (Halt g) h = record { long = f.long; leads = f.leads }
@@ -87,7 +86,7 @@ module _ (c : Config) (far : Object → Bool) where
   held_obeyed s f n k at (Dismount g unit) h = record { long = f.long; leads = mount_held s f g unit h.0 None h.1 tt }
   held_obeyed s f n k at Show h = f
 
-  held_verdict : (s : SystemState) → Held s → (n : ℕ) (k : Terminal) → slice_get c.terminals n ≡ Some k → (v : Verdict) → VerdictFits c k.class v → Held (after_verdict c s n v)
+  held_verdict : (s : SystemState) → Held s → (n : ℕ) (k : Terminal) → slice_get c.terminals n ≡ Some k → (v : Verdict) → VerdictFits c k.class v → Held (after_verdict c s n k v).now
   held_verdict s f n k at (Granted command) h = held_obeyed s f n k at command h
   held_verdict s f n k at BadCommand h = f
   held_verdict s f n k at NoSuchObject h = f

@@ -1,5 +1,6 @@
 -- Which answer must be given to `load`.
 use Rattle.std.proofs.Common.{ℕ, ◌≡◌, ◌<◌, inl, inr, List, Bool, true, false, Option, Some, None, refl, subst, sym, ap, ◌∙◌, arith}
+use Rattle.sys_runs.specs.Besides.{MissesArePaid}
 use Rattle.vv_io.specs.Lines.{Seen}
 use Rattle.sys_system.specs.Devices.{device_of}
 use Rattle.sys_devices.specs.declared.device.Device.{Device}
@@ -16,7 +17,7 @@ can_come (Some line) cut = tt
 can_come None true = tt
 can_come None false = tt
 
-module _ (number : ℕ) (status : Status) (o : Outside) (p : PlaysLoad (workload_of number) status (run_outside o) o.out o.out') where
+module _ (number : ℕ) (status : Status) (o : Outside) (p : PlaysLoad MissesArePaid (workload_of number) status (run_outside o) o.out o.out') where
   -- the answer, by the lines that failed
   answer : status ≡ status_when_done (device_of (first_marked p.made.marks) None) p.closes.cut
   answer = p.closes.is ∙ ap (λ (f : Option Device). status_when_done f p.closes.cut) p.made.failed

@@ -1,5 +1,5 @@
 -- What is shown on other lines than the audit's.
-use Rattle.std.proofs.Common.{◌≡◌, ℕ, zero, suc, ◌==◌, List, [], ◌∷◌, ◌++◌, map, false, refl, Option, Some, None, slice_get}
+use Rattle.std.proofs.Common.{◌≡◌, ℕ, zero, suc, ◌==◌, List, [], ◌∷◌, ◌++◌, map, false, refl, Option, Some, None, slice_get, slice_set}
 use Rattle.std.proofs.lemmas.Bool.{cond_both}
 use Rattle.sys_objects.specs.declared.records.Config.{Config}
 use Rattle.sys_objects.specs.declared.records.GuestRow.{GuestRow}
@@ -8,13 +8,13 @@ use Rattle.sys_objects.specs.declared.records.PrinterRow.{PrinterRow}
 use Rattle.sys_objects.specs.declared.records.Terminal.{Terminal}
 use Rattle.sys_state.specs.Bytes.{dump_on}
 use Rattle.sys_state.specs.Consoles.{console_of, on_console}
-use Rattle.sys_state.specs.Events.{message_of, puts_after_verdict, puts_before, stop_puts, taken_notice, taken_puts}
+use Rattle.sys_purge.proofs.EventBytes.{told}
+use Rattle.sys_state.specs.Events.{after_verdict, message_of}
 use Rattle.sys_state.specs.Guests.{alone, with_no_queue}
-use Rattle.sys_state.specs.Places.{is_at}
-use Rattle.sys_state.specs.State.{Put, SystemState, bytes_on, server_of}
+use Rattle.sys_objects.specs.Places.{is_at}
+use Rattle.sys_state.specs.State.{Put, SystemState, bytes_on}
 use Rattle.sys_state.specs.Transfers.{Move, Packet, Prints, Reads, Refused, Writes, all_served, moved, move_of, packet_at, printed, printer_of, served, served_one}
 use Rattle.sys_state.specs.Turns.{turn_puts}
-use Rattle.sys_server.specs.Apply.{taken}
 use Rattle.sys_server.specs.declared.command.Command.TheVariants.{Connect, Start, Halt, MountAt, Dismount, Show}
 use Rattle.sys_server.specs.declared.command.Verdict.{Verdict}
 use Rattle.sys_server.specs.declared.command.Verdict.TheVariants.{Granted, BadCommand, NoSuchObject, Denied}
@@ -65,10 +65,9 @@ module _ (line : ℕ) where
   lines_elsewhere l h [] = tt
   lines_elsewhere l h (text ∷ texts) = (h, lines_elsewhere l h texts)
 
-  told_far : (ts : List Terminal) (k : ℕ) → Each (λ t. (t.line == line) ≡ false) ts → Elsewhere line (taken_notice (slice_get ts k))
-  told_far [] k h = tt
-  told_far (t ∷ ts) zero h = (h.0, tt)
-  told_far (t ∷ ts) (suc k) h = told_far ts k h.1
+  told_far : (o : Option ℕ) → FarLine o → Elsewhere line (told o)
+  told_far None h = tt
+  told_far (Some l) h = (h, tt)
 
   printer_far : (ps : List PrinterRow) (k : ℕ) (job : List ℕ) → Each (λ p. (p.line == line) ≡ false) ps → Elsewhere line (printed (slice_get ps k) job)
   printer_far [] k job h = tt
@@ -76,29 +75,29 @@ module _ (line : ℕ) where
   printer_far (p ∷ ps) (suc k) job h = printer_far ps k job h.1
 
   module _ (c : Config) (apart : IsApart c line) where
-    stop_elsewhere : (s : SystemState) (g : ℕ) → Elsewhere line (stop_puts c s g)
-    stop_elsewhere s g = on_far (console_of c.terminals s.connected g) (message_of (slice_get s.guests g)) (console_far c.terminals s.connected g apart.terminals)
+    pub before_elsewhere : (s : SystemState) (n : ℕ) (t : Terminal) (v : Verdict) → (t.line == line) ≡ false → Elsewhere line (after_verdict c s n t v).before
+    before_elsewhere s n t (Granted Show) far = lines_elsewhere t.line far _
+    before_elsewhere s n t (Granted (Halt g)) far = on_far (console_of c.terminals s.connected g) (message_of (slice_get s.guests g)) (console_far c.terminals s.connected g apart.terminals)
+    before_elsewhere s n t (Granted (Start g)) far = tt
+    before_elsewhere s n t (Granted (Connect g)) far = tt
+    before_elsewhere s n t (Granted (MountAt g unit mount)) far = tt
+    before_elsewhere s n t (Granted (Dismount g unit)) far = tt
+    before_elsewhere s n t BadCommand far = tt
+    before_elsewhere s n t NoSuchObject far = tt
+    before_elsewhere s n t (Denied rule) far = tt
 
-    pub before_elsewhere : (s : SystemState) (t : Terminal) (v : Verdict) → (t.line == line) ≡ false → Elsewhere line (puts_before c s t v)
-    before_elsewhere s t (Granted Show) far = lines_elsewhere t.line far _
-    before_elsewhere s t (Granted (Halt g)) far = stop_elsewhere s g
-    before_elsewhere s t (Granted (Start g)) far = tt
-    before_elsewhere s t (Granted (Connect g)) far = tt
-    before_elsewhere s t (Granted (MountAt g unit mount)) far = tt
-    before_elsewhere s t (Granted (Dismount g unit)) far = tt
-    before_elsewhere s t BadCommand far = tt
-    before_elsewhere s t NoSuchObject far = tt
-    before_elsewhere s t (Denied rule) far = tt
-
-    taken_elsewhere : (o : Option ℕ) → Elsewhere line (taken_puts c o)
-    taken_elsewhere None = tt
-    taken_elsewhere (Some k) = told_far c.terminals k apart.terminals
-
-    pub after_elsewhere : (s : SystemState) (n : ℕ) (v : Verdict) → Elsewhere line (puts_after_verdict c s n v)
-    after_elsewhere s n (Granted command) = taken_elsewhere (taken (server_of s) n command)
-    after_elsewhere s n BadCommand = tt
-    after_elsewhere s n NoSuchObject = tt
-    after_elsewhere s n (Denied rule) = tt
+    pub after_elsewhere : (s : SystemState) (n : ℕ) (t : Terminal) (v : Verdict) → Elsewhere line (after_verdict c s n t v).later
+    after_elsewhere s n t (Granted (Connect g)) =
+        let os : List (Option ℕ) = slice_set s.connected n None in
+        told_far (console_of c.terminals os g) (console_far c.terminals os g apart.terminals)
+    after_elsewhere s n t (Granted (Start g)) = tt
+    after_elsewhere s n t (Granted (Halt g)) = tt
+    after_elsewhere s n t (Granted (MountAt g unit mount)) = tt
+    after_elsewhere s n t (Granted (Dismount g unit)) = tt
+    after_elsewhere s n t (Granted Show) = tt
+    after_elsewhere s n t BadCommand = tt
+    after_elsewhere s n t NoSuchObject = tt
+    after_elsewhere s n t (Denied rule) = tt
 
     pub turns_elsewhere : (os : List (Option ℕ)) (i : ℕ) (rows : List GuestRow) (gs : List Guest) → Elsewhere line (turn_puts c.terminals os i rows gs)
     turns_elsewhere os i [] gs = tt

@@ -1,5 +1,6 @@
 -- Which answer must be given to `save`.
-use Rattle.std.proofs.Common.{ℕ, ◌≡◌, ◌<◌, inl, inr, List, Option, Some, None, All, Result, Ok, Err, refl, subst, sym, ap, ◌∙◌, arith}
+use Rattle.std.proofs.Common.{ℕ, ◌≡◌, ◌<◌, inl, inr, List, Option, Some, None, All, Result, Ok, Err, subst, sym, ap, arith}
+use Rattle.sys_runs.specs.Besides.{MissesArePaid}
 use Rattle.vv_io.specs.Causes.{Rose}
 use Rattle.vv_io.specs.Lines.{Seen}
 use Rattle.vv_io.specs.Shelf.{File}
@@ -11,10 +12,8 @@ use Rattle.sys_objects.specs.declared.records.Config.{Config}
 use Rattle.sys_runs.specs.Saved.{SavesRun}
 use Rattle.sys_runs.specs.declared.saving.Saved.{Saved}
 use Rattle.sys_script.specs.declared.event.Event.{Event}
-use Rattle.sys_system.specs.Devices.{device_of}
-use Rattle.sys_devices.specs.declared.device.Device.{Device}
 use Rattle.sys_system.specs.declared.power.PowerFault.{PowerFault}
-use Rattle.vvmm_call.specs.Answer.{AnswersSave, Outside, PlaysSave, run_outside, status_when_done, stopped_status}
+use Rattle.vvmm_call.specs.Answer.{AnswersSave, Outside, PlaysSave, run_outside, stopped_status}
 use Rattle.vvmm_files.specs.Files.{FitsSnap, HasAll, HasAllToSave, HasConfig, HasNoRoom, IsNextFile, IsNextToSave, IsTooLarge, StopsRun, StopsSave}
 use Rattle.vvmm_files.specs.Words.{RunAsked}
 use Rattle.vvmm_files.specs.declared.status.Status.{Status}
@@ -22,9 +21,8 @@ use Rattle.vvmm_files.specs.declared.status.Status.TheVariants as answers
 use Rattle.vvmm_files.specs.declared.stop.Stop.{Stop}
 use Rattle.vvmm_files.specs.declared.stop.Stop.TheVariants.{Missing, TooLong, ShelfFault, Config as ConfigRefused, Script as ScriptRefused, SnapSize, Snap as SnapRefused, NoMemory}
 use Rattle.vvmm_laws.proofs.Chosen.{line_stop, long_stop, misfit_told, missing_stop, only_memory, readable, rule_stop, same_config}
-use Rattle.vvmm_laws.proofs.Marked.{first_marked, line_rose}
 use Rattle.vvmm_laws.proofs.Nexts.{all_read, config_read, script_read}
-use Rattle.vvmm_laws.proofs.Played.{NoLineRose, down_image, down_line_kept, down_served, down_size, named_line, no_device, shown_served}
+use Rattle.vvmm_laws.proofs.Played.{NoLineRose, down_image, down_line_kept, down_served, down_size, saved_names_line, saved_served}
 use Rattle.vvmm_laws.proofs.Told.{Unread, lacked, not_config, not_script, one_config, one_text, too_long}
 use Rattle.vvmm_laws.specs.Complete.{IsImageOf, IsMissing, IsServed, IsSizeOf, IsTooLong, NamesLine, TellsLine, TellsRule, line_at}
 use Rattle.vvmm_laws.specs.Snaps.{CompletesSave, IsSnapSize, TellsSaveImage, TellsSaveLine, TellsSaveLineFault, TellsSaveMissing, TellsSaveRule, TellsSaveSize, TellsSaveTooLong, TellsSnapSize}
@@ -84,40 +82,36 @@ module _ (o : Outside) (files : List File) (a : RunAsked) (told : o.files ≡ So
   stopped stop status is why run room =
       subst Told (sym is) (save_stop files a Told o.shelf o.shelf' stop (subst (λ (f : Option (List File)). StopsSave f a o.shelf o.shelf' stop) told why) run room)
 
-has_told : (o : Outside) (files : List File) (a : RunAsked) (status : Status) (p : PlaysSave a status o) → o.files ≡ Some files → HasAllToSave (Some files) a p.text p.config p.events p.images
+has_told : (o : Outside) (files : List File) (a : RunAsked) (status : Status) (p : PlaysSave MissesArePaid a status o) → o.files ≡ Some files → HasAllToSave (Some files) a p.text p.config p.events p.images
 has_told o files a status p told = subst (λ (f : Option (List File)). HasAllToSave f a p.text p.config p.events p.images) told p.has
 
-module _ (a : RunAsked) (status : Status) (o : Outside) (p : PlaysSave a status o) where
+module _ (a : RunAsked) (status : Status) (o : Outside) (p : PlaysSave MissesArePaid a status o) where
   saves_served : first_misfit p.config.guests p.images ≡ None → All (FitsDrive o.drives) p.config.volumes → ((d : ℕ) → HasFailed p.config.volumes o.drives o.drives' d → ⊥) → NoLineRose (run_outside o) → (Rose o.out.faults o.out'.faults → ⊥) → IsServed status
   saves_served fits drives_fit could lines kept = by p.result p.saves p.answers
     where
-      by : (result : Result Saved PowerFault) → SavesRun p.config p.text p.images p.events a.rounds result (run_outside o) o.out o.out' → AnswersSave result status → IsServed status
-      by (Ok saved) (volumes, saves) answer =
-          let failed : saved.failed ≡ None = saves.failed ∙ no_device (first_marked saves.marks) None (λ k e. lines k (line_rose saves.marks o.lines o.lines' _ k e saves.lines)) (λ d e. cc) in
-          subst (λ (s : Status). IsServed s) (sym answer) (shown_served saved.failed saved.is_cut _ o.out o.out' failed saves.shown kept)
+      by : (result : Result Saved PowerFault) → SavesRun MissesArePaid p.config p.text p.images p.events a.rounds result (run_outside o) o.out o.out' → AnswersSave result status → IsServed status
+      by (Ok saved) (volumes, saves) answer = saved_served _ _ _ _ saved (run_outside o) o.out o.out' saves.saves status answer lines kept
       by (Err fault) (down, same) answer = subst (λ (s : Status). IsServed s) (sym answer) (down_served p.config p.images (run_outside o) fault down fits drives_fit could)
 
   saves_image : (g : ℕ) → first_misfit p.config.guests p.images ≡ Some g → IsImageOf g status
   saves_image g first = by p.result p.saves p.answers
     where
-      by : (result : Result Saved PowerFault) → SavesRun p.config p.text p.images p.events a.rounds result (run_outside o) o.out o.out' → AnswersSave result status → IsImageOf g status
+      by : (result : Result Saved PowerFault) → SavesRun MissesArePaid p.config p.text p.images p.events a.rounds result (run_outside o) o.out o.out' → AnswersSave result status → IsImageOf g status
       by (Ok saved) (volumes, saves) answer = absurd (cc (saves.fits, first))
       by (Err fault) (down, same) answer = subst (λ (s : Status). IsImageOf g s) (sym answer) (down_image p.config p.images (run_outside o) fault down g first)
 
   saves_size : (v : ℕ) → first_misfit p.config.guests p.images ≡ None → IsMisfit p.config.volumes o.drives v → ((d : ℕ) → HasFailed p.config.volumes o.drives o.drives' d → ⊥) → IsSizeOf v status
   saves_size v fits misfit could = by p.result p.saves p.answers
     where
-      by : (result : Result Saved PowerFault) → SavesRun p.config p.text p.images p.events a.rounds result (run_outside o) o.out o.out' → AnswersSave result status → IsSizeOf v status
+      by : (result : Result Saved PowerFault) → SavesRun MissesArePaid p.config p.text p.images p.events a.rounds result (run_outside o) o.out o.out' → AnswersSave result status → IsSizeOf v status
       by (Ok saved) (volumes, saves) answer = absurd (misfit.differs (at_stands (FitsDrive o.drives) p.config.volumes v misfit.row misfit.stands saves.loaded.fit))
       by (Err fault) (down, same) answer = subst (λ (s : Status). IsSizeOf v s) (sym answer) (down_size p.config p.images (run_outside o) fault down v fits misfit could)
 
   saves_names_line : (k : ℕ) → (line_at o.lines k).faults < (line_at o.lines' k).faults → NamesLine k status
   saves_names_line k h = by p.result p.saves p.answers
     where
-      by : (result : Result Saved PowerFault) → SavesRun p.config p.text p.images p.events a.rounds result (run_outside o) o.out o.out' → AnswersSave result status → NamesLine k status
-      by (Ok saved) (volumes, saves) answer =
-          let is : status ≡ status_when_done (device_of (first_marked saves.marks) None) saved.is_cut = answer ∙ ap (λ (f : Option Device). status_when_done f saved.is_cut) saves.failed in
-          subst (λ (s : Status). NamesLine k s) (sym is) (named_line saves.marks o.lines o.lines' _ k saves.lines h (first_marked saves.marks) None saved.is_cut refl)
+      by : (result : Result Saved PowerFault) → SavesRun MissesArePaid p.config p.text p.images p.events a.rounds result (run_outside o) o.out o.out' → AnswersSave result status → NamesLine k status
+      by (Ok saved) (volumes, saves) answer = saved_names_line _ _ _ _ saved (run_outside o) o.out o.out' saves.saves status answer k h
       by (Err fault) (down, same) answer = absurd (down_line_kept p.config p.images (run_outside o) fault down k h)
 
 pub completes_save : CompletesSave

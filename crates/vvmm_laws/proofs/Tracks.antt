@@ -12,7 +12,7 @@ use Rattle.sys_objects.specs.declared.records.Config.{Config}
 use Rattle.sys_objects.specs.declared.records.Mount.{Mount as Mounted}
 use Rattle.sys_objects.specs.declared.records.Terminal.{Terminal}
 use Rattle.sys_state.proofs.Consoles.{bytes_append}
-use Rattle.sys_state.specs.Events.{at_place, at_row, audit_puts, commanded, events, happened, is_named, lined, puts_after_verdict, puts_before, said_on}
+use Rattle.sys_state.specs.Events.{at_place, at_row, audit_puts, commanded, events, happened, is_named, lined, said_on}
 use Rattle.sys_state.specs.Events as events_
 use Rattle.sys_state.specs.Places.{beside_with, place_of}
 use Rattle.sys_state.specs.Run.{events_of, round, rounds}
@@ -22,7 +22,7 @@ use Rattle.sys_state.specs.Turns.{turn, turn_puts}
 use Rattle.sys_script.specs.declared.event.Event.{Event}
 use Rattle.sys_script.specs.declared.event.Typed.{Typed}
 use Rattle.sys_script.specs.declared.event.Typed.TheVariants.{Break, Line}
-use Rattle.sys_server.specs.Apply.{applied}
+use Rattle.sys_server.specs.Apply.{applied, with_mount}
 use Rattle.sys_server.specs.Replies.{reply_of}
 use Rattle.sys_server.specs.Verdict.{verdict_of}
 use Rattle.sys_server.specs.declared.command.Command.{Command}
@@ -61,25 +61,21 @@ tracks_then c line srv xs ys v w a b = record {
 tracks_none : (c : Config) (line : ℕ) (srv : ServerState) (w : Went SystemState) → Elsewhere line w.puts → srv.mounts ≡ w.now.mounts → Tracks c line srv [] w
 tracks_none c line srv w far same = record { bytes = nothing_on line w.puts far; mounts = same }
 
--- a granted command changes the mounts in the same way
-applied_mounts : (s t : ServerState) (n : ℕ) (command : Command) → s.mounts ≡ t.mounts → (applied s n command).mounts ≡ (applied t n command).mounts
-unfolding applied
-applied_mounts s t n (Connect g) same = same
-applied_mounts s t n (Start g) same = same
-applied_mounts s t n (Halt g) same = same
-applied_mounts s t n (MountAt g unit mount) same = ap (λ ms. slice_set ms g (slice_set (slice_index_or ms g []) unit (Some mount))) same
-applied_mounts s t n (Dismount g unit) same = ap (λ ms. slice_set ms g (slice_set (slice_index_or ms g []) unit None)) same
-applied_mounts s t n Show same = same
-
 module _ (c : Config) (a : Audit) (audited : c.audit ≡ Some a) (apart : IsApart c a.line) where
   abbrev line : ℕ
   line = a.line
 
-  verdict_mounts : (srv : ServerState) (s : SystemState) (n : ℕ) (v : Verdict) → srv.mounts ≡ s.mounts → (server_after_verdict srv n v).mounts ≡ (events_.after_verdict c s n v).mounts
-  verdict_mounts srv s n (Granted command) same = applied_mounts srv (server_of s) n command same
-  verdict_mounts srv s n BadCommand same = same
-  verdict_mounts srv s n NoSuchObject same = same
-  verdict_mounts srv s n (Denied rule) same = same
+  verdict_mounts : (srv : ServerState) (s : SystemState) (n : ℕ) (t : Terminal) (v : Verdict) → srv.mounts ≡ s.mounts → (server_after_verdict srv n v).mounts ≡ (events_.after_verdict c s n t v).now.mounts
+  unfolding applied
+  verdict_mounts srv s n t (Granted (Connect g)) same = same
+  verdict_mounts srv s n t (Granted (Start g)) same = same
+  verdict_mounts srv s n t (Granted (Halt g)) same = same
+  verdict_mounts srv s n t (Granted (MountAt g unit mount)) same = ap (λ ms. with_mount ms g unit (Some mount)) same
+  verdict_mounts srv s n t (Granted (Dismount g unit)) same = ap (λ ms. with_mount ms g unit None) same
+  verdict_mounts srv s n t (Granted Show) same = same
+  verdict_mounts srv s n t BadCommand same = same
+  verdict_mounts srv s n t NoSuchObject same = same
+  verdict_mounts srv s n t (Denied rule) same = same
 
   -- the audit's own put
   own_put : (i : ℕ) (t : Terminal) (text : List ℕ) (v : Verdict) → bytes_on line (audit_puts c.audit i t text v) ≡ audit_record i t text v
@@ -90,16 +86,16 @@ module _ (c : Config) (a : Audit) (audited : c.audit ≡ Some a) (apart : IsApar
   commanded_tracks : (i : ℕ) (srv : ServerState) (s : SystemState) (n : ℕ) (t : Terminal) (text : List ℕ) (v : Verdict) → srv.mounts ≡ s.mounts → slice_get c.terminals n ≡ Some t → (t.line == line) ≡ false → verdict_of c srv n text ≡ v
       → Tracks c line srv (record { round = i; terminal = n; text = text } ∷ []) (commanded c i s n t text v)
   commanded_tracks i srv s n t text v same at far is =
-      let before : List Put = puts_before c s t v in
-      let later : List Put = said_on t.line (reply_of v) ∷ puts_after_verdict c s n v in
-      let none : Elsewhere line (before ++ later) = elsewhere_append line before later (before_elsewhere line c apart s t v far) (far, after_elsewhere line c apart s n v) in
+      let before : List Put = (events_.after_verdict c s n t v).before in
+      let later : List Put = said_on t.line (reply_of v) ∷ (events_.after_verdict c s n t v).later in
+      let none : Elsewhere line (before ++ later) = elsewhere_append line before later (before_elsewhere line c apart s n t v far) (far, after_elsewhere line c apart s n t v) in
       let shown : bytes_on line ((before ++ later) ++ audit_puts c.audit i t text v) ≡ audit_record i t text v =
       bytes_append line (before ++ later) (audit_puts c.audit i t text v) ∙ (λ j. nothing_on line (before ++ later) none j ++ own_put i t text v j) in
       let recorded : record_at i (slice_get c.terminals n) text (verdict_of c srv n text) ++ [] ≡ audit_record i t text v =
       append-nil (record_at i (slice_get c.terminals n) text (verdict_of c srv n text)) ∙ (λ j. record_at i (at j) text (is j)) in
       record {
         bytes = shown ∙ sym recorded;
-        mounts = ap (λ x. (server_after_verdict srv n x).mounts) is ∙ verdict_mounts srv s n v same;
+        mounts = ap (λ x. (server_after_verdict srv n x).mounts) is ∙ verdict_mounts srv s n t v same;
       }
 
   lined_tracks : (i : ℕ) (srv : ServerState) (s : SystemState) (n : ℕ) (t : Terminal) (text : List ℕ) (o : Option ℕ) → srv.mounts ≡ s.mounts → slice_get c.terminals n ≡ Some t → (t.line == line) ≡ false → Tracks c line srv (entry_of_line i n text o) (lined c i s n t text o)

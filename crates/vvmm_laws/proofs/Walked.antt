@@ -1,9 +1,9 @@
 -- Walks over two memories, of which the second has the bytes of the first at the places that a walk reads.
 use Rattle.std.proofs.Common.{◌≡◌, ℕ, ◌+◌, ◌*◌, ◌%◌, ◌^◌, Bool, true, false, not, ◌||◌, inl, inr, List, [], ◌∷◌, ◌++◌, Some, Result, Ok, Err, refl, ap, ◌∙◌}
-use Rattle.std.specs.Prelude.{◌==◌, if◌then◌else◌, nat_le, nat_lt, slice_get, slice_index}
+use Rattle.std.specs.Prelude.{◌==◌, if◌then◌else◌, nat_le, nat_lt, slice_get, slice_index, unwrap_or}
 use Rattle.vv_base.specs.Bytes.{long_at}
 use Rattle.vax_arch.specs.Fields.{frame_of, is_modified, is_valid, protection_of}
-use Rattle.vax_arch.specs.Protection.{Rights, may_of, protection_rows, rights_allow, rights_in, row_or_none}
+use Rattle.vax_arch.specs.Protection.{Rights, may_of, no, protection_row, protection_rows, rights_allow, rights_in}
 use Rattle.vax_arch.specs.Protection as rights
 use Rattle.vax_arch.specs.Walk.{Tables, granted, in_memory, in_region, is_clear_at, is_past, lookup, mapped_entry, page_of, process_entry, region_of, system_entry, through_system_entry}
 use Rattle.vax_arch.specs.declared.mode.Intent.{Intent}
@@ -134,7 +134,7 @@ read_on : (memory : List ℕ) (va place : ℕ) (m : Mode) (look : Lookup) → pl
 unfolding granted
 read_on memory va place m (Found at table) e =
     let code = protection_of (long_at memory at) in
-    grant_read (may_of code m Write) (may_of code m Read) _ va place (right (rights_in (row_or_none (slice_get protection_rows code)) m)) e
+    grant_read (may_of code m Write) (may_of code m Read) _ va place (right (rights_in (unwrap_or (slice_get protection_rows code) (protection_row no no no no)) m)) e
 read_on memory va place m (Direct frame) e = e
 read_on memory va place m (Fails not_valid parameter) e = cc
 read_on memory va place m Beyond e = cc

@@ -1,6 +1,7 @@
 -- What two runs of `live` show where their typing differs at terminals whose class doesn't flow into another: of what flows into
 -- that, the same.
 use Rattle.std.specs.Prelude.{ℕ, ◌≡◌, List, Some, All, true}
+use Rattle.sys_runs.specs.Besides.{MissesArePaid}
 use Rattle.vv_io.specs.Blocks.{SeenDrive}
 use Rattle.vv_io.specs.Keys.{Took}
 use Rattle.vv_io.specs.Lines.{shown_after}
@@ -49,4 +50,4 @@ pub record AgreeTo (c : Config) (to : AccessClass) (o o' : Outside) : Type 0 whe
   pub drives : All (λ v. does_flow v.class to ≡ true → (drive_at o.drives' v.drive).blocks ≡ (drive_at o'.drives' v.drive).blocks) c.volumes
 
 abbrev pub LivesAgree : Type 0
-LivesAgree = (a : LiveAsked) (c : Config) (o o' : Outside) (p p' : Operator) (typed typed' : List (List ℕ)) (to : AccessClass) → FollowsLive a Done o p → FollowsLive a Done o' p' → AreOfOne a c o o' p p' typed typed' → AreAlikeTo c to typed typed' → AgreeTo c to o o'
+LivesAgree = (a : LiveAsked) (c : Config) (o o' : Outside) (p p' : Operator) (typed typed' : List (List ℕ)) (to : AccessClass) → FollowsLive MissesArePaid a Done o p → FollowsLive MissesArePaid a Done o' p' → AreOfOne a c o o' p p' typed typed' → AreAlikeTo c to typed typed' → AgreeTo c to o o'

@@ -1,5 +1,6 @@
 -- A command leaves the devices that it doesn't have.
 use Rattle.std.specs.Prelude.{◌≡◌, Option}
+use Rattle.sys_runs.specs.Besides.{MissesArePaid}
 use Rattle.sys_live.specs.Operator.{Operator}
 use Rattle.vvmm_call.specs.Answer.{Outside, Says}
 use Rattle.vvmm_call.specs.Devices.{devices_needed}
@@ -15,4 +16,4 @@ LeavesAllBut Lines o = o.drives' ≡ o.drives
 LeavesAllBut LinesAndDrives o = Unit {0}
 
 abbrev pub LeavesOthers : Type 0
-LeavesOthers = (words : Option Wanted) (status : Status) (o : Outside) (p : Operator) → Says words status o p → LeavesAllBut (devices_needed words) o
+LeavesOthers = (words : Option Wanted) (status : Status) (o : Outside) (p : Operator) → Says MissesArePaid words status o p → LeavesAllBut (devices_needed words) o

@@ -1,4 +1,5 @@
 ghost use Rattle.sys_flow.specs.Report.{IsReport};
+ghost use Rattle.sys_runs.specs.Besides.{MissesArePaid};
 ghost use Rattle.vvmm_call.specs.Answer.{AreCounts, FollowsSolo, FollowsTrace, IsDrawing, IsMigrated};
 ghost use Rattle.vvmm_laws.specs.Alone.{RunsAlone};
 ghost use Rattle.vvmm_laws.specs.Complete.{CompletesAudit, CompletesConfig, CompletesFile, CompletesImage, CompletesLoad, CompletesRun, LimitsLoad, TellsAuditLine, TellsAuditMissing, TellsAuditRule, TellsAuditTooLong, TellsConfigMissing, TellsConfigRule, TellsConfigTooLong, TellsFileMissing, TellsFileRefused, TellsFileTooLong, TellsImageLineFault, TellsImageMisfit, TellsImageMissing, TellsImageTooLong, TellsLoadLineFault, TellsRunDriveFault, TellsRunImage, TellsRunLine, TellsRunLineFault, TellsRunMissing, TellsRunRule, TellsRunSize, TellsRunTooLong};
@@ -10,32 +11,32 @@ pub fn a_guest_runs_alone()
 
 /// A held image within the limit that fits, and no risen count, give `Done`, or `NoMemory` before anything is shown.
 pub fn solo_is_complete()
-    ensures { CompletesImage FollowsSolo }
+    ensures { CompletesImage FollowsSolo MissesArePaid }
 {}
 
 /// Over a shelf that did not fail, an image that it lacks gives `Missing` of `solo` and `trace`, or `NoMemory`.
 pub fn a_missing_image_is_told()
-    ensures solo { TellsImageMissing FollowsSolo }
-    ensures trace { TellsImageMissing FollowsTrace }
+    ensures solo { TellsImageMissing FollowsSolo MissesArePaid }
+    ensures trace { TellsImageMissing FollowsTrace MissesArePaid }
 {}
 
 /// Over a shelf that did not fail, an image that is too long gives `TooLong` of `solo` and `trace`, or `NoMemory`.
 pub fn a_too_long_image_is_told()
-    ensures solo { TellsImageTooLong FollowsSolo }
-    ensures trace { TellsImageTooLong FollowsTrace }
+    ensures solo { TellsImageTooLong FollowsSolo MissesArePaid }
+    ensures trace { TellsImageTooLong FollowsTrace MissesArePaid }
 {}
 
 /// Over a shelf that did not fail, an image that doesn't fit the guest's memory gives `Image` of `solo` and `trace`, or
 /// `NoMemory`.
 pub fn an_image_that_does_not_fit_is_told()
-    ensures solo { TellsImageMisfit FollowsSolo }
-    ensures trace { TellsImageMisfit FollowsTrace }
+    ensures solo { TellsImageMisfit FollowsSolo MissesArePaid }
+    ensures trace { TellsImageMisfit FollowsTrace MissesArePaid }
 {}
 
 /// Where a line's count is greater after `solo` or `trace`, the answer names it or one of a lower number.
 pub fn a_failed_line_is_told()
-    ensures solo { TellsImageLineFault FollowsSolo }
-    ensures trace { TellsImageLineFault FollowsTrace }
+    ensures solo { TellsImageLineFault FollowsSolo MissesArePaid }
+    ensures trace { TellsImageLineFault FollowsTrace MissesArePaid }
 {}
 
 /// Held files that stand for a configuration, a script and images that fit, drives that fit, and no risen count, give `Done`, or

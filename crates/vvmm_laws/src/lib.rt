@@ -40,7 +40,7 @@ pub use snaps::{
     a_refused_configuration_to_save_is_told, a_refused_script_to_resume_is_told,
     a_refused_script_to_save_is_told, a_refused_snapshot_is_told, a_resume_names_a_failed_drive,
     a_resume_names_a_failed_line, a_save_names_a_failed_line, a_too_large_snapshot_is_told,
-    resume_is_complete, save_and_resume_are_one_run, save_is_complete,
+    extend_is_complete, parts_of_a_run_are_one_run, resume_is_complete, save_is_complete,
     the_first_image_to_save_that_does_not_fit_is_told, the_first_missing_file_to_resume_is_told,
     the_first_missing_file_to_save_is_told, the_first_too_long_file_to_resume_is_told,
     the_first_too_long_file_to_save_is_told, the_first_volume_to_resume_of_another_size_is_told,

@@ -1,4 +1,5 @@
 ghost use Rattle.vvmm_call.specs.Answer.{FollowsTrace};
+ghost use Rattle.sys_runs.specs.Besides.{MissesArePaid};
 ghost use Rattle.vvmm_laws.specs.Complete.{CompletesImage};
 ghost use Rattle.vvmm_laws.specs.Traced.{TraceIsSolo};
 
@@ -10,5 +11,5 @@ pub fn a_trace_is_the_run_of_solo()
 
 /// A held image within the limit that fits, and no risen count, give `Done` of `trace`, or `NoMemory` before anything is shown.
 pub fn trace_is_complete()
-    ensures { CompletesImage FollowsTrace }
+    ensures { CompletesImage FollowsTrace MissesArePaid }
 {}

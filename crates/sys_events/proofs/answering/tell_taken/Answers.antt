@@ -1,6 +1,6 @@
 use Rattle.std.proofs.Common.{◌≤◌, length, ap, arith}
 use Rattle.sys_events.proofs.Replying.{no_puts, taken_past}
-use Rattle.sys_state.specs.Events.{taken_puts}
+use Rattle.sys_events.specs.Saying.{taken_puts}
 use Rattle.sys_events.proofs.answering.tell_taken.Goals as goal
 
 pub returns-else-terminal-terminals : goal.returns-else-terminal-terminals

@@ -1,6 +1,7 @@
 use Rattle.std.proofs.Common.{◌≡◌, ◌≤◌, [], take, drop}
 use Rattle.std.specs.List.{sum_by}
-use Rattle.sys_objects.specs.Rules.{first_broken, pages_hold}
+use Rattle.sys_objects.specs.Rules.{first_broken}
+use Rattle.sys_objects.proofs.Firsts.{pages_hold}
 use Rattle.sys_objects.specs.declared.records.GuestRow.{GuestRow}
 use Rattle.sys_objects.proofs.rules.bad_pages.Given as goal
 

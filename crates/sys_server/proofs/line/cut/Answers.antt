@@ -4,7 +4,7 @@ use Rattle.sys_server.proofs.Cutting.{word_with_blank, word_without_blank}
 use Rattle.sys_server.proofs.line.cut.Goals as goal
 
 pub returns-in-Some : goal.returns-in-Some
-returns-in-Some c = grind (arith, common_steps, word_with_blank c.args.text.now c.in-Some.end (sym c.find_blank.ensures.value ∙ c.in-Some.is))
+returns-in-Some c = grind (arith, common_steps, word_with_blank c.args.text.now c.in-Some.end (sym c.find.ensures.value ∙ c.in-Some.is))
 
 pub returns-in-None : goal.returns-in-None
-returns-in-None c = word_without_blank c.args.text.now (sym c.find_blank.ensures.value ∙ c.in-None.is)
+returns-in-None c = word_without_blank c.args.text.now (sym c.find.ensures.value ∙ c.in-None.is)

@@ -2,7 +2,7 @@ use Rattle.std.proofs.Common.{◌≡◌, ◌∙◌, [], ap, subst, refl, sym}
 use Rattle.std.proofs.lemmas.Result.{err_from_is_err_and}
 use Rattle.sys_devices.specs.ShownSince.{ShownSince}
 use Rattle.sys_state.specs.Guests.{powered}
-use Rattle.sys_runs.proofs.Whole.{as_long, run_made}
+use Rattle.sys_runs.proofs.Whole.{as_long, made_at_once}
 use Rattle.sys_system.specs.System.{System}
 use Rattle.sys_trace.proofs.Turns.{first_powered, input_is, none_left, one_round, only_row, quantum_few, quantum_of, same_quantum, stays_for, takes_turn}
 use Rattle.sys_trace.specs.Trace.{trace_of}
@@ -47,7 +47,7 @@ returns-clause-traces g c row image one is =
     let rounds = one_round steps _ _ _ _ _ _ _ _ _ _ _ _ c.in_ok-system.ensures.holds p.powered.stands rests b plays none c.end_round.ensures.ends c.begin_round.ensures.present c.trace_turn-is_cut.ensures.holds c.end_round.ensures.present in
     let lines = g.met.L.Lines.count c.power_down.new.lines ∙ sym (g.met.L.Lines.count c.args.lines.now) in
     let drives = as_long _ c.power_down.new.drives c.args.drives.now (c.power_down.ensures.drives_len ∙ c.power_up.ensures.len) in
-    let made = run_made config _ [] 1 _ _ _ _ _ _ _ _ _ _ _ _ c.requires.accepted p c.power_up.ensures.alone rounds c.power_down.ensures.ends c.in_ok-system.ensures.present (record { counts = c.counts.result; failed = c.failed.result }) c.end_round.ensures.holds c.counts.ensures c.failed.ensures lines drives in
+    let made = made_at_once config _ _ _ _ _ p [] 1 _ _ _ _ _ _ _ _ c.requires.accepted c.power_up.ensures.alone rounds c.power_down.ensures.ends c.in_ok-system.ensures.present (record { counts = c.counts.result; failed = c.failed.result }) c.end_round.ensures.holds c.counts.ensures c.failed.ensures lines drives in
     let out = g.O.Sink.printed c.args.out.now in
     let out1 = g.O.Sink.printed c.trace_turn-is_cut.new.out in
     let here = first_powered config _ p.volumes row image _ _ _ _ _ _ p.powered b one is in

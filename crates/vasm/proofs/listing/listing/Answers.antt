@@ -9,9 +9,9 @@ pub loop-left-preserved : goal.loop-left-preserved
 loop-left-preserved c =
     let sized = c.line_size-size.ensures.value ∙ ap source_line_size c.said_in-line.ensures in
     record {
-      listed = line_listed c.loop-left.at c.line_size-size.result c.loop-left.left.now c.front_of.result.0.now c.front_of.result.1.now c.loop-left.shown.items c.put_line.new.shown.items _ c.loop-left.rest.now c.first_line-pieces.result.before.now (lines c.first_line-pieces.result.later.now) c.loop-left.invariant.listed c.first_line-pieces.ensures.cut sized c.front_of.ensures.own c.front_of.ensures.later c.in_ok-put_line.ensures;
-      named = name_listed c.loop-left.at c.line_size-size.result c.loop-left.names.items c.put_name.new.names.items _ c.loop-left.rest.now c.first_line-pieces.result.before.now (lines c.first_line-pieces.result.later.now) _ c.loop-left.invariant.named c.first_line-pieces.ensures.cut sized (ap (λ (l : SourceLine). l.label) c.said_in-line.ensures) c.in_ok-put_name.ensures;
-      low = omega (arith, c.first_line-pieces.ensures.shorter, c.line_size-size.ensures.most, c.loop-left.invariant.low);
+      listed = line_listed c.loop-left.at c.line_size-size.result c.loop-left.left.now c.front_of.result.0.now c.front_of.result.1.now c.loop-left.shown.items c.put_line.new.shown.items _ c.loop-left.rest.now c.first_line.result.0.now (lines c.first_line.result.1.now) c.loop-left.invariant.listed c.first_line.ensures.cut sized c.front_of.ensures.own c.front_of.ensures.later c.in_ok-put_line.ensures;
+      named = name_listed c.loop-left.at c.line_size-size.result c.loop-left.names.items c.put_name.new.names.items _ c.loop-left.rest.now c.first_line.result.0.now (lines c.first_line.result.1.now) _ c.loop-left.invariant.named c.first_line.ensures.cut sized (ap (λ (l : SourceLine). l.label) c.said_in-line.ensures) c.in_ok-put_name.ensures;
+      low = omega (arith, c.first_line.ensures.shorter, c.line_size-size.ensures.most, c.loop-left.invariant.low);
     }
 
 pub returns : goal.returns

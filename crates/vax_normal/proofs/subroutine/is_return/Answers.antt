@@ -1,5 +1,5 @@
 use Rattle.std.proofs.Common.{◌≡◌, List, [], map, sym, ◌∙◌, subst, arith}
-use Rattle.vax_table.specs.Operand.{forms_in}
+use Rattle.vax_table.specs.AllOperands.{forms_in}
 use Rattle.vax_table.specs.Rows.{row_of}
 use Rattle.vax_table.specs.Spelling.{view}
 use Rattle.vax_operand.specs.declared.prepared.Operand.{Operand}

@@ -1,5 +1,5 @@
 use Rattle.std.proofs.Common.{◌≡◌, ℕ, List, Option, Some, None, IfSome, sym, subst}
-use Rattle.vax_table.specs.Computing.{target_of}
+use Rattle.vax_table.specs.Operations.{target_of}
 use Rattle.vax_table.specs.declared.act.Dest.TheVariants.{Nowhere}
 use Rattle.vax_table.specs.declared.meaning.Target.{Target}
 use Rattle.vax_table.specs.declared.meaning.Target.TheVariants as targets

@@ -1,3 +1,4 @@
+use Rattle.vv_class.proofs.Numbers.{class_read}
 use Rattle.vv_class.proofs.Places.{reads_text, each_is_read, faults_at, refuses_others}
 use Rattle.vv_class.proofs.text.read_class.Goals as goal
 
@@ -12,3 +13,6 @@ returns-clause-fault c = faults_at c.args.b.now c.scan_text.result c.scan_text.e
 
 pub returns-clause-refused : goal.returns-clause-refused
 returns-clause-refused c = refuses_others c.args.b.now c.scan_text.result c.scan_text.ensures
+
+pub returns-clause-class : goal.returns-clause-class
+returns-clause-class c = class_read c.args.b.now c.scan_text.result c.scan_text.ensures

@@ -1,5 +1,5 @@
 use Rattle.std.proofs.Common.{◌≡◌, ◌≤◌, false, true, length, decimal, List, ℕ, ◌++◌, ap, sym, ◌∙◌, arith}
-use Rattle.vv_class.specs.Class.{has_category}
+use Rattle.vv_base.specs.Bits.{is_set}
 use Rattle.vv_class.proofs.Sets.{two_digits, begun, begun_comma, below_skipped, one_more, comma_more}
 use Rattle.vv_class.proofs.text.write_set.Goals as goal
 
@@ -10,7 +10,7 @@ pub loop-category-preserved-then-not-has_category : goal.loop-category-preserved
 loop-category-preserved-then-not-has_category c =
     let cats = c.args.cats in
     let k = c.loop-category.category in
-    let out : has_category cats k ≡ false = sym c.has_category.ensures ∙ c.if-not-has_category.true in
+    let out : is_set cats k ≡ false = sym c.has_category.ensures ∙ c.if-not-has_category.true in
     let same = below_skipped cats k out in
     record { written = rw same c.loop-category.invariant.written; comma = rw same c.loop-category.invariant.comma; short = omega (arith, c.loop-category.invariant.short); one = c.loop-category.invariant.one }
 
@@ -23,7 +23,7 @@ pub loop-category-preserved : goal.loop-category-preserved
 loop-category-preserved c =
     let cats = c.args.cats in
     let k = c.loop-category.category in
-    let is : has_category cats k ≡ true = sym c.has_category.ensures ∙ c.if-not-has_category.false in
+    let is : is_set cats k ≡ true = sym c.has_category.ensures ∙ c.if-not-has_category.false in
     let digits : length (decimal k) ≤ 2 = two_digits k c.loop-category-test.true in
     record {
       written = c.add_number.ensures.written ∙ ap (λ (xs : List ℕ). xs ++ decimal k) c.append.ensures.written

@@ -13,9 +13,7 @@ returns g c = inr (record {
   moment = snapshot_moment c.in-Ok.inputs.snap;
   events = c.in-Ok.inputs.events.items;
   has = c.in-Ok.ensures.fetches.0;
-  shelf = c.in-Ok.ensures.fetches.1;
+  shelf = c.in-Ok.ensures.fetches.2;
   result = c.resume-ran.result;
-  goes_on = goes_over _ _ _ _ c.resume-ran.result _ c.as_slice.ensures.value c.resume-ran.ensures.goes_on;
-  answers = c.answer.ensures;
-  separate = resumed_separate _ _ _ c.in-Ok.ensures.held.config c.in-Ok.ensures.moment;
+  ends = (goes_over _ _ _ _ c.resume-ran.result _ c.as_slice.ensures.value c.resume-ran.ensures.goes_on, c.answer.ensures, resumed_separate _ _ _ c.in-Ok.ensures.held.config c.in-Ok.ensures.moment);
 })

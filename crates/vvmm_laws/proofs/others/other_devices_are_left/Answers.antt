@@ -1,5 +1,5 @@
 use Rattle.std.proofs.Common.{inl, inr, Some, None}
-use Rattle.vvmm_files.specs.Words.{WantsSolo, WantsTrace, WantsRun, WantsSave, WantsResume, WantsLive, WantsLoad, WantsCheck, WantsMigration, WantsAudit, WantsFlow, WantsDrawing, WantsBytes, WantsListing, WantsText}
+use Rattle.vvmm_files.specs.Words.{WantsSolo, WantsTrace, WantsRun, WantsSave, WantsResume, WantsExtend, WantsLive, WantsLoad, WantsCheck, WantsMigration, WantsAudit, WantsFlow, WantsDrawing, WantsBytes, WantsListing, WantsText}
 use Rattle.vvmm_laws.specs.Others.{LeavesOthers}
 use Rattle.vvmm_laws.proofs.others.other_devices_are_left.Goals as goal
 
@@ -12,6 +12,7 @@ leaves (Some (WantsTrace a)) status o p (inr plays, untyped) = plays.drives
 leaves (Some (WantsRun a)) status o p says = tt
 leaves (Some (WantsSave a)) status o p says = tt
 leaves (Some (WantsResume a)) status o p says = tt
+leaves (Some (WantsExtend a)) status o p says = tt
 leaves (Some (WantsLive a)) status o p says = tt
 leaves (Some (WantsLoad number)) status o p (inl (is, untouched, out), shelf, untyped) = untouched.drives
 leaves (Some (WantsLoad number)) status o p (inr plays, shelf, untyped) = plays.made.drives
