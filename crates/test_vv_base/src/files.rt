@@ -63,7 +63,7 @@ fn a_shelf_reads_files(rt: HostRuntime) -> Result<(), Fail> {
 }
 
 /// The line of a path.
-fn line_of(rt: &HostRuntime, path: &str) -> Result<FileLine<HostRuntime>, Fail> {
+fn line_of(rt: &HostRuntime, path: &str) -> Result<FileLine, Fail> {
     let path = String::from_str(rt.alloc(), path)?;
     Ok(FileLine::new(rt.clone()?, path, true, None))
 }
