@@ -15,7 +15,7 @@ const C: u8 = 1;
 const IV: u8 = 0x20;
 
 /// A number by where it lies: near 0, near the least number of the width, or near the greatest.
-#[derive(Clone, Copy, Debug, PartialEq, Eq)]
+#[derive(Clone, Copy, PartialEq, Eq)]
 enum Edge {
     Zero(i8),
     Least(i8),
@@ -175,7 +175,7 @@ fn trap(op: AluOp, first: Edge, psw: u8, codes: u8) -> Option<u8> {
 fn check_at(rt: &impl Abort, w: Width)
     requires { w ≢ Width.Quad }
 {
-    for case in &CASES {
+    for (number, case) in CASES.iter().enumerate() {
         let (op, first, second, carry, value, codes) = *case;
         for psw in [0xc0 | carry, 0xc0 | IV | carry] {
             let a = low(exact(first, w), w) | above(w);
@@ -185,7 +185,7 @@ fn check_at(rt: &impl Abort, w: Width)
                 psw: psw & 0xf0 | codes,
                 trap: trap(op, first, psw, codes),
             };
-            assert_eq!(rt; alu(op, a, b, w, psw), answer, "{case:?} {w:?} {psw}");
+            assert!(rt; alu(op, a, b, w, psw) == answer, "case {number}, {psw}");
         }
     }
 }
@@ -236,7 +236,7 @@ static SINGLES: [Single; 31] = [
 
 #[test]
 fn shifts_rotations_and_conversions(rt: HostRuntime) {
-    for case in &SINGLES {
+    for (number, case) in SINGLES.iter().enumerate() {
         let (op, a, b, w, value, codes) = *case;
         if w != Width::Quad {
             let answer = Alu {
@@ -244,7 +244,7 @@ fn shifts_rotations_and_conversions(rt: HostRuntime) {
                 psw: 0xe0 | codes,
                 trap: trap(op, Zero(1), IV, codes),
             };
-            assert_eq!(rt; alu(op, a, b, w, 0xef), answer, "{case:?}");
+            assert!(rt; alu(op, a, b, w, 0xef) == answer, "case {number}");
         }
     }
 }

@@ -10,7 +10,7 @@ use vax_normal::{Rarer, in_memory_of, normal_of, rarer_of};
 use vax_operand::Prepared;
 
 /// A normal form, or none.
-#[derive(Clone, Copy, Debug, PartialEq, Eq)]
+#[derive(Clone, Copy, PartialEq, Eq)]
 enum Form {
     /// Without a reference to memory.
     AtOnce,
@@ -173,7 +173,7 @@ static FORMS: [(&[u8], Form); 75] = [
 
 #[test]
 fn each_instruction_is_done_by_its_form(rt: HostRuntime) {
-    for (code, want) in &FORMS {
-        assert!(rt; form_at(code) == Some(*want), "{code:?}");
+    for (number, (code, want)) in FORMS.iter().enumerate() {
+        assert!(rt; form_at(code) == Some(*want), "row {number}");
     }
 }

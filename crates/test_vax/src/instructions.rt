@@ -6,7 +6,6 @@ ghost use Rattle.test_vax.specs.TestMemory.{byte_in, memory};
 
 use Trouble::{NotValid, Operand};
 use Width::{Byte, Long, Quad, Word};
-use std::test::Fail;
 use vax_arch::Psl;
 use vax_decode::{Decode, decode};
 use vax_exec::{Plan, Store, plan};
@@ -78,7 +77,7 @@ fn is_planned(what: Operation) -> bool
 }
 
 /// What a plan says, with its first eight stores, and how many there are.
-#[derive(Clone, Copy, Debug, PartialEq, Eq)]
+#[derive(Clone, Copy, PartialEq, Eq)]
 struct Told {
     r: [u32; 16],
     psw: u8,
@@ -467,8 +466,8 @@ fn storing(
 }
 
 #[test]
-fn stores_pushes_and_pops(rt: HostRuntime) -> Result<(), Fail> {
-    for row in &STORING {
+fn stores_pushes_and_pops(rt: HostRuntime) {
+    for (number, row) in STORING.iter().enumerate() {
         let ((code, psw, r0, r1), [at, low, high], after, stored) = *row;
         let (r0_after, r1_after, sp, pc, psw_after) = after;
         let m = Memory {
@@ -477,9 +476,8 @@ fn stores_pushes_and_pops(rt: HostRuntime) -> Result<(), Fail> {
         };
         let r = registers(r0, r1, 0x600, 0x200);
         let told = storing(registers(r0_after, r1_after, sp, pc), psw_after, stored);
-        assert_eq!(rt; found(&m, code, &r, psw), told, "{row:?}");
+        assert!(rt; found(&m, code, &r, psw) == told, "row {number}");
     }
-    Ok(())
 }
 
 /// The first `count` stores of longwords, at these places, of these values.
@@ -507,8 +505,8 @@ fn with_frame(r: [u32; 5]) -> [u32; 16] {
 }
 
 #[test]
-fn calls_and_returns(rt: HostRuntime) -> Result<(), Fail> {
-    for row in &CALLING {
+fn calls_and_returns(rt: HostRuntime) {
+    for (number, row) in CALLING.iter().enumerate() {
         let ((code, psw), [r0, ap, fp, sp], at, longs, after, psw_after, count, places, values) =
             *row;
         let r = with_frame([r0, ap, fp, sp, 0x200]);
@@ -519,18 +517,14 @@ fn calls_and_returns(rt: HostRuntime) -> Result<(), Fail> {
             count,
             stores: longwords(count, &places, &values),
         };
-        assert_eq!(rt;
-            found(&Memory { at, longs }, code, &r, psw),
-            Some(Ok(told)),
-            "{row:?}"
-        );
+        let found = found(&Memory { at, longs }, code, &r, psw);
+        assert!(rt; found == Some(Ok(told)), "row {number}");
     }
-    Ok(())
 }
 
 #[test]
-fn tells_the_first_trouble(rt: HostRuntime) -> Result<(), Fail> {
-    for row in &FAILING {
+fn tells_the_first_trouble(rt: HostRuntime) {
+    for (number, row) in FAILING.iter().enumerate() {
         let (code, r0, [at, long], place) = *row;
         let m = Memory {
             at,
@@ -541,7 +535,9 @@ fn tells_the_first_trouble(rt: HostRuntime) -> Result<(), Fail> {
             Some((va, write)) => NotValid { va, write },
             None => Operand,
         };
-        assert_eq!(rt; found(&m, code, &r, 0), Some(Err(trouble)), "{row:?}");
+        assert!(rt;
+            found(&m, code, &r, 0) == Some(Err(trouble)),
+            "row {number}"
+        );
     }
-    Ok(())
 }

@@ -104,7 +104,7 @@ fn check(
     let (before, after) = worlds;
     let (first, changed) = longs;
     let found = again(alloc, first, before, changed, after, budget)?;
-    assert!(rt; found == *seen, "{changed:?} {seen:?}");
+    assert!(rt; found == *seen, "{:x} at {:x}", changed.1, changed.0);
     Ok(())
 }
 

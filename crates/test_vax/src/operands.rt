@@ -320,7 +320,9 @@ fn check_elsewhere(rt: &impl Abort, row: &Elsewhere) {
     let found = operand(code, 0x1234_5678, 3);
     assert!(rt;
         found == wanted(*value, *dest, 0x1234_5678, *pc),
-        "{code:?}"
+        "{} {}",
+        code[0],
+        code[1]
     );
 }
 
@@ -354,7 +356,7 @@ fn check_trouble(rt: &impl Abort, row: &Failing) {
     let (code, r0, va, write) = *row;
     let found = operands(&code, r0, 0);
     let trouble = Trouble::NotValid { va, write };
-    assert!(rt; found == Some(Err(trouble)), "{code:?}");
+    assert!(rt; found == Some(Err(trouble)), "{} {}", code[0], code[1]);
 }
 
 #[test]

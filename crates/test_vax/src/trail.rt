@@ -74,10 +74,7 @@ static TRAILS: [Trail; 5] = [
 fn check_trail(rt: &impl Abort, alloc: Global, row: &Trail) -> Result<(), NoMemory> {
     let (first, second, trail, r3) = *row;
     let found = trailed(alloc, first, second)?;
-    assert!(rt;
-        found == (Exit::Budget, trail, r3),
-        "{first} {second} {found:?}"
-    );
+    assert!(rt; found == (Exit::Budget, trail, r3), "{first} {second}");
     Ok(())
 }
 

@@ -3,3 +3,4 @@ pub mod ShownFrames
 pub mod ShownRegisters
 pub mod ShownBorders
 pub mod ShownWidths
+pub mod Registers

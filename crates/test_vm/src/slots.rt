@@ -1,14 +1,20 @@
 use std::process::Abort;
 use vm_slots::{Context, Slots, Taken};
 
-fn context(p0br: u32) -> Context {
+/// A context of these registers.
+fn with(registers: (bool, u32, u32, u32, u32)) -> Context {
+    let (mapped, p0br, p0lr, p1br, p1lr) = registers;
     Context {
-        mapped: true,
+        mapped,
         p0br,
-        p0lr: 8,
-        p1br: 0,
-        p1lr: 0,
+        p0lr,
+        p1br,
+        p1lr,
     }
+}
+
+fn context(p0br: u32) -> Context {
+    with((true, p0br, 8, 0, 0))
 }
 
 /// Contexts that are taken in turn: the slot, and whether it is fresh and another one's.
@@ -52,76 +58,30 @@ fn taken(rt: &impl Abort) -> Slots {
 fn the_least_recently_used_gives_way(rt: HostRuntime) {
     let mut slots = taken(&rt);
     for (p0br, slot) in &FINDS {
-        assert_eq!(rt; slots.find(&context(*p0br)), *slot, "at {p0br}");
+        assert!(rt; slots.find(&context(*p0br)) == *slot, "at {p0br}");
     }
     slots.clear();
-    assert_eq!(rt; slots.find(&context(4)), None);
-}
-
-#[test]
-fn five_contexts_in_turn(rt: HostRuntime) {
-    let mut slots = Slots::new();
-    for p0br in 1..5 {
-        let taken = slots.take(&context(p0br));
-        assert_eq!(rt; u32::from(taken.slot) + 1, p0br);
-        assert!(rt; taken.fresh && !taken.evicted, "at {p0br}");
-    }
-    let fifth = Taken {
-        slot: 0,
-        fresh: true,
-        evicted: true,
-    };
-    assert!(rt; slots.take(&context(5)) == fifth);
-    assert_eq!(rt; slots.find(&context(1)), None);
+    assert!(rt; slots.find(&context(4)).is_none());
 }
 
 /// Contexts that differ from that of 1 in one register alone.
-static APART: [Context; 5] = [
-    Context {
-        mapped: false,
-        p0br: 1,
-        p0lr: 8,
-        p1br: 0,
-        p1lr: 0,
-    },
-    Context {
-        mapped: true,
-        p0br: 2,
-        p0lr: 8,
-        p1br: 0,
-        p1lr: 0,
-    },
-    Context {
-        mapped: true,
-        p0br: 1,
-        p0lr: 9,
-        p1br: 0,
-        p1lr: 0,
-    },
-    Context {
-        mapped: true,
-        p0br: 1,
-        p0lr: 8,
-        p1br: 4,
-        p1lr: 0,
-    },
-    Context {
-        mapped: true,
-        p0br: 1,
-        p0lr: 8,
-        p1br: 0,
-        p1lr: 1,
-    },
+static APART: [(bool, u32, u32, u32, u32); 5] = [
+    (false, 1, 8, 0, 0),
+    (true, 2, 8, 0, 0),
+    (true, 1, 9, 0, 0),
+    (true, 1, 8, 4, 0),
+    (true, 1, 8, 0, 1),
 ];
 
 /// Each has a slot of its own beside that one's.
 #[test]
 fn each_register_tells_contexts_apart(rt: HostRuntime) {
-    for other in &APART {
+    for registers in &APART {
+        let other = with(*registers);
         let mut slots = Slots::new();
-        assert_eq!(rt; slots.take(&context(1)).slot, 0);
-        assert_eq!(rt; slots.find(other), None);
-        assert_eq!(rt; slots.take(other).slot, 1);
-        assert_eq!(rt; slots.find(&context(1)), Some(0));
+        assert!(rt; slots.take(&context(1)).slot == 0);
+        assert!(rt; slots.find(&other).is_none());
+        assert!(rt; slots.take(&other).slot == 1);
+        assert!(rt; slots.find(&context(1)) == Some(0));
     }
 }

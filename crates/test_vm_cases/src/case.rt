@@ -21,7 +21,7 @@ pub enum Ground {
 /// What differs from a case: that it can't be set up; the kinds of its steps; a place with what is found there and what is
 /// expected; or the bytes that are shown. Of the machine alone: how many instructions retired, why it ended, or how many entries
 /// it missed.
-#[derive(Clone, Copy, Debug, PartialEq, Eq)]
+#[derive(Clone, Copy, Debug)]
 pub enum Difference {
     SetUp,
     Kinds(Kinds),

@@ -7,7 +7,7 @@ mod place;
 mod snapshot;
 mod stage;
 
-pub use allowed::is_allowed;
+use allowed::is_allowed;
 pub use place::{Place, REGISTERS};
 pub use snapshot::Snapshot;
-pub use stage::{Kinds, PAGES, PLAIN, Quanta, Stage, kinds_of, sums};
+pub use stage::{Kinds, Quanta, Stage, sums};

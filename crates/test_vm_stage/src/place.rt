@@ -152,8 +152,8 @@ impl Place {
         }
     }
 
-    /// Puts a value there: into the clock and the console as a program writes them, where RXDB types a byte. What can't be
-    /// put is left.
+    /// Puts a value there: into the clock and the console as a program writes them. A typed byte comes, a byte has been sent, and
+    /// a request of 0 has been taken. What can't be put is left.
     pub fn put_into(self, g: &mut GuestState, v: u32) {
         match self {
             Place::R(n) if n < 16 => g.r[n] = v,
@@ -177,6 +177,9 @@ impl Place {
             Place::Typed => {
                 let _ = g.console.type_byte((v % 0x100) as u8);
             }
+            Place::ClockDue => g.clock.taken(),
+            Place::RxDue => g.console.rx_taken(),
+            Place::TxDue if v == 0 => g.console.tx_taken(),
             Place::TxDue => g.console.sent(),
             Place::KcallDue => g.kcall_due = v == 1,
             Place::Packet(_) => {

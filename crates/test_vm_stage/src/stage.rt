@@ -23,9 +23,6 @@ const MACHINE: u32 = 700;
 /// How many steps are plain, sensitive, faults, interrupts, modify steps, idle and stopped.
 pub type Kinds = [u64; 7];
 
-/// One step of a kind.
-pub const PLAIN: Kinds = [1, 0, 0, 0, 0, 0, 0];
-
 /// How steps are taken: one by one, or in two calls, with the number of steps of the first.
 #[derive(Clone, Copy, Debug, PartialEq, Eq)]
 pub enum Quanta {
@@ -194,15 +191,6 @@ impl Stage {
         is_inside
     }
 
-    /// A longword of memory; 0 beyond it.
-    pub fn long(&self, pa: u32) -> u32
-        requires { IsShadowedIn self.now.machine.memory self.now.guest }
-    {
-        let mut bytes = [0; 4];
-        let _ = self.fetch(pa, &mut bytes);
-        u32::from_le_bytes(bytes)
-    }
-
     /// The guest has these registers, if each has a value that it may have; whether it has them.
     pub fn set(&mut self, mut state: GuestState) -> bool
         requires { IsShadowedIn self.old.machine.memory self.old.guest }
@@ -305,10 +293,10 @@ impl Stage {
         }
     }
 
-    /// This guest on a new machine, in other pages of it: its memory and its registers are carried over.
-    pub fn carried(self, alloc: Global) -> Result<Stage, NoMemory>
-        requires { IsShadowedIn self.machine.memory self.guest }
-        ensures { IfOk result (λ stage. IsShadowedIn stage.machine.memory stage.guest) }
+    /// The guest goes on on a new machine, in other pages of it: its memory and its registers are carried over.
+    pub fn carry(&mut self, alloc: Global) -> Result<(), NoMemory>
+        requires { IsShadowedIn self.old.machine.memory self.old.guest }
+        ensures { IsShadowedIn self.new.machine.memory self.new.guest }
     {
         let own = self.guest.state();
         let base = if own.base == 16 { 36 } else { 16 };
@@ -318,12 +306,13 @@ impl Stage {
         let _ = other.put(0, &memory);
         let _ = other.set(self.copy());
         let Stage {
-            machine: _,
-            guest: _,
-            port,
-        } = self;
-        other.port = port;
-        Ok(other)
+            machine,
+            guest,
+            port: _,
+        } = other;
+        self.machine = machine;
+        self.guest = guest;
+        Ok(())
     }
 
     /// How many entries the machine has missed, and how many instructions it has retired.
