@@ -80,10 +80,21 @@ module _ (c : Config) (images : List (List ℕ)) (m1 : Machine) (s0 : System) (d
   pub fits_read : All (FitsDrive drives1) c.volumes
   fits_read = subst (λ (ds : List SeenDrive). All (FitsDrive ds) c.volumes) (sym p.loaded.1) p.loaded.0.fit
 
-  pub run_made : (es : List Event) (n : ℕ) (m0 m2 : Machine) (lines lines2 : List Seen) (drives2 : List SeenDrive) (ran : Ran) → MakesFrom (first_moment c images p.volumes) es n ran (record { machine = m0; machine' = m2; lines = lines; lines' = lines2; drives = drives1; drives' = drives2 })
+  pub run_finished : (es : List Event) (n : ℕ) (m0 m2 : Machine) (lines lines2 : List Seen) (drives2 : List SeenDrive) (ran : Ran) → MakesFrom (first_moment c images p.volumes) es n ran (record { machine = m0; machine' = m2; lines = lines; lines' = lines2; drives = drives1; drives' = drives2 })
       → MakesRun (record { config = c; images = images; volumes = p.volumes; events = es; rounds = n }) ran (record { machine = m0; machine' = m2; lines = lines; lines' = lines2; drives = drives; drives' = drives2 })
-  run_made es n m0 m2 lines lines2 drives2 ran made = record {
+  run_finished es n m0 m2 lines lines2 drives2 ran made = record {
     fits = p.fits;
     loaded = p.loaded.0;
     makes = subst (λ (ds : List SeenDrive). MakesFrom (first_moment c images p.volumes) es n ran (record { machine = m0; machine' = m2; lines = lines; lines' = lines2; drives = ds; drives' = drives2 })) p.loaded.1 made;
   }
+
+-- .. and the rounds were made, and power went down
+pub run_made : (c : Config) (images : List (List ℕ)) (es : List Event) (n : ℕ) (m0 m1 m2 : Machine) (s0 s1 s2 : System) (lines lines1 lines2 : List Seen) (drives drives1 drives2 : List SeenDrive) → IsConfig c → (p : HasPower c images drives drives1 m1 s0) → MemoryAlone m0 m1 → MakesRounds n es m1 s0 lines m2 s1 lines1 → PowersDown m2 s1 lines1 drives1 s2 lines2 drives2
+    → HavePresent s0.guests (map none_touched (guests_in m1.memory s0.guests)) → (ran : Ran) → IsSystem s1 → ran.counts ≡ s2.counts → ran.failed ≡ first_failed s2.marks s2.drives → length lines2 ≡ length lines → length drives2 ≡ length drives
+    → MakesRun (record { config = c; images = images; volumes = p.volumes; events = es; rounds = n }) ran (record { machine = m0; machine' = m2; lines = lines; lines' = lines2; drives = drives; drives' = drives2 })
+run_made c images es n m0 m1 m2 s0 s1 s2 lines lines1 lines2 drives drives1 drives2 accepted p alone r d present ran holds counts failed lines_size drives_size =
+    let m : Moment = first_moment c images p.volumes in
+    let config : s0.config ≡ c = ap (λ (s : System). s.config) p.powered.system in
+    let fit : All (FitsDrive drives1) s0.config.volumes = fits_at m m1 s0 drives1 p.powered (fits_read c images m1 s0 drives drives1 p) in
+    run_finished c images m1 s0 drives drives1 p es n m0 m2 lines lines2 drives2 ran
+    (rounds_made m es n m0 m1 m2 s0 s1 s2 lines lines1 lines2 drives1 drives2 (subst IsConfig (sym config) accepted) fit p.powered alone r d present ran holds counts failed lines_size (drives_size ∙ ap length (sym p.loaded.1)))

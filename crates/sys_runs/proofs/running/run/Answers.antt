@@ -1,7 +1,7 @@
 use Rattle.std.proofs.Common.{◌≡◌, ap, arith}
 use Rattle.std.proofs.lemmas.Result.{err_from_is_err_and}
 use Rattle.sys_runs.proofs.Faults.{stays_down}
-use Rattle.sys_runs.proofs.Whole.{fits_at, fits_read, run_made}
+use Rattle.sys_runs.proofs.Whole.{fits_at, fits_read, run_finished}
 use Rattle.sys_system.specs.System.{System}
 use Rattle.sys_runs.proofs.running.run.Goals as goal
 
@@ -29,4 +29,4 @@ finish-requires-clause-fit g c =
 pub returns-clause-runs : goal.returns-clause-runs
 returns-clause-runs g c =
     let p = c.in_ok-system.ensures.powers in
-    (p.volumes, run_made c.args.config _ _ _ _ _ p c.args.events.now c.args.rounds _ _ _ _ _ _ (c.finish.ensures.makes _ _ p.powered c.power_up.ensures.alone))
+    (p.volumes, run_finished c.args.config _ _ _ _ _ p c.args.events.now c.args.rounds _ _ _ _ _ _ (c.finish.ensures.makes _ _ p.powered c.power_up.ensures.alone))
