@@ -110,11 +110,11 @@ save a status o (inr r) = inr (record { config = r.config; text = r.text; events
 
 resume : (a : ResumeAsked) (status : Status) (o : Outside) → FollowsResume MissesArePaid a status o → FollowsResume NothingMore a status o
 resume a status o (inl stops) = inl stops
-resume a status o (inr r) = inr (record { moment = r.moment; events = r.events; has = r.has; shelf = r.shelf; result = r.result; ends = (continues _ _ _ r.result _ r.ends.0, r.ends.1) })
+resume a status o (inr r) = inr (record { moment = r.moment; events = r.events; has = r.has; shelf = r.shelf; result = r.result; ends = (continues _ _ _ r.result _ r.ends.0, r.ends.1, r.ends.2) })
 
 extend : (a : ResumeAsked) (status : Status) (o : Outside) → FollowsExtend MissesArePaid a status o → FollowsExtend NothingMore a status o
 extend a status o (inl stops) = inl stops
-extend a status o (inr r) = inr (record { moment = r.moment; events = r.events; has = r.has; shelf = r.shelf; result = r.result; ends = (extends_run _ _ _ _ r.result _ o.out o.out' r.ends.0, r.ends.1) })
+extend a status o (inr r) = inr (record { moment = r.moment; events = r.events; has = r.has; shelf = r.shelf; result = r.result; ends = (extends_run _ _ _ _ r.result _ o.out o.out' r.ends.0, r.ends.1, r.ends.2, r.ends.3) })
 
 live : (a : LiveAsked) (status : Status) (o : Outside) (p : Operator) → FollowsLive MissesArePaid a status o p → FollowsLive NothingMore a status o p
 live a status o p (inl stops) = inl stops
