@@ -21,12 +21,15 @@ place_named name_of rows name = unwrap_or (position (λ x. bytes_eq name (name_o
 abbrev pub object_in : {A : Type 0} → (A → List ℕ) → List A → Data → Option ℕ
 object_in name_of rows d = as_str d >>= name_in >>= (λ name. Some (place_named name_of rows name))
 
+abbrev pub volume_place : List VolumeRow → List ℕ → ℕ
+volume_place = place_named (λ (v : VolumeRow). v.name)
+
 -- a mount and its unit, 0 to 3
 unfoldable pub mount_of : List VolumeRow → Members → Option UnitMount
 mount_of volumes t =
     if are_known (codes "unit" ∷ codes "volume" ∷ codes "write" ∷ []) t then
     (bounded_integer_at (codes "unit") 0 3 t >>= λ unit. name_at (codes "volume") t >>= λ name. flag_at (codes "write") t >>= λ write.
-    Some (record { unit = unit; mount = record { volume = place_named (λ (v : VolumeRow). v.name) volumes name; write = write } }))
+    Some (record { unit = unit; mount = record { volume = volume_place volumes name; write = write } }))
     else None
 
 abbrev pub Units : Type 0

@@ -1,6 +1,6 @@
 ghost use Rattle.std.specs.Prelude.{◌≡◌, ◌≤◌, IfSome, length};
 ghost use Rattle.toml.specs.View.{view, table_view, items_view};
-ghost use Rattle.sys_config.specs.Guests.{place_named, mount_of, mounted_at_unit, mounts_from, no_mounts, mounts_in};
+ghost use Rattle.sys_config.specs.Guests.{volume_place, mount_of, mounted_at_unit, mounts_from, no_mounts, mounts_in};
 
 use crate::entries::name_at;
 use crate::named::place_by;
@@ -18,7 +18,7 @@ pub struct UnitMount {
 /// The place of the volume that has a name, or the number of volumes.
 fn volume_place(volumes: &[VolumeRow], name: &[u8]) -> u8
     requires { length volumes.now ≤ 16 }
-    ensures { result ≡ place_named (λ v. v.name) volumes.now name.now }
+    ensures { result ≡ volume_place volumes.now name.now }
 {
     place_by(volumes, name)
 }
