@@ -263,20 +263,6 @@ impl<'t> Given<'t> {
         }
     }
 
-    /// The drives.
-    fn drives(&self, alloc: Global) -> Result<Vec<Box<dyn Drive>>, NoMemory>
-        ensures { IfOk result (λ drives. vec_len drives ≡ 16) }
-    {
-        let mut drives: Vec<Box<dyn Drive>> = Vec::new(alloc);
-        for number in 0..16u8 {
-            match self.memory_drive(alloc, number)? {
-                Some(drive) => drives.push(Box::new(alloc, drive)?)?,
-                None => drives.push(Box::new(alloc, EmptyDrive)?)?,
-            }
-        }
-        Ok(drives)
-    }
-
     /// Calls the program with these words over objects in memory, where a file may have a variant, and answers what they hold after
     /// it. It fails where memory runs out, and where the machine hasn't 32,768 pages.
     pub fn call(
@@ -290,7 +276,13 @@ impl<'t> Given<'t> {
             return Err(NoMemory);
         }
         let words = words_of(alloc, words)?;
-        let mut drives = self.drives(alloc)?;
+        let mut drives: Vec<Box<dyn Drive>> = Vec::new(alloc);
+        for number in 0..16u8 {
+            match self.memory_drive(alloc, number)? {
+                Some(drive) => drives.push(Box::new(alloc, drive)?)?,
+                None => drives.push(Box::new(alloc, EmptyDrive)?)?,
+            }
+        }
         let mut outside = Outside {
             shelf: self.shelf(alloc, variant)?,
             lines: self.lines(alloc)?,

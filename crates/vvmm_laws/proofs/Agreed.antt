@@ -101,7 +101,7 @@ record IsTyped (c : Config) (files : List File) (typed : List (List ℕ)) (o : O
   drives : All (λ row. (drive_at o.drives' row.drive).blocks ≡ known_after (drive_at o.drives row.drive).blocks (drive_blocks x row.drive)) c.volumes
 
 module _ (a : LiveAsked) (c : Config) (o : Outside) (p : Operator) (files : List File) (typed : List (List ℕ)) (told : o.files ≡ Some files) (has : HasConfig (Some files) a.config c) (taken : AreTaken typed p) where
-  module _ (q : PlaysLive MissesArePaid a Done o p) (lived : Lived) (x : Input) (same : x.config ≡ q.config) (held : x.images ≡ q.images) (lives : Lives MissesArePaid x a.rounds lived (run_outside o) p o.out q.shown) (none : lived.ran.failed ≡ None) (took : TookWell lives.typed p.keys p.keys') where
+  module _ (q : (PlaysLive MissesArePaid) a Done o p) (lived : Lived) (x : Input) (same : x.config ≡ q.config) (held : x.images ≡ q.images) (lives : (Lives MissesArePaid) x a.rounds lived (run_outside o) p o.out q.shown) (none : lived.ran.failed ≡ None) (took : TookWell lives.typed p.keys p.keys') where
     all : HasAllToLive (Some files) a q.config q.images
     all = has_told o files a Done p q told
 
@@ -145,14 +145,14 @@ module _ (a : LiveAsked) (c : Config) (o : Outside) (p : Operator) (files : List
       drives = subst (λ (d : Config). All (λ row. (drive_at o.drives' row.drive).blocks ≡ known_after (drive_at o.drives row.drive).blocks (drive_blocks x row.drive)) d.volumes) config_is drives_are;
     }
 
-  played : (q : PlaysLive MissesArePaid a Done o p) → IsTyped c files typed o
+  played : (q : (PlaysLive MissesArePaid) a Done o p) → IsTyped c files typed o
   played q = by q.result q.lives q.answers
     where
-      by : (result : Result Lived PowerFault) → LivesRun MissesArePaid q.config q.images a.rounds result (run_outside o) p o.out q.shown → AnswersLive result Done q.shown o.out' → IsTyped c files typed o
+      by : (result : Result Lived PowerFault) → (LivesRun MissesArePaid) q.config q.images a.rounds result (run_outside o) p o.out q.shown → AnswersLive result Done q.shown o.out' → IsTyped c files typed o
       by (Ok lived) (x, same, held, lives) closes = is_typed q lived x same held lives (none_failed lived.ran.failed closes.cut lived.typing closes.is) (took_all lived.ran.failed closes.cut lived.typing a.rounds lives.typed p.keys p.keys' closes.is lives.ends)
       by (Err fault) down (answer, rest) = absurd (not_down fault answer)
 
-  follows : FollowsLive MissesArePaid a Done o p → IsTyped c files typed o
+  follows : (FollowsLive MissesArePaid) a Done o p → IsTyped c files typed o
   follows (inl (stops, silent, untyped)) = absurd (not_stopped stops.stop stops.is)
   follows (inr q) = played q
 

@@ -81,7 +81,7 @@ module _ (files : List File) (a : RunAsked) (before now : ℕ) (none : Rose befo
 stops_told : (o : Outside) (files : List File) (a : RunAsked) (stop : Stop) → o.files ≡ Some files → StopsRun o.files a o.shelf o.shelf' stop → StopsRun (Some files) a o.shelf o.shelf' stop
 stops_told o files a stop told why = subst (λ (f : Option (List File)). StopsRun f a o.shelf o.shelf' stop) told why
 
-has_told : (o : Outside) (files : List File) (a : RunAsked) (status : Status) (p : PlaysRun MissesArePaid a status o) → o.files ≡ Some files → HasAll (Some files) a p.config p.events p.images
+has_told : (o : Outside) (files : List File) (a : RunAsked) (status : Status) (p : (PlaysRun MissesArePaid) a status o) → o.files ≡ Some files → HasAll (Some files) a p.config p.events p.images
 has_told o files a status p told = subst (λ (f : Option (List File)). HasAll f a p.config p.events p.images) told p.has
 
 -- what a run is made of is what the files stand for

@@ -148,7 +148,7 @@ module _ (m : Moment) (text : List ℕ) (es : List Event) (script : List ℕ) (b
     script_is files told = subst (λ (f : Option (List File)). HasScript f b.script es) told (subst (λ (xs : List Event). HasScript p.files b.script xs) events_are has.script)
 
 -- rounds were made and saved, and all was done
-module _ (m : Moment) (es : List Event) (n : ℕ) (text : List ℕ) (saved : Saved) (o : RunOutside) (out out' : Seen) (saves : SavesFrom MissesArePaid m es n text saved o out out') (done : Done ≡ status_when_done saved.failed saved.is_cut) where
+module _ (m : Moment) (es : List Event) (n : ℕ) (text : List ℕ) (saved : Saved) (o : RunOutside) (out out' : Seen) (saves : (SavesFrom MissesArePaid) m es n text saved o out out') (done : Done ≡ status_when_done saved.failed saved.is_cut) where
   uncut : saved.is_cut ≡ false
   uncut = none_cut saved.failed saved.is_cut done
 
@@ -174,15 +174,15 @@ module _ (m : Moment) (text : List ℕ) (es : List Event) (script : List ℕ) (x
   abbrev Shows : Type 0
   Shows = At next text es b.script p × ((k : ℕ) → (line_at p.lines' k).shown ≡ shown_after (line_at p.lines k).shown (shown_from m es b.rounds k))
 
-  extended : PlaysExtend MissesArePaid b Done p → Shows
+  extended : (PlaysExtend MissesArePaid) b Done p → Shows
   extended r = by r.result r.ends.0 r.ends.1
     where
-      by : (result : Result Saved PowerFault) → ExtendsRun MissesArePaid r.moment r.has.snap.is.text r.events b.rounds result (run_outside p) p.out p.out' → AnswersSave result Done → Shows
+      by : (result : Result Saved PowerFault) → (ExtendsRun MissesArePaid) r.moment r.has.snap.is.text r.events b.rounds result (run_outside p) p.out p.out' → AnswersSave result Done → Shows
       by (Ok saved) saves done =
-          let same : SavesFrom MissesArePaid m es b.rounds text saved (run_outside p) p.out p.out' =
-          subst (λ (k : Moment). SavesFrom MissesArePaid k es b.rounds text saved (run_outside p) p.out p.out') (moment_is m text es script b o p j at r.moment r.events r.has)
-          (subst (λ (fs : List Event). SavesFrom MissesArePaid r.moment fs b.rounds text saved (run_outside p) p.out p.out') (events_are m text es script b o p j at r.moment r.events r.has)
-          (subst (λ (t : List ℕ). SavesFrom MissesArePaid r.moment r.events b.rounds t saved (run_outside p) p.out p.out') (text_is m text es script b o p j at r.moment r.events r.has) saves)) in (
+          let same : (SavesFrom MissesArePaid) m es b.rounds text saved (run_outside p) p.out p.out' =
+          subst (λ (k : Moment). (SavesFrom MissesArePaid) k es b.rounds text saved (run_outside p) p.out p.out') (moment_is m text es script b o p j at r.moment r.events r.has)
+          (subst (λ (fs : List Event). (SavesFrom MissesArePaid) r.moment fs b.rounds text saved (run_outside p) p.out p.out') (events_are m text es script b o p j at r.moment r.events r.has)
+          (subst (λ (t : List ℕ). (SavesFrom MissesArePaid) r.moment r.events b.rounds t saved (run_outside p) p.out p.out') (text_is m text es script b o p j at r.moment r.events r.has) saves)) in (
             record {
               moment = same.moment (uncut m es b.rounds text saved (run_outside p) p.out p.out' same done);
               few_bytes = at.few_bytes;
@@ -219,7 +219,7 @@ chained m text es script o (x ∷ xs) at (inr plays, joined, rest) =
 abbrev whole : Config → List (List ℕ) → List (List (List ℕ)) → List Event → ℕ → Input
 whole c images volumes es n = record { config = c; images = images; volumes = volumes; events = es; rounds = n }
 
-module _ (a : RunAsked) (o : Outside) (xs : List Extension) (chain : AreChained a.script o xs) (s : PlaysSave MissesArePaid a Done o) (saved : Saved) (volumes : List (List (List ℕ))) (saves : Saves MissesArePaid (whole s.config s.images volumes s.events a.rounds) s.text saved (run_outside o) o.out o.out') (done : Done ≡ status_when_done saved.failed saved.is_cut) where
+module _ (a : RunAsked) (o : Outside) (xs : List Extension) (chain : AreChained a.script o xs) (s : (PlaysSave MissesArePaid) a Done o) (saved : Saved) (volumes : List (List (List ℕ))) (saves : (Saves MissesArePaid) (whole s.config s.images volumes s.events a.rounds) s.text saved (run_outside o) o.out o.out') (done : Done ≡ status_when_done saved.failed saved.is_cut) where
   abbrev start : Moment
   start = opening (whole s.config s.images volumes s.events a.rounds)
 
@@ -262,7 +262,7 @@ module _ (a : RunAsked) (o : Outside) (xs : List Extension) (chain : AreChained 
 
   -- .. and `resume` from there
   module _ (b : ResumeAsked) (p : Outside) (j : AreJoined (last_script a.script xs) b (last_outside o xs) p) where
-    module _ (ran : Ran) (made : MakesFrom MissesArePaid (moment_after start s.events all) s.events b.rounds ran (run_outside p)) (none : ran.failed ≡ None) where
+    module _ (ran : Ran) (made : (MakesFrom MissesArePaid) (moment_after start s.events all) s.events b.rounds ran (run_outside p)) (none : ran.failed ≡ None) where
       failed : device_of (first_marked made.marks) (first_marked made.drive_marks) ≡ None
       failed = sym made.failed ∙ none
 
@@ -292,21 +292,21 @@ module _ (a : RunAsked) (o : Outside) (xs : List Extension) (chain : AreChained 
         drives = drives_whole;
       }
 
-    goes : PlaysResume MissesArePaid b Done p → AreOneRun a b o xs p
+    goes : (PlaysResume MissesArePaid) b Done p → AreOneRun a b o xs p
     goes r = by r.result r.ends.0 r.ends.1
       where
-        by : (result : Result Ran PowerFault) → ContinuesRun MissesArePaid r.moment r.events b.rounds result (run_outside p) → AnswersRun b.rounds result Done p.out p.out' → AreOneRun a b o xs p
+        by : (result : Result Ran PowerFault) → (ContinuesRun MissesArePaid) r.moment r.events b.rounds result (run_outside p) → AnswersRun b.rounds result Done p.out p.out' → AreOneRun a b o xs p
         by (Ok ran) made closes =
             let moment = moment_is (moment_after start s.events all) s.text s.events (last_script a.script xs) b (last_outside o xs) p j last r.moment r.events r.has in
             let events = events_are (moment_after start s.events all) s.text s.events (last_script a.script xs) b (last_outside o xs) p j last r.moment r.events r.has in
-            are_one ran (subst (λ (m : Moment). MakesFrom MissesArePaid m s.events b.rounds ran (run_outside p)) moment (subst (λ (es : List Event). MakesFrom MissesArePaid r.moment es b.rounds ran (run_outside p)) events made)) (none_failed ran.failed closes.cut closes.is)
+            are_one ran (subst (λ (m : Moment). (MakesFrom MissesArePaid) m s.events b.rounds ran (run_outside p)) moment (subst (λ (es : List Event). (MakesFrom MissesArePaid) r.moment es b.rounds ran (run_outside p)) events made)) (none_failed ran.failed closes.cut closes.is)
         by (Err fault) down (answer, same) = absurd (not_down fault answer)
 
 pub saves_make_one : SavesMakeOne
 saves_make_one a o xs (inl (stopped, silent)) chain = absurd (not_stopped stopped.stop stopped.is)
 saves_make_one a o xs (inr s) chain = by s.result s.saves s.answers
   where
-    by : (result : Result Saved PowerFault) → SavesRun MissesArePaid s.config s.text s.images s.events a.rounds result (run_outside o) o.out o.out' → AnswersSave result Done → AreOneSave a o xs
+    by : (result : Result Saved PowerFault) → (SavesRun MissesArePaid) s.config s.text s.images s.events a.rounds result (run_outside o) o.out o.out' → AnswersSave result Done → AreOneSave a o xs
     by (Ok saved) (volumes, saves) answer = one_save a o xs chain s saved volumes saves answer
     by (Err fault) down answer = absurd (not_down fault answer)
 
@@ -315,6 +315,6 @@ parts_make_one a b o xs p (inl (stopped, silent)) chain second joined = absurd (
 parts_make_one a b o xs p (inr s) chain (inl (stopped, silent)) joined = absurd (not_stopped stopped.stop stopped.is)
 parts_make_one a b o xs p (inr s) chain (inr r) joined = by s.result s.saves s.answers
   where
-    by : (result : Result Saved PowerFault) → SavesRun MissesArePaid s.config s.text s.images s.events a.rounds result (run_outside o) o.out o.out' → AnswersSave result Done → AreOneRun a b o xs p
+    by : (result : Result Saved PowerFault) → (SavesRun MissesArePaid) s.config s.text s.images s.events a.rounds result (run_outside o) o.out o.out' → AnswersSave result Done → AreOneRun a b o xs p
     by (Ok saved) (volumes, saves) answer = goes a o xs chain s saved volumes saves answer b p joined r
     by (Err fault) down answer = absurd (not_down fault answer)

@@ -110,7 +110,7 @@ module _ (files : List File) (a : LiveAsked) (before now : ℕ) (none : Rose bef
 stops_told : (o : Outside) (files : List File) (a : LiveAsked) (stop : Stop) → o.files ≡ Some files → StopsLive o.files a o.shelf o.shelf' stop → StopsLive (Some files) a o.shelf o.shelf' stop
 stops_told o files a stop told why = subst (λ (f : Option (List File)). StopsLive f a o.shelf o.shelf' stop) told why
 
-pub has_told : (o : Outside) (files : List File) (a : LiveAsked) (status : Status) (p : Operator) (q : PlaysLive MissesArePaid a status o p) → o.files ≡ Some files → HasAllToLive (Some files) a q.config q.images
+pub has_told : (o : Outside) (files : List File) (a : LiveAsked) (status : Status) (p : Operator) (q : (PlaysLive MissesArePaid) a status o p) → o.files ≡ Some files → HasAllToLive (Some files) a q.config q.images
 has_told o files a status p q told = subst (λ (f : Option (List File)). HasAllToLive f a q.config q.images) told q.has
 
 -- what a run is made of is what the files stand for
@@ -159,11 +159,11 @@ names_drive_too d None false Over h = h
 names_drive_too d None false Broken h = h
 names_drive_too d None false Lost h = h
 
-module _ (a : LiveAsked) (status : Status) (o : Outside) (p : Operator) (q : PlaysLive MissesArePaid a status o p) where
+module _ (a : LiveAsked) (status : Status) (o : Outside) (p : Operator) (q : (PlaysLive MissesArePaid) a status o p) where
   lives_served : first_misfit q.config.guests q.images ≡ None → All (FitsDrive o.drives) q.config.volumes → ((d : ℕ) → HasFailed q.config.volumes o.drives o.drives' d → ⊥) → NoLineRose (run_outside o) → NoDriveRose (run_outside o) → (Rose o.out.faults o.out'.faults → ⊥) → (Rose p.keys.faults p.keys'.faults → ⊥) → IsLived p status
   lives_served fits drives_fit could lines drives kept keys = by q.result q.lives q.answers
     where
-      by : (result : Result Lived PowerFault) → LivesRun MissesArePaid q.config q.images a.rounds result (run_outside o) p o.out q.shown → AnswersLive result status q.shown o.out' → IsLived p status
+      by : (result : Result Lived PowerFault) → (LivesRun MissesArePaid) q.config q.images a.rounds result (run_outside o) p o.out q.shown → AnswersLive result status q.shown o.out' → IsLived p status
       by (Ok lived) (x, same, held, lives) closes =
           let failed : lived.ran.failed ≡ None = none_failed _ _ _ lived.ran (run_outside o) lives.makes.makes lines drives in
           subst (λ (s : Status). IsLived p s) (sym closes.is) (closed lived.ran.failed lived.is_cut closes.cut lived.typing a.rounds lives.typed p lives.echoed _ o.out q.shown o.out' failed lives.shown closes.closes kept lives.ends keys)
@@ -172,7 +172,7 @@ module _ (a : LiveAsked) (status : Status) (o : Outside) (p : Operator) (q : Pla
   lives_image : (g : ℕ) → first_misfit q.config.guests q.images ≡ Some g → IsImageOf g status
   lives_image g first = by q.result q.lives q.answers
     where
-      by : (result : Result Lived PowerFault) → LivesRun MissesArePaid q.config q.images a.rounds result (run_outside o) p o.out q.shown → AnswersLive result status q.shown o.out' → IsImageOf g status
+      by : (result : Result Lived PowerFault) → (LivesRun MissesArePaid) q.config q.images a.rounds result (run_outside o) p o.out q.shown → AnswersLive result status q.shown o.out' → IsImageOf g status
       by (Ok lived) (x, same, held, lives) closes =
           let fits = lives.makes.fits in
           absurd (cc (same, held, fits, first))
@@ -181,7 +181,7 @@ module _ (a : LiveAsked) (status : Status) (o : Outside) (p : Operator) (q : Pla
   lives_size : (v : ℕ) → first_misfit q.config.guests q.images ≡ None → IsMisfit q.config.volumes o.drives v → ((d : ℕ) → HasFailed q.config.volumes o.drives o.drives' d → ⊥) → IsSizeOf v status
   lives_size v fits misfit could = by q.result q.lives q.answers
     where
-      by : (result : Result Lived PowerFault) → LivesRun MissesArePaid q.config q.images a.rounds result (run_outside o) p o.out q.shown → AnswersLive result status q.shown o.out' → IsSizeOf v status
+      by : (result : Result Lived PowerFault) → (LivesRun MissesArePaid) q.config q.images a.rounds result (run_outside o) p o.out q.shown → AnswersLive result status q.shown o.out' → IsSizeOf v status
       by (Ok lived) (x, same, held, lives) closes =
           let fit : All (FitsDrive o.drives) q.config.volumes = subst (λ (d : Config). All (FitsDrive o.drives) d.volumes) same lives.makes.loaded.fit in
           absurd (misfit.differs (at_stands (FitsDrive o.drives) q.config.volumes v misfit.row misfit.stands fit))
@@ -190,7 +190,7 @@ module _ (a : LiveAsked) (status : Status) (o : Outside) (p : Operator) (q : Pla
   lives_names_line : (k : ℕ) → (line_at o.lines k).faults < (line_at o.lines' k).faults → NamesLine k status
   lives_names_line k h = by q.result q.lives q.answers
     where
-      by : (result : Result Lived PowerFault) → LivesRun MissesArePaid q.config q.images a.rounds result (run_outside o) p o.out q.shown → AnswersLive result status q.shown o.out' → NamesLine k status
+      by : (result : Result Lived PowerFault) → (LivesRun MissesArePaid) q.config q.images a.rounds result (run_outside o) p o.out q.shown → AnswersLive result status q.shown o.out' → NamesLine k status
       by (Ok lived) (x, same, held, lives) closes =
           subst (λ (s : Status). NamesLine k s) (sym closes.is) (names_line_too k lived.ran.failed closes.cut lived.typing (names_line _ _ _ lived.ran (run_outside o) lives.makes.makes closes.cut k h))
       by (Err fault) (down, untyped, same) answers = absurd (down_line_kept q.config q.images (run_outside o) fault down k h)
@@ -198,7 +198,7 @@ module _ (a : LiveAsked) (status : Status) (o : Outside) (p : Operator) (q : Pla
   lives_names_drive : (d : ℕ) → (drive_at o.drives d).faults < (drive_at o.drives' d).faults → NamesDrive d status
   lives_names_drive d h = by q.result q.lives q.answers
     where
-      by : (result : Result Lived PowerFault) → LivesRun MissesArePaid q.config q.images a.rounds result (run_outside o) p o.out q.shown → AnswersLive result status q.shown o.out' → NamesDrive d status
+      by : (result : Result Lived PowerFault) → (LivesRun MissesArePaid) q.config q.images a.rounds result (run_outside o) p o.out q.shown → AnswersLive result status q.shown o.out' → NamesDrive d status
       by (Ok lived) (x, same, held, lives) closes =
           subst (λ (s : Status). NamesDrive d s) (sym closes.is) (names_drive_too d lived.ran.failed closes.cut lived.typing (names_drive _ _ _ lived.ran (run_outside o) lives.makes.makes closes.cut d h))
       by (Err fault) (down, untyped, same) (answer, rest) = subst (λ (s : Status). NamesDrive d s) (sym answer) (down_names_drive q.config q.images (run_outside o) fault down d h)

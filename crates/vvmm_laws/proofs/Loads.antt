@@ -17,7 +17,7 @@ can_come (Some line) cut = tt
 can_come None true = tt
 can_come None false = tt
 
-module _ (number : ℕ) (status : Status) (o : Outside) (p : PlaysLoad MissesArePaid (workload_of number) status (run_outside o) o.out o.out') where
+module _ (number : ℕ) (status : Status) (o : Outside) (p : (PlaysLoad MissesArePaid) (workload_of number) status (run_outside o) o.out o.out') where
   -- the answer, by the lines that failed
   answer : status ≡ status_when_done (device_of (first_marked p.made.marks) None) p.closes.cut
   answer = p.closes.is ∙ ap (λ (f : Option Device). status_when_done f p.closes.cut) p.made.failed

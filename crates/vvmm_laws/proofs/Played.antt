@@ -52,7 +52,7 @@ NoLineRose o = (k : ℕ) → Rose (line_at o.lines k).faults (line_at o.lines' k
 abbrev pub NoDriveRose : RunOutside → Type 0
 NoDriveRose o = (d : ℕ) → Rose (drive_at o.drives d).faults (drive_at o.drives' d).faults → ⊥
 
-pub none_failed : (m : Moment) (es : List Event) (n : ℕ) (ran : Ran) (o : RunOutside) → MakesFrom MissesArePaid m es n ran o → NoLineRose o → NoDriveRose o → ran.failed ≡ None
+pub none_failed : (m : Moment) (es : List Event) (n : ℕ) (ran : Ran) (o : RunOutside) → (MakesFrom MissesArePaid) m es n ran o → NoLineRose o → NoDriveRose o → ran.failed ≡ None
 none_failed m es n ran o made lines drives = made.failed ∙ no_device (first_marked made.marks) (first_marked made.drive_marks)
     (λ k e. lines k (line_rose made.marks o.lines o.lines' _ k e made.lines))
     (λ d e. drives d (drive_rose m es n made.drive_marks o.drives o.drives' d made.drives (marked_at made.drive_marks d e)))
@@ -141,7 +141,7 @@ module _ (c : Config) (images : List (List ℕ)) (o : RunOutside) where
       by NoMemory untouched = same_drives o d h untouched.drives
 
 -- Rounds were made: a device that failed is named, whatever was cut then.
-module _ (m : Moment) (es : List Event) (n : ℕ) (ran : Ran) (o : RunOutside) (made : MakesFrom MissesArePaid m es n ran o) (cut : Bool) where
+module _ (m : Moment) (es : List Event) (n : ℕ) (ran : Ran) (o : RunOutside) (made : (MakesFrom MissesArePaid) m es n ran o) (cut : Bool) where
   pub names_line : (k : ℕ) → (line_at o.lines k).faults < (line_at o.lines' k).faults → NamesLine k (status_when_done ran.failed cut)
   names_line k h =
       subst (λ (f : Option Device). NamesLine k (status_when_done f cut)) (sym made.failed) (named_line made.marks o.lines o.lines' _ k made.lines h (first_marked made.marks) (first_marked made.drive_marks) cut refl)
@@ -156,7 +156,7 @@ module _ (m : Moment) (es : List Event) (n : ℕ) (ran : Ran) (o : RunOutside) (
       named None None e = absurd (no_drive_greater m es n made.drive_marks o.drives o.drives' d made.drives e h)
 
 -- Then bytes were put.
-module _ (m : Moment) (es : List Event) (n : ℕ) (ran : Ran) (o : RunOutside) (made : MakesFrom MissesArePaid m es n ran o) (bytes : List ℕ) (status : Status) (out out' : Seen) (closes : EndsWithPut ran.failed bytes status out out') where
+module _ (m : Moment) (es : List Event) (n : ℕ) (ran : Ran) (o : RunOutside) (made : (MakesFrom MissesArePaid) m es n ran o) (bytes : List ℕ) (status : Status) (out out' : Seen) (closes : EndsWithPut ran.failed bytes status out out') where
   pub made_served : NoLineRose o → NoDriveRose o → (Rose out.faults out'.faults → ⊥) → IsServed status
   made_served lines drives kept = closes_served ran.failed bytes status out out' (none_failed m es n ran o made lines drives) closes kept
 
@@ -167,7 +167,7 @@ module _ (m : Moment) (es : List Event) (n : ℕ) (ran : Ran) (o : RunOutside) (
   made_names_drive d h = subst (λ (s : Status). NamesDrive d s) (sym closes.is) (names_drive m es n ran o made closes.cut d h)
 
 -- Or their last moment was.
-module _ (m : Moment) (es : List Event) (n : ℕ) (text : List ℕ) (saved : Saved) (o : RunOutside) (out out' : Seen) (saves : SavesFrom MissesArePaid m es n text saved o out out') (status : Status) (is : status ≡ status_when_done saved.failed saved.is_cut) where
+module _ (m : Moment) (es : List Event) (n : ℕ) (text : List ℕ) (saved : Saved) (o : RunOutside) (out out' : Seen) (saves : (SavesFrom MissesArePaid) m es n text saved o out out') (status : Status) (is : status ≡ status_when_done saved.failed saved.is_cut) where
   pub saved_served : NoLineRose o → (Rose out.faults out'.faults → ⊥) → IsServed status
   saved_served lines kept =
       let failed : saved.failed ≡ None = saves.failed ∙ no_device (first_marked saves.marks) None (λ k e. lines k (line_rose saves.marks o.lines o.lines' _ k e saves.lines)) (λ d e. cc) in
@@ -178,12 +178,12 @@ module _ (m : Moment) (es : List Event) (n : ℕ) (text : List ℕ) (saved : Sav
       let named : status ≡ status_when_done (device_of (first_marked saves.marks) None) saved.is_cut = is ∙ ap (λ (f : Option Device). status_when_done f saved.is_cut) saves.failed in
       subst (λ (s : Status). NamesLine k s) (sym named) (named_line saves.marks o.lines o.lines' _ k saves.lines h (first_marked saves.marks) None saved.is_cut refl)
 
-module _ (c : Config) (images : List (List ℕ)) (es : List Event) (rounds : ℕ) (status : Status) (o : RunOutside) (out out' : Seen) (p : PlaysConfiguration MissesArePaid c images es rounds status o out out') where
+module _ (c : Config) (images : List (List ℕ)) (es : List Event) (rounds : ℕ) (status : Status) (o : RunOutside) (out out' : Seen) (p : (PlaysConfiguration MissesArePaid) c images es rounds status o out out') where
   -- images and drives that fit, and no risen count, are served
   pub plays_served : first_misfit c.guests images ≡ None → All (FitsDrive o.drives) c.volumes → ((d : ℕ) → HasFailed c.volumes o.drives o.drives' d → ⊥) → NoLineRose o → NoDriveRose o → (Rose out.faults out'.faults → ⊥) → IsServed status
   plays_served fits drives_fit readable lines drives kept = by p.result p.runs p.answers
     where
-      by : (result : Result Ran PowerFault) → Runs MissesArePaid c images es rounds result o → AnswersRun rounds result status out out' → IsServed status
+      by : (result : Result Ran PowerFault) → (Runs MissesArePaid) c images es rounds result o → AnswersRun rounds result status out out' → IsServed status
       by (Ok ran) (volumes, made) closes = made_served _ _ _ ran o made.makes _ status out out' closes lines drives kept
       by (Err fault) down (answer, same) = subst (λ (s : Status). IsServed s) (sym answer) (down_served c images o fault down fits drives_fit readable)
 
@@ -191,27 +191,27 @@ module _ (c : Config) (images : List (List ℕ)) (es : List Event) (rounds : ℕ
   pub plays_image : (g : ℕ) → first_misfit c.guests images ≡ Some g → IsImageOf g status
   plays_image g first = by p.result p.runs p.answers
     where
-      by : (result : Result Ran PowerFault) → Runs MissesArePaid c images es rounds result o → AnswersRun rounds result status out out' → IsImageOf g status
+      by : (result : Result Ran PowerFault) → (Runs MissesArePaid) c images es rounds result o → AnswersRun rounds result status out out' → IsImageOf g status
       by (Ok ran) (volumes, made) closes = absurd (cc (made.fits, first))
       by (Err fault) down (answer, same) = subst (λ (s : Status). IsImageOf g s) (sym answer) (down_image c images o fault down g first)
 
   pub plays_size : (v : ℕ) → first_misfit c.guests images ≡ None → IsMisfit c.volumes o.drives v → ((d : ℕ) → HasFailed c.volumes o.drives o.drives' d → ⊥) → IsSizeOf v status
   plays_size v fits misfit readable = by p.result p.runs p.answers
     where
-      by : (result : Result Ran PowerFault) → Runs MissesArePaid c images es rounds result o → AnswersRun rounds result status out out' → IsSizeOf v status
+      by : (result : Result Ran PowerFault) → (Runs MissesArePaid) c images es rounds result o → AnswersRun rounds result status out out' → IsSizeOf v status
       by (Ok ran) (volumes, made) closes = absurd (misfit.differs (at_stands (FitsDrive o.drives) c.volumes v misfit.row misfit.stands made.loaded.fit))
       by (Err fault) down (answer, same) = subst (λ (s : Status). IsSizeOf v s) (sym answer) (down_size c images o fault down v fits misfit readable)
 
   pub plays_names_line : (k : ℕ) → (line_at o.lines k).faults < (line_at o.lines' k).faults → NamesLine k status
   plays_names_line k h = by p.result p.runs p.answers
     where
-      by : (result : Result Ran PowerFault) → Runs MissesArePaid c images es rounds result o → AnswersRun rounds result status out out' → NamesLine k status
+      by : (result : Result Ran PowerFault) → (Runs MissesArePaid) c images es rounds result o → AnswersRun rounds result status out out' → NamesLine k status
       by (Ok ran) (volumes, made) closes = made_names_line _ _ _ ran o made.makes _ status out out' closes k h
       by (Err fault) down answers = absurd (down_line_kept c images o fault down k h)
 
   pub plays_names_drive : (d : ℕ) → (drive_at o.drives d).faults < (drive_at o.drives' d).faults → NamesDrive d status
   plays_names_drive d h = by p.result p.runs p.answers
     where
-      by : (result : Result Ran PowerFault) → Runs MissesArePaid c images es rounds result o → AnswersRun rounds result status out out' → NamesDrive d status
+      by : (result : Result Ran PowerFault) → (Runs MissesArePaid) c images es rounds result o → AnswersRun rounds result status out out' → NamesDrive d status
       by (Ok ran) (volumes, made) closes = made_names_drive _ _ _ ran o made.makes _ status out out' closes d h
       by (Err fault) down (answer, same) = subst (λ (s : Status). NamesDrive d s) (sym answer) (down_names_drive c images o fault down d h)

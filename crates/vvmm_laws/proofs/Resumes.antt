@@ -174,7 +174,7 @@ module _ (m : Moment) (o : RunOutside) where
 
 module _ (a : ResumeAsked) (status : Status) (o : Outside) where
   -- `resume` does so
-  resumes : PlaysResume MissesArePaid a status o → GoesOn a status o
+  resumes : (PlaysResume MissesArePaid) a status o → GoesOn a status o
   resumes p = record {
     moment = p.moment;
     events = p.events;
@@ -184,20 +184,20 @@ module _ (a : ResumeAsked) (status : Status) (o : Outside) where
     names_line = λ k h. line p.result p.ends.0 p.ends.1 k h;
   }
     where
-      served : (result : Result Ran PowerFault) → ContinuesRun MissesArePaid p.moment p.events a.rounds result (run_outside o) → AnswersRun a.rounds result status o.out o.out' → All (FitsDrive o.drives) p.moment.config.volumes → NoneRose o → IsServed status
+      served : (result : Result Ran PowerFault) → (ContinuesRun MissesArePaid) p.moment p.events a.rounds result (run_outside o) → AnswersRun a.rounds result status o.out o.out' → All (FitsDrive o.drives) p.moment.config.volumes → NoneRose o → IsServed status
       served (Ok ran) made closes fit none = made_served _ _ _ ran (run_outside o) made _ status o.out o.out' closes none.lines none.drives none.out
       served (Err fault) down (answer, same) fit none = subst (λ (s : Status). IsServed s) (sym answer) (stays_served p.moment (run_outside o) fault down fit)
 
-      size : (result : Result Ran PowerFault) → ContinuesRun MissesArePaid p.moment p.events a.rounds result (run_outside o) → AnswersRun a.rounds result status o.out o.out' → (v : ℕ) → IsMisfit p.moment.config.volumes o.drives v → IsSizeOf v status
+      size : (result : Result Ran PowerFault) → (ContinuesRun MissesArePaid) p.moment p.events a.rounds result (run_outside o) → AnswersRun a.rounds result status o.out o.out' → (v : ℕ) → IsMisfit p.moment.config.volumes o.drives v → IsSizeOf v status
       size (Ok ran) made closes v misfit = absurd (misfit.differs (at_stands (FitsDrive o.drives) p.moment.config.volumes v misfit.row misfit.stands made.fit))
       size (Err fault) down (answer, same) v misfit = subst (λ (s : Status). IsSizeOf v s) (sym answer) (stays_size p.moment (run_outside o) fault down v misfit)
 
-      line : (result : Result Ran PowerFault) → ContinuesRun MissesArePaid p.moment p.events a.rounds result (run_outside o) → AnswersRun a.rounds result status o.out o.out' → (k : ℕ) → (line_at o.lines k).faults < (line_at o.lines' k).faults → NamesLine k status
+      line : (result : Result Ran PowerFault) → (ContinuesRun MissesArePaid) p.moment p.events a.rounds result (run_outside o) → AnswersRun a.rounds result status o.out o.out' → (k : ℕ) → (line_at o.lines k).faults < (line_at o.lines' k).faults → NamesLine k status
       line (Ok ran) made closes k h = made_names_line _ _ _ ran (run_outside o) made _ status o.out o.out' closes k h
       line (Err fault) down answers k h = absurd (stays_line p.moment (run_outside o) fault down k h)
 
   -- and so does `extend`
-  extends : PlaysExtend MissesArePaid a status o → GoesOn a status o
+  extends : (PlaysExtend MissesArePaid) a status o → GoesOn a status o
   extends p = record {
     moment = p.moment;
     events = p.events;
@@ -207,15 +207,15 @@ module _ (a : ResumeAsked) (status : Status) (o : Outside) where
     names_line = λ k h. line p.result p.ends.0 p.ends.1 k h;
   }
     where
-      served : (result : Result Saved PowerFault) → ExtendsRun MissesArePaid p.moment p.has.snap.is.text p.events a.rounds result (run_outside o) o.out o.out' → AnswersSave result status → All (FitsDrive o.drives) p.moment.config.volumes → NoneRose o → IsServed status
+      served : (result : Result Saved PowerFault) → (ExtendsRun MissesArePaid) p.moment p.has.snap.is.text p.events a.rounds result (run_outside o) o.out o.out' → AnswersSave result status → All (FitsDrive o.drives) p.moment.config.volumes → NoneRose o → IsServed status
       served (Ok saved) saves answer fit none = saved_served _ _ _ _ saved (run_outside o) o.out o.out' saves status answer none.lines none.out
       served (Err fault) (down, same) answer fit none = subst (λ (s : Status). IsServed s) (sym answer) (stays_served p.moment (run_outside o) fault down fit)
 
-      size : (result : Result Saved PowerFault) → ExtendsRun MissesArePaid p.moment p.has.snap.is.text p.events a.rounds result (run_outside o) o.out o.out' → AnswersSave result status → (v : ℕ) → IsMisfit p.moment.config.volumes o.drives v → IsSizeOf v status
+      size : (result : Result Saved PowerFault) → (ExtendsRun MissesArePaid) p.moment p.has.snap.is.text p.events a.rounds result (run_outside o) o.out o.out' → AnswersSave result status → (v : ℕ) → IsMisfit p.moment.config.volumes o.drives v → IsSizeOf v status
       size (Ok saved) saves answer v misfit = absurd (misfit.differs (at_stands (FitsDrive o.drives) p.moment.config.volumes v misfit.row misfit.stands saves.fit))
       size (Err fault) (down, same) answer v misfit = subst (λ (s : Status). IsSizeOf v s) (sym answer) (stays_size p.moment (run_outside o) fault down v misfit)
 
-      line : (result : Result Saved PowerFault) → ExtendsRun MissesArePaid p.moment p.has.snap.is.text p.events a.rounds result (run_outside o) o.out o.out' → AnswersSave result status → (k : ℕ) → (line_at o.lines k).faults < (line_at o.lines' k).faults → NamesLine k status
+      line : (result : Result Saved PowerFault) → (ExtendsRun MissesArePaid) p.moment p.has.snap.is.text p.events a.rounds result (run_outside o) o.out o.out' → AnswersSave result status → (k : ℕ) → (line_at o.lines k).faults < (line_at o.lines' k).faults → NamesLine k status
       line (Ok saved) saves answer k h = saved_names_line _ _ _ _ saved (run_outside o) o.out o.out' saves status answer k h
       line (Err fault) (down, same) answer k h = absurd (stays_line p.moment (run_outside o) fault down k h)
 
@@ -226,11 +226,11 @@ Either a status o = (Stops (StopsExtend o.files a o.shelf o.shelf') status × Si
 abbrev pub DoesEither : (ResumeAsked → Status → Outside → Type 0) → Type 0
 DoesEither Follows = (a : ResumeAsked) (status : Status) (o : Outside) → Follows a status o → Either a status o
 
-pub resume_either : DoesEither FollowsResume MissesArePaid
+pub resume_either : DoesEither (FollowsResume MissesArePaid)
 resume_either a status o (inl (stops, silent)) = inl (record { stop = stops.stop; is = stops.is; why = stops_extend o.files a o.shelf o.shelf' stops.stop stops.why }, silent)
 resume_either a status o (inr p) = inr (resumes a status o p)
 
-pub extend_either : DoesEither FollowsExtend MissesArePaid
+pub extend_either : DoesEither (FollowsExtend MissesArePaid)
 extend_either a status o (inl stopped) = inl stopped
 extend_either a status o (inr p) = inr (extends a status o p)
 
@@ -306,7 +306,7 @@ pub tells_resume_drive_fault : TellsResumeDriveFault
 tells_resume_drive_fault a status o d (inl (stops, silent)) h = absurd (same_drives (run_outside o) d h silent.run.drives)
 tells_resume_drive_fault a status o d (inr p) h = by p.result p.ends.0 p.ends.1
   where
-    by : (result : Result Ran PowerFault) → ContinuesRun MissesArePaid p.moment p.events a.rounds result (run_outside o) → AnswersRun a.rounds result status o.out o.out' → NamesDrive d status
+    by : (result : Result Ran PowerFault) → (ContinuesRun MissesArePaid) p.moment p.events a.rounds result (run_outside o) → AnswersRun a.rounds result status o.out o.out' → NamesDrive d status
     by (Ok ran) made closes = made_names_drive _ _ _ ran (run_outside o) made _ status o.out o.out' closes d h
     by (Err fault) down answers = absurd (same_drives (run_outside o) d h (untouched p.moment (run_outside o) fault down).drives)
 

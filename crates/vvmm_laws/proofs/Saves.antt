@@ -82,35 +82,35 @@ module _ (o : Outside) (files : List File) (a : RunAsked) (told : o.files ≡ So
   stopped stop status is why run room =
       subst Told (sym is) (save_stop files a Told o.shelf o.shelf' stop (subst (λ (f : Option (List File)). StopsSave f a o.shelf o.shelf' stop) told why) run room)
 
-has_told : (o : Outside) (files : List File) (a : RunAsked) (status : Status) (p : PlaysSave MissesArePaid a status o) → o.files ≡ Some files → HasAllToSave (Some files) a p.text p.config p.events p.images
+has_told : (o : Outside) (files : List File) (a : RunAsked) (status : Status) (p : (PlaysSave MissesArePaid) a status o) → o.files ≡ Some files → HasAllToSave (Some files) a p.text p.config p.events p.images
 has_told o files a status p told = subst (λ (f : Option (List File)). HasAllToSave f a p.text p.config p.events p.images) told p.has
 
-module _ (a : RunAsked) (status : Status) (o : Outside) (p : PlaysSave MissesArePaid a status o) where
+module _ (a : RunAsked) (status : Status) (o : Outside) (p : (PlaysSave MissesArePaid) a status o) where
   saves_served : first_misfit p.config.guests p.images ≡ None → All (FitsDrive o.drives) p.config.volumes → ((d : ℕ) → HasFailed p.config.volumes o.drives o.drives' d → ⊥) → NoLineRose (run_outside o) → (Rose o.out.faults o.out'.faults → ⊥) → IsServed status
   saves_served fits drives_fit could lines kept = by p.result p.saves p.answers
     where
-      by : (result : Result Saved PowerFault) → SavesRun MissesArePaid p.config p.text p.images p.events a.rounds result (run_outside o) o.out o.out' → AnswersSave result status → IsServed status
+      by : (result : Result Saved PowerFault) → (SavesRun MissesArePaid) p.config p.text p.images p.events a.rounds result (run_outside o) o.out o.out' → AnswersSave result status → IsServed status
       by (Ok saved) (volumes, saves) answer = saved_served _ _ _ _ saved (run_outside o) o.out o.out' saves.saves status answer lines kept
       by (Err fault) (down, same) answer = subst (λ (s : Status). IsServed s) (sym answer) (down_served p.config p.images (run_outside o) fault down fits drives_fit could)
 
   saves_image : (g : ℕ) → first_misfit p.config.guests p.images ≡ Some g → IsImageOf g status
   saves_image g first = by p.result p.saves p.answers
     where
-      by : (result : Result Saved PowerFault) → SavesRun MissesArePaid p.config p.text p.images p.events a.rounds result (run_outside o) o.out o.out' → AnswersSave result status → IsImageOf g status
+      by : (result : Result Saved PowerFault) → (SavesRun MissesArePaid) p.config p.text p.images p.events a.rounds result (run_outside o) o.out o.out' → AnswersSave result status → IsImageOf g status
       by (Ok saved) (volumes, saves) answer = absurd (cc (saves.fits, first))
       by (Err fault) (down, same) answer = subst (λ (s : Status). IsImageOf g s) (sym answer) (down_image p.config p.images (run_outside o) fault down g first)
 
   saves_size : (v : ℕ) → first_misfit p.config.guests p.images ≡ None → IsMisfit p.config.volumes o.drives v → ((d : ℕ) → HasFailed p.config.volumes o.drives o.drives' d → ⊥) → IsSizeOf v status
   saves_size v fits misfit could = by p.result p.saves p.answers
     where
-      by : (result : Result Saved PowerFault) → SavesRun MissesArePaid p.config p.text p.images p.events a.rounds result (run_outside o) o.out o.out' → AnswersSave result status → IsSizeOf v status
+      by : (result : Result Saved PowerFault) → (SavesRun MissesArePaid) p.config p.text p.images p.events a.rounds result (run_outside o) o.out o.out' → AnswersSave result status → IsSizeOf v status
       by (Ok saved) (volumes, saves) answer = absurd (misfit.differs (at_stands (FitsDrive o.drives) p.config.volumes v misfit.row misfit.stands saves.loaded.fit))
       by (Err fault) (down, same) answer = subst (λ (s : Status). IsSizeOf v s) (sym answer) (down_size p.config p.images (run_outside o) fault down v fits misfit could)
 
   saves_names_line : (k : ℕ) → (line_at o.lines k).faults < (line_at o.lines' k).faults → NamesLine k status
   saves_names_line k h = by p.result p.saves p.answers
     where
-      by : (result : Result Saved PowerFault) → SavesRun MissesArePaid p.config p.text p.images p.events a.rounds result (run_outside o) o.out o.out' → AnswersSave result status → NamesLine k status
+      by : (result : Result Saved PowerFault) → (SavesRun MissesArePaid) p.config p.text p.images p.events a.rounds result (run_outside o) o.out o.out' → AnswersSave result status → NamesLine k status
       by (Ok saved) (volumes, saves) answer = saved_names_line _ _ _ _ saved (run_outside o) o.out o.out' saves.saves status answer k h
       by (Err fault) (down, same) answer = absurd (down_line_kept p.config p.images (run_outside o) fault down k h)
 

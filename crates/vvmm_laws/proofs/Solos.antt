@@ -78,26 +78,26 @@ stops_told o files name stop told why = subst (λ (f : Option (List File)). Stop
 read_told : (o : Outside) (files : List File) (name text : List ℕ) → o.files ≡ Some files → IsRead o.files name text → IsRead (Some files) name text
 read_told o files name text told read = subst (λ (f : Option (List File)). IsRead f name text) told read
 
-pub completes_solo : CompletesImage FollowsSolo MissesArePaid
+pub completes_solo : CompletesImage (FollowsSolo MissesArePaid)
 completes_solo a status o image files (inl (stops, silent)) told read fits none = subst (λ (s : Status). IsServed s) (sym (stops.is ∙ only_memory files a.image o.shelf o.shelf' stops.stop image (stops_told o files a.image stops.stop told stops.why) read none.shelf)) tt
 completes_solo a status o image files (inr p) told read fits none =
     let same : image ≡ p.image = one_text files a.image image p.image read (read_told o files a.image p.image told p.read) in
     plays_served (solo_config a) (p.image ∷ []) [] 1 status (run_outside o) o.out o.out' p.plays (no_misfit a p.image (subst (λ (text : List ℕ). load_address + length text ≤ memory_size) same fits)) (all_fit o.drives) (no_volume o.drives o.drives') none.lines none.drives none.out
 
-pub tells_solo_image : TellsImageMisfit FollowsSolo MissesArePaid
+pub tells_solo_image : TellsImageMisfit (FollowsSolo MissesArePaid)
 tells_solo_image a status o image files (inl (stops, silent)) told read more none = subst (λ (s : Status). IsImageOf 0 s) (sym (stops.is ∙ only_memory files a.image o.shelf o.shelf' stops.stop image (stops_told o files a.image stops.stop told stops.why) read none)) tt
 tells_solo_image a status o image files (inr p) told read more none =
     let same : image ≡ p.image = one_text files a.image image p.image read (read_told o files a.image p.image told p.read) in
     plays_image (solo_config a) (p.image ∷ []) [] 1 status (run_outside o) o.out o.out' p.plays 0 (misfit a p.image (subst (λ (text : List ℕ). memory_size < load_address + length text) same more))
 
-pub tells_solo_missing : TellsImageMissing FollowsSolo MissesArePaid
+pub tells_solo_missing : TellsImageMissing (FollowsSolo MissesArePaid)
 tells_solo_missing a status o files (inl (stops, silent)) told lacks none = subst (λ (s : Status). IsMissing a.image s) (sym stops.is) (missing_stop files a.image o.shelf o.shelf' stops.stop (stops_told o files a.image stops.stop told stops.why) lacks none)
 tells_solo_missing a status o files (inr p) told lacks none = absurd (lacked files a.image lacks p.image (read_told o files a.image p.image told p.read))
 
-pub tells_solo_too_long : TellsImageTooLong FollowsSolo MissesArePaid
+pub tells_solo_too_long : TellsImageTooLong (FollowsSolo MissesArePaid)
 tells_solo_too_long a status o files (inl (stops, silent)) told long none = subst (λ (s : Status). IsTooLong a.image s) (sym stops.is) (long_stop files a.image o.shelf o.shelf' stops.stop (stops_told o files a.image stops.stop told stops.why) long none)
 tells_solo_too_long a status o files (inr p) told long none = absurd (too_long files a.image long p.image (read_told o files a.image p.image told p.read))
 
-pub tells_solo_device : TellsImageLineFault FollowsSolo MissesArePaid
+pub tells_solo_device : TellsImageLineFault (FollowsSolo MissesArePaid)
 tells_solo_device a status o k (inl (stops, silent)) h = absurd (omega (arith, h, ap (λ (ls : List Seen). (line_at ls k).faults) silent.run.shown.lines))
 tells_solo_device a status o k (inr p) h = plays_names_line (solo_config a) (p.image ∷ []) [] 1 status (run_outside o) o.out o.out' p.plays k h

@@ -29,10 +29,10 @@ puts_others true out out' bytes others (rose, cut) = (record { shown = shown_aft
 
 -- the summary alone is put
 abbrev Told : Asked → Status → Outside → Type 0
-Told a status o = (out : Seen) × (out.faults ≡ o.out'.faults) × FollowsSolo MissesArePaid a status (record o { out' = out })
+Told a status o = (out : Seen) × (out.faults ≡ o.out'.faults) × (FollowsSolo MissesArePaid) a status (record o { out' = out })
 
-by_result : (a : Asked) (status : Status) (o : Outside) (p : PlaysTrace MissesArePaid a status o) (trace : List ℕ) (result : Result Ran PowerFault)
-    → Runs MissesArePaid (solo_config a) (p.image ∷ []) [] 1 result (run_outside o) → AnswersTrace trace result status o.out o.out' → Told a status o
+by_result : (a : Asked) (status : Status) (o : Outside) (p : (PlaysTrace MissesArePaid) a status o) (trace : List ℕ) (result : Result Ran PowerFault)
+    → (Runs MissesArePaid) (solo_config a) (p.image ∷ []) [] 1 result (run_outside o) → AnswersTrace trace result status o.out o.out' → Told a status o
 by_result a status o p trace (Err fault) runs answers = (
   o.out',
   refl,
@@ -62,7 +62,7 @@ trace_is_solo a status o (inl (stops, silent)) = (o.out', refl, inl (stops, sile
 trace_is_solo a status o (inr plays) = by_result a status o plays (trace_of a.steps (powered (solo_guest a) plays.image)) plays.result plays.runs plays.answers
 
 -- so what must be given to `solo` must be given to `trace`
-pub completes_trace : CompletesImage FollowsTrace MissesArePaid
+pub completes_trace : CompletesImage (FollowsTrace MissesArePaid)
 completes_trace a status o image files follows told read fits none =
     let (out, same, solo) = trace_is_solo a status o follows in
     completes_solo a status (record o { out' = out }) image files solo told read fits (record {
@@ -72,22 +72,22 @@ completes_trace a status o image files follows told read fits none =
       out = subst (λ (n : ℕ). Rose o.out.faults n → ⊥) (sym same) none.out;
     })
 
-pub tells_trace_missing : TellsImageMissing FollowsTrace MissesArePaid
+pub tells_trace_missing : TellsImageMissing (FollowsTrace MissesArePaid)
 tells_trace_missing a status o files follows told lacks none =
     let (out, same, solo) = trace_is_solo a status o follows in
     tells_solo_missing a status (record o { out' = out }) files solo told lacks none
 
-pub tells_trace_too_long : TellsImageTooLong FollowsTrace MissesArePaid
+pub tells_trace_too_long : TellsImageTooLong (FollowsTrace MissesArePaid)
 tells_trace_too_long a status o files follows told long none =
     let (out, same, solo) = trace_is_solo a status o follows in
     tells_solo_too_long a status (record o { out' = out }) files solo told long none
 
-pub tells_trace_image : TellsImageMisfit FollowsTrace MissesArePaid
+pub tells_trace_image : TellsImageMisfit (FollowsTrace MissesArePaid)
 tells_trace_image a status o image files follows told read more none =
     let (out, same, solo) = trace_is_solo a status o follows in
     tells_solo_image a status (record o { out' = out }) image files solo told read more none
 
-pub tells_trace_device : TellsImageLineFault FollowsTrace MissesArePaid
+pub tells_trace_device : TellsImageLineFault (FollowsTrace MissesArePaid)
 tells_trace_device a status o k follows rose =
     let (out, same, solo) = trace_is_solo a status o follows in
     tells_solo_device a status (record o { out' = out }) k solo rose

@@ -50,4 +50,4 @@ pub record AgreeTo (c : Config) (to : AccessClass) (o o' : Outside) : Type 0 whe
   pub drives : All (λ v. does_flow v.class to ≡ true → (drive_at o.drives' v.drive).blocks ≡ (drive_at o'.drives' v.drive).blocks) c.volumes
 
 abbrev pub LivesAgree : Type 0
-LivesAgree = (a : LiveAsked) (c : Config) (o o' : Outside) (p p' : Operator) (typed typed' : List (List ℕ)) (to : AccessClass) → FollowsLive MissesArePaid a Done o p → FollowsLive MissesArePaid a Done o' p' → AreOfOne a c o o' p p' typed typed' → AreAlikeTo c to typed typed' → AgreeTo c to o o'
+LivesAgree = (a : LiveAsked) (c : Config) (o o' : Outside) (p p' : Operator) (typed typed' : List (List ℕ)) (to : AccessClass) → (FollowsLive MissesArePaid) a Done o p → (FollowsLive MissesArePaid) a Done o' p' → AreOfOne a c o o' p p' typed typed' → AreAlikeTo c to typed typed' → AgreeTo c to o o'

@@ -119,45 +119,45 @@ TellsImageLineFault Follows = (a : Asked) (status : Status) (o : Outside) (k : �
 
 -- `run`: held files that stand for a configuration, a script and images that fit, drives that fit, and no risen count, are served
 abbrev pub CompletesRun : Type 0
-CompletesRun = (a : RunAsked) (status : Status) (o : Outside) (files : List File) (c : Config) (es : List Event) (images : List (List ℕ)) → FollowsRun MissesArePaid a status o → o.files ≡ Some files → HasAll (Some files) a c es images
+CompletesRun = (a : RunAsked) (status : Status) (o : Outside) (files : List File) (c : Config) (es : List Event) (images : List (List ℕ)) → (FollowsRun MissesArePaid) a status o → o.files ≡ Some files → HasAll (Some files) a c es images
     → first_misfit c.guests images ≡ None → All (FitsDrive o.drives) c.volumes → NoneRose o → IsServed status
 
 -- the answer names the first file that the shelf lacks as missing, and the first too long one as too long, where the shelf did
 -- not fail
 abbrev pub TellsRunMissing : Type 0
-TellsRunMissing = (a : RunAsked) (status : Status) (o : Outside) (files : List File) (name : List ℕ) → FollowsRun MissesArePaid a status o → o.files ≡ Some files → IsNextFile (Some files) a name → held files name ≡ None → (Rose o.shelf o.shelf' → ⊥) → IsMissing name status
+TellsRunMissing = (a : RunAsked) (status : Status) (o : Outside) (files : List File) (name : List ℕ) → (FollowsRun MissesArePaid) a status o → o.files ≡ Some files → IsNextFile (Some files) a name → held files name ≡ None → (Rose o.shelf o.shelf' → ⊥) → IsMissing name status
 
 abbrev pub TellsRunTooLong : Type 0
-TellsRunTooLong = (a : RunAsked) (status : Status) (o : Outside) (files : List File) (name : List ℕ) → FollowsRun MissesArePaid a status o → o.files ≡ Some files → IsNextFile (Some files) a name → IsLong files name → (Rose o.shelf o.shelf' → ⊥) → IsTooLong name status
+TellsRunTooLong = (a : RunAsked) (status : Status) (o : Outside) (files : List File) (name : List ℕ) → (FollowsRun MissesArePaid) a status o → o.files ≡ Some files → IsNextFile (Some files) a name → IsLong files name → (Rose o.shelf o.shelf' → ⊥) → IsTooLong name status
 
 -- the answer names the fault of a configuration that is refused, or of a script
 abbrev pub TellsRunRule : Type 0
-TellsRunRule = (a : RunAsked) (status : Status) (o : Outside) (files : List File) (f : ConfigFault) → FollowsRun MissesArePaid a status o → o.files ≡ Some files → IsConfigRefused (Some files) a.config f → (Rose o.shelf o.shelf' → ⊥) → TellsRule f status
+TellsRunRule = (a : RunAsked) (status : Status) (o : Outside) (files : List File) (f : ConfigFault) → (FollowsRun MissesArePaid) a status o → o.files ≡ Some files → IsConfigRefused (Some files) a.config f → (Rose o.shelf o.shelf' → ⊥) → TellsRule f status
 
 abbrev pub TellsRunLine : Type 0
-TellsRunLine = (a : RunAsked) (status : Status) (o : Outside) (files : List File) (c : Config) (f : ScriptFault) → FollowsRun MissesArePaid a status o → o.files ≡ Some files → HasConfig (Some files) a.config c → IsScriptRefused (Some files) a.script f → (Rose o.shelf o.shelf' → ⊥)
+TellsRunLine = (a : RunAsked) (status : Status) (o : Outside) (files : List File) (c : Config) (f : ScriptFault) → (FollowsRun MissesArePaid) a status o → o.files ≡ Some files → HasConfig (Some files) a.config c → IsScriptRefused (Some files) a.script f → (Rose o.shelf o.shelf' → ⊥)
     → TellsLine f status
 
 -- of held files that stand for a configuration, a script and images, the answer names the first image that doesn't fit, and the
 -- first volume whose drive has another number of blocks, where the images fit and no drive failed
 abbrev pub TellsRunImage : Type 0
-TellsRunImage = (a : RunAsked) (status : Status) (o : Outside) (files : List File) (c : Config) (es : List Event) (images : List (List ℕ)) (g : ℕ) → FollowsRun MissesArePaid a status o → o.files ≡ Some files → HasAll (Some files) a c es images
+TellsRunImage = (a : RunAsked) (status : Status) (o : Outside) (files : List File) (c : Config) (es : List Event) (images : List (List ℕ)) (g : ℕ) → (FollowsRun MissesArePaid) a status o → o.files ≡ Some files → HasAll (Some files) a c es images
     → first_misfit c.guests images ≡ Some g → (Rose o.shelf o.shelf' → ⊥) → IsImageOf g status
 
 abbrev pub TellsRunSize : Type 0
-TellsRunSize = (a : RunAsked) (status : Status) (o : Outside) (files : List File) (c : Config) (es : List Event) (images : List (List ℕ)) (v : ℕ) → FollowsRun MissesArePaid a status o → o.files ≡ Some files → HasAll (Some files) a c es images
+TellsRunSize = (a : RunAsked) (status : Status) (o : Outside) (files : List File) (c : Config) (es : List Event) (images : List (List ℕ)) (v : ℕ) → (FollowsRun MissesArePaid) a status o → o.files ≡ Some files → HasAll (Some files) a c es images
     → first_misfit c.guests images ≡ None → IsMisfit c.volumes o.drives v → NoneRose o → IsSizeOf v status
 
 -- where a line's count is greater, it is named or one of a lower number; where a drive's is, a line or it or a lower drive
 abbrev pub TellsRunLineFault : Type 0
-TellsRunLineFault = (a : RunAsked) (status : Status) (o : Outside) (k : ℕ) → FollowsRun MissesArePaid a status o → (line_at o.lines k).faults < (line_at o.lines' k).faults → NamesLine k status
+TellsRunLineFault = (a : RunAsked) (status : Status) (o : Outside) (k : ℕ) → (FollowsRun MissesArePaid) a status o → (line_at o.lines k).faults < (line_at o.lines' k).faults → NamesLine k status
 
 abbrev pub TellsRunDriveFault : Type 0
-TellsRunDriveFault = (a : RunAsked) (status : Status) (o : Outside) (d : ℕ) → FollowsRun MissesArePaid a status o → (drive_at o.drives d).faults < (drive_at o.drives' d).faults → NamesDrive d status
+TellsRunDriveFault = (a : RunAsked) (status : Status) (o : Outside) (d : ℕ) → (FollowsRun MissesArePaid) a status o → (drive_at o.drives d).faults < (drive_at o.drives' d).faults → NamesDrive d status
 
 -- `load`: no risen count is served
 abbrev pub CompletesLoad : Type 0
-CompletesLoad = (number : ℕ) (status : Status) (o : Outside) → FollowsLoad MissesArePaid number status (run_outside o) o.out o.out' → NoneRose o → IsServed status
+CompletesLoad = (number : ℕ) (status : Status) (o : Outside) → (FollowsLoad MissesArePaid) number status (run_outside o) o.out o.out' → NoneRose o → IsServed status
 
 -- all was done, or a line or the sink failed, or memory ran out
 abbrev pub CanCome : Status → Type 0
@@ -169,11 +169,11 @@ CanCome status = ⊥
 
 -- no other answer is given
 abbrev pub LimitsLoad : Type 0
-LimitsLoad = (number : ℕ) (status : Status) (o : Outside) → FollowsLoad MissesArePaid number status (run_outside o) o.out o.out' → CanCome status
+LimitsLoad = (number : ℕ) (status : Status) (o : Outside) → (FollowsLoad MissesArePaid) number status (run_outside o) o.out o.out' → CanCome status
 
 -- where a line's count is greater, it is named or one of a lower number
 abbrev pub TellsLoadLineFault : Type 0
-TellsLoadLineFault = (number : ℕ) (status : Status) (o : Outside) (k : ℕ) → FollowsLoad MissesArePaid number status (run_outside o) o.out o.out' → (line_at o.lines k).faults < (line_at o.lines' k).faults → NamesLine k status
+TellsLoadLineFault = (number : ℕ) (status : Status) (o : Outside) (k : ℕ) → (FollowsLoad MissesArePaid) number status (run_outside o) o.out o.out' → (line_at o.lines k).faults < (line_at o.lines' k).faults → NamesLine k status
 
 -- `check`, `migrate`, `flow` and `draw`, which put bytes in this relation to a configuration: likewise
 abbrev pub CompletesConfig : (Config → List ℕ → Type 0) → Type 0

@@ -16,4 +16,4 @@ LeavesAllBut Lines o = o.drives' ≡ o.drives
 LeavesAllBut LinesAndDrives o = Unit {0}
 
 abbrev pub LeavesOthers : Type 0
-LeavesOthers = (words : Option Wanted) (status : Status) (o : Outside) (p : Operator) → Says MissesArePaid words status o p → LeavesAllBut (devices_needed words) o
+LeavesOthers = (words : Option Wanted) (status : Status) (o : Outside) (p : Operator) → (Says MissesArePaid) words status o p → LeavesAllBut (devices_needed words) o

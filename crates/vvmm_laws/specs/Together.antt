@@ -39,7 +39,7 @@ pub record Extension : Type 0 where
 -- each was done, and goes on from what the one before it showed
 abbrev pub AreChained : (script : List ℕ) → Outside → List Extension → Type 0
 AreChained script o [] = Unit {0}
-AreChained script o (x ∷ xs) = FollowsExtend MissesArePaid x.asked Done x.outside × AreJoined script x.asked o x.outside × AreChained x.asked.script x.outside xs
+AreChained script o (x ∷ xs) = (FollowsExtend MissesArePaid) x.asked Done x.outside × AreJoined script x.asked o x.outside × AreChained x.asked.script x.outside xs
 
 -- the last of a chain: its script, and the outside
 abbrev pub last_script : List ℕ → List Extension → List ℕ
@@ -82,7 +82,7 @@ pub record AreOneSave (a : RunAsked) (o : Outside) (xs : List Extension) : Type 
   pub shows : (last_outside o xs).out'.shown ≡ shown_after (last_outside o xs).out.shown (snap_bytes has.config.text (last_moment input))
 
 abbrev pub PartsMakeOne : Type 0
-PartsMakeOne = (a : RunAsked) (b : ResumeAsked) (o : Outside) (xs : List Extension) (p : Outside) → FollowsSave MissesArePaid a Done o → AreChained a.script o xs → FollowsResume MissesArePaid b Done p → AreJoined (last_script a.script xs) b (last_outside o xs) p → AreOneRun a b o xs p
+PartsMakeOne = (a : RunAsked) (b : ResumeAsked) (o : Outside) (xs : List Extension) (p : Outside) → (FollowsSave MissesArePaid) a Done o → AreChained a.script o xs → (FollowsResume MissesArePaid) b Done p → AreJoined (last_script a.script xs) b (last_outside o xs) p → AreOneRun a b o xs p
 
 abbrev pub SavesMakeOne : Type 0
-SavesMakeOne = (a : RunAsked) (o : Outside) (xs : List Extension) → FollowsSave MissesArePaid a Done o → AreChained a.script o xs → AreOneSave a o xs
+SavesMakeOne = (a : RunAsked) (o : Outside) (xs : List Extension) → (FollowsSave MissesArePaid) a Done o → AreChained a.script o xs → AreOneSave a o xs

@@ -8,4 +8,4 @@ use Rattle.vvmm_files.specs.Words.{Asked}
 use Rattle.vvmm_files.specs.declared.status.Status.{Status}
 
 abbrev pub TraceIsSolo : Type 0
-TraceIsSolo = (a : Asked) (status : Status) (o : Outside) → FollowsTrace MissesArePaid a status o → (out : Seen) × (out.faults ≡ o.out'.faults) × FollowsSolo MissesArePaid a status (record o { out' = out })
+TraceIsSolo = (a : Asked) (status : Status) (o : Outside) → (FollowsTrace MissesArePaid) a status o → (out : Seen) × (out.faults ≡ o.out'.faults) × (FollowsSolo MissesArePaid) a status (record o { out' = out })

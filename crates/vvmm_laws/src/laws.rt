@@ -11,32 +11,32 @@ pub fn a_guest_runs_alone()
 
 /// A held image within the limit that fits, and no risen count, give `Done`, or `NoMemory` before anything is shown.
 pub fn solo_is_complete()
-    ensures { CompletesImage FollowsSolo MissesArePaid }
+    ensures { CompletesImage (FollowsSolo MissesArePaid) }
 {}
 
 /// Over a shelf that did not fail, an image that it lacks gives `Missing` of `solo` and `trace`, or `NoMemory`.
 pub fn a_missing_image_is_told()
-    ensures solo { TellsImageMissing FollowsSolo MissesArePaid }
-    ensures trace { TellsImageMissing FollowsTrace MissesArePaid }
+    ensures solo { TellsImageMissing (FollowsSolo MissesArePaid) }
+    ensures trace { TellsImageMissing (FollowsTrace MissesArePaid) }
 {}
 
 /// Over a shelf that did not fail, an image that is too long gives `TooLong` of `solo` and `trace`, or `NoMemory`.
 pub fn a_too_long_image_is_told()
-    ensures solo { TellsImageTooLong FollowsSolo MissesArePaid }
-    ensures trace { TellsImageTooLong FollowsTrace MissesArePaid }
+    ensures solo { TellsImageTooLong (FollowsSolo MissesArePaid) }
+    ensures trace { TellsImageTooLong (FollowsTrace MissesArePaid) }
 {}
 
 /// Over a shelf that did not fail, an image that doesn't fit the guest's memory gives `Image` of `solo` and `trace`, or
 /// `NoMemory`.
 pub fn an_image_that_does_not_fit_is_told()
-    ensures solo { TellsImageMisfit FollowsSolo MissesArePaid }
-    ensures trace { TellsImageMisfit FollowsTrace MissesArePaid }
+    ensures solo { TellsImageMisfit (FollowsSolo MissesArePaid) }
+    ensures trace { TellsImageMisfit (FollowsTrace MissesArePaid) }
 {}
 
 /// Where a line's count is greater after `solo` or `trace`, the answer names it or one of a lower number.
 pub fn a_failed_line_is_told()
-    ensures solo { TellsImageLineFault FollowsSolo MissesArePaid }
-    ensures trace { TellsImageLineFault FollowsTrace MissesArePaid }
+    ensures solo { TellsImageLineFault (FollowsSolo MissesArePaid) }
+    ensures trace { TellsImageLineFault (FollowsTrace MissesArePaid) }
 {}
 
 /// Held files that stand for a configuration, a script and images that fit, drives that fit, and no risen count, give `Done`, or

@@ -74,26 +74,26 @@ pub fn extend_is_complete()
 
 /// Over a shelf that did not fail, the first file of `resume` or `extend` that it lacks gives `Missing`, or `NoMemory`.
 pub fn the_first_missing_file_to_resume_is_told()
-    ensures resume { TellsResumeMissing FollowsResume MissesArePaid }
-    ensures extend { TellsResumeMissing FollowsExtend MissesArePaid }
+    ensures resume { TellsResumeMissing (FollowsResume MissesArePaid) }
+    ensures extend { TellsResumeMissing (FollowsExtend MissesArePaid) }
 {}
 
 /// Over a shelf that did not fail, the first file of `resume` or `extend` that is too long gives `TooLong`, or `NoMemory`.
 pub fn the_first_too_long_file_to_resume_is_told()
-    ensures resume { TellsResumeTooLong FollowsResume MissesArePaid }
-    ensures extend { TellsResumeTooLong FollowsExtend MissesArePaid }
+    ensures resume { TellsResumeTooLong (FollowsResume MissesArePaid) }
+    ensures extend { TellsResumeTooLong (FollowsExtend MissesArePaid) }
 {}
 
 /// Bytes that are no snapshot give `Snap` of the place where the first field begins that is cut or not allowed, or `NoMemory`.
 pub fn a_refused_snapshot_is_told()
-    ensures resume { TellsSnap FollowsResume MissesArePaid }
-    ensures extend { TellsSnap FollowsExtend MissesArePaid }
+    ensures resume { TellsSnap (FollowsResume MissesArePaid) }
+    ensures extend { TellsSnap (FollowsExtend MissesArePaid) }
 {}
 
 /// A script of which a line is refused gives `Script` of `resume` and `extend`, or `NoMemory`, where the snapshot is accepted.
 pub fn a_refused_script_to_resume_is_told()
-    ensures resume { TellsResumeLine FollowsResume MissesArePaid }
-    ensures extend { TellsResumeLine FollowsExtend MissesArePaid }
+    ensures resume { TellsResumeLine (FollowsResume MissesArePaid) }
+    ensures extend { TellsResumeLine (FollowsExtend MissesArePaid) }
 {}
 
 /// The first volume of a snapshot whose drive has another number of blocks gives `VolumeSize` of `resume`, or `NoMemory`; and of
@@ -105,8 +105,8 @@ pub fn the_first_volume_to_resume_of_another_size_is_told()
 
 /// Where a line's count is greater after `resume` or `extend`, the answer names it or one of a lower number.
 pub fn a_resume_names_a_failed_line()
-    ensures resume { TellsResumeLineFault FollowsResume MissesArePaid }
-    ensures extend { TellsResumeLineFault FollowsExtend MissesArePaid }
+    ensures resume { TellsResumeLineFault (FollowsResume MissesArePaid) }
+    ensures extend { TellsResumeLineFault (FollowsExtend MissesArePaid) }
 {}
 
 /// Where a drive's count is greater after `resume`, the answer names a line, or it or a drive of a lower number.

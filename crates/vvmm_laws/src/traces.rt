@@ -11,5 +11,5 @@ pub fn a_trace_is_the_run_of_solo()
 
 /// A held image within the limit that fits, and no risen count, give `Done` of `trace`, or `NoMemory` before anything is shown.
 pub fn trace_is_complete()
-    ensures { CompletesImage FollowsTrace MissesArePaid }
+    ensures { CompletesImage (FollowsTrace MissesArePaid) }
 {}

@@ -4,7 +4,7 @@ use Rattle.vvmm_laws.proofs.Resumes.{extend_either, resume_either, tells_resume_
 use Rattle.vvmm_laws.proofs.snaps.the_first_too_long_file_to_resume_is_told.Goals as goal
 
 pub returns-clause-resume : goal.returns-clause-resume
-returns-clause-resume c = tells_resume_too_long FollowsResume MissesArePaid resume_either
+returns-clause-resume c = tells_resume_too_long (FollowsResume MissesArePaid) resume_either
 
 pub returns-clause-extend : goal.returns-clause-extend
-returns-clause-extend c = tells_resume_too_long FollowsExtend MissesArePaid extend_either
+returns-clause-extend c = tells_resume_too_long (FollowsExtend MissesArePaid) extend_either
