@@ -22,8 +22,8 @@ use Rattle.sys_system.specs.declared.power.PowerFault.TheVariants.{Image, Volume
 use Rattle.vm_stepping.specs.Made.{steps_in, tally_of}
 
 -- The run was made, over volumes of the right sizes; every drive is as before. All else is as in a run over drives: each
--- line has its bytes of the run, or a front of them and a mark where it failed. The steps are those of the run, at most
--- 1,600,000 in a round, and the machine retired the plain ones. Only a line can have failed.
+-- line has its bytes of the run, or a front of them and a mark where it failed. The steps are those of the run: at most
+-- 100,000 of each of 16 guests, so 1,600,000, in a round. The machine retired the plain ones. Only a line can have failed.
 pub record MakesWith (Also : Besides) (x : Input) (ran : Ran) (o : RunOutside) : Type 0 where
   pub fits : first_misfit x.config.guests x.images ≡ None
   pub sizes : FitRows x.config.volumes x.volumes

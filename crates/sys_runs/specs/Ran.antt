@@ -53,8 +53,8 @@ pub record StoresFrom (m : Moment) (es : List Event) (n : ℕ) (marks : List Boo
   pub size : length drives' ≡ length drives
 
 -- n rounds were made from a moment on, and then power went down. The drives have as many blocks as the volumes. Each line has its
--- bytes, or a front of them and a mark where it failed. The steps are those of these rounds, at most 1,600,000 for each round
--- since power-up, and the machine retired the plain ones.
+-- bytes, or a front of them and a mark where it failed. The steps are those of these rounds: at most 100,000 of each of 16
+-- guests, so 1,600,000, for each round since power-up. The machine retired the plain ones.
 pub record MakesFrom (Also : Besides) (m : Moment) (es : List Event) (n : ℕ) (ran : Ran) (o : RunOutside) : Type 0 where
   pub fit : All (FitsDrive o.drives) m.config.volumes
   -- the lines and the drives that have failed

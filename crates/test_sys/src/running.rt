@@ -162,8 +162,8 @@ fn images_of(alloc: Global, case: &Case) -> Option<Vec<Vec<u8>>> {
     Some(images)
 }
 
-/// The slices of a round in which guests take turns in an order, each at most by so many steps; none, so that the round goes by those
-/// of `next`, where there is no order.
+/// The slices of a round in which guests take turns in an order, each with the most steps that it may take; none, so that the round
+/// goes by those of `next`, where there is no order.
 fn slices_of(alloc: Global, config: &Config, order: &[(u8, u32)]) -> Option<Option<Vec<TimeSlice>>>
     ensures { IfSome result (λ o. IfSome o (λ ts. AreSlices config.now ts.items)) }
 {

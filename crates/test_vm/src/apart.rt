@@ -12,7 +12,7 @@ use std::test::Fail;
 use test_vm_stage::{Kinds, Quanta, Snapshot, Stage, sums};
 use vv_base::NoMemory;
 
-/// How the steps of a round are taken: in one call, one by one, or so many of them each on a new machine and then the rest.
+/// How the steps of a round are taken: in one call, one by one, or the first *n* each on a new machine and then the rest.
 #[derive(Clone, Copy)]
 enum How {
     Together,

@@ -17,7 +17,7 @@ pub enum Line {
     Follows(Event, bool),
     /// Longwords of the guest's memory are put: the place of the first, how many, and the first, which rise by one.
     Rises(u32, u32, u32),
-    /// All pages that are compared and have frames are filled; so many of them.
+    /// All pages that are compared and have frames are filled; their number.
     Fills(u32),
     /// The machine has this frame for an address's page, or none for this reason.
     Frame(u32, Result<u32, NoPlace>),

@@ -88,7 +88,7 @@ fn runs(alloc: Global, words: &str, files: Files) -> Option<Vec<Note>> {
     if code == 0 { Some(notes) } else { None }
 }
 
-/// Whether a run of the machine begins where its guest is after so many instructions: an INCL and a BRB by turns.
+/// Whether a run of the machine begins where its guest is after `before` instructions: an INCL and a BRB by turns.
 fn goes_on(note: &Note, before: u64) -> bool {
     let pc = if before % 2 == 0 { 0x200 } else { 0x202 };
     note.pc == pc && u64::from(note.r0) == before.div_ceil(2)

@@ -13,7 +13,7 @@ use Rattle.vm_state.specs.declared.register.Register.TheVariants.{Ksp, Esp, Ssp,
 use Rattle.vm_state.specs.declared.register.ReservedOperand.{ReservedOperand}
 
 -- A register: its number; the values that may be written, none where it is read-only; what a write leaves, and what it asks for
--- besides (a shown byte, real tables for other table registers, a packet); and the value read, in a memory of so many
+-- besides (a shown byte, real tables for other table registers, a packet); and the value read, in a memory of `size`
 -- bytes, none where it is write-only.
 pub record RegisterRow : Type 0 where
   pub number : ℕ
@@ -26,18 +26,18 @@ pub record RegisterRow : Type 0 where
 abbrev pub any_value : ℕ → Bool
 any_value v = true
 
--- one that is read and written; one of page tables; one that is written alone; one that is read alone
+-- one that is read and written; one of page tables; a write-only one; a read-only one
 abbrev pub read_and_written : ℕ → (ℕ → Bool) → (ℕ → State → State) → (State → ℕ) → RegisterRow
 read_and_written n allowed after value = record { number = n; allowed = allowed; after_write = after; effect = λ v. effects.Done; value = λ size s. Some (value s) }
 
 abbrev pub of_tables : ℕ → (ℕ → Bool) → (ℕ → Tables → Tables) → (Tables → ℕ) → RegisterRow
 of_tables n allowed after value = record (read_and_written n allowed (λ v s. record s { tables = after v s.tables }) (λ s. value s.tables)) { effect = λ v. effects.Remap }
 
-abbrev pub written_alone : ℕ → (ℕ → Bool) → (ℕ → State → State) → (ℕ → Effect) → RegisterRow
-written_alone n allowed after effect = record { number = n; allowed = allowed; after_write = after; effect = effect; value = λ size s. None }
+abbrev pub write_only : ℕ → (ℕ → Bool) → (ℕ → State → State) → (ℕ → Effect) → RegisterRow
+write_only n allowed after effect = record { number = n; allowed = allowed; after_write = after; effect = effect; value = λ size s. None }
 
-abbrev pub read_alone : ℕ → (ℕ → State → ℕ) → RegisterRow
-read_alone n value = record { number = n; allowed = λ v. false; after_write = λ v s. s; effect = λ v. effects.Done; value = λ size s. Some (value size s) }
+abbrev pub read_only : ℕ → (ℕ → State → ℕ) → RegisterRow
+read_only n value = record { number = n; allowed = λ v. false; after_write = λ v s. s; effect = λ v. effects.Done; value = λ size s. Some (value size s) }
 
 -- the pointer of a stack, which is R14 where the stack is in use
 abbrev pub with_pointer : ℕ → ℕ → State → State
@@ -79,22 +79,22 @@ register_row Pcbb = read_and_written 16 is_aligned (λ v s. record s { pcbb = v 
 register_row Scbb = read_and_written 17 (λ v. v % 512 == 0) (λ v s. record s { scbb = v }) (λ s. s.scbb)
 register_row Ipl = read_and_written 18 any_value (λ v s. record s { psl = with_ipl s.psl (v % 32) }) (λ s. ipl_of s.psl)
 register_row Astlvl = read_and_written 19 (λ v. nat_le v 4) (λ v s. record s { astlvl = v }) (λ s. s.astlvl)
-register_row Sirr = written_alone 20 (λ v. nat_le v 15) (λ v s. record s { sisr = with_request v s.sisr }) (λ v. effects.Done)
+register_row Sirr = write_only 20 (λ v. nat_le v 15) (λ v s. record s { sisr = with_request v s.sisr }) (λ v. effects.Done)
 register_row Sisr = read_and_written 21 (λ v. v % 2 == 0 && nat_lt v (2 ^ 16)) (λ v s. record s { sisr = v }) (λ s. s.sisr)
 register_row Iccs = read_and_written 24 any_value (λ v s. record s { clock = after_iccs_write s.clock v }) (λ s. iccs_of s.clock)
-register_row Nicr = written_alone 25 any_value (λ v s. record s { clock = after_nicr_write s.clock v }) (λ v. effects.Done)
-register_row Icr = read_alone 26 (λ size s. s.clock.icr)
+register_row Nicr = write_only 25 any_value (λ v s. record s { clock = after_nicr_write s.clock v }) (λ v. effects.Done)
+register_row Icr = read_only 26 (λ size s. s.clock.icr)
 register_row Rxcs = read_and_written 32 any_value (λ v s. record s { console = after_rxcs_write s.console v }) (λ s. rxcs_of s.console)
-register_row Rxdb = read_alone 33 (λ size s. rxdb_of s.console)
+register_row Rxdb = read_only 33 (λ size s. rxdb_of s.console)
 register_row Txcs = read_and_written 34 any_value (λ v s. record s { console = after_txcs_write s.console v }) (λ s. txcs_of s.console)
-register_row Txdb = written_alone 35 any_value (λ v s. record s { console = after_sent s.console }) (λ v. effects.Show (v % 256))
+register_row Txdb = write_only 35 any_value (λ v s. record s { console = after_sent s.console }) (λ v. effects.Show (v % 256))
 register_row Mapen = of_tables 56 (λ v. nat_le v 1) (λ v t. record t { mapped = v == 1 }) (λ t. if t.mapped then 1 else 0)
-register_row Tbia = written_alone 57 any_value (λ v s. s) (λ v. effects.Done)
-register_row Tbis = written_alone 58 any_value (λ v s. s) (λ v. effects.Done)
-register_row Sid = read_alone 62 (λ size s. 0x56000001)
-register_row Kcall = written_alone 200 any_value (λ v s. s) (λ v. effects.Kcall v)
-register_row Memsize = read_alone 201 (λ size s. size)
-register_row Uptime = read_alone 202 (λ size s. s.steps)
+register_row Tbia = write_only 57 any_value (λ v s. s) (λ v. effects.Done)
+register_row Tbis = write_only 58 any_value (λ v s. s) (λ v. effects.Done)
+register_row Sid = read_only 62 (λ size s. 0x56000001)
+register_row Kcall = write_only 200 any_value (λ v s. s) (λ v. effects.Kcall v)
+register_row Memsize = read_only 201 (λ size s. size)
+register_row Uptime = read_only 202 (λ size s. s.steps)
 
 abbrev pub registers : List Register
 registers =
