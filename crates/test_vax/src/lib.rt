@@ -1,6 +1,5 @@
-//! Worked examples of the processor's parts: fields of its longwords, decoding, arithmetic, operands, whole instructions over a
-//! memory of bytes, and the forms by which they are done. And of runs of the simulated machine over page tables that were made by
-//! hand.
+//! Worked examples of the processor's parts: fields of its longwords, decoding, arithmetic, and the forms by which instructions are
+//! done. And of runs of the simulated machine over page tables that were made by hand.
 #![tactic(auto)]
 
 #[cfg(test)]
@@ -12,11 +11,7 @@ mod entries;
 #[cfg(test)]
 mod forms;
 #[cfg(test)]
-mod instructions;
-#[cfg(test)]
 mod known;
-#[cfg(test)]
-mod operands;
 #[cfg(test)]
 mod protection;
 #[cfg(test)]

@@ -10,7 +10,7 @@ use Rattle.vax_table.specs.Operand.{evaluated, base_address, address_of, read_op
 use Rattle.vax_table.specs.AllOperands.{operand_of, operands_of}
 use Rattle.vax_table.specs.InstructionSet.{r, m, w, a, v, b}
 use Rattle.vax_table.specs.Rows.{row_of}
-use Rattle.vax_table.specs.Interaction.{Space, Trouble, At, Absent, outcome, reached}
+use Rattle.vax_table.specs.Interaction.{Space, Trouble, At, Absent, number_at, outcome, reached}
 use Rattle.vax_table.specs.Spelled.{value_size}
 use Rattle.vax_table.specs.Spelling.{Instruction, unindexed}
 
@@ -81,6 +81,10 @@ second_byte_reached = refl
 pub second_byte_modified : outcome space (operands_of (instruction 0xb6 (unindexed 6 0 0 ∷ [])) (only 0x7fff 0x200)) ≡ Err (At Absent intents.Write 0x8000)
 unfolding operands_of operand_of modified_operand address_of base_address value_size row_of
 second_byte_modified = refl
+
+-- Addresses wrap: the upper bytes of a longword at FFFFFFFE are those at 0 and 1.
+pub around : number_at (λ i at. Ok (at % 256)) intents.Read 4 0xfffffffe ≡ Ok 0x100fffe
+around = refl
 
 -- WAIT has two bytes and no operands
 pub wait_after : outcome space (operands_of (record { opcode = 0xfd; wait = true; length = 2; specs = [] }) (only 0 0x200)) ≡ Ok (record {

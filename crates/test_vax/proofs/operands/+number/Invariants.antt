@@ -1,4 +1,0 @@
-use Rattle.test_vax.proofs.operands.+number.Given as goal
-
-abbrev pub decreases-number : goal.decreases-number
-decreases-number l = l.bytes
